@@ -1,0 +1,15 @@
+//! Attribute value pairs as bytes (RFC 2661 section 4.1): the pairs of a control message follow one another to its end.
+#![tactic(auto)]
+
+mod avp;
+mod error;
+mod reading;
+mod writing;
+
+pub use avp::{Avp, Avps};
+pub use error::AvpError;
+pub use reading::{read_avps, reads_what_was_written};
+pub use writing::write_avp;
+
+#[cfg(test)]
+mod tests;

@@ -1,0 +1,135 @@
+-- What was written is read again.
+use Rattle.std.proofs.Common.{◌≡◌, ℕ, ◌^◌, ◌<◌, ◌≤◌, ◌++◌, List, [], ◌∷◌, length, Option, Some, None, Result, Ok, false, refl, sym, ap, ◌∙◌, arith, IsSomeAnd}
+use Rattle.std.specs.Prelude.{◌==◌}
+use Rattle.wire_base.specs.Answers.{◌>>=◌}
+use Rattle.std.proofs.lemmas.Bool.{ne_eqb}
+use Rattle.std.proofs.lemmas.List.{append-nil}
+use Rattle.byteorder.specs.Endian.{big_number}
+use Rattle.wire_base.specs.Numbers.{u16_bytes, u32_bytes}
+use Rattle.wire_base.specs.NumberLaws.{length-u16_bytes, length-u32_bytes, number-u16_bytes}
+use Rattle.avp_codec.specs.declared.avp.Avp.{Avp}
+use Rattle.avp_codec.specs.Spelling.{AreAvps, Fits}
+use Rattle.control_message.specs.declared.kind.Kind.TheVariants as kind
+use Rattle.control_message.specs.declared.message.MessageError.{MessageError}
+use Rattle.control_message.specs.declared.message.Message.{Message}
+use Rattle.control_message.specs.declared.message.Message.TheVariants.{Sccrq, Sccrp, Scccn, Icrq, Icrp, Iccn}
+use Rattle.control_message.specs.declared.message.Opening.{Opening}
+use Rattle.control_message.specs.declared.message.Failover.{Failover}
+use Rattle.control_message.specs.declared.message.Read.TheVariants.{Known}
+use Rattle.control_message.specs.Pairs.{pair, failover_pairs, opening_pairs, pairs_of, IsWritten, IsWrittenOpening}
+use Rattle.control_message.specs.Reading.{message_of, checked, checked_all, failover_value, u16_at, u32_at, window_at, failover_at, opening_at, icrq_at, icrp_at, iccn_at}
+
+-- ---- numbers
+
+short_again : (x : ℕ) → x < 2 ^ 16 → big_number 2 (u16_bytes x) ≡ x
+short_again x lt = ap (big_number 2) (sym (append-nil (u16_bytes x))) ∙ number-u16_bytes x [] lt
+
+long_again : (x : ℕ) → x < 2 ^ 32 → big_number 4 (u32_bytes x) ≡ x
+unfolding u32_bytes
+long_again x lt = omega arith
+
+-- ---- pairs
+
+fits : (n : ℕ) (v : List ℕ) → n < 2 ^ 16 → length v ≤ 1017 → Fits (pair n v)
+fits n v lt le = record { reserved = omega arith; vendor = omega arith; attribute = lt; value = le }
+
+fits_short : (n x : ℕ) → n < 2 ^ 16 → Fits (pair n (u16_bytes x))
+fits_short n x lt = fits n (u16_bytes x) lt (omega (arith, length-u16_bytes x))
+
+fits_long : (n x : ℕ) → n < 2 ^ 16 → Fits (pair n (u32_bytes x))
+fits_long n x lt = fits n (u32_bytes x) lt (omega (arith, length-u32_bytes x))
+
+failover_fits : (f : Option Failover) → AreAvps (failover_pairs f)
+unfolding u16_bytes u32_bytes
+failover_fits None = tt
+failover_fits (Some f) = (record { reserved = omega arith; vendor = omega arith; attribute = omega arith; value = omega arith }, tt)
+
+opening_fits : (number : ℕ) (o : Opening) → length o.name ≤ 1017 → AreAvps (opening_pairs number o)
+opening_fits number o le =
+    (fits_short 0 number (omega arith), (fits_short 2 o.version (omega arith), (fits_long 3 o.framing (omega arith), (fits 7 o.name (omega arith) le, (fits_short 9 o.tunnel (omega arith), (fits_short 10 o.window (omega arith), failover_fits o.failover))))))
+
+-- what an option holds
+pub told_value : {A : Type 0} (o : Option A) (P : A → Type 0) → IsSomeAnd o P → (x : A) × (o ≡ Some x) × P x
+told_value None P h = absurd h
+told_value (Some x) P h = (x, refl, h)
+
+pub pairs_fit : (m : Message) → IsWritten m → AreAvps (pairs_of m)
+pairs_fit (Sccrq o) w = opening_fits 1 o w.name
+pairs_fit (Sccrp o) w = opening_fits 2 o w.name
+pairs_fit Scccn w = (fits_short 0 3 (omega arith), tt)
+pairs_fit (Icrq session serial calling) w =
+    let number = told_value calling (λ v. length v ≤ 1017) w.2 in
+    (fits_short 0 10 (omega arith), (fits_short 14 session (omega arith), (fits_long 15 serial (omega arith), rw number.1 (fits 22 number.0 (omega arith) number.2, tt))))
+pairs_fit (Icrp session) w = (fits_short 0 11 (omega arith), (fits_short 14 session (omega arith), tt))
+pairs_fit (Iccn speed framing sequenced) w = (fits_short 0 12 (omega arith), (fits_long 24 speed (omega arith), (fits_long 19 framing (omega arith), tt)))
+
+-- ---- messages
+
+-- the two kinds of opening use the same attributes
+same_uses : (before avps : List Avp) → checked_all kind.Sccrp before avps ≡ checked_all kind.Sccrq before avps
+unfolding checked
+same_uses before [] = refl
+same_uses before (a ∷ avps) = ap (λ (r : Unit {0} → Result (Unit {0}) MessageError). checked kind.Sccrq before a >>= r) (λ i u. same_uses (before ++ a ∷ []) avps i)
+
+is_not_zero : (x : ℕ) → x < 2 ^ 16 → 0 < x → (big_number 2 (u16_bytes x) == 0) ≡ false
+is_not_zero x lt some = rw (short_again x lt) (ne_eqb x 0 (λ e. omega arith))
+
+opening_checked : (number : ℕ) (o : Opening) (f : Option Failover) → o.failover ≡ f → (big_number 2 (u16_bytes o.tunnel) == 0) ≡ false → (big_number 2 (u16_bytes o.window) == 0) ≡ false → checked_all kind.Sccrq [] (opening_pairs number o) ≡ Ok tt
+unfolding checked u16_bytes u32_bytes
+opening_checked number o None e t w = rw (e, t, w) refl
+opening_checked number o (Some f) e t w = rw (e, t, w) refl
+
+failover_again : (f : Failover) → f.flags < 2 ^ 16 → f.time < 2 ^ 32 → failover_value (u16_bytes f.flags ++ u32_bytes f.time) ≡ Some f
+unfolding u16_bytes u32_bytes
+failover_again f lt le = rw (short_again f.flags lt, long_again f.time le) refl
+
+opening_again : (number : ℕ) (o : Opening) (f : Failover) → o.failover ≡ Some f → f.flags < 2 ^ 16 → f.time < 2 ^ 32 → IsWrittenOpening o → opening_at (opening_pairs number o) ≡ Ok o
+unfolding opening_at u16_at u32_at window_at failover_at u16_bytes u32_bytes
+opening_again number o f e flags time w =
+    let version : o.version < 2 ^ 16 = let v = w.version in omega arith in
+    rw (e, failover_again f flags time, short_again o.version version, long_again o.framing w.framing, short_again o.tunnel w.tunnel, short_again o.window w.window) refl
+
+-- an opening that was written
+of_opening : (number : ℕ) (o : Opening) → IsWrittenOpening o → (checked_all kind.Sccrq [] (opening_pairs number o) ≡ Ok tt) × (opening_at (opening_pairs number o) ≡ Ok o)
+of_opening number o w =
+    let f = told_value o.failover (λ f. (f.flags < 2 ^ 16) × (f.time < 2 ^ 32)) w.failover in
+    (opening_checked number o (Some f.0) f.1 (is_not_zero o.tunnel w.tunnel w.tunnel_not_zero) (is_not_zero o.window w.window w.window_not_zero), opening_again number o f.0 f.1 f.2.0 f.2.1 w)
+
+icrq_checked : (session serial : ℕ) (v : List ℕ) → checked_all kind.Icrq [] (pairs_of (Icrq session serial (Some v))) ≡ Ok tt
+unfolding checked u16_bytes u32_bytes
+icrq_checked session serial v = refl
+
+icrq_again : (session serial : ℕ) (v : List ℕ) → session < 2 ^ 16 → serial < 2 ^ 32 → icrq_at (pairs_of (Icrq session serial (Some v))) ≡ Ok (Icrq session serial (Some v))
+unfolding icrq_at u16_at u32_at u16_bytes u32_bytes
+icrq_again session serial v lt le = rw (short_again session lt, long_again serial le) refl
+
+icrp_checked : (session : ℕ) → (big_number 2 (u16_bytes session) == 0) ≡ false → checked_all kind.Icrp [] (pairs_of (Icrp session)) ≡ Ok tt
+unfolding checked u16_bytes
+icrp_checked session some = rw some refl
+
+icrp_again : (session : ℕ) → session < 2 ^ 16 → icrp_at (pairs_of (Icrp session)) ≡ Ok (Icrp session)
+unfolding icrp_at u16_at u16_bytes
+icrp_again session lt = rw (short_again session lt) refl
+
+iccn_checked : (speed framing : ℕ) → checked_all kind.Iccn [] (pairs_of (Iccn speed framing false)) ≡ Ok tt
+unfolding checked u16_bytes u32_bytes
+iccn_checked speed framing = refl
+
+iccn_again : (speed framing : ℕ) → speed < 2 ^ 32 → framing < 2 ^ 32 → iccn_at (pairs_of (Iccn speed framing false)) ≡ Ok (Iccn speed framing false)
+unfolding iccn_at u32_at u16_bytes u32_bytes
+iccn_again speed framing lt le = rw (long_again framing le, long_again speed lt) refl
+
+pub message_again : (m : Message) → IsWritten m → message_of (pairs_of m) ≡ Ok (Known m)
+unfolding message_of checked u16_bytes
+message_again (Sccrq o) w =
+    let both = of_opening 1 o w in
+    rw (both.0, both.1) refl
+message_again (Sccrp o) w =
+    let both = of_opening 2 o w in
+    rw (same_uses [] (opening_pairs 2 o), both.0, both.1) refl
+message_again Scccn w = refl
+message_again (Icrq session serial calling) w =
+    let number = told_value calling (λ v. length v ≤ 1017) w.2 in
+    rw (number.1, icrq_checked session serial number.0, icrq_again session serial number.0 w.0 w.1) refl
+message_again (Icrp session) w = rw (icrp_checked session (is_not_zero session w.0 w.1), icrp_again session w.0) refl
+message_again (Iccn speed framing sequenced) w = rw (iccn_checked speed framing, iccn_again speed framing w.0 w.1, w.2) refl

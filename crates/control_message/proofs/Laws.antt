@@ -1,0 +1,266 @@
+-- The laws of reading: what is read is what the pairs say, what they say is read, and a fault is told exactly where it stands.
+use Rattle.std.proofs.Common.{◌≡◌, ◌≢◌, ℕ, true, false, List, [], length, Option, Some, None, Result, Ok, Err, refl, sym, ap, subst, ◌∙◌, inl, inr, ◌⊎◌}
+use Rattle.std.specs.Prelude.{◌==◌, IfOk, IfErr}
+use Rattle.std.specs.List.{AllByRecursion}
+use Rattle.std.proofs.lemmas.Bool.{cases_Bool, eq-eqb, ne_eqb, eqb-true, eqb-false}
+use Rattle.byteorder.specs.Endian.{big_number}
+use Rattle.wire_base.specs.Answers.{◌>>=◌, Gives}
+use Rattle.avp_codec.specs.declared.avp.Avp.{Avp}
+use Rattle.control_message.specs.declared.kind.Kind.{Kind}
+use Rattle.control_message.specs.declared.kind.Kind.TheVariants as kind
+use Rattle.control_message.specs.declared.message.Message.{Message}
+use Rattle.control_message.specs.declared.message.Message.TheVariants.{Sccrq, Sccrp, Scccn, Icrq, Icrp, Iccn}
+use Rattle.control_message.specs.declared.message.Read.{Read}
+use Rattle.control_message.specs.declared.message.Read.TheVariants.{Known, Ignored}
+use Rattle.control_message.specs.declared.message.MessageError.{MessageError}
+use Rattle.control_message.specs.declared.message.MessageError.TheVariants.{NoType, UnknownType, UnknownMandatory, HiddenWithoutVector, BadValue, Missing, NoMemory}
+use Rattle.control_message.specs.Table.{kinds, kind_of, uses_of}
+use Rattle.control_message.specs.Reading.{Told, first, checked_all, opening_at, of_kind, type_number, of_type, with_type, message_of}
+use Rattle.control_message.specs.Grammar.{StandsFirst, HasNumber, SaysMessage, number_of, Says}
+use Rattle.control_message.specs.Faults.{IsOfKind, IsSound, IsFirstAlong, IsFault, IsToldFault}
+use Rattle.control_message.proofs.Firsts.{absent_first, first_absent, first_stands, stands_first}
+use Rattle.control_message.proofs.Along.{row_holds, is_sound, sound_is, is_first, first_is}
+use Rattle.control_message.proofs.Values.{bind_ok, ok_same, IsGood, sound_known, known_sound}
+use Rattle.control_message.proofs.Calls.{icrq_says, says_icrq, icrq_good, icrq_made, icrp_says, says_icrp, icrp_good, icrp_made, iccn_says, says_iccn, iccn_good, iccn_made}
+use Rattle.control_message.proofs.Needs.{Made, made_of, made_missing}
+use Rattle.control_message.proofs.Openings.{IsOpening, opening_says, says_opening, opening_good, opening_made}
+
+-- ---- kinds
+
+abbrev kind_number : Kind → ℕ
+kind_number kind.Sccrq = 1
+kind_number kind.Sccrp = 2
+kind_number kind.Scccn = 3
+kind_number kind.Icrq = 10
+kind_number kind.Icrp = 11
+kind_number kind.Iccn = 12
+
+number_is : (n : ℕ) (k : Kind) → kind_of n ≡ Some k → n ≡ kind_number k
+number_is n k h = row_holds (λ (row : ℕ × Kind). row.0 ≡ kind_number row.1) n k kinds (refl, (refl, (refl, (refl, (refl, (refl, tt)))))) h
+
+abbrev message_kind : Message → Kind
+message_kind (Sccrq o) = kind.Sccrq
+message_kind (Sccrp o) = kind.Sccrp
+message_kind Scccn = kind.Scccn
+message_kind (Icrq session serial calling) = kind.Icrq
+message_kind (Icrp session) = kind.Icrp
+message_kind (Iccn speed framing sequenced) = kind.Iccn
+
+kind_is : (m : Message) → kind_of (number_of m) ≡ Some (message_kind m)
+kind_is (Sccrq o) = refl
+kind_is (Sccrp o) = refl
+kind_is Scccn = refl
+kind_is (Icrq session serial calling) = refl
+kind_is (Icrp session) = refl
+kind_is (Iccn speed framing sequenced) = refl
+
+sccrq_opens : IsOpening kind.Sccrq
+sccrq_opens = record { uses = refl; needs = refl }
+
+sccrp_opens : IsOpening kind.Sccrp
+sccrp_opens = record { uses = refl; needs = refl }
+
+-- ---- the message of a kind
+
+message_says : (k : Kind) (avps : List Avp) (m : Message) → IsSound k avps → of_kind k avps ≡ Ok m → (number_of m ≡ kind_number k) × SaysMessage avps m
+message_says kind.Sccrq avps m sound h =
+    let b = bind_ok (opening_at avps) _ m h in
+    subst (λ (x : Message). (number_of x ≡ 1) × SaysMessage avps x) (ok_same b.2) (refl, opening_says kind.Sccrq avps b.0 sccrq_opens sound b.1)
+message_says kind.Sccrp avps m sound h =
+    let b = bind_ok (opening_at avps) _ m h in
+    subst (λ (x : Message). (number_of x ≡ 2) × SaysMessage avps x) (ok_same b.2) (refl, opening_says kind.Sccrp avps b.0 sccrp_opens sound b.1)
+message_says kind.Scccn avps m sound h = subst (λ (x : Message). (number_of x ≡ 3) × SaysMessage avps x) (ok_same h) (refl, tt)
+message_says kind.Icrq avps m sound h = icrq_says avps m sound h
+message_says kind.Icrp avps m sound h = icrp_says avps m sound h
+message_says kind.Iccn avps m sound h = iccn_says avps m sound h
+
+says_message : (avps : List Avp) (m : Message) → SaysMessage avps m → of_kind (message_kind m) avps ≡ Ok m
+says_message avps (Sccrq o) h = rw (says_opening avps o h) refl
+says_message avps (Sccrp o) h = rw (says_opening avps o h) refl
+says_message avps Scccn h = refl
+says_message avps (Icrq session serial calling) h = says_icrq avps session serial calling h
+says_message avps (Icrp session) h = says_icrp avps session h
+says_message avps (Iccn speed framing sequenced) h = says_iccn avps speed framing sequenced h
+
+message_good : (avps : List Avp) (m : Message) → SaysMessage avps m → AllByRecursion (IsGood avps) (uses_of (message_kind m))
+message_good avps (Sccrq o) h = opening_good avps o h
+message_good avps (Sccrp o) h = opening_good avps o h
+message_good avps Scccn h = tt
+message_good avps (Icrq session serial calling) h = icrq_good avps session serial calling h
+message_good avps (Icrp session) h = icrp_good avps session h
+message_good avps (Iccn speed framing sequenced) h = iccn_good avps speed framing sequenced h
+
+message_made : (k : Kind) (avps : List Avp) → IsSound k avps → Made k avps (of_kind k avps)
+message_made kind.Sccrq avps sound = made_of kind.Sccrq avps (opening_at avps) Sccrq (opening_made kind.Sccrq avps sccrq_opens sound)
+message_made kind.Sccrp avps sound = made_of kind.Sccrp avps (opening_at avps) Sccrp (opening_made kind.Sccrp avps sccrp_opens sound)
+message_made kind.Scccn avps sound = inl (Scccn, refl, tt)
+message_made kind.Icrq avps sound = icrq_made avps sound
+message_made kind.Icrp avps sound = icrp_made avps sound
+message_made kind.Iccn avps sound = iccn_made avps sound
+
+-- ---- the type
+
+-- a type that can be read
+record IsType (avps : List Avp) (a : Avp) (n : ℕ) : Type 0 where
+  first : StandsFirst 0 a avps
+  plain : a.hidden ≡ false
+  wide : length a.value ≡ 2
+  number : big_number 2 a.value ≡ n
+
+type_is : (avps : List Avp) (a : Avp) (n : ℕ) → first 0 avps ≡ Some a → type_number a ≡ Ok n → IsType avps a n
+type_is avps a n e h =
+    elim (cases_Bool a.hidden) [
+      | inl hid ↦ absurd (let h' : Err NoType ≡ Ok n = rw hid at h in cc)
+      | inr plain ↦ elim (cases_Bool (length a.value == 2)) [
+        | inl t ↦ record { first = stands_first 0 a avps e; plain = plain; wide = eqb-true (length a.value) 2 t; number = ok_same {E = MessageError} (rw (plain, t) at h) }
+        | inr f ↦ absurd (let h' : Err NoType ≡ Ok n = rw (plain, f) at h in cc)
+      ]
+    ]
+
+is_type : (avps : List Avp) (a : Avp) (n : ℕ) → IsType avps a n → message_of avps ≡ of_type n a.mandatory (kind_of n) avps
+unfolding message_of
+is_type avps a n h = rw (first_stands 0 a avps h.first, h.plain, eq-eqb (length a.value) 2 h.wide, h.number) refl
+
+type_of_number : (avps : List Avp) (n : ℕ) (h : HasNumber 0 2 n avps) → IsType avps h.has.pair n
+type_of_number avps n h = record { first = h.has.first; plain = h.has.plain; wide = ap length h.has.same ∙ h.wide; number = ap (big_number 2) h.has.same ∙ h.number }
+
+number_of_type : (avps : List Avp) (a : Avp) (n : ℕ) → IsType avps a n → HasNumber 0 2 n avps
+number_of_type avps a n h = record { value = a.value; has = record { pair = a; first = h.first; plain = h.plain; same = refl }; wide = h.wide; number = h.number }
+
+-- ---- what is read is what the pairs say
+
+found_message : (avps : List Avp) (r : Read) (a : Avp) (n : ℕ) (k : Kind) → IsType avps a n → kind_of n ≡ Some k → (checked_all k [] avps >>= λ _. of_kind k avps >>= λ m. Ok (Known m)) ≡ Ok r → Says avps r
+found_message avps r a n k t names h =
+    let c = bind_ok (checked_all k [] avps) _ r h in
+    let m = bind_ok (of_kind k avps) _ r c.2 in
+    let sound = is_sound k avps c.1 in
+    let s = message_says k avps m.0 sound m.1 in
+    let number : n ≡ number_of m.0 = number_is n k names ∙ sym s.0 in
+    subst (Says avps) (ok_same m.2) (record { number = subst (λ (x : ℕ). HasNumber 0 2 x avps) number (number_of_type avps a n t); known = sound_known k avps sound; says = s.1 })
+
+found_kind : (avps : List Avp) (r : Read) (a : Avp) (n : ℕ) (k : Option Kind) → IsType avps a n → kind_of n ≡ k → of_type n a.mandatory k avps ≡ Ok r → Says avps r
+found_kind avps r a n None t names h =
+    elim (cases_Bool a.mandatory) [
+      | inl m ↦ absurd (let h' : Err (UnknownType n) ≡ Ok r = rw m at h in cc)
+      | inr m ↦
+          let same : Ignored n ≡ r = ok_same {E = MessageError} (rw m at h) in
+          subst (Says avps) same (record { pair = a; first = t.first; plain = t.plain; wide = t.wide; number = t.number; unknown = names; optional = m })
+    ]
+found_kind avps r a n (Some k) t names h = found_message avps r a n k t names h
+
+found_first : (avps : List Avp) (r : Read) (o : Option Avp) → first 0 avps ≡ o → with_type o avps ≡ Ok r → Says avps r
+found_first avps r None e h = absurd cc
+found_first avps r (Some a) e h =
+    let n = bind_ok (type_number a) _ r h in
+    found_kind avps r a n.0 (kind_of n.0) (type_is avps a n.0 e n.1) refl n.2
+
+pub found : (avps : List Avp) (r : Read) → message_of avps ≡ Ok r → Says avps r
+unfolding message_of
+found avps r h = found_first avps r (first 0 avps) refl h
+
+-- ---- what the pairs say is read
+
+pub only : (avps : List Avp) (r : Read) → Says avps r → message_of avps ≡ Ok r
+only avps (Known m) h =
+    let t = type_of_number avps (number_of m) h.number in
+    let sound = known_sound (message_kind m) avps h.known (message_good avps m h.says) in
+    is_type avps h.number.has.pair (number_of m) t ∙ rw (kind_is m, sound_is (message_kind m) avps sound, says_message avps m h.says) refl
+only avps (Ignored n) h =
+    let t : IsType avps h.pair n = record { first = h.first; plain = h.plain; wide = h.wide; number = h.number } in
+    is_type avps h.pair n t ∙ rw (h.unknown, h.optional) refl
+
+-- ---- a fault that is told stands there
+
+along_fault : (avps : List Avp) (k : Kind) (e : MessageError) → IsOfKind avps k → IsFirstAlong k avps e → IsFault avps e
+along_fault avps k (UnknownMandatory v n) is h = (k, is, h)
+along_fault avps k (HiddenWithoutVector n) is h = (k, is, h)
+along_fault avps k (BadValue n) is h = (k, is, h)
+along_fault avps k e is h = absurd h.wrong
+
+fault_made : (avps : List Avp) (k : Kind) (e : MessageError) → IsOfKind avps k → IsSound k avps → Made k avps (of_kind k avps) → (of_kind k avps >>= λ m. Ok (Known m)) ≡ Err e → IsFault avps e
+fault_made avps k e is sound (inl made) h = absurd (let h' : Ok (Known made.0) ≡ Err e = rw made.1 at h in cc)
+fault_made avps k e is sound (inr missing) h =
+    let same : Missing missing.0 ≡ e = let h' : Err (Missing missing.0) ≡ Err e = rw missing.1 at h in cc in
+    subst (IsFault avps) same (k, is, (sound, missing.2))
+
+fault_along : (avps : List Avp) (k : Kind) (e : MessageError) (r : Result (Unit {0}) MessageError) → IsOfKind avps k → checked_all k [] avps ≡ r → (r >>= λ _. of_kind k avps >>= λ m. Ok (Known m)) ≡ Err e → IsFault avps e
+fault_along avps k e (Ok u) is c h = let sound = is_sound k avps c in fault_made avps k e is sound (message_made k avps sound) h
+fault_along avps k e (Err q) is c h = let same : q ≡ e = cc in along_fault avps k e is (is_first k avps e (c ∙ ap (λ (x : MessageError). Err x) same))
+
+fault_kind : (avps : List Avp) (e : MessageError) (a : Avp) (n : ℕ) (k : Option Kind) → IsType avps a n → kind_of n ≡ k → of_type n a.mandatory k avps ≡ Err e → IsFault avps e
+fault_kind avps e a n None t names h =
+    elim (cases_Bool a.mandatory) [
+      | inl m ↦
+          let same : UnknownType n ≡ e = let h' : Err (UnknownType n) ≡ Err e = rw m at h in cc in
+          subst (IsFault avps) same (record { pair = a; first = t.first; plain = t.plain; wide = t.wide; number = t.number; unknown = names; mandatory = m })
+      | inr m ↦ absurd (let h' : Ok (Ignored n) ≡ Err e = rw m at h in cc)
+    ]
+fault_kind avps e a n (Some k) t names h = fault_along avps k e (checked_all k [] avps) (record { number = n; has = number_of_type avps a n t; names = names }) refl h
+
+-- why a type can't be read
+type_fault : (a : Avp) (q : MessageError) → type_number a ≡ Err q → (q ≡ NoType) × ((a.hidden ≡ true) ⊎ (length a.value ≢ 2))
+type_fault a q h =
+    elim (cases_Bool a.hidden) [
+      | inl hid ↦ (let h' : Err NoType ≡ Err q = rw hid at h in cc, inl hid)
+      | inr plain ↦ elim (cases_Bool (length a.value == 2)) [
+        | inl t ↦ absurd (let h' : Ok (big_number 2 a.value) ≡ Err q = rw (plain, t) at h in cc)
+        | inr f ↦ (let h' : Err NoType ≡ Err q = rw (plain, f) at h in cc, inr (eqb-false (length a.value) 2 f))
+      ]
+    ]
+
+fault_type : (avps : List Avp) (e : MessageError) (a : Avp) (r : Result ℕ MessageError) → first 0 avps ≡ Some a → type_number a ≡ r → (r >>= λ n. of_type n a.mandatory (kind_of n) avps) ≡ Err e → IsFault avps e
+fault_type avps e a (Ok n) f t h = fault_kind avps e a n (kind_of n) (type_is avps a n f t) refl h
+fault_type avps e a (Err q) f t h =
+    let why = type_fault a q t in
+    let same : NoType ≡ e = let p = why.0 in cc in
+    subst (IsFault avps) same (inr (a, stands_first 0 a avps f, why.1))
+
+fault_first : (avps : List Avp) (e : MessageError) (o : Option Avp) → first 0 avps ≡ o → with_type o avps ≡ Err e → IsFault avps e
+fault_first avps e None f h = let same : NoType ≡ e = let h' : Err NoType ≡ Err e = h in cc in subst (IsFault avps) same (inl (first_absent 0 avps f))
+fault_first avps e (Some a) f h = fault_type avps e a (type_number a) f refl h
+
+pub fault : (avps : List Avp) (e : MessageError) → message_of avps ≡ Err e → IsFault avps e
+unfolding message_of
+fault avps e h = fault_first avps e (first 0 avps) refl h
+
+-- ---- a fault that stands there is told
+
+with_kind : (avps : List Avp) (k : Kind) → IsOfKind avps k → message_of avps ≡ (checked_all k [] avps >>= λ _. of_kind k avps >>= λ m. Ok (Known m))
+with_kind avps k is = is_type avps is.has.has.pair is.number (type_of_number avps is.number is.has) ∙ rw is.names refl
+
+told_along : (avps : List Avp) (k : Kind) (e : MessageError) → IsOfKind avps k → IsFirstAlong k avps e → message_of avps ≡ Err e
+told_along avps k e is h = with_kind avps k is ∙ rw (first_is k avps e h) refl
+
+told_type : (a : Avp) → ((a.hidden ≡ true) ⊎ (length a.value ≢ 2)) → type_number a ≡ Err NoType
+told_type a (inl hid) = rw hid refl
+told_type a (inr wide) =
+    elim (cases_Bool a.hidden) [
+      | inl hid ↦ rw hid refl
+      | inr plain ↦ rw (plain, ne_eqb (length a.value) 2 wide) refl
+    ]
+
+pub told : (avps : List Avp) (e : MessageError) → IsFault avps e → message_of avps ≡ Err e
+unfolding message_of
+told avps NoType (inl absent) = rw (absent_first 0 avps absent) refl
+told avps NoType (inr h) = rw (first_stands 0 h.0 avps h.1, told_type h.0 h.2) refl
+told avps (UnknownType n) h =
+    let t : IsType avps h.pair n = record { first = h.first; plain = h.plain; wide = h.wide; number = h.number } in
+    is_type avps h.pair n t ∙ rw (h.unknown, h.mandatory) refl
+told avps (UnknownMandatory v n) h = told_along avps h.0 (UnknownMandatory v n) h.1 h.2
+told avps (HiddenWithoutVector n) h = told_along avps h.0 (HiddenWithoutVector n) h.1 h.2
+told avps (BadValue n) h = told_along avps h.0 (BadValue n) h.1 h.2
+told avps (Missing n) h =
+    let sound = h.2.0 in
+    with_kind avps h.0 h.1 ∙ rw (sound_is h.0 avps sound, made_missing h.0 avps (of_kind h.0 avps) n h.2.1 (message_made h.0 avps sound)) refl
+told avps NoMemory h = absurd h
+
+-- ---- of what a call answered
+
+pub is_found : (avps : List Avp) (r : Result Read MessageError) → Gives Told (λ x. x) r (message_of avps) → IfOk r (Says avps)
+is_found avps (Ok r) given = found avps r given
+is_found avps (Err e) given = tt
+
+pub is_told : (avps : List Avp) (r : Result Read MessageError) → Gives Told (λ x. x) r (message_of avps) → IfErr r (IsToldFault avps)
+is_told avps (Ok r) given = tt
+is_told avps (Err NoMemory) given = tt
+is_told avps (Err e) given = fault avps e given

@@ -1,0 +1,9 @@
+pub mod Firsts
+pub mod Along
+pub mod Values
+pub mod Needs
+pub mod Openings
+pub mod Calls
+pub mod Laws
+pub mod Again
+pub mod Room

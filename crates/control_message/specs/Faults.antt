@@ -1,0 +1,107 @@
+-- What is wrong with a list of pairs, and that it is the first fault: a relation apart from the reader.
+use Rattle.std.specs.Prelude.{◌≡◌, ◌≢◌, ℕ, ◌≤◌, ◌⊎◌, true, false, List, [], ◌∷◌, ◌++◌, length, Some, None, ⊤}
+use Rattle.byteorder.specs.Endian.{big_number}
+use Rattle.avp_codec.specs.declared.avp.Avp.{Avp}
+use Rattle.control_message.specs.declared.kind.Kind.{Kind}
+use Rattle.control_message.specs.declared.kind.Shape.{Shape}
+use Rattle.control_message.specs.declared.kind.Shape.TheVariants.{Text, Short, Nonzero, Long, ShortLong}
+use Rattle.control_message.specs.declared.message.MessageError.{MessageError}
+use Rattle.control_message.specs.declared.message.MessageError.TheVariants.{NoType, UnknownType, UnknownMandatory, HiddenWithoutVector, BadValue, Missing, NoMemory}
+use Rattle.control_message.specs.Table.{kind_of, shape_of, needs_of}
+use Rattle.control_message.specs.Grammar.{IsAt, IsRecognised, StandsFirst, IsAbsent, HasNumber}
+
+-- ---- the type
+
+-- there is no Message Type, or the first one is hidden or hasn't two bytes
+abbrev pub HasNoType : List Avp → Type 0
+HasNoType avps = IsAbsent 0 avps ⊎ ((a : Avp) × StandsFirst 0 a avps × ((a.hidden ≡ true) ⊎ (length a.value ≢ 2)))
+
+-- the first Message Type is a number that names no kind, and mandatory
+pub record HasUnknownType (avps : List Avp) (n : ℕ) : Type 0 where
+  pub pair : Avp
+  pub first : StandsFirst 0 pair avps
+  pub plain : pair.hidden ≡ false
+  pub wide : length pair.value ≡ 2
+  pub number : big_number 2 pair.value ≡ n
+  pub unknown : kind_of n ≡ None
+  pub mandatory : pair.mandatory ≡ true
+
+-- the kind that the Message Type names
+pub record IsOfKind (avps : List Avp) (k : Kind) : Type 0 where
+  pub number : ℕ
+  pub has : HasNumber 0 2 number avps
+  pub names : kind_of number ≡ Some k
+
+-- ---- along the list
+
+abbrev pub HasShape : Shape → List ℕ → Type 0
+HasShape Text value = ⊤
+HasShape Short value = length value ≡ 2
+HasShape Nonzero value = (length value ≡ 2) × (big_number 2 value ≢ 0)
+HasShape Long value = length value ≡ 4
+HasShape ShortLong value = length value ≡ 6
+
+-- a pair whose value counts: the message uses its attribute, and it is the first of it
+pub record IsUsed (k : Kind) (n : ℕ) (s : Shape) (before : List Avp) (a : Avp) : Type 0 where
+  pub shape : shape_of k n ≡ Some s
+  pub is : IsAt n a
+  pub none : IsAbsent n before
+
+-- hidden behind a Random Vector, and there is no secret to uncover it by
+abbrev pub IsHiddenValue : List Avp → Avp → Type 0
+IsHiddenValue before a = (a.hidden ≡ true) × (¬ IsAbsent 36 before)
+
+-- plain, and of another shape than the message wants
+abbrev pub IsWrongValue : Shape → Avp → Type 0
+IsWrongValue s a = (a.hidden ≡ false) × (¬ HasShape s a.value)
+
+-- the fault of a pair behind others
+abbrev pub HasFault : Kind → List Avp → Avp → MessageError → Type 0
+HasFault k before a (UnknownMandatory v n) = (¬ IsRecognised a) × (a.mandatory ≡ true) × (a.vendor ≡ v) × (a.attribute ≡ n)
+HasFault k before a (HiddenWithoutVector n) = (s : Shape) × IsUsed k n s before a × (a.hidden ≡ true) × IsAbsent 36 before
+HasFault k before a (BadValue n) = (s : Shape) × IsUsed k n s before a × (IsHiddenValue before a ⊎ IsWrongValue s a)
+HasFault k before a e = ⊥
+
+-- no pair has a fault
+abbrev pub IsSound : Kind → List Avp → Type 0
+IsSound k avps = (before after : List Avp) (a : Avp) (e : MessageError) → avps ≡ before ++ a ∷ after → ¬ HasFault k before a e
+
+-- the fault stands at a pair, and none before it
+pub record IsFirstAlong (k : Kind) (avps : List Avp) (e : MessageError) : Type 0 where
+  pub before : List Avp
+  pub after : List Avp
+  pub pair : Avp
+  pub parts : avps ≡ before ++ pair ∷ after
+  pub wrong : HasFault k before pair e
+  pub sound : IsSound k before
+
+-- ---- what isn't there
+
+abbrev pub IsAmong : ℕ → List ℕ → Type 0
+IsAmong n [] = ⊥
+IsAmong n (m ∷ others) = (n ≡ m) ⊎ IsAmong n others
+
+-- the least attribute that the message needs and that isn't there
+pub record IsLeastMissing (k : Kind) (avps : List Avp) (n : ℕ) : Type 0 where
+  pub needed : IsAmong n (needs_of k)
+  pub absent : IsAbsent n avps
+  pub least : (m : ℕ) → IsAmong m (needs_of k) → IsAbsent m avps → n ≤ m
+
+-- ---- the first fault of a list
+
+-- of a message whose kind is known
+abbrev pub IsFaultOf : Kind → List Avp → MessageError → Type 0
+IsFaultOf k avps (Missing n) = IsSound k avps × IsLeastMissing k avps n
+IsFaultOf k avps e = IsFirstAlong k avps e
+
+-- The type comes first, then the list from its front, then what isn't there. Want of memory is no fault of the pairs.
+abbrev pub IsFault : List Avp → MessageError → Type 0
+IsFault avps NoType = HasNoType avps
+IsFault avps (UnknownType n) = HasUnknownType avps n
+IsFault avps NoMemory = ⊥
+IsFault avps e = (k : Kind) × IsOfKind avps k × IsFaultOf k avps e
+
+-- the fault that was told, if one was
+abbrev pub IsToldFault : List Avp → MessageError → Type 0
+IsToldFault avps NoMemory = ⊤
+IsToldFault avps e = IsFault avps e

@@ -1,0 +1,168 @@
+-- What a list of pairs says: a relation apart from the reader (RFC 2661 sections 4.1, 4.4 and 6, RFC 4951 section 5.1).
+use Rattle.std.specs.Prelude.{◌≡◌, ◌≢◌, ℕ, ◌≤◌, ◌⊎◌, Bool, true, false, List, ◌∷◌, ◌++◌, length, drop, Option, Some, None, ⊤}
+use Rattle.std.specs.List.{AllByRecursion}
+use Rattle.byteorder.specs.Endian.{big_number}
+use Rattle.avp_codec.specs.declared.avp.Avp.{Avp}
+use Rattle.control_message.specs.declared.message.Message.{Message}
+use Rattle.control_message.specs.declared.message.Message.TheVariants.{Sccrq, Sccrp, Scccn, Icrq, Icrp, Iccn}
+use Rattle.control_message.specs.declared.message.Opening.{Opening}
+use Rattle.control_message.specs.declared.message.Failover.{Failover}
+use Rattle.control_message.specs.declared.message.Read.{Read}
+use Rattle.control_message.specs.declared.message.Read.TheVariants.{Known, Ignored}
+use Rattle.control_message.specs.Table.{kind_of}
+
+-- ---- pairs
+
+-- a pair of an attribute of the IETF
+abbrev pub IsAt : ℕ → Avp → Type 0
+IsAt n a = (a.vendor ≡ 0) × (a.attribute ≡ n) × (a.reserved ≡ 0)
+
+-- the attributes that are known: those of the IETF (vendor 0), and this project's draw number (vendor 65535)
+abbrev pub IsOfIetf : ℕ → Type 0
+IsOfIetf n = (n ≤ 19) ⊎ (((21 ≤ n) × (n ≤ 39)) ⊎ ((76 ≤ n) × (n ≤ 79)))
+
+abbrev pub IsListed : ℕ → ℕ → Type 0
+IsListed vendor n = ((vendor ≡ 0) × IsOfIetf n) ⊎ ((vendor ≡ 65535) × (n ≡ 1))
+
+-- a reserved bit that is set makes a pair unrecognised
+abbrev pub IsRecognised : Avp → Type 0
+IsRecognised a = (a.reserved ≡ 0) × IsListed a.vendor a.attribute
+
+-- the first pair of some sort: no other one of the sort stands before it
+pub record IsFirstWith (P : Avp → Type 0) (a : Avp) (avps : List Avp) : Type 0 where
+  pub before : List Avp
+  pub after : List Avp
+  pub parts : avps ≡ before ++ a ∷ after
+  pub is : P a
+  pub none : AllByRecursion (λ b. ¬ P b) before
+
+-- the first pair of an attribute
+abbrev pub StandsFirst : ℕ → Avp → List Avp → Type 0
+StandsFirst n a avps = IsFirstWith (λ b. IsAt n b) a avps
+
+-- no pair of an attribute is there
+abbrev pub IsAbsent : ℕ → List Avp → Type 0
+IsAbsent n avps = AllByRecursion (λ a. ¬ IsAt n a) avps
+
+-- each pair that isn't recognised may be passed over
+abbrev pub NoneIsUnknown : List Avp → Type 0
+NoneIsUnknown avps = AllByRecursion (λ a. IsRecognised a ⊎ (a.mandatory ≡ false)) avps
+
+-- ---- values
+
+-- the first pair of an attribute is plain, and has that value
+pub record HasValue (n : ℕ) (value : List ℕ) (avps : List Avp) : Type 0 where
+  pub pair : Avp
+  pub first : StandsFirst n pair avps
+  pub plain : pair.hidden ≡ false
+  pub same : pair.value ≡ value
+
+-- its value is a number of so many bytes, the highest first
+pub record HasNumber (n width x : ℕ) (avps : List Avp) : Type 0 where
+  pub value : List ℕ
+  pub has : HasValue n value avps
+  pub wide : length value ≡ width
+  pub number : big_number width value ≡ x
+
+-- Failover Capability: two bytes of flags, then four of milliseconds
+pub record HasFailover (f : Failover) (avps : List Avp) : Type 0 where
+  pub value : List ℕ
+  pub has : HasValue 76 value avps
+  pub wide : length value ≡ 6
+  pub flags : big_number 2 value ≡ f.flags
+  pub time : big_number 4 (drop 2 value) ≡ f.time
+
+-- ---- messages
+
+-- Receive Window Size, which is 4 where it isn't told
+abbrev pub SaysWindow : List Avp → ℕ → Type 0
+SaysWindow avps window = (HasNumber 10 2 window avps × (window ≢ 0)) ⊎ (IsAbsent 10 avps × (window ≡ 4))
+
+abbrev pub SaysFailover : List Avp → Option Failover → Type 0
+SaysFailover avps None = IsAbsent 76 avps
+SaysFailover avps (Some f) = HasFailover f avps
+
+pub record SaysOpening (avps : List Avp) (o : Opening) : Type 0 where
+  pub version : HasNumber 2 2 o.version avps
+  pub framing : HasNumber 3 4 o.framing avps
+  pub name : HasValue 7 o.name avps
+  pub tunnel : HasNumber 9 2 o.tunnel avps
+  pub tunnel_not_zero : o.tunnel ≢ 0
+  pub window : SaysWindow avps o.window
+  pub failover : SaysFailover avps o.failover
+
+-- Calling Number, where it is told
+abbrev pub SaysCalling : List Avp → Option (List ℕ) → Type 0
+SaysCalling avps None = IsAbsent 22 avps
+SaysCalling avps (Some value) = HasValue 22 value avps
+
+-- Sequencing Required stands for itself, whatever its value
+abbrev pub SaysSequenced : List Avp → Bool → Type 0
+SaysSequenced avps false = IsAbsent 39 avps
+SaysSequenced avps true = (value : List ℕ) × HasValue 39 value avps
+
+pub record SaysIcrq (avps : List Avp) (id count : ℕ) (caller : Option (List ℕ)) : Type 0 where
+  pub session : HasNumber 14 2 id avps
+  pub serial : HasNumber 15 4 count avps
+  pub calling : SaysCalling avps caller
+
+pub record SaysIcrp (avps : List Avp) (id : ℕ) : Type 0 where
+  pub session : HasNumber 14 2 id avps
+  pub session_not_zero : id ≢ 0
+
+pub record SaysIccn (avps : List Avp) (bits bearer : ℕ) (asked : Bool) : Type 0 where
+  pub speed : HasNumber 24 4 bits avps
+  pub framing : HasNumber 19 4 bearer avps
+  pub sequenced : SaysSequenced avps asked
+
+abbrev pub SaysMessage : List Avp → Message → Type 0
+SaysMessage avps (Sccrq o) = SaysOpening avps o
+SaysMessage avps (Sccrp o) = SaysOpening avps o
+SaysMessage avps Scccn = ⊤
+SaysMessage avps (Icrq session serial calling) = SaysIcrq avps session serial calling
+SaysMessage avps (Icrp session) = SaysIcrp avps session
+SaysMessage avps (Iccn speed framing sequenced) = SaysIccn avps speed framing sequenced
+
+-- the Message Type of each message
+abbrev pub number_of : Message → ℕ
+number_of (Sccrq o) = 1
+number_of (Sccrp o) = 2
+number_of Scccn = 3
+number_of (Icrq session serial calling) = 10
+number_of (Icrp session) = 11
+number_of (Iccn speed framing sequenced) = 12
+
+-- a message: its type, its values, and nothing unknown that is mandatory
+pub record SaysKnown (avps : List Avp) (m : Message) : Type 0 where
+  pub number : HasNumber 0 2 (number_of m) avps
+  pub known : NoneIsUnknown avps
+  pub says : SaysMessage avps m
+
+-- a message of an unknown type that may be passed over
+pub record SaysIgnored (avps : List Avp) (n : ℕ) : Type 0 where
+  pub pair : Avp
+  pub first : StandsFirst 0 pair avps
+  pub plain : pair.hidden ≡ false
+  pub wide : length pair.value ≡ 2
+  pub number : big_number 2 pair.value ≡ n
+  pub unknown : kind_of n ≡ None
+  pub optional : pair.mandatory ≡ false
+
+abbrev pub Says : List Avp → Read → Type 0
+Says avps (Known m) = SaysKnown avps m
+Says avps (Ignored n) = SaysIgnored avps n
+
+-- ---- ids that are looked for whatever else the pairs say
+
+-- a plain pair of an attribute with two bytes
+abbrev pub IsPlainShort : ℕ → Avp → Type 0
+IsPlainShort n a = IsAt n a × (a.hidden ≡ false) × (length a.value ≡ 2)
+
+-- the first such pair has that number
+pub record HasPlainShort (n x : ℕ) (avps : List Avp) : Type 0 where
+  pub pair : Avp
+  pub first : IsFirstWith (λ a. IsPlainShort n a) pair avps
+  pub number : big_number 2 pair.value ≡ x
+
+abbrev pub HasNoPlainShort : ℕ → List Avp → Type 0
+HasNoPlainShort n avps = AllByRecursion (λ a. ¬ IsPlainShort n a) avps

@@ -1,0 +1,187 @@
+-- What a list of pairs says, or the first fault.
+use Rattle.std.specs.Prelude.{◌≡◌, ℕ, ◌==◌, ◌&&◌, ◌||◌, nat_le, not, Bool, List, [], ◌∷◌, ◌++◌, length, drop, find, Option, Some, None, is_some, option_map, Result, Ok, Err, if◌then◌else◌}
+use Rattle.byteorder.specs.Endian.{big_number}
+use Rattle.wire_base.specs.Answers.{◌>>=◌}
+use Rattle.avp_codec.specs.declared.avp.Avp.{Avp}
+use Rattle.control_message.specs.declared.kind.Kind.{Kind}
+use Rattle.control_message.specs.declared.kind.Kind.TheVariants as kind
+use Rattle.control_message.specs.declared.kind.Shape.{Shape}
+use Rattle.control_message.specs.declared.message.Message.{Message}
+use Rattle.control_message.specs.declared.message.Message.TheVariants.{Sccrq, Sccrp, Scccn, Icrq, Icrp, Iccn}
+use Rattle.control_message.specs.declared.message.Opening.{Opening}
+use Rattle.control_message.specs.declared.message.Failover.{Failover}
+use Rattle.control_message.specs.declared.message.Read.{Read}
+use Rattle.control_message.specs.declared.message.Read.TheVariants.{Known, Ignored}
+use Rattle.control_message.specs.declared.message.MessageError.{MessageError}
+use Rattle.control_message.specs.declared.message.MessageError.TheVariants.{NoType, UnknownType, UnknownMandatory, HiddenWithoutVector, BadValue, Missing, NoMemory}
+use Rattle.control_message.specs.Table.{kind_of, shape_of, fits}
+
+-- what a call that failed tells of the reading: nothing where memory was wanting
+abbrev pub Told : {Y : Type 0} → MessageError → Result Y MessageError → Type 0
+Told NoMemory read = Unit {0}
+Told e read = read ≡ Err e
+
+-- ---- pairs
+
+-- the attributes that are known: those of the IETF (vendor 0), and this project's draw number (vendor 65535)
+abbrev pub is_listed : ℕ → ℕ → Bool
+is_listed vendor n =
+    if vendor == 0 then (nat_le n 19 || (nat_le 21 n && nat_le n 39)) || (nat_le 76 n && nat_le n 79)
+    else (vendor == 65535 && n == 1)
+
+-- whether a pair is recognised; a reserved bit that is set makes it unrecognised
+abbrev pub is_recognised : Avp → Bool
+is_recognised a = a.reserved == 0 && is_listed a.vendor a.attribute
+
+-- whether a pair is one of an attribute of the IETF
+abbrev pub is_at : ℕ → Avp → Bool
+is_at n a = (a.vendor == 0 && a.attribute == n) && a.reserved == 0
+
+-- the first pair of an attribute
+abbrev pub first : ℕ → List Avp → Option Avp
+first n avps = find (λ a. is_at n a) avps
+
+-- ---- the first fault along the list
+
+-- a value that the message uses, where a Random Vector stands before it or not
+abbrev pub checked_value : Shape → Bool → Avp → Result (Unit {0}) MessageError
+checked_value s vector a =
+    if a.hidden then (if vector then Err (BadValue a.attribute) else Err (HiddenWithoutVector a.attribute))
+    else if fits s a.value then Ok tt
+    else Err (BadValue a.attribute)
+
+-- a pair of an attribute with that shape, where the message uses it; only its first place counts
+abbrev pub checked_use : Option Shape → List Avp → Avp → Result (Unit {0}) MessageError
+checked_use None before a = Ok tt
+checked_use (Some s) before a =
+    if is_some (first a.attribute before) then Ok tt else checked_value s (is_some (first 36 before)) a
+
+-- a pair behind others
+unfoldable pub checked : Kind → List Avp → Avp → Result (Unit {0}) MessageError
+checked k before a =
+    if is_recognised a then (if a.vendor == 0 then checked_use (shape_of k a.attribute) before a else Ok tt)
+    else if a.mandatory then Err (UnknownMandatory a.vendor a.attribute)
+    else Ok tt
+
+-- pairs behind others
+abbrev pub checked_all : Kind → List Avp → List Avp → Result (Unit {0}) MessageError
+checked_all k before [] = Ok tt
+checked_all k before (a ∷ rest) = checked k before a >>= λ _. checked_all k (before ++ a ∷ []) rest
+
+-- ---- values, in the order of their attributes
+
+abbrev pub value_in : ℕ → Option Avp → Result (List ℕ) MessageError
+value_in n None = Err (Missing n)
+value_in n (Some a) = Ok a.value
+
+abbrev pub value_at : ℕ → List Avp → Result (List ℕ) MessageError
+value_at n avps = value_in n (first n avps)
+
+-- a number of some bytes, the highest first
+abbrev pub number_in : ℕ → ℕ → List ℕ → Result ℕ MessageError
+number_in width n value = if length value == width then Ok (big_number width value) else Err (BadValue n)
+
+unfoldable pub u16_at : ℕ → List Avp → Result ℕ MessageError
+u16_at n avps = value_at n avps >>= λ v. number_in 2 n v
+
+unfoldable pub u32_at : ℕ → List Avp → Result ℕ MessageError
+u32_at n avps = value_at n avps >>= λ v. number_in 4 n v
+
+-- Receive Window Size, which is 4 where it isn't told
+abbrev pub window_in : Option Avp → Result ℕ MessageError
+window_in None = Ok 4
+window_in (Some a) = number_in 2 10 a.value
+
+unfoldable pub window_at : List Avp → Result ℕ MessageError
+window_at avps = window_in (first 10 avps)
+
+-- Failover Capability: the flags, then the milliseconds
+abbrev pub failover_value : List ℕ → Option Failover
+failover_value value =
+    if length value == 6 then Some (record { flags = big_number 2 value; time = big_number 4 (drop 2 value) }) else None
+
+abbrev pub failover_read : Option Failover → Result (Option Failover) MessageError
+failover_read None = Err (BadValue 76)
+failover_read (Some f) = Ok (Some f)
+
+abbrev pub failover_in : Option Avp → Result (Option Failover) MessageError
+failover_in None = Ok None
+failover_in (Some a) = failover_read (failover_value a.value)
+
+unfoldable pub failover_at : List Avp → Result (Option Failover) MessageError
+failover_at avps = failover_in (first 76 avps)
+
+unfoldable pub opening_at : List Avp → Result Opening MessageError
+opening_at avps = do
+  version ← u16_at 2 avps
+  framing ← u32_at 3 avps
+  name ← value_at 7 avps
+  tunnel ← u16_at 9 avps
+  window ← window_at avps
+  failover ← failover_at avps
+  Ok (record { version = version; framing = framing; name = name; tunnel = tunnel; window = window; failover = failover })
+
+-- Calling Number, where it is told
+abbrev pub calling_at : List Avp → Option (List ℕ)
+calling_at avps = option_map (λ (a : Avp). a.value) (first 22 avps)
+
+unfoldable pub icrq_at : List Avp → Result Message MessageError
+icrq_at avps = do
+  session ← u16_at 14 avps
+  serial ← u32_at 15 avps
+  Ok (Icrq session serial (calling_at avps))
+
+unfoldable pub icrp_at : List Avp → Result Message MessageError
+icrp_at avps = do
+  session ← u16_at 14 avps
+  Ok (Icrp session)
+
+-- Sequencing Required stands for itself, whatever its value
+unfoldable pub iccn_at : List Avp → Result Message MessageError
+iccn_at avps = do
+  framing ← u32_at 19 avps
+  speed ← u32_at 24 avps
+  Ok (Iccn speed framing (is_some (first 39 avps)))
+
+-- ---- messages
+
+-- a message of a kind
+abbrev pub of_kind : Kind → List Avp → Result Message MessageError
+of_kind kind.Sccrq avps = opening_at avps >>= λ o. Ok (Sccrq o)
+of_kind kind.Sccrp avps = opening_at avps >>= λ o. Ok (Sccrp o)
+of_kind kind.Scccn avps = Ok Scccn
+of_kind kind.Icrq avps = icrq_at avps
+of_kind kind.Icrp avps = icrp_at avps
+of_kind kind.Iccn avps = iccn_at avps
+
+-- the number of a Message Type
+abbrev pub type_number : Avp → Result ℕ MessageError
+type_number a = if not a.hidden && length a.value == 2 then Ok (big_number 2 a.value) else Err NoType
+
+-- a message whose type has a number, which names a kind or not
+abbrev pub of_type : ℕ → Bool → Option Kind → List Avp → Result Read MessageError
+of_type n mandatory None avps = if mandatory then Err (UnknownType n) else Ok (Ignored n)
+of_type n mandatory (Some k) avps = do
+  _ ← checked_all k [] avps
+  m ← of_kind k avps
+  Ok (Known m)
+
+abbrev pub with_type : Option Avp → List Avp → Result Read MessageError
+with_type None avps = Err NoType
+with_type (Some a) avps = type_number a >>= λ n. of_type n a.mandatory (kind_of n) avps
+
+unfoldable pub message_of : List Avp → Result Read MessageError
+message_of avps = with_type (first 0 avps) avps
+
+-- ---- ids that are looked for whatever else the pairs say
+
+abbrev pub is_plain_short : ℕ → Avp → Bool
+is_plain_short n a = is_at n a && (not a.hidden && length a.value == 2)
+
+abbrev pub short_in : Option Avp → Option ℕ
+short_in None = None
+short_in (Some a) = if length a.value == 2 then Some (big_number 2 a.value) else None
+
+-- the number of the first plain pair of an attribute with two bytes
+abbrev pub plain_short : ℕ → List Avp → Option ℕ
+plain_short n avps = short_in (find (λ a. is_plain_short n a) avps)

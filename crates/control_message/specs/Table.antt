@@ -1,0 +1,56 @@
+-- The table of messages and attributes (RFC 2661 sections 3.2, 4.4 and 6, RFC 4951 section 5).
+use Rattle.std.specs.Prelude.{ℕ, ◌==◌, ◌&&◌, not, Bool, true, List, [], ◌∷◌, length, find, Option, option_map}
+use Rattle.byteorder.specs.Endian.{big_number}
+use Rattle.control_message.specs.declared.kind.Kind.{Kind}
+use Rattle.control_message.specs.declared.kind.Kind.TheVariants.{Sccrq, Sccrp, Scccn, Icrq, Icrp, Iccn}
+use Rattle.control_message.specs.declared.kind.Shape.{Shape}
+use Rattle.control_message.specs.declared.kind.Shape.TheVariants.{Text, Short, Nonzero, Long, ShortLong}
+
+-- what stands beside a number in a table
+abbrev pub look_up : {V : Type 0} → ℕ → List (ℕ × V) → Option V
+look_up {V} n rows = option_map (λ (row : ℕ × V). row.1) (find (λ (row : ℕ × V). n == row.0) rows)
+
+-- the Message Types that are known
+abbrev pub kinds : List (ℕ × Kind)
+kinds = (1, Sccrq) ∷ (2, Sccrp) ∷ (3, Scccn) ∷ (10, Icrq) ∷ (11, Icrp) ∷ (12, Iccn) ∷ []
+
+-- the kind that a number names
+abbrev pub kind_of : ℕ → Option Kind
+kind_of n = look_up n kinds
+
+-- Protocol Version, Framing Capabilities, Host Name, Assigned Tunnel ID, Receive Window Size, Failover Capability
+abbrev pub opening_uses : List (ℕ × Shape)
+opening_uses = (2, Short) ∷ (3, Long) ∷ (7, Text) ∷ (9, Nonzero) ∷ (10, Nonzero) ∷ (76, ShortLong) ∷ []
+
+-- the attributes that a message uses beside its type, and the shapes of their values
+abbrev pub uses_of : Kind → List (ℕ × Shape)
+uses_of Sccrq = opening_uses
+uses_of Sccrp = opening_uses
+uses_of Scccn = []
+-- Assigned Session ID, Call Serial Number, Calling Number
+uses_of Icrq = (14, Short) ∷ (15, Long) ∷ (22, Text) ∷ []
+-- Assigned Session ID
+uses_of Icrp = (14, Nonzero) ∷ []
+-- Framing Type, Connect Speed, Sequencing Required
+uses_of Iccn = (19, Long) ∷ (24, Long) ∷ (39, Text) ∷ []
+
+-- those that it needs, in order
+abbrev pub needs_of : Kind → List ℕ
+needs_of Sccrq = 2 ∷ 3 ∷ 7 ∷ 9 ∷ []
+needs_of Sccrp = 2 ∷ 3 ∷ 7 ∷ 9 ∷ []
+needs_of Scccn = []
+needs_of Icrq = 14 ∷ 15 ∷ []
+needs_of Icrp = 14 ∷ []
+needs_of Iccn = 19 ∷ 24 ∷ []
+
+-- the shape of an attribute's value in a message of a kind, where it uses the attribute
+abbrev pub shape_of : Kind → ℕ → Option Shape
+shape_of k n = look_up n (uses_of k)
+
+-- whether a value has a shape
+abbrev pub fits : Shape → List ℕ → Bool
+fits Text value = true
+fits Short value = length value == 2
+fits Nonzero value = length value == 2 && not (big_number 2 value == 0)
+fits Long value = length value == 4
+fits ShortLong value = length value == 6

@@ -1,0 +1,29 @@
+//! The attributes that are read and written (RFC 2661 section 4.4, RFC 4951 section 5.1).
+
+pub const MESSAGE_TYPE: u16 = 0;
+
+pub const PROTOCOL_VERSION: u16 = 2;
+
+pub const FRAMING_CAPABILITIES: u16 = 3;
+
+pub const HOST_NAME: u16 = 7;
+
+pub const ASSIGNED_TUNNEL: u16 = 9;
+
+pub const WINDOW: u16 = 10;
+
+pub const ASSIGNED_SESSION: u16 = 14;
+
+pub const CALL_SERIAL_NUMBER: u16 = 15;
+
+pub const FRAMING_TYPE: u16 = 19;
+
+pub const CALLING_NUMBER: u16 = 22;
+
+pub const CONNECT_SPEED: u16 = 24;
+
+pub const RANDOM_VECTOR: u16 = 36;
+
+pub const SEQUENCING_REQUIRED: u16 = 39;
+
+pub const FAILOVER: u16 = 76;

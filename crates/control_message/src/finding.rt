@@ -1,0 +1,96 @@
+//! Which pair is one of an attribute, and which are recognised (RFC 2661 section 4.1).
+
+ghost use Rattle.std.specs.Prelude.{◌≡◌, ◌↔◌, find, is_some, IsNone, IfSome};
+ghost use Rattle.std.specs.Option.{option_copied};
+ghost use Rattle.control_message.specs.Grammar.{HasPlainShort, HasNoPlainShort};
+ghost use Rattle.control_message.specs.Reading.{is_listed, is_recognised, is_at, first, number_in, is_plain_short, plain_short};
+
+use crate::attribute::ASSIGNED_TUNNEL;
+use crate::message::MessageError;
+use avp_codec::{Avp, Avps};
+use wire_base::take_u16;
+
+/// Whether an attribute of a vendor is known.
+pub fn is_listed(vendor: u16, attribute: u16) -> bool
+    ensures { result ≡ is_listed vendor attribute }
+{
+    match vendor {
+        0 => attribute <= 19
+            || 21 <= attribute && attribute <= 39
+            || 76 <= attribute && attribute <= 79,
+        _ => vendor == 0xffff && attribute == 1,
+    }
+}
+
+/// Whether a pair is recognised. One with a reserved bit set isn't (RFC 2661 section 4.1).
+pub fn is_recognised(avp: &Avp) -> bool
+    ensures { result ≡ is_recognised avp.now }
+{
+    avp.reserved == 0 && is_listed(avp.vendor, avp.attribute)
+}
+
+/// Whether a pair is one of an attribute of the IETF.
+pub fn is_at(avp: &Avp, attribute: u16) -> bool
+    ensures { result ≡ is_at attribute avp.now }
+{
+    avp.vendor == 0 && avp.attribute == attribute && avp.reserved == 0
+}
+
+/// The first pair of an attribute.
+pub fn find_avp(avps: &[Avp], attribute: u16) -> Option<&Avp>
+    ensures { option_copied result ≡ first attribute avps.now }
+{
+    avps.iter().find(|a| is_at(a, attribute))
+}
+
+/// Whether a pair of an attribute is there.
+pub fn has_avp(avps: &[Avp], attribute: u16) -> bool
+    ensures { result ≡ is_some (first attribute avps.now) }
+{
+    find_avp(avps, attribute).is_some()
+}
+
+/// The number that a value of two bytes is.
+pub fn u16_in(value: &[u8], attribute: u16) -> Result<u16, MessageError>
+    ensures { result ≡ number_in 2 attribute value.now }
+{
+    match take_u16(value, 0) {
+        Ok(number) if value.len() == 2 => Ok(number),
+        _ => Err(MessageError::BadValue { attribute }),
+    }
+}
+
+/// Whether a pair is a plain one of an attribute, with two bytes.
+fn is_plain_short(avp: &Avp, attribute: u16) -> bool
+    ensures { result ≡ is_plain_short attribute avp.now }
+{
+    is_at(avp, attribute) && !avp.hidden && avp.value.len() == 2
+}
+
+/// The first plain pair of an attribute with two bytes.
+fn find_plain_short(avps: &[Avp], attribute: u16) -> Option<&Avp>
+    ensures { option_copied result ≡ find (λ a. is_plain_short attribute a) avps.now }
+{
+    avps.iter().find(|a| is_plain_short(a, attribute))
+}
+
+/// The number of that pair.
+fn plain_short(avps: &Avps, attribute: u16) -> Option<u16>
+    ensures { result ≡ plain_short attribute avps.now }
+{
+    match find_plain_short(avps.as_slice(), attribute) {
+        None => None,
+        Some(avp) => u16_in(avp.value.as_slice(), attribute).ok(),
+    }
+}
+
+/// The number of the first Assigned Tunnel ID that is recognised, plain and of two bytes (RFC 2661 section 4.4.3),
+/// whatever else the pairs say: a message that is refused is answered to it.
+pub fn assigned_tunnel(avps: &Avps) -> Option<u16>
+    ensures found { IfSome result (λ x. HasPlainShort ASSIGNED_TUNNEL x avps.now) }
+    ensures none { IsNone result ↔ HasNoPlainShort ASSIGNED_TUNNEL avps.now }
+    // For callers: the answer as a function of the pairs.
+    ensures exact { result ≡ plain_short ASSIGNED_TUNNEL avps.now }
+{
+    plain_short(avps, ASSIGNED_TUNNEL)
+}

@@ -1,0 +1,115 @@
+//! Which attributes each message uses, and the shapes of their values.
+
+ghost use Rattle.std.specs.Prelude.{◌≡◌};
+ghost use Rattle.control_message.specs.Table.{kind_of, shape_of, fits};
+
+use crate::attribute::{
+    ASSIGNED_SESSION, ASSIGNED_TUNNEL, CALL_SERIAL_NUMBER, CALLING_NUMBER, CONNECT_SPEED, FAILOVER,
+    FRAMING_CAPABILITIES, FRAMING_TYPE, HOST_NAME, PROTOCOL_VERSION, SEQUENCING_REQUIRED, WINDOW,
+};
+use wire_base::take_u16;
+
+// The Message Types (RFC 2661 section 3.2).
+pub const SCCRQ: u16 = 1;
+
+pub const SCCRP: u16 = 2;
+
+pub const SCCCN: u16 = 3;
+
+pub const ICRQ: u16 = 10;
+
+pub const ICRP: u16 = 11;
+
+pub const ICCN: u16 = 12;
+
+/// The kind of a control message.
+#[derive(Clone, Copy, Debug, PartialEq, Eq)]
+pub enum Kind {
+    Sccrq,
+    Sccrp,
+    Scccn,
+    Icrq,
+    Icrp,
+    Iccn,
+}
+
+/// The shape of an attribute's value.
+#[derive(Clone, Copy, Debug, PartialEq, Eq)]
+pub enum Shape {
+    /// Any bytes, none too.
+    Text,
+    /// A number in two bytes.
+    Short,
+    /// A number in two bytes that isn't 0.
+    Nonzero,
+    /// A number in four bytes.
+    Long,
+    /// A number in two bytes, then a number in four.
+    ShortLong,
+}
+
+impl Kind {
+    /// The kind that a Message Type names (RFC 2661 section 3.2).
+    pub fn from_number(number: u16) -> Option<Kind>
+        ensures { result ≡ kind_of number }
+    {
+        match number {
+            SCCRQ => Some(Kind::Sccrq),
+            SCCRP => Some(Kind::Sccrp),
+            SCCCN => Some(Kind::Scccn),
+            ICRQ => Some(Kind::Icrq),
+            ICRP => Some(Kind::Icrp),
+            ICCN => Some(Kind::Iccn),
+            _ => None,
+        }
+    }
+
+    /// The shape of an attribute's value in a message of the kind; None where such a message doesn't use it.
+    pub fn shape(&self, attribute: u16) -> Option<Shape>
+        ensures { result ≡ shape_of self.now attribute }
+    {
+        match self {
+            Kind::Sccrq | Kind::Sccrp => match attribute {
+                PROTOCOL_VERSION => Some(Shape::Short),
+                FRAMING_CAPABILITIES => Some(Shape::Long),
+                HOST_NAME => Some(Shape::Text),
+                ASSIGNED_TUNNEL => Some(Shape::Nonzero),
+                WINDOW => Some(Shape::Nonzero),
+                FAILOVER => Some(Shape::ShortLong),
+                _ => None,
+            },
+            Kind::Scccn => None,
+            Kind::Icrq => match attribute {
+                ASSIGNED_SESSION => Some(Shape::Short),
+                CALL_SERIAL_NUMBER => Some(Shape::Long),
+                CALLING_NUMBER => Some(Shape::Text),
+                _ => None,
+            },
+            Kind::Icrp => match attribute {
+                ASSIGNED_SESSION => Some(Shape::Nonzero),
+                _ => None,
+            },
+            Kind::Iccn => match attribute {
+                FRAMING_TYPE => Some(Shape::Long),
+                CONNECT_SPEED => Some(Shape::Long),
+                SEQUENCING_REQUIRED => Some(Shape::Text),
+                _ => None,
+            },
+        }
+    }
+}
+
+impl Shape {
+    /// Whether a value has the shape.
+    pub fn fits(&self, value: &[u8]) -> bool
+        ensures { result ≡ fits self.now value.now }
+    {
+        match self {
+            Shape::Text => true,
+            Shape::Short => value.len() == 2,
+            Shape::Nonzero => value.len() == 2 && !matches!(take_u16(value, 0), Ok(0)),
+            Shape::Long => value.len() == 4,
+            Shape::ShortLong => value.len() == 6,
+        }
+    }
+}

@@ -1,0 +1,18 @@
+//! Control messages as lists of attribute value pairs (RFC 2661 sections 3.2, 4.4 and 6, RFC 4951 section 5).
+#![tactic(auto)]
+
+mod attribute;
+mod checking;
+mod finding;
+mod kind;
+mod message;
+mod reading;
+mod writing;
+
+pub use finding::assigned_tunnel;
+pub use message::{Failover, Message, MessageError, Opening, Read};
+pub use reading::{read_message, reads_what_was_written};
+pub use writing::{has_room, write_message};
+
+#[cfg(test)]
+mod tests;

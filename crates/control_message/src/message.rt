@@ -1,0 +1,98 @@
+//! Control messages, and why a list of pairs is none.
+
+ghost use Rattle.std.specs.Prelude.{◌≡◌};
+ghost use Rattle.control_message.specs.declared.message.MessageError.TheVariants as errors;
+
+use wire_base::{Bytes, NoMemory};
+
+/// A control message (RFC 2661 section 6).
+#[derive(Debug, Drop)]
+pub enum Message {
+    /// Start-Control-Connection-Request, which opens a tunnel.
+    Sccrq(Opening),
+    /// Start-Control-Connection-Reply, which answers it.
+    Sccrp(Opening),
+    /// Start-Control-Connection-Connected, which ends the set-up.
+    Scccn,
+    /// Incoming-Call-Request, which announces a call: Assigned Session ID, by which its maker wants it to be addressed,
+    /// Call Serial Number, and Calling Number, where it is told.
+    Icrq {
+        session: u16,
+        serial: u32,
+        calling: Option<Bytes>,
+    },
+    /// Incoming-Call-Reply, which accepts it, with Assigned Session ID.
+    Icrp {
+        session: u16,
+    },
+    /// Incoming-Call-Connected: Connect Speed in bits a second, Framing Type (1 for synchronous framing, 2 for
+    /// asynchronous framing), and whether Sequencing Required is there.
+    Iccn {
+        speed: u32,
+        framing: u32,
+        sequenced: bool,
+    },
+}
+
+/// What the two ends of a tunnel tell each other as it is opened (RFC 2661 sections 6.1 and 6.2).
+#[derive(Debug, Drop)]
+pub struct Opening {
+    /// Protocol Version: the version in the high byte, the revision in the low byte.
+    pub version: u16,
+    /// Framing Capabilities, a set of bits: 1 for synchronous framing, 2 for asynchronous framing.
+    pub framing: u32,
+    /// Host Name, which may be empty.
+    pub name: Bytes,
+    /// Assigned Tunnel ID, by which its maker wants to be addressed.
+    pub tunnel: u16,
+    /// Receive Window Size, in messages.
+    pub window: u16,
+    /// Failover Capability, where it is told.
+    pub failover: Option<Failover>,
+}
+
+/// Failover Capability, the attribute 76 of RFC 4951 section 5.1. Its layout, two bytes of flags and four of milliseconds,
+/// is this project's profile of it.
+#[derive(Clone, Copy, Debug, PartialEq, Eq)]
+pub struct Failover {
+    /// A set of bits: 1 for the control channel, 2 for data channels.
+    pub flags: u16,
+    /// The recovery time, in milliseconds.
+    pub time: u32,
+}
+
+/// What a list of pairs says.
+#[derive(Debug, Drop)]
+pub enum Read {
+    /// A message.
+    Known(Message),
+    /// A message of an unknown type that isn't mandatory, so that it is to be passed over (RFC 2661 section 4.4.1).
+    Ignored { number: u16 },
+}
+
+/// The first fault of a list of pairs.
+#[derive(Clone, Copy, Debug, PartialEq, Eq)]
+pub enum MessageError {
+    /// There is no Message Type, or the first one is hidden or hasn't two bytes.
+    NoType,
+    /// The message type is unknown and mandatory.
+    UnknownType { number: u16 },
+    /// A pair is unrecognised and mandatory.
+    UnknownMandatory { vendor: u16, attribute: u16 },
+    /// A pair that the message uses is hidden, and no Random Vector stands before it (RFC 2661 section 4.3).
+    HiddenWithoutVector { attribute: u16 },
+    /// A value that the message uses is of a wrong length, is 0 where that is no value, or can't be uncovered.
+    BadValue { attribute: u16 },
+    /// The message needs the attribute, and it isn't there.
+    Missing { attribute: u16 },
+    /// Memory was wanting.
+    NoMemory,
+}
+
+impl From<NoMemory> for MessageError {
+    ghost from_gives = { λ _ e. e ≡ errors.NoMemory };
+
+    fn from(_e: NoMemory) -> MessageError {
+        MessageError::NoMemory
+    }
+}

@@ -1,0 +1,252 @@
+//! Reading control messages.
+
+ghost use Rattle.std.specs.Prelude.{◌≡◌, Ok, Err, IfOk, IfErr, MatchResult};
+ghost use Rattle.wire_base.specs.Answers.{Gives};
+ghost use Rattle.avp_codec.specs.Reading.{avps_of};
+ghost use Rattle.avp_codec.specs.Spelling.{spelling};
+ghost use Rattle.control_message.specs.declared.message.Message.{Message};
+ghost use Rattle.control_message.specs.declared.message.Read.{Read};
+ghost use Rattle.control_message.specs.declared.message.Read.TheVariants.{Known};
+ghost use Rattle.control_message.specs.declared.message.MessageError.{MessageError};
+ghost use Rattle.control_message.specs.Grammar.{Says};
+ghost use Rattle.control_message.specs.Faults.{IsFault, IsToldFault};
+ghost use Rattle.control_message.specs.Pairs.{pairs_of, IsWritten};
+ghost use Rattle.control_message.specs.Reading.{Told, value_at, u16_at, u32_at, window_at, failover_value, failover_at, opening_at, calling_at, icrq_at, icrp_at, iccn_at, of_kind, type_number, message_of};
+
+use crate::attribute::{
+    ASSIGNED_SESSION, ASSIGNED_TUNNEL, CALL_SERIAL_NUMBER, CALLING_NUMBER, CONNECT_SPEED, FAILOVER,
+    FRAMING_CAPABILITIES, FRAMING_TYPE, HOST_NAME, MESSAGE_TYPE, PROTOCOL_VERSION,
+    SEQUENCING_REQUIRED, WINDOW,
+};
+use crate::checking::check_all;
+use crate::finding::{find_avp, has_avp, u16_in};
+use crate::kind::Kind;
+use crate::message::{Failover, Message, MessageError, Opening, Read};
+use avp_codec::{Avp, Avps};
+use std::alloc::Global;
+use wire_base::{Bytes, NoMemory, take_u16, take_u32};
+
+/// The value of an attribute that the message needs.
+fn value_of(avps: &[Avp], attribute: u16) -> Result<&[u8], MessageError>
+    ensures { MatchResult result (λ v. value_at attribute avps.now ≡ Ok v.now) (λ e. value_at attribute avps.now ≡ Err e) }
+{
+    match find_avp(avps, attribute) {
+        Some(avp) => Ok(avp.value.as_slice()),
+        None => Err(MessageError::Missing { attribute }),
+    }
+}
+
+/// The number of an attribute, in two bytes.
+#[tactic(auto, unfolding(crate::specs::Reading::u16_at))]
+fn u16_of(avps: &[Avp], attribute: u16) -> Result<u16, MessageError>
+    ensures { result ≡ u16_at attribute avps.now }
+{
+    let value = value_of(avps, attribute)?;
+    u16_in(value, attribute)
+}
+
+/// The number of an attribute, in four bytes.
+#[tactic(auto, unfolding(crate::specs::Reading::u32_at))]
+fn u32_of(avps: &[Avp], attribute: u16) -> Result<u32, MessageError>
+    ensures { result ≡ u32_at attribute avps.now }
+{
+    let value = value_of(avps, attribute)?;
+    match take_u32(value, 0) {
+        Ok(number) if value.len() == 4 => Ok(number),
+        _ => Err(MessageError::BadValue { attribute }),
+    }
+}
+
+/// Receive Window Size, which is 4 where it isn't told (RFC 2661 section 4.4.3).
+#[tactic(auto, unfolding(crate::specs::Reading::window_at))]
+fn window_of(avps: &[Avp]) -> Result<u16, MessageError>
+    ensures { result ≡ window_at avps.now }
+{
+    match find_avp(avps, WINDOW) {
+        None => Ok(4),
+        Some(avp) => u16_in(avp.value.as_slice(), WINDOW),
+    }
+}
+
+/// The Failover Capability that a value is.
+fn failover_in(value: &[u8]) -> Option<Failover>
+    ensures { result ≡ failover_value value.now }
+{
+    if value.len() != 6 {
+        return None;
+    }
+    match (take_u16(value, 0), take_u32(value, 2)) {
+        (Ok(flags), Ok(time)) => Some(Failover { flags, time }),
+        _ => None,
+    }
+}
+
+/// Failover Capability.
+#[tactic(auto, unfolding(crate::specs::Reading::failover_at))]
+fn failover_of(avps: &[Avp]) -> Result<Option<Failover>, MessageError>
+    ensures { result ≡ failover_at avps.now }
+{
+    let Some(avp) = find_avp(avps, FAILOVER) else {
+        return Ok(None);
+    };
+    match failover_in(avp.value.as_slice()) {
+        None => Err(MessageError::BadValue {
+            attribute: FAILOVER,
+        }),
+        failover => Ok(failover),
+    }
+}
+
+/// What the two ends tell each other as a tunnel is opened.
+#[tactic(auto, unfolding(crate::specs::Reading::opening_at))]
+fn opening_of(alloc: Global, avps: &[Avp]) -> Result<Opening, MessageError>
+    ensures { Gives Told (λ o. o) result (opening_at avps.now) }
+{
+    let version = u16_of(avps, PROTOCOL_VERSION)?;
+    let framing = u32_of(avps, FRAMING_CAPABILITIES)?;
+    let name = value_of(avps, HOST_NAME)?;
+    let tunnel = u16_of(avps, ASSIGNED_TUNNEL)?;
+    let window = window_of(avps)?;
+    let failover = failover_of(avps)?;
+    let name = Bytes::from_slice(alloc, name)?;
+    Ok(Opening {
+        version,
+        framing,
+        name,
+        tunnel,
+        window,
+        failover,
+    })
+}
+
+/// Calling Number, where it is told.
+fn calling_of(alloc: Global, avps: &[Avp]) -> Result<Option<Bytes>, NoMemory>
+    ensures { IfOk result (λ o. o ≡ calling_at avps.now) }
+{
+    match find_avp(avps, CALLING_NUMBER) {
+        None => Ok(None),
+        Some(avp) => {
+            let value = Bytes::from_slice(alloc, avp.value.as_slice())?;
+            Ok(Some(value))
+        }
+    }
+}
+
+/// Incoming-Call-Request.
+#[tactic(auto, unfolding(crate::specs::Reading::icrq_at))]
+fn icrq_of(alloc: Global, avps: &[Avp]) -> Result<Message, MessageError>
+    ensures { Gives Told (λ m. m) result (icrq_at avps.now) }
+{
+    let session = u16_of(avps, ASSIGNED_SESSION)?;
+    let serial = u32_of(avps, CALL_SERIAL_NUMBER)?;
+    let calling = calling_of(alloc, avps)?;
+    Ok(Message::Icrq {
+        session,
+        serial,
+        calling,
+    })
+}
+
+/// Incoming-Call-Reply.
+#[tactic(auto, unfolding(crate::specs::Reading::icrp_at))]
+fn icrp_of(avps: &[Avp]) -> Result<Message, MessageError>
+    ensures { result ≡ icrp_at avps.now }
+{
+    let session = u16_of(avps, ASSIGNED_SESSION)?;
+    Ok(Message::Icrp { session })
+}
+
+/// Incoming-Call-Connected.
+#[tactic(auto, unfolding(crate::specs::Reading::iccn_at))]
+fn iccn_of(avps: &[Avp]) -> Result<Message, MessageError>
+    ensures { result ≡ iccn_at avps.now }
+{
+    let framing = u32_of(avps, FRAMING_TYPE)?;
+    let speed = u32_of(avps, CONNECT_SPEED)?;
+    let sequenced = has_avp(avps, SEQUENCING_REQUIRED);
+    Ok(Message::Iccn {
+        speed,
+        framing,
+        sequenced,
+    })
+}
+
+/// The message of a kind that the pairs make.
+fn message_of_kind(alloc: Global, kind: Kind, avps: &[Avp]) -> Result<Message, MessageError>
+    ensures { Gives Told (λ m. m) result (of_kind kind avps.now) }
+{
+    match kind {
+        Kind::Sccrq => {
+            let opening = opening_of(alloc, avps)?;
+            Ok(Message::Sccrq(opening))
+        }
+        Kind::Sccrp => {
+            let opening = opening_of(alloc, avps)?;
+            Ok(Message::Sccrp(opening))
+        }
+        Kind::Scccn => Ok(Message::Scccn),
+        Kind::Icrq => icrq_of(alloc, avps),
+        Kind::Icrp => icrp_of(avps),
+        Kind::Iccn => iccn_of(avps),
+    }
+}
+
+/// The number of a Message Type.
+fn number_of_type(avp: &Avp) -> Result<u16, MessageError>
+    ensures { result ≡ type_number avp.now }
+{
+    if avp.hidden {
+        return Err(MessageError::NoType);
+    }
+    match u16_in(avp.value.as_slice(), MESSAGE_TYPE) {
+        Ok(number) => Ok(number),
+        Err(_) => Err(MessageError::NoType),
+    }
+}
+
+/// The whole reading, with the answer as a function of the pairs.
+#[tactic(auto, unfolding(crate::specs::Reading::message_of))]
+fn read_pairs(alloc: Global, avps: &Avps) -> Result<Read, MessageError>
+    ensures { Gives Told (λ x. x) result (message_of avps.now) }
+{
+    let pairs = avps.as_slice();
+    let Some(avp) = find_avp(pairs, MESSAGE_TYPE) else {
+        return Err(MessageError::NoType);
+    };
+    let number = number_of_type(avp)?;
+    let Some(kind) = Kind::from_number(number) else {
+        if avp.mandatory {
+            return Err(MessageError::UnknownType { number });
+        }
+        return Ok(Read::Ignored { number });
+    };
+    check_all(kind, pairs)?;
+    let message = message_of_kind(alloc, kind, pairs)?;
+    Ok(Read::Known(message))
+}
+
+/// What a list of pairs says: a message, or one that is to be passed over. The first fault decides in this order: the
+/// type; then the pairs from the front; then the least attribute that the message needs and that isn't there. Only
+/// pairs that the message uses are valued, and of a repeated attribute only the first. There is no secret yet, so a
+/// hidden value that is used can't be read.
+pub fn read_message(alloc: Global, avps: &Avps) -> Result<Read, MessageError>
+    // What is read is what the pairs say.
+    ensures found { IfOk result (Says avps.now) }
+    // A fault stands where it is told, and it is the first.
+    ensures fault { IfErr result (IsToldFault avps.now) }
+    // What the pairs say is read, unless memory runs out.
+    ensures only { (r : Read) → Says avps.now r → Gives Told (λ x. x) result (Ok r) }
+    // A first fault that stands there is told, unless memory runs out.
+    ensures told { (e : MessageError) → IsFault avps.now e → Gives Told (λ x. x) result (Err e) }
+    // For callers: the answer as a function of the pairs.
+    ensures exact { Gives Told (λ x. x) result (message_of avps.now) }
+{
+    read_pairs(alloc, avps)
+}
+
+/// A law: what was written is read again, first as the same pairs, then as the same message.
+pub fn reads_what_was_written()
+    ensures { (m : Message) → IsWritten m → (avps_of (spelling (pairs_of m)) ≡ Ok (pairs_of m)) × (message_of (pairs_of m) ≡ Ok (Known m)) }
+{
+    avp_codec::reads_what_was_written();
+}

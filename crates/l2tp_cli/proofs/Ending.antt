@@ -1,0 +1,116 @@
+-- From what was told to what the exit says.
+use Rattle.std.proofs.Common.{◌≡◌, ◌⊎◌, inl, inr, ℕ, List, take, Option, Some, None, Result, Ok, Err, refl, sym, ap, ◌∙◌, subst}
+use Rattle.std.specs.Io.KnownBytes.{Appends}
+use Rattle.wire_base.specs.declared.why.Why.{Why}
+use Rattle.port_traits.specs.Causes.{Rose}
+use Rattle.port_traits.specs.Limits.{limit_passed}
+use Rattle.port_traits.specs.ReadCauses.{IsTextOf}
+use Rattle.schedule_text.specs.declared.line.Line.{Line}
+use Rattle.schedule_text.specs.declared.error.ScheduleError.{ScheduleError}
+use Rattle.schedule_text.specs.Reading.{lines_of}
+use Rattle.protocol_model.specs.Run.{Run, run, report_of}
+use Rattle.l2tp_cli.specs.declared.words.Asked.{Asked}
+use Rattle.l2tp_cli.specs.declared.words.Asked.TheVariants as asked
+use Rattle.l2tp_cli.specs.declared.texts.TheConstants.{READ_FAULT}
+use Rattle.l2tp_cli.specs.declared.exit.Exit.{Exit}
+use Rattle.l2tp_cli.specs.declared.exit.Exit.TheVariants as exits
+use Rattle.l2tp_cli.specs.Texts.{too_long_text}
+use Rattle.l2tp_cli.specs.Due.{Due, due, exit_of, due_of_run, due_of_lines, due_within, due_of}
+use Rattle.l2tp_cli.specs.Ends.{IsDue, Ports, IsWhole, FailedReading, WasDue, FailedWriting, Ends, Tells}
+
+-- the exits that a text comes to
+abbrev pub IsReported : Exit → Type 0
+IsReported exits.Ok = Unit {0}
+IsReported exits.Usage = ⊥
+IsReported (exits.BadLine line) = Unit {0}
+IsReported (exits.Unfit line why) = Unit {0}
+IsReported exits.ReadFault = ⊥
+IsReported exits.WriteFault = ⊥
+IsReported (exits.TooLong lines) = Unit {0}
+IsReported exits.NoMemory = ⊥
+
+reported_fault : (f : Option (ℕ × Why)) → IsReported (exit_of f)
+reported_fault None = tt
+reported_fault (Some f) = tt
+
+reported_run : (r : Run) → IsReported (due_of_run r).exit
+unfolding due_of_run
+reported_run r = reported_fault r.fault
+
+reported_lines : (r : Result (List Line) ScheduleError) → IsReported (due_of_lines r).exit
+unfolding due_of_lines
+reported_lines (Ok lines) = reported_run (run lines)
+reported_lines (Err e) = tt
+
+reported_within : (o : Option ℕ) (text : List ℕ) → IsReported (due_within o text).exit
+unfolding due_within
+reported_within None text = reported_lines (lines_of text)
+reported_within (Some n) text = tt
+
+reported : (text : List ℕ) → IsReported (due_of text).exit
+unfolding due_of
+reported text = reported_within (limit_passed text) text
+
+-- a text that passes a limit, and one that passes none
+pub due-too_long : (text : List ℕ) (n : ℕ) → limit_passed text ≡ Some n → due (exits.TooLong n) (too_long_text n) ≡ due_of text
+unfolding due_of due_within
+due-too_long text n e = rw e refl
+
+pub due-lines : (text : List ℕ) → limit_passed text ≡ None → due_of_lines (lines_of text) ≡ due_of text
+unfolding due_of due_within
+due-lines text e = rw e refl
+
+-- what was written whole ends the command so
+whole_ends : (e : Exit) (p : Ports) → IsReported e → IsWhole asked.Replay e p → Ends asked.Replay e p
+whole_ends exits.Ok p r h = h
+whole_ends exits.Usage p r h = absurd r
+whole_ends (exits.BadLine line) p r h = h
+whole_ends (exits.Unfit line why) p r h = h
+whole_ends exits.ReadFault p r h = absurd r
+whole_ends exits.WriteFault p r h = absurd r
+whole_ends (exits.TooLong lines) p r h = h
+whole_ends exits.NoMemory p r h = absurd r
+
+abbrev pub TellsPorts : Exit → Exit → List ℕ → Ports → Type 0
+TellsPorts result e text p = Tells result e text p.sink_before p.sink_after p.taken_before p.taken_after
+
+-- what a text comes to was told
+pub told_run : (result e : Exit) (written text : List ℕ) (p : Ports) → due e written ≡ due_of text → IsTextOf p.left text → p.source_after ≡ p.source_before → TellsPorts result e written p → Ends asked.Replay result p
+told_run result e written text p is left same (inl h) =
+    let r : IsReported e = subst IsReported (ap (λ (d : Due). d.exit) (sym is)) (reported text) in
+    subst (λ (x : Exit). Ends asked.Replay x p) (sym h.0)
+    (whole_ends e p r (record { text = written; is_due = (text, is, left); written = h.2; no_read_fault = same; no_write_fault = h.1 }))
+told_run result e written text p is left same (inr h) =
+    subst (λ (x : Exit). Ends asked.Replay x p) (sym h.0)
+    (record { rose = h.1; text = written; was_due = inr (same, (e, (text, is, left))); count = h.2.0; prefix = h.2.1 })
+
+-- that the source failed was told
+pub told_read_fault : (result : Exit) (p : Ports) → Rose p.source_before p.source_after → TellsPorts result exits.ReadFault READ_FAULT.now p → Ends asked.Replay result p
+told_read_fault result p rose (inl h) =
+    subst (λ (x : Exit). Ends asked.Replay x p) (sym h.0)
+    (record { ran = refl; rose = rose; written = h.2; no_write_fault = h.1 })
+told_read_fault result p rose (inr h) =
+    subst (λ (x : Exit). Ends asked.Replay x p) (sym h.0)
+    (record { rose = h.1; text = READ_FAULT.now; was_due = inl (refl, rose, refl); count = h.2.0; prefix = h.2.1 })
+
+-- a text of the program's own, which ends Ok
+pub told_own : (a b : Asked) (result : Exit) (text : List ℕ) (p : Ports) → b ≡ a → IsDue b p.left (due exits.Ok text) → p.source_after ≡ p.source_before → TellsPorts result exits.Ok text p → Ends a result p
+told_own a b result text p asks is same (inl h) =
+    subst (λ (x : Exit). Ends a x p) (sym h.0)
+    (record { text = text; is_due = subst (λ (x : Asked). IsDue x p.left (due exits.Ok text)) asks is; written = h.2; no_read_fault = same; no_write_fault = h.1 })
+told_own a b result text p asks is same (inr h) =
+    subst (λ (x : Exit). Ends a x p) (sym h.0)
+    (record { rose = h.1; text = text; was_due = inr (same, (exits.Ok, subst (λ (x : Asked). IsDue x p.left (due exits.Ok text)) asks is)); count = h.2.0; prefix = h.2.1 })
+
+-- how the program is used
+pub told_usage : (a : Asked) (result : Exit) (text : List ℕ) (p : Ports) → asked.Nothing ≡ a → IsDue asked.Nothing p.left (due exits.Usage text) → p.source_after ≡ p.source_before → TellsPorts result exits.Usage text p → Ends a result p
+told_usage a result text p nothing is same (inl h) =
+    subst (λ (x : Exit). Ends a x p) (sym h.0)
+    (record { text = text; is_due = subst (λ (x : Asked). IsDue x p.left (due exits.Usage text)) nothing is; written = h.2; no_read_fault = same; no_write_fault = h.1 }, sym nothing)
+told_usage a result text p nothing is same (inr h) =
+    subst (λ (x : Exit). Ends a x p) (sym h.0)
+    (record { rose = h.1; text = text; was_due = inr (same, (exits.Usage, subst (λ (x : Asked). IsDue x p.left (due exits.Usage text)) nothing is)); count = h.2.0; prefix = h.2.1 })
+
+-- the text that was told, by another name
+pub tells_same : (result e : Exit) (text same : List ℕ) (m n : ℕ) (before after : Option (List ℕ)) → text ≡ same → Tells result e text m n before after → Tells result e same m n before after
+tells_same result e text same m n before after is h = subst (λ (t : List ℕ). Tells result e t m n before after) is h

@@ -1,0 +1,5 @@
+pub mod Exits
+pub mod Words
+pub mod Texts
+pub mod Due
+pub mod Ends

@@ -1,0 +1,44 @@
+//! How a command ends.
+
+ghost use Rattle.std.specs.Prelude.{◌≡◌};
+ghost use Rattle.l2tp_cli.specs.Exits.{status_of};
+
+use wire_base::Why;
+
+/// How a command ends.
+#[derive(Clone, Copy, Debug, PartialEq, Eq)]
+pub enum Exit {
+    Ok,
+    /// The words are no command.
+    Usage,
+    /// The first line of the text that is outside the grammar, counted from 1.
+    BadLine { line: u64 },
+    /// The first line that doesn't fit, counted from 1, and why.
+    Unfit { line: u64, why: Why },
+    /// The source failed.
+    ReadFault,
+    /// The sink failed.
+    WriteFault,
+    /// The text passes a limit; so many lines are begun there.
+    TooLong { lines: u64 },
+    /// Memory was wanting.
+    NoMemory,
+}
+
+impl Exit {
+    /// The status of the process.
+    pub fn status(&self) -> u8
+        ensures { result ≡ status_of self.now }
+    {
+        match self {
+            Exit::Ok => 0,
+            Exit::Usage => 1,
+            Exit::BadLine { .. } => 2,
+            Exit::Unfit { .. } => 3,
+            Exit::ReadFault => 5,
+            Exit::WriteFault => 6,
+            Exit::TooLong { .. } => 7,
+            Exit::NoMemory => 20,
+        }
+    }
+}

@@ -1,0 +1,80 @@
+//! The top call.
+
+ghost use Rattle.std.specs.Prelude.{◌≡◌, map, string_bytes};
+ghost use Rattle.l2tp_cli.specs.declared.words.Asked.TheVariants as asked;
+ghost use Rattle.l2tp_cli.specs.Words.{asked_of};
+ghost use Rattle.l2tp_cli.specs.Ends.{Ends, Tells};
+
+use crate::answer::answer_to;
+use crate::exit::Exit;
+use crate::texts::{HELP, READ_FAULT, USAGE, VERSION, too_long_text};
+use crate::words::{Asked, asked_of};
+use port_traits::{ReadError, Sink, Source, read_text, write_all};
+use std::alloc::Global;
+
+/// Writes a text, and gives the exit that goes with it, or a write fault.
+fn tell<K: Sink>(sink: &mut K, text: &[u8], exit: Exit) -> Exit
+    ensures { Tells result exit text.now (K.faults sink.old) (K.faults sink.new) (K.taken sink.old) (K.taken sink.new) }
+{
+    match write_all(sink, text) {
+        Ok(()) => exit,
+        Err(_) => Exit::WriteFault,
+    }
+}
+
+/// Runs the schedule that the source has, and writes its report to the sink.
+fn run<S: Source, K: Sink>(alloc: Global, source: &mut S, sink: &mut K) -> Exit
+    ensures { Ends asked.Replay result (record {
+      left = S.left source.old;
+      source_before = S.faults source.old;
+      source_after = S.faults source.new;
+      sink_before = K.faults sink.old;
+      sink_after = K.faults sink.new;
+      taken_before = K.taken sink.old;
+      taken_after = K.taken sink.new;
+    }) }
+{
+    let text = match read_text(alloc, source) {
+        Ok(text) => text,
+        Err(ReadError::Fault) => return tell(sink, READ_FAULT, Exit::ReadFault),
+        Err(ReadError::TooLong { lines }) => {
+            let Ok(text) = too_long_text(alloc, lines) else {
+                return Exit::NoMemory;
+            };
+            return tell(sink, text.as_slice(), Exit::TooLong { lines });
+        }
+        Err(ReadError::NoMemory) => return Exit::NoMemory,
+    };
+    match answer_to(alloc, text.as_slice()) {
+        Ok(answer) => tell(sink, answer.text.as_slice(), answer.exit),
+        Err(_) => Exit::NoMemory,
+    }
+}
+
+/// Runs the command that the words after the program's name ask for, over a source and a sink.
+///
+/// For `replay` it reads a schedule to its end, or to where it passes a limit, runs it, and writes the report of the run.
+/// `--help` and `--version` write their texts; other words write how the program is used.
+pub fn replay_top<S: Source, K: Sink>(
+    alloc: Global,
+    words: &[String],
+    source: &mut S,
+    sink: &mut K,
+) -> Exit
+    ensures { Ends (asked_of (map string_bytes words.now)) result (record {
+      left = S.left source.old;
+      source_before = S.faults source.old;
+      source_after = S.faults source.new;
+      sink_before = K.faults sink.old;
+      sink_after = K.faults sink.new;
+      taken_before = K.taken sink.old;
+      taken_after = K.taken sink.new;
+    }) }
+{
+    match asked_of(words) {
+        Asked::Replay => run(alloc, source, sink),
+        Asked::Help => tell(sink, HELP, Exit::Ok),
+        Asked::Version => tell(sink, VERSION, Exit::Ok),
+        Asked::Nothing => tell(sink, USAGE, Exit::Usage),
+    }
+}

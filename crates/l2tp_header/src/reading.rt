@@ -1,0 +1,194 @@
+//! Reading a header.
+
+ghost use Rattle.std.specs.Prelude.{◌≡◌, ℕ, ◌+◌, ◌^◌, ◌<◌, ◌≤◌, List, length, Option, Some, Ok, Err, IfOk, IfErr, IsTrue};
+ghost use Rattle.l2tp_header.specs.declared.header.Header.{Header};
+ghost use Rattle.l2tp_header.specs.declared.header.HeaderError.{HeaderError};
+ghost use Rattle.l2tp_header.specs.Flags.{has_numbers, are_control_flags};
+ghost use Rattle.l2tp_header.specs.Spelling.{control_bytes, data_bytes, hdlc_bytes};
+ghost use Rattle.l2tp_header.specs.Grammar.{FitsWord, IsHeader};
+ghost use Rattle.l2tp_header.specs.Faults.{IsFault};
+ghost use Rattle.l2tp_header.specs.Reading.{word_at, word_of, tunnel_at, offset_at, start_of, end_of, number_at, header_of};
+ghost use Rattle.l2tp_header.specs.Again.{Carries, control_header, data_header};
+
+use crate::header::{Header, HeaderError};
+use wire_base::take_u16;
+
+const CONTROL: u16 = 0x8000;
+
+const LENGTH: u16 = 0x4000;
+
+const SEQUENCE: u16 = 0x0800;
+
+const OFFSET: u16 = 0x0200;
+
+const PRIORITY: u16 = 0x0100;
+
+const VERSION: u16 = 0x000f;
+
+/// Whether a control message may have the flags of the word.
+#[tactic(auto, unfolding(crate::specs::Flags::has_length, crate::specs::Flags::has_numbers, crate::specs::Flags::has_offset, crate::specs::Flags::has_priority))]
+fn allows_control(word: u16) -> bool
+    ensures { result ≡ are_control_flags word }
+{
+    word & LENGTH != 0 && word & SEQUENCE != 0 && word & OFFSET == 0 && word & PRIORITY == 0
+}
+
+/// The first word, where it is that of a header.
+#[tactic(auto, unfolding(crate::specs::Reading::word_of, crate::specs::Flags::version_of, crate::specs::Flags::is_control))]
+fn read_word(bytes: &[u8]) -> Result<u16, HeaderError>
+    ensures { result ≡ word_of bytes.now }
+{
+    let Ok(word) = take_u16(bytes, 0) else {
+        return Err(HeaderError::Short);
+    };
+    let seen = (word & VERSION) as u8;
+    if seen != 2 {
+        return Err(HeaderError::Version { seen });
+    }
+    if word & CONTROL != 0 && !allows_control(word) {
+        return Err(HeaderError::ControlFlags { word });
+    }
+    Ok(word)
+}
+
+/// Where the tunnel id stands that the flags of the word name.
+#[tactic(auto, unfolding(crate::specs::Flags::has_length))]
+fn tunnel_place(word: u16) -> usize
+    ensures { result ≡ tunnel_at word }
+{
+    if word & LENGTH != 0 { 4 } else { 2 }
+}
+
+/// Where the size of the offset stands, or the body where there is none.
+#[tactic(auto, unfolding(crate::specs::Flags::has_numbers))]
+fn offset_place(word: u16) -> usize
+    ensures { result ≡ offset_at word }
+{
+    let numbers = tunnel_place(word) + 4;
+    if word & SEQUENCE != 0 {
+        numbers + 4
+    } else {
+        numbers
+    }
+}
+
+/// Where the body starts, where all the fields are there that the flags of the word name.
+#[tactic(auto, unfolding(crate::specs::Reading::start_of, crate::specs::Flags::has_offset))]
+fn body_start(bytes: &[u8], word: u16) -> Result<usize, HeaderError>
+    ensures exact { result ≡ start_of word bytes.now }
+    ensures within { IfOk result (λ s. offset_at word ≤ length bytes.now) }
+    ensures inside { IfOk result (λ s. s ≤ length bytes.now) }
+{
+    let at = offset_place(word);
+    if word & OFFSET == 0 {
+        if bytes.len() < at {
+            return Err(HeaderError::Short);
+        }
+        return Ok(at);
+    }
+    if bytes.len() < at + 2 {
+        return Err(HeaderError::Short);
+    }
+    let Ok(size) = take_u16(bytes, at) else {
+        return Err(HeaderError::Short);
+    };
+    let start = at + 2 + usize::from(size);
+    if bytes.len() < start {
+        return Err(HeaderError::Short);
+    }
+    Ok(start)
+}
+
+/// Where the body ends that starts at a place.
+#[tactic(auto, unfolding(crate::specs::Reading::end_of, crate::specs::Flags::has_length))]
+fn body_end(bytes: &[u8], word: u16, start: usize) -> Result<usize, HeaderError>
+    requires fields { 4 ≤ length bytes.now }
+    requires inside { start ≤ length bytes.now }
+    ensures exact { result ≡ end_of word start bytes.now }
+    ensures ordered { IfOk result (λ e. start ≤ e) }
+    ensures inside { IfOk result (λ e. e ≤ length bytes.now) }
+{
+    let have = bytes.len();
+    if word & LENGTH == 0 {
+        return Ok(have);
+    }
+    let said = usize::from(word_in(bytes, 2));
+    if said < start || have < said {
+        return Err(HeaderError::Length { said, have });
+    }
+    Ok(said)
+}
+
+/// The number in the two bytes from a place.
+fn word_in(bytes: &[u8], at: usize) -> u16
+    requires { at + 2 ≤ length bytes.now }
+    ensures { result ≡ word_at bytes.now at }
+{
+    take_u16(bytes, at).unwrap_or(0)
+}
+
+/// A number that is there only where S is set.
+#[tactic(auto, unfolding(crate::specs::Flags::has_numbers))]
+fn number_in(bytes: &[u8], word: u16, at: usize) -> Option<u16>
+    requires { IsTrue (has_numbers word) → at + 2 ≤ length bytes.now }
+    ensures { result ≡ number_at word at bytes.now }
+{
+    if word & SEQUENCE != 0 {
+        Some(word_in(bytes, at))
+    } else {
+        None
+    }
+}
+
+#[tactic(auto, unfolding(crate::specs::Reading::header_of, crate::specs::Reading::header_with, crate::specs::Flags::is_control))]
+fn read_fields(bytes: &[u8]) -> Result<Header, HeaderError>
+    ensures exact { result ≡ header_of bytes.now }
+    ensures ordered { IfOk result (λ h. h.start ≤ h.end) }
+    ensures inside { IfOk result (λ h. h.end ≤ length bytes.now) }
+{
+    let word = read_word(bytes)?;
+    let start = body_start(bytes, word)?;
+    let end = body_end(bytes, word, start)?;
+    let tunnel = tunnel_place(word);
+    Ok(Header {
+        control: word & CONTROL != 0,
+        tunnel: word_in(bytes, tunnel),
+        session: word_in(bytes, tunnel + 2),
+        ns: number_in(bytes, word, tunnel + 4),
+        nr: number_in(bytes, word, tunnel + 6),
+        start,
+        end,
+    })
+}
+
+/// The header of a datagram (RFC 2661 section 3.1), and where its body stands. It takes no memory.
+pub fn read_header(bytes: &[u8]) -> Result<Header, HeaderError>
+    // The bytes have the header that is read.
+    ensures found { IfOk result (IsHeader bytes.now) }
+    // The fault that is told is there, and is the first.
+    ensures fault { IfErr result (IsFault bytes.now) }
+    // A header that the bytes have is read.
+    ensures only { (h : Header) → IsHeader bytes.now h → result ≡ Ok h }
+    // A first fault is told.
+    ensures told { (e : HeaderError) → IsFault bytes.now e → result ≡ Err e }
+    // For callers: the answer as a function of the bytes.
+    ensures exact { result ≡ header_of bytes.now }
+    // For callers: the body lies within the bytes.
+    ensures ordered { IfOk result (λ h. h.start ≤ h.end) }
+    ensures inside { IfOk result (λ h. h.end ≤ length bytes.now) }
+{
+    read_fields(bytes)
+}
+
+/// What was written is read again: the same header, with the pairs of a control message, or what stands behind the
+/// header of a data message, as its body.
+pub fn reads_what_was_written()
+    ensures control { (tunnel session ns nr : ℕ) (avps : List ℕ) → tunnel < 2 ^ 16 → session < 2 ^ 16 →
+        ns < 2 ^ 16 → nr < 2 ^ 16 → length avps ≤ 65523 →
+        Carries (control_bytes tunnel session ns nr avps)
+        (control_header tunnel session ns nr (length avps)) avps }
+    ensures data_message { (tunnel session : ℕ) (number : Option ℕ) (frame : List ℕ) → tunnel < 2 ^ 16 →
+        session < 2 ^ 16 → FitsWord number →
+        Carries (data_bytes tunnel session number frame)
+        (data_header tunnel session number (2 + length frame)) (hdlc_bytes frame) }
+{}

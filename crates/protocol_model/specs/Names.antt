@@ -1,0 +1,21 @@
+-- Host names and addresses of nodes.
+use Rattle.std.specs.Prelude.{ℕ, ◌+◌, ◌%◌, List, ◌++◌, codes}
+use Rattle.std.specs.Fmt.{decimal}
+use Rattle.protocol_model.specs.declared.tunnel.Role.{Role}
+use Rattle.protocol_model.specs.declared.tunnel.Role.TheVariants.{Lac, Lns}
+
+abbrev pub role_name : Role → List ℕ
+role_name Lac = codes "lac"
+role_name Lns = codes "lns"
+
+-- what a node calls itself: what it is, and its number in decimal
+unfoldable pub host_name : Role → ℕ → List ℕ
+host_name role number = role_name role ++ decimal number
+
+-- node n has the address 10.0.0.n
+unfoldable pub address_of : ℕ → ℕ
+address_of node = 167772160 + node
+
+-- the node with an address, by its last part
+unfoldable pub node_of : ℕ → ℕ
+node_of address = address % 256

@@ -1,0 +1,48 @@
+//! Host names and addresses of nodes.
+
+ghost use Rattle.std.specs.Prelude.{◌≡◌, ◌≤◌, length, IfOk};
+ghost use Rattle.protocol_model.specs.Names.{host_name, role_name, address_of, node_of};
+
+use crate::tunnel::Role;
+use std::alloc::Global;
+use wire_base::{Bytes, NoMemory};
+
+/// The address 10.0.0.0, as a number.
+const NETWORK: u32 = 0x0a00_0000;
+
+fn role_name(role: Role) -> &'static [u8]
+    ensures { result.now ≡ role_name role }
+{
+    match role {
+        Role::Lac => b"lac",
+        Role::Lns => b"lns",
+    }
+}
+
+/// What a node calls itself: `lac` or `lns`, and its number in decimal.
+#[tactic(auto, unfolding(crate::specs::Names::host_name))]
+pub fn host_name(alloc: Global, role: Role, number: u8) -> Result<Bytes, NoMemory>
+    ensures value { IfOk result (λ name. name ≡ host_name role number) }
+    ensures short { IfOk result (λ name. length name ≤ 6) }
+{
+    let digits = number.to_string(alloc)?;
+    let mut name = Bytes::from_slice(alloc, role_name(role))?;
+    name.push_slice(digits.as_bytes())?;
+    Ok(name)
+}
+
+/// The IPv4 address of a node, as a number: node n has 10.0.0.n.
+#[tactic(auto, unfolding(crate::specs::Names::address_of))]
+pub fn address_of(node: u8) -> u32
+    ensures { result ≡ address_of node }
+{
+    NETWORK + u32::from(node)
+}
+
+/// The node that has an IPv4 address, by the last part of the address.
+#[tactic(auto, unfolding(crate::specs::Names::node_of))]
+pub fn node_of(address: u32) -> u8
+    ensures { result ≡ node_of address }
+{
+    (address % 256) as u8
+}

@@ -1,0 +1,17 @@
+//! What the world keeps of a datagram.
+
+use crate::out::Origin;
+use wire_base::Bytes;
+
+/// A datagram that was sent, with what the world keeps beside it.
+#[derive(Debug, Drop)]
+pub struct Packet {
+    /// The number of the node that sent it.
+    pub from: u8,
+    /// The number of the node that it is for.
+    pub to: u8,
+    pub bytes: Bytes,
+    pub origin: Origin,
+    /// How many packets with attribute value pairs were sent to that node before it, where it has some.
+    pub place: Option<u64>,
+}

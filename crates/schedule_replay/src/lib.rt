@@ -1,0 +1,13 @@
+//! The world of a schedule: nodes over a network that may lose, repeat and reorder, and the report of a run.
+#![tactic(auto)]
+
+mod fault;
+mod replaying;
+mod state;
+mod tables;
+mod texts;
+mod world;
+
+pub use fault::LineFault;
+pub use replaying::{Replayed, replay};
+pub use world::World;

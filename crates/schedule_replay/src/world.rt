@@ -1,0 +1,71 @@
+//! The world.
+
+ghost use Rattle.std.specs.Prelude.{◌≡◌};
+ghost use Rattle.protocol_model.specs.World.{line as line_of};
+ghost use Rattle.protocol_model.specs.Run.{finished};
+ghost use Rattle.schedule_replay.specs.Fault.{new_known, WorldSays, Becomes};
+
+use crate::fault::LineFault;
+use crate::state::State;
+use schedule_text::Line;
+use std::alloc::Global;
+use std::marker::Model;
+use wire_base::NoMemory;
+
+/// The world of a schedule: its nodes, each packet that was ever sent, and the report so far.
+#[derive(Drop)]
+pub struct World {
+    state: State,
+    spent: bool,
+}
+
+impl Model for World {
+    ghost use Rattle.schedule_replay.specs.Fault.{Known};
+
+    ghost Value = { Known };
+
+    ghost view = { λ w. record { world = w.state; spent = w.spent } };
+}
+
+impl World {
+    /// A world without nodes. It takes no memory.
+    pub fn new(alloc: Global) -> World
+        ensures { result ≡ new_known }
+    {
+        World {
+            state: State::new(alloc),
+            spent: false,
+        }
+    }
+
+    /// Runs a line with its number, counted from 1, which the report tells.
+    pub fn line(&mut self, number: u64, line: &Line) -> Result<(), LineFault>
+        ensures { WorldSays result (line_of self.old.world number line.now) self.old self.new }
+    {
+        if self.spent {
+            return Err(LineFault::NoMemory);
+        }
+        let ran = self.state.line(number, line);
+        self.spent = matches!(ran, Err(LineFault::NoMemory));
+        ran
+    }
+
+    /// Appends the tables at the end to the report.
+    pub fn finish(&mut self) -> Result<(), NoMemory>
+        ensures { Becomes result (finished self.old.world) self.old self.new }
+    {
+        if self.spent {
+            return Err(NoMemory);
+        }
+        let finished = self.state.finish();
+        self.spent = finished.is_err();
+        finished
+    }
+
+    /// The report so far, in ASCII.
+    pub fn report(&self) -> &[u8]
+        ensures { result.now ≡ self.now.world.report }
+    {
+        self.state.report()
+    }
+}

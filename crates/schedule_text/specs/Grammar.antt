@@ -1,0 +1,97 @@
+-- The one spelling of each line, and which texts are schedules.
+use Rattle.std.specs.Prelude.{◌≡◌, ℕ, ◌+◌, ◌<◌, ◌≤◌, ◌⊎◌, Bool, true, false, List, [], ◌∷◌, ◌++◌, length, codes, count_by, Contains}
+use Rattle.std.specs.List.{flat_map, AllByRecursion}
+use Rattle.std.specs.Fmt.{decimal}
+use Rattle.schedule_text.specs.declared.line.Line.{Line}
+use Rattle.schedule_text.specs.declared.line.Line.TheVariants.{Remark, Lac, Lns, OpenUp, Deliver}
+use Rattle.schedule_text.specs.declared.error.ScheduleError.{ScheduleError}
+use Rattle.schedule_text.specs.declared.error.ScheduleError.TheVariants.{BadLine, NoMemory}
+
+-- the spelling of a line, without the line feed that ends it; words are parted by one space
+abbrev pub line_text : Line → List ℕ
+line_text (Remark text) = codes "#" ++ text
+line_text (Lac node lns) = codes "lac " ++ decimal node ++ codes " " ++ decimal lns ++ codes " - plain"
+line_text (Lns node) = codes "lns " ++ decimal node ++ codes " -"
+line_text (OpenUp node) = codes "open " ++ decimal node
+line_text (Deliver packet) = codes "deliver " ++ decimal packet
+
+-- a printable ASCII byte
+abbrev pub IsPrintable : ℕ → Type 0
+IsPrintable c = (32 ≤ c) × (c ≤ 126)
+
+abbrev pub IsNode : ℕ → Type 0
+IsNode n = (1 ≤ n) × (n ≤ 255)
+
+abbrev pub IsPacket : ℕ → Type 0
+IsPacket n = (1 ≤ n) × (n ≤ 4294967295)
+
+-- which lines have a spelling
+abbrev pub FitsLine : Line → Type 0
+FitsLine (Remark text) = AllByRecursion IsPrintable text
+FitsLine (Lac node lns) = IsNode node × IsNode lns
+FitsLine (Lns node) = IsNode node
+FitsLine (OpenUp node) = IsNode node
+FitsLine (Deliver packet) = IsPacket packet
+
+abbrev pub AreLines : List Line → Type 0
+AreLines lines = AllByRecursion FitsLine lines
+
+-- a line feed behind each line
+abbrev pub spelling : List Line → List ℕ
+spelling lines = flat_map (λ l. line_text l ++ 10 ∷ []) lines
+
+-- the text of the lines, of which the last may lack its line feed
+abbrev pub IsText : List ℕ → List Line → Type 0
+IsText text lines = (text ≡ spelling lines) ⊎ (text ++ 10 ∷ [] ≡ spelling lines)
+
+-- ---- the rules over a whole list, as long as a world has one LAC and one LNS
+
+abbrev pub is_lac : Line → Bool
+is_lac (Lac node lns) = true
+is_lac l = false
+
+abbrev pub is_lns : Line → Bool
+is_lns (Lns node) = true
+is_lns l = false
+
+abbrev pub is_open : Line → Bool
+is_open (OpenUp node) = true
+is_open l = false
+
+-- one LAC, one LNS and one opening at most, and a LAC names an LNS that was declared before it
+pub record IsOrderly (lines : List Line) : Type 0 where
+  pub one_lac : count_by is_lac lines ≤ 1
+  pub one_lns : count_by is_lns lines ≤ 1
+  pub one_open : count_by is_open lines ≤ 1
+  pub declared : (before after : List Line) (node lns : ℕ) → lines ≡ before ++ Lac node lns ∷ after → Contains before (Lns lns)
+
+-- ---- schedules
+
+-- the text spells these lines, each is in the grammar, and together they keep the rules
+pub record IsSchedule (text : List ℕ) (lines : List Line) : Type 0 where
+  pub fits : AreLines lines
+  pub spelled : IsText text lines
+  pub orderly : IsOrderly lines
+
+-- a line ends at a line feed, or at the end of the text where it has a byte
+abbrev pub EndsLine : List ℕ → List ℕ → Type 0
+EndsLine line [] = 0 < length line
+EndsLine line (c ∷ rest) = c ≡ 10
+
+-- lines that are as they should be, and then one that is not: it spells no line, or none that may stand behind those
+pub record IsBadLine (text : List ℕ) (number : ℕ) : Type 0 where
+  pub before : List Line
+  pub line : List ℕ
+  pub rest : List ℕ
+  pub fits : AreLines before
+  pub orderly : IsOrderly before
+  pub parts : text ≡ spelling before ++ line ++ rest
+  pub no_feed : AllByRecursion (λ c. ¬ (c ≡ 10)) line
+  pub ends : EndsLine line rest
+  pub place : number ≡ length before + 1
+  pub wrong : (l : Line) → FitsLine l → line ≡ line_text l → ¬ (IsOrderly (before ++ l ∷ []))
+
+-- the bad line that was told, if one was; no lines are a schedule of such a text
+abbrev pub IsFirstBad : List ℕ → ScheduleError → Type 0
+IsFirstBad text NoMemory = Unit {0}
+IsFirstBad text (BadLine line) = IsBadLine text line × ((lines : List Line) → ¬ (IsSchedule text lines))

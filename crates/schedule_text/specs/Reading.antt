@@ -1,0 +1,136 @@
+-- Reading a text as a schedule, with the first bad line.
+use Rattle.std.specs.Prelude.{◌≡◌, ℕ, suc, ◌+◌, Bool, true, false, not, ◌&&◌, if◌then◌else◌, nat_le, ◌==◌, List, [], ◌∷◌, ◌++◌, length, codes, Option, Some, None, option_map, Result, Ok, Err}
+use Rattle.std.specs.List.{list_all, list_any}
+use Rattle.std.specs.Str.{bytes_eq, all_ascii_digits}
+use Rattle.std.specs.Str.Parse.{digits_value}
+use Rattle.schedule_text.specs.declared.line.Line.{Line}
+use Rattle.schedule_text.specs.declared.line.Line.TheVariants.{Remark, Lac, Lns, OpenUp, Deliver}
+use Rattle.schedule_text.specs.declared.error.ScheduleError.{ScheduleError}
+use Rattle.schedule_text.specs.declared.error.ScheduleError.TheVariants.{BadLine, NoMemory}
+use Rattle.schedule_text.specs.Grammar.{is_lac, is_lns, is_open}
+
+-- what a call that failed tells of the reading: nothing where memory was wanting
+abbrev pub Told : {Y : Type 0} → ScheduleError → Result Y ScheduleError → Type 0
+Told NoMemory read = Unit {0}
+Told e read = read ≡ Err e
+
+-- ---- parts of a text
+
+infixl 10 ◌>>=◌
+abbrev pub ◌>>=◌ : {A B : Type 0} → Option A → (A → Option B) → Option B
+None >>= f = None
+(Some x) >>= f = f x
+
+-- what stands before the first such byte, and what behind it, where there is one
+abbrev pub cut : ℕ → List ℕ → Option (List ℕ × List ℕ)
+cut c [] = None
+cut c (x ∷ xs) = if x == c then Some ([], xs) else option_map (λ parts. (x ∷ parts.0, parts.1)) (cut c xs)
+
+abbrev pub put_first : ℕ → List (List ℕ) → List (List ℕ)
+put_first c [] = (c ∷ []) ∷ []
+put_first c (line ∷ lines) = (c ∷ line) ∷ lines
+
+-- the bytes of each line; a line feed ends a line, and so does the end of the text
+abbrev pub text_lines : List ℕ → List (List ℕ)
+text_lines [] = []
+text_lines (c ∷ cs) = if c == 10 then [] ∷ text_lines cs else put_first c (text_lines cs)
+
+-- ---- one line
+
+-- what digits spell, where it isn't over a bound
+unfoldable pub digits_of : ℕ → List ℕ → Option ℕ
+digits_of most word = if all_ascii_digits word && nat_le (digits_value 10 word) most then Some (digits_value 10 word) else None
+
+-- a byte, and no leading zero
+abbrev pub begins_well : List ℕ → Bool
+begins_well [] = false
+begins_well (c ∷ []) = true
+begins_well (c ∷ d ∷ ds) = not (c == 48)
+
+-- the number that a word spells in decimal, where it is between two bounds
+unfoldable pub number_of : ℕ → ℕ → List ℕ → Option ℕ
+number_of least most word =
+    if begins_well word then (digits_of most word >>= λ n. if nat_le least n then Some n else None) else None
+
+abbrev pub node_of : List ℕ → Option ℕ
+node_of word = number_of 1 255 word
+
+abbrev pub packet_of : List ℕ → Option ℕ
+packet_of word = number_of 1 4294967295 word
+
+-- what follows the word of each kind of line, and a space
+unfoldable pub lac_of : List ℕ → Option Line
+lac_of words =
+    cut 32 words >>= λ first. cut 32 first.1 >>= λ second.
+    if bytes_eq second.1 (codes "- plain")
+    then (node_of first.0 >>= λ node. node_of second.0 >>= λ lns. Some (Lac node lns))
+    else None
+
+unfoldable pub lns_of : List ℕ → Option Line
+lns_of words =
+    cut 32 words >>= λ first.
+    if bytes_eq first.1 (codes "-") then node_of first.0 >>= (λ node. Some (Lns node)) else None
+
+unfoldable pub open_of : List ℕ → Option Line
+open_of words = node_of words >>= λ node. Some (OpenUp node)
+
+unfoldable pub deliver_of : List ℕ → Option Line
+deliver_of words = packet_of words >>= λ packet. Some (Deliver packet)
+
+unfoldable pub words_of : List ℕ → List ℕ → Option Line
+words_of kind words =
+    if bytes_eq kind (codes "lac") then lac_of words
+    else if bytes_eq kind (codes "lns") then lns_of words
+    else if bytes_eq kind (codes "open") then open_of words
+    else if bytes_eq kind (codes "deliver") then deliver_of words
+    else None
+
+abbrev pub is_printable : ℕ → Bool
+is_printable c = nat_le 32 c && nat_le c 126
+
+unfoldable pub remark_of : List ℕ → Option Line
+remark_of text = if list_all is_printable text then Some (Remark text) else None
+
+-- the line that the bytes spell, if they spell one
+unfoldable pub line_of : List ℕ → Option Line
+line_of [] = None
+line_of (c ∷ cs) = if c == 35 then remark_of cs else (cut 32 (c ∷ cs) >>= λ parts. words_of parts.0 parts.1)
+
+-- ---- all lines
+
+abbrev pub after_line : Option Line → List Line → List Line
+after_line None lines = []
+after_line (Some l) lines = l ∷ lines
+
+-- the lines before the first bytes that spell none
+unfoldable pub front_of : List (List ℕ) → List Line
+front_of [] = []
+front_of (bytes ∷ others) = after_line (line_of bytes) (front_of others)
+
+-- a declaration of that LNS
+abbrev pub declares : ℕ → Line → Bool
+declares node (Lns n) = n == node
+declares node l = false
+
+-- whether a line may stand behind others
+abbrev pub may_follow : List Line → Line → Bool
+may_follow before (Lac node lns) = not (list_any is_lac before) && list_any (declares lns) before
+may_follow before (Lns node) = not (list_any is_lns before)
+may_follow before (OpenUp node) = not (list_any is_open before)
+may_follow before l = true
+
+-- how many lines stand before the first that may not follow those before it
+unfoldable pub kept_from : List Line → List Line → ℕ
+kept_from before [] = 0
+kept_from before (l ∷ lines) = if may_follow before l then suc (kept_from (before ++ l ∷ []) lines) else 0
+
+abbrev pub kept_of : List Line → ℕ
+kept_of lines = kept_from [] lines
+
+-- all lines, or the first bad one
+abbrev pub lines_of : List ℕ → Result (List Line) ScheduleError
+lines_of text =
+    let bytes = text_lines text in
+    let front = front_of bytes in
+    let kept = kept_of front in
+    if kept == length bytes then Ok front else Err (BadLine (kept + 1))

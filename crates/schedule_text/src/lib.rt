@@ -1,0 +1,16 @@
+//! The text of a schedule: a list of lines, each of which tells the world one thing.
+#![tactic(auto)]
+
+mod error;
+mod line;
+mod line_reading;
+mod parts;
+mod reading;
+mod rules;
+
+pub use error::ScheduleError;
+pub use line::{Line, Lines};
+pub use reading::read_schedule;
+
+#[cfg(test)]
+mod tests;

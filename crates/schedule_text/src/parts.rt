@@ -1,0 +1,50 @@
+//! Parts of a text, and the numbers that words spell.
+
+ghost use Rattle.std.specs.Prelude.{◌≡◌, ◌≤◌, ◌==◌, position, MatchOption, IfSome, Some, None};
+ghost use Rattle.schedule_text.specs.Reading.{cut, digits_of, number_of};
+
+fn place_of(text: &[u8], separator: u8) -> Option<usize>
+    ensures { result ≡ position (λ b. b == separator) text.now }
+{
+    text.iter().position(|byte| *byte == separator)
+}
+
+/// What stands before the first separator, and what behind it, where there is one.
+#[tactic(auto, using(crate::proofs::Cuts::cut_none))]
+pub(crate) fn split_once(text: &[u8], separator: u8) -> Option<(&[u8], &[u8])>
+    ensures { MatchOption result (cut separator text.now ≡ None) (λ x. cut separator text.now ≡ Some (x.0.now, x.1.now)) }
+{
+    let at = place_of(text, separator)?;
+    Some((&text[..at], &text[at + 1..]))
+}
+
+/// The number that digits spell in decimal, where it isn't over a bound.
+#[tactic(auto, unfolding(crate::specs::Reading::digits_of))]
+fn read_digits(word: &[u8], most: u32) -> Option<u32>
+    ensures exact { result ≡ digits_of most word.now }
+    ensures within { IfSome result (λ n. n ≤ most) }
+{
+    let mut number = 0u64;
+    for byte in word {
+        if !byte.is_ascii_digit() {
+            return None;
+        }
+        number = number * 10 + u64::from(*byte - b'0');
+        if number > u64::from(most) {
+            return None;
+        }
+    }
+    Some(number as u32)
+}
+
+/// The number that a word spells in decimal, without sign or leading zero, where it is between two bounds.
+#[tactic(auto, unfolding(crate::specs::Reading::number_of))]
+pub(crate) fn read_number(word: &[u8], least: u32, most: u32) -> Option<u32>
+    ensures exact { result ≡ number_of least most word.now }
+    ensures within { IfSome result (λ n. n ≤ most) }
+{
+    match word {
+        [] | [b'0', _, ..] => None,
+        _ => read_digits(word, most).filter(|number| least <= *number),
+    }
+}
