@@ -1,0 +1,14 @@
+pub mod Endings
+pub mod Makings
+pub mod Establishings
+pub mod Tunnels
+pub mod Means
+pub mod Growing
+pub mod Growths
+pub mod Replies
+pub mod Replying
+pub mod Steps
+pub mod Fallings
+pub mod Stops
+pub mod Goings
+pub mod Runs

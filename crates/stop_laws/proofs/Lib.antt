@@ -1,0 +1,8 @@
+pub mod Lists
+pub mod Ups
+pub mod Books
+pub mod Steps
+pub mod Moves
+pub mod Allowed
+pub mod Cuts
+pub mod Computed
