@@ -56,6 +56,84 @@ fn a_tunnel_opens(rt: HostRuntime) -> Result<(), Fail> {
     Ok(())
 }
 
+/// A ring, with the deliveries that make its tunnel and its call, and a frame each way over it.
+const A_FRAME_EACH_WAY: &[u8] = b"\
+lns 2 -
+lac 1 2 - plain
+ring 1 1
+deliver 1
+deliver 2
+deliver 3
+deliver 4
+deliver 6
+deliver 7
+data 1 1 0021aa
+deliver 9
+down 2 1 002155
+deliver 10
+";
+
+/// How many bytes of that schedule make the call, without the frames.
+const A_CALL: usize = 93;
+
+const CALLED: &[u8] = b"\
+3 send 1 1 2 c802004c000000000000000080080000000000018008000000020100800a0000000300000003800a0000000\
+76c616331800800000009000180080000000a0008000c0000004c000300007530
+4 send 2 2 1 c802004c000100000000000180080000000000028008000000020100800a0000000300000003800a0000000\
+76c6e7332800800000009000180080000000a0008000c0000004c000300007530
+5 send 3 1 2 c802001400010000000100018008000000000003
+5 send 4 1 2 c80200380001000000020001800800000000000a80080000000e0001800a0000000f0000000180120000001\
+6666666663030303030303031
+6 send 5 2 1 c802000c0001000000010002
+7 send 6 2 1 c802001c0001000100010003800800000000000b80080000000e0001
+8 send 7 1 2 c80200280001000100030002800800000000000c800a0000001805f5e100800a0000001300000001
+9 send 8 2 1 c802000c0001000000020004
+";
+
+const CARRIED: &[u8] = b"\
+10 send 9 1 2 000200010001ff030021aa
+11 up 2 1 1 net 0021aa
+12 send 10 2 1 000200010001ff03002155
+13 up 1 1 1 sub 002155
+";
+
+const A_CALL_STANDS: &[u8] = b"\
+end 1 tunnel 1 2 1 established 0 current complete
+end 1 call 1 1 1 established 1
+end 2 tunnel 1 1 1 established 0 current complete
+end 2 call 1 1 1 established 1
+agree 1 1 2 1 1
+";
+
+/// The texts are what was taken, one behind the other.
+fn is_all(taken: &[u8], texts: &[&[u8]]) -> bool {
+    let mut left = taken;
+    for text in texts {
+        let Some(rest) = left.strip_prefix(*text) else {
+            return false;
+        };
+        left = rest;
+    }
+    left.is_empty()
+}
+
+#[test]
+fn a_call_is_made(rt: HostRuntime) -> Result<(), Fail> {
+    let (schedule, _) = A_FRAME_EACH_WAY.split_at(A_CALL);
+    let (exit, sink) = run(rt.alloc(), &["replay"], schedule, &[], &[])?;
+    assert_eq!(rt; exit, Exit::Ok);
+    assert!(rt; is_all(sink.taken(), &[CALLED, A_CALL_STANDS]));
+    Ok(())
+}
+
+#[test]
+fn a_frame_goes_each_way(rt: HostRuntime) -> Result<(), Fail> {
+    let (exit, sink) = run(rt.alloc(), &["replay"], A_FRAME_EACH_WAY, &[], &[])?;
+    assert_eq!(rt; exit, Exit::Ok);
+    assert!(rt; is_all(sink.taken(), &[CALLED, CARRIED, A_CALL_STANDS]));
+    Ok(())
+}
+
 #[test]
 fn nothing_gives_the_empty_report(rt: HostRuntime) -> Result<(), Fail> {
     let (exit, sink) = run(rt.alloc(), &["replay"], b"", &[], &[])?;
@@ -66,7 +144,7 @@ fn nothing_gives_the_empty_report(rt: HostRuntime) -> Result<(), Fail> {
 
 #[test]
 fn refused_texts_are_told(rt: HostRuntime) -> Result<(), Fail> {
-    let table: [(&[u8], Exit, u8, &[u8]); 8] = [
+    let table: [(&[u8], Exit, u8, &[u8]); 11] = [
         (
             b"deliver 01\n",
             Exit::BadLine { line: 1 },
@@ -115,6 +193,33 @@ fn refused_texts_are_told(rt: HostRuntime) -> Result<(), Fail> {
             },
             3,
             b"unfit line 2: twice\n",
+        ),
+        (
+            b"lns 2 -\nlac 1 2 - plain\ndata 1 1 0021",
+            Exit::Unfit {
+                line: 3,
+                why: Why::Call,
+            },
+            3,
+            b"unfit line 3: call\n",
+        ),
+        (
+            b"lns 2 -\ndown 2 1 0021",
+            Exit::Unfit {
+                line: 2,
+                why: Why::Call,
+            },
+            3,
+            b"unfit line 2: call\n",
+        ),
+        (
+            b"lns 2 -\ndata 2 1 0021",
+            Exit::Unfit {
+                line: 2,
+                why: Why::Node,
+            },
+            3,
+            b"unfit line 2: node\n",
         ),
         (
             b"lns 2 -\nlac 1 2 - hide",

@@ -21,6 +21,9 @@ A schedule is a list of lines:
   lns N -               node N, from 1 to 255, is an LNS
   lac N M - plain       node N is a LAC, whose LNS is node M
   open N                node N, a LAC, opens a tunnel
+  ring N K              a subscriber calls at port K of node N, a LAC
+  data N S HEX          the subscriber of call S of node N, a LAC, sends a frame
+  down N S HEX          the network sends a frame down call S of node N, an LNS
   deliver P             packet P of the report reaches its addressee
 
 status: 0 done, 1 usage, 2 bad line, 3 line that does not fit, 5 read fault, 6 write fault, 7 too long, 20 no memory

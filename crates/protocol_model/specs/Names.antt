@@ -1,5 +1,7 @@
 -- Host names and addresses of nodes.
-use Rattle.std.specs.Prelude.{ℕ, ◌+◌, ◌%◌, List, ◌++◌, codes}
+use Rattle.std.specs.Prelude.{ℕ, ◌+◌, ◌%◌, List, [], ◌∷◌, ◌++◌, codes}
+use Rattle.hex.specs.Hex.{encode_lower}
+use Rattle.wire_base.specs.Numbers.{u16_bytes}
 use Rattle.std.specs.Fmt.{decimal}
 use Rattle.protocol_model.specs.declared.tunnel.Role.{Role}
 use Rattle.protocol_model.specs.declared.tunnel.Role.TheVariants.{Lac, Lns}
@@ -19,3 +21,11 @@ address_of node = 167772160 + node
 -- the node with an address, by its last part
 unfoldable pub node_of : ℕ → ℕ
 node_of address = address % 256
+
+-- the six bytes of a subscriber that rings at a port, in place of an Ethernet address
+abbrev pub subscriber : ℕ → List ℕ
+subscriber port = 255 ∷ 255 ∷ 0 ∷ 0 ∷ [] ++ u16_bytes port
+
+-- the Calling Number of a call: the subscriber's six bytes as hex digits
+unfoldable pub calling_number : ℕ → List ℕ
+calling_number port = encode_lower (subscriber port)

@@ -4,6 +4,8 @@ use Rattle.std.specs.Fmt.{decimal}
 use Rattle.hex.specs.Hex.{encode_lower}
 use Rattle.wire_base.specs.declared.why.Why.{Why}
 use Rattle.wire_base.specs.declared.cause.Cause.{Cause}
+use Rattle.wire_base.specs.declared.letter.Side.{Side}
+use Rattle.wire_base.specs.declared.letter.Side.TheVariants.{Sub, Net, Lcp}
 use Rattle.wire_base.specs.Words.{why_word, cause_word}
 
 -- words, parted by one space
@@ -24,3 +26,13 @@ drop_text line node x = ended (decimal line & codes "drop" & decimal node & why_
 
 unfoldable pub cause_text : ℕ → ℕ → Cause → List ℕ
 cause_text line node x = ended (decimal line & codes "cause" & decimal node & cause_word x)
+
+abbrev pub side_word : Side → List ℕ
+side_word Sub = codes "sub"
+side_word Net = codes "net"
+side_word Lcp = codes "lcp"
+
+-- line, node, local session, birth, where the frame goes, and its bytes in hex
+unfoldable pub up_text : ℕ → ℕ → ℕ → ℕ → Side → List ℕ → List ℕ
+up_text line node session birth side frame =
+    ended (decimal line & codes "up" & decimal node & decimal session & decimal birth & side_word side & encode_lower frame)

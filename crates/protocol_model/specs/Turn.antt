@@ -1,6 +1,6 @@
 -- A tunnel's step, as a chain of functions from turn to turn.
-use Rattle.std.specs.Prelude.{ℕ, ◌+◌, ◌-◌, ◌%◌, ◌^◌, List, [], ◌∷◌, ◌++◌, Bool, true, false, ◌&&◌, ◌==◌, nat_lt, if◌then◌else◌, Option, Some, None, Result, Ok, Err}
-use Rattle.wire_base.specs.declared.why.Why.{Why}
+use Rattle.std.specs.Prelude.{ℕ, ◌+◌, List, [], ◌∷◌, ◌++◌, Bool, true, false, if◌then◌else◌, Option, Some, None}
+use Rattle.id_table.specs.Ids.{at, put as with_entry}
 use Rattle.wire_base.specs.declared.why.Why.TheVariants as why
 use Rattle.l2tp_header.specs.Spelling.{control_bytes}
 use Rattle.avp_codec.specs.Spelling.{spelling}
@@ -8,29 +8,48 @@ use Rattle.control_message.specs.declared.message.Message.{Message}
 use Rattle.control_message.specs.declared.message.Message.TheVariants.{Sccrq, Sccrp, Scccn, Icrq, Icrp, Iccn}
 use Rattle.control_message.specs.declared.message.Opening.{Opening}
 use Rattle.control_message.specs.Pairs.{pairs_of}
+use Rattle.reliable_channel.specs.Channel.{Channel, on_wire, may_count}
 use Rattle.tunnel_fsm.specs.declared.table.TunnelState.{TunnelState}
 use Rattle.tunnel_fsm.specs.declared.table.TunnelEvent.{TunnelEvent}
 use Rattle.tunnel_fsm.specs.declared.table.TunnelEvent.TheVariants as event
 use Rattle.tunnel_fsm.specs.declared.table.TunnelAction.{TunnelAction}
 use Rattle.tunnel_fsm.specs.declared.table.TunnelAction.TheVariants as action
 use Rattle.tunnel_fsm.specs.Rows.{rows, row_of}
-use Rattle.protocol_model.specs.declared.tunnel.Tunnel.{Tunnel}
+use Rattle.call_fsm.specs.declared.table.CallState.{CallState}
+use Rattle.call_fsm.specs.declared.table.CallState.TheVariants as call
+use Rattle.protocol_model.specs.declared.tunnel.Call.{Call}
 use Rattle.protocol_model.specs.declared.tunnel.Config.{Config}
 use Rattle.protocol_model.specs.declared.out.Out.{Out}
-use Rattle.protocol_model.specs.declared.out.Out.TheVariants.{Send, Drop, Cause}
+use Rattle.protocol_model.specs.declared.out.Out.TheVariants.{Send, Drop}
 use Rattle.protocol_model.specs.declared.out.Origin.TheVariants.{Control}
 use Rattle.protocol_model.specs.declared.out.Note.{Note}
-use Rattle.protocol_model.specs.declared.out.Note.TheVariants.{Drew, Learned, Put, Took}
-use Rattle.protocol_model.specs.Names.{host_name}
+use Rattle.protocol_model.specs.declared.out.Note.TheVariants.{Drew, Learned, Put, Took, Born, Made}
+use Rattle.protocol_model.specs.Names.{host_name, calling_number}
+
+pub record Tunnel : Type 0 where
+  -- the id that this end assigned
+  pub local : ℕ
+  -- the other end's IPv4 address, as a number
+  pub peer : ℕ
+  -- the id that the other end assigned, 0 while it isn't known
+  pub remote : ℕ
+  pub state : TunnelState
+  pub channel : Channel
+  -- the sessions of the calls that wait for the tunnel, in the order in which they came
+  pub waiting : List ℕ
 
 -- a tunnel in a step, with what the step gave so far
 pub record Turn : Type 0 where
   pub tunnel : Tunnel
+  -- the call that the step made, with its session
+  pub added : Option (ℕ × Call)
+  -- the calls that the step changed, with their sessions
+  pub changed : List (ℕ × Call)
   pub outputs : List Out
   pub notes : List Note
 
 abbrev pub turn_of : Tunnel → Turn
-turn_of t = record { tunnel = t; outputs = []; notes = [] }
+turn_of t = record { tunnel = t; added = None; changed = []; outputs = []; notes = [] }
 
 unfoldable pub with_output : Out → Turn → Turn
 with_output o t = record t { outputs = t.outputs ++ o ∷ [] }
@@ -38,29 +57,31 @@ with_output o t = record t { outputs = t.outputs ++ o ∷ [] }
 unfoldable pub with_note : Note → Turn → Turn
 with_note n t = record t { notes = t.notes ++ n ∷ [] }
 
--- ---- the channel: a counter each way, and each message is sent at once
+unfoldable pub with_call : ℕ → Call → Turn → Turn
+with_call s c t = record t { changed = t.changed ++ (s, c) ∷ [] }
 
--- numbers stand modulo 65536 on the wire (RFC 2661 section 5.8)
-abbrev pub on_wire : ℕ → ℕ
-on_wire n = n % 65536
+-- a step makes one call at most
+unfoldable pub with_new : ℕ → Call → Turn → Turn
+with_new s c t = record t { added = Some (s, c) }
 
--- a count can go up
-abbrev pub may_count : ℕ → Bool
-may_count n = nat_lt n (2 ^ 64 - 1)
+-- ---- the channel: each message is sent at once
 
 -- the datagram of pairs, with the present numbers
 abbrev pub datagram : Tunnel → ℕ → List ℕ → List ℕ
-datagram t session pairs = control_bytes t.remote session (on_wire t.sent) (on_wire t.taken) pairs
+datagram t session pairs = control_bytes t.remote session (on_wire t.channel.sent) (on_wire t.channel.taken) pairs
 
 abbrev pub sends : Tunnel → ℕ → Bool → List ℕ → Out
-sends t session empty pairs = Send t.peer (datagram t session pairs) (Control t.local t.sent t.taken empty)
+sends t session empty pairs = Send t.peer (datagram t session pairs) (Control t.local t.channel.sent t.channel.taken empty)
+
+abbrev pub counts_sent : Tunnel → Tunnel
+counts_sent t = record t { channel = record t.channel { sent = t.channel.sent + 1 } }
 
 -- one more message, which is sent at once
 unfoldable pub put : ℕ → Message → Turn → Turn
 put session m t =
-    if may_count t.tunnel.sent
-    then record {
-      tunnel = record t.tunnel { sent = t.tunnel.sent + 1 };
+    if may_count t.tunnel.channel.sent
+    then record t {
+      tunnel = counts_sent t.tunnel;
       outputs = t.outputs ++ sends t.tunnel session false (spelling (pairs_of m)) ∷ [];
       notes = t.notes ++ Put t.tunnel.local session m ∷ [];
     }
@@ -70,9 +91,12 @@ put session m t =
 unfoldable pub acknowledge : Turn → Turn
 acknowledge t = with_output (sends t.tunnel 0 true []) t
 
+abbrev pub counts_taken : Tunnel → Tunnel
+counts_taken t = record t { channel = record t.channel { taken = t.channel.taken + 1 } }
+
 -- the next message of the peer is taken
 unfoldable pub took : Turn → Turn
-took t = with_note (Took t.tunnel.local) (record t { tunnel = record t.tunnel { taken = t.tunnel.taken + 1 } })
+took t = with_note (Took t.tunnel.local) (record t { tunnel = counts_taken t.tunnel })
 
 -- ---- what messages say
 
@@ -88,6 +112,14 @@ opening_of c local = record {
   failover = Some (record { flags = 3; time = 30000 });
 }
 
+-- the request for a call of a LAC: its session id is its serial number too
+abbrev pub request_of : ℕ → ℕ → Message
+request_of s port = Icrq s s (Some (calling_number port))
+
+-- the connection of a call: 100 Mbit a second, synchronous framing
+abbrev pub connection : Message
+connection = Iccn 100000000 1 false
+
 -- the tunnel id that the peer assigns becomes known
 unfoldable pub learned : ℕ → Turn → Turn
 learned remote t = with_note (Learned t.tunnel.local remote) (record t { tunnel = record t.tunnel { remote = remote } })
@@ -97,16 +129,7 @@ learned_by (Sccrq o) t = learned o.tunnel t
 learned_by (Sccrp o) t = learned o.tunnel t
 learned_by m t = t
 
--- ---- the rows of the table
-
--- the row's event of a message about the tunnel; one about a call is none
-abbrev pub event_of : Message → Option TunnelEvent
-event_of (Sccrq o) = Some event.SccrqAcc
-event_of (Sccrp o) = Some event.SccrpAcc
-event_of Scccn = Some event.ScccnAcc
-event_of (Icrq session serial calling) = None
-event_of (Icrp session) = None
-event_of (Iccn speed framing sequenced) = None
+-- ---- the tunnel's rows
 
 unfoldable pub in_state : TunnelState → Turn → Turn
 in_state s t = record t { tunnel = record t.tunnel { state = s } }
@@ -132,6 +155,36 @@ accepts_with o remote t = put 0 (Sccrp o) (in_state (next_of t.tunnel.state even
 unfoldable pub accepts : Config → ℕ → Turn → Turn
 accepts c remote t = accepts_with (opening_of c t.tunnel.local) remote t
 
+-- ---- calls
+
+abbrev pub in_call_state : CallState → Call → Call
+in_call_state s c = record c { state = s }
+
+-- a waiting call is asked for
+unfoldable pub requests : ℕ → Call → Turn → Turn
+requests s c t = put 0 (request_of s c.port) (with_call s (in_call_state call.WaitReply c) t)
+
+unfoldable pub requests_at : ℕ → Option Call → Turn → Turn
+requests_at s None t = t
+requests_at s (Some c) t = requests s c t
+
+unfoldable pub requests_all : List ℕ → List (ℕ × Call) → Turn → Turn
+requests_all [] calls t = t
+requests_all (s ∷ ss) calls t = requests_all ss calls (requests_at s (at calls s) t)
+
+unfoldable pub none_waiting : Turn → Turn
+none_waiting t = record t { tunnel = record t.tunnel { waiting = [] } }
+
+-- the tunnel is open: each call that waits for it is asked for
+unfoldable pub requests_waiting : List (ℕ × Call) → Turn → Turn
+requests_waiting calls t = requests_all t.tunnel.waiting calls (none_waiting t)
+
+-- one more call waits for the tunnel
+unfoldable pub waits : ℕ → Turn → Turn
+waits s t = record t { tunnel = record t.tunnel { waiting = t.tunnel.waiting ++ s ∷ [] } }
+
+-- ---- a message about the tunnel
+
 -- a row that closes a tunnel says so by a message that isn't written yet, so its message is ignored; and a tunnel that is
 -- there is past its opening
 abbrev pub is_served : TunnelAction → Bool
@@ -140,29 +193,35 @@ is_served action.SendScccn = true
 is_served a = false
 
 -- a message that is taken and answered by none is acknowledged alone
-unfoldable pub acts : TunnelAction → Turn → Turn
-acts action.SendScccn t = put 0 Scccn t
-acts a t = acknowledge t
+unfoldable pub acts : List (ℕ × Call) → TunnelAction → Turn → Turn
+acts calls action.SendScccn t = requests_waiting calls (put 0 Scccn t)
+acts calls a t = acknowledge t
 
-unfoldable pub takes_by : Message → TunnelState × TunnelAction → Turn → Turn
-takes_by m row t =
-    if is_served row.1 then acts row.1 (in_state row.0 (learned_by m (took t))) else with_output (Drop why.Ignored) t
+unfoldable pub takes_by : List (ℕ × Call) → Message → TunnelState × TunnelAction → Turn → Turn
+takes_by calls m row t =
+    if is_served row.1 then acts calls row.1 (in_state row.0 (learned_by m (took t))) else with_output (Drop why.Ignored) t
 
--- no call is there yet, so a message about one is for none
-unfoldable pub takes_on : Option TunnelEvent → Message → Turn → Turn
-takes_on None m t = with_output (Drop why.Session) t
-takes_on (Some e) m t = takes_by m (row_of rows t.tunnel.state e) t
+unfoldable pub takes : List (ℕ × Call) → TunnelEvent → Message → Turn → Turn
+takes calls e m t = takes_by calls m (row_of rows t.tunnel.state e) t
 
-unfoldable pub takes : Message → Turn → Turn
-takes m t = takes_on (event_of m) m t
+-- ---- a message about a call
 
--- ---- a datagram for the tunnel
+-- the call that an LNS makes of a request
+abbrev pub call_for : ℕ → ℕ → Call
+call_for tunnel remote = record { tunnel = tunnel; remote = remote; state = call.WaitConnect; port = 0 }
 
-unfoldable pub hears : Result Message Why → Turn → Turn
-hears (Err w) t = with_output (Drop w) t
-hears (Ok m) t = takes m t
+-- an LNS takes the request for a call of its peer: the call that it makes, and its reply
+unfoldable pub made_call : ℕ → ℕ → Turn → Turn
+made_call session remote t = with_note (Made session t.tunnel.peer remote) (with_new session (call_for t.tunnel.local remote) t)
 
--- a message with the number that is next
-unfoldable pub receives : ℕ → Result Message Why → Turn → Turn
-receives ns said t =
-    if ns == on_wire t.tunnel.taken && may_count t.tunnel.taken then hears said t else with_output (Drop why.Ahead) t
+unfoldable pub makes : ℕ → ℕ → Turn → Turn
+makes session remote t = put remote (Icrp session) (made_call session remote (took t))
+
+-- a LAC takes the reply to a request: the call is up, and is connected
+unfoldable pub connects : ℕ → Call → ℕ → Turn → Turn
+connects session c remote t =
+    put remote connection (with_call session (record c { remote = remote; state = call.Established }) (took t))
+
+-- an LNS takes the connection of a call: the call is up
+unfoldable pub comes_up : ℕ → Call → Turn → Turn
+comes_up session c t = acknowledge (with_call session (in_call_state call.Established c) (took t))

@@ -7,6 +7,12 @@ use wire_base::Bytes;
 pub enum Event {
     /// A datagram from a peer, an IPv4 address as a number.
     Datagram { peer: u32, bytes: Bytes },
+    /// A port of a LAC rings.
+    Ring { port: u16 },
+    /// The subscriber of a LAC's call sends a PPP frame, from its protocol field on.
+    Payload { session: u16, frame: Bytes },
+    /// The network sends a PPP frame down an LNS's call, from its protocol field on.
+    Lower { session: u16, frame: Bytes },
     /// An administrative open of a tunnel.
     OpenTunnel,
 }

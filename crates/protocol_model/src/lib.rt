@@ -12,7 +12,7 @@ mod packet;
 mod tunnel;
 
 pub use event::Event;
-pub use names::{address_of, host_name, node_of};
+pub use names::{address_of, calling_number, host_name, node_of, twelve_digits};
 pub use out::{Note, Origin, Out};
 pub use packet::Packet;
-pub use tunnel::{Config, Role, Tunnel};
+pub use tunnel::{Call, Config, Role};

@@ -1,7 +1,7 @@
 //! What a step of an end gives.
 
 use control_message::Message;
-use wire_base::{Bytes, Cause, Why};
+use wire_base::{Bytes, Cause, Side, Why};
 
 /// Which of its objects an end sent a datagram for, and with which numbers. The numbers have no end, where those on the
 /// wire stand modulo 65536. It isn't on the wire: the world keeps it beside the packet.
@@ -14,6 +14,10 @@ pub enum Origin {
         nr: u64,
         empty: bool,
     },
+    /// A PPP frame of the call with this local session id.
+    Data {
+        session: u16,
+    },
 }
 
 /// What a step gives to the outside, in order.
@@ -24,6 +28,12 @@ pub enum Out {
         peer: u32,
         bytes: Bytes,
         origin: Origin,
+    },
+    /// A PPP frame of the call with this local session id, from its protocol field on, is handed up.
+    Up {
+        session: u16,
+        side: Side,
+        frame: Bytes,
     },
     /// The input is ignored.
     Drop {
@@ -56,5 +66,15 @@ pub enum Note {
     /// The tunnel took the next message of its peer.
     Took {
         tunnel: u16,
+    },
+    /// A LAC drew the session id of a call that a subscriber asks for: the call is born.
+    Born {
+        session: u16,
+    },
+    /// An LNS made a call by taking the request for the peer's call with this session id.
+    Made {
+        session: u16,
+        peer: u32,
+        remote: u16,
     },
 }

@@ -1,6 +1,6 @@
-//! What an end is, and what it knows of a tunnel.
+//! What an end is, and what it knows of a call.
 
-use tunnel_fsm::TunnelState;
+use call_fsm::CallState;
 
 /// Which end of a tunnel a node is (RFC 2661 section 1.2).
 #[derive(Clone, Copy, Debug, PartialEq, Eq)]
@@ -21,18 +21,14 @@ pub struct Config {
     pub lns: u32,
 }
 
-/// A tunnel of an end.
+/// A call of an end (RFC 2661 section 1.2).
 #[derive(Clone, Copy, Debug, PartialEq, Eq)]
-pub struct Tunnel {
-    /// The id that this end assigned.
-    pub local: u16,
-    /// The other end's IPv4 address, as a number.
-    pub peer: u32,
-    /// The id that the other end assigned, 0 while it isn't known.
+pub struct Call {
+    /// The local id of the tunnel that carries it.
+    pub tunnel: u16,
+    /// The session id that the other end assigned, 0 while it isn't known.
     pub remote: u16,
-    pub state: TunnelState,
-    /// How many messages were given to the channel: the number of the next one.
-    pub sent: u64,
-    /// How many messages of the other end were taken: the number of the next one.
-    pub taken: u64,
+    pub state: CallState,
+    /// The port that rings, at a LAC; 0 at an LNS.
+    pub port: u16,
 }

@@ -2,6 +2,7 @@
 #![tactic(auto)]
 
 mod fault;
+mod node;
 mod replaying;
 mod state;
 mod tables;

@@ -2,30 +2,31 @@
 
 ghost use Rattle.std.specs.Prelude.{◌≡◌, [], ◌∷◌, ◌++◌, OnOk, IfOk, MatchResult, IsSome, slice_get, Ok, Err};
 ghost use Rattle.id_table.specs.Ids.{at};
-ghost use Rattle.protocol_model.specs.World.{empty_world, count_at, counted, has_pairs, place_of, sent, told, shown, shown_all, with_node, after_step, declared, lac_at, added, stepped, is_next, marked, arrival, delivers, line as line_of};
+ghost use Rattle.protocol_model.specs.World.{empty_world, counted, has_pairs, sent, told, birth_of, with_birth, is_born, noted, noted_all, shown, shown_all, declared, lac_at, lns_at, with_call, added, stepped, is_next, marked, arrival, delivers, line as line_of};
 ghost use Rattle.protocol_model.specs.Run.{finished};
 ghost use Rattle.schedule_replay.specs.Fault.{Says};
 ghost use Rattle.schedule_replay.specs.declared.fault.LineFault.TheVariants.{NoMemory as Wanting};
 
 use crate::fault::LineFault;
-use crate::tables::{agreement_table, end_table, is_lac};
-use crate::texts::{cause_text, drop_text, send_text};
+use crate::node::{Node, count_at};
+use crate::tables::{agreement_table, end_table};
+use crate::texts::{cause_text, drop_text, send_text, up_text};
 use id_table::{Row, Table};
-use protocol_model::{Config, Event, Origin, Out, Packet, Role, address_of, node_of};
+use protocol_model::{Config, Event, Note, Origin, Out, Packet, Role, address_of, node_of};
 use schedule_text::Line;
 use std::alloc::Global;
 use std::marker::Model;
-use tunnel_core::End;
 use wire_base::{Bytes, NoMemory, Why};
 
 /// The world's state.
 #[derive(Drop)]
 pub(crate) struct State {
     alloc: Global,
-    nodes: Table<End>,
+    nodes: Table<Node>,
     packets: Row<Packet>,
     queued: Table<u64>,
     delivered: Table<u64>,
+    born: u64,
     report: Bytes,
 }
 
@@ -34,21 +35,14 @@ impl Model for State {
 
     ghost Value = { Known };
 
-    ghost view = { λ w. record { nodes = w.nodes; packets = w.packets; queued = w.queued; delivered = w.delivered; report = w.report } };
-}
-
-/// How often something was counted for a node.
-fn count_at(counts: &Table<u64>, node: u8) -> u64
-    ensures { result ≡ count_at counts.now node }
-{
-    counts.get(u32::from(node)).copied().unwrap_or(0)
+    ghost view = { λ w. record { nodes = w.nodes; packets = w.packets; queued = w.queued; delivered = w.delivered; born = w.born; report = w.report } };
 }
 
 #[tactic(auto, unfolding(protocol_model::specs::World::counted))]
 fn count_up(counts: &mut Table<u64>, node: u8) -> Result<(), NoMemory>
     ensures { OnOk result (counts.new ≡ counted counts.old node) }
 {
-    let count = count_at(counts, node);
+    let count = count_at(counts, u32::from(node));
     counts.insert(u32::from(node), count.saturating_add(1))
 }
 
@@ -58,16 +52,18 @@ fn is_next(delivered: &Table<u64>, packet: &Packet) -> bool
 {
     match packet.place {
         None => true,
-        Some(place) => place == count_at(delivered, packet.to),
+        Some(place) => place == count_at(delivered, u32::from(packet.to)),
     }
 }
 
-/// Whether a control message isn't an acknowledgement alone, and so has attribute value pairs.
+/// Whether a datagram has attribute value pairs: an acknowledgement alone has none, and neither has a frame.
 fn has_pairs(origin: &Origin) -> bool
     ensures { result ≡ has_pairs origin.now }
 {
-    let Origin::Control { empty, .. } = origin;
-    !*empty
+    match origin {
+        Origin::Control { empty, .. } => !*empty,
+        Origin::Data { .. } => false,
+    }
 }
 
 impl State {
@@ -80,6 +76,7 @@ impl State {
             packets: Row::new(alloc),
             queued: Table::new(alloc),
             delivered: Table::new(alloc),
+            born: 0,
             report: Bytes::new(alloc),
         }
     }
@@ -114,7 +111,7 @@ impl State {
         let text = send_text(self.alloc, line, number, from, to, bytes)?;
         self.report.push_slice(text.as_slice())?;
         let place = if has_pairs(&origin) {
-            Some(count_at(&self.queued, to))
+            Some(count_at(&self.queued, u32::from(to)))
         } else {
             None
         };
@@ -142,6 +139,22 @@ impl State {
                 bytes,
                 origin,
             } => self.send(line, node, node_of(*peer), bytes.as_slice(), *origin),
+            Out::Up {
+                session,
+                side,
+                frame,
+            } => {
+                let birth = self.birth_of(node, *session);
+                self.tell(&up_text(
+                    self.alloc,
+                    line,
+                    node,
+                    *session,
+                    birth,
+                    *side,
+                    frame.as_slice(),
+                )?)
+            }
             Out::Drop { why } => self.tell(&drop_text(self.alloc, line, node, *why)?),
             Out::Cause { cause } => self.tell(&cause_text(self.alloc, line, node, *cause)?),
         }
@@ -157,28 +170,88 @@ impl State {
         Ok(())
     }
 
+    /// The birth of a node's call, 0 where there is none.
+    #[tactic(auto, unfolding(protocol_model::specs::World::birth_of))]
+    fn birth_of(&self, node: u8, session: u16) -> u64
+        ensures { result ≡ birth_of self.now node session }
+    {
+        match self.nodes.get(u32::from(node)) {
+            Some(node) => count_at(&node.births, u32::from(session)),
+            None => 0,
+        }
+    }
+
+    /// A node's call is of this birth.
+    #[tactic(auto, using(id_table::specs::Ids::put_put_is), unfolding(protocol_model::specs::World::with_birth))]
+    fn set_birth(&mut self, node: u8, session: u16, birth: u64) -> Result<(), NoMemory>
+        ensures { OnOk result (self.new ≡ with_birth self.old node session birth) }
+    {
+        let number = u32::from(node);
+        if !self.nodes.contains(number) {
+            return Ok(());
+        }
+        let mut node = self.nodes.swap(number, Node::vacant(self.alloc));
+        node.bear(session, birth)?;
+        self.nodes.replace(number, node);
+        Ok(())
+    }
+
+    /// A call is born at a node.
+    #[tactic(auto, unfolding(protocol_model::specs::World::is_born))]
+    fn bear(&mut self, node: u8, session: u16) -> Result<(), NoMemory>
+        ensures { OnOk result (self.new ≡ is_born self.old node session) }
+    {
+        self.born = self.born.saturating_add(1);
+        self.set_birth(node, session, self.born)
+    }
+
+    /// What a node's step did.
+    #[tactic(auto, unfolding(protocol_model::specs::World::noted))]
+    fn note(&mut self, node: u8, note: &Note) -> Result<(), NoMemory>
+        ensures { OnOk result (self.new ≡ noted node self.old note.now) }
+    {
+        match note {
+            Note::Born { session } => self.bear(node, *session),
+            Note::Made {
+                session,
+                peer,
+                remote,
+            } => {
+                let birth = self.birth_of(node_of(*peer), *remote);
+                self.set_birth(node, *session, birth)
+            }
+            Note::Drew { .. } | Note::Learned { .. } | Note::Put { .. } | Note::Took { .. } => Ok(
+                (),
+            ),
+        }
+    }
+
+    #[tactic(auto, unfolding(protocol_model::specs::World::noted_all))]
+    fn note_all(&mut self, node: u8, notes: &[Note]) -> Result<(), NoMemory>
+        ensures { OnOk result (self.new ≡ noted_all node notes.now self.old) }
+    {
+        for note in notes {
+            self.note(node, note)?;
+        }
+        Ok(())
+    }
+
     /// A node's step on an event, in a line.
-    #[tactic(auto, using(id_table::specs::Ids::put_put_is), unfolding(protocol_model::specs::World::stepped, protocol_model::specs::World::after_step, protocol_model::specs::World::with_node))]
+    #[tactic(auto, using(id_table::specs::Ids::put_put_is), unfolding(protocol_model::specs::World::stepped, protocol_model::specs::World::after_step))]
     fn step(&mut self, line: u64, node: u8, event: Event) -> Result<(), NoMemory>
         requires { IsSome (at self.old.nodes node) }
         ensures { OnOk result (stepped self.old line node event (declared (at self.old.nodes node)) ≡ Ok self.new) }
     {
-        let vacant = End::new(
-            self.alloc,
-            Config {
-                role: Role::Lns,
-                number: 0,
-                lns: 0,
-            },
-        );
-        let mut end = self.nodes.swap(u32::from(node), vacant);
-        let given = end.step(event)?;
-        self.nodes.replace(u32::from(node), end);
+        let number = u32::from(node);
+        let mut at = self.nodes.swap(number, Node::vacant(self.alloc));
+        let given = at.end.step(event)?;
+        self.nodes.replace(number, at);
+        self.note_all(node, given.notes.as_slice())?;
         self.show_all(line, node, given.outputs.as_slice())
     }
 
     /// A new node.
-    #[tactic(auto, unfolding(protocol_model::specs::World::added, protocol_model::specs::World::with_node))]
+    #[tactic(auto, unfolding(protocol_model::specs::World::added))]
     fn add(&mut self, node: u8, config: Config) -> Result<(), LineFault>
         ensures { Says result (added self.old node config) self.old self.new }
     {
@@ -186,18 +259,60 @@ impl State {
             return Err(LineFault::Unfit { why: Why::Twice });
         }
         self.nodes
-            .insert(u32::from(node), End::new(self.alloc, config))?;
+            .insert(u32::from(node), Node::new(self.alloc, config))?;
         Ok(())
     }
 
-    /// A LAC opens a tunnel, in a line.
+    /// An event of a LAC, in a line.
     #[tactic(auto, unfolding(protocol_model::specs::World::stepped))]
-    fn open(&mut self, line: u64, node: u8) -> Result<(), LineFault>
-        ensures { Says result (stepped self.old line node Event.OpenTunnel (lac_at (at self.old.nodes node))) self.old self.new }
+    fn step_lac(&mut self, line: u64, node: u8, event: Event) -> Result<(), LineFault>
+        ensures { Says result (stepped self.old line node event (lac_at (at self.old.nodes node))) self.old self.new }
     {
         match self.nodes.get(u32::from(node)) {
-            Some(end) if is_lac(end) => {
-                self.step(line, node, Event::OpenTunnel)?;
+            Some(at) if at.is_lac() => {
+                self.step(line, node, event)?;
+                Ok(())
+            }
+            _ => Err(LineFault::Unfit { why: Why::Node }),
+        }
+    }
+
+    /// The subscriber of a LAC's call sends a frame, in a line.
+    #[tactic(auto, unfolding(protocol_model::specs::World::stepped, protocol_model::specs::World::with_call))]
+    fn send_up(&mut self, line: u64, node: u8, session: u16, frame: &Bytes) -> Result<(), LineFault>
+        ensures { Says result (stepped self.old line node (Event.Payload session frame.now) (with_call session (lac_at (at self.old.nodes node)))) self.old self.new }
+    {
+        match self.nodes.get(u32::from(node)) {
+            Some(at) if at.is_lac() => {
+                if !at.end.calls().contains(u32::from(session)) {
+                    return Err(LineFault::Unfit { why: Why::Call });
+                }
+                let frame = Bytes::from_slice(self.alloc, frame.as_slice())?;
+                self.step(line, node, Event::Payload { session, frame })?;
+                Ok(())
+            }
+            _ => Err(LineFault::Unfit { why: Why::Node }),
+        }
+    }
+
+    /// The network sends a frame down an LNS's call, in a line.
+    #[tactic(auto, unfolding(protocol_model::specs::World::stepped, protocol_model::specs::World::with_call))]
+    fn send_down(
+        &mut self,
+        line: u64,
+        node: u8,
+        session: u16,
+        frame: &Bytes,
+    ) -> Result<(), LineFault>
+        ensures { Says result (stepped self.old line node (Event.Lower session frame.now) (with_call session (lns_at (at self.old.nodes node)))) self.old self.new }
+    {
+        match self.nodes.get(u32::from(node)) {
+            Some(at) if !at.is_lac() => {
+                if !at.end.calls().contains(u32::from(session)) {
+                    return Err(LineFault::Unfit { why: Why::Call });
+                }
+                let frame = Bytes::from_slice(self.alloc, frame.as_slice())?;
+                self.step(line, node, Event::Lower { session, frame })?;
                 Ok(())
             }
             _ => Err(LineFault::Unfit { why: Why::Node }),
@@ -255,25 +370,36 @@ impl State {
     pub(crate) fn line(&mut self, number: u64, line: &Line) -> Result<(), LineFault>
         ensures { Says result (line_of self.old number line.now) self.old self.new }
     {
-        match *line {
+        match line {
             Line::Remark { .. } => Ok(()),
             Line::Lac { node, lns } => self.add(
-                node,
+                *node,
                 Config {
                     role: Role::Lac,
-                    number: node,
-                    lns: address_of(lns),
+                    number: *node,
+                    lns: address_of(*lns),
                 },
             ),
             Line::Lns { node } => self.add(
-                node,
+                *node,
                 Config {
                     role: Role::Lns,
-                    number: node,
+                    number: *node,
                     lns: 0,
                 },
             ),
-            Line::OpenUp { node } => self.open(number, node),
+            Line::OpenUp { node } => self.step_lac(number, *node, Event::OpenTunnel),
+            Line::Ring { node, port } => self.step_lac(number, *node, Event::Ring { port: *port }),
+            Line::FromSub {
+                node,
+                session,
+                frame,
+            } => self.send_up(number, *node, *session, frame),
+            Line::Down {
+                node,
+                session,
+                frame,
+            } => self.send_down(number, *node, *session, frame),
             Line::Deliver { packet } => self.deliver(number, packet.saturating_sub(1) as usize),
         }
     }

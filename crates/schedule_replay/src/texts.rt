@@ -3,12 +3,13 @@
 ghost use Rattle.std.specs.Prelude.{◌≡◌, ◌++◌, codes, OnOk, IfOk};
 ghost use Rattle.std.specs.Fmt.{decimal};
 ghost use Rattle.hex.specs.Hex.{encode_lower};
-ghost use Rattle.protocol_model.specs.Texts.{send_text, drop_text, cause_text};
-ghost use Rattle.protocol_model.specs.Run.{tunnel_text, agree_text, unfit_text};
+ghost use Rattle.protocol_model.specs.Texts.{send_text, side_word, up_text, drop_text, cause_text};
+ghost use Rattle.protocol_model.specs.Run.{tunnel_text, call_text, agree_text, unfit_text};
 
-use protocol_model::{Tunnel, node_of};
+use protocol_model::{Call, node_of};
 use std::alloc::Global;
-use wire_base::{Bytes, Cause, NoMemory, Why};
+use tunnel_core::Tunnel;
+use wire_base::{Bytes, Cause, NoMemory, Side, Why};
 
 /// Appends a number in decimal.
 fn push_number(out: &mut Bytes, number: u64) -> Result<(), NoMemory>
@@ -65,6 +66,42 @@ pub(crate) fn send_text(
     Ok(text)
 }
 
+/// Where a frame goes, in ASCII.
+fn side_word(side: Side) -> &'static [u8]
+    ensures { result.now ≡ side_word side }
+{
+    match side {
+        Side::Sub => b"sub",
+        Side::Net => b"net",
+        Side::Lcp => b"lcp",
+    }
+}
+
+/// A PPP frame that is handed up: the line, the node, the call's local session and birth, where it goes, and its bytes.
+#[tactic(auto, unfolding(protocol_model::specs::Texts::up_text))]
+pub(crate) fn up_text(
+    alloc: Global,
+    line: u64,
+    node: u8,
+    session: u16,
+    birth: u64,
+    side: Side,
+    frame: &[u8],
+) -> Result<Bytes, NoMemory>
+    ensures { IfOk result (λ text. text ≡ up_text line node session birth side frame.now) }
+{
+    let mut text = Bytes::new(alloc);
+    push_number(&mut text, line)?;
+    push_word(&mut text, b"up")?;
+    push_count(&mut text, u64::from(node))?;
+    push_count(&mut text, u64::from(session))?;
+    push_count(&mut text, birth)?;
+    push_word(&mut text, side_word(side))?;
+    push_hex(&mut text, frame)?;
+    text.push_slice(b"\n")?;
+    Ok(text)
+}
+
 /// An input that was ignored: the line, the node, and why.
 #[tactic(auto, unfolding(protocol_model::specs::Texts::drop_text))]
 pub(crate) fn drop_text(alloc: Global, line: u64, node: u8, why: Why) -> Result<Bytes, NoMemory>
@@ -106,31 +143,55 @@ pub(crate) fn tunnel_text(alloc: Global, node: u32, tunnel: &Tunnel) -> Result<B
     let mut text = Bytes::from_slice(alloc, b"end")?;
     push_count(&mut text, u64::from(node))?;
     push_word(&mut text, b"tunnel")?;
-    push_count(&mut text, u64::from(tunnel.local))?;
-    push_count(&mut text, u64::from(node_of(tunnel.peer)))?;
-    push_count(&mut text, u64::from(tunnel.remote))?;
-    push_word(&mut text, tunnel.state.word())?;
+    push_count(&mut text, u64::from(tunnel.local()))?;
+    push_count(&mut text, u64::from(node_of(tunnel.peer())))?;
+    push_count(&mut text, u64::from(tunnel.remote()))?;
+    push_word(&mut text, tunnel.state().word())?;
     push_word(&mut text, b"0 current complete")?;
     text.push_slice(b"\n")?;
     Ok(text)
 }
 
-/// A LAC's tunnel and its partner, which agree. No line begins a call, so both hold no session.
+/// A call at the end of a run, with its local session and its birth.
+#[tactic(auto, unfolding(protocol_model::specs::Run::call_text))]
+pub(crate) fn call_text(
+    alloc: Global,
+    node: u32,
+    session: u32,
+    call: &Call,
+    birth: u64,
+) -> Result<Bytes, NoMemory>
+    ensures { IfOk result (λ text. text ≡ call_text node session call.now birth) }
+{
+    let mut text = Bytes::from_slice(alloc, b"end")?;
+    push_count(&mut text, u64::from(node))?;
+    push_word(&mut text, b"call")?;
+    push_count(&mut text, u64::from(call.tunnel))?;
+    push_count(&mut text, u64::from(session))?;
+    push_count(&mut text, u64::from(call.remote))?;
+    push_word(&mut text, call.state.word())?;
+    push_count(&mut text, birth)?;
+    text.push_slice(b"\n")?;
+    Ok(text)
+}
+
+/// A LAC's tunnel and its partner, which agree, with the number of sessions.
 #[tactic(auto, unfolding(protocol_model::specs::Run::agree_text))]
 pub(crate) fn agree_text(
     alloc: Global,
     node: u32,
     tunnel: &Tunnel,
     partner: &Tunnel,
+    count: u64,
 ) -> Result<Bytes, NoMemory>
-    ensures { IfOk result (λ text. text ≡ agree_text node tunnel.now partner.now) }
+    ensures { IfOk result (λ text. text ≡ agree_text node tunnel.now partner.now count) }
 {
     let mut text = Bytes::from_slice(alloc, b"agree")?;
     push_count(&mut text, u64::from(node))?;
-    push_count(&mut text, u64::from(tunnel.local))?;
-    push_count(&mut text, u64::from(node_of(tunnel.peer)))?;
-    push_count(&mut text, u64::from(partner.local))?;
-    push_word(&mut text, b"0")?;
+    push_count(&mut text, u64::from(tunnel.local()))?;
+    push_count(&mut text, u64::from(node_of(tunnel.peer())))?;
+    push_count(&mut text, u64::from(partner.local()))?;
+    push_count(&mut text, count)?;
     text.push_slice(b"\n")?;
     Ok(text)
 }

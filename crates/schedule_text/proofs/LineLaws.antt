@@ -1,5 +1,5 @@
 -- A line that is read is spelled so, and a line that is spelled so is read.
-use Rattle.std.proofs.Common.{◌≡◌, ◌⊎◌, ℕ, ◌^◌, ◌<◌, Bool, true, false, cond, eqb, leb, List, [], ◌∷◌, ◌++◌, Option, Some, None, refl, sym, ap, subst, ◌∙◌, append_assoc, arith, inl, inr}
+use Rattle.std.proofs.Common.{◌≡◌, ◌⊎◌, ℕ, ◌^◌, ◌<◌, ◌&&◌, Bool, true, false, cond, eqb, leb, List, [], ◌∷◌, ◌++◌, length, Option, Some, None, Result, Ok, Err, refl, sym, ap, subst, ◌∙◌, append_assoc, arith, inl, inr}
 use Rattle.std.specs.Prelude.{codes, option_map}
 use Rattle.std.specs.List.{list_all, AllByRecursion}
 use Rattle.std.specs.Char.{is_ascii_digit}
@@ -9,10 +9,13 @@ use Rattle.std.proofs.lemmas.Bool.{cases_Bool, eqb-true, eq-eqb, ne_eqb, leb-tru
 use Rattle.std.proofs.lemmas.Option.{none-some, same_Some}
 use Rattle.std.proofs.lemmas.Slice.Eq.{bytes_eq-Decides}
 use Rattle.std.proofs.lemmas.Fmt.{digits_decimal}
+use Rattle.hex.specs.Hex.{decode_of, encode_lower}
+use Rattle.hex.specs.declared.error.FromHexError.{FromHexError}
+use Rattle.hex.proofs.HexLemmas.{decode_of-encode_lower, decode_of-ok}
 use Rattle.schedule_text.specs.declared.line.Line.{Line}
-use Rattle.schedule_text.specs.declared.line.Line.TheVariants.{Remark, Lac, Lns, OpenUp, Deliver}
-use Rattle.schedule_text.specs.Grammar.{line_text, IsPrintable, IsNode, IsPacket, FitsLine}
-use Rattle.schedule_text.specs.Reading.{◌>>=◌, cut, node_of, packet_of, lac_of, lns_of, open_of, deliver_of, words_of, is_printable, remark_of, line_of}
+use Rattle.schedule_text.specs.declared.line.Line.TheVariants.{Remark, Lac, Lns, OpenUp, Ring, FromSub, Down, Deliver}
+use Rattle.schedule_text.specs.Grammar.{call_text, line_text, IsPrintable, IsNode, IsPort, IsSession, IsFrame, IsPacket, FitsLine}
+use Rattle.schedule_text.specs.Reading.{◌>>=◌, cut, node_of, port_of, session_of, packet_of, frame_from, frame_of, lac_of, lns_of, open_of, ring_of, call_of, from_sub_of, down_of, deliver_of, plain_of, words_of, is_printable, remark_of, line_of}
 use Rattle.schedule_text.proofs.Numbers.{own, number_found, number_again}
 
 -- ---- parts
@@ -67,6 +70,12 @@ IsSpelled l bytes = FitsLine l × (bytes ≡ line_text l)
 node_found : (n : ℕ) (word : List ℕ) → node_of word ≡ Some n → (word ≡ decimal n) × IsNode n
 node_found n word e = let f = number_found 1 255 n word (omega arith) e in (f.0, (f.1, f.2))
 
+port_found : (n : ℕ) (word : List ℕ) → port_of word ≡ Some n → (word ≡ decimal n) × IsPort n
+port_found n word e = let f = number_found 1 65535 n word (omega arith) e in (f.0, (f.1, f.2))
+
+session_found : (n : ℕ) (word : List ℕ) → session_of word ≡ Some n → (word ≡ decimal n) × IsSession n
+session_found n word e = let f = number_found 1 65535 n word (omega arith) e in (f.0, (f.1, f.2))
+
 packet_found : (n : ℕ) (word : List ℕ) → packet_of word ≡ Some n → (word ≡ decimal n) × IsPacket n
 packet_found n word e = let f = number_found 1 4294967295 n word (omega arith) e in (f.0, (f.1, f.2))
 
@@ -110,6 +119,87 @@ open_found words l e =
     let spelled : IsSpelled (OpenUp node) (codes "open " ++ words) = (n.1, ap (λ t. codes "open " ++ t) n.0) in
     subst (λ x. IsSpelled x (codes "open " ++ words)) (same_Some (OpenUp node) l hn) spelled)
 
+ring_found : (words : List ℕ) (l : Line) → ring_of words ≡ Some l → IsSpelled l (codes "ring " ++ words)
+unfolding ring_of
+ring_found words l e =
+    bound (cut 32 words) _ l e (λ a ea ha.
+    bound (node_of a.0) _ l ha (λ node en hn.
+    bound (port_of a.1) _ l hn (λ port ep hp.
+    let n = node_found node a.0 en in
+    let p = port_found port a.1 ep in
+    let tail : words ≡ decimal node ++ 32 ∷ decimal port = cut_words words a.0 a.1 node ea n.0 ∙ ap (λ t. decimal node ++ 32 ∷ t) p.0 in
+    let spelled : IsSpelled (Ring node port) (codes "ring " ++ words) = ((n.1, p.1), rw tail (simp append_assoc)) in
+    subst (λ x. IsSpelled x (codes "ring " ++ words)) (same_Some (Ring node port) l hp) spelled)))
+
+-- ---- a frame of a call that was read
+
+frame_kept : (word frame : List ℕ) (r : Result (List ℕ) FromHexError) → decode_of word ≡ r → frame_from word r ≡ Some frame → (word ≡ encode_lower frame) × IsFrame frame
+frame_kept word frame (Err x) d e = absurd (none-some frame e)
+frame_kept word frame (Ok x) d e =
+    let c = chosen _ _ frame e in
+    let p = and_parts (leb 2 (length x) && leb (length x) 1494) (bytes_eq (encode_lower x) word) c.0 in
+    let q = and_parts (leb 2 (length x)) (leb (length x) 1494) p.0 in
+    let spelled : word ≡ encode_lower x = sym (same_text (encode_lower x) word p.1) in
+    let fits : IsFrame x = (leb-true 2 (length x) q.0, leb-true (length x) 1494 q.1, (decode_of-ok word x d).3) in
+    subst (λ f. (word ≡ encode_lower f) × IsFrame f) (same_Some x frame c.1) (spelled, fits)
+
+frame_found : (word frame : List ℕ) → frame_of word ≡ Some frame → (word ≡ encode_lower frame) × IsFrame frame
+unfolding frame_of
+frame_found word frame e = frame_kept word frame (decode_of word) refl e
+
+-- the words are those of the call
+record IsCall (words : List ℕ) (call : ℕ × ℕ × List ℕ) : Type 0 where
+  spelled : words ≡ decimal call.0 ++ 32 ∷ (decimal call.1 ++ 32 ∷ call.2)
+  node : IsNode call.0
+  session : IsSession call.1
+
+call_found : (words : List ℕ) (call : ℕ × ℕ × List ℕ) → call_of words ≡ Some call → IsCall words call
+unfolding call_of
+call_found words call e =
+    bound (cut 32 words) _ call e (λ a ea ha.
+    bound (cut 32 a.1) _ call ha (λ b eb hb.
+    bound (node_of a.0) _ call hb (λ node en hn.
+    bound (session_of b.0) _ call hn (λ session es hs.
+    let n = node_found node a.0 en in
+    let s = session_found session b.0 es in
+    let tail = cut_words a.1 b.0 b.1 session eb s.0 in
+    let found : IsCall words (node, session, b.1) =
+    record {
+      spelled = cut_words words a.0 a.1 node ea n.0 ∙ ap (λ t. decimal node ++ 32 ∷ t) tail;
+      node = n.1;
+      session = s.1;
+    } in
+    subst (IsCall words) (same_Some (node, session, b.1) call hs) found))))
+
+-- the same bytes, as words that are cut in turn
+regroup_call : (node session : ℕ) (frame : List ℕ) → call_text node session frame ≡ decimal node ++ 32 ∷ (decimal session ++ 32 ∷ encode_lower frame)
+regroup_call node session frame = simp append_assoc
+
+-- a call and the spelling of its frame
+call_spelled : (words : List ℕ) (call : ℕ × ℕ × List ℕ) (frame : List ℕ) → IsCall words call → call.2 ≡ encode_lower frame → words ≡ call_text call.0 call.1 frame
+call_spelled words call frame h e =
+    h.spelled ∙ ap (λ t. decimal call.0 ++ 32 ∷ (decimal call.1 ++ 32 ∷ t)) e ∙ sym (regroup_call call.0 call.1 frame)
+
+from_sub_found : (words : List ℕ) (l : Line) → from_sub_of words ≡ Some l → IsSpelled l (codes "data " ++ words)
+unfolding from_sub_of
+from_sub_found words l e =
+    bound (call_of words) _ l e (λ call ec hc.
+    bound (frame_of call.2) _ l hc (λ frame ef hf.
+    let k = call_found words call ec in
+    let f = frame_found call.2 frame ef in
+    let spelled : IsSpelled (FromSub call.0 call.1 frame) (codes "data " ++ words) = ((k.node, k.session, f.1), ap (λ t. codes "data " ++ t) (call_spelled words call frame k f.0)) in
+    subst (λ x. IsSpelled x (codes "data " ++ words)) (same_Some (FromSub call.0 call.1 frame) l hf) spelled))
+
+down_found : (words : List ℕ) (l : Line) → down_of words ≡ Some l → IsSpelled l (codes "down " ++ words)
+unfolding down_of
+down_found words l e =
+    bound (call_of words) _ l e (λ call ec hc.
+    bound (frame_of call.2) _ l hc (λ frame ef hf.
+    let k = call_found words call ec in
+    let f = frame_found call.2 frame ef in
+    let spelled : IsSpelled (Down call.0 call.1 frame) (codes "down " ++ words) = ((k.node, k.session, f.1), ap (λ t. codes "down " ++ t) (call_spelled words call frame k f.0)) in
+    subst (λ x. IsSpelled x (codes "down " ++ words)) (same_Some (Down call.0 call.1 frame) l hf) spelled))
+
 deliver_found : (words : List ℕ) (l : Line) → deliver_of words ≡ Some l → IsSpelled l (codes "deliver " ++ words)
 unfolding deliver_of
 deliver_found words l e =
@@ -126,20 +216,34 @@ either : {A : Type 0} (b : Bool) (o p : Option A) (y : A) → cond b o p ≡ Som
 either true o p y e = inl (refl, e)
 either false o p y e = inr e
 
-words_found : (kind words : List ℕ) (l : Line) → words_of kind words ≡ Some l → IsSpelled l (kind ++ 32 ∷ words)
-unfolding words_of
-words_found kind words l e =
+plain_found : (kind words : List ℕ) (l : Line) → plain_of kind words ≡ Some l → IsSpelled l (kind ++ 32 ∷ words)
+unfolding plain_of
+plain_found kind words l e =
     elim (either (bytes_eq kind (codes "lac")) (lac_of words) _ l e) [
       | inl a ↦ kind_spelled kind (codes "lac") words l a.0 (lac_found words l a.1)
       | inr e1 ↦ elim (either (bytes_eq kind (codes "lns")) (lns_of words) _ l e1) [
         | inl a ↦ kind_spelled kind (codes "lns") words l a.0 (lns_found words l a.1)
         | inr e2 ↦ elim (either (bytes_eq kind (codes "open")) (open_of words) _ l e2) [
           | inl a ↦ kind_spelled kind (codes "open") words l a.0 (open_found words l a.1)
-          | inr e3 ↦ elim (either (bytes_eq kind (codes "deliver")) (deliver_of words) _ l e3) [
-            | inl a ↦ kind_spelled kind (codes "deliver") words l a.0 (deliver_found words l a.1)
-            | inr e4 ↦ absurd (none-some l e4)
+          | inr e3 ↦ elim (either (bytes_eq kind (codes "ring")) (ring_of words) _ l e3) [
+            | inl a ↦ kind_spelled kind (codes "ring") words l a.0 (ring_found words l a.1)
+            | inr e4 ↦ elim (either (bytes_eq kind (codes "deliver")) (deliver_of words) _ l e4) [
+              | inl a ↦ kind_spelled kind (codes "deliver") words l a.0 (deliver_found words l a.1)
+              | inr e5 ↦ absurd (none-some l e5)
+            ]
           ]
         ]
+      ]
+    ]
+
+words_found : (kind words : List ℕ) (l : Line) → words_of kind words ≡ Some l → IsSpelled l (kind ++ 32 ∷ words)
+unfolding words_of
+words_found kind words l e =
+    elim (either (bytes_eq kind (codes "data")) (from_sub_of words) _ l e) [
+      | inl a ↦ kind_spelled kind (codes "data") words l a.0 (from_sub_found words l a.1)
+      | inr e1 ↦ elim (either (bytes_eq kind (codes "down")) (down_of words) _ l e1) [
+        | inl a ↦ kind_spelled kind (codes "down") words l a.0 (down_found words l a.1)
+        | inr e2 ↦ plain_found kind words l e2
       ]
     ]
 
@@ -194,6 +298,30 @@ lns_again : (node : ℕ) → IsNode node → lns_of (decimal node ++ 32 ∷ code
 unfolding lns_of
 lns_again node n = rw (node_cut node (codes "-") n, node_again node n) refl
 
+ring_again : (node port : ℕ) → IsNode node → IsPort port → ring_of (decimal node ++ 32 ∷ decimal port) ≡ Some (Ring node port)
+unfolding ring_of
+ring_again node port n p = rw (node_cut node (decimal port) n, node_again node n, number_again 1 65535 port (omega arith) p.0 p.1) refl
+
+frame_again : (frame : List ℕ) → IsFrame frame → frame_of (encode_lower frame) ≡ Some frame
+unfolding frame_of
+frame_again frame h =
+    let same : bytes_eq (encode_lower frame) (encode_lower frame) ≡ true = (bytes_eq-Decides (encode_lower frame) (encode_lower frame)).1 refl in
+    rw (decode_of-encode_lower frame h.2, le-leb 2 (length frame) h.0, le-leb (length frame) 1494 h.1, same) refl
+
+call_again : (node session : ℕ) (word : List ℕ) → IsNode node → IsSession session → call_of (decimal node ++ 32 ∷ (decimal session ++ 32 ∷ word)) ≡ Some (node, session, word)
+unfolding call_of
+call_again node session word n s =
+    let second : cut 32 (decimal session ++ 32 ∷ word) ≡ Some (decimal session, word) = cut_again 32 (decimal session) word (number_lacks 32 session (omega arith) (omega arith)) in
+    rw (node_cut node (decimal session ++ 32 ∷ word) n, second, node_again node n, number_again 1 65535 session (omega arith) s.0 s.1) refl
+
+from_sub_again : (node session : ℕ) (frame : List ℕ) → IsNode node → IsSession session → IsFrame frame → from_sub_of (call_text node session frame) ≡ Some (FromSub node session frame)
+unfolding from_sub_of
+from_sub_again node session frame n s f = rw (regroup_call node session frame, call_again node session (encode_lower frame) n s, frame_again frame f) refl
+
+down_again : (node session : ℕ) (frame : List ℕ) → IsNode node → IsSession session → IsFrame frame → down_of (call_text node session frame) ≡ Some (Down node session frame)
+unfolding down_of
+down_again node session frame n s f = rw (regroup_call node session frame, call_again node session (encode_lower frame) n s, frame_again frame f) refl
+
 -- what is printable passes the test
 printable_again : (text : List ℕ) → AllByRecursion IsPrintable text → list_all is_printable text ≡ true
 printable_again [] h = refl
@@ -201,11 +329,16 @@ printable_again (c ∷ cs) h = and_from _ _ (and_from _ _ (le-leb 32 c h.0.0) (l
 
 -- what is spelled is read
 pub line_again : (l : Line) → FitsLine l → line_of (line_text l) ≡ Some l
-unfolding line_of words_of remark_of open_of deliver_of
+unfolding line_of words_of plain_of remark_of open_of deliver_of
 line_again (Remark text) h = rw (printable_again text h) refl
 line_again (Lac node lns) h =
     let regrouped : decimal node ++ codes " " ++ decimal lns ++ codes " - plain" ≡ decimal node ++ 32 ∷ (decimal lns ++ 32 ∷ codes "- plain") = simp append_assoc in
     ap lac_of regrouped ∙ lac_again node lns h.0 h.1
 line_again (Lns node) h = lns_again node h
 line_again (OpenUp node) h = rw (node_again node h) refl
+line_again (Ring node port) h =
+    let regrouped : decimal node ++ codes " " ++ decimal port ≡ decimal node ++ 32 ∷ decimal port = simp append_assoc in
+    ap ring_of regrouped ∙ ring_again node port h.0 h.1
+line_again (FromSub node session frame) h = from_sub_again node session frame h.0 h.1 h.2
+line_again (Down node session frame) h = down_again node session frame h.0 h.1 h.2
 line_again (Deliver packet) h = rw (number_again 1 4294967295 packet (omega arith) h.0 h.1) refl

@@ -7,8 +7,8 @@ use Rattle.std.proofs.lemmas.List.Sums.{sum_by-cons, sum_by_push, sum_by-append}
 use Rattle.std.proofs.lemmas.List.{append-nil, length-append}
 use Rattle.std.proofs.lemmas.List.Folds.{list_any_at}
 use Rattle.schedule_text.specs.declared.line.Line.{Line}
-use Rattle.schedule_text.specs.declared.line.Line.TheVariants.{Remark, Lac, Lns, OpenUp, Deliver}
-use Rattle.schedule_text.specs.Grammar.{is_lac, is_lns, is_open, IsOrderly}
+use Rattle.schedule_text.specs.declared.line.Line.TheVariants.{Remark, Lac, Lns, OpenUp, Ring, FromSub, Down, Deliver}
+use Rattle.schedule_text.specs.Grammar.{is_lac, is_lns, is_open, is_ring, IsOrderly}
 use Rattle.schedule_text.specs.Reading.{declares, may_follow, kept_from}
 
 -- ---- counts and tests
@@ -56,6 +56,9 @@ declares_is n (Lns m) e = ap (λ (k : ℕ). Lns k) (eqb-true m n e)
 declares_is n (Remark t) e = absurd (true≢false (sym e))
 declares_is n (Lac m k) e = absurd (true≢false (sym e))
 declares_is n (OpenUp m) e = absurd (true≢false (sym e))
+declares_is n (Ring m k) e = absurd (true≢false (sym e))
+declares_is n (FromSub m k t) e = absurd (true≢false (sym e))
+declares_is n (Down m k t) e = absurd (true≢false (sym e))
 declares_is n (Deliver m) e = absurd (true≢false (sym e))
 
 declared_found : (n : ℕ) (xs : List Line) → list_any (declares n) xs ≡ true → Contains xs (Lns n)
@@ -102,19 +105,22 @@ declared_more before l h last front after node lns e =
 no_lac : (l : Line) (before : List Line) → is_lac l ≡ false → (node lns : ℕ) → l ≡ Lac node lns → Contains before (Lns lns)
 no_lac l before e node lns f = absurd (true≢false (sym (ap is_lac f) ∙ e))
 
-same_rules : (before : List Line) (l : Line) → IsOrderly before → is_lac l ≡ false → is_lns l ≡ false → is_open l ≡ false → IsOrderly (before ++ l ∷ [])
-same_rules before l h a b c =
+same_rules : (before : List Line) (l : Line) → IsOrderly before → is_lac l ≡ false → is_lns l ≡ false → is_open l ≡ false → is_ring l ≡ false → IsOrderly (before ++ l ∷ [])
+same_rules before l h a b c d =
     record {
       one_lac = count_same is_lac before l a h.one_lac;
       one_lns = count_same is_lns before l b h.one_lns;
       one_open = count_same is_open before l c h.one_open;
+      one_ring = count_same is_ring before l d h.one_ring;
       declared = declared_more before l h (no_lac l before a);
     }
 
 -- a line that may follow keeps the rules
 pub orderly_more : (before : List Line) (l : Line) → IsOrderly before → may_follow before l ≡ true → IsOrderly (before ++ l ∷ [])
-orderly_more before (Remark t) h e = same_rules before (Remark t) h refl refl refl
-orderly_more before (Deliver p) h e = same_rules before (Deliver p) h refl refl refl
+orderly_more before (Remark t) h e = same_rules before (Remark t) h refl refl refl refl
+orderly_more before (FromSub node session frame) h e = same_rules before (FromSub node session frame) h refl refl refl refl
+orderly_more before (Down node session frame) h e = same_rules before (Down node session frame) h refl refl refl refl
+orderly_more before (Deliver p) h e = same_rules before (Deliver p) h refl refl refl refl
 orderly_more before (Lac node lns) h e =
     let l : Line = Lac node lns in
     let p = and_parts (not (list_any is_lac before)) (list_any (declares lns) before) e in
@@ -122,6 +128,7 @@ orderly_more before (Lac node lns) h e =
       one_lac = count_first is_lac before l (not-true _ p.0);
       one_lns = count_same is_lns before l refl h.one_lns;
       one_open = count_same is_open before l refl h.one_open;
+      one_ring = count_same is_ring before l refl h.one_ring;
       declared = declared_more before l h (λ n m f. subst (λ k. Contains before (Lns k)) (ap lns_named f) (declared_found lns before p.1));
     }
 orderly_more before (Lns node) h e =
@@ -130,6 +137,7 @@ orderly_more before (Lns node) h e =
       one_lac = count_same is_lac before l refl h.one_lac;
       one_lns = count_first is_lns before l (not-true _ e);
       one_open = count_same is_open before l refl h.one_open;
+      one_ring = count_same is_ring before l refl h.one_ring;
       declared = declared_more before l h (no_lac l before refl);
     }
 orderly_more before (OpenUp node) h e =
@@ -138,17 +146,30 @@ orderly_more before (OpenUp node) h e =
       one_lac = count_same is_lac before l refl h.one_lac;
       one_lns = count_same is_lns before l refl h.one_lns;
       one_open = count_first is_open before l (not-true _ e);
+      one_ring = count_same is_ring before l refl h.one_ring;
+      declared = declared_more before l h (no_lac l before refl);
+    }
+orderly_more before (Ring node port) h e =
+    let l : Line = Ring node port in
+    record {
+      one_lac = count_same is_lac before l refl h.one_lac;
+      one_lns = count_same is_lns before l refl h.one_lns;
+      one_open = count_same is_open before l refl h.one_open;
+      one_ring = count_first is_ring before l (not-true _ e);
       declared = declared_more before l h (no_lac l before refl);
     }
 
 -- a line that keeps the rules may follow
 pub may_again : (before : List Line) (l : Line) → IsOrderly (before ++ l ∷ []) → may_follow before l ≡ true
 may_again before (Remark t) h = refl
+may_again before (FromSub node session frame) h = refl
+may_again before (Down node session frame) h = refl
 may_again before (Deliver p) h = refl
 may_again before (Lac node lns) h =
     and_from _ _ (not_from_false _ (no_other is_lac before (Lac node lns) refl h.one_lac)) (declared_again lns before (h.declared before [] node lns refl))
 may_again before (Lns node) h = not_from_false _ (no_other is_lns before (Lns node) refl h.one_lns)
 may_again before (OpenUp node) h = not_from_false _ (no_other is_open before (OpenUp node) refl h.one_open)
+may_again before (Ring node port) h = not_from_false _ (no_other is_ring before (Ring node port) refl h.one_ring)
 
 count_front : (p : Line → Bool) (xs ys : List Line) → count_by p (xs ++ ys) ≤ 1 → count_by p xs ≤ 1
 count_front p xs ys le = omega (arith, sum_by-append (one_if p) xs ys)
@@ -160,6 +181,7 @@ orderly_front xs ys h =
       one_lac = count_front is_lac xs ys h.one_lac;
       one_lns = count_front is_lns xs ys h.one_lns;
       one_open = count_front is_open xs ys h.one_open;
+      one_ring = count_front is_ring xs ys h.one_ring;
       declared = λ before after node lns e. h.declared before (after ++ ys) node lns (ap (λ t. t ++ ys) e ∙ append_assoc before (Lac node lns ∷ after) ys);
     }
 
@@ -169,6 +191,7 @@ orderly_nil =
       one_lac = omega arith;
       one_lns = omega arith;
       one_open = omega arith;
+      one_ring = omega arith;
       declared = λ before after node lns e. absurd (omega (arith, ap length e, length-append before (Lac node lns ∷ after)));
     }
 

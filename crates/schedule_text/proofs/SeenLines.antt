@@ -6,9 +6,9 @@ use Rattle.std.proofs.lemmas.Bool.{not-true, true≢false, or_left, or_right}
 use Rattle.std.proofs.lemmas.List.Folds.{list_any-append}
 use Rattle.std.proofs.lemmas.List.{at_drop_more, at_drop_all, take_more}
 use Rattle.schedule_text.specs.declared.line.Line.{Line}
-use Rattle.schedule_text.specs.declared.line.Line.TheVariants.{Remark, Lac, Lns, OpenUp, Deliver}
+use Rattle.schedule_text.specs.declared.line.Line.TheVariants.{Remark, Lac, Lns, OpenUp, Ring, FromSub, Down, Deliver}
 use Rattle.schedule_text.specs.declared.rules.Seen.{Seen}
-use Rattle.schedule_text.specs.Grammar.{is_lac, is_lns, is_open}
+use Rattle.schedule_text.specs.Grammar.{is_lac, is_lns, is_open, is_ring}
 use Rattle.schedule_text.specs.Reading.{declares, may_follow, kept_from, kept_of}
 use Rattle.schedule_text.specs.Seen.{is_named, allows, seen_with}
 
@@ -18,6 +18,7 @@ pub record Saw (before : List Line) (seen : Seen) : Type 0 where
   pub lns : is_some seen.lns ≡ list_any is_lns before
   pub named : (n : ℕ) → is_named seen.lns n ≡ list_any (declares n) before
   pub opened : seen.opened ≡ list_any is_open before
+  pub rung : seen.rung ≡ list_any is_ring before
 
 -- a line that doesn't pass a test, and one that does
 passed_over : (p : Line → Bool) (before : List Line) (l : Line) → p l ≡ false → list_any p (before ++ l ∷ []) ≡ list_any p before
@@ -39,24 +40,30 @@ none_named (Some m) n e = absurd (true≢false e)
 
 pub allows_is : (before : List Line) (seen : Seen) (l : Line) → Saw before seen → allows seen l ≡ may_follow before l
 allows_is before seen (Remark t) h = refl
+allows_is before seen (FromSub node session frame) h = refl
+allows_is before seen (Down node session frame) h = refl
 allows_is before seen (Deliver p) h = refl
 allows_is before seen (Lac node lns) h = rw (h.lac, h.named lns) refl
 allows_is before seen (Lns node) h = none_is seen.lns ∙ ap not h.lns
 allows_is before seen (OpenUp node) h = rw h.opened refl
+allows_is before seen (Ring node port) h = rw h.rung refl
 
 -- lines that don't count
-saw_same : (before : List Line) (seen : Seen) (l : Line) → Saw before seen → is_lac l ≡ false → is_lns l ≡ false → is_open l ≡ false → ((n : ℕ) → declares n l ≡ false) → Saw (before ++ l ∷ []) seen
-saw_same before seen l h a b c d =
+saw_same : (before : List Line) (seen : Seen) (l : Line) → Saw before seen → is_lac l ≡ false → is_lns l ≡ false → is_open l ≡ false → is_ring l ≡ false → ((n : ℕ) → declares n l ≡ false) → Saw (before ++ l ∷ []) seen
+saw_same before seen l h a b c d e =
     record {
       lac = h.lac ∙ sym (passed_over is_lac before l a);
       lns = h.lns ∙ sym (passed_over is_lns before l b);
-      named = λ n. h.named n ∙ sym (passed_over (declares n) before l (d n));
+      named = λ n. h.named n ∙ sym (passed_over (declares n) before l (e n));
       opened = h.opened ∙ sym (passed_over is_open before l c);
+      rung = h.rung ∙ sym (passed_over is_ring before l d);
     }
 
 pub saw_more : (before : List Line) (seen : Seen) (l : Line) → Saw before seen → may_follow before l ≡ true → Saw (before ++ l ∷ []) (seen_with seen l)
-saw_more before seen (Remark t) h e = saw_same before seen (Remark t) h refl refl refl (λ n. refl)
-saw_more before seen (Deliver p) h e = saw_same before seen (Deliver p) h refl refl refl (λ n. refl)
+saw_more before seen (Remark t) h e = saw_same before seen (Remark t) h refl refl refl refl (λ n. refl)
+saw_more before seen (FromSub node session frame) h e = saw_same before seen (FromSub node session frame) h refl refl refl refl (λ n. refl)
+saw_more before seen (Down node session frame) h e = saw_same before seen (Down node session frame) h refl refl refl refl (λ n. refl)
+saw_more before seen (Deliver p) h e = saw_same before seen (Deliver p) h refl refl refl refl (λ n. refl)
 saw_more before seen (Lac node lns) h e =
     let l : Line = Lac node lns in
     record {
@@ -64,6 +71,7 @@ saw_more before seen (Lac node lns) h e =
       lns = h.lns ∙ sym (passed_over is_lns before l refl);
       named = λ n. h.named n ∙ sym (passed_over (declares n) before l refl);
       opened = h.opened ∙ sym (passed_over is_open before l refl);
+      rung = h.rung ∙ sym (passed_over is_ring before l refl);
     }
 saw_more before seen (Lns node) h e =
     let l : Line = Lns node in
@@ -73,6 +81,7 @@ saw_more before seen (Lns node) h e =
       lns = sym (passed is_lns before l refl);
       named = λ n. sym (alone (declares n) before l (sym (h.named n) ∙ none_named seen.lns n (h.lns ∙ none)));
       opened = h.opened ∙ sym (passed_over is_open before l refl);
+      rung = h.rung ∙ sym (passed_over is_ring before l refl);
     }
 saw_more before seen (OpenUp node) h e =
     let l : Line = OpenUp node in
@@ -81,6 +90,16 @@ saw_more before seen (OpenUp node) h e =
       lns = h.lns ∙ sym (passed_over is_lns before l refl);
       named = λ n. h.named n ∙ sym (passed_over (declares n) before l refl);
       opened = sym (passed is_open before l refl);
+      rung = h.rung ∙ sym (passed_over is_ring before l refl);
+    }
+saw_more before seen (Ring node port) h e =
+    let l : Line = Ring node port in
+    record {
+      lac = h.lac ∙ sym (passed_over is_lac before l refl);
+      lns = h.lns ∙ sym (passed_over is_lns before l refl);
+      named = λ n. h.named n ∙ sym (passed_over (declares n) before l refl);
+      opened = h.opened ∙ sym (passed_over is_open before l refl);
+      rung = sym (passed is_ring before l refl);
     }
 
 -- ---- the loop over the lines

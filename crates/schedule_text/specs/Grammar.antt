@@ -2,10 +2,15 @@
 use Rattle.std.specs.Prelude.{◌≡◌, ℕ, ◌+◌, ◌<◌, ◌≤◌, ◌⊎◌, Bool, true, false, List, [], ◌∷◌, ◌++◌, length, codes, count_by, Contains}
 use Rattle.std.specs.List.{flat_map, AllByRecursion}
 use Rattle.std.specs.Fmt.{decimal}
+use Rattle.hex.specs.Hex.{encode_lower, IsBytes}
 use Rattle.schedule_text.specs.declared.line.Line.{Line}
-use Rattle.schedule_text.specs.declared.line.Line.TheVariants.{Remark, Lac, Lns, OpenUp, Deliver}
+use Rattle.schedule_text.specs.declared.line.Line.TheVariants.{Remark, Lac, Lns, OpenUp, Ring, FromSub, Down, Deliver}
 use Rattle.schedule_text.specs.declared.error.ScheduleError.{ScheduleError}
 use Rattle.schedule_text.specs.declared.error.ScheduleError.TheVariants.{BadLine, NoMemory}
+
+-- the spelling of a frame of a call; each byte of the frame is two digits of hex, with letters in lower case
+abbrev pub call_text : ℕ → ℕ → List ℕ → List ℕ
+call_text node session frame = decimal node ++ codes " " ++ decimal session ++ codes " " ++ encode_lower frame
 
 -- the spelling of a line, without the line feed that ends it; words are parted by one space
 abbrev pub line_text : Line → List ℕ
@@ -13,6 +18,9 @@ line_text (Remark text) = codes "#" ++ text
 line_text (Lac node lns) = codes "lac " ++ decimal node ++ codes " " ++ decimal lns ++ codes " - plain"
 line_text (Lns node) = codes "lns " ++ decimal node ++ codes " -"
 line_text (OpenUp node) = codes "open " ++ decimal node
+line_text (Ring node port) = codes "ring " ++ decimal node ++ codes " " ++ decimal port
+line_text (FromSub node session frame) = codes "data " ++ call_text node session frame
+line_text (Down node session frame) = codes "down " ++ call_text node session frame
 line_text (Deliver packet) = codes "deliver " ++ decimal packet
 
 -- a printable ASCII byte
@@ -21,6 +29,16 @@ IsPrintable c = (32 ≤ c) × (c ≤ 126)
 
 abbrev pub IsNode : ℕ → Type 0
 IsNode n = (1 ≤ n) × (n ≤ 255)
+
+abbrev pub IsPort : ℕ → Type 0
+IsPort n = (1 ≤ n) × (n ≤ 65535)
+
+abbrev pub IsSession : ℕ → Type 0
+IsSession n = (1 ≤ n) × (n ≤ 65535)
+
+-- a PPP frame from its protocol field on, which has two bytes; PPPoE's six leave it 1494 of the 1500 that Ethernet carries
+abbrev pub IsFrame : List ℕ → Type 0
+IsFrame frame = (2 ≤ length frame) × (length frame ≤ 1494) × IsBytes frame
 
 abbrev pub IsPacket : ℕ → Type 0
 IsPacket n = (1 ≤ n) × (n ≤ 4294967295)
@@ -31,6 +49,9 @@ FitsLine (Remark text) = AllByRecursion IsPrintable text
 FitsLine (Lac node lns) = IsNode node × IsNode lns
 FitsLine (Lns node) = IsNode node
 FitsLine (OpenUp node) = IsNode node
+FitsLine (Ring node port) = IsNode node × IsPort port
+FitsLine (FromSub node session frame) = IsNode node × IsSession session × IsFrame frame
+FitsLine (Down node session frame) = IsNode node × IsSession session × IsFrame frame
 FitsLine (Deliver packet) = IsPacket packet
 
 abbrev pub AreLines : List Line → Type 0
@@ -58,11 +79,16 @@ abbrev pub is_open : Line → Bool
 is_open (OpenUp node) = true
 is_open l = false
 
--- one LAC, one LNS and one opening at most, and a LAC names an LNS that was declared before it
+abbrev pub is_ring : Line → Bool
+is_ring (Ring node port) = true
+is_ring l = false
+
+-- one LAC, one LNS, one opening and one ring at most, and a LAC names an LNS that was declared before it
 pub record IsOrderly (lines : List Line) : Type 0 where
   pub one_lac : count_by is_lac lines ≤ 1
   pub one_lns : count_by is_lns lines ≤ 1
   pub one_open : count_by is_open lines ≤ 1
+  pub one_ring : count_by is_ring lines ≤ 1
   pub declared : (before after : List Line) (node lns : ℕ) → lines ≡ before ++ Lac node lns ∷ after → Contains before (Lns lns)
 
 -- ---- schedules

@@ -3,11 +3,13 @@ use Rattle.std.specs.Prelude.{◌≡◌, ℕ, suc, ◌+◌, Bool, true, false, n
 use Rattle.std.specs.List.{list_all, list_any}
 use Rattle.std.specs.Str.{bytes_eq, all_ascii_digits}
 use Rattle.std.specs.Str.Parse.{digits_value}
+use Rattle.hex.specs.Hex.{decode_of, encode_lower}
+use Rattle.hex.specs.declared.error.FromHexError.{FromHexError}
 use Rattle.schedule_text.specs.declared.line.Line.{Line}
-use Rattle.schedule_text.specs.declared.line.Line.TheVariants.{Remark, Lac, Lns, OpenUp, Deliver}
+use Rattle.schedule_text.specs.declared.line.Line.TheVariants.{Remark, Lac, Lns, OpenUp, Ring, FromSub, Down, Deliver}
 use Rattle.schedule_text.specs.declared.error.ScheduleError.{ScheduleError}
 use Rattle.schedule_text.specs.declared.error.ScheduleError.TheVariants.{BadLine, NoMemory}
-use Rattle.schedule_text.specs.Grammar.{is_lac, is_lns, is_open}
+use Rattle.schedule_text.specs.Grammar.{is_lac, is_lns, is_open, is_ring}
 
 -- what a call that failed tells of the reading: nothing where memory was wanting
 abbrev pub Told : {Y : Type 0} → ScheduleError → Result Y ScheduleError → Type 0
@@ -55,8 +57,24 @@ number_of least most word =
 abbrev pub node_of : List ℕ → Option ℕ
 node_of word = number_of 1 255 word
 
+abbrev pub port_of : List ℕ → Option ℕ
+port_of word = number_of 1 65535 word
+
+abbrev pub session_of : List ℕ → Option ℕ
+session_of word = number_of 1 65535 word
+
 abbrev pub packet_of : List ℕ → Option ℕ
 packet_of word = number_of 1 4294967295 word
+
+-- what a word was decoded to, where it has the length of a frame; the word is its spelling, so no letter is upper case
+abbrev pub frame_from : List ℕ → Result (List ℕ) FromHexError → Option (List ℕ)
+frame_from word (Ok frame) =
+    if nat_le 2 (length frame) && nat_le (length frame) 1494 && bytes_eq (encode_lower frame) word then Some frame else None
+frame_from word (Err e) = None
+
+-- the frame that a word spells
+unfoldable pub frame_of : List ℕ → Option (List ℕ)
+frame_of word = frame_from word (decode_of word)
 
 -- what follows the word of each kind of line, and a space
 unfoldable pub lac_of : List ℕ → Option Line
@@ -74,16 +92,40 @@ lns_of words =
 unfoldable pub open_of : List ℕ → Option Line
 open_of words = node_of words >>= λ node. Some (OpenUp node)
 
+unfoldable pub ring_of : List ℕ → Option Line
+ring_of words =
+    cut 32 words >>= λ first. node_of first.0 >>= λ node. port_of first.1 >>= λ port. Some (Ring node port)
+
+-- a node, a call of it, and the word of a frame
+unfoldable pub call_of : List ℕ → Option (ℕ × ℕ × List ℕ)
+call_of words =
+    cut 32 words >>= λ first. cut 32 first.1 >>= λ second.
+    node_of first.0 >>= λ node. session_of second.0 >>= λ session. Some (node, session, second.1)
+
+unfoldable pub from_sub_of : List ℕ → Option Line
+from_sub_of words = call_of words >>= λ call. frame_of call.2 >>= λ frame. Some (FromSub call.0 call.1 frame)
+
+unfoldable pub down_of : List ℕ → Option Line
+down_of words = call_of words >>= λ call. frame_of call.2 >>= λ frame. Some (Down call.0 call.1 frame)
+
 unfoldable pub deliver_of : List ℕ → Option Line
 deliver_of words = packet_of words >>= λ packet. Some (Deliver packet)
 
-unfoldable pub words_of : List ℕ → List ℕ → Option Line
-words_of kind words =
+-- the line of a kind that holds no bytes
+unfoldable pub plain_of : List ℕ → List ℕ → Option Line
+plain_of kind words =
     if bytes_eq kind (codes "lac") then lac_of words
     else if bytes_eq kind (codes "lns") then lns_of words
     else if bytes_eq kind (codes "open") then open_of words
+    else if bytes_eq kind (codes "ring") then ring_of words
     else if bytes_eq kind (codes "deliver") then deliver_of words
     else None
+
+unfoldable pub words_of : List ℕ → List ℕ → Option Line
+words_of kind words =
+    if bytes_eq kind (codes "data") then from_sub_of words
+    else if bytes_eq kind (codes "down") then down_of words
+    else plain_of kind words
 
 abbrev pub is_printable : ℕ → Bool
 is_printable c = nat_le 32 c && nat_le c 126
@@ -117,6 +159,7 @@ abbrev pub may_follow : List Line → Line → Bool
 may_follow before (Lac node lns) = not (list_any is_lac before) && list_any (declares lns) before
 may_follow before (Lns node) = not (list_any is_lns before)
 may_follow before (OpenUp node) = not (list_any is_open before)
+may_follow before (Ring node port) = not (list_any is_ring before)
 may_follow before l = true
 
 -- how many lines stand before the first that may not follow those before it

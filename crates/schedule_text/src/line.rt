@@ -11,15 +11,43 @@ use wire_base::{Bytes, NoMemory};
 #[derive(Debug, Drop)]
 pub enum Line {
     /// A remark, which means nothing: the bytes behind the `#`, each of which is printable ASCII.
-    Remark { text: Bytes },
+    Remark {
+        text: Bytes,
+    },
     /// A node that is a LAC, and the node of the LNS that it opens tunnels to.
-    Lac { node: u8, lns: u8 },
+    Lac {
+        node: u8,
+        lns: u8,
+    },
     /// A node that is an LNS.
-    Lns { node: u8 },
+    Lns {
+        node: u8,
+    },
     /// A LAC opens a tunnel.
-    OpenUp { node: u8 },
+    OpenUp {
+        node: u8,
+    },
+    /// A port of a LAC rings, from 1 to 65535.
+    Ring {
+        node: u8,
+        port: u16,
+    },
+    /// The subscriber of a LAC's call sends a PPP frame of 2 to 1494 bytes, from its protocol field on.
+    FromSub {
+        node: u8,
+        session: u16,
+        frame: Bytes,
+    },
+    /// The network sends a PPP frame of 2 to 1494 bytes down an LNS's call, from its protocol field on.
+    Down {
+        node: u8,
+        session: u16,
+        frame: Bytes,
+    },
     /// A packet that was sent reaches its addressee.
-    Deliver { packet: u32 },
+    Deliver {
+        packet: u32,
+    },
 }
 
 /// A list of lines, which contracts see as a list.

@@ -1,11 +1,12 @@
 //! Reading one line, without its line feed.
 
-ghost use Rattle.std.specs.Prelude.{◌≡◌, IfOk};
+ghost use Rattle.std.specs.Prelude.{◌≡◌, MatchOption, IfOk, Ok, Some, None};
 ghost use Rattle.std.specs.List.{list_all};
-ghost use Rattle.schedule_text.specs.Reading.{lac_of, lns_of, open_of, deliver_of, words_of, is_printable, line_of, node_of, packet_of};
+ghost use Rattle.schedule_text.specs.Reading.{lac_of, lns_of, open_of, ring_of, call_of, from_sub_of, down_of, deliver_of, plain_of, words_of, is_printable, line_of, node_of, port_of, session_of, packet_of, frame_from, frame_of};
 
 use crate::line::Line;
 use crate::parts::{read_number, split_once};
+use hex::FromHexError;
 use std::alloc::Global;
 use wire_base::{Bytes, NoMemory};
 
@@ -14,6 +15,43 @@ fn read_node(word: &[u8]) -> Option<u8>
 {
     let node = read_number(word, 1, 255)?;
     Some(node as u8)
+}
+
+/// A port, or a session.
+fn read_u16(word: &[u8]) -> Option<u16>
+    ensures port { result ≡ port_of word.now }
+    ensures session { result ≡ session_of word.now }
+{
+    let number = read_number(word, 1, 65535)?;
+    Some(number as u16)
+}
+
+/// The frame, where it has the length of one and the word is its spelling. A decoder takes upper case too, so the frame
+/// is spelled again.
+fn keep_frame(alloc: Global, word: &[u8], frame: &[u8]) -> Result<Option<Bytes>, NoMemory>
+    ensures { IfOk result (λ f. f ≡ frame_from word.now (Ok frame.now)) }
+{
+    if frame.len() < 2 || 1494 < frame.len() {
+        return Ok(None);
+    }
+    let spelling = hex::encode(alloc, frame)?;
+    if spelling.as_bytes() != word {
+        return Ok(None);
+    }
+    let frame = Bytes::from_slice(alloc, frame)?;
+    Ok(Some(frame))
+}
+
+/// The frame that a word spells.
+#[tactic(auto, unfolding(crate::specs::Reading::frame_of))]
+fn read_frame(alloc: Global, word: &[u8]) -> Result<Option<Bytes>, NoMemory>
+    ensures { IfOk result (λ f. f ≡ frame_of word.now) }
+{
+    match hex::decode(alloc, word) {
+        Ok(frame) => keep_frame(alloc, word, frame.as_slice()),
+        Err(FromHexError::OutOfMemory) => Err(NoMemory),
+        Err(_) => Ok(None),
+    }
 }
 
 /// `N M - plain`, behind `lac `.
@@ -53,6 +91,65 @@ fn read_open(words: &[u8]) -> Option<Line>
     Some(Line::OpenUp { node })
 }
 
+/// `N K`, behind `ring `.
+#[tactic(auto, unfolding(crate::specs::Reading::ring_of))]
+fn read_ring(words: &[u8]) -> Option<Line>
+    ensures { result ≡ ring_of words.now }
+{
+    let (node, port) = split_once(words, b' ')?;
+    let node = read_node(node)?;
+    let port = read_u16(port)?;
+    Some(Line::Ring { node, port })
+}
+
+/// A node, a session of it, and the word of a frame.
+#[tactic(auto, unfolding(crate::specs::Reading::call_of))]
+fn read_call(words: &[u8]) -> Option<(u8, u16, &[u8])>
+    ensures { MatchOption result (call_of words.now ≡ None) (λ c. call_of words.now ≡ Some (c.0, c.1, c.2.now)) }
+{
+    let (node, words) = split_once(words, b' ')?;
+    let (session, frame) = split_once(words, b' ')?;
+    let node = read_node(node)?;
+    let session = read_u16(session)?;
+    Some((node, session, frame))
+}
+
+/// `N S HEX`, behind `data `.
+#[tactic(auto, unfolding(crate::specs::Reading::from_sub_of))]
+fn read_from_sub(alloc: Global, words: &[u8]) -> Result<Option<Line>, NoMemory>
+    ensures { IfOk result (λ l. l ≡ from_sub_of words.now) }
+{
+    let Some((node, session, word)) = read_call(words) else {
+        return Ok(None);
+    };
+    let Some(frame) = read_frame(alloc, word)? else {
+        return Ok(None);
+    };
+    Ok(Some(Line::FromSub {
+        node,
+        session,
+        frame,
+    }))
+}
+
+/// `N S HEX`, behind `down `.
+#[tactic(auto, unfolding(crate::specs::Reading::down_of))]
+fn read_down(alloc: Global, words: &[u8]) -> Result<Option<Line>, NoMemory>
+    ensures { IfOk result (λ l. l ≡ down_of words.now) }
+{
+    let Some((node, session, word)) = read_call(words) else {
+        return Ok(None);
+    };
+    let Some(frame) = read_frame(alloc, word)? else {
+        return Ok(None);
+    };
+    Ok(Some(Line::Down {
+        node,
+        session,
+        frame,
+    }))
+}
+
 /// `P`, behind `deliver `.
 #[tactic(auto, unfolding(crate::specs::Reading::deliver_of))]
 fn read_deliver(words: &[u8]) -> Option<Line>
@@ -62,10 +159,10 @@ fn read_deliver(words: &[u8]) -> Option<Line>
     Some(Line::Deliver { packet })
 }
 
-/// The line of a kind, by the words behind that of the kind.
-#[tactic(auto, unfolding(crate::specs::Reading::words_of))]
-fn read_words(kind: &[u8], words: &[u8]) -> Option<Line>
-    ensures { result ≡ words_of kind.now words.now }
+/// The line of a kind that holds no bytes, by the words behind that of the kind.
+#[tactic(auto, unfolding(crate::specs::Reading::plain_of))]
+fn read_plain(kind: &[u8], words: &[u8]) -> Option<Line>
+    ensures { result ≡ plain_of kind.now words.now }
 {
     if kind == b"lac".as_slice() {
         read_lac(words)
@@ -73,10 +170,26 @@ fn read_words(kind: &[u8], words: &[u8]) -> Option<Line>
         read_lns(words)
     } else if kind == b"open".as_slice() {
         read_open(words)
+    } else if kind == b"ring".as_slice() {
+        read_ring(words)
     } else if kind == b"deliver".as_slice() {
         read_deliver(words)
     } else {
         None
+    }
+}
+
+/// The line of a kind, by the words behind that of the kind.
+#[tactic(auto, unfolding(crate::specs::Reading::words_of))]
+fn read_words(alloc: Global, kind: &[u8], words: &[u8]) -> Result<Option<Line>, NoMemory>
+    ensures { IfOk result (λ l. l ≡ words_of kind.now words.now) }
+{
+    if kind == b"data".as_slice() {
+        read_from_sub(alloc, words)
+    } else if kind == b"down".as_slice() {
+        read_down(alloc, words)
+    } else {
+        Ok(read_plain(kind, words))
     }
 }
 
@@ -101,5 +214,5 @@ pub(crate) fn read_line(alloc: Global, bytes: &[u8]) -> Result<Option<Line>, NoM
     let Some((kind, words)) = split_once(bytes, b' ') else {
         return Ok(None);
     };
-    Ok(read_words(kind, words))
+    read_words(alloc, kind, words)
 }

@@ -73,8 +73,9 @@ fn read_all(alloc: Global, text: &[u8]) -> Result<Lines, ScheduleError>
 /// The lines of a schedule, in time and memory that grow with the text alone.
 ///
 /// The text is a list of lines in ASCII, each ended by a line feed, which the last may lack; the empty text has none.
-/// Words are parted by one space, and numbers are decimal without sign or leading zero. The error tells the first line
-/// that isn't in the grammar or that may not stand behind those before it, counted from 1.
+/// Words are parted by one space, numbers are decimal without sign or leading zero, and frames are pairs of hex digits in
+/// lower case. The error tells the first line that isn't in the grammar or that may not stand behind those before it,
+/// counted from 1.
 pub fn read_schedule(alloc: Global, text: &[u8]) -> Result<Lines, ScheduleError>
     // What is read is a schedule.
     ensures found { IfOk result (IsSchedule text.now) }

@@ -12,6 +12,7 @@ struct Seen {
     lac: bool,
     lns: Option<u8>,
     opened: bool,
+    rung: bool,
 }
 
 impl Seen {
@@ -20,10 +21,12 @@ impl Seen {
         ensures { result ≡ allows self.now line.now }
     {
         match line {
-            Line::Remark { .. } | Line::Deliver { .. } => true,
+            Line::Remark { .. } | Line::FromSub { .. } | Line::Down { .. } | Line::Deliver { .. } =>
+                true,
             Line::Lac { lns, .. } => !self.lac && self.lns == Some(*lns),
             Line::Lns { .. } => self.lns.is_none(),
             Line::OpenUp { .. } => !self.opened,
+            Line::Ring { .. } => !self.rung,
         }
     }
 
@@ -32,10 +35,12 @@ impl Seen {
         ensures { self.new ≡ seen_with self.old line.now }
     {
         match line {
-            Line::Remark { .. } | Line::Deliver { .. } => {}
+            Line::Remark { .. } | Line::FromSub { .. } | Line::Down { .. } | Line::Deliver { .. } =>
+                {}
             Line::Lac { .. } => self.lac = true,
             Line::Lns { node } => self.lns = Some(*node),
             Line::OpenUp { .. } => self.opened = true,
+            Line::Ring { .. } => self.rung = true,
         }
     }
 }
@@ -49,6 +54,7 @@ pub(crate) fn kept(lines: &[Line]) -> usize
         lac: false,
         lns: None,
         opened: false,
+        rung: false,
     };
     for (at, line) in lines.iter().enumerate() {
         if !seen.allows(line) {

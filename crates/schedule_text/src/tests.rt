@@ -2,11 +2,10 @@ use super::*;
 use std::test::Fail;
 
 /// The number of the first bad line, where there is one.
-fn bad_line(rt: &HostRuntime, text: &[u8]) -> Result<Option<u64>, ScheduleError> {
+fn bad_line(rt: &HostRuntime, text: &[u8]) -> Option<u64> {
     match read_schedule(rt.alloc(), text) {
-        Ok(_) => Ok(None),
-        Err(ScheduleError::BadLine { line }) => Ok(Some(line)),
-        Err(e) => Err(e),
+        Err(ScheduleError::BadLine { line }) => Some(line),
+        _ => None,
     }
 }
 
@@ -21,11 +20,9 @@ fn a_schedule_is_read(rt: HostRuntime) -> Result<(), Fail> {
     assert!(rt; matches!(&lines[2], Line::OpenUp { node: 1 }));
     assert!(rt; matches!(&lines[3], Line::Deliver { packet: 1 }));
     assert!(rt; matches!(&lines[4], Line::Deliver { packet: 2 }));
-    let remark = match &lines[5] {
-        Line::Remark { text } => Some(text.as_slice()),
-        _ => None,
-    };
-    assert_eq!(rt; remark, Some(b" a b".as_slice()));
+    if let Line::Remark { text } = &lines[5] {
+        assert_eq!(rt; text.as_slice(), b" a b".as_slice());
+    }
     assert!(rt;
         matches!(
             &lines[6],
@@ -39,7 +36,7 @@ fn a_schedule_is_read(rt: HostRuntime) -> Result<(), Fail> {
 
 #[test]
 fn texts_and_their_first_bad_lines(rt: HostRuntime) {
-    let rows: [(&[u8], Option<u64>); 30] = [
+    let rows: [(&[u8], Option<u64>); 50] = [
         (b"", None),
         (b"#", None),
         (b"#\n", None),
@@ -70,8 +67,81 @@ fn texts_and_their_first_bad_lines(rt: HostRuntime) {
         (b"lac 1 2 - plain\nlns 2 -\n", Some(1)),
         (b"lns 3 -\nlac 1 2 - plain\n", Some(2)),
         (b"lns 2 -\nlac 1 2 - hide\n", Some(2)),
+        (b"ring 1 1", None),
+        (b"ring 255 65535\n", None),
+        (b"ring 1 0", Some(1)),
+        (b"ring 1 65536", Some(1)),
+        (b"ring 1", Some(1)),
+        (b"ring 1 1\n#\nring 1 2", Some(3)),
+        (b"data 1 1 0021aa", None),
+        (b"data 1 1 0021\ndata 1 1 0021", None),
+        (b"down 2 1 002155", None),
+        (b"down 2 65535 c021", None),
+        (b"data 1 0 0021aa", Some(1)),
+        (b"data 0 1 0021aa", Some(1)),
+        (b"data 1 1 00", Some(1)),
+        (b"data 1 1 ", Some(1)),
+        (b"data 1 1 0021AA", Some(1)),
+        (b"data 1 1 002", Some(1)),
+        (b"data 1 1 0021ag", Some(1)),
+        (b"data 1 1 0021 aa", Some(1)),
+        (b"down 2 1 00", Some(1)),
+        (b"down 2 1 0021AA", Some(1)),
     ];
     for (text, wanted) in rows {
-        assert_eq!(rt; bad_line(&rt, text), Ok(wanted));
+        assert_eq!(rt; bad_line(&rt, text), wanted);
     }
+}
+
+#[test]
+fn frames_are_read(rt: HostRuntime) -> Result<(), Fail> {
+    let text = b"ring 1 65535\ndata 1 65535 0021aa\ndown 255 1 0021ff00";
+    let lines = read_schedule(rt.alloc(), text).ok().ok_or("a schedule")?;
+    assert_eq!(rt; lines.len(), 3);
+    let lines = lines.as_slice();
+    assert!(rt;
+        matches!(
+            &lines[0],
+            Line::Ring {
+                node: 1,
+                port: 65535
+            }
+        )
+    );
+    let Line::FromSub {
+        node: 1,
+        session: 65535,
+        frame,
+    } = &lines[1]
+    else {
+        return Err(Fail::from("a frame of a subscriber"));
+    };
+    assert_eq!(rt; frame.as_slice(), b"\x00\x21\xaa".as_slice());
+    let Line::Down {
+        node: 255,
+        session: 1,
+        frame,
+    } = &lines[2]
+    else {
+        return Err(Fail::from("a frame of the network"));
+    };
+    assert_eq!(rt; frame.as_slice(), b"\x00\x21\xff\x00".as_slice());
+    Ok(())
+}
+
+/// Whether a frame that so many zeros spell is read.
+fn is_read(rt: &HostRuntime, digits: usize) -> Result<bool, Fail> {
+    let mut text = Vec::from_slice(rt.alloc(), b"data 1 1 ")?;
+    for _ in 0..digits {
+        text.push(b'0')?;
+    }
+    Ok(read_schedule(rt.alloc(), text.as_slice()).is_ok())
+}
+
+#[test]
+fn frames_have_up_to_1494_bytes(rt: HostRuntime) -> Result<(), Fail> {
+    assert!(rt; is_read(&rt, 2 * 1494)?);
+    assert!(rt; !is_read(&rt, 2 * 1494 + 1)?);
+    assert!(rt; !is_read(&rt, 2 * 1495)?);
+    Ok(())
 }

@@ -6,8 +6,10 @@
 
 mod end;
 mod reading;
+mod tunnel;
 mod turn;
 
 pub use end::{End, Given};
-pub use protocol_model::{Config, Event, Note, Origin, Out, Role, Tunnel};
+pub use protocol_model::{Call, Config, Event, Note, Origin, Out, Role};
+pub use tunnel::Tunnel;
 pub use turn::{Notes, Outputs};

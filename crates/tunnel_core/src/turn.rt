@@ -1,13 +1,17 @@
 //! A tunnel in a step, with what the step gives.
 
-ghost use Rattle.std.specs.Prelude.{◌≡◌, ◌+◌, ◌-◌, ◌^◌, ◌<◌, IfOk, OnOk};
+ghost use Rattle.std.specs.Prelude.{◌≡◌, ◌<◌, IfOk, OnOk, IsTrue};
+ghost use Rattle.id_table.specs.Ids.{at};
 ghost use Rattle.control_message.specs.Pairs.{IsWritten, IsWrittenOpening};
-ghost use Rattle.protocol_model.specs.Turn.{turn_of, with_output, with_note, put, acknowledge, took, learned, learned_by, in_state, opening_of, opens_with, opens, made_by, accepts_with, accepts, event_of, is_served, acts, takes, hears, receives, on_wire};
+ghost use Rattle.reliable_channel.specs.Channel.{may_count};
+ghost use Rattle.protocol_model.specs.Turn.{turn_of, with_output, with_note, with_call, with_new, put, acknowledge, took, learned, learned_by, in_state, opening_of, request_of, connection, opens_with, opens, made_by, accepts_with, accepts, requests, requests_at, requests_all, none_waiting, requests_waiting, waits, is_served, acts, takes, made_call, makes, connects, comes_up};
 
+use crate::tunnel::Tunnel;
+use call_fsm::CallState;
 use control_message::{Failover, Message, Opening, has_room, write_message};
-use id_table::Row;
+use id_table::{Row, Table};
 use l2tp_header::write_control;
-use protocol_model::{Config, Note, Origin, Out, Tunnel, host_name};
+use protocol_model::{Call, Config, Note, Origin, Out, calling_number, host_name, twelve_digits};
 use std::alloc::Global;
 use std::marker::Model;
 use tunnel_fsm::{TunnelAction, TunnelEvent, TunnelState, advance};
@@ -19,13 +23,18 @@ pub type Outputs = Row<Out>;
 /// What a step did, in order.
 pub type Notes = Row<Note>;
 
+/// Calls with their sessions.
+pub(crate) type Changed = Row<(u16, Call)>;
+
 /// A tunnel in a step, with what the step gave so far.
 #[derive(Drop)]
 pub(crate) struct Turn {
     alloc: Global,
-    tunnel: Tunnel,
-    outputs: Outputs,
-    notes: Notes,
+    pub(crate) tunnel: Tunnel,
+    pub(crate) added: Option<(u16, Call)>,
+    pub(crate) changed: Changed,
+    pub(crate) outputs: Outputs,
+    pub(crate) notes: Notes,
 }
 
 impl Model for Turn {
@@ -33,14 +42,7 @@ impl Model for Turn {
 
     ghost Value = { Known };
 
-    ghost view = { λ t. record { tunnel = t.tunnel; outputs = t.outputs; notes = t.notes } };
-}
-
-/// A number as it stands on the wire, modulo 65536 (RFC 2661 section 5.8).
-fn on_wire(number: u64) -> u16
-    ensures { result ≡ on_wire number }
-{
-    (number % 65536) as u16
+    ghost view = { λ t. record { tunnel = t.tunnel; added = t.added; changed = t.changed; outputs = t.outputs; notes = t.notes } };
 }
 
 impl Turn {
@@ -50,17 +52,11 @@ impl Turn {
         Turn {
             alloc,
             tunnel,
+            added: None,
+            changed: Changed::new(alloc),
             outputs: Outputs::new(alloc),
             notes: Notes::new(alloc),
         }
-    }
-
-    pub(crate) fn into_parts(self) -> (Tunnel, Outputs, Notes)
-        ensures tunnel { result.0 ≡ self.tunnel }
-        ensures outputs { result.1 ≡ self.outputs }
-        ensures notes { result.2 ≡ self.notes }
-    {
-        (self.tunnel, self.outputs, self.notes)
     }
 
     #[tactic(auto, unfolding(protocol_model::specs::Turn::with_output))]
@@ -71,10 +67,24 @@ impl Turn {
     }
 
     #[tactic(auto, unfolding(protocol_model::specs::Turn::with_note))]
-    fn note(&mut self, note: Note) -> Result<(), NoMemory>
+    pub(crate) fn note(&mut self, note: Note) -> Result<(), NoMemory>
         ensures { OnOk result (self.new ≡ with_note note self.old) }
     {
         self.notes.push(note)
+    }
+
+    #[tactic(auto, unfolding(protocol_model::specs::Turn::with_call))]
+    fn change(&mut self, session: u16, call: Call) -> Result<(), NoMemory>
+        ensures { OnOk result (self.new ≡ with_call session call self.old) }
+    {
+        self.changed.push((session, call))
+    }
+
+    #[tactic(auto, unfolding(protocol_model::specs::Turn::with_new))]
+    pub(crate) fn add(&mut self, session: u16, call: Call)
+        ensures { self.new ≡ with_new session call self.old }
+    {
+        self.added = Some((session, call));
     }
 
     /// Gives a message to the channel, which sends it at once.
@@ -83,39 +93,40 @@ impl Turn {
         requires { IsWritten message }
         ensures { OnOk result (self.new ≡ put session message self.old) }
     {
-        let tunnel = self.tunnel;
-        if tunnel.sent == u64::MAX {
+        if !self.tunnel.channel.may_send() {
             return self.output(Out::Drop { why: Why::Queue });
         }
         let mut pairs = Bytes::new(self.alloc);
         write_message(&mut pairs, &message)?;
         has_room();
+        let (ns, nr) = self.tunnel.channel.wire();
         let mut bytes = Bytes::new(self.alloc);
         write_control(
             &mut bytes,
-            tunnel.remote,
+            self.tunnel.remote,
             session,
-            on_wire(tunnel.sent),
-            on_wire(tunnel.taken),
+            ns,
+            nr,
             pairs.as_slice(),
         )?;
+        let tunnel = self.tunnel.local;
         let origin = Origin::Control {
-            tunnel: tunnel.local,
-            ns: tunnel.sent,
-            nr: tunnel.taken,
+            tunnel,
+            ns: self.tunnel.channel.sent_count(),
+            nr: self.tunnel.channel.taken_count(),
             empty: false,
         };
         self.outputs.push(Out::Send {
-            peer: tunnel.peer,
+            peer: self.tunnel.peer,
             bytes,
             origin,
         })?;
         self.notes.push(Note::Put {
-            tunnel: tunnel.local,
+            tunnel,
             session,
             message,
         })?;
-        self.tunnel.sent += 1;
+        self.tunnel.channel.send();
         Ok(())
     }
 
@@ -124,24 +135,17 @@ impl Turn {
     fn acknowledge(&mut self) -> Result<(), NoMemory>
         ensures { OnOk result (self.new ≡ acknowledge self.old) }
     {
-        let tunnel = self.tunnel;
+        let (ns, nr) = self.tunnel.channel.wire();
         let mut bytes = Bytes::new(self.alloc);
-        write_control(
-            &mut bytes,
-            tunnel.remote,
-            0,
-            on_wire(tunnel.sent),
-            on_wire(tunnel.taken),
-            &[],
-        )?;
+        write_control(&mut bytes, self.tunnel.remote, 0, ns, nr, &[])?;
         let origin = Origin::Control {
-            tunnel: tunnel.local,
-            ns: tunnel.sent,
-            nr: tunnel.taken,
+            tunnel: self.tunnel.local,
+            ns: self.tunnel.channel.sent_count(),
+            nr: self.tunnel.channel.taken_count(),
             empty: true,
         };
         self.output(Out::Send {
-            peer: tunnel.peer,
+            peer: self.tunnel.peer,
             bytes,
             origin,
         })
@@ -150,10 +154,10 @@ impl Turn {
     /// Takes the next message of the peer.
     #[tactic(auto, unfolding(protocol_model::specs::Turn::took))]
     fn take(&mut self) -> Result<(), NoMemory>
-        requires { self.old.tunnel.taken < 2 ^ 64 - 1 }
+        requires { IsTrue (may_count self.old.tunnel.channel.taken) }
         ensures { OnOk result (self.new ≡ took self.old) }
     {
-        self.tunnel.taken += 1;
+        self.tunnel.channel.take();
         self.note(Note::Took {
             tunnel: self.tunnel.local,
         })
@@ -215,7 +219,7 @@ impl Turn {
     /// Makes a new tunnel by the SCCRQ of a peer that assigned this id.
     #[tactic(auto, unfolding(protocol_model::specs::Turn::made_by))]
     fn make_by(&mut self, remote: u16) -> Result<(), NoMemory>
-        requires { self.old.tunnel.taken < 2 ^ 64 - 1 }
+        requires { IsTrue (may_count self.old.tunnel.channel.taken) }
         ensures { OnOk result (self.new ≡ made_by remote self.old) }
     {
         let tunnel = self.tunnel.local;
@@ -227,7 +231,7 @@ impl Turn {
     #[tactic(auto, unfolding(protocol_model::specs::Turn::accepts_with))]
     fn accept_with(&mut self, opening: Opening, remote: u16) -> Result<(), NoMemory>
         requires written { IsWrittenOpening opening }
-        requires room { self.old.tunnel.taken < 2 ^ 64 - 1 }
+        requires room { IsTrue (may_count self.old.tunnel.channel.taken) }
         ensures { OnOk result (self.new ≡ accepts_with opening remote self.old) }
     {
         let (next, _) = advance(self.tunnel.state, TunnelEvent::SccrqAcc);
@@ -240,32 +244,78 @@ impl Turn {
     #[tactic(auto, unfolding(protocol_model::specs::Turn::accepts))]
     pub(crate) fn accept(&mut self, config: &Config, remote: u16) -> Result<(), NoMemory>
         requires local { 0 < self.old.tunnel.local }
-        requires room { self.old.tunnel.taken < 2 ^ 64 - 1 }
+        requires room { IsTrue (may_count self.old.tunnel.channel.taken) }
         ensures { OnOk result (self.new ≡ accepts config.now remote self.old) }
     {
         let opening = opening_of(self.alloc, config, self.tunnel.local)?;
         self.accept_with(opening, remote)
     }
 
+    /// Asks for a call that waits.
+    #[tactic(auto, unfolding(protocol_model::specs::Turn::requests))]
+    pub(crate) fn request(&mut self, session: u16, call: &Call) -> Result<(), NoMemory>
+        ensures { OnOk result (self.new ≡ requests session call.now self.old) }
+    {
+        let request = request_of(self.alloc, session, call.port)?;
+        let mut asked = *call;
+        asked.state = CallState::WaitReply;
+        self.change(session, asked)?;
+        self.put(0, request)
+    }
+
+    #[tactic(auto, unfolding(protocol_model::specs::Turn::requests_all, protocol_model::specs::Turn::requests_at))]
+    fn request_all(&mut self, sessions: &[u16], calls: &Table<Call>) -> Result<(), NoMemory>
+        ensures { OnOk result (self.new ≡ requests_all sessions.now calls.now self.old) }
+    {
+        for session in sessions {
+            if let Some(call) = calls.get(u32::from(*session)) {
+                self.request(*session, call)?;
+            }
+        }
+        Ok(())
+    }
+
+    /// Asks for each call that waits for the tunnel.
+    #[tactic(auto, unfolding(protocol_model::specs::Turn::requests_waiting, protocol_model::specs::Turn::none_waiting))]
+    fn request_waiting(&mut self, calls: &Table<Call>) -> Result<(), NoMemory>
+        ensures { OnOk result (self.new ≡ requests_waiting calls.now self.old) }
+    {
+        let waiting = std::mem::replace(&mut self.tunnel.waiting, Row::new(self.alloc));
+        self.request_all(waiting.as_slice(), calls)
+    }
+
+    /// Has one more call wait for the tunnel.
+    #[tactic(auto, unfolding(protocol_model::specs::Turn::waits))]
+    pub(crate) fn wait(&mut self, session: u16) -> Result<(), NoMemory>
+        ensures { OnOk result (self.new ≡ waits session self.old) }
+    {
+        self.tunnel.waiting.push(session)
+    }
+
     #[tactic(auto, unfolding(protocol_model::specs::Turn::acts))]
-    fn act(&mut self, action: TunnelAction) -> Result<(), NoMemory>
-        ensures { OnOk result (self.new ≡ acts action self.old) }
+    fn act(&mut self, calls: &Table<Call>, action: TunnelAction) -> Result<(), NoMemory>
+        ensures { OnOk result (self.new ≡ acts calls.now action self.old) }
     {
         match action {
-            TunnelAction::SendScccn => self.put(0, Message::Scccn),
+            TunnelAction::SendScccn => {
+                self.put(0, Message::Scccn)?;
+                self.request_waiting(calls)
+            }
             _ => self.acknowledge(),
         }
     }
 
-    /// Does what the table says on a message with the next number.
-    #[tactic(auto, unfolding(protocol_model::specs::Turn::takes, protocol_model::specs::Turn::takes_on, protocol_model::specs::Turn::takes_by))]
-    fn take_message(&mut self, message: &Message) -> Result<(), NoMemory>
-        requires { self.old.tunnel.taken < 2 ^ 64 - 1 }
-        ensures { OnOk result (self.new ≡ takes message.now self.old) }
+    /// Does what the table says on a message about the tunnel.
+    #[tactic(auto, unfolding(protocol_model::specs::Turn::takes, protocol_model::specs::Turn::takes_by))]
+    pub(crate) fn take_message(
+        &mut self,
+        calls: &Table<Call>,
+        event: TunnelEvent,
+        message: &Message,
+    ) -> Result<(), NoMemory>
+        requires { IsTrue (may_count self.old.tunnel.channel.taken) }
+        ensures { OnOk result (self.new ≡ takes calls.now event message.now self.old) }
     {
-        let Some(event) = event_of(message) else {
-            return self.output(Out::Drop { why: Why::Session });
-        };
         let (next, action) = advance(self.tunnel.state, event);
         if !is_served(action) {
             return self.output(Out::Drop { why: Why::Ignored });
@@ -273,42 +323,72 @@ impl Turn {
         self.take()?;
         self.learn_by(message)?;
         self.enter(next);
-        self.act(action)
+        self.act(calls, action)
     }
 
-    #[tactic(auto, unfolding(protocol_model::specs::Turn::hears))]
-    fn hear(&mut self, said: Result<Message, Why>) -> Result<(), NoMemory>
-        requires { self.old.tunnel.taken < 2 ^ 64 - 1 }
-        ensures { OnOk result (self.new ≡ hears said self.old) }
+    #[tactic(auto, unfolding(protocol_model::specs::Turn::made_call))]
+    fn make_call(&mut self, session: u16, remote: u16) -> Result<(), NoMemory>
+        ensures { OnOk result (self.new ≡ made_call session remote self.old) }
     {
-        match said {
-            Ok(message) => self.take_message(&message),
-            Err(why) => self.output(Out::Drop { why }),
-        }
+        let call = Call {
+            tunnel: self.tunnel.local,
+            remote,
+            state: CallState::WaitConnect,
+            port: 0,
+        };
+        let peer = self.tunnel.peer;
+        self.add(session, call);
+        self.note(Note::Made {
+            session,
+            peer,
+            remote,
+        })
     }
 
-    /// A message for this tunnel, or why its body is none.
-    #[tactic(auto, unfolding(protocol_model::specs::Turn::receives))]
-    pub(crate) fn receive(&mut self, ns: u16, said: Result<Message, Why>) -> Result<(), NoMemory>
-        ensures { OnOk result (self.new ≡ receives ns said self.old) }
+    /// Takes the request for a call of the peer, and replies to it.
+    #[tactic(auto, unfolding(protocol_model::specs::Turn::makes))]
+    pub(crate) fn make(&mut self, session: u16, remote: u16) -> Result<(), NoMemory>
+        requires room { IsTrue (may_count self.old.tunnel.channel.taken) }
+        requires numbered { 0 < session }
+        ensures { OnOk result (self.new ≡ makes session remote self.old) }
     {
-        if ns == on_wire(self.tunnel.taken) && self.tunnel.taken < u64::MAX {
-            self.hear(said)
-        } else {
-            self.output(Out::Drop { why: Why::Ahead })
-        }
+        self.take()?;
+        self.make_call(session, remote)?;
+        self.put(remote, Message::Icrp { session })
     }
-}
 
-/// The row's event of a message about the tunnel; one about a call is none.
-fn event_of(message: &Message) -> Option<TunnelEvent>
-    ensures { result ≡ event_of message.now }
-{
-    match message {
-        Message::Sccrq(_) => Some(TunnelEvent::SccrqAcc),
-        Message::Sccrp(_) => Some(TunnelEvent::SccrpAcc),
-        Message::Scccn => Some(TunnelEvent::ScccnAcc),
-        Message::Icrq { .. } | Message::Icrp { .. } | Message::Iccn { .. } => None,
+    /// Takes the reply to a request, and connects the call.
+    #[tactic(auto, unfolding(protocol_model::specs::Turn::connects))]
+    pub(crate) fn connect(&mut self, session: u16, call: &Call, remote: u16) -> Result<(), NoMemory>
+        requires { IsTrue (may_count self.old.tunnel.channel.taken) }
+        ensures { OnOk result (self.new ≡ connects session call.now remote self.old) }
+    {
+        let mut up = *call;
+        up.remote = remote;
+        up.state = CallState::Established;
+        self.take()?;
+        self.change(session, up)?;
+        self.put(
+            remote,
+            Message::Iccn {
+                speed: 100_000_000,
+                framing: 1,
+                sequenced: false,
+            },
+        )
+    }
+
+    /// Takes the connection of a call.
+    #[tactic(auto, unfolding(protocol_model::specs::Turn::comes_up))]
+    pub(crate) fn come_up(&mut self, session: u16, call: &Call) -> Result<(), NoMemory>
+        requires { IsTrue (may_count self.old.tunnel.channel.taken) }
+        ensures { OnOk result (self.new ≡ comes_up session call.now self.old) }
+    {
+        let mut up = *call;
+        up.state = CallState::Established;
+        self.take()?;
+        self.change(session, up)?;
+        self.acknowledge()
     }
 }
 
@@ -334,5 +414,18 @@ fn opening_of(alloc: Global, config: &Config, local: u16) -> Result<Opening, NoM
             flags: 3,
             time: 30_000,
         }),
+    })
+}
+
+/// The request for a call of a LAC.
+fn request_of(alloc: Global, session: u16, port: u16) -> Result<Message, NoMemory>
+    ensures value { IfOk result (λ m. m ≡ request_of session port) }
+    ensures written { IfOk result IsWritten }
+{
+    twelve_digits();
+    Ok(Message::Icrq {
+        session,
+        serial: u32::from(session),
+        calling: Some(calling_number(alloc, port)?),
     })
 }

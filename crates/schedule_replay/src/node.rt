@@ -1,0 +1,71 @@
+//! A node of the world.
+
+ghost use Rattle.std.specs.Prelude.{◌≡◌, [], OnOk};
+ghost use Rattle.id_table.specs.Ids.{put};
+ghost use Rattle.protocol_model.specs.End.{new_end, is_lac};
+ghost use Rattle.protocol_model.specs.World.{count_at};
+
+use id_table::Table;
+use protocol_model::{Config, Role};
+use std::alloc::Global;
+use std::marker::Model;
+use tunnel_core::End;
+use wire_base::NoMemory;
+
+/// An end, with the births of its calls by local session id.
+#[derive(Drop)]
+pub(crate) struct Node {
+    pub(crate) end: End,
+    pub(crate) births: Table<u64>,
+}
+
+impl Model for Node {
+    ghost use Rattle.protocol_model.specs.World.{Node as Known};
+
+    ghost Value = { Known };
+
+    ghost view = { λ n. record { end = n.end; births = n.births } };
+}
+
+/// How often something was counted, or which number something has, for an id; 0 where there is none.
+pub(crate) fn count_at(counts: &Table<u64>, id: u32) -> u64
+    ensures { result ≡ count_at counts.now id }
+{
+    counts.get(id).copied().unwrap_or(0)
+}
+
+impl Node {
+    pub(crate) fn new(alloc: Global, config: Config) -> Node
+        ensures { result ≡ record { end = new_end config; births = [] } }
+    {
+        Node {
+            end: End::new(alloc, config),
+            births: Table::new(alloc),
+        }
+    }
+
+    /// What stands at a node's place while it takes a step.
+    pub(crate) fn vacant(alloc: Global) -> Node {
+        Node::new(
+            alloc,
+            Config {
+                role: Role::Lns,
+                number: 0,
+                lns: 0,
+            },
+        )
+    }
+
+    pub(crate) fn is_lac(&self) -> bool
+        ensures { result ≡ is_lac self.now.end.config.role }
+    {
+        self.end.config().role == Role::Lac
+    }
+
+    /// The call with this local session is of this birth.
+    pub(crate) fn bear(&mut self, session: u16, birth: u64) -> Result<(), NoMemory>
+        ensures { OnOk result (self.new ≡ record self.old { births = put self.old.births session birth }) }
+    {
+        self.births.insert(u32::from(session), birth)
+    }
+}
