@@ -1,6 +1,5 @@
 -- From what was told to what the exit says.
-use Rattle.std.proofs.Common.{◌≡◌, ◌⊎◌, inl, inr, ℕ, List, take, Option, Some, None, Result, Ok, Err, refl, sym, ap, ◌∙◌, subst}
-use Rattle.std.specs.Io.KnownBytes.{Appends}
+use Rattle.std.proofs.Common.{◌≡◌, inl, inr, ℕ, List, Option, Some, None, Result, Ok, Err, refl, sym, ap, subst}
 use Rattle.wire_base.specs.declared.why.Why.{Why}
 use Rattle.port_traits.specs.Causes.{Rose}
 use Rattle.port_traits.specs.Limits.{limit_passed}
@@ -8,7 +7,7 @@ use Rattle.port_traits.specs.ReadCauses.{IsTextOf}
 use Rattle.schedule_text.specs.declared.line.Line.{Line}
 use Rattle.schedule_text.specs.declared.error.ScheduleError.{ScheduleError}
 use Rattle.schedule_text.specs.Reading.{lines_of}
-use Rattle.protocol_model.specs.Run.{Run, run, report_of}
+use Rattle.protocol_model.specs.Run.{Run, run}
 use Rattle.l2tp_cli.specs.declared.words.Asked.{Asked}
 use Rattle.l2tp_cli.specs.declared.words.Asked.TheVariants as asked
 use Rattle.l2tp_cli.specs.declared.texts.TheConstants.{READ_FAULT}
@@ -16,7 +15,7 @@ use Rattle.l2tp_cli.specs.declared.exit.Exit.{Exit}
 use Rattle.l2tp_cli.specs.declared.exit.Exit.TheVariants as exits
 use Rattle.l2tp_cli.specs.Texts.{too_long_text}
 use Rattle.l2tp_cli.specs.Due.{Due, due, exit_of, due_of_run, due_of_lines, due_within, due_of}
-use Rattle.l2tp_cli.specs.Ends.{IsDue, Ports, IsWhole, FailedReading, WasDue, FailedWriting, Ends, Tells}
+use Rattle.l2tp_cli.specs.Ends.{IsDue, Ports, IsWhole, Ends, Tells}
 
 -- the exits that a text comes to
 abbrev pub IsReported : Exit → Type 0

@@ -4,6 +4,7 @@ ghost use Rattle.std.specs.Prelude.{◌≡◌, map, string_bytes};
 ghost use Rattle.l2tp_cli.specs.declared.words.Asked.TheVariants as asked;
 ghost use Rattle.l2tp_cli.specs.Words.{asked_of};
 ghost use Rattle.l2tp_cli.specs.Ends.{Ends, Tells};
+ghost use Rattle.l2tp_cli.specs.Frames.{FramesOfSchedules};
 
 use crate::answer::answer_to;
 use crate::exit::Exit;
@@ -55,13 +56,16 @@ fn run<S: Source, K: Sink>(alloc: Global, source: &mut S, sink: &mut K) -> Exit
 ///
 /// For `replay` it reads a schedule to its end, or to where it passes a limit, runs it, and writes the report of the run.
 /// `--help` and `--version` write their texts; other words write how the program is used.
+///
+/// In the run of every schedule, this one or another, each frame that an end hands up in a call was sent at an earlier
+/// line, in a call of the same birth, by an end of the other kind.
 pub fn replay_top<S: Source, K: Sink>(
     alloc: Global,
     words: &[String],
     source: &mut S,
     sink: &mut K,
 ) -> Exit
-    ensures { Ends (asked_of (map string_bytes words.now)) result (record {
+    ensures ends { Ends (asked_of (map string_bytes words.now)) result (record {
       left = S.left source.old;
       source_before = S.faults source.old;
       source_after = S.faults source.new;
@@ -70,7 +74,9 @@ pub fn replay_top<S: Source, K: Sink>(
       taken_before = K.taken sink.old;
       taken_after = K.taken sink.new;
     }) }
+    ensures frames { FramesOfSchedules }
 {
+    frame_laws::frames_were_sent();
     match asked_of(words) {
         Asked::Replay => run(alloc, source, sink),
         Asked::Help => tell(sink, HELP, Exit::Ok),

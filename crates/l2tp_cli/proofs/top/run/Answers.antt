@@ -1,4 +1,4 @@
-use Rattle.std.proofs.Common.{◌≡◌, ◌∙◌, ap, sym, List, ℕ}
+use Rattle.std.proofs.Common.{◌∙◌, ap, List, ℕ}
 use Rattle.l2tp_cli.specs.declared.exit.Exit.TheVariants as exits
 use Rattle.schedule_text.specs.Reading.{lines_of}
 use Rattle.l2tp_cli.specs.Texts.{too_long_text}

@@ -1,0 +1,79 @@
+-- What the bytes of a datagram that an end sends are read as.
+use Rattle.std.proofs.Common.{◌≡◌, ℕ, ◌+◌, ◌^◌, ◌<◌, ◌≤◌, true, List, [], length, refl, sym, ap, ◌∙◌, Option, None, Ok, arith}
+use Rattle.std.proofs.lemmas.Bool.{true≢false}
+use Rattle.l2tp_header.specs.declared.header.Header.{Header}
+use Rattle.l2tp_header.specs.Grammar.{FitsWord}
+use Rattle.l2tp_header.specs.Again.{Carries, control_header, data_header}
+use Rattle.l2tp_header.specs.Spelling.{control_bytes, data_bytes, hdlc_bytes}
+use Rattle.l2tp_header.specs.Reading.{header_of}
+use Rattle.avp_codec.specs.Spelling.{spelling, AreAvps}
+use Rattle.avp_codec.specs.declared.avp.Avp.{Avp}
+use Rattle.avp_codec.specs.Reading.{avps_of}
+use Rattle.control_message.specs.declared.message.Message.{Message}
+use Rattle.control_message.specs.declared.message.Read.TheVariants.{Known}
+use Rattle.control_message.specs.Pairs.{pairs_of, IsWritten}
+use Rattle.control_message.specs.Reading.{message_of}
+use Rattle.protocol_model.specs.End.{body_of, message_in, pairs_read, message_read}
+use Rattle.frame_laws.specs.Past.{Passage}
+use Rattle.frame_laws.proofs.Facts.{Nodes, BytesOk, WasGiven, Says}
+use Rattle.frame_laws.proofs.Turns.{IsDatagram, IsControl, Letter, Alone}
+
+-- what the codecs promise of what they write
+pub record Codecs : Type 0 where
+  pub control : (tunnel session ns nr : ℕ) (avps : List ℕ) → tunnel < 2 ^ 16 → session < 2 ^ 16 → ns < 2 ^ 16 → nr < 2 ^ 16 → length avps ≤ 65523 → Carries (control_bytes tunnel session ns nr avps) (control_header tunnel session ns nr (length avps)) avps
+  pub frame : (tunnel session : ℕ) (number : Option ℕ) (frame : List ℕ) → tunnel < 2 ^ 16 → session < 2 ^ 16 → FitsWord number → Carries (data_bytes tunnel session number frame) (data_header tunnel session number (2 + length frame)) (hdlc_bytes frame)
+  pub message : (m : Message) → IsWritten m → (avps_of (spelling (pairs_of m)) ≡ Ok (pairs_of m)) × (message_of (pairs_of m) ≡ Ok (Known m))
+  pub pairs : (v : List Avp) → AreAvps v → avps_of (spelling v) ≡ Ok v
+  pub room : (m : Message) → IsWritten m → length (spelling (pairs_of m)) ≤ 65523
+
+module _ (codecs : Codecs) where
+  -- the message that was written
+  message_again : (m : Message) → IsWritten m → message_in (spelling (pairs_of m)) ≡ Ok m
+  unfolding message_in pairs_read message_read
+  message_again m w = let both = codecs.message m w in rw (both.0, both.1) refl
+
+  -- no pairs make no message
+  no_message : (m : Message) → message_in [] ≡ Ok m → ⊥
+  unfolding message_in pairs_read message_read message_of
+  no_message m h = let none = codecs.pairs [] tt in (let g = rw none at h in cc)
+
+  same_header : (bytes : List ℕ) (h k : Header) (body : List ℕ) → Carries bytes k body → header_of bytes ≡ Ok h → h ≡ k
+  same_header bytes h k body c e = let r = c.reads in cc
+
+  -- of a control message the header's session and the pairs
+  record ControlRead (session : ℕ) (pairs bytes : List ℕ) (h : Header) : Type 0 where
+    pub control : h.control ≡ true
+    pub session_is : h.session ≡ session
+    pub body : body_of h bytes ≡ pairs
+
+  control_read : (session : ℕ) (pairs bytes : List ℕ) (h : Header) → IsDatagram session pairs bytes → length pairs ≤ 65523 → header_of bytes ≡ Ok h → ControlRead session pairs bytes h
+  control_read session pairs bytes h d le e =
+      let c : Carries bytes (control_header d.tunnel session d.ns d.nr (length pairs)) pairs = rw d.is (codecs.control d.tunnel session d.ns d.nr pairs d.tunnel_fits d.session_fits d.ns_fits d.nr_fits le) in
+      let same = same_header bytes h (control_header d.tunnel session d.ns d.nr (length pairs)) pairs c e in
+      rw same (record { control = refl; session_is = refl; body = c.bounds })
+
+  pub control_ok : (ns : Nodes) (gs : List Passage) (from to : ℕ) (bytes : List ℕ) → IsControl (λ session m. Says ns from to session m) bytes → BytesOk ns gs from to bytes
+  control_ok ns gs from to bytes (Letter session m w says d) =
+      record {
+        frames = λ h e c. absurd (true≢false (sym (control_read session (spelling (pairs_of m)) bytes h d (codecs.room m w) e).control ∙ c));
+        letters = λ h e c x r.
+            let k = control_read session (spelling (pairs_of m)) bytes h d (codecs.room m w) e in
+            let g : message_in (spelling (pairs_of m)) ≡ Ok x = rw (← k.body) r in
+            let same : m ≡ x = let again = message_again m w in cc in
+            rw (← same) (w, rw k.session_is says);
+      }
+  control_ok ns gs from to bytes (Alone d) =
+      record {
+        frames = λ h e c. absurd (true≢false (sym (control_read 0 [] bytes h d (omega arith) e).control ∙ c));
+        letters = λ h e c x r. absurd (no_message x (rw (← (control_read 0 [] bytes h d (omega arith) e).body) r));
+      }
+
+  -- a frame that is for a session
+  pub frame_ok : (ns : Nodes) (gs : List Passage) (from to tunnel session : ℕ) (frame : List ℕ) → tunnel < 65536 → session < 65536 → WasGiven ns gs to session frame → BytesOk ns gs from to (data_bytes tunnel session None frame)
+  frame_ok ns gs from to tunnel session frame t s given =
+      let bytes = data_bytes tunnel session None frame in
+      let c = codecs.frame tunnel session None frame t s tt in
+      record {
+        frames = λ h e k. rw (same_header bytes h _ _ c e, c.bounds) given;
+        letters = λ h e k m r. absurd (true≢false (sym k ∙ ap (λ (x : Header). x.control) (same_header bytes h _ _ c e)));
+      }

@@ -1,0 +1,13 @@
+pub mod Facts
+pub mod Changes
+pub mod Turns
+pub mod Datagrams
+pub mod Ends
+pub mod Steps
+pub mod Openings
+pub mod Rings
+pub mod Messages
+pub mod Events
+pub mod Worlds
+pub mod Lines
+pub mod Runs

@@ -1,0 +1,61 @@
+-- A run of lines.
+use Rattle.std.proofs.Common.{◌≡◌, ℕ, ◌+◌, ◌<◌, List, [], ◌∷◌, ◌++◌, length, refl, sym, ◌∙◌, Result, Ok, Err, arith}
+use Rattle.std.proofs.lemmas.Option.{none-some}
+use Rattle.std.specs.List.{AllByRecursion}
+use Rattle.id_table.specs.Ids.{at-none}
+use Rattle.wire_base.specs.declared.why.Why.{Why}
+use Rattle.schedule_text.specs.declared.line.Line.{Line}
+use Rattle.schedule_text.specs.Grammar.{AreLines}
+use Rattle.protocol_model.specs.Names.{calling_number}
+use Rattle.protocol_model.specs.World.{World, empty_world, line}
+use Rattle.frame_laws.specs.Past.{Passage, Past, nothing, then_also, goes_past, past_from}
+use Rattle.frame_laws.specs.Frames.{WasSent, AreSent, FramesOfRuns}
+use Rattle.frame_laws.proofs.Facts.{Holds, among_left, all_map}
+use Rattle.frame_laws.proofs.Datagrams.{Codecs}
+use Rattle.frame_laws.proofs.Worlds.{Below, Goes}
+use Rattle.frame_laws.proofs.Lines.{line_goes}
+
+all_append : {X : Type 0} (P : X → Type 0) (xs ys : List X) → AllByRecursion P xs → AllByRecursion P ys → AllByRecursion P (xs ++ ys)
+all_append P [] ys h k = k
+all_append P (x ∷ xs) ys h k = (h.0, all_append P xs ys h.1 k)
+
+-- what holds of a past
+record PastOk (number : ℕ) (w : World) (past : Past) : Type 0 where
+  pub holds : Holds w past.sent
+  pub lines : Below number past.sent
+  pub sent : AreSent past
+
+was_sent_later : (gs hs : List Passage) (h : Passage) → WasSent gs h → WasSent (gs ++ hs) h
+was_sent_later gs hs h s = record { passage = s.passage; there = among_left s.passage gs hs s.there; is = s.is }
+
+goes_on : (number : ℕ) (w v : World) (past more : Past) → PastOk number w past → Goes number past.sent v more → PastOk (number + 1) v (then_also past more)
+goes_on number w v past more ok g =
+    record {
+      holds = g.holds;
+      lines = all_append _ past.sent more.sent (all_map (λ (x : Passage). x.line < number) (λ (x : Passage). x.line < number + 1) (λ x lt. omega arith) past.sent ok.lines) g.lines;
+      sent = all_append _ past.handed more.handed (all_map (WasSent past.sent) (WasSent (past.sent ++ more.sent)) (λ h s. was_sent_later past.sent more.sent h s) past.handed ok.sent) g.sent;
+    }
+
+begins : PastOk 1 empty_world nothing
+begins =
+    record {
+      holds = record { nodes = λ n node h. absurd (none-some node (sym (at-none n) ∙ h)); packets = tt };
+      lines = tt;
+      sent = tt;
+    }
+
+-- where a line fits, the rest goes on
+either_way : (rest : World → Past) (past : Past) (r : Result World Why) → AreSent past → ((v : World) → r ≡ Ok v → AreSent (rest v)) → AreSent (goes_past rest past r)
+either_way rest past (Err x) stops more = stops
+either_way rest past (Ok v) stops more = more v refl
+
+module _ (codecs : Codecs) (digits : (port : ℕ) → length (calling_number port) ≡ 12) where
+  from_there : (number : ℕ) (lines : List Line) (w : World) (past : Past) → AreLines lines → PastOk number w past → AreSent (past_from number lines w past)
+  unfolding past_from
+  from_there number [] w past fits ok = ok.sent
+  from_there number (l ∷ ls) w past fits ok =
+      either_way _ past (line w number l) ok.sent
+      (λ v h. from_there (number + 1) ls v _ fits.1 (goes_on number w v past _ ok (line_goes codecs digits number w past.sent ok.holds ok.lines v l fits.0 h)))
+
+  pub frames_of_runs : FramesOfRuns
+  frames_of_runs lines fits = from_there 1 lines empty_world nothing fits begins

@@ -1,0 +1,40 @@
+-- Each frame that is handed up in a call was sent in that call by its other end.
+use Rattle.std.specs.Prelude.{◌≡◌, ◌⊎◌, ◌<◌, List, [], ◌∷◌}
+use Rattle.std.specs.List.{AllByRecursion}
+use Rattle.schedule_text.specs.declared.line.Line.{Line}
+use Rattle.schedule_text.specs.Grammar.{AreLines}
+use Rattle.protocol_model.specs.declared.tunnel.Role.{Role}
+use Rattle.protocol_model.specs.declared.tunnel.Role.TheVariants.{Lac, Lns}
+use Rattle.frame_laws.specs.Past.{Passage, Past, past_of}
+
+abbrev pub other_end : Role → Role
+other_end Lac = Lns
+other_end Lns = Lac
+
+-- what was handed up is what was sent: the same frame, in a call of the same birth, by its other end, at an earlier line
+pub record IsOf (sent handed : Passage) : Type 0 where
+  pub frame : handed.frame ≡ sent.frame
+  pub birth : handed.birth ≡ sent.birth
+  -- births are counted from 1
+  pub born : 0 < handed.birth
+  pub end : handed.role ≡ other_end sent.role
+  pub earlier : sent.line < handed.line
+
+-- one of them is this one
+abbrev pub Among : Passage → List Passage → Type 0
+Among g [] = ⊥
+Among g (q ∷ qs) = (q ≡ g) ⊎ Among g qs
+
+-- a frame that was handed up is one of those that were sent
+pub record WasSent (sent : List Passage) (handed : Passage) : Type 0 where
+  pub passage : Passage
+  pub there : Among passage sent
+  pub is : IsOf passage handed
+
+-- each frame that was handed up
+abbrev pub AreSent : Past → Type 0
+AreSent past = AllByRecursion (WasSent past.sent) past.handed
+
+-- in the run of each list of lines of the grammar, whether each of them fits or one ends the run
+abbrev pub FramesOfRuns : Type 0
+FramesOfRuns = (lines : List Line) → AreLines lines → AreSent (past_of lines)
