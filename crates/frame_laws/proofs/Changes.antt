@@ -4,6 +4,7 @@ use Rattle.std.specs.Prelude.{min}
 use Rattle.std.proofs.lemmas.Bool.{eqb-true, eqb-false, ne_eqb, eq-eqb}
 use Rattle.id_table.specs.Ids.{at, put, at-put}
 use Rattle.protocol_model.specs.declared.tunnel.Role.{Role}
+use Rattle.protocol_model.specs.declared.tunnel.Role.TheVariants.{Lns}
 use Rattle.protocol_model.specs.declared.out.Note.{Note}
 use Rattle.protocol_model.specs.declared.out.Note.TheVariants.{Drew, Learned, Put, Took, Born as IsBorn, Made}
 use Rattle.protocol_model.specs.Names.{node_of}
@@ -97,6 +98,14 @@ pub born_packets : (w : World) (n s : ℕ) (node : Node) → at w.nodes n ≡ So
 unfolding is_born with_birth
 born_packets w n s node is = rw is refl
 
+pub born_count : (w : World) (n s : ℕ) (node : Node) → at w.nodes n ≡ Some node → (is_born w n s).born ≡ next_birth w
+unfolding is_born with_birth
+born_count w n s node is = rw is refl
+
+pub made_count : (w : World) (n s b : ℕ) (node : Node) → at w.nodes n ≡ Some node → (with_birth w n s b).born ≡ w.born
+unfolding with_birth
+made_count w n s b node is = rw is refl
+
 pub made_nodes : (w : World) (n s b : ℕ) (node : Node) → at w.nodes n ≡ Some node → (with_birth w n s b).nodes ≡ put w.nodes n (with_one node s b)
 unfolding with_birth
 made_nodes w n s b node is = rw is refl
@@ -146,6 +155,12 @@ grows ns ms n old new c =
 abbrev pub BirthsBelow : ℕ → List (ℕ × ℕ) → Type 0
 BirthsBelow bound bs = (s b : ℕ) → at bs s ≡ Some b → (s < bound) × (0 < b)
 
+-- what a step adds to the births: nothing, one more of a LAC, or one that an LNS copies
+pub data Adds (w : World) (old : Node) (births : List (ℕ × ℕ)) (born : ℕ) : Type 0 where
+  NoBirth : births ≡ old.births → born ≡ w.born → Adds w old births born
+  NextBirth : (s : ℕ) → births ≡ put old.births s (next_birth w) → born ≡ next_birth w → Adds w old births born
+  SameBirth : (s b m q : ℕ) → births ≡ put old.births s b → born ≡ w.born → Born w.nodes m q b → old.end.config.role ≡ Lns → Adds w old births born
+
 -- the world after a step's notes
 pub record After (w : World) (n : ℕ) (old : Node) (e : End) (v : World) : Type 0 where
   pub new : Node
@@ -153,6 +168,7 @@ pub record After (w : World) (n : ℕ) (old : Node) (e : End) (v : World) : Type
   pub change : Changed w.nodes v.nodes n old new
   pub births : BirthsBelow e.next_session new.births
   pub packets : v.packets ≡ w.packets
+  pub adds : Adds w old new.births v.born
 
 abbrev pub with_end : Node → End → Node
 with_end node e = record node { end = e }
@@ -179,6 +195,7 @@ module _ (w : World) (n : ℕ) (old : Node) (e : End) (was : at w.nodes n ≡ So
         change = changed_end;
         births = λ s b h. let k = below s b h in (omega (arith, k.0, rises), k.1);
         packets = refl;
+        adds = NoBirth refl refl;
       })
 
   -- one more birth
@@ -202,14 +219,15 @@ module _ (w : World) (n : ℕ) (old : Node) (e : End) (was : at w.nodes n ≡ So
     births_below : BirthsBelow e.next_session new.births
     births_below q c h = ⊎_elim (λ a. (rw a.0 drawn, rw (← a.1) some)) (λ a. let k = below q c a.1 in (omega (arith, k.0, rises), k.1)) (found_put old.births s b q c h)
 
-    pub after_birth : (x : World) → x.nodes ≡ put v.nodes n new → x.packets ≡ w.packets → After w n old e x
-    after_birth x nodes packets =
+    pub after_birth : (x : World) → x.nodes ≡ put v.nodes n new → x.packets ≡ w.packets → Adds w old (put old.births s b) x.born → After w n old e x
+    after_birth x nodes packets adds =
         record {
           new = new;
           end = refl;
           change = rw nodes changed_twice;
           births = births_below;
           packets = packets;
+          adds = adds;
         }
 
     pub born_now : (x : World) → x.nodes ≡ put v.nodes n new → Born x.nodes n s b

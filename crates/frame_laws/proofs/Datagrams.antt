@@ -1,30 +1,19 @@
 -- What the bytes of a datagram that an end sends are read as.
-use Rattle.std.proofs.Common.{◌≡◌, ℕ, ◌+◌, ◌^◌, ◌<◌, ◌≤◌, true, List, [], length, refl, sym, ap, ◌∙◌, Option, None, Ok, arith}
+use Rattle.std.proofs.Common.{◌≡◌, ℕ, ◌<◌, ◌≤◌, true, List, [], length, refl, sym, ap, ◌∙◌, None, Ok, arith}
 use Rattle.std.proofs.lemmas.Bool.{true≢false}
 use Rattle.l2tp_header.specs.declared.header.Header.{Header}
-use Rattle.l2tp_header.specs.Grammar.{FitsWord}
-use Rattle.l2tp_header.specs.Again.{Carries, control_header, data_header}
-use Rattle.l2tp_header.specs.Spelling.{control_bytes, data_bytes, hdlc_bytes}
+use Rattle.l2tp_header.specs.Again.{Carries, control_header}
+use Rattle.l2tp_header.specs.Spelling.{data_bytes}
 use Rattle.l2tp_header.specs.Reading.{header_of}
-use Rattle.avp_codec.specs.Spelling.{spelling, AreAvps}
-use Rattle.avp_codec.specs.declared.avp.Avp.{Avp}
-use Rattle.avp_codec.specs.Reading.{avps_of}
+use Rattle.avp_codec.specs.Spelling.{spelling}
 use Rattle.control_message.specs.declared.message.Message.{Message}
-use Rattle.control_message.specs.declared.message.Read.TheVariants.{Known}
 use Rattle.control_message.specs.Pairs.{pairs_of, IsWritten}
 use Rattle.control_message.specs.Reading.{message_of}
 use Rattle.protocol_model.specs.End.{body_of, message_in, pairs_read, message_read}
+use Rattle.frame_laws.specs.Codecs.{Codecs}
 use Rattle.frame_laws.specs.Past.{Passage}
 use Rattle.frame_laws.proofs.Facts.{Nodes, BytesOk, WasGiven, Says}
 use Rattle.frame_laws.proofs.Turns.{IsDatagram, IsControl, Letter, Alone}
-
--- what the codecs promise of what they write
-pub record Codecs : Type 0 where
-  pub control : (tunnel session ns nr : ℕ) (avps : List ℕ) → tunnel < 2 ^ 16 → session < 2 ^ 16 → ns < 2 ^ 16 → nr < 2 ^ 16 → length avps ≤ 65523 → Carries (control_bytes tunnel session ns nr avps) (control_header tunnel session ns nr (length avps)) avps
-  pub frame : (tunnel session : ℕ) (number : Option ℕ) (frame : List ℕ) → tunnel < 2 ^ 16 → session < 2 ^ 16 → FitsWord number → Carries (data_bytes tunnel session number frame) (data_header tunnel session number (2 + length frame)) (hdlc_bytes frame)
-  pub message : (m : Message) → IsWritten m → (avps_of (spelling (pairs_of m)) ≡ Ok (pairs_of m)) × (message_of (pairs_of m) ≡ Ok (Known m))
-  pub pairs : (v : List Avp) → AreAvps v → avps_of (spelling v) ≡ Ok v
-  pub room : (m : Message) → IsWritten m → length (spelling (pairs_of m)) ≤ 65523
 
 module _ (codecs : Codecs) where
   -- the message that was written
@@ -69,7 +58,7 @@ module _ (codecs : Codecs) where
       }
 
   -- a frame that is for a session
-  pub frame_ok : (ns : Nodes) (gs : List Passage) (from to tunnel session : ℕ) (frame : List ℕ) → tunnel < 65536 → session < 65536 → WasGiven ns gs to session frame → BytesOk ns gs from to (data_bytes tunnel session None frame)
+  pub frame_ok : (ns : Nodes) (gs : List Passage) (from to tunnel session : ℕ) (frame : List ℕ) → tunnel < 65536 → session < 65536 → WasGiven ns gs from to session frame → BytesOk ns gs from to (data_bytes tunnel session None frame)
   frame_ok ns gs from to tunnel session frame t s given =
       let bytes = data_bytes tunnel session None frame in
       let c = codecs.frame tunnel session None frame t s tt in

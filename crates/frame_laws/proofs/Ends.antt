@@ -7,8 +7,10 @@ use Rattle.protocol_model.specs.declared.tunnel.Call.{Call}
 use Rattle.protocol_model.specs.declared.tunnel.Role.{Role}
 use Rattle.protocol_model.specs.declared.tunnel.Role.TheVariants.{Lns}
 use Rattle.protocol_model.specs.declared.out.Note.{Note}
+use Rattle.protocol_model.specs.Names.{node_of}
 use Rattle.protocol_model.specs.Turn.{Tunnel, Turn}
 use Rattle.protocol_model.specs.End.{End, with_made, changed_call, changed_calls, after_turn}
+use Rattle.frame_laws.specs.Past.{peer_of_call}
 use Rattle.frame_laws.proofs.Facts.{Nodes, Grows, GoesTo, peer_in, CallOk, EndOk, call_later}
 use Rattle.frame_laws.proofs.Changes.{found_put, at_new, at_other, same_or_not}
 use Rattle.frame_laws.proofs.Turns.{TurnOk, EachCall}
@@ -45,6 +47,9 @@ goes_at ts i peer t is h = rw (is, h) refl
 
 pub peer_there : (ts : List (ℕ × Tunnel)) (i peer : ℕ) (t : Tunnel) → at ts i ≡ Some t → GoesTo ts i peer → t.peer ≡ peer
 peer_there ts i peer t is h = let g : Some t.peer ≡ Some peer = rw is at h in cc
+
+pub peer_is : (e : End) (s : ℕ) (c : Call) (t : Tunnel) → at e.calls s ≡ Some c → at e.tunnels c.tunnel ≡ Some t → peer_of_call e (at e.calls s) ≡ node_of t.peer
+peer_is e s c t is there = rw is (rw there refl)
 
 tunnel_there : (ts : List (ℕ × Tunnel)) (i peer : ℕ) → GoesTo ts i peer → (t : Tunnel) × (at ts i ≡ Some t)
 tunnel_there ts i peer h = by (at ts i) refl h

@@ -17,7 +17,7 @@ use Rattle.protocol_model.specs.End.{End, gives_only, is_lac, is_up, carries, gi
 use Rattle.protocol_model.specs.World.{World, Node}
 use Rattle.frame_laws.specs.Past.{Passage, frame_in}
 use Rattle.frame_laws.proofs.Facts.{BytesOk, NodeOk}
-use Rattle.frame_laws.proofs.Ends.{peer_there}
+use Rattle.frame_laws.proofs.Ends.{peer_there, peer_is}
 use Rattle.frame_laws.proofs.Steps.{StepOk, Sent, word_ok}
 use Rattle.frame_laws.proofs.Openings.{branch, opens_tunnel_ok}
 use Rattle.frame_laws.proofs.Rings.{rings_ok}
@@ -48,7 +48,7 @@ module _ (digits : (port : ℕ) → length (calling_number port) ≡ 12) (w : Wo
       let k = ok.end.calls session c is in
       let known = k.knows (inr up) in
       let same = peer_there e.tunnels c.tunnel k.peer t f k.goes in
-      Sent session t.peer t.remote c.remote refl (ok.end.tunnels c.tunnel t f).remote known.0 (rw same known.1)
+      Sent session t.peer t.remote c.remote refl (ok.end.tunnels c.tunnel t f).remote known.0 (rw same known.1) (peer_is e session c t is f)
 
   gives_frame_ok : (ev : Event) (session : ℕ) (o : Option Call) → at e.calls session ≡ o → StepOk w gs n old ev (gives_frame e session (frame_in ev) o)
   unfolding gives_frame

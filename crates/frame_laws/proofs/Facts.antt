@@ -96,13 +96,15 @@ says_later ns ms g from to session Scccn h = tt
 says_later ns ms g from to session (Iccn speed framing sequenced) h = tt
 
 -- the frame was sent in the birth of the session that it is for, by its other end
-pub record WasGiven (ns : Nodes) (gs : List Passage) (to session : ℕ) (frame : List ℕ) : Type 0 where
+pub record WasGiven (ns : Nodes) (gs : List Passage) (from to session : ℕ) (frame : List ℕ) : Type 0 where
   pub passage : Passage
   pub there : Among passage gs
   pub frame_is : frame ≡ passage.frame
   pub birth : Born ns to session passage.birth
   pub some : 0 < passage.birth
   pub role : Plays ns to (other_end passage.role)
+  pub from_is : passage.node ≡ from
+  pub to_is : passage.peer ≡ to
 
 pub among_left : (g : Passage) (gs hs : List Passage) → Among g gs → Among g (gs ++ hs)
 among_left g [] hs h = absurd h
@@ -112,8 +114,8 @@ pub among_right : (g : Passage) (gs hs : List Passage) → Among g hs → Among 
 among_right g [] hs h = h
 among_right g (q ∷ gs) hs h = inr (among_right g gs hs h)
 
-pub given_later : (ns ms : Nodes) → Grows ns ms → (gs hs : List Passage) (to session : ℕ) (frame : List ℕ) → WasGiven ns gs to session frame → WasGiven ms (gs ++ hs) to session frame
-given_later ns ms g gs hs to session frame h =
+pub given_later : (ns ms : Nodes) → Grows ns ms → (gs hs : List Passage) (from to session : ℕ) (frame : List ℕ) → WasGiven ns gs from to session frame → WasGiven ms (gs ++ hs) from to session frame
+given_later ns ms g gs hs from to session frame h =
     record {
       passage = h.passage;
       there = among_left h.passage gs hs h.there;
@@ -121,11 +123,13 @@ given_later ns ms g gs hs to session frame h =
       birth = g.births to session h.passage.birth h.birth;
       some = h.some;
       role = g.roles to (other_end h.passage.role) h.role;
+      from_is = h.from_is;
+      to_is = h.to_is;
     }
 
 -- what reading a packet's bytes may give
 pub record BytesOk (ns : Nodes) (gs : List Passage) (from to : ℕ) (bytes : List ℕ) : Type 0 where
-  pub frames : (h : Header) → header_of bytes ≡ Ok h → h.control ≡ false → WasGiven ns gs to h.session (frame_of (body_of h bytes))
+  pub frames : (h : Header) → header_of bytes ≡ Ok h → h.control ≡ false → WasGiven ns gs from to h.session (frame_of (body_of h bytes))
   pub letters : (h : Header) → header_of bytes ≡ Ok h → h.control ≡ true → (m : Message) → message_in (body_of h bytes) ≡ Ok m → IsWritten m × Says ns from to h.session m
 
 pub record PacketOk (ns : Nodes) (gs : List Passage) (p : Packet) : Type 0 where
@@ -135,7 +139,7 @@ pub record PacketOk (ns : Nodes) (gs : List Passage) (p : Packet) : Type 0 where
 pub bytes_later : (ns ms : Nodes) → Grows ns ms → (gs hs : List Passage) (from to : ℕ) (bytes : List ℕ) → BytesOk ns gs from to bytes → BytesOk ms (gs ++ hs) from to bytes
 bytes_later ns ms g gs hs from to bytes h =
     record {
-      frames = λ x e c. given_later ns ms g gs hs to x.session _ (h.frames x e c);
+      frames = λ x e c. given_later ns ms g gs hs from to x.session _ (h.frames x e c);
       letters = λ x e c m r. let l = h.letters x e c m r in (l.0, says_later ns ms g from to x.session m l.1);
     }
 

@@ -6,6 +6,7 @@ pub mod Ends
 pub mod Steps
 pub mod Openings
 pub mod Rings
+pub mod Births
 pub mod Messages
 pub mod Events
 pub mod Worlds

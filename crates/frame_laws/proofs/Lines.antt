@@ -16,13 +16,15 @@ use Rattle.protocol_model.specs.declared.event.Event.{Event}
 use Rattle.protocol_model.specs.declared.event.Event.TheVariants as event
 use Rattle.protocol_model.specs.declared.packet.Packet.{Packet}
 use Rattle.protocol_model.specs.declared.tunnel.Role.{Role}
+use Rattle.protocol_model.specs.declared.tunnel.Role.TheVariants as role
 use Rattle.protocol_model.specs.Names.{address_of, calling_number}
 use Rattle.protocol_model.specs.End.{is_lac, new_end, step}
 use Rattle.protocol_model.specs.World.{World, Node, with_node, after_step, declared, lac_at, lns_at, with_call, added, stepped, marked, is_next, arrival, arrives, delivers_it, delivers, line}
 use Rattle.frame_laws.specs.Past.{Passage, nothing, arrival_of, past_of_step, past_of_event, past_of_line}
-use Rattle.frame_laws.proofs.Facts.{Nodes, Grows, PacketOk, NodeOk, Holds, packets_later, node_later, birth_in_node, role_in_node}
-use Rattle.frame_laws.proofs.Changes.{at_other, found_put, same_or_not}
-use Rattle.frame_laws.proofs.Datagrams.{Codecs}
+use Rattle.frame_laws.proofs.Facts.{Born, Plays, Nodes, Grows, PacketOk, NodeOk, Holds, packets_later, node_later, birth_in_node, role_in_node}
+use Rattle.frame_laws.proofs.Changes.{birth_there, at_new, at_other, found_put, same_or_not}
+use Rattle.frame_laws.proofs.Births.{Counted, Counts, uncounted}
+use Rattle.frame_laws.specs.Codecs.{Codecs}
 use Rattle.frame_laws.proofs.Events.{IsReal, step_ok}
 use Rattle.frame_laws.proofs.Worlds.{Below, Goes, step_goes}
 
@@ -61,8 +63,8 @@ packet_at P (q ∷ ps) zero p is h = let e : q ≡ p = cc in subst P e h.0
 packet_at P (q ∷ ps) (suc k) p is h = packet_at P ps k p is h.1
 
 -- a line without a step
-quiet_goes : (number : ℕ) (w v : World) (gs : List Passage) → Holds v gs → Goes number gs v nothing
-quiet_goes number w v gs holds = record { holds = subst (Holds v) (sym (append-nil gs)) holds; lines = tt; sent = tt }
+quiet_goes : (number : ℕ) (w v : World) (gs : List Passage) → Holds v gs → Counts w.nodes w.born v → Goes number w.nodes w.born gs v nothing
+quiet_goes number w v gs holds counts = record { holds = subst (Holds v) (sym (append-nil gs)) holds; lines = tt; sent = tt; counts = counts }
 
 -- one more node
 module _ (ns : Nodes) (n : ℕ) (c : Config) (none : at ns n ≡ None) where
@@ -98,6 +100,26 @@ module _ (ns : Nodes) (n : ℕ) (c : Config) (none : at ns n ≡ None) where
         births = λ s b h. absurd (none-some b (sym (at-none s) ∙ h));
       }
 
+  -- births that are found were there before
+  fresh_births : (m s b : ℕ) → Born (put ns n fresh_node) m s b → (m ≡ n → ⊥) × Born ns m s b
+  fresh_births m s b h = ⊎_elim
+      (λ e. absurd (none-some b (sym (at-none s) ∙ birth_there (put ns n fresh_node) n s b fresh_node (at_new ns n fresh_node) (subst (λ x. Born (put ns n fresh_node) x s b) e h))))
+      (λ o. (o, subst (λ (x : Option Node). birth_in_node x s ≡ Some b) (at_other ns n fresh_node m o) h))
+      (same_or_not m n)
+
+  plays_there : (m : ℕ) (r : Role) → (m ≡ n → ⊥) → Plays (put ns n fresh_node) m r → Plays ns m r
+  plays_there m r o h = subst (λ (x : Option Node). role_in_node x ≡ Some r) (at_other ns n fresh_node m o) h
+
+  fresh_counted : (born : ℕ) → Counted ns born → Counted (put ns n fresh_node) born
+  fresh_counted born had =
+      record {
+        most = λ m s b h. had.most m s b (fresh_births m s b h).1;
+        apart = λ i s m q b h k one two.
+            let a = fresh_births i s b h in
+            let c = fresh_births m q b k in
+            had.apart i s m q b a.1 c.1 (plays_there i role.Lac a.0 one) (plays_there m role.Lac c.0 two);
+      }
+
 none_there : {X : Type 0} (o : Option X) → is_some o ≡ false → o ≡ None
 none_there None h = refl
 none_there (Some x) h = absurd (true≢false h)
@@ -117,41 +139,49 @@ added_holds w v n c gs lt number h holds =
       packets = subst (λ hs. AllByRecursion (PacketOk (put w.nodes n new) hs) w.packets) (append-nil gs) (packets_later w.nodes (put w.nodes n new) g gs [] w.packets holds.packets);
     })
 
+-- with no birth of the new node
+added_counts : (w v : World) (n : ℕ) (c : Config) → added w n c ≡ Ok v → Counts w.nodes w.born v
+unfolding added
+added_counts w v n c h =
+    let t = tested_not (is_some (at w.nodes n)) (with_node w n (record { end = new_end c; births = [] })) why.Twice v h in
+    let none = none_there (at w.nodes n) t.0 in
+    subst (λ (x : World). Counts w.nodes w.born x) t.1 (record { few = omega arith; counted = λ few had. fresh_counted w.nodes n c none w.born had })
+
 module _ (codecs : Codecs) (digits : (port : ℕ) → length (calling_number port) ≡ 12) (number : ℕ) (w : World) (gs : List Passage) (holds : Holds w gs) (below : Below number gs) where
-  stepped_goes : (v : World) (n : ℕ) (ev : Event) (o : Result Node Why) → ((node : Node) → o ≡ Ok node → at w.nodes n ≡ Some node) → IsReal w gs n ev → stepped w number n ev o ≡ Ok v → Goes number gs v (past_of_step number n ev v (at w.nodes n))
+  stepped_goes : (v : World) (n : ℕ) (ev : Event) (o : Result Node Why) → ((node : Node) → o ≡ Ok node → at w.nodes n ≡ Some node) → IsReal w gs n ev → stepped w number n ev o ≡ Ok v → Goes number w.nodes w.born gs v (past_of_step number n ev v (at w.nodes n))
   unfolding stepped
   stepped_goes v n ev (Err x) is real h = absurd (cc)
   stepped_goes v n ev (Ok node) is real h =
       let was = is node refl in
       let e : after_step w number n node (step node.end ev) ≡ v = cc in
       let g = step_goes codecs number w gs n node was holds below ev (step node.end ev) (step_ok digits w gs n node was (holds.nodes n node was) ev real) in
-      subst (λ (x : World). Goes number gs x (past_of_step number n ev x (at w.nodes n))) e (rw was g)
+      subst (λ (x : World). Goes number w.nodes w.born gs x (past_of_step number n ev x (at w.nodes n))) e (rw was g)
 
 module _ (codecs : Codecs) (digits : (port : ℕ) → length (calling_number port) ≡ 12) (number : ℕ) (w : World) (gs : List Passage) (holds : Holds w gs) (below : Below number gs) where
   marked_holds : (counts : Bool) (n : ℕ) → Holds (marked counts n w) gs
   unfolding marked
   marked_holds counts n = record { nodes = holds.nodes; packets = holds.packets }
 
-  arrives_goes : (v : World) (p : Packet) → PacketOk w.nodes gs p → arrives w number p ≡ Ok v → Goes number gs v (past_of_event number w v (arrival_of (Some p)))
+  arrives_goes : (v : World) (p : Packet) → PacketOk w.nodes gs p → arrives w number p ≡ Ok v → Goes number w.nodes w.born gs v (past_of_event number w v (arrival_of (Some p)))
   unfolding arrives marked
   arrives_goes v p sent h = stepped_goes codecs digits number (marked (is_some p.place) p.to w) gs (marked_holds (is_some p.place) p.to) below v p.to (event.Datagram (address_of p.from) p.bytes) (declared (at w.nodes p.to)) (λ node e. is_declared (at w.nodes p.to) node e) (p.from, sent.from, refl, sent.bytes) h
 
   -- a packet that may be delivered is one that was sent, and its node is declared
-  delivers_goes : (v : World) (o : Option Packet) → ((p : Packet) → o ≡ Some p → PacketOk w.nodes gs p) → delivers w number o ≡ Ok v → Goes number gs v (past_of_event number w v (arrival_of o))
+  delivers_goes : (v : World) (o : Option Packet) → ((p : Packet) → o ≡ Some p → PacketOk w.nodes gs p) → delivers w number o ≡ Ok v → Goes number w.nodes w.born gs v (past_of_event number w v (arrival_of o))
   unfolding delivers delivers_it arrival arrives
   delivers_goes v None sent h = absurd (cc)
   delivers_goes v (Some p) sent h = by (not (is_some (at w.nodes p.to))) (is_next w.delivered p.to p.place) h
     where
-      by : (a b : Bool) → delivers_it w number (cond a (Err why.Node) (cond b (Ok p) (Err why.Order))) ≡ Ok v → Goes number gs v (past_of_event number w v (arrival_of (Some p)))
+      by : (a b : Bool) → delivers_it w number (cond a (Err why.Node) (cond b (Ok p) (Err why.Order))) ≡ Ok v → Goes number w.nodes w.born gs v (past_of_event number w v (arrival_of (Some p)))
       by true b h = absurd (cc)
       by false false h = absurd (cc)
       by false true h = arrives_goes v p (sent p refl) h
 
-  pub line_goes : (v : World) (l : Line) → FitsLine l → line w number l ≡ Ok v → Goes number gs v (past_of_line number w v l)
+  pub line_goes : (v : World) (l : Line) → FitsLine l → line w number l ≡ Ok v → Goes number w.nodes w.born gs v (past_of_line number w v l)
   unfolding line past_of_line
-  line_goes v (Remark text) fits h = quiet_goes number w v gs (let e : w ≡ v = cc in subst (λ (x : World). Holds x gs) e holds)
-  line_goes v (Lac n m) fits h = quiet_goes number w v gs (added_holds w v n _ gs (omega (arith, fits.0.1)) (omega (arith, fits.0.1)) h holds)
-  line_goes v (Lns n) fits h = quiet_goes number w v gs (added_holds w v n _ gs (omega (arith, fits.1)) (omega (arith, fits.1)) h holds)
+  line_goes v (Remark text) fits h = quiet_goes number w v gs (let e : w ≡ v = cc in subst (λ (x : World). Holds x gs) e holds) (let e : w ≡ v = cc in subst (λ (x : World). Counts w.nodes w.born x) e (uncounted w))
+  line_goes v (Lac n m) fits h = quiet_goes number w v gs (added_holds w v n _ gs (omega (arith, fits.0.1)) (omega (arith, fits.0.1)) h holds) (added_counts w v n _ h)
+  line_goes v (Lns n) fits h = quiet_goes number w v gs (added_holds w v n _ gs (omega (arith, fits.1)) (omega (arith, fits.1)) h holds) (added_counts w v n _ h)
   line_goes v (OpenUp n) fits h = stepped_goes codecs digits number w gs holds below v n event.OpenTunnel (lac_at (at w.nodes n)) (λ node e. is_lac_at (at w.nodes n) node e) tt h
   line_goes v (Ring n port) fits h = stepped_goes codecs digits number w gs holds below v n (event.Ring port) (lac_at (at w.nodes n)) (λ node e. is_lac_at (at w.nodes n) node e) tt h
   line_goes v (FromSub n session frame) fits h = stepped_goes codecs digits number w gs holds below v n (event.Payload session frame) (with_call session (lac_at (at w.nodes n))) (λ node e. is_lac_at (at w.nodes n) node (has_call session _ node e)) tt h

@@ -1,5 +1,5 @@
 -- Messages that an end takes, and frames that come to it.
-use Rattle.std.proofs.Common.{◌≡◌, inl, inr, ⊎_elim, ℕ, ◌+◌, ◌<◌, Bool, true, false, List, [], ◌∷◌, length, refl, sym, ap, Option, Some, None, Result, Ok, Err, arith}
+use Rattle.std.proofs.Common.{◌≡◌, inl, inr, ⊎_elim, ℕ, ◌+◌, ◌<◌, Bool, true, false, List, [], ◌∷◌, length, refl, sym, ap, ◌∙◌, Option, Some, None, Result, Ok, Err, arith}
 use Rattle.std.proofs.lemmas.Bool.{ltb-false, eqb-true, true≢false}
 use Rattle.std.specs.Prelude.{nat_lt, ◌==◌, ◌&&◌, not, unwrap_or}
 use Rattle.id_table.specs.Ids.{at, put}
@@ -27,7 +27,7 @@ use Rattle.protocol_model.specs.Names.{node_of, address_of, calling_number}
 use Rattle.protocol_model.specs.Turn.{Tunnel, turn_of, takes, makes, call_for}
 use Rattle.protocol_model.specs.End.{End, Stepped, header_why, gives_only, after_turn, drawn_session, last_session, is_up, is_connection, is_unborn, is_peer, side_of, frame_of, body_of, message_in, asked, replied, connected, about_call, in_call, hears, hears_said, in_tunnel, at_tunnel, at_zero, hands_up, frame_at, with_header, receives_datagram}
 use Rattle.protocol_model.specs.World.{World, Node}
-use Rattle.frame_laws.specs.Past.{Passage}
+use Rattle.frame_laws.specs.Past.{Passage, peer_of_tunnel}
 use Rattle.frame_laws.proofs.Facts.{Nodes, Born, Plays, Grows, Says, Mates, swapped, mates_later, BytesOk, CallOk, call_later, NodeOk}
 use Rattle.frame_laws.proofs.Changes.{at_new, plays_at}
 use Rattle.frame_laws.proofs.Turns.{TurnOk, turn_of_ok, takes_ok, makes_ok, connects_ok, comes_up_ok, MayRequestAll}
@@ -47,6 +47,10 @@ not_true false h = refl
 not_false : (a : Bool) → not a ≡ false → a ≡ true
 not_false true h = refl
 not_false false h = absurd (true≢false h)
+
+peer_by : (peer : ℕ) (o : Option Tunnel) → is_peer peer o ≡ true → peer_of_tunnel o ≡ node_of peer
+peer_by peer None h = absurd (true≢false (sym h))
+peer_by peer (Some t) h = ap node_of (eqb-true t.peer peer h)
 
 -- a node's address is its own
 pub node_again : (from : ℕ) → from < 256 → node_of (address_of from) ≡ from
@@ -119,7 +123,7 @@ module _ (digits : (port : ℕ) → length (calling_number port) ≡ 12) (w : Wo
         λ ms g born. record { birth = b; some = says.0.1; here = born; there = g.births (node_of t.peer) remote b says.0.2; role = Lns; mine = plays Lns lns ms g; its = g.roles (node_of t.peer) Lac says.1 } in
         let real : (ms : Nodes) → Grows w.nodes ms → Born ms n e.next_session b → TurnOk i t.peer (λ x m. Says ms n (node_of t.peer) x m) (λ q c. CallOk ms n e.config.role (e.next_session + 1) e.tunnels q c) (e.config.role ≡ Lns) (Made e.next_session t.peer remote ∷ []) (Some (e.next_session, call_for i remote)) (makes e.next_session remote (turn_of t)) =
         λ ms g born. makes_ok i t.peer _ _ _ e.next_session remote (turn_of t) written.0 (omega arith, first) (mates ms g born) (turn_of_ok i t.peer _ _ _ t o.local refl o.remote o.idle) in
-        turned_made w gs n old was ok ev e.next (e.next_session + 1) i t.peer _ (Old t is refl (omega arith)) ok.end.next (omega arith) (omega arith) e.next_session b t.peer remote (omega arith) (omega arith) says.0.1 says.0.2 (Some (e.next_session, call_for i remote))
+        turned_made w gs n old was ok ev e.next (e.next_session + 1) i t.peer _ (Old t is refl (omega arith)) ok.end.next (omega arith) (omega arith) e.next_session b t.peer remote (omega arith) (omega arith) says.0.1 says.0.2 lns (Some (e.next_session, call_for i remote))
         real
         (λ ms g born q c same. made_call_ok ms i t.peer remote b _ (real ms g born).peer_is says.0.1 born written.0 (mates ms g born) q c same))
 
@@ -224,23 +228,23 @@ module _ (digits : (port : ℕ) → length (calling_number port) ≡ 12) (w : Wo
     at_zero_ok (Ok (Icrp remote)) said = drops why.Tunnel
     at_zero_ok (Ok (Iccn speed framing sequenced)) said = drops why.Tunnel
 
-    frame_at_ok : (h : Header) → header_of bytes ≡ Ok h → h.control ≡ false → (o : Option Call) → Gives (frame_at e (address_of from) h (body_of h bytes) o)
+    frame_at_ok : (h : Header) → header_of bytes ≡ Ok h → h.control ≡ false → (o : Option Call) → at e.calls h.session ≡ o → Gives (frame_at e (address_of from) h (body_of h bytes) o)
     unfolding frame_at hands_up
-    frame_at_ok h is control None = drops why.Session
-    frame_at_ok h is control (Some c) =
+    frame_at_ok h is control None f = drops why.Session
+    frame_at_ok h is control (Some c) f =
         let given = read.frames h is control in
         branch Gives (is_unborn c.state) _ _ (λ k. drops why.Session)
         (λ k. branch Gives (not (c.tunnel == h.tunnel)) _ _ (λ k. drops why.Tunnel)
         (λ k. branch Gives (not (is_peer (address_of from) (at e.tunnels c.tunnel))) _ _ (λ k. drops why.Peer)
-        (λ k. branch Gives (nat_lt (length (frame_of (body_of h bytes))) 2) _ _ (λ k. drops why.Short)
+        (λ met. branch Gives (nat_lt (length (frame_of (body_of h bytes))) 2) _ _ (λ k. drops why.Short)
         (λ k. branch Gives (is_up c.state) _ _
-        (λ k. Handed h.session (side_of e.config.role) (frame_of (body_of h bytes)) refl given)
+        (λ k. Handed from h.session (side_of e.config.role) (frame_of (body_of h bytes)) refl given (rw f (peer_by (address_of from) (at e.tunnels c.tunnel) (not_false _ met) ∙ node_again from small)))
         (λ k. drops why.Closed)))))
 
     with_header_ok : (h : Header) → header_of bytes ≡ Ok h → Gives (with_header e (address_of from) h (body_of h bytes))
     unfolding with_header
     with_header_ok h is = branch Gives (not h.control) _ _
-        (λ k. frame_at_ok h is (not_true h.control k) (at e.calls h.session))
+        (λ k. frame_at_ok h is (not_true h.control k) (at e.calls h.session) refl)
         (λ k. branch Gives (h.tunnel == 0) _ _
         (λ x. at_zero_ok (message_in (body_of h bytes)) (λ m r. (read.letters h is (not_false h.control k) m r).0))
         (λ x. at_tunnel_ok h is (not_false h.control k) (at e.tunnels h.tunnel) refl))

@@ -1,5 +1,5 @@
 -- A run of lines.
-use Rattle.std.proofs.Common.{◌≡◌, ℕ, ◌+◌, ◌<◌, List, [], ◌∷◌, ◌++◌, length, refl, sym, ◌∙◌, Result, Ok, Err, arith}
+use Rattle.std.proofs.Common.{◌≡◌, ℕ, ◌+◌, ◌-◌, ◌^◌, ◌<◌, List, [], ◌∷◌, ◌++◌, length, refl, sym, ap, ◌∙◌, Option, Some, None, Result, Ok, Err, arith}
 use Rattle.std.proofs.lemmas.Option.{none-some}
 use Rattle.std.specs.List.{AllByRecursion}
 use Rattle.id_table.specs.Ids.{at-none}
@@ -7,11 +7,16 @@ use Rattle.wire_base.specs.declared.why.Why.{Why}
 use Rattle.schedule_text.specs.declared.line.Line.{Line}
 use Rattle.schedule_text.specs.Grammar.{AreLines}
 use Rattle.protocol_model.specs.Names.{calling_number}
-use Rattle.protocol_model.specs.World.{World, empty_world, line}
+use Rattle.protocol_model.specs.World.{World, Node, empty_world, line}
+use Rattle.protocol_model.specs.declared.tunnel.Role.TheVariants.{Lac}
+use Rattle.protocol_model.specs.Run.{Run, run_from, goes_on as run_goes_on}
 use Rattle.frame_laws.specs.Past.{Passage, Past, nothing, then_also, goes_past, past_from}
 use Rattle.frame_laws.specs.Frames.{WasSent, AreSent, FramesOfRuns}
-use Rattle.frame_laws.proofs.Facts.{Holds, among_left, all_map}
-use Rattle.frame_laws.proofs.Datagrams.{Codecs}
+use Rattle.frame_laws.proofs.Facts.{Born, birth_in_node, Holds, among_left, all_map}
+use Rattle.frame_laws.specs.Births.{BirthsOfRuns}
+use Rattle.frame_laws.proofs.Births.{Counted}
+use Rattle.frame_laws.proofs.Changes.{born_at, plays_at}
+use Rattle.frame_laws.specs.Codecs.{Codecs}
 use Rattle.frame_laws.proofs.Worlds.{Below, Goes}
 use Rattle.frame_laws.proofs.Lines.{line_goes}
 
@@ -28,7 +33,7 @@ record PastOk (number : ℕ) (w : World) (past : Past) : Type 0 where
 was_sent_later : (gs hs : List Passage) (h : Passage) → WasSent gs h → WasSent (gs ++ hs) h
 was_sent_later gs hs h s = record { passage = s.passage; there = among_left s.passage gs hs s.there; is = s.is }
 
-goes_on : (number : ℕ) (w v : World) (past more : Past) → PastOk number w past → Goes number past.sent v more → PastOk (number + 1) v (then_also past more)
+goes_on : (number : ℕ) (w v : World) (past more : Past) → PastOk number w past → Goes number w.nodes w.born past.sent v more → PastOk (number + 1) v (then_also past more)
 goes_on number w v past more ok g =
     record {
       holds = g.holds;
@@ -49,6 +54,14 @@ either_way : (rest : World → Past) (past : Past) (r : Result World Why) → Ar
 either_way rest past (Err x) stops more = stops
 either_way rest past (Ok v) stops more = more v refl
 
+counted_either : (rest : World → Run) (w : World) (number : ℕ) (r : Result World Why) → Counted w.nodes w.born → ((v : World) → r ≡ Ok v → Counted (rest v).world.nodes (rest v).world.born) → let x = (run_goes_on rest w number r).world in Counted x.nodes x.born
+unfolding run_goes_on
+counted_either rest w number (Err x) stops more = stops
+counted_either rest w number (Ok v) stops more = more v refl
+
+no_nodes : (i s x : ℕ) → Born empty_world.nodes i s x → None ≡ Some x
+no_nodes i s x h = sym (ap (λ (o : Option Node). birth_in_node o s) (at-none i)) ∙ h
+
 module _ (codecs : Codecs) (digits : (port : ℕ) → length (calling_number port) ≡ 12) where
   from_there : (number : ℕ) (lines : List Line) (w : World) (past : Past) → AreLines lines → PastOk number w past → AreSent (past_from number lines w past)
   unfolding past_from
@@ -57,5 +70,24 @@ module _ (codecs : Codecs) (digits : (port : ℕ) → length (calling_number por
       either_way _ past (line w number l) ok.sent
       (λ v h. from_there (number + 1) ls v _ fits.1 (goes_on number w v past _ ok (line_goes codecs digits number w past.sent ok.holds ok.lines v l fits.0 h)))
 
+  -- births stay apart where there are few lines
+  counted_from : (number : ℕ) (lines : List Line) (w : World) (past : Past) → AreLines lines → PastOk number w past → w.born + length lines < 2 ^ 64 - 1 → Counted w.nodes w.born → let v = (run_from number lines w).world in Counted v.nodes v.born
+  unfolding run_from
+  counted_from number [] w past fits ok few had = had
+  counted_from number (l ∷ ls) w past fits ok few had =
+      counted_either _ w number (line w number l) had
+      (λ v h.
+      let g = line_goes codecs digits number w past.sent ok.holds ok.lines v l fits.0 h in
+      let more = g.counts.few in
+      counted_from (number + 1) ls v _ fits.1 (goes_on number w v past _ ok g) (omega (arith, few, more)) (g.counts.counted (omega (arith, few)) had))
+
   pub frames_of_runs : FramesOfRuns
   frames_of_runs lines fits = from_there 1 lines empty_world nothing fits begins
+
+  pub births_of_runs : BirthsOfRuns
+  births_of_runs lines fits few birth n session m other a b =
+      let c = counted_from 1 lines empty_world nothing fits begins (omega (arith, few)) (record { most = λ i s x h. absurd (none-some x (no_nodes i s x h)); apart = λ i s j q x h k one two. absurd (none-some x (no_nodes i s x h)) }) in
+      let w = (run_from 1 lines empty_world).world in
+      c.apart n session m other birth
+      (born_at w.nodes n session birth a.node a.is a.birth_is) (born_at w.nodes m other birth b.node b.is b.birth_is)
+      (plays_at w.nodes n Lac a.node a.is a.role) (plays_at w.nodes m Lac b.node b.is b.role)

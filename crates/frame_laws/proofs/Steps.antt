@@ -17,9 +17,9 @@ use Rattle.protocol_model.specs.Names.{node_of}
 use Rattle.protocol_model.specs.Turn.{Turn}
 use Rattle.protocol_model.specs.End.{End, Stepped, gives_only, stays, with_made, changed_calls, after_turn}
 use Rattle.protocol_model.specs.World.{World, Node, with_node, noted_all, with_birth}
-use Rattle.frame_laws.specs.Past.{Passage, frame_in}
+use Rattle.frame_laws.specs.Past.{Passage, frame_in, peer_of_call}
 use Rattle.frame_laws.proofs.Facts.{Nodes, Born, Grows, Mates, Says, WasGiven, CallOk, EndOk, NodeOk, end_later, all_map}
-use Rattle.frame_laws.proofs.Changes.{with_end, at_new, After, grows, births_in, next_birth, some_birth, born_nodes, born_packets, made_nodes, made_packets, birth_is, noted_born, noted_made, after_none, after_birth, born_now, changed_end, changed_twice}
+use Rattle.frame_laws.proofs.Changes.{Adds, NextBirth, SameBirth, born_count, made_count, with_end, at_new, After, grows, births_in, next_birth, some_birth, born_nodes, born_packets, made_nodes, made_packets, birth_is, noted_born, noted_made, after_none, after_birth, born_now, changed_end, changed_twice}
 use Rattle.frame_laws.proofs.Turns.{TurnOk, OutOk}
 use Rattle.frame_laws.proofs.Ends.{Place, turned_ok}
 
@@ -36,8 +36,8 @@ noted_world w n old s = noted_all n s.notes (with_node w n (with_end old s.end))
 
 pub data StepOk (w : World) (gs : List Passage) (n : ℕ) (old : Node) (ev : Event) (s : Stepped) : Type 0 where
   Turned : (peer : ℕ) → After w n old s.end (noted_world w n old s) → EndOk (noted_world w n old s).nodes n s.end → AllByRecursion (OutOk peer (λ session m. Says (noted_world w n old s).nodes n (node_of peer) session m)) s.outputs → StepOk w gs n old ev s
-  Sent : (session peer tunnel remote : ℕ) → s ≡ gives_only old.end (Send peer (data_bytes tunnel remote None (frame_in ev)) (Data session)) → tunnel < 65536 → remote < 65536 → Mates w.nodes n session (node_of peer) remote → StepOk w gs n old ev s
-  Handed : (session : ℕ) (side : Side) (frame : List ℕ) → s ≡ gives_only old.end (Up session side frame) → WasGiven w.nodes gs n session frame → StepOk w gs n old ev s
+  Sent : (session peer tunnel remote : ℕ) → s ≡ gives_only old.end (Send peer (data_bytes tunnel remote None (frame_in ev)) (Data session)) → tunnel < 65536 → remote < 65536 → Mates w.nodes n session (node_of peer) remote → peer_of_call old.end (at old.end.calls session) ≡ node_of peer → StepOk w gs n old ev s
+  Handed : (from session : ℕ) (side : Side) (frame : List ℕ) → s ≡ gives_only old.end (Up session side frame) → WasGiven w.nodes gs from n session frame → peer_of_call old.end (at old.end.calls session) ≡ from → StepOk w gs n old ev s
 
 pub still : (ns : Nodes) → Grows ns ns
 still ns = record { births = λ n s b h. h; roles = λ n r h. h }
@@ -101,10 +101,10 @@ module _ (w : World) (gs : List Passage) (n : ℕ) (old : Node) (was : at w.node
     pub births_now : births_in r.notes ≡ births
     births_now = (real with_birth_now grows_now born_here).born
 
-    pub turned_with : (noted_all n r.notes turned_world).nodes ≡ with_birth_now → (noted_all n r.notes turned_world).packets ≡ w.packets → Step (after_turn drawn_end i r)
+    pub turned_with : (noted_all n r.notes turned_world).nodes ≡ with_birth_now → (noted_all n r.notes turned_world).packets ≡ w.packets → Adds w old (put old.births s b) (noted_all n r.notes turned_world).born → Step (after_turn drawn_end i r)
     unfolding after_turn
-    turned_with nodes packets =
-        let a = after_birth w n old turned_end was refl ok.births rises s b fresh drawn some (noted_all n r.notes turned_world) nodes packets in
+    turned_with nodes packets adds =
+        let a = after_birth w n old turned_end was refl ok.births rises s b fresh drawn some (noted_all n r.notes turned_world) nodes packets adds in
         let t = real with_birth_now grows_now born_here in
         let ended = turned_ok w.nodes with_birth_now n old.end ok.end next session i peer place (λ x m. Says with_birth_now n (node_of peer) x m) births made r next_fits rises session_fits grows_now t (made_ok with_birth_now grows_now born_here) in
         Turned peer a (rw nodes ended) (rw nodes t.outs)
@@ -116,11 +116,11 @@ module _ (w : World) (gs : List Passage) (n : ℕ) (old : Node) (was : at w.node
       let births = births_now next session i peer r place next_fits rises session_fits s (next_birth w) fresh drawn (some_birth w) (IsBorn s ∷ []) made real made_ok in
       let same = noted_born n s r.notes x births in
       let here = at_new w.nodes n _ in
-      turned_with next session i peer r place next_fits rises session_fits s (next_birth w) fresh drawn (some_birth w) (IsBorn s ∷ []) made real made_ok (ap (λ (v : World). v.nodes) same ∙ born_nodes x n s _ here) (ap (λ (v : World). v.packets) same ∙ born_packets x n s _ here)
+      turned_with next session i peer r place next_fits rises session_fits s (next_birth w) fresh drawn (some_birth w) (IsBorn s ∷ []) made real made_ok (ap (λ (v : World). v.nodes) same ∙ born_nodes x n s _ here) (ap (λ (v : World). v.packets) same ∙ born_packets x n s _ here) (NextBirth s refl (ap (λ (v : World). v.born) same ∙ born_count x n s _ here))
 
   -- by a note of a call that is made of a request for the call of that birth
-  pub turned_made : (next session i peer : ℕ) (r : Turn) (place : Place old.end next i peer) (next_fits : next ≤ 65536) (rises : old.end.next_session ≤ session) (session_fits : session ≤ 65535) (s b from remote : ℕ) (fresh : old.end.next_session ≤ s) (drawn : s < session) (some : 0 < b) (asked : Born w.nodes (node_of from) remote b) (made : Option (ℕ × Call)) (real : (ms : Nodes) → Grows w.nodes ms → Born ms n s b → TurnOk i peer (λ x m. Says ms n (node_of peer) x m) (λ q c. CallOk ms n old.end.config.role session old.end.tunnels q c) (old.end.config.role ≡ Lns) (Made s from remote ∷ []) made r) (made_ok : (ms : Nodes) → Grows w.nodes ms → Born ms n s b → (q : ℕ) (c : Call) → made ≡ Some (q, c) → CallOk ms n old.end.config.role session (put old.end.tunnels i r.tunnel) q c) → Step (after_turn (record old.end { next = next; next_session = session }) i r)
-  turned_made next session i peer r place next_fits rises session_fits s b from remote fresh drawn some asked made real made_ok =
+  pub turned_made : (next session i peer : ℕ) (r : Turn) (place : Place old.end next i peer) (next_fits : next ≤ 65536) (rises : old.end.next_session ≤ session) (session_fits : session ≤ 65535) (s b from remote : ℕ) (fresh : old.end.next_session ≤ s) (drawn : s < session) (some : 0 < b) (asked : Born w.nodes (node_of from) remote b) (lns : old.end.config.role ≡ Lns) (made : Option (ℕ × Call)) (real : (ms : Nodes) → Grows w.nodes ms → Born ms n s b → TurnOk i peer (λ x m. Says ms n (node_of peer) x m) (λ q c. CallOk ms n old.end.config.role session old.end.tunnels q c) (old.end.config.role ≡ Lns) (Made s from remote ∷ []) made r) (made_ok : (ms : Nodes) → Grows w.nodes ms → Born ms n s b → (q : ℕ) (c : Call) → made ≡ Some (q, c) → CallOk ms n old.end.config.role session (put old.end.tunnels i r.tunnel) q c) → Step (after_turn (record old.end { next = next; next_session = session }) i r)
+  turned_made next session i peer r place next_fits rises session_fits s b from remote fresh drawn some asked lns made real made_ok =
       let x = turned_world next session i peer r place next_fits rises session_fits s b fresh drawn some (Made s from remote ∷ []) made real made_ok in
       let e = turned_end next session i peer r place next_fits rises session_fits s b fresh drawn some (Made s from remote ∷ []) made real made_ok in
       let births = births_now next session i peer r place next_fits rises session_fits s b fresh drawn some (Made s from remote ∷ []) made real made_ok in
@@ -128,4 +128,4 @@ module _ (w : World) (gs : List Passage) (n : ℕ) (old : Node) (was : at w.node
       let g = grows w.nodes x.nodes n old _ (changed_end w n old e was refl ok.births rises) in
       let told = birth_is x (node_of from) remote b (g.births (node_of from) remote b asked) in
       let same = noted_made n s from remote r.notes x births ∙ ap (λ y. with_birth x n s y) told in
-      turned_with next session i peer r place next_fits rises session_fits s b fresh drawn some (Made s from remote ∷ []) made real made_ok (ap (λ (v : World). v.nodes) same ∙ made_nodes x n s b _ here) (ap (λ (v : World). v.packets) same ∙ made_packets x n s b _ here)
+      turned_with next session i peer r place next_fits rises session_fits s b fresh drawn some (Made s from remote ∷ []) made real made_ok (ap (λ (v : World). v.nodes) same ∙ made_nodes x n s b _ here) (ap (λ (v : World). v.packets) same ∙ made_packets x n s b _ here) (SameBirth s b (node_of from) remote refl (ap (λ (v : World). v.born) same ∙ made_count x n s b _ here) asked lns)

@@ -12,12 +12,14 @@ use Rattle.protocol_model.specs.declared.out.Origin.TheVariants.{Control, Data}
 use Rattle.protocol_model.specs.Names.{node_of}
 use Rattle.protocol_model.specs.End.{Stepped, gives_only}
 use Rattle.protocol_model.specs.World.{World, Node, with_node, noted_all, sent, told, shown, shown_all, after_step}
-use Rattle.frame_laws.specs.Past.{Passage, Past, frame_in, sent_by, handed_by, past_of_outputs, passage_at}
+use Rattle.frame_laws.specs.Codecs.{Codecs}
+use Rattle.frame_laws.specs.Past.{Passage, Past, frame_in, sent_by, handed_by, past_of_outputs, passage_at, peer_of_call}
 use Rattle.frame_laws.specs.Frames.{Among, WasSent, other_end}
 use Rattle.frame_laws.proofs.Facts.{Nodes, Plays, Grows, Mates, Says, WasGiven, BytesOk, PacketOk, EndOk, NodeOk, Holds, among_left, among_right, packets_later, node_later, end_later, all_map}
 use Rattle.frame_laws.proofs.Changes.{with_end, same_or_not, birth_is, role_there, After, grows, after_none}
+use Rattle.frame_laws.proofs.Births.{Counts, step_counts}
 use Rattle.frame_laws.proofs.Turns.{OutOk, all_push}
-use Rattle.frame_laws.proofs.Datagrams.{Codecs, control_ok, frame_ok}
+use Rattle.frame_laws.proofs.Datagrams.{control_ok, frame_ok}
 use Rattle.frame_laws.proofs.Steps.{StepOk, Turned, Sent, Handed, noted_world}
 
 -- ---- what is shown
@@ -29,6 +31,14 @@ shown_nodes number n (Send peer bytes origin ∷ os) w = shown_nodes number n os
 shown_nodes number n (Up session side frame ∷ os) w = shown_nodes number n os _
 shown_nodes number n (Drop x ∷ os) w = shown_nodes number n os _
 shown_nodes number n (Cause x ∷ os) w = shown_nodes number n os _
+
+pub shown_born : (number n : ℕ) (os : List Out) (w : World) → (shown_all number n os w).born ≡ w.born
+unfolding shown_all shown sent told
+shown_born number n [] w = refl
+shown_born number n (Send peer bytes origin ∷ os) w = shown_born number n os _
+shown_born number n (Up session side frame ∷ os) w = shown_born number n os _
+shown_born number n (Drop x ∷ os) w = shown_born number n os _
+shown_born number n (Cause x ∷ os) w = shown_born number n os _
 
 -- what is to hold of the bytes that are sent
 abbrev pub SendOk : (ℕ → List ℕ → Type 0) → Out → Type 0
@@ -51,10 +61,11 @@ abbrev pub Below : ℕ → List Passage → Type 0
 Below number gs = AllByRecursion (λ g. g.line < number) gs
 
 -- what a line adds, behind what was there
-pub record Goes (number : ℕ) (gs : List Passage) (after : World) (more : Past) : Type 0 where
+pub record Goes (number : ℕ) (ns : Nodes) (born : ℕ) (gs : List Passage) (after : World) (more : Past) : Type 0 where
   pub holds : Holds after (gs ++ more.sent)
   pub lines : Below (number + 1) more.sent
   pub sent : AllByRecursion (WasSent (gs ++ more.sent)) more.handed
+  pub counts : Counts ns born after
 
 -- no passage has a line that is later
 pub earlier : (number : ℕ) (gs : List Passage) → Below number gs → (g : Passage) → Among g gs → g.line < number
@@ -92,7 +103,7 @@ module _ (codecs : Codecs) (number : ℕ) (w : World) (gs : List Passage) (n : �
   after s = after_step w number n old s
 
   abbrev passage : Stepped → ℕ → List ℕ → Passage
-  passage s = passage_at number n old.end.config.role (after s)
+  passage s = passage_at number n old.end (after s)
 
   abbrev more : Stepped → Past
   more s = past_of_outputs (passage s) ev s.outputs
@@ -136,6 +147,13 @@ module _ (codecs : Codecs) (number : ℕ) (w : World) (gs : List Passage) (n : �
       let g : at (noted_nodes s) m ≡ Some node = rw (← after_nodes s) f in
       ⊎_elim (λ a. node_here s e m node g a) (λ a. node_there s e m node g a) (same_or_not m n)
 
+  after_born : (s : Stepped) → (after s).born ≡ (noted_world w n old s).born
+  unfolding after_step
+  after_born s = shown_born number n s.outputs _
+
+  counts_ok : (s : Stepped) → Ending s → Counts w.nodes w.born (after s)
+  counts_ok s e = step_counts w n old e.left.new (noted_world w n old s) (after s) e.left.change e.left.adds (after_nodes s) (after_born s)
+
   -- ---- each kind of step
 
   holds_after : (s : Stepped) (e : Ending s) → AllByRecursion (SendOk (λ to bytes. BytesOk (after s).nodes (gs ++ (more s).sent) n to bytes)) s.outputs → Holds (after s) (gs ++ (more s).sent)
@@ -149,42 +167,46 @@ module _ (codecs : Codecs) (number : ℕ) (w : World) (gs : List Passage) (n : �
   lines_of : (s : Stepped) → Below (number + 1) (more s).sent
   lines_of s = sent_below number n (passage s) (λ i f. refl) (frame_in ev) s.outputs
 
-  turned_goes : (s : Stepped) (peer : ℕ) → Ending s → AllByRecursion (OutOk peer (λ session m. Says (noted_nodes s) n (node_of peer) session m)) s.outputs → Goes number gs (after s) (more s)
+  turned_goes : (s : Stepped) (peer : ℕ) → Ending s → AllByRecursion (OutOk peer (λ session m. Says (noted_nodes s) n (node_of peer) session m)) s.outputs → Goes number w.nodes w.born gs (after s) (more s)
   turned_goes s peer e outs =
       let later : AllByRecursion (OutOk peer (λ session m. Says (after s).nodes n (node_of peer) session m)) s.outputs = rw (after_nodes s) outs in
       record {
         holds = holds_after s e (all_map _ _ (turn_sends codecs (after s).nodes (gs ++ (more s).sent) n peer) s.outputs later);
         lines = lines_of s;
         sent = none_handed peer (λ session m. Says (noted_nodes s) n (node_of peer) session m) (passage s) (WasSent (gs ++ (more s).sent)) s.outputs outs;
+        counts = counts_ok s e;
       }
 
   -- a frame is sent to the mate of its session
-  sent_goes : (session peer tunnel remote : ℕ) → tunnel < 65536 → remote < 65536 → Mates w.nodes n session (node_of peer) remote → let s = gives_only old.end (Send peer (data_bytes tunnel remote None (frame_in ev)) (Data session)) in Goes number gs (after s) (more s)
+  sent_goes : (session peer tunnel remote : ℕ) → tunnel < 65536 → remote < 65536 → Mates w.nodes n session (node_of peer) remote → peer_of_call old.end (at old.end.calls session) ≡ node_of peer → let s = gives_only old.end (Send peer (data_bytes tunnel remote None (frame_in ev)) (Data session)) in Goes number w.nodes w.born gs (after s) (more s)
   unfolding gives_only
-  sent_goes session peer tunnel remote t r mates =
+  sent_goes session peer tunnel remote t r mates to =
       let s = gives_only old.end (Send peer (data_bytes tunnel remote None (frame_in ev)) (Data session)) in
       let e = same_end (Send peer (data_bytes tunnel remote None (frame_in ev)) (Data session)) in
       let g = grows_to s e in
       let told = birth_is (after s) n session mates.birth (g.births n session mates.birth mates.here) in
       let role = role_there w.nodes n mates.role old was mates.mine in
-      let given : WasGiven (after s).nodes (gs ++ (more s).sent) (node_of peer) remote (frame_in ev) = record {
+      let given : WasGiven (after s).nodes (gs ++ (more s).sent) n (node_of peer) remote (frame_in ev) = record {
         passage = passage s session (frame_in ev);
         there = among_right (passage s session (frame_in ev)) gs (more s).sent (inl refl);
         frame_is = refl;
         birth = rw told (g.births (node_of peer) remote mates.birth mates.there);
         some = rw told mates.some;
         role = subst (λ r. Plays (after s).nodes (node_of peer) (other_end r)) (sym role) (g.roles (node_of peer) (other_end mates.role) mates.its);
+        from_is = refl;
+        to_is = to;
       } in
       record {
         holds = holds_after s e (frame_ok codecs (after s).nodes (gs ++ (more s).sent) n (node_of peer) tunnel remote (frame_in ev) t r given, tt);
         lines = lines_of s;
         sent = tt;
+        counts = counts_ok s e;
       }
 
   -- a frame that is handed up was given to the mate of its session
-  handed_goes : (session : ℕ) (side : Side) (frame : List ℕ) → WasGiven w.nodes gs n session frame → let s = gives_only old.end (Up session side frame) in Goes number gs (after s) (more s)
+  handed_goes : (from session : ℕ) (side : Side) (frame : List ℕ) → WasGiven w.nodes gs from n session frame → peer_of_call old.end (at old.end.calls session) ≡ from → let s = gives_only old.end (Up session side frame) in Goes number w.nodes w.born gs (after s) (more s)
   unfolding gives_only
-  handed_goes session side frame given =
+  handed_goes from session side frame given peer =
       let s = gives_only old.end (Up session side frame) in
       let e = same_end (Up session side frame) in
       let g = grows_to s e in
@@ -201,14 +223,17 @@ module _ (codecs : Codecs) (number : ℕ) (w : World) (gs : List Passage) (n : �
               birth = told;
               born = rw told given.some;
               end = role_there w.nodes n (other_end given.passage.role) old was given.role;
+              sender = peer ∙ sym given.from_is;
+              receiver = given.to_is;
               earlier = earlier number gs below given.passage given.there;
             };
           },
           tt,
         );
+        counts = counts_ok s e;
       }
 
-  pub step_goes : (s : Stepped) → StepOk w gs n old ev s → Goes number gs (after s) (more s)
+  pub step_goes : (s : Stepped) → StepOk w gs n old ev s → Goes number w.nodes w.born gs (after s) (more s)
   step_goes s (Turned peer a e outs) = turned_goes s peer (record { left = a; end_ok = e }) outs
-  step_goes s (Sent session peer tunnel remote same t r mates) = rw same (sent_goes session peer tunnel remote t r mates)
-  step_goes s (Handed session side frame same given) = rw same (handed_goes session side frame given)
+  step_goes s (Sent session peer tunnel remote same t r mates to) = rw same (sent_goes session peer tunnel remote t r mates to)
+  step_goes s (Handed from session side frame same given peer) = rw same (handed_goes from session side frame given peer)

@@ -18,6 +18,9 @@ pub record IsOf (sent handed : Passage) : Type 0 where
   -- births are counted from 1
   pub born : 0 < handed.birth
   pub end : handed.role ≡ other_end sent.role
+  -- the call's tunnel goes from each of the two nodes to the other
+  pub sender : handed.peer ≡ sent.node
+  pub receiver : sent.peer ≡ handed.node
   pub earlier : sent.line < handed.line
 
 -- one of them is this one

@@ -1,2 +1,4 @@
+pub mod Codecs
 pub mod Past
 pub mod Frames
+pub mod Births

@@ -11,8 +11,10 @@ use Rattle.protocol_model.specs.declared.out.Out.{Out}
 use Rattle.protocol_model.specs.declared.out.Out.TheVariants.{Send, Up, Drop, Cause}
 use Rattle.protocol_model.specs.declared.out.Origin.TheVariants.{Control, Data}
 use Rattle.protocol_model.specs.declared.packet.Packet.{Packet}
-use Rattle.protocol_model.specs.Names.{address_of}
-use Rattle.protocol_model.specs.End.{step}
+use Rattle.protocol_model.specs.declared.tunnel.Call.{Call}
+use Rattle.protocol_model.specs.Names.{address_of, node_of}
+use Rattle.protocol_model.specs.Turn.{Tunnel}
+use Rattle.protocol_model.specs.End.{End, step}
 use Rattle.protocol_model.specs.World.{World, Node, empty_world, line, birth_of}
 
 -- a PPP frame that an end sent in a call, or handed up in a call
@@ -22,6 +24,8 @@ pub record Passage : Type 0 where
   pub node : ℕ
   -- which end of the call the node is
   pub role : Role
+  -- the node that the call's tunnel goes to
+  pub peer : ℕ
   -- the call, by the session id that the node gave it, and by its birth
   pub session : ℕ
   pub birth : ℕ
@@ -69,15 +73,32 @@ handed_by passage (Cause x ∷ os) = handed_by passage os
 abbrev pub past_of_outputs : (ℕ → List ℕ → Passage) → Event → List Out → Past
 past_of_outputs passage e os = record { sent = sent_by passage (frame_in e) os; handed = handed_by passage os }
 
--- in a line, with the births as the line leaves them
-abbrev pub passage_at : ℕ → ℕ → Role → World → ℕ → List ℕ → Passage
-passage_at number n role after session frame =
-    record { line = number; node = n; role = role; session = session; birth = birth_of after n session; frame = frame }
+-- the node that a call's tunnel goes to
+abbrev pub peer_of_tunnel : Option Tunnel → ℕ
+peer_of_tunnel None = 0
+peer_of_tunnel (Some t) = node_of t.peer
+
+abbrev pub peer_of_call : End → Option Call → ℕ
+peer_of_call e None = 0
+peer_of_call e (Some c) = peer_of_tunnel (at e.tunnels c.tunnel)
+
+-- by an end in a line, with the births as the line leaves them
+abbrev pub passage_at : ℕ → ℕ → End → World → ℕ → List ℕ → Passage
+passage_at number n e after session frame =
+    record {
+      line = number;
+      node = n;
+      role = e.config.role;
+      peer = peer_of_call e (at e.calls session);
+      session = session;
+      birth = birth_of after n session;
+      frame = frame;
+    }
 
 -- of a node's step on an event
 abbrev pub past_of_step : ℕ → ℕ → Event → World → Option Node → Past
 past_of_step number n e after None = nothing
-past_of_step number n e after (Some node) = past_of_outputs (passage_at number n node.end.config.role after) e (step node.end e).outputs
+past_of_step number n e after (Some node) = past_of_outputs (passage_at number n node.end after) e (step node.end e).outputs
 
 -- ---- a line
 

@@ -3,4 +3,4 @@ pub mod Words
 pub mod Texts
 pub mod Due
 pub mod Ends
-pub mod Frames
+pub mod Runs

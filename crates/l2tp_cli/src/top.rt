@@ -4,7 +4,7 @@ ghost use Rattle.std.specs.Prelude.{◌≡◌, map, string_bytes};
 ghost use Rattle.l2tp_cli.specs.declared.words.Asked.TheVariants as asked;
 ghost use Rattle.l2tp_cli.specs.Words.{asked_of};
 ghost use Rattle.l2tp_cli.specs.Ends.{Ends, Tells};
-ghost use Rattle.l2tp_cli.specs.Frames.{FramesOfSchedules};
+ghost use Rattle.l2tp_cli.specs.Runs.{FramesOfTexts, BirthsOfTexts};
 
 use crate::answer::answer_to;
 use crate::exit::Exit;
@@ -52,13 +52,39 @@ fn run<S: Source, K: Sink>(alloc: Global, source: &mut S, sink: &mut K) -> Exit
     }
 }
 
+/// Runs the command that the words ask for.
+fn command<S: Source, K: Sink>(
+    alloc: Global,
+    words: &[String],
+    source: &mut S,
+    sink: &mut K,
+) -> Exit
+    ensures { Ends (asked_of (map string_bytes words.now)) result (record {
+      left = S.left source.old;
+      source_before = S.faults source.old;
+      source_after = S.faults source.new;
+      sink_before = K.faults sink.old;
+      sink_after = K.faults sink.new;
+      taken_before = K.taken sink.old;
+      taken_after = K.taken sink.new;
+    }) }
+{
+    match asked_of(words) {
+        Asked::Replay => run(alloc, source, sink),
+        Asked::Help => tell(sink, HELP, Exit::Ok),
+        Asked::Version => tell(sink, VERSION, Exit::Ok),
+        Asked::Nothing => tell(sink, USAGE, Exit::Usage),
+    }
+}
+
 /// Runs the command that the words after the program's name ask for, over a source and a sink.
 ///
 /// For `replay` it reads a schedule to its end, or to where it passes a limit, runs it, and writes the report of the run.
 /// `--help` and `--version` write their texts; other words write how the program is used.
 ///
 /// In the run of every schedule, this one or another, each frame that an end hands up in a call was sent at an earlier
-/// line, in a call of the same birth, by an end of the other kind.
+/// line, in a call of the same birth, by an end of the other kind, at the node that the call's tunnel goes to; and a birth
+/// is that of one LAC's call.
 pub fn replay_top<S: Source, K: Sink>(
     alloc: Global,
     words: &[String],
@@ -74,13 +100,11 @@ pub fn replay_top<S: Source, K: Sink>(
       taken_before = K.taken sink.old;
       taken_after = K.taken sink.new;
     }) }
-    ensures frames { FramesOfSchedules }
+    ensures frames { FramesOfTexts }
+    ensures births { BirthsOfTexts }
 {
+    schedule_text::lines_are_a_schedule();
     frame_laws::frames_were_sent();
-    match asked_of(words) {
-        Asked::Replay => run(alloc, source, sink),
-        Asked::Help => tell(sink, HELP, Exit::Ok),
-        Asked::Version => tell(sink, VERSION, Exit::Ok),
-        Asked::Nothing => tell(sink, USAGE, Exit::Usage),
-    }
+    frame_laws::births_are_apart();
+    command(alloc, words, source, sink)
 }

@@ -1,13 +1,12 @@
 -- How many lines a text begins, as it grows.
-use Rattle.std.proofs.Common.{◌≡◌, ℕ, zero, suc, ◌+◌, ◌-◌, ◌<◌, ◌≤◌, Bool, true, false, cond, eqb, ltb, List, [], ◌∷◌, ◌++◌, length, take, refl, sym, ap, ◌∙◌, arith, Option, Some, None, min, subst, length-append}
-use Rattle.std.specs.Prelude.{if◌then◌else◌, ◌||◌, slice_get, not, IfSome}
+use Rattle.std.proofs.Common.{◌≡◌, ℕ, suc, ◌+◌, ◌-◌, ◌<◌, ◌≤◌, Bool, true, false, cond, List, [], ◌∷◌, ◌++◌, length, take, refl, ap, ◌∙◌, arith, Some, None, length-append}
+use Rattle.std.specs.Prelude.{if◌then◌else◌, slice_get, not}
 use Rattle.std.specs.List.{count_by}
 use Rattle.std.proofs.lemmas.Bool.{lt-ltb, le-ltb}
 use Rattle.std.proofs.lemmas.List.{append-nil, take-append-le, take_all}
 use Rattle.std.proofs.lemmas.List.Sums.{sum_by-append}
 use Rattle.std.proofs.Math.Seq.{take-append-add}
 use Rattle.std.proofs.Math.Nat.{min-eq_left, min-eq_right}
-use Rattle.std.specs.Io.KnownBytes.{Consumes}
 use Rattle.port_traits.specs.Limits.{is_feed, is_inside, ends_inside, lines_begun, readable, passed, limit_passed}
 use Rattle.port_traits.specs.declared.limits.TheConstants.{MOST_BYTES, MOST_LINES}
 

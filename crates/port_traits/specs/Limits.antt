@@ -1,5 +1,5 @@
 -- Where a text passes its limits.
-use Rattle.std.specs.Prelude.{ℕ, ◌+◌, ◌-◌, ◌==◌, ◌||◌, nat_lt, not, Bool, false, List, [], length, take, count_by, slice_get, min, Option, Some, None, if◌then◌else◌}
+use Rattle.std.specs.Prelude.{ℕ, ◌+◌, ◌-◌, ◌==◌, ◌||◌, nat_lt, not, Bool, false, List, length, take, count_by, slice_get, min, Option, Some, None, if◌then◌else◌}
 use Rattle.port_traits.specs.declared.limits.TheConstants.{MOST_BYTES, MOST_LINES}
 
 abbrev pub is_feed : ℕ → Bool

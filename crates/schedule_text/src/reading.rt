@@ -90,3 +90,8 @@ pub fn read_schedule(alloc: Global, text: &[u8]) -> Result<Lines, ScheduleError>
 {
     read_all(alloc, text)
 }
+
+/// A law: the lines that a text is read as, by the definition of reading, are a schedule that the text spells.
+pub fn lines_are_a_schedule()
+    ensures { (text : List ℕ) (lines : List Line) → lines_of text ≡ Ok lines → IsSchedule text lines }
+{}

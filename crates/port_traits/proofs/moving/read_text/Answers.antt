@@ -1,4 +1,4 @@
-use Rattle.std.proofs.Common.{arith, ◌≡◌, ◌<◌, ◌≤◌, subst, take, ℕ, ◌+◌, ◌++◌, refl, List, [], Option, Some, None, length, length-append, length-take, min, ◌-◌, ap, sym, ◌∙◌}
+use Rattle.std.proofs.Common.{arith, ◌≡◌, ◌<◌, ◌≤◌, subst, take, ℕ, ◌+◌, ◌++◌, refl, List, [], Option, Some, None, length, length-append, length-take, min, ap, sym, ◌∙◌}
 use Rattle.port_traits.specs.ReadCauses.{IsTextOf}
 use Rattle.std.proofs.lemmas.List.{take-append-le}
 use Rattle.std.specs.Io.KnownBytes.{Consumes}

@@ -1,0 +1,14 @@
+use Rattle.std.proofs.Common.{◌∙◌, sym, refl}
+use Rattle.l2tp_cli.specs.declared.words.Asked.TheVariants as asked
+use Rattle.l2tp_cli.specs.declared.texts.TheConstants.{HELP, VERSION, USAGE}
+use Rattle.l2tp_cli.proofs.Ending.{told_own, told_usage}
+use Rattle.l2tp_cli.proofs.top.command.Goals as goal
+
+pub returns-in-Help : goal.returns-in-Help
+returns-in-Help g c = told_own _ asked.Help c.tell.result HELP.now _ (sym c.in-Help.is ∙ c.asked_of.ensures) refl refl c.tell.ensures
+
+pub returns-in-Version : goal.returns-in-Version
+returns-in-Version g c = told_own _ asked.Version c.tell-in-Version.result VERSION.now _ (sym c.in-Version.is ∙ c.asked_of.ensures) refl refl c.tell-in-Version.ensures
+
+pub returns-in-Nothing : goal.returns-in-Nothing
+returns-in-Nothing g c = told_usage _ c.tell-in-Nothing.result USAGE.now _ (sym c.in-Nothing.is ∙ c.asked_of.ensures) refl refl c.tell-in-Nothing.ensures
