@@ -1,11 +1,11 @@
 -- What the records that a stop keeps change of the tunnels, and what was known before.
 use Rattle.std.proofs.Common.{◌≡◌, ◌≢◌, ◌⊎◌, inl, inr, ⊎_elim, ℕ, true, cond, eqb, ltb, ◌&&◌, ◌||◌, List, [], ◌∷◌, refl, sym, ap, ◌∙◌, slice_get, Option, Some, None}
 use Rattle.epoch_machine.specs.Letters.{Letter, Sccrp, Scccn, Reply, Connect}
-use Rattle.epoch_machine.specs.Tunnels.{WaitReply, WaitConnect, Open, is_live, is_open, is_wait_reply, is_wait_connect, keeps_up, keeps_down}
+use Rattle.epoch_machine.specs.Tunnels.{WaitReply, WaitConnect, Open, is_open, is_wait_reply, is_wait_connect, keeps_up, keeps_down}
 use Rattle.epoch_machine.specs.Channels.{Stands}
 use Rattle.epoch_machine.specs.Calls.{WaitsReply, WaitsConnect, lives, waits_reply, waits_connect, keeps_call}
 use Rattle.epoch_machine.specs.Worlds.{World, is_sccrp, is_scccn}
-use Rattle.epoch_machine.specs.Moves.{Kept, TunnelUp, TunnelDown, CallUp, CallDown, may_keep, keeps, keeps_all, is_there, is_reply, is_connect}
+use Rattle.epoch_machine.specs.Moves.{Kept, TunnelUp, TunnelDown, CallUp, CallDown, may_clear, may_keep, keeps, keeps_all, is_there, is_reply, is_connect}
 use Rattle.epoch_machine.proofs.Splits.{chosen, at_name}
 use Rattle.epoch_machine.proofs.Tells.{both, either, same, named, open_phase, reply_phase, connect_phase, reply_state, connect_state}
 
@@ -74,7 +74,7 @@ up_tells w n x s h =
 
 down_tells : (w : World) (n x : ℕ) → may_keep w n (TunnelDown x) ≡ true → w.tunnels.node x ≡ n
 unfolding may_keep
-down_tells w n x h = same (w.tunnels.node x) n (both (eqb (w.tunnels.node x) n) (is_live (w.tunnels.phase x)) h).0
+down_tells w n x h = same (w.tunnels.node x) n (both (eqb (w.tunnels.node x) n) (may_clear w x) h).0
 
 -- what is shown of each record holds of all of them
 module _ (P : World → Type 0) (before : World) (n : ℕ) where

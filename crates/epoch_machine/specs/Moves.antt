@@ -83,6 +83,9 @@ delivers r w x s e k z None = w
 delivers r w x s e k z (Some StopCcn) = if may_take r w x s e k StopCcn then leaves w x Closed else w
 delivers r w x s e k z (Some l) = if may_take r w x s e k l then takes r (took_one w x) x s l z else w
 
+unfoldable pub may_clear : World → ℕ → Bool
+may_clear w x = is_live (w.tunnels.phase x) || (w.tunnels.booked x && w.tunnels.up (w.tunnels.node x))
+
 -- a step of node n may write this record: it's that node's, and the letter behind it stands
 unfoldable pub may_keep : World → ℕ → Kept → Bool
 may_keep w n (TunnelUp x s) =
@@ -90,7 +93,7 @@ may_keep w n (TunnelUp x s) =
     && ((is_name s && (w.tunnels.learned s == x))
     && ((is_wait_reply (w.tunnels.phase x) && is_there is_sccrp (slice_get (w.channels.sent s 0) 0))
     || (is_wait_connect (w.tunnels.phase x) && is_there is_scccn (slice_get (w.channels.sent s 0) 1))))
-may_keep w n (TunnelDown x) = (w.tunnels.node x == n) && is_live (w.tunnels.phase x)
+may_keep w n (TunnelDown x) = (w.tunnels.node x == n) && may_clear w x
 may_keep w n (CallUp z own k) =
     (w.tunnels.node (w.calls.tunnel z) == n)
     && (is_open (w.tunnels.phase (w.calls.tunnel z))
@@ -124,9 +127,6 @@ may_accept w s x = w.tunnels.up (w.tunnels.peer s) && ((w.tunnels.drawn s && w.t
 
 unfoldable pub may_take_refusal : World → ℕ → Bool
 may_take_refusal w x = w.channels.refused x && (is_wait_reply (w.tunnels.phase x) && (w.channels.taken x 0 == 0))
-
-unfoldable pub may_clear : World → ℕ → Bool
-may_clear w x = is_live (w.tunnels.phase x) || (w.tunnels.booked x && w.tunnels.up (w.tunnels.node x))
 
 unfoldable pub may_add : World → ℕ → ℕ → Bool
 may_add w x z = w.tunnels.opener x && ((is_open (w.tunnels.phase x) || is_wait_reply (w.tunnels.phase x)) && is_new w.calls.drawn z)

@@ -13,7 +13,7 @@ use Rattle.letter_laws.proofs.Begins.{not_entered}
 use Rattle.letter_laws.proofs.Sources.{FromLearned, FromNew, FromUnchosen, source, unlinked_end}
 use Rattle.birth_laws.proofs.Replies.{partner}
 use Rattle.coverage_laws.proofs.Runs.{Whole}
-use Rattle.stop_laws.specs.Records.{node_of, of_leaving, of_ending, of_call_letter, of_letter, of_delivery, records_of, each_allowed, clears_fallen}
+use Rattle.stop_laws.specs.Records.{node_of, of_leaving, of_ending, of_call_letter, of_letter, of_delivery, records_of, each_allowed}
 use Rattle.stop_laws.proofs.Lists.{all_of, kept_allowed}
 use Rattle.stop_laws.proofs.Books.{active_live}
 
@@ -39,9 +39,13 @@ unfolding each_allowed
 tested w n true ks h = h refl
 tested w n false ks h = refl
 
-leaving_allowed : (w : World) (x : ℕ) → is_live (w.tunnels.phase x) ≡ true → each_allowed w (w.tunnels.node x) (of_leaving w x) ≡ true
+live_clears : (w : World) (x : ℕ) → is_live (w.tunnels.phase x) ≡ true → may_clear w x ≡ true
+unfolding may_clear
+live_clears w x live = first (is_live (w.tunnels.phase x)) (w.tunnels.booked x && w.tunnels.up (w.tunnels.node x)) live
+
+leaving_allowed : (w : World) (x : ℕ) → may_clear w x ≡ true → each_allowed w (w.tunnels.node x) (of_leaving w x) ≡ true
 unfolding may_keep
-leaving_allowed w x live = one_allowed w (w.tunnels.node x) (is_established (w.tunnels.phase x) || w.tunnels.booked x) (TunnelDown x) (λ b. all_of (eqb (w.tunnels.node x) (w.tunnels.node x)) (is_live (w.tunnels.phase x)) (same_test (w.tunnels.node x) (w.tunnels.node x) refl) live)
+leaving_allowed w x may = one_allowed w (w.tunnels.node x) (is_established (w.tunnels.phase x) || w.tunnels.booked x) (TunnelDown x) (λ b. all_of (eqb (w.tunnels.node x) (w.tunnels.node x)) (may_clear w x) (same_test (w.tunnels.node x) (w.tunnels.node x) refl) may)
 
 ending_allowed : (w : World) (n z : ℕ) → w.tunnels.node (w.calls.tunnel z) ≡ n → (w.calls.booked z ≡ true → lives (w.calls.state z) ≡ true) → each_allowed w n (of_ending w z) ≡ true
 unfolding may_keep
@@ -127,7 +131,7 @@ module _ (w : World) (h : Whole w) where
   call_letter_allowed x s e k l t p = refl
 
   letter_allowed : (x s e k : ℕ) (l : Letter) → Takes all_rules w x s e k l → each_allowed w (w.tunnels.node x) (of_letter w x s k l) ≡ true
-  letter_allowed x s e k StopCcn t = leaving_allowed w x (active_live (w.tunnels.phase x) t.active)
+  letter_allowed x s e k StopCcn t = leaving_allowed w x (live_clears w x (active_live (w.tunnels.phase x) t.active))
   letter_allowed x s e k Sccrp t = one_allowed w (w.tunnels.node x) (is_wait_reply (w.tunnels.phase x)) (TunnelUp x s) (λ b. connect_allowed x s e k t (reply_phase (w.tunnels.phase x) b))
   letter_allowed x s e k Scccn t = one_allowed w (w.tunnels.node x) (is_wait_connect (w.tunnels.phase x)) (TunnelUp x s) (λ b. confirm_allowed x s e k t (connect_phase (w.tunnels.phase x) b))
   letter_allowed x s e k l t = tested w (w.tunnels.node x) (is_open (w.tunnels.phase x)) (of_call_letter w x k l) (λ b. call_letter_allowed x s e k l t (open_phase (w.tunnels.phase x) b))
@@ -145,17 +149,13 @@ module _ (w : World) (h : Whole w) where
   unfolding may_end_silent
   silent_alive z b = (both (lives (w.calls.state z)) (not (is_active (w.tunnels.phase (w.calls.tunnel z))) || waits (w.calls.state z)) b).0
 
-  still_live : (b : Bool) → not b ≡ false → b ≡ true
-  still_live true i = refl
-  still_live false i = absurd cc
-
-  pub step_allowed : (m : Move) → clears_fallen w m ≡ false → each_allowed w (node_of w m) (records_of w m) ≡ true
-  unfolding node_of records_of clears_fallen each_allowed
-  step_allowed (TakesRefusal x) n = tested w (w.tunnels.node x) (may_take_refusal w x) (of_leaving w x) (λ b. leaving_allowed w x (ap is_live (refusal_tells w x b).0))
-  step_allowed (Delivers x s e k z) n = delivery_allowed x s e k (slice_get (w.channels.sent s e) k) refl
-  step_allowed (Closes x) n = tested w (w.tunnels.node x) (is_active (w.tunnels.phase x)) (of_leaving w x) (λ b. leaving_allowed w x (active_live (w.tunnels.phase x) b))
-  step_allowed (Clears x) n = tested w (w.tunnels.node x) (may_clear w x) (of_leaving w x) (λ b. leaving_allowed w x (still_live (is_live (w.tunnels.phase x)) n))
-  step_allowed (EndsTold z) n = tested w (w.tunnels.node (w.calls.tunnel z)) (may_end_told w z) (of_ending w z) (λ b. ending_allowed w (w.tunnels.node (w.calls.tunnel z)) z refl (λ i. told_alive z b))
-  step_allowed (EndsSilent z) n = tested w (w.tunnels.node (w.calls.tunnel z)) (may_end_silent w z) (of_ending w z) (λ b. ending_allowed w (w.tunnels.node (w.calls.tunnel z)) z refl (λ i. silent_alive z b))
-  step_allowed (Stops k ks) n = kept_allowed w k ks
-  step_allowed m n = refl
+  pub step_allowed : (m : Move) → each_allowed w (node_of w m) (records_of w m) ≡ true
+  unfolding node_of records_of each_allowed
+  step_allowed (TakesRefusal x) = tested w (w.tunnels.node x) (may_take_refusal w x) (of_leaving w x) (λ b. leaving_allowed w x (live_clears w x (ap is_live (refusal_tells w x b).0)))
+  step_allowed (Delivers x s e k z) = delivery_allowed x s e k (slice_get (w.channels.sent s e) k) refl
+  step_allowed (Closes x) = tested w (w.tunnels.node x) (is_active (w.tunnels.phase x)) (of_leaving w x) (λ b. leaving_allowed w x (live_clears w x (active_live (w.tunnels.phase x) b)))
+  step_allowed (Clears x) = tested w (w.tunnels.node x) (may_clear w x) (of_leaving w x) (λ b. leaving_allowed w x b)
+  step_allowed (EndsTold z) = tested w (w.tunnels.node (w.calls.tunnel z)) (may_end_told w z) (of_ending w z) (λ b. ending_allowed w (w.tunnels.node (w.calls.tunnel z)) z refl (λ i. told_alive z b))
+  step_allowed (EndsSilent z) = tested w (w.tunnels.node (w.calls.tunnel z)) (may_end_silent w z) (of_ending w z) (λ b. ending_allowed w (w.tunnels.node (w.calls.tunnel z)) z refl (λ i. silent_alive z b))
+  step_allowed (Stops k ks) = kept_allowed w k ks
+  step_allowed m = refl

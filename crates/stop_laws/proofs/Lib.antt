@@ -5,4 +5,3 @@ pub mod Steps
 pub mod Moves
 pub mod Allowed
 pub mod Cuts
-pub mod Computed

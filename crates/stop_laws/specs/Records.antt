@@ -82,11 +82,6 @@ unfoldable pub each_allowed : World → ℕ → List Kept → Bool
 each_allowed w n [] = true
 each_allowed w n (k ∷ ks) = may_keep w n k && each_allowed w n ks
 
--- a tunnel that doesn't live is cleared from the book
-unfoldable pub clears_fallen : World → Move → Bool
-clears_fallen w (Clears x) = not (is_live (w.tunnels.phase x))
-clears_fallen w m = false
-
 -- the same tunnels and calls stand in both books, with the same other ends
 pub record SameBook (v w : World) : Type 0 where
   pub tunnels : (x : ℕ) → v.tunnels.booked x ≡ w.tunnels.booked x

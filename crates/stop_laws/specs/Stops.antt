@@ -1,12 +1,12 @@
 -- A step that is cut after a prefix of its records.
-use Rattle.std.specs.Prelude.{◌≡◌, false, true, List, [], ◌∷◌, ◌++◌}
+use Rattle.std.specs.Prelude.{◌≡◌, true, List, ◌++◌}
 use Rattle.epoch_machine.specs.Worlds.{World, all_rules}
-use Rattle.epoch_machine.specs.Moves.{Move, Opens, Accepts, Delivers, Clears, Starts, Kept, TunnelDown, Stops, falls, step, after}
+use Rattle.epoch_machine.specs.Moves.{Move, Kept, Stops, falls, step, after}
 use Rattle.epoch_laws.specs.Epochs.{EpochsHold}
 use Rattle.letter_laws.specs.Letters.{LettersHold}
 use Rattle.birth_laws.specs.Births.{CallsHold, LettersMean}
 use Rattle.coverage_laws.specs.Coverage.{StatesHold, QueriesHold, PairsCovered, EndsAgree}
-use Rattle.stop_laws.specs.Records.{node_of, records_of, writes, each_allowed, clears_fallen, SameBook}
+use Rattle.stop_laws.specs.Records.{node_of, records_of, writes, each_allowed, SameBook}
 
 -- of a step these records were written, and then its node went down
 abbrev pub cut : World → Move → List Kept → World
@@ -32,18 +32,9 @@ pub record AllHolds (w : World) : Type 0 where
 pub record StopsAmidSteps : Type 0 where
   -- the step's records make of the book what the step makes of it
   pub same_book : (ms : List Move) (m : Move) → SameBook (writes (after all_rules ms) (records_of (after all_rules ms) m)) (step all_rules (after all_rules ms) m)
-  -- each prefix of them may be kept, and the step that is cut there is a stop; unless the step clears a tunnel that doesn't live
-  pub allowed : (ms : List Move) (m : Move) (ks rest : List Kept) → clears_fallen (after all_rules ms) m ≡ false → ks ++ rest ≡ records_of (after all_rules ms) m → each_allowed (after all_rules ms) (node_of (after all_rules ms) m) ks ≡ true
-  pub is_stop : (ms : List Move) (m : Move) (ks rest : List Kept) → clears_fallen (after all_rules ms) m ≡ false → ks ++ rest ≡ records_of (after all_rules ms) m → step all_rules (after all_rules ms) (Stops (node_of (after all_rules ms) m) ks) ≡ cut (after all_rules ms) m ks
-  -- in any case it's where a list of moves leads, and keeps all
+  -- each prefix of them may be kept, and the step that is cut there is a stop
+  pub allowed : (ms : List Move) (m : Move) (ks rest : List Kept) → ks ++ rest ≡ records_of (after all_rules ms) m → each_allowed (after all_rules ms) (node_of (after all_rules ms) m) ks ≡ true
+  pub is_stop : (ms : List Move) (m : Move) (ks rest : List Kept) → ks ++ rest ≡ records_of (after all_rules ms) m → step all_rules (after all_rules ms) (Stops (node_of (after all_rules ms) m) ks) ≡ cut (after all_rules ms) m ks
+  -- so it's where a list of moves leads, and keeps all
   pub is_reached : (ms : List Move) (m : Move) (ks rest : List Kept) → ks ++ rest ≡ records_of (after all_rules ms) m → IsReached (cut (after all_rules ms) m ks)
   pub keeps_all : (ms : List Move) (m : Move) (ks rest : List Kept) → ks ++ rest ≡ records_of (after all_rules ms) m → AllHolds (cut (after all_rules ms) m ks)
-
--- tunnel 11 of node 1 is established, and its node goes down and comes up
-abbrev pub down_and_up : List Move
-down_and_up = Opens 1 2 11 ∷ Accepts 11 21 ∷ Delivers 11 21 0 0 0 ∷ Stops 1 [] ∷ Starts 1 ∷ []
-
--- as the tunnel is then cleared from the book, which it wasn't restored from, the record is none that a stop keeps
-pub record ClearsBeyondStops : Type 0 where
-  pub written : records_of (after all_rules down_and_up) (Clears 11) ≡ TunnelDown 11 ∷ []
-  pub not_allowed : each_allowed (after all_rules down_and_up) 1 (TunnelDown 11 ∷ []) ≡ false
