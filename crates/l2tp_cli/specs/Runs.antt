@@ -1,5 +1,6 @@
 -- What holds of the run of each text's lines, the one that `due_of` speaks of.
-use Rattle.std.specs.Prelude.{◌≡◌, ℕ, ◌<◌, ◌-◌, ◌^◌, List, length, Ok}
+use Rattle.std.specs.Prelude.{◌≡◌, ℕ, List, None, Ok}
+use Rattle.port_traits.specs.Limits.{limit_passed}
 use Rattle.schedule_text.specs.declared.line.Line.{Line}
 use Rattle.schedule_text.specs.Reading.{lines_of}
 use Rattle.protocol_model.specs.Run.{run}
@@ -11,6 +12,6 @@ use Rattle.frame_laws.specs.Births.{AreApart}
 abbrev pub FramesOfTexts : Type 0
 FramesOfTexts = (text : List ℕ) (lines : List Line) → lines_of text ≡ Ok lines → AreSent (past_of lines)
 
--- a birth is that of one LAC's call, as long as 64 bits count the lines; a text that is run has 1048576 lines at most
+-- a birth is that of one LAC's call, in the run of a text that passes no limit
 abbrev pub BirthsOfTexts : Type 0
-BirthsOfTexts = (text : List ℕ) (lines : List Line) → lines_of text ≡ Ok lines → length lines < 2 ^ 64 - 1 → AreApart (run lines).world
+BirthsOfTexts = (text : List ℕ) (lines : List Line) → limit_passed text ≡ None → lines_of text ≡ Ok lines → AreApart (run lines).world

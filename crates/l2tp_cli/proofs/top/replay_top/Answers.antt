@@ -1,3 +1,4 @@
+use Rattle.l2tp_cli.proofs.Counts.{few_lines}
 use Rattle.l2tp_cli.proofs.top.replay_top.Goals as goal
 
 pub returns-clause-ends : goal.returns-clause-ends
@@ -7,4 +8,4 @@ pub returns-clause-frames : goal.returns-clause-frames
 returns-clause-frames g c = λ text lines h. c.frames_were_sent.ensures lines (c.lines_are_a_schedule.ensures text lines h).fits
 
 pub returns-clause-births : goal.returns-clause-births
-returns-clause-births g c = λ text lines h few. c.births_are_apart.ensures lines (c.lines_are_a_schedule.ensures text lines h).fits few
+returns-clause-births g c = λ text lines within h. let is = c.lines_are_a_schedule.ensures text lines h in c.births_are_apart.ensures lines is.fits (few_lines text lines within is)
