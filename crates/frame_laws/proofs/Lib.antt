@@ -11,4 +11,5 @@ pub mod Messages
 pub mod Events
 pub mod Worlds
 pub mod Lines
+pub mod Reports
 pub mod Runs

@@ -30,7 +30,7 @@ use Rattle.frame_laws.proofs.Worlds.{Below, Goes, step_goes}
 
 -- ---- which node it is
 
-is_declared : (o : Option Node) (node : Node) → declared o ≡ Ok node → o ≡ Some node
+pub is_declared : (o : Option Node) (node : Node) → declared o ≡ Ok node → o ≡ Some node
 is_declared None node h = absurd (cc)
 is_declared (Some x) node h = cc
 
@@ -39,19 +39,19 @@ tested : {X Y : Type 0} (a : Bool) (x : X) (y : Y) (z : X) → cond a (Ok x) (Er
 tested true x y z h = cc
 tested false x y z h = absurd (cc)
 
-tested_not : {X Y : Type 0} (a : Bool) (x : X) (y : Y) (z : X) → cond a (Err y) (Ok x) ≡ Ok z → (a ≡ false) × (x ≡ z)
+pub tested_not : {X Y : Type 0} (a : Bool) (x : X) (y : Y) (z : X) → cond a (Err y) (Ok x) ≡ Ok z → (a ≡ false) × (x ≡ z)
 tested_not true x y z h = absurd (cc)
 tested_not false x y z h = (refl, cc)
 
-is_lac_at : (o : Option Node) (node : Node) → lac_at o ≡ Ok node → o ≡ Some node
+pub is_lac_at : (o : Option Node) (node : Node) → lac_at o ≡ Ok node → o ≡ Some node
 is_lac_at None node h = absurd (cc)
 is_lac_at (Some x) node h = ap (λ y. Some y) (tested (is_lac x.end.config.role) x why.Node node h)
 
-is_lns_at : (o : Option Node) (node : Node) → lns_at o ≡ Ok node → o ≡ Some node
+pub is_lns_at : (o : Option Node) (node : Node) → lns_at o ≡ Ok node → o ≡ Some node
 is_lns_at None node h = absurd (cc)
 is_lns_at (Some x) node h = ap (λ y. Some y) (tested_not (is_lac x.end.config.role) x why.Node node h).1
 
-has_call : (session : ℕ) (r : Result Node Why) (node : Node) → with_call session r ≡ Ok node → r ≡ Ok node
+pub has_call : (session : ℕ) (r : Result Node Why) (node : Node) → with_call session r ≡ Ok node → r ≡ Ok node
 has_call session (Err x) node h = absurd (cc)
 has_call session (Ok x) node h = ap (λ y. Ok y) (tested (is_some (at x.end.calls session)) x why.Call node h)
 

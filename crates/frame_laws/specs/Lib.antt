@@ -2,3 +2,4 @@ pub mod Codecs
 pub mod Past
 pub mod Frames
 pub mod Births
+pub mod Reports

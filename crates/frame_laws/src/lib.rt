@@ -4,6 +4,7 @@
 ghost use Rattle.frame_laws.specs.Births.{BirthsOfRuns};
 ghost use Rattle.frame_laws.specs.Codecs.{Codecs};
 ghost use Rattle.frame_laws.specs.Frames.{FramesOfRuns};
+ghost use Rattle.frame_laws.specs.Reports.{ReportsOfRuns};
 
 /// What the codecs promise of what they write.
 fn written_is_read_again()
@@ -23,6 +24,11 @@ pub fn frames_were_sent()
 {
     written_is_read_again();
 }
+
+/// In every run, the lines that tell of frames which are handed up tell, in order, of those that the past has.
+pub fn reports_tell_the_past()
+    ensures { ReportsOfRuns }
+{}
 
 /// After every list of fewer lines than 64 bits count, two sessions of LACs with one birth are one session: a birth is one
 /// subscriber's call.

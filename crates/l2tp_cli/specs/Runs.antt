@@ -6,11 +6,18 @@ use Rattle.schedule_text.specs.Reading.{lines_of}
 use Rattle.protocol_model.specs.Run.{run}
 use Rattle.frame_laws.specs.Past.{past_of}
 use Rattle.frame_laws.specs.Frames.{AreSent}
+use Rattle.frame_laws.specs.Reports.{IsReport}
 use Rattle.frame_laws.specs.Births.{AreApart}
 
--- each frame that an end hands up was sent at an earlier line, in a call of the same birth, by its other end
+-- the frames of a run
+pub record FramesOf (lines : List Line) : Type 0 where
+  -- the `up` lines of its report tell of the frames that were handed up
+  pub told : IsReport (run lines).world.report (past_of lines)
+  -- and each of them was sent at an earlier line, in a call of the same birth, by its other end
+  pub sent : AreSent (past_of lines)
+
 abbrev pub FramesOfTexts : Type 0
-FramesOfTexts = (text : List ℕ) (lines : List Line) → lines_of text ≡ Ok lines → AreSent (past_of lines)
+FramesOfTexts = (text : List ℕ) (lines : List Line) → lines_of text ≡ Ok lines → FramesOf lines
 
 -- a birth is that of one LAC's call, in the run of a text that passes no limit
 abbrev pub BirthsOfTexts : Type 0
