@@ -12,4 +12,5 @@ pub mod Events
 pub mod Worlds
 pub mod Lines
 pub mod Reports
+pub mod Samples
 pub mod Runs

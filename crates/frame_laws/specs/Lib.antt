@@ -3,3 +3,4 @@ pub mod Past
 pub mod Frames
 pub mod Births
 pub mod Reports
+pub mod Samples

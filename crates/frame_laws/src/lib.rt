@@ -5,6 +5,7 @@ ghost use Rattle.frame_laws.specs.Births.{BirthsOfRuns};
 ghost use Rattle.frame_laws.specs.Codecs.{Codecs};
 ghost use Rattle.frame_laws.specs.Frames.{FramesOfRuns};
 ghost use Rattle.frame_laws.specs.Reports.{ReportsOfRuns};
+ghost use Rattle.frame_laws.specs.Samples.{GoesEachWay};
 
 /// What the codecs promise of what they write.
 fn written_is_read_again()
@@ -37,3 +38,8 @@ pub fn births_are_apart()
 {
     written_is_read_again();
 }
+
+/// A run, computed: over one call each end sends a frame, and the other end hands it up.
+pub fn a_frame_goes_each_way()
+    ensures { GoesEachWay }
+{}
