@@ -106,11 +106,11 @@ pub record WasGiven (ns : Nodes) (gs : List Passage) (from to session : ℕ) (fr
   pub from_is : passage.node ≡ from
   pub to_is : passage.peer ≡ to
 
-pub among_left : (g : Passage) (gs hs : List Passage) → Among g gs → Among g (gs ++ hs)
+pub among_left : {X : Type 0} (g : X) (gs hs : List X) → Among g gs → Among g (gs ++ hs)
 among_left g [] hs h = absurd h
 among_left g (q ∷ gs) hs h = ⊎_elim (λ a. inl a) (λ a. inr (among_left g gs hs a)) h
 
-pub among_right : (g : Passage) (gs hs : List Passage) → Among g hs → Among g (gs ++ hs)
+pub among_right : {X : Type 0} (g : X) (gs hs : List X) → Among g hs → Among g (gs ++ hs)
 among_right g [] hs h = h
 among_right g (q ∷ gs) hs h = inr (among_right g gs hs h)
 

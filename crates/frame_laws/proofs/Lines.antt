@@ -63,8 +63,8 @@ packet_at P (q ∷ ps) zero p is h = let e : q ≡ p = cc in subst P e h.0
 packet_at P (q ∷ ps) (suc k) p is h = packet_at P ps k p is h.1
 
 -- a line without a step
-quiet_goes : (number : ℕ) (w v : World) (gs : List Passage) → Holds v gs → Counts w.nodes w.born v → Goes number w.nodes w.born gs v nothing
-quiet_goes number w v gs holds counts = record { holds = subst (Holds v) (sym (append-nil gs)) holds; lines = tt; sent = tt; counts = counts }
+quiet_goes : (number : ℕ) (w v : World) (gs : List Passage) → Holds v gs → Counts w.nodes w.born v → v.packets ≡ w.packets → Goes number w.nodes w.born w.packets gs v nothing
+quiet_goes number w v gs holds counts same = record { holds = subst (Holds v) (sym (append-nil gs)) holds; lines = tt; sent = tt; counts = counts; carried = tt; grown = ([], same ∙ sym (append-nil w.packets)) }
 
 -- one more node
 module _ (ns : Nodes) (n : ℕ) (c : Config) (none : at ns n ≡ None) where
@@ -139,6 +139,10 @@ added_holds w v n c gs lt number h holds =
       packets = subst (λ hs. AllByRecursion (PacketOk (put w.nodes n new) hs) w.packets) (append-nil gs) (packets_later w.nodes (put w.nodes n new) g gs [] w.packets holds.packets);
     })
 
+added_packets : (w v : World) (n : ℕ) (c : Config) → added w n c ≡ Ok v → v.packets ≡ w.packets
+unfolding added
+added_packets w v n c h = ap (λ (x : World). x.packets) (sym (tested_not (is_some (at w.nodes n)) (with_node w n (record { end = new_end c; births = [] })) why.Twice v h).1)
+
 -- with no birth of the new node
 added_counts : (w v : World) (n : ℕ) (c : Config) → added w n c ≡ Ok v → Counts w.nodes w.born v
 unfolding added
@@ -148,40 +152,40 @@ added_counts w v n c h =
     subst (λ (x : World). Counts w.nodes w.born x) t.1 (record { few = omega arith; counted = λ few had. fresh_counted w.nodes n c none w.born had })
 
 module _ (codecs : Codecs) (digits : (port : ℕ) → length (calling_number port) ≡ 12) (number : ℕ) (w : World) (gs : List Passage) (holds : Holds w gs) (below : Below number gs) where
-  stepped_goes : (v : World) (n : ℕ) (ev : Event) (o : Result Node Why) → ((node : Node) → o ≡ Ok node → at w.nodes n ≡ Some node) → IsReal w gs n ev → stepped w number n ev o ≡ Ok v → Goes number w.nodes w.born gs v (past_of_step number n ev v (at w.nodes n))
+  stepped_goes : (v : World) (n : ℕ) (ev : Event) (o : Result Node Why) → ((node : Node) → o ≡ Ok node → at w.nodes n ≡ Some node) → IsReal w gs n ev → stepped w number n ev o ≡ Ok v → Goes number w.nodes w.born w.packets gs v (past_of_step number n ev v (at w.nodes n))
   unfolding stepped
   stepped_goes v n ev (Err x) is real h = absurd (cc)
   stepped_goes v n ev (Ok node) is real h =
       let was = is node refl in
       let e : after_step w number n node (step node.end ev) ≡ v = cc in
       let g = step_goes codecs number w gs n node was holds below ev (step node.end ev) (step_ok digits w gs n node was (holds.nodes n node was) ev real) in
-      subst (λ (x : World). Goes number w.nodes w.born gs x (past_of_step number n ev x (at w.nodes n))) e (rw was g)
+      subst (λ (x : World). Goes number w.nodes w.born w.packets gs x (past_of_step number n ev x (at w.nodes n))) e (rw was g)
 
 module _ (codecs : Codecs) (digits : (port : ℕ) → length (calling_number port) ≡ 12) (number : ℕ) (w : World) (gs : List Passage) (holds : Holds w gs) (below : Below number gs) where
   marked_holds : (counts : Bool) (n : ℕ) → Holds (marked counts n w) gs
   unfolding marked
   marked_holds counts n = record { nodes = holds.nodes; packets = holds.packets }
 
-  arrives_goes : (v : World) (p : Packet) → PacketOk w.nodes gs p → arrives w number p ≡ Ok v → Goes number w.nodes w.born gs v (past_of_event number w v (arrival_of (Some p)))
+  arrives_goes : (v : World) (p : Packet) → PacketOk w.nodes gs p → arrives w number p ≡ Ok v → Goes number w.nodes w.born w.packets gs v (past_of_event number w v (arrival_of (Some p)))
   unfolding arrives marked
   arrives_goes v p sent h = stepped_goes codecs digits number (marked (is_some p.place) p.to w) gs (marked_holds (is_some p.place) p.to) below v p.to (event.Datagram (address_of p.from) p.bytes) (declared (at w.nodes p.to)) (λ node e. is_declared (at w.nodes p.to) node e) (p.from, sent.from, refl, sent.bytes) h
 
   -- a packet that may be delivered is one that was sent, and its node is declared
-  delivers_goes : (v : World) (o : Option Packet) → ((p : Packet) → o ≡ Some p → PacketOk w.nodes gs p) → delivers w number o ≡ Ok v → Goes number w.nodes w.born gs v (past_of_event number w v (arrival_of o))
+  delivers_goes : (v : World) (o : Option Packet) → ((p : Packet) → o ≡ Some p → PacketOk w.nodes gs p) → delivers w number o ≡ Ok v → Goes number w.nodes w.born w.packets gs v (past_of_event number w v (arrival_of o))
   unfolding delivers delivers_it arrival arrives
   delivers_goes v None sent h = absurd (cc)
   delivers_goes v (Some p) sent h = by (not (is_some (at w.nodes p.to))) (is_next w.delivered p.to p.place) h
     where
-      by : (a b : Bool) → delivers_it w number (cond a (Err why.Node) (cond b (Ok p) (Err why.Order))) ≡ Ok v → Goes number w.nodes w.born gs v (past_of_event number w v (arrival_of (Some p)))
+      by : (a b : Bool) → delivers_it w number (cond a (Err why.Node) (cond b (Ok p) (Err why.Order))) ≡ Ok v → Goes number w.nodes w.born w.packets gs v (past_of_event number w v (arrival_of (Some p)))
       by true b h = absurd (cc)
       by false false h = absurd (cc)
       by false true h = arrives_goes v p (sent p refl) h
 
-  pub line_goes : (v : World) (l : Line) → FitsLine l → line w number l ≡ Ok v → Goes number w.nodes w.born gs v (past_of_line number w v l)
+  pub line_goes : (v : World) (l : Line) → FitsLine l → line w number l ≡ Ok v → Goes number w.nodes w.born w.packets gs v (past_of_line number w v l)
   unfolding line past_of_line
-  line_goes v (Remark text) fits h = quiet_goes number w v gs (let e : w ≡ v = cc in subst (λ (x : World). Holds x gs) e holds) (let e : w ≡ v = cc in subst (λ (x : World). Counts w.nodes w.born x) e (uncounted w))
-  line_goes v (Lac n m) fits h = quiet_goes number w v gs (added_holds w v n _ gs (omega (arith, fits.0.1)) (omega (arith, fits.0.1)) h holds) (added_counts w v n _ h)
-  line_goes v (Lns n) fits h = quiet_goes number w v gs (added_holds w v n _ gs (omega (arith, fits.1)) (omega (arith, fits.1)) h holds) (added_counts w v n _ h)
+  line_goes v (Remark text) fits h = quiet_goes number w v gs (let e : w ≡ v = cc in subst (λ (x : World). Holds x gs) e holds) (let e : w ≡ v = cc in subst (λ (x : World). Counts w.nodes w.born x) e (uncounted w)) (let e : w ≡ v = cc in ap (λ (x : World). x.packets) (sym e))
+  line_goes v (Lac n m) fits h = quiet_goes number w v gs (added_holds w v n _ gs (omega (arith, fits.0.1)) (omega (arith, fits.0.1)) h holds) (added_counts w v n _ h) (added_packets w v n _ h)
+  line_goes v (Lns n) fits h = quiet_goes number w v gs (added_holds w v n _ gs (omega (arith, fits.1)) (omega (arith, fits.1)) h holds) (added_counts w v n _ h) (added_packets w v n _ h)
   line_goes v (OpenUp n) fits h = stepped_goes codecs digits number w gs holds below v n event.OpenTunnel (lac_at (at w.nodes n)) (λ node e. is_lac_at (at w.nodes n) node e) tt h
   line_goes v (Ring n port) fits h = stepped_goes codecs digits number w gs holds below v n (event.Ring port) (lac_at (at w.nodes n)) (λ node e. is_lac_at (at w.nodes n) node e) tt h
   line_goes v (FromSub n session frame) fits h = stepped_goes codecs digits number w gs holds below v n (event.Payload session frame) (with_call session (lac_at (at w.nodes n))) (λ node e. is_lac_at (at w.nodes n) node (has_call session _ node e)) tt h

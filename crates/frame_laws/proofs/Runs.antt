@@ -10,14 +10,14 @@ use Rattle.protocol_model.specs.Names.{calling_number}
 use Rattle.protocol_model.specs.World.{World, Node, empty_world, line}
 use Rattle.protocol_model.specs.declared.tunnel.Role.TheVariants.{Lac}
 use Rattle.protocol_model.specs.Run.{Run, run_from, goes_on as run_goes_on}
-use Rattle.frame_laws.specs.Past.{Passage, Past, nothing, then_also, goes_past, past_from}
-use Rattle.frame_laws.specs.Frames.{WasSent, AreSent, FramesOfRuns}
+use Rattle.frame_laws.specs.Past.{Passage, Past, nothing, then_also, goes_past, past_of_line, past_from}
+use Rattle.frame_laws.specs.Frames.{WasSent, AreSent, IsCarried, FramesOfRuns, PacketsOfRuns}
 use Rattle.frame_laws.proofs.Facts.{Born, birth_in_node, Holds, among_left, all_map}
 use Rattle.frame_laws.specs.Births.{BirthsOfRuns}
 use Rattle.frame_laws.proofs.Births.{Counted}
 use Rattle.frame_laws.proofs.Changes.{born_at, plays_at}
 use Rattle.frame_laws.specs.Codecs.{Codecs}
-use Rattle.frame_laws.proofs.Worlds.{Below, Goes}
+use Rattle.frame_laws.proofs.Worlds.{Below, Goes, HasMore, carried_later}
 use Rattle.frame_laws.proofs.Lines.{line_goes}
 
 all_append : {X : Type 0} (P : X → Type 0) (xs ys : List X) → AllByRecursion P xs → AllByRecursion P ys → AllByRecursion P (xs ++ ys)
@@ -33,7 +33,7 @@ record PastOk (number : ℕ) (w : World) (past : Past) : Type 0 where
 was_sent_later : (gs hs : List Passage) (h : Passage) → WasSent gs h → WasSent (gs ++ hs) h
 was_sent_later gs hs h s = record { passage = s.passage; there = among_left s.passage gs hs s.there; is = s.is }
 
-goes_on : (number : ℕ) (w v : World) (past more : Past) → PastOk number w past → Goes number w.nodes w.born past.sent v more → PastOk (number + 1) v (then_also past more)
+goes_on : (number : ℕ) (w v : World) (past more : Past) → PastOk number w past → Goes number w.nodes w.born w.packets past.sent v more → PastOk (number + 1) v (then_also past more)
 goes_on number w v past more ok g =
     record {
       holds = g.holds;
@@ -53,6 +53,18 @@ begins =
 either_way : (rest : World → Past) (past : Past) (r : Result World Why) → AreSent past → ((v : World) → r ≡ Ok v → AreSent (rest v)) → AreSent (goes_past rest past r)
 either_way rest past (Err x) stops more = stops
 either_way rest past (Ok v) stops more = more v refl
+
+-- each frame that was sent is in a packet of the world
+abbrev AreCarried : World → Past → Type 0
+AreCarried w past = AllByRecursion (IsCarried w.packets) past.sent
+
+more_carried : (w v : World) (past more : Past) → AreCarried w past → AllByRecursion (IsCarried v.packets) more.sent → HasMore w.packets v.packets → AreCarried v (then_also past more)
+more_carried w v past more had now grown = all_append (IsCarried v.packets) past.sent more.sent (all_map (IsCarried w.packets) (IsCarried v.packets) (carried_later w.packets v.packets grown) past.sent had) now
+
+carried_either : (rest : World → Run) (past_rest : World → Past) (w : World) (number : ℕ) (past : Past) (r : Result World Why) → AreCarried w past → ((v : World) → r ≡ Ok v → AreCarried (rest v).world (past_rest v)) → AreCarried (run_goes_on rest w number r).world (goes_past past_rest past r)
+unfolding run_goes_on
+carried_either rest past_rest w number past (Err x) stops more = stops
+carried_either rest past_rest w number past (Ok v) stops more = more v refl
 
 counted_either : (rest : World → Run) (w : World) (number : ℕ) (r : Result World Why) → Counted w.nodes w.born → ((v : World) → r ≡ Ok v → Counted (rest v).world.nodes (rest v).world.born) → let x = (run_goes_on rest w number r).world in Counted x.nodes x.born
 unfolding run_goes_on
@@ -81,6 +93,16 @@ module _ (codecs : Codecs) (digits : (port : ℕ) → length (calling_number por
       let more = g.counts.few in
       counted_from (number + 1) ls v _ fits.1 (goes_on number w v past _ ok g) (omega (arith, few, more)) (g.counts.counted (omega (arith, few)) had))
 
+  -- each frame that was sent is in a packet
+  carried_from : (number : ℕ) (lines : List Line) (w : World) (past : Past) → AreLines lines → PastOk number w past → AreCarried w past → AreCarried (run_from number lines w).world (past_from number lines w past)
+  unfolding run_from past_from
+  carried_from number [] w past fits ok had = had
+  carried_from number (l ∷ ls) w past fits ok had =
+      carried_either _ _ w number past (line w number l) had
+      (λ v h.
+      let g = line_goes codecs digits number w past.sent ok.holds ok.lines v l fits.0 h in
+      carried_from (number + 1) ls v _ fits.1 (goes_on number w v past _ ok g) (more_carried w v past (past_of_line number w v l) had g.carried g.grown))
+
   pub frames_of_runs : FramesOfRuns
   frames_of_runs lines fits = from_there 1 lines empty_world nothing fits begins
 
@@ -91,3 +113,6 @@ module _ (codecs : Codecs) (digits : (port : ℕ) → length (calling_number por
       c.apart n session m other birth
       (born_at w.nodes n session birth a.node a.is a.birth_is) (born_at w.nodes m other birth b.node b.is b.birth_is)
       (plays_at w.nodes n Lac a.node a.is a.role) (plays_at w.nodes m Lac b.node b.is b.role)
+
+  pub packets_of_runs : PacketsOfRuns
+  packets_of_runs lines fits = carried_from 1 lines empty_world nothing fits begins tt

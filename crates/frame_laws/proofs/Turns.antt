@@ -22,6 +22,8 @@ use Rattle.call_fsm.specs.declared.table.CallState.TheVariants as call
 use Rattle.protocol_model.specs.declared.tunnel.Call.{Call}
 use Rattle.protocol_model.specs.declared.out.Out.{Out}
 use Rattle.protocol_model.specs.declared.out.Out.TheVariants.{Send, Up, Drop, Cause}
+use Rattle.protocol_model.specs.declared.out.Origin.{Origin}
+use Rattle.protocol_model.specs.declared.out.Origin.TheVariants.{Control, Data}
 use Rattle.protocol_model.specs.declared.out.Note.{Note}
 use Rattle.protocol_model.specs.declared.out.Note.TheVariants.{Drew, Learned, Put, Took, Born as IsBorn, Made}
 use Rattle.protocol_model.specs.Turn.{Tunnel, Turn, datagram, is_served, turn_of, with_output, with_note, with_call, with_new, put, acknowledge, took, request_of, connection, learned, learned_by, in_state, opens_with, made_by, accepts_with, in_call_state, requests, requests_at, requests_all, none_waiting, requests_waiting, waits, acts, takes_by, takes, call_for, made_call, makes, connects, comes_up}
@@ -53,8 +55,13 @@ pub data IsControl (P : ℕ → Message → Type 0) (bytes : List ℕ) : Type 0 
   Letter : (session : ℕ) (m : Message) → IsWritten m → P session m → IsDatagram session (spelling (pairs_of m)) bytes → IsControl P bytes
   Alone : IsDatagram 0 [] bytes → IsControl P bytes
 
+-- whether a message is sent, and not a frame
+abbrev pub IsMessage : Origin → Type 0
+IsMessage (Control tunnel ns nr empty) = Unit {0}
+IsMessage (Data session) = ⊥
+
 abbrev pub OutOk : ℕ → (ℕ → Message → Type 0) → Out → Type 0
-OutOk peer P (Send q bytes origin) = (q ≡ peer) × IsControl P bytes
+OutOk peer P (Send q bytes origin) = (q ≡ peer) × IsControl P bytes × IsMessage origin
 OutOk peer P (Up session side frame) = ⊥
 OutOk peer P (Drop x) = Unit {0}
 OutOk peer P (Cause x) = Unit {0}
@@ -127,7 +134,7 @@ module _ (i peer : ℕ) (P : ℕ → Message → Type 0) (Q : ℕ → Call → T
           remote = h.remote;
           added = h.added;
           changed = h.changed;
-          outs = all_push (OutOk peer P) t.outputs _ h.outs (h.peer_is, Letter session m w p (sent session false (spelling (pairs_of m)) t fits h));
+          outs = all_push (OutOk peer P) t.outputs _ h.outs (h.peer_is, Letter session m w p (sent session false (spelling (pairs_of m)) t fits h), tt);
           born = quiet_more (Put t.tunnel.local session m) t.notes refl h.born;
           idle = h.idle;
         })
@@ -142,7 +149,7 @@ module _ (i peer : ℕ) (P : ℕ → Message → Type 0) (Q : ℕ → Call → T
           remote = h.remote;
           added = h.added;
           changed = h.changed;
-          outs = all_push (OutOk peer P) t.outputs _ h.outs (h.peer_is, Alone (sent 0 true [] t (omega arith) h));
+          outs = all_push (OutOk peer P) t.outputs _ h.outs (h.peer_is, Alone (sent 0 true [] t (omega arith) h), tt);
           born = h.born;
           idle = h.idle;
         }

@@ -1,5 +1,6 @@
 -- What a step of a node leaves of the world.
-use Rattle.std.proofs.Common.{◌≡◌, inl, ⊎_elim, ℕ, ◌+◌, ◌<◌, List, [], ◌∷◌, ◌++◌, refl, sym, ◌∙◌, subst, Some, None, arith}
+use Rattle.std.proofs.Common.{◌≡◌, inl, ⊎_elim, ℕ, ◌+◌, ◌<◌, List, [], ◌∷◌, ◌++◌, refl, sym, ◌∙◌, subst, Some, None, arith, ap, append_assoc}
+use Rattle.std.proofs.lemmas.List.{append-nil}
 use Rattle.std.specs.List.{AllByRecursion}
 use Rattle.id_table.specs.Ids.{at}
 use Rattle.l2tp_header.specs.Spelling.{data_bytes}
@@ -9,12 +10,13 @@ use Rattle.wire_base.specs.declared.letter.Side.{Side}
 use Rattle.protocol_model.specs.declared.out.Out.{Out}
 use Rattle.protocol_model.specs.declared.out.Out.TheVariants.{Send, Up, Drop, Cause}
 use Rattle.protocol_model.specs.declared.out.Origin.TheVariants.{Control, Data}
+use Rattle.protocol_model.specs.declared.packet.Packet.{Packet}
 use Rattle.protocol_model.specs.Names.{node_of}
 use Rattle.protocol_model.specs.End.{Stepped, gives_only}
-use Rattle.protocol_model.specs.World.{World, Node, with_node, noted_all, sent, told, shown, shown_all, after_step}
+use Rattle.protocol_model.specs.World.{World, Node, place_of, with_node, noted_all, sent, told, shown, shown_all, after_step}
 use Rattle.frame_laws.specs.Codecs.{Codecs}
 use Rattle.frame_laws.specs.Past.{Passage, Past, frame_in, sent_by, handed_by, past_of_outputs, passage_at, peer_of_call}
-use Rattle.frame_laws.specs.Frames.{Among, WasSent, other_end}
+use Rattle.frame_laws.specs.Frames.{Among, WasSent, other_end, IsCarried}
 use Rattle.frame_laws.proofs.Facts.{Nodes, Plays, Grows, Mates, Says, WasGiven, BytesOk, PacketOk, EndOk, NodeOk, Holds, among_left, among_right, packets_later, node_later, end_later, all_map}
 use Rattle.frame_laws.proofs.Changes.{with_end, same_or_not, birth_is, role_there, After, grows, after_none}
 use Rattle.frame_laws.proofs.Births.{Counts, step_counts}
@@ -60,12 +62,46 @@ shown_packets ns gs number n lt (Cause x ∷ os) w ok had = shown_packets ns gs 
 abbrev pub Below : ℕ → List Passage → Type 0
 Below number gs = AllByRecursion (λ g. g.line < number) gs
 
+-- packets are behind those that were there
+abbrev pub HasMore : List Packet → List Packet → Type 0
+HasMore before after = (ps : List Packet) × (after ≡ before ++ ps)
+
+pub no_more : (ps : List Packet) → HasMore ps ps
+no_more ps = ([], sym (append-nil ps))
+
+pub carried_later : (before after : List Packet) → HasMore before after → (g : Passage) → IsCarried before g → IsCarried after g
+carried_later before after more g c =
+    record {
+      packet = c.packet;
+      there = subst (λ (ps : List Packet). Among c.packet ps) (sym more.1) (among_left c.packet before more.0 c.there);
+      from = c.from;
+      to = c.to;
+      origin = c.origin;
+      tunnel = c.tunnel;
+      session = c.session;
+      bytes = c.bytes;
+    }
+
+shown_more : (number n : ℕ) (os : List Out) (w : World) → HasMore w.packets (shown_all number n os w).packets
+unfolding shown_all shown sent told
+shown_more number n [] w = no_more w.packets
+shown_more number n (Send peer bytes origin ∷ os) w =
+    let v = sent w number n (node_of peer) bytes origin in
+    let r = shown_more number n os v in
+    let one : Packet = record { from = n; to = node_of peer; bytes = bytes; origin = origin; place = place_of w.queued (node_of peer) origin } in
+    (one ∷ r.0, r.1 ∙ append_assoc w.packets (one ∷ []) r.0)
+shown_more number n (Up session side frame ∷ os) w = shown_more number n os _
+shown_more number n (Drop x ∷ os) w = shown_more number n os _
+shown_more number n (Cause x ∷ os) w = shown_more number n os _
+
 -- what a line adds, behind what was there
-pub record Goes (number : ℕ) (ns : Nodes) (born : ℕ) (gs : List Passage) (after : World) (more : Past) : Type 0 where
+pub record Goes (number : ℕ) (ns : Nodes) (born : ℕ) (packets : List Packet) (gs : List Passage) (after : World) (more : Past) : Type 0 where
   pub holds : Holds after (gs ++ more.sent)
   pub lines : Below (number + 1) more.sent
   pub sent : AllByRecursion (WasSent (gs ++ more.sent)) more.handed
   pub counts : Counts ns born after
+  pub carried : AllByRecursion (IsCarried after.packets) more.sent
+  pub grown : HasMore packets after.packets
 
 -- no passage has a line that is later
 pub earlier : (number : ℕ) (gs : List Passage) → Below number gs → (g : Passage) → Among g gs → g.line < number
@@ -87,6 +123,15 @@ none_handed peer P passage R (Send q bytes origin ∷ os) ok = none_handed peer 
 none_handed peer P passage R (Up session side frame ∷ os) ok = absurd ok.0
 none_handed peer P passage R (Drop x ∷ os) ok = none_handed peer P passage R os ok.1
 none_handed peer P passage R (Cause x ∷ os) ok = none_handed peer P passage R os ok.1
+
+-- and sends no frame
+none_sent : (peer : ℕ) (P : ℕ → Message → Type 0) (passage : ℕ → List ℕ → Passage) (R : Passage → Type 0) (frame : List ℕ) (os : List Out) → AllByRecursion (OutOk peer P) os → AllByRecursion R (sent_by passage frame os)
+none_sent peer P passage R frame [] ok = tt
+none_sent peer P passage R frame (Send q bytes (Control tunnel ns nr empty) ∷ os) ok = none_sent peer P passage R frame os ok.1
+none_sent peer P passage R frame (Send q bytes (Data session) ∷ os) ok = absurd ok.0.2
+none_sent peer P passage R frame (Up session side f ∷ os) ok = none_sent peer P passage R frame os ok.1
+none_sent peer P passage R frame (Drop x ∷ os) ok = none_sent peer P passage R frame os ok.1
+none_sent peer P passage R frame (Cause x ∷ os) ok = none_sent peer P passage R frame os ok.1
 
 -- what a turn sends are messages
 turn_sends : (codecs : Codecs) (ns : Nodes) (gs : List Passage) (n peer : ℕ) (o : Out) → OutOk peer (λ session m. Says ns n (node_of peer) session m) o → SendOk (λ to bytes. BytesOk ns gs n to bytes) o
@@ -154,6 +199,10 @@ module _ (codecs : Codecs) (number : ℕ) (w : World) (gs : List Passage) (n : �
   counts_ok : (s : Stepped) → Ending s → Counts w.nodes w.born (after s)
   counts_ok s e = step_counts w n old e.left.new (noted_world w n old s) (after s) e.left.change e.left.adds (after_nodes s) (after_born s)
 
+  more_packets : (s : Stepped) → Ending s → HasMore w.packets (after s).packets
+  unfolding after_step
+  more_packets s e = let r = shown_more number n s.outputs (noted_world w n old s) in (r.0, r.1 ∙ ap (λ ps. ps ++ r.0) e.left.packets)
+
   -- ---- each kind of step
 
   holds_after : (s : Stepped) (e : Ending s) → AllByRecursion (SendOk (λ to bytes. BytesOk (after s).nodes (gs ++ (more s).sent) n to bytes)) s.outputs → Holds (after s) (gs ++ (more s).sent)
@@ -167,7 +216,7 @@ module _ (codecs : Codecs) (number : ℕ) (w : World) (gs : List Passage) (n : �
   lines_of : (s : Stepped) → Below (number + 1) (more s).sent
   lines_of s = sent_below number n (passage s) (λ i f. refl) (frame_in ev) s.outputs
 
-  turned_goes : (s : Stepped) (peer : ℕ) → Ending s → AllByRecursion (OutOk peer (λ session m. Says (noted_nodes s) n (node_of peer) session m)) s.outputs → Goes number w.nodes w.born gs (after s) (more s)
+  turned_goes : (s : Stepped) (peer : ℕ) → Ending s → AllByRecursion (OutOk peer (λ session m. Says (noted_nodes s) n (node_of peer) session m)) s.outputs → Goes number w.nodes w.born w.packets gs (after s) (more s)
   turned_goes s peer e outs =
       let later : AllByRecursion (OutOk peer (λ session m. Says (after s).nodes n (node_of peer) session m)) s.outputs = rw (after_nodes s) outs in
       record {
@@ -175,10 +224,27 @@ module _ (codecs : Codecs) (number : ℕ) (w : World) (gs : List Passage) (n : �
         lines = lines_of s;
         sent = none_handed peer (λ session m. Says (noted_nodes s) n (node_of peer) session m) (passage s) (WasSent (gs ++ (more s).sent)) s.outputs outs;
         counts = counts_ok s e;
+        carried = none_sent peer (λ session m. Says (noted_nodes s) n (node_of peer) session m) (passage s) (IsCarried (after s).packets) (frame_in ev) s.outputs outs;
+        grown = more_packets s e;
+      }
+
+  -- a frame that is sent is carried by the packet
+  carried_by : (session peer tunnel remote : ℕ) → peer_of_call old.end (at old.end.calls session) ≡ node_of peer → let s = gives_only old.end (Send peer (data_bytes tunnel remote None (frame_in ev)) (Data session)) in IsCarried (after s).packets (passage s session (frame_in ev))
+  unfolding gives_only after_step noted_all shown_all shown sent
+  carried_by session peer tunnel remote to =
+      record {
+        packet = record { from = n; to = node_of peer; bytes = data_bytes tunnel remote None (frame_in ev); origin = Data session; place = None };
+        there = among_right _ w.packets _ (inl refl);
+        from = refl;
+        to = sym to;
+        origin = refl;
+        tunnel = tunnel;
+        session = remote;
+        bytes = refl;
       }
 
   -- a frame is sent to the mate of its session
-  sent_goes : (session peer tunnel remote : ℕ) → tunnel < 65536 → remote < 65536 → Mates w.nodes n session (node_of peer) remote → peer_of_call old.end (at old.end.calls session) ≡ node_of peer → let s = gives_only old.end (Send peer (data_bytes tunnel remote None (frame_in ev)) (Data session)) in Goes number w.nodes w.born gs (after s) (more s)
+  sent_goes : (session peer tunnel remote : ℕ) → tunnel < 65536 → remote < 65536 → Mates w.nodes n session (node_of peer) remote → peer_of_call old.end (at old.end.calls session) ≡ node_of peer → let s = gives_only old.end (Send peer (data_bytes tunnel remote None (frame_in ev)) (Data session)) in Goes number w.nodes w.born w.packets gs (after s) (more s)
   unfolding gives_only
   sent_goes session peer tunnel remote t r mates to =
       let s = gives_only old.end (Send peer (data_bytes tunnel remote None (frame_in ev)) (Data session)) in
@@ -201,10 +267,12 @@ module _ (codecs : Codecs) (number : ℕ) (w : World) (gs : List Passage) (n : �
         lines = lines_of s;
         sent = tt;
         counts = counts_ok s e;
+        carried = (carried_by session peer tunnel remote to, tt);
+        grown = more_packets s e;
       }
 
   -- a frame that is handed up was given to the mate of its session
-  handed_goes : (from session : ℕ) (side : Side) (frame : List ℕ) → WasGiven w.nodes gs from n session frame → peer_of_call old.end (at old.end.calls session) ≡ from → let s = gives_only old.end (Up session side frame) in Goes number w.nodes w.born gs (after s) (more s)
+  handed_goes : (from session : ℕ) (side : Side) (frame : List ℕ) → WasGiven w.nodes gs from n session frame → peer_of_call old.end (at old.end.calls session) ≡ from → let s = gives_only old.end (Up session side frame) in Goes number w.nodes w.born w.packets gs (after s) (more s)
   unfolding gives_only
   handed_goes from session side frame given peer =
       let s = gives_only old.end (Up session side frame) in
@@ -231,9 +299,11 @@ module _ (codecs : Codecs) (number : ℕ) (w : World) (gs : List Passage) (n : �
           tt,
         );
         counts = counts_ok s e;
+        carried = tt;
+        grown = more_packets s e;
       }
 
-  pub step_goes : (s : Stepped) → StepOk w gs n old ev s → Goes number w.nodes w.born gs (after s) (more s)
+  pub step_goes : (s : Stepped) → StepOk w gs n old ev s → Goes number w.nodes w.born w.packets gs (after s) (more s)
   step_goes s (Turned peer a e outs) = turned_goes s peer (record { left = a; end_ok = e }) outs
   step_goes s (Sent session peer tunnel remote same t r mates to) = rw same (sent_goes session peer tunnel remote t r mates to)
   step_goes s (Handed from session side frame same given peer) = rw same (handed_goes from session side frame given peer)

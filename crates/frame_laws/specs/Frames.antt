@@ -1,10 +1,14 @@
 -- Each frame that is handed up in a call was sent in that call by its other end.
-use Rattle.std.specs.Prelude.{◌≡◌, ◌⊎◌, ◌<◌, List, [], ◌∷◌}
+use Rattle.std.specs.Prelude.{◌≡◌, ◌⊎◌, ◌<◌, List, [], ◌∷◌, None, ℕ}
 use Rattle.std.specs.List.{AllByRecursion}
+use Rattle.l2tp_header.specs.Spelling.{data_bytes}
 use Rattle.schedule_text.specs.declared.line.Line.{Line}
 use Rattle.schedule_text.specs.Grammar.{AreLines}
 use Rattle.protocol_model.specs.declared.tunnel.Role.{Role}
 use Rattle.protocol_model.specs.declared.tunnel.Role.TheVariants.{Lac, Lns}
+use Rattle.protocol_model.specs.declared.out.Origin.TheVariants.{Data}
+use Rattle.protocol_model.specs.declared.packet.Packet.{Packet}
+use Rattle.protocol_model.specs.Run.{run}
 use Rattle.frame_laws.specs.Past.{Passage, Past, past_of}
 
 abbrev pub other_end : Role → Role
@@ -24,9 +28,9 @@ pub record IsOf (sent handed : Passage) : Type 0 where
   pub earlier : sent.line < handed.line
 
 -- one of them is this one
-abbrev pub Among : Passage → List Passage → Type 0
-Among g [] = ⊥
-Among g (q ∷ qs) = (q ≡ g) ⊎ Among g qs
+abbrev pub Among : {X : Type 0} → X → List X → Type 0
+Among x [] = ⊥
+Among x (y ∷ ys) = (y ≡ x) ⊎ Among x ys
 
 -- a frame that was handed up is one of those that were sent
 pub record WasSent (sent : List Passage) (handed : Passage) : Type 0 where
@@ -38,6 +42,21 @@ pub record WasSent (sent : List Passage) (handed : Passage) : Type 0 where
 abbrev pub AreSent : Past → Type 0
 AreSent past = AllByRecursion (WasSent past.sent) past.handed
 
+-- a frame that counts as sent is one that a packet carries, from its node to the one that the call's tunnel goes to
+pub record IsCarried (packets : List Packet) (g : Passage) : Type 0 where
+  pub packet : Packet
+  pub there : Among packet packets
+  pub from : packet.from ≡ g.node
+  pub to : packet.to ≡ g.peer
+  pub origin : packet.origin ≡ Data g.session
+  -- the ids of the header
+  pub tunnel : ℕ
+  pub session : ℕ
+  pub bytes : packet.bytes ≡ data_bytes tunnel session None g.frame
+
 -- in the run of each list of lines of the grammar, whether each of them fits or one ends the run
 abbrev pub FramesOfRuns : Type 0
 FramesOfRuns = (lines : List Line) → AreLines lines → AreSent (past_of lines)
+
+abbrev pub PacketsOfRuns : Type 0
+PacketsOfRuns = (lines : List Line) → AreLines lines → AllByRecursion (IsCarried (run lines).world.packets) (past_of lines).sent

@@ -3,7 +3,7 @@
 
 ghost use Rattle.frame_laws.specs.Births.{BirthsOfRuns};
 ghost use Rattle.frame_laws.specs.Codecs.{Codecs};
-ghost use Rattle.frame_laws.specs.Frames.{FramesOfRuns};
+ghost use Rattle.frame_laws.specs.Frames.{FramesOfRuns, PacketsOfRuns};
 ghost use Rattle.frame_laws.specs.Reports.{ReportsOfRuns};
 ghost use Rattle.frame_laws.specs.Samples.{GoesEachWay};
 
@@ -22,6 +22,14 @@ fn written_is_read_again()
 /// call of the same birth, by an end of the other kind, at the node that the call's tunnel goes to.
 pub fn frames_were_sent()
     ensures { FramesOfRuns }
+{
+    written_is_read_again();
+}
+
+/// Over every list of lines of the grammar, each frame that counts as sent is carried by a packet, from the node that sent
+/// it to the one that the call's tunnel goes to.
+pub fn sent_frames_are_packets()
+    ensures { PacketsOfRuns }
 {
     written_is_read_again();
 }

@@ -1,11 +1,12 @@
 -- What holds of the run of each text's lines, the one that `due_of` speaks of.
 use Rattle.std.specs.Prelude.{◌≡◌, ℕ, List, None, Ok}
 use Rattle.port_traits.specs.Limits.{limit_passed}
+use Rattle.std.specs.List.{AllByRecursion}
 use Rattle.schedule_text.specs.declared.line.Line.{Line}
 use Rattle.schedule_text.specs.Reading.{lines_of}
 use Rattle.protocol_model.specs.Run.{run}
 use Rattle.frame_laws.specs.Past.{past_of}
-use Rattle.frame_laws.specs.Frames.{AreSent}
+use Rattle.frame_laws.specs.Frames.{AreSent, IsCarried}
 use Rattle.frame_laws.specs.Reports.{IsReport}
 use Rattle.frame_laws.specs.Births.{AreApart}
 
@@ -13,8 +14,10 @@ use Rattle.frame_laws.specs.Births.{AreApart}
 pub record FramesOf (lines : List Line) : Type 0 where
   -- the `up` lines of its report tell of the frames that were handed up
   pub told : IsReport (run lines).world.report (past_of lines)
-  -- and each of them was sent at an earlier line, in a call of the same birth, by its other end
+  -- each of them was sent at an earlier line, in a call of the same birth, by its other end
   pub sent : AreSent (past_of lines)
+  -- and what was sent is in packets of the world, from its node to the call's other node
+  pub carried : AllByRecursion (IsCarried (run lines).world.packets) (past_of lines).sent
 
 abbrev pub FramesOfTexts : Type 0
 FramesOfTexts = (text : List ℕ) (lines : List Line) → lines_of text ≡ Ok lines → FramesOf lines

@@ -106,6 +106,7 @@ pub fn replay_top<S: Source, K: Sink>(
     schedule_text::lines_are_a_schedule();
     frame_laws::reports_tell_the_past();
     frame_laws::frames_were_sent();
+    frame_laws::sent_frames_are_packets();
     frame_laws::births_are_apart();
     command(alloc, words, source, sink)
 }

@@ -5,7 +5,13 @@ pub returns-clause-ends : goal.returns-clause-ends
 returns-clause-ends g c = c.command.ensures
 
 pub returns-clause-frames : goal.returns-clause-frames
-returns-clause-frames g c = λ text lines h. record { told = c.reports_tell_the_past.ensures lines; sent = c.frames_were_sent.ensures lines (c.lines_are_a_schedule.ensures text lines h).fits }
+returns-clause-frames g c = λ text lines h.
+    let fits = (c.lines_are_a_schedule.ensures text lines h).fits in
+    record {
+      told = c.reports_tell_the_past.ensures lines;
+      sent = c.frames_were_sent.ensures lines fits;
+      carried = c.sent_frames_are_packets.ensures lines fits;
+    }
 
 pub returns-clause-births : goal.returns-clause-births
 returns-clause-births g c = λ text lines within h. let is = c.lines_are_a_schedule.ensures text lines h in c.births_are_apart.ensures lines is.fits (few_lines text lines within is)
