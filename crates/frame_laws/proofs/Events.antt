@@ -19,7 +19,8 @@ use Rattle.frame_laws.specs.Past.{Passage, frame_in}
 use Rattle.frame_laws.proofs.Facts.{BytesOk, NodeOk}
 use Rattle.frame_laws.proofs.Ends.{peer_there, peer_is}
 use Rattle.frame_laws.proofs.Steps.{StepOk, Sent, word_ok}
-use Rattle.frame_laws.proofs.Openings.{branch, opens_tunnel_ok}
+use Rattle.frame_laws.proofs.Turns.{branch}
+use Rattle.frame_laws.proofs.Openings.{opens_tunnel_ok}
 use Rattle.frame_laws.proofs.Rings.{rings_ok}
 use Rattle.frame_laws.proofs.Messages.{receives_ok}
 

@@ -1,4 +1,5 @@
 pub mod Facts
+pub mod Fits
 pub mod Changes
 pub mod Turns
 pub mod Datagrams

@@ -30,10 +30,10 @@ use Rattle.protocol_model.specs.World.{World, Node}
 use Rattle.frame_laws.specs.Past.{Passage, peer_of_tunnel}
 use Rattle.frame_laws.proofs.Facts.{Nodes, Born, Plays, Grows, Says, Mates, swapped, mates_later, BytesOk, CallOk, call_later, NodeOk}
 use Rattle.frame_laws.proofs.Changes.{at_new, plays_at}
-use Rattle.frame_laws.proofs.Turns.{TurnOk, turn_of_ok, takes_ok, makes_ok, connects_ok, comes_up_ok, MayRequestAll}
+use Rattle.frame_laws.proofs.Turns.{branch, TurnOk, turn_of_ok, takes_ok, makes_ok, connects_ok, comes_up_ok, MayRequestAll}
 use Rattle.frame_laws.proofs.Ends.{Old, goes_at}
 use Rattle.frame_laws.proofs.Steps.{StepOk, Handed, word_ok, stays_ok, turned_none, turned_made}
-use Rattle.frame_laws.proofs.Openings.{branch, accepts_tunnel_ok}
+use Rattle.frame_laws.proofs.Openings.{accepts_tunnel_ok}
 use Rattle.frame_laws.proofs.Rings.{not_lns, request_written}
 
 both_true : (a b : Bool) → (a && b) ≡ true → (a ≡ true) × (b ≡ true)

@@ -1,5 +1,5 @@
 -- Tunnels that are opened and accepted, and rings.
-use Rattle.std.proofs.Common.{◌≡◌, ℕ, ◌+◌, ◌<◌, ◌≤◌, Bool, true, false, cond, List, [], length, refl, Some, None, arith}
+use Rattle.std.proofs.Common.{◌≡◌, ℕ, ◌+◌, ◌<◌, ◌≤◌, List, [], length, refl, Some, None, arith}
 use Rattle.std.proofs.lemmas.Bool.{ltb-false}
 use Rattle.std.proofs.lemmas.List.{length-append}
 use Rattle.std.proofs.lemmas.Fmt.{length-decimal-le}
@@ -19,13 +19,9 @@ use Rattle.protocol_model.specs.End.{End, fresh, drawn, opens_tunnel, accepts_tu
 use Rattle.protocol_model.specs.World.{World, Node}
 use Rattle.frame_laws.specs.Past.{Passage}
 use Rattle.frame_laws.proofs.Facts.{NodeOk}
-use Rattle.frame_laws.proofs.Turns.{turn_of_ok, opens_with_ok, accepts_with_ok}
+use Rattle.frame_laws.proofs.Turns.{branch, turn_of_ok, opens_with_ok, accepts_with_ok}
 use Rattle.frame_laws.proofs.Ends.{New}
 use Rattle.frame_laws.proofs.Steps.{StepOk, word_ok, turned_none}
-
-pub branch : {T : Type 0} (P : T → Type 0) (a : Bool) (x y : T) → (a ≡ true → P x) → (a ≡ false → P y) → P (cond a x y)
-branch P true x y p q = p refl
-branch P false x y p q = q refl
 
 name_fits : (c : Config) → c.number < 256 → length (host_name c.role c.number) ≤ 1017
 unfolding host_name

@@ -21,11 +21,12 @@ use Rattle.protocol_model.specs.Names.{address_of, node_of}
 use Rattle.protocol_model.specs.Texts.{up_text, drop_text, cause_text}
 use Rattle.protocol_model.specs.End.{End, Stepped, new_end, step}
 use Rattle.protocol_model.specs.World.{World, Node, empty_world, with_node, with_birth, with_birth_at, is_born, birth_of, birth_in, noted, noted_all, sent, told, shown, shown_all, after_step, added, stepped, marked, arrival, arrives, delivers_it, delivers, is_next, declared, lac_at, lns_at, with_call, line}
-use Rattle.protocol_model.specs.Run.{Run, run_from, goes_on as run_goes_on}
-use Rattle.frame_laws.specs.Past.{Passage, Past, nothing, then_also, goes_past, past_from, passage_at, handed_by, past_of_step, past_of_event, past_of_line, arrival_of}
+use Rattle.protocol_model.specs.Run.{run_from}
+use Rattle.frame_laws.specs.Past.{Passage, Past, nothing, then_also, past_from, passage_at, handed_by, past_of_step, past_of_event, past_of_line, arrival_of}
 use Rattle.frame_laws.specs.Reports.{Entry, Sends, HandsUp, Drops, Causes, entry_text, handed_in, IsReport, ReportsOfRuns}
 use Rattle.frame_laws.proofs.Facts.{Nodes}
 use Rattle.frame_laws.proofs.Worlds.{shown_nodes}
+use Rattle.frame_laws.proofs.Fits.{where_it_fits}
 use Rattle.frame_laws.proofs.Lines.{is_declared, is_lac_at, is_lns_at, has_call, tested_not}
 
 handed_in-append : (es fs : List Entry) → handed_in (es ++ fs) ≡ handed_in es ++ handed_in fs
@@ -154,15 +155,10 @@ more_report w v past more r g =
       handed_is = ap (λ ps. ps ++ more.handed) r.handed_is ∙ ap (λ ps. handed_in r.entries ++ ps) g.handed_is ∙ sym (handed_in-append r.entries g.entries);
     }
 
-both_ways : (rest : World → Run) (past_rest : World → Past) (w : World) (number : ℕ) (past : Past) (r : Result World Why) → IsReport w.report past → ((v : World) → r ≡ Ok v → IsReport (rest v).world.report (past_rest v)) → IsReport (run_goes_on rest w number r).world.report (goes_past past_rest past r)
-unfolding run_goes_on
-both_ways rest past_rest w number past (Err x) stops more = stops
-both_ways rest past_rest w number past (Ok v) stops more = more v refl
-
 report_from : (number : ℕ) (lines : List Line) (w : World) (past : Past) → IsReport w.report past → IsReport (run_from number lines w).world.report (past_from number lines w past)
 unfolding run_from past_from
 report_from number [] w past r = r
-report_from number (l ∷ ls) w past r = both_ways _ _ w number past (line w number l) r (λ v h. report_from (number + 1) ls v _ (more_report w v past _ r (line_grown w number v l h)))
+report_from number (l ∷ ls) w past r = where_it_fits (λ v more. IsReport v.report more) _ _ w number past (line w number l) r (λ v h. report_from (number + 1) ls v _ (more_report w v past _ r (line_grown w number v l h)))
 
 pub reports_of_runs : ReportsOfRuns
 reports_of_runs lines = report_from 1 lines empty_world nothing (record { entries = []; text_is = refl; handed_is = refl })

@@ -20,10 +20,10 @@ use Rattle.protocol_model.specs.World.{World, Node}
 use Rattle.frame_laws.specs.Past.{Passage}
 use Rattle.frame_laws.proofs.Facts.{Nodes, Born, Plays, Grows, GoesTo, Says, CallOk, NodeOk}
 use Rattle.frame_laws.proofs.Changes.{at_new, next_birth, some_birth, plays_at}
-use Rattle.frame_laws.proofs.Turns.{TurnOk, opens_with_ok, begins_ok, requests_ok, waits_ok}
+use Rattle.frame_laws.proofs.Turns.{branch, TurnOk, opens_with_ok, begins_ok, requests_ok, waits_ok}
 use Rattle.frame_laws.proofs.Ends.{Place, Old, New, goes_at}
 use Rattle.frame_laws.proofs.Steps.{StepOk, word_ok, turned_born}
-use Rattle.frame_laws.proofs.Openings.{branch, opening_written}
+use Rattle.frame_laws.proofs.Openings.{opening_written}
 
 -- a tunnel that was found is in the table
 there : (ts : List (ℕ × Tunnel)) (i : Option ℕ) (x : ℕ × Tunnel) → tunnel_at ts i ≡ Some x → at ts x.0 ≡ Some x.1

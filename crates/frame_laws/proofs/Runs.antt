@@ -1,23 +1,23 @@
 -- A run of lines.
-use Rattle.std.proofs.Common.{◌≡◌, ℕ, ◌+◌, ◌-◌, ◌^◌, ◌<◌, List, [], ◌∷◌, ◌++◌, length, refl, sym, ap, ◌∙◌, Option, Some, None, Result, Ok, Err, arith}
+use Rattle.std.proofs.Common.{◌≡◌, ℕ, ◌+◌, ◌-◌, ◌^◌, ◌<◌, List, [], ◌∷◌, ◌++◌, length, sym, ap, ◌∙◌, Option, Some, None, arith}
 use Rattle.std.proofs.lemmas.Option.{none-some}
 use Rattle.std.specs.List.{AllByRecursion}
 use Rattle.id_table.specs.Ids.{at-none}
-use Rattle.wire_base.specs.declared.why.Why.{Why}
 use Rattle.schedule_text.specs.declared.line.Line.{Line}
 use Rattle.schedule_text.specs.Grammar.{AreLines}
 use Rattle.protocol_model.specs.Names.{calling_number}
 use Rattle.protocol_model.specs.World.{World, Node, empty_world, line}
 use Rattle.protocol_model.specs.declared.tunnel.Role.TheVariants.{Lac}
-use Rattle.protocol_model.specs.Run.{Run, run_from, goes_on as run_goes_on}
-use Rattle.frame_laws.specs.Past.{Passage, Past, nothing, then_also, goes_past, past_of_line, past_from}
+use Rattle.protocol_model.specs.Run.{run_from}
+use Rattle.frame_laws.specs.Past.{Passage, Past, nothing, then_also, past_from}
 use Rattle.frame_laws.specs.Frames.{WasSent, AreSent, IsCarried, FramesOfRuns, PacketsOfRuns}
 use Rattle.frame_laws.proofs.Facts.{Born, birth_in_node, Holds, among_left, all_map}
 use Rattle.frame_laws.specs.Births.{BirthsOfRuns}
 use Rattle.frame_laws.proofs.Births.{Counted}
 use Rattle.frame_laws.proofs.Changes.{born_at, plays_at}
 use Rattle.frame_laws.specs.Codecs.{Codecs}
-use Rattle.frame_laws.proofs.Worlds.{Below, Goes, HasMore, carried_later}
+use Rattle.frame_laws.proofs.Worlds.{Below, Goes, carried_later}
+use Rattle.frame_laws.proofs.Fits.{where_it_fits}
 use Rattle.frame_laws.proofs.Lines.{line_goes}
 
 all_append : {X : Type 0} (P : X → Type 0) (xs ys : List X) → AllByRecursion P xs → AllByRecursion P ys → AllByRecursion P (xs ++ ys)
@@ -29,6 +29,8 @@ record PastOk (number : ℕ) (w : World) (past : Past) : Type 0 where
   pub holds : Holds w past.sent
   pub lines : Below number past.sent
   pub sent : AreSent past
+  -- each frame that was sent is in a packet of the world
+  pub carried : AllByRecursion (IsCarried w.packets) past.sent
 
 was_sent_later : (gs hs : List Passage) (h : Passage) → WasSent gs h → WasSent (gs ++ hs) h
 was_sent_later gs hs h s = record { passage = s.passage; there = among_left s.passage gs hs s.there; is = s.is }
@@ -39,6 +41,7 @@ goes_on number w v past more ok g =
       holds = g.holds;
       lines = all_append _ past.sent more.sent (all_map (λ (x : Passage). x.line < number) (λ (x : Passage). x.line < number + 1) (λ x lt. omega arith) past.sent ok.lines) g.lines;
       sent = all_append _ past.handed more.handed (all_map (WasSent past.sent) (WasSent (past.sent ++ more.sent)) (λ h s. was_sent_later past.sent more.sent h s) past.handed ok.sent) g.sent;
+      carried = all_append (IsCarried v.packets) past.sent more.sent (all_map (IsCarried w.packets) (IsCarried v.packets) (carried_later w.packets v.packets g.grown) past.sent ok.carried) g.carried;
     }
 
 begins : PastOk 1 empty_world nothing
@@ -47,64 +50,37 @@ begins =
       holds = record { nodes = λ n node h. absurd (none-some node (sym (at-none n) ∙ h)); packets = tt };
       lines = tt;
       sent = tt;
+      carried = tt;
     }
 
--- where a line fits, the rest goes on
-either_way : (rest : World → Past) (past : Past) (r : Result World Why) → AreSent past → ((v : World) → r ≡ Ok v → AreSent (rest v)) → AreSent (goes_past rest past r)
-either_way rest past (Err x) stops more = stops
-either_way rest past (Ok v) stops more = more v refl
-
--- each frame that was sent is in a packet of the world
-abbrev AreCarried : World → Past → Type 0
-AreCarried w past = AllByRecursion (IsCarried w.packets) past.sent
-
-more_carried : (w v : World) (past more : Past) → AreCarried w past → AllByRecursion (IsCarried v.packets) more.sent → HasMore w.packets v.packets → AreCarried v (then_also past more)
-more_carried w v past more had now grown = all_append (IsCarried v.packets) past.sent more.sent (all_map (IsCarried w.packets) (IsCarried v.packets) (carried_later w.packets v.packets grown) past.sent had) now
-
-carried_either : (rest : World → Run) (past_rest : World → Past) (w : World) (number : ℕ) (past : Past) (r : Result World Why) → AreCarried w past → ((v : World) → r ≡ Ok v → AreCarried (rest v).world (past_rest v)) → AreCarried (run_goes_on rest w number r).world (goes_past past_rest past r)
-unfolding run_goes_on
-carried_either rest past_rest w number past (Err x) stops more = stops
-carried_either rest past_rest w number past (Ok v) stops more = more v refl
-
-counted_either : (rest : World → Run) (w : World) (number : ℕ) (r : Result World Why) → Counted w.nodes w.born → ((v : World) → r ≡ Ok v → Counted (rest v).world.nodes (rest v).world.born) → let x = (run_goes_on rest w number r).world in Counted x.nodes x.born
-unfolding run_goes_on
-counted_either rest w number (Err x) stops more = stops
-counted_either rest w number (Ok v) stops more = more v refl
+-- after some number of lines
+abbrev Ended : World → Past → Type 0
+Ended w past = (number : ℕ) × PastOk number w past
 
 no_nodes : (i s x : ℕ) → Born empty_world.nodes i s x → None ≡ Some x
 no_nodes i s x h = sym (ap (λ (o : Option Node). birth_in_node o s) (at-none i)) ∙ h
 
 module _ (codecs : Codecs) (digits : (port : ℕ) → length (calling_number port) ≡ 12) where
-  from_there : (number : ℕ) (lines : List Line) (w : World) (past : Past) → AreLines lines → PastOk number w past → AreSent (past_from number lines w past)
-  unfolding past_from
-  from_there number [] w past fits ok = ok.sent
-  from_there number (l ∷ ls) w past fits ok =
-      either_way _ past (line w number l) ok.sent
-      (λ v h. from_there (number + 1) ls v _ fits.1 (goes_on number w v past _ ok (line_goes codecs digits number w past.sent ok.holds ok.lines v l fits.0 h)))
+  ended_from : (number : ℕ) (lines : List Line) (w : World) (past : Past) → AreLines lines → PastOk number w past → Ended (run_from number lines w).world (past_from number lines w past)
+  unfolding run_from past_from
+  ended_from number [] w past fits ok = (number, ok)
+  ended_from number (l ∷ ls) w past fits ok =
+      where_it_fits Ended _ _ w number past (line w number l) (number, ok)
+      (λ v h. ended_from (number + 1) ls v _ fits.1 (goes_on number w v past _ ok (line_goes codecs digits number w past.sent ok.holds ok.lines v l fits.0 h)))
 
   -- births stay apart where there are few lines
   counted_from : (number : ℕ) (lines : List Line) (w : World) (past : Past) → AreLines lines → PastOk number w past → w.born + length lines < 2 ^ 64 - 1 → Counted w.nodes w.born → let v = (run_from number lines w).world in Counted v.nodes v.born
   unfolding run_from
   counted_from number [] w past fits ok few had = had
   counted_from number (l ∷ ls) w past fits ok few had =
-      counted_either _ w number (line w number l) had
+      where_it_fits (λ v more. Counted v.nodes v.born) _ (λ v. past) w number past (line w number l) had
       (λ v h.
       let g = line_goes codecs digits number w past.sent ok.holds ok.lines v l fits.0 h in
       let more = g.counts.few in
       counted_from (number + 1) ls v _ fits.1 (goes_on number w v past _ ok g) (omega (arith, few, more)) (g.counts.counted (omega (arith, few)) had))
 
-  -- each frame that was sent is in a packet
-  carried_from : (number : ℕ) (lines : List Line) (w : World) (past : Past) → AreLines lines → PastOk number w past → AreCarried w past → AreCarried (run_from number lines w).world (past_from number lines w past)
-  unfolding run_from past_from
-  carried_from number [] w past fits ok had = had
-  carried_from number (l ∷ ls) w past fits ok had =
-      carried_either _ _ w number past (line w number l) had
-      (λ v h.
-      let g = line_goes codecs digits number w past.sent ok.holds ok.lines v l fits.0 h in
-      carried_from (number + 1) ls v _ fits.1 (goes_on number w v past _ ok g) (more_carried w v past (past_of_line number w v l) had g.carried g.grown))
-
   pub frames_of_runs : FramesOfRuns
-  frames_of_runs lines fits = from_there 1 lines empty_world nothing fits begins
+  frames_of_runs lines fits = (ended_from 1 lines empty_world nothing fits begins).1.sent
 
   pub births_of_runs : BirthsOfRuns
   births_of_runs lines fits few birth n session m other a b =
@@ -115,4 +91,4 @@ module _ (codecs : Codecs) (digits : (port : ℕ) → length (calling_number por
       (plays_at w.nodes n Lac a.node a.is a.role) (plays_at w.nodes m Lac b.node b.is b.role)
 
   pub packets_of_runs : PacketsOfRuns
-  packets_of_runs lines fits = carried_from 1 lines empty_world nothing fits begins tt
+  packets_of_runs lines fits = (ended_from 1 lines empty_world nothing fits begins).1.carried

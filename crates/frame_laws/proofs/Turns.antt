@@ -34,9 +34,10 @@ pub all_push : {X : Type 0} (P : X → Type 0) (xs : List X) (x : X) → AllByRe
 all_push P [] x h p = (p, tt)
 all_push P (y ∷ xs) x h p = (h.0, all_push P xs x h.1 p)
 
-pub one_of_two : {T : Type 0} (P : T → Type 0) (a : Bool) (x y : T) → (a ≡ true → P x) → P y → P (cond a x y)
-one_of_two P true x y p q = p refl
-one_of_two P false x y p q = q
+-- by cases on a test
+pub branch : {T : Type 0} (P : T → Type 0) (a : Bool) (x y : T) → (a ≡ true → P x) → (a ≡ false → P y) → P (cond a x y)
+branch P true x y p q = p refl
+branch P false x y p q = q refl
 
 -- ---- what is sent
 
@@ -127,7 +128,7 @@ module _ (i peer : ℕ) (P : ℕ → Message → Type 0) (Q : ℕ → Call → T
     pub put_ok : (session : ℕ) (m : Message) (t : Turn) → session < 65536 → IsWritten m → P session m → Ok t → Ok (put session m t)
     unfolding put
     put_ok session m t fits w p h =
-        one_of_two Ok (may_count t.tunnel.channel.sent) _ _
+        branch Ok (may_count t.tunnel.channel.sent) _ _
         (λ may. record {
           local = h.local;
           peer_is = h.peer_is;
@@ -138,7 +139,7 @@ module _ (i peer : ℕ) (P : ℕ → Message → Type 0) (Q : ℕ → Call → T
           born = quiet_more (Put t.tunnel.local session m) t.notes refl h.born;
           idle = h.idle;
         })
-        (drop_ok why.Queue t h)
+        (λ full. drop_ok why.Queue t h)
 
     pub acknowledge_ok : (t : Turn) → Ok t → Ok (acknowledge t)
     unfolding acknowledge with_output
@@ -238,9 +239,9 @@ module _ (i peer : ℕ) (P : ℕ → Message → Type 0) (Q : ℕ → Call → T
     pub takes_by_ok : (calls : List (ℕ × Call)) (m : Message) (row : TunnelState × TunnelAction) (t : Turn) → IsWritten m → P 0 Scccn → MayRequestAll calls → Ok t → Ok (takes_by calls m row t)
     unfolding takes_by
     takes_by_ok calls m row t w p may h =
-        one_of_two Ok (is_served row.1) _ _
+        branch Ok (is_served row.1) _ _
         (λ served. acts_ok calls row.1 _ p may (in_state_ok row.0 _ (learned_by_ok m _ w (took_ok t h))))
-        (drop_ok why.Ignored t h)
+        (λ other. drop_ok why.Ignored t h)
 
     pub takes_ok : (calls : List (ℕ × Call)) (e : TunnelEvent) (m : Message) (t : Turn) → IsWritten m → P 0 Scccn → MayRequestAll calls → Ok t → Ok (takes calls e m t)
     unfolding takes
