@@ -1,7 +1,7 @@
 -- From what was told to what the exit says.
 use Rattle.std.proofs.Common.{◌≡◌, inl, inr, ℕ, List, Option, Some, None, Result, Ok, Err, refl, sym, ap, subst}
 use Rattle.wire_base.specs.declared.why.Why.{Why}
-use Rattle.port_traits.specs.Causes.{Rose}
+use Rattle.wire_base.specs.Causes.{Rose}
 use Rattle.port_traits.specs.Limits.{limit_passed}
 use Rattle.port_traits.specs.ReadCauses.{IsTextOf}
 use Rattle.schedule_text.specs.declared.line.Line.{Line}

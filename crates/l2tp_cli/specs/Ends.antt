@@ -1,7 +1,7 @@
 -- What each exit of the top call says of its source and its sink.
 use Rattle.std.specs.Prelude.{◌≡◌, ◌⊎◌, ℕ, List, [], take, Option}
 use Rattle.std.specs.Io.KnownBytes.{Appends}
-use Rattle.port_traits.specs.Causes.{Rose}
+use Rattle.wire_base.specs.Causes.{Rose}
 use Rattle.port_traits.specs.ReadCauses.{IsTextOf}
 use Rattle.l2tp_cli.specs.declared.words.Asked.{Asked}
 use Rattle.l2tp_cli.specs.declared.words.Asked.TheVariants as asked

@@ -1,4 +1,3 @@
-pub mod Causes
 pub mod Limits
 pub mod Memory
 pub mod ReadCauses

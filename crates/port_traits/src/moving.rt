@@ -2,7 +2,7 @@
 
 ghost use Rattle.std.specs.Prelude.{ℕ, ◌≡◌, ◌≤◌, ◌<◌, ◌+◌, ◌^◌, length, take, OnOk, OnErr, IfOk, IfErr, IfSome, Some, None, count_by};
 ghost use Rattle.std.specs.Io.KnownBytes.{Appends, Consumes, IsAtEnd};
-ghost use Rattle.port_traits.specs.Causes.{HasCause};
+ghost use Rattle.wire_base.specs.Causes.{HasCause};
 ghost use Rattle.port_traits.specs.ReadCauses.{ReadHasCause, TellsLimit, IsTextOf};
 ghost use Rattle.port_traits.specs.Limits.{is_feed, ends_inside, lines_begun, limit_passed};
 

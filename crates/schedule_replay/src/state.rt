@@ -11,19 +11,19 @@ use crate::fault::LineFault;
 use crate::node::{Node, count_at};
 use crate::tables::{agreement_table, end_table};
 use crate::texts::{cause_text, drop_text, send_text, up_text};
-use id_table::{Row, Table};
+use id_table::Table;
 use protocol_model::{Config, Event, Note, Origin, Out, Packet, Role, address_of, node_of};
 use schedule_text::Line;
 use std::alloc::Global;
 use std::marker::Model;
-use wire_base::{Bytes, NoMemory, Why};
+use wire_base::{Bytes, NoMemory, Sequence, Why};
 
 /// The world's state.
 #[derive(Drop)]
 pub(crate) struct State {
     alloc: Global,
     nodes: Table<Node>,
-    packets: Row<Packet>,
+    packets: Sequence<Packet>,
     queued: Table<u64>,
     delivered: Table<u64>,
     born: u64,
@@ -73,7 +73,7 @@ impl State {
         State {
             alloc,
             nodes: Table::new(alloc),
-            packets: Row::new(alloc),
+            packets: Sequence::new(alloc),
             queued: Table::new(alloc),
             delivered: Table::new(alloc),
             born: 0,

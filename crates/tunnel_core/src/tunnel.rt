@@ -4,12 +4,11 @@ ghost use Rattle.std.specs.Prelude.{◌≡◌, IfOk, IsTrue};
 ghost use Rattle.reliable_channel.specs.Channel.{may_count};
 ghost use Rattle.protocol_model.specs.End.{fresh};
 
-use id_table::Row;
 use reliable_channel::Channel;
 use std::alloc::Global;
 use std::marker::Model;
 use tunnel_fsm::TunnelState;
-use wire_base::NoMemory;
+use wire_base::{NoMemory, Sequence};
 
 /// A tunnel of an end.
 #[derive(Drop)]
@@ -23,7 +22,7 @@ pub struct Tunnel {
     pub(crate) state: TunnelState,
     pub(crate) channel: Channel,
     /// The sessions of the calls that wait for the tunnel, in the order in which they came.
-    pub(crate) waiting: Row<u16>,
+    pub(crate) waiting: Sequence<u16>,
 }
 
 impl Model for Tunnel {
@@ -48,7 +47,7 @@ impl Tunnel {
             remote: 0,
             state: TunnelState::Idle,
             channel: Channel::new(),
-            waiting: Row::new(alloc),
+            waiting: Sequence::new(alloc),
         }
     }
 
@@ -62,7 +61,7 @@ impl Tunnel {
             remote: self.remote,
             state: self.state,
             channel: self.channel,
-            waiting: Row::from_slice(alloc, self.waiting.as_slice())?,
+            waiting: Sequence::from_slice(alloc, self.waiting.as_slice())?,
         })
     }
 

@@ -9,22 +9,22 @@ ghost use Rattle.protocol_model.specs.Turn.{turn_of, with_output, with_note, wit
 use crate::tunnel::Tunnel;
 use call_fsm::CallState;
 use control_message::{Failover, Message, Opening, has_room, write_message};
-use id_table::{Row, Table};
+use id_table::Table;
 use l2tp_header::write_control;
 use protocol_model::{Call, Config, Note, Origin, Out, calling_number, host_name, twelve_digits};
 use std::alloc::Global;
 use std::marker::Model;
 use tunnel_fsm::{TunnelAction, TunnelEvent, TunnelState, advance};
-use wire_base::{Bytes, NoMemory, Why};
+use wire_base::{Bytes, NoMemory, Sequence, Why};
 
 /// What a step gives to the outside, in order.
-pub type Outputs = Row<Out>;
+pub type Outputs = Sequence<Out>;
 
 /// What a step did, in order.
-pub type Notes = Row<Note>;
+pub type Notes = Sequence<Note>;
 
 /// Calls with their sessions.
-pub(crate) type Changed = Row<(u16, Call)>;
+pub(crate) type Changed = Sequence<(u16, Call)>;
 
 /// A tunnel in a step, with what the step gave so far.
 #[derive(Drop)]
@@ -280,7 +280,7 @@ impl Turn {
     fn request_waiting(&mut self, calls: &Table<Call>) -> Result<(), NoMemory>
         ensures { OnOk result (self.new ≡ requests_waiting calls.now self.old) }
     {
-        let waiting = std::mem::replace(&mut self.tunnel.waiting, Row::new(self.alloc));
+        let waiting = std::mem::replace(&mut self.tunnel.waiting, Sequence::new(self.alloc));
         self.request_all(waiting.as_slice(), calls)
     }
 
