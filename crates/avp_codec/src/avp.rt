@@ -1,10 +1,6 @@
 //! Attribute value pairs, and lists of them (RFC 2661 section 4.1).
 
-ghost use Rattle.std.specs.Prelude.{◌≡◌, [], ◌∷◌, ◌++◌, OnOk, OnErr};
-
-use std::alloc::Global;
-use std::marker::Model;
-use wire_base::{Bytes, NoMemory};
+use wire_base::{Bytes, Sequence};
 
 /// An attribute value pair. On the wire its head has six bytes, each number the highest byte first: a word of two flags,
 /// four reserved bits and the length in ten bits, then the vendor, then the attribute.
@@ -25,44 +21,5 @@ pub struct Avp {
     pub value: Bytes,
 }
 
-/// A list of attribute value pairs, which contracts see as a list.
-#[derive(Debug, Drop)]
-pub struct Avps {
-    pairs: Vec<Avp>,
-}
-
-impl Model for Avps {
-    ghost use Rattle.std.specs.Prelude.{List};
-    ghost use Rattle.avp_codec.specs.declared.avp.Avp.{Avp};
-
-    ghost Value = { List Avp };
-
-    ghost view = { λ a. a.pairs.items };
-}
-
-impl Avps {
-    /// No pairs. It takes no memory.
-    pub fn new(alloc: Global) -> Avps
-        ensures { result ≡ [] }
-    {
-        Avps {
-            pairs: Vec::new(alloc),
-        }
-    }
-
-    /// The pairs, lent.
-    pub fn as_slice(&self) -> &[Avp]
-        ensures { result.now ≡ self.now }
-    {
-        self.pairs.as_slice()
-    }
-
-    /// Appends a pair. Where memory is wanting, nothing is appended.
-    pub fn push(&mut self, avp: Avp) -> Result<(), NoMemory>
-        ensures ok { OnOk result (self.new ≡ self.old ++ avp ∷ []) }
-        ensures err { OnErr result (self.new ≡ self.old) }
-    {
-        self.pairs.push(avp)?;
-        Ok(())
-    }
-}
+/// A list of attribute value pairs, in the order in which they stand.
+pub type Avps = Sequence<Avp>;

@@ -1,10 +1,6 @@
 //! The lines of a schedule, and lists of them.
 
-ghost use Rattle.std.specs.Prelude.{◌≡◌, [], ◌∷◌, ◌++◌, length, OnOk, OnErr};
-
-use std::alloc::Global;
-use std::marker::Model;
-use wire_base::{Bytes, NoMemory};
+use wire_base::{Bytes, Sequence};
 
 /// A line of a schedule. Nodes are numbered from 1 to 255, and packets from 1 to 4,294,967,295, in the order in which
 /// they were sent.
@@ -50,51 +46,5 @@ pub enum Line {
     },
 }
 
-/// A list of lines, which contracts see as a list.
-#[derive(Debug, Drop)]
-pub struct Lines {
-    lines: Vec<Line>,
-}
-
-impl Model for Lines {
-    ghost use Rattle.std.specs.Prelude.{List};
-    ghost use Rattle.schedule_text.specs.declared.line.Line.{Line};
-
-    ghost Value = { List Line };
-
-    ghost view = { λ a. a.lines.items };
-}
-
-impl Lines {
-    /// No lines. It takes no memory.
-    pub fn new(alloc: Global) -> Lines
-        ensures { result ≡ [] }
-    {
-        Lines {
-            lines: Vec::new(alloc),
-        }
-    }
-
-    /// The lines, lent.
-    pub fn as_slice(&self) -> &[Line]
-        ensures { result.now ≡ self.now }
-    {
-        self.lines.as_slice()
-    }
-
-    /// How many lines there are.
-    pub fn len(&self) -> usize
-        ensures { result ≡ length self.now }
-    {
-        self.lines.len()
-    }
-
-    /// Appends a line. Where memory is wanting, nothing is appended.
-    pub fn push(&mut self, line: Line) -> Result<(), NoMemory>
-        ensures ok { OnOk result (self.new ≡ self.old ++ line ∷ []) }
-        ensures err { OnErr result (self.new ≡ self.old) }
-    {
-        self.lines.push(line)?;
-        Ok(())
-    }
-}
+/// A list of lines, in their order.
+pub type Lines = Sequence<Line>;

@@ -1,0 +1,54 @@
+-- A space of numbers: its last one, the ceiling up to which numbers may be drawn, and the next one.
+use Rattle.std.specs.Prelude.{◌≡◌, ℕ, zero, suc, ◌+◌, ◌-◌, nat_lt, if◌then◌else◌, List, [], ◌∷◌, length, Result, Ok, Err}
+use Rattle.id_source.specs.declared.IdError.{IdError}
+use Rattle.id_source.specs.declared.IdError.TheVariants.{NoIds, NeedCeiling}
+
+pub record Space : Type 0 where
+  pub last : ℕ
+  pub ceiling : ℕ
+  pub next : ℕ
+
+-- one of which nothing was drawn, and one that starts again from its ceiling
+abbrev pub new_space : ℕ → Space
+new_space last = record { last = last; ceiling = 0; next = 1 }
+
+abbrev pub space_from : ℕ → ℕ → Space
+space_from last ceiling = record { last = last; ceiling = ceiling; next = ceiling + 1 }
+
+-- the number that is drawn: the next one, where it passes neither the last one nor the ceiling
+abbrev pub draws : Space → Result ℕ IdError
+draws s =
+    if nat_lt s.last s.next then Err (NoIds (s.next - 1))
+    else if nat_lt s.ceiling s.next then Err (NeedCeiling s.next)
+    else Ok s.next
+
+abbrev pub drawn : Result ℕ IdError → Space → Space
+drawn (Ok n) s = record s { next = n + 1 }
+drawn (Err e) s = s
+
+abbrev pub after_draw : Space → Space
+after_draw s = drawn (draws s) s
+
+-- ---- what is drawn in a list of draws and raises
+
+pub data Use : Type 0 where
+  Draws : Use
+  Raises : ℕ → Use
+
+abbrev pub with_drawn : Result ℕ IdError → List ℕ → List ℕ
+with_drawn (Ok n) ns = n ∷ ns
+with_drawn (Err e) ns = ns
+
+unfoldable pub numbers_drawn : Space → List Use → List ℕ
+numbers_drawn s [] = []
+numbers_drawn s (Draws ∷ us) = with_drawn (draws s) (numbers_drawn (after_draw s) us)
+numbers_drawn s (Raises ceiling ∷ us) = numbers_drawn (record s { ceiling = ceiling }) us
+
+-- so many numbers, from one on
+unfoldable pub counting_from : ℕ → ℕ → List ℕ
+counting_from n zero = []
+counting_from n (suc k) = n ∷ counting_from (n + 1) k
+
+-- the numbers that are drawn count on from the next one
+abbrev pub CountsOn : Type 0
+CountsOn = (s : Space) (us : List Use) → numbers_drawn s us ≡ counting_from s.next (length (numbers_drawn s us))

@@ -1,0 +1,105 @@
+//! Numbers for tunnels, sessions and recoveries, each drawn once: a number is drawn only where it is at most a ceiling that
+//! was committed before, so that an end which starts again from its ceiling draws none a second time.
+#![tactic(auto)]
+
+ghost use Rattle.std.specs.Prelude.{◌≡◌, ◌≤◌, IfOk, IfErr};
+ghost use Rattle.id_source.specs.Spaces.{new_space, space_from, draws, after_draw, CountsOn};
+
+use std::marker::Model;
+
+/// Why no number is drawn. The space is as before.
+#[derive(Clone, Copy, Debug, PartialEq, Eq)]
+pub enum IdError {
+    /// The last number of the space was drawn, which is this one.
+    NoIds { drawn: u32 },
+    /// The next number is this one, and it is above the ceiling.
+    NeedCeiling { next: u32 },
+}
+
+/// A space of numbers from 1 to a last one, of which those up to the ceiling may be drawn.
+#[derive(Clone, Copy, Debug)]
+pub struct Ids {
+    last: u32,
+    ceiling: u32,
+    /// The number before the next one.
+    before: u32,
+}
+
+impl Model for Ids {
+    ghost use Rattle.std.specs.Prelude.{ℕ, ◌≤◌, ◌+◌, ◌-◌};
+    ghost use Rattle.id_source.specs.Spaces.{Space};
+
+    ghost Value = { Space };
+
+    ghost view = { λ s. record { last = s.last; ceiling = s.ceiling; next = s.before + 1 } };
+
+    ghost inverse = { λ k. record { last = k.last; ceiling = k.ceiling; before = k.next - 1 } };
+
+    ghost invariant = { λ s. (s.before ≤ s.ceiling) × (s.ceiling ≤ s.last) };
+}
+
+impl Ids {
+    /// A space of which nothing was drawn, with the ceiling 0.
+    pub fn new(last: u32) -> Ids
+        ensures { result ≡ new_space last }
+    {
+        Ids {
+            last,
+            ceiling: 0,
+            before: 0,
+        }
+    }
+
+    /// A space that starts again from its committed ceiling: the next number is the one above it.
+    pub fn from_ceiling(last: u32, ceiling: u32) -> Ids
+        requires { ceiling ≤ last }
+        ensures { result ≡ space_from last ceiling }
+    {
+        Ids {
+            last,
+            ceiling,
+            before: ceiling,
+        }
+    }
+
+    /// The next number. It takes no memory.
+    pub fn draw(&mut self) -> Result<u32, IdError>
+        ensures answer { result ≡ draws self.old }
+        ensures after { self.new ≡ after_draw self.old }
+        ensures within { IfOk result (λ id. (1 ≤ id) × (id ≤ self.old.last)) }
+    {
+        if self.before == self.last {
+            return Err(IdError::NoIds { drawn: self.before });
+        }
+        let next = self.before + 1;
+        if self.before == self.ceiling {
+            return Err(IdError::NeedCeiling { next });
+        }
+        self.before = next;
+        Ok(next)
+    }
+
+    /// Raises the ceiling.
+    pub fn raise(&mut self, ceiling: u32)
+        requires above { self.old.ceiling ≤ ceiling }
+        requires within { ceiling ≤ self.old.last }
+        ensures { self.new ≡ record self.old { ceiling = ceiling } }
+    {
+        self.ceiling = ceiling;
+    }
+
+    /// Up to which number may be drawn.
+    pub fn ceiling(&self) -> u32
+        ensures { result ≡ self.now.ceiling }
+    {
+        self.ceiling
+    }
+}
+
+/// A law: whatever is drawn and raised, the numbers that are drawn count on from the next one, so none is drawn twice.
+pub fn each_number_is_drawn_once()
+    ensures { CountsOn }
+{}
+
+#[cfg(test)]
+mod tests;
