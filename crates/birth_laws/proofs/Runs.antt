@@ -1,7 +1,5 @@
 -- What holds of births holds after every run.
-use Rattle.std.proofs.Common.{◌≡◌, ℕ, true, not, eqb, List, [], ◌∷◌, refl, sym, ◌∙◌, arith}
-use Rattle.std.proofs.lemmas.Bool.{eqb-false}
-use Rattle.epoch_machine.proofs.Tells.{turned}
+use Rattle.std.proofs.Common.{◌≡◌, true, List, [], ◌∷◌, refl, arith}
 use Rattle.epoch_machine.specs.Worlds.{World, Rules, all_rules, empty_world}
 use Rattle.epoch_machine.specs.Moves.{Move, step, goes_on}
 use Rattle.epoch_machine.proofs.Did.{step_did}
@@ -11,7 +9,7 @@ use Rattle.epoch_laws.proofs.Growth.{did_grow}
 use Rattle.letter_laws.specs.Letters.{LettersHold}
 use Rattle.letter_laws.proofs.Steps.{did_ok as letters_step}
 use Rattle.letter_laws.proofs.Next.{letters_empty}
-use Rattle.birth_laws.specs.Births.{CallsHold, LettersMean, BirthsOfRuns, TellsApart}
+use Rattle.birth_laws.specs.Births.{CallsHold, LettersMean, BirthsOfRuns}
 use Rattle.birth_laws.proofs.Steps.{Goes}
 use Rattle.birth_laws.proofs.Goings.{did_goes}
 
@@ -91,6 +89,3 @@ of_runs = record {
   letters = λ ms. (sound_after ms).meant;
   one_mate = λ ms. let c = (sound_after ms).calls in record { once = c.mate_once; birth = c.mate_birth; other_births = c.birth_once; knows = c.remote_mates };
 }
-
-pub tells_apart : (one other : ℕ) → TellsApart one other (not (eqb one other))
-tells_apart one other = record { differ = refl; apart = λ h ms y m a b. eqb-false one other (turned (eqb one other) h) (sym a ∙ (sound_after ms).calls.mate_birth y m ∙ b) }

@@ -1,5 +1,5 @@
 -- The calls of both ends: who replies to whom, and by which names each knows the other.
-use Rattle.std.specs.Prelude.{◌≡◌, ◌≢◌, ◌⊎◌, ℕ, ◌<◌, ◌≤◌, Bool, true, false, not, ◌==◌, List, Some, None}
+use Rattle.std.specs.Prelude.{◌≡◌, ◌≢◌, ◌⊎◌, ℕ, ◌<◌, ◌≤◌, true, false, List, Some, None}
 use Rattle.epoch_machine.specs.Letters.{Letter, Request, Reply, Connect, Cdn, Fsq, Fsr}
 use Rattle.epoch_machine.specs.Tunnels.{Tunnels, Linked}
 use Rattle.epoch_machine.specs.Channels.{Channels, Stands}
@@ -97,8 +97,3 @@ pub record BirthsOfRuns : Type 0 where
   pub calls : (ms : List Move) → CallsHold (after all_rules ms).tunnels (after all_rules ms).calls
   pub letters : (ms : List Move) → LettersMean (after all_rules ms).tunnels (after all_rules ms).channels (after all_rules ms).calls
   pub one_mate : (ms : List Move) → OneMate (after all_rules ms).calls
-
--- the answer is true where the births differ, and then calls of these births are no mates, after every run
-pub record TellsApart (one other : ℕ) (answer : Bool) : Type 0 where
-  pub differ : answer ≡ not (one == other)
-  pub apart : answer ≡ true → (ms : List Move) (y : ℕ) → (after all_rules ms).calls.mate y ≢ 0 → (after all_rules ms).calls.birth y ≡ one → (after all_rules ms).calls.birth ((after all_rules ms).calls.mate y) ≢ other

@@ -1,6 +1,5 @@
 -- A pair that one end holds and the other doesn't is covered, and two ends with nothing outstanding agree.
-use Rattle.std.proofs.Common.{◌≡◌, ◌≢◌, ◌⊎◌, inl, inr, ⊎_elim, ℕ, ◌<◌, ◌≤◌, Bool, true, false, leb, length, Option, Some, None, refl, sym, ap, ◌∙◌, subst, arith, List}
-use Rattle.std.proofs.lemmas.Bool.{leb-true}
+use Rattle.std.proofs.Common.{◌≡◌, ◌≢◌, ◌⊎◌, inl, inr, ⊎_elim, ℕ, ◌<◌, ◌≤◌, Bool, true, false, length, Option, Some, None, refl, sym, ap, ◌∙◌, subst, arith, List}
 use Rattle.epoch_machine.specs.Letters.{Request, Connect, Cdn, Fsr}
 use Rattle.epoch_machine.specs.Tunnels.{Tunnels, Linked, Gone, Open}
 use Rattle.epoch_machine.specs.Channels.{Channels, Stands}
@@ -13,7 +12,7 @@ use Rattle.epoch_machine.specs.Worlds.{all_rules, empty_world}
 use Rattle.epoch_machine.specs.Moves.{Move, Kept, Stops, step, goes_on}
 use Rattle.epoch_machine.proofs.Places.{stands_below}
 use Rattle.epoch_laws.proofs.Rising.{lower_is_not_open}
-use Rattle.coverage_laws.specs.Coverage.{ConnectOutstanding, CdnOutstanding, PairsCovered, IsComplete, AllTaken, HeldByBoth, EndsAgree, CoverageOfRuns, TellsAllTaken, StopsKeepAll}
+use Rattle.coverage_laws.specs.Coverage.{ConnectOutstanding, CdnOutstanding, PairsCovered, IsComplete, AllTaken, HeldByBoth, EndsAgree, CoverageOfRuns, StopsKeepAll}
 use Rattle.coverage_laws.proofs.Answers.{one_name}
 use Rattle.coverage_laws.proofs.Ends.{drawn_mate}
 use Rattle.coverage_laws.proofs.Runs.{Whole, whole_after, whole_step}
@@ -260,9 +259,6 @@ of_runs = record {
   pairs_covered = λ ms. pairs_covered (goes_on all_rules empty_world ms) (whole_after ms);
   ends_agree = λ ms. ends_agree (goes_on all_rules empty_world ms) (whole_after ms);
 }
-
-pub tells_all_taken : (given taken : ℕ) → TellsAllTaken given taken (leb given taken)
-tells_all_taken given taken = record { counted = refl; all_taken = λ h w x y a b. (let c = leb-true given taken h in omega (arith, a, b, c)) }
 
 after_stop : (ms : List Move) (n : ℕ) (ks : List Kept) → Whole (step all_rules (goes_on all_rules empty_world ms) (Stops n ks))
 after_stop ms n ks = whole_step all_rules (goes_on all_rules empty_world ms) (Stops n ks) record { reads = refl; truly = refl; asks = refl; tells = refl; freezes = refl } (whole_after ms)

@@ -1,5 +1,5 @@
 -- Queries and coverage.
-use Rattle.std.specs.Prelude.{◌≡◌, ◌≢◌, ◌⊎◌, ℕ, ◌<◌, ◌≤◌, Bool, true, false, nat_le, List, length, Some, None}
+use Rattle.std.specs.Prelude.{◌≡◌, ◌≢◌, ◌⊎◌, ℕ, ◌<◌, ◌≤◌, Bool, true, false, List, length, Some, None}
 use Rattle.epoch_machine.specs.Letters.{Letter, Request, Connect, Cdn, Fsr}
 use Rattle.epoch_machine.specs.Tunnels.{Tunnels, Linked, Phase, Gone, WaitReply, WaitConnect, Open, Attempts, Answers}
 use Rattle.epoch_machine.specs.Channels.{Channels, Stands}
@@ -158,11 +158,6 @@ pub record CoverageOfRuns : Type 0 where
   pub queries : (ms : List Move) → QueriesHold (after all_rules ms).tunnels (after all_rules ms).channels (after all_rules ms).calls
   pub pairs_covered : (ms : List Move) → PairsCovered (after all_rules ms)
   pub ends_agree : (ms : List Move) → EndsAgree (after all_rules ms)
-
--- the answer is true where so many letters were taken as given, or more, which is where none is outstanding
-pub record TellsAllTaken (given taken : ℕ) (answer : Bool) : Type 0 where
-  pub counted : answer ≡ nat_le given taken
-  pub all_taken : answer ≡ true → (w : World) (x y : ℕ) → length (w.channels.sent x (w.tunnels.entered x)) ≡ given → w.channels.taken y (w.tunnels.entered x) ≡ taken → AllTaken w x y
 
 -- a step that is cut after any of its records keeps all of it: whatever records of a node's step are kept as the node goes down, all that held goes on to hold
 pub record StopsKeepAll : Type 0 where

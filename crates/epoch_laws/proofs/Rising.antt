@@ -1,13 +1,12 @@
 -- The epochs that a tunnel enters rise, and the two resets meet.
-use Rattle.std.proofs.Common.{◌≡◌, ◌≢◌, ℕ, ◌<◌, ◌≤◌, nat_lt, true, List, refl, sym, ap, ◌∙◌, subst, arith}
-use Rattle.std.proofs.lemmas.Bool.{ltb-true}
+use Rattle.std.proofs.Common.{◌≡◌, ◌≢◌, ℕ, ◌<◌, ◌≤◌, true, List, refl, sym, ap, ◌∙◌, subst, arith}
 use Rattle.std.proofs.lemmas.Bool.Decides.{nat_tests}
 use Rattle.epoch_machine.specs.Tunnels.{Tunnels, Linked, Attempts, Answers, left, opened, accepted, established_with, established, restored, frozen, confirms, is_confirmed, goes_down, comes_up, keeps_up, keeps_down}
 use Rattle.epoch_machine.specs.Worlds.{World, Rules, empty_world, gives, took_one, leaves, connects, is_connected, takes_cdn, answers_query}
 use Rattle.epoch_machine.specs.Moves.{ResetsAnswering, Kept, keeps, keeps_all, falls, may_reset_answering, opens, accepts, adds_call, asks_for, ends_call, queries, freezes, resets_attempting, resets_answering, restores, step, goes_on}
 use Rattle.epoch_machine.proofs.Did.{Did, did_learn, did_end_told, did_reset_attempting, did_reset_answering, did_stop, step_did, attempting_tells, answering_tells}
 use Rattle.epoch_machine.proofs.Stops.{amid_first, all_kept}
-use Rattle.epoch_laws.specs.Epochs.{EpochsHold, Rises, LowerIsNotOpen, ResetsMeet, EpochsOfRuns, TellsNotOpen}
+use Rattle.epoch_laws.specs.Epochs.{EpochsHold, Rises, LowerIsNotOpen, ResetsMeet, EpochsOfRuns}
 use Rattle.epoch_laws.proofs.Steps.{answer_same, told_same, holds_after}
 
 -- an end that resets by an attempt enters an epoch above its own
@@ -86,6 +85,3 @@ of_runs = record {
   lower = λ r ms. lower_is_not_open (goes_on r empty_world ms).tunnels (holds_after r ms);
   meet = λ r ms. resets_meet r (goes_on r empty_world ms) (holds_after r ms);
 }
-
-pub tells : (mine theirs : ℕ) → TellsNotOpen mine theirs (nat_lt mine theirs)
-tells mine theirs = record { lower = refl; not_open = λ h r ms x y l a b. (lower_is_not_open (goes_on r empty_world ms).tunnels (holds_after r ms)).lower x y l (let c = ltb-true mine theirs h in omega (arith, c, a, b)) }

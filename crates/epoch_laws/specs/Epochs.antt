@@ -1,5 +1,5 @@
 -- The epochs of both ends of a link.
-use Rattle.std.specs.Prelude.{◌≡◌, ◌≢◌, ℕ, ◌<◌, ◌≤◌, Bool, true, false, nat_lt, List}
+use Rattle.std.specs.Prelude.{◌≡◌, ◌≢◌, ℕ, ◌<◌, ◌≤◌, true, false, List}
 use Rattle.epoch_machine.specs.Worlds.{World, Rules}
 use Rattle.epoch_machine.specs.Moves.{Move, ResetsAttempting, ResetsAnswering, step, after, may_reset_attempting, may_reset_answering}
 use Rattle.epoch_machine.specs.Tunnels.{Tunnels, Linked, Gone, WaitReply, WaitConnect, Open, Attempts, Answers, is_established}
@@ -82,8 +82,3 @@ pub record EpochsOfRuns : Type 0 where
   pub rise : (r : Rules) (ms : List Move) → Rises r (after r ms)
   pub lower : (r : Rules) (ms : List Move) → LowerIsNotOpen (after r ms).tunnels
   pub meet : (r : Rules) (ms : List Move) → ResetsMeet r (after r ms)
-
--- the answer is true where the first epoch is lower, and then, after every run, an end in it whose other end is in the second isn't open
-pub record TellsNotOpen (mine theirs : ℕ) (answer : Bool) : Type 0 where
-  pub lower : answer ≡ nat_lt mine theirs
-  pub not_open : answer ≡ true → (r : Rules) (ms : List Move) (x y : ℕ) → Linked (after r ms).tunnels.learned x y → (after r ms).tunnels.entered x ≡ mine → (after r ms).tunnels.entered y ≡ theirs → (after r ms).tunnels.phase x ≢ Open

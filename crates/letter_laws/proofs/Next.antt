@@ -1,6 +1,5 @@
 -- A letter that is taken is the next one, in every run.
-use Rattle.std.proofs.Common.{◌≡◌, ◌≢◌, ◌⊎◌, inl, inr, ⊎_elim, ℕ, ◌<◌, ◌≤◌, true, eqb, List, [], ◌∷◌, Some, refl, sym, ap, ◌∙◌, subst, arith}
-use Rattle.std.proofs.lemmas.Bool.{eqb-false}
+use Rattle.std.proofs.Common.{◌≡◌, ◌≢◌, ◌⊎◌, inl, inr, ⊎_elim, ℕ, ◌<◌, ◌≤◌, true, List, [], ◌∷◌, Some, refl, sym, ap, ◌∙◌, subst, arith}
 use Rattle.std.proofs.lemmas.Bool.Decides.{nat_tests}
 use Rattle.epoch_machine.specs.Letters.{Letter, Sccrp, StopCcn}
 use Rattle.epoch_machine.specs.Tunnels.{Linked, WaitReply, Open, Closed, left, established_with, is_wait_reply, is_established}
@@ -12,7 +11,7 @@ use Rattle.epoch_machine.proofs.Did.{step_did, take_tells, refusal_tells}
 use Rattle.epoch_laws.specs.Epochs.{EpochsHold}
 use Rattle.epoch_laws.proofs.Steps.{step_ok as epochs_step, empty_ok as epochs_empty, holds_after}
 use Rattle.epoch_laws.proofs.Growth.{did_grow}
-use Rattle.letter_laws.specs.Letters.{LettersHold, IsNextOf, ClosesOpener, TakesNext, LettersOfRuns, TellsTaken}
+use Rattle.letter_laws.specs.Letters.{LettersHold, IsNextOf, ClosesOpener, TakesNext, LettersOfRuns}
 use Rattle.letter_laws.proofs.Sources.{Source, source, unlinked_end}
 use Rattle.letter_laws.proofs.Steps.{did_ok}
 use Rattle.letter_laws.proofs.Begins.{not_entered}
@@ -110,6 +109,3 @@ of_runs = record {
   hold = λ ms. both_after all_rules ms empty_world refl epochs_empty letters_empty;
   next = λ ms. takes_next all_rules (goes_on all_rules empty_world ms) refl (holds_after all_rules ms) (both_after all_rules ms empty_world refl epochs_empty letters_empty);
 }
-
-pub tells_taken : (mine epoch : ℕ) → TellsTaken mine epoch (eqb epoch mine)
-tells_taken mine epoch = record { same = refl; taken = λ no_same ms x s k z l st may at. ⊎_elim (λ a. absurd (eqb-false epoch mine no_same (a.epoch ∙ at))) (λ a. a) ((of_runs.next ms).takes x s epoch k z l st may) }

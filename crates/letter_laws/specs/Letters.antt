@@ -1,5 +1,5 @@
 -- The lists of letters of each tunnel, epoch by epoch, and how many of the other end's it took.
-use Rattle.std.specs.Prelude.{◌≡◌, ◌≢◌, ◌⊎◌, ℕ, ◌<◌, ◌≤◌, Bool, true, false, ◌==◌, List, length}
+use Rattle.std.specs.Prelude.{◌≡◌, ◌≢◌, ◌⊎◌, ℕ, ◌<◌, ◌≤◌, true, false, List, length}
 use Rattle.epoch_machine.specs.Letters.{Letter, Sccrq, Sccrp, Scccn, StopCcn}
 use Rattle.epoch_machine.specs.Tunnels.{Tunnels, WaitReply, WaitConnect, Open, Closed}
 use Rattle.epoch_machine.specs.Channels.{Channels, Stands}
@@ -53,8 +53,3 @@ pub record TakesNext (r : Rules) (w : World) : Type 0 where
 pub record LettersOfRuns : Type 0 where
   pub hold : (ms : List Move) → LettersHold (after all_rules ms).tunnels (after all_rules ms).channels
   pub next : (ms : List Move) → TakesNext all_rules (after all_rules ms)
-
--- the answer is true where the epochs are one; where it's false, a letter of that epoch that a tunnel takes in its own closes an opener
-pub record TellsTaken (mine epoch : ℕ) (answer : Bool) : Type 0 where
-  pub same : answer ≡ (epoch == mine)
-  pub taken : answer ≡ false → (ms : List Move) (x s k z : ℕ) (l : Letter) → Stands (after all_rules ms).channels s epoch k l → may_take all_rules (after all_rules ms) x s epoch k l ≡ true → (after all_rules ms).tunnels.entered x ≡ mine → ClosesOpener (after all_rules ms) (step all_rules (after all_rules ms) (Delivers x s epoch k z)) x s epoch l

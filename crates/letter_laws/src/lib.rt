@@ -1,18 +1,10 @@
 //! Which letter a tunnel takes, in every run of the machine.
 #![tactic(auto)]
 
-ghost use Rattle.letter_laws.specs.Letters.{LettersOfRuns, TellsTaken};
+ghost use Rattle.letter_laws.specs.Letters.{LettersOfRuns};
 
 /// After every list of moves: a letter that a tunnel takes is the next one of the learned tunnel's list in the taker's
 /// epoch, or a StopCCN that closes an opener in epoch 0; and a letter of a newer epoch finds a tunnel that isn't open.
 pub fn letters_are_next()
     ensures { LettersOfRuns }
 {}
-
-/// Whether a letter of this epoch is of the epoch that a tunnel entered: if it isn't, and the tunnel takes it, it closes an
-/// opener.
-pub fn is_of_epoch(entered: u64, epoch: u64) -> bool
-    ensures { TellsTaken entered epoch result }
-{
-    epoch == entered
-}

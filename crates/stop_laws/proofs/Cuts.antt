@@ -1,15 +1,13 @@
 -- A step that is cut after a prefix of its records is where a list of moves leads.
-use Rattle.std.proofs.Common.{◌≡◌, ℕ, Bool, true, not, ◌||◌, List, [], ◌∷◌, ◌++◌, sym, ap, ◌∙◌, subst}
+use Rattle.std.proofs.Common.{◌≡◌, ℕ, true, List, [], ◌∷◌, ◌++◌, ap, ◌∙◌, subst}
 use Rattle.epoch_machine.specs.Worlds.{World, all_rules, empty_world}
 use Rattle.epoch_machine.specs.Moves.{Move, Stops, Kept, falls, step, goes_on}
-use Rattle.epoch_machine.proofs.Tells.{turned}
 use Rattle.coverage_laws.proofs.Runs.{whole_after}
 use Rattle.coverage_laws.proofs.Covered.{pairs_covered, ends_agree}
-use Rattle.stop_laws.specs.Records.{node_of, records_of, writes, each_allowed, TellsNone}
+use Rattle.stop_laws.specs.Records.{node_of, records_of, writes, each_allowed}
 use Rattle.stop_laws.specs.Stops.{IsReached, AllHolds, StopsAmidSteps, cut}
 use Rattle.stop_laws.proofs.Lists.{prefix_allowed, allowed_kept, one_more}
 use Rattle.stop_laws.proofs.Ups.{never_after}
-use Rattle.stop_laws.proofs.Books.{none_booked, neither}
 use Rattle.stop_laws.proofs.Moves.{step_book}
 use Rattle.stop_laws.proofs.Allowed.{step_allowed}
 
@@ -52,10 +50,4 @@ stops_amid_steps = record {
   is_stop = λ ms m ks rest e. stop_is_cut (at ms) (node_of (at ms) m) ks (each_prefix ms m ks rest e);
   is_reached = reached;
   keeps_all = λ ms m ks rest e. (let r = reached ms m ks rest e in subst (λ (w : World). AllHolds w) r.reached (holds_at r.moves));
-}
-
-pub tells_none : (established booked answer : Bool) → answer ≡ not (established || booked) → TellsNone established booked answer
-tells_none established booked answer same = record {
-  neither = same;
-  none = λ h ms x live is there. (let n = neither established booked (turned (established || booked) (sym same ∙ h)) in record { tunnel = there ∙ n.1; calls = λ z i. none_booked (at ms) x z (whole_after ms) live (is ∙ n.0) i });
 }

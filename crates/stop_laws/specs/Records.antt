@@ -1,11 +1,11 @@
 -- The records that each step writes, and what they make of the book.
-use Rattle.std.specs.Prelude.{◌≡◌, ℕ, Bool, true, false, if◌then◌else◌, ◌==◌, ◌&&◌, ◌||◌, not, List, [], ◌∷◌, slice_get, Option, Some, None}
+use Rattle.std.specs.Prelude.{◌≡◌, ℕ, Bool, true, if◌then◌else◌, ◌==◌, ◌&&◌, ◌||◌, not, List, [], ◌∷◌, slice_get, Option, Some, None}
 use Rattle.epoch_machine.specs.Names.{is_name}
 use Rattle.epoch_machine.specs.Letters.{Letter, Sccrp, Scccn, StopCcn, Reply, Connect, Cdn, Fsr}
-use Rattle.epoch_machine.specs.Tunnels.{is_live, is_open, is_active, is_established, is_wait_reply, is_wait_connect}
+use Rattle.epoch_machine.specs.Tunnels.{is_open, is_active, is_established, is_wait_reply, is_wait_connect}
 use Rattle.epoch_machine.specs.Calls.{waits_reply, waits_connect, stands_with}
 use Rattle.epoch_machine.specs.Worlds.{World, all_rules}
-use Rattle.epoch_machine.specs.Moves.{Move, Opens, Accepts, Refuses, TakesRefusal, Delivers, SaysHello, Closes, Clears, AddsCall, Asks, EndsTold, EndsSilent, Queries, Freezes, ResetsAttempting, ResetsAnswering, Restores, Stops, Starts, Kept, TunnelUp, TunnelDown, CallUp, CallDown, may_keep, keeps, may_take, may_take_refusal, may_clear, may_end_told, may_end_silent, after}
+use Rattle.epoch_machine.specs.Moves.{Move, Opens, Accepts, Refuses, TakesRefusal, Delivers, SaysHello, Closes, Clears, AddsCall, Asks, EndsTold, EndsSilent, Queries, Freezes, ResetsAttempting, ResetsAnswering, Restores, Stops, Starts, Kept, TunnelUp, TunnelDown, CallUp, CallDown, may_keep, keeps, may_take, may_take_refusal, may_clear, may_end_told, may_end_silent}
 
 -- the node whose step it is
 unfoldable pub node_of : World → Move → ℕ
@@ -88,13 +88,3 @@ pub record SameBook (v w : World) : Type 0 where
   pub links : (x : ℕ) → w.tunnels.booked x ≡ true → v.tunnels.learned x ≡ w.tunnels.learned x
   pub calls : (z : ℕ) → v.calls.booked z ≡ w.calls.booked z
   pub names : (z : ℕ) → w.calls.booked z ≡ true → v.calls.remote z ≡ w.calls.remote z
-
--- nothing of the tunnel stands in the book
-pub record NoneBooked (w : World) (x : ℕ) : Type 0 where
-  pub tunnel : w.tunnels.booked x ≡ false
-  pub calls : (z : ℕ) → w.calls.tunnel z ≡ x → w.calls.booked z ≡ false
-
--- the answer is true where the tunnel is neither established nor booked; and then, after every run, nothing of a tunnel that lives stands in the book
-pub record TellsNone (established booked answer : Bool) : Type 0 where
-  pub neither : answer ≡ not (established || booked)
-  pub none : answer ≡ true → (ms : List Move) (x : ℕ) → is_live ((after all_rules ms).tunnels.phase x) ≡ true → is_established ((after all_rules ms).tunnels.phase x) ≡ established → (after all_rules ms).tunnels.booked x ≡ booked → NoneBooked (after all_rules ms) x

@@ -1,7 +1,6 @@
 //! The records that each step writes, and what holds where a node goes down in the midst of it.
 #![tactic(auto)]
 
-ghost use Rattle.stop_laws.specs.Records.{TellsNone};
 ghost use Rattle.stop_laws.specs.Stops.{StopsAmidSteps};
 
 /// Each step's records make of the book what the step makes of it. A node that goes down after any prefix of them is a
@@ -9,10 +8,3 @@ ghost use Rattle.stop_laws.specs.Stops.{StopsAmidSteps};
 pub fn stops_amid_steps()
     ensures { StopsAmidSteps }
 {}
-
-/// Whether a tunnel that leaves writes no record, since nothing of it stands in the book.
-pub fn writes_none(established: bool, booked: bool) -> bool
-    ensures { TellsNone established booked result }
-{
-    !(established || booked)
-}
