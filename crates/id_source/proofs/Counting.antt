@@ -4,6 +4,7 @@ use Rattle.id_source.specs.declared.IdError.{IdError}
 use Rattle.id_source.specs.Spaces.{Space, Use, Draws, Raises, draws, drawn, after_draw, with_drawn, numbers_drawn, counting_from}
 
 draws_next : (s : Space) (n : ℕ) → draws s ≡ Ok n → n ≡ s.next
+unfolding draws
 draws_next s n e = grind (arith, rules)
 
 counts_with : (s : Space) (us : List Use) (r : Result ℕ IdError) → draws s ≡ r

@@ -16,7 +16,7 @@ abbrev pub space_from : ℕ → ℕ → Space
 space_from last ceiling = record { last = last; ceiling = ceiling; next = ceiling + 1 }
 
 -- the number that is drawn: the next one, where it passes neither the last one nor the ceiling
-abbrev pub draws : Space → Result ℕ IdError
+unfoldable pub draws : Space → Result ℕ IdError
 draws s =
     if nat_lt s.last s.next then Err (NoIds (s.next - 1))
     else if nat_lt s.ceiling s.next then Err (NeedCeiling s.next)

@@ -63,6 +63,7 @@ impl Ids {
     }
 
     /// The next number. It takes no memory.
+    #[tactic(auto, unfolding(crate::specs::Spaces::draws))]
     pub fn draw(&mut self) -> Result<u32, IdError>
         ensures answer { result ≡ draws self.old }
         ensures after { self.new ≡ after_draw self.old }
