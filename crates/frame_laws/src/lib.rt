@@ -1,14 +1,11 @@
 //! Frames of calls, and births of calls, in every run of a schedule's lines.
 #![tactic(auto)]
 
-ghost use Rattle.std.specs.Prelude.{◌≡◌};
 ghost use Rattle.frame_laws.specs.Births.{BirthsOfRuns};
 ghost use Rattle.frame_laws.specs.Codecs.{Codecs};
-ghost use Rattle.frame_laws.specs.Frames.{FramesOfRuns, PacketsOfRuns, other_end};
+ghost use Rattle.frame_laws.specs.Frames.{FramesOfRuns, PacketsOfRuns};
 ghost use Rattle.frame_laws.specs.Reports.{ReportsOfRuns};
 ghost use Rattle.frame_laws.specs.Samples.{GoesEachWay};
-
-use protocol_model::Role;
 
 /// What the codecs promise of what they write.
 fn written_is_read_again()
@@ -54,13 +51,3 @@ pub fn births_are_apart()
 pub fn a_frame_goes_each_way()
     ensures { GoesEachWay }
 {}
-
-/// The other end of a call: a LAC's is an LNS, and an LNS's is a LAC.
-pub fn other_end(role: Role) -> Role
-    ensures { result ≡ other_end role }
-{
-    match role {
-        Role::Lac => Role::Lns,
-        Role::Lns => Role::Lac,
-    }
-}

@@ -1,0 +1,109 @@
+//! The inbox of a control channel (RFC 2661 section 5.8): which message is the next one, which came before, and which came
+//! ahead of others. A number on the wire tells it, as long as it is within half the numbers of the one that is expected.
+#![tactic(auto)]
+
+ghost use Rattle.std.specs.Prelude.{◌≡◌, IsTrue};
+ghost use Rattle.recv_window.specs.Window.{inbox_from, on_wire, may_take, after_take, class_of, ClassIsTrue, TakenInOrder};
+
+use std::marker::Model;
+
+/// What a message is by its Ns.
+#[derive(Clone, Copy, Debug, PartialEq, Eq)]
+pub enum Class {
+    /// It is the one that is expected.
+    Next,
+    /// It came before.
+    Duplicate,
+    /// It is so many past the one that is expected, 1 to 32767.
+    Ahead { by: u16 },
+}
+
+/// The number of the message that is expected next. It has no end, where the numbers on the wire stand modulo 65536.
+#[derive(Clone, Copy, Debug)]
+pub struct Inbox {
+    taken: u64,
+}
+
+impl Model for Inbox {
+    ghost use Rattle.recv_window.specs.Window.{Inbox as Known};
+
+    ghost Value = { Known };
+
+    ghost view = { λ i. record { taken = i.taken } };
+
+    ghost inverse = { λ k. record { taken = k.taken } };
+}
+
+impl Inbox {
+    /// An inbox that expects this number first.
+    pub fn new(expect: u16) -> Inbox
+        ensures { result ≡ inbox_from expect }
+    {
+        Inbox {
+            taken: expect as u64,
+        }
+    }
+
+    /// The number that is expected next, without an end.
+    pub fn taken_count(&self) -> u64
+        ensures { result ≡ self.now.taken }
+    {
+        self.taken
+    }
+
+    /// The number that is expected next, as it stands on the wire: the Nr of what is sent.
+    pub fn expected(&self) -> u16
+        ensures { result ≡ on_wire self.now.taken }
+    {
+        (self.taken % 65536) as u16
+    }
+
+    /// What a message with this Ns is: it lies 0, 1 to 32767 or 32768 to 65535 past the one that is expected, modulo 65536.
+    pub fn classify(&self, ns: u16) -> Class
+        ensures { result ≡ class_of ns self.now }
+    {
+        match ns.wrapping_sub(self.expected()) {
+            0 => Class::Next,
+            by @ 1..=32767 => Class::Ahead { by },
+            _ => Class::Duplicate,
+        }
+    }
+
+    /// Whether one more message can be counted.
+    pub fn may_take(&self) -> bool
+        ensures { result ≡ may_take self.now }
+    {
+        self.taken < u64::MAX
+    }
+
+    /// Counts the message that was expected as taken. Its condition is that one more can be counted (`may_take`).
+    pub fn take(&mut self)
+        requires { IsTrue (may_take self.old) }
+        ensures { self.new ≡ after_take self.old }
+    {
+        self.taken += 1;
+    }
+
+    /// The numbers go on from this one, whatever was taken before.
+    pub fn reset(&mut self, expect: u16)
+        ensures { self.new ≡ inbox_from expect }
+    {
+        self.taken = expect as u64;
+    }
+}
+
+/// A law: where a number without an end is at most 32,767 above and at most 32,768 below the one that is expected, its last
+/// 16 bits tell its class: next exactly where the two are equal, ahead by the difference where it is above, duplicate where
+/// it is below.
+pub fn the_class_is_true()
+    ensures { ClassIsTrue }
+{}
+
+/// A law: of messages that come in any order and any number of times, each as near when it comes, what is taken counts on
+/// from the number that was expected first: each number once, and in order.
+pub fn messages_are_taken_in_order()
+    ensures { TakenInOrder }
+{}
+
+#[cfg(test)]
+mod tests;

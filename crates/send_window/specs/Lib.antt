@@ -1,0 +1,6 @@
+pub mod Congestion
+pub mod Kept
+pub mod Window
+pub mod Outbox
+pub mod Whole
+pub mod History

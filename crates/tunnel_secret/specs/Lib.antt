@@ -1,0 +1,4 @@
+pub mod Hiding
+pub mod Holding
+pub mod Revealing
+pub mod Response
