@@ -1,0 +1,4 @@
+pub mod Pieces
+pub mod Heads
+pub mod Frames
+pub mod Tags
