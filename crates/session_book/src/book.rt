@@ -1,0 +1,393 @@
+//! The book of an end, kept up record by record.
+
+ghost use Rattle.std.specs.Prelude.{◌≡◌, ◌+◌, ◌<◌, ◌≤◌, ltb, true, false, max, length, OnOk, OnErr};
+ghost use Rattle.std.specs.Vec.{vec_capacity, vec_len};
+ghost use Rattle.std.specs.List.Sorted.{IsNonDecreasingBy, IsPartitionPoint};
+ghost use Rattle.wire_base.specs.Answers.{Gives};
+ghost use Rattle.session_book.specs.Books.{nothing_kept, place, put, calls_of, ceiling, last, is_free, tunnel_at, call_at, tunnel_fits, call_fits, fits, raised, stepped, mark_on, marked, tunnels_without, calls_without, calls_not_of, is_in_place, after_content, book_of};
+ghost use Rattle.session_book.specs.Told.{Told};
+
+use crate::record::{BookCall, BookTunnel, KeptCalls, KeptTunnels, Record, read_record};
+use std::alloc::Global;
+use std::marker::Model;
+use wire_base::{Contents, NoMemory};
+
+/// How many tunnels a book may have, and how many calls one of its tunnels.
+const TUNNELS: usize = 1024;
+
+const CALLS: usize = 4096;
+
+/// Why contents make no book.
+#[derive(Clone, Copy, Debug, PartialEq, Eq)]
+pub enum BookError {
+    /// The first content, counted from 0, that isn't in place after those before it.
+    BadRecord { at: usize },
+    /// Memory was wanting.
+    NoMemory,
+}
+
+impl From<NoMemory> for BookError {
+    ghost use Rattle.session_book.specs.declared.book.BookError.TheVariants as errors;
+
+    ghost from_gives = { λ _ e. e ≡ errors.NoMemory };
+
+    fn from(_e: NoMemory) -> BookError {
+        BookError::NoMemory
+    }
+}
+
+/// The tunnels and calls of an end that are established, and how far its ids may be drawn. It has room for a number of
+/// further contents, its spare.
+#[derive(Drop)]
+pub struct Book {
+    tunnel_ceiling: u32,
+    session_ceiling: u32,
+    draw_ceiling: u32,
+    tunnels: Vec<BookTunnel>,
+    calls: Vec<BookCall>,
+    spare: u32,
+}
+
+impl Model for Book {
+    ghost use Rattle.std.specs.Vec.{vec_capacity};
+    ghost use Rattle.session_book.specs.Books.{Kept, Held, IsSound};
+
+    ghost Value = { Held };
+
+    ghost view = { λ b. record { kept = record { tunnel_ceiling = b.tunnel_ceiling; session_ceiling = b.session_ceiling; draw_ceiling = b.draw_ceiling; tunnels = b.tunnels.items; calls = b.calls.items }; spare = b.spare } };
+
+    ghost invariant = { λ b. IsSound b.tunnels.items b.calls.items b.spare (vec_capacity b.tunnels) (vec_capacity b.calls) };
+}
+
+impl Book {
+    /// No tunnels and no calls; nothing may be drawn yet. It takes no memory.
+    pub fn new(alloc: Global) -> Book
+        ensures kept { result.kept ≡ nothing_kept }
+        ensures spare { result.spare ≡ 0 }
+    {
+        Book {
+            tunnel_ceiling: 0,
+            session_ceiling: 0,
+            draw_ceiling: 0,
+            tunnels: Vec::new(alloc),
+            calls: Vec::new(alloc),
+            spare: 0,
+        }
+    }
+
+    /// The book of a checkpoint: the fold of its contents, in order.
+    pub fn of_contents(alloc: Global, c: &Contents) -> Result<Book, BookError>
+        ensures { Gives Told (λ b. b.kept) result (book_of c.now) }
+    {
+        let mut book = Book::new(alloc);
+        for (at, content) in c.as_slice().iter().enumerate() {
+            book.reserve(1)?;
+            if !book.step(content) {
+                return Err(BookError::BadRecord { at });
+            }
+        }
+        Ok(book)
+    }
+
+    /// Makes the spare at least `count`: so many further contents take no memory. Where memory is wanting, it is as before.
+    pub fn reserve(&mut self, count: u32) -> Result<(), NoMemory>
+        ensures kept { self.new.kept ≡ self.old.kept }
+        ensures ok { OnOk result (self.new.spare ≡ max self.old.spare count) }
+        ensures err { OnErr result (self.new.spare ≡ self.old.spare) }
+    {
+        self.tunnels.reserve(count as usize)?;
+        self.calls.reserve(count as usize)?;
+        self.spare = self.spare.max(count);
+        Ok(())
+    }
+
+    /// Takes a content in, without memory; its condition is that the spare isn't 0. A content that isn't in place changes
+    /// nothing but the spare.
+    pub fn apply(&mut self, content: &[u8; 31])
+        requires { 0 < self.old.spare }
+        ensures kept { self.new.kept ≡ after_content self.old.kept content.now }
+        ensures spare { self.new.spare + 1 ≡ self.old.spare }
+    {
+        self.step(content);
+    }
+
+    /// For how many further contents there is room.
+    pub fn spare(&self) -> u32
+        ensures { result ≡ self.now.spare }
+    {
+        self.spare
+    }
+
+    /// The tunnels that are established.
+    pub fn tunnels(&self) -> &KeptTunnels
+        ensures tunnels { result.now.items ≡ self.now.kept.tunnels }
+        ensures in_order { IsNonDecreasingBy (λ t. t.local) result.now.items }
+    {
+        &self.tunnels
+    }
+
+    /// The calls that are established.
+    pub fn calls(&self) -> &KeptCalls
+        ensures calls { result.now.items ≡ self.now.kept.calls }
+        ensures in_order { IsNonDecreasingBy (λ c. c.local) result.now.items }
+    {
+        &self.calls
+    }
+
+    /// The greatest number of a space that may be drawn: space 1 has the tunnel ids, 2 the session ids, 3 the draw numbers.
+    /// It is 0 for any other.
+    pub fn ceiling(&self, space: u8) -> u32
+        ensures { result ≡ ceiling self.now.kept space }
+    {
+        match space {
+            1 => self.tunnel_ceiling,
+            2 => self.session_ceiling,
+            3 => self.draw_ceiling,
+            _ => 0,
+        }
+    }
+
+    // Takes a content in, and says whether it is in place.
+    fn step(&mut self, content: &[u8; 31]) -> bool
+        requires { 0 < self.old.spare }
+        ensures answer { result ≡ is_in_place self.old.kept content.now }
+        ensures kept { self.new.kept ≡ after_content self.old.kept content.now }
+        ensures spare { self.new.spare + 1 ≡ self.old.spare }
+    {
+        match read_record(content) {
+            Some(next) if self.fits(&next) => {
+                self.take(next);
+                true
+            }
+            _ => {
+                self.spare -= 1;
+                false
+            }
+        }
+    }
+
+    // Whether a record is in place.
+    fn fits(&self, next: &Record) -> bool
+        ensures { result ≡ fits self.now.kept next.now }
+    {
+        match *next {
+            Record::Ceiling { space, number } => {
+                self.ceiling(space) < number && number <= last(space)
+            }
+            Record::TunnelUp(tunnel) => self.tunnel_fits(&tunnel),
+            Record::TunnelDown { local } => self.tunnel(local).is_some(),
+            Record::CallUp(call) => self.call_fits(&call),
+            Record::CallDown { local } => self.call(local).is_some(),
+            Record::Mark { tunnel, mark } => match self.tunnel(tunnel) {
+                Some(marked) => marked.mark < mark,
+                None => false,
+            },
+        }
+    }
+
+    fn tunnel_fits(&self, tunnel: &BookTunnel) -> bool
+        ensures { result ≡ tunnel_fits self.now.kept tunnel.now }
+    {
+        is_free(
+            tunnel.local,
+            self.tunnel_ceiling,
+            self.tunnel(tunnel.local).is_some(),
+        ) && self.tunnels.len() < TUNNELS
+            && tunnel.remote > 0
+            && tunnel.window > 0
+    }
+
+    fn call_fits(&self, call: &BookCall) -> bool
+        ensures { result ≡ call_fits self.now.kept call.now }
+    {
+        is_free(
+            call.local,
+            self.session_ceiling,
+            self.call(call.local).is_some(),
+        ) && self.tunnel(call.tunnel).is_some()
+            && count_calls(self.calls.as_slice(), call.tunnel) < CALLS
+    }
+
+    // The tunnel with this id.
+    fn tunnel(&self, local: u16) -> Option<BookTunnel>
+        ensures { result ≡ tunnel_at self.now.kept local }
+    {
+        let at = tunnel_place(self.tunnels.as_slice(), local);
+        match self.tunnels.get(at) {
+            Some(tunnel) if tunnel.local == local => Some(*tunnel),
+            _ => None,
+        }
+    }
+
+    // The call with this id.
+    fn call(&self, local: u16) -> Option<BookCall>
+        ensures { result ≡ call_at self.now.kept local }
+    {
+        let at = call_place(self.calls.as_slice(), local);
+        match self.calls.get(at) {
+            Some(call) if call.local == local => Some(*call),
+            _ => None,
+        }
+    }
+
+    // Takes a record in.
+    fn take(&mut self, next: Record)
+        requires { 0 < self.old.spare }
+        ensures kept { self.new.kept ≡ stepped self.old.kept next }
+        ensures spare { self.new.spare + 1 ≡ self.old.spare }
+    {
+        self.spare -= 1;
+        match next {
+            Record::Ceiling { space, number } => self.raise(space, number),
+            Record::TunnelUp(tunnel) => put_tunnel(&mut self.tunnels, tunnel),
+            Record::TunnelDown { local } => {
+                remove_tunnel(&mut self.tunnels, local);
+                remove_calls_of(&mut self.calls, local);
+            }
+            Record::CallUp(call) => put_call(&mut self.calls, call),
+            Record::CallDown { local } => remove_call(&mut self.calls, local),
+            Record::Mark { tunnel, mark } => set_mark(&mut self.tunnels, tunnel, mark),
+        }
+    }
+
+    // Sets the ceiling of a space.
+    fn raise(&mut self, space: u8, number: u32)
+        ensures kept { self.new.kept ≡ raised space number self.old.kept }
+        ensures spare { self.new.spare ≡ self.old.spare }
+    {
+        match space {
+            1 => self.tunnel_ceiling = number,
+            2 => self.session_ceiling = number,
+            3 => self.draw_ceiling = number,
+            _ => (),
+        }
+    }
+}
+
+// The last number of a space.
+fn last(space: u8) -> u32
+    ensures { result ≡ last space }
+{
+    match space {
+        1 => 65535,
+        2 => 65534,
+        3 => u32::MAX,
+        _ => 0,
+    }
+}
+
+// Whether an id was drawn, and no one has it.
+fn is_free(id: u16, ceiling: u32, taken: bool) -> bool
+    ensures { result ≡ is_free id ceiling taken }
+{
+    id > 0 && u32::from(id) <= ceiling && !taken
+}
+
+// How many tunnels come before an id.
+fn tunnel_place(tunnels: &[BookTunnel], local: u16) -> usize
+    requires { IsNonDecreasingBy (λ t. t.local) tunnels.now }
+    ensures place { result ≡ place (λ t. t.local) local tunnels.now }
+    ensures within { result ≤ length tunnels.now }
+    ensures parted { IsPartitionPoint (λ t. ltb t.local local ≡ true) (λ t. ltb t.local local ≡ false) tunnels.now result }
+{
+    tunnels.partition_point(|tunnel| tunnel.local < local)
+}
+
+// How many calls come before an id.
+fn call_place(calls: &[BookCall], local: u16) -> usize
+    requires { IsNonDecreasingBy (λ c. c.local) calls.now }
+    ensures place { result ≡ place (λ c. c.local) local calls.now }
+    ensures within { result ≤ length calls.now }
+    ensures parted { IsPartitionPoint (λ c. ltb c.local local ≡ true) (λ c. ltb c.local local ≡ false) calls.now result }
+{
+    calls.partition_point(|call| call.local < local)
+}
+
+// How many calls a tunnel has.
+fn count_calls(calls: &[BookCall], tunnel: u16) -> usize
+    ensures { result ≡ length (calls_of tunnel calls.now) }
+{
+    calls.iter().filter(|call| call.tunnel == tunnel).count()
+}
+
+fn put_tunnel(tunnels: &mut Vec<BookTunnel>, tunnel: BookTunnel)
+    requires room { vec_len tunnels.old < vec_capacity tunnels.old }
+    requires in_order { IsNonDecreasingBy (λ t. t.local) tunnels.old.items }
+    ensures items { tunnels.new.items ≡ put (λ t. t.local) tunnel tunnels.old.items }
+    ensures in_order { IsNonDecreasingBy (λ t. t.local) tunnels.new.items }
+    ensures len { vec_len tunnels.new ≡ vec_len tunnels.old + 1 }
+    ensures capacity { vec_capacity tunnels.old ≤ vec_capacity tunnels.new }
+{
+    let at = tunnel_place(tunnels.as_slice(), tunnel.local);
+    match tunnels.insert(at, tunnel) {
+        Ok(()) => (),
+        Err(_) => unreachable!(),
+    }
+}
+
+fn put_call(calls: &mut Vec<BookCall>, call: BookCall)
+    requires room { vec_len calls.old < vec_capacity calls.old }
+    requires in_order { IsNonDecreasingBy (λ c. c.local) calls.old.items }
+    ensures items { calls.new.items ≡ put (λ c. c.local) call calls.old.items }
+    ensures in_order { IsNonDecreasingBy (λ c. c.local) calls.new.items }
+    ensures len { vec_len calls.new ≡ vec_len calls.old + 1 }
+    ensures capacity { vec_capacity calls.old ≤ vec_capacity calls.new }
+{
+    let at = call_place(calls.as_slice(), call.local);
+    match calls.insert(at, call) {
+        Ok(()) => (),
+        Err(_) => unreachable!(),
+    }
+}
+
+fn remove_tunnel(tunnels: &mut Vec<BookTunnel>, local: u16)
+    requires { IsNonDecreasingBy (λ t. t.local) tunnels.old.items }
+    ensures in_order { IsNonDecreasingBy (λ t. t.local) tunnels.new.items }
+    ensures items { tunnels.new.items ≡ tunnels_without local tunnels.old.items }
+    ensures len { vec_len tunnels.new ≤ vec_len tunnels.old }
+    ensures capacity { vec_capacity tunnels.new ≡ vec_capacity tunnels.old }
+{
+    tunnels.retain(|tunnel| tunnel.local != local);
+}
+
+fn remove_call(calls: &mut Vec<BookCall>, local: u16)
+    requires { IsNonDecreasingBy (λ c. c.local) calls.old.items }
+    ensures in_order { IsNonDecreasingBy (λ c. c.local) calls.new.items }
+    ensures items { calls.new.items ≡ calls_without local calls.old.items }
+    ensures len { vec_len calls.new ≤ vec_len calls.old }
+    ensures capacity { vec_capacity calls.new ≡ vec_capacity calls.old }
+{
+    calls.retain(|call| call.local != local);
+}
+
+fn remove_calls_of(calls: &mut Vec<BookCall>, tunnel: u16)
+    requires { IsNonDecreasingBy (λ c. c.local) calls.old.items }
+    ensures in_order { IsNonDecreasingBy (λ c. c.local) calls.new.items }
+    ensures items { calls.new.items ≡ calls_not_of tunnel calls.old.items }
+    ensures len { vec_len calls.new ≤ vec_len calls.old }
+    ensures capacity { vec_capacity calls.new ≡ vec_capacity calls.old }
+{
+    calls.retain(|call| call.tunnel != tunnel);
+}
+
+fn set_mark(tunnels: &mut [BookTunnel], local: u16, mark: u32)
+    requires { IsNonDecreasingBy (λ t. t.local) tunnels.old }
+    ensures in_order { IsNonDecreasingBy (λ t. t.local) tunnels.new }
+    ensures items { tunnels.new ≡ marked local mark tunnels.old }
+    ensures len { length tunnels.new ≡ length tunnels.old }
+{
+    for tunnel in tunnels {
+        *tunnel = mark_on(*tunnel, local, mark);
+    }
+}
+
+// The tunnel with the mark, where it has this id.
+fn mark_on(tunnel: BookTunnel, local: u16, mark: u32) -> BookTunnel
+    ensures { result ≡ mark_on local mark tunnel }
+{
+    if tunnel.local == local {
+        BookTunnel { mark, ..tunnel }
+    } else {
+        tunnel
+    }
+}
