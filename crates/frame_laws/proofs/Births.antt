@@ -1,12 +1,16 @@
 -- Births of LACs' calls stay apart.
-use Rattle.std.proofs.Common.{◌≡◌, ◌⊎◌, inl, inr, ⊎_elim, ℕ, ◌+◌, ◌-◌, ◌^◌, ◌<◌, ◌≤◌, List, sym, ◌∙◌, subst, Option, Some, arith}
+use Rattle.std.proofs.Common.{◌≡◌, ◌⊎◌, inl, inr, ⊎_elim, ℕ, ◌+◌, ◌-◌, ◌^◌, ◌<◌, ◌≤◌, sym, ◌∙◌, subst, Option, Some, arith}
 use Rattle.id_table.specs.Ids.{at, put}
 use Rattle.protocol_model.specs.declared.tunnel.Role.{Role}
 use Rattle.protocol_model.specs.declared.tunnel.Role.TheVariants.{Lac, Lns}
 use Rattle.protocol_model.specs.World.{World, Node}
 use Rattle.frame_laws.proofs.Facts.{Nodes, Born, Plays, birth_in_node, role_in_node}
-use Rattle.frame_laws.proofs.Changes.{Changed, Adds, NoBirth, NextBirth, SameBirth, next_birth, found_put, same_or_not, born_at, birth_there, plays_at, role_there}
-use Rattle.frame_laws.proofs.Rings.{not_lns}
+use Rattle.id_table.specs.Order.{found_put, same_or_not}
+use Rattle.frame_laws.proofs.Changes.{Changed, Adds, NoBirth, NextBirth, SameBirth, next_birth, born_at, birth_there, plays_at, role_there}
+
+pub not_lns : (r : Role) → r ≡ Lac → r ≡ Lns → ⊥
+not_lns Lac a b = absurd (cc)
+not_lns Lns a b = absurd (cc)
 
 -- births are at most as many as were counted, and those of LACs are apart
 pub record Counted (ns : Nodes) (born : ℕ) : Type 0 where
@@ -21,8 +25,8 @@ module _ (w : World) (ms : Nodes) (born n : ℕ) (old new : Node) (change : Chan
       (same_or_not m n)
 
   -- the changed node is no LAC
-  no_lac : (m : ℕ) → m ≡ n → Plays w.nodes m Lac → old.end.config.role ≡ Lns → ⊥
-  no_lac m e h lns = not_lns old.end.config.role (role_there w.nodes n Lac old change.was (subst (λ x. Plays w.nodes x Lac) e h)) lns
+  no_lac : (m : ℕ) → m ≡ n → Plays w.nodes m Lac → old.end.role ≡ Lns → ⊥
+  no_lac m e h lns = not_lns old.end.role (role_there w.nodes n Lac old change.was (subst (λ x. Plays w.nodes x Lac) e h)) lns
 
   -- the birth of the changed node's session, or one that was there
   in_new : (m s b : ℕ) → Born ms m s b → (Born w.nodes m s b) ⊎ ((m ≡ n) × (at new.births s ≡ Some b))
@@ -80,24 +84,3 @@ module _ (w : World) (ms : Nodes) (born n : ℕ) (old new : Node) (change : Chan
 
   pub counted_after : Adds w old new.births born → Counted ms born
   counted_after adds = record { most = most_after adds; apart = apart_after adds }
-
-pub few_more : (w : World) (old : Node) (births : List (ℕ × ℕ)) (born : ℕ) → Adds w old births born → born ≤ w.born + 1
-few_more w old births born (NoBirth same count) = omega (arith, count)
-few_more w old births born (NextBirth s same count) = omega (arith, count)
-few_more w old births born (SameBirth s b m q same count is lns) = omega (arith, count)
-
--- what a line does to the count of births
-pub record Counts (ns : Nodes) (born : ℕ) (after : World) : Type 0 where
-  pub few : after.born ≤ born + 1
-  pub counted : born < 2 ^ 64 - 1 → Counted ns born → Counted after.nodes after.born
-
-pub uncounted : (w : World) → Counts w.nodes w.born w
-uncounted w = record { few = omega arith; counted = λ few had. had }
-
--- the world after a step, whose nodes and count are these
-pub step_counts : (w : World) (n : ℕ) (old new : Node) (v after : World) → Changed w.nodes v.nodes n old new → Adds w old new.births v.born → after.nodes ≡ v.nodes → after.born ≡ v.born → Counts w.nodes w.born after
-step_counts w n old new v after change adds nodes born =
-    record {
-      few = (let k = few_more w old new.births v.born adds in omega (arith, born));
-      counted = λ few had. rw (nodes, born) (counted_after w v.nodes v.born n old new change few had adds);
-    }

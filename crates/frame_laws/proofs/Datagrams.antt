@@ -3,17 +3,17 @@ use Rattle.std.proofs.Common.{◌≡◌, ℕ, ◌<◌, ◌≤◌, true, List, []
 use Rattle.std.proofs.lemmas.Bool.{true≢false}
 use Rattle.l2tp_header.specs.declared.header.Header.{Header}
 use Rattle.l2tp_header.specs.Again.{Carries, control_header}
-use Rattle.l2tp_header.specs.Spelling.{data_bytes}
+use Rattle.l2tp_header.specs.Spelling.{control_bytes, data_bytes}
 use Rattle.l2tp_header.specs.Reading.{header_of}
 use Rattle.avp_codec.specs.Spelling.{spelling}
 use Rattle.control_message.specs.declared.message.Message.{Message}
 use Rattle.control_message.specs.Pairs.{pairs_of, IsWritten}
 use Rattle.control_message.specs.Reading.{message_of}
-use Rattle.protocol_model.specs.End.{body_of, message_in, pairs_read, message_read}
+use Rattle.reliable_channel.specs.Channel.{on_wire}
+use Rattle.protocol_model.specs.Reading.{body_of, message_in, pairs_read, message_read}
 use Rattle.frame_laws.specs.Codecs.{Codecs}
 use Rattle.frame_laws.specs.Past.{Passage}
 use Rattle.frame_laws.proofs.Facts.{Nodes, BytesOk, WasGiven, Says}
-use Rattle.frame_laws.proofs.Turns.{IsDatagram, IsControl, Letter, Alone}
 
 module _ (codecs : Codecs) where
   -- the message that was written
@@ -35,27 +35,31 @@ module _ (codecs : Codecs) where
     pub session_is : h.session ≡ session
     pub body : body_of h bytes ≡ pairs
 
-  control_read : (session : ℕ) (pairs bytes : List ℕ) (h : Header) → IsDatagram session pairs bytes → length pairs ≤ 65523 → header_of bytes ≡ Ok h → ControlRead session pairs bytes h
-  control_read session pairs bytes h d le e =
-      let c : Carries bytes (control_header d.tunnel session d.ns d.nr (length pairs)) pairs = rw d.is (codecs.control d.tunnel session d.ns d.nr pairs d.tunnel_fits d.session_fits d.ns_fits d.nr_fits le) in
-      let same = same_header bytes h (control_header d.tunnel session d.ns d.nr (length pairs)) pairs c e in
-      rw same (record { control = refl; session_is = refl; body = c.bounds })
+  module _ (tunnel session ns nr : ℕ) (t : tunnel < 65536) (s : session < 65536) where
+    control_read : (pairs : List ℕ) (h : Header) → length pairs ≤ 65523 → header_of (control_bytes tunnel session (on_wire ns) (on_wire nr) pairs) ≡ Ok h → ControlRead session pairs (control_bytes tunnel session (on_wire ns) (on_wire nr) pairs) h
+    control_read pairs h le e =
+        let bytes = control_bytes tunnel session (on_wire ns) (on_wire nr) pairs in
+        let c = codecs.control tunnel session (on_wire ns) (on_wire nr) pairs t s (omega arith) (omega arith) le in
+        let same = same_header bytes h (control_header tunnel session (on_wire ns) (on_wire nr) (length pairs)) pairs c e in
+        rw same (record { control = refl; session_is = refl; body = c.bounds })
 
-  pub control_ok : (ns : Nodes) (gs : List Passage) (from to : ℕ) (bytes : List ℕ) → IsControl (λ session m. Says ns from to session m) bytes → BytesOk ns gs from to bytes
-  control_ok ns gs from to bytes (Letter session m w says d) =
-      record {
-        frames = λ h e c. absurd (true≢false (sym (control_read session (spelling (pairs_of m)) bytes h d (codecs.room m w) e).control ∙ c));
-        letters = λ h e c x r.
-            let k = control_read session (spelling (pairs_of m)) bytes h d (codecs.room m w) e in
-            let g : message_in (spelling (pairs_of m)) ≡ Ok x = rw (← k.body) r in
-            let same : m ≡ x = let again = message_again m w in cc in
-            rw (← same) (w, rw k.session_is says);
-      }
-  control_ok ns gs from to bytes (Alone d) =
-      record {
-        frames = λ h e c. absurd (true≢false (sym (control_read 0 [] bytes h d (omega arith) e).control ∙ c));
-        letters = λ h e c x r. absurd (no_message x (rw (← (control_read 0 [] bytes h d (omega arith) e).body) r));
-      }
+    pub letter_ok : (nodes : Nodes) (gs : List Passage) (from to : ℕ) (m : Message) → IsWritten m → Says nodes from to session m → BytesOk nodes gs from to (control_bytes tunnel session (on_wire ns) (on_wire nr) (spelling (pairs_of m)))
+    letter_ok nodes gs from to m w says =
+        record {
+          frames = λ h e c. absurd (true≢false (sym (control_read (spelling (pairs_of m)) h (codecs.room m w) e).control ∙ c));
+          letters = λ h e c x r.
+              let k = control_read (spelling (pairs_of m)) h (codecs.room m w) e in
+              let g : message_in (spelling (pairs_of m)) ≡ Ok x = rw (← k.body) r in
+              let same : m ≡ x = let again = message_again m w in cc in
+              rw (← same) (w, rw k.session_is says);
+        }
+
+    pub alone_ok : (nodes : Nodes) (gs : List Passage) (from to : ℕ) → BytesOk nodes gs from to (control_bytes tunnel session (on_wire ns) (on_wire nr) [])
+    alone_ok nodes gs from to =
+        record {
+          frames = λ h e c. absurd (true≢false (sym (control_read [] h (omega arith) e).control ∙ c));
+          letters = λ h e c x r. absurd (no_message x (rw (← (control_read [] h (omega arith) e).body) r));
+        }
 
   -- a frame that is for a session
   pub frame_ok : (ns : Nodes) (gs : List Passage) (from to tunnel session : ℕ) (frame : List ℕ) → tunnel < 65536 → session < 65536 → WasGiven ns gs from to session frame → BytesOk ns gs from to (data_bytes tunnel session None frame)

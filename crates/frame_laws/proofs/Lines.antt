@@ -1,32 +1,33 @@
 -- Each line of a schedule.
-use Rattle.std.proofs.Common.{◌≡◌, ⊎_elim, ℕ, zero, suc, ◌-◌, ◌<◌, Bool, true, false, cond, List, [], ◌∷◌, length, refl, sym, ap, ◌∙◌, subst, Option, Some, None, Result, Ok, Err, arith}
+use Rattle.std.proofs.Common.{◌≡◌, ⊎_elim, ℕ, zero, suc, ◌-◌, ◌<◌, Bool, true, false, cond, List, [], ◌∷◌, refl, sym, ap, ◌∙◌, subst, Option, Some, None, Result, Ok, Err, arith}
 use Rattle.std.proofs.lemmas.Bool.{true≢false}
 use Rattle.std.proofs.lemmas.Option.{none-some}
 use Rattle.std.proofs.lemmas.List.{append-nil}
 use Rattle.std.specs.Prelude.{is_some, slice_get, not}
 use Rattle.std.specs.List.{AllByRecursion}
 use Rattle.id_table.specs.Ids.{at, put, at-none}
+use Rattle.id_table.specs.Order.{at_new, at_other, found_put, same_or_not, ascends-empty}
 use Rattle.wire_base.specs.declared.why.Why.{Why}
 use Rattle.wire_base.specs.declared.why.Why.TheVariants as why
 use Rattle.schedule_text.specs.declared.line.Line.{Line}
 use Rattle.schedule_text.specs.declared.line.Line.TheVariants.{Remark, Lac, Lns, OpenUp, Ring, FromSub, Down, Deliver}
 use Rattle.schedule_text.specs.Grammar.{FitsLine}
-use Rattle.protocol_model.specs.declared.tunnel.Config.{Config}
 use Rattle.protocol_model.specs.declared.event.Event.{Event}
 use Rattle.protocol_model.specs.declared.event.Event.TheVariants as event
 use Rattle.protocol_model.specs.declared.packet.Packet.{Packet}
 use Rattle.protocol_model.specs.declared.tunnel.Role.{Role}
 use Rattle.protocol_model.specs.declared.tunnel.Role.TheVariants as role
-use Rattle.protocol_model.specs.Names.{address_of, calling_number}
-use Rattle.protocol_model.specs.End.{is_lac, new_end, step}
-use Rattle.protocol_model.specs.World.{World, Node, with_node, after_step, declared, lac_at, lns_at, with_call, added, stepped, marked, is_next, arrival, arrives, delivers_it, delivers, line}
-use Rattle.frame_laws.specs.Past.{Passage, nothing, arrival_of, past_of_step, past_of_event, past_of_line}
-use Rattle.frame_laws.proofs.Facts.{Born, Plays, Nodes, Grows, PacketOk, NodeOk, Holds, packets_later, node_later, birth_in_node, role_in_node}
-use Rattle.frame_laws.proofs.Changes.{birth_there, at_new, at_other, found_put, same_or_not}
-use Rattle.frame_laws.proofs.Births.{Counted, Counts, uncounted}
+use Rattle.protocol_model.specs.Names.{address_of}
+use Rattle.protocol_model.specs.Calls.{is_lac}
+use Rattle.protocol_model.specs.End.{new_end, step}
+use Rattle.protocol_model.specs.World.{World, Node, Sender, Lined, quiet_line, with_node, after_step, declared, lac_at, lns_at, with_call, config_of, added, block_of, stepped, marked, is_next, arrival, sender_of, arrives, delivers_it, delivers, line}
 use Rattle.frame_laws.specs.Codecs.{Codecs}
-use Rattle.frame_laws.proofs.Events.{IsReal, step_ok}
-use Rattle.frame_laws.proofs.Worlds.{Below, Goes, step_goes}
+use Rattle.frame_laws.specs.Past.{Passage, sent_in, handed_in}
+use Rattle.frame_laws.specs.Reports.{ups_in, told_of}
+use Rattle.frame_laws.proofs.Facts.{StepLaws, Born, Plays, Nodes, Grows, PacketOk, NodeOk, Holds, packets_later, node_later, birth_in_node, role_in_node, all_map}
+use Rattle.frame_laws.proofs.Changes.{birth_there}
+use Rattle.frame_laws.proofs.Births.{Counted}
+use Rattle.frame_laws.proofs.Worlds.{Below, GivenBy, GivenIn, Counts, Goes, IsReal, step_goes, step_given, step_told}
 
 -- ---- which node it is
 
@@ -35,25 +36,33 @@ is_declared None node h = absurd (cc)
 is_declared (Some x) node h = cc
 
 -- by cases on a test
-tested : {X Y : Type 0} (a : Bool) (x : X) (y : Y) (z : X) → cond a (Ok x) (Err y) ≡ Ok z → x ≡ z
-tested true x y z h = cc
+tested : {X Y : Type 0} (a : Bool) (x : X) (y : Y) (z : X) → cond a (Ok x) (Err y) ≡ Ok z → (a ≡ true) × (x ≡ z)
+tested true x y z h = (refl, cc)
 tested false x y z h = absurd (cc)
 
 pub tested_not : {X Y : Type 0} (a : Bool) (x : X) (y : Y) (z : X) → cond a (Err y) (Ok x) ≡ Ok z → (a ≡ false) × (x ≡ z)
 tested_not true x y z h = absurd (cc)
 tested_not false x y z h = (refl, cc)
 
-pub is_lac_at : (o : Option Node) (node : Node) → lac_at o ≡ Ok node → o ≡ Some node
-is_lac_at None node h = absurd (cc)
-is_lac_at (Some x) node h = ap (λ y. Some y) (tested (is_lac x.end.config.role) x why.Node node h)
+is_lac_role : (r : Role) → is_lac r ≡ true → r ≡ role.Lac
+is_lac_role role.Lac h = refl
+is_lac_role role.Lns h = absurd (true≢false (sym h))
 
-pub is_lns_at : (o : Option Node) (node : Node) → lns_at o ≡ Ok node → o ≡ Some node
+is_lns_role : (r : Role) → is_lac r ≡ false → r ≡ role.Lns
+is_lns_role role.Lac h = absurd (true≢false h)
+is_lns_role role.Lns h = refl
+
+is_lac_at : (o : Option Node) (node : Node) → lac_at o ≡ Ok node → (o ≡ Some node) × (node.end.role ≡ role.Lac)
+is_lac_at None node h = absurd (cc)
+is_lac_at (Some x) node h = let t = tested (is_lac x.end.role) x why.Node node h in (ap (λ y. Some y) t.1, subst (λ (y : Node). y.end.role ≡ role.Lac) t.1 (is_lac_role x.end.role t.0))
+
+is_lns_at : (o : Option Node) (node : Node) → lns_at o ≡ Ok node → (o ≡ Some node) × (node.end.role ≡ role.Lns)
 is_lns_at None node h = absurd (cc)
-is_lns_at (Some x) node h = ap (λ y. Some y) (tested_not (is_lac x.end.config.role) x why.Node node h).1
+is_lns_at (Some x) node h = let t = tested_not (is_lac x.end.role) x why.Node node h in (ap (λ y. Some y) t.1, subst (λ (y : Node). y.end.role ≡ role.Lns) t.1 (is_lns_role x.end.role t.0))
 
 pub has_call : (session : ℕ) (r : Result Node Why) (node : Node) → with_call session r ≡ Ok node → r ≡ Ok node
 has_call session (Err x) node h = absurd (cc)
-has_call session (Ok x) node h = ap (λ y. Ok y) (tested (is_some (at x.end.calls session)) x why.Call node h)
+has_call session (Ok x) node h = ap (λ y. Ok y) (tested (is_some (at x.end.calls session)) x why.Call node h).1
 
 -- ---- lines
 
@@ -62,40 +71,66 @@ packet_at P [] k p is h = absurd (cc)
 packet_at P (q ∷ ps) zero p is h = let e : q ≡ p = cc in subst P e h.0
 packet_at P (q ∷ ps) (suc k) p is h = packet_at P ps k p is h.1
 
+-- what a line leaves
+pub record LineOk (number : ℕ) (w : World) (gs : List Passage) (l : Line) (r : Lined) : Type 0 where
+  pub goes : Goes number w gs r.world r.done
+  pub given : AllByRecursion (GivenBy number l) (sent_in r.done)
+  pub told : ups_in r.entries ≡ told_of r.done
+
 -- a line without a step
-quiet_goes : (number : ℕ) (w v : World) (gs : List Passage) → Holds v gs → Counts w.nodes w.born v → v.packets ≡ w.packets → Goes number w.nodes w.born w.packets gs v nothing
-quiet_goes number w v gs holds counts same = record { holds = subst (Holds v) (sym (append-nil gs)) holds; lines = tt; sent = tt; counts = counts; carried = tt; grown = ([], same ∙ sym (append-nil w.packets)) }
+quiet_goes : (number : ℕ) (w v : World) (gs : List Passage) (l : Line) → Holds v gs → Counts w.nodes w.born v → v.packets ≡ w.packets → LineOk number w gs l (quiet_line v)
+unfolding sent_in handed_in ups_in told_of
+quiet_goes number w v gs l holds counts same = record {
+  goes = record { holds = subst (Holds v) (sym (append-nil gs)) holds; lines = tt; sent = tt; counts = counts; carried = tt; grown = ([], same ∙ sym (append-nil w.packets)) };
+  given = tt;
+  told = refl;
+}
+
+uncounted : (w : World) → Counts w.nodes w.born w
+uncounted w = record { few = omega arith; counted = λ few had. had }
 
 -- one more node
-module _ (ns : Nodes) (n : ℕ) (c : Config) (none : at ns n ≡ None) where
+module _ (ns : Nodes) (n : ℕ) (r : Role) (lns : ℕ) (none : at ns n ≡ None) where
   abbrev fresh_node : Node
-  fresh_node = record { end = new_end c; births = [] }
+  fresh_node = record { end = new_end r (config_of n lns); births = [] }
 
   no_birth : (m s b : ℕ) → m ≡ n → birth_in_node (at ns m) s ≡ Some b → ⊥
   no_birth m s b e h = none-some b (subst (λ o. birth_in_node o s ≡ Some b) none (subst (λ x. birth_in_node (at ns x) s ≡ Some b) e h))
 
-  no_role : (m : ℕ) (r : Role) → m ≡ n → role_in_node (at ns m) ≡ Some r → ⊥
-  no_role m r e h = none-some r (subst (λ o. role_in_node o ≡ Some r) none (subst (λ x. role_in_node (at ns x) ≡ Some r) e h))
+  no_role : (m : ℕ) (q : Role) → m ≡ n → role_in_node (at ns m) ≡ Some q → ⊥
+  no_role m q e h = none-some q (subst (λ o. role_in_node o ≡ Some q) none (subst (λ x. role_in_node (at ns x) ≡ Some q) e h))
 
   more_nodes : Grows ns (put ns n fresh_node)
   more_nodes =
       record {
         births = λ m s b h. ⊎_elim (λ e. absurd (no_birth m s b e h)) (λ o. rw (at_other ns n fresh_node m o) h) (same_or_not m n);
-        roles = λ m r h. ⊎_elim (λ e. absurd (no_role m r e h)) (λ o. rw (at_other ns n fresh_node m o) h) (same_or_not m n);
+        roles = λ m q h. ⊎_elim (λ e. absurd (no_role m q e h)) (λ o. rw (at_other ns n fresh_node m o) h) (same_or_not m n);
       }
 
-  fresh_ok : n < 256 → c.number < 256 → NodeOk (put ns n fresh_node) n fresh_node
-  fresh_ok lt number =
+  fresh_ok : n < 256 → NodeOk (put ns n fresh_node) n fresh_node
+  fresh_ok lt =
       record {
         number = lt;
-        end = record {
-          number = number;
-          first = omega arith;
-          next = omega arith;
-          first_session = omega arith;
-          next_session = omega arith;
+        kept = record {
           tunnels = λ i t h. absurd (none-some t (sym (at-none i) ∙ h));
-          calls = λ s x h. absurd (none-some x (sym (at-none s) ∙ h));
+          order = ascends-empty [] refl;
+          sessions = omega arith;
+          first = omega arith;
+        };
+        looks = record {
+          live = λ s p h. absurd (none-some p (sym (at-none s) ∙ h));
+          seen = λ i t h s d g. absurd (none-some t (sym (at-none i) ∙ h));
+          tunnels = λ i t h. absurd (none-some t (sym (at-none i) ∙ h));
+          sessions = λ s p h. absurd (none-some p (sym (at-none s) ∙ h));
+        };
+        end = record {
+          number = lt;
+          first = omega arith;
+          last = omega arith;
+          first_session = omega arith;
+          last_session = omega arith;
+          most = omega arith;
+          tunnels = λ i t h. absurd (none-some t (sym (at-none i) ∙ h));
         };
         births = λ s b h. absurd (none-some b (sym (at-none s) ∙ h));
       }
@@ -107,8 +142,8 @@ module _ (ns : Nodes) (n : ℕ) (c : Config) (none : at ns n ≡ None) where
       (λ o. (o, subst (λ (x : Option Node). birth_in_node x s ≡ Some b) (at_other ns n fresh_node m o) h))
       (same_or_not m n)
 
-  plays_there : (m : ℕ) (r : Role) → (m ≡ n → ⊥) → Plays (put ns n fresh_node) m r → Plays ns m r
-  plays_there m r o h = subst (λ (x : Option Node). role_in_node x ≡ Some r) (at_other ns n fresh_node m o) h
+  plays_there : (m : ℕ) (q : Role) → (m ≡ n → ⊥) → Plays (put ns n fresh_node) m q → Plays ns m q
+  plays_there m q o h = subst (λ (x : Option Node). role_in_node x ≡ Some q) (at_other ns n fresh_node m o) h
 
   fresh_counted : (born : ℕ) → Counted ns born → Counted (put ns n fresh_node) born
   fresh_counted born had =
@@ -124,70 +159,114 @@ none_there : {X : Type 0} (o : Option X) → is_some o ≡ false → o ≡ None
 none_there None h = refl
 none_there (Some x) h = absurd (true≢false h)
 
-added_holds : (w v : World) (n : ℕ) (c : Config) (gs : List Passage) → n < 256 → c.number < 256 → added w n c ≡ Ok v → Holds w gs → Holds v gs
-unfolding added
-added_holds w v n c gs lt number h holds =
-    let t = tested_not (is_some (at w.nodes n)) (with_node w n (record { end = new_end c; births = [] })) why.Twice v h in
-    let none = none_there (at w.nodes n) t.0 in
-    let new : Node = record { end = new_end c; births = [] } in
-    let g = more_nodes w.nodes n c none in
-    subst (λ (x : World). Holds x gs) t.1 (record {
-      nodes = λ m node f. ⊎_elim
-          (λ (a : (m ≡ n) × (new ≡ node)). subst (λ y. NodeOk (put w.nodes n new) y node) (sym a.0) (subst (λ y. NodeOk (put w.nodes n new) n y) a.1 (fresh_ok w.nodes n c none lt number)))
-          (λ a. node_later w.nodes (put w.nodes n new) g m node (holds.nodes m node a.1))
-          (found_put w.nodes n new m node f);
-      packets = subst (λ hs. AllByRecursion (PacketOk (put w.nodes n new) hs) w.packets) (append-nil gs) (packets_later w.nodes (put w.nodes n new) g gs [] w.packets holds.packets);
-    })
+module _ (number : ℕ) (w : World) (gs : List Passage) (holds : Holds w gs) (l : Line) (n : ℕ) (r : Role) (lns : ℕ) (lt : n < 256) (none : at w.nodes n ≡ None) where
+  abbrev new : Node
+  new = record { end = new_end r (config_of n lns); births = [] }
 
-added_packets : (w v : World) (n : ℕ) (c : Config) → added w n c ≡ Ok v → v.packets ≡ w.packets
-unfolding added
-added_packets w v n c h = ap (λ (x : World). x.packets) (sym (tested_not (is_some (at w.nodes n)) (with_node w n (record { end = new_end c; births = [] })) why.Twice v h).1)
+  more_ok : LineOk number w gs l (quiet_line (with_node w n new))
+  more_ok =
+      let g = more_nodes w.nodes n r lns none in
+      quiet_goes number w (with_node w n new) gs l
+      (record {
+        nodes = λ m node f. ⊎_elim
+            (λ (a : (m ≡ n) × (new ≡ node)). subst (λ y. NodeOk (put w.nodes n new) y node) (sym a.0) (subst (λ y. NodeOk (put w.nodes n new) n y) a.1 (fresh_ok w.nodes n r lns none lt)))
+            (λ a. node_later w.nodes (put w.nodes n new) g m node (holds.nodes m node a.1))
+            (found_put w.nodes n new m node f);
+        packets = subst (λ hs. AllByRecursion (PacketOk (put w.nodes n new) hs) w.packets) (append-nil gs) (packets_later w.nodes (put w.nodes n new) g gs [] w.packets holds.packets);
+      })
+      (record { few = omega arith; counted = λ few had. fresh_counted w.nodes n r lns none w.born had })
+      refl
 
--- with no birth of the new node
-added_counts : (w v : World) (n : ℕ) (c : Config) → added w n c ≡ Ok v → Counts w.nodes w.born v
+added_ok : (number : ℕ) (w : World) (gs : List Passage) → Holds w gs → (l : Line) (n : ℕ) (r : Role) (lns : ℕ) → n < 256 → (x : Lined) → added w n r lns ≡ Ok x → LineOk number w gs l x
 unfolding added
-added_counts w v n c h =
-    let t = tested_not (is_some (at w.nodes n)) (with_node w n (record { end = new_end c; births = [] })) why.Twice v h in
-    let none = none_there (at w.nodes n) t.0 in
-    subst (λ (x : World). Counts w.nodes w.born x) t.1 (record { few = omega arith; counted = λ few had. fresh_counted w.nodes n c none w.born had })
+added_ok number w gs holds l n r lns lt x h =
+    let t = tested_not (is_some (at w.nodes n)) (quiet_line (with_node w n (record { end = new_end r (config_of n lns); births = [] }))) why.Twice x h in
+    subst (LineOk number w gs l) t.1 (more_ok number w gs holds l n r lns lt (none_there (at w.nodes n) t.0))
 
-module _ (codecs : Codecs) (digits : (port : ℕ) → length (calling_number port) ≡ 12) (number : ℕ) (w : World) (gs : List Passage) (holds : Holds w gs) (below : Below number gs) where
-  stepped_goes : (v : World) (n : ℕ) (ev : Event) (o : Result Node Why) → ((node : Node) → o ≡ Ok node → at w.nodes n ≡ Some node) → IsReal w gs n ev → stepped w number n ev o ≡ Ok v → Goes number w.nodes w.born w.packets gs v (past_of_step number n ev v (at w.nodes n))
+-- ---- frames that lines give
+
+no_frame : (number n : ℕ) (r : Role) (ev : Event) (l : Line) → ((s : ℕ) (f : List ℕ) → ev ≡ event.Payload s f → ⊥) → ((s : ℕ) (f : List ℕ) → ev ≡ event.Lower s f → ⊥) → (g : Passage) → GivenIn number n r ev g → GivenBy number l g
+no_frame number n r ev l up down g h = absurd (⊎_elim (λ e. up g.session g.frame e) (λ e. down g.session g.frame e) h.event_is)
+
+from_sub : (number n : ℕ) (r : Role) (session : ℕ) (frame : List ℕ) → r ≡ role.Lac → (g : Passage) → GivenIn number n r (event.Payload session frame) g → GivenBy number (FromSub n session frame) g
+from_sub number n r session frame lac g h = ⊎_elim
+    (λ (e : event.Payload session frame ≡ event.Payload g.session g.frame).
+    let a : session ≡ g.session = cc in
+    let b : frame ≡ g.frame = cc in
+    record { number_is = h.number_is; line_is = rw (h.role_is, lac, h.node_is, a, b) refl })
+    (λ (e : event.Payload session frame ≡ event.Lower g.session g.frame). absurd cc)
+    h.event_is
+
+down_to : (number n : ℕ) (r : Role) (session : ℕ) (frame : List ℕ) → r ≡ role.Lns → (g : Passage) → GivenIn number n r (event.Lower session frame) g → GivenBy number (Down n session frame) g
+down_to number n r session frame lns g h = ⊎_elim
+    (λ (e : event.Lower session frame ≡ event.Payload g.session g.frame). absurd cc)
+    (λ (e : event.Lower session frame ≡ event.Lower g.session g.frame).
+    let a : session ≡ g.session = cc in
+    let b : frame ≡ g.frame = cc in
+    record { number_is = h.number_is; line_is = rw (h.role_is, lns, h.node_is, a, b) refl })
+    h.event_is
+
+module _ (codecs : Codecs) (laws : StepLaws) (number : ℕ) (w : World) (gs : List Passage) (holds : Holds w gs) (below : Below number gs) (l : Line) where
+  stepped_ok : (x : Lined) (n : ℕ) (ev : Event) (sender : Option Sender) (o : Result Node Why) → ((node : Node) → o ≡ Ok node → (at w.nodes n ≡ Some node) × ((g : Passage) → GivenIn number n node.end.role ev g → GivenBy number l g)) → IsReal w gs n ev → stepped w number n ev sender o ≡ Ok x → LineOk number w gs l x
   unfolding stepped
-  stepped_goes v n ev (Err x) is real h = absurd (cc)
-  stepped_goes v n ev (Ok node) is real h =
+  stepped_ok x n ev sender (Err q) is real h = absurd (cc)
+  stepped_ok x n ev sender (Ok node) is real h =
       let was = is node refl in
-      let e : after_step w number n node (step node.end ev) ≡ v = cc in
-      let g = step_goes codecs number w gs n node was holds below ev (step node.end ev) (step_ok digits w gs n node was (holds.nodes n node was) ev real) in
-      subst (λ (x : World). Goes number w.nodes w.born w.packets gs x (past_of_step number n ev x (at w.nodes n))) e (rw was g)
+      let e : after_step w number n node sender (step node.end 0 (block_of n number) ev) ≡ x = cc in
+      let goes = step_goes codecs laws number w gs n node was.0 holds below ev real 0 (block_of n number) sender in
+      let given = step_given codecs laws number w gs n node was.0 holds below ev real 0 (block_of n number) sender in
+      subst (LineOk number w gs l) e (record {
+        goes = goes;
+        given = all_map (GivenIn number n node.end.role ev) (GivenBy number l) was.1 (sent_in (after_step w number n node sender (step node.end 0 (block_of n number) ev)).done) given;
+        told = step_told codecs laws number w gs n node was.0 holds below ev real 0 (block_of n number) sender;
+      })
 
-module _ (codecs : Codecs) (digits : (port : ℕ) → length (calling_number port) ≡ 12) (number : ℕ) (w : World) (gs : List Passage) (holds : Holds w gs) (below : Below number gs) where
+module _ (codecs : Codecs) (laws : StepLaws) (number : ℕ) (w : World) (gs : List Passage) (holds : Holds w gs) (below : Below number gs) where
   marked_holds : (counts : Bool) (n : ℕ) → Holds (marked counts n w) gs
   unfolding marked
   marked_holds counts n = record { nodes = holds.nodes; packets = holds.packets }
 
-  arrives_goes : (v : World) (p : Packet) → PacketOk w.nodes gs p → arrives w number p ≡ Ok v → Goes number w.nodes w.born w.packets gs v (past_of_event number w v (arrival_of (Some p)))
+  unmarked : (counts : Bool) (n : ℕ) (l : Line) (x : Lined) → LineOk number (marked counts n w) gs l x → LineOk number w gs l x
+  unfolding marked
+  unmarked counts n l x h = record { goes = record { holds = h.goes.holds; lines = h.goes.lines; sent = h.goes.sent; counts = h.goes.counts; carried = h.goes.carried; grown = h.goes.grown }; given = h.given; told = h.told }
+
+  arrives_ok : (l : Line) (x : Lined) (p : Packet) → PacketOk w.nodes gs p → arrives w number p ≡ Ok x → LineOk number w gs l x
   unfolding arrives marked
-  arrives_goes v p sent h = stepped_goes codecs digits number (marked (is_some p.place) p.to w) gs (marked_holds (is_some p.place) p.to) below v p.to (event.Datagram (address_of p.from) p.bytes) (declared (at w.nodes p.to)) (λ node e. is_declared (at w.nodes p.to) node e) (p.from, sent.from, refl, sent.bytes) h
+  arrives_ok l x p sent h =
+      let v = marked (is_some p.place) p.to w in
+      unmarked (is_some p.place) p.to l x
+      (stepped_ok codecs laws number v gs (marked_holds (is_some p.place) p.to) below l x p.to (event.Datagram (address_of p.from) p.bytes) (sender_of p.from p.origin) (declared (at w.nodes p.to))
+      (λ node e. (marked_at (is_some p.place) p.to node (is_declared (at w.nodes p.to) node e), no_frame number p.to node.end.role (event.Datagram (address_of p.from) p.bytes) l (λ s f q. absurd cc) (λ s f q. absurd cc)))
+      (marked_real p sent) h)
+    where
+      marked_at : (counts : Bool) (n : ℕ) (node : Node) → at w.nodes p.to ≡ Some node → at (marked counts n w).nodes p.to ≡ Some node
+      marked_at counts n node h = h
+
+      marked_real : (p : Packet) → PacketOk w.nodes gs p → IsReal (marked (is_some p.place) p.to w) gs p.to (event.Datagram (address_of p.from) p.bytes)
+      marked_real p sent = record { from = p.from; number = sent.from; address = refl; bytes_ok = sent.bytes }
 
   -- a packet that may be delivered is one that was sent, and its node is declared
-  delivers_goes : (v : World) (o : Option Packet) → ((p : Packet) → o ≡ Some p → PacketOk w.nodes gs p) → delivers w number o ≡ Ok v → Goes number w.nodes w.born w.packets gs v (past_of_event number w v (arrival_of o))
-  unfolding delivers delivers_it arrival arrives
-  delivers_goes v None sent h = absurd (cc)
-  delivers_goes v (Some p) sent h = by (not (is_some (at w.nodes p.to))) (is_next w.delivered p.to p.place) h
+  delivers_ok : (l : Line) (x : Lined) (o : Option Packet) → ((p : Packet) → o ≡ Some p → PacketOk w.nodes gs p) → delivers w number o ≡ Ok x → LineOk number w gs l x
+  unfolding delivers delivers_it arrival
+  delivers_ok l x None sent h = absurd (cc)
+  delivers_ok l x (Some p) sent h = by (not (is_some (at w.nodes p.to))) (is_next w.delivered p.to p.place) h
     where
-      by : (a b : Bool) → delivers_it w number (cond a (Err why.Node) (cond b (Ok p) (Err why.Order))) ≡ Ok v → Goes number w.nodes w.born w.packets gs v (past_of_event number w v (arrival_of (Some p)))
+      by : (a b : Bool) → delivers_it w number (cond a (Err why.Node) (cond b (Ok p) (Err why.Order))) ≡ Ok x → LineOk number w gs l x
       by true b h = absurd (cc)
       by false false h = absurd (cc)
-      by false true h = arrives_goes v p (sent p refl) h
+      by false true h = arrives_ok l x p (sent p refl) h
 
-  pub line_goes : (v : World) (l : Line) → FitsLine l → line w number l ≡ Ok v → Goes number w.nodes w.born w.packets gs v (past_of_line number w v l)
-  unfolding line past_of_line
-  line_goes v (Remark text) fits h = quiet_goes number w v gs (let e : w ≡ v = cc in subst (λ (x : World). Holds x gs) e holds) (let e : w ≡ v = cc in subst (λ (x : World). Counts w.nodes w.born x) e (uncounted w)) (let e : w ≡ v = cc in ap (λ (x : World). x.packets) (sym e))
-  line_goes v (Lac n m) fits h = quiet_goes number w v gs (added_holds w v n _ gs (omega (arith, fits.0.1)) (omega (arith, fits.0.1)) h holds) (added_counts w v n _ h) (added_packets w v n _ h)
-  line_goes v (Lns n) fits h = quiet_goes number w v gs (added_holds w v n _ gs (omega (arith, fits.1)) (omega (arith, fits.1)) h holds) (added_counts w v n _ h) (added_packets w v n _ h)
-  line_goes v (OpenUp n) fits h = stepped_goes codecs digits number w gs holds below v n event.OpenTunnel (lac_at (at w.nodes n)) (λ node e. is_lac_at (at w.nodes n) node e) tt h
-  line_goes v (Ring n port) fits h = stepped_goes codecs digits number w gs holds below v n (event.Ring port) (lac_at (at w.nodes n)) (λ node e. is_lac_at (at w.nodes n) node e) tt h
-  line_goes v (FromSub n session frame) fits h = stepped_goes codecs digits number w gs holds below v n (event.Payload session frame) (with_call session (lac_at (at w.nodes n))) (λ node e. is_lac_at (at w.nodes n) node (has_call session _ node e)) tt h
-  line_goes v (Down n session frame) fits h = stepped_goes codecs digits number w gs holds below v n (event.Lower session frame) (with_call session (lns_at (at w.nodes n))) (λ node e. is_lns_at (at w.nodes n) node (has_call session _ node e)) tt h
-  line_goes v (Deliver k) fits h = delivers_goes v (slice_get w.packets (k - 1)) (λ p e. packet_at (PacketOk w.nodes gs) w.packets (k - 1) p e holds.packets) h
+  pub line_ok : (x : Lined) (l : Line) → FitsLine l → line w number l ≡ Ok x → LineOk number w gs l x
+  unfolding line
+  line_ok x (Remark text) fits h = let e : quiet_line w ≡ x = cc in subst (LineOk number w gs (Remark text)) e (quiet_goes number w w gs (Remark text) holds (uncounted w) refl)
+  line_ok x (Lac n m) fits h = added_ok number w gs holds (Lac n m) n role.Lac (address_of m) (omega (arith, fits.0.1)) x h
+  line_ok x (Lns n) fits h = added_ok number w gs holds (Lns n) n role.Lns 0 (omega (arith, fits.1)) x h
+  line_ok x (OpenUp n) fits h = stepped_ok codecs laws number w gs holds below (OpenUp n) x n event.OpenTunnel None (lac_at (at w.nodes n))
+      (λ node e. ((is_lac_at (at w.nodes n) node e).0, no_frame number n node.end.role event.OpenTunnel (OpenUp n) (λ s f q. absurd cc) (λ s f q. absurd cc))) tt h
+  line_ok x (Ring n port) fits h = stepped_ok codecs laws number w gs holds below (Ring n port) x n (event.Ring port) None (lac_at (at w.nodes n))
+      (λ node e. ((is_lac_at (at w.nodes n) node e).0, no_frame number n node.end.role (event.Ring port) (Ring n port) (λ s f q. absurd cc) (λ s f q. absurd cc))) tt h
+  line_ok x (FromSub n session frame) fits h = stepped_ok codecs laws number w gs holds below (FromSub n session frame) x n (event.Payload session frame) None (with_call session (lac_at (at w.nodes n)))
+      (λ node e. let is = is_lac_at (at w.nodes n) node (has_call session (lac_at (at w.nodes n)) node e) in (is.0, from_sub number n node.end.role session frame is.1)) tt h
+  line_ok x (Down n session frame) fits h = stepped_ok codecs laws number w gs holds below (Down n session frame) x n (event.Lower session frame) None (with_call session (lns_at (at w.nodes n)))
+      (λ node e. let is = is_lns_at (at w.nodes n) node (has_call session (lns_at (at w.nodes n)) node e) in (is.0, down_to number n node.end.role session frame is.1)) tt h
+  line_ok x (Deliver k) fits h = delivers_ok (Deliver k) x (slice_get w.packets (k - 1)) (λ p e. packet_at (PacketOk w.nodes gs) w.packets (k - 1) p e holds.packets) h

@@ -1,50 +1,69 @@
 -- A run of lines.
-use Rattle.std.proofs.Common.{◌≡◌, ℕ, ◌+◌, ◌-◌, ◌^◌, ◌<◌, List, [], ◌∷◌, ◌++◌, length, sym, ap, ◌∙◌, Option, Some, None, arith}
+use Rattle.std.proofs.Common.{◌≡◌, ℕ, suc, ◌+◌, ◌-◌, ◌*◌, ◌^◌, ◌<◌, List, [], ◌∷◌, ◌++◌, length, refl, sym, ap, ◌∙◌, append_assoc, Option, Some, None, Result, Ok, Err, arith}
 use Rattle.std.proofs.lemmas.Option.{none-some}
+use Rattle.std.specs.Prelude.{slice_get}
 use Rattle.std.specs.List.{AllByRecursion}
 use Rattle.id_table.specs.Ids.{at-none}
+use Rattle.wire_base.specs.declared.why.Why.{Why}
 use Rattle.schedule_text.specs.declared.line.Line.{Line}
 use Rattle.schedule_text.specs.Grammar.{AreLines}
-use Rattle.protocol_model.specs.Names.{calling_number}
-use Rattle.protocol_model.specs.World.{World, Node, empty_world, line}
 use Rattle.protocol_model.specs.declared.tunnel.Role.TheVariants.{Lac}
-use Rattle.protocol_model.specs.Run.{run_from}
-use Rattle.frame_laws.specs.Past.{Passage, Past, nothing, then_also, past_from}
-use Rattle.frame_laws.specs.Frames.{WasSent, AreSent, IsCarried, FramesOfRuns, PacketsOfRuns}
-use Rattle.frame_laws.proofs.Facts.{Born, birth_in_node, Holds, among_left, all_map}
+use Rattle.protocol_model.specs.World.{Node, Deed, Lined, empty_world, line}
+use Rattle.protocol_model.specs.Run.{Run, empty_run, after_line, goes_on, run_from}
+use Rattle.frame_laws.specs.Codecs.{Codecs}
 use Rattle.frame_laws.specs.Births.{BirthsOfRuns}
+use Rattle.frame_laws.specs.Past.{Passage, sent_by, handed_by, sent_in, handed_in}
+use Rattle.frame_laws.specs.Frames.{WasSent, IsCarried, IsGiven, FramesOfRuns, PacketsOfRuns, GivenInRuns}
+use Rattle.frame_laws.specs.Reports.{ups_in, told_of, ReportsOfRuns}
+use Rattle.frame_laws.proofs.Ups.{ups_in-append, told_of-append}
+use Rattle.frame_laws.proofs.Facts.{StepLaws, LooksOfRuns, Born, birth_in_node, Holds, among_left, all_map}
 use Rattle.frame_laws.proofs.Births.{Counted}
 use Rattle.frame_laws.proofs.Changes.{born_at, plays_at}
-use Rattle.frame_laws.specs.Codecs.{Codecs}
-use Rattle.frame_laws.proofs.Worlds.{Below, Goes, carried_later}
-use Rattle.frame_laws.proofs.Fits.{where_it_fits}
-use Rattle.frame_laws.proofs.Lines.{line_goes}
+use Rattle.frame_laws.proofs.Deeds.{all_append}
+use Rattle.frame_laws.proofs.Worlds.{Below, GivenBy, Goes, carried_later}
+use Rattle.frame_laws.proofs.Lines.{line_ok}
 
-all_append : {X : Type 0} (P : X → Type 0) (xs ys : List X) → AllByRecursion P xs → AllByRecursion P ys → AllByRecursion P (xs ++ ys)
-all_append P [] ys h k = k
-all_append P (x ∷ xs) ys h k = (h.0, all_append P xs ys h.1 k)
+-- a run goes on where a line fits, and stays where it doesn't
+pub where_it_fits : (P : Run → Type 0) (rest : Run → Run) (r : Run) (number : ℕ) (x : Result Lined Why) → ((fault : Option (ℕ × Why)) → P (record r { fault = fault })) → ((l : Lined) → x ≡ Ok l → P (rest (after_line r l))) → P (goes_on rest r number x)
+unfolding goes_on
+where_it_fits P rest r number (Err w) stops more = stops (Some (number, w))
+where_it_fits P rest r number (Ok l) stops more = more l refl
 
--- what holds of a past
-record PastOk (number : ℕ) (w : World) (past : Past) : Type 0 where
-  pub holds : Holds w past.sent
-  pub lines : Below number past.sent
-  pub sent : AreSent past
-  -- each frame that was sent is in a packet of the world
-  pub carried : AllByRecursion (IsCarried w.packets) past.sent
+pub sent_in-append : (ds es : List Deed) → sent_in (ds ++ es) ≡ sent_in ds ++ sent_in es
+unfolding sent_in
+sent_in-append [] es = refl
+sent_in-append (d ∷ ds) es = ap (λ gs. sent_by d d.move ++ gs) (sent_in-append ds es) ∙ sym (append_assoc (sent_by d d.move) (sent_in ds) (sent_in es))
+
+handed_in-append : (ds es : List Deed) → handed_in (ds ++ es) ≡ handed_in ds ++ handed_in es
+unfolding handed_in
+handed_in-append [] es = refl
+handed_in-append (d ∷ ds) es = ap (λ gs. handed_by d d.move ++ gs) (handed_in-append ds es) ∙ sym (append_assoc (handed_by d d.move) (handed_in ds) (handed_in es))
 
 was_sent_later : (gs hs : List Passage) (h : Passage) → WasSent gs h → WasSent (gs ++ hs) h
 was_sent_later gs hs h s = record { passage = s.passage; there = among_left s.passage gs hs s.there; is = s.is }
 
-goes_on : (number : ℕ) (w v : World) (past more : Past) → PastOk number w past → Goes number w.nodes w.born w.packets past.sent v more → PastOk (number + 1) v (then_also past more)
-goes_on number w v past more ok g =
+-- what holds of a run before the line with a number
+record RunOk (number : ℕ) (r : Run) : Type 0 where
+  pub holds : Holds r.world (sent_in r.done)
+  pub lines : Below number (sent_in r.done)
+  pub sent : AllByRecursion (WasSent (sent_in r.done)) (handed_in r.done)
+  -- each frame that was sent is in a packet of the world
+  pub carried : AllByRecursion (IsCarried r.world.packets) (sent_in r.done)
+
+run_goes_on : (number : ℕ) (r : Run) (x : Lined) → RunOk number r → Goes number r.world (sent_in r.done) x.world x.done → RunOk (number + 1) (after_line r x)
+run_goes_on number r x ok g =
+    let gs = sent_in r.done in
+    let hs = sent_in x.done in
+    let is : sent_in (r.done ++ x.done) ≡ gs ++ hs = sent_in-append r.done x.done in
     record {
-      holds = g.holds;
-      lines = all_append _ past.sent more.sent (all_map (λ (x : Passage). x.line < number) (λ (x : Passage). x.line < number + 1) (λ x lt. omega arith) past.sent ok.lines) g.lines;
-      sent = all_append _ past.handed more.handed (all_map (WasSent past.sent) (WasSent (past.sent ++ more.sent)) (λ h s. was_sent_later past.sent more.sent h s) past.handed ok.sent) g.sent;
-      carried = all_append (IsCarried v.packets) past.sent more.sent (all_map (IsCarried w.packets) (IsCarried v.packets) (carried_later w.packets v.packets g.grown) past.sent ok.carried) g.carried;
+      holds = rw is g.holds;
+      lines = rw is (all_append _ gs hs (all_map (λ (p : Passage). p.line < number) (λ (p : Passage). p.line < number + 1) (λ p lt. omega arith) gs ok.lines) g.lines);
+      sent = rw (is, handed_in-append r.done x.done) (all_append (WasSent (gs ++ hs)) (handed_in r.done) (handed_in x.done) (all_map (WasSent gs) (WasSent (gs ++ hs)) (λ h s. was_sent_later gs hs h s) (handed_in r.done) ok.sent) g.sent);
+      carried = rw is (all_append (IsCarried x.world.packets) gs hs (all_map (IsCarried r.world.packets) (IsCarried x.world.packets) (carried_later r.world.packets x.world.packets g.grown) gs ok.carried) g.carried);
     }
 
-begins : PastOk 1 empty_world nothing
+begins : RunOk 1 empty_run
+unfolding sent_in handed_in
 begins =
     record {
       holds = record { nodes = λ n node h. absurd (none-some node (sym (at-none n) ∙ h)); packets = tt };
@@ -54,41 +73,83 @@ begins =
     }
 
 -- after some number of lines
-abbrev Ended : World → Past → Type 0
-Ended w past = (number : ℕ) × PastOk number w past
+abbrev Ended : Run → Type 0
+Ended r = (number : ℕ) × RunOk number r
 
 no_nodes : (i s x : ℕ) → Born empty_world.nodes i s x → None ≡ Some x
 no_nodes i s x h = sym (ap (λ (o : Option Node). birth_in_node o s) (at-none i)) ∙ h
 
-module _ (codecs : Codecs) (digits : (port : ℕ) → length (calling_number port) ≡ 12) where
-  ended_from : (number : ℕ) (lines : List Line) (w : World) (past : Past) → AreLines lines → PastOk number w past → Ended (run_from number lines w).world (past_from number lines w past)
-  unfolding run_from past_from
-  ended_from number [] w past fits ok = (number, ok)
-  ended_from number (l ∷ ls) w past fits ok =
-      where_it_fits Ended _ _ w number past (line w number l) (number, ok)
-      (λ v h. ended_from (number + 1) ls v _ fits.1 (goes_on number w v past _ ok (line_goes codecs digits number w past.sent ok.holds ok.lines v l fits.0 h)))
+stopped : (number : ℕ) (r : Run) (fault : Option (ℕ × Why)) → RunOk number r → RunOk number (record r { fault = fault })
+stopped number r fault ok = record { holds = ok.holds; lines = ok.lines; sent = ok.sent; carried = ok.carried }
+
+-- the lines of a text from a place on
+abbrev StandsAt : List Line → ℕ → List Line → Type 0
+StandsAt all number ls = (k : ℕ) → slice_get all (number - 1 + k) ≡ slice_get ls k
+
+module _ (codecs : Codecs) (laws : StepLaws) where
+  ended_from : (number : ℕ) (lines : List Line) (r : Run) → AreLines lines → RunOk number r → Ended (run_from number lines r)
+  unfolding run_from
+  ended_from number [] r fits ok = (number, ok)
+  ended_from number (l ∷ ls) r fits ok =
+      where_it_fits Ended _ r number (line r.world number l) (λ fault. (number, stopped number r fault ok))
+      (λ x h. ended_from (number + 1) ls (after_line r x) fits.1 (run_goes_on number r x ok (line_ok codecs laws number r.world (sent_in r.done) ok.holds ok.lines x l fits.0 h).goes))
 
   -- births stay apart where there are few lines
-  counted_from : (number : ℕ) (lines : List Line) (w : World) (past : Past) → AreLines lines → PastOk number w past → w.born + length lines < 2 ^ 64 - 1 → Counted w.nodes w.born → let v = (run_from number lines w).world in Counted v.nodes v.born
+  counted_from : (number : ℕ) (lines : List Line) (r : Run) → AreLines lines → RunOk number r → r.world.born + 65536 * (length lines) + 65536 < 2 ^ 64 - 1 → Counted r.world.nodes r.world.born → let v = (run_from number lines r).world in Counted v.nodes v.born
   unfolding run_from
-  counted_from number [] w past fits ok few had = had
-  counted_from number (l ∷ ls) w past fits ok few had =
-      where_it_fits (λ v more. Counted v.nodes v.born) _ (λ v. past) w number past (line w number l) had
-      (λ v h.
-      let g = line_goes codecs digits number w past.sent ok.holds ok.lines v l fits.0 h in
+  counted_from number [] r fits ok few had = had
+  counted_from number (l ∷ ls) r fits ok few had =
+      where_it_fits (λ v. Counted v.world.nodes v.world.born) _ r number (line r.world number l) (λ fault. had)
+      (λ x h.
+      let g = (line_ok codecs laws number r.world (sent_in r.done) ok.holds ok.lines x l fits.0 h).goes in
       let more = g.counts.few in
-      counted_from (number + 1) ls v _ fits.1 (goes_on number w v past _ ok g) (omega (arith, few, more)) (g.counts.counted (omega (arith, few)) had))
+      counted_from (number + 1) ls (after_line r x) fits.1 (run_goes_on number r x ok g) (omega (arith, few)) (g.counts.counted (omega (arith, few)) had))
+
+  -- each frame that was sent is given by its line
+  given_from : (all : List Line) (number : ℕ) (lines : List Line) (r : Run) → AreLines lines → RunOk number r → 0 < number → StandsAt all number lines → AllByRecursion (IsGiven all) (sent_in r.done) → AllByRecursion (IsGiven all) (sent_in (run_from number lines r).done)
+  unfolding run_from
+  given_from all number [] r fits ok some at_line had = had
+  given_from all number (l ∷ ls) r fits ok some at_line had =
+      where_it_fits (λ v. AllByRecursion (IsGiven all) (sent_in v.done)) _ r number (line r.world number l) (λ fault. had)
+      (λ x h.
+      let k = line_ok codecs laws number r.world (sent_in r.done) ok.holds ok.lines x l fits.0 h in
+      given_from all (number + 1) ls (after_line r x) fits.1 (run_goes_on number r x ok k.goes) (omega arith)
+      (λ j. (let e : number + 1 - 1 + j ≡ number - 1 + (suc j) = omega arith in rw e (at_line (suc j))))
+      (rw (sent_in-append r.done x.done) (all_append (IsGiven all) (sent_in r.done) (sent_in x.done) had
+      (all_map (GivenBy number l) (IsGiven all) (λ g b. (let e : number - 1 + 0 ≡ number - 1 = omega arith in rw (b.number_is, ← b.line_is, ← e) (at_line 0))) (sent_in x.done) k.given))))
+
+  -- the report hands up what the moves do
+  told_from : (number : ℕ) (lines : List Line) (r : Run) → AreLines lines → RunOk number r → ups_in r.entries ≡ told_of r.done → ups_in (run_from number lines r).entries ≡ told_of (run_from number lines r).done
+  unfolding run_from
+  told_from number [] r fits ok had = had
+  told_from number (l ∷ ls) r fits ok had =
+      where_it_fits (λ v. ups_in v.entries ≡ told_of v.done) _ r number (line r.world number l) (λ fault. had)
+      (λ x h.
+      let k = line_ok codecs laws number r.world (sent_in r.done) ok.holds ok.lines x l fits.0 h in
+      told_from (number + 1) ls (after_line r x) fits.1 (run_goes_on number r x ok k.goes)
+      (ups_in-append r.entries x.entries ∙ ap (λ es. es ++ ups_in x.entries) had ∙ ap (λ es. told_of r.done ++ es) k.told ∙ sym (told_of-append r.done x.done)))
+
+  pub reports_of_runs : ReportsOfRuns
+  unfolding ups_in told_of
+  reports_of_runs lines fits = told_from 1 lines empty_run fits begins refl
 
   pub frames_of_runs : FramesOfRuns
-  frames_of_runs lines fits = (ended_from 1 lines empty_world nothing fits begins).1.sent
+  frames_of_runs lines fits = (ended_from 1 lines empty_run fits begins).1.sent
 
   pub births_of_runs : BirthsOfRuns
   births_of_runs lines fits few birth n session m other a b =
-      let c = counted_from 1 lines empty_world nothing fits begins (omega (arith, few)) (record { most = λ i s x h. absurd (none-some x (no_nodes i s x h)); apart = λ i s j q x h k one two. absurd (none-some x (no_nodes i s x h)) }) in
-      let w = (run_from 1 lines empty_world).world in
+      let c = counted_from 1 lines empty_run fits begins (omega (arith, few)) (record { most = λ i s x h. absurd (none-some x (no_nodes i s x h)); apart = λ i s j q x h k one two. absurd (none-some x (no_nodes i s x h)) }) in
+      let w = (run_from 1 lines empty_run).world in
       c.apart n session m other birth
       (born_at w.nodes n session birth a.node a.is a.birth_is) (born_at w.nodes m other birth b.node b.is b.birth_is)
       (plays_at w.nodes n Lac a.node a.is a.role) (plays_at w.nodes m Lac b.node b.is b.role)
 
   pub packets_of_runs : PacketsOfRuns
-  packets_of_runs lines fits = (ended_from 1 lines empty_world nothing fits begins).1.carried
+  packets_of_runs lines fits = (ended_from 1 lines empty_run fits begins).1.carried
+
+  pub given_in_runs : GivenInRuns
+  unfolding sent_in
+  given_in_runs lines fits = given_from lines 1 lines empty_run fits begins (omega arith) (λ k. (let e : 1 - 1 + k ≡ k = omega arith in rw e refl)) tt
+
+  pub looks_of_runs : LooksOfRuns
+  looks_of_runs lines fits n node f = ((ended_from 1 lines empty_run fits begins).1.holds.nodes n node f).looks

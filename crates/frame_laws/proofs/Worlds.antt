@@ -1,66 +1,77 @@
 -- What a step of a node leaves of the world.
-use Rattle.std.proofs.Common.{◌≡◌, inl, ⊎_elim, ℕ, ◌+◌, ◌<◌, List, [], ◌∷◌, ◌++◌, refl, sym, ◌∙◌, subst, Some, None, arith, ap, append_assoc}
+use Rattle.std.proofs.Common.{◌≡◌, ◌⊎◌, inl, inr, ⊎_elim, ℕ, ◌+◌, ◌-◌, ◌^◌, ◌<◌, ◌≤◌, List, [], ◌∷◌, ◌++◌, refl, sym, ap, ◌∙◌, subst, Option, Some, None, arith, append_assoc}
 use Rattle.std.proofs.lemmas.List.{append-nil}
 use Rattle.std.specs.List.{AllByRecursion}
 use Rattle.id_table.specs.Ids.{at}
+use Rattle.id_table.specs.Order.{at_new, at_other, same_or_not}
 use Rattle.l2tp_header.specs.Spelling.{data_bytes}
-use Rattle.control_message.specs.declared.message.Message.{Message}
+use Rattle.schedule_text.specs.declared.line.Line.{Line}
 use Rattle.protocol_model.specs.declared.event.Event.{Event}
-use Rattle.wire_base.specs.declared.letter.Side.{Side}
+use Rattle.protocol_model.specs.declared.event.Event.TheVariants.{Datagram, Ring, Payload, Lower, OpenTunnel}
+use Rattle.protocol_model.specs.declared.moves.FrameSent.{FrameSent}
+use Rattle.protocol_model.specs.declared.moves.FrameUp.{FrameUp}
+use Rattle.protocol_model.specs.declared.moves.Move.TheVariants as move
 use Rattle.protocol_model.specs.declared.out.Out.{Out}
 use Rattle.protocol_model.specs.declared.out.Out.TheVariants.{Send, Up, Drop, Cause}
-use Rattle.protocol_model.specs.declared.out.Origin.TheVariants.{Control, Data}
+use Rattle.protocol_model.specs.declared.out.Origin.{Origin}
+use Rattle.protocol_model.specs.declared.out.Origin.TheVariants as origin
 use Rattle.protocol_model.specs.declared.packet.Packet.{Packet}
-use Rattle.protocol_model.specs.Names.{node_of}
-use Rattle.protocol_model.specs.End.{Stepped, gives_only}
-use Rattle.protocol_model.specs.World.{World, Node, place_of, with_node, noted_all, sent, told, shown, shown_all, after_step}
+use Rattle.protocol_model.specs.declared.tunnel.Role.{Role}
+use Rattle.protocol_model.specs.Names.{address_of, node_of}
+use Rattle.protocol_model.specs.Turn.{Tunnel}
+use Rattle.protocol_model.specs.End.{End, Stepped, step}
+use Rattle.protocol_model.specs.World.{World, Node, Sender, Deed, place_of, with_node, moved_all, sent, shown, shown_all, given, after_step}
+use Rattle.step_laws.specs.Letters.{Among, Carries, ALetter, Nothing, AFrame, HasOutput, letters_of}
+use Rattle.step_laws.specs.Steps.{IsOfMoves, IsChain}
 use Rattle.frame_laws.specs.Codecs.{Codecs}
-use Rattle.frame_laws.specs.Past.{Passage, Past, frame_in, sent_by, handed_by, past_of_outputs, passage_at, peer_of_call}
-use Rattle.frame_laws.specs.Frames.{Among, WasSent, other_end, IsCarried}
-use Rattle.frame_laws.proofs.Facts.{Nodes, Plays, Grows, Mates, Says, WasGiven, BytesOk, PacketOk, EndOk, NodeOk, Holds, among_left, among_right, packets_later, node_later, end_later, all_map}
-use Rattle.frame_laws.proofs.Changes.{with_end, same_or_not, birth_is, role_there, After, grows, after_none}
-use Rattle.frame_laws.proofs.Births.{Counts, step_counts}
-use Rattle.frame_laws.proofs.Turns.{OutOk, all_push}
-use Rattle.frame_laws.proofs.Datagrams.{control_ok, frame_ok}
-use Rattle.frame_laws.proofs.Steps.{StepOk, Turned, Sent, Handed, noted_world}
+use Rattle.frame_laws.specs.Past.{Passage, sent_in, handed_in}
+use Rattle.frame_laws.specs.Frames.{WasSent, IsCarried, other_end, gives_frame}
+use Rattle.frame_laws.proofs.Facts.{StepLaws, Nodes, Plays, Grows, Mates, WasGiven, BytesOk, PacketOk, NodeOk, Holds, among_left, among_right, packets_later, node_later, end_later, all_map, grows_on}
+use Rattle.frame_laws.proofs.Changes.{birth_is, role_there, Changed, grows, NoBirth}
+use Rattle.frame_laws.proofs.Births.{Counted, counted_after}
+use Rattle.frame_laws.proofs.Leads.{Heard, heard_later, At, LetterOk, node_again}
+use Rattle.frame_laws.proofs.Chains.{Ran, ran, same_role}
+use Rattle.frame_laws.proofs.Datagrams.{letter_ok, alone_ok, frame_ok}
+use Rattle.frame_laws.specs.Reports.{ups_in, told_of}
+use Rattle.frame_laws.proofs.Ups.{step_same}
+use Rattle.frame_laws.proofs.Deeds.{all_among, done_among, deeds, sends, hands, each_sent, each_handed, sent_among}
 
 -- ---- what is shown
 
-pub shown_nodes : (number n : ℕ) (os : List Out) (w : World) → (shown_all number n os w).nodes ≡ w.nodes
-unfolding shown_all shown sent told
-shown_nodes number n [] w = refl
-shown_nodes number n (Send peer bytes origin ∷ os) w = shown_nodes number n os _
-shown_nodes number n (Up session side frame ∷ os) w = shown_nodes number n os _
-shown_nodes number n (Drop x ∷ os) w = shown_nodes number n os _
-shown_nodes number n (Cause x ∷ os) w = shown_nodes number n os _
+pub shown_nodes : (n : ℕ) (os : List Out) (w : World) → (shown_all n os w).nodes ≡ w.nodes
+unfolding shown_all shown sent
+shown_nodes n [] w = refl
+shown_nodes n (Send peer bytes origin ∷ os) w = shown_nodes n os (sent w n (node_of peer) bytes origin)
+shown_nodes n (Up session side frame ∷ os) w = shown_nodes n os w
+shown_nodes n (Drop x ∷ os) w = shown_nodes n os w
+shown_nodes n (Cause x ∷ os) w = shown_nodes n os w
 
-pub shown_born : (number n : ℕ) (os : List Out) (w : World) → (shown_all number n os w).born ≡ w.born
-unfolding shown_all shown sent told
-shown_born number n [] w = refl
-shown_born number n (Send peer bytes origin ∷ os) w = shown_born number n os _
-shown_born number n (Up session side frame ∷ os) w = shown_born number n os _
-shown_born number n (Drop x ∷ os) w = shown_born number n os _
-shown_born number n (Cause x ∷ os) w = shown_born number n os _
+shown_born : (n : ℕ) (os : List Out) (w : World) → (shown_all n os w).born ≡ w.born
+unfolding shown_all shown sent
+shown_born n [] w = refl
+shown_born n (Send peer bytes origin ∷ os) w = shown_born n os (sent w n (node_of peer) bytes origin)
+shown_born n (Up session side frame ∷ os) w = shown_born n os w
+shown_born n (Drop x ∷ os) w = shown_born n os w
+shown_born n (Cause x ∷ os) w = shown_born n os w
+
+all_push : {X : Type 0} (P : X → Type 0) (xs : List X) (x : X) → AllByRecursion P xs → P x → AllByRecursion P (xs ++ x ∷ [])
+all_push P [] x h p = (p, tt)
+all_push P (y ∷ xs) x h p = (h.0, all_push P xs x h.1 p)
 
 -- what is to hold of the bytes that are sent
-abbrev pub SendOk : (ℕ → List ℕ → Type 0) → Out → Type 0
+abbrev SendOk : (ℕ → List ℕ → Type 0) → Out → Type 0
 SendOk B (Send peer bytes origin) = B (node_of peer) bytes
 SendOk B (Up session side frame) = Unit {0}
 SendOk B (Drop x) = Unit {0}
 SendOk B (Cause x) = Unit {0}
 
-pub shown_packets : (ns : Nodes) (gs : List Passage) (number n : ℕ) → n < 256 → (os : List Out) (w : World) → AllByRecursion (SendOk (λ to bytes. BytesOk ns gs n to bytes)) os → AllByRecursion (PacketOk ns gs) w.packets → AllByRecursion (PacketOk ns gs) (shown_all number n os w).packets
-unfolding shown_all shown sent told
-shown_packets ns gs number n lt [] w ok had = had
-shown_packets ns gs number n lt (Send peer bytes origin ∷ os) w ok had = shown_packets ns gs number n lt os _ ok.1 (all_push (PacketOk ns gs) w.packets _ had (record { from = lt; bytes = ok.0 }))
-shown_packets ns gs number n lt (Up session side frame ∷ os) w ok had = shown_packets ns gs number n lt os _ ok.1 had
-shown_packets ns gs number n lt (Drop x ∷ os) w ok had = shown_packets ns gs number n lt os _ ok.1 had
-shown_packets ns gs number n lt (Cause x ∷ os) w ok had = shown_packets ns gs number n lt os _ ok.1 had
-
--- ---- the past
-
-abbrev pub Below : ℕ → List Passage → Type 0
-Below number gs = AllByRecursion (λ g. g.line < number) gs
+shown_packets : (ns : Nodes) (gs : List Passage) (n : ℕ) → n < 256 → (os : List Out) (w : World) → AllByRecursion (SendOk (λ to bytes. BytesOk ns gs n to bytes)) os → AllByRecursion (PacketOk ns gs) w.packets → AllByRecursion (PacketOk ns gs) (shown_all n os w).packets
+unfolding shown_all shown sent
+shown_packets ns gs n lt [] w ok had = had
+shown_packets ns gs n lt (Send peer bytes origin ∷ os) w ok had = shown_packets ns gs n lt os (sent w n (node_of peer) bytes origin) ok.1 (all_push (PacketOk ns gs) w.packets _ had (record { from = lt; bytes = ok.0 }))
+shown_packets ns gs n lt (Up session side frame ∷ os) w ok had = shown_packets ns gs n lt os w ok.1 had
+shown_packets ns gs n lt (Drop x ∷ os) w ok had = shown_packets ns gs n lt os w ok.1 had
+shown_packets ns gs n lt (Cause x ∷ os) w ok had = shown_packets ns gs n lt os w ok.1 had
 
 -- packets are behind those that were there
 abbrev pub HasMore : List Packet → List Packet → Type 0
@@ -82,228 +93,319 @@ carried_later before after more g c =
       bytes = c.bytes;
     }
 
-shown_more : (number n : ℕ) (os : List Out) (w : World) → HasMore w.packets (shown_all number n os w).packets
-unfolding shown_all shown sent told
-shown_more number n [] w = no_more w.packets
-shown_more number n (Send peer bytes origin ∷ os) w =
-    let v = sent w number n (node_of peer) bytes origin in
-    let r = shown_more number n os v in
+shown_more : (n : ℕ) (os : List Out) (w : World) → HasMore w.packets (shown_all n os w).packets
+unfolding shown_all shown sent
+shown_more n [] w = no_more w.packets
+shown_more n (Send peer bytes origin ∷ os) w =
+    let v = sent w n (node_of peer) bytes origin in
+    let r = shown_more n os v in
     let one : Packet = record { from = n; to = node_of peer; bytes = bytes; origin = origin; place = place_of w.queued (node_of peer) origin } in
     (one ∷ r.0, r.1 ∙ append_assoc w.packets (one ∷ []) r.0)
-shown_more number n (Up session side frame ∷ os) w = shown_more number n os _
-shown_more number n (Drop x ∷ os) w = shown_more number n os _
-shown_more number n (Cause x ∷ os) w = shown_more number n os _
+shown_more n (Up session side frame ∷ os) w = shown_more n os w
+shown_more n (Drop x ∷ os) w = shown_more n os w
+shown_more n (Cause x ∷ os) w = shown_more n os w
 
--- what a line adds, behind what was there
-pub record Goes (number : ℕ) (ns : Nodes) (born : ℕ) (packets : List Packet) (gs : List Passage) (after : World) (more : Past) : Type 0 where
-  pub holds : Holds after (gs ++ more.sent)
-  pub lines : Below (number + 1) more.sent
-  pub sent : AllByRecursion (WasSent (gs ++ more.sent)) more.handed
-  pub counts : Counts ns born after
-  pub carried : AllByRecursion (IsCarried after.packets) more.sent
-  pub grown : HasMore packets after.packets
+-- what is sent is in a packet
+record InPacket (ps : List Packet) (from to : ℕ) (bytes : List ℕ) (o : Origin) : Type 0 where
+  packet : Packet
+  there : Among packet ps
+  from_is : packet.from ≡ from
+  to_is : packet.to ≡ to
+  bytes_are : packet.bytes ≡ bytes
+  origin_is : packet.origin ≡ o
+
+in_more : (before after : List Packet) → HasMore before after → (from to : ℕ) (bytes : List ℕ) (o : Origin) → InPacket before from to bytes o → InPacket after from to bytes o
+in_more before after more from to bytes o h = record { packet = h.packet; there = subst (λ (ps : List Packet). Among h.packet ps) (sym more.1) (among_left h.packet before more.0 h.there); from_is = h.from_is; to_is = h.to_is; bytes_are = h.bytes_are; origin_is = h.origin_is }
+
+sent_there : (n : ℕ) (w : World) (peer : ℕ) (bytes : List ℕ) (o : Origin) → InPacket (sent w n (node_of peer) bytes o).packets n (node_of peer) bytes o
+unfolding sent
+sent_there n w peer bytes o = record {
+  packet = record { from = n; to = node_of peer; bytes = bytes; origin = o; place = place_of w.queued (node_of peer) o };
+  there = among_right _ w.packets _ (inl refl);
+  from_is = refl;
+  to_is = refl;
+  bytes_are = refl;
+  origin_is = refl;
+}
+
+shown_there : (n : ℕ) (os : List Out) (w : World) (peer : ℕ) (bytes : List ℕ) (o : Origin) → Among (Send peer bytes o) os → InPacket (shown_all n os w).packets n (node_of peer) bytes o
+unfolding shown_all shown
+shown_there n [] w peer bytes o a = absurd a
+shown_there n (q ∷ os) w peer bytes o a = ⊎_elim
+    (λ (e : q ≡ Send peer bytes o). in_more (shown n w q).packets (shown_all n os (shown n w q)).packets (shown_more n os (shown n w q)) n (node_of peer) bytes o (subst (λ x. InPacket (shown n w x).packets n (node_of peer) bytes o) (sym e) (first w)))
+    (λ b. shown_there n os (shown n w q) peer bytes o b)
+    a
+  where
+    first : (w : World) → InPacket (shown n w (Send peer bytes o)).packets n (node_of peer) bytes o
+    first w = sent_there n w peer bytes o
+
+-- ---- what a line adds
+
+abbrev pub Below : ℕ → List Passage → Type 0
+Below number gs = AllByRecursion (λ g. g.line < number) gs
+
+-- a line gave the frame to its end
+pub record GivenBy (number : ℕ) (l : Line) (g : Passage) : Type 0 where
+  pub number_is : g.line ≡ number
+  pub line_is : l ≡ gives_frame g.role g.node g.session g.frame
+
+-- an event gave the frame to its end
+pub record GivenIn (number n : ℕ) (r : Role) (ev : Event) (g : Passage) : Type 0 where
+  pub number_is : g.line ≡ number
+  pub node_is : g.node ≡ n
+  pub role_is : g.role ≡ r
+  pub event_is : (ev ≡ Payload g.session g.frame) ⊎ (ev ≡ Lower g.session g.frame)
+
+-- what a line does to the count of births
+pub record Counts (ns : Nodes) (born : ℕ) (after : World) : Type 0 where
+  pub few : after.born ≤ born + 65536
+  pub counted : born + 65536 < 2 ^ 64 - 1 → Counted ns born → Counted after.nodes after.born
+
+pub record Goes (number : ℕ) (w : World) (gs : List Passage) (after : World) (more : List Deed) : Type 0 where
+  pub holds : Holds after (gs ++ sent_in more)
+  pub lines : Below (number + 1) (sent_in more)
+  pub sent : AllByRecursion (WasSent (gs ++ sent_in more)) (handed_in more)
+  pub counts : Counts w.nodes w.born after
+  pub carried : AllByRecursion (IsCarried after.packets) (sent_in more)
+  pub grown : HasMore w.packets after.packets
 
 -- no passage has a line that is later
-pub earlier : (number : ℕ) (gs : List Passage) → Below number gs → (g : Passage) → Among g gs → g.line < number
+earlier : (number : ℕ) (gs : List Passage) → Below number gs → (g : Passage) → Among g gs → g.line < number
 earlier number [] h g a = absurd a
 earlier number (q ∷ gs) h g a = ⊎_elim (λ e. rw (← e) h.0) (λ b. earlier number gs h.1 g b) a
 
-sent_below : (number n : ℕ) (passage : ℕ → List ℕ → Passage) → ((s : ℕ) (f : List ℕ) → (passage s f).line ≡ number) → (frame : List ℕ) (os : List Out) → Below (number + 1) (sent_by passage frame os)
-sent_below number n passage line frame [] = tt
-sent_below number n passage line frame (Send peer bytes (Data session) ∷ os) = ((let l = line session frame in omega arith), sent_below number n passage line frame os)
-sent_below number n passage line frame (Send peer bytes (Control tunnel ns nr empty) ∷ os) = sent_below number n passage line frame os
-sent_below number n passage line frame (Up session side f ∷ os) = sent_below number n passage line frame os
-sent_below number n passage line frame (Drop x ∷ os) = sent_below number n passage line frame os
-sent_below number n passage line frame (Cause x ∷ os) = sent_below number n passage line frame os
+-- what an event is, if it is real
+pub record IsFrom (w : World) (gs : List Passage) (n peer : ℕ) (bytes : List ℕ) : Type 0 where
+  pub from : ℕ
+  pub number : from < 256
+  pub address : peer ≡ address_of from
+  pub bytes_ok : BytesOk w.nodes gs from n bytes
 
--- a turn hands nothing up
-none_handed : (peer : ℕ) (P : ℕ → Message → Type 0) (passage : ℕ → List ℕ → Passage) (R : Passage → Type 0) (os : List Out) → AllByRecursion (OutOk peer P) os → AllByRecursion R (handed_by passage os)
-none_handed peer P passage R [] ok = tt
-none_handed peer P passage R (Send q bytes origin ∷ os) ok = none_handed peer P passage R os ok.1
-none_handed peer P passage R (Up session side frame ∷ os) ok = absurd ok.0
-none_handed peer P passage R (Drop x ∷ os) ok = none_handed peer P passage R os ok.1
-none_handed peer P passage R (Cause x ∷ os) ok = none_handed peer P passage R os ok.1
+abbrev pub IsReal : World → List Passage → ℕ → Event → Type 0
+IsReal w gs n (Datagram peer bytes) = IsFrom w gs n peer bytes
+IsReal w gs n (Ring port) = Unit {0}
+IsReal w gs n (Payload s frame) = Unit {0}
+IsReal w gs n (Lower s frame) = Unit {0}
+IsReal w gs n OpenTunnel = Unit {0}
 
--- and sends no frame
-none_sent : (peer : ℕ) (P : ℕ → Message → Type 0) (passage : ℕ → List ℕ → Passage) (R : Passage → Type 0) (frame : List ℕ) (os : List Out) → AllByRecursion (OutOk peer P) os → AllByRecursion R (sent_by passage frame os)
-none_sent peer P passage R frame [] ok = tt
-none_sent peer P passage R frame (Send q bytes (Control tunnel ns nr empty) ∷ os) ok = none_sent peer P passage R frame os ok.1
-none_sent peer P passage R frame (Send q bytes (Data session) ∷ os) ok = absurd ok.0.2
-none_sent peer P passage R frame (Up session side f ∷ os) ok = none_sent peer P passage R frame os ok.1
-none_sent peer P passage R frame (Drop x ∷ os) ok = none_sent peer P passage R frame os ok.1
-none_sent peer P passage R frame (Cause x ∷ os) ok = none_sent peer P passage R frame os ok.1
+heard_of : (w : World) (gs : List Passage) (n : ℕ) (ev : Event) → IsReal w gs n ev → Heard w.nodes n ev
+heard_of w gs n (Datagram peer bytes) h = record { from = h.from; number = h.number; address = h.address; letters = h.bytes_ok.letters }
+heard_of w gs n (Ring port) h = tt
+heard_of w gs n (Payload s frame) h = tt
+heard_of w gs n (Lower s frame) h = tt
+heard_of w gs n OpenTunnel h = tt
 
--- what a turn sends are messages
-turn_sends : (codecs : Codecs) (ns : Nodes) (gs : List Passage) (n peer : ℕ) (o : Out) → OutOk peer (λ session m. Says ns n (node_of peer) session m) o → SendOk (λ to bytes. BytesOk ns gs n to bytes) o
-turn_sends codecs ns gs n peer (Send q bytes origin) ok = rw ok.0 (control_ok codecs ns gs n (node_of peer) bytes ok.1)
-turn_sends codecs ns gs n peer (Up session side frame) ok = tt
-turn_sends codecs ns gs n peer (Drop x) ok = tt
-turn_sends codecs ns gs n peer (Cause x) ok = tt
-
-module _ (codecs : Codecs) (number : ℕ) (w : World) (gs : List Passage) (n : ℕ) (old : Node) (was : at w.nodes n ≡ Some old) (holds : Holds w gs) (below : Below number gs) (ev : Event) where
+module _ (codecs : Codecs) (laws : StepLaws) (number : ℕ) (w : World) (gs : List Passage) (n : ℕ) (old : Node) (was : at w.nodes n ≡ Some old) (holds : Holds w gs) (below : Below number gs) (ev : Event) (real : IsReal w gs n ev) (moment : ℕ) (block : List ℕ) (sender : Option Sender) where
   ok : NodeOk w.nodes n old
   ok = holds.nodes n old was
 
-  abbrev after : Stepped → World
-  after s = after_step w number n old s
+  abbrev s : Stepped
+  s = step old.end moment block ev
 
-  abbrev passage : Stepped → ℕ → List ℕ → Passage
-  passage s = passage_at number n old.end (after s)
+  chain : IsChain old.end ev s
+  chain = laws.chains old.end ok.kept moment block ev
 
-  abbrev more : Stepped → Past
-  more s = past_of_outputs (passage s) ev s.outputs
+  abbrev ended : Node
+  ended = record old { end = s.end }
 
-  -- the end that is left
-  record Ending (s : Stepped) : Type 0 where
-    pub left : After w n old s.end (noted_world w n old s)
-    pub end_ok : EndOk (noted_world w n old s).nodes n s.end
+  abbrev base : World
+  base = with_node w n ended
 
-  same_end : (o : Out) → Ending (gives_only old.end o)
-  unfolding gives_only
-  same_end o =
-      let a = after_none w n old old.end was refl ok.births (omega arith) [] refl in
-      let ms = (noted_all n [] (with_node w n (with_end old old.end))).nodes in
-      record { left = a; end_ok = end_later w.nodes ms (grows w.nodes ms n old a.new a.change) n old.end ok.end }
+  abbrev v : World
+  v = moved_all n s.moves base
 
-  after_nodes : (s : Stepped) → (after s).nodes ≡ (noted_world w n old s).nodes
-  unfolding after_step
-  after_nodes s = shown_nodes number n s.outputs _
+  abbrev after : World
+  after = (after_step w number n old sender s).world
 
-  grows_to : (s : Stepped) → Ending s → Grows w.nodes (after s).nodes
-  grows_to s e = rw (after_nodes s) (grows w.nodes _ n old e.left.new e.left.change)
+  abbrev done : List Deed
+  done = (after_step w number n old sender s).done
 
-  abbrev noted_nodes : Stepped → Nodes
-  noted_nodes s = (noted_world w n old s).nodes
+  after_is : after ≡ shown_all n s.outputs v
+  unfolding after_step given
+  after_is = refl
 
-  node_here : (s : Stepped) → Ending s → (m : ℕ) (node : Node) → at (noted_nodes s) m ≡ Some node → m ≡ n → NodeOk (after s).nodes m node
-  node_here s e m node f same =
-      let found : at (noted_nodes s) n ≡ Some node = subst (λ x. at (noted_nodes s) x ≡ Some node) same f in
-      let is = e.left.change.is in
-      let k : e.left.new ≡ node = cc in
-      let ended : EndOk (after s).nodes n s.end = rw (after_nodes s) e.end_ok in
-      let left : NodeOk (after s).nodes n e.left.new = record { number = ok.number; end = rw e.left.end ended; births = rw e.left.end e.left.births } in
-      subst (λ x. NodeOk (after s).nodes x node) (sym same) (subst (λ x. NodeOk (after s).nodes n x) k left)
+  done_is : done ≡ deeds v number n old.end.role sender s.moves
+  unfolding after_step given
+  done_is = refl
 
-  node_there : (s : Stepped) → Ending s → (m : ℕ) (node : Node) → at (noted_nodes s) m ≡ Some node → (m ≡ n → ⊥) → NodeOk (after s).nodes m node
-  node_there s e m node f other = node_later w.nodes (after s).nodes (grows_to s e) m node (holds.nodes m node (sym (e.left.change.others m other) ∙ f))
+  role : s.end.role ≡ old.end.role
+  role = same_role ev old.end s.end s.moves chain.chain
 
-  nodes_ok : (s : Stepped) → Ending s → (m : ℕ) (node : Node) → at (after s).nodes m ≡ Some node → NodeOk (after s).nodes m node
-  nodes_ok s e m node f =
-      let g : at (noted_nodes s) m ≡ Some node = rw (← after_nodes s) f in
-      ⊎_elim (λ a. node_here s e m node g a) (λ a. node_there s e m node g a) (same_or_not m n)
+  changed : Changed w.nodes base.nodes n old ended
+  changed = record {
+    was = was;
+    is = at_new w.nodes n ended;
+    others = λ m o. at_other w.nodes n ended m o;
+    role = role;
+    births = λ q b h. h;
+  }
 
-  after_born : (s : Stepped) → (after s).born ≡ (noted_world w n old s).born
-  unfolding after_step
-  after_born s = shown_born number n s.outputs _
+  begun : Grows w.nodes base.nodes
+  begun = grows w.nodes base.nodes n old ended changed
 
-  counts_ok : (s : Stepped) → Ending s → Counts w.nodes w.born (after s)
-  counts_ok s e = step_counts w n old e.left.new (noted_world w n old s) (after s) e.left.change e.left.adds (after_nodes s) (after_born s)
+  here : At n s.end base old.end
+  here = record { node = ended; is = at_new w.nodes n ended; end_is = refl; role = role; end = end_later w.nodes base.nodes begun n old.end ok.end; births = ok.births }
 
-  more_packets : (s : Stepped) → Ending s → HasMore w.packets (after s).packets
-  unfolding after_step
-  more_packets s e = let r = shown_more number n s.outputs (noted_world w n old s) in (r.0, r.1 ∙ ap (λ ps. ps ++ r.0) e.left.packets)
+  r : Ran codecs.digits n s.end ev base v old.end s.end s.moves
+  r = ran codecs.digits n s.end ev base old.end s.end here (heard_later w.nodes base.nodes begun n ev (heard_of w gs n ev real)) s.moves chain.chain
 
-  -- ---- each kind of step
+  grown : Grows w.nodes v.nodes
+  grown = grows_on w.nodes base.nodes v.nodes begun r.grows.grows
 
-  holds_after : (s : Stepped) (e : Ending s) → AllByRecursion (SendOk (λ to bytes. BytesOk (after s).nodes (gs ++ (more s).sent) n to bytes)) s.outputs → Holds (after s) (gs ++ (more s).sent)
-  unfolding after_step
-  holds_after s e sends =
+  abbrev deeds_done : List Deed
+  deeds_done = deeds v number n old.end.role sender s.moves
+
+  abbrev more : List Passage
+  more = sent_in deeds_done
+
+  role_at_end : (q : Role) → Plays v.nodes n q → old.end.role ≡ q
+  role_at_end q h = sym role ∙ sym (ap (λ (e : End). e.role) r.at_end.end_is) ∙ role_there v.nodes n q r.at_end.node r.at_end.is h
+
+  -- ---- nodes
+
+  node_ok : (m : ℕ) (node : Node) → at v.nodes m ≡ Some node → NodeOk v.nodes m node
+  node_ok m node f = ⊎_elim
+      (λ (a : m ≡ n). (let g : at v.nodes n ≡ Some node = subst (λ q. at v.nodes q ≡ Some node) a f in
+      let is = r.at_end.is in
+      let k : r.at_end.node ≡ node = cc in
+      let last : NodeOk v.nodes n r.at_end.node = record { number = ok.number; kept = rw r.at_end.end_is chain.kept; looks = rw r.at_end.end_is (laws.looks old.end ok.kept ok.looks moment block ev); end = rw r.at_end.end_is r.at_end.end; births = rw r.at_end.end_is r.at_end.births } in
+      subst (λ q. NodeOk v.nodes q node) (sym a) (subst (λ q. NodeOk v.nodes n q) k last)))
+      (λ o. node_later w.nodes v.nodes grown m node (holds.nodes m node (sym (changed.others m o) ∙ sym (r.grows.others m o) ∙ f)))
+      (same_or_not m n)
+
+  -- ---- packets
+
+  frame_given : (f : FrameSent) → Among (move.FrameSent f) s.moves → (to remote : ℕ) → node_of f.peer ≡ to → Mates v.nodes n f.session to remote → WasGiven v.nodes (gs ++ more) n to remote f.frame
+  frame_given f a to remote same mates =
+      let told = birth_is v n f.session mates.birth mates.here in
       record {
-        nodes = nodes_ok s e;
-        packets = shown_packets (after s).nodes (gs ++ (more s).sent) number n ok.number s.outputs _ sends (subst (λ ps. AllByRecursion (PacketOk (after s).nodes (gs ++ (more s).sent)) ps) (sym e.left.packets) (packets_later w.nodes (after s).nodes (grows_to s e) gs (more s).sent w.packets holds.packets));
-      }
-
-  lines_of : (s : Stepped) → Below (number + 1) (more s).sent
-  lines_of s = sent_below number n (passage s) (λ i f. refl) (frame_in ev) s.outputs
-
-  turned_goes : (s : Stepped) (peer : ℕ) → Ending s → AllByRecursion (OutOk peer (λ session m. Says (noted_nodes s) n (node_of peer) session m)) s.outputs → Goes number w.nodes w.born w.packets gs (after s) (more s)
-  turned_goes s peer e outs =
-      let later : AllByRecursion (OutOk peer (λ session m. Says (after s).nodes n (node_of peer) session m)) s.outputs = rw (after_nodes s) outs in
-      record {
-        holds = holds_after s e (all_map _ _ (turn_sends codecs (after s).nodes (gs ++ (more s).sent) n peer) s.outputs later);
-        lines = lines_of s;
-        sent = none_handed peer (λ session m. Says (noted_nodes s) n (node_of peer) session m) (passage s) (WasSent (gs ++ (more s).sent)) s.outputs outs;
-        counts = counts_ok s e;
-        carried = none_sent peer (λ session m. Says (noted_nodes s) n (node_of peer) session m) (passage s) (IsCarried (after s).packets) (frame_in ev) s.outputs outs;
-        grown = more_packets s e;
-      }
-
-  -- a frame that is sent is carried by the packet
-  carried_by : (session peer tunnel remote : ℕ) → peer_of_call old.end (at old.end.calls session) ≡ node_of peer → let s = gives_only old.end (Send peer (data_bytes tunnel remote None (frame_in ev)) (Data session)) in IsCarried (after s).packets (passage s session (frame_in ev))
-  unfolding gives_only after_step noted_all shown_all shown sent
-  carried_by session peer tunnel remote to =
-      record {
-        packet = record { from = n; to = node_of peer; bytes = data_bytes tunnel remote None (frame_in ev); origin = Data session; place = None };
-        there = among_right _ w.packets _ (inl refl);
-        from = refl;
-        to = sym to;
-        origin = refl;
-        tunnel = tunnel;
-        session = remote;
-        bytes = refl;
-      }
-
-  -- a frame is sent to the mate of its session
-  sent_goes : (session peer tunnel remote : ℕ) → tunnel < 65536 → remote < 65536 → Mates w.nodes n session (node_of peer) remote → peer_of_call old.end (at old.end.calls session) ≡ node_of peer → let s = gives_only old.end (Send peer (data_bytes tunnel remote None (frame_in ev)) (Data session)) in Goes number w.nodes w.born w.packets gs (after s) (more s)
-  unfolding gives_only
-  sent_goes session peer tunnel remote t r mates to =
-      let s = gives_only old.end (Send peer (data_bytes tunnel remote None (frame_in ev)) (Data session)) in
-      let e = same_end (Send peer (data_bytes tunnel remote None (frame_in ev)) (Data session)) in
-      let g = grows_to s e in
-      let told = birth_is (after s) n session mates.birth (g.births n session mates.birth mates.here) in
-      let role = role_there w.nodes n mates.role old was mates.mine in
-      let given : WasGiven (after s).nodes (gs ++ (more s).sent) n (node_of peer) remote (frame_in ev) = record {
-        passage = passage s session (frame_in ev);
-        there = among_right (passage s session (frame_in ev)) gs (more s).sent (inl refl);
+        passage = sends v number n old.end.role sender f;
+        there = among_right _ gs more (sent_among v number n old.end.role sender s.moves f a);
         frame_is = refl;
-        birth = rw told (g.births (node_of peer) remote mates.birth mates.there);
+        birth = rw told mates.there;
         some = rw told mates.some;
-        role = subst (λ r. Plays (after s).nodes (node_of peer) (other_end r)) (sym role) (g.roles (node_of peer) (other_end mates.role) mates.its);
+        role = subst (λ q. Plays v.nodes to (other_end q)) (sym (role_at_end mates.role mates.mine)) mates.its;
         from_is = refl;
-        to_is = to;
-      } in
-      record {
-        holds = holds_after s e (frame_ok codecs (after s).nodes (gs ++ (more s).sent) n (node_of peer) tunnel remote (frame_in ev) t r given, tt);
-        lines = lines_of s;
-        sent = tt;
-        counts = counts_ok s e;
-        carried = (carried_by session peer tunnel remote to, tt);
-        grown = more_packets s e;
+        to_is = same;
       }
 
-  -- a frame that is handed up was given to the mate of its session
-  handed_goes : (from session : ℕ) (side : Side) (frame : List ℕ) → WasGiven w.nodes gs from n session frame → peer_of_call old.end (at old.end.calls session) ≡ from → let s = gives_only old.end (Up session side frame) in Goes number w.nodes w.born w.packets gs (after s) (more s)
-  unfolding gives_only
-  handed_goes from session side frame given peer =
-      let s = gives_only old.end (Up session side frame) in
-      let e = same_end (Up session side frame) in
-      let g = grows_to s e in
-      let told = birth_is (after s) n session given.passage.birth (g.births n session given.passage.birth given.birth) in
+  module _ (peer id : ℕ) (tunnel : Tunnel) (there : at s.end.tunnels id ≡ Some tunnel) (peer_is : peer ≡ tunnel.control.peer) where
+    abbrev bytes_ok : List ℕ → Type 0
+    bytes_ok bytes = BytesOk v.nodes (gs ++ more) n (node_of peer) bytes
+
+    carries_ok : (bytes : List ℕ) (o : Origin) → Carries s.end.role s.end.config tunnel s.moves bytes o → bytes_ok bytes
+    carries_ok bytes o (ALetter l nr gives same origin_is are) =
+        let to = r.at_end.end.tunnels id tunnel there in
+        let lo = all_among (LetterOk v.nodes n s.end) (letters_of s.end.role s.end.config gives.by) l (all_among (λ m. AllByRecursion (LetterOk v.nodes n s.end) (letters_of s.end.role s.end.config m)) s.moves gives.by r.letters gives.there) gives.gives in
+        let g : at s.end.tunnels id ≡ Some lo.goes.0 = rw (← to.local, ← same) lo.goes.1 in
+        let k : lo.goes.0 ≡ tunnel = cc in
+        let p : lo.peer ≡ peer = sym lo.goes.2 ∙ ap (λ (t : Tunnel). t.control.peer) k ∙ sym peer_is in
+        rw are (letter_ok codecs tunnel.control.remote l.session l.place.number nr to.remote lo.session v.nodes (gs ++ more) n (node_of peer) l.message lo.written (rw (← p) lo.says))
+    carries_ok bytes o (Nothing ns nr origin_is are) =
+        let to = r.at_end.end.tunnels id tunnel there in
+        rw are (alone_ok codecs tunnel.control.remote 0 ns nr to.remote (omega arith) v.nodes (gs ++ more) n (node_of peer))
+    carries_ok bytes o (AFrame f call a tunnel_is same at_call up origin_is are) =
+        let to = r.at_end.end.tunnels id tunnel there in
+        let k = (to.calls f.session call at_call).knows (inr up) in
+        let mates : Mates v.nodes n f.session (node_of peer) call.remote = rw peer_is k.1 in
+        rw are (frame_ok codecs v.nodes (gs ++ more) n (node_of peer) tunnel.control.remote call.remote f.frame to.remote k.0 (frame_given f a (node_of peer) call.remote (ap node_of (same ∙ sym peer_is)) mates))
+
+  send_ok : (o : Out) → IsOfMoves s.end s.moves o → SendOk (λ to bytes. BytesOk v.nodes (gs ++ more) n to bytes) o
+  send_ok (Send peer bytes o) h = carries_ok peer h.id h.tunnel h.there h.peer_is bytes o h.carries
+  send_ok (Up session side frame) h = tt
+  send_ok (Drop x) h = tt
+  send_ok (Cause x) h = tt
+
+  -- ---- frames
+
+  handed_ok : (f : FrameUp) → Among (move.FrameUp f) s.moves → WasSent (gs ++ more) (hands v number n old.end.role sender f)
+  handed_ok f a =
+      let d = done_among ev old.end s.end s.moves chain.chain (move.FrameUp f) a in
+      let h = d.does.hears in
+      let k : IsFrom w gs n f.peer h.bytes = subst (IsReal w gs n) h.is real in
+      let given : WasGiven w.nodes gs k.from n f.session f.frame = subst (λ q. WasGiven w.nodes gs k.from n q f.frame) h.session_is (subst (λ q. WasGiven w.nodes gs k.from n h.header.session q) (sym h.frame_is) (k.bytes_ok.frames h.header h.read h.data_is)) in
+      let from : node_of f.peer ≡ k.from = ap node_of k.address ∙ node_again k.from k.number in
+      let told = birth_is v n f.session given.passage.birth (grown.births n f.session given.passage.birth given.birth) in
       record {
-        holds = holds_after s e (tt, tt);
-        lines = tt;
-        sent = (
-          record {
-            passage = given.passage;
-            there = among_left given.passage gs [] given.there;
-            is = record {
-              frame = given.frame_is;
-              birth = told;
-              born = rw told given.some;
-              end = role_there w.nodes n (other_end given.passage.role) old was given.role;
-              sender = peer ∙ sym given.from_is;
-              receiver = given.to_is;
-              earlier = earlier number gs below given.passage given.there;
-            };
-          },
-          tt,
-        );
-        counts = counts_ok s e;
-        carried = tt;
-        grown = more_packets s e;
+        passage = given.passage;
+        there = among_left given.passage gs more given.there;
+        is = record {
+          frame = given.frame_is;
+          birth = told;
+          born = rw told given.some;
+          end = role_there w.nodes n (other_end given.passage.role) old was given.role;
+          sender = from ∙ sym given.from_is;
+          receiver = given.to_is;
+          earlier = earlier number gs below given.passage given.there;
+        };
       }
 
-  pub step_goes : (s : Stepped) → StepOk w gs n old ev s → Goes number w.nodes w.born w.packets gs (after s) (more s)
-  step_goes s (Turned peer a e outs) = turned_goes s peer (record { left = a; end_ok = e }) outs
-  step_goes s (Sent session peer tunnel remote same t r mates to) = rw same (sent_goes session peer tunnel remote t r mates to)
-  step_goes s (Handed from session side frame same given peer) = rw same (handed_goes from session side frame given peer)
+  carried_ok : (f : FrameSent) → Among (move.FrameSent f) s.moves → IsCarried (shown_all n s.outputs v).packets (sends v number n old.end.role sender f)
+  carried_ok f a =
+      let h = all_among (HasOutput s.outputs) s.moves (move.FrameSent f) chain.frames a in
+      let p = shown_there n s.outputs v f.peer (data_bytes h.0 h.1 None f.frame) (origin.Data f.session) h.2 in
+      record {
+        packet = p.packet;
+        there = p.there;
+        from = p.from_is;
+        to = p.to_is;
+        origin = p.origin_is;
+        tunnel = h.0;
+        session = h.1;
+        bytes = p.bytes_are;
+      }
+
+  given_ok : (f : FrameSent) → Among (move.FrameSent f) s.moves → GivenIn number n old.end.role ev (sends v number n old.end.role sender f)
+  given_ok f a =
+      let d = done_among ev old.end s.end s.moves chain.chain (move.FrameSent f) a in
+      record { number_is = refl; node_is = refl; role_is = refl; event_is = d.does.given }
+
+  -- ---- births
+
+  counts_ok : Counts w.nodes w.born v
+  counts_ok = record {
+    few = (let b = r.grows.born in let most = r.at_end.end.most in omega arith);
+    counted = λ few had. r.grows.counted (omega (arith, few)) (counted_after w base.nodes w.born n old ended changed (omega (arith, few)) had (NoBirth refl refl));
+  }
+
+  -- ---- the step
+
+  holds_ok : Holds (shown_all n s.outputs v) (gs ++ more)
+  holds_ok = record {
+    nodes = subst (λ (ns : Nodes). (m : ℕ) (node : Node) → at ns m ≡ Some node → NodeOk ns m node) (sym (shown_nodes n s.outputs v)) node_ok;
+    packets = subst (λ (ns : Nodes). AllByRecursion (PacketOk ns (gs ++ more)) (shown_all n s.outputs v).packets) (sym (shown_nodes n s.outputs v))
+        (shown_packets v.nodes (gs ++ more) n ok.number s.outputs v
+        (all_map (IsOfMoves s.end s.moves) (SendOk (λ to bytes. BytesOk v.nodes (gs ++ more) n to bytes)) send_ok s.outputs chain.outputs)
+        (subst (λ ps. AllByRecursion (PacketOk v.nodes (gs ++ more)) ps) (sym r.grows.packets) (packets_later w.nodes v.nodes grown gs more w.packets holds.packets)));
+  }
+
+  counts_shown : Counts w.nodes w.born (shown_all n s.outputs v)
+  counts_shown = record {
+    few = (let k = counts_ok.few in let same = shown_born n s.outputs v in omega (arith, same));
+    counted = λ few had. rw (shown_nodes n s.outputs v, shown_born n s.outputs v) (counts_ok.counted few had);
+  }
+
+  grown_packets : HasMore w.packets (shown_all n s.outputs v).packets
+  grown_packets = let m = shown_more n s.outputs v in (m.0, m.1 ∙ ap (λ ps. ps ++ m.0) r.grows.packets)
+
+  goes : Goes number w gs (shown_all n s.outputs v) deeds_done
+  goes = record {
+    holds = holds_ok;
+    lines = each_sent v number n old.end.role sender (λ g. g.line < number + 1) s.moves (λ f a. omega arith);
+    sent = each_handed v number n old.end.role sender (WasSent (gs ++ more)) s.moves handed_ok;
+    counts = counts_shown;
+    carried = each_sent v number n old.end.role sender (IsCarried (shown_all n s.outputs v).packets) s.moves carried_ok;
+    grown = grown_packets;
+  }
+
+  pub step_goes : Goes number w gs after done
+  unfolding after_step given
+  step_goes = goes
+
+  pub step_given : AllByRecursion (GivenIn number n old.end.role ev) (sent_in done)
+  unfolding after_step given
+  step_given = each_sent v number n old.end.role sender (GivenIn number n old.end.role ev) s.moves given_ok
+
+  pub step_told : ups_in (after_step w number n old sender s).entries ≡ told_of done
+  unfolding after_step given
+  step_told = step_same number n old.end.role sender v old.end moment block ev chain

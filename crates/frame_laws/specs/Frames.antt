@@ -1,14 +1,16 @@
 -- Each frame that is handed up in a call was sent in that call by its other end.
-use Rattle.std.specs.Prelude.{◌≡◌, ◌⊎◌, ◌<◌, List, [], ◌∷◌, None, ℕ}
+use Rattle.std.specs.Prelude.{◌≡◌, ◌-◌, ◌<◌, List, None, Some, ℕ, slice_get}
 use Rattle.std.specs.List.{AllByRecursion}
 use Rattle.l2tp_header.specs.Spelling.{data_bytes}
 use Rattle.schedule_text.specs.declared.line.Line.{Line}
+use Rattle.schedule_text.specs.declared.line.Line.TheVariants.{FromSub, Down}
 use Rattle.schedule_text.specs.Grammar.{AreLines}
 use Rattle.protocol_model.specs.declared.tunnel.Role.{Role}
 use Rattle.protocol_model.specs.declared.tunnel.Role.TheVariants.{Lac, Lns}
 use Rattle.protocol_model.specs.declared.out.Origin.TheVariants.{Data}
 use Rattle.protocol_model.specs.declared.packet.Packet.{Packet}
 use Rattle.protocol_model.specs.Run.{run}
+use Rattle.step_laws.specs.Letters.{Among}
 use Rattle.frame_laws.specs.Past.{Passage, Past, past_of}
 
 abbrev pub other_end : Role → Role
@@ -26,11 +28,6 @@ pub record IsOf (sent handed : Passage) : Type 0 where
   pub sender : handed.peer ≡ sent.node
   pub receiver : sent.peer ≡ handed.node
   pub earlier : sent.line < handed.line
-
--- one of them is this one
-abbrev pub Among : {X : Type 0} → X → List X → Type 0
-Among x [] = ⊥
-Among x (y ∷ ys) = (y ≡ x) ⊎ Among x ys
 
 -- a frame that was handed up is one of those that were sent
 pub record WasSent (sent : List Passage) (handed : Passage) : Type 0 where
@@ -54,9 +51,21 @@ pub record IsCarried (packets : List Packet) (g : Passage) : Type 0 where
   pub session : ℕ
   pub bytes : packet.bytes ≡ data_bytes tunnel session None g.frame
 
+-- the line that gives a frame to an end: a subscriber's at a LAC, the network's at an LNS
+abbrev pub gives_frame : Role → ℕ → ℕ → List ℕ → Line
+gives_frame Lac n session frame = FromSub n session frame
+gives_frame Lns n session frame = Down n session frame
+
+-- a frame that counts as sent is one that its line gave to its end in its call
+abbrev pub IsGiven : List Line → Passage → Type 0
+IsGiven lines g = slice_get lines (g.line - 1) ≡ Some (gives_frame g.role g.node g.session g.frame)
+
 -- in the run of each list of lines of the grammar, whether each of them fits or one ends the run
 abbrev pub FramesOfRuns : Type 0
 FramesOfRuns = (lines : List Line) → AreLines lines → AreSent (past_of lines)
 
 abbrev pub PacketsOfRuns : Type 0
 PacketsOfRuns = (lines : List Line) → AreLines lines → AllByRecursion (IsCarried (run lines).world.packets) (past_of lines).sent
+
+abbrev pub GivenInRuns : Type 0
+GivenInRuns = (lines : List Line) → AreLines lines → AllByRecursion (IsGiven lines) (past_of lines).sent

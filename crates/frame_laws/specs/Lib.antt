@@ -1,6 +1,7 @@
 pub mod Codecs
 pub mod Past
 pub mod Frames
+pub mod Facts
 pub mod Births
 pub mod Reports
 pub mod Samples

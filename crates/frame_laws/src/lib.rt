@@ -3,7 +3,8 @@
 
 ghost use Rattle.frame_laws.specs.Births.{BirthsOfRuns};
 ghost use Rattle.frame_laws.specs.Codecs.{Codecs};
-ghost use Rattle.frame_laws.specs.Frames.{FramesOfRuns, PacketsOfRuns};
+ghost use Rattle.frame_laws.specs.Facts.{LooksOfRuns, StepLaws};
+ghost use Rattle.frame_laws.specs.Frames.{FramesOfRuns, GivenInRuns, PacketsOfRuns};
 ghost use Rattle.frame_laws.specs.Reports.{ReportsOfRuns};
 ghost use Rattle.frame_laws.specs.Samples.{GoesEachWay};
 
@@ -18,33 +19,57 @@ fn written_is_read_again()
     protocol_model::twelve_digits();
 }
 
+/// What is used of steps.
+fn steps_are_known()
+    ensures { StepLaws }
+{
+    step_laws::steps_are_chains();
+    step_laws::looks_are_true();
+}
+
 /// Over every list of lines of the grammar, each frame that an end hands up in a call was sent at an earlier line, in a
 /// call of the same birth, by an end of the other kind, at the node that the call's tunnel goes to.
 pub fn frames_were_sent()
     ensures { FramesOfRuns }
 {
     written_is_read_again();
+    steps_are_known();
 }
 
-/// Over every list of lines of the grammar, each frame that counts as sent is carried by a packet, from the node that sent
-/// it to the one that the call's tunnel goes to.
+/// Over every list of lines of the grammar, each frame that counts as sent is one that its line gave to its end in its
+/// call, and it is carried by a packet, from the node that sent it to the one that the call's tunnel goes to.
 pub fn sent_frames_are_packets()
-    ensures { PacketsOfRuns }
+    ensures packets { PacketsOfRuns }
+    ensures given { GivenInRuns }
 {
     written_is_read_again();
+    steps_are_known();
 }
 
-/// In every run, the lines that tell of frames which are handed up tell, in order, of those that the past has.
+/// In every run, the entries of the report that tell of frames which are handed up are, in order, those of the moves that
+/// hand one up.
 pub fn reports_tell_the_past()
     ensures { ReportsOfRuns }
-{}
+{
+    written_is_read_again();
+    steps_are_known();
+}
 
-/// After every list of fewer lines than 64 bits count, two sessions of LACs with one birth are one session: a birth is one
+/// After every list of lines of the grammar, what the data plane of each node sees of a session is so of its call.
+pub fn looks_are_true()
+    ensures { LooksOfRuns }
+{
+    written_is_read_again();
+    steps_are_known();
+}
+
+/// After every list of fewer than 2^47 lines, two sessions of LACs with one birth are one session: a birth is one
 /// subscriber's call.
 pub fn births_are_apart()
     ensures { BirthsOfRuns }
 {
     written_is_read_again();
+    steps_are_known();
 }
 
 /// A run, computed: over one call each end sends a frame, and the other end hands it up.

@@ -1,5 +1,5 @@
 -- How many lines a text has that passes no limit.
-use Rattle.std.proofs.Common.{◌≡◌, inl, inr, ℕ, ◌+◌, ◌-◌, ◌^◌, ◌<◌, ◌≤◌, Bool, true, false, cond, ltb, ◌||◌, List, [], ◌∷◌, ◌++◌, length, Some, None, refl, ap, arith}
+use Rattle.std.proofs.Common.{◌≡◌, inl, inr, ℕ, ◌+◌, ◌^◌, ◌<◌, ◌≤◌, Bool, true, false, cond, ltb, ◌||◌, List, [], ◌∷◌, ◌++◌, length, Some, None, refl, ap, arith}
 use Rattle.std.proofs.lemmas.Bool.{ltb-false}
 use Rattle.std.proofs.lemmas.List.{length-append}
 use Rattle.port_traits.specs.Limits.{lines_begun, readable, passed, limit_passed}
@@ -29,5 +29,5 @@ bytes_within : (text : List ℕ) → limit_passed text ≡ None → length text 
 unfolding limit_passed passed
 bytes_within text h = ltb-false MOST_BYTES (length text) (neither (ltb MOST_LINES (lines_begun (readable text))) (ltb MOST_BYTES (length text)) _ h)
 
-pub few_lines : (text : List ℕ) (lines : List Line) → limit_passed text ≡ None → IsSchedule text lines → length lines < 2 ^ 64 - 1
+pub few_lines : (text : List ℕ) (lines : List Line) → limit_passed text ≡ None → IsSchedule text lines → length lines < 2 ^ 47
 few_lines text lines within is = let a = lines_of_text text lines is.spelled in let b = bytes_within text within in omega arith

@@ -83,8 +83,8 @@ fn command<S: Source, K: Sink>(
 /// `--help` and `--version` write their texts; other words write how the program is used.
 ///
 /// In the run of every schedule, this one or another, each frame that an end hands up in a call was sent at an earlier
-/// line, in a call of the same birth, by an end of the other kind, at the node that the call's tunnel goes to; and a birth
-/// is that of one LAC's call.
+/// line, in a call of the same birth, by an end of the other kind, at the node that the call's tunnel goes to, and was given
+/// to that end for the call by that line; and a birth is that of one LAC's call.
 pub fn replay_top<S: Source, K: Sink>(
     alloc: Global,
     words: &[String],

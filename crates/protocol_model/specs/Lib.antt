@@ -1,4 +1,6 @@
 pub mod Names
+pub mod Reading
+pub mod Calls
 pub mod Turn
 pub mod End
 pub mod Texts

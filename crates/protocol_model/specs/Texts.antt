@@ -1,5 +1,6 @@
 -- The lines of the report.
-use Rattle.std.specs.Prelude.{ℕ, List, [], ◌∷◌, ◌++◌, codes}
+use Rattle.std.specs.Prelude.{ℕ, List, ◌++◌, codes}
+use Rattle.std.specs.List.{flat_map}
 use Rattle.std.specs.Fmt.{decimal}
 use Rattle.hex.specs.Hex.{encode_lower}
 use Rattle.wire_base.specs.declared.why.Why.{Why}
@@ -36,3 +37,23 @@ side_word Lcp = codes "lcp"
 unfoldable pub up_text : ℕ → ℕ → ℕ → ℕ → Side → List ℕ → List ℕ
 up_text line node session birth side frame =
     ended (decimal line & codes "up" & decimal node & decimal session & decimal birth & side_word side & encode_lower frame)
+
+-- ---- entries
+
+-- a line of the report, before the tables at its end
+pub data Entry : Type 0 where
+  -- of a packet with its number, from a node, to a node
+  Sends : (line packet from to : ℕ) (bytes : List ℕ) → Entry
+  -- of a frame that a node hands up in a call, by its session and its birth
+  HandsUp : (line node session birth : ℕ) (side : Side) (frame : List ℕ) → Entry
+  Drops : (line node : ℕ) (why : Why) → Entry
+  Causes : (line node : ℕ) (cause : Cause) → Entry
+
+abbrev pub entry_text : Entry → List ℕ
+entry_text (Sends line packet from to bytes) = send_text line packet from to bytes
+entry_text (HandsUp line node session birth side frame) = up_text line node session birth side frame
+entry_text (Drops line node why) = drop_text line node why
+entry_text (Causes line node cause) = cause_text line node cause
+
+abbrev pub entries_text : List Entry → List ℕ
+entries_text entries = flat_map entry_text entries

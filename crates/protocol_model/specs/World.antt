@@ -1,5 +1,6 @@
 -- The world: nodes, and every packet that was ever sent.
-use Rattle.std.specs.Prelude.{ℕ, ◌+◌, ◌-◌, ◌^◌, min, List, [], ◌∷◌, ◌++◌, length, Bool, true, false, not, ◌==◌, ◌&&◌, if◌then◌else◌, slice_get, Option, Some, None, is_some, unwrap_or, Result, Ok, Err}
+use Rattle.std.specs.Prelude.{ℕ, ◌+◌, ◌-◌, ◌^◌, min, List, [], ◌∷◌, ◌++◌, map, length, Bool, true, false, not, ◌==◌, if◌then◌else◌, slice_get, Option, Some, None, is_some, unwrap_or, Result, Ok, Err}
+use Rattle.byteorder.specs.Endian.{big_bytes}
 use Rattle.id_table.specs.Ids.{at, put}
 use Rattle.wire_base.specs.declared.why.Why.{Why}
 use Rattle.wire_base.specs.declared.why.Why.TheVariants as why
@@ -14,12 +15,13 @@ use Rattle.protocol_model.specs.declared.out.Out.{Out}
 use Rattle.protocol_model.specs.declared.out.Out.TheVariants.{Send, Up, Drop, Cause}
 use Rattle.protocol_model.specs.declared.out.Origin.{Origin}
 use Rattle.protocol_model.specs.declared.out.Origin.TheVariants.{Control, Data}
-use Rattle.protocol_model.specs.declared.out.Note.{Note}
-use Rattle.protocol_model.specs.declared.out.Note.TheVariants.{Drew, Learned, Put, Took, Born, Made}
+use Rattle.protocol_model.specs.declared.moves.Move.{Move}
+use Rattle.protocol_model.specs.declared.moves.Move.TheVariants as move
 use Rattle.protocol_model.specs.declared.packet.Packet.{Packet}
 use Rattle.protocol_model.specs.Names.{address_of, node_of}
-use Rattle.protocol_model.specs.End.{End, Stepped, is_lac, step, new_end}
-use Rattle.protocol_model.specs.Texts.{send_text, up_text, drop_text, cause_text}
+use Rattle.protocol_model.specs.Calls.{is_lac}
+use Rattle.protocol_model.specs.End.{End, Stepped, step, new_end}
+use Rattle.protocol_model.specs.Texts.{Entry, Sends, HandsUp, Drops, Causes}
 
 -- an end, with the births of its calls by local session id
 pub record Node : Type 0 where
@@ -36,11 +38,35 @@ pub record World : Type 0 where
   pub delivered : List (ℕ × ℕ)
   -- how many calls were born
   pub born : ℕ
-  -- the report so far
-  pub report : List ℕ
 
 abbrev pub empty_world : World
-empty_world = record { nodes = []; packets = []; queued = []; delivered = []; born = 0; report = [] }
+empty_world = record { nodes = []; packets = []; queued = []; delivered = []; born = 0 }
+
+-- the tunnel that sent what a step took, by its node and its local id
+pub record Sender : Type 0 where
+  pub node : ℕ
+  pub tunnel : ℕ
+
+-- what was done in a line: a move of a node
+pub record Deed : Type 0 where
+  pub line : ℕ
+  pub node : ℕ
+  pub role : Role
+  -- of the packet that was delivered, where a tunnel sent it
+  pub sender : Option Sender
+  -- the birth of the call that the move is about, as the line leaves it; 0 where it is about none
+  pub birth : ℕ
+  pub move : Move
+
+-- what a line leads to: the next world, the entries of the report that it makes, and what was done, in order
+pub record Lined : Type 0 where
+  pub world : World
+  pub entries : List Entry
+  pub done : List Deed
+
+-- a line in which nothing is done
+abbrev pub quiet_line : World → Lined
+quiet_line w = record { world = w; entries = []; done = [] }
 
 abbrev pub count_at : List (ℕ × ℕ) → ℕ → ℕ
 count_at counts n = unwrap_or (at counts n) 0
@@ -48,26 +74,6 @@ count_at counts n = unwrap_or (at counts n) 0
 -- one more, up to the last number of 64 bits
 unfoldable pub counted : List (ℕ × ℕ) → ℕ → List (ℕ × ℕ)
 counted counts n = put counts n (min (count_at counts n + 1) (2 ^ 64 - 1))
-
--- ---- what a step gives to the world
-
--- an acknowledgement alone, and a frame, has no attribute value pairs
-abbrev pub has_pairs : Origin → Bool
-has_pairs (Control tunnel ns nr empty) = not empty
-has_pairs (Data session) = false
-
-abbrev pub place_of : List (ℕ × ℕ) → ℕ → Origin → Option ℕ
-place_of counts to origin = if has_pairs origin then Some (count_at counts to) else None
-
-unfoldable pub sent : World → ℕ → ℕ → ℕ → List ℕ → Origin → World
-sent w line from to bytes origin = record w {
-  packets = w.packets ++ record { from = from; to = to; bytes = bytes; origin = origin; place = place_of w.queued to origin } ∷ [];
-  queued = if has_pairs origin then counted w.queued to else w.queued;
-  report = w.report ++ send_text line (length w.packets + 1) from to bytes;
-}
-
-unfoldable pub told : World → List ℕ → World
-told w text = record w { report = w.report ++ text }
 
 -- ---- births
 
@@ -93,34 +99,81 @@ with_birth w n session birth = with_birth_at w n session birth (at w.nodes n)
 unfoldable pub is_born : World → ℕ → ℕ → World
 is_born w n session = let birth = min (w.born + 1) (2 ^ 64 - 1) in with_birth (record w { born = birth }) n session birth
 
--- a call that an LNS makes has the birth of the call that its request names
-unfoldable pub noted : ℕ → World → Note → World
-noted n w (Born session) = is_born w n session
-noted n w (Made session peer remote) = with_birth w n session (birth_of w (node_of peer) remote)
-noted n w (Drew tunnel) = w
-noted n w (Learned tunnel remote) = w
-noted n w (Put tunnel session message) = w
-noted n w (Took tunnel) = w
+-- a call that is added is born; one that is made for a request has the birth of the call that the request names
+unfoldable pub moved : ℕ → World → Move → World
+moved n w (move.Added m) = is_born w n m.session
+moved n w (move.Replied m) = with_birth w n m.session (birth_of w (node_of m.peer) m.remote)
+moved n w m = w
 
-unfoldable pub noted_all : ℕ → List Note → World → World
-noted_all n [] w = w
-noted_all n (x ∷ xs) w = noted_all n xs (noted n w x)
+unfoldable pub moved_all : ℕ → List Move → World → World
+moved_all n [] w = w
+moved_all n (m ∷ ms) w = moved_all n ms (moved n w m)
 
--- ---- what a step gives to the report
+-- the session of the call that a move is about
+abbrev pub session_of : Move → Option ℕ
+session_of (move.Added m) = Some m.session
+session_of (move.Requested m) = Some m.session
+session_of (move.Replied m) = Some m.session
+session_of (move.FirstUp m) = Some m.session
+session_of (move.SecondUp m) = Some m.session
+session_of (move.FrameSent m) = Some m.session
+session_of (move.FrameUp m) = Some m.session
+session_of m = None
 
--- an output of a node's step in a line
-unfoldable pub shown : ℕ → ℕ → World → Out → World
-shown line n w (Send peer bytes origin) = sent w line n (node_of peer) bytes origin
-shown line n w (Up session side frame) = told w (up_text line n session (birth_of w n session) side frame)
-shown line n w (Drop x) = told w (drop_text line n x)
-shown line n w (Cause x) = told w (cause_text line n x)
+abbrev pub birth_about : World → ℕ → Option ℕ → ℕ
+birth_about w n None = 0
+birth_about w n (Some session) = birth_of w n session
 
-unfoldable pub shown_all : ℕ → ℕ → List Out → World → World
-shown_all line n [] w = w
-shown_all line n (o ∷ os) w = shown_all line n os (shown line n w o)
+abbrev pub deed_of : World → ℕ → ℕ → Role → Option Sender → Move → Deed
+deed_of w line n r sender m = record { line = line; node = n; role = r; sender = sender; birth = birth_about w n (session_of m); move = m }
 
-unfoldable pub after_step : World → ℕ → ℕ → Node → Stepped → World
-after_step w line n node s = shown_all line n s.outputs (noted_all n s.notes (with_node w n (record node { end = s.end })))
+-- ---- what a step gives to the outside
+
+-- an acknowledgement alone, and a frame, has no attribute value pairs
+abbrev pub has_pairs : Origin → Bool
+has_pairs (Control c) = not c.empty
+has_pairs (Data session) = false
+
+abbrev pub place_of : List (ℕ × ℕ) → ℕ → Origin → Option ℕ
+place_of counts to origin = if has_pairs origin then Some (count_at counts to) else None
+
+unfoldable pub sent : World → ℕ → ℕ → List ℕ → Origin → World
+sent w from to bytes origin = record w {
+  packets = w.packets ++ record { from = from; to = to; bytes = bytes; origin = origin; place = place_of w.queued to origin } ∷ [];
+  queued = if has_pairs origin then counted w.queued to else w.queued;
+}
+
+-- an output of a node's step: what it does to the world, and the entry of the report that it makes in a line
+unfoldable pub shown : ℕ → World → Out → World
+shown n w (Send peer bytes origin) = sent w n (node_of peer) bytes origin
+shown n w (Up session side frame) = w
+shown n w (Drop x) = w
+shown n w (Cause x) = w
+
+unfoldable pub entry_of : ℕ → ℕ → World → Out → Entry
+entry_of line n w (Send peer bytes origin) = Sends line (length w.packets + 1) n (node_of peer) bytes
+entry_of line n w (Up session side frame) = HandsUp line n session (birth_of w n session) side frame
+entry_of line n w (Drop x) = Drops line n x
+entry_of line n w (Cause x) = Causes line n x
+
+unfoldable pub shown_all : ℕ → List Out → World → World
+shown_all n [] w = w
+shown_all n (o ∷ os) w = shown_all n os (shown n w o)
+
+unfoldable pub entries_of : ℕ → ℕ → List Out → World → List Entry
+entries_of line n [] w = []
+entries_of line n (o ∷ os) w = entry_of line n w o ∷ entries_of line n os (shown n w o)
+
+-- what a step gives, in the world that its moves lead to
+unfoldable pub given : World → ℕ → ℕ → Role → Option Sender → Stepped → Lined
+given w line n r sender s = record {
+  world = shown_all n s.outputs w;
+  entries = entries_of line n s.outputs w;
+  done = map (λ m. deed_of w line n r sender m) s.moves;
+}
+
+unfoldable pub after_step : World → ℕ → ℕ → Node → Option Sender → Stepped → Lined
+after_step w line n node sender s = given (moved_all n s.moves (with_node w n (record node { end = s.end }))) line n node.end.role sender s
 
 -- ---- which lines fit
 
@@ -132,11 +185,11 @@ declared (Some node) = Ok node
 -- a node that is a LAC, and one that is an LNS
 abbrev pub lac_at : Option Node → Result Node Why
 lac_at None = Err why.Node
-lac_at (Some node) = if is_lac node.end.config.role then Ok node else Err why.Node
+lac_at (Some node) = if is_lac node.end.role then Ok node else Err why.Node
 
 abbrev pub lns_at : Option Node → Result Node Why
 lns_at None = Err why.Node
-lns_at (Some node) = if is_lac node.end.config.role then Err why.Node else Ok node
+lns_at (Some node) = if is_lac node.end.role then Err why.Node else Ok node
 
 -- a node with a live call
 abbrev pub with_call : ℕ → Result Node Why → Result Node Why
@@ -145,12 +198,21 @@ with_call session (Ok node) = if is_some (at node.end.calls session) then Ok nod
 
 -- ---- the lines
 
-unfoldable pub added : World → ℕ → Config → Result World Why
-added w n c = if is_some (at w.nodes n) then Err why.Twice else Ok (with_node w n (record { end = new_end c; births = [] }))
+-- the configuration of a node without a secret
+abbrev pub config_of : ℕ → ℕ → Config
+config_of n lns = record { number = n; address = address_of n; lns = lns; secret = None; hide = false }
 
-unfoldable pub stepped : World → ℕ → ℕ → Event → Result Node Why → Result World Why
-stepped w line n e (Err x) = Err x
-stepped w line n e (Ok node) = Ok (after_step w line n node (step node.end e))
+unfoldable pub added : World → ℕ → Role → ℕ → Result Lined Why
+added w n r lns = if is_some (at w.nodes n) then Err why.Twice else Ok (quiet_line (with_node w n (record { end = new_end r (config_of n lns); births = [] })))
+
+-- the random bytes of a step: the node, and the line, in 8 bytes each
+unfoldable pub block_of : ℕ → ℕ → List ℕ
+block_of n line = big_bytes 8 n ++ big_bytes 8 line
+
+-- no clock goes on yet
+unfoldable pub stepped : World → ℕ → ℕ → Event → Option Sender → Result Node Why → Result Lined Why
+stepped w line n e sender (Err x) = Err x
+stepped w line n e sender (Ok node) = Ok (after_step w line n node sender (step node.end 0 (block_of n line) e))
 
 -- each message is delivered once, and those to one node in the order in which they were sent; the others as often as
 -- wanted
@@ -170,24 +232,28 @@ arrival w (Some p) =
     else if is_next w.delivered p.to p.place then Ok p
     else Err why.Order
 
-unfoldable pub arrives : World → ℕ → Packet → Result World Why
-arrives w line p =
-    stepped (marked (is_some p.place) p.to w) line p.to (event.Datagram (address_of p.from) p.bytes) (declared (at w.nodes p.to))
+abbrev pub sender_of : ℕ → Origin → Option Sender
+sender_of from (Control c) = Some (record { node = from; tunnel = c.tunnel })
+sender_of from (Data session) = None
 
-unfoldable pub delivers_it : World → ℕ → Result Packet Why → Result World Why
+unfoldable pub arrives : World → ℕ → Packet → Result Lined Why
+arrives w line p =
+    stepped (marked (is_some p.place) p.to w) line p.to (event.Datagram (address_of p.from) p.bytes) (sender_of p.from p.origin) (declared (at w.nodes p.to))
+
+unfoldable pub delivers_it : World → ℕ → Result Packet Why → Result Lined Why
 delivers_it w line (Err x) = Err x
 delivers_it w line (Ok p) = arrives w line p
 
-unfoldable pub delivers : World → ℕ → Option Packet → Result World Why
+unfoldable pub delivers : World → ℕ → Option Packet → Result Lined Why
 delivers w line p = delivers_it w line (arrival w p)
 
--- the world after a line with its number, or why the line doesn't fit
-unfoldable pub line : World → ℕ → Line → Result World Why
-line w number (Remark text) = Ok w
-line w number (Lac n m) = added w n (record { role = role.Lac; number = n; lns = address_of m })
-line w number (Lns n) = added w n (record { role = role.Lns; number = n; lns = 0 })
-line w number (OpenUp n) = stepped w number n event.OpenTunnel (lac_at (at w.nodes n))
-line w number (Ring n port) = stepped w number n (event.Ring port) (lac_at (at w.nodes n))
-line w number (FromSub n session frame) = stepped w number n (event.Payload session frame) (with_call session (lac_at (at w.nodes n)))
-line w number (Down n session frame) = stepped w number n (event.Lower session frame) (with_call session (lns_at (at w.nodes n)))
+-- what a line with its number leads to, or why the line doesn't fit
+unfoldable pub line : World → ℕ → Line → Result Lined Why
+line w number (Remark text) = Ok (quiet_line w)
+line w number (Lac n m) = added w n role.Lac (address_of m)
+line w number (Lns n) = added w n role.Lns 0
+line w number (OpenUp n) = stepped w number n event.OpenTunnel None (lac_at (at w.nodes n))
+line w number (Ring n port) = stepped w number n (event.Ring port) None (lac_at (at w.nodes n))
+line w number (FromSub n session frame) = stepped w number n (event.Payload session frame) None (with_call session (lac_at (at w.nodes n)))
+line w number (Down n session frame) = stepped w number n (event.Lower session frame) None (with_call session (lns_at (at w.nodes n)))
 line w number (Deliver p) = delivers w number (slice_get w.packets (p - 1))

@@ -1,6 +1,6 @@
 //! What comes to an end.
 
-use wire_base::Bytes;
+use wire_base::{Bytes, Why};
 
 /// What comes to an end.
 #[derive(Debug, Drop)]
@@ -15,4 +15,15 @@ pub enum Event {
     Lower { session: u16, frame: Bytes },
     /// An administrative open of a tunnel.
     OpenTunnel,
+}
+
+/// What a control message that comes is for.
+#[derive(Clone, Copy, Debug, PartialEq, Eq)]
+pub enum Addressee {
+    /// A tunnel that is to be made.
+    Opens,
+    /// The tunnel with this local id.
+    Main { tunnel: u16 },
+    /// None: the message is ignored.
+    Nobody { why: Why },
 }

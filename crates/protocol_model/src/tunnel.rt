@@ -1,6 +1,9 @@
 //! What an end is, and what it knows of a call.
 
-use call_fsm::CallState;
+use call_fsm::{CallEvent, CallState};
+use reliable_channel::Channel;
+use tunnel_fsm::TunnelState;
+use wire_base::{Bytes, Sequence};
 
 /// Which end of a tunnel a node is (RFC 2661 section 1.2).
 #[derive(Clone, Copy, Debug, PartialEq, Eq)]
@@ -11,24 +14,96 @@ pub enum Role {
     Lns,
 }
 
-/// What an end is told when it is made.
-#[derive(Clone, Copy, Debug, PartialEq, Eq)]
+/// What an end is told when it is made. Where `hide` is set there is a secret.
+#[derive(Debug, Drop)]
 pub struct Config {
-    pub role: Role,
     /// The node's number, which its host name ends with.
     pub number: u8,
+    /// The node's own IPv4 address, as a number.
+    pub address: u32,
     /// At a LAC the IPv4 address of its LNS, as a number; 0 at an LNS.
     pub lns: u32,
+    /// What both ends of a tunnel know (RFC 2661 section 5.1.1), 1 to 64 bytes.
+    pub secret: Option<Bytes>,
+    /// Whether calling numbers are hidden by the secret (RFC 2661 section 4.3).
+    pub hide: bool,
 }
 
-/// A call of an end (RFC 2661 section 1.2).
+/// The control part of a tunnel, apart from its calls and its letters.
+#[derive(Clone, Copy, Debug)]
+pub struct Control {
+    /// The id that this end assigned, 0 before it is drawn.
+    pub local: u16,
+    /// The other end's IPv4 address, as a number.
+    pub peer: u32,
+    /// The id that the other end assigned, 0 while it isn't known.
+    pub remote: u16,
+    pub state: TunnelState,
+    pub channel: Channel,
+}
+
+/// A row of a call's table that a call went through.
 #[derive(Clone, Copy, Debug, PartialEq, Eq)]
+pub struct CallStep {
+    pub state: CallState,
+    pub event: CallEvent,
+    pub next: CallState,
+}
+
+/// The rows that a call went through, in order.
+pub type CallSteps = Sequence<CallStep>;
+
+/// A call of an end (RFC 2661 section 1.2).
+#[derive(Debug, Drop)]
 pub struct Call {
-    /// The local id of the tunnel that carries it.
-    pub tunnel: u16,
     /// The session id that the other end assigned, 0 while it isn't known.
     pub remote: u16,
     pub state: CallState,
     /// The port that rings, at a LAC; 0 at an LNS.
     pub port: u16,
+    /// The rows that it went through since it was idle.
+    pub steps: CallSteps,
+}
+
+/// What the data plane sees of a session id.
+#[derive(Clone, Copy, Debug, PartialEq, Eq)]
+pub enum Look {
+    /// No call that the other end knows has it.
+    Unborn,
+    /// The other end knows the call, which isn't established yet.
+    Bound { tunnel: u16, peer: u32 },
+    /// The call is established.
+    Established { tunnel: u16, peer: u32 },
+    /// The call ended.
+    Dead,
+}
+
+/// What a step changes in the looks.
+#[derive(Clone, Copy, Debug, PartialEq, Eq)]
+pub enum CellChange {
+    /// The other end comes to know the call: it goes to this peer, in the tunnel with this local id.
+    Bind {
+        session: u16,
+        tunnel: u16,
+        peer: u32,
+    },
+    /// The call is established.
+    Establish {
+        session: u16,
+    },
+    /// The call ended.
+    Kill {
+        session: u16,
+    },
+}
+
+/// Changes of looks, in order.
+pub type CellChanges = Sequence<CellChange>;
+
+/// Where a live call is, and what the data plane sees of it.
+#[derive(Clone, Copy, Debug, PartialEq, Eq)]
+pub struct CallPlace {
+    /// The local id of its tunnel.
+    pub tunnel: u16,
+    pub look: Look,
 }

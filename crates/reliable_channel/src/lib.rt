@@ -68,6 +68,13 @@ impl Channel {
         self.sent < u64::MAX
     }
 
+    /// Whether one more message of the other end can be counted.
+    pub fn may_take(&self) -> bool
+        ensures { result ≡ may_count self.now.taken }
+    {
+        self.taken < u64::MAX
+    }
+
     /// Counts a message that is sent.
     pub fn send(&mut self)
         requires { IsTrue (may_count self.old.sent) }

@@ -1,32 +1,52 @@
 -- What the answers of the world say.
-use Rattle.std.specs.Prelude.{◌≡◌, Bool, true, false, Result, Ok, Err}
+use Rattle.std.specs.Prelude.{◌≡◌, ℕ, List, [], ◌++◌, Bool, true, false, Result, Ok, Err}
 use Rattle.wire_base.specs.declared.why.Why.{Why}
 use Rattle.wire_base.specs.declared.bytes.NoMemory.{NoMemory as OutOfMemory}
-use Rattle.protocol_model.specs.World.{World, empty_world}
+use Rattle.protocol_model.specs.Texts.{entries_text}
+use Rattle.protocol_model.specs.World.{World, Lined, empty_world}
+use Rattle.protocol_model.specs.Run.{tables}
 use Rattle.schedule_replay.specs.declared.fault.LineFault.{LineFault}
 use Rattle.schedule_replay.specs.declared.fault.LineFault.TheVariants.{Unfit, NoMemory}
 
--- the line's outcome is this: the new world, or the world as before and why the line doesn't fit
-abbrev pub Says : {T : Type 0} → Result T LineFault → Result World Why → World → World → Type 0
-Says (Ok x) outcome old new = outcome ≡ Ok new
+-- a world, with its report so far
+pub record Told : Type 0 where
+  pub world : World
+  pub report : List ℕ
+
+-- the line leads there: to its world, and the texts of its entries are behind the report
+pub record LeadsTo (l : Lined) (old new : Told) : Type 0 where
+  pub world : new.world ≡ l.world
+  pub report : new.report ≡ old.report ++ entries_text l.entries
+
+-- what the line leads to, where it fits
+abbrev pub Leads : Result Lined Why → Told → Told → Type 0
+Leads (Ok l) old new = LeadsTo l old new
+Leads (Err x) old new = ⊥
+
+-- the line's outcome is this, or the world is as before and this is why the line doesn't fit
+abbrev pub Says : {T : Type 0} → Result T LineFault → Result Lined Why → Told → Told → Type 0
+Says (Ok x) outcome old new = Leads outcome old new
 Says (Err (Unfit why)) outcome old new = (outcome ≡ Err why) × (new ≡ old)
 Says (Err NoMemory) outcome old new = Unit {0}
 
--- a world, and whether memory was wanting in it once: then its state says nothing any more
+-- a world with its report, and whether memory was wanting in it once: then its state says nothing any more
 pub record Known : Type 0 where
-  pub world : World
+  pub told : Told
   pub spent : Bool
 
+abbrev pub new_told : Told
+new_told = record { world = empty_world; report = [] }
+
 abbrev pub new_known : Known
-new_known = record { world = empty_world; spent = false }
+new_known = record { told = new_told; spent = false }
 
 -- the same, of a world that answers want of memory for ever once it has answered it
-abbrev pub WorldSays : {T : Type 0} → Result T LineFault → Result World Why → Known → Known → Type 0
-WorldSays (Ok x) outcome old new = (old.spent ≡ false) × (outcome ≡ Ok new.world) × (new.spent ≡ false)
+abbrev pub WorldSays : {T : Type 0} → Result T LineFault → Result Lined Why → Known → Known → Type 0
+WorldSays (Ok x) outcome old new = (old.spent ≡ false) × Leads outcome old.told new.told × (new.spent ≡ false)
 WorldSays (Err (Unfit why)) outcome old new = (old.spent ≡ false) × (outcome ≡ Err why) × (new ≡ old)
 WorldSays (Err NoMemory) outcome old new = new.spent ≡ true
 
--- the new world is this
-abbrev pub Becomes : {T : Type 0} → Result T OutOfMemory → World → Known → Known → Type 0
-Becomes (Ok x) world old new = (old.spent ≡ false) × (new.world ≡ world) × (new.spent ≡ false)
-Becomes (Err e) world old new = new.spent ≡ true
+-- the tables are behind the report
+abbrev pub Finishes : {T : Type 0} → Result T OutOfMemory → Known → Known → Type 0
+Finishes (Ok x) old new = (old.spent ≡ false) × (new.told ≡ record old.told { report = old.told.report ++ tables old.told.world }) × (new.spent ≡ false)
+Finishes (Err e) old new = new.spent ≡ true

@@ -2,11 +2,12 @@
 
 ghost use Rattle.std.specs.Prelude.{◌≡◌, [], OnOk};
 ghost use Rattle.id_table.specs.Ids.{put};
-ghost use Rattle.protocol_model.specs.End.{new_end, is_lac};
-ghost use Rattle.protocol_model.specs.World.{count_at};
+ghost use Rattle.protocol_model.specs.Calls.{is_lac};
+ghost use Rattle.protocol_model.specs.End.{new_end};
+ghost use Rattle.protocol_model.specs.World.{config_of, count_at};
 
 use id_table::Table;
-use protocol_model::{Config, Role};
+use protocol_model::{Config, Role, address_of};
 use std::alloc::Global;
 use std::marker::Model;
 use tunnel_core::End;
@@ -24,42 +25,48 @@ impl Model for Node {
 
     ghost Value = { Known };
 
-    ghost view = { λ n. record { end = n.end; births = n.births } };
+    ghost view = { λ n. record { end = n.end; births = n.births.entries } };
+}
+
+/// The configuration of a node without a secret.
+pub(crate) fn config_of(number: u8, lns: u32) -> Config
+    ensures { result ≡ config_of number lns }
+{
+    Config {
+        number,
+        address: address_of(number),
+        lns,
+        secret: None,
+        hide: false,
+    }
 }
 
 /// How often something was counted, or which number something has, for an id; 0 where there is none.
 pub(crate) fn count_at(counts: &Table<u64>, id: u32) -> u64
-    ensures { result ≡ count_at counts.now id }
+    ensures { result ≡ count_at counts.now.entries id }
 {
     counts.get(id).copied().unwrap_or(0)
 }
 
 impl Node {
-    pub(crate) fn new(alloc: Global, config: Config) -> Node
-        ensures { result ≡ record { end = new_end config; births = [] } }
+    pub(crate) fn new(alloc: Global, role: Role, config: Config) -> Node
+        ensures { result ≡ record { end = new_end role config; births = [] } }
     {
         Node {
-            end: End::new(alloc, config),
+            end: End::new(alloc, role, config),
             births: Table::new(alloc),
         }
     }
 
     /// What stands at a node's place while it takes a step.
     pub(crate) fn vacant(alloc: Global) -> Node {
-        Node::new(
-            alloc,
-            Config {
-                role: Role::Lns,
-                number: 0,
-                lns: 0,
-            },
-        )
+        Node::new(alloc, Role::Lns, config_of(0, 0))
     }
 
     pub(crate) fn is_lac(&self) -> bool
-        ensures { result ≡ is_lac self.now.end.config.role }
+        ensures { result ≡ is_lac self.now.end.role }
     {
-        self.end.config().role == Role::Lac
+        self.end.role() == Role::Lac
     }
 
     /// The call with this local session is of this birth.

@@ -22,7 +22,7 @@ pub struct Replayed {
 
 /// The report of a world whose next line doesn't fit.
 fn report_unfit(alloc: Global, world: &World, line: u64, why: Why) -> Result<Replayed, NoMemory>
-    ensures report { IfOk result (λ r. r.report ≡ world.now.world.report ++ unfit_text line why) }
+    ensures report { IfOk result (λ r. r.report ≡ world.now.told.report ++ unfit_text line why) }
     ensures fault { IfOk result (λ r. r.fault ≡ Some (line, why)) }
 {
     let mut report = Bytes::from_slice(alloc, world.report())?;

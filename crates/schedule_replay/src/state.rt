@@ -1,18 +1,20 @@
 //! The world's state, and what a line does to it.
 
-ghost use Rattle.std.specs.Prelude.{◌≡◌, [], ◌∷◌, ◌++◌, OnOk, IfOk, MatchResult, IsSome, slice_get, Ok, Err};
+ghost use Rattle.std.specs.Prelude.{◌≡◌, [], ◌∷◌, ◌++◌, OnOk, IfOk, MatchResult, IsSome, is_some, slice_get, Ok, Err, None, Option};
 ghost use Rattle.id_table.specs.Ids.{at};
-ghost use Rattle.protocol_model.specs.World.{empty_world, counted, has_pairs, sent, told, birth_of, with_birth, is_born, noted, noted_all, shown, shown_all, declared, lac_at, lns_at, with_call, added, stepped, is_next, marked, arrival, delivers, line as line_of};
-ghost use Rattle.protocol_model.specs.Run.{finished};
-ghost use Rattle.schedule_replay.specs.Fault.{Says};
+ghost use Rattle.protocol_model.specs.Texts.{entry_text, entries_text};
+ghost use Rattle.protocol_model.specs.World.{Sender, counted, has_pairs, sent, birth_of, with_birth, is_born, moved, moved_all, shown, shown_all, entry_of, entries_of, declared, lac_at, lns_at, with_call, added, block_of, stepped, is_next, marked, arrival, sender_of, delivers, line as line_of};
+ghost use Rattle.protocol_model.specs.Run.{tables};
+ghost use Rattle.schedule_replay.specs.Fault.{new_told, Leads, Says};
 ghost use Rattle.schedule_replay.specs.declared.fault.LineFault.TheVariants.{NoMemory as Wanting};
 
 use crate::fault::LineFault;
-use crate::node::{Node, count_at};
+use crate::node::{Node, config_of, count_at};
 use crate::tables::{agreement_table, end_table};
 use crate::texts::{cause_text, drop_text, send_text, up_text};
+use byteorder::{BigEndian, ByteOrder};
 use id_table::Table;
-use protocol_model::{Config, Event, Note, Origin, Out, Packet, Role, address_of, node_of};
+use protocol_model::{Event, Move, Origin, Out, Packet, Role, address_of, node_of};
 use schedule_text::Line;
 use std::alloc::Global;
 use std::marker::Model;
@@ -31,16 +33,16 @@ pub(crate) struct State {
 }
 
 impl Model for State {
-    ghost use Rattle.protocol_model.specs.World.{World as Known};
+    ghost use Rattle.schedule_replay.specs.Fault.{Told};
 
-    ghost Value = { Known };
+    ghost Value = { Told };
 
-    ghost view = { λ w. record { nodes = w.nodes; packets = w.packets; queued = w.queued; delivered = w.delivered; born = w.born; report = w.report } };
+    ghost view = { λ w. record { world = record { nodes = w.nodes.entries; packets = w.packets; queued = w.queued.entries; delivered = w.delivered.entries; born = w.born }; report = w.report } };
 }
 
 #[tactic(auto, unfolding(protocol_model::specs::World::counted))]
 fn count_up(counts: &mut Table<u64>, node: u8) -> Result<(), NoMemory>
-    ensures { OnOk result (counts.new ≡ counted counts.old node) }
+    ensures { OnOk result (counts.new.entries ≡ counted counts.old.entries node) }
 {
     let count = count_at(counts, u32::from(node));
     counts.insert(u32::from(node), count.saturating_add(1))
@@ -48,7 +50,7 @@ fn count_up(counts: &mut Table<u64>, node: u8) -> Result<(), NoMemory>
 
 /// Whether a packet is the next one for its node, where it has attribute value pairs.
 fn is_next(delivered: &Table<u64>, packet: &Packet) -> bool
-    ensures { result ≡ is_next delivered.now packet.now.to packet.now.place }
+    ensures { result ≡ is_next delivered.now.entries packet.now.to packet.now.place }
 {
     match packet.place {
         None => true,
@@ -61,14 +63,14 @@ fn has_pairs(origin: &Origin) -> bool
     ensures { result ≡ has_pairs origin.now }
 {
     match origin {
-        Origin::Control { empty, .. } => !*empty,
+        Origin::Control(control) => !control.empty,
         Origin::Data { .. } => false,
     }
 }
 
 impl State {
     pub(crate) fn new(alloc: Global) -> State
-        ensures { result ≡ empty_world }
+        ensures { result ≡ new_told }
     {
         State {
             alloc,
@@ -88,28 +90,19 @@ impl State {
         self.report.as_slice()
     }
 
-    #[tactic(auto, unfolding(protocol_model::specs::World::told))]
     fn tell(&mut self, text: &Bytes) -> Result<(), NoMemory>
-        ensures { OnOk result (self.new ≡ told self.old text.now) }
+        ensures world { self.new.world ≡ self.old.world }
+        ensures report { OnOk result (self.new.report ≡ self.old.report ++ text.now) }
     {
         self.report.push_slice(text.as_slice())
     }
 
-    /// A datagram that a node sent, in a line.
+    /// A datagram that a node sent.
     #[tactic(auto, unfolding(protocol_model::specs::World::sent))]
-    fn send(
-        &mut self,
-        line: u64,
-        from: u8,
-        to: u8,
-        bytes: &[u8],
-        origin: Origin,
-    ) -> Result<(), NoMemory>
-        ensures { OnOk result (self.new ≡ sent self.old line from to bytes.now origin) }
+    fn send(&mut self, from: u8, to: u8, bytes: &[u8], origin: Origin) -> Result<(), NoMemory>
+        ensures world { OnOk result (self.new.world ≡ sent self.old.world from to bytes.now origin) }
+        ensures report { self.new.report ≡ self.old.report }
     {
-        let number = self.packets.as_slice().len() as u64 + 1;
-        let text = send_text(self.alloc, line, number, from, to, bytes)?;
-        self.report.push_slice(text.as_slice())?;
         let place = if has_pairs(&origin) {
             Some(count_at(&self.queued, u32::from(to)))
         } else {
@@ -128,24 +121,30 @@ impl State {
         Ok(())
     }
 
-    /// An output of a node's step, in a line.
-    #[tactic(auto, unfolding(protocol_model::specs::World::shown))]
-    fn show(&mut self, line: u64, node: u8, out: &Out) -> Result<(), NoMemory>
-        ensures { OnOk result (self.new ≡ shown line node self.old out.now) }
+    /// The text of the entry that an output makes in a line.
+    #[tactic(auto, unfolding(protocol_model::specs::World::entry_of))]
+    fn text_of(&self, line: u64, node: u8, out: &Out) -> Result<Bytes, NoMemory>
+        ensures { IfOk result (λ text. text ≡ entry_text (entry_of line node self.now.world out.now)) }
     {
         match out {
-            Out::Send {
-                peer,
-                bytes,
-                origin,
-            } => self.send(line, node, node_of(*peer), bytes.as_slice(), *origin),
+            Out::Send { peer, bytes, .. } => {
+                let number = self.packets.as_slice().len() as u64 + 1;
+                send_text(
+                    self.alloc,
+                    line,
+                    number,
+                    node,
+                    node_of(*peer),
+                    bytes.as_slice(),
+                )
+            }
             Out::Up {
                 session,
                 side,
                 frame,
             } => {
                 let birth = self.birth_of(node, *session);
-                self.tell(&up_text(
+                up_text(
                     self.alloc,
                     line,
                     node,
@@ -153,16 +152,36 @@ impl State {
                     birth,
                     *side,
                     frame.as_slice(),
-                )?)
+                )
             }
-            Out::Drop { why } => self.tell(&drop_text(self.alloc, line, node, *why)?),
-            Out::Cause { cause } => self.tell(&cause_text(self.alloc, line, node, *cause)?),
+            Out::Drop { why } => drop_text(self.alloc, line, node, *why),
+            Out::Cause { cause } => cause_text(self.alloc, line, node, *cause),
         }
     }
 
-    #[tactic(auto, unfolding(protocol_model::specs::World::shown_all))]
+    /// An output of a node's step, in a line.
+    #[tactic(auto, unfolding(protocol_model::specs::World::shown))]
+    fn show(&mut self, line: u64, node: u8, out: &Out) -> Result<(), NoMemory>
+        ensures world { OnOk result (self.new.world ≡ shown node self.old.world out.now) }
+        ensures report { OnOk result (self.new.report ≡ self.old.report ++ entry_text (entry_of line node self.old.world out.now)) }
+    {
+        let text = self.text_of(line, node, out)?;
+        self.tell(&text)?;
+        if let Out::Send {
+            peer,
+            bytes,
+            origin,
+        } = out
+        {
+            self.send(node, node_of(*peer), bytes.as_slice(), *origin)?;
+        }
+        Ok(())
+    }
+
+    #[tactic(auto, unfolding(protocol_model::specs::World::shown_all, protocol_model::specs::World::entries_of))]
     fn show_all(&mut self, line: u64, node: u8, outputs: &[Out]) -> Result<(), NoMemory>
-        ensures { OnOk result (self.new ≡ shown_all line node outputs.now self.old) }
+        ensures world { OnOk result (self.new.world ≡ shown_all node outputs.now self.old.world) }
+        ensures report { OnOk result (self.new.report ≡ self.old.report ++ entries_text (entries_of line node outputs.now self.old.world)) }
     {
         for out in outputs {
             self.show(line, node, out)?;
@@ -173,7 +192,7 @@ impl State {
     /// The birth of a node's call, 0 where there is none.
     #[tactic(auto, unfolding(protocol_model::specs::World::birth_of))]
     fn birth_of(&self, node: u8, session: u16) -> u64
-        ensures { result ≡ birth_of self.now node session }
+        ensures { result ≡ birth_of self.now.world node session }
     {
         match self.nodes.get(u32::from(node)) {
             Some(node) => count_at(&node.births, u32::from(session)),
@@ -184,7 +203,8 @@ impl State {
     /// A node's call is of this birth.
     #[tactic(auto, using(id_table::specs::Ids::put_put_is), unfolding(protocol_model::specs::World::with_birth))]
     fn set_birth(&mut self, node: u8, session: u16, birth: u64) -> Result<(), NoMemory>
-        ensures { OnOk result (self.new ≡ with_birth self.old node session birth) }
+        ensures world { OnOk result (self.new.world ≡ with_birth self.old.world node session birth) }
+        ensures report { self.new.report ≡ self.old.report }
     {
         let number = u32::from(node);
         if !self.nodes.contains(number) {
@@ -199,74 +219,71 @@ impl State {
     /// A call is born at a node.
     #[tactic(auto, unfolding(protocol_model::specs::World::is_born))]
     fn bear(&mut self, node: u8, session: u16) -> Result<(), NoMemory>
-        ensures { OnOk result (self.new ≡ is_born self.old node session) }
+        ensures world { OnOk result (self.new.world ≡ is_born self.old.world node session) }
+        ensures report { self.new.report ≡ self.old.report }
     {
         self.born = self.born.saturating_add(1);
         self.set_birth(node, session, self.born)
     }
 
-    /// What a node's step did.
-    #[tactic(auto, unfolding(protocol_model::specs::World::noted))]
-    fn note(&mut self, node: u8, note: &Note) -> Result<(), NoMemory>
-        ensures { OnOk result (self.new ≡ noted node self.old note.now) }
+    /// A move of a node: it may give a birth to a call.
+    #[tactic(auto, unfolding(protocol_model::specs::World::moved))]
+    fn follow(&mut self, node: u8, done: &Move) -> Result<(), NoMemory>
+        ensures world { OnOk result (self.new.world ≡ moved node self.old.world done.now) }
+        ensures report { self.new.report ≡ self.old.report }
     {
-        match note {
-            Note::Born { session } => self.bear(node, *session),
-            Note::Made {
-                session,
-                peer,
-                remote,
-            } => {
-                let birth = self.birth_of(node_of(*peer), *remote);
-                self.set_birth(node, *session, birth)
+        match done {
+            Move::Added(added) => self.bear(node, added.session),
+            Move::Replied(replied) => {
+                let birth = self.birth_of(node_of(replied.peer), replied.remote);
+                self.set_birth(node, replied.session, birth)
             }
-            Note::Drew { .. } | Note::Learned { .. } | Note::Put { .. } | Note::Took { .. } => Ok(
-                (),
-            ),
+            _ => Ok(()),
         }
     }
 
-    #[tactic(auto, unfolding(protocol_model::specs::World::noted_all))]
-    fn note_all(&mut self, node: u8, notes: &[Note]) -> Result<(), NoMemory>
-        ensures { OnOk result (self.new ≡ noted_all node notes.now self.old) }
+    #[tactic(auto, unfolding(protocol_model::specs::World::moved_all))]
+    fn follow_all(&mut self, node: u8, moves: &[Move]) -> Result<(), NoMemory>
+        ensures world { OnOk result (self.new.world ≡ moved_all node moves.now self.old.world) }
+        ensures report { self.new.report ≡ self.old.report }
     {
-        for note in notes {
-            self.note(node, note)?;
+        for done in moves {
+            self.follow(node, done)?;
         }
         Ok(())
     }
 
-    /// A node's step on an event, in a line.
-    #[tactic(auto, using(id_table::specs::Ids::put_put_is), unfolding(protocol_model::specs::World::stepped, protocol_model::specs::World::after_step))]
-    fn step(&mut self, line: u64, node: u8, event: Event) -> Result<(), NoMemory>
-        requires { IsSome (at self.old.nodes node) }
-        ensures { OnOk result (stepped self.old line node event (declared (at self.old.nodes node)) ≡ Ok self.new) }
+    /// A node's step on an event, in a line. No clock goes on yet.
+    #[tactic(auto, using(id_table::specs::Ids::put_put_is), unfolding(protocol_model::specs::World::stepped, protocol_model::specs::World::after_step, protocol_model::specs::World::given))]
+    fn step(&mut self, line: u64, node: u8, event: &Event) -> Result<(), NoMemory>
+        requires { IsSome (at self.old.world.nodes node) }
+        ensures { OnOk result (Leads (stepped self.old.world line node event.now None (declared (at self.old.world.nodes node))) self.old self.new) }
     {
         let number = u32::from(node);
         let mut at = self.nodes.swap(number, Node::vacant(self.alloc));
-        let given = at.end.step(event)?;
+        let given = at.end.step(0, block_of(node, line), event)?;
         self.nodes.replace(number, at);
-        self.note_all(node, given.notes.as_slice())?;
+        self.follow_all(node, given.moves.as_slice())?;
         self.show_all(line, node, given.outputs.as_slice())
     }
 
     /// A new node.
     #[tactic(auto, unfolding(protocol_model::specs::World::added))]
-    fn add(&mut self, node: u8, config: Config) -> Result<(), LineFault>
-        ensures { Says result (added self.old node config) self.old self.new }
+    fn add(&mut self, node: u8, role: Role, lns: u32) -> Result<(), LineFault>
+        ensures { Says result (added self.old.world node role lns) self.old self.new }
     {
         if self.nodes.contains(u32::from(node)) {
             return Err(LineFault::Unfit { why: Why::Twice });
         }
-        self.nodes
-            .insert(u32::from(node), Node::new(self.alloc, config))?;
+        let new = Node::new(self.alloc, role, config_of(node, lns));
+        self.nodes.insert(u32::from(node), new)?;
         Ok(())
     }
 
     /// An event of a LAC, in a line.
     #[tactic(auto, unfolding(protocol_model::specs::World::stepped))]
-    fn step_lac(&mut self, line: u64, node: u8, event: Event) -> Result<(), LineFault>
-        ensures { Says result (stepped self.old line node event (lac_at (at self.old.nodes node))) self.old self.new }
+    fn step_lac(&mut self, line: u64, node: u8, event: &Event) -> Result<(), LineFault>
+        ensures { Says result (stepped self.old.world line node event.now None (lac_at (at self.old.world.nodes node))) self.old self.new }
     {
         match self.nodes.get(u32::from(node)) {
             Some(at) if at.is_lac() => {
@@ -280,15 +297,15 @@ impl State {
     /// The subscriber of a LAC's call sends a frame, in a line.
     #[tactic(auto, unfolding(protocol_model::specs::World::stepped, protocol_model::specs::World::with_call))]
     fn send_up(&mut self, line: u64, node: u8, session: u16, frame: &Bytes) -> Result<(), LineFault>
-        ensures { Says result (stepped self.old line node (Event.Payload session frame.now) (with_call session (lac_at (at self.old.nodes node)))) self.old self.new }
+        ensures { Says result (stepped self.old.world line node (Event.Payload session frame.now) None (with_call session (lac_at (at self.old.world.nodes node)))) self.old self.new }
     {
         match self.nodes.get(u32::from(node)) {
             Some(at) if at.is_lac() => {
-                if !at.end.calls().contains(u32::from(session)) {
+                if !at.end.has_call(session) {
                     return Err(LineFault::Unfit { why: Why::Call });
                 }
                 let frame = Bytes::from_slice(self.alloc, frame.as_slice())?;
-                self.step(line, node, Event::Payload { session, frame })?;
+                self.step(line, node, &Event::Payload { session, frame })?;
                 Ok(())
             }
             _ => Err(LineFault::Unfit { why: Why::Node }),
@@ -304,15 +321,15 @@ impl State {
         session: u16,
         frame: &Bytes,
     ) -> Result<(), LineFault>
-        ensures { Says result (stepped self.old line node (Event.Lower session frame.now) (with_call session (lns_at (at self.old.nodes node)))) self.old self.new }
+        ensures { Says result (stepped self.old.world line node (Event.Lower session frame.now) None (with_call session (lns_at (at self.old.world.nodes node)))) self.old self.new }
     {
         match self.nodes.get(u32::from(node)) {
             Some(at) if !at.is_lac() => {
-                if !at.end.calls().contains(u32::from(session)) {
+                if !at.end.has_call(session) {
                     return Err(LineFault::Unfit { why: Why::Call });
                 }
                 let frame = Bytes::from_slice(self.alloc, frame.as_slice())?;
-                self.step(line, node, Event::Lower { session, frame })?;
+                self.step(line, node, &Event::Lower { session, frame })?;
                 Ok(())
             }
             _ => Err(LineFault::Unfit { why: Why::Node }),
@@ -322,8 +339,8 @@ impl State {
     /// A packet by its place, counted from 0, or why it can't be delivered.
     #[tactic(auto, unfolding(protocol_model::specs::World::arrival))]
     fn arrival(&self, place: usize) -> Result<&Packet, Why>
-        ensures exact { MatchResult result (λ p. arrival self.now (slice_get self.now.packets place) ≡ Ok p.now) (λ e. arrival self.now (slice_get self.now.packets place) ≡ Err e) }
-        ensures declared { IfOk result (λ p. IsSome (at self.now.nodes p.now.to)) }
+        ensures exact { MatchResult result (λ p. arrival self.now.world (slice_get self.now.world.packets place) ≡ Ok p.now) (λ e. arrival self.now.world (slice_get self.now.world.packets place) ≡ Err e) }
+        ensures declared { IfOk result (λ p. IsSome (at self.now.world.nodes p.now.to)) }
     {
         let Some(packet) = self.packets.lend(place) else {
             return Err(Why::Packet);
@@ -339,7 +356,8 @@ impl State {
 
     #[tactic(auto, unfolding(protocol_model::specs::World::marked))]
     fn mark(&mut self, counts: bool, node: u8) -> Result<(), NoMemory>
-        ensures { OnOk result (self.new ≡ marked counts node self.old) }
+        ensures world { OnOk result (self.new.world ≡ marked counts node self.old.world) }
+        ensures report { self.new.report ≡ self.old.report }
     {
         if counts {
             count_up(&mut self.delivered, node)?;
@@ -348,9 +366,9 @@ impl State {
     }
 
     /// A packet reaches its addressee, in a line.
-    #[tactic(auto, unfolding(protocol_model::specs::World::delivers, protocol_model::specs::World::delivers_it, protocol_model::specs::World::arrives, protocol_model::specs::World::marked))]
+    #[tactic(auto, unfolding(protocol_model::specs::World::delivers, protocol_model::specs::World::delivers_it, protocol_model::specs::World::arrives, protocol_model::specs::World::marked, protocol_model::specs::World::stepped, protocol_model::specs::World::after_step, protocol_model::specs::World::given))]
     fn deliver(&mut self, line: u64, place: usize) -> Result<(), LineFault>
-        ensures { Says result (delivers self.old line (slice_get self.old.packets place)) self.old self.new }
+        ensures { Says result (delivers self.old.world line (slice_get self.old.world.packets place)) self.old self.new }
     {
         let packet = match self.arrival(place) {
             Ok(packet) => packet,
@@ -361,35 +379,21 @@ impl State {
         let peer = address_of(packet.from);
         let bytes = Bytes::from_slice(self.alloc, packet.bytes.as_slice())?;
         self.mark(counts, node)?;
-        self.step(line, node, Event::Datagram { peer, bytes })?;
+        self.step(line, node, &Event::Datagram { peer, bytes })?;
         Ok(())
     }
 
     /// A line with its number, counted from 1.
     #[tactic(auto, unfolding(protocol_model::specs::World::line))]
     pub(crate) fn line(&mut self, number: u64, line: &Line) -> Result<(), LineFault>
-        ensures { Says result (line_of self.old number line.now) self.old self.new }
+        ensures { Says result (line_of self.old.world number line.now) self.old self.new }
     {
         match line {
             Line::Remark { .. } => Ok(()),
-            Line::Lac { node, lns } => self.add(
-                *node,
-                Config {
-                    role: Role::Lac,
-                    number: *node,
-                    lns: address_of(*lns),
-                },
-            ),
-            Line::Lns { node } => self.add(
-                *node,
-                Config {
-                    role: Role::Lns,
-                    number: *node,
-                    lns: 0,
-                },
-            ),
-            Line::OpenUp { node } => self.step_lac(number, *node, Event::OpenTunnel),
-            Line::Ring { node, port } => self.step_lac(number, *node, Event::Ring { port: *port }),
+            Line::Lac { node, lns } => self.add(*node, Role::Lac, address_of(*lns)),
+            Line::Lns { node } => self.add(*node, Role::Lns, 0),
+            Line::OpenUp { node } => self.step_lac(number, *node, &Event::OpenTunnel),
+            Line::Ring { node, port } => self.step_lac(number, *node, &Event::Ring { port: *port }),
             Line::FromSub {
                 node,
                 session,
@@ -405,13 +409,24 @@ impl State {
     }
 
     /// Appends the tables at the end.
-    #[tactic(auto, unfolding(protocol_model::specs::Run::finished))]
+    #[tactic(auto, unfolding(protocol_model::specs::Run::tables))]
     pub(crate) fn finish(&mut self) -> Result<(), NoMemory>
-        ensures { OnOk result (self.new ≡ finished self.old) }
+        ensures { OnOk result (self.new ≡ record self.old { report = self.old.report ++ tables self.old.world }) }
     {
-        let tunnels = end_table(self.alloc, &self.nodes)?;
+        let ends = end_table(self.alloc, &self.nodes)?;
         let agreements = agreement_table(self.alloc, &self.nodes)?;
-        self.tell(&tunnels)?;
+        self.tell(&ends)?;
         self.tell(&agreements)
     }
+}
+
+/// The random bytes of a step: the node, and the line, in 8 bytes each, the highest first.
+#[tactic(auto, unfolding(protocol_model::specs::World::block_of))]
+fn block_of(node: u8, line: u64) -> [u8; 16]
+    ensures { result ≡ block_of node line }
+{
+    let mut block = [0u8; 16];
+    BigEndian::write_u64(&mut block[..8], u64::from(node));
+    BigEndian::write_u64(&mut block[8..], line);
+    block
 }

@@ -6,9 +6,8 @@ ghost use Rattle.hex.specs.Hex.{encode_lower};
 ghost use Rattle.protocol_model.specs.Texts.{send_text, side_word, up_text, drop_text, cause_text};
 ghost use Rattle.protocol_model.specs.Run.{tunnel_text, call_text, agree_text, unfit_text};
 
-use protocol_model::{Call, node_of};
+use protocol_model::{Call, Control, node_of};
 use std::alloc::Global;
-use tunnel_core::Tunnel;
 use wire_base::{Bytes, Cause, NoMemory, Side, Why};
 
 /// Appends a number in decimal.
@@ -137,16 +136,16 @@ pub(crate) fn cause_text(
 
 /// A tunnel at the end of a run. No line crashes a node, so each tunnel is in epoch 0, current, and complete.
 #[tactic(auto, unfolding(protocol_model::specs::Run::tunnel_text))]
-pub(crate) fn tunnel_text(alloc: Global, node: u32, tunnel: &Tunnel) -> Result<Bytes, NoMemory>
+pub(crate) fn tunnel_text(alloc: Global, node: u32, tunnel: &Control) -> Result<Bytes, NoMemory>
     ensures { IfOk result (λ text. text ≡ tunnel_text node tunnel.now) }
 {
     let mut text = Bytes::from_slice(alloc, b"end")?;
     push_count(&mut text, u64::from(node))?;
     push_word(&mut text, b"tunnel")?;
-    push_count(&mut text, u64::from(tunnel.local()))?;
-    push_count(&mut text, u64::from(node_of(tunnel.peer())))?;
-    push_count(&mut text, u64::from(tunnel.remote()))?;
-    push_word(&mut text, tunnel.state().word())?;
+    push_count(&mut text, u64::from(tunnel.local))?;
+    push_count(&mut text, u64::from(node_of(tunnel.peer)))?;
+    push_count(&mut text, u64::from(tunnel.remote))?;
+    push_word(&mut text, tunnel.state.word())?;
     push_word(&mut text, b"0 current complete")?;
     text.push_slice(b"\n")?;
     Ok(text)
@@ -157,16 +156,17 @@ pub(crate) fn tunnel_text(alloc: Global, node: u32, tunnel: &Tunnel) -> Result<B
 pub(crate) fn call_text(
     alloc: Global,
     node: u32,
+    tunnel: u32,
     session: u32,
     call: &Call,
     birth: u64,
 ) -> Result<Bytes, NoMemory>
-    ensures { IfOk result (λ text. text ≡ call_text node session call.now birth) }
+    ensures { IfOk result (λ text. text ≡ call_text node tunnel session call.now birth) }
 {
     let mut text = Bytes::from_slice(alloc, b"end")?;
     push_count(&mut text, u64::from(node))?;
     push_word(&mut text, b"call")?;
-    push_count(&mut text, u64::from(call.tunnel))?;
+    push_count(&mut text, u64::from(tunnel))?;
     push_count(&mut text, u64::from(session))?;
     push_count(&mut text, u64::from(call.remote))?;
     push_word(&mut text, call.state.word())?;
@@ -180,17 +180,17 @@ pub(crate) fn call_text(
 pub(crate) fn agree_text(
     alloc: Global,
     node: u32,
-    tunnel: &Tunnel,
-    partner: &Tunnel,
+    tunnel: &Control,
+    partner: &Control,
     count: u64,
 ) -> Result<Bytes, NoMemory>
     ensures { IfOk result (λ text. text ≡ agree_text node tunnel.now partner.now count) }
 {
     let mut text = Bytes::from_slice(alloc, b"agree")?;
     push_count(&mut text, u64::from(node))?;
-    push_count(&mut text, u64::from(tunnel.local()))?;
-    push_count(&mut text, u64::from(node_of(tunnel.peer())))?;
-    push_count(&mut text, u64::from(partner.local()))?;
+    push_count(&mut text, u64::from(tunnel.local))?;
+    push_count(&mut text, u64::from(node_of(tunnel.peer)))?;
+    push_count(&mut text, u64::from(partner.local))?;
     push_count(&mut text, count)?;
     text.push_slice(b"\n")?;
     Ok(text)

@@ -2,8 +2,7 @@
 
 ghost use Rattle.std.specs.Prelude.{◌≡◌};
 ghost use Rattle.protocol_model.specs.World.{line as line_of};
-ghost use Rattle.protocol_model.specs.Run.{finished};
-ghost use Rattle.schedule_replay.specs.Fault.{new_known, WorldSays, Becomes};
+ghost use Rattle.schedule_replay.specs.Fault.{new_known, WorldSays, Finishes};
 
 use crate::fault::LineFault;
 use crate::state::State;
@@ -24,7 +23,7 @@ impl Model for World {
 
     ghost Value = { Known };
 
-    ghost view = { λ w. record { world = w.state; spent = w.spent } };
+    ghost view = { λ w. record { told = w.state; spent = w.spent } };
 }
 
 impl World {
@@ -40,7 +39,7 @@ impl World {
 
     /// Runs a line with its number, counted from 1, which the report tells.
     pub fn line(&mut self, number: u64, line: &Line) -> Result<(), LineFault>
-        ensures { WorldSays result (line_of self.old.world number line.now) self.old self.new }
+        ensures { WorldSays result (line_of self.old.told.world number line.now) self.old self.new }
     {
         if self.spent {
             return Err(LineFault::NoMemory);
@@ -52,7 +51,7 @@ impl World {
 
     /// Appends the tables at the end to the report.
     pub fn finish(&mut self) -> Result<(), NoMemory>
-        ensures { Becomes result (finished self.old.world) self.old self.new }
+        ensures { Finishes result self.old self.new }
     {
         if self.spent {
             return Err(NoMemory);
@@ -64,7 +63,7 @@ impl World {
 
     /// The report so far, in ASCII.
     pub fn report(&self) -> &[u8]
-        ensures { result.now ≡ self.now.world.report }
+        ensures { result.now ≡ self.now.told.report }
     {
         self.state.report()
     }

@@ -6,5 +6,5 @@ use Rattle.tunnel_core.specs.declared.end.Given.{Given}
 
 -- the step is this: the next end with what it gave, or the end as before, where memory was wanting
 abbrev pub GivesStep : Result Given NoMemory → Stepped → End → End → Type 0
-GivesStep (Ok g) s old new = s ≡ record { end = new; outputs = g.outputs; notes = g.notes }
+GivesStep (Ok g) s old new = s ≡ record { end = new; outputs = g.outputs; moves = g.moves }
 GivesStep (Err e) s old new = new ≡ old

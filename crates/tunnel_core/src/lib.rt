@@ -1,15 +1,19 @@
-//! One end of L2TP tunnels: each event is a step, which gives the next end, its outputs and its notes.
+//! One end of L2TP tunnels: each event is a step, which gives the next end, its outputs and its moves.
 //!
-//! A step works on a copy of what it may change and puts the copy back at its end by a call that takes no memory. So where
-//! memory is wanting, the end is as before.
+//! A tunnel's step is planned, and then made: the plan says what will change and makes all room for it, and what it then
+//! changes takes no memory. So where memory is wanting, the end is as before.
 #![tactic(auto)]
 
+mod calls;
 mod end;
+mod env;
+mod hearing;
+mod openings;
+mod places;
+mod planning;
 mod reading;
-mod tunnel;
 mod turn;
 
 pub use end::{End, Given};
-pub use protocol_model::{Call, Config, Event, Note, Origin, Out, Role};
-pub use tunnel::Tunnel;
-pub use turn::{Notes, Outputs};
+pub use env::{Env, Moves, Outputs};
+pub use planning::{Planned, TunnelCore};

@@ -8,9 +8,10 @@ pub returns-clause-frames : goal.returns-clause-frames
 returns-clause-frames g c = λ text lines h.
     let fits = (c.lines_are_a_schedule.ensures text lines h).fits in
     record {
-      told = c.reports_tell_the_past.ensures lines;
+      told = c.reports_tell_the_past.ensures lines fits;
       sent = c.frames_were_sent.ensures lines fits;
-      carried = c.sent_frames_are_packets.ensures lines fits;
+      given = c.sent_frames_are_packets.ensures.given lines fits;
+      carried = c.sent_frames_are_packets.ensures.packets lines fits;
     }
 
 pub returns-clause-births : goal.returns-clause-births

@@ -1,37 +1,34 @@
-use Rattle.std.proofs.Common.{◌≡◌, ℕ, ◌+◌, ◌++◌, List, ◌∙◌, ap, sym, subst, Option, Some}
+use Rattle.std.proofs.Common.{◌≡◌, ℕ, ◌+◌, ◌++◌, List, ◌∙◌, ap, sym, subst, Option}
 use Rattle.std.specs.Prelude.{IfOk}
 use Rattle.wire_base.specs.declared.why.Why.{Why}
-use Rattle.protocol_model.specs.Run.{Run, run, unfit_text}
-use Rattle.schedule_replay.specs.Fault.{Known}
-use Rattle.schedule_replay.proofs.Runs.{run_goes_on, run_stops, run_ends, report-stopped, report-whole}
+use Rattle.protocol_model.specs.Run.{run, unfit_text}
+use Rattle.schedule_replay.specs.Fault.{Known, Told}
+use Rattle.schedule_replay.proofs.Runs.{run_goes_on, report_stopped, fault_stopped, report_whole, fault_whole}
 use Rattle.schedule_replay.proofs.replaying.replay.Goals as goal
 
 pub returns-in-Err-Unfit-clause-report : goal.returns-in-Err-Unfit-clause-report
 returns-in-Err-Unfit-clause-report c =
     let said = rw c.in-Err-Unfit.field-0-is at c.in-Err-Unfit.ensures in
-    let w = c.loop-i.world.world in
-    let ran = c.loop-i.invariant ∙ run_stops c.args.lines.now c.loop-i.i w c.index-lines-i.result c.in-Err-Unfit.why c.loop-i-test.true c.index-lines-i.is said.1 in
-    let same = ap (λ (k : Known). k.world.report ++ unfit_text (c.loop-i.i + 1) c.in-Err-Unfit.why) said.2 in
-    subst (λ (t : List ℕ). IfOk c.report_unfit.result (λ r. r.report ≡ t)) (same ∙ sym (report-stopped (run c.args.lines.now) w (c.loop-i.i + 1) c.in-Err-Unfit.why ran)) (rw c.in-Err-Unfit.why-is at c.report_unfit.ensures.report)
+    let stopped = report_stopped (run c.args.lines.now) c.args.lines.now c.loop-i.i c.loop-i.world.told c.loop-i.invariant c.index-lines-i.result c.in-Err-Unfit.why c.loop-i-test.true c.index-lines-i.is said.1 in
+    let same = ap (λ (k : Known). k.told.report ++ unfit_text (c.loop-i.i + 1) c.in-Err-Unfit.why) said.2 in
+    subst (λ (t : List ℕ). IfOk c.report_unfit.result (λ r. r.report ≡ t)) (same ∙ sym stopped) (rw c.in-Err-Unfit.why-is at c.report_unfit.ensures.report)
 
 pub returns-in-Err-Unfit-clause-fault : goal.returns-in-Err-Unfit-clause-fault
 returns-in-Err-Unfit-clause-fault c =
     let said = rw c.in-Err-Unfit.field-0-is at c.in-Err-Unfit.ensures in
-    let ran = c.loop-i.invariant ∙ run_stops c.args.lines.now c.loop-i.i c.loop-i.world.world c.index-lines-i.result c.in-Err-Unfit.why c.loop-i-test.true c.index-lines-i.is said.1 in
-    subst (λ (f : Option (ℕ × Why)). IfOk c.report_unfit.result (λ r. r.fault ≡ f)) (sym (ap (λ (r : Run). r.fault) ran)) (rw c.in-Err-Unfit.why-is at c.report_unfit.ensures.fault)
+    let stopped = fault_stopped (run c.args.lines.now) c.args.lines.now c.loop-i.i c.loop-i.world.told c.loop-i.invariant c.index-lines-i.result c.in-Err-Unfit.why c.loop-i-test.true c.index-lines-i.is said.1 in
+    subst (λ (f : Option (ℕ × Why)). IfOk c.report_unfit.result (λ r. r.fault ≡ f)) (sym stopped) (rw c.in-Err-Unfit.why-is at c.report_unfit.ensures.fault)
 
 pub loop-i-preserved : goal.loop-i-preserved
-loop-i-preserved c = let e = c.in-Ok.ensures in c.loop-i.invariant ∙ run_goes_on c.args.lines.now c.loop-i.i c.loop-i.world.world c.line.new.self.world c.index-lines-i.result c.loop-i-test.true c.index-lines-i.is e.1
+loop-i-preserved c = let e = c.in-Ok.ensures in run_goes_on (run c.args.lines.now) c.args.lines.now c.loop-i.i c.loop-i.world.told c.loop-i.invariant c.index-lines-i.result c.line.new.self.told c.loop-i-test.true c.index-lines-i.is e.1
 
 pub returns-clause-report : goal.returns-clause-report
 returns-clause-report c =
-    let e = c.loop-i.invariant ∙ run_ends c.args.lines.now c.loop-i.i c.loop-i.world.world c.loop-i-test.false in
+    let whole = report_whole (run c.args.lines.now) c.args.lines.now c.loop-i.i c.loop-i.world.told c.loop-i.invariant c.loop-i-test.false in
     let done = c.in_ok-finish.ensures in
     let text = c.in_ok-from_slice.ensures in
     let r = c.report.ensures in
-    text ∙ r ∙ sym (report-whole (run c.args.lines.now) c.loop-i.world.world c.finish.new.self.world e done.1)
+    text ∙ r ∙ ap (λ (t : Told). t.report) done.1 ∙ sym whole
 
 pub returns-clause-fault : goal.returns-clause-fault
-returns-clause-fault c =
-    let e = c.loop-i.invariant ∙ run_ends c.args.lines.now c.loop-i.i c.loop-i.world.world c.loop-i-test.false in
-    sym (ap (λ (r : Run). r.fault) e)
+returns-clause-fault c = sym (fault_whole (run c.args.lines.now) c.args.lines.now c.loop-i.i c.loop-i.world.told c.loop-i.invariant c.loop-i-test.false)

@@ -1,0 +1,161 @@
+-- What a move leaves of a node and of the world: births that were given stay, and the end's tunnels go where they went.
+use Rattle.std.proofs.Common.{◌≡◌, ⊎_elim, ℕ, ◌+◌, ◌-◌, ◌^◌, ◌<◌, ◌≤◌, Bool, true, false, cond, List, refl, sym, ap, ◌∙◌, subst, Some, Ok, Err, arith}
+use Rattle.std.proofs.lemmas.Bool.{ltb-false}
+use Rattle.std.specs.Prelude.{nat_lt}
+use Rattle.id_source.specs.declared.IdError.TheVariants.{NoIds, NeedCeiling}
+use Rattle.id_source.specs.Spaces.{Space, draws, after_draw}
+use Rattle.id_table.specs.Ids.{at, put}
+use Rattle.id_table.specs.Order.{found_put, at_new, at_other, same_or_not}
+use Rattle.l2tp_header.specs.declared.header.Header.{Header}
+use Rattle.l2tp_header.specs.Reading.{header_of}
+use Rattle.control_message.specs.declared.message.Message.{Message}
+use Rattle.control_message.specs.Pairs.{IsWritten}
+use Rattle.protocol_model.specs.declared.event.Event.{Event}
+use Rattle.protocol_model.specs.declared.event.Event.TheVariants.{Datagram, Ring, Payload, Lower, OpenTunnel}
+use Rattle.protocol_model.specs.declared.tunnel.Call.{Call}
+use Rattle.protocol_model.specs.declared.tunnel.Role.{Role}
+use Rattle.protocol_model.specs.Names.{address_of, node_of}
+use Rattle.protocol_model.specs.Reading.{body_of, message_in}
+use Rattle.protocol_model.specs.Turn.{Tunnel}
+use Rattle.protocol_model.specs.End.{End}
+use Rattle.protocol_model.specs.World.{World, Node}
+use Rattle.step_laws.specs.Letters.{Letter}
+use Rattle.step_laws.specs.Moves.{Hears}
+use Rattle.frame_laws.proofs.Facts.{Nodes, Grows, Says, says_later, CallOk, CallsOk, TunnelOk, tunnel_later, EndOk}
+use Rattle.frame_laws.proofs.Births.{Counted}
+
+-- ---- draws
+
+pub draw_is : (s : Space) (k : ℕ) → draws s ≡ Ok k → (k ≡ s.next) × (k ≤ s.last)
+unfolding draws
+draw_is s k h = by (nat_lt s.last s.next) (nat_lt s.ceiling s.next) refl h
+  where
+    by : (a b : Bool) → nat_lt s.last s.next ≡ a → cond a (Err (NoIds (s.next - 1))) (cond b (Err (NeedCeiling s.next)) (Ok s.next)) ≡ Ok k → (k ≡ s.next) × (k ≤ s.last)
+    by true b e h = absurd cc
+    by false true e h = absurd cc
+    by false false e h = let g : s.next ≡ k = cc in let le = ltb-false s.last s.next e in (sym g, omega (arith, g))
+
+pub next_is : (s : Space) (k : ℕ) → draws s ≡ Ok k → after_draw s ≡ record s { next = k + 1 }
+next_is s k h = rw h refl
+
+-- ---- what is heard
+
+-- a node's address is its own
+pub node_again : (from : ℕ) → from < 256 → node_of (address_of from) ≡ from
+unfolding node_of address_of
+node_again from lt = omega arith
+
+-- what reading a packet gives, where its sender is at an address
+pub record HeardFrom (ns : Nodes) (n peer : ℕ) (bytes : List ℕ) : Type 0 where
+  pub from : ℕ
+  pub number : from < 256
+  pub address : peer ≡ address_of from
+  pub letters : (h : Header) → header_of bytes ≡ Ok h → h.control ≡ true → (m : Message) → message_in (body_of h bytes) ≡ Ok m → IsWritten m × Says ns from n h.session m
+
+abbrev pub Heard : Nodes → ℕ → Event → Type 0
+Heard ns n (Datagram peer bytes) = HeardFrom ns n peer bytes
+Heard ns n (Ring port) = Unit {0}
+Heard ns n (Payload s frame) = Unit {0}
+Heard ns n (Lower s frame) = Unit {0}
+Heard ns n OpenTunnel = Unit {0}
+
+pub heard_later : (ns ms : Nodes) → Grows ns ms → (n : ℕ) (ev : Event) → Heard ns n ev → Heard ms n ev
+heard_later ns ms g n (Datagram peer bytes) h = record {
+  from = h.from;
+  number = h.number;
+  address = h.address;
+  letters = λ x e c m r. let l = h.letters x e c m r in (l.0, says_later ns ms g h.from n x.session m l.1);
+}
+heard_later ns ms g n (Ring port) h = tt
+heard_later ns ms g n (Payload s frame) h = tt
+heard_later ns ms g n (Lower s frame) h = tt
+heard_later ns ms g n OpenTunnel h = tt
+
+pub said : (ns : Nodes) (n : ℕ) (ev : Event) → Heard ns n ev → (peer session : ℕ) (m : Message) → Hears ev peer session m → IsWritten m × Says ns (node_of peer) n session m
+said ns n ev heard peer session m h =
+    let k : HeardFrom ns n peer h.bytes = subst (Heard ns n) h.is heard in
+    let l = k.letters h.header h.read h.control m h.said in
+    let from : node_of peer ≡ k.from = ap node_of k.address ∙ node_again k.from k.number in
+    (l.0, rw (from, ← h.session_is) l.1)
+
+-- ---- an end along the moves of a step
+
+abbrev pub GoesTo : End → ℕ → ℕ → Type 0
+GoesTo e i peer = (t : Tunnel) × (at e.tunnels i ≡ Some t) × (t.control.peer ≡ peer)
+
+abbrev pub GoesOn : End → End → Type 0
+GoesOn x y = (i peer : ℕ) → GoesTo x i peer → GoesTo y i peer
+
+-- the step leads to an end z; so far it led to x, and to a world
+pub record At (n : ℕ) (z : End) (v : World) (x : End) : Type 0 where
+  pub node : Node
+  pub is : at v.nodes n ≡ Some node
+  pub end_is : node.end ≡ z
+  pub role : z.role ≡ x.role
+  pub end : EndOk v.nodes n x
+  pub births : (s b : ℕ) → at node.births s ≡ Some b → (s < x.session_ids.next) × (0 < b)
+
+-- the count of births has room for all session ids that the end may still draw
+abbrev pub HasRoom : World → End → Type 0
+HasRoom v x = v.born + 65536 < 2 ^ 64 - 1 + x.session_ids.next
+
+pub record Leads (n : ℕ) (v w : World) (x y : End) : Type 0 where
+  pub grows : Grows v.nodes w.nodes
+  pub others : (m : ℕ) → (m ≡ n → ⊥) → at w.nodes m ≡ at v.nodes m
+  pub packets : w.packets ≡ v.packets
+  pub goes : GoesOn x y
+  pub role : y.role ≡ x.role
+  pub config : y.config ≡ x.config
+  pub born : w.born + x.session_ids.next ≤ v.born + y.session_ids.next
+  pub rises : x.session_ids.next ≤ y.session_ids.next
+  pub counted : HasRoom v x → Counted v.nodes v.born → Counted w.nodes w.born
+
+-- a letter that was given may be read by the node that its tunnel goes to
+pub record LetterOk (ns : Nodes) (n : ℕ) (e : End) (l : Letter) : Type 0 where
+  pub written : IsWritten l.message
+  pub session : l.session < 65536
+  pub peer : ℕ
+  pub goes : GoesTo e l.tunnel peer
+  pub says : Says ns n (node_of peer) l.session l.message
+
+pub letter_later : (ns ms : Nodes) → Grows ns ms → (n : ℕ) (x y : End) → GoesOn x y → (l : Letter) → LetterOk ns n x l → LetterOk ms n y l
+letter_later ns ms g n x y on l h = record { written = h.written; session = h.session; peer = h.peer; goes = on l.tunnel h.peer h.goes; says = says_later ns ms g n (node_of h.peer) l.session l.message h.says }
+
+-- ---- a tunnel is put
+
+pub record Sets (x y : End) (i : ℕ) (t : Tunnel) : Type 0 where
+  pub role : y.role ≡ x.role
+  pub config : y.config ≡ x.config
+  pub tunnels : y.tunnels ≡ put x.tunnels i t
+  pub next : x.tunnel_ids.next ≤ y.tunnel_ids.next
+  pub last : y.tunnel_ids.last ≡ x.tunnel_ids.last
+  pub sessions : x.session_ids.next ≤ y.session_ids.next
+  pub last_session : y.session_ids.last ≡ x.session_ids.last
+  pub most : y.session_ids.next ≤ 65536
+
+pub calls_put : (ns : Nodes) (n : ℕ) (role : Role) (bound peer s : ℕ) (c : Call) (calls : List (ℕ × Call)) → CallsOk ns n role bound peer calls → CallOk ns n role bound peer s c → CallsOk ns n role bound peer (put calls s c)
+calls_put ns n role bound peer s c calls h ok q d f = ⊎_elim (λ (a : (q ≡ s) × (c ≡ d)). rw (a.0, ← a.1) ok) (λ a. h q d a.1) (found_put calls s c q d f)
+
+pub end_put : (ns ms : Nodes) → Grows ns ms → (n : ℕ) (x y : End) (i : ℕ) (t : Tunnel) → EndOk ns n x → Sets x y i t → TunnelOk ms n y i t → EndOk ms n y
+end_put ns ms g n x y i t h sets ok =
+    record {
+      number = rw sets.config h.number;
+      first = (let f = h.first in let le = sets.next in omega arith);
+      last = rw sets.last h.last;
+      first_session = (let f = h.first_session in let le = sets.sessions in omega arith);
+      last_session = rw sets.last_session h.last_session;
+      most = sets.most;
+      tunnels = λ j u f. ⊎_elim
+          (λ (a : (j ≡ i) × (t ≡ u)). rw (a.0, ← a.1) ok)
+          (λ a. tunnel_later ns ms g n x y j u sets.role sets.next sets.sessions (h.tunnels j u a.1))
+          (found_put x.tunnels i t j u (rw (← sets.tunnels) f));
+    }
+
+pub goes_put : (x y : End) (i : ℕ) (t : Tunnel) → Sets x y i t → ((u : Tunnel) → at x.tunnels i ≡ Some u → u.control.peer ≡ t.control.peer) → GoesOn x y
+goes_put x y i t sets same j peer g = ⊎_elim
+    (λ (a : j ≡ i). (t, (rw (sets.tunnels, a) (at_new x.tunnels i t)), sym (same g.0 (rw (← a) g.1)) ∙ g.2))
+    (λ (o : j ≡ i → ⊥). (g.0, (rw sets.tunnels (at_other x.tunnels i t j o ∙ g.1)), g.2))
+    (same_or_not j i)
+
+pub goes_there : (x y : End) (i : ℕ) (t : Tunnel) → Sets x y i t → GoesTo y i t.control.peer
+goes_there x y i t sets = (t, (rw sets.tunnels (at_new x.tunnels i t)), refl)

@@ -1,0 +1,146 @@
+-- What holds of a world after each line: what births there are, what packets may say, and what ends know.
+use Rattle.std.proofs.Common.{◌≡◌, ◌⊎◌, ℕ, ◌<◌, ◌≤◌, true, false, List, Option, Some, None, Ok}
+use Rattle.std.specs.List.{AllByRecursion}
+use Rattle.id_table.specs.Ids.{at}
+use Rattle.l2tp_header.specs.declared.header.Header.{Header}
+use Rattle.l2tp_header.specs.Reading.{header_of}
+use Rattle.control_message.specs.declared.message.Message.{Message}
+use Rattle.control_message.specs.declared.message.Message.TheVariants.{Sccrq, Sccrp, Scccn, Icrq, Icrp, Iccn}
+use Rattle.control_message.specs.Pairs.{IsWritten}
+use Rattle.protocol_model.specs.declared.tunnel.Call.{Call}
+use Rattle.protocol_model.specs.declared.tunnel.Role.{Role}
+use Rattle.protocol_model.specs.declared.tunnel.Role.TheVariants.{Lac, Lns}
+use Rattle.protocol_model.specs.declared.packet.Packet.{Packet}
+use Rattle.protocol_model.specs.Names.{node_of}
+use Rattle.protocol_model.specs.Turn.{Tunnel}
+use Rattle.protocol_model.specs.Reading.{body_of, message_in}
+use Rattle.protocol_model.specs.Calls.{frame_of, is_up}
+use Rattle.protocol_model.specs.End.{End}
+use Rattle.step_laws.specs.Letters.{Among}
+use Rattle.step_laws.specs.Looks.{LooksAreTrue, LooksStayTrue}
+use Rattle.step_laws.specs.Steps.{AreKept, StepsAreChains}
+use Rattle.schedule_text.specs.declared.line.Line.{Line}
+use Rattle.schedule_text.specs.Grammar.{AreLines}
+use Rattle.protocol_model.specs.World.{World, Node}
+use Rattle.protocol_model.specs.Run.{run}
+use Rattle.frame_laws.specs.Past.{Passage}
+use Rattle.frame_laws.specs.Frames.{other_end}
+
+abbrev pub Nodes : Type 0
+Nodes = List (ℕ × Node)
+
+-- ---- births and roles
+
+abbrev pub birth_in_node : Option Node → ℕ → Option ℕ
+birth_in_node None s = None
+birth_in_node (Some node) s = at node.births s
+
+-- the node's session has this birth
+abbrev pub Born : Nodes → ℕ → ℕ → ℕ → Type 0
+Born ns n s b = birth_in_node (at ns n) s ≡ Some b
+
+abbrev pub role_in_node : Option Node → Option Role
+role_in_node None = None
+role_in_node (Some node) = Some node.end.role
+
+abbrev pub Plays : Nodes → ℕ → Role → Type 0
+Plays ns n r = role_in_node (at ns n) ≡ Some r
+
+-- births that were given and roles stay
+pub record Grows (ns ms : Nodes) : Type 0 where
+  pub births : (n s b : ℕ) → Born ns n s b → Born ms n s b
+  pub roles : (n : ℕ) (r : Role) → Plays ns n r → Plays ms n r
+
+-- two sessions are of one birth, and of the two ends
+pub record Mates (ns : Nodes) (n s m a : ℕ) : Type 0 where
+  pub birth : ℕ
+  pub some : 0 < birth
+  pub here : Born ns n s birth
+  pub there : Born ns m a birth
+  pub role : Role
+  pub mine : Plays ns n role
+  pub its : Plays ns m (other_end role)
+
+-- ---- packets
+
+-- a request names a session of its LAC, and a reply a session that is the mate of the one that its header names
+abbrev pub Says : Nodes → ℕ → ℕ → ℕ → Message → Type 0
+Says ns from to session (Icrq own serial calling) = ((b : ℕ) × (0 < b) × Born ns from own b) × Plays ns from Lac
+Says ns from to session (Icrp own) = Mates ns from own to session
+Says ns from to session (Sccrq o) = Unit {0}
+Says ns from to session (Sccrp o) = Unit {0}
+Says ns from to session Scccn = Unit {0}
+Says ns from to session (Iccn speed framing sequenced) = Unit {0}
+
+-- the frame was sent in the birth of the session that it is for, by its other end
+pub record WasGiven (ns : Nodes) (gs : List Passage) (from to session : ℕ) (frame : List ℕ) : Type 0 where
+  pub passage : Passage
+  pub there : Among passage gs
+  pub frame_is : frame ≡ passage.frame
+  pub birth : Born ns to session passage.birth
+  pub some : 0 < passage.birth
+  pub role : Plays ns to (other_end passage.role)
+  pub from_is : passage.node ≡ from
+  pub to_is : passage.peer ≡ to
+
+-- what reading a packet's bytes may give
+pub record BytesOk (ns : Nodes) (gs : List Passage) (from to : ℕ) (bytes : List ℕ) : Type 0 where
+  pub frames : (h : Header) → header_of bytes ≡ Ok h → h.control ≡ false → WasGiven ns gs from to h.session (frame_of (body_of h bytes))
+  pub letters : (h : Header) → header_of bytes ≡ Ok h → h.control ≡ true → (m : Message) → message_in (body_of h bytes) ≡ Ok m → IsWritten m × Says ns from to h.session m
+
+pub record PacketOk (ns : Nodes) (gs : List Passage) (p : Packet) : Type 0 where
+  pub from : p.from < 256
+  pub bytes : BytesOk ns gs p.from p.to p.bytes
+
+-- ---- ends
+
+-- whether an end knows which session of the other end a call of its own is
+abbrev pub Knows : Role → Call → Type 0
+Knows role c = (role ≡ Lns) ⊎ (is_up c.state ≡ true)
+
+pub record CallOk (ns : Nodes) (n : ℕ) (role : Role) (bound peer s : ℕ) (c : Call) : Type 0 where
+  pub drawn : s < bound
+  pub birth : ℕ
+  pub some : 0 < birth
+  pub born : Born ns n s birth
+  pub knows : Knows role c → (c.remote < 65536) × Mates ns n s (node_of peer) c.remote
+
+abbrev pub CallsOk : Nodes → ℕ → Role → ℕ → ℕ → List (ℕ × Call) → Type 0
+CallsOk ns n role bound peer calls = (s : ℕ) (c : Call) → at calls s ≡ Some c → CallOk ns n role bound peer s c
+
+pub record TunnelOk (ns : Nodes) (n : ℕ) (e : End) (i : ℕ) (t : Tunnel) : Type 0 where
+  pub local : t.control.local ≡ i
+  pub drawn : i < e.tunnel_ids.next
+  pub remote : t.control.remote < 65536
+  pub calls : CallsOk ns n e.role e.session_ids.next t.control.peer t.calls
+
+pub record EndOk (ns : Nodes) (n : ℕ) (e : End) : Type 0 where
+  pub number : e.config.number < 256
+  pub first : 0 < e.tunnel_ids.next
+  pub last : e.tunnel_ids.last < 65536
+  pub first_session : 0 < e.session_ids.next
+  pub last_session : e.session_ids.last < 65536
+  pub most : e.session_ids.next ≤ 65536
+  pub tunnels : (i : ℕ) (t : Tunnel) → at e.tunnels i ≡ Some t → TunnelOk ns n e i t
+
+pub record NodeOk (ns : Nodes) (n : ℕ) (node : Node) : Type 0 where
+  pub number : n < 256
+  pub kept : AreKept node.end
+  pub looks : LooksAreTrue node.end
+  pub end : EndOk ns n node.end
+  pub births : (s b : ℕ) → at node.births s ≡ Some b → (s < node.end.session_ids.next) × (0 < b)
+
+-- ---- the world
+
+pub record Holds (w : World) (gs : List Passage) : Type 0 where
+  pub nodes : (n : ℕ) (node : Node) → at w.nodes n ≡ Some node → NodeOk w.nodes n node
+  pub packets : AllByRecursion (PacketOk w.nodes gs) w.packets
+
+-- what is used of steps
+pub record StepLaws : Type 0 where
+  pub chains : StepsAreChains
+  pub looks : LooksStayTrue
+
+-- after the run of each list of lines of the grammar, what the data plane of each node sees is so
+abbrev pub LooksOfRuns : Type 0
+LooksOfRuns = (lines : List Line) → AreLines lines → (n : ℕ) (node : Node) → at (run lines).world.nodes n ≡ Some node → LooksAreTrue node.end

@@ -1,0 +1,283 @@
+-- What a map that has ids without a value shows of those with one.
+use Rattle.std.specs.Prelude.{◌≡◌, ℕ, Bool, true, false, cond, List, [], ◌∷◌, Option, Some, None, is_some, IsSome, IfSome, IsTrue, ◌||◌, ◌≢◌, eqb, map, length, ◌+◌, ◌-◌, ◌^◌, ◌<◌, ◌≤◌, not}
+use Rattle.std.specs.Int.{from_bool}
+use Rattle.std.specs.Option.{option_flatten, option_map}
+use Rattle.std.specs.declared.cmp.Ordering.{Ordering}
+use Rattle.std.specs.declared.cmp.Ordering.TheVariants.{Less, Equal, Greater}
+use Rattle.std.specs.Ordering.{nat_cmp, is_eq}
+use Rattle.std.specs.Cmp.{nat_cmp_total}
+use Rattle.std.specs.List.{AllByRecursion, list_any, cons_option, filter}
+use Rattle.std.specs.List.Sorted.{IsStrictlySortedBy}
+use Rattle.std.specs.Map.{lookup, remove_entry, keys_of}
+use Rattle.std.specs.BTreeMap.{is_at, insert_entry}
+use Rattle.std.specs.FinMap.{nat_cmp-IsAntisymmetric}
+use Rattle.std.proofs.Common.{refl, ap, sym, subst, ◌∙◌, arith, true≢false, Fits, w64}
+use Rattle.std.proofs.lemmas.Bool.Decides.{nat_tests}
+use Rattle.std.proofs.lemmas.Option.{none-some}
+use Rattle.id_table.specs.Ids.{at, put, without, is_at-same, ids_of}
+use Rattle.id_table.specs.Tables.{Kept, HasRoom, KeepsRoom, KeepsOtherRoom, filled, shown}
+
+-- each id is above k
+abbrev IsAbove : {Y : Type 0} → ℕ → List (ℕ × Y) → Type 0
+IsAbove k es = AllByRecursion (λ q. nat_cmp k q ≡ Less) (keys_of es)
+
+-- the ids ascend
+abbrev Ascends : {Y : Type 0} → List (ℕ × Y) → Type 0
+Ascends es = IsStrictlySortedBy nat_cmp (keys_of es)
+
+or_true : (b : Bool) → (b || true) ≡ true
+or_true true = refl
+or_true false = refl
+
+at_most_one : (b : Bool) → from_bool b ≤ 1
+at_most_one true = omega arith
+at_most_one false = omega arith
+
+added : (b t : Bool) → t ≡ not b → from_bool b ≡ cond t 0 1
+added true t h = rw h refl
+added false t h = rw h refl
+
+removed : (b t : Bool) → t ≡ b → from_bool b ≡ cond t 1 0
+removed true t h = rw h refl
+removed false t h = rw h refl
+
+eqb-apart : (k i : ℕ) → i ≢ k → eqb k i ≡ false
+eqb-apart k i apart = grind (arith, nat_tests)
+
+module _ {Y : Type 0} where
+  -- what is above q is above each k below it
+  lower : (k q : ℕ) (es : List (ℕ × Y)) → nat_cmp k q ≡ Less → IsAbove q es → IsAbove k es
+  lower k q [] less h = tt
+  lower k q (e ∷ es) less h = (nat_cmp_total.trans k q e.0 less h.0, lower k q es less h.1)
+
+  same : (k q : ℕ) (es : List (ℕ × Y)) → nat_cmp k q ≡ Equal → IsAbove q es → IsAbove k es
+  same k q es equal h = subst (λ t. IsAbove t es) (sym (nat_cmp-IsAntisymmetric k q equal)) h
+
+module _ {X : Type 0} where
+  at-above : (k : ℕ) (fs : List (ℕ × X)) → IsAbove k fs → at fs k ≡ None
+  unfolding at
+  at-above k [] h = refl
+  at-above k (f ∷ fs) h = rw h.0 (at-above k fs h.1)
+
+  put-above : (k : ℕ) (v : X) (fs : List (ℕ × X)) → IsAbove k fs → put fs k v ≡ (k, v) ∷ fs
+  unfolding put
+  put-above k v [] h = refl
+  put-above k v (f ∷ fs) h = rw h.0 refl
+
+  without-above : (k : ℕ) (fs : List (ℕ × X)) → IsAbove k fs → without fs k ≡ fs
+  unfolding without
+  without-above k [] h = refl
+  without-above k (f ∷ fs) h = rw h.0 (ap (λ t. f ∷ t) (without-above k fs h.1))
+
+  filled-above_by : (k q : ℕ) (o : Option X) (es : List (ℕ × Option X)) → nat_cmp k q ≡ Less → IsAbove k (filled es) → IsAbove k (filled ((q, o) ∷ es))
+  filled-above_by k q None es less h = h
+  filled-above_by k q (Some v) es less h = (less, h)
+
+  filled-above : (k : ℕ) (es : List (ℕ × Option X)) → IsAbove k es → IsAbove k (filled es)
+  filled-above k [] h = tt
+  filled-above k (e ∷ es) h = filled-above_by k e.0 e.1 es h.0 (filled-above k es h.1)
+
+  put-again_by : (k : ℕ) (v : X) (f : ℕ × X) (fs : List (ℕ × X)) → IsAbove f.0 fs → (at fs k ≡ Some v → put fs k v ≡ fs) → at (f ∷ fs) k ≡ Some v → (r : Ordering) → nat_cmp k f.0 ≡ r → put (f ∷ fs) k v ≡ f ∷ fs
+  unfolding at put
+  put-again_by k v f fs above ih found Less h = absurd (none-some v (sym (at-above k fs (lower k f.0 fs h above)) ∙ (let g = rw h at found in g)))
+  put-again_by k v f fs above ih found Equal h = let g = rw h at found in let e : f.1 ≡ v = cc in rw (h, ← e) refl
+  put-again_by k v f fs above ih found Greater h = let g = rw h at found in rw h (ap (λ t. f ∷ t) (ih g))
+
+  -- the value that is there is put again
+  put-again : (k : ℕ) (v : X) (fs : List (ℕ × X)) → Ascends fs → at fs k ≡ Some v → put fs k v ≡ fs
+  unfolding IsStrictlySortedBy
+  put-again k v [] s found = absurd (none-some v (sym (at-above k [] tt) ∙ found))
+  put-again k v (f ∷ fs) s found = put-again_by k v f fs s.0 (put-again k v fs s.1) found (nat_cmp k f.0) refl
+
+  -- ---- how many there are
+  length-put_by : (k : ℕ) (v : X) (f : ℕ × X) (fs : List (ℕ × X)) → IsAbove f.0 fs → length (put fs k v) ≡ length fs + cond (is_some (at fs k)) 0 1 → (r : Ordering) → nat_cmp k f.0 ≡ r → length (put (f ∷ fs) k v) ≡ length (f ∷ fs) + cond (is_some (at (f ∷ fs) k)) 0 1
+  unfolding at put
+  length-put_by k v f fs above ih Less h = rw (h, at-above k fs (lower k f.0 fs h above)) (omega arith)
+  length-put_by k v f fs above ih Equal h = rw h (omega arith)
+  length-put_by k v f fs above ih Greater h = rw h (omega (arith, ih))
+
+  length-put : (k : ℕ) (v : X) (fs : List (ℕ × X)) → Ascends fs → length (put fs k v) ≡ length fs + cond (is_some (at fs k)) 0 1
+  unfolding at put IsStrictlySortedBy
+  length-put k v [] s = refl
+  length-put k v (f ∷ fs) s = length-put_by k v f fs s.0 (length-put k v fs s.1) (nat_cmp k f.0) refl
+
+  length-without_by : (k : ℕ) (f : ℕ × X) (fs : List (ℕ × X)) → length (without fs k) + cond (is_some (at fs k)) 1 0 ≡ length fs → (r : Ordering) → nat_cmp k f.0 ≡ r → length (without (f ∷ fs) k) + cond (is_some (at (f ∷ fs) k)) 1 0 ≡ length (f ∷ fs)
+  unfolding at without
+  length-without_by k f fs ih Less h = rw h (omega (arith, ih))
+  length-without_by k f fs ih Equal h = rw h (omega arith)
+  length-without_by k f fs ih Greater h = rw h (omega (arith, ih))
+
+  length-without : (k : ℕ) (fs : List (ℕ × X)) → length (without fs k) + cond (is_some (at fs k)) 1 0 ≡ length fs
+  unfolding at without
+  length-without k [] = refl
+  length-without k (f ∷ fs) = length-without_by k f fs (length-without k fs) (nat_cmp k f.0) refl
+
+  ascends_by : (q : ℕ) (o : Option X) (es : List (ℕ × Option X)) → IsAbove q (filled es) → Ascends (filled es) → Ascends (filled ((q, o) ∷ es))
+  unfolding IsStrictlySortedBy
+  ascends_by q None es above s = s
+  ascends_by q (Some v) es above s = (above, s)
+
+  filled-ascends : (es : List (ℕ × Option X)) → Ascends es → Ascends (filled es)
+  unfolding IsStrictlySortedBy
+  filled-ascends [] s = tt
+  filled-ascends (e ∷ es) s = ascends_by e.0 e.1 es (filled-above e.0 es s.0) (filled-ascends es s.1)
+
+  fewer_by : (q : ℕ) (o : Option X) (es : List (ℕ × Option X)) → length (filled es) ≤ length es → length (filled ((q, o) ∷ es)) ≤ length ((q, o) ∷ es)
+  fewer_by q None es ih = omega (arith, ih)
+  fewer_by q (Some v) es ih = omega (arith, ih)
+
+  filled-fewer : (es : List (ℕ × Option X)) → length (filled es) ≤ length es
+  filled-fewer [] = omega arith
+  filled-fewer (e ∷ es) = fewer_by e.0 e.1 es (filled-fewer es)
+
+  at_by : (k q : ℕ) (o : Option X) (es : List (ℕ × Option X)) → IsAbove q es → at (filled es) k ≡ option_flatten (lookup (is_at (nat_cmp k)) es) → (r : Ordering) → nat_cmp k q ≡ r → at (filled ((q, o) ∷ es)) k ≡ option_flatten (lookup (is_at (nat_cmp k)) ((q, o) ∷ es))
+  unfolding at
+  at_by k q None es above ih Less h = rw h ih
+  at_by k q None es above ih Equal h = rw h (at-above k (filled es) (filled-above k es (same k q es h above)))
+  at_by k q None es above ih Greater h = rw h ih
+  at_by k q (Some v) es above ih Less h = rw h ih
+  at_by k q (Some v) es above ih Equal h = rw h refl
+  at_by k q (Some v) es above ih Greater h = rw h ih
+
+  -- the value with an id
+  pub filled-at : (k : ℕ) (es : List (ℕ × Option X)) → Ascends es → at (filled es) k ≡ option_flatten (lookup (is_at (nat_cmp k)) es)
+  unfolding IsStrictlySortedBy
+  filled-at k [] s = at-above k [] tt
+  filled-at k (e ∷ es) s = at_by k e.0 e.1 es s.0 (filled-at k es s.1) (nat_cmp k e.0) refl
+
+  put_by : (k q : ℕ) (v : X) (o : Option X) (es : List (ℕ × Option X)) → IsAbove q es → filled (insert_entry nat_cmp es k (Some v)) ≡ put (filled es) k v → (r : Ordering) → nat_cmp k q ≡ r → filled (insert_entry nat_cmp ((q, o) ∷ es) k (Some v)) ≡ put (filled ((q, o) ∷ es)) k v
+  unfolding put
+  put_by k q v None es above ih Less h = rw h (sym (put-above k v (filled es) (filled-above k es (lower k q es h above))))
+  put_by k q v None es above ih Equal h =
+      rw h (ap (λ t. (t, v) ∷ filled es) (sym (nat_cmp-IsAntisymmetric k q h)) ∙ sym (put-above k v (filled es) (filled-above k es (same k q es h above))))
+  put_by k q v None es above ih Greater h = rw h ih
+  put_by k q v (Some w) es above ih Less h = rw h refl
+  put_by k q v (Some w) es above ih Equal h = rw h refl
+  put_by k q v (Some w) es above ih Greater h = rw h (ap (λ t. (q, w) ∷ t) ih)
+
+  -- a value that is put at an id, with one or without one
+  pub filled-put : (k : ℕ) (v : X) (es : List (ℕ × Option X)) → Ascends es → filled (insert_entry nat_cmp es k (Some v)) ≡ put (filled es) k v
+  unfolding IsStrictlySortedBy
+  filled-put k v [] s = sym (put-above k v [] tt)
+  filled-put k v (e ∷ es) s = put_by k e.0 v e.1 es s.0 (filled-put k v es s.1) (nat_cmp k e.0) refl
+
+  room_by : (k q : ℕ) (o : Option X) (es : List (ℕ × Option X)) → (lookup (is_at (nat_cmp k)) es ≡ None → filled (insert_entry nat_cmp es k None) ≡ filled es) → lookup (is_at (nat_cmp k)) ((q, o) ∷ es) ≡ None → (r : Ordering) → nat_cmp k q ≡ r → filled (insert_entry nat_cmp ((q, o) ∷ es) k None) ≡ filled ((q, o) ∷ es)
+  room_by k q o es ih none Less h = rw h refl
+  room_by k q o es ih none Equal h = absurd (none-some o (sym none ∙ ap (λ r. cond (is_eq r) (Some o) (lookup (is_at (nat_cmp k)) es)) h))
+  room_by k q o es ih none Greater h = rw h (ap (λ t. cons_option (option_map (λ v. (q, v)) o) t) (ih (sym (ap (λ r. cond (is_eq r) (Some o) (lookup (is_at (nat_cmp k)) es)) h) ∙ none)))
+
+  -- room that is made for an id
+  pub filled-room : (k : ℕ) (es : List (ℕ × Option X)) → lookup (is_at (nat_cmp k)) es ≡ None → filled (insert_entry nat_cmp es k None) ≡ filled es
+  filled-room k [] none = refl
+  filled-room k (e ∷ es) none = room_by k e.0 e.1 es (filled-room k es) none (nat_cmp k e.0) refl
+
+  without_by : (k q : ℕ) (o : Option X) (es : List (ℕ × Option X)) → IsAbove q es → filled (remove_entry (is_at (nat_cmp k)) es) ≡ without (filled es) k → (r : Ordering) → nat_cmp k q ≡ r → filled (remove_entry (is_at (nat_cmp k)) ((q, o) ∷ es)) ≡ without (filled ((q, o) ∷ es)) k
+  unfolding without
+  without_by k q None es above ih Less h = rw h ih
+  without_by k q None es above ih Equal h = rw h (sym (without-above k (filled es) (filled-above k es (same k q es h above))))
+  without_by k q None es above ih Greater h = rw h ih
+  without_by k q (Some v) es above ih Less h = rw h (ap (λ t. (q, v) ∷ t) ih)
+  without_by k q (Some v) es above ih Equal h = rw h refl
+  without_by k q (Some v) es above ih Greater h = rw h (ap (λ t. (q, v) ∷ t) ih)
+
+  -- an id that is taken out, with its value and its room
+  pub filled-without : (k : ℕ) (es : List (ℕ × Option X)) → Ascends es → filled (remove_entry (is_at (nat_cmp k)) es) ≡ without (filled es) k
+  unfolding IsStrictlySortedBy
+  filled-without k [] s = sym (without-above k [] tt)
+  filled-without k (e ∷ es) s = without_by k e.0 e.1 es s.0 (filled-without k es s.1) (nat_cmp k e.0) refl
+
+  found : (b : Bool) (o : Option X) (l : Option (Option X)) → is_some (cond b (Some o) l) ≡ (b || is_some l)
+  found true o l = refl
+  found false o l = refl
+
+  any_found : (k : ℕ) (es : List (ℕ × Option X)) → is_some (lookup (is_at (nat_cmp k)) es) ≡ list_any (eqb k) (keys_of es)
+  any_found k [] = refl
+  any_found k (e ∷ es) = found (is_at (nat_cmp k) e.0) e.1 _ ∙ rw (is_at-same k e.0, any_found k es) refl
+
+  some_flat : (o : Option (Option X)) → IsSome (option_flatten o) → IsSome o
+  some_flat None h = h
+  some_flat (Some o) h = refl
+
+  any_or : (o : Option (Option X)) (b c : Bool) → is_some o ≡ c → b ≡ is_some (option_flatten o) → IsTrue (b || c) → IsSome o
+  any_or o true c e f h = some_flat o (sym f)
+  any_or o false c e f h = e ∙ h
+
+  -- what is said of a table, from what the map under it did
+  module _ (kept : Kept X) (es : List (ℕ × Option X)) (k : ℕ) (is : shown es ≡ kept) where
+    pub at_shown : Ascends es → at kept.entries k ≡ option_flatten (lookup (is_at (nat_cmp k)) es)
+    at_shown s = ap (λ t. at t.entries k) (sym is) ∙ filled-at k es s
+
+    pub again_shown : Ascends es → (v : X) → at kept.entries k ≡ Some v → put kept.entries k v ≡ kept.entries
+    again_shown s v found = subst (λ (t : Kept X). at t.entries k ≡ Some v → put t.entries k v ≡ t.entries) is (put-again k v (filled es) (filled-ascends es s)) found
+
+    pub put_shown : Ascends es → (v : X) (fs : List (ℕ × Option X)) → fs ≡ insert_entry nat_cmp es k (Some v) → filled fs ≡ put kept.entries k v
+    put_shown s v fs e = ap filled e ∙ filled-put k v es s ∙ ap (λ t. put t.entries k v) is
+
+    pub back_shown : Ascends es → (o : Option X) → o ≡ at kept.entries k → IfSome o (λ v. put kept.entries k v ≡ kept.entries)
+    back_shown s None e = tt
+    back_shown s (Some v) e = again_shown s v (sym e)
+
+    pub room_shown : lookup (is_at (nat_cmp k)) es ≡ None → (fs : List (ℕ × Option X)) → fs ≡ insert_entry nat_cmp es k None → filled fs ≡ kept.entries
+    room_shown none fs e = ap filled e ∙ filled-room k es none ∙ ap (λ t. t.entries) is
+
+    pub without_shown : Ascends es → (fs : List (ℕ × Option X)) → fs ≡ remove_entry (is_at (nat_cmp k)) es → filled fs ≡ without kept.entries k
+    without_shown s fs e = ap filled e ∙ filled-without k es s ∙ ap (λ t. without t.entries k) is
+
+    pub value_shown : Ascends es → (o : Option (Option X)) (r : Option X) → o ≡ lookup (is_at (nat_cmp k)) es → r ≡ option_flatten o → r ≡ at kept.entries k
+    value_shown s o r e f = f ∙ ap option_flatten e ∙ sym (at_shown s)
+
+    pub counted_more : Ascends es → (n m : ℕ) (b : Bool) (r : Option X) (v : X) (fs : List (ℕ × Option X)) → n ≡ length (filled es) → r ≡ at kept.entries k → is_some r ≡ not b → m ≡ from_bool b → fs ≡ insert_entry nat_cmp es k (Some v) → n + m ≡ length (filled fs)
+    counted_more s n m b r v fs count there t byte e =
+        let old : is_some (at (filled es) k) ≡ not b = ap (λ x. is_some (at x.entries k)) is ∙ sym (ap is_some there) ∙ t in
+        let more = length-put k v (filled es) (filled-ascends es s) in
+        let one = byte ∙ added b _ old in
+        let after = ap length (ap filled e ∙ filled-put k v es s) in
+        omega (arith, count, more, one, after)
+
+    taken : Ascends es → (n m : ℕ) (b : Bool) (r : Option X) (fs : List (ℕ × Option X)) → n ≡ length (filled es) → r ≡ at kept.entries k → b ≡ is_some r → m ≡ from_bool b → fs ≡ remove_entry (is_at (nat_cmp k)) es → length (filled fs) + m ≡ n
+    taken s n m b r fs count there t byte e =
+        let old : is_some (at (filled es) k) ≡ b = ap (λ x. is_some (at x.entries k)) is ∙ sym (ap is_some there) ∙ sym t in
+        let less = length-without k (filled es) in
+        let one = byte ∙ removed b _ old in
+        let after = ap length (ap filled e ∙ filled-without k es s) in
+        omega (arith, count, less, one, after)
+
+    pub counted_less : Ascends es → (n m : ℕ) (b : Bool) (r : Option X) (fs : List (ℕ × Option X)) → n ≡ length (filled es) → r ≡ at kept.entries k → b ≡ is_some r → m ≡ from_bool b → fs ≡ remove_entry (is_at (nat_cmp k)) es → (m ≤ n) × (n - m ≡ length (filled fs))
+    counted_less s n m b r fs count there t byte e = let sum = taken s n m b r fs count there t byte e in (omega (arith, sum), omega (arith, sum))
+
+    pub found_from_room : Ascends es → HasRoom kept k → IsSome (lookup (is_at (nat_cmp k)) es)
+    unfolding HasRoom
+    found_from_room s h = any_or _ _ _ (any_found k es ∙ ap (λ t. list_any (eqb k) t.room) is) (ap is_some (at_shown s)) h
+
+    pub not_refused : Ascends es → HasRoom kept k → lookup (is_at (nat_cmp k)) es ≡ None → ⊥
+    not_refused s h none = true≢false (sym (found_from_room s h) ∙ ap is_some none)
+
+  pub fits : (es : List (ℕ × Option X)) (n m size : ℕ) (b : Bool) → n ≡ length (filled es) → size < 2 ^ 63 → size ≡ length es → m ≡ from_bool b → Fits w64 (n + m)
+  fits es n m size b count small is e = let one = at_most_one b in let fewer = filled-fewer es in omega (arith, count, small, is, e, one, fewer)
+
+  pub room_from_found : (k : ℕ) (es : List (ℕ × Option X)) → IsSome (lookup (is_at (nat_cmp k)) es) → HasRoom (shown es) k
+  unfolding HasRoom
+  room_from_found k es h = rw (sym (any_found k es), h) (or_true _)
+
+  some_put : (b : Bool) (o : Option X) (l : Option (Option X)) → IsSome l → IsSome (cond b (Some o) l)
+  some_put true o l h = refl
+  some_put false o l h = h
+
+  module _ (kept : Kept X) (es fs : List (ℕ × Option X)) (k : ℕ) (is : shown es ≡ kept) (s : Ascends es) where
+    pub room_kept : (o : Option X) → ((q : ℕ) → lookup (is_at (nat_cmp q)) fs ≡ cond (is_at (nat_cmp k) q) (Some o) (lookup (is_at (nat_cmp q)) es)) → KeepsRoom kept (shown fs)
+    room_kept o h i r = room_from_found i fs (ap is_some (h i) ∙ some_put _ o _ (found_from_room kept es i is s r))
+
+    pub other_room_kept : ((q : ℕ) → is_at (nat_cmp k) q ≡ false → lookup (is_at (nat_cmp q)) fs ≡ lookup (is_at (nat_cmp q)) es) → KeepsOtherRoom k kept (shown fs)
+    other_room_kept h i apart r = room_from_found i fs (ap is_some (h i (is_at-same k i ∙ eqb-apart k i apart)) ∙ found_from_room kept es i is s r)
+
+  ids_by : (k : ℕ) (o : Option X) (es : List (ℕ × Option X)) → map (λ e. e.0) (filter (λ e. is_some e.1) es) ≡ ids_of (filled es) → map (λ e. e.0) (filter (λ e. is_some e.1) ((k, o) ∷ es)) ≡ ids_of (filled ((k, o) ∷ es))
+  ids_by k None es ih = ih
+  ids_by k (Some v) es ih = ap (λ t. k ∷ t) ih
+
+  ids_listed : (es : List (ℕ × Option X)) → map (λ e. e.0) (filter (λ e. is_some e.1) es) ≡ ids_of (filled es)
+  ids_listed [] = refl
+  ids_listed (e ∷ es) = ids_by e.0 e.1 es (ids_listed es)
+
+  -- the ids with a value
+  pub ids_shown : (kept : Kept X) (es : List (ℕ × Option X)) (is : List ℕ) → shown es ≡ kept → is ≡ map (λ e. e.0) (filter (λ e. is_some e.1) es) → is ≡ ids_of kept.entries
+  ids_shown kept es is s e = e ∙ ids_listed es ∙ ap (λ t. ids_of t.entries) s

@@ -1,0 +1,95 @@
+-- Calls, and what the data plane sees of them.
+use Rattle.std.specs.Prelude.{ℕ, List, [], ◌∷◌, ◌++◌, Bool, true, false, ◌==◌, not, nat_lt, bytes_eq, length, take, drop, if◌then◌else◌}
+use Rattle.wire_base.specs.declared.why.Why.{Why}
+use Rattle.wire_base.specs.declared.why.Why.TheVariants as why
+use Rattle.wire_base.specs.declared.letter.Side.{Side}
+use Rattle.wire_base.specs.declared.letter.Side.TheVariants as side
+use Rattle.l2tp_header.specs.declared.header.Header.{Header}
+use Rattle.call_fsm.specs.declared.table.CallState.{CallState}
+use Rattle.call_fsm.specs.declared.table.CallState.TheVariants.{Idle}
+use Rattle.call_fsm.specs.declared.table.CallEvent.{CallEvent}
+use Rattle.call_fsm.specs.declared.table.CallEvent.TheVariants.{Ring, IcrqAcc}
+use Rattle.call_fsm.specs.declared.table.CallAction.{CallAction}
+use Rattle.call_fsm.specs.declared.table.CallAction.TheVariants.{SendIcrq, SendIcrp, SendIccn}
+use Rattle.call_fsm.specs.Rows.{lac_rows, lns_rows, row_of, state_number}
+use Rattle.protocol_model.specs.declared.tunnel.Role.{Role}
+use Rattle.protocol_model.specs.declared.tunnel.Role.TheVariants.{Lac, Lns}
+use Rattle.protocol_model.specs.declared.tunnel.Call.{Call}
+use Rattle.protocol_model.specs.declared.tunnel.Look.{Look}
+use Rattle.protocol_model.specs.declared.tunnel.Look.TheVariants.{Unborn, Bound, Established, Dead}
+
+abbrev pub is_lac : Role → Bool
+is_lac Lac = true
+is_lac Lns = false
+
+-- ---- the tables drive the calls
+
+-- the row of the end's table
+unfoldable pub call_row : Role → CallState → CallEvent → CallState × CallAction
+call_row Lac s e = row_of lac_rows s e
+call_row Lns s e = row_of lns_rows s e
+
+-- the call goes to a state by an event
+abbrev pub gone_to : CallState → CallEvent → Call → Call
+gone_to next e c = record c { state = next; steps = c.steps ++ record { state = c.state; event = e; next = next } ∷ [] }
+
+-- the call goes where its table says
+unfoldable pub advanced : Role → CallEvent → Call → Call
+advanced role e c = gone_to (call_row role c.state e).0 e c
+
+-- a call that nothing came to yet
+abbrev pub idle_call : ℕ → ℕ → Call
+idle_call remote port = record { remote = remote; state = Idle; port = port; steps = [] }
+
+-- a call that a port rings for, and one that the peer asks for
+unfoldable pub rung : Role → ℕ → Call
+rung role port = advanced role Ring (idle_call 0 port)
+
+unfoldable pub asked_for : Role → ℕ → Call
+asked_for role remote = advanced role IcrqAcc (idle_call remote 0)
+
+abbrev pub is_request : CallAction → Bool
+is_request SendIcrq = true
+is_request a = false
+
+abbrev pub is_reply : CallAction → Bool
+is_reply SendIcrp = true
+is_reply a = false
+
+abbrev pub is_connection : CallAction → Bool
+is_connection SendIccn = true
+is_connection a = false
+
+abbrev pub is_up : CallState → Bool
+is_up s = state_number s == 4
+
+-- ---- frames that come
+
+-- a frame that is handed up, and where, or why it is dropped
+pub data Carried : Type 0 where
+  Upward : (tunnel peer : ℕ) (side : Side) (frame : List ℕ) → Carried
+  Dropped : Why → Carried
+
+-- a frame stands behind the address and control bytes of HDLC, which may be left out
+abbrev pub frame_of : List ℕ → List ℕ
+frame_of body = if bytes_eq (take 2 body) (255 ∷ 3 ∷ []) then drop 2 body else body
+
+abbrev pub side_of : Role → Side
+side_of Lac = side.Sub
+side_of Lns = side.Net
+
+-- a frame of a call that the other end knows, in this tunnel to this peer
+unfoldable pub carry_known : Role → Bool → ℕ → ℕ → ℕ → ℕ → List ℕ → Carried
+carry_known role up tunnel of peer from frame =
+    if not (tunnel == of) then Dropped why.Tunnel
+    else if not (peer == from) then Dropped why.Peer
+    else if nat_lt (length frame) 2 then Dropped why.Short
+    else if up then Upward tunnel peer (side_of role) frame
+    else Dropped why.Closed
+
+-- what becomes of a data message from an address, by what is seen of the session that its header names
+unfoldable pub carry_look : Role → Look → ℕ → Header → List ℕ → Carried
+carry_look role Unborn from h frame = Dropped why.Session
+carry_look role Dead from h frame = Dropped why.Session
+carry_look role (Bound tunnel peer) from h frame = carry_known role false tunnel h.tunnel peer from frame
+carry_look role (Established tunnel peer) from h frame = carry_known role true tunnel h.tunnel peer from frame

@@ -1,0 +1,64 @@
+-- What a datagram says.
+use Rattle.std.specs.Prelude.{ℕ, ◌-◌, ◌==◌, List, take, drop, if◌then◌else◌, Option, Some, None, Result, Ok, Err}
+use Rattle.wire_base.specs.declared.why.Why.{Why}
+use Rattle.wire_base.specs.declared.why.Why.TheVariants as why
+use Rattle.avp_codec.specs.declared.avp.Avp.{Avp}
+use Rattle.avp_codec.specs.declared.error.AvpError.{AvpError}
+use Rattle.avp_codec.specs.Reading.{avps_of}
+use Rattle.l2tp_header.specs.declared.header.Header.{Header}
+use Rattle.l2tp_header.specs.declared.header.HeaderError.{HeaderError}
+use Rattle.l2tp_header.specs.declared.header.HeaderError.TheVariants as header
+use Rattle.control_message.specs.declared.message.Message.{Message}
+use Rattle.control_message.specs.declared.message.Message.TheVariants.{Sccrq}
+use Rattle.control_message.specs.declared.message.Read.{Read}
+use Rattle.control_message.specs.declared.message.Read.TheVariants.{Known, Ignored}
+use Rattle.control_message.specs.declared.message.MessageError.{MessageError}
+use Rattle.control_message.specs.declared.message.MessageError.TheVariants.{NoType, UnknownType}
+use Rattle.control_message.specs.Reading.{message_of}
+use Rattle.protocol_model.specs.declared.event.Addressee.{Addressee}
+use Rattle.protocol_model.specs.declared.event.Addressee.TheVariants.{Opens, Main, Nobody}
+
+abbrev pub header_why : HeaderError → Why
+header_why header.Short = why.Short
+header_why (header.Version seen) = why.Version
+header_why (header.ControlFlags word) = why.Flags
+header_why (header.Length said have) = why.Length
+
+-- the bytes between the header and the end that it tells
+abbrev pub body_of : Header → List ℕ → List ℕ
+body_of h bytes = take (h.end - h.start) (drop h.start bytes)
+
+-- the message that pairs make, or why it is ignored
+unfoldable pub message_read : Result Read MessageError → Result Message Why
+message_read (Ok (Known m)) = Ok m
+message_read (Ok (Ignored n)) = Err why.Ignored
+message_read (Err e) = Err why.Avp
+
+unfoldable pub pairs_read : Result (List Avp) AvpError → Result Message Why
+pairs_read (Ok avps) = message_read (message_of avps)
+pairs_read (Err e) = Err why.Avp
+
+unfoldable pub message_in : List ℕ → Result Message Why
+message_in body = pairs_read (avps_of body)
+
+-- ---- what a control message is for
+
+-- at tunnel 0: an SCCRQ opens a tunnel, one that is faulty is ignored, and every other message is for none
+unfoldable pub zero_read : Result Read MessageError → Addressee
+zero_read (Ok (Known (Sccrq o))) = Opens
+zero_read (Ok r) = Nobody why.Tunnel
+zero_read (Err NoType) = Nobody why.Tunnel
+zero_read (Err (UnknownType n)) = Nobody why.Tunnel
+zero_read (Err e) = Nobody why.Avp
+
+unfoldable pub zero_pairs : Result (List Avp) AvpError → Addressee
+zero_pairs (Ok avps) = zero_read (message_of avps)
+zero_pairs (Err e) = Nobody why.Avp
+
+unfoldable pub at_zero : List ℕ → Addressee
+at_zero body = zero_pairs (avps_of body)
+
+-- whether a tunnel goes to a peer, where there is one, by the addresses of the peers
+unfoldable pub at_tunnel : ℕ → ℕ → Option ℕ → Addressee
+at_tunnel peer i None = Nobody why.Tunnel
+at_tunnel peer i (Some p) = if p == peer then Main i else Nobody why.Peer

@@ -1,0 +1,144 @@
+//! What a step does to a tunnel or a call. Nobody prints it: what holds of every run is said over it.
+
+use wire_base::{Bytes, Side};
+
+/// The place of a letter in the list of letters that a tunnel was given in an epoch, counted from 0.
+#[derive(Clone, Copy, Debug, PartialEq, Eq)]
+pub struct Place {
+    /// How often the tunnel was recovered: 0, as long as none is.
+    pub epoch: u64,
+    pub number: u64,
+}
+
+/// A tunnel was opened to a peer, by an SCCRQ.
+#[derive(Clone, Copy, Debug, PartialEq, Eq)]
+pub struct Opened {
+    pub tunnel: u16,
+    pub peer: u32,
+    pub given: Place,
+}
+
+/// A tunnel was made by the SCCRQ of a peer that assigned an id, and answered by an SCCRP.
+#[derive(Clone, Copy, Debug, PartialEq, Eq)]
+pub struct Accepted {
+    pub tunnel: u16,
+    pub peer: u32,
+    pub remote: u16,
+    pub taken: Place,
+    pub given: Place,
+}
+
+/// A tunnel learned by an SCCRP which id its peer assigned, and was connected by an SCCCN.
+#[derive(Clone, Copy, Debug, PartialEq, Eq)]
+pub struct Connected {
+    pub tunnel: u16,
+    pub remote: u16,
+    pub taken: Place,
+    pub given: Place,
+}
+
+/// A tunnel took its SCCCN.
+#[derive(Clone, Copy, Debug, PartialEq, Eq)]
+pub struct Confirmed {
+    pub tunnel: u16,
+    pub taken: Place,
+}
+
+/// A call that rings was added to a tunnel: it is born.
+#[derive(Clone, Copy, Debug, PartialEq, Eq)]
+pub struct Added {
+    pub tunnel: u16,
+    pub session: u16,
+    pub port: u16,
+}
+
+/// A call that waited was asked for by an ICRQ.
+#[derive(Clone, Copy, Debug, PartialEq, Eq)]
+pub struct Requested {
+    pub tunnel: u16,
+    pub session: u16,
+    pub port: u16,
+    pub given: Place,
+}
+
+/// A call was made by the ICRQ for the peer's session, and answered by an ICRP.
+#[derive(Clone, Copy, Debug, PartialEq, Eq)]
+pub struct Replied {
+    pub tunnel: u16,
+    pub peer: u32,
+    pub session: u16,
+    pub remote: u16,
+    pub taken: Place,
+    pub given: Place,
+}
+
+/// The end that asked for a call learned by an ICRP which session its peer assigned, and connected the call by an ICCN.
+#[derive(Clone, Copy, Debug, PartialEq, Eq)]
+pub struct FirstUp {
+    pub tunnel: u16,
+    pub session: u16,
+    pub remote: u16,
+    pub taken: Place,
+    pub given: Place,
+}
+
+/// The end that was asked for a call took its ICCN.
+#[derive(Clone, Copy, Debug, PartialEq, Eq)]
+pub struct SecondUp {
+    pub tunnel: u16,
+    pub session: u16,
+    pub taken: Place,
+}
+
+/// A tunnel took a letter that changes nothing else.
+#[derive(Clone, Copy, Debug, PartialEq, Eq)]
+pub struct TookPlain {
+    pub tunnel: u16,
+    pub taken: Place,
+}
+
+/// A tunnel read which number its peer expects next, modulo 65536.
+#[derive(Clone, Copy, Debug, PartialEq, Eq)]
+pub struct NrRead {
+    pub tunnel: u16,
+    pub nr: u16,
+}
+
+/// A PPP frame that was given for a call was sent to the peer of its tunnel.
+#[derive(Debug, Drop)]
+pub struct FrameSent {
+    pub tunnel: u16,
+    pub peer: u32,
+    pub session: u16,
+    pub frame: Bytes,
+}
+
+/// A PPP frame that came from the peer of a call's tunnel was handed up.
+#[derive(Debug, Drop)]
+pub struct FrameUp {
+    pub tunnel: u16,
+    pub peer: u32,
+    pub session: u16,
+    pub side: Side,
+    pub frame: Bytes,
+}
+
+/// What a step does to a tunnel or a call. Tunnels and sessions are those that the end itself assigned, but for `remote`.
+#[derive(Debug, Drop)]
+pub enum Move {
+    Opened(Opened),
+    Accepted(Accepted),
+    Connected(Connected),
+    Confirmed(Confirmed),
+    Added(Added),
+    Requested(Requested),
+    Replied(Replied),
+    FirstUp(FirstUp),
+    SecondUp(SecondUp),
+    TookPlain(TookPlain),
+    NrRead(NrRead),
+    /// An acknowledgement alone was sent in the tunnel.
+    Quiet { tunnel: u16 },
+    FrameSent(FrameSent),
+    FrameUp(FrameUp),
+}

@@ -1,0 +1,6 @@
+mod Lists
+mod Turns
+mod Hearing
+mod Ends
+pub mod Steps
+pub mod Looks

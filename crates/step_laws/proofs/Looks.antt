@@ -1,0 +1,273 @@
+-- What the data plane sees of each session stays so.
+use Rattle.std.proofs.Common.{◌≡◌, ⊎_elim, ℕ, ◌+◌, ◌<◌, ◌≤◌, Bool, true, false, cond, List, [], ◌∷◌, refl, sym, ap, ◌∙◌, subst, Option, Some, Ok, Err, arith}
+use Rattle.std.proofs.lemmas.Bool.{true≢false}
+use Rattle.std.proofs.lemmas.Option.{none-some}
+use Rattle.std.specs.Prelude.{nat_lt, ◌-◌}
+use Rattle.id_source.specs.declared.IdError.TheVariants.{NoIds, NeedCeiling}
+use Rattle.id_source.specs.Spaces.{Space, draws, after_draw}
+use Rattle.id_table.specs.Ids.{at, put, at-none}
+use Rattle.id_table.specs.Order.{at_new, at_other, found_put, same_or_not}
+use Rattle.call_fsm.specs.declared.table.CallState.{CallState}
+use Rattle.call_fsm.specs.declared.table.CallState.TheVariants.{Idle, WaitTunnel, WaitReply, WaitConnect, Established}
+use Rattle.call_fsm.specs.declared.table.CallEvent.TheVariants as call_event
+use Rattle.protocol_model.specs.declared.event.Event.{Event}
+use Rattle.protocol_model.specs.declared.moves.Move.{Move}
+use Rattle.protocol_model.specs.declared.moves.Move.TheVariants as move
+use Rattle.protocol_model.specs.declared.tunnel.Call.{Call}
+use Rattle.protocol_model.specs.declared.tunnel.CallPlace.{CallPlace}
+use Rattle.protocol_model.specs.declared.tunnel.Control.{Control}
+use Rattle.protocol_model.specs.declared.tunnel.Look.TheVariants as look
+use Rattle.protocol_model.specs.declared.tunnel.Role.{Role}
+use Rattle.protocol_model.specs.declared.tunnel.Role.TheVariants.{Lac, Lns}
+use Rattle.protocol_model.specs.Calls.{call_row, advanced, rung, asked_for, is_request, is_reply, is_connection, is_up}
+use Rattle.protocol_model.specs.Turn.{Tunnel}
+use Rattle.protocol_model.specs.End.{End, with_look}
+use Rattle.step_laws.specs.Moves.{with_tunnel, Does, Chain}
+use Rattle.step_laws.specs.Steps.{StepsAreChains}
+use Rattle.step_laws.specs.Looks.{look_of, IsLive, LooksAreTrue, LooksBeginTrue, LooksStayTrue}
+
+never : {X : Type 0} → false ≡ true → X
+never h = absurd (true≢false (sym h))
+
+-- ---- rows
+
+requested_state : (r : Role) (s : CallState) → is_request (call_row r s call_event.TunnelOpen).1 ≡ true → (call_row r s call_event.TunnelOpen).0 ≡ WaitReply
+unfolding call_row
+requested_state Lac Idle h = never h
+requested_state Lac WaitTunnel h = refl
+requested_state Lac WaitReply h = never h
+requested_state Lac WaitConnect h = never h
+requested_state Lac Established h = never h
+requested_state Lns Idle h = never h
+requested_state Lns WaitTunnel h = never h
+requested_state Lns WaitReply h = never h
+requested_state Lns WaitConnect h = never h
+requested_state Lns Established h = never h
+
+replied_state : (r : Role) (remote : ℕ) → is_reply (call_row r Idle call_event.IcrqAcc).1 ≡ true → (asked_for r remote).state ≡ WaitConnect
+unfolding call_row asked_for advanced
+replied_state Lac remote h = never h
+replied_state Lns remote h = refl
+
+rung_state : (r : Role) (port : ℕ) → r ≡ Lac → (rung r port).state ≡ WaitTunnel
+unfolding call_row rung advanced
+rung_state Lac port h = refl
+rung_state Lns port h = absurd cc
+
+connected_state : (r : Role) (s : CallState) → is_connection (call_row r s call_event.IcrpAcc).1 ≡ true → (s ≡ WaitReply) × ((call_row r s call_event.IcrpAcc).0 ≡ Established)
+unfolding call_row
+connected_state Lac Idle h = never h
+connected_state Lac WaitTunnel h = never h
+connected_state Lac WaitReply h = (refl, refl)
+connected_state Lac WaitConnect h = never h
+connected_state Lac Established h = never h
+connected_state Lns Idle h = never h
+connected_state Lns WaitTunnel h = never h
+connected_state Lns WaitReply h = never h
+connected_state Lns WaitConnect h = never h
+connected_state Lns Established h = never h
+
+up_state : (s : CallState) → is_up s ≡ true → s ≡ Established
+up_state Idle h = never h
+up_state WaitTunnel h = never h
+up_state WaitReply h = never h
+up_state WaitConnect h = never h
+up_state Established h = refl
+
+-- ---- draws
+
+draw_is : (s : Space) (k : ℕ) → draws s ≡ Ok k → k ≡ s.next
+unfolding draws
+draw_is s k h = by (nat_lt s.last s.next) (nat_lt s.ceiling s.next) h
+  where
+    by : (a b : Bool) → cond a (Err (NoIds (s.next - 1))) (cond b (Err (NeedCeiling s.next)) (Ok s.next)) ≡ Ok k → k ≡ s.next
+    by true b h = absurd cc
+    by false true h = absurd cc
+    by false false h = let g : s.next ≡ k = cc in sym g
+
+next_is : (s : Space) (k : ℕ) → draws s ≡ Ok k → after_draw s ≡ record s { next = k + 1 }
+next_is s k h = rw h refl
+
+-- ---- one tunnel is put, and one place
+
+module _ (x : End) (ok : LooksAreTrue x) where
+  -- a tunnel goes on with the calls that it has
+  calls_stay : (i : ℕ) (t : Tunnel) (c : Control) → at x.tunnels i ≡ Some t → c.peer ≡ t.control.peer → LooksAreTrue (with_tunnel x i (record t { control = c }))
+  calls_stay i t c there peer = record {
+    live = λ s p f. let l = ok.live s p f in ⊎_elim
+        (λ (a : p.tunnel ≡ i). (let g : Some l.tunnel ≡ Some t = sym l.there ∙ subst (λ q. at x.tunnels q ≡ Some t) (sym a) there in let k : l.tunnel ≡ t = cc in
+        record { tunnel = record t { control = c }; there = rw a (at_new x.tunnels i (record t { control = c })); call = l.call; live = rw (← k) l.live }))
+        (λ o. record { tunnel = l.tunnel; there = at_other x.tunnels i (record t { control = c }) p.tunnel o ∙ l.there; call = l.call; live = l.live })
+        (same_or_not p.tunnel i);
+    seen = λ j u f s d g. ⊎_elim
+        (λ (a : (j ≡ i) × (record t { control = c } ≡ u)). rw (a.0, ← a.1, peer) (ok.seen i t there s d (rw (← a.1) at g)))
+        (λ a. ok.seen j u a.1 s d g)
+        (found_put x.tunnels i (record t { control = c }) j u f);
+    tunnels = λ j u f. ⊎_elim (λ (a : (j ≡ i) × (record t { control = c } ≡ u)). rw a.0 (ok.tunnels i t there)) (λ a. ok.tunnels j u a.1) (found_put x.tunnels i (record t { control = c }) j u f);
+    sessions = ok.sessions;
+  }
+
+  -- a tunnel that is new has no calls
+  tunnel_born : (y : End) (i : ℕ) (c : Control) → i ≡ x.tunnel_ids.next → y.tunnels ≡ put x.tunnels i (record { control = c; calls = [] }) → y.calls ≡ x.calls → y.tunnel_ids.next ≡ i + 1 → y.session_ids ≡ x.session_ids → LooksAreTrue y
+  tunnel_born y i c fresh tunnels calls next sessions = record {
+    live = λ s p f.
+        let l = ok.live s p (rw (← calls) f) in
+        let lt = ok.tunnels p.tunnel l.tunnel l.there in
+        record { tunnel = l.tunnel; there = rw tunnels (at_other x.tunnels i (record { control = c; calls = [] }) p.tunnel (λ e. omega (arith, fresh, e)) ∙ l.there); call = l.call; live = l.live };
+    seen = λ j u f s d g. ⊎_elim
+        (λ (a : (j ≡ i) × (record { control = c; calls = [] } ≡ u)). absurd (let h : at [] s ≡ Some d = rw (← a.1) at g in none-some d (sym (at-none s) ∙ h)))
+        (λ a. rw calls (ok.seen j u a.1 s d g))
+        (found_put x.tunnels i (record { control = c; calls = [] }) j u (rw (← tunnels) f));
+    tunnels = λ j u f. ⊎_elim
+        (λ (a : (j ≡ i) × (record { control = c; calls = [] } ≡ u)). (let e = a.0 in omega (arith, next, e)))
+        (λ a. let lt = ok.tunnels j u a.1 in omega (arith, next, fresh))
+        (found_put x.tunnels i (record { control = c; calls = [] }) j u (rw (← tunnels) f));
+    sessions = λ s p f. rw sessions (ok.sessions s p (rw (← calls) f));
+  }
+
+  -- a call of a tunnel is put, with its place; no other tunnel has it
+  module _ (y : End) (i : ℕ) (t : Tunnel) (c : Control) (s : ℕ) (k : Call) (there : at x.tunnels i ≡ Some t) (peer : c.peer ≡ t.control.peer) (only : (j : ℕ) (u : Tunnel) → at x.tunnels j ≡ Some u → (j ≡ i → ⊥) → (d : Call) → at u.calls s ≡ Some d → ⊥) (tunnels : y.tunnels ≡ put x.tunnels i (record { control = c; calls = put t.calls s k })) (calls : (q : ℕ) → at y.calls q ≡ at (put x.calls s (record { tunnel = i; look = look_of k.state i t.control.peer })) q) (ids : y.tunnel_ids ≡ x.tunnel_ids) (drawn : s < y.session_ids.next) (rises : x.session_ids.next ≤ y.session_ids.next) where
+    abbrev u : Tunnel
+    u = record { control = c; calls = put t.calls s k }
+
+    abbrev place : CallPlace
+    place = record { tunnel = i; look = look_of k.state i t.control.peer }
+
+    there_now : at y.tunnels i ≡ Some u
+    there_now = rw tunnels (at_new x.tunnels i u)
+
+    live_other : (q : ℕ) (p : CallPlace) → (q ≡ s → ⊥) → at x.calls q ≡ Some p → IsLive y p.tunnel q
+    live_other q p o f =
+        let l = ok.live q p f in
+        ⊎_elim
+        (λ (a : p.tunnel ≡ i). (let g : Some l.tunnel ≡ Some t = sym l.there ∙ subst (λ j. at x.tunnels j ≡ Some t) (sym a) there in let same : l.tunnel ≡ t = cc in
+        record { tunnel = u; there = rw a there_now; call = l.call; live = at_other t.calls s k q o ∙ rw (← same) l.live }))
+        (λ b. record { tunnel = l.tunnel; there = rw tunnels (at_other x.tunnels i u p.tunnel b ∙ l.there); call = l.call; live = l.live })
+        (same_or_not p.tunnel i)
+
+    live_now : (q : ℕ) (p : CallPlace) → at y.calls q ≡ Some p → IsLive y p.tunnel q
+    live_now q p f = ⊎_elim
+        (λ (a : (q ≡ s) × (place ≡ p)). rw (← a.1, a.0) (record { tunnel = u; there = there_now; call = k; live = at_new t.calls s k }))
+        (λ a. live_other q p a.0 a.1)
+        (found_put x.calls s place q p (sym (calls q) ∙ f))
+
+    seen_here : (q : ℕ) (d : Call) → at (put t.calls s k) q ≡ Some d → at y.calls q ≡ Some (record { tunnel = i; look = look_of d.state i c.peer })
+    seen_here q d g = ⊎_elim
+        (λ (a : (q ≡ s) × (k ≡ d)). rw (← a.1, a.0, peer) (calls s ∙ at_new x.calls s place))
+        (λ a. rw peer (calls q ∙ at_other x.calls s place q a.0 ∙ ok.seen i t there q d a.1))
+        (found_put t.calls s k q d g)
+
+    seen_there : (j : ℕ) (v : Tunnel) → at x.tunnels j ≡ Some v → (j ≡ i → ⊥) → (q : ℕ) (d : Call) → at v.calls q ≡ Some d → at y.calls q ≡ Some (record { tunnel = j; look = look_of d.state j v.control.peer })
+    seen_there j v f o q d g = calls q ∙ at_other x.calls s place q (λ e. only j v f o d (subst (λ n. at v.calls n ≡ Some d) e g)) ∙ ok.seen j v f q d g
+
+    call_put : LooksAreTrue y
+    call_put = record {
+      live = live_now;
+      seen = λ j v f q d g. ⊎_elim
+          (λ (a : (j ≡ i) × (u ≡ v)). rw (a.0, ← a.1) (seen_here q d (rw (← a.1) at g)))
+          (λ a. seen_there j v a.1 a.0 q d g)
+          (found_put x.tunnels i u j v (rw (← tunnels) f));
+      tunnels = λ j v f. rw ids (⊎_elim (λ (a : (j ≡ i) × (u ≡ v)). rw a.0 (ok.tunnels i t there)) (λ a. ok.tunnels j v a.1) (found_put x.tunnels i u j v (rw (← tunnels) f)));
+      sessions = λ q p f. ⊎_elim (λ (a : (q ≡ s) × (place ≡ p)). rw a.0 drawn) (λ a. let lt = ok.sessions q p a.1 in omega (arith, rises)) (found_put x.calls s place q p (sym (calls q) ∙ f));
+    }
+
+  -- no other tunnel has a call that is in this one
+  one_tunnel : (i : ℕ) (t : Tunnel) → at x.tunnels i ≡ Some t → (s : ℕ) (c : Call) → at t.calls s ≡ Some c → (j : ℕ) (u : Tunnel) → at x.tunnels j ≡ Some u → (j ≡ i → ⊥) → (d : Call) → at u.calls s ≡ Some d → ⊥
+  one_tunnel i t there s c live j u f o d g =
+      let a = ok.seen i t there s c live in
+      let b = ok.seen j u f s d g in
+      let e : ◌≡◌ {A = CallPlace} (record { tunnel = j; look = look_of d.state j u.control.peer }) (record { tunnel = i; look = look_of c.state i t.control.peer }) = (let q : ◌≡◌ {A = Option CallPlace} (Some (record { tunnel = j; look = look_of d.state j u.control.peer })) (Some (record { tunnel = i; look = look_of c.state i t.control.peer })) = sym b ∙ a in cc) in
+      o (ap (λ (p : CallPlace). p.tunnel) e)
+
+  -- none has one whose session is yet to be drawn
+  no_tunnel : (s : ℕ) → s ≡ x.session_ids.next → (j : ℕ) (u : Tunnel) → at x.tunnels j ≡ Some u → (d : Call) → at u.calls s ≡ Some d → ⊥
+  no_tunnel s fresh j u f d g = let lt = ok.sessions s _ (ok.seen j u f s d g) in omega (arith, fresh)
+
+  -- what is put twice is the last
+  put_twice : (s : ℕ) (a b : CallPlace) (q : ℕ) → at (put (put x.calls s a) s b) q ≡ at (put x.calls s b) q
+  put_twice s a b q = ⊎_elim
+      (λ e. rw e (at_new (put x.calls s a) s b ∙ sym (at_new x.calls s b)))
+      (λ o. at_other (put x.calls s a) s b q o ∙ at_other x.calls s a q o ∙ sym (at_other x.calls s b q o))
+      (same_or_not q s)
+
+  same_places : (es fs : List (ℕ × CallPlace)) → es ≡ fs → (q : ℕ) → at es q ≡ at fs q
+  same_places es fs e q = ap (λ (l : List (ℕ × CallPlace)). at l q) e
+
+  stays : (y : End) → y ≡ x → LooksAreTrue y
+  stays y same = subst LooksAreTrue (sym same) ok
+
+  does_looks : (ev : Event) (m : Move) (y : End) → Does x ev m y → LooksAreTrue y
+  unfolding with_look advanced
+  does_looks ev (move.Opened m) y h = tunnel_born y m.tunnel _ (draw_is x.tunnel_ids m.tunnel h.drawn) (ap (λ (e : End). e.tunnels) h.after) (ap (λ (e : End). e.calls) h.after) (ap (λ (e : End). e.tunnel_ids.next) h.after ∙ ap (λ (d : Space). d.next) (next_is x.tunnel_ids m.tunnel h.drawn)) (ap (λ (e : End). e.session_ids) h.after)
+  does_looks ev (move.Accepted m) y h = tunnel_born y m.tunnel _ (draw_is x.tunnel_ids m.tunnel h.drawn) (ap (λ (e : End). e.tunnels) h.after) (ap (λ (e : End). e.calls) h.after) (ap (λ (e : End). e.tunnel_ids.next) h.after ∙ ap (λ (d : Space). d.next) (next_is x.tunnel_ids m.tunnel h.drawn)) (ap (λ (e : End). e.session_ids) h.after)
+  does_looks ev (move.Connected m) y h = subst LooksAreTrue (sym h.after) (calls_stay m.tunnel h.tunnel _ h.there refl)
+  does_looks ev (move.Confirmed m) y h = subst LooksAreTrue (sym h.after) (calls_stay m.tunnel h.tunnel _ h.there refl)
+  does_looks ev (move.TookPlain m) y h = subst LooksAreTrue (sym h.after) (calls_stay m.tunnel h.tunnel _ h.there refl)
+  does_looks ev (move.Added m) y h =
+      let fresh = draw_is x.session_ids m.session h.drawn in
+      let next : y.session_ids.next ≡ m.session + 1 = ap (λ (e : End). e.session_ids.next) h.after ∙ ap (λ (d : Space). d.next) (next_is x.session_ids m.session h.drawn) in
+      call_put y m.tunnel h.tunnel h.tunnel.control m.session (rung x.role m.port) h.there refl
+      (λ j u f o d g. no_tunnel m.session fresh j u f d g)
+      (ap (λ (e : End). e.tunnels) h.after)
+      (same_places y.calls _ (ap (λ (e : End). e.calls) h.after ∙ rw (rung_state x.role m.port h.role) refl))
+      (ap (λ (e : End). e.tunnel_ids) h.after) (omega (arith, next)) (omega (arith, next, fresh))
+  does_looks ev (move.Replied m) y h =
+      let fresh = draw_is x.session_ids m.session h.drawn in
+      let next : y.session_ids.next ≡ m.session + 1 = ap (λ (e : End). e.session_ids.next) h.after ∙ ap (λ (d : Space). d.next) (next_is x.session_ids m.session h.drawn) in
+      call_put y m.tunnel h.tunnel _ m.session (asked_for x.role m.remote) h.there refl
+      (λ j u f o d g. no_tunnel m.session fresh j u f d g)
+      (ap (λ (e : End). e.tunnels) h.after)
+      (same_places y.calls _ (ap (λ (e : End). e.calls) h.after ∙ rw (replied_state x.role m.remote h.row) refl))
+      (ap (λ (e : End). e.tunnel_ids) h.after) (omega (arith, next)) (omega (arith, next, fresh))
+  does_looks ev (move.Requested m) y h =
+      let seen = ok.seen m.tunnel h.tunnel h.there m.session h.call h.waits in
+      let lt = ok.sessions m.session _ seen in
+      let ids : y.session_ids ≡ x.session_ids = ap (λ (e : End). e.session_ids) h.after in
+      call_put y m.tunnel h.tunnel _ m.session (advanced x.role call_event.TunnelOpen h.call) h.there refl
+      (one_tunnel m.tunnel h.tunnel h.there m.session h.call h.waits)
+      (ap (λ (e : End). e.tunnels) h.after)
+      (same_places y.calls _ (ap (λ (e : End). e.calls) h.after ∙ rw (seen, requested_state x.role h.call.state h.row) refl))
+      (ap (λ (e : End). e.tunnel_ids) h.after) (rw ids lt) (rw ids (omega arith))
+  does_looks ev (move.FirstUp m) y h =
+      let seen = ok.seen m.tunnel h.tunnel h.there m.session h.call h.asked in
+      let lt = ok.sessions m.session _ seen in
+      let ids : y.session_ids ≡ x.session_ids = ap (λ (e : End). e.session_ids) h.after in
+      let state = connected_state x.role h.call.state h.row in
+      let bound : at x.calls m.session ≡ Some (record { tunnel = m.tunnel; look = look.Bound m.tunnel h.tunnel.control.peer }) = seen ∙ ap (λ q. Some (record { tunnel = m.tunnel; look = look_of q m.tunnel h.tunnel.control.peer })) state.0 in
+      call_put y m.tunnel h.tunnel _ m.session (advanced x.role call_event.IcrpAcc (record h.call { remote = m.remote })) h.there refl
+      (one_tunnel m.tunnel h.tunnel h.there m.session h.call h.asked)
+      (ap (λ (e : End). e.tunnels) h.after)
+      (same_places y.calls _ (ap (λ (e : End). e.calls) h.after ∙ rw (bound, state.1) refl))
+      (ap (λ (e : End). e.tunnel_ids) h.after) (rw ids lt) (rw ids (omega arith))
+  does_looks ev (move.SecondUp m) y h =
+      let seen = ok.seen m.tunnel h.tunnel h.there m.session h.call h.made in
+      let lt = ok.sessions m.session _ seen in
+      let ids : y.session_ids ≡ x.session_ids = ap (λ (e : End). e.session_ids) h.after in
+      let state = up_state _ h.row in
+      let bound : CallPlace = record { tunnel = m.tunnel; look = look.Bound m.tunnel h.tunnel.control.peer } in
+      let up : CallPlace = record { tunnel = m.tunnel; look = look.Established m.tunnel h.tunnel.control.peer } in
+      let places : y.calls ≡ put (put x.calls m.session bound) m.session up = ap (λ (e : End). e.calls) h.after ∙ rw (seen, at_new x.calls m.session bound) refl in
+      call_put y m.tunnel h.tunnel _ m.session (advanced x.role call_event.IccnAcc h.call) h.there refl
+      (one_tunnel m.tunnel h.tunnel h.there m.session h.call h.made)
+      (ap (λ (e : End). e.tunnels) h.after)
+      (λ q. same_places y.calls _ places q ∙ put_twice m.session bound up q ∙ rw state refl)
+      (ap (λ (e : End). e.tunnel_ids) h.after) (rw ids lt) (rw ids (omega arith))
+  does_looks ev (move.NrRead m) y h = stays y h.after
+  does_looks ev (move.Quiet i) y h = stays y h.after
+  does_looks ev (move.FrameSent m) y h = stays y h.after
+  does_looks ev (move.FrameUp m) y h = stays y h.after
+
+pub chain_looks : (ev : Event) (x y : End) (ms : List Move) → Chain ev x ms y → LooksAreTrue x → LooksAreTrue y
+chain_looks ev x y [] h ok = subst LooksAreTrue h ok
+chain_looks ev x y (m ∷ ms) h ok = chain_looks ev h.0 y ms h.2 (does_looks x ok ev m h.0 h.1)
+
+pub looks_begin : LooksBeginTrue
+looks_begin r c = record {
+  live = λ s p f. absurd (none-some p (sym (at-none s) ∙ f));
+  seen = λ i t f s d g. absurd (none-some t (sym (at-none i) ∙ f));
+  tunnels = λ i t f. absurd (none-some t (sym (at-none i) ∙ f));
+  sessions = λ s p f. absurd (none-some p (sym (at-none s) ∙ f));
+}
+
+pub looks_stay : StepsAreChains → LooksStayTrue
+looks_stay chains e kept ok moment block ev = chain_looks ev e _ _ (chains e kept moment block ev).chain ok

@@ -1,0 +1,65 @@
+-- The letters that moves give, and what a step's outputs are of its moves.
+use Rattle.std.specs.Prelude.{◌≡◌, ℕ, ◌⊎◌, true, false, List, [], ◌∷◌, None, Some}
+use Rattle.id_table.specs.Ids.{at}
+use Rattle.l2tp_header.specs.Spelling.{control_bytes, data_bytes}
+use Rattle.avp_codec.specs.Spelling.{spelling}
+use Rattle.control_message.specs.declared.message.Message.{Message}
+use Rattle.control_message.specs.declared.message.Message.TheVariants.{Sccrq, Sccrp, Scccn, Icrp}
+use Rattle.control_message.specs.Pairs.{pairs_of}
+use Rattle.reliable_channel.specs.Channel.{on_wire}
+use Rattle.protocol_model.specs.declared.tunnel.Call.{Call}
+use Rattle.protocol_model.specs.declared.tunnel.Config.{Config}
+use Rattle.protocol_model.specs.declared.tunnel.Role.{Role}
+use Rattle.protocol_model.specs.declared.out.Out.{Out}
+use Rattle.protocol_model.specs.declared.out.Out.TheVariants.{Send}
+use Rattle.protocol_model.specs.declared.out.Origin.{Origin}
+use Rattle.protocol_model.specs.declared.out.Origin.TheVariants as origin
+use Rattle.protocol_model.specs.declared.moves.FrameSent.{FrameSent}
+use Rattle.protocol_model.specs.declared.moves.Place.{Place}
+use Rattle.protocol_model.specs.declared.moves.Move.{Move}
+use Rattle.protocol_model.specs.declared.moves.Move.TheVariants as move
+use Rattle.protocol_model.specs.Calls.{is_up}
+use Rattle.protocol_model.specs.Turn.{Tunnel, opening_of, request_of, connection}
+
+-- one of them is this one
+abbrev pub Among : {X : Type 0} → X → List X → Type 0
+Among x [] = ⊥
+Among x (y ∷ ys) = (y ≡ x) ⊎ Among x ys
+
+-- a letter that a tunnel was given: its place in the tunnel's list, the session id of its header, and what it says
+pub record Letter : Type 0 where
+  pub tunnel : ℕ
+  pub place : Place
+  pub session : ℕ
+  pub message : Message
+
+abbrev pub letter : ℕ → Place → ℕ → Message → List Letter
+letter tunnel place session m = record { tunnel = tunnel; place = place; session = session; message = m } ∷ []
+
+-- the letters that a move gives
+abbrev pub letters_of : Role → Config → Move → List Letter
+letters_of role c (move.Opened m) = letter m.tunnel m.given 0 (Sccrq (opening_of role c m.tunnel))
+letters_of role c (move.Accepted m) = letter m.tunnel m.given 0 (Sccrp (opening_of role c m.tunnel))
+letters_of role c (move.Connected m) = letter m.tunnel m.given 0 Scccn
+letters_of role c (move.Requested m) = letter m.tunnel m.given 0 (request_of m.session m.port)
+letters_of role c (move.Replied m) = letter m.tunnel m.given m.remote (Icrp m.session)
+letters_of role c (move.FirstUp m) = letter m.tunnel m.given m.remote connection
+letters_of role c m = []
+
+-- one of the moves gives the letter
+pub record GivesLetter (role : Role) (c : Config) (moves : List Move) (l : Letter) : Type 0 where
+  pub by : Move
+  pub there : Among by moves
+  pub gives : Among l (letters_of role c by)
+
+-- the bytes that are sent in a tunnel, by the ids that both ends assigned: a letter that a move of the step gave, at its
+-- place; an acknowledgement alone; or a frame that a move of the step sends
+pub data Carries (role : Role) (c : Config) (t : Tunnel) (moves : List Move) (bytes : List ℕ) (o : Origin) : Type 0 where
+  ALetter : (l : Letter) (nr : ℕ) → GivesLetter role c moves l → l.tunnel ≡ t.control.local → o ≡ origin.Control (record { tunnel = t.control.local; epoch = 0; ns = l.place.number; nr = nr; empty = false }) → bytes ≡ control_bytes t.control.remote l.session (on_wire l.place.number) (on_wire nr) (spelling (pairs_of l.message)) → Carries role c t moves bytes o
+  Nothing : (ns nr : ℕ) → o ≡ origin.Control (record { tunnel = t.control.local; epoch = 0; ns = ns; nr = nr; empty = true }) → bytes ≡ control_bytes t.control.remote 0 (on_wire ns) (on_wire nr) [] → Carries role c t moves bytes o
+  AFrame : (f : FrameSent) (call : Call) → Among (move.FrameSent f) moves → f.tunnel ≡ t.control.local → f.peer ≡ t.control.peer → at t.calls f.session ≡ Some call → is_up call.state ≡ true → o ≡ origin.Data f.session → bytes ≡ data_bytes t.control.remote call.remote None f.frame → Carries role c t moves bytes o
+
+-- a frame that a move sends is in an output
+abbrev pub HasOutput : List Out → Move → Type 0
+HasOutput outs (move.FrameSent f) = (tunnel : ℕ) × (call : ℕ) × Among (Send f.peer (data_bytes tunnel call None f.frame) (origin.Data f.session)) outs
+HasOutput outs m = Unit {0}

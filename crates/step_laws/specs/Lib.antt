@@ -1,0 +1,4 @@
+pub mod Letters
+pub mod Moves
+pub mod Steps
+pub mod Looks

@@ -1,0 +1,22 @@
+//! What a step of an end does, as a chain of moves: what each move needs before it and what it changes.
+#![tactic(auto)]
+
+ghost use Rattle.step_laws.specs.Looks.{LooksBeginTrue, LooksStayTrue};
+ghost use Rattle.step_laws.specs.Steps.{StepsAreChains};
+
+/// Each step of an end whose tunnels are kept is a chain of its moves: each move has what it needs in the end that the moves
+/// before it lead to, and the last one leads to the end that is left, whose tunnels are kept. What is sent is a letter that
+/// one of the moves gives, an acknowledgement, or a frame that one of them sends; what is handed up is what one hands up.
+pub fn steps_are_chains()
+    ensures { StepsAreChains }
+{}
+
+/// What the data plane sees of a session is so of its call, at first and after each step: each session that has a place is
+/// that of a live call, each live call has its place in its tunnel, and what is seen there follows from the call's state
+/// and from where its tunnel goes.
+pub fn looks_are_true()
+    ensures begin { LooksBeginTrue }
+    ensures stay { LooksStayTrue }
+{
+    steps_are_chains();
+}

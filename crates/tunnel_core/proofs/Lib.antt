@@ -1,0 +1,3 @@
+pub mod Tunnels
+pub mod Rooms
+pub mod Steps

@@ -1,0 +1,39 @@
+-- A tunnel as its code keeps it, and what a step of it is about to change.
+use Rattle.std.specs.Prelude.{◌≡◌, ℕ, List, map}
+use Rattle.std.specs.List.{AllByRecursion}
+use Rattle.id_table.specs.Tables.{Kept, HasRoom}
+use Rattle.protocol_model.specs.declared.tunnel.Call.{Call}
+use Rattle.protocol_model.specs.declared.tunnel.CallPlace.{CallPlace}
+use Rattle.protocol_model.specs.declared.tunnel.Control.{Control}
+use Rattle.protocol_model.specs.Turn.{Tunnel, Turn}
+
+pub record Core : Type 0 where
+  pub control : Control
+  -- the calls, with the room that was made for more
+  pub calls : Kept Call
+
+abbrev pub tunnel_of : Core → Tunnel
+tunnel_of c = record { control = c.control; calls = c.calls.entries }
+
+pub record Plan : Type 0 where
+  pub control : Control
+  pub changed : List (ℕ × Call)
+  pub added : List ℕ
+
+-- the plan has what a turn leads to
+pub record IsTurn (p : Plan) (t : Turn) : Type 0 where
+  pub control : p.control ≡ t.control
+  pub changed : p.changed ≡ t.changed
+  pub added : p.added ≡ t.added
+
+-- there is room for each of these calls
+abbrev pub AllHaveRoom : Kept Call → List (ℕ × Call) → Type 0
+AllHaveRoom kept calls = AllByRecursion (λ c. HasRoom kept c.0) calls
+
+-- the tunnels of a table, without the room that was made in them
+abbrev pub tunnels_of : List (ℕ × Core) → List (ℕ × Tunnel)
+tunnels_of cores = map (λ e. (e.0, tunnel_of e.1)) cores
+
+-- there is room for the place of each of these calls
+abbrev pub HaveRoom : Kept CallPlace → List ℕ → Type 0
+HaveRoom kept sessions = AllByRecursion (λ s. HasRoom kept s) sessions

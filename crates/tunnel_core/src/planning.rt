@@ -1,0 +1,174 @@
+//! A tunnel with its calls: an event is planned, and then made.
+
+ghost use Rattle.std.specs.Prelude.{◌≡◌, [], OnOk, OnErr, IfOk};
+ghost use Rattle.id_table.specs.Ids.{put};
+ghost use Rattle.id_table.specs.Tables.{KeepsRoom};
+ghost use Rattle.protocol_model.specs.Turn.{fresh, turn_of, with_turn, turns, with_calls, tunnel_after};
+ghost use Rattle.tunnel_core.specs.Cores.{tunnel_of, AllHaveRoom, IsTurn};
+
+use crate::env::Env;
+use crate::turn::{Changed, Turn};
+use id_table::Table;
+use protocol_model::{Call, Config, Control, Event, Role};
+use reliable_channel::Channel;
+use std::alloc::Global;
+use std::marker::Model;
+use tunnel_fsm::TunnelState;
+use wire_base::{NoMemory, Sequence};
+
+/// What a step of a tunnel is about to change.
+#[derive(Drop)]
+pub struct Planned {
+    control: Control,
+    changed: Changed,
+    added: Sequence<u16>,
+}
+
+impl Model for Planned {
+    ghost use Rattle.tunnel_core.specs.Cores.{Plan};
+
+    ghost Value = { Plan };
+
+    ghost view = { λ p. record { control = p.control; changed = p.changed; added = p.added } };
+}
+
+impl Planned {
+    /// The tunnel's local id after the step, 0 where it drew none.
+    pub(crate) fn local(&self) -> u16
+        ensures { result ≡ self.now.control.local }
+    {
+        self.control.local
+    }
+
+    /// The sessions of the calls that the step makes.
+    pub(crate) fn added(&self) -> &[u16]
+        ensures { result.now ≡ self.now.added }
+    {
+        self.added.as_slice()
+    }
+}
+
+/// A tunnel of an end, with its calls.
+#[derive(Drop)]
+pub struct TunnelCore {
+    alloc: Global,
+    control: Control,
+    calls: Table<Call>,
+}
+
+impl Model for TunnelCore {
+    ghost use Rattle.tunnel_core.specs.Cores.{Core};
+
+    ghost Value = { Core };
+
+    ghost view = { λ c. record { control = c.control; calls = c.calls } };
+}
+
+/// Makes room in a table for each of these calls. Where memory is wanting, the calls are as before.
+fn make_room(calls: &mut Table<Call>, changed: &[(u16, Call)]) -> Result<(), NoMemory>
+    ensures same { calls.new.entries ≡ calls.old.entries }
+    ensures room { OnOk result (AllHaveRoom calls.new changed.now) }
+{
+    for (session, _) in changed {
+        calls.make_room(u32::from(*session))?;
+    }
+    Ok(())
+}
+
+impl TunnelCore {
+    /// A tunnel to a peer, an IPv4 address as a number, that is neither opened nor accepted yet. It draws its id in its
+    /// first step.
+    pub fn idle(alloc: Global, peer: u32) -> TunnelCore
+        ensures { tunnel_of result ≡ record { control = fresh peer; calls = [] } }
+    {
+        TunnelCore {
+            alloc,
+            control: Control {
+                local: 0,
+                peer,
+                remote: 0,
+                state: TunnelState::Idle,
+                channel: Channel::new(),
+            },
+            calls: Table::new(alloc),
+        }
+    }
+
+    /// The tunnel apart from its calls.
+    pub fn control(&self) -> &Control
+        ensures { result.now ≡ self.now.control }
+    {
+        &self.control
+    }
+
+    /// The calls, by session id.
+    pub fn calls(&self) -> &Table<Call>
+        ensures { result.now ≡ self.now.calls }
+    {
+        &self.calls
+    }
+
+    /// Says what a step on an event will change, makes all room for it, and writes what it gives into `env`. What the
+    /// tunnel stands for is as before; where memory is wanting, `env` is too.
+    pub fn plan(
+        &mut self,
+        role: Role,
+        config: &Config,
+        env: &mut Env,
+        event: &Event,
+    ) -> Result<Planned, NoMemory>
+        ensures same { tunnel_of self.new ≡ tunnel_of self.old }
+        ensures planned { IfOk result (λ p. IsTurn p (turns role config.now self.old.calls.entries event.now (turn_of self.old.control env.old))) }
+        ensures room { IfOk result (λ p. AllHaveRoom self.new.calls p.changed) }
+        ensures given { OnOk result (env.new ≡ with_turn (turns role config.now self.old.calls.entries event.now (turn_of self.old.control env.old)) env.old) }
+        ensures kept { OnErr result (env.new ≡ env.old) }
+    {
+        let mut turn = Turn::new(self.alloc, self.control, env);
+        turn.run(role, config, &self.calls, event)?;
+        make_room(&mut self.calls, turn.changed.as_slice())?;
+        env.take_in(&mut turn)?;
+        Ok(Planned {
+            control: turn.control,
+            changed: turn.changed,
+            added: turn.added,
+        })
+    }
+
+    /// Makes the planned step. It takes no memory.
+    pub fn apply(&mut self, planned: Planned)
+        requires { AllHaveRoom self.old.calls planned.changed }
+        ensures { tunnel_of self.new ≡ record { control = planned.control; calls = with_calls planned.changed self.old.calls.entries } }
+    {
+        self.control = planned.control;
+        put_all(&mut self.calls, planned.changed);
+    }
+
+    /// A step on an event. Where memory is wanting, the tunnel and `env` are as before.
+    pub fn step(
+        &mut self,
+        role: Role,
+        config: &Config,
+        env: &mut Env,
+        event: &Event,
+    ) -> Result<(), NoMemory>
+        ensures made { OnOk result (tunnel_of self.new ≡ tunnel_after (turns role config.now self.old.calls.entries event.now (turn_of self.old.control env.old)) self.old.calls.entries) }
+        ensures given { OnOk result (env.new ≡ with_turn (turns role config.now self.old.calls.entries event.now (turn_of self.old.control env.old)) env.old) }
+        ensures same { OnErr result (tunnel_of self.new ≡ tunnel_of self.old) }
+        ensures kept { OnErr result (env.new ≡ env.old) }
+    {
+        let planned = self.plan(role, config, env, event)?;
+        self.apply(planned);
+        Ok(())
+    }
+}
+
+/// Puts each of these calls into a table that has room for it. It takes no memory.
+#[tactic(auto, unfolding(protocol_model::specs::Turn::with_calls))]
+fn put_all(calls: &mut Table<Call>, changed: Changed)
+    requires { AllHaveRoom calls.old changed }
+    ensures { calls.new.entries ≡ with_calls changed calls.old.entries }
+{
+    for (session, call) in changed.into_vec() {
+        calls.fill(u32::from(session), call);
+    }
+}
