@@ -14,10 +14,10 @@ use Rattle.control_message.specs.declared.kind.Shape.TheVariants.{Text, Short, N
 use Rattle.control_message.specs.declared.message.MessageError.{MessageError}
 use Rattle.control_message.specs.declared.message.MessageError.TheVariants.{NoType, UnknownType, UnknownMandatory, HiddenWithoutVector, BadValue, Missing, NoMemory}
 use Rattle.control_message.specs.Table.{look_up, shape_of, uses_of, fits}
-use Rattle.control_message.specs.Reading.{is_listed, is_recognised, first, checked_value, checked_use, checked, checked_all}
-use Rattle.control_message.specs.Grammar.{IsOfIetf, IsListed, IsRecognised, IsAbsent}
+use Rattle.control_message.specs.Reading.{is_listed, is_recognised, first, has_vector, checked_value, checked_use, checked, checked_all}
+use Rattle.control_message.specs.Grammar.{IsOfIetf, IsListed, IsRecognised}
 use Rattle.control_message.specs.Faults.{HasShape, IsUsed, HasFault, IsSound, IsFirstAlong}
-use Rattle.control_message.proofs.Firsts.{absent_first, first_absent}
+use Rattle.control_message.proofs.Firsts.{absent_first, first_absent, vector_or_none, vector_there, vector_none}
 
 -- ---- tests
 
@@ -82,7 +82,7 @@ all_listed kind.Iccn = (refl, (refl, (refl, tt)))
 used_listed : (k : Kind) (n : ℕ) (s : Shape) → shape_of k n ≡ Some s → is_listed 0 n ≡ true
 used_listed k n s h = row_holds (λ (u : ℕ × Shape). is_listed 0 u.0 ≡ true) n s (uses_of k) (all_listed k) h
 
-pub checked_used : (k : Kind) (n : ℕ) (s : Shape) (before : List Avp) (a : Avp) → IsUsed k n s before a → checked k before a ≡ checked_value s (is_some (first 36 before)) a
+pub checked_used : (k : Kind) (n : ℕ) (s : Shape) (before : List Avp) (a : Avp) → IsUsed k n s before a → checked k before a ≡ checked_value s (has_vector before) a
 unfolding checked
 checked_used k n s before a u =
     let listed : is_listed a.vendor a.attribute ≡ true = ap (λ (v : ℕ). is_listed v a.attribute) u.is.0 ∙ ap (is_listed 0) u.is.1 ∙ used_listed k n s u.shape in
@@ -96,23 +96,17 @@ no_some : (o : Option Avp) → is_some o ≡ false → o ≡ None
 no_some None e = refl
 no_some (Some a) e = absurd cc
 
-not_absent : (n : ℕ) (avps : List Avp) → (¬ IsAbsent n avps) → is_some (first n avps) ≡ true
-not_absent n avps h = elim (cases_Bool (is_some (first n avps))) [ inl t ↦ t | inr f ↦ absurd (h (first_absent n avps (no_some (first n avps) f))) ]
-
-there : (n : ℕ) (avps : List Avp) → is_some (first n avps) ≡ true → ¬ IsAbsent n avps
-there n avps t h = let e : is_some (first n avps) ≡ false = ap is_some (absent_first n avps h) in both_ways (is_some (first n avps)) e t
-
-value_fault : (k : Kind) (n : ℕ) (s : Shape) (before : List Avp) (a : Avp) (e : MessageError) → IsUsed k n s before a → checked_value s (is_some (first 36 before)) a ≡ Err e → HasFault k before a e
+value_fault : (k : Kind) (n : ℕ) (s : Shape) (before : List Avp) (a : Avp) (e : MessageError) → IsUsed k n s before a → checked_value s (has_vector before) a ≡ Err e → HasFault k before a e
 value_fault k n s before a e u h =
     elim (cases_Bool a.hidden) [
       | inl hid ↦
-          elim (cases_Bool (is_some (first 36 before))) [
+          elim (vector_or_none before) [
             | inl v ↦
-                let told : BadValue n ≡ e = let h' : Err (BadValue a.attribute) ≡ Err e = rw (hid, v) at h in let i = u.is.1 in cc in
-                subst (HasFault k before a) told (s, u, inl (hid, there 36 before v))
+                let told : BadValue n ≡ e = let h' : Err (BadValue a.attribute) ≡ Err e = rw (hid, v.0) at h in let i = u.is.1 in cc in
+                subst (HasFault k before a) told (s, u, inl (hid, v.1))
             | inr v ↦
-                let told : HiddenWithoutVector n ≡ e = let h' : Err (HiddenWithoutVector a.attribute) ≡ Err e = rw (hid, v) at h in let i = u.is.1 in cc in
-                subst (HasFault k before a) told (s, u, hid, first_absent 36 before (no_some (first 36 before) v))
+                let told : HiddenWithoutVector n ≡ e = let h' : Err (HiddenWithoutVector a.attribute) ≡ Err e = rw (hid, v.0) at h in let i = u.is.1 in cc in
+                subst (HasFault k before a) told (s, u, hid, v.1)
           ]
       | inr plain ↦
           elim (cases_Bool (fits s a.value)) [
@@ -157,12 +151,11 @@ there_fault k before a (UnknownMandatory v n) h =
     let r : is_recognised a ≡ false = false_from_ne_true (is_recognised a) (λ t. h.0 ((decides_recognised a).0 t)) in
     rw (r, h.1, h.2, h.3) refl
 there_fault k before a (HiddenWithoutVector n) h =
-    let vector : is_some (first 36 before) ≡ false = ap is_some (absent_first 36 before h.3) in
-    checked_used k n h.0 before a h.1 ∙ rw (h.2, vector, h.1.is.1) refl
+    checked_used k n h.0 before a h.1 ∙ rw (h.2, vector_none before h.3, h.1.is.1) refl
 there_fault k before a (BadValue n) h =
     checked_used k n h.0 before a h.1
     ∙ elim h.2 [
-      | inl hid ↦ rw (hid.0, not_absent 36 before hid.1, h.1.is.1) refl
+      | inl hid ↦ rw (hid.0, vector_there before hid.1, h.1.is.1) refl
       | inr wrong ↦
           let f : fits h.0 a.value ≡ false = false_from_ne_true (fits h.0 a.value) (λ t. wrong.1 ((decides_shape h.0 a.value).0 t)) in
           rw (wrong.0, f, h.1.is.1) refl

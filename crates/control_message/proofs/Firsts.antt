@@ -1,12 +1,13 @@
 -- The first pair of a sort, as the relation has it and as the reading finds it.
-use Rattle.std.proofs.Common.{◌≡◌, ℕ, ◌&&◌, Bool, true, false, List, [], ◌∷◌, ◌++◌, length, Option, Some, None, Decides, refl, ap, subst, ◌∙◌, inl, inr}
+use Rattle.std.proofs.Common.{◌≡◌, ℕ, ◌&&◌, Bool, true, false, List, [], ◌∷◌, ◌++◌, length, Option, Some, None, is_some, Decides, ◌⊎◌, refl, ap, subst, ◌∙◌, inl, inr}
 use Rattle.std.specs.Prelude.{◌==◌, not, IsNone, IfSome}
 use Rattle.std.specs.List.{AllByRecursion, find}
 use Rattle.std.proofs.lemmas.Bool.{cases_Bool, false_from_ne_true, both_ways, eq-eqb, not_from_false, not-true}
 use Rattle.std.proofs.lemmas.Bool.Decides.{Decides-and, Decides-eqb}
 use Rattle.avp_codec.specs.declared.avp.Avp.{Avp}
-use Rattle.control_message.specs.Reading.{is_at, first, is_plain_short, short_in, plain_short}
+use Rattle.control_message.specs.Reading.{is_at, first, is_vector, has_vector, is_plain_short, short_in, plain_short}
 use Rattle.control_message.specs.Grammar.{IsAt, IsFirstWith, StandsFirst, IsAbsent, IsPlainShort, HasPlainShort, HasNoPlainShort}
+use Rattle.control_message.specs.Faults.{IsVector, HasVector, HasNoVector}
 
 -- ---- a sort, with the test for it
 
@@ -63,6 +64,24 @@ first_stands n a avps h = first_found (λ a. is_at n a) (λ a. IsAt n a) (decide
 
 pub stands_first : (n : ℕ) (a : Avp) (avps : List Avp) → first n avps ≡ Some a → StandsFirst n a avps
 stands_first n a avps h = found_first (λ a. is_at n a) (λ a. IsAt n a) (decides_at n) a avps h
+
+-- ---- Random Vectors
+
+decides_vector : (a : Avp) → Decides (is_vector a) (IsVector a)
+decides_vector a = Decides-and (is_at 36 a) (not a.hidden) (decides_at 36 a) (not-true a.hidden, not_from_false a.hidden)
+
+vector_in : (avps : List Avp) (o : Option Avp) → find (λ a. is_vector a) avps ≡ o → ((is_some o ≡ true) × HasVector avps) ⊎ ((is_some o ≡ false) × HasNoVector avps)
+vector_in avps None h = inr (refl, found_none (λ a. is_vector a) (λ a. IsVector a) decides_vector avps h)
+vector_in avps (Some a) h = inl (refl, (a, found_first (λ a. is_vector a) (λ a. IsVector a) decides_vector a avps h))
+
+pub vector_or_none : (avps : List Avp) → ((has_vector avps ≡ true) × HasVector avps) ⊎ ((has_vector avps ≡ false) × HasNoVector avps)
+vector_or_none avps = vector_in avps (find (λ a. is_vector a) avps) refl
+
+pub vector_there : (avps : List Avp) → HasVector avps → has_vector avps ≡ true
+vector_there avps h = ap is_some (first_found (λ a. is_vector a) (λ a. IsVector a) decides_vector h.0 avps h.1)
+
+pub vector_none : (avps : List Avp) → HasNoVector avps → has_vector avps ≡ false
+vector_none avps h = ap is_some (none_found (λ a. is_vector a) (λ a. IsVector a) decides_vector avps h)
 
 -- ---- the plain ones with two bytes
 

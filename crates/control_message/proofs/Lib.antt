@@ -1,5 +1,6 @@
 pub mod Firsts
 pub mod Along
+pub mod Walk
 pub mod Values
 pub mod Needs
 pub mod Openings

@@ -13,7 +13,7 @@ use Rattle.control_message.specs.Table.{shape_of, uses_of, fits}
 use Rattle.control_message.specs.Reading.{is_recognised, first, value_in, value_at, number_in}
 use Rattle.control_message.specs.Grammar.{IsRecognised, StandsFirst, IsAbsent, NoneIsUnknown, HasValue, HasNumber}
 use Rattle.control_message.specs.Faults.{HasShape, IsUsed, IsSound}
-use Rattle.control_message.proofs.Firsts.{absent_first, first_absent, first_stands, stands_first}
+use Rattle.control_message.proofs.Firsts.{absent_first, first_absent, first_stands, stands_first, vector_or_none}
 use Rattle.control_message.proofs.Along.{decides_recognised, decides_shape, row_holds}
 
 -- ---- answers
@@ -36,8 +36,10 @@ good k avps n s sound shape a h =
     let u : IsUsed k n s h.before a = record { shape = shape; is = h.is; none = h.none } in
     elim (cases_Bool a.hidden) [
       | inl hid ↦
-          let there : ¬ IsAbsent 36 h.before = λ absent. sound h.before h.after a (HiddenWithoutVector n) h.parts (s, u, hid, absent) in
-          absurd (sound h.before h.after a (BadValue n) h.parts (s, u, inl (hid, there)))
+          absurd (elim (vector_or_none h.before) [
+            | inl v ↦ sound h.before h.after a (BadValue n) h.parts (s, u, inl (hid, v.1))
+            | inr v ↦ sound h.before h.after a (HiddenWithoutVector n) h.parts (s, u, hid, v.1)
+          ])
       | inr plain ↦
           elim (cases_Bool (fits s a.value)) [
             | inl t ↦ (plain, (decides_shape s a.value).0 t)

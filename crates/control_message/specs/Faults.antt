@@ -1,5 +1,6 @@
 -- What is wrong with a list of pairs, and that it is the first fault: a relation apart from the reader.
 use Rattle.std.specs.Prelude.{◌≡◌, ◌≢◌, ℕ, ◌≤◌, ◌⊎◌, true, false, List, [], ◌∷◌, ◌++◌, length, Some, None, ⊤}
+use Rattle.std.specs.List.{AllByRecursion}
 use Rattle.byteorder.specs.Endian.{big_number}
 use Rattle.avp_codec.specs.declared.avp.Avp.{Avp}
 use Rattle.control_message.specs.declared.kind.Kind.{Kind}
@@ -8,7 +9,7 @@ use Rattle.control_message.specs.declared.kind.Shape.TheVariants.{Text, Short, N
 use Rattle.control_message.specs.declared.message.MessageError.{MessageError}
 use Rattle.control_message.specs.declared.message.MessageError.TheVariants.{NoType, UnknownType, UnknownMandatory, HiddenWithoutVector, BadValue, Missing, NoMemory}
 use Rattle.control_message.specs.Table.{kind_of, shape_of, needs_of}
-use Rattle.control_message.specs.Grammar.{IsAt, IsRecognised, StandsFirst, IsAbsent, HasNumber}
+use Rattle.control_message.specs.Grammar.{IsAt, IsRecognised, IsFirstWith, StandsFirst, IsAbsent, HasNumber}
 
 -- ---- the type
 
@@ -47,9 +48,21 @@ pub record IsUsed (k : Kind) (n : ℕ) (s : Shape) (before : List Avp) (a : Avp)
   pub is : IsAt n a
   pub none : IsAbsent n before
 
+-- a Random Vector, which is never hidden (RFC 2661 section 4.3)
+abbrev pub IsVector : Avp → Type 0
+IsVector a = IsAt 36 a × (a.hidden ≡ false)
+
+-- a Random Vector is there
+abbrev pub HasVector : List Avp → Type 0
+HasVector avps = (a : Avp) × IsFirstWith (λ b. IsVector b) a avps
+
+-- none is there
+abbrev pub HasNoVector : List Avp → Type 0
+HasNoVector avps = AllByRecursion (λ a. ¬ IsVector a) avps
+
 -- hidden behind a Random Vector, and there is no secret to uncover it by
 abbrev pub IsHiddenValue : List Avp → Avp → Type 0
-IsHiddenValue before a = (a.hidden ≡ true) × (¬ IsAbsent 36 before)
+IsHiddenValue before a = (a.hidden ≡ true) × HasVector before
 
 -- plain, and of another shape than the message wants
 abbrev pub IsWrongValue : Shape → Avp → Type 0
@@ -58,7 +71,7 @@ IsWrongValue s a = (a.hidden ≡ false) × (¬ HasShape s a.value)
 -- the fault of a pair behind others
 abbrev pub HasFault : Kind → List Avp → Avp → MessageError → Type 0
 HasFault k before a (UnknownMandatory v n) = (¬ IsRecognised a) × (a.mandatory ≡ true) × (a.vendor ≡ v) × (a.attribute ≡ n)
-HasFault k before a (HiddenWithoutVector n) = (s : Shape) × IsUsed k n s before a × (a.hidden ≡ true) × IsAbsent 36 before
+HasFault k before a (HiddenWithoutVector n) = (s : Shape) × IsUsed k n s before a × (a.hidden ≡ true) × HasNoVector before
 HasFault k before a (BadValue n) = (s : Shape) × IsUsed k n s before a × (IsHiddenValue before a ⊎ IsWrongValue s a)
 HasFault k before a e = ⊥
 

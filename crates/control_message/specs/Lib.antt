@@ -1,5 +1,6 @@
 pub mod Table
 pub mod Pairs
 pub mod Reading
+pub mod Walk
 pub mod Grammar
 pub mod Faults

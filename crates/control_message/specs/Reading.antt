@@ -41,6 +41,14 @@ is_at n a = (a.vendor == 0 && a.attribute == n) && a.reserved == 0
 abbrev pub first : ℕ → List Avp → Option Avp
 first n avps = find (λ a. is_at n a) avps
 
+-- whether a pair is a Random Vector, which is never hidden (RFC 2661 section 4.3)
+abbrev pub is_vector : Avp → Bool
+is_vector a = is_at 36 a && not a.hidden
+
+-- whether one is there
+abbrev pub has_vector : List Avp → Bool
+has_vector avps = is_some (find (λ a. is_vector a) avps)
+
 -- ---- the first fault along the list
 
 -- a value that the message uses, where a Random Vector stands before it or not
@@ -54,7 +62,7 @@ checked_value s vector a =
 abbrev pub checked_use : Option Shape → List Avp → Avp → Result (Unit {0}) MessageError
 checked_use None before a = Ok tt
 checked_use (Some s) before a =
-    if is_some (first a.attribute before) then Ok tt else checked_value s (is_some (first 36 before)) a
+    if is_some (first a.attribute before) then Ok tt else checked_value s (has_vector before) a
 
 -- a pair behind others
 unfoldable pub checked : Kind → List Avp → Avp → Result (Unit {0}) MessageError

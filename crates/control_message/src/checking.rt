@@ -1,13 +1,68 @@
 //! The first fault along a list of pairs.
 
-ghost use Rattle.std.specs.Prelude.{◌≡◌, []};
-ghost use Rattle.control_message.specs.Reading.{checked_value, checked, checked_all};
+ghost use Rattle.std.specs.Prelude.{◌≡◌, ◌<◌, ◌++◌, [], ◌∷◌, List, true, is_some, slice_set};
+ghost use Rattle.avp_codec.specs.declared.avp.Avp.{Avp};
+ghost use Rattle.control_message.specs.Reading.{first, has_vector, checked_value, checked, checked_all};
+ghost use Rattle.control_message.specs.Walk.{HasSeen};
 
-use crate::attribute::RANDOM_VECTOR;
-use crate::finding::{has_avp, is_recognised};
+use crate::finding::{is_at, is_recognised, is_vector};
 use crate::kind::{Kind, Shape};
 use crate::message::MessageError;
 use avp_codec::Avp;
+
+/// The attributes that messages use are below this.
+const ATTRIBUTES: usize = 80;
+
+/// What was seen of the pairs that the walk passed, so that no pair is looked at twice.
+#[derive(Drop)]
+struct Seen {
+    /// Whether an attribute of the IETF was there, for those below 80.
+    attributes: [bool; ATTRIBUTES],
+    /// Whether a Random Vector was there.
+    vector: bool,
+}
+
+impl Seen {
+    /// What was seen of no pairs.
+    fn new() -> Seen
+        ensures { HasSeen result [] }
+    {
+        Seen {
+            attributes: [false; ATTRIBUTES],
+            vector: false,
+        }
+    }
+
+    /// Whether an attribute below 80 was seen.
+    fn has(&self, attribute: u16) -> bool
+        ensures { (before : List Avp) → HasSeen self.now before → attribute < 80 → result ≡ is_some (first attribute before) }
+    {
+        self.attributes
+            .get(usize::from(attribute))
+            .copied()
+            .unwrap_or(false)
+    }
+
+    /// Marks an attribute as seen, where it is below 80.
+    fn mark(&mut self, attribute: u16)
+        ensures { self.new ≡ record self.old { attributes = slice_set self.old.attributes attribute true } }
+    {
+        let at = usize::from(attribute);
+        if at < ATTRIBUTES {
+            self.attributes[at] = true;
+        }
+    }
+
+    /// Adds a pair.
+    fn add(&mut self, avp: &Avp)
+        ensures { (before : List Avp) → HasSeen self.old before → HasSeen self.new (before ++ avp.now ∷ []) }
+    {
+        if is_at(avp, avp.attribute) {
+            self.mark(avp.attribute);
+        }
+        self.vector |= is_vector(avp);
+    }
+}
 
 /// A value that the message uses, where a Random Vector stands before it or not.
 fn check_value(shape: Shape, vector: bool, avp: &Avp) -> Result<(), MessageError>
@@ -30,8 +85,8 @@ fn check_value(shape: Shape, vector: bool, avp: &Avp) -> Result<(), MessageError
 
 /// The fault of a pair behind others, if it has one. Only the first pair of an attribute counts.
 #[tactic(auto, unfolding(crate::specs::Reading::checked))]
-fn check_avp(kind: Kind, before: &[Avp], avp: &Avp) -> Result<(), MessageError>
-    ensures { result ≡ checked kind before.now avp.now }
+fn check_avp(kind: Kind, seen: &Seen, avp: &Avp) -> Result<(), MessageError>
+    ensures { (before : List Avp) → HasSeen seen.now before → result ≡ checked kind before avp.now }
 {
     if !is_recognised(avp) {
         if avp.mandatory {
@@ -47,17 +102,19 @@ fn check_avp(kind: Kind, before: &[Avp], avp: &Avp) -> Result<(), MessageError>
     }
     match kind.shape(avp.attribute) {
         None => Ok(()),
-        Some(_) if has_avp(before, avp.attribute) => Ok(()),
-        Some(shape) => check_value(shape, has_avp(before, RANDOM_VECTOR), avp),
+        Some(_) if seen.has(avp.attribute) => Ok(()),
+        Some(shape) => check_value(shape, seen.vector, avp),
     }
 }
 
-/// The first fault along the list.
+/// The first fault along the list. Each pair is looked at once.
 pub fn check_all(kind: Kind, avps: &[Avp]) -> Result<(), MessageError>
     ensures { result ≡ checked_all kind [] avps.now }
 {
-    for at in 0..avps.len() {
-        check_avp(kind, &avps[..at], &avps[at])?;
+    let mut seen = Seen::new();
+    for avp in avps {
+        check_avp(kind, &seen, avp)?;
+        seen.add(avp);
     }
     Ok(())
 }

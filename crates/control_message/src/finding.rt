@@ -3,9 +3,9 @@
 ghost use Rattle.std.specs.Prelude.{◌≡◌, ◌↔◌, find, is_some, IsNone, IfSome};
 ghost use Rattle.std.specs.Option.{option_copied};
 ghost use Rattle.control_message.specs.Grammar.{HasPlainShort, HasNoPlainShort};
-ghost use Rattle.control_message.specs.Reading.{is_listed, is_recognised, is_at, first, number_in, is_plain_short, plain_short};
+ghost use Rattle.control_message.specs.Reading.{is_listed, is_recognised, is_at, is_vector, first, number_in, is_plain_short, plain_short};
 
-use crate::attribute::ASSIGNED_TUNNEL;
+use crate::attribute::{ASSIGNED_TUNNEL, RANDOM_VECTOR};
 use crate::message::MessageError;
 use avp_codec::{Avp, Avps};
 use wire_base::take_u16;
@@ -34,6 +34,13 @@ pub fn is_at(avp: &Avp, attribute: u16) -> bool
     ensures { result ≡ is_at attribute avp.now }
 {
     avp.vendor == 0 && avp.attribute == attribute && avp.reserved == 0
+}
+
+/// Whether a pair is a Random Vector, which is never hidden (RFC 2661 section 4.3).
+pub fn is_vector(avp: &Avp) -> bool
+    ensures { result ≡ is_vector avp.now }
+{
+    is_at(avp, RANDOM_VECTOR) && !avp.hidden
 }
 
 /// The first pair of an attribute.

@@ -79,7 +79,8 @@ pub enum MessageError {
     UnknownType { number: u16 },
     /// A pair is unrecognised and mandatory.
     UnknownMandatory { vendor: u16, attribute: u16 },
-    /// A pair that the message uses is hidden, and no Random Vector stands before it (RFC 2661 section 4.3).
+    /// A pair that the message uses is hidden, and no Random Vector stands before it. An attribute 36 that is hidden
+    /// itself is none (RFC 2661 section 4.3).
     HiddenWithoutVector { attribute: u16 },
     /// A value that the message uses is of a wrong length, is 0 where that is no value, or can't be uncovered.
     BadValue { attribute: u16 },

@@ -122,6 +122,12 @@ fn read_pairs(rt: HostRuntime) {
             }))
         )
     );
+    // A hidden attribute 36 is passed over.
+    let accepted = read(
+        rt.alloc(),
+        b"\x80\x08\0\0\0\0\0\x0b\xc0\x08\0\0\0\x24ab\x80\x08\0\0\0\x0e\0\x02",
+    );
+    assert!(rt; matches!(accepted, Some(Read::Known(Message::Icrp { session: 2 }))));
     // An unknown type that isn't mandatory, whatever else is there.
     let ignored = read(rt.alloc(), b"\0\x08\0\0\0\0\0\x63\x80\x06\0\0\0\x63");
     assert!(rt; matches!(ignored, Some(Read::Ignored { number: 0x63 })));
@@ -141,7 +147,7 @@ fn refused_pairs(rt: HostRuntime) {
         attribute: 0x63,
     };
     let bad_tunnel = MessageError::BadValue { attribute: 9 };
-    let rows: [(&[u8], MessageError); 13] = [
+    let rows: [(&[u8], MessageError); 15] = [
         (b"", MessageError::NoType),
         // a hidden type before a plain one
         (
@@ -170,13 +176,22 @@ fn refused_pairs(rt: HostRuntime) {
                 attribute: 7,
             },
         ),
-        // a hidden name, without a Random Vector before it and with one
+        // a hidden name: without a Random Vector before it, and with one
         (
             b"\x80\x08\0\0\0\0\0\x01\xc0\x08\0\0\0\x07ab\x80\x08\0\0\0\x24ab",
             MessageError::HiddenWithoutVector { attribute: 7 },
         ),
         (
             b"\x80\x08\0\0\0\0\0\x01\x80\x08\0\0\0\x24ab\xc0\x08\0\0\0\x07ab",
+            MessageError::BadValue { attribute: 7 },
+        ),
+        // the same with a hidden attribute 36, which is no Random Vector, and with a plain one behind that
+        (
+            b"\x80\x08\0\0\0\0\0\x01\xc0\x08\0\0\0\x24ab\xc0\x08\0\0\0\x07ab",
+            MessageError::HiddenWithoutVector { attribute: 7 },
+        ),
+        (
+            b"\x80\x08\0\0\0\0\0\x01\xc0\x08\0\0\0\x24ab\x80\x08\0\0\0\x24ab\xc0\x08\0\0\0\x07ab",
             MessageError::BadValue { attribute: 7 },
         ),
         // a window that is 0, and one of three bytes
