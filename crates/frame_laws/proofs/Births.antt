@@ -17,7 +17,8 @@ pub record Counted (ns : Nodes) (born : ℕ) : Type 0 where
   pub most : (n s b : ℕ) → Born ns n s b → b ≤ born
   pub apart : (n s m q b : ℕ) → Born ns n s b → Born ns m q b → Plays ns n Lac → Plays ns m Lac → (n ≡ m) × (s ≡ q)
 
-module _ (w : World) (ms : Nodes) (born n : ℕ) (old new : Node) (change : Changed w.nodes ms n old new) (few : w.born < 2 ^ 64 - 1) (had : Counted w.nodes w.born) where
+module _ (w : World) (ms : Nodes) (born n : ℕ) (old new : Node)
+    (change : Changed w.nodes ms n old new) (few : w.born < 2 ^ 64 - 1) (had : Counted w.nodes w.born) where
   plays_before : (m : ℕ) (r : Role) → Plays ms m r → Plays w.nodes m r
   plays_before m r h = ⊎_elim
       (λ e. rw e (plays_at w.nodes n r old change.was (sym change.role ∙ role_there ms n r new change.is (subst (λ x. Plays ms x r) e h))))
@@ -63,7 +64,8 @@ module _ (w : World) (ms : Nodes) (born n : ℕ) (old new : Node) (change : Chan
       (with_put x c same m s b h)
 
   apart_after : Adds w old new.births born → (i s m q b : ℕ) → Born ms i s b → Born ms m q b → Plays ms i Lac → Plays ms m Lac → (i ≡ m) × (s ≡ q)
-  apart_after (NoBirth same count) i s m q b h k one two = had.apart i s m q b (with_same same i s b h) (with_same same m q b k) (plays_before i Lac one) (plays_before m Lac two)
+  apart_after (NoBirth same count) i s m q b h k one two =
+      had.apart i s m q b (with_same same i s b h) (with_same same m q b k) (plays_before i Lac one) (plays_before m Lac two)
   apart_after (NextBirth x same count) i s m q b h k one two = ⊎_elim
       (λ a. ⊎_elim
       (λ c. had.apart i s m q b a c (plays_before i Lac one) (plays_before m Lac two))

@@ -57,7 +57,8 @@ module _ (digits : (port : ℕ) → length (calling_number port) ≡ 12) (n : �
     counted = λ room had. h.counted (let a = g.born in omega (arith, room)) (g.counted room had);
   }
 
-  letters_later : (v w : World) (x y : End) → Leads n v w x y → (m : Move) → AllByRecursion (LetterOk v.nodes n x) (letters_of x.role x.config m) → AllByRecursion (LetterOk w.nodes n y) (letters_of y.role y.config m)
+  letters_later : (v w : World) (x y : End) → Leads n v w x y → (m : Move) → AllByRecursion (LetterOk v.nodes n x) (letters_of x.role x.config m)
+      → AllByRecursion (LetterOk w.nodes n y) (letters_of y.role y.config m)
   letters_later v w x y g m h =
       subst (λ r. AllByRecursion (LetterOk w.nodes n y) (letters_of r y.config m)) (sym g.role)
       (subst (λ c. AllByRecursion (LetterOk w.nodes n y) (letters_of x.role c m)) (sym g.config)
@@ -67,7 +68,17 @@ module _ (digits : (port : ℕ) → length (calling_number port) ≡ 12) (n : �
   unfolding moved_all
   ran v x y here heard [] h = subst (λ e. Ran v v x e []) h (record {
     at_end = here;
-    grows = record { grows = same_nodes v.nodes; others = λ q o. refl; packets = refl; goes = λ i p g. g; role = refl; config = refl; born = omega arith; rises = omega arith; counted = λ room had. had };
+    grows = record {
+      grows = same_nodes v.nodes;
+      others = λ q o. refl;
+      packets = refl;
+      goes = λ i p g. g;
+      role = refl;
+      config = refl;
+      born = omega arith;
+      rises = omega arith;
+      counted = λ room had. had;
+    };
     letters = tt;
   })
   ran v x y here heard (m ∷ ms) h =

@@ -77,8 +77,12 @@ role_there ns n r node is h = let g : Some node.end.role ≡ Some r = rw is at h
 pub grows : (ns ms : Nodes) (n : ℕ) (old new : Node) → Changed ns ms n old new → Grows ns ms
 grows ns ms n old new c =
     record {
-      births = λ m s b h. ⊎_elim (λ e. rw e (born_at ms n s b new c.is (c.births s b (birth_there ns n s b old c.was (rw e at h))))) (λ o. rw (c.others m o) h) (same_or_not m n);
-      roles = λ m r h. ⊎_elim (λ e. rw e (plays_at ms n r new c.is (c.role ∙ role_there ns n r old c.was (rw e at h)))) (λ o. rw (c.others m o) h) (same_or_not m n);
+      births = λ m s b h. ⊎_elim
+          (λ e. rw e (born_at ms n s b new c.is (c.births s b (birth_there ns n s b old c.was (rw e at h)))))
+          (λ o. rw (c.others m o) h) (same_or_not m n);
+      roles = λ m r h. ⊎_elim
+          (λ e. rw e (plays_at ms n r new c.is (c.role ∙ role_there ns n r old c.was (rw e at h))))
+          (λ o. rw (c.others m o) h) (same_or_not m n);
     }
 
 -- the births of a node are of sessions below a bound

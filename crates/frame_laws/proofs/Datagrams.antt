@@ -13,7 +13,7 @@ use Rattle.reliable_channel.specs.Channel.{on_wire}
 use Rattle.protocol_model.specs.Reading.{body_of, message_in, pairs_read, message_read}
 use Rattle.frame_laws.specs.Codecs.{Codecs}
 use Rattle.frame_laws.specs.Past.{Passage}
-use Rattle.frame_laws.proofs.Facts.{Nodes, BytesOk, WasGiven, Says}
+use Rattle.frame_laws.proofs.Facts.{Nodes, BytesOk, WasSentInCall, NamesItsCall}
 
 module _ (codecs : Codecs) where
   -- the message that was written
@@ -36,22 +36,25 @@ module _ (codecs : Codecs) where
     pub body : body_of h bytes ≡ pairs
 
   module _ (tunnel session ns nr : ℕ) (t : tunnel < 65536) (s : session < 65536) where
-    control_read : (pairs : List ℕ) (h : Header) → length pairs ≤ 65523 → header_of (control_bytes tunnel session (on_wire ns) (on_wire nr) pairs) ≡ Ok h → ControlRead session pairs (control_bytes tunnel session (on_wire ns) (on_wire nr) pairs) h
+    control_read : (pairs : List ℕ) (h : Header) → length pairs ≤ 65523
+        → header_of (control_bytes tunnel session (on_wire ns) (on_wire nr) pairs) ≡ Ok h
+        → ControlRead session pairs (control_bytes tunnel session (on_wire ns) (on_wire nr) pairs) h
     control_read pairs h le e =
         let bytes = control_bytes tunnel session (on_wire ns) (on_wire nr) pairs in
         let c = codecs.control tunnel session (on_wire ns) (on_wire nr) pairs t s (omega arith) (omega arith) le in
         let same = same_header bytes h (control_header tunnel session (on_wire ns) (on_wire nr) (length pairs)) pairs c e in
         rw same (record { control = refl; session_is = refl; body = c.bounds })
 
-    pub letter_ok : (nodes : Nodes) (gs : List Passage) (from to : ℕ) (m : Message) → IsWritten m → Says nodes from to session m → BytesOk nodes gs from to (control_bytes tunnel session (on_wire ns) (on_wire nr) (spelling (pairs_of m)))
-    letter_ok nodes gs from to m w says =
+    pub letter_ok : (nodes : Nodes) (gs : List Passage) (from to : ℕ) (m : Message) → IsWritten m → NamesItsCall nodes from to session m
+        → BytesOk nodes gs from to (control_bytes tunnel session (on_wire ns) (on_wire nr) (spelling (pairs_of m)))
+    letter_ok nodes gs from to m w names =
         record {
           frames = λ h e c. absurd (true≢false (sym (control_read (spelling (pairs_of m)) h (codecs.room m w) e).control ∙ c));
           letters = λ h e c x r.
               let k = control_read (spelling (pairs_of m)) h (codecs.room m w) e in
               let g : message_in (spelling (pairs_of m)) ≡ Ok x = rw (← k.body) r in
               let same : m ≡ x = let again = message_again m w in cc in
-              rw (← same) (w, rw k.session_is says);
+              rw (← same) (w, rw k.session_is names);
         }
 
     pub alone_ok : (nodes : Nodes) (gs : List Passage) (from to : ℕ) → BytesOk nodes gs from to (control_bytes tunnel session (on_wire ns) (on_wire nr) [])
@@ -62,11 +65,12 @@ module _ (codecs : Codecs) where
         }
 
   -- a frame that is for a session
-  pub frame_ok : (ns : Nodes) (gs : List Passage) (from to tunnel session : ℕ) (frame : List ℕ) → tunnel < 65536 → session < 65536 → WasGiven ns gs from to session frame → BytesOk ns gs from to (data_bytes tunnel session None frame)
-  frame_ok ns gs from to tunnel session frame t s given =
+  pub frame_ok : (ns : Nodes) (gs : List Passage) (from to tunnel session : ℕ) (frame : List ℕ) → tunnel < 65536 → session < 65536
+      → WasSentInCall ns gs from to session frame → BytesOk ns gs from to (data_bytes tunnel session None frame)
+  frame_ok ns gs from to tunnel session frame t s sent =
       let bytes = data_bytes tunnel session None frame in
       let c = codecs.frame tunnel session None frame t s tt in
       record {
-        frames = λ h e k. rw (same_header bytes h _ _ c e, c.bounds) given;
+        frames = λ h e k. rw (same_header bytes h _ _ c e, c.bounds) sent;
         letters = λ h e k m r. absurd (true≢false (sym k ∙ ap (λ (x : Header). x.control) (same_header bytes h _ _ c e)));
       }

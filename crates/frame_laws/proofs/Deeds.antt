@@ -35,7 +35,8 @@ done_among ev x y (q ∷ ms) h m a = ⊎_elim (λ e. subst (Done ev) e (record {
 
 -- ---- frames that are sent, and frames that are handed up
 
-one_sent : (P : Passage → Type 0) (d : Deed) (m : Move) → ((f : FrameSent) → m ≡ move.FrameSent f → P (passage_of d f.peer f.session f.frame)) → AllByRecursion P (sent_by d m)
+one_sent : (P : Passage → Type 0) (d : Deed) (m : Move) → ((f : FrameSent) → m ≡ move.FrameSent f → P (passage_of d f.peer f.session f.frame))
+    → AllByRecursion P (sent_by d m)
 one_sent P d (move.Opened m) h = tt
 one_sent P d (move.Accepted m) h = tt
 one_sent P d (move.Connected m) h = tt
@@ -51,7 +52,8 @@ one_sent P d (move.Quiet i) h = tt
 one_sent P d (move.FrameSent m) h = (h m refl, tt)
 one_sent P d (move.FrameUp m) h = tt
 
-one_handed : (P : Passage → Type 0) (d : Deed) (m : Move) → ((f : FrameUp) → m ≡ move.FrameUp f → P (passage_of d f.peer f.session f.frame)) → AllByRecursion P (handed_by d m)
+one_handed : (P : Passage → Type 0) (d : Deed) (m : Move) → ((f : FrameUp) → m ≡ move.FrameUp f → P (passage_of d f.peer f.session f.frame))
+    → AllByRecursion P (handed_by d m)
 one_handed P d (move.Opened m) h = tt
 one_handed P d (move.Accepted m) h = tt
 one_handed P d (move.Connected m) h = tt
@@ -77,7 +79,8 @@ module _ (v : World) (number n : ℕ) (r : Role) (sender : Option Sender) where
   abbrev pub hands : FrameUp → Passage
   hands f = passage_of (deed_of v number n r sender (move.FrameUp f)) f.peer f.session f.frame
 
-  pub each_sent : (P : Passage → Type 0) (ms : List Move) → ((f : FrameSent) → Among (move.FrameSent f) ms → P (sends f)) → AllByRecursion P (sent_in (deeds ms))
+  pub each_sent : (P : Passage → Type 0) (ms : List Move) → ((f : FrameSent) → Among (move.FrameSent f) ms → P (sends f))
+      → AllByRecursion P (sent_in (deeds ms))
   unfolding sent_in
   each_sent P [] h = tt
   each_sent P (m ∷ ms) h =
@@ -86,7 +89,8 @@ module _ (v : World) (number n : ℕ) (r : Role) (sender : Option Sender) where
       (one_sent P d m (λ f e. subst (λ q. P (passage_of (deed_of v number n r sender q) f.peer f.session f.frame)) (sym e) (h f (inl e))))
       (each_sent P ms (λ f a. h f (inr a)))
 
-  pub each_handed : (P : Passage → Type 0) (ms : List Move) → ((f : FrameUp) → Among (move.FrameUp f) ms → P (hands f)) → AllByRecursion P (handed_in (deeds ms))
+  pub each_handed : (P : Passage → Type 0) (ms : List Move) → ((f : FrameUp) → Among (move.FrameUp f) ms → P (hands f))
+      → AllByRecursion P (handed_in (deeds ms))
   unfolding handed_in
   each_handed P [] h = tt
   each_handed P (m ∷ ms) h =
@@ -95,10 +99,13 @@ module _ (v : World) (number n : ℕ) (r : Role) (sender : Option Sender) where
       (one_handed P d m (λ f e. subst (λ q. P (passage_of (deed_of v number n r sender q) f.peer f.session f.frame)) (sym e) (h f (inl e))))
       (each_handed P ms (λ f a. h f (inr a)))
 
+  abbrev sent : Move → List Passage
+  sent m = sent_by (deed_of v number n r sender m) m
+
   pub sent_among : (ms : List Move) (f : FrameSent) → Among (move.FrameSent f) ms → Among (sends f) (sent_in (deeds ms))
   unfolding sent_in
   sent_among [] f a = absurd a
   sent_among (m ∷ ms) f a = ⊎_elim
-      (λ (e : m ≡ move.FrameSent f). among_left (sends f) (sent_by (deed_of v number n r sender m) m) (sent_in (deeds ms)) (subst (λ q. Among (sends f) (sent_by (deed_of v number n r sender q) q)) (sym e) (inl refl)))
-      (λ b. among_right (sends f) (sent_by (deed_of v number n r sender m) m) (sent_in (deeds ms)) (sent_among ms f b))
+      (λ (e : m ≡ move.FrameSent f). among_left (sends f) (sent m) (sent_in (deeds ms)) (subst (λ q. Among (sends f) (sent q)) (sym e) (inl refl)))
+      (λ b. among_right (sends f) (sent m) (sent_in (deeds ms)) (sent_among ms f b))
       a

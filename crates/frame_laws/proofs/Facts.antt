@@ -14,7 +14,7 @@ use Rattle.step_laws.specs.Letters.{Among}
 use Rattle.protocol_model.specs.World.{Node}
 use Rattle.frame_laws.specs.Past.{Passage}
 use Rattle.frame_laws.specs.Frames.{other_end}
-pub use Rattle.frame_laws.specs.Facts.{Nodes, birth_in_node, Born, role_in_node, Plays, Grows, Mates, Says, WasGiven, BytesOk, PacketOk, Knows, CallOk, CallsOk, TunnelOk, EndOk, NodeOk, Holds, StepLaws, LooksOfRuns}
+pub use Rattle.frame_laws.specs.Facts.{Nodes, birth_in_node, Born, role_in_node, Plays, Grows, Mates, NamesItsCall, WasSentInCall, BytesOk, PacketOk, KnowsItsMate, CallOk, CallsOk, TunnelOk, EndOk, NodeOk, Holds, StepLaws, LooksOfRuns}
 
 pub all_map : {X : Type 0} (P Q : X → Type 0) → ((x : X) → P x → Q x) → (xs : List X) → AllByRecursion P xs → AllByRecursion Q xs
 all_map P Q f [] h = tt
@@ -33,7 +33,8 @@ other_twice Lac = refl
 other_twice Lns = refl
 
 pub swapped : (ns : Nodes) (n s m a : ℕ) → Mates ns n s m a → Mates ns m a n s
-swapped ns n s m a h = record { birth = h.birth; some = h.some; here = h.there; there = h.here; role = other_end h.role; mine = h.its; its = rw (other_twice h.role) h.mine }
+swapped ns n s m a h =
+    record { birth = h.birth; some = h.some; here = h.there; there = h.here; role = other_end h.role; mine = h.its; its = rw (other_twice h.role) h.mine }
 
 pub mates_later : (ns ms : Nodes) → Grows ns ms → (n s m a : ℕ) → Mates ns n s m a → Mates ms n s m a
 mates_later ns ms g n s m a h =
@@ -49,13 +50,13 @@ mates_later ns ms g n s m a h =
 
 -- ---- packets
 
-pub says_later : (ns ms : Nodes) → Grows ns ms → (from to session : ℕ) (m : Message) → Says ns from to session m → Says ms from to session m
-says_later ns ms g from to session (Icrq own serial calling) h = ((h.0.0, h.0.1, g.births from own h.0.0 h.0.2), g.roles from Lac h.1)
-says_later ns ms g from to session (Icrp own) h = mates_later ns ms g from own to session h
-says_later ns ms g from to session (Sccrq o) h = tt
-says_later ns ms g from to session (Sccrp o) h = tt
-says_later ns ms g from to session Scccn h = tt
-says_later ns ms g from to session (Iccn speed framing sequenced) h = tt
+pub names_later : (ns ms : Nodes) → Grows ns ms → (from to session : ℕ) (m : Message) → NamesItsCall ns from to session m → NamesItsCall ms from to session m
+names_later ns ms g from to session (Icrq own serial calling) h = ((h.0.0, h.0.1, g.births from own h.0.0 h.0.2), g.roles from Lac h.1)
+names_later ns ms g from to session (Icrp own) h = mates_later ns ms g from own to session h
+names_later ns ms g from to session (Sccrq o) h = tt
+names_later ns ms g from to session (Sccrp o) h = tt
+names_later ns ms g from to session Scccn h = tt
+names_later ns ms g from to session (Iccn speed framing sequenced) h = tt
 
 pub among_left : {X : Type 0} (g : X) (gs hs : List X) → Among g gs → Among g (gs ++ hs)
 among_left g [] hs h = absurd h
@@ -65,8 +66,9 @@ pub among_right : {X : Type 0} (g : X) (gs hs : List X) → Among g hs → Among
 among_right g [] hs h = h
 among_right g (q ∷ gs) hs h = inr (among_right g gs hs h)
 
-pub given_later : (ns ms : Nodes) → Grows ns ms → (gs hs : List Passage) (from to session : ℕ) (frame : List ℕ) → WasGiven ns gs from to session frame → WasGiven ms (gs ++ hs) from to session frame
-given_later ns ms g gs hs from to session frame h =
+pub sent_in_call_later : (ns ms : Nodes) → Grows ns ms → (gs hs : List Passage) (from to session : ℕ) (frame : List ℕ)
+    → WasSentInCall ns gs from to session frame → WasSentInCall ms (gs ++ hs) from to session frame
+sent_in_call_later ns ms g gs hs from to session frame h =
     record {
       passage = h.passage;
       there = among_left h.passage gs hs h.there;
@@ -78,30 +80,35 @@ given_later ns ms g gs hs from to session frame h =
       to_is = h.to_is;
     }
 
-pub bytes_later : (ns ms : Nodes) → Grows ns ms → (gs hs : List Passage) (from to : ℕ) (bytes : List ℕ) → BytesOk ns gs from to bytes → BytesOk ms (gs ++ hs) from to bytes
+pub bytes_later : (ns ms : Nodes) → Grows ns ms → (gs hs : List Passage) (from to : ℕ) (bytes : List ℕ) → BytesOk ns gs from to bytes
+    → BytesOk ms (gs ++ hs) from to bytes
 bytes_later ns ms g gs hs from to bytes h =
     record {
-      frames = λ x e c. given_later ns ms g gs hs from to x.session _ (h.frames x e c);
-      letters = λ x e c m r. let l = h.letters x e c m r in (l.0, says_later ns ms g from to x.session m l.1);
+      frames = λ x e c. sent_in_call_later ns ms g gs hs from to x.session _ (h.frames x e c);
+      letters = λ x e c m r. let l = h.letters x e c m r in (l.0, names_later ns ms g from to x.session m l.1);
     }
 
-pub packets_later : (ns ms : Nodes) → Grows ns ms → (gs hs : List Passage) (ps : List Packet) → AllByRecursion (PacketOk ns gs) ps → AllByRecursion (PacketOk ms (gs ++ hs)) ps
+pub packets_later : (ns ms : Nodes) → Grows ns ms → (gs hs : List Passage) (ps : List Packet) → AllByRecursion (PacketOk ns gs) ps
+    → AllByRecursion (PacketOk ms (gs ++ hs)) ps
 packets_later ns ms g gs hs [] h = tt
-packets_later ns ms g gs hs (p ∷ ps) h = (record { from = h.0.from; bytes = bytes_later ns ms g gs hs p.from p.to p.bytes h.0.bytes }, packets_later ns ms g gs hs ps h.1)
+packets_later ns ms g gs hs (p ∷ ps) h =
+    (record { from = h.0.from; bytes = bytes_later ns ms g gs hs p.from p.to p.bytes h.0.bytes }, packets_later ns ms g gs hs ps h.1)
 
 -- ---- ends
 
-pub call_later : (ns ms : Nodes) → Grows ns ms → (n : ℕ) (role : Role) (bound more peer s : ℕ) (c : Call) → bound ≤ more → CallOk ns n role bound peer s c → CallOk ms n role more peer s c
+pub call_later : (ns ms : Nodes) → Grows ns ms → (n : ℕ) (role : Role) (bound more peer s : ℕ) (c : Call) → bound ≤ more
+    → CallOk ns n role bound peer s c → CallOk ms n role more peer s c
 call_later ns ms g n role bound more peer s c le h =
     record {
       drawn = (let d = h.drawn in omega arith);
       birth = h.birth;
       some = h.some;
       born = g.births n s h.birth h.born;
-      knows = λ k. let r = h.knows k in (r.0, mates_later ns ms g n s (node_of peer) c.remote r.1);
+      mate = λ k. let r = h.mate k in (r.0, mates_later ns ms g n s (node_of peer) c.remote r.1);
     }
 
-pub tunnel_later : (ns ms : Nodes) → Grows ns ms → (n : ℕ) (e x : End) (i : ℕ) (t : Tunnel) → x.role ≡ e.role → e.tunnel_ids.next ≤ x.tunnel_ids.next → e.session_ids.next ≤ x.session_ids.next → TunnelOk ns n e i t → TunnelOk ms n x i t
+pub tunnel_later : (ns ms : Nodes) → Grows ns ms → (n : ℕ) (e x : End) (i : ℕ) (t : Tunnel) → x.role ≡ e.role → e.tunnel_ids.next ≤ x.tunnel_ids.next
+    → e.session_ids.next ≤ x.session_ids.next → TunnelOk ns n e i t → TunnelOk ms n x i t
 tunnel_later ns ms g n e x i t role le more h =
     record {
       local = h.local;

@@ -1,4 +1,4 @@
--- What a move leaves of a node and of the world: births that were given stay, and the end's tunnels go where they went.
+-- What a move leaves of a node and of the world: births stay, and the end's tunnels go where they went.
 use Rattle.std.proofs.Common.{◌≡◌, ⊎_elim, ℕ, ◌+◌, ◌-◌, ◌^◌, ◌<◌, ◌≤◌, Bool, true, false, cond, List, refl, sym, ap, ◌∙◌, subst, Some, Ok, Err, arith}
 use Rattle.std.proofs.lemmas.Bool.{ltb-false}
 use Rattle.std.specs.Prelude.{nat_lt}
@@ -21,7 +21,7 @@ use Rattle.protocol_model.specs.End.{End}
 use Rattle.protocol_model.specs.World.{World, Node}
 use Rattle.step_laws.specs.Letters.{Letter}
 use Rattle.step_laws.specs.Moves.{Hears}
-use Rattle.frame_laws.proofs.Facts.{Nodes, Grows, Says, says_later, CallOk, CallsOk, TunnelOk, tunnel_later, EndOk}
+use Rattle.frame_laws.proofs.Facts.{Nodes, Grows, NamesItsCall, names_later, CallOk, CallsOk, TunnelOk, tunnel_later, EndOk}
 use Rattle.frame_laws.proofs.Births.{Counted}
 
 -- ---- draws
@@ -30,7 +30,8 @@ pub draw_is : (s : Space) (k : ℕ) → draws s ≡ Ok k → (k ≡ s.next) × (
 unfolding draws
 draw_is s k h = by (nat_lt s.last s.next) (nat_lt s.ceiling s.next) refl h
   where
-    by : (a b : Bool) → nat_lt s.last s.next ≡ a → cond a (Err (NoIds (s.next - 1))) (cond b (Err (NeedCeiling s.next)) (Ok s.next)) ≡ Ok k → (k ≡ s.next) × (k ≤ s.last)
+    by : (a b : Bool) → nat_lt s.last s.next ≡ a → cond a (Err (NoIds (s.next - 1))) (cond b (Err (NeedCeiling s.next)) (Ok s.next)) ≡ Ok k
+        → (k ≡ s.next) × (k ≤ s.last)
     by true b e h = absurd cc
     by false true e h = absurd cc
     by false false e h = let g : s.next ≡ k = cc in let le = ltb-false s.last s.next e in (sym g, omega (arith, g))
@@ -50,7 +51,8 @@ pub record HeardFrom (ns : Nodes) (n peer : ℕ) (bytes : List ℕ) : Type 0 whe
   pub from : ℕ
   pub number : from < 256
   pub address : peer ≡ address_of from
-  pub letters : (h : Header) → header_of bytes ≡ Ok h → h.control ≡ true → (m : Message) → message_in (body_of h bytes) ≡ Ok m → IsWritten m × Says ns from n h.session m
+  pub letters : (h : Header) → header_of bytes ≡ Ok h → h.control ≡ true → (m : Message) → message_in (body_of h bytes) ≡ Ok m
+      → IsWritten m × NamesItsCall ns from n h.session m
 
 abbrev pub Heard : Nodes → ℕ → Event → Type 0
 Heard ns n (Datagram peer bytes) = HeardFrom ns n peer bytes
@@ -64,15 +66,16 @@ heard_later ns ms g n (Datagram peer bytes) h = record {
   from = h.from;
   number = h.number;
   address = h.address;
-  letters = λ x e c m r. let l = h.letters x e c m r in (l.0, says_later ns ms g h.from n x.session m l.1);
+  letters = λ x e c m r. let l = h.letters x e c m r in (l.0, names_later ns ms g h.from n x.session m l.1);
 }
 heard_later ns ms g n (Ring port) h = tt
 heard_later ns ms g n (Payload s frame) h = tt
 heard_later ns ms g n (Lower s frame) h = tt
 heard_later ns ms g n OpenTunnel h = tt
 
-pub said : (ns : Nodes) (n : ℕ) (ev : Event) → Heard ns n ev → (peer session : ℕ) (m : Message) → Hears ev peer session m → IsWritten m × Says ns (node_of peer) n session m
-said ns n ev heard peer session m h =
+pub heard_letter : (ns : Nodes) (n : ℕ) (ev : Event) → Heard ns n ev → (peer session : ℕ) (m : Message) → Hears ev peer session m
+    → IsWritten m × NamesItsCall ns (node_of peer) n session m
+heard_letter ns n ev heard peer session m h =
     let k : HeardFrom ns n peer h.bytes = subst (Heard ns n) h.is heard in
     let l = k.letters h.header h.read h.control m h.said in
     let from : node_of peer ≡ k.from = ap node_of k.address ∙ node_again k.from k.number in
@@ -110,16 +113,23 @@ pub record Leads (n : ℕ) (v w : World) (x y : End) : Type 0 where
   pub rises : x.session_ids.next ≤ y.session_ids.next
   pub counted : HasRoom v x → Counted v.nodes v.born → Counted w.nodes w.born
 
--- a letter that was given may be read by the node that its tunnel goes to
+-- a letter of a move may be read by the node that its tunnel goes to
 pub record LetterOk (ns : Nodes) (n : ℕ) (e : End) (l : Letter) : Type 0 where
   pub written : IsWritten l.message
   pub session : l.session < 65536
   pub peer : ℕ
   pub goes : GoesTo e l.tunnel peer
-  pub says : Says ns n (node_of peer) l.session l.message
+  pub names : NamesItsCall ns n (node_of peer) l.session l.message
 
 pub letter_later : (ns ms : Nodes) → Grows ns ms → (n : ℕ) (x y : End) → GoesOn x y → (l : Letter) → LetterOk ns n x l → LetterOk ms n y l
-letter_later ns ms g n x y on l h = record { written = h.written; session = h.session; peer = h.peer; goes = on l.tunnel h.peer h.goes; says = says_later ns ms g n (node_of h.peer) l.session l.message h.says }
+letter_later ns ms g n x y on l h =
+    record {
+      written = h.written;
+      session = h.session;
+      peer = h.peer;
+      goes = on l.tunnel h.peer h.goes;
+      names = names_later ns ms g n (node_of h.peer) l.session l.message h.names;
+    }
 
 -- ---- a tunnel is put
 
@@ -133,7 +143,8 @@ pub record Sets (x y : End) (i : ℕ) (t : Tunnel) : Type 0 where
   pub last_session : y.session_ids.last ≡ x.session_ids.last
   pub most : y.session_ids.next ≤ 65536
 
-pub calls_put : (ns : Nodes) (n : ℕ) (role : Role) (bound peer s : ℕ) (c : Call) (calls : List (ℕ × Call)) → CallsOk ns n role bound peer calls → CallOk ns n role bound peer s c → CallsOk ns n role bound peer (put calls s c)
+pub calls_put : (ns : Nodes) (n : ℕ) (role : Role) (bound peer s : ℕ) (c : Call) (calls : List (ℕ × Call)) → CallsOk ns n role bound peer calls
+    → CallOk ns n role bound peer s c → CallsOk ns n role bound peer (put calls s c)
 calls_put ns n role bound peer s c calls h ok q d f = ⊎_elim (λ (a : (q ≡ s) × (c ≡ d)). rw (a.0, ← a.1) ok) (λ a. h q d a.1) (found_put calls s c q d f)
 
 pub end_put : (ns ms : Nodes) → Grows ns ms → (n : ℕ) (x y : End) (i : ℕ) (t : Tunnel) → EndOk ns n x → Sets x y i t → TunnelOk ms n y i t → EndOk ms n y

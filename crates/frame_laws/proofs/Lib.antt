@@ -11,4 +11,3 @@ pub mod Ups
 pub mod Worlds
 pub mod Lines
 pub mod Runs
-pub mod Samples

@@ -27,7 +27,7 @@ use Rattle.frame_laws.specs.Reports.{ups_in, told_of}
 use Rattle.frame_laws.proofs.Facts.{StepLaws, Born, Plays, Nodes, Grows, PacketOk, NodeOk, Holds, packets_later, node_later, birth_in_node, role_in_node, all_map}
 use Rattle.frame_laws.proofs.Changes.{birth_there}
 use Rattle.frame_laws.proofs.Births.{Counted}
-use Rattle.frame_laws.proofs.Worlds.{Below, GivenBy, GivenIn, Counts, Goes, IsReal, step_goes, step_given, step_told}
+use Rattle.frame_laws.proofs.Worlds.{Below, LineGives, EventGives, Counts, Goes, IsReal, step_ok}
 
 -- ---- which node it is
 
@@ -54,11 +54,14 @@ is_lns_role role.Lns h = refl
 
 is_lac_at : (o : Option Node) (node : Node) → lac_at o ≡ Ok node → (o ≡ Some node) × (node.end.role ≡ role.Lac)
 is_lac_at None node h = absurd (cc)
-is_lac_at (Some x) node h = let t = tested (is_lac x.end.role) x why.Node node h in (ap (λ y. Some y) t.1, subst (λ (y : Node). y.end.role ≡ role.Lac) t.1 (is_lac_role x.end.role t.0))
+is_lac_at (Some x) node h =
+    let t = tested (is_lac x.end.role) x why.Node node h in (ap (λ y. Some y) t.1, subst (λ (y : Node). y.end.role ≡ role.Lac) t.1 (is_lac_role x.end.role t.0))
 
 is_lns_at : (o : Option Node) (node : Node) → lns_at o ≡ Ok node → (o ≡ Some node) × (node.end.role ≡ role.Lns)
 is_lns_at None node h = absurd (cc)
-is_lns_at (Some x) node h = let t = tested_not (is_lac x.end.role) x why.Node node h in (ap (λ y. Some y) t.1, subst (λ (y : Node). y.end.role ≡ role.Lns) t.1 (is_lns_role x.end.role t.0))
+is_lns_at (Some x) node h =
+    let t = tested_not (is_lac x.end.role) x why.Node node h in
+    (ap (λ y. Some y) t.1, subst (λ (y : Node). y.end.role ≡ role.Lns) t.1 (is_lns_role x.end.role t.0))
 
 pub has_call : (session : ℕ) (r : Result Node Why) (node : Node) → with_call session r ≡ Ok node → r ≡ Ok node
 has_call session (Err x) node h = absurd (cc)
@@ -74,14 +77,22 @@ packet_at P (q ∷ ps) (suc k) p is h = packet_at P ps k p is h.1
 -- what a line leaves
 pub record LineOk (number : ℕ) (w : World) (gs : List Passage) (l : Line) (r : Lined) : Type 0 where
   pub goes : Goes number w gs r.world r.done
-  pub given : AllByRecursion (GivenBy number l) (sent_in r.done)
+  pub given : AllByRecursion (LineGives number l) (sent_in r.done)
   pub told : ups_in r.entries ≡ told_of r.done
 
 -- a line without a step
-quiet_goes : (number : ℕ) (w v : World) (gs : List Passage) (l : Line) → Holds v gs → Counts w.nodes w.born v → v.packets ≡ w.packets → LineOk number w gs l (quiet_line v)
+quiet_goes : (number : ℕ) (w v : World) (gs : List Passage) (l : Line) → Holds v gs → Counts w.nodes w.born v → v.packets ≡ w.packets
+    → LineOk number w gs l (quiet_line v)
 unfolding sent_in handed_in ups_in told_of
 quiet_goes number w v gs l holds counts same = record {
-  goes = record { holds = subst (Holds v) (sym (append-nil gs)) holds; lines = tt; sent = tt; counts = counts; carried = tt; grown = ([], same ∙ sym (append-nil w.packets)) };
+  goes = record {
+    holds = subst (Holds v) (sym (append-nil gs)) holds;
+    lines = tt;
+    sent = tt;
+    counts = counts;
+    carried = tt;
+    grown = ([], same ∙ sym (append-nil w.packets));
+  };
   given = tt;
   told = refl;
 }
@@ -138,7 +149,9 @@ module _ (ns : Nodes) (n : ℕ) (r : Role) (lns : ℕ) (none : at ns n ≡ None)
   -- births that are found were there before
   fresh_births : (m s b : ℕ) → Born (put ns n fresh_node) m s b → (m ≡ n → ⊥) × Born ns m s b
   fresh_births m s b h = ⊎_elim
-      (λ e. absurd (none-some b (sym (at-none s) ∙ birth_there (put ns n fresh_node) n s b fresh_node (at_new ns n fresh_node) (subst (λ x. Born (put ns n fresh_node) x s b) e h))))
+      (λ e.
+      let mine = subst (λ x. Born (put ns n fresh_node) x s b) e h in
+      absurd (none-some b (sym (at-none s) ∙ birth_there (put ns n fresh_node) n s b fresh_node (at_new ns n fresh_node) mine)))
       (λ o. (o, subst (λ (x : Option Node). birth_in_node x s ≡ Some b) (at_other ns n fresh_node m o) h))
       (same_or_not m n)
 
@@ -159,7 +172,8 @@ none_there : {X : Type 0} (o : Option X) → is_some o ≡ false → o ≡ None
 none_there None h = refl
 none_there (Some x) h = absurd (true≢false h)
 
-module _ (number : ℕ) (w : World) (gs : List Passage) (holds : Holds w gs) (l : Line) (n : ℕ) (r : Role) (lns : ℕ) (lt : n < 256) (none : at w.nodes n ≡ None) where
+module _ (number : ℕ) (w : World) (gs : List Passage) (holds : Holds w gs) (l : Line)
+    (n : ℕ) (r : Role) (lns : ℕ) (lt : n < 256) (none : at w.nodes n ≡ None) where
   abbrev new : Node
   new = record { end = new_end r (config_of n lns); births = [] }
 
@@ -169,15 +183,20 @@ module _ (number : ℕ) (w : World) (gs : List Passage) (holds : Holds w gs) (l 
       quiet_goes number w (with_node w n new) gs l
       (record {
         nodes = λ m node f. ⊎_elim
-            (λ (a : (m ≡ n) × (new ≡ node)). subst (λ y. NodeOk (put w.nodes n new) y node) (sym a.0) (subst (λ y. NodeOk (put w.nodes n new) n y) a.1 (fresh_ok w.nodes n r lns none lt)))
+            (λ (a : (m ≡ n) × (new ≡ node)).
+            let mine = subst (λ y. NodeOk (put w.nodes n new) n y) a.1 (fresh_ok w.nodes n r lns none lt) in
+            subst (λ y. NodeOk (put w.nodes n new) y node) (sym a.0) mine)
             (λ a. node_later w.nodes (put w.nodes n new) g m node (holds.nodes m node a.1))
             (found_put w.nodes n new m node f);
-        packets = subst (λ hs. AllByRecursion (PacketOk (put w.nodes n new) hs) w.packets) (append-nil gs) (packets_later w.nodes (put w.nodes n new) g gs [] w.packets holds.packets);
+        packets = subst
+            (λ hs. AllByRecursion (PacketOk (put w.nodes n new) hs) w.packets) (append-nil gs)
+            (packets_later w.nodes (put w.nodes n new) g gs [] w.packets holds.packets);
       })
       (record { few = omega arith; counted = λ few had. fresh_counted w.nodes n r lns none w.born had })
       refl
 
-added_ok : (number : ℕ) (w : World) (gs : List Passage) → Holds w gs → (l : Line) (n : ℕ) (r : Role) (lns : ℕ) → n < 256 → (x : Lined) → added w n r lns ≡ Ok x → LineOk number w gs l x
+added_ok : (number : ℕ) (w : World) (gs : List Passage) → Holds w gs → (l : Line) (n : ℕ) (r : Role) (lns : ℕ) → n < 256 → (x : Lined)
+    → added w n r lns ≡ Ok x → LineOk number w gs l x
 unfolding added
 added_ok number w gs holds l n r lns lt x h =
     let t = tested_not (is_some (at w.nodes n)) (quiet_line (with_node w n (record { end = new_end r (config_of n lns); births = [] }))) why.Twice x h in
@@ -185,10 +204,23 @@ added_ok number w gs holds l n r lns lt x h =
 
 -- ---- frames that lines give
 
-no_frame : (number n : ℕ) (r : Role) (ev : Event) (l : Line) → ((s : ℕ) (f : List ℕ) → ev ≡ event.Payload s f → ⊥) → ((s : ℕ) (f : List ℕ) → ev ≡ event.Lower s f → ⊥) → (g : Passage) → GivenIn number n r ev g → GivenBy number l g
-no_frame number n r ev l up down g h = absurd (⊎_elim (λ e. up g.session g.frame e) (λ e. down g.session g.frame e) h.event_is)
+-- an event that gives no frame
+abbrev HasNoFrame : Event → Type 0
+HasNoFrame (event.Datagram peer bytes) = Unit {0}
+HasNoFrame (event.Ring port) = Unit {0}
+HasNoFrame (event.Payload session frame) = ⊥
+HasNoFrame (event.Lower session frame) = ⊥
+HasNoFrame event.OpenTunnel = Unit {0}
 
-from_sub : (number n : ℕ) (r : Role) (session : ℕ) (frame : List ℕ) → r ≡ role.Lac → (g : Passage) → GivenIn number n r (event.Payload session frame) g → GivenBy number (FromSub n session frame) g
+no_frame : (number n : ℕ) (r : Role) (ev : Event) (l : Line) → HasNoFrame ev → (g : Passage) → EventGives number n r ev g → LineGives number l g
+no_frame number n r (event.Datagram peer bytes) l none g h = absurd (⊎_elim (λ e. absurd cc) (λ e. absurd cc) h.event_is)
+no_frame number n r (event.Ring port) l none g h = absurd (⊎_elim (λ e. absurd cc) (λ e. absurd cc) h.event_is)
+no_frame number n r (event.Payload session frame) l none g h = absurd none
+no_frame number n r (event.Lower session frame) l none g h = absurd none
+no_frame number n r event.OpenTunnel l none g h = absurd (⊎_elim (λ e. absurd cc) (λ e. absurd cc) h.event_is)
+
+from_sub : (number n : ℕ) (r : Role) (session : ℕ) (frame : List ℕ) → r ≡ role.Lac → (g : Passage)
+    → EventGives number n r (event.Payload session frame) g → LineGives number (FromSub n session frame) g
 from_sub number n r session frame lac g h = ⊎_elim
     (λ (e : event.Payload session frame ≡ event.Payload g.session g.frame).
     let a : session ≡ g.session = cc in
@@ -197,7 +229,8 @@ from_sub number n r session frame lac g h = ⊎_elim
     (λ (e : event.Payload session frame ≡ event.Lower g.session g.frame). absurd cc)
     h.event_is
 
-down_to : (number n : ℕ) (r : Role) (session : ℕ) (frame : List ℕ) → r ≡ role.Lns → (g : Passage) → GivenIn number n r (event.Lower session frame) g → GivenBy number (Down n session frame) g
+down_to : (number n : ℕ) (r : Role) (session : ℕ) (frame : List ℕ) → r ≡ role.Lns → (g : Passage)
+    → EventGives number n r (event.Lower session frame) g → LineGives number (Down n session frame) g
 down_to number n r session frame lns g h = ⊎_elim
     (λ (e : event.Lower session frame ≡ event.Payload g.session g.frame). absurd cc)
     (λ (e : event.Lower session frame ≡ event.Lower g.session g.frame).
@@ -207,18 +240,20 @@ down_to number n r session frame lns g h = ⊎_elim
     h.event_is
 
 module _ (codecs : Codecs) (laws : StepLaws) (number : ℕ) (w : World) (gs : List Passage) (holds : Holds w gs) (below : Below number gs) (l : Line) where
-  stepped_ok : (x : Lined) (n : ℕ) (ev : Event) (sender : Option Sender) (o : Result Node Why) → ((node : Node) → o ≡ Ok node → (at w.nodes n ≡ Some node) × ((g : Passage) → GivenIn number n node.end.role ev g → GivenBy number l g)) → IsReal w gs n ev → stepped w number n ev sender o ≡ Ok x → LineOk number w gs l x
+  stepped_ok : (x : Lined) (n : ℕ) (ev : Event) (sender : Option Sender) (o : Result Node Why)
+      → ((node : Node) → o ≡ Ok node → (at w.nodes n ≡ Some node) × ((g : Passage) → EventGives number n node.end.role ev g → LineGives number l g))
+      → IsReal w gs n ev → stepped w number n ev sender o ≡ Ok x → LineOk number w gs l x
   unfolding stepped
   stepped_ok x n ev sender (Err q) is real h = absurd (cc)
   stepped_ok x n ev sender (Ok node) is real h =
       let was = is node refl in
       let e : after_step w number n node sender (step node.end 0 (block_of n number) ev) ≡ x = cc in
-      let goes = step_goes codecs laws number w gs n node was.0 holds below ev real 0 (block_of n number) sender in
-      let given = step_given codecs laws number w gs n node was.0 holds below ev real 0 (block_of n number) sender in
+      let k = step_ok codecs laws number w gs holds below n node was.0 ev real 0 (block_of n number) sender in
       subst (LineOk number w gs l) e (record {
-        goes = goes;
-        given = all_map (GivenIn number n node.end.role ev) (GivenBy number l) was.1 (sent_in (after_step w number n node sender (step node.end 0 (block_of n number) ev)).done) given;
-        told = step_told codecs laws number w gs n node was.0 holds below ev real 0 (block_of n number) sender;
+        goes = k.goes;
+        given = all_map (EventGives number n node.end.role ev) (LineGives number l) was.1
+            (sent_in (after_step w number n node sender (step node.end 0 (block_of n number) ev)).done) k.given;
+        told = k.told;
       })
 
 module _ (codecs : Codecs) (laws : StepLaws) (number : ℕ) (w : World) (gs : List Passage) (holds : Holds w gs) (below : Below number gs) where
@@ -228,15 +263,28 @@ module _ (codecs : Codecs) (laws : StepLaws) (number : ℕ) (w : World) (gs : Li
 
   unmarked : (counts : Bool) (n : ℕ) (l : Line) (x : Lined) → LineOk number (marked counts n w) gs l x → LineOk number w gs l x
   unfolding marked
-  unmarked counts n l x h = record { goes = record { holds = h.goes.holds; lines = h.goes.lines; sent = h.goes.sent; counts = h.goes.counts; carried = h.goes.carried; grown = h.goes.grown }; given = h.given; told = h.told }
+  unmarked counts n l x h =
+      record {
+        goes = record {
+          holds = h.goes.holds;
+          lines = h.goes.lines;
+          sent = h.goes.sent;
+          counts = h.goes.counts;
+          carried = h.goes.carried;
+          grown = h.goes.grown;
+        };
+        given = h.given;
+        told = h.told;
+      }
 
   arrives_ok : (l : Line) (x : Lined) (p : Packet) → PacketOk w.nodes gs p → arrives w number p ≡ Ok x → LineOk number w gs l x
   unfolding arrives marked
   arrives_ok l x p sent h =
       let v = marked (is_some p.place) p.to w in
+      let ev = event.Datagram (address_of p.from) p.bytes in
       unmarked (is_some p.place) p.to l x
-      (stepped_ok codecs laws number v gs (marked_holds (is_some p.place) p.to) below l x p.to (event.Datagram (address_of p.from) p.bytes) (sender_of p.from p.origin) (declared (at w.nodes p.to))
-      (λ node e. (marked_at (is_some p.place) p.to node (is_declared (at w.nodes p.to) node e), no_frame number p.to node.end.role (event.Datagram (address_of p.from) p.bytes) l (λ s f q. absurd cc) (λ s f q. absurd cc)))
+      (stepped_ok codecs laws number v gs (marked_holds (is_some p.place) p.to) below l x p.to ev (sender_of p.from p.origin) (declared (at w.nodes p.to))
+      (λ node e. (marked_at (is_some p.place) p.to node (is_declared (at w.nodes p.to) node e), no_frame number p.to node.end.role ev l tt))
       (marked_real p sent) h)
     where
       marked_at : (counts : Bool) (n : ℕ) (node : Node) → at w.nodes p.to ≡ Some node → at (marked counts n w).nodes p.to ≡ Some node
@@ -246,7 +294,8 @@ module _ (codecs : Codecs) (laws : StepLaws) (number : ℕ) (w : World) (gs : Li
       marked_real p sent = record { from = p.from; number = sent.from; address = refl; bytes_ok = sent.bytes }
 
   -- a packet that may be delivered is one that was sent, and its node is declared
-  delivers_ok : (l : Line) (x : Lined) (o : Option Packet) → ((p : Packet) → o ≡ Some p → PacketOk w.nodes gs p) → delivers w number o ≡ Ok x → LineOk number w gs l x
+  delivers_ok : (l : Line) (x : Lined) (o : Option Packet) → ((p : Packet) → o ≡ Some p → PacketOk w.nodes gs p) → delivers w number o ≡ Ok x
+      → LineOk number w gs l x
   unfolding delivers delivers_it arrival
   delivers_ok l x None sent h = absurd (cc)
   delivers_ok l x (Some p) sent h = by (not (is_some (at w.nodes p.to))) (is_next w.delivered p.to p.place) h
@@ -258,15 +307,28 @@ module _ (codecs : Codecs) (laws : StepLaws) (number : ℕ) (w : World) (gs : Li
 
   pub line_ok : (x : Lined) (l : Line) → FitsLine l → line w number l ≡ Ok x → LineOk number w gs l x
   unfolding line
-  line_ok x (Remark text) fits h = let e : quiet_line w ≡ x = cc in subst (LineOk number w gs (Remark text)) e (quiet_goes number w w gs (Remark text) holds (uncounted w) refl)
+  line_ok x (Remark text) fits h =
+      let e : quiet_line w ≡ x = cc in subst (LineOk number w gs (Remark text)) e (quiet_goes number w w gs (Remark text) holds (uncounted w) refl)
   line_ok x (Lac n m) fits h = added_ok number w gs holds (Lac n m) n role.Lac (address_of m) (omega (arith, fits.0.1)) x h
   line_ok x (Lns n) fits h = added_ok number w gs holds (Lns n) n role.Lns 0 (omega (arith, fits.1)) x h
-  line_ok x (OpenUp n) fits h = stepped_ok codecs laws number w gs holds below (OpenUp n) x n event.OpenTunnel None (lac_at (at w.nodes n))
-      (λ node e. ((is_lac_at (at w.nodes n) node e).0, no_frame number n node.end.role event.OpenTunnel (OpenUp n) (λ s f q. absurd cc) (λ s f q. absurd cc))) tt h
-  line_ok x (Ring n port) fits h = stepped_ok codecs laws number w gs holds below (Ring n port) x n (event.Ring port) None (lac_at (at w.nodes n))
-      (λ node e. ((is_lac_at (at w.nodes n) node e).0, no_frame number n node.end.role (event.Ring port) (Ring n port) (λ s f q. absurd cc) (λ s f q. absurd cc))) tt h
-  line_ok x (FromSub n session frame) fits h = stepped_ok codecs laws number w gs holds below (FromSub n session frame) x n (event.Payload session frame) None (with_call session (lac_at (at w.nodes n)))
-      (λ node e. let is = is_lac_at (at w.nodes n) node (has_call session (lac_at (at w.nodes n)) node e) in (is.0, from_sub number n node.end.role session frame is.1)) tt h
-  line_ok x (Down n session frame) fits h = stepped_ok codecs laws number w gs holds below (Down n session frame) x n (event.Lower session frame) None (with_call session (lns_at (at w.nodes n)))
-      (λ node e. let is = is_lns_at (at w.nodes n) node (has_call session (lns_at (at w.nodes n)) node e) in (is.0, down_to number n node.end.role session frame is.1)) tt h
-  line_ok x (Deliver k) fits h = delivers_ok (Deliver k) x (slice_get w.packets (k - 1)) (λ p e. packet_at (PacketOk w.nodes gs) w.packets (k - 1) p e holds.packets) h
+  line_ok x (OpenUp n) fits h =
+      stepped_ok codecs laws number w gs holds below (OpenUp n) x n event.OpenTunnel None (lac_at (at w.nodes n))
+      (λ node e. ((is_lac_at (at w.nodes n) node e).0, no_frame number n node.end.role event.OpenTunnel (OpenUp n) tt)) tt h
+  line_ok x (Ring n port) fits h =
+      stepped_ok codecs laws number w gs holds below (Ring n port) x n (event.Ring port) None (lac_at (at w.nodes n))
+      (λ node e. ((is_lac_at (at w.nodes n) node e).0, no_frame number n node.end.role (event.Ring port) (Ring n port) tt)) tt h
+  line_ok x (FromSub n session frame) fits h =
+      stepped_ok codecs laws number w gs holds below (FromSub n session frame) x n (event.Payload session frame) None
+      (with_call session (lac_at (at w.nodes n)))
+      (λ node e.
+      let is = is_lac_at (at w.nodes n) node (has_call session (lac_at (at w.nodes n)) node e) in
+      (is.0, from_sub number n node.end.role session frame is.1))
+      tt h
+  line_ok x (Down n session frame) fits h =
+      stepped_ok codecs laws number w gs holds below (Down n session frame) x n (event.Lower session frame) None (with_call session (lns_at (at w.nodes n)))
+      (λ node e.
+      let is = is_lns_at (at w.nodes n) node (has_call session (lns_at (at w.nodes n)) node e) in
+      (is.0, down_to number n node.end.role session frame is.1))
+      tt h
+  line_ok x (Deliver k) fits h =
+      delivers_ok (Deliver k) x (slice_get w.packets (k - 1)) (λ p e. packet_at (PacketOk w.nodes gs) w.packets (k - 1) p e holds.packets) h

@@ -6,7 +6,7 @@ use Rattle.std.specs.List.{AllByRecursion}
 use Rattle.id_table.specs.Ids.{at-none}
 use Rattle.wire_base.specs.declared.why.Why.{Why}
 use Rattle.schedule_text.specs.declared.line.Line.{Line}
-use Rattle.schedule_text.specs.Grammar.{AreLines}
+use Rattle.schedule_text.specs.Grammar.{FitsLine, AreLines}
 use Rattle.protocol_model.specs.declared.tunnel.Role.TheVariants.{Lac}
 use Rattle.protocol_model.specs.World.{Node, Deed, Lined, empty_world, line}
 use Rattle.protocol_model.specs.Run.{Run, empty_run, after_line, goes_on, run_from}
@@ -20,11 +20,13 @@ use Rattle.frame_laws.proofs.Facts.{StepLaws, LooksOfRuns, Born, birth_in_node, 
 use Rattle.frame_laws.proofs.Births.{Counted}
 use Rattle.frame_laws.proofs.Changes.{born_at, plays_at}
 use Rattle.frame_laws.proofs.Deeds.{all_append}
-use Rattle.frame_laws.proofs.Worlds.{Below, GivenBy, Goes, carried_later}
-use Rattle.frame_laws.proofs.Lines.{line_ok}
+use Rattle.frame_laws.proofs.Worlds.{Below, LineGives, Goes, carried_later}
+use Rattle.frame_laws.proofs.Lines.{LineOk, line_ok}
 
 -- a run goes on where a line fits, and stays where it doesn't
-pub where_it_fits : (P : Run → Type 0) (rest : Run → Run) (r : Run) (number : ℕ) (x : Result Lined Why) → ((fault : Option (ℕ × Why)) → P (record r { fault = fault })) → ((l : Lined) → x ≡ Ok l → P (rest (after_line r l))) → P (goes_on rest r number x)
+pub where_it_fits : (P : Run → Type 0) (rest : Run → Run) (r : Run) (number : ℕ) (x : Result Lined Why)
+    → ((fault : Option (ℕ × Why)) → P (record r { fault = fault })) → ((l : Lined) → x ≡ Ok l → P (rest (after_line r l)))
+    → P (goes_on rest r number x)
 unfolding goes_on
 where_it_fits P rest r number (Err w) stops more = stops (Some (number, w))
 where_it_fits P rest r number (Ok l) stops more = more l refl
@@ -37,7 +39,8 @@ sent_in-append (d ∷ ds) es = ap (λ gs. sent_by d d.move ++ gs) (sent_in-appen
 handed_in-append : (ds es : List Deed) → handed_in (ds ++ es) ≡ handed_in ds ++ handed_in es
 unfolding handed_in
 handed_in-append [] es = refl
-handed_in-append (d ∷ ds) es = ap (λ gs. handed_by d d.move ++ gs) (handed_in-append ds es) ∙ sym (append_assoc (handed_by d d.move) (handed_in ds) (handed_in es))
+handed_in-append (d ∷ ds) es =
+    ap (λ gs. handed_by d d.move ++ gs) (handed_in-append ds es) ∙ sym (append_assoc (handed_by d d.move) (handed_in ds) (handed_in es))
 
 was_sent_later : (gs hs : List Passage) (h : Passage) → WasSent gs h → WasSent (gs ++ hs) h
 was_sent_later gs hs h s = record { passage = s.passage; there = among_left s.passage gs hs s.there; is = s.is }
@@ -57,9 +60,14 @@ run_goes_on number r x ok g =
     let is : sent_in (r.done ++ x.done) ≡ gs ++ hs = sent_in-append r.done x.done in
     record {
       holds = rw is g.holds;
-      lines = rw is (all_append _ gs hs (all_map (λ (p : Passage). p.line < number) (λ (p : Passage). p.line < number + 1) (λ p lt. omega arith) gs ok.lines) g.lines);
-      sent = rw (is, handed_in-append r.done x.done) (all_append (WasSent (gs ++ hs)) (handed_in r.done) (handed_in x.done) (all_map (WasSent gs) (WasSent (gs ++ hs)) (λ h s. was_sent_later gs hs h s) (handed_in r.done) ok.sent) g.sent);
-      carried = rw is (all_append (IsCarried x.world.packets) gs hs (all_map (IsCarried r.world.packets) (IsCarried x.world.packets) (carried_later r.world.packets x.world.packets g.grown) gs ok.carried) g.carried);
+      lines = rw is
+          (all_append _ gs hs (all_map (λ (p : Passage). p.line < number) (λ (p : Passage). p.line < number + 1) (λ p lt. omega arith) gs ok.lines) g.lines);
+      sent = rw (is, handed_in-append r.done x.done)
+          (all_append (WasSent (gs ++ hs)) (handed_in r.done) (handed_in x.done)
+          (all_map (WasSent gs) (WasSent (gs ++ hs)) (λ h s. was_sent_later gs hs h s) (handed_in r.done) ok.sent) g.sent);
+      carried = rw is
+          (all_append (IsCarried x.world.packets) gs hs
+          (all_map (IsCarried r.world.packets) (IsCarried x.world.packets) (carried_later r.world.packets x.world.packets g.grown) gs ok.carried) g.carried);
     }
 
 begins : RunOk 1 empty_run
@@ -87,45 +95,55 @@ abbrev StandsAt : List Line → ℕ → List Line → Type 0
 StandsAt all number ls = (k : ℕ) → slice_get all (number - 1 + k) ≡ slice_get ls k
 
 module _ (codecs : Codecs) (laws : StepLaws) where
+  line_of_run : (number : ℕ) (r : Run) → RunOk number r → (l : Line) (x : Lined) → FitsLine l → line r.world number l ≡ Ok x
+      → LineOk number r.world (sent_in r.done) l x
+  line_of_run number r ok l x fits h = line_ok codecs laws number r.world (sent_in r.done) ok.holds ok.lines x l fits h
+
   ended_from : (number : ℕ) (lines : List Line) (r : Run) → AreLines lines → RunOk number r → Ended (run_from number lines r)
   unfolding run_from
   ended_from number [] r fits ok = (number, ok)
   ended_from number (l ∷ ls) r fits ok =
       where_it_fits Ended _ r number (line r.world number l) (λ fault. (number, stopped number r fault ok))
-      (λ x h. ended_from (number + 1) ls (after_line r x) fits.1 (run_goes_on number r x ok (line_ok codecs laws number r.world (sent_in r.done) ok.holds ok.lines x l fits.0 h).goes))
+      (λ x h. ended_from (number + 1) ls (after_line r x) fits.1 (run_goes_on number r x ok (line_of_run number r ok l x fits.0 h).goes))
 
   -- births stay apart where there are few lines
-  counted_from : (number : ℕ) (lines : List Line) (r : Run) → AreLines lines → RunOk number r → r.world.born + 65536 * (length lines) + 65536 < 2 ^ 64 - 1 → Counted r.world.nodes r.world.born → let v = (run_from number lines r).world in Counted v.nodes v.born
+  counted_from : (number : ℕ) (lines : List Line) (r : Run) → AreLines lines → RunOk number r
+      → r.world.born + 65536 * (length lines) + 65536 < 2 ^ 64 - 1 → Counted r.world.nodes r.world.born
+      → let v = (run_from number lines r).world in Counted v.nodes v.born
   unfolding run_from
   counted_from number [] r fits ok few had = had
   counted_from number (l ∷ ls) r fits ok few had =
       where_it_fits (λ v. Counted v.world.nodes v.world.born) _ r number (line r.world number l) (λ fault. had)
       (λ x h.
-      let g = (line_ok codecs laws number r.world (sent_in r.done) ok.holds ok.lines x l fits.0 h).goes in
+      let g = (line_of_run number r ok l x fits.0 h).goes in
       let more = g.counts.few in
       counted_from (number + 1) ls (after_line r x) fits.1 (run_goes_on number r x ok g) (omega (arith, few)) (g.counts.counted (omega (arith, few)) had))
 
   -- each frame that was sent is given by its line
-  given_from : (all : List Line) (number : ℕ) (lines : List Line) (r : Run) → AreLines lines → RunOk number r → 0 < number → StandsAt all number lines → AllByRecursion (IsGiven all) (sent_in r.done) → AllByRecursion (IsGiven all) (sent_in (run_from number lines r).done)
+  given_from : (all : List Line) (number : ℕ) (lines : List Line) (r : Run) → AreLines lines → RunOk number r → 0 < number → StandsAt all number lines
+      → AllByRecursion (IsGiven all) (sent_in r.done) → AllByRecursion (IsGiven all) (sent_in (run_from number lines r).done)
   unfolding run_from
   given_from all number [] r fits ok some at_line had = had
   given_from all number (l ∷ ls) r fits ok some at_line had =
       where_it_fits (λ v. AllByRecursion (IsGiven all) (sent_in v.done)) _ r number (line r.world number l) (λ fault. had)
       (λ x h.
-      let k = line_ok codecs laws number r.world (sent_in r.done) ok.holds ok.lines x l fits.0 h in
+      let k = line_of_run number r ok l x fits.0 h in
       given_from all (number + 1) ls (after_line r x) fits.1 (run_goes_on number r x ok k.goes) (omega arith)
       (λ j. (let e : number + 1 - 1 + j ≡ number - 1 + (suc j) = omega arith in rw e (at_line (suc j))))
       (rw (sent_in-append r.done x.done) (all_append (IsGiven all) (sent_in r.done) (sent_in x.done) had
-      (all_map (GivenBy number l) (IsGiven all) (λ g b. (let e : number - 1 + 0 ≡ number - 1 = omega arith in rw (b.number_is, ← b.line_is, ← e) (at_line 0))) (sent_in x.done) k.given))))
+      (all_map (LineGives number l) (IsGiven all)
+      (λ g b. (let e : number - 1 + 0 ≡ number - 1 = omega arith in rw (b.number_is, ← b.line_is, ← e) (at_line 0)))
+      (sent_in x.done) k.given))))
 
   -- the report hands up what the moves do
-  told_from : (number : ℕ) (lines : List Line) (r : Run) → AreLines lines → RunOk number r → ups_in r.entries ≡ told_of r.done → ups_in (run_from number lines r).entries ≡ told_of (run_from number lines r).done
+  told_from : (number : ℕ) (lines : List Line) (r : Run) → AreLines lines → RunOk number r → ups_in r.entries ≡ told_of r.done
+      → ups_in (run_from number lines r).entries ≡ told_of (run_from number lines r).done
   unfolding run_from
   told_from number [] r fits ok had = had
   told_from number (l ∷ ls) r fits ok had =
       where_it_fits (λ v. ups_in v.entries ≡ told_of v.done) _ r number (line r.world number l) (λ fault. had)
       (λ x h.
-      let k = line_ok codecs laws number r.world (sent_in r.done) ok.holds ok.lines x l fits.0 h in
+      let k = line_of_run number r ok l x fits.0 h in
       told_from (number + 1) ls (after_line r x) fits.1 (run_goes_on number r x ok k.goes)
       (ups_in-append r.entries x.entries ∙ ap (λ es. es ++ ups_in x.entries) had ∙ ap (λ es. told_of r.done ++ es) k.told ∙ sym (told_of-append r.done x.done)))
 
@@ -138,7 +156,10 @@ module _ (codecs : Codecs) (laws : StepLaws) where
 
   pub births_of_runs : BirthsOfRuns
   births_of_runs lines fits few birth n session m other a b =
-      let c = counted_from 1 lines empty_run fits begins (omega (arith, few)) (record { most = λ i s x h. absurd (none-some x (no_nodes i s x h)); apart = λ i s j q x h k one two. absurd (none-some x (no_nodes i s x h)) }) in
+      let c = counted_from 1 lines empty_run fits begins (omega (arith, few)) (record {
+        most = λ i s x h. absurd (none-some x (no_nodes i s x h));
+        apart = λ i s j q x h k one two. absurd (none-some x (no_nodes i s x h));
+      }) in
       let w = (run_from 1 lines empty_run).world in
       c.apart n session m other birth
       (born_at w.nodes n session birth a.node a.is a.birth_is) (born_at w.nodes m other birth b.node b.is b.birth_is)

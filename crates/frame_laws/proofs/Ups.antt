@@ -1,27 +1,20 @@
 -- What a step's entries hand up is what its moves hand up.
-use Rattle.std.proofs.Common.{◌≡◌, inl, inr, ℕ, Bool, true, false, List, [], ◌∷◌, ◌++◌, refl, sym, ap, ◌∙◌, append_assoc, Option, Result, Ok, Err}
-use Rattle.std.proofs.lemmas.Bool.{true≢false}
-use Rattle.wire_base.specs.declared.letter.Side.{Side}
-use Rattle.l2tp_header.specs.declared.header.Header.{Header}
-use Rattle.l2tp_header.specs.declared.header.HeaderError.{HeaderError}
-use Rattle.l2tp_header.specs.Reading.{header_of}
-use Rattle.protocol_model.specs.declared.event.Event.{Event}
-use Rattle.protocol_model.specs.declared.event.Event.TheVariants.{Datagram, Ring, Payload, Lower, OpenTunnel}
-use Rattle.protocol_model.specs.declared.moves.FrameUp.{FrameUp}
+use Rattle.std.proofs.Common.{◌≡◌, ℕ, List, [], ◌∷◌, ◌++◌, refl, sym, ap, ◌∙◌, append_assoc, Option}
+use Rattle.std.specs.List.{flat_map}
+use Rattle.id_table.specs.Ids.{at}
 use Rattle.protocol_model.specs.declared.moves.Move.{Move}
 use Rattle.protocol_model.specs.declared.moves.Move.TheVariants as move
 use Rattle.protocol_model.specs.declared.out.Out.{Out}
 use Rattle.protocol_model.specs.declared.out.Out.TheVariants.{Send, Up, Drop, Cause}
 use Rattle.protocol_model.specs.declared.tunnel.Role.{Role}
-use Rattle.protocol_model.specs.Calls.{Carried, Upward, Dropped}
+use Rattle.protocol_model.specs.Names.{node_of}
 use Rattle.protocol_model.specs.Texts.{Entry, Sends, HandsUp, Drops, Causes}
-use Rattle.protocol_model.specs.End.{End, Stepped, gives_only, handed, hands_up, receives, step_in, step}
-use Rattle.protocol_model.specs.World.{World, Sender, Deed, shown, entry_of, entries_of}
-use Rattle.step_laws.specs.Letters.{Among}
-use Rattle.step_laws.specs.Moves.{HearsFrame}
-use Rattle.step_laws.specs.Steps.{IsOfMoves, IsChain}
+use Rattle.protocol_model.specs.End.{Stepped}
+use Rattle.protocol_model.specs.World.{World, Sender, Deed, birth_in, birth_of, sent, shown, entry_of, entries_of}
+use Rattle.step_laws.specs.Ups.{ups_of_output, ups_of_move}
 use Rattle.frame_laws.specs.Reports.{ups_in, told_by, told_of}
-use Rattle.frame_laws.proofs.Deeds.{all_among, done_among, deeds}
+use Rattle.frame_laws.proofs.Facts.{Nodes}
+use Rattle.frame_laws.proofs.Deeds.{deeds}
 
 pub ups_in-append : (es fs : List Entry) → ups_in (es ++ fs) ≡ ups_in es ++ ups_in fs
 unfolding ups_in
@@ -37,83 +30,40 @@ told_of-append [] es = refl
 told_of-append (d ∷ ds) es = ap (λ gs. told_by d d.move ++ gs) (told_of-append ds es) ∙ sym (append_assoc (told_by d d.move) (told_of ds) (told_of es))
 
 module _ (line n : ℕ) (r : Role) (sender : Option Sender) (v : World) where
-  abbrev pub Same : Stepped → Type 0
-  Same s = ups_in (entries_of line n s.outputs v) ≡ told_of (deeds v line n r sender s.moves)
+  -- the entry of an output that hands a frame up
+  abbrev told : Out → List Entry
+  told (Up session side frame) = HandsUp line n session (birth_of v n session) side frame ∷ []
+  told o = []
 
-  -- ---- a step that hands nothing up
+  -- nothing that is shown gives a birth
+  entries_told : (os : List Out) (w : World) → w.nodes ≡ v.nodes → ups_in (entries_of line n os w) ≡ flat_map told (flat_map ups_of_output os)
+  unfolding ups_in entries_of entry_of shown sent birth_of
+  entries_told [] w same = refl
+  entries_told (Send peer bytes origin ∷ os) w same = entries_told os (sent w n (node_of peer) bytes origin) same
+  entries_told (Up session side frame ∷ os) w same =
+      ap (λ es. HandsUp line n session (birth_of w n session) side frame ∷ es) (entries_told os w same)
+      ∙ ap (λ (ns : Nodes). HandsUp line n session (birth_in (at ns n) session) side frame ∷ flat_map told (flat_map ups_of_output os)) same
+  entries_told (Drop x ∷ os) w same = entries_told os w same
+  entries_told (Cause x ∷ os) w same = entries_told os w same
 
-  no_entries : (os : List Out) (w : World) → ((session : ℕ) (side : Side) (frame : List ℕ) → Among (Up session side frame) os → ⊥) → ups_in (entries_of line n os w) ≡ []
-  unfolding ups_in entries_of entry_of
-  no_entries [] w none = refl
-  no_entries (Send peer bytes origin ∷ os) w none = no_entries os (shown n w (Send peer bytes origin)) (λ s d f a. none s d f (inr a))
-  no_entries (Up session side frame ∷ os) w none = absurd (none session side frame (inl refl))
-  no_entries (Drop x ∷ os) w none = no_entries os (shown n w (Drop x)) (λ s d f a. none s d f (inr a))
-  no_entries (Cause x ∷ os) w none = no_entries os (shown n w (Cause x)) (λ s d f a. none s d f (inr a))
-
-  none_told : (d : Deed) (m : Move) → ((f : FrameUp) → m ≡ move.FrameUp f → ⊥) → told_by d m ≡ []
-  none_told d (move.Opened m) h = refl
-  none_told d (move.Accepted m) h = refl
-  none_told d (move.Connected m) h = refl
-  none_told d (move.Confirmed m) h = refl
-  none_told d (move.Added m) h = refl
-  none_told d (move.Requested m) h = refl
-  none_told d (move.Replied m) h = refl
-  none_told d (move.FirstUp m) h = refl
-  none_told d (move.SecondUp m) h = refl
-  none_told d (move.TookPlain m) h = refl
-  none_told d (move.NrRead m) h = refl
-  none_told d (move.Quiet i) h = refl
-  none_told d (move.FrameSent m) h = refl
-  none_told d (move.FrameUp m) h = absurd (h m refl)
-
-  no_deeds : (ms : List Move) → ((f : FrameUp) → Among (move.FrameUp f) ms → ⊥) → told_of (deeds v line n r sender ms) ≡ []
+  deeds_told : (ms : List Move) → told_of (deeds v line n r sender ms) ≡ flat_map told (flat_map ups_of_move ms)
   unfolding told_of
-  no_deeds [] none = refl
-  no_deeds (m ∷ ms) none = rw (none_told _ m (λ f e. none f (inl e))) (no_deeds ms (λ f a. none f (inr a)))
+  deeds_told [] = refl
+  deeds_told (move.FrameUp m ∷ ms) = ap (λ es. HandsUp line n m.session (birth_of v n m.session) m.side m.frame ∷ es) (deeds_told ms)
+  deeds_told (move.Opened m ∷ ms) = deeds_told ms
+  deeds_told (move.Accepted m ∷ ms) = deeds_told ms
+  deeds_told (move.Connected m ∷ ms) = deeds_told ms
+  deeds_told (move.Confirmed m ∷ ms) = deeds_told ms
+  deeds_told (move.Added m ∷ ms) = deeds_told ms
+  deeds_told (move.Requested m ∷ ms) = deeds_told ms
+  deeds_told (move.Replied m ∷ ms) = deeds_told ms
+  deeds_told (move.FirstUp m ∷ ms) = deeds_told ms
+  deeds_told (move.SecondUp m ∷ ms) = deeds_told ms
+  deeds_told (move.TookPlain m ∷ ms) = deeds_told ms
+  deeds_told (move.NrRead m ∷ ms) = deeds_told ms
+  deeds_told (move.Quiet i ∷ ms) = deeds_told ms
+  deeds_told (move.FrameSent m ∷ ms) = deeds_told ms
 
-  quiet : (e : End) (ev : Event) (s : Stepped) → IsChain e ev s → ((peer tunnel session : ℕ) (frame : List ℕ) → HearsFrame ev peer tunnel session frame → ⊥) → Same s
-  quiet e ev s chain none =
-      let moves : (f : FrameUp) → Among (move.FrameUp f) s.moves → ⊥ = λ f a. none f.peer f.tunnel f.session f.frame (done_among ev e s.end s.moves chain.chain (move.FrameUp f) a).does.hears in
-      no_entries s.outputs v (λ session side frame a. moves _ (all_among (IsOfMoves s.end s.moves) s.outputs (Up session side frame) chain.outputs a).there)
-      ∙ sym (no_deeds s.moves moves)
-
-  -- ---- a data message
-
-  handed_same : (e : End) (session : ℕ) (c : Carried) → Same (handed e session c)
-  unfolding handed gives_only entries_of entry_of ups_in told_of
-  handed_same e session (Upward tunnel peer side frame) = refl
-  handed_same e session (Dropped w) = refl
-
-  module _ (e : End) (moment : ℕ) (block : List ℕ) (peer : ℕ) (bytes : List ℕ) where
-    no_header : (x : HeaderError) → header_of bytes ≡ Err x → (p tunnel session : ℕ) (frame : List ℕ) → HearsFrame (Datagram peer bytes) p tunnel session frame → ⊥
-    no_header x is p tunnel session frame h =
-        let same : bytes ≡ h.bytes = let e = h.is in cc in
-        let read : header_of bytes ≡ Ok h.header = rw same h.read in
-        (let k : Err x ≡ Ok h.header = sym is ∙ read in absurd cc)
-
-    no_data : (k : Header) → header_of bytes ≡ Ok k → k.control ≡ true → (p tunnel session : ℕ) (frame : List ℕ) → HearsFrame (Datagram peer bytes) p tunnel session frame → ⊥
-    no_data k is control p tunnel session frame h =
-        let same : bytes ≡ h.bytes = let e = h.is in cc in
-        let read : header_of bytes ≡ Ok h.header = rw same h.read in
-        let one : Ok k ≡ Ok h.header = sym is ∙ read in
-        let head : k ≡ h.header = cc in
-        true≢false (sym control ∙ ap (λ (x : Header). x.control) head ∙ h.data_is)
-
-    data_same : (k : Header) → header_of bytes ≡ Ok k → k.control ≡ false → Same (step e moment block (Datagram peer bytes))
-    unfolding step step_in receives hands_up
-    data_same k is control = rw (is, control) (handed_same e k.session _)
-
-  pub step_same : (e : End) (moment : ℕ) (block : List ℕ) (ev : Event) → IsChain e ev (step e moment block ev) → Same (step e moment block ev)
-  step_same e moment block (Ring port) chain = quiet e (Ring port) (step e moment block (Ring port)) chain (λ p t s f h. (let k = h.is in absurd cc))
-  step_same e moment block (Payload session frame) chain = quiet e (Payload session frame) (step e moment block (Payload session frame)) chain (λ p t s f h. (let k = h.is in absurd cc))
-  step_same e moment block (Lower session frame) chain = quiet e (Lower session frame) (step e moment block (Lower session frame)) chain (λ p t s f h. (let k = h.is in absurd cc))
-  step_same e moment block OpenTunnel chain = quiet e OpenTunnel (step e moment block OpenTunnel) chain (λ p t s f h. (let k = h.is in absurd cc))
-  step_same e moment block (Datagram peer bytes) chain = by (header_of bytes) refl
-    where
-      with_control : (k : Header) (b : Bool) → header_of bytes ≡ Ok k → k.control ≡ b → Same (step e moment block (Datagram peer bytes))
-      with_control k true is c = quiet e (Datagram peer bytes) (step e moment block (Datagram peer bytes)) chain (no_data e moment block peer bytes k is c)
-      with_control k false is c = data_same e moment block peer bytes k is c
-
-      by : (x : Result Header HeaderError) → header_of bytes ≡ x → Same (step e moment block (Datagram peer bytes))
-      by (Err x) is = quiet e (Datagram peer bytes) (step e moment block (Datagram peer bytes)) chain (no_header e moment block peer bytes x is)
-      by (Ok k) is = with_control k k.control is refl
+  pub ups_told : (s : Stepped) → flat_map ups_of_output s.outputs ≡ flat_map ups_of_move s.moves
+      → ups_in (entries_of line n s.outputs v) ≡ told_of (deeds v line n r sender s.moves)
+  ups_told s same = entries_told s.outputs v refl ∙ ap (λ os. flat_map told os) same ∙ sym (deeds_told s.moves)

@@ -10,6 +10,7 @@ use Rattle.protocol_model.specs.declared.event.Event.{Event}
 use Rattle.protocol_model.specs.declared.event.Event.TheVariants.{Datagram, Ring, Payload, Lower, OpenTunnel}
 use Rattle.protocol_model.specs.declared.moves.FrameSent.{FrameSent}
 use Rattle.protocol_model.specs.declared.moves.FrameUp.{FrameUp}
+use Rattle.protocol_model.specs.declared.moves.Move.{Move}
 use Rattle.protocol_model.specs.declared.moves.Move.TheVariants as move
 use Rattle.protocol_model.specs.declared.out.Out.{Out}
 use Rattle.protocol_model.specs.declared.out.Out.TheVariants.{Send, Up, Drop, Cause}
@@ -20,20 +21,20 @@ use Rattle.protocol_model.specs.declared.tunnel.Role.{Role}
 use Rattle.protocol_model.specs.Names.{address_of, node_of}
 use Rattle.protocol_model.specs.Turn.{Tunnel}
 use Rattle.protocol_model.specs.End.{End, Stepped, step}
-use Rattle.protocol_model.specs.World.{World, Node, Sender, Deed, place_of, with_node, moved_all, sent, shown, shown_all, given, after_step}
-use Rattle.step_laws.specs.Letters.{Among, Carries, ALetter, Nothing, AFrame, HasOutput, letters_of}
+use Rattle.protocol_model.specs.World.{World, Node, Sender, Deed, Lined, place_of, with_node, moved_all, sent, shown, shown_all, given, after_step}
+use Rattle.step_laws.specs.Letters.{Among, Letter, Carries, ALetter, Nothing, AFrame, HasOutput, letters_of}
 use Rattle.step_laws.specs.Steps.{IsOfMoves, IsChain}
 use Rattle.frame_laws.specs.Codecs.{Codecs}
 use Rattle.frame_laws.specs.Past.{Passage, sent_in, handed_in}
 use Rattle.frame_laws.specs.Frames.{WasSent, IsCarried, other_end, gives_frame}
-use Rattle.frame_laws.proofs.Facts.{StepLaws, Nodes, Plays, Grows, Mates, WasGiven, BytesOk, PacketOk, NodeOk, Holds, among_left, among_right, packets_later, node_later, end_later, all_map, grows_on}
+use Rattle.frame_laws.proofs.Facts.{StepLaws, Nodes, Plays, Grows, Mates, WasSentInCall, BytesOk, PacketOk, NodeOk, Holds, among_left, among_right, packets_later, node_later, end_later, all_map, grows_on}
 use Rattle.frame_laws.proofs.Changes.{birth_is, role_there, Changed, grows, NoBirth}
 use Rattle.frame_laws.proofs.Births.{Counted, counted_after}
 use Rattle.frame_laws.proofs.Leads.{Heard, heard_later, At, LetterOk, node_again}
 use Rattle.frame_laws.proofs.Chains.{Ran, ran, same_role}
 use Rattle.frame_laws.proofs.Datagrams.{letter_ok, alone_ok, frame_ok}
 use Rattle.frame_laws.specs.Reports.{ups_in, told_of}
-use Rattle.frame_laws.proofs.Ups.{step_same}
+use Rattle.frame_laws.proofs.Ups.{ups_told}
 use Rattle.frame_laws.proofs.Deeds.{all_among, done_among, deeds, sends, hands, each_sent, each_handed, sent_among}
 
 -- ---- what is shown
@@ -65,10 +66,13 @@ SendOk B (Up session side frame) = Unit {0}
 SendOk B (Drop x) = Unit {0}
 SendOk B (Cause x) = Unit {0}
 
-shown_packets : (ns : Nodes) (gs : List Passage) (n : ℕ) → n < 256 → (os : List Out) (w : World) → AllByRecursion (SendOk (λ to bytes. BytesOk ns gs n to bytes)) os → AllByRecursion (PacketOk ns gs) w.packets → AllByRecursion (PacketOk ns gs) (shown_all n os w).packets
+shown_packets : (ns : Nodes) (gs : List Passage) (n : ℕ) → n < 256 → (os : List Out) (w : World)
+    → AllByRecursion (SendOk (λ to bytes. BytesOk ns gs n to bytes)) os → AllByRecursion (PacketOk ns gs) w.packets
+    → AllByRecursion (PacketOk ns gs) (shown_all n os w).packets
 unfolding shown_all shown sent
 shown_packets ns gs n lt [] w ok had = had
-shown_packets ns gs n lt (Send peer bytes origin ∷ os) w ok had = shown_packets ns gs n lt os (sent w n (node_of peer) bytes origin) ok.1 (all_push (PacketOk ns gs) w.packets _ had (record { from = lt; bytes = ok.0 }))
+shown_packets ns gs n lt (Send peer bytes origin ∷ os) w ok had =
+    shown_packets ns gs n lt os (sent w n (node_of peer) bytes origin) ok.1 (all_push (PacketOk ns gs) w.packets _ had (record { from = lt; bytes = ok.0 }))
 shown_packets ns gs n lt (Up session side frame ∷ os) w ok had = shown_packets ns gs n lt os w ok.1 had
 shown_packets ns gs n lt (Drop x ∷ os) w ok had = shown_packets ns gs n lt os w ok.1 had
 shown_packets ns gs n lt (Cause x ∷ os) w ok had = shown_packets ns gs n lt os w ok.1 had
@@ -114,8 +118,17 @@ record InPacket (ps : List Packet) (from to : ℕ) (bytes : List ℕ) (o : Origi
   bytes_are : packet.bytes ≡ bytes
   origin_is : packet.origin ≡ o
 
-in_more : (before after : List Packet) → HasMore before after → (from to : ℕ) (bytes : List ℕ) (o : Origin) → InPacket before from to bytes o → InPacket after from to bytes o
-in_more before after more from to bytes o h = record { packet = h.packet; there = subst (λ (ps : List Packet). Among h.packet ps) (sym more.1) (among_left h.packet before more.0 h.there); from_is = h.from_is; to_is = h.to_is; bytes_are = h.bytes_are; origin_is = h.origin_is }
+in_more : (before after : List Packet) → HasMore before after → (from to : ℕ) (bytes : List ℕ) (o : Origin) → InPacket before from to bytes o
+    → InPacket after from to bytes o
+in_more before after more from to bytes o h =
+    record {
+      packet = h.packet;
+      there = subst (λ (ps : List Packet). Among h.packet ps) (sym more.1) (among_left h.packet before more.0 h.there);
+      from_is = h.from_is;
+      to_is = h.to_is;
+      bytes_are = h.bytes_are;
+      origin_is = h.origin_is;
+    }
 
 sent_there : (n : ℕ) (w : World) (peer : ℕ) (bytes : List ℕ) (o : Origin) → InPacket (sent w n (node_of peer) bytes o).packets n (node_of peer) bytes o
 unfolding sent
@@ -128,11 +141,14 @@ sent_there n w peer bytes o = record {
   origin_is = refl;
 }
 
-shown_there : (n : ℕ) (os : List Out) (w : World) (peer : ℕ) (bytes : List ℕ) (o : Origin) → Among (Send peer bytes o) os → InPacket (shown_all n os w).packets n (node_of peer) bytes o
+shown_there : (n : ℕ) (os : List Out) (w : World) (peer : ℕ) (bytes : List ℕ) (o : Origin) → Among (Send peer bytes o) os
+    → InPacket (shown_all n os w).packets n (node_of peer) bytes o
 unfolding shown_all shown
 shown_there n [] w peer bytes o a = absurd a
 shown_there n (q ∷ os) w peer bytes o a = ⊎_elim
-    (λ (e : q ≡ Send peer bytes o). in_more (shown n w q).packets (shown_all n os (shown n w q)).packets (shown_more n os (shown n w q)) n (node_of peer) bytes o (subst (λ x. InPacket (shown n w x).packets n (node_of peer) bytes o) (sym e) (first w)))
+    (λ (e : q ≡ Send peer bytes o).
+    let there = subst (λ x. InPacket (shown n w x).packets n (node_of peer) bytes o) (sym e) (first w) in
+    in_more (shown n w q).packets (shown_all n os (shown n w q)).packets (shown_more n os (shown n w q)) n (node_of peer) bytes o there)
     (λ b. shown_there n os (shown n w q) peer bytes o b)
     a
   where
@@ -145,12 +161,12 @@ abbrev pub Below : ℕ → List Passage → Type 0
 Below number gs = AllByRecursion (λ g. g.line < number) gs
 
 -- a line gave the frame to its end
-pub record GivenBy (number : ℕ) (l : Line) (g : Passage) : Type 0 where
+pub record LineGives (number : ℕ) (l : Line) (g : Passage) : Type 0 where
   pub number_is : g.line ≡ number
   pub line_is : l ≡ gives_frame g.role g.node g.session g.frame
 
 -- an event gave the frame to its end
-pub record GivenIn (number n : ℕ) (r : Role) (ev : Event) (g : Passage) : Type 0 where
+pub record EventGives (number n : ℕ) (r : Role) (ev : Event) (g : Passage) : Type 0 where
   pub number_is : g.line ≡ number
   pub node_is : g.node ≡ n
   pub role_is : g.role ≡ r
@@ -195,7 +211,15 @@ heard_of w gs n (Payload s frame) h = tt
 heard_of w gs n (Lower s frame) h = tt
 heard_of w gs n OpenTunnel h = tt
 
-module _ (codecs : Codecs) (laws : StepLaws) (number : ℕ) (w : World) (gs : List Passage) (n : ℕ) (old : Node) (was : at w.nodes n ≡ Some old) (holds : Holds w gs) (below : Below number gs) (ev : Event) (real : IsReal w gs n ev) (moment : ℕ) (block : List ℕ) (sender : Option Sender) where
+-- what a step of a node leads to, in a line
+pub record StepOk (number : ℕ) (w : World) (gs : List Passage) (n : ℕ) (r : Role) (ev : Event) (x : Lined) : Type 0 where
+  pub goes : Goes number w gs x.world x.done
+  pub given : AllByRecursion (EventGives number n r ev) (sent_in x.done)
+  pub told : ups_in x.entries ≡ told_of x.done
+
+module _ (codecs : Codecs) (laws : StepLaws) (number : ℕ) (w : World) (gs : List Passage) (holds : Holds w gs) (below : Below number gs)
+    (n : ℕ) (old : Node) (was : at w.nodes n ≡ Some old) (ev : Event) (real : IsReal w gs n ev)
+    (moment : ℕ) (block : List ℕ) (sender : Option Sender) where
   ok : NodeOk w.nodes n old
   ok = holds.nodes n old was
 
@@ -244,7 +268,15 @@ module _ (codecs : Codecs) (laws : StepLaws) (number : ℕ) (w : World) (gs : Li
   begun = grows w.nodes base.nodes n old ended changed
 
   here : At n s.end base old.end
-  here = record { node = ended; is = at_new w.nodes n ended; end_is = refl; role = role; end = end_later w.nodes base.nodes begun n old.end ok.end; births = ok.births }
+  here =
+      record {
+        node = ended;
+        is = at_new w.nodes n ended;
+        end_is = refl;
+        role = role;
+        end = end_later w.nodes base.nodes begun n old.end ok.end;
+        births = ok.births;
+      }
 
   r : Ran codecs.digits n s.end ev base v old.end s.end s.moves
   r = ran codecs.digits n s.end ev base old.end s.end here (heard_later w.nodes base.nodes begun n ev (heard_of w gs n ev real)) s.moves chain.chain
@@ -268,15 +300,22 @@ module _ (codecs : Codecs) (laws : StepLaws) (number : ℕ) (w : World) (gs : Li
       (λ (a : m ≡ n). (let g : at v.nodes n ≡ Some node = subst (λ q. at v.nodes q ≡ Some node) a f in
       let is = r.at_end.is in
       let k : r.at_end.node ≡ node = cc in
-      let last : NodeOk v.nodes n r.at_end.node = record { number = ok.number; kept = rw r.at_end.end_is chain.kept; looks = rw r.at_end.end_is (laws.looks old.end ok.kept ok.looks moment block ev); end = rw r.at_end.end_is r.at_end.end; births = rw r.at_end.end_is r.at_end.births } in
+      let last : NodeOk v.nodes n r.at_end.node = record {
+        number = ok.number;
+        kept = rw r.at_end.end_is chain.kept;
+        looks = rw r.at_end.end_is (laws.looks old.end ok.kept ok.looks moment block ev);
+        end = rw r.at_end.end_is r.at_end.end;
+        births = rw r.at_end.end_is r.at_end.births;
+      } in
       subst (λ q. NodeOk v.nodes q node) (sym a) (subst (λ q. NodeOk v.nodes n q) k last)))
       (λ o. node_later w.nodes v.nodes grown m node (holds.nodes m node (sym (changed.others m o) ∙ sym (r.grows.others m o) ∙ f)))
       (same_or_not m n)
 
   -- ---- packets
 
-  frame_given : (f : FrameSent) → Among (move.FrameSent f) s.moves → (to remote : ℕ) → node_of f.peer ≡ to → Mates v.nodes n f.session to remote → WasGiven v.nodes (gs ++ more) n to remote f.frame
-  frame_given f a to remote same mates =
+  sent_in_call : (f : FrameSent) → Among (move.FrameSent f) s.moves → (to remote : ℕ) → node_of f.peer ≡ to → Mates v.nodes n f.session to remote
+      → WasSentInCall v.nodes (gs ++ more) n to remote f.frame
+  sent_in_call f a to remote same mates =
       let told = birth_is v n f.session mates.birth mates.here in
       record {
         passage = sends v number n old.end.role sender f;
@@ -296,19 +335,25 @@ module _ (codecs : Codecs) (laws : StepLaws) (number : ℕ) (w : World) (gs : Li
     carries_ok : (bytes : List ℕ) (o : Origin) → Carries s.end.role s.end.config tunnel s.moves bytes o → bytes_ok bytes
     carries_ok bytes o (ALetter l nr gives same origin_is are) =
         let to = r.at_end.end.tunnels id tunnel there in
-        let lo = all_among (LetterOk v.nodes n s.end) (letters_of s.end.role s.end.config gives.by) l (all_among (λ m. AllByRecursion (LetterOk v.nodes n s.end) (letters_of s.end.role s.end.config m)) s.moves gives.by r.letters gives.there) gives.gives in
+        let letters : Move → List Letter = λ m. letters_of s.end.role s.end.config m in
+        let ls = all_among (λ m. AllByRecursion (LetterOk v.nodes n s.end) (letters m)) s.moves gives.by r.letters gives.there in
+        let lo = all_among (LetterOk v.nodes n s.end) (letters gives.by) l ls gives.gives in
         let g : at s.end.tunnels id ≡ Some lo.goes.0 = rw (← to.local, ← same) lo.goes.1 in
         let k : lo.goes.0 ≡ tunnel = cc in
         let p : lo.peer ≡ peer = sym lo.goes.2 ∙ ap (λ (t : Tunnel). t.control.peer) k ∙ sym peer_is in
-        rw are (letter_ok codecs tunnel.control.remote l.session l.place.number nr to.remote lo.session v.nodes (gs ++ more) n (node_of peer) l.message lo.written (rw (← p) lo.says))
+        let remote = tunnel.control.remote in
+        rw are
+        (letter_ok codecs remote l.session l.place.number nr to.remote lo.session
+        v.nodes (gs ++ more) n (node_of peer) l.message lo.written (rw (← p) lo.names))
     carries_ok bytes o (Nothing ns nr origin_is are) =
         let to = r.at_end.end.tunnels id tunnel there in
         rw are (alone_ok codecs tunnel.control.remote 0 ns nr to.remote (omega arith) v.nodes (gs ++ more) n (node_of peer))
     carries_ok bytes o (AFrame f call a tunnel_is same at_call up origin_is are) =
         let to = r.at_end.end.tunnels id tunnel there in
-        let k = (to.calls f.session call at_call).knows (inr up) in
+        let k = (to.calls f.session call at_call).mate (inr up) in
         let mates : Mates v.nodes n f.session (node_of peer) call.remote = rw peer_is k.1 in
-        rw are (frame_ok codecs v.nodes (gs ++ more) n (node_of peer) tunnel.control.remote call.remote f.frame to.remote k.0 (frame_given f a (node_of peer) call.remote (ap node_of (same ∙ sym peer_is)) mates))
+        let was_sent = sent_in_call f a (node_of peer) call.remote (ap node_of (same ∙ sym peer_is)) mates in
+        rw are (frame_ok codecs v.nodes (gs ++ more) n (node_of peer) tunnel.control.remote call.remote f.frame to.remote k.0 was_sent)
 
   send_ok : (o : Out) → IsOfMoves s.end s.moves o → SendOk (λ to bytes. BytesOk v.nodes (gs ++ more) n to bytes) o
   send_ok (Send peer bytes o) h = carries_ok peer h.id h.tunnel h.there h.peer_is bytes o h.carries
@@ -323,20 +368,22 @@ module _ (codecs : Codecs) (laws : StepLaws) (number : ℕ) (w : World) (gs : Li
       let d = done_among ev old.end s.end s.moves chain.chain (move.FrameUp f) a in
       let h = d.does.hears in
       let k : IsFrom w gs n f.peer h.bytes = subst (IsReal w gs n) h.is real in
-      let given : WasGiven w.nodes gs k.from n f.session f.frame = subst (λ q. WasGiven w.nodes gs k.from n q f.frame) h.session_is (subst (λ q. WasGiven w.nodes gs k.from n h.header.session q) (sym h.frame_is) (k.bytes_ok.frames h.header h.read h.data_is)) in
+      let original : WasSentInCall w.nodes gs k.from n f.session f.frame = subst
+      (λ q. WasSentInCall w.nodes gs k.from n q f.frame) h.session_is
+      (subst (λ q. WasSentInCall w.nodes gs k.from n h.header.session q) (sym h.frame_is) (k.bytes_ok.frames h.header h.read h.data_is)) in
       let from : node_of f.peer ≡ k.from = ap node_of k.address ∙ node_again k.from k.number in
-      let told = birth_is v n f.session given.passage.birth (grown.births n f.session given.passage.birth given.birth) in
+      let told = birth_is v n f.session original.passage.birth (grown.births n f.session original.passage.birth original.birth) in
       record {
-        passage = given.passage;
-        there = among_left given.passage gs more given.there;
+        passage = original.passage;
+        there = among_left original.passage gs more original.there;
         is = record {
-          frame = given.frame_is;
+          frame = original.frame_is;
           birth = told;
-          born = rw told given.some;
-          end = role_there w.nodes n (other_end given.passage.role) old was given.role;
-          sender = from ∙ sym given.from_is;
-          receiver = given.to_is;
-          earlier = earlier number gs below given.passage given.there;
+          born = rw told original.some;
+          end = role_there w.nodes n (other_end original.passage.role) old was original.role;
+          sender = from ∙ sym original.from_is;
+          receiver = original.to_is;
+          earlier = earlier number gs below original.passage original.there;
         };
       }
 
@@ -355,7 +402,7 @@ module _ (codecs : Codecs) (laws : StepLaws) (number : ℕ) (w : World) (gs : Li
         bytes = p.bytes_are;
       }
 
-  given_ok : (f : FrameSent) → Among (move.FrameSent f) s.moves → GivenIn number n old.end.role ev (sends v number n old.end.role sender f)
+  given_ok : (f : FrameSent) → Among (move.FrameSent f) s.moves → EventGives number n old.end.role ev (sends v number n old.end.role sender f)
   given_ok f a =
       let d = done_among ev old.end s.end s.moves chain.chain (move.FrameSent f) a in
       record { number_is = refl; node_is = refl; role_is = refl; event_is = d.does.given }
@@ -365,7 +412,8 @@ module _ (codecs : Codecs) (laws : StepLaws) (number : ℕ) (w : World) (gs : Li
   counts_ok : Counts w.nodes w.born v
   counts_ok = record {
     few = (let b = r.grows.born in let most = r.at_end.end.most in omega arith);
-    counted = λ few had. r.grows.counted (omega (arith, few)) (counted_after w base.nodes w.born n old ended changed (omega (arith, few)) had (NoBirth refl refl));
+    counted = λ few had. r.grows.counted (omega (arith, few))
+        (counted_after w base.nodes w.born n old ended changed (omega (arith, few)) had (NoBirth refl refl));
   }
 
   -- ---- the step
@@ -376,7 +424,8 @@ module _ (codecs : Codecs) (laws : StepLaws) (number : ℕ) (w : World) (gs : Li
     packets = subst (λ (ns : Nodes). AllByRecursion (PacketOk ns (gs ++ more)) (shown_all n s.outputs v).packets) (sym (shown_nodes n s.outputs v))
         (shown_packets v.nodes (gs ++ more) n ok.number s.outputs v
         (all_map (IsOfMoves s.end s.moves) (SendOk (λ to bytes. BytesOk v.nodes (gs ++ more) n to bytes)) send_ok s.outputs chain.outputs)
-        (subst (λ ps. AllByRecursion (PacketOk v.nodes (gs ++ more)) ps) (sym r.grows.packets) (packets_later w.nodes v.nodes grown gs more w.packets holds.packets)));
+        (subst (λ ps. AllByRecursion (PacketOk v.nodes (gs ++ more)) ps) (sym r.grows.packets)
+        (packets_later w.nodes v.nodes grown gs more w.packets holds.packets)));
   }
 
   counts_shown : Counts w.nodes w.born (shown_all n s.outputs v)
@@ -398,14 +447,10 @@ module _ (codecs : Codecs) (laws : StepLaws) (number : ℕ) (w : World) (gs : Li
     grown = grown_packets;
   }
 
-  pub step_goes : Goes number w gs after done
+  pub step_ok : StepOk number w gs n old.end.role ev (after_step w number n old sender s)
   unfolding after_step given
-  step_goes = goes
-
-  pub step_given : AllByRecursion (GivenIn number n old.end.role ev) (sent_in done)
-  unfolding after_step given
-  step_given = each_sent v number n old.end.role sender (GivenIn number n old.end.role ev) s.moves given_ok
-
-  pub step_told : ups_in (after_step w number n old sender s).entries ≡ told_of done
-  unfolding after_step given
-  step_told = step_same number n old.end.role sender v old.end moment block ev chain
+  step_ok = record {
+    goes = goes;
+    given = each_sent v number n old.end.role sender (EventGives number n old.end.role ev) s.moves given_ok;
+    told = ups_told number n old.end.role sender v s (laws.ups old.end moment block ev);
+  }

@@ -14,8 +14,10 @@ use Rattle.protocol_model.specs.Names.{calling_number}
 
 -- what the codecs promise of what they write
 pub record Codecs : Type 0 where
-  pub control : (tunnel session ns nr : ℕ) (avps : List ℕ) → tunnel < 2 ^ 16 → session < 2 ^ 16 → ns < 2 ^ 16 → nr < 2 ^ 16 → length avps ≤ 65523 → Carries (control_bytes tunnel session ns nr avps) (control_header tunnel session ns nr (length avps)) avps
-  pub frame : (tunnel session : ℕ) (number : Option ℕ) (frame : List ℕ) → tunnel < 2 ^ 16 → session < 2 ^ 16 → FitsWord number → Carries (data_bytes tunnel session number frame) (data_header tunnel session number (2 + length frame)) (hdlc_bytes frame)
+  pub control : (tunnel session ns nr : ℕ) (avps : List ℕ) → tunnel < 2 ^ 16 → session < 2 ^ 16 → ns < 2 ^ 16 → nr < 2 ^ 16 → length avps ≤ 65523
+      → Carries (control_bytes tunnel session ns nr avps) (control_header tunnel session ns nr (length avps)) avps
+  pub frame : (tunnel session : ℕ) (number : Option ℕ) (frame : List ℕ) → tunnel < 2 ^ 16 → session < 2 ^ 16 → FitsWord number
+      → Carries (data_bytes tunnel session number frame) (data_header tunnel session number (2 + length frame)) (hdlc_bytes frame)
   pub message : (m : Message) → IsWritten m → (avps_of (spelling (pairs_of m)) ≡ Ok (pairs_of m)) × (message_of (pairs_of m) ≡ Ok (Known m))
   pub pairs : (v : List Avp) → AreAvps v → avps_of (spelling v) ≡ Ok v
   pub room : (m : Message) → IsWritten m → length (spelling (pairs_of m)) ≤ 65523

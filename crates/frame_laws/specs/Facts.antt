@@ -19,6 +19,7 @@ use Rattle.protocol_model.specs.End.{End}
 use Rattle.step_laws.specs.Letters.{Among}
 use Rattle.step_laws.specs.Looks.{LooksAreTrue, LooksStayTrue}
 use Rattle.step_laws.specs.Steps.{AreKept, StepsAreChains}
+use Rattle.step_laws.specs.Ups.{UpsAreMoves}
 use Rattle.schedule_text.specs.declared.line.Line.{Line}
 use Rattle.schedule_text.specs.Grammar.{AreLines}
 use Rattle.protocol_model.specs.World.{World, Node}
@@ -46,7 +47,7 @@ role_in_node (Some node) = Some node.end.role
 abbrev pub Plays : Nodes → ℕ → Role → Type 0
 Plays ns n r = role_in_node (at ns n) ≡ Some r
 
--- births that were given and roles stay
+-- births and roles stay
 pub record Grows (ns ms : Nodes) : Type 0 where
   pub births : (n s b : ℕ) → Born ns n s b → Born ms n s b
   pub roles : (n : ℕ) (r : Role) → Plays ns n r → Plays ms n r
@@ -63,17 +64,18 @@ pub record Mates (ns : Nodes) (n s m a : ℕ) : Type 0 where
 
 -- ---- packets
 
--- a request names a session of its LAC, and a reply a session that is the mate of the one that its header names
-abbrev pub Says : Nodes → ℕ → ℕ → ℕ → Message → Type 0
-Says ns from to session (Icrq own serial calling) = ((b : ℕ) × (0 < b) × Born ns from own b) × Plays ns from Lac
-Says ns from to session (Icrp own) = Mates ns from own to session
-Says ns from to session (Sccrq o) = Unit {0}
-Says ns from to session (Sccrp o) = Unit {0}
-Says ns from to session Scccn = Unit {0}
-Says ns from to session (Iccn speed framing sequenced) = Unit {0}
+-- the session that a message names is that of its call: a request names a session of its LAC, and a reply a session that is
+-- the mate of the one that its header names
+abbrev pub NamesItsCall : Nodes → ℕ → ℕ → ℕ → Message → Type 0
+NamesItsCall ns from to session (Icrq own serial calling) = ((b : ℕ) × (0 < b) × Born ns from own b) × Plays ns from Lac
+NamesItsCall ns from to session (Icrp own) = Mates ns from own to session
+NamesItsCall ns from to session (Sccrq o) = Unit {0}
+NamesItsCall ns from to session (Sccrp o) = Unit {0}
+NamesItsCall ns from to session Scccn = Unit {0}
+NamesItsCall ns from to session (Iccn speed framing sequenced) = Unit {0}
 
 -- the frame was sent in the birth of the session that it is for, by its other end
-pub record WasGiven (ns : Nodes) (gs : List Passage) (from to session : ℕ) (frame : List ℕ) : Type 0 where
+pub record WasSentInCall (ns : Nodes) (gs : List Passage) (from to session : ℕ) (frame : List ℕ) : Type 0 where
   pub passage : Passage
   pub there : Among passage gs
   pub frame_is : frame ≡ passage.frame
@@ -85,8 +87,9 @@ pub record WasGiven (ns : Nodes) (gs : List Passage) (from to session : ℕ) (fr
 
 -- what reading a packet's bytes may give
 pub record BytesOk (ns : Nodes) (gs : List Passage) (from to : ℕ) (bytes : List ℕ) : Type 0 where
-  pub frames : (h : Header) → header_of bytes ≡ Ok h → h.control ≡ false → WasGiven ns gs from to h.session (frame_of (body_of h bytes))
-  pub letters : (h : Header) → header_of bytes ≡ Ok h → h.control ≡ true → (m : Message) → message_in (body_of h bytes) ≡ Ok m → IsWritten m × Says ns from to h.session m
+  pub frames : (h : Header) → header_of bytes ≡ Ok h → h.control ≡ false → WasSentInCall ns gs from to h.session (frame_of (body_of h bytes))
+  pub letters : (h : Header) → header_of bytes ≡ Ok h → h.control ≡ true → (m : Message) → message_in (body_of h bytes) ≡ Ok m
+      → IsWritten m × NamesItsCall ns from to h.session m
 
 pub record PacketOk (ns : Nodes) (gs : List Passage) (p : Packet) : Type 0 where
   pub from : p.from < 256
@@ -94,16 +97,16 @@ pub record PacketOk (ns : Nodes) (gs : List Passage) (p : Packet) : Type 0 where
 
 -- ---- ends
 
--- whether an end knows which session of the other end a call of its own is
-abbrev pub Knows : Role → Call → Type 0
-Knows role c = (role ≡ Lns) ⊎ (is_up c.state ≡ true)
+-- an end knows which session of the other end is the mate of its call: an LNS at once, a LAC when the call is up
+abbrev pub KnowsItsMate : Role → Call → Type 0
+KnowsItsMate role c = (role ≡ Lns) ⊎ (is_up c.state ≡ true)
 
 pub record CallOk (ns : Nodes) (n : ℕ) (role : Role) (bound peer s : ℕ) (c : Call) : Type 0 where
   pub drawn : s < bound
   pub birth : ℕ
   pub some : 0 < birth
   pub born : Born ns n s birth
-  pub knows : Knows role c → (c.remote < 65536) × Mates ns n s (node_of peer) c.remote
+  pub mate : KnowsItsMate role c → (c.remote < 65536) × Mates ns n s (node_of peer) c.remote
 
 abbrev pub CallsOk : Nodes → ℕ → Role → ℕ → ℕ → List (ℕ × Call) → Type 0
 CallsOk ns n role bound peer calls = (s : ℕ) (c : Call) → at calls s ≡ Some c → CallOk ns n role bound peer s c
@@ -140,6 +143,7 @@ pub record Holds (w : World) (gs : List Passage) : Type 0 where
 pub record StepLaws : Type 0 where
   pub chains : StepsAreChains
   pub looks : LooksStayTrue
+  pub ups : UpsAreMoves
 
 -- after the run of each list of lines of the grammar, what the data plane of each node sees is so
 abbrev pub LooksOfRuns : Type 0

@@ -4,4 +4,3 @@ pub mod Frames
 pub mod Facts
 pub mod Births
 pub mod Reports
-pub mod Samples

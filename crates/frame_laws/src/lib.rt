@@ -6,7 +6,6 @@ ghost use Rattle.frame_laws.specs.Codecs.{Codecs};
 ghost use Rattle.frame_laws.specs.Facts.{LooksOfRuns, StepLaws};
 ghost use Rattle.frame_laws.specs.Frames.{FramesOfRuns, GivenInRuns, PacketsOfRuns};
 ghost use Rattle.frame_laws.specs.Reports.{ReportsOfRuns};
-ghost use Rattle.frame_laws.specs.Samples.{GoesEachWay};
 
 /// What the codecs promise of what they write.
 fn written_is_read_again()
@@ -19,12 +18,13 @@ fn written_is_read_again()
     protocol_model::twelve_digits();
 }
 
-/// What is used of steps.
-fn steps_are_known()
+/// The laws of steps that are used.
+fn laws_of_steps()
     ensures { StepLaws }
 {
     step_laws::steps_are_chains();
     step_laws::looks_are_true();
+    step_laws::ups_are_moves();
 }
 
 /// Over every list of lines of the grammar, each frame that an end hands up in a call was sent at an earlier line, in a
@@ -33,7 +33,7 @@ pub fn frames_were_sent()
     ensures { FramesOfRuns }
 {
     written_is_read_again();
-    steps_are_known();
+    laws_of_steps();
 }
 
 /// Over every list of lines of the grammar, each frame that counts as sent is one that its line gave to its end in its
@@ -43,7 +43,7 @@ pub fn sent_frames_are_packets()
     ensures given { GivenInRuns }
 {
     written_is_read_again();
-    steps_are_known();
+    laws_of_steps();
 }
 
 /// In every run, the entries of the report that tell of frames which are handed up are, in order, those of the moves that
@@ -52,7 +52,7 @@ pub fn reports_tell_the_past()
     ensures { ReportsOfRuns }
 {
     written_is_read_again();
-    steps_are_known();
+    laws_of_steps();
 }
 
 /// After every list of lines of the grammar, what the data plane of each node sees of a session is so of its call.
@@ -60,7 +60,7 @@ pub fn looks_are_true()
     ensures { LooksOfRuns }
 {
     written_is_read_again();
-    steps_are_known();
+    laws_of_steps();
 }
 
 /// After every list of fewer than 2^47 lines, two sessions of LACs with one birth are one session: a birth is one
@@ -69,10 +69,5 @@ pub fn births_are_apart()
     ensures { BirthsOfRuns }
 {
     written_is_read_again();
-    steps_are_known();
+    laws_of_steps();
 }
-
-/// A run, computed: over one call each end sends a frame, and the other end hands it up.
-pub fn a_frame_goes_each_way()
-    ensures { GoesEachWay }
-{}

@@ -45,7 +45,8 @@ unfolding with_calls
 ascends_with [] calls h = h
 ascends_with (x ∷ xs) calls h = ascends_with xs (put calls x.0 x.1) (ascends-put x.0 x.1 calls h)
 
-carries_of : (role : Role) (cfg : Config) (t : Tunnel) (ms : List Move) (bytes : List ℕ) (o : Origin) → IsControl role cfg t.control.local t.control.remote ms bytes o → Carries role cfg t ms bytes o
+carries_of : (role : Role) (cfg : Config) (t : Tunnel) (ms : List Move) (bytes : List ℕ) (o : Origin)
+    → IsControl role cfg t.control.local t.control.remote ms bytes o → Carries role cfg t ms bytes o
 carries_of role cfg t ms bytes o (turns_of.ALetter l nr g a b c) = ALetter l nr g a b c
 carries_of role cfg t ms bytes o (turns_of.Alone n nr a b) = Nothing n nr a b
 
@@ -91,11 +92,25 @@ module _ (e : End) (kept : AreKept e) (ev : Event) where
     abbrev left : End
     left = (after_turn e i calls r).end
 
+    -- the end with the turn's tunnel under an id
+    abbrev left_at : ℕ → End
+    left_at k = record e {
+      tunnel_ids = r.tunnels;
+      session_ids = r.sessions;
+      tunnels = put e.tunnels k (tunnel_after r calls);
+      calls = with_looks r.changes (placed r.control.local r.added e.calls);
+    }
+
     kept_after : Stays i r.control.local r.control.state r.sessions r.tunnels → AreKept left
     unfolding after_turn
     kept_after s = record {
       tunnels = λ j u found. ⊎_elim
-          (λ (a : (j ≡ i) × (tunnel_after r calls ≡ u)). subst (λ (x : Tunnel). IsKept j x) a.1 (record { local = s.0 ∙ sym a.0; some = λ z. some (sym a.0 ∙ z); busy = s.1; calls = ascends_with r.changed calls sorted }))
+          (λ (a : (j ≡ i) × (tunnel_after r calls ≡ u)). subst (λ (x : Tunnel). IsKept j x) a.1 (record {
+            local = s.0 ∙ sym a.0;
+            some = λ z. some (sym a.0 ∙ z);
+            busy = s.1;
+            calls = ascends_with r.changed calls sorted;
+          }))
           (λ a. kept.tunnels j u a.1)
           (found_put e.tunnels i (tunnel_after r calls) j u found);
       order = ascends-put i (tunnel_after r calls) e.tunnels kept.order;
@@ -105,11 +120,13 @@ module _ (e : End) (kept : AreKept e) (ev : Event) where
 
     chain_after : Stays i r.control.local r.control.state r.sessions r.tunnels → Chain ev e r.moves (at_turn e ev calls i r) → Chain ev e r.moves left
     unfolding after_turn
-    chain_after s h = subst (λ k. Chain ev e r.moves (record e { tunnel_ids = r.tunnels; session_ids = r.sessions; tunnels = put e.tunnels k (tunnel_after r calls); calls = with_looks r.changes (placed r.control.local r.added e.calls) })) s.0 h
+    chain_after s h = subst (λ k. Chain ev e r.moves (left_at k)) s.0 h
 
-    sent_is : (peer : ℕ) (bytes : List ℕ) (o : Origin) → peer ≡ r.control.peer → Carries e.role e.config (tunnel_after r calls) r.moves bytes o → IsSent left r.moves peer bytes o
+    sent_is : (peer : ℕ) (bytes : List ℕ) (o : Origin) → peer ≡ r.control.peer → Carries e.role e.config (tunnel_after r calls) r.moves bytes o
+        → IsSent left r.moves peer bytes o
     unfolding after_turn
-    sent_is peer bytes o same c = record { id = i; tunnel = tunnel_after r calls; there = at_new e.tunnels i (tunnel_after r calls); peer_is = same; carries = c }
+    sent_is peer bytes o same c =
+        record { id = i; tunnel = tunnel_after r calls; there = at_new e.tunnels i (tunnel_after r calls); peer_is = same; carries = c }
 
     out_is : (x : Out) → OutOk e.role e.config r.control.local r.control.remote r.control.peer r.moves x → IsOfMoves left r.moves x
     out_is (Send p bytes o) h = sent_is p bytes o h.0 (carries_of e.role e.config (tunnel_after r calls) r.moves bytes o h.1)
@@ -148,7 +165,12 @@ module _ (e : End) (kept : AreKept e) (ev : Event) where
       begins : Fresh e ev t.calls i start
       unfolding with_calls with_looks placed
       begins = record {
-        good = record { chain = ap (λ ts. record e { tunnels = ts }) (sym again); outs = tt; frames = tt; stays = (k.local, k.busy, kept.sessions, kept.first) };
+        good = record {
+          chain = ap (λ ts. record e { tunnels = ts }) (sym again);
+          outs = tt;
+          frames = tt;
+          stays = (k.local, k.busy, kept.sessions, kept.first);
+        };
         outputs = refl;
         changes = refl;
         changed = refl;
@@ -160,7 +182,8 @@ module _ (e : End) (kept : AreKept e) (ev : Event) where
       good_leads : (r : Turn) → TurnOk e ev t.calls i r → leads r
       good_leads r h = turn_chain t.calls k.calls i k.some r h
 
-      pub heard_chain : (bytes : List ℕ) (h : Header) → header_of bytes ≡ Ok h → h.control ≡ true → ev ≡ Datagram t.control.peer bytes → h.tunnel ≡ i → leads (turns e.role e.config t.calls (Datagram t.control.peer bytes) start)
+      pub heard_chain : (bytes : List ℕ) (h : Header) → header_of bytes ≡ Ok h → h.control ≡ true → ev ≡ Datagram t.control.peer bytes → h.tunnel ≡ i
+          → leads (turns e.role e.config t.calls (Datagram t.control.peer bytes) start)
       unfolding turns hears_datagram
       heard_chain bytes h read control same to =
           subst (λ r. leads (hears_datagram e.role e.config t.calls bytes r start)) (sym read)
@@ -172,16 +195,31 @@ module _ (e : End) (kept : AreKept e) (ev : Event) where
       unfolding turns
       rung_chain port same lac = good_leads _ (rings_ok e ev t.calls i k.calls e.config port start begins same lac)
 
-      carried_chain : (s : ℕ) (frame : List ℕ) (c : Call) → at t.calls s ≡ Some c → is_up c.state ≡ true → (ev ≡ Payload s frame) ⊎ (ev ≡ Lower s frame) → leads (carried s frame c start)
+      carried_chain : (s : ℕ) (frame : List ℕ) (c : Call) → at t.calls s ≡ Some c → is_up c.state ≡ true
+          → (ev ≡ Payload s frame) ⊎ (ev ≡ Lower s frame) → leads (carried s frame c start)
       unfolding carried with_output with_move after_turn with_calls with_looks placed
       carried_chain s frame c found up given = record {
-        chain = (e, record { tunnel = t; there = there; peer = refl; call = c; calls = found; up = up; given = given; after = refl }, ap (λ ts. record e { tunnels = ts }) (sym (put-again i t e.tunnels kept.order is)));
-        outputs = (record { id = i; tunnel = t; there = at_new e.tunnels i t; peer_is = refl; carries = AFrame _ c (inl refl) refl refl found up refl refl }, tt);
+        chain = (
+          e,
+          record { tunnel = t; there = there; peer = refl; call = c; calls = found; up = up; given = given; after = refl },
+          ap (λ ts. record e { tunnels = ts }) (sym (put-again i t e.tunnels kept.order is)),
+        );
+        outputs = (
+          record {
+            id = i;
+            tunnel = t;
+            there = at_new e.tunnels i t;
+            peer_is = refl;
+            carries = AFrame _ c (inl refl) refl refl found up refl refl;
+          },
+          tt,
+        );
         frames = ((t.control.remote, c.remote, inl refl), tt);
         kept = kept_after t.calls k.calls i k.some (carried s frame c start) (k.local, k.busy, kept.sessions, kept.first);
       }
 
-      pub carries_chain : (s : ℕ) (frame : List ℕ) (o : Option Call) → at t.calls s ≡ o → (ev ≡ Payload s frame) ⊎ (ev ≡ Lower s frame) → leads (carries s frame o start)
+      pub carries_chain : (s : ℕ) (frame : List ℕ) (o : Option Call) → at t.calls s ≡ o → (ev ≡ Payload s frame) ⊎ (ev ≡ Lower s frame)
+          → leads (carries s frame o start)
       unfolding carries
       carries_chain s frame None found given = good_leads _ (drops_ok e ev t.calls i why.Call start begins.good)
       carries_chain s frame (Some c) found given =
@@ -208,7 +246,13 @@ module _ (e : End) (kept : AreKept e) (ev : Event) where
 
       unmade_leads : (r : Turn) → IsUnmade r → IsChain e ev (after_new e r)
       unfolding after_new
-      unmade_leads r h = rw (eq-eqb r.control.local 0 h.local, h.moves) (record { chain = refl; outputs = all_map _ _ (word_is e []) r.outputs h.outs; frames = tt; kept = kept })
+      unmade_leads r h =
+          rw (eq-eqb r.control.local 0 h.local, h.moves) (record {
+            chain = refl;
+            outputs = all_map _ _ (word_is e []) r.outputs h.outs;
+            frames = tt;
+            kept = kept;
+          })
 
       made_leads : (r : Turn) → IsMade r → IsChain e ev (after_new e r)
       unfolding after_new
@@ -253,9 +297,11 @@ module _ (e : End) (kept : AreKept e) (ev : Event) where
               (λ may. made_leads _ (record { id = local; some = drawn_some local is; good = opened_good local lac lns is }))
               (λ full. refused_new cause.Queue)
 
-      rung_good : (port s local : ℕ) → e.role ≡ Lac → peer ≡ e.config.lns → ev ≡ Ring port → draws e.session_ids ≡ Ok s → draws e.tunnel_ids ≡ Ok local → TurnOk e ev [] local (adds e.role port s (opened e.role e.config local blank))
+      rung_good : (port s local : ℕ) → e.role ≡ Lac → peer ≡ e.config.lns → ev ≡ Ring port → draws e.session_ids ≡ Ok s
+          → draws e.tunnel_ids ≡ Ok local → TurnOk e ev [] local (adds e.role port s (opened e.role e.config local blank))
       unfolding opened gives with_output with_move with_local
-      rung_good port s local lac lns rings session drawn = adds_ok e ev [] local port s (opened e.role e.config local blank) refl rings lac session (opened_good local lac lns drawn)
+      rung_good port s local lac lns rings session drawn =
+          adds_ok e ev [] local port s (opened e.role e.config local blank) refl rings lac session (opened_good local lac lns drawn)
 
       pub rings_chain : (port : ℕ) → e.role ≡ Lac → peer ≡ e.config.lns → ev ≡ Ring port → leads_new (turns e.role e.config [] (Ring port) blank)
       unfolding turns rings rings_new
@@ -269,7 +315,8 @@ module _ (e : End) (kept : AreKept e) (ev : Event) where
               (λ may. made_leads _ (record { id = local; some = drawn_some local same; good = rung_good port s local lac lns rings is same }))
               (λ full. refused_new cause.Queue)
 
-      accepted_good : (session remote local : ℕ) (o : Opening) → Hears ev peer session (Sccrq o) → remote ≡ o.tunnel → draws e.tunnel_ids ≡ Ok local → TurnOk e ev [] local (accepted e.role e.config remote local blank)
+      accepted_good : (session remote local : ℕ) (o : Opening) → Hears ev peer session (Sccrq o) → remote ≡ o.tunnel → draws e.tunnel_ids ≡ Ok local
+          → TurnOk e ev [] local (accepted e.role e.config remote local blank)
       unfolding accepted gives with_output with_move with_local takes_one with_calls with_looks placed
       accepted_good session remote local o hears is drawn = record {
         chain = (_, record { opening = o; hears = (session, hears); remote = is; drawn = drawn; taken = refl; given = refl; after = refl }, refl);
@@ -289,7 +336,8 @@ module _ (e : End) (kept : AreKept e) (ev : Event) where
               (λ may. made_leads _ (record { id = local; some = drawn_some local is; good = accepted_good session o.tunnel local o hears refl is }))
               (λ full. dropped_new why.Queue)
 
-      first_chain : (session : ℕ) (x : Result Message Why) → ((m : Message) → x ≡ Ok m → Hears ev peer session m) → leads_new (first_said e.role e.config x blank)
+      first_chain : (session : ℕ) (x : Result Message Why) → ((m : Message) → x ≡ Ok m → Hears ev peer session m)
+          → leads_new (first_said e.role e.config x blank)
       unfolding first_said
       first_chain session (Ok (Sccrq o)) said = accepts_chain session o (said (Sccrq o) refl)
       first_chain session (Ok (Sccrp o)) said = dropped_new why.Tunnel
@@ -299,10 +347,19 @@ module _ (e : End) (kept : AreKept e) (ev : Event) where
       first_chain session (Ok (Iccn speed framing sequenced)) said = dropped_new why.Tunnel
       first_chain session (Err w) said = dropped_new why.Tunnel
 
-      pub first_heard : (bytes : List ℕ) (h : Header) → header_of bytes ≡ Ok h → h.control ≡ true → ev ≡ Datagram peer bytes → leads_new (turns e.role e.config [] (Datagram peer bytes) blank)
+      pub first_heard : (bytes : List ℕ) (h : Header) → header_of bytes ≡ Ok h → h.control ≡ true → ev ≡ Datagram peer bytes
+          → leads_new (turns e.role e.config [] (Datagram peer bytes) blank)
       unfolding turns hears_datagram hears_control
       first_heard bytes h read control same =
           subst (λ x. leads_new (hears_datagram e.role e.config [] bytes x blank)) (sym read)
           (branch leads_new h.control _ _
-          (λ c. first_chain h.session (message_in (body_of h bytes)) (λ m said. record { bytes = bytes; is = same; header = h; read = read; control = control; session_is = refl; said = said }))
+          (λ c. first_chain h.session (message_in (body_of h bytes)) (λ m said. record {
+            bytes = bytes;
+            is = same;
+            header = h;
+            read = read;
+            control = control;
+            session_is = refl;
+            said = said;
+          }))
           (λ c. absurd (true≢false (sym control ∙ c))))

@@ -64,18 +64,26 @@ module _ (e : End) (ev : Event) (calls : List (ℕ × Call)) (i : ℕ) where
   module _ (sorted : Ascends calls) where
     -- ---- letters about the tunnel
 
-    connects_ok : (session : ℕ) (o : Opening) (t : Turn) → Fresh t → t.control.state ≡ state.WaitCtlReply → HearsNext ev t.control session (Sccrp o) → Good (connects e.role calls o.tunnel state.Established t)
+    connects_ok : (session : ℕ) (o : Opening) (t : Turn) → Fresh t → t.control.state ≡ state.WaitCtlReply → HearsNext ev t.control session (Sccrp o)
+        → Good (connects e.role calls o.tunnel state.Established t)
     unfolding connects connected gives with_output with_move takes_one
     connects_ok session o t f is hears =
         branch Good (may_count t.control.channel.sent) _ _
-        (λ may. requests_all_ok e ev calls i calls sorted (connected o.tunnel state.Established t) refl (all_same (connected o.tunnel state.Established t) f.changed calls) (connected_ok e ev calls i o.tunnel session o t f.outputs is hears refl f.good))
+        (λ may.
+        let u = connected o.tunnel state.Established t in
+        requests_all_ok e ev calls i calls sorted u refl (all_same u f.changed calls)
+        (connected_ok e ev calls i o.tunnel session o t f.outputs is hears refl f.good))
         (λ full. drops_ok e ev calls i why.Queue t f.good)
 
     -- a letter that a closed tunnel takes
-    closed_ok : (session : ℕ) (m : Message) (t : Turn) → Fresh t → t.control.state ≡ state.Closed → HearsNext ev t.control session m → Good (cond (state_number state.Closed == state_number t.control.state) (takes_plain t) (confirms state.Closed t))
-    closed_ok session m t f is hears = subst (λ (s : TunnelState). Good (cond (state_number state.Closed == state_number s) (takes_plain t) (confirms state.Closed t))) (sym is) (plain_ok e ev calls i session m t hears f.good)
+    closed_ok : (session : ℕ) (m : Message) (t : Turn) → Fresh t → t.control.state ≡ state.Closed → HearsNext ev t.control session m
+        → Good (cond (state_number state.Closed == state_number t.control.state) (takes_plain t) (confirms state.Closed t))
+    closed_ok session m t f is hears =
+        subst (λ (s : TunnelState). Good (cond (state_number state.Closed == state_number s) (takes_plain t) (confirms state.Closed t))) (sym is)
+        (plain_ok e ev calls i session m t hears f.good)
 
-    sccrq_ok : (session : ℕ) (o : Opening) (t : Turn) → Fresh t → HearsNext ev t.control session (Sccrq o) → (s : TunnelState) → t.control.state ≡ s → Good (takes_by e.role calls 0 (row_of rows s event.SccrqAcc) t)
+    sccrq_ok : (session : ℕ) (o : Opening) (t : Turn) → Fresh t → HearsNext ev t.control session (Sccrq o) → (s : TunnelState) → t.control.state ≡ s
+        → Good (takes_by e.role calls 0 (row_of rows s event.SccrqAcc) t)
     unfolding takes_by
     sccrq_ok session o t f hears state.Idle is = drops_ok e ev calls i why.Ignored t f.good
     sccrq_ok session o t f hears state.WaitCtlReply is = drops_ok e ev calls i why.Ignored t f.good
@@ -83,7 +91,8 @@ module _ (e : End) (ev : Event) (calls : List (ℕ × Call)) (i : ℕ) where
     sccrq_ok session o t f hears state.Established is = drops_ok e ev calls i why.Ignored t f.good
     sccrq_ok session o t f hears state.Closed is = closed_ok session (Sccrq o) t f is hears
 
-    sccrp_ok : (session : ℕ) (o : Opening) (t : Turn) → Fresh t → HearsNext ev t.control session (Sccrp o) → (s : TunnelState) → t.control.state ≡ s → Good (takes_by e.role calls o.tunnel (row_of rows s event.SccrpAcc) t)
+    sccrp_ok : (session : ℕ) (o : Opening) (t : Turn) → Fresh t → HearsNext ev t.control session (Sccrp o) → (s : TunnelState) → t.control.state ≡ s
+        → Good (takes_by e.role calls o.tunnel (row_of rows s event.SccrpAcc) t)
     unfolding takes_by
     sccrp_ok session o t f hears state.Idle is = drops_ok e ev calls i why.Ignored t f.good
     sccrp_ok session o t f hears state.WaitCtlReply is = connects_ok session o t f is hears
@@ -91,10 +100,14 @@ module _ (e : End) (ev : Event) (calls : List (ℕ × Call)) (i : ℕ) where
     sccrp_ok session o t f hears state.Established is = drops_ok e ev calls i why.Ignored t f.good
     sccrp_ok session o t f hears state.Closed is = closed_ok session (Sccrp o) t f is hears
 
-    confirmed_ok : (session : ℕ) (t : Turn) → Fresh t → t.control.state ≡ state.WaitCtlConn → HearsNext ev t.control session Scccn → Good (cond (state_number state.Established == state_number t.control.state) (takes_plain t) (confirms state.Established t))
-    confirmed_ok session t f is hears = subst (λ (s : TunnelState). Good (cond (state_number state.Established == state_number s) (takes_plain t) (confirms state.Established t))) (sym is) (confirms_ok e ev calls i session t is hears f.good)
+    confirmed_ok : (session : ℕ) (t : Turn) → Fresh t → t.control.state ≡ state.WaitCtlConn → HearsNext ev t.control session Scccn
+        → Good (cond (state_number state.Established == state_number t.control.state) (takes_plain t) (confirms state.Established t))
+    confirmed_ok session t f is hears =
+        subst (λ (s : TunnelState). Good (cond (state_number state.Established == state_number s) (takes_plain t) (confirms state.Established t))) (sym is)
+        (confirms_ok e ev calls i session t is hears f.good)
 
-    scccn_ok : (session : ℕ) (t : Turn) → Fresh t → HearsNext ev t.control session Scccn → (s : TunnelState) → t.control.state ≡ s → Good (takes_by e.role calls 0 (row_of rows s event.ScccnAcc) t)
+    scccn_ok : (session : ℕ) (t : Turn) → Fresh t → HearsNext ev t.control session Scccn → (s : TunnelState) → t.control.state ≡ s
+        → Good (takes_by e.role calls 0 (row_of rows s event.ScccnAcc) t)
     unfolding takes_by
     scccn_ok session t f hears state.Idle is = drops_ok e ev calls i why.Ignored t f.good
     scccn_ok session t f hears state.WaitCtlReply is = drops_ok e ev calls i why.Ignored t f.good
@@ -104,26 +117,36 @@ module _ (e : End) (ev : Event) (calls : List (ℕ × Call)) (i : ℕ) where
 
     -- ---- letters about a call
 
-    replies_ok : (session remote serial : ℕ) (calling : Option (List ℕ)) (t : Turn) → Fresh t → state_number t.control.state ≡ 3 → HearsNext ev t.control session (Icrq remote serial calling) → Good (replies e.role remote t)
+    replies_ok : (session remote serial : ℕ) (calling : Option (List ℕ)) (t : Turn) → Fresh t → state_number t.control.state ≡ 3
+        → HearsNext ev t.control session (Icrq remote serial calling) → Good (replies e.role remote t)
     unfolding replies replies_by
     replies_ok session remote serial calling t f is_open hears =
         branch Good (is_reply (call_row e.role call.Idle call_event.IcrqAcc).1) _ _
         (λ row. by row (draws t.sessions) refl)
         (λ none. drops_ok e ev calls i why.Session t f.good)
       where
-        by : is_reply (call_row e.role call.Idle call_event.IcrqAcc).1 ≡ true → (r : Result ℕ IdError) → draws t.sessions ≡ r → Good (replies_by e.role remote r t)
+        by : is_reply (call_row e.role call.Idle call_event.IcrqAcc).1 ≡ true → (r : Result ℕ IdError) → draws t.sessions ≡ r
+            → Good (replies_by e.role remote r t)
         by row (Err x) is = drops_ok e ev calls i why.Session t f.good
-        by row (Ok s) is = branch Good (may_count t.control.channel.sent) _ _ (λ may. replied_ok e ev calls i remote s session serial calling t f.changes is_open hears row is f.good) (λ full. drops_ok e ev calls i why.Queue t f.good)
+        by row (Ok s) is =
+            branch Good (may_count t.control.channel.sent) _ _
+            (λ may. replied_ok e ev calls i remote s session serial calling t f.changes is_open hears row is f.good)
+            (λ full. drops_ok e ev calls i why.Queue t f.good)
 
-    first_up_by_ok : (session remote : ℕ) (t : Turn) → Fresh t → state_number t.control.state ≡ 3 → HearsNext ev t.control session (Icrp remote) → (o : Option Call) → at calls session ≡ o → Good (first_up_by e.role session remote o t)
+    first_up_by_ok : (session remote : ℕ) (t : Turn) → Fresh t → state_number t.control.state ≡ 3 → HearsNext ev t.control session (Icrp remote)
+        → (o : Option Call) → at calls session ≡ o → Good (first_up_by e.role session remote o t)
     unfolding first_up_by
     first_up_by_ok session remote t f is_open hears None is = drops_ok e ev calls i why.Session t f.good
     first_up_by_ok session remote t f is_open hears (Some c) is =
         branch Good (is_connection (call_row e.role c.state call_event.IcrpAcc).1) _ _
-        (λ row. branch Good (may_count t.control.channel.sent) _ _ (λ may. first_up_ok e ev calls i session remote c t is_open (at_first t f session c is) hears row f.good) (λ full. drops_ok e ev calls i why.Queue t f.good))
+        (λ row. branch Good (may_count t.control.channel.sent) _ _
+        (λ may. first_up_ok e ev calls i session remote c t is_open (at_first t f session c is) hears row f.good)
+        (λ full. drops_ok e ev calls i why.Queue t f.good))
         (λ none. drops_ok e ev calls i why.Session t f.good)
 
-    second_up_by_ok : (session speed framing : ℕ) (sequenced : Bool) (t : Turn) → Fresh t → state_number t.control.state ≡ 3 → HearsNext ev t.control session (Iccn speed framing sequenced) → (o : Option Call) → at calls session ≡ o → Good (second_up_by e.role session o t)
+    second_up_by_ok : (session speed framing : ℕ) (sequenced : Bool) (t : Turn) → Fresh t → state_number t.control.state ≡ 3
+        → HearsNext ev t.control session (Iccn speed framing sequenced) → (o : Option Call) → at calls session ≡ o
+        → Good (second_up_by e.role session o t)
     unfolding second_up_by
     second_up_by_ok session speed framing sequenced t f is_open hears None is = drops_ok e ev calls i why.Session t f.good
     second_up_by_ok session speed framing sequenced t f is_open hears (Some c) is =
@@ -131,11 +154,13 @@ module _ (e : End) (ev : Event) (calls : List (ℕ × Call)) (i : ℕ) where
         (λ row. second_up_ok e ev calls i session speed framing sequenced c t is_open (at_first t f session c is) hears row f.good)
         (λ none. drops_ok e ev calls i why.Session t f.good)
 
-    about_call_ok : (session : ℕ) (m : Message) (t : Turn) → Fresh t → state_number t.control.state ≡ 3 → HearsNext ev t.control session m → Good (about_call e.role calls session m t)
+    about_call_ok : (session : ℕ) (m : Message) (t : Turn) → Fresh t → state_number t.control.state ≡ 3 → HearsNext ev t.control session m
+        → Good (about_call e.role calls session m t)
     unfolding about_call
     about_call_ok session (Icrq remote serial calling) t f is_open hears = replies_ok session remote serial calling t f is_open hears
     about_call_ok session (Icrp remote) t f is_open hears = first_up_by_ok session remote t f is_open hears (at calls session) refl
-    about_call_ok session (Iccn speed framing sequenced) t f is_open hears = second_up_by_ok session speed framing sequenced t f is_open hears (at calls session) refl
+    about_call_ok session (Iccn speed framing sequenced) t f is_open hears =
+        second_up_by_ok session speed framing sequenced t f is_open hears (at calls session) refl
     about_call_ok session (Sccrq o) t f is_open hears = drops_ok e ev calls i why.Session t f.good
     about_call_ok session (Sccrp o) t f is_open hears = drops_ok e ev calls i why.Session t f.good
     about_call_ok session Scccn t f is_open hears = drops_ok e ev calls i why.Session t f.good
@@ -158,28 +183,40 @@ module _ (e : End) (ev : Event) (calls : List (ℕ × Call)) (i : ℕ) where
     hears_ok session (Icrp remote) t f h = in_call_ok session (Icrp remote) t f h
     hears_ok session (Iccn speed framing sequenced) t f h = in_call_ok session (Iccn speed framing sequenced) t f h
 
-    hears_said_ok : (session : ℕ) (r : Result Message Why) (t : Turn) → Fresh t → ((m : Message) → r ≡ Ok m → HearsNext ev t.control session m) → Good (hears_said e.role calls session r t)
+    hears_said_ok : (session : ℕ) (r : Result Message Why) (t : Turn) → Fresh t → ((m : Message) → r ≡ Ok m → HearsNext ev t.control session m)
+        → Good (hears_said e.role calls session r t)
     unfolding hears_said
     hears_said_ok session (Err w) t f said = drops_ok e ev calls i w t f.good
     hears_said_ok session (Ok m) t f said = hears_ok session m t f (said m refl)
 
     -- a control message of the tunnel's peer, in the tunnel
     module _ (bytes : List ℕ) (h : Header) (read : header_of bytes ≡ Ok h) (control : h.control ≡ true) where
-      in_tunnel_ok : (t : Turn) → Fresh t → ev ≡ Datagram t.control.peer bytes → h.tunnel ≡ t.control.local → Good (in_tunnel e.role calls h.session (unwrap_or h.ns 0) (body_of h bytes) t)
+      in_tunnel_ok : (t : Turn) → Fresh t → ev ≡ Datagram t.control.peer bytes → h.tunnel ≡ t.control.local
+          → Good (in_tunnel e.role calls h.session (unwrap_or h.ns 0) (body_of h bytes) t)
       unfolding in_tunnel
       in_tunnel_ok t f is to =
           branch Good (length (body_of h bytes) == 0) _ _
           (λ none. f.good)
           (λ some. branch Good (is_next (unwrap_or h.ns 0) t.control.channel) _ _
-          (λ next. hears_said_ok h.session (message_in (body_of h bytes)) t f (λ m said. record { hears = record { bytes = bytes; is = is; header = h; read = read; control = control; session_is = refl; said = said }; tunnel = to; next = next }))
+          (λ next. hears_said_ok h.session (message_in (body_of h bytes)) t f (λ m said. record {
+            hears = record { bytes = bytes; is = is; header = h; read = read; control = control; session_is = refl; said = said };
+            tunnel = to;
+            next = next;
+          }))
           (λ other. drops_ok e ev calls i why.Ahead t f.good))
 
-      pub hears_control_ok : (cfg : Config) (t : Turn) → Fresh t → ev ≡ Datagram t.control.peer bytes → h.tunnel ≡ t.control.local → Good (hears_control e.role cfg calls h (body_of h bytes) t)
+      pub hears_control_ok : (cfg : Config) (t : Turn) → Fresh t → ev ≡ Datagram t.control.peer bytes → h.tunnel ≡ t.control.local
+          → Good (hears_control e.role cfg calls h (body_of h bytes) t)
       unfolding hears_control with_move
       hears_control_ok cfg t f is to =
           branch Good (state_number t.control.state == 0) _ _
           (λ idle. absurd (f.good.stays.1 (eqb-true (state_number t.control.state) 0 idle)))
-          (λ busy. in_tunnel_ok _ (record { good = read_ok e ev calls i (unwrap_or h.nr 0) t f.good; outputs = f.outputs; changes = f.changes; changed = f.changed }) is to)
+          (λ busy. in_tunnel_ok _ (record {
+            good = read_ok e ev calls i (unwrap_or h.nr 0) t f.good;
+            outputs = f.outputs;
+            changes = f.changes;
+            changed = f.changed;
+          }) is to)
 
     -- ---- rings
 
@@ -192,7 +229,9 @@ module _ (e : End) (ev : Event) (calls : List (ℕ × Call)) (i : ℕ) where
     rings_over_ok port s t f rings lac drawn =
         let added = adds_ok e ev calls i port s t f.changes rings lac drawn f.good in
         branch Good (state_number t.control.state == 3) _ _
-        (λ is. requests_ok e ev calls i s (rung e.role port) (adds e.role port s t) (eqb-true (state_number t.control.state) 3 is) (rw (with_calls-more t.changed s (rung e.role port) calls) (at_new (with_calls t.changed calls) s (rung e.role port))) (small_draw t.sessions s drawn f.good.stays.2) added)
+        (λ is. requests_ok e ev calls i s (rung e.role port) (adds e.role port s t) (eqb-true (state_number t.control.state) 3 is)
+        (rw (with_calls-more t.changed s (rung e.role port) calls) (at_new (with_calls t.changed calls) s (rung e.role port)))
+        (small_draw t.sessions s drawn f.good.stays.2) added)
         (λ other. added)
 
     pub rings_ok : (cfg : Config) (port : ℕ) (t : Turn) → Fresh t → ev ≡ Ring port → e.role ≡ Lac → Good (rings e.role cfg port t)

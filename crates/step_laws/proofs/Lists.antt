@@ -35,7 +35,8 @@ unfolding with_calls
 with_calls-more [] s c calls = refl
 with_calls-more (x ∷ xs) s c calls = with_calls-more xs s c (put calls x.0 x.1)
 
-pub with_looks-more : (xs : List CellChange) (x : CellChange) (places : List (ℕ × CallPlace)) → with_looks (xs ++ x ∷ []) places ≡ with_look x (with_looks xs places)
+pub with_looks-more : (xs : List CellChange) (x : CellChange) (places : List (ℕ × CallPlace))
+    → with_looks (xs ++ x ∷ []) places ≡ with_look x (with_looks xs places)
 unfolding with_looks
 with_looks-more [] x places = refl
 with_looks-more (y ∷ xs) x places = with_looks-more xs x (with_look y places)

@@ -1,5 +1,5 @@
 -- What the data plane sees of each session stays so.
-use Rattle.std.proofs.Common.{◌≡◌, ⊎_elim, ℕ, ◌+◌, ◌<◌, ◌≤◌, Bool, true, false, cond, List, [], ◌∷◌, refl, sym, ap, ◌∙◌, subst, Option, Some, Ok, Err, arith}
+use Rattle.std.proofs.Common.{◌≡◌, ⊎_elim, ℕ, ◌+◌, ◌<◌, ◌≤◌, Bool, true, false, cond, List, [], ◌∷◌, refl, sym, ap, ◌∙◌, subst, Some, Ok, Err, arith}
 use Rattle.std.proofs.lemmas.Bool.{true≢false}
 use Rattle.std.proofs.lemmas.Option.{none-some}
 use Rattle.std.specs.Prelude.{nat_lt, ◌-◌}
@@ -54,7 +54,8 @@ unfolding call_row rung advanced
 rung_state Lac port h = refl
 rung_state Lns port h = absurd cc
 
-connected_state : (r : Role) (s : CallState) → is_connection (call_row r s call_event.IcrpAcc).1 ≡ true → (s ≡ WaitReply) × ((call_row r s call_event.IcrpAcc).0 ≡ Established)
+connected_state : (r : Role) (s : CallState) → is_connection (call_row r s call_event.IcrpAcc).1 ≡ true
+    → (s ≡ WaitReply) × ((call_row r s call_event.IcrpAcc).0 ≡ Established)
 unfolding call_row
 connected_state Lac Idle h = never h
 connected_state Lac WaitTunnel h = never h
@@ -88,14 +89,22 @@ draw_is s k h = by (nat_lt s.last s.next) (nat_lt s.ceiling s.next) h
 next_is : (s : Space) (k : ℕ) → draws s ≡ Ok k → after_draw s ≡ record s { next = k + 1 }
 next_is s k h = rw h refl
 
+drawn_next : (s : Space) (k : ℕ) → draws s ≡ Ok k → (after_draw s).next ≡ k + 1
+drawn_next s k h = ap (λ (d : Space). d.next) (next_is s k h)
+
 -- ---- one tunnel is put, and one place
 
 module _ (x : End) (ok : LooksAreTrue x) where
+  -- under one id there is one tunnel
+  same_tunnel : (j i : ℕ) (u t : Tunnel) → j ≡ i → at x.tunnels j ≡ Some u → at x.tunnels i ≡ Some t → u ≡ t
+  same_tunnel j i u t e a b = let g : Some u ≡ Some t = sym a ∙ subst (λ q. at x.tunnels q ≡ Some t) (sym e) b in cc
+
   -- a tunnel goes on with the calls that it has
-  calls_stay : (i : ℕ) (t : Tunnel) (c : Control) → at x.tunnels i ≡ Some t → c.peer ≡ t.control.peer → LooksAreTrue (with_tunnel x i (record t { control = c }))
+  calls_stay : (i : ℕ) (t : Tunnel) (c : Control) → at x.tunnels i ≡ Some t → c.peer ≡ t.control.peer
+      → LooksAreTrue (with_tunnel x i (record t { control = c }))
   calls_stay i t c there peer = record {
     live = λ s p f. let l = ok.live s p f in ⊎_elim
-        (λ (a : p.tunnel ≡ i). (let g : Some l.tunnel ≡ Some t = sym l.there ∙ subst (λ q. at x.tunnels q ≡ Some t) (sym a) there in let k : l.tunnel ≡ t = cc in
+        (λ (a : p.tunnel ≡ i). (let k = same_tunnel p.tunnel i l.tunnel t a l.there there in
         record { tunnel = record t { control = c }; there = rw a (at_new x.tunnels i (record t { control = c })); call = l.call; live = rw (← k) l.live }))
         (λ o. record { tunnel = l.tunnel; there = at_other x.tunnels i (record t { control = c }) p.tunnel o ∙ l.there; call = l.call; live = l.live })
         (same_or_not p.tunnel i);
@@ -103,17 +112,26 @@ module _ (x : End) (ok : LooksAreTrue x) where
         (λ (a : (j ≡ i) × (record t { control = c } ≡ u)). rw (a.0, ← a.1, peer) (ok.seen i t there s d (rw (← a.1) at g)))
         (λ a. ok.seen j u a.1 s d g)
         (found_put x.tunnels i (record t { control = c }) j u f);
-    tunnels = λ j u f. ⊎_elim (λ (a : (j ≡ i) × (record t { control = c } ≡ u)). rw a.0 (ok.tunnels i t there)) (λ a. ok.tunnels j u a.1) (found_put x.tunnels i (record t { control = c }) j u f);
+    tunnels = λ j u f. ⊎_elim
+        (λ (a : (j ≡ i) × (record t { control = c } ≡ u)). rw a.0 (ok.tunnels i t there))
+        (λ a. ok.tunnels j u a.1)
+        (found_put x.tunnels i (record t { control = c }) j u f);
     sessions = ok.sessions;
   }
 
   -- a tunnel that is new has no calls
-  tunnel_born : (y : End) (i : ℕ) (c : Control) → i ≡ x.tunnel_ids.next → y.tunnels ≡ put x.tunnels i (record { control = c; calls = [] }) → y.calls ≡ x.calls → y.tunnel_ids.next ≡ i + 1 → y.session_ids ≡ x.session_ids → LooksAreTrue y
+  tunnel_born : (y : End) (i : ℕ) (c : Control) → i ≡ x.tunnel_ids.next → y.tunnels ≡ put x.tunnels i (record { control = c; calls = [] })
+      → y.calls ≡ x.calls → y.tunnel_ids.next ≡ i + 1 → y.session_ids ≡ x.session_ids → LooksAreTrue y
   tunnel_born y i c fresh tunnels calls next sessions = record {
     live = λ s p f.
         let l = ok.live s p (rw (← calls) f) in
         let lt = ok.tunnels p.tunnel l.tunnel l.there in
-        record { tunnel = l.tunnel; there = rw tunnels (at_other x.tunnels i (record { control = c; calls = [] }) p.tunnel (λ e. omega (arith, fresh, e)) ∙ l.there); call = l.call; live = l.live };
+        record {
+          tunnel = l.tunnel;
+          there = rw tunnels (at_other x.tunnels i (record { control = c; calls = [] }) p.tunnel (λ e. omega (arith, fresh, e)) ∙ l.there);
+          call = l.call;
+          live = l.live;
+        };
     seen = λ j u f s d g. ⊎_elim
         (λ (a : (j ≡ i) × (record { control = c; calls = [] } ≡ u)). absurd (let h : at [] s ≡ Some d = rw (← a.1) at g in none-some d (sym (at-none s) ∙ h)))
         (λ a. rw calls (ok.seen j u a.1 s d g))
@@ -126,7 +144,17 @@ module _ (x : End) (ok : LooksAreTrue x) where
   }
 
   -- a call of a tunnel is put, with its place; no other tunnel has it
-  module _ (y : End) (i : ℕ) (t : Tunnel) (c : Control) (s : ℕ) (k : Call) (there : at x.tunnels i ≡ Some t) (peer : c.peer ≡ t.control.peer) (only : (j : ℕ) (u : Tunnel) → at x.tunnels j ≡ Some u → (j ≡ i → ⊥) → (d : Call) → at u.calls s ≡ Some d → ⊥) (tunnels : y.tunnels ≡ put x.tunnels i (record { control = c; calls = put t.calls s k })) (calls : (q : ℕ) → at y.calls q ≡ at (put x.calls s (record { tunnel = i; look = look_of k.state i t.control.peer })) q) (ids : y.tunnel_ids ≡ x.tunnel_ids) (drawn : s < y.session_ids.next) (rises : x.session_ids.next ≤ y.session_ids.next) where
+  record SetsCall (y : End) (i : ℕ) (t : Tunnel) (c : Control) (s : ℕ) (k : Call) : Type 0 where
+    tunnels : y.tunnels ≡ put x.tunnels i (record { control = c; calls = put t.calls s k })
+    there : at x.tunnels i ≡ Some t
+    peer : c.peer ≡ t.control.peer
+    only : (j : ℕ) (u : Tunnel) → at x.tunnels j ≡ Some u → (j ≡ i → ⊥) → (d : Call) → at u.calls s ≡ Some d → ⊥
+    calls : (q : ℕ) → at y.calls q ≡ at (put x.calls s (record { tunnel = i; look = look_of k.state i t.control.peer })) q
+    ids : y.tunnel_ids ≡ x.tunnel_ids
+    drawn : s < y.session_ids.next
+    rises : x.session_ids.next ≤ y.session_ids.next
+
+  module _ (y : End) (i : ℕ) (t : Tunnel) (c : Control) (s : ℕ) (k : Call) (sets : SetsCall y i t c s k) where
     abbrev u : Tunnel
     u = record { control = c; calls = put t.calls s k }
 
@@ -134,31 +162,34 @@ module _ (x : End) (ok : LooksAreTrue x) where
     place = record { tunnel = i; look = look_of k.state i t.control.peer }
 
     there_now : at y.tunnels i ≡ Some u
-    there_now = rw tunnels (at_new x.tunnels i u)
+    there_now = rw sets.tunnels (at_new x.tunnels i u)
 
     live_other : (q : ℕ) (p : CallPlace) → (q ≡ s → ⊥) → at x.calls q ≡ Some p → IsLive y p.tunnel q
     live_other q p o f =
         let l = ok.live q p f in
         ⊎_elim
-        (λ (a : p.tunnel ≡ i). (let g : Some l.tunnel ≡ Some t = sym l.there ∙ subst (λ j. at x.tunnels j ≡ Some t) (sym a) there in let same : l.tunnel ≡ t = cc in
+        (λ (a : p.tunnel ≡ i). (let same = same_tunnel p.tunnel i l.tunnel t a l.there sets.there in
         record { tunnel = u; there = rw a there_now; call = l.call; live = at_other t.calls s k q o ∙ rw (← same) l.live }))
-        (λ b. record { tunnel = l.tunnel; there = rw tunnels (at_other x.tunnels i u p.tunnel b ∙ l.there); call = l.call; live = l.live })
+        (λ b. record { tunnel = l.tunnel; there = rw sets.tunnels (at_other x.tunnels i u p.tunnel b ∙ l.there); call = l.call; live = l.live })
         (same_or_not p.tunnel i)
 
     live_now : (q : ℕ) (p : CallPlace) → at y.calls q ≡ Some p → IsLive y p.tunnel q
     live_now q p f = ⊎_elim
         (λ (a : (q ≡ s) × (place ≡ p)). rw (← a.1, a.0) (record { tunnel = u; there = there_now; call = k; live = at_new t.calls s k }))
         (λ a. live_other q p a.0 a.1)
-        (found_put x.calls s place q p (sym (calls q) ∙ f))
+        (found_put x.calls s place q p (sym (sets.calls q) ∙ f))
 
     seen_here : (q : ℕ) (d : Call) → at (put t.calls s k) q ≡ Some d → at y.calls q ≡ Some (record { tunnel = i; look = look_of d.state i c.peer })
     seen_here q d g = ⊎_elim
-        (λ (a : (q ≡ s) × (k ≡ d)). rw (← a.1, a.0, peer) (calls s ∙ at_new x.calls s place))
-        (λ a. rw peer (calls q ∙ at_other x.calls s place q a.0 ∙ ok.seen i t there q d a.1))
+        (λ (a : (q ≡ s) × (k ≡ d)). rw (← a.1, a.0, sets.peer) (sets.calls s ∙ at_new x.calls s place))
+        (λ a. rw sets.peer (sets.calls q ∙ at_other x.calls s place q a.0 ∙ ok.seen i t sets.there q d a.1))
         (found_put t.calls s k q d g)
 
-    seen_there : (j : ℕ) (v : Tunnel) → at x.tunnels j ≡ Some v → (j ≡ i → ⊥) → (q : ℕ) (d : Call) → at v.calls q ≡ Some d → at y.calls q ≡ Some (record { tunnel = j; look = look_of d.state j v.control.peer })
-    seen_there j v f o q d g = calls q ∙ at_other x.calls s place q (λ e. only j v f o d (subst (λ n. at v.calls n ≡ Some d) e g)) ∙ ok.seen j v f q d g
+    seen_there : (j : ℕ) (v : Tunnel) → at x.tunnels j ≡ Some v → (j ≡ i → ⊥) → (q : ℕ) (d : Call) → at v.calls q ≡ Some d
+        → at y.calls q ≡ Some (record { tunnel = j; look = look_of d.state j v.control.peer })
+    seen_there j v f o q d g =
+        let other : q ≡ s → ⊥ = λ e. sets.only j v f o d (subst (λ n. at v.calls n ≡ Some d) e g) in
+        sets.calls q ∙ at_other x.calls s place q other ∙ ok.seen j v f q d g
 
     call_put : LooksAreTrue y
     call_put = record {
@@ -166,17 +197,27 @@ module _ (x : End) (ok : LooksAreTrue x) where
       seen = λ j v f q d g. ⊎_elim
           (λ (a : (j ≡ i) × (u ≡ v)). rw (a.0, ← a.1) (seen_here q d (rw (← a.1) at g)))
           (λ a. seen_there j v a.1 a.0 q d g)
-          (found_put x.tunnels i u j v (rw (← tunnels) f));
-      tunnels = λ j v f. rw ids (⊎_elim (λ (a : (j ≡ i) × (u ≡ v)). rw a.0 (ok.tunnels i t there)) (λ a. ok.tunnels j v a.1) (found_put x.tunnels i u j v (rw (← tunnels) f)));
-      sessions = λ q p f. ⊎_elim (λ (a : (q ≡ s) × (place ≡ p)). rw a.0 drawn) (λ a. let lt = ok.sessions q p a.1 in omega (arith, rises)) (found_put x.calls s place q p (sym (calls q) ∙ f));
+          (found_put x.tunnels i u j v (rw (← sets.tunnels) f));
+      tunnels = λ j v f. rw sets.ids (⊎_elim
+          (λ (a : (j ≡ i) × (u ≡ v)). rw a.0 (ok.tunnels i t sets.there))
+          (λ a. ok.tunnels j v a.1)
+          (found_put x.tunnels i u j v (rw (← sets.tunnels) f)));
+      sessions = λ q p f. ⊎_elim
+          (λ (a : (q ≡ s) × (place ≡ p)). rw a.0 sets.drawn)
+          (λ a. let lt = ok.sessions q p a.1 in let rises = sets.rises in omega (arith, rises)) (found_put x.calls s place q p (sym (sets.calls q) ∙ f));
     }
 
+  -- the place of a call in a tunnel
+  abbrev seen_in : ℕ → Tunnel → Call → CallPlace
+  seen_in j u d = record { tunnel = j; look = look_of d.state j u.control.peer }
+
   -- no other tunnel has a call that is in this one
-  one_tunnel : (i : ℕ) (t : Tunnel) → at x.tunnels i ≡ Some t → (s : ℕ) (c : Call) → at t.calls s ≡ Some c → (j : ℕ) (u : Tunnel) → at x.tunnels j ≡ Some u → (j ≡ i → ⊥) → (d : Call) → at u.calls s ≡ Some d → ⊥
+  one_tunnel : (i : ℕ) (t : Tunnel) → at x.tunnels i ≡ Some t → (s : ℕ) (c : Call) → at t.calls s ≡ Some c → (j : ℕ) (u : Tunnel)
+      → at x.tunnels j ≡ Some u → (j ≡ i → ⊥) → (d : Call) → at u.calls s ≡ Some d → ⊥
   one_tunnel i t there s c live j u f o d g =
       let a = ok.seen i t there s c live in
       let b = ok.seen j u f s d g in
-      let e : ◌≡◌ {A = CallPlace} (record { tunnel = j; look = look_of d.state j u.control.peer }) (record { tunnel = i; look = look_of c.state i t.control.peer }) = (let q : ◌≡◌ {A = Option CallPlace} (Some (record { tunnel = j; look = look_of d.state j u.control.peer })) (Some (record { tunnel = i; look = look_of c.state i t.control.peer })) = sym b ∙ a in cc) in
+      let e : seen_in j u d ≡ seen_in i t c = (let q : Some (seen_in j u d) ≡ Some (seen_in i t c) = sym b ∙ a in cc) in
       o (ap (λ (p : CallPlace). p.tunnel) e)
 
   -- none has one whose session is yet to be drawn
@@ -198,47 +239,72 @@ module _ (x : End) (ok : LooksAreTrue x) where
 
   does_looks : (ev : Event) (m : Move) (y : End) → Does x ev m y → LooksAreTrue y
   unfolding with_look advanced
-  does_looks ev (move.Opened m) y h = tunnel_born y m.tunnel _ (draw_is x.tunnel_ids m.tunnel h.drawn) (ap (λ (e : End). e.tunnels) h.after) (ap (λ (e : End). e.calls) h.after) (ap (λ (e : End). e.tunnel_ids.next) h.after ∙ ap (λ (d : Space). d.next) (next_is x.tunnel_ids m.tunnel h.drawn)) (ap (λ (e : End). e.session_ids) h.after)
-  does_looks ev (move.Accepted m) y h = tunnel_born y m.tunnel _ (draw_is x.tunnel_ids m.tunnel h.drawn) (ap (λ (e : End). e.tunnels) h.after) (ap (λ (e : End). e.calls) h.after) (ap (λ (e : End). e.tunnel_ids.next) h.after ∙ ap (λ (d : Space). d.next) (next_is x.tunnel_ids m.tunnel h.drawn)) (ap (λ (e : End). e.session_ids) h.after)
+  does_looks ev (move.Opened m) y h =
+      tunnel_born y m.tunnel _ (draw_is x.tunnel_ids m.tunnel h.drawn) (ap (λ (e : End). e.tunnels) h.after) (ap (λ (e : End). e.calls) h.after)
+      (ap (λ (e : End). e.tunnel_ids.next) h.after ∙ drawn_next x.tunnel_ids m.tunnel h.drawn) (ap (λ (e : End). e.session_ids) h.after)
+  does_looks ev (move.Accepted m) y h =
+      tunnel_born y m.tunnel _ (draw_is x.tunnel_ids m.tunnel h.drawn) (ap (λ (e : End). e.tunnels) h.after) (ap (λ (e : End). e.calls) h.after)
+      (ap (λ (e : End). e.tunnel_ids.next) h.after ∙ drawn_next x.tunnel_ids m.tunnel h.drawn) (ap (λ (e : End). e.session_ids) h.after)
   does_looks ev (move.Connected m) y h = subst LooksAreTrue (sym h.after) (calls_stay m.tunnel h.tunnel _ h.there refl)
   does_looks ev (move.Confirmed m) y h = subst LooksAreTrue (sym h.after) (calls_stay m.tunnel h.tunnel _ h.there refl)
   does_looks ev (move.TookPlain m) y h = subst LooksAreTrue (sym h.after) (calls_stay m.tunnel h.tunnel _ h.there refl)
   does_looks ev (move.Added m) y h =
       let fresh = draw_is x.session_ids m.session h.drawn in
-      let next : y.session_ids.next ≡ m.session + 1 = ap (λ (e : End). e.session_ids.next) h.after ∙ ap (λ (d : Space). d.next) (next_is x.session_ids m.session h.drawn) in
-      call_put y m.tunnel h.tunnel h.tunnel.control m.session (rung x.role m.port) h.there refl
-      (λ j u f o d g. no_tunnel m.session fresh j u f d g)
-      (ap (λ (e : End). e.tunnels) h.after)
-      (same_places y.calls _ (ap (λ (e : End). e.calls) h.after ∙ rw (rung_state x.role m.port h.role) refl))
-      (ap (λ (e : End). e.tunnel_ids) h.after) (omega (arith, next)) (omega (arith, next, fresh))
+      let next : y.session_ids.next ≡ m.session + 1 = ap (λ (e : End). e.session_ids.next) h.after ∙ drawn_next x.session_ids m.session h.drawn in
+      call_put y m.tunnel h.tunnel _ m.session (rung x.role m.port) (record {
+        tunnels = ap (λ (e : End). e.tunnels) h.after;
+        there = h.there;
+        peer = refl;
+        only = λ j u f o d g. no_tunnel m.session fresh j u f d g;
+        calls = same_places y.calls _ (ap (λ (e : End). e.calls) h.after ∙ rw (rung_state x.role m.port h.role) refl);
+        ids = ap (λ (e : End). e.tunnel_ids) h.after;
+        drawn = omega (arith, next);
+        rises = omega (arith, next, fresh);
+      })
   does_looks ev (move.Replied m) y h =
       let fresh = draw_is x.session_ids m.session h.drawn in
-      let next : y.session_ids.next ≡ m.session + 1 = ap (λ (e : End). e.session_ids.next) h.after ∙ ap (λ (d : Space). d.next) (next_is x.session_ids m.session h.drawn) in
-      call_put y m.tunnel h.tunnel _ m.session (asked_for x.role m.remote) h.there refl
-      (λ j u f o d g. no_tunnel m.session fresh j u f d g)
-      (ap (λ (e : End). e.tunnels) h.after)
-      (same_places y.calls _ (ap (λ (e : End). e.calls) h.after ∙ rw (replied_state x.role m.remote h.row) refl))
-      (ap (λ (e : End). e.tunnel_ids) h.after) (omega (arith, next)) (omega (arith, next, fresh))
+      let next : y.session_ids.next ≡ m.session + 1 = ap (λ (e : End). e.session_ids.next) h.after ∙ drawn_next x.session_ids m.session h.drawn in
+      call_put y m.tunnel h.tunnel _ m.session (asked_for x.role m.remote) (record {
+        tunnels = ap (λ (e : End). e.tunnels) h.after;
+        there = h.there;
+        peer = refl;
+        only = λ j u f o d g. no_tunnel m.session fresh j u f d g;
+        calls = same_places y.calls _ (ap (λ (e : End). e.calls) h.after ∙ rw (replied_state x.role m.remote h.row) refl);
+        ids = ap (λ (e : End). e.tunnel_ids) h.after;
+        drawn = omega (arith, next);
+        rises = omega (arith, next, fresh);
+      })
   does_looks ev (move.Requested m) y h =
       let seen = ok.seen m.tunnel h.tunnel h.there m.session h.call h.waits in
       let lt = ok.sessions m.session _ seen in
       let ids : y.session_ids ≡ x.session_ids = ap (λ (e : End). e.session_ids) h.after in
-      call_put y m.tunnel h.tunnel _ m.session (advanced x.role call_event.TunnelOpen h.call) h.there refl
-      (one_tunnel m.tunnel h.tunnel h.there m.session h.call h.waits)
-      (ap (λ (e : End). e.tunnels) h.after)
-      (same_places y.calls _ (ap (λ (e : End). e.calls) h.after ∙ rw (seen, requested_state x.role h.call.state h.row) refl))
-      (ap (λ (e : End). e.tunnel_ids) h.after) (rw ids lt) (rw ids (omega arith))
+      call_put y m.tunnel h.tunnel _ m.session (advanced x.role call_event.TunnelOpen h.call) (record {
+        tunnels = ap (λ (e : End). e.tunnels) h.after;
+        there = h.there;
+        peer = refl;
+        only = one_tunnel m.tunnel h.tunnel h.there m.session h.call h.waits;
+        calls = same_places y.calls _ (ap (λ (e : End). e.calls) h.after ∙ rw (seen, requested_state x.role h.call.state h.row) refl);
+        ids = ap (λ (e : End). e.tunnel_ids) h.after;
+        drawn = rw ids lt;
+        rises = rw ids (omega arith);
+      })
   does_looks ev (move.FirstUp m) y h =
       let seen = ok.seen m.tunnel h.tunnel h.there m.session h.call h.asked in
       let lt = ok.sessions m.session _ seen in
       let ids : y.session_ids ≡ x.session_ids = ap (λ (e : End). e.session_ids) h.after in
       let state = connected_state x.role h.call.state h.row in
-      let bound : at x.calls m.session ≡ Some (record { tunnel = m.tunnel; look = look.Bound m.tunnel h.tunnel.control.peer }) = seen ∙ ap (λ q. Some (record { tunnel = m.tunnel; look = look_of q m.tunnel h.tunnel.control.peer })) state.0 in
-      call_put y m.tunnel h.tunnel _ m.session (advanced x.role call_event.IcrpAcc (record h.call { remote = m.remote })) h.there refl
-      (one_tunnel m.tunnel h.tunnel h.there m.session h.call h.asked)
-      (ap (λ (e : End). e.tunnels) h.after)
-      (same_places y.calls _ (ap (λ (e : End). e.calls) h.after ∙ rw (bound, state.1) refl))
-      (ap (λ (e : End). e.tunnel_ids) h.after) (rw ids lt) (rw ids (omega arith))
+      let bound : at x.calls m.session ≡ Some (record { tunnel = m.tunnel; look = look.Bound m.tunnel h.tunnel.control.peer }) =
+      seen ∙ ap (λ q. Some (record { tunnel = m.tunnel; look = look_of q m.tunnel h.tunnel.control.peer })) state.0 in
+      call_put y m.tunnel h.tunnel _ m.session (advanced x.role call_event.IcrpAcc (record h.call { remote = m.remote })) (record {
+        tunnels = ap (λ (e : End). e.tunnels) h.after;
+        there = h.there;
+        peer = refl;
+        only = one_tunnel m.tunnel h.tunnel h.there m.session h.call h.asked;
+        calls = same_places y.calls _ (ap (λ (e : End). e.calls) h.after ∙ rw (bound, state.1) refl);
+        ids = ap (λ (e : End). e.tunnel_ids) h.after;
+        drawn = rw ids lt;
+        rises = rw ids (omega arith);
+      })
   does_looks ev (move.SecondUp m) y h =
       let seen = ok.seen m.tunnel h.tunnel h.there m.session h.call h.made in
       let lt = ok.sessions m.session _ seen in
@@ -246,12 +312,18 @@ module _ (x : End) (ok : LooksAreTrue x) where
       let state = up_state _ h.row in
       let bound : CallPlace = record { tunnel = m.tunnel; look = look.Bound m.tunnel h.tunnel.control.peer } in
       let up : CallPlace = record { tunnel = m.tunnel; look = look.Established m.tunnel h.tunnel.control.peer } in
-      let places : y.calls ≡ put (put x.calls m.session bound) m.session up = ap (λ (e : End). e.calls) h.after ∙ rw (seen, at_new x.calls m.session bound) refl in
-      call_put y m.tunnel h.tunnel _ m.session (advanced x.role call_event.IccnAcc h.call) h.there refl
-      (one_tunnel m.tunnel h.tunnel h.there m.session h.call h.made)
-      (ap (λ (e : End). e.tunnels) h.after)
-      (λ q. same_places y.calls _ places q ∙ put_twice m.session bound up q ∙ rw state refl)
-      (ap (λ (e : End). e.tunnel_ids) h.after) (rw ids lt) (rw ids (omega arith))
+      let places : y.calls ≡ put (put x.calls m.session bound) m.session up =
+      ap (λ (e : End). e.calls) h.after ∙ rw (seen, at_new x.calls m.session bound) refl in
+      call_put y m.tunnel h.tunnel _ m.session (advanced x.role call_event.IccnAcc h.call) (record {
+        tunnels = ap (λ (e : End). e.tunnels) h.after;
+        there = h.there;
+        peer = refl;
+        only = one_tunnel m.tunnel h.tunnel h.there m.session h.call h.made;
+        calls = λ q. same_places y.calls _ places q ∙ put_twice m.session bound up q ∙ rw state refl;
+        ids = ap (λ (e : End). e.tunnel_ids) h.after;
+        drawn = rw ids lt;
+        rises = rw ids (omega arith);
+      })
   does_looks ev (move.NrRead m) y h = stays y h.after
   does_looks ev (move.Quiet i) y h = stays y h.after
   does_looks ev (move.FrameSent m) y h = stays y h.after

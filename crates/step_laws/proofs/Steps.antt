@@ -29,7 +29,7 @@ use Rattle.protocol_model.specs.declared.event.Addressee.TheVariants.{Opens, Nob
 use Rattle.protocol_model.specs.declared.event.Event.{Event}
 use Rattle.protocol_model.specs.declared.event.Event.TheVariants.{Datagram, Ring, Payload, Lower, OpenTunnel}
 use Rattle.protocol_model.specs.Reading.{header_why, body_of, at_zero, at_tunnel, zero_pairs, zero_read}
-use Rattle.protocol_model.specs.Calls.{is_lac, frame_of, Carried, Upward, Dropped, carry_known, carry_look}
+use Rattle.protocol_model.specs.Calls.{is_lac, frame_of, side_of, Carried, Upward, Dropped, carry_known, carry_look}
 use Rattle.protocol_model.specs.Turn.{Tunnel, Env, turns}
 use Rattle.protocol_model.specs.End.{End, Stepped, env_of, in_new, in_main, addressed, for_addressee, least_in, rings_in, rings_at, gives_frame, look_in, handed, hands_up, receives, only_by, step_in, step}
 use Rattle.step_laws.specs.Steps.{AreKept, IsChain, StepsAreChains}
@@ -50,41 +50,88 @@ is_lac_role Lns h = absurd (true≢false (sym h))
 
 -- ---- frames that come
 
--- what is handed up is of the tunnel that the header names, and of the peer that it is from
-record IsOf (of from : ℕ) (frame : List ℕ) (c : Carried) : Type 0 where
-  up : (tunnel peer : ℕ) (side : Side) (f : List ℕ) → c ≡ Upward tunnel peer side f → (tunnel ≡ of) × (peer ≡ from) × (f ≡ frame)
+-- what is handed up is of the tunnel that the header names and of the peer that it is from, as is seen of the call
+record IsOf (role : Role) (l : Look) (of from : ℕ) (frame : List ℕ) (c : Carried) : Type 0 where
+  up : (tunnel peer : ℕ) (side : Side) (f : List ℕ) → c ≡ Upward tunnel peer side f
+      → (tunnel ≡ of) × (peer ≡ from) × (f ≡ frame) × (side ≡ side_of role) × (l ≡ look.Established tunnel peer)
 
-dropped_is : (of from : ℕ) (frame : List ℕ) (w : Why) → IsOf of from frame (Dropped w)
-dropped_is of from frame w = record { up = λ t p s f e. absurd cc }
+dropped_is : (role : Role) (l : Look) (of from : ℕ) (frame : List ℕ) (w : Why) → IsOf role l of from frame (Dropped w)
+dropped_is role l of from frame w = record { up = λ t p s f e. absurd cc }
 
-known_is : (role : Role) (up : Bool) (tunnel of peer from : ℕ) (frame : List ℕ) → IsOf of from frame (carry_known role up tunnel of peer from frame)
+known_is : (role : Role) (l : Look) (up : Bool) (tunnel of peer from : ℕ) (frame : List ℕ) → (up ≡ true → l ≡ look.Established tunnel peer)
+    → IsOf role l of from frame (carry_known role up tunnel of peer from frame)
 unfolding carry_known
-known_is role up tunnel of peer from frame =
-    branch (IsOf of from frame) (not (tunnel == of)) _ _ (λ h. dropped_is of from frame why.Tunnel)
-    (λ same. branch (IsOf of from frame) (not (peer == from)) _ _ (λ h. dropped_is of from frame why.Peer)
-    (λ met. branch (IsOf of from frame) (nat_lt (length frame) 2) _ _ (λ h. dropped_is of from frame why.Short)
-    (λ long. branch (IsOf of from frame) up _ _
-    (λ u. record { up = λ t p s f e. let a = eqb-true tunnel of (not_false _ same) in let b = eqb-true peer from (not_false _ met) in ((let c : tunnel ≡ t = cc in sym c ∙ a), (let c : peer ≡ p = cc in sym c ∙ b), (let c : frame ≡ f = cc in sym c)) })
-    (λ d. dropped_is of from frame why.Closed))))
+known_is role l up tunnel of peer from frame seen =
+    branch (IsOf role l of from frame) (not (tunnel == of)) _ _ (λ h. dropped_is role l of from frame why.Tunnel)
+    (λ same. branch (IsOf role l of from frame) (not (peer == from)) _ _ (λ h. dropped_is role l of from frame why.Peer)
+    (λ met. branch (IsOf role l of from frame) (nat_lt (length frame) 2) _ _ (λ h. dropped_is role l of from frame why.Short)
+    (λ long. branch (IsOf role l of from frame) up _ _
+    (λ u. record {
+      up = λ t p s f e.
+          let a = eqb-true tunnel of (not_false _ same) in
+          let b = eqb-true peer from (not_false _ met) in
+          let c : tunnel ≡ t = cc in
+          let d : peer ≡ p = cc in
+          let g : frame ≡ f = cc in
+          let i : side_of role ≡ s = cc in
+          (sym c ∙ a, sym d ∙ b, sym g, sym i, seen u ∙ ap (λ x. look.Established x peer) c ∙ ap (λ y. look.Established t y) d);
+    })
+    (λ d. dropped_is role l of from frame why.Closed))))
 
-look_is : (role : Role) (l : Look) (from : ℕ) (h : Header) (frame : List ℕ) → IsOf h.tunnel from frame (carry_look role l from h frame)
+look_is : (role : Role) (l : Look) (from : ℕ) (h : Header) (frame : List ℕ) → IsOf role l h.tunnel from frame (carry_look role l from h frame)
 unfolding carry_look
-look_is role look.Unborn from h frame = dropped_is h.tunnel from frame why.Session
-look_is role look.Dead from h frame = dropped_is h.tunnel from frame why.Session
-look_is role (look.Bound tunnel peer) from h frame = known_is role false tunnel h.tunnel peer from frame
-look_is role (look.Established tunnel peer) from h frame = known_is role true tunnel h.tunnel peer from frame
+look_is role look.Unborn from h frame = dropped_is role look.Unborn h.tunnel from frame why.Session
+look_is role look.Dead from h frame = dropped_is role look.Dead h.tunnel from frame why.Session
+look_is role (look.Bound tunnel peer) from h frame =
+    known_is role (look.Bound tunnel peer) false tunnel h.tunnel peer from frame (λ no. absurd cc)
+look_is role (look.Established tunnel peer) from h frame =
+    known_is role (look.Established tunnel peer) true tunnel h.tunnel peer from frame (λ yes. refl)
+
+-- a session that is seen as established has its place
+record IsSeen (places : List (ℕ × CallPlace)) (s tunnel peer : ℕ) : Type 0 where
+  place : CallPlace
+  there : at places s ≡ Some place
+  seen : place.look ≡ look.Established tunnel peer
+
+place_seen : (places : List (ℕ × CallPlace)) (s tunnel peer : ℕ) (o : Option CallPlace) → at places s ≡ o
+    → look_in o ≡ look.Established tunnel peer → IsSeen places s tunnel peer
+place_seen places s tunnel peer None is e = absurd cc
+place_seen places s tunnel peer (Some p) is e = record { place = p; there = is; seen = e }
 
 module _ (e : End) (kept : AreKept e) (moment : ℕ) (block : List ℕ) where
   abbrev env : Env
   env = env_of e moment block
 
-  handed_chain : (from : ℕ) (bytes : List ℕ) (h : Header) → header_of bytes ≡ Ok h → h.control ≡ false → (c : Carried) → IsOf h.tunnel from (frame_of (body_of h bytes)) c → IsChain e (Datagram from bytes) (handed e h.session c)
+  handed_chain : (from : ℕ) (bytes : List ℕ) (h : Header) → header_of bytes ≡ Ok h → h.control ≡ false → (c : Carried)
+      → IsOf e.role (look_in (at e.calls h.session)) h.tunnel from (frame_of (body_of h bytes)) c
+      → IsChain e (Datagram from bytes) (handed e h.session c)
   unfolding handed
   handed_chain from bytes h read data_is (Dropped w) is = drop_chain e kept (Datagram from bytes) w
   handed_chain from bytes h read data_is (Upward tunnel peer side frame) is =
       let of = is.up tunnel peer side frame refl in
+      let known = place_seen e.calls h.session tunnel peer (at e.calls h.session) refl of.4 in
       record {
-        chain = (e, record { hears = record { bytes = bytes; is = ap (λ p. Datagram p bytes) (sym of.1); header = h; read = read; data_is = data_is; tunnel_is = sym of.0; session_is = refl; frame_is = of.2 }; after = refl }, refl);
+        chain = (
+          e,
+          record {
+            hears = record {
+              bytes = bytes;
+              is = ap (λ p. Datagram p bytes) (sym of.1);
+              header = h;
+              read = read;
+              data_is = data_is;
+              tunnel_is = sym of.0;
+              session_is = refl;
+              frame_is = of.2;
+            };
+            place = known.place;
+            there = known.there;
+            seen = known.seen;
+            side = of.3;
+            after = refl;
+          },
+          refl,
+        );
         outputs = (record { tunnel = tunnel; peer = peer; there = inl refl }, tt);
         frames = (tt, tt);
         kept = kept;
@@ -92,7 +139,8 @@ module _ (e : End) (kept : AreKept e) (moment : ℕ) (block : List ℕ) where
 
   -- ---- tunnels that are there, or not
 
-  main_heard : (peer : ℕ) (bytes : List ℕ) (h : Header) → header_of bytes ≡ Ok h → h.control ≡ true → (o : Option Tunnel) → at e.tunnels h.tunnel ≡ o → ((t : Tunnel) → o ≡ Some t → t.control.peer ≡ peer) → IsChain e (Datagram peer bytes) (in_main e env (Datagram peer bytes) h.tunnel o)
+  main_heard : (peer : ℕ) (bytes : List ℕ) (h : Header) → header_of bytes ≡ Ok h → h.control ≡ true → (o : Option Tunnel) → at e.tunnels h.tunnel ≡ o
+      → ((t : Tunnel) → o ≡ Some t → t.control.peer ≡ peer) → IsChain e (Datagram peer bytes) (in_main e env (Datagram peer bytes) h.tunnel o)
   unfolding in_main
   main_heard peer bytes h read control None is goes = drop_chain e kept (Datagram peer bytes) why.Tunnel
   main_heard peer bytes h read control (Some t) is goes =
@@ -155,7 +203,9 @@ module _ (e : End) (kept : AreKept e) (moment : ℕ) (block : List ℕ) where
     tunnel_leads None is = nobody why.Tunnel
     tunnel_leads (Some t) is =
         branch leads (t.control.peer == peer) _ _
-        (λ met. main_heard peer bytes h read control (at e.tunnels h.tunnel) refl (λ u found. let same : t ≡ u = (let g : Some t ≡ Some u = sym is ∙ found in cc) in ap (λ (x : Tunnel). x.control.peer) (sym same) ∙ eqb-true t.control.peer peer met))
+        (λ met. main_heard peer bytes h read control (at e.tunnels h.tunnel) refl (λ u found.
+        let same : t ≡ u = (let g : Some t ≡ Some u = sym is ∙ found in cc) in
+        ap (λ (x : Tunnel). x.control.peer) (sym same) ∙ eqb-true t.control.peer peer met))
         (λ other. nobody why.Peer)
 
     addressed_leads : leads (addressed e peer h (body_of h bytes))
@@ -202,7 +252,8 @@ module _ (e : End) (kept : AreKept e) (moment : ℕ) (block : List ℕ) where
   pub step_chain : (ev : Event) → IsChain e ev (step e moment block ev)
   unfolding step step_in rings_at in_new
   step_chain (Datagram peer bytes) = received peer bytes (header_of bytes) refl
-  step_chain (Ring port) = by_lac (Ring port) _ (λ lac. rung port lac (least_in Established e.config.lns e.tunnels) (least_in WaitCtlReply e.config.lns e.tunnels))
+  step_chain (Ring port) =
+      by_lac (Ring port) _ (λ lac. rung port lac (least_in Established e.config.lns e.tunnels) (least_in WaitCtlReply e.config.lns e.tunnels))
   step_chain (Payload s frame) = by_lac (Payload s frame) _ (λ lac. gives_payload s frame (at e.calls s))
   step_chain (Lower s frame) = by_lns (Lower s frame) _ (gives_lower s frame (at e.calls s))
   step_chain OpenTunnel = by_lac OpenTunnel _ (λ lac. opens_chain e kept OpenTunnel moment block e.config.lns lac refl)

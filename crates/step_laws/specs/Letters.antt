@@ -55,9 +55,15 @@ pub record GivesLetter (role : Role) (c : Config) (moves : List Move) (l : Lette
 -- the bytes that are sent in a tunnel, by the ids that both ends assigned: a letter that a move of the step gave, at its
 -- place; an acknowledgement alone; or a frame that a move of the step sends
 pub data Carries (role : Role) (c : Config) (t : Tunnel) (moves : List Move) (bytes : List ℕ) (o : Origin) : Type 0 where
-  ALetter : (l : Letter) (nr : ℕ) → GivesLetter role c moves l → l.tunnel ≡ t.control.local → o ≡ origin.Control (record { tunnel = t.control.local; epoch = 0; ns = l.place.number; nr = nr; empty = false }) → bytes ≡ control_bytes t.control.remote l.session (on_wire l.place.number) (on_wire nr) (spelling (pairs_of l.message)) → Carries role c t moves bytes o
-  Nothing : (ns nr : ℕ) → o ≡ origin.Control (record { tunnel = t.control.local; epoch = 0; ns = ns; nr = nr; empty = true }) → bytes ≡ control_bytes t.control.remote 0 (on_wire ns) (on_wire nr) [] → Carries role c t moves bytes o
-  AFrame : (f : FrameSent) (call : Call) → Among (move.FrameSent f) moves → f.tunnel ≡ t.control.local → f.peer ≡ t.control.peer → at t.calls f.session ≡ Some call → is_up call.state ≡ true → o ≡ origin.Data f.session → bytes ≡ data_bytes t.control.remote call.remote None f.frame → Carries role c t moves bytes o
+  ALetter : (l : Letter) (nr : ℕ) → GivesLetter role c moves l → l.tunnel ≡ t.control.local
+      → o ≡ origin.Control (record { tunnel = t.control.local; epoch = 0; ns = l.place.number; nr = nr; empty = false })
+      → bytes ≡ control_bytes t.control.remote l.session (on_wire l.place.number) (on_wire nr) (spelling (pairs_of l.message))
+      → Carries role c t moves bytes o
+  Nothing : (ns nr : ℕ) → o ≡ origin.Control (record { tunnel = t.control.local; epoch = 0; ns = ns; nr = nr; empty = true })
+      → bytes ≡ control_bytes t.control.remote 0 (on_wire ns) (on_wire nr) [] → Carries role c t moves bytes o
+  AFrame : (f : FrameSent) (call : Call) → Among (move.FrameSent f) moves → f.tunnel ≡ t.control.local → f.peer ≡ t.control.peer
+      → at t.calls f.session ≡ Some call → is_up call.state ≡ true → o ≡ origin.Data f.session
+      → bytes ≡ data_bytes t.control.remote call.remote None f.frame → Carries role c t moves bytes o
 
 -- a frame that a move sends is in an output
 abbrev pub HasOutput : List Out → Move → Type 0

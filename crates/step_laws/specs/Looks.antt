@@ -34,7 +34,8 @@ pub record LooksAreTrue (e : End) : Type 0 where
   -- each session that has a place is that of a live call
   pub live : (s : ℕ) (p : CallPlace) → at e.calls s ≡ Some p → IsLive e p.tunnel s
   -- each live call has its place, and what is seen of it is so
-  pub seen : (i : ℕ) (t : Tunnel) → at e.tunnels i ≡ Some t → (s : ℕ) (c : Call) → at t.calls s ≡ Some c → at e.calls s ≡ Some (record { tunnel = i; look = look_of c.state i t.control.peer })
+  pub seen : (i : ℕ) (t : Tunnel) → at e.tunnels i ≡ Some t → (s : ℕ) (c : Call) → at t.calls s ≡ Some c
+      → at e.calls s ≡ Some (record { tunnel = i; look = look_of c.state i t.control.peer })
   -- ids that are in use were drawn
   pub tunnels : (i : ℕ) (t : Tunnel) → at e.tunnels i ≡ Some t → i < e.tunnel_ids.next
   pub sessions : (s : ℕ) (p : CallPlace) → at e.calls s ≡ Some p → s < e.session_ids.next

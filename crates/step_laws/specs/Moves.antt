@@ -14,6 +14,8 @@ use Rattle.tunnel_fsm.specs.Rows.{state_number}
 use Rattle.call_fsm.specs.declared.table.CallState.TheVariants as call
 use Rattle.call_fsm.specs.declared.table.CallEvent.TheVariants as call_event
 use Rattle.protocol_model.specs.declared.tunnel.Call.{Call}
+use Rattle.protocol_model.specs.declared.tunnel.CallPlace.{CallPlace}
+use Rattle.protocol_model.specs.declared.tunnel.Look.TheVariants as look
 use Rattle.protocol_model.specs.declared.tunnel.CellChange.TheVariants as cell
 use Rattle.protocol_model.specs.declared.tunnel.Control.{Control}
 use Rattle.protocol_model.specs.declared.tunnel.Role.TheVariants.{Lac}
@@ -35,7 +37,7 @@ use Rattle.protocol_model.specs.declared.moves.FrameUp.{FrameUp}
 use Rattle.protocol_model.specs.declared.moves.Move.{Move}
 use Rattle.protocol_model.specs.declared.moves.Move.TheVariants as move
 use Rattle.protocol_model.specs.Reading.{body_of, message_in}
-use Rattle.protocol_model.specs.Calls.{call_row, advanced, rung, asked_for, is_request, is_reply, is_connection, is_up, frame_of}
+use Rattle.protocol_model.specs.Calls.{call_row, advanced, rung, asked_for, is_request, is_reply, is_connection, is_up, frame_of, side_of}
 use Rattle.protocol_model.specs.Turn.{Tunnel, place, counts_sent, counts_taken, in_state}
 use Rattle.protocol_model.specs.End.{End, new_place, with_look}
 
@@ -105,7 +107,9 @@ pub record Connects (e : End) (ev : Event) (m : Connected) (x : End) : Type 0 wh
   pub remote : m.remote ≡ opening.tunnel
   pub taken : m.taken ≡ place tunnel.control.channel.taken
   pub given : m.given ≡ place tunnel.control.channel.sent
-  pub after : x ≡ with_tunnel e m.tunnel (record tunnel { control = counts_sent (counts_taken (record tunnel.control { remote = m.remote; state = Established })) })
+  pub after : x ≡ with_tunnel e m.tunnel (record tunnel {
+    control = counts_sent (counts_taken (record tunnel.control { remote = m.remote; state = Established }));
+  })
 
 pub record Confirms (e : End) (ev : Event) (m : Confirmed) (x : End) : Type 0 where
   pub tunnel : Tunnel
@@ -122,7 +126,10 @@ pub record Adds (e : End) (ev : Event) (m : Added) (x : End) : Type 0 where
   pub rings : ev ≡ Ring m.port
   pub role : e.role ≡ Lac
   pub drawn : draws e.session_ids ≡ Ok m.session
-  pub after : x ≡ record (with_tunnel e m.tunnel (record tunnel { calls = put tunnel.calls m.session (rung e.role m.port) })) { session_ids = after_draw e.session_ids; calls = put e.calls m.session (new_place m.tunnel) }
+  pub after : x ≡ record (with_tunnel e m.tunnel (record tunnel { calls = put tunnel.calls m.session (rung e.role m.port) })) {
+    session_ids = after_draw e.session_ids;
+    calls = put e.calls m.session (new_place m.tunnel);
+  }
 
 pub record Requests (e : End) (m : Requested) (x : End) : Type 0 where
   pub tunnel : Tunnel
@@ -134,7 +141,10 @@ pub record Requests (e : End) (m : Requested) (x : End) : Type 0 where
   pub session : m.session < 65536
   pub port : m.port ≡ call.port
   pub given : m.given ≡ place tunnel.control.channel.sent
-  pub after : x ≡ record (with_tunnel e m.tunnel (record { control = counts_sent tunnel.control; calls = put tunnel.calls m.session (advanced e.role call_event.TunnelOpen call) })) { calls = with_look (cell.Bind m.session m.tunnel tunnel.control.peer) e.calls }
+  pub after : x ≡ record (with_tunnel e m.tunnel (record {
+    control = counts_sent tunnel.control;
+    calls = put tunnel.calls m.session (advanced e.role call_event.TunnelOpen call);
+  })) { calls = with_look (cell.Bind m.session m.tunnel tunnel.control.peer) e.calls }
 
 pub record Replies (e : End) (ev : Event) (m : Replied) (x : End) : Type 0 where
   pub tunnel : Tunnel
@@ -148,7 +158,10 @@ pub record Replies (e : End) (ev : Event) (m : Replied) (x : End) : Type 0 where
   pub drawn : draws e.session_ids ≡ Ok m.session
   pub taken : m.taken ≡ place tunnel.control.channel.taken
   pub given : m.given ≡ place tunnel.control.channel.sent
-  pub after : x ≡ record (with_tunnel e m.tunnel (record { control = counts_sent (counts_taken tunnel.control); calls = put tunnel.calls m.session (asked_for e.role m.remote) })) { session_ids = after_draw e.session_ids; calls = put e.calls m.session (new_place m.tunnel) }
+  pub after : x ≡ record (with_tunnel e m.tunnel (record {
+    control = counts_sent (counts_taken tunnel.control);
+    calls = put tunnel.calls m.session (asked_for e.role m.remote);
+  })) { session_ids = after_draw e.session_ids; calls = put e.calls m.session (new_place m.tunnel) }
 
 pub record ComesUpFirst (e : End) (ev : Event) (m : FirstUp) (x : End) : Type 0 where
   pub tunnel : Tunnel
@@ -160,7 +173,10 @@ pub record ComesUpFirst (e : End) (ev : Event) (m : FirstUp) (x : End) : Type 0 
   pub row : is_connection (call_row e.role call.state call_event.IcrpAcc).1 ≡ true
   pub taken : m.taken ≡ place tunnel.control.channel.taken
   pub given : m.given ≡ place tunnel.control.channel.sent
-  pub after : x ≡ record (with_tunnel e m.tunnel (record { control = counts_sent (counts_taken tunnel.control); calls = put tunnel.calls m.session (advanced e.role call_event.IcrpAcc (record call { remote = m.remote })) })) { calls = with_look (cell.Establish m.session) e.calls }
+  pub after : x ≡ record (with_tunnel e m.tunnel (record {
+    control = counts_sent (counts_taken tunnel.control);
+    calls = put tunnel.calls m.session (advanced e.role call_event.IcrpAcc (record call { remote = m.remote }));
+  })) { calls = with_look (cell.Establish m.session) e.calls }
 
 pub record ComesUpSecond (e : End) (ev : Event) (m : SecondUp) (x : End) : Type 0 where
   pub tunnel : Tunnel
@@ -174,7 +190,10 @@ pub record ComesUpSecond (e : End) (ev : Event) (m : SecondUp) (x : End) : Type 
   pub hears : HearsNext ev tunnel.control m.session (Iccn speed framing sequenced)
   pub row : is_up (call_row e.role call.state call_event.IccnAcc).0 ≡ true
   pub taken : m.taken ≡ place tunnel.control.channel.taken
-  pub after : x ≡ record (with_tunnel e m.tunnel (record { control = counts_taken tunnel.control; calls = put tunnel.calls m.session (advanced e.role call_event.IccnAcc call) })) { calls = with_look (cell.Establish m.session) (with_look (cell.Bind m.session m.tunnel tunnel.control.peer) e.calls) }
+  pub after : x ≡ record (with_tunnel e m.tunnel (record {
+    control = counts_taken tunnel.control;
+    calls = put tunnel.calls m.session (advanced e.role call_event.IccnAcc call);
+  })) { calls = with_look (cell.Establish m.session) (with_look (cell.Bind m.session m.tunnel tunnel.control.peer) e.calls) }
 
 pub record TakesPlain (e : End) (ev : Event) (m : TookPlain) (x : End) : Type 0 where
   pub tunnel : Tunnel
@@ -206,9 +225,13 @@ pub record SendsFrame (e : End) (ev : Event) (m : FrameSent) (x : End) : Type 0 
   pub given : (ev ≡ Payload m.session m.frame) ⊎ (ev ≡ Lower m.session m.frame)
   pub after : x ≡ e
 
--- a frame that the call's peer sent is handed up
+-- a frame that the call's peer sent in the call's tunnel is handed up, where the call is seen as established
 pub record HandsUp (e : End) (ev : Event) (m : FrameUp) (x : End) : Type 0 where
   pub hears : HearsFrame ev m.peer m.tunnel m.session m.frame
+  pub place : CallPlace
+  pub there : at e.calls m.session ≡ Some place
+  pub seen : place.look ≡ look.Established m.tunnel m.peer
+  pub side : m.side ≡ side_of e.role
   pub after : x ≡ e
 
 -- ---- a move, and a chain of moves

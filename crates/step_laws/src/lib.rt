@@ -3,6 +3,7 @@
 
 ghost use Rattle.step_laws.specs.Looks.{LooksBeginTrue, LooksStayTrue};
 ghost use Rattle.step_laws.specs.Steps.{StepsAreChains};
+ghost use Rattle.step_laws.specs.Ups.{BirthsAreFew, UpsAreFew, UpsAreMoves};
 
 /// Each step of an end whose tunnels are kept is a chain of its moves: each move has what it needs in the end that the moves
 /// before it lead to, and the last one leads to the end that is left, whose tunnels are kept. What is sent is a letter that
@@ -20,3 +21,19 @@ pub fn looks_are_true()
 {
     steps_are_chains();
 }
+
+/// In each step of each end, the frames that its outputs hand up are those that its moves hand up: in the same order, each
+/// in the same session, to the same side, with the same bytes.
+pub fn ups_are_moves()
+    ensures { UpsAreMoves }
+{}
+
+/// A step hands one frame up at most, and none on an event that is no datagram.
+pub fn ups_are_few()
+    ensures { UpsAreFew }
+{}
+
+/// One call at most is born in a step, and none on an event that is no ring.
+pub fn births_are_few()
+    ensures { BirthsAreFew }
+{}

@@ -2,4 +2,4 @@ use Rattle.frame_laws.proofs.Runs.{frames_of_runs}
 use Rattle.frame_laws.proofs.frames_were_sent.Goals as goal
 
 pub returns : goal.returns
-returns c = frames_of_runs c.written_is_read_again.ensures c.steps_are_known.ensures
+returns c = frames_of_runs c.written_is_read_again.ensures c.laws_of_steps.ensures

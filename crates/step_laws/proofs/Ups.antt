@@ -1,0 +1,117 @@
+-- A step hands up what its moves hand up: a frame that comes, and no other.
+use Rattle.std.proofs.Common.{◌≡◌, ℕ, ◌≤◌, List, [], length, refl, sym, ◌∙◌, Option, Some, None, Result, Ok, Err, arith}
+use Rattle.std.specs.Prelude.{◌==◌}
+use Rattle.std.specs.List.{flat_map}
+use Rattle.id_table.specs.Ids.{at}
+use Rattle.wire_base.specs.declared.why.Why.{Why}
+use Rattle.wire_base.specs.declared.why.Why.TheVariants as why
+use Rattle.l2tp_header.specs.declared.header.Header.{Header}
+use Rattle.l2tp_header.specs.declared.header.HeaderError.{HeaderError}
+use Rattle.l2tp_header.specs.Reading.{header_of}
+use Rattle.tunnel_fsm.specs.declared.table.TunnelState.TheVariants.{WaitCtlReply, Established}
+use Rattle.protocol_model.specs.declared.tunnel.CallPlace.{CallPlace}
+use Rattle.protocol_model.specs.declared.tunnel.Role.TheVariants.{Lac, Lns}
+use Rattle.protocol_model.specs.declared.event.Addressee.{Addressee}
+use Rattle.protocol_model.specs.declared.event.Addressee.TheVariants.{Opens, Main, Nobody}
+use Rattle.protocol_model.specs.declared.event.Event.{Event}
+use Rattle.protocol_model.specs.declared.event.Event.TheVariants.{Datagram, Ring, Payload, Lower, OpenTunnel}
+use Rattle.protocol_model.specs.declared.out.Out.TheVariants.{Drop}
+use Rattle.protocol_model.specs.Reading.{header_why, body_of}
+use Rattle.protocol_model.specs.Calls.{is_lac, Carried, Upward, Dropped}
+use Rattle.protocol_model.specs.Turn.{Tunnel, Env, turn_of, fresh, turns}
+use Rattle.protocol_model.specs.End.{End, Stepped, env_of, gives_only, after_turn, after_new, in_new, in_main, addressed, for_addressee, least_in, rings_in, rings_at, gives_frame, handed, hands_up, receives, only_by, step_in, step}
+use Rattle.step_laws.specs.Ups.{ups_of_output, ups_of_move, births_of_move, most_ups, most_births, UpsAreMoves, UpsAreFew, BirthsAreFew}
+use Rattle.step_laws.proofs.Turns.{branch}
+use Rattle.step_laws.proofs.Quiet.{AreQuiet, nothing, turns_quiet}
+
+-- what a step on an event hands up, and how many calls are born in it
+record IsTold (ev : Event) (s : Stepped) : Type 0 where
+  same : flat_map ups_of_output s.outputs ≡ flat_map ups_of_move s.moves
+  ups : length (flat_map ups_of_output s.outputs) ≤ most_ups ev
+  births : length (flat_map births_of_move s.moves) ≤ most_births ev
+
+quiet_told : (ev : Event) (s : Stepped) → AreQuiet (most_births ev) s.outputs s.moves → IsTold ev s
+quiet_told ev s h = record { same = h.no_output ∙ sym h.no_move; ups = rw h.no_output (omega arith); births = h.births }
+
+dropped_told : (ev : Event) (e : End) (w : Why) → IsTold ev (gives_only e (Drop w))
+unfolding gives_only
+dropped_told ev e w = record { same = refl; ups = omega arith; births = omega arith }
+
+module _ (e : End) (moment : ℕ) (block : List ℕ) where
+  abbrev env : Env
+  env = env_of e moment block
+
+  -- ---- turns of tunnels
+
+  main_told : (ev : Event) (i : ℕ) (o : Option Tunnel) → IsTold ev (in_main e env ev i o)
+  unfolding in_main after_turn
+  main_told ev i None = dropped_told ev e why.Tunnel
+  main_told ev i (Some t) = quiet_told ev _ (turns_quiet e.role e.config t.calls ev (turn_of t.control env) (nothing 0))
+
+  new_told : (ev : Event) (peer : ℕ) → IsTold ev (in_new e env ev peer)
+  unfolding in_new after_new after_turn
+  new_told ev peer =
+      let quiet = turns_quiet e.role e.config [] ev (turn_of (fresh peer) env) (nothing 0) in
+      branch (IsTold ev) ((turns e.role e.config [] ev (turn_of (fresh peer) env)).control.local == 0) _ _
+      (λ zero. quiet_told ev _ quiet)
+      (λ some. quiet_told ev _ quiet)
+
+  -- ---- datagrams
+
+  addressee_told : (ev : Event) (peer : ℕ) (a : Addressee) → IsTold ev (for_addressee e env ev peer a)
+  unfolding for_addressee
+  addressee_told ev peer Opens = new_told ev peer
+  addressee_told ev peer (Main i) = main_told ev i (at e.tunnels i)
+  addressee_told ev peer (Nobody w) = dropped_told ev e w
+
+  handed_told : (peer : ℕ) (bytes : List ℕ) (session : ℕ) (c : Carried) → IsTold (Datagram peer bytes) (handed e session c)
+  unfolding handed
+  handed_told peer bytes session (Upward tunnel of side frame) = record { same = refl; ups = omega arith; births = omega arith }
+  handed_told peer bytes session (Dropped w) = dropped_told (Datagram peer bytes) e w
+
+  received_told : (peer : ℕ) (bytes : List ℕ) (r : Result Header HeaderError) → IsTold (Datagram peer bytes) (receives e env peer bytes r)
+  unfolding receives hands_up
+  received_told peer bytes (Err x) = dropped_told (Datagram peer bytes) e (header_why x)
+  received_told peer bytes (Ok h) =
+      branch (IsTold (Datagram peer bytes)) h.control _ _
+      (λ control. addressee_told (Datagram peer bytes) peer (addressed e peer h (body_of h bytes)))
+      (λ data_is. handed_told peer bytes h.session _)
+
+  -- ---- rings and frames
+
+  rings_told : (ev : Event) (open_one opening : Option ℕ) → IsTold ev (rings_in e env ev open_one opening)
+  unfolding rings_in
+  rings_told ev (Some i) opening = main_told ev i (at e.tunnels i)
+  rings_told ev None (Some i) = main_told ev i (at e.tunnels i)
+  rings_told ev None None = new_told ev e.config.lns
+
+  frame_told : (ev : Event) (o : Option CallPlace) → IsTold ev (gives_frame e env ev o)
+  unfolding gives_frame
+  frame_told ev None = dropped_told ev e why.Call
+  frame_told ev (Some p) = main_told ev p.tunnel (at e.tunnels p.tunnel)
+
+  by_lac : (ev : Event) (s : Stepped) → IsTold ev s → IsTold ev (only_by Lac e s)
+  unfolding only_by
+  by_lac ev s h = branch (IsTold ev) (is_lac e.role) _ _ (λ lac. h) (λ lns. dropped_told ev e why.Node)
+
+  by_lns : (ev : Event) (s : Stepped) → IsTold ev s → IsTold ev (only_by Lns e s)
+  unfolding only_by
+  by_lns ev s h = branch (IsTold ev) (is_lac e.role) _ _ (λ lac. dropped_told ev e why.Node) (λ lns. h)
+
+  step_told : (ev : Event) → IsTold ev (step e moment block ev)
+  unfolding step step_in rings_at
+  step_told (Datagram peer bytes) = received_told peer bytes (header_of bytes)
+  step_told (Ring port) =
+      by_lac (Ring port) _ (rings_told (Ring port) (least_in Established e.config.lns e.tunnels) (least_in WaitCtlReply e.config.lns e.tunnels))
+  step_told (Payload s frame) = by_lac (Payload s frame) _ (frame_told (Payload s frame) (at e.calls s))
+  step_told (Lower s frame) = by_lns (Lower s frame) _ (frame_told (Lower s frame) (at e.calls s))
+  step_told OpenTunnel = by_lac OpenTunnel _ (new_told OpenTunnel e.config.lns)
+
+pub ups_are_moves : UpsAreMoves
+ups_are_moves e moment block ev = (step_told e moment block ev).same
+
+pub ups_are_few : UpsAreFew
+ups_are_few e moment block ev = (step_told e moment block ev).ups
+
+pub births_are_few : BirthsAreFew
+births_are_few e moment block ev = (step_told e moment block ev).births
