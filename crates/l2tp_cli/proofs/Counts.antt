@@ -2,8 +2,7 @@
 use Rattle.std.proofs.Common.{◌≡◌, inl, inr, ℕ, ◌+◌, ◌^◌, ◌<◌, ◌≤◌, Bool, true, false, cond, ltb, ◌||◌, List, [], ◌∷◌, ◌++◌, length, Some, None, refl, ap, arith}
 use Rattle.std.proofs.lemmas.Bool.{ltb-false}
 use Rattle.std.proofs.lemmas.List.{length-append}
-use Rattle.port_traits.specs.Limits.{lines_begun, readable, passed, limit_passed}
-use Rattle.port_traits.specs.declared.limits.TheConstants.{MOST_BYTES, MOST_LINES}
+use Rattle.port_traits.specs.Limits.{byte_limit, line_limit, lines_begun, readable, passed, limit_passed}
 use Rattle.schedule_text.specs.declared.line.Line.{Line}
 use Rattle.schedule_text.specs.Grammar.{IsText, IsSchedule, line_text, spelling}
 
@@ -25,9 +24,9 @@ neither true b n h = absurd (cc)
 neither false true n h = absurd (cc)
 neither false false n h = refl
 
-bytes_within : (text : List ℕ) → limit_passed text ≡ None → length text ≤ MOST_BYTES
+pub bytes_within : (text : List ℕ) → limit_passed text ≡ None → length text ≤ byte_limit
 unfolding limit_passed passed
-bytes_within text h = ltb-false MOST_BYTES (length text) (neither (ltb MOST_LINES (lines_begun (readable text))) (ltb MOST_BYTES (length text)) _ h)
+bytes_within text h = ltb-false byte_limit (length text) (neither (ltb line_limit (lines_begun (readable text))) (ltb byte_limit (length text)) _ h)
 
 pub few_lines : (text : List ℕ) (lines : List Line) → limit_passed text ≡ None → IsSchedule text lines → length lines < 2 ^ 47
 few_lines text lines within is = let a = lines_of_text text lines is.spelled in let b = bytes_within text within in omega arith

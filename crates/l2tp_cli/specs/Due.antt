@@ -1,5 +1,5 @@
 -- What a command comes to: its exit, and the text that it writes.
-use Rattle.std.specs.Prelude.{ℕ, List, Option, Some, None, Result, Ok, Err}
+use Rattle.std.specs.Prelude.{ℕ, List, ◌++◌, codes, Option, Some, None, Result, Ok, Err}
 use Rattle.wire_base.specs.declared.why.Why.{Why}
 use Rattle.port_traits.specs.Limits.{limit_passed}
 use Rattle.schedule_text.specs.declared.line.Line.{Line}
@@ -10,6 +10,66 @@ use Rattle.protocol_model.specs.Run.{Run, run, report_of}
 use Rattle.l2tp_cli.specs.declared.exit.Exit.{Exit}
 use Rattle.l2tp_cli.specs.declared.exit.Exit.TheVariants as exits
 use Rattle.l2tp_cli.specs.Texts.{bad_line_text, too_long_text}
+
+-- ---- the texts that no run makes
+
+abbrev pub help_text : List ℕ
+help_text =
+    codes "l2tp: both ends of L2TP version 2 tunnels (RFC 2661), a LAC and an LNS\n" ++
+    codes "\n" ++
+    codes "usage:\n" ++
+    codes "  l2tp replay      runs the schedule on standard input and writes its report to standard output\n" ++
+    codes "  l2tp --help      writes this text\n" ++
+    codes "  l2tp --version   writes the version\n" ++
+    codes "\n" ++
+    codes "A schedule is a list of lines, with one space between words:\n" ++
+    codes "  # TEXT            a remark\n" ++
+    codes "  lns N -           node N is an LNS\n" ++
+    codes "  lac N M - plain   node N is a LAC, whose LNS is node M\n" ++
+    codes "  open N            node N, a LAC, opens a tunnel to its LNS\n" ++
+    codes "  ring N K          a subscriber calls at port K of node N, a LAC\n" ++
+    codes "  data N S HEX      the subscriber of call S of node N, a LAC, sends a PPP frame\n" ++
+    codes "  down N S HEX      the network sends a PPP frame down call S of node N, an LNS\n" ++
+    codes "  deliver P         packet P of the report reaches the node that it was sent to\n" ++
+    codes "N and M are 1 to 255, K and S 1 to 65535, P is 1 to 4294967295, without leading zeros. HEX is a frame from its\n" ++
+    codes "protocol field on, 2 to 1494 bytes as hex digits in lower case. A schedule has at most 1048576 lines and 67108864\n" ++
+    codes "bytes.\n" ++
+    codes "\n" ++
+    codes "Not yet: a schedule has at most one lns, one lac, one open and one ring line, and the lac line names an LNS of an\n" ++
+    codes "earlier line. Another one is a bad line.\n" ++
+    codes "\n" ++
+    codes "A line that doesn't fit ends the run, which says why:\n" ++
+    codes "  node     that node isn't declared, or is of the other kind\n" ++
+    codes "  twice    that node was declared before\n" ++
+    codes "  call     that node has no such call\n" ++
+    codes "  packet   no such packet was sent\n" ++
+    codes "  order    Not yet: the network neither loses messages nor repeats them. A packet with attribute value pairs is\n" ++
+    codes "           delivered once, and those to one node in the order in which they were sent. Acknowledgements alone and\n" ++
+    codes "           frames may be delivered in any order, more than once, or never.\n" ++
+    codes "\n" ++
+    codes "A report has lines for what is done in line L of the schedule, and ends with what each node holds:\n" ++
+    codes "  L send P N M HEX                    packet P goes from node N to node M\n" ++
+    codes "  L up N S B SIDE HEX                 node N hands up a frame in its call S, the B-th of all calls, to the\n" ++
+    codes "                                      subscriber (sub) or to the network (net)\n" ++
+    codes "  L drop N WHY                        node N ignores what came\n" ++
+    codes "  L cause N WHY                       node N refuses what was asked for\n" ++
+    codes "  end N tunnel T M R STATE 0 current complete\n" ++
+    codes "                                      node N has tunnel T to node M, which calls it R\n" ++
+    codes "  end N call T S R STATE B            in tunnel T it has call S, which the other end calls R, the B-th of all calls\n" ++
+    codes "  agree N T M U C                     both ends of a tunnel took all that they were sent, and hold C established calls\n" ++
+    codes "\n" ++
+    codes "status: 0 done, 1 usage, 2 bad line, 3 line that does not fit, 5 read fault, 6 write fault, 7 too long, 20 no memory\n"
+
+abbrev pub version_text : List ℕ
+version_text = codes "l2tp 0.1.0\n"
+
+abbrev pub usage_text : List ℕ
+usage_text = codes "usage: l2tp replay\n"
+
+abbrev pub read_fault_text : List ℕ
+read_fault_text = codes "read fault\n"
+
+-- ---- what is due
 
 pub record Due : Type 0 where
   pub exit : Exit

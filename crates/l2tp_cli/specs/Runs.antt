@@ -3,6 +3,7 @@ use Rattle.std.specs.Prelude.{◌≡◌, ℕ, List, None, Ok}
 use Rattle.std.specs.List.{AllByRecursion}
 use Rattle.port_traits.specs.Limits.{limit_passed}
 use Rattle.schedule_text.specs.declared.line.Line.{Line}
+use Rattle.schedule_text.specs.Grammar.{AreLines}
 use Rattle.schedule_text.specs.Reading.{lines_of}
 use Rattle.protocol_model.specs.Run.{run}
 use Rattle.frame_laws.specs.Past.{past_of}
@@ -27,3 +28,7 @@ FramesOfTexts = (text : List ℕ) (lines : List Line) → lines_of text ≡ Ok l
 -- a birth is that of one LAC's call, in the run of a text that passes no limit
 abbrev pub BirthsOfTexts : Type 0
 BirthsOfTexts = (text : List ℕ) (lines : List Line) → limit_passed text ≡ None → lines_of text ≡ Ok lines → AreApart (run lines).world
+
+-- the frames of the run of each list of lines of the grammar, without the rules on single lines
+abbrev pub FramesOfLines : Type 0
+FramesOfLines = (lines : List Line) → AreLines lines → FramesOf lines

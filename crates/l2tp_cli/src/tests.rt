@@ -1,5 +1,4 @@
 use crate::exit::Exit;
-use crate::texts::{HELP, USAGE};
 use crate::top::replay_top;
 use port_traits::{Fails, MemorySink, MemorySource};
 use std::alloc::Global;
@@ -53,84 +52,6 @@ fn a_tunnel_opens(rt: HostRuntime) -> Result<(), Fail> {
     let (exit, sink) = run(rt.alloc(), &["replay"], OPENING, &[], &[])?;
     assert_eq!(rt; exit, Exit::Ok);
     assert_eq!(rt; sink.taken(), OPENED);
-    Ok(())
-}
-
-/// A ring, with the deliveries that make its tunnel and its call, and a frame each way over it.
-const A_FRAME_EACH_WAY: &[u8] = b"\
-lns 2 -
-lac 1 2 - plain
-ring 1 1
-deliver 1
-deliver 2
-deliver 3
-deliver 4
-deliver 6
-deliver 7
-data 1 1 0021aa
-deliver 9
-down 2 1 002155
-deliver 10
-";
-
-/// How many bytes of that schedule make the call, without the frames.
-const A_CALL: usize = 93;
-
-const CALLED: &[u8] = b"\
-3 send 1 1 2 c802004c000000000000000080080000000000018008000000020100800a0000000300000003800a0000000\
-76c616331800800000009000180080000000a0008000c0000004c000300007530
-4 send 2 2 1 c802004c000100000000000180080000000000028008000000020100800a0000000300000003800a0000000\
-76c6e7332800800000009000180080000000a0008000c0000004c000300007530
-5 send 3 1 2 c802001400010000000100018008000000000003
-5 send 4 1 2 c80200380001000000020001800800000000000a80080000000e0001800a0000000f0000000180120000001\
-6666666663030303030303031
-6 send 5 2 1 c802000c0001000000010002
-7 send 6 2 1 c802001c0001000100010003800800000000000b80080000000e0001
-8 send 7 1 2 c80200280001000100030002800800000000000c800a0000001805f5e100800a0000001300000001
-9 send 8 2 1 c802000c0001000000020004
-";
-
-const CARRIED: &[u8] = b"\
-10 send 9 1 2 000200010001ff030021aa
-11 up 2 1 1 net 0021aa
-12 send 10 2 1 000200010001ff03002155
-13 up 1 1 1 sub 002155
-";
-
-const A_CALL_STANDS: &[u8] = b"\
-end 1 tunnel 1 2 1 established 0 current complete
-end 1 call 1 1 1 established 1
-end 2 tunnel 1 1 1 established 0 current complete
-end 2 call 1 1 1 established 1
-agree 1 1 2 1 1
-";
-
-/// The texts are what was taken, one behind the other.
-fn is_all(taken: &[u8], texts: &[&[u8]]) -> bool {
-    let mut left = taken;
-    for text in texts {
-        let Some(rest) = left.strip_prefix(*text) else {
-            return false;
-        };
-        left = rest;
-    }
-    left.is_empty()
-}
-
-#[test]
-fn a_call_is_made(rt: HostRuntime) -> Result<(), Fail> {
-    let (schedule, _) = A_FRAME_EACH_WAY.split_at(A_CALL);
-    let (exit, sink) = run(rt.alloc(), &["replay"], schedule, &[], &[])?;
-    assert_eq!(rt; exit, Exit::Ok);
-    assert!(rt; is_all(sink.taken(), &[CALLED, A_CALL_STANDS]));
-    Ok(())
-}
-
-#[test]
-fn a_frame_goes_each_way(rt: HostRuntime) -> Result<(), Fail> {
-    let (exit, sink) = run(rt.alloc(), &["replay"], A_FRAME_EACH_WAY, &[], &[])?;
-    assert_eq!(rt; exit, Exit::Ok);
-    assert!(rt; is_all(sink.taken(), &[CALLED, CARRIED, A_CALL_STANDS]));
     Ok(())
 }
 
@@ -270,12 +191,15 @@ fn words_that_are_no_command_are_told(rt: HostRuntime) -> Result<(), Fail> {
         let (exit, sink) = run(rt.alloc(), words, OPENING, &[1], &[])?;
         assert_eq!(rt; exit, Exit::Usage);
         assert_eq!(rt; exit.status(), 1);
-        assert_eq!(rt; sink.taken(), USAGE);
+        assert_eq!(rt; sink.taken(), b"usage: l2tp replay\n".as_slice());
     }
-    assert_eq!(rt; USAGE, b"usage: l2tp replay\n".as_slice());
     let (exit, sink) = run(rt.alloc(), &["--help"], b"", &[1], &[])?;
     assert_eq!(rt; exit, Exit::Ok);
-    assert_eq!(rt; sink.taken(), HELP);
+    assert!(rt;
+        sink.taken()
+            .starts_with(b"l2tp: both ends of L2TP version 2 tunnels (RFC 2661)")
+    );
+    assert!(rt; sink.taken().ends_with(b"7 too long, 20 no memory\n"));
     let (exit, sink) = run(rt.alloc(), &["--version"], b"", &[1], &[])?;
     assert_eq!(rt; exit, Exit::Ok);
     assert_eq!(rt; sink.taken(), b"l2tp 0.1.0\n".as_slice());

@@ -9,22 +9,48 @@ use wire_base::{Bytes, NoMemory};
 
 /// How the program is used.
 pub const HELP: &[u8] = b"\
-l2tp: both ends of L2TP version 2 tunnels (RFC 2661), over a network that may lose, repeat and reorder
+l2tp: both ends of L2TP version 2 tunnels (RFC 2661), a LAC and an LNS
 
 usage:
   l2tp replay      runs the schedule on standard input and writes its report to standard output
   l2tp --help      writes this text
   l2tp --version   writes the version
 
-A schedule is a list of lines:
-  # TEXT                a remark
-  lns N -               node N, from 1 to 255, is an LNS
-  lac N M - plain       node N is a LAC, whose LNS is node M
-  open N                node N, a LAC, opens a tunnel
-  ring N K              a subscriber calls at port K of node N, a LAC
-  data N S HEX          the subscriber of call S of node N, a LAC, sends a frame
-  down N S HEX          the network sends a frame down call S of node N, an LNS
-  deliver P             packet P of the report reaches its addressee
+A schedule is a list of lines, with one space between words:
+  # TEXT            a remark
+  lns N -           node N is an LNS
+  lac N M - plain   node N is a LAC, whose LNS is node M
+  open N            node N, a LAC, opens a tunnel to its LNS
+  ring N K          a subscriber calls at port K of node N, a LAC
+  data N S HEX      the subscriber of call S of node N, a LAC, sends a PPP frame
+  down N S HEX      the network sends a PPP frame down call S of node N, an LNS
+  deliver P         packet P of the report reaches the node that it was sent to
+N and M are 1 to 255, K and S 1 to 65535, P is 1 to 4294967295, without leading zeros. HEX is a frame from its
+protocol field on, 2 to 1494 bytes as hex digits in lower case. A schedule has at most 1048576 lines and 67108864
+bytes.
+
+Not yet: a schedule has at most one lns, one lac, one open and one ring line, and the lac line names an LNS of an
+earlier line. Another one is a bad line.
+
+A line that doesn't fit ends the run, which says why:
+  node     that node isn't declared, or is of the other kind
+  twice    that node was declared before
+  call     that node has no such call
+  packet   no such packet was sent
+  order    Not yet: the network neither loses messages nor repeats them. A packet with attribute value pairs is
+           delivered once, and those to one node in the order in which they were sent. Acknowledgements alone and
+           frames may be delivered in any order, more than once, or never.
+
+A report has lines for what is done in line L of the schedule, and ends with what each node holds:
+  L send P N M HEX                    packet P goes from node N to node M
+  L up N S B SIDE HEX                 node N hands up a frame in its call S, the B-th of all calls, to the
+                                      subscriber (sub) or to the network (net)
+  L drop N WHY                        node N ignores what came
+  L cause N WHY                       node N refuses what was asked for
+  end N tunnel T M R STATE 0 current complete
+                                      node N has tunnel T to node M, which calls it R
+  end N call T S R STATE B            in tunnel T it has call S, which the other end calls R, the B-th of all calls
+  agree N T M U C                     both ends of a tunnel took all that they were sent, and hold C established calls
 
 status: 0 done, 1 usage, 2 bad line, 3 line that does not fit, 5 read fault, 6 write fault, 7 too long, 20 no memory
 ";

@@ -4,7 +4,8 @@ ghost use Rattle.std.specs.Prelude.{◌≡◌, map, string_bytes};
 ghost use Rattle.l2tp_cli.specs.declared.words.Asked.TheVariants as asked;
 ghost use Rattle.l2tp_cli.specs.Words.{asked_of};
 ghost use Rattle.l2tp_cli.specs.Ends.{Ends, Tells};
-ghost use Rattle.l2tp_cli.specs.Runs.{FramesOfTexts, BirthsOfTexts};
+ghost use Rattle.frame_laws.specs.Births.{BirthsOfRuns};
+ghost use Rattle.l2tp_cli.specs.Runs.{FramesOfTexts, BirthsOfTexts, FramesOfLines};
 
 use crate::answer::answer_to;
 use crate::exit::Exit;
@@ -27,6 +28,7 @@ fn tell<K: Sink>(sink: &mut K, text: &[u8], exit: Exit) -> Exit
 fn run<S: Source, K: Sink>(alloc: Global, source: &mut S, sink: &mut K) -> Exit
     ensures { Ends asked.Replay result (record {
       left = S.left source.old;
+      left_after = S.left source.new;
       source_before = S.faults source.old;
       source_after = S.faults source.new;
       sink_before = K.faults sink.old;
@@ -61,6 +63,7 @@ fn command<S: Source, K: Sink>(
 ) -> Exit
     ensures { Ends (asked_of (map string_bytes words.now)) result (record {
       left = S.left source.old;
+      left_after = S.left source.new;
       source_before = S.faults source.old;
       source_after = S.faults source.new;
       sink_before = K.faults sink.old;
@@ -84,7 +87,8 @@ fn command<S: Source, K: Sink>(
 ///
 /// In the run of every schedule, this one or another, each frame that an end hands up in a call was sent at an earlier
 /// line, in a call of the same birth, by an end of the other kind, at the node that the call's tunnel goes to, and was given
-/// to that end for the call by that line; and a birth is that of one LAC's call.
+/// to that end for the call by that line; and a birth is that of one LAC's call. Both hold too of the run of every list of
+/// lines, with any number of nodes, tunnels and calls, which no text spells yet.
 pub fn replay_top<S: Source, K: Sink>(
     alloc: Global,
     words: &[String],
@@ -93,6 +97,7 @@ pub fn replay_top<S: Source, K: Sink>(
 ) -> Exit
     ensures ends { Ends (asked_of (map string_bytes words.now)) result (record {
       left = S.left source.old;
+      left_after = S.left source.new;
       source_before = S.faults source.old;
       source_after = S.faults source.new;
       sink_before = K.faults sink.old;
@@ -102,6 +107,8 @@ pub fn replay_top<S: Source, K: Sink>(
     }) }
     ensures frames { FramesOfTexts }
     ensures births { BirthsOfTexts }
+    ensures frames_of_lines { FramesOfLines }
+    ensures births_of_lines { BirthsOfRuns }
 {
     schedule_text::lines_are_a_schedule();
     frame_laws::reports_tell_the_past();
