@@ -4,7 +4,7 @@ ghost use Rattle.std.specs.Prelude.{◌≡◌, ◌++◌, IfOk, Some};
 ghost use Rattle.protocol_model.specs.Run.{run, report_of, unfit_text};
 
 use crate::fault::LineFault;
-use crate::texts::unfit_text;
+use crate::texts::push_unfit;
 use crate::world::World;
 use schedule_text::Line;
 use std::alloc::Global;
@@ -21,12 +21,12 @@ pub struct Replayed {
 }
 
 /// The report of a world whose next line doesn't fit.
-fn report_unfit(alloc: Global, world: &World, line: u64, why: Why) -> Result<Replayed, NoMemory>
-    ensures report { IfOk result (λ r. r.report ≡ world.now.told.report ++ unfit_text line why) }
+fn report_unfit(world: World, line: u64, why: Why) -> Result<Replayed, NoMemory>
+    ensures report { IfOk result (λ r. r.report ≡ world.told.report ++ unfit_text line why) }
     ensures fault { IfOk result (λ r. r.fault ≡ Some (line, why)) }
 {
-    let mut report = Bytes::from_slice(alloc, world.report())?;
-    report.push_slice(unfit_text(alloc, line, why)?.as_slice())?;
+    let mut report = world.into_report();
+    push_unfit(&mut report, line, why)?;
     Ok(Replayed {
         report,
         fault: Some((line, why)),
@@ -43,13 +43,13 @@ pub fn replay(alloc: Global, lines: &[Line]) -> Result<Replayed, NoMemory>
     for (i, line) in lines.iter().enumerate() {
         match world.line(i as u64 + 1, line) {
             Ok(()) => (),
-            Err(LineFault::Unfit { why }) => return report_unfit(alloc, &world, i as u64 + 1, why),
+            Err(LineFault::Unfit { why }) => return report_unfit(world, i as u64 + 1, why),
             Err(LineFault::NoMemory) => return Err(NoMemory),
         }
     }
     world.finish()?;
     Ok(Replayed {
-        report: Bytes::from_slice(alloc, world.report())?,
+        report: world.into_report(),
         fault: None,
     })
 }

@@ -1,8 +1,8 @@
 //! The world's state, and what a line does to it.
 
-ghost use Rattle.std.specs.Prelude.{◌≡◌, [], ◌∷◌, ◌++◌, OnOk, IfOk, MatchResult, IsSome, is_some, slice_get, Ok, Err, None, Option};
+ghost use Rattle.std.specs.Prelude.{◌≡◌, [], ◌∷◌, ◌++◌, ◌+◌, length, OnOk, IfOk, MatchResult, IsSome, is_some, slice_get, Ok, Err, None, Option};
 ghost use Rattle.id_table.specs.Ids.{at};
-ghost use Rattle.protocol_model.specs.Texts.{entry_text, entries_text};
+ghost use Rattle.protocol_model.specs.Texts.{send_text, entry_text, entries_text};
 ghost use Rattle.protocol_model.specs.World.{Sender, counted, has_pairs, sent, birth_of, with_birth, is_born, moved, moved_all, shown, shown_all, entry_of, entries_of, declared, lac_at, lns_at, with_call, added, block_of, stepped, is_next, marked, arrival, sender_of, delivers, line as line_of};
 ghost use Rattle.protocol_model.specs.Run.{tables};
 ghost use Rattle.schedule_replay.specs.Fault.{new_told, Leads, Says};
@@ -10,14 +10,15 @@ ghost use Rattle.schedule_replay.specs.declared.fault.LineFault.TheVariants.{NoM
 
 use crate::fault::LineFault;
 use crate::node::{Node, config_of, count_at};
-use crate::tables::{agreement_table, end_table};
-use crate::texts::{cause_text, drop_text, send_text, up_text};
+use crate::tables::{push_agreement_table, push_end_table};
+use crate::texts::{push_cause, push_drop, push_send, push_up};
 use byteorder::{BigEndian, ByteOrder};
 use id_table::Table;
 use protocol_model::{Event, Move, Origin, Out, Packet, Role, address_of, node_of};
 use schedule_text::Line;
 use std::alloc::Global;
 use std::marker::Model;
+use tunnel_core::Outputs;
 use wire_base::{Bytes, NoMemory, Sequence, Why};
 
 /// The world's state.
@@ -90,20 +91,30 @@ impl State {
         self.report.as_slice()
     }
 
-    fn tell(&mut self, text: &Bytes) -> Result<(), NoMemory>
-        ensures world { self.new.world ≡ self.old.world }
-        ensures report { OnOk result (self.new.report ≡ self.old.report ++ text.now) }
+    /// The report so far, for good.
+    pub(crate) fn into_report(self) -> Bytes
+        ensures { result ≡ self.report }
     {
-        self.report.push_slice(text.as_slice())
+        self.report
     }
 
-    /// A datagram that a node sent.
+    /// A datagram that a node sends, in a line.
     #[tactic(auto, unfolding(protocol_model::specs::World::sent))]
-    fn send(&mut self, from: u8, to: u8, bytes: &[u8], origin: Origin) -> Result<(), NoMemory>
-        ensures world { OnOk result (self.new.world ≡ sent self.old.world from to bytes.now origin) }
-        ensures report { self.new.report ≡ self.old.report }
+    fn send(
+        &mut self,
+        line: u64,
+        from: u8,
+        to: u8,
+        bytes: Bytes,
+        origin: Origin,
+    ) -> Result<(), NoMemory>
+        ensures world { OnOk result (self.new.world ≡ sent self.old.world from to bytes origin) }
+        ensures report { OnOk result (self.new.report ≡ self.old.report ++ send_text line (length self.old.world.packets + 1) from to bytes) }
     {
-        let place = if has_pairs(&origin) {
+        let number = self.packets.as_slice().len() as u64 + 1;
+        push_send(&mut self.report, line, number, from, to, bytes.as_slice())?;
+        let pairs = has_pairs(&origin);
+        let place = if pairs {
             Some(count_at(&self.queued, u32::from(to)))
         } else {
             None
@@ -111,79 +122,55 @@ impl State {
         self.packets.push(Packet {
             from,
             to,
-            bytes: Bytes::from_slice(self.alloc, bytes)?,
+            bytes,
             origin,
             place,
         })?;
-        if has_pairs(&origin) {
+        if pairs {
             count_up(&mut self.queued, to)?;
         }
         Ok(())
     }
 
-    /// The text of the entry that an output makes in a line.
-    #[tactic(auto, unfolding(protocol_model::specs::World::entry_of))]
-    fn text_of(&self, line: u64, node: u8, out: &Out) -> Result<Bytes, NoMemory>
-        ensures { IfOk result (λ text. text ≡ entry_text (entry_of line node self.now.world out.now)) }
+    /// An output of a node's step, in a line.
+    #[tactic(auto, unfolding(protocol_model::specs::World::shown, protocol_model::specs::World::entry_of))]
+    fn show(&mut self, line: u64, node: u8, out: Out) -> Result<(), NoMemory>
+        ensures world { OnOk result (self.new.world ≡ shown node self.old.world out) }
+        ensures report { OnOk result (self.new.report ≡ self.old.report ++ entry_text (entry_of line node self.old.world out)) }
     {
         match out {
-            Out::Send { peer, bytes, .. } => {
-                let number = self.packets.as_slice().len() as u64 + 1;
-                send_text(
-                    self.alloc,
-                    line,
-                    number,
-                    node,
-                    node_of(*peer),
-                    bytes.as_slice(),
-                )
-            }
+            Out::Send {
+                peer,
+                bytes,
+                origin,
+            } => self.send(line, node, node_of(peer), bytes, origin),
             Out::Up {
                 session,
                 side,
                 frame,
             } => {
-                let birth = self.birth_of(node, *session);
-                up_text(
-                    self.alloc,
+                let birth = self.birth_of(node, session);
+                push_up(
+                    &mut self.report,
                     line,
                     node,
-                    *session,
+                    session,
                     birth,
-                    *side,
+                    side,
                     frame.as_slice(),
                 )
             }
-            Out::Drop { why } => drop_text(self.alloc, line, node, *why),
-            Out::Cause { cause } => cause_text(self.alloc, line, node, *cause),
+            Out::Drop { why } => push_drop(&mut self.report, line, node, why),
+            Out::Cause { cause } => push_cause(&mut self.report, line, node, cause),
         }
-    }
-
-    /// An output of a node's step, in a line.
-    #[tactic(auto, unfolding(protocol_model::specs::World::shown))]
-    fn show(&mut self, line: u64, node: u8, out: &Out) -> Result<(), NoMemory>
-        ensures world { OnOk result (self.new.world ≡ shown node self.old.world out.now) }
-        ensures report { OnOk result (self.new.report ≡ self.old.report ++ entry_text (entry_of line node self.old.world out.now)) }
-    {
-        let text = self.text_of(line, node, out)?;
-        self.tell(&text)?;
-        if let Out::Send {
-            peer,
-            bytes,
-            origin,
-        } = out
-        {
-            self.send(node, node_of(*peer), bytes.as_slice(), *origin)?;
-        }
-        Ok(())
     }
 
     #[tactic(auto, unfolding(protocol_model::specs::World::shown_all, protocol_model::specs::World::entries_of))]
-    fn show_all(&mut self, line: u64, node: u8, outputs: &[Out]) -> Result<(), NoMemory>
-        ensures world { OnOk result (self.new.world ≡ shown_all node outputs.now self.old.world) }
-        ensures report { OnOk result (self.new.report ≡ self.old.report ++ entries_text (entries_of line node outputs.now self.old.world)) }
+    fn show_all(&mut self, line: u64, node: u8, outputs: Outputs) -> Result<(), NoMemory>
+        ensures world { OnOk result (self.new.world ≡ shown_all node outputs self.old.world) }
+        ensures report { OnOk result (self.new.report ≡ self.old.report ++ entries_text (entries_of line node outputs self.old.world)) }
     {
-        for out in outputs {
+        for out in outputs.into_vec() {
             self.show(line, node, out)?;
         }
         Ok(())
@@ -264,7 +251,7 @@ impl State {
         let given = at.end.step(0, block_of(node, line), event)?;
         self.nodes.replace(number, at);
         self.follow_all(node, given.moves.as_slice())?;
-        self.show_all(line, node, given.outputs.as_slice())
+        self.show_all(line, node, given.outputs)
     }
 
     /// A new node.
@@ -413,10 +400,8 @@ impl State {
     pub(crate) fn finish(&mut self) -> Result<(), NoMemory>
         ensures { OnOk result (self.new ≡ record self.old { report = self.old.report ++ tables self.old.world }) }
     {
-        let ends = end_table(self.alloc, &self.nodes)?;
-        let agreements = agreement_table(self.alloc, &self.nodes)?;
-        self.tell(&ends)?;
-        self.tell(&agreements)
+        push_end_table(self.alloc, &mut self.report, &self.nodes)?;
+        push_agreement_table(self.alloc, &mut self.report, &self.nodes)
     }
 }
 

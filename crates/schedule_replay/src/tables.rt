@@ -1,13 +1,13 @@
 //! The tables at the end of a report.
 
-ghost use Rattle.std.specs.Prelude.{◌≡◌, count_by, option_map, IfOk, Some};
+ghost use Rattle.std.specs.Prelude.{◌≡◌, ◌++◌, count_by, option_map, OnOk, IfOk, Some};
 ghost use Rattle.std.specs.Option.{option_copied};
 ghost use Rattle.id_table.specs.Ids.{at, ids_of};
 ghost use Rattle.protocol_model.specs.Run.{call_table, tunnel_line, node_table, end_table, lns_tunnel, partner_of, agree, is_session, session_count, agree_with, agree_line, node_agreements, agreement_table};
 ghost use Rattle.tunnel_core.specs.Cores.{tunnel_of};
 
 use crate::node::{Node, count_at};
-use crate::texts::{agree_text, call_text, tunnel_text};
+use crate::texts::{push_agree, push_call, push_tunnel};
 use call_fsm::CallState;
 use id_table::Table;
 use protocol_model::{Call, Control, node_of};
@@ -18,74 +18,72 @@ use wire_base::{Bytes, NoMemory};
 
 /// The calls of a tunnel, by local id.
 #[tactic(auto, unfolding(protocol_model::specs::Run::call_table))]
-fn call_table(
+fn push_call_table(
     alloc: Global,
+    out: &mut Bytes,
     number: u32,
     tunnel: u32,
     births: &Table<u64>,
     calls: &Table<Call>,
-) -> Result<Bytes, NoMemory>
-    ensures { IfOk result (λ text. text ≡ call_table number tunnel births.now.entries calls.now.entries) }
+) -> Result<(), NoMemory>
+    ensures { OnOk result (out.new ≡ out.old ++ call_table number tunnel births.now.entries calls.now.entries) }
 {
     let sessions = calls.ids(alloc)?;
-    let mut out = Bytes::new(alloc);
     for session in sessions.as_slice() {
         if let Some(call) = calls.get(*session) {
             let birth = count_at(births, *session);
-            let text = call_text(alloc, number, tunnel, *session, call, birth)?;
-            out.push_slice(text.as_slice())?;
+            push_call(out, number, tunnel, *session, call, birth)?;
         }
     }
-    Ok(out)
+    Ok(())
 }
 
 /// A tunnel with its calls.
 #[tactic(auto, unfolding(protocol_model::specs::Run::tunnel_line))]
-fn tunnel_line(
+fn push_tunnel_line(
     alloc: Global,
+    out: &mut Bytes,
     number: u32,
     births: &Table<u64>,
     id: u32,
     tunnel: &TunnelCore,
-) -> Result<Bytes, NoMemory>
-    ensures { IfOk result (λ text. text ≡ tunnel_line number births.now.entries id (Some (tunnel_of tunnel.now))) }
+) -> Result<(), NoMemory>
+    ensures { OnOk result (out.new ≡ out.old ++ tunnel_line number births.now.entries id (Some (tunnel_of tunnel.now))) }
 {
-    let mut text = tunnel_text(alloc, number, tunnel.control())?;
-    let calls = call_table(alloc, number, id, births, tunnel.calls())?;
-    text.push_slice(calls.as_slice())?;
-    Ok(text)
+    push_tunnel(out, number, tunnel.control())?;
+    push_call_table(alloc, out, number, id, births, tunnel.calls())
 }
 
 /// The tunnels of a node with their calls, by local id.
 #[tactic(auto, unfolding(protocol_model::specs::Run::node_table, protocol_model::specs::Run::tunnel_line))]
-fn node_table(alloc: Global, number: u32, node: &Node) -> Result<Bytes, NoMemory>
-    ensures { IfOk result (λ text. text ≡ node_table number (Some node.now)) }
+fn push_node_table(alloc: Global, out: &mut Bytes, number: u32, node: &Node) -> Result<(), NoMemory>
+    ensures { OnOk result (out.new ≡ out.old ++ node_table number (Some node.now)) }
 {
     let ids = node.end.tunnel_ids(alloc)?;
-    let mut out = Bytes::new(alloc);
     for id in ids.as_slice() {
         if let Some(tunnel) = node.end.tunnel(*id) {
-            let text = tunnel_line(alloc, number, &node.births, *id, tunnel)?;
-            out.push_slice(text.as_slice())?;
+            push_tunnel_line(alloc, out, number, &node.births, *id, tunnel)?;
         }
     }
-    Ok(out)
+    Ok(())
 }
 
 /// The tunnels of each node with their calls, in the order of nodes.
 #[tactic(auto, unfolding(protocol_model::specs::Run::end_table, protocol_model::specs::Run::node_table))]
-pub(crate) fn end_table(alloc: Global, nodes: &Table<Node>) -> Result<Bytes, NoMemory>
-    ensures { IfOk result (λ text. text ≡ end_table nodes.now.entries) }
+pub(crate) fn push_end_table(
+    alloc: Global,
+    out: &mut Bytes,
+    nodes: &Table<Node>,
+) -> Result<(), NoMemory>
+    ensures { OnOk result (out.new ≡ out.old ++ end_table nodes.now.entries) }
 {
     let numbers = nodes.ids(alloc)?;
-    let mut out = Bytes::new(alloc);
     for number in numbers.as_slice() {
         if let Some(node) = nodes.get(*number) {
-            let text = node_table(alloc, *number, node)?;
-            out.push_slice(text.as_slice())?;
+            push_node_table(alloc, out, *number, node)?;
         }
     }
-    Ok(out)
+    Ok(())
 }
 
 /// The LNS's tunnel that a LAC's tunnel has learned.
@@ -140,60 +138,62 @@ fn session_count(alloc: Global, calls: &Table<Call>) -> Result<usize, NoMemory>
 
 /// The line of a LAC's tunnel that agrees with its partner.
 #[tactic(auto, unfolding(protocol_model::specs::Run::agree_line, protocol_model::specs::Run::agree_with))]
-fn agree_line(
+fn push_agree_line(
     alloc: Global,
+    out: &mut Bytes,
     nodes: &Table<Node>,
     number: u32,
     tunnel: &TunnelCore,
-) -> Result<Bytes, NoMemory>
-    ensures { IfOk result (λ text. text ≡ agree_line nodes.now.entries number (Some (tunnel_of tunnel.now))) }
+) -> Result<(), NoMemory>
+    ensures { OnOk result (out.new ≡ out.old ++ agree_line nodes.now.entries number (Some (tunnel_of tunnel.now))) }
 {
     let control = tunnel.control();
     match partner(nodes, control) {
         Some(partner) if agree(number, control, partner.control()) => {
             let count = session_count(alloc, tunnel.calls())?;
-            agree_text(alloc, number, control, partner.control(), count as u64)
+            push_agree(out, number, control, partner.control(), count as u64)
         }
-        _ => Ok(Bytes::new(alloc)),
+        _ => Ok(()),
     }
 }
 
 /// The tunnels of a node, a LAC, that agree with their partners.
 #[tactic(auto, unfolding(protocol_model::specs::Run::node_agreements, protocol_model::specs::Run::agree_line))]
-fn node_agreements(
+fn push_node_agreements(
     alloc: Global,
+    out: &mut Bytes,
     nodes: &Table<Node>,
     number: u32,
     node: &Node,
-) -> Result<Bytes, NoMemory>
-    ensures { IfOk result (λ text. text ≡ node_agreements nodes.now.entries number (Some node.now)) }
+) -> Result<(), NoMemory>
+    ensures { OnOk result (out.new ≡ out.old ++ node_agreements nodes.now.entries number (Some node.now)) }
 {
-    let mut out = Bytes::new(alloc);
     if !node.is_lac() {
-        return Ok(out);
+        return Ok(());
     }
     let ids = node.end.tunnel_ids(alloc)?;
     for id in ids.as_slice() {
         if let Some(tunnel) = node.end.tunnel(*id) {
-            let text = agree_line(alloc, nodes, number, tunnel)?;
-            out.push_slice(text.as_slice())?;
+            push_agree_line(alloc, out, nodes, number, tunnel)?;
         }
     }
-    Ok(out)
+    Ok(())
 }
 
 /// The tunnels of each LAC that agree with their partners at an LNS.
 #[tactic(auto, unfolding(protocol_model::specs::Run::agreement_table, protocol_model::specs::Run::node_agreements))]
-pub(crate) fn agreement_table(alloc: Global, nodes: &Table<Node>) -> Result<Bytes, NoMemory>
-    ensures { IfOk result (λ text. text ≡ agreement_table nodes.now.entries) }
+pub(crate) fn push_agreement_table(
+    alloc: Global,
+    out: &mut Bytes,
+    nodes: &Table<Node>,
+) -> Result<(), NoMemory>
+    ensures { OnOk result (out.new ≡ out.old ++ agreement_table nodes.now.entries) }
 {
     let numbers = nodes.ids(alloc)?;
-    let mut out = Bytes::new(alloc);
     for number in numbers.as_slice() {
         if let Some(node) = nodes.get(*number) {
-            let text = node_agreements(alloc, nodes, *number, node)?;
-            out.push_slice(text.as_slice())?;
+            push_node_agreements(alloc, out, nodes, *number, node)?;
         }
     }
-    Ok(out)
+    Ok(())
 }

@@ -9,7 +9,7 @@ use crate::state::State;
 use schedule_text::Line;
 use std::alloc::Global;
 use std::marker::Model;
-use wire_base::NoMemory;
+use wire_base::{Bytes, NoMemory};
 
 /// The world of a schedule: its nodes, each packet that was ever sent, and the report so far.
 #[derive(Drop)]
@@ -66,5 +66,11 @@ impl World {
         ensures { result.now ≡ self.now.told.report }
     {
         self.state.report()
+    }
+    /// The report so far, in ASCII, which the world gives away as it ends.
+    pub fn into_report(self) -> Bytes
+        ensures { result ≡ self.told.report }
+    {
+        self.state.into_report()
     }
 }

@@ -26,9 +26,7 @@ pub returns-clause-report : goal.returns-clause-report
 returns-clause-report c =
     let whole = report_whole (run c.args.lines.now) c.args.lines.now c.loop-i.i c.loop-i.world.told c.loop-i.invariant c.loop-i-test.false in
     let done = c.in_ok-finish.ensures in
-    let text = c.in_ok-from_slice.ensures in
-    let r = c.report.ensures in
-    text ∙ r ∙ ap (λ (t : Told). t.report) done.1 ∙ sym whole
+    c.into_report.ensures ∙ ap (λ (t : Told). t.report) done.1 ∙ sym whole
 
 pub returns-clause-fault : goal.returns-clause-fault
 returns-clause-fault c = sym (fault_whole (run c.args.lines.now) c.args.lines.now c.loop-i.i c.loop-i.world.told c.loop-i.invariant c.loop-i-test.false)

@@ -1,8 +1,0 @@
-use Rattle.std.proofs.Common.{◌≡◌, ◌++◌, drop}
-use Rattle.std.specs.List.{flat_map}
-use Rattle.id_table.specs.Ids.{at, ids_of}
-use Rattle.protocol_model.specs.Run.{node_table}
-use Rattle.schedule_replay.proofs.tables.end_table.Given as goal
-
-abbrev pub invariant-loop-number : goal.invariant-loop-number
-invariant-loop-number l = l.out ++ flat_map (λ n. node_table n (at l.nodes.entries n)) (drop l.number-index (ids_of l.nodes.entries)) ≡ flat_map (λ n. node_table n (at l.nodes.entries n)) (ids_of l.nodes.entries)

@@ -1,0 +1,10 @@
+use Rattle.std.proofs.Common.{◌∙◌, ap, List, ℕ}
+use Rattle.std.proofs.lemmas.Result.{on_ok_weaker}
+use Rattle.protocol_model.specs.Texts.{◌&◌}
+use Rattle.schedule_replay.proofs.TunnelText.{tunnel_is}
+use Rattle.schedule_replay.proofs.texts.push_tunnel.Goals as goal
+
+pub returns : goal.returns
+returns c =
+    let word = c.in_ok-push_word.ensures ∙ ap (λ (w : List ℕ). c.push_tunnel_ids.new.out & w) c.word.ensures in
+    on_ok_weaker c.push_slice.result (λ line. tunnel_is c.args.out.now _ _ _ _ c.args.node c.args.tunnel.now c.in_ok-push_tunnel_ids.ensures word c.in_ok-push_word-2.ensures line) c.push_slice.ensures.ok
