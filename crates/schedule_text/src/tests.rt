@@ -20,9 +20,10 @@ fn a_schedule_is_read(rt: HostRuntime) -> Result<(), Fail> {
     assert!(rt; matches!(&lines[2], Line::OpenUp { node: 1 }));
     assert!(rt; matches!(&lines[3], Line::Deliver { packet: 1 }));
     assert!(rt; matches!(&lines[4], Line::Deliver { packet: 2 }));
-    if let Line::Remark { text } = &lines[5] {
-        assert_eq!(rt; text.as_slice(), b" a b".as_slice());
-    }
+    let Line::Remark { text } = &lines[5] else {
+        return Err("a remark".into());
+    };
+    assert_eq!(rt; text.as_slice(), b" a b".as_slice());
     assert!(rt;
         matches!(
             &lines[6],

@@ -1,0 +1,3 @@
+mod Computing
+mod Computed
+mod Weights

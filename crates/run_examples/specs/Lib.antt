@@ -1,0 +1,3 @@
+pub mod Crossing
+pub mod Rules
+pub mod Tables

@@ -1,0 +1,277 @@
+use schedule_replay::replay;
+use schedule_text::{Line, read_schedule};
+use std::alloc::Global;
+use std::test::Fail;
+use wire_base::Bytes;
+
+/// A line that gives a frame to a LAC's end, or to an LNS's.
+fn data(alloc: Global, node: u8, session: u16, frame: &[u8]) -> Result<Line, Fail> {
+    Ok(Line::FromSub {
+        node,
+        session,
+        frame: Bytes::from_slice(alloc, frame)?,
+    })
+}
+
+fn down(alloc: Global, node: u8, session: u16, frame: &[u8]) -> Result<Line, Fail> {
+    Ok(Line::Down {
+        node,
+        session,
+        frame: Bytes::from_slice(alloc, frame)?,
+    })
+}
+
+/// The texts are the report, one behind the other.
+fn is_all(report: &[u8], texts: &[&[u8]]) -> bool {
+    let mut left = report;
+    for text in texts {
+        let Some(rest) = left.strip_prefix(*text) else {
+            return false;
+        };
+        left = rest;
+    }
+    left.is_empty()
+}
+
+/// Two tunnels and four calls, of two LACs to one LNS. Packets 23, 26, 27 and 28 are frames.
+const CALLED: &[u8] = b"\
+4 send 1 9 4 c802004c000000000000000080080000000000018008000000020100800a0000000300000003800a000000076c6163398\
+00800000009000180080000000a0008000c0000004c000300007530
+5 send 2 4 9 c802004c000100000000000180080000000000028008000000020100800a0000000300000003800a000000076c6e73348\
+00800000009000180080000000a0008000c0000004c000300007530
+6 send 3 9 4 c802001400010000000100018008000000000003
+7 send 4 4 9 c802000c0001000000010002
+8 send 5 6 4 c802004c000000000000000080080000000000018008000000020100800a0000000300000003800a000000076c6163368\
+00800000009000180080000000a0008000c0000004c000300007530
+10 send 6 9 4 c80200380001000000020001800800000000000a80080000000e0001800a0000000f0000000180120000001666666666\
+3030303030303436
+11 send 7 9 4 c80200380001000000030001800800000000000a80080000000e0002800a0000000f0000000280120000001666666666\
+3030303030303437
+12 send 8 4 6 c802004c000100000000000180080000000000028008000000020100800a0000000300000003800a000000076c6e7334\
+800800000009000280080000000a0008000c0000004c000300007530
+13 send 9 4 9 c802001c0001000100010003800800000000000b80080000000e0001
+14 send 10 4 9 c802001c0001000200020004800800000000000b80080000000e0002
+15 send 11 6 4 c802001400020000000100018008000000000003
+15 send 12 6 4 c80200380002000000020001800800000000000a80080000000e0001800a0000000f000000018012000000166666666\
+63030303030303530
+15 send 13 6 4 c80200380002000000030001800800000000000a80080000000e0002800a0000000f000000028012000000166666666\
+63030303030303531
+16 send 14 9 4 c80200280001000100040002800800000000000c800a0000001805f5e100800a0000001300000001
+17 send 15 9 4 c80200280001000200050003800800000000000c800a0000001805f5e100800a0000001300000001
+18 send 16 4 6 c802000c0001000000010002
+19 send 17 4 6 c802001c0001000100010003800800000000000b80080000000e0003
+20 send 18 4 6 c802001c0001000200020004800800000000000b80080000000e0004
+21 send 19 4 9 c802000c0001000000030005
+22 send 20 4 9 c802000c0001000000030006
+23 send 21 6 4 c80200280002000300040002800800000000000c800a0000001805f5e100800a0000001300000001
+24 send 22 6 4 c80200280002000400050003800800000000000c800a0000001805f5e100800a0000001300000001
+";
+
+const CARRIED: &[u8] = b"\
+25 send 23 6 4 000200020004ff030021c2
+26 drop 4 session
+27 send 24 4 6 c802000c0001000000030005
+28 send 25 4 6 c802000c0001000000030006
+29 up 4 4 2 net 0021c2
+30 send 26 4 6 000200010002ff030021d2
+31 up 6 2 2 sub 0021d2
+32 send 27 4 9 000200010002ff030021d9
+33 up 9 2 4 sub 0021d9
+34 send 28 9 4 000200010002ff030021c9
+35 up 4 2 4 net 0021c9
+";
+
+const STANDS: &[u8] = b"\
+end 4 tunnel 1 9 1 established 0 current complete
+end 4 call 1 1 1 established 3
+end 4 call 1 2 2 established 4
+end 4 tunnel 2 6 1 established 0 current complete
+end 4 call 2 3 1 established 1
+end 4 call 2 4 2 established 2
+end 6 tunnel 1 4 2 established 0 current complete
+end 6 call 1 1 3 established 1
+end 6 call 1 2 4 established 2
+end 9 tunnel 1 4 1 established 0 current complete
+end 9 call 1 1 1 established 3
+end 9 call 1 2 2 established 4
+agree 6 1 4 2 2
+agree 9 1 4 1 2
+";
+
+/// The ids of two LACs, and of their calls, cross at one LNS, and births, ids and nodes differ: node 6 has session 2, born as
+/// call 2, which is the LNS's session 4; the LNS's session 2 is that of node 9, born as call 4.
+#[test]
+fn two_lacs_cross_at_one_lns(rt: HostRuntime) -> Result<(), Fail> {
+    let alloc = rt.alloc();
+    let lines = [
+        Line::Lns { node: 4 },
+        Line::Lac { node: 9, lns: 4 },
+        Line::Lac { node: 6, lns: 4 },
+        Line::OpenUp { node: 9 },
+        Line::Deliver { packet: 1 },
+        Line::Deliver { packet: 2 },
+        Line::Deliver { packet: 3 },
+        Line::Ring { node: 6, port: 80 },
+        Line::Ring { node: 6, port: 81 },
+        Line::Ring { node: 9, port: 70 },
+        Line::Ring { node: 9, port: 71 },
+        Line::Deliver { packet: 5 },
+        Line::Deliver { packet: 6 },
+        Line::Deliver { packet: 7 },
+        Line::Deliver { packet: 8 },
+        Line::Deliver { packet: 9 },
+        Line::Deliver { packet: 10 },
+        Line::Deliver { packet: 11 },
+        Line::Deliver { packet: 12 },
+        Line::Deliver { packet: 13 },
+        Line::Deliver { packet: 14 },
+        Line::Deliver { packet: 15 },
+        Line::Deliver { packet: 17 },
+        Line::Deliver { packet: 18 },
+        data(alloc, 6, 2, &[0x00, 0x21, 0xc2])?,
+        // The frame overtakes the ICCN.
+        Line::Deliver { packet: 23 },
+        Line::Deliver { packet: 21 },
+        Line::Deliver { packet: 22 },
+        Line::Deliver { packet: 23 },
+        down(alloc, 4, 4, &[0x00, 0x21, 0xd2])?,
+        Line::Deliver { packet: 26 },
+        down(alloc, 4, 2, &[0x00, 0x21, 0xd9])?,
+        Line::Deliver { packet: 27 },
+        data(alloc, 9, 2, &[0x00, 0x21, 0xc9])?,
+        Line::Deliver { packet: 28 },
+    ];
+    let replayed = replay(alloc, &lines)?;
+    assert_eq!(rt; replayed.fault, None);
+    assert!(rt; is_all(replayed.report.as_slice(), &[CALLED, CARRIED, STANDS]));
+    Ok(())
+}
+
+/// An open tunnel between the LAC 9 and the LNS 4, and what its four messages are.
+const SCCRQ: &[u8] = b"\
+3 send 1 9 4 c802004c000000000000000080080000000000018008000000020100800a0000000300000003800a0000000\
+76c616339800800000009000180080000000a0008000c0000004c000300007530
+";
+
+/// The two texts around the line in which the SCCRP is sent.
+const SCCRP: &[u8] =
+    b" send 2 4 9 c802004c000100000000000180080000000000028008000000020100800a0000000300\
+000003800a000000076c6e7334800800000009000180080000000a0008000c0000004c000300007530
+";
+
+const CONNECTED: &[u8] = b"\
+5 send 3 9 4 c802001400010000000100018008000000000003
+6 send 4 4 9 c802000c0001000000010002
+";
+
+const ASKED: &[u8] = b"\
+7 send 5 9 4 c80200380001000000020001800800000000000a80080000000e0001800a0000000f0000000180120000001\
+6666666663030303030373037
+";
+
+const REPLIED: &[u8] = b"8 send 6 4 9 c802001c0001000100010003800800000000000b80080000000e0001\n";
+
+const CALL_CONNECTED: &[u8] =
+    b"9 send 7 9 4 c80200280001000100030002800800000000000c800a0000001805f5e100800a0000001300000001\n";
+
+/// What both ends hold on the way to a tunnel and a call. While a letter is outstanding, the ends aren't said to agree.
+#[test]
+fn openings_and_calls_that_are_under_way(rt: HostRuntime) -> Result<(), Fail> {
+    let opened: &[u8] =
+        b"lns 4 -\nlac 9 4 - plain\nopen 9\ndeliver 1\ndeliver 2\ndeliver 3\nring 9 1799\n";
+    let table: [(&[u8], &[u8], &[&[u8]]); 6] = [
+        (
+            b"lns 4 -\nlac 9 4 - plain\nopen 9\nring 9 1799\n",
+            b"",
+            &[
+                SCCRQ,
+                b"end 9 tunnel 1 4 0 wait-ctl-reply 0 current complete\n",
+                b"end 9 call 1 1 0 wait-tunnel 1\n",
+            ],
+        ),
+        (
+            b"lns 4 -\nlac 9 4 - plain\nring 9 1799\ndeliver 1\n",
+            b"",
+            &[
+                SCCRQ,
+                b"4",
+                SCCRP,
+                b"end 4 tunnel 1 9 1 wait-ctl-conn 0 current complete\n",
+                b"end 9 tunnel 1 4 0 wait-ctl-reply 0 current complete\n",
+                b"end 9 call 1 1 0 wait-tunnel 1\n",
+            ],
+        ),
+        (
+            opened,
+            b"",
+            &[
+                SCCRQ,
+                b"4",
+                SCCRP,
+                CONNECTED,
+                ASKED,
+                b"end 4 tunnel 1 9 1 established 0 current complete\n",
+                b"end 9 tunnel 1 4 1 established 0 current complete\n",
+                b"end 9 call 1 1 0 wait-reply 1\n",
+            ],
+        ),
+        (
+            opened,
+            b"deliver 5\n",
+            &[
+                SCCRQ,
+                b"4",
+                SCCRP,
+                CONNECTED,
+                ASKED,
+                REPLIED,
+                b"end 4 tunnel 1 9 1 established 0 current complete\n",
+                b"end 4 call 1 1 1 wait-connect 1\n",
+                b"end 9 tunnel 1 4 1 established 0 current complete\n",
+                b"end 9 call 1 1 0 wait-reply 1\n",
+            ],
+        ),
+        (
+            opened,
+            b"deliver 5\ndeliver 6\ndown 4 1 0021d2\n",
+            &[
+                SCCRQ,
+                b"4",
+                SCCRP,
+                CONNECTED,
+                ASKED,
+                REPLIED,
+                CALL_CONNECTED,
+                b"10 drop 4 closed\n",
+                b"end 4 tunnel 1 9 1 established 0 current complete\n",
+                b"end 4 call 1 1 1 wait-connect 1\n",
+                b"end 9 tunnel 1 4 1 established 0 current complete\n",
+                b"end 9 call 1 1 1 established 1\n",
+            ],
+        ),
+        (
+            opened,
+            b"data 9 1 0021c2\n",
+            &[
+                SCCRQ,
+                b"4",
+                SCCRP,
+                CONNECTED,
+                ASKED,
+                b"8 drop 9 closed\n",
+                b"end 4 tunnel 1 9 1 established 0 current complete\n",
+                b"end 9 tunnel 1 4 1 established 0 current complete\n",
+                b"end 9 call 1 1 0 wait-reply 1\n",
+            ],
+        ),
+    ];
+    for (before, behind, told) in table {
+        let mut text = Bytes::from_slice(rt.alloc(), before)?;
+        text.push_slice(behind)?;
+        let lines = read_schedule(rt.alloc(), text.as_slice()).map_err(|_| "a schedule")?;
+        let replayed = replay(rt.alloc(), lines.as_slice())?;
+        assert_eq!(rt; replayed.fault, None);
+        assert!(rt; is_all(replayed.report.as_slice(), told));
+    }
+    Ok(())
+}
