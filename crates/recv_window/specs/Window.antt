@@ -4,7 +4,7 @@ use Rattle.std.specs.Prelude.{◌≡◌, ℕ, zero, suc, ◌+◌, ◌-◌, ◌%�
 use Rattle.recv_window.specs.declared.Class.{Class}
 use Rattle.recv_window.specs.declared.Class.TheVariants.{Next, Duplicate, Ahead}
 
--- the number of the message that is expected next, without an end: all below it were taken
+-- the number of the message that is expected next: all below it were taken. The code counts it modulo 2^64
 pub record Inbox : Type 0 where
   pub taken : ℕ
 
@@ -15,12 +15,16 @@ on_wire n = n % 65536
 abbrev pub inbox_from : ℕ → Inbox
 inbox_from n = record { taken = n }
 
--- the count can go up
-abbrev pub may_take : Inbox → Bool
-may_take i = nat_lt i.taken (2 ^ 64 - 1)
-
 abbrev pub after_take : Inbox → Inbox
-after_take i = record { taken = i.taken + 1 }
+after_take i = record { taken = (i.taken + 1) % 2 ^ 64 }
+
+-- the same of a count without an end
+abbrev pub one_further : Inbox → Inbox
+one_further i = record { taken = i.taken + 1 }
+
+-- what the code holds of it
+abbrev pub kept_of : Inbox → Inbox
+kept_of i = record { taken = i.taken % 2 ^ 64 }
 
 -- ---- the class of a number on the wire
 
@@ -33,6 +37,14 @@ class_at d = if d == 0 then Next else if nat_lt d 32768 then Ahead d else Duplic
 
 abbrev pub class_of : ℕ → Inbox → Class
 class_of ns i = class_at (distance ns i)
+
+-- the count modulo 2^64 tells the classes that the count without an end does, and counts as it does
+pub record IsKept (i : Inbox) : Type 0 where
+  pub class : (ns : ℕ) → class_of ns (kept_of i) ≡ class_of ns i
+  pub count : after_take (kept_of i) ≡ kept_of (one_further i)
+
+abbrev pub CountHasNoEnd : Type 0
+CountHasNoEnd = (i : Inbox) → IsKept i
 
 -- ---- the class of a number without an end
 
@@ -47,7 +59,7 @@ IsNear n i = (n ≤ i.taken + 32767) × (i.taken ≤ n + 32768)
 abbrev pub ClassIsTrue : Type 0
 ClassIsTrue = (n : ℕ) (i : Inbox) → IsNear n i → class_of (on_wire n) i ≡ true_class n i
 
--- ---- what is taken of a list of arrivals, each taken where it is the next one
+-- ---- what is taken of a list of arrivals, each taken where it is the next one, on a count without an end
 
 abbrev pub is_next : Class → Bool
 is_next Next = true
@@ -58,7 +70,7 @@ abbrev pub takes : ℕ → Inbox → Bool
 takes n i = is_next (class_of (on_wire n) i)
 
 abbrev pub after_arrival : ℕ → Inbox → Inbox
-after_arrival n i = if takes n i then after_take i else i
+after_arrival n i = if takes n i then one_further i else i
 
 unfoldable pub after_arrivals : List ℕ → Inbox → Inbox
 after_arrivals [] i = i

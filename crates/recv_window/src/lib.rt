@@ -2,8 +2,8 @@
 //! ahead of others. A number on the wire tells it, as long as it is within half the numbers of the one that is expected.
 #![tactic(auto)]
 
-ghost use Rattle.std.specs.Prelude.{◌≡◌, IsTrue};
-ghost use Rattle.recv_window.specs.Window.{inbox_from, on_wire, may_take, after_take, class_of, ClassIsTrue, TakenInOrder};
+ghost use Rattle.std.specs.Prelude.{◌≡◌};
+ghost use Rattle.recv_window.specs.Window.{inbox_from, on_wire, after_take, class_of, CountHasNoEnd, ClassIsTrue, TakenInOrder};
 
 use std::marker::Model;
 
@@ -18,7 +18,8 @@ pub enum Class {
     Ahead { by: u16 },
 }
 
-/// The number of the message that is expected next. It has no end, where the numbers on the wire stand modulo 65536.
+/// The number of the message that is expected next. It counts on without end, modulo 2^64; on the wire it stands modulo
+/// 65536.
 #[derive(Clone, Copy, Debug)]
 pub struct Inbox {
     taken: u64,
@@ -44,7 +45,7 @@ impl Inbox {
         }
     }
 
-    /// The number that is expected next, without an end.
+    /// The number that is expected next, modulo 2^64.
     pub fn taken_count(&self) -> u64
         ensures { result ≡ self.now.taken }
     {
@@ -69,19 +70,11 @@ impl Inbox {
         }
     }
 
-    /// Whether one more message can be counted.
-    pub fn may_take(&self) -> bool
-        ensures { result ≡ may_take self.now }
-    {
-        self.taken < u64::MAX
-    }
-
-    /// Counts the message that was expected as taken. Its condition is that one more can be counted (`may_take`).
+    /// Counts the message that was expected as taken.
     pub fn take(&mut self)
-        requires { IsTrue (may_take self.old) }
         ensures { self.new ≡ after_take self.old }
     {
-        self.taken += 1;
+        self.taken = self.taken.wrapping_add(1);
     }
 
     /// The numbers go on from this one, whatever was taken before.
@@ -91,6 +84,12 @@ impl Inbox {
         self.taken = expect as u64;
     }
 }
+
+/// A law: a count modulo 2^64 tells the class of each number on the wire as the count without an end does, and counts on as
+/// it does.
+pub fn the_count_has_no_end()
+    ensures { CountHasNoEnd }
+{}
 
 /// A law: where a number without an end is at most 32,767 above and at most 32,768 below the one that is expected, its last
 /// 16 bits tell its class: next exactly where the two are equal, ahead by the difference where it is above, duplicate where

@@ -5,7 +5,6 @@ use std::test::Fail;
 fn numbers_wrap(rt: HostRuntime) -> Result<(), Fail> {
     let mut inbox = Inbox::new(65_535);
     assert_eq!(rt; inbox.classify(65_535), Class::Next);
-    assert!(rt; inbox.may_take());
     inbox.take();
     assert_eq!(rt; inbox.taken_count(), 65_536);
     assert_eq!(rt; inbox.expected(), 0);

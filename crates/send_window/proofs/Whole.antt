@@ -1,5 +1,5 @@
 -- An outbox keeps the rest of the whole list.
-use Rattle.std.proofs.Common.{◌≡◌, ◌≤◌, ◌<◌, ℕ, ◌+◌, ◌-◌, ◌%◌, ◌^◌, cond, leb, ltb, eqb, true, false, ◌⊎◌, inl, inr, ⊎_elim, List, [], ◌∷◌, length, drop, refl, sym, ap, ◌∙◌, arith, length-append, length-drop, Some, slice_get, get_or}
+use Rattle.std.proofs.Common.{◌≡◌, ◌≤◌, ◌<◌, ℕ, ◌+◌, ◌-◌, ◌%◌, ◌^◌, cond, leb, ltb, eqb, true, false, ◌⊎◌, inl, inr, ⊎_elim, List, [], ◌∷◌, length, drop, refl, sym, ap, ◌∙◌, arith, length-append, length-drop, Some, get_or}
 use Rattle.std.proofs.lemmas.Bool.Decides.{nat_tests, leb_tells}
 use Rattle.std.proofs.lemmas.List.{drop-drop, drop-append-le, get_or-drop}
 use Rattle.std.proofs.lemmas.Option.{slice_get-get_or}
@@ -7,7 +7,7 @@ use Rattle.wire_base.specs.declared.letter.Letter.{Letter}
 use Rattle.send_window.specs.Window.{distance, count_acked, without_first}
 use Rattle.send_window.specs.Outbox.{letter_at}
 use Rattle.send_window.specs.Whole.{Whole, IsInOrder, begun, given, given_count, kept_of, acked_to}
-use Rattle.send_window.specs.History.{Acknowledged, Operation, Reserves, Puts, Acks, Pumps, Ticks, Resets, Learns, Fits, AllFit, whole_after, whole_answer, kept_after, kept_answer, whole_run, kept_run, EachCallIsAStep, KeepsTheRest}
+use Rattle.send_window.specs.History.{Acknowledged, Operation, Reserves, Puts, Acks, Pumps, Ticks, Resets, Learns, Fits, AllFit, whole_after, whole_answer, kept_after, kept_answer, whole_run, kept_run, EachCallIsAStep, LendsByNumber, KeepsTheRest}
 
 -- the distance on the wire is the distance of the numbers, where they are near
 near : (b n : ℕ) → b ≤ n → n < b + 65536 → distance ((b % 2 ^ 64) % 2 ^ 16) (n % 2 ^ 16) ≡ n - b
@@ -108,8 +108,8 @@ each_call_is_a_step op w o f = record { kept = step op w o f; answer = answers o
 no_letter : Letter
 no_letter = record { session = 0; avps = [] }
 
-lent : (w : Whole) (n : ℕ) → IsInOrder w → w.acked ≤ n → n < given_count w → letter_at (kept_of w) (n % 2 ^ 64) ≡ slice_get w.sent (n - w.first)
-lent w n o lo hi =
+pub lends_by_number : LendsByNumber
+lends_by_number w n o lo hi =
     let place : (n % 2 ^ 64 + (2 ^ 64 - w.acked % 2 ^ 64)) % 2 ^ 64 ≡ n - w.acked = omega (arith, o.few) in
     let there : n - w.acked < length (drop (w.acked - w.first) w.sent) = omega (arith, length-drop (w.acked - w.first) w.sent, o.begins) in
     let i : (w.acked - w.first) + (n - w.acked) ≡ n - w.first = omega (arith, o.begins) in
@@ -124,5 +124,5 @@ keeps_the_rest first peer_window ops lt f =
     record {
       kept = same;
       order = o;
-      lends = λ n lo hi. ap (λ k. letter_at k (n % 2 ^ 64)) same ∙ lent (whole_run ops b) n o lo hi;
+      lends = λ n lo hi. ap (λ k. letter_at k (n % 2 ^ 64)) same ∙ lends_by_number (whole_run ops b) n o lo hi;
     }

@@ -79,6 +79,10 @@ pub record IsStep (op : Operation) (w : Whole) : Type 0 where
 abbrev pub EachCallIsAStep : Type 0
 EachCallIsAStep = (op : Operation) (w : Whole) → IsInOrder w → Fits op w → IsStep op w
 
+-- each letter that isn't acknowledged is lent by its number, which tells its place in the whole list
+abbrev pub LendsByNumber : Type 0
+LendsByNumber = (w : Whole) (n : ℕ) → IsInOrder w → w.acked ≤ n → n < given_count w → outbox.letter_at (kept_of w) (n % 2 ^ 64) ≡ slice_get w.sent (n - w.first)
+
 abbrev pub whole_run : List Operation → Whole → Whole
 whole_run [] w = w
 whole_run (op ∷ ops) w = whole_run ops (whole_after op w)

@@ -2,7 +2,7 @@
 //! with the window that lets them go and the timer that repeats the oldest of them.
 #![tactic(auto)]
 
-ghost use Rattle.send_window.specs.History.{EachCallIsAStep, KeepsTheRest};
+ghost use Rattle.send_window.specs.History.{EachCallIsAStep, LendsByNumber, KeepsTheRest};
 
 mod congestion;
 mod outbox;
@@ -16,6 +16,7 @@ pub use window::{SendWindow, Tick};
 /// after every history of calls the outbox keeps the rest of it, from the first unacknowledged letter on.
 pub fn keeps_the_rest()
     ensures step { EachCallIsAStep }
+    ensures lends { LendsByNumber }
     ensures run { KeepsTheRest }
 {}
 

@@ -1,0 +1,4 @@
+pub mod Sent
+pub mod Pairs
+pub mod Acts
+mod Runs

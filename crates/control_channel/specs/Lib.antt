@@ -1,0 +1,3 @@
+pub mod Channel
+pub mod Whole
+pub mod History

@@ -1,0 +1,215 @@
+//! The channel.
+
+ghost use Rattle.std.specs.Prelude.{◌≡◌, ◌<◌, ◌≤◌, ◌↔◌, ℕ, length, OnOk, OnErr, IsOk, IfSome};
+ghost use Rattle.send_window.specs.Window.{next_given, next_unsent, Holds, HoldsRepeated};
+ghost use Rattle.send_window.specs.Outbox.{letter_at};
+ghost use Rattle.recv_window.specs.Window.{on_wire};
+ghost use Rattle.control_channel.specs.Channel.{opened_at, reserved, sent_into, received, class_told, taken_by, next_to_go, let_go_at, answer_to_tick, ticked_at, nr_of, frozen_so, reset_at, learnt_by};
+
+use recv_window::{Class, Inbox};
+use send_window::{Outbox, PutError, SendWindow, Tick};
+use std::alloc::Global;
+use std::marker::Model;
+use wire_base::{Letter, NoMemory};
+
+/// One end of a control channel. The numbers of its letters, and of those of the other end, count on without end, modulo
+/// 2^64; on the wire they stand modulo 65536. Moments are in milliseconds; where a given one is below a kept one, no time
+/// has passed.
+#[derive(Drop)]
+pub struct Channel {
+    outbox: Outbox,
+    inbox: Inbox,
+    frozen: bool,
+}
+
+impl Model for Channel {
+    ghost use Rattle.control_channel.specs.Channel.{Channel as Known};
+
+    ghost Value = { Known };
+
+    ghost view = { λ c. record { outbox = c.outbox; inbox = c.inbox; frozen = c.frozen } };
+}
+
+impl Channel {
+    /// A channel over which nothing was sent: the first letter given has the number `send_from`, and `expect` is expected
+    /// of the other end, whose receive window has `window` letters. It takes no memory.
+    pub fn new(alloc: Global, send_from: u16, expect: u16, window: u16) -> Channel
+        requires { 0 < window }
+        ensures { result ≡ opened_at send_from expect window }
+    {
+        Channel {
+            outbox: Outbox::new(alloc, send_from, window),
+            inbox: Inbox::new(expect),
+            frozen: false,
+        }
+    }
+
+    /// Makes room for so many letters at least: where `send` takes one of them, it takes no memory.
+    pub fn reserve(&mut self, count: usize) -> Result<(), NoMemory>
+        ensures ok { OnOk result (self.new ≡ reserved self.old count) }
+        ensures err { OnErr result (self.new ≡ self.old) }
+        ensures there { count ≤ self.old.outbox.spare → IsOk result }
+    {
+        self.outbox.reserve(count)
+    }
+
+    /// Gives a letter to the channel; it takes the next number. `pump` tells when it goes out. Where it isn't taken, the
+    /// channel is as before.
+    pub fn send(&mut self, letter: Letter) -> Result<(), PutError>
+        ensures ok { OnOk result (self.new ≡ sent_into self.old letter) }
+        ensures err { OnErr result (self.new ≡ self.old) }
+        ensures full { (result ≡ Err (PutError.QueueFull 8192)) ↔ (8192 ≤ self.old.outbox.window.queued) }
+        ensures room { 0 < self.old.outbox.spare → self.old.outbox.window.queued < 8192 → IsOk result }
+        ensures limit { (n : ℕ) → result ≡ Err (PutError.QueueFull n) → n ≡ 8192 }
+    {
+        self.outbox.put(letter)
+    }
+
+    /// A message of the other end: its Nr acknowledges letters, which go. Then its Ns tells what it is; None where it is
+    /// `empty`, an acknowledgement without a message. It isn't taken yet: `take` does that. A frozen channel answers so too.
+    pub fn receive(&mut self, ns: u16, nr: u16, empty: bool, now: u64) -> Option<Class>
+        ensures class { result ≡ class_told self.old ns empty }
+        ensures value { self.new ≡ received self.old nr now }
+    {
+        self.outbox.ack(nr, now);
+        if empty {
+            None
+        } else {
+            Some(self.inbox.classify(ns))
+        }
+    }
+
+    /// Counts the message that was expected as taken.
+    pub fn take(&mut self)
+        ensures { self.new ≡ taken_by self.old }
+    {
+        self.inbox.take();
+    }
+
+    /// The number of the next letter that the window lets go, which is outstanding from then on; None where nothing is
+    /// unsent, the window is filled, or the channel is frozen.
+    pub fn pump(&mut self, now: u64) -> Option<u64>
+        ensures number { result ≡ next_to_go self.old }
+        ensures value { self.new ≡ let_go_at self.old now }
+        ensures there { IfSome result (λ n. Holds self.new.outbox.window n) }
+    {
+        if self.frozen {
+            return None;
+        }
+        self.outbox.pump(now)
+    }
+
+    /// What is due at a moment: nothing, one repetition, or the failure of the channel. A letter is repeated 1, 2, 4, 8
+    /// and 8 seconds after the last time, and the channel has failed 8 seconds later. Nothing is due where it is frozen.
+    pub fn tick(&mut self, now: u64) -> Tick
+        ensures answer { result ≡ answer_to_tick self.old now }
+        ensures value { self.new ≡ ticked_at self.old now }
+        ensures there { HoldsRepeated self.new.outbox.window result }
+    {
+        if self.frozen {
+            return Tick::Quiet;
+        }
+        self.outbox.tick(now)
+    }
+
+    /// The numbers of the letters alone, with the window and the timer: a copy, on which a step can be tried out. It knows
+    /// nothing of `freeze`.
+    pub fn window(&self) -> SendWindow
+        ensures value { result ≡ self.now.outbox.window }
+        ensures same { length self.now.outbox.letters ≡ self.now.outbox.window.queued }
+    {
+        self.outbox.window()
+    }
+
+    /// The number that is expected of the other end: a copy, on which a step can be tried out.
+    pub fn inbox(&self) -> Inbox
+        ensures { result ≡ self.now.inbox }
+    {
+        self.inbox
+    }
+
+    /// The letter with a number that is unacknowledged or unsent.
+    pub fn letter(&self, number: u64) -> &Letter
+        requires { Holds self.now.outbox.window number }
+        ensures { letter_at self.now.outbox number ≡ Some result.now }
+    {
+        self.outbox.letter(number)
+    }
+
+    /// Ns and Nr of a message with a number, as they stand on the wire. An acknowledgement without a message has the number
+    /// `next_unsent`.
+    pub fn wire(&self, number: u64) -> (u16, u16)
+        ensures ns { result.0 ≡ on_wire number }
+        ensures nr { result.1 ≡ nr_of self.now }
+    {
+        ((number % 65536) as u16, self.inbox.expected())
+    }
+
+    /// Nothing is let go and nothing is due from now on, until the channel is reset.
+    pub fn freeze(&mut self)
+        ensures { self.new ≡ frozen_so self.old }
+    {
+        self.frozen = true;
+    }
+
+    /// Forgets all letters: the next one given has the number `send_from`, and `expect` is expected of the other end. The
+    /// peer's window and the room stay, and the channel isn't frozen any more.
+    pub fn reset_to(&mut self, send_from: u16, expect: u16)
+        ensures { self.new ≡ reset_at self.old send_from expect }
+    {
+        self.outbox.reset(send_from);
+        self.inbox.reset(expect);
+        self.frozen = false;
+    }
+
+    /// Sets the peer's window, in letters, and the threshold to it; a congestion window above it is lowered to it.
+    pub fn learn_window(&mut self, window: u16)
+        requires { 0 < window }
+        ensures { self.new ≡ learnt_by self.old window }
+    {
+        self.outbox.learn_window(window);
+    }
+
+    /// The number of the next letter to be given.
+    pub fn sent_count(&self) -> u64
+        ensures { result ≡ next_given self.now.outbox.window }
+    {
+        self.outbox.sent_count()
+    }
+
+    /// The number that is expected next of the other end: those below it were taken.
+    pub fn taken_count(&self) -> u64
+        ensures { result ≡ self.now.inbox.taken }
+    {
+        self.inbox.taken_count()
+    }
+
+    /// The number of the first letter that isn't acknowledged, or of the next one to be given.
+    pub fn acked_count(&self) -> u64
+        ensures { result ≡ self.now.outbox.window.acked }
+    {
+        self.outbox.acked_count()
+    }
+
+    /// The number of the first letter that was never on the wire, or of the next one to be given.
+    pub fn next_unsent(&self) -> u64
+        ensures { result ≡ next_unsent self.now.outbox.window }
+    {
+        self.outbox.next_unsent()
+    }
+
+    /// How many letters are unacknowledged or unsent; at most 8,192.
+    pub fn queued(&self) -> usize
+        ensures value { result ≡ length self.now.outbox.letters }
+        ensures few { result ≤ 8192 }
+    {
+        self.outbox.queued()
+    }
+
+    /// Whether the channel is frozen.
+    pub fn is_frozen(&self) -> bool
+        ensures { result ≡ self.now.frozen }
+    {
+        self.frozen
+    }
+}
