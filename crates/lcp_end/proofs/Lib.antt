@@ -1,0 +1,7 @@
+pub mod Lengths
+pub mod Answers
+pub mod Opening
+pub mod Ignoring
+pub mod Counting
+pub mod Sending
+pub mod Answering
