@@ -1,0 +1,9 @@
+pub mod Options
+pub mod Parts
+pub mod Fronts
+pub mod Writes
+pub mod Steps
+pub mod Walk
+pub mod Fresh
+pub mod Heads
+pub mod Commits

@@ -1,0 +1,41 @@
+-- A journal between two calls, and its disk.
+use Rattle.std.specs.Prelude.{◌≡◌, ◌<◌, ◌≤◌, ◌+◌, ◌*◌, ℕ, Bool, false, List, length, Option, IfSome}
+use Rattle.disk_core.specs.Disk.{Held, MayLeave}
+use Rattle.checkpoint_journal.specs.Commit.{IsFile}
+use Rattle.checkpoint_journal.specs.Format.{gate_place, IsBeforeOrAfter}
+
+pub record State : Type 0 where
+  -- 1 at a LAC, 2 at an LNS
+  pub kind : ℕ
+  -- the node's
+  pub number : ℕ
+  -- where the area in use begins
+  pub start : ℕ
+  -- how many records it has, and for how many more room was made
+  pub records : ℕ
+  pub spare : ℕ
+  -- the disk failed at an earlier commit
+  pub halted : Bool
+
+abbrev pub opened_at : ℕ → ℕ → ℕ → ℕ → State
+opened_at kind number start records = record { kind = kind; number = number; start = start; records = records; spare = 0; halted = false }
+
+-- where the gate of the next record stands
+abbrev pub next_gate : State → ℕ
+next_gate journal = gate_place journal.start journal.records
+
+-- The disk is as the last call on this journal left it: where it tells what it holds, that is the journal with these
+-- contents.
+pub record HasContents (journal : State) (contents : List (List ℕ)) (held : Option Held) : Type 0 where
+  pub count : length contents ≡ journal.records
+  pub file : IfSome held (IsFile journal.kind journal.number journal.start contents)
+
+-- each image that a crash may leave opens with the contents from before, or with these and this one last
+abbrev pub CrashLeavesBeforeOrAfter : State → List (List ℕ) → List ℕ → Option Held → Type 0
+CrashLeavesBeforeOrAfter journal contents content held = IfSome held (λ file. (image : List ℕ) → MayLeave file image
+    → IsBeforeOrAfter journal.kind journal.number contents content image)
+
+-- the room that was made on the disk for its spare is still there
+pub record HasRoom {D : Type 0} (reach calls_left : D → ℕ) (journal : State) (disk : D) : Type 0 where
+  pub far : 0 < journal.spare → gate_place journal.start (journal.records + journal.spare) + 1 ≤ reach disk
+  pub many : 4 * journal.spare ≤ calls_left disk

@@ -1,0 +1,160 @@
+//! The journal: contents in order, each on the disk before its gate is opened.
+
+ghost use Rattle.std.specs.Prelude.{◌≡◌, ◌≤◌, ◌<◌, ◌+◌, ◌-◌, ◌++◌, ◌∷◌, [], ℕ, List, max, OnOk, OnErr, option_map, true, false};
+ghost use Rattle.checkpoint_journal.specs.Format.{most_records, second_area};
+ghost use Rattle.checkpoint_journal.specs.Commit.{commit_after, IsStopped};
+ghost use Rattle.checkpoint_journal.specs.State.{opened_at, next_gate, HasContents, HasRoom, CrashLeavesBeforeOrAfter};
+ghost use Rattle.checkpoint_journal.specs.Answers.{RoomHasCause, StopHasCause};
+
+use crate::area::MOST_RECORDS;
+use crate::record::write_record;
+use disk_core::Disk;
+use std::marker::Model;
+use wire_base::NoMemory as OutOfMemory;
+
+/// Why no room was made.
+#[derive(Clone, Copy, Debug, PartialEq, Eq)]
+pub enum JournalRoom {
+    /// The disk failed at an earlier commit to this journal.
+    Halted,
+    /// The journal has so many records, and with those that are wanted they pass the limit.
+    StoreFull { records: u32 },
+    /// Memory was wanting.
+    NoMemory,
+}
+
+impl From<OutOfMemory> for JournalRoom {
+    ghost use Rattle.checkpoint_journal.specs.declared.journal.JournalRoom.TheVariants.{NoMemory};
+
+    ghost from_gives = { λ _ e. e ≡ NoMemory };
+
+    fn from(_e: OutOfMemory) -> JournalRoom {
+        JournalRoom::NoMemory
+    }
+}
+
+/// Why a content wasn't committed.
+#[derive(Clone, Copy, Debug, PartialEq, Eq)]
+pub enum JournalStop {
+    /// The disk failed at an earlier commit to this journal.
+    Halted,
+    /// The disk failed. The journal is halted until its disk is opened again.
+    StoreFault,
+}
+
+/// The journal of one node on a disk that is handed to each call. Between two calls the disk is as the last one left it.
+#[derive(Debug, Drop)]
+pub struct Journal {
+    kind: u8,
+    number: u8,
+    start: u64,
+    records: u32,
+    spare: u32,
+    halted: bool,
+}
+
+impl Model for Journal {
+    ghost use Rattle.std.specs.Prelude.{◌≤◌, ◌+◌};
+    ghost use Rattle.checkpoint_journal.specs.Format.{most_records, second_area};
+    ghost use Rattle.checkpoint_journal.specs.State.{State};
+
+    ghost Value = { State };
+
+    ghost view = { λ j. record { kind = j.kind; number = j.number; start = j.start; records = j.records; spare = j.spare; halted = j.halted } };
+
+    ghost invariant = { λ j. (j.records + j.spare ≤ most_records) × (j.start ≤ second_area) };
+}
+
+impl Journal {
+    /// The journal that was opened on a disk, with so many records.
+    pub(crate) fn opened(kind: u8, number: u8, start: u64, records: u32) -> Journal
+        requires few { records ≤ most_records }
+        requires start { start ≤ second_area }
+        ensures { result ≡ opened_at kind number start records }
+    {
+        Journal {
+            kind,
+            number,
+            start,
+            records,
+            spare: 0,
+            halted: false,
+        }
+    }
+
+    /// How many records its area has.
+    pub fn records(&self) -> u32
+        ensures { result ≡ self.now.records }
+    {
+        self.records
+    }
+
+    /// Makes the spare at least `count`: the disk has room for so many records, and for the four calls of each. It makes
+    /// no call of the device, and where it is refused the journal is as before.
+    #[tactic(auto, unfolding(crate::specs::Format::most_records, crate::specs::Format::second_area))]
+    pub fn prepare<D: Disk>(&mut self, disk: &mut D, count: u32) -> Result<(), JournalRoom>
+        requires room { self.old.halted ≡ false → HasRoom D.reach D.calls_left self.old disk.old }
+        ensures room { self.old.halted ≡ false → HasRoom D.reach D.calls_left self.new disk.new }
+        ensures ok { OnOk result (self.new ≡ record self.old { spare = max self.old.spare count }) }
+        ensures err { OnErr result (self.new ≡ self.old) }
+        ensures disk { D.holds disk.new ≡ D.holds disk.old }
+        ensures contents { (contents : List (List ℕ)) → HasContents self.old contents (D.holds disk.old) → HasContents self.new contents (D.holds disk.new) }
+        ensures faults { D.faults disk.new ≡ D.faults disk.old }
+        ensures cause { RoomHasCause self.old count result }
+    {
+        if self.halted {
+            return Err(JournalRoom::Halted);
+        }
+        if count > MOST_RECORDS - self.records {
+            return Err(JournalRoom::StoreFull {
+                records: self.records,
+            });
+        }
+        if count > self.spare {
+            let to = self.start + 32 * (u64::from(self.records) + u64::from(count)) + 1;
+            disk.prepare(to, 4 * u64::from(count))?;
+            self.spare = count;
+        }
+        Ok(())
+    }
+
+    /// Puts a content behind the others; its condition is that the spare isn't 0. At `Ok` it is on the disk, and each later
+    /// crash leaves it there. It makes four calls of the device and takes no memory.
+    pub fn commit<D: Disk>(&mut self, disk: &mut D, content: &[u8; 31]) -> Result<(), JournalStop>
+        requires spare { 0 < self.old.spare }
+        requires room { self.old.halted ≡ false → HasRoom D.reach D.calls_left self.old disk.old }
+        ensures room { OnOk result (HasRoom D.reach D.calls_left self.new disk.new) }
+        ensures state { OnOk result (self.new ≡ record self.old { records = self.old.records + 1; spare = self.old.spare - 1 }) }
+        ensures cause { StopHasCause self.old self.new (D.faults disk.old) (D.faults disk.new) result }
+
+        // What its calls make of the file: all four, or the first or the first three, the last of which is pending.
+        ensures done { OnOk result (D.holds disk.new ≡ option_map (commit_after 4 (next_gate self.old) content.now) (D.holds disk.old)) }
+        ensures stopped { self.old.halted ≡ false → OnErr result (IsStopped (next_gate self.old) content.now (D.holds disk.old) (D.holds disk.new)) }
+        ensures halted { self.old.halted ≡ true → D.holds disk.new ≡ D.holds disk.old }
+
+        // At `Ok` the journal has the contents from before, and this one last.
+        ensures committed { (contents : List (List ℕ)) → HasContents self.old contents (D.holds disk.old)
+            → OnOk result (HasContents self.new (contents ++ content.now ∷ []) (D.holds disk.new)) }
+
+        // Whatever comes of the call, each image that a crash may leave opens with the contents from before, or with these
+        // and this one last.
+        ensures crash { (contents : List (List ℕ)) → HasContents self.old contents (D.holds disk.old)
+            → CrashLeavesBeforeOrAfter self.old contents content.now (D.holds disk.new) }
+    {
+        if self.halted {
+            return Err(JournalStop::Halted);
+        }
+        let gate = self.start + 32 * u64::from(self.records);
+        match write_record(disk, gate, content) {
+            Ok(()) => {
+                self.records += 1;
+                self.spare -= 1;
+                Ok(())
+            }
+            Err(_) => {
+                self.halted = true;
+                Err(JournalStop::StoreFault)
+            }
+        }
+    }
+}

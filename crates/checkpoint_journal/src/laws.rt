@@ -1,0 +1,22 @@
+//! What is spelled and read, and what a crash in a commit leaves, as laws over the format.
+
+ghost use Rattle.checkpoint_journal.specs.Laws.{SpellingOpens, CommitSpellsOneMore, CutIsBeforeOrAfter, CutIsBefore, CutIsAfter};
+
+/// Opening reads the contents that a journal spells, whatever stands behind its last gate.
+pub fn what_is_spelled_is_read()
+    ensures { SpellingOpens }
+{}
+
+/// The four calls of a commit to a journal that is spelled spell one with the content last.
+pub fn a_commit_spells_one_more()
+    ensures { CommitSpellsOneMore }
+{}
+
+/// After any number of the four calls of a commit, each image that a crash may leave opens with the contents from before or
+/// with these and the new one last: until the gate is written with those from before, and after the last call with the new
+/// one.
+pub fn a_crash_leaves_whole_commits()
+    ensures either { CutIsBeforeOrAfter }
+    ensures before { CutIsBefore }
+    ensures after { CutIsAfter }
+{}
