@@ -17,7 +17,7 @@ use Rattle.control_channel.specs.Channel.{class_told, next_to_go, answer_to_tick
 use Rattle.control_channel.specs.Whole.{WholeChannel, kept_of}
 use Rattle.control_channel.specs.History.{Sends, Receives, Pumps, Ticks, Freezes, Learns, Answer, Classified, LetGo, Told, Fits, whole_after, whole_answer}
 use Rattle.control_channel.proofs.Steps.{each_call_steps}
-use Rattle.channel_laws.specs.Network.{Packet, End, Act, Gives, LetsGo, Awaits, Acknowledges, Comes, Stills, Hears, IsYoung, ComesYoung, after_act, awaits, calls, comes, is_empty, is_told_next, lets_go, sends, sends_told, takes, told_again}
+use Rattle.channel_laws.specs.Network.{Packet, End, Act, Gives, LetsGo, Awaits, Acknowledges, Comes, StopsSending, LearnsWindow, IsYoung, ComesYoung, after_act, awaits, calls, comes, is_empty, is_told_next, lets_go, sends, sends_told, takes, told_again}
 use Rattle.channel_laws.specs.Carried.{IsCopy}
 use Rattle.channel_laws.proofs.Sent.{Grows, of_all}
 use Rattle.channel_laws.proofs.Pairs.{IsPair, after_call, after_sending, after_taking}
@@ -244,11 +244,11 @@ after_acting a b e o h (Awaits moment) young = awaiting a b e o h moment
 after_acting a b e o h Acknowledges young = acknowledging a b e o h
 after_acting a b e o h (Comes which wills moment) young =
     coming a b e o h (slice_get o.packets which) wills moment (λ p at. of_all (IsCopy o.counts) o.packets which p h.back.copies at) young
-after_acting a b e o h Stills young =
+after_acting a b e o h StopsSending young =
     let w = e.counts in
     after_call a b e o h Freezes tt (grows w.outgoing.acked w (whole_after Freezes w) (same w.outgoing.acked w.outgoing (omega arith)) refl)
     refl h.out.acked
-after_acting a b e o h (Hears peer_window) young =
+after_acting a b e o h (LearnsWindow peer_window) young =
     after_call a b e o h (Learns peer_window) tt
     (record { first = refl; unsent = omega arith; taken = omega arith; more = []; sent = sym (append-nil e.counts.outgoing.sent) })
     refl h.out.acked

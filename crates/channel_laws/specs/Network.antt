@@ -52,9 +52,9 @@ pub data Act : Type 0 where
   Acknowledges : Act
   -- a packet that the other end once sent comes, at a moment; where it is the next one it is taken, if the end will
   Comes : ℕ → Bool → ℕ → Act
-  Stills : Act
+  StopsSending : Act
   -- the peer's window becomes known
-  Hears : ℕ → Act
+  LearnsWindow : ℕ → Act
 
 abbrev pub gives : Letter → End → End
 gives letter e = if nat_lt e.channel.outbox.window.queued 8192 then calls (Sends letter) e else e
@@ -104,8 +104,8 @@ after_act (LetsGo moment) e others = lets_go moment e
 after_act (Awaits moment) e others = awaits moment e
 after_act Acknowledges e others = sends e.counts.outgoing.unsent None e
 after_act (Comes which wills moment) e others = comes (slice_get others which) wills moment e
-after_act Stills e others = calls Freezes e
-after_act (Hears peer_window) e others = calls (Learns peer_window) e
+after_act StopsSending e others = calls Freezes e
+after_act (LearnsWindow peer_window) e others = calls (Learns peer_window) e
 
 -- what comes hasn't outlived half the numbers: by the world's counts neither Ns nor Nr is more than 32,767 behind
 abbrev pub IsYoung : End → Packet → Type 0
