@@ -1,5 +1,5 @@
 -- What was written is read again.
-use Rattle.std.proofs.Common.{◌≡◌, ℕ, ◌^◌, ◌<◌, ◌≤◌, ◌++◌, List, [], ◌∷◌, length, Option, Some, None, Result, Ok, false, refl, sym, ap, ◌∙◌, arith, IsSomeAnd}
+use Rattle.std.proofs.Common.{◌≡◌, ℕ, ◌^◌, ◌<◌, ◌≤◌, ◌++◌, List, [], ◌∷◌, length, Option, Some, None, Result, Ok, false, refl, sym, ap, ◌∙◌, arith, IsSomeAnd, IfSome}
 use Rattle.std.specs.Prelude.{◌==◌}
 use Rattle.wire_base.specs.Answers.{◌>>=◌}
 use Rattle.std.proofs.lemmas.Bool.{ne_eqb}
@@ -12,12 +12,12 @@ use Rattle.avp_codec.specs.Spelling.{AreAvps, Fits}
 use Rattle.control_message.specs.declared.kind.Kind.TheVariants as kind
 use Rattle.control_message.specs.declared.message.MessageError.{MessageError}
 use Rattle.control_message.specs.declared.message.Message.{Message}
-use Rattle.control_message.specs.declared.message.Message.TheVariants.{Sccrq, Sccrp, Scccn, Icrq, Icrp, Iccn}
+use Rattle.control_message.specs.declared.message.Message.TheVariants.{Sccrq, Sccrp, Scccn, Hello, Icrq, Icrp, Iccn, Cdn}
 use Rattle.control_message.specs.declared.message.Opening.{Opening}
 use Rattle.control_message.specs.declared.message.Failover.{Failover}
 use Rattle.control_message.specs.declared.message.Read.TheVariants.{Known}
-use Rattle.control_message.specs.Pairs.{pair, failover_pairs, opening_pairs, pairs_of, IsWritten, IsWrittenOpening}
-use Rattle.control_message.specs.Reading.{message_of, checked, checked_all, failover_value, u16_at, u32_at, window_at, failover_at, opening_at, icrq_at, icrp_at, iccn_at}
+use Rattle.control_message.specs.Pairs.{pair, failover_pairs, opening_pairs, result_code_bytes, pairs_of, IsWritten, IsWrittenOpening}
+use Rattle.control_message.specs.Reading.{message_of, checked, checked_all, failover_value, u16_at, u32_at, window_at, failover_at, opening_at, icrq_at, icrp_at, iccn_at, result_code_in, result_code_at, cdn_at}
 
 -- ---- numbers
 
@@ -48,6 +48,11 @@ opening_fits : (number : ℕ) (o : Opening) → length o.name ≤ 1017 → AreAv
 opening_fits number o le =
     (fits_short 0 number (omega arith), (fits_short 2 o.version (omega arith), (fits_long 3 o.framing (omega arith), (fits 7 o.name (omega arith) le, (fits_short 9 o.tunnel (omega arith), (fits_short 10 o.window (omega arith), failover_fits o.failover))))))
 
+result_code_fits : (result : ℕ) (error : Option ℕ) → Fits (pair 1 (result_code_bytes result error))
+unfolding u16_bytes
+result_code_fits result None = fits_short 1 result (omega arith)
+result_code_fits result (Some error) = fits 1 (result_code_bytes result (Some error)) (omega arith) (omega arith)
+
 -- what an option holds
 pub told_value : {A : Type 0} (o : Option A) (P : A → Type 0) → IsSomeAnd o P → (x : A) × (o ≡ Some x) × P x
 told_value None P h = absurd h
@@ -57,11 +62,13 @@ pub pairs_fit : (m : Message) → IsWritten m → AreAvps (pairs_of m)
 pairs_fit (Sccrq o) w = opening_fits 1 o w.name
 pairs_fit (Sccrp o) w = opening_fits 2 o w.name
 pairs_fit Scccn w = (fits_short 0 3 (omega arith), tt)
+pairs_fit Hello w = (fits_short 0 6 (omega arith), tt)
 pairs_fit (Icrq session serial calling) w =
     let number = told_value calling (λ v. length v ≤ 1017) w.2 in
     (fits_short 0 10 (omega arith), (fits_short 14 session (omega arith), (fits_long 15 serial (omega arith), rw number.1 (fits 22 number.0 (omega arith) number.2, tt))))
 pairs_fit (Icrp session) w = (fits_short 0 11 (omega arith), (fits_short 14 session (omega arith), tt))
 pairs_fit (Iccn speed framing sequenced) w = (fits_short 0 12 (omega arith), (fits_long 24 speed (omega arith), (fits_long 19 framing (omega arith), tt)))
+pairs_fit (Cdn session result error) w = (fits_short 0 14 (omega arith), (result_code_fits result error, (fits_short 14 session (omega arith), tt)))
 
 -- ---- messages
 
@@ -119,6 +126,20 @@ iccn_again : (speed framing : ℕ) → speed < 2 ^ 32 → framing < 2 ^ 32 → i
 unfolding iccn_at u32_at u16_bytes u32_bytes
 iccn_again speed framing lt le = rw (long_again framing le, long_again speed lt) refl
 
+cdn_checked : (session result : ℕ) (error : Option ℕ) → checked_all kind.Cdn [] (pairs_of (Cdn session result error)) ≡ Ok tt
+unfolding checked u16_bytes
+cdn_checked session result None = refl
+cdn_checked session result (Some error) = refl
+
+result_code_again : (result : ℕ) (error : Option ℕ) → result < 2 ^ 16 → IfSome error (λ x. x < 2 ^ 16) → result_code_in (result_code_bytes result error) ≡ Ok (result, error)
+unfolding u16_bytes
+result_code_again result None lt le = rw (short_again result lt) refl
+result_code_again result (Some error) lt le = rw (short_again result lt, short_again error le) refl
+
+cdn_again : (session result : ℕ) (error : Option ℕ) → IsWritten (Cdn session result error) → cdn_at (pairs_of (Cdn session result error)) ≡ Ok (Cdn session result error)
+unfolding cdn_at result_code_at u16_at u16_bytes
+cdn_again session result error w = rw (result_code_again result error w.1 w.2, short_again session w.0) refl
+
 pub message_again : (m : Message) → IsWritten m → message_of (pairs_of m) ≡ Ok (Known m)
 unfolding message_of checked u16_bytes
 message_again (Sccrq o) w =
@@ -128,8 +149,10 @@ message_again (Sccrp o) w =
     let both = of_opening 2 o w in
     rw (same_uses [] (opening_pairs 2 o), both.0, both.1) refl
 message_again Scccn w = refl
+message_again Hello w = refl
 message_again (Icrq session serial calling) w =
     let number = told_value calling (λ v. length v ≤ 1017) w.2 in
     rw (number.1, icrq_checked session serial number.0, icrq_again session serial number.0 w.0 w.1) refl
 message_again (Icrp session) w = rw (icrp_checked session (is_not_zero session w.0 w.1), icrp_again session w.0) refl
 message_again (Iccn speed framing sequenced) w = rw (iccn_checked speed framing, iccn_again speed framing w.0 w.1, w.2) refl
+message_again (Cdn session result error) w = rw (cdn_checked session result error, cdn_again session result error w) refl

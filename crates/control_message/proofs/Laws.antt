@@ -9,7 +9,7 @@ use Rattle.avp_codec.specs.declared.avp.Avp.{Avp}
 use Rattle.control_message.specs.declared.kind.Kind.{Kind}
 use Rattle.control_message.specs.declared.kind.Kind.TheVariants as kind
 use Rattle.control_message.specs.declared.message.Message.{Message}
-use Rattle.control_message.specs.declared.message.Message.TheVariants.{Sccrq, Sccrp, Scccn, Icrq, Icrp, Iccn}
+use Rattle.control_message.specs.declared.message.Message.TheVariants.{Sccrq, Sccrp, Scccn, Hello, Icrq, Icrp, Iccn, Cdn}
 use Rattle.control_message.specs.declared.message.Read.{Read}
 use Rattle.control_message.specs.declared.message.Read.TheVariants.{Known, Ignored}
 use Rattle.control_message.specs.declared.message.MessageError.{MessageError}
@@ -21,7 +21,7 @@ use Rattle.control_message.specs.Faults.{IsOfKind, IsSound, IsFirstAlong, IsFaul
 use Rattle.control_message.proofs.Firsts.{absent_first, first_absent, first_stands, stands_first}
 use Rattle.control_message.proofs.Along.{row_holds, is_sound, sound_is, is_first, first_is}
 use Rattle.control_message.proofs.Values.{bind_ok, ok_same, IsGood, sound_known, known_sound}
-use Rattle.control_message.proofs.Calls.{icrq_says, says_icrq, icrq_good, icrq_made, icrp_says, says_icrp, icrp_good, icrp_made, iccn_says, says_iccn, iccn_good, iccn_made}
+use Rattle.control_message.proofs.Calls.{icrq_says, says_icrq, icrq_good, icrq_made, icrp_says, says_icrp, icrp_good, icrp_made, iccn_says, says_iccn, iccn_good, iccn_made, cdn_says, says_cdn, cdn_good, cdn_made}
 use Rattle.control_message.proofs.Needs.{Made, made_of, made_missing}
 use Rattle.control_message.proofs.Openings.{IsOpening, opening_says, says_opening, opening_good, opening_made}
 
@@ -31,28 +31,34 @@ abbrev kind_number : Kind → ℕ
 kind_number kind.Sccrq = 1
 kind_number kind.Sccrp = 2
 kind_number kind.Scccn = 3
+kind_number kind.Hello = 6
 kind_number kind.Icrq = 10
 kind_number kind.Icrp = 11
 kind_number kind.Iccn = 12
+kind_number kind.Cdn = 14
 
 number_is : (n : ℕ) (k : Kind) → kind_of n ≡ Some k → n ≡ kind_number k
-number_is n k h = row_holds (λ (row : ℕ × Kind). row.0 ≡ kind_number row.1) n k kinds (refl, (refl, (refl, (refl, (refl, (refl, tt)))))) h
+number_is n k h = row_holds (λ (row : ℕ × Kind). row.0 ≡ kind_number row.1) n k kinds (refl, (refl, (refl, (refl, (refl, (refl, (refl, (refl, tt)))))))) h
 
 abbrev message_kind : Message → Kind
 message_kind (Sccrq o) = kind.Sccrq
 message_kind (Sccrp o) = kind.Sccrp
 message_kind Scccn = kind.Scccn
+message_kind Hello = kind.Hello
 message_kind (Icrq session serial calling) = kind.Icrq
 message_kind (Icrp session) = kind.Icrp
 message_kind (Iccn speed framing sequenced) = kind.Iccn
+message_kind (Cdn session result error) = kind.Cdn
 
 kind_is : (m : Message) → kind_of (number_of m) ≡ Some (message_kind m)
 kind_is (Sccrq o) = refl
 kind_is (Sccrp o) = refl
 kind_is Scccn = refl
+kind_is Hello = refl
 kind_is (Icrq session serial calling) = refl
 kind_is (Icrp session) = refl
 kind_is (Iccn speed framing sequenced) = refl
+kind_is (Cdn session result error) = refl
 
 sccrq_opens : IsOpening kind.Sccrq
 sccrq_opens = record { uses = refl; needs = refl }
@@ -70,33 +76,41 @@ message_says kind.Sccrp avps m sound h =
     let b = bind_ok (opening_at avps) _ m h in
     subst (λ (x : Message). (number_of x ≡ 2) × SaysMessage avps x) (ok_same b.2) (refl, opening_says kind.Sccrp avps b.0 sccrp_opens sound b.1)
 message_says kind.Scccn avps m sound h = subst (λ (x : Message). (number_of x ≡ 3) × SaysMessage avps x) (ok_same h) (refl, tt)
+message_says kind.Hello avps m sound h = subst (λ (x : Message). (number_of x ≡ 6) × SaysMessage avps x) (ok_same h) (refl, tt)
 message_says kind.Icrq avps m sound h = icrq_says avps m sound h
 message_says kind.Icrp avps m sound h = icrp_says avps m sound h
 message_says kind.Iccn avps m sound h = iccn_says avps m sound h
+message_says kind.Cdn avps m sound h = cdn_says avps m sound h
 
 says_message : (avps : List Avp) (m : Message) → SaysMessage avps m → of_kind (message_kind m) avps ≡ Ok m
 says_message avps (Sccrq o) h = rw (says_opening avps o h) refl
 says_message avps (Sccrp o) h = rw (says_opening avps o h) refl
 says_message avps Scccn h = refl
+says_message avps Hello h = refl
 says_message avps (Icrq session serial calling) h = says_icrq avps session serial calling h
 says_message avps (Icrp session) h = says_icrp avps session h
 says_message avps (Iccn speed framing sequenced) h = says_iccn avps speed framing sequenced h
+says_message avps (Cdn session result error) h = says_cdn avps session result error h
 
 message_good : (avps : List Avp) (m : Message) → SaysMessage avps m → AllByRecursion (IsGood avps) (uses_of (message_kind m))
 message_good avps (Sccrq o) h = opening_good avps o h
 message_good avps (Sccrp o) h = opening_good avps o h
 message_good avps Scccn h = tt
+message_good avps Hello h = tt
 message_good avps (Icrq session serial calling) h = icrq_good avps session serial calling h
 message_good avps (Icrp session) h = icrp_good avps session h
 message_good avps (Iccn speed framing sequenced) h = iccn_good avps speed framing sequenced h
+message_good avps (Cdn session result error) h = cdn_good avps session result error h
 
 message_made : (k : Kind) (avps : List Avp) → IsSound k avps → Made k avps (of_kind k avps)
 message_made kind.Sccrq avps sound = made_of kind.Sccrq avps (opening_at avps) Sccrq (opening_made kind.Sccrq avps sccrq_opens sound)
 message_made kind.Sccrp avps sound = made_of kind.Sccrp avps (opening_at avps) Sccrp (opening_made kind.Sccrp avps sccrp_opens sound)
 message_made kind.Scccn avps sound = inl (Scccn, refl, tt)
+message_made kind.Hello avps sound = inl (Hello, refl, tt)
 message_made kind.Icrq avps sound = icrq_made avps sound
 message_made kind.Icrp avps sound = icrp_made avps sound
 message_made kind.Iccn avps sound = iccn_made avps sound
+message_made kind.Cdn avps sound = cdn_made avps sound
 
 -- ---- the type
 

@@ -4,7 +4,7 @@ use Rattle.std.specs.List.{AllByRecursion}
 use Rattle.byteorder.specs.Endian.{big_number}
 use Rattle.avp_codec.specs.declared.avp.Avp.{Avp}
 use Rattle.control_message.specs.declared.message.Message.{Message}
-use Rattle.control_message.specs.declared.message.Message.TheVariants.{Sccrq, Sccrp, Scccn, Icrq, Icrp, Iccn}
+use Rattle.control_message.specs.declared.message.Message.TheVariants.{Sccrq, Sccrp, Scccn, Hello, Icrq, Icrp, Iccn, Cdn}
 use Rattle.control_message.specs.declared.message.Opening.{Opening}
 use Rattle.control_message.specs.declared.message.Failover.{Failover}
 use Rattle.control_message.specs.declared.message.Read.{Read}
@@ -72,6 +72,18 @@ pub record HasFailover (f : Failover) (avps : List Avp) : Type 0 where
   pub flags : big_number 2 value ≡ f.flags
   pub time : big_number 4 (drop 2 value) ≡ f.time
 
+-- Error Code: two bytes behind the result, then any text; there is none where the result is all
+abbrev pub HasErrorCode : List ℕ → Option ℕ → Type 0
+HasErrorCode value None = length value ≡ 2
+HasErrorCode value (Some x) = (4 ≤ length value) × (big_number 2 (drop 2 value) ≡ x)
+
+-- Result Code: two bytes of result, then Error Code where it is told (RFC 2661 section 4.4.2)
+pub record HasResultCode (code : ℕ) (error : Option ℕ) (avps : List Avp) : Type 0 where
+  pub value : List ℕ
+  pub has : HasValue 1 value avps
+  pub result : big_number 2 value ≡ code
+  pub error_code : HasErrorCode value error
+
 -- ---- messages
 
 -- Receive Window Size, which is 4 where it isn't told
@@ -115,22 +127,31 @@ pub record SaysIccn (avps : List Avp) (bits bearer : ℕ) (asked : Bool) : Type 
   pub framing : HasNumber 19 4 bearer avps
   pub sequenced : SaysSequenced avps asked
 
+-- An Assigned Session ID of 0 is good here: a call may be refused by an end that has assigned none.
+pub record SaysCdn (avps : List Avp) (id code : ℕ) (error : Option ℕ) : Type 0 where
+  pub result : HasResultCode code error avps
+  pub session : HasNumber 14 2 id avps
+
 abbrev pub SaysMessage : List Avp → Message → Type 0
 SaysMessage avps (Sccrq o) = SaysOpening avps o
 SaysMessage avps (Sccrp o) = SaysOpening avps o
 SaysMessage avps Scccn = ⊤
+SaysMessage avps Hello = ⊤
 SaysMessage avps (Icrq session serial calling) = SaysIcrq avps session serial calling
 SaysMessage avps (Icrp session) = SaysIcrp avps session
 SaysMessage avps (Iccn speed framing sequenced) = SaysIccn avps speed framing sequenced
+SaysMessage avps (Cdn session result error) = SaysCdn avps session result error
 
 -- the Message Type of each message
 abbrev pub number_of : Message → ℕ
 number_of (Sccrq o) = 1
 number_of (Sccrp o) = 2
 number_of Scccn = 3
+number_of Hello = 6
 number_of (Icrq session serial calling) = 10
 number_of (Icrp session) = 11
 number_of (Iccn speed framing sequenced) = 12
+number_of (Cdn session result error) = 14
 
 -- a message: its type, its values, and nothing unknown that is mandatory
 pub record SaysKnown (avps : List Avp) (m : Message) : Type 0 where

@@ -1,9 +1,9 @@
 -- The pairs of each message as it is written, and which messages have such a form.
-use Rattle.std.specs.Prelude.{◌≡◌, ℕ, ◌<◌, ◌≤◌, ◌^◌, true, false, List, [], ◌∷◌, ◌++◌, length, Option, Some, None, IsSomeAnd, ⊤}
+use Rattle.std.specs.Prelude.{◌≡◌, ℕ, ◌<◌, ◌≤◌, ◌^◌, true, false, List, [], ◌∷◌, ◌++◌, length, Option, Some, None, IsSomeAnd, IfSome, ⊤}
 use Rattle.wire_base.specs.Numbers.{u16_bytes, u32_bytes}
 use Rattle.avp_codec.specs.declared.avp.Avp.{Avp}
 use Rattle.control_message.specs.declared.message.Message.{Message}
-use Rattle.control_message.specs.declared.message.Message.TheVariants.{Sccrq, Sccrp, Scccn, Icrq, Icrp, Iccn}
+use Rattle.control_message.specs.declared.message.Message.TheVariants.{Sccrq, Sccrp, Scccn, Hello, Icrq, Icrp, Iccn, Cdn}
 use Rattle.control_message.specs.declared.message.Opening.{Opening}
 use Rattle.control_message.specs.declared.message.Failover.{Failover}
 
@@ -35,16 +35,24 @@ abbrev pub calling_pairs : Option (List ℕ) → List Avp
 calling_pairs None = []
 calling_pairs (Some v) = pair 22 v ∷ []
 
+-- Result Code: the result, then Error Code where it is told
+abbrev pub result_code_bytes : ℕ → Option ℕ → List ℕ
+result_code_bytes result None = u16_bytes result
+result_code_bytes result (Some error) = u16_bytes result ++ u16_bytes error
+
 abbrev pub pairs_of : Message → List Avp
 pairs_of (Sccrq o) = opening_pairs 1 o
 pairs_of (Sccrp o) = opening_pairs 2 o
 pairs_of Scccn = pair 0 (u16_bytes 3) ∷ []
+pairs_of Hello = pair 0 (u16_bytes 6) ∷ []
 -- Assigned Session ID, Call Serial Number
 pairs_of (Icrq session serial calling) = pair 0 (u16_bytes 10) ∷ pair 14 (u16_bytes session) ∷ pair 15 (u32_bytes serial) ∷ calling_pairs calling
 -- Assigned Session ID
 pairs_of (Icrp session) = pair 0 (u16_bytes 11) ∷ pair 14 (u16_bytes session) ∷ []
 -- Connect Speed, Framing Type
 pairs_of (Iccn speed framing sequenced) = pair 0 (u16_bytes 12) ∷ pair 24 (u32_bytes speed) ∷ pair 19 (u32_bytes framing) ∷ []
+-- Result Code, Assigned Session ID
+pairs_of (Cdn session result error) = pair 0 (u16_bytes 14) ∷ pair 1 (result_code_bytes result error) ∷ pair 14 (u16_bytes session) ∷ []
 
 -- version 1.0, no id or window that is 0, a name that fits into a pair, and the failover capability told
 pub record IsWrittenOpening (o : Opening) : Type 0 where
@@ -62,6 +70,8 @@ abbrev pub IsWritten : Message → Type 0
 IsWritten (Sccrq o) = IsWrittenOpening o
 IsWritten (Sccrp o) = IsWrittenOpening o
 IsWritten Scccn = ⊤
+IsWritten Hello = ⊤
 IsWritten (Icrq session serial calling) = (session < 2 ^ 16) × (serial < 2 ^ 32) × IsSomeAnd calling (λ v. length v ≤ 1017)
 IsWritten (Icrp session) = (session < 2 ^ 16) × (0 < session)
 IsWritten (Iccn speed framing sequenced) = (speed < 2 ^ 32) × (framing < 2 ^ 32) × (sequenced ≡ false)
+IsWritten (Cdn session result error) = (session < 2 ^ 16) × (result < 2 ^ 16) × IfSome error (λ x. x < 2 ^ 16)

@@ -7,7 +7,7 @@ use Rattle.control_message.specs.declared.kind.Kind.{Kind}
 use Rattle.control_message.specs.declared.kind.Kind.TheVariants as kind
 use Rattle.control_message.specs.declared.kind.Shape.{Shape}
 use Rattle.control_message.specs.declared.message.Message.{Message}
-use Rattle.control_message.specs.declared.message.Message.TheVariants.{Sccrq, Sccrp, Scccn, Icrq, Icrp, Iccn}
+use Rattle.control_message.specs.declared.message.Message.TheVariants.{Sccrq, Sccrp, Scccn, Hello, Icrq, Icrp, Iccn, Cdn}
 use Rattle.control_message.specs.declared.message.Opening.{Opening}
 use Rattle.control_message.specs.declared.message.Failover.{Failover}
 use Rattle.control_message.specs.declared.message.Read.{Read}
@@ -151,6 +151,22 @@ iccn_at avps = do
   speed ← u32_at 24 avps
   Ok (Iccn speed framing (is_some (first 39 avps)))
 
+-- Result Code: the result, then Error Code where it is told, then any text
+abbrev pub result_code_in : List ℕ → Result (ℕ × Option ℕ) MessageError
+result_code_in value =
+    if length value == 2 then Ok (big_number 2 value, None)
+    else if nat_le 4 (length value) then Ok (big_number 2 value, Some (big_number 2 (drop 2 value)))
+    else Err (BadValue 1)
+
+unfoldable pub result_code_at : List Avp → Result (ℕ × Option ℕ) MessageError
+result_code_at avps = value_at 1 avps >>= λ v. result_code_in v
+
+unfoldable pub cdn_at : List Avp → Result Message MessageError
+cdn_at avps = do
+  code ← result_code_at avps
+  session ← u16_at 14 avps
+  Ok (Cdn session code.0 code.1)
+
 -- ---- messages
 
 -- a message of a kind
@@ -158,9 +174,11 @@ abbrev pub of_kind : Kind → List Avp → Result Message MessageError
 of_kind kind.Sccrq avps = opening_at avps >>= λ o. Ok (Sccrq o)
 of_kind kind.Sccrp avps = opening_at avps >>= λ o. Ok (Sccrp o)
 of_kind kind.Scccn avps = Ok Scccn
+of_kind kind.Hello avps = Ok Hello
 of_kind kind.Icrq avps = icrq_at avps
 of_kind kind.Icrp avps = icrp_at avps
 of_kind kind.Iccn avps = iccn_at avps
+of_kind kind.Cdn avps = cdn_at avps
 
 -- the number of a Message Type
 abbrev pub type_number : Avp → Result ℕ MessageError

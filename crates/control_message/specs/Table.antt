@@ -1,10 +1,10 @@
 -- The table of messages and attributes (RFC 2661 sections 3.2, 4.4 and 6, RFC 4951 section 5).
-use Rattle.std.specs.Prelude.{ℕ, ◌==◌, ◌&&◌, not, Bool, true, List, [], ◌∷◌, length, find, Option, option_map}
+use Rattle.std.specs.Prelude.{ℕ, ◌==◌, ◌&&◌, ◌||◌, nat_le, not, Bool, true, List, [], ◌∷◌, length, find, Option, option_map}
 use Rattle.byteorder.specs.Endian.{big_number}
 use Rattle.control_message.specs.declared.kind.Kind.{Kind}
-use Rattle.control_message.specs.declared.kind.Kind.TheVariants.{Sccrq, Sccrp, Scccn, Icrq, Icrp, Iccn}
+use Rattle.control_message.specs.declared.kind.Kind.TheVariants.{Sccrq, Sccrp, Scccn, Hello, Icrq, Icrp, Iccn, Cdn}
 use Rattle.control_message.specs.declared.kind.Shape.{Shape}
-use Rattle.control_message.specs.declared.kind.Shape.TheVariants.{Text, Short, Nonzero, Long, ShortLong}
+use Rattle.control_message.specs.declared.kind.Shape.TheVariants.{Text, Short, Nonzero, Long, ShortLong, ResultCode}
 
 -- what stands beside a number in a table
 abbrev pub look_up : {V : Type 0} → ℕ → List (ℕ × V) → Option V
@@ -12,7 +12,7 @@ look_up {V} n rows = option_map (λ (row : ℕ × V). row.1) (find (λ (row : �
 
 -- the Message Types that are known
 abbrev pub kinds : List (ℕ × Kind)
-kinds = (1, Sccrq) ∷ (2, Sccrp) ∷ (3, Scccn) ∷ (10, Icrq) ∷ (11, Icrp) ∷ (12, Iccn) ∷ []
+kinds = (1, Sccrq) ∷ (2, Sccrp) ∷ (3, Scccn) ∷ (6, Hello) ∷ (10, Icrq) ∷ (11, Icrp) ∷ (12, Iccn) ∷ (14, Cdn) ∷ []
 
 -- the kind that a number names
 abbrev pub kind_of : ℕ → Option Kind
@@ -27,21 +27,26 @@ abbrev pub uses_of : Kind → List (ℕ × Shape)
 uses_of Sccrq = opening_uses
 uses_of Sccrp = opening_uses
 uses_of Scccn = []
+uses_of Hello = []
 -- Assigned Session ID, Call Serial Number, Calling Number
 uses_of Icrq = (14, Short) ∷ (15, Long) ∷ (22, Text) ∷ []
 -- Assigned Session ID
 uses_of Icrp = (14, Nonzero) ∷ []
 -- Framing Type, Connect Speed, Sequencing Required
 uses_of Iccn = (19, Long) ∷ (24, Long) ∷ (39, Text) ∷ []
+-- Result Code, Assigned Session ID
+uses_of Cdn = (1, ResultCode) ∷ (14, Short) ∷ []
 
 -- those that it needs, in order
 abbrev pub needs_of : Kind → List ℕ
 needs_of Sccrq = 2 ∷ 3 ∷ 7 ∷ 9 ∷ []
 needs_of Sccrp = 2 ∷ 3 ∷ 7 ∷ 9 ∷ []
 needs_of Scccn = []
+needs_of Hello = []
 needs_of Icrq = 14 ∷ 15 ∷ []
 needs_of Icrp = 14 ∷ []
 needs_of Iccn = 19 ∷ 24 ∷ []
+needs_of Cdn = 1 ∷ 14 ∷ []
 
 -- the shape of an attribute's value in a message of a kind, where it uses the attribute
 abbrev pub shape_of : Kind → ℕ → Option Shape
@@ -54,3 +59,4 @@ fits Short value = length value == 2
 fits Nonzero value = length value == 2 && not (big_number 2 value == 0)
 fits Long value = length value == 4
 fits ShortLong value = length value == 6
+fits ResultCode value = length value == 2 || nat_le 4 (length value)

@@ -2,6 +2,8 @@
 
 pub const MESSAGE_TYPE: u16 = 0;
 
+pub const RESULT_CODE: u16 = 1;
+
 pub const PROTOCOL_VERSION: u16 = 2;
 
 pub const FRAMING_CAPABILITIES: u16 = 3;

@@ -5,7 +5,8 @@ ghost use Rattle.control_message.specs.Table.{kind_of, shape_of, fits};
 
 use crate::attribute::{
     ASSIGNED_SESSION, ASSIGNED_TUNNEL, CALL_SERIAL_NUMBER, CALLING_NUMBER, CONNECT_SPEED, FAILOVER,
-    FRAMING_CAPABILITIES, FRAMING_TYPE, HOST_NAME, PROTOCOL_VERSION, SEQUENCING_REQUIRED, WINDOW,
+    FRAMING_CAPABILITIES, FRAMING_TYPE, HOST_NAME, PROTOCOL_VERSION, RESULT_CODE,
+    SEQUENCING_REQUIRED, WINDOW,
 };
 use wire_base::take_u16;
 
@@ -16,11 +17,15 @@ pub const SCCRP: u16 = 2;
 
 pub const SCCCN: u16 = 3;
 
+pub const HELLO: u16 = 6;
+
 pub const ICRQ: u16 = 10;
 
 pub const ICRP: u16 = 11;
 
 pub const ICCN: u16 = 12;
+
+pub const CDN: u16 = 14;
 
 /// The kind of a control message.
 #[derive(Clone, Copy, Debug, PartialEq, Eq)]
@@ -28,9 +33,11 @@ pub enum Kind {
     Sccrq,
     Sccrp,
     Scccn,
+    Hello,
     Icrq,
     Icrp,
     Iccn,
+    Cdn,
 }
 
 /// The shape of an attribute's value.
@@ -46,6 +53,8 @@ pub enum Shape {
     Long,
     /// A number in two bytes, then a number in four.
     ShortLong,
+    /// A number in two bytes, then nothing, or another in two and any bytes behind it (RFC 2661 section 4.4.2).
+    ResultCode,
 }
 
 impl Kind {
@@ -57,9 +66,11 @@ impl Kind {
             SCCRQ => Some(Kind::Sccrq),
             SCCRP => Some(Kind::Sccrp),
             SCCCN => Some(Kind::Scccn),
+            HELLO => Some(Kind::Hello),
             ICRQ => Some(Kind::Icrq),
             ICRP => Some(Kind::Icrp),
             ICCN => Some(Kind::Iccn),
+            CDN => Some(Kind::Cdn),
             _ => None,
         }
     }
@@ -78,7 +89,7 @@ impl Kind {
                 FAILOVER => Some(Shape::ShortLong),
                 _ => None,
             },
-            Kind::Scccn => None,
+            Kind::Scccn | Kind::Hello => None,
             Kind::Icrq => match attribute {
                 ASSIGNED_SESSION => Some(Shape::Short),
                 CALL_SERIAL_NUMBER => Some(Shape::Long),
@@ -93,6 +104,11 @@ impl Kind {
                 FRAMING_TYPE => Some(Shape::Long),
                 CONNECT_SPEED => Some(Shape::Long),
                 SEQUENCING_REQUIRED => Some(Shape::Text),
+                _ => None,
+            },
+            Kind::Cdn => match attribute {
+                RESULT_CODE => Some(Shape::ResultCode),
+                ASSIGNED_SESSION => Some(Shape::Short),
                 _ => None,
             },
         }
@@ -110,6 +126,7 @@ impl Shape {
             Shape::Nonzero => value.len() == 2 && !matches!(take_u16(value, 0), Ok(0)),
             Shape::Long => value.len() == 4,
             Shape::ShortLong => value.len() == 6,
+            Shape::ResultCode => value.len() == 2 || 4 <= value.len(),
         }
     }
 }

@@ -13,6 +13,3 @@ pub use finding::assigned_tunnel;
 pub use message::{Failover, Message, MessageError, Opening, Read};
 pub use reading::{read_message, reads_what_was_written};
 pub use writing::{has_room, write_message};
-
-#[cfg(test)]
-mod tests;

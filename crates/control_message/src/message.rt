@@ -14,6 +14,8 @@ pub enum Message {
     Sccrp(Opening),
     /// Start-Control-Connection-Connected, which ends the set-up.
     Scccn,
+    /// Hello, which asks whether the peer is still there.
+    Hello,
     /// Incoming-Call-Request, which announces a call: Assigned Session ID, by which its maker wants it to be addressed,
     /// Call Serial Number, and Calling Number, where it is told.
     Icrq {
@@ -31,6 +33,14 @@ pub enum Message {
         speed: u32,
         framing: u32,
         sequenced: bool,
+    },
+    /// Call-Disconnect-Notify, which ends a call: Assigned Session ID of its maker, which is 0 where it has assigned
+    /// none, and Result Code, with its Error Code where that is told (RFC 2661 section 4.4.2). A text behind them is
+    /// passed over as it is read.
+    Cdn {
+        session: u16,
+        result: u16,
+        error: Option<u16>,
     },
 }
 

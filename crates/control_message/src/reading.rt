@@ -11,11 +11,11 @@ ghost use Rattle.control_message.specs.declared.message.MessageError.{MessageErr
 ghost use Rattle.control_message.specs.Grammar.{Says};
 ghost use Rattle.control_message.specs.Faults.{IsFault, IsToldFault};
 ghost use Rattle.control_message.specs.Pairs.{pairs_of, IsWritten};
-ghost use Rattle.control_message.specs.Reading.{Told, value_at, u16_at, u32_at, window_at, failover_value, failover_at, opening_at, calling_at, icrq_at, icrp_at, iccn_at, of_kind, type_number, message_of};
+ghost use Rattle.control_message.specs.Reading.{Told, value_at, u16_at, u32_at, window_at, failover_value, failover_at, opening_at, calling_at, icrq_at, icrp_at, iccn_at, result_code_in, result_code_at, cdn_at, of_kind, type_number, message_of};
 
 use crate::attribute::{
     ASSIGNED_SESSION, ASSIGNED_TUNNEL, CALL_SERIAL_NUMBER, CALLING_NUMBER, CONNECT_SPEED, FAILOVER,
-    FRAMING_CAPABILITIES, FRAMING_TYPE, HOST_NAME, MESSAGE_TYPE, PROTOCOL_VERSION,
+    FRAMING_CAPABILITIES, FRAMING_TYPE, HOST_NAME, MESSAGE_TYPE, PROTOCOL_VERSION, RESULT_CODE,
     SEQUENCING_REQUIRED, WINDOW,
 };
 use crate::checking::check_all;
@@ -171,6 +171,48 @@ fn iccn_of(avps: &[Avp]) -> Result<Message, MessageError>
     })
 }
 
+/// The result and the Error Code in the value of a Result Code (RFC 2661 section 4.4.2).
+fn result_code_in(value: &[u8]) -> Result<(u16, Option<u16>), MessageError>
+    ensures { result ≡ result_code_in value.now }
+{
+    let bad = MessageError::BadValue {
+        attribute: RESULT_CODE,
+    };
+    let Ok(code) = take_u16(value, 0) else {
+        return Err(bad);
+    };
+    if value.len() == 2 {
+        return Ok((code, None));
+    }
+    match take_u16(value, 2) {
+        Ok(error) => Ok((code, Some(error))),
+        Err(_) => Err(bad),
+    }
+}
+
+/// Result Code.
+#[tactic(auto, unfolding(crate::specs::Reading::result_code_at))]
+fn result_code_of(avps: &[Avp]) -> Result<(u16, Option<u16>), MessageError>
+    ensures { result ≡ result_code_at avps.now }
+{
+    let value = value_of(avps, RESULT_CODE)?;
+    result_code_in(value)
+}
+
+/// Call-Disconnect-Notify.
+#[tactic(auto, unfolding(crate::specs::Reading::cdn_at))]
+fn cdn_of(avps: &[Avp]) -> Result<Message, MessageError>
+    ensures { result ≡ cdn_at avps.now }
+{
+    let (result, error) = result_code_of(avps)?;
+    let session = u16_of(avps, ASSIGNED_SESSION)?;
+    Ok(Message::Cdn {
+        session,
+        result,
+        error,
+    })
+}
+
 /// The message of a kind that the pairs make.
 fn message_of_kind(alloc: Global, kind: Kind, avps: &[Avp]) -> Result<Message, MessageError>
     ensures { Gives Told (λ m. m) result (of_kind kind avps.now) }
@@ -185,9 +227,11 @@ fn message_of_kind(alloc: Global, kind: Kind, avps: &[Avp]) -> Result<Message, M
             Ok(Message::Sccrp(opening))
         }
         Kind::Scccn => Ok(Message::Scccn),
+        Kind::Hello => Ok(Message::Hello),
         Kind::Icrq => icrq_of(alloc, avps),
         Kind::Icrp => icrp_of(avps),
         Kind::Iccn => iccn_of(avps),
+        Kind::Cdn => cdn_of(avps),
     }
 }
 

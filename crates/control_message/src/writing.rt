@@ -5,14 +5,15 @@ ghost use Rattle.std.specs.Option.{ForSome};
 ghost use Rattle.wire_base.specs.Numbers.{u16_bytes, u32_bytes};
 ghost use Rattle.avp_codec.specs.Spelling.{spelling, spelling_of};
 ghost use Rattle.control_message.specs.declared.message.Message.{Message};
-ghost use Rattle.control_message.specs.declared.message.Message.TheVariants.{Icrq};
-ghost use Rattle.control_message.specs.Pairs.{pair, pairs_of, opening_pairs, failover_pairs, calling_pairs, IsWritten};
+ghost use Rattle.control_message.specs.declared.message.Message.TheVariants.{Icrq, Cdn};
+ghost use Rattle.control_message.specs.Pairs.{pair, pairs_of, opening_pairs, failover_pairs, calling_pairs, result_code_bytes, IsWritten};
 
 use crate::attribute::{
     ASSIGNED_SESSION, ASSIGNED_TUNNEL, CALL_SERIAL_NUMBER, CALLING_NUMBER, CONNECT_SPEED, FAILOVER,
-    FRAMING_CAPABILITIES, FRAMING_TYPE, HOST_NAME, MESSAGE_TYPE, PROTOCOL_VERSION, WINDOW,
+    FRAMING_CAPABILITIES, FRAMING_TYPE, HOST_NAME, MESSAGE_TYPE, PROTOCOL_VERSION, RESULT_CODE,
+    WINDOW,
 };
-use crate::kind::{ICCN, ICRP, ICRQ, SCCCN, SCCRP, SCCRQ};
+use crate::kind::{CDN, HELLO, ICCN, ICRP, ICRQ, SCCCN, SCCRP, SCCRQ};
 use crate::message::{Failover, Message, Opening};
 use avp_codec::{Avp, write_avp};
 use wire_base::{Bytes, NoMemory, put_u16, put_u32};
@@ -124,6 +125,27 @@ fn put_icrq(
     Ok(())
 }
 
+/// Appends Result Code, with its Error Code where that is told.
+fn put_result_code(out: &mut Bytes, code: u16, error: Option<u16>) -> Result<(), NoMemory>
+    ensures { OnOk result (out.new ≡ out.old ++ spelling_of (pair RESULT_CODE (result_code_bytes code error))) }
+{
+    let mut value = Bytes::new(out.allocator());
+    put_u16(&mut value, code)?;
+    if let Some(error) = error {
+        put_u16(&mut value, error)?;
+    }
+    put_pair(out, RESULT_CODE, value)
+}
+
+/// Appends the pairs of a Call-Disconnect-Notify.
+fn put_cdn(out: &mut Bytes, session: u16, code: u16, error: Option<u16>) -> Result<(), NoMemory>
+    ensures { OnOk result (out.new ≡ out.old ++ spelling (pairs_of (Cdn session code error))) }
+{
+    put_short(out, MESSAGE_TYPE, CDN)?;
+    put_result_code(out, code, error)?;
+    put_short(out, ASSIGNED_SESSION, session)
+}
+
 /// Appends the pairs of a message.
 fn put_message(out: &mut Bytes, message: &Message) -> Result<(), NoMemory>
     requires { IsWritten message.now }
@@ -133,6 +155,7 @@ fn put_message(out: &mut Bytes, message: &Message) -> Result<(), NoMemory>
         Message::Sccrq(opening) => put_opening(out, SCCRQ, opening),
         Message::Sccrp(opening) => put_opening(out, SCCRP, opening),
         Message::Scccn => put_short(out, MESSAGE_TYPE, SCCCN),
+        Message::Hello => put_short(out, MESSAGE_TYPE, HELLO),
         Message::Icrq {
             session,
             serial,
@@ -147,6 +170,11 @@ fn put_message(out: &mut Bytes, message: &Message) -> Result<(), NoMemory>
             put_long(out, CONNECT_SPEED, *speed)?;
             put_long(out, FRAMING_TYPE, *framing)
         }
+        Message::Cdn {
+            session,
+            result,
+            error,
+        } => put_cdn(out, *session, *result, *error),
     }
 }
 
