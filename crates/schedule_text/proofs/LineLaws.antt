@@ -13,9 +13,9 @@ use Rattle.hex.specs.Hex.{decode_of, encode_lower}
 use Rattle.hex.specs.declared.error.FromHexError.{FromHexError}
 use Rattle.hex.proofs.HexLemmas.{decode_of-encode_lower, decode_of-ok}
 use Rattle.schedule_text.specs.declared.line.Line.{Line}
-use Rattle.schedule_text.specs.declared.line.Line.TheVariants.{Remark, Lac, Lns, OpenUp, Ring, FromSub, Down, Deliver}
-use Rattle.schedule_text.specs.Grammar.{call_text, line_text, IsPrintable, IsNode, IsPort, IsSession, IsFrame, IsPacket, FitsLine}
-use Rattle.schedule_text.specs.Reading.{◌>>=◌, cut, node_of, port_of, session_of, packet_of, frame_from, frame_of, lac_of, lns_of, open_of, ring_of, call_of, from_sub_of, down_of, deliver_of, plain_of, words_of, is_printable, remark_of, line_of}
+use Rattle.schedule_text.specs.declared.line.Line.TheVariants.{Remark, Lac, Lns, OpenUp, Ring, FromSub, Down, Deliver, Tick}
+use Rattle.schedule_text.specs.Grammar.{call_text, line_text, IsPrintable, IsNode, IsPort, IsSession, IsFrame, IsPacket, IsMilliseconds, FitsLine}
+use Rattle.schedule_text.specs.Reading.{◌>>=◌, cut, node_of, port_of, session_of, packet_of, milliseconds_of, frame_from, frame_of, lac_of, lns_of, open_of, ring_of, call_of, from_sub_of, down_of, deliver_of, tick_of, plain_of, words_of, is_printable, remark_of, line_of}
 use Rattle.schedule_text.proofs.Numbers.{own, number_found, number_again}
 
 -- ---- parts
@@ -78,6 +78,9 @@ session_found n word e = let f = number_found 1 65535 n word (omega arith) e in 
 
 packet_found : (n : ℕ) (word : List ℕ) → packet_of word ≡ Some n → (word ≡ decimal n) × IsPacket n
 packet_found n word e = let f = number_found 1 4294967295 n word (omega arith) e in (f.0, (f.1, f.2))
+
+milliseconds_found : (n : ℕ) (word : List ℕ) → milliseconds_of word ≡ Some n → (word ≡ decimal n) × IsMilliseconds n
+milliseconds_found n word e = let f = number_found 0 86400000 n word (omega arith) e in (f.0, f.2)
 
 -- words that were cut, joined again by a space
 cut_words : (words word rest : List ℕ) (n : ℕ) → cut 32 words ≡ Some (word, rest) → word ≡ decimal n → words ≡ decimal n ++ 32 ∷ rest
@@ -208,6 +211,18 @@ deliver_found words l e =
     let spelled : IsSpelled (Deliver packet) (codes "deliver " ++ words) = (p.1, ap (λ t. codes "deliver " ++ t) p.0) in
     subst (λ x. IsSpelled x (codes "deliver " ++ words)) (same_Some (Deliver packet) l hp) spelled)
 
+tick_found : (words : List ℕ) (l : Line) → tick_of words ≡ Some l → IsSpelled l (codes "tick " ++ words)
+unfolding tick_of
+tick_found words l e =
+    bound (cut 32 words) _ l e (λ a ea ha.
+    bound (node_of a.0) _ l ha (λ node en hn.
+    bound (milliseconds_of a.1) _ l hn (λ milliseconds em hm.
+    let n = node_found node a.0 en in
+    let m = milliseconds_found milliseconds a.1 em in
+    let tail : words ≡ decimal node ++ 32 ∷ decimal milliseconds = cut_words words a.0 a.1 node ea n.0 ∙ ap (λ t. decimal node ++ 32 ∷ t) m.0 in
+    let spelled : IsSpelled (Tick node milliseconds) (codes "tick " ++ words) = ((n.1, m.1), rw tail (simp append_assoc)) in
+    subst (λ x. IsSpelled x (codes "tick " ++ words)) (same_Some (Tick node milliseconds) l hm) spelled)))
+
 -- a kind's own line, where the words are behind its word
 kind_spelled : (kind name words : List ℕ) (l : Line) → bytes_eq kind name ≡ true → IsSpelled l (name ++ 32 ∷ words) → IsSpelled l (kind ++ 32 ∷ words)
 kind_spelled kind name words l e h = subst (λ k. IsSpelled l (k ++ 32 ∷ words)) (sym (same_text kind name e)) h
@@ -229,7 +244,10 @@ plain_found kind words l e =
             | inl a ↦ kind_spelled kind (codes "ring") words l a.0 (ring_found words l a.1)
             | inr e4 ↦ elim (either (bytes_eq kind (codes "deliver")) (deliver_of words) _ l e4) [
               | inl a ↦ kind_spelled kind (codes "deliver") words l a.0 (deliver_found words l a.1)
-              | inr e5 ↦ absurd (none-some l e5)
+              | inr e5 ↦ elim (either (bytes_eq kind (codes "tick")) (tick_of words) _ l e5) [
+                | inl a ↦ kind_spelled kind (codes "tick") words l a.0 (tick_found words l a.1)
+                | inr e6 ↦ absurd (none-some l e6)
+              ]
             ]
           ]
         ]
@@ -302,6 +320,10 @@ ring_again : (node port : ℕ) → IsNode node → IsPort port → ring_of (deci
 unfolding ring_of
 ring_again node port n p = rw (node_cut node (decimal port) n, node_again node n, number_again 1 65535 port (omega arith) p.0 p.1) refl
 
+tick_again : (node milliseconds : ℕ) → IsNode node → IsMilliseconds milliseconds → tick_of (decimal node ++ 32 ∷ decimal milliseconds) ≡ Some (Tick node milliseconds)
+unfolding tick_of
+tick_again node milliseconds n m = rw (node_cut node (decimal milliseconds) n, node_again node n, number_again 0 86400000 milliseconds (omega arith) (omega arith) m) refl
+
 frame_again : (frame : List ℕ) → IsFrame frame → frame_of (encode_lower frame) ≡ Some frame
 unfolding frame_of
 frame_again frame h =
@@ -342,3 +364,6 @@ line_again (Ring node port) h =
 line_again (FromSub node session frame) h = from_sub_again node session frame h.0 h.1 h.2
 line_again (Down node session frame) h = down_again node session frame h.0 h.1 h.2
 line_again (Deliver packet) h = rw (number_again 1 4294967295 packet (omega arith) h.0 h.1) refl
+line_again (Tick node milliseconds) h =
+    let regrouped : decimal node ++ codes " " ++ decimal milliseconds ≡ decimal node ++ 32 ∷ decimal milliseconds = simp append_assoc in
+    ap tick_of regrouped ∙ tick_again node milliseconds h.0 h.1

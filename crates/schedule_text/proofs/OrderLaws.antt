@@ -7,7 +7,7 @@ use Rattle.std.proofs.lemmas.List.Sums.{sum_by-cons, sum_by_push, sum_by-append}
 use Rattle.std.proofs.lemmas.List.{append-nil, length-append}
 use Rattle.std.proofs.lemmas.List.Folds.{list_any_at}
 use Rattle.schedule_text.specs.declared.line.Line.{Line}
-use Rattle.schedule_text.specs.declared.line.Line.TheVariants.{Remark, Lac, Lns, OpenUp, Ring, FromSub, Down, Deliver}
+use Rattle.schedule_text.specs.declared.line.Line.TheVariants.{Remark, Lac, Lns, OpenUp, Ring, FromSub, Down, Deliver, Tick}
 use Rattle.schedule_text.specs.Grammar.{is_lac, is_lns, is_open, is_ring, IsOrderly}
 use Rattle.schedule_text.specs.Reading.{declares, may_follow, kept_from}
 
@@ -60,6 +60,7 @@ declares_is n (Ring m k) e = absurd (true≢false (sym e))
 declares_is n (FromSub m k t) e = absurd (true≢false (sym e))
 declares_is n (Down m k t) e = absurd (true≢false (sym e))
 declares_is n (Deliver m) e = absurd (true≢false (sym e))
+declares_is n (Tick m k) e = absurd (true≢false (sym e))
 
 declared_found : (n : ℕ) (xs : List Line) → list_any (declares n) xs ≡ true → Contains xs (Lns n)
 declared_found n [] e = absurd (true≢false (sym e))
@@ -121,6 +122,7 @@ orderly_more before (Remark t) h e = same_rules before (Remark t) h refl refl re
 orderly_more before (FromSub node session frame) h e = same_rules before (FromSub node session frame) h refl refl refl refl
 orderly_more before (Down node session frame) h e = same_rules before (Down node session frame) h refl refl refl refl
 orderly_more before (Deliver p) h e = same_rules before (Deliver p) h refl refl refl refl
+orderly_more before (Tick node milliseconds) h e = same_rules before (Tick node milliseconds) h refl refl refl refl
 orderly_more before (Lac node lns) h e =
     let l : Line = Lac node lns in
     let p = and_parts (not (list_any is_lac before)) (list_any (declares lns) before) e in
@@ -165,6 +167,7 @@ may_again before (Remark t) h = refl
 may_again before (FromSub node session frame) h = refl
 may_again before (Down node session frame) h = refl
 may_again before (Deliver p) h = refl
+may_again before (Tick node milliseconds) h = refl
 may_again before (Lac node lns) h =
     and_from _ _ (not_from_false _ (no_other is_lac before (Lac node lns) refl h.one_lac)) (declared_again lns before (h.declared before [] node lns refl))
 may_again before (Lns node) h = not_from_false _ (no_other is_lns before (Lns node) refl h.one_lns)

@@ -6,7 +6,7 @@ use Rattle.std.proofs.lemmas.Bool.{not-true, true≢false, or_left, or_right}
 use Rattle.std.proofs.lemmas.List.Folds.{list_any-append}
 use Rattle.std.proofs.lemmas.List.{at_drop_more, at_drop_all, take_more}
 use Rattle.schedule_text.specs.declared.line.Line.{Line}
-use Rattle.schedule_text.specs.declared.line.Line.TheVariants.{Remark, Lac, Lns, OpenUp, Ring, FromSub, Down, Deliver}
+use Rattle.schedule_text.specs.declared.line.Line.TheVariants.{Remark, Lac, Lns, OpenUp, Ring, FromSub, Down, Deliver, Tick}
 use Rattle.schedule_text.specs.declared.rules.Seen.{Seen}
 use Rattle.schedule_text.specs.Grammar.{is_lac, is_lns, is_open, is_ring}
 use Rattle.schedule_text.specs.Reading.{declares, may_follow, kept_from, kept_of}
@@ -43,6 +43,7 @@ allows_is before seen (Remark t) h = refl
 allows_is before seen (FromSub node session frame) h = refl
 allows_is before seen (Down node session frame) h = refl
 allows_is before seen (Deliver p) h = refl
+allows_is before seen (Tick node milliseconds) h = refl
 allows_is before seen (Lac node lns) h = rw (h.lac, h.named lns) refl
 allows_is before seen (Lns node) h = none_is seen.lns ∙ ap not h.lns
 allows_is before seen (OpenUp node) h = rw h.opened refl
@@ -64,6 +65,7 @@ saw_more before seen (Remark t) h e = saw_same before seen (Remark t) h refl ref
 saw_more before seen (FromSub node session frame) h e = saw_same before seen (FromSub node session frame) h refl refl refl refl (λ n. refl)
 saw_more before seen (Down node session frame) h e = saw_same before seen (Down node session frame) h refl refl refl refl (λ n. refl)
 saw_more before seen (Deliver p) h e = saw_same before seen (Deliver p) h refl refl refl refl (λ n. refl)
+saw_more before seen (Tick node milliseconds) h e = saw_same before seen (Tick node milliseconds) h refl refl refl refl (λ n. refl)
 saw_more before seen (Lac node lns) h e =
     let l : Line = Lac node lns in
     record {

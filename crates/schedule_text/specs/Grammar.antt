@@ -4,7 +4,7 @@ use Rattle.std.specs.List.{flat_map, AllByRecursion}
 use Rattle.std.specs.Fmt.{decimal}
 use Rattle.hex.specs.Hex.{encode_lower, IsBytes}
 use Rattle.schedule_text.specs.declared.line.Line.{Line}
-use Rattle.schedule_text.specs.declared.line.Line.TheVariants.{Remark, Lac, Lns, OpenUp, Ring, FromSub, Down, Deliver}
+use Rattle.schedule_text.specs.declared.line.Line.TheVariants.{Remark, Lac, Lns, OpenUp, Ring, FromSub, Down, Deliver, Tick}
 use Rattle.schedule_text.specs.declared.error.ScheduleError.{ScheduleError}
 use Rattle.schedule_text.specs.declared.error.ScheduleError.TheVariants.{BadLine, NoMemory}
 
@@ -22,6 +22,7 @@ line_text (Ring node port) = codes "ring " ++ decimal node ++ codes " " ++ decim
 line_text (FromSub node session frame) = codes "data " ++ call_text node session frame
 line_text (Down node session frame) = codes "down " ++ call_text node session frame
 line_text (Deliver packet) = codes "deliver " ++ decimal packet
+line_text (Tick node milliseconds) = codes "tick " ++ decimal node ++ codes " " ++ decimal milliseconds
 
 -- a printable ASCII byte
 abbrev pub IsPrintable : ℕ → Type 0
@@ -43,6 +44,10 @@ IsFrame frame = (2 ≤ length frame) × (length frame ≤ 1494) × IsBytes frame
 abbrev pub IsPacket : ℕ → Type 0
 IsPacket n = (1 ≤ n) × (n ≤ 4294967295)
 
+-- how far a clock goes on at once, in milliseconds: a day at most
+abbrev pub IsMilliseconds : ℕ → Type 0
+IsMilliseconds n = n ≤ 86400000
+
 -- which lines have a spelling
 abbrev pub FitsLine : Line → Type 0
 FitsLine (Remark text) = AllByRecursion IsPrintable text
@@ -53,6 +58,7 @@ FitsLine (Ring node port) = IsNode node × IsPort port
 FitsLine (FromSub node session frame) = IsNode node × IsSession session × IsFrame frame
 FitsLine (Down node session frame) = IsNode node × IsSession session × IsFrame frame
 FitsLine (Deliver packet) = IsPacket packet
+FitsLine (Tick node milliseconds) = IsNode node × IsMilliseconds milliseconds
 
 abbrev pub AreLines : List Line → Type 0
 AreLines lines = AllByRecursion FitsLine lines

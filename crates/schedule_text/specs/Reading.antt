@@ -6,7 +6,7 @@ use Rattle.std.specs.Str.Parse.{digits_value}
 use Rattle.hex.specs.Hex.{decode_of, encode_lower}
 use Rattle.hex.specs.declared.error.FromHexError.{FromHexError}
 use Rattle.schedule_text.specs.declared.line.Line.{Line}
-use Rattle.schedule_text.specs.declared.line.Line.TheVariants.{Remark, Lac, Lns, OpenUp, Ring, FromSub, Down, Deliver}
+use Rattle.schedule_text.specs.declared.line.Line.TheVariants.{Remark, Lac, Lns, OpenUp, Ring, FromSub, Down, Deliver, Tick}
 use Rattle.schedule_text.specs.declared.error.ScheduleError.{ScheduleError}
 use Rattle.schedule_text.specs.declared.error.ScheduleError.TheVariants.{BadLine, NoMemory}
 use Rattle.schedule_text.specs.Grammar.{is_lac, is_lns, is_open, is_ring}
@@ -66,6 +66,9 @@ session_of word = number_of 1 65535 word
 abbrev pub packet_of : List ℕ → Option ℕ
 packet_of word = number_of 1 4294967295 word
 
+abbrev pub milliseconds_of : List ℕ → Option ℕ
+milliseconds_of word = number_of 0 86400000 word
+
 -- what a word was decoded to, where it has the length of a frame; the word is its spelling, so no letter is upper case
 abbrev pub frame_from : List ℕ → Result (List ℕ) FromHexError → Option (List ℕ)
 frame_from word (Ok frame) =
@@ -111,6 +114,10 @@ down_of words = call_of words >>= λ call. frame_of call.2 >>= λ frame. Some (D
 unfoldable pub deliver_of : List ℕ → Option Line
 deliver_of words = packet_of words >>= λ packet. Some (Deliver packet)
 
+unfoldable pub tick_of : List ℕ → Option Line
+tick_of words =
+    cut 32 words >>= λ first. node_of first.0 >>= λ node. milliseconds_of first.1 >>= λ milliseconds. Some (Tick node milliseconds)
+
 -- the line of a kind that holds no bytes
 unfoldable pub plain_of : List ℕ → List ℕ → Option Line
 plain_of kind words =
@@ -119,6 +126,7 @@ plain_of kind words =
     else if bytes_eq kind (codes "open") then open_of words
     else if bytes_eq kind (codes "ring") then ring_of words
     else if bytes_eq kind (codes "deliver") then deliver_of words
+    else if bytes_eq kind (codes "tick") then tick_of words
     else None
 
 unfoldable pub words_of : List ℕ → List ℕ → Option Line

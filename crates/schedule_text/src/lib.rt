@@ -11,6 +11,3 @@ mod rules;
 pub use error::ScheduleError;
 pub use line::{Line, Lines};
 pub use reading::{lines_are_a_schedule, read_schedule};
-
-#[cfg(test)]
-mod tests;

@@ -44,6 +44,11 @@ pub enum Line {
     Deliver {
         packet: u32,
     },
+    /// A node's clock goes on by so many milliseconds, from 0 to 86,400,000, and then ticks.
+    Tick {
+        node: u8,
+        milliseconds: u32,
+    },
 }
 
 /// A list of lines, in their order.

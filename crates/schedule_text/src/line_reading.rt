@@ -2,7 +2,7 @@
 
 ghost use Rattle.std.specs.Prelude.{◌≡◌, MatchOption, IfOk, Ok, Some, None};
 ghost use Rattle.std.specs.List.{list_all};
-ghost use Rattle.schedule_text.specs.Reading.{lac_of, lns_of, open_of, ring_of, call_of, from_sub_of, down_of, deliver_of, plain_of, words_of, is_printable, line_of, node_of, port_of, session_of, packet_of, frame_from, frame_of};
+ghost use Rattle.schedule_text.specs.Reading.{lac_of, lns_of, open_of, ring_of, call_of, from_sub_of, down_of, deliver_of, tick_of, plain_of, words_of, is_printable, line_of, node_of, port_of, session_of, packet_of, frame_from, frame_of};
 
 use crate::line::Line;
 use crate::parts::{read_number, split_once};
@@ -159,6 +159,17 @@ fn read_deliver(words: &[u8]) -> Option<Line>
     Some(Line::Deliver { packet })
 }
 
+/// `N MS`, behind `tick `.
+#[tactic(auto, unfolding(crate::specs::Reading::tick_of))]
+fn read_tick(words: &[u8]) -> Option<Line>
+    ensures { result ≡ tick_of words.now }
+{
+    let (node, milliseconds) = split_once(words, b' ')?;
+    let node = read_node(node)?;
+    let milliseconds = read_number(milliseconds, 0, 86_400_000)?;
+    Some(Line::Tick { node, milliseconds })
+}
+
 /// The line of a kind that holds no bytes, by the words behind that of the kind.
 #[tactic(auto, unfolding(crate::specs::Reading::plain_of))]
 fn read_plain(kind: &[u8], words: &[u8]) -> Option<Line>
@@ -174,6 +185,8 @@ fn read_plain(kind: &[u8], words: &[u8]) -> Option<Line>
         read_ring(words)
     } else if kind == b"deliver".as_slice() {
         read_deliver(words)
+    } else if kind == b"tick".as_slice() {
+        read_tick(words)
     } else {
         None
     }

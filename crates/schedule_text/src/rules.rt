@@ -21,8 +21,11 @@ impl Seen {
         ensures { result ≡ allows self.now line.now }
     {
         match line {
-            Line::Remark { .. } | Line::FromSub { .. } | Line::Down { .. } | Line::Deliver { .. } =>
-                true,
+            Line::Remark { .. }
+            | Line::FromSub { .. }
+            | Line::Down { .. }
+            | Line::Deliver { .. }
+            | Line::Tick { .. } => true,
             Line::Lac { lns, .. } => !self.lac && self.lns == Some(*lns),
             Line::Lns { .. } => self.lns.is_none(),
             Line::OpenUp { .. } => !self.opened,
@@ -35,8 +38,11 @@ impl Seen {
         ensures { self.new ≡ seen_with self.old line.now }
     {
         match line {
-            Line::Remark { .. } | Line::FromSub { .. } | Line::Down { .. } | Line::Deliver { .. } =>
-                {}
+            Line::Remark { .. }
+            | Line::FromSub { .. }
+            | Line::Down { .. }
+            | Line::Deliver { .. }
+            | Line::Tick { .. } => {}
             Line::Lac { .. } => self.lac = true,
             Line::Lns { node } => self.lns = Some(*node),
             Line::OpenUp { .. } => self.opened = true,
