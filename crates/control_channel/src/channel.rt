@@ -4,10 +4,12 @@ ghost use Rattle.std.specs.Prelude.{◌≡◌, ◌<◌, ◌≤◌, ◌↔◌, �
 ghost use Rattle.send_window.specs.Window.{next_given, next_unsent, Holds, HoldsRepeated};
 ghost use Rattle.send_window.specs.Outbox.{letter_at};
 ghost use Rattle.recv_window.specs.Window.{on_wire};
+ghost use Rattle.control_channel.specs.Parts.{numbers_of};
 ghost use Rattle.control_channel.specs.Channel.{opened_at, reserved, sent_into, received, class_told, taken_by, next_to_go, let_go_at, answer_to_tick, ticked_at, nr_of, frozen_so, reset_at, learnt_by};
 
+use crate::numbers::ChannelNumbers;
 use recv_window::{Class, Inbox};
-use send_window::{Outbox, PutError, SendWindow, Tick};
+use send_window::{LIMIT, Letters, PutError, SendWindow, Tick};
 use std::alloc::Global;
 use std::marker::Model;
 use wire_base::{Letter, NoMemory};
@@ -17,17 +19,20 @@ use wire_base::{Letter, NoMemory};
 /// has passed.
 #[derive(Drop)]
 pub struct Channel {
-    outbox: Outbox,
-    inbox: Inbox,
-    frozen: bool,
+    letters: Letters,
+    numbers: ChannelNumbers,
 }
 
 impl Model for Channel {
+    ghost use Rattle.std.specs.Prelude.{◌≡◌, length};
     ghost use Rattle.control_channel.specs.Channel.{Channel as Known};
+    ghost use Rattle.control_channel.specs.Parts.{joined};
 
     ghost Value = { Known };
 
-    ghost view = { λ c. record { outbox = c.outbox; inbox = c.inbox; frozen = c.frozen } };
+    ghost view = { λ c. joined c.numbers c.letters };
+
+    ghost invariant = { λ c. length c.letters.letters ≡ c.numbers.window.queued };
 }
 
 impl Channel {
@@ -38,9 +43,8 @@ impl Channel {
         ensures { result ≡ opened_at send_from expect window }
     {
         Channel {
-            outbox: Outbox::new(alloc, send_from, window),
-            inbox: Inbox::new(expect),
-            frozen: false,
+            letters: Letters::new(alloc),
+            numbers: ChannelNumbers::new(send_from, expect, window),
         }
     }
 
@@ -50,7 +54,7 @@ impl Channel {
         ensures err { OnErr result (self.new ≡ self.old) }
         ensures there { count ≤ self.old.outbox.spare → IsOk result }
     {
-        self.outbox.reserve(count)
+        self.letters.reserve(count)
     }
 
     /// Gives a letter to the channel; it takes the next number. `pump` tells when it goes out. Where it isn't taken, the
@@ -62,7 +66,15 @@ impl Channel {
         ensures room { 0 < self.old.outbox.spare → self.old.outbox.window.queued < 8192 → IsOk result }
         ensures limit { (n : ℕ) → result ≡ Err (PutError.QueueFull n) → n ≡ 8192 }
     {
-        self.outbox.put(letter)
+        if self.numbers.is_full() {
+            return Err(PutError::QueueFull { limit: LIMIT });
+        }
+        if self.letters.reserve(1).is_err() {
+            return Err(PutError::NoMemory);
+        }
+        self.letters.put(letter);
+        self.numbers.put();
+        Ok(())
     }
 
     /// A message of the other end: its Nr acknowledges letters, which go. Then its Ns tells what it is; None where it is
@@ -71,19 +83,16 @@ impl Channel {
         ensures class { result ≡ class_told self.old ns empty }
         ensures value { self.new ≡ received self.old nr now }
     {
-        self.outbox.ack(nr, now);
-        if empty {
-            None
-        } else {
-            Some(self.inbox.classify(ns))
-        }
+        let count = self.numbers.ack(nr, now);
+        self.letters.drop_first(count);
+        self.numbers.classify(ns, empty)
     }
 
     /// Counts the message that was expected as taken.
     pub fn take(&mut self)
         ensures { self.new ≡ taken_by self.old }
     {
-        self.inbox.take();
+        self.numbers.take();
     }
 
     /// The number of the next letter that the window lets go, which is outstanding from then on; None where nothing is
@@ -93,10 +102,7 @@ impl Channel {
         ensures value { self.new ≡ let_go_at self.old now }
         ensures there { IfSome result (λ n. Holds self.new.outbox.window n) }
     {
-        if self.frozen {
-            return None;
-        }
-        self.outbox.pump(now)
+        self.numbers.pump(now)
     }
 
     /// What is due at a moment: nothing, one repetition, or the failure of the channel. A letter is repeated 1, 2, 4, 8
@@ -106,10 +112,15 @@ impl Channel {
         ensures value { self.new ≡ ticked_at self.old now }
         ensures there { HoldsRepeated self.new.outbox.window result }
     {
-        if self.frozen {
-            return Tick::Quiet;
-        }
-        self.outbox.tick(now)
+        self.numbers.tick(now)
+    }
+
+    /// The numbers without the letters: a copy, on which a step can be planned.
+    pub fn numbers(&self) -> ChannelNumbers
+        ensures value { result ≡ numbers_of self.now }
+        ensures same { length self.now.outbox.letters ≡ self.now.outbox.window.queued }
+    {
+        self.numbers
     }
 
     /// The numbers of the letters alone, with the window and the timer: a copy, on which a step can be tried out. It knows
@@ -118,14 +129,14 @@ impl Channel {
         ensures value { result ≡ self.now.outbox.window }
         ensures same { length self.now.outbox.letters ≡ self.now.outbox.window.queued }
     {
-        self.outbox.window()
+        self.numbers.window
     }
 
     /// The number that is expected of the other end: a copy, on which a step can be tried out.
     pub fn inbox(&self) -> Inbox
         ensures { result ≡ self.now.inbox }
     {
-        self.inbox
+        self.numbers.inbox
     }
 
     /// The letter with a number that is unacknowledged or unsent.
@@ -133,7 +144,10 @@ impl Channel {
         requires { Holds self.now.outbox.window number }
         ensures { letter_at self.now.outbox number ≡ Some result.now }
     {
-        self.outbox.letter(number)
+        let Some(letter) = self.letters.get(self.numbers.place(number)) else {
+            unreachable!()
+        };
+        letter
     }
 
     /// Ns and Nr of a message with a number, as they stand on the wire. An acknowledgement without a message has the number
@@ -142,14 +156,14 @@ impl Channel {
         ensures ns { result.0 ≡ on_wire number }
         ensures nr { result.1 ≡ nr_of self.now }
     {
-        ((number % 65536) as u16, self.inbox.expected())
+        self.numbers.wire(number)
     }
 
     /// Nothing is let go and nothing is due from now on, until the channel is reset.
     pub fn freeze(&mut self)
         ensures { self.new ≡ frozen_so self.old }
     {
-        self.frozen = true;
+        self.numbers.freeze();
     }
 
     /// Forgets all letters: the next one given has the number `send_from`, and `expect` is expected of the other end. The
@@ -157,9 +171,8 @@ impl Channel {
     pub fn reset_to(&mut self, send_from: u16, expect: u16)
         ensures { self.new ≡ reset_at self.old send_from expect }
     {
-        self.outbox.reset(send_from);
-        self.inbox.reset(expect);
-        self.frozen = false;
+        self.letters.clear();
+        self.numbers.reset_to(send_from, expect);
     }
 
     /// Sets the peer's window, in letters, and the threshold to it; a congestion window above it is lowered to it.
@@ -167,35 +180,35 @@ impl Channel {
         requires { 0 < window }
         ensures { self.new ≡ learnt_by self.old window }
     {
-        self.outbox.learn_window(window);
+        self.numbers.learn_window(window);
     }
 
     /// The number of the next letter to be given.
     pub fn sent_count(&self) -> u64
         ensures { result ≡ next_given self.now.outbox.window }
     {
-        self.outbox.sent_count()
+        self.numbers.sent_count()
     }
 
     /// The number that is expected next of the other end: those below it were taken.
     pub fn taken_count(&self) -> u64
         ensures { result ≡ self.now.inbox.taken }
     {
-        self.inbox.taken_count()
+        self.numbers.taken_count()
     }
 
     /// The number of the first letter that isn't acknowledged, or of the next one to be given.
     pub fn acked_count(&self) -> u64
         ensures { result ≡ self.now.outbox.window.acked }
     {
-        self.outbox.acked_count()
+        self.numbers.acked_count()
     }
 
     /// The number of the first letter that was never on the wire, or of the next one to be given.
     pub fn next_unsent(&self) -> u64
         ensures { result ≡ next_unsent self.now.outbox.window }
     {
-        self.outbox.next_unsent()
+        self.numbers.next_unsent()
     }
 
     /// How many letters are unacknowledged or unsent; at most 8,192.
@@ -203,13 +216,13 @@ impl Channel {
         ensures value { result ≡ length self.now.outbox.letters }
         ensures few { result ≤ 8192 }
     {
-        self.outbox.queued()
+        self.numbers.queued()
     }
 
     /// Whether the channel is frozen.
     pub fn is_frozen(&self) -> bool
         ensures { result ≡ self.now.frozen }
     {
-        self.frozen
+        self.numbers.is_frozen()
     }
 }

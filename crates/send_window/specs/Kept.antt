@@ -1,5 +1,5 @@
 -- What an outbox keeps.
-use Rattle.std.specs.Prelude.{◌≡◌, ℕ, ◌+◌, ◌≤◌, List}
+use Rattle.std.specs.Prelude.{ℕ, ◌≤◌, List}
 use Rattle.wire_base.specs.declared.letter.Letter.{Letter}
 use Rattle.send_window.specs.declared.congestion.Congestion.{Congestion}
 use Rattle.send_window.specs.Congestion.{IsOpen}
@@ -28,7 +28,3 @@ pub record IsBounded (queued : ℕ) (outstanding : ℕ) (congestion : Congestion
   pub there : outstanding ≤ queued
   pub sound : IsOpen congestion
   pub counted : repetitions ≤ 5
-
-pub record HasRoom (count : ℕ) (queued : ℕ) (spare : ℕ) (capacity : ℕ) : Type 0 where
-  pub same : count ≡ queued
-  pub room : count + spare ≤ capacity

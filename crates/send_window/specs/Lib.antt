@@ -1,5 +1,6 @@
 pub mod Congestion
 pub mod Kept
+pub mod Queue
 pub mod Window
 pub mod Outbox
 pub mod Whole

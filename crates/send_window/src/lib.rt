@@ -5,12 +5,14 @@
 ghost use Rattle.send_window.specs.History.{EachCallIsAStep, LendsByNumber, KeepsTheRest};
 
 mod congestion;
+mod letters;
 mod outbox;
 mod window;
 
 pub use congestion::Congestion;
+pub use letters::Letters;
 pub use outbox::{Outbox, PutError};
-pub use window::{SendWindow, Tick};
+pub use window::{LIMIT, SendWindow, Tick};
 
 /// Each call is a step of the whole list of letters, whose numbers have no end: it answers as the whole list does, and
 /// after every history of calls the outbox keeps the rest of it, from the first unacknowledged letter on.
@@ -19,6 +21,3 @@ pub fn keeps_the_rest()
     ensures lends { LendsByNumber }
     ensures run { KeepsTheRest }
 {}
-
-#[cfg(test)]
-mod tests;

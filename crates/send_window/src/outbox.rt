@@ -4,9 +4,9 @@ ghost use Rattle.std.specs.Prelude.{◌≡◌, ◌<◌, ◌≤◌, ◌↔◌, �
 ghost use Rattle.send_window.specs.Window.{count_acked, next_to_go, answer_to_tick, next_unsent, next_given, Holds, HoldsRepeated};
 ghost use Rattle.send_window.specs.Outbox.{emptied, reserved, put_into, acked_at, let_go_at, ticked_at, reset_at, learnt_by, letter_at};
 
+use crate::letters::Letters;
 use crate::window::{LIMIT, SendWindow, Tick};
 use std::alloc::Global;
-use std::collections::VecDeque;
 use std::marker::Model;
 use wire_base::{Letter, NoMemory};
 
@@ -22,21 +22,19 @@ pub enum PutError {
 /// The letters of a channel that are unacknowledged or unsent, with their numbers, the window and the timer.
 #[derive(Drop)]
 pub struct Outbox {
-    letters: VecDeque<Letter>,
+    letters: Letters,
     window: SendWindow,
-    spare: usize,
 }
 
 impl Model for Outbox {
-    ghost use Rattle.std.specs.Prelude.{length};
-    ghost use Rattle.std.specs.VecDeque.{deque_capacity};
-    ghost use Rattle.send_window.specs.Kept.{Kept, HasRoom};
+    ghost use Rattle.std.specs.Prelude.{◌≡◌, length};
+    ghost use Rattle.send_window.specs.Kept.{Kept};
 
     ghost Value = { Kept };
 
-    ghost view = { λ o. record { letters = o.letters.items; window = o.window; spare = o.spare } };
+    ghost view = { λ o. record { letters = o.letters.letters; window = o.window; spare = o.letters.spare } };
 
-    ghost invariant = { λ o. HasRoom (length o.letters.items) o.window.queued o.spare (deque_capacity o.letters) };
+    ghost invariant = { λ o. length o.letters.letters ≡ o.window.queued };
 }
 
 impl Outbox {
@@ -47,9 +45,8 @@ impl Outbox {
         ensures { result ≡ emptied first window }
     {
         Outbox {
-            letters: VecDeque::new(alloc),
+            letters: Letters::new(alloc),
             window: SendWindow::new(first, window),
-            spare: 0,
         }
     }
 
@@ -59,9 +56,7 @@ impl Outbox {
         ensures err { OnErr result (self.new ≡ self.old) }
         ensures there { count ≤ self.old.spare → IsOk result }
     {
-        self.letters.try_reserve(count)?;
-        self.spare = self.spare.max(count);
-        Ok(())
+        self.letters.reserve(count)
     }
 
     /// Gives a letter to the channel; it takes the next number. Where it isn't taken, the outbox is as before.
@@ -75,14 +70,12 @@ impl Outbox {
         if self.window.is_full() {
             return Err(PutError::QueueFull { limit: LIMIT });
         }
-        match self.letters.push_back(letter) {
-            Ok(()) => {
-                self.window.put();
-                self.spare = self.spare.saturating_sub(1);
-                Ok(())
-            }
-            Err(_) => Err(PutError::NoMemory),
+        if self.letters.reserve(1).is_err() {
+            return Err(PutError::NoMemory);
         }
+        self.letters.put(letter);
+        self.window.put();
+        Ok(())
     }
 
     /// Takes the Nr of a message of the peer, and says how many letters it newly acknowledges. Their memory goes
@@ -92,18 +85,8 @@ impl Outbox {
         ensures value { self.new ≡ acked_at self.old nr now }
     {
         let count = self.window.ack(nr, now);
-        self.letters.drain(..count as usize);
-        self.give_back();
+        self.letters.drop_first(count as usize);
         count
-    }
-
-    // Gives the memory of an empty list back, where no room was made.
-    fn give_back(&mut self)
-        ensures { self.new ≡ self.old }
-    {
-        if self.letters.is_empty() && self.spare == 0 {
-            self.letters.shrink_to_fit();
-        }
     }
 
     /// The number of the next letter that the window lets go, which is outstanding from then on.
@@ -131,7 +114,6 @@ impl Outbox {
     {
         self.window.reset(first);
         self.letters.clear();
-        self.give_back();
     }
 
     /// Sets the peer's window, in letters, and the threshold to it; a congestion window above it is lowered to it.
@@ -155,8 +137,10 @@ impl Outbox {
         requires { Holds self.now.window number }
         ensures { letter_at self.now number ≡ Some result.now }
     {
-        let place = number.wrapping_sub(self.acked_count()) as usize;
-        &self.letters[place]
+        let Some(letter) = self.letters.get(self.window.place(number) as usize) else {
+            unreachable!()
+        };
+        letter
     }
 
     /// The number of the next letter to be given.

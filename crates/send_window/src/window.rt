@@ -1,13 +1,13 @@
 //! The numbers of a channel's letters, without the letters.
 
-ghost use Rattle.std.specs.Prelude.{◌≡◌, ◌<◌, ◌≤◌, ◌↔◌, nat_le, IsTrue, IfSome};
-ghost use Rattle.send_window.specs.Window.{opened_at, one_more, acked_at, count_acked, let_go_at, next_to_go, ticked_at, answer_to_tick, learnt_by, next_unsent, next_given, wait_after, Holds, HoldsRepeated};
+ghost use Rattle.std.specs.Prelude.{◌≡◌, ◌<◌, ◌≤◌, ◌↔◌, ◌-◌, nat_le, IsTrue, IfSome};
+ghost use Rattle.send_window.specs.Window.{opened_at, one_more, acked_at, count_acked, let_go_at, next_to_go, ticked_at, answer_to_tick, learnt_by, next_unsent, next_given, place_of, wait_after, Holds, HoldsRepeated};
 
 use crate::congestion::Congestion;
 use std::marker::Model;
 
 /// How many letters a channel may hold that are unacknowledged or unsent.
-pub(crate) const LIMIT: usize = 8192;
+pub const LIMIT: usize = 8192;
 
 /// How often a letter is repeated before the channel fails.
 const REPETITIONS: u8 = 5;
@@ -84,6 +84,7 @@ impl SendWindow {
         ensures count { result ≡ count_acked self.old nr }
         ensures value { self.new ≡ acked_at self.old nr now }
         ensures within { result ≤ self.old.queued }
+        ensures left { self.new.queued ≡ self.old.queued - result }
     {
         let expected = (self.acked % 65536) as u16;
         let count = usize::from(nr.wrapping_sub(expected));
@@ -175,11 +176,18 @@ impl SendWindow {
         self.acked.wrapping_add(self.outstanding as u64)
     }
 
+    /// The place, from 0, of the letter with a number among those that are unacknowledged or unsent.
+    pub fn place(&self, number: u64) -> u64
+        ensures { result ≡ place_of self.now number }
+    {
+        number.wrapping_sub(self.acked)
+    }
+
     /// Whether the letter with a number is unacknowledged or unsent.
     pub fn holds(&self, number: u64) -> bool
         ensures { IsTrue result ↔ Holds self.now number }
     {
-        number.wrapping_sub(self.acked) < self.queued as u64
+        self.place(number) < self.queued as u64
     }
 
     /// How many letters are unacknowledged or unsent; at most 8,192.
@@ -188,6 +196,14 @@ impl SendWindow {
         ensures few { result ≤ 8192 }
     {
         self.queued
+    }
+
+    /// How many of them are on the wire.
+    pub fn outstanding(&self) -> usize
+        ensures value { result ≡ self.now.outstanding }
+        ensures there { result ≤ self.now.queued }
+    {
+        self.outstanding
     }
 }
 
