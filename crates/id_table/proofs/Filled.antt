@@ -171,6 +171,34 @@ module _ {X : Type 0} where
   filled-room k [] none = refl
   filled-room k (e ∷ es) none = room_by k e.0 e.1 es (filled-room k es) none (nat_cmp k e.0) refl
 
+  vacated_by : (k q : ℕ) (o : Option X) (es : List (ℕ × Option X)) → IsAbove q es → filled (insert_entry nat_cmp es k None) ≡ without (filled es) k → (r : Ordering) → nat_cmp k q ≡ r → filled (insert_entry nat_cmp ((q, o) ∷ es) k None) ≡ without (filled ((q, o) ∷ es)) k
+  unfolding without
+  vacated_by k q None es above ih Less h = rw h (sym (without-above k (filled es) (filled-above k es (lower k q es h above))))
+  vacated_by k q None es above ih Equal h = rw h (sym (without-above k (filled es) (filled-above k es (same k q es h above))))
+  vacated_by k q None es above ih Greater h = rw h ih
+  vacated_by k q (Some v) es above ih Less h = rw h (ap (λ t. (q, v) ∷ t) (sym (without-above k (filled es) (filled-above k es (lower k q es h above)))))
+  vacated_by k q (Some v) es above ih Equal h = rw h refl
+  vacated_by k q (Some v) es above ih Greater h = rw h (ap (λ t. (q, v) ∷ t) ih)
+
+  -- an id whose value is taken out, and whose room stays
+  pub filled-vacated : (k : ℕ) (es : List (ℕ × Option X)) → Ascends es → filled (insert_entry nat_cmp es k None) ≡ without (filled es) k
+  unfolding IsStrictlySortedBy
+  filled-vacated k [] s = sym (without-above k [] tt)
+  filled-vacated k (e ∷ es) s = vacated_by k e.0 e.1 es s.0 (filled-vacated k es s.1) (nat_cmp k e.0) refl
+
+  unused_by : (b : Bool) (e : ℕ × X) (x : Option X) (es fs : List (ℕ × X)) → cond b (Some e.1) x ≡ None → (x ≡ None → fs ≡ es) → cond b es (e ∷ fs) ≡ e ∷ es
+  unused_by true e x es fs none ih = absurd (none-some e.1 (sym none))
+  unused_by false e x es fs none ih = ap (λ t. e ∷ t) (ih none)
+
+  -- what is taken out of a list that hasn't it
+  pub without-unused : (k : ℕ) (es : List (ℕ × X)) → at es k ≡ None → without es k ≡ es
+  unfolding at without
+  without-unused k [] none = refl
+  without-unused k (e ∷ es) none = unused_by (is_at (nat_cmp k) e.0) e _ es _ none (without-unused k es)
+
+  pub unused_shown : (es fs : List (ℕ × X)) (k : ℕ) → at es k ≡ None → fs ≡ without es k → fs ≡ es
+  unused_shown es fs k none is = is ∙ without-unused k es none
+
   without_by : (k q : ℕ) (o : Option X) (es : List (ℕ × Option X)) → IsAbove q es → filled (remove_entry (is_at (nat_cmp k)) es) ≡ without (filled es) k → (r : Ordering) → nat_cmp k q ≡ r → filled (remove_entry (is_at (nat_cmp k)) ((q, o) ∷ es)) ≡ without (filled ((q, o) ∷ es)) k
   unfolding without
   without_by k q None es above ih Less h = rw h ih
@@ -220,6 +248,9 @@ module _ {X : Type 0} where
     pub room_shown : lookup (is_at (nat_cmp k)) es ≡ None → (fs : List (ℕ × Option X)) → fs ≡ insert_entry nat_cmp es k None → filled fs ≡ kept.entries
     room_shown none fs e = ap filled e ∙ filled-room k es none ∙ ap (λ t. t.entries) is
 
+    pub vacated_shown : Ascends es → (fs : List (ℕ × Option X)) → fs ≡ insert_entry nat_cmp es k None → filled fs ≡ without kept.entries k
+    vacated_shown s fs e = ap filled e ∙ filled-vacated k es s ∙ ap (λ t. without t.entries k) is
+
     pub without_shown : Ascends es → (fs : List (ℕ × Option X)) → fs ≡ remove_entry (is_at (nat_cmp k)) es → filled fs ≡ without kept.entries k
     without_shown s fs e = ap filled e ∙ filled-without k es s ∙ ap (λ t. without t.entries k) is
 
@@ -244,6 +275,17 @@ module _ {X : Type 0} where
 
     pub counted_less : Ascends es → (n m : ℕ) (b : Bool) (r : Option X) (fs : List (ℕ × Option X)) → n ≡ length (filled es) → r ≡ at kept.entries k → b ≡ is_some r → m ≡ from_bool b → fs ≡ remove_entry (is_at (nat_cmp k)) es → (m ≤ n) × (n - m ≡ length (filled fs))
     counted_less s n m b r fs count there t byte e = let sum = taken s n m b r fs count there t byte e in (omega (arith, sum), omega (arith, sum))
+
+    vacated : Ascends es → (n m : ℕ) (b : Bool) (r : Option X) (fs : List (ℕ × Option X)) → n ≡ length (filled es) → r ≡ at kept.entries k → b ≡ is_some r → m ≡ from_bool b → fs ≡ insert_entry nat_cmp es k None → length (filled fs) + m ≡ n
+    vacated s n m b r fs count there t byte e =
+        let old : is_some (at (filled es) k) ≡ b = ap (λ x. is_some (at x.entries k)) is ∙ sym (ap is_some there) ∙ sym t in
+        let less = length-without k (filled es) in
+        let one = byte ∙ removed b _ old in
+        let after = ap length (ap filled e ∙ filled-vacated k es s) in
+        omega (arith, count, less, one, after)
+
+    pub counted_vacated : Ascends es → (n m : ℕ) (b : Bool) (r : Option X) (fs : List (ℕ × Option X)) → n ≡ length (filled es) → r ≡ at kept.entries k → b ≡ is_some r → m ≡ from_bool b → fs ≡ insert_entry nat_cmp es k None → (m ≤ n) × (n - m ≡ length (filled fs))
+    counted_vacated s n m b r fs count there t byte e = let sum = vacated s n m b r fs count there t byte e in (omega (arith, sum), omega (arith, sum))
 
     pub found_from_room : Ascends es → HasRoom kept k → IsSome (lookup (is_at (nat_cmp k)) es)
     unfolding HasRoom
@@ -281,3 +323,7 @@ module _ {X : Type 0} where
   -- the ids with a value
   pub ids_shown : (kept : Kept X) (es : List (ℕ × Option X)) (is : List ℕ) → shown es ≡ kept → is ≡ map (λ e. e.0) (filter (λ e. is_some e.1) es) → is ≡ ids_of kept.entries
   ids_shown kept es is s e = e ∙ ids_listed es ∙ ap (λ t. ids_of t.entries) s
+
+  -- and they ascend
+  pub ids_ascend : (kept : Kept X) (es : List (ℕ × Option X)) (is : List ℕ) → shown es ≡ kept → Ascends es → is ≡ map (λ e. e.0) (filter (λ e. is_some e.1) es) → IsStrictlySortedBy nat_cmp is
+  ids_ascend kept es is shows s e = subst (λ ks. IsStrictlySortedBy nat_cmp ks) (sym (e ∙ ids_listed es)) (filled-ascends es s)
