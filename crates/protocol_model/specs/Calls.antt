@@ -1,5 +1,5 @@
 -- Calls, and what the data plane sees of them.
-use Rattle.std.specs.Prelude.{ℕ, List, [], ◌∷◌, ◌++◌, Bool, true, false, ◌==◌, not, nat_lt, bytes_eq, length, take, drop, if◌then◌else◌}
+use Rattle.std.specs.Prelude.{ℕ, List, [], ◌∷◌, ◌++◌, Bool, true, false, ◌==◌, not, nat_lt, bytes_eq, length, take, drop, ◌&&◌, if◌then◌else◌}
 use Rattle.wire_base.specs.declared.why.Why.{Why}
 use Rattle.wire_base.specs.declared.why.Why.TheVariants as why
 use Rattle.wire_base.specs.declared.letter.Side.{Side}
@@ -10,7 +10,7 @@ use Rattle.call_fsm.specs.declared.table.CallState.TheVariants.{Idle}
 use Rattle.call_fsm.specs.declared.table.CallEvent.{CallEvent}
 use Rattle.call_fsm.specs.declared.table.CallEvent.TheVariants.{Ring, IcrqAcc}
 use Rattle.call_fsm.specs.declared.table.CallAction.{CallAction}
-use Rattle.call_fsm.specs.declared.table.CallAction.TheVariants.{SendIcrq, SendIcrp, SendIccn}
+use Rattle.call_fsm.specs.declared.table.CallAction.TheVariants.{SendIcrq, SendIcrp, SendIccn, SendCdn}
 use Rattle.call_fsm.specs.Rows.{lac_rows, lns_rows, row_of, state_number}
 use Rattle.protocol_model.specs.declared.tunnel.Role.{Role}
 use Rattle.protocol_model.specs.declared.tunnel.Role.TheVariants.{Lac, Lns}
@@ -29,24 +29,24 @@ unfoldable pub call_row : Role → CallState → CallEvent → CallState × Call
 call_row Lac s e = row_of lac_rows s e
 call_row Lns s e = row_of lns_rows s e
 
--- the call goes to a state by an event
-abbrev pub gone_to : CallState → CallEvent → Call → Call
-gone_to next e c = record c { state = next; steps = c.steps ++ record { state = c.state; event = e; next = next } ∷ [] }
+-- the call goes to a state by an event, at a moment
+abbrev pub gone_to : CallState → CallEvent → ℕ → Call → Call
+gone_to next e moment c = record c { state = next; since = moment; steps = c.steps ++ record { state = c.state; event = e; next = next } ∷ [] }
 
 -- the call goes where its table says
-unfoldable pub advanced : Role → CallEvent → Call → Call
-advanced role e c = gone_to (call_row role c.state e).0 e c
+unfoldable pub advanced : Role → CallEvent → ℕ → Call → Call
+advanced role e moment c = gone_to (call_row role c.state e).0 e moment c
 
 -- a call that nothing came to yet
 abbrev pub idle_call : ℕ → ℕ → Call
-idle_call remote port = record { remote = remote; state = Idle; port = port; steps = [] }
+idle_call remote port = record { remote = remote; state = Idle; since = 0; port = port; steps = [] }
 
 -- a call that a port rings for, and one that the peer asks for
-unfoldable pub rung : Role → ℕ → Call
-rung role port = advanced role Ring (idle_call 0 port)
+unfoldable pub rung : Role → ℕ → ℕ → Call
+rung role port moment = advanced role Ring moment (idle_call 0 port)
 
-unfoldable pub asked_for : Role → ℕ → Call
-asked_for role remote = advanced role IcrqAcc (idle_call remote 0)
+unfoldable pub asked_for : Role → ℕ → ℕ → Call
+asked_for role remote moment = advanced role IcrqAcc moment (idle_call remote 0)
 
 abbrev pub is_request : CallAction → Bool
 is_request SendIcrq = true
@@ -60,8 +60,17 @@ abbrev pub is_connection : CallAction → Bool
 is_connection SendIccn = true
 is_connection a = false
 
+-- the peer is told that the call ends
+abbrev pub is_told : CallAction → Bool
+is_told SendCdn = true
+is_told a = false
+
 abbrev pub is_up : CallState → Bool
 is_up s = state_number s == 4
+
+-- it is neither idle nor established
+abbrev pub is_set_up : CallState → Bool
+is_set_up s = nat_lt 0 (state_number s) && nat_lt (state_number s) 4
 
 -- ---- frames that come
 

@@ -1,7 +1,9 @@
 -- An end's step.
-use Rattle.std.specs.Prelude.{ℕ, List, [], ◌∷◌, find, Bool, false, ◌&&◌, ◌==◌, if◌then◌else◌, Option, Some, None, option_map, Result, Ok, Err}
+use Rattle.std.specs.Prelude.{ℕ, List, [], ◌∷◌, ◌++◌, find, Bool, true, false, ◌&&◌, ◌==◌, if◌then◌else◌, Option, Some, None, option_map, Result, Ok, Err}
+use Rattle.std.specs.List.{flat_map}
 use Rattle.id_table.specs.Ids.{at, put, without, ids_of}
 use Rattle.id_source.specs.Spaces.{Space}
+use Rattle.wire_base.specs.declared.letter.Letter.{Letter}
 use Rattle.wire_base.specs.declared.why.Why.TheVariants as why
 use Rattle.l2tp_header.specs.declared.header.Header.{Header}
 use Rattle.l2tp_header.specs.declared.header.HeaderError.{HeaderError}
@@ -16,10 +18,11 @@ use Rattle.protocol_model.specs.declared.tunnel.Look.TheVariants as look
 use Rattle.protocol_model.specs.declared.tunnel.CellChange.{CellChange}
 use Rattle.protocol_model.specs.declared.tunnel.CellChange.TheVariants as cell
 use Rattle.protocol_model.specs.declared.tunnel.Config.{Config}
+use Rattle.protocol_model.specs.declared.tunnel.Control.{Control}
 use Rattle.protocol_model.specs.declared.tunnel.Role.{Role}
 use Rattle.protocol_model.specs.declared.tunnel.Role.TheVariants.{Lac, Lns}
 use Rattle.protocol_model.specs.declared.event.Event.{Event}
-use Rattle.protocol_model.specs.declared.event.Event.TheVariants.{Datagram, Ring, Payload, Lower, OpenTunnel}
+use Rattle.protocol_model.specs.declared.event.Event.TheVariants.{Datagram, Ring, Payload, Lower, OpenTunnel, Tick}
 use Rattle.protocol_model.specs.declared.out.Out.{Out}
 use Rattle.protocol_model.specs.declared.out.Out.TheVariants.{Up, Drop}
 use Rattle.protocol_model.specs.declared.moves.Move.{Move}
@@ -115,13 +118,18 @@ with_looks (c ∷ cs) places = with_looks cs (with_look c places)
 
 -- ---- turns of tunnels
 
--- a turn of the tunnel with this id, whose calls were these
-unfoldable pub after_turn : End → ℕ → List (ℕ × Call) → Turn → Stepped
-after_turn e i calls t = record {
+-- a turn of the tunnel with this id, whose letters and calls were these
+-- the tunnels with the one that a turn leaves, or without it
+abbrev pub tunnels_after : List (ℕ × Tunnel) → ℕ → Bool → Tunnel → List (ℕ × Tunnel)
+tunnels_after tunnels i true t = without tunnels i
+tunnels_after tunnels i false t = put tunnels i t
+
+unfoldable pub after_turn : End → ℕ → List Letter → List (ℕ × Call) → Turn → Stepped
+after_turn e i letters calls t = record {
   end = record e {
     tunnel_ids = t.tunnels;
     session_ids = t.sessions;
-    tunnels = put e.tunnels i (tunnel_after t calls);
+    tunnels = tunnels_after e.tunnels i t.cleared (tunnel_after t letters calls);
     calls = with_looks t.changes (placed t.control.local t.added e.calls);
   };
   outputs = t.outputs;
@@ -132,27 +140,84 @@ after_turn e i calls t = record {
 unfoldable pub after_new : End → Turn → Stepped
 after_new e t =
     if t.control.local == 0 then record { end = e; outputs = t.outputs; moves = t.moves }
-    else after_turn e t.control.local [] t
+    else after_turn e t.control.local [] [] t
 
 -- an event for a tunnel that is to be made to this peer
 unfoldable pub in_new : End → Env → Event → ℕ → Stepped
-in_new e env ev peer = after_new e (turns e.role e.config [] ev (turn_of (fresh peer) env))
+in_new e env ev peer = after_new e (turns e.role e.config [] [] ev (turn_of (fresh peer env.moment) env))
 
 -- an event for the tunnel with this id
 unfoldable pub in_main : End → Env → Event → ℕ → Option Tunnel → Stepped
 in_main e env ev i None = gives_only e (Drop why.Tunnel)
-in_main e env ev i (Some t) = after_turn e i t.calls (turns e.role e.config t.calls ev (turn_of t.control env))
+in_main e env ev i (Some t) = after_turn e i t.letters t.calls (turns e.role e.config t.letters t.calls ev (turn_of t.control env))
+
+-- ---- time
+
+-- a tunnel with its turn
+pub record Turned : Type 0 where
+  pub id : ℕ
+  pub tunnel : Tunnel
+  pub turn : Turn
+
+-- each tunnel by itself
+abbrev pub tick_of : End → Env → ℕ → Option Tunnel → List Turned
+tick_of e env i None = []
+tick_of e env i (Some t) = record { id = i; tunnel = t; turn = turns e.role e.config t.letters t.calls Tick (turn_of t.control env) } ∷ []
+
+unfoldable pub ticks_of : End → Env → List ℕ → List Turned
+ticks_of e env [] = []
+ticks_of e env (i ∷ is) = tick_of e env i (at e.tunnels i) ++ ticks_of e env is
+
+unfoldable pub end_after_all : List Turned → End → End
+end_after_all [] e = e
+end_after_all (t ∷ ts) e = end_after_all ts (after_turn e t.id t.tunnel.letters t.tunnel.calls t.turn).end
+
+unfoldable pub after_all : List Turned → End → Stepped
+after_all ts e = record { end = end_after_all ts e; outputs = flat_map (λ t. t.turn.outputs) ts; moves = flat_map (λ t. t.turn.moves) ts }
+
+-- by local ids
+unfoldable pub ticks_all : End → Env → Stepped
+ticks_all e env = after_all (ticks_of e env (ids_of e.tunnels)) e
 
 -- ---- which tunnel an event is for
+
+-- a tunnel to a peer that has assigned this id
+abbrev pub is_known : ℕ → ℕ → Option Tunnel → Bool
+is_known peer remote None = false
+is_known peer remote (Some t) = t.control.peer == peer && t.control.remote == remote
+
+unfoldable pub known_as : ℕ → ℕ → List (ℕ × Tunnel) → Option ℕ
+known_as peer remote tunnels = find (λ i. is_known peer remote (at tunnels i)) (ids_of tunnels)
+
+-- an SCCRQ that comes again is for the tunnel that it opened
+abbrev pub opened_before : ℕ → Option ℕ → Addressee
+opened_before remote None = Opens remote
+opened_before remote (Some i) = Main i
+
+unfoldable pub opens_once : End → ℕ → Addressee → Addressee
+opens_once e peer (Opens remote) = opened_before remote (known_as peer remote e.tunnels)
+opens_once e peer a = a
 
 -- what a control message is for
 unfoldable pub addressed : End → ℕ → Header → List ℕ → Addressee
 addressed e peer h body =
-    if h.tunnel == 0 then at_zero body
+    if h.tunnel == 0 then opens_once e peer (at_zero body)
     else at_tunnel peer h.tunnel (option_map (λ t. t.control.peer) (at e.tunnels h.tunnel))
 
+-- the tunnel that a datagram of a control message is for, where there is one
+unfoldable pub main_of : End → Addressee → Option Control
+main_of e (Main i) = option_map (λ t. t.control) (at e.tunnels i)
+main_of e a = None
+
+unfoldable pub reached_by : End → ℕ → List ℕ → Result Header HeaderError → Option Control
+reached_by e peer bytes (Err x) = None
+reached_by e peer bytes (Ok h) = if h.control then main_of e (addressed e peer h (body_of h bytes)) else None
+
+unfoldable pub reached : End → ℕ → List ℕ → Option Control
+reached e peer bytes = reached_by e peer bytes (header_of bytes)
+
 unfoldable pub for_addressee : End → Env → Event → ℕ → Addressee → Stepped
-for_addressee e env ev peer Opens = in_new e env ev peer
+for_addressee e env ev peer (Opens remote) = in_new e env ev peer
 for_addressee e env ev peer (Main i) = in_main e env ev i (at e.tunnels i)
 for_addressee e env ev peer (Nobody w) = gives_only e (Drop w)
 
@@ -214,6 +279,7 @@ step_in e env (Ring port) = only_by Lac e (rings_at e env (Ring port))
 step_in e env (Payload session frame) = only_by Lac e (gives_frame e env (Payload session frame) (at e.calls session))
 step_in e env (Lower session frame) = only_by Lns e (gives_frame e env (Lower session frame) (at e.calls session))
 step_in e env OpenTunnel = only_by Lac e (in_new e env OpenTunnel e.config.lns)
+step_in e env Tick = ticks_all e env
 
 -- a step at a moment, with a block of random bytes
 unfoldable pub step : End → ℕ → List ℕ → Event → Stepped

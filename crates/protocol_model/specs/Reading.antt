@@ -43,9 +43,10 @@ message_in body = pairs_read (avps_of body)
 
 -- ---- what a control message is for
 
--- at tunnel 0: an SCCRQ opens a tunnel, one that is faulty is ignored, and every other message is for none
+-- at tunnel 0: an SCCRQ opens a tunnel by the id that it assigns, one that is faulty is ignored, and every other message is
+-- for none
 unfoldable pub zero_read : Result Read MessageError → Addressee
-zero_read (Ok (Known (Sccrq o))) = Opens
+zero_read (Ok (Known (Sccrq o))) = Opens o.tunnel
 zero_read (Ok r) = Nobody why.Tunnel
 zero_read (Err NoType) = Nobody why.Tunnel
 zero_read (Err (UnknownType n)) = Nobody why.Tunnel

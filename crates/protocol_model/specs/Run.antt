@@ -10,6 +10,9 @@ use Rattle.tunnel_fsm.specs.Words.{state_word}
 use Rattle.tunnel_fsm.specs.declared.table.TunnelState.{TunnelState}
 use Rattle.tunnel_fsm.specs.Rows.{state_number}
 use Rattle.call_fsm.specs.Words as call_words
+use Rattle.control_channel.specs.Numbers.{next_given}
+use Rattle.protocol_model.specs.declared.refusal.Refusal.{Refusal}
+use Rattle.protocol_model.specs.declared.refusal.Refusal.TheVariants.{Unfit, HalfSpace}
 use Rattle.protocol_model.specs.declared.tunnel.Call.{Call}
 use Rattle.protocol_model.specs.declared.tunnel.Control.{Control}
 use Rattle.protocol_model.specs.Names.{node_of}
@@ -18,15 +21,15 @@ use Rattle.protocol_model.specs.Turn.{Tunnel}
 use Rattle.protocol_model.specs.Texts.{◌&◌, ended, Entry, entries_text}
 use Rattle.protocol_model.specs.World.{World, Node, Deed, Lined, empty_world, line, count_at}
 
--- a run, which ends at the first line that doesn't fit
+-- a run, which ends at the first line that is refused
 pub record Run : Type 0 where
   pub world : World
   -- the entries of its report, before the tables at the end
   pub entries : List Entry
   -- what its lines did
   pub done : List Deed
-  -- the number of the line that doesn't fit, and why it doesn't
-  pub fault : Option (ℕ × Why)
+  -- the number of the line that is refused, and why it is
+  pub fault : Option (ℕ × Refusal)
 
 abbrev pub empty_run : Run
 empty_run = record { world = empty_world; entries = []; done = []; fault = None }
@@ -34,7 +37,7 @@ empty_run = record { world = empty_world; entries = []; done = []; fault = None 
 abbrev pub after_line : Run → Lined → Run
 after_line r l = record r { world = l.world; entries = r.entries ++ l.entries; done = r.done ++ l.done }
 
-unfoldable pub goes_on : (Run → Run) → Run → ℕ → Result Lined Why → Run
+unfoldable pub goes_on : (Run → Run) → Run → ℕ → Result Lined Refusal → Run
 goes_on rest r number (Ok l) = rest (after_line r l)
 goes_on rest r number (Err x) = record r { fault = Some (number, x) }
 
@@ -96,7 +99,7 @@ unfoldable pub agree : ℕ → Control → Control → Bool
 agree n t u =
     is_established t.state && is_established u.state
     && u.remote == t.local && node_of u.peer == n
-    && u.channel.taken == t.channel.sent && t.channel.taken == u.channel.sent
+    && u.channel.inbox.taken == next_given t.channel && t.channel.inbox.taken == next_given u.channel
 
 abbrev pub is_session : Option Call → Bool
 is_session None = false
@@ -135,10 +138,19 @@ tables w = end_table w.nodes ++ agreement_table w.nodes
 unfoldable pub unfit_text : ℕ → Why → List ℕ
 unfit_text number x = codes "unfit line " ++ decimal number ++ codes ": " ++ why_word x ++ codes "\n"
 
--- the tables, or the text of the line that doesn't fit
-abbrev pub ending : World → Option (ℕ × Why) → List ℕ
+-- the line, and the number of the packet that is more than half of the numbers below what its tunnel counts
+unfoldable pub half_space_text : ℕ → ℕ → ℕ → List ℕ
+half_space_text line number count =
+    codes "half space line " ++ decimal line ++ codes ": number " ++ decimal number ++ codes ", at " ++ decimal count ++ codes "\n"
+
+unfoldable pub refusal_text : ℕ → Refusal → List ℕ
+refusal_text line (Unfit x) = unfit_text line x
+refusal_text line (HalfSpace number count) = half_space_text line number count
+
+-- the tables, or the text of the line that is refused
+abbrev pub ending : World → Option (ℕ × Refusal) → List ℕ
 ending w None = tables w
-ending w (Some f) = unfit_text f.0 f.1
+ending w (Some f) = refusal_text f.0 f.1
 
 -- the texts of the entries, and the ending
 unfoldable pub report_of : Run → List ℕ

@@ -38,6 +38,10 @@ unfoldable pub up_text : ℕ → ℕ → ℕ → ℕ → Side → List ℕ → L
 up_text line node session birth side frame =
     ended (decimal line & codes "up" & decimal node & decimal session & decimal birth & side_word side & encode_lower frame)
 
+-- a call ended: line, node, local session
+unfoldable pub gone_text : ℕ → ℕ → ℕ → List ℕ
+gone_text line node session = ended (decimal line & codes "gone" & decimal node & decimal session)
+
 -- ---- entries
 
 -- a line of the report, before the tables at its end
@@ -46,12 +50,14 @@ pub data Entry : Type 0 where
   Sends : (line packet from to : ℕ) (bytes : List ℕ) → Entry
   -- of a frame that a node hands up in a call, by its session and its birth
   HandsUp : (line node session birth : ℕ) (side : Side) (frame : List ℕ) → Entry
+  Ends : (line node session : ℕ) → Entry
   Drops : (line node : ℕ) (why : Why) → Entry
   Causes : (line node : ℕ) (cause : Cause) → Entry
 
 abbrev pub entry_text : Entry → List ℕ
 entry_text (Sends line packet from to bytes) = send_text line packet from to bytes
 entry_text (HandsUp line node session birth side frame) = up_text line node session birth side frame
+entry_text (Ends line node session) = gone_text line node session
 entry_text (Drops line node why) = drop_text line node why
 entry_text (Causes line node cause) = cause_text line node cause
 

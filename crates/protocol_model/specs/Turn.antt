@@ -1,21 +1,27 @@
 -- A tunnel's step, as a chain of functions from turn to turn.
-use Rattle.std.specs.Prelude.{ℕ, ◌+◌, List, [], ◌∷◌, ◌++◌, Bool, true, false, ◌==◌, ◌&&◌, nat_lt, length, if◌then◌else◌, Option, Some, None, unwrap_or, Result, Ok, Err}
-use Rattle.id_table.specs.Ids.{at, put, ids_of}
+use Rattle.std.specs.Prelude.{ℕ, zero, suc, ◌-◌, List, [], ◌∷◌, ◌++◌, drop, find, slice_get, Bool, true, false, ◌==◌, ◌&&◌, ◌||◌, nat_le, nat_lt, length, if◌then◌else◌, Option, Some, None, unwrap_or, Result, Ok, Err}
+use Rattle.id_table.specs.Ids.{at, put, without, ids_of}
 use Rattle.id_source.specs.Spaces.{Space, draws, after_draw}
 use Rattle.id_source.specs.declared.IdError.{IdError}
 use Rattle.wire_base.specs.declared.why.Why.{Why}
 use Rattle.wire_base.specs.declared.why.Why.TheVariants as why
 use Rattle.wire_base.specs.declared.cause.Cause.TheVariants as cause
+use Rattle.wire_base.specs.declared.letter.Letter.{Letter}
 use Rattle.l2tp_header.specs.declared.header.Header.{Header}
 use Rattle.l2tp_header.specs.declared.header.HeaderError.{HeaderError}
 use Rattle.l2tp_header.specs.Reading.{header_of}
 use Rattle.l2tp_header.specs.Spelling.{control_bytes, data_bytes}
 use Rattle.avp_codec.specs.Spelling.{spelling}
 use Rattle.control_message.specs.declared.message.Message.{Message}
-use Rattle.control_message.specs.declared.message.Message.TheVariants.{Sccrq, Sccrp, Scccn, Icrq, Icrp, Iccn}
+use Rattle.control_message.specs.declared.message.Message.TheVariants.{Sccrq, Sccrp, Scccn, Hello, Icrq, Icrp, Iccn, Cdn}
 use Rattle.control_message.specs.declared.message.Opening.{Opening}
 use Rattle.control_message.specs.Pairs.{pairs_of}
-use Rattle.reliable_channel.specs.Channel.{new_channel, on_wire, may_count, is_next}
+use Rattle.send_window.specs.declared.window.Tick.{Tick}
+use Rattle.send_window.specs.declared.window.Tick.TheVariants as tick
+use Rattle.recv_window.specs.declared.Class.{Class}
+use Rattle.recv_window.specs.declared.Class.TheVariants.{Next, Duplicate, Ahead}
+use Rattle.recv_window.specs.Window.{on_wire}
+use Rattle.control_channel.specs.Numbers.{opened_at, one_more, count_acked, acked_at, class_told, taken_by, next_to_go, let_go_at, answer_to_tick, ticked_at, next_given, next_unsent, place_of, learnt_by}
 use Rattle.tunnel_fsm.specs.declared.table.TunnelState.{TunnelState}
 use Rattle.tunnel_fsm.specs.declared.table.TunnelState.TheVariants.{Idle}
 use Rattle.tunnel_fsm.specs.declared.table.TunnelEvent.{TunnelEvent}
@@ -25,6 +31,8 @@ use Rattle.tunnel_fsm.specs.declared.table.TunnelAction.TheVariants as action
 use Rattle.tunnel_fsm.specs.Rows.{rows, row_of, state_number}
 use Rattle.call_fsm.specs.declared.table.CallEvent.TheVariants as call_event
 use Rattle.call_fsm.specs.declared.table.CallState.TheVariants as call
+use Rattle.call_fsm.specs.declared.table.CallAction.{CallAction}
+use Rattle.call_fsm.specs.declared.table.CallAction.TheVariants as call_action
 use Rattle.protocol_model.specs.declared.tunnel.Call.{Call}
 use Rattle.protocol_model.specs.declared.tunnel.CellChange.{CellChange}
 use Rattle.protocol_model.specs.declared.tunnel.CellChange.TheVariants as cell
@@ -33,8 +41,9 @@ use Rattle.protocol_model.specs.declared.tunnel.Control.{Control}
 use Rattle.protocol_model.specs.declared.tunnel.Role.{Role}
 use Rattle.protocol_model.specs.declared.event.Event.{Event}
 use Rattle.protocol_model.specs.declared.event.Event.TheVariants.{Datagram, Ring, Payload, Lower, OpenTunnel}
+use Rattle.protocol_model.specs.declared.event.Event.TheVariants as event_of
 use Rattle.protocol_model.specs.declared.out.Out.{Out}
-use Rattle.protocol_model.specs.declared.out.Out.TheVariants.{Send, Drop, Cause}
+use Rattle.protocol_model.specs.declared.out.Out.TheVariants.{Send, Gone, Drop, Cause}
 use Rattle.protocol_model.specs.declared.out.Origin.{Origin}
 use Rattle.protocol_model.specs.declared.out.Origin.TheVariants as origin
 use Rattle.protocol_model.specs.declared.moves.Place.{Place}
@@ -42,10 +51,12 @@ use Rattle.protocol_model.specs.declared.moves.Move.{Move}
 use Rattle.protocol_model.specs.declared.moves.Move.TheVariants as move
 use Rattle.protocol_model.specs.Names.{host_name, calling_number}
 use Rattle.protocol_model.specs.Reading.{header_why, body_of, message_in}
-use Rattle.protocol_model.specs.Calls.{call_row, advanced, rung, asked_for, is_request, is_reply, is_connection, is_up}
+use Rattle.protocol_model.specs.Calls.{call_row, advanced, rung, asked_for, is_request, is_reply, is_connection, is_up, is_set_up}
 
 pub record Tunnel : Type 0 where
   pub control : Control
+  -- the letters that it gave to its channel, from the first that isn't acknowledged on
+  pub letters : List Letter
   -- its calls, by session id
   pub calls : List (ℕ × Call)
 
@@ -67,9 +78,18 @@ pub record Env : Type 0 where
 
 -- a tunnel in a step, with what the step gave so far
 pub record Turn : Type 0 where
+  -- the moment of the step, in milliseconds
+  pub moment : ℕ
   pub control : Control
-  -- the calls that the step made or changed, with their sessions, in order
-  pub changed : List (ℕ × Call)
+  -- the letters that the step gave to the channel, in order
+  pub given : List Letter
+  -- how many of the tunnel's letters the step's Nr acknowledged
+  pub acked : ℕ
+  -- whether the step took a letter of the peer, and whether it removed the tunnel
+  pub took : Bool
+  pub cleared : Bool
+  -- the calls that the step made, changed or ended, with their sessions, in order; one that it ended isn't there any more
+  pub changed : List (ℕ × Option Call)
   -- the sessions of the calls that it made
   pub added : List ℕ
   pub tunnels : Space
@@ -79,7 +99,21 @@ pub record Turn : Type 0 where
   pub moves : List Move
 
 abbrev pub turn_of : Control → Env → Turn
-turn_of c e = record { control = c; changed = []; added = []; tunnels = e.tunnels; sessions = e.sessions; outputs = []; changes = []; moves = [] }
+turn_of c e = record {
+  moment = e.moment;
+  control = c;
+  given = [];
+  acked = 0;
+  took = false;
+  cleared = false;
+  changed = [];
+  added = [];
+  tunnels = e.tunnels;
+  sessions = e.sessions;
+  outputs = [];
+  changes = [];
+  moves = [];
+}
 
 -- what a turn gave, behind what was there
 unfoldable pub with_turn : Turn → Env → Env
@@ -101,48 +135,140 @@ unfoldable pub with_change : CellChange → Turn → Turn
 with_change c t = record t { changes = t.changes ++ c ∷ [] }
 
 unfoldable pub with_call : ℕ → Call → Turn → Turn
-with_call s c t = record t { changed = t.changed ++ (s, c) ∷ [] }
+with_call s c t = record t { changed = t.changed ++ (s, Some c) ∷ [] }
 
 -- a call that is made
 unfoldable pub with_new : ℕ → Call → Turn → Turn
-with_new s c t = record t { changed = t.changed ++ (s, c) ∷ []; added = t.added ++ s ∷ []; sessions = after_draw t.sessions }
+with_new s c t = record t { changed = t.changed ++ (s, Some c) ∷ []; added = t.added ++ s ∷ []; sessions = after_draw t.sessions }
 
 unfoldable pub drops : Why → Turn → Turn
 drops w t = with_output (Drop w) t
 
--- ---- the channel: each letter is sent at once
+-- a call ends: it isn't there any more, and its look is dead
+unfoldable pub ends_call : ℕ → Turn → Turn
+ends_call s t = with_output (Gone s) (with_change (cell.Kill s) (record t { changed = t.changed ++ (s, None) ∷ [] }))
+
+-- ---- the channel
 
 -- the place of a letter; no tunnel was recovered
 abbrev pub place : ℕ → Place
 place number = record { epoch = 0; number = number }
 
--- the datagram of pairs, with the present numbers
-abbrev pub datagram : Control → ℕ → List ℕ → List ℕ
-datagram c session pairs = control_bytes c.remote session (on_wire c.channel.sent) (on_wire c.channel.taken) pairs
+-- the numbers that the next letter given, and the next letter taken, have
+abbrev pub next_place : Control → Place
+next_place c = place (next_given c.channel)
 
-abbrev pub origin_of : Control → Bool → Origin
-origin_of c empty = origin.Control (record { tunnel = c.local; epoch = 0; ns = c.channel.sent; nr = c.channel.taken; empty = empty })
+abbrev pub taken_place : Control → Place
+taken_place c = place c.channel.inbox.taken
 
-abbrev pub sends : Control → ℕ → Bool → List ℕ → Out
-sends c session empty pairs = Send c.peer (datagram c session pairs) (origin_of c empty)
+-- at most 8,192 letters are unacknowledged or unsent, so there is room for one more
+abbrev pub has_room : Control → Bool
+has_room c = nat_lt c.channel.window.queued 8192
 
-abbrev pub counts_sent : Control → Control
-counts_sent c = record c { channel = record c.channel { sent = c.channel.sent + 1 } }
+abbrev pub letter_of : ℕ → Message → Letter
+letter_of session m = record { session = session; avps = spelling (pairs_of m) }
 
--- one more letter, which is sent at once
+abbrev pub counts_given : Control → Control
+counts_given c = record c { channel = one_more c.channel }
+
+-- one more letter is given to the channel
 unfoldable pub gives : ℕ → Message → Turn → Turn
-gives session m t = with_output (sends t.control session false (spelling (pairs_of m))) (record t { control = counts_sent t.control })
-
--- an acknowledgement alone: its number is that of the next letter, which it doesn't use up
-unfoldable pub acknowledges : Turn → Turn
-acknowledges t = with_output (sends t.control 0 true []) (with_move (move.Quiet t.control.local) t)
+gives session m t = record t { control = counts_given t.control; given = t.given ++ letter_of session m ∷ [] }
 
 abbrev pub counts_taken : Control → Control
-counts_taken c = record c { channel = record c.channel { taken = c.channel.taken + 1 } }
+counts_taken c = record c { channel = taken_by c.channel }
 
 -- the next letter of the peer is taken
 unfoldable pub takes_one : Turn → Turn
-takes_one t = record t { control = counts_taken t.control }
+takes_one t = record t { control = counts_taken t.control; took = true }
+
+-- the peer's window becomes known; one of 0 letters is none
+abbrev pub learns_window : ℕ → Control → Control
+learns_window window c = if window == 0 then c else record c { channel = learnt_by c.channel window }
+
+-- what the peer expects next is read, and it was heard: letters are acknowledged
+abbrev pub counts_acked : ℕ → ℕ → Control → Control
+counts_acked nr moment c = record c { channel = acked_at c.channel nr moment }
+
+unfoldable pub reads_nr : ℕ → Turn → Turn
+reads_nr nr t =
+    with_move (move.NrRead (record { tunnel = t.control.local; nr = nr }))
+    (record t { control = record (counts_acked nr t.moment t.control) { heard = t.moment }; acked = count_acked t.control.channel nr })
+
+-- ---- what is sent
+
+-- a datagram of pairs with a number
+abbrev pub datagram : Control → ℕ → ℕ → List ℕ → List ℕ
+datagram c session number pairs = control_bytes c.remote session (on_wire number) (on_wire c.channel.inbox.taken) pairs
+
+abbrev pub origin_of : Control → ℕ → Bool → Origin
+origin_of c number empty = origin.Control (record { tunnel = c.local; epoch = 0; ns = number; nr = c.channel.inbox.taken; empty = empty })
+
+abbrev pub sends : Control → ℕ → ℕ → Bool → List ℕ → Out
+sends c session number empty pairs = Send c.peer (datagram c session number pairs) (origin_of c number empty)
+
+-- the letters that the tunnel had, without those that are acknowledged, and those that the step gave
+abbrev pub letters_after : Turn → List Letter → List Letter
+letters_after t letters = drop t.acked letters ++ t.given
+
+-- the letter with a number, of those
+abbrev pub letter_in : List Letter → Turn → ℕ → Option Letter
+letter_in letters t number = slice_get (letters_after t letters) (place_of t.control.channel number)
+
+-- a message has at most 65,535 bytes, of which 12 are its header
+unfoldable pub sends_letter : ℕ → Option Letter → Turn → Turn
+sends_letter number None t = t
+sends_letter number (Some l) t =
+    if nat_le (length l.avps) 65523 then with_output (sends t.control l.session number false l.avps) t else t
+
+abbrev pub counts_sent : ℕ → Control → Control
+counts_sent moment c = record c { channel = let_go_at c.channel moment }
+
+-- the letter with a number goes out
+unfoldable pub sends_now : List Letter → ℕ → Turn → Turn
+sends_now letters number t = sends_letter number (letter_in letters t number) t
+
+-- the next letter that was never on the wire goes out
+unfoldable pub lets_go : List Letter → ℕ → Turn → Turn
+lets_go letters number t =
+    sends_now letters number
+    (with_move (move.LetGo (record { tunnel = t.control.local; sent = place number }))
+    (record t { control = counts_sent t.moment t.control }))
+
+unfoldable pub goes_by : (Turn → Turn) → List Letter → Option ℕ → Turn → Turn
+goes_by rest letters None t = t
+goes_by rest letters (Some number) t = rest (lets_go letters number t)
+
+-- the oldest letter that isn't acknowledged goes out again
+abbrev pub counts_repeated : ℕ → Control → Control
+counts_repeated moment c = record c { channel = ticked_at c.channel moment }
+
+unfoldable pub repeats : List Letter → ℕ → Turn → Turn
+repeats letters number t =
+    sends_now letters number
+    (with_move (move.Repeated (record { tunnel = t.control.local; sent = place number }))
+    (record t { control = counts_repeated t.moment t.control }))
+
+-- as many as the windows allow, and so many at most
+unfoldable pub lets_all_go : ℕ → List Letter → Turn → Turn
+lets_all_go zero letters t = t
+lets_all_go (suc most) letters t = goes_by (lets_all_go most letters) letters (next_to_go t.control.channel) t
+
+-- an acknowledgement alone: its number is that of the next letter to go out, which it doesn't use up
+unfoldable pub acknowledges : Turn → Turn
+acknowledges t =
+    with_output (sends t.control 0 (next_unsent t.control.channel) true []) (with_move (move.Quiet t.control.local) t)
+
+-- what came again is acknowledged always, what was taken where no letter goes out that says so
+abbrev pub outstanding : Turn → ℕ
+outstanding t = t.control.channel.window.outstanding
+
+unfoldable pub acknowledged_after : Bool → ℕ → Turn → Turn
+acknowledged_after again before t = if again || (t.took && (outstanding t == before)) then acknowledges t else t
+
+-- the end of each step of the tunnel's channel
+unfoldable pub settles : Bool → List Letter → Turn → Turn
+settles again letters t = acknowledged_after again (outstanding t) (lets_all_go t.control.channel.window.queued letters t)
 
 -- ---- what messages say
 
@@ -168,9 +294,10 @@ connection = Iccn 100000000 1 false
 
 -- ---- new tunnels
 
--- a tunnel to a peer that is neither opened nor accepted yet
-abbrev pub fresh : ℕ → Control
-fresh peer = record { local = 0; peer = peer; remote = 0; state = Idle; channel = new_channel }
+-- a tunnel to a peer that is neither opened nor accepted yet; as long as it isn't known, the peer's window counts as 4
+-- (RFC 2661 section 4.4.3)
+abbrev pub fresh : ℕ → ℕ → Control
+fresh peer moment = record { local = 0; peer = peer; remote = 0; state = Idle; channel = opened_at 0 0 4; made = moment; heard = moment }
 
 abbrev pub in_state : TunnelState → Control → Control
 in_state s c = record c { state = s }
@@ -187,31 +314,31 @@ with_local local t = record t { control = record t.control { local = local }; tu
 unfoldable pub opened : Role → Config → ℕ → Turn → Turn
 opened role c local t =
     gives 0 (Sccrq (opening_of role c local))
-    (with_move (move.Opened (record { tunnel = local; peer = t.control.peer; given = place t.control.channel.sent }))
+    (with_move (move.Opened (record { tunnel = local; peer = t.control.peer; given = next_place t.control }))
     (with_local local (record t { control = in_state (next_of t.control.state event.LocalOpen) t.control })))
 
 unfoldable pub opens_by : Role → Config → Result ℕ IdError → Turn → Turn
 opens_by role c (Err e) t = with_output (Cause cause.Ids) t
-opens_by role c (Ok local) t = if may_count t.control.channel.sent then opened role c local t else with_output (Cause cause.Queue) t
+opens_by role c (Ok local) t = if has_room t.control then opened role c local t else with_output (Cause cause.Queue) t
 
 unfoldable pub opens : Role → Config → Turn → Turn
 opens role c t = opens_by role c (draws t.tunnels) t
 
--- a new tunnel is made by an SCCRQ that assigns this id, and answered by an SCCRP
-unfoldable pub accepted : Role → Config → ℕ → ℕ → Turn → Turn
-accepted role c remote local t =
+-- a new tunnel is made by an SCCRQ that assigns this id and tells this window, and answered by an SCCRP
+unfoldable pub accepted : Role → Config → ℕ → ℕ → ℕ → Turn → Turn
+accepted role c remote window local t =
     gives 0 (Sccrp (opening_of role c local))
-    (with_move (move.Accepted (record { tunnel = local; peer = t.control.peer; remote = remote; taken = place t.control.channel.taken; given = place t.control.channel.sent }))
+    (with_move (move.Accepted (record { tunnel = local; peer = t.control.peer; remote = remote; window = window; taken = taken_place t.control; given = next_place t.control }))
     (takes_one
-    (with_local local (record t { control = record t.control { remote = remote; state = next_of t.control.state event.SccrqAcc } }))))
+    (with_local local (record t { control = learns_window window (record t.control { remote = remote; state = next_of t.control.state event.SccrqAcc }) }))))
 
-unfoldable pub accepts_by : Role → Config → ℕ → Result ℕ IdError → Turn → Turn
-accepts_by role c remote (Err e) t = drops why.Tunnel t
-accepts_by role c remote (Ok local) t =
-    if may_count t.control.channel.sent && may_count t.control.channel.taken then accepted role c remote local t else drops why.Queue t
+unfoldable pub accepts_by : Role → Config → ℕ → ℕ → Result ℕ IdError → Turn → Turn
+accepts_by role c remote window (Err e) t = drops why.Tunnel t
+accepts_by role c remote window (Ok local) t =
+    if has_room t.control then accepted role c remote window local t else drops why.Queue t
 
-unfoldable pub accepts : Role → Config → ℕ → Turn → Turn
-accepts role c remote t = accepts_by role c remote (draws t.tunnels) t
+unfoldable pub accepts : Role → Config → ℕ → ℕ → Turn → Turn
+accepts role c remote window t = accepts_by role c remote window (draws t.tunnels) t
 
 -- ---- calls that are asked for
 
@@ -220,13 +347,13 @@ unfoldable pub requested : Role → ℕ → Call → Turn → Turn
 requested role s c t =
     gives 0 (request_of s c.port)
     (with_change (cell.Bind s t.control.local t.control.peer)
-    (with_move (move.Requested (record { tunnel = t.control.local; session = s; port = c.port; given = place t.control.channel.sent }))
-    (with_call s (advanced role call_event.TunnelOpen c) t)))
+    (with_move (move.Requested (record { tunnel = t.control.local; session = s; port = c.port; given = next_place t.control }))
+    (with_call s (advanced role call_event.TunnelOpen t.moment c) t)))
 
 unfoldable pub requests : Role → ℕ → Call → Turn → Turn
 requests role s c t =
     if is_request (call_row role c.state call_event.TunnelOpen).1
-    then (if may_count t.control.channel.sent then requested role s c t else drops why.Queue t)
+    then (if has_room t.control then requested role s c t else drops why.Queue t)
     else t
 
 -- session ids have 16 bits
@@ -245,11 +372,11 @@ requests_all role (s ∷ ss) calls t = requests_all role ss calls (requests_at r
 unfoldable pub adds : Role → ℕ → ℕ → Turn → Turn
 adds role port s t =
     with_move (move.Added (record { tunnel = t.control.local; session = s; port = port }))
-    (with_new s (rung role port) t)
+    (with_new s (rung role port t.moment) t)
 
 -- over a tunnel that is open the call is asked for at once; over another it waits
 unfoldable pub rings_over : Role → ℕ → ℕ → Turn → Turn
-rings_over role port s t = if state_number t.control.state == 3 then requests role s (rung role port) (adds role port s t) else adds role port s t
+rings_over role port s t = if state_number t.control.state == 3 then requests role s (rung role port t.moment) (adds role port s t) else adds role port s t
 
 unfoldable pub rings_by : Role → ℕ → Result ℕ IdError → Turn → Turn
 rings_by role port (Err e) t = with_output (Cause cause.Ids) t
@@ -260,7 +387,7 @@ unfoldable pub rings_new : Role → Config → ℕ → Result ℕ IdError → Re
 rings_new role c port (Err e) local t = with_output (Cause cause.Ids) t
 rings_new role c port (Ok s) (Err e) t = with_output (Cause cause.Ids) t
 rings_new role c port (Ok s) (Ok local) t =
-    if may_count t.control.channel.sent then adds role port s (opened role c local t) else with_output (Cause cause.Queue) t
+    if has_room t.control then adds role port s (opened role c local t) else with_output (Cause cause.Queue) t
 
 unfoldable pub rings : Role → Config → ℕ → Turn → Turn
 rings role c port t =
@@ -270,40 +397,43 @@ rings role c port t =
 
 -- ---- letters about the tunnel
 
--- the peer's id is learned, and the tunnel is connected
-unfoldable pub connected : ℕ → TunnelState → Turn → Turn
-connected remote next t =
+-- the peer's id and window are learned, and the tunnel is connected
+unfoldable pub connected : ℕ → ℕ → TunnelState → Turn → Turn
+connected remote window next t =
     gives 0 Scccn
-    (with_move (move.Connected (record { tunnel = t.control.local; remote = remote; taken = place t.control.channel.taken; given = place t.control.channel.sent }))
-    (takes_one (record t { control = record t.control { remote = remote; state = next } })))
+    (with_move (move.Connected (record { tunnel = t.control.local; remote = remote; window = window; taken = taken_place t.control; given = next_place t.control }))
+    (takes_one (record t { control = learns_window window (record t.control { remote = remote; state = next }) })))
 
 -- then each call that waits for it is asked for
-unfoldable pub connects : Role → List (ℕ × Call) → ℕ → TunnelState → Turn → Turn
-connects role calls remote next t =
-    if may_count t.control.channel.sent then requests_all role (ids_of calls) calls (connected remote next t) else drops why.Queue t
+unfoldable pub connects : Role → List (ℕ × Call) → ℕ → ℕ → TunnelState → Turn → Turn
+connects role calls remote window next t =
+    if has_room t.control then requests_all role (ids_of calls) calls (connected remote window next t) else drops why.Queue t
 
 unfoldable pub confirms : TunnelState → Turn → Turn
 confirms next t =
-    acknowledges
-    (with_move (move.Confirmed (record { tunnel = t.control.local; taken = place t.control.channel.taken }))
-    (takes_one (record t { control = in_state next t.control })))
+    with_move (move.Confirmed (record { tunnel = t.control.local; taken = taken_place t.control }))
+    (takes_one (record t { control = in_state next t.control }))
 
+-- a letter that changes nothing else
 unfoldable pub takes_plain : Turn → Turn
 takes_plain t =
-    acknowledges
-    (with_move (move.TookPlain (record { tunnel = t.control.local; taken = place t.control.channel.taken }))
-    (takes_one t))
+    with_move (move.TookPlain (record { tunnel = t.control.local; taken = taken_place t.control }))
+    (takes_one t)
+
+-- and is ignored
+unfoldable pub ignores : Why → Turn → Turn
+ignores w t = drops w (takes_plain t)
 
 -- by the table's row; a row that closes a tunnel says so by a message that isn't written yet, so its letter is ignored
-unfoldable pub takes_by : Role → List (ℕ × Call) → ℕ → TunnelState × TunnelAction → Turn → Turn
-takes_by role calls remote (next, action.SendScccn) t = connects role calls remote next t
-takes_by role calls remote (next, action.Nothing) t =
+unfoldable pub takes_by : Role → List (ℕ × Call) → ℕ → ℕ → TunnelState × TunnelAction → Turn → Turn
+takes_by role calls remote window (next, action.SendScccn) t = connects role calls remote window next t
+takes_by role calls remote window (next, action.Nothing) t =
     if state_number next == state_number t.control.state then takes_plain t else confirms next t
-takes_by role calls remote (next, a) t = drops why.Ignored t
+takes_by role calls remote window (next, a) t = ignores why.Ignored t
 
--- of a letter that tells this id of the peer
-unfoldable pub takes : Role → List (ℕ × Call) → TunnelEvent → ℕ → Turn → Turn
-takes role calls e remote t = takes_by role calls remote (row_of rows t.control.state e) t
+-- of a letter that tells this id and this window of the peer
+unfoldable pub takes : Role → List (ℕ × Call) → TunnelEvent → ℕ → ℕ → Turn → Turn
+takes role calls e remote window t = takes_by role calls remote window (row_of rows t.control.state e) t
 
 -- ---- letters about a call
 
@@ -311,90 +441,128 @@ takes role calls e remote t = takes_by role calls remote (row_of rows t.control.
 unfoldable pub replied : Role → ℕ → ℕ → Turn → Turn
 replied role remote s t =
     gives remote (Icrp s)
-    (with_move (move.Replied (record { tunnel = t.control.local; peer = t.control.peer; session = s; remote = remote; taken = place t.control.channel.taken; given = place t.control.channel.sent }))
-    (with_new s (asked_for role remote) (takes_one t)))
+    (with_move (move.Replied (record { tunnel = t.control.local; peer = t.control.peer; session = s; remote = remote; taken = taken_place t.control; given = next_place t.control }))
+    (with_new s (asked_for role remote t.moment) (takes_one t)))
 
 unfoldable pub replies_by : Role → ℕ → Result ℕ IdError → Turn → Turn
-replies_by role remote (Err e) t = drops why.Session t
-replies_by role remote (Ok s) t = if may_count t.control.channel.sent then replied role remote s t else drops why.Queue t
+replies_by role remote (Err e) t = ignores why.Session t
+replies_by role remote (Ok s) t = if has_room t.control then replied role remote s t else drops why.Queue t
 
 unfoldable pub replies : Role → ℕ → Turn → Turn
 replies role remote t =
-    if is_reply (call_row role call.Idle call_event.IcrqAcc).1 then replies_by role remote (draws t.sessions) t else drops why.Session t
+    if is_reply (call_row role call.Idle call_event.IcrqAcc).1 then replies_by role remote (draws t.sessions) t else ignores why.Session t
 
 -- the peer's session is learned, and the call is connected and up
 unfoldable pub first_up : Role → ℕ → ℕ → Call → Turn → Turn
 first_up role s remote c t =
     gives remote connection
     (with_change (cell.Establish s)
-    (with_move (move.FirstUp (record { tunnel = t.control.local; session = s; remote = remote; taken = place t.control.channel.taken; given = place t.control.channel.sent }))
-    (with_call s (advanced role call_event.IcrpAcc (record c { remote = remote }))
+    (with_move (move.FirstUp (record { tunnel = t.control.local; session = s; remote = remote; taken = taken_place t.control; given = next_place t.control }))
+    (with_call s (advanced role call_event.IcrpAcc t.moment (record c { remote = remote }))
     (takes_one t))))
 
 unfoldable pub first_up_by : Role → ℕ → ℕ → Option Call → Turn → Turn
-first_up_by role s remote None t = drops why.Session t
+first_up_by role s remote None t = ignores why.Session t
 first_up_by role s remote (Some c) t =
     if is_connection (call_row role c.state call_event.IcrpAcc).1
-    then (if may_count t.control.channel.sent then first_up role s remote c t else drops why.Queue t)
-    else drops why.Session t
+    then (if has_room t.control then first_up role s remote c t else drops why.Queue t)
+    else ignores why.Session t
 
 -- the call is connected: as long as no LCP end opens its network, it is known to the peer and established at once
 unfoldable pub second_up : Role → ℕ → Call → Turn → Turn
 second_up role s c t =
-    acknowledges
-    (with_change (cell.Establish s)
+    with_change (cell.Establish s)
     (with_change (cell.Bind s t.control.local t.control.peer)
-    (with_move (move.SecondUp (record { tunnel = t.control.local; session = s; taken = place t.control.channel.taken }))
-    (with_call s (advanced role call_event.IccnAcc c)
-    (takes_one t)))))
+    (with_move (move.SecondUp (record { tunnel = t.control.local; session = s; taken = taken_place t.control }))
+    (with_call s (advanced role call_event.IccnAcc t.moment c)
+    (takes_one t))))
 
 unfoldable pub second_up_by : Role → ℕ → Option Call → Turn → Turn
-second_up_by role s None t = drops why.Session t
+second_up_by role s None t = ignores why.Session t
 second_up_by role s (Some c) t =
-    if is_up (call_row role c.state call_event.IccnAcc).0 then second_up role s c t else drops why.Session t
+    if is_up (call_row role c.state call_event.IccnAcc).0 then second_up role s c t else ignores why.Session t
+
+-- the peer says that the call ended
+unfoldable pub end_heard : ℕ → Turn → Turn
+end_heard s t =
+    with_move (move.EndHeard (record { tunnel = t.control.local; session = s; taken = taken_place t.control }))
+    (ends_call s (takes_one t))
+
+abbrev pub is_clean_up : CallAction → Bool
+is_clean_up call_action.CleanUp = true
+is_clean_up a = false
+
+unfoldable pub end_heard_by : Role → ℕ → Option Call → Turn → Turn
+end_heard_by role s None t = ignores why.Session t
+end_heard_by role s (Some c) t =
+    if is_clean_up (call_row role c.state call_event.CdnCame).1 then end_heard s t else ignores why.Session t
+
+-- a header with session 0 comes where the peer knows no session of this end: the call is the one whose other id is told
+abbrev pub is_call_of : ℕ → Option Call → Bool
+is_call_of remote None = false
+is_call_of remote (Some c) = c.remote == remote
+
+unfoldable pub call_of : List (ℕ × Call) → ℕ → Option ℕ
+call_of calls remote = find (λ s. is_call_of remote (at calls s)) (ids_of calls)
+
+unfoldable pub session_named : List (ℕ × Call) → ℕ → ℕ → ℕ
+session_named calls session remote = if session == 0 then unwrap_or (call_of calls remote) 0 else session
+
+unfoldable pub ends_named : Role → List (ℕ × Call) → ℕ → Turn → Turn
+ends_named role calls s t = end_heard_by role s (at calls s) t
 
 unfoldable pub about_call : Role → List (ℕ × Call) → ℕ → Message → Turn → Turn
 about_call role calls session (Icrq remote serial calling) t = replies role remote t
 about_call role calls session (Icrp remote) t = first_up_by role session remote (at calls session) t
 about_call role calls session (Iccn speed framing sequenced) t = second_up_by role session (at calls session) t
-about_call role calls session m t = drops why.Session t
+about_call role calls session (Cdn remote code error) t = ends_named role calls (session_named calls session remote) t
+about_call role calls session m t = ignores why.Session t
 
 -- only an open tunnel carries calls
 unfoldable pub in_call : Role → List (ℕ × Call) → ℕ → Message → Turn → Turn
-in_call role calls session m t = if state_number t.control.state == 3 then about_call role calls session m t else drops why.Session t
+in_call role calls session m t = if state_number t.control.state == 3 then about_call role calls session m t else ignores why.Session t
 
 -- ---- control messages
 
 unfoldable pub hears : Role → List (ℕ × Call) → ℕ → Message → Turn → Turn
-hears role calls session (Sccrq o) t = takes role calls event.SccrqAcc 0 t
-hears role calls session (Sccrp o) t = takes role calls event.SccrpAcc o.tunnel t
-hears role calls session Scccn t = takes role calls event.ScccnAcc 0 t
+hears role calls session (Sccrq o) t = takes role calls event.SccrqAcc 0 o.window t
+hears role calls session (Sccrp o) t = takes role calls event.SccrpAcc o.tunnel o.window t
+hears role calls session Scccn t = takes role calls event.ScccnAcc 0 0 t
+hears role calls session Hello t = takes_plain t
 hears role calls session (Icrq remote serial calling) t = in_call role calls session (Icrq remote serial calling) t
 hears role calls session (Icrp remote) t = in_call role calls session (Icrp remote) t
 hears role calls session (Iccn speed framing sequenced) t = in_call role calls session (Iccn speed framing sequenced) t
+hears role calls session (Cdn remote code error) t = in_call role calls session (Cdn remote code error) t
 
 unfoldable pub hears_said : Role → List (ℕ × Call) → ℕ → Result Message Why → Turn → Turn
-hears_said role calls session (Err w) t = drops w t
+hears_said role calls session (Err w) t = ignores w t
 hears_said role calls session (Ok m) t = hears role calls session m t
 
--- an acknowledgement alone has no body; a letter is taken where it is the next one
-unfoldable pub in_tunnel : Role → List (ℕ × Call) → ℕ → ℕ → List ℕ → Turn → Turn
-in_tunnel role calls session ns body t =
-    if length body == 0 then t
-    else if is_next ns t.control.channel then hears_said role calls session (message_in body) t
-    else drops why.Ahead t
+-- the next letter is taken; one that is ahead of it isn't, nor one that came before
+unfoldable pub hears_letter : Role → List (ℕ × Call) → ℕ → List ℕ → Option Class → Turn → Turn
+hears_letter role calls session body (Some Next) t = hears_said role calls session (message_in body) t
+hears_letter role calls session body (Some (Ahead by)) t = drops why.Ahead t
+hears_letter role calls session body (Some Duplicate) t = t
+hears_letter role calls session body None t = t
+
+abbrev pub is_duplicate : Option Class → Bool
+is_duplicate (Some Duplicate) = true
+is_duplicate c = false
+
+-- a message of the class that its Ns has; what came before is acknowledged again
+unfoldable pub in_tunnel : Role → List Letter → List (ℕ × Call) → ℕ → List ℕ → Option Class → Turn → Turn
+in_tunnel role letters calls session body class t = settles (is_duplicate class) letters (hears_letter role calls session body class t)
 
 -- a tunnel that is new is made by an SCCRQ
 unfoldable pub first_said : Role → Config → Result Message Why → Turn → Turn
-first_said role c (Ok (Sccrq o)) t = accepts role c o.tunnel t
+first_said role c (Ok (Sccrq o)) t = accepts role c o.tunnel o.window t
 first_said role c r t = drops why.Tunnel t
 
--- a control message that is for the tunnel
-unfoldable pub hears_control : Role → Config → List (ℕ × Call) → Header → List ℕ → Turn → Turn
-hears_control role c calls h body t =
-    if state_number t.control.state == 0 then first_said role c (message_in body) t
-    else in_tunnel role calls h.session (unwrap_or h.ns 0) body
-    (with_move (move.NrRead (record { tunnel = t.control.local; nr = unwrap_or h.nr 0 })) t)
+-- a control message that is for the tunnel: Nr is read first; an acknowledgement alone has no body
+unfoldable pub hears_control : Role → Config → List Letter → List (ℕ × Call) → Header → List ℕ → Turn → Turn
+hears_control role c letters calls h body t =
+    if state_number t.control.state == 0 then settles false letters (first_said role c (message_in body) t)
+    else in_tunnel role letters calls h.session body (class_told t.control.channel (unwrap_or h.ns 0) (length body == 0)) (reads_nr (unwrap_or h.nr 0) t)
 
 -- ---- frames that are given
 
@@ -408,26 +576,108 @@ unfoldable pub carries : ℕ → List ℕ → Option Call → Turn → Turn
 carries s frame None t = drops why.Call t
 carries s frame (Some c) t = if is_up c.state then carried s frame c t else drops why.Closed t
 
+-- ---- time
+
+-- so many milliseconds have passed; where the moment is below the kept one, no time has
+abbrev pub is_over : ℕ → ℕ → ℕ → Bool
+is_over limit moment kept = nat_le limit (moment - kept)
+
+-- how long a tunnel and a call may take to be set up, and how long a tunnel may be quiet: 60 seconds
+abbrev pub patience : ℕ
+patience = 60000
+
+-- the tunnel is removed with its calls, without a message
+unfoldable pub ends_all : List ℕ → Turn → Turn
+ends_all [] t = t
+ends_all (s ∷ ss) t = ends_all ss (ends_call s t)
+
+unfoldable pub clears : List (ℕ × Call) → Turn → Turn
+clears calls t = record (ends_all (ids_of calls) (with_move (move.Cleared t.control.local) t)) { cleared = true }
+
+-- a quiet tunnel of which nothing waits says that it is there (RFC 2661 section 6.5)
+unfoldable pub greeted : List Letter → Turn → Turn
+greeted letters t =
+    settles false letters
+    (gives 0 Hello (with_move (move.Greeted (record { tunnel = t.control.local; given = next_place t.control })) t))
+
+unfoldable pub greets : List Letter → Turn → Turn
+greets letters t =
+    if state_number t.control.state == 3 && t.control.channel.window.queued == 0 && is_over patience t.moment t.control.heard
+    then greeted letters t else t
+
+-- a call that took too long ends: the peer, where it was asked for it, is told by a CDN with result code 10
+-- (RFC 2661 section 4.4.2)
+unfoldable pub end_silent : ℕ → Turn → Turn
+end_silent s t = with_move (move.EndSilent (record { tunnel = t.control.local; session = s })) (ends_call s t)
+
+unfoldable pub end_told : ℕ → Call → ℕ → Turn → Turn
+end_told s c code t =
+    gives c.remote (Cdn s code None)
+    (with_move (move.EndTold (record { tunnel = t.control.local; session = s; remote = c.remote; code = code; given = next_place t.control }))
+    (ends_call s t))
+
+unfoldable pub limited_by : List Letter → ℕ → Call → CallAction → Turn → Turn
+limited_by letters s c call_action.CleanUp t = end_silent s t
+limited_by letters s c call_action.SendCdn t =
+    if has_room t.control then settles false letters (end_told s c 10 (with_output (Cause cause.Setup) t)) else t
+limited_by letters s c a t = t
+
+-- session ids have 16 bits
+unfoldable pub limits_at : Role → List Letter → ℕ → Option Call → Turn → Turn
+limits_at role letters s None t = t
+limits_at role letters s (Some c) t =
+    if nat_lt s 65536 && is_set_up c.state && is_over patience t.moment c.since
+    then limited_by letters s c (call_row role c.state call_event.Close).1 t else t
+
+unfoldable pub limits_all : Role → List Letter → List ℕ → List (ℕ × Call) → Turn → Turn
+limits_all role letters [] calls t = t
+limits_all role letters (s ∷ ss) calls t = limits_all role letters ss calls (limits_at role letters s (at calls s) t)
+
+-- what stays of a tunnel whose channel hasn't failed
+unfoldable pub goes_quietly : Role → List Letter → List (ℕ × Call) → Turn → Turn
+goes_quietly role letters calls t = limits_all role letters (ids_of calls) calls (greets letters t)
+
+unfoldable pub ticks_by : Role → List Letter → List (ℕ × Call) → Tick → Turn → Turn
+ticks_by role letters calls tick.Quiet t = goes_quietly role letters calls t
+ticks_by role letters calls (tick.Again number) t = goes_quietly role letters calls (repeats letters number t)
+ticks_by role letters calls (tick.Failed first) t = clears calls t
+
+-- it is in wait-ctl-reply or wait-ctl-conn
+abbrev pub is_being_set_up : TunnelState → Bool
+is_being_set_up s = state_number s == 1 || state_number s == 2
+
+-- each part prints and sends its own before the next
+unfoldable pub ticks : Role → List Letter → List (ℕ × Call) → Turn → Turn
+ticks role letters calls t =
+    if is_being_set_up t.control.state && is_over patience t.moment t.control.made then clears calls t
+    else ticks_by role letters calls (answer_to_tick t.control.channel t.moment) t
+
 -- ---- events
 
-unfoldable pub hears_datagram : Role → Config → List (ℕ × Call) → List ℕ → Result Header HeaderError → Turn → Turn
-hears_datagram role c calls bytes (Err x) t = drops (header_why x) t
-hears_datagram role c calls bytes (Ok h) t = if h.control then hears_control role c calls h (body_of h bytes) t else drops why.Session t
+unfoldable pub hears_datagram : Role → Config → List Letter → List (ℕ × Call) → List ℕ → Result Header HeaderError → Turn → Turn
+hears_datagram role c letters calls bytes (Err x) t = drops (header_why x) t
+hears_datagram role c letters calls bytes (Ok h) t =
+    if h.control then hears_control role c letters calls h (body_of h bytes) t else drops why.Session t
 
--- an event of the tunnel, whose calls are these
-unfoldable pub turns : Role → Config → List (ℕ × Call) → Event → Turn → Turn
-turns role c calls (Datagram peer bytes) t = hears_datagram role c calls bytes (header_of bytes) t
-turns role c calls (Ring port) t = rings role c port t
-turns role c calls (Payload s frame) t = carries s frame (at calls s) t
-turns role c calls (Lower s frame) t = carries s frame (at calls s) t
-turns role c calls OpenTunnel t = opens role c t
+-- an event of the tunnel, which has these letters and calls
+unfoldable pub turns : Role → Config → List Letter → List (ℕ × Call) → Event → Turn → Turn
+turns role c letters calls (Datagram peer bytes) t = hears_datagram role c letters calls bytes (header_of bytes) t
+turns role c letters calls (Ring port) t = settles false letters (rings role c port t)
+turns role c letters calls (Payload s frame) t = carries s frame (at calls s) t
+turns role c letters calls (Lower s frame) t = carries s frame (at calls s) t
+turns role c letters calls OpenTunnel t = settles false letters (opens role c t)
+turns role c letters calls event_of.Tick t = ticks role letters calls t
 
 -- ---- what a turn leaves
 
--- the calls with those that were made or changed
-unfoldable pub with_calls : List (ℕ × Call) → List (ℕ × Call) → List (ℕ × Call)
-with_calls [] calls = calls
-with_calls (c ∷ cs) calls = with_calls cs (put calls c.0 c.1)
+-- the calls with those that were made or changed, without those that ended
+abbrev pub changed_at : List (ℕ × Call) → ℕ → Option Call → List (ℕ × Call)
+changed_at calls s None = without calls s
+changed_at calls s (Some c) = put calls s c
 
-abbrev pub tunnel_after : Turn → List (ℕ × Call) → Tunnel
-tunnel_after t calls = record { control = t.control; calls = with_calls t.changed calls }
+unfoldable pub with_calls : List (ℕ × Option Call) → List (ℕ × Call) → List (ℕ × Call)
+with_calls [] calls = calls
+with_calls (c ∷ cs) calls = with_calls cs (changed_at calls c.0 c.1)
+
+abbrev pub tunnel_after : Turn → List Letter → List (ℕ × Call) → Tunnel
+tunnel_after t letters calls = record { control = t.control; letters = letters_after t letters; calls = with_calls t.changed calls }

@@ -1,31 +1,36 @@
 -- The world: nodes, and every packet that was ever sent.
-use Rattle.std.specs.Prelude.{ℕ, ◌+◌, ◌-◌, ◌^◌, min, List, [], ◌∷◌, ◌++◌, map, length, Bool, true, false, not, ◌==◌, if◌then◌else◌, slice_get, Option, Some, None, is_some, unwrap_or, Result, Ok, Err}
+use Rattle.std.specs.Prelude.{ℕ, ◌+◌, ◌-◌, ◌^◌, min, List, [], ◌∷◌, ◌++◌, map, length, Bool, false, nat_lt, if◌then◌else◌, slice_get, Option, Some, None, is_some, unwrap_or, Result, Ok, Err}
 use Rattle.byteorder.specs.Endian.{big_bytes}
 use Rattle.id_table.specs.Ids.{at, put}
 use Rattle.wire_base.specs.declared.why.Why.{Why}
 use Rattle.wire_base.specs.declared.why.Why.TheVariants as why
 use Rattle.schedule_text.specs.declared.line.Line.{Line}
-use Rattle.schedule_text.specs.declared.line.Line.TheVariants.{Remark, Lac, Lns, OpenUp, Ring, FromSub, Down, Deliver}
+use Rattle.schedule_text.specs.declared.line.Line.TheVariants.{Remark, Lac, Lns, OpenUp, Ring, FromSub, Down, Deliver, Tick}
 use Rattle.protocol_model.specs.declared.tunnel.Config.{Config}
+use Rattle.protocol_model.specs.declared.tunnel.Control.{Control}
 use Rattle.protocol_model.specs.declared.tunnel.Role.{Role}
 use Rattle.protocol_model.specs.declared.tunnel.Role.TheVariants as role
 use Rattle.protocol_model.specs.declared.event.Event.{Event}
 use Rattle.protocol_model.specs.declared.event.Event.TheVariants as event
 use Rattle.protocol_model.specs.declared.out.Out.{Out}
-use Rattle.protocol_model.specs.declared.out.Out.TheVariants.{Send, Up, Drop, Cause}
+use Rattle.protocol_model.specs.declared.out.Out.TheVariants.{Send, Up, Gone, Drop, Cause}
 use Rattle.protocol_model.specs.declared.out.Origin.{Origin}
-use Rattle.protocol_model.specs.declared.out.Origin.TheVariants.{Control, Data}
+use Rattle.protocol_model.specs.declared.out.ControlOrigin.{ControlOrigin}
+use Rattle.protocol_model.specs.declared.out.Origin.TheVariants as origin
 use Rattle.protocol_model.specs.declared.moves.Move.{Move}
 use Rattle.protocol_model.specs.declared.moves.Move.TheVariants as move
 use Rattle.protocol_model.specs.declared.packet.Packet.{Packet}
+use Rattle.protocol_model.specs.declared.refusal.Refusal.{Refusal}
+use Rattle.protocol_model.specs.declared.refusal.Refusal.TheVariants.{Unfit, HalfSpace}
 use Rattle.protocol_model.specs.Names.{address_of, node_of}
 use Rattle.protocol_model.specs.Calls.{is_lac}
-use Rattle.protocol_model.specs.End.{End, Stepped, step, new_end}
-use Rattle.protocol_model.specs.Texts.{Entry, Sends, HandsUp, Drops, Causes}
+use Rattle.protocol_model.specs.End.{End, Stepped, reached, step, new_end}
+use Rattle.protocol_model.specs.Texts.{Entry, Sends, HandsUp, Ends, Drops, Causes}
 
--- an end, with the births of its calls by local session id
+-- an end, with its clock, in milliseconds, and the births of its calls by local session id
 pub record Node : Type 0 where
   pub end : End
+  pub clock : ℕ
   pub births : List (ℕ × ℕ)
 
 pub record World : Type 0 where
@@ -33,14 +38,11 @@ pub record World : Type 0 where
   pub nodes : List (ℕ × Node)
   -- each packet that was ever sent, in order; the first one is packet 1
   pub packets : List Packet
-  -- how many packets with attribute value pairs were sent to a node, and how many of them were delivered
-  pub queued : List (ℕ × ℕ)
-  pub delivered : List (ℕ × ℕ)
   -- how many calls were born
   pub born : ℕ
 
 abbrev pub empty_world : World
-empty_world = record { nodes = []; packets = []; queued = []; delivered = []; born = 0 }
+empty_world = record { nodes = []; packets = []; born = 0 }
 
 -- the tunnel that sent what a step took, by its node and its local id
 pub record Sender : Type 0 where
@@ -70,10 +72,6 @@ quiet_line w = record { world = w; entries = []; done = [] }
 
 abbrev pub count_at : List (ℕ × ℕ) → ℕ → ℕ
 count_at counts n = unwrap_or (at counts n) 0
-
--- one more, up to the last number of 64 bits
-unfoldable pub counted : List (ℕ × ℕ) → ℕ → List (ℕ × ℕ)
-counted counts n = put counts n (min (count_at counts n + 1) (2 ^ 64 - 1))
 
 -- ---- births
 
@@ -116,6 +114,9 @@ session_of (move.Requested m) = Some m.session
 session_of (move.Replied m) = Some m.session
 session_of (move.FirstUp m) = Some m.session
 session_of (move.SecondUp m) = Some m.session
+session_of (move.EndTold m) = Some m.session
+session_of (move.EndHeard m) = Some m.session
+session_of (move.EndSilent m) = Some m.session
 session_of (move.FrameSent m) = Some m.session
 session_of (move.FrameUp m) = Some m.session
 session_of m = None
@@ -129,30 +130,21 @@ deed_of w line n r sender m = record { line = line; node = n; role = r; sender =
 
 -- ---- what a step gives to the outside
 
--- an acknowledgement alone, and a frame, has no attribute value pairs
-abbrev pub has_pairs : Origin → Bool
-has_pairs (Control c) = not c.empty
-has_pairs (Data session) = false
-
-abbrev pub place_of : List (ℕ × ℕ) → ℕ → Origin → Option ℕ
-place_of counts to origin = if has_pairs origin then Some (count_at counts to) else None
-
 unfoldable pub sent : World → ℕ → ℕ → List ℕ → Origin → World
-sent w from to bytes origin = record w {
-  packets = w.packets ++ record { from = from; to = to; bytes = bytes; origin = origin; place = place_of w.queued to origin } ∷ [];
-  queued = if has_pairs origin then counted w.queued to else w.queued;
-}
+sent w from to bytes origin = record w { packets = w.packets ++ record { from = from; to = to; bytes = bytes; origin = origin } ∷ [] }
 
 -- an output of a node's step: what it does to the world, and the entry of the report that it makes in a line
 unfoldable pub shown : ℕ → World → Out → World
 shown n w (Send peer bytes origin) = sent w n (node_of peer) bytes origin
 shown n w (Up session side frame) = w
+shown n w (Gone session) = w
 shown n w (Drop x) = w
 shown n w (Cause x) = w
 
 unfoldable pub entry_of : ℕ → ℕ → World → Out → Entry
 entry_of line n w (Send peer bytes origin) = Sends line (length w.packets + 1) n (node_of peer) bytes
 entry_of line n w (Up session side frame) = HandsUp line n session (birth_of w n session) side frame
+entry_of line n w (Gone session) = Ends line n session
 entry_of line n w (Drop x) = Drops line n x
 entry_of line n w (Cause x) = Causes line n x
 
@@ -202,53 +194,66 @@ with_call session (Ok node) = if is_some (at node.end.calls session) then Ok nod
 abbrev pub config_of : ℕ → ℕ → Config
 config_of n lns = record { number = n; address = address_of n; lns = lns; secret = None; hide = false }
 
-unfoldable pub added : World → ℕ → Role → ℕ → Result Lined Why
-added w n r lns = if is_some (at w.nodes n) then Err why.Twice else Ok (quiet_line (with_node w n (record { end = new_end r (config_of n lns); births = [] })))
+unfoldable pub added : World → ℕ → Role → ℕ → Result Lined Refusal
+added w n r lns = if is_some (at w.nodes n) then Err (Unfit why.Twice) else Ok (quiet_line (with_node w n (record { end = new_end r (config_of n lns); clock = 0; births = [] })))
 
 -- the random bytes of a step: the node, and the line, in 8 bytes each
 unfoldable pub block_of : ℕ → ℕ → List ℕ
 block_of n line = big_bytes 8 n ++ big_bytes 8 line
 
--- no clock goes on yet
-unfoldable pub stepped : World → ℕ → ℕ → Event → Option Sender → Result Node Why → Result Lined Why
-stepped w line n e sender (Err x) = Err x
-stepped w line n e sender (Ok node) = Ok (after_step w line n node sender (step node.end 0 (block_of n line) e))
+-- a step at the node's moment
+unfoldable pub stepped : World → ℕ → ℕ → Event → Option Sender → Result Node Why → Result Lined Refusal
+stepped w line n e sender (Err x) = Err (Unfit x)
+stepped w line n e sender (Ok node) = Ok (after_step w line n node sender (step node.end node.clock (block_of n line) e))
 
--- each message is delivered once, and those to one node in the order in which they were sent; the others as often as
--- wanted
-abbrev pub is_next : List (ℕ × ℕ) → ℕ → Option ℕ → Bool
-is_next counts to None = true
-is_next counts to (Some place) = place == count_at counts to
+-- the packet and the node that it is for, or why it can't be delivered
+unfoldable pub addressee_of : Packet → Option Node → Result (Packet × Node) Why
+addressee_of p None = Err why.Node
+addressee_of p (Some node) = Ok (p, node)
 
--- one more message was delivered to the node
-unfoldable pub marked : Bool → ℕ → World → World
-marked counts n w = record w { delivered = if counts then counted w.delivered n else w.delivered }
-
--- the packet, or why it can't be delivered
-unfoldable pub arrival : World → Option Packet → Result Packet Why
+unfoldable pub arrival : World → Option Packet → Result (Packet × Node) Why
 arrival w None = Err why.Packet
-arrival w (Some p) =
-    if not (is_some (at w.nodes p.to)) then Err why.Node
-    else if is_next w.delivered p.to p.place then Ok p
-    else Err why.Order
+arrival w (Some p) = addressee_of p (at w.nodes p.to)
+
+-- a number that is more than 32,767 below a count has outlived half of the numbers that a channel has
+abbrev pub outlives : ℕ → ℕ → Bool
+outlives number count = nat_lt (number + 32767) count
+
+-- a control message whose numbers have, by what the tunnel that it is for has taken and acknowledged
+unfoldable pub too_old : ControlOrigin → Option Control → Option Refusal
+too_old o None = None
+too_old o (Some c) =
+    if outlives o.ns c.channel.inbox.taken then Some (HalfSpace o.ns c.channel.inbox.taken)
+    else if outlives o.nr c.channel.window.acked then Some (HalfSpace o.nr c.channel.window.acked)
+    else None
+
+unfoldable pub refused_by : Packet → Node → Origin → Option Refusal
+refused_by p node (origin.Control o) = too_old o (reached node.end (address_of p.from) p.bytes)
+refused_by p node (origin.Data session) = None
 
 abbrev pub sender_of : ℕ → Origin → Option Sender
-sender_of from (Control c) = Some (record { node = from; tunnel = c.tunnel })
-sender_of from (Data session) = None
+sender_of from (origin.Control c) = Some (record { node = from; tunnel = c.tunnel })
+sender_of from (origin.Data session) = None
 
-unfoldable pub arrives : World → ℕ → Packet → Result Lined Why
-arrives w line p =
-    stepped (marked (is_some p.place) p.to w) line p.to (event.Datagram (address_of p.from) p.bytes) (sender_of p.from p.origin) (declared (at w.nodes p.to))
+unfoldable pub arrives : World → ℕ → Packet → Node → Option Refusal → Result Lined Refusal
+arrives w line p node (Some r) = Err r
+arrives w line p node None =
+    stepped w line p.to (event.Datagram (address_of p.from) p.bytes) (sender_of p.from p.origin) (Ok node)
 
-unfoldable pub delivers_it : World → ℕ → Result Packet Why → Result Lined Why
-delivers_it w line (Err x) = Err x
-delivers_it w line (Ok p) = arrives w line p
+unfoldable pub delivers_it : World → ℕ → Result (Packet × Node) Why → Result Lined Refusal
+delivers_it w line (Err x) = Err (Unfit x)
+delivers_it w line (Ok a) = arrives w line a.0 a.1 (refused_by a.0 a.1 a.0.origin)
 
-unfoldable pub delivers : World → ℕ → Option Packet → Result Lined Why
+unfoldable pub delivers : World → ℕ → Option Packet → Result Lined Refusal
 delivers w line p = delivers_it w line (arrival w p)
 
--- what a line with its number leads to, or why the line doesn't fit
-unfoldable pub line : World → ℕ → Line → Result Lined Why
+-- the clock of a node goes on, up to the last number of 64 bits
+abbrev pub later : ℕ → Result Node Why → Result Node Why
+later milliseconds (Err x) = Err x
+later milliseconds (Ok node) = Ok (record node { clock = min (node.clock + milliseconds) (2 ^ 64 - 1) })
+
+-- what a line with its number leads to, or why it is refused
+unfoldable pub line : World → ℕ → Line → Result Lined Refusal
 line w number (Remark text) = Ok (quiet_line w)
 line w number (Lac n m) = added w n role.Lac (address_of m)
 line w number (Lns n) = added w n role.Lns 0
@@ -257,3 +262,4 @@ line w number (Ring n port) = stepped w number n (event.Ring port) None (lac_at 
 line w number (FromSub n session frame) = stepped w number n (event.Payload session frame) None (with_call session (lac_at (at w.nodes n)))
 line w number (Down n session frame) = stepped w number n (event.Lower session frame) None (with_call session (lns_at (at w.nodes n)))
 line w number (Deliver p) = delivers w number (slice_get w.packets (p - 1))
+line w number (Tick n milliseconds) = stepped w number n event.Tick None (later milliseconds (declared (at w.nodes n)))

@@ -15,15 +15,17 @@ pub enum Event {
     Lower { session: u16, frame: Bytes },
     /// An administrative open of a tunnel.
     OpenTunnel,
+    /// Time has passed: what is due is done.
+    Tick,
 }
 
 /// What a control message that comes is for.
 #[derive(Clone, Copy, Debug, PartialEq, Eq)]
 pub enum Addressee {
-    /// A tunnel that is to be made.
-    Opens,
+    /// A tunnel that is to be made, to which the peer assigned this id.
+    Opens { remote: u16 },
     /// The tunnel with this local id.
-    Main { tunnel: u16 },
+    Main { tunnel: u32 },
     /// None: the message is ignored.
     Nobody { why: Why },
 }

@@ -11,16 +11,19 @@ mod moves;
 mod names;
 mod out;
 mod packet;
+mod refusal;
 mod tunnel;
 
 pub use event::{Addressee, Event};
 pub use moves::{
-    Accepted, Added, Confirmed, Connected, FirstUp, FrameSent, FrameUp, Move, NrRead, Opened,
-    Place, Replied, Requested, SecondUp, TookPlain,
+    Accepted, Added, Confirmed, Connected, EndHeard, EndSilent, EndTold, FirstUp, FrameSent,
+    FrameUp, Greeted, LetGo, Move, NrRead, Opened, Place, Repeated, Replied, Requested, SecondUp,
+    TookPlain,
 };
 pub use names::{address_of, calling_number, host_name, node_of, twelve_digits};
 pub use out::{ControlOrigin, Origin, Out};
 pub use packet::Packet;
+pub use refusal::Refusal;
 pub use tunnel::{
     Call, CallPlace, CallStep, CallSteps, CellChange, CellChanges, Config, Control, Look, Role,
 };

@@ -18,21 +18,23 @@ pub struct Opened {
     pub given: Place,
 }
 
-/// A tunnel was made by the SCCRQ of a peer that assigned an id, and answered by an SCCRP.
+/// A tunnel was made by the SCCRQ of a peer that assigned an id and told its receive window, and answered by an SCCRP.
 #[derive(Clone, Copy, Debug, PartialEq, Eq)]
 pub struct Accepted {
     pub tunnel: u16,
     pub peer: u32,
     pub remote: u16,
+    pub window: u16,
     pub taken: Place,
     pub given: Place,
 }
 
-/// A tunnel learned by an SCCRP which id its peer assigned, and was connected by an SCCCN.
+/// A tunnel learned by an SCCRP which id its peer assigned and which receive window it has, and was connected by an SCCCN.
 #[derive(Clone, Copy, Debug, PartialEq, Eq)]
 pub struct Connected {
     pub tunnel: u16,
     pub remote: u16,
+    pub window: u16,
     pub taken: Place,
     pub given: Place,
 }
@@ -90,6 +92,39 @@ pub struct SecondUp {
     pub taken: Place,
 }
 
+/// A call ended, and the peer was told by a CDN with this result code. `remote` is the peer's session id, 0 where it isn't
+/// known.
+#[derive(Clone, Copy, Debug, PartialEq, Eq)]
+pub struct EndTold {
+    pub tunnel: u16,
+    pub session: u16,
+    pub remote: u16,
+    pub code: u16,
+    pub given: Place,
+}
+
+/// A call ended by a CDN of the peer. Its id is one of a table's.
+#[derive(Clone, Copy, Debug, PartialEq, Eq)]
+pub struct EndHeard {
+    pub tunnel: u16,
+    pub session: u32,
+    pub taken: Place,
+}
+
+/// A call ended of which the peer knows nothing.
+#[derive(Clone, Copy, Debug, PartialEq, Eq)]
+pub struct EndSilent {
+    pub tunnel: u16,
+    pub session: u16,
+}
+
+/// A HELLO was given to a tunnel's channel.
+#[derive(Clone, Copy, Debug, PartialEq, Eq)]
+pub struct Greeted {
+    pub tunnel: u16,
+    pub given: Place,
+}
+
 /// A tunnel took a letter that changes nothing else.
 #[derive(Clone, Copy, Debug, PartialEq, Eq)]
 pub struct TookPlain {
@@ -97,11 +132,25 @@ pub struct TookPlain {
     pub taken: Place,
 }
 
-/// A tunnel read which number its peer expects next, modulo 65536.
+/// A tunnel read which number its peer expects next, modulo 65536: the letters before it are acknowledged.
 #[derive(Clone, Copy, Debug, PartialEq, Eq)]
 pub struct NrRead {
     pub tunnel: u16,
     pub nr: u16,
+}
+
+/// A letter that was never on the wire went out.
+#[derive(Clone, Copy, Debug, PartialEq, Eq)]
+pub struct LetGo {
+    pub tunnel: u16,
+    pub sent: Place,
+}
+
+/// The oldest letter that isn't acknowledged went out again.
+#[derive(Clone, Copy, Debug, PartialEq, Eq)]
+pub struct Repeated {
+    pub tunnel: u16,
+    pub sent: Place,
 }
 
 /// A PPP frame that was given for a call was sent to the peer of its tunnel.
@@ -135,8 +184,16 @@ pub enum Move {
     Replied(Replied),
     FirstUp(FirstUp),
     SecondUp(SecondUp),
+    EndTold(EndTold),
+    EndHeard(EndHeard),
+    EndSilent(EndSilent),
+    /// A tunnel was removed with its calls, and its peer wasn't told.
+    Cleared { tunnel: u16 },
+    Greeted(Greeted),
     TookPlain(TookPlain),
     NrRead(NrRead),
+    LetGo(LetGo),
+    Repeated(Repeated),
     /// An acknowledgement alone was sent in the tunnel.
     Quiet { tunnel: u16 },
     FrameSent(FrameSent),

@@ -40,6 +40,10 @@ pub enum Out {
         side: Side,
         frame: Bytes,
     },
+    /// The call with this local session id, one of a table's, ended.
+    Gone {
+        session: u32,
+    },
     /// The input is ignored.
     Drop {
         why: Why,

@@ -12,6 +12,4 @@ pub struct Packet {
     pub to: u8,
     pub bytes: Bytes,
     pub origin: Origin,
-    /// How many packets with attribute value pairs were sent to that node before it, where it has some.
-    pub place: Option<u64>,
 }

@@ -1,7 +1,7 @@
 //! What an end is, and what it knows of a call.
 
 use call_fsm::{CallEvent, CallState};
-use reliable_channel::Channel;
+use control_channel::ChannelNumbers;
 use tunnel_fsm::TunnelState;
 use wire_base::{Bytes, Sequence};
 
@@ -39,7 +39,11 @@ pub struct Control {
     /// The id that the other end assigned, 0 while it isn't known.
     pub remote: u16,
     pub state: TunnelState,
-    pub channel: Channel,
+    /// The numbers of its control channel.
+    pub channel: ChannelNumbers,
+    /// The moment at which it was made, and the one at which a control message of its peer last came, in milliseconds.
+    pub made: u64,
+    pub heard: u64,
 }
 
 /// A row of a call's table that a call went through.
@@ -59,6 +63,8 @@ pub struct Call {
     /// The session id that the other end assigned, 0 while it isn't known.
     pub remote: u16,
     pub state: CallState,
+    /// The moment at which it entered its state, in milliseconds.
+    pub since: u64,
     /// The port that rings, at a LAC; 0 at an LNS.
     pub port: u16,
     /// The rows that it went through since it was idle.
@@ -91,9 +97,9 @@ pub enum CellChange {
     Establish {
         session: u16,
     },
-    /// The call ended.
+    /// The call ended. Its id is one of a table's.
     Kill {
-        session: u16,
+        session: u32,
     },
 }
 

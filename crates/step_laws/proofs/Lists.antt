@@ -1,22 +1,30 @@
--- Lists that grow at their end.
-use Rattle.std.proofs.Common.{◌≡◌, inl, inr, ⊎_elim, ℕ, List, [], ◌∷◌, ◌++◌, refl, sym, subst}
-use Rattle.std.specs.List.{AllByRecursion}
-use Rattle.id_table.specs.Ids.{put}
+-- Lists that grow at their end, and tables from which a value is taken.
+use Rattle.std.proofs.Common.{◌≡◌, ◌⊎◌, inl, inr, ⊎_elim, ℕ, Bool, true, false, cond, eqb, zero, suc, List, [], ◌∷◌, ◌++◌, refl, sym, ap, ◌∙◌, subst, Option, Some, None, arith}
+use Rattle.std.proofs.lemmas.Bool.{eqb-true, eqb-false, ne_eqb}
+use Rattle.std.proofs.lemmas.Option.{none-some}
+use Rattle.std.specs.List.{AllByRecursion, find}
+use Rattle.std.specs.Prelude.{slice_get, ◌&&◌, map}
+use Rattle.id_table.specs.Ids.{at, put, without, is_at-same, ids_of}
+use Rattle.id_table.specs.Order.{IsAbove, Ascends, ascends-put, same_or_not}
 use Rattle.protocol_model.specs.declared.event.Event.{Event}
 use Rattle.protocol_model.specs.declared.tunnel.Call.{Call}
 use Rattle.protocol_model.specs.declared.tunnel.CallPlace.{CallPlace}
 use Rattle.protocol_model.specs.declared.tunnel.CellChange.{CellChange}
-use Rattle.protocol_model.specs.declared.tunnel.Config.{Config}
-use Rattle.protocol_model.specs.declared.tunnel.Role.{Role}
+use Rattle.protocol_model.specs.declared.tunnel.CellChange.TheVariants as cell
+use Rattle.protocol_model.specs.declared.tunnel.Look.{Look}
 use Rattle.protocol_model.specs.declared.moves.Move.{Move}
-use Rattle.protocol_model.specs.Turn.{with_calls}
-use Rattle.protocol_model.specs.End.{End, new_place, placed, with_look, with_looks}
-use Rattle.step_laws.specs.Letters.{Among, Letter, GivesLetter}
+use Rattle.protocol_model.specs.Turn.{changed_at, with_calls}
+use Rattle.protocol_model.specs.End.{End, new_place, placed, looked, with_look, with_looks}
+use Rattle.step_laws.specs.Letters.{Among}
 use Rattle.step_laws.specs.Moves.{Does, Chain}
 
 pub all_push : {X : Type 0} (P : X → Type 0) (xs : List X) (x : X) → AllByRecursion P xs → P x → AllByRecursion P (xs ++ x ∷ [])
 all_push P [] x h p = (p, tt)
 all_push P (y ∷ xs) x h p = (h.0, all_push P xs x h.1 p)
+
+pub all_append : {X : Type 0} (P : X → Type 0) (xs ys : List X) → AllByRecursion P xs → AllByRecursion P ys → AllByRecursion P (xs ++ ys)
+all_append P [] ys h k = k
+all_append P (x ∷ xs) ys h k = (h.0, all_append P xs ys h.1 k)
 
 pub all_map : {X : Type 0} (P Q : X → Type 0) → ((x : X) → P x → Q x) → (xs : List X) → AllByRecursion P xs → AllByRecursion Q xs
 all_map P Q f [] h = tt
@@ -26,14 +34,21 @@ pub among_left : {X : Type 0} (x : X) (xs ys : List X) → Among x xs → Among 
 among_left x [] ys h = absurd h
 among_left x (q ∷ xs) ys h = ⊎_elim (λ a. inl a) (λ a. inr (among_left x xs ys a)) h
 
-pub among_last : {X : Type 0} (x : X) (xs : List X) → Among x (xs ++ x ∷ [])
-among_last x [] = inl refl
-among_last x (q ∷ xs) = inr (among_last x xs)
+pub among_right : {X : Type 0} (x : X) (xs ys : List X) → Among x ys → Among x (xs ++ ys)
+among_right x [] ys h = h
+among_right x (q ∷ xs) ys h = inr (among_right x xs ys h)
 
-pub with_calls-more : (xs : List (ℕ × Call)) (s : ℕ) (c : Call) (calls : List (ℕ × Call)) → with_calls (xs ++ (s, c) ∷ []) calls ≡ put (with_calls xs calls) s c
+-- what is there is there still where more is behind it
+pub got_still : {X : Type 0} (xs ys : List X) (n : ℕ) (x : X) → slice_get xs n ≡ Some x → slice_get (xs ++ ys) n ≡ Some x
+got_still [] ys n x h = absurd cc
+got_still (q ∷ xs) ys zero x h = h
+got_still (q ∷ xs) ys (suc n) x h = got_still xs ys n x h
+
+pub with_calls-more : (xs : List (ℕ × Option Call)) (s : ℕ) (c : Option Call) (calls : List (ℕ × Call))
+    → with_calls (xs ++ (s, c) ∷ []) calls ≡ changed_at (with_calls xs calls) s c
 unfolding with_calls
 with_calls-more [] s c calls = refl
-with_calls-more (x ∷ xs) s c calls = with_calls-more xs s c (put calls x.0 x.1)
+with_calls-more (x ∷ xs) s c calls = with_calls-more xs s c (changed_at calls x.0 x.1)
 
 pub with_looks-more : (xs : List CellChange) (x : CellChange) (places : List (ℕ × CallPlace))
     → with_looks (xs ++ x ∷ []) places ≡ with_look x (with_looks xs places)
@@ -46,9 +61,150 @@ unfolding placed
 placed-more i [] s places = refl
 placed-more i (x ∷ ss) s places = placed-more i ss s (put places x (new_place i))
 
-pub chain_more : (ev : Event) (e y x : End) (ms : List Move) (m : Move) → Chain ev e ms y → Does y ev m x → Chain ev e (ms ++ m ∷ []) x
-chain_more ev e y x [] m h d = (x, subst (λ z. Does z ev m x) (sym h) d, refl)
-chain_more ev e y x (n ∷ ms) m h d = (h.0, h.1, chain_more ev h.0 y x ms m h.2 d)
+pub chain_more : (moment : ℕ) (ev : Event) (e y x : End) (ms : List Move) (m : Move) → Chain moment ev e ms y → Does y moment ev m x
+    → Chain moment ev e (ms ++ m ∷ []) x
+chain_more moment ev e y x [] m h d = (x, subst (λ z. Does z moment ev m x) (sym h) d, refl)
+chain_more moment ev e y x (n ∷ ms) m h d = (h.0, h.1, chain_more moment ev h.0 y x ms m h.2 d)
 
-pub gives_later : (role : Role) (c : Config) (ms ns : List Move) (l : Letter) → GivesLetter role c ms l → GivesLetter role c (ms ++ ns) l
-gives_later role c ms ns l h = record { by = h.by; there = among_left h.by ms ns h.there; gives = h.gives }
+pub chain_append : (moment : ℕ) (ev : Event) (e y x : End) (ms ns : List Move) → Chain moment ev e ms y → Chain moment ev y ns x → Chain moment ev e (ms ++ ns) x
+chain_append moment ev e y x [] ns h k = subst (λ z. Chain moment ev z ns x) (sym h) k
+chain_append moment ev e y x (m ∷ ms) ns h k = (h.0, h.1, chain_append moment ev h.0 y x ms ns h.2 k)
+
+-- by cases on a test
+pub branch : {T : Type 0} (P : T → Type 0) (a : Bool) (x y : T) → (a ≡ true → P x) → (a ≡ false → P y) → P (cond a x y)
+branch P true x y p q = p refl
+branch P false x y p q = q refl
+
+pub and_left : (a b : Bool) → (a && b) ≡ true → a ≡ true
+and_left true b h = refl
+and_left false b h = h
+
+-- what is found passes the test
+pub found_passes : {X : Type 0} (p : X → Bool) (xs : List X) (x : X) → find p xs ≡ Some x → p x ≡ true
+found_passes p [] x h = absurd cc
+found_passes p (y ∷ xs) x h = by (p y) refl h (found_passes p xs x)
+  where
+    by : (b : Bool) → p y ≡ b → cond b (Some y) (find p xs) ≡ Some x → (find p xs ≡ Some x → p x ≡ true) → p x ≡ true
+    by true is e later = let same : y ≡ x = cc in subst (λ z. p z ≡ true) same is
+    by false is e later = later e
+
+-- ---- a value is taken out of a table
+
+module _ {X : Type 0} where
+  at_cons : (e : ℕ × X) (es : List (ℕ × X)) (q : ℕ) → at (e ∷ es) q ≡ cond (eqb q e.0) (Some e.1) (at es q)
+  unfolding at
+  at_cons e es q = ap (λ b. cond b (Some e.1) (at es q)) (is_at-same q e.0)
+
+  at_nil : (q : ℕ) → at {X = X} [] q ≡ None
+  unfolding at
+  at_nil q = refl
+
+  without_nil : (k : ℕ) → without {X = X} [] k ≡ []
+  unfolding without
+  without_nil k = refl
+
+  without_cons : (e : ℕ × X) (es : List (ℕ × X)) (k : ℕ) → without (e ∷ es) k ≡ cond (eqb k e.0) es (e ∷ without es k)
+  unfolding without
+  without_cons e es k = ap (λ b. cond b es (e ∷ without es k)) (is_at-same k e.0)
+
+  none_below : (k : ℕ) (es : List (ℕ × X)) → IsAbove k es → at es k ≡ None
+  none_below k [] h = at_nil k
+  none_below k (e ∷ es) h = at_cons e es k ∙ rw (ne_eqb k e.0 (λ q. let lt = h.0 in omega (arith, q))) (none_below k es h.1)
+
+  pub at_without_other : (es : List (ℕ × X)) (k q : ℕ) → (q ≡ k → ⊥) → at (without es k) q ≡ at es q
+  at_without_other [] k q o = rw (without_nil k) refl
+  at_without_other (e ∷ es) k q o = rw (without_cons e es k, at_cons e es q) (by (eqb k e.0) refl (at_without_other es k q o))
+    where
+      by : (b : Bool) → eqb k e.0 ≡ b → at (without es k) q ≡ at es q → at (cond b es (e ∷ without es k)) q ≡ cond (eqb q e.0) (Some e.1) (at es q)
+      by true is later = rw (ne_eqb q e.0 (λ s. o (s ∙ sym (eqb-true k e.0 is)))) refl
+      by false is later = at_cons e (without es k) q ∙ ap (λ x. cond (eqb q e.0) (Some e.1) x) later
+
+  pub at_without_same : (es : List (ℕ × X)) (k : ℕ) → Ascends es → at (without es k) k ≡ None
+  unfolding Ascends
+  at_without_same [] k h = rw (without_nil k) (at_nil k)
+  at_without_same (e ∷ es) k h = rw (without_cons e es k) (by (eqb k e.0) refl (at_without_same es k h.1))
+    where
+      by : (b : Bool) → eqb k e.0 ≡ b → at (without es k) k ≡ None → at (cond b es (e ∷ without es k)) k ≡ None
+      by true is later = none_below k es (subst (λ n. IsAbove n es) (sym (eqb-true k e.0 is)) h.0)
+      by false is later = at_cons e (without es k) k ∙ rw is later
+
+  above_without : (q k : ℕ) (es : List (ℕ × X)) → IsAbove q es → IsAbove q (without es k)
+  above_without q k [] h = rw (without_nil k) tt
+  above_without q k (e ∷ es) h = rw (without_cons e es k) (branch (IsAbove q) (eqb k e.0) _ _ (λ is. h.1) (λ no. (h.0, above_without q k es h.1)))
+
+  pub ascends-without : (k : ℕ) (es : List (ℕ × X)) → Ascends es → Ascends (without es k)
+  unfolding Ascends
+  ascends-without k [] h = rw (without_nil k) tt
+  ascends-without k (e ∷ es) h =
+      rw (without_cons e es k) (branch Ascends (eqb k e.0) _ _ (λ is. h.1) (λ no. (above_without e.0 k es h.0, ascends-without k es h.1)))
+
+  -- what is found after a value was taken out was there, under another id
+  pub found_without : (es : List (ℕ × X)) (k q : ℕ) (x : X) → Ascends es → at (without es k) q ≡ Some x → (q ≡ k → ⊥) × (at es q ≡ Some x)
+  found_without es k q x h found = ⊎_elim
+      (λ e. absurd (none-some x (sym (at_without_same es k h) ∙ subst (λ n. at (without es k) n ≡ Some x) e found)))
+      (λ o. (o, sym (at_without_other es k q o) ∙ found))
+      (same_or_not q k)
+
+  -- ---- the ids of a table
+
+  pub found_among : (es : List (ℕ × X)) (q : ℕ) (x : X) → at es q ≡ Some x → Among q (ids_of es)
+  found_among [] q x h = absurd (none-some x (sym (at_nil q) ∙ h))
+  found_among (e ∷ es) q x h = by (eqb q e.0) refl (sym (at_cons e es q) ∙ h) (found_among es q x)
+    where
+      by : (b : Bool) → eqb q e.0 ≡ b → cond (eqb q e.0) (Some e.1) (at es q) ≡ Some x → (at es q ≡ Some x → Among q (ids_of es))
+          → (e.0 ≡ q) ⊎ Among q (ids_of es)
+      by true is f later = inl (sym (eqb-true q e.0 is))
+      by false is f later = inr (later (rw is at f))
+
+  pub none_not_among : (es : List (ℕ × X)) (q : ℕ) → at es q ≡ None → Among q (ids_of es) → ⊥
+  none_not_among [] q h a = a
+  none_not_among (e ∷ es) q h a = by (eqb q e.0) refl (sym (at_cons e es q) ∙ h) (none_not_among es q)
+    where
+      by : (b : Bool) → eqb q e.0 ≡ b → cond (eqb q e.0) (Some e.1) (at es q) ≡ None → (at es q ≡ None → Among q (ids_of es) → ⊥) → ⊥
+      by true is f later = none-some e.1 (let g = rw is at f in sym g)
+      by false is f later = ⊎_elim (λ s. eqb-false q e.0 is (sym s)) (λ l. later (rw is at f) l) a
+
+-- ---- looks
+
+pub ascends_placed : (i : ℕ) (ss : List ℕ) (places : List (ℕ × CallPlace)) → Ascends places → Ascends (placed i ss places)
+unfolding placed
+ascends_placed i [] places h = h
+ascends_placed i (s ∷ ss) places h = ascends_placed i ss (put places s (new_place i)) (ascends-put s (new_place i) places h)
+
+ascends_looked : (l : Look) (s : ℕ) (o : Option CallPlace) (places : List (ℕ × CallPlace)) → Ascends places → Ascends (looked l s o places)
+ascends_looked l s None places h = h
+ascends_looked l s (Some p) places h = ascends-put s (record p { look = l }) places h
+
+pub ascends_look : (c : CellChange) (places : List (ℕ × CallPlace)) → Ascends places → Ascends (with_look c places)
+unfolding with_look
+ascends_look (cell.Bind s tunnel peer) places h = ascends_looked _ s (at places s) places h
+ascends_look (cell.Establish s) places h = ascends_looked _ s (at places s) places h
+ascends_look (cell.Kill s) places h = ascends-without s places h
+
+pub ascends_looks : (cs : List CellChange) (places : List (ℕ × CallPlace)) → Ascends places → Ascends (with_looks cs places)
+unfolding with_looks
+ascends_looks [] places h = h
+ascends_looks (c ∷ cs) places h = ascends_looks cs (with_look c places) (ascends_look c places h)
+
+-- what isn't there isn't there after calls ended
+pub killed_none : (ss : List ℕ) (places : List (ℕ × CallPlace)) (q : ℕ) → Ascends places → at places q ≡ None → at (with_looks (map cell.Kill ss) places) q ≡ None
+unfolding with_looks with_look
+killed_none [] places q h none = none
+killed_none (s ∷ ss) places q h none =
+    killed_none ss (without places s) q (ascends-without s places h)
+    (⊎_elim (λ e. rw e (at_without_same places s h)) (λ o. at_without_other places s q o ∙ none) (same_or_not q s))
+
+-- of calls that ended nothing is there, and the others are as they were
+pub killed_same : (ss : List ℕ) (places : List (ℕ × CallPlace)) (q : ℕ) → Ascends places → Among q ss → at (with_looks (map cell.Kill ss) places) q ≡ None
+unfolding with_looks with_look
+killed_same [] places q h a = absurd a
+killed_same (s ∷ ss) places q h a = ⊎_elim
+    (λ (e : s ≡ q). killed_none ss (without places s) q (ascends-without s places h) (rw (sym e) (at_without_same places s h)))
+    (λ l. killed_same ss (without places s) q (ascends-without s places h) l)
+    a
+
+pub killed_other : (ss : List ℕ) (places : List (ℕ × CallPlace)) (q : ℕ) → (Among q ss → ⊥) → at (with_looks (map cell.Kill ss) places) q ≡ at places q
+unfolding with_looks with_look
+killed_other [] places q none = refl
+killed_other (s ∷ ss) places q none =
+    killed_other ss (without places s) q (λ a. none (inr a)) ∙ at_without_other places s q (λ e. none (inl (sym e)))

@@ -1,12 +1,14 @@
 -- What the data plane sees of each session stays so.
-use Rattle.std.proofs.Common.{◌≡◌, ⊎_elim, ℕ, ◌+◌, ◌<◌, ◌≤◌, Bool, true, false, cond, List, [], ◌∷◌, refl, sym, ap, ◌∙◌, subst, Some, Ok, Err, arith}
+use Rattle.std.proofs.Common.{◌≡◌, ⊎_elim, ℕ, ◌+◌, ◌<◌, ◌≤◌, Bool, true, false, cond, List, [], ◌∷◌, refl, sym, ap, ◌∙◌, subst, Option, Some, None, Ok, Err, arith}
 use Rattle.std.proofs.lemmas.Bool.{true≢false}
 use Rattle.std.proofs.lemmas.Option.{none-some}
-use Rattle.std.specs.Prelude.{nat_lt, ◌-◌}
+use Rattle.std.specs.Prelude.{nat_lt, ◌-◌, map}
 use Rattle.id_source.specs.declared.IdError.TheVariants.{NoIds, NeedCeiling}
 use Rattle.id_source.specs.Spaces.{Space, draws, after_draw}
-use Rattle.id_table.specs.Ids.{at, put, at-none}
-use Rattle.id_table.specs.Order.{at_new, at_other, found_put, same_or_not}
+use Rattle.wire_base.specs.declared.letter.Letter.{Letter}
+use Rattle.tunnel_fsm.specs.declared.table.TunnelState.TheVariants as tunnel
+use Rattle.id_table.specs.Ids.{at, put, without, at-none, ids_of}
+use Rattle.id_table.specs.Order.{Ascends, ascends-put, ascends-empty, at_new, at_other, found_put, same_or_not}
 use Rattle.call_fsm.specs.declared.table.CallState.{CallState}
 use Rattle.call_fsm.specs.declared.table.CallState.TheVariants.{Idle, WaitTunnel, WaitReply, WaitConnect, Established}
 use Rattle.call_fsm.specs.declared.table.CallEvent.TheVariants as call_event
@@ -15,15 +17,18 @@ use Rattle.protocol_model.specs.declared.moves.Move.{Move}
 use Rattle.protocol_model.specs.declared.moves.Move.TheVariants as move
 use Rattle.protocol_model.specs.declared.tunnel.Call.{Call}
 use Rattle.protocol_model.specs.declared.tunnel.CallPlace.{CallPlace}
+use Rattle.protocol_model.specs.declared.tunnel.CellChange.TheVariants as cell
 use Rattle.protocol_model.specs.declared.tunnel.Control.{Control}
 use Rattle.protocol_model.specs.declared.tunnel.Look.TheVariants as look
 use Rattle.protocol_model.specs.declared.tunnel.Role.{Role}
 use Rattle.protocol_model.specs.declared.tunnel.Role.TheVariants.{Lac, Lns}
 use Rattle.protocol_model.specs.Calls.{call_row, advanced, rung, asked_for, is_request, is_reply, is_connection, is_up}
 use Rattle.protocol_model.specs.Turn.{Tunnel}
-use Rattle.protocol_model.specs.End.{End, with_look}
+use Rattle.protocol_model.specs.End.{End, with_look, with_looks}
 use Rattle.step_laws.specs.Moves.{with_tunnel, Does, Chain}
-use Rattle.step_laws.specs.Steps.{StepsAreChains}
+use Rattle.step_laws.specs.Steps.{AreKept, StepsAreChains}
+use Rattle.step_laws.proofs.Lists.{at_without_other, ascends-without, found_without, found_among, none_not_among, ascends_look, ascends_looks, killed_same, killed_other}
+use Rattle.step_laws.proofs.Turns.{learnt_peer}
 use Rattle.step_laws.specs.Looks.{look_of, IsLive, LooksAreTrue, LooksBeginTrue, LooksStayTrue}
 
 never : {X : Type 0} → false ≡ true → X
@@ -44,15 +49,15 @@ requested_state Lns WaitReply h = never h
 requested_state Lns WaitConnect h = never h
 requested_state Lns Established h = never h
 
-replied_state : (r : Role) (remote : ℕ) → is_reply (call_row r Idle call_event.IcrqAcc).1 ≡ true → (asked_for r remote).state ≡ WaitConnect
+replied_state : (r : Role) (remote moment : ℕ) → is_reply (call_row r Idle call_event.IcrqAcc).1 ≡ true → (asked_for r remote moment).state ≡ WaitConnect
 unfolding call_row asked_for advanced
-replied_state Lac remote h = never h
-replied_state Lns remote h = refl
+replied_state Lac remote moment h = never h
+replied_state Lns remote moment h = refl
 
-rung_state : (r : Role) (port : ℕ) → r ≡ Lac → (rung r port).state ≡ WaitTunnel
+rung_state : (r : Role) (port moment : ℕ) → r ≡ Lac → (rung r port moment).state ≡ WaitTunnel
 unfolding call_row rung advanced
-rung_state Lac port h = refl
-rung_state Lns port h = absurd cc
+rung_state Lac port moment h = refl
+rung_state Lns port moment h = absurd cc
 
 connected_state : (r : Role) (s : CallState) → is_connection (call_row r s call_event.IcrpAcc).1 ≡ true
     → (s ≡ WaitReply) × ((call_row r s call_event.IcrpAcc).0 ≡ Established)
@@ -92,6 +97,13 @@ next_is s k h = rw h refl
 drawn_next : (s : Space) (k : ℕ) → draws s ≡ Ok k → (after_draw s).next ≡ k + 1
 drawn_next s k h = ap (λ (d : Space). d.next) (next_is s k h)
 
+-- ---- tables that ascend
+
+record AreOrdered (e : End) : Type 0 where
+  tunnels : Ascends e.tunnels
+  calls : (i : ℕ) (t : Tunnel) → at e.tunnels i ≡ Some t → Ascends t.calls
+  places : Ascends e.calls
+
 -- ---- one tunnel is put, and one place
 
 module _ (x : End) (ok : LooksAreTrue x) where
@@ -100,52 +112,52 @@ module _ (x : End) (ok : LooksAreTrue x) where
   same_tunnel j i u t e a b = let g : Some u ≡ Some t = sym a ∙ subst (λ q. at x.tunnels q ≡ Some t) (sym e) b in cc
 
   -- a tunnel goes on with the calls that it has
-  calls_stay : (i : ℕ) (t : Tunnel) (c : Control) → at x.tunnels i ≡ Some t → c.peer ≡ t.control.peer
-      → LooksAreTrue (with_tunnel x i (record t { control = c }))
-  calls_stay i t c there peer = record {
+  calls_stay : (i : ℕ) (t : Tunnel) (c : Control) (ls : List Letter) → at x.tunnels i ≡ Some t → c.peer ≡ t.control.peer
+      → LooksAreTrue (with_tunnel x i (record t { control = c; letters = ls }))
+  calls_stay i t c ls there peer = record {
     live = λ s p f. let l = ok.live s p f in ⊎_elim
         (λ (a : p.tunnel ≡ i). (let k = same_tunnel p.tunnel i l.tunnel t a l.there there in
-        record { tunnel = record t { control = c }; there = rw a (at_new x.tunnels i (record t { control = c })); call = l.call; live = rw (← k) l.live }))
-        (λ o. record { tunnel = l.tunnel; there = at_other x.tunnels i (record t { control = c }) p.tunnel o ∙ l.there; call = l.call; live = l.live })
+        record { tunnel = record t { control = c; letters = ls }; there = rw a (at_new x.tunnels i (record t { control = c; letters = ls })); call = l.call; live = rw (← k) l.live }))
+        (λ o. record { tunnel = l.tunnel; there = at_other x.tunnels i (record t { control = c; letters = ls }) p.tunnel o ∙ l.there; call = l.call; live = l.live })
         (same_or_not p.tunnel i);
     seen = λ j u f s d g. ⊎_elim
-        (λ (a : (j ≡ i) × (record t { control = c } ≡ u)). rw (a.0, ← a.1, peer) (ok.seen i t there s d (rw (← a.1) at g)))
+        (λ (a : (j ≡ i) × (record t { control = c; letters = ls } ≡ u)). rw (a.0, ← a.1, peer) (ok.seen i t there s d (rw (← a.1) at g)))
         (λ a. ok.seen j u a.1 s d g)
-        (found_put x.tunnels i (record t { control = c }) j u f);
+        (found_put x.tunnels i (record t { control = c; letters = ls }) j u f);
     tunnels = λ j u f. ⊎_elim
-        (λ (a : (j ≡ i) × (record t { control = c } ≡ u)). rw a.0 (ok.tunnels i t there))
+        (λ (a : (j ≡ i) × (record t { control = c; letters = ls } ≡ u)). rw a.0 (ok.tunnels i t there))
         (λ a. ok.tunnels j u a.1)
-        (found_put x.tunnels i (record t { control = c }) j u f);
+        (found_put x.tunnels i (record t { control = c; letters = ls }) j u f);
     sessions = ok.sessions;
   }
 
   -- a tunnel that is new has no calls
-  tunnel_born : (y : End) (i : ℕ) (c : Control) → i ≡ x.tunnel_ids.next → y.tunnels ≡ put x.tunnels i (record { control = c; calls = [] })
+  tunnel_born : (y : End) (i : ℕ) (c : Control) (ls : List Letter) → i ≡ x.tunnel_ids.next → y.tunnels ≡ put x.tunnels i (record { control = c; letters = ls; calls = [] })
       → y.calls ≡ x.calls → y.tunnel_ids.next ≡ i + 1 → y.session_ids ≡ x.session_ids → LooksAreTrue y
-  tunnel_born y i c fresh tunnels calls next sessions = record {
+  tunnel_born y i c ls fresh tunnels calls next sessions = record {
     live = λ s p f.
         let l = ok.live s p (rw (← calls) f) in
         let lt = ok.tunnels p.tunnel l.tunnel l.there in
         record {
           tunnel = l.tunnel;
-          there = rw tunnels (at_other x.tunnels i (record { control = c; calls = [] }) p.tunnel (λ e. omega (arith, fresh, e)) ∙ l.there);
+          there = rw tunnels (at_other x.tunnels i (record { control = c; letters = ls; calls = [] }) p.tunnel (λ e. omega (arith, fresh, e)) ∙ l.there);
           call = l.call;
           live = l.live;
         };
     seen = λ j u f s d g. ⊎_elim
-        (λ (a : (j ≡ i) × (record { control = c; calls = [] } ≡ u)). absurd (let h : at [] s ≡ Some d = rw (← a.1) at g in none-some d (sym (at-none s) ∙ h)))
+        (λ (a : (j ≡ i) × (record { control = c; letters = ls; calls = [] } ≡ u)). absurd (let h : at [] s ≡ Some d = rw (← a.1) at g in none-some d (sym (at-none s) ∙ h)))
         (λ a. rw calls (ok.seen j u a.1 s d g))
-        (found_put x.tunnels i (record { control = c; calls = [] }) j u (rw (← tunnels) f));
+        (found_put x.tunnels i (record { control = c; letters = ls; calls = [] }) j u (rw (← tunnels) f));
     tunnels = λ j u f. ⊎_elim
-        (λ (a : (j ≡ i) × (record { control = c; calls = [] } ≡ u)). (let e = a.0 in omega (arith, next, e)))
+        (λ (a : (j ≡ i) × (record { control = c; letters = ls; calls = [] } ≡ u)). (let e = a.0 in omega (arith, next, e)))
         (λ a. let lt = ok.tunnels j u a.1 in omega (arith, next, fresh))
-        (found_put x.tunnels i (record { control = c; calls = [] }) j u (rw (← tunnels) f));
+        (found_put x.tunnels i (record { control = c; letters = ls; calls = [] }) j u (rw (← tunnels) f));
     sessions = λ s p f. rw sessions (ok.sessions s p (rw (← calls) f));
   }
 
   -- a call of a tunnel is put, with its place; no other tunnel has it
-  record SetsCall (y : End) (i : ℕ) (t : Tunnel) (c : Control) (s : ℕ) (k : Call) : Type 0 where
-    tunnels : y.tunnels ≡ put x.tunnels i (record { control = c; calls = put t.calls s k })
+  record SetsCall (y : End) (i : ℕ) (t : Tunnel) (c : Control) (ls : List Letter) (s : ℕ) (k : Call) : Type 0 where
+    tunnels : y.tunnels ≡ put x.tunnels i (record { control = c; letters = ls; calls = put t.calls s k })
     there : at x.tunnels i ≡ Some t
     peer : c.peer ≡ t.control.peer
     only : (j : ℕ) (u : Tunnel) → at x.tunnels j ≡ Some u → (j ≡ i → ⊥) → (d : Call) → at u.calls s ≡ Some d → ⊥
@@ -154,9 +166,9 @@ module _ (x : End) (ok : LooksAreTrue x) where
     drawn : s < y.session_ids.next
     rises : x.session_ids.next ≤ y.session_ids.next
 
-  module _ (y : End) (i : ℕ) (t : Tunnel) (c : Control) (s : ℕ) (k : Call) (sets : SetsCall y i t c s k) where
+  module _ (y : End) (i : ℕ) (t : Tunnel) (c : Control) (ls : List Letter) (s : ℕ) (k : Call) (sets : SetsCall y i t c ls s k) where
     abbrev u : Tunnel
-    u = record { control = c; calls = put t.calls s k }
+    u = record { control = c; letters = ls; calls = put t.calls s k }
 
     abbrev place : CallPlace
     place = record { tunnel = i; look = look_of k.state i t.control.peer }
@@ -234,51 +246,136 @@ module _ (x : End) (ok : LooksAreTrue x) where
   same_places : (es fs : List (ℕ × CallPlace)) → es ≡ fs → (q : ℕ) → at es q ≡ at fs q
   same_places es fs e q = ap (λ (l : List (ℕ × CallPlace)). at l q) e
 
+  -- a call of a tunnel ended, and its place isn't there any more
+  record EndsCall (y : End) (i : ℕ) (t : Tunnel) (c : Control) (ls : List Letter) (s : ℕ) (k : Call) : Type 0 where
+    tunnels : y.tunnels ≡ put x.tunnels i (record { control = c; letters = ls; calls = without t.calls s })
+    there : at x.tunnels i ≡ Some t
+    peer : c.peer ≡ t.control.peer
+    live : at t.calls s ≡ Some k
+    calls : y.calls ≡ without x.calls s
+    ids : y.tunnel_ids ≡ x.tunnel_ids
+    drawn : y.session_ids ≡ x.session_ids
+
+  module _ (order : AreOrdered x) (y : End) (i : ℕ) (t : Tunnel) (c : Control) (ls : List Letter) (s : ℕ) (k : Call) (ends : EndsCall y i t c ls s k) where
+    abbrev rest : Tunnel
+    rest = record { control = c; letters = ls; calls = without t.calls s }
+
+    still : (q : ℕ) (p : CallPlace) → at y.calls q ≡ Some p → (q ≡ s → ⊥) × (at x.calls q ≡ Some p)
+    still q p f = found_without x.calls s q p order.places (rw (← ends.calls) f)
+
+    live_still : (q : ℕ) (p : CallPlace) → (q ≡ s → ⊥) × (at x.calls q ≡ Some p) → IsLive y p.tunnel q
+    live_still q p f =
+        let l = ok.live q p f.1 in
+        ⊎_elim
+        (λ (a : p.tunnel ≡ i). (let same = same_tunnel p.tunnel i l.tunnel t a l.there ends.there in
+        record { tunnel = rest; there = rw (a, ends.tunnels) (at_new x.tunnels i rest); call = l.call; live = at_without_other t.calls s q f.0 ∙ rw (← same) l.live }))
+        (λ b. record { tunnel = l.tunnel; there = rw ends.tunnels (at_other x.tunnels i rest p.tunnel b ∙ l.there); call = l.call; live = l.live })
+        (same_or_not p.tunnel i)
+
+    place_still : (q : ℕ) (p : CallPlace) → (q ≡ s → ⊥) → at x.calls q ≡ Some p → at y.calls q ≡ Some p
+    place_still q p o f = rw ends.calls (at_without_other x.calls s q o ∙ f)
+
+    seen_rest : (q : ℕ) (d : Call) → (q ≡ s → ⊥) × (at t.calls q ≡ Some d) → at y.calls q ≡ Some (record { tunnel = i; look = look_of d.state i c.peer })
+    seen_rest q d f = rw ends.peer (place_still q _ f.0 (ok.seen i t ends.there q d f.1))
+
+    seen_apart : (j : ℕ) (v : Tunnel) → at x.tunnels j ≡ Some v → (j ≡ i → ⊥) → (q : ℕ) (d : Call) → at v.calls q ≡ Some d
+        → at y.calls q ≡ Some (seen_in j v d)
+    seen_apart j v f o q d g =
+        place_still q (seen_in j v d) (λ e. one_tunnel i t ends.there s k ends.live j v f o d (subst (λ n. at v.calls n ≡ Some d) e g)) (ok.seen j v f q d g)
+
+    call_gone : LooksAreTrue y
+    call_gone = record {
+      live = λ q p f. live_still q p (still q p f);
+      seen = λ j v f q d g. ⊎_elim
+          (λ (a : (j ≡ i) × (rest ≡ v)). rw (a.0, ← a.1) (seen_rest q d (found_without t.calls s q d (order.calls i t ends.there) (rw (← a.1) at g))))
+          (λ a. seen_apart j v a.1 a.0 q d g)
+          (found_put x.tunnels i rest j v (rw (← ends.tunnels) f));
+      tunnels = λ j v f. rw ends.ids (⊎_elim
+          (λ (a : (j ≡ i) × (rest ≡ v)). rw a.0 (ok.tunnels i t ends.there))
+          (λ a. ok.tunnels j v a.1)
+          (found_put x.tunnels i rest j v (rw (← ends.tunnels) f)));
+      sessions = λ q p f. rw ends.drawn (ok.sessions q p (still q p f).1);
+    }
+
+  -- a tunnel is removed with its calls
+  module _ (order : AreOrdered x) (i : ℕ) (t : Tunnel) (there : at x.tunnels i ≡ Some t) where
+    abbrev gone : End
+    gone = record x { tunnels = without x.tunnels i; calls = with_looks (map cell.Kill (ids_of t.calls)) x.calls }
+
+    -- a place that is left is that of a call of another tunnel
+    left_place : (q : ℕ) (p : CallPlace) → at gone.calls q ≡ Some p → (o : Option Call) → at t.calls q ≡ o → (o ≡ None) × (at x.calls q ≡ Some p)
+    left_place q p f None is = (refl, sym (killed_other (ids_of t.calls) x.calls q (none_not_among t.calls q is)) ∙ f)
+    left_place q p f (Some c) is =
+        absurd (none-some p (sym (killed_same (ids_of t.calls) x.calls q order.places (found_among t.calls q c is)) ∙ f))
+
+    live_left : (q : ℕ) (p : CallPlace) → (at t.calls q ≡ None) × (at x.calls q ≡ Some p) → IsLive gone p.tunnel q
+    live_left q p f =
+        let l = ok.live q p f.1 in
+        ⊎_elim
+        (λ (a : p.tunnel ≡ i). (let same = same_tunnel p.tunnel i l.tunnel t a l.there there in
+        absurd (none-some l.call (sym f.0 ∙ rw (← same) l.live))))
+        (λ b. record { tunnel = l.tunnel; there = at_without_other x.tunnels i p.tunnel b ∙ l.there; call = l.call; live = l.live })
+        (same_or_not p.tunnel i)
+
+    seen_left : (j : ℕ) (v : Tunnel) → (j ≡ i → ⊥) × (at x.tunnels j ≡ Some v) → (q : ℕ) (d : Call) → at v.calls q ≡ Some d
+        → (o : Option Call) → at t.calls q ≡ o → at gone.calls q ≡ Some (seen_in j v d)
+    seen_left j v f q d g None is = killed_other (ids_of t.calls) x.calls q (none_not_among t.calls q is) ∙ ok.seen j v f.1 q d g
+    seen_left j v f q d g (Some c) is = absurd (one_tunnel i t there q c is j v f.1 f.0 d g)
+
+    tunnel_gone : LooksAreTrue gone
+    tunnel_gone = record {
+      live = λ q p f. live_left q p (left_place q p f (at t.calls q) refl);
+      seen = λ j v f q d g. seen_left j v (found_without x.tunnels i j v order.tunnels f) q d g (at t.calls q) refl;
+      tunnels = λ j v f. ok.tunnels j v (found_without x.tunnels i j v order.tunnels f).1;
+      sessions = λ q p f. ok.sessions q p (left_place q p f (at t.calls q) refl).1;
+    }
+
   stays : (y : End) → y ≡ x → LooksAreTrue y
   stays y same = subst LooksAreTrue (sym same) ok
 
-  does_looks : (ev : Event) (m : Move) (y : End) → Does x ev m y → LooksAreTrue y
+  does_looks : AreOrdered x → (moment : ℕ) (ev : Event) (m : Move) (y : End) → Does x moment ev m y → LooksAreTrue y
   unfolding with_look advanced
-  does_looks ev (move.Opened m) y h =
-      tunnel_born y m.tunnel _ (draw_is x.tunnel_ids m.tunnel h.drawn) (ap (λ (e : End). e.tunnels) h.after) (ap (λ (e : End). e.calls) h.after)
+  does_looks order moment ev (move.Opened m) y h =
+      tunnel_born y m.tunnel _ _ (draw_is x.tunnel_ids m.tunnel h.drawn) (ap (λ (e : End). e.tunnels) h.after) (ap (λ (e : End). e.calls) h.after)
       (ap (λ (e : End). e.tunnel_ids.next) h.after ∙ drawn_next x.tunnel_ids m.tunnel h.drawn) (ap (λ (e : End). e.session_ids) h.after)
-  does_looks ev (move.Accepted m) y h =
-      tunnel_born y m.tunnel _ (draw_is x.tunnel_ids m.tunnel h.drawn) (ap (λ (e : End). e.tunnels) h.after) (ap (λ (e : End). e.calls) h.after)
+  does_looks order moment ev (move.Accepted m) y h =
+      tunnel_born y m.tunnel _ _ (draw_is x.tunnel_ids m.tunnel h.drawn) (ap (λ (e : End). e.tunnels) h.after) (ap (λ (e : End). e.calls) h.after)
       (ap (λ (e : End). e.tunnel_ids.next) h.after ∙ drawn_next x.tunnel_ids m.tunnel h.drawn) (ap (λ (e : End). e.session_ids) h.after)
-  does_looks ev (move.Connected m) y h = subst LooksAreTrue (sym h.after) (calls_stay m.tunnel h.tunnel _ h.there refl)
-  does_looks ev (move.Confirmed m) y h = subst LooksAreTrue (sym h.after) (calls_stay m.tunnel h.tunnel _ h.there refl)
-  does_looks ev (move.TookPlain m) y h = subst LooksAreTrue (sym h.after) (calls_stay m.tunnel h.tunnel _ h.there refl)
-  does_looks ev (move.Added m) y h =
+  does_looks order moment ev (move.Connected m) y h =
+      subst LooksAreTrue (sym h.after) (calls_stay m.tunnel h.tunnel _ _ h.there (learnt_peer m.window (record h.tunnel.control { remote = m.remote; state = tunnel.Established })))
+  does_looks order moment ev (move.Confirmed m) y h = subst LooksAreTrue (sym h.after) (calls_stay m.tunnel h.tunnel _ _ h.there refl)
+  does_looks order moment ev (move.TookPlain m) y h = subst LooksAreTrue (sym h.after) (calls_stay m.tunnel h.tunnel _ _ h.there refl)
+  does_looks order moment ev (move.Added m) y h =
       let fresh = draw_is x.session_ids m.session h.drawn in
       let next : y.session_ids.next ≡ m.session + 1 = ap (λ (e : End). e.session_ids.next) h.after ∙ drawn_next x.session_ids m.session h.drawn in
-      call_put y m.tunnel h.tunnel _ m.session (rung x.role m.port) (record {
+      call_put y m.tunnel h.tunnel _ _ m.session (rung x.role m.port moment) (record {
         tunnels = ap (λ (e : End). e.tunnels) h.after;
         there = h.there;
         peer = refl;
         only = λ j u f o d g. no_tunnel m.session fresh j u f d g;
-        calls = same_places y.calls _ (ap (λ (e : End). e.calls) h.after ∙ rw (rung_state x.role m.port h.role) refl);
+        calls = same_places y.calls _ (ap (λ (e : End). e.calls) h.after ∙ rw (rung_state x.role m.port moment h.role) refl);
         ids = ap (λ (e : End). e.tunnel_ids) h.after;
         drawn = omega (arith, next);
         rises = omega (arith, next, fresh);
       })
-  does_looks ev (move.Replied m) y h =
+  does_looks order moment ev (move.Replied m) y h =
       let fresh = draw_is x.session_ids m.session h.drawn in
       let next : y.session_ids.next ≡ m.session + 1 = ap (λ (e : End). e.session_ids.next) h.after ∙ drawn_next x.session_ids m.session h.drawn in
-      call_put y m.tunnel h.tunnel _ m.session (asked_for x.role m.remote) (record {
+      call_put y m.tunnel h.tunnel _ _ m.session (asked_for x.role m.remote moment) (record {
         tunnels = ap (λ (e : End). e.tunnels) h.after;
         there = h.there;
         peer = refl;
         only = λ j u f o d g. no_tunnel m.session fresh j u f d g;
-        calls = same_places y.calls _ (ap (λ (e : End). e.calls) h.after ∙ rw (replied_state x.role m.remote h.row) refl);
+        calls = same_places y.calls _ (ap (λ (e : End). e.calls) h.after ∙ rw (replied_state x.role m.remote moment h.row) refl);
         ids = ap (λ (e : End). e.tunnel_ids) h.after;
         drawn = omega (arith, next);
         rises = omega (arith, next, fresh);
       })
-  does_looks ev (move.Requested m) y h =
+  does_looks order moment ev (move.Requested m) y h =
       let seen = ok.seen m.tunnel h.tunnel h.there m.session h.call h.waits in
       let lt = ok.sessions m.session _ seen in
       let ids : y.session_ids ≡ x.session_ids = ap (λ (e : End). e.session_ids) h.after in
-      call_put y m.tunnel h.tunnel _ m.session (advanced x.role call_event.TunnelOpen h.call) (record {
+      call_put y m.tunnel h.tunnel _ _ m.session (advanced x.role call_event.TunnelOpen moment h.call) (record {
         tunnels = ap (λ (e : End). e.tunnels) h.after;
         there = h.there;
         peer = refl;
@@ -288,14 +385,14 @@ module _ (x : End) (ok : LooksAreTrue x) where
         drawn = rw ids lt;
         rises = rw ids (omega arith);
       })
-  does_looks ev (move.FirstUp m) y h =
+  does_looks order moment ev (move.FirstUp m) y h =
       let seen = ok.seen m.tunnel h.tunnel h.there m.session h.call h.asked in
       let lt = ok.sessions m.session _ seen in
       let ids : y.session_ids ≡ x.session_ids = ap (λ (e : End). e.session_ids) h.after in
       let state = connected_state x.role h.call.state h.row in
       let bound : at x.calls m.session ≡ Some (record { tunnel = m.tunnel; look = look.Bound m.tunnel h.tunnel.control.peer }) =
       seen ∙ ap (λ q. Some (record { tunnel = m.tunnel; look = look_of q m.tunnel h.tunnel.control.peer })) state.0 in
-      call_put y m.tunnel h.tunnel _ m.session (advanced x.role call_event.IcrpAcc (record h.call { remote = m.remote })) (record {
+      call_put y m.tunnel h.tunnel _ _ m.session (advanced x.role call_event.IcrpAcc moment (record h.call { remote = m.remote })) (record {
         tunnels = ap (λ (e : End). e.tunnels) h.after;
         there = h.there;
         peer = refl;
@@ -305,7 +402,7 @@ module _ (x : End) (ok : LooksAreTrue x) where
         drawn = rw ids lt;
         rises = rw ids (omega arith);
       })
-  does_looks ev (move.SecondUp m) y h =
+  does_looks order moment ev (move.SecondUp m) y h =
       let seen = ok.seen m.tunnel h.tunnel h.there m.session h.call h.made in
       let lt = ok.sessions m.session _ seen in
       let ids : y.session_ids ≡ x.session_ids = ap (λ (e : End). e.session_ids) h.after in
@@ -314,7 +411,7 @@ module _ (x : End) (ok : LooksAreTrue x) where
       let up : CallPlace = record { tunnel = m.tunnel; look = look.Established m.tunnel h.tunnel.control.peer } in
       let places : y.calls ≡ put (put x.calls m.session bound) m.session up =
       ap (λ (e : End). e.calls) h.after ∙ rw (seen, at_new x.calls m.session bound) refl in
-      call_put y m.tunnel h.tunnel _ m.session (advanced x.role call_event.IccnAcc h.call) (record {
+      call_put y m.tunnel h.tunnel _ _ m.session (advanced x.role call_event.IccnAcc moment h.call) (record {
         tunnels = ap (λ (e : End). e.tunnels) h.after;
         there = h.there;
         peer = refl;
@@ -324,14 +421,122 @@ module _ (x : End) (ok : LooksAreTrue x) where
         drawn = rw ids lt;
         rises = rw ids (omega arith);
       })
-  does_looks ev (move.NrRead m) y h = stays y h.after
-  does_looks ev (move.Quiet i) y h = stays y h.after
-  does_looks ev (move.FrameSent m) y h = stays y h.after
-  does_looks ev (move.FrameUp m) y h = stays y h.after
+  does_looks order moment ev (move.EndTold m) y h =
+      call_gone order y m.tunnel h.tunnel _ _ m.session h.call (record {
+        tunnels = ap (λ (e : End). e.tunnels) h.after;
+        there = h.there;
+        peer = refl;
+        live = h.live;
+        calls = ap (λ (e : End). e.calls) h.after;
+        ids = ap (λ (e : End). e.tunnel_ids) h.after;
+        drawn = ap (λ (e : End). e.session_ids) h.after;
+      })
+  does_looks order moment ev (move.EndHeard m) y h =
+      call_gone order y m.tunnel h.tunnel _ _ m.session h.call (record {
+        tunnels = ap (λ (e : End). e.tunnels) h.after;
+        there = h.there;
+        peer = refl;
+        live = h.live;
+        calls = ap (λ (e : End). e.calls) h.after;
+        ids = ap (λ (e : End). e.tunnel_ids) h.after;
+        drawn = ap (λ (e : End). e.session_ids) h.after;
+      })
+  does_looks order moment ev (move.EndSilent m) y h =
+      call_gone order y m.tunnel h.tunnel _ _ m.session h.call (record {
+        tunnels = ap (λ (e : End). e.tunnels) h.after;
+        there = h.there;
+        peer = refl;
+        live = h.live;
+        calls = ap (λ (e : End). e.calls) h.after;
+        ids = ap (λ (e : End). e.tunnel_ids) h.after;
+        drawn = ap (λ (e : End). e.session_ids) h.after;
+      })
+  does_looks order moment ev (move.Cleared i) y h = subst LooksAreTrue (sym h.after) (tunnel_gone order i h.tunnel h.there)
+  does_looks order moment ev (move.Greeted m) y h = subst LooksAreTrue (sym h.after) (calls_stay m.tunnel h.tunnel _ _ h.there refl)
+  does_looks order moment ev (move.Repeated m) y h = subst LooksAreTrue (sym h.after) (calls_stay m.tunnel h.tunnel _ _ h.there refl)
+  does_looks order moment ev (move.NrRead m) y h = subst LooksAreTrue (sym h.after) (calls_stay m.tunnel h.tunnel _ _ h.there refl)
+  does_looks order moment ev (move.LetGo m) y h = subst LooksAreTrue (sym h.after) (calls_stay m.tunnel h.tunnel _ _ h.there refl)
+  does_looks order moment ev (move.Quiet i) y h = stays y h.after
+  does_looks order moment ev (move.FrameSent m) y h = stays y h.after
+  does_looks order moment ev (move.FrameUp m) y h = stays y h.after
 
-pub chain_looks : (ev : Event) (x y : End) (ms : List Move) → Chain ev x ms y → LooksAreTrue x → LooksAreTrue y
-chain_looks ev x y [] h ok = subst LooksAreTrue h ok
-chain_looks ev x y (m ∷ ms) h ok = chain_looks ev h.0 y ms h.2 (does_looks x ok ev m h.0 h.1)
+-- ---- what ascends still does
+
+module _ (x : End) (ok : AreOrdered x) where
+  -- a tunnel is put, and looks change
+  tunnel_put : (y : End) (i : ℕ) (t : Tunnel) → Ascends t.calls → y.tunnels ≡ put x.tunnels i t → Ascends y.calls → AreOrdered y
+  tunnel_put y i t sorted tunnels places = record {
+    tunnels = rw tunnels (ascends-put i t x.tunnels ok.tunnels);
+    calls = λ j u f. ⊎_elim
+        (λ (a : (j ≡ i) × (t ≡ u)). rw (← a.1) sorted)
+        (λ a. ok.calls j u a.1)
+        (found_put x.tunnels i t j u (rw (← tunnels) f));
+    places = places;
+  }
+
+  -- looks stay
+  looks_stay_so : (y : End) → y.calls ≡ x.calls → Ascends y.calls
+  looks_stay_so y same = rw same ok.places
+
+  goes_on : (y : End) (i : ℕ) (t : Tunnel) (c : Control) (ls : List Letter) → at x.tunnels i ≡ Some t
+      → y ≡ with_tunnel x i (record t { control = c; letters = ls }) → AreOrdered y
+  goes_on y i t c ls there is =
+      tunnel_put y i (record t { control = c; letters = ls }) (ok.calls i t there) (ap (λ (e : End). e.tunnels) is)
+      (looks_stay_so y (ap (λ (e : End). e.calls) is))
+
+  does_order : (moment : ℕ) (ev : Event) (m : Move) (y : End) → Does x moment ev m y → AreOrdered y
+  does_order moment ev (move.Opened m) y h =
+      tunnel_put y m.tunnel _ (ascends-empty [] refl) (ap (λ (e : End). e.tunnels) h.after) (looks_stay_so y (ap (λ (e : End). e.calls) h.after))
+  does_order moment ev (move.Accepted m) y h =
+      tunnel_put y m.tunnel _ (ascends-empty [] refl) (ap (λ (e : End). e.tunnels) h.after) (looks_stay_so y (ap (λ (e : End). e.calls) h.after))
+  does_order moment ev (move.Connected m) y h = goes_on y m.tunnel h.tunnel _ _ h.there h.after
+  does_order moment ev (move.Confirmed m) y h = goes_on y m.tunnel h.tunnel _ _ h.there h.after
+  does_order moment ev (move.TookPlain m) y h = goes_on y m.tunnel h.tunnel _ _ h.there h.after
+  does_order moment ev (move.NrRead m) y h = goes_on y m.tunnel h.tunnel _ _ h.there h.after
+  does_order moment ev (move.LetGo m) y h = goes_on y m.tunnel h.tunnel _ _ h.there h.after
+  does_order moment ev (move.Greeted m) y h = goes_on y m.tunnel h.tunnel _ _ h.there h.after
+  does_order moment ev (move.Repeated m) y h = goes_on y m.tunnel h.tunnel _ _ h.there h.after
+  does_order moment ev (move.Added m) y h =
+      tunnel_put y m.tunnel _ (ascends-put m.session _ h.tunnel.calls (ok.calls m.tunnel h.tunnel h.there)) (ap (λ (e : End). e.tunnels) h.after)
+      (subst (λ (e : End). Ascends e.calls) (sym h.after) (ascends-put m.session _ x.calls ok.places))
+  does_order moment ev (move.Replied m) y h =
+      tunnel_put y m.tunnel _ (ascends-put m.session _ h.tunnel.calls (ok.calls m.tunnel h.tunnel h.there)) (ap (λ (e : End). e.tunnels) h.after)
+      (subst (λ (e : End). Ascends e.calls) (sym h.after) (ascends-put m.session _ x.calls ok.places))
+  does_order moment ev (move.Requested m) y h =
+      tunnel_put y m.tunnel _ (ascends-put m.session _ h.tunnel.calls (ok.calls m.tunnel h.tunnel h.there)) (ap (λ (e : End). e.tunnels) h.after)
+      (subst (λ (e : End). Ascends e.calls) (sym h.after) (ascends_look _ x.calls ok.places))
+  does_order moment ev (move.FirstUp m) y h =
+      tunnel_put y m.tunnel _ (ascends-put m.session _ h.tunnel.calls (ok.calls m.tunnel h.tunnel h.there)) (ap (λ (e : End). e.tunnels) h.after)
+      (subst (λ (e : End). Ascends e.calls) (sym h.after) (ascends_look _ x.calls ok.places))
+  does_order moment ev (move.SecondUp m) y h =
+      tunnel_put y m.tunnel _ (ascends-put m.session _ h.tunnel.calls (ok.calls m.tunnel h.tunnel h.there)) (ap (λ (e : End). e.tunnels) h.after)
+      (subst (λ (e : End). Ascends e.calls) (sym h.after) (ascends_look _ _ (ascends_look _ x.calls ok.places)))
+  does_order moment ev (move.EndTold m) y h =
+      tunnel_put y m.tunnel _ (ascends-without m.session h.tunnel.calls (ok.calls m.tunnel h.tunnel h.there)) (ap (λ (e : End). e.tunnels) h.after)
+      (subst (λ (e : End). Ascends e.calls) (sym h.after) (ascends_look (cell.Kill m.session) x.calls ok.places))
+  does_order moment ev (move.EndHeard m) y h =
+      tunnel_put y m.tunnel _ (ascends-without m.session h.tunnel.calls (ok.calls m.tunnel h.tunnel h.there)) (ap (λ (e : End). e.tunnels) h.after)
+      (subst (λ (e : End). Ascends e.calls) (sym h.after) (ascends_look (cell.Kill m.session) x.calls ok.places))
+  does_order moment ev (move.EndSilent m) y h =
+      tunnel_put y m.tunnel _ (ascends-without m.session h.tunnel.calls (ok.calls m.tunnel h.tunnel h.there)) (ap (λ (e : End). e.tunnels) h.after)
+      (subst (λ (e : End). Ascends e.calls) (sym h.after) (ascends_look (cell.Kill m.session) x.calls ok.places))
+  does_order moment ev (move.Cleared i) y h =
+      subst AreOrdered (sym h.after) (record {
+        tunnels = ascends-without i x.tunnels ok.tunnels;
+        calls = λ j u f. ok.calls j u (found_without x.tunnels i j u ok.tunnels f).1;
+        places = ascends_looks (map cell.Kill (ids_of h.tunnel.calls)) x.calls ok.places;
+      })
+  does_order moment ev (move.Quiet i) y h = subst AreOrdered (sym h.after) ok
+  does_order moment ev (move.FrameSent m) y h = subst AreOrdered (sym h.after) ok
+  does_order moment ev (move.FrameUp m) y h = subst AreOrdered (sym h.after) ok
+
+chain_looks : (moment : ℕ) (ev : Event) (x y : End) (ms : List Move) → Chain moment ev x ms y → AreOrdered x → LooksAreTrue x → LooksAreTrue y
+chain_looks moment ev x y [] h order ok = subst LooksAreTrue h ok
+chain_looks moment ev x y (m ∷ ms) h order ok =
+    chain_looks moment ev h.0 y ms h.2 (does_order x order moment ev m h.0 h.1) (does_looks x ok order moment ev m h.0 h.1)
+
+kept_order : (e : End) → AreKept e → AreOrdered e
+kept_order e kept = record { tunnels = kept.order; calls = λ i t f. (kept.tunnels i t f).calls; places = kept.places }
 
 pub looks_begin : LooksBeginTrue
 looks_begin r c = record {
@@ -342,4 +547,4 @@ looks_begin r c = record {
 }
 
 pub looks_stay : StepsAreChains → LooksStayTrue
-looks_stay chains e kept ok moment block ev = chain_looks ev e _ _ (chains e kept moment block ev).chain ok
+looks_stay chains e kept ok moment block ev = chain_looks moment ev e _ _ (chains e kept moment block ev).chain (kept_order e kept) ok

@@ -1,8 +1,8 @@
 -- A turn hands nothing up, and one call at most is born in it.
-use Rattle.std.proofs.Common.{◌≡◌, ℕ, ◌+◌, ◌≤◌, List, [], ◌∷◌, ◌++◌, length, refl, ap, ◌∙◌, Option, Some, None, Result, Ok, Err, arith}
+use Rattle.std.proofs.Common.{◌≡◌, ℕ, ◌+◌, ◌≤◌, Bool, false, zero, suc, List, [], ◌∷◌, ◌++◌, length, refl, ap, ◌∙◌, Option, Some, None, Result, Ok, Err, arith}
 use Rattle.std.proofs.lemmas.Grind.{flat_map-append}
 use Rattle.std.proofs.lemmas.List.{append-nil, length-append}
-use Rattle.std.specs.Prelude.{◌==◌, ◌&&◌, nat_lt, unwrap_or}
+use Rattle.std.specs.Prelude.{◌==◌, ◌&&◌, ◌||◌, nat_le, nat_lt, unwrap_or}
 use Rattle.std.specs.List.{flat_map}
 use Rattle.id_table.specs.Ids.{at, ids_of}
 use Rattle.id_source.specs.Spaces.{draws}
@@ -11,12 +11,17 @@ use Rattle.wire_base.specs.declared.why.Why.{Why}
 use Rattle.wire_base.specs.declared.cause.Cause.{Cause}
 use Rattle.wire_base.specs.declared.why.Why.TheVariants as why
 use Rattle.wire_base.specs.declared.cause.Cause.TheVariants as cause
+use Rattle.wire_base.specs.declared.letter.Letter.{Letter}
 use Rattle.l2tp_header.specs.declared.header.Header.{Header}
 use Rattle.l2tp_header.specs.declared.header.HeaderError.{HeaderError}
 use Rattle.l2tp_header.specs.Reading.{header_of}
 use Rattle.control_message.specs.declared.message.Message.{Message}
-use Rattle.control_message.specs.declared.message.Message.TheVariants.{Sccrq, Sccrp, Scccn, Icrq, Icrp, Iccn}
-use Rattle.reliable_channel.specs.Channel.{may_count, is_next}
+use Rattle.control_message.specs.declared.message.Message.TheVariants.{Sccrq, Sccrp, Scccn, Hello, Icrq, Icrp, Iccn, Cdn}
+use Rattle.recv_window.specs.declared.Class.{Class}
+use Rattle.recv_window.specs.declared.Class.TheVariants.{Next, Duplicate, Ahead}
+use Rattle.send_window.specs.declared.window.Tick.{Tick as Due}
+use Rattle.send_window.specs.declared.window.Tick.TheVariants as tick
+use Rattle.control_channel.specs.Numbers.{next_to_go, class_told, answer_to_tick}
 use Rattle.tunnel_fsm.specs.declared.table.TunnelState.{TunnelState}
 use Rattle.tunnel_fsm.specs.declared.table.TunnelAction.{TunnelAction}
 use Rattle.tunnel_fsm.specs.declared.table.TunnelAction.TheVariants as action
@@ -25,19 +30,22 @@ use Rattle.tunnel_fsm.specs.declared.table.TunnelEvent.TheVariants as event
 use Rattle.tunnel_fsm.specs.Rows.{rows, row_of, state_number}
 use Rattle.call_fsm.specs.declared.table.CallEvent.TheVariants as call_event
 use Rattle.call_fsm.specs.declared.table.CallState.TheVariants as call
+use Rattle.call_fsm.specs.declared.table.CallAction.{CallAction}
+use Rattle.call_fsm.specs.declared.table.CallAction.TheVariants as call_action
 use Rattle.protocol_model.specs.declared.tunnel.Call.{Call}
 use Rattle.protocol_model.specs.declared.tunnel.Config.{Config}
 use Rattle.protocol_model.specs.declared.tunnel.Role.{Role}
 use Rattle.protocol_model.specs.declared.event.Event.{Event}
-use Rattle.protocol_model.specs.declared.event.Event.TheVariants.{Datagram, Ring, Payload, Lower, OpenTunnel}
+use Rattle.protocol_model.specs.declared.event.Event.TheVariants.{Datagram, Ring, Payload, Lower, OpenTunnel, Tick}
 use Rattle.protocol_model.specs.declared.out.Out.{Out}
-use Rattle.protocol_model.specs.declared.out.Out.TheVariants.{Drop, Cause as Refused}
+use Rattle.protocol_model.specs.declared.out.Out.TheVariants.{Gone, Drop, Cause as Refused}
 use Rattle.protocol_model.specs.declared.moves.Move.{Move}
+use Rattle.protocol_model.specs.declared.moves.Move.TheVariants as move
 use Rattle.protocol_model.specs.Reading.{header_why, body_of, message_in}
-use Rattle.protocol_model.specs.Calls.{call_row, rung, is_request, is_reply, is_connection, is_up}
-use Rattle.protocol_model.specs.Turn.{Turn, with_output, with_move, with_change, with_call, with_new, with_local, drops, gives, acknowledges, takes_one, opened, opens_by, opens, accepted, accepts_by, accepts, requested, requests, requests_at, requests_all, adds, rings_over, rings_by, rings_new, rings, connected, connects, confirms, takes_plain, takes_by, takes, replied, replies_by, replies, first_up, first_up_by, second_up, second_up_by, about_call, in_call, hears, hears_said, in_tunnel, first_said, hears_control, carried, carries, hears_datagram, turns}
+use Rattle.protocol_model.specs.Calls.{call_row, rung, is_set_up, is_request, is_reply, is_connection, is_up}
+use Rattle.protocol_model.specs.Turn.{Turn, with_output, with_move, with_change, with_call, with_new, with_local, drops, gives, has_room, sends_letter, sends_now, lets_go, goes_by, lets_all_go, acknowledges, outstanding, acknowledged_after, settles, takes_one, reads_nr, opened, opens_by, opens, accepted, accepts_by, accepts, requested, requests, requests_at, requests_all, adds, rings_over, rings_by, rings_new, rings, connected, connects, confirms, takes_plain, ignores, takes_by, takes, replied, replies_by, replies, first_up, first_up_by, second_up, second_up_by, ends_call, ends_all, is_clean_up, end_heard, end_heard_by, session_named, ends_named, repeats, greeted, greets, end_silent, end_told, limited_by, limits_at, limits_all, goes_quietly, clears, is_over, patience, is_being_set_up, ticks_by, ticks, about_call, in_call, hears, hears_said, hears_letter, is_duplicate, in_tunnel, first_said, hears_control, carried, carries, hears_datagram, turns}
 use Rattle.step_laws.specs.Ups.{ups_of_output, ups_of_move, births_of_move, most_births}
-use Rattle.step_laws.proofs.Turns.{branch}
+use Rattle.step_laws.proofs.Lists.{branch}
 
 -- outputs and moves that hand nothing up, with so many births at most
 pub record AreQuiet (most : ℕ) (outs : List Out) (ms : List Move) : Type 0 where
@@ -98,15 +106,44 @@ module _ (most : ℕ) where
   unfolding with_output
   refused c t h = told (Refused c) refl h
 
+  -- ---- what is sent
+
+  sent : (number : ℕ) (o : Option Letter) (t : Turn) → Quiet t → Quiet (sends_letter number o t)
+  unfolding sends_letter with_output
+  sent number None t h = h
+  sent number (Some l) t h = branch Quiet (nat_le (length l.avps) 65523) _ _ (λ fits. told _ refl h) (λ long. h)
+
+  gone : (letters : List Letter) (number : ℕ) (t : Turn) → Quiet t → Quiet (lets_go letters number t)
+  unfolding lets_go sends_now with_move
+  gone letters number t h = sent number _ _ (did _ refl refl h)
+
+  gone_by : (rest : Turn → Turn) → ((u : Turn) → Quiet u → Quiet (rest u)) → (letters : List Letter) (o : Option ℕ) (t : Turn) → Quiet t
+      → Quiet (goes_by rest letters o t)
+  unfolding goes_by
+  gone_by rest on letters None t h = h
+  gone_by rest on letters (Some number) t h = on _ (gone letters number t h)
+
+  all_gone : (most : ℕ) (letters : List Letter) (t : Turn) → Quiet t → Quiet (lets_all_go most letters t)
+  unfolding lets_all_go
+  all_gone zero letters t h = h
+  all_gone (suc most) letters t h = gone_by (lets_all_go most letters) (all_gone most letters) letters (next_to_go t.control.channel) t h
+
   acknowledged : (t : Turn) → Quiet t → Quiet (acknowledges t)
   unfolding acknowledges with_output with_move
   acknowledged t h = told _ refl (did _ refl refl h)
 
+  settled : (again : Bool) (letters : List Letter) (t : Turn) → Quiet t → Quiet (settles again letters t)
+  unfolding settles acknowledged_after
+  settled again letters t h =
+      let u = lets_all_go t.control.channel.window.queued letters t in
+      let quiet = all_gone t.control.channel.window.queued letters t h in
+      branch Quiet (again || (u.took && (outstanding u == outstanding t))) _ _ (λ yes. acknowledged u quiet) (λ no. quiet)
+
   -- ---- new tunnels
 
   opened_quiet : (role : Role) (c : Config) (local : ℕ) (t : Turn) → Quiet t → Quiet (opened role c local t)
-  unfolding opened gives with_output with_move with_local
-  opened_quiet role c local t h = told _ refl (did _ refl refl h)
+  unfolding opened gives with_move with_local
+  opened_quiet role c local t h = did _ refl refl h
 
   opens_quiet : (role : Role) (c : Config) (t : Turn) → Quiet t → Quiet (opens role c t)
   unfolding opens opens_by
@@ -114,28 +151,30 @@ module _ (most : ℕ) where
     where
       by : (x : Result ℕ IdError) → Quiet (opens_by role c x t)
       by (Err x) = refused cause.Ids t h
-      by (Ok local) = branch Quiet (may_count t.control.channel.sent) _ _ (λ may. opened_quiet role c local t h) (λ full. refused cause.Queue t h)
+      by (Ok local) = branch Quiet (has_room t.control) _ _ (λ may. opened_quiet role c local t h) (λ full. refused cause.Queue t h)
 
-  accepted_quiet : (role : Role) (c : Config) (remote local : ℕ) (t : Turn) → Quiet t → Quiet (accepted role c remote local t)
-  unfolding accepted gives with_output with_move takes_one with_local
-  accepted_quiet role c remote local t h = told _ refl (did _ refl refl h)
+  accepted_quiet : (role : Role) (c : Config) (remote window local : ℕ) (t : Turn) → Quiet t → Quiet (accepted role c remote window local t)
+  unfolding accepted gives with_move takes_one with_local
+  accepted_quiet role c remote window local t h = did _ refl refl h
 
-  accepts_quiet : (role : Role) (c : Config) (remote : ℕ) (t : Turn) → Quiet t → Quiet (accepts role c remote t)
+  accepts_quiet : (role : Role) (c : Config) (remote window : ℕ) (t : Turn) → Quiet t → Quiet (accepts role c remote window t)
   unfolding accepts accepts_by
-  accepts_quiet role c remote t h = by (draws t.tunnels)
+  accepts_quiet role c remote window t h = by (draws t.tunnels)
     where
-      by : (x : Result ℕ IdError) → Quiet (accepts_by role c remote x t)
+      by : (x : Result ℕ IdError) → Quiet (accepts_by role c remote window x t)
       by (Err x) = dropped why.Tunnel t h
       by (Ok local) =
-          branch Quiet (may_count t.control.channel.sent && may_count t.control.channel.taken) _ _
-          (λ may. accepted_quiet role c remote local t h)
+          branch Quiet (has_room t.control) _ _
+          (λ may. accepted_quiet role c remote window local t h)
           (λ full. dropped why.Queue t h)
 
   first_quiet : (role : Role) (c : Config) (r : Result Message Why) (t : Turn) → Quiet t → Quiet (first_said role c r t)
   unfolding first_said
-  first_quiet role c (Ok (Sccrq o)) t h = accepts_quiet role c o.tunnel t h
+  first_quiet role c (Ok (Sccrq o)) t h = accepts_quiet role c o.tunnel o.window t h
   first_quiet role c (Ok (Sccrp o)) t h = dropped why.Tunnel t h
   first_quiet role c (Ok Scccn) t h = dropped why.Tunnel t h
+  first_quiet role c (Ok Hello) t h = dropped why.Tunnel t h
+  first_quiet role c (Ok (Cdn remote code error)) t h = dropped why.Tunnel t h
   first_quiet role c (Ok (Icrq remote serial calling)) t h = dropped why.Tunnel t h
   first_quiet role c (Ok (Icrp remote)) t h = dropped why.Tunnel t h
   first_quiet role c (Ok (Iccn speed framing sequenced)) t h = dropped why.Tunnel t h
@@ -144,14 +183,14 @@ module _ (most : ℕ) where
   -- ---- calls that are asked for
 
   requested_quiet : (role : Role) (s : ℕ) (c : Call) (t : Turn) → Quiet t → Quiet (requested role s c t)
-  unfolding requested gives with_output with_change with_move with_call
-  requested_quiet role s c t h = told _ refl (did _ refl refl h)
+  unfolding requested gives with_change with_move with_call
+  requested_quiet role s c t h = did _ refl refl h
 
   requests_quiet : (role : Role) (s : ℕ) (c : Call) (t : Turn) → Quiet t → Quiet (requests role s c t)
   unfolding requests
   requests_quiet role s c t h =
       branch Quiet (is_request (call_row role c.state call_event.TunnelOpen).1) _ _
-      (λ row. branch Quiet (may_count t.control.channel.sent) _ _ (λ may. requested_quiet role s c t h) (λ full. dropped why.Queue t h))
+      (λ row. branch Quiet (has_room t.control) _ _ (λ may. requested_quiet role s c t h) (λ full. dropped why.Queue t h))
       (λ none. h)
 
   requests_at_quiet : (role : Role) (s : ℕ) (o : Option Call) (t : Turn) → Quiet t → Quiet (requests_at role s o t)
@@ -166,131 +205,160 @@ module _ (most : ℕ) where
 
   -- ---- letters about the tunnel
 
-  connected_quiet : (remote : ℕ) (next : TunnelState) (t : Turn) → Quiet t → Quiet (connected remote next t)
-  unfolding connected gives with_output with_move takes_one
-  connected_quiet remote next t h = told _ refl (did _ refl refl h)
+  connected_quiet : (remote window : ℕ) (next : TunnelState) (t : Turn) → Quiet t → Quiet (connected remote window next t)
+  unfolding connected gives with_move takes_one
+  connected_quiet remote window next t h = did _ refl refl h
 
-  connects_quiet : (role : Role) (calls : List (ℕ × Call)) (remote : ℕ) (next : TunnelState) (t : Turn) → Quiet t → Quiet (connects role calls remote next t)
+  connects_quiet : (role : Role) (calls : List (ℕ × Call)) (remote window : ℕ) (next : TunnelState) (t : Turn) → Quiet t
+      → Quiet (connects role calls remote window next t)
   unfolding connects
-  connects_quiet role calls remote next t h =
-      branch Quiet (may_count t.control.channel.sent) _ _
-      (λ may. requests_all_quiet role (ids_of calls) calls (connected remote next t) (connected_quiet remote next t h))
+  connects_quiet role calls remote window next t h =
+      branch Quiet (has_room t.control) _ _
+      (λ may. requests_all_quiet role (ids_of calls) calls (connected remote window next t) (connected_quiet remote window next t h))
       (λ full. dropped why.Queue t h)
 
   confirms_quiet : (next : TunnelState) (t : Turn) → Quiet t → Quiet (confirms next t)
   unfolding confirms with_move takes_one
-  confirms_quiet next t h = acknowledged _ (did _ refl refl h)
+  confirms_quiet next t h = did _ refl refl h
 
   plain_quiet : (t : Turn) → Quiet t → Quiet (takes_plain t)
   unfolding takes_plain with_move takes_one
-  plain_quiet t h = acknowledged _ (did _ refl refl h)
+  plain_quiet t h = did _ refl refl h
 
-  takes_by_quiet : (role : Role) (calls : List (ℕ × Call)) (remote : ℕ) (next : TunnelState) (a : TunnelAction) (t : Turn) → Quiet t
-      → Quiet (takes_by role calls remote (next, a) t)
+  ignored : (w : Why) (t : Turn) → Quiet t → Quiet (ignores w t)
+  unfolding ignores
+  ignored w t h = dropped w _ (plain_quiet t h)
+
+  takes_by_quiet : (role : Role) (calls : List (ℕ × Call)) (remote window : ℕ) (next : TunnelState) (a : TunnelAction) (t : Turn) → Quiet t
+      → Quiet (takes_by role calls remote window (next, a) t)
   unfolding takes_by
-  takes_by_quiet role calls remote next action.SendScccn t h = connects_quiet role calls remote next t h
-  takes_by_quiet role calls remote next action.Nothing t h =
+  takes_by_quiet role calls remote window next action.SendScccn t h = connects_quiet role calls remote window next t h
+  takes_by_quiet role calls remote window next action.Nothing t h =
       branch Quiet (state_number next == state_number t.control.state) _ _ (λ same. plain_quiet t h) (λ other. confirms_quiet next t h)
-  takes_by_quiet role calls remote next action.SendSccrq t h = dropped why.Ignored t h
-  takes_by_quiet role calls remote next action.SendSccrp t h = dropped why.Ignored t h
-  takes_by_quiet role calls remote next action.SendStopCcn t h = dropped why.Ignored t h
-  takes_by_quiet role calls remote next action.CleanUp t h = dropped why.Ignored t h
+  takes_by_quiet role calls remote window next action.SendSccrq t h = ignored why.Ignored t h
+  takes_by_quiet role calls remote window next action.SendSccrp t h = ignored why.Ignored t h
+  takes_by_quiet role calls remote window next action.SendStopCcn t h = ignored why.Ignored t h
+  takes_by_quiet role calls remote window next action.CleanUp t h = ignored why.Ignored t h
 
-  takes_quiet : (role : Role) (calls : List (ℕ × Call)) (ev : TunnelEvent) (remote : ℕ) (t : Turn) → Quiet t → Quiet (takes role calls ev remote t)
+  takes_quiet : (role : Role) (calls : List (ℕ × Call)) (ev : TunnelEvent) (remote window : ℕ) (t : Turn) → Quiet t
+      → Quiet (takes role calls ev remote window t)
   unfolding takes
-  takes_quiet role calls ev remote t h =
+  takes_quiet role calls ev remote window t h =
       let row = row_of rows t.control.state ev in
-      takes_by_quiet role calls remote row.0 row.1 t h
+      takes_by_quiet role calls remote window row.0 row.1 t h
 
   -- ---- letters about a call
 
   replied_quiet : (role : Role) (remote s : ℕ) (t : Turn) → Quiet t → Quiet (replied role remote s t)
-  unfolding replied gives with_output with_move with_new takes_one
-  replied_quiet role remote s t h = told _ refl (did _ refl refl h)
+  unfolding replied gives with_move with_new takes_one
+  replied_quiet role remote s t h = did _ refl refl h
 
   replies_quiet : (role : Role) (remote : ℕ) (t : Turn) → Quiet t → Quiet (replies role remote t)
   unfolding replies replies_by
   replies_quiet role remote t h =
-      branch Quiet (is_reply (call_row role call.Idle call_event.IcrqAcc).1) _ _ (λ row. by (draws t.sessions)) (λ none. dropped why.Session t h)
+      branch Quiet (is_reply (call_row role call.Idle call_event.IcrqAcc).1) _ _ (λ row. by (draws t.sessions)) (λ none. ignored why.Session t h)
     where
       by : (x : Result ℕ IdError) → Quiet (replies_by role remote x t)
-      by (Err x) = dropped why.Session t h
-      by (Ok s) = branch Quiet (may_count t.control.channel.sent) _ _ (λ may. replied_quiet role remote s t h) (λ full. dropped why.Queue t h)
+      by (Err x) = ignored why.Session t h
+      by (Ok s) = branch Quiet (has_room t.control) _ _ (λ may. replied_quiet role remote s t h) (λ full. dropped why.Queue t h)
 
   first_up_quiet : (role : Role) (s remote : ℕ) (c : Call) (t : Turn) → Quiet t → Quiet (first_up role s remote c t)
-  unfolding first_up gives with_output with_change with_move with_call takes_one
-  first_up_quiet role s remote c t h = told _ refl (did _ refl refl h)
+  unfolding first_up gives with_change with_move with_call takes_one
+  first_up_quiet role s remote c t h = did _ refl refl h
 
   first_up_by_quiet : (role : Role) (s remote : ℕ) (o : Option Call) (t : Turn) → Quiet t → Quiet (first_up_by role s remote o t)
   unfolding first_up_by
-  first_up_by_quiet role s remote None t h = dropped why.Session t h
+  first_up_by_quiet role s remote None t h = ignored why.Session t h
   first_up_by_quiet role s remote (Some c) t h =
       branch Quiet (is_connection (call_row role c.state call_event.IcrpAcc).1) _ _
-      (λ row. branch Quiet (may_count t.control.channel.sent) _ _ (λ may. first_up_quiet role s remote c t h) (λ full. dropped why.Queue t h))
-      (λ none. dropped why.Session t h)
+      (λ row. branch Quiet (has_room t.control) _ _ (λ may. first_up_quiet role s remote c t h) (λ full. dropped why.Queue t h))
+      (λ none. ignored why.Session t h)
 
   second_up_quiet : (role : Role) (s : ℕ) (c : Call) (t : Turn) → Quiet t → Quiet (second_up role s c t)
   unfolding second_up with_change with_move with_call takes_one
-  second_up_quiet role s c t h = acknowledged _ (did _ refl refl h)
+  second_up_quiet role s c t h = did _ refl refl h
 
   second_up_by_quiet : (role : Role) (s : ℕ) (o : Option Call) (t : Turn) → Quiet t → Quiet (second_up_by role s o t)
   unfolding second_up_by
-  second_up_by_quiet role s None t h = dropped why.Session t h
+  second_up_by_quiet role s None t h = ignored why.Session t h
   second_up_by_quiet role s (Some c) t h =
-      branch Quiet (is_up (call_row role c.state call_event.IccnAcc).0) _ _ (λ row. second_up_quiet role s c t h) (λ none. dropped why.Session t h)
+      branch Quiet (is_up (call_row role c.state call_event.IccnAcc).0) _ _ (λ row. second_up_quiet role s c t h) (λ none. ignored why.Session t h)
+
+  end_heard_by_quiet : (role : Role) (s : ℕ) (o : Option Call) (t : Turn) → Quiet t → Quiet (end_heard_by role s o t)
+  unfolding end_heard_by end_heard ends_call with_output with_change with_move takes_one
+  end_heard_by_quiet role s None t h = ignored why.Session t h
+  end_heard_by_quiet role s (Some c) t h =
+      branch Quiet (is_clean_up (call_row role c.state call_event.CdnCame).1) _ _ (λ row. did _ refl refl (told _ refl h)) (λ none. ignored why.Session t h)
 
   about_quiet : (role : Role) (calls : List (ℕ × Call)) (session : ℕ) (m : Message) (t : Turn) → Quiet t → Quiet (about_call role calls session m t)
-  unfolding about_call
+  unfolding about_call ends_named
   about_quiet role calls session (Icrq remote serial calling) t h = replies_quiet role remote t h
   about_quiet role calls session (Icrp remote) t h = first_up_by_quiet role session remote (at calls session) t h
   about_quiet role calls session (Iccn speed framing sequenced) t h = second_up_by_quiet role session (at calls session) t h
-  about_quiet role calls session (Sccrq o) t h = dropped why.Session t h
-  about_quiet role calls session (Sccrp o) t h = dropped why.Session t h
-  about_quiet role calls session Scccn t h = dropped why.Session t h
+  about_quiet role calls session (Cdn remote code error) t h =
+      let s = session_named calls session remote in
+      end_heard_by_quiet role s (at calls s) t h
+  about_quiet role calls session Hello t h = ignored why.Session t h
+  about_quiet role calls session (Sccrq o) t h = ignored why.Session t h
+  about_quiet role calls session (Sccrp o) t h = ignored why.Session t h
+  about_quiet role calls session Scccn t h = ignored why.Session t h
 
   in_call_quiet : (role : Role) (calls : List (ℕ × Call)) (session : ℕ) (m : Message) (t : Turn) → Quiet t → Quiet (in_call role calls session m t)
   unfolding in_call
   in_call_quiet role calls session m t h =
-      branch Quiet (state_number t.control.state == 3) _ _ (λ is. about_quiet role calls session m t h) (λ other. dropped why.Session t h)
+      branch Quiet (state_number t.control.state == 3) _ _ (λ is. about_quiet role calls session m t h) (λ other. ignored why.Session t h)
 
   -- ---- control messages
 
   hears_quiet : (role : Role) (calls : List (ℕ × Call)) (session : ℕ) (m : Message) (t : Turn) → Quiet t → Quiet (hears role calls session m t)
   unfolding hears
-  hears_quiet role calls session (Sccrq o) t h = takes_quiet role calls event.SccrqAcc 0 t h
-  hears_quiet role calls session (Sccrp o) t h = takes_quiet role calls event.SccrpAcc o.tunnel t h
-  hears_quiet role calls session Scccn t h = takes_quiet role calls event.ScccnAcc 0 t h
+  hears_quiet role calls session (Sccrq o) t h = takes_quiet role calls event.SccrqAcc 0 o.window t h
+  hears_quiet role calls session (Sccrp o) t h = takes_quiet role calls event.SccrpAcc o.tunnel o.window t h
+  hears_quiet role calls session Scccn t h = takes_quiet role calls event.ScccnAcc 0 0 t h
+  hears_quiet role calls session Hello t h = plain_quiet t h
+  hears_quiet role calls session (Cdn remote code error) t h = in_call_quiet role calls session (Cdn remote code error) t h
   hears_quiet role calls session (Icrq remote serial calling) t h = in_call_quiet role calls session (Icrq remote serial calling) t h
   hears_quiet role calls session (Icrp remote) t h = in_call_quiet role calls session (Icrp remote) t h
   hears_quiet role calls session (Iccn speed framing sequenced) t h = in_call_quiet role calls session (Iccn speed framing sequenced) t h
 
   said_quiet : (role : Role) (calls : List (ℕ × Call)) (session : ℕ) (r : Result Message Why) (t : Turn) → Quiet t → Quiet (hears_said role calls session r t)
   unfolding hears_said
-  said_quiet role calls session (Err w) t h = dropped w t h
+  said_quiet role calls session (Err w) t h = ignored w t h
   said_quiet role calls session (Ok m) t h = hears_quiet role calls session m t h
 
-  in_tunnel_quiet : (role : Role) (calls : List (ℕ × Call)) (session ns : ℕ) (body : List ℕ) (t : Turn) → Quiet t
-      → Quiet (in_tunnel role calls session ns body t)
+  letter_quiet : (role : Role) (calls : List (ℕ × Call)) (session : ℕ) (body : List ℕ) (c : Option Class) (t : Turn) → Quiet t
+      → Quiet (hears_letter role calls session body c t)
+  unfolding hears_letter
+  letter_quiet role calls session body (Some Next) t h = said_quiet role calls session (message_in body) t h
+  letter_quiet role calls session body (Some (Ahead by)) t h = dropped why.Ahead t h
+  letter_quiet role calls session body (Some Duplicate) t h = h
+  letter_quiet role calls session body None t h = h
+
+  in_tunnel_quiet : (role : Role) (letters : List Letter) (calls : List (ℕ × Call)) (session : ℕ) (body : List ℕ) (c : Option Class) (t : Turn) → Quiet t
+      → Quiet (in_tunnel role letters calls session body c t)
   unfolding in_tunnel
-  in_tunnel_quiet role calls session ns body t h =
-      branch Quiet (length body == 0) _ _
-      (λ none. h)
-      (λ some. branch Quiet (is_next ns t.control.channel) _ _ (λ next. said_quiet role calls session (message_in body) t h) (λ other. dropped why.Ahead t h))
+  in_tunnel_quiet role letters calls session body c t h = settled (is_duplicate c) letters _ (letter_quiet role calls session body c t h)
 
-  control_quiet : (role : Role) (c : Config) (calls : List (ℕ × Call)) (k : Header) (body : List ℕ) (t : Turn) → Quiet t
-      → Quiet (hears_control role c calls k body t)
-  unfolding hears_control with_move
-  control_quiet role c calls k body t h =
+  read_quiet : (nr : ℕ) (t : Turn) → Quiet t → Quiet (reads_nr nr t)
+  unfolding reads_nr with_move
+  read_quiet nr t h = did _ refl refl h
+
+  control_quiet : (role : Role) (c : Config) (letters : List Letter) (calls : List (ℕ × Call)) (k : Header) (body : List ℕ) (t : Turn) → Quiet t
+      → Quiet (hears_control role c letters calls k body t)
+  unfolding hears_control
+  control_quiet role c letters calls k body t h =
       branch Quiet (state_number t.control.state == 0) _ _
-      (λ idle. first_quiet role c (message_in body) t h)
-      (λ busy. in_tunnel_quiet role calls k.session (unwrap_or k.ns 0) body _ (did _ refl refl h))
+      (λ idle. settled false letters _ (first_quiet role c (message_in body) t h))
+      (λ busy.
+      let class = class_told t.control.channel (unwrap_or k.ns 0) (length body == 0) in
+      in_tunnel_quiet role letters calls k.session body class _ (read_quiet (unwrap_or k.nr 0) t h))
 
-  datagram_quiet : (role : Role) (c : Config) (calls : List (ℕ × Call)) (bytes : List ℕ) (r : Result Header HeaderError) (t : Turn) → Quiet t
-      → Quiet (hears_datagram role c calls bytes r t)
+  datagram_quiet : (role : Role) (c : Config) (letters : List Letter) (calls : List (ℕ × Call)) (bytes : List ℕ) (r : Result Header HeaderError) (t : Turn)
+      → Quiet t → Quiet (hears_datagram role c letters calls bytes r t)
   unfolding hears_datagram
-  datagram_quiet role c calls bytes (Err x) t h = dropped (header_why x) t h
-  datagram_quiet role c calls bytes (Ok k) t h =
-      branch Quiet k.control _ _ (λ control. control_quiet role c calls k (body_of k bytes) t h) (λ data_is. dropped why.Session t h)
+  datagram_quiet role c letters calls bytes (Err x) t h = dropped (header_why x) t h
+  datagram_quiet role c letters calls bytes (Ok k) t h =
+      branch Quiet k.control _ _ (λ control. control_quiet role c letters calls k (body_of k bytes) t h) (λ data_is. dropped why.Session t h)
 
   -- ---- frames that are given
 
@@ -303,6 +371,89 @@ module _ (most : ℕ) where
   carries_quiet s frame None t h = dropped why.Call t h
   carries_quiet s frame (Some c) t h = branch Quiet (is_up c.state) _ _ (λ up. carried_quiet s frame c t h) (λ down. dropped why.Closed t h)
 
+  -- ---- time
+
+  ended_quiet : (s : ℕ) (t : Turn) → Quiet t → Quiet (ends_call s t)
+  unfolding ends_call with_output with_change
+  ended_quiet s t h = told (Gone s) refl h
+
+  ended_all : (ss : List ℕ) (t : Turn) → Quiet t → Quiet (ends_all ss t)
+  unfolding ends_all
+  ended_all [] t h = h
+  ended_all (s ∷ ss) t h = ended_all ss (ends_call s t) (ended_quiet s t h)
+
+  cleared_quiet : (calls : List (ℕ × Call)) (t : Turn) → Quiet t → Quiet (clears calls t)
+  unfolding clears with_move
+  cleared_quiet calls t h =
+      let cleared = ended_all (ids_of calls) (with_move (move.Cleared t.control.local) t) (did (move.Cleared t.control.local) refl refl h) in
+      record { no_output = cleared.no_output; no_move = cleared.no_move; births = cleared.births }
+
+  repeated_quiet : (letters : List Letter) (number : ℕ) (t : Turn) → Quiet t → Quiet (repeats letters number t)
+  unfolding repeats sends_now with_move
+  repeated_quiet letters number t h = sent number _ _ (did _ refl refl h)
+
+  greeted_quiet : (letters : List Letter) (t : Turn) → Quiet t → Quiet (greeted letters t)
+  unfolding greeted gives with_move
+  greeted_quiet letters t h = settled false letters _ (did _ refl refl h)
+
+  greets_quiet : (letters : List Letter) (t : Turn) → Quiet t → Quiet (greets letters t)
+  unfolding greets
+  greets_quiet letters t h =
+      branch Quiet (state_number t.control.state == 3 && t.control.channel.window.queued == 0 && is_over patience t.moment t.control.heard) _ _
+      (λ due. greeted_quiet letters t h)
+      (λ no. h)
+
+  silent_quiet : (s : ℕ) (t : Turn) → Quiet t → Quiet (end_silent s t)
+  unfolding end_silent with_move
+  silent_quiet s t h = did _ refl refl (ended_quiet s t h)
+
+  told_quiet : (s : ℕ) (c : Call) (code : ℕ) (t : Turn) → Quiet t → Quiet (end_told s c code t)
+  unfolding end_told gives with_move
+  told_quiet s c code t h = did _ refl refl (ended_quiet s t h)
+
+  limited_quiet : (letters : List Letter) (s : ℕ) (c : Call) (a : CallAction) (t : Turn) → Quiet t → Quiet (limited_by letters s c a t)
+  unfolding limited_by
+  limited_quiet letters s c call_action.CleanUp t h = silent_quiet s t h
+  limited_quiet letters s c call_action.SendCdn t h =
+      branch Quiet (has_room t.control) _ _
+      (λ may. let u = with_output (Refused cause.Setup) t in settled false letters (end_told s c 10 u) (told_quiet s c 10 u (refused cause.Setup t h)))
+      (λ full. h)
+  limited_quiet letters s c call_action.Nothing t h = h
+  limited_quiet letters s c call_action.SendIcrq t h = h
+  limited_quiet letters s c call_action.SendIcrp t h = h
+  limited_quiet letters s c call_action.SendIccn t h = h
+  limited_quiet letters s c call_action.DropSession t h = h
+
+  limits_at_quiet : (role : Role) (letters : List Letter) (s : ℕ) (o : Option Call) (t : Turn) → Quiet t → Quiet (limits_at role letters s o t)
+  unfolding limits_at
+  limits_at_quiet role letters s None t h = h
+  limits_at_quiet role letters s (Some c) t h =
+      branch Quiet (nat_lt s 65536 && is_set_up c.state && is_over patience t.moment c.since) _ _
+      (λ due. limited_quiet letters s c (call_row role c.state call_event.Close).1 t h)
+      (λ no. h)
+
+  limits_all_quiet : (role : Role) (letters : List Letter) (ss : List ℕ) (calls : List (ℕ × Call)) (t : Turn) → Quiet t
+      → Quiet (limits_all role letters ss calls t)
+  unfolding limits_all
+  limits_all_quiet role letters [] calls t h = h
+  limits_all_quiet role letters (s ∷ ss) calls t h =
+      limits_all_quiet role letters ss calls (limits_at role letters s (at calls s) t) (limits_at_quiet role letters s (at calls s) t h)
+
+  quietly_quiet : (role : Role) (letters : List Letter) (calls : List (ℕ × Call)) (t : Turn) → Quiet t → Quiet (goes_quietly role letters calls t)
+  unfolding goes_quietly
+  quietly_quiet role letters calls t h = limits_all_quiet role letters (ids_of calls) calls (greets letters t) (greets_quiet letters t h)
+
+  ticks_by_quiet : (role : Role) (letters : List Letter) (calls : List (ℕ × Call)) (a : Due) (t : Turn) → Quiet t → Quiet (ticks_by role letters calls a t)
+  unfolding ticks_by
+  ticks_by_quiet role letters calls tick.Quiet t h = quietly_quiet role letters calls t h
+  ticks_by_quiet role letters calls (tick.Again number) t h = quietly_quiet role letters calls (repeats letters number t) (repeated_quiet letters number t h)
+  ticks_by_quiet role letters calls (tick.Failed first) t h = cleared_quiet calls t h
+
+  ticks_quiet : (role : Role) (letters : List Letter) (calls : List (ℕ × Call)) (t : Turn) → Quiet t → Quiet (ticks role letters calls t)
+  unfolding ticks
+  ticks_quiet role letters calls t h =
+      branch Quiet (is_being_set_up t.control.state && is_over patience t.moment t.control.made) _ _ (λ late. cleared_quiet calls t h) (λ no. ticks_by_quiet role letters calls (answer_to_tick t.control.channel t.moment) t h)
+
 -- ---- rings
 
 adds_quiet : (role : Role) (port s : ℕ) (t : Turn) → IsQuiet 0 t → IsQuiet 1 (adds role port s t)
@@ -313,7 +464,7 @@ rings_over_quiet : (role : Role) (port s : ℕ) (t : Turn) → IsQuiet 0 t → I
 unfolding rings_over
 rings_over_quiet role port s t h =
     let added = adds_quiet role port s t h in
-    branch (IsQuiet 1) (state_number t.control.state == 3) _ _ (λ is. requests_quiet 1 role s (rung role port) (adds role port s t) added) (λ other. added)
+    branch (IsQuiet 1) (state_number t.control.state == 3) _ _ (λ is. requests_quiet 1 role s (rung role port t.moment) (adds role port s t) added) (λ other. added)
 
 rings_by_quiet : (role : Role) (port : ℕ) (x : Result ℕ IdError) (t : Turn) → IsQuiet 0 t → IsQuiet 1 (rings_by role port x t)
 unfolding rings_by
@@ -325,7 +476,7 @@ unfolding rings_new
 rings_new_quiet role c port (Err x) y t h = refused 1 cause.Ids t (spared h)
 rings_new_quiet role c port (Ok s) (Err y) t h = refused 1 cause.Ids t (spared h)
 rings_new_quiet role c port (Ok s) (Ok local) t h =
-    branch (IsQuiet 1) (may_count t.control.channel.sent) _ _
+    branch (IsQuiet 1) (has_room t.control) _ _
     (λ may. adds_quiet role port s (opened role c local t) (opened_quiet 0 role c local t h))
     (λ full. refused 1 cause.Queue t (spared h))
 
@@ -338,11 +489,24 @@ rings_quiet role c port t h =
 
 -- ---- events
 
-pub turns_quiet : (role : Role) (c : Config) (calls : List (ℕ × Call)) (ev : Event) (t : Turn) → IsQuiet 0 t
-    → IsQuiet (most_births ev) (turns role c calls ev t)
+pub turns_quiet : (role : Role) (c : Config) (letters : List Letter) (calls : List (ℕ × Call)) (ev : Event) (t : Turn) → IsQuiet 0 t
+    → IsQuiet (most_births ev) (turns role c letters calls ev t)
 unfolding turns
-turns_quiet role c calls (Datagram peer bytes) t h = datagram_quiet 0 role c calls bytes (header_of bytes) t h
-turns_quiet role c calls (Ring port) t h = rings_quiet role c port t h
-turns_quiet role c calls (Payload s frame) t h = carries_quiet 0 s frame (at calls s) t h
-turns_quiet role c calls (Lower s frame) t h = carries_quiet 0 s frame (at calls s) t h
-turns_quiet role c calls OpenTunnel t h = opens_quiet 0 role c t h
+turns_quiet role c letters calls (Datagram peer bytes) t h = datagram_quiet 0 role c letters calls bytes (header_of bytes) t h
+turns_quiet role c letters calls (Ring port) t h = settled 1 false letters _ (rings_quiet role c port t h)
+turns_quiet role c letters calls (Payload s frame) t h = carries_quiet 0 s frame (at calls s) t h
+turns_quiet role c letters calls (Lower s frame) t h = carries_quiet 0 s frame (at calls s) t h
+turns_quiet role c letters calls OpenTunnel t h = settled 0 false letters _ (opens_quiet 0 role c t h)
+turns_quiet role c letters calls Tick t h = ticks_quiet 0 role letters calls t h
+
+-- what two parts give, one after the other
+pub both_quiet : (os ps : List Out) (ms ns : List Move) → AreQuiet 0 os ms → AreQuiet 0 ps ns → AreQuiet 0 (os ++ ps) (ms ++ ns)
+both_quiet os ps ms ns h k =
+    let count = length-append (flat_map births_of_move ms) (flat_map births_of_move ns) in
+    let few = h.births in
+    let more = k.births in
+    record {
+      no_output = flat_map-append ups_of_output os ps ∙ rw (h.no_output, k.no_output) refl;
+      no_move = flat_map-append ups_of_move ms ns ∙ rw (h.no_move, k.no_move) refl;
+      births = rw (flat_map-append births_of_move ms ns) (omega (arith, count, few, more));
+    }

@@ -1,8 +1,8 @@
 -- Each step of an end is a chain of moves.
-use Rattle.std.proofs.Common.{◌≡◌, inl, inr, ℕ, Bool, true, false, List, length, refl, sym, ap, ◌∙◌, subst, Option, Some, None, Result, Ok, Err}
+use Rattle.std.proofs.Common.{◌≡◌, ◌⊎◌, inl, inr, ℕ, Bool, true, false, List, length, refl, sym, ap, ◌∙◌, subst, Option, Some, None, Result, Ok, Err}
 use Rattle.std.proofs.lemmas.Bool.{eqb-true, true≢false}
 use Rattle.std.specs.Prelude.{◌==◌, nat_lt, not, option_map}
-use Rattle.id_table.specs.Ids.{at}
+use Rattle.id_table.specs.Ids.{at, ids_of}
 use Rattle.wire_base.specs.declared.why.Why.{Why}
 use Rattle.wire_base.specs.declared.why.Why.TheVariants as why
 use Rattle.wire_base.specs.declared.letter.Side.{Side}
@@ -12,7 +12,7 @@ use Rattle.avp_codec.specs.Reading.{avps_of}
 use Rattle.l2tp_header.specs.declared.header.Header.{Header}
 use Rattle.l2tp_header.specs.declared.header.HeaderError.{HeaderError}
 use Rattle.l2tp_header.specs.Reading.{header_of}
-use Rattle.control_message.specs.declared.message.Message.TheVariants.{Sccrq, Sccrp, Scccn, Icrq, Icrp, Iccn}
+use Rattle.control_message.specs.declared.message.Message.TheVariants.{Sccrq, Sccrp, Scccn, Hello, Icrq, Icrp, Iccn, Cdn}
 use Rattle.control_message.specs.declared.message.Read.{Read}
 use Rattle.control_message.specs.declared.message.Read.TheVariants.{Known, Ignored}
 use Rattle.control_message.specs.declared.message.MessageError.{MessageError}
@@ -25,15 +25,16 @@ use Rattle.protocol_model.specs.declared.tunnel.Look.TheVariants as look
 use Rattle.protocol_model.specs.declared.tunnel.Role.{Role}
 use Rattle.protocol_model.specs.declared.tunnel.Role.TheVariants.{Lac, Lns}
 use Rattle.protocol_model.specs.declared.event.Addressee.{Addressee}
-use Rattle.protocol_model.specs.declared.event.Addressee.TheVariants.{Opens, Nobody}
+use Rattle.protocol_model.specs.declared.event.Addressee.TheVariants.{Nobody}
 use Rattle.protocol_model.specs.declared.event.Event.{Event}
-use Rattle.protocol_model.specs.declared.event.Event.TheVariants.{Datagram, Ring, Payload, Lower, OpenTunnel}
+use Rattle.protocol_model.specs.declared.event.Event.TheVariants.{Datagram, Ring, Payload, Lower, OpenTunnel, Tick}
 use Rattle.protocol_model.specs.Reading.{header_why, body_of, at_zero, at_tunnel, zero_pairs, zero_read}
 use Rattle.protocol_model.specs.Calls.{is_lac, frame_of, side_of, Carried, Upward, Dropped, carry_known, carry_look}
 use Rattle.protocol_model.specs.Turn.{Tunnel, Env, turns}
-use Rattle.protocol_model.specs.End.{End, Stepped, env_of, in_new, in_main, addressed, for_addressee, least_in, rings_in, rings_at, gives_frame, look_in, handed, hands_up, receives, only_by, step_in, step}
+use Rattle.protocol_model.specs.End.{End, Stepped, env_of, in_new, in_main, is_known, known_as, opened_before, opens_once, addressed, for_addressee, least_in, rings_in, rings_at, gives_frame, look_in, handed, hands_up, receives, only_by, step_in, step}
 use Rattle.step_laws.specs.Steps.{AreKept, IsChain, StepsAreChains}
-use Rattle.step_laws.proofs.Turns.{branch}
+use Rattle.step_laws.proofs.Lists.{and_left, branch, found_passes}
+use Rattle.step_laws.proofs.Ticks.{ticks_chain}
 use Rattle.step_laws.proofs.Ends.{drop_chain, heard_chain, rung_chain, carries_chain, opens_chain, rings_chain, first_heard}
 
 not_true : (a : Bool) → not a ≡ true → a ≡ false
@@ -47,6 +48,13 @@ not_false false h = absurd (true≢false h)
 is_lac_role : (r : Role) → is_lac r ≡ true → r ≡ Lac
 is_lac_role Lac h = refl
 is_lac_role Lns h = absurd (true≢false (sym h))
+
+-- a tunnel that is known by a peer's id goes to the peer
+known_peer : (peer remote : ℕ) (o : Option Tunnel) → is_known peer remote o ≡ true → (t : Tunnel) → o ≡ Some t → t.control.peer ≡ peer
+known_peer peer remote None known t is = absurd (true≢false (sym known))
+known_peer peer remote (Some u) known t is =
+    let same : u ≡ t = cc in
+    ap (λ (x : Tunnel). x.control.peer) (sym same) ∙ eqb-true u.control.peer peer (and_left (u.control.peer == peer) (u.control.remote == remote) known)
 
 -- ---- frames that come
 
@@ -104,9 +112,9 @@ module _ (e : End) (kept : AreKept e) (moment : ℕ) (block : List ℕ) where
 
   handed_chain : (from : ℕ) (bytes : List ℕ) (h : Header) → header_of bytes ≡ Ok h → h.control ≡ false → (c : Carried)
       → IsOf e.role (look_in (at e.calls h.session)) h.tunnel from (frame_of (body_of h bytes)) c
-      → IsChain e (Datagram from bytes) (handed e h.session c)
+      → IsChain e moment (Datagram from bytes) (handed e h.session c)
   unfolding handed
-  handed_chain from bytes h read data_is (Dropped w) is = drop_chain e kept (Datagram from bytes) w
+  handed_chain from bytes h read data_is (Dropped w) is = drop_chain e kept moment (Datagram from bytes) w
   handed_chain from bytes h read data_is (Upward tunnel peer side frame) is =
       let of = is.up tunnel peer side frame refl in
       let known = place_seen e.calls h.session tunnel peer (at e.calls h.session) refl of.4 in
@@ -139,71 +147,78 @@ module _ (e : End) (kept : AreKept e) (moment : ℕ) (block : List ℕ) where
 
   -- ---- tunnels that are there, or not
 
-  main_heard : (peer : ℕ) (bytes : List ℕ) (h : Header) → header_of bytes ≡ Ok h → h.control ≡ true → (o : Option Tunnel) → at e.tunnels h.tunnel ≡ o
-      → ((t : Tunnel) → o ≡ Some t → t.control.peer ≡ peer) → IsChain e (Datagram peer bytes) (in_main e env (Datagram peer bytes) h.tunnel o)
+  main_heard : (peer i : ℕ) (bytes : List ℕ) (h : Header) → header_of bytes ≡ Ok h → h.control ≡ true → (h.tunnel ≡ i) ⊎ (h.tunnel ≡ 0)
+      → (o : Option Tunnel) → at e.tunnels i ≡ o → ((t : Tunnel) → o ≡ Some t → t.control.peer ≡ peer)
+      → IsChain e moment (Datagram peer bytes) (in_main e env (Datagram peer bytes) i o)
   unfolding in_main
-  main_heard peer bytes h read control None is goes = drop_chain e kept (Datagram peer bytes) why.Tunnel
-  main_heard peer bytes h read control (Some t) is goes =
-      subst (λ p. IsChain e (Datagram p bytes) (in_main e env (Datagram p bytes) h.tunnel (Some t))) (goes t refl)
-      (heard_chain e kept (Datagram t.control.peer bytes) moment block h.tunnel t is bytes h read control refl refl)
+  main_heard peer i bytes h read control to None is goes = drop_chain e kept moment (Datagram peer bytes) why.Tunnel
+  main_heard peer i bytes h read control to (Some t) is goes =
+      subst (λ p. IsChain e moment (Datagram p bytes) (in_main e env (Datagram p bytes) i (Some t))) (goes t refl)
+      (heard_chain e kept moment (Datagram t.control.peer bytes) block i t is bytes h read control refl to)
 
-  main_rung : (port i : ℕ) → e.role ≡ Lac → (o : Option Tunnel) → at e.tunnels i ≡ o → IsChain e (Ring port) (in_main e env (Ring port) i o)
+  main_rung : (port i : ℕ) → e.role ≡ Lac → (o : Option Tunnel) → at e.tunnels i ≡ o → IsChain e moment (Ring port) (in_main e env (Ring port) i o)
   unfolding in_main
-  main_rung port i lac None is = drop_chain e kept (Ring port) why.Tunnel
-  main_rung port i lac (Some t) is = rung_chain e kept (Ring port) moment block i t is port refl lac
+  main_rung port i lac None is = drop_chain e kept moment (Ring port) why.Tunnel
+  main_rung port i lac (Some t) is = rung_chain e kept moment (Ring port) block i t is port refl lac
 
-  main_payload : (s : ℕ) (frame : List ℕ) (i : ℕ) (o : Option Tunnel) → at e.tunnels i ≡ o → IsChain e (Payload s frame) (in_main e env (Payload s frame) i o)
+  main_payload : (s : ℕ) (frame : List ℕ) (i : ℕ) (o : Option Tunnel) → at e.tunnels i ≡ o → IsChain e moment (Payload s frame) (in_main e env (Payload s frame) i o)
   unfolding in_main turns
-  main_payload s frame i None is = drop_chain e kept (Payload s frame) why.Tunnel
-  main_payload s frame i (Some t) is = carries_chain e kept (Payload s frame) moment block i t is s frame (at t.calls s) refl (inl refl)
+  main_payload s frame i None is = drop_chain e kept moment (Payload s frame) why.Tunnel
+  main_payload s frame i (Some t) is = carries_chain e kept moment (Payload s frame) block i t is s frame (at t.calls s) refl (inl refl)
 
-  main_lower : (s : ℕ) (frame : List ℕ) (i : ℕ) (o : Option Tunnel) → at e.tunnels i ≡ o → IsChain e (Lower s frame) (in_main e env (Lower s frame) i o)
+  main_lower : (s : ℕ) (frame : List ℕ) (i : ℕ) (o : Option Tunnel) → at e.tunnels i ≡ o → IsChain e moment (Lower s frame) (in_main e env (Lower s frame) i o)
   unfolding in_main turns
-  main_lower s frame i None is = drop_chain e kept (Lower s frame) why.Tunnel
-  main_lower s frame i (Some t) is = carries_chain e kept (Lower s frame) moment block i t is s frame (at t.calls s) refl (inr refl)
+  main_lower s frame i None is = drop_chain e kept moment (Lower s frame) why.Tunnel
+  main_lower s frame i (Some t) is = carries_chain e kept moment (Lower s frame) block i t is s frame (at t.calls s) refl (inr refl)
 
   -- ---- control messages
 
   module _ (peer : ℕ) (bytes : List ℕ) (h : Header) (read : header_of bytes ≡ Ok h) (control : h.control ≡ true) where
     abbrev leads : Addressee → Type 0
-    leads a = IsChain e (Datagram peer bytes) (for_addressee e env (Datagram peer bytes) peer a)
+    leads a = IsChain e moment (Datagram peer bytes) (for_addressee e env (Datagram peer bytes) peer a)
 
     nobody : (w : Why) → leads (Nobody w)
     unfolding for_addressee
-    nobody w = drop_chain e kept (Datagram peer bytes) w
+    nobody w = drop_chain e kept moment (Datagram peer bytes) w
 
-    opens : leads Opens
-    unfolding for_addressee in_new
-    opens = first_heard e kept (Datagram peer bytes) moment block peer bytes h read control refl
+    -- an SCCRQ opens a tunnel, or comes again to the one that it opened
+    opened_leads : h.tunnel ≡ 0 → (remote : ℕ) (o : Option ℕ) → known_as peer remote e.tunnels ≡ o → leads (opened_before remote o)
+    unfolding for_addressee in_new known_as
+    opened_leads zero remote None is = first_heard e kept moment (Datagram peer bytes) block peer bytes h read control refl
+    opened_leads zero remote (Some i) is =
+        main_heard peer i bytes h read control (inr zero) (at e.tunnels i) refl
+        (known_peer peer remote (at e.tunnels i) (found_passes (λ j. is_known peer remote (at e.tunnels j)) (ids_of e.tunnels) i is))
 
-    zero_leads : (r : Result Read MessageError) → leads (zero_read r)
-    unfolding zero_read
-    zero_leads (Ok (Known (Sccrq o))) = opens
-    zero_leads (Ok (Known (Sccrp o))) = nobody why.Tunnel
-    zero_leads (Ok (Known Scccn)) = nobody why.Tunnel
-    zero_leads (Ok (Known (Icrq remote serial calling))) = nobody why.Tunnel
-    zero_leads (Ok (Known (Icrp remote))) = nobody why.Tunnel
-    zero_leads (Ok (Known (Iccn speed framing sequenced))) = nobody why.Tunnel
-    zero_leads (Ok (Ignored n)) = nobody why.Tunnel
-    zero_leads (Err NoType) = nobody why.Tunnel
-    zero_leads (Err (UnknownType n)) = nobody why.Tunnel
-    zero_leads (Err (UnknownMandatory v a)) = nobody why.Avp
-    zero_leads (Err (HiddenWithoutVector a)) = nobody why.Avp
-    zero_leads (Err (BadValue a)) = nobody why.Avp
-    zero_leads (Err (Missing a)) = nobody why.Avp
-    zero_leads (Err NoMemory) = nobody why.Avp
+    zero_leads : h.tunnel ≡ 0 → (r : Result Read MessageError) → leads (opens_once e peer (zero_read r))
+    unfolding zero_read opens_once
+    zero_leads zero (Ok (Known (Sccrq o))) = opened_leads zero o.tunnel (known_as peer o.tunnel e.tunnels) refl
+    zero_leads zero (Ok (Known (Sccrp o))) = nobody why.Tunnel
+    zero_leads zero (Ok (Known Scccn)) = nobody why.Tunnel
+    zero_leads zero (Ok (Known Hello)) = nobody why.Tunnel
+    zero_leads zero (Ok (Known (Cdn remote code error))) = nobody why.Tunnel
+    zero_leads zero (Ok (Known (Icrq remote serial calling))) = nobody why.Tunnel
+    zero_leads zero (Ok (Known (Icrp remote))) = nobody why.Tunnel
+    zero_leads zero (Ok (Known (Iccn speed framing sequenced))) = nobody why.Tunnel
+    zero_leads zero (Ok (Ignored n)) = nobody why.Tunnel
+    zero_leads zero (Err NoType) = nobody why.Tunnel
+    zero_leads zero (Err (UnknownType n)) = nobody why.Tunnel
+    zero_leads zero (Err (UnknownMandatory v a)) = nobody why.Avp
+    zero_leads zero (Err (HiddenWithoutVector a)) = nobody why.Avp
+    zero_leads zero (Err (BadValue a)) = nobody why.Avp
+    zero_leads zero (Err (Missing a)) = nobody why.Avp
+    zero_leads zero (Err NoMemory) = nobody why.Avp
 
-    pairs_lead : (r : Result (List Avp) AvpError) → leads (zero_pairs r)
-    unfolding zero_pairs
-    pairs_lead (Ok avps) = zero_leads (message_of avps)
-    pairs_lead (Err x) = nobody why.Avp
+    pairs_lead : h.tunnel ≡ 0 → (r : Result (List Avp) AvpError) → leads (opens_once e peer (zero_pairs r))
+    unfolding zero_pairs opens_once
+    pairs_lead zero (Ok avps) = zero_leads zero (message_of avps)
+    pairs_lead zero (Err x) = nobody why.Avp
 
     tunnel_leads : (o : Option Tunnel) → at e.tunnels h.tunnel ≡ o → leads (at_tunnel peer h.tunnel (option_map (λ t. t.control.peer) o))
     unfolding at_tunnel for_addressee
     tunnel_leads None is = nobody why.Tunnel
     tunnel_leads (Some t) is =
         branch leads (t.control.peer == peer) _ _
-        (λ met. main_heard peer bytes h read control (at e.tunnels h.tunnel) refl (λ u found.
+        (λ met. main_heard peer h.tunnel bytes h read control (inl refl) (at e.tunnels h.tunnel) refl (λ u found.
         let same : t ≡ u = (let g : Some t ≡ Some u = sym is ∙ found in cc) in
         ap (λ (x : Tunnel). x.control.peer) (sym same) ∙ eqb-true t.control.peer peer met))
         (λ other. nobody why.Peer)
@@ -212,51 +227,52 @@ module _ (e : End) (kept : AreKept e) (moment : ℕ) (block : List ℕ) where
     unfolding addressed at_zero
     addressed_leads =
         branch leads (h.tunnel == 0) _ _
-        (λ zero. pairs_lead (avps_of (body_of h bytes)))
+        (λ zero. pairs_lead (eqb-true h.tunnel 0 zero) (avps_of (body_of h bytes)))
         (λ some. tunnel_leads (at e.tunnels h.tunnel) refl)
 
-  received : (peer : ℕ) (bytes : List ℕ) (r : Result Header HeaderError) → header_of bytes ≡ r → IsChain e (Datagram peer bytes) (receives e env peer bytes r)
+  received : (peer : ℕ) (bytes : List ℕ) (r : Result Header HeaderError) → header_of bytes ≡ r → IsChain e moment (Datagram peer bytes) (receives e env peer bytes r)
   unfolding receives hands_up
-  received peer bytes (Err x) read = drop_chain e kept (Datagram peer bytes) (header_why x)
+  received peer bytes (Err x) read = drop_chain e kept moment (Datagram peer bytes) (header_why x)
   received peer bytes (Ok h) read =
-      branch (IsChain e (Datagram peer bytes)) h.control _ _
+      branch (IsChain e moment (Datagram peer bytes)) h.control _ _
       (λ control. addressed_leads peer bytes h read control)
       (λ data_is. handed_chain peer bytes h read data_is _ (look_is e.role (look_in (at e.calls h.session)) peer h (frame_of (body_of h bytes))))
 
   -- ---- rings, opens and frames
 
-  rung : (port : ℕ) → e.role ≡ Lac → (open_one opening : Option ℕ) → IsChain e (Ring port) (rings_in e env (Ring port) open_one opening)
+  rung : (port : ℕ) → e.role ≡ Lac → (open_one opening : Option ℕ) → IsChain e moment (Ring port) (rings_in e env (Ring port) open_one opening)
   unfolding rings_in in_new
   rung port lac (Some i) opening = main_rung port i lac (at e.tunnels i) refl
   rung port lac None (Some i) = main_rung port i lac (at e.tunnels i) refl
-  rung port lac None None = rings_chain e kept (Ring port) moment block e.config.lns port lac refl refl
+  rung port lac None None = rings_chain e kept moment (Ring port) block e.config.lns port lac refl refl
 
-  gives_payload : (s : ℕ) (frame : List ℕ) (o : Option CallPlace) → IsChain e (Payload s frame) (gives_frame e env (Payload s frame) o)
+  gives_payload : (s : ℕ) (frame : List ℕ) (o : Option CallPlace) → IsChain e moment (Payload s frame) (gives_frame e env (Payload s frame) o)
   unfolding gives_frame
-  gives_payload s frame None = drop_chain e kept (Payload s frame) why.Call
+  gives_payload s frame None = drop_chain e kept moment (Payload s frame) why.Call
   gives_payload s frame (Some p) = main_payload s frame p.tunnel (at e.tunnels p.tunnel) refl
 
-  gives_lower : (s : ℕ) (frame : List ℕ) (o : Option CallPlace) → IsChain e (Lower s frame) (gives_frame e env (Lower s frame) o)
+  gives_lower : (s : ℕ) (frame : List ℕ) (o : Option CallPlace) → IsChain e moment (Lower s frame) (gives_frame e env (Lower s frame) o)
   unfolding gives_frame
-  gives_lower s frame None = drop_chain e kept (Lower s frame) why.Call
+  gives_lower s frame None = drop_chain e kept moment (Lower s frame) why.Call
   gives_lower s frame (Some p) = main_lower s frame p.tunnel (at e.tunnels p.tunnel) refl
 
-  by_lac : (ev : Event) (s : Stepped) → (e.role ≡ Lac → IsChain e ev s) → IsChain e ev (only_by Lac e s)
+  by_lac : (ev : Event) (s : Stepped) → (e.role ≡ Lac → IsChain e moment ev s) → IsChain e moment ev (only_by Lac e s)
   unfolding only_by
-  by_lac ev s h = branch (IsChain e ev) (is_lac e.role) _ _ (λ lac. h (is_lac_role e.role lac)) (λ lns. drop_chain e kept ev why.Node)
+  by_lac ev s h = branch (IsChain e moment ev) (is_lac e.role) _ _ (λ lac. h (is_lac_role e.role lac)) (λ lns. drop_chain e kept moment ev why.Node)
 
-  by_lns : (ev : Event) (s : Stepped) → IsChain e ev s → IsChain e ev (only_by Lns e s)
+  by_lns : (ev : Event) (s : Stepped) → IsChain e moment ev s → IsChain e moment ev (only_by Lns e s)
   unfolding only_by
-  by_lns ev s h = branch (IsChain e ev) (is_lac e.role) _ _ (λ lac. drop_chain e kept ev why.Node) (λ lns. h)
+  by_lns ev s h = branch (IsChain e moment ev) (is_lac e.role) _ _ (λ lac. drop_chain e kept moment ev why.Node) (λ lns. h)
 
-  pub step_chain : (ev : Event) → IsChain e ev (step e moment block ev)
+  pub step_chain : (ev : Event) → IsChain e moment ev (step e moment block ev)
   unfolding step step_in rings_at in_new
   step_chain (Datagram peer bytes) = received peer bytes (header_of bytes) refl
   step_chain (Ring port) =
       by_lac (Ring port) _ (λ lac. rung port lac (least_in Established e.config.lns e.tunnels) (least_in WaitCtlReply e.config.lns e.tunnels))
   step_chain (Payload s frame) = by_lac (Payload s frame) _ (λ lac. gives_payload s frame (at e.calls s))
   step_chain (Lower s frame) = by_lns (Lower s frame) _ (gives_lower s frame (at e.calls s))
-  step_chain OpenTunnel = by_lac OpenTunnel _ (λ lac. opens_chain e kept OpenTunnel moment block e.config.lns lac refl)
+  step_chain Tick = ticks_chain moment e block kept
+  step_chain OpenTunnel = by_lac OpenTunnel _ (λ lac. opens_chain e kept moment OpenTunnel block e.config.lns lac refl)
 
 pub steps_are_chains : StepsAreChains
 steps_are_chains e kept moment block ev = step_chain e kept moment block ev

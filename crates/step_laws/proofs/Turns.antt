@@ -1,86 +1,88 @@
 -- Each part of a turn is a move, from the end as the turn has it so far.
-use Rattle.std.proofs.Common.{◌≡◌, inl, ℕ, ◌<◌, Bool, true, false, cond, List, [], ◌∷◌, ◌++◌, refl, ap, ◌∙◌, Option, Some, None, Result, Ok, Err, ◌+◌, arith}
+use Rattle.std.proofs.Common.{◌≡◌, ℕ, ◌-◌, ◌<◌, ◌≤◌, Bool, true, false, List, [], ◌∷◌, ◌++◌, length, refl, sym, ap, ◌∙◌, subst, Option, Some, None, Result, Ok, Err, arith}
+use Rattle.std.proofs.lemmas.List.{append-nil, append_assoc, length-append, length-drop}
 use Rattle.std.specs.List.{AllByRecursion}
-use Rattle.std.specs.Prelude.{nat_lt}
-use Rattle.std.proofs.lemmas.Bool.{ltb-true}
+use Rattle.std.specs.Prelude.{nat_lt, drop, ◌==◌}
+use Rattle.std.proofs.lemmas.Bool.{eqb-true, ltb-true}
 use Rattle.id_table.specs.Ids.{at, put, put-put, ids_of}
 use Rattle.id_table.specs.Order.{at_new, at_other, IsAbove, Ascends}
 use Rattle.id_source.specs.Spaces.{Space, draws, drawn, after_draw}
 use Rattle.id_source.specs.declared.IdError.{IdError}
 use Rattle.wire_base.specs.declared.why.Why.TheVariants as why
 use Rattle.wire_base.specs.declared.why.Why.{Why}
-use Rattle.l2tp_header.specs.Spelling.{control_bytes}
-use Rattle.avp_codec.specs.Spelling.{spelling}
-use Rattle.control_message.specs.declared.message.Message.{Message}
-use Rattle.control_message.specs.declared.message.Message.TheVariants.{Sccrp, Scccn, Icrq, Icrp, Iccn}
+use Rattle.wire_base.specs.declared.cause.Cause.{Cause as Refusal}
+use Rattle.wire_base.specs.declared.letter.Letter.{Letter}
+use Rattle.control_message.specs.declared.message.Message.TheVariants.{Sccrp, Scccn, Icrq, Icrp, Iccn, Cdn}
 use Rattle.control_message.specs.declared.message.Opening.{Opening}
-use Rattle.control_message.specs.Pairs.{pairs_of}
-use Rattle.reliable_channel.specs.Channel.{on_wire, may_count}
-use Rattle.tunnel_fsm.specs.declared.table.TunnelState.{TunnelState}
+use Rattle.send_window.specs.Kept.{Window}
+use Rattle.send_window.specs.Window as sending
+use Rattle.control_channel.specs.Numbers.{count_acked}
 use Rattle.tunnel_fsm.specs.declared.table.TunnelState.TheVariants.{WaitCtlReply, WaitCtlConn, Established}
 use Rattle.tunnel_fsm.specs.Rows.{state_number}
 use Rattle.call_fsm.specs.declared.table.CallState.TheVariants as call
 use Rattle.call_fsm.specs.declared.table.CallEvent.TheVariants as call_event
 use Rattle.protocol_model.specs.declared.tunnel.Call.{Call}
 use Rattle.protocol_model.specs.declared.tunnel.CellChange.TheVariants as cell
-use Rattle.protocol_model.specs.declared.tunnel.Config.{Config}
-use Rattle.protocol_model.specs.declared.tunnel.Role.{Role}
+use Rattle.protocol_model.specs.declared.tunnel.Control.{Control}
 use Rattle.protocol_model.specs.declared.tunnel.Role.TheVariants.{Lac}
 use Rattle.protocol_model.specs.declared.event.Event.{Event}
 use Rattle.protocol_model.specs.declared.event.Event.TheVariants.{Ring}
 use Rattle.protocol_model.specs.declared.out.Out.{Out}
-use Rattle.protocol_model.specs.declared.out.Out.TheVariants.{Send, Up, Drop, Cause}
-use Rattle.protocol_model.specs.declared.out.Origin.{Origin}
-use Rattle.protocol_model.specs.declared.out.Origin.TheVariants as origin
+use Rattle.protocol_model.specs.declared.out.Out.TheVariants.{Send, Up, Gone, Drop, Cause}
 use Rattle.protocol_model.specs.declared.moves.Move.{Move}
 use Rattle.protocol_model.specs.declared.moves.Move.TheVariants as move
 use Rattle.protocol_model.specs.Calls.{call_row, advanced, rung, asked_for, is_request, is_reply, is_connection, is_up}
-use Rattle.protocol_model.specs.Turn.{Turn, with_output, with_move, with_change, with_call, with_new, drops, gives, acknowledges, takes_one, place, requested, requests, requests_at, requests_all, adds, replied, first_up, second_up, connected, confirms, takes_plain, in_state, tunnel_after, with_calls}
+use Rattle.protocol_model.specs.Turn.{Turn, with_output, with_move, with_change, with_call, with_new, drops, gives, takes_one, next_place, taken_place, has_room, learns_window, reads_nr, ends_call, end_heard, is_clean_up, session_named, requested, requests, requests_at, requests_all, adds, replied, first_up, second_up, connected, confirms, takes_plain, ignores, letter_of, request_of, connection, letters_after, tunnel_after, with_calls}
 use Rattle.protocol_model.specs.End.{End, placed, with_looks}
-use Rattle.step_laws.specs.Letters.{Among, Letter, letters_of, GivesLetter}
-use Rattle.step_laws.specs.Moves.{Chain, HearsNext}
-use Rattle.step_laws.proofs.Lists.{all_push, all_map, among_last, with_calls-more, with_looks-more, placed-more, chain_more, gives_later}
+use Rattle.step_laws.specs.Moves.{Chain, ComesNext, HearsNext, TellsNr}
+use Rattle.step_laws.proofs.Lists.{all_push, branch, with_calls-more, with_looks-more, placed-more, chain_more}
 
--- by cases on a test
-pub branch : {T : Type 0} (P : T → Type 0) (a : Bool) (x y : T) → (a ≡ true → P x) → (a ≡ false → P y) → P (cond a x y)
-branch P true x y p q = p refl
-branch P false x y p q = q refl
-
--- a letter that a move gave, or an acknowledgement alone
-pub data IsControl (role : Role) (cfg : Config) (local remote : ℕ) (moves : List Move) (bytes : List ℕ) (o : Origin) : Type 0 where
-  ALetter : (l : Letter) (nr : ℕ) → GivesLetter role cfg moves l → l.tunnel ≡ local
-      → o ≡ origin.Control (record { tunnel = local; epoch = 0; ns = l.place.number; nr = nr; empty = false })
-      → bytes ≡ control_bytes remote l.session (on_wire l.place.number) (on_wire nr) (spelling (pairs_of l.message))
-      → IsControl role cfg local remote moves bytes o
-  Alone : (ns nr : ℕ) → o ≡ origin.Control (record { tunnel = local; epoch = 0; ns = ns; nr = nr; empty = true })
-      → bytes ≡ control_bytes remote 0 (on_wire ns) (on_wire nr) [] → IsControl role cfg local remote moves bytes o
-
-abbrev pub OutOk : Role → Config → ℕ → ℕ → ℕ → List Move → Out → Type 0
-OutOk role cfg local remote peer ms (Send p bytes o) = (p ≡ peer) × IsControl role cfg local remote ms bytes o
-OutOk role cfg local remote peer ms (Up session side frame) = ⊥
-OutOk role cfg local remote peer ms (Drop w) = Unit {0}
-OutOk role cfg local remote peer ms (Cause w) = Unit {0}
-
-control_later : (role : Role) (cfg : Config) (local remote : ℕ) (ms ns : List Move) (bytes : List ℕ) (o : Origin)
-    → IsControl role cfg local remote ms bytes o → IsControl role cfg local remote (ms ++ ns) bytes o
-control_later role cfg local remote ms ns bytes o (ALetter l nr g a b c) = ALetter l nr (gives_later role cfg ms ns l g) a b c
-control_later role cfg local remote ms ns bytes o (Alone n nr a b) = Alone n nr a b
-
-out_later : (role : Role) (cfg : Config) (local remote peer : ℕ) (ms ns : List Move) (x : Out) → OutOk role cfg local remote peer ms x
-    → OutOk role cfg local remote peer (ms ++ ns) x
-out_later role cfg local remote peer ms ns (Send p bytes o) h = (h.0, control_later role cfg local remote ms ns bytes o h.1)
-out_later role cfg local remote peer ms ns (Up session side frame) h = h
-out_later role cfg local remote peer ms ns (Drop w) h = h
-out_later role cfg local remote peer ms ns (Cause w) h = h
+-- an output that is no datagram and hands nothing up
+abbrev pub IsWord : Out → Type 0
+IsWord (Gone session) = Unit {0}
+IsWord (Drop w) = Unit {0}
+IsWord (Cause w) = Unit {0}
+IsWord (Send p bytes o) = ⊥
+IsWord (Up session side frame) = ⊥
 
 -- a move that sends no frame
 abbrev pub NoFrame : Move → Type 0
 NoFrame (move.FrameSent f) = ⊥
 NoFrame m = Unit {0}
 
--- what a turn of the tunnel with an id keeps
-abbrev pub Stays : ℕ → ℕ → TunnelState → Space → Space → Type 0
-Stays i local state sessions tunnels = (local ≡ i) × (state_number state ≡ 0 → ⊥) × (sessions.last < 65536) × (0 < tunnels.next)
+-- a window that is learned changes the channel's window alone
+module _ (window : ℕ) (c : Control) where
+  pub learnt_local : (learns_window window c).local ≡ c.local
+  learnt_local = branch (λ (d : Control). d.local ≡ c.local) (window == 0) _ _ (λ none. refl) (λ some. refl)
+
+  pub learnt_peer : (learns_window window c).peer ≡ c.peer
+  learnt_peer = branch (λ (d : Control). d.peer ≡ c.peer) (window == 0) _ _ (λ none. refl) (λ some. refl)
+
+  pub learnt_state : (learns_window window c).state ≡ c.state
+  learnt_state = branch (λ (d : Control). d.state ≡ c.state) (window == 0) _ _ (λ none. refl) (λ some. refl)
+
+-- what a turn of the tunnel with an id keeps, until it is removed
+abbrev pub Stays : ℕ → ℕ → Turn → Type 0
+Stays i moment t =
+    (t.control.local ≡ i) × (state_number t.control.state ≡ 0 → ⊥) × (t.sessions.last < 65536) × (0 < t.tunnels.next)
+    × (t.moment ≡ moment) × (t.cleared ≡ false)
+
+-- the letters that a tunnel keeps are those that its window counts
+abbrev pub Held : Window → List Letter → Type 0
+Held w ls = (length ls ≡ w.queued) × (w.outstanding ≤ w.queued)
+
+pub held_given : (w : Window) (ls : List Letter) (l : Letter) → Held w ls → Held (sending.one_more w) (ls ++ l ∷ [])
+held_given w ls l h = let more = length-append ls (l ∷ []) in let count = h.0 in let few = h.1 in (omega (arith, more, count), omega (arith, few))
+
+held_read : (w : Window) (ls : List Letter) (nr moment : ℕ) → Held w ls → Held (sending.acked_at w nr moment) (drop (sending.count_acked w nr) ls)
+held_read w ls nr moment h =
+    let count = sending.count_acked w nr in
+    branch (λ (x : Window). Held x (drop count ls)) (count == 0) _ _
+    (λ zero. rw (eqb-true count 0 zero) h)
+    (λ some. (length-drop count ls ∙ ap (λ n. n - count) h.0, (let few = h.1 in omega (arith, few))))
+
+pub held_learnt : (peer_window : ℕ) (c : Control) (ls : List Letter) → Held c.channel.window ls → Held (learns_window peer_window c).channel.window ls
+held_learnt peer_window c ls h = branch (λ (d : Control). Held d.channel.window ls) (peer_window == 0) _ _ (λ none. h) (λ some. h)
 
 pub last_after : (s : Space) → (after_draw s).last ≡ s.last
 last_after s = by (draws s)
@@ -96,58 +98,52 @@ next_after s some = by (draws s)
     by (Ok n) = omega arith
     by (Err x) = some
 
-module _ (e : End) (ev : Event) (calls : List (ℕ × Call)) (i : ℕ) where
+module _ (e : End) (moment : ℕ) (ev : Event) (letters : List Letter) (calls : List (ℕ × Call)) (i : ℕ) where
   -- the end as the turn has it
   abbrev pub at_turn : Turn → End
   at_turn t = record e {
     tunnel_ids = t.tunnels;
     session_ids = t.sessions;
-    tunnels = put e.tunnels t.control.local (tunnel_after t calls);
+    tunnels = put e.tunnels t.control.local (tunnel_after t letters calls);
     calls = with_looks t.changes (placed t.control.local t.added e.calls);
   }
 
+  -- a turn that sent nothing yet
   pub record TurnOk (t : Turn) : Type 0 where
-    pub chain : Chain ev e t.moves (at_turn t)
-    pub outs : AllByRecursion (OutOk e.role e.config t.control.local t.control.remote t.control.peer t.moves) t.outputs
+    pub chain : Chain moment ev e t.moves (at_turn t)
+    pub words : AllByRecursion IsWord t.outputs
     pub frames : AllByRecursion NoFrame t.moves
-    pub stays : Stays i t.control.local t.control.state t.sessions t.tunnels
+    pub stays : Stays i moment t
+    pub held : Held t.control.channel.window (letters_after t letters)
 
-  outs_later : (t : Turn) (m : Move) → AllByRecursion (OutOk e.role e.config t.control.local t.control.remote t.control.peer t.moves) t.outputs
-      → AllByRecursion (OutOk e.role e.config t.control.local t.control.remote t.control.peer (t.moves ++ m ∷ [])) t.outputs
-  outs_later t m h = all_map _ _ (out_later e.role e.config t.control.local t.control.remote t.control.peer t.moves (m ∷ [])) t.outputs h
+  pub there : (t : Turn) → at (at_turn t).tunnels t.control.local ≡ Some (tunnel_after t letters calls)
+  there t = at_new e.tunnels t.control.local (tunnel_after t letters calls)
+
+  -- what is given stands behind the other letters
+  pub one_given : (t : Turn) (l : Letter) → drop t.acked letters ++ (t.given ++ l ∷ []) ≡ letters_after t letters ++ l ∷ []
+  one_given t l = sym (append_assoc (drop t.acked letters) t.given (l ∷ []))
+
+  given_held : (t : Turn) (l : Letter) → Held t.control.channel.window (letters_after t letters)
+      → Held (sending.one_more t.control.channel.window) (drop t.acked letters ++ (t.given ++ l ∷ []))
+  given_held t l h =
+      subst (Held (sending.one_more t.control.channel.window)) (sym (one_given t l)) (held_given t.control.channel.window (letters_after t letters) l h)
 
   pub drops_ok : (w : Why) (t : Turn) → TurnOk t → TurnOk (drops w t)
   unfolding drops with_output
-  drops_ok w t h = record { chain = h.chain; outs = all_push _ t.outputs (Drop w) h.outs tt; frames = h.frames; stays = h.stays }
+  drops_ok w t h = record { chain = h.chain; words = all_push IsWord t.outputs (Drop w) h.words tt; frames = h.frames; stays = h.stays; held = h.held }
 
-  -- a letter of the last move
-  last_gives : (t : Turn) (m : Move) (l : Letter) → Among l (letters_of e.role e.config m) → GivesLetter e.role e.config (t.moves ++ m ∷ []) l
-  last_gives t m l g = record { by = m; there = among_last m t.moves; gives = g }
-
-  there : (t : Turn) → at (at_turn t).tunnels t.control.local ≡ Some (tunnel_after t calls)
-  there t = at_new e.tunnels t.control.local (tunnel_after t calls)
-
-  pub acknowledges_ok : (t : Turn) → TurnOk t → TurnOk (acknowledges t)
-  unfolding acknowledges with_output with_move
-  acknowledges_ok t h = record {
-    chain = chain_more ev e (at_turn t) (at_turn t) t.moves (move.Quiet t.control.local) h.chain (record {
-      tunnel = tunnel_after t calls;
-      there = there t;
-      after = refl;
-    });
-    outs = all_push _ t.outputs _ (outs_later t (move.Quiet t.control.local) h.outs) (refl, Alone t.control.channel.sent t.control.channel.taken refl refl);
-    frames = all_push NoFrame t.moves (move.Quiet t.control.local) h.frames tt;
-    stays = h.stays;
-  }
+  pub refused_ok : (c : Refusal) (t : Turn) → TurnOk t → TurnOk (with_output (Cause c) t)
+  unfolding with_output
+  refused_ok c t h = record { chain = h.chain; words = all_push IsWord t.outputs (Cause c) h.words tt; frames = h.frames; stays = h.stays; held = h.held }
 
   pub requested_ok : (s : ℕ) (c : Call) (t : Turn) → state_number t.control.state ≡ 3 → at (with_calls t.changed calls) s ≡ Some c → s < 65536
       → is_request (call_row e.role c.state call_event.TunnelOpen).1 ≡ true → TurnOk t → TurnOk (requested e.role s c t)
   unfolding requested gives with_output with_change with_move with_call
   requested_ok s c t is_open found small row h =
-      let m = move.Requested (record { tunnel = t.control.local; session = s; port = c.port; given = place t.control.channel.sent }) in
+      let m = move.Requested (record { tunnel = t.control.local; session = s; port = c.port; given = next_place t.control }) in
       record {
-        chain = chain_more ev e (at_turn t) _ t.moves m h.chain (record {
-          tunnel = tunnel_after t calls;
+        chain = chain_more moment ev e (at_turn t) _ t.moves m h.chain (record {
+          tunnel = tunnel_after t letters calls;
           there = there t;
           open_is = is_open;
           call = c;
@@ -157,13 +153,14 @@ module _ (e : End) (ev : Event) (calls : List (ℕ × Call)) (i : ℕ) where
           port = refl;
           given = refl;
           after =
-              let changed = with_calls-more t.changed s (advanced e.role call_event.TunnelOpen c) calls in
+              let changed = with_calls-more t.changed s (Some (advanced e.role call_event.TunnelOpen t.moment c)) calls in
               let looked = with_looks-more t.changes (cell.Bind s t.control.local t.control.peer) (placed t.control.local t.added e.calls) in
-              rw (changed, looked, put-put e.tunnels t.control.local (tunnel_after t calls) _) refl;
+              rw (changed, looked, one_given t (letter_of 0 (request_of s c.port)), put-put e.tunnels t.control.local (tunnel_after t letters calls) _, h.stays.4) refl;
         });
-        outs = all_push _ t.outputs _ (outs_later t m h.outs) (refl, ALetter _ t.control.channel.taken (last_gives t m _ (inl refl)) refl refl refl);
+        words = h.words;
         frames = all_push NoFrame t.moves m h.frames tt;
         stays = h.stays;
+        held = given_held t (letter_of 0 (request_of s c.port)) h.held;
       }
 
   -- ---- the calls that wait
@@ -173,13 +170,17 @@ module _ (e : End) (ev : Event) (calls : List (ℕ × Call)) (i : ℕ) where
   unfolding requests
   requests_ok s c t is_open found small h =
       branch TurnOk (is_request (call_row e.role c.state call_event.TunnelOpen).1) _ _
-      (λ row. branch TurnOk (may_count t.control.channel.sent) _ _ (λ may. requested_ok s c t is_open found small row h) (λ full. drops_ok why.Queue t h))
+      (λ row. branch TurnOk (has_room t.control) _ _ (λ may. requested_ok s c t is_open found small row h) (λ full. drops_ok why.Queue t h))
       (λ none. h)
+
+  -- the calls other than one stay
+  abbrev pub Others : ℕ → Turn → Turn → Type 0
+  Others s t u = (q : ℕ) → (q ≡ s → ⊥) → at (with_calls u.changed calls) q ≡ at (with_calls t.changed calls) q
 
   -- what a request leaves: the tunnel's state, and the other calls
   pub record Leaves (s : ℕ) (t u : Turn) : Type 0 where
     pub state : u.control.state ≡ t.control.state
-    pub others : (q : ℕ) → (q ≡ s → ⊥) → at (with_calls u.changed calls) q ≡ at (with_calls t.changed calls) q
+    pub others : Others s t u
 
   leaves_all : (s : ℕ) (t : Turn) → Leaves s t t
   leaves_all s t = record { state = refl; others = λ q o. refl }
@@ -188,11 +189,11 @@ module _ (e : End) (ev : Event) (calls : List (ℕ × Call)) (i : ℕ) where
   unfolding requests requested gives with_output with_change with_move with_call drops
   requests_leaves s c t =
       branch (Leaves s t) (is_request (call_row e.role c.state call_event.TunnelOpen).1) _ _
-      (λ row. branch (Leaves s t) (may_count t.control.channel.sent) _ _
+      (λ row. branch (Leaves s t) (has_room t.control) _ _
       (λ may. record {
         state = refl;
-        others = λ q o. ap (λ xs. at xs q) (with_calls-more t.changed s (advanced e.role call_event.TunnelOpen c) calls)
-            ∙ at_other (with_calls t.changed calls) s (advanced e.role call_event.TunnelOpen c) q o;
+        others = λ q o. ap (λ xs. at xs q) (with_calls-more t.changed s (Some (advanced e.role call_event.TunnelOpen t.moment c)) calls)
+            ∙ at_other (with_calls t.changed calls) s (advanced e.role call_event.TunnelOpen t.moment c) q o;
       })
       (λ full. record { state = refl; others = λ q o. refl }))
       (λ none. leaves_all s t)
@@ -213,9 +214,15 @@ module _ (e : End) (ev : Event) (calls : List (ℕ × Call)) (i : ℕ) where
   abbrev pub Same : Turn → ℕ × Call → Type 0
   Same t x = at (with_calls t.changed calls) x.0 ≡ at calls x.0
 
-  same_still : (s : ℕ) (t u : Turn) → Leaves s t u → (es : List (ℕ × Call)) → IsAbove s es → AllByRecursion (Same t) es → AllByRecursion (Same u) es
+  -- nothing is changed at first
+  pub same_first : (u : Turn) → u.changed ≡ [] → (es : List (ℕ × Call)) → AllByRecursion (Same u) es
+  unfolding with_calls
+  same_first u none [] = tt
+  same_first u none (x ∷ es) = (rw none refl, same_first u none es)
+
+  pub same_still : (s : ℕ) (t u : Turn) → Others s t u → (es : List (ℕ × Call)) → IsAbove s es → AllByRecursion (Same t) es → AllByRecursion (Same u) es
   same_still s t u l [] above h = tt
-  same_still s t u l (x ∷ es) above h = (l.others x.0 (λ q. let lt = above.0 in absurd (omega (arith, lt, q))) ∙ h.0, same_still s t u l es above.1 h.1)
+  same_still s t u l (x ∷ es) above h = (l x.0 (λ q. let lt = above.0 in absurd (omega (arith, lt, q))) ∙ h.0, same_still s t u l es above.1 h.1)
 
   pub requests_all_ok : (es : List (ℕ × Call)) → Ascends es → (t : Turn) → state_number t.control.state ≡ 3 → AllByRecursion (Same t) es → TurnOk t
       → TurnOk (requests_all e.role (ids_of es) calls t)
@@ -224,7 +231,7 @@ module _ (e : End) (ev : Event) (calls : List (ℕ × Call)) (i : ℕ) where
   requests_all_ok (x ∷ es) sorted t is_open same h =
       let a = requests_at_ok x.0 (at calls x.0) t is_open same.0 h in
       requests_all_ok es sorted.1 (requests_at e.role x.0 (at calls x.0) t) (ap state_number a.leaves.state ∙ is_open)
-      (same_still x.0 t _ a.leaves es sorted.0 same.1) a.ok
+      (same_still x.0 t (requests_at e.role x.0 (at calls x.0) t) a.leaves.others es sorted.0 same.1) a.ok
 
   -- ---- moves of calls
 
@@ -233,20 +240,21 @@ module _ (e : End) (ev : Event) (calls : List (ℕ × Call)) (i : ℕ) where
   adds_ok port s t none rings lac drawn h =
       let m = move.Added (record { tunnel = t.control.local; session = s; port = port }) in
       record {
-        chain = chain_more ev e (at_turn t) _ t.moves m h.chain (record {
-          tunnel = tunnel_after t calls;
+        chain = chain_more moment ev e (at_turn t) _ t.moves m h.chain (record {
+          tunnel = tunnel_after t letters calls;
           there = there t;
           rings = rings;
           role = lac;
           drawn = drawn;
           after =
-              let changed = with_calls-more t.changed s (rung e.role port) calls in
+              let changed = with_calls-more t.changed s (Some (rung e.role port t.moment)) calls in
               let added = placed-more t.control.local t.added s e.calls in
-              rw (none, changed, added, put-put e.tunnels t.control.local (tunnel_after t calls) _) refl;
+              rw (none, changed, added, put-put e.tunnels t.control.local (tunnel_after t letters calls) _, h.stays.4) refl;
         });
-        outs = outs_later t m h.outs;
+        words = h.words;
         frames = all_push NoFrame t.moves m h.frames tt;
-        stays = (h.stays.0, h.stays.1, (let l = last_after t.sessions in let x = h.stays.2 in omega (arith, l, x)), h.stays.3);
+        stays = (h.stays.0, h.stays.1, (let l = last_after t.sessions in let x = h.stays.2 in omega (arith, l, x)), h.stays.3, h.stays.4, h.stays.5);
+        held = h.held;
       }
 
   pub replied_ok : (remote s session serial : ℕ) (calling : Option (List ℕ)) (t : Turn) → t.changes ≡ [] → state_number t.control.state ≡ 3
@@ -259,12 +267,12 @@ module _ (e : End) (ev : Event) (calls : List (ℕ × Call)) (i : ℕ) where
         peer = t.control.peer;
         session = s;
         remote = remote;
-        taken = place t.control.channel.taken;
-        given = place t.control.channel.sent;
+        taken = taken_place t.control;
+        given = next_place t.control;
       }) in
       record {
-        chain = chain_more ev e (at_turn t) _ t.moves m h.chain (record {
-          tunnel = tunnel_after t calls;
+        chain = chain_more moment ev e (at_turn t) _ t.moves m h.chain (record {
+          tunnel = tunnel_after t letters calls;
           there = there t;
           open_is = is_open;
           peer = refl;
@@ -276,13 +284,14 @@ module _ (e : End) (ev : Event) (calls : List (ℕ × Call)) (i : ℕ) where
           taken = refl;
           given = refl;
           after =
-              let changed = with_calls-more t.changed s (asked_for e.role remote) calls in
+              let changed = with_calls-more t.changed s (Some (asked_for e.role remote t.moment)) calls in
               let added = placed-more t.control.local t.added s e.calls in
-              rw (none, changed, added, put-put e.tunnels t.control.local (tunnel_after t calls) _) refl;
+              rw (none, changed, added, one_given t (letter_of remote (Icrp s)), put-put e.tunnels t.control.local (tunnel_after t letters calls) _, h.stays.4) refl;
         });
-        outs = all_push _ t.outputs _ (outs_later t m h.outs) (refl, ALetter _ (t.control.channel.taken + 1) (last_gives t m _ (inl refl)) refl refl refl);
+        words = h.words;
         frames = all_push NoFrame t.moves m h.frames tt;
-        stays = (h.stays.0, h.stays.1, (let l = last_after t.sessions in let x = h.stays.2 in omega (arith, l, x)), h.stays.3);
+        stays = (h.stays.0, h.stays.1, (let l = last_after t.sessions in let x = h.stays.2 in omega (arith, l, x)), h.stays.3, h.stays.4, h.stays.5);
+        held = given_held t (letter_of remote (Icrp s)) h.held;
       }
 
   pub first_up_ok : (s remote : ℕ) (c : Call) (t : Turn) → state_number t.control.state ≡ 3 → at (with_calls t.changed calls) s ≡ Some c
@@ -294,12 +303,12 @@ module _ (e : End) (ev : Event) (calls : List (ℕ × Call)) (i : ℕ) where
         tunnel = t.control.local;
         session = s;
         remote = remote;
-        taken = place t.control.channel.taken;
-        given = place t.control.channel.sent;
+        taken = taken_place t.control;
+        given = next_place t.control;
       }) in
       record {
-        chain = chain_more ev e (at_turn t) _ t.moves m h.chain (record {
-          tunnel = tunnel_after t calls;
+        chain = chain_more moment ev e (at_turn t) _ t.moves m h.chain (record {
+          tunnel = tunnel_after t letters calls;
           there = there t;
           open_is = is_open;
           call = c;
@@ -309,34 +318,27 @@ module _ (e : End) (ev : Event) (calls : List (ℕ × Call)) (i : ℕ) where
           taken = refl;
           given = refl;
           after =
-              let changed = with_calls-more t.changed s (advanced e.role call_event.IcrpAcc (record c { remote = remote })) calls in
+              let changed = with_calls-more t.changed s (Some (advanced e.role call_event.IcrpAcc t.moment (record c { remote = remote }))) calls in
               let looked = with_looks-more t.changes (cell.Establish s) (placed t.control.local t.added e.calls) in
-              rw (changed, looked, put-put e.tunnels t.control.local (tunnel_after t calls) _) refl;
+              rw (changed, looked, one_given t (letter_of remote connection), put-put e.tunnels t.control.local (tunnel_after t letters calls) _, h.stays.4) refl;
         });
-        outs = all_push _ t.outputs _ (outs_later t m h.outs) (refl, ALetter _ (t.control.channel.taken + 1) (last_gives t m _ (inl refl)) refl refl refl);
+        words = h.words;
         frames = all_push NoFrame t.moves m h.frames tt;
         stays = h.stays;
+        held = given_held t (letter_of remote connection) h.held;
       }
 
-  -- the turn before its acknowledgement
-  abbrev second_made : ℕ → Call → Turn → Turn
-  second_made s c t =
-      with_change (cell.Establish s)
-      (with_change (cell.Bind s t.control.local t.control.peer)
-      (with_move (move.SecondUp (record { tunnel = t.control.local; session = s; taken = place t.control.channel.taken }))
-      (with_call s (advanced e.role call_event.IccnAcc c) (takes_one t))))
-
-  second_up_made : (s speed framing : ℕ) (sequenced : Bool) (c : Call) (t : Turn) → state_number t.control.state ≡ 3
+  pub second_up_ok : (s speed framing : ℕ) (sequenced : Bool) (c : Call) (t : Turn) → state_number t.control.state ≡ 3
       → at (with_calls t.changed calls) s ≡ Some c → HearsNext ev t.control s (Iccn speed framing sequenced)
-      → is_up (call_row e.role c.state call_event.IccnAcc).0 ≡ true → TurnOk t → TurnOk (second_made s c t)
-  unfolding with_change with_move with_call takes_one
-  second_up_made s speed framing sequenced c t is_open found hears row h =
-      let m = move.SecondUp (record { tunnel = t.control.local; session = s; taken = place t.control.channel.taken }) in
+      → is_up (call_row e.role c.state call_event.IccnAcc).0 ≡ true → TurnOk t → TurnOk (second_up e.role s c t)
+  unfolding second_up with_change with_move with_call takes_one
+  second_up_ok s speed framing sequenced c t is_open found hears row h =
+      let m = move.SecondUp (record { tunnel = t.control.local; session = s; taken = taken_place t.control }) in
       let bind = cell.Bind s t.control.local t.control.peer in
       let places = placed t.control.local t.added e.calls in
       record {
-        chain = chain_more ev e (at_turn t) _ t.moves m h.chain (record {
-          tunnel = tunnel_after t calls;
+        chain = chain_more moment ev e (at_turn t) _ t.moves m h.chain (record {
+          tunnel = tunnel_after t letters calls;
           there = there t;
           open_is = is_open;
           call = c;
@@ -348,110 +350,141 @@ module _ (e : End) (ev : Event) (calls : List (ℕ × Call)) (i : ℕ) where
           row = row;
           taken = refl;
           after =
-              let changed = with_calls-more t.changed s (advanced e.role call_event.IccnAcc c) calls in
+              let changed = with_calls-more t.changed s (Some (advanced e.role call_event.IccnAcc t.moment c)) calls in
               let bound = with_looks-more t.changes bind places in
               let established = with_looks-more (t.changes ++ bind ∷ []) (cell.Establish s) places in
-              rw (changed, established, bound, put-put e.tunnels t.control.local (tunnel_after t calls) _) refl;
+              rw (changed, established, bound, put-put e.tunnels t.control.local (tunnel_after t letters calls) _, h.stays.4) refl;
         });
-        outs = outs_later t m h.outs;
+        words = h.words;
         frames = all_push NoFrame t.moves m h.frames tt;
         stays = h.stays;
+        held = h.held;
       }
 
-  pub second_up_ok : (s speed framing : ℕ) (sequenced : Bool) (c : Call) (t : Turn) → state_number t.control.state ≡ 3
-      → at (with_calls t.changed calls) s ≡ Some c → HearsNext ev t.control s (Iccn speed framing sequenced)
-      → is_up (call_row e.role c.state call_event.IccnAcc).0 ≡ true → TurnOk t → TurnOk (second_up e.role s c t)
-  unfolding second_up
-  second_up_ok s speed framing sequenced c t is_open found hears row h =
-      acknowledges_ok _ (second_up_made s speed framing sequenced c t is_open found hears row h)
+  pub end_heard_ok : (s session remote code : ℕ) (error : Option ℕ) (c : Call) (t : Turn) → state_number t.control.state ≡ 3
+      → at (with_calls t.changed calls) s ≡ Some c → HearsNext ev t.control session (Cdn remote code error)
+      → s ≡ session_named (with_calls t.changed calls) session remote → is_clean_up (call_row e.role c.state call_event.CdnCame).1 ≡ true → TurnOk t
+      → TurnOk (end_heard s t)
+  unfolding end_heard ends_call with_output with_change with_move takes_one
+  end_heard_ok s session remote code error c t is_open found hears named row h =
+      let m = move.EndHeard (record { tunnel = t.control.local; session = s; taken = taken_place t.control }) in
+      record {
+        chain = chain_more moment ev e (at_turn t) _ t.moves m h.chain (record {
+          tunnel = tunnel_after t letters calls;
+          there = there t;
+          open_is = is_open;
+          call = c;
+          live = found;
+          remote = remote;
+          code = code;
+          error = error;
+          hears = (session, hears, named);
+          row = row;
+          taken = refl;
+          after =
+              let changed = with_calls-more t.changed s None calls in
+              let looked = with_looks-more t.changes (cell.Kill s) (placed t.control.local t.added e.calls) in
+              rw (changed, looked, put-put e.tunnels t.control.local (tunnel_after t letters calls) _) refl;
+        });
+        words = all_push IsWord t.outputs (Gone s) h.words tt;
+        frames = all_push NoFrame t.moves m h.frames tt;
+        stays = h.stays;
+        held = h.held;
+      }
 
   -- ---- moves of the tunnel
 
-  pub connected_ok : (remote session : ℕ) (o : Opening) (t : Turn) → t.outputs ≡ [] → t.control.state ≡ WaitCtlReply
-      → HearsNext ev t.control session (Sccrp o) → remote ≡ o.tunnel → TurnOk t → TurnOk (connected remote Established t)
-  unfolding connected gives with_output with_move takes_one
-  connected_ok remote session o t none state hears is h =
+  pub connected_ok : (remote window session : ℕ) (o : Opening) (t : Turn) → t.control.state ≡ WaitCtlReply → HearsNext ev t.control session (Sccrp o)
+      → remote ≡ o.tunnel → window ≡ o.window → TurnOk t → TurnOk (connected remote window Established t)
+  unfolding connected gives with_move takes_one
+  connected_ok remote window session o t state hears is is_window h =
       let m = move.Connected (record {
         tunnel = t.control.local;
         remote = remote;
-        taken = place t.control.channel.taken;
-        given = place t.control.channel.sent;
+        window = window;
+        taken = taken_place t.control;
+        given = next_place t.control;
       }) in
+      let c : Control = record t.control { remote = remote; state = Established } in
       record {
-        chain = chain_more ev e (at_turn t) _ t.moves m h.chain (record {
-          tunnel = tunnel_after t calls;
+        chain = chain_more moment ev e (at_turn t) _ t.moves m h.chain (record {
+          tunnel = tunnel_after t letters calls;
           there = there t;
           state = state;
           opening = o;
           hears = (session, hears);
           remote = is;
+          window = is_window;
           taken = refl;
           given = refl;
-          after = rw (put-put e.tunnels t.control.local (tunnel_after t calls) _) refl;
+          after = rw (learnt_local window c, one_given t (letter_of 0 Scccn), put-put e.tunnels t.control.local (tunnel_after t letters calls) _) refl;
         });
-        outs = rw none ((refl, ALetter _ (t.control.channel.taken + 1) (last_gives t m _ (inl refl)) refl refl refl), tt);
+        words = h.words;
         frames = all_push NoFrame t.moves m h.frames tt;
-        stays = (h.stays.0, (λ z. absurd (omega (arith, z))), h.stays.2, h.stays.3);
+        stays = (learnt_local window c ∙ h.stays.0, rw (learnt_state window c) (λ z. absurd (omega (arith, z))), h.stays.2, h.stays.3, h.stays.4, h.stays.5);
+        held = subst (Held (sending.one_more (learns_window window c).channel.window)) (sym (one_given t (letter_of 0 Scccn)))
+            (held_given (learns_window window c).channel.window (letters_after t letters) (letter_of 0 Scccn) (held_learnt window c (letters_after t letters) h.held));
       }
 
-  abbrev confirm_made : Turn → Turn
-  confirm_made t =
-      with_move (move.Confirmed (record { tunnel = t.control.local; taken = place t.control.channel.taken }))
-      (takes_one (record t { control = in_state Established t.control }))
-
-  confirmed_made : (session : ℕ) (t : Turn) → t.control.state ≡ WaitCtlConn → HearsNext ev t.control session Scccn → TurnOk t
-      → TurnOk (confirm_made t)
-  unfolding with_move takes_one
-  confirmed_made session t state hears h =
-      let m = move.Confirmed (record { tunnel = t.control.local; taken = place t.control.channel.taken }) in
+  pub confirms_ok : (session : ℕ) (t : Turn) → t.control.state ≡ WaitCtlConn → HearsNext ev t.control session Scccn → TurnOk t → TurnOk (confirms Established t)
+  unfolding confirms with_move takes_one
+  confirms_ok session t state hears h =
+      let m = move.Confirmed (record { tunnel = t.control.local; taken = taken_place t.control }) in
       record {
-        chain = chain_more ev e (at_turn t) _ t.moves m h.chain (record {
-          tunnel = tunnel_after t calls;
+        chain = chain_more moment ev e (at_turn t) _ t.moves m h.chain (record {
+          tunnel = tunnel_after t letters calls;
           there = there t;
           state = state;
           hears = (session, hears);
           taken = refl;
-          after = rw (put-put e.tunnels t.control.local (tunnel_after t calls) _) refl;
+          after = rw (put-put e.tunnels t.control.local (tunnel_after t letters calls) _) refl;
         });
-        outs = outs_later t m h.outs;
+        words = h.words;
         frames = all_push NoFrame t.moves m h.frames tt;
-        stays = (h.stays.0, (λ z. absurd (omega (arith, z))), h.stays.2, h.stays.3);
+        stays = (h.stays.0, (λ z. absurd (omega (arith, z))), h.stays.2, h.stays.3, h.stays.4, h.stays.5);
+        held = h.held;
       }
 
-  pub confirms_ok : (session : ℕ) (t : Turn) → t.control.state ≡ WaitCtlConn → HearsNext ev t.control session Scccn → TurnOk t → TurnOk (confirms Established t)
-  unfolding confirms
-  confirms_ok session t state hears h = acknowledges_ok _ (confirmed_made session t state hears h)
-
-  plain_made : (session : ℕ) (m : Message) (t : Turn) → HearsNext ev t.control session m → TurnOk t
-      → TurnOk (with_move (move.TookPlain (record { tunnel = t.control.local; taken = place t.control.channel.taken })) (takes_one t))
-  unfolding with_move takes_one
-  plain_made session message t hears h =
-      let m = move.TookPlain (record { tunnel = t.control.local; taken = place t.control.channel.taken }) in
+  pub plain_ok : (t : Turn) → ComesNext ev t.control → TurnOk t → TurnOk (takes_plain t)
+  unfolding takes_plain with_move takes_one
+  plain_ok t comes h =
+      let m = move.TookPlain (record { tunnel = t.control.local; taken = taken_place t.control }) in
       record {
-        chain = chain_more ev e (at_turn t) _ t.moves m h.chain (record {
-          tunnel = tunnel_after t calls;
+        chain = chain_more moment ev e (at_turn t) _ t.moves m h.chain (record {
+          tunnel = tunnel_after t letters calls;
           there = there t;
-          message = message;
-          hears = (session, hears);
+          comes = comes;
           taken = refl;
-          after = rw (put-put e.tunnels t.control.local (tunnel_after t calls) _) refl;
+          after = rw (put-put e.tunnels t.control.local (tunnel_after t letters calls) _) refl;
         });
-        outs = outs_later t m h.outs;
+        words = h.words;
         frames = all_push NoFrame t.moves m h.frames tt;
         stays = h.stays;
+        held = h.held;
       }
 
-  pub plain_ok : (session : ℕ) (m : Message) (t : Turn) → HearsNext ev t.control session m → TurnOk t → TurnOk (takes_plain t)
-  unfolding takes_plain
-  plain_ok session m t hears h = acknowledges_ok _ (plain_made session m t hears h)
+  pub ignores_ok : (w : Why) (t : Turn) → ComesNext ev t.control → TurnOk t → TurnOk (ignores w t)
+  unfolding ignores
+  ignores_ok w t comes h = drops_ok w (takes_plain t) (plain_ok t comes h)
 
-  pub read_ok : (nr : ℕ) (t : Turn) → TurnOk t → TurnOk (with_move (move.NrRead (record { tunnel = t.control.local; nr = nr })) t)
-  unfolding with_move
-  read_ok nr t h =
+  -- Nr is read before anything is given
+  pub reads_ok : (nr : ℕ) (t : Turn) → t.given ≡ [] → t.acked ≡ 0 → TellsNr ev t.control nr → TurnOk t → TurnOk (reads_nr nr t)
+  unfolding reads_nr with_move
+  reads_ok nr t none whole tells h =
       let m = move.NrRead (record { tunnel = t.control.local; nr = nr }) in
+      let count = count_acked t.control.channel nr in
+      let all : letters_after t letters ≡ letters = rw (none, whole) (append-nil letters) in
+      let left : drop count letters ++ t.given ≡ drop count letters = rw none (append-nil (drop count letters)) in
       record {
-        chain = chain_more ev e (at_turn t) (at_turn t) t.moves m h.chain (record { tunnel = tunnel_after t calls; there = there t; after = refl });
-        outs = outs_later t m h.outs;
+        chain = chain_more moment ev e (at_turn t) _ t.moves m h.chain (record {
+          tunnel = tunnel_after t letters calls;
+          there = there t;
+          tells = tells;
+          after = rw (put-put e.tunnels t.control.local (tunnel_after t letters calls) _, all, left, h.stays.4) refl;
+        });
+        words = h.words;
         frames = all_push NoFrame t.moves m h.frames tt;
         stays = h.stays;
+        held = subst (Held (sending.acked_at t.control.channel.window nr t.moment)) (sym left)
+            (held_read t.control.channel.window letters nr t.moment (subst (Held t.control.channel.window) all h.held));
       }

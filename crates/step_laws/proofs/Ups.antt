@@ -1,8 +1,8 @@
 -- A step hands up what its moves hand up: a frame that comes, and no other.
-use Rattle.std.proofs.Common.{◌≡◌, ℕ, ◌≤◌, List, [], length, refl, sym, ◌∙◌, Option, Some, None, Result, Ok, Err, arith}
+use Rattle.std.proofs.Common.{◌≡◌, ℕ, ◌≤◌, List, [], ◌∷◌, ◌++◌, length, refl, sym, ◌∙◌, Option, Some, None, Result, Ok, Err, arith}
 use Rattle.std.specs.Prelude.{◌==◌}
 use Rattle.std.specs.List.{flat_map}
-use Rattle.id_table.specs.Ids.{at}
+use Rattle.id_table.specs.Ids.{at, ids_of}
 use Rattle.wire_base.specs.declared.why.Why.{Why}
 use Rattle.wire_base.specs.declared.why.Why.TheVariants as why
 use Rattle.l2tp_header.specs.declared.header.Header.{Header}
@@ -14,15 +14,15 @@ use Rattle.protocol_model.specs.declared.tunnel.Role.TheVariants.{Lac, Lns}
 use Rattle.protocol_model.specs.declared.event.Addressee.{Addressee}
 use Rattle.protocol_model.specs.declared.event.Addressee.TheVariants.{Opens, Main, Nobody}
 use Rattle.protocol_model.specs.declared.event.Event.{Event}
-use Rattle.protocol_model.specs.declared.event.Event.TheVariants.{Datagram, Ring, Payload, Lower, OpenTunnel}
+use Rattle.protocol_model.specs.declared.event.Event.TheVariants.{Datagram, Ring, Payload, Lower, OpenTunnel, Tick}
 use Rattle.protocol_model.specs.declared.out.Out.TheVariants.{Drop}
 use Rattle.protocol_model.specs.Reading.{header_why, body_of}
 use Rattle.protocol_model.specs.Calls.{is_lac, Carried, Upward, Dropped}
 use Rattle.protocol_model.specs.Turn.{Tunnel, Env, turn_of, fresh, turns}
-use Rattle.protocol_model.specs.End.{End, Stepped, env_of, gives_only, after_turn, after_new, in_new, in_main, addressed, for_addressee, least_in, rings_in, rings_at, gives_frame, handed, hands_up, receives, only_by, step_in, step}
+use Rattle.protocol_model.specs.End.{End, Stepped, env_of, gives_only, after_turn, after_new, in_new, in_main, addressed, for_addressee, least_in, rings_in, rings_at, gives_frame, handed, hands_up, receives, Turned, tick_of, ticks_of, after_all, ticks_all, only_by, step_in, step}
 use Rattle.step_laws.specs.Ups.{ups_of_output, ups_of_move, births_of_move, most_ups, most_births, UpsAreMoves, UpsAreFew, BirthsAreFew}
-use Rattle.step_laws.proofs.Turns.{branch}
-use Rattle.step_laws.proofs.Quiet.{AreQuiet, nothing, turns_quiet}
+use Rattle.step_laws.proofs.Lists.{branch}
+use Rattle.step_laws.proofs.Quiet.{AreQuiet, nothing, turns_quiet, both_quiet}
 
 -- what a step on an event hands up, and how many calls are born in it
 record IsTold (ev : Event) (s : Stepped) : Type 0 where
@@ -46,13 +46,13 @@ module _ (e : End) (moment : ℕ) (block : List ℕ) where
   main_told : (ev : Event) (i : ℕ) (o : Option Tunnel) → IsTold ev (in_main e env ev i o)
   unfolding in_main after_turn
   main_told ev i None = dropped_told ev e why.Tunnel
-  main_told ev i (Some t) = quiet_told ev _ (turns_quiet e.role e.config t.calls ev (turn_of t.control env) (nothing 0))
+  main_told ev i (Some t) = quiet_told ev _ (turns_quiet e.role e.config t.letters t.calls ev (turn_of t.control env) (nothing 0))
 
   new_told : (ev : Event) (peer : ℕ) → IsTold ev (in_new e env ev peer)
   unfolding in_new after_new after_turn
   new_told ev peer =
-      let quiet = turns_quiet e.role e.config [] ev (turn_of (fresh peer) env) (nothing 0) in
-      branch (IsTold ev) ((turns e.role e.config [] ev (turn_of (fresh peer) env)).control.local == 0) _ _
+      let quiet = turns_quiet e.role e.config [] [] ev (turn_of (fresh peer moment) env) (nothing 0) in
+      branch (IsTold ev) ((turns e.role e.config [] [] ev (turn_of (fresh peer moment) env)).control.local == 0) _ _
       (λ zero. quiet_told ev _ quiet)
       (λ some. quiet_told ev _ quiet)
 
@@ -60,7 +60,7 @@ module _ (e : End) (moment : ℕ) (block : List ℕ) where
 
   addressee_told : (ev : Event) (peer : ℕ) (a : Addressee) → IsTold ev (for_addressee e env ev peer a)
   unfolding for_addressee
-  addressee_told ev peer Opens = new_told ev peer
+  addressee_told ev peer (Opens remote) = new_told ev peer
   addressee_told ev peer (Main i) = main_told ev i (at e.tunnels i)
   addressee_told ev peer (Nobody w) = dropped_told ev e w
 
@@ -90,6 +90,24 @@ module _ (e : End) (moment : ℕ) (block : List ℕ) where
   frame_told ev None = dropped_told ev e why.Call
   frame_told ev (Some p) = main_told ev p.tunnel (at e.tunnels p.tunnel)
 
+  -- ---- time
+
+  tick_told : (i : ℕ) (o : Option Tunnel) (ts : List Turned)
+      → AreQuiet 0 (flat_map (λ (t : Turned). t.turn.outputs) ts) (flat_map (λ (t : Turned). t.turn.moves) ts)
+      → AreQuiet 0 (flat_map (λ (t : Turned). t.turn.outputs) (tick_of e env i o ++ ts)) (flat_map (λ (t : Turned). t.turn.moves) (tick_of e env i o ++ ts))
+  tick_told i None ts h = h
+  tick_told i (Some t) ts h = both_quiet _ _ _ _ (turns_quiet e.role e.config t.letters t.calls Tick (turn_of t.control env) (nothing 0)) h
+
+  ticks_told : (is : List ℕ)
+      → AreQuiet 0 (flat_map (λ (t : Turned). t.turn.outputs) (ticks_of e env is)) (flat_map (λ (t : Turned). t.turn.moves) (ticks_of e env is))
+  unfolding ticks_of
+  ticks_told [] = nothing 0
+  ticks_told (i ∷ is) = tick_told i (at e.tunnels i) (ticks_of e env is) (ticks_told is)
+
+  all_told : IsTold Tick (ticks_all e env)
+  unfolding ticks_all after_all
+  all_told = quiet_told Tick _ (ticks_told (ids_of e.tunnels))
+
   by_lac : (ev : Event) (s : Stepped) → IsTold ev s → IsTold ev (only_by Lac e s)
   unfolding only_by
   by_lac ev s h = branch (IsTold ev) (is_lac e.role) _ _ (λ lac. h) (λ lns. dropped_told ev e why.Node)
@@ -105,6 +123,7 @@ module _ (e : End) (moment : ℕ) (block : List ℕ) where
       by_lac (Ring port) _ (rings_told (Ring port) (least_in Established e.config.lns e.tunnels) (least_in WaitCtlReply e.config.lns e.tunnels))
   step_told (Payload s frame) = by_lac (Payload s frame) _ (frame_told (Payload s frame) (at e.calls s))
   step_told (Lower s frame) = by_lns (Lower s frame) _ (frame_told (Lower s frame) (at e.calls s))
+  step_told Tick = all_told
   step_told OpenTunnel = by_lac OpenTunnel _ (new_told OpenTunnel e.config.lns)
 
 pub ups_are_moves : UpsAreMoves

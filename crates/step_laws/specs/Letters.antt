@@ -1,12 +1,12 @@
 -- The letters that moves give, and what a step's outputs are of its moves.
-use Rattle.std.specs.Prelude.{◌≡◌, ℕ, ◌⊎◌, true, false, List, [], ◌∷◌, None, Some}
+use Rattle.std.specs.Prelude.{◌≡◌, ℕ, ◌⊎◌, true, false, List, [], ◌∷◌, slice_get, Option, None, Some}
 use Rattle.id_table.specs.Ids.{at}
 use Rattle.l2tp_header.specs.Spelling.{control_bytes, data_bytes}
-use Rattle.avp_codec.specs.Spelling.{spelling}
+use Rattle.wire_base.specs.declared.letter.Letter as wire
 use Rattle.control_message.specs.declared.message.Message.{Message}
-use Rattle.control_message.specs.declared.message.Message.TheVariants.{Sccrq, Sccrp, Scccn, Icrp}
-use Rattle.control_message.specs.Pairs.{pairs_of}
-use Rattle.reliable_channel.specs.Channel.{on_wire}
+use Rattle.control_message.specs.declared.message.Message.TheVariants.{Sccrq, Sccrp, Scccn, Hello, Icrp, Cdn}
+use Rattle.recv_window.specs.Window.{on_wire}
+use Rattle.control_channel.specs.Numbers.{place_of}
 use Rattle.protocol_model.specs.declared.tunnel.Call.{Call}
 use Rattle.protocol_model.specs.declared.tunnel.Config.{Config}
 use Rattle.protocol_model.specs.declared.tunnel.Role.{Role}
@@ -44,26 +44,27 @@ letters_of role c (move.Connected m) = letter m.tunnel m.given 0 Scccn
 letters_of role c (move.Requested m) = letter m.tunnel m.given 0 (request_of m.session m.port)
 letters_of role c (move.Replied m) = letter m.tunnel m.given m.remote (Icrp m.session)
 letters_of role c (move.FirstUp m) = letter m.tunnel m.given m.remote connection
+letters_of role c (move.EndTold m) = letter m.tunnel m.given m.remote (Cdn m.session m.code None)
+letters_of role c (move.Greeted m) = letter m.tunnel m.given 0 Hello
 letters_of role c m = []
 
--- one of the moves gives the letter
-pub record GivesLetter (role : Role) (c : Config) (moves : List Move) (l : Letter) : Type 0 where
-  pub by : Move
-  pub there : Among by moves
-  pub gives : Among l (letters_of role c by)
+-- the letter with a number, among those that a tunnel keeps
+abbrev pub letter_at : Tunnel → ℕ → Option wire.Letter
+letter_at t number = slice_get t.letters (place_of t.control.channel number)
 
--- the bytes that are sent in a tunnel, by the ids that both ends assigned: a letter that a move of the step gave, at its
--- place; an acknowledgement alone; or a frame that a move of the step sends
-pub data Carries (role : Role) (c : Config) (t : Tunnel) (moves : List Move) (bytes : List ℕ) (o : Origin) : Type 0 where
-  ALetter : (l : Letter) (nr : ℕ) → GivesLetter role c moves l → l.tunnel ≡ t.control.local
-      → o ≡ origin.Control (record { tunnel = t.control.local; epoch = 0; ns = l.place.number; nr = nr; empty = false })
-      → bytes ≡ control_bytes t.control.remote l.session (on_wire l.place.number) (on_wire nr) (spelling (pairs_of l.message))
-      → Carries role c t moves bytes o
-  Nothing : (ns nr : ℕ) → o ≡ origin.Control (record { tunnel = t.control.local; epoch = 0; ns = ns; nr = nr; empty = true })
-      → bytes ≡ control_bytes t.control.remote 0 (on_wire ns) (on_wire nr) [] → Carries role c t moves bytes o
+-- the bytes that are sent in a tunnel, by the ids that both ends assigned: the letter with a number, of those that the tunnel
+-- keeps; an acknowledgement alone; or a frame that a move of the step sends. Nr counts what the tunnel has taken
+pub data Carries (t : Tunnel) (moves : List Move) (bytes : List ℕ) (o : Origin) : Type 0 where
+  ALetter : (l : wire.Letter) (number : ℕ) → letter_at t number ≡ Some l
+      → o ≡ origin.Control (record { tunnel = t.control.local; epoch = 0; ns = number; nr = t.control.channel.inbox.taken; empty = false })
+      → bytes ≡ control_bytes t.control.remote l.session (on_wire number) (on_wire t.control.channel.inbox.taken) l.avps
+      → Carries t moves bytes o
+  Nothing : (number : ℕ)
+      → o ≡ origin.Control (record { tunnel = t.control.local; epoch = 0; ns = number; nr = t.control.channel.inbox.taken; empty = true })
+      → bytes ≡ control_bytes t.control.remote 0 (on_wire number) (on_wire t.control.channel.inbox.taken) [] → Carries t moves bytes o
   AFrame : (f : FrameSent) (call : Call) → Among (move.FrameSent f) moves → f.tunnel ≡ t.control.local → f.peer ≡ t.control.peer
       → at t.calls f.session ≡ Some call → is_up call.state ≡ true → o ≡ origin.Data f.session
-      → bytes ≡ data_bytes t.control.remote call.remote None f.frame → Carries role c t moves bytes o
+      → bytes ≡ data_bytes t.control.remote call.remote None f.frame → Carries t moves bytes o
 
 -- a frame that a move sends is in an output
 abbrev pub HasOutput : List Out → Move → Type 0

@@ -1,13 +1,16 @@
 -- What each move needs before it, and what it changes.
-use Rattle.std.specs.Prelude.{◌≡◌, ℕ, ◌<◌, ◌⊎◌, Bool, true, false, List, [], ◌∷◌, Option, Some, unwrap_or, Ok}
-use Rattle.id_table.specs.Ids.{at, put}
+use Rattle.std.specs.Prelude.{◌≡◌, ℕ, ◌<◌, ◌⊎◌, Bool, true, false, List, [], ◌∷◌, ◌++◌, drop, map, Option, None, Some, unwrap_or, Ok}
+use Rattle.id_table.specs.Ids.{at, put, without, ids_of}
 use Rattle.id_source.specs.Spaces.{draws, after_draw}
 use Rattle.l2tp_header.specs.declared.header.Header.{Header}
 use Rattle.l2tp_header.specs.Reading.{header_of}
 use Rattle.control_message.specs.declared.message.Message.{Message}
-use Rattle.control_message.specs.declared.message.Message.TheVariants.{Sccrq, Sccrp, Scccn, Icrq, Icrp, Iccn}
+use Rattle.control_message.specs.declared.message.Message.TheVariants.{Sccrq, Sccrp, Scccn, Hello, Icrq, Icrp, Iccn, Cdn}
 use Rattle.control_message.specs.declared.message.Opening.{Opening}
-use Rattle.reliable_channel.specs.Channel.{is_next}
+use Rattle.send_window.specs.declared.window.Tick.TheVariants.{Again}
+use Rattle.recv_window.specs.declared.Class.TheVariants.{Next}
+use Rattle.recv_window.specs.Window.{class_of}
+use Rattle.control_channel.specs.Numbers.{count_acked, next_to_go, answer_to_tick}
 use Rattle.tunnel_fsm.specs.declared.table.TunnelState.{TunnelState}
 use Rattle.tunnel_fsm.specs.declared.table.TunnelState.TheVariants.{WaitCtlReply, WaitCtlConn, Established}
 use Rattle.tunnel_fsm.specs.Rows.{state_number}
@@ -32,14 +35,20 @@ use Rattle.protocol_model.specs.declared.moves.FirstUp.{FirstUp}
 use Rattle.protocol_model.specs.declared.moves.SecondUp.{SecondUp}
 use Rattle.protocol_model.specs.declared.moves.TookPlain.{TookPlain}
 use Rattle.protocol_model.specs.declared.moves.NrRead.{NrRead}
+use Rattle.protocol_model.specs.declared.moves.LetGo.{LetGo}
+use Rattle.protocol_model.specs.declared.moves.EndTold.{EndTold}
+use Rattle.protocol_model.specs.declared.moves.EndHeard.{EndHeard}
+use Rattle.protocol_model.specs.declared.moves.EndSilent.{EndSilent}
+use Rattle.protocol_model.specs.declared.moves.Greeted.{Greeted}
+use Rattle.protocol_model.specs.declared.moves.Repeated.{Repeated}
 use Rattle.protocol_model.specs.declared.moves.FrameSent.{FrameSent}
 use Rattle.protocol_model.specs.declared.moves.FrameUp.{FrameUp}
 use Rattle.protocol_model.specs.declared.moves.Move.{Move}
 use Rattle.protocol_model.specs.declared.moves.Move.TheVariants as move
 use Rattle.protocol_model.specs.Reading.{body_of, message_in}
-use Rattle.protocol_model.specs.Calls.{call_row, advanced, rung, asked_for, is_request, is_reply, is_connection, is_up, frame_of, side_of}
-use Rattle.protocol_model.specs.Turn.{Tunnel, place, counts_sent, counts_taken, in_state}
-use Rattle.protocol_model.specs.End.{End, new_place, with_look}
+use Rattle.protocol_model.specs.Calls.{call_row, advanced, rung, asked_for, is_request, is_reply, is_connection, is_told, is_up, frame_of, side_of}
+use Rattle.protocol_model.specs.Turn.{Tunnel, place, next_place, taken_place, letter_of, fresh, counts_given, counts_taken, counts_acked, counts_sent, counts_repeated, learns_window, in_state, opening_of, request_of, connection, is_clean_up, session_named}
+use Rattle.protocol_model.specs.End.{End, new_place, with_look, with_looks}
 
 -- ---- what came
 
@@ -53,11 +62,35 @@ pub record Hears (ev : Event) (peer session : ℕ) (m : Message) : Type 0 where
   pub session_is : header.session ≡ session
   pub said : message_in (body_of header bytes) ≡ Ok m
 
+-- it names the tunnel, or none, as an SCCRQ does
+abbrev pub IsFor : Header → Control → Type 0
+IsFor h c = (h.tunnel ≡ c.local) ⊎ (h.tunnel ≡ 0)
+
 -- the next letter of a tunnel's peer, in the tunnel
 pub record HearsNext (ev : Event) (c : Control) (session : ℕ) (m : Message) : Type 0 where
   pub hears : Hears ev c.peer session m
-  pub tunnel : hears.header.tunnel ≡ c.local
-  pub next : is_next (unwrap_or hears.header.ns 0) c.channel ≡ true
+  pub tunnel : IsFor hears.header c
+  pub next : class_of (unwrap_or hears.header.ns 0) c.channel.inbox ≡ Next
+
+-- the next letter of a tunnel's peer, whatever it says
+pub record ComesNext (ev : Event) (c : Control) : Type 0 where
+  pub bytes : List ℕ
+  pub is : ev ≡ Datagram c.peer bytes
+  pub header : Header
+  pub read : header_of bytes ≡ Ok header
+  pub control : header.control ≡ true
+  pub tunnel : IsFor header c
+  pub next : class_of (unwrap_or header.ns 0) c.channel.inbox ≡ Next
+
+-- a control message of a tunnel's peer, in the tunnel, with this Nr
+pub record TellsNr (ev : Event) (c : Control) (nr : ℕ) : Type 0 where
+  pub bytes : List ℕ
+  pub is : ev ≡ Datagram c.peer bytes
+  pub header : Header
+  pub read : header_of bytes ≡ Ok header
+  pub control : header.control ≡ true
+  pub tunnel : IsFor header c
+  pub tells : nr ≡ unwrap_or header.nr 0
 
 -- a frame that a peer sent
 pub record HearsFrame (ev : Event) (peer tunnel session : ℕ) (frame : List ℕ) : Type 0 where
@@ -75,28 +108,38 @@ pub record HearsFrame (ev : Event) (peer tunnel session : ℕ) (frame : List ℕ
 abbrev pub with_tunnel : End → ℕ → Tunnel → End
 with_tunnel e i t = record e { tunnels = put e.tunnels i t }
 
--- a tunnel that is new, with the numbers of its channel
-abbrev pub new_tunnel : ℕ → ℕ → ℕ → TunnelState → ℕ → ℕ → Tunnel
-new_tunnel local peer remote state sent taken = record {
-  control = record { local = local; peer = peer; remote = remote; state = state; channel = record { sent = sent; taken = taken } };
-  calls = [];
-}
+-- one more letter is given to the tunnel's channel
+abbrev pub with_letter : ℕ → Message → Tunnel → Tunnel
+with_letter session m t = record t { control = counts_given t.control; letters = t.letters ++ letter_of session m ∷ [] }
 
-pub record Opens (e : End) (m : Opened) (x : End) : Type 0 where
+-- a tunnel that is new, before anything is given to its channel
+abbrev pub new_tunnel : Control → Tunnel
+new_tunnel c = record { control = c; letters = []; calls = [] }
+
+-- of these ids, in this state, made at a moment
+abbrev pub begun : ℕ → ℕ → ℕ → TunnelState → ℕ → Control
+begun local peer remote state moment = record (fresh peer moment) { local = local; remote = remote; state = state }
+
+pub record Opens (e : End) (moment : ℕ) (m : Opened) (x : End) : Type 0 where
   pub drawn : draws e.tunnel_ids ≡ Ok m.tunnel
   pub given : m.given ≡ place 0
   pub peer : m.peer ≡ e.config.lns
   pub role : e.role ≡ Lac
-  pub after : x ≡ record (with_tunnel e m.tunnel (new_tunnel m.tunnel m.peer 0 WaitCtlReply 1 0)) { tunnel_ids = after_draw e.tunnel_ids }
+  pub after : x ≡ record (with_tunnel e m.tunnel (with_letter 0 (Sccrq (opening_of e.role e.config m.tunnel)) (new_tunnel (begun m.tunnel m.peer 0 WaitCtlReply moment)))) {
+    tunnel_ids = after_draw e.tunnel_ids;
+  }
 
-pub record Accepts (e : End) (ev : Event) (m : Accepted) (x : End) : Type 0 where
+pub record Accepts (e : End) (moment : ℕ) (ev : Event) (m : Accepted) (x : End) : Type 0 where
   pub opening : Opening
   pub hears : (session : ℕ) × Hears ev m.peer session (Sccrq opening)
   pub remote : m.remote ≡ opening.tunnel
+  pub window : m.window ≡ opening.window
   pub drawn : draws e.tunnel_ids ≡ Ok m.tunnel
   pub taken : m.taken ≡ place 0
   pub given : m.given ≡ place 0
-  pub after : x ≡ record (with_tunnel e m.tunnel (new_tunnel m.tunnel m.peer m.remote WaitCtlConn 1 1)) { tunnel_ids = after_draw e.tunnel_ids }
+  pub after : x ≡ record (with_tunnel e m.tunnel (with_letter 0 (Sccrp (opening_of e.role e.config m.tunnel)) (new_tunnel (counts_taken (learns_window m.window (begun m.tunnel m.peer m.remote WaitCtlConn moment)))))) {
+    tunnel_ids = after_draw e.tunnel_ids;
+  }
 
 pub record Connects (e : End) (ev : Event) (m : Connected) (x : End) : Type 0 where
   pub tunnel : Tunnel
@@ -105,33 +148,34 @@ pub record Connects (e : End) (ev : Event) (m : Connected) (x : End) : Type 0 wh
   pub opening : Opening
   pub hears : (session : ℕ) × HearsNext ev tunnel.control session (Sccrp opening)
   pub remote : m.remote ≡ opening.tunnel
-  pub taken : m.taken ≡ place tunnel.control.channel.taken
-  pub given : m.given ≡ place tunnel.control.channel.sent
-  pub after : x ≡ with_tunnel e m.tunnel (record tunnel {
-    control = counts_sent (counts_taken (record tunnel.control { remote = m.remote; state = Established }));
-  })
+  pub window : m.window ≡ opening.window
+  pub taken : m.taken ≡ taken_place tunnel.control
+  pub given : m.given ≡ next_place tunnel.control
+  pub after : x ≡ with_tunnel e m.tunnel (with_letter 0 Scccn (record tunnel {
+    control = counts_taken (learns_window m.window (record tunnel.control { remote = m.remote; state = Established }));
+  }))
 
 pub record Confirms (e : End) (ev : Event) (m : Confirmed) (x : End) : Type 0 where
   pub tunnel : Tunnel
   pub there : at e.tunnels m.tunnel ≡ Some tunnel
   pub state : tunnel.control.state ≡ WaitCtlConn
   pub hears : (session : ℕ) × HearsNext ev tunnel.control session Scccn
-  pub taken : m.taken ≡ place tunnel.control.channel.taken
+  pub taken : m.taken ≡ taken_place tunnel.control
   pub after : x ≡ with_tunnel e m.tunnel (record tunnel { control = counts_taken (in_state Established tunnel.control) })
 
 -- a call is born: it has its place, and nothing is seen of it yet
-pub record Adds (e : End) (ev : Event) (m : Added) (x : End) : Type 0 where
+pub record Adds (e : End) (moment : ℕ) (ev : Event) (m : Added) (x : End) : Type 0 where
   pub tunnel : Tunnel
   pub there : at e.tunnels m.tunnel ≡ Some tunnel
   pub rings : ev ≡ Ring m.port
   pub role : e.role ≡ Lac
   pub drawn : draws e.session_ids ≡ Ok m.session
-  pub after : x ≡ record (with_tunnel e m.tunnel (record tunnel { calls = put tunnel.calls m.session (rung e.role m.port) })) {
+  pub after : x ≡ record (with_tunnel e m.tunnel (record tunnel { calls = put tunnel.calls m.session (rung e.role m.port moment) })) {
     session_ids = after_draw e.session_ids;
     calls = put e.calls m.session (new_place m.tunnel);
   }
 
-pub record Requests (e : End) (m : Requested) (x : End) : Type 0 where
+pub record Requests (e : End) (moment : ℕ) (m : Requested) (x : End) : Type 0 where
   pub tunnel : Tunnel
   pub there : at e.tunnels m.tunnel ≡ Some tunnel
   pub open_is : state_number tunnel.control.state ≡ 3
@@ -140,13 +184,12 @@ pub record Requests (e : End) (m : Requested) (x : End) : Type 0 where
   pub row : is_request (call_row e.role call.state call_event.TunnelOpen).1 ≡ true
   pub session : m.session < 65536
   pub port : m.port ≡ call.port
-  pub given : m.given ≡ place tunnel.control.channel.sent
-  pub after : x ≡ record (with_tunnel e m.tunnel (record {
-    control = counts_sent tunnel.control;
-    calls = put tunnel.calls m.session (advanced e.role call_event.TunnelOpen call);
-  })) { calls = with_look (cell.Bind m.session m.tunnel tunnel.control.peer) e.calls }
+  pub given : m.given ≡ next_place tunnel.control
+  pub after : x ≡ record (with_tunnel e m.tunnel (with_letter 0 (request_of m.session m.port) (record tunnel {
+    calls = put tunnel.calls m.session (advanced e.role call_event.TunnelOpen moment call);
+  }))) { calls = with_look (cell.Bind m.session m.tunnel tunnel.control.peer) e.calls }
 
-pub record Replies (e : End) (ev : Event) (m : Replied) (x : End) : Type 0 where
+pub record Replies (e : End) (moment : ℕ) (ev : Event) (m : Replied) (x : End) : Type 0 where
   pub tunnel : Tunnel
   pub there : at e.tunnels m.tunnel ≡ Some tunnel
   pub open_is : state_number tunnel.control.state ≡ 3
@@ -156,14 +199,14 @@ pub record Replies (e : End) (ev : Event) (m : Replied) (x : End) : Type 0 where
   pub hears : (session : ℕ) × HearsNext ev tunnel.control session (Icrq m.remote serial calling)
   pub row : is_reply (call_row e.role call.Idle call_event.IcrqAcc).1 ≡ true
   pub drawn : draws e.session_ids ≡ Ok m.session
-  pub taken : m.taken ≡ place tunnel.control.channel.taken
-  pub given : m.given ≡ place tunnel.control.channel.sent
-  pub after : x ≡ record (with_tunnel e m.tunnel (record {
-    control = counts_sent (counts_taken tunnel.control);
-    calls = put tunnel.calls m.session (asked_for e.role m.remote);
-  })) { session_ids = after_draw e.session_ids; calls = put e.calls m.session (new_place m.tunnel) }
+  pub taken : m.taken ≡ taken_place tunnel.control
+  pub given : m.given ≡ next_place tunnel.control
+  pub after : x ≡ record (with_tunnel e m.tunnel (with_letter m.remote (Icrp m.session) (record tunnel {
+    control = counts_taken tunnel.control;
+    calls = put tunnel.calls m.session (asked_for e.role m.remote moment);
+  }))) { session_ids = after_draw e.session_ids; calls = put e.calls m.session (new_place m.tunnel) }
 
-pub record ComesUpFirst (e : End) (ev : Event) (m : FirstUp) (x : End) : Type 0 where
+pub record ComesUpFirst (e : End) (moment : ℕ) (ev : Event) (m : FirstUp) (x : End) : Type 0 where
   pub tunnel : Tunnel
   pub there : at e.tunnels m.tunnel ≡ Some tunnel
   pub open_is : state_number tunnel.control.state ≡ 3
@@ -171,14 +214,14 @@ pub record ComesUpFirst (e : End) (ev : Event) (m : FirstUp) (x : End) : Type 0 
   pub asked : at tunnel.calls m.session ≡ Some call
   pub hears : HearsNext ev tunnel.control m.session (Icrp m.remote)
   pub row : is_connection (call_row e.role call.state call_event.IcrpAcc).1 ≡ true
-  pub taken : m.taken ≡ place tunnel.control.channel.taken
-  pub given : m.given ≡ place tunnel.control.channel.sent
-  pub after : x ≡ record (with_tunnel e m.tunnel (record {
-    control = counts_sent (counts_taken tunnel.control);
-    calls = put tunnel.calls m.session (advanced e.role call_event.IcrpAcc (record call { remote = m.remote }));
-  })) { calls = with_look (cell.Establish m.session) e.calls }
+  pub taken : m.taken ≡ taken_place tunnel.control
+  pub given : m.given ≡ next_place tunnel.control
+  pub after : x ≡ record (with_tunnel e m.tunnel (with_letter m.remote connection (record tunnel {
+    control = counts_taken tunnel.control;
+    calls = put tunnel.calls m.session (advanced e.role call_event.IcrpAcc moment (record call { remote = m.remote }));
+  }))) { calls = with_look (cell.Establish m.session) e.calls }
 
-pub record ComesUpSecond (e : End) (ev : Event) (m : SecondUp) (x : End) : Type 0 where
+pub record ComesUpSecond (e : End) (moment : ℕ) (ev : Event) (m : SecondUp) (x : End) : Type 0 where
   pub tunnel : Tunnel
   pub there : at e.tunnels m.tunnel ≡ Some tunnel
   pub open_is : state_number tunnel.control.state ≡ 3
@@ -189,26 +232,102 @@ pub record ComesUpSecond (e : End) (ev : Event) (m : SecondUp) (x : End) : Type 
   pub sequenced : Bool
   pub hears : HearsNext ev tunnel.control m.session (Iccn speed framing sequenced)
   pub row : is_up (call_row e.role call.state call_event.IccnAcc).0 ≡ true
-  pub taken : m.taken ≡ place tunnel.control.channel.taken
-  pub after : x ≡ record (with_tunnel e m.tunnel (record {
+  pub taken : m.taken ≡ taken_place tunnel.control
+  pub after : x ≡ record (with_tunnel e m.tunnel (record tunnel {
     control = counts_taken tunnel.control;
-    calls = put tunnel.calls m.session (advanced e.role call_event.IccnAcc call);
+    calls = put tunnel.calls m.session (advanced e.role call_event.IccnAcc moment call);
   })) { calls = with_look (cell.Establish m.session) (with_look (cell.Bind m.session m.tunnel tunnel.control.peer) e.calls) }
 
+-- the call isn't there any more, and its look is dead
+abbrev pub without_call : End → ℕ → Tunnel → ℕ → End
+without_call e i t s = record (with_tunnel e i (record t { calls = without t.calls s })) { calls = with_look (cell.Kill s) e.calls }
+
+-- of a call that is neither waiting nor idle the peer is told
+pub record TellsEnd (e : End) (m : EndTold) (x : End) : Type 0 where
+  pub tunnel : Tunnel
+  pub there : at e.tunnels m.tunnel ≡ Some tunnel
+  pub call : Call
+  pub live : at tunnel.calls m.session ≡ Some call
+  pub row : is_told (call_row e.role call.state call_event.Close).1 ≡ true
+  pub session : m.session < 65536
+  pub remote : m.remote ≡ call.remote
+  pub code : m.code < 65536
+  pub given : m.given ≡ next_place tunnel.control
+  pub after : x ≡ without_call e m.tunnel (with_letter m.remote (Cdn m.session m.code None) tunnel) m.session
+
+-- the peer's CDN names a live call: by its session id, or, where the header has none, by the one that the peer assigned
+pub record HearsEnd (e : End) (ev : Event) (m : EndHeard) (x : End) : Type 0 where
+  pub tunnel : Tunnel
+  pub there : at e.tunnels m.tunnel ≡ Some tunnel
+  pub open_is : state_number tunnel.control.state ≡ 3
+  pub call : Call
+  pub live : at tunnel.calls m.session ≡ Some call
+  pub remote : ℕ
+  pub code : ℕ
+  pub error : Option ℕ
+  pub hears : (session : ℕ) × HearsNext ev tunnel.control session (Cdn remote code error) × (m.session ≡ session_named tunnel.calls session remote)
+  pub row : is_clean_up (call_row e.role call.state call_event.CdnCame).1 ≡ true
+  pub taken : m.taken ≡ taken_place tunnel.control
+  pub after : x ≡ without_call e m.tunnel (record tunnel { control = counts_taken tunnel.control }) m.session
+
+pub record EndsSilently (e : End) (m : EndSilent) (x : End) : Type 0 where
+  pub tunnel : Tunnel
+  pub there : at e.tunnels m.tunnel ≡ Some tunnel
+  pub call : Call
+  pub live : at tunnel.calls m.session ≡ Some call
+  pub row : is_clean_up (call_row e.role call.state call_event.Close).1 ≡ true
+  pub after : x ≡ without_call e m.tunnel tunnel m.session
+
+-- the tunnel isn't there any more, nor are its calls
+pub record Clears (e : End) (i : ℕ) (x : End) : Type 0 where
+  pub tunnel : Tunnel
+  pub there : at e.tunnels i ≡ Some tunnel
+  pub after : x ≡ record e { tunnels = without e.tunnels i; calls = with_looks (map cell.Kill (ids_of tunnel.calls)) e.calls }
+
+pub record Greets (e : End) (m : Greeted) (x : End) : Type 0 where
+  pub tunnel : Tunnel
+  pub there : at e.tunnels m.tunnel ≡ Some tunnel
+  pub open_is : state_number tunnel.control.state ≡ 3
+  pub given : m.given ≡ next_place tunnel.control
+  pub after : x ≡ with_tunnel e m.tunnel (with_letter 0 Hello tunnel)
+
+-- whatever the letter says, or if it can't be read
 pub record TakesPlain (e : End) (ev : Event) (m : TookPlain) (x : End) : Type 0 where
   pub tunnel : Tunnel
   pub there : at e.tunnels m.tunnel ≡ Some tunnel
-  pub message : Message
-  pub hears : (session : ℕ) × HearsNext ev tunnel.control session message
-  pub taken : m.taken ≡ place tunnel.control.channel.taken
+  pub comes : ComesNext ev tunnel.control
+  pub taken : m.taken ≡ taken_place tunnel.control
   pub after : x ≡ with_tunnel e m.tunnel (record tunnel { control = counts_taken tunnel.control })
 
--- a reading of Nr, and an acknowledgement, change nothing here
-pub record Reads (e : End) (m : NrRead) (x : End) : Type 0 where
+-- the letters before Nr go, and the timer of the next one starts
+pub record Reads (e : End) (moment : ℕ) (ev : Event) (m : NrRead) (x : End) : Type 0 where
   pub tunnel : Tunnel
   pub there : at e.tunnels m.tunnel ≡ Some tunnel
-  pub after : x ≡ e
+  pub tells : TellsNr ev tunnel.control m.nr
+  pub after : x ≡ with_tunnel e m.tunnel (record tunnel {
+    control = record (counts_acked m.nr moment tunnel.control) { heard = moment };
+    letters = drop (count_acked tunnel.control.channel m.nr) tunnel.letters;
+  })
 
+-- the next letter that was never on the wire is outstanding
+pub record LetsGo (e : End) (moment : ℕ) (m : LetGo) (x : End) : Type 0 where
+  pub tunnel : Tunnel
+  pub there : at e.tunnels m.tunnel ≡ Some tunnel
+  pub number : ℕ
+  pub goes : next_to_go tunnel.control.channel ≡ Some number
+  pub sent : m.sent ≡ place number
+  pub after : x ≡ with_tunnel e m.tunnel (record tunnel { control = counts_sent moment tunnel.control })
+
+-- the oldest letter that isn't acknowledged, once more
+pub record Repeats (e : End) (moment : ℕ) (m : Repeated) (x : End) : Type 0 where
+  pub tunnel : Tunnel
+  pub there : at e.tunnels m.tunnel ≡ Some tunnel
+  pub number : ℕ
+  pub due : answer_to_tick tunnel.control.channel moment ≡ Again number
+  pub sent : m.sent ≡ place number
+  pub after : x ≡ with_tunnel e m.tunnel (record tunnel { control = counts_repeated moment tunnel.control })
+
+-- an acknowledgement changes nothing
 pub record IsQuiet (e : End) (i : ℕ) (x : End) : Type 0 where
   pub tunnel : Tunnel
   pub there : at e.tunnels i ≡ Some tunnel
@@ -234,24 +353,31 @@ pub record HandsUp (e : End) (ev : Event) (m : FrameUp) (x : End) : Type 0 where
   pub side : m.side ≡ side_of e.role
   pub after : x ≡ e
 
--- ---- a move, and a chain of moves
+-- ---- a move at a moment, and a chain of moves
 
-abbrev pub Does : End → Event → Move → End → Type 0
-Does e ev (move.Opened m) x = Opens e m x
-Does e ev (move.Accepted m) x = Accepts e ev m x
-Does e ev (move.Connected m) x = Connects e ev m x
-Does e ev (move.Confirmed m) x = Confirms e ev m x
-Does e ev (move.Added m) x = Adds e ev m x
-Does e ev (move.Requested m) x = Requests e m x
-Does e ev (move.Replied m) x = Replies e ev m x
-Does e ev (move.FirstUp m) x = ComesUpFirst e ev m x
-Does e ev (move.SecondUp m) x = ComesUpSecond e ev m x
-Does e ev (move.TookPlain m) x = TakesPlain e ev m x
-Does e ev (move.NrRead m) x = Reads e m x
-Does e ev (move.Quiet i) x = IsQuiet e i x
-Does e ev (move.FrameSent m) x = SendsFrame e ev m x
-Does e ev (move.FrameUp m) x = HandsUp e ev m x
+abbrev pub Does : End → ℕ → Event → Move → End → Type 0
+Does e moment ev (move.Opened m) x = Opens e moment m x
+Does e moment ev (move.Accepted m) x = Accepts e moment ev m x
+Does e moment ev (move.Connected m) x = Connects e ev m x
+Does e moment ev (move.Confirmed m) x = Confirms e ev m x
+Does e moment ev (move.Added m) x = Adds e moment ev m x
+Does e moment ev (move.Requested m) x = Requests e moment m x
+Does e moment ev (move.Replied m) x = Replies e moment ev m x
+Does e moment ev (move.FirstUp m) x = ComesUpFirst e moment ev m x
+Does e moment ev (move.SecondUp m) x = ComesUpSecond e moment ev m x
+Does e moment ev (move.EndTold m) x = TellsEnd e m x
+Does e moment ev (move.EndHeard m) x = HearsEnd e ev m x
+Does e moment ev (move.EndSilent m) x = EndsSilently e m x
+Does e moment ev (move.Cleared i) x = Clears e i x
+Does e moment ev (move.Greeted m) x = Greets e m x
+Does e moment ev (move.TookPlain m) x = TakesPlain e ev m x
+Does e moment ev (move.NrRead m) x = Reads e moment ev m x
+Does e moment ev (move.LetGo m) x = LetsGo e moment m x
+Does e moment ev (move.Repeated m) x = Repeats e moment m x
+Does e moment ev (move.Quiet i) x = IsQuiet e i x
+Does e moment ev (move.FrameSent m) x = SendsFrame e ev m x
+Does e moment ev (move.FrameUp m) x = HandsUp e ev m x
 
-abbrev pub Chain : Event → End → List Move → End → Type 0
-Chain ev e [] x = e ≡ x
-Chain ev e (m ∷ ms) x = (y : End) × Does e ev m y × Chain ev y ms x
+abbrev pub Chain : ℕ → Event → End → List Move → End → Type 0
+Chain moment ev e [] x = e ≡ x
+Chain moment ev e (m ∷ ms) x = (y : End) × Does e moment ev m y × Chain moment ev y ms x

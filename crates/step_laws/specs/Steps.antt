@@ -1,5 +1,5 @@
 -- A step is a chain of its moves, and what it sends and hands up is theirs.
-use Rattle.std.specs.Prelude.{◌≡◌, ◌<◌, ℕ, List, Some}
+use Rattle.std.specs.Prelude.{◌≡◌, ◌<◌, ◌≤◌, ℕ, List, Some, length}
 use Rattle.std.specs.List.{AllByRecursion}
 use Rattle.id_table.specs.Ids.{at}
 use Rattle.id_table.specs.Order.{Ascends}
@@ -7,7 +7,7 @@ use Rattle.tunnel_fsm.specs.Rows.{state_number}
 use Rattle.wire_base.specs.declared.letter.Side.{Side}
 use Rattle.protocol_model.specs.declared.event.Event.{Event}
 use Rattle.protocol_model.specs.declared.out.Out.{Out}
-use Rattle.protocol_model.specs.declared.out.Out.TheVariants.{Send, Up, Drop, Cause}
+use Rattle.protocol_model.specs.declared.out.Out.TheVariants.{Send, Up, Gone, Drop, Cause}
 use Rattle.protocol_model.specs.declared.out.Origin.{Origin}
 use Rattle.protocol_model.specs.declared.moves.Move.{Move}
 use Rattle.protocol_model.specs.declared.moves.Move.TheVariants as move
@@ -16,16 +16,20 @@ use Rattle.protocol_model.specs.End.{End, Stepped, step}
 use Rattle.step_laws.specs.Letters.{Among, Carries, HasOutput}
 use Rattle.step_laws.specs.Moves.{Chain}
 
--- a tunnel of an end stands under its own id, isn't idle, and its calls ascend
+-- a tunnel of an end stands under its own id, isn't idle, its calls ascend, and it keeps as many letters as its window counts
 pub record IsKept (i : ℕ) (t : Tunnel) : Type 0 where
   pub local : t.control.local ≡ i
   pub some : i ≡ 0 → ⊥
   pub busy : state_number t.control.state ≡ 0 → ⊥
   pub calls : Ascends t.calls
+  pub letters : length t.letters ≡ t.control.channel.window.queued
+  pub outstanding : t.control.channel.window.outstanding ≤ t.control.channel.window.queued
 
+-- so are all tunnels of an end, and its tables ascend
 pub record AreKept (e : End) : Type 0 where
   pub tunnels : (i : ℕ) (t : Tunnel) → at e.tunnels i ≡ Some t → IsKept i t
   pub order : Ascends e.tunnels
+  pub places : Ascends e.calls
   -- ids have 16 bits, and tunnels none that is 0
   pub sessions : e.session_ids.last < 65536
   pub first : 0 < e.tunnel_ids.next
@@ -36,7 +40,7 @@ pub record IsSent (e : End) (moves : List Move) (peer : ℕ) (bytes : List ℕ) 
   pub tunnel : Tunnel
   pub there : at e.tunnels id ≡ Some tunnel
   pub peer_is : peer ≡ tunnel.control.peer
-  pub carries : Carries e.role e.config tunnel moves bytes o
+  pub carries : Carries tunnel moves bytes o
 
 -- what is handed up is what a move hands up
 pub record IsHandedUp (moves : List Move) (session : ℕ) (side : Side) (frame : List ℕ) : Type 0 where
@@ -47,16 +51,17 @@ pub record IsHandedUp (moves : List Move) (session : ℕ) (side : Side) (frame :
 abbrev pub IsOfMoves : End → List Move → Out → Type 0
 IsOfMoves e moves (Send peer bytes o) = IsSent e moves peer bytes o
 IsOfMoves e moves (Up session side frame) = IsHandedUp moves session side frame
+IsOfMoves e moves (Gone session) = Unit {0}
 IsOfMoves e moves (Drop w) = Unit {0}
 IsOfMoves e moves (Cause w) = Unit {0}
 
 -- a step that leads there
-pub record IsChain (e : End) (ev : Event) (s : Stepped) : Type 0 where
-  pub chain : Chain ev e s.moves s.end
+pub record IsChain (e : End) (moment : ℕ) (ev : Event) (s : Stepped) : Type 0 where
+  pub chain : Chain moment ev e s.moves s.end
   pub outputs : AllByRecursion (IsOfMoves s.end s.moves) s.outputs
   pub frames : AllByRecursion (HasOutput s.outputs) s.moves
   pub kept : AreKept s.end
 
 -- each step of an end whose tunnels are kept
 abbrev pub StepsAreChains : Type 0
-StepsAreChains = (e : End) → AreKept e → (moment : ℕ) (block : List ℕ) (ev : Event) → IsChain e ev (step e moment block ev)
+StepsAreChains = (e : End) → AreKept e → (moment : ℕ) (block : List ℕ) (ev : Event) → IsChain e moment ev (step e moment block ev)

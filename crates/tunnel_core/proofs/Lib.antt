@@ -1,3 +1,5 @@
 pub mod Tunnels
 pub mod Rooms
 pub mod Steps
+pub mod Draws
+pub mod Plans

@@ -1,33 +1,43 @@
 -- A tunnel as its code keeps it, and what a step of it is about to change.
-use Rattle.std.specs.Prelude.{◌≡◌, ℕ, List, map}
+use Rattle.std.specs.Prelude.{◌≡◌, ℕ, ◌≤◌, Bool, List, ◌++◌, map, drop, length, Option}
 use Rattle.std.specs.List.{AllByRecursion}
 use Rattle.id_table.specs.Tables.{Kept, HasRoom}
+use Rattle.wire_base.specs.declared.letter.Letter.{Letter}
+use Rattle.send_window.specs.Queue.{Queue}
 use Rattle.protocol_model.specs.declared.tunnel.Call.{Call}
 use Rattle.protocol_model.specs.declared.tunnel.CallPlace.{CallPlace}
 use Rattle.protocol_model.specs.declared.tunnel.Control.{Control}
-use Rattle.protocol_model.specs.Turn.{Tunnel, Turn}
+use Rattle.protocol_model.specs.Turn.{Tunnel, Turn, with_calls}
 
 pub record Core : Type 0 where
   pub control : Control
+  -- the letters that aren't acknowledged, with the room that was made for more
+  pub letters : Queue
   -- the calls, with the room that was made for more
   pub calls : Kept Call
 
 abbrev pub tunnel_of : Core → Tunnel
-tunnel_of c = record { control = c.control; calls = c.calls.entries }
+tunnel_of c = record { control = c.control; letters = c.letters.letters; calls = c.calls.entries }
 
 pub record Plan : Type 0 where
   pub control : Control
-  pub changed : List (ℕ × Call)
+  pub acked : ℕ
+  pub given : List Letter
+  pub cleared : Bool
+  pub changed : List (ℕ × Option Call)
   pub added : List ℕ
 
 -- the plan has what a turn leads to
 pub record IsTurn (p : Plan) (t : Turn) : Type 0 where
   pub control : p.control ≡ t.control
+  pub acked : p.acked ≡ t.acked
+  pub given : p.given ≡ t.given
+  pub cleared : p.cleared ≡ t.cleared
   pub changed : p.changed ≡ t.changed
   pub added : p.added ≡ t.added
 
 -- there is room for each of these calls
-abbrev pub AllHaveRoom : Kept Call → List (ℕ × Call) → Type 0
+abbrev pub AllHaveRoom : Kept Call → List (ℕ × Option Call) → Type 0
 AllHaveRoom kept calls = AllByRecursion (λ c. HasRoom kept c.0) calls
 
 -- the tunnels of a table, without the room that was made in them
@@ -37,3 +47,12 @@ tunnels_of cores = map (λ e. (e.0, tunnel_of e.1)) cores
 -- there is room for the place of each of these calls
 abbrev pub HaveRoom : Kept CallPlace → List ℕ → Type 0
 HaveRoom kept sessions = AllByRecursion (λ s. HasRoom kept s) sessions
+
+-- a tunnel after what was planned for it
+abbrev pub made_of : Plan → Tunnel → Tunnel
+made_of p t = record { control = p.control; letters = drop p.acked t.letters ++ p.given; calls = with_calls p.changed t.calls }
+
+-- there is room for the calls and the letters of a plan
+pub record HasRoomFor (c : Core) (p : Plan) : Type 0 where
+  pub calls : AllHaveRoom c.calls p.changed
+  pub letters : length p.given ≤ c.letters.spare

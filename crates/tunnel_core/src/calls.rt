@@ -4,19 +4,18 @@ ghost use Rattle.std.specs.Prelude.{◌≡◌, ◌≤◌, ◌<◌, OnOk, IsTrue}
 ghost use Rattle.std.specs.Option.{option_copied};
 ghost use Rattle.id_source.specs.Spaces.{draws};
 ghost use Rattle.id_table.specs.Ids.{at};
-ghost use Rattle.reliable_channel.specs.Channel.{may_count};
 ghost use Rattle.protocol_model.specs.Calls.{is_request, is_reply, is_connection, is_up};
-ghost use Rattle.protocol_model.specs.Turn.{requested, requests, requests_at, requests_all, adds, rings_over, rings_new, rings, replied, replies, first_up, first_up_by, second_up, second_up_by, carried, carries};
+ghost use Rattle.protocol_model.specs.Turn.{has_room, requested, requests, requests_at, requests_all, adds, rings_over, rings_new, rings, replied, replies, first_up, first_up_by, second_up, second_up_by, is_clean_up, end_heard, end_heard_by, carried, carries};
 ghost use Rattle.tunnel_fsm.specs.Rows.{state_number};
 
-use crate::turn::{Turn, advanced, asked_for, call_row, place, request_of, rung};
+use crate::turn::{Turn, advanced, asked_for, call_row, request_of, rung};
 use call_fsm::{CallAction, CallEvent, CallState};
 use control_message::Message;
 use id_table::Table;
 use l2tp_header::write_data;
 use protocol_model::{
-    Added, Call, CellChange, Config, FirstUp, FrameSent, Move, Origin, Out, Replied, Requested,
-    Role, SecondUp,
+    Added, Call, CellChange, Config, EndHeard, FirstUp, FrameSent, Move, Origin, Out, Replied,
+    Requested, Role, SecondUp,
 };
 use tunnel_fsm::TunnelState;
 use wire_base::{Bytes, Cause, NoMemory, Why};
@@ -39,6 +38,12 @@ fn is_connection(action: CallAction) -> bool
     matches!(action, CallAction::SendIccn)
 }
 
+pub(crate) fn is_clean_up(action: CallAction) -> bool
+    ensures { result ≡ is_clean_up action }
+{
+    matches!(action, CallAction::CleanUp)
+}
+
 fn is_up(state: CallState) -> bool
     ensures { result ≡ is_up state }
 {
@@ -49,14 +54,21 @@ impl Turn {
     /// Asks for a waiting call: the peer comes to know it.
     #[tactic(auto, unfolding(protocol_model::specs::Turn::requested))]
     fn request_now(&mut self, role: Role, session: u16, call: &Call) -> Result<(), NoMemory>
-        requires { IsTrue (may_count self.old.control.channel.sent) }
+        requires { IsTrue (has_room self.old.control) }
         ensures { OnOk result (self.new ≡ requested role session call.now self.old) }
     {
-        let given = place(self.control.channel.sent_count());
+        let given = self.next_place();
         let tunnel = self.control.local;
         let peer = self.control.peer;
         let port = call.port;
-        let asked = advanced(self.alloc, role, CallEvent::TunnelOpen, call, call.remote)?;
+        let asked = advanced(
+            self.alloc,
+            role,
+            CallEvent::TunnelOpen,
+            self.moment,
+            call,
+            call.remote,
+        )?;
         let request = request_of(self.alloc, session, port)?;
         self.change(session, asked)?;
         self.did(Move::Requested(Requested {
@@ -82,7 +94,7 @@ impl Turn {
         if !is_request(action) {
             return Ok(());
         }
-        if !self.control.channel.may_send() {
+        if !self.has_room() {
             return self.drop_with(Why::Queue);
         }
         self.request_now(role, session, call)
@@ -114,7 +126,7 @@ impl Turn {
         ensures { OnOk result (self.new ≡ adds role port session self.old) }
     {
         let tunnel = self.control.local;
-        let call = rung(self.alloc, role, port)?;
+        let call = rung(self.alloc, role, port, self.moment)?;
         self.make(session, call)?;
         self.did(Move::Added(Added {
             tunnel,
@@ -131,7 +143,7 @@ impl Turn {
         if self.control.state != TunnelState::Established {
             return self.add(role, port, session);
         }
-        let call = rung(self.alloc, role, port)?;
+        let call = rung(self.alloc, role, port, self.moment)?;
         self.add(role, port, session)?;
         self.request(role, session, &call)
     }
@@ -143,7 +155,7 @@ impl Turn {
     {
         match (self.next_session(), self.next_tunnel()) {
             (Ok(session), Ok(local)) => {
-                if !self.control.channel.may_send() {
+                if !self.has_room() {
                     return self.output(Out::Cause {
                         cause: Cause::Queue,
                     });
@@ -173,15 +185,14 @@ impl Turn {
     #[tactic(auto, unfolding(protocol_model::specs::Turn::replied))]
     fn reply_now(&mut self, role: Role, remote: u16, session: u16) -> Result<(), NoMemory>
         requires some { 0 < session }
-        requires room { IsTrue (may_count self.old.control.channel.sent) }
-        requires taken { IsTrue (may_count self.old.control.channel.taken) }
+        requires room { IsTrue (has_room self.old.control) }
         ensures { OnOk result (self.new ≡ replied role remote session self.old) }
     {
-        let given = place(self.control.channel.sent_count());
-        let taken = place(self.control.channel.taken_count());
+        let given = self.next_place();
+        let taken = self.taken_place();
         let tunnel = self.control.local;
         let peer = self.control.peer;
-        let call = asked_for(self.alloc, role, remote)?;
+        let call = asked_for(self.alloc, role, remote, self.moment)?;
         self.take();
         self.make(session, call)?;
         self.did(Move::Replied(Replied {
@@ -198,16 +209,15 @@ impl Turn {
     /// Takes the request for a call of the peer.
     #[tactic(auto, unfolding(protocol_model::specs::Turn::replies, protocol_model::specs::Turn::replies_by))]
     pub(crate) fn reply(&mut self, role: Role, remote: u16) -> Result<(), NoMemory>
-        requires { IsTrue (may_count self.old.control.channel.taken) }
         ensures { OnOk result (self.new ≡ replies role remote self.old) }
     {
         let (_, action) = call_row(role, CallState::Idle, CallEvent::IcrqAcc);
         if !is_reply(action) {
-            return self.drop_with(Why::Session);
+            return self.ignore(Why::Session);
         }
         match self.next_session() {
-            Err(_) => self.drop_with(Why::Session),
-            Ok(_) if !self.control.channel.may_send() => self.drop_with(Why::Queue),
+            Err(_) => self.ignore(Why::Session),
+            Ok(_) if !self.has_room() => self.drop_with(Why::Queue),
             Ok(session) => self.reply_now(role, remote, session as u16),
         }
     }
@@ -221,14 +231,20 @@ impl Turn {
         remote: u16,
         call: &Call,
     ) -> Result<(), NoMemory>
-        requires room { IsTrue (may_count self.old.control.channel.sent) }
-        requires taken { IsTrue (may_count self.old.control.channel.taken) }
+        requires room { IsTrue (has_room self.old.control) }
         ensures { OnOk result (self.new ≡ first_up role session remote call.now self.old) }
     {
-        let given = place(self.control.channel.sent_count());
-        let taken = place(self.control.channel.taken_count());
+        let given = self.next_place();
+        let taken = self.taken_place();
         let tunnel = self.control.local;
-        let up = advanced(self.alloc, role, CallEvent::IcrpAcc, call, remote)?;
+        let up = advanced(
+            self.alloc,
+            role,
+            CallEvent::IcrpAcc,
+            self.moment,
+            call,
+            remote,
+        )?;
         self.take();
         self.change(session, up)?;
         self.did(Move::FirstUp(FirstUp {
@@ -258,17 +274,16 @@ impl Turn {
         remote: u16,
         call: Option<&Call>,
     ) -> Result<(), NoMemory>
-        requires { IsTrue (may_count self.old.control.channel.taken) }
         ensures { OnOk result (self.new ≡ first_up_by role session remote (option_copied call.entry) self.old) }
     {
         let Some(call) = call else {
-            return self.drop_with(Why::Session);
+            return self.ignore(Why::Session);
         };
         let (_, action) = call_row(role, call.state, CallEvent::IcrpAcc);
         if !is_connection(action) {
-            return self.drop_with(Why::Session);
+            return self.ignore(Why::Session);
         }
-        if !self.control.channel.may_send() {
+        if !self.has_room() {
             return self.drop_with(Why::Queue);
         }
         self.first_up(role, session, remote, call)
@@ -277,13 +292,19 @@ impl Turn {
     /// The call is connected. As long as no LCP end opens its network, it is known to the peer and established at once.
     #[tactic(auto, unfolding(protocol_model::specs::Turn::second_up))]
     fn second_up(&mut self, role: Role, session: u16, call: &Call) -> Result<(), NoMemory>
-        requires { IsTrue (may_count self.old.control.channel.taken) }
         ensures { OnOk result (self.new ≡ second_up role session call.now self.old) }
     {
-        let taken = place(self.control.channel.taken_count());
+        let taken = self.taken_place();
         let tunnel = self.control.local;
         let peer = self.control.peer;
-        let up = advanced(self.alloc, role, CallEvent::IccnAcc, call, call.remote)?;
+        let up = advanced(
+            self.alloc,
+            role,
+            CallEvent::IccnAcc,
+            self.moment,
+            call,
+            call.remote,
+        )?;
         self.take();
         self.change(session, up)?;
         self.did(Move::SecondUp(SecondUp {
@@ -296,8 +317,7 @@ impl Turn {
             tunnel,
             peer,
         })?;
-        self.look(CellChange::Establish { session })?;
-        self.acknowledge()
+        self.look(CellChange::Establish { session })
     }
 
     /// Takes the connection of a call.
@@ -308,17 +328,52 @@ impl Turn {
         session: u16,
         call: Option<&Call>,
     ) -> Result<(), NoMemory>
-        requires { IsTrue (may_count self.old.control.channel.taken) }
         ensures { OnOk result (self.new ≡ second_up_by role session (option_copied call.entry) self.old) }
     {
         let Some(call) = call else {
-            return self.drop_with(Why::Session);
+            return self.ignore(Why::Session);
         };
         let (next, _) = call_row(role, call.state, CallEvent::IccnAcc);
         if !is_up(next) {
-            return self.drop_with(Why::Session);
+            return self.ignore(Why::Session);
         }
         self.second_up(role, session, call)
+    }
+
+    /// The call ends by the peer's CDN.
+    #[tactic(auto, unfolding(protocol_model::specs::Turn::end_heard))]
+    fn hear_end(&mut self, session: u32) -> Result<(), NoMemory>
+        ensures { OnOk result (self.new ≡ end_heard session self.old) }
+    {
+        let taken = self.taken_place();
+        let tunnel = self.control.local;
+        self.take();
+        self.end_call(session)?;
+        self.did(Move::EndHeard(EndHeard {
+            tunnel,
+            session,
+            taken,
+        }))
+    }
+
+    /// Takes the peer's CDN for a call.
+    #[tactic(auto, unfolding(protocol_model::specs::Turn::end_heard_by))]
+    pub(crate) fn take_end(
+        &mut self,
+        role: Role,
+        session: u32,
+        call: Option<&Call>,
+    ) -> Result<(), NoMemory>
+        ensures { OnOk result (self.new ≡ end_heard_by role session (option_copied call.entry) self.old) }
+    {
+        let Some(call) = call else {
+            return self.ignore(Why::Session);
+        };
+        let (_, action) = call_row(role, call.state, CallEvent::CdnCame);
+        if !is_clean_up(action) {
+            return self.ignore(Why::Session);
+        }
+        self.hear_end(session)
     }
 
     /// Sends a frame of a call to the tunnel's peer.

@@ -3,10 +3,11 @@
 ghost use Rattle.std.specs.Prelude.{ℕ, ◌≡◌, ◌≤◌, [], ◌∷◌, find, option_map, is_some, IfOk, OnOk, IsSome};
 ghost use Rattle.std.specs.Option.{option_copied};
 ghost use Rattle.id_table.specs.Ids.{at, put, ids_of};
+ghost use Rattle.id_table.specs.Tables.{HasRoom};
 ghost use Rattle.l2tp_header.specs.Reading.{header_of};
-ghost use Rattle.protocol_model.specs.End.{env_of, whole_space, gives_only, after_turn, after_new, in_new, in_main, addressed, for_addressee, is_in, least_in, rings_in, rings_at, gives_frame, look_in, handed, hands_up, receives, only_by, step_in, step, new_end};
+ghost use Rattle.protocol_model.specs.End.{env_of, whole_space, gives_only, tunnels_after, after_turn, after_new, in_new, in_main, is_known, known_as, opens_once, addressed, reached, for_addressee, is_in, least_in, rings_in, rings_at, gives_frame, look_in, handed, hands_up, receives, only_by, step_in, step, new_end};
 ghost use Rattle.protocol_model.specs.Reading.{at_tunnel};
-ghost use Rattle.tunnel_core.specs.Cores.{tunnel_of, tunnels_of, IsTurn, AllHaveRoom, HaveRoom};
+ghost use Rattle.tunnel_core.specs.Cores.{tunnel_of, tunnels_of, made_of, IsTurn, HasRoomFor, HaveRoom};
 ghost use Rattle.protocol_model.specs.Turn.{turn_of, turns, with_turn};
 ghost use Rattle.tunnel_core.specs.Gives.{GivesStep};
 
@@ -18,7 +19,9 @@ use crate::reading::{at_zero, header_why};
 use id_source::Ids;
 use id_table::Table;
 use l2tp_header::{Header, read_header};
-use protocol_model::{Addressee, CallPlace, CellChanges, Config, Event, FrameUp, Move, Out, Role};
+use protocol_model::{
+    Addressee, CallPlace, CellChanges, Config, Control, Event, FrameUp, Move, Out, Role,
+};
 use std::alloc::Global;
 use std::marker::Model;
 use tunnel_fsm::TunnelState;
@@ -43,14 +46,14 @@ pub struct Given {
 /// An end of L2TP tunnels: a LAC or an LNS.
 #[derive(Drop)]
 pub struct End {
-    alloc: Global,
-    role: Role,
-    config: Config,
+    pub(crate) alloc: Global,
+    pub(crate) role: Role,
+    pub(crate) config: Config,
     tunnel_ids: Ids,
     session_ids: Ids,
     recovery_ids: Ids,
-    tunnels: Table<TunnelCore>,
-    calls: Table<CallPlace>,
+    pub(crate) tunnels: Table<TunnelCore>,
+    pub(crate) calls: Table<CallPlace>,
 }
 
 impl Model for End {
@@ -147,7 +150,7 @@ impl End {
     }
 
     /// What a step works in. It takes no memory.
-    fn env(&self, moment: u64, block: [u8; 16]) -> Env
+    pub(crate) fn env(&self, moment: u64, block: [u8; 16]) -> Env
         ensures { result ≡ env_of self.now moment block }
     {
         Env {
@@ -176,19 +179,54 @@ fn plan_step(
 ) -> Result<Planned, NoMemory>
     ensures same { tunnel_of core.new ≡ tunnel_of core.old }
     ensures places { places.new.entries ≡ places.old.entries }
-    ensures planned { IfOk result (λ p. IsTurn p (turns role config.now core.old.calls.entries event.now (turn_of core.old.control env.old))) }
-    ensures room { IfOk result (λ p. AllHaveRoom core.new.calls p.changed) }
+    ensures planned { IfOk result (λ p. IsTurn p (turns role config.now core.old.letters.letters core.old.calls.entries event.now (turn_of core.old.control env.old))) }
+    ensures room { IfOk result (λ p. HasRoomFor core.new p) }
     ensures calls_room { IfOk result (λ p. HaveRoom places.new p.added) }
-    ensures given { OnOk result (env.new ≡ with_turn (turns role config.now core.old.calls.entries event.now (turn_of core.old.control env.old)) env.old) }
+    ensures given { OnOk result (env.new ≡ with_turn (turns role config.now core.old.letters.letters core.old.calls.entries event.now (turn_of core.old.control env.old)) env.old) }
 {
     let planned = core.plan(role, config, env, event)?;
     make_places(places, planned.added())?;
     Ok(planned)
 }
 
+/// Puts a tunnel that is new into a table after what was planned for it, or leaves it out where the step removes it. It takes
+/// no memory.
+#[tactic(auto, using(crate::proofs::Tunnels::put_tunnels, crate::proofs::Tunnels::without_tunnels))]
+fn put_new(tunnels: &mut Table<TunnelCore>, id: u32, core: TunnelCore, planned: Planned)
+    requires planned { HasRoomFor core planned }
+    requires room { HasRoom tunnels.old id }
+    ensures { tunnels_of tunnels.new.entries ≡ tunnels_after (tunnels_of tunnels.old.entries) id planned.cleared (made_of planned (tunnel_of core)) }
+{
+    if planned.clears() {
+        tunnels.remove(id);
+        return;
+    }
+    let mut core = core;
+    core.apply(planned);
+    tunnels.fill(id, core);
+}
+
+/// Puts a tunnel back into a table after what was planned for it, or takes it out where the step removes it. It takes no
+/// memory.
+#[tactic(auto, using(crate::proofs::Tunnels::put_tunnels, crate::proofs::Tunnels::without_tunnels, crate::proofs::Tunnels::put_twice))]
+fn put_after(tunnels: &mut Table<TunnelCore>, id: u32, core: TunnelCore, planned: Planned)
+    requires planned { HasRoomFor core planned }
+    requires room { HasRoom tunnels.old id }
+    ensures { tunnels_of tunnels.new.entries ≡ tunnels_after (put (tunnels_of tunnels.old.entries) id (tunnel_of core)) id planned.cleared (made_of planned (tunnel_of core)) }
+{
+    if planned.clears() {
+        tunnels.fill(id, core);
+        tunnels.remove(id);
+        return;
+    }
+    let mut core = core;
+    core.apply(planned);
+    tunnels.fill(id, core);
+}
+
 impl End {
     /// Makes a step of the tunnel with this id, if there is one.
-    #[tactic(auto, using(crate::proofs::Tunnels::at_tunnels, crate::proofs::Tunnels::put_tunnels), unfolding(protocol_model::specs::End::in_main, protocol_model::specs::End::after_turn, protocol_model::specs::Turn::with_turn))]
+    #[tactic(auto, using(crate::proofs::Tunnels::at_tunnels, id_table::specs::Tables::entry_has_room), unfolding(protocol_model::specs::End::in_main, protocol_model::specs::End::after_turn, protocol_model::specs::Turn::with_turn))]
     fn run_main(
         &mut self,
         moment: u64,
@@ -202,7 +240,9 @@ impl End {
             return self.drop_with(Why::Tunnel);
         }
         let mut env = self.env(moment, block);
-        let mut core = self.tunnels.swap(id, TunnelCore::idle(self.alloc, 0));
+        let mut core = self
+            .tunnels
+            .swap(id, TunnelCore::idle(self.alloc, 0, moment));
         let planned = plan_step(
             &mut core,
             &mut self.calls,
@@ -219,8 +259,7 @@ impl End {
             Ok(planned) => {
                 place_all(&mut self.calls, planned.local(), planned.added());
                 change_looks(&mut self.calls, env.changes.as_slice());
-                core.apply(planned);
-                self.tunnels.replace(id, core);
+                put_after(&mut self.tunnels, id, core, planned);
                 self.tunnel_ids = env.tunnels;
                 self.session_ids = env.sessions;
                 Ok(Given {
@@ -245,7 +284,7 @@ impl End {
         ensures { GivesStep result (in_new self.old (env_of self.old moment block) event.now peer) self.old self.new }
     {
         let mut env = self.env(moment, block);
-        let mut core = TunnelCore::idle(self.alloc, peer);
+        let mut core = TunnelCore::idle(self.alloc, peer, moment);
         let planned = plan_step(
             &mut core,
             &mut self.calls,
@@ -264,8 +303,7 @@ impl End {
         self.tunnels.make_room(u32::from(local))?;
         place_all(&mut self.calls, local, planned.added());
         change_looks(&mut self.calls, env.changes.as_slice());
-        core.apply(planned);
-        self.tunnels.fill(u32::from(local), core);
+        put_new(&mut self.tunnels, u32::from(local), core, planned);
         self.tunnel_ids = env.tunnels;
         self.session_ids = env.sessions;
         Ok(Given {
@@ -274,25 +312,80 @@ impl End {
         })
     }
 
+    /// The first of these tunnels that goes to a peer which assigned this id.
+    fn first_known(&self, peer: u32, remote: u16, ids: &[u32]) -> Option<u32>
+        ensures { result ≡ find (λ i. is_known peer remote (at self.now.tunnels i)) ids.now }
+    {
+        for id in ids {
+            if let Some(core) = self.tunnel(*id) {
+                if core.control().peer == peer && core.control().remote == remote {
+                    return Some(*id);
+                }
+            }
+        }
+        None
+    }
+
+    /// The least tunnel to a peer that has assigned this id.
+    #[tactic(auto, unfolding(protocol_model::specs::End::known_as))]
+    fn known_as(&self, peer: u32, remote: u16) -> Result<Option<u32>, NoMemory>
+        ensures { IfOk result (λ found. found ≡ known_as peer remote self.now.tunnels) }
+    {
+        let ids = self.tunnel_ids(self.alloc)?;
+        Ok(self.first_known(peer, remote, ids.as_slice()))
+    }
+
+    /// An SCCRQ that comes again is for the tunnel that it opened.
+    #[tactic(auto, unfolding(protocol_model::specs::End::opens_once))]
+    fn open_once(&self, peer: u32, to: Addressee) -> Result<Addressee, NoMemory>
+        ensures { IfOk result (λ a. a ≡ opens_once self.now peer to) }
+    {
+        let Addressee::Opens { remote } = to else {
+            return Ok(to);
+        };
+        match self.known_as(peer, remote)? {
+            Some(tunnel) => Ok(Addressee::Main { tunnel }),
+            None => Ok(to),
+        }
+    }
+
     /// What a control message is for.
     #[tactic(auto, using(crate::proofs::Tunnels::at_tunnels), unfolding(protocol_model::specs::End::addressed, protocol_model::specs::Reading::at_tunnel))]
     fn addressed(&self, peer: u32, header: &Header, body: &[u8]) -> Result<Addressee, NoMemory>
         ensures { IfOk result (λ to. to ≡ addressed self.now peer header.now body.now) }
     {
         if header.tunnel == 0 {
-            return at_zero(self.alloc, body);
+            let to = at_zero(self.alloc, body)?;
+            return self.open_once(peer, to);
         }
-        match self.tunnel(u32::from(header.tunnel)) {
+        let tunnel = u32::from(header.tunnel);
+        match self.tunnel(tunnel) {
             None => Ok(Addressee::Nobody { why: Why::Tunnel }),
             Some(core) => {
                 if core.control().peer == peer {
-                    Ok(Addressee::Main {
-                        tunnel: header.tunnel,
-                    })
+                    Ok(Addressee::Main { tunnel })
                 } else {
                     Ok(Addressee::Nobody { why: Why::Peer })
                 }
             }
+        }
+    }
+
+    /// The tunnel that a datagram from a peer is for, where it is a control message and there is one.
+    #[tactic(auto, using(crate::proofs::Tunnels::at_tunnels), unfolding(protocol_model::specs::End::reached, protocol_model::specs::End::reached_by, protocol_model::specs::End::main_of))]
+    pub fn reached(&self, peer: u32, bytes: &[u8]) -> Result<Option<Control>, NoMemory>
+        ensures { IfOk result (λ found. found ≡ reached self.now peer bytes.now) }
+    {
+        let Ok(header) = read_header(bytes) else {
+            return Ok(None);
+        };
+        if !header.control {
+            return Ok(None);
+        }
+        let body = &bytes[header.start..header.end];
+        match self.addressed(peer, &header, body)? {
+            Addressee::Main { tunnel } => Ok(self.tunnel(tunnel).map(|core| *core.control())),
+            Addressee::Opens { .. } | Addressee::Nobody { .. } => Ok(None),
         }
     }
 
@@ -309,8 +402,8 @@ impl End {
         ensures { GivesStep result (for_addressee self.old (env_of self.old moment block) event.now peer to) self.old self.new }
     {
         match to {
-            Addressee::Opens => self.run_new(moment, block, event, peer),
-            Addressee::Main { tunnel } => self.run_main(moment, block, event, u32::from(tunnel)),
+            Addressee::Opens { .. } => self.run_new(moment, block, event, peer),
+            Addressee::Main { tunnel } => self.run_main(moment, block, event, tunnel),
             Addressee::Nobody { why } => self.drop_with(why),
         }
     }
@@ -440,6 +533,7 @@ impl End {
             (_, Event::Datagram { peer, bytes }) => {
                 self.receive(moment, block, event, *peer, bytes.as_slice())
             }
+            (_, Event::Tick) => self.tick_all(moment, block),
             (Role::Lac, Event::Ring { .. }) => self.ring(moment, block, event),
             (Role::Lac, Event::Payload { session, .. })
             | (Role::Lns, Event::Lower { session, .. }) => {

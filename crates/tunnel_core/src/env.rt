@@ -52,6 +52,9 @@ impl Env {
         ensures ok { OnOk result (self.new ≡ with_turn turn.old self.old) }
         ensures err { OnErr result (self.new ≡ self.old) }
         ensures control { turn.new.control ≡ turn.old.control }
+        ensures acked { turn.new.acked ≡ turn.old.acked }
+        ensures given { turn.new.given ≡ turn.old.given }
+        ensures cleared { turn.new.cleared ≡ turn.old.cleared }
         ensures changed { turn.new.changed ≡ turn.old.changed }
         ensures added { turn.new.added ≡ turn.old.added }
     {

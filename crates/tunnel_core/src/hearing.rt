@@ -1,18 +1,19 @@
 //! Control messages and other events of a tunnel.
 
-ghost use Rattle.std.specs.Prelude.{◌≡◌, ◌==◌, OnOk, IsTrue};
+ghost use Rattle.std.specs.Prelude.{◌≡◌, ◌==◌, find, OnOk};
 ghost use Rattle.tunnel_fsm.specs.Rows.{state_number};
 ghost use Rattle.id_table.specs.Ids.{at};
 ghost use Rattle.l2tp_header.specs.Reading.{header_of};
-ghost use Rattle.reliable_channel.specs.Channel.{may_count};
-ghost use Rattle.protocol_model.specs.Turn.{connects, takes, about_call, in_call, hears, hears_said, in_tunnel, first_said, hears_control, hears_datagram, turns};
+ghost use Rattle.protocol_model.specs.Turn.{connects, takes, is_call_of, session_named, ends_named, about_call, in_call, hears, hears_said, hears_letter, is_duplicate, in_tunnel, first_said, hears_control, hears_datagram, turns};
 
 use crate::reading::{header_why, message_in};
 use crate::turn::Turn;
 use control_message::Message;
 use id_table::Table;
 use l2tp_header::{Header, read_header};
-use protocol_model::{Call, Config, Event, Move, NrRead, Role};
+use protocol_model::{Call, Config, Event, Role};
+use recv_window::Class;
+use send_window::Letters;
 use tunnel_fsm::{TunnelAction, TunnelEvent, TunnelState, advance};
 use wire_base::{NoMemory, Why};
 
@@ -24,20 +25,20 @@ impl Turn {
         role: Role,
         calls: &Table<Call>,
         remote: u16,
+        window: u16,
         next: TunnelState,
     ) -> Result<(), NoMemory>
-        requires { IsTrue (may_count self.old.control.channel.taken) }
-        ensures { OnOk result (self.new ≡ connects role calls.now.entries remote next self.old) }
+        ensures { OnOk result (self.new ≡ connects role calls.now.entries remote window next self.old) }
     {
-        if !self.control.channel.may_send() {
+        if !self.has_room() {
             return self.drop_with(Why::Queue);
         }
         let sessions = calls.ids(self.alloc)?;
-        self.connect(remote, next)?;
+        self.connect(remote, window, next)?;
         self.request_all(role, sessions.as_slice(), calls)
     }
 
-    /// Does what the table says on a letter about the tunnel, which tells this id of the peer.
+    /// Does what the table says on a letter about the tunnel, which tells this id and this receive window of the peer.
     #[tactic(auto, unfolding(protocol_model::specs::Turn::takes, protocol_model::specs::Turn::takes_by))]
     fn take_letter(
         &mut self,
@@ -45,13 +46,13 @@ impl Turn {
         calls: &Table<Call>,
         event: TunnelEvent,
         remote: u16,
+        window: u16,
     ) -> Result<(), NoMemory>
-        requires { IsTrue (may_count self.old.control.channel.taken) }
-        ensures { OnOk result (self.new ≡ takes role calls.now.entries event remote self.old) }
+        ensures { OnOk result (self.new ≡ takes role calls.now.entries event remote window self.old) }
     {
         let (next, action) = advance(self.control.state, event);
         match action {
-            TunnelAction::SendScccn => self.connect_all(role, calls, remote, next),
+            TunnelAction::SendScccn => self.connect_all(role, calls, remote, window, next),
             TunnelAction::Nothing => {
                 if same_state(next, self.control.state) {
                     self.take_plain()
@@ -59,8 +60,27 @@ impl Turn {
                     self.confirm(next)
                 }
             }
-            _ => self.drop_with(Why::Ignored),
+            _ => self.ignore(Why::Ignored),
         }
+    }
+
+    /// Takes the CDN for a call that the header names by its session, or, where that is 0, by the one that the peer assigned.
+    #[tactic(auto, unfolding(protocol_model::specs::Turn::ends_named, protocol_model::specs::Turn::session_named, protocol_model::specs::Turn::call_of))]
+    fn hear_end_of(
+        &mut self,
+        role: Role,
+        calls: &Table<Call>,
+        session: u32,
+        remote: u16,
+    ) -> Result<(), NoMemory>
+        ensures { OnOk result (self.new ≡ ends_named role calls.now.entries (session_named calls.now.entries session remote) self.old) }
+    {
+        let mut named = session;
+        if session == 0 {
+            let sessions = calls.ids(self.alloc)?;
+            named = first_of(calls, remote, sessions.as_slice()).unwrap_or(0);
+        }
+        self.take_end(role, named, calls.get(named))
     }
 
     /// A letter about a call.
@@ -72,7 +92,6 @@ impl Turn {
         session: u16,
         message: &Message,
     ) -> Result<(), NoMemory>
-        requires { IsTrue (may_count self.old.control.channel.taken) }
         ensures { OnOk result (self.new ≡ about_call role calls.now.entries session message.now self.old) }
     {
         let call = calls.get(u32::from(session));
@@ -83,7 +102,11 @@ impl Turn {
             } => self.reply(role, *remote),
             Message::Icrp { session: remote } => self.take_reply(role, session, *remote, call),
             Message::Iccn { .. } => self.take_connection(role, session, call),
-            _ => self.drop_with(Why::Session),
+            Message::Cdn {
+                session: remote,
+                ..
+            } => { self.hear_end_of(role, calls, u32::from(session), *remote) }
+            _ => self.ignore(Why::Session),
         }
     }
 
@@ -96,11 +119,10 @@ impl Turn {
         session: u16,
         message: &Message,
     ) -> Result<(), NoMemory>
-        requires { IsTrue (may_count self.old.control.channel.taken) }
         ensures { OnOk result (self.new ≡ in_call role calls.now.entries session message.now self.old) }
     {
         if self.control.state != TunnelState::Established {
-            return self.drop_with(Why::Session);
+            return self.ignore(Why::Session);
         }
         self.hear_about_call(role, calls, session, message)
     }
@@ -114,15 +136,18 @@ impl Turn {
         session: u16,
         message: &Message,
     ) -> Result<(), NoMemory>
-        requires { IsTrue (may_count self.old.control.channel.taken) }
         ensures { OnOk result (self.new ≡ hears role calls.now.entries session message.now self.old) }
     {
         match message {
-            Message::Sccrq(_) => self.take_letter(role, calls, TunnelEvent::SccrqAcc, 0),
-            Message::Sccrp(opening) => {
-                self.take_letter(role, calls, TunnelEvent::SccrpAcc, opening.tunnel)
+            Message::Sccrq(opening) => {
+                self.take_letter(role, calls, TunnelEvent::SccrqAcc, 0, opening.window)
             }
-            Message::Scccn => self.take_letter(role, calls, TunnelEvent::ScccnAcc, 0),
+            Message::Sccrp(opening) => {
+                let event = TunnelEvent::SccrpAcc;
+                self.take_letter(role, calls, event, opening.tunnel, opening.window)
+            }
+            Message::Scccn => self.take_letter(role, calls, TunnelEvent::ScccnAcc, 0, 0),
+            Message::Hello => self.take_plain(),
             _ => self.hear_in_call(role, calls, session, message),
         }
     }
@@ -135,35 +160,52 @@ impl Turn {
         session: u16,
         said: &Result<Message, Why>,
     ) -> Result<(), NoMemory>
-        requires { IsTrue (may_count self.old.control.channel.taken) }
         ensures { OnOk result (self.new ≡ hears_said role calls.now.entries session said.now self.old) }
     {
         match said {
             Ok(message) => self.hear_letter(role, calls, session, message),
-            Err(why) => self.drop_with(*why),
+            Err(why) => self.ignore(*why),
         }
     }
 
-    /// A letter, or an acknowledgement alone, in the tunnel.
-    #[tactic(auto, unfolding(protocol_model::specs::Turn::in_tunnel))]
-    fn hear_in_tunnel(
+    /// A message of the class that its Ns has: the next letter is taken; one that is ahead of it isn't, nor one that came
+    /// before.
+    #[tactic(auto, unfolding(protocol_model::specs::Turn::hears_letter))]
+    fn hear_class(
         &mut self,
         role: Role,
         calls: &Table<Call>,
         session: u16,
-        ns: u16,
         body: &[u8],
+        class: Option<Class>,
     ) -> Result<(), NoMemory>
-        ensures { OnOk result (self.new ≡ in_tunnel role calls.now.entries session ns body.now self.old) }
+        ensures { OnOk result (self.new ≡ hears_letter role calls.now.entries session body.now class self.old) }
     {
-        if body.is_empty() {
-            return Ok(());
+        match class {
+            Some(Class::Next) => {
+                let said = message_in(self.alloc, body)?;
+                self.hear_said(role, calls, session, &said)
+            }
+            Some(Class::Ahead { .. }) => self.drop_with(Why::Ahead),
+            Some(Class::Duplicate) | None => Ok(()),
         }
-        if !self.control.channel.is_next(ns) {
-            return self.drop_with(Why::Ahead);
-        }
-        let said = message_in(self.alloc, body)?;
-        self.hear_said(role, calls, session, &said)
+    }
+
+    /// A message in the tunnel, of the class that its Ns has; what came before is acknowledged again.
+    #[tactic(auto, unfolding(protocol_model::specs::Turn::in_tunnel))]
+    fn hear_in_tunnel(
+        &mut self,
+        role: Role,
+        letters: &Letters,
+        calls: &Table<Call>,
+        session: u16,
+        body: &[u8],
+        class: Option<Class>,
+    ) -> Result<(), NoMemory>
+        ensures { OnOk result (self.new ≡ in_tunnel role letters.now.letters calls.now.entries session body.now class self.old) }
+    {
+        self.hear_class(role, calls, session, body, class)?;
+        self.settle(is_duplicate(class), letters)
     }
 
     /// The first message of a tunnel that is new.
@@ -177,31 +219,35 @@ impl Turn {
         ensures { OnOk result (self.new ≡ first_said role config.now said.now self.old) }
     {
         match said {
-            Ok(Message::Sccrq(opening)) => self.accept(role, config, opening.tunnel),
+            Ok(Message::Sccrq(opening)) => {
+                self.accept(role, config, opening.tunnel, opening.window)
+            }
             _ => self.drop_with(Why::Tunnel),
         }
     }
 
-    /// A control message for the tunnel.
+    /// A control message for the tunnel: its Nr is read first.
     #[tactic(auto, unfolding(protocol_model::specs::Turn::hears_control))]
     fn hear_control(
         &mut self,
         role: Role,
         config: &Config,
+        letters: &Letters,
         calls: &Table<Call>,
         header: &Header,
         body: &[u8],
     ) -> Result<(), NoMemory>
-        ensures { OnOk result (self.new ≡ hears_control role config.now calls.now.entries header.now body.now self.old) }
+        ensures { OnOk result (self.new ≡ hears_control role config.now letters.now.letters calls.now.entries header.now body.now self.old) }
     {
         if self.control.state == TunnelState::Idle {
             let said = message_in(self.alloc, body)?;
-            return self.hear_first(role, config, &said);
+            self.hear_first(role, config, &said)?;
+            return self.settle(false, letters);
         }
-        let tunnel = self.control.local;
-        let nr = header.nr.unwrap_or(0);
-        self.did(Move::NrRead(NrRead { tunnel, nr }))?;
-        self.hear_in_tunnel(role, calls, header.session, header.ns.unwrap_or(0), body)
+        let ns = header.ns.unwrap_or(0);
+        let class = self.control.channel.classify(ns, body.is_empty());
+        self.read_nr(header.nr.unwrap_or(0))?;
+        self.hear_in_tunnel(role, letters, calls, header.session, body, class)
     }
 
     #[tactic(auto, unfolding(protocol_model::specs::Turn::hears_datagram))]
@@ -209,10 +255,11 @@ impl Turn {
         &mut self,
         role: Role,
         config: &Config,
+        letters: &Letters,
         calls: &Table<Call>,
         bytes: &[u8],
     ) -> Result<(), NoMemory>
-        ensures { OnOk result (self.new ≡ hears_datagram role config.now calls.now.entries bytes.now (header_of bytes.now) self.old) }
+        ensures { OnOk result (self.new ≡ hears_datagram role config.now letters.now.letters calls.now.entries bytes.now (header_of bytes.now) self.old) }
     {
         match read_header(bytes) {
             Err(error) => self.drop_with(header_why(error)),
@@ -221,33 +268,61 @@ impl Turn {
                     return self.drop_with(Why::Session);
                 }
                 let body = &bytes[header.start..header.end];
-                self.hear_control(role, config, calls, &header, body)
+                self.hear_control(role, config, letters, calls, &header, body)
             }
         }
     }
 
-    /// An event of the tunnel, whose calls are these.
+    /// An event of the tunnel, which has these letters and calls.
     #[tactic(auto, unfolding(protocol_model::specs::Turn::turns))]
     pub(crate) fn run(
         &mut self,
         role: Role,
         config: &Config,
+        letters: &Letters,
         calls: &Table<Call>,
         event: &Event,
     ) -> Result<(), NoMemory>
-        ensures { OnOk result (self.new ≡ turns role config.now calls.now.entries event.now self.old) }
+        ensures { OnOk result (self.new ≡ turns role config.now letters.now.letters calls.now.entries event.now self.old) }
     {
         match event {
             Event::Datagram { bytes, .. } => {
-                self.hear_datagram(role, config, calls, bytes.as_slice())
+                self.hear_datagram(role, config, letters, calls, bytes.as_slice())
             }
-            Event::Ring { port } => self.ring(role, config, *port),
+            Event::Ring { port } => {
+                self.ring(role, config, *port)?;
+                self.settle(false, letters)
+            }
             Event::Payload { session, frame } | Event::Lower { session, frame } => {
                 self.carry(*session, frame.as_slice(), calls.get(u32::from(*session)))
             }
-            Event::OpenTunnel => self.open(role, config),
+            Event::Tick => self.tick(role, letters, calls),
+            Event::OpenTunnel => {
+                self.open(role, config)?;
+                self.settle(false, letters)
+            }
         }
     }
+}
+
+/// The first of these calls to which the peer assigned this id.
+fn first_of(calls: &Table<Call>, remote: u16, sessions: &[u32]) -> Option<u32>
+    ensures { result ≡ find (λ s. is_call_of remote (at calls.now.entries s)) sessions.now }
+{
+    for session in sessions {
+        if let Some(call) = calls.get(*session) {
+            if call.remote == remote {
+                return Some(*session);
+            }
+        }
+    }
+    None
+}
+
+fn is_duplicate(class: Option<Class>) -> bool
+    ensures { result ≡ is_duplicate class }
+{
+    matches!(class, Some(Class::Duplicate))
 }
 
 /// Whether two states are the same.

@@ -12,6 +12,9 @@ mod openings;
 mod places;
 mod planning;
 mod reading;
+mod sending;
+mod ticking;
+mod ticks;
 mod turn;
 
 pub use end::{End, Given};

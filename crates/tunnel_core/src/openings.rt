@@ -2,10 +2,9 @@
 
 ghost use Rattle.std.specs.Prelude.{◌≡◌, ◌≤◌, ◌<◌, OnOk, IsTrue};
 ghost use Rattle.control_message.specs.Pairs.{IsWrittenOpening};
-ghost use Rattle.reliable_channel.specs.Channel.{may_count};
-ghost use Rattle.protocol_model.specs.Turn.{opened, opens, accepted, accepts, connected, confirms, takes_plain};
+ghost use Rattle.protocol_model.specs.Turn.{has_room, opened, opens, accepted, accepts, connected, confirms, takes_plain, ignores};
 
-use crate::turn::{Turn, opening_of, place};
+use crate::turn::{Turn, opening_of};
 use control_message::{Message, Opening};
 use protocol_model::{Accepted, Config, Confirmed, Connected, Move, Opened, Out, Role, TookPlain};
 use tunnel_fsm::{TunnelEvent, TunnelState, advance};
@@ -21,11 +20,11 @@ impl Turn {
         local: u16,
     ) -> Result<(), NoMemory>
         requires some { 0 < local }
-        requires room { IsTrue (may_count self.old.control.channel.sent) }
+        requires room { IsTrue (has_room self.old.control) }
         ensures { OnOk result (self.new ≡ opened role config.now local self.old) }
     {
         let opening = opening_of(self.alloc, role, config, local)?;
-        let given = place(self.control.channel.sent_count());
+        let given = self.next_place();
         let peer = self.control.peer;
         let (next, _) = advance(self.control.state, TunnelEvent::LocalOpen);
         self.control.state = next;
@@ -45,7 +44,7 @@ impl Turn {
     {
         match self.next_tunnel() {
             Err(_) => self.output(Out::Cause { cause: Cause::Ids }),
-            Ok(_) if !self.control.channel.may_send() => self.output(Out::Cause {
+            Ok(_) if !self.has_room() => self.output(Out::Cause {
                 cause: Cause::Queue,
             }),
             Ok(local) => self.open_as(role, config, local as u16),
@@ -59,69 +58,79 @@ impl Turn {
         role: Role,
         config: &Config,
         remote: u16,
+        window: u16,
         local: u16,
     ) -> Result<(), NoMemory>
         requires some { 0 < local }
-        requires room { IsTrue (may_count self.old.control.channel.sent) }
-        requires taken { IsTrue (may_count self.old.control.channel.taken) }
-        ensures { OnOk result (self.new ≡ accepted role config.now remote local self.old) }
+        requires room { IsTrue (has_room self.old.control) }
+        ensures { OnOk result (self.new ≡ accepted role config.now remote window local self.old) }
     {
         let opening = opening_of(self.alloc, role, config, local)?;
-        let given = place(self.control.channel.sent_count());
-        let taken = place(self.control.channel.taken_count());
+        let given = self.next_place();
+        let taken = self.taken_place();
         let peer = self.control.peer;
         let (next, _) = advance(self.control.state, TunnelEvent::SccrqAcc);
         self.control.remote = remote;
         self.control.state = next;
+        self.learn_window(window);
         self.draw_tunnel(local);
         self.take();
         self.did(Move::Accepted(Accepted {
             tunnel: local,
             peer,
             remote,
+            window,
             taken,
             given,
         }))?;
         self.give(0, &Message::Sccrp(opening))
     }
 
-    /// Makes a new tunnel by the SCCRQ of a peer that assigned this id.
+    /// Makes a new tunnel by the SCCRQ of a peer that assigned this id and has this receive window.
     #[tactic(auto, unfolding(protocol_model::specs::Turn::accepts, protocol_model::specs::Turn::accepts_by))]
     pub(crate) fn accept(
         &mut self,
         role: Role,
         config: &Config,
         remote: u16,
+        window: u16,
     ) -> Result<(), NoMemory>
-        ensures { OnOk result (self.new ≡ accepts role config.now remote self.old) }
+        ensures { OnOk result (self.new ≡ accepts role config.now remote window self.old) }
     {
         match self.next_tunnel() {
             Err(_) => self.drop_with(Why::Tunnel),
             Ok(local) => {
-                if !self.control.channel.may_send() || !self.control.channel.may_take() {
+                if !self.has_room() {
                     return self.drop_with(Why::Queue);
                 }
-                self.accept_as(role, config, remote, local as u16)
+                self.accept_as(role, config, remote, window, local as u16)
             }
         }
     }
 
-    /// Takes the SCCRP of the peer, learns the id that it assigned, and connects the tunnel by an SCCCN.
+    /// Takes the SCCRP of the peer, learns the id that it assigned and its receive window, and connects the tunnel by an
+    /// SCCCN.
     #[tactic(auto, unfolding(protocol_model::specs::Turn::connected))]
-    pub(crate) fn connect(&mut self, remote: u16, next: TunnelState) -> Result<(), NoMemory>
-        requires room { IsTrue (may_count self.old.control.channel.sent) }
-        requires taken { IsTrue (may_count self.old.control.channel.taken) }
-        ensures { OnOk result (self.new ≡ connected remote next self.old) }
+    pub(crate) fn connect(
+        &mut self,
+        remote: u16,
+        window: u16,
+        next: TunnelState,
+    ) -> Result<(), NoMemory>
+        requires room { IsTrue (has_room self.old.control) }
+        ensures { OnOk result (self.new ≡ connected remote window next self.old) }
     {
-        let given = place(self.control.channel.sent_count());
-        let taken = place(self.control.channel.taken_count());
+        let given = self.next_place();
+        let taken = self.taken_place();
         let tunnel = self.control.local;
         self.control.remote = remote;
         self.control.state = next;
+        self.learn_window(window);
         self.take();
         self.did(Move::Connected(Connected {
             tunnel,
             remote,
+            window,
             taken,
             given,
         }))?;
@@ -131,27 +140,32 @@ impl Turn {
     /// Takes the SCCCN of the peer.
     #[tactic(auto, unfolding(protocol_model::specs::Turn::confirms))]
     pub(crate) fn confirm(&mut self, next: TunnelState) -> Result<(), NoMemory>
-        requires { IsTrue (may_count self.old.control.channel.taken) }
         ensures { OnOk result (self.new ≡ confirms next self.old) }
     {
-        let taken = place(self.control.channel.taken_count());
+        let taken = self.taken_place();
         let tunnel = self.control.local;
         self.control.state = next;
         self.take();
-        self.did(Move::Confirmed(Confirmed { tunnel, taken }))?;
-        self.acknowledge()
+        self.did(Move::Confirmed(Confirmed { tunnel, taken }))
     }
 
     /// Takes a letter that changes nothing else.
     #[tactic(auto, unfolding(protocol_model::specs::Turn::takes_plain))]
     pub(crate) fn take_plain(&mut self) -> Result<(), NoMemory>
-        requires { IsTrue (may_count self.old.control.channel.taken) }
         ensures { OnOk result (self.new ≡ takes_plain self.old) }
     {
-        let taken = place(self.control.channel.taken_count());
+        let taken = self.taken_place();
         let tunnel = self.control.local;
         self.take();
-        self.did(Move::TookPlain(TookPlain { tunnel, taken }))?;
-        self.acknowledge()
+        self.did(Move::TookPlain(TookPlain { tunnel, taken }))
+    }
+
+    /// Takes a letter that is ignored.
+    #[tactic(auto, unfolding(protocol_model::specs::Turn::ignores))]
+    pub(crate) fn ignore(&mut self, why: Why) -> Result<(), NoMemory>
+        ensures { OnOk result (self.new ≡ ignores why self.old) }
+    {
+        self.take_plain()?;
+        self.drop_with(why)
     }
 }

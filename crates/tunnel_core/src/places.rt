@@ -79,7 +79,7 @@ fn change_look(places: &mut Table<CallPlace>, change: &CellChange)
             }
         }
         CellChange::Kill { session } => {
-            places.remove(u32::from(*session));
+            places.remove(*session);
         }
     }
 }

@@ -1,27 +1,36 @@
 //! A tunnel with its calls: an event is planned, and then made.
 
-ghost use Rattle.std.specs.Prelude.{◌≡◌, [], OnOk, OnErr, IfOk};
+ghost use Rattle.std.specs.Prelude.{◌≡◌, ◌≤◌, ◌++◌, [], length, OnOk, OnErr, IfOk};
 ghost use Rattle.id_table.specs.Ids.{put};
 ghost use Rattle.id_table.specs.Tables.{KeepsRoom};
 ghost use Rattle.protocol_model.specs.Turn.{fresh, turn_of, with_turn, turns, with_calls, tunnel_after};
-ghost use Rattle.tunnel_core.specs.Cores.{tunnel_of, AllHaveRoom, IsTurn};
+ghost use Rattle.tunnel_core.specs.Cores.{tunnel_of, made_of, AllHaveRoom, HasRoomFor, IsTurn};
 
 use crate::env::Env;
-use crate::turn::{Changed, Turn};
+use crate::turn::{Changed, Given, Turn};
+use control_channel::ChannelNumbers;
 use id_table::Table;
 use protocol_model::{Call, Config, Control, Event, Role};
-use reliable_channel::Channel;
+use send_window::Letters;
 use std::alloc::Global;
 use std::marker::Model;
 use tunnel_fsm::TunnelState;
 use wire_base::{NoMemory, Sequence};
 
+/// What counts as the peer's receive window, in letters, as long as it isn't known (RFC 2661 section 4.4.3).
+const WINDOW: u16 = 4;
+
 /// What a step of a tunnel is about to change.
 #[derive(Drop)]
 pub struct Planned {
     control: Control,
+    acked: usize,
+    given: Given,
+    cleared: bool,
     changed: Changed,
     added: Sequence<u16>,
+    /// The sessions of the calls that end, whose room goes back.
+    ended: Sequence<u32>,
 }
 
 impl Model for Planned {
@@ -29,7 +38,7 @@ impl Model for Planned {
 
     ghost Value = { Plan };
 
-    ghost view = { λ p. record { control = p.control; changed = p.changed; added = p.added } };
+    ghost view = { λ p. record { control = p.control; acked = p.acked; given = p.given; cleared = p.cleared; changed = p.changed; added = p.added } };
 }
 
 impl Planned {
@@ -38,6 +47,13 @@ impl Planned {
         ensures { result ≡ self.now.control.local }
     {
         self.control.local
+    }
+
+    /// Whether the step removes the tunnel.
+    pub(crate) fn clears(&self) -> bool
+        ensures { result ≡ self.now.cleared }
+    {
+        self.cleared
     }
 
     /// The sessions of the calls that the step makes.
@@ -53,6 +69,8 @@ impl Planned {
 pub struct TunnelCore {
     alloc: Global,
     control: Control,
+    /// Those that aren't acknowledged.
+    letters: Letters,
     calls: Table<Call>,
 }
 
@@ -61,25 +79,25 @@ impl Model for TunnelCore {
 
     ghost Value = { Core };
 
-    ghost view = { λ c. record { control = c.control; calls = c.calls } };
+    ghost view = { λ c. record { control = c.control; letters = c.letters; calls = c.calls } };
 }
 
 /// Makes room in a table for each of these calls. Where memory is wanting, the calls are as before.
-fn make_room(calls: &mut Table<Call>, changed: &[(u16, Call)]) -> Result<(), NoMemory>
+fn make_room(calls: &mut Table<Call>, changed: &[(u32, Option<Call>)]) -> Result<(), NoMemory>
     ensures same { calls.new.entries ≡ calls.old.entries }
     ensures room { OnOk result (AllHaveRoom calls.new changed.now) }
 {
     for (session, _) in changed {
-        calls.make_room(u32::from(*session))?;
+        calls.make_room(*session)?;
     }
     Ok(())
 }
 
 impl TunnelCore {
-    /// A tunnel to a peer, an IPv4 address as a number, that is neither opened nor accepted yet. It draws its id in its
-    /// first step.
-    pub fn idle(alloc: Global, peer: u32) -> TunnelCore
-        ensures { tunnel_of result ≡ record { control = fresh peer; calls = [] } }
+    /// A tunnel to a peer, an IPv4 address as a number, that is neither opened nor accepted yet, at a moment. It draws its
+    /// id in its first step.
+    pub fn idle(alloc: Global, peer: u32, moment: u64) -> TunnelCore
+        ensures { tunnel_of result ≡ record { control = fresh peer moment; letters = []; calls = [] } }
     {
         TunnelCore {
             alloc,
@@ -88,8 +106,11 @@ impl TunnelCore {
                 peer,
                 remote: 0,
                 state: TunnelState::Idle,
-                channel: Channel::new(),
+                channel: ChannelNumbers::new(0, 0, WINDOW),
+                made: moment,
+                heard: moment,
             },
+            letters: Letters::new(alloc),
             calls: Table::new(alloc),
         }
     }
@@ -118,29 +139,38 @@ impl TunnelCore {
         event: &Event,
     ) -> Result<Planned, NoMemory>
         ensures same { tunnel_of self.new ≡ tunnel_of self.old }
-        ensures planned { IfOk result (λ p. IsTurn p (turns role config.now self.old.calls.entries event.now (turn_of self.old.control env.old))) }
-        ensures room { IfOk result (λ p. AllHaveRoom self.new.calls p.changed) }
-        ensures given { OnOk result (env.new ≡ with_turn (turns role config.now self.old.calls.entries event.now (turn_of self.old.control env.old)) env.old) }
+        ensures planned { IfOk result (λ p. IsTurn p (turns role config.now self.old.letters.letters self.old.calls.entries event.now (turn_of self.old.control env.old))) }
+        ensures room { IfOk result (λ p. HasRoomFor self.new p) }
+        ensures given { OnOk result (env.new ≡ with_turn (turns role config.now self.old.letters.letters self.old.calls.entries event.now (turn_of self.old.control env.old)) env.old) }
         ensures kept { OnErr result (env.new ≡ env.old) }
     {
         let mut turn = Turn::new(self.alloc, self.control, env);
-        turn.run(role, config, &self.calls, event)?;
+        turn.run(role, config, &self.letters, &self.calls, event)?;
         make_room(&mut self.calls, turn.changed.as_slice())?;
+        self.letters.reserve(turn.given.len())?;
         env.take_in(&mut turn)?;
         Ok(Planned {
             control: turn.control,
+            acked: turn.acked,
+            given: turn.given,
+            cleared: turn.cleared,
             changed: turn.changed,
             added: turn.added,
+            ended: turn.ended,
         })
     }
 
     /// Makes the planned step. It takes no memory.
     pub fn apply(&mut self, planned: Planned)
-        requires { AllHaveRoom self.old.calls planned.changed }
-        ensures { tunnel_of self.new ≡ record { control = planned.control; calls = with_calls planned.changed self.old.calls.entries } }
+        requires { HasRoomFor self.old planned }
+        ensures { tunnel_of self.new ≡ made_of planned (tunnel_of self.old) }
     {
         self.control = planned.control;
+        self.letters
+            .drop_first(planned.acked.min(self.letters.len()));
+        give_all(&mut self.letters, planned.given);
         put_all(&mut self.calls, planned.changed);
+        give_back(&mut self.calls, planned.ended.as_slice());
     }
 
     /// A step on an event. Where memory is wanting, the tunnel and `env` are as before.
@@ -151,8 +181,8 @@ impl TunnelCore {
         env: &mut Env,
         event: &Event,
     ) -> Result<(), NoMemory>
-        ensures made { OnOk result (tunnel_of self.new ≡ tunnel_after (turns role config.now self.old.calls.entries event.now (turn_of self.old.control env.old)) self.old.calls.entries) }
-        ensures given { OnOk result (env.new ≡ with_turn (turns role config.now self.old.calls.entries event.now (turn_of self.old.control env.old)) env.old) }
+        ensures made { OnOk result (tunnel_of self.new ≡ tunnel_after (turns role config.now self.old.letters.letters self.old.calls.entries event.now (turn_of self.old.control env.old)) self.old.letters.letters self.old.calls.entries) }
+        ensures given { OnOk result (env.new ≡ with_turn (turns role config.now self.old.letters.letters self.old.calls.entries event.now (turn_of self.old.control env.old)) env.old) }
         ensures same { OnErr result (tunnel_of self.new ≡ tunnel_of self.old) }
         ensures kept { OnErr result (env.new ≡ env.old) }
     {
@@ -162,13 +192,35 @@ impl TunnelCore {
     }
 }
 
-/// Puts each of these calls into a table that has room for it. It takes no memory.
+/// Gives back the room of these calls, where they aren't there any more.
+fn give_back(calls: &mut Table<Call>, ended: &[u32])
+    ensures { calls.new.entries ≡ calls.old.entries }
+{
+    for session in ended {
+        calls.give_back(*session);
+    }
+}
+
+/// Puts each of these calls into a table that has room for it, or takes it out where it ended. It takes no memory.
 #[tactic(auto, unfolding(protocol_model::specs::Turn::with_calls))]
 fn put_all(calls: &mut Table<Call>, changed: Changed)
     requires { AllHaveRoom calls.old changed }
     ensures { calls.new.entries ≡ with_calls changed calls.old.entries }
 {
     for (session, call) in changed.into_vec() {
-        calls.fill(u32::from(session), call);
+        match call {
+            Some(call) => calls.fill(session, call),
+            None => calls.vacate(session),
+        }
+    }
+}
+
+/// Gives each of these letters to a channel that has room for them. It takes no memory.
+fn give_all(letters: &mut Letters, given: Given)
+    requires { length given ≤ letters.old.spare }
+    ensures { letters.new.letters ≡ letters.old.letters ++ given }
+{
+    for letter in given.into_vec() {
+        letters.put(letter);
     }
 }

@@ -53,7 +53,9 @@ fn zero_pairs(alloc: Global, avps: &Avps) -> Result<Addressee, NoMemory>
     ensures { IfOk result (λ to. to ≡ zero_pairs (Ok avps.now)) }
 {
     match read_message(alloc, avps) {
-        Ok(Read::Known(Message::Sccrq(_))) => Ok(Addressee::Opens),
+        Ok(Read::Known(Message::Sccrq(opening))) => Ok(Addressee::Opens {
+            remote: opening.tunnel,
+        }),
         Ok(_) | Err(MessageError::NoType | MessageError::UnknownType { .. }) => {
             Ok(Addressee::Nobody { why: Why::Tunnel })
         }

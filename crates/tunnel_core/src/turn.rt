@@ -1,37 +1,49 @@
 //! A tunnel in a step, with what the step gives so far. What the tunnel stands for is changed only afterwards.
 
-ghost use Rattle.std.specs.Prelude.{◌≡◌, ◌≤◌, ◌<◌, IfOk, OnOk, IsTrue};
+ghost use Rattle.std.specs.Prelude.{◌≡◌, ◌≤◌, ◌<◌, IfOk, OnOk};
 ghost use Rattle.id_source.specs.Spaces.{draws};
 ghost use Rattle.control_message.specs.Pairs.{IsWritten, IsWrittenOpening};
-ghost use Rattle.reliable_channel.specs.Channel.{may_count};
 ghost use Rattle.protocol_model.specs.Calls.{call_row, rung, advanced, idle_call, asked_for};
-ghost use Rattle.protocol_model.specs.Turn.{turn_of, with_output, with_move, with_change, with_call, with_new, drops, gives, acknowledges, takes_one, opening_of, origin_of, request_of, with_local};
+ghost use Rattle.protocol_model.specs.Turn.{turn_of, with_output, with_move, with_change, with_call, with_new, drops, ends_call, opening_of, request_of, with_local};
 
 use crate::env::{Env, Moves, Outputs};
 use call_fsm::{CallAction, CallEvent, CallState, lac_advance, lns_advance};
-use control_message::{Failover, Message, Opening, has_room, write_message};
+use control_message::{Failover, Message, Opening};
 use id_source::{IdError, Ids};
-use l2tp_header::write_control;
 use protocol_model::{
-    Call, CallStep, CallSteps, CellChange, CellChanges, Config, Control, ControlOrigin, Move,
-    Origin, Out, Place, Role, calling_number, host_name, twelve_digits,
+    Call, CallStep, CallSteps, CellChange, CellChanges, Config, Control, Move, Out, Role,
+    calling_number, host_name, twelve_digits,
 };
 use std::alloc::Global;
 use std::marker::Model;
-use wire_base::{Bytes, NoMemory, Sequence, Why};
+use wire_base::{Letter, NoMemory, Sequence, Why};
 
-/// Calls with their sessions.
-pub(crate) type Changed = Sequence<(u16, Call)>;
+/// Calls with their sessions; a call that ended isn't there any more.
+pub(crate) type Changed = Sequence<(u32, Option<Call>)>;
+
+/// Letters that a step gives to a channel.
+pub(crate) type Given = Sequence<Letter>;
 
 /// A tunnel in a step, with what the step gave so far.
 #[derive(Drop)]
 pub(crate) struct Turn {
     pub(crate) alloc: Global,
+    /// The moment of the step, in milliseconds.
+    pub(crate) moment: u64,
     pub(crate) control: Control,
-    /// The calls that the step made or changed, with their sessions, in order.
+    /// The letters that the step gave to the channel, in order.
+    pub(crate) given: Given,
+    /// How many of the tunnel's letters the step's Nr acknowledged.
+    pub(crate) acked: usize,
+    /// Whether the step took a letter of the peer.
+    pub(crate) took: bool,
+    /// Whether the step removed the tunnel.
+    pub(crate) cleared: bool,
+    /// The calls that the step made, changed or ended, with their sessions, in order.
     pub(crate) changed: Changed,
-    /// The sessions of the calls that it made.
+    /// The sessions of the calls that it made, and of those that it ended.
     pub(crate) added: Sequence<u16>,
+    pub(crate) ended: Sequence<u32>,
     pub(crate) tunnels: Ids,
     pub(crate) sessions: Ids,
     pub(crate) outputs: Outputs,
@@ -45,16 +57,9 @@ impl Model for Turn {
 
     ghost Value = { Known };
 
-    ghost view = { λ t. record { control = t.control; changed = t.changed; added = t.added; tunnels = t.tunnels; sessions = t.sessions; outputs = t.outputs; changes = t.changes; moves = t.moves } };
+    ghost view = { λ t. record { moment = t.moment; control = t.control; given = t.given; acked = t.acked; took = t.took; cleared = t.cleared; changed = t.changed; added = t.added; tunnels = t.tunnels; sessions = t.sessions; outputs = t.outputs; changes = t.changes; moves = t.moves } };
 
     ghost invariant = { λ t. (t.tunnels.last ≤ 65535) × (t.sessions.last ≤ 65535) };
-}
-
-/// The place of a letter: no tunnel was recovered.
-pub(crate) fn place(number: u64) -> Place
-    ensures { result ≡ record { epoch = 0; number = number } }
-{
-    Place { epoch: 0, number }
 }
 
 impl Turn {
@@ -63,9 +68,15 @@ impl Turn {
     {
         Turn {
             alloc,
+            moment: env.moment,
             control,
+            given: Given::new(alloc),
+            acked: 0,
+            took: false,
+            cleared: false,
             changed: Changed::new(alloc),
             added: Sequence::new(alloc),
+            ended: Sequence::new(alloc),
             tunnels: env.tunnels,
             sessions: env.sessions,
             outputs: Outputs::new(alloc),
@@ -103,7 +114,7 @@ impl Turn {
         ensures value { OnOk result (self.new ≡ with_call session call self.old) }
         ensures same { self.new.control ≡ self.old.control }
     {
-        self.changed.push((session, call))
+        self.changed.push((u32::from(session), Some(call)))
     }
 
     /// A call is made, whose session is drawn.
@@ -114,7 +125,19 @@ impl Turn {
     {
         let _drawn = self.sessions.draw();
         self.added.push(session)?;
-        self.changed.push((session, call))
+        self.changed.push((u32::from(session), Some(call)))
+    }
+
+    /// A call ends: it isn't there any more, and nothing is seen of it.
+    #[tactic(auto, unfolding(protocol_model::specs::Turn::ends_call, protocol_model::specs::Turn::with_change, protocol_model::specs::Turn::with_output))]
+    pub(crate) fn end_call(&mut self, session: u32) -> Result<(), NoMemory>
+        ensures value { OnOk result (self.new ≡ ends_call session self.old) }
+        ensures same { self.new.control ≡ self.old.control }
+    {
+        self.ended.push(session)?;
+        self.changed.push((session, None))?;
+        self.changes.push(CellChange::Kill { session })?;
+        self.outputs.push(Out::Gone { session })
     }
 
     #[tactic(auto, unfolding(protocol_model::specs::Turn::drops))]
@@ -122,77 +145,6 @@ impl Turn {
         ensures { OnOk result (self.new ≡ drops why self.old) }
     {
         self.output(Out::Drop { why })
-    }
-
-    fn origin(&self, empty: bool) -> Origin
-        ensures { result ≡ origin_of self.now.control empty }
-    {
-        Origin::Control(ControlOrigin {
-            tunnel: self.control.local,
-            epoch: 0,
-            ns: self.control.channel.sent_count(),
-            nr: self.control.channel.taken_count(),
-            empty,
-        })
-    }
-
-    /// Gives a letter to the channel, which sends it at once.
-    #[tactic(auto, unfolding(protocol_model::specs::Turn::gives, protocol_model::specs::Turn::with_output))]
-    pub(crate) fn give(&mut self, session: u16, message: &Message) -> Result<(), NoMemory>
-        requires written { IsWritten message.now }
-        requires room { IsTrue (may_count self.old.control.channel.sent) }
-        ensures { OnOk result (self.new ≡ gives session message.now self.old) }
-    {
-        let mut pairs = Bytes::new(self.alloc);
-        write_message(&mut pairs, message)?;
-        has_room();
-        let (ns, nr) = self.control.channel.wire();
-        let mut bytes = Bytes::new(self.alloc);
-        write_control(
-            &mut bytes,
-            self.control.remote,
-            session,
-            ns,
-            nr,
-            pairs.as_slice(),
-        )?;
-        let origin = self.origin(false);
-        self.outputs.push(Out::Send {
-            peer: self.control.peer,
-            bytes,
-            origin,
-        })?;
-        self.control.channel.send();
-        Ok(())
-    }
-
-    /// Acknowledges what was taken, by a message without a body.
-    #[tactic(auto, unfolding(protocol_model::specs::Turn::acknowledges, protocol_model::specs::Turn::with_output, protocol_model::specs::Turn::with_move))]
-    pub(crate) fn acknowledge(&mut self) -> Result<(), NoMemory>
-        ensures { OnOk result (self.new ≡ acknowledges self.old) }
-    {
-        let (ns, nr) = self.control.channel.wire();
-        let mut bytes = Bytes::new(self.alloc);
-        write_control(&mut bytes, self.control.remote, 0, ns, nr, &[])?;
-        let origin = self.origin(true);
-        self.moves.push(Move::Quiet {
-            tunnel: self.control.local,
-        })?;
-        self.outputs.push(Out::Send {
-            peer: self.control.peer,
-            bytes,
-            origin,
-        })
-    }
-
-    /// Takes the next letter of the peer.
-    #[tactic(auto, unfolding(protocol_model::specs::Turn::takes_one))]
-    pub(crate) fn take(&mut self)
-        requires { IsTrue (may_count self.old.control.channel.taken) }
-        ensures value { self.new ≡ takes_one self.old }
-        ensures sent { self.new.control.channel.sent ≡ self.old.control.channel.sent }
-    {
-        self.control.channel.take();
     }
 
     /// The next tunnel id, which isn't drawn yet.
@@ -235,16 +187,17 @@ pub(crate) fn call_row(role: Role, state: CallState, event: CallEvent) -> (CallS
     }
 }
 
-/// The call as its table has it after an event.
+/// The call as its table has it after an event, at a moment.
 #[tactic(auto, unfolding(protocol_model::specs::Calls::advanced))]
 pub(crate) fn advanced(
     alloc: Global,
     role: Role,
     event: CallEvent,
+    moment: u64,
     call: &Call,
     remote: u16,
 ) -> Result<Call, NoMemory>
-    ensures { IfOk result (λ c. c ≡ advanced role event (record call.now { remote = remote })) }
+    ensures { IfOk result (λ c. c ≡ advanced role event moment (record call.now { remote = remote })) }
 {
     let (next, _) = call_row(role, call.state, event);
     let mut steps = CallSteps::from_slice(alloc, call.steps.as_slice())?;
@@ -256,6 +209,7 @@ pub(crate) fn advanced(
     Ok(Call {
         remote,
         state: next,
+        since: moment,
         port: call.port,
         steps,
     })
@@ -268,6 +222,7 @@ fn idle_call(alloc: Global, port: u16) -> Call
     Call {
         remote: 0,
         state: CallState::Idle,
+        since: 0,
         port,
         steps: CallSteps::new(alloc),
     }
@@ -275,24 +230,25 @@ fn idle_call(alloc: Global, port: u16) -> Call
 
 /// A call that a port rings for.
 #[tactic(auto, unfolding(protocol_model::specs::Calls::rung))]
-pub(crate) fn rung(alloc: Global, role: Role, port: u16) -> Result<Call, NoMemory>
-    ensures { IfOk result (λ c. c ≡ rung role port) }
+pub(crate) fn rung(alloc: Global, role: Role, port: u16, moment: u64) -> Result<Call, NoMemory>
+    ensures { IfOk result (λ c. c ≡ rung role port moment) }
 {
-    advanced(alloc, role, CallEvent::Ring, &idle_call(alloc, port), 0)
+    let idle = idle_call(alloc, port);
+    advanced(alloc, role, CallEvent::Ring, moment, &idle, 0)
 }
 
 /// A call that the peer asks for.
 #[tactic(auto, unfolding(protocol_model::specs::Calls::asked_for))]
-pub(crate) fn asked_for(alloc: Global, role: Role, remote: u16) -> Result<Call, NoMemory>
-    ensures { IfOk result (λ c. c ≡ asked_for role remote) }
+pub(crate) fn asked_for(
+    alloc: Global,
+    role: Role,
+    remote: u16,
+    moment: u64,
+) -> Result<Call, NoMemory>
+    ensures { IfOk result (λ c. c ≡ asked_for role remote moment) }
 {
-    advanced(
-        alloc,
-        role,
-        CallEvent::IcrqAcc,
-        &idle_call(alloc, 0),
-        remote,
-    )
+    let idle = idle_call(alloc, 0);
+    advanced(alloc, role, CallEvent::IcrqAcc, moment, &idle, remote)
 }
 
 /// What an end says of itself when it opens or accepts a tunnel.

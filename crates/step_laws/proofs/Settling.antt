@@ -1,0 +1,214 @@
+-- At a turn's end its letters go, and each that is sent is one that the tunnel keeps.
+use Rattle.std.proofs.Common.{◌≡◌, ⊎_elim, ℕ, Bool, zero, suc, List, [], ◌∷◌, ◌++◌, refl, sym, ◌∙◌, subst, Option, Some, None, arith}
+use Rattle.std.proofs.lemmas.Bool.{ltb-true}
+use Rattle.std.proofs.lemmas.List.{append-nil}
+use Rattle.std.specs.List.{AllByRecursion}
+use Rattle.std.specs.Prelude.{◌==◌, ◌&&◌, ◌||◌, nat_le, length}
+use Rattle.id_table.specs.Ids.{put-put}
+use Rattle.wire_base.specs.declared.letter.Letter.{Letter}
+use Rattle.send_window.specs.Kept.{Window}
+use Rattle.send_window.specs.Window as window
+use Rattle.control_channel.specs.Numbers.{Numbers, next_to_go, next_unsent, let_go_at}
+use Rattle.protocol_model.specs.declared.tunnel.Call.{Call}
+use Rattle.protocol_model.specs.declared.event.Event.{Event}
+use Rattle.protocol_model.specs.declared.out.Out.{Out}
+use Rattle.protocol_model.specs.declared.out.Out.TheVariants.{Send, Up, Gone, Drop, Cause}
+use Rattle.protocol_model.specs.declared.out.Origin.{Origin}
+use Rattle.protocol_model.specs.declared.moves.FrameSent.{FrameSent}
+use Rattle.protocol_model.specs.declared.moves.Move.{Move}
+use Rattle.protocol_model.specs.declared.moves.Move.TheVariants as move
+use Rattle.protocol_model.specs.Turn.{Tunnel, Turn, with_output, with_move, place, counts_sent, letter_in, sends_letter, sends_now, lets_go, goes_by, lets_all_go, acknowledges, outstanding, acknowledged_after, settles, letters_after, tunnel_after}
+use Rattle.protocol_model.specs.End.{End}
+use Rattle.step_laws.specs.Letters.{Among, Carries, ALetter, Nothing, AFrame}
+use Rattle.step_laws.specs.Moves.{Chain}
+use Rattle.step_laws.proofs.Lists.{all_push, all_map, got_still, and_left, branch, chain_more}
+use Rattle.step_laws.proofs.Turns.{IsWord, NoFrame, Stays, Held, at_turn, TurnOk, there}
+
+-- a letter that goes changes neither what is taken nor which letters are kept
+module _ (n : Numbers) (moment : ℕ) where
+  inbox_stays : (let_go_at n moment).inbox ≡ n.inbox
+  inbox_stays = branch (λ (x : Numbers). x.inbox ≡ n.inbox) n.frozen _ _ (λ frozen. refl) (λ free. refl)
+
+  acked_stays : (let_go_at n moment).window.acked ≡ n.window.acked
+  acked_stays =
+      branch (λ (x : Numbers). x.window.acked ≡ n.window.acked) n.frozen _ _
+      (λ frozen. refl)
+      (λ free. branch (λ (w : Window). w.acked ≡ n.window.acked) (window.may_go n.window) _ _ (λ may. refl) (λ no. refl))
+
+  held_gone : (ls : List Letter) → Held n.window ls → Held (let_go_at n moment).window ls
+  held_gone ls h =
+      branch (λ (x : Numbers). Held x.window ls) n.frozen _ _
+      (λ frozen. h)
+      (λ free. branch (λ (w : Window). Held w ls) (window.may_go n.window) _ _
+      (λ may. (h.0, (let lt = ltb-true n.window.outstanding n.window.queued (and_left _ _ may) in omega (arith, lt))))
+      (λ no. h))
+
+-- ---- what was sent stays so as the tunnel goes on
+
+-- letters are given to it, and its numbers go on; none of its letters is acknowledged, and nothing is taken
+pub record GoesOn (t u : Tunnel) : Type 0 where
+  pub local : u.control.local ≡ t.control.local
+  pub peer : u.control.peer ≡ t.control.peer
+  pub remote : u.control.remote ≡ t.control.remote
+  pub acked : u.control.channel.window.acked ≡ t.control.channel.window.acked
+  pub inbox : u.control.channel.inbox ≡ t.control.channel.inbox
+  pub more : List Letter
+  pub letters : u.letters ≡ t.letters ++ more
+
+pub goes_nowhere : (t : Tunnel) → GoesOn t t
+goes_nowhere t = record { local = refl; peer = refl; remote = refl; acked = refl; inbox = refl; more = []; letters = sym (append-nil t.letters) }
+
+no_frame_among : (f : FrameSent) (ms : List Move) → AllByRecursion NoFrame ms → Among (move.FrameSent f) ms → ⊥
+no_frame_among f [] h a = a
+no_frame_among f (m ∷ ms) h a = ⊎_elim (λ s. subst NoFrame s h.0) (λ l. no_frame_among f ms h.1 l) a
+
+-- among moves that send no frame
+pub carries_on : (t u : Tunnel) → GoesOn t u → (ms ns : List Move) → AllByRecursion NoFrame ms → (bytes : List ℕ) (o : Origin) → Carries t ms bytes o
+    → Carries u ns bytes o
+carries_on t u g ms ns none bytes o (ALetter l number kept is said) =
+    ALetter l number
+    (rw (g.letters, g.acked) (got_still t.letters g.more _ l kept))
+    (rw (g.local, g.inbox) is)
+    (rw (g.remote, g.inbox) said)
+carries_on t u g ms ns none bytes o (Nothing number is said) = Nothing number (rw (g.local, g.inbox) is) (rw (g.remote, g.inbox) said)
+carries_on t u g ms ns none bytes o (AFrame f call sent tunnel peer there up is said) = absurd (no_frame_among f ms none sent)
+
+-- what is sent goes to the tunnel's peer
+abbrev pub OutOk : Tunnel → List Move → Out → Type 0
+OutOk t ms (Send p bytes o) = (p ≡ t.control.peer) × Carries t ms bytes o
+OutOk t ms (Up session side frame) = ⊥
+OutOk t ms (Gone session) = Unit {0}
+OutOk t ms (Drop w) = Unit {0}
+OutOk t ms (Cause w) = Unit {0}
+
+pub out_on : (t u : Tunnel) → GoesOn t u → (ms ns : List Move) → AllByRecursion NoFrame ms → (x : Out) → OutOk t ms x → OutOk u ns x
+out_on t u g ms ns none (Send p bytes o) h = (h.0 ∙ sym g.peer, carries_on t u g ms ns none bytes o h.1)
+out_on t u g ms ns none (Up session side frame) h = h
+out_on t u g ms ns none (Gone session) h = h
+out_on t u g ms ns none (Drop w) h = h
+out_on t u g ms ns none (Cause w) h = h
+
+pub word_ok : (t : Tunnel) (ms : List Move) (x : Out) → IsWord x → OutOk t ms x
+word_ok t ms (Gone session) h = tt
+word_ok t ms (Drop w) h = tt
+word_ok t ms (Cause w) h = tt
+word_ok t ms (Send p bytes o) h = absurd h
+word_ok t ms (Up session side frame) h = absurd h
+
+module _ (e : End) (moment : ℕ) (ev : Event) (letters : List Letter) (calls : List (ℕ × Call)) (i : ℕ) where
+  abbrev tunnel : Turn → Tunnel
+  tunnel t = tunnel_after t letters calls
+
+  -- a turn, with what it sent
+  pub record Settled (t : Turn) : Type 0 where
+    pub chain : Chain moment ev e t.moves (at_turn e moment ev letters calls i t)
+    pub outs : AllByRecursion (OutOk (tunnel t) t.moves) t.outputs
+    pub frames : AllByRecursion NoFrame t.moves
+    pub stays : Stays i moment t
+    pub held : Held t.control.channel.window (letters_after t letters)
+
+  pub unsent : (t : Turn) → TurnOk e moment ev letters calls i t → Settled t
+  unsent t h = record {
+    chain = h.chain;
+    outs = all_map IsWord _ (word_ok (tunnel t) t.moves) t.outputs h.words;
+    frames = h.frames;
+    stays = h.stays;
+    held = h.held;
+  }
+
+  -- what was sent stays so
+  pub outs_on : (t u : Turn) → GoesOn (tunnel t) (tunnel u) → Settled t → AllByRecursion (OutOk (tunnel u) u.moves) t.outputs
+  outs_on t u g h = all_map _ _ (out_on (tunnel t) (tunnel u) g t.moves u.moves h.frames) t.outputs h.outs
+
+  -- ---- letters that go
+
+  abbrev counted : ℕ → Turn → Turn
+  counted number t =
+      with_move (move.LetGo (record { tunnel = t.control.local; sent = place number })) (record t { control = counts_sent t.moment t.control })
+
+  counted_ok : (number : ℕ) (t : Turn) → next_to_go t.control.channel ≡ Some number → Settled t → Settled (counted number t)
+  unfolding with_move
+  counted_ok number t goes h =
+      let m = move.LetGo (record { tunnel = t.control.local; sent = place number }) in
+      record {
+        chain = chain_more moment ev e (at_turn e moment ev letters calls i t) _ t.moves m h.chain (record {
+          tunnel = tunnel t;
+          there = there e moment ev letters calls i t;
+          number = number;
+          goes = goes;
+          sent = refl;
+          after = rw (h.stays.4, put-put e.tunnels t.control.local (tunnel t) _) refl;
+        });
+        outs = outs_on t (counted number t) (record {
+          local = refl;
+          peer = refl;
+          remote = refl;
+          acked = acked_stays t.control.channel t.moment;
+          inbox = inbox_stays t.control.channel t.moment;
+          more = [];
+          letters = sym (append-nil (tunnel t).letters);
+        }) h;
+        frames = all_push NoFrame t.moves m h.frames tt;
+        stays = h.stays;
+        held = held_gone t.control.channel t.moment (letters_after t letters) h.held;
+      }
+
+  pub sent_ok : (number : ℕ) (t : Turn) (o : Option Letter) → letter_in letters t number ≡ o → Settled t → Settled (sends_letter number o t)
+  unfolding sends_letter with_output
+  sent_ok number t None is h = h
+  sent_ok number t (Some l) is h =
+      branch Settled (nat_le (length l.avps) 65523) _ _
+      (λ fits. record {
+        chain = h.chain;
+        outs = all_push _ t.outputs _ h.outs (refl, ALetter l number is refl refl);
+        frames = h.frames;
+        stays = h.stays;
+        held = h.held;
+      })
+      (λ long. h)
+
+  let_go_ok : (number : ℕ) (t : Turn) → next_to_go t.control.channel ≡ Some number → Settled t → Settled (lets_go letters number t)
+  unfolding lets_go sends_now
+  let_go_ok number t goes h = sent_ok number (counted number t) (letter_in letters (counted number t) number) refl (counted_ok number t goes h)
+
+  goes_ok : (rest : Turn → Turn) → ((u : Turn) → Settled u → Settled (rest u)) → (t : Turn) (o : Option ℕ) → next_to_go t.control.channel ≡ o
+      → Settled t → Settled (goes_by rest letters o t)
+  unfolding goes_by
+  goes_ok rest on t None goes h = h
+  goes_ok rest on t (Some number) goes h = on (lets_go letters number t) (let_go_ok number t goes h)
+
+  all_go_ok : (most : ℕ) (t : Turn) → Settled t → Settled (lets_all_go most letters t)
+  unfolding lets_all_go
+  all_go_ok zero t h = h
+  all_go_ok (suc most) t h = goes_ok (lets_all_go most letters) (all_go_ok most) t (next_to_go t.control.channel) refl h
+
+  -- ---- acknowledgements
+
+  acknowledges_ok : (t : Turn) → Settled t → Settled (acknowledges t)
+  unfolding acknowledges with_output with_move
+  acknowledges_ok t h =
+      let m = move.Quiet t.control.local in
+      record {
+        chain = chain_more moment ev e (at_turn e moment ev letters calls i t) (at_turn e moment ev letters calls i t) t.moves m h.chain (record {
+          tunnel = tunnel t;
+          there = there e moment ev letters calls i t;
+          after = refl;
+        });
+        outs = all_push _ t.outputs _ (outs_on t (with_move m t) (goes_nowhere (tunnel t)) h) (refl, Nothing (next_unsent t.control.channel) refl refl);
+        frames = all_push NoFrame t.moves m h.frames tt;
+        stays = h.stays;
+        held = h.held;
+      }
+
+  acknowledged_ok : (again : Bool) (before : ℕ) (t : Turn) → Settled t → Settled (acknowledged_after again before t)
+  unfolding acknowledged_after
+  acknowledged_ok again before t h =
+      branch Settled (again || (t.took && (outstanding t == before))) _ _ (λ yes. acknowledges_ok t h) (λ no. h)
+
+  pub settled_ok : (again : Bool) (t : Turn) → Settled t → Settled (settles again letters t)
+  unfolding settles
+  settled_ok again t h =
+      acknowledged_ok again (outstanding t) (lets_all_go t.control.channel.window.queued letters t) (all_go_ok t.control.channel.window.queued t h)
+
+  pub settles_ok : (again : Bool) (t : Turn) → TurnOk e moment ev letters calls i t → Settled (settles again letters t)
+  settles_ok again t h = settled_ok again t (unsent t h)

@@ -1,0 +1,282 @@
+-- An end's tick is a chain of moves: those of each tunnel by itself, one tunnel after the other.
+use Rattle.std.proofs.Common.{◌≡◌, ◌⊎◌, inl, inr, ⊎_elim, ℕ, List, [], ◌∷◌, ◌++◌, refl, sym, ap, ◌∙◌, subst, Option, Some, None, arith}
+use Rattle.std.proofs.lemmas.List.{append-nil, append_assoc}
+use Rattle.std.specs.Prelude.{◌&&◌, map}
+use Rattle.std.specs.List.{AllByRecursion, flat_map}
+use Rattle.id_table.specs.Ids.{at, without, ids_of}
+use Rattle.id_table.specs.Order.{IsAbove, Ascends, at_other}
+use Rattle.send_window.specs.declared.window.Tick.{Tick as Due}
+use Rattle.send_window.specs.declared.window.Tick.TheVariants.{Quiet, Again, Failed}
+use Rattle.control_channel.specs.Numbers.{answer_to_tick}
+use Rattle.protocol_model.specs.declared.tunnel.CellChange.TheVariants as cell
+use Rattle.protocol_model.specs.declared.event.Event.TheVariants.{Tick}
+use Rattle.protocol_model.specs.declared.out.Out.{Out}
+use Rattle.protocol_model.specs.declared.out.Out.TheVariants.{Send, Up, Gone, Drop, Cause}
+use Rattle.protocol_model.specs.declared.moves.Move.{Move}
+use Rattle.protocol_model.specs.declared.moves.Move.TheVariants as move
+use Rattle.protocol_model.specs.Turn.{Tunnel, Env, Turn, turn_of, with_output, with_move, with_change, ends_call, ends_all, clears, repeats, is_over, patience, is_being_set_up, ticks_by, ticks, turns, tunnel_after}
+use Rattle.protocol_model.specs.End.{End, env_of, placed, with_looks, after_turn, Turned, tick_of, ticks_of, end_after_all, after_all, ticks_all}
+use Rattle.step_laws.specs.Moves.{Chain}
+use Rattle.step_laws.specs.Steps.{IsKept, AreKept, IsOfMoves, IsChain}
+use Rattle.step_laws.proofs.Lists.{all_append, all_map, all_push, among_right, chain_append, branch, ascends-without, ascends_looks, at_without_other, found_without}
+use Rattle.step_laws.proofs.Turns.{IsWord, NoFrame}
+use Rattle.step_laws.proofs.Settling.{OutOk, goes_nowhere, out_on, carries_on, unsent}
+use Rattle.step_laws.proofs.Ticking.{Ticking, quietly_ok, repeats_ok, repeated_changed}
+use Rattle.step_laws.proofs.Ends.{no_frame_out, word_is, ok_is, left_is, kept_after, chain_after, there_after, begins}
+
+-- ---- a tunnel is removed with its calls
+
+record Ended (ss : List ℕ) (t u : Turn) : Type 0 where
+  tunnels : u.tunnels ≡ t.tunnels
+  sessions : u.sessions ≡ t.sessions
+  added : u.added ≡ t.added
+  moves : u.moves ≡ t.moves
+  changes : u.changes ≡ t.changes ++ map cell.Kill ss
+  words : AllByRecursion IsWord u.outputs
+
+ended_ok : (ss : List ℕ) (t : Turn) → AllByRecursion IsWord t.outputs → Ended ss t (ends_all ss t)
+unfolding ends_all ends_call with_output with_change
+ended_ok [] t h = record { tunnels = refl; sessions = refl; added = refl; moves = refl; changes = sym (append-nil t.changes); words = h }
+ended_ok (s ∷ ss) t h =
+    let k = ended_ok ss (ends_call s t) (all_push IsWord t.outputs (Gone s) h tt) in
+    record {
+      tunnels = k.tunnels;
+      sessions = k.sessions;
+      added = k.added;
+      moves = k.moves;
+      changes = k.changes ∙ append_assoc t.changes (cell.Kill s ∷ []) (map cell.Kill ss);
+      words = k.words;
+    }
+
+-- ---- what is sent in a tunnel, or no datagram
+
+abbrev OutAt : List (ℕ × Tunnel) → ℕ → List Move → Out → Type 0
+OutAt tunnels i ms x = ((t : Tunnel) × (at tunnels i ≡ Some t) × OutOk t ms x) ⊎ IsWord x
+
+-- as another end has it, among other moves
+out_of : (x : End) (tunnels : List (ℕ × Tunnel)) (i : ℕ) → at x.tunnels i ≡ at tunnels i → (ms ns : List Move) → AllByRecursion NoFrame ms → (o : Out)
+    → OutAt tunnels i ms o → IsOfMoves x ns o
+out_of x tunnels i same ms ns none o h = ⊎_elim
+    (λ a. ok_is x i a.0 (same ∙ a.1) ns o (out_on a.0 a.0 (goes_nowhere a.0) ms ns none o a.2))
+    (λ w. word_is x ns o w)
+    h
+
+of_more : (x : End) (ms ns : List Move) → AllByRecursion NoFrame ns → (o : Out) → IsOfMoves x ns o → IsOfMoves x (ms ++ ns) o
+of_more x ms ns none (Send p bytes o) h =
+    record { id = h.id; tunnel = h.tunnel; there = h.there; peer_is = h.peer_is; carries = carries_on h.tunnel h.tunnel (goes_nowhere h.tunnel) ns (ms ++ ns) none bytes o h.carries }
+of_more x ms ns none (Up session side frame) h = record { tunnel = h.tunnel; peer = h.peer; there = among_right _ ms ns h.there }
+of_more x ms ns none (Gone session) h = tt
+of_more x ms ns none (Drop w) h = tt
+of_more x ms ns none (Cause w) h = tt
+
+-- ---- one tunnel
+
+-- role, configuration and ids
+record Like (e x : End) : Type 0 where
+  role : x.role ≡ e.role
+  config : x.config ≡ e.config
+  tunnels : x.tunnel_ids ≡ e.tunnel_ids
+  sessions : x.session_ids ≡ e.session_ids
+
+like_on : (e x y : End) → Like e x → Like x y → Like e y
+like_on e x y a b = record { role = b.role ∙ a.role; config = b.config ∙ a.config; tunnels = b.tunnels ∙ a.tunnels; sessions = b.sessions ∙ a.sessions }
+
+-- a turn of the tunnel with an id leads from an end to another
+record Ticked (e : End) (moment i : ℕ) (r : Turn) (y : End) : Type 0 where
+  chain : Chain moment Tick e r.moves y
+  outs : AllByRecursion (OutAt y.tunnels i r.moves) r.outputs
+  frames : AllByRecursion NoFrame r.moves
+  kept : AreKept y
+  like : Like e y
+  others : (j : ℕ) → (j ≡ i → ⊥) → at y.tunnels j ≡ at e.tunnels j
+
+module _ (e : End) (kept : AreKept e) (moment : ℕ) (block : List ℕ) (i : ℕ) (t : Tunnel) (is : at e.tunnels i ≡ Some t) where
+  k : IsKept i t
+  k = kept.tunnels i t is
+
+  abbrev start : Turn
+  start = turn_of t.control (env_of e moment block)
+
+  abbrev left : Turn → End
+  left r = (after_turn e i t.letters t.calls r).end
+
+  abbrev leads : Turn → Type 0
+  leads r = Ticked e moment i r (left r)
+
+  like_left : (r : Turn) → r.tunnels ≡ e.tunnel_ids → r.sessions ≡ e.session_ids → Like e (left r)
+  unfolding after_turn
+  like_left r tunnels sessions = record { role = refl; config = refl; tunnels = tunnels; sessions = sessions }
+
+  ticking_leads : (r : Turn) → Ticking e moment Tick t.letters t.calls i r → leads r
+  ticking_leads r h =
+      let s = h.settled in
+      let after = tunnel_after r t.letters t.calls in
+      record {
+        chain = chain_after e kept moment Tick t.letters t.calls k.calls i k.some r s.stays s.chain;
+        outs = all_map _ _ (λ x a. inl (after, there_after e kept moment Tick t.letters t.calls k.calls i k.some r s.stays.5, a)) r.outputs s.outs;
+        frames = s.frames;
+        kept = kept_after e kept moment Tick t.letters t.calls k.calls i k.some r s.stays s.held;
+        like = like_left r h.none.0 h.none.1;
+        others = λ j o.
+            ap (λ (x : End). at x.tunnels j) (left_is e kept moment Tick t.letters t.calls k.calls i k.some r s.stays.5) ∙ at_other e.tunnels i after j o;
+      }
+
+  abbrev gone : End
+  gone = record e { tunnels = without e.tunnels i; calls = with_looks (map cell.Kill (ids_of t.calls)) e.calls }
+
+  -- the turn in which the tunnel is removed
+  abbrev removed : Turn
+  removed = ends_all (ids_of t.calls) (with_move (move.Cleared t.control.local) start)
+
+  removed_ok : Ended (ids_of t.calls) (with_move (move.Cleared t.control.local) start) removed
+  unfolding with_move
+  removed_ok = ended_ok (ids_of t.calls) (with_move (move.Cleared t.control.local) start) tt
+
+  removed_moves : removed.moves ≡ move.Cleared t.control.local ∷ []
+  unfolding with_move
+  removed_moves = removed_ok.moves
+
+  gone_is : left (clears t.calls start) ≡ gone
+  unfolding after_turn clears with_move placed
+  gone_is = rw (removed_ok.tunnels, removed_ok.sessions, removed_ok.added, removed_ok.changes) refl
+
+  kept_gone : AreKept gone
+  kept_gone = record {
+    tunnels = λ j u found. kept.tunnels j u (found_without e.tunnels i j u kept.order found).1;
+    order = ascends-without i e.tunnels kept.order;
+    places = ascends_looks (map cell.Kill (ids_of t.calls)) e.calls kept.places;
+    sessions = kept.sessions;
+    first = kept.first;
+  }
+
+  cleared_to_gone : Ticked e moment i (clears t.calls start) gone
+  unfolding clears
+  cleared_to_gone = record {
+    chain = subst (λ ms. Chain moment Tick e ms gone) (sym removed_moves) (
+      gone,
+      record {
+        tunnel = t;
+        there = subst (λ j. at e.tunnels j ≡ Some t) (sym k.local) is;
+        after = ap (λ j. record e { tunnels = without e.tunnels j; calls = with_looks (map cell.Kill (ids_of t.calls)) e.calls }) (sym k.local);
+      },
+      refl,
+    );
+    outs = all_map _ _ (λ x w. inr w) removed.outputs removed_ok.words;
+    frames = subst (AllByRecursion NoFrame) (sym removed_moves) (tt, tt);
+    kept = kept_gone;
+    like = record { role = refl; config = refl; tunnels = refl; sessions = refl };
+    others = λ j o. at_without_other e.tunnels i j o;
+  }
+
+  cleared_leads : leads (clears t.calls start)
+  cleared_leads = subst (Ticked e moment i (clears t.calls start)) (sym gone_is) cleared_to_gone
+
+  begun : Ticking e moment Tick t.letters t.calls i start
+  begun = record {
+    settled = unsent e moment Tick t.letters t.calls i start (begins e kept moment Tick block i t is).good;
+    none = (refl, refl, refl);
+  }
+
+  ticks_by_lead : (a : Due) → answer_to_tick t.control.channel moment ≡ a → leads (ticks_by e.role t.letters t.calls a start)
+  unfolding ticks_by
+  ticks_by_lead Quiet due = ticking_leads _ (quietly_ok e moment Tick t.letters t.calls i k.calls start refl begun)
+  ticks_by_lead (Again number) due =
+      ticking_leads _
+      (quietly_ok e moment Tick t.letters t.calls i k.calls (repeats t.letters number start) (repeated_changed e moment Tick t.letters t.calls i number start refl)
+      (repeats_ok e moment Tick t.letters t.calls i number start due begun))
+  ticks_by_lead (Failed first) due = cleared_leads
+
+  tick_leads : leads (turns e.role e.config t.letters t.calls Tick start)
+  unfolding turns ticks
+  tick_leads =
+      branch leads (is_being_set_up t.control.state && is_over patience moment t.control.made) _ _
+      (λ late. cleared_leads)
+      (λ no. ticks_by_lead (answer_to_tick t.control.channel moment) refl)
+
+-- ---- all of them
+
+module _ (moment : ℕ) where
+  -- turns of tunnels with these ids lead on from an end
+  record AllTicked (es : List (ℕ × Tunnel)) (x : End) (ts : List Turned) : Type 0 where
+    chain : Chain moment Tick x (flat_map (λ t. t.turn.moves) ts) (end_after_all ts x)
+    outs : AllByRecursion (IsOfMoves (end_after_all ts x) (flat_map (λ t. t.turn.moves) ts)) (flat_map (λ t. t.turn.outputs) ts)
+    frames : AllByRecursion NoFrame (flat_map (λ t. t.turn.moves) ts)
+    kept : AreKept (end_after_all ts x)
+    others : (j : ℕ) → IsAbove j es → at (end_after_all ts x).tunnels j ≡ at x.tunnels j
+
+  none_ticked : (x : End) → AreKept x → AllTicked [] x []
+  unfolding end_after_all
+  none_ticked x kept = record { chain = refl; outs = tt; frames = tt; kept = kept; others = λ j above. refl }
+
+  -- the first, and then the rest
+  one_ticked : (q : ℕ × Tunnel) (es : List (ℕ × Tunnel)) → IsAbove q.0 es → (x : End) (first : Turned) (ts : List Turned)
+      → (y : End) → y ≡ (after_turn x first.id first.tunnel.letters first.tunnel.calls first.turn).end → Ticked x moment q.0 first.turn y → AllTicked es y ts
+      → AllTicked (q ∷ es) x (first ∷ ts)
+  unfolding end_after_all
+  one_ticked q es above x first ts y is h rest =
+      let z = end_after_all ts y in
+      let same : end_after_all (first ∷ ts) x ≡ z = ap (end_after_all ts) (sym is) in
+      let ms = flat_map (λ (t : Turned). t.turn.moves) ts in
+      record {
+        chain = subst (Chain moment Tick x (first.turn.moves ++ ms)) (sym same) (chain_append moment Tick x y z first.turn.moves ms h.chain rest.chain);
+        outs = subst (λ w. AllByRecursion (IsOfMoves w (first.turn.moves ++ ms)) (first.turn.outputs ++ flat_map (λ (t : Turned). t.turn.outputs) ts)) (sym same)
+            (all_append _ first.turn.outputs _
+            (all_map _ _ (out_of z y.tunnels q.0 (rest.others q.0 above) first.turn.moves (first.turn.moves ++ ms) h.frames) first.turn.outputs h.outs)
+            (all_map _ _ (of_more z first.turn.moves ms rest.frames) _ rest.outs));
+        frames = all_append NoFrame first.turn.moves ms h.frames rest.frames;
+        kept = subst AreKept (sym same) rest.kept;
+        others = λ j below.
+            ap (λ (w : End). at w.tunnels j) same ∙ rest.others j below.1 ∙ h.others j (λ s. let lt = below.0 in absurd (omega (arith, s)));
+      }
+
+  module _ (e : End) (block : List ℕ) where
+    abbrev env : Env
+    env = env_of e moment block
+
+    abbrev Untouched : End → ℕ × Tunnel → Type 0
+    Untouched x q = at x.tunnels q.0 ≡ at e.tunnels q.0
+
+    -- the turn of a tunnel that is as it was
+    as_it_was : (x : End) → Like e x → (t : Tunnel)
+        → turns x.role x.config t.letters t.calls Tick (turn_of t.control (env_of x moment block)) ≡ turns e.role e.config t.letters t.calls Tick (turn_of t.control env)
+    as_it_was x like t = rw (like.role, like.config, like.tunnels, like.sessions) refl
+
+    untouched_on : (q : ℕ × Tunnel) (x y : End) → ((j : ℕ) → (j ≡ q.0 → ⊥) → at y.tunnels j ≡ at x.tunnels j) → (es : List (ℕ × Tunnel))
+        → IsAbove q.0 es → AllByRecursion (Untouched x) es → AllByRecursion (Untouched y) es
+    untouched_on q x y others [] above h = tt
+    untouched_on q x y others (p ∷ es) above h =
+        (others p.0 (λ s. let lt = above.0 in absurd (omega (arith, s))) ∙ h.0, untouched_on q x y others es above.1 h.1)
+
+    -- what the rest leads to, from each end that is like the first and has the rest of the tunnels as they were
+    abbrev Rest : List (ℕ × Tunnel) → List Turned → Type 0
+    Rest es ts = (y : End) → Like e y → AreKept y → AllByRecursion (Untouched y) es → AllTicked es y ts
+
+    weaker : (q : ℕ × Tunnel) (es : List (ℕ × Tunnel)) (x : End) (ts : List Turned) → AllTicked es x ts → AllTicked (q ∷ es) x ts
+    weaker q es x ts h = record { chain = h.chain; outs = h.outs; frames = h.frames; kept = h.kept; others = λ j below. h.others j below.1 }
+
+    first_ticked : (q : ℕ × Tunnel) (es : List (ℕ × Tunnel)) → IsAbove q.0 es → (ts : List Turned) → Rest es ts → (x : End) → Like e x → AreKept x
+        → AllByRecursion (Untouched x) (q ∷ es) → (o : Option Tunnel) → at e.tunnels q.0 ≡ o → AllTicked (q ∷ es) x (tick_of e env q.0 o ++ ts)
+    first_ticked q es above ts rest x like kept same None is = weaker q es x ts (rest x like kept same.1)
+    first_ticked q es above ts rest x like kept same (Some t) is =
+        let r = turns e.role e.config t.letters t.calls Tick (turn_of t.control env) in
+        let y = (after_turn x q.0 t.letters t.calls r).end in
+        let h : Ticked x moment q.0 r y =
+        subst (λ r. Ticked x moment q.0 r (after_turn x q.0 t.letters t.calls r).end) (as_it_was x like t) (tick_leads x kept moment block q.0 t (same.0 ∙ is)) in
+        one_ticked q es above x (record { id = q.0; tunnel = t; turn = r }) ts y refl h
+        (rest y (like_on e x y like h.like) h.kept (untouched_on q x y h.others es above same.1))
+
+    all_ticked : (es : List (ℕ × Tunnel)) → Ascends es → Rest es (ticks_of e env (ids_of es))
+    unfolding ticks_of Ascends
+    all_ticked [] sorted x like kept same = none_ticked x kept
+    all_ticked (q ∷ es) sorted x like kept same =
+        first_ticked q es sorted.0 (ticks_of e env (ids_of es)) (all_ticked es sorted.1) x like kept same (at e.tunnels q.0) refl
+
+    same_all : (es : List (ℕ × Tunnel)) → AllByRecursion (Untouched e) es
+    same_all [] = tt
+    same_all (q ∷ es) = (refl, same_all es)
+
+    pub ticks_chain : AreKept e → IsChain e moment Tick (ticks_all e env)
+    unfolding ticks_all after_all
+    ticks_chain kept =
+        let h = all_ticked e.tunnels kept.order e (record { role = refl; config = refl; tunnels = refl; sessions = refl }) kept (same_all e.tunnels) in
+        record { chain = h.chain; outputs = h.outs; frames = all_map _ _ (no_frame_out _) _ h.frames; kept = h.kept }

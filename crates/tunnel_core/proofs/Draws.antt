@@ -1,0 +1,96 @@
+-- As time passes in a tunnel no id is drawn, and no call is made.
+use Rattle.std.proofs.Common.{◌≡◌, ℕ, zero, suc, Bool, true, false, List, [], ◌∷◌, Option, Some, None, refl, ◌∙◌}
+use Rattle.std.specs.Prelude.{if◌then◌else◌}
+use Rattle.id_table.specs.Ids.{at}
+use Rattle.id_source.specs.Spaces.{Space}
+use Rattle.wire_base.specs.declared.letter.Letter.{Letter}
+use Rattle.send_window.specs.declared.window.Tick.{Tick as Due}
+use Rattle.send_window.specs.declared.window.Tick.TheVariants as tick
+use Rattle.call_fsm.specs.declared.table.CallAction.{CallAction}
+use Rattle.call_fsm.specs.declared.table.CallAction.TheVariants as call_action
+use Rattle.protocol_model.specs.declared.tunnel.Call.{Call}
+use Rattle.protocol_model.specs.declared.tunnel.Role.{Role}
+use Rattle.protocol_model.specs.Turn.{Turn, with_output, with_move, with_change, ends_call, ends_all, clears, gives, sends_letter, sends_now, lets_go, goes_by, lets_all_go, repeats, acknowledges, acknowledged_after, settles, greeted, greets, end_silent, end_told, limited_by, limits_at, limits_all, goes_quietly, ticks_by, ticks}
+
+-- what a turn drew
+abbrev pub drawn : Turn → List ℕ × Space × Space
+drawn t = (t.added, t.tunnels, t.sessions)
+
+either : (b : Bool) (x y t : Turn) → drawn x ≡ drawn t → drawn y ≡ drawn t → drawn (if b then x else y) ≡ drawn t
+either true x y t one other = one
+either false x y t one other = other
+
+module _ (letters : List Letter) where
+  letter_drawn : (number : ℕ) (o : Option Letter) (t : Turn) → drawn (sends_letter number o t) ≡ drawn t
+  unfolding sends_letter with_output
+  letter_drawn number None t = refl
+  letter_drawn number (Some l) t = either _ _ _ t refl refl
+
+  goes_drawn : (number : ℕ) (t : Turn) → drawn (lets_go letters number t) ≡ drawn t
+  unfolding lets_go sends_now with_move
+  goes_drawn number t = letter_drawn number _ _
+
+  by_drawn : (rest : Turn → Turn) → ((t : Turn) → drawn (rest t) ≡ drawn t) → (o : Option ℕ) (t : Turn) → drawn (goes_by rest letters o t) ≡ drawn t
+  unfolding goes_by
+  by_drawn rest later None t = refl
+  by_drawn rest later (Some number) t = later (lets_go letters number t) ∙ goes_drawn number t
+
+  all_drawn : (most : ℕ) (t : Turn) → drawn (lets_all_go most letters t) ≡ drawn t
+  unfolding lets_all_go
+  all_drawn zero t = refl
+  all_drawn (suc most) t = by_drawn (lets_all_go most letters) (all_drawn most) _ t
+
+  acknowledged_drawn : (again : Bool) (before : ℕ) (t : Turn) → drawn (acknowledged_after again before t) ≡ drawn t
+  unfolding acknowledged_after acknowledges with_output with_move
+  acknowledged_drawn again before t = either _ _ _ t refl refl
+
+  settles_drawn : (again : Bool) (t : Turn) → drawn (settles again letters t) ≡ drawn t
+  unfolding settles
+  settles_drawn again t = acknowledged_drawn again _ (lets_all_go t.control.channel.window.queued letters t) ∙ all_drawn _ t
+
+  repeats_drawn : (number : ℕ) (t : Turn) → drawn (repeats letters number t) ≡ drawn t
+  unfolding repeats sends_now with_move
+  repeats_drawn number t = letter_drawn number _ _
+
+  greets_drawn : (t : Turn) → drawn (greets letters t) ≡ drawn t
+  unfolding greets greeted gives with_move
+  greets_drawn t = either _ _ _ t (settles_drawn false _) refl
+
+  limited_drawn : (s : ℕ) (c : Call) (a : CallAction) (t : Turn) → drawn (limited_by letters s c a t) ≡ drawn t
+  unfolding limited_by end_silent end_told gives ends_call with_output with_move with_change
+  limited_drawn s c call_action.CleanUp t = refl
+  limited_drawn s c call_action.SendCdn t = either _ _ _ t (settles_drawn false _) refl
+  limited_drawn s c a t = refl
+
+  limit_drawn : (role : Role) (s : ℕ) (o : Option Call) (t : Turn) → drawn (limits_at role letters s o t) ≡ drawn t
+  unfolding limits_at
+  limit_drawn role s None t = refl
+  limit_drawn role s (Some c) t = either _ _ _ t (limited_drawn s c _ t) refl
+
+  limits_drawn : (role : Role) (ss : List ℕ) (calls : List (ℕ × Call)) (t : Turn) → drawn (limits_all role letters ss calls t) ≡ drawn t
+  unfolding limits_all
+  limits_drawn role [] calls t = refl
+  limits_drawn role (s ∷ ss) calls t = limits_drawn role ss calls (limits_at role letters s (at calls s) t) ∙ limit_drawn role s (at calls s) t
+
+  quietly_drawn : (role : Role) (calls : List (ℕ × Call)) (t : Turn) → drawn (goes_quietly role letters calls t) ≡ drawn t
+  unfolding goes_quietly
+  quietly_drawn role calls t = limits_drawn role _ calls (greets letters t) ∙ greets_drawn t
+
+ends_drawn : (ss : List ℕ) (t : Turn) → drawn (ends_all ss t) ≡ drawn t
+unfolding ends_all ends_call with_output with_change
+ends_drawn [] t = refl
+ends_drawn (s ∷ ss) t = ends_drawn ss (ends_call s t)
+
+clears_drawn : (calls : List (ℕ × Call)) (t : Turn) → drawn (clears calls t) ≡ drawn t
+unfolding clears with_move
+clears_drawn calls t = ends_drawn _ _
+
+due_drawn : (role : Role) (letters : List Letter) (calls : List (ℕ × Call)) (due : Due) (t : Turn) → drawn (ticks_by role letters calls due t) ≡ drawn t
+unfolding ticks_by
+due_drawn role letters calls tick.Quiet t = quietly_drawn letters role calls t
+due_drawn role letters calls (tick.Again number) t = quietly_drawn letters role calls (repeats letters number t) ∙ repeats_drawn letters number t
+due_drawn role letters calls (tick.Failed first) t = clears_drawn calls t
+
+pub ticks_drawn : (role : Role) (letters : List Letter) (calls : List (ℕ × Call)) (t : Turn) → drawn (ticks role letters calls t) ≡ drawn t
+unfolding ticks
+ticks_drawn role letters calls t = either _ _ _ t (clears_drawn calls t) (due_drawn role letters calls _ t)
