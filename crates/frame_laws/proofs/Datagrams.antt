@@ -9,7 +9,7 @@ use Rattle.avp_codec.specs.Spelling.{spelling}
 use Rattle.control_message.specs.declared.message.Message.{Message}
 use Rattle.control_message.specs.Pairs.{pairs_of, IsWritten}
 use Rattle.control_message.specs.Reading.{message_of}
-use Rattle.reliable_channel.specs.Channel.{on_wire}
+use Rattle.recv_window.specs.Window.{on_wire}
 use Rattle.protocol_model.specs.Reading.{body_of, message_in, pairs_read, message_read}
 use Rattle.frame_laws.specs.Codecs.{Codecs}
 use Rattle.frame_laws.specs.Past.{Passage}

@@ -24,14 +24,15 @@ all_among P [] x h a = absurd a
 all_among P (y ∷ xs) x h a = ⊎_elim (λ e. subst P e h.0) (λ b. all_among P xs x h.1 b) a
 
 -- a move of a chain does something
-pub record Done (ev : Event) (m : Move) : Type 0 where
+pub record Done (moment : ℕ) (ev : Event) (m : Move) : Type 0 where
   pub before : End
   pub after : End
-  pub does : Does before ev m after
+  pub does : Does before moment ev m after
 
-pub done_among : (ev : Event) (x y : End) (ms : List Move) → Chain ev x ms y → (m : Move) → Among m ms → Done ev m
-done_among ev x y [] h m a = absurd a
-done_among ev x y (q ∷ ms) h m a = ⊎_elim (λ e. subst (Done ev) e (record { before = x; after = h.0; does = h.1 })) (λ b. done_among ev h.0 y ms h.2 m b) a
+pub done_among : (moment : ℕ) (ev : Event) (x y : End) (ms : List Move) → Chain moment ev x ms y → (m : Move) → Among m ms → Done moment ev m
+done_among moment ev x y [] h m a = absurd a
+done_among moment ev x y (q ∷ ms) h m a =
+    ⊎_elim (λ e. subst (Done moment ev) e (record { before = x; after = h.0; does = h.1 })) (λ b. done_among moment ev h.0 y ms h.2 m b) a
 
 -- ---- frames that are sent, and frames that are handed up
 
@@ -46,8 +47,15 @@ one_sent P d (move.Requested m) h = tt
 one_sent P d (move.Replied m) h = tt
 one_sent P d (move.FirstUp m) h = tt
 one_sent P d (move.SecondUp m) h = tt
+one_sent P d (move.EndTold m) h = tt
+one_sent P d (move.EndHeard m) h = tt
+one_sent P d (move.EndSilent m) h = tt
+one_sent P d (move.Cleared i) h = tt
+one_sent P d (move.Greeted m) h = tt
 one_sent P d (move.TookPlain m) h = tt
 one_sent P d (move.NrRead m) h = tt
+one_sent P d (move.LetGo m) h = tt
+one_sent P d (move.Repeated m) h = tt
 one_sent P d (move.Quiet i) h = tt
 one_sent P d (move.FrameSent m) h = (h m refl, tt)
 one_sent P d (move.FrameUp m) h = tt
@@ -63,8 +71,15 @@ one_handed P d (move.Requested m) h = tt
 one_handed P d (move.Replied m) h = tt
 one_handed P d (move.FirstUp m) h = tt
 one_handed P d (move.SecondUp m) h = tt
+one_handed P d (move.EndTold m) h = tt
+one_handed P d (move.EndHeard m) h = tt
+one_handed P d (move.EndSilent m) h = tt
+one_handed P d (move.Cleared i) h = tt
+one_handed P d (move.Greeted m) h = tt
 one_handed P d (move.TookPlain m) h = tt
 one_handed P d (move.NrRead m) h = tt
+one_handed P d (move.LetGo m) h = tt
+one_handed P d (move.Repeated m) h = tt
 one_handed P d (move.Quiet i) h = tt
 one_handed P d (move.FrameSent m) h = tt
 one_handed P d (move.FrameUp m) h = (h m refl, tt)

@@ -1,8 +1,10 @@
 -- What holds of a world goes on to hold.
-use Rattle.std.proofs.Common.{◌≡◌, inl, inr, ⊎_elim, ℕ, ◌≤◌, List, [], ◌∷◌, ◌++◌, refl, arith}
+use Rattle.std.proofs.Common.{◌≡◌, inl, inr, ⊎_elim, ℕ, zero, suc, ◌≤◌, List, [], ◌∷◌, ◌++◌, refl, subst, Some, arith}
+use Rattle.std.specs.Prelude.{drop, slice_get}
 use Rattle.std.specs.List.{AllByRecursion}
+use Rattle.wire_base.specs.declared.letter.Letter.{Letter}
 use Rattle.control_message.specs.declared.message.Message.{Message}
-use Rattle.control_message.specs.declared.message.Message.TheVariants.{Sccrq, Sccrp, Scccn, Icrq, Icrp, Iccn}
+use Rattle.control_message.specs.declared.message.Message.TheVariants.{Sccrq, Sccrp, Scccn, Hello, Icrq, Icrp, Iccn, Cdn}
 use Rattle.protocol_model.specs.declared.tunnel.Call.{Call}
 use Rattle.protocol_model.specs.declared.tunnel.Role.{Role}
 use Rattle.protocol_model.specs.declared.tunnel.Role.TheVariants.{Lac, Lns}
@@ -14,11 +16,26 @@ use Rattle.step_laws.specs.Letters.{Among}
 use Rattle.protocol_model.specs.World.{Node}
 use Rattle.frame_laws.specs.Past.{Passage}
 use Rattle.frame_laws.specs.Frames.{other_end}
-pub use Rattle.frame_laws.specs.Facts.{Nodes, birth_in_node, Born, role_in_node, Plays, Grows, Mates, NamesItsCall, WasSentInCall, BytesOk, PacketOk, KnowsItsMate, CallOk, CallsOk, TunnelOk, EndOk, NodeOk, Holds, StepLaws, LooksOfRuns}
+pub use Rattle.frame_laws.specs.Facts.{Nodes, birth_in_node, Born, role_in_node, Plays, Grows, Mates, NamesItsCall, WasSentInCall, BytesOk, PacketOk, KnowsItsMate, CallOk, CallsOk, LetterOk, LettersOk, TunnelOk, EndOk, NodeOk, Holds, StepLaws, LooksOfRuns}
 
 pub all_map : {X : Type 0} (P Q : X → Type 0) → ((x : X) → P x → Q x) → (xs : List X) → AllByRecursion P xs → AllByRecursion Q xs
 all_map P Q f [] h = tt
 all_map P Q f (x ∷ xs) h = (f x h.0, all_map P Q f xs h.1)
+
+pub all_push : {X : Type 0} (P : X → Type 0) (xs : List X) (x : X) → AllByRecursion P xs → P x → AllByRecursion P (xs ++ x ∷ [])
+all_push P [] x h p = (p, tt)
+all_push P (y ∷ xs) x h p = (h.0, all_push P xs x h.1 p)
+
+pub all_drop : {X : Type 0} (P : X → Type 0) (k : ℕ) (xs : List X) → AllByRecursion P xs → AllByRecursion P (drop k xs)
+all_drop P zero xs h = h
+all_drop P (suc k) [] h = tt
+all_drop P (suc k) (x ∷ xs) h = all_drop P k xs h.1
+
+-- the one at a place
+pub all_at : {X : Type 0} (P : X → Type 0) (xs : List X) (k : ℕ) (x : X) → slice_get xs k ≡ Some x → AllByRecursion P xs → P x
+all_at P [] k x is h = absurd (cc)
+all_at P (y ∷ xs) zero x is h = let e : y ≡ x = cc in subst P e h.0
+all_at P (y ∷ xs) (suc k) x is h = all_at P xs k x is h.1
 
 -- ---- births and roles
 
@@ -53,6 +70,9 @@ mates_later ns ms g n s m a h =
 pub names_later : (ns ms : Nodes) → Grows ns ms → (from to session : ℕ) (m : Message) → NamesItsCall ns from to session m → NamesItsCall ms from to session m
 names_later ns ms g from to session (Icrq own serial calling) h = ((h.0.0, h.0.1, g.births from own h.0.0 h.0.2), g.roles from Lac h.1)
 names_later ns ms g from to session (Icrp own) h = mates_later ns ms g from own to session h
+names_later ns ms g from to session (Cdn own code error) h =
+    ((h.0.0, h.0.1, g.births from own h.0.0 h.0.2), ⊎_elim (λ a. inl a) (λ a. inr (mates_later ns ms g from own to session a)) h.1)
+names_later ns ms g from to session Hello h = tt
 names_later ns ms g from to session (Sccrq o) h = tt
 names_later ns ms g from to session (Sccrp o) h = tt
 names_later ns ms g from to session Scccn h = tt
@@ -104,8 +124,23 @@ call_later ns ms g n role bound more peer s c le h =
       birth = h.birth;
       some = h.some;
       born = g.births n s h.birth h.born;
-      mate = λ k. let r = h.mate k in (r.0, mates_later ns ms g n s (node_of peer) c.remote r.1);
+      remote = h.remote;
+      known = ⊎_elim (λ a. inl a) (λ a. inr (mates_later ns ms g n s (node_of peer) c.remote a)) h.known;
+      mate = λ k. mates_later ns ms g n s (node_of peer) c.remote (h.mate k);
     }
+
+pub letter_later : (ns ms : Nodes) → Grows ns ms → (n peer : ℕ) (l : Letter) → LetterOk ns n peer l → LetterOk ms n peer l
+letter_later ns ms g n peer l h =
+    record {
+      message = h.message;
+      spelt = h.spelt;
+      session = h.session;
+      written = h.written;
+      names = names_later ns ms g n (node_of peer) l.session h.message h.names;
+    }
+
+pub letters_later : (ns ms : Nodes) → Grows ns ms → (n peer : ℕ) (ls : List Letter) → LettersOk ns n peer ls → LettersOk ms n peer ls
+letters_later ns ms g n peer ls h = all_map (LetterOk ns n peer) (LetterOk ms n peer) (λ l k. letter_later ns ms g n peer l k) ls h
 
 pub tunnel_later : (ns ms : Nodes) → Grows ns ms → (n : ℕ) (e x : End) (i : ℕ) (t : Tunnel) → x.role ≡ e.role → e.tunnel_ids.next ≤ x.tunnel_ids.next
     → e.session_ids.next ≤ x.session_ids.next → TunnelOk ns n e i t → TunnelOk ms n x i t
@@ -114,7 +149,9 @@ tunnel_later ns ms g n e x i t role le more h =
       local = h.local;
       drawn = (let d = h.drawn in omega arith);
       remote = h.remote;
+      letters = letters_later ns ms g n t.control.peer t.letters h.letters;
       calls = λ s c f. rw role (call_later ns ms g n e.role e.session_ids.next x.session_ids.next t.control.peer s c more (h.calls s c f));
+      order = h.order;
     }
 
 pub end_later : (ns ms : Nodes) → Grows ns ms → (n : ℕ) (e : End) → EndOk ns n e → EndOk ms n e
@@ -127,6 +164,7 @@ end_later ns ms g n e h =
       last_session = h.last_session;
       most = h.most;
       tunnels = λ i t f. tunnel_later ns ms g n e e i t refl (omega arith) (omega arith) (h.tunnels i t f);
+      order = h.order;
     }
 
 pub node_later : (ns ms : Nodes) → Grows ns ms → (n : ℕ) (node : Node) → NodeOk ns n node → NodeOk ms n node

@@ -1,17 +1,17 @@
--- What a move leaves of a node and of the world: births stay, and the end's tunnels go where they went.
+-- What a move leaves of a node and of the world: births and roles stay, and one tunnel of the end is put.
 use Rattle.std.proofs.Common.{◌≡◌, ⊎_elim, ℕ, ◌+◌, ◌-◌, ◌^◌, ◌<◌, ◌≤◌, Bool, true, false, cond, List, refl, sym, ap, ◌∙◌, subst, Some, Ok, Err, arith}
 use Rattle.std.proofs.lemmas.Bool.{ltb-false}
 use Rattle.std.specs.Prelude.{nat_lt}
 use Rattle.id_source.specs.declared.IdError.TheVariants.{NoIds, NeedCeiling}
 use Rattle.id_source.specs.Spaces.{Space, draws, after_draw}
 use Rattle.id_table.specs.Ids.{at, put}
-use Rattle.id_table.specs.Order.{found_put, at_new, at_other, same_or_not}
+use Rattle.id_table.specs.Order.{ascends-put, found_put}
 use Rattle.l2tp_header.specs.declared.header.Header.{Header}
 use Rattle.l2tp_header.specs.Reading.{header_of}
 use Rattle.control_message.specs.declared.message.Message.{Message}
 use Rattle.control_message.specs.Pairs.{IsWritten}
 use Rattle.protocol_model.specs.declared.event.Event.{Event}
-use Rattle.protocol_model.specs.declared.event.Event.TheVariants.{Datagram, Ring, Payload, Lower, OpenTunnel}
+use Rattle.protocol_model.specs.declared.event.Event.TheVariants.{Datagram, Ring, Payload, Lower, OpenTunnel, Tick}
 use Rattle.protocol_model.specs.declared.tunnel.Call.{Call}
 use Rattle.protocol_model.specs.declared.tunnel.Role.{Role}
 use Rattle.protocol_model.specs.Names.{address_of, node_of}
@@ -19,7 +19,6 @@ use Rattle.protocol_model.specs.Reading.{body_of, message_in}
 use Rattle.protocol_model.specs.Turn.{Tunnel}
 use Rattle.protocol_model.specs.End.{End}
 use Rattle.protocol_model.specs.World.{World, Node}
-use Rattle.step_laws.specs.Letters.{Letter}
 use Rattle.step_laws.specs.Moves.{Hears}
 use Rattle.frame_laws.proofs.Facts.{Nodes, Grows, NamesItsCall, names_later, CallOk, CallsOk, TunnelOk, tunnel_later, EndOk}
 use Rattle.frame_laws.proofs.Births.{Counted}
@@ -60,6 +59,7 @@ Heard ns n (Ring port) = Unit {0}
 Heard ns n (Payload s frame) = Unit {0}
 Heard ns n (Lower s frame) = Unit {0}
 Heard ns n OpenTunnel = Unit {0}
+Heard ns n Tick = Unit {0}
 
 pub heard_later : (ns ms : Nodes) → Grows ns ms → (n : ℕ) (ev : Event) → Heard ns n ev → Heard ms n ev
 heard_later ns ms g n (Datagram peer bytes) h = record {
@@ -72,6 +72,7 @@ heard_later ns ms g n (Ring port) h = tt
 heard_later ns ms g n (Payload s frame) h = tt
 heard_later ns ms g n (Lower s frame) h = tt
 heard_later ns ms g n OpenTunnel h = tt
+heard_later ns ms g n Tick h = tt
 
 pub heard_letter : (ns : Nodes) (n : ℕ) (ev : Event) → Heard ns n ev → (peer session : ℕ) (m : Message) → Hears ev peer session m
     → IsWritten m × NamesItsCall ns (node_of peer) n session m
@@ -82,12 +83,6 @@ heard_letter ns n ev heard peer session m h =
     (l.0, rw (from, ← h.session_is) l.1)
 
 -- ---- an end along the moves of a step
-
-abbrev pub GoesTo : End → ℕ → ℕ → Type 0
-GoesTo e i peer = (t : Tunnel) × (at e.tunnels i ≡ Some t) × (t.control.peer ≡ peer)
-
-abbrev pub GoesOn : End → End → Type 0
-GoesOn x y = (i peer : ℕ) → GoesTo x i peer → GoesTo y i peer
 
 -- the step leads to an end z; so far it led to x, and to a world
 pub record At (n : ℕ) (z : End) (v : World) (x : End) : Type 0 where
@@ -106,30 +101,9 @@ pub record Leads (n : ℕ) (v w : World) (x y : End) : Type 0 where
   pub grows : Grows v.nodes w.nodes
   pub others : (m : ℕ) → (m ≡ n → ⊥) → at w.nodes m ≡ at v.nodes m
   pub packets : w.packets ≡ v.packets
-  pub goes : GoesOn x y
-  pub role : y.role ≡ x.role
-  pub config : y.config ≡ x.config
   pub born : w.born + x.session_ids.next ≤ v.born + y.session_ids.next
   pub rises : x.session_ids.next ≤ y.session_ids.next
   pub counted : HasRoom v x → Counted v.nodes v.born → Counted w.nodes w.born
-
--- a letter of a move may be read by the node that its tunnel goes to
-pub record LetterOk (ns : Nodes) (n : ℕ) (e : End) (l : Letter) : Type 0 where
-  pub written : IsWritten l.message
-  pub session : l.session < 65536
-  pub peer : ℕ
-  pub goes : GoesTo e l.tunnel peer
-  pub names : NamesItsCall ns n (node_of peer) l.session l.message
-
-pub letter_later : (ns ms : Nodes) → Grows ns ms → (n : ℕ) (x y : End) → GoesOn x y → (l : Letter) → LetterOk ns n x l → LetterOk ms n y l
-letter_later ns ms g n x y on l h =
-    record {
-      written = h.written;
-      session = h.session;
-      peer = h.peer;
-      goes = on l.tunnel h.peer h.goes;
-      names = names_later ns ms g n (node_of h.peer) l.session l.message h.names;
-    }
 
 -- ---- a tunnel is put
 
@@ -160,13 +134,5 @@ end_put ns ms g n x y i t h sets ok =
           (λ (a : (j ≡ i) × (t ≡ u)). rw (a.0, ← a.1) ok)
           (λ a. tunnel_later ns ms g n x y j u sets.role sets.next sets.sessions (h.tunnels j u a.1))
           (found_put x.tunnels i t j u (rw (← sets.tunnels) f));
+      order = rw sets.tunnels (ascends-put i t x.tunnels h.order);
     }
-
-pub goes_put : (x y : End) (i : ℕ) (t : Tunnel) → Sets x y i t → ((u : Tunnel) → at x.tunnels i ≡ Some u → u.control.peer ≡ t.control.peer) → GoesOn x y
-goes_put x y i t sets same j peer g = ⊎_elim
-    (λ (a : j ≡ i). (t, (rw (sets.tunnels, a) (at_new x.tunnels i t)), sym (same g.0 (rw (← a) g.1)) ∙ g.2))
-    (λ (o : j ≡ i → ⊥). (g.0, (rw sets.tunnels (at_other x.tunnels i t j o ∙ g.1)), g.2))
-    (same_or_not j i)
-
-pub goes_there : (x y : End) (i : ℕ) (t : Tunnel) → Sets x y i t → GoesTo y i t.control.peer
-goes_there x y i t sets = (t, (rw sets.tunnels (at_new x.tunnels i t)), refl)

@@ -1,4 +1,5 @@
 pub mod Facts
+pub mod Tables
 pub mod Changes
 pub mod Births
 pub mod Rows

@@ -1,39 +1,37 @@
 -- Each line of a schedule.
-use Rattle.std.proofs.Common.{◌≡◌, ⊎_elim, ℕ, zero, suc, ◌-◌, ◌<◌, Bool, true, false, cond, List, [], ◌∷◌, refl, sym, ap, ◌∙◌, subst, Option, Some, None, Result, Ok, Err, arith}
+use Rattle.std.proofs.Common.{◌≡◌, ⊎_elim, ℕ, ◌+◌, ◌-◌, ◌^◌, ◌<◌, Bool, true, false, cond, List, [], refl, sym, ap, ◌∙◌, subst, Option, Some, None, Result, Ok, Err, arith}
 use Rattle.std.proofs.lemmas.Bool.{true≢false}
 use Rattle.std.proofs.lemmas.Option.{none-some}
 use Rattle.std.proofs.lemmas.List.{append-nil}
-use Rattle.std.specs.Prelude.{is_some, slice_get, not}
+use Rattle.std.specs.Prelude.{is_some, min, slice_get}
 use Rattle.std.specs.List.{AllByRecursion}
 use Rattle.id_table.specs.Ids.{at, put, at-none}
 use Rattle.id_table.specs.Order.{at_new, at_other, found_put, same_or_not, ascends-empty}
 use Rattle.wire_base.specs.declared.why.Why.{Why}
 use Rattle.wire_base.specs.declared.why.Why.TheVariants as why
 use Rattle.schedule_text.specs.declared.line.Line.{Line}
-use Rattle.schedule_text.specs.declared.line.Line.TheVariants.{Remark, Lac, Lns, OpenUp, Ring, FromSub, Down, Deliver}
+use Rattle.schedule_text.specs.declared.line.Line.TheVariants.{Remark, Lac, Lns, OpenUp, Ring, FromSub, Down, Deliver, Tick}
 use Rattle.schedule_text.specs.Grammar.{FitsLine}
 use Rattle.protocol_model.specs.declared.event.Event.{Event}
 use Rattle.protocol_model.specs.declared.event.Event.TheVariants as event
 use Rattle.protocol_model.specs.declared.packet.Packet.{Packet}
+use Rattle.protocol_model.specs.declared.refusal.Refusal.{Refusal}
+use Rattle.protocol_model.specs.declared.refusal.Refusal.TheVariants.{Unfit}
 use Rattle.protocol_model.specs.declared.tunnel.Role.{Role}
 use Rattle.protocol_model.specs.declared.tunnel.Role.TheVariants as role
 use Rattle.protocol_model.specs.Names.{address_of}
 use Rattle.protocol_model.specs.Calls.{is_lac}
 use Rattle.protocol_model.specs.End.{new_end, step}
-use Rattle.protocol_model.specs.World.{World, Node, Sender, Lined, quiet_line, with_node, after_step, declared, lac_at, lns_at, with_call, config_of, added, block_of, stepped, marked, is_next, arrival, sender_of, arrives, delivers_it, delivers, line}
+use Rattle.protocol_model.specs.World.{World, Node, Sender, Lined, quiet_line, with_node, after_step, declared, lac_at, lns_at, with_call, later, config_of, added, block_of, stepped, addressee_of, arrival, refused_by, sender_of, arrives, delivers_it, delivers, line}
 use Rattle.frame_laws.specs.Codecs.{Codecs}
 use Rattle.frame_laws.specs.Past.{Passage, sent_in, handed_in}
 use Rattle.frame_laws.specs.Reports.{ups_in, told_of}
-use Rattle.frame_laws.proofs.Facts.{StepLaws, Born, Plays, Nodes, Grows, PacketOk, NodeOk, Holds, packets_later, node_later, birth_in_node, role_in_node, all_map}
+use Rattle.frame_laws.proofs.Facts.{StepLaws, Born, Plays, Nodes, Grows, PacketOk, NodeOk, Holds, packets_later, node_later, birth_in_node, role_in_node, all_map, all_at}
 use Rattle.frame_laws.proofs.Changes.{birth_there}
 use Rattle.frame_laws.proofs.Births.{Counted}
-use Rattle.frame_laws.proofs.Worlds.{Below, LineGives, EventGives, Counts, Goes, IsReal, step_ok}
+use Rattle.frame_laws.proofs.Worlds.{Below, LineGives, EventGives, Counts, Goes, IsReal, StepOk, step_ok}
 
 -- ---- which node it is
-
-pub is_declared : (o : Option Node) (node : Node) → declared o ≡ Ok node → o ≡ Some node
-is_declared None node h = absurd (cc)
-is_declared (Some x) node h = cc
 
 -- by cases on a test
 tested : {X Y : Type 0} (a : Bool) (x : X) (y : Y) (z : X) → cond a (Ok x) (Err y) ≡ Ok z → (a ≡ true) × (x ≡ z)
@@ -69,11 +67,6 @@ has_call session (Ok x) node h = ap (λ y. Ok y) (tested (is_some (at x.end.call
 
 -- ---- lines
 
-packet_at : (P : Packet → Type 0) (ps : List Packet) (k : ℕ) (p : Packet) → slice_get ps k ≡ Some p → AllByRecursion P ps → P p
-packet_at P [] k p is h = absurd (cc)
-packet_at P (q ∷ ps) zero p is h = let e : q ≡ p = cc in subst P e h.0
-packet_at P (q ∷ ps) (suc k) p is h = packet_at P ps k p is h.1
-
 -- what a line leaves
 pub record LineOk (number : ℕ) (w : World) (gs : List Passage) (l : Line) (r : Lined) : Type 0 where
   pub goes : Goes number w gs r.world r.done
@@ -103,7 +96,7 @@ uncounted w = record { few = omega arith; counted = λ few had. had }
 -- one more node
 module _ (ns : Nodes) (n : ℕ) (r : Role) (lns : ℕ) (none : at ns n ≡ None) where
   abbrev fresh_node : Node
-  fresh_node = record { end = new_end r (config_of n lns); births = [] }
+  fresh_node = record { end = new_end r (config_of n lns); clock = 0; births = [] }
 
   no_birth : (m s b : ℕ) → m ≡ n → birth_in_node (at ns m) s ≡ Some b → ⊥
   no_birth m s b e h = none-some b (subst (λ o. birth_in_node o s ≡ Some b) none (subst (λ x. birth_in_node (at ns x) s ≡ Some b) e h))
@@ -125,6 +118,7 @@ module _ (ns : Nodes) (n : ℕ) (r : Role) (lns : ℕ) (none : at ns n ≡ None)
         kept = record {
           tunnels = λ i t h. absurd (none-some t (sym (at-none i) ∙ h));
           order = ascends-empty [] refl;
+          places = ascends-empty [] refl;
           sessions = omega arith;
           first = omega arith;
         };
@@ -142,6 +136,7 @@ module _ (ns : Nodes) (n : ℕ) (r : Role) (lns : ℕ) (none : at ns n ≡ None)
           last_session = omega arith;
           most = omega arith;
           tunnels = λ i t h. absurd (none-some t (sym (at-none i) ∙ h));
+          order = ascends-empty [] refl;
         };
         births = λ s b h. absurd (none-some b (sym (at-none s) ∙ h));
       }
@@ -175,7 +170,7 @@ none_there (Some x) h = absurd (true≢false h)
 module _ (number : ℕ) (w : World) (gs : List Passage) (holds : Holds w gs) (l : Line)
     (n : ℕ) (r : Role) (lns : ℕ) (lt : n < 256) (none : at w.nodes n ≡ None) where
   abbrev new : Node
-  new = record { end = new_end r (config_of n lns); births = [] }
+  new = record { end = new_end r (config_of n lns); clock = 0; births = [] }
 
   more_ok : LineOk number w gs l (quiet_line (with_node w n new))
   more_ok =
@@ -199,7 +194,7 @@ added_ok : (number : ℕ) (w : World) (gs : List Passage) → Holds w gs → (l 
     → added w n r lns ≡ Ok x → LineOk number w gs l x
 unfolding added
 added_ok number w gs holds l n r lns lt x h =
-    let t = tested_not (is_some (at w.nodes n)) (quiet_line (with_node w n (record { end = new_end r (config_of n lns); births = [] }))) why.Twice x h in
+    let t = tested_not (is_some (at w.nodes n)) (quiet_line (with_node w n (record { end = new_end r (config_of n lns); clock = 0; births = [] }))) (Unfit why.Twice) x h in
     subst (LineOk number w gs l) t.1 (more_ok number w gs holds l n r lns lt (none_there (at w.nodes n) t.0))
 
 -- ---- frames that lines give
@@ -211,6 +206,7 @@ HasNoFrame (event.Ring port) = Unit {0}
 HasNoFrame (event.Payload session frame) = ⊥
 HasNoFrame (event.Lower session frame) = ⊥
 HasNoFrame event.OpenTunnel = Unit {0}
+HasNoFrame event.Tick = Unit {0}
 
 no_frame : (number n : ℕ) (r : Role) (ev : Event) (l : Line) → HasNoFrame ev → (g : Passage) → EventGives number n r ev g → LineGives number l g
 no_frame number n r (event.Datagram peer bytes) l none g h = absurd (⊎_elim (λ e. absurd cc) (λ e. absurd cc) h.event_is)
@@ -218,6 +214,7 @@ no_frame number n r (event.Ring port) l none g h = absurd (⊎_elim (λ e. absur
 no_frame number n r (event.Payload session frame) l none g h = absurd none
 no_frame number n r (event.Lower session frame) l none g h = absurd none
 no_frame number n r event.OpenTunnel l none g h = absurd (⊎_elim (λ e. absurd cc) (λ e. absurd cc) h.event_is)
+no_frame number n r event.Tick l none g h = absurd (⊎_elim (λ e. absurd cc) (λ e. absurd cc) h.event_is)
 
 from_sub : (number n : ℕ) (r : Role) (session : ℕ) (frame : List ℕ) → r ≡ role.Lac → (g : Passage)
     → EventGives number n r (event.Payload session frame) g → LineGives number (FromSub n session frame) g
@@ -239,71 +236,67 @@ down_to number n r session frame lns g h = ⊎_elim
     record { number_is = h.number_is; line_is = rw (h.role_is, lns, h.node_is, a, b) refl })
     h.event_is
 
+-- a node of the world, at some moment
+record IsAt (w : World) (n : ℕ) (node : Node) : Type 0 where
+  before : Node
+  there : at w.nodes n ≡ Some before
+  same : node ≡ record before { clock = node.clock }
+
+is_there : (w : World) (n : ℕ) (node : Node) → at w.nodes n ≡ Some node → IsAt w n node
+is_there w n node h = record { before = node; there = h; same = refl }
+
+is_later : (w : World) (n milliseconds : ℕ) (o : Option Node) (node : Node) → at w.nodes n ≡ o → later milliseconds (declared o) ≡ Ok node → IsAt w n node
+is_later w n milliseconds None node is h = absurd (cc)
+is_later w n milliseconds (Some x) node is h =
+    let now = min (x.clock + milliseconds) (2 ^ 64 - 1) in
+    let e : record x { clock = now } ≡ node = cc in
+    subst (IsAt w n) e (record { before = x; there = is; same = refl })
+
 module _ (codecs : Codecs) (laws : StepLaws) (number : ℕ) (w : World) (gs : List Passage) (holds : Holds w gs) (below : Below number gs) (l : Line) where
+  timed_ok : (n : ℕ) (ev : Event) (sender : Option Sender) (node : Node) → IsAt w n node → IsReal w gs n ev
+      → StepOk number w gs n node.end.role ev (after_step w number n node sender (step node.end node.clock (block_of n number) ev))
+  timed_ok n ev sender node is real = subst
+      (λ (q : Node). StepOk number w gs n q.end.role ev (after_step w number n q sender (step q.end q.clock (block_of n number) ev))) (sym is.same)
+      (step_ok codecs laws number w gs holds below n is.before is.there node.clock ev real node.clock (block_of n number) sender)
+
   stepped_ok : (x : Lined) (n : ℕ) (ev : Event) (sender : Option Sender) (o : Result Node Why)
-      → ((node : Node) → o ≡ Ok node → (at w.nodes n ≡ Some node) × ((g : Passage) → EventGives number n node.end.role ev g → LineGives number l g))
+      → ((node : Node) → o ≡ Ok node → IsAt w n node × ((g : Passage) → EventGives number n node.end.role ev g → LineGives number l g))
       → IsReal w gs n ev → stepped w number n ev sender o ≡ Ok x → LineOk number w gs l x
   unfolding stepped
   stepped_ok x n ev sender (Err q) is real h = absurd (cc)
   stepped_ok x n ev sender (Ok node) is real h =
       let was = is node refl in
-      let e : after_step w number n node sender (step node.end 0 (block_of n number) ev) ≡ x = cc in
-      let k = step_ok codecs laws number w gs holds below n node was.0 ev real 0 (block_of n number) sender in
+      let e : after_step w number n node sender (step node.end node.clock (block_of n number) ev) ≡ x = cc in
+      let k = timed_ok n ev sender node was.0 real in
       subst (LineOk number w gs l) e (record {
         goes = k.goes;
         given = all_map (EventGives number n node.end.role ev) (LineGives number l) was.1
-            (sent_in (after_step w number n node sender (step node.end 0 (block_of n number) ev)).done) k.given;
+            (sent_in (after_step w number n node sender (step node.end node.clock (block_of n number) ev)).done) k.given;
         told = k.told;
       })
 
 module _ (codecs : Codecs) (laws : StepLaws) (number : ℕ) (w : World) (gs : List Passage) (holds : Holds w gs) (below : Below number gs) where
-  marked_holds : (counts : Bool) (n : ℕ) → Holds (marked counts n w) gs
-  unfolding marked
-  marked_holds counts n = record { nodes = holds.nodes; packets = holds.packets }
-
-  unmarked : (counts : Bool) (n : ℕ) (l : Line) (x : Lined) → LineOk number (marked counts n w) gs l x → LineOk number w gs l x
-  unfolding marked
-  unmarked counts n l x h =
-      record {
-        goes = record {
-          holds = h.goes.holds;
-          lines = h.goes.lines;
-          sent = h.goes.sent;
-          counts = h.goes.counts;
-          carried = h.goes.carried;
-          grown = h.goes.grown;
-        };
-        given = h.given;
-        told = h.told;
-      }
-
-  arrives_ok : (l : Line) (x : Lined) (p : Packet) → PacketOk w.nodes gs p → arrives w number p ≡ Ok x → LineOk number w gs l x
-  unfolding arrives marked
-  arrives_ok l x p sent h =
-      let v = marked (is_some p.place) p.to w in
+  -- a packet that was sent comes to its node
+  arrives_ok : (l : Line) (x : Lined) (p : Packet) (node : Node) → at w.nodes p.to ≡ Some node → PacketOk w.nodes gs p → (o : Option Refusal)
+      → arrives w number p node o ≡ Ok x → LineOk number w gs l x
+  unfolding arrives
+  arrives_ok l x p node there sent (Some f) h = absurd (cc)
+  arrives_ok l x p node there sent None h =
       let ev = event.Datagram (address_of p.from) p.bytes in
-      unmarked (is_some p.place) p.to l x
-      (stepped_ok codecs laws number v gs (marked_holds (is_some p.place) p.to) below l x p.to ev (sender_of p.from p.origin) (declared (at w.nodes p.to))
-      (λ node e. (marked_at (is_some p.place) p.to node (is_declared (at w.nodes p.to) node e), no_frame number p.to node.end.role ev l tt))
-      (marked_real p sent) h)
-    where
-      marked_at : (counts : Bool) (n : ℕ) (node : Node) → at w.nodes p.to ≡ Some node → at (marked counts n w).nodes p.to ≡ Some node
-      marked_at counts n node h = h
+      stepped_ok codecs laws number w gs holds below l x p.to ev (sender_of p.from p.origin) (Ok node)
+      (λ q e. (let same : node ≡ q = cc in rw (← same) (is_there w p.to node there, no_frame number p.to node.end.role ev l tt)))
+      (record { from = p.from; number = sent.from; address = refl; bytes_ok = sent.bytes }) h
 
-      marked_real : (p : Packet) → PacketOk w.nodes gs p → IsReal (marked (is_some p.place) p.to w) gs p.to (event.Datagram (address_of p.from) p.bytes)
-      marked_real p sent = record { from = p.from; number = sent.from; address = refl; bytes_ok = sent.bytes }
-
-  -- a packet that may be delivered is one that was sent, and its node is declared
+  -- what may be delivered is a packet that was sent, and its node is declared
   delivers_ok : (l : Line) (x : Lined) (o : Option Packet) → ((p : Packet) → o ≡ Some p → PacketOk w.nodes gs p) → delivers w number o ≡ Ok x
       → LineOk number w gs l x
-  unfolding delivers delivers_it arrival
+  unfolding delivers delivers_it arrival addressee_of
   delivers_ok l x None sent h = absurd (cc)
-  delivers_ok l x (Some p) sent h = by (not (is_some (at w.nodes p.to))) (is_next w.delivered p.to p.place) h
+  delivers_ok l x (Some p) sent h = by (at w.nodes p.to) refl h
     where
-      by : (a b : Bool) → delivers_it w number (cond a (Err why.Node) (cond b (Ok p) (Err why.Order))) ≡ Ok x → LineOk number w gs l x
-      by true b h = absurd (cc)
-      by false false h = absurd (cc)
-      by false true h = arrives_ok l x p (sent p refl) h
+      by : (o : Option Node) → at w.nodes p.to ≡ o → delivers_it w number (addressee_of p o) ≡ Ok x → LineOk number w gs l x
+      by None is h = absurd (cc)
+      by (Some node) is h = arrives_ok l x p node is (sent p refl) (refused_by p node p.origin) h
 
   pub line_ok : (x : Lined) (l : Line) → FitsLine l → line w number l ≡ Ok x → LineOk number w gs l x
   unfolding line
@@ -313,22 +306,25 @@ module _ (codecs : Codecs) (laws : StepLaws) (number : ℕ) (w : World) (gs : Li
   line_ok x (Lns n) fits h = added_ok number w gs holds (Lns n) n role.Lns 0 (omega (arith, fits.1)) x h
   line_ok x (OpenUp n) fits h =
       stepped_ok codecs laws number w gs holds below (OpenUp n) x n event.OpenTunnel None (lac_at (at w.nodes n))
-      (λ node e. ((is_lac_at (at w.nodes n) node e).0, no_frame number n node.end.role event.OpenTunnel (OpenUp n) tt)) tt h
+      (λ node e. (is_there w n node (is_lac_at (at w.nodes n) node e).0, no_frame number n node.end.role event.OpenTunnel (OpenUp n) tt)) tt h
   line_ok x (Ring n port) fits h =
       stepped_ok codecs laws number w gs holds below (Ring n port) x n (event.Ring port) None (lac_at (at w.nodes n))
-      (λ node e. ((is_lac_at (at w.nodes n) node e).0, no_frame number n node.end.role (event.Ring port) (Ring n port) tt)) tt h
+      (λ node e. (is_there w n node (is_lac_at (at w.nodes n) node e).0, no_frame number n node.end.role (event.Ring port) (Ring n port) tt)) tt h
   line_ok x (FromSub n session frame) fits h =
       stepped_ok codecs laws number w gs holds below (FromSub n session frame) x n (event.Payload session frame) None
       (with_call session (lac_at (at w.nodes n)))
       (λ node e.
       let is = is_lac_at (at w.nodes n) node (has_call session (lac_at (at w.nodes n)) node e) in
-      (is.0, from_sub number n node.end.role session frame is.1))
+      (is_there w n node is.0, from_sub number n node.end.role session frame is.1))
       tt h
   line_ok x (Down n session frame) fits h =
       stepped_ok codecs laws number w gs holds below (Down n session frame) x n (event.Lower session frame) None (with_call session (lns_at (at w.nodes n)))
       (λ node e.
       let is = is_lns_at (at w.nodes n) node (has_call session (lns_at (at w.nodes n)) node e) in
-      (is.0, down_to number n node.end.role session frame is.1))
+      (is_there w n node is.0, down_to number n node.end.role session frame is.1))
       tt h
   line_ok x (Deliver k) fits h =
-      delivers_ok (Deliver k) x (slice_get w.packets (k - 1)) (λ p e. packet_at (PacketOk w.nodes gs) w.packets (k - 1) p e holds.packets) h
+      delivers_ok (Deliver k) x (slice_get w.packets (k - 1)) (λ p e. all_at (PacketOk w.nodes gs) w.packets (k - 1) p e holds.packets) h
+  line_ok x (Tick n milliseconds) fits h =
+      stepped_ok codecs laws number w gs holds below (Tick n milliseconds) x n event.Tick None (later milliseconds (declared (at w.nodes n)))
+      (λ node e. (is_later w n milliseconds (at w.nodes n) node refl e, no_frame number n node.end.role event.Tick (Tick n milliseconds) tt)) tt h

@@ -1,19 +1,22 @@
--- What each move leaves, and the letters that it gives.
-use Rattle.std.proofs.Common.{◌≡◌, inl, ⊎_elim, ℕ, ◌+◌, ◌<◌, ◌≤◌, true, [], length, refl, sym, ap, ◌∙◌, subst, Some, arith, List, Ok}
+-- What each move leaves: the letters that its tunnel keeps may be read, and its calls have their mates.
+use Rattle.std.proofs.Common.{◌≡◌, ◌⊎◌, inl, inr, ⊎_elim, ℕ, ◌+◌, ◌<◌, ◌≤◌, Bool, true, false, cond, List, [], ◌∷◌, ◌++◌, length, refl, sym, ap, ◌∙◌, subst, Some, arith, Ok, None}
 use Rattle.std.proofs.lemmas.Bool.{true≢false}
 use Rattle.std.proofs.lemmas.Option.{none-some}
 use Rattle.std.proofs.lemmas.List.{length-append}
 use Rattle.std.proofs.lemmas.Fmt.{length-decimal-le}
 use Rattle.std.specs.Fmt.{decimal}
-use Rattle.std.specs.List.{AllByRecursion}
+use Rattle.std.specs.Prelude.{◌==◌}
 use Rattle.id_source.specs.Spaces.{Space, draws}
 use Rattle.protocol_model.specs.declared.tunnel.CallPlace.{CallPlace}
-use Rattle.id_table.specs.Ids.{at, put, at-none}
-use Rattle.id_table.specs.Order.{at_new, at_other, found_put}
-use Rattle.control_message.specs.declared.message.Message.TheVariants.{Sccrq, Sccrp, Icrq, Icrp}
+use Rattle.id_table.specs.Ids.{at, put, without, at-none}
+use Rattle.id_table.specs.Order.{Ascends, ascends-empty, ascends-put, at_new, at_other, found_put}
+use Rattle.wire_base.specs.declared.letter.Letter.{Letter}
+use Rattle.control_message.specs.declared.message.Message.{Message}
+use Rattle.control_message.specs.declared.message.Message.TheVariants.{Sccrq, Sccrp, Scccn, Hello, Icrq, Icrp, Cdn}
 use Rattle.control_message.specs.Pairs.{IsWritten, IsWrittenOpening}
 use Rattle.call_fsm.specs.declared.table.CallEvent.TheVariants as call_event
-use Rattle.tunnel_fsm.specs.declared.table.TunnelState.TheVariants.{WaitCtlReply, WaitCtlConn}
+use Rattle.tunnel_fsm.specs.declared.table.TunnelState.TheVariants.{WaitCtlReply, WaitCtlConn, Established}
+use Rattle.control_channel.specs.Numbers.{count_acked, learnt_by}
 use Rattle.protocol_model.specs.declared.event.Event.{Event}
 use Rattle.protocol_model.specs.declared.moves.Opened.{Opened}
 use Rattle.protocol_model.specs.declared.moves.Accepted.{Accepted}
@@ -25,6 +28,13 @@ use Rattle.protocol_model.specs.declared.moves.Replied.{Replied}
 use Rattle.protocol_model.specs.declared.moves.FirstUp.{FirstUp}
 use Rattle.protocol_model.specs.declared.moves.SecondUp.{SecondUp}
 use Rattle.protocol_model.specs.declared.moves.TookPlain.{TookPlain}
+use Rattle.protocol_model.specs.declared.moves.NrRead.{NrRead}
+use Rattle.protocol_model.specs.declared.moves.LetGo.{LetGo}
+use Rattle.protocol_model.specs.declared.moves.EndTold.{EndTold}
+use Rattle.protocol_model.specs.declared.moves.EndHeard.{EndHeard}
+use Rattle.protocol_model.specs.declared.moves.EndSilent.{EndSilent}
+use Rattle.protocol_model.specs.declared.moves.Greeted.{Greeted}
+use Rattle.protocol_model.specs.declared.moves.Repeated.{Repeated}
 use Rattle.protocol_model.specs.declared.moves.Move.{Move}
 use Rattle.protocol_model.specs.declared.moves.Move.TheVariants as move
 use Rattle.protocol_model.specs.declared.tunnel.Call.{Call}
@@ -34,16 +44,16 @@ use Rattle.protocol_model.specs.declared.tunnel.Role.{Role}
 use Rattle.protocol_model.specs.declared.tunnel.Role.TheVariants.{Lac, Lns}
 use Rattle.protocol_model.specs.Names.{node_of, host_name, calling_number}
 use Rattle.protocol_model.specs.Calls.{advanced, rung, asked_for, is_up}
-use Rattle.protocol_model.specs.Turn.{Tunnel, counts_sent, counts_taken, opening_of, request_of}
+use Rattle.protocol_model.specs.Turn.{Tunnel, letter_of, counts_given, counts_taken, learns_window, opening_of, request_of, connection}
 use Rattle.protocol_model.specs.End.{End, new_place}
 use Rattle.protocol_model.specs.World.{World, Node, with_birth, is_born, birth_of, moved}
-use Rattle.step_laws.specs.Letters.{letters_of}
-use Rattle.step_laws.specs.Moves.{with_tunnel, new_tunnel, Opens, Accepts, Connects, Confirms, Adds as AddsCall, Requests, Replies, ComesUpFirst, ComesUpSecond, TakesPlain, Does}
-use Rattle.frame_laws.proofs.Facts.{Nodes, Born, Plays, Grows, same_nodes, Mates, swapped, KnowsItsMate, CallOk, call_later, CallsOk, TunnelOk}
+use Rattle.step_laws.specs.Moves.{with_tunnel, with_letter, new_tunnel, begun, Opens, Accepts, Connects, Confirms, Adds as AddsCall, Requests, Replies, ComesUpFirst, ComesUpSecond, TellsEnd, HearsEnd, EndsSilently, Clears, Greets, TakesPlain, Reads, LetsGo, Repeats, without_call, Does}
+use Rattle.frame_laws.proofs.Tables.{ascends_without, found_without}
+use Rattle.frame_laws.proofs.Facts.{Nodes, Born, Plays, Grows, same_nodes, Mates, swapped, NamesItsCall, KnowsItsMate, CallOk, call_later, CallsOk, LetterOk, LettersOk, letters_later, TunnelOk, tunnel_later, all_push, all_drop}
 use Rattle.frame_laws.proofs.Changes.{next_birth, some_birth, with_one, born_nodes, born_packets, born_count, made_count, made_nodes, made_packets, Changed, birth_is, plays_at, grows, Adds, NextBirth, SameBirth}
 use Rattle.frame_laws.proofs.Births.{not_lns, counted_after}
 use Rattle.frame_laws.proofs.Rows.{request_row, reply_row, second_row, rung_row}
-use Rattle.frame_laws.proofs.Leads.{draw_is, next_is, Heard, heard_letter, GoesTo, At, Leads, LetterOk, Sets, calls_put, end_put, goes_put, goes_there}
+use Rattle.frame_laws.proofs.Leads.{draw_is, next_is, Heard, heard_letter, At, Leads, Sets, calls_put, end_put}
 
 -- ---- messages that are written
 
@@ -71,20 +81,42 @@ opening_written r c local lt some fits =
 request_written : ((port : ℕ) → length (calling_number port) ≡ 12) → (s port : ℕ) → s < 65536 → IsWritten (request_of s port)
 request_written digits s port fits = (omega arith, omega arith, (let d = digits port in omega arith))
 
-asked_remote : (r : Role) (remote : ℕ) → (asked_for r remote).remote ≡ remote
+asked_remote : (r : Role) (remote moment : ℕ) → (asked_for r remote moment).remote ≡ remote
 unfolding asked_for advanced
-asked_remote r remote = refl
+asked_remote r remote moment = refl
+
+rung_remote : (r : Role) (port moment : ℕ) → (rung r port moment).remote ≡ 0
+unfolding rung advanced
+rung_remote r port moment = refl
 
 no_calls : (ns : Nodes) (n : ℕ) (r : Role) (bound peer : ℕ) → CallsOk ns n r bound peer []
 no_calls ns n r bound peer s c f = absurd (none-some c (sym (at-none s) ∙ f))
 
+-- the ids of a control stay when the peer's window becomes known
+record SameIds (c d : Control) : Type 0 where
+  local : d.local ≡ c.local
+  peer : d.peer ≡ c.peer
+  remote : d.remote ≡ c.remote
+
+learnt : (window : ℕ) (c : Control) → SameIds c (learns_window window c)
+learnt window c = by (window == 0)
+  where
+    by : (none : Bool) → SameIds c (cond none c (record c { channel = learnt_by c.channel window }))
+    by true = record { local = refl; peer = refl; remote = refl }
+    by false = record { local = refl; peer = refl; remote = refl }
+
+-- one more letter is given
+one_more : (ns : Nodes) (n peer : ℕ) (ls : List Letter) → LettersOk ns n peer ls → (session : ℕ) (m : Message) → session < 65536 → IsWritten m
+    → NamesItsCall ns n (node_of peer) session m → LettersOk ns n peer (ls ++ letter_of session m ∷ [])
+one_more ns n peer ls olds session m fits written names =
+    all_push (LetterOk ns n peer) ls (letter_of session m) olds (record { message = m; spelt = refl; session = fits; written = written; names = names })
+
 module _ (digits : (port : ℕ) → length (calling_number port) ≡ 12) (n : ℕ) (z : End) (v : World) (x : End)
     (here : At n z v x) (ev : Event) (heard : Heard v.nodes n ev) where
   -- what a move leads to
-  pub record Led (w : World) (y : End) (m : Move) : Type 0 where
+  pub record Led (w : World) (y : End) : Type 0 where
     pub at_end : At n z w y
     pub leads : Leads n v w x y
-    pub letters : AllByRecursion (LetterOk w.nodes n y) (letters_of y.role y.config m)
 
   role_here : (r : Role) → x.role ≡ r → here.node.end.role ≡ r
   role_here r h = ap (λ (e : End). e.role) here.end_is ∙ here.role ∙ h
@@ -94,29 +126,23 @@ module _ (digits : (port : ℕ) → length (calling_number port) ≡ 12) (n : �
 
   -- ---- nothing changes
 
-  led_same : (y : End) (m : Move) → y ≡ x → ((r : Role) (c : Config) → letters_of r c m ≡ []) → Led v y m
-  led_same y m same none = subst (λ e. Led v e m) (sym same) (record {
+  led_same : (y : End) → y ≡ x → Led v y
+  led_same y same = subst (λ e. Led v e) (sym same) (record {
     at_end = here;
     leads = record {
       grows = same_nodes v.nodes;
       others = λ q o. refl;
       packets = refl;
-      goes = λ i p g. g;
-      role = refl;
-      config = refl;
       born = omega arith;
       rises = omega arith;
       counted = λ few had. had;
     };
-    letters = subst (λ ls. AllByRecursion (LetterOk v.nodes n x) ls) (sym (none x.role x.config)) tt;
   })
 
   -- ---- a tunnel changes, and no call is born
 
-  led_still : (y : End) (i : ℕ) (t : Tunnel) (m : Move) → Sets x y i t → y.session_ids.next ≡ x.session_ids.next
-      → ((u : Tunnel) → at x.tunnels i ≡ Some u → u.control.peer ≡ t.control.peer) → TunnelOk v.nodes n y i t
-      → AllByRecursion (LetterOk v.nodes n y) (letters_of y.role y.config m) → Led v y m
-  led_still y i t m sets next same ok letters = record {
+  led_still : (y : End) (i : ℕ) (t : Tunnel) → Sets x y i t → y.session_ids.next ≡ x.session_ids.next → TunnelOk v.nodes n y i t → Led v y
+  led_still y i t sets next ok = record {
     at_end = record {
       node = here.node;
       is = here.is;
@@ -129,14 +155,10 @@ module _ (digits : (port : ℕ) → length (calling_number port) ≡ 12) (n : �
       grows = same_nodes v.nodes;
       others = λ q o. refl;
       packets = refl;
-      goes = goes_put x y i t sets same;
-      role = sets.role;
-      config = sets.config;
       born = omega (arith, next);
       rises = omega (arith, next);
       counted = λ few had. had;
     };
-    letters = letters;
   }
 
   -- the end with a tunnel that is new
@@ -157,54 +179,50 @@ module _ (digits : (port : ℕ) → length (calling_number port) ≡ 12) (n : �
         most = here.end.most;
       }
 
-  opened_led : (m : Opened) (y : End) → Opens x m y → Led v y (move.Opened m)
-  opened_led m y h =
+  opened_led : (moment : ℕ) (m : Opened) (y : End) → Opens x moment m y → Led v y
+  opened_led moment m y h =
       let d = draw_is x.tunnel_ids m.tunnel h.drawn in
       let first = here.end.first in
       let last = here.end.last in
       let le = d.1 in
-      let t = new_tunnel m.tunnel m.peer 0 WaitCtlReply 1 0 in
+      let written = opening_written x.role x.config m.tunnel here.end.number (omega (arith, d.0)) (omega arith) in
+      let t = with_letter 0 (Sccrq (opening_of x.role x.config m.tunnel)) (new_tunnel (begun m.tunnel m.peer 0 WaitCtlReply moment)) in
       let w = with_new (record x.tunnel_ids { next = m.tunnel + 1 }) m.tunnel t in
       let same : y ≡ w = h.after ∙ ap (λ s. with_new s m.tunnel t) (next_is x.tunnel_ids m.tunnel h.drawn) in
       let sets = sets_new m.tunnel t h.drawn in
-      subst (λ e. Led v e (move.Opened m)) (sym same)
-      (led_still w m.tunnel t (move.Opened m) sets refl
-      (λ u f. absurd (let k = (here.end.tunnels m.tunnel u f).drawn in omega (arith, d.0)))
-      (record { local = refl; drawn = omega arith; remote = omega arith; calls = no_calls v.nodes n x.role x.session_ids.next m.peer }) (
-        record {
-          written = opening_written x.role x.config m.tunnel here.end.number (omega (arith, d.0)) (omega arith);
-          session = omega arith;
-          peer = m.peer;
-          goes = goes_there x w m.tunnel t sets;
-          names = tt;
-        },
-        tt,
-      ))
+      subst (λ e. Led v e) (sym same)
+      (led_still w m.tunnel t sets refl (record {
+        local = refl;
+        drawn = omega arith;
+        remote = omega arith;
+        letters = one_more v.nodes n m.peer [] tt 0 (Sccrq (opening_of x.role x.config m.tunnel)) (omega arith) written tt;
+        calls = no_calls v.nodes n x.role x.session_ids.next m.peer;
+        order = ascends-empty [] refl;
+      }))
 
-  accepted_led : (m : Accepted) (y : End) → Accepts x ev m y → Led v y (move.Accepted m)
-  accepted_led m y h =
+  accepted_led : (moment : ℕ) (m : Accepted) (y : End) → Accepts x moment ev m y → Led v y
+  accepted_led moment m y h =
       let d = draw_is x.tunnel_ids m.tunnel h.drawn in
       let first = here.end.first in
       let last = here.end.last in
       let le = d.1 in
-      let t = new_tunnel m.tunnel m.peer m.remote WaitCtlConn 1 1 in
+      let written = opening_written x.role x.config m.tunnel here.end.number (omega (arith, d.0)) (omega arith) in
+      let c = counts_taken (learns_window m.window (begun m.tunnel m.peer m.remote WaitCtlConn moment)) in
+      let ids = learnt m.window (begun m.tunnel m.peer m.remote WaitCtlConn moment) in
+      let t = with_letter 0 (Sccrp (opening_of x.role x.config m.tunnel)) (new_tunnel c) in
       let w = with_new (record x.tunnel_ids { next = m.tunnel + 1 }) m.tunnel t in
       let same : y ≡ w = h.after ∙ ap (λ s. with_new s m.tunnel t) (next_is x.tunnel_ids m.tunnel h.drawn) in
       let sets = sets_new m.tunnel t h.drawn in
       let fits = (heard_letter v.nodes n ev heard m.peer h.hears.0 (Sccrq h.opening) h.hears.1).0.tunnel in
-      subst (λ e. Led v e (move.Accepted m)) (sym same)
-      (led_still w m.tunnel t (move.Accepted m) sets refl
-      (λ u f. absurd (let k = (here.end.tunnels m.tunnel u f).drawn in omega (arith, d.0)))
-      (record { local = refl; drawn = omega arith; remote = rw h.remote fits; calls = no_calls v.nodes n x.role x.session_ids.next m.peer }) (
-        record {
-          written = opening_written x.role x.config m.tunnel here.end.number (omega (arith, d.0)) (omega arith);
-          session = omega arith;
-          peer = m.peer;
-          goes = goes_there x w m.tunnel t sets;
-          names = tt;
-        },
-        tt,
-      ))
+      subst (λ e. Led v e) (sym same)
+      (led_still w m.tunnel t sets refl (record {
+        local = ids.local;
+        drawn = omega arith;
+        remote = rw (ids.remote, h.remote) fits;
+        letters = one_more v.nodes n c.peer [] tt 0 (Sccrp (opening_of x.role x.config m.tunnel)) (omega arith) written tt;
+        calls = no_calls v.nodes n x.role x.session_ids.next c.peer;
+        order = ascends-empty [] refl;
+      }))
 
   -- an end that differs from this one in a tunnel alone, and in what the data plane sees
   sets_tunnel : (places : List (ℕ × CallPlace)) (i : ℕ) (t : Tunnel) → Sets x (record (with_tunnel x i t) { calls = places }) i t
@@ -219,106 +237,195 @@ module _ (digits : (port : ℕ) → length (calling_number port) ≡ 12) (n : �
     most = here.end.most;
   }
 
-  -- the tunnel itself goes on, to the same peer
-  control_led : (y : End) (i : ℕ) (t : Tunnel) (c : Control) (m : Move) → at x.tunnels i ≡ Some t → y ≡ with_tunnel x i (record t { control = c })
-      → c.local ≡ t.control.local → c.peer ≡ t.control.peer → c.remote < 65536
-      → (let w = with_tunnel x i (record t { control = c }) in GoesTo w i c.peer → AllByRecursion (LetterOk v.nodes n w) (letters_of w.role w.config m))
-      → Led v y m
-  control_led y i t c m there same local peer remote letters =
-      let u : Tunnel = record t { control = c } in
-      let w = with_tunnel x i u in
+  -- the tunnel itself goes on, to the same peer, and keeps these letters
+  control_led : (y : End) (i : ℕ) (t : Tunnel) (c : Control) (ls : List Letter) → at x.tunnels i ≡ Some t
+      → y ≡ with_tunnel x i (record t { control = c; letters = ls }) → c.local ≡ t.control.local → c.peer ≡ t.control.peer → c.remote < 65536
+      → LettersOk v.nodes n t.control.peer ls → Led v y
+  control_led y i t c ls there same local peer remote letters =
+      let u : Tunnel = record t { control = c; letters = ls } in
       let o = here.end.tunnels i t there in
-      let sets : Sets x w i u = sets_tunnel x.calls i u in
-      subst (λ e. Led v e m) (sym same)
-      (led_still w i u m sets refl
-      (λ q f. (let k : Some t ≡ Some q = sym there ∙ f in let g : t ≡ q = cc in rw (← g) (sym peer)))
-      (record { local = local ∙ o.local; drawn = o.drawn; remote = remote; calls = rw peer o.calls })
-      (letters (goes_there x w i u sets)))
+      subst (λ e. Led v e) (sym same)
+      (led_still (with_tunnel x i u) i u (sets_tunnel x.calls i u) refl
+      (record { local = local ∙ o.local; drawn = o.drawn; remote = remote; letters = rw peer letters; calls = rw peer o.calls; order = o.order }))
 
-  connected_led : (m : Connected) (y : End) → Connects x ev m y → Led v y (move.Connected m)
+  -- the letters of a tunnel, with one more
+  more_letters : (i : ℕ) (t : Tunnel) → at x.tunnels i ≡ Some t → (session : ℕ) (m : Message) → session < 65536 → IsWritten m
+      → NamesItsCall v.nodes n (node_of t.control.peer) session m → LettersOk v.nodes n t.control.peer (t.letters ++ letter_of session m ∷ [])
+  more_letters i t there session m fits written names =
+      one_more v.nodes n t.control.peer t.letters (here.end.tunnels i t there).letters session m fits written names
+
+  connected_led : (m : Connected) (y : End) → Connects x ev m y → Led v y
   connected_led m y h =
       let fits = (heard_letter v.nodes n ev heard h.tunnel.control.peer h.hears.0 (Sccrp h.opening) h.hears.1.hears).0.tunnel in
-      control_led y m.tunnel h.tunnel _ (move.Connected m) h.there h.after refl refl (rw h.remote fits)
-      (λ g. (record { written = tt; session = omega arith; peer = h.tunnel.control.peer; goes = g; names = tt }, tt))
+      let ids = learnt m.window (record h.tunnel.control { remote = m.remote; state = Established }) in
+      control_led y m.tunnel h.tunnel _ _ h.there h.after ids.local ids.peer (rw (ids.remote, h.remote) fits)
+      (more_letters m.tunnel h.tunnel h.there 0 Scccn (omega arith) tt tt)
 
-  confirmed_led : (m : Confirmed) (y : End) → Confirms x ev m y → Led v y (move.Confirmed m)
-  confirmed_led m y h =
-      control_led y m.tunnel h.tunnel _ (move.Confirmed m) h.there h.after refl refl (here.end.tunnels m.tunnel h.tunnel h.there).remote (λ g. tt)
+  -- its ids and its letters stay
+  stays_led : (y : End) (i : ℕ) (t : Tunnel) (c : Control) → at x.tunnels i ≡ Some t → y ≡ with_tunnel x i (record t { control = c })
+      → c.local ≡ t.control.local → c.peer ≡ t.control.peer → c.remote ≡ t.control.remote → Led v y
+  stays_led y i t c there same local peer remote =
+      let o = here.end.tunnels i t there in control_led y i t c t.letters there same local peer (rw remote o.remote) o.letters
 
-  plain_led : (m : TookPlain) (y : End) → TakesPlain x ev m y → Led v y (move.TookPlain m)
-  plain_led m y h = control_led y m.tunnel h.tunnel _ (move.TookPlain m) h.there h.after refl refl (here.end.tunnels m.tunnel h.tunnel h.there).remote (λ g. tt)
+  confirmed_led : (m : Confirmed) (y : End) → Confirms x ev m y → Led v y
+  confirmed_led m y h = stays_led y m.tunnel h.tunnel _ h.there h.after refl refl refl
 
-  -- a call of the tunnel goes on
-  call_led : (y : End) (i : ℕ) (t : Tunnel) (c : Control) (s : ℕ) (k : Call) (m : Move) → at x.tunnels i ≡ Some t
-      → Sets x y i (record { control = c; calls = put t.calls s k }) → y.session_ids.next ≡ x.session_ids.next → c.local ≡ t.control.local
-      → c.peer ≡ t.control.peer → c.remote ≡ t.control.remote → CallOk v.nodes n x.role x.session_ids.next t.control.peer s k
-      → (GoesTo y i c.peer → AllByRecursion (LetterOk v.nodes n y) (letters_of y.role y.config m)) → Led v y m
-  call_led y i t c s k m there sets next local peer remote call letters =
-      let u : Tunnel = record { control = c; calls = put t.calls s k } in
+  plain_led : (m : TookPlain) (y : End) → TakesPlain x ev m y → Led v y
+  plain_led m y h = stays_led y m.tunnel h.tunnel _ h.there h.after refl refl refl
+
+  -- what is acknowledged isn't kept
+  read_led : (moment : ℕ) (m : NrRead) (y : End) → Reads x moment ev m y → Led v y
+  read_led moment m y h =
+      let o = here.end.tunnels m.tunnel h.tunnel h.there in
+      control_led y m.tunnel h.tunnel _ _ h.there h.after refl refl o.remote
+      (all_drop (LetterOk v.nodes n h.tunnel.control.peer) (count_acked h.tunnel.control.channel m.nr) h.tunnel.letters o.letters)
+
+  let_go_led : (moment : ℕ) (m : LetGo) (y : End) → LetsGo x moment m y → Led v y
+  let_go_led moment m y h = stays_led y m.tunnel h.tunnel _ h.there h.after refl refl refl
+
+  repeated_led : (moment : ℕ) (m : Repeated) (y : End) → Repeats x moment m y → Led v y
+  repeated_led moment m y h = stays_led y m.tunnel h.tunnel _ h.there h.after refl refl refl
+
+  greeted_led : (m : Greeted) (y : End) → Greets x m y → Led v y
+  greeted_led m y h =
+      let o = here.end.tunnels m.tunnel h.tunnel h.there in
+      control_led y m.tunnel h.tunnel _ _ h.there h.after refl refl o.remote (more_letters m.tunnel h.tunnel h.there 0 Hello (omega arith) tt tt)
+
+  -- the tunnel's calls change
+  calls_led : (y : End) (i : ℕ) (t : Tunnel) (c : Control) (ls : List Letter) (calls : List (ℕ × Call)) → at x.tunnels i ≡ Some t
+      → Sets x y i (record { control = c; letters = ls; calls = calls }) → y.session_ids.next ≡ x.session_ids.next → c.local ≡ t.control.local
+      → c.peer ≡ t.control.peer → c.remote ≡ t.control.remote → LettersOk v.nodes n t.control.peer ls
+      → CallsOk v.nodes n x.role x.session_ids.next t.control.peer calls → Ascends calls → Led v y
+  calls_led y i t c ls calls there sets next local peer remote letters are order =
+      let u : Tunnel = record { control = c; letters = ls; calls = calls } in
       let o = here.end.tunnels i t there in
-      let calls = calls_put v.nodes n x.role x.session_ids.next t.control.peer s k t.calls o.calls call in
-      led_still y i u m sets next
-      (λ q f. (let k : Some t ≡ Some q = sym there ∙ f in let g : t ≡ q = cc in rw (← g) (sym peer)))
+      led_still y i u sets next
       (record {
         local = local ∙ o.local;
         drawn = (let d = o.drawn in let le = sets.next in omega arith);
         remote = rw remote o.remote;
-        calls = rw (sets.role, next, peer) calls;
+        letters = rw peer letters;
+        calls = rw (sets.role, next, peer) are;
+        order = order;
       })
-      (letters (goes_there x y i u sets))
 
-  requested_led : (m : Requested) (y : End) → Requests x m y → Led v y (move.Requested m)
+  -- a call of the tunnel goes on
+  call_led : (y : End) (i : ℕ) (t : Tunnel) (c : Control) (ls : List Letter) (s : ℕ) (k : Call) → at x.tunnels i ≡ Some t
+      → Sets x y i (record { control = c; letters = ls; calls = put t.calls s k }) → y.session_ids.next ≡ x.session_ids.next → c.local ≡ t.control.local
+      → c.peer ≡ t.control.peer → c.remote ≡ t.control.remote → LettersOk v.nodes n t.control.peer ls
+      → CallOk v.nodes n x.role x.session_ids.next t.control.peer s k → Led v y
+  call_led y i t c ls s k there sets next local peer remote letters call =
+      let o = here.end.tunnels i t there in
+      calls_led y i t c ls (put t.calls s k) there sets next local peer remote letters
+      (calls_put v.nodes n x.role x.session_ids.next t.control.peer s k t.calls o.calls call) (ascends-put s k t.calls o.order)
+
+  requested_led : (moment : ℕ) (m : Requested) (y : End) → Requests x moment m y → Led v y
   unfolding advanced
-  requested_led m y h =
+  requested_led moment m y h =
       let row = request_row x.role h.call.state h.row in
       let o = (here.end.tunnels m.tunnel h.tunnel h.there).calls m.session h.call h.waits in
+      let names : NamesItsCall v.nodes n (node_of h.tunnel.control.peer) 0 (request_of m.session m.port) = ((o.birth, o.some, o.born), plays Lac row.0) in
       rw h.after
-      (call_led _ m.tunnel h.tunnel (counts_sent h.tunnel.control) m.session (advanced x.role call_event.TunnelOpen h.call) (move.Requested m) h.there
+      (call_led _ m.tunnel h.tunnel (counts_given h.tunnel.control) _ m.session (advanced x.role call_event.TunnelOpen moment h.call) h.there
       (sets_tunnel _ m.tunnel _)
       refl refl refl refl
+      (more_letters m.tunnel h.tunnel h.there 0 (request_of m.session m.port) (omega arith) (request_written digits m.session m.port h.session) names)
       (record {
         drawn = o.drawn;
         birth = o.birth;
         some = o.some;
         born = o.born;
+        remote = o.remote;
+        known = o.known;
         mate = λ k. ⊎_elim (λ a. absurd (not_lns x.role row.0 a)) (λ a. absurd (true≢false (sym a ∙ row.1))) k;
-      })
-      (λ g. (
-        record {
-          written = request_written digits m.session m.port h.session;
-          session = omega arith;
-          peer = h.tunnel.control.peer;
-          goes = g;
-          names = ((o.birth, o.some, o.born), plays Lac row.0);
-        },
-        tt,
-      )))
+      }))
 
-  first_led : (m : FirstUp) (y : End) → ComesUpFirst x ev m y → Led v y (move.FirstUp m)
+  first_led : (moment : ℕ) (m : FirstUp) (y : End) → ComesUpFirst x moment ev m y → Led v y
   unfolding advanced
-  first_led m y h =
+  first_led moment m y h =
       let s = heard_letter v.nodes n ev heard h.tunnel.control.peer m.session (Icrp m.remote) h.hears.hears in
       let o = (here.end.tunnels m.tunnel h.tunnel h.there).calls m.session h.call h.asked in
       let mates = swapped v.nodes (node_of h.tunnel.control.peer) m.remote n m.session s.1 in
-      let call = advanced x.role call_event.IcrpAcc (record h.call { remote = m.remote }) in
+      let call = advanced x.role call_event.IcrpAcc moment (record h.call { remote = m.remote }) in
       rw h.after
-      (call_led _ m.tunnel h.tunnel (counts_sent (counts_taken h.tunnel.control)) m.session call (move.FirstUp m) h.there
+      (call_led _ m.tunnel h.tunnel (counts_given (counts_taken h.tunnel.control)) _ m.session call h.there
       (sets_tunnel _ m.tunnel _)
       refl refl refl refl
-      (record { drawn = o.drawn; birth = o.birth; some = o.some; born = o.born; mate = λ k. (s.0.0, mates) })
-      (λ g. (record { written = (omega arith, omega arith, refl); session = s.0.0; peer = h.tunnel.control.peer; goes = g; names = tt }, tt)))
+      (more_letters m.tunnel h.tunnel h.there m.remote connection s.0.0 (omega arith, omega arith, refl) tt)
+      (record { drawn = o.drawn; birth = o.birth; some = o.some; born = o.born; remote = s.0.0; known = inr mates; mate = λ k. mates }))
 
-  second_led : (m : SecondUp) (y : End) → ComesUpSecond x ev m y → Led v y (move.SecondUp m)
+  second_led : (moment : ℕ) (m : SecondUp) (y : End) → ComesUpSecond x moment ev m y → Led v y
   unfolding advanced
-  second_led m y h =
-      let o = (here.end.tunnels m.tunnel h.tunnel h.there).calls m.session h.call h.made in
+  second_led moment m y h =
+      let t = here.end.tunnels m.tunnel h.tunnel h.there in
+      let o = t.calls m.session h.call h.made in
       let lns = second_row x.role h.call.state h.row in
       rw h.after
-      (call_led _ m.tunnel h.tunnel (counts_taken h.tunnel.control) m.session (advanced x.role call_event.IccnAcc h.call) (move.SecondUp m) h.there
+      (call_led _ m.tunnel h.tunnel (counts_taken h.tunnel.control) h.tunnel.letters m.session (advanced x.role call_event.IccnAcc moment h.call) h.there
       (sets_tunnel _ m.tunnel _)
-      refl refl refl refl
-      (record { drawn = o.drawn; birth = o.birth; some = o.some; born = o.born; mate = λ k. o.mate (inl lns) })
-      (λ g. tt))
+      refl refl refl refl t.letters
+      (record { drawn = o.drawn; birth = o.birth; some = o.some; born = o.born; remote = o.remote; known = o.known; mate = λ k. o.mate (inl lns) }))
+
+  -- ---- a call ends
+
+  -- a call of the tunnel isn't there any more
+  ended_led : (y : End) (i : ℕ) (t : Tunnel) (c : Control) (ls : List Letter) (s : ℕ) → at x.tunnels i ≡ Some t
+      → y ≡ without_call x i (record t { control = c; letters = ls }) s → c.local ≡ t.control.local → c.peer ≡ t.control.peer
+      → c.remote ≡ t.control.remote → LettersOk v.nodes n t.control.peer ls → Led v y
+  ended_led y i t c ls s there same local peer remote letters =
+      let o = here.end.tunnels i t there in
+      subst (λ e. Led v e) (sym same)
+      (calls_led _ i t c ls (without t.calls s) there (sets_tunnel _ i _) refl local peer remote letters
+      (λ q d f. o.calls q d (found_without t.calls s q d o.order f)) (ascends_without s t.calls o.order))
+
+  told_led : (m : EndTold) (y : End) → TellsEnd x m y → Led v y
+  told_led m y h =
+      let o = (here.end.tunnels m.tunnel h.tunnel h.there).calls m.session h.call h.live in
+      let names : NamesItsCall v.nodes n (node_of h.tunnel.control.peer) m.remote (Cdn m.session m.code None) =
+      ((o.birth, o.some, o.born), rw h.remote o.known) in
+      ended_led y m.tunnel h.tunnel (counts_given h.tunnel.control) _ m.session h.there h.after refl refl refl
+      (more_letters m.tunnel h.tunnel h.there m.remote (Cdn m.session m.code None) (rw h.remote o.remote) (h.session, h.code, tt) names)
+
+  heard_led : (m : EndHeard) (y : End) → HearsEnd x ev m y → Led v y
+  heard_led m y h =
+      ended_led y m.tunnel h.tunnel (counts_taken h.tunnel.control) h.tunnel.letters m.session h.there h.after refl refl refl
+      (here.end.tunnels m.tunnel h.tunnel h.there).letters
+
+  silent_led : (m : EndSilent) (y : End) → EndsSilently x m y → Led v y
+  silent_led m y h =
+      ended_led y m.tunnel h.tunnel h.tunnel.control h.tunnel.letters m.session h.there h.after refl refl refl
+      (here.end.tunnels m.tunnel h.tunnel h.there).letters
+
+  -- the tunnel isn't there any more
+  cleared_led : (i : ℕ) (y : End) → Clears x i y → Led v y
+  cleared_led i y h = subst (λ e. Led v e) (sym h.after) (record {
+    at_end = record {
+      node = here.node;
+      is = here.is;
+      end_is = here.end_is;
+      role = here.role;
+      end = record {
+        number = here.end.number;
+        first = here.end.first;
+        last = here.end.last;
+        first_session = here.end.first_session;
+        last_session = here.end.last_session;
+        most = here.end.most;
+        tunnels = λ j t f. tunnel_later v.nodes v.nodes (same_nodes v.nodes) n x _ j t refl (omega arith) (omega arith)
+            (here.end.tunnels j t (found_without x.tunnels i j t here.end.order f));
+        order = ascends_without i x.tunnels here.end.order;
+      };
+      births = here.births;
+    };
+    leads = record {
+      grows = same_nodes v.nodes;
+      others = λ q o. refl;
+      packets = refl;
+      born = omega arith;
+      rises = omega arith;
+      counted = λ few had. had;
+    };
+  })
 
   -- ---- a call is made, with its birth
 
@@ -356,10 +463,8 @@ module _ (digits : (port : ℕ) → length (calling_number port) ≡ 12) (n : �
     born_now : Born w.nodes n s b
     born_now = rw (bears.nodes, at_new v.nodes n new, at_new here.node.births s b) refl
 
-    led_birth : (y : End) (i : ℕ) (t : Tunnel) (m : Move) → Sets x y i t → y.session_ids.next ≡ s + 1
-        → ((u : Tunnel) → at x.tunnels i ≡ Some u → u.control.peer ≡ t.control.peer) → TunnelOk w.nodes n y i t
-        → AllByRecursion (LetterOk w.nodes n y) (letters_of y.role y.config m) → Led w y m
-    led_birth y i t m sets next same ok letters = record {
+    led_birth : (y : End) (i : ℕ) (t : Tunnel) → Sets x y i t → y.session_ids.next ≡ s + 1 → TunnelOk w.nodes n y i t → Led w y
+    led_birth y i t sets next ok = record {
       at_end = record {
         node = new;
         is = changed.is;
@@ -375,39 +480,39 @@ module _ (digits : (port : ℕ) → length (calling_number port) ≡ 12) (n : �
         grows = grown;
         others = changed.others;
         packets = bears.packets;
-        goes = goes_put x y i t sets same;
-        role = sets.role;
-        config = sets.config;
         born = (let few = bears.few in omega (arith, next, fresh));
         rises = omega (arith, next, fresh);
         counted = λ room had. counted_after v w.nodes w.born n here.node new changed (let most = here.end.most in omega (arith, room)) had bears.adds;
       };
-      letters = letters;
     }
 
     -- in a tunnel that is there
-    made_led : (y : End) (i : ℕ) (t : Tunnel) (c : Control) (k : Call) (m : Move) → at x.tunnels i ≡ Some t
-        → Sets x y i (record { control = c; calls = put t.calls s k }) → y.session_ids.next ≡ s + 1 → c.local ≡ t.control.local
-        → c.peer ≡ t.control.peer → c.remote ≡ t.control.remote
-        → (KnowsItsMate x.role k → (k.remote < 65536) × Mates w.nodes n s (node_of t.control.peer) k.remote)
-        → (GoesTo y i c.peer → AllByRecursion (LetterOk w.nodes n y) (letters_of y.role y.config m)) → Led w y m
-    made_led y i t c k m there sets next local peer remote mate letters =
-        let u : Tunnel = record { control = c; calls = put t.calls s k } in
+    made_led : (y : End) (i : ℕ) (t : Tunnel) (c : Control) (ls : List Letter) (k : Call) → at x.tunnels i ≡ Some t
+        → Sets x y i (record { control = c; letters = ls; calls = put t.calls s k }) → y.session_ids.next ≡ s + 1 → c.local ≡ t.control.local
+        → c.peer ≡ t.control.peer → c.remote ≡ t.control.remote → LettersOk w.nodes n t.control.peer ls
+        → k.remote < 65536 → (k.remote ≡ 0) ⊎ Mates w.nodes n s (node_of t.control.peer) k.remote
+        → (KnowsItsMate x.role k → Mates w.nodes n s (node_of t.control.peer) k.remote) → Led w y
+    made_led y i t c ls k there sets next local peer remote letters fits known mate =
+        let u : Tunnel = record { control = c; letters = ls; calls = put t.calls s k } in
         let o = here.end.tunnels i t there in
         let call : CallOk w.nodes n x.role (s + 1) t.control.peer s k =
-        record { drawn = omega arith; birth = b; some = bears.some; born = born_now; mate = mate } in
+        record { drawn = omega arith; birth = b; some = bears.some; born = born_now; remote = fits; known = known; mate = mate } in
         let olds : CallsOk w.nodes n x.role (s + 1) t.control.peer t.calls =
         λ q d f. call_later v.nodes w.nodes grown n x.role x.session_ids.next (s + 1) t.control.peer q d (omega (arith, fresh)) (o.calls q d f) in
         let calls = calls_put w.nodes n x.role (s + 1) t.control.peer s k t.calls olds call in
-        led_birth y i u m sets next
-        (λ q f. (let k : Some t ≡ Some q = sym there ∙ f in let g : t ≡ q = cc in rw (← g) (sym peer)))
+        led_birth y i u sets next
         (record {
           local = local ∙ o.local;
           drawn = (let d = o.drawn in let le = sets.next in omega arith);
           remote = rw remote o.remote;
+          letters = rw peer letters;
           calls = rw (sets.role, next, peer) calls;
+          order = ascends-put s k t.calls o.order;
         })
-        (letters (goes_there x y i u sets))
+
+    -- the letters that a tunnel had may still be read
+    old_letters : (i : ℕ) (t : Tunnel) → at x.tunnels i ≡ Some t → LettersOk w.nodes n t.control.peer t.letters
+    old_letters i t there = letters_later v.nodes w.nodes grown n t.control.peer t.letters (here.end.tunnels i t there).letters
 
   -- the end with a call that is made in a tunnel
   abbrev with_drawn : Space → ℕ → Tunnel → ℕ → End
@@ -429,13 +534,13 @@ module _ (digits : (port : ℕ) → length (calling_number port) ≡ 12) (n : �
         most = omega arith;
       }
 
-  added_led : (m : Added) (y : End) → AddsCall x ev m y → Led (is_born v n m.session) y (move.Added m)
-  added_led m y h =
+  added_led : (moment : ℕ) (m : Added) (y : End) → AddsCall x moment ev m y → Led (is_born v n m.session) y
+  added_led moment m y h =
       let d = draw_is x.session_ids m.session h.drawn in
       let last = here.end.last_session in
       let le = d.1 in
       let t = h.tunnel in
-      let u : Tunnel = record t { calls = put t.calls m.session (rung x.role m.port) } in
+      let u : Tunnel = record t { calls = put t.calls m.session (rung x.role m.port moment) } in
       let w : End = with_drawn (record x.session_ids { next = m.session + 1 }) m.tunnel u m.session in
       let same : y ≡ w = h.after ∙ ap (λ s. with_drawn s m.tunnel u m.session) (next_is x.session_ids m.session h.drawn) in
       let count = born_count v n m.session here.node here.is in
@@ -447,18 +552,19 @@ module _ (digits : (port : ℕ) → length (calling_number port) ≡ 12) (n : �
         adds = NextBirth m.session refl count;
         few = omega (arith, count);
       } in
-      subst (λ e. Led (is_born v n m.session) e (move.Added m)) (sym same)
-      (made_led (is_born v n m.session) m.session (next_birth v) bears w m.tunnel t t.control (rung x.role m.port) (move.Added m) h.there
+      subst (λ e. Led (is_born v n m.session) e) (sym same)
+      (made_led (is_born v n m.session) m.session (next_birth v) bears w m.tunnel t t.control t.letters (rung x.role m.port moment) h.there
       (sets_drawn m.session m.tunnel u h.drawn)
       refl refl refl refl
+      (old_letters (is_born v n m.session) m.session (next_birth v) bears m.tunnel t h.there)
+      (rw (rung_remote x.role m.port moment) (omega arith)) (inl (rung_remote x.role m.port moment))
       (λ k. ⊎_elim
       (λ a. absurd (not_lns x.role h.role a))
-      (λ (a : is_up (rung x.role m.port).state ≡ true). absurd (true≢false (sym (rw h.role at a) ∙ rung_row m.port)))
-      k)
-      (λ g. tt))
+      (λ (a : is_up (rung x.role m.port moment).state ≡ true). absurd (true≢false (sym (rw h.role at a) ∙ rung_row m.port moment)))
+      k))
 
-  replied_led : (m : Replied) (y : End) → Replies x ev m y → Led (with_birth v n m.session (birth_of v (node_of m.peer) m.remote)) y (move.Replied m)
-  replied_led m y h =
+  replied_led : (moment : ℕ) (m : Replied) (y : End) → Replies x moment ev m y → Led (with_birth v n m.session (birth_of v (node_of m.peer) m.remote)) y
+  replied_led moment m y h =
       let d = draw_is x.session_ids m.session h.drawn in
       let last = here.end.last_session in
       let first = here.end.first_session in
@@ -489,32 +595,41 @@ module _ (digits : (port : ℕ) → length (calling_number port) ≡ 12) (n : �
         mine = g.roles n Lns (plays Lns lns);
         its = g.roles (node_of t.control.peer) Lac s.1.1;
       } in
-      let c = counts_sent (counts_taken t.control) in
-      let u : Tunnel = record { control = c; calls = put t.calls m.session (asked_for x.role m.remote) } in
+      let c = counts_given (counts_taken t.control) in
+      let ls = t.letters ++ letter_of m.remote (Icrp m.session) ∷ [] in
+      let olds = old_letters v' m.session b bears m.tunnel t h.there in
+      let letters = one_more v'.nodes n t.control.peer t.letters olds m.remote (Icrp m.session) s.0.0 (omega arith, omega (arith, d.0)) mates in
+      let u : Tunnel = record { control = c; letters = ls; calls = put t.calls m.session (asked_for x.role m.remote moment) } in
       let w : End = with_drawn (record x.session_ids { next = m.session + 1 }) m.tunnel u m.session in
       let same : y ≡ w = h.after ∙ ap (λ s. with_drawn s m.tunnel u m.session) (next_is x.session_ids m.session h.drawn) in
-      subst (λ e. Led (with_birth v n m.session (birth_of v (node_of m.peer) m.remote)) e (move.Replied m)) (sym same)
-      (subst (λ q. Led (with_birth v n m.session q) w (move.Replied m)) (sym told)
-      (made_led v' m.session b bears w m.tunnel t c (asked_for x.role m.remote) (move.Replied m) h.there
+      subst (λ e. Led (with_birth v n m.session (birth_of v (node_of m.peer) m.remote)) e) (sym same)
+      (subst (λ q. Led (with_birth v n m.session q) w) (sym told)
+      (made_led v' m.session b bears w m.tunnel t c ls (asked_for x.role m.remote moment) h.there
       (sets_drawn m.session m.tunnel u h.drawn)
-      refl refl refl refl
-      (λ k. rw (asked_remote x.role m.remote) (s.0.0, mates))
-      (λ go. (record { written = (omega arith, omega (arith, d.0)); session = s.0.0; peer = t.control.peer; goes = go; names = mates }, tt))))
+      refl refl refl refl letters
+      (rw (asked_remote x.role m.remote moment) s.0.0) (rw (asked_remote x.role m.remote moment) (inr mates)) (λ k. rw (asked_remote x.role m.remote moment) mates)))
 
   -- each move
-  pub does_led : (m : Move) (y : End) → Does x ev m y → Led (moved n v m) y m
+  pub does_led : (moment : ℕ) (m : Move) (y : End) → Does x moment ev m y → Led (moved n v m) y
   unfolding moved
-  does_led (move.Opened m) y h = opened_led m y h
-  does_led (move.Accepted m) y h = accepted_led m y h
-  does_led (move.Connected m) y h = connected_led m y h
-  does_led (move.Confirmed m) y h = confirmed_led m y h
-  does_led (move.Added m) y h = added_led m y h
-  does_led (move.Requested m) y h = requested_led m y h
-  does_led (move.Replied m) y h = replied_led m y h
-  does_led (move.FirstUp m) y h = first_led m y h
-  does_led (move.SecondUp m) y h = second_led m y h
-  does_led (move.TookPlain m) y h = plain_led m y h
-  does_led (move.NrRead m) y h = led_same y (move.NrRead m) h.after (λ r c. refl)
-  does_led (move.Quiet i) y h = led_same y (move.Quiet i) h.after (λ r c. refl)
-  does_led (move.FrameSent m) y h = led_same y (move.FrameSent m) h.after (λ r c. refl)
-  does_led (move.FrameUp m) y h = led_same y (move.FrameUp m) h.after (λ r c. refl)
+  does_led moment (move.Opened m) y h = opened_led moment m y h
+  does_led moment (move.Accepted m) y h = accepted_led moment m y h
+  does_led moment (move.Connected m) y h = connected_led m y h
+  does_led moment (move.Confirmed m) y h = confirmed_led m y h
+  does_led moment (move.Added m) y h = added_led moment m y h
+  does_led moment (move.Requested m) y h = requested_led moment m y h
+  does_led moment (move.Replied m) y h = replied_led moment m y h
+  does_led moment (move.FirstUp m) y h = first_led moment m y h
+  does_led moment (move.SecondUp m) y h = second_led moment m y h
+  does_led moment (move.EndTold m) y h = told_led m y h
+  does_led moment (move.EndHeard m) y h = heard_led m y h
+  does_led moment (move.EndSilent m) y h = silent_led m y h
+  does_led moment (move.Cleared i) y h = cleared_led i y h
+  does_led moment (move.Greeted m) y h = greeted_led m y h
+  does_led moment (move.TookPlain m) y h = plain_led m y h
+  does_led moment (move.NrRead m) y h = read_led moment m y h
+  does_led moment (move.LetGo m) y h = let_go_led moment m y h
+  does_led moment (move.Repeated m) y h = repeated_led moment m y h
+  does_led moment (move.Quiet i) y h = led_same y h.after
+  does_led moment (move.FrameSent m) y h = led_same y h.after
+  does_led moment (move.FrameUp m) y h = led_same y h.after

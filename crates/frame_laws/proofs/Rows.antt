@@ -42,6 +42,6 @@ second_row Lac Established h = never h
 second_row Lns s h = refl
 
 -- a call that rings isn't up
-pub rung_row : (port : ℕ) → is_up (rung Lac port).state ≡ false
+pub rung_row : (port moment : ℕ) → is_up (rung Lac port moment).state ≡ false
 unfolding rung advanced call_row
-rung_row port = refl
+rung_row port moment = refl

@@ -4,10 +4,10 @@ use Rattle.std.proofs.lemmas.Option.{none-some}
 use Rattle.std.specs.Prelude.{slice_get}
 use Rattle.std.specs.List.{AllByRecursion}
 use Rattle.id_table.specs.Ids.{at-none}
-use Rattle.wire_base.specs.declared.why.Why.{Why}
 use Rattle.schedule_text.specs.declared.line.Line.{Line}
 use Rattle.schedule_text.specs.Grammar.{FitsLine, AreLines}
 use Rattle.protocol_model.specs.declared.tunnel.Role.TheVariants.{Lac}
+use Rattle.protocol_model.specs.declared.refusal.Refusal.{Refusal}
 use Rattle.protocol_model.specs.World.{Node, Deed, Lined, empty_world, line}
 use Rattle.protocol_model.specs.Run.{Run, empty_run, after_line, goes_on, run_from}
 use Rattle.frame_laws.specs.Codecs.{Codecs}
@@ -24,8 +24,8 @@ use Rattle.frame_laws.proofs.Worlds.{Below, LineGives, Goes, carried_later}
 use Rattle.frame_laws.proofs.Lines.{LineOk, line_ok}
 
 -- a run goes on where a line fits, and stays where it doesn't
-pub where_it_fits : (P : Run → Type 0) (rest : Run → Run) (r : Run) (number : ℕ) (x : Result Lined Why)
-    → ((fault : Option (ℕ × Why)) → P (record r { fault = fault })) → ((l : Lined) → x ≡ Ok l → P (rest (after_line r l)))
+pub where_it_fits : (P : Run → Type 0) (rest : Run → Run) (r : Run) (number : ℕ) (x : Result Lined Refusal)
+    → ((fault : Option (ℕ × Refusal)) → P (record r { fault = fault })) → ((l : Lined) → x ≡ Ok l → P (rest (after_line r l)))
     → P (goes_on rest r number x)
 unfolding goes_on
 where_it_fits P rest r number (Err w) stops more = stops (Some (number, w))
@@ -87,7 +87,7 @@ Ended r = (number : ℕ) × RunOk number r
 no_nodes : (i s x : ℕ) → Born empty_world.nodes i s x → None ≡ Some x
 no_nodes i s x h = sym (ap (λ (o : Option Node). birth_in_node o s) (at-none i)) ∙ h
 
-stopped : (number : ℕ) (r : Run) (fault : Option (ℕ × Why)) → RunOk number r → RunOk number (record r { fault = fault })
+stopped : (number : ℕ) (r : Run) (fault : Option (ℕ × Refusal)) → RunOk number r → RunOk number (record r { fault = fault })
 stopped number r fault ok = record { holds = ok.holds; lines = ok.lines; sent = ok.sent; carried = ok.carried }
 
 -- the lines of a text from a place on

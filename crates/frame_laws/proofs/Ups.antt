@@ -5,10 +5,10 @@ use Rattle.id_table.specs.Ids.{at}
 use Rattle.protocol_model.specs.declared.moves.Move.{Move}
 use Rattle.protocol_model.specs.declared.moves.Move.TheVariants as move
 use Rattle.protocol_model.specs.declared.out.Out.{Out}
-use Rattle.protocol_model.specs.declared.out.Out.TheVariants.{Send, Up, Drop, Cause}
+use Rattle.protocol_model.specs.declared.out.Out.TheVariants.{Send, Up, Gone, Drop, Cause}
 use Rattle.protocol_model.specs.declared.tunnel.Role.{Role}
 use Rattle.protocol_model.specs.Names.{node_of}
-use Rattle.protocol_model.specs.Texts.{Entry, Sends, HandsUp, Drops, Causes}
+use Rattle.protocol_model.specs.Texts.{Entry, Sends, HandsUp, Ends, Drops, Causes}
 use Rattle.protocol_model.specs.End.{Stepped}
 use Rattle.protocol_model.specs.World.{World, Sender, Deed, birth_in, birth_of, sent, shown, entry_of, entries_of}
 use Rattle.step_laws.specs.Ups.{ups_of_output, ups_of_move}
@@ -21,6 +21,7 @@ unfolding ups_in
 ups_in-append [] fs = refl
 ups_in-append (HandsUp line node session birth side frame ∷ es) fs = ap (λ ps. HandsUp line node session birth side frame ∷ ps) (ups_in-append es fs)
 ups_in-append (Sends line packet from to bytes ∷ es) fs = ups_in-append es fs
+ups_in-append (Ends line node session ∷ es) fs = ups_in-append es fs
 ups_in-append (Drops line node why ∷ es) fs = ups_in-append es fs
 ups_in-append (Causes line node cause ∷ es) fs = ups_in-append es fs
 
@@ -43,6 +44,7 @@ module _ (line n : ℕ) (r : Role) (sender : Option Sender) (v : World) where
   entries_told (Up session side frame ∷ os) w same =
       ap (λ es. HandsUp line n session (birth_of w n session) side frame ∷ es) (entries_told os w same)
       ∙ ap (λ (ns : Nodes). HandsUp line n session (birth_in (at ns n) session) side frame ∷ flat_map told (flat_map ups_of_output os)) same
+  entries_told (Gone session ∷ os) w same = entries_told os w same
   entries_told (Drop x ∷ os) w same = entries_told os w same
   entries_told (Cause x ∷ os) w same = entries_told os w same
 
@@ -59,8 +61,15 @@ module _ (line n : ℕ) (r : Role) (sender : Option Sender) (v : World) where
   deeds_told (move.Replied m ∷ ms) = deeds_told ms
   deeds_told (move.FirstUp m ∷ ms) = deeds_told ms
   deeds_told (move.SecondUp m ∷ ms) = deeds_told ms
+  deeds_told (move.EndTold m ∷ ms) = deeds_told ms
+  deeds_told (move.EndHeard m ∷ ms) = deeds_told ms
+  deeds_told (move.EndSilent m ∷ ms) = deeds_told ms
+  deeds_told (move.Cleared i ∷ ms) = deeds_told ms
+  deeds_told (move.Greeted m ∷ ms) = deeds_told ms
   deeds_told (move.TookPlain m ∷ ms) = deeds_told ms
   deeds_told (move.NrRead m ∷ ms) = deeds_told ms
+  deeds_told (move.LetGo m ∷ ms) = deeds_told ms
+  deeds_told (move.Repeated m ∷ ms) = deeds_told ms
   deeds_told (move.Quiet i ∷ ms) = deeds_told ms
   deeds_told (move.FrameSent m ∷ ms) = deeds_told ms
 

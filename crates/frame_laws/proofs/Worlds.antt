@@ -5,15 +5,15 @@ use Rattle.std.specs.List.{AllByRecursion}
 use Rattle.id_table.specs.Ids.{at}
 use Rattle.id_table.specs.Order.{at_new, at_other, same_or_not}
 use Rattle.l2tp_header.specs.Spelling.{data_bytes}
+use Rattle.control_channel.specs.Numbers.{place_of}
 use Rattle.schedule_text.specs.declared.line.Line.{Line}
 use Rattle.protocol_model.specs.declared.event.Event.{Event}
-use Rattle.protocol_model.specs.declared.event.Event.TheVariants.{Datagram, Ring, Payload, Lower, OpenTunnel}
+use Rattle.protocol_model.specs.declared.event.Event.TheVariants.{Datagram, Ring, Payload, Lower, OpenTunnel, Tick}
 use Rattle.protocol_model.specs.declared.moves.FrameSent.{FrameSent}
 use Rattle.protocol_model.specs.declared.moves.FrameUp.{FrameUp}
-use Rattle.protocol_model.specs.declared.moves.Move.{Move}
 use Rattle.protocol_model.specs.declared.moves.Move.TheVariants as move
 use Rattle.protocol_model.specs.declared.out.Out.{Out}
-use Rattle.protocol_model.specs.declared.out.Out.TheVariants.{Send, Up, Drop, Cause}
+use Rattle.protocol_model.specs.declared.out.Out.TheVariants.{Send, Up, Gone, Drop, Cause}
 use Rattle.protocol_model.specs.declared.out.Origin.{Origin}
 use Rattle.protocol_model.specs.declared.out.Origin.TheVariants as origin
 use Rattle.protocol_model.specs.declared.packet.Packet.{Packet}
@@ -21,16 +21,16 @@ use Rattle.protocol_model.specs.declared.tunnel.Role.{Role}
 use Rattle.protocol_model.specs.Names.{address_of, node_of}
 use Rattle.protocol_model.specs.Turn.{Tunnel}
 use Rattle.protocol_model.specs.End.{End, Stepped, step}
-use Rattle.protocol_model.specs.World.{World, Node, Sender, Deed, Lined, place_of, with_node, moved_all, sent, shown, shown_all, given, after_step}
-use Rattle.step_laws.specs.Letters.{Among, Letter, Carries, ALetter, Nothing, AFrame, HasOutput, letters_of}
+use Rattle.protocol_model.specs.World.{World, Node, Sender, Deed, Lined, with_node, moved_all, sent, shown, shown_all, given, after_step}
+use Rattle.step_laws.specs.Letters.{Among, Carries, ALetter, Nothing, AFrame, HasOutput}
 use Rattle.step_laws.specs.Steps.{IsOfMoves, IsChain}
 use Rattle.frame_laws.specs.Codecs.{Codecs}
 use Rattle.frame_laws.specs.Past.{Passage, sent_in, handed_in}
 use Rattle.frame_laws.specs.Frames.{WasSent, IsCarried, other_end, gives_frame}
-use Rattle.frame_laws.proofs.Facts.{StepLaws, Nodes, Plays, Grows, Mates, WasSentInCall, BytesOk, PacketOk, NodeOk, Holds, among_left, among_right, packets_later, node_later, end_later, all_map, grows_on}
+use Rattle.frame_laws.proofs.Facts.{StepLaws, Nodes, Plays, Grows, Mates, WasSentInCall, BytesOk, PacketOk, LetterOk, NodeOk, Holds, among_left, among_right, packets_later, node_later, end_later, all_map, all_push, all_at, grows_on}
 use Rattle.frame_laws.proofs.Changes.{birth_is, role_there, Changed, grows, NoBirth}
 use Rattle.frame_laws.proofs.Births.{Counted, counted_after}
-use Rattle.frame_laws.proofs.Leads.{Heard, heard_later, At, LetterOk, node_again}
+use Rattle.frame_laws.proofs.Leads.{Heard, heard_later, At, node_again}
 use Rattle.frame_laws.proofs.Chains.{Ran, ran, same_role}
 use Rattle.frame_laws.proofs.Datagrams.{letter_ok, alone_ok, frame_ok}
 use Rattle.frame_laws.specs.Reports.{ups_in, told_of}
@@ -44,6 +44,7 @@ unfolding shown_all shown sent
 shown_nodes n [] w = refl
 shown_nodes n (Send peer bytes origin ∷ os) w = shown_nodes n os (sent w n (node_of peer) bytes origin)
 shown_nodes n (Up session side frame ∷ os) w = shown_nodes n os w
+shown_nodes n (Gone session ∷ os) w = shown_nodes n os w
 shown_nodes n (Drop x ∷ os) w = shown_nodes n os w
 shown_nodes n (Cause x ∷ os) w = shown_nodes n os w
 
@@ -52,17 +53,15 @@ unfolding shown_all shown sent
 shown_born n [] w = refl
 shown_born n (Send peer bytes origin ∷ os) w = shown_born n os (sent w n (node_of peer) bytes origin)
 shown_born n (Up session side frame ∷ os) w = shown_born n os w
+shown_born n (Gone session ∷ os) w = shown_born n os w
 shown_born n (Drop x ∷ os) w = shown_born n os w
 shown_born n (Cause x ∷ os) w = shown_born n os w
-
-all_push : {X : Type 0} (P : X → Type 0) (xs : List X) (x : X) → AllByRecursion P xs → P x → AllByRecursion P (xs ++ x ∷ [])
-all_push P [] x h p = (p, tt)
-all_push P (y ∷ xs) x h p = (h.0, all_push P xs x h.1 p)
 
 -- what is to hold of the bytes that are sent
 abbrev SendOk : (ℕ → List ℕ → Type 0) → Out → Type 0
 SendOk B (Send peer bytes origin) = B (node_of peer) bytes
 SendOk B (Up session side frame) = Unit {0}
+SendOk B (Gone session) = Unit {0}
 SendOk B (Drop x) = Unit {0}
 SendOk B (Cause x) = Unit {0}
 
@@ -74,6 +73,7 @@ shown_packets ns gs n lt [] w ok had = had
 shown_packets ns gs n lt (Send peer bytes origin ∷ os) w ok had =
     shown_packets ns gs n lt os (sent w n (node_of peer) bytes origin) ok.1 (all_push (PacketOk ns gs) w.packets _ had (record { from = lt; bytes = ok.0 }))
 shown_packets ns gs n lt (Up session side frame ∷ os) w ok had = shown_packets ns gs n lt os w ok.1 had
+shown_packets ns gs n lt (Gone session ∷ os) w ok had = shown_packets ns gs n lt os w ok.1 had
 shown_packets ns gs n lt (Drop x ∷ os) w ok had = shown_packets ns gs n lt os w ok.1 had
 shown_packets ns gs n lt (Cause x ∷ os) w ok had = shown_packets ns gs n lt os w ok.1 had
 
@@ -103,9 +103,10 @@ shown_more n [] w = no_more w.packets
 shown_more n (Send peer bytes origin ∷ os) w =
     let v = sent w n (node_of peer) bytes origin in
     let r = shown_more n os v in
-    let one : Packet = record { from = n; to = node_of peer; bytes = bytes; origin = origin; place = place_of w.queued (node_of peer) origin } in
+    let one : Packet = record { from = n; to = node_of peer; bytes = bytes; origin = origin } in
     (one ∷ r.0, r.1 ∙ append_assoc w.packets (one ∷ []) r.0)
 shown_more n (Up session side frame ∷ os) w = shown_more n os w
+shown_more n (Gone session ∷ os) w = shown_more n os w
 shown_more n (Drop x ∷ os) w = shown_more n os w
 shown_more n (Cause x ∷ os) w = shown_more n os w
 
@@ -133,7 +134,7 @@ in_more before after more from to bytes o h =
 sent_there : (n : ℕ) (w : World) (peer : ℕ) (bytes : List ℕ) (o : Origin) → InPacket (sent w n (node_of peer) bytes o).packets n (node_of peer) bytes o
 unfolding sent
 sent_there n w peer bytes o = record {
-  packet = record { from = n; to = node_of peer; bytes = bytes; origin = o; place = place_of w.queued (node_of peer) o };
+  packet = record { from = n; to = node_of peer; bytes = bytes; origin = o };
   there = among_right _ w.packets _ (inl refl);
   from_is = refl;
   to_is = refl;
@@ -203,6 +204,7 @@ IsReal w gs n (Ring port) = Unit {0}
 IsReal w gs n (Payload s frame) = Unit {0}
 IsReal w gs n (Lower s frame) = Unit {0}
 IsReal w gs n OpenTunnel = Unit {0}
+IsReal w gs n Tick = Unit {0}
 
 heard_of : (w : World) (gs : List Passage) (n : ℕ) (ev : Event) → IsReal w gs n ev → Heard w.nodes n ev
 heard_of w gs n (Datagram peer bytes) h = record { from = h.from; number = h.number; address = h.address; letters = h.bytes_ok.letters }
@@ -210,6 +212,7 @@ heard_of w gs n (Ring port) h = tt
 heard_of w gs n (Payload s frame) h = tt
 heard_of w gs n (Lower s frame) h = tt
 heard_of w gs n OpenTunnel h = tt
+heard_of w gs n Tick h = tt
 
 -- what a step of a node leads to, in a line
 pub record StepOk (number : ℕ) (w : World) (gs : List Passage) (n : ℕ) (r : Role) (ev : Event) (x : Lined) : Type 0 where
@@ -218,19 +221,23 @@ pub record StepOk (number : ℕ) (w : World) (gs : List Passage) (n : ℕ) (r : 
   pub told : ups_in x.entries ≡ told_of x.done
 
 module _ (codecs : Codecs) (laws : StepLaws) (number : ℕ) (w : World) (gs : List Passage) (holds : Holds w gs) (below : Below number gs)
-    (n : ℕ) (old : Node) (was : at w.nodes n ≡ Some old) (ev : Event) (real : IsReal w gs n ev)
+    (n : ℕ) (old : Node) (was : at w.nodes n ≡ Some old) (clock : ℕ) (ev : Event) (real : IsReal w gs n ev)
     (moment : ℕ) (block : List ℕ) (sender : Option Sender) where
   ok : NodeOk w.nodes n old
   ok = holds.nodes n old was
 
+  -- the node at the moment of the step
+  abbrev timed : Node
+  timed = record old { clock = clock }
+
   abbrev s : Stepped
   s = step old.end moment block ev
 
-  chain : IsChain old.end ev s
+  chain : IsChain old.end moment ev s
   chain = laws.chains old.end ok.kept moment block ev
 
   abbrev ended : Node
-  ended = record old { end = s.end }
+  ended = record timed { end = s.end }
 
   abbrev base : World
   base = with_node w n ended
@@ -239,10 +246,10 @@ module _ (codecs : Codecs) (laws : StepLaws) (number : ℕ) (w : World) (gs : Li
   v = moved_all n s.moves base
 
   abbrev after : World
-  after = (after_step w number n old sender s).world
+  after = (after_step w number n timed sender s).world
 
   abbrev done : List Deed
-  done = (after_step w number n old sender s).done
+  done = (after_step w number n timed sender s).done
 
   after_is : after ≡ shown_all n s.outputs v
   unfolding after_step given
@@ -253,7 +260,7 @@ module _ (codecs : Codecs) (laws : StepLaws) (number : ℕ) (w : World) (gs : Li
   done_is = refl
 
   role : s.end.role ≡ old.end.role
-  role = same_role ev old.end s.end s.moves chain.chain
+  role = same_role moment ev old.end s.end s.moves chain.chain
 
   changed : Changed w.nodes base.nodes n old ended
   changed = record {
@@ -278,8 +285,8 @@ module _ (codecs : Codecs) (laws : StepLaws) (number : ℕ) (w : World) (gs : Li
         births = ok.births;
       }
 
-  r : Ran codecs.digits n s.end ev base v old.end s.end s.moves
-  r = ran codecs.digits n s.end ev base old.end s.end here (heard_later w.nodes base.nodes begun n ev (heard_of w gs n ev real)) s.moves chain.chain
+  r : Ran codecs.digits n s.end moment ev base v old.end s.end
+  r = ran codecs.digits n s.end moment ev base old.end s.end here (heard_later w.nodes base.nodes begun n ev (heard_of w gs n ev real)) s.moves chain.chain
 
   grown : Grows w.nodes v.nodes
   grown = grows_on w.nodes base.nodes v.nodes begun r.grows.grows
@@ -332,32 +339,29 @@ module _ (codecs : Codecs) (laws : StepLaws) (number : ℕ) (w : World) (gs : Li
     abbrev bytes_ok : List ℕ → Type 0
     bytes_ok bytes = BytesOk v.nodes (gs ++ more) n (node_of peer) bytes
 
-    carries_ok : (bytes : List ℕ) (o : Origin) → Carries s.end.role s.end.config tunnel s.moves bytes o → bytes_ok bytes
-    carries_ok bytes o (ALetter l nr gives same origin_is are) =
+    carries_ok : (bytes : List ℕ) (o : Origin) → Carries tunnel s.moves bytes o → bytes_ok bytes
+    carries_ok bytes o (ALetter l number among origin_is are) =
         let to = r.at_end.end.tunnels id tunnel there in
-        let letters : Move → List Letter = λ m. letters_of s.end.role s.end.config m in
-        let ls = all_among (λ m. AllByRecursion (LetterOk v.nodes n s.end) (letters m)) s.moves gives.by r.letters gives.there in
-        let lo = all_among (LetterOk v.nodes n s.end) (letters gives.by) l ls gives.gives in
-        let g : at s.end.tunnels id ≡ Some lo.goes.0 = rw (← to.local, ← same) lo.goes.1 in
-        let k : lo.goes.0 ≡ tunnel = cc in
-        let p : lo.peer ≡ peer = sym lo.goes.2 ∙ ap (λ (t : Tunnel). t.control.peer) k ∙ sym peer_is in
-        let remote = tunnel.control.remote in
+        let keeps = LetterOk v.nodes n tunnel.control.peer in
+        let lo = all_at keeps tunnel.letters (place_of tunnel.control.channel number) l among to.letters in
+        rw (are, lo.spelt)
+        (letter_ok codecs tunnel.control.remote l.session number tunnel.control.channel.inbox.taken to.remote lo.session
+        v.nodes (gs ++ more) n (node_of peer) lo.message lo.written (rw peer_is lo.names))
+    carries_ok bytes o (Nothing number origin_is are) =
+        let to = r.at_end.end.tunnels id tunnel there in
         rw are
-        (letter_ok codecs remote l.session l.place.number nr to.remote lo.session
-        v.nodes (gs ++ more) n (node_of peer) l.message lo.written (rw (← p) lo.names))
-    carries_ok bytes o (Nothing ns nr origin_is are) =
-        let to = r.at_end.end.tunnels id tunnel there in
-        rw are (alone_ok codecs tunnel.control.remote 0 ns nr to.remote (omega arith) v.nodes (gs ++ more) n (node_of peer))
+        (alone_ok codecs tunnel.control.remote 0 number tunnel.control.channel.inbox.taken to.remote (omega arith) v.nodes (gs ++ more) n (node_of peer))
     carries_ok bytes o (AFrame f call a tunnel_is same at_call up origin_is are) =
         let to = r.at_end.end.tunnels id tunnel there in
-        let k = (to.calls f.session call at_call).mate (inr up) in
-        let mates : Mates v.nodes n f.session (node_of peer) call.remote = rw peer_is k.1 in
+        let k = to.calls f.session call at_call in
+        let mates : Mates v.nodes n f.session (node_of peer) call.remote = rw peer_is (k.mate (inr up)) in
         let was_sent = sent_in_call f a (node_of peer) call.remote (ap node_of (same ∙ sym peer_is)) mates in
-        rw are (frame_ok codecs v.nodes (gs ++ more) n (node_of peer) tunnel.control.remote call.remote f.frame to.remote k.0 was_sent)
+        rw are (frame_ok codecs v.nodes (gs ++ more) n (node_of peer) tunnel.control.remote call.remote f.frame to.remote k.remote was_sent)
 
   send_ok : (o : Out) → IsOfMoves s.end s.moves o → SendOk (λ to bytes. BytesOk v.nodes (gs ++ more) n to bytes) o
   send_ok (Send peer bytes o) h = carries_ok peer h.id h.tunnel h.there h.peer_is bytes o h.carries
   send_ok (Up session side frame) h = tt
+  send_ok (Gone session) h = tt
   send_ok (Drop x) h = tt
   send_ok (Cause x) h = tt
 
@@ -365,7 +369,7 @@ module _ (codecs : Codecs) (laws : StepLaws) (number : ℕ) (w : World) (gs : Li
 
   handed_ok : (f : FrameUp) → Among (move.FrameUp f) s.moves → WasSent (gs ++ more) (hands v number n old.end.role sender f)
   handed_ok f a =
-      let d = done_among ev old.end s.end s.moves chain.chain (move.FrameUp f) a in
+      let d = done_among moment ev old.end s.end s.moves chain.chain (move.FrameUp f) a in
       let h = d.does.hears in
       let k : IsFrom w gs n f.peer h.bytes = subst (IsReal w gs n) h.is real in
       let original : WasSentInCall w.nodes gs k.from n f.session f.frame = subst
@@ -404,7 +408,7 @@ module _ (codecs : Codecs) (laws : StepLaws) (number : ℕ) (w : World) (gs : Li
 
   given_ok : (f : FrameSent) → Among (move.FrameSent f) s.moves → EventGives number n old.end.role ev (sends v number n old.end.role sender f)
   given_ok f a =
-      let d = done_among ev old.end s.end s.moves chain.chain (move.FrameSent f) a in
+      let d = done_among moment ev old.end s.end s.moves chain.chain (move.FrameSent f) a in
       record { number_is = refl; node_is = refl; role_is = refl; event_is = d.does.given }
 
   -- ---- births
@@ -447,7 +451,7 @@ module _ (codecs : Codecs) (laws : StepLaws) (number : ℕ) (w : World) (gs : Li
     grown = grown_packets;
   }
 
-  pub step_ok : StepOk number w gs n old.end.role ev (after_step w number n old sender s)
+  pub step_ok : StepOk number w gs n old.end.role ev (after_step w number n timed sender s)
   unfolding after_step given
   step_ok = record {
     goes = goes;

@@ -2,11 +2,14 @@
 use Rattle.std.proofs.Common.{◌≡◌, ◌⊎◌, ℕ, ◌<◌, ◌≤◌, true, false, List, Option, Some, None, Ok}
 use Rattle.std.specs.List.{AllByRecursion}
 use Rattle.id_table.specs.Ids.{at}
+use Rattle.id_table.specs.Order.{Ascends}
+use Rattle.wire_base.specs.declared.letter.Letter.{Letter}
 use Rattle.l2tp_header.specs.declared.header.Header.{Header}
 use Rattle.l2tp_header.specs.Reading.{header_of}
+use Rattle.avp_codec.specs.Spelling.{spelling}
 use Rattle.control_message.specs.declared.message.Message.{Message}
-use Rattle.control_message.specs.declared.message.Message.TheVariants.{Sccrq, Sccrp, Scccn, Icrq, Icrp, Iccn}
-use Rattle.control_message.specs.Pairs.{IsWritten}
+use Rattle.control_message.specs.declared.message.Message.TheVariants.{Sccrq, Sccrp, Scccn, Hello, Icrq, Icrp, Iccn, Cdn}
+use Rattle.control_message.specs.Pairs.{pairs_of, IsWritten}
 use Rattle.protocol_model.specs.declared.tunnel.Call.{Call}
 use Rattle.protocol_model.specs.declared.tunnel.Role.{Role}
 use Rattle.protocol_model.specs.declared.tunnel.Role.TheVariants.{Lac, Lns}
@@ -64,14 +67,17 @@ pub record Mates (ns : Nodes) (n s m a : ℕ) : Type 0 where
 
 -- ---- packets
 
--- the session that a message names is that of its call: a request names a session of its LAC, and a reply a session that is
--- the mate of the one that its header names
+-- the session that a message names is that of its call: a request names a session of its LAC, a reply a session that is the
+-- mate of the one that its header names, and a notice that a call ends a session of its sender, which is the mate of the one
+-- that its header names, if that names one
 abbrev pub NamesItsCall : Nodes → ℕ → ℕ → ℕ → Message → Type 0
 NamesItsCall ns from to session (Icrq own serial calling) = ((b : ℕ) × (0 < b) × Born ns from own b) × Plays ns from Lac
 NamesItsCall ns from to session (Icrp own) = Mates ns from own to session
+NamesItsCall ns from to session (Cdn own code error) = ((b : ℕ) × (0 < b) × Born ns from own b) × ((session ≡ 0) ⊎ Mates ns from own to session)
 NamesItsCall ns from to session (Sccrq o) = Unit {0}
 NamesItsCall ns from to session (Sccrp o) = Unit {0}
 NamesItsCall ns from to session Scccn = Unit {0}
+NamesItsCall ns from to session Hello = Unit {0}
 NamesItsCall ns from to session (Iccn speed framing sequenced) = Unit {0}
 
 -- the frame was sent in the birth of the session that it is for, by its other end
@@ -106,16 +112,32 @@ pub record CallOk (ns : Nodes) (n : ℕ) (role : Role) (bound peer s : ℕ) (c :
   pub birth : ℕ
   pub some : 0 < birth
   pub born : Born ns n s birth
-  pub mate : KnowsItsMate role c → (c.remote < 65536) × Mates ns n s (node_of peer) c.remote
+  -- the session that it knows of the other end, if it knows one, is its mate
+  pub remote : c.remote < 65536
+  pub known : (c.remote ≡ 0) ⊎ Mates ns n s (node_of peer) c.remote
+  pub mate : KnowsItsMate role c → Mates ns n s (node_of peer) c.remote
 
 abbrev pub CallsOk : Nodes → ℕ → Role → ℕ → ℕ → List (ℕ × Call) → Type 0
 CallsOk ns n role bound peer calls = (s : ℕ) (c : Call) → at calls s ≡ Some c → CallOk ns n role bound peer s c
+
+-- a letter that a tunnel to a peer keeps spells a message that is written, and that names its call
+pub record LetterOk (ns : Nodes) (n peer : ℕ) (l : Letter) : Type 0 where
+  pub message : Message
+  pub spelt : l.avps ≡ spelling (pairs_of message)
+  pub session : l.session < 65536
+  pub written : IsWritten message
+  pub names : NamesItsCall ns n (node_of peer) l.session message
+
+abbrev pub LettersOk : Nodes → ℕ → ℕ → List Letter → Type 0
+LettersOk ns n peer letters = AllByRecursion (LetterOk ns n peer) letters
 
 pub record TunnelOk (ns : Nodes) (n : ℕ) (e : End) (i : ℕ) (t : Tunnel) : Type 0 where
   pub local : t.control.local ≡ i
   pub drawn : i < e.tunnel_ids.next
   pub remote : t.control.remote < 65536
+  pub letters : LettersOk ns n t.control.peer t.letters
   pub calls : CallsOk ns n e.role e.session_ids.next t.control.peer t.calls
+  pub order : Ascends t.calls
 
 pub record EndOk (ns : Nodes) (n : ℕ) (e : End) : Type 0 where
   pub number : e.config.number < 256
@@ -125,6 +147,7 @@ pub record EndOk (ns : Nodes) (n : ℕ) (e : End) : Type 0 where
   pub last_session : e.session_ids.last < 65536
   pub most : e.session_ids.next ≤ 65536
   pub tunnels : (i : ℕ) (t : Tunnel) → at e.tunnels i ≡ Some t → TunnelOk ns n e i t
+  pub order : Ascends e.tunnels
 
 pub record NodeOk (ns : Nodes) (n : ℕ) (node : Node) : Type 0 where
   pub number : n < 256

@@ -3,7 +3,6 @@ use Rattle.std.proofs.Common.{◌≡◌, inl, inr, ℕ, List, [], length, Option
 use Rattle.std.specs.Prelude.{take}
 use Rattle.std.proofs.lemmas.List.{append-nil}
 use Rattle.std.specs.Io.KnownBytes.{Appends, Consumes, Keeps}
-use Rattle.wire_base.specs.declared.why.Why.{Why}
 use Rattle.wire_base.specs.Causes.{Rose}
 use Rattle.port_traits.specs.Limits.{limit_passed}
 use Rattle.port_traits.specs.ReadCauses.{IsTextOf}
@@ -11,13 +10,15 @@ use Rattle.port_traits.specs.Reads.{ReadsWithin, StopsReading}
 use Rattle.schedule_text.specs.declared.line.Line.{Line}
 use Rattle.schedule_text.specs.declared.error.ScheduleError.{ScheduleError}
 use Rattle.schedule_text.specs.Reading.{lines_of}
+use Rattle.protocol_model.specs.declared.refusal.Refusal.{Refusal}
+use Rattle.protocol_model.specs.declared.refusal.Refusal.TheVariants.{Unfit, HalfSpace}
 use Rattle.protocol_model.specs.Run.{Run, run}
 use Rattle.l2tp_cli.specs.declared.words.Asked.{Asked}
 use Rattle.l2tp_cli.specs.declared.words.Asked.TheVariants as asked
 use Rattle.l2tp_cli.specs.declared.exit.Exit.{Exit}
 use Rattle.l2tp_cli.specs.declared.exit.Exit.TheVariants as exits
 use Rattle.l2tp_cli.specs.Texts.{too_long_text}
-use Rattle.l2tp_cli.specs.Due.{Due, due, exit_of, due_of_run, due_of_lines, due_within, due_of, read_fault_text}
+use Rattle.l2tp_cli.specs.Due.{Due, due, refused, exit_of, due_of_run, due_of_lines, due_within, due_of, read_fault_text}
 use Rattle.l2tp_cli.proofs.Counts.{bytes_within}
 use Rattle.l2tp_cli.specs.Ends.{IsDue, IsRead, Ports, IsWhole, FailedAtRead, FailedWriting, Ends, Tells}
 
@@ -27,14 +28,19 @@ IsReported exits.Ok = Unit {0}
 IsReported exits.Usage = ⊥
 IsReported (exits.BadLine line) = Unit {0}
 IsReported (exits.Unfit line why) = Unit {0}
+IsReported (exits.HalfSpace line number count) = Unit {0}
 IsReported exits.ReadFault = ⊥
 IsReported exits.WriteFault = ⊥
 IsReported (exits.TooLong lines) = Unit {0}
 IsReported exits.NoMemory = ⊥
 
-reported_fault : (f : Option (ℕ × Why)) → IsReported (exit_of f)
+reported_refusal : (line : ℕ) (r : Refusal) → IsReported (refused line r)
+reported_refusal line (Unfit why) = tt
+reported_refusal line (HalfSpace number count) = tt
+
+reported_fault : (f : Option (ℕ × Refusal)) → IsReported (exit_of f)
 reported_fault None = tt
-reported_fault (Some f) = tt
+reported_fault (Some f) = reported_refusal f.0 f.1
 
 reported_run : (r : Run) → IsReported (due_of_run r).exit
 unfolding due_of_run
@@ -69,6 +75,7 @@ whole_ends exits.Ok p r h = h
 whole_ends exits.Usage p r h = absurd r
 whole_ends (exits.BadLine line) p r h = h
 whole_ends (exits.Unfit line why) p r h = h
+whole_ends (exits.HalfSpace line number count) p r h = h
 whole_ends exits.ReadFault p r h = absurd r
 whole_ends exits.WriteFault p r h = absurd r
 whole_ends (exits.TooLong lines) p r h = h

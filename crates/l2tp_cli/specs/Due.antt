@@ -1,11 +1,12 @@
 -- What a command comes to: its exit, and the text that it writes.
 use Rattle.std.specs.Prelude.{ℕ, List, ◌++◌, codes, Option, Some, None, Result, Ok, Err}
-use Rattle.wire_base.specs.declared.why.Why.{Why}
 use Rattle.port_traits.specs.Limits.{limit_passed}
 use Rattle.schedule_text.specs.declared.line.Line.{Line}
 use Rattle.schedule_text.specs.declared.error.ScheduleError.{ScheduleError}
 use Rattle.schedule_text.specs.declared.error.ScheduleError.TheVariants.{BadLine, NoMemory}
 use Rattle.schedule_text.specs.Reading.{lines_of}
+use Rattle.protocol_model.specs.declared.refusal.Refusal.{Refusal}
+use Rattle.protocol_model.specs.declared.refusal.Refusal.TheVariants.{Unfit, HalfSpace}
 use Rattle.protocol_model.specs.Run.{Run, run, report_of}
 use Rattle.l2tp_cli.specs.declared.exit.Exit.{Exit}
 use Rattle.l2tp_cli.specs.declared.exit.Exit.TheVariants as exits
@@ -31,9 +32,10 @@ help_text =
     codes "  data N S HEX      the subscriber of call S of node N, a LAC, sends a PPP frame\n" ++
     codes "  down N S HEX      the network sends a PPP frame down call S of node N, an LNS\n" ++
     codes "  deliver P         packet P of the report reaches the node that it was sent to\n" ++
-    codes "N and M are 1 to 255, K and S 1 to 65535, P is 1 to 4294967295, without leading zeros. HEX is a frame from its\n" ++
-    codes "protocol field on, 2 to 1494 bytes as hex digits in lower case. A schedule has at most 1048576 lines and 67108864\n" ++
-    codes "bytes.\n" ++
+    codes "  tick N MS         the clock of node N goes on by MS milliseconds, and what is due is done\n" ++
+    codes "N and M are 1 to 255, K and S 1 to 65535, P is 1 to 4294967295, MS 0 to 86400000, without leading zeros. HEX is a frame\n" ++
+    codes "from its protocol field on, 2 to 1494 bytes as hex digits in lower case. A schedule has at most 1048576 lines and\n" ++
+    codes "67108864 bytes.\n" ++
     codes "\n" ++
     codes "Not yet: a schedule has at most one lns, one lac, one open and one ring line, and the lac line names an LNS of an\n" ++
     codes "earlier line. Another one is a bad line.\n" ++
@@ -43,22 +45,24 @@ help_text =
     codes "  twice    that node was declared before\n" ++
     codes "  call     that node has no such call\n" ++
     codes "  packet   no such packet was sent\n" ++
-    codes "  order    Not yet: the network neither loses messages nor repeats them. A packet with attribute value pairs is\n" ++
-    codes "           delivered once, and those to one node in the order in which they were sent. Acknowledgements alone and\n" ++
-    codes "           frames may be delivered in any order, more than once, or never.\n" ++
+    codes "\n" ++
+    codes "A packet may be delivered at any time, and as often as wanted. One that has outlived half of the numbers of its channel\n" ++
+    codes "ends the run with status 4: its number is more than 32767 below what the addressee took, or what was acknowledged to it.\n" ++
     codes "\n" ++
     codes "A report has lines for what is done in line L of the schedule, and ends with what each node holds:\n" ++
     codes "  L send P N M HEX                    packet P goes from node N to node M\n" ++
     codes "  L up N S B SIDE HEX                 node N hands up a frame in its call S, the B-th of all calls, to the\n" ++
     codes "                                      subscriber (sub) or to the network (net)\n" ++
+    codes "  L gone N S                          call S of node N ended\n" ++
     codes "  L drop N WHY                        node N ignores what came\n" ++
-    codes "  L cause N WHY                       node N refuses what was asked for\n" ++
+    codes "  L cause N WHY                       node N refuses what was asked for, or ends a call\n" ++
     codes "  end N tunnel T M R STATE 0 current complete\n" ++
     codes "                                      node N has tunnel T to node M, which calls it R\n" ++
     codes "  end N call T S R STATE B            in tunnel T it has call S, which the other end calls R, the B-th of all calls\n" ++
     codes "  agree N T M U C                     both ends of a tunnel took all that they were sent, and hold C established calls\n" ++
     codes "\n" ++
-    codes "status: 0 done, 1 usage, 2 bad line, 3 line that does not fit, 5 read fault, 6 write fault, 7 too long, 20 no memory\n"
+    codes "status: 0 done, 1 usage, 2 bad line, 3 line that does not fit, 4 packet that is too old, 5 read fault, 6 write fault,\n" ++
+    codes "        7 too long, 20 no memory\n"
 
 abbrev pub version_text : List ℕ
 version_text = codes "l2tp 0.1.0\n"
@@ -78,10 +82,14 @@ pub record Due : Type 0 where
 abbrev pub due : Exit → List ℕ → Due
 due e t = record { exit = e; text = t }
 
--- a line that doesn't fit ends the run
-abbrev pub exit_of : Option (ℕ × Why) → Exit
+-- a line that is refused ends the run
+abbrev pub refused : ℕ → Refusal → Exit
+refused line (Unfit why) = exits.Unfit line why
+refused line (HalfSpace number count) = exits.HalfSpace line number count
+
+abbrev pub exit_of : Option (ℕ × Refusal) → Exit
 exit_of None = exits.Ok
-exit_of (Some f) = exits.Unfit f.0 f.1
+exit_of (Some f) = refused f.0 f.1
 
 -- the report of the run
 unfoldable pub due_of_run : Run → Due

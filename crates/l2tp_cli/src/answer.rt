@@ -3,10 +3,11 @@
 ghost use Rattle.std.specs.Prelude.{◌≡◌, IfOk};
 ghost use Rattle.schedule_text.specs.Reading.{lines_of};
 ghost use Rattle.protocol_model.specs.Run.{run};
-ghost use Rattle.l2tp_cli.specs.Due.{due, due_of_run, due_of_lines};
+ghost use Rattle.l2tp_cli.specs.Due.{due, refused, due_of_run, due_of_lines};
 
 use crate::exit::Exit;
 use crate::texts::bad_line_text;
+use protocol_model::Refusal;
 use schedule_replay::replay;
 use schedule_text::{Line, ScheduleError, read_schedule};
 use std::alloc::Global;
@@ -19,6 +20,20 @@ pub struct Answer {
     pub text: Bytes,
 }
 
+/// How a run ends at a line that is refused.
+fn refused(line: u64, refusal: Refusal) -> Exit
+    ensures { result ≡ refused line refusal }
+{
+    match refusal {
+        Refusal::Unfit { why } => Exit::Unfit { line, why },
+        Refusal::HalfSpace { number, count } => Exit::HalfSpace {
+            line,
+            number,
+            count,
+        },
+    }
+}
+
 /// Runs the lines of a schedule.
 #[tactic(auto, unfolding(crate::specs::Due::due_of_run))]
 fn answer_to_lines(alloc: Global, lines: &[Line]) -> Result<Answer, NoMemory>
@@ -27,7 +42,7 @@ fn answer_to_lines(alloc: Global, lines: &[Line]) -> Result<Answer, NoMemory>
     let replayed = replay(alloc, lines)?;
     let exit = match replayed.fault {
         None => Exit::Ok,
-        Some((line, why)) => Exit::Unfit { line, why },
+        Some((line, refusal)) => refused(line, refusal),
     };
     Ok(Answer {
         exit,

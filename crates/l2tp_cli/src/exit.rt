@@ -15,6 +15,9 @@ pub enum Exit {
     BadLine { line: u64 },
     /// The first line that doesn't fit, counted from 1, and why.
     Unfit { line: u64, why: Why },
+    /// The first line that delivers a packet which has outlived half of the numbers of its channel, counted from 1: an Ns or
+    /// Nr of the packet, without an end, and how many messages the tunnel that it is for has taken, or has acknowledged.
+    HalfSpace { line: u64, number: u64, count: u64 },
     /// The source failed.
     ReadFault,
     /// The sink failed.
@@ -35,6 +38,7 @@ impl Exit {
             Exit::Usage => 1,
             Exit::BadLine { .. } => 2,
             Exit::Unfit { .. } => 3,
+            Exit::HalfSpace { .. } => 4,
             Exit::ReadFault => 5,
             Exit::WriteFault => 6,
             Exit::TooLong { .. } => 7,

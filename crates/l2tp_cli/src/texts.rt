@@ -25,9 +25,10 @@ A schedule is a list of lines, with one space between words:
   data N S HEX      the subscriber of call S of node N, a LAC, sends a PPP frame
   down N S HEX      the network sends a PPP frame down call S of node N, an LNS
   deliver P         packet P of the report reaches the node that it was sent to
-N and M are 1 to 255, K and S 1 to 65535, P is 1 to 4294967295, without leading zeros. HEX is a frame from its
-protocol field on, 2 to 1494 bytes as hex digits in lower case. A schedule has at most 1048576 lines and 67108864
-bytes.
+  tick N MS         the clock of node N goes on by MS milliseconds, and what is due is done
+N and M are 1 to 255, K and S 1 to 65535, P is 1 to 4294967295, MS 0 to 86400000, without leading zeros. HEX is a frame
+from its protocol field on, 2 to 1494 bytes as hex digits in lower case. A schedule has at most 1048576 lines and
+67108864 bytes.
 
 Not yet: a schedule has at most one lns, one lac, one open and one ring line, and the lac line names an LNS of an
 earlier line. Another one is a bad line.
@@ -37,22 +38,24 @@ A line that doesn't fit ends the run, which says why:
   twice    that node was declared before
   call     that node has no such call
   packet   no such packet was sent
-  order    Not yet: the network neither loses messages nor repeats them. A packet with attribute value pairs is
-           delivered once, and those to one node in the order in which they were sent. Acknowledgements alone and
-           frames may be delivered in any order, more than once, or never.
+
+A packet may be delivered at any time, and as often as wanted. One that has outlived half of the numbers of its channel
+ends the run with status 4: its number is more than 32767 below what the addressee took, or what was acknowledged to it.
 
 A report has lines for what is done in line L of the schedule, and ends with what each node holds:
   L send P N M HEX                    packet P goes from node N to node M
   L up N S B SIDE HEX                 node N hands up a frame in its call S, the B-th of all calls, to the
                                       subscriber (sub) or to the network (net)
+  L gone N S                          call S of node N ended
   L drop N WHY                        node N ignores what came
-  L cause N WHY                       node N refuses what was asked for
+  L cause N WHY                       node N refuses what was asked for, or ends a call
   end N tunnel T M R STATE 0 current complete
                                       node N has tunnel T to node M, which calls it R
   end N call T S R STATE B            in tunnel T it has call S, which the other end calls R, the B-th of all calls
   agree N T M U C                     both ends of a tunnel took all that they were sent, and hold C established calls
 
-status: 0 done, 1 usage, 2 bad line, 3 line that does not fit, 5 read fault, 6 write fault, 7 too long, 20 no memory
+status: 0 done, 1 usage, 2 bad line, 3 line that does not fit, 4 packet that is too old, 5 read fault, 6 write fault,
+        7 too long, 20 no memory
 ";
 
 /// The version.

@@ -1,7 +1,9 @@
 -- The runs, the steps and the tables, computed.
 use Rattle.std.proofs.Common.{refl}
 use Rattle.run_examples.specs.Crossing.{FramesCross}
-use Rattle.run_examples.specs.Rules.{IdsRunOut, MessagesAreTakenInOrder}
+use Rattle.run_examples.specs.Messages.{MessagesAreTakenInOrder, MessagesAreAcknowledged, WindowsAreKept, OpeningsComeOnce}
+use Rattle.run_examples.specs.Outlived.{OldPacketsAreRefused}
+use Rattle.run_examples.specs.Rules.{IdsRunOut}
 use Rattle.run_examples.specs.Tables.{TablesTell}
 use Rattle.run_examples.proofs.Computing.{computing}
 
@@ -11,11 +13,55 @@ frames_cross = record { past = refl }
 
 pub messages_are_taken_in_order : MessagesAreTakenInOrder
 unfolding computing
-messages_are_taken_in_order = record { first = refl; last = refl; behind = refl; kept = refl }
+messages_are_taken_in_order = record {
+  next = refl;
+  taken = refl;
+  last = refl;
+  first = refl;
+  oldest = refl;
+  last_kept = refl;
+  oldest_kept = refl;
+  ahead = refl;
+  farthest = refl;
+  ahead_kept = refl;
+  farthest_kept = refl;
+  too_many = refl;
+  too_many_kept = refl;
+}
+
+pub messages_are_acknowledged : MessagesAreAcknowledged
+unfolding computing
+messages_are_acknowledged = record {
+  waits = refl;
+  waiting = refl;
+  ignored = refl;
+  before = refl;
+  next = refl;
+  behind = refl;
+  next_kept = refl;
+  by_alone = refl;
+  by_ahead = refl;
+  by_last = refl;
+  by_next = refl;
+  unsent = refl;
+  old = refl;
+}
+
+pub windows_are_kept : WindowsAreKept
+unfolding computing
+windows_are_kept = record { eight = refl; one = refl }
+
+pub openings_come_once : OpeningsComeOnce
+unfolding computing
+openings_come_once = record { again = refl; kept = refl; of_another = refl; with_another = refl }
+
+pub old_packets_are_refused : OldPacketsAreRefused
+unfolding computing
+old_packets_are_refused = record { near = refl; ns = refl; nr = refl; both = refl; round = refl; without = refl }
 
 pub tables_tell : TablesTell
 unfolding computing
-tables_tell = record { agreed = refl; outstanding = refl }
+tables_tell = record { agreed = refl; of_lac = refl; of_lns = refl }
 
 pub ids_run_out : IdsRunOut
 unfolding computing

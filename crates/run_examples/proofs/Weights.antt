@@ -4,7 +4,7 @@ use Rattle.l2tp_header.specs.declared.header.Header.{Header}
 use Rattle.l2tp_header.specs.declared.header.HeaderError.{HeaderError}
 use Rattle.l2tp_header.specs.Reading.{header_of}
 use Rattle.protocol_model.specs.declared.event.Event.{Event}
-use Rattle.protocol_model.specs.declared.event.Event.TheVariants.{Datagram, Ring, Payload, Lower, OpenTunnel}
+use Rattle.protocol_model.specs.declared.event.Event.TheVariants.{Datagram, Ring, Payload, Lower, OpenTunnel, Tick}
 use Rattle.step_laws.specs.Steps.{IsChain}
 use Rattle.protocol_model.specs.declared.tunnel.CallPlace.{CallPlace}
 use Rattle.protocol_model.specs.declared.tunnel.Look.{Look}
@@ -18,6 +18,7 @@ peer_of (Ring port) = 0
 peer_of (Payload session frame) = 0
 peer_of (Lower session frame) = 0
 peer_of OpenTunnel = 0
+peer_of Tick = 0
 
 bytes_of : Event → List ℕ
 bytes_of (Datagram peer bytes) = bytes
@@ -25,6 +26,7 @@ bytes_of (Ring port) = []
 bytes_of (Payload session frame) = frame
 bytes_of (Lower session frame) = frame
 bytes_of OpenTunnel = []
+bytes_of Tick = []
 
 tunnel_in : Result Header HeaderError → ℕ
 tunnel_in (Ok h) = h.tunnel
@@ -48,13 +50,13 @@ tunnel_is_one : tunnel_in (header_of (bytes_of (from_node 6 1))) ≡ 1
 unfolding computing tunnel_in bytes_of
 tunnel_is_one = refl
 
-without_peer : IsChain lns (from_node 9 2) careless → ⊥
+without_peer : IsChain lns 0 (from_node 9 2) careless → ⊥
 unfolding computing peer_of
 without_peer h =
     let hears = h.chain.1.hears in
     apart 167772169 167772166 2 refl (ap peer_of hears.is)
 
-without_tunnel : IsChain lns (from_node 6 1) careless → ⊥
+without_tunnel : IsChain lns 0 (from_node 6 1) careless → ⊥
 unfolding computing tunnel_in bytes_of
 without_tunnel h =
     let hears = h.chain.1.hears in
@@ -63,7 +65,7 @@ without_tunnel h =
     apart 2 1 0 refl (sym named ∙ tunnel_is_one)
 
 -- what is seen of the session names the call's own peer
-with_sender : IsChain lns (from_node 9 2) trusting → ⊥
+with_sender : IsChain lns 0 (from_node 9 2) trusting → ⊥
 unfolding computing peer_in look_at
 with_sender h =
     let up = h.chain.1 in

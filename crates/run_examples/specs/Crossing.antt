@@ -14,11 +14,12 @@ openings =
     ∷ Ring 6 80 ∷ Ring 6 81 ∷ Ring 9 70 ∷ Ring 9 71
     ∷ []
 
--- all four calls come up but one: packets 21 and 22 connect those of node 6
+-- The two rings of node 9 are one letter more than its window lets go, and so are those of node 6: packets 9 and 19 wait for
+-- an acknowledgement. All four calls come up but those of node 6 at the LNS, which packets 20 and 22 connect.
 abbrev pub calls : List Line
 calls =
-    Deliver 5 ∷ Deliver 6 ∷ Deliver 7 ∷ Deliver 8 ∷ Deliver 9 ∷ Deliver 10 ∷ Deliver 11 ∷ Deliver 12 ∷ Deliver 13
-    ∷ Deliver 14 ∷ Deliver 15 ∷ Deliver 17 ∷ Deliver 18
+    Deliver 5 ∷ Deliver 6 ∷ Deliver 8 ∷ Deliver 9 ∷ Deliver 10 ∷ Deliver 11 ∷ Deliver 13
+    ∷ Deliver 7 ∷ Deliver 15 ∷ Deliver 16 ∷ Deliver 18 ∷ Deliver 19 ∷ Deliver 21
     ∷ []
 
 abbrev pub up_c2 : List ℕ
@@ -33,13 +34,14 @@ down_d9 = 0 ∷ 33 ∷ 217 ∷ []
 abbrev pub up_c9 : List ℕ
 up_c9 = 0 ∷ 33 ∷ 201 ∷ []
 
--- the first frame is delivered before the message that connects its call, and once more behind it
+-- the first frame is delivered before the message that connects its call, which comes ahead of its turn, once more in turn,
+-- and again; then the frame once more
 abbrev pub frames : List Line
 frames =
-    FromSub 6 2 up_c2 ∷ Deliver 23 ∷ Deliver 21 ∷ Deliver 22 ∷ Deliver 23
-    ∷ Down 4 4 down_d2 ∷ Deliver 26
-    ∷ Down 4 2 down_d9 ∷ Deliver 27
-    ∷ FromSub 9 2 up_c9 ∷ Deliver 28
+    FromSub 6 2 up_c2 ∷ Deliver 23 ∷ Deliver 22 ∷ Deliver 20 ∷ Deliver 22 ∷ Deliver 22 ∷ Deliver 23
+    ∷ Down 4 4 down_d2 ∷ Deliver 27
+    ∷ Down 4 2 down_d9 ∷ Deliver 28
+    ∷ FromSub 9 2 up_c9 ∷ Deliver 29
     ∷ []
 
 abbrev pub crossing : List Line
@@ -55,14 +57,14 @@ pub record FramesCross : Type 0 where
   pub past : past_of crossing ≡ record {
     sent =
         passage 25 6 role.Lac 4 2 2 up_c2
-        ∷ passage 30 4 role.Lns 6 4 2 down_d2
-        ∷ passage 32 4 role.Lns 9 2 4 down_d9
-        ∷ passage 34 9 role.Lac 4 2 4 up_c9
+        ∷ passage 32 4 role.Lns 6 4 2 down_d2
+        ∷ passage 34 4 role.Lns 9 2 4 down_d9
+        ∷ passage 36 9 role.Lac 4 2 4 up_c9
         ∷ [];
     handed =
-        passage 29 4 role.Lns 6 4 2 up_c2
-        ∷ passage 31 6 role.Lac 4 2 2 down_d2
-        ∷ passage 33 9 role.Lac 4 2 4 down_d9
-        ∷ passage 35 4 role.Lns 9 2 4 up_c9
+        passage 31 4 role.Lns 6 4 2 up_c2
+        ∷ passage 33 6 role.Lac 4 2 2 down_d2
+        ∷ passage 35 9 role.Lac 4 2 4 down_d9
+        ∷ passage 37 4 role.Lns 9 2 4 up_c9
         ∷ [];
   }

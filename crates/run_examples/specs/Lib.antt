@@ -1,3 +1,6 @@
+pub mod Channels
 pub mod Crossing
+pub mod Messages
+pub mod Outlived
 pub mod Rules
 pub mod Tables

@@ -1,13 +1,11 @@
--- Rules of the data plane that carry weight: without one of them a step isn't a chain of its moves.
+-- Rules of the data plane that carry weight: without one of them a step isn't a chain of its moves. And what comes where no id
+-- is left.
 use Rattle.std.specs.Prelude.{◌≡◌, ℕ, ◌+◌, List, [], ◌∷◌, None}
 use Rattle.wire_base.specs.declared.why.Why.TheVariants as why
 use Rattle.wire_base.specs.declared.cause.Cause.TheVariants as cause
 use Rattle.wire_base.specs.declared.letter.Side.TheVariants.{Net}
 use Rattle.id_source.specs.Spaces.{Space}
-use Rattle.l2tp_header.specs.Spelling.{control_bytes, data_bytes}
-use Rattle.avp_codec.specs.Spelling.{spelling}
-use Rattle.control_message.specs.declared.message.Message.TheVariants.{Scccn}
-use Rattle.control_message.specs.Pairs.{pairs_of}
+use Rattle.l2tp_header.specs.Spelling.{data_bytes}
 use Rattle.tunnel_fsm.specs.declared.table.TunnelState.TheVariants as states
 use Rattle.protocol_model.specs.declared.event.Event.{Event}
 use Rattle.protocol_model.specs.declared.event.Event.TheVariants.{Datagram, Ring, OpenTunnel}
@@ -22,6 +20,7 @@ use Rattle.protocol_model.specs.Calls.{Carried, Upward, Dropped, side_of}
 use Rattle.protocol_model.specs.End.{End, Stepped, new_end, handed, step}
 use Rattle.protocol_model.specs.World.{config_of}
 use Rattle.step_laws.specs.Steps.{IsChain}
+use Rattle.run_examples.specs.Channels.{channel}
 
 -- the LNS, node 4, with one established call: session 3, in tunnel 2 to node 6
 abbrev pub lns : End
@@ -57,41 +56,28 @@ pub record FramesAreLookedAt : Type 0 where
   pub peer : answer (from_node 9 2) ≡ Drop why.Peer ∷ []
   pub tunnel : answer (from_node 6 1) ≡ Drop why.Tunnel ∷ []
   -- a step that hands such a frame up is no chain of its moves
-  pub without_peer : IsChain lns (from_node 9 2) careless → ⊥
-  pub without_tunnel : IsChain lns (from_node 6 1) careless → ⊥
-  pub with_sender : IsChain lns (from_node 9 2) trusting → ⊥
-
--- ---- the order of a tunnel's messages
-
--- the LAC, node 9, with an open tunnel in which it took two messages
-abbrev pub lac : End
-lac = record (new_end role.Lac (config_of 9 (address_of 4))) {
-  tunnels = (
-    1,
-    record {
-      control = record { local = 1; peer = address_of 4; remote = 7; state = states.Established; channel = record { sent = 3; taken = 2 } };
-      calls = [];
-    },
-  ) ∷ [];
-}
-
--- a message of the LNS in that tunnel, with a number
-abbrev pub numbered : ℕ → Event
-numbered ns = Datagram (address_of 4) (control_bytes 1 0 ns 3 (spelling (pairs_of Scccn)))
-
--- what it answers to the one before the last that it took, to that one, and to the one behind the next
-pub record MessagesAreTakenInOrder : Type 0 where
-  pub first : (step lac 0 [] (numbered 0)).outputs ≡ Drop why.Ahead ∷ []
-  pub last : (step lac 0 [] (numbered 1)).outputs ≡ Drop why.Ahead ∷ []
-  pub behind : (step lac 0 [] (numbered 3)).outputs ≡ Drop why.Ahead ∷ []
-  -- none of them changes the end
-  pub kept : (step lac 0 [] (numbered 3)).end ≡ lac
+  pub without_peer : IsChain lns 0 (from_node 9 2) careless → ⊥
+  pub without_tunnel : IsChain lns 0 (from_node 6 1) careless → ⊥
+  pub with_sender : IsChain lns 0 (from_node 9 2) trusting → ⊥
 
 -- ---- ids
 
 -- a space of which every number was drawn
 abbrev pub spent : ℕ → Space
 spent last = record { last = last; ceiling = last; next = last + 1 }
+
+-- the LAC, node 9, with an open tunnel
+abbrev pub lac : End
+lac = record (new_end role.Lac (config_of 9 (address_of 4))) {
+  tunnels = (
+    1,
+    record {
+      control = record { local = 1; peer = address_of 4; remote = 7; state = states.Established; channel = channel 3 0 0 2; made = 0; heard = 0 };
+      letters = [];
+      calls = [];
+    },
+  ) ∷ [];
+}
 
 -- where no id is left, an open and a ring are refused with that cause, and the end is as before
 pub record IdsRunOut : Type 0 where

@@ -1,4 +1,4 @@
--- The tables at the end of a report, where a call isn't up yet, and where a letter is outstanding.
+-- The tables at the end of a report, where a call isn't up yet, and where a letter wasn't taken.
 use Rattle.std.specs.Prelude.{◌≡◌, ℕ, List, [], ◌∷◌, ◌++◌, codes}
 use Rattle.tunnel_fsm.specs.declared.table.TunnelState.TheVariants as states
 use Rattle.call_fsm.specs.declared.table.CallState.TheVariants.{Established, WaitReply}
@@ -8,36 +8,40 @@ use Rattle.protocol_model.specs.Turn.{Tunnel}
 use Rattle.protocol_model.specs.End.{new_end}
 use Rattle.protocol_model.specs.World.{World, Node, config_of, empty_world}
 use Rattle.protocol_model.specs.Run.{tables}
+use Rattle.run_examples.specs.Channels.{channel}
 
--- the LAC, node 9: one of two calls is up
+-- the LAC, node 9, took two letters: one of two calls is up
 abbrev pub lac : ℕ → Tunnel
-lac sent = record {
-  control = record { local = 1; peer = address_of 4; remote = 7; state = states.Established; channel = record { sent = sent; taken = 2 } };
+lac queued = record {
+  control = record { local = 1; peer = address_of 4; remote = 7; state = states.Established; channel = channel 2 queued 1 2; made = 0; heard = 0 };
+  letters = [];
   calls =
-      (1, record { remote = 5; state = Established; port = 70; steps = [] })
-      ∷ (2, record { remote = 0; state = WaitReply; port = 71; steps = [] })
+      (1, record { remote = 5; state = Established; since = 0; port = 70; steps = [] })
+      ∷ (2, record { remote = 0; state = WaitReply; since = 0; port = 71; steps = [] })
       ∷ [];
 }
 
 -- the LNS, node 4, took three letters
-abbrev pub lns : Tunnel
-lns = record {
-  control = record { local = 7; peer = address_of 9; remote = 1; state = states.Established; channel = record { sent = 2; taken = 3 } };
-  calls = (5, record { remote = 1; state = Established; port = 0; steps = [] }) ∷ [];
+abbrev pub lns : ℕ → Tunnel
+lns queued = record {
+  control = record { local = 7; peer = address_of 9; remote = 1; state = states.Established; channel = channel 1 queued 1 3; made = 0; heard = 0 };
+  letters = [];
+  calls = (5, record { remote = 1; state = Established; since = 0; port = 0; steps = [] }) ∷ [];
 }
 
 abbrev pub lac_node : ℕ → Node
-lac_node sent = record {
-  end = record (new_end role.Lac (config_of 9 (address_of 4))) { tunnels = (1, lac sent) ∷ [] };
+lac_node queued = record {
+  end = record (new_end role.Lac (config_of 9 (address_of 4))) { tunnels = (1, lac queued) ∷ [] };
+  clock = 0;
   births = (1, 2) ∷ (2, 1) ∷ [];
 }
 
-abbrev pub lns_node : Node
-lns_node = record { end = record (new_end role.Lns (config_of 4 0)) { tunnels = (7, lns) ∷ [] }; births = (5, 2) ∷ [] }
+abbrev pub lns_node : ℕ → Node
+lns_node queued = record { end = record (new_end role.Lns (config_of 4 0)) { tunnels = (7, lns queued) ∷ [] }; clock = 0; births = (5, 2) ∷ [] }
 
--- where the LAC was given so many letters
-abbrev pub world : ℕ → World
-world sent = record empty_world { nodes = (4, lns_node) ∷ (9, lac_node sent) ∷ [] }
+-- where the LAC and the LNS keep so many letters, of which the first was acknowledged by none yet
+abbrev pub world : ℕ → ℕ → World
+world of_lac of_lns = record empty_world { nodes = (4, lns_node of_lns) ∷ (9, lac_node of_lac) ∷ [] }
 
 abbrev pub ends : List ℕ
 ends =
@@ -48,7 +52,8 @@ ends =
     ++ codes "end 9 call 1 2 0 wait-reply 1\n"
 
 pub record TablesTell : Type 0 where
-  -- the call that isn't up is no session
-  pub agreed : tables (world 3) ≡ ends ++ codes "agree 9 1 4 7 1\n"
-  -- a letter is outstanding
-  pub outstanding : tables (world 4) ≡ ends
+  -- each took all that the other was given, though the last letter isn't acknowledged; the call that isn't up is no session
+  pub agreed : tables (world 1 1) ≡ ends ++ codes "agree 9 1 4 7 1\n"
+  -- a letter of the LAC wasn't taken, and one of the LNS
+  pub of_lac : tables (world 2 1) ≡ ends
+  pub of_lns : tables (world 1 2) ≡ ends

@@ -9,7 +9,9 @@
 mod tests;
 
 ghost use Rattle.run_examples.specs.Crossing.{FramesCross};
-ghost use Rattle.run_examples.specs.Rules.{FramesAreLookedAt, IdsRunOut, MessagesAreTakenInOrder};
+ghost use Rattle.run_examples.specs.Messages.{MessagesAreTakenInOrder, MessagesAreAcknowledged, WindowsAreKept, OpeningsComeOnce};
+ghost use Rattle.run_examples.specs.Outlived.{OldPacketsAreRefused};
+ghost use Rattle.run_examples.specs.Rules.{FramesAreLookedAt, IdsRunOut};
 ghost use Rattle.run_examples.specs.Tables.{TablesTell};
 
 /// A run in which two LACs have calls at one LNS: what was sent and what was handed up, with sessions and births.
@@ -23,9 +25,31 @@ pub fn frames_are_looked_at()
     ensures { FramesAreLookedAt }
 {}
 
-/// A message that isn't the next one of its tunnel isn't taken.
+/// The next message of a tunnel is taken. One that came before is acknowledged again and does nothing else, and one that is
+/// ahead is dropped.
 pub fn messages_are_taken_in_order()
     ensures { MessagesAreTakenInOrder }
+{}
+
+/// A message that is taken is acknowledged by what goes out, and alone where nothing does; what it acknowledges is read
+/// whether it is taken or not.
+pub fn messages_are_acknowledged()
+    ensures { MessagesAreAcknowledged }
+{}
+
+/// No more letters are outstanding than the peer's window has.
+pub fn windows_are_kept()
+    ensures { WindowsAreKept }
+{}
+
+/// An SCCRQ that comes again opens no second tunnel.
+pub fn openings_come_once()
+    ensures { OpeningsComeOnce }
+{}
+
+/// A packet that has outlived half of the numbers of its channel isn't delivered: a message could be taken twice.
+pub fn old_packets_are_refused()
+    ensures { OldPacketsAreRefused }
 {}
 
 /// Where every id of a kind was drawn, what needs one is refused, and the end is as before.

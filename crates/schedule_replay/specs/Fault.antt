@@ -1,12 +1,12 @@
 -- What the answers of the world say.
 use Rattle.std.specs.Prelude.{◌≡◌, ℕ, List, [], ◌++◌, Bool, true, false, Result, Ok, Err}
-use Rattle.wire_base.specs.declared.why.Why.{Why}
 use Rattle.wire_base.specs.declared.bytes.NoMemory.{NoMemory as OutOfMemory}
+use Rattle.protocol_model.specs.declared.refusal.Refusal.{Refusal}
 use Rattle.protocol_model.specs.Texts.{entries_text}
 use Rattle.protocol_model.specs.World.{World, Lined, empty_world}
 use Rattle.protocol_model.specs.Run.{tables}
 use Rattle.schedule_replay.specs.declared.fault.LineFault.{LineFault}
-use Rattle.schedule_replay.specs.declared.fault.LineFault.TheVariants.{Unfit, NoMemory}
+use Rattle.schedule_replay.specs.declared.fault.LineFault.TheVariants.{Refused, NoMemory}
 
 -- a world, with its report so far
 pub record Told : Type 0 where
@@ -18,15 +18,15 @@ pub record LeadsTo (l : Lined) (old new : Told) : Type 0 where
   pub world : new.world ≡ l.world
   pub report : new.report ≡ old.report ++ entries_text l.entries
 
--- what the line leads to, where it fits
-abbrev pub Leads : Result Lined Why → Told → Told → Type 0
+-- what the line leads to, where it isn't refused
+abbrev pub Leads : Result Lined Refusal → Told → Told → Type 0
 Leads (Ok l) old new = LeadsTo l old new
 Leads (Err x) old new = ⊥
 
--- the line's outcome is this, or the world is as before and this is why the line doesn't fit
-abbrev pub Says : {T : Type 0} → Result T LineFault → Result Lined Why → Told → Told → Type 0
+-- the line's outcome is this, or the world is as before and this is why the line is refused
+abbrev pub Says : {T : Type 0} → Result T LineFault → Result Lined Refusal → Told → Told → Type 0
 Says (Ok x) outcome old new = Leads outcome old new
-Says (Err (Unfit why)) outcome old new = (outcome ≡ Err why) × (new ≡ old)
+Says (Err (Refused refusal)) outcome old new = (outcome ≡ Err refusal) × (new ≡ old)
 Says (Err NoMemory) outcome old new = Unit {0}
 
 -- a world with its report, and whether memory was wanting in it once: then its state says nothing any more
@@ -41,9 +41,9 @@ abbrev pub new_known : Known
 new_known = record { told = new_told; spent = false }
 
 -- the same, of a world that answers want of memory for ever once it has answered it
-abbrev pub WorldSays : {T : Type 0} → Result T LineFault → Result Lined Why → Known → Known → Type 0
+abbrev pub WorldSays : {T : Type 0} → Result T LineFault → Result Lined Refusal → Known → Known → Type 0
 WorldSays (Ok x) outcome old new = (old.spent ≡ false) × Leads outcome old.told new.told × (new.spent ≡ false)
-WorldSays (Err (Unfit why)) outcome old new = (old.spent ≡ false) × (outcome ≡ Err why) × (new ≡ old)
+WorldSays (Err (Refused refusal)) outcome old new = (old.spent ≡ false) × (outcome ≡ Err refusal) × (new ≡ old)
 WorldSays (Err NoMemory) outcome old new = new.spent ≡ true
 
 -- the tables are behind the report

@@ -1,14 +1,30 @@
 //! Why a line isn't run.
 
+use protocol_model::Refusal;
 use wire_base::{NoMemory as OutOfMemory, Why};
 
 /// Why a line isn't run.
 #[derive(Clone, Copy, Debug, PartialEq, Eq)]
 pub enum LineFault {
-    /// The line doesn't fit. The world is as before.
-    Unfit { why: Why },
+    /// The line is refused. The world is as before.
+    Refused { refusal: Refusal },
     /// Memory was wanting. The world answers so from then on.
     NoMemory,
+}
+
+impl LineFault {
+    ghost use Rattle.std.specs.Prelude.{◌≡◌};
+    ghost use Rattle.protocol_model.specs.declared.refusal.Refusal.TheVariants.{Unfit};
+    ghost use Rattle.schedule_replay.specs.declared.fault.LineFault.TheVariants.{Refused};
+
+    /// The line doesn't fit.
+    pub(crate) fn unfit(why: Why) -> LineFault
+        ensures { result ≡ Refused (Unfit why) }
+    {
+        LineFault::Refused {
+            refusal: Refusal::Unfit { why },
+        }
+    }
 }
 
 impl From<OutOfMemory> for LineFault {

@@ -1,10 +1,10 @@
 //! A node of the world.
 
-ghost use Rattle.std.specs.Prelude.{◌≡◌, [], OnOk};
+ghost use Rattle.std.specs.Prelude.{◌≡◌, [], OnOk, Ok};
 ghost use Rattle.id_table.specs.Ids.{put};
 ghost use Rattle.protocol_model.specs.Calls.{is_lac};
 ghost use Rattle.protocol_model.specs.End.{new_end};
-ghost use Rattle.protocol_model.specs.World.{config_of, count_at};
+ghost use Rattle.protocol_model.specs.World.{config_of, count_at, later};
 
 use id_table::Table;
 use protocol_model::{Config, Role, address_of};
@@ -13,10 +13,11 @@ use std::marker::Model;
 use tunnel_core::End;
 use wire_base::NoMemory;
 
-/// An end, with the births of its calls by local session id.
+/// An end, with its clock, in milliseconds, and the births of its calls by local session id.
 #[derive(Drop)]
 pub(crate) struct Node {
     pub(crate) end: End,
+    pub(crate) clock: u64,
     pub(crate) births: Table<u64>,
 }
 
@@ -25,7 +26,7 @@ impl Model for Node {
 
     ghost Value = { Known };
 
-    ghost view = { λ n. record { end = n.end; births = n.births.entries } };
+    ghost view = { λ n. record { end = n.end; clock = n.clock; births = n.births.entries } };
 }
 
 /// The configuration of a node without a secret.
@@ -50,10 +51,11 @@ pub(crate) fn count_at(counts: &Table<u64>, id: u32) -> u64
 
 impl Node {
     pub(crate) fn new(alloc: Global, role: Role, config: Config) -> Node
-        ensures { result ≡ record { end = new_end role config; births = [] } }
+        ensures { result ≡ record { end = new_end role config; clock = 0; births = [] } }
     {
         Node {
             end: End::new(alloc, role, config),
+            clock: 0,
             births: Table::new(alloc),
         }
     }
@@ -67,6 +69,13 @@ impl Node {
         ensures { result ≡ is_lac self.now.end.role }
     {
         self.end.role() == Role::Lac
+    }
+
+    /// The node's clock goes on by so many milliseconds.
+    pub(crate) fn pass(&mut self, milliseconds: u32)
+        ensures { Ok self.new ≡ later milliseconds (Ok self.old) }
+    {
+        self.clock = self.clock.saturating_add(u64::from(milliseconds));
     }
 
     /// The call with this local session is of this birth.

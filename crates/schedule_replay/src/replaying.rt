@@ -1,35 +1,36 @@
 //! A whole run.
 
 ghost use Rattle.std.specs.Prelude.{◌≡◌, ◌++◌, IfOk, Some};
-ghost use Rattle.protocol_model.specs.Run.{run, report_of, unfit_text};
+ghost use Rattle.protocol_model.specs.Run.{run, report_of, refusal_text};
 
 use crate::fault::LineFault;
-use crate::texts::push_unfit;
+use crate::texts::push_refusal;
 use crate::world::World;
+use protocol_model::Refusal;
 use schedule_text::Line;
 use std::alloc::Global;
-use wire_base::{Bytes, NoMemory, Why};
+use wire_base::{Bytes, NoMemory};
 
 /// What a run leaves.
 #[derive(Debug, Drop)]
 pub struct Replayed {
-    /// The report: of all lines and the tables at the end; or of the lines before one that doesn't fit, and the text that
+    /// The report: of all lines and the tables at the end; or of the lines before one that is refused, and the text that
     /// tells it.
     pub report: Bytes,
-    /// The number of that line, counted from 1, and why it doesn't fit.
-    pub fault: Option<(u64, Why)>,
+    /// The number of that line, counted from 1, and why it is refused.
+    pub fault: Option<(u64, Refusal)>,
 }
 
-/// The report of a world whose next line doesn't fit.
-fn report_unfit(world: World, line: u64, why: Why) -> Result<Replayed, NoMemory>
-    ensures report { IfOk result (λ r. r.report ≡ world.told.report ++ unfit_text line why) }
-    ensures fault { IfOk result (λ r. r.fault ≡ Some (line, why)) }
+/// The report of a world whose next line is refused.
+fn report_refusal(world: World, line: u64, refusal: Refusal) -> Result<Replayed, NoMemory>
+    ensures report { IfOk result (λ r. r.report ≡ world.told.report ++ refusal_text line refusal) }
+    ensures fault { IfOk result (λ r. r.fault ≡ Some (line, refusal)) }
 {
     let mut report = world.into_report();
-    push_unfit(&mut report, line, why)?;
+    push_refusal(&mut report, line, refusal)?;
     Ok(Replayed {
         report,
-        fault: Some((line, why)),
+        fault: Some((line, refusal)),
     })
 }
 
@@ -43,7 +44,9 @@ pub fn replay(alloc: Global, lines: &[Line]) -> Result<Replayed, NoMemory>
     for (i, line) in lines.iter().enumerate() {
         match world.line(i as u64 + 1, line) {
             Ok(()) => (),
-            Err(LineFault::Unfit { why }) => return report_unfit(world, i as u64 + 1, why),
+            Err(LineFault::Refused { refusal }) => {
+                return report_refusal(world, i as u64 + 1, refusal);
+            }
             Err(LineFault::NoMemory) => return Err(NoMemory),
         }
     }

@@ -1,20 +1,20 @@
 //! The world's state, and what a line does to it.
 
-ghost use Rattle.std.specs.Prelude.{◌≡◌, [], ◌∷◌, ◌++◌, ◌+◌, length, OnOk, IfOk, MatchResult, IsSome, is_some, slice_get, Ok, Err, None, Option};
+ghost use Rattle.std.specs.Prelude.{◌≡◌, [], ◌∷◌, ◌++◌, ◌+◌, length, OnOk, IfOk, MatchResult, IsSome, slice_get, Ok, Err, None, Some, Option};
 ghost use Rattle.id_table.specs.Ids.{at};
 ghost use Rattle.protocol_model.specs.Texts.{send_text, entry_text, entries_text};
-ghost use Rattle.protocol_model.specs.World.{Sender, counted, has_pairs, sent, birth_of, with_birth, is_born, moved, moved_all, shown, shown_all, entry_of, entries_of, declared, lac_at, lns_at, with_call, added, block_of, stepped, is_next, marked, arrival, sender_of, delivers, line as line_of};
+ghost use Rattle.protocol_model.specs.World.{sent, birth_of, with_birth, is_born, moved, moved_all, shown, shown_all, entry_of, entries_of, declared, lac_at, lns_at, with_call, later, added, block_of, stepped, arrival, refused_by, delivers, line as line_of};
 ghost use Rattle.protocol_model.specs.Run.{tables};
 ghost use Rattle.schedule_replay.specs.Fault.{new_told, Leads, Says};
-ghost use Rattle.schedule_replay.specs.declared.fault.LineFault.TheVariants.{NoMemory as Wanting};
 
+use crate::age::too_old;
 use crate::fault::LineFault;
 use crate::node::{Node, config_of, count_at};
 use crate::tables::{push_agreement_table, push_end_table};
-use crate::texts::{push_cause, push_drop, push_send, push_up};
+use crate::texts::{push_cause, push_drop, push_gone, push_send, push_up};
 use byteorder::{BigEndian, ByteOrder};
 use id_table::Table;
-use protocol_model::{Event, Move, Origin, Out, Packet, Role, address_of, node_of};
+use protocol_model::{Event, Move, Origin, Out, Packet, Refusal, Role, address_of, node_of};
 use schedule_text::Line;
 use std::alloc::Global;
 use std::marker::Model;
@@ -27,8 +27,6 @@ pub(crate) struct State {
     alloc: Global,
     nodes: Table<Node>,
     packets: Sequence<Packet>,
-    queued: Table<u64>,
-    delivered: Table<u64>,
     born: u64,
     report: Bytes,
 }
@@ -38,35 +36,7 @@ impl Model for State {
 
     ghost Value = { Told };
 
-    ghost view = { λ w. record { world = record { nodes = w.nodes.entries; packets = w.packets; queued = w.queued.entries; delivered = w.delivered.entries; born = w.born }; report = w.report } };
-}
-
-#[tactic(auto, unfolding(protocol_model::specs::World::counted))]
-fn count_up(counts: &mut Table<u64>, node: u8) -> Result<(), NoMemory>
-    ensures { OnOk result (counts.new.entries ≡ counted counts.old.entries node) }
-{
-    let count = count_at(counts, u32::from(node));
-    counts.insert(u32::from(node), count.saturating_add(1))
-}
-
-/// Whether a packet is the next one for its node, where it has attribute value pairs.
-fn is_next(delivered: &Table<u64>, packet: &Packet) -> bool
-    ensures { result ≡ is_next delivered.now.entries packet.now.to packet.now.place }
-{
-    match packet.place {
-        None => true,
-        Some(place) => place == count_at(delivered, u32::from(packet.to)),
-    }
-}
-
-/// Whether a datagram has attribute value pairs: an acknowledgement alone has none, and neither has a frame.
-fn has_pairs(origin: &Origin) -> bool
-    ensures { result ≡ has_pairs origin.now }
-{
-    match origin {
-        Origin::Control(control) => !control.empty,
-        Origin::Data { .. } => false,
-    }
+    ghost view = { λ w. record { world = record { nodes = w.nodes.entries; packets = w.packets; born = w.born }; report = w.report } };
 }
 
 impl State {
@@ -77,8 +47,6 @@ impl State {
             alloc,
             nodes: Table::new(alloc),
             packets: Sequence::new(alloc),
-            queued: Table::new(alloc),
-            delivered: Table::new(alloc),
             born: 0,
             report: Bytes::new(alloc),
         }
@@ -113,23 +81,12 @@ impl State {
     {
         let number = self.packets.as_slice().len() as u64 + 1;
         push_send(&mut self.report, line, number, from, to, bytes.as_slice())?;
-        let pairs = has_pairs(&origin);
-        let place = if pairs {
-            Some(count_at(&self.queued, u32::from(to)))
-        } else {
-            None
-        };
         self.packets.push(Packet {
             from,
             to,
             bytes,
             origin,
-            place,
-        })?;
-        if pairs {
-            count_up(&mut self.queued, to)?;
-        }
-        Ok(())
+        })
     }
 
     /// An output of a node's step, in a line.
@@ -160,6 +117,7 @@ impl State {
                     frame.as_slice(),
                 )
             }
+            Out::Gone { session } => push_gone(&mut self.report, line, node, session),
             Out::Drop { why } => push_drop(&mut self.report, line, node, why),
             Out::Cause { cause } => push_cause(&mut self.report, line, node, cause),
         }
@@ -240,7 +198,7 @@ impl State {
         Ok(())
     }
 
-    /// A node's step on an event, in a line. No clock goes on yet.
+    /// A node's step on an event, in a line, at the moment of its clock.
     #[tactic(auto, using(id_table::specs::Ids::put_put_is), unfolding(protocol_model::specs::World::stepped, protocol_model::specs::World::after_step, protocol_model::specs::World::given))]
     fn step(&mut self, line: u64, node: u8, event: &Event) -> Result<(), NoMemory>
         requires { IsSome (at self.old.world.nodes node) }
@@ -248,7 +206,7 @@ impl State {
     {
         let number = u32::from(node);
         let mut at = self.nodes.swap(number, Node::vacant(self.alloc));
-        let given = at.end.step(0, block_of(node, line), event)?;
+        let given = at.end.step(at.clock, block_of(node, line), event)?;
         self.nodes.replace(number, at);
         self.follow_all(node, given.moves.as_slice())?;
         self.show_all(line, node, given.outputs)
@@ -260,7 +218,7 @@ impl State {
         ensures { Says result (added self.old.world node role lns) self.old self.new }
     {
         if self.nodes.contains(u32::from(node)) {
-            return Err(LineFault::Unfit { why: Why::Twice });
+            return Err(LineFault::unfit(Why::Twice));
         }
         let new = Node::new(self.alloc, role, config_of(node, lns));
         self.nodes.insert(u32::from(node), new)?;
@@ -277,7 +235,7 @@ impl State {
                 self.step(line, node, event)?;
                 Ok(())
             }
-            _ => Err(LineFault::Unfit { why: Why::Node }),
+            _ => Err(LineFault::unfit(Why::Node)),
         }
     }
 
@@ -289,13 +247,13 @@ impl State {
         match self.nodes.get(u32::from(node)) {
             Some(at) if at.is_lac() => {
                 if !at.end.has_call(session) {
-                    return Err(LineFault::Unfit { why: Why::Call });
+                    return Err(LineFault::unfit(Why::Call));
                 }
                 let frame = Bytes::from_slice(self.alloc, frame.as_slice())?;
                 self.step(line, node, &Event::Payload { session, frame })?;
                 Ok(())
             }
-            _ => Err(LineFault::Unfit { why: Why::Node }),
+            _ => Err(LineFault::unfit(Why::Node)),
         }
     }
 
@@ -313,60 +271,63 @@ impl State {
         match self.nodes.get(u32::from(node)) {
             Some(at) if !at.is_lac() => {
                 if !at.end.has_call(session) {
-                    return Err(LineFault::Unfit { why: Why::Call });
+                    return Err(LineFault::unfit(Why::Call));
                 }
                 let frame = Bytes::from_slice(self.alloc, frame.as_slice())?;
                 self.step(line, node, &Event::Lower { session, frame })?;
                 Ok(())
             }
-            _ => Err(LineFault::Unfit { why: Why::Node }),
+            _ => Err(LineFault::unfit(Why::Node)),
         }
     }
 
-    /// A packet by its place, counted from 0, or why it can't be delivered.
-    #[tactic(auto, unfolding(protocol_model::specs::World::arrival))]
-    fn arrival(&self, place: usize) -> Result<&Packet, Why>
-        ensures exact { MatchResult result (λ p. arrival self.now.world (slice_get self.now.world.packets place) ≡ Ok p.now) (λ e. arrival self.now.world (slice_get self.now.world.packets place) ≡ Err e) }
-        ensures declared { IfOk result (λ p. IsSome (at self.now.world.nodes p.now.to)) }
+    /// A packet by its place, counted from 0, and the node that it is for, or why it can't be delivered.
+    #[tactic(auto, unfolding(protocol_model::specs::World::arrival, protocol_model::specs::World::addressee_of))]
+    fn arrival(&self, place: usize) -> Result<(&Packet, &Node), Why>
+        ensures exact { MatchResult result (λ a. arrival self.now.world (slice_get self.now.world.packets place) ≡ Ok (a.0.now, a.1.now)) (λ e. arrival self.now.world (slice_get self.now.world.packets place) ≡ Err e) }
+        ensures there { IfOk result (λ a. at self.now.world.nodes a.0.now.to ≡ Some a.1.now) }
     {
         let Some(packet) = self.packets.lend(place) else {
             return Err(Why::Packet);
         };
-        if !self.nodes.contains(u32::from(packet.to)) {
-            return Err(Why::Node);
+        match self.nodes.get(u32::from(packet.to)) {
+            Some(node) => Ok((packet, node)),
+            None => Err(Why::Node),
         }
-        if !is_next(&self.delivered, packet) {
-            return Err(Why::Order);
-        }
-        Ok(packet)
-    }
-
-    #[tactic(auto, unfolding(protocol_model::specs::World::marked))]
-    fn mark(&mut self, counts: bool, node: u8) -> Result<(), NoMemory>
-        ensures world { OnOk result (self.new.world ≡ marked counts node self.old.world) }
-        ensures report { self.new.report ≡ self.old.report }
-    {
-        if counts {
-            count_up(&mut self.delivered, node)?;
-        }
-        Ok(())
     }
 
     /// A packet reaches its addressee, in a line.
-    #[tactic(auto, unfolding(protocol_model::specs::World::delivers, protocol_model::specs::World::delivers_it, protocol_model::specs::World::arrives, protocol_model::specs::World::marked, protocol_model::specs::World::stepped, protocol_model::specs::World::after_step, protocol_model::specs::World::given))]
+    #[tactic(auto, unfolding(protocol_model::specs::World::delivers, protocol_model::specs::World::delivers_it, protocol_model::specs::World::arrives, protocol_model::specs::World::stepped, protocol_model::specs::World::after_step, protocol_model::specs::World::given))]
     fn deliver(&mut self, line: u64, place: usize) -> Result<(), LineFault>
         ensures { Says result (delivers self.old.world line (slice_get self.old.world.packets place)) self.old self.new }
     {
-        let packet = match self.arrival(place) {
-            Ok(packet) => packet,
-            Err(why) => return Err(LineFault::Unfit { why }),
+        let (packet, addressee) = match self.arrival(place) {
+            Ok(found) => found,
+            Err(why) => return Err(LineFault::unfit(why)),
         };
+        if let Some(refusal) = refused_by(packet, addressee)? {
+            return Err(LineFault::Refused { refusal });
+        }
         let node = packet.to;
-        let counts = packet.place.is_some();
         let peer = address_of(packet.from);
         let bytes = Bytes::from_slice(self.alloc, packet.bytes.as_slice())?;
-        self.mark(counts, node)?;
         self.step(line, node, &Event::Datagram { peer, bytes })?;
+        Ok(())
+    }
+
+    /// A node's clock goes on by so many milliseconds, and it ticks.
+    #[tactic(auto, using(id_table::specs::Ids::at_put_there), unfolding(protocol_model::specs::World::stepped))]
+    fn tick(&mut self, line: u64, node: u8, milliseconds: u32) -> Result<(), LineFault>
+        ensures { Says result (stepped self.old.world line node Event.Tick None (later milliseconds (declared (at self.old.world.nodes node)))) self.old self.new }
+    {
+        let number = u32::from(node);
+        if !self.nodes.contains(number) {
+            return Err(LineFault::unfit(Why::Node));
+        }
+        let mut at = self.nodes.swap(number, Node::vacant(self.alloc));
+        at.pass(milliseconds);
+        self.nodes.replace(number, at);
+        self.step(line, node, &Event::Tick)?;
         Ok(())
     }
 
@@ -391,6 +352,7 @@ impl State {
                 session,
                 frame,
             } => self.send_down(number, *node, *session, frame),
+            Line::Tick { node, milliseconds } => self.tick(number, *node, *milliseconds),
             Line::Deliver { packet } => self.deliver(number, packet.saturating_sub(1) as usize),
         }
     }
@@ -402,6 +364,22 @@ impl State {
     {
         push_end_table(self.alloc, &mut self.report, &self.nodes)?;
         push_agreement_table(self.alloc, &mut self.report, &self.nodes)
+    }
+}
+
+/// Why a packet is refused by the node that it is for, if it is.
+#[tactic(auto, unfolding(protocol_model::specs::World::refused_by))]
+fn refused_by(packet: &Packet, node: &Node) -> Result<Option<Refusal>, NoMemory>
+    ensures { IfOk result (λ r. r ≡ refused_by packet.now node.now packet.now.origin) }
+{
+    match &packet.origin {
+        Origin::Control(origin) => {
+            let reached = node
+                .end
+                .reached(address_of(packet.from), packet.bytes.as_slice())?;
+            Ok(too_old(origin, reached))
+        }
+        Origin::Data { .. } => Ok(None),
     }
 }
 

@@ -4,11 +4,11 @@ ghost use Rattle.std.specs.Prelude.{◌≡◌, ◌≤◌, ◌++◌, codes, lengt
 ghost use Rattle.std.specs.Fmt.{decimal};
 ghost use Rattle.hex.specs.Hex.{encode_lower};
 ghost use Rattle.protocol_model.specs.Names.{node_of};
-ghost use Rattle.protocol_model.specs.Texts.{◌&◌, send_text, side_word, up_text, drop_text, cause_text};
-ghost use Rattle.protocol_model.specs.Run.{tunnel_text, call_text, agree_text, unfit_text};
+ghost use Rattle.protocol_model.specs.Texts.{◌&◌, send_text, side_word, up_text, gone_text, drop_text, cause_text};
+ghost use Rattle.protocol_model.specs.Run.{tunnel_text, call_text, agree_text, unfit_text, half_space_text, refusal_text};
 
 use itoa::Buffer;
-use protocol_model::{Call, Control, node_of};
+use protocol_model::{Call, Control, Refusal, node_of};
 use wire_base::{Bytes, Cause, NoMemory, Side, Why};
 
 /// Appends a number in decimal.
@@ -32,6 +32,14 @@ fn push_count(out: &mut Bytes, number: u64) -> Result<(), NoMemory>
     ensures { OnOk result (out.new ≡ out.old ++ codes " " ++ decimal number) }
 {
     out.push_slice(b" ")?;
+    push_number(out, number)
+}
+
+/// Appends words, and a number in decimal behind them.
+fn push_numbered(out: &mut Bytes, words: &[u8], number: u64) -> Result<(), NoMemory>
+    ensures { OnOk result (out.new ≡ out.old ++ words.now ++ decimal number) }
+{
+    out.push_slice(words)?;
     push_number(out, number)
 }
 
@@ -114,6 +122,18 @@ pub(crate) fn push_up(
     push_count(out, birth)?;
     push_word(out, side_word(side))?;
     push_hex(out, frame)?;
+    out.push_slice(b"\n")
+}
+
+/// A call that ended: the line, the node, and the call's local session.
+#[tactic(auto, unfolding(protocol_model::specs::Texts::gone_text))]
+pub(crate) fn push_gone(out: &mut Bytes, line: u64, node: u8, session: u32) -> Result<(), NoMemory>
+    ensures { OnOk result (out.new ≡ out.old ++ gone_text line node session) }
+{
+    push_number(out, line)?;
+    push_word(out, b"gone")?;
+    push_count(out, u64::from(node))?;
+    push_count(out, u64::from(session))?;
     out.push_slice(b"\n")
 }
 
@@ -209,12 +229,33 @@ pub(crate) fn push_agree(
 
 /// A line that doesn't fit, and why.
 #[tactic(auto, unfolding(protocol_model::specs::Run::unfit_text))]
-pub(crate) fn push_unfit(out: &mut Bytes, line: u64, why: Why) -> Result<(), NoMemory>
+fn push_unfit(out: &mut Bytes, line: u64, why: Why) -> Result<(), NoMemory>
     ensures { OnOk result (out.new ≡ out.old ++ unfit_text line why) }
 {
-    out.push_slice(b"unfit line ")?;
-    push_number(out, line)?;
+    push_numbered(out, b"unfit line ", line)?;
     out.push_slice(b": ")?;
     out.push_slice(why.word())?;
     out.push_slice(b"\n")
+}
+
+/// A packet that has outlived half of its channel's numbers: the line, the number that it has, and what its tunnel counts.
+#[tactic(auto, unfolding(protocol_model::specs::Run::half_space_text))]
+fn push_half_space(out: &mut Bytes, line: u64, number: u64, count: u64) -> Result<(), NoMemory>
+    ensures { OnOk result (out.new ≡ out.old ++ half_space_text line number count) }
+{
+    push_numbered(out, b"half space line ", line)?;
+    push_numbered(out, b": number ", number)?;
+    push_numbered(out, b", at ", count)?;
+    out.push_slice(b"\n")
+}
+
+/// A line that is refused, and why.
+#[tactic(auto, unfolding(protocol_model::specs::Run::refusal_text))]
+pub(crate) fn push_refusal(out: &mut Bytes, line: u64, refusal: Refusal) -> Result<(), NoMemory>
+    ensures { OnOk result (out.new ≡ out.old ++ refusal_text line refusal) }
+{
+    match refusal {
+        Refusal::Unfit { why } => push_unfit(out, line, why),
+        Refusal::HalfSpace { number, count } => push_half_space(out, line, number, count),
+    }
 }

@@ -1,23 +1,23 @@
 use Rattle.std.proofs.Common.{◌≡◌, ℕ, ◌+◌, ◌++◌, List, ◌∙◌, ap, sym, subst, Option}
 use Rattle.std.specs.Prelude.{IfOk}
-use Rattle.wire_base.specs.declared.why.Why.{Why}
-use Rattle.protocol_model.specs.Run.{run, unfit_text}
+use Rattle.protocol_model.specs.declared.refusal.Refusal.{Refusal}
+use Rattle.protocol_model.specs.Run.{run, refusal_text}
 use Rattle.schedule_replay.specs.Fault.{Known, Told}
 use Rattle.schedule_replay.proofs.Runs.{run_goes_on, report_stopped, fault_stopped, report_whole, fault_whole}
 use Rattle.schedule_replay.proofs.replaying.replay.Goals as goal
 
-pub returns-in-Err-Unfit-clause-report : goal.returns-in-Err-Unfit-clause-report
-returns-in-Err-Unfit-clause-report c =
-    let said = rw c.in-Err-Unfit.field-0-is at c.in-Err-Unfit.ensures in
-    let stopped = report_stopped (run c.args.lines.now) c.args.lines.now c.loop-i.i c.loop-i.world.told c.loop-i.invariant c.index-lines-i.result c.in-Err-Unfit.why c.loop-i-test.true c.index-lines-i.is said.1 in
-    let same = ap (λ (k : Known). k.told.report ++ unfit_text (c.loop-i.i + 1) c.in-Err-Unfit.why) said.2 in
-    subst (λ (t : List ℕ). IfOk c.report_unfit.result (λ r. r.report ≡ t)) (same ∙ sym stopped) (rw c.in-Err-Unfit.why-is at c.report_unfit.ensures.report)
+pub returns-in-Err-Refused-clause-report : goal.returns-in-Err-Refused-clause-report
+returns-in-Err-Refused-clause-report c =
+    let said = rw c.in-Err-Refused.field-0-is at c.in-Err-Refused.ensures in
+    let stopped = report_stopped (run c.args.lines.now) c.args.lines.now c.loop-i.i c.loop-i.world.told c.loop-i.invariant c.index-lines-i.result c.in-Err-Refused.refusal c.loop-i-test.true c.index-lines-i.is said.1 in
+    let same = ap (λ (k : Known). k.told.report ++ refusal_text (c.loop-i.i + 1) c.in-Err-Refused.refusal) said.2 in
+    subst (λ (t : List ℕ). IfOk c.report_refusal.result (λ r. r.report ≡ t)) (same ∙ sym stopped) (rw c.in-Err-Refused.refusal-is at c.report_refusal.ensures.report)
 
-pub returns-in-Err-Unfit-clause-fault : goal.returns-in-Err-Unfit-clause-fault
-returns-in-Err-Unfit-clause-fault c =
-    let said = rw c.in-Err-Unfit.field-0-is at c.in-Err-Unfit.ensures in
-    let stopped = fault_stopped (run c.args.lines.now) c.args.lines.now c.loop-i.i c.loop-i.world.told c.loop-i.invariant c.index-lines-i.result c.in-Err-Unfit.why c.loop-i-test.true c.index-lines-i.is said.1 in
-    subst (λ (f : Option (ℕ × Why)). IfOk c.report_unfit.result (λ r. r.fault ≡ f)) (sym stopped) (rw c.in-Err-Unfit.why-is at c.report_unfit.ensures.fault)
+pub returns-in-Err-Refused-clause-fault : goal.returns-in-Err-Refused-clause-fault
+returns-in-Err-Refused-clause-fault c =
+    let said = rw c.in-Err-Refused.field-0-is at c.in-Err-Refused.ensures in
+    let stopped = fault_stopped (run c.args.lines.now) c.args.lines.now c.loop-i.i c.loop-i.world.told c.loop-i.invariant c.index-lines-i.result c.in-Err-Refused.refusal c.loop-i-test.true c.index-lines-i.is said.1 in
+    subst (λ (f : Option (ℕ × Refusal)). IfOk c.report_refusal.result (λ r. r.fault ≡ f)) (sym stopped) (rw c.in-Err-Refused.refusal-is at c.report_refusal.ensures.fault)
 
 pub loop-i-preserved : goal.loop-i-preserved
 loop-i-preserved c = let e = c.in-Ok.ensures in run_goes_on (run c.args.lines.now) c.args.lines.now c.loop-i.i c.loop-i.world.told c.loop-i.invariant c.index-lines-i.result c.line.new.self.told c.loop-i-test.true c.index-lines-i.is e.1
