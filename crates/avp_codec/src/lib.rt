@@ -10,6 +10,3 @@ pub use avp::{Avp, Avps};
 pub use error::AvpError;
 pub use reading::{read_avps, reads_what_was_written};
 pub use writing::write_avp;
-
-#[cfg(test)]
-mod tests;

@@ -13,6 +13,3 @@ mod record;
 pub use journal::{Journal, JournalRoom, JournalStop};
 pub use laws::{a_commit_spells_one_more, a_crash_leaves_whole_commits, what_is_spelled_is_read};
 pub use open::{JournalOpen, open_disk};
-
-#[cfg(test)]
-mod tests;

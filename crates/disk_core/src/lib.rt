@@ -16,6 +16,3 @@ pub use laws::{
 pub use memory::{Fails, MemoryDisk};
 pub use steady::SteadyDisk;
 pub use stop::StopDisk;
-
-#[cfg(test)]
-mod tests;

@@ -101,6 +101,3 @@ impl Ids {
 pub fn each_number_is_drawn_once()
     ensures { CountsOn }
 {}
-
-#[cfg(test)]
-mod tests;

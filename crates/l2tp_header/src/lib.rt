@@ -8,6 +8,3 @@ mod writing;
 pub use header::{Header, HeaderError};
 pub use reading::{read_header, reads_what_was_written};
 pub use writing::{write_control, write_data};
-
-#[cfg(test)]
-mod tests;

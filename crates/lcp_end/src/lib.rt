@@ -18,6 +18,3 @@ pub use laws::{
 };
 pub use out::LcpOut;
 pub use table::{LcpActions, LcpEvent, lcp_advance, table_is_whole};
-
-#[cfg(test)]
-mod tests;

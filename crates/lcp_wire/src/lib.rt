@@ -10,6 +10,3 @@ pub use error::{LcpError, OptionError};
 pub use packet::{Lcp, LcpOption, Options, Packets};
 pub use reading::{read_lcp, read_options, reads_what_was_written};
 pub use writing::{write_lcp, write_option};
-
-#[cfg(test)]
-mod tests;

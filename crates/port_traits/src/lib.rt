@@ -12,6 +12,3 @@ pub use memory::{Fails, MemorySink, MemorySource};
 pub use moving::{ReadError, read_text, write_all};
 pub use ports::{Sink, Source};
 pub use system::{StdSink, StdSource};
-
-#[cfg(test)]
-mod tests;

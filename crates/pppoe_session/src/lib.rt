@@ -186,6 +186,3 @@ impl Table {
         }
     }
 }
-
-#[cfg(test)]
-mod tests;

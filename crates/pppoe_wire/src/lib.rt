@@ -10,6 +10,3 @@ pub use error::{PppoeError, TagError};
 pub use frame::{Pppoe, Tag, Tags};
 pub use reading::{read_frame, read_tags, reads_what_was_written};
 pub use writing::{write_frame, write_tag};
-
-#[cfg(test)]
-mod tests;

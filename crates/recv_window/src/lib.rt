@@ -103,6 +103,3 @@ pub fn the_class_is_true()
 pub fn messages_are_taken_in_order()
     ensures { TakenInOrder }
 {}
-
-#[cfg(test)]
-mod tests;

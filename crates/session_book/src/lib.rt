@@ -18,6 +18,3 @@ pub use writing::{call_down, call_up, ceiling, mark, tunnel_down, tunnel_up};
 pub fn a_content_is_one_step()
     ensures { EachContentIsAStep }
 {}
-
-#[cfg(test)]
-mod tests;

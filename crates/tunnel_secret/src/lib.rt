@@ -9,6 +9,3 @@ mod hiding;
 pub use challenge::{check_response, response};
 pub use error::UnhideError;
 pub use hiding::{hide, unhide, unhides_what_was_hidden};
-
-#[cfg(test)]
-mod tests;

@@ -1,5 +1,5 @@
-use super::*;
 use std::test::Fail;
+use tunnel_secret::*;
 
 // A value of more than two blocks, and what it is for attribute 22 under "secret" and the vector, with three zeros: by the
 // RFC's definition, computed with another MD5.

@@ -1,4 +1,4 @@
-use super::*;
+use recv_window::*;
 use std::test::Fail;
 
 #[test]

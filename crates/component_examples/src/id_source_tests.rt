@@ -1,4 +1,4 @@
-use super::*;
+use id_source::*;
 use std::test::Fail;
 
 #[test]

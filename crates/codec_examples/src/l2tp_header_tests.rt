@@ -1,4 +1,4 @@
-use super::*;
+use l2tp_header::*;
 use std::test::Fail;
 use wire_base::Bytes;
 

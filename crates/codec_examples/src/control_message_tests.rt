@@ -1,0 +1,321 @@
+use avp_codec::read_avps;
+use control_message::*;
+use std::alloc::Global;
+use std::test::Fail;
+use wire_base::Bytes;
+
+// The SCCRQ of a first opening: type, version, framing capabilities, name, tunnel, window, failover capability.
+const OPENING: &[u8] = b"\x80\x08\0\0\0\0\0\x01\x80\x08\0\0\0\x02\x01\0\x80\x0a\0\0\0\x03\0\0\0\x03\
+    \x80\x0a\0\0\0\x07lac1\x80\x08\0\0\0\x09\0\x01\x80\x08\0\0\0\x0a\0\x08\0\x0c\0\0\0\x4c\0\x03\0\0\x75\x30";
+
+fn read(alloc: Global, bytes: &[u8]) -> Option<Read> {
+    let avps = read_avps(alloc, bytes).ok()?;
+    read_message(alloc, &avps).ok()
+}
+
+fn refusal(alloc: Global, bytes: &[u8]) -> Option<MessageError> {
+    let avps = read_avps(alloc, bytes).ok()?;
+    read_message(alloc, &avps).err()
+}
+
+#[test]
+fn an_opening(rt: HostRuntime) -> Result<(), Fail> {
+    let opening = Opening {
+        version: 0x0100,
+        framing: 3,
+        name: Bytes::from_slice(rt.alloc(), b"lac1")?,
+        tunnel: 1,
+        window: 8,
+        failover: Some(Failover {
+            flags: 3,
+            time: 30000,
+        }),
+    };
+    let mut out = Bytes::new(rt.alloc());
+    write_message(&mut out, &Message::Sccrq(opening))?;
+    assert_eq!(rt; out.as_slice(), OPENING);
+    let Some(Read::Known(Message::Sccrq(o))) = read(rt.alloc(), OPENING) else {
+        return Err("an SCCRQ")?;
+    };
+    assert_eq!(rt; o.name.as_slice(), b"lac1".as_slice());
+    assert!(rt;
+        matches!(
+            o,
+            Opening {
+                version: 0x0100,
+                framing: 3,
+                tunnel: 1,
+                window: 8,
+                failover: Some(Failover {
+                    flags: 3,
+                    time: 30000
+                }),
+                ..
+            }
+        )
+    );
+    Ok(())
+}
+
+#[test]
+fn the_other_messages(rt: HostRuntime) -> Result<(), Fail> {
+    let mut out = Bytes::new(rt.alloc());
+    write_message(&mut out, &Message::Scccn)?;
+    write_message(&mut out, &Message::Hello)?;
+    write_message(&mut out, &Message::Icrp { session: 1 })?;
+    let wanted: &[u8] = b"\x80\x08\0\0\0\0\0\x03\x80\x08\0\0\0\0\0\x06\
+        \x80\x08\0\0\0\0\0\x0b\x80\x08\0\0\0\x0e\0\x01";
+    assert_eq!(rt; out.as_slice(), wanted);
+    Ok(())
+}
+
+#[test]
+fn a_call(rt: HostRuntime) -> Result<(), Fail> {
+    let mut out = Bytes::new(rt.alloc());
+    let icrq = Message::Icrq {
+        session: 1,
+        serial: 1,
+        calling: Some(Bytes::from_slice(rt.alloc(), b"ffff00000001")?),
+    };
+    let iccn = Message::Iccn {
+        speed: 100_000_000,
+        framing: 1,
+        sequenced: false,
+    };
+    write_message(&mut out, &icrq)?;
+    write_message(&mut out, &iccn)?;
+    let wanted: &[u8] = b"\x80\x08\0\0\0\0\0\x0a\x80\x08\0\0\0\x0e\0\x01\
+        \x80\x0a\0\0\0\x0f\0\0\0\x01\x80\x12\0\0\0\x16ffff00000001\
+        \x80\x08\0\0\0\0\0\x0c\x80\x0a\0\0\0\x18\x05\xf5\xe1\0\x80\x0a\0\0\0\x13\0\0\0\x01";
+    assert_eq!(rt; out.as_slice(), wanted);
+    Ok(())
+}
+
+// The CDN of a call that is refused for an unknown mandatory pair, and of one that wasn't up in time: type, result, session.
+const REFUSED: &[u8] =
+    b"\x80\x08\0\0\0\0\0\x0e\x80\x0a\0\0\0\x01\0\x02\0\x08\x80\x08\0\0\0\x0e\0\0";
+
+const LATE: &[u8] = b"\x80\x08\0\0\0\0\0\x0e\x80\x08\0\0\0\x01\0\x0a\x80\x08\0\0\0\x0e\0\x01";
+
+#[test]
+fn a_disconnect(rt: HostRuntime) -> Result<(), Fail> {
+    let mut refused = Bytes::new(rt.alloc());
+    let message = Message::Cdn {
+        session: 0,
+        result: 2,
+        error: Some(8),
+    };
+    write_message(&mut refused, &message)?;
+    assert_eq!(rt; refused.as_slice(), REFUSED);
+    let mut late = Bytes::new(rt.alloc());
+    let message = Message::Cdn {
+        session: 1,
+        result: 10,
+        error: None,
+    };
+    write_message(&mut late, &message)?;
+    assert_eq!(rt; late.as_slice(), LATE);
+    Ok(())
+}
+
+fn disconnect(alloc: Global, bytes: &[u8]) -> Option<(u16, u16, Option<u16>)> {
+    let Some(Read::Known(message)) = read(alloc, bytes) else {
+        return None;
+    };
+    match message {
+        Message::Cdn {
+            session,
+            result,
+            error,
+        } => Some((session, result, error)),
+        _ => None,
+    }
+}
+
+#[test]
+fn read_disconnects(rt: HostRuntime) {
+    let rows: [(&[u8], (u16, u16, Option<u16>)); 4] = [
+        (REFUSED, (0, 2, Some(8))),
+        (LATE, (1, 10, None)),
+        // with a text of one byte, and with one of four; in another order
+        (
+            b"\x80\x08\0\0\0\0\0\x0e\x80\x0b\0\0\0\x01\0\x01\0\x06x\x80\x08\0\0\0\x0e\x01\x02",
+            (0x102, 1, Some(6)),
+        ),
+        (
+            b"\x80\x08\0\0\0\x0e\0\x07\x80\x0e\0\0\0\x01\x03\x04\x05\x06busy\x80\x08\0\0\0\0\0\x0e",
+            (7, 0x304, Some(0x506)),
+        ),
+    ];
+    for (bytes, wanted) in rows {
+        assert!(rt; disconnect(rt.alloc(), bytes) == Some(wanted));
+    }
+}
+
+// An SCCRP in another order, with a second tunnel 0 that doesn't count and no window.
+const REPLY: &[u8] = b"\x80\x08\0\0\0\x09\0\x01\x80\x08\0\0\0\0\0\x02\x80\x08\0\0\0\x09\0\0\
+    \x80\x06\0\0\0\x07\x80\x0a\0\0\0\x03\0\0\0\x03\x80\x08\0\0\0\x02\x01\0";
+
+#[test]
+fn read_pairs(rt: HostRuntime) {
+    let reply = read(rt.alloc(), REPLY);
+    assert!(rt;
+        matches!(
+            reply,
+            Some(Read::Known(Message::Sccrp(Opening {
+                tunnel: 1,
+                window: 4,
+                failover: None,
+                ..
+            })))
+        )
+    );
+    // Sequencing Required stands for itself.
+    let connected = read(
+        rt.alloc(),
+        b"\x80\x08\0\0\0\0\0\x0c\x80\x0a\0\0\0\x13\0\0\0\x01\x80\x0a\0\0\0\x18\0\0\0\x09\x80\x06\0\0\0\x27",
+    );
+    assert!(rt;
+        matches!(
+            connected,
+            Some(Read::Known(Message::Iccn {
+                speed: 9,
+                framing: 1,
+                sequenced: true
+            }))
+        )
+    );
+    // A Hello uses no attribute, so that a session in it isn't looked at.
+    let hello = read(rt.alloc(), b"\x80\x08\0\0\0\0\0\x06\x80\x07\0\0\0\x0e\0");
+    assert!(rt; matches!(hello, Some(Read::Known(Message::Hello))));
+    // A hidden attribute 36 is passed over.
+    let accepted = read(
+        rt.alloc(),
+        b"\x80\x08\0\0\0\0\0\x0b\xc0\x08\0\0\0\x24ab\x80\x08\0\0\0\x0e\0\x02",
+    );
+    assert!(rt; matches!(accepted, Some(Read::Known(Message::Icrp { session: 2 }))));
+    // An unknown type that isn't mandatory, whatever else is there.
+    let ignored = read(rt.alloc(), b"\0\x08\0\0\0\0\0\x63\x80\x06\0\0\0\x63");
+    assert!(rt; matches!(ignored, Some(Read::Ignored { number: 0x63 })));
+}
+
+#[test]
+fn a_tunnel(rt: HostRuntime) -> Result<(), Fail> {
+    let avps = read_avps(rt.alloc(), REPLY).ok().ok_or("pairs")?;
+    assert_eq!(rt; assigned_tunnel(&avps), Some(1));
+    Ok(())
+}
+
+#[test]
+fn refused_pairs(rt: HostRuntime) {
+    let unknown = MessageError::UnknownMandatory {
+        vendor: 0,
+        attribute: 0x63,
+    };
+    let bad_tunnel = MessageError::BadValue { attribute: 9 };
+    let bad_result = MessageError::BadValue { attribute: 1 };
+    let rows: [(&[u8], MessageError); 22] = [
+        (b"", MessageError::NoType),
+        // a hidden type before a plain one
+        (
+            b"\xc0\x08\0\0\0\0\0\x01\x80\x08\0\0\0\0\0\x01",
+            MessageError::NoType,
+        ),
+        // type 99, then an unknown mandatory pair
+        (
+            b"\x80\x08\0\0\0\0\0\x63\x80\x06\0\0\0\x63",
+            MessageError::UnknownType { number: 99 },
+        ),
+        // of an unknown mandatory pair and a tunnel 0, whichever stands first
+        (
+            b"\x80\x08\0\0\0\0\0\x01\x80\x06\0\0\0\x63\x80\x08\0\0\0\x09\0\0",
+            unknown,
+        ),
+        (
+            b"\x80\x08\0\0\0\0\0\x01\x80\x08\0\0\0\x09\0\0\x80\x06\0\0\0\x63",
+            bad_tunnel,
+        ),
+        // a reserved bit
+        (
+            b"\x80\x08\0\0\0\0\0\x01\x84\x06\0\0\0\x07",
+            MessageError::UnknownMandatory {
+                vendor: 0,
+                attribute: 7,
+            },
+        ),
+        // a hidden name: without a Random Vector before it, and with one
+        (
+            b"\x80\x08\0\0\0\0\0\x01\xc0\x08\0\0\0\x07ab\x80\x08\0\0\0\x24ab",
+            MessageError::HiddenWithoutVector { attribute: 7 },
+        ),
+        (
+            b"\x80\x08\0\0\0\0\0\x01\x80\x08\0\0\0\x24ab\xc0\x08\0\0\0\x07ab",
+            MessageError::BadValue { attribute: 7 },
+        ),
+        // the same with a hidden attribute 36, which is no Random Vector, and with a plain one behind that
+        (
+            b"\x80\x08\0\0\0\0\0\x01\xc0\x08\0\0\0\x24ab\xc0\x08\0\0\0\x07ab",
+            MessageError::HiddenWithoutVector { attribute: 7 },
+        ),
+        (
+            b"\x80\x08\0\0\0\0\0\x01\xc0\x08\0\0\0\x24ab\x80\x08\0\0\0\x24ab\xc0\x08\0\0\0\x07ab",
+            MessageError::BadValue { attribute: 7 },
+        ),
+        // a window that is 0, and one of three bytes
+        (
+            b"\x80\x08\0\0\0\0\0\x01\x80\x08\0\0\0\x0a\0\0",
+            MessageError::BadValue { attribute: 10 },
+        ),
+        (
+            b"\x80\x08\0\0\0\0\0\x01\x80\x09\0\0\0\x0a\0\x08\0",
+            MessageError::BadValue { attribute: 10 },
+        ),
+        // no tunnel; no serial number; neither of the two numbers of an ICCN
+        (
+            b"\x80\x08\0\0\0\0\0\x01\x80\x08\0\0\0\x02\x01\0\x80\x0a\0\0\0\x03\0\0\0\x03\x80\x06\0\0\0\x07",
+            MessageError::Missing { attribute: 9 },
+        ),
+        (
+            b"\x80\x08\0\0\0\0\0\x0a\x80\x08\0\0\0\x0e\0\0",
+            MessageError::Missing { attribute: 15 },
+        ),
+        (
+            b"\x80\x08\0\0\0\0\0\x0c",
+            MessageError::Missing { attribute: 19 },
+        ),
+        // a session 0 in a reply
+        (
+            b"\x80\x08\0\0\0\0\0\x0b\x80\x08\0\0\0\x0e\0\0",
+            MessageError::BadValue { attribute: 14 },
+        ),
+        // a result of no bytes, of one and of three; it stands before what is missing
+        (
+            b"\x80\x08\0\0\0\0\0\x0e\x80\x06\0\0\0\x01\x80\x08\0\0\0\x0e\0\x01",
+            bad_result,
+        ),
+        (
+            b"\x80\x08\0\0\0\0\0\x0e\x80\x07\0\0\0\x01\x02\x80\x08\0\0\0\x0e\0\x01",
+            bad_result,
+        ),
+        (
+            b"\x80\x08\0\0\0\0\0\x0e\x80\x09\0\0\0\x01\0\x02\0",
+            bad_result,
+        ),
+        // a session of three bytes; no session; neither of the two
+        (
+            b"\x80\x08\0\0\0\0\0\x0e\x80\x09\0\0\0\x0e\0\x01\0\x80\x08\0\0\0\x01\0\x01",
+            MessageError::BadValue { attribute: 14 },
+        ),
+        (
+            b"\x80\x08\0\0\0\0\0\x0e\x80\x08\0\0\0\x01\0\x01",
+            MessageError::Missing { attribute: 14 },
+        ),
+        (
+            b"\x80\x08\0\0\0\0\0\x0e",
+            MessageError::Missing { attribute: 1 },
+        ),
+    ];
+    for (bytes, fault) in rows {
+        assert_eq!(rt; refusal(rt.alloc(), bytes), Some(fault));
+    }
+}

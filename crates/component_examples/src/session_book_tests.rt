@@ -1,0 +1,80 @@
+use session_book::*;
+use std::alloc::Global;
+use std::test::Fail;
+use wire_base::{Contents, NoMemory};
+
+// A content: these bytes, then zeros.
+fn filled(front: &[u8]) -> [u8; 31] {
+    let mut content = [0; 31];
+    for (to, byte) in content.iter_mut().zip(front) {
+        *to = *byte;
+    }
+    content
+}
+
+const TUNNEL: BookTunnel = BookTunnel {
+    local: 1,
+    remote: 1,
+    peer: 0x0a00_0002,
+    window: 8,
+    flags: 3,
+    mark: 0,
+};
+
+const CALL: BookCall = BookCall {
+    local: 1,
+    tunnel: 1,
+    remote: 1,
+    subscriber: [0xff, 0xff, 0, 0, 0, 1],
+    sequenced: false,
+};
+
+// Functions without clauses: a test that calls them is proved at little cost.
+
+fn book_of(alloc: Global, rows: &[[u8; 31]]) -> Result<Book, BookError> {
+    let contents = Contents::from_slice(alloc, rows)?;
+    Book::of_contents(alloc, &contents)
+}
+
+/// The book has both ceilings at 64, and the tunnel and the call alone.
+fn has_both(book: &Book) -> bool {
+    book.ceiling(1) == 64
+        && book.ceiling(2) == 64
+        && book.tunnels().as_slice() == [TUNNEL].as_slice()
+        && book.calls().as_slice() == [CALL].as_slice()
+}
+
+/// The tunnel takes the mark 5, and is gone as it goes down, with its call.
+fn is_marked_and_dropped(book: &mut Book) -> Result<bool, NoMemory> {
+    book.reserve(2)?;
+    book.apply(&mark(1, 5));
+    let is_marked = match book.tunnels().as_slice() {
+        [tunnel] => tunnel.mark == 5,
+        _ => false,
+    };
+    book.apply(&filled(&[3, 0, 1]));
+    Ok(is_marked && book.spare() == 0 && book.tunnels().is_empty() && book.calls().is_empty())
+}
+
+#[test]
+fn a_tunnel_with_a_call(rt: HostRuntime) -> Result<(), Fail> {
+    let rows = [
+        filled(&[1, 1, 0, 0, 0, 0x40]),
+        filled(&[1, 2, 0, 0, 0, 0x40]),
+        filled(&[2, 0, 1, 0, 1, 0x0a, 0, 0, 2, 0, 8, 0, 3]),
+        filled(&[4, 0, 1, 0, 1, 0, 1, 0xff, 0xff, 0, 0, 0, 1]),
+    ];
+    let made = [
+        ceiling(1, 64),
+        ceiling(2, 64),
+        tunnel_up(TUNNEL),
+        call_up(CALL),
+    ];
+    assert!(rt; made == rows);
+    let mut book = book_of(rt.alloc(), &rows).ok().ok_or("they make a book")?;
+    assert!(rt; has_both(&book));
+    assert!(rt; is_marked_and_dropped(&mut book)?);
+    let unknown = book_of(rt.alloc(), &[filled(&[9])]).err();
+    assert!(rt; matches!(unknown, Some(BookError::BadRecord { at: 0 })));
+    Ok(())
+}
