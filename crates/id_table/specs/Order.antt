@@ -5,11 +5,11 @@ use Rattle.std.specs.declared.cmp.Ordering.{Ordering}
 use Rattle.std.specs.declared.cmp.Ordering.TheVariants.{Less, Equal, Greater}
 use Rattle.std.specs.Ordering.{nat_cmp}
 use Rattle.std.specs.FinMap.{nat_cmp-IsAntisymmetric}
-use Rattle.std.proofs.Common.{refl, ap, sym, ◌∙◌, arith, ◌<◌, inl, inr, eqb}
+use Rattle.std.proofs.Common.{refl, ap, sym, ◌∙◌, subst, ⊎_elim, arith, ◌<◌, inl, inr, eqb}
 use Rattle.std.proofs.lemmas.Bool.{eqb-true, eqb-false, ne_eqb, eq-eqb}
 use Rattle.std.proofs.lemmas.Bool.Decides.{nat_tests}
 use Rattle.std.proofs.lemmas.Option.{none-some}
-use Rattle.id_table.specs.Ids.{at, put, at-put}
+use Rattle.id_table.specs.Ids.{at, put, without, at-put, at-none, at-cons, is_at-same}
 
 less_is : (k q : ℕ) → nat_cmp k q ≡ Less → k < q
 less_is k q h = grind (arith, nat_tests)
@@ -103,3 +103,55 @@ same_or_not m n = by (eqb m n) refl
     by : (b : Bool) → eqb m n ≡ b → (m ≡ n) ⊎ (m ≡ n → ⊥)
     by true e = inl (eqb-true m n e)
     by false e = inr (eqb-false m n e)
+
+-- ---- what is found after a value was taken out
+
+module _ {X : Type 0} where
+  without_nil : (k : ℕ) → without {X = X} [] k ≡ []
+  unfolding without
+  without_nil k = refl
+
+  without_cons : (e : ℕ × X) (es : List (ℕ × X)) (k : ℕ) → without (e ∷ es) k ≡ cond (eqb k e.0) es (e ∷ without es k)
+  unfolding without
+  without_cons e es k = ap (λ b. cond b es (e ∷ without es k)) (is_at-same k e.0)
+
+  pub at_without_other : (es : List (ℕ × X)) (k q : ℕ) → (q ≡ k → ⊥) → at (without es k) q ≡ at es q
+  at_without_other [] k q o = rw (without_nil k) refl
+  at_without_other (e ∷ es) k q o = rw (without_cons e es k, at-cons e es q) (by (eqb k e.0) refl (at_without_other es k q o))
+    where
+      by : (b : Bool) → eqb k e.0 ≡ b → at (without es k) q ≡ at es q → at (cond b es (e ∷ without es k)) q ≡ cond (eqb q e.0) (Some e.1) (at es q)
+      by true is later = rw (ne_eqb q e.0 (λ s. o (s ∙ sym (eqb-true k e.0 is)))) refl
+      by false is later = at-cons e (without es k) q ∙ ap (λ x. cond (eqb q e.0) (Some e.1) x) later
+
+  pub at_without_same : (es : List (ℕ × X)) (k : ℕ) → Ascends es → at (without es k) k ≡ None
+  unfolding Ascends
+  at_without_same [] k h = rw (without_nil k) (at-none k)
+  at_without_same (e ∷ es) k h = rw (without_cons e es k) (by (eqb k e.0) refl (at_without_same es k h.1))
+    where
+      by : (b : Bool) → eqb k e.0 ≡ b → at (without es k) k ≡ None → at (cond b es (e ∷ without es k)) k ≡ None
+      by true is later = at-above k es (subst (λ n. IsAbove n es) (sym (eqb-true k e.0 is)) h.0)
+      by false is later = at-cons e (without es k) k ∙ rw is later
+
+  above_without : (q k : ℕ) (es : List (ℕ × X)) → IsAbove q es → IsAbove q (without es k)
+  above_without q k [] h = rw (without_nil k) tt
+  above_without q k (e ∷ es) h = rw (without_cons e es k) (by (eqb k e.0) (above_without q k es h.1))
+    where
+      by : (b : Bool) → IsAbove q (without es k) → IsAbove q (cond b es (e ∷ without es k))
+      by true later = h.1
+      by false later = (h.0, later)
+
+  pub ascends-without : (k : ℕ) (es : List (ℕ × X)) → Ascends es → Ascends (without es k)
+  unfolding Ascends
+  ascends-without k [] h = rw (without_nil k) tt
+  ascends-without k (e ∷ es) h = rw (without_cons e es k) (by (eqb k e.0) (above_without e.0 k es h.0) (ascends-without k es h.1))
+    where
+      by : (b : Bool) → IsAbove e.0 (without es k) → Ascends (without es k) → Ascends (cond b es (e ∷ without es k))
+      by true above later = h.1
+      by false above later = (above, later)
+
+  -- what is found after a value was taken out was there, under another id
+  pub found_without : (es : List (ℕ × X)) (k q : ℕ) (x : X) → Ascends es → at (without es k) q ≡ Some x → (q ≡ k → ⊥) × (at es q ≡ Some x)
+  found_without es k q x h found = ⊎_elim
+      (λ e. absurd (none-some x (sym (at_without_same es k h) ∙ subst (λ n. at (without es k) n ≡ Some x) e found)))
+      (λ o. (o, sym (at_without_other es k q o) ∙ found))
+      (same_or_not q k)
