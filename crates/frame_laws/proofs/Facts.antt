@@ -16,7 +16,7 @@ use Rattle.step_laws.specs.Letters.{Among}
 use Rattle.protocol_model.specs.World.{Node}
 use Rattle.frame_laws.specs.Past.{Passage}
 use Rattle.frame_laws.specs.Frames.{other_end}
-pub use Rattle.frame_laws.specs.Facts.{Nodes, birth_in_node, Born, role_in_node, Plays, Grows, Mates, NamesItsCall, WasSentInCall, BytesOk, PacketOk, KnowsItsMate, CallOk, CallsOk, LetterOk, LettersOk, TunnelOk, EndOk, NodeOk, Holds, StepLaws, LooksOfRuns}
+pub use Rattle.frame_laws.specs.Facts.{Nodes, birth_in_node, Born, role_in_node, Plays, Grows, Mates, NamesItsCall, WasSentInCall, BytesOk, PacketOk, KnowsItsMate, CallOk, CallsOk, LetterOk, LettersOk, TunnelOk, EndOk, NodeOk, Holds, StepLaws, LooksOfRuns, FactsOfRuns}
 
 pub all_map : {X : Type 0} (P Q : X → Type 0) → ((x : X) → P x → Q x) → (xs : List X) → AllByRecursion P xs → AllByRecursion Q xs
 all_map P Q f [] h = tt

@@ -1,5 +1,4 @@
 pub mod Facts
-pub mod Tables
 pub mod Changes
 pub mod Births
 pub mod Rows

@@ -9,7 +9,7 @@ use Rattle.std.specs.Prelude.{◌==◌}
 use Rattle.id_source.specs.Spaces.{Space, draws}
 use Rattle.protocol_model.specs.declared.tunnel.CallPlace.{CallPlace}
 use Rattle.id_table.specs.Ids.{at, put, without, at-none}
-use Rattle.id_table.specs.Order.{Ascends, ascends-empty, ascends-put, at_new, at_other, found_put}
+use Rattle.id_table.specs.Order.{Ascends, ascends-empty, ascends-put, ascends-without, at_new, at_other, found_put, found_without}
 use Rattle.wire_base.specs.declared.letter.Letter.{Letter}
 use Rattle.control_message.specs.declared.message.Message.{Message}
 use Rattle.control_message.specs.declared.message.Message.TheVariants.{Sccrq, Sccrp, Scccn, Hello, Icrq, Icrp, Cdn}
@@ -48,7 +48,6 @@ use Rattle.protocol_model.specs.Turn.{Tunnel, letter_of, counts_given, counts_ta
 use Rattle.protocol_model.specs.End.{End, new_place}
 use Rattle.protocol_model.specs.World.{World, Node, with_birth, is_born, birth_of, moved}
 use Rattle.step_laws.specs.Moves.{with_tunnel, with_letter, new_tunnel, begun, Opens, Accepts, Connects, Confirms, Adds as AddsCall, Requests, Replies, ComesUpFirst, ComesUpSecond, TellsEnd, HearsEnd, EndsSilently, Clears, Greets, TakesPlain, Reads, LetsGo, Repeats, without_call, Does}
-use Rattle.frame_laws.proofs.Tables.{ascends_without, found_without}
 use Rattle.frame_laws.proofs.Facts.{Nodes, Born, Plays, Grows, same_nodes, Mates, swapped, NamesItsCall, KnowsItsMate, CallOk, call_later, CallsOk, LetterOk, LettersOk, letters_later, TunnelOk, tunnel_later, all_push, all_drop}
 use Rattle.frame_laws.proofs.Changes.{next_birth, some_birth, with_one, born_nodes, born_packets, born_count, made_count, made_nodes, made_packets, Changed, birth_is, plays_at, grows, Adds, NextBirth, SameBirth}
 use Rattle.frame_laws.proofs.Births.{not_lns, counted_after}
@@ -286,8 +285,8 @@ module _ (digits : (port : ℕ) → length (calling_number port) ≡ 12) (n : �
   repeated_led : (moment : ℕ) (m : Repeated) (y : End) → Repeats x moment m y → Led v y
   repeated_led moment m y h = stays_led y m.tunnel h.tunnel _ h.there h.after refl refl refl
 
-  greeted_led : (m : Greeted) (y : End) → Greets x m y → Led v y
-  greeted_led m y h =
+  greeted_led : (moment : ℕ) (m : Greeted) (y : End) → Greets x moment ev m y → Led v y
+  greeted_led moment m y h =
       let o = here.end.tunnels m.tunnel h.tunnel h.there in
       control_led y m.tunnel h.tunnel _ _ h.there h.after refl refl o.remote (more_letters m.tunnel h.tunnel h.there 0 Hello (omega arith) tt tt)
 
@@ -376,29 +375,29 @@ module _ (digits : (port : ℕ) → length (calling_number port) ≡ 12) (n : �
       let o = here.end.tunnels i t there in
       subst (λ e. Led v e) (sym same)
       (calls_led _ i t c ls (without t.calls s) there (sets_tunnel _ i _) refl local peer remote letters
-      (λ q d f. o.calls q d (found_without t.calls s q d o.order f)) (ascends_without s t.calls o.order))
+      (λ q d f. o.calls q d (found_without t.calls s q d o.order f).1) (ascends-without s t.calls o.order))
 
-  told_led : (m : EndTold) (y : End) → TellsEnd x m y → Led v y
-  told_led m y h =
+  told_led : (moment : ℕ) (m : EndTold) (y : End) → TellsEnd x moment ev m y → Led v y
+  told_led moment m y h =
       let o = (here.end.tunnels m.tunnel h.tunnel h.there).calls m.session h.call h.live in
       let names : NamesItsCall v.nodes n (node_of h.tunnel.control.peer) m.remote (Cdn m.session m.code None) =
       ((o.birth, o.some, o.born), rw h.remote o.known) in
       ended_led y m.tunnel h.tunnel (counts_given h.tunnel.control) _ m.session h.there h.after refl refl refl
-      (more_letters m.tunnel h.tunnel h.there m.remote (Cdn m.session m.code None) (rw h.remote o.remote) (h.session, h.code, tt) names)
+      (more_letters m.tunnel h.tunnel h.there m.remote (Cdn m.session m.code None) (rw h.remote o.remote) (h.session, (let code = h.code in omega (arith, code)), tt) names)
 
   heard_led : (m : EndHeard) (y : End) → HearsEnd x ev m y → Led v y
   heard_led m y h =
       ended_led y m.tunnel h.tunnel (counts_taken h.tunnel.control) h.tunnel.letters m.session h.there h.after refl refl refl
       (here.end.tunnels m.tunnel h.tunnel h.there).letters
 
-  silent_led : (m : EndSilent) (y : End) → EndsSilently x m y → Led v y
-  silent_led m y h =
+  silent_led : (moment : ℕ) (m : EndSilent) (y : End) → EndsSilently x moment ev m y → Led v y
+  silent_led moment m y h =
       ended_led y m.tunnel h.tunnel h.tunnel.control h.tunnel.letters m.session h.there h.after refl refl refl
       (here.end.tunnels m.tunnel h.tunnel h.there).letters
 
   -- the tunnel isn't there any more
-  cleared_led : (i : ℕ) (y : End) → Clears x i y → Led v y
-  cleared_led i y h = subst (λ e. Led v e) (sym h.after) (record {
+  cleared_led : (moment i : ℕ) (y : End) → Clears x moment ev i y → Led v y
+  cleared_led moment i y h = subst (λ e. Led v e) (sym h.after) (record {
     at_end = record {
       node = here.node;
       is = here.is;
@@ -412,8 +411,8 @@ module _ (digits : (port : ℕ) → length (calling_number port) ≡ 12) (n : �
         last_session = here.end.last_session;
         most = here.end.most;
         tunnels = λ j t f. tunnel_later v.nodes v.nodes (same_nodes v.nodes) n x _ j t refl (omega arith) (omega arith)
-            (here.end.tunnels j t (found_without x.tunnels i j t here.end.order f));
-        order = ascends_without i x.tunnels here.end.order;
+            (here.end.tunnels j t (found_without x.tunnels i j t here.end.order f).1);
+        order = ascends-without i x.tunnels here.end.order;
       };
       births = here.births;
     };
@@ -621,11 +620,11 @@ module _ (digits : (port : ℕ) → length (calling_number port) ≡ 12) (n : �
   does_led moment (move.Replied m) y h = replied_led moment m y h
   does_led moment (move.FirstUp m) y h = first_led moment m y h
   does_led moment (move.SecondUp m) y h = second_led moment m y h
-  does_led moment (move.EndTold m) y h = told_led m y h
+  does_led moment (move.EndTold m) y h = told_led moment m y h
   does_led moment (move.EndHeard m) y h = heard_led m y h
-  does_led moment (move.EndSilent m) y h = silent_led m y h
-  does_led moment (move.Cleared i) y h = cleared_led i y h
-  does_led moment (move.Greeted m) y h = greeted_led m y h
+  does_led moment (move.EndSilent m) y h = silent_led moment m y h
+  does_led moment (move.Cleared i) y h = cleared_led moment i y h
+  does_led moment (move.Greeted m) y h = greeted_led moment m y h
   does_led moment (move.TookPlain m) y h = plain_led m y h
   does_led moment (move.NrRead m) y h = read_led moment m y h
   does_led moment (move.LetGo m) y h = let_go_led moment m y h

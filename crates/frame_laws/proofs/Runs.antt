@@ -16,7 +16,7 @@ use Rattle.frame_laws.specs.Past.{Passage, sent_by, handed_by, sent_in, handed_i
 use Rattle.frame_laws.specs.Frames.{WasSent, IsCarried, IsGiven, FramesOfRuns, PacketsOfRuns, GivenInRuns}
 use Rattle.frame_laws.specs.Reports.{ups_in, told_of, ReportsOfRuns}
 use Rattle.frame_laws.proofs.Ups.{ups_in-append, told_of-append}
-use Rattle.frame_laws.proofs.Facts.{StepLaws, LooksOfRuns, Born, birth_in_node, Holds, among_left, all_map}
+use Rattle.frame_laws.proofs.Facts.{StepLaws, LooksOfRuns, FactsOfRuns, Born, birth_in_node, Holds, among_left, all_map}
 use Rattle.frame_laws.proofs.Births.{Counted}
 use Rattle.frame_laws.proofs.Changes.{born_at, plays_at}
 use Rattle.frame_laws.proofs.Deeds.{all_append}
@@ -174,3 +174,6 @@ module _ (codecs : Codecs) (laws : StepLaws) where
 
   pub looks_of_runs : LooksOfRuns
   looks_of_runs lines fits n node f = ((ended_from 1 lines empty_run fits begins).1.holds.nodes n node f).looks
+
+  pub facts_of_runs : FactsOfRuns
+  facts_of_runs lines fits = (ended_from 1 lines empty_run fits begins).1.holds

@@ -340,7 +340,7 @@ module _ (codecs : Codecs) (laws : StepLaws) (number : ℕ) (w : World) (gs : Li
     bytes_ok bytes = BytesOk v.nodes (gs ++ more) n (node_of peer) bytes
 
     carries_ok : (bytes : List ℕ) (o : Origin) → Carries tunnel s.moves bytes o → bytes_ok bytes
-    carries_ok bytes o (ALetter l number among origin_is are) =
+    carries_ok bytes o (ALetter l number small among origin_is are) =
         let to = r.at_end.end.tunnels id tunnel there in
         let keeps = LetterOk v.nodes n tunnel.control.peer in
         let lo = all_at keeps tunnel.letters (place_of tunnel.control.channel number) l among to.letters in

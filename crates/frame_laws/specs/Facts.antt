@@ -27,7 +27,7 @@ use Rattle.schedule_text.specs.declared.line.Line.{Line}
 use Rattle.schedule_text.specs.Grammar.{AreLines}
 use Rattle.protocol_model.specs.World.{World, Node}
 use Rattle.protocol_model.specs.Run.{run}
-use Rattle.frame_laws.specs.Past.{Passage}
+use Rattle.frame_laws.specs.Past.{Passage, past_of}
 use Rattle.frame_laws.specs.Frames.{other_end}
 
 abbrev pub Nodes : Type 0
@@ -171,3 +171,7 @@ pub record StepLaws : Type 0 where
 -- after the run of each list of lines of the grammar, what the data plane of each node sees is so
 abbrev pub LooksOfRuns : Type 0
 LooksOfRuns = (lines : List Line) → AreLines lines → (n : ℕ) (node : Node) → at (run lines).world.nodes n ≡ Some node → LooksAreTrue node.end
+
+-- all of it
+abbrev pub FactsOfRuns : Type 0
+FactsOfRuns = (lines : List Line) → AreLines lines → Holds (run lines).world (past_of lines).sent

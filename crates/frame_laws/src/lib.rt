@@ -3,12 +3,12 @@
 
 ghost use Rattle.frame_laws.specs.Births.{BirthsOfRuns};
 ghost use Rattle.frame_laws.specs.Codecs.{Codecs};
-ghost use Rattle.frame_laws.specs.Facts.{LooksOfRuns, StepLaws};
+ghost use Rattle.frame_laws.specs.Facts.{FactsOfRuns, LooksOfRuns, StepLaws};
 ghost use Rattle.frame_laws.specs.Frames.{FramesOfRuns, GivenInRuns, PacketsOfRuns};
 ghost use Rattle.frame_laws.specs.Reports.{ReportsOfRuns};
 
 /// What the codecs promise of what they write.
-fn written_is_read_again()
+pub fn written_is_read_again()
     ensures { Codecs }
 {
     l2tp_header::reads_what_was_written();
@@ -50,6 +50,14 @@ pub fn sent_frames_are_packets()
 /// hand one up.
 pub fn reports_tell_the_past()
     ensures { ReportsOfRuns }
+{
+    written_is_read_again();
+    laws_of_steps();
+}
+
+/// What holds of every world: of its nodes and their calls, and of each packet.
+pub fn facts_hold()
+    ensures { FactsOfRuns }
 {
     written_is_read_again();
     laws_of_steps();

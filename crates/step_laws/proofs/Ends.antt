@@ -5,7 +5,7 @@ use Rattle.std.proofs.lemmas.List.{append-nil}
 use Rattle.std.specs.Prelude.{◌==◌}
 use Rattle.std.specs.List.{AllByRecursion}
 use Rattle.id_table.specs.Ids.{at, put}
-use Rattle.id_table.specs.Order.{Ascends, ascends-put, ascends-empty, put-again, at_new, found_put}
+use Rattle.id_table.specs.Order.{Ascends, ascends-put, ascends-empty, put-again, at_new, found_put, ascends-without}
 use Rattle.id_source.specs.Spaces.{draws}
 use Rattle.id_source.specs.declared.IdError.{IdError}
 use Rattle.wire_base.specs.declared.why.Why.{Why}
@@ -14,6 +14,7 @@ use Rattle.wire_base.specs.declared.cause.Cause.{Cause}
 use Rattle.wire_base.specs.declared.cause.Cause.TheVariants as cause
 use Rattle.wire_base.specs.declared.letter.Letter.{Letter}
 use Rattle.tunnel_fsm.specs.declared.table.TunnelState.TheVariants.{WaitCtlConn}
+use Rattle.tunnel_fsm.specs.Rows.{state_number}
 use Rattle.l2tp_header.specs.declared.header.Header.{Header}
 use Rattle.l2tp_header.specs.Reading.{header_of}
 use Rattle.control_message.specs.declared.message.Message.{Message}
@@ -33,10 +34,10 @@ use Rattle.protocol_model.specs.Calls.{is_up}
 use Rattle.protocol_model.specs.Turn.{Tunnel, Env, Turn, turn_of, with_output, with_move, changed_at, with_calls, with_local, letter_of, opening_of, letters_after, has_room, learns_window, gives, takes_one, drops, lets_all_go, acknowledged_after, settles, fresh, opened, opens_by, opens, accepted, accepts_by, accepts, adds, rings_new, rings, first_said, hears_control, hears_datagram, carried, carries, turns, tunnel_after}
 use Rattle.protocol_model.specs.End.{End, env_of, gives_only, placed, with_looks, after_turn, after_new}
 use Rattle.step_laws.specs.Letters.{AFrame, HasOutput}
-use Rattle.step_laws.specs.Moves.{IsFor, Hears, Chain, begun}
+use Rattle.step_laws.specs.Moves.{IsAgain, IsFor, Hears, Chain, begun}
 use Rattle.step_laws.specs.Steps.{IsKept, AreKept, IsOfMoves, IsChain}
-use Rattle.step_laws.proofs.Lists.{all_map, branch, ascends-without, ascends_placed, ascends_looks}
-use Rattle.step_laws.proofs.Turns.{IsWord, NoFrame, Stays, Held, held_given, held_learnt, next_after, at_turn, TurnOk, learnt_state, drops_ok, adds_ok}
+use Rattle.step_laws.proofs.Lists.{all_map, branch, ascends_placed, ascends_looks}
+use Rattle.step_laws.proofs.Turns.{IsWord, NoFrame, Stays, Held, held_given, held_learnt, next_after, at_turn, TurnOk, learnt_state, learnt_room, drops_ok, adds_ok}
 use Rattle.step_laws.proofs.Settling.{OutOk, Settled, unsent, settles_ok}
 use Rattle.step_laws.proofs.Hearing.{Fresh, hears_control_ok, rings_ok}
 
@@ -127,6 +128,8 @@ module _ (e : End) (kept : AreKept e) (moment : ℕ) (ev : Event) where
             calls = ascends_with r.changed calls sorted;
             letters = held.0;
             outstanding = held.1;
+            few = held.2;
+            acked = held.3;
           }))
           (λ a. kept.tunnels j u a.1)
           (found_put e.tunnels i tunnel j u found);
@@ -180,7 +183,7 @@ module _ (e : End) (kept : AreKept e) (moment : ℕ) (ev : Event) where
       again = rw same (put-again t.control.local t e.tunnels kept.order there)
 
       held_first : Held t.control.channel.window (letters_after start t.letters)
-      held_first = rw (append-nil t.letters) (k.letters, k.outstanding)
+      held_first = rw (append-nil t.letters) (k.letters, k.outstanding, k.few, k.acked)
 
       pub begins : Fresh e moment ev t.letters t.calls i start
       unfolding with_calls with_looks placed
@@ -206,23 +209,26 @@ module _ (e : End) (kept : AreKept e) (moment : ℕ) (ev : Event) where
       dropped_leads w =
           settled_leads _ (unsent e moment ev t.letters t.calls i _ (drops_ok e moment ev t.letters t.calls i w start begins.good))
 
-      -- whether the message names the tunnel or none
-      is_for : (h : Header) → (h.tunnel ≡ i) ⊎ (h.tunnel ≡ 0) → IsFor h t.control
-      is_for h to = ⊎_elim (λ a. inl (a ∙ sym k.local)) (λ z. inr z) to
+      -- the message names the tunnel, or comes again to it
+      is_for : (h : Header) (bytes : List ℕ) → (h.tunnel ≡ i) ⊎ IsAgain h bytes t.control → IsFor h bytes t.control
+      is_for h bytes to = ⊎_elim (λ named. inl (named ∙ sym k.local)) (λ again. inr again) to
 
       pub heard_chain : (bytes : List ℕ) (h : Header) → header_of bytes ≡ Ok h → h.control ≡ true → ev ≡ Datagram t.control.peer bytes
-          → (h.tunnel ≡ i) ⊎ (h.tunnel ≡ 0) → leads (turns e.role e.config t.letters t.calls (Datagram t.control.peer bytes) start)
+          → (h.tunnel ≡ i) ⊎ IsAgain h bytes t.control → leads (turns e.role e.config t.letters t.calls (Datagram t.control.peer bytes) start)
       unfolding turns hears_datagram
       heard_chain bytes h read control same to =
           subst (λ r. leads (hears_datagram e.role e.config t.letters t.calls bytes r start)) (sym read)
           (branch leads h.control _ _
-          (λ c. settled_leads _ (hears_control_ok e moment ev t.letters t.calls i k.calls bytes h read control e.config start begins refl refl same (is_for h to)))
+          (λ c. settled_leads _
+          (hears_control_ok e moment ev t.letters t.calls i k.calls bytes h read control e.config start begins refl refl same (is_for h bytes to)))
           (λ c. absurd (true≢false (sym control ∙ c))))
 
-      pub rung_chain : (port : ℕ) → ev ≡ Ring port → e.role ≡ Lac → leads (turns e.role e.config t.letters t.calls (Ring port) start)
+      pub rung_chain : (port : ℕ) → (state_number t.control.state ≡ 3) ⊎ (state_number t.control.state ≡ 1) → ev ≡ Ring port → e.role ≡ Lac
+          → leads (turns e.role e.config t.letters t.calls (Ring port) start)
       unfolding turns
-      rung_chain port same lac =
-          settled_leads _ (settles_ok e moment ev t.letters t.calls i false _ (rings_ok e moment ev t.letters t.calls i k.calls e.config port start begins same lac))
+      rung_chain port goes same lac =
+          settled_leads _ (settles_ok e moment ev t.letters t.calls i false _
+          (rings_ok e moment ev t.letters t.calls i k.calls e.config port start begins goes same lac))
 
       -- a frame leaves the tunnel as it was
       carried_chain : (s : ℕ) (frame : List ℕ) (c : Call) → at t.calls s ≡ Some c → is_up c.state ≡ true
@@ -315,7 +321,7 @@ module _ (e : End) (kept : AreKept e) (moment : ℕ) (ev : Event) where
         words = tt;
         frames = (tt, tt);
         stays = (refl, (λ z. absurd (omega (arith, z))), kept.sessions, next_after e.tunnel_ids kept.first, refl, refl);
-        held = (refl, omega arith);
+        held = (refl, omega arith, omega arith, omega arith);
       }
 
       pub opens_chain : e.role ≡ Lac → peer ≡ e.config.lns → leads_new (turns e.role e.config [] [] OpenTunnel blank)
@@ -333,7 +339,7 @@ module _ (e : End) (kept : AreKept e) (moment : ℕ) (ev : Event) where
           → draws e.tunnel_ids ≡ Ok local → TurnOk e moment ev [] [] local (adds e.role port s (opened e.role e.config local blank))
       unfolding opened gives with_move with_local
       rung_good port s local lac lns rings session drawn =
-          adds_ok e moment ev [] [] local port s (opened e.role e.config local blank) refl rings lac session (opened_good local lac lns drawn)
+          adds_ok e moment ev [] [] local port s (opened e.role e.config local blank) refl (inr refl) rings lac session (opened_good local lac lns drawn)
 
       pub rings_chain : (port : ℕ) → e.role ≡ Lac → peer ≡ e.config.lns → ev ≡ Ring port → leads_new (turns e.role e.config [] [] (Ring port) blank)
       unfolding turns rings rings_new
@@ -356,10 +362,14 @@ module _ (e : End) (kept : AreKept e) (moment : ℕ) (ev : Event) where
           (λ none. rw none refl)
           (λ some. rw some refl)
 
-      accepted_good : (session remote window local : ℕ) (o : Opening) → Hears ev peer session (Sccrq o) → remote ≡ o.tunnel → window ≡ o.window
+      -- no tunnel of this end is to the peer and has this id there
+      abbrev pub Alone : ℕ → Type 0
+      Alone remote = (j : ℕ) (t : Tunnel) → at e.tunnels j ≡ Some t → t.control.peer ≡ peer → t.control.remote ≡ remote → ⊥
+
+      accepted_good : (session remote window local : ℕ) (o : Opening) → Hears ev peer session (Sccrq o) → remote ≡ o.tunnel → window ≡ o.window → Alone remote
           → draws e.tunnel_ids ≡ Ok local → TurnOk e moment ev [] [] local (accepted e.role e.config remote window local blank)
       unfolding accepted gives with_move with_local takes_one with_calls with_looks placed
-      accepted_good session remote window local o hears is told drawn = record {
+      accepted_good session remote window local o hears is told alone drawn = record {
         chain = (
           _,
           record {
@@ -367,6 +377,7 @@ module _ (e : End) (kept : AreKept e) (moment : ℕ) (ev : Event) where
             hears = (session, hears);
             remote = is;
             window = told;
+            alone = alone;
             drawn = drawn;
             taken = refl;
             given = refl;
@@ -377,12 +388,15 @@ module _ (e : End) (kept : AreKept e) (moment : ℕ) (ev : Event) where
         words = tt;
         frames = (tt, tt);
         stays = (refl, rw (learnt_state window (begun 0 peer remote WaitCtlConn moment)) (λ z. absurd (omega (arith, z))), kept.sessions, next_after e.tunnel_ids kept.first, refl, refl);
-        held = held_given (learns_window window (begun 0 peer remote WaitCtlConn moment)).channel.window [] (letter_of 0 (Sccrp (opening_of e.role e.config local))) (held_learnt window (begun 0 peer remote WaitCtlConn moment) [] (refl, omega arith));
+        held = let c = begun 0 peer remote WaitCtlConn moment in
+            held_given (learns_window window c).channel.window [] (letter_of 0 (Sccrp (opening_of e.role e.config local))) (learnt_room window c)
+            (held_learnt window c [] (refl, omega arith, omega arith, omega arith));
       }
 
-      accepts_chain : (session : ℕ) (o : Opening) → Hears ev peer session (Sccrq o) → leads_new (settles false [] (accepts e.role e.config o.tunnel o.window blank))
+      accepts_chain : (session : ℕ) (o : Opening) → Hears ev peer session (Sccrq o) → Alone o.tunnel
+          → leads_new (settles false [] (accepts e.role e.config o.tunnel o.window blank))
       unfolding accepts accepts_by
-      accepts_chain session o hears = by (draws e.tunnel_ids) refl
+      accepts_chain session o hears alone = by (draws e.tunnel_ids) refl
         where
           by : (x : Result ℕ IdError) → draws e.tunnel_ids ≡ x → leads_new (settles false [] (accepts_by e.role e.config o.tunnel o.window x blank))
           by (Err x) is = dropped_new why.Tunnel
@@ -391,27 +405,27 @@ module _ (e : End) (kept : AreKept e) (moment : ℕ) (ev : Event) where
               (λ may. made_leads _ (record {
                 id = local;
                 some = drawn_some local is;
-                good = accepted_good session o.tunnel o.window local o hears refl refl is;
+                good = accepted_good session o.tunnel o.window local o hears refl refl alone is;
               }))
               (λ full. dropped_new why.Queue)
 
       first_chain : (session : ℕ) (x : Result Message Why) → ((m : Message) → x ≡ Ok m → Hears ev peer session m)
-          → leads_new (settles false [] (first_said e.role e.config x blank))
+          → ((o : Opening) → x ≡ Ok (Sccrq o) → Alone o.tunnel) → leads_new (settles false [] (first_said e.role e.config x blank))
       unfolding first_said
-      first_chain session (Ok (Sccrq o)) said = accepts_chain session o (said (Sccrq o) refl)
-      first_chain session (Ok Hello) said = dropped_new why.Tunnel
-      first_chain session (Ok (Cdn remote code error)) said = dropped_new why.Tunnel
-      first_chain session (Ok (Sccrp o)) said = dropped_new why.Tunnel
-      first_chain session (Ok Scccn) said = dropped_new why.Tunnel
-      first_chain session (Ok (Icrq remote serial calling)) said = dropped_new why.Tunnel
-      first_chain session (Ok (Icrp remote)) said = dropped_new why.Tunnel
-      first_chain session (Ok (Iccn speed framing sequenced)) said = dropped_new why.Tunnel
-      first_chain session (Err w) said = dropped_new why.Tunnel
+      first_chain session (Ok (Sccrq o)) said alone = accepts_chain session o (said (Sccrq o) refl) (alone o refl)
+      first_chain session (Ok Hello) said alone = dropped_new why.Tunnel
+      first_chain session (Ok (Cdn remote code error)) said alone = dropped_new why.Tunnel
+      first_chain session (Ok (Sccrp o)) said alone = dropped_new why.Tunnel
+      first_chain session (Ok Scccn) said alone = dropped_new why.Tunnel
+      first_chain session (Ok (Icrq remote serial calling)) said alone = dropped_new why.Tunnel
+      first_chain session (Ok (Icrp remote)) said alone = dropped_new why.Tunnel
+      first_chain session (Ok (Iccn speed framing sequenced)) said alone = dropped_new why.Tunnel
+      first_chain session (Err w) said alone = dropped_new why.Tunnel
 
       pub first_heard : (bytes : List ℕ) (h : Header) → header_of bytes ≡ Ok h → h.control ≡ true → ev ≡ Datagram peer bytes
-          → leads_new (turns e.role e.config [] [] (Datagram peer bytes) blank)
+          → ((o : Opening) → message_in (body_of h bytes) ≡ Ok (Sccrq o) → Alone o.tunnel) → leads_new (turns e.role e.config [] [] (Datagram peer bytes) blank)
       unfolding turns hears_datagram hears_control
-      first_heard bytes h read control same =
+      first_heard bytes h read control same alone =
           subst (λ x. leads_new (hears_datagram e.role e.config [] [] bytes x blank)) (sym read)
           (branch leads_new h.control _ _
           (λ c. first_chain h.session (message_in (body_of h bytes)) (λ m said. record {
@@ -422,5 +436,5 @@ module _ (e : End) (kept : AreKept e) (moment : ℕ) (ev : Event) where
             control = control;
             session_is = refl;
             said = said;
-          }))
+          }) alone)
           (λ c. absurd (true≢false (sym control ∙ c))))

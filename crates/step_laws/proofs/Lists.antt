@@ -1,11 +1,11 @@
--- Lists that grow at their end, and tables from which a value is taken.
-use Rattle.std.proofs.Common.{◌≡◌, ◌⊎◌, inl, inr, ⊎_elim, ℕ, Bool, true, false, cond, eqb, zero, suc, List, [], ◌∷◌, ◌++◌, refl, sym, ap, ◌∙◌, subst, Option, Some, None, arith}
-use Rattle.std.proofs.lemmas.Bool.{eqb-true, eqb-false, ne_eqb}
+-- Lists that grow at their end, and what is found in lists and tables.
+use Rattle.std.proofs.Common.{◌≡◌, ◌⊎◌, inl, inr, ⊎_elim, ℕ, Bool, true, false, cond, eqb, zero, suc, List, [], ◌∷◌, ◌++◌, refl, sym, ap, ◌∙◌, subst, Option, Some, None}
+use Rattle.std.proofs.lemmas.Bool.{eqb-true, eqb-false, true≢false}
 use Rattle.std.proofs.lemmas.Option.{none-some}
 use Rattle.std.specs.List.{AllByRecursion, find}
 use Rattle.std.specs.Prelude.{slice_get, ◌&&◌, map}
-use Rattle.id_table.specs.Ids.{at, put, without, is_at-same, ids_of}
-use Rattle.id_table.specs.Order.{IsAbove, Ascends, ascends-put, same_or_not}
+use Rattle.id_table.specs.Ids.{at, put, without, at-none, at-cons, ids_of}
+use Rattle.id_table.specs.Order.{Ascends, ascends-put, ascends-without, at_without_same, at_without_other, same_or_not}
 use Rattle.protocol_model.specs.declared.event.Event.{Event}
 use Rattle.protocol_model.specs.declared.tunnel.Call.{Call}
 use Rattle.protocol_model.specs.declared.tunnel.CallPlace.{CallPlace}
@@ -79,6 +79,10 @@ pub and_left : (a b : Bool) → (a && b) ≡ true → a ≡ true
 and_left true b h = refl
 and_left false b h = h
 
+pub and_right : (a b : Bool) → (a && b) ≡ true → b ≡ true
+and_right true b h = h
+and_right false b h = absurd (true≢false (sym h))
+
 -- what is found passes the test
 pub found_passes : {X : Type 0} (p : X → Bool) (xs : List X) (x : X) → find p xs ≡ Some x → p x ≡ true
 found_passes p [] x h = absurd cc
@@ -88,68 +92,21 @@ found_passes p (y ∷ xs) x h = by (p y) refl h (found_passes p xs x)
     by true is e later = let same : y ≡ x = cc in subst (λ z. p z ≡ true) same is
     by false is e later = later e
 
--- ---- a value is taken out of a table
+-- where none is found, none passes the test
+pub none_passes : {X : Type 0} (p : X → Bool) (xs : List X) (x : X) → find p xs ≡ None → Among x xs → p x ≡ true → ⊥
+none_passes p [] x h a pass = a
+none_passes p (y ∷ xs) x h a pass = by (p y) refl h (none_passes p xs x)
+  where
+    by : (b : Bool) → p y ≡ b → cond b (Some y) (find p xs) ≡ None → (find p xs ≡ None → Among x xs → p x ≡ true → ⊥) → ⊥
+    by true is e later = absurd (none-some y (sym e))
+    by false is e later = ⊎_elim (λ (same : y ≡ x). true≢false (sym pass ∙ (ap p (sym same) ∙ is))) (λ l. later e l pass) a
+
+-- ---- the ids of a table
 
 module _ {X : Type 0} where
-  at_cons : (e : ℕ × X) (es : List (ℕ × X)) (q : ℕ) → at (e ∷ es) q ≡ cond (eqb q e.0) (Some e.1) (at es q)
-  unfolding at
-  at_cons e es q = ap (λ b. cond b (Some e.1) (at es q)) (is_at-same q e.0)
-
-  at_nil : (q : ℕ) → at {X = X} [] q ≡ None
-  unfolding at
-  at_nil q = refl
-
-  without_nil : (k : ℕ) → without {X = X} [] k ≡ []
-  unfolding without
-  without_nil k = refl
-
-  without_cons : (e : ℕ × X) (es : List (ℕ × X)) (k : ℕ) → without (e ∷ es) k ≡ cond (eqb k e.0) es (e ∷ without es k)
-  unfolding without
-  without_cons e es k = ap (λ b. cond b es (e ∷ without es k)) (is_at-same k e.0)
-
-  none_below : (k : ℕ) (es : List (ℕ × X)) → IsAbove k es → at es k ≡ None
-  none_below k [] h = at_nil k
-  none_below k (e ∷ es) h = at_cons e es k ∙ rw (ne_eqb k e.0 (λ q. let lt = h.0 in omega (arith, q))) (none_below k es h.1)
-
-  pub at_without_other : (es : List (ℕ × X)) (k q : ℕ) → (q ≡ k → ⊥) → at (without es k) q ≡ at es q
-  at_without_other [] k q o = rw (without_nil k) refl
-  at_without_other (e ∷ es) k q o = rw (without_cons e es k, at_cons e es q) (by (eqb k e.0) refl (at_without_other es k q o))
-    where
-      by : (b : Bool) → eqb k e.0 ≡ b → at (without es k) q ≡ at es q → at (cond b es (e ∷ without es k)) q ≡ cond (eqb q e.0) (Some e.1) (at es q)
-      by true is later = rw (ne_eqb q e.0 (λ s. o (s ∙ sym (eqb-true k e.0 is)))) refl
-      by false is later = at_cons e (without es k) q ∙ ap (λ x. cond (eqb q e.0) (Some e.1) x) later
-
-  pub at_without_same : (es : List (ℕ × X)) (k : ℕ) → Ascends es → at (without es k) k ≡ None
-  unfolding Ascends
-  at_without_same [] k h = rw (without_nil k) (at_nil k)
-  at_without_same (e ∷ es) k h = rw (without_cons e es k) (by (eqb k e.0) refl (at_without_same es k h.1))
-    where
-      by : (b : Bool) → eqb k e.0 ≡ b → at (without es k) k ≡ None → at (cond b es (e ∷ without es k)) k ≡ None
-      by true is later = none_below k es (subst (λ n. IsAbove n es) (sym (eqb-true k e.0 is)) h.0)
-      by false is later = at_cons e (without es k) k ∙ rw is later
-
-  above_without : (q k : ℕ) (es : List (ℕ × X)) → IsAbove q es → IsAbove q (without es k)
-  above_without q k [] h = rw (without_nil k) tt
-  above_without q k (e ∷ es) h = rw (without_cons e es k) (branch (IsAbove q) (eqb k e.0) _ _ (λ is. h.1) (λ no. (h.0, above_without q k es h.1)))
-
-  pub ascends-without : (k : ℕ) (es : List (ℕ × X)) → Ascends es → Ascends (without es k)
-  unfolding Ascends
-  ascends-without k [] h = rw (without_nil k) tt
-  ascends-without k (e ∷ es) h =
-      rw (without_cons e es k) (branch Ascends (eqb k e.0) _ _ (λ is. h.1) (λ no. (above_without e.0 k es h.0, ascends-without k es h.1)))
-
-  -- what is found after a value was taken out was there, under another id
-  pub found_without : (es : List (ℕ × X)) (k q : ℕ) (x : X) → Ascends es → at (without es k) q ≡ Some x → (q ≡ k → ⊥) × (at es q ≡ Some x)
-  found_without es k q x h found = ⊎_elim
-      (λ e. absurd (none-some x (sym (at_without_same es k h) ∙ subst (λ n. at (without es k) n ≡ Some x) e found)))
-      (λ o. (o, sym (at_without_other es k q o) ∙ found))
-      (same_or_not q k)
-
-  -- ---- the ids of a table
-
   pub found_among : (es : List (ℕ × X)) (q : ℕ) (x : X) → at es q ≡ Some x → Among q (ids_of es)
-  found_among [] q x h = absurd (none-some x (sym (at_nil q) ∙ h))
-  found_among (e ∷ es) q x h = by (eqb q e.0) refl (sym (at_cons e es q) ∙ h) (found_among es q x)
+  found_among [] q x h = absurd (none-some x (sym (at-none q) ∙ h))
+  found_among (e ∷ es) q x h = by (eqb q e.0) refl (sym (at-cons e es q) ∙ h) (found_among es q x)
     where
       by : (b : Bool) → eqb q e.0 ≡ b → cond (eqb q e.0) (Some e.1) (at es q) ≡ Some x → (at es q ≡ Some x → Among q (ids_of es))
           → (e.0 ≡ q) ⊎ Among q (ids_of es)
@@ -158,7 +115,7 @@ module _ {X : Type 0} where
 
   pub none_not_among : (es : List (ℕ × X)) (q : ℕ) → at es q ≡ None → Among q (ids_of es) → ⊥
   none_not_among [] q h a = a
-  none_not_among (e ∷ es) q h a = by (eqb q e.0) refl (sym (at_cons e es q) ∙ h) (none_not_among es q)
+  none_not_among (e ∷ es) q h a = by (eqb q e.0) refl (sym (at-cons e es q) ∙ h) (none_not_among es q)
     where
       by : (b : Bool) → eqb q e.0 ≡ b → cond (eqb q e.0) (Some e.1) (at es q) ≡ None → (at es q ≡ None → Among q (ids_of es) → ⊥) → ⊥
       by true is f later = none-some e.1 (let g = rw is at f in sym g)

@@ -8,7 +8,7 @@ use Rattle.id_source.specs.Spaces.{Space, draws, after_draw}
 use Rattle.wire_base.specs.declared.letter.Letter.{Letter}
 use Rattle.tunnel_fsm.specs.declared.table.TunnelState.TheVariants as tunnel
 use Rattle.id_table.specs.Ids.{at, put, without, at-none, ids_of}
-use Rattle.id_table.specs.Order.{Ascends, ascends-put, ascends-empty, at_new, at_other, found_put, same_or_not}
+use Rattle.id_table.specs.Order.{Ascends, ascends-put, ascends-empty, at_new, at_other, found_put, same_or_not, at_without_other, ascends-without, found_without}
 use Rattle.call_fsm.specs.declared.table.CallState.{CallState}
 use Rattle.call_fsm.specs.declared.table.CallState.TheVariants.{Idle, WaitTunnel, WaitReply, WaitConnect, Established}
 use Rattle.call_fsm.specs.declared.table.CallEvent.TheVariants as call_event
@@ -27,7 +27,7 @@ use Rattle.protocol_model.specs.Turn.{Tunnel}
 use Rattle.protocol_model.specs.End.{End, with_look, with_looks}
 use Rattle.step_laws.specs.Moves.{with_tunnel, Does, Chain}
 use Rattle.step_laws.specs.Steps.{AreKept, StepsAreChains}
-use Rattle.step_laws.proofs.Lists.{at_without_other, ascends-without, found_without, found_among, none_not_among, ascends_look, ascends_looks, killed_same, killed_other}
+use Rattle.step_laws.proofs.Lists.{found_among, none_not_among, ascends_look, ascends_looks, killed_same, killed_other}
 use Rattle.step_laws.proofs.Turns.{learnt_peer}
 use Rattle.step_laws.specs.Looks.{look_of, IsLive, LooksAreTrue, LooksBeginTrue, LooksStayTrue}
 

@@ -1,4 +1,4 @@
--- A turn hands nothing up, and one call at most is born in it.
+-- A turn hands nothing up, one call at most is born in it, and Nr is read once at most.
 use Rattle.std.proofs.Common.{◌≡◌, ℕ, ◌+◌, ◌≤◌, Bool, false, zero, suc, List, [], ◌∷◌, ◌++◌, length, refl, ap, ◌∙◌, Option, Some, None, Result, Ok, Err, arith}
 use Rattle.std.proofs.lemmas.Grind.{flat_map-append}
 use Rattle.std.proofs.lemmas.List.{append-nil, length-append}
@@ -44,59 +44,85 @@ use Rattle.protocol_model.specs.declared.moves.Move.TheVariants as move
 use Rattle.protocol_model.specs.Reading.{header_why, body_of, message_in}
 use Rattle.protocol_model.specs.Calls.{call_row, rung, is_set_up, is_request, is_reply, is_connection, is_up}
 use Rattle.protocol_model.specs.Turn.{Turn, with_output, with_move, with_change, with_call, with_new, with_local, drops, gives, has_room, sends_letter, sends_now, lets_go, goes_by, lets_all_go, acknowledges, outstanding, acknowledged_after, settles, takes_one, reads_nr, opened, opens_by, opens, accepted, accepts_by, accepts, requested, requests, requests_at, requests_all, adds, rings_over, rings_by, rings_new, rings, connected, connects, confirms, takes_plain, ignores, takes_by, takes, replied, replies_by, replies, first_up, first_up_by, second_up, second_up_by, ends_call, ends_all, is_clean_up, end_heard, end_heard_by, session_named, ends_named, repeats, greeted, greets, end_silent, end_told, limited_by, limits_at, limits_all, goes_quietly, clears, is_over, patience, is_being_set_up, ticks_by, ticks, about_call, in_call, hears, hears_said, hears_letter, is_duplicate, in_tunnel, first_said, hears_control, carried, carries, hears_datagram, turns}
-use Rattle.step_laws.specs.Ups.{ups_of_output, ups_of_move, births_of_move, most_births}
+use Rattle.step_laws.specs.Ups.{ups_of_output, ups_of_move, births_of_move, reads_of_move, most_births, most_reads}
 use Rattle.step_laws.proofs.Lists.{branch}
 
--- outputs and moves that hand nothing up, with so many births at most
-pub record AreQuiet (most : ℕ) (outs : List Out) (ms : List Move) : Type 0 where
+-- outputs and moves that hand nothing up, with so many births and so many reads of Nr at most
+pub record AreQuiet (most reads : ℕ) (outs : List Out) (ms : List Move) : Type 0 where
   pub no_output : flat_map ups_of_output outs ≡ []
   pub no_move : flat_map ups_of_move ms ≡ []
   pub births : length (flat_map births_of_move ms) ≤ most
+  pub read : length (flat_map reads_of_move ms) ≤ reads
 
-abbrev pub IsQuiet : ℕ → Turn → Type 0
-IsQuiet most t = AreQuiet most t.outputs t.moves
+abbrev pub IsQuiet : ℕ → ℕ → Turn → Type 0
+IsQuiet most reads t = AreQuiet most reads t.outputs t.moves
 
 -- nothing more, where the last one gives nothing
 none_more : {X Y : Type 0} (f : X → List Y) (xs : List X) (x : X) → f x ≡ [] → flat_map f (xs ++ x ∷ []) ≡ flat_map f xs
 none_more f xs x none = flat_map-append f xs (x ∷ []) ∙ ap (λ ys. flat_map f xs ++ (ys ++ [])) none ∙ append-nil (flat_map f xs)
 
--- one more output, and one more move, that give nothing
-told : {most : ℕ} {outs : List Out} {ms : List Move} (o : Out) → ups_of_output o ≡ [] → AreQuiet most outs ms → AreQuiet most (outs ++ o ∷ []) ms
-told {most} {outs} {ms} o none h = record { no_output = none_more ups_of_output outs o none ∙ h.no_output; no_move = h.no_move; births = h.births }
+-- one more, where the last one gives one
+one_more : {X Y : Type 0} (f : X → List Y) (xs : List X) (x : X) (y : Y) → f x ≡ y ∷ [] → length (flat_map f (xs ++ x ∷ [])) ≡ length (flat_map f xs) + 1
+one_more f xs x y one =
+    let before = flat_map f xs in
+    let more : flat_map f (xs ++ x ∷ []) ≡ before ++ y ∷ [] = flat_map-append f xs (x ∷ []) ∙ ap (λ ys. before ++ (ys ++ [])) one in
+    rw more (length-append before (y ∷ []))
 
-did : {most : ℕ} {outs : List Out} {ms : List Move} (m : Move) → ups_of_move m ≡ [] → births_of_move m ≡ [] → AreQuiet most outs ms
-    → AreQuiet most outs (ms ++ m ∷ [])
-did {most} {outs} {ms} m none unborn h =
+-- one more output, and one more move, that give nothing
+told : {most reads : ℕ} {outs : List Out} {ms : List Move} (o : Out) → ups_of_output o ≡ [] → AreQuiet most reads outs ms
+    → AreQuiet most reads (outs ++ o ∷ []) ms
+told {most} {reads} {outs} {ms} o none h =
+    record { no_output = none_more ups_of_output outs o none ∙ h.no_output; no_move = h.no_move; births = h.births; read = h.read }
+
+did : {most reads : ℕ} {outs : List Out} {ms : List Move} (m : Move) → ups_of_move m ≡ [] → births_of_move m ≡ [] → reads_of_move m ≡ []
+    → AreQuiet most reads outs ms → AreQuiet most reads outs (ms ++ m ∷ [])
+did {most} {reads} {outs} {ms} m none unborn unread h =
     record {
       no_output = h.no_output;
       no_move = none_more ups_of_move ms m none ∙ h.no_move;
       births = rw (none_more births_of_move ms m unborn) h.births;
+      read = rw (none_more reads_of_move ms m unread) h.read;
     }
 
 -- one more move, by which a call is born
-with_birth : {most : ℕ} {outs : List Out} {ms : List Move} (m : Move) (s : ℕ) → ups_of_move m ≡ [] → births_of_move m ≡ s ∷ [] → AreQuiet most outs ms
-    → AreQuiet (most + 1) outs (ms ++ m ∷ [])
-with_birth {most} {outs} {ms} m s none born h =
-    let before = flat_map births_of_move ms in
-    let more : flat_map births_of_move (ms ++ m ∷ []) ≡ before ++ s ∷ [] = flat_map-append births_of_move ms (m ∷ []) ∙ ap (λ ys. before ++ (ys ++ [])) born in
-    let count = length-append before (s ∷ []) in
+with_birth : {most reads : ℕ} {outs : List Out} {ms : List Move} (m : Move) (s : ℕ) → ups_of_move m ≡ [] → births_of_move m ≡ s ∷ [] → reads_of_move m ≡ []
+    → AreQuiet most reads outs ms → AreQuiet (most + 1) reads outs (ms ++ m ∷ [])
+with_birth {most} {reads} {outs} {ms} m s none born unread h =
+    let count = one_more births_of_move ms m s born in
     let few = h.births in
     record {
       no_output = h.no_output;
       no_move = none_more ups_of_move ms m none ∙ h.no_move;
-      births = rw more (omega (arith, count, few));
+      births = omega (arith, count, few);
+      read = rw (none_more reads_of_move ms m unread) h.read;
     }
 
--- with one birth more to spare
-spared : {outs : List Out} {ms : List Move} → AreQuiet 0 outs ms → AreQuiet 1 outs ms
-spared h = record { no_output = h.no_output; no_move = h.no_move; births = (let few = h.births in omega (arith, few)) }
+-- one more move, by which Nr is read
+with_read : {most reads : ℕ} {outs : List Out} {ms : List Move} (m : Move) (i : ℕ) → ups_of_move m ≡ [] → births_of_move m ≡ [] → reads_of_move m ≡ i ∷ []
+    → AreQuiet most reads outs ms → AreQuiet most (reads + 1) outs (ms ++ m ∷ [])
+with_read {most} {reads} {outs} {ms} m i none unborn is_read h =
+    let count = one_more reads_of_move ms m i is_read in
+    let few = h.read in
+    record {
+      no_output = h.no_output;
+      no_move = none_more ups_of_move ms m none ∙ h.no_move;
+      births = rw (none_more births_of_move ms m unborn) h.births;
+      read = omega (arith, count, few);
+    }
 
-pub nothing : (most : ℕ) → AreQuiet most [] []
-nothing most = record { no_output = refl; no_move = refl; births = omega arith }
+-- with one birth more to spare, and with one read
+spared : {reads : ℕ} {outs : List Out} {ms : List Move} → AreQuiet 0 reads outs ms → AreQuiet 1 reads outs ms
+spared h = record { no_output = h.no_output; no_move = h.no_move; births = (let few = h.births in omega (arith, few)); read = h.read }
 
-module _ (most : ℕ) where
+unread : {most : ℕ} {outs : List Out} {ms : List Move} → AreQuiet most 0 outs ms → AreQuiet most 1 outs ms
+unread h = record { no_output = h.no_output; no_move = h.no_move; births = h.births; read = (let few = h.read in omega (arith, few)) }
+
+pub nothing : (most reads : ℕ) → AreQuiet most reads [] []
+nothing most reads = record { no_output = refl; no_move = refl; births = omega arith; read = omega arith }
+
+module _ (most reads : ℕ) where
   abbrev Quiet : Turn → Type 0
-  Quiet t = IsQuiet most t
+  Quiet t = IsQuiet most reads t
 
   dropped : (w : Why) (t : Turn) → Quiet t → Quiet (drops w t)
   unfolding drops with_output
@@ -115,7 +141,7 @@ module _ (most : ℕ) where
 
   gone : (letters : List Letter) (number : ℕ) (t : Turn) → Quiet t → Quiet (lets_go letters number t)
   unfolding lets_go sends_now with_move
-  gone letters number t h = sent number _ _ (did _ refl refl h)
+  gone letters number t h = sent number _ _ (did _ refl refl refl h)
 
   gone_by : (rest : Turn → Turn) → ((u : Turn) → Quiet u → Quiet (rest u)) → (letters : List Letter) (o : Option ℕ) (t : Turn) → Quiet t
       → Quiet (goes_by rest letters o t)
@@ -130,7 +156,7 @@ module _ (most : ℕ) where
 
   acknowledged : (t : Turn) → Quiet t → Quiet (acknowledges t)
   unfolding acknowledges with_output with_move
-  acknowledged t h = told _ refl (did _ refl refl h)
+  acknowledged t h = told _ refl (did _ refl refl refl h)
 
   settled : (again : Bool) (letters : List Letter) (t : Turn) → Quiet t → Quiet (settles again letters t)
   unfolding settles acknowledged_after
@@ -143,7 +169,7 @@ module _ (most : ℕ) where
 
   opened_quiet : (role : Role) (c : Config) (local : ℕ) (t : Turn) → Quiet t → Quiet (opened role c local t)
   unfolding opened gives with_move with_local
-  opened_quiet role c local t h = did _ refl refl h
+  opened_quiet role c local t h = did _ refl refl refl h
 
   opens_quiet : (role : Role) (c : Config) (t : Turn) → Quiet t → Quiet (opens role c t)
   unfolding opens opens_by
@@ -155,7 +181,7 @@ module _ (most : ℕ) where
 
   accepted_quiet : (role : Role) (c : Config) (remote window local : ℕ) (t : Turn) → Quiet t → Quiet (accepted role c remote window local t)
   unfolding accepted gives with_move takes_one with_local
-  accepted_quiet role c remote window local t h = did _ refl refl h
+  accepted_quiet role c remote window local t h = did _ refl refl refl h
 
   accepts_quiet : (role : Role) (c : Config) (remote window : ℕ) (t : Turn) → Quiet t → Quiet (accepts role c remote window t)
   unfolding accepts accepts_by
@@ -184,7 +210,7 @@ module _ (most : ℕ) where
 
   requested_quiet : (role : Role) (s : ℕ) (c : Call) (t : Turn) → Quiet t → Quiet (requested role s c t)
   unfolding requested gives with_change with_move with_call
-  requested_quiet role s c t h = did _ refl refl h
+  requested_quiet role s c t h = did _ refl refl refl h
 
   requests_quiet : (role : Role) (s : ℕ) (c : Call) (t : Turn) → Quiet t → Quiet (requests role s c t)
   unfolding requests
@@ -207,7 +233,7 @@ module _ (most : ℕ) where
 
   connected_quiet : (remote window : ℕ) (next : TunnelState) (t : Turn) → Quiet t → Quiet (connected remote window next t)
   unfolding connected gives with_move takes_one
-  connected_quiet remote window next t h = did _ refl refl h
+  connected_quiet remote window next t h = did _ refl refl refl h
 
   connects_quiet : (role : Role) (calls : List (ℕ × Call)) (remote window : ℕ) (next : TunnelState) (t : Turn) → Quiet t
       → Quiet (connects role calls remote window next t)
@@ -219,11 +245,11 @@ module _ (most : ℕ) where
 
   confirms_quiet : (next : TunnelState) (t : Turn) → Quiet t → Quiet (confirms next t)
   unfolding confirms with_move takes_one
-  confirms_quiet next t h = did _ refl refl h
+  confirms_quiet next t h = did _ refl refl refl h
 
   plain_quiet : (t : Turn) → Quiet t → Quiet (takes_plain t)
   unfolding takes_plain with_move takes_one
-  plain_quiet t h = did _ refl refl h
+  plain_quiet t h = did _ refl refl refl h
 
   ignored : (w : Why) (t : Turn) → Quiet t → Quiet (ignores w t)
   unfolding ignores
@@ -251,7 +277,7 @@ module _ (most : ℕ) where
 
   replied_quiet : (role : Role) (remote s : ℕ) (t : Turn) → Quiet t → Quiet (replied role remote s t)
   unfolding replied gives with_move with_new takes_one
-  replied_quiet role remote s t h = did _ refl refl h
+  replied_quiet role remote s t h = did _ refl refl refl h
 
   replies_quiet : (role : Role) (remote : ℕ) (t : Turn) → Quiet t → Quiet (replies role remote t)
   unfolding replies replies_by
@@ -264,7 +290,7 @@ module _ (most : ℕ) where
 
   first_up_quiet : (role : Role) (s remote : ℕ) (c : Call) (t : Turn) → Quiet t → Quiet (first_up role s remote c t)
   unfolding first_up gives with_change with_move with_call takes_one
-  first_up_quiet role s remote c t h = did _ refl refl h
+  first_up_quiet role s remote c t h = did _ refl refl refl h
 
   first_up_by_quiet : (role : Role) (s remote : ℕ) (o : Option Call) (t : Turn) → Quiet t → Quiet (first_up_by role s remote o t)
   unfolding first_up_by
@@ -276,7 +302,7 @@ module _ (most : ℕ) where
 
   second_up_quiet : (role : Role) (s : ℕ) (c : Call) (t : Turn) → Quiet t → Quiet (second_up role s c t)
   unfolding second_up with_change with_move with_call takes_one
-  second_up_quiet role s c t h = did _ refl refl h
+  second_up_quiet role s c t h = did _ refl refl refl h
 
   second_up_by_quiet : (role : Role) (s : ℕ) (o : Option Call) (t : Turn) → Quiet t → Quiet (second_up_by role s o t)
   unfolding second_up_by
@@ -288,7 +314,9 @@ module _ (most : ℕ) where
   unfolding end_heard_by end_heard ends_call with_output with_change with_move takes_one
   end_heard_by_quiet role s None t h = ignored why.Session t h
   end_heard_by_quiet role s (Some c) t h =
-      branch Quiet (is_clean_up (call_row role c.state call_event.CdnCame).1) _ _ (λ row. did _ refl refl (told _ refl h)) (λ none. ignored why.Session t h)
+      branch Quiet (is_clean_up (call_row role c.state call_event.CdnCame).1) _ _
+      (λ row. did _ refl refl refl (told _ refl h))
+      (λ none. ignored why.Session t h)
 
   about_quiet : (role : Role) (calls : List (ℕ × Call)) (session : ℕ) (m : Message) (t : Turn) → Quiet t → Quiet (about_call role calls session m t)
   unfolding about_call ends_named
@@ -339,32 +367,11 @@ module _ (most : ℕ) where
   unfolding in_tunnel
   in_tunnel_quiet role letters calls session body c t h = settled (is_duplicate c) letters _ (letter_quiet role calls session body c t h)
 
-  read_quiet : (nr : ℕ) (t : Turn) → Quiet t → Quiet (reads_nr nr t)
-  unfolding reads_nr with_move
-  read_quiet nr t h = did _ refl refl h
-
-  control_quiet : (role : Role) (c : Config) (letters : List Letter) (calls : List (ℕ × Call)) (k : Header) (body : List ℕ) (t : Turn) → Quiet t
-      → Quiet (hears_control role c letters calls k body t)
-  unfolding hears_control
-  control_quiet role c letters calls k body t h =
-      branch Quiet (state_number t.control.state == 0) _ _
-      (λ idle. settled false letters _ (first_quiet role c (message_in body) t h))
-      (λ busy.
-      let class = class_told t.control.channel (unwrap_or k.ns 0) (length body == 0) in
-      in_tunnel_quiet role letters calls k.session body class _ (read_quiet (unwrap_or k.nr 0) t h))
-
-  datagram_quiet : (role : Role) (c : Config) (letters : List Letter) (calls : List (ℕ × Call)) (bytes : List ℕ) (r : Result Header HeaderError) (t : Turn)
-      → Quiet t → Quiet (hears_datagram role c letters calls bytes r t)
-  unfolding hears_datagram
-  datagram_quiet role c letters calls bytes (Err x) t h = dropped (header_why x) t h
-  datagram_quiet role c letters calls bytes (Ok k) t h =
-      branch Quiet k.control _ _ (λ control. control_quiet role c letters calls k (body_of k bytes) t h) (λ data_is. dropped why.Session t h)
-
   -- ---- frames that are given
 
   carried_quiet : (s : ℕ) (frame : List ℕ) (c : Call) (t : Turn) → Quiet t → Quiet (carried s frame c t)
   unfolding carried with_output with_move
-  carried_quiet s frame c t h = told _ refl (did _ refl refl h)
+  carried_quiet s frame c t h = told _ refl (did _ refl refl refl h)
 
   carries_quiet : (s : ℕ) (frame : List ℕ) (o : Option Call) (t : Turn) → Quiet t → Quiet (carries s frame o t)
   unfolding carries
@@ -385,16 +392,16 @@ module _ (most : ℕ) where
   cleared_quiet : (calls : List (ℕ × Call)) (t : Turn) → Quiet t → Quiet (clears calls t)
   unfolding clears with_move
   cleared_quiet calls t h =
-      let cleared = ended_all (ids_of calls) (with_move (move.Cleared t.control.local) t) (did (move.Cleared t.control.local) refl refl h) in
-      record { no_output = cleared.no_output; no_move = cleared.no_move; births = cleared.births }
+      let cleared = ended_all (ids_of calls) (with_move (move.Cleared t.control.local) t) (did (move.Cleared t.control.local) refl refl refl h) in
+      record { no_output = cleared.no_output; no_move = cleared.no_move; births = cleared.births; read = cleared.read }
 
   repeated_quiet : (letters : List Letter) (number : ℕ) (t : Turn) → Quiet t → Quiet (repeats letters number t)
   unfolding repeats sends_now with_move
-  repeated_quiet letters number t h = sent number _ _ (did _ refl refl h)
+  repeated_quiet letters number t h = sent number _ _ (did _ refl refl refl h)
 
   greeted_quiet : (letters : List Letter) (t : Turn) → Quiet t → Quiet (greeted letters t)
   unfolding greeted gives with_move
-  greeted_quiet letters t h = settled false letters _ (did _ refl refl h)
+  greeted_quiet letters t h = settled false letters _ (did _ refl refl refl h)
 
   greets_quiet : (letters : List Letter) (t : Turn) → Quiet t → Quiet (greets letters t)
   unfolding greets
@@ -405,11 +412,11 @@ module _ (most : ℕ) where
 
   silent_quiet : (s : ℕ) (t : Turn) → Quiet t → Quiet (end_silent s t)
   unfolding end_silent with_move
-  silent_quiet s t h = did _ refl refl (ended_quiet s t h)
+  silent_quiet s t h = did _ refl refl refl (ended_quiet s t h)
 
   told_quiet : (s : ℕ) (c : Call) (code : ℕ) (t : Turn) → Quiet t → Quiet (end_told s c code t)
   unfolding end_told gives with_move
-  told_quiet s c code t h = did _ refl refl (ended_quiet s t h)
+  told_quiet s c code t h = did _ refl refl refl (ended_quiet s t h)
 
   limited_quiet : (letters : List Letter) (s : ℕ) (c : Call) (a : CallAction) (t : Turn) → Quiet t → Quiet (limited_by letters s c a t)
   unfolding limited_by
@@ -454,59 +461,90 @@ module _ (most : ℕ) where
   ticks_quiet role letters calls t h =
       branch Quiet (is_being_set_up t.control.state && is_over patience t.moment t.control.made) _ _ (λ late. cleared_quiet calls t h) (λ no. ticks_by_quiet role letters calls (answer_to_tick t.control.channel t.moment) t h)
 
+-- ---- datagrams: Nr is read before the letter is heard
+
+read_quiet : (nr : ℕ) (t : Turn) → IsQuiet 0 0 t → IsQuiet 0 1 (reads_nr nr t)
+unfolding reads_nr with_move
+read_quiet nr t h = with_read _ t.control.local refl refl refl h
+
+control_quiet : (role : Role) (c : Config) (letters : List Letter) (calls : List (ℕ × Call)) (k : Header) (body : List ℕ) (t : Turn) → IsQuiet 0 0 t
+    → IsQuiet 0 1 (hears_control role c letters calls k body t)
+unfolding hears_control
+control_quiet role c letters calls k body t h =
+    branch (IsQuiet 0 1) (state_number t.control.state == 0) _ _
+    (λ idle. settled 0 1 false letters _ (first_quiet 0 1 role c (message_in body) t (unread h)))
+    (λ busy.
+    let class = class_told t.control.channel (unwrap_or k.ns 0) (length body == 0) in
+    in_tunnel_quiet 0 1 role letters calls k.session body class _ (read_quiet (unwrap_or k.nr 0) t h))
+
+datagram_quiet : (role : Role) (c : Config) (letters : List Letter) (calls : List (ℕ × Call)) (bytes : List ℕ) (r : Result Header HeaderError) (t : Turn)
+    → IsQuiet 0 0 t → IsQuiet 0 1 (hears_datagram role c letters calls bytes r t)
+unfolding hears_datagram
+datagram_quiet role c letters calls bytes (Err x) t h = dropped 0 1 (header_why x) t (unread h)
+datagram_quiet role c letters calls bytes (Ok k) t h =
+    branch (IsQuiet 0 1) k.control _ _
+    (λ control. control_quiet role c letters calls k (body_of k bytes) t h)
+    (λ data_is. dropped 0 1 why.Session t (unread h))
+
 -- ---- rings
 
-adds_quiet : (role : Role) (port s : ℕ) (t : Turn) → IsQuiet 0 t → IsQuiet 1 (adds role port s t)
+adds_quiet : (role : Role) (port s : ℕ) (t : Turn) → IsQuiet 0 0 t → IsQuiet 1 0 (adds role port s t)
 unfolding adds with_move with_new
-adds_quiet role port s t h = with_birth _ s refl refl h
+adds_quiet role port s t h = with_birth _ s refl refl refl h
 
-rings_over_quiet : (role : Role) (port s : ℕ) (t : Turn) → IsQuiet 0 t → IsQuiet 1 (rings_over role port s t)
+rings_over_quiet : (role : Role) (port s : ℕ) (t : Turn) → IsQuiet 0 0 t → IsQuiet 1 0 (rings_over role port s t)
 unfolding rings_over
 rings_over_quiet role port s t h =
     let added = adds_quiet role port s t h in
-    branch (IsQuiet 1) (state_number t.control.state == 3) _ _ (λ is. requests_quiet 1 role s (rung role port t.moment) (adds role port s t) added) (λ other. added)
+    branch (IsQuiet 1 0) (state_number t.control.state == 3) _ _
+    (λ is. requests_quiet 1 0 role s (rung role port t.moment) (adds role port s t) added)
+    (λ other. added)
 
-rings_by_quiet : (role : Role) (port : ℕ) (x : Result ℕ IdError) (t : Turn) → IsQuiet 0 t → IsQuiet 1 (rings_by role port x t)
+rings_by_quiet : (role : Role) (port : ℕ) (x : Result ℕ IdError) (t : Turn) → IsQuiet 0 0 t → IsQuiet 1 0 (rings_by role port x t)
 unfolding rings_by
-rings_by_quiet role port (Err x) t h = refused 1 cause.Ids t (spared h)
+rings_by_quiet role port (Err x) t h = refused 1 0 cause.Ids t (spared h)
 rings_by_quiet role port (Ok s) t h = rings_over_quiet role port s t h
 
-rings_new_quiet : (role : Role) (c : Config) (port : ℕ) (x y : Result ℕ IdError) (t : Turn) → IsQuiet 0 t → IsQuiet 1 (rings_new role c port x y t)
+rings_new_quiet : (role : Role) (c : Config) (port : ℕ) (x y : Result ℕ IdError) (t : Turn) → IsQuiet 0 0 t → IsQuiet 1 0 (rings_new role c port x y t)
 unfolding rings_new
-rings_new_quiet role c port (Err x) y t h = refused 1 cause.Ids t (spared h)
-rings_new_quiet role c port (Ok s) (Err y) t h = refused 1 cause.Ids t (spared h)
+rings_new_quiet role c port (Err x) y t h = refused 1 0 cause.Ids t (spared h)
+rings_new_quiet role c port (Ok s) (Err y) t h = refused 1 0 cause.Ids t (spared h)
 rings_new_quiet role c port (Ok s) (Ok local) t h =
-    branch (IsQuiet 1) (has_room t.control) _ _
-    (λ may. adds_quiet role port s (opened role c local t) (opened_quiet 0 role c local t h))
-    (λ full. refused 1 cause.Queue t (spared h))
+    branch (IsQuiet 1 0) (has_room t.control) _ _
+    (λ may. adds_quiet role port s (opened role c local t) (opened_quiet 0 0 role c local t h))
+    (λ full. refused 1 0 cause.Queue t (spared h))
 
-rings_quiet : (role : Role) (c : Config) (port : ℕ) (t : Turn) → IsQuiet 0 t → IsQuiet 1 (rings role c port t)
+rings_quiet : (role : Role) (c : Config) (port : ℕ) (t : Turn) → IsQuiet 0 0 t → IsQuiet 1 0 (rings role c port t)
 unfolding rings
 rings_quiet role c port t h =
-    branch (IsQuiet 1) (state_number t.control.state == 0) _ _
+    branch (IsQuiet 1 0) (state_number t.control.state == 0) _ _
     (λ idle. rings_new_quiet role c port (draws t.sessions) (draws t.tunnels) t h)
     (λ busy. rings_by_quiet role port (draws t.sessions) t h)
 
 -- ---- events
 
-pub turns_quiet : (role : Role) (c : Config) (letters : List Letter) (calls : List (ℕ × Call)) (ev : Event) (t : Turn) → IsQuiet 0 t
-    → IsQuiet (most_births ev) (turns role c letters calls ev t)
+pub turns_quiet : (role : Role) (c : Config) (letters : List Letter) (calls : List (ℕ × Call)) (ev : Event) (t : Turn) → IsQuiet 0 0 t
+    → IsQuiet (most_births ev) (most_reads ev) (turns role c letters calls ev t)
 unfolding turns
-turns_quiet role c letters calls (Datagram peer bytes) t h = datagram_quiet 0 role c letters calls bytes (header_of bytes) t h
-turns_quiet role c letters calls (Ring port) t h = settled 1 false letters _ (rings_quiet role c port t h)
-turns_quiet role c letters calls (Payload s frame) t h = carries_quiet 0 s frame (at calls s) t h
-turns_quiet role c letters calls (Lower s frame) t h = carries_quiet 0 s frame (at calls s) t h
-turns_quiet role c letters calls OpenTunnel t h = settled 0 false letters _ (opens_quiet 0 role c t h)
-turns_quiet role c letters calls Tick t h = ticks_quiet 0 role letters calls t h
+turns_quiet role c letters calls (Datagram peer bytes) t h = datagram_quiet role c letters calls bytes (header_of bytes) t h
+turns_quiet role c letters calls (Ring port) t h = settled 1 0 false letters _ (rings_quiet role c port t h)
+turns_quiet role c letters calls (Payload s frame) t h = carries_quiet 0 0 s frame (at calls s) t h
+turns_quiet role c letters calls (Lower s frame) t h = carries_quiet 0 0 s frame (at calls s) t h
+turns_quiet role c letters calls OpenTunnel t h = settled 0 0 false letters _ (opens_quiet 0 0 role c t h)
+turns_quiet role c letters calls Tick t h = ticks_quiet 0 0 role letters calls t h
 
 -- what two parts give, one after the other
-pub both_quiet : (os ps : List Out) (ms ns : List Move) → AreQuiet 0 os ms → AreQuiet 0 ps ns → AreQuiet 0 (os ++ ps) (ms ++ ns)
+pub both_quiet : (os ps : List Out) (ms ns : List Move) → AreQuiet 0 0 os ms → AreQuiet 0 0 ps ns → AreQuiet 0 0 (os ++ ps) (ms ++ ns)
 both_quiet os ps ms ns h k =
     let count = length-append (flat_map births_of_move ms) (flat_map births_of_move ns) in
     let few = h.births in
     let more = k.births in
+    let count_read = length-append (flat_map reads_of_move ms) (flat_map reads_of_move ns) in
+    let few_read = h.read in
+    let more_read = k.read in
     record {
       no_output = flat_map-append ups_of_output os ps ∙ rw (h.no_output, k.no_output) refl;
       no_move = flat_map-append ups_of_move ms ns ∙ rw (h.no_move, k.no_move) refl;
       births = rw (flat_map-append births_of_move ms ns) (omega (arith, count, few, more));
+      read = rw (flat_map-append reads_of_move ms ns) (omega (arith, count_read, few_read, more_read));
     }

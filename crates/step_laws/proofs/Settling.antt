@@ -1,5 +1,5 @@
 -- At a turn's end its letters go, and each that is sent is one that the tunnel keeps.
-use Rattle.std.proofs.Common.{◌≡◌, ⊎_elim, ℕ, Bool, zero, suc, List, [], ◌∷◌, ◌++◌, refl, sym, ◌∙◌, subst, Option, Some, None, arith}
+use Rattle.std.proofs.Common.{◌≡◌, ⊎_elim, ℕ, ◌+◌, ◌%◌, ◌^◌, ◌<◌, Bool, true, false, cond, zero, suc, List, [], ◌∷◌, ◌++◌, refl, sym, ◌∙◌, subst, Option, Some, None, arith}
 use Rattle.std.proofs.lemmas.Bool.{ltb-true}
 use Rattle.std.proofs.lemmas.List.{append-nil}
 use Rattle.std.specs.List.{AllByRecursion}
@@ -22,7 +22,7 @@ use Rattle.protocol_model.specs.End.{End}
 use Rattle.step_laws.specs.Letters.{Among, Carries, ALetter, Nothing, AFrame}
 use Rattle.step_laws.specs.Moves.{Chain}
 use Rattle.step_laws.proofs.Lists.{all_push, all_map, got_still, and_left, branch, chain_more}
-use Rattle.step_laws.proofs.Turns.{IsWord, NoFrame, Stays, Held, at_turn, TurnOk, there}
+use Rattle.step_laws.proofs.Turns.{IsWord, NoFrame, Stays, Held, has_64_bits, at_turn, TurnOk, there}
 
 -- a letter that goes changes neither what is taken nor which letters are kept
 module _ (n : Numbers) (moment : ℕ) where
@@ -40,8 +40,19 @@ module _ (n : Numbers) (moment : ℕ) where
       branch (λ (x : Numbers). Held x.window ls) n.frozen _ _
       (λ frozen. h)
       (λ free. branch (λ (w : Window). Held w ls) (window.may_go n.window) _ _
-      (λ may. (h.0, (let lt = ltb-true n.window.outstanding n.window.queued (and_left _ _ may) in omega (arith, lt))))
+      (λ may. (h.0, (let lt = ltb-true n.window.outstanding n.window.queued (and_left _ _ may) in omega (arith, lt)), h.2, h.3))
       (λ no. h))
+
+-- the number of the next letter has 64 bits
+small_to_go : (n : Numbers) (number : ℕ) → next_to_go n ≡ Some number → number < 2 ^ 64
+small_to_go n number h = by n.frozen (window.may_go n.window) h
+  where
+    by : (a b : Bool) → cond a None (cond b (Some ((n.window.acked + n.window.outstanding) % 2 ^ 64)) None) ≡ Some number → number < 2 ^ 64
+    by true b e = absurd cc
+    by false true e =
+        let same : (n.window.acked + n.window.outstanding) % 2 ^ 64 ≡ number = cc in
+        subst (λ (k : ℕ). k < 2 ^ 64) same (has_64_bits (n.window.acked + n.window.outstanding))
+    by false false e = absurd cc
 
 -- ---- what was sent stays so as the tunnel goes on
 
@@ -65,8 +76,8 @@ no_frame_among f (m ∷ ms) h a = ⊎_elim (λ s. subst NoFrame s h.0) (λ l. no
 -- among moves that send no frame
 pub carries_on : (t u : Tunnel) → GoesOn t u → (ms ns : List Move) → AllByRecursion NoFrame ms → (bytes : List ℕ) (o : Origin) → Carries t ms bytes o
     → Carries u ns bytes o
-carries_on t u g ms ns none bytes o (ALetter l number kept is said) =
-    ALetter l number
+carries_on t u g ms ns none bytes o (ALetter l number small kept is said) =
+    ALetter l number small
     (rw (g.letters, g.acked) (got_still t.letters g.more _ l kept))
     (rw (g.local, g.inbox) is)
     (rw (g.remote, g.inbox) said)
@@ -153,14 +164,15 @@ module _ (e : End) (moment : ℕ) (ev : Event) (letters : List Letter) (calls : 
         held = held_gone t.control.channel t.moment (letters_after t letters) h.held;
       }
 
-  pub sent_ok : (number : ℕ) (t : Turn) (o : Option Letter) → letter_in letters t number ≡ o → Settled t → Settled (sends_letter number o t)
+  pub sent_ok : (number : ℕ) (t : Turn) (o : Option Letter) → number < 2 ^ 64 → letter_in letters t number ≡ o → Settled t
+      → Settled (sends_letter number o t)
   unfolding sends_letter with_output
-  sent_ok number t None is h = h
-  sent_ok number t (Some l) is h =
+  sent_ok number t None small is h = h
+  sent_ok number t (Some l) small is h =
       branch Settled (nat_le (length l.avps) 65523) _ _
       (λ fits. record {
         chain = h.chain;
-        outs = all_push _ t.outputs _ h.outs (refl, ALetter l number is refl refl);
+        outs = all_push _ t.outputs _ h.outs (refl, ALetter l number small is refl refl);
         frames = h.frames;
         stays = h.stays;
         held = h.held;
@@ -169,7 +181,9 @@ module _ (e : End) (moment : ℕ) (ev : Event) (letters : List Letter) (calls : 
 
   let_go_ok : (number : ℕ) (t : Turn) → next_to_go t.control.channel ≡ Some number → Settled t → Settled (lets_go letters number t)
   unfolding lets_go sends_now
-  let_go_ok number t goes h = sent_ok number (counted number t) (letter_in letters (counted number t) number) refl (counted_ok number t goes h)
+  let_go_ok number t goes h =
+      let u = counted number t in
+      sent_ok number u (letter_in letters u number) (small_to_go t.control.channel number goes) refl (counted_ok number t goes h)
 
   goes_ok : (rest : Turn → Turn) → ((u : Turn) → Settled u → Settled (rest u)) → (t : Turn) (o : Option ℕ) → next_to_go t.control.channel ≡ o
       → Settled t → Settled (goes_by rest letters o t)

@@ -1,6 +1,6 @@
 -- Each step of an end is a chain of moves.
 use Rattle.std.proofs.Common.{◌≡◌, ◌⊎◌, inl, inr, ℕ, Bool, true, false, List, length, refl, sym, ap, ◌∙◌, subst, Option, Some, None, Result, Ok, Err}
-use Rattle.std.proofs.lemmas.Bool.{eqb-true, true≢false}
+use Rattle.std.proofs.lemmas.Bool.{eqb-true, eq-eqb, true≢false}
 use Rattle.std.specs.Prelude.{◌==◌, nat_lt, not, option_map}
 use Rattle.id_table.specs.Ids.{at, ids_of}
 use Rattle.wire_base.specs.declared.why.Why.{Why}
@@ -12,13 +12,17 @@ use Rattle.avp_codec.specs.Reading.{avps_of}
 use Rattle.l2tp_header.specs.declared.header.Header.{Header}
 use Rattle.l2tp_header.specs.declared.header.HeaderError.{HeaderError}
 use Rattle.l2tp_header.specs.Reading.{header_of}
+use Rattle.control_message.specs.declared.message.Message.{Message}
+use Rattle.control_message.specs.declared.message.Opening.{Opening}
 use Rattle.control_message.specs.declared.message.Message.TheVariants.{Sccrq, Sccrp, Scccn, Hello, Icrq, Icrp, Iccn, Cdn}
 use Rattle.control_message.specs.declared.message.Read.{Read}
 use Rattle.control_message.specs.declared.message.Read.TheVariants.{Known, Ignored}
 use Rattle.control_message.specs.declared.message.MessageError.{MessageError}
 use Rattle.control_message.specs.declared.message.MessageError.TheVariants.{NoType, UnknownType, UnknownMandatory, HiddenWithoutVector, BadValue, Missing, NoMemory}
 use Rattle.control_message.specs.Reading.{message_of}
+use Rattle.tunnel_fsm.specs.declared.table.TunnelState.{TunnelState}
 use Rattle.tunnel_fsm.specs.declared.table.TunnelState.TheVariants.{WaitCtlReply, Established}
+use Rattle.tunnel_fsm.specs.Rows.{state_number}
 use Rattle.protocol_model.specs.declared.tunnel.CallPlace.{CallPlace}
 use Rattle.protocol_model.specs.declared.tunnel.Look.{Look}
 use Rattle.protocol_model.specs.declared.tunnel.Look.TheVariants as look
@@ -28,12 +32,13 @@ use Rattle.protocol_model.specs.declared.event.Addressee.{Addressee}
 use Rattle.protocol_model.specs.declared.event.Addressee.TheVariants.{Nobody}
 use Rattle.protocol_model.specs.declared.event.Event.{Event}
 use Rattle.protocol_model.specs.declared.event.Event.TheVariants.{Datagram, Ring, Payload, Lower, OpenTunnel, Tick}
-use Rattle.protocol_model.specs.Reading.{header_why, body_of, at_zero, at_tunnel, zero_pairs, zero_read}
+use Rattle.protocol_model.specs.Reading.{header_why, body_of, message_read, pairs_read, message_in, at_zero, at_tunnel, zero_pairs, zero_read}
 use Rattle.protocol_model.specs.Calls.{is_lac, frame_of, side_of, Carried, Upward, Dropped, carry_known, carry_look}
 use Rattle.protocol_model.specs.Turn.{Tunnel, Env, turns}
-use Rattle.protocol_model.specs.End.{End, Stepped, env_of, in_new, in_main, is_known, known_as, opened_before, opens_once, addressed, for_addressee, least_in, rings_in, rings_at, gives_frame, look_in, handed, hands_up, receives, only_by, step_in, step}
+use Rattle.protocol_model.specs.End.{End, Stepped, env_of, in_new, in_main, is_known, known_as, opened_before, opens_once, addressed, for_addressee, is_in, least_in, rings_in, rings_at, gives_frame, look_in, handed, hands_up, receives, only_by, step_in, step}
+use Rattle.step_laws.specs.Moves.{IsAgain}
 use Rattle.step_laws.specs.Steps.{AreKept, IsChain, StepsAreChains}
-use Rattle.step_laws.proofs.Lists.{and_left, branch, found_passes}
+use Rattle.step_laws.proofs.Lists.{and_left, and_right, branch, found_passes, none_passes, found_among}
 use Rattle.step_laws.proofs.Ticks.{ticks_chain}
 use Rattle.step_laws.proofs.Ends.{drop_chain, heard_chain, rung_chain, carries_chain, opens_chain, rings_chain, first_heard}
 
@@ -55,6 +60,27 @@ known_peer peer remote None known t is = absurd (true≢false (sym known))
 known_peer peer remote (Some u) known t is =
     let same : u ≡ t = cc in
     ap (λ (x : Tunnel). x.control.peer) (sym same) ∙ eqb-true u.control.peer peer (and_left (u.control.peer == peer) (u.control.remote == remote) known)
+
+-- and the peer assigned it the id
+known_remote : (peer remote : ℕ) (o : Option Tunnel) → is_known peer remote o ≡ true → (t : Tunnel) → o ≡ Some t → t.control.remote ≡ remote
+known_remote peer remote None known t is = absurd (true≢false (sym known))
+known_remote peer remote (Some u) known t is =
+    let same : u ≡ t = cc in
+    ap (λ (x : Tunnel). x.control.remote) (sym same) ∙ eqb-true u.control.remote remote (and_right (u.control.peer == peer) (u.control.remote == remote) known)
+
+-- one that goes to the peer and has the id is known by it
+is_known_by : (peer remote : ℕ) (o : Option Tunnel) (t : Tunnel) → o ≡ Some t → t.control.peer ≡ peer → t.control.remote ≡ remote
+    → is_known peer remote o ≡ true
+is_known_by peer remote o t is goes has = rw (is, eq-eqb t.control.peer peer goes, eq-eqb t.control.remote remote has) refl
+
+-- a tunnel that is in a state by its number
+in_state_is : (s : TunnelState) (peer : ℕ) (o : Option Tunnel) → is_in s peer o ≡ true → (t : Tunnel) → o ≡ Some t
+    → state_number t.control.state ≡ state_number s
+in_state_is s peer None known t is = absurd (true≢false (sym known))
+in_state_is s peer (Some u) known t is =
+    let same : u ≡ t = cc in
+    ap (λ (x : Tunnel). state_number x.control.state) (sym same)
+    ∙ eqb-true (state_number u.control.state) (state_number s) (and_left (state_number u.control.state == state_number s) (u.control.peer == peer) known)
 
 -- ---- frames that come
 
@@ -147,19 +173,22 @@ module _ (e : End) (kept : AreKept e) (moment : ℕ) (block : List ℕ) where
 
   -- ---- tunnels that are there, or not
 
-  main_heard : (peer i : ℕ) (bytes : List ℕ) (h : Header) → header_of bytes ≡ Ok h → h.control ≡ true → (h.tunnel ≡ i) ⊎ (h.tunnel ≡ 0)
+  main_heard : (peer i : ℕ) (bytes : List ℕ) (h : Header) → header_of bytes ≡ Ok h → h.control ≡ true
       → (o : Option Tunnel) → at e.tunnels i ≡ o → ((t : Tunnel) → o ≡ Some t → t.control.peer ≡ peer)
+      → ((t : Tunnel) → o ≡ Some t → (h.tunnel ≡ i) ⊎ IsAgain h bytes t.control)
       → IsChain e moment (Datagram peer bytes) (in_main e env (Datagram peer bytes) i o)
   unfolding in_main
-  main_heard peer i bytes h read control to None is goes = drop_chain e kept moment (Datagram peer bytes) why.Tunnel
-  main_heard peer i bytes h read control to (Some t) is goes =
+  main_heard peer i bytes h read control None is goes to = drop_chain e kept moment (Datagram peer bytes) why.Tunnel
+  main_heard peer i bytes h read control (Some t) is goes to =
       subst (λ p. IsChain e moment (Datagram p bytes) (in_main e env (Datagram p bytes) i (Some t))) (goes t refl)
-      (heard_chain e kept moment (Datagram t.control.peer bytes) block i t is bytes h read control refl to)
+      (heard_chain e kept moment (Datagram t.control.peer bytes) block i t is bytes h read control refl (to t refl))
 
-  main_rung : (port i : ℕ) → e.role ≡ Lac → (o : Option Tunnel) → at e.tunnels i ≡ o → IsChain e moment (Ring port) (in_main e env (Ring port) i o)
+  main_rung : (port i : ℕ) → e.role ≡ Lac → (o : Option Tunnel) → at e.tunnels i ≡ o
+      → ((t : Tunnel) → o ≡ Some t → (state_number t.control.state ≡ 3) ⊎ (state_number t.control.state ≡ 1))
+      → IsChain e moment (Ring port) (in_main e env (Ring port) i o)
   unfolding in_main
-  main_rung port i lac None is = drop_chain e kept moment (Ring port) why.Tunnel
-  main_rung port i lac (Some t) is = rung_chain e kept moment (Ring port) block i t is port refl lac
+  main_rung port i lac None is goes = drop_chain e kept moment (Ring port) why.Tunnel
+  main_rung port i lac (Some t) is goes = rung_chain e kept moment (Ring port) block i t is port (goes t refl) refl lac
 
   main_payload : (s : ℕ) (frame : List ℕ) (i : ℕ) (o : Option Tunnel) → at e.tunnels i ≡ o → IsChain e moment (Payload s frame) (in_main e env (Payload s frame) i o)
   unfolding in_main turns
@@ -182,52 +211,67 @@ module _ (e : End) (kept : AreKept e) (moment : ℕ) (block : List ℕ) where
     nobody w = drop_chain e kept moment (Datagram peer bytes) w
 
     -- an SCCRQ opens a tunnel, or comes again to the one that it opened
-    opened_leads : h.tunnel ≡ 0 → (remote : ℕ) (o : Option ℕ) → known_as peer remote e.tunnels ≡ o → leads (opened_before remote o)
+    opened_leads : h.tunnel ≡ 0 → (o : Opening) → message_in (body_of h bytes) ≡ Ok (Sccrq o) → (k : Option ℕ) → known_as peer o.tunnel e.tunnels ≡ k
+        → leads (opened_before o.tunnel k)
     unfolding for_addressee in_new known_as
-    opened_leads zero remote None is = first_heard e kept moment (Datagram peer bytes) block peer bytes h read control refl
-    opened_leads zero remote (Some i) is =
-        main_heard peer i bytes h read control (inr zero) (at e.tunnels i) refl
-        (known_peer peer remote (at e.tunnels i) (found_passes (λ j. is_known peer remote (at e.tunnels j)) (ids_of e.tunnels) i is))
+    opened_leads zero o said None is =
+        first_heard e kept moment (Datagram peer bytes) block peer bytes h read control refl (λ p again j t there goes has.
+        let both : Ok (Sccrq p) ≡ Ok (Sccrq o) = sym again ∙ said in
+        let same : p ≡ o = cc in
+        none_passes (λ q. is_known peer o.tunnel (at e.tunnels q)) (ids_of e.tunnels) j is (found_among e.tunnels j t there)
+        (is_known_by peer o.tunnel (at e.tunnels j) t there goes (has ∙ ap (λ (x : Opening). x.tunnel) same)))
+    opened_leads zero o said (Some i) is =
+        let known = found_passes (λ j. is_known peer o.tunnel (at e.tunnels j)) (ids_of e.tunnels) i is in
+        main_heard peer i bytes h read control (at e.tunnels i) refl (known_peer peer o.tunnel (at e.tunnels i) known)
+        (λ t there. inr (record { none = zero; opening = o; said = said; known = known_remote peer o.tunnel (at e.tunnels i) known t there }))
 
-    zero_leads : h.tunnel ≡ 0 → (r : Result Read MessageError) → leads (opens_once e peer (zero_read r))
+    -- what the pairs of the body make
+    abbrev Makes : Result Read MessageError → Type 0
+    Makes r = (m : Message) → r ≡ Ok (Known m) → message_in (body_of h bytes) ≡ Ok m
+
+    zero_leads : h.tunnel ≡ 0 → (r : Result Read MessageError) → Makes r → leads (opens_once e peer (zero_read r))
     unfolding zero_read opens_once
-    zero_leads zero (Ok (Known (Sccrq o))) = opened_leads zero o.tunnel (known_as peer o.tunnel e.tunnels) refl
-    zero_leads zero (Ok (Known (Sccrp o))) = nobody why.Tunnel
-    zero_leads zero (Ok (Known Scccn)) = nobody why.Tunnel
-    zero_leads zero (Ok (Known Hello)) = nobody why.Tunnel
-    zero_leads zero (Ok (Known (Cdn remote code error))) = nobody why.Tunnel
-    zero_leads zero (Ok (Known (Icrq remote serial calling))) = nobody why.Tunnel
-    zero_leads zero (Ok (Known (Icrp remote))) = nobody why.Tunnel
-    zero_leads zero (Ok (Known (Iccn speed framing sequenced))) = nobody why.Tunnel
-    zero_leads zero (Ok (Ignored n)) = nobody why.Tunnel
-    zero_leads zero (Err NoType) = nobody why.Tunnel
-    zero_leads zero (Err (UnknownType n)) = nobody why.Tunnel
-    zero_leads zero (Err (UnknownMandatory v a)) = nobody why.Avp
-    zero_leads zero (Err (HiddenWithoutVector a)) = nobody why.Avp
-    zero_leads zero (Err (BadValue a)) = nobody why.Avp
-    zero_leads zero (Err (Missing a)) = nobody why.Avp
-    zero_leads zero (Err NoMemory) = nobody why.Avp
+    zero_leads zero (Ok (Known (Sccrq o))) makes = opened_leads zero o (makes (Sccrq o) refl) (known_as peer o.tunnel e.tunnels) refl
+    zero_leads zero (Ok (Known (Sccrp o))) makes = nobody why.Tunnel
+    zero_leads zero (Ok (Known Scccn)) makes = nobody why.Tunnel
+    zero_leads zero (Ok (Known Hello)) makes = nobody why.Tunnel
+    zero_leads zero (Ok (Known (Cdn remote code error))) makes = nobody why.Tunnel
+    zero_leads zero (Ok (Known (Icrq remote serial calling))) makes = nobody why.Tunnel
+    zero_leads zero (Ok (Known (Icrp remote))) makes = nobody why.Tunnel
+    zero_leads zero (Ok (Known (Iccn speed framing sequenced))) makes = nobody why.Tunnel
+    zero_leads zero (Ok (Ignored n)) makes = nobody why.Tunnel
+    zero_leads zero (Err NoType) makes = nobody why.Tunnel
+    zero_leads zero (Err (UnknownType n)) makes = nobody why.Tunnel
+    zero_leads zero (Err (UnknownMandatory v a)) makes = nobody why.Avp
+    zero_leads zero (Err (HiddenWithoutVector a)) makes = nobody why.Avp
+    zero_leads zero (Err (BadValue a)) makes = nobody why.Avp
+    zero_leads zero (Err (Missing a)) makes = nobody why.Avp
+    zero_leads zero (Err NoMemory) makes = nobody why.Avp
 
-    pairs_lead : h.tunnel ≡ 0 → (r : Result (List Avp) AvpError) → leads (opens_once e peer (zero_pairs r))
+    made : (avps : List Avp) → avps_of (body_of h bytes) ≡ Ok avps → Makes (message_of avps)
+    unfolding message_in pairs_read message_read
+    made avps is m reads = rw (is, reads) refl
+
+    pairs_lead : h.tunnel ≡ 0 → (r : Result (List Avp) AvpError) → avps_of (body_of h bytes) ≡ r → leads (opens_once e peer (zero_pairs r))
     unfolding zero_pairs opens_once
-    pairs_lead zero (Ok avps) = zero_leads zero (message_of avps)
-    pairs_lead zero (Err x) = nobody why.Avp
+    pairs_lead zero (Ok avps) is = zero_leads zero (message_of avps) (made avps is)
+    pairs_lead zero (Err x) is = nobody why.Avp
 
     tunnel_leads : (o : Option Tunnel) → at e.tunnels h.tunnel ≡ o → leads (at_tunnel peer h.tunnel (option_map (λ t. t.control.peer) o))
     unfolding at_tunnel for_addressee
     tunnel_leads None is = nobody why.Tunnel
     tunnel_leads (Some t) is =
         branch leads (t.control.peer == peer) _ _
-        (λ met. main_heard peer h.tunnel bytes h read control (inl refl) (at e.tunnels h.tunnel) refl (λ u found.
+        (λ met. main_heard peer h.tunnel bytes h read control (at e.tunnels h.tunnel) refl (λ u found.
         let same : t ≡ u = (let g : Some t ≡ Some u = sym is ∙ found in cc) in
-        ap (λ (x : Tunnel). x.control.peer) (sym same) ∙ eqb-true t.control.peer peer met))
+        ap (λ (x : Tunnel). x.control.peer) (sym same) ∙ eqb-true t.control.peer peer met) (λ u found. inl refl))
         (λ other. nobody why.Peer)
 
     addressed_leads : leads (addressed e peer h (body_of h bytes))
     unfolding addressed at_zero
     addressed_leads =
         branch leads (h.tunnel == 0) _ _
-        (λ zero. pairs_lead (eqb-true h.tunnel 0 zero) (avps_of (body_of h bytes)))
+        (λ zero. pairs_lead (eqb-true h.tunnel 0 zero) (avps_of (body_of h bytes)) refl)
         (λ some. tunnel_leads (at e.tunnels h.tunnel) refl)
 
   received : (peer : ℕ) (bytes : List ℕ) (r : Result Header HeaderError) → header_of bytes ≡ r → IsChain e moment (Datagram peer bytes) (receives e env peer bytes r)
@@ -240,11 +284,19 @@ module _ (e : End) (kept : AreKept e) (moment : ℕ) (block : List ℕ) where
 
   -- ---- rings, opens and frames
 
-  rung : (port : ℕ) → e.role ≡ Lac → (open_one opening : Option ℕ) → IsChain e moment (Ring port) (rings_in e env (Ring port) open_one opening)
+  -- the least tunnel in a state is in that state
+  least_is : (s : TunnelState) (i : ℕ) → least_in s e.config.lns e.tunnels ≡ Some i → (t : Tunnel) → at e.tunnels i ≡ Some t
+      → state_number t.control.state ≡ state_number s
+  unfolding least_in
+  least_is s i is t there =
+      in_state_is s e.config.lns (at e.tunnels i) (found_passes (λ j. is_in s e.config.lns (at e.tunnels j)) (ids_of e.tunnels) i is) t there
+
+  rung : (port : ℕ) → e.role ≡ Lac → (open_one opening : Option ℕ) → least_in Established e.config.lns e.tunnels ≡ open_one
+      → least_in WaitCtlReply e.config.lns e.tunnels ≡ opening → IsChain e moment (Ring port) (rings_in e env (Ring port) open_one opening)
   unfolding rings_in in_new
-  rung port lac (Some i) opening = main_rung port i lac (at e.tunnels i) refl
-  rung port lac None (Some i) = main_rung port i lac (at e.tunnels i) refl
-  rung port lac None None = rings_chain e kept moment (Ring port) block e.config.lns port lac refl refl
+  rung port lac (Some i) opening is next = main_rung port i lac (at e.tunnels i) refl (λ t there. inl (least_is Established i is t there))
+  rung port lac None (Some i) is next = main_rung port i lac (at e.tunnels i) refl (λ t there. inr (least_is WaitCtlReply i next t there))
+  rung port lac None None is next = rings_chain e kept moment (Ring port) block e.config.lns port lac refl refl
 
   gives_payload : (s : ℕ) (frame : List ℕ) (o : Option CallPlace) → IsChain e moment (Payload s frame) (gives_frame e env (Payload s frame) o)
   unfolding gives_frame
@@ -268,7 +320,7 @@ module _ (e : End) (kept : AreKept e) (moment : ℕ) (block : List ℕ) where
   unfolding step step_in rings_at in_new
   step_chain (Datagram peer bytes) = received peer bytes (header_of bytes) refl
   step_chain (Ring port) =
-      by_lac (Ring port) _ (λ lac. rung port lac (least_in Established e.config.lns e.tunnels) (least_in WaitCtlReply e.config.lns e.tunnels))
+      by_lac (Ring port) _ (λ lac. rung port lac (least_in Established e.config.lns e.tunnels) (least_in WaitCtlReply e.config.lns e.tunnels) refl refl)
   step_chain (Payload s frame) = by_lac (Payload s frame) _ (λ lac. gives_payload s frame (at e.calls s))
   step_chain (Lower s frame) = by_lns (Lower s frame) _ (gives_lower s frame (at e.calls s))
   step_chain Tick = ticks_chain moment e block kept

@@ -1,11 +1,11 @@
 -- A tunnel's tick is a chain of moves.
-use Rattle.std.proofs.Common.{◌≡◌, ℕ, ◌<◌, Bool, true, false, zero, suc, List, [], ◌∷◌, ◌++◌, refl, sym, ap, ◌∙◌, subst, Option, Some, None, arith}
+use Rattle.std.proofs.Common.{◌≡◌, ℕ, ◌^◌, ◌<◌, Bool, true, false, cond, zero, suc, List, [], ◌∷◌, ◌++◌, refl, sym, ap, ◌∙◌, subst, Option, Some, None}
 use Rattle.std.proofs.lemmas.Bool.{eqb-true, ltb-true}
 use Rattle.std.proofs.lemmas.List.{append-nil}
 use Rattle.std.specs.Prelude.{◌==◌, ◌&&◌, ◌||◌, nat_le, nat_lt, length, drop}
 use Rattle.std.specs.List.{AllByRecursion}
 use Rattle.id_table.specs.Ids.{at, put-put, ids_of}
-use Rattle.id_table.specs.Order.{Ascends}
+use Rattle.id_table.specs.Order.{Ascends, at_without_other}
 use Rattle.wire_base.specs.declared.cause.Cause.{Cause as Refusal}
 use Rattle.wire_base.specs.declared.cause.Cause.TheVariants as cause
 use Rattle.wire_base.specs.declared.letter.Letter.{Letter}
@@ -20,14 +20,15 @@ use Rattle.call_fsm.specs.declared.table.CallAction.TheVariants as call_action
 use Rattle.call_fsm.specs.declared.table.CallEvent.TheVariants as call_event
 use Rattle.protocol_model.specs.declared.tunnel.Call.{Call}
 use Rattle.protocol_model.specs.declared.tunnel.CellChange.TheVariants as cell
-use Rattle.protocol_model.specs.declared.event.Event.{Event}
+use Rattle.protocol_model.specs.declared.event.Event.TheVariants.{Tick}
 use Rattle.protocol_model.specs.declared.out.Out.TheVariants.{Gone, Cause}
 use Rattle.protocol_model.specs.declared.moves.Move.TheVariants as move
 use Rattle.protocol_model.specs.Calls.{call_row, is_told, is_set_up}
 use Rattle.protocol_model.specs.Turn.{Tunnel, Turn, with_output, with_move, with_change, with_calls, ends_call, is_clean_up, has_room, gives, place, next_place, letter_of, letter_in, letters_after, counts_repeated, sends_letter, sends_now, lets_go, goes_by, lets_all_go, repeats, acknowledges, outstanding, acknowledged_after, settles, tunnel_after, is_over, patience, greeted, greets, end_silent, end_told, limited_by, limits_at, limits_all, goes_quietly}
 use Rattle.protocol_model.specs.End.{End, placed}
-use Rattle.step_laws.proofs.Lists.{all_push, and_left, branch, with_calls-more, with_looks-more, chain_more, at_without_other}
-use Rattle.step_laws.proofs.Turns.{NoFrame, Held, held_given, at_turn, there, one_given, Others, Same, same_still, same_first}
+use Rattle.step_laws.specs.Moves.{TookTooLong}
+use Rattle.step_laws.proofs.Lists.{all_push, and_left, and_right, branch, with_calls-more, with_looks-more, chain_more}
+use Rattle.step_laws.proofs.Turns.{NoFrame, Held, given_held, at_turn, there, one_given, Others, Same, same_still, same_first}
 use Rattle.step_laws.proofs.Settling.{GoesOn, Settled, outs_on, sent_ok, settled_ok}
 
 -- ---- a letter that is repeated
@@ -47,6 +48,17 @@ module _ (n : Numbers) (moment : ℕ) where
       branch (λ (x : Numbers). Held x.window ls) n.frozen _ _
       (λ frozen. h)
       (λ free. branch (λ (w : Window). Held w ls) (sending.due_at n.window moment && nat_lt n.window.repetitions 5) _ _ (λ due. h) (λ no. h))
+
+-- the number of a letter that is repeated has 64 bits
+small_due : (n : Numbers) (moment number : ℕ) → n.window.acked < 2 ^ 64 → answer_to_tick n moment ≡ tick.Again number → number < 2 ^ 64
+small_due n moment number small h = by n.frozen (sending.due_at n.window moment) (nat_lt n.window.repetitions 5) h
+  where
+    by : (a b c : Bool) → cond a tick.Quiet (cond b (cond c (tick.Again n.window.acked) (tick.Failed n.window.acked)) tick.Quiet) ≡ tick.Again number
+        → number < 2 ^ 64
+    by true b c e = absurd cc
+    by false true true e = let same : n.window.acked ≡ number = cc in subst (λ (k : ℕ). k < 2 ^ 64) same small
+    by false true false e = absurd cc
+    by false false c e = absurd cc
 
 -- ---- what the end of each part leaves: the calls, and where ids are drawn from
 
@@ -88,7 +100,7 @@ settled_keeps again letters t =
     let u = lets_all_go t.control.channel.window.queued letters t in
     keeps_on t u (acknowledged_after again (outstanding t) u) (all_gone_keeps t.control.channel.window.queued letters t) (acknowledged_keeps again (outstanding t) u)
 
-module _ (e : End) (moment : ℕ) (ev : Event) (letters : List Letter) (calls : List (ℕ × Call)) (i : ℕ) where
+module _ (e : End) (moment : ℕ) (letters : List Letter) (calls : List (ℕ × Call)) (i : ℕ) where
   abbrev tunnel : Turn → Tunnel
   tunnel t = tunnel_after t letters calls
 
@@ -97,7 +109,7 @@ module _ (e : End) (moment : ℕ) (ev : Event) (letters : List Letter) (calls : 
   DrawsNone t = (t.tunnels ≡ e.tunnel_ids) × (t.sessions ≡ e.session_ids) × (t.added ≡ [])
 
   pub record Ticking (t : Turn) : Type 0 where
-    pub settled : Settled e moment ev letters calls i t
+    pub settled : Settled e moment Tick letters calls i t
     pub none : DrawsNone t
 
   -- its end
@@ -105,7 +117,7 @@ module _ (e : End) (moment : ℕ) (ev : Event) (letters : List Letter) (calls : 
   settling_ok t h =
       let k = settled_keeps false letters t in
       record {
-        settled = settled_ok e moment ev letters calls i false t h.settled;
+        settled = settled_ok e moment Tick letters calls i false t h.settled;
         none = (k.2 ∙ h.none.0, k.3 ∙ h.none.1, k.1 ∙ h.none.2);
       }
 
@@ -118,27 +130,31 @@ module _ (e : End) (moment : ℕ) (ev : Event) (letters : List Letter) (calls : 
         none = h.none;
       }
 
+  -- the turn's moment is the step's
+  over_at : (since : ℕ) (t : Turn) → Ticking t → is_over patience t.moment since ≡ true → is_over patience moment since ≡ true
+  over_at since t h over = ap (λ m. is_over patience m since) (sym h.settled.stays.4) ∙ over
+
   -- ---- repetitions and greetings
 
   abbrev repeated : ℕ → Turn → Turn
   repeated number t =
       with_move (move.Repeated (record { tunnel = t.control.local; sent = place number })) (record t { control = counts_repeated t.moment t.control })
 
-  repeated_ok : (number : ℕ) (t : Turn) → answer_to_tick t.control.channel moment ≡ tick.Again number → Settled e moment ev letters calls i t
-      → Settled e moment ev letters calls i (repeated number t)
+  repeated_ok : (number : ℕ) (t : Turn) → answer_to_tick t.control.channel moment ≡ tick.Again number → Settled e moment Tick letters calls i t
+      → Settled e moment Tick letters calls i (repeated number t)
   unfolding with_move
   repeated_ok number t due h =
       let m = move.Repeated (record { tunnel = t.control.local; sent = place number }) in
       record {
-        chain = chain_more moment ev e (at_turn e moment ev letters calls i t) _ t.moves m h.chain (record {
+        chain = chain_more moment Tick e (at_turn e moment Tick letters calls i t) _ t.moves m h.chain (record {
           tunnel = tunnel t;
-          there = there e moment ev letters calls i t;
+          there = there e moment Tick letters calls i t;
           number = number;
           due = due;
           sent = refl;
           after = rw (h.stays.4, put-put e.tunnels t.control.local (tunnel t) _) refl;
         });
-        outs = outs_on e moment ev letters calls i t (repeated number t) (record {
+        outs = outs_on e moment Tick letters calls i t (repeated number t) (record {
           local = refl;
           peer = refl;
           remote = refl;
@@ -158,7 +174,8 @@ module _ (e : End) (moment : ℕ) (ev : Event) (letters : List Letter) (calls : 
       let u = repeated number t in
       let k = sent_keeps number (letter_in letters u number) u in
       record {
-        settled = sent_ok e moment ev letters calls i number u (letter_in letters u number) refl (repeated_ok number t due h.settled);
+        settled = sent_ok e moment Tick letters calls i number u (letter_in letters u number)
+            (small_due t.control.channel moment number h.settled.held.3 due) refl (repeated_ok number t due h.settled);
         none = (k.2 ∙ h.none.0, k.3 ∙ h.none.1, k.1 ∙ h.none.2);
       }
 
@@ -173,58 +190,68 @@ module _ (e : End) (moment : ℕ) (ev : Event) (letters : List Letter) (calls : 
     acked = acked;
     inbox = inbox;
     more = l ∷ [];
-    letters = is ∙ one_given e moment ev letters calls i t l;
+    letters = is ∙ one_given e moment Tick letters calls i t l;
   }
 
   abbrev hello : Turn → Turn
   hello t = gives 0 Hello (with_move (move.Greeted (record { tunnel = t.control.local; given = next_place t.control })) t)
 
-  hello_ok : (t : Turn) → state_number t.control.state ≡ 3 → Ticking t → Ticking (hello t)
+  -- where nothing waits there is room
+  empty_room : (t : Turn) → t.control.channel.window.queued ≡ 0 → has_room t.control ≡ true
+  empty_room t none = rw none refl
+
+  hello_ok : (t : Turn) → state_number t.control.state ≡ 3 → t.control.channel.window.queued ≡ 0 → is_over patience moment t.control.heard ≡ true → Ticking t
+      → Ticking (hello t)
   unfolding gives with_move
-  hello_ok t is_open k =
+  hello_ok t is_open quiet over k =
+      let room = empty_room t quiet in
       let m = move.Greeted (record { tunnel = t.control.local; given = next_place t.control }) in
       let h = k.settled in
       let l = letter_of 0 Hello in
       record {
         settled = record {
-          chain = chain_more moment ev e (at_turn e moment ev letters calls i t) _ t.moves m h.chain (record {
+          chain = chain_more moment Tick e (at_turn e moment Tick letters calls i t) _ t.moves m h.chain (record {
             tunnel = tunnel t;
-            there = there e moment ev letters calls i t;
+            there = there e moment Tick letters calls i t;
+            ticks = refl;
             open_is = is_open;
+            quiet = quiet;
+            over = over;
+            room = room;
             given = refl;
-            after = rw (one_given e moment ev letters calls i t l, put-put e.tunnels t.control.local (tunnel t) _) refl;
+            after = rw (one_given e moment Tick letters calls i t l, put-put e.tunnels t.control.local (tunnel t) _) refl;
           });
-          outs = outs_on e moment ev letters calls i t (hello t) (given_on t (hello t) l refl refl refl refl refl refl) h;
+          outs = outs_on e moment Tick letters calls i t (hello t) (given_on t (hello t) l refl refl refl refl refl refl) h;
           frames = all_push NoFrame t.moves m h.frames tt;
           stays = h.stays;
-          held = subst (Held (sending.one_more t.control.channel.window)) (sym (one_given e moment ev letters calls i t l))
-              (held_given t.control.channel.window (letters_after t letters) l h.held);
+          held = given_held e moment Tick letters calls i t l room h.held;
         };
         none = k.none;
       }
 
   -- ---- calls that take too long
 
-  silent_ok : (s : ℕ) (c : Call) (t : Turn) → at (with_calls t.changed calls) s ≡ Some c → is_clean_up (call_row e.role c.state call_event.Close).1 ≡ true
-      → Ticking t → Ticking (end_silent s t)
+  silent_ok : (s : ℕ) (c : Call) (t : Turn) → at (with_calls t.changed calls) s ≡ Some c → TookTooLong Tick moment c
+      → is_clean_up (call_row e.role c.state call_event.Close).1 ≡ true → Ticking t → Ticking (end_silent s t)
   unfolding end_silent ends_call with_output with_change with_move
-  silent_ok s c t found row k =
+  silent_ok s c t found late row k =
       let m = move.EndSilent (record { tunnel = t.control.local; session = s }) in
       let h = k.settled in
       record {
         settled = record {
-          chain = chain_more moment ev e (at_turn e moment ev letters calls i t) _ t.moves m h.chain (record {
+          chain = chain_more moment Tick e (at_turn e moment Tick letters calls i t) _ t.moves m h.chain (record {
             tunnel = tunnel t;
-            there = there e moment ev letters calls i t;
+            there = there e moment Tick letters calls i t;
             call = c;
             live = found;
+            late = late;
             row = row;
             after =
                 let changed = with_calls-more t.changed s None calls in
                 let looked = with_looks-more t.changes (cell.Kill s) (placed t.control.local t.added e.calls) in
                 rw (changed, looked, put-put e.tunnels t.control.local (tunnel t) _) refl;
           });
-          outs = all_push _ t.outputs (Gone s) (outs_on e moment ev letters calls i t (end_silent s t) (record {
+          outs = all_push _ t.outputs (Gone s) (outs_on e moment Tick letters calls i t (end_silent s t) (record {
             local = refl;
             peer = refl;
             remote = refl;
@@ -240,35 +267,36 @@ module _ (e : End) (moment : ℕ) (ev : Event) (letters : List Letter) (calls : 
         none = k.none;
       }
 
-  told_ok : (s : ℕ) (c : Call) (code : ℕ) (t : Turn) → at (with_calls t.changed calls) s ≡ Some c → is_told (call_row e.role c.state call_event.Close).1 ≡ true
-      → s < 65536 → code < 65536 → Ticking t → Ticking (end_told s c code t)
+  told_ok : (s : ℕ) (c : Call) (t : Turn) → at (with_calls t.changed calls) s ≡ Some c → TookTooLong Tick moment c
+      → is_told (call_row e.role c.state call_event.Close).1 ≡ true → s < 65536 → has_room t.control ≡ true → Ticking t → Ticking (end_told s c 10 t)
   unfolding end_told gives ends_call with_output with_change with_move
-  told_ok s c code t found row small coded k =
-      let m = move.EndTold (record { tunnel = t.control.local; session = s; remote = c.remote; code = code; given = next_place t.control }) in
+  told_ok s c t found late row small room k =
+      let m = move.EndTold (record { tunnel = t.control.local; session = s; remote = c.remote; code = 10; given = next_place t.control }) in
       let h = k.settled in
-      let l = letter_of c.remote (Cdn s code None) in
+      let l = letter_of c.remote (Cdn s 10 None) in
       record {
         settled = record {
-          chain = chain_more moment ev e (at_turn e moment ev letters calls i t) _ t.moves m h.chain (record {
+          chain = chain_more moment Tick e (at_turn e moment Tick letters calls i t) _ t.moves m h.chain (record {
             tunnel = tunnel t;
-            there = there e moment ev letters calls i t;
+            there = there e moment Tick letters calls i t;
             call = c;
             live = found;
+            late = late;
             row = row;
             session = small;
             remote = refl;
-            code = coded;
+            code = refl;
+            room = room;
             given = refl;
             after =
                 let changed = with_calls-more t.changed s None calls in
                 let looked = with_looks-more t.changes (cell.Kill s) (placed t.control.local t.added e.calls) in
-                rw (changed, looked, one_given e moment ev letters calls i t l, put-put e.tunnels t.control.local (tunnel t) _) refl;
+                rw (changed, looked, one_given e moment Tick letters calls i t l, put-put e.tunnels t.control.local (tunnel t) _) refl;
           });
-          outs = all_push _ t.outputs (Gone s) (outs_on e moment ev letters calls i t (end_told s c code t) (given_on t (end_told s c code t) l refl refl refl refl refl refl) h) tt;
+          outs = all_push _ t.outputs (Gone s) (outs_on e moment Tick letters calls i t (end_told s c 10 t) (given_on t (end_told s c 10 t) l refl refl refl refl refl refl) h) tt;
           frames = all_push NoFrame t.moves m h.frames tt;
           stays = h.stays;
-          held = subst (Held (sending.one_more t.control.channel.window)) (sym (one_given e moment ev letters calls i t l))
-              (held_given t.control.channel.window (letters_after t letters) l h.held);
+          held = given_held e moment Tick letters calls i t l room h.held;
         };
         none = k.none;
       }
@@ -276,13 +304,13 @@ module _ (e : End) (moment : ℕ) (ev : Event) (letters : List Letter) (calls : 
   -- what the end of one call leaves
   record Limited (s : ℕ) (t u : Turn) : Type 0 where
     ok : Ticking u
-    others : Others e moment ev letters calls i s t u
+    others : Others e moment Tick letters calls i s t u
 
   -- a turn that takes a call out
-  one_taken : (s : ℕ) (t u : Turn) → u.changed ≡ t.changed ++ (s, None) ∷ [] → Others e moment ev letters calls i s t u
+  one_taken : (s : ℕ) (t u : Turn) → u.changed ≡ t.changed ++ (s, None) ∷ [] → Others e moment Tick letters calls i s t u
   one_taken s t u is q o = ap (λ xs. at (with_calls xs calls) q) is ∙ ap (λ xs. at xs q) (with_calls-more t.changed s None calls) ∙ at_without_other (with_calls t.changed calls) s q o
 
-  silent_others : (s : ℕ) (t : Turn) → Others e moment ev letters calls i s t (end_silent s t)
+  silent_others : (s : ℕ) (t : Turn) → Others e moment Tick letters calls i s t (end_silent s t)
   unfolding end_silent ends_call with_output with_change with_move
   silent_others s t = one_taken s t (end_silent s t) refl
 
@@ -291,47 +319,58 @@ module _ (e : End) (moment : ℕ) (ev : Event) (letters : List Letter) (calls : 
   unfolding with_output
   caused_found s c t found = found
 
+  caused_room : (t : Turn) → has_room t.control ≡ true → has_room (with_output (Cause cause.Setup) t).control ≡ true
+  unfolding with_output
+  caused_room t room = room
+
   told_changed : (s : ℕ) (c : Call) (t : Turn) → (end_told s c 10 (with_output (Cause cause.Setup) t)).changed ≡ t.changed ++ (s, None) ∷ []
   unfolding end_told gives ends_call with_output with_change with_move
   told_changed s c t = refl
 
-  limited : (s : ℕ) (c : Call) (t : Turn) → at (with_calls t.changed calls) s ≡ Some c → s < 65536 → (a : CallAction) → (call_row e.role c.state call_event.Close).1 ≡ a
-      → Ticking t → Limited s t (limited_by letters s c a t)
+  limited : (s : ℕ) (c : Call) (t : Turn) → at (with_calls t.changed calls) s ≡ Some c → TookTooLong Tick moment c → s < 65536 → (a : CallAction)
+      → (call_row e.role c.state call_event.Close).1 ≡ a → Ticking t → Limited s t (limited_by letters s c a t)
   unfolding limited_by
-  limited s c t found small call_action.CleanUp is h =
-      record { ok = silent_ok s c t found (ap is_clean_up is) h; others = silent_others s t }
-  limited s c t found small call_action.SendCdn is h =
+  limited s c t found late small call_action.CleanUp is h =
+      record { ok = silent_ok s c t found late (ap is_clean_up is) h; others = silent_others s t }
+  limited s c t found late small call_action.SendCdn is h =
       branch (Limited s t) (has_room t.control) _ _
       (λ may.
       let u = with_output (Cause cause.Setup) t in
       let v = end_told s c 10 u in
       record {
-        ok = settling_ok v (told_ok s c 10 u (caused_found s c t found) (ap is_told is) small (omega arith) (caused_ok cause.Setup t h));
+        ok = settling_ok v (told_ok s c u (caused_found s c t found) late (ap is_told is) small (caused_room t may) (caused_ok cause.Setup t h));
         others = one_taken s t (settles false letters v) ((settled_keeps false letters v).0 ∙ told_changed s c t);
       })
       (λ full. record { ok = h; others = λ q o. refl })
-  limited s c t found small call_action.Nothing is h = record { ok = h; others = λ q o. refl }
-  limited s c t found small call_action.SendIcrq is h = record { ok = h; others = λ q o. refl }
-  limited s c t found small call_action.SendIcrp is h = record { ok = h; others = λ q o. refl }
-  limited s c t found small call_action.SendIccn is h = record { ok = h; others = λ q o. refl }
-  limited s c t found small call_action.DropSession is h = record { ok = h; others = λ q o. refl }
+  limited s c t found late small call_action.Nothing is h = record { ok = h; others = λ q o. refl }
+  limited s c t found late small call_action.SendIcrq is h = record { ok = h; others = λ q o. refl }
+  limited s c t found late small call_action.SendIcrp is h = record { ok = h; others = λ q o. refl }
+  limited s c t found late small call_action.SendIccn is h = record { ok = h; others = λ q o. refl }
+  limited s c t found late small call_action.DropSession is h = record { ok = h; others = λ q o. refl }
 
   limits_at_ok : (s : ℕ) (o : Option Call) (t : Turn) → at (with_calls t.changed calls) s ≡ o → Ticking t → Limited s t (limits_at e.role letters s o t)
   unfolding limits_at
   limits_at_ok s None t found h = record { ok = h; others = λ q o. refl }
   limits_at_ok s (Some c) t found h =
       branch (Limited s t) (nat_lt s 65536 && is_set_up c.state && is_over patience t.moment c.since) _ _
-      (λ due. limited s c t found (ltb-true s 65536 (and_left (nat_lt s 65536) (is_set_up c.state) (and_left (nat_lt s 65536 && is_set_up c.state) _ due))) (call_row e.role c.state call_event.Close).1 refl h)
+      (λ due.
+      let both = and_left (nat_lt s 65536 && is_set_up c.state) _ due in
+      let small = ltb-true s 65536 (and_left (nat_lt s 65536) (is_set_up c.state) both) in
+      limited s c t found (record {
+        ticks = refl;
+        set_up = and_right (nat_lt s 65536) (is_set_up c.state) both;
+        over = over_at c.since t h (and_right (nat_lt s 65536 && is_set_up c.state) _ due);
+      }) small (call_row e.role c.state call_event.Close).1 refl h)
       (λ no. record { ok = h; others = λ q o. refl })
 
-  limits_all_ok : (es : List (ℕ × Call)) → Ascends es → (t : Turn) → AllByRecursion (Same e moment ev letters calls i t) es → Ticking t
+  limits_all_ok : (es : List (ℕ × Call)) → Ascends es → (t : Turn) → AllByRecursion (Same e moment Tick letters calls i t) es → Ticking t
       → Ticking (limits_all e.role letters (ids_of es) calls t)
   unfolding limits_all Ascends
   limits_all_ok [] sorted t same h = h
   limits_all_ok (x ∷ es) sorted t same h =
       let u = limits_at e.role letters x.0 (at calls x.0) t in
       let l = limits_at_ok x.0 (at calls x.0) t same.0 h in
-      limits_all_ok es sorted.1 u (same_still e moment ev letters calls i x.0 t u l.others es sorted.0 same.1) l.ok
+      limits_all_ok es sorted.1 u (same_still e moment Tick letters calls i x.0 t u l.others es sorted.0 same.1) l.ok
 
   -- ---- what stays of a tunnel whose channel hasn't failed
 
@@ -347,9 +386,13 @@ module _ (e : End) (moment : ℕ) (ev : Event) (letters : List Letter) (calls : 
   unfolding greets greeted
   greets_ok t none h =
       branch Greeting (state_number t.control.state == 3 && t.control.channel.window.queued == 0 && is_over patience t.moment t.control.heard) _ _
-      (λ due. record {
-        ok = settling_ok (hello t) (hello_ok t (eqb-true (state_number t.control.state) 3 (and_left (state_number t.control.state == 3) (t.control.channel.window.queued == 0)
-            (and_left (state_number t.control.state == 3 && t.control.channel.window.queued == 0) _ due))) h);
+      (λ due.
+      let open_is = state_number t.control.state == 3 in
+      let empty = t.control.channel.window.queued == 0 in
+      let both = and_left (open_is && empty) _ due in
+      record {
+        ok = settling_ok (hello t) (hello_ok t (eqb-true (state_number t.control.state) 3 (and_left open_is empty both))
+            (eqb-true t.control.channel.window.queued 0 (and_right open_is empty both)) (over_at t.control.heard t h (and_right (open_is && empty) _ due)) h);
         changed = (settled_keeps false letters (hello t)).0 ∙ hello_changed t ∙ none;
       })
       (λ no. record { ok = h; changed = none })
@@ -358,7 +401,7 @@ module _ (e : End) (moment : ℕ) (ev : Event) (letters : List Letter) (calls : 
   unfolding goes_quietly
   quietly_ok sorted t none h =
       let g = greets_ok t none h in
-      limits_all_ok calls sorted (greets letters t) (same_first e moment ev letters calls i (greets letters t) g.changed calls) g.ok
+      limits_all_ok calls sorted (greets letters t) (same_first e moment Tick letters calls i (greets letters t) g.changed calls) g.ok
 
   pub repeated_changed : (number : ℕ) (t : Turn) → t.changed ≡ [] → (repeats letters number t).changed ≡ []
   unfolding repeats sends_now with_move

@@ -4,7 +4,7 @@ use Rattle.std.proofs.lemmas.List.{append-nil, append_assoc}
 use Rattle.std.specs.Prelude.{◌&&◌, map}
 use Rattle.std.specs.List.{AllByRecursion, flat_map}
 use Rattle.id_table.specs.Ids.{at, without, ids_of}
-use Rattle.id_table.specs.Order.{IsAbove, Ascends, at_other}
+use Rattle.id_table.specs.Order.{IsAbove, Ascends, at_other, ascends-without, at_without_other, found_without}
 use Rattle.send_window.specs.declared.window.Tick.{Tick as Due}
 use Rattle.send_window.specs.declared.window.Tick.TheVariants.{Quiet, Again, Failed}
 use Rattle.control_channel.specs.Numbers.{answer_to_tick}
@@ -16,9 +16,9 @@ use Rattle.protocol_model.specs.declared.moves.Move.{Move}
 use Rattle.protocol_model.specs.declared.moves.Move.TheVariants as move
 use Rattle.protocol_model.specs.Turn.{Tunnel, Env, Turn, turn_of, with_output, with_move, with_change, ends_call, ends_all, clears, repeats, is_over, patience, is_being_set_up, ticks_by, ticks, turns, tunnel_after}
 use Rattle.protocol_model.specs.End.{End, env_of, placed, with_looks, after_turn, Turned, tick_of, ticks_of, end_after_all, after_all, ticks_all}
-use Rattle.step_laws.specs.Moves.{Chain}
+use Rattle.step_laws.specs.Moves.{Chain, HasFailed}
 use Rattle.step_laws.specs.Steps.{IsKept, AreKept, IsOfMoves, IsChain}
-use Rattle.step_laws.proofs.Lists.{all_append, all_map, all_push, among_right, chain_append, branch, ascends-without, ascends_looks, at_without_other, found_without}
+use Rattle.step_laws.proofs.Lists.{all_append, all_map, all_push, among_right, chain_append, branch, and_left, and_right, ascends_looks}
 use Rattle.step_laws.proofs.Turns.{IsWord, NoFrame}
 use Rattle.step_laws.proofs.Settling.{OutOk, goes_nowhere, out_on, carries_on, unsent}
 use Rattle.step_laws.proofs.Ticking.{Ticking, quietly_ok, repeats_ok, repeated_changed}
@@ -107,7 +107,7 @@ module _ (e : End) (kept : AreKept e) (moment : ℕ) (block : List ℕ) (i : ℕ
   unfolding after_turn
   like_left r tunnels sessions = record { role = refl; config = refl; tunnels = tunnels; sessions = sessions }
 
-  ticking_leads : (r : Turn) → Ticking e moment Tick t.letters t.calls i r → leads r
+  ticking_leads : (r : Turn) → Ticking e moment t.letters t.calls i r → leads r
   ticking_leads r h =
       let s = h.settled in
       let after = tunnel_after r t.letters t.calls in
@@ -149,14 +149,16 @@ module _ (e : End) (kept : AreKept e) (moment : ℕ) (block : List ℕ) (i : ℕ
     first = kept.first;
   }
 
-  cleared_to_gone : Ticked e moment i (clears t.calls start) gone
+  cleared_to_gone : HasFailed moment t.control → Ticked e moment i (clears t.calls start) gone
   unfolding clears
-  cleared_to_gone = record {
+  cleared_to_gone failed = record {
     chain = subst (λ ms. Chain moment Tick e ms gone) (sym removed_moves) (
       gone,
       record {
         tunnel = t;
         there = subst (λ j. at e.tunnels j ≡ Some t) (sym k.local) is;
+        ticks = refl;
+        failed = failed;
         after = ap (λ j. record e { tunnels = without e.tunnels j; calls = with_looks (map cell.Kill (ids_of t.calls)) e.calls }) (sym k.local);
       },
       refl,
@@ -168,10 +170,10 @@ module _ (e : End) (kept : AreKept e) (moment : ℕ) (block : List ℕ) (i : ℕ
     others = λ j o. at_without_other e.tunnels i j o;
   }
 
-  cleared_leads : leads (clears t.calls start)
-  cleared_leads = subst (Ticked e moment i (clears t.calls start)) (sym gone_is) cleared_to_gone
+  cleared_leads : HasFailed moment t.control → leads (clears t.calls start)
+  cleared_leads failed = subst (Ticked e moment i (clears t.calls start)) (sym gone_is) (cleared_to_gone failed)
 
-  begun : Ticking e moment Tick t.letters t.calls i start
+  begun : Ticking e moment t.letters t.calls i start
   begun = record {
     settled = unsent e moment Tick t.letters t.calls i start (begins e kept moment Tick block i t is).good;
     none = (refl, refl, refl);
@@ -179,18 +181,20 @@ module _ (e : End) (kept : AreKept e) (moment : ℕ) (block : List ℕ) (i : ℕ
 
   ticks_by_lead : (a : Due) → answer_to_tick t.control.channel moment ≡ a → leads (ticks_by e.role t.letters t.calls a start)
   unfolding ticks_by
-  ticks_by_lead Quiet due = ticking_leads _ (quietly_ok e moment Tick t.letters t.calls i k.calls start refl begun)
+  ticks_by_lead Quiet due = ticking_leads _ (quietly_ok e moment t.letters t.calls i k.calls start refl begun)
   ticks_by_lead (Again number) due =
       ticking_leads _
-      (quietly_ok e moment Tick t.letters t.calls i k.calls (repeats t.letters number start) (repeated_changed e moment Tick t.letters t.calls i number start refl)
-      (repeats_ok e moment Tick t.letters t.calls i number start due begun))
-  ticks_by_lead (Failed first) due = cleared_leads
+      (quietly_ok e moment t.letters t.calls i k.calls (repeats t.letters number start) (repeated_changed e moment t.letters t.calls i number start refl)
+      (repeats_ok e moment t.letters t.calls i number start due begun))
+  ticks_by_lead (Failed first) due = cleared_leads (inr (first, due))
 
   tick_leads : leads (turns e.role e.config t.letters t.calls Tick start)
   unfolding turns ticks
   tick_leads =
-      branch leads (is_being_set_up t.control.state && is_over patience moment t.control.made) _ _
-      (λ late. cleared_leads)
+      let setting_up = is_being_set_up t.control.state in
+      let late = is_over patience moment t.control.made in
+      branch leads (setting_up && late) _ _
+      (λ due. cleared_leads (inl (and_left setting_up late due, and_right setting_up late due)))
       (λ no. ticks_by_lead (answer_to_tick t.control.channel moment) refl)
 
 -- ---- all of them

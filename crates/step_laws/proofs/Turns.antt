@@ -1,5 +1,5 @@
 -- Each part of a turn is a move, from the end as the turn has it so far.
-use Rattle.std.proofs.Common.{◌≡◌, ℕ, ◌-◌, ◌<◌, ◌≤◌, Bool, true, false, List, [], ◌∷◌, ◌++◌, length, refl, sym, ap, ◌∙◌, subst, Option, Some, None, Result, Ok, Err, arith}
+use Rattle.std.proofs.Common.{◌≡◌, ◌⊎◌, ℕ, ◌+◌, ◌-◌, ◌%◌, ◌^◌, ◌<◌, ◌≤◌, Bool, true, false, List, [], ◌∷◌, ◌++◌, length, refl, sym, ap, ◌∙◌, subst, Option, Some, None, Result, Ok, Err, arith}
 use Rattle.std.proofs.lemmas.List.{append-nil, append_assoc, length-append, length-drop}
 use Rattle.std.specs.List.{AllByRecursion}
 use Rattle.std.specs.Prelude.{nat_lt, drop, ◌==◌}
@@ -12,6 +12,7 @@ use Rattle.wire_base.specs.declared.why.Why.TheVariants as why
 use Rattle.wire_base.specs.declared.why.Why.{Why}
 use Rattle.wire_base.specs.declared.cause.Cause.{Cause as Refusal}
 use Rattle.wire_base.specs.declared.letter.Letter.{Letter}
+use Rattle.control_message.specs.declared.message.Message.{Message}
 use Rattle.control_message.specs.declared.message.Message.TheVariants.{Sccrp, Scccn, Icrq, Icrp, Iccn, Cdn}
 use Rattle.control_message.specs.declared.message.Opening.{Opening}
 use Rattle.send_window.specs.Kept.{Window}
@@ -31,10 +32,11 @@ use Rattle.protocol_model.specs.declared.out.Out.{Out}
 use Rattle.protocol_model.specs.declared.out.Out.TheVariants.{Send, Up, Gone, Drop, Cause}
 use Rattle.protocol_model.specs.declared.moves.Move.{Move}
 use Rattle.protocol_model.specs.declared.moves.Move.TheVariants as move
+use Rattle.protocol_model.specs.Reading.{body_of, message_in}
 use Rattle.protocol_model.specs.Calls.{call_row, advanced, rung, asked_for, is_request, is_reply, is_connection, is_up}
-use Rattle.protocol_model.specs.Turn.{Turn, with_output, with_move, with_change, with_call, with_new, drops, gives, takes_one, next_place, taken_place, has_room, learns_window, reads_nr, ends_call, end_heard, is_clean_up, session_named, requested, requests, requests_at, requests_all, adds, replied, first_up, second_up, connected, confirms, takes_plain, ignores, letter_of, request_of, connection, letters_after, tunnel_after, with_calls}
+use Rattle.protocol_model.specs.Turn.{Tunnel, Turn, with_output, with_move, with_change, with_call, with_new, drops, gives, takes_one, next_place, taken_place, has_room, learns_window, reads_nr, ends_call, end_heard, is_clean_up, session_named, requested, requests, requests_at, requests_all, adds, replied, first_up, second_up, connected, confirms, takes_plain, ignores, letter_of, request_of, connection, letters_after, tunnel_after, with_calls}
 use Rattle.protocol_model.specs.End.{End, placed, with_looks}
-use Rattle.step_laws.specs.Moves.{Chain, ComesNext, HearsNext, TellsNr}
+use Rattle.step_laws.specs.Moves.{Chain, ComesNext, HearsNext, IsPlain, TellsNr}
 use Rattle.step_laws.proofs.Lists.{all_push, branch, with_calls-more, with_looks-more, placed-more, chain_more}
 
 -- an output that is no datagram and hands nothing up
@@ -61,25 +63,43 @@ module _ (window : ℕ) (c : Control) where
   pub learnt_state : (learns_window window c).state ≡ c.state
   learnt_state = branch (λ (d : Control). d.state ≡ c.state) (window == 0) _ _ (λ none. refl) (λ some. refl)
 
+  pub learnt_room : has_room (learns_window window c) ≡ has_room c
+  learnt_room = branch (λ (d : Control). has_room d ≡ has_room c) (window == 0) _ _ (λ none. refl) (λ some. refl)
+
 -- what a turn of the tunnel with an id keeps, until it is removed
 abbrev pub Stays : ℕ → ℕ → Turn → Type 0
 Stays i moment t =
     (t.control.local ≡ i) × (state_number t.control.state ≡ 0 → ⊥) × (t.sessions.last < 65536) × (0 < t.tunnels.next)
     × (t.moment ≡ moment) × (t.cleared ≡ false)
 
--- the letters that a tunnel keeps are those that its window counts
+-- the letters that a tunnel keeps are those that its window counts, 8,192 at most, and their numbers have 64 bits
 abbrev pub Held : Window → List Letter → Type 0
-Held w ls = (length ls ≡ w.queued) × (w.outstanding ≤ w.queued)
+Held w ls = (length ls ≡ w.queued) × (w.outstanding ≤ w.queued) × (w.queued ≤ 8192) × (w.acked < 2 ^ 64)
 
-pub held_given : (w : Window) (ls : List Letter) (l : Letter) → Held w ls → Held (sending.one_more w) (ls ++ l ∷ [])
-held_given w ls l h = let more = length-append ls (l ∷ []) in let count = h.0 in let few = h.1 in (omega (arith, more, count), omega (arith, few))
+-- a number that is counted modulo 2^64
+pub has_64_bits : (n : ℕ) → n % 2 ^ 64 < 2 ^ 64
+has_64_bits n = omega arith
 
-held_read : (w : Window) (ls : List Letter) (nr moment : ℕ) → Held w ls → Held (sending.acked_at w nr moment) (drop (sending.count_acked w nr) ls)
+-- one more letter, where there is room for it
+pub held_given : (w : Window) (ls : List Letter) (l : Letter) → nat_lt w.queued 8192 ≡ true → Held w ls → Held (sending.one_more w) (ls ++ l ∷ [])
+held_given w ls l room h =
+    let more = length-append ls (l ∷ []) in
+    let count = h.0 in
+    let few = h.1 in
+    let below = ltb-true w.queued 8192 room in
+    (omega (arith, more, count), omega (arith, few), omega (arith, below), h.3)
+
+pub held_read : (w : Window) (ls : List Letter) (nr moment : ℕ) → Held w ls → Held (sending.acked_at w nr moment) (drop (sending.count_acked w nr) ls)
 held_read w ls nr moment h =
     let count = sending.count_acked w nr in
     branch (λ (x : Window). Held x (drop count ls)) (count == 0) _ _
     (λ zero. rw (eqb-true count 0 zero) h)
-    (λ some. (length-drop count ls ∙ ap (λ n. n - count) h.0, (let few = h.1 in omega (arith, few))))
+    (λ some. (
+      length-drop count ls ∙ ap (λ n. n - count) h.0,
+      (let few = h.1 in omega (arith, few)),
+      (let least = h.2 in omega (arith, least)),
+      has_64_bits (w.acked + count),
+    ))
 
 pub held_learnt : (peer_window : ℕ) (c : Control) (ls : List Letter) → Held c.channel.window ls → Held (learns_window peer_window c).channel.window ls
 held_learnt peer_window c ls h = branch (λ (d : Control). Held d.channel.window ls) (peer_window == 0) _ _ (λ none. h) (λ some. h)
@@ -97,6 +117,11 @@ next_after s some = by (draws s)
     by : (r : Result ℕ IdError) → 0 < (drawn r s).next
     by (Ok n) = omega arith
     by (Err x) = some
+
+-- what comes next is taken plainly: by its tables the end does nothing on it in the tunnel
+pub record ComesPlain (ev : Event) (x : End) (u : Tunnel) : Type 0 where
+  pub comes : ComesNext ev u.control
+  pub why : (m : Message) → message_in (body_of comes.header comes.bytes) ≡ Ok m → IsPlain x u comes.header.session m
 
 module _ (e : End) (moment : ℕ) (ev : Event) (letters : List Letter) (calls : List (ℕ × Call)) (i : ℕ) where
   -- the end as the turn has it
@@ -123,10 +148,10 @@ module _ (e : End) (moment : ℕ) (ev : Event) (letters : List Letter) (calls : 
   pub one_given : (t : Turn) (l : Letter) → drop t.acked letters ++ (t.given ++ l ∷ []) ≡ letters_after t letters ++ l ∷ []
   one_given t l = sym (append_assoc (drop t.acked letters) t.given (l ∷ []))
 
-  given_held : (t : Turn) (l : Letter) → Held t.control.channel.window (letters_after t letters)
+  pub given_held : (t : Turn) (l : Letter) → has_room t.control ≡ true → Held t.control.channel.window (letters_after t letters)
       → Held (sending.one_more t.control.channel.window) (drop t.acked letters ++ (t.given ++ l ∷ []))
-  given_held t l h =
-      subst (Held (sending.one_more t.control.channel.window)) (sym (one_given t l)) (held_given t.control.channel.window (letters_after t letters) l h)
+  given_held t l room h =
+      subst (Held (sending.one_more t.control.channel.window)) (sym (one_given t l)) (held_given t.control.channel.window (letters_after t letters) l room h)
 
   pub drops_ok : (w : Why) (t : Turn) → TurnOk t → TurnOk (drops w t)
   unfolding drops with_output
@@ -137,9 +162,9 @@ module _ (e : End) (moment : ℕ) (ev : Event) (letters : List Letter) (calls : 
   refused_ok c t h = record { chain = h.chain; words = all_push IsWord t.outputs (Cause c) h.words tt; frames = h.frames; stays = h.stays; held = h.held }
 
   pub requested_ok : (s : ℕ) (c : Call) (t : Turn) → state_number t.control.state ≡ 3 → at (with_calls t.changed calls) s ≡ Some c → s < 65536
-      → is_request (call_row e.role c.state call_event.TunnelOpen).1 ≡ true → TurnOk t → TurnOk (requested e.role s c t)
+      → is_request (call_row e.role c.state call_event.TunnelOpen).1 ≡ true → has_room t.control ≡ true → TurnOk t → TurnOk (requested e.role s c t)
   unfolding requested gives with_output with_change with_move with_call
-  requested_ok s c t is_open found small row h =
+  requested_ok s c t is_open found small row room h =
       let m = move.Requested (record { tunnel = t.control.local; session = s; port = c.port; given = next_place t.control }) in
       record {
         chain = chain_more moment ev e (at_turn t) _ t.moves m h.chain (record {
@@ -151,6 +176,7 @@ module _ (e : End) (moment : ℕ) (ev : Event) (letters : List Letter) (calls : 
           row = row;
           session = small;
           port = refl;
+          room = room;
           given = refl;
           after =
               let changed = with_calls-more t.changed s (Some (advanced e.role call_event.TunnelOpen t.moment c)) calls in
@@ -160,7 +186,7 @@ module _ (e : End) (moment : ℕ) (ev : Event) (letters : List Letter) (calls : 
         words = h.words;
         frames = all_push NoFrame t.moves m h.frames tt;
         stays = h.stays;
-        held = given_held t (letter_of 0 (request_of s c.port)) h.held;
+        held = given_held t (letter_of 0 (request_of s c.port)) room h.held;
       }
 
   -- ---- the calls that wait
@@ -170,7 +196,7 @@ module _ (e : End) (moment : ℕ) (ev : Event) (letters : List Letter) (calls : 
   unfolding requests
   requests_ok s c t is_open found small h =
       branch TurnOk (is_request (call_row e.role c.state call_event.TunnelOpen).1) _ _
-      (λ row. branch TurnOk (has_room t.control) _ _ (λ may. requested_ok s c t is_open found small row h) (λ full. drops_ok why.Queue t h))
+      (λ row. branch TurnOk (has_room t.control) _ _ (λ may. requested_ok s c t is_open found small row may h) (λ full. drops_ok why.Queue t h))
       (λ none. h)
 
   -- the calls other than one stay
@@ -235,14 +261,16 @@ module _ (e : End) (moment : ℕ) (ev : Event) (letters : List Letter) (calls : 
 
   -- ---- moves of calls
 
-  pub adds_ok : (port s : ℕ) (t : Turn) → t.changes ≡ [] → ev ≡ Ring port → e.role ≡ Lac → draws t.sessions ≡ Ok s → TurnOk t → TurnOk (adds e.role port s t)
+  pub adds_ok : (port s : ℕ) (t : Turn) → t.changes ≡ [] → (state_number t.control.state ≡ 3) ⊎ (state_number t.control.state ≡ 1) → ev ≡ Ring port
+      → e.role ≡ Lac → draws t.sessions ≡ Ok s → TurnOk t → TurnOk (adds e.role port s t)
   unfolding adds with_move with_new with_looks
-  adds_ok port s t none rings lac drawn h =
+  adds_ok port s t none goes rings lac drawn h =
       let m = move.Added (record { tunnel = t.control.local; session = s; port = port }) in
       record {
         chain = chain_more moment ev e (at_turn t) _ t.moves m h.chain (record {
           tunnel = tunnel_after t letters calls;
           there = there t;
+          goes = goes;
           rings = rings;
           role = lac;
           drawn = drawn;
@@ -259,9 +287,9 @@ module _ (e : End) (moment : ℕ) (ev : Event) (letters : List Letter) (calls : 
 
   pub replied_ok : (remote s session serial : ℕ) (calling : Option (List ℕ)) (t : Turn) → t.changes ≡ [] → state_number t.control.state ≡ 3
       → HearsNext ev t.control session (Icrq remote serial calling) → is_reply (call_row e.role call.Idle call_event.IcrqAcc).1 ≡ true
-      → draws t.sessions ≡ Ok s → TurnOk t → TurnOk (replied e.role remote s t)
+      → draws t.sessions ≡ Ok s → has_room t.control ≡ true → TurnOk t → TurnOk (replied e.role remote s t)
   unfolding replied gives with_output with_move with_new takes_one with_looks
-  replied_ok remote s session serial calling t none is_open hears row drawn h =
+  replied_ok remote s session serial calling t none is_open hears row drawn room h =
       let m = move.Replied (record {
         tunnel = t.control.local;
         peer = t.control.peer;
@@ -282,6 +310,7 @@ module _ (e : End) (moment : ℕ) (ev : Event) (letters : List Letter) (calls : 
           row = row;
           drawn = drawn;
           taken = refl;
+          room = room;
           given = refl;
           after =
               let changed = with_calls-more t.changed s (Some (asked_for e.role remote t.moment)) calls in
@@ -291,14 +320,14 @@ module _ (e : End) (moment : ℕ) (ev : Event) (letters : List Letter) (calls : 
         words = h.words;
         frames = all_push NoFrame t.moves m h.frames tt;
         stays = (h.stays.0, h.stays.1, (let l = last_after t.sessions in let x = h.stays.2 in omega (arith, l, x)), h.stays.3, h.stays.4, h.stays.5);
-        held = given_held t (letter_of remote (Icrp s)) h.held;
+        held = given_held t (letter_of remote (Icrp s)) room h.held;
       }
 
   pub first_up_ok : (s remote : ℕ) (c : Call) (t : Turn) → state_number t.control.state ≡ 3 → at (with_calls t.changed calls) s ≡ Some c
-      → HearsNext ev t.control s (Icrp remote) → is_connection (call_row e.role c.state call_event.IcrpAcc).1 ≡ true → TurnOk t
+      → HearsNext ev t.control s (Icrp remote) → is_connection (call_row e.role c.state call_event.IcrpAcc).1 ≡ true → has_room t.control ≡ true → TurnOk t
       → TurnOk (first_up e.role s remote c t)
   unfolding first_up gives with_output with_change with_move with_call takes_one
-  first_up_ok s remote c t is_open found hears row h =
+  first_up_ok s remote c t is_open found hears row room h =
       let m = move.FirstUp (record {
         tunnel = t.control.local;
         session = s;
@@ -316,6 +345,7 @@ module _ (e : End) (moment : ℕ) (ev : Event) (letters : List Letter) (calls : 
           hears = hears;
           row = row;
           taken = refl;
+          room = room;
           given = refl;
           after =
               let changed = with_calls-more t.changed s (Some (advanced e.role call_event.IcrpAcc t.moment (record c { remote = remote }))) calls in
@@ -325,7 +355,7 @@ module _ (e : End) (moment : ℕ) (ev : Event) (letters : List Letter) (calls : 
         words = h.words;
         frames = all_push NoFrame t.moves m h.frames tt;
         stays = h.stays;
-        held = given_held t (letter_of remote connection) h.held;
+        held = given_held t (letter_of remote connection) room h.held;
       }
 
   pub second_up_ok : (s speed framing : ℕ) (sequenced : Bool) (c : Call) (t : Turn) → state_number t.control.state ≡ 3
@@ -395,9 +425,9 @@ module _ (e : End) (moment : ℕ) (ev : Event) (letters : List Letter) (calls : 
   -- ---- moves of the tunnel
 
   pub connected_ok : (remote window session : ℕ) (o : Opening) (t : Turn) → t.control.state ≡ WaitCtlReply → HearsNext ev t.control session (Sccrp o)
-      → remote ≡ o.tunnel → window ≡ o.window → TurnOk t → TurnOk (connected remote window Established t)
+      → remote ≡ o.tunnel → window ≡ o.window → has_room t.control ≡ true → TurnOk t → TurnOk (connected remote window Established t)
   unfolding connected gives with_move takes_one
-  connected_ok remote window session o t state hears is is_window h =
+  connected_ok remote window session o t state hears is is_window room h =
       let m = move.Connected (record {
         tunnel = t.control.local;
         remote = remote;
@@ -416,6 +446,7 @@ module _ (e : End) (moment : ℕ) (ev : Event) (letters : List Letter) (calls : 
           remote = is;
           window = is_window;
           taken = refl;
+          room = room;
           given = refl;
           after = rw (learnt_local window c, one_given t (letter_of 0 Scccn), put-put e.tunnels t.control.local (tunnel_after t letters calls) _) refl;
         });
@@ -423,7 +454,8 @@ module _ (e : End) (moment : ℕ) (ev : Event) (letters : List Letter) (calls : 
         frames = all_push NoFrame t.moves m h.frames tt;
         stays = (learnt_local window c ∙ h.stays.0, rw (learnt_state window c) (λ z. absurd (omega (arith, z))), h.stays.2, h.stays.3, h.stays.4, h.stays.5);
         held = subst (Held (sending.one_more (learns_window window c).channel.window)) (sym (one_given t (letter_of 0 Scccn)))
-            (held_given (learns_window window c).channel.window (letters_after t letters) (letter_of 0 Scccn) (held_learnt window c (letters_after t letters) h.held));
+            (held_given (learns_window window c).channel.window (letters_after t letters) (letter_of 0 Scccn) (learnt_room window c ∙ room)
+            (held_learnt window c (letters_after t letters) h.held));
       }
 
   pub confirms_ok : (session : ℕ) (t : Turn) → t.control.state ≡ WaitCtlConn → HearsNext ev t.control session Scccn → TurnOk t → TurnOk (confirms Established t)
@@ -445,7 +477,11 @@ module _ (e : End) (moment : ℕ) (ev : Event) (letters : List Letter) (calls : 
         held = h.held;
       }
 
-  pub plain_ok : (t : Turn) → ComesNext ev t.control → TurnOk t → TurnOk (takes_plain t)
+  -- a letter on which nothing is done in a turn
+  abbrev pub PlainAt : Turn → Type 0
+  PlainAt t = ComesPlain ev (at_turn t) (tunnel_after t letters calls)
+
+  pub plain_ok : (t : Turn) → PlainAt t → TurnOk t → TurnOk (takes_plain t)
   unfolding takes_plain with_move takes_one
   plain_ok t comes h =
       let m = move.TookPlain (record { tunnel = t.control.local; taken = taken_place t.control }) in
@@ -453,7 +489,9 @@ module _ (e : End) (moment : ℕ) (ev : Event) (letters : List Letter) (calls : 
         chain = chain_more moment ev e (at_turn t) _ t.moves m h.chain (record {
           tunnel = tunnel_after t letters calls;
           there = there t;
-          comes = comes;
+          comes = comes.comes;
+          why = comes.why;
+          plain = λ waits opening said. comes.why (Sccrp opening) said waits;
           taken = refl;
           after = rw (put-put e.tunnels t.control.local (tunnel_after t letters calls) _) refl;
         });
@@ -463,7 +501,7 @@ module _ (e : End) (moment : ℕ) (ev : Event) (letters : List Letter) (calls : 
         held = h.held;
       }
 
-  pub ignores_ok : (w : Why) (t : Turn) → ComesNext ev t.control → TurnOk t → TurnOk (ignores w t)
+  pub ignores_ok : (w : Why) (t : Turn) → PlainAt t → TurnOk t → TurnOk (ignores w t)
   unfolding ignores
   ignores_ok w t comes h = drops_ok w (takes_plain t) (plain_ok t comes h)
 

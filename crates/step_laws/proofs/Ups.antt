@@ -20,22 +20,23 @@ use Rattle.protocol_model.specs.Reading.{header_why, body_of}
 use Rattle.protocol_model.specs.Calls.{is_lac, Carried, Upward, Dropped}
 use Rattle.protocol_model.specs.Turn.{Tunnel, Env, turn_of, fresh, turns}
 use Rattle.protocol_model.specs.End.{End, Stepped, env_of, gives_only, after_turn, after_new, in_new, in_main, addressed, for_addressee, least_in, rings_in, rings_at, gives_frame, handed, hands_up, receives, Turned, tick_of, ticks_of, after_all, ticks_all, only_by, step_in, step}
-use Rattle.step_laws.specs.Ups.{ups_of_output, ups_of_move, births_of_move, most_ups, most_births, UpsAreMoves, UpsAreFew, BirthsAreFew}
+use Rattle.step_laws.specs.Ups.{ups_of_output, ups_of_move, births_of_move, reads_of_move, most_ups, most_births, most_reads, UpsAreMoves, UpsAreFew, BirthsAreFew, ReadsAreFew}
 use Rattle.step_laws.proofs.Lists.{branch}
 use Rattle.step_laws.proofs.Quiet.{AreQuiet, nothing, turns_quiet, both_quiet}
 
--- what a step on an event hands up, and how many calls are born in it
+-- what a step on an event hands up, how many calls are born in it, and how often Nr is read
 record IsTold (ev : Event) (s : Stepped) : Type 0 where
   same : flat_map ups_of_output s.outputs ≡ flat_map ups_of_move s.moves
   ups : length (flat_map ups_of_output s.outputs) ≤ most_ups ev
   births : length (flat_map births_of_move s.moves) ≤ most_births ev
+  reads : length (flat_map reads_of_move s.moves) ≤ most_reads ev
 
-quiet_told : (ev : Event) (s : Stepped) → AreQuiet (most_births ev) s.outputs s.moves → IsTold ev s
-quiet_told ev s h = record { same = h.no_output ∙ sym h.no_move; ups = rw h.no_output (omega arith); births = h.births }
+quiet_told : (ev : Event) (s : Stepped) → AreQuiet (most_births ev) (most_reads ev) s.outputs s.moves → IsTold ev s
+quiet_told ev s h = record { same = h.no_output ∙ sym h.no_move; ups = rw h.no_output (omega arith); births = h.births; reads = h.read }
 
 dropped_told : (ev : Event) (e : End) (w : Why) → IsTold ev (gives_only e (Drop w))
 unfolding gives_only
-dropped_told ev e w = record { same = refl; ups = omega arith; births = omega arith }
+dropped_told ev e w = record { same = refl; ups = omega arith; births = omega arith; reads = omega arith }
 
 module _ (e : End) (moment : ℕ) (block : List ℕ) where
   abbrev env : Env
@@ -46,12 +47,12 @@ module _ (e : End) (moment : ℕ) (block : List ℕ) where
   main_told : (ev : Event) (i : ℕ) (o : Option Tunnel) → IsTold ev (in_main e env ev i o)
   unfolding in_main after_turn
   main_told ev i None = dropped_told ev e why.Tunnel
-  main_told ev i (Some t) = quiet_told ev _ (turns_quiet e.role e.config t.letters t.calls ev (turn_of t.control env) (nothing 0))
+  main_told ev i (Some t) = quiet_told ev _ (turns_quiet e.role e.config t.letters t.calls ev (turn_of t.control env) (nothing 0 0))
 
   new_told : (ev : Event) (peer : ℕ) → IsTold ev (in_new e env ev peer)
   unfolding in_new after_new after_turn
   new_told ev peer =
-      let quiet = turns_quiet e.role e.config [] [] ev (turn_of (fresh peer moment) env) (nothing 0) in
+      let quiet = turns_quiet e.role e.config [] [] ev (turn_of (fresh peer moment) env) (nothing 0 0) in
       branch (IsTold ev) ((turns e.role e.config [] [] ev (turn_of (fresh peer moment) env)).control.local == 0) _ _
       (λ zero. quiet_told ev _ quiet)
       (λ some. quiet_told ev _ quiet)
@@ -66,7 +67,7 @@ module _ (e : End) (moment : ℕ) (block : List ℕ) where
 
   handed_told : (peer : ℕ) (bytes : List ℕ) (session : ℕ) (c : Carried) → IsTold (Datagram peer bytes) (handed e session c)
   unfolding handed
-  handed_told peer bytes session (Upward tunnel of side frame) = record { same = refl; ups = omega arith; births = omega arith }
+  handed_told peer bytes session (Upward tunnel of side frame) = record { same = refl; ups = omega arith; births = omega arith; reads = omega arith }
   handed_told peer bytes session (Dropped w) = dropped_told (Datagram peer bytes) e w
 
   received_told : (peer : ℕ) (bytes : List ℕ) (r : Result Header HeaderError) → IsTold (Datagram peer bytes) (receives e env peer bytes r)
@@ -93,15 +94,15 @@ module _ (e : End) (moment : ℕ) (block : List ℕ) where
   -- ---- time
 
   tick_told : (i : ℕ) (o : Option Tunnel) (ts : List Turned)
-      → AreQuiet 0 (flat_map (λ (t : Turned). t.turn.outputs) ts) (flat_map (λ (t : Turned). t.turn.moves) ts)
-      → AreQuiet 0 (flat_map (λ (t : Turned). t.turn.outputs) (tick_of e env i o ++ ts)) (flat_map (λ (t : Turned). t.turn.moves) (tick_of e env i o ++ ts))
+      → AreQuiet 0 0 (flat_map (λ (t : Turned). t.turn.outputs) ts) (flat_map (λ (t : Turned). t.turn.moves) ts)
+      → AreQuiet 0 0 (flat_map (λ (t : Turned). t.turn.outputs) (tick_of e env i o ++ ts)) (flat_map (λ (t : Turned). t.turn.moves) (tick_of e env i o ++ ts))
   tick_told i None ts h = h
-  tick_told i (Some t) ts h = both_quiet _ _ _ _ (turns_quiet e.role e.config t.letters t.calls Tick (turn_of t.control env) (nothing 0)) h
+  tick_told i (Some t) ts h = both_quiet _ _ _ _ (turns_quiet e.role e.config t.letters t.calls Tick (turn_of t.control env) (nothing 0 0)) h
 
   ticks_told : (is : List ℕ)
-      → AreQuiet 0 (flat_map (λ (t : Turned). t.turn.outputs) (ticks_of e env is)) (flat_map (λ (t : Turned). t.turn.moves) (ticks_of e env is))
+      → AreQuiet 0 0 (flat_map (λ (t : Turned). t.turn.outputs) (ticks_of e env is)) (flat_map (λ (t : Turned). t.turn.moves) (ticks_of e env is))
   unfolding ticks_of
-  ticks_told [] = nothing 0
+  ticks_told [] = nothing 0 0
   ticks_told (i ∷ is) = tick_told i (at e.tunnels i) (ticks_of e env is) (ticks_told is)
 
   all_told : IsTold Tick (ticks_all e env)
@@ -134,3 +135,6 @@ ups_are_few e moment block ev = (step_told e moment block ev).ups
 
 pub births_are_few : BirthsAreFew
 births_are_few e moment block ev = (step_told e moment block ev).births
+
+pub reads_are_few : ReadsAreFew
+reads_are_few e moment block ev = (step_told e moment block ev).reads

@@ -1,5 +1,5 @@
 -- The letters that moves give, and what a step's outputs are of its moves.
-use Rattle.std.specs.Prelude.{◌≡◌, ℕ, ◌⊎◌, true, false, List, [], ◌∷◌, slice_get, Option, None, Some}
+use Rattle.std.specs.Prelude.{◌≡◌, ℕ, ◌^◌, ◌<◌, ◌⊎◌, true, false, List, [], ◌∷◌, slice_get, Option, None, Some}
 use Rattle.id_table.specs.Ids.{at}
 use Rattle.l2tp_header.specs.Spelling.{control_bytes, data_bytes}
 use Rattle.wire_base.specs.declared.letter.Letter as wire
@@ -55,7 +55,7 @@ letter_at t number = slice_get t.letters (place_of t.control.channel number)
 -- the bytes that are sent in a tunnel, by the ids that both ends assigned: the letter with a number, of those that the tunnel
 -- keeps; an acknowledgement alone; or a frame that a move of the step sends. Nr counts what the tunnel has taken
 pub data Carries (t : Tunnel) (moves : List Move) (bytes : List ℕ) (o : Origin) : Type 0 where
-  ALetter : (l : wire.Letter) (number : ℕ) → letter_at t number ≡ Some l
+  ALetter : (l : wire.Letter) (number : ℕ) → number < 2 ^ 64 → letter_at t number ≡ Some l
       → o ≡ origin.Control (record { tunnel = t.control.local; epoch = 0; ns = number; nr = t.control.channel.inbox.taken; empty = false })
       → bytes ≡ control_bytes t.control.remote l.session (on_wire number) (on_wire t.control.channel.inbox.taken) l.avps
       → Carries t moves bytes o

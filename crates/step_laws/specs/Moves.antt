@@ -1,13 +1,14 @@
 -- What each move needs before it, and what it changes.
-use Rattle.std.specs.Prelude.{◌≡◌, ℕ, ◌<◌, ◌⊎◌, Bool, true, false, List, [], ◌∷◌, ◌++◌, drop, map, Option, None, Some, unwrap_or, Ok}
+use Rattle.std.specs.Prelude.{◌≡◌, ℕ, ◌<◌, ◌⊎◌, Bool, true, false, List, [], ◌∷◌, ◌++◌, drop, map, length, Option, None, Some, unwrap_or, Ok, Err}
 use Rattle.id_table.specs.Ids.{at, put, without, ids_of}
+use Rattle.id_source.specs.declared.IdError.{IdError}
 use Rattle.id_source.specs.Spaces.{draws, after_draw}
 use Rattle.l2tp_header.specs.declared.header.Header.{Header}
 use Rattle.l2tp_header.specs.Reading.{header_of}
 use Rattle.control_message.specs.declared.message.Message.{Message}
 use Rattle.control_message.specs.declared.message.Message.TheVariants.{Sccrq, Sccrp, Scccn, Hello, Icrq, Icrp, Iccn, Cdn}
 use Rattle.control_message.specs.declared.message.Opening.{Opening}
-use Rattle.send_window.specs.declared.window.Tick.TheVariants.{Again}
+use Rattle.send_window.specs.declared.window.Tick.TheVariants.{Again, Failed}
 use Rattle.recv_window.specs.declared.Class.TheVariants.{Next}
 use Rattle.recv_window.specs.Window.{class_of}
 use Rattle.control_channel.specs.Numbers.{count_acked, next_to_go, answer_to_tick}
@@ -23,7 +24,7 @@ use Rattle.protocol_model.specs.declared.tunnel.CellChange.TheVariants as cell
 use Rattle.protocol_model.specs.declared.tunnel.Control.{Control}
 use Rattle.protocol_model.specs.declared.tunnel.Role.TheVariants.{Lac}
 use Rattle.protocol_model.specs.declared.event.Event.{Event}
-use Rattle.protocol_model.specs.declared.event.Event.TheVariants.{Datagram, Ring, Payload, Lower}
+use Rattle.protocol_model.specs.declared.event.Event.TheVariants.{Datagram, Ring, Payload, Lower, Tick}
 use Rattle.protocol_model.specs.declared.moves.Opened.{Opened}
 use Rattle.protocol_model.specs.declared.moves.Accepted.{Accepted}
 use Rattle.protocol_model.specs.declared.moves.Connected.{Connected}
@@ -46,8 +47,8 @@ use Rattle.protocol_model.specs.declared.moves.FrameUp.{FrameUp}
 use Rattle.protocol_model.specs.declared.moves.Move.{Move}
 use Rattle.protocol_model.specs.declared.moves.Move.TheVariants as move
 use Rattle.protocol_model.specs.Reading.{body_of, message_in}
-use Rattle.protocol_model.specs.Calls.{call_row, advanced, rung, asked_for, is_request, is_reply, is_connection, is_told, is_up, frame_of, side_of}
-use Rattle.protocol_model.specs.Turn.{Tunnel, place, next_place, taken_place, letter_of, fresh, counts_given, counts_taken, counts_acked, counts_sent, counts_repeated, learns_window, in_state, opening_of, request_of, connection, is_clean_up, session_named}
+use Rattle.protocol_model.specs.Calls.{call_row, advanced, rung, asked_for, is_request, is_reply, is_connection, is_told, is_up, is_set_up, frame_of, side_of}
+use Rattle.protocol_model.specs.Turn.{Tunnel, has_room, place, next_place, taken_place, letter_of, fresh, counts_given, counts_taken, counts_acked, counts_sent, counts_repeated, learns_window, in_state, opening_of, request_of, connection, is_clean_up, session_named, is_over, patience, is_being_set_up}
 use Rattle.protocol_model.specs.End.{End, new_place, with_look, with_looks}
 
 -- ---- what came
@@ -62,14 +63,21 @@ pub record Hears (ev : Event) (peer session : ℕ) (m : Message) : Type 0 where
   pub session_is : header.session ≡ session
   pub said : message_in (body_of header bytes) ≡ Ok m
 
--- it names the tunnel, or none, as an SCCRQ does
-abbrev pub IsFor : Header → Control → Type 0
-IsFor h c = (h.tunnel ≡ c.local) ⊎ (h.tunnel ≡ 0)
+-- it names no tunnel, as an SCCRQ doesn't, and is for the one whose peer assigned the id that it tells
+pub record IsAgain (h : Header) (bytes : List ℕ) (c : Control) : Type 0 where
+  pub none : h.tunnel ≡ 0
+  pub opening : Opening
+  pub said : message_in (body_of h bytes) ≡ Ok (Sccrq opening)
+  pub known : c.remote ≡ opening.tunnel
+
+-- it names the tunnel, or is an SCCRQ that comes again
+abbrev pub IsFor : Header → List ℕ → Control → Type 0
+IsFor h bytes c = (h.tunnel ≡ c.local) ⊎ IsAgain h bytes c
 
 -- the next letter of a tunnel's peer, in the tunnel
 pub record HearsNext (ev : Event) (c : Control) (session : ℕ) (m : Message) : Type 0 where
   pub hears : Hears ev c.peer session m
-  pub tunnel : IsFor hears.header c
+  pub tunnel : IsFor hears.header hears.bytes c
   pub next : class_of (unwrap_or hears.header.ns 0) c.channel.inbox ≡ Next
 
 -- the next letter of a tunnel's peer, whatever it says
@@ -79,7 +87,9 @@ pub record ComesNext (ev : Event) (c : Control) : Type 0 where
   pub header : Header
   pub read : header_of bytes ≡ Ok header
   pub control : header.control ≡ true
-  pub tunnel : IsFor header c
+  -- it is no acknowledgement alone
+  pub some : length (body_of header bytes) ≡ 0 → ⊥
+  pub tunnel : IsFor header bytes c
   pub next : class_of (unwrap_or header.ns 0) c.channel.inbox ≡ Next
 
 -- a control message of a tunnel's peer, in the tunnel, with this Nr
@@ -89,7 +99,7 @@ pub record TellsNr (ev : Event) (c : Control) (nr : ℕ) : Type 0 where
   pub header : Header
   pub read : header_of bytes ≡ Ok header
   pub control : header.control ≡ true
-  pub tunnel : IsFor header c
+  pub tunnel : IsFor header bytes c
   pub tells : nr ≡ unwrap_or header.nr 0
 
 -- a frame that a peer sent
@@ -134,6 +144,8 @@ pub record Accepts (e : End) (moment : ℕ) (ev : Event) (m : Accepted) (x : End
   pub hears : (session : ℕ) × Hears ev m.peer session (Sccrq opening)
   pub remote : m.remote ≡ opening.tunnel
   pub window : m.window ≡ opening.window
+  -- no tunnel of this end is the other end of the peer's yet
+  pub alone : (i : ℕ) (t : Tunnel) → at e.tunnels i ≡ Some t → t.control.peer ≡ m.peer → t.control.remote ≡ m.remote → ⊥
   pub drawn : draws e.tunnel_ids ≡ Ok m.tunnel
   pub taken : m.taken ≡ place 0
   pub given : m.given ≡ place 0
@@ -150,6 +162,7 @@ pub record Connects (e : End) (ev : Event) (m : Connected) (x : End) : Type 0 wh
   pub remote : m.remote ≡ opening.tunnel
   pub window : m.window ≡ opening.window
   pub taken : m.taken ≡ taken_place tunnel.control
+  pub room : has_room tunnel.control ≡ true
   pub given : m.given ≡ next_place tunnel.control
   pub after : x ≡ with_tunnel e m.tunnel (with_letter 0 Scccn (record tunnel {
     control = counts_taken (learns_window m.window (record tunnel.control { remote = m.remote; state = Established }));
@@ -167,6 +180,8 @@ pub record Confirms (e : End) (ev : Event) (m : Confirmed) (x : End) : Type 0 wh
 pub record Adds (e : End) (moment : ℕ) (ev : Event) (m : Added) (x : End) : Type 0 where
   pub tunnel : Tunnel
   pub there : at e.tunnels m.tunnel ≡ Some tunnel
+  -- it is open, or its SCCRQ isn't answered yet
+  pub goes : (state_number tunnel.control.state ≡ 3) ⊎ (state_number tunnel.control.state ≡ 1)
   pub rings : ev ≡ Ring m.port
   pub role : e.role ≡ Lac
   pub drawn : draws e.session_ids ≡ Ok m.session
@@ -184,6 +199,7 @@ pub record Requests (e : End) (moment : ℕ) (m : Requested) (x : End) : Type 0 
   pub row : is_request (call_row e.role call.state call_event.TunnelOpen).1 ≡ true
   pub session : m.session < 65536
   pub port : m.port ≡ call.port
+  pub room : has_room tunnel.control ≡ true
   pub given : m.given ≡ next_place tunnel.control
   pub after : x ≡ record (with_tunnel e m.tunnel (with_letter 0 (request_of m.session m.port) (record tunnel {
     calls = put tunnel.calls m.session (advanced e.role call_event.TunnelOpen moment call);
@@ -200,6 +216,7 @@ pub record Replies (e : End) (moment : ℕ) (ev : Event) (m : Replied) (x : End)
   pub row : is_reply (call_row e.role call.Idle call_event.IcrqAcc).1 ≡ true
   pub drawn : draws e.session_ids ≡ Ok m.session
   pub taken : m.taken ≡ taken_place tunnel.control
+  pub room : has_room tunnel.control ≡ true
   pub given : m.given ≡ next_place tunnel.control
   pub after : x ≡ record (with_tunnel e m.tunnel (with_letter m.remote (Icrp m.session) (record tunnel {
     control = counts_taken tunnel.control;
@@ -215,6 +232,7 @@ pub record ComesUpFirst (e : End) (moment : ℕ) (ev : Event) (m : FirstUp) (x :
   pub hears : HearsNext ev tunnel.control m.session (Icrp m.remote)
   pub row : is_connection (call_row e.role call.state call_event.IcrpAcc).1 ≡ true
   pub taken : m.taken ≡ taken_place tunnel.control
+  pub room : has_room tunnel.control ≡ true
   pub given : m.given ≡ next_place tunnel.control
   pub after : x ≡ record (with_tunnel e m.tunnel (with_letter m.remote connection (record tunnel {
     control = counts_taken tunnel.control;
@@ -242,16 +260,24 @@ pub record ComesUpSecond (e : End) (moment : ℕ) (ev : Event) (m : SecondUp) (x
 abbrev pub without_call : End → ℕ → Tunnel → ℕ → End
 without_call e i t s = record (with_tunnel e i (record t { calls = without t.calls s })) { calls = with_look (cell.Kill s) e.calls }
 
--- of a call that is neither waiting nor idle the peer is told
-pub record TellsEnd (e : End) (m : EndTold) (x : End) : Type 0 where
+-- a call that isn't established took as long as a call may to be set up
+pub record TookTooLong (ev : Event) (moment : ℕ) (c : Call) : Type 0 where
+  pub ticks : ev ≡ Tick
+  pub set_up : is_set_up c.state ≡ true
+  pub over : is_over patience moment c.since ≡ true
+
+-- of a call that is neither waiting nor idle the peer is told, with result code 10 (RFC 2661 section 4.4.2)
+pub record TellsEnd (e : End) (moment : ℕ) (ev : Event) (m : EndTold) (x : End) : Type 0 where
   pub tunnel : Tunnel
   pub there : at e.tunnels m.tunnel ≡ Some tunnel
   pub call : Call
   pub live : at tunnel.calls m.session ≡ Some call
+  pub late : TookTooLong ev moment call
   pub row : is_told (call_row e.role call.state call_event.Close).1 ≡ true
   pub session : m.session < 65536
   pub remote : m.remote ≡ call.remote
-  pub code : m.code < 65536
+  pub code : m.code ≡ 10
+  pub room : has_room tunnel.control ≡ true
   pub given : m.given ≡ next_place tunnel.control
   pub after : x ≡ without_call e m.tunnel (with_letter m.remote (Cdn m.session m.code None) tunnel) m.session
 
@@ -270,32 +296,62 @@ pub record HearsEnd (e : End) (ev : Event) (m : EndHeard) (x : End) : Type 0 whe
   pub taken : m.taken ≡ taken_place tunnel.control
   pub after : x ≡ without_call e m.tunnel (record tunnel { control = counts_taken tunnel.control }) m.session
 
-pub record EndsSilently (e : End) (m : EndSilent) (x : End) : Type 0 where
+pub record EndsSilently (e : End) (moment : ℕ) (ev : Event) (m : EndSilent) (x : End) : Type 0 where
   pub tunnel : Tunnel
   pub there : at e.tunnels m.tunnel ≡ Some tunnel
   pub call : Call
   pub live : at tunnel.calls m.session ≡ Some call
+  pub late : TookTooLong ev moment call
   pub row : is_clean_up (call_row e.role call.state call_event.Close).1 ≡ true
   pub after : x ≡ without_call e m.tunnel tunnel m.session
 
+-- a tunnel took as long as one may to be set up, or its peer acknowledged nothing as long as a letter is repeated
+abbrev pub HasFailed : ℕ → Control → Type 0
+HasFailed moment c =
+    ((is_being_set_up c.state ≡ true) × (is_over patience moment c.made ≡ true)) ⊎ ((first : ℕ) × (answer_to_tick c.channel moment ≡ Failed first))
+
 -- the tunnel isn't there any more, nor are its calls
-pub record Clears (e : End) (i : ℕ) (x : End) : Type 0 where
+pub record Clears (e : End) (moment : ℕ) (ev : Event) (i : ℕ) (x : End) : Type 0 where
   pub tunnel : Tunnel
   pub there : at e.tunnels i ≡ Some tunnel
+  pub ticks : ev ≡ Tick
+  pub failed : HasFailed moment tunnel.control
   pub after : x ≡ record e { tunnels = without e.tunnels i; calls = with_looks (map cell.Kill (ids_of tunnel.calls)) e.calls }
 
-pub record Greets (e : End) (m : Greeted) (x : End) : Type 0 where
+-- nothing was heard in an open tunnel for 60 seconds, and it holds no letter
+pub record Greets (e : End) (moment : ℕ) (ev : Event) (m : Greeted) (x : End) : Type 0 where
   pub tunnel : Tunnel
   pub there : at e.tunnels m.tunnel ≡ Some tunnel
+  pub ticks : ev ≡ Tick
   pub open_is : state_number tunnel.control.state ≡ 3
+  pub quiet : tunnel.control.channel.window.queued ≡ 0
+  pub over : is_over patience moment tunnel.control.heard ≡ true
+  pub room : has_room tunnel.control ≡ true
   pub given : m.given ≡ next_place tunnel.control
   pub after : x ≡ with_tunnel e m.tunnel (with_letter 0 Hello tunnel)
 
--- whatever the letter says, or if it can't be read
+-- by its tables the end does nothing on such a message in the tunnel
+abbrev pub IsPlain : End → Tunnel → ℕ → Message → Type 0
+IsPlain e t session (Sccrq o) = Unit {0}
+IsPlain e t session (Sccrp o) = state_number t.control.state ≡ 1 → ⊥
+IsPlain e t session Scccn = state_number t.control.state ≡ 2 → ⊥
+IsPlain e t session Hello = Unit {0}
+IsPlain e t session (Icrq remote serial calling) = state_number t.control.state ≡ 3
+    → (is_reply (call_row e.role call.Idle call_event.IcrqAcc).1 ≡ false) ⊎ ((x : IdError) × (draws e.session_ids ≡ Err x))
+IsPlain e t session (Icrp remote) = state_number t.control.state ≡ 3
+    → (c : Call) → at t.calls session ≡ Some c → is_connection (call_row e.role c.state call_event.IcrpAcc).1 ≡ false
+IsPlain e t session (Iccn speed framing sequenced) = state_number t.control.state ≡ 3
+    → (c : Call) → at t.calls session ≡ Some c → is_up (call_row e.role c.state call_event.IccnAcc).0 ≡ false
+IsPlain e t session (Cdn remote code error) = state_number t.control.state ≡ 3
+    → (c : Call) → at t.calls (session_named t.calls session remote) ≡ Some c → is_clean_up (call_row e.role c.state call_event.CdnCame).1 ≡ false
+
+-- a letter that can't be read, or on which nothing is done
 pub record TakesPlain (e : End) (ev : Event) (m : TookPlain) (x : End) : Type 0 where
   pub tunnel : Tunnel
   pub there : at e.tunnels m.tunnel ≡ Some tunnel
   pub comes : ComesNext ev tunnel.control
+  pub why : (m : Message) → message_in (body_of comes.header comes.bytes) ≡ Ok m → IsPlain e tunnel comes.header.session m
+  pub plain : state_number tunnel.control.state ≡ 1 → (opening : Opening) → message_in (body_of comes.header comes.bytes) ≡ Ok (Sccrp opening) → ⊥
   pub taken : m.taken ≡ taken_place tunnel.control
   pub after : x ≡ with_tunnel e m.tunnel (record tunnel { control = counts_taken tunnel.control })
 
@@ -365,11 +421,11 @@ Does e moment ev (move.Requested m) x = Requests e moment m x
 Does e moment ev (move.Replied m) x = Replies e moment ev m x
 Does e moment ev (move.FirstUp m) x = ComesUpFirst e moment ev m x
 Does e moment ev (move.SecondUp m) x = ComesUpSecond e moment ev m x
-Does e moment ev (move.EndTold m) x = TellsEnd e m x
+Does e moment ev (move.EndTold m) x = TellsEnd e moment ev m x
 Does e moment ev (move.EndHeard m) x = HearsEnd e ev m x
-Does e moment ev (move.EndSilent m) x = EndsSilently e m x
-Does e moment ev (move.Cleared i) x = Clears e i x
-Does e moment ev (move.Greeted m) x = Greets e m x
+Does e moment ev (move.EndSilent m) x = EndsSilently e moment ev m x
+Does e moment ev (move.Cleared i) x = Clears e moment ev i x
+Does e moment ev (move.Greeted m) x = Greets e moment ev m x
 Does e moment ev (move.TookPlain m) x = TakesPlain e ev m x
 Does e moment ev (move.NrRead m) x = Reads e moment ev m x
 Does e moment ev (move.LetGo m) x = LetsGo e moment m x

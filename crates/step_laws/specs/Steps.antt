@@ -1,5 +1,5 @@
--- A step is a chain of its moves, and what it sends and hands up is theirs.
-use Rattle.std.specs.Prelude.{◌≡◌, ◌<◌, ◌≤◌, ℕ, List, Some, length}
+-- Each step of an end is a chain of its moves; what it sends and hands up is theirs, and what is kept of tunnels stays kept.
+use Rattle.std.specs.Prelude.{◌≡◌, ◌<◌, ◌≤◌, ℕ, ◌^◌, List, Some, length}
 use Rattle.std.specs.List.{AllByRecursion}
 use Rattle.id_table.specs.Ids.{at}
 use Rattle.id_table.specs.Order.{Ascends}
@@ -16,7 +16,8 @@ use Rattle.protocol_model.specs.End.{End, Stepped, step}
 use Rattle.step_laws.specs.Letters.{Among, Carries, HasOutput}
 use Rattle.step_laws.specs.Moves.{Chain}
 
--- a tunnel of an end stands under its own id, isn't idle, its calls ascend, and it keeps as many letters as its window counts
+-- a tunnel of an end stands under its own id, isn't idle, its calls ascend, and it keeps as many letters as its window counts,
+-- 8,192 at most
 pub record IsKept (i : ℕ) (t : Tunnel) : Type 0 where
   pub local : t.control.local ≡ i
   pub some : i ≡ 0 → ⊥
@@ -24,6 +25,8 @@ pub record IsKept (i : ℕ) (t : Tunnel) : Type 0 where
   pub calls : Ascends t.calls
   pub letters : length t.letters ≡ t.control.channel.window.queued
   pub outstanding : t.control.channel.window.outstanding ≤ t.control.channel.window.queued
+  pub few : t.control.channel.window.queued ≤ 8192
+  pub acked : t.control.channel.window.acked < 2 ^ 64
 
 -- so are all tunnels of an end, and its tables ascend
 pub record AreKept (e : End) : Type 0 where

@@ -1,4 +1,5 @@
--- What a step hands up is what its moves hand up; and how many frames are handed up, and how many calls are born, in a step.
+-- What a step hands up is what its moves hand up; and how many frames are handed up, how many calls are born, and how often Nr
+-- is read, in a step.
 use Rattle.std.specs.Prelude.{◌≡◌, ℕ, ◌≤◌, List, [], ◌∷◌, length}
 use Rattle.std.specs.List.{flat_map}
 use Rattle.protocol_model.specs.declared.event.Event.{Event}
@@ -24,6 +25,11 @@ abbrev pub births_of_move : Move → List ℕ
 births_of_move (move.Added m) = m.session ∷ []
 births_of_move m = []
 
+-- the tunnel in which a move reads Nr
+abbrev pub reads_of_move : Move → List ℕ
+reads_of_move (move.NrRead m) = m.tunnel ∷ []
+reads_of_move m = []
+
 -- how many frames are handed up at most, and how many calls are born at most, on an event
 abbrev pub most_ups : Event → ℕ
 most_ups (Datagram peer bytes) = 1
@@ -32,6 +38,10 @@ most_ups ev = 0
 abbrev pub most_births : Event → ℕ
 most_births (Ring port) = 1
 most_births ev = 0
+
+abbrev pub most_reads : Event → ℕ
+most_reads (Datagram peer bytes) = 1
+most_reads ev = 0
 
 -- in each step of each end the outputs that hand frames up are, in order, those of its moves: the session, the side and
 -- the frame of each are the same
@@ -51,3 +61,9 @@ abbrev pub BirthsAreFew : Type 0
 BirthsAreFew =
     (e : End) (moment : ℕ) (block : List ℕ) (ev : Event)
     → length (flat_map births_of_move (step e moment block ev).moves) ≤ most_births ev
+
+-- Nr is read once at most, and only of a datagram
+abbrev pub ReadsAreFew : Type 0
+ReadsAreFew =
+    (e : End) (moment : ℕ) (block : List ℕ) (ev : Event)
+    → length (flat_map reads_of_move (step e moment block ev).moves) ≤ most_reads ev

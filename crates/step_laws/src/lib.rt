@@ -3,7 +3,7 @@
 
 ghost use Rattle.step_laws.specs.Looks.{LooksBeginTrue, LooksStayTrue};
 ghost use Rattle.step_laws.specs.Steps.{StepsAreChains};
-ghost use Rattle.step_laws.specs.Ups.{BirthsAreFew, UpsAreFew, UpsAreMoves};
+ghost use Rattle.step_laws.specs.Ups.{BirthsAreFew, ReadsAreFew, UpsAreFew, UpsAreMoves};
 
 /// Each step of an end whose tunnels are kept is a chain of its moves: each move has what it needs in the end that the moves
 /// before it lead to, and the last one leads to the end that is left, whose tunnels are kept. What is sent goes to the peer of
@@ -37,4 +37,9 @@ pub fn ups_are_few()
 /// One call at most is born in a step, and none on an event that is no ring.
 pub fn births_are_few()
     ensures { BirthsAreFew }
+{}
+
+/// Nr is read once at most in a step, and only of a datagram.
+pub fn reads_are_few()
+    ensures { ReadsAreFew }
 {}
