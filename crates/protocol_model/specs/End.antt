@@ -118,12 +118,12 @@ with_looks (c ∷ cs) places = with_looks cs (with_look c places)
 
 -- ---- turns of tunnels
 
--- a turn of the tunnel with this id, whose letters and calls were these
 -- the tunnels with the one that a turn leaves, or without it
 abbrev pub tunnels_after : List (ℕ × Tunnel) → ℕ → Bool → Tunnel → List (ℕ × Tunnel)
 tunnels_after tunnels i true t = without tunnels i
 tunnels_after tunnels i false t = put tunnels i t
 
+-- a turn of the tunnel with this id, whose letters and calls were these
 unfoldable pub after_turn : End → ℕ → List Letter → List (ℕ × Call) → Turn → Stepped
 after_turn e i letters calls t = record {
   end = record e {

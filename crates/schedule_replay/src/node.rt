@@ -6,11 +6,11 @@ ghost use Rattle.protocol_model.specs.Calls.{is_lac};
 ghost use Rattle.protocol_model.specs.End.{new_end};
 ghost use Rattle.protocol_model.specs.World.{config_of, count_at, later};
 
+use end_core::End;
 use id_table::Table;
 use protocol_model::{Config, Role, address_of};
 use std::alloc::Global;
 use std::marker::Model;
-use tunnel_core::End;
 use wire_base::NoMemory;
 
 /// An end, with its clock, in milliseconds, and the births of its calls by local session id.

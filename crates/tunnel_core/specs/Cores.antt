@@ -1,11 +1,10 @@
 -- A tunnel as its code keeps it, and what a step of it is about to change.
-use Rattle.std.specs.Prelude.{◌≡◌, ℕ, ◌≤◌, Bool, List, ◌++◌, map, drop, length, Option}
+use Rattle.std.specs.Prelude.{◌≡◌, ℕ, ◌≤◌, Bool, List, ◌++◌, drop, length, Option}
 use Rattle.std.specs.List.{AllByRecursion}
 use Rattle.id_table.specs.Tables.{Kept, HasRoom}
 use Rattle.wire_base.specs.declared.letter.Letter.{Letter}
 use Rattle.send_window.specs.Queue.{Queue}
 use Rattle.protocol_model.specs.declared.tunnel.Call.{Call}
-use Rattle.protocol_model.specs.declared.tunnel.CallPlace.{CallPlace}
 use Rattle.protocol_model.specs.declared.tunnel.Control.{Control}
 use Rattle.protocol_model.specs.Turn.{Tunnel, Turn, with_calls}
 
@@ -39,14 +38,6 @@ pub record IsTurn (p : Plan) (t : Turn) : Type 0 where
 -- there is room for each of these calls
 abbrev pub AllHaveRoom : Kept Call → List (ℕ × Option Call) → Type 0
 AllHaveRoom kept calls = AllByRecursion (λ c. HasRoom kept c.0) calls
-
--- the tunnels of a table, without the room that was made in them
-abbrev pub tunnels_of : List (ℕ × Core) → List (ℕ × Tunnel)
-tunnels_of cores = map (λ e. (e.0, tunnel_of e.1)) cores
-
--- there is room for the place of each of these calls
-abbrev pub HaveRoom : Kept CallPlace → List ℕ → Type 0
-HaveRoom kept sessions = AllByRecursion (λ s. HasRoom kept s) sessions
 
 -- a tunnel after what was planned for it
 abbrev pub made_of : Plan → Tunnel → Tunnel

@@ -1,3 +1,2 @@
 pub mod Cores
 pub mod Gives
-pub mod Ticking

@@ -325,8 +325,8 @@ fn is_duplicate(class: Option<Class>) -> bool
     matches!(class, Some(Class::Duplicate))
 }
 
-/// Whether two states are the same.
-pub(crate) fn same_state(one: TunnelState, other: TunnelState) -> bool
+/// Whether two states of a tunnel (RFC 2661 section 7.2) are the same.
+pub fn same_state(one: TunnelState, other: TunnelState) -> bool
     ensures { result ≡ (state_number one == state_number other) }
 {
     matches!(

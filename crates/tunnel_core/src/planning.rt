@@ -43,21 +43,21 @@ impl Model for Planned {
 
 impl Planned {
     /// The tunnel's local id after the step, 0 where it drew none.
-    pub(crate) fn local(&self) -> u16
+    pub fn local(&self) -> u16
         ensures { result ≡ self.now.control.local }
     {
         self.control.local
     }
 
-    /// Whether the step removes the tunnel.
-    pub(crate) fn clears(&self) -> bool
+    /// Whether the step removes the tunnel with its calls.
+    pub fn clears(&self) -> bool
         ensures { result ≡ self.now.cleared }
     {
         self.cleared
     }
 
-    /// The sessions of the calls that the step makes.
-    pub(crate) fn added(&self) -> &[u16]
+    /// The local session ids of the calls that the step makes, in the order in which they are drawn.
+    pub fn added(&self) -> &[u16]
         ensures { result.now ≡ self.now.added }
     {
         self.added.as_slice()

@@ -1,0 +1,42 @@
+use Rattle.std.proofs.Common.{◌≡◌, ℕ, refl, ap, sym, subst, ◌∙◌, List, []}
+use Rattle.protocol_model.specs.declared.tunnel.Control.{Control}
+use Rattle.protocol_model.specs.Turn.{Tunnel, Env, fresh}
+use Rattle.protocol_model.specs.End.{End, Stepped, env_of, in_new, with_looks, placed, tunnels_after}
+use Rattle.tunnel_core.specs.Cores.{Core, tunnel_of, made_of}
+use Rattle.end_core.specs.Ends.{tunnels_of}
+use Rattle.end_core.specs.contracts.end.End.{the_view as view_of}
+use Rattle.tunnel_core.specs.contracts.env.Env.{the_view as env_view_of}
+use Rattle.end_core.proofs.Steps.{new_is, not_made, turned}
+use Rattle.end_core.proofs.end.End.run_new.Goals as goal
+
+pub returns-then-local-eq0 : goal.returns-then-local-eq0
+returns-then-local-eq0 c =
+    let v = view_of c.self.inside in
+    let start = c.env-env.result in
+    let none : (start.outputs ≡ []) × (start.moves ≡ []) = (ap (λ (x : Env). x.outputs) c.env-env.ensures, ap (λ (x : Env). x.moves) c.env-env.ensures) in
+    let moment : c.args.moment ≡ start.moment = sym (ap (λ (x : Env). x.moment) c.env-env.ensures) in
+    let idle = c.idle-core.ensures ∙ ap (λ m. record { control = fresh c.args.peer m; letters = []; calls = [] }) moment in
+    let is = ap (λ (t : Tunnel). turned v start c.args.event.now t) idle in
+    let zero = ap (λ (x : Control). x.local) (sym c.in_ok-planned.ensures.planned.control) ∙ sym c.local-local.ensures ∙ c.if-local-eq0.true in
+    let s : Stepped = record { end = v; outputs = c.env.inside.outputs; moves = c.env.inside.moves } in
+    let one : in_new v start c.args.event.now c.args.peer ≡ s = not_made v start (env_view_of c.env.inside) c.args.event.now c.args.peer (turned v start c.args.event.now (tunnel_of c.idle-core.result)) _ _ none is (c.env.view_is ∙ c.in_ok-planned.ensures.given) zero refl refl in
+    let two = subst (λ (x : Env). in_new v x c.args.event.now c.args.peer ≡ s) c.env-env.ensures one in
+    let three = subst (λ (x : End). in_new x (env_of c.args.self.now c.args.moment c.args.block) c.args.event.now c.args.peer ≡ s) c.self.view_is two in
+    three ∙ rw c.in_ok-planned.ensures.places refl
+
+pub returns : goal.returns
+returns c =
+    let v = view_of c.self.inside in
+    let start = c.env-env.result in
+    let core = c.idle-core.result in
+    let local = c.local-local.result in
+    let moment : c.args.moment ≡ start.moment = sym (ap (λ (x : Env). x.moment) c.env-env.ensures) in
+    let idle = c.idle-core.ensures ∙ ap (λ m. record { control = fresh c.args.peer m; letters = []; calls = [] }) moment in
+    let empty : (start.outputs ≡ []) × (start.changes ≡ []) × (start.moves ≡ []) = (ap (λ (x : Env). x.outputs) c.env-env.ensures, ap (λ (x : Env). x.changes) c.env-env.ensures, ap (λ (x : Env). x.moves) c.env-env.ensures) in
+    let roomy = ap (λ (xs : List (ℕ × Core)). tunnels_after (tunnels_of xs) c.from-2.result c.in_ok-planned.planned.cleared (made_of c.in_ok-planned.planned (tunnel_of c.plan_step.new.core))) c.make_room.ensures.entries in
+    let tunnels = c.put_new.ensures ∙ roomy ∙ ap (λ (t : Tunnel). tunnels_after v.tunnels c.from-2.result c.in_ok-planned.planned.cleared (made_of c.in_ok-planned.planned t)) c.in_ok-planned.ensures.same ∙ ap (λ k. tunnels_after v.tunnels k c.in_ok-planned.planned.cleared (made_of c.in_ok-planned.planned (tunnel_of core))) c.from-2.ensures in
+    let places : c.change_looks.new.places.entries ≡ with_looks c.env.inside.changes (placed c.in_ok-planned.planned.control.local c.in_ok-planned.planned.added c.self.inside.calls.entries) = c.change_looks.ensures ∙ rw (c.as_slice.ensures, c.place_all.ensures, c.added.ensures, c.local-local.ensures, c.in_ok-planned.ensures.places) refl in
+    let s : Stepped = record { end = view_of (record { alloc = c.self.inside.alloc; role = c.self.inside.role; config = c.self.inside.config; tunnel_ids = c.env.inside.tunnels; session_ids = c.env.inside.sessions; recovery_ids = c.self.inside.recovery_ids; tunnels = c.put_new.new.tunnels; calls = c.change_looks.new.places }); outputs = c.env.inside.outputs; moves = c.env.inside.moves } in
+    let one : in_new v start c.args.event.now c.args.peer ≡ s = new_is v start empty c.args.event.now local core c.in_ok-planned.planned (env_view_of c.env.inside) s _ refl c.in_ok-planned.ensures.planned (c.env.view_is ∙ c.in_ok-planned.ensures.given) (record { end = rw (tunnels, places) refl; outputs = refl; moves = refl }) c.args.peer idle (sym c.local-local.ensures) c.if-local-eq0.false in
+    let two = subst (λ (x : Env). in_new v x c.args.event.now c.args.peer ≡ s) c.env-env.ensures one in
+    subst (λ (x : End). in_new x (env_of c.args.self.now c.args.moment c.args.block) c.args.event.now c.args.peer ≡ s) c.self.view_is two

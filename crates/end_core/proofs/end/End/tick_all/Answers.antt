@@ -1,0 +1,23 @@
+use Rattle.std.proofs.Common.{◌≡◌, ◌∙◌, refl, ap, sym, subst}
+use Rattle.id_table.specs.Ids.{ids_of}
+use Rattle.protocol_model.specs.Turn.{Env}
+use Rattle.protocol_model.specs.End.{End, Stepped, env_of, with_looks, ticks_all}
+use Rattle.end_core.specs.Ticking.{ticks_at, ArePlanned, with_ticks, after_plans}
+use Rattle.end_core.specs.contracts.end.End.{the_view as view_of}
+use Rattle.tunnel_core.specs.contracts.env.Env.{the_view as env_view_of}
+use Rattle.end_core.proofs.Plans.{all_is}
+use Rattle.end_core.proofs.end.End.tick_all.Goals as goal
+
+pub returns : goal.returns
+returns c =
+    let v = view_of c.self.inside in
+    let es = c.self.inside.tunnels.entries in
+    let begin : c.env-env.result ≡ env_of v c.args.moment c.args.block = c.env-env.ensures ∙ ap (λ (x : End). env_of x c.args.moment c.args.block) (sym c.self.view_is) in
+    let s : Stepped = record { end = view_of (record { alloc = c.self.inside.alloc; role = c.self.inside.role; config = c.self.inside.config; tunnel_ids = c.self.inside.tunnel_ids; session_ids = c.self.inside.session_ids; recovery_ids = c.self.inside.recovery_ids; tunnels = c.make_all.new.tunnels; calls = c.change_looks.new.places }); outputs = c.env.inside.outputs; moves = c.env.inside.moves } in
+    let planned = subst (λ (x : Env). ArePlanned c.in_ok-plans.plans (ticks_at v.role v.config es x (ids_of es))) begin c.in_ok-plans.ensures.planned in
+    let given = subst (λ (x : Env). env_view_of c.env.inside ≡ with_ticks (ticks_at v.role v.config es x (ids_of es)) x) begin (c.env.view_is ∙ c.in_ok-plans.ensures.given) in
+    let tunnels = c.make_all.ensures ∙ ap (after_plans c.in_ok-plans.plans) c.in_ok-plans.ensures.same in
+    let calls : c.change_looks.new.places.entries ≡ with_looks c.env.inside.changes c.self.inside.calls.entries = c.change_looks.ensures ∙ ap (λ cs. with_looks cs c.self.inside.calls.entries) c.as_slice.ensures in
+    let one : ticks_all v (env_of v c.args.moment c.args.block) ≡ s =
+    all_is v c.args.moment c.args.block es refl c.in_ok-plans.plans c.in_ok-plans.ensures.ascend (env_view_of c.env.inside) s planned given (rw (tunnels, calls) refl) refl refl in
+    subst (λ (x : End). ticks_all x (env_of x c.args.moment c.args.block) ≡ s) c.self.view_is one

@@ -1,0 +1,9 @@
+use Rattle.std.proofs.Common.{◌≡◌, drop}
+use Rattle.protocol_model.specs.End.{placed}
+use Rattle.end_core.specs.Ends.{HaveRoom}
+use Rattle.end_core.proofs.places.place_all.Given as goal
+
+abbrev pub invariant-loop-session : goal.invariant-loop-session
+invariant-loop-session l =
+    (placed l.tunnel (drop l.session-index l.sessions) l.places.entries ≡ placed l.tunnel l.sessions l.fn.places.entries) ×
+    HaveRoom l.places (drop l.session-index l.sessions)

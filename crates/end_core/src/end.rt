@@ -1,0 +1,545 @@
+//! An end with its tunnels: which tunnel an event is for, and what is seen of the calls.
+
+ghost use Rattle.std.specs.Prelude.{ℕ, ◌≡◌, ◌≤◌, [], ◌∷◌, find, option_map, is_some, IfOk, OnOk, IsSome};
+ghost use Rattle.std.specs.Option.{option_copied};
+ghost use Rattle.id_table.specs.Ids.{at, put, ids_of};
+ghost use Rattle.id_table.specs.Tables.{HasRoom};
+ghost use Rattle.l2tp_header.specs.Reading.{header_of};
+ghost use Rattle.protocol_model.specs.End.{env_of, whole_space, gives_only, tunnels_after, after_turn, after_new, in_new, in_main, is_known, known_as, opens_once, addressed, reached, for_addressee, is_in, least_in, rings_in, rings_at, gives_frame, look_in, handed, hands_up, receives, only_by, step_in, step, new_end};
+ghost use Rattle.protocol_model.specs.Reading.{at_tunnel};
+ghost use Rattle.tunnel_core.specs.Cores.{tunnel_of, made_of, IsTurn, HasRoomFor};
+ghost use Rattle.end_core.specs.Ends.{tunnels_of, HaveRoom};
+ghost use Rattle.protocol_model.specs.Turn.{turn_of, turns, with_turn};
+ghost use Rattle.end_core.specs.Gives.{GivesStep};
+
+use crate::places::{carry_look, change_looks, frame_of, look_at, make_places, place_all};
+use crate::reading::at_zero;
+use id_source::Ids;
+use id_table::Table;
+use l2tp_header::{Header, read_header};
+use protocol_model::{
+    Addressee, CallPlace, CellChanges, Config, Control, Event, FrameUp, Move, Out, Role,
+};
+use std::alloc::Global;
+use std::marker::Model;
+use tunnel_core::{Env, Moves, Outputs, Planned, TunnelCore, header_why, same_state};
+use tunnel_fsm::TunnelState;
+use wire_base::{Bytes, Contents, NoMemory, Sequence, Why};
+
+/// The last tunnel id, the last session id, and the last number of a recovery.
+const LAST_TUNNEL: u32 = 65_535;
+
+const LAST_SESSION: u32 = 65_534;
+
+const LAST_RECOVERY: u32 = 4_294_967_295;
+
+/// What a step gave.
+#[derive(Drop)]
+pub struct Given {
+    /// What goes to the outside, in order.
+    pub outputs: Outputs,
+    /// What the step did, in order.
+    pub moves: Moves,
+}
+
+/// An end of L2TP tunnels: a LAC or an LNS.
+#[derive(Drop)]
+pub struct End {
+    pub(crate) alloc: Global,
+    pub(crate) role: Role,
+    pub(crate) config: Config,
+    tunnel_ids: Ids,
+    session_ids: Ids,
+    recovery_ids: Ids,
+    pub(crate) tunnels: Table<TunnelCore>,
+    pub(crate) calls: Table<CallPlace>,
+}
+
+impl Model for End {
+    ghost use Rattle.std.specs.Prelude.{◌≤◌};
+    ghost use Rattle.protocol_model.specs.End.{End as Known};
+    ghost use Rattle.end_core.specs.Ends.{tunnels_of};
+
+    ghost Value = { Known };
+
+    ghost view = { λ e. record { role = e.role; config = e.config; tunnel_ids = e.tunnel_ids; session_ids = e.session_ids; recovery_ids = e.recovery_ids; tunnels = tunnels_of e.tunnels.entries; calls = e.calls.entries } };
+
+    ghost invariant = { λ e. (e.tunnel_ids.last ≤ 65535) × (e.session_ids.last ≤ 65535) };
+}
+
+fn give_only(alloc: Global, out: Out) -> Result<Given, NoMemory>
+    ensures { IfOk result (λ g. (g.outputs ≡ out ∷ []) × (g.moves ≡ [])) }
+{
+    let mut outputs = Outputs::new(alloc);
+    outputs.push(out)?;
+    Ok(Given {
+        outputs,
+        moves: Moves::new(alloc),
+    })
+}
+
+/// A space of which all numbers may be drawn, as long as nothing is committed.
+fn whole_space(last: u32) -> Ids
+    ensures { result ≡ whole_space last }
+{
+    let mut ids = Ids::new(last);
+    ids.raise(last);
+    ids
+}
+
+impl End {
+    /// An end without a tunnel. It takes no memory.
+    pub fn new(alloc: Global, role: Role, config: Config) -> End
+        ensures { result ≡ new_end role config }
+    {
+        End {
+            alloc,
+            role,
+            config,
+            tunnel_ids: whole_space(LAST_TUNNEL),
+            session_ids: whole_space(LAST_SESSION),
+            recovery_ids: whole_space(LAST_RECOVERY),
+            tunnels: Table::new(alloc),
+            calls: Table::new(alloc),
+        }
+    }
+
+    /// Which end it is.
+    pub fn role(&self) -> Role
+        ensures { result ≡ self.now.role }
+    {
+        self.role
+    }
+
+    /// The tunnel with a local id.
+    #[tactic(auto, using(crate::proofs::Tunnels::at_tunnels))]
+    pub fn tunnel(&self, id: u32) -> Option<&TunnelCore>
+        ensures { option_map tunnel_of (option_copied result) ≡ at self.now.tunnels id }
+    {
+        self.tunnels.get(id)
+    }
+
+    /// The local ids of the tunnels, in order.
+    #[tactic(auto, using(crate::proofs::Tunnels::ids_tunnels))]
+    pub fn tunnel_ids(&self, alloc: Global) -> Result<Sequence<u32>, NoMemory>
+        ensures { IfOk result (λ ids. ids ≡ ids_of self.now.tunnels) }
+    {
+        self.tunnels.ids(alloc)
+    }
+
+    /// Whether a call with this session id is live.
+    pub fn has_call(&self, session: u16) -> bool
+        ensures { result ≡ is_some (at self.now.calls session) }
+    {
+        self.calls.contains(u32::from(session))
+    }
+
+    /// The step gives one output and changes nothing.
+    #[tactic(auto, unfolding(protocol_model::specs::End::gives_only))]
+    fn only(&mut self, out: Out) -> Result<Given, NoMemory>
+        ensures { GivesStep result (gives_only self.old out) self.old self.new }
+    {
+        give_only(self.alloc, out)
+    }
+
+    fn drop_with(&mut self, why: Why) -> Result<Given, NoMemory>
+        ensures { GivesStep result (gives_only self.old (Out.Drop why)) self.old self.new }
+    {
+        self.only(Out::Drop { why })
+    }
+
+    /// What a step works in. It takes no memory.
+    pub(crate) fn env(&self, moment: u64, block: [u8; 16]) -> Env
+        ensures { result ≡ env_of self.now moment block }
+    {
+        Env {
+            moment,
+            block,
+            tunnels: self.tunnel_ids,
+            sessions: self.session_ids,
+            recoveries: self.recovery_ids,
+            contents: Contents::new(self.alloc),
+            outputs: Outputs::new(self.alloc),
+            changes: CellChanges::new(self.alloc),
+            moves: Moves::new(self.alloc),
+        }
+    }
+}
+
+/// Plans a step of a tunnel, and makes room for the places of the calls that it makes. What the tunnel and the places stand
+/// for is as before.
+fn plan_step(
+    core: &mut TunnelCore,
+    places: &mut Table<CallPlace>,
+    role: Role,
+    config: &Config,
+    env: &mut Env,
+    event: &Event,
+) -> Result<Planned, NoMemory>
+    ensures same { tunnel_of core.new ≡ tunnel_of core.old }
+    ensures places { places.new.entries ≡ places.old.entries }
+    ensures planned { IfOk result (λ p. IsTurn p (turns role config.now core.old.letters.letters core.old.calls.entries event.now (turn_of core.old.control env.old))) }
+    ensures room { IfOk result (λ p. HasRoomFor core.new p) }
+    ensures calls_room { IfOk result (λ p. HaveRoom places.new p.added) }
+    ensures given { OnOk result (env.new ≡ with_turn (turns role config.now core.old.letters.letters core.old.calls.entries event.now (turn_of core.old.control env.old)) env.old) }
+{
+    let planned = core.plan(role, config, env, event)?;
+    make_places(places, planned.added())?;
+    Ok(planned)
+}
+
+/// Puts a tunnel that is new into a table after what was planned for it, or leaves it out where the step removes it. It takes
+/// no memory.
+#[tactic(auto, using(crate::proofs::Tunnels::put_tunnels, crate::proofs::Tunnels::without_tunnels))]
+fn put_new(tunnels: &mut Table<TunnelCore>, id: u32, core: TunnelCore, planned: Planned)
+    requires planned { HasRoomFor core planned }
+    requires room { HasRoom tunnels.old id }
+    ensures { tunnels_of tunnels.new.entries ≡ tunnels_after (tunnels_of tunnels.old.entries) id planned.cleared (made_of planned (tunnel_of core)) }
+{
+    if planned.clears() {
+        tunnels.remove(id);
+        return;
+    }
+    let mut core = core;
+    core.apply(planned);
+    tunnels.fill(id, core);
+}
+
+/// Puts a tunnel back into a table after what was planned for it, or takes it out where the step removes it. It takes no
+/// memory.
+#[tactic(auto, using(crate::proofs::Tunnels::put_tunnels, crate::proofs::Tunnels::without_tunnels, crate::proofs::Tunnels::put_twice))]
+fn put_after(tunnels: &mut Table<TunnelCore>, id: u32, core: TunnelCore, planned: Planned)
+    requires planned { HasRoomFor core planned }
+    requires room { HasRoom tunnels.old id }
+    ensures { tunnels_of tunnels.new.entries ≡ tunnels_after (put (tunnels_of tunnels.old.entries) id (tunnel_of core)) id planned.cleared (made_of planned (tunnel_of core)) }
+{
+    if planned.clears() {
+        tunnels.fill(id, core);
+        tunnels.remove(id);
+        return;
+    }
+    let mut core = core;
+    core.apply(planned);
+    tunnels.fill(id, core);
+}
+
+impl End {
+    /// Makes a step of the tunnel with this id, if there is one.
+    #[tactic(auto, using(crate::proofs::Tunnels::at_tunnels, id_table::specs::Tables::entry_has_room), unfolding(protocol_model::specs::End::in_main, protocol_model::specs::End::after_turn, protocol_model::specs::Turn::with_turn))]
+    fn run_main(
+        &mut self,
+        moment: u64,
+        block: [u8; 16],
+        event: &Event,
+        id: u32,
+    ) -> Result<Given, NoMemory>
+        ensures { GivesStep result (in_main self.old (env_of self.old moment block) event.now id (at self.old.tunnels id)) self.old self.new }
+    {
+        if !self.tunnels.contains(id) {
+            return self.drop_with(Why::Tunnel);
+        }
+        let mut env = self.env(moment, block);
+        let mut core = self
+            .tunnels
+            .swap(id, TunnelCore::idle(self.alloc, 0, moment));
+        let planned = plan_step(
+            &mut core,
+            &mut self.calls,
+            self.role,
+            &self.config,
+            &mut env,
+            event,
+        );
+        match planned {
+            Err(e) => {
+                self.tunnels.replace(id, core);
+                Err(e)
+            }
+            Ok(planned) => {
+                place_all(&mut self.calls, planned.local(), planned.added());
+                change_looks(&mut self.calls, env.changes.as_slice());
+                put_after(&mut self.tunnels, id, core, planned);
+                self.tunnel_ids = env.tunnels;
+                self.session_ids = env.sessions;
+                Ok(Given {
+                    outputs: env.outputs,
+                    moves: env.moves,
+                })
+            }
+        }
+    }
+}
+
+impl End {
+    /// Makes the first step of a tunnel to a peer that is new. Where it draws no id, it isn't kept.
+    #[tactic(auto, unfolding(protocol_model::specs::End::in_new, protocol_model::specs::End::after_new))]
+    fn run_new(
+        &mut self,
+        moment: u64,
+        block: [u8; 16],
+        event: &Event,
+        peer: u32,
+    ) -> Result<Given, NoMemory>
+        ensures { GivesStep result (in_new self.old (env_of self.old moment block) event.now peer) self.old self.new }
+    {
+        let mut env = self.env(moment, block);
+        let mut core = TunnelCore::idle(self.alloc, peer, moment);
+        let planned = plan_step(
+            &mut core,
+            &mut self.calls,
+            self.role,
+            &self.config,
+            &mut env,
+            event,
+        )?;
+        let local = planned.local();
+        if local == 0 {
+            return Ok(Given {
+                outputs: env.outputs,
+                moves: env.moves,
+            });
+        }
+        self.tunnels.make_room(u32::from(local))?;
+        place_all(&mut self.calls, local, planned.added());
+        change_looks(&mut self.calls, env.changes.as_slice());
+        put_new(&mut self.tunnels, u32::from(local), core, planned);
+        self.tunnel_ids = env.tunnels;
+        self.session_ids = env.sessions;
+        Ok(Given {
+            outputs: env.outputs,
+            moves: env.moves,
+        })
+    }
+
+    /// The first of these tunnels that goes to a peer which assigned this id.
+    fn first_known(&self, peer: u32, remote: u16, ids: &[u32]) -> Option<u32>
+        ensures { result ≡ find (λ i. is_known peer remote (at self.now.tunnels i)) ids.now }
+    {
+        for id in ids {
+            if let Some(core) = self.tunnel(*id) {
+                if core.control().peer == peer && core.control().remote == remote {
+                    return Some(*id);
+                }
+            }
+        }
+        None
+    }
+
+    /// The least tunnel to a peer that has assigned this id.
+    #[tactic(auto, unfolding(protocol_model::specs::End::known_as))]
+    fn known_as(&self, peer: u32, remote: u16) -> Result<Option<u32>, NoMemory>
+        ensures { IfOk result (λ found. found ≡ known_as peer remote self.now.tunnels) }
+    {
+        let ids = self.tunnel_ids(self.alloc)?;
+        Ok(self.first_known(peer, remote, ids.as_slice()))
+    }
+
+    /// An SCCRQ that comes again is for the tunnel that it opened.
+    #[tactic(auto, unfolding(protocol_model::specs::End::opens_once))]
+    fn open_once(&self, peer: u32, to: Addressee) -> Result<Addressee, NoMemory>
+        ensures { IfOk result (λ a. a ≡ opens_once self.now peer to) }
+    {
+        let Addressee::Opens { remote } = to else {
+            return Ok(to);
+        };
+        match self.known_as(peer, remote)? {
+            Some(tunnel) => Ok(Addressee::Main { tunnel }),
+            None => Ok(to),
+        }
+    }
+
+    /// What a control message is for.
+    #[tactic(auto, using(crate::proofs::Tunnels::at_tunnels), unfolding(protocol_model::specs::End::addressed, protocol_model::specs::Reading::at_tunnel))]
+    fn addressed(&self, peer: u32, header: &Header, body: &[u8]) -> Result<Addressee, NoMemory>
+        ensures { IfOk result (λ to. to ≡ addressed self.now peer header.now body.now) }
+    {
+        if header.tunnel == 0 {
+            let to = at_zero(self.alloc, body)?;
+            return self.open_once(peer, to);
+        }
+        let tunnel = u32::from(header.tunnel);
+        match self.tunnel(tunnel) {
+            None => Ok(Addressee::Nobody { why: Why::Tunnel }),
+            Some(core) => {
+                if core.control().peer == peer {
+                    Ok(Addressee::Main { tunnel })
+                } else {
+                    Ok(Addressee::Nobody { why: Why::Peer })
+                }
+            }
+        }
+    }
+
+    /// The tunnel that a datagram from a peer is for, where it is a control message and there is one.
+    #[tactic(auto, using(crate::proofs::Tunnels::at_tunnels), unfolding(protocol_model::specs::End::reached, protocol_model::specs::End::reached_by, protocol_model::specs::End::main_of))]
+    pub fn reached(&self, peer: u32, bytes: &[u8]) -> Result<Option<Control>, NoMemory>
+        ensures { IfOk result (λ found. found ≡ reached self.now peer bytes.now) }
+    {
+        let Ok(header) = read_header(bytes) else {
+            return Ok(None);
+        };
+        if !header.control {
+            return Ok(None);
+        }
+        let body = &bytes[header.start..header.end];
+        match self.addressed(peer, &header, body)? {
+            Addressee::Main { tunnel } => Ok(self.tunnel(tunnel).map(|core| *core.control())),
+            Addressee::Opens { .. } | Addressee::Nobody { .. } => Ok(None),
+        }
+    }
+
+    /// A control message for whom it is for.
+    #[tactic(auto, unfolding(protocol_model::specs::End::for_addressee))]
+    fn run_addressed(
+        &mut self,
+        moment: u64,
+        block: [u8; 16],
+        event: &Event,
+        peer: u32,
+        to: Addressee,
+    ) -> Result<Given, NoMemory>
+        ensures { GivesStep result (for_addressee self.old (env_of self.old moment block) event.now peer to) self.old self.new }
+    {
+        match to {
+            Addressee::Opens { .. } => self.run_new(moment, block, event, peer),
+            Addressee::Main { tunnel } => self.run_main(moment, block, event, tunnel),
+            Addressee::Nobody { why } => self.drop_with(why),
+        }
+    }
+
+    /// The least tunnel to a peer that is in a state.
+    #[tactic(auto, using(crate::proofs::Tunnels::at_tunnels), unfolding(protocol_model::specs::End::least_in))]
+    fn least_in(&self, state: TunnelState, peer: u32) -> Result<Option<u32>, NoMemory>
+        ensures { IfOk result (λ found. found ≡ least_in state peer self.now.tunnels) }
+    {
+        let ids = self.tunnel_ids(self.alloc)?;
+        Ok(self.first_in(state, peer, ids.as_slice()))
+    }
+
+    /// The first of these tunnels that goes to a peer and is in a state.
+    fn first_in(&self, state: TunnelState, peer: u32, ids: &[u32]) -> Option<u32>
+        ensures { result ≡ find (λ i. is_in state peer (at self.now.tunnels i)) ids.now }
+    {
+        for id in ids {
+            if let Some(core) = self.tunnel(*id) {
+                if same_state(core.control().state, state) && core.control().peer == peer {
+                    return Some(*id);
+                }
+            }
+        }
+        None
+    }
+
+    /// A port rings: over the least tunnel to the LNS that is open, else over the least that is to open, else over a new
+    /// one.
+    #[tactic(auto, unfolding(protocol_model::specs::End::rings_at, protocol_model::specs::End::rings_in))]
+    fn ring(&mut self, moment: u64, block: [u8; 16], event: &Event) -> Result<Given, NoMemory>
+        ensures { GivesStep result (rings_at self.old (env_of self.old moment block) event.now) self.old self.new }
+    {
+        let lns = self.config.lns;
+        if let Some(id) = self.least_in(TunnelState::Established, lns)? {
+            return self.run_main(moment, block, event, id);
+        }
+        if let Some(id) = self.least_in(TunnelState::WaitCtlReply, lns)? {
+            return self.run_main(moment, block, event, id);
+        }
+        self.run_new(moment, block, event, lns)
+    }
+
+    /// A frame is given for a call: it goes to the call's tunnel.
+    #[tactic(auto, unfolding(protocol_model::specs::End::gives_frame))]
+    fn give_frame(
+        &mut self,
+        moment: u64,
+        block: [u8; 16],
+        event: &Event,
+        session: u16,
+    ) -> Result<Given, NoMemory>
+        ensures { GivesStep result (gives_frame self.old (env_of self.old moment block) event.now (at self.old.calls session)) self.old self.new }
+    {
+        match self.calls.get(u32::from(session)) {
+            None => self.drop_with(Why::Call),
+            Some(place) => {
+                let tunnel = place.tunnel;
+                self.run_main(moment, block, event, u32::from(tunnel))
+            }
+        }
+    }
+
+    /// A data message: its frame is handed up, or dropped, by what is seen of its session.
+    #[tactic(auto, unfolding(protocol_model::specs::End::hands_up, protocol_model::specs::End::handed))]
+    fn hand_up(&mut self, peer: u32, header: &Header, body: &[u8]) -> Result<Given, NoMemory>
+        ensures { GivesStep result (hands_up self.old peer header.now body.now) self.old self.new }
+    {
+        let session = header.session;
+        let frame = frame_of(body);
+        let look = look_at(&self.calls, session);
+        match carry_look(self.role, look, peer, header, frame) {
+            Err(why) => self.drop_with(why),
+            Ok(way) => {
+                let mut outputs = Outputs::new(self.alloc);
+                outputs.push(Out::Up {
+                    session,
+                    side: way.side,
+                    frame: Bytes::from_slice(self.alloc, frame)?,
+                })?;
+                let mut moves = Moves::new(self.alloc);
+                moves.push(Move::FrameUp(FrameUp {
+                    tunnel: way.tunnel,
+                    peer: way.peer,
+                    session,
+                    side: way.side,
+                    frame: Bytes::from_slice(self.alloc, frame)?,
+                }))?;
+                Ok(Given { outputs, moves })
+            }
+        }
+    }
+
+    /// A datagram from a peer.
+    #[tactic(auto, unfolding(protocol_model::specs::End::receives))]
+    fn receive(
+        &mut self,
+        moment: u64,
+        block: [u8; 16],
+        event: &Event,
+        peer: u32,
+        bytes: &[u8],
+    ) -> Result<Given, NoMemory>
+        requires { event.now ≡ Event.Datagram peer bytes.now }
+        ensures { GivesStep result (receives self.old (env_of self.old moment block) peer bytes.now (header_of bytes.now)) self.old self.new }
+    {
+        match read_header(bytes) {
+            Err(error) => self.drop_with(header_why(error)),
+            Ok(header) => {
+                let body = &bytes[header.start..header.end];
+                if !header.control {
+                    return self.hand_up(peer, &header, body);
+                }
+                let to = self.addressed(peer, &header, body)?;
+                self.run_addressed(moment, block, event, peer, to)
+            }
+        }
+    }
+
+    /// A step of the end on an event, at a moment in milliseconds, with a block of random bytes. Where memory is wanting,
+    /// the end is as before.
+    #[tactic(auto, unfolding(protocol_model::specs::End::step, protocol_model::specs::End::step_in, protocol_model::specs::End::only_by))]
+    pub fn step(&mut self, moment: u64, block: [u8; 16], event: &Event) -> Result<Given, NoMemory>
+        ensures { GivesStep result (step self.old moment block event.now) self.old self.new }
+    {
+        match (self.role, event) {
+            (_, Event::Datagram { peer, bytes }) => {
+                self.receive(moment, block, event, *peer, bytes.as_slice())
+            }
+            (_, Event::Tick) => self.tick_all(moment, block),
+            (Role::Lac, Event::Ring { .. }) => self.ring(moment, block, event),
+            (Role::Lac, Event::Payload { session, .. })
+            | (Role::Lns, Event::Lower { session, .. }) => {
+                self.give_frame(moment, block, event, *session)
+            }
+            (Role::Lac, Event::OpenTunnel) => self.run_new(moment, block, event, self.config.lns),
+            _ => self.drop_with(Why::Node),
+        }
+    }
+}

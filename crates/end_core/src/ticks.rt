@@ -1,0 +1,115 @@
+//! An end's tick: the turn of each tunnel is planned, and then all are made.
+
+ghost use Rattle.std.specs.Prelude.{ℕ, ◌≡◌, ◌∷◌, [], ◌≢◌, IfOk, OnOk, IsSome};
+ghost use Rattle.std.specs.List.Sorted.{IsStrictlySortedBy};
+ghost use Rattle.std.specs.Ordering.{nat_cmp};
+ghost use Rattle.id_table.specs.Ids.{at, ids_of};
+ghost use Rattle.protocol_model.specs.End.{env_of, ticks_all};
+ghost use Rattle.end_core.specs.Ends.{tunnels_of};
+ghost use Rattle.end_core.specs.Gives.{GivesStep};
+ghost use Rattle.end_core.specs.Ticking.{tick_at, ticks_at, ArePlanned, HasPlace, HavePlaces, with_ticks, after_plan, after_plans};
+
+use crate::end::{End, Given};
+use crate::places::change_looks;
+use id_table::Table;
+use protocol_model::{Config, Event, Role};
+use std::alloc::Global;
+use tunnel_core::{Env, Planned, TunnelCore};
+use wire_base::{NoMemory, Sequence};
+
+/// What is planned for tunnels, by their ids.
+type Plans = Sequence<(u32, Planned)>;
+
+/// Plans the turn of the tunnel with this id, and makes room for it. What the tunnels stand for is as before.
+fn plan_at(
+    tunnels: &mut Table<TunnelCore>,
+    alloc: Global,
+    role: Role,
+    config: &Config,
+    env: &mut Env,
+    id: u32,
+) -> Result<Planned, NoMemory>
+    requires { IsSome (at tunnels.old.entries id) }
+    ensures same { tunnels_of tunnels.new.entries ≡ tunnels_of tunnels.old.entries }
+    ensures others { (q : ℕ) → q ≢ id → at tunnels.new.entries q ≡ at tunnels.old.entries q }
+    ensures planned { IfOk result (λ p. ArePlanned ((id, p) ∷ []) (tick_at role config.now tunnels.old.entries env.old id)) }
+    ensures place { IfOk result (λ p. HasPlace tunnels.new (id, p)) }
+    ensures given { OnOk result (env.new ≡ with_ticks (tick_at role config.now tunnels.old.entries env.old id) env.old) }
+{
+    let mut core = tunnels.swap(id, TunnelCore::idle(alloc, 0, env.moment));
+    let planned = core.plan(role, config, env, &Event::Tick);
+    tunnels.replace(id, core);
+    planned
+}
+
+/// Plans the turns of all tunnels, and makes room for them. What the tunnels stand for is as before.
+fn plan_all(
+    tunnels: &mut Table<TunnelCore>,
+    alloc: Global,
+    role: Role,
+    config: &Config,
+    env: &mut Env,
+) -> Result<Plans, NoMemory>
+    ensures same { tunnels_of tunnels.new.entries ≡ tunnels_of tunnels.old.entries }
+    ensures planned { IfOk result (λ ps. ArePlanned ps (ticks_at role config.now tunnels.old.entries env.old (ids_of tunnels.old.entries))) }
+    ensures ascend { IfOk result (λ ps. IsStrictlySortedBy nat_cmp (ids_of ps)) }
+    ensures places { IfOk result (λ ps. HavePlaces tunnels.new ps) }
+    ensures given { OnOk result (env.new ≡ with_ticks (ticks_at role config.now tunnels.old.entries env.old (ids_of tunnels.old.entries)) env.old) }
+{
+    let ids = tunnels.ids(alloc)?;
+    let mut plans = Plans::new(alloc);
+    for id in ids.as_slice() {
+        let planned = plan_at(tunnels, alloc, role, config, env, *id)?;
+        plans.push((*id, planned))?;
+    }
+    Ok(plans)
+}
+
+/// Makes what was planned for the tunnel with this id. It takes no memory.
+fn make_at(tunnels: &mut Table<TunnelCore>, alloc: Global, id: u32, planned: Planned)
+    requires { HasPlace tunnels.old (id, planned) }
+    ensures made { tunnels_of tunnels.new.entries ≡ after_plan (tunnels_of tunnels.old.entries) (id, planned) (at (tunnels_of tunnels.old.entries) id) }
+    ensures others { (q : ℕ) → q ≢ id → at tunnels.new.entries q ≡ at tunnels.old.entries q }
+{
+    if planned.clears() {
+        tunnels.remove(id);
+        return;
+    }
+    let mut core = tunnels.swap(id, TunnelCore::idle(alloc, 0, 0));
+    core.apply(planned);
+    tunnels.replace(id, core);
+}
+
+/// Makes what was planned for tunnels. It takes no memory.
+#[tactic(auto, unfolding(crate::specs::Ticking::after_plans))]
+fn make_all(tunnels: &mut Table<TunnelCore>, alloc: Global, plans: Plans)
+    requires ascend { IsStrictlySortedBy nat_cmp (ids_of plans) }
+    requires places { HavePlaces tunnels.old plans }
+    ensures { tunnels_of tunnels.new.entries ≡ after_plans plans (tunnels_of tunnels.old.entries) }
+{
+    for (id, planned) in plans.into_vec() {
+        make_at(tunnels, alloc, id, planned);
+    }
+}
+
+impl End {
+    /// Time passes: each tunnel takes its turn. Where memory is wanting, the end is as before.
+    pub(crate) fn tick_all(&mut self, moment: u64, block: [u8; 16]) -> Result<Given, NoMemory>
+        ensures { GivesStep result (ticks_all self.old (env_of self.old moment block)) self.old self.new }
+    {
+        let mut env = self.env(moment, block);
+        let plans = plan_all(
+            &mut self.tunnels,
+            self.alloc,
+            self.role,
+            &self.config,
+            &mut env,
+        )?;
+        make_all(&mut self.tunnels, self.alloc, plans);
+        change_looks(&mut self.calls, env.changes.as_slice());
+        Ok(Given {
+            outputs: env.outputs,
+            moves: env.moves,
+        })
+    }
+}

@@ -1,9 +1,0 @@
-use Rattle.std.proofs.Common.{◌≡◌, drop}
-use Rattle.protocol_model.specs.End.{placed}
-use Rattle.tunnel_core.specs.Cores.{HaveRoom}
-use Rattle.tunnel_core.proofs.places.place_all.Given as goal
-
-abbrev pub invariant-loop-session : goal.invariant-loop-session
-invariant-loop-session l =
-    (placed l.tunnel (drop l.session-index l.sessions) l.places.entries ≡ placed l.tunnel l.sessions l.fn.places.entries) ×
-    HaveRoom l.places (drop l.session-index l.sessions)
