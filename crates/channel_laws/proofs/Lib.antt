@@ -1,4 +1,0 @@
-pub mod Sent
-pub mod Pairs
-pub mod Acts
-mod Runs

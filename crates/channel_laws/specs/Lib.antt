@@ -1,3 +1,0 @@
-pub mod Network
-pub mod Carried
-pub mod Example

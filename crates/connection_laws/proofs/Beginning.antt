@@ -1,0 +1,171 @@
+-- A tunnel is opened.
+use Rattle.std.proofs.Common.{◌≡◌, inl, ℕ, ◌+◌, ◌<◌, ◌≤◌, [], ◌∷◌, ◌++◌, refl, sym, ap, ◌∙◌, subst, Option, arith}
+use Rattle.std.proofs.lemmas.Option.{none-some}
+use Rattle.id_table.specs.Ids.{at-none}
+use Rattle.id_table.specs.Order.{ascends-empty}
+use Rattle.control_message.specs.declared.message.Message.TheVariants.{Sccrq}
+use Rattle.tunnel_fsm.specs.declared.table.TunnelState.TheVariants.{WaitCtlReply}
+use Rattle.protocol_model.specs.declared.event.Event.{Event}
+use Rattle.protocol_model.specs.declared.event.Event.TheVariants.{Datagram, Ring, Payload, Lower, OpenTunnel, Tick}
+use Rattle.protocol_model.specs.declared.moves.Opened.{Opened}
+use Rattle.protocol_model.specs.declared.moves.Move.TheVariants as move
+use Rattle.protocol_model.specs.declared.out.Origin.{Origin}
+use Rattle.protocol_model.specs.declared.out.Origin.TheVariants as origin
+use Rattle.protocol_model.specs.declared.packet.Packet.{Packet}
+use Rattle.protocol_model.specs.Names.{address_of, node_of}
+use Rattle.protocol_model.specs.Turn.{Tunnel, letter_of, opening_of}
+use Rattle.protocol_model.specs.End.{End}
+use Rattle.protocol_model.specs.World.{Sender, Deed, config_of}
+use Rattle.step_laws.specs.Letters.{Letter}
+use Rattle.step_laws.specs.Moves.{with_tunnel, with_letter, new_tunnel, begun}
+use Rattle.connection_laws.specs.Accounts.{Part, Unmade, Opener, Acceptor, Account, no_account, gives}
+use Rattle.connection_laws.specs.Facts.{Accounts, IsMade, IsPart, AccountOk, LiveOk, Comes, Within}
+use Rattle.connection_laws.proofs.Keeps.{IsDeed, after, IsMoved}
+use Rattle.connection_laws.proofs.Puts.{IsOnly, NearAt, ComesNear}
+use Rattle.connection_laws.proofs.Later.{after_move, only_after}
+use Rattle.connection_laws.proofs.Put.{puts_keep}
+use Rattle.connection_laws.proofs.Written.{opening_written, same_opening, draw_is, next_is, node_again, node_fits}
+
+-- an id that wasn't drawn is that of no tunnel
+pub undrawn : (accs : Accounts) (n : ℕ) (e : End) (sender : Option Sender) (ev : Event) → Within accs n e sender ev → (i : ℕ) → i ≡ e.tunnel_ids.next
+    → accs n i ≡ no_account
+undrawn accs n e sender ev within i is = by (accs n i).part refl (within.accounts n i).part
+  where
+    never : IsMade (accs n i) → accs n i ≡ no_account
+    never made = let lt = within.end.drawn i made in absurd (omega (arith, is))
+
+    by : (p : Part) → (accs n i).part ≡ p → IsPart accs n i (accs n i) p → accs n i ≡ no_account
+    by Unmade e h = h
+    by Opener e h = never (λ none. let clash : ⊥ = cc in clash)
+    by Acceptor e h = never (λ none. let clash : ⊥ = cc in clash)
+
+module _ (accs : Accounts) (n : ℕ) (e : End) (sender : Option Sender) (moment : ℕ) (ev : Event) (d : Deed) (within : Within accs n e sender ev) (m : Opened)
+    (deed : IsDeed d n e.role sender (move.Opened m)) (next : m.tunnel ≡ e.tunnel_ids.next) (last : m.tunnel ≤ e.tunnel_ids.last)
+    (number : ℕ) (number_fits : number < 256) (lns : m.peer ≡ address_of number) where
+  abbrev ms : Accounts
+  ms = after accs d
+
+  abbrev i : ℕ
+  i = m.tunnel
+
+  -- the SCCRQ
+  abbrev first : Letter
+  first = record { tunnel = m.tunnel; place = m.given; session = 0; message = Sccrq (opening_of e.role (config_of n 0) m.tunnel) }
+
+  abbrev new_account : Account
+  new_account = record { part = Opener; peer = node_of m.peer; remote = 0; given = first ∷ []; taken = [] }
+
+  abbrev new : Tunnel
+  new = with_letter 0 (Sccrq (opening_of e.role e.config m.tunnel)) (new_tunnel (begun m.tunnel m.peer 0 WaitCtlReply moment))
+
+  abbrev after_it : End
+  after_it = record (with_tunnel e i new) { tunnel_ids = record e.tunnel_ids { next = m.tunnel + 1 } }
+
+  unmade : accs n i ≡ no_account
+  unmade = undrawn accs n e sender ev within i next
+
+  gives_is : gives d ≡ first ∷ []
+  gives_is = rw (deed.role_is, deed.node_is, deed.move_is) refl
+
+  is : ms n i ≡ new_account
+  is =
+      after_move accs d n (move.Opened m) deed.node_is deed.move_is
+      ∙ ap (λ (a : Account). record a { part = Opener; peer = node_of m.peer; given = a.given ++ gives d }) unmade
+      ∙ ap (λ ls. record new_account { given = ls }) gives_is
+
+  only : IsOnly accs ms n i
+  only = only_after accs d n (move.Opened m) deed.node_is deed.move_is (ap (λ (a : Account). a.part) unmade)
+
+  some : 0 < i
+  some = let f = within.end.first in omega (arith, next)
+
+  fits : i < 65536
+  fits = let f = within.end.last in omega (arith, last)
+
+  account : AccountOk ms n i new_account
+  account = record {
+    part = record {
+      begins = record {
+        first = first;
+        rest = [];
+        are = refl;
+        opening = opening_of e.role (config_of n 0) m.tunnel;
+        says_so = refl;
+        id = refl;
+        later = tt;
+      };
+      none = λ unknown. refl;
+      some = λ known. absurd (known refl);
+      part = λ known. absurd (known refl);
+      peer = λ known. absurd (known refl);
+      remote = λ known. absurd (known refl);
+      joined = λ known. absurd (known refl);
+    };
+    some = λ made. some;
+    id = λ made. fits;
+    node = λ made. within.end.node;
+    peer = node_fits m.peer;
+    remote = omega arith;
+    spelled = (record { written = opening_written e.role (config_of n 0) m.tunnel within.end.node some fits; session = omega arith }, tt);
+    taken = λ k l f. let clash : ⊥ = cc in absurd clash;
+  }
+
+  live : LiveOk ms n i new_account new
+  live = record {
+    local = refl;
+    peer = rw (lns, node_again number number_fits) refl;
+    remote = refl;
+    state = inl (refl, refl);
+    letters = ap (λ o. letter_of 0 (Sccrq o) ∷ []) (same_opening e.role e.config (config_of n 0) m.tunnel within.end.number);
+    counted = refl;
+    few = omega arith;
+    outstanding = omega arith;
+    taken = refl;
+    acked = ((λ unknown. inl refl), λ known. absurd (known refl));
+    calls = λ s c f. absurd (none-some c (sym (at-none s) ∙ f));
+    order = ascends-empty [] refl;
+  }
+
+  near_at : (p : Packet) (o : Origin) → NearAt ms n i new p o
+  near_at p (origin.Control o) = λ h peer read f. record { taken = rw is (omega arith); acked = omega arith }
+  near_at p (origin.Data session) = tt
+
+  near : (v : Event) (c : Comes accs n e sender v) → ComesNear accs n e sender v c ms i new
+  near (Datagram peer bytes) c = near_at c.packet c.packet.origin
+  near (Ring port) c = tt
+  near (Payload s frame) c = tt
+  near (Lower s frame) c = tt
+  near OpenTunnel c = tt
+  near Tick c = tt
+
+  begins : Within ms n after_it sender ev
+  begins = puts_keep accs ms n e after_it sender ev i new (record {
+    within = within;
+    only = only;
+    end = record {
+      role = refl;
+      config = refl;
+      tunnels = refl;
+      next = omega (arith, next);
+      last = refl;
+      sessions = omega arith;
+      last_session = refl;
+    };
+    drawn = omega arith;
+    account = rw is account;
+    live = rw is live;
+    joined = λ accepted. let clash : Opener ≡ Acceptor = rw is at accepted in absurd cc;
+    apart = λ j u f peer remote known. absurd (known refl);
+    near = near ev within.comes;
+  })
+
+pub opened_keeps : (accs : Accounts) (n : ℕ) (e x : End) (sender : Option Sender) (moment : ℕ) (ev : Event) (m : Opened) (d : Deed)
+    → IsMoved accs n e x sender moment ev (move.Opened m) d → Within (after accs d) n x sender ev
+opened_keeps accs n e x sender moment ev m d h =
+    let o = h.does in
+    let drawn = draw_is e.tunnel_ids m.tunnel o.drawn in
+    let lns = h.within.end.lns o.role in
+    let t = with_letter 0 (Sccrq (opening_of e.role e.config m.tunnel)) (new_tunnel (begun m.tunnel m.peer 0 WaitCtlReply moment)) in
+    let same = o.after ∙ ap (λ s. record (with_tunnel e m.tunnel t) { tunnel_ids = s }) (next_is e.tunnel_ids m.tunnel o.drawn) in
+    subst (λ y. Within (after accs d) n y sender ev) (sym same)
+    (begins accs n e sender moment ev d h.within m h.deed drawn.0 drawn.1 lns.0 lns.1 (o.peer ∙ lns.2))

@@ -1,0 +1,230 @@
+-- How far the numbers of letters go in a step.
+use Rattle.std.proofs.Common.{◌≡◌, ◌⊎◌, inl, inr, ⊎_elim, ℕ, ◌+◌, ◌*◌, ◌%◌, ◌^◌, ◌<◌, ◌≤◌, Bool, true, false, cond, eqb, List, [], ◌∷◌, length, refl, sym, ap, ◌∙◌, subst, Option, Some, arith}
+use Rattle.std.specs.Prelude.{nat_le, ◌&&◌, nat_lt, slice_get}
+use Rattle.std.proofs.Common.{get_or}
+use Rattle.std.proofs.lemmas.Option.{slice_get-get_or, slice_get_within}
+use Rattle.std.proofs.lemmas.Bool.Decides.{nat_tests}
+use Rattle.id_table.specs.Ids.{at, put}
+use Rattle.id_table.specs.Order.{Ascends, at_new, found_put, found_without}
+use Rattle.send_window.specs.Kept.{Window}
+use Rattle.send_window.specs.Window as window
+use Rattle.control_channel.specs.Numbers.{Numbers, acked_at, let_go_at, ticked_at}
+use Rattle.protocol_model.specs.declared.event.Event.{Event}
+use Rattle.protocol_model.specs.declared.moves.Move.{Move}
+use Rattle.protocol_model.specs.declared.moves.Move.TheVariants as move
+use Rattle.protocol_model.specs.declared.tunnel.Control.{Control}
+use Rattle.protocol_model.specs.Turn.{Tunnel, learns_window}
+use Rattle.protocol_model.specs.End.{End}
+use Rattle.protocol_model.specs.World.{Sender, Deed}
+use Rattle.step_laws.specs.Moves.{Does}
+use Rattle.step_laws.specs.Ups.{reads_of_move}
+use Rattle.connection_laws.specs.Accounts.{Taken, Account, about, entered_by}
+use Rattle.connection_laws.specs.Facts.{Accounts, IsTaken, AreTaken, LiveOk, EndOk, Within}
+use Rattle.connection_laws.proofs.Keeps.{after, HasNumbers, HasCounts}
+pub use Rattle.connection_laws.specs.Steps.{GivenBelow}
+use Rattle.connection_laws.proofs.Later.{here_or_not, after_move, after_there}
+
+-- ---- the first letters that aren't acknowledged
+
+abbrev pub acked_of : Tunnel → ℕ
+acked_of t = t.control.channel.window.acked
+
+abbrev pub AckedBelow : End → ℕ → Type 0
+AckedBelow e most = (i : ℕ) (t : Tunnel) → at e.tunnels i ≡ Some t → acked_of t ≤ most
+
+-- few letters are on the wire
+abbrev pub FewOut : End → Type 0
+FewOut e = (i : ℕ) (t : Tunnel) → at e.tunnels i ≡ Some t → t.control.channel.window.outstanding ≤ 8192
+
+-- by cases on a test
+either : {X : Type 0} (P : X → Type 0) (b : Bool) (x y : X) → P x → P y → P (cond b x y)
+either P true x y p q = p
+either P false x y p q = q
+
+learns_acked : (w : ℕ) (c : Control) → (learns_window w c).channel.window.acked ≡ c.channel.window.acked
+learns_acked w c = either (λ (x : Control). x.channel.window.acked ≡ c.channel.window.acked) (eqb w 0) c _ refl refl
+
+goes_acked : (c : Numbers) (moment : ℕ) → (let_go_at c moment).window.acked ≡ c.window.acked
+goes_acked c moment = either (λ (x : Numbers). x.window.acked ≡ c.window.acked) c.frozen c _ refl
+    (either (λ (x : Window). x.acked ≡ c.window.acked) (window.may_go c.window) _ c.window refl refl)
+
+ticked_acked : (c : Numbers) (moment : ℕ) → (ticked_at c moment).window.acked ≡ c.window.acked
+ticked_acked c moment = either (λ (x : Numbers). x.window.acked ≡ c.window.acked) c.frozen c _ refl
+    (either (λ (x : Window). x.acked ≡ c.window.acked) (window.due_at c.window moment && nat_lt c.window.repetitions 5) _ c.window refl refl)
+
+-- Nr acknowledges no more than is on the wire
+count_few : (w : Window) (nr : ℕ) → window.count_acked w nr ≤ w.outstanding
+count_few w nr =
+    let d = window.distance (w.acked % 2 ^ 16) nr in
+    by (nat_le d w.outstanding) d refl
+  where
+    by : (b : Bool) (d : ℕ) → nat_le d w.outstanding ≡ b → cond b d 0 ≤ w.outstanding
+    by true d is = grind (arith, nat_tests)
+    by false d is = omega arith
+
+acked_few : (c : Numbers) (nr moment most : ℕ) → c.window.acked ≤ most → c.window.outstanding ≤ 8192 → (acked_at c nr moment).window.acked ≤ most + 8192
+acked_few c nr moment most le few =
+    let count = window.count_acked c.window nr in
+    let small = count_few c.window nr in
+    let sum : (c.window.acked + count) % 2 ^ 64 ≤ most + 8192 = omega arith in
+    either (λ (x : Window). x.acked ≤ most + 8192) (eqb count 0) c.window _ (omega arith) sum
+
+-- ---- each move
+
+put_below : (e x : End) (most k : ℕ) (u : Tunnel) → AckedBelow e most → x.tunnels ≡ put e.tunnels k u → acked_of u ≤ most → AckedBelow x most
+put_below e x most k u had puts le i t there = ⊎_elim
+    (λ (p : (i ≡ k) × (u ≡ t)). subst (λ v. acked_of v ≤ most) p.1 le)
+    (λ (p : (i ≡ k → ⊥) × (at e.tunnels i ≡ Some t)). had i t p.1)
+    (found_put e.tunnels k u i t (let g = rw puts at there in g))
+
+same_below : (e x : End) (most : ℕ) → AckedBelow e most → x.tunnels ≡ e.tunnels → AckedBelow x most
+same_below e x most had same i t there = had i t (let g = rw same at there in g)
+
+-- the tunnel that a move works in, which isn't acknowledged more
+old_below : (e x : End) (most k : ℕ) (t u : Tunnel) → AckedBelow e most → at e.tunnels k ≡ Some t → x.tunnels ≡ put e.tunnels k u → acked_of u ≡ acked_of t
+    → AckedBelow x most
+old_below e x most k t u had there puts same = put_below e x most k u had puts (let le = had k t there in omega arith)
+
+more_below : (e : End) (most more : ℕ) → AckedBelow e most → AckedBelow e (most + more)
+more_below e most more had i t there = let le = had i t there in omega arith
+
+none_below : (a most : ℕ) → a ≡ 0 → a ≤ most
+none_below a most h = omega arith
+
+tunnels_are : (x y : End) → x ≡ y → x.tunnels ≡ y.tunnels
+tunnels_are x y h = ap (λ (e : End). e.tunnels) h
+
+pub does_below : (e x : End) (moment : ℕ) (ev : Event) (m : Move) (most : ℕ) → Ascends e.tunnels → FewOut e → AckedBelow e most → Does e moment ev m x
+    → AckedBelow x (most + 8192 * length (reads_of_move m))
+does_below e x moment ev (move.Opened m) most order few had h =
+    put_below e x (most + 8192 * 0) m.tunnel _ (more_below e most (8192 * 0) had) (tunnels_are x _ h.after) (omega arith)
+does_below e x moment ev (move.Accepted m) most order few had h =
+    put_below e x (most + 8192 * 0) m.tunnel _ (more_below e most (8192 * 0) had) (tunnels_are x _ h.after)
+    (none_below _ (most + 8192 * 0) (learns_acked m.window _))
+does_below e x moment ev (move.Connected m) most order few had h =
+    old_below e x (most + 8192 * 0) m.tunnel h.tunnel _ (more_below e most (8192 * 0) had) h.there (tunnels_are x _ h.after) (learns_acked m.window _)
+does_below e x moment ev (move.Confirmed m) most order few had h =
+    old_below e x (most + 8192 * 0) m.tunnel h.tunnel _ (more_below e most (8192 * 0) had) h.there (tunnels_are x _ h.after) refl
+does_below e x moment ev (move.Added m) most order few had h =
+    old_below e x (most + 8192 * 0) m.tunnel h.tunnel _ (more_below e most (8192 * 0) had) h.there (tunnels_are x _ h.after) refl
+does_below e x moment ev (move.Requested m) most order few had h =
+    old_below e x (most + 8192 * 0) m.tunnel h.tunnel _ (more_below e most (8192 * 0) had) h.there (tunnels_are x _ h.after) refl
+does_below e x moment ev (move.Replied m) most order few had h =
+    old_below e x (most + 8192 * 0) m.tunnel h.tunnel _ (more_below e most (8192 * 0) had) h.there (tunnels_are x _ h.after) refl
+does_below e x moment ev (move.FirstUp m) most order few had h =
+    old_below e x (most + 8192 * 0) m.tunnel h.tunnel _ (more_below e most (8192 * 0) had) h.there (tunnels_are x _ h.after) refl
+does_below e x moment ev (move.SecondUp m) most order few had h =
+    old_below e x (most + 8192 * 0) m.tunnel h.tunnel _ (more_below e most (8192 * 0) had) h.there (tunnels_are x _ h.after) refl
+does_below e x moment ev (move.EndTold m) most order few had h =
+    old_below e x (most + 8192 * 0) m.tunnel h.tunnel _ (more_below e most (8192 * 0) had) h.there (tunnels_are x _ h.after) refl
+does_below e x moment ev (move.EndHeard m) most order few had h =
+    old_below e x (most + 8192 * 0) m.tunnel h.tunnel _ (more_below e most (8192 * 0) had) h.there (tunnels_are x _ h.after) refl
+does_below e x moment ev (move.EndSilent m) most order few had h =
+    old_below e x (most + 8192 * 0) m.tunnel h.tunnel _ (more_below e most (8192 * 0) had) h.there (tunnels_are x _ h.after) refl
+does_below e x moment ev (move.Cleared k) most order few had h =
+    λ i t there. more_below e most (8192 * 0) had i t (found_without e.tunnels k i t order (let g = rw (tunnels_are x _ h.after) at there in g)).1
+does_below e x moment ev (move.Greeted m) most order few had h =
+    old_below e x (most + 8192 * 0) m.tunnel h.tunnel _ (more_below e most (8192 * 0) had) h.there (tunnels_are x _ h.after) refl
+does_below e x moment ev (move.TookPlain m) most order few had h =
+    old_below e x (most + 8192 * 0) m.tunnel h.tunnel _ (more_below e most (8192 * 0) had) h.there (tunnels_are x _ h.after) refl
+does_below e x moment ev (move.NrRead m) most order few had h =
+    put_below e x (most + 8192 * 1) m.tunnel _ (more_below e most (8192 * 1) had) (tunnels_are x _ h.after)
+    (let le = acked_few h.tunnel.control.channel m.nr moment most (had m.tunnel h.tunnel h.there) (few m.tunnel h.tunnel h.there) in omega arith)
+does_below e x moment ev (move.LetGo m) most order few had h =
+    old_below e x (most + 8192 * 0) m.tunnel h.tunnel _ (more_below e most (8192 * 0) had) h.there (tunnels_are x _ h.after)
+    (goes_acked h.tunnel.control.channel moment)
+does_below e x moment ev (move.Repeated m) most order few had h =
+    old_below e x (most + 8192 * 0) m.tunnel h.tunnel _ (more_below e most (8192 * 0) had) h.there (tunnels_are x _ h.after)
+    (ticked_acked h.tunnel.control.channel moment)
+does_below e x moment ev (move.Quiet k) most order few had h = same_below e x (most + 8192 * 0) (more_below e most (8192 * 0) had) (tunnels_are x _ h.after)
+does_below e x moment ev (move.FrameSent m) most order few had h =
+    same_below e x (most + 8192 * 0) (more_below e most (8192 * 0) had) (tunnels_are x _ h.after)
+does_below e x moment ev (move.FrameUp m) most order few had h =
+    same_below e x (most + 8192 * 0) (more_below e most (8192 * 0) had) (tunnels_are x _ h.after)
+
+-- ---- the letters that are given and taken
+
+pub record IsLive (x : End) (i : ℕ) : Type 0 where
+  pub tunnel : Tunnel
+  pub there : at x.tunnels i ≡ Some tunnel
+
+put_live : (e x : End) (k : ℕ) (u : Tunnel) → x.tunnels ≡ put e.tunnels k u → IsLive x k
+put_live e x k u puts = record { tunnel = u; there = rw puts (at_new e.tunnels k u) }
+
+-- letters are given only to a tunnel that is live then
+does_give : (e x : End) (moment : ℕ) (ev : Event) (m : Move) (d : Deed) (a : Account) → Does e moment ev m x
+    → ((entered_by d m a).given ≡ a.given) ⊎ IsLive x (about m)
+does_give e x moment ev (move.Opened m) d a h = inr (put_live e x m.tunnel _ (tunnels_are x _ h.after))
+does_give e x moment ev (move.Accepted m) d a h = inr (put_live e x m.tunnel _ (tunnels_are x _ h.after))
+does_give e x moment ev (move.Connected m) d a h = inr (put_live e x m.tunnel _ (tunnels_are x _ h.after))
+does_give e x moment ev (move.Confirmed m) d a h = inl refl
+does_give e x moment ev (move.Added m) d a h = inl refl
+does_give e x moment ev (move.Requested m) d a h = inr (put_live e x m.tunnel _ (tunnels_are x _ h.after))
+does_give e x moment ev (move.Replied m) d a h = inr (put_live e x m.tunnel _ (tunnels_are x _ h.after))
+does_give e x moment ev (move.FirstUp m) d a h = inr (put_live e x m.tunnel _ (tunnels_are x _ h.after))
+does_give e x moment ev (move.SecondUp m) d a h = inl refl
+does_give e x moment ev (move.EndTold m) d a h = inr (put_live e x m.tunnel _ (tunnels_are x _ h.after))
+does_give e x moment ev (move.EndHeard m) d a h = inl refl
+does_give e x moment ev (move.EndSilent m) d a h = inl refl
+does_give e x moment ev (move.Cleared k) d a h = inl refl
+does_give e x moment ev (move.Greeted m) d a h = inr (put_live e x m.tunnel _ (tunnels_are x _ h.after))
+does_give e x moment ev (move.TookPlain m) d a h = inl refl
+does_give e x moment ev (move.NrRead m) d a h = inl refl
+does_give e x moment ev (move.LetGo m) d a h = inl refl
+does_give e x moment ev (move.Repeated m) d a h = inl refl
+does_give e x moment ev (move.Quiet k) d a h = inl refl
+does_give e x moment ev (move.FrameSent m) d a h = inl refl
+does_give e x moment ev (move.FrameUp m) d a h = inl refl
+
+-- all letters of a live tunnel are acknowledged or queued
+live_below : (accs : Accounts) (n i : ℕ) (x : End) (top most : ℕ) (t : Tunnel) → LiveOk accs n i (accs n i) t → at x.tunnels i ≡ Some t → AckedBelow x top
+    → top + 8192 ≤ most → length (accs n i).given ≤ most
+live_below accs n i x top most t live there below room =
+    let le = below i t there in let sum = live.counted in let few = live.few in omega arith
+
+pub given_after : (accs : Accounts) (n : ℕ) (e x : End) (sender : Option Sender) (moment : ℕ) (ev : Event) (m : Move) (d : Deed) (top most : ℕ) → d.node ≡ n
+    → d.move ≡ m → Does e moment ev m x → Within (after accs d) n x sender ev → AckedBelow x top → top + 8192 ≤ most → GivenBelow accs most
+    → GivenBelow (after accs d) most
+given_after accs n e x sender moment ev m d top most node is does within below room had k j = ⊎_elim
+    (λ (p : (k ≡ n) × (j ≡ about m)).
+    rw (p.0, p.1) (⊎_elim
+    (λ (same : (entered_by d m (accs n (about m))).given ≡ (accs n (about m)).given).
+    subst (λ (b : Account). length b.given ≤ most) (sym (after_move accs d n m node is)) (rw same (had n (about m))))
+    (λ (l : IsLive x (about m)). live_below (after accs d) n (about m) x top most l.tunnel (within.end.live (about m) l.tunnel l.there) l.there below room)
+    (does_give e x moment ev m d (accs n (about m)) does)))
+    (λ no. rw (after_there accs d k j (λ both. no (both.0 ∙ node, both.1 ∙ ap about is))) (had k j))
+    (here_or_not k n j (about m))
+
+-- no more is taken than is given
+pub taken_below : (accs : Accounts) (a : Account) (most : ℕ) → AreTaken accs a → GivenBelow accs most → length a.taken ≤ most
+taken_below accs a most taken had = by a.taken (λ number t there. taken number t there)
+  where
+    by : (ts : List Taken) → ((number : ℕ) (t : Taken) → slice_get ts number ≡ Some t → IsTaken accs a number t) → length ts ≤ most
+    by [] all = omega arith
+    by (t ∷ ts) all =
+        let k = length ts in
+        let h = all k (get_or (t ∷ ts) k t) (slice_get-get_or (t ∷ ts) k t (omega arith)) in
+        let given = (accs h.partner.node h.partner.tunnel).given in
+        let lt = slice_get_within given k h.letter h.there in
+        let le = had h.partner.node h.partner.tunnel in
+        omega arith
+
+-- ---- before each move
+
+pub has_numbers : (e : End) (top : ℕ) → AckedBelow e top → top + 8192 < 2 ^ 64 → HasNumbers e
+has_numbers e top below room i t there = let le = below i t there in omega (arith, room)
+
+pub has_counts : (accs : Accounts) (n : ℕ) (e : End) (sender : Option Sender) (ev : Event) (most : ℕ) → Within accs n e sender ev → GivenBelow accs most
+    → most + 1 < 2 ^ 64 → HasCounts e
+has_counts accs n e sender ev most within had room i t there =
+    let le = taken_below accs (accs n i) most (within.accounts n i).taken had in
+    let same = (within.end.live i t there).taken in
+    omega (arith, room)
+
+pub few_out : (accs : Accounts) (n : ℕ) (e : End) (sender : Option Sender) (ev : Event) → Within accs n e sender ev → FewOut e
+few_out accs n e sender ev within i t there =
+    let live = within.end.live i t there in let le = live.outstanding in let few = live.few in omega arith
+
+-- what is acknowledged was given
+pub acked_given : (accs : Accounts) (n : ℕ) (e : End) (most : ℕ) → EndOk accs n e → GivenBelow accs most → AckedBelow e most
+acked_given accs n e most ok had i t there = let sum = (ok.live i t there).counted in let le = had n i in omega arith

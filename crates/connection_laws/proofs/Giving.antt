@@ -1,0 +1,428 @@
+-- The moves that take no letter and read no Nr keep what holds.
+use Rattle.std.proofs.Common.{◌≡◌, ⊎_elim, ℕ, ◌+◌, ◌<◌, ◌≤◌, Bool, true, false, cond, List, [], ◌∷◌, length, refl, sym, ap, ◌∙◌, subst, append-nil, Option, Some, None, arith}
+use Rattle.std.proofs.lemmas.Bool.{ltb-true}
+use Rattle.std.specs.Prelude.{◌==◌, ◌&&◌, nat_lt, if◌then◌else◌}
+use Rattle.std.proofs.lemmas.Option.{none-some}
+use Rattle.id_table.specs.Ids.{at, put, without, at-none}
+use Rattle.id_table.specs.Order.{Ascends, ascends-put, found_put, ascends-without, found_without}
+use Rattle.control_message.specs.declared.message.Message.TheVariants.{Hello, Cdn}
+use Rattle.control_channel.specs.Numbers.{Numbers, let_go_at, ticked_at}
+use Rattle.send_window.specs.Window.{may_go, due_at}
+use Rattle.send_window.specs.Congestion.{halved}
+use Rattle.tunnel_fsm.specs.Rows.{state_number}
+use Rattle.call_fsm.specs.declared.table.CallEvent.{CallEvent}
+use Rattle.call_fsm.specs.declared.table.CallEvent.TheVariants as call_event
+use Rattle.protocol_model.specs.declared.event.Event.{Event}
+use Rattle.protocol_model.specs.declared.moves.EndTold.{EndTold}
+use Rattle.protocol_model.specs.declared.moves.Greeted.{Greeted}
+use Rattle.protocol_model.specs.declared.moves.Requested.{Requested}
+use Rattle.protocol_model.specs.declared.moves.Added.{Added}
+use Rattle.protocol_model.specs.declared.moves.EndSilent.{EndSilent}
+use Rattle.protocol_model.specs.declared.moves.LetGo.{LetGo}
+use Rattle.protocol_model.specs.declared.moves.Repeated.{Repeated}
+use Rattle.protocol_model.specs.declared.moves.FrameSent.{FrameSent}
+use Rattle.protocol_model.specs.declared.moves.FrameUp.{FrameUp}
+use Rattle.protocol_model.specs.declared.moves.Move.{Move}
+use Rattle.protocol_model.specs.declared.moves.Move.TheVariants as move
+use Rattle.protocol_model.specs.declared.tunnel.Call.{Call}
+use Rattle.protocol_model.specs.declared.tunnel.CallPlace.{CallPlace}
+use Rattle.protocol_model.specs.declared.tunnel.Role.{Role}
+use Rattle.protocol_model.specs.Names.{calling_number}
+use Rattle.protocol_model.specs.Calls.{advanced, rung}
+use Rattle.protocol_model.specs.Turn.{Tunnel, has_room, request_of}
+use Rattle.protocol_model.specs.End.{End, new_place}
+use Rattle.protocol_model.specs.World.{Sender, Deed, config_of}
+use Rattle.step_laws.specs.Letters.{Letter, letters_of}
+use Rattle.step_laws.specs.Moves.{with_tunnel, with_letter}
+use Rattle.connection_laws.specs.Accounts.{Account, about, entered_by, gives, gives_also}
+use Rattle.connection_laws.specs.Facts.{Accounts, IsNoOpening, IsSpelled, LiveOk, Within}
+use Rattle.connection_laws.proofs.Keeps.{IsDeed, after, IsMoved}
+use Rattle.connection_laws.proofs.Puts.{IsOnly, EndPut}
+use Rattle.connection_laws.proofs.Later.{extends_same, MayEnter, after_move, only_after, same_after}
+use Rattle.connection_laws.proofs.Removed.{removed_keeps}
+use Rattle.connection_laws.proofs.GoingOn.{GoesOn, with_given, goes_on}
+use Rattle.connection_laws.proofs.Written.{request_written, draw_is, next_is}
+
+no_call : (calls : List (ℕ × Call)) (s : ℕ) (c : Call) → at calls s ≡ Some c → calls ≡ [] → ⊥
+no_call calls s c there none = none-some c (sym (at-none s) ∙ subst (λ (cs : List (ℕ × Call)). at cs s ≡ Some c) none there)
+
+-- ---- one letter is given
+
+-- a tunnel that is given a letter, where its calls change too
+abbrev with_one : Letter → List (ℕ × Call) → Tunnel → Tunnel
+with_one l calls t = record (with_letter l.session l.message t) { calls = calls }
+
+-- what a letter and the tunnel that is given it need
+record IsGiven (t : Tunnel) (l : Letter) (calls : List (ℕ × Call)) : Type 0 where
+  spelled : IsSpelled l
+  plain : IsNoOpening l.message
+  room : has_room t.control ≡ true
+  remotes : (s : ℕ) (c : Call) → at calls s ≡ Some c → c.remote < 65536
+  order : Ascends calls
+  busy : state_number t.control.state ≡ 2 → t.calls ≡ [] → ⊥
+
+-- an end in which a tunnel is put, and places of calls change
+abbrev with_places : End → ℕ → Tunnel → List (ℕ × CallPlace) → End
+with_places e i u places = record (with_tunnel e i u) { calls = places }
+
+put_places : (e : End) (i : ℕ) (u : Tunnel) (places : List (ℕ × CallPlace)) → EndPut e (with_places e i u places) i u
+put_places e i u places = record {
+  role = refl;
+  config = refl;
+  tunnels = refl;
+  next = omega arith;
+  last = refl;
+  sessions = omega arith;
+  last_session = refl;
+}
+
+module _ (accs : Accounts) (n : ℕ) (e : End) (sender : Option Sender) (ev : Event) (d : Deed) (within : Within accs n e sender ev) (m : Move)
+    (deed : IsDeed d n e.role sender m) (t : Tunnel) (there : at e.tunnels (about m) ≡ Some t) where
+  live : LiveOk accs n (about m) (accs n (about m)) t
+  live = within.end.live (about m) t there
+
+  one_goes_on : (l : Letter) (calls : List (ℕ × Call)) → IsGiven t l calls → GoesOn t (with_one l calls t) (l ∷ [])
+  one_goes_on l calls h =
+      let lt = ltb-true t.control.channel.window.queued 8192 h.room in
+      let out = live.outstanding in
+      record {
+        local = refl;
+        peer = refl;
+        remote = refl;
+        state = refl;
+        letters = refl;
+        acked = refl;
+        queued = refl;
+        few = omega arith;
+        outstanding = omega arith;
+        taken = refl;
+        calls = h.remotes;
+        order = h.order;
+        waits = λ two none. absurd (h.busy two none);
+      }
+
+  gives_is : gives d ≡ letters_of e.role (config_of n 0) m
+  gives_is = rw (deed.role_is, deed.node_is, deed.move_is) refl
+
+  given_keeps : (l : Letter) (calls : List (ℕ × Call)) (places : List (ℕ × CallPlace)) → MayEnter m (accs n (about m))
+      → entered_by d m (accs n (about m)) ≡ gives_also d (accs n (about m)) → letters_of e.role (config_of n 0) m ≡ l ∷ [] → IsGiven t l calls
+      → Within (after accs d) n (with_places e (about m) (with_one l calls t) places) sender ev
+  given_keeps l calls places may enters one h =
+      let i = about m in
+      goes_on accs (after accs d) n e (with_places e i (with_one l calls t) places) sender ev within i t (with_one l calls t) (l ∷ []) there
+      (one_goes_on l calls h)
+      (only_after accs d n m deed.node_is deed.move_is may)
+      (after_move accs d n m deed.node_is deed.move_is ∙ enters ∙ ap (λ ls. with_given ls (accs n i)) (gives_is ∙ one))
+      (h.spelled, tt) (h.plain, tt)
+      (put_places e i (with_one l calls t) places)
+
+-- the end of a live call is told
+pub end_told_keeps : (accs : Accounts) (n : ℕ) (e x : End) (sender : Option Sender) (moment : ℕ) (ev : Event) (m : EndTold) (d : Deed)
+    → IsMoved accs n e x sender moment ev (move.EndTold m) d → Within (after accs d) n x sender ev
+end_told_keeps accs n e x sender moment ev m d h =
+    let o = h.does in
+    let t = o.tunnel in
+    let live = h.within.end.live m.tunnel t o.there in
+    subst (λ y. Within (after accs d) n y sender ev) (sym o.after)
+    (given_keeps accs n e sender ev d h.within (move.EndTold m) h.deed t o.there
+    (record { tunnel = m.tunnel; place = m.given; session = m.remote; message = Cdn m.session m.code None })
+    (without t.calls m.session) _ tt refl refl
+    (record {
+      spelled = record { written = (o.session, (let code = o.code in omega arith), tt); session = rw o.remote (live.calls m.session o.call o.live) };
+      plain = tt;
+      room = o.room;
+      remotes = λ s c f. live.calls s c (found_without t.calls m.session s c live.order f).1;
+      order = ascends-without m.session t.calls live.order;
+      busy = λ two none. no_call t.calls m.session o.call o.live none;
+    }))
+
+-- a quiet tunnel says that it is there
+pub greeted_keeps : (accs : Accounts) (n : ℕ) (e x : End) (sender : Option Sender) (moment : ℕ) (ev : Event) (m : Greeted) (d : Deed)
+    → IsMoved accs n e x sender moment ev (move.Greeted m) d → Within (after accs d) n x sender ev
+greeted_keeps accs n e x sender moment ev m d h =
+    let o = h.does in
+    let t = o.tunnel in
+    let live = h.within.end.live m.tunnel t o.there in
+    subst (λ y. Within (after accs d) n y sender ev) (sym o.after)
+    (given_keeps accs n e sender ev d h.within (move.Greeted m) h.deed t o.there
+    (record { tunnel = m.tunnel; place = m.given; session = 0; message = Hello }) t.calls e.calls tt refl refl
+    (record {
+      spelled = record { written = tt; session = omega arith };
+      plain = tt;
+      room = o.room;
+      remotes = live.calls;
+      order = live.order;
+      busy = λ two none. let three = o.open_is in absurd (omega (arith, two, three));
+    }))
+
+-- a call that changed, but for its state
+calls_put : (calls : List (ℕ × Call)) (s : ℕ) (k : Call) → ((q : ℕ) (c : Call) → at calls q ≡ Some c → c.remote < 65536) → k.remote < 65536
+    → (q : ℕ) (c : Call) → at (put calls s k) q ≡ Some c → c.remote < 65536
+calls_put calls s k olds fits q c f =
+    ⊎_elim (λ (a : (q ≡ s) × (k ≡ c)). rw (← a.1) fits) (λ a. olds q c a.1) (found_put calls s k q c f)
+
+advanced_remote : (r : Role) (ev : CallEvent) (moment : ℕ) (c : Call) → (advanced r ev moment c).remote ≡ c.remote
+unfolding advanced
+advanced_remote r ev moment c = refl
+
+rung_remote : (r : Role) (port moment : ℕ) → (rung r port moment).remote ≡ 0
+unfolding rung advanced
+rung_remote r port moment = refl
+
+-- a call is asked for
+pub requested_keeps : ((port : ℕ) → length (calling_number port) ≡ 12) → (accs : Accounts) (n : ℕ) (e x : End) (sender : Option Sender) (moment : ℕ)
+    (ev : Event) (m : Requested) (d : Deed) → IsMoved accs n e x sender moment ev (move.Requested m) d → Within (after accs d) n x sender ev
+requested_keeps digits accs n e x sender moment ev m d h =
+    let o = h.does in
+    let t = o.tunnel in
+    let live = h.within.end.live m.tunnel t o.there in
+    let call = advanced e.role call_event.TunnelOpen moment o.call in
+    subst (λ y. Within (after accs d) n y sender ev) (sym o.after)
+    (given_keeps accs n e sender ev d h.within (move.Requested m) h.deed t o.there
+    (record { tunnel = m.tunnel; place = m.given; session = 0; message = request_of m.session m.port }) (put t.calls m.session call) _ tt refl refl
+    (record {
+      spelled = record { written = request_written digits m.session m.port o.session; session = omega arith };
+      plain = tt;
+      room = o.room;
+      remotes = calls_put t.calls m.session call live.calls
+          (rw (advanced_remote e.role call_event.TunnelOpen moment o.call) (live.calls m.session o.call o.waits));
+      order = ascends-put m.session call t.calls live.order;
+      busy = λ two none. let three = o.open_is in absurd (omega (arith, two, three));
+    }))
+
+-- ---- nothing is given
+
+-- what a tunnel whose account stays keeps
+record Stays (t u : Tunnel) : Type 0 where
+  local : u.control.local ≡ t.control.local
+  peer : u.control.peer ≡ t.control.peer
+  remote : u.control.remote ≡ t.control.remote
+  state : u.control.state ≡ t.control.state
+  letters : u.letters ≡ t.letters
+  acked : u.control.channel.window.acked ≡ t.control.channel.window.acked
+  queued : u.control.channel.window.queued ≡ t.control.channel.window.queued
+  outstanding : u.control.channel.window.outstanding ≤ u.control.channel.window.queued
+  taken : u.control.channel.inbox.taken ≡ t.control.channel.inbox.taken
+  calls : (s : ℕ) (c : Call) → at u.calls s ≡ Some c → c.remote < 65536
+  order : Ascends u.calls
+  waits : state_number t.control.state ≡ 2 → t.calls ≡ [] → u.calls ≡ []
+
+only_same : (accs : Accounts) (n i : ℕ) → IsOnly accs accs n i
+only_same accs n i = record { here = extends_same (accs n i); others = λ m j other. refl }
+
+stays_keeps : (accs : Accounts) (n : ℕ) (e x : End) (sender : Option Sender) (ev : Event) → Within accs n e sender ev → (i : ℕ) (t u : Tunnel)
+    → at e.tunnels i ≡ Some t → Stays t u → EndPut e x i u → Within accs n x sender ev
+stays_keeps accs n e x sender ev within i t u there s put_is =
+    let live = within.end.live i t there in
+    let few = live.few in
+    let queued = s.queued in
+    goes_on accs accs n e x sender ev within i t u [] there
+    (record {
+      local = s.local;
+      peer = s.peer;
+      remote = s.remote;
+      state = s.state;
+      letters = s.letters ∙ sym (append-nil t.letters);
+      acked = s.acked;
+      queued = omega (arith, queued);
+      few = omega (arith, queued);
+      outstanding = s.outstanding;
+      taken = s.taken;
+      calls = s.calls;
+      order = s.order;
+      waits = λ two none. (s.waits two none, refl);
+    })
+    (only_same accs n i)
+    (ap (λ ls. record (accs n i) { given = ls }) (sym (append-nil (accs n i).given)))
+    tt tt put_is
+
+-- no account changes in the move
+still : (accs : Accounts) (n : ℕ) (e x : End) (sender : Option Sender) (moment : ℕ) (ev : Event) (m : Move) (d : Deed)
+    → IsMoved accs n e x sender moment ev m d → entered_by d m (accs n (about m)) ≡ accs n (about m) → Within accs n x sender ev
+    → Within (after accs d) n x sender ev
+still accs n e x sender moment ev m d h same w =
+    subst (λ ms. Within ms n x sender ev) (sym (same_after accs d n m h.deed.node_is h.deed.move_is same)) w
+
+-- nothing changes at all
+pub quiet_keeps : (accs : Accounts) (n : ℕ) (e x : End) (sender : Option Sender) (moment : ℕ) (ev : Event) (i : ℕ) (d : Deed)
+    → IsMoved accs n e x sender moment ev (move.Quiet i) d → Within (after accs d) n x sender ev
+quiet_keeps accs n e x sender moment ev i d h =
+    still accs n e x sender moment ev (move.Quiet i) d h refl (subst (λ y. Within accs n y sender ev) (sym h.does.after) h.within)
+
+pub frame_sent_keeps : (accs : Accounts) (n : ℕ) (e x : End) (sender : Option Sender) (moment : ℕ) (ev : Event) (m : FrameSent) (d : Deed)
+    → IsMoved accs n e x sender moment ev (move.FrameSent m) d → Within (after accs d) n x sender ev
+frame_sent_keeps accs n e x sender moment ev m d h =
+    still accs n e x sender moment ev (move.FrameSent m) d h refl (subst (λ y. Within accs n y sender ev) (sym h.does.after) h.within)
+
+pub frame_up_keeps : (accs : Accounts) (n : ℕ) (e x : End) (sender : Option Sender) (moment : ℕ) (ev : Event) (m : FrameUp) (d : Deed)
+    → IsMoved accs n e x sender moment ev (move.FrameUp m) d → Within (after accs d) n x sender ev
+frame_up_keeps accs n e x sender moment ev m d h =
+    still accs n e x sender moment ev (move.FrameUp m) d h refl (subst (λ y. Within accs n y sender ev) (sym h.does.after) h.within)
+
+-- the tunnel isn't there any more
+pub cleared_keeps : (accs : Accounts) (n : ℕ) (e x : End) (sender : Option Sender) (moment : ℕ) (ev : Event) (i : ℕ) (d : Deed)
+    → IsMoved accs n e x sender moment ev (move.Cleared i) d → Within (after accs d) n x sender ev
+cleared_keeps accs n e x sender moment ev i d h =
+    still accs n e x sender moment ev (move.Cleared i) d h refl
+    (subst (λ y. Within accs n y sender ev) (sym h.does.after) (removed_keeps accs n e sender ev h.within i _))
+
+-- ---- its calls change
+
+-- only the calls of a tunnel change
+calls_stay : (t : Tunnel) (calls : List (ℕ × Call)) → t.control.channel.window.outstanding ≤ t.control.channel.window.queued
+    → ((s : ℕ) (c : Call) → at calls s ≡ Some c → c.remote < 65536) → Ascends calls
+    → (state_number t.control.state ≡ 2 → t.calls ≡ [] → calls ≡ []) → Stays t (record t { calls = calls })
+calls_stay t calls out fits order waits = record {
+  local = refl;
+  peer = refl;
+  remote = refl;
+  state = refl;
+  letters = refl;
+  acked = refl;
+  queued = refl;
+  outstanding = out;
+  taken = refl;
+  calls = fits;
+  order = order;
+  waits = waits;
+}
+
+-- a call of which the peer knows nothing ends
+pub end_silent_keeps : (accs : Accounts) (n : ℕ) (e x : End) (sender : Option Sender) (moment : ℕ) (ev : Event) (m : EndSilent) (d : Deed)
+    → IsMoved accs n e x sender moment ev (move.EndSilent m) d → Within (after accs d) n x sender ev
+end_silent_keeps accs n e x sender moment ev m d h =
+    let o = h.does in
+    let t = o.tunnel in
+    let live = h.within.end.live m.tunnel t o.there in
+    still accs n e x sender moment ev (move.EndSilent m) d h refl
+    (subst (λ y. Within accs n y sender ev) (sym o.after)
+    (stays_keeps accs n e _ sender ev h.within m.tunnel t (record t { calls = without t.calls m.session }) o.there
+    (calls_stay t (without t.calls m.session) live.outstanding
+    (λ s c f. live.calls s c (found_without t.calls m.session s c live.order f).1)
+    (ascends-without m.session t.calls live.order)
+    (λ two none. absurd (no_call t.calls m.session o.call o.live none)))
+    (put_places e m.tunnel (record t { calls = without t.calls m.session }) _)))
+
+-- a call is born, over a tunnel that is open or isn't answered yet
+pub added_keeps : (accs : Accounts) (n : ℕ) (e x : End) (sender : Option Sender) (moment : ℕ) (ev : Event) (m : Added) (d : Deed)
+    → IsMoved accs n e x sender moment ev (move.Added m) d → Within (after accs d) n x sender ev
+added_keeps accs n e x sender moment ev m d h =
+    let o = h.does in
+    let t = o.tunnel in
+    let live = h.within.end.live m.tunnel t o.there in
+    let call = rung e.role m.port moment in
+    let u : Tunnel = record t { calls = put t.calls m.session call } in
+    let same = o.after
+    ∙ ap (λ ids. record (with_tunnel e m.tunnel u) { session_ids = ids; calls = put e.calls m.session (new_place m.tunnel) })
+    (next_is e.session_ids m.session o.drawn) in
+    let drawn = draw_is e.session_ids m.session o.drawn in
+    let next = drawn.0 in
+    still accs n e x sender moment ev (move.Added m) d h refl
+    (subst (λ y. Within accs n y sender ev) (sym same)
+    (stays_keeps accs n e _ sender ev h.within m.tunnel t u o.there
+    (calls_stay t (put t.calls m.session call) live.outstanding
+    (calls_put t.calls m.session call live.calls (rw (rung_remote e.role m.port moment) (omega arith)))
+    (ascends-put m.session call t.calls live.order)
+    (λ two none. absurd (⊎_elim
+    (λ (three : state_number t.control.state ≡ 3). omega (arith, two, three))
+    (λ (one : state_number t.control.state ≡ 1). omega (arith, two, one))
+    o.goes)))
+    (record {
+      role = refl;
+      config = refl;
+      tunnels = refl;
+      next = omega arith;
+      last = refl;
+      sessions = omega (arith, next);
+      last_session = refl;
+    })))
+
+-- ---- its window changes
+
+-- the window and the timer of a tunnel's channel change, and neither what is acknowledged nor how many letters there are
+record WindowOnly (c d : Numbers) : Type 0 where
+  acked : d.window.acked ≡ c.window.acked
+  queued : d.window.queued ≡ c.window.queued
+  outstanding : d.window.outstanding ≤ d.window.queued
+  taken : d.inbox.taken ≡ c.inbox.taken
+
+window_stays : (accs : Accounts) (n i : ℕ) (a : Account) (t : Tunnel) (c : Numbers) → LiveOk accs n i a t → WindowOnly t.control.channel c
+    → Stays t (record t { control = record t.control { channel = c } })
+window_stays accs n i a t c live h = record {
+  local = refl;
+  peer = refl;
+  remote = refl;
+  state = refl;
+  letters = refl;
+  acked = h.acked;
+  queued = h.queued;
+  outstanding = h.outstanding;
+  taken = h.taken;
+  calls = live.calls;
+  order = live.order;
+  waits = λ two none. none;
+}
+
+first_holds : (a b : Bool) → (a && b) ≡ true → a ≡ true
+first_holds true b h = refl
+first_holds false b h = h
+
+let_go_only : (c : Numbers) (moment : ℕ) → c.window.outstanding ≤ c.window.queued → WindowOnly c (let_go_at c moment)
+let_go_only c moment le = by c.frozen (may_go c.window) refl
+  where
+    by : (f g : Bool) → may_go c.window ≡ g
+        → WindowOnly c (cond f c (record c {
+          window = cond g (record c.window {
+            outstanding = c.window.outstanding + 1;
+            since = if c.window.outstanding == 0 then moment else c.window.since;
+            repetitions = if c.window.outstanding == 0 then 0 else c.window.repetitions;
+          }) c.window;
+        }))
+    by true g is = record { acked = refl; queued = refl; outstanding = le; taken = refl }
+    by false true is =
+        let lt = ltb-true c.window.outstanding c.window.queued (first_holds _ _ is) in
+        record { acked = refl; queued = refl; outstanding = omega arith; taken = refl }
+    by false false is = record { acked = refl; queued = refl; outstanding = le; taken = refl }
+
+ticked_only : (c : Numbers) (moment : ℕ) → c.window.outstanding ≤ c.window.queued → WindowOnly c (ticked_at c moment)
+ticked_only c moment le = by c.frozen (due_at c.window moment && nat_lt c.window.repetitions 5)
+  where
+    by : (f g : Bool)
+        → WindowOnly c (cond f c (record c {
+          window = cond g (record c.window {
+            congestion = halved c.window.congestion;
+            since = moment;
+            repetitions = c.window.repetitions + 1;
+          }) c.window;
+        }))
+    by true g = record { acked = refl; queued = refl; outstanding = le; taken = refl }
+    by false true = record { acked = refl; queued = refl; outstanding = le; taken = refl }
+    by false false = record { acked = refl; queued = refl; outstanding = le; taken = refl }
+
+window_keeps : (accs : Accounts) (n : ℕ) (e x : End) (sender : Option Sender) (moment : ℕ) (ev : Event) (m : Move) (d : Deed)
+    → IsMoved accs n e x sender moment ev m d → entered_by d m (accs n (about m)) ≡ accs n (about m) → (t : Tunnel) (c : Numbers)
+    → at e.tunnels (about m) ≡ Some t → x ≡ with_tunnel e (about m) (record t { control = record t.control { channel = c } })
+    → (t.control.channel.window.outstanding ≤ t.control.channel.window.queued → WindowOnly t.control.channel c) → Within (after accs d) n x sender ev
+window_keeps accs n e x sender moment ev m d h same t c there is stays =
+    let i = about m in
+    let u : Tunnel = record t { control = record t.control { channel = c } } in
+    let live = h.within.end.live i t there in
+    still accs n e x sender moment ev m d h same
+    (subst (λ y. Within accs n y sender ev) (sym is)
+    (stays_keeps accs n e _ sender ev h.within i t u there (window_stays accs n i (accs n i) t c live (stays live.outstanding)) (put_places e i u e.calls)))
+
+-- a letter is outstanding
+pub let_go_keeps : (accs : Accounts) (n : ℕ) (e x : End) (sender : Option Sender) (moment : ℕ) (ev : Event) (m : LetGo) (d : Deed)
+    → IsMoved accs n e x sender moment ev (move.LetGo m) d → Within (after accs d) n x sender ev
+let_go_keeps accs n e x sender moment ev m d h =
+    let o = h.does in
+    window_keeps accs n e x sender moment ev (move.LetGo m) d h refl o.tunnel (let_go_at o.tunnel.control.channel moment) o.there o.after
+    (let_go_only o.tunnel.control.channel moment)
+
+-- a letter is repeated
+pub repeated_keeps : (accs : Accounts) (n : ℕ) (e x : End) (sender : Option Sender) (moment : ℕ) (ev : Event) (m : Repeated) (d : Deed)
+    → IsMoved accs n e x sender moment ev (move.Repeated m) d → Within (after accs d) n x sender ev
+repeated_keeps accs n e x sender moment ev m d h =
+    let o = h.does in
+    window_keeps accs n e x sender moment ev (move.Repeated m) d h refl o.tunnel (ticked_at o.tunnel.control.channel moment) o.there o.after
+    (ticked_only o.tunnel.control.channel moment)

@@ -1,0 +1,283 @@
+-- A tunnel that takes no letter goes on: it may be given letters, its window and its calls may change.
+use Rattle.std.proofs.Common.{◌≡◌, inl, inr, ⊎_elim, ℕ, ◌+◌, ◌<◌, ◌≤◌, List, [], ◌∷◌, ◌++◌, length, map, drop, refl, sym, ap, ap₂, ◌∙◌, subst, append-nil, Option, Some, arith}
+use Rattle.std.proofs.lemmas.List.{length-append, drop-append-le, map-append}
+use Rattle.std.specs.List.{AllByRecursion}
+use Rattle.id_table.specs.Ids.{at}
+use Rattle.id_table.specs.Order.{Ascends}
+use Rattle.l2tp_header.specs.declared.header.Header.{Header}
+use Rattle.control_message.specs.declared.message.Message.{Message}
+use Rattle.control_message.specs.declared.message.Message.TheVariants.{Sccrq, Sccrp}
+use Rattle.control_message.specs.declared.message.Opening.{Opening}
+use Rattle.tunnel_fsm.specs.Rows.{state_number}
+use Rattle.protocol_model.specs.declared.event.Event.{Event}
+use Rattle.protocol_model.specs.declared.event.Event.TheVariants.{Datagram, Ring, Payload, Lower, OpenTunnel, Tick}
+use Rattle.protocol_model.specs.declared.out.Origin.{Origin}
+use Rattle.protocol_model.specs.declared.out.Origin.TheVariants as origin
+use Rattle.protocol_model.specs.declared.packet.Packet.{Packet}
+use Rattle.protocol_model.specs.declared.tunnel.Call.{Call}
+use Rattle.protocol_model.specs.declared.tunnel.Control.{Control}
+use Rattle.protocol_model.specs.Turn.{Tunnel}
+use Rattle.protocol_model.specs.End.{End}
+use Rattle.protocol_model.specs.World.{Sender}
+use Rattle.step_laws.specs.Letters.{Letter}
+use Rattle.step_laws.specs.Moves.{IsFor}
+use Rattle.connection_laws.specs.Accounts.{Part, Unmade, Opener, Acceptor, Account}
+use Rattle.connection_laws.specs.Facts.{Accounts, IsNoOpening, IsSpelled, BeginsWith, AreJoined, partner_in, IsOpener, IsAcceptor, IsPart, IsMade, AccountOk, kept_letter, IsAnswered, IsInState, AreAcked, LiveOk, AreNear, Comes, Within}
+use Rattle.connection_laws.proofs.Puts.{Extends, IsOnly, NearAt, ComesNear, EndPut}
+use Rattle.connection_laws.proofs.Later.{AllExtend, all_extend, are_acked_later, in_state_later, is_taken_on, live_made, more_given, joined_now}
+use Rattle.connection_laws.proofs.Put.{puts_keep}
+
+all_append : {X : Type 0} (P : X → Type 0) (xs ys : List X) → AllByRecursion P xs → AllByRecursion P ys → AllByRecursion P (xs ++ ys)
+all_append P [] ys h k = k
+all_append P (x ∷ xs) ys h k = (h.0, all_append P xs ys h.1 k)
+
+-- ---- what goes on
+
+-- a tunnel is given these letters, and goes on so
+pub record GoesOn (t u : Tunnel) (more : List Letter) : Type 0 where
+  pub local : u.control.local ≡ t.control.local
+  pub peer : u.control.peer ≡ t.control.peer
+  pub remote : u.control.remote ≡ t.control.remote
+  pub state : u.control.state ≡ t.control.state
+  pub letters : u.letters ≡ t.letters ++ map kept_letter more
+  pub acked : u.control.channel.window.acked ≡ t.control.channel.window.acked
+  pub queued : u.control.channel.window.queued ≡ t.control.channel.window.queued + length more
+  pub few : u.control.channel.window.queued ≤ 8192
+  pub outstanding : u.control.channel.window.outstanding ≤ u.control.channel.window.queued
+  pub taken : u.control.channel.inbox.taken ≡ t.control.channel.inbox.taken
+  pub calls : (s : ℕ) (c : Call) → at u.calls s ≡ Some c → c.remote < 65536
+  pub order : Ascends u.calls
+  -- one that was accepted and isn't connected yet has no call, and is given nothing
+  pub waits : state_number t.control.state ≡ 2 → t.calls ≡ [] → (u.calls ≡ []) × (more ≡ [])
+
+-- the account of a tunnel that is given these letters
+abbrev pub with_given : List Letter → Account → Account
+with_given more a = record a { given = a.given ++ more }
+
+given_extends : (a : Account) (more : List Letter) → Extends a (with_given more a)
+given_extends a more = record { part = inr refl; peer = λ made. refl; remote = inr refl; given = (more, refl); taken = ([], sym (append-nil a.taken)) }
+
+begins_on : (i : ℕ) (says : Opening → Message) (given more : List Letter) → AllByRecursion (λ (l : Letter). IsNoOpening l.message) more
+    → BeginsWith i says given → BeginsWith i says (given ++ more)
+begins_on i says given more plain h = record {
+  first = h.first;
+  rest = h.rest ++ more;
+  are = ap (λ ls. ls ++ more) h.are;
+  opening = h.opening;
+  says_so = h.says_so;
+  id = h.id;
+  later = all_append (λ (l : Letter). IsNoOpening l.message) h.rest more h.later plain;
+}
+
+-- what is unacknowledged or unsent is at most 8,192 letters
+still_few : (given more : List Letter) (acked queued taken : ℕ) → acked + queued ≡ length given → queued + length more ≤ 8192 → acked ≤ taken
+    → length (given ++ more) ≤ taken + 8192
+still_few given more acked queued taken counted few le = rw length-append (omega (arith, counted))
+
+answered_on : (accs : Accounts) (n i : ℕ) (a : Account) (more : List Letter) → IsAnswered accs n i a → IsAnswered accs n i (with_given more a)
+answered_on accs n i a more h = record { acceptor = h.acceptor; part = h.part; peer = h.peer; remote = h.remote }
+
+are_acked_on : (accs : Accounts) (n i : ℕ) (a : Account) (more : List Letter) (acked : ℕ) (p : Part) → AreAcked accs n i a acked p
+    → AreAcked accs n i (with_given more a) acked p
+are_acked_on accs n i a more acked Unmade h = h
+are_acked_on accs n i a more acked Opener h =
+    ((λ unknown. ⊎_elim (λ none. inl none) (λ one. inr (one.0, answered_on accs n i a more one.1)) (h.0 unknown)), h.1)
+are_acked_on accs n i a more acked Acceptor h = h
+
+-- a message for the tunnel as it is was for it as it was
+for_back : (h : Header) (bytes : List ℕ) (c d : Control) → d.local ≡ c.local → d.remote ≡ c.remote → IsFor h bytes d → IsFor h bytes c
+for_back h bytes c d local remote f =
+    ⊎_elim
+    (λ names. inl (names ∙ local))
+    (λ again. inr (record { none = again.none; opening = again.opening; said = again.said; known = sym remote ∙ again.known }))
+    f
+
+module _ (accs ms : Accounts) (n : ℕ) (e x : End) (sender : Option Sender) (ev : Event) (within : Within accs n e sender ev) (i : ℕ) (t u : Tunnel)
+    (more : List Letter) (there : at e.tunnels i ≡ Some t) (g : GoesOn t u more) (only : IsOnly accs ms n i)
+    (is : ms n i ≡ with_given more (accs n i)) (spelled : AllByRecursion IsSpelled more)
+    (plain : AllByRecursion (λ (l : Letter). IsNoOpening l.message) more) (put_is : EndPut e x i u) where
+  abbrev a : Account
+  a = accs n i
+
+  abbrev b : Account
+  b = with_given more a
+
+  -- the partner as it was, and as it is
+  abbrev p : Account
+  p = partner_in accs a
+
+  abbrev q : Account
+  q = partner_in ms a
+
+  ok : AccountOk accs n i a
+  ok = within.accounts n i
+
+  live : LiveOk accs n i a t
+  live = within.end.live i t there
+
+  made : IsMade a
+  made = live_made accs n i a t live
+
+  some : 0 < i
+  some = ok.some made
+
+  grown : AllExtend accs ms
+  grown = all_extend accs ms n i only
+
+  -- the partner isn't this tunnel, where it was made another way
+  partner_stays : (r s : Part) → p.part ≡ r → a.part ≡ s → (r ≡ s → ⊥) → q ≡ p
+  partner_stays r s mate own other =
+      only.others a.peer a.remote (λ both. other (sym mate ∙ ap₂ (λ m j. (accs m j).part) both.0 both.1 ∙ own))
+
+  counted_more : (taken : ℕ) → t.control.channel.window.acked ≤ taken → length b.given ≤ taken + 8192
+  counted_more taken le =
+      let few = g.few in
+      let queued = g.queued in
+      still_few a.given more t.control.channel.window.acked t.control.channel.window.queued taken live.counted (omega (arith, queued)) le
+
+  acked_of : (r : Part) → a.part ≡ r → AreAcked accs n i a t.control.channel.window.acked r
+  acked_of r own = subst (λ r. AreAcked accs n i a t.control.channel.window.acked r) own live.acked
+
+  -- an acceptor that is given a letter has been learned
+  none_given : a.part ≡ Acceptor → (p.remote ≡ i → ⊥) → more ≡ []
+  none_given own apart =
+      ⊎_elim
+      (λ (w : (state_number t.control.state ≡ 2) × (t.calls ≡ [])). (g.waits w.0 w.1).1)
+      (λ is_open. absurd (apart is_open.1))
+      (subst (λ r. IsInState accs i a t r) own live.state)
+
+  opener_on : a.part ≡ Opener → IsOpener accs n i a → IsOpener ms n i b
+  opener_on own h = record {
+    begins = begins_on i Sccrq a.given more plain h.begins;
+    none = h.none;
+    some = h.some;
+    part = λ known. rw (stays known) (h.part known);
+    peer = λ known. rw (stays known) (h.peer known);
+    remote = λ known. rw (stays known) (h.remote known);
+    joined = joined;
+  }
+    where
+      stays : (a.remote ≡ 0 → ⊥) → q ≡ p
+      stays known = partner_stays Acceptor Opener (h.part known) own (λ same. let clash : ⊥ = cc in clash)
+
+      joined : (a.remote ≡ 0 → ⊥) → AreJoined b q
+      joined known =
+          let j = h.joined known in
+          let more_here = more_given a b (given_extends a more) in
+          rw (stays known) (record {
+            here = j.here;
+            there = (let le = j.there in omega arith);
+            few_here = counted_more (length p.taken) ((acked_of Opener own).1 known);
+            few_there = j.few_there;
+          })
+
+  acceptor_on : a.part ≡ Acceptor → IsAcceptor accs n i a → IsAcceptor ms n i b
+  acceptor_on own h =
+      let stays = partner_stays Opener Acceptor h.part own (λ same. let clash : ⊥ = cc in clash) in
+      record {
+        begins = begins_on i Sccrp a.given more plain h.begins;
+        known = h.known;
+        some = h.some;
+        part = rw stays h.part;
+        peer = rw stays h.peer;
+        one_taken = rw stays h.one_taken;
+        one_given = rw stays (λ apart. rw (none_given own apart, append-nil) (h.one_given apart));
+      }
+
+  part_on : (r : Part) → a.part ≡ r → IsPart accs n i a r → IsPart ms n i b r
+  part_on Unmade own h = absurd (made own)
+  part_on Opener own h = opener_on own h
+  part_on Acceptor own h = acceptor_on own h
+
+  account : AccountOk ms n i b
+  account = record {
+    part = part_on a.part refl ok.part;
+    some = ok.some;
+    id = ok.id;
+    node = ok.node;
+    peer = ok.peer;
+    remote = ok.remote;
+    spelled = all_append IsSpelled a.given more ok.spelled spelled;
+    taken = λ number l f. is_taken_on accs ms grown a b (given_extends a more) made number l (ok.taken number l f);
+  }
+
+  stays_joined : b.part ≡ Acceptor → q.remote ≡ i → AreJoined q b
+  stays_joined own named =
+      let h : IsAcceptor accs n i a = subst (λ r. IsPart accs n i a r) own ok.part in
+      let stays = partner_stays Opener Acceptor h.part own (λ same. let clash : ⊥ = cc in clash) in
+      let named_before : p.remote ≡ i = rw (← stays) named in
+      let j = joined_now accs within.accounts n i own named_before in
+      let more_here = more_given a b (given_extends a more) in
+      rw stays (record {
+        here = (let le = j.here in omega arith);
+        there = j.there;
+        few_here = j.few_here;
+        few_there = counted_more (length p.taken) ((acked_of Acceptor own).1 named_before);
+      })
+
+  state_on : (r : Part) → IsInState ms i a t r → IsInState ms i b u r
+  state_on Unmade h = h
+  state_on Opener h = rw g.state h
+  state_on Acceptor h =
+      rw g.state
+      (⊎_elim
+      (λ (w : (state_number t.control.state ≡ 2) × (t.calls ≡ [])). inl (w.0, (g.waits w.0 w.1).0))
+      (λ is_open. inr is_open)
+      h)
+
+  lives : LiveOk ms n i b u
+  lives = record {
+    local = g.local ∙ live.local;
+    peer = g.peer ∙ live.peer;
+    remote = g.remote ∙ live.remote;
+    state = state_on a.part (in_state_later accs ms grown n i some a t a.part live.state);
+    letters = letters;
+    counted = counted;
+    few = g.few;
+    outstanding = g.outstanding;
+    taken = g.taken ∙ live.taken;
+    acked = rw g.acked (are_acked_on ms n i a more acked a.part (are_acked_later accs ms grown n i some a acked a.part live.acked));
+    calls = g.calls;
+    order = g.order;
+  }
+    where
+      acked : ℕ
+      acked = t.control.channel.window.acked
+
+      within_given : acked ≤ length a.given
+      within_given = let c = live.counted in omega arith
+
+      letters : u.letters ≡ map kept_letter (drop u.control.channel.window.acked b.given)
+      letters =
+          rw (g.acked, drop-append-le acked a.given more within_given, map-append)
+          (g.letters ∙ ap (λ ls. ls ++ map kept_letter more) live.letters)
+
+      counted : u.control.channel.window.acked + u.control.channel.window.queued ≡ length b.given
+      counted = let c = live.counted in let k = g.acked in let l = g.queued in rw length-append (omega (arith, c, k, l))
+
+  near_at : (w : Packet) (o : Origin) → AreNear accs n e w o → NearAt ms n i u w o
+  near_at w (origin.Control o) before = λ h peer read f.
+      let k = before i t h there (sym g.peer ∙ peer) read (for_back h w.bytes t.control u.control g.local g.remote f) in
+      record { taken = rw is k.taken; acked = rw g.acked k.acked }
+  near_at w (origin.Data session) before = tt
+
+  near : (v : Event) (c : Comes accs n e sender v) → ComesNear accs n e sender v c ms i u
+  near (Datagram peer bytes) c = near_at c.packet c.packet.origin c.near
+  near (Ring port) c = tt
+  near (Payload s frame) c = tt
+  near (Lower s frame) c = tt
+  near OpenTunnel c = tt
+  near Tick c = tt
+
+  pub goes_on : Within ms n x sender ev
+  goes_on = puts_keep accs ms n e x sender ev i u (record {
+    within = within;
+    only = only;
+    end = put_is;
+    drawn = (let lt = within.end.drawn i made in let le = put_is.next in omega arith);
+    account = rw is account;
+    live = rw is lives;
+    joined = subst (λ c. c.part ≡ Acceptor → (partner_in ms c).remote ≡ i → AreJoined (partner_in ms c) c) (sym is) stays_joined;
+    apart = λ j w f peer remote known. within.end.apart j i w t f there (sym peer ∙ g.peer) (sym remote ∙ g.remote) (λ none. known (remote ∙ none));
+    near = near ev within.comes;
+  })

@@ -1,0 +1,688 @@
+-- What is read of a packet: which tunnel sent it, and what that tunnel and the one that it is for know of each other.
+use Rattle.std.proofs.Common.{◌≡◌, ◌⊎◌, inl, inr, ⊎_elim, ℕ, zero, suc, ◌+◌, ◌<◌, ◌≤◌, true, false, List, [], ◌∷◌, length, refl, sym, ap, ◌∙◌, subst, Option, Some, None, Ok, arith}
+use Rattle.std.proofs.lemmas.Bool.{true≢false}
+use Rattle.std.proofs.lemmas.Option.{slice_get_within}
+use Rattle.std.specs.Prelude.{slice_get, unwrap_or}
+use Rattle.std.specs.List.{AllByRecursion}
+use Rattle.id_table.specs.Ids.{at}
+use Rattle.id_table.specs.Order.{same_or_not}
+use Rattle.l2tp_header.specs.declared.header.Header.{Header}
+use Rattle.l2tp_header.specs.Again.{Carries, control_header}
+use Rattle.l2tp_header.specs.Spelling.{control_bytes, data_bytes}
+use Rattle.l2tp_header.specs.Reading.{header_of}
+use Rattle.avp_codec.specs.Spelling.{spelling}
+use Rattle.control_message.specs.declared.message.Message.{Message}
+use Rattle.control_message.specs.declared.message.Message.TheVariants.{Sccrq, Sccrp}
+use Rattle.control_message.specs.declared.message.Opening.{Opening}
+use Rattle.control_message.specs.Pairs.{pairs_of, IsWritten}
+use Rattle.control_message.specs.Reading.{message_of}
+use Rattle.recv_window.specs.declared.Class.TheVariants.{Next}
+use Rattle.recv_window.specs.Window.{on_wire, class_of, ClassIsTrue}
+use Rattle.protocol_model.specs.declared.event.Event.{Event}
+use Rattle.protocol_model.specs.declared.event.Event.TheVariants.{Datagram, Ring, Payload, Lower, OpenTunnel, Tick}
+use Rattle.protocol_model.specs.declared.out.Origin.{Origin}
+use Rattle.protocol_model.specs.declared.out.Origin.TheVariants as origin
+use Rattle.protocol_model.specs.declared.out.ControlOrigin.{ControlOrigin}
+use Rattle.protocol_model.specs.declared.packet.Packet.{Packet}
+use Rattle.protocol_model.specs.declared.tunnel.Control.{Control}
+use Rattle.protocol_model.specs.Names.{address_of}
+use Rattle.protocol_model.specs.Reading.{body_of, message_in, pairs_read, message_read}
+use Rattle.protocol_model.specs.Turn.{Tunnel}
+use Rattle.protocol_model.specs.End.{End}
+use Rattle.protocol_model.specs.World.{Sender, sender_of}
+use Rattle.step_laws.specs.Letters.{Letter}
+use Rattle.step_laws.specs.Moves.{IsFor, IsAgain, HearsNext, ComesNext, TellsNr}
+use Rattle.frame_laws.specs.Codecs.{Codecs}
+use Rattle.connection_laws.specs.Accounts.{Part, Unmade, Opener, Acceptor, Account}
+use Rattle.connection_laws.specs.Facts.{Accounts, IsMade, IsSpelled, IsNoOpening, BeginsWith, IsPart, IsOpener, IsAcceptor, AreJoined, partner_in, IsAnswered, AreAcked, AccountOk, LiveOk, Says, ALetter, Nothing, IsCopy, IsData, OriginOk, IsNear, AreNear, IsPacket, Comes, Within}
+use Rattle.connection_laws.proofs.Later.{live_made}
+use Rattle.connection_laws.proofs.Numbers.{next_is_expected}
+use Rattle.connection_laws.proofs.Puts.{NearAt, ComesNear}
+
+-- ---- addresses
+
+pub same_address : (m n : ℕ) → address_of m ≡ address_of n → m ≡ n
+unfolding address_of
+same_address m n e = omega arith
+
+-- ---- the packet that comes in a step
+
+pub record PacketAt (accs : Accounts) (n : ℕ) (e : End) (sender : Option Sender) (ev : Event) (comes : Comes accs n e sender ev) (peer : ℕ)
+    (bytes : List ℕ) : Type 0 where
+  pub is : IsPacket accs n e sender peer bytes
+  pub again : (ms : Accounts) (i : ℕ) (u : Tunnel) → NearAt ms n i u is.packet is.packet.origin → ComesNear accs n e sender ev comes ms i u
+
+pub packet_at : (accs : Accounts) (n : ℕ) (e : End) (sender : Option Sender) (ev : Event) (comes : Comes accs n e sender ev) (peer : ℕ) (bytes : List ℕ)
+    → ev ≡ Datagram peer bytes → PacketAt accs n e sender ev comes peer bytes
+packet_at accs n e sender (Datagram q bs) comes peer bytes is =
+    let p : q ≡ peer = cc in
+    let b : bs ≡ bytes = cc in
+    record {
+      is = record {
+        packet = comes.packet;
+        ok = comes.ok;
+        to = comes.to;
+        peer_is = sym p ∙ comes.peer_is;
+        bytes_are = sym b ∙ comes.bytes_are;
+        sender_is = comes.sender_is;
+        near = comes.near;
+      };
+      again = λ ms i u h. h;
+    }
+packet_at accs n e sender (Ring port) comes peer bytes is = absurd cc
+packet_at accs n e sender (Payload s frame) comes peer bytes is = absurd cc
+packet_at accs n e sender (Lower s frame) comes peer bytes is = absurd cc
+packet_at accs n e sender OpenTunnel comes peer bytes is = absurd cc
+packet_at accs n e sender Tick comes peer bytes is = absurd cc
+
+-- ---- what its bytes are read as
+
+-- a control message is a letter of its sender's
+pub record IsLetterRead (b : Account) (o : ControlOrigin) (h : Header) (bytes : List ℕ) : Type 0 where
+  pub letter : Letter
+  pub some : o.empty ≡ false
+  pub there : slice_get b.given o.ns ≡ Some letter
+  pub session : h.session ≡ letter.session
+  pub said : message_in (body_of h bytes) ≡ Ok letter.message
+  pub spelled : IsSpelled letter
+
+-- or none
+pub record IsNoneRead (o : ControlOrigin) (h : Header) (bytes : List ℕ) : Type 0 where
+  pub none : o.empty ≡ true
+  pub body : body_of h bytes ≡ []
+
+pub record CopyRead (b : Account) (o : ControlOrigin) (h : Header) (bytes : List ℕ) : Type 0 where
+  pub tunnel : ((h.tunnel ≡ 0) × (o.nr ≡ 0)) ⊎ ((h.tunnel ≡ 0 → ⊥) × (h.tunnel ≡ b.remote))
+  pub ns : unwrap_or h.ns 0 ≡ on_wire o.ns
+  pub nr : unwrap_or h.nr 0 ≡ on_wire o.nr
+  pub says : IsLetterRead b o h bytes ⊎ IsNoneRead o h bytes
+
+-- ids that a tunnel names have 16 bits
+named_fits : (b : Account) (tunnel nr : ℕ) → b.remote < 65536 → ((tunnel ≡ 0) × (nr ≡ 0)) ⊎ ((tunnel ≡ 0 → ⊥) × (tunnel ≡ b.remote)) → tunnel < 65536
+named_fits b tunnel nr fits named =
+    ⊎_elim (λ (k : (tunnel ≡ 0) × (nr ≡ 0)). let z = k.0 in omega arith) (λ (k : (tunnel ≡ 0 → ⊥) × (tunnel ≡ b.remote)). let z = k.1 in omega arith) named
+
+pub all_at : {X : Type 0} (P : X → Type 0) (xs : List X) (k : ℕ) (x : X) → slice_get xs k ≡ Some x → AllByRecursion P xs → P x
+all_at P [] k x is h = absurd (cc)
+all_at P (y ∷ xs) zero x is h = let e : y ≡ x = cc in subst P e h.0
+all_at P (y ∷ xs) (suc k) x is h = all_at P xs k x is h.1
+
+module _ (codecs : Codecs) where
+  -- the message that was written
+  message_again : (m : Message) → IsWritten m → message_in (spelling (pairs_of m)) ≡ Ok m
+  unfolding message_in pairs_read message_read
+  message_again m w = let both = codecs.message m w in rw (both.0, both.1) refl
+
+  -- no pairs make no message
+  pub no_message : (m : Message) → message_in [] ≡ Ok m → ⊥
+  unfolding message_in pairs_read message_read message_of
+  no_message m h = let none = codecs.pairs [] tt in (let g = rw none at h in cc)
+
+  same_header : (bytes : List ℕ) (h k : Header) (body : List ℕ) → Carries bytes k body → header_of bytes ≡ Ok h → h ≡ k
+  same_header bytes h k body c e = let r = c.reads in cc
+
+  -- of a control message the header and the pairs
+  record ControlRead (tunnel session ns nr : ℕ) (pairs bytes : List ℕ) (h : Header) : Type 0 where
+    pub tunnel_is : h.tunnel ≡ tunnel
+    pub session_is : h.session ≡ session
+    pub ns_is : unwrap_or h.ns 0 ≡ on_wire ns
+    pub nr_is : unwrap_or h.nr 0 ≡ on_wire nr
+    pub body : body_of h bytes ≡ pairs
+
+  control_read : (tunnel session ns nr : ℕ) (pairs bytes : List ℕ) (h : Header) → tunnel < 65536 → session < 65536 → length pairs ≤ 65523
+      → bytes ≡ control_bytes tunnel session (on_wire ns) (on_wire nr) pairs → header_of bytes ≡ Ok h → ControlRead tunnel session ns nr pairs bytes h
+  control_read tunnel session ns nr pairs bytes h t s le are e =
+      let made = control_bytes tunnel session (on_wire ns) (on_wire nr) pairs in
+      let k = control_header tunnel session (on_wire ns) (on_wire nr) (length pairs) in
+      let c = codecs.control tunnel session (on_wire ns) (on_wire nr) pairs t s (omega arith) (omega arith) le in
+      let same : h ≡ k = same_header made h k pairs c (rw are at e) in
+      rw (same, are) (record { tunnel_is = refl; session_is = refl; ns_is = refl; nr_is = refl; body = c.bounds })
+
+  -- a data message is no control message
+  data_read : (bytes : List ℕ) (h : Header) → IsData bytes → header_of bytes ≡ Ok h → h.control ≡ true → ⊥
+  data_read bytes h d e k =
+      let made = data_bytes d.tunnel d.session None d.frame in
+      let c = codecs.frame d.tunnel d.session None d.frame d.tunnel_fits d.session_fits tt in
+      true≢false (sym k ∙ ap (λ (x : Header). x.control) (same_header made h _ _ c (let a = d.are in rw a at e)))
+
+  copy_read : (b : Account) (p : Packet) (o : ControlOrigin) (h : Header) → b.remote < 65536 → AllByRecursion IsSpelled b.given → IsCopy b p o
+      → header_of p.bytes ≡ Ok h → CopyRead b o h p.bytes
+  copy_read b p o h fits spelled copy e = by copy.says
+    where
+      t : copy.tunnel < 65536
+      t = named_fits b copy.tunnel o.nr fits copy.named
+
+      by : Says b o copy.tunnel p.bytes → CopyRead b o h p.bytes
+      by (ALetter l some there are) =
+          let s = all_at IsSpelled b.given o.ns l there spelled in
+          let r = control_read copy.tunnel l.session o.ns o.nr (spelling (pairs_of l.message)) p.bytes h t s.session (codecs.room l.message s.written) are e in
+          record {
+            tunnel = rw r.tunnel_is copy.named;
+            ns = r.ns_is;
+            nr = r.nr_is;
+            says = inl (record {
+              letter = l;
+              some = some;
+              there = there;
+              session = r.session_is;
+              said = rw r.body (message_again l.message s.written);
+              spelled = s;
+            });
+          }
+      by (Nothing none are) =
+          let r = control_read copy.tunnel 0 o.ns o.nr [] p.bytes h t (omega arith) (omega arith) are e in
+          record { tunnel = rw r.tunnel_is copy.named; ns = r.ns_is; nr = r.nr_is; says = inr (record { none = none; body = r.body }) }
+
+-- ---- which tunnels are partners
+
+pub part_cases : (k : Part) → (k ≡ Unmade → ⊥) → (k ≡ Opener) ⊎ (k ≡ Acceptor)
+part_cases Unmade h = absurd (h refl)
+part_cases Opener h = inl refl
+part_cases Acceptor h = inr refl
+
+pub opener_of : (accs : Accounts) (n i : ℕ) (a : Account) → AccountOk accs n i a → a.part ≡ Opener → IsOpener accs n i a
+opener_of accs n i a ok e = subst (IsPart accs n i a) e ok.part
+
+pub acceptor_of : (accs : Accounts) (n i : ℕ) (a : Account) → AccountOk accs n i a → a.part ≡ Acceptor → IsAcceptor accs n i a
+acceptor_of accs n i a ok e = subst (IsPart accs n i a) e ok.part
+
+-- the first letter alone opens or accepts a tunnel
+pub first_only : (i : ℕ) (says : Opening → Message) (given : List Letter) → BeginsWith i says given → (k : ℕ) (l : Letter) → slice_get given k ≡ Some l
+    → (IsNoOpening l.message → ⊥) → (k ≡ 0) × ((opening : Opening) × (l.message ≡ says opening) × (opening.tunnel ≡ i))
+first_only i says given begins k l there opens = by k (let a = begins.are in rw a at there)
+  where
+    by : (k : ℕ) → slice_get (begins.first ∷ begins.rest) k ≡ Some l → (k ≡ 0) × ((opening : Opening) × (l.message ≡ says opening) × (opening.tunnel ≡ i))
+    by zero is =
+        let same : begins.first ≡ l = cc in
+        (refl, (begins.opening, subst (λ (x : Letter). x.message ≡ says begins.opening) same begins.says_so, begins.id))
+    by (suc k) is = absurd (opens (all_at (λ (x : Letter). IsNoOpening x.message) begins.rest k l is begins.later))
+
+-- the account of the tunnel that sent a control message to a tunnel
+abbrev pub sender_in : Accounts → ℕ → ℕ → ControlOrigin → Account
+sender_in accs n i o = accs (accs n i).peer o.tunnel
+
+-- how the two are linked
+pub data Linked (accs : Accounts) (n i : ℕ) (o : ControlOrigin) : Type 0 where
+  FromOpener : (accs n i).part ≡ Acceptor → (accs n i).remote ≡ o.tunnel → (sender_in accs n i o).part ≡ Opener
+      → ((sender_in accs n i o).remote ≡ i) ⊎ ((o.ns ≡ 0) × (o.nr ≡ 0)) → Linked accs n i o
+  FromAcceptor : (accs n i).part ≡ Opener → (sender_in accs n i o).part ≡ Acceptor → (sender_in accs n i o).remote ≡ i
+      → (sender_in accs n i o).peer ≡ n → Linked accs n i o
+
+-- where the message names the tunnel
+link_named : (accs : Accounts) (n i : ℕ) (o : ControlOrigin) → ((m j : ℕ) → AccountOk accs m j (accs m j)) → 0 < i → IsMade (sender_in accs n i o)
+    → (sender_in accs n i o).remote ≡ i → (sender_in accs n i o).peer ≡ n → Linked accs n i o
+link_named accs n i o all some made remote peer =
+    let b = sender_in accs n i o in
+    let ok = all (accs n i).peer o.tunnel in
+    let known = λ (z : b.remote ≡ 0). let no : ⊥ = omega arith in no in
+    let same : partner_in accs b ≡ accs n i = cc in
+    ⊎_elim
+    (λ (k : b.part ≡ Opener).
+    let opener = opener_of accs (accs n i).peer o.tunnel b ok k in
+    FromOpener (sym (ap (λ (x : Account). x.part) same) ∙ opener.part known) (sym (ap (λ (x : Account). x.remote) same) ∙ opener.remote known) k (inl remote))
+    (λ (k : b.part ≡ Acceptor).
+    let acceptor = acceptor_of accs (accs n i).peer o.tunnel b ok k in
+    FromAcceptor (sym (ap (λ (x : Account). x.part) same) ∙ acceptor.part) k remote peer)
+    (part_cases b.part made)
+
+sccrq_opens : (m : Message) (opening : Opening) → m ≡ Sccrq opening → IsNoOpening m → ⊥
+sccrq_opens m opening e h = subst IsNoOpening e h
+
+-- an SCCRQ is the first letter of an opener, and tells its id
+pub sccrq_of : (accs : Accounts) (m j : ℕ) → AccountOk accs m j (accs m j) → IsMade (accs m j) → (k : ℕ) (l : Letter) (opening : Opening)
+    → slice_get (accs m j).given k ≡ Some l → l.message ≡ Sccrq opening → ((accs m j).part ≡ Opener) × (k ≡ 0) × (opening.tunnel ≡ j)
+sccrq_of accs m j ok made k l opening there is =
+    let b = accs m j in
+    ⊎_elim
+    (λ (own : b.part ≡ Opener).
+    let first = first_only j Sccrq b.given (opener_of accs m j b ok own).begins k l there (sccrq_opens l.message opening is) in
+    let says = first.1.1 in
+    let same : opening ≡ first.1.0 = cc in
+    (own, first.0, ap (λ (x : Opening). x.tunnel) same ∙ first.1.2))
+    (λ (own : b.part ≡ Acceptor).
+    let first = first_only j Sccrp b.given (acceptor_of accs m j b ok own).begins k l there (sccrq_opens l.message opening is) in
+    let says = first.1.1 in
+    let no : ⊥ = cc in absurd no)
+    (part_cases b.part made)
+
+-- where it is an SCCRQ that came again
+link_again : (accs : Accounts) (n i : ℕ) (o : ControlOrigin) → ((m j : ℕ) → AccountOk accs m j (accs m j)) → IsMade (accs n i) → IsMade (sender_in accs n i o)
+    → (l : Letter) (opening : Opening) → slice_get (sender_in accs n i o).given o.ns ≡ Some l → l.message ≡ Sccrq opening → (accs n i).remote ≡ opening.tunnel
+    → o.nr ≡ 0 → Linked accs n i o
+link_again accs n i o all here made l opening there is remote nr =
+    let a = accs n i in
+    let b = sender_in accs n i o in
+    let asks = sccrq_of accs a.peer o.tunnel (all a.peer o.tunnel) made o.ns l opening there is in
+    let some = (all a.peer o.tunnel).some made in
+    let told : a.remote ≡ o.tunnel = remote ∙ asks.2 in
+    let known = λ (z : a.remote ≡ 0). let no : ⊥ = omega arith in no in
+    let partner : partner_in accs a ≡ b = ap (λ r. accs a.peer r) told in
+    ⊎_elim
+    (λ (j : a.part ≡ Opener).
+    let part = (opener_of accs n i a (all n i) j).part known in
+    let own = asks.0 in
+    let no : ⊥ = (let p = ap (λ (x : Account). x.part) partner in cc) in absurd no)
+    (λ (j : a.part ≡ Acceptor). FromOpener j told asks.0 (inr (asks.1, nr)))
+    (part_cases a.part here)
+
+-- ---- what a peer's tunnel sent
+
+-- a packet of the peer at an address
+pub record FromPeer (accs : Accounts) (n : ℕ) (e : End) (sender : Option Sender) (ev : Event) (comes : Comes accs n e sender ev) (peer : ℕ) (h : Header)
+    (bytes : List ℕ) : Type 0 where
+  pub packet : Packet
+  pub o : ControlOrigin
+  pub copy : IsCopy (accs packet.from o.tunnel) packet o
+  pub read : CopyRead (accs packet.from o.tunnel) o h bytes
+  pub sender_is : sender ≡ Some (record { node = packet.from; tunnel = o.tunnel })
+  pub from : packet.from < 256
+  pub to : packet.to ≡ n
+  pub peer_is : peer ≡ address_of packet.from
+  pub bytes_are : bytes ≡ packet.bytes
+  pub near : AreNear accs n e packet (origin.Control o)
+  pub again : (ms : Accounts) (j : ℕ) (u : Tunnel) → IsNear (ms n j) u o → ComesNear accs n e sender ev comes ms j u
+
+-- a packet that is a control message
+record IsControl (accs : Accounts) (p : Packet) : Type 0 where
+  o : ControlOrigin
+  is : p.origin ≡ origin.Control o
+  copy : IsCopy (accs p.from o.tunnel) p o
+
+-- a control message with a body is a letter
+pub letter_some : (b : Account) (o : ControlOrigin) (h : Header) (bytes : List ℕ) → CopyRead b o h bytes → (length (body_of h bytes) ≡ 0 → ⊥)
+    → IsLetterRead b o h bytes
+letter_some b o h bytes read some = ⊎_elim
+    (λ (q : IsLetterRead b o h bytes). q)
+    (λ (q : IsNoneRead o h bytes). absurd (some (ap (λ (ls : List ℕ). length ls) q.body)))
+    read.says
+
+module _ (codecs : Codecs) where
+  -- where it says something, it is a letter
+  pub letter_said : (b : Account) (o : ControlOrigin) (h : Header) (bytes : List ℕ) (m : Message) → CopyRead b o h bytes
+      → message_in (body_of h bytes) ≡ Ok m → IsLetterRead b o h bytes
+  letter_said b o h bytes m read said = ⊎_elim
+      (λ (q : IsLetterRead b o h bytes). q)
+      (λ (q : IsNoneRead o h bytes). absurd (no_message codecs m (let s = said in rw q.body at s)))
+      read.says
+
+  control_of : (accs : Accounts) (p : Packet) (h : Header) → header_of p.bytes ≡ Ok h → h.control ≡ true → (g : Origin) → p.origin ≡ g → OriginOk accs p g
+      → IsControl accs p
+  control_of accs p h read control (origin.Control o) is ok = record { o = o; is = is; copy = ok }
+  control_of accs p h read control (origin.Data session) is ok = absurd (data_read codecs p.bytes h ok read control)
+
+  pub from_peer : (accs : Accounts) (n : ℕ) (e : End) (sender : Option Sender) (ev : Event) (within : Within accs n e sender ev) (peer : ℕ) (h : Header)
+      (bytes : List ℕ) → ev ≡ Datagram peer bytes → header_of bytes ≡ Ok h → h.control ≡ true
+      → FromPeer accs n e sender ev within.comes peer h bytes
+  from_peer accs n e sender ev within peer h bytes is reads control =
+      let at_peer = packet_at accs n e sender ev within.comes peer bytes is in
+      let p = at_peer.is.packet in
+      let read : header_of p.bytes ≡ Ok h = (let r = reads in rw at_peer.is.bytes_are at r) in
+      let c = control_of accs p h read control p.origin refl at_peer.is.ok.sent in
+      let o = c.o in
+      let ok = within.accounts p.from o.tunnel in
+      record {
+        packet = p;
+        o = o;
+        copy = c.copy;
+        read = subst (λ (bs : List ℕ). CopyRead (accs p.from o.tunnel) o h bs) (sym at_peer.is.bytes_are)
+            (copy_read codecs (accs p.from o.tunnel) p o h ok.remote ok.spelled c.copy read);
+        sender_is = at_peer.is.sender_is ∙ ap (λ (g : Origin). sender_of p.from g) c.is;
+        from = at_peer.is.ok.from;
+        to = at_peer.is.to;
+        peer_is = at_peer.is.peer_is;
+        bytes_are = at_peer.is.bytes_are;
+        near = subst (λ (g : Origin). AreNear accs n e p g) c.is at_peer.is.near;
+        again = λ ms j u near. at_peer.again ms j u (subst (λ (g : Origin). NearAt ms n j u p g) (sym c.is) (λ x q r s. near));
+      }
+
+-- ---- what a live tunnel hears
+
+-- a control message of the tunnel's peer that is for the tunnel
+pub record IsHeard (ev : Event) (c : Control) (h : Header) (bytes : List ℕ) : Type 0 where
+  pub is : ev ≡ Datagram c.peer bytes
+  pub read : header_of bytes ≡ Ok h
+  pub control : h.control ≡ true
+  pub tunnel : IsFor h bytes c
+
+pub heard_of : (ev : Event) (c : Control) (session : ℕ) (m : Message) (k : HearsNext ev c session m) → IsHeard ev c k.hears.header k.hears.bytes
+heard_of ev c session m k = record { is = k.hears.is; read = k.hears.read; control = k.hears.control; tunnel = k.tunnel }
+
+pub heard_next : (ev : Event) (c : Control) (k : ComesNext ev c) → IsHeard ev c k.header k.bytes
+heard_next ev c k = record { is = k.is; read = k.read; control = k.control; tunnel = k.tunnel }
+
+pub heard_nr : (ev : Event) (c : Control) (nr : ℕ) (k : TellsNr ev c nr) → IsHeard ev c k.header k.bytes
+heard_nr ev c nr k = record { is = k.is; read = k.read; control = k.control; tunnel = k.tunnel }
+
+-- it is a control message of a tunnel of the peer's
+pub record Heard (accs : Accounts) (n : ℕ) (e : End) (sender : Option Sender) (ev : Event) (comes : Comes accs n e sender ev) (i : ℕ) (t : Tunnel)
+    (h : Header) (bytes : List ℕ) : Type 0 where
+  pub o : ControlOrigin
+  pub made : IsMade (sender_in accs n i o)
+  pub nr : o.nr ≤ length (sender_in accs n i o).taken
+  pub sender_is : sender ≡ Some (record { node = (accs n i).peer; tunnel = o.tunnel })
+  pub near : IsNear (accs n i) t o
+  pub read : CopyRead (sender_in accs n i o) o h bytes
+  pub linked : Linked accs n i o
+  pub again : (ms : Accounts) (j : ℕ) (u : Tunnel) → IsNear (ms n j) u o → ComesNear accs n e sender ev comes ms j u
+
+module _ (codecs : Codecs) where
+  -- how the tunnel and the packet's sender are linked
+  link_of : (accs : Accounts) (n i : ℕ) (t : Tunnel) (o : ControlOrigin) (h : Header) (bytes : List ℕ) → ((m j : ℕ) → AccountOk accs m j (accs m j))
+      → LiveOk accs n i (accs n i) t → IsMade (sender_in accs n i o) → (sender_in accs n i o).peer ≡ n → CopyRead (sender_in accs n i o) o h bytes
+      → IsFor h bytes t.control → Linked accs n i o
+  link_of accs n i t o h bytes all live made peer read is_for =
+      let here = live_made accs n i (accs n i) t live in
+      let some = (all n i).some here in
+      let b = sender_in accs n i o in
+      ⊎_elim
+      (λ (k : h.tunnel ≡ t.control.local).
+      let local = live.local in
+      ⊎_elim
+      (λ (q : (h.tunnel ≡ 0) × (o.nr ≡ 0)). let z = q.0 in let no : ⊥ = omega arith in absurd no)
+      (λ (q : (h.tunnel ≡ 0 → ⊥) × (h.tunnel ≡ b.remote)). link_named accs n i o all some made (sym q.1 ∙ k ∙ local) peer)
+      read.tunnel)
+      (λ (k : IsAgain h bytes t.control).
+      let nr : o.nr ≡ 0 = ⊎_elim
+      (λ (q : (h.tunnel ≡ 0) × (o.nr ≡ 0)). q.1)
+      (λ (q : (h.tunnel ≡ 0 → ⊥) × (h.tunnel ≡ b.remote)). absurd (q.0 k.none))
+      read.tunnel in
+      ⊎_elim
+      (λ (q : IsLetterRead b o h bytes).
+      let said = q.said in
+      let asked = k.said in
+      let is : q.letter.message ≡ Sccrq k.opening = cc in
+      link_again accs n i o all here made q.letter k.opening q.there is (sym live.remote ∙ k.known) nr)
+      (λ (q : IsNoneRead o h bytes). absurd (no_message codecs (Sccrq k.opening) (let s = k.said in rw q.body at s)))
+      read.says)
+      is_for
+
+  pub heard : (accs : Accounts) (n : ℕ) (e : End) (sender : Option Sender) (ev : Event) (within : Within accs n e sender ev) (i : ℕ) (t : Tunnel)
+      → at e.tunnels i ≡ Some t → (h : Header) (bytes : List ℕ) → IsHeard ev t.control h bytes → Heard accs n e sender ev within.comes i t h bytes
+  heard accs n e sender ev within i t there h bytes hears =
+      let live = within.end.live i t there in
+      let f = from_peer codecs accs n e sender ev within t.control.peer h bytes hears.is hears.read hears.control in
+      let p = f.packet in
+      let o = f.o in
+      let from : p.from ≡ (accs n i).peer = same_address p.from (accs n i).peer (sym f.peer_is ∙ live.peer) in
+      let read : header_of p.bytes ≡ Ok h = (let r = hears.read in rw f.bytes_are at r) in
+      let copy : IsCopy (sender_in accs n i o) p o = subst (λ (q : ℕ). IsCopy (accs q o.tunnel) p o) from f.copy in
+      let said : CopyRead (sender_in accs n i o) o h bytes = subst (λ (q : ℕ). CopyRead (accs q o.tunnel) o h bytes) from f.read in
+      record {
+        o = o;
+        made = copy.made;
+        nr = copy.nr;
+        sender_is = f.sender_is ∙ ap (λ (q : ℕ). Some (record { node = q; tunnel = o.tunnel })) from;
+        near = f.near i t h there f.peer_is read (subst (λ (bs : List ℕ). IsFor h bs t.control) f.bytes_are hears.tunnel);
+        read = said;
+        linked = link_of accs n i t o h bytes within.accounts live copy.made (sym copy.to ∙ f.to) said hears.tunnel;
+        again = f.again;
+      }
+
+-- ---- two tunnels that have learned each other
+
+abbrev pub IsPaired : Accounts → ℕ → ℕ → Type 0
+IsPaired accs n i =
+    (((accs n i).part ≡ Opener) × ((accs n i).remote ≡ 0 → ⊥)) ⊎ (((accs n i).part ≡ Acceptor) × ((partner_in accs (accs n i)).remote ≡ i))
+
+pub swap_joined : (a b : Account) → AreJoined a b → AreJoined b a
+swap_joined a b h = record { here = h.there; there = h.here; few_here = h.few_there; few_there = h.few_here }
+
+acceptor_made : (a : Account) → a.part ≡ Acceptor → IsMade a
+acceptor_made a e z = cc
+
+-- an acceptor that its opener has learned is that one's partner
+partner_back : (accs : Accounts) (n i : ℕ) → IsAcceptor accs n i (accs n i) → (partner_in accs (accs n i)).remote ≡ i
+    → partner_in accs (partner_in accs (accs n i)) ≡ accs n i
+partner_back accs n i acceptor chosen = let p = acceptor.peer in cc
+
+pub joined_pair : (accs : Accounts) (n i : ℕ) → ((m j : ℕ) → AccountOk accs m j (accs m j)) → IsPaired accs n i
+    → AreJoined (accs n i) (partner_in accs (accs n i))
+joined_pair accs n i all pair =
+    let a = accs n i in
+    ⊎_elim
+    (λ (k : (a.part ≡ Opener) × (a.remote ≡ 0 → ⊥)). (opener_of accs n i a (all n i) k.0).joined k.1)
+    (λ (k : (a.part ≡ Acceptor) × ((partner_in accs a).remote ≡ i)).
+    let acceptor = acceptor_of accs n i a (all n i) k.0 in
+    let some = (all n i).some (acceptor_made a k.0) in
+    let b = partner_in accs a in
+    let opener = opener_of accs a.peer a.remote b (all a.peer a.remote) acceptor.part in
+    let known = λ (z : b.remote ≡ 0). let c = k.1 in let no : ⊥ = omega arith in no in
+    let same = partner_back accs n i acceptor k.1 in
+    swap_joined b a (subst (λ (x : Account). AreJoined b x) same (opener.joined known)))
+    pair
+
+-- ---- the next letter
+
+-- what a tunnel takes is of the tunnel that it has learned, which has learned it, or it is the SCCRP of an acceptor of its
+-- SCCRQ
+pub data TakesOf (accs : Accounts) (n i : ℕ) (o : ControlOrigin) (l : Letter) : Type 0 where
+  OfPartner : IsPaired accs n i → (accs n i).remote ≡ o.tunnel → TakesOf accs n i o l
+  OfFirst : (accs n i).part ≡ Opener → (accs n i).remote ≡ 0 → (accs n i).taken ≡ [] → (sender_in accs n i o).part ≡ Acceptor
+      → (sender_in accs n i o).remote ≡ i → (sender_in accs n i o).peer ≡ n → (opening : Opening) → l.message ≡ Sccrp opening
+      → opening.tunnel ≡ o.tunnel → TakesOf accs n i o l
+
+pub record HeardNext (accs : Accounts) (n i : ℕ) (o : ControlOrigin) (h : Header) (bytes : List ℕ) : Type 0 where
+  pub letter : Letter
+  pub there : slice_get (sender_in accs n i o).given (length (accs n i).taken) ≡ Some letter
+  pub number : o.ns ≡ length (accs n i).taken
+  pub session : h.session ≡ letter.session
+  pub said : message_in (body_of h bytes) ≡ Ok letter.message
+  pub spelled : IsSpelled letter
+  pub of : TakesOf accs n i o letter
+
+first_is : (i : ℕ) (says : Opening → Message) (given : List Letter) → BeginsWith i says given → (l : Letter) → slice_get given 0 ≡ Some l
+    → (opening : Opening) × (l.message ≡ says opening) × (opening.tunnel ≡ i)
+first_is i says given begins l there =
+    let is : slice_get (begins.first ∷ begins.rest) 0 ≡ Some l = (let a = begins.are in rw a at there) in
+    let same : begins.first ≡ l = cc in
+    (begins.opening, subst (λ (x : Letter). x.message ≡ says begins.opening) same begins.says_so, begins.id)
+
+-- a tunnel that names its partner isn't chosen by it, where that one has learned another id, or none
+pub not_chosen : (accs : Accounts) (n i : ℕ) (o : ControlOrigin) → (sender_in accs n i o).remote ≡ i → (sender_in accs n i o).peer ≡ n
+    → ((accs n i).remote ≡ o.tunnel → ⊥) → (partner_in accs (sender_in accs n i o)).remote ≡ o.tunnel → ⊥
+not_chosen accs n i o remote peer apart chosen =
+    let b = sender_in accs n i o in
+    let same : partner_in accs b ≡ accs n i = cc in
+    apart (sym (ap (λ (x : Account). x.remote) same) ∙ chosen)
+
+none_or_one : {X : Type 0} (k : ℕ) → k ≤ 1 → X → (k ≡ 0) ⊎ ((k ≡ 1) × X)
+none_or_one k le x = ⊎_elim (λ (z : k ≡ 0). inl z) (λ (z : k ≡ 0 → ⊥). inr (omega arith, x)) (same_or_not k 0)
+
+module _ (classes : ClassIsTrue) (accs : Accounts) (n : ℕ) (e : End) (sender : Option Sender) (ev : Event) (within : Within accs n e sender ev)
+    (i : ℕ) (t : Tunnel) (there : at e.tunnels i ≡ Some t) (h : Header) (bytes : List ℕ) (k : Heard accs n e sender ev within.comes i t h bytes) where
+  same_partner : (accs n i).remote ≡ k.o.tunnel → partner_in accs (accs n i) ≡ sender_in accs n i k.o
+  same_partner told = ap (λ (r : ℕ). accs (accs n i).peer r) told
+
+  -- an opener that has learned the sender, or an acceptor that the sender has learned, is its pair
+  opener_paired : (accs n i).part ≡ Opener → (accs n i).remote ≡ k.o.tunnel → IsPaired accs n i
+  opener_paired here told =
+      let from = (within.accounts (accs n i).peer k.o.tunnel).some k.made in
+      inl (here, λ z. let no : ⊥ = omega arith in no)
+
+  acceptor_paired : (accs n i).part ≡ Acceptor → (accs n i).remote ≡ k.o.tunnel → (sender_in accs n i k.o).remote ≡ i → IsPaired accs n i
+  acceptor_paired here told chosen = inr (here, ap (λ (x : Account). x.remote) (same_partner told) ∙ chosen)
+
+  -- an acceptor that isn't learned took one letter, and gave one
+  acceptor_alone : (sender_in accs n i k.o).part ≡ Acceptor → (sender_in accs n i k.o).remote ≡ i → (sender_in accs n i k.o).peer ≡ n
+      → ((accs n i).remote ≡ k.o.tunnel → ⊥) → (length (sender_in accs n i k.o).taken ≡ 1) × (length (sender_in accs n i k.o).given ≡ 1)
+  acceptor_alone part remote peer apart =
+      let acceptor = acceptor_of accs (accs n i).peer k.o.tunnel (sender_in accs n i k.o) (within.accounts (accs n i).peer k.o.tunnel) part in
+      let no = not_chosen accs n i k.o remote peer apart in
+      (acceptor.one_taken no, acceptor.one_given no)
+
+  -- ---- Ns
+
+  few_of_pair : IsPaired accs n i → (accs n i).remote ≡ k.o.tunnel → IsLetterRead (sender_in accs n i k.o) k.o h bytes
+      → k.o.ns ≤ length (accs n i).taken + 8192
+  few_of_pair pair told q =
+      let joined = joined_pair accs n i within.accounts pair in
+      let few = joined.few_there in
+      let more : length (sender_in accs n i k.o).given ≤ length (accs n i).taken + 8192 = rw (same_partner told) at few in
+      let bound = slice_get_within (sender_in accs n i k.o).given k.o.ns q.letter q.there in
+      omega arith
+
+  -- no letter is far ahead of those that were taken
+  pub ns_few : IsLetterRead (sender_in accs n i k.o) k.o h bytes → k.o.ns ≤ length (accs n i).taken + 8192
+  ns_few q = by k.linked
+    where
+      by : Linked accs n i k.o → k.o.ns ≤ length (accs n i).taken + 8192
+      by (FromOpener here told part which) =
+          ⊎_elim
+          (λ (chosen : (sender_in accs n i k.o).remote ≡ i). few_of_pair (acceptor_paired here told chosen) told q)
+          (λ (z : (k.o.ns ≡ 0) × (k.o.nr ≡ 0)). let first = z.0 in omega arith)
+          which
+      by (FromAcceptor here part remote peer) =
+          ⊎_elim
+          (λ (told : (accs n i).remote ≡ k.o.tunnel). few_of_pair (opener_paired here told) told q)
+          (λ (apart : (accs n i).remote ≡ k.o.tunnel → ⊥).
+          let one = (acceptor_alone part remote peer apart).1 in
+          let bound = slice_get_within (sender_in accs n i k.o).given k.o.ns q.letter q.there in
+          omega arith)
+          (same_or_not (accs n i).remote k.o.tunnel)
+
+  -- the number of the next one is how many were taken
+  number_is : class_of (unwrap_or h.ns 0) t.control.channel.inbox ≡ Next → k.o.ns ≤ length (accs n i).taken + 8192 → k.o.ns ≡ length (accs n i).taken
+  number_is next few =
+      let live = within.end.live i t there in
+      let taken = live.taken in
+      let near = k.near.taken in
+      next_is_expected classes k.o.ns t.control.channel.inbox (omega arith) (omega arith) (let r = k.read.ns in rw r at next) ∙ taken
+
+  -- of an acceptor that the opener hasn't learned it is the first letter of all
+  first_of : k.o.ns ≡ length (accs n i).taken → (accs n i).part ≡ Opener → (sender_in accs n i k.o).part ≡ Acceptor
+      → (sender_in accs n i k.o).remote ≡ i → (sender_in accs n i k.o).peer ≡ n → ((accs n i).remote ≡ k.o.tunnel → ⊥) → (l : Letter)
+      → slice_get (sender_in accs n i k.o).given k.o.ns ≡ Some l → TakesOf accs n i k.o l
+  first_of number here part remote peer apart l x =
+      let a = accs n i in
+      let b = sender_in accs n i k.o in
+      let opener = opener_of accs n i a (within.accounts n i) here in
+      let one = (acceptor_alone part remote peer apart).1 in
+      let bound = slice_get_within b.given k.o.ns l x in
+      let zeroth : k.o.ns ≡ 0 = omega arith in
+      let acceptor = acceptor_of accs a.peer k.o.tunnel b (within.accounts a.peer k.o.tunnel) part in
+      ⊎_elim
+      (λ (z : a.remote ≡ 0).
+      let first = first_is k.o.tunnel Sccrp b.given acceptor.begins l (subst (λ (p : ℕ). slice_get b.given p ≡ Some l) zeroth x) in
+      OfFirst here z (opener.none z) part remote peer first.0 first.1 first.2)
+      (λ (z : a.remote ≡ 0 → ⊥). let some = opener.some z in let no : ⊥ = omega arith in absurd no)
+      (same_or_not a.remote 0)
+
+  takes_of : k.o.ns ≡ length (accs n i).taken → (l : Letter) → slice_get (sender_in accs n i k.o).given k.o.ns ≡ Some l → TakesOf accs n i k.o l
+  takes_of number l x = by k.linked
+    where
+      by : Linked accs n i k.o → TakesOf accs n i k.o l
+      by (FromOpener here told part which) =
+          ⊎_elim
+          (λ (chosen : (sender_in accs n i k.o).remote ≡ i). OfPartner (acceptor_paired here told chosen) told)
+          (λ (z : (k.o.ns ≡ 0) × (k.o.nr ≡ 0)).
+          let some = (acceptor_of accs n i (accs n i) (within.accounts n i) here).some in
+          let first = z.0 in
+          let no : ⊥ = omega arith in absurd no)
+          which
+      by (FromAcceptor here part remote peer) =
+          ⊎_elim
+          (λ (told : (accs n i).remote ≡ k.o.tunnel). OfPartner (opener_paired here told) told)
+          (λ (apart : (accs n i).remote ≡ k.o.tunnel → ⊥). first_of number here part remote peer apart l x)
+          (same_or_not (accs n i).remote k.o.tunnel)
+
+  pub next_heard : IsLetterRead (sender_in accs n i k.o) k.o h bytes → class_of (unwrap_or h.ns 0) t.control.channel.inbox ≡ Next
+      → HeardNext accs n i k.o h bytes
+  next_heard q next =
+      let number = number_is next (ns_few q) in
+      record {
+        letter = q.letter;
+        there = subst (λ (p : ℕ). slice_get (sender_in accs n i k.o).given p ≡ Some q.letter) number q.there;
+        number = number;
+        session = q.session;
+        said = q.said;
+        spelled = q.spelled;
+        of = takes_of number q.letter q.there;
+      }
+
+  -- ---- Nr
+
+  nr_of_pair : IsPaired accs n i → (accs n i).remote ≡ k.o.tunnel → k.o.nr ≤ length (accs n i).given
+  nr_of_pair pair told =
+      let joined = joined_pair accs n i within.accounts pair in
+      let some = joined.there in
+      let more : length (sender_in accs n i k.o).taken ≤ length (accs n i).given = rw (same_partner told) at some in
+      let nr = k.nr in
+      omega arith
+
+  -- it tells no more letters than were given
+  pub nr_few : k.o.nr ≤ length (accs n i).given
+  nr_few = by k.linked
+    where
+      by : Linked accs n i k.o → k.o.nr ≤ length (accs n i).given
+      by (FromOpener here told part which) =
+          ⊎_elim
+          (λ (chosen : (sender_in accs n i k.o).remote ≡ i). nr_of_pair (acceptor_paired here told chosen) told)
+          (λ (z : (k.o.ns ≡ 0) × (k.o.nr ≡ 0)). let none = z.1 in omega arith)
+          which
+      by (FromAcceptor here part remote peer) =
+          ⊎_elim
+          (λ (told : (accs n i).remote ≡ k.o.tunnel). nr_of_pair (opener_paired here told) told)
+          (λ (apart : (accs n i).remote ≡ k.o.tunnel → ⊥).
+          let one = (acceptor_alone part remote peer apart).0 in
+          let begins = (opener_of accs n i (accs n i) (within.accounts n i) here).begins in
+          let first = ap (λ (ls : List Letter). length ls) begins.are in
+          let nr = k.nr in
+          omega arith)
+          (same_or_not (accs n i).remote k.o.tunnel)
+
+  -- and letters that were taken
+  pub nr_taken : AreAcked accs n i (accs n i) k.o.nr (accs n i).part
+  nr_taken = by k.linked
+    where
+      by : Linked accs n i k.o → AreAcked accs n i (accs n i) k.o.nr (accs n i).part
+      by (FromOpener here told part which) =
+          let nr = k.nr in
+          let same = same_partner told in
+          let most : k.o.nr ≤ length (partner_in accs (accs n i)).taken = rw same nr in
+          let none = λ (apart : (partner_in accs (accs n i)).remote ≡ i → ⊥).
+          ⊎_elim
+          (λ (chosen : (sender_in accs n i k.o).remote ≡ i). absurd (apart (ap (λ (x : Account). x.remote) same ∙ chosen)))
+          (λ (z : (k.o.ns ≡ 0) × (k.o.nr ≡ 0)). z.1)
+          which in
+          subst (AreAcked accs n i (accs n i) k.o.nr) (sym here) (none, λ c. most)
+      by (FromAcceptor here part remote peer) =
+          let nr = k.nr in
+          ⊎_elim
+          (λ (told : (accs n i).remote ≡ k.o.tunnel).
+          let most : k.o.nr ≤ length (partner_in accs (accs n i)).taken = rw (same_partner told) nr in
+          let from = (within.accounts (accs n i).peer k.o.tunnel).some k.made in
+          subst (AreAcked accs n i (accs n i) k.o.nr) (sym here) (λ z. (let no : ⊥ = omega arith in absurd no), λ z. most))
+          (λ (apart : (accs n i).remote ≡ k.o.tunnel → ⊥).
+          let one = (acceptor_alone part remote peer apart).0 in
+          let answered : IsAnswered accs n i (accs n i) = record { acceptor = k.o.tunnel; part = part; peer = peer; remote = remote } in
+          let opener = opener_of accs n i (accs n i) (within.accounts n i) here in
+          subst (AreAcked accs n i (accs n i) k.o.nr) (sym here) (
+            λ z. none_or_one k.o.nr (omega arith) answered,
+            λ z.
+                let mate = within.accounts (accs n i).peer (accs n i).remote in
+                let taken = (acceptor_of accs (accs n i).peer (accs n i).remote (partner_in accs (accs n i)) mate (opener.part z)).some in
+                omega arith,
+          ))
+          (same_or_not (accs n i).remote k.o.tunnel)
+
+-- ---- a letter that is the next one, with what it says
+
+pub record Said (accs : Accounts) (n : ℕ) (e : End) (sender : Option Sender) (ev : Event) (comes : Comes accs n e sender ev) (i : ℕ) (t : Tunnel) (h : Header)
+    (bytes : List ℕ) (session : ℕ) (m : Message) : Type 0 where
+  pub heard : Heard accs n e sender ev comes i t h bytes
+  pub next : HeardNext accs n i heard.o h bytes
+  pub message : next.letter.message ≡ m
+  pub session_is : next.letter.session ≡ session
+
+pub said_so : Codecs → ClassIsTrue → (accs : Accounts) (n : ℕ) (e : End) (sender : Option Sender) (ev : Event) (within : Within accs n e sender ev) (i : ℕ)
+    (t : Tunnel) → at e.tunnels i ≡ Some t → (session : ℕ) (m : Message) (k : HearsNext ev t.control session m)
+    → Said accs n e sender ev within.comes i t k.hears.header k.hears.bytes session m
+said_so codecs classes accs n e sender ev within i t there session m k =
+    let h = k.hears.header in
+    let bytes = k.hears.bytes in
+    let from = heard codecs accs n e sender ev within i t there h bytes (heard_of ev t.control session m k) in
+    let next = next_heard classes accs n e sender ev within i t there h bytes from
+    (letter_said codecs (sender_in accs n i from.o) from.o h bytes m from.read k.hears.said) k.next in
+    let was = next.said in
+    let is = k.hears.said in
+    record { heard = from; next = next; message = cc; session_is = sym next.session ∙ k.hears.session_is }

@@ -1,0 +1,432 @@
+-- What is known of tunnels goes on to hold where more is known of them.
+use Rattle.std.proofs.Common.{◌≡◌, ◌⊎◌, inl, inr, ⊎_elim, ℕ, zero, suc, ◌<◌, ◌≤◌, List, [], ◌∷◌, ◌++◌, length, slice_get, refl, sym, ap, ap₂, ◌∙◌, subst, append_assoc, append-nil, Some, arith, eq-eqb, ne_eqb}
+use Rattle.std.proofs.lemmas.List.{length-append}
+use mathlib.Core.Path.{fun_ext}
+use Rattle.id_table.specs.Order.{same_or_not}
+use Rattle.protocol_model.specs.declared.packet.Packet.{Packet}
+use Rattle.protocol_model.specs.declared.out.Origin.{Origin}
+use Rattle.protocol_model.specs.declared.out.Origin.TheVariants as origin
+use Rattle.protocol_model.specs.declared.out.ControlOrigin.{ControlOrigin}
+use Rattle.protocol_model.specs.declared.moves.Place.{Place}
+use Rattle.protocol_model.specs.declared.moves.Move.{Move}
+use Rattle.protocol_model.specs.declared.moves.Move.TheVariants as move
+use Rattle.protocol_model.specs.Turn.{Tunnel}
+use Rattle.protocol_model.specs.World.{Sender, Deed}
+use Rattle.step_laws.specs.Letters.{Letter}
+use Rattle.connection_laws.specs.Accounts.{Part, Unmade, Opener, Acceptor, Taken, Account, partner_of, about, entered, entered_by, takes_at, gives_also}
+use Rattle.connection_laws.specs.Facts.{Accounts, IsMade, IsTaken, AreTaken, AreJoined, partner_in, IsOpener, IsAcceptor, IsPart, AccountOk, IsAnswered, IsInState, AreAcked, LiveOk, Says, ALetter, Nothing, IsCopy, OriginOk, PacketOk}
+use Rattle.connection_laws.proofs.Keeps.{after}
+use Rattle.connection_laws.proofs.Puts.{Extends, IsOnly, StaysJoined}
+
+-- what is in a list is in a longer one
+pub got_left : {X : Type 0} (xs ys : List X) (k : ℕ) (x : X) → slice_get xs k ≡ Some x → slice_get (xs ++ ys) k ≡ Some x
+got_left [] ys k x h = absurd (cc)
+got_left (y ∷ xs) ys zero x h = h
+got_left (y ∷ xs) ys (suc k) x h = got_left xs ys k x h
+
+-- ---- more is known of one tunnel
+
+pub extends_same : (a : Account) → Extends a a
+extends_same a = record {
+  part = inr refl;
+  peer = λ made. refl;
+  remote = inr refl;
+  given = ([], sym (append-nil a.given));
+  taken = ([], sym (append-nil a.taken));
+}
+
+pub made_on : (a b : Account) → Extends a b → IsMade a → IsMade b
+made_on a b g made none = ⊎_elim (λ u. made u) (λ same. made (sym same ∙ none)) g.part
+
+pub part_on : (a b : Account) → Extends a b → IsMade a → b.part ≡ a.part
+part_on a b g made = ⊎_elim (λ u. absurd (made u)) (λ same. same) g.part
+
+pub remote_on : (a b : Account) → Extends a b → (a.remote ≡ 0 → ⊥) → b.remote ≡ a.remote
+remote_on a b g some = ⊎_elim (λ u. absurd (some u)) (λ same. same) g.remote
+
+pub extends_on : (a b c : Account) → Extends a b → Extends b c → Extends a c
+extends_on a b c g h = record {
+  part = ⊎_elim (λ u. inl u) (λ same. ⊎_elim (λ u. inl (sym same ∙ u)) (λ again. inr (again ∙ same)) h.part) g.part;
+  peer = λ made. h.peer (made_on a b g made) ∙ g.peer made;
+  remote = ⊎_elim (λ u. inl u) (λ same. ⊎_elim (λ u. inl (sym same ∙ u)) (λ again. inr (again ∙ same)) h.remote) g.remote;
+  given = (g.given.0 ++ h.given.0, h.given.1 ∙ ap (λ l. l ++ h.given.0) g.given.1 ∙ append_assoc a.given g.given.0 h.given.0);
+  taken = (g.taken.0 ++ h.taken.0, h.taken.1 ∙ ap (λ l. l ++ h.taken.0) g.taken.1 ∙ append_assoc a.taken g.taken.0 h.taken.0);
+}
+
+pub got_given : (a b : Account) → Extends a b → (k : ℕ) (l : Letter) → slice_get a.given k ≡ Some l → slice_get b.given k ≡ Some l
+got_given a b g k l h = rw g.given.1 (got_left a.given g.given.0 k l h)
+
+pub got_taken : (a b : Account) → Extends a b → (k : ℕ) (t : Taken) → slice_get a.taken k ≡ Some t → slice_get b.taken k ≡ Some t
+got_taken a b g k t h = rw g.taken.1 (got_left a.taken g.taken.0 k t h)
+
+pub more_given : (a b : Account) → Extends a b → length a.given ≤ length b.given
+more_given a b g = rw (g.given.1, length-append) (omega arith)
+
+pub more_taken : (a b : Account) → Extends a b → length a.taken ≤ length b.taken
+more_taken a b g = rw (g.taken.1, length-append) (omega arith)
+
+-- ---- more is known of all tunnels
+
+abbrev pub AllExtend : Accounts → Accounts → Type 0
+AllExtend accs ms = (m j : ℕ) → Extends (accs m j) (ms m j)
+
+pub here_or_not : (m n j i : ℕ) → ((m ≡ n) × (j ≡ i)) ⊎ ((m ≡ n) × (j ≡ i) → ⊥)
+here_or_not m n j i =
+    ⊎_elim
+    (λ (p : m ≡ n). ⊎_elim (λ (q : j ≡ i). inl (p, q)) (λ no. inr (λ (both : (m ≡ n) × (j ≡ i)). no both.1)) (same_or_not j i))
+    (λ no. inr (λ (both : (m ≡ n) × (j ≡ i)). no both.0))
+    (same_or_not m n)
+
+pub all_extend : (accs ms : Accounts) (n i : ℕ) → IsOnly accs ms n i → AllExtend accs ms
+all_extend accs ms n i only m j =
+    ⊎_elim
+    (λ (same : (m ≡ n) × (j ≡ i)). rw (same.0, same.1) only.here)
+    (λ no. rw (only.others m j no) (extends_same (accs m j)))
+    (here_or_not m n j i)
+
+-- what was taken of a letter was
+pub is_taken_later : (accs ms : Accounts) → AllExtend accs ms → (a : Account) (number : ℕ) (t : Taken) → IsTaken accs a number t → IsTaken ms a number t
+is_taken_later accs ms g a number t h = record {
+  numbered = h.numbered;
+  partner = h.partner;
+  learned = h.learned;
+  sender = h.sender;
+  letter = h.letter;
+  there = got_given (accs h.partner.node h.partner.tunnel) (ms h.partner.node h.partner.tunnel) (g h.partner.node h.partner.tunnel) number h.letter h.there;
+  tells = h.tells;
+}
+
+pub are_taken_later : (accs ms : Accounts) → AllExtend accs ms → (a : Account) → AreTaken accs a → AreTaken ms a
+are_taken_later accs ms g a h number t there = is_taken_later accs ms g a number t (h number t there)
+
+-- the partner of a tunnel that has one stays
+pub known_partner : (a : Account) (p : Sender) → partner_of a ≡ Some p → a.remote ≡ 0 → ⊥
+known_partner a p h none = let g = rw none at h in let clash : ⊥ = cc in clash
+
+pub partner_on : (a b : Account) → Extends a b → IsMade a → (p : Sender) → partner_of a ≡ Some p → partner_of b ≡ Some p
+partner_on a b g made p h = rw (remote_on a b g (known_partner a p h), g.peer made) h
+
+-- also where the tunnel itself goes on
+pub is_taken_on : (accs ms : Accounts) → AllExtend accs ms → (a b : Account) → Extends a b → IsMade a → (number : ℕ) (t : Taken)
+    → IsTaken accs a number t → IsTaken ms b number t
+is_taken_on accs ms g a b on made number t h = record {
+  numbered = h.numbered;
+  partner = h.partner;
+  learned = partner_on a b on made h.partner h.learned;
+  sender = h.sender;
+  letter = h.letter;
+  there = got_given (accs h.partner.node h.partner.tunnel) (ms h.partner.node h.partner.tunnel) (g h.partner.node h.partner.tunnel) number h.letter h.there;
+  tells = h.tells;
+}
+
+-- ---- the account of another tunnel
+
+opener_made : (a : Account) → a.part ≡ Opener → IsMade a
+opener_made a h none = let clash : ⊥ = cc in clash
+
+acceptor_made : (a : Account) → a.part ≡ Acceptor → IsMade a
+acceptor_made a h none = let clash : ⊥ = cc in clash
+
+not_zero : (k j : ℕ) → k ≡ j → 0 < j → k ≡ 0 → ⊥
+not_zero k j same some none = omega (arith, same, some, none)
+
+module _ (accs ms : Accounts) (n i : ℕ) (only : IsOnly accs ms n i) where
+  grown : AllExtend accs ms
+  grown = all_extend accs ms n i only
+
+  -- tunnel j of node m is another one
+  module _ (m j : ℕ) (some : 0 < j) (same : ms m j ≡ accs m j) where
+    abbrev a : Account
+    a = accs m j
+
+    abbrev b : Account
+    b = partner_in accs a
+
+    abbrev c : Account
+    c = partner_in ms a
+
+    g : Extends b c
+    g = grown a.peer a.remote
+
+    named_still : b.remote ≡ j → c.remote ≡ j
+    named_still h = remote_on b c g (not_zero b.remote j h some) ∙ h
+
+    opener_later : StaysJoined ms n i → IsOpener accs m j a → IsOpener ms m j a
+    opener_later stays h = record {
+      begins = h.begins;
+      none = h.none;
+      some = h.some;
+      part = part;
+      peer = peer;
+      remote = remote;
+      joined = joined;
+    }
+      where
+        part : (a.remote ≡ 0 → ⊥) → c.part ≡ Acceptor
+        part k = part_on b c g (acceptor_made b (h.part k)) ∙ h.part k
+
+        peer : (a.remote ≡ 0 → ⊥) → c.peer ≡ m
+        peer k = g.peer (acceptor_made b (h.part k)) ∙ h.peer k
+
+        remote : (a.remote ≡ 0 → ⊥) → c.remote ≡ j
+        remote k = named_still (h.remote k)
+
+        back : (a.remote ≡ 0 → ⊥) → partner_in ms c ≡ a
+        back k = ap₂ ms (peer k) (remote k) ∙ same
+
+        joined : (a.remote ≡ 0 → ⊥) → AreJoined a c
+        joined k =
+            ⊎_elim
+            (λ (p : (a.peer ≡ n) × (a.remote ≡ i)).
+            let at_it : StaysJoined ms a.peer a.remote = rw (p.0, p.1) stays in
+            subst (λ x. AreJoined x c) (back k) (at_it (part k) (ap (λ (x : Account). x.remote) (back k))))
+            (λ no. rw (only.others a.peer a.remote no) (h.joined k))
+            (here_or_not a.peer n a.remote i)
+
+    acceptor_later : IsAcceptor accs m j a → IsAcceptor ms m j a
+    acceptor_later h =
+        let made = opener_made b h.part in
+        record {
+          begins = h.begins;
+          known = h.known;
+          some = h.some;
+          part = part_on b c g made ∙ h.part;
+          peer = g.peer made ∙ h.peer;
+          one_taken = λ no. h.one_taken (λ named. no (named_still named));
+          one_given = λ no. h.one_given (λ named. no (named_still named));
+        }
+
+  -- the account of another tunnel stays true; an opener of this one needs that it is still joined with it
+  pub account_later : StaysJoined ms n i → (m j : ℕ) → ms m j ≡ accs m j → AccountOk accs m j (accs m j) → AccountOk ms m j (accs m j)
+  account_later stays m j same h = record {
+    part = by (accs m j).part refl h.part;
+    some = h.some;
+    id = h.id;
+    node = h.node;
+    peer = h.peer;
+    remote = h.remote;
+    spelled = h.spelled;
+    taken = are_taken_later accs ms grown (accs m j) h.taken;
+  }
+    where
+      by : (p : Part) → (accs m j).part ≡ p → IsPart accs m j (accs m j) p → IsPart ms m j (accs m j) p
+      by Unmade e k = k
+      by Opener e k = opener_later m j (h.some (opener_made (accs m j) e)) same stays k
+      by Acceptor e k = acceptor_later m j (h.some (acceptor_made (accs m j) e)) same k
+
+-- ---- live tunnels, of which more is known of their partners
+
+pub live_made : (accs : Accounts) (n i : ℕ) (a : Account) (t : Tunnel) → LiveOk accs n i a t → IsMade a
+live_made accs n i a t h none = subst (λ p. IsInState accs i a t p) none h.state
+
+module _ (accs ms : Accounts) (grown : AllExtend accs ms) (n i : ℕ) (some : 0 < i) where
+  partner_names : (a : Account) → (partner_in accs a).remote ≡ i → (partner_in ms a).remote ≡ i
+  partner_names a h =
+      remote_on (partner_in accs a) (partner_in ms a) (grown a.peer a.remote) (not_zero (partner_in accs a).remote i h some) ∙ h
+
+  -- a partner that names this tunnel did so before, or it names it now
+  pub in_state_later : (a : Account) (t : Tunnel) (p : Part) → IsInState accs i a t p → IsInState ms i a t p
+  in_state_later a t Unmade h = h
+  in_state_later a t Opener h = h
+  in_state_later a t Acceptor h = ⊎_elim (λ waits. inl waits) (λ is_open. inr (is_open.0, partner_names a is_open.1)) h
+
+  answered_later : (a : Account) → IsAnswered accs n i a → IsAnswered ms n i a
+  answered_later a h =
+      let b = accs a.peer h.acceptor in
+      let c = ms a.peer h.acceptor in
+      let g = grown a.peer h.acceptor in
+      let made = acceptor_made b h.part in
+      record {
+        acceptor = h.acceptor;
+        part = part_on b c g made ∙ h.part;
+        peer = g.peer made ∙ h.peer;
+        remote = remote_on b c g (not_zero b.remote i h.remote some) ∙ h.remote;
+      }
+
+  more_of_partner : (a : Account) → length (partner_in accs a).taken ≤ length (partner_in ms a).taken
+  more_of_partner a = more_taken (partner_in accs a) (partner_in ms a) (grown a.peer a.remote)
+
+  pub are_acked_later : (a : Account) (acked : ℕ) (p : Part) → AreAcked accs n i a acked p → AreAcked ms n i a acked p
+  are_acked_later a acked Unmade h = h
+  are_acked_later a acked Opener h = (
+    (λ none. ⊎_elim (λ no. inl no) (λ one. inr (one.0, answered_later a one.1)) (h.0 none)),
+    (λ known. let le = h.1 known in let more = more_of_partner a in omega arith),
+  )
+  are_acked_later a acked Acceptor h = (
+    (λ no. h.0 (λ named. no (partner_names a named))),
+    (λ named. ⊎_elim
+        (λ (before : (partner_in accs a).remote ≡ i). let le = h.1 before in let more = more_of_partner a in omega arith)
+        (λ no. let none : acked ≡ 0 = h.0 no in omega (arith, none))
+        (same_or_not (partner_in accs a).remote i)),
+  )
+
+  pub live_later : (a : Account) (t : Tunnel) → LiveOk accs n i a t → LiveOk ms n i a t
+  live_later a t h = record {
+    local = h.local;
+    peer = h.peer;
+    remote = h.remote;
+    state = in_state_later a t a.part h.state;
+    letters = h.letters;
+    counted = h.counted;
+    few = h.few;
+    outstanding = h.outstanding;
+    taken = h.taken;
+    acked = are_acked_later a t.control.channel.window.acked a.part h.acked;
+    calls = h.calls;
+    order = h.order;
+  }
+
+-- ---- packets
+
+says_later : (a b : Account) → Extends a b → (o : ControlOrigin) (tunnel : ℕ) (bytes : List ℕ) → Says a o tunnel bytes → Says b o tunnel bytes
+says_later a b g o tunnel bytes (ALetter l some there are) = ALetter l some (got_given a b g o.ns l there) are
+says_later a b g o tunnel bytes (Nothing none are) = Nothing none are
+
+pub copy_later : (a b : Account) → Extends a b → (p : Packet) (o : ControlOrigin) → IsCopy a p o → IsCopy b p o
+copy_later a b g p o h = record {
+  made = made_on a b g h.made;
+  to = h.to ∙ sym (g.peer h.made);
+  nr = (let le = h.nr in let more = more_taken a b g in omega arith);
+  tunnel = h.tunnel;
+  named = ⊎_elim (λ none. inl none) (λ some. inr (some.0, some.1 ∙ sym (remote_on a b g (λ none. some.0 (some.1 ∙ none))))) h.named;
+  says = says_later a b g o h.tunnel p.bytes h.says;
+}
+
+pub packet_later : (accs ms : Accounts) → AllExtend accs ms → (p : Packet) → PacketOk accs p → PacketOk ms p
+packet_later accs ms g p h = record { from = h.from; sent = by p.origin h.sent }
+  where
+    by : (o : Origin) → OriginOk accs p o → OriginOk ms p o
+    by (origin.Control o) k = copy_later (accs p.from o.tunnel) (ms p.from o.tunnel) (g p.from o.tunnel) p o k
+    by (origin.Data session) k = k
+
+-- ---- the accounts after a deed
+
+pub after_here : (accs : Accounts) (d : Deed) (n i : ℕ) → d.node ≡ n → about d.move ≡ i → after accs d n i ≡ entered d (accs n i)
+after_here accs d n i node is = rw (node, is, eq-eqb n n refl, eq-eqb i i refl) refl
+
+pub after_there : (accs : Accounts) (d : Deed) (m j : ℕ) → ((m ≡ d.node) × (j ≡ about d.move) → ⊥) → after accs d m j ≡ accs m j
+after_there accs d m j apart =
+    ⊎_elim
+    (λ (p : d.node ≡ m). rw (p, eq-eqb m m refl, ne_eqb (about d.move) j (λ q. apart (sym p, sym q))) refl)
+    (λ other. rw (ne_eqb d.node m other) refl)
+    (same_or_not d.node m)
+
+-- what a tunnel is before a move that makes it, or that learns its partner's id
+abbrev pub MayEnter : Move → Account → Type 0
+MayEnter (move.Opened m) a = a.part ≡ Unmade
+MayEnter (move.Accepted m) a = (a.part ≡ Unmade) × (a.remote ≡ 0)
+MayEnter (move.Connected m) a = a.remote ≡ 0
+MayEnter m a = Unit {0}
+
+gives_extends : (d : Deed) (a b : Account) → Extends a b → Extends a (gives_also d b)
+gives_extends d a b g = extends_on a b (gives_also d b) g (record {
+  part = inr refl;
+  peer = λ made. refl;
+  remote = inr refl;
+  given = (_, refl);
+  taken = ([], sym (append-nil b.taken));
+})
+
+takes_extends : (d : Deed) (place : Place) (a b : Account) → Extends a b → Extends a (takes_at d place b)
+takes_extends d place a b g = extends_on a b (takes_at d place b) g (record {
+  part = inr refl;
+  peer = λ made. refl;
+  remote = inr refl;
+  given = ([], sym (append-nil b.given));
+  taken = (_, refl);
+})
+
+opens_extends : (a : Account) (peer : ℕ) → a.part ≡ Unmade → Extends a (record a { part = Opener; peer = peer })
+opens_extends a peer none = record {
+  part = inl none;
+  peer = λ made. absurd (made none);
+  remote = inr refl;
+  given = ([], sym (append-nil a.given));
+  taken = ([], sym (append-nil a.taken));
+}
+
+accepts_extends : (a : Account) (peer remote : ℕ) → a.part ≡ Unmade → a.remote ≡ 0 → Extends a (record a { part = Acceptor; peer = peer; remote = remote })
+accepts_extends a peer remote none unknown = record {
+  part = inl none;
+  peer = λ made. absurd (made none);
+  remote = inl unknown;
+  given = ([], sym (append-nil a.given));
+  taken = ([], sym (append-nil a.taken));
+}
+
+learns_extends : (a : Account) (remote : ℕ) → a.remote ≡ 0 → Extends a (record a { remote = remote })
+learns_extends a remote unknown = record {
+  part = inr refl;
+  peer = λ made. refl;
+  remote = inl unknown;
+  given = ([], sym (append-nil a.given));
+  taken = ([], sym (append-nil a.taken));
+}
+
+pub entered_extends : (d : Deed) (m : Move) (a : Account) → MayEnter m a → Extends a (entered_by d m a)
+entered_extends d (move.Opened m) a h = gives_extends d a _ (opens_extends a _ h)
+entered_extends d (move.Accepted m) a h = gives_extends d a _ (takes_extends d m.taken a _ (accepts_extends a _ m.remote h.0 h.1))
+entered_extends d (move.Connected m) a h = gives_extends d a _ (takes_extends d m.taken a _ (learns_extends a m.remote h))
+entered_extends d (move.Confirmed m) a h = takes_extends d m.taken a a (extends_same a)
+entered_extends d (move.Added m) a h = extends_same a
+entered_extends d (move.Requested m) a h = gives_extends d a a (extends_same a)
+entered_extends d (move.Replied m) a h = gives_extends d a _ (takes_extends d m.taken a a (extends_same a))
+entered_extends d (move.FirstUp m) a h = gives_extends d a _ (takes_extends d m.taken a a (extends_same a))
+entered_extends d (move.SecondUp m) a h = takes_extends d m.taken a a (extends_same a)
+entered_extends d (move.EndTold m) a h = gives_extends d a a (extends_same a)
+entered_extends d (move.EndHeard m) a h = takes_extends d m.taken a a (extends_same a)
+entered_extends d (move.EndSilent m) a h = extends_same a
+entered_extends d (move.Cleared i) a h = extends_same a
+entered_extends d (move.Greeted m) a h = gives_extends d a a (extends_same a)
+entered_extends d (move.TookPlain m) a h = takes_extends d m.taken a a (extends_same a)
+entered_extends d (move.NrRead m) a h = extends_same a
+entered_extends d (move.LetGo m) a h = extends_same a
+entered_extends d (move.Repeated m) a h = extends_same a
+entered_extends d (move.Quiet i) a h = extends_same a
+entered_extends d (move.FrameSent m) a h = extends_same a
+entered_extends d (move.FrameUp m) a h = extends_same a
+
+-- a move of a node enters one of its tunnels alone
+pub after_move : (accs : Accounts) (d : Deed) (n : ℕ) (m : Move) → d.node ≡ n → d.move ≡ m
+    → after accs d n (about m) ≡ entered_by d m (accs n (about m))
+after_move accs d n m node is = after_here accs d n (about m) node (ap about is) ∙ ap (λ q. entered_by d q (accs n (about m))) is
+
+pub only_after : (accs : Accounts) (d : Deed) (n : ℕ) (m : Move) → d.node ≡ n → d.move ≡ m → MayEnter m (accs n (about m))
+    → IsOnly accs (after accs d) n (about m)
+only_after accs d n m node is may = record {
+  here = subst (λ b. Extends (accs n (about m)) b) (sym (after_move accs d n m node is)) (entered_extends d m (accs n (about m)) may);
+  others = λ k j apart. after_there accs d k j (λ both. apart (both.0 ∙ node, both.1 ∙ ap about is));
+}
+
+-- where nothing changes in it, no account changes
+pub same_after : (accs : Accounts) (d : Deed) (n : ℕ) (m : Move) → d.node ≡ n → d.move ≡ m → entered_by d m (accs n (about m)) ≡ accs n (about m)
+    → after accs d ≡ accs
+same_after accs d n m node is still = fun_ext (λ k. fun_ext (λ j. by k j (here_or_not k n j (about m))))
+  where
+    by : (k j : ℕ) → ((k ≡ n) × (j ≡ about m)) ⊎ ((k ≡ n) × (j ≡ about m) → ⊥) → after accs d k j ≡ accs k j
+    by k j (inl p) = rw (p.0, p.1) (after_move accs d n m node is ∙ still)
+    by k j (inr apart) = after_there accs d k j (λ both. apart (both.0 ∙ node, both.1 ∙ ap about is))
+
+-- ---- partners
+
+-- an opener that has learned a tunnel is joined with it
+pub joined_now : (accs : Accounts) → ((m j : ℕ) → AccountOk accs m j (accs m j)) → (n i : ℕ) → StaysJoined accs n i
+joined_now accs ok n i accepted named = subst (λ x. AreJoined b x) back (opener.joined known)
+  where
+    a : Account
+    a = accs n i
+
+    b : Account
+    b = partner_in accs a
+
+    acceptor : IsAcceptor accs n i a
+    acceptor = subst (λ p. IsPart accs n i a p) accepted (ok n i).part
+
+    opener : IsOpener accs a.peer a.remote b
+    opener = subst (λ p. IsPart accs a.peer a.remote b p) acceptor.part (ok a.peer a.remote).part
+
+    known : b.remote ≡ 0 → ⊥
+    known = not_zero b.remote i named ((ok n i).some (acceptor_made a accepted))
+
+    back : partner_in accs b ≡ a
+    back = ap₂ accs acceptor.peer named

@@ -1,0 +1,214 @@
+-- Each line of a schedule.
+use Rattle.std.proofs.Common.{◌≡◌, ⊎_elim, ℕ, ◌+◌, ◌-◌, ◌^◌, ◌<◌, Bool, true, false, cond, [], refl, sym, ap, ◌∙◌, subst, Option, Some, None, Result, Ok, Err, arith}
+use Rattle.std.proofs.lemmas.Bool.{true≢false}
+use Rattle.std.proofs.lemmas.Option.{none-some}
+use Rattle.std.specs.Prelude.{is_some, min, slice_get}
+use Rattle.id_table.specs.Ids.{at, put, at-none}
+use Rattle.id_table.specs.Order.{at_new, at_other, same_or_not, ascends-empty}
+use Rattle.wire_base.specs.declared.why.Why.{Why}
+use Rattle.wire_base.specs.declared.why.Why.TheVariants as why
+use Rattle.schedule_text.specs.declared.line.Line.{Line}
+use Rattle.schedule_text.specs.declared.line.Line.TheVariants.{Remark, Lac, Lns, OpenUp, Ring, FromSub, Down, Deliver, Tick}
+use Rattle.schedule_text.specs.Grammar.{FitsLine}
+use Rattle.protocol_model.specs.declared.event.Event.{Event}
+use Rattle.protocol_model.specs.declared.event.Event.TheVariants as event
+use Rattle.protocol_model.specs.declared.packet.Packet.{Packet}
+use Rattle.protocol_model.specs.declared.refusal.Refusal.{Refusal}
+use Rattle.protocol_model.specs.declared.refusal.Refusal.TheVariants.{Unfit}
+use Rattle.protocol_model.specs.declared.tunnel.Role.{Role}
+use Rattle.protocol_model.specs.declared.tunnel.Role.TheVariants as role
+use Rattle.protocol_model.specs.Names.{address_of}
+use Rattle.protocol_model.specs.Calls.{is_lac}
+use Rattle.protocol_model.specs.End.{new_end, step}
+use Rattle.protocol_model.specs.World.{World, Node, Sender, Lined, quiet_line, with_node, after_step, declared, lac_at, lns_at, with_call, later, config_of, added, block_of, stepped, addressee_of, arrival, refused_by, sender_of, arrives, delivers_it, delivers, line}
+use Rattle.step_laws.specs.Steps.{AreKept}
+use Rattle.frame_laws.specs.Codecs.{Codecs}
+use Rattle.connection_laws.specs.Accounts.{Account, no_account, account_from}
+use Rattle.connection_laws.specs.Facts.{Accounts, IsMade, EndOk, PacketOk, Comes, NodeOk, Holds}
+use Rattle.connection_laws.proofs.Hearing.{all_at}
+use Rattle.connection_laws.proofs.Starts.{is_packet}
+use Rattle.connection_laws.proofs.Budget.{GivenBelow}
+use Rattle.connection_laws.specs.Steps.{LineDoes, Nothing, ANode, AStep}
+use Rattle.connection_laws.proofs.Worlds.{Goes, Laws, step_ok, step_does}
+
+-- ---- which node it is
+
+-- by cases on a test
+tested : {X Y : Type 0} (a : Bool) (x : X) (y : Y) (z : X) → cond a (Ok x) (Err y) ≡ Ok z → (a ≡ true) × (x ≡ z)
+tested true x y z h = (refl, cc)
+tested false x y z h = absurd (cc)
+
+tested_not : {X Y : Type 0} (a : Bool) (x : X) (y : Y) (z : X) → cond a (Err y) (Ok x) ≡ Ok z → (a ≡ false) × (x ≡ z)
+tested_not true x y z h = absurd (cc)
+tested_not false x y z h = (refl, cc)
+
+lac_there : (o : Option Node) (node : Node) → lac_at o ≡ Ok node → o ≡ Some node
+lac_there None node h = absurd (cc)
+lac_there (Some x) node h = ap (λ y. Some y) (tested (is_lac x.end.role) x why.Node node h).1
+
+lns_there : (o : Option Node) (node : Node) → lns_at o ≡ Ok node → o ≡ Some node
+lns_there None node h = absurd (cc)
+lns_there (Some x) node h = ap (λ y. Some y) (tested_not (is_lac x.end.role) x why.Node node h).1
+
+has_call : (session : ℕ) (r : Result Node Why) (node : Node) → with_call session r ≡ Ok node → r ≡ Ok node
+has_call session (Err x) node h = absurd (cc)
+has_call session (Ok x) node h = ap (λ y. Ok y) (tested (is_some (at x.end.calls session)) x why.Call node h).1
+
+-- a node of the world, at some moment
+record IsAt (w : World) (n : ℕ) (node : Node) : Type 0 where
+  before : Node
+  there : at w.nodes n ≡ Some before
+  same : node ≡ record before { clock = node.clock }
+
+is_there : (w : World) (n : ℕ) (node : Node) → at w.nodes n ≡ Some node → IsAt w n node
+is_there w n node h = record { before = node; there = h; same = refl }
+
+is_later : (w : World) (n milliseconds : ℕ) (o : Option Node) (node : Node) → at w.nodes n ≡ o → later milliseconds (declared o) ≡ Ok node → IsAt w n node
+is_later w n milliseconds None node is h = absurd (cc)
+is_later w n milliseconds (Some x) node is h =
+    let now = min (x.clock + milliseconds) (2 ^ 64 - 1) in
+    let e : record x { clock = now } ≡ node = cc in
+    subst (IsAt w n) e (record { before = x; there = is; same = refl })
+
+none_there : {X : Type 0} (o : Option X) → is_some o ≡ false → o ≡ None
+none_there None h = refl
+none_there (Some x) h = absurd (true≢false h)
+
+-- ---- a node that is new
+
+-- what a line leaves, and what it does
+pub record Does (w : World) (accs : Accounts) (most number : ℕ) (l : Lined) : Type 0 where
+  pub goes : Goes accs most l.world l.done
+  pub does : LineDoes w accs number l
+
+quiet_goes : (w : World) (accs : Accounts) (most : ℕ) → Holds w accs → GivenBelow accs most → Goes accs (most + 16384) w []
+unfolding account_from
+quiet_goes w accs most holds had = record { holds = holds; given = λ n i. (let le = had n i in omega arith) }
+
+not_made : (a : Account) → a ≡ no_account → IsMade a → ⊥
+not_made a none made = made (ap (λ (x : Account). x.part) none)
+
+-- a LAC's LNS is a node
+abbrev pub HasLns : Role → ℕ → Type 0
+HasLns r lns = r ≡ role.Lac → (m : ℕ) × (m < 256) × (lns ≡ address_of m)
+
+new_ok : (accs : Accounts) (n : ℕ) (r : Role) (lns : ℕ) → n < 256 → HasLns r lns → ((i : ℕ) → accs n i ≡ no_account)
+    → EndOk accs n (new_end r (config_of n lns)) × AreKept (new_end r (config_of n lns))
+new_ok accs n r lns lt has none = (
+  record {
+    node = lt;
+    number = refl;
+    lns = has;
+    first = omega arith;
+    last = omega arith;
+    first_session = omega arith;
+    last_session = omega arith;
+    order = ascends-empty [] refl;
+    drawn = λ i made. absurd (not_made (accs n i) (none i) made);
+    live = λ i t h. absurd (none-some t (sym (at-none i) ∙ h));
+    apart = λ i j t u h k a b c. absurd (none-some t (sym (at-none i) ∙ h));
+  },
+  record {
+    tunnels = λ i t h. absurd (none-some t (sym (at-none i) ∙ h));
+    order = ascends-empty [] refl;
+    places = ascends-empty [] refl;
+    sessions = omega arith;
+    first = omega arith;
+  },
+)
+
+module _ (w : World) (accs : Accounts) (number : ℕ) (holds : Holds w accs) (most : ℕ) (had : GivenBelow accs most) where
+  more_holds : (n : ℕ) (r : Role) (lns : ℕ) → n < 256 → HasLns r lns → at w.nodes n ≡ None
+      → Holds (with_node w n (record { end = new_end r (config_of n lns); clock = 0; births = [] })) accs
+  more_holds n r lns lt has none = record {
+    accounts = holds.accounts;
+    nodes = λ k. ⊎_elim
+        (λ (e : k ≡ n).
+        subst (λ q. NodeOk accs q (at (put w.nodes n new) q)) (sym e)
+        (rw (at_new w.nodes n new) (new_ok accs n r lns lt has (subst (NodeOk accs n) none (holds.nodes n)))))
+        (λ o. rw (at_other w.nodes n new k o) (holds.nodes k))
+        (same_or_not k n);
+    packets = holds.packets;
+  }
+    where
+      new : Node
+      new = record { end = new_end r (config_of n lns); clock = 0; births = [] }
+
+  added_ok : (n : ℕ) (r : Role) (lns : ℕ) → n < 256 → HasLns r lns → (x : Lined) → added w n r lns ≡ Ok x → Does w accs (most + 16384) number x
+  unfolding added
+  added_ok n r lns lt has x h =
+      let new : Node = record { end = new_end r (config_of n lns); clock = 0; births = [] } in
+      let t = tested_not (is_some (at w.nodes n)) (quiet_line (with_node w n new)) (Unfit why.Twice) x h in
+      let none = none_there (at w.nodes n) t.0 in
+      subst (Does w accs (most + 16384) number) t.1
+      (record { goes = quiet_goes (with_node w n new) accs most (more_holds n r lns lt has none) had; does = ANode n r lns lt none refl refl })
+
+-- ---- lines
+
+module _ (codecs : Codecs) (laws : Laws) (number : ℕ) (w : World) (accs : Accounts) (holds : Holds w accs) (most : ℕ) (had : GivenBelow accs most)
+    (room : most + 24576 < 2 ^ 64) where
+  timed_ok : (n : ℕ) (ev : Event) (sender : Option Sender) (node : Node) → IsAt w n node → Comes accs n node.end sender ev
+      → Does w accs (most + 16384) number (after_step w number n node sender (step node.end node.clock (block_of n number) ev))
+  timed_ok n ev sender node is comes =
+      subst (λ (q : Node). Does w accs (most + 16384) number (after_step w number n q sender (step q.end q.clock (block_of n number) ev))) (sym is.same)
+      (let here = subst (λ (q : Node). Comes accs n q.end sender ev) is.same comes in
+      record {
+        goes = step_ok laws number w accs holds most had room n is.before is.there node.clock ev sender here node.clock (block_of n number);
+        does = AStep (step_does laws number w accs holds most had room n is.before is.there node.clock ev sender here node.clock (block_of n number));
+      })
+
+  stepped_ok : (x : Lined) (n : ℕ) (ev : Event) (sender : Option Sender) (o : Result Node Why)
+      → ((node : Node) → o ≡ Ok node → IsAt w n node) → ((node : Node) → o ≡ Ok node → Comes accs n node.end sender ev)
+      → stepped w number n ev sender o ≡ Ok x → Does w accs (most + 16384) number x
+  unfolding stepped
+  stepped_ok x n ev sender (Err q) is comes h = absurd (cc)
+  stepped_ok x n ev sender (Ok node) is comes h =
+      let e : after_step w number n node sender (step node.end node.clock (block_of n number) ev) ≡ x = cc in
+      subst (Does w accs (most + 16384) number) e (timed_ok n ev sender node (is node refl) (comes node refl))
+
+  -- a packet that was sent comes to its node
+  arrives_ok : (x : Lined) (p : Packet) (node : Node) → at w.nodes p.to ≡ Some node → PacketOk accs p → (o : Option Refusal)
+      → refused_by p node p.origin ≡ o → arrives w number p node o ≡ Ok x → Does w accs (most + 16384) number x
+  unfolding arrives
+  arrives_ok x p node there sent (Some f) young h = absurd (cc)
+  arrives_ok x p node there sent None young h =
+      let ok : EndOk accs p.to node.end × AreKept node.end = subst (NodeOk accs p.to) there (holds.nodes p.to) in
+      stepped_ok x p.to (event.Datagram (address_of p.from) p.bytes) (sender_of p.from p.origin) (Ok node)
+      (λ q e. (let same : node ≡ q = cc in rw (← same) (is_there w p.to node there)))
+      (λ q e. (let same : node ≡ q = cc in
+      subst (λ (y : Node). Comes accs p.to y.end (sender_of p.from p.origin) (event.Datagram (address_of p.from) p.bytes)) same
+      (is_packet codecs accs holds.accounts p.to node.end ok.0 p node refl sent refl young))) h
+
+  -- what may be delivered is a packet that was sent, and its node is declared
+  delivers_ok : (x : Lined) (o : Option Packet) → ((p : Packet) → o ≡ Some p → PacketOk accs p) → delivers w number o ≡ Ok x
+      → Does w accs (most + 16384) number x
+  unfolding delivers delivers_it arrival addressee_of
+  delivers_ok x None sent h = absurd (cc)
+  delivers_ok x (Some p) sent h = by (at w.nodes p.to) refl h
+    where
+      by : (o : Option Node) → at w.nodes p.to ≡ o → delivers_it w number (addressee_of p o) ≡ Ok x → Does w accs (most + 16384) number x
+      by None is h = absurd (cc)
+      by (Some node) is h = arrives_ok x p node is (sent p refl) (refused_by p node p.origin) refl h
+
+  pub line_ok : (x : Lined) (l : Line) → FitsLine l → line w number l ≡ Ok x → Does w accs (most + 16384) number x
+  unfolding line
+  line_ok x (Remark text) fits h =
+      let e : quiet_line w ≡ x = cc in subst (Does w accs (most + 16384) number) e (record { goes = quiet_goes w accs most holds had; does = Nothing refl refl })
+  line_ok x (Lac n m) fits h =
+      added_ok w accs number holds most had n role.Lac (address_of m) (omega (arith, fits.0.1)) (λ lac. (m, omega (arith, fits.1.1), refl)) x h
+  line_ok x (Lns n) fits h = added_ok w accs number holds most had n role.Lns 0 (omega (arith, fits.1)) (λ lac. absurd cc) x h
+  line_ok x (OpenUp n) fits h =
+      stepped_ok x n event.OpenTunnel None (lac_at (at w.nodes n)) (λ node e. is_there w n node (lac_there (at w.nodes n) node e)) (λ node e. tt) h
+  line_ok x (Ring n port) fits h =
+      stepped_ok x n (event.Ring port) None (lac_at (at w.nodes n)) (λ node e. is_there w n node (lac_there (at w.nodes n) node e)) (λ node e. tt) h
+  line_ok x (FromSub n session frame) fits h =
+      stepped_ok x n (event.Payload session frame) None (with_call session (lac_at (at w.nodes n)))
+      (λ node e. is_there w n node (lac_there (at w.nodes n) node (has_call session (lac_at (at w.nodes n)) node e))) (λ node e. tt) h
+  line_ok x (Down n session frame) fits h =
+      stepped_ok x n (event.Lower session frame) None (with_call session (lns_at (at w.nodes n)))
+      (λ node e. is_there w n node (lns_there (at w.nodes n) node (has_call session (lns_at (at w.nodes n)) node e))) (λ node e. tt) h
+  line_ok x (Deliver k) fits h =
+      delivers_ok x (slice_get w.packets (k - 1)) (λ p e. all_at (PacketOk accs) w.packets (k - 1) p e holds.packets) h
+  line_ok x (Tick n milliseconds) fits h =
+      stepped_ok x n event.Tick None (later milliseconds (declared (at w.nodes n))) (λ node e. is_later w n milliseconds (at w.nodes n) node refl e)
+      (λ node e. tt) h

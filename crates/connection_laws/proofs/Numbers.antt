@@ -1,0 +1,68 @@
+-- What numbers of 16 bits tell of numbers without an end.
+use Rattle.std.proofs.Common.{◌≡◌, ◌⊎◌, ⊎_elim, ℕ, ◌+◌, ◌-◌, ◌%◌, ◌^◌, ◌<◌, ◌≤◌, cond, sym, ◌∙◌, subst, arith}
+use Rattle.std.proofs.lemmas.Bool.{cases_lt}
+use Rattle.std.proofs.lemmas.Bool.Decides.{nat_tests}
+use Rattle.std.specs.Prelude.{nat_le}
+use Rattle.send_window.specs.Kept.{Window}
+use Rattle.send_window.specs.Window.{distance, count_acked, without_first}
+use Rattle.recv_window.specs.declared.Class.TheVariants.{Next}
+use Rattle.recv_window.specs.Window.{Inbox, on_wire, class_of, true_class, ClassIsTrue}
+use Rattle.connection_laws.specs.Channels.{true_count}
+
+-- ---- Ns
+
+-- the class of a number without an end is Next for the one that is expected alone
+next_truly : (n : ℕ) (i : Inbox) → true_class n i ≡ Next → n ≡ i.taken
+next_truly n i h = grind (arith, nat_tests)
+
+-- so is that of the number on the wire, as long as the two are near
+pub next_is_expected : ClassIsTrue → (n : ℕ) (i : Inbox) → n ≤ i.taken + 32767 → i.taken ≤ n + 32768 → class_of (on_wire n) i ≡ Next → n ≡ i.taken
+next_is_expected classes n i above below next = next_truly n i (sym (classes n i (above, below)) ∙ next)
+
+-- ---- Nr
+
+-- its distance on the wire, where it is past the first letter that isn't acknowledged
+ahead_by : (acked nr : ℕ) → acked ≤ nr → nr ≤ acked + 8192 → distance (acked % 2 ^ 16) (on_wire nr) ≡ nr - acked
+ahead_by acked nr le few = omega arith
+
+-- and where it is before
+behind_by : (acked nr : ℕ) → nr < acked → acked ≤ nr + 32767 → 8192 < distance (acked % 2 ^ 16) (on_wire nr)
+behind_by acked nr lt near = omega arith
+
+-- a distance, where so many are on the wire
+counted_ahead : (w : Window) (nr d : ℕ) → w.acked ≤ nr → d ≡ nr - w.acked → cond (nat_le d w.outstanding) d 0 ≡ true_count w nr
+counted_ahead w nr d le e = grind (arith, nat_tests)
+
+counted_behind : (w : Window) (nr d : ℕ) → nr < w.acked → w.outstanding < d → cond (nat_le d w.outstanding) d 0 ≡ true_count w nr
+counted_behind w nr d lt far = grind (arith, nat_tests)
+
+-- as many letters as the number without an end acknowledges
+pub count_is_true : (w : Window) (nr : ℕ) → w.acked ≤ nr + 32767 → nr ≤ w.acked + 8192 → w.outstanding ≤ 8192
+    → count_acked w (on_wire nr) ≡ true_count w nr
+count_is_true w nr near few out = ⊎_elim
+    (λ (lt : nr < w.acked). counted_behind w nr _ lt (let far = behind_by w.acked nr lt near in omega arith))
+    (λ (le : w.acked ≤ nr). counted_ahead w nr _ le (ahead_by w.acked nr le few))
+    (cases_lt nr w.acked)
+
+-- what a count of letters that are acknowledged leads to
+pub record IsCount (w : Window) (nr count : ℕ) : Type 0 where
+  pub few : count ≤ w.outstanding
+  pub leads : (w.acked + count ≡ w.acked) ⊎ (w.acked + count ≡ nr)
+
+true_counts : (w : Window) (nr : ℕ) → IsCount w nr (true_count w nr)
+true_counts w nr = record { few = grind (arith, nat_tests); leads = grind (arith, nat_tests) }
+
+pub is_count : (w : Window) (nr : ℕ) → w.acked ≤ nr + 32767 → nr ≤ w.acked + 8192 → w.outstanding ≤ 8192
+    → IsCount w nr (count_acked w (on_wire nr))
+is_count w nr near few out = subst (IsCount w nr) (sym (count_is_true w nr near few out)) (true_counts w nr)
+
+-- the window after so many were acknowledged
+pub record IsWithout (w : Window) (count : ℕ) (v : Window) : Type 0 where
+  pub acked : v.acked ≡ w.acked + count
+  pub queued : v.queued + count ≡ w.queued
+  pub outstanding : v.outstanding ≤ v.queued
+
+pub without_count : (w : Window) (count moment : ℕ) → count ≤ w.outstanding → w.outstanding ≤ w.queued → w.acked + count < 2 ^ 64
+    → IsWithout w count (without_first w count moment)
+without_count w count moment le few fits =
+    record { acked = grind (arith, nat_tests); queued = grind (arith, nat_tests); outstanding = grind (arith, nat_tests) }

@@ -1,0 +1,305 @@
+-- The moves of a tunnel that takes a letter of the partner that it has learned keep what holds.
+use Rattle.std.proofs.Common.{◌≡◌, ◌⊎◌, inl, inr, ⊎_elim, ℕ, ◌+◌, ◌^◌, ◌<◌, true, List, [], ◌∷◌, refl, sym, ap, ◌∙◌, subst, append-nil, Option, Some, Ok, arith}
+use Rattle.std.proofs.lemmas.Bool.{ltb-true}
+use Rattle.std.specs.List.{AllByRecursion}
+use Rattle.id_table.specs.Ids.{at, put, without}
+use Rattle.id_table.specs.Order.{Ascends, ascends-put, found_put, ascends-without, found_without}
+use Rattle.id_source.specs.Spaces.{Space, draws, after_draw}
+use Rattle.control_message.specs.declared.message.Message.{Message}
+use Rattle.control_message.specs.declared.message.Message.TheVariants.{Scccn, Icrq, Icrp, Iccn, Cdn}
+use Rattle.control_message.specs.Pairs.{IsWritten}
+use Rattle.recv_window.specs.Window.{ClassIsTrue}
+use Rattle.tunnel_fsm.specs.declared.table.TunnelState.{TunnelState}
+use Rattle.tunnel_fsm.specs.declared.table.TunnelState.TheVariants.{Established}
+use Rattle.tunnel_fsm.specs.Rows.{state_number}
+use Rattle.call_fsm.specs.declared.table.CallEvent.{CallEvent}
+use Rattle.call_fsm.specs.declared.table.CallEvent.TheVariants as call_event
+use Rattle.protocol_model.specs.declared.event.Event.{Event}
+use Rattle.protocol_model.specs.declared.moves.Confirmed.{Confirmed}
+use Rattle.protocol_model.specs.declared.moves.EndHeard.{EndHeard}
+use Rattle.protocol_model.specs.declared.moves.FirstUp.{FirstUp}
+use Rattle.protocol_model.specs.declared.moves.Replied.{Replied}
+use Rattle.protocol_model.specs.declared.moves.SecondUp.{SecondUp}
+use Rattle.protocol_model.specs.declared.moves.TookPlain.{TookPlain}
+use Rattle.protocol_model.specs.declared.moves.Place.{Place}
+use Rattle.protocol_model.specs.declared.moves.Move.{Move}
+use Rattle.protocol_model.specs.declared.moves.Move.TheVariants as move
+use Rattle.protocol_model.specs.declared.tunnel.Call.{Call}
+use Rattle.protocol_model.specs.declared.tunnel.CallPlace.{CallPlace}
+use Rattle.protocol_model.specs.declared.tunnel.Role.{Role}
+use Rattle.protocol_model.specs.Calls.{advanced, asked_for}
+use Rattle.protocol_model.specs.Turn.{Tunnel, has_room, taken_place, in_state, counts_taken, connection}
+use Rattle.protocol_model.specs.End.{End}
+use Rattle.protocol_model.specs.World.{Sender, Deed}
+use Rattle.step_laws.specs.Letters.{Letter}
+use Rattle.step_laws.specs.Moves.{HearsNext, with_tunnel, with_letter}
+use Rattle.frame_laws.specs.Codecs.{Codecs}
+use Rattle.connection_laws.specs.Facts.{Accounts, IsNoOpening, IsSpelled, Tells, LiveOk, Within}
+use Rattle.connection_laws.proofs.Keeps.{after, IsMoved}
+use Rattle.connection_laws.proofs.Puts.{IsOnly, EndPut}
+use Rattle.connection_laws.proofs.Later.{after_move, only_after}
+use Rattle.connection_laws.proofs.Written.{draw_is, next_is}
+use Rattle.connection_laws.proofs.Hearing.{sender_in, heard_next, letter_some, heard, next_heard, said_so}
+use Rattle.connection_laws.proofs.Acknowledging.{put_of}
+use Rattle.connection_laws.proofs.Taking.{with_taken, taken_as, takes_only, takes_and_gives, TakesOn, paired_if, pair_takes}
+
+-- ---- the tunnel that is left
+
+-- the state may change, and the calls
+abbrev took : Tunnel → TunnelState → List (ℕ × Call) → Tunnel
+took t s calls = record { control = counts_taken (in_state s t.control); letters = t.letters; calls = calls }
+
+-- what its calls are to be
+record AreCalls (calls : List (ℕ × Call)) : Type 0 where
+  remotes : (s : ℕ) (c : Call) → at calls s ≡ Some c → c.remote < 65536
+  order : Ascends calls
+
+module _ (accs : Accounts) (n i : ℕ) (t : Tunnel) (live : LiveOk accs n i (accs n i) t) (fits : t.control.channel.inbox.taken + 1 < 2 ^ 64)
+    (s : TunnelState) (calls : List (ℕ × Call)) (are : AreCalls calls)
+    (state : (state_number s ≡ 3) ⊎ ((s ≡ t.control.state) × (calls ≡ t.calls))) where
+  took_on : TakesOn t (took t s calls) []
+  took_on = record {
+    local = refl;
+    peer = refl;
+    remote = refl;
+    state = state;
+    letters = sym (append-nil t.letters);
+    acked = refl;
+    queued = omega arith;
+    few = live.few;
+    outstanding = live.outstanding;
+    taken = omega arith;
+    calls = are.remotes;
+    order = are.order;
+  }
+
+  -- it is given a letter too
+  took_and_given : (l : Letter) → has_room t.control ≡ true → TakesOn t (with_letter l.session l.message (took t s calls)) (l ∷ [])
+  took_and_given l room =
+      let lt = ltb-true t.control.channel.window.queued 8192 room in
+      let out = live.outstanding in
+      record {
+        local = refl;
+        peer = refl;
+        remote = refl;
+        state = state;
+        letters = refl;
+        acked = refl;
+        queued = refl;
+        few = omega arith;
+        outstanding = omega arith;
+        taken = omega arith;
+        calls = are.remotes;
+        order = are.order;
+      }
+
+calls_put : (calls : List (ℕ × Call)) (s : ℕ) (k : Call) → AreCalls calls → k.remote < 65536 → AreCalls (put calls s k)
+calls_put calls s k olds fits = record {
+  remotes = λ q c f.
+      ⊎_elim (λ (a : (q ≡ s) × (k ≡ c)). rw (← a.1) fits) (λ a. olds.remotes q c a.1) (found_put calls s k q c f);
+  order = ascends-put s k calls olds.order;
+}
+
+calls_without : (calls : List (ℕ × Call)) (s : ℕ) → AreCalls calls → AreCalls (without calls s)
+calls_without calls s olds = record {
+  remotes = λ q c f. olds.remotes q c (found_without calls s q c olds.order f).1;
+  order = ascends-without s calls olds.order;
+}
+
+advanced_remote : (r : Role) (ev : CallEvent) (moment : ℕ) (c : Call) → (advanced r ev moment c).remote ≡ c.remote
+unfolding advanced
+advanced_remote r ev moment c = refl
+
+asked_remote : (r : Role) (remote moment : ℕ) → (asked_for r remote moment).remote ≡ remote
+unfolding asked_for advanced
+asked_remote r remote moment = refl
+
+-- ---- what is heard
+
+module _ (codecs : Codecs) (classes : ClassIsTrue) (accs : Accounts) (n : ℕ) (e : End) (sender : Option Sender) (ev : Event)
+    (within : Within accs n e sender ev) (i : ℕ) (t : Tunnel) (there : at e.tunnels i ≡ Some t) (session : ℕ) (m : Message)
+    (k : HearsNext ev t.control session m) where
+  said_written : IsWritten m
+  said_written =
+      let s = said_so codecs classes accs n e sender ev within i t there session m k in
+      subst IsWritten s.message s.next.spelled.written
+
+  -- it is a letter of the partner that was learned
+  said_takes : (state_number t.control.state ≡ 1 → ⊥) → (ms : Accounts) (x : End) (u : Tunnel) (mv : Move) (place : Place) (more : List Letter)
+      → place ≡ taken_place t.control → ((l : Letter) → l.session ≡ session → l.message ≡ m → Tells l mv) → TakesOn t u more → IsOnly accs ms n i
+      → ms n i ≡ with_taken (taken_as sender place mv) more (accs n i) → AllByRecursion IsSpelled more
+      → AllByRecursion (λ (l : Letter). IsNoOpening l.message) more → EndPut e x i u → Within ms n x sender ev
+  said_takes other ms x u mv place more taken tells goes only is spelled plain put_is =
+      let s = said_so codecs classes accs n e sender ev within i t there session m k in
+      let pair = paired_if accs n i s.heard.o t s.next.letter (within.end.live i t there) (λ one. absurd (other one)) s.next.of in
+      pair_takes accs ms n e x sender ev i t u (taken_as sender place mv) more k.hears.header k.hears.bytes (record {
+        within = within;
+        there = there;
+        heard = s.heard;
+        next = s.next;
+        pair = pair.0;
+        told = pair.1;
+        number = ap (λ (p : Place). p.number) taken;
+        sender_is = refl;
+        tells = tells s.next.letter s.session_is s.message;
+        goes = goes;
+        only = only;
+        is = is;
+        spelled = spelled;
+        plain = plain;
+        put_is = put_is;
+      })
+
+-- an open tunnel waits for no SCCRP, nor does one that waits for its SCCCN
+open_so : (t : Tunnel) → state_number t.control.state ≡ 3 → state_number t.control.state ≡ 1 → ⊥
+open_so t three one = let no : ⊥ = omega arith in no
+
+-- a session id was drawn too
+replied_put : (e x : End) (places : List (ℕ × CallPlace)) (i : ℕ) (u : Tunnel) (s : ℕ) → draws e.session_ids ≡ Ok s
+    → x ≡ record (with_tunnel e i u) { session_ids = after_draw e.session_ids; calls = places } → EndPut e x i u
+replied_put e x places i u s drawn is =
+    let id = (draw_is e.session_ids s drawn).0 in
+    subst (λ (y : End). EndPut e y i u)
+    (sym (is ∙ ap (λ (q : Space). record (with_tunnel e i u) { session_ids = q; calls = places }) (next_is e.session_ids s drawn)))
+    (record {
+      role = refl;
+      config = refl;
+      tunnels = refl;
+      next = omega arith;
+      last = refl;
+      sessions = omega arith;
+      last_session = refl;
+    })
+
+-- ---- the moves
+
+module _ (codecs : Codecs) (classes : ClassIsTrue) (accs : Accounts) (n : ℕ) (e x : End) (sender : Option Sender) (moment : ℕ) (ev : Event) (d : Deed) where
+  -- whatever the letter says
+  pub plain_keeps : (m : TookPlain) → IsMoved accs n e x sender moment ev (move.TookPlain m) d → Within (after accs d) n x sender ev
+  plain_keeps m h =
+      let o = h.does in
+      let t = o.tunnel in
+      let mv = move.TookPlain m in
+      let live = h.within.end.live m.tunnel t o.there in
+      let hears = heard codecs accs n e sender ev h.within m.tunnel t o.there o.comes.header o.comes.bytes (heard_next ev t.control o.comes) in
+      let next = next_heard classes accs n e sender ev h.within m.tunnel t o.there o.comes.header o.comes.bytes hears
+      (letter_some (sender_in accs n m.tunnel hears.o) hears.o o.comes.header o.comes.bytes hears.read o.comes.some) o.comes.next in
+      let pair = paired_if accs n m.tunnel hears.o t next.letter live
+      (λ s opening says. o.plain s opening (next.said ∙ ap (λ (y : Message). Ok y) says)) next.of in
+      let u = took t t.control.state t.calls in
+      pair_takes accs (after accs d) n e x sender ev m.tunnel t u (taken_as sender m.taken mv) [] o.comes.header o.comes.bytes (record {
+        within = h.within;
+        there = o.there;
+        heard = hears;
+        next = next;
+        pair = pair.0;
+        told = pair.1;
+        number = ap (λ (p : Place). p.number) o.taken;
+        sender_is = refl;
+        tells = tt;
+        goes = took_on accs n m.tunnel t live (h.counts m.tunnel t o.there) t.control.state t.calls
+            (record { remotes = live.calls; order = live.order }) (inr (refl, refl));
+        only = only_after accs d n mv h.deed.node_is h.deed.move_is tt;
+        is = after_move accs d n mv h.deed.node_is h.deed.move_is ∙ takes_only d n e.role sender mv m.taken (accs n m.tunnel) h.deed;
+        spelled = tt;
+        plain = tt;
+        put_is = put_of e x e.calls m.tunnel u o.after;
+      })
+
+  pub confirmed_keeps : (m : Confirmed) → IsMoved accs n e x sender moment ev (move.Confirmed m) d → Within (after accs d) n x sender ev
+  confirmed_keeps m h =
+      let o = h.does in
+      let t = o.tunnel in
+      let mv = move.Confirmed m in
+      let live = h.within.end.live m.tunnel t o.there in
+      let u = took t Established t.calls in
+      said_takes codecs classes accs n e sender ev h.within m.tunnel t o.there o.hears.0 Scccn o.hears.1
+      (λ s. let is = o.state in let two = ap state_number is in let no : ⊥ = omega arith in no)
+      (after accs d) x u mv m.taken [] o.taken (λ l s says. says)
+      (took_on accs n m.tunnel t live (h.counts m.tunnel t o.there) Established t.calls (record { remotes = live.calls; order = live.order }) (inl refl))
+      (only_after accs d n mv h.deed.node_is h.deed.move_is tt)
+      (after_move accs d n mv h.deed.node_is h.deed.move_is ∙ takes_only d n e.role sender mv m.taken (accs n m.tunnel) h.deed)
+      tt tt (put_of e x e.calls m.tunnel u o.after)
+
+  pub end_heard_keeps : (m : EndHeard) → IsMoved accs n e x sender moment ev (move.EndHeard m) d → Within (after accs d) n x sender ev
+  end_heard_keeps m h =
+      let o = h.does in
+      let t = o.tunnel in
+      let mv = move.EndHeard m in
+      let live = h.within.end.live m.tunnel t o.there in
+      let u = took t t.control.state (without t.calls m.session) in
+      said_takes codecs classes accs n e sender ev h.within m.tunnel t o.there o.hears.0 (Cdn o.remote o.code o.error) o.hears.1
+      (open_so t o.open_is)
+      (after accs d) x u mv m.taken [] o.taken (λ l s says. (o.remote, o.code, o.error, says))
+      (took_on accs n m.tunnel t live (h.counts m.tunnel t o.there) t.control.state (without t.calls m.session)
+      (calls_without t.calls m.session (record { remotes = live.calls; order = live.order })) (inl o.open_is))
+      (only_after accs d n mv h.deed.node_is h.deed.move_is tt)
+      (after_move accs d n mv h.deed.node_is h.deed.move_is ∙ takes_only d n e.role sender mv m.taken (accs n m.tunnel) h.deed)
+      tt tt (put_of e x _ m.tunnel u o.after)
+
+  pub second_up_keeps : (m : SecondUp) → IsMoved accs n e x sender moment ev (move.SecondUp m) d → Within (after accs d) n x sender ev
+  second_up_keeps m h =
+      let o = h.does in
+      let t = o.tunnel in
+      let mv = move.SecondUp m in
+      let live = h.within.end.live m.tunnel t o.there in
+      let call = advanced e.role call_event.IccnAcc moment o.call in
+      let u = took t t.control.state (put t.calls m.session call) in
+      said_takes codecs classes accs n e sender ev h.within m.tunnel t o.there m.session (Iccn o.speed o.framing o.sequenced) o.hears
+      (open_so t o.open_is)
+      (after accs d) x u mv m.taken [] o.taken (λ l s says. (s, (o.speed, o.framing, o.sequenced, says)))
+      (took_on accs n m.tunnel t live (h.counts m.tunnel t o.there) t.control.state (put t.calls m.session call)
+      (calls_put t.calls m.session call (record { remotes = live.calls; order = live.order })
+      (rw (advanced_remote e.role call_event.IccnAcc moment o.call) (live.calls m.session o.call o.made)))
+      (inl o.open_is))
+      (only_after accs d n mv h.deed.node_is h.deed.move_is tt)
+      (after_move accs d n mv h.deed.node_is h.deed.move_is ∙ takes_only d n e.role sender mv m.taken (accs n m.tunnel) h.deed)
+      tt tt (put_of e x _ m.tunnel u o.after)
+
+  pub first_up_keeps : (m : FirstUp) → IsMoved accs n e x sender moment ev (move.FirstUp m) d → Within (after accs d) n x sender ev
+  first_up_keeps m h =
+      let o = h.does in
+      let t = o.tunnel in
+      let mv = move.FirstUp m in
+      let live = h.within.end.live m.tunnel t o.there in
+      let fits = (said_written codecs classes accs n e sender ev h.within m.tunnel t o.there m.session (Icrp m.remote) o.hears).0 in
+      let call = advanced e.role call_event.IcrpAcc moment (record o.call { remote = m.remote }) in
+      let calls = put t.calls m.session call in
+      let l : Letter = record { tunnel = m.tunnel; place = m.given; session = m.remote; message = connection } in
+      let u = with_letter l.session l.message (took t t.control.state calls) in
+      said_takes codecs classes accs n e sender ev h.within m.tunnel t o.there m.session (Icrp m.remote) o.hears
+      (open_so t o.open_is)
+      (after accs d) x u mv m.taken (l ∷ []) o.taken (λ l s says. (s, says))
+      (took_and_given accs n m.tunnel t live (h.counts m.tunnel t o.there) t.control.state calls
+      (calls_put t.calls m.session call (record { remotes = live.calls; order = live.order })
+      (rw (advanced_remote e.role call_event.IcrpAcc moment (record o.call { remote = m.remote })) (omega arith)))
+      (inl o.open_is) l o.room)
+      (only_after accs d n mv h.deed.node_is h.deed.move_is tt)
+      (after_move accs d n mv h.deed.node_is h.deed.move_is ∙ takes_and_gives d n e.role sender mv m.taken (accs n m.tunnel) h.deed)
+      (record { written = (omega arith, omega arith, refl); session = omega arith }, tt) (tt, tt) (put_of e x _ m.tunnel u o.after)
+
+  pub replied_keeps : (m : Replied) → IsMoved accs n e x sender moment ev (move.Replied m) d → Within (after accs d) n x sender ev
+  replied_keeps m h =
+      let o = h.does in
+      let t = o.tunnel in
+      let mv = move.Replied m in
+      let live = h.within.end.live m.tunnel t o.there in
+      let fits = (said_written codecs classes accs n e sender ev h.within m.tunnel t o.there o.hears.0 (Icrq m.remote o.serial o.calling) o.hears.1).0 in
+      let drawn = draw_is e.session_ids m.session o.drawn in
+      let id = drawn.0 in
+      let le = drawn.1 in
+      let first = h.within.end.first_session in
+      let last = h.within.end.last_session in
+      let call = asked_for e.role m.remote moment in
+      let calls = put t.calls m.session call in
+      let l : Letter = record { tunnel = m.tunnel; place = m.given; session = m.remote; message = Icrp m.session } in
+      let u = with_letter l.session l.message (took t t.control.state calls) in
+      said_takes codecs classes accs n e sender ev h.within m.tunnel t o.there o.hears.0 (Icrq m.remote o.serial o.calling) o.hears.1
+      (open_so t o.open_is)
+      (after accs d) x u mv m.taken (l ∷ []) o.taken (λ l s says. (o.serial, o.calling, says))
+      (took_and_given accs n m.tunnel t live (h.counts m.tunnel t o.there) t.control.state calls
+      (calls_put t.calls m.session call (record { remotes = live.calls; order = live.order }) (rw (asked_remote e.role m.remote moment) (omega arith)))
+      (inl o.open_is) l o.room)
+      (only_after accs d n mv h.deed.node_is h.deed.move_is tt)
+      (after_move accs d n mv h.deed.node_is h.deed.move_is ∙ takes_and_gives d n e.role sender mv m.taken (accs n m.tunnel) h.deed)
+      (record { written = (omega arith, omega arith); session = omega arith }, tt) (tt, tt) (replied_put e x _ m.tunnel u m.session o.drawn o.after)

@@ -1,0 +1,157 @@
+-- Which tunnel a control message reaches.
+use Rattle.std.proofs.Common.{◌≡◌, inl, inr, ⊎_elim, ℕ, Bool, true, false, cond, eqb, List, [], ◌∷◌, refl, sym, ap, ◌∙◌, Option, Some, None, Result, Ok, Err}
+use Rattle.std.proofs.lemmas.Bool.{true≢false, eqb-true, ne_eqb, eq-eqb}
+use Rattle.std.proofs.lemmas.Option.{none-some}
+use Rattle.std.specs.Prelude.{◌==◌, ◌&&◌}
+use Rattle.std.specs.List.{find}
+use Rattle.id_table.specs.Ids.{at, is_at-same, ids_of}
+use Rattle.avp_codec.specs.declared.avp.Avp.{Avp}
+use Rattle.avp_codec.specs.declared.error.AvpError.{AvpError}
+use Rattle.avp_codec.specs.Reading.{avps_of}
+use Rattle.l2tp_header.specs.declared.header.Header.{Header}
+use Rattle.l2tp_header.specs.Reading.{header_of}
+use Rattle.control_message.specs.declared.message.Message.TheVariants.{Sccrq}
+use Rattle.control_message.specs.declared.message.MessageError.{MessageError}
+use Rattle.control_message.specs.declared.message.Opening.{Opening}
+use Rattle.control_message.specs.declared.message.Read.{Read}
+use Rattle.control_message.specs.declared.message.Read.TheVariants.{Known, Ignored}
+use Rattle.control_message.specs.Reading.{message_of}
+use Rattle.protocol_model.specs.declared.event.Addressee.TheVariants.{Opens, Main}
+use Rattle.protocol_model.specs.Reading.{body_of, message_in, pairs_read, message_read, at_zero, zero_pairs, zero_read, at_tunnel}
+use Rattle.protocol_model.specs.Turn.{Tunnel}
+use Rattle.protocol_model.specs.End.{End, is_known, known_as, opens_once, addressed, main_of, reached_by, reached}
+use Rattle.step_laws.specs.Letters.{Among}
+use Rattle.step_laws.specs.Moves.{IsAgain, IsFor}
+use Rattle.connection_laws.specs.Facts.{Accounts, EndOk}
+
+-- ---- what is found
+
+pub and_left : (a b : Bool) → (a && b) ≡ true → a ≡ true
+and_left true b h = refl
+and_left false b h = h
+
+pub and_right : (a b : Bool) → (a && b) ≡ true → b ≡ true
+and_right true b h = h
+and_right false b h = absurd (true≢false (sym h))
+
+-- where one passes a test, one is found that passes
+record IsFound {X : Type 0} (p : X → Bool) (xs : List X) : Type 0 where
+  one : X
+  found : find p xs ≡ Some one
+  passes : p one ≡ true
+
+finds : {X : Type 0} (p : X → Bool) (xs : List X) (x : X) → Among x xs → p x ≡ true → IsFound p xs
+finds p [] x a pass = absurd a
+finds p (y ∷ xs) x a pass = by (p y) refl (λ b. finds p xs x b pass)
+  where
+    by : (b : Bool) → p y ≡ b → (Among x xs → IsFound p xs) → IsFound p (y ∷ xs)
+    by true is later = record { one = y; found = rw is refl; passes = is }
+    by false is later =
+        let k = later (⊎_elim (λ (e : y ≡ x). absurd (true≢false (sym pass ∙ (ap p (sym e) ∙ is)))) (λ b. b) a) in
+        record { one = k.one; found = rw is k.found; passes = k.passes }
+
+module _ {X : Type 0} where
+  at_cons : (e : ℕ × X) (es : List (ℕ × X)) (q : ℕ) → at (e ∷ es) q ≡ cond (eqb q e.0) (Some e.1) (at es q)
+  unfolding at
+  at_cons e es q = ap (λ b. cond b (Some e.1) (at es q)) (is_at-same q e.0)
+
+  at_nil : (q : ℕ) → at {X = X} [] q ≡ None
+  unfolding at
+  at_nil q = refl
+
+  -- what a table has stands under one of its ids
+  id_among : (es : List (ℕ × X)) (i : ℕ) (x : X) → at es i ≡ Some x → Among i (ids_of es)
+  id_among [] i x h = absurd (none-some x (sym (at_nil i) ∙ h))
+  id_among (e ∷ es) i x h = by (eqb i e.0) refl (sym (at_cons e es i) ∙ h) (id_among es i x)
+    where
+      by : (b : Bool) → eqb i e.0 ≡ b → cond b (Some e.1) (at es i) ≡ Some x → (at es i ≡ Some x → Among i (ids_of es)) → Among i (ids_of (e ∷ es))
+      by true is h later = inl (sym (eqb-true i e.0 is))
+      by false is h later = inr (later h)
+
+-- ---- a tunnel that is known by its peer and the peer's id
+
+record IsKnown (peer remote : ℕ) (o : Option Tunnel) : Type 0 where
+  tunnel : Tunnel
+  is : o ≡ Some tunnel
+  peer_is : tunnel.control.peer ≡ peer
+  remote_is : tunnel.control.remote ≡ remote
+
+known_is : (peer remote : ℕ) (o : Option Tunnel) → is_known peer remote o ≡ true → IsKnown peer remote o
+known_is peer remote None h = absurd (true≢false (sym h))
+known_is peer remote (Some t) h =
+    record {
+      tunnel = t;
+      is = refl;
+      peer_is = eqb-true t.control.peer peer (and_left (t.control.peer == peer) (t.control.remote == remote) h);
+      remote_is = eqb-true t.control.remote remote (and_right (t.control.peer == peer) (t.control.remote == remote) h);
+    }
+
+is_known_so : (peer remote : ℕ) (t : Tunnel) → t.control.peer ≡ peer → t.control.remote ≡ remote → is_known peer remote (Some t) ≡ true
+is_known_so peer remote t p r = rw (p, r, eq-eqb peer peer refl, eq-eqb remote remote refl) refl
+
+module _ (accs : Accounts) (n : ℕ) (e : End) (ok : EndOk accs n e) (i : ℕ) (t : Tunnel) (there : at e.tunnels i ≡ Some t) where
+  -- no other one is
+  known_here : (t.control.remote ≡ 0 → ⊥) → known_as t.control.peer t.control.remote e.tunnels ≡ Some i
+  unfolding known_as
+  known_here some =
+      let peer = t.control.peer in
+      let remote = t.control.remote in
+      let f = finds (λ j. is_known peer remote (at e.tunnels j)) (ids_of e.tunnels) i (id_among e.tunnels i t there)
+      (rw there (is_known_so peer remote t refl refl)) in
+      let k = known_is peer remote (at e.tunnels f.one) f.passes in
+      f.found ∙ ap (λ j. Some j) (sym (ok.apart i f.one t k.tunnel there k.is (sym k.peer_is) (sym k.remote_is) some))
+
+-- ---- what a control message is for
+
+main_there : (e : End) (i : ℕ) (t : Tunnel) → at e.tunnels i ≡ Some t → main_of e (Main i) ≡ Some t.control
+unfolding main_of
+main_there e i t there = rw there refl
+
+-- the one that is named
+named_main : (e : End) (h : Header) (body : List ℕ) (i : ℕ) (t : Tunnel) → h.tunnel ≡ i → (i ≡ 0 → ⊥) → at e.tunnels i ≡ Some t
+    → addressed e t.control.peer h body ≡ Main i
+unfolding addressed at_tunnel
+named_main e h body i t named some there = rw (named, ne_eqb i 0 some, there, eq-eqb t.control.peer t.control.peer refl) refl
+
+-- an SCCRQ opens by the id that it tells
+zero_message : (r : Result Read MessageError) (o : Opening) → message_read r ≡ Ok (Sccrq o) → zero_read r ≡ Opens o.tunnel
+unfolding message_read zero_read
+zero_message (Ok (Known m)) o h = let e : m ≡ Sccrq o = cc in rw e refl
+zero_message (Ok (Ignored k)) o h = absurd cc
+zero_message (Err x) o h = absurd cc
+
+zero_opens : (r : Result (List Avp) AvpError) (o : Opening) → pairs_read r ≡ Ok (Sccrq o) → zero_pairs r ≡ Opens o.tunnel
+unfolding pairs_read zero_pairs
+zero_opens (Ok avps) o h = zero_message (message_of avps) o h
+zero_opens (Err x) o h = absurd cc
+
+sccrq_opens : (body : List ℕ) (o : Opening) → message_in body ≡ Ok (Sccrq o) → at_zero body ≡ Opens o.tunnel
+unfolding message_in at_zero
+sccrq_opens body o h = zero_opens (avps_of body) o h
+
+-- one that comes again is for the tunnel that it opened
+again_main : (e : End) (peer : ℕ) (h : Header) (body : List ℕ) (i : ℕ) (o : Opening) → h.tunnel ≡ 0 → message_in body ≡ Ok (Sccrq o)
+    → known_as peer o.tunnel e.tunnels ≡ Some i → addressed e peer h body ≡ Main i
+unfolding addressed opens_once
+again_main e peer h body i o none said known = rw (none, sccrq_opens body o said, known) refl
+
+main_reached : (e : End) (peer : ℕ) (bytes : List ℕ) (h : Header) (i : ℕ) (t : Tunnel) → at e.tunnels i ≡ Some t → header_of bytes ≡ Ok h → h.control ≡ true
+    → addressed e peer h (body_of h bytes) ≡ Main i → reached e peer bytes ≡ Some t.control
+unfolding reached reached_by
+main_reached e peer bytes h i t there read control main = rw read
+    (ap (λ b. cond b (main_of e (addressed e peer h (body_of h bytes))) None) control ∙ (ap (λ a. main_of e a) main ∙ main_there e i t there))
+
+-- a control message that is for a live tunnel, and from its peer, reaches it
+pub is_reached : (accs : Accounts) (n : ℕ) (e : End) → EndOk accs n e → (i : ℕ) (t : Tunnel) → at e.tunnels i ≡ Some t → (i ≡ 0 → ⊥)
+    → (bytes : List ℕ) (h : Header) → header_of bytes ≡ Ok h → h.control ≡ true
+    → ((o : Opening) → message_in (body_of h bytes) ≡ Ok (Sccrq o) → o.tunnel ≡ 0 → ⊥) → IsFor h bytes t.control
+    → reached e t.control.peer bytes ≡ Some t.control
+is_reached accs n e ok i t there some bytes h read control opens is = ⊎_elim
+    (λ (named : h.tunnel ≡ t.control.local).
+    main_reached e t.control.peer bytes h i t there read control
+    (named_main e h (body_of h bytes) i t (named ∙ (ok.live i t there).local) some there))
+    (λ (again : IsAgain h bytes t.control).
+    main_reached e t.control.peer bytes h i t there read control
+    (again_main e t.control.peer h (body_of h bytes) i again.opening again.none again.said
+    (rw (← again.known) (known_here accs n e ok i t there (λ z. opens again.opening again.said (sym again.known ∙ z))))))
+    is

@@ -1,0 +1,312 @@
+-- How the numbers of a control message are read that reaches a live tunnel.
+use Rattle.std.proofs.Common.{◌≡◌, ◌⊎◌, inl, inr, ⊎_elim, ℕ, ◌+◌, ◌<◌, ◌≤◌, Bool, true, false, cond, eqb, zero, suc, List, ◌∷◌, length, refl, sym, ap, ap₂, ◌∙◌, subst, Option, Some, None, Result, Ok, Err, arith}
+use Rattle.std.proofs.lemmas.Bool.{eqb-true, eqb-false}
+use Rattle.std.proofs.lemmas.Option.{slice_get_within}
+use Rattle.std.specs.Prelude.{slice_get, option_map}
+use Rattle.id_table.specs.Ids.{at}
+use Rattle.id_table.specs.Order.{same_or_not}
+use Rattle.recv_window.specs.Window.{ClassIsTrue}
+use Rattle.avp_codec.specs.declared.avp.Avp.{Avp}
+use Rattle.avp_codec.specs.declared.error.AvpError.{AvpError}
+use Rattle.avp_codec.specs.Reading.{avps_of}
+use Rattle.wire_base.specs.declared.why.Why.TheVariants as why
+use Rattle.l2tp_header.specs.declared.header.Header.{Header}
+use Rattle.l2tp_header.specs.declared.header.HeaderError.{HeaderError}
+use Rattle.l2tp_header.specs.Reading.{header_of}
+use Rattle.control_message.specs.declared.message.Message.{Message}
+use Rattle.control_message.specs.declared.message.Message.TheVariants.{Sccrq, Sccrp, Scccn, Hello, Icrq, Icrp, Iccn, Cdn}
+use Rattle.control_message.specs.declared.message.MessageError.{MessageError}
+use Rattle.control_message.specs.declared.message.MessageError.TheVariants.{NoType, UnknownType, UnknownMandatory, HiddenWithoutVector, BadValue, Missing, NoMemory}
+use Rattle.control_message.specs.declared.message.Opening.{Opening}
+use Rattle.control_message.specs.declared.message.Read.{Read}
+use Rattle.control_message.specs.declared.message.Read.TheVariants.{Known, Ignored}
+use Rattle.control_message.specs.Reading.{message_of}
+use Rattle.protocol_model.specs.declared.event.Addressee.{Addressee}
+use Rattle.protocol_model.specs.declared.event.Addressee.TheVariants.{Opens, Main, Nobody}
+use Rattle.protocol_model.specs.declared.tunnel.Control.{Control}
+use Rattle.protocol_model.specs.declared.out.Origin.{Origin}
+use Rattle.protocol_model.specs.declared.out.Origin.TheVariants as origin
+use Rattle.protocol_model.specs.declared.out.ControlOrigin.{ControlOrigin}
+use Rattle.protocol_model.specs.declared.packet.Packet.{Packet}
+use Rattle.protocol_model.specs.Names.{address_of}
+use Rattle.protocol_model.specs.Reading.{body_of, message_in, pairs_read, message_read, at_zero, zero_pairs, zero_read, at_tunnel}
+use Rattle.protocol_model.specs.Turn.{Tunnel}
+use Rattle.protocol_model.specs.End.{End, opens_once, addressed, main_of, reached_by, reached}
+use Rattle.protocol_model.specs.World.{Node, too_old}
+use Rattle.protocol_model.specs.Run.{Run}
+use Rattle.step_laws.specs.Steps.{AreKept}
+use Rattle.step_laws.specs.Letters.{Letter}
+use Rattle.frame_laws.specs.Codecs.{Codecs}
+use Rattle.connection_laws.specs.Accounts.{Opener, Account, account_of}
+use Rattle.connection_laws.specs.Facts.{Accounts, IsNoOpening, BeginsWith, AreJoined, partner_in, IsOpener, IsAcceptor, IsMade, AccountOk, LiveOk, EndOk, Says, ALetter, Nothing, IsCopy, OriginOk, PacketOk, NodeOk, Holds}
+use Rattle.connection_laws.specs.Channels.{IsRead, NumbersAreRead}
+use Rattle.connection_laws.proofs.Later.{live_made}
+use Rattle.connection_laws.proofs.Told.{HeaderTells, copy_tells, copy_says}
+use Rattle.connection_laws.proofs.Starts.{IsYoung, is_young}
+use Rattle.connection_laws.proofs.Numbers.{count_is_true}
+use Rattle.connection_laws.proofs.Sent.{mapped}
+use Rattle.connection_laws.proofs.Worlds.{all_map}
+use Rattle.connection_laws.proofs.Hearing.{all_at, part_cases, opener_of, acceptor_of}
+
+-- ---- which tunnel was reached
+
+-- at tunnel 0 an SCCRQ alone opens, and nothing is for a live tunnel yet
+AtZero : (Opening → Type 0) → Addressee → Type 0
+AtZero P (Opens r) = (o : Opening) × P o
+AtZero P (Main i) = ⊥
+AtZero P (Nobody w) = Unit {0}
+
+zero_message : (r : Result Read MessageError) → AtZero (λ o. message_read r ≡ Ok (Sccrq o)) (zero_read r)
+unfolding zero_read message_read AtZero
+zero_message (Ok (Known (Sccrq o))) = (o, refl)
+zero_message (Ok (Known (Sccrp o))) = tt
+zero_message (Ok (Known Scccn)) = tt
+zero_message (Ok (Known Hello)) = tt
+zero_message (Ok (Known (Icrq session serial calling))) = tt
+zero_message (Ok (Known (Icrp session))) = tt
+zero_message (Ok (Known (Iccn speed framing sequenced))) = tt
+zero_message (Ok (Known (Cdn session code error))) = tt
+zero_message (Ok (Ignored k)) = tt
+zero_message (Err NoType) = tt
+zero_message (Err (UnknownType k)) = tt
+zero_message (Err (UnknownMandatory v k)) = tt
+zero_message (Err (HiddenWithoutVector k)) = tt
+zero_message (Err (BadValue k)) = tt
+zero_message (Err (Missing k)) = tt
+zero_message (Err NoMemory) = tt
+
+zero_says : (r : Result (List Avp) AvpError) → AtZero (λ o. pairs_read r ≡ Ok (Sccrq o)) (zero_pairs r)
+unfolding zero_pairs pairs_read AtZero
+zero_says (Ok avps) = zero_message (message_of avps)
+zero_says (Err x) = tt
+
+at_zero_says : (body : List ℕ) → AtZero (λ o. message_in body ≡ Ok (Sccrq o)) (at_zero body)
+unfolding at_zero message_in
+at_zero_says body = zero_says (avps_of body)
+
+-- how a tunnel is named: by its id, and it goes to the sender's node, or not at all, by an SCCRQ
+abbrev IsNamed : ℕ → Header → List ℕ → ℕ → Tunnel → Type 0
+IsNamed peer h body i t =
+    ((h.tunnel ≡ 0 → ⊥) × (h.tunnel ≡ i) × (t.control.peer ≡ peer)) ⊎ ((h.tunnel ≡ 0) × ((o : Opening) × (message_in body ≡ Ok (Sccrq o))))
+
+named_zero : (e : End) (peer : ℕ) (body : List ℕ) (i : ℕ) (a : Addressee) → AtZero (λ o. message_in body ≡ Ok (Sccrq o)) a → opens_once e peer a ≡ Main i
+    → (o : Opening) × (message_in body ≡ Ok (Sccrq o))
+unfolding opens_once AtZero
+named_zero e peer body i (Opens r) z h = z
+named_zero e peer body i (Main j) z h = absurd z
+named_zero e peer body i (Nobody w) z h = absurd cc
+
+named_peer : (peer k i p : ℕ) → at_tunnel peer k (Some p) ≡ Main i → (k ≡ i) × (p ≡ peer)
+unfolding at_tunnel
+named_peer peer k i p h = by (eqb p peer) refl h
+  where
+    by : (b : Bool) → eqb p peer ≡ b → cond b (Main k) (Nobody why.Peer) ≡ Main i → (k ≡ i) × (p ≡ peer)
+    by true is g = (cc, eqb-true p peer is)
+    by false is g = absurd cc
+
+named_there : (peer k i : ℕ) (o : Option Tunnel) → at_tunnel peer k (option_map (λ (x : Tunnel). x.control.peer) o) ≡ Main i
+    → (k ≡ i) × ((t : Tunnel) → o ≡ Some t → t.control.peer ≡ peer)
+unfolding at_tunnel
+named_there peer k i None h = absurd cc
+named_there peer k i (Some u) h =
+    let n = named_peer peer k i u.control.peer h in
+    (n.0, λ t is. (let same : u ≡ t = cc in ap (λ (x : Tunnel). x.control.peer) (sym same) ∙ n.1))
+
+is_named : (e : End) (peer : ℕ) (h : Header) (body : List ℕ) (i : ℕ) (t : Tunnel) → at e.tunnels i ≡ Some t → addressed e peer h body ≡ Main i
+    → IsNamed peer h body i t
+unfolding addressed
+is_named e peer h body i t there main = by (eqb h.tunnel 0) refl main
+  where
+    by : (b : Bool) → eqb h.tunnel 0 ≡ b
+        → cond b (opens_once e peer (at_zero body)) (at_tunnel peer h.tunnel (option_map (λ (x : Tunnel). x.control.peer) (at e.tunnels h.tunnel))) ≡ Main i
+        → IsNamed peer h body i t
+    by true is g = inr (eqb-true h.tunnel 0 is, named_zero e peer body i (at_zero body) (at_zero_says body) g)
+    by false is g =
+        let n = named_there peer h.tunnel i (at e.tunnels h.tunnel) g in
+        inl (eqb-false h.tunnel 0 is, n.0, n.1 t (rw n.0 there))
+
+record IsReached (e : End) (peer : ℕ) (bytes : List ℕ) (h : Header) (c : Control) : Type 0 where
+  id : ℕ
+  tunnel : Tunnel
+  there : at e.tunnels id ≡ Some tunnel
+  same : c ≡ tunnel.control
+  named : IsNamed peer h (body_of h bytes) id tunnel
+
+main_is : (e : End) (a : Addressee) (c : Control) → main_of e a ≡ Some c
+    → (i : ℕ) × (a ≡ Main i) × (option_map (λ (t : Tunnel). t.control) (at e.tunnels i) ≡ Some c)
+unfolding main_of
+main_is e (Opens r) c h = absurd cc
+main_is e (Main i) c h = (i, refl, h)
+main_is e (Nobody w) c h = absurd cc
+
+is_some_of : {X : Type 0} (b : Bool) (o : Option X) (x : X) → cond b o None ≡ Some x → o ≡ Some x
+is_some_of true o x h = h
+is_some_of false o x h = absurd cc
+
+unreached : (e : End) (peer : ℕ) (bytes : List ℕ) (x : HeaderError) (c : Control) → header_of bytes ≡ Err x → reached e peer bytes ≡ Some c → ⊥
+unfolding reached reached_by
+unreached e peer bytes x c read is = (let g = rw read at is in absurd cc)
+
+reach_of : (e : End) (peer : ℕ) (bytes : List ℕ) (h : Header) (c : Control) → header_of bytes ≡ Ok h → reached e peer bytes ≡ Some c
+    → IsReached e peer bytes h c
+unfolding reached reached_by
+reach_of e peer bytes h c read is =
+    let g = rw read at is in
+    let m = main_is e (addressed e peer h (body_of h bytes)) c (is_some_of h.control _ c g) in
+    let k = mapped (λ (t : Tunnel). t.control) (at e.tunnels m.0) c m.2 in
+    record { id = m.0; tunnel = k.0; there = k.1; same = k.2; named = is_named e peer h (body_of h bytes) m.0 k.0 k.1 m.1 }
+
+-- ---- a message that opens or accepts a tunnel is the first
+
+opening_first : (i : ℕ) (says : Opening → Message) (given : List Letter) → BeginsWith i says given → (k : ℕ) (l : Letter) → slice_get given k ≡ Some l
+    → (IsNoOpening l.message → ⊥) → k ≡ 0
+opening_first i says given begins k l there opens = by k (subst (λ ls. slice_get ls k ≡ Some l) begins.are there)
+  where
+    by : (j : ℕ) → slice_get (begins.first ∷ begins.rest) j ≡ Some l → j ≡ 0
+    by zero is = refl
+    by (suc j) is = absurd (opens (all_at (λ (x : Letter). IsNoOpening x.message) begins.rest j l is begins.later))
+
+sccrq_opens : (m : Message) (o : Opening) → m ≡ Sccrq o → IsNoOpening m → ⊥
+sccrq_opens m o is none = subst IsNoOpening is none
+
+-- ---- what a tunnel and the sender of what reaches it know of each other
+
+-- no letter was given that is far ahead of those that were taken, and none taken that wasn't given
+record AreNearby (a b : Account) : Type 0 where
+  given : length b.given ≤ length a.taken + 8192
+  taken : length b.taken ≤ length a.given
+
+module _ (accs : Accounts) (accounts : (m j : ℕ) → AccountOk accs m j (accs m j)) (n i m j : ℕ) (some : 0 < i) (made : IsMade (accs m j))
+    (peer : (accs m j).peer ≡ n) (remote : (accs m j).remote ≡ i) where
+  abbrev a : Account
+  a = accs n i
+
+  abbrev b : Account
+  b = accs m j
+
+  partner : partner_in accs b ≡ a
+  partner = ap₂ accs peer remote
+
+  known : b.remote ≡ 0 → ⊥
+  known z = absurd (omega (arith, remote, z, some))
+
+  of_opener : IsOpener accs m j b → AreNearby a b
+  of_opener k = let joined = subst (AreJoined b) partner (k.joined known) in record { given = joined.few_here; taken = joined.here }
+
+  of_acceptor : IsAcceptor accs m j b → AreNearby a b
+  of_acceptor k =
+      let part : a.part ≡ Opener = subst (λ (x : Account). x.part ≡ Opener) partner k.part in
+      let back : a.peer ≡ m = subst (λ (x : Account). x.peer ≡ m) partner k.peer in
+      let opener = opener_of accs n i a (accounts n i) part in
+      ⊎_elim
+      (λ (named : a.remote ≡ j).
+      let lt = (accounts m j).some made in
+      let joined = subst (AreJoined a) (ap₂ accs back named) (opener.joined (λ z. absurd (omega (arith, named, z, lt)))) in
+      record { given = joined.few_there; taken = joined.there })
+      (λ (no : a.remote ≡ j → ⊥).
+      let apart = λ (named : (partner_in accs b).remote ≡ j). no (subst (λ (x : Account). x.remote ≡ j) partner named) in
+      let one_taken = k.one_taken apart in
+      let one_given = k.one_given apart in
+      let first = ap length opener.begins.are in
+      record { given = omega arith; taken = omega arith })
+      (same_or_not a.remote j)
+
+  nearby : AreNearby a b
+  nearby = ⊎_elim
+      (λ is. of_opener (opener_of accs m j b (accounts m j) is))
+      (λ is. of_acceptor (acceptor_of accs m j b (accounts m j) is))
+      (part_cases b.part made)
+
+-- ---- the numbers of a copy that reaches a tunnel
+
+record Fit (a : Account) (o : ControlOrigin) : Type 0 where
+  ns : o.empty ≡ false → o.ns ≤ length a.taken + 8192
+  nr : o.nr ≤ length a.given
+
+-- the letter of a copy that isn't empty was given
+copy_there : (b : Account) (o : ControlOrigin) (tunnel : ℕ) (bytes : List ℕ) → Says b o tunnel bytes → o.empty ≡ false → o.ns < length b.given
+copy_there b o tunnel bytes (ALetter l full there are) f = slice_get_within b.given o.ns l there
+copy_there b o tunnel bytes (Nothing empty are) f = absurd cc
+
+module _ (codecs : Codecs) (accs : Accounts) (accounts : (m j : ℕ) → AccountOk accs m j (accs m j)) (n i : ℕ) (some : 0 < i) (p : Packet) (o : ControlOrigin)
+    (copy : IsCopy (accs p.from o.tunnel) p o) (to : p.to ≡ n) (h : Header) (read : header_of p.bytes ≡ Ok h) where
+  abbrev from : Account
+  from = accs p.from o.tunnel
+
+  tells : HeaderTells o copy.tunnel h
+  tells = copy_tells codecs accs p.from o.tunnel from p o (accounts p.from o.tunnel) copy h read
+
+  -- it names the tunnel
+  fit_named : (h.tunnel ≡ 0 → ⊥) → h.tunnel ≡ i → Fit (accs n i) o
+  fit_named not_zero is =
+      let told = tells.tunnel_is in
+      let remote : from.remote ≡ i = ⊎_elim
+      (λ (z : (copy.tunnel ≡ 0) × (o.nr ≡ 0)). absurd (not_zero (told ∙ z.0)))
+      (λ (z : (copy.tunnel ≡ 0 → ⊥) × (copy.tunnel ≡ from.remote)). sym z.1 ∙ (sym told ∙ is)) copy.named in
+      let near = nearby accs accounts n i p.from o.tunnel some copy.made (sym copy.to ∙ to) remote in
+      let le = near.given in
+      let fewer = near.taken in
+      let taken = copy.nr in
+      record { ns = λ full. (let lt = copy_there from o copy.tunnel p.bytes copy.says full in omega arith); nr = omega arith }
+
+  -- it is an SCCRQ: the first letter, which tells nothing taken
+  fit_zero : h.tunnel ≡ 0 → (x : Opening) → message_in (body_of h p.bytes) ≡ Ok (Sccrq x) → Fit (accs n i) o
+  fit_zero none x said =
+      let told = tells.tunnel_is in
+      let nr : o.nr ≡ 0 = ⊎_elim
+      (λ (z : (copy.tunnel ≡ 0) × (o.nr ≡ 0)). z.1)
+      (λ (z : (copy.tunnel ≡ 0 → ⊥) × (copy.tunnel ≡ from.remote)). absurd (z.0 (sym told ∙ none))) copy.named in
+      let body = copy_says codecs accs p.from o.tunnel from p o (accounts p.from o.tunnel) copy h read (Sccrq x) said in
+      let opens = sccrq_opens body.letter.message x body.says in
+      let ok = accounts p.from o.tunnel in
+      let ns : o.ns ≡ 0 = ⊎_elim
+      (λ is. opening_first o.tunnel Sccrq from.given (opener_of accs p.from o.tunnel from ok is).begins o.ns body.letter body.there opens)
+      (λ is. opening_first o.tunnel Sccrp from.given (acceptor_of accs p.from o.tunnel from ok is).begins o.ns body.letter body.there opens)
+      (part_cases from.part copy.made) in
+      record { ns = λ full. omega arith; nr = omega arith }
+
+  fits : (peer : ℕ) (t : Tunnel) → IsNamed peer h (body_of h p.bytes) i t → Fit (accs n i) o
+  fits peer t named = ⊎_elim
+      (λ (k : (h.tunnel ≡ 0 → ⊥) × (h.tunnel ≡ i) × (t.control.peer ≡ peer)). fit_named k.0 k.1)
+      (λ (k : (h.tunnel ≡ 0) × ((x : Opening) × (message_in (body_of h p.bytes) ≡ Ok (Sccrq x)))). fit_zero k.0 k.1.0 k.1.1)
+      named
+
+-- then they are read truly
+is_read : ClassIsTrue → (accs : Accounts) (n i : ℕ) (t : Tunnel) (o : ControlOrigin) → LiveOk accs n i (accs n i) t → IsYoung o t.control → Fit (accs n i) o
+    → IsRead t.control o
+is_read classes accs n i t o live young fit =
+    let taken = live.taken in
+    let near = young.taken in
+    let sum = live.counted in
+    let few = live.few in
+    let out = live.outstanding in
+    let le = fit.nr in
+    record {
+      class = λ full. classes o.ns t.control.channel.inbox ((let ahead = fit.ns full in omega arith), omega arith);
+      acked = count_is_true t.control.channel.window o.nr young.acked (omega arith) (omega arith);
+    }
+
+-- ---- in a run
+
+module _ (codecs : Codecs) (classes : ClassIsTrue) (r : Run) (holds : Holds r.world (account_of r.done)) where
+  abbrev known_accounts : Accounts
+  known_accounts = account_of r.done
+
+  packet_read : (p : Packet) → PacketOk known_accounts p → (o : ControlOrigin) → p.origin ≡ origin.Control o → (node : Node)
+      → at r.world.nodes p.to ≡ Some node → (c : Control) → reached node.end (address_of p.from) p.bytes ≡ Some c → too_old o (Some c) ≡ None → IsRead c o
+  packet_read p ok o is node there c reach young = by (header_of p.bytes) refl
+    where
+      by : (x : Result Header HeaderError) → header_of p.bytes ≡ x → IsRead c o
+      by (Err x) read = absurd (unreached node.end (address_of p.from) p.bytes x c read reach)
+      by (Ok h) read =
+          let k = reach_of node.end (address_of p.from) p.bytes h c read reach in
+          let copy : IsCopy (known_accounts p.from o.tunnel) p o = subst (λ (q : Origin). OriginOk known_accounts p q) is ok.sent in
+          let end : EndOk known_accounts p.to node.end × AreKept node.end = subst (NodeOk known_accounts p.to) there (holds.nodes p.to) in
+          let live = end.0.live k.id k.tunnel k.there in
+          let some = (holds.accounts p.to k.id).some (live_made known_accounts p.to k.id (known_accounts p.to k.id) k.tunnel live) in
+          let fit = fits codecs known_accounts holds.accounts p.to k.id some p o copy refl h read (address_of p.from) k.tunnel k.named in
+          let y = is_young o k.tunnel.control (subst (λ (q : Control). too_old o (Some q) ≡ None) k.same young) in
+          subst (λ (q : Control). IsRead q o) (sym k.same) (is_read classes known_accounts p.to k.id k.tunnel o live y fit)
+
+  pub numbers_read : NumbersAreRead r
+  numbers_read = all_map (PacketOk known_accounts) _ packet_read r.world.packets holds.packets

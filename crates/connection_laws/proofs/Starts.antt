@@ -1,0 +1,101 @@
+-- What holds where a step begins.
+use Rattle.std.proofs.Common.{◌≡◌, ℕ, ◌+◌, ◌≤◌, Bool, true, false, cond, refl, subst, Option, Some, None, Ok, arith}
+use Rattle.std.proofs.lemmas.Bool.Decides.{nat_tests}
+use Rattle.id_table.specs.Ids.{at}
+use Rattle.l2tp_header.specs.declared.header.Header.{Header}
+use Rattle.l2tp_header.specs.Reading.{header_of}
+use Rattle.control_message.specs.declared.message.Message.{Message}
+use Rattle.control_message.specs.declared.message.Message.TheVariants.{Sccrq}
+use Rattle.control_message.specs.declared.message.Opening.{Opening}
+use Rattle.control_message.specs.Pairs.{IsWritten}
+use Rattle.protocol_model.specs.declared.out.Origin.{Origin}
+use Rattle.protocol_model.specs.declared.out.Origin.TheVariants as origin
+use Rattle.protocol_model.specs.declared.out.ControlOrigin.{ControlOrigin}
+use Rattle.protocol_model.specs.declared.packet.Packet.{Packet}
+use Rattle.protocol_model.specs.declared.refusal.Refusal.TheVariants.{HalfSpace}
+use Rattle.protocol_model.specs.declared.tunnel.Control.{Control}
+use Rattle.protocol_model.specs.Names.{address_of}
+use Rattle.protocol_model.specs.Reading.{body_of, message_in}
+use Rattle.protocol_model.specs.Turn.{Tunnel}
+use Rattle.protocol_model.specs.End.{End, reached}
+use Rattle.protocol_model.specs.World.{Node, outlives, too_old, refused_by, sender_of}
+use Rattle.step_laws.specs.Moves.{IsFor}
+use Rattle.frame_laws.specs.Codecs.{Codecs}
+use Rattle.connection_laws.specs.Accounts.{Account}
+use Rattle.connection_laws.specs.Facts.{Accounts, AccountOk, LiveOk, EndOk, IsCopy, OriginOk, PacketOk, AreNear, IsPacket}
+use Rattle.connection_laws.proofs.Later.{live_made}
+use Rattle.connection_laws.proofs.Told.{copy_tells, copy_says}
+use Rattle.connection_laws.proofs.Reached.{is_reached}
+
+-- a live tunnel has an id
+pub live_some : (accs : Accounts) (n i : ℕ) (a : Account) (t : Tunnel) → AccountOk accs n i a → LiveOk accs n i a t → i ≡ 0 → ⊥
+live_some accs n i a t ok live z = let lt = ok.some (live_made accs n i a t live) in absurd (omega arith)
+
+-- ---- numbers that haven't outlived half of them
+
+pub record IsYoung (o : ControlOrigin) (c : Control) : Type 0 where
+  pub taken : c.channel.inbox.taken ≤ o.ns + 32767
+  pub acked : c.channel.window.acked ≤ o.nr + 32767
+
+none_first : {X : Type 0} (b : Bool) (x : X) (o : Option X) → cond b (Some x) o ≡ None → (b ≡ false) × (o ≡ None)
+none_first true x o h = absurd cc
+none_first false x o h = (refl, h)
+
+lives : (number count : ℕ) → outlives number count ≡ false → count ≤ number + 32767
+lives number count h = grind (arith, nat_tests)
+
+pub is_young : (o : ControlOrigin) (c : Control) → too_old o (Some c) ≡ None → IsYoung o c
+unfolding too_old
+is_young o c h =
+    let taken = c.channel.inbox.taken in
+    let acked = c.channel.window.acked in
+    let one = none_first (outlives o.ns taken) (HalfSpace o.ns taken) (cond (outlives o.nr acked) (Some (HalfSpace o.nr acked)) None) h in
+    let two = none_first (outlives o.nr acked) (HalfSpace o.nr acked) None one.1 in
+    record { taken = lives o.ns taken one.0; acked = lives o.nr acked two.0 }
+
+-- ---- the numbers of a packet that isn't refused
+
+written_opens : (m : Message) (x : Opening) → m ≡ Sccrq x → IsWritten m → x.tunnel ≡ 0 → ⊥
+written_opens m x is w z = let k = subst IsWritten is w in let lt = k.tunnel_not_zero in absurd (omega arith)
+
+module _ (codecs : Codecs) (accs : Accounts) (accounts : (m j : ℕ) → AccountOk accs m j (accs m j)) (n : ℕ) (e : End) (ok : EndOk accs n e) (p : Packet) where
+  -- an SCCRQ tells an id
+  opens_some : (o : ControlOrigin) → IsCopy (accs p.from o.tunnel) p o → (h : Header) → header_of p.bytes ≡ Ok h
+      → (x : Opening) → message_in (body_of h p.bytes) ≡ Ok (Sccrq x) → x.tunnel ≡ 0 → ⊥
+  opens_some o c h read x said z =
+      let b = copy_says codecs accs p.from o.tunnel (accs p.from o.tunnel) p o (accounts p.from o.tunnel) c h read (Sccrq x) said in
+      written_opens b.letter.message x b.says b.spelled.written z
+
+  -- the tunnel that a copy is for is the one that it reaches
+  pub copy_reaches : (o : ControlOrigin) → IsCopy (accs p.from o.tunnel) p o → (i : ℕ) (t : Tunnel) (h : Header) → at e.tunnels i ≡ Some t
+      → t.control.peer ≡ address_of p.from → header_of p.bytes ≡ Ok h → IsFor h p.bytes t.control → reached e (address_of p.from) p.bytes ≡ Some t.control
+  copy_reaches o c i t h there peer read is =
+      let tells = copy_tells codecs accs p.from o.tunnel (accs p.from o.tunnel) p o (accounts p.from o.tunnel) c h read in
+      subst (λ q. reached e q p.bytes ≡ Some t.control) peer
+      (is_reached accs n e ok i t there (live_some accs n i (accs n i) t (accounts n i) (ok.live i t there)) p.bytes h read tells.control
+      (opens_some o c h read) is)
+
+  near_of : (o : ControlOrigin) → IsCopy (accs p.from o.tunnel) p o → too_old o (reached e (address_of p.from) p.bytes) ≡ None
+      → AreNear accs n e p (origin.Control o)
+  near_of o c young i t h there peer read is =
+      let y = is_young o t.control (rw (copy_reaches o c i t h there peer read is) at young) in
+      let taken = (ok.live i t there).taken in
+      let le = y.taken in
+      record { taken = omega arith; acked = y.acked }
+
+  pub near_all : (node : Node) → node.end ≡ e → (q : Origin) → OriginOk accs p q → refused_by p node q ≡ None → AreNear accs n e p q
+  unfolding refused_by
+  near_all node same (origin.Control o) c h = near_of o c (rw same at h)
+  near_all node same (origin.Data session) c h = tt
+
+  pub is_packet : (node : Node) → node.end ≡ e → PacketOk accs p → p.to ≡ n → refused_by p node p.origin ≡ None
+      → IsPacket accs n e (sender_of p.from p.origin) (address_of p.from) p.bytes
+  is_packet node same sent to young = record {
+    packet = p;
+    ok = sent;
+    to = to;
+    peer_is = refl;
+    bytes_are = refl;
+    sender_is = refl;
+    near = near_all node same p.origin sent.sent young;
+  }

@@ -1,0 +1,296 @@
+-- What a step of a node leaves of the world.
+use Rattle.std.proofs.Common.{◌≡◌, ⊎_elim, ℕ, ◌+◌, ◌^◌, ◌<◌, ◌≤◌, List, [], ◌∷◌, ◌++◌, refl, sym, ap, ◌∙◌, subst, Option, Some, None, arith}
+use Rattle.std.specs.Prelude.{option_map}
+use Rattle.std.specs.List.{AllByRecursion}
+use Rattle.id_table.specs.Ids.{at, put}
+use Rattle.id_table.specs.Order.{at_new, at_other, same_or_not}
+use Rattle.protocol_model.specs.declared.event.Event.{Event}
+use Rattle.protocol_model.specs.declared.event.Event.TheVariants.{Datagram, Ring, Payload, Lower, OpenTunnel, Tick}
+use Rattle.protocol_model.specs.declared.moves.Move.{Move}
+use Rattle.protocol_model.specs.declared.moves.Move.TheVariants as move
+use Rattle.protocol_model.specs.declared.out.Out.{Out}
+use Rattle.protocol_model.specs.declared.out.Out.TheVariants.{Send, Up, Gone, Drop, Cause}
+use Rattle.protocol_model.specs.declared.packet.Packet.{Packet}
+use Rattle.protocol_model.specs.Names.{node_of}
+use Rattle.protocol_model.specs.Turn.{Tunnel}
+use Rattle.protocol_model.specs.End.{End, Stepped, step}
+use Rattle.protocol_model.specs.World.{World, Node, Sender, Deed, deed_of, with_node, with_birth_at, with_birth, is_born, moved, moved_all, sent, shown, shown_all, given, after_step}
+use Rattle.step_laws.specs.Steps.{AreKept, IsOfMoves, IsChain, StepsAreChains}
+use Rattle.step_laws.specs.Ups.{most_reads, ReadsAreFew}
+use Rattle.connection_laws.specs.Accounts.{no_account}
+use Rattle.connection_laws.specs.Facts.{Accounts, IsMade, LiveOk, EndOk, PacketOk, Comes, Within, NodeOk, Holds}
+use Rattle.connection_laws.proofs.Keeps.{MovesKeep}
+use Rattle.connection_laws.proofs.Later.{AllExtend, live_made, live_later, packet_later}
+use Rattle.connection_laws.proofs.Budget.{GivenBelow, acked_given}
+use Rattle.connection_laws.proofs.Steps.{afterwards, deeds, Kept, chain_keeps, Ran}
+pub use Rattle.connection_laws.specs.Steps.{end_at, LineSteps}
+use Rattle.connection_laws.proofs.Sent.{carries_ok}
+
+-- ---- the ends of nodes
+
+-- the ends and the packets stay
+pub record SameEnds (w v : World) : Type 0 where
+  pub ends : (k : ℕ) → end_at v k ≡ end_at w k
+  pub packets : v.packets ≡ w.packets
+
+same_ends : (w : World) → SameEnds w w
+same_ends w = record { ends = λ k. refl; packets = refl }
+
+ends_on : (u v w : World) → SameEnds u v → SameEnds v w → SameEnds u w
+ends_on u v w g h = record { ends = λ k. h.ends k ∙ g.ends k; packets = h.packets ∙ g.packets }
+
+with_same : (w : World) (n : ℕ) (old new : Node) → at w.nodes n ≡ Some old → new.end ≡ old.end → SameEnds w (with_node w n new)
+with_same w n old new was same = record {
+  ends = λ k. ⊎_elim
+      (λ (e : k ≡ n). rw (e, at_new w.nodes n new, was) (ap (λ x. Some x) same))
+      (λ o. ap (λ x. option_map (λ (node : Node). node.end) x) (at_other w.nodes n new k o))
+      (same_or_not k n);
+  packets = refl;
+}
+
+birth_same : (w : World) (n session birth : ℕ) → SameEnds w (with_birth w n session birth)
+unfolding with_birth
+birth_same w n session birth = by (at w.nodes n) refl
+  where
+    by : (o : Option Node) → at w.nodes n ≡ o → SameEnds w (with_birth_at w n session birth o)
+    by None is = same_ends w
+    by (Some node) is = with_same w n node (record node { births = put node.births session birth }) is refl
+
+born_same : (w : World) (n session : ℕ) → SameEnds w (is_born w n session)
+unfolding is_born
+born_same w n session =
+    ends_on w (record w { born = _ }) _ (record { ends = λ k. refl; packets = refl }) (birth_same (record w { born = _ }) n session _)
+
+-- births change no end
+move_same : (n : ℕ) (w : World) (m : Move) → SameEnds w (moved n w m)
+unfolding moved
+move_same n w (move.Opened m) = same_ends w
+move_same n w (move.Accepted m) = same_ends w
+move_same n w (move.Connected m) = same_ends w
+move_same n w (move.Confirmed m) = same_ends w
+move_same n w (move.Added m) = born_same w n m.session
+move_same n w (move.Requested m) = same_ends w
+move_same n w (move.Replied m) = birth_same w n m.session _
+move_same n w (move.FirstUp m) = same_ends w
+move_same n w (move.SecondUp m) = same_ends w
+move_same n w (move.EndTold m) = same_ends w
+move_same n w (move.EndHeard m) = same_ends w
+move_same n w (move.EndSilent m) = same_ends w
+move_same n w (move.Cleared i) = same_ends w
+move_same n w (move.Greeted m) = same_ends w
+move_same n w (move.TookPlain m) = same_ends w
+move_same n w (move.NrRead m) = same_ends w
+move_same n w (move.LetGo m) = same_ends w
+move_same n w (move.Repeated m) = same_ends w
+move_same n w (move.Quiet i) = same_ends w
+move_same n w (move.FrameSent m) = same_ends w
+move_same n w (move.FrameUp m) = same_ends w
+
+moves_same : (n : ℕ) (ms : List Move) (w : World) → SameEnds w (moved_all n ms w)
+unfolding moved_all
+moves_same n [] w = same_ends w
+moves_same n (m ∷ ms) w = ends_on w (moved n w m) (moved_all n ms (moved n w m)) (move_same n w m) (moves_same n ms (moved n w m))
+
+-- ---- what is shown
+
+shown_nodes : (n : ℕ) (os : List Out) (w : World) → (shown_all n os w).nodes ≡ w.nodes
+unfolding shown_all shown sent
+shown_nodes n [] w = refl
+shown_nodes n (Send peer bytes origin ∷ os) w = shown_nodes n os (sent w n (node_of peer) bytes origin)
+shown_nodes n (Up session side frame ∷ os) w = shown_nodes n os w
+shown_nodes n (Gone session ∷ os) w = shown_nodes n os w
+shown_nodes n (Drop x ∷ os) w = shown_nodes n os w
+shown_nodes n (Cause x ∷ os) w = shown_nodes n os w
+
+-- what is to hold of the packets that are sent
+abbrev SendOk : (Packet → Type 0) → ℕ → Out → Type 0
+SendOk P n (Send peer bytes origin) = P (record { from = n; to = node_of peer; bytes = bytes; origin = origin })
+SendOk P n (Up session side frame) = Unit {0}
+SendOk P n (Gone session) = Unit {0}
+SendOk P n (Drop x) = Unit {0}
+SendOk P n (Cause x) = Unit {0}
+
+all_push : {X : Type 0} (P : X → Type 0) (xs : List X) (x : X) → AllByRecursion P xs → P x → AllByRecursion P (xs ++ x ∷ [])
+all_push P [] x h p = (p, tt)
+all_push P (y ∷ xs) x h p = (h.0, all_push P xs x h.1 p)
+
+pub all_map : {X : Type 0} (P Q : X → Type 0) → ((x : X) → P x → Q x) → (xs : List X) → AllByRecursion P xs → AllByRecursion Q xs
+all_map P Q f [] h = tt
+all_map P Q f (x ∷ xs) h = (f x h.0, all_map P Q f xs h.1)
+
+shown_packets : (P : Packet → Type 0) (n : ℕ) (os : List Out) (w : World) → AllByRecursion (SendOk P n) os → AllByRecursion P w.packets
+    → AllByRecursion P (shown_all n os w).packets
+unfolding shown_all shown sent
+shown_packets P n [] w ok had = had
+shown_packets P n (Send peer bytes origin ∷ os) w ok had =
+    shown_packets P n os (sent w n (node_of peer) bytes origin) ok.1 (all_push P w.packets _ had ok.0)
+shown_packets P n (Up session side frame ∷ os) w ok had = shown_packets P n os w ok.1 had
+shown_packets P n (Gone session ∷ os) w ok had = shown_packets P n os w ok.1 had
+shown_packets P n (Drop x ∷ os) w ok had = shown_packets P n os w ok.1 had
+shown_packets P n (Cause x ∷ os) w ok had = shown_packets P n os w ok.1 had
+
+-- ---- other nodes
+
+-- what holds of a node, by its end
+abbrev pub NodeEndOk : Accounts → ℕ → Option End → Type 0
+NodeEndOk accs n None = (i : ℕ) → accs n i ≡ no_account
+NodeEndOk accs n (Some e) = EndOk accs n e × AreKept e
+
+by_end : (accs : Accounts) (n : ℕ) (o : Option Node) → NodeOk accs n o → NodeEndOk accs n (option_map (λ (node : Node). node.end) o)
+by_end accs n None h = h
+by_end accs n (Some node) h = h
+
+of_end : (accs : Accounts) (n : ℕ) (o : Option Node) → NodeEndOk accs n (option_map (λ (node : Node). node.end) o) → NodeOk accs n o
+of_end accs n None h = h
+of_end accs n (Some node) h = h
+
+module _ (accs ms : Accounts) (grown : AllExtend accs ms) (k : ℕ) (same : (i : ℕ) → ms k i ≡ accs k i)
+    (some : (i : ℕ) → IsMade (accs k i) → 0 < i) where
+  -- the accounts of an end stay, and more is known of its tunnels' partners
+  end_later : (e : End) → EndOk accs k e → EndOk ms k e
+  end_later e h = record {
+    node = h.node;
+    number = h.number;
+    lns = h.lns;
+    first = h.first;
+    last = h.last;
+    first_session = h.first_session;
+    last_session = h.last_session;
+    order = h.order;
+    drawn = λ i made. h.drawn i (subst IsMade (same i) made);
+    live = live;
+    apart = h.apart;
+  }
+    where
+      live : (i : ℕ) (t : Tunnel) → at e.tunnels i ≡ Some t → LiveOk ms k i (ms k i) t
+      live i t there =
+          let l = h.live i t there in
+          subst (λ a. LiveOk ms k i a t) (sym (same i)) (live_later accs ms grown k i (some i (live_made accs k i (accs k i) t l)) (accs k i) t l)
+
+  node_later : (o : Option End) → NodeEndOk accs k o → NodeEndOk ms k o
+  node_later None h = λ i. same i ∙ h i
+  node_later (Some e) h = (end_later e h.0, h.1)
+
+-- ---- a step
+
+few_reads : (ev : Event) → most_reads ev ≤ 1
+few_reads (Datagram peer bytes) = omega arith
+few_reads (Ring port) = omega arith
+few_reads (Payload s frame) = omega arith
+few_reads (Lower s frame) = omega arith
+few_reads OpenTunnel = omega arith
+few_reads Tick = omega arith
+
+-- what a line leaves
+pub record Goes (accs : Accounts) (most : ℕ) (after : World) (more : List Deed) : Type 0 where
+  pub holds : Holds after (afterwards accs more)
+  pub given : GivenBelow (afterwards accs more) most
+
+-- what was proved of steps before
+pub record Laws : Type 0 where
+  pub moves : MovesKeep
+  pub chains : StepsAreChains
+  pub reads : ReadsAreFew
+
+module _ (laws : Laws) (number : ℕ) (w : World) (accs : Accounts) (holds : Holds w accs) (most : ℕ) (had : GivenBelow accs most)
+    (room : most + 24576 < 2 ^ 64) (n : ℕ) (old : Node) (was : at w.nodes n ≡ Some old) (clock : ℕ) (ev : Event) (sender : Option Sender)
+    (comes : Comes accs n old.end sender ev) (moment : ℕ) (block : List ℕ) where
+  ok : EndOk accs n old.end × AreKept old.end
+  ok = subst (NodeOk accs n) was (holds.nodes n)
+
+  -- the node at the moment of the step
+  abbrev timed : Node
+  timed = record old { clock = clock }
+
+  abbrev s : Stepped
+  s = step old.end moment block ev
+
+  chain : IsChain old.end moment ev s
+  chain = laws.chains old.end ok.1 moment block ev
+
+  abbrev ended : Node
+  ended = record timed { end = s.end }
+
+  abbrev base : World
+  base = with_node w n ended
+
+  abbrev v : World
+  v = moved_all n s.moves base
+
+  abbrev done : List Deed
+  done = deeds v number n old.end.role sender s.moves
+
+  abbrev ms : Accounts
+  ms = afterwards accs done
+
+  begun : Within accs n old.end sender ev
+  begun = record { accounts = holds.accounts; end = ok.0; comes = comes }
+
+  ran : Ran accs ms n old.end s.end sender moment ev (λ m. deed_of v number n old.end.role sender m) s.moves (most + 16384)
+  ran =
+      let reads = laws.reads old.end moment block ev in
+      let few = few_reads ev in
+      chain_keeps laws.moves v number n old.end.role sender moment ev s.moves accs old.end s.end most (most + 16384) chain.chain refl begun
+      (acked_given accs n old.end most ok.0 had) (λ k j. (let le = had k j in omega arith)) (omega arith) (omega (arith, room))
+
+  kept : Kept accs ms n s.end sender ev (most + 16384)
+  kept = ran.kept
+
+  send_ok : (o : Out) → IsOfMoves s.end s.moves o → SendOk (PacketOk ms) n o
+  send_ok (Send peer bytes o) h =
+      carries_ok ms n s.end sender ev (most + 16384) kept.within kept.given (omega (arith, room)) h.id h.tunnel h.there peer h.peer_is bytes s.moves o h.carries
+  send_ok (Up session side frame) h = tt
+  send_ok (Gone session) h = tt
+  send_ok (Drop x) h = tt
+  send_ok (Cause x) h = tt
+
+  base_ok : (k : ℕ) → NodeEndOk ms k (end_at base k)
+  base_ok k = ⊎_elim
+      (λ (e : k ≡ n).
+      subst (λ q. NodeEndOk ms q (end_at base q)) (sym e) (rw (at_new w.nodes n ended) (kept.within.end, chain.kept)))
+      (λ o. rw (at_other w.nodes n ended k o)
+      (node_later accs ms kept.grown k (λ i. kept.others k i o) (λ i made. (holds.accounts k i).some made) (end_at w k)
+      (by_end accs k (at w.nodes k) (holds.nodes k))))
+      (same_or_not k n)
+
+  same : SameEnds base v
+  same = moves_same n s.moves base
+
+  node_ok : (k : ℕ) → NodeOk ms k (at v.nodes k)
+  node_ok k = of_end ms k (at v.nodes k) (subst (NodeEndOk ms k) (sym (same.ends k)) (base_ok k))
+
+  goes : Goes accs (most + 16384) (shown_all n s.outputs v) done
+  goes = record {
+    holds = record {
+      accounts = kept.within.accounts;
+      nodes = λ k. subst (λ ns. NodeOk ms k (at ns k)) (sym (shown_nodes n s.outputs v)) (node_ok k);
+      packets = shown_packets (PacketOk ms) n s.outputs v (all_map (IsOfMoves s.end s.moves) (SendOk (PacketOk ms) n) send_ok s.outputs chain.outputs)
+          (subst (λ ps. AllByRecursion (PacketOk ms) ps) (sym same.packets)
+          (all_map (PacketOk accs) (PacketOk ms) (λ p h. packet_later accs ms kept.grown p h) w.packets holds.packets));
+    };
+    given = kept.given;
+  }
+
+  ends_shown : (k : ℕ) → end_at (shown_all n s.outputs v) k ≡ end_at base k
+  ends_shown k = ap (λ (ns : List (ℕ × Node)). option_map (λ (node : Node). node.end) (at ns k)) (shown_nodes n s.outputs v) ∙ same.ends k
+
+  pub step_ok : let l = after_step w number n timed sender s in Goes accs (most + 16384) l.world l.done
+  unfolding after_step given
+  step_ok = goes
+
+  pub step_does : LineSteps w accs number (after_step w number n timed sender s)
+  unfolding after_step given
+  step_does = record {
+    node = n;
+    old = old;
+    was = was;
+    sender = sender;
+    moment = moment;
+    block = block;
+    ev = ev;
+    told = v;
+    done = refl;
+    moves = ran.moves;
+    end = ends_shown n ∙ ap (λ (o : Option Node). option_map (λ (node : Node). node.end) o) (at_new w.nodes n ended);
+    others = λ k o. ends_shown k ∙ ap (λ (o : Option Node). option_map (λ (node : Node). node.end) o) (at_other w.nodes n ended k o);
+  }

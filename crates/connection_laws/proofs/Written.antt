@@ -1,0 +1,68 @@
+-- What is given to a channel is written, and ids are drawn in order.
+use Rattle.std.proofs.Common.{◌≡◌, ℕ, ◌+◌, ◌-◌, ◌<◌, ◌≤◌, Bool, true, false, cond, length, refl, sym, Ok, Err, arith}
+use Rattle.std.proofs.lemmas.Bool.{ltb-false}
+use Rattle.std.proofs.lemmas.List.{length-append}
+use Rattle.std.proofs.lemmas.Fmt.{length-decimal-le}
+use Rattle.std.specs.Fmt.{decimal}
+use Rattle.std.specs.Prelude.{nat_lt}
+use Rattle.id_source.specs.declared.IdError.TheVariants.{NoIds, NeedCeiling}
+use Rattle.id_source.specs.Spaces.{Space, draws, after_draw}
+use Rattle.control_message.specs.Pairs.{IsWritten, IsWrittenOpening}
+use Rattle.protocol_model.specs.declared.tunnel.Config.{Config}
+use Rattle.protocol_model.specs.declared.tunnel.Role.{Role}
+use Rattle.protocol_model.specs.declared.tunnel.Role.TheVariants.{Lac, Lns}
+use Rattle.protocol_model.specs.Names.{address_of, node_of, host_name, calling_number}
+use Rattle.protocol_model.specs.Turn.{opening_of, request_of}
+
+-- ---- messages
+
+name_fits : (r : Role) (n : ℕ) → n < 256 → length (host_name r n) ≤ 1017
+unfolding host_name
+name_fits r n lt = by r (length-decimal-le 3 n (omega arith) (omega arith) (omega arith))
+  where
+    by : (r : Role) → length (decimal n) ≤ 3 → length (host_name r n) ≤ 1017
+    by Lac le = simp length-append (omega arith)
+    by Lns le = simp length-append (omega arith)
+
+pub opening_written : (r : Role) (c : Config) (local : ℕ) → c.number < 256 → 0 < local → local < 65536 → IsWrittenOpening (opening_of r c local)
+opening_written r c local lt some fits = record {
+  version = refl;
+  framing = omega arith;
+  name = name_fits r c.number lt;
+  tunnel = fits;
+  tunnel_not_zero = some;
+  window = omega arith;
+  window_not_zero = omega arith;
+  failover = (omega arith, omega arith);
+}
+
+-- only the number of the end is told
+pub same_opening : (r : Role) (c d : Config) (local : ℕ) → c.number ≡ d.number → opening_of r c local ≡ opening_of r d local
+same_opening r c d local same = rw same refl
+
+pub request_written : ((port : ℕ) → length (calling_number port) ≡ 12) → (s port : ℕ) → s < 65536 → IsWritten (request_of s port)
+request_written digits s port fits = (omega arith, omega arith, (let d = digits port in omega arith))
+
+-- ---- ids
+
+pub draw_is : (s : Space) (k : ℕ) → draws s ≡ Ok k → (k ≡ s.next) × (k ≤ s.last)
+unfolding draws
+draw_is s k h = by (nat_lt s.last s.next) (nat_lt s.ceiling s.next) refl h
+  where
+    by : (a b : Bool) → nat_lt s.last s.next ≡ a → cond a (Err (NoIds (s.next - 1))) (cond b (Err (NeedCeiling s.next)) (Ok s.next)) ≡ Ok k
+        → (k ≡ s.next) × (k ≤ s.last)
+    by true b e h = absurd cc
+    by false true e h = absurd cc
+    by false false e h = let g : s.next ≡ k = cc in let le = ltb-false s.last s.next e in (sym g, omega (arith, g))
+
+pub next_is : (s : Space) (k : ℕ) → draws s ≡ Ok k → after_draw s ≡ record s { next = k + 1 }
+next_is s k h = rw h refl
+
+-- a node's address is its own
+pub node_again : (from : ℕ) → from < 256 → node_of (address_of from) ≡ from
+unfolding node_of address_of
+node_again from lt = omega arith
+
+pub node_fits : (address : ℕ) → node_of address < 256
+unfolding node_of
+node_fits address = omega arith

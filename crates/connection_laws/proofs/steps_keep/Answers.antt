@@ -1,0 +1,20 @@
+use Rattle.connection_laws.proofs.Moves.{moves_keep}
+use Rattle.connection_laws.proofs.Said.{next_is_heard, plain_is_heard}
+use Rattle.connection_laws.proofs.Runs.{begins}
+use Rattle.connection_laws.proofs.Laws.{lines_of_runs}
+use Rattle.connection_laws.proofs.steps_keep.Goals as goal
+
+pub returns-clause-moves : goal.returns-clause-moves
+returns-clause-moves c = moves_keep c.laws_below.ensures.codecs c.laws_below.ensures.classes
+
+pub returns-clause-heard : goal.returns-clause-heard
+returns-clause-heard c = next_is_heard c.laws_below.ensures.codecs c.laws_below.ensures.classes
+
+pub returns-clause-plain : goal.returns-clause-plain
+returns-clause-plain c = plain_is_heard c.laws_below.ensures.codecs c.laws_below.ensures.classes
+
+pub returns-clause-lines : goal.returns-clause-lines
+returns-clause-lines c = lines_of_runs c.laws_below.ensures.codecs c.laws_below.ensures.chains c.laws_below.ensures.reads c.laws_below.ensures.classes
+
+pub returns-clause-begins : goal.returns-clause-begins
+returns-clause-begins c = begins

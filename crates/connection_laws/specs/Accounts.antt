@@ -1,0 +1,113 @@
+-- What a run did with the letters of each tunnel, of what its lines did. No end keeps it, and the run doesn't depend on it.
+use Rattle.std.specs.Prelude.{ℕ, List, [], ◌∷◌, ◌++◌, ◌==◌, ◌&&◌, Option, Some, None, if◌then◌else◌}
+use Rattle.protocol_model.specs.declared.moves.Place.{Place}
+use Rattle.protocol_model.specs.declared.moves.Move.{Move}
+use Rattle.protocol_model.specs.declared.moves.Move.TheVariants as move
+use Rattle.protocol_model.specs.Names.{node_of}
+use Rattle.protocol_model.specs.World.{Sender, Deed, config_of}
+use Rattle.step_laws.specs.Letters.{Letter, letters_of}
+
+-- how a tunnel was made: not at all, by opening it, or by accepting an SCCRQ
+pub data Part : Type 0 where
+  Unmade : Part
+  Opener : Part
+  Acceptor : Part
+
+-- a letter that a tunnel took
+pub record Taken : Type 0 where
+  -- the tunnel that sent it, if one did
+  pub sender : Option Sender
+  -- its number, counted without an end
+  pub number : ℕ
+  -- what the tunnel did with it
+  pub move : Move
+
+-- what a tunnel is or was, by what was done in it
+pub record Account : Type 0 where
+  pub part : Part
+  -- the node that it goes to, and the id that this node gave its own tunnel, 0 where it isn't known
+  pub peer : ℕ
+  pub remote : ℕ
+  -- every letter that was given to its channel, and every letter that it took, in order
+  pub given : List Letter
+  pub taken : List Taken
+
+abbrev pub no_account : Account
+no_account = record { part = Unmade; peer = 0; remote = 0; given = []; taken = [] }
+
+-- the tunnel that a move is about
+abbrev pub about : Move → ℕ
+about (move.Opened m) = m.tunnel
+about (move.Accepted m) = m.tunnel
+about (move.Connected m) = m.tunnel
+about (move.Confirmed m) = m.tunnel
+about (move.Added m) = m.tunnel
+about (move.Requested m) = m.tunnel
+about (move.Replied m) = m.tunnel
+about (move.FirstUp m) = m.tunnel
+about (move.SecondUp m) = m.tunnel
+about (move.EndTold m) = m.tunnel
+about (move.EndHeard m) = m.tunnel
+about (move.EndSilent m) = m.tunnel
+about (move.Cleared i) = i
+about (move.Greeted m) = m.tunnel
+about (move.TookPlain m) = m.tunnel
+about (move.NrRead m) = m.tunnel
+about (move.LetGo m) = m.tunnel
+about (move.Repeated m) = m.tunnel
+about (move.Quiet i) = i
+about (move.FrameSent m) = m.tunnel
+about (move.FrameUp m) = m.tunnel
+
+-- the letters that a deed gives
+abbrev pub gives : Deed → List Letter
+gives d = letters_of d.role (config_of d.node 0) d.move
+
+abbrev pub takes_at : Deed → Place → Account → Account
+takes_at d place a = record a { taken = a.taken ++ (record { sender = d.sender; number = place.number; move = d.move }) ∷ [] }
+
+abbrev pub gives_also : Deed → Account → Account
+gives_also d a = record a { given = a.given ++ gives d }
+
+-- a tunnel after a deed in it
+abbrev pub entered_by : Deed → Move → Account → Account
+entered_by d (move.Opened m) a = gives_also d (record a { part = Opener; peer = node_of m.peer })
+entered_by d (move.Accepted m) a = gives_also d (takes_at d m.taken (record a { part = Acceptor; peer = node_of m.peer; remote = m.remote }))
+entered_by d (move.Connected m) a = gives_also d (takes_at d m.taken (record a { remote = m.remote }))
+entered_by d (move.Confirmed m) a = takes_at d m.taken a
+entered_by d (move.Added m) a = a
+entered_by d (move.Requested m) a = gives_also d a
+entered_by d (move.Replied m) a = gives_also d (takes_at d m.taken a)
+entered_by d (move.FirstUp m) a = gives_also d (takes_at d m.taken a)
+entered_by d (move.SecondUp m) a = takes_at d m.taken a
+entered_by d (move.EndTold m) a = gives_also d a
+entered_by d (move.EndHeard m) a = takes_at d m.taken a
+entered_by d (move.EndSilent m) a = a
+entered_by d (move.Cleared i) a = a
+entered_by d (move.Greeted m) a = gives_also d a
+entered_by d (move.TookPlain m) a = takes_at d m.taken a
+entered_by d (move.NrRead m) a = a
+entered_by d (move.LetGo m) a = a
+entered_by d (move.Repeated m) a = a
+entered_by d (move.Quiet i) a = a
+entered_by d (move.FrameSent m) a = a
+entered_by d (move.FrameUp m) a = a
+
+abbrev pub entered : Deed → Account → Account
+entered d a = entered_by d d.move a
+
+-- the tunnel of a node after a deed
+abbrev pub after_deed : Deed → ℕ → ℕ → Account → Account
+after_deed d n i a = if (d.node == n) && (about d.move == i) then entered d a else a
+
+unfoldable pub account_from : List Deed → ℕ → ℕ → Account → Account
+account_from [] n i a = a
+account_from (d ∷ ds) n i a = account_from ds n i (after_deed d n i a)
+
+-- by its node and its local id
+abbrev pub account_of : List Deed → ℕ → ℕ → Account
+account_of ds n i = account_from ds n i no_account
+
+-- the other end of a tunnel, once its id is known
+abbrev pub partner_of : Account → Option Sender
+partner_of a = if a.remote == 0 then None else Some (record { node = a.peer; tunnel = a.remote })

@@ -1,0 +1,296 @@
+-- What holds of the tunnels of a world, of their channels and of the packets between them, after each line and each move.
+use Rattle.std.specs.Prelude.{◌≡◌, ◌⊎◌, ℕ, ◌+◌, ◌<◌, ◌≤◌, Bool, List, [], ◌∷◌, drop, map, length, slice_get, Option, Some, None, Ok, true, false}
+use Rattle.std.specs.List.{AllByRecursion}
+use Rattle.id_table.specs.Ids.{at}
+use Rattle.id_table.specs.Order.{Ascends}
+use Rattle.wire_base.specs.declared.letter.Letter as wire
+use Rattle.l2tp_header.specs.declared.header.Header.{Header}
+use Rattle.l2tp_header.specs.Reading.{header_of}
+use Rattle.l2tp_header.specs.Spelling.{control_bytes, data_bytes}
+use Rattle.avp_codec.specs.Spelling.{spelling}
+use Rattle.control_message.specs.declared.message.Message.{Message}
+use Rattle.control_message.specs.declared.message.Message.TheVariants.{Sccrq, Sccrp, Scccn, Hello, Icrq, Icrp, Iccn, Cdn}
+use Rattle.control_message.specs.declared.message.Opening.{Opening}
+use Rattle.control_message.specs.Pairs.{pairs_of, IsWritten}
+use Rattle.recv_window.specs.Window.{on_wire}
+use Rattle.tunnel_fsm.specs.Rows.{state_number}
+use Rattle.protocol_model.specs.declared.event.Event.{Event}
+use Rattle.protocol_model.specs.declared.event.Event.TheVariants.{Datagram, Ring, Payload, Lower, OpenTunnel, Tick}
+use Rattle.protocol_model.specs.declared.moves.Move.{Move}
+use Rattle.protocol_model.specs.declared.moves.Move.TheVariants as move
+use Rattle.protocol_model.specs.declared.out.Origin.{Origin}
+use Rattle.protocol_model.specs.declared.out.Origin.TheVariants as origin
+use Rattle.protocol_model.specs.declared.out.ControlOrigin.{ControlOrigin}
+use Rattle.protocol_model.specs.declared.packet.Packet.{Packet}
+use Rattle.protocol_model.specs.declared.tunnel.Call.{Call}
+use Rattle.protocol_model.specs.declared.tunnel.Role.TheVariants.{Lac}
+use Rattle.protocol_model.specs.Names.{address_of}
+use Rattle.protocol_model.specs.Turn.{Tunnel, letter_of}
+use Rattle.protocol_model.specs.End.{End}
+use Rattle.protocol_model.specs.World.{World, Node, Sender, sender_of}
+use Rattle.step_laws.specs.Letters.{Letter}
+use Rattle.step_laws.specs.Moves.{IsFor}
+use Rattle.step_laws.specs.Steps.{AreKept}
+use Rattle.connection_laws.specs.Accounts.{Part, Unmade, Opener, Acceptor, Taken, Account, no_account, partner_of}
+
+-- what is known of each tunnel of each node, by the node and the local id
+abbrev pub Accounts : Type 0
+Accounts = ℕ → ℕ → Account
+
+-- ---- letters
+
+-- it opens no tunnel, nor accepts one
+abbrev pub IsNoOpening : Message → Type 0
+IsNoOpening (Sccrq o) = ⊥
+IsNoOpening (Sccrp o) = ⊥
+IsNoOpening Scccn = Unit {0}
+IsNoOpening Hello = Unit {0}
+IsNoOpening (Icrq session serial calling) = Unit {0}
+IsNoOpening (Icrp session) = Unit {0}
+IsNoOpening (Iccn speed framing sequenced) = Unit {0}
+IsNoOpening (Cdn session code error) = Unit {0}
+
+-- the letter is spelled, and read again
+pub record IsSpelled (l : Letter) : Type 0 where
+  pub written : IsWritten l.message
+  pub session : l.session < 65536
+
+-- the first letter is this message, which tells the tunnel's id, and no other one opens or accepts a tunnel
+pub record BeginsWith (i : ℕ) (says : Opening → Message) (given : List Letter) : Type 0 where
+  pub first : Letter
+  pub rest : List Letter
+  pub are : given ≡ first ∷ rest
+  pub opening : Opening
+  pub says_so : first.message ≡ says opening
+  pub id : opening.tunnel ≡ i
+  pub later : AllByRecursion (λ (l : Letter). IsNoOpening l.message) rest
+
+-- what a tunnel did with a letter that it took is what the letter says
+abbrev pub Tells : Letter → Move → Type 0
+Tells l (move.Accepted m) = (o : Opening) × (l.message ≡ Sccrq o) × (m.remote ≡ o.tunnel) × (m.window ≡ o.window)
+Tells l (move.Connected m) = (o : Opening) × (l.message ≡ Sccrp o) × (m.remote ≡ o.tunnel) × (m.window ≡ o.window)
+Tells l (move.Confirmed m) = l.message ≡ Scccn
+Tells l (move.Replied m) = (serial : ℕ) × (calling : Option (List ℕ)) × (l.message ≡ Icrq m.remote serial calling)
+Tells l (move.FirstUp m) = (l.session ≡ m.session) × (l.message ≡ Icrp m.remote)
+Tells l (move.SecondUp m) = (l.session ≡ m.session) × ((speed : ℕ) × (framing : ℕ) × (sequenced : Bool) × (l.message ≡ Iccn speed framing sequenced))
+Tells l (move.EndHeard m) = (remote : ℕ) × (code : ℕ) × (error : Option ℕ) × (l.message ≡ Cdn remote code error)
+Tells l m = Unit {0}
+
+-- what a tunnel took as the letter with a number is the letter with that number, of those given to its partner's channel
+pub record IsTaken (accs : Accounts) (a : Account) (number : ℕ) (t : Taken) : Type 0 where
+  pub numbered : t.number ≡ number
+  pub partner : Sender
+  pub learned : partner_of a ≡ Some partner
+  pub sender : t.sender ≡ Some partner
+  pub letter : Letter
+  pub there : slice_get (accs partner.node partner.tunnel).given number ≡ Some letter
+  pub tells : Tells letter t.move
+
+abbrev pub AreTaken : Accounts → Account → Type 0
+AreTaken accs a = (number : ℕ) (t : Taken) → slice_get a.taken number ≡ Some t → IsTaken accs a number t
+
+-- ---- two partners
+
+-- what two tunnels that have learned each other took of each other: no more than was given, and at most 8,192 letters more
+-- were given than are taken
+pub record AreJoined (a b : Account) : Type 0 where
+  pub here : length a.taken ≤ length b.given
+  pub there : length b.taken ≤ length a.given
+  pub few_here : length a.given ≤ length b.taken + 8192
+  pub few_there : length b.given ≤ length a.taken + 8192
+
+-- the account of the partner of a tunnel that has learned its id
+abbrev pub partner_in : Accounts → Account → Account
+partner_in accs a = accs a.peer a.remote
+
+-- a tunnel that was opened: what it takes is of the acceptor that it learned
+pub record IsOpener (accs : Accounts) (n i : ℕ) (a : Account) : Type 0 where
+  pub begins : BeginsWith i Sccrq a.given
+  pub none : a.remote ≡ 0 → a.taken ≡ []
+  pub some : (a.remote ≡ 0 → ⊥) → 1 ≤ length a.taken
+  pub part : (a.remote ≡ 0 → ⊥) → (partner_in accs a).part ≡ Acceptor
+  pub peer : (a.remote ≡ 0 → ⊥) → (partner_in accs a).peer ≡ n
+  pub remote : (a.remote ≡ 0 → ⊥) → (partner_in accs a).remote ≡ i
+  pub joined : (a.remote ≡ 0 → ⊥) → AreJoined a (partner_in accs a)
+
+-- a tunnel that was accepted: as long as its opener hasn't learned it, it took the SCCRQ alone, and gave its SCCRP alone
+pub record IsAcceptor (accs : Accounts) (n i : ℕ) (a : Account) : Type 0 where
+  pub begins : BeginsWith i Sccrp a.given
+  pub known : a.remote ≡ 0 → ⊥
+  pub some : 1 ≤ length a.taken
+  pub part : (partner_in accs a).part ≡ Opener
+  pub peer : (partner_in accs a).peer ≡ n
+  pub one_taken : ((partner_in accs a).remote ≡ i → ⊥) → length a.taken ≡ 1
+  pub one_given : ((partner_in accs a).remote ≡ i → ⊥) → length a.given ≡ 1
+
+abbrev pub IsPart : Accounts → ℕ → ℕ → Account → Part → Type 0
+IsPart accs n i a Unmade = a ≡ no_account
+IsPart accs n i a Opener = IsOpener accs n i a
+IsPart accs n i a Acceptor = IsAcceptor accs n i a
+
+abbrev pub IsMade : Account → Type 0
+IsMade a = a.part ≡ Unmade → ⊥
+
+pub record AccountOk (accs : Accounts) (n i : ℕ) (a : Account) : Type 0 where
+  pub part : IsPart accs n i a a.part
+  pub some : IsMade a → 0 < i
+  pub id : IsMade a → i < 65536
+  pub node : IsMade a → n < 256
+  pub peer : a.peer < 256
+  pub remote : a.remote < 65536
+  pub spelled : AllByRecursion IsSpelled a.given
+  pub taken : AreTaken accs a
+
+-- ---- live tunnels
+
+-- the letter as a channel keeps it
+abbrev pub kept_letter : Letter → wire.Letter
+kept_letter l = letter_of l.session l.message
+
+-- an acceptor of the tunnel's SCCRQ
+pub record IsAnswered (accs : Accounts) (n i : ℕ) (a : Account) : Type 0 where
+  pub acceptor : ℕ
+  pub part : (accs a.peer acceptor).part ≡ Acceptor
+  pub peer : (accs a.peer acceptor).peer ≡ n
+  pub remote : (accs a.peer acceptor).remote ≡ i
+
+-- where a tunnel stands, by how it was made: it has learned its partner's id once it is open, and an acceptor is open only
+-- where its opener has learned it
+abbrev pub IsInState : Accounts → ℕ → Account → Tunnel → Part → Type 0
+IsInState accs i a t Unmade = ⊥
+IsInState accs i a t Opener =
+    ((state_number t.control.state ≡ 1) × (a.remote ≡ 0)) ⊎ ((state_number t.control.state ≡ 3) × (a.remote ≡ 0 → ⊥))
+IsInState accs i a t Acceptor =
+    ((state_number t.control.state ≡ 2) × (t.calls ≡ [])) ⊎ ((state_number t.control.state ≡ 3) × ((partner_in accs a).remote ≡ i))
+
+-- what a tunnel counts as acknowledged was taken: by its partner, or, before it has learned one, by an acceptor of its SCCRQ
+abbrev pub AreAcked : Accounts → ℕ → ℕ → Account → ℕ → Part → Type 0
+AreAcked accs n i a acked Unmade = ⊥
+AreAcked accs n i a acked Opener =
+    (a.remote ≡ 0 → (acked ≡ 0) ⊎ ((acked ≡ 1) × IsAnswered accs n i a))
+    × ((a.remote ≡ 0 → ⊥) → acked ≤ length (partner_in accs a).taken)
+AreAcked accs n i a acked Acceptor =
+    (((partner_in accs a).remote ≡ i → ⊥) → acked ≡ 0)
+    × ((partner_in accs a).remote ≡ i → acked ≤ length (partner_in accs a).taken)
+
+-- a live tunnel and its channel are as what was done in it says
+pub record LiveOk (accs : Accounts) (n i : ℕ) (a : Account) (t : Tunnel) : Type 0 where
+  pub local : t.control.local ≡ i
+  pub peer : t.control.peer ≡ address_of a.peer
+  pub remote : t.control.remote ≡ a.remote
+  pub state : IsInState accs i a t a.part
+  -- the letters from the first that isn't acknowledged on
+  pub letters : t.letters ≡ map kept_letter (drop t.control.channel.window.acked a.given)
+  pub counted : t.control.channel.window.acked + t.control.channel.window.queued ≡ length a.given
+  pub few : t.control.channel.window.queued ≤ 8192
+  pub outstanding : t.control.channel.window.outstanding ≤ t.control.channel.window.queued
+  pub taken : t.control.channel.inbox.taken ≡ length a.taken
+  pub acked : AreAcked accs n i a t.control.channel.window.acked a.part
+  -- ids of calls that the other end gave
+  pub calls : (s : ℕ) (c : Call) → at t.calls s ≡ Some c → c.remote < 65536
+  -- no session stands twice
+  pub order : Ascends t.calls
+
+-- ---- ends
+
+pub record EndOk (accs : Accounts) (n : ℕ) (e : End) : Type 0 where
+  pub node : n < 256
+  pub number : e.config.number ≡ n
+  pub lns : e.role ≡ Lac → (m : ℕ) × (m < 256) × (e.config.lns ≡ address_of m)
+  pub first : 0 < e.tunnel_ids.next
+  pub last : e.tunnel_ids.last < 65536
+  pub first_session : 0 < e.session_ids.next
+  pub last_session : e.session_ids.last < 65536
+  -- no id stands twice
+  pub order : Ascends e.tunnels
+  -- ids that are used were drawn
+  pub drawn : (i : ℕ) → IsMade (accs n i) → i < e.tunnel_ids.next
+  pub live : (i : ℕ) (t : Tunnel) → at e.tunnels i ≡ Some t → LiveOk accs n i (accs n i) t
+  -- a tunnel of another node is the partner of one tunnel at most
+  pub apart : (i j : ℕ) (t u : Tunnel) → at e.tunnels i ≡ Some t → at e.tunnels j ≡ Some u → t.control.peer ≡ u.control.peer
+      → t.control.remote ≡ u.control.remote → (t.control.remote ≡ 0 → ⊥) → i ≡ j
+
+-- ---- packets
+
+-- the bytes of a control message: of the letter at its number, or of none
+pub data Says (a : Account) (o : ControlOrigin) (tunnel : ℕ) (bytes : List ℕ) : Type 0 where
+  ALetter : (l : Letter) → o.empty ≡ false → slice_get a.given o.ns ≡ Some l
+      → bytes ≡ control_bytes tunnel l.session (on_wire o.ns) (on_wire o.nr) (spelling (pairs_of l.message)) → Says a o tunnel bytes
+  Nothing : o.empty ≡ true → bytes ≡ control_bytes tunnel 0 (on_wire o.ns) (on_wire o.nr) [] → Says a o tunnel bytes
+
+-- a control message is a copy of a letter, with its number, or of none; it tells no more taken than was; it goes to the node
+-- of its sender's peer, and names the tunnel that the sender has learned, or none: then it tells nothing taken
+pub record IsCopy (a : Account) (p : Packet) (o : ControlOrigin) : Type 0 where
+  pub made : IsMade a
+  pub to : p.to ≡ a.peer
+  pub nr : o.nr ≤ length a.taken
+  pub tunnel : ℕ
+  pub named : ((tunnel ≡ 0) × (o.nr ≡ 0)) ⊎ ((tunnel ≡ 0 → ⊥) × (tunnel ≡ a.remote))
+  pub says : Says a o tunnel p.bytes
+
+-- a data message is one: nothing more is said of it here
+pub record IsData (bytes : List ℕ) : Type 0 where
+  pub tunnel : ℕ
+  pub tunnel_fits : tunnel < 65536
+  pub session : ℕ
+  pub session_fits : session < 65536
+  pub frame : List ℕ
+  pub are : bytes ≡ data_bytes tunnel session None frame
+
+abbrev pub OriginOk : Accounts → Packet → Origin → Type 0
+OriginOk accs p (origin.Control o) = IsCopy (accs p.from o.tunnel) p o
+OriginOk accs p (origin.Data session) = IsData p.bytes
+
+pub record PacketOk (accs : Accounts) (p : Packet) : Type 0 where
+  pub from : p.from < 256
+  pub sent : OriginOk accs p p.origin
+
+-- ---- what comes in a step
+
+-- the numbers of a control message haven't outlived half the numbers, as each live tunnel counts that it is for; what the
+-- step has taken and read of it counts
+pub record IsNear (a : Account) (t : Tunnel) (o : ControlOrigin) : Type 0 where
+  pub taken : length a.taken ≤ o.ns + 32768
+  pub acked : t.control.channel.window.acked ≤ o.nr + 32767
+
+abbrev pub AreNear : Accounts → ℕ → End → Packet → Origin → Type 0
+AreNear accs n e p (origin.Control o) =
+    (i : ℕ) (t : Tunnel) (h : Header) → at e.tunnels i ≡ Some t → t.control.peer ≡ address_of p.from → header_of p.bytes ≡ Ok h
+    → IsFor h p.bytes t.control → IsNear (accs n i) t o
+AreNear accs n e p (origin.Data session) = Unit {0}
+
+-- the datagram of a step is a packet
+pub record IsPacket (accs : Accounts) (n : ℕ) (e : End) (sender : Option Sender) (peer : ℕ) (bytes : List ℕ) : Type 0 where
+  pub packet : Packet
+  pub ok : PacketOk accs packet
+  pub to : packet.to ≡ n
+  pub peer_is : peer ≡ address_of packet.from
+  pub bytes_are : bytes ≡ packet.bytes
+  pub sender_is : sender ≡ sender_of packet.from packet.origin
+  pub near : AreNear accs n e packet packet.origin
+
+abbrev pub Comes : Accounts → ℕ → End → Option Sender → Event → Type 0
+Comes accs n e sender (Datagram peer bytes) = IsPacket accs n e sender peer bytes
+Comes accs n e sender (Ring port) = Unit {0}
+Comes accs n e sender (Payload s frame) = Unit {0}
+Comes accs n e sender (Lower s frame) = Unit {0}
+Comes accs n e sender OpenTunnel = Unit {0}
+Comes accs n e sender Tick = Unit {0}
+
+-- what holds between two moves of a step of a node's end
+pub record Within (accs : Accounts) (n : ℕ) (e : End) (sender : Option Sender) (ev : Event) : Type 0 where
+  pub accounts : (m j : ℕ) → AccountOk accs m j (accs m j)
+  pub end : EndOk accs n e
+  pub comes : Comes accs n e sender ev
+
+-- ---- the world
+
+-- of a node that isn't declared nothing is known
+abbrev pub NodeOk : Accounts → ℕ → Option Node → Type 0
+NodeOk accs n None = (i : ℕ) → accs n i ≡ no_account
+NodeOk accs n (Some node) = EndOk accs n node.end × AreKept node.end
+
+pub record Holds (w : World) (accs : Accounts) : Type 0 where
+  pub accounts : (n i : ℕ) → AccountOk accs n i (accs n i)
+  pub nodes : (n : ℕ) → NodeOk accs n (at w.nodes n)
+  pub packets : AllByRecursion (PacketOk accs) w.packets

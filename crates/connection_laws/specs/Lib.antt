@@ -1,0 +1,4 @@
+pub mod Accounts
+pub mod Facts
+pub mod Steps
+pub mod Channels

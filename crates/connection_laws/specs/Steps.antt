@@ -1,0 +1,135 @@
+-- The moves of a step, each made where all of it holds; and what a line does.
+use Rattle.std.specs.Prelude.{◌≡◌, ℕ, ◌+◌, ◌^◌, ◌<◌, ◌≤◌, List, [], ◌∷◌, map, length, slice_get, Option, Some, None, option_map, Ok}
+use Rattle.id_table.specs.Ids.{at, put}
+use Rattle.control_message.specs.declared.message.Message.{Message}
+use Rattle.schedule_text.specs.declared.line.Line.{Line}
+use Rattle.schedule_text.specs.Grammar.{FitsLine}
+use Rattle.protocol_model.specs.declared.event.Event.{Event}
+use Rattle.protocol_model.specs.declared.moves.Move.{Move}
+use Rattle.protocol_model.specs.declared.tunnel.Role.{Role}
+use Rattle.protocol_model.specs.Reading.{body_of, message_in}
+use Rattle.protocol_model.specs.Turn.{Tunnel}
+use Rattle.protocol_model.specs.End.{End, new_end, step}
+use Rattle.protocol_model.specs.World.{World, Node, Sender, Deed, Lined, config_of, deed_of, line}
+use Rattle.protocol_model.specs.Run.{Run, empty_run, after_line}
+use Rattle.step_laws.specs.Letters.{Letter}
+use Rattle.step_laws.specs.Moves.{Does, HearsNext, ComesNext}
+use Rattle.connection_laws.specs.Accounts.{account_of, after_deed}
+use Rattle.connection_laws.specs.Facts.{Accounts, Within, Holds}
+
+-- ---- a move of a step
+
+-- the deed of a move in a step of a node
+pub record IsDeed (d : Deed) (n : ℕ) (role : Role) (sender : Option Sender) (m : Move) : Type 0 where
+  pub node_is : d.node ≡ n
+  pub role_is : d.role ≡ role
+  pub sender_is : d.sender ≡ sender
+  pub move_is : d.move ≡ m
+
+abbrev pub after : Accounts → Deed → Accounts
+after accs d n i = after_deed d n i (accs n i)
+
+-- the numbers of letters don't reach the end of 64 bits in this move
+abbrev pub HasNumbers : End → Type 0
+HasNumbers e = (i : ℕ) (t : Tunnel) → at e.tunnels i ≡ Some t → t.control.channel.window.acked + 8192 < 2 ^ 64
+
+-- nor do the numbers of letters that are taken
+abbrev pub HasCounts : End → Type 0
+HasCounts e = (i : ℕ) (t : Tunnel) → at e.tunnels i ≡ Some t → t.control.channel.inbox.taken + 1 < 2 ^ 64
+
+pub record IsMoved (accs : Accounts) (n : ℕ) (e x : End) (sender : Option Sender) (moment : ℕ) (ev : Event) (m : Move) (d : Deed) : Type 0 where
+  pub within : Within accs n e sender ev
+  pub numbers : HasNumbers e
+  pub counts : HasCounts e
+  pub does : Does e moment ev m x
+  pub deed : IsDeed d n e.role sender m
+
+-- after it all of it holds again
+abbrev pub MovesKeep : Type 0
+MovesKeep = (accs : Accounts) (n : ℕ) (e x : End) (sender : Option Sender) (moment : ℕ) (ev : Event) (m : Move) (d : Deed)
+    → IsMoved accs n e x sender moment ev m d → Within (after accs d) n x sender ev
+
+-- the moves of a step
+abbrev pub MovesWithin : Accounts → ℕ → End → Option Sender → ℕ → Event → (Move → Deed) → List Move → End → Type 0
+MovesWithin accs n e sender moment ev deed [] x = e ≡ x
+MovesWithin accs n e sender moment ev deed (m ∷ ms) x =
+    (y : End) × IsMoved accs n e y sender moment ev m (deed m) × MovesWithin (after accs (deed m)) n y sender moment ev deed ms x
+
+-- ---- the letter that is heard
+
+-- the next letter that a live tunnel hears is the next one of the list of its sender, which has learned this tunnel
+pub record NextLetter (accs : Accounts) (n i : ℕ) (sender : Option Sender) (session : ℕ) (m : Message) : Type 0 where
+  pub from : Sender
+  pub sender_is : sender ≡ Some from
+  pub peer : (accs n i).peer ≡ from.node
+  pub learned : (accs from.node from.tunnel).remote ≡ i
+  pub goes : (accs from.node from.tunnel).peer ≡ n
+  pub letter : Letter
+  pub there : slice_get (accs from.node from.tunnel).given (length (accs n i).taken) ≡ Some letter
+  pub session_is : letter.session ≡ session
+  pub message_is : letter.message ≡ m
+
+abbrev pub NextIsHeard : Type 0
+NextIsHeard = (accs : Accounts) (n : ℕ) (e : End) (sender : Option Sender) (ev : Event) → Within accs n e sender ev
+    → (i : ℕ) (t : Tunnel) → at e.tunnels i ≡ Some t → (session : ℕ) (m : Message) → HearsNext ev t.control session m
+    → NextLetter accs n i sender session m
+
+-- one that is taken plainly
+pub record PlainLetter (accs : Accounts) (n i : ℕ) (sender : Option Sender) (ev : Event) (t : Tunnel) (k : ComesNext ev t.control) : Type 0 where
+  pub message : Message
+  pub said : message_in (body_of k.header k.bytes) ≡ Ok message
+  pub next : NextLetter accs n i sender k.header.session message
+
+abbrev pub PlainIsHeard : Type 0
+PlainIsHeard = (accs : Accounts) (n : ℕ) (e : End) (sender : Option Sender) (ev : Event) → Within accs n e sender ev
+    → (i : ℕ) (t : Tunnel) → at e.tunnels i ≡ Some t → (k : ComesNext ev t.control) → PlainLetter accs n i sender ev t k
+
+-- ---- lines
+
+abbrev pub GivenBelow : Accounts → ℕ → Type 0
+GivenBelow accs most = (n i : ℕ) → length (accs n i).given ≤ most
+
+-- the end of a node, where there is one
+abbrev pub end_at : World → ℕ → Option End
+end_at w n = option_map (λ (node : Node). node.end) (at w.nodes n)
+
+-- a line that makes a step of a node
+pub record LineSteps (w : World) (accs : Accounts) (number : ℕ) (x : Lined) : Type 0 where
+  pub node : ℕ
+  pub old : Node
+  pub was : at w.nodes node ≡ Some old
+  pub sender : Option Sender
+  pub moment : ℕ
+  pub block : List ℕ
+  pub ev : Event
+  -- the world in which the births of its moves are told
+  pub told : World
+  pub done : x.done ≡ map (λ m. deed_of told number node old.end.role sender m) (step old.end moment block ev).moves
+  pub moves : MovesWithin accs node old.end sender moment ev (λ m. deed_of told number node old.end.role sender m)
+      (step old.end moment block ev).moves (step old.end moment block ev).end
+  pub end : end_at x.world node ≡ Some (step old.end moment block ev).end
+  pub others : (k : ℕ) → (k ≡ node → ⊥) → end_at x.world k ≡ end_at w k
+
+-- what a line does with the nodes: nothing, one more node, or a step of one
+pub data LineDoes (w : World) (accs : Accounts) (number : ℕ) (x : Lined) : Type 0 where
+  Nothing : x.done ≡ [] → x.world.nodes ≡ w.nodes → LineDoes w accs number x
+  ANode : (n : ℕ) (role : Role) (lns : ℕ) → n < 256 → at w.nodes n ≡ None → x.done ≡ []
+      → x.world.nodes ≡ put w.nodes n (record { end = new_end role (config_of n lns); clock = 0; births = [] }) → LineDoes w accs number x
+  AStep : LineSteps w accs number x → LineDoes w accs number x
+
+-- before each line of a run
+pub record HoldsAt (most : ℕ) (r : Run) : Type 0 where
+  pub holds : Holds r.world (account_of r.done)
+  pub given : GivenBelow (account_of r.done) most
+
+-- a line that fits goes on from there
+pub record LineGoesOn (most number : ℕ) (r : Run) (x : Lined) : Type 0 where
+  pub after : HoldsAt (most + 16384) (after_line r x)
+  pub does : LineDoes r.world (account_of r.done) number x
+
+abbrev pub LinesGoOn : Type 0
+LinesGoOn = (most number : ℕ) (r : Run) → HoldsAt most r → most + 24576 < 2 ^ 64 → (l : Line) → FitsLine l → (x : Lined) → line r.world number l ≡ Ok x
+    → LineGoesOn most number r x
+
+abbrev pub RunsBegin : Type 0
+RunsBegin = HoldsAt 0 empty_run

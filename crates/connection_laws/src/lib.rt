@@ -1,0 +1,67 @@
+//! Control connections in every run of a schedule's lines: what two ends take of each other's letters, what they count as
+//! acknowledged, and how they read numbers of 16 bits.
+#![tactic(auto)]
+
+ghost use Rattle.frame_laws.specs.Codecs.{Codecs};
+ghost use Rattle.step_laws.specs.Steps.{StepsAreChains};
+ghost use Rattle.step_laws.specs.Ups.{ReadsAreFew};
+ghost use Rattle.connection_laws.specs.Channels.{AcksOfRuns, HoldsInRuns, LettersOfRuns, NumbersOfRuns};
+ghost use Rattle.connection_laws.specs.Steps.{LinesGoOn, MovesKeep, NextIsHeard, PlainIsHeard, RunsBegin};
+ghost use Rattle.recv_window.specs.Window.{ClassIsTrue};
+
+/// The laws that are used.
+fn laws_below()
+    ensures codecs { Codecs }
+    ensures chains { StepsAreChains }
+    ensures reads { ReadsAreFew }
+    ensures classes { ClassIsTrue }
+{
+    frame_laws::written_is_read_again();
+    step_laws::steps_are_chains();
+    step_laws::reads_are_few();
+    recv_window::the_class_is_true();
+}
+
+/// What holds of every world: of each tunnel that is or was, of each live tunnel and its channel, and of each packet.
+pub fn facts_hold()
+    ensures { HoldsInRuns }
+{
+    laws_below();
+}
+
+/// Each move of a step keeps all of it; the next letter that a tunnel hears is the next one of its sender's list; and each line
+/// of a run that fits goes on from where it holds: it does nothing, adds a node, or makes a step whose moves are made where all
+/// of it holds.
+pub fn steps_keep()
+    ensures moves { MovesKeep }
+    ensures heard { NextIsHeard }
+    ensures plain { PlainIsHeard }
+    ensures lines { LinesGoOn }
+    ensures begins { RunsBegin }
+{
+    laws_below();
+}
+
+/// Over every list of fewer than 2^47 lines of the grammar: each control message is a copy of the letter at its number in
+/// its sender's list, or of none, and goes to its sender's peer; and what a tunnel took are the first letters of the list of
+/// its partner, the one tunnel that it has learned, in order and each once. What it did with each is what the letter says.
+pub fn letters_are_carried()
+    ensures { LettersOfRuns }
+{
+    laws_below();
+}
+
+/// Each letter that a live tunnel counts as acknowledged was taken by a tunnel of its peer.
+pub fn acks_are_true()
+    ensures { AcksOfRuns }
+{
+    laws_below();
+}
+
+/// Each control message that may be delivered, since its numbers haven't outlived half of them, is read as the numbers
+/// without an end say: its class by Ns, and how many letters its Nr acknowledges.
+pub fn numbers_are_read()
+    ensures { NumbersOfRuns }
+{
+    laws_below();
+}
