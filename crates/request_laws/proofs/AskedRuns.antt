@@ -1,0 +1,189 @@
+-- A node asks for each of its calls once, in every run.
+use Rattle.std.proofs.Common.{◌≡◌, ⊎_elim, ℕ, List, [], ◌++◌, refl, sym, ap, ◌∙◌, subst, append-nil, Option, Some, None, arith}
+use Rattle.std.proofs.lemmas.Option.{none-some}
+use mathlib.Core.Path.{fun_ext}
+use Rattle.id_table.specs.Ids.{at, put, at-none}
+use Rattle.id_table.specs.Order.{ascends-empty, at_new, at_other, same_or_not}
+use Rattle.schedule_text.specs.declared.line.Line.{Line}
+use Rattle.schedule_text.specs.Grammar.{AreLines}
+use Rattle.protocol_model.specs.declared.event.Event.{Event}
+use Rattle.protocol_model.specs.declared.moves.Move.{Move}
+use Rattle.protocol_model.specs.declared.tunnel.Call.{Call}
+use Rattle.protocol_model.specs.declared.tunnel.Role.{Role}
+use Rattle.protocol_model.specs.End.{End, Stepped, step}
+use Rattle.protocol_model.specs.World.{World, Node, Sender, Deed, Lined, quiet_line, with_node, block_of}
+use Rattle.protocol_model.specs.Run.{Run, after_line, run}
+use Rattle.step_laws.specs.Steps.{AreKept, StepsAreChains}
+use Rattle.frame_laws.specs.Facts.{FactsOfRuns}
+use Rattle.connection_laws.specs.Accounts.{Account, no_account, account_from, account_of}
+use Rattle.request_laws.specs.Requests.{IsAskedAt, AskedInRuns, IsDrawnAtLac, DrawnAtLacsInRuns}
+use Rattle.request_laws.proofs.Asked.{Asking, IsCall, Known, Ordered, AskOk}
+use Rattle.request_laws.proofs.Deeds.{deeds, deeds_elsewhere, account_from-append}
+use Rattle.request_laws.proofs.Chains.{asks_on}
+use Rattle.request_laws.proofs.Lines.{LineDoes, Nothing, Declares, Steps, fresh_node, step_of, line_does}
+use Rattle.request_laws.proofs.Worlds.{step_done, step_follows, after_moves}
+use Rattle.request_laws.proofs.Runs.{Reached, reached_is, holds_in_runs}
+
+-- ---- accounts
+
+-- what is known of a node's tunnels, after more deeds
+pub known_more : (ds es : List Deed) (n : ℕ) → account_of (ds ++ es) n ≡ (λ i. account_from es n i (account_of ds n i))
+known_more ds es n = fun_ext (λ i. account_from-append ds es n i no_account)
+
+-- nothing more is known of another node's
+pub known_elsewhere : (v : World) (number n : ℕ) (r : Role) (sender : Option Sender) (ds : List Deed) (ms : List Move) (q : ℕ) → (q ≡ n → ⊥)
+    → account_of (ds ++ deeds v number n r sender ms) q ≡ account_of ds q
+known_elsewhere v number n r sender ds ms q other =
+    known_more ds (deeds v number n r sender ms) q ∙ fun_ext (λ i. deeds_elsewhere v number n r sender ms q i (account_of ds q i) other)
+
+-- ---- nodes
+
+-- of a node that isn't declared nothing is known
+abbrev pub NodeAsks : List Deed → ℕ → Option Node → Type 0
+NodeAsks ds n None = (i : ℕ) → account_of ds n i ≡ no_account
+NodeAsks ds n (Some node) = AskOk (account_of ds n) node.end
+
+abbrev pub RunAsks : Run → Type 0
+RunAsks r = (n : ℕ) → NodeAsks r.done n (at r.world.nodes n)
+
+-- the same is known of it
+nodes_ask : (ds es : List Deed) (n : ℕ) (o : Option Node) → account_of es n ≡ account_of ds n → NodeAsks ds n o → NodeAsks es n o
+nodes_ask ds es n None same h = λ i. ap (λ (k : Known). k i) same ∙ h i
+nodes_ask ds es n (Some node) same h = subst (λ (k : Known). AskOk k node.end) (sym same) h
+
+no_asking : (k s : ℕ) → Asking [] k s → ⊥
+no_asking k s h = none-some h.letter h.there
+
+nothing_asks : (known : Known) → ((i : ℕ) → known i ≡ no_account) → (i k s : ℕ) → Asking (known i).given k s → ⊥
+nothing_asks known none i k s a = no_asking k s (subst (λ (b : Account). Asking b.given k s) (none i) a)
+
+-- a node that is new
+fresh_asks : (known : Known) → ((i : ℕ) → known i ≡ no_account) → (n : ℕ) (r : Role) (lns : ℕ) → AskOk known (fresh_node n r lns).end
+fresh_asks known none n r lns =
+    let no_call = λ (i s : ℕ) (c : Call) (h : IsCall (fresh_node n r lns).end i s c). none-some h.tunnel (sym (at-none i) ∙ h.there) in
+    record {
+      order = record {
+        tunnels = ascends-empty [] refl;
+        calls = λ i t f. absurd (none-some t (sym (at-none i) ∙ f));
+      };
+      first = omega arith;
+      drawn = λ i s c h. absurd (no_call i s c h);
+      asked = λ i k s a. absurd (nothing_asks known none i k s a);
+      apart = λ i j s c d h k. absurd (no_call i s c h);
+      waits = λ i s c h asks j k a. nothing_asks known none j k s a;
+      once = λ i k j l s a b. absurd (nothing_asks known none i k s a);
+    }
+
+-- ---- lines
+
+-- what is known of an end whose tunnels are kept
+pub kept_order : (e : End) → AreKept e → Ordered e
+kept_order e h = record { tunnels = h.order; calls = λ i t f. (h.tunnels i t f).calls }
+
+-- nothing more is known
+pub nothing_done : (ds es : List Deed) → es ≡ [] → (n : ℕ) → account_of (ds ++ es) n ≡ account_of ds n
+nothing_done ds es none n = ap (λ (fs : List Deed). account_of fs n) (ap (λ (fs : List Deed). ds ++ fs) none ∙ append-nil ds)
+
+module _ (r : Run) (ok : RunAsks r) where
+  quiet_asks : (x : Lined) → x ≡ quiet_line r.world → RunAsks (after_line r x)
+  quiet_asks x e n =
+      let done = ap (λ (y : Lined). y.done) e in
+      let world = ap (λ (y : Lined). y.world) e in
+      subst (λ (w : World). NodeAsks (r.done ++ x.done) n (at w.nodes n)) (sym world)
+      (nodes_ask r.done (r.done ++ x.done) n (at r.world.nodes n) (nothing_done r.done x.done done n) (ok n))
+
+  declared_asks : (x : Lined) (n : ℕ) (role : Role) (lns : ℕ) → at r.world.nodes n ≡ None
+      → x ≡ quiet_line (with_node r.world n (fresh_node n role lns)) → RunAsks (after_line r x)
+  declared_asks x n role lns none e q =
+      let done = ap (λ (y : Lined). y.done) e in
+      let world = ap (λ (y : Lined). y.world) e in
+      let new = fresh_node n role lns in
+      let unknown : (i : ℕ) → account_of r.done n i ≡ no_account = subst (λ o. NodeAsks r.done n o) none (ok n) in
+      subst (λ (w : World). NodeAsks (r.done ++ x.done) q (at w.nodes q)) (sym world)
+      (nodes_ask r.done (r.done ++ x.done) q (at (put r.world.nodes n new) q) (nothing_done r.done x.done done q)
+      (⊎_elim
+      (λ (a : q ≡ n). subst (λ k. NodeAsks r.done k (at (put r.world.nodes n new) k)) (sym a)
+      (rw (at_new r.world.nodes n new) (fresh_asks (account_of r.done n) unknown n role lns)))
+      (λ other. rw (at_other r.world.nodes n new q other) (ok q))
+      (same_or_not q n)))
+
+  module _ (chains : StepsAreChains) (kept : (n : ℕ) (node : Node) → at r.world.nodes n ≡ Some node → AreKept node.end)
+      (number n : ℕ) (old : Node) (clock : ℕ) (ev : Event) (sender : Option Sender) (there : at r.world.nodes n ≡ Some old) where
+    abbrev s : Stepped
+    s = step old.end clock (block_of n number) ev
+
+    abbrev timed : Node
+    timed = record old { clock = clock }
+
+    abbrev x : Lined
+    x = step_of r.world number n timed ev sender
+
+    abbrev v : World
+    v = after_moves r.world number n timed sender s
+
+    done_is : x.done ≡ deeds v number n old.end.role sender s.moves
+    done_is = step_done r.world number n timed sender s
+
+    asks_then : AskOk (account_of (r.done ++ x.done) n) s.end
+    asks_then =
+        let before : AskOk (account_of r.done n) old.end = subst (λ o. NodeAsks r.done n o) there (ok n) in
+        let chain = (chains old.end (kept n old there) clock (block_of n number) ev).chain in
+        let after = asks_on v number n old.end.role sender clock ev (account_of r.done n) old.end s.end before s.moves chain in
+        rw done_is (rw (known_more r.done (deeds v number n old.end.role sender s.moves) n) after)
+
+    step_asks : RunAsks (after_line r x)
+    step_asks q =
+        let f = step_follows r.world number n timed sender s in
+        ⊎_elim
+        (λ (a : q ≡ n).
+        let here : NodeAsks (r.done ++ x.done) n (at x.world.nodes n) = rw (f.is, f.end_is) asks_then in
+        subst (λ k. NodeAsks (r.done ++ x.done) k (at x.world.nodes k)) (sym a) here)
+        (λ other.
+        let same = ap (λ (ds : List Deed). account_of (r.done ++ ds) q) done_is ∙ known_elsewhere v number n old.end.role sender r.done s.moves q other in
+        rw (f.others q other) (nodes_ask r.done (r.done ++ x.done) q (at r.world.nodes q) same (ok q)))
+        (same_or_not q n)
+
+module _ (chains : StepsAreChains) (facts : FactsOfRuns) where
+  kept_now : (number : ℕ) (before : List Line) (r : Run) → Reached number before r → (n : ℕ) (node : Node) → at r.world.nodes n ≡ Some node → AreKept node.end
+  kept_now number before r h n node there =
+      let is = reached_is number before r h in
+      ((facts before h.fit).nodes n node (subst (λ (q : Run). at q.world.nodes n ≡ Some node) (sym is) there)).kept
+
+  line_asks : (number : ℕ) (before : List Line) (r : Run) → Reached number before r → RunAsks r → (x : Lined) → LineDoes r.world number x
+      → RunAsks (after_line r x)
+  line_asks number before r h ok x (Nothing e) = quiet_asks r ok x e
+  line_asks number before r h ok x (Declares n role lns none e) = declared_asks r ok x n role lns none e
+  line_asks number before r h ok x (Steps n old clock ev sender there from e) =
+      subst (λ y. RunAsks (after_line r y)) (sym e) (step_asks r ok chains (kept_now number before r h) number n old clock ev sender there)
+
+  pub asks_in_runs : (lines : List Line) → AreLines lines → RunAsks (run lines)
+  unfolding account_from
+  asks_in_runs lines fits =
+      holds_in_runs RunAsks (λ number before r h ok l x is. line_asks number before r h ok x (line_does r.world number x l is)) (λ r fault ok. ok)
+      (λ n. rw (at-none n) (λ i. refl)) lines fits
+
+-- ---- requests
+
+asking_at : (ds : List Deed) (n i k s : ℕ) → IsAskedAt ds n i k s → Asking (account_of ds n i).given k s
+asking_at ds n i k s h = record { letter = h.letter; there = h.there; serial = h.serial; calling = h.calling; asks = h.asks }
+
+-- nothing is asked for by a node that isn't declared
+asked_node : (ds : List Deed) (n : ℕ) (o : Option Node) → NodeAsks ds n o → (i k s : ℕ) → IsAskedAt ds n i k s
+    → (node : Node) × (o ≡ Some node) × AskOk (account_of ds n) node.end
+asked_node ds n None h i k s a = absurd (nothing_asks (account_of ds n) h i k s (asking_at ds n i k s a))
+asked_node ds n (Some node) h i k s a = (node, refl, h)
+
+pub drawn_at_lac : (r : Run) → RunAsks r → (n i k s : ℕ) → IsAskedAt r.done n i k s → IsDrawnAtLac r.world n s
+drawn_at_lac r ok n i k s a =
+    let h = asked_node r.done n (at r.world.nodes n) (ok n) i k s a in
+    let asked = h.2.asked i k s (asking_at r.done n i k s a) in
+    record { node = h.0; is = h.1; role = asked.1; some = asked.0.0; drawn = asked.0.1 }
+
+pub asked_in_runs : StepsAreChains → FactsOfRuns → AskedInRuns
+asked_in_runs chains facts lines fits n i k j l s a b =
+    let r = run lines in
+    let h = asked_node r.done n (at r.world.nodes n) (asks_in_runs chains facts lines fits n) i k s a in
+    h.2.once i k j l s (asking_at r.done n i k s a) (asking_at r.done n j l s b)
+
+pub drawn_at_lacs_in_runs : StepsAreChains → FactsOfRuns → DrawnAtLacsInRuns
+drawn_at_lacs_in_runs chains facts lines fits n i k s a = drawn_at_lac (run lines) (asks_in_runs chains facts lines fits) n i k s a

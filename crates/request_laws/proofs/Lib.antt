@@ -1,0 +1,13 @@
+pub mod Rows
+pub mod Lists
+pub mod Asked
+pub mod Deeds
+pub mod Moves
+pub mod Chains
+pub mod Lines
+pub mod Worlds
+pub mod Runs
+pub mod AskedRuns
+pub mod Made
+pub mod Births
+pub mod BornRuns

@@ -1,0 +1,140 @@
+-- What a line does: nothing, or a node is declared, or a node makes a step.
+use Rattle.std.proofs.Common.{◌≡◌, ℕ, ◌+◌, ◌-◌, ◌^◌, Bool, true, false, cond, [], refl, sym, ap, ◌∙◌, subst, Option, Some, None, Result, Ok, Err}
+use Rattle.std.proofs.lemmas.Bool.{true≢false}
+use Rattle.std.specs.Prelude.{is_some, min, slice_get}
+use Rattle.id_table.specs.Ids.{at}
+use Rattle.wire_base.specs.declared.why.Why.{Why}
+use Rattle.wire_base.specs.declared.why.Why.TheVariants as why
+use Rattle.schedule_text.specs.declared.line.Line.{Line}
+use Rattle.schedule_text.specs.declared.line.Line.TheVariants.{Remark, Lac, Lns, OpenUp, Ring, FromSub, Down, Deliver, Tick}
+use Rattle.protocol_model.specs.declared.event.Event.{Event}
+use Rattle.protocol_model.specs.declared.event.Event.TheVariants as event
+use Rattle.protocol_model.specs.declared.packet.Packet.{Packet}
+use Rattle.protocol_model.specs.declared.refusal.Refusal.{Refusal}
+use Rattle.protocol_model.specs.declared.refusal.Refusal.TheVariants.{Unfit}
+use Rattle.protocol_model.specs.declared.tunnel.Role.{Role}
+use Rattle.protocol_model.specs.declared.tunnel.Role.TheVariants as role
+use Rattle.protocol_model.specs.Names.{address_of}
+use Rattle.protocol_model.specs.Calls.{is_lac}
+use Rattle.protocol_model.specs.End.{new_end, step}
+use Rattle.protocol_model.specs.World.{World, Node, Sender, Lined, quiet_line, with_node, after_step, declared, lac_at, lns_at, with_call, later, config_of, added, block_of, stepped, addressee_of, arrival, refused_by, sender_of, arrives, delivers_it, delivers, line}
+
+-- ---- what a line does
+
+-- what comes in a step was sent, or nothing comes of a tunnel
+pub data IsFrom (w : World) (sender : Option Sender) (ev : Event) : Type 0 where
+  OfNobody : sender ≡ None → IsFrom w sender ev
+  OfPacket : (k : ℕ) (p : Packet) → slice_get w.packets k ≡ Some p → sender ≡ sender_of p.from p.origin → ev ≡ event.Datagram (address_of p.from) p.bytes
+      → IsFrom w sender ev
+
+abbrev pub fresh_node : ℕ → Role → ℕ → Node
+fresh_node n r lns = record { end = new_end r (config_of n lns); clock = 0; births = [] }
+
+-- a step of a node, at the clock's moment
+abbrev pub step_of : World → ℕ → ℕ → Node → Event → Option Sender → Lined
+step_of w number n node ev sender = after_step w number n node sender (step node.end node.clock (block_of n number) ev)
+
+pub data LineDoes (w : World) (number : ℕ) (x : Lined) : Type 0 where
+  Nothing : x ≡ quiet_line w → LineDoes w number x
+  Declares : (n : ℕ) (r : Role) (lns : ℕ) → at w.nodes n ≡ None → x ≡ quiet_line (with_node w n (fresh_node n r lns)) → LineDoes w number x
+  Steps : (n : ℕ) (old : Node) (clock : ℕ) (ev : Event) (sender : Option Sender) → at w.nodes n ≡ Some old → IsFrom w sender ev
+      → x ≡ step_of w number n (record old { clock = clock }) ev sender → LineDoes w number x
+
+-- ---- which node it is
+
+-- by cases on a test
+tested : {X Y : Type 0} (a : Bool) (x : X) (y : Y) (z : X) → cond a (Ok x) (Err y) ≡ Ok z → x ≡ z
+tested true x y z h = cc
+tested false x y z h = absurd (cc)
+
+tested_not : {X Y : Type 0} (a : Bool) (x : X) (y : Y) (z : X) → cond a (Err y) (Ok x) ≡ Ok z → (a ≡ false) × (x ≡ z)
+tested_not true x y z h = absurd (cc)
+tested_not false x y z h = (refl, cc)
+
+is_lac_at : (o : Option Node) (node : Node) → lac_at o ≡ Ok node → o ≡ Some node
+is_lac_at None node h = absurd (cc)
+is_lac_at (Some x) node h = ap (λ y. Some y) (tested (is_lac x.end.role) x why.Node node h)
+
+is_lns_at : (o : Option Node) (node : Node) → lns_at o ≡ Ok node → o ≡ Some node
+is_lns_at None node h = absurd (cc)
+is_lns_at (Some x) node h = ap (λ y. Some y) (tested_not (is_lac x.end.role) x why.Node node h).1
+
+has_call : (session : ℕ) (r : Result Node Why) (node : Node) → with_call session r ≡ Ok node → r ≡ Ok node
+has_call session (Err x) node h = absurd (cc)
+has_call session (Ok x) node h = ap (λ y. Ok y) (tested (is_some (at x.end.calls session)) x why.Call node h)
+
+none_there : {X : Type 0} (o : Option X) → is_some o ≡ false → o ≡ None
+none_there None h = refl
+none_there (Some x) h = absurd (true≢false h)
+
+-- a node of the world, at some moment
+record IsAt (w : World) (n : ℕ) (node : Node) : Type 0 where
+  before : Node
+  there : at w.nodes n ≡ Some before
+  same : node ≡ record before { clock = node.clock }
+
+is_there : (w : World) (n : ℕ) (node : Node) → at w.nodes n ≡ Some node → IsAt w n node
+is_there w n node h = record { before = node; there = h; same = refl }
+
+is_later : (w : World) (n milliseconds : ℕ) (o : Option Node) (node : Node) → at w.nodes n ≡ o → later milliseconds (declared o) ≡ Ok node → IsAt w n node
+is_later w n milliseconds None node is h = absurd (cc)
+is_later w n milliseconds (Some x) node is h =
+    let now = min (x.clock + milliseconds) (2 ^ 64 - 1) in
+    let e : record x { clock = now } ≡ node = cc in
+    subst (IsAt w n) e (record { before = x; there = is; same = refl })
+
+-- ---- lines
+
+module _ (w : World) (number : ℕ) (x : Lined) where
+  added_does : (n : ℕ) (r : Role) (lns : ℕ) → added w n r lns ≡ Ok x → LineDoes w number x
+  unfolding added
+  added_does n r lns h =
+      let t = tested_not (is_some (at w.nodes n)) (quiet_line (with_node w n (fresh_node n r lns))) (Unfit why.Twice) x h in
+      Declares n r lns (none_there (at w.nodes n) t.0) (sym t.1)
+
+  stepped_does : (n : ℕ) (ev : Event) (sender : Option Sender) (o : Result Node Why) → ((node : Node) → o ≡ Ok node → IsAt w n node)
+      → IsFrom w sender ev → stepped w number n ev sender o ≡ Ok x → LineDoes w number x
+  unfolding stepped
+  stepped_does n ev sender (Err q) is from h = absurd (cc)
+  stepped_does n ev sender (Ok node) is from h =
+      let was = is node refl in
+      let e : step_of w number n node ev sender ≡ x = cc in
+      Steps n was.before node.clock ev sender was.there from (sym e ∙ ap (λ (q : Node). step_of w number n q ev sender) was.same)
+
+  arrives_does : (k : ℕ) (p : Packet) → slice_get w.packets k ≡ Some p → (node : Node) → at w.nodes p.to ≡ Some node → (o : Option Refusal)
+      → arrives w number p node o ≡ Ok x → LineDoes w number x
+  unfolding arrives
+  arrives_does k p sent node there (Some f) h = absurd (cc)
+  arrives_does k p sent node there None h =
+      stepped_does p.to (event.Datagram (address_of p.from) p.bytes) (sender_of p.from p.origin) (Ok node)
+      (λ q e. (let same : node ≡ q = cc in rw (← same) (is_there w p.to node there)))
+      (OfPacket k p sent refl refl) h
+
+  delivers_does : (k : ℕ) (o : Option Packet) → slice_get w.packets k ≡ o → delivers w number o ≡ Ok x → LineDoes w number x
+  unfolding delivers delivers_it arrival addressee_of
+  delivers_does k None sent h = absurd (cc)
+  delivers_does k (Some p) sent h = by (at w.nodes p.to) refl h
+    where
+      by : (o : Option Node) → at w.nodes p.to ≡ o → delivers_it w number (addressee_of p o) ≡ Ok x → LineDoes w number x
+      by None is h = absurd (cc)
+      by (Some node) is h = arrives_does k p sent node is (refused_by p node p.origin) h
+
+  pub line_does : (l : Line) → line w number l ≡ Ok x → LineDoes w number x
+  unfolding line
+  line_does (Remark text) h = let e : quiet_line w ≡ x = cc in Nothing (sym e)
+  line_does (Lac n m) h = added_does n role.Lac (address_of m) h
+  line_does (Lns n) h = added_does n role.Lns 0 h
+  line_does (OpenUp n) h =
+      stepped_does n event.OpenTunnel None (lac_at (at w.nodes n)) (λ node e. is_there w n node (is_lac_at (at w.nodes n) node e)) (OfNobody refl) h
+  line_does (Ring n port) h =
+      stepped_does n (event.Ring port) None (lac_at (at w.nodes n)) (λ node e. is_there w n node (is_lac_at (at w.nodes n) node e)) (OfNobody refl) h
+  line_does (FromSub n session frame) h =
+      stepped_does n (event.Payload session frame) None (with_call session (lac_at (at w.nodes n)))
+      (λ node e. is_there w n node (is_lac_at (at w.nodes n) node (has_call session (lac_at (at w.nodes n)) node e))) (OfNobody refl) h
+  line_does (Down n session frame) h =
+      stepped_does n (event.Lower session frame) None (with_call session (lns_at (at w.nodes n)))
+      (λ node e. is_there w n node (is_lns_at (at w.nodes n) node (has_call session (lns_at (at w.nodes n)) node e))) (OfNobody refl) h
+  line_does (Deliver k) h = delivers_does (k - 1) (slice_get w.packets (k - 1)) refl h
+  line_does (Tick n milliseconds) h =
+      stepped_does n event.Tick None (later milliseconds (declared (at w.nodes n)))
+      (λ node e. is_later w n milliseconds (at w.nodes n) node refl e) (OfNobody refl) h
