@@ -39,7 +39,6 @@ ends_lost_ok t c kind k1 ok =
       mate_birth = ok.mate_birth;
       mate_made = ok.mate_made;
       mate_linked = ok.mate_linked;
-      asker_opener = ok.asker_opener;
       held_call = ok.held_call;
       born = ok.born;
       born_some = ok.born_some;

@@ -89,16 +89,16 @@ module _ (r : Rules) (w : World) (reads : r.reads_epochs ≡ true) (ep : EpochsH
   unfolding leaves gives left
   close_goes x g = says_ended w.tunnels (left w.tunnels x Closed) w.channels _ w.calls (of_tunnel w.calls x) x (w.tunnels.entered x) StopCcn g (gave_grows w.channels x (w.tunnels.entered x) StopCcn) ch lm tt (λ y f. absurd cc) (λ y f. absurd cc) (λ y. refl)
 
-  add_goes : (x z : ℕ) → w.tunnels.opener x ≡ true → w.tunnels.drawn x ≡ true → w.calls.drawn z ≡ false → z ≢ 0 → GoesTo (adds_call w x z)
+  add_goes : (x z : ℕ) → w.tunnels.drawn x ≡ true → w.calls.drawn z ≡ false → z ≢ 0 → GoesTo (adds_call w x z)
   unfolding adds_call is_born
-  add_goes x z o d new n = quiet w.tunnels w.tunnels w.channels w.channels w.calls (is_born w.calls x z) 0 0 Hello same_grows (is_born_grow w.tunnels w.calls x z ch new) (idle_grows w.channels 0 0 Hello) ch lm (is_born_ok w.tunnels w.calls x z ch new n d o) tt (λ y f. absurd cc) (λ y f. absurd cc) (λ y. refl) lm.asks_held
+  add_goes x z d new n = quiet w.tunnels w.tunnels w.channels w.channels w.calls (is_born w.calls x z) 0 0 Hello same_grows (is_born_grow w.tunnels w.calls x z ch new) (idle_grows w.channels 0 0 Hello) ch lm (is_born_ok w.tunnels w.calls x z ch new n d) tt (λ y f. absurd cc) (λ y f. absurd cc) (λ y. refl) lm.asks_held
 
   ask_goes : (z : ℕ) → w.calls.state z ≡ Waits → GoesTo (asks_for w z)
   unfolding asks_for gives is_asked_for
   ask_goes z waits =
       goes w.tunnels w.tunnels w.channels _ w.calls (is_asked_for w.calls z e) x e (Request z) same_grows (is_asked_for_grow w.tunnels w.calls z e ch waits) (gave_grows w.channels x e (Request z)) ch lm (is_asked_for_ok w.tunnels w.calls z e ch waits)
       record {
-        means = (name_of w.tunnels w.calls z ch drawn, drawn, refl, assigned_now w.calls.made z (Some e), (ch.waits z waits).2, ch.asker_opener z drawn (ch.waits z waits).2, ch.tunnel_drawn z drawn);
+        means = (name_of w.tunnels w.calls z ch drawn, drawn, refl, assigned_now w.calls.made z (Some e), (ch.waits z waits).2, ch.tunnel_drawn z drawn);
         request = λ y f. (let same : z ≡ y = cc in subst (λ (q : ℕ). w.calls.made q ≡ None) same (ch.waits z waits).0);
         mates = λ y n. inl n;
         refusal = λ y f. absurd cc;
@@ -144,11 +144,11 @@ module _ (r : Rules) (w : World) (reads : r.reads_epochs ≡ true) (ep : EpochsH
   unfolding queries gives
   query_goes x z asked = says w.tunnels w.tunnels w.channels _ w.calls x (w.tunnels.entered x) (Fsq z _) same_grows (gave_grows w.channels x (w.tunnels.entered x) (Fsq z _)) ch lm (lm.asks_held x z asked, refl) (λ y f. absurd cc) (λ y f. absurd cc) (λ y. refl)
 
-  freeze_goes : (x a c : ℕ) → Grows (freezes r w x a c) → GoesTo (freezes r w x a c)
+  freeze_goes : (x a c own theirs : ℕ) → Grows (freezes r w x a c own theirs) → GoesTo (freezes r w x a c own theirs)
   unfolding freezes frozen
-  freeze_goes x a c g = chosen (λ (d : Calls). Goes w.calls (frozen w.tunnels x a c) w.channels d) _ _ _
-      (λ rule. says_ended w.tunnels (frozen w.tunnels x a c) w.channels w.channels w.calls (unfinished w.calls x) 0 0 Hello g (idle_grows w.channels 0 0 Hello) ch lm tt (λ y f. absurd cc) (λ y f. absurd cc) (λ y. refl))
-      (λ rule. says w.tunnels (frozen w.tunnels x a c) w.channels w.channels w.calls 0 0 Hello g (idle_grows w.channels 0 0 Hello) ch lm tt (λ y f. absurd cc) (λ y f. absurd cc) (λ y. refl))
+  freeze_goes x a c own theirs g = chosen (λ (d : Calls). Goes w.calls (frozen w.tunnels x a c own theirs) w.channels d) _ _ _
+      (λ rule. says_ended w.tunnels (frozen w.tunnels x a c own theirs) w.channels w.channels w.calls (unfinished w.calls x) 0 0 Hello g (idle_grows w.channels 0 0 Hello) ch lm tt (λ y f. absurd cc) (λ y f. absurd cc) (λ y. refl))
+      (λ rule. says w.tunnels (frozen w.tunnels x a c own theirs) w.channels w.channels w.calls 0 0 Hello g (idle_grows w.channels 0 0 Hello) ch lm tt (λ y f. absurd cc) (λ y f. absurd cc) (λ y. refl))
 
   attempting_goes : (x c : ℕ) → w.tunnels.phase x ≡ Attempts (w.tunnels.answered c) → w.tunnels.answers c ≢ 0 → Grows (resets_attempting r w x c) → GoesTo (resets_attempting r w x c)
   unfolding resets_attempting confirms
@@ -189,12 +189,12 @@ did_goes r w v reads (did_learn x s e k own y here t p l) ep lh ch lm g = learn_
 did_goes r w v reads (did_hello x p) ep lh ch lm g = hello_goes r w reads ep lh ch lm x
 did_goes r w v reads (did_close x a) ep lh ch lm g = close_goes r w reads ep lh ch lm x g
 did_goes r w v reads (did_clear x) ep lh ch lm g = leave_goes r w reads ep lh ch lm x Gone g
-did_goes r w v reads (did_add x z o p new) ep lh ch lm g = add_goes r w reads ep lh ch lm x z o (phase_drawn w.tunnels x ep p) new.undrawn new.name
+did_goes r w v reads (did_add x z p new) ep lh ch lm g = add_goes r w reads ep lh ch lm x z (phase_drawn w.tunnels x ep p) new.undrawn new.name
 did_goes r w v reads (did_ask z p a) ep lh ch lm g = ask_goes r w reads ep lh ch lm z a
 did_goes r w v reads (did_end_told z p a b) ep lh ch lm g = told_goes r w reads ep lh ch lm z a
 did_goes r w v reads (did_end_silent z a b) ep lh ch lm g = silent_goes r w reads ep lh ch lm z
 did_goes r w v reads (did_query x z p a) ep lh ch lm g = query_goes r w reads ep lh ch lm x z a
-did_goes r w v reads (did_freeze x a c p n l f new) ep lh ch lm g = freeze_goes r w reads ep lh ch lm x a c g
+did_goes r w v reads (did_freeze x a c own theirs p n l f new) ep lh ch lm g = freeze_goes r w reads ep lh ch lm x a c own theirs g
 did_goes r w v reads (did_reset_attempting x c p n) ep lh ch lm g = attempting_goes r w reads ep lh ch lm x c p n g
 did_goes r w v reads (did_reset_answering x c p n) ep lh ch lm g = answering_goes r w reads ep lh ch lm x c p g
 did_goes r w v reads (did_restore x a b p new) ep lh ch lm g = restore_goes r w reads ep lh ch lm x a g

@@ -5,9 +5,9 @@ use Rattle.epoch_machine.specs.Tunnels.{Tunnels, Linked}
 use Rattle.epoch_machine.specs.Calls.{Calls, Waits, is_born, is_asked_for, replies}
 use Rattle.birth_laws.specs.Births.{CallsHold}
 
-pub is_born_ok : (t : Tunnels) (c : Calls) (x z : ℕ) → CallsHold t c → (c.drawn z ≡ false) → (z ≢ 0) → (t.drawn x ≡ true) → (t.opener x ≡ true) → CallsHold t (is_born c x z)
+pub is_born_ok : (t : Tunnels) (c : Calls) (x z : ℕ) → CallsHold t c → (c.drawn z ≡ false) → (z ≢ 0) → (t.drawn x ≡ true) → CallsHold t (is_born c x z)
 unfolding is_born
-is_born_ok t c x z ok p0 p1 p2 p3 =
+is_born_ok t c x z ok p0 p1 p2 =
     record {
       zero = grind (arith, nat_tests);
       nameless = λ k h. let n = ok.nameless k (grind (arith, nat_tests)) in record {
@@ -38,7 +38,6 @@ is_born_ok t c x z ok p0 p1 p2 p3 =
       mate_birth = grind (arith, nat_tests);
       mate_made = ok.mate_made;
       mate_linked = grind (arith, nat_tests);
-      asker_opener = grind (arith, nat_tests);
       held_call = grind (arith, nat_tests);
       born = grind (arith, nat_tests);
       born_some = grind (arith, nat_tests);
@@ -78,7 +77,6 @@ is_asked_for_ok t c z e ok p0 =
       mate_birth = ok.mate_birth;
       mate_made = grind (arith, nat_tests);
       mate_linked = ok.mate_linked;
-      asker_opener = ok.asker_opener;
       held_call = grind (arith, nat_tests);
       born = ok.born;
       born_some = ok.born_some;
@@ -118,7 +116,6 @@ replies_ok t c x e z own ok p0 p1 p2 p3 p4 p5 p6 p7 p8 =
       mate_birth = grind (arith, nat_tests);
       mate_made = grind (arith, nat_tests);
       mate_linked = grind (arith, nat_tests);
-      asker_opener = grind (arith, nat_tests);
       held_call = grind (arith, nat_tests);
       born = grind (arith, nat_tests);
       born_some = grind (arith, nat_tests);

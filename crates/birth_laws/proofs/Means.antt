@@ -41,7 +41,7 @@ module _ (t u : Tunnels) (c d : Calls) (tg : TunnelsGrow t u) (cg : CallsGrow c 
   held_is x e z y h n = cg.held x e z (λ e. n (sym h ∙ e)) ∙ h
 
   pub means_later : (x e : ℕ) (l : Letter) → Meant t c x e l → Meant u d x e l
-  means_later x e (Request z) m = (m.0, cg.drawn z m.1, cg.tunnel z m.1 ∙ m.2, made_later z e m.3, cg.mate z m.1 ∙ m.4, tg.opener x m.6 ∙ m.5, tg.drawn x m.6)
+  means_later x e (Request z) m = (m.0, cg.drawn z m.1, cg.tunnel z m.1 ∙ m.2, made_later z e m.3, cg.mate z m.1 ∙ m.4, tg.drawn x m.5)
   means_later x e (Reply own z) m = let n : c.mate own ≢ 0 = (λ f. m.0 (sym m.1 ∙ f)) in (m.0, mate_is own z m.1 m.0, cg.tunnel own (k.mate own n).0 ∙ m.2, made_later own e m.3)
   means_later x e (Connect y) m = let f = mate_later y m.0 in let g = k.mate y m.0 in ((λ h. m.0 (sym f ∙ h)), ap d.tunnel f ∙ cg.tunnel (c.mate y) g.1 ∙ m.1, made_later y e m.2, ap d.up f ∙ cg.up (c.mate y) m.3)
   means_later x e (Cdn own y) (inl m) = inl m

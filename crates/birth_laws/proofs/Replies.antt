@@ -31,7 +31,7 @@ partner r w x s e k l reads ep ok t p n = by (source r w x s e k l reads ep ok t
     by (inr (inr a)) = absurd (let f = ap is_stop a.letter in cc)
 
 module _ (w : World) (x s e k own : ℕ) (ch : CallsHold w.tunnels w.calls) (lm : LettersMean w.tunnels w.channels w.calls) (from : FromPartner w x s e k) (st : Stands w.channels s e k (Request own)) where
-  pub means : (own ≢ 0) × (w.calls.drawn own ≡ true) × (w.calls.tunnel own ≡ s) × (w.calls.made own ≡ Some e) × (w.calls.mate own ≡ 0) × (w.tunnels.opener s ≡ true) × (w.tunnels.drawn s ≡ true)
+  pub means : (own ≢ 0) × (w.calls.drawn own ≡ true) × (w.calls.tunnel own ≡ s) × (w.calls.made own ≡ Some e) × (w.calls.mate own ≡ 0) × (w.tunnels.drawn s ≡ true)
   means = lm.means s e k (Request own) st
 
   -- no taking of this request lies behind

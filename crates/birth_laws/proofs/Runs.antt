@@ -54,7 +54,6 @@ calls_empty = record {
   mate_birth = grind arith;
   mate_made = grind arith;
   mate_linked = grind arith;
-  asker_opener = grind arith;
   held_call = grind arith;
   born = grind arith;
   born_some = grind arith;

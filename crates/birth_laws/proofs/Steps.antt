@@ -152,7 +152,7 @@ module _ (r : Rules) (w : World) (reads : r.reads_epochs ≡ true) (ep : EpochsH
       from : FromPartner w x s e k
       from = partner r w x s e k (Request own) reads ep lh t p refl
 
-      m : (own ≢ 0) × (w.calls.drawn own ≡ true) × (w.calls.tunnel own ≡ s) × (w.calls.made own ≡ Some e) × (w.calls.mate own ≡ 0) × (w.tunnels.opener s ≡ true) × (w.tunnels.drawn s ≡ true)
+      m : (own ≢ 0) × (w.calls.drawn own ≡ true) × (w.calls.tunnel own ≡ s) × (w.calls.made own ≡ Some e) × (w.calls.mate own ≡ 0) × (w.tunnels.drawn s ≡ true)
       m = means w x s e k own ch lm from t.stands
 
       drawn : w.tunnels.drawn x ≡ true

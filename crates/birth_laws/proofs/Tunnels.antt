@@ -31,7 +31,6 @@ tunnels_ok t u c g ok = record {
   mate_birth = ok.mate_birth;
   mate_made = ok.mate_made;
   mate_linked = λ z h. still_linked t u (c.tunnel (c.mate z)) (c.tunnel z) g (ok.mate_linked z h);
-  asker_opener = λ z d m. g.opener (c.tunnel z) (ok.tunnel_drawn z d) ∙ ok.asker_opener z d m;
   held_call = λ x e z h. let a = ok.held_call x e z h in let b = g.entered x in (a.0, a.1, (let d = a.2 in omega arith), a.3);
   born = ok.born;
   born_some = ok.born_some;

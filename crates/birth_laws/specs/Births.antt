@@ -44,8 +44,6 @@ pub record CallsHold (t : Tunnels) (c : Calls) : Type 0 where
   pub mate_birth : (z : ℕ) → c.mate z ≢ 0 → c.birth z ≡ c.birth (c.mate z)
   pub mate_made : (z : ℕ) → c.mate z ≢ 0 → (c.made z ≡ c.made (c.mate z)) × (c.made z ≢ None)
   pub mate_linked : (z : ℕ) → c.mate z ≢ 0 → Linked t.learned (c.tunnel (c.mate z)) (c.tunnel z)
-  -- a call that replies to none is an opener's
-  pub asker_opener : (z : ℕ) → c.drawn z ≡ true → c.mate z ≡ 0 → t.opener (c.tunnel z) ≡ true
   -- a pair held at a reset is a call of that tunnel with its mate
   pub held_call : (x e z : ℕ) → c.held x e z ≢ 0 → (c.tunnel z ≡ x) × (c.held x e z ≡ c.remote z) × (e ≤ t.entered x) × (c.made z ≢ None)
   -- births are counted from 1, one for each call that asks
@@ -55,7 +53,7 @@ pub record CallsHold (t : Tunnels) (c : Calls) : Type 0 where
 
 -- what a letter of tunnel x in epoch e says of calls
 abbrev pub Meant : Tunnels → Calls → ℕ → ℕ → Letter → Type 0
-Meant t c x e (Request z) = (z ≢ 0) × (c.drawn z ≡ true) × (c.tunnel z ≡ x) × (c.made z ≡ Some e) × (c.mate z ≡ 0) × (t.opener x ≡ true) × (t.drawn x ≡ true)
+Meant t c x e (Request z) = (z ≢ 0) × (c.drawn z ≡ true) × (c.tunnel z ≡ x) × (c.made z ≡ Some e) × (c.mate z ≡ 0) × (t.drawn x ≡ true)
 Meant t c x e (Reply own z) = (z ≢ 0) × (c.mate own ≡ z) × (c.tunnel own ≡ x) × (c.made own ≡ Some e)
 Meant t c x e (Connect y) = (c.mate y ≢ 0) × (c.tunnel (c.mate y) ≡ x) × (c.made y ≡ Some e) × (c.up (c.mate y) ≡ true)
 Meant t c x e (Cdn own y) = (own ≡ 0) ⊎ ((own ≢ 0) × (c.drawn own ≡ true) × (c.tunnel own ≡ x) × (c.over own ≡ true) × ((y ≡ 0) ⊎ (c.remote own ≡ y)))
@@ -78,7 +76,7 @@ pub record Refused (t : Tunnels) (h : Channels) (c : Calls) (u e z : ℕ) : Type
 
 pub record LettersMean (t : Tunnels) (h : Channels) (c : Calls) : Type 0 where
   pub means : (x e k : ℕ) (l : Letter) → Stands h x e k l → Meant t c x e l
-  -- a call is asked for once, and its request is answered once: by a call, or by a refusal
+  -- a call is asked for once, and its request is answered at most once: by a call, or by a refusal
   pub request_once : (x e j k z : ℕ) → Stands h x e j (Request z) → Stands h x e k (Request z) → j ≡ k
   pub mate_taken : (y e : ℕ) → c.mate y ≢ 0 → c.made y ≡ Some e → TakenRequest h (c.tunnel (c.mate y)) (c.tunnel y) e (c.mate y)
   pub refused : (u e k z : ℕ) → Stands h u e k (Cdn 0 z) → Refused t h c u e z

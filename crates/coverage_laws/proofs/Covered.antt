@@ -6,6 +6,7 @@ use Rattle.epoch_machine.specs.Channels.{Channels, Stands}
 use Rattle.epoch_machine.specs.Calls.{Calls, CallState, NoCall, Waits, WaitsReply, WaitsConnect, Up}
 use Rattle.epoch_machine.specs.Worlds.{World}
 use Rattle.epoch_machine.proofs.Splits.{same_or_not}
+use Rattle.epoch_laws.proofs.Answering.{step_answers, answers_after}
 use Rattle.birth_laws.specs.Births.{CallsHold}
 use Rattle.coverage_laws.specs.Coverage.{LivedIn, Mates, ToldOf, HeardOf, DeniedOf, Known, ConnectPut, AnswerTaken, is_young}
 use Rattle.epoch_machine.specs.Worlds.{all_rules, empty_world}
@@ -266,6 +267,7 @@ after_stop ms n ks = whole_step all_rules (goes_on all_rules empty_world ms) (St
 pub stops_keep_all : StopsKeepAll
 stops_keep_all = record {
   epochs = λ ms n ks. (after_stop ms n ks).sound.epochs;
+  answers = λ ms n ks. step_answers all_rules (goes_on all_rules empty_world ms) (Stops n ks) (whole_after ms).sound.epochs (answers_after all_rules ms);
   letters = λ ms n ks. (after_stop ms n ks).sound.given;
   births = λ ms n ks. (after_stop ms n ks).sound.calls;
   meanings = λ ms n ks. (after_stop ms n ks).sound.meant;

@@ -75,9 +75,9 @@ left_ok t c x p ok p0 =
       up_first = ok.up_first;
     }
 
-pub frozen_ok : (t : Tunnels) (c : Calls) (x a b : ℕ) → StatesHold t c → (is_established (t.phase x) ≡ true) → StatesHold (frozen t x a b) (ends c (unfinished c x))
+pub frozen_ok : (t : Tunnels) (c : Calls) (x a b own theirs : ℕ) → StatesHold t c → (is_established (t.phase x) ≡ true) → StatesHold (frozen t x a b own theirs) (ends c (unfinished c x))
 unfolding frozen ends
-frozen_ok t c x a b ok p0 =
+frozen_ok t c x a b own theirs ok p0 =
     record {
       state_fits = grind (arith, nat_tests);
       young = grind (arith, nat_tests);

@@ -31,9 +31,9 @@ module _ (r : Rules) (w : World) (reads : r.reads_epochs ≡ true) (s : Sound w)
   abbrev Grows : World → Type 0
   Grows v = TunnelsGrow w.tunnels v.tunnels
 
-  frozen_queries : (x a c : ℕ) → CallsGrow w.calls (ends w.calls (unfinished w.calls x)) → TunnelsGrow w.tunnels (frozen w.tunnels x a c) → ((f j : ℕ) (m : Letter) → Stands w.channels 0 f j m → ⊥) → QueriesHold (frozen w.tunnels x a c) w.channels (ends w.calls (unfinished w.calls x))
+  frozen_queries : (x a c own theirs : ℕ) → CallsGrow w.calls (ends w.calls (unfinished w.calls x)) → TunnelsGrow w.tunnels (frozen w.tunnels x a c own theirs) → ((f j : ℕ) (m : Letter) → Stands w.channels 0 f j m → ⊥) → QueriesHold (frozen w.tunnels x a c own theirs) w.channels (ends w.calls (unfinished w.calls x))
   unfolding frozen
-  frozen_queries x a c cg tg zero_gives = simple_ended r w reads s st qh (frozen w.tunnels x a c) w.channels 0 0 Hello Hello tg (idle_grows w.channels 0 0 Hello) (none_taken w.tunnels (frozen w.tunnels x a c) w.channels tg s.given qh.within w.channels Hello (λ y f. refl)) (λ y f. omega arith) zero_gives (unfinished w.calls x) cg (puts_quiet _ _ _ _ _ _ 0 0 Hello Hello refl) (tooks_quiet _ _ _ _ _ _ 0 0 Hello Hello refl) (λ y p. inl (was_open w.tunnels (frozen w.tunnels x a c) y s.epochs (opens y p) refl)) (λ z k i p l. absurd (shut z k p))
+  frozen_queries x a c own theirs cg tg zero_gives = simple_ended r w reads s st qh (frozen w.tunnels x a c own theirs) w.channels 0 0 Hello Hello tg (idle_grows w.channels 0 0 Hello) (none_taken w.tunnels (frozen w.tunnels x a c own theirs) w.channels tg s.given qh.within w.channels Hello (λ y f. refl)) (λ y f. omega arith) zero_gives (unfinished w.calls x) cg (puts_quiet _ _ _ _ _ _ 0 0 Hello Hello refl) (tooks_quiet _ _ _ _ _ _ 0 0 Hello Hello refl) (λ y p. inl (was_open w.tunnels (frozen w.tunnels x a c own theirs) y s.epochs (opens y p) refl)) (λ z k i p l. absurd (shut z k p))
     where
       opens : (y : ℕ) → assign w.tunnels.phase x (Answers c) y ≡ Open → w.tunnels.phase y ≡ Open
       opens y = at_name w.tunnels.phase x (Answers c) y (λ q. q ≡ Open → w.tunnels.phase y ≡ Open) (λ same h. absurd cc) (λ other h. h)
@@ -41,9 +41,9 @@ module _ (r : Rules) (w : World) (reads : r.reads_epochs ≡ true) (s : Sound w)
       shut : (z : ℕ) → unfinished w.calls x z ≡ true → assign w.tunnels.phase x (Answers c) (w.calls.tunnel z) ≡ Open → ⊥
       shut z k h = let a = both (eqb (w.calls.tunnel z) x) _ k in let b : Answers c ≡ Open = sym (ap (λ (q : Bool). cond q (Answers c) (w.tunnels.phase (w.calls.tunnel z))) a.0) ∙ h in cc
 
-  pub freezes_queries : (x a c : ℕ) → r.ends_at_freezes ≡ true → CallsGrow w.calls (ends w.calls (unfinished w.calls x)) → Grows (freezes r w x a c) → Sound (freezes r w x a c) → To (freezes r w x a c)
+  pub freezes_queries : (x a c own theirs : ℕ) → r.ends_at_freezes ≡ true → CallsGrow w.calls (ends w.calls (unfinished w.calls x)) → Grows (freezes r w x a c own theirs) → Sound (freezes r w x a c own theirs) → To (freezes r w x a c own theirs)
   unfolding freezes
-  freezes_queries x a c rule cg tg sv = subst (λ (b : Bool). QueriesHold (frozen w.tunnels x a c) w.channels (cond b (ends w.calls (unfinished w.calls x)) w.calls)) (sym rule) (frozen_queries x a c cg tg (nameless _ sv))
+  freezes_queries x a c own theirs rule cg tg sv = subst (λ (b : Bool). QueriesHold (frozen w.tunnels x a c own theirs) w.channels (cond b (ends w.calls (unfinished w.calls x)) w.calls)) (sym rule) (frozen_queries x a c own theirs cg tg (nameless _ sv))
 
   -- a reset
   module _ (u : Tunnels) (x e : ℕ) (rs : Resets w.tunnels u x e) (tg : TunnelsGrow w.tunnels u) where

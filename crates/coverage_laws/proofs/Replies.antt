@@ -77,7 +77,7 @@ module _ (r : Rules) (w : World) (reads : r.reads_epochs ≡ true) (s : Sound w)
   n : NoCallYet w.calls z
   n = s.calls.nameless z new
 
-  m : (own ≢ 0) × (w.calls.drawn own ≡ true) × (w.calls.tunnel own ≡ a) × (w.calls.made own ≡ Some f) × (w.calls.mate own ≡ 0) × (w.tunnels.opener a ≡ true) × (w.tunnels.drawn a ≡ true)
+  m : (own ≢ 0) × (w.calls.drawn own ≡ true) × (w.calls.tunnel own ≡ a) × (w.calls.made own ≡ Some f) × (w.calls.mate own ≡ 0) × (w.tunnels.drawn a ≡ true)
   m = s.meant.means a f k (Request own) t.stands
 
   open_then : (y : ℕ) → w.tunnels.phase y ≡ Open → WasOpen w.tunnels w.tunnels y

@@ -58,9 +58,9 @@ told_states : (r : Rules) (w : World) (z : ℕ) → StatesHold w.tunnels w.calls
 unfolding ends_told ends_call gives
 told_states r w z ok = chosen (λ (v : World). StatesHold v.tunnels v.calls) _ _ _ (λ h. ends_ok w.tunnels w.calls (is_call z) ok) (λ h. ends_ok w.tunnels w.calls (is_call z) ok)
 
-freeze_states : (r : Rules) (w : World) (x a c : ℕ) → r.ends_at_freezes ≡ true → is_established (w.tunnels.phase x) ≡ true → StatesHold w.tunnels w.calls → StatesHold (freezes r w x a c).tunnels (freezes r w x a c).calls
+freeze_states : (r : Rules) (w : World) (x a c own theirs : ℕ) → r.ends_at_freezes ≡ true → is_established (w.tunnels.phase x) ≡ true → StatesHold w.tunnels w.calls → StatesHold (freezes r w x a c own theirs).tunnels (freezes r w x a c own theirs).calls
 unfolding freezes
-freeze_states r w x a c rule p ok = subst (λ (b : Bool). StatesHold (frozen w.tunnels x a c) (cond b (ends w.calls (unfinished w.calls x)) w.calls)) (sym rule) (frozen_ok w.tunnels w.calls x a c ok p)
+freeze_states r w x a c own theirs rule p ok = subst (λ (b : Bool). StatesHold (frozen w.tunnels x a c own theirs) (cond b (ends w.calls (unfinished w.calls x)) w.calls)) (sym rule) (frozen_ok w.tunnels w.calls x a c own theirs ok p)
 
 pub confirms_resets : (t : Tunnels) (x c : ℕ) → EpochsHold t → t.phase x ≡ Attempts (t.answered c) → t.answers c ≢ 0 → Resets t (confirms t x c) x (t.makes c)
 unfolding confirms
@@ -147,12 +147,12 @@ did_states r w v reads rule (did_learn x a e k own y here t p l) s ok = answer_s
 did_states r w v reads rule (did_hello x p) s ok = ok
 did_states r w v reads rule (did_close x a) s ok = left_ok w.tunnels w.calls x Closed ok (inr refl)
 did_states r w v reads rule (did_clear x) s ok = left_ok w.tunnels w.calls x Gone ok (inl refl)
-did_states r w v reads rule (did_add x z o p new) s ok = is_born_ok w.tunnels w.calls x z ok (s.calls.nameless z new.undrawn) p
+did_states r w v reads rule (did_add x z p new) s ok = is_born_ok w.tunnels w.calls x z ok (s.calls.nameless z new.undrawn) p
 did_states r w v reads rule (did_ask z p a) s ok = let m = (s.calls.waits z a).0 in is_asked_for_ok w.tunnels w.calls z ok p a m (waits_unbooked w s z a) (nothing_held w s z m)
 did_states r w v reads rule (did_end_told z p a b) s ok = told_states r w z ok
 did_states r w v reads rule (did_end_silent z a b) s ok = ends_ok w.tunnels w.calls (is_call z) ok
 did_states r w v reads rule (did_query x z p a) s ok = ok
-did_states r w v reads rule (did_freeze x a c p n l f new) s ok = freeze_states r w x a c rule p ok
+did_states r w v reads rule (did_freeze x a c own theirs p n l f new) s ok = freeze_states r w x a c own theirs rule p ok
 did_states r w v reads rule (did_reset_attempting x c p n) s ok = resets_ok w.tunnels (confirms w.tunnels x c) w.calls r.asks_after_resets x (w.tunnels.makes c) (confirms_resets w.tunnels x c s.epochs p n) (known_up w s) ok
 did_states r w v reads rule (did_reset_answering x c p n) s ok = resets_ok w.tunnels (is_confirmed w.tunnels x c) w.calls r.asks_after_resets x (w.tunnels.makes c) (is_confirmed_resets w.tunnels x c s.epochs p) (known_up w s) ok
 did_states r w v reads rule (did_restore x a b p new) s ok = restored_ok w.tunnels w.calls x a ok p

@@ -7,6 +7,7 @@ use Rattle.epoch_machine.specs.Calls.{Calls, CallState, NoCall, Waits, WaitsRepl
 use Rattle.epoch_machine.specs.Worlds.{World, all_rules}
 use Rattle.epoch_machine.specs.Moves.{Move, Kept, Stops, step, after}
 use Rattle.epoch_laws.specs.Epochs.{EpochsHold}
+use Rattle.epoch_laws.specs.Answers.{AnswersHold}
 use Rattle.letter_laws.specs.Letters.{LettersHold}
 use Rattle.birth_laws.specs.Births.{CallsHold, LettersMean}
 
@@ -162,6 +163,7 @@ pub record CoverageOfRuns : Type 0 where
 -- a step that is cut after any of its records keeps all of it: whatever records of a node's step are kept as the node goes down, all that held goes on to hold
 pub record StopsKeepAll : Type 0 where
   pub epochs : (ms : List Move) (n : ℕ) (ks : List Kept) → EpochsHold (step all_rules (after all_rules ms) (Stops n ks)).tunnels
+  pub answers : (ms : List Move) (n : ℕ) (ks : List Kept) → AnswersHold (step all_rules (after all_rules ms) (Stops n ks)).tunnels
   pub letters : (ms : List Move) (n : ℕ) (ks : List Kept) → LettersHold (step all_rules (after all_rules ms) (Stops n ks)).tunnels (step all_rules (after all_rules ms) (Stops n ks)).channels
   pub births : (ms : List Move) (n : ℕ) (ks : List Kept) → CallsHold (step all_rules (after all_rules ms) (Stops n ks)).tunnels (step all_rules (after all_rules ms) (Stops n ks)).calls
   pub meanings : (ms : List Move) (n : ℕ) (ks : List Kept) → LettersMean (step all_rules (after all_rules ms) (Stops n ks)).tunnels (step all_rules (after all_rules ms) (Stops n ks)).channels (step all_rules (after all_rules ms) (Stops n ks)).calls

@@ -52,9 +52,9 @@ restored_known : (t : Tunnels) (x a : ℕ) → AsKnown t (restored t x a)
 unfolding restored
 restored_known t x a = record { drawn = grind (arith, nat_tests); opener = λ y h. refl; learned = λ y h. refl }
 
-frozen_known : (t : Tunnels) (x a c : ℕ) → AsKnown t (frozen t x a c)
+frozen_known : (t : Tunnels) (x a c own theirs : ℕ) → AsKnown t (frozen t x a c own theirs)
 unfolding frozen
-frozen_known t x a c = record { drawn = grind (arith, nat_tests); opener = λ y h. refl; learned = λ y h. refl }
+frozen_known t x a c own theirs = record { drawn = grind (arith, nat_tests); opener = λ y h. refl; learned = λ y h. refl }
 
 confirms_known : (t : Tunnels) (x c : ℕ) → AsKnown t (confirms t x c)
 unfolding confirms
@@ -91,7 +91,7 @@ did_known r w v (did_learn x s e k own y here t p l) ep = known_by w.tunnels _ (
 did_known r w v (did_close x a) ep = left_known w.tunnels x _
 did_known r w v (did_clear x) ep = left_known w.tunnels x _
 did_known r w v (did_end_told z p a b) ep = known_by w.tunnels _ (told_same r w z)
-did_known r w v (did_freeze x a c p n l f new) ep = frozen_known w.tunnels x a c
+did_known r w v (did_freeze x a c own theirs p n l f new) ep = frozen_known w.tunnels x a c own theirs
 did_known r w v (did_reset_attempting x c p n) ep = confirms_known w.tunnels x c
 did_known r w v (did_reset_answering x c p n) ep = is_confirmed_known w.tunnels x c
 did_known r w v (did_restore x a b p new) ep = restored_known w.tunnels x a

@@ -6,3 +6,6 @@ pub mod Resets
 pub mod Steps
 pub mod Rising
 pub mod Growth
+pub mod Making
+pub mod Answering
+pub mod Numbers

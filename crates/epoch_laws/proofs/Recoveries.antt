@@ -58,9 +58,9 @@ restored_ok t x a ok p0 p1 p2 p3 =
       open_above = grind (arith, nat_tests);
     }
 
-pub frozen_ok : (t : Tunnels) (x a c : ℕ) → EpochsHold t → (is_established (t.phase x) ≡ true) → (t.attempts a ≢ 0) → (t.learned (t.attempts a) ≡ x) → (t.learned x ≡ t.attempts a) → (t.drawn c ≡ false) → (c ≢ 0) → EpochsHold (frozen t x a c)
+pub frozen_ok : (t : Tunnels) (x a c own theirs : ℕ) → EpochsHold t → (is_established (t.phase x) ≡ true) → (t.attempts a ≢ 0) → (t.learned (t.attempts a) ≡ x) → (t.learned x ≡ t.attempts a) → (t.drawn c ≡ false) → (c ≢ 0) → EpochsHold (frozen t x a c own theirs)
 unfolding frozen
-frozen_ok t x a c ok p0 p1 p2 p3 p4 p5 =
+frozen_ok t x a c own theirs ok p0 p1 p2 p3 p4 p5 =
     record {
       zero = grind (arith, nat_tests);
       nameless = λ k h. let n = ok.nameless k (grind (arith, nat_tests)) in record {

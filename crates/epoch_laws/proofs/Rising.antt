@@ -10,10 +10,10 @@ use Rattle.epoch_laws.specs.Epochs.{EpochsHold, Rises, LowerIsNotOpen, ResetsMee
 use Rattle.epoch_laws.proofs.Steps.{answer_same, told_same, holds_after}
 
 -- an end that resets by an attempt enters an epoch above its own
-above_attempting : (t : Tunnels) (x c : ℕ) → EpochsHold t → t.phase x ≡ Attempts (t.answered c) → t.answers c ≢ 0 → t.entered x < t.makes c
+pub above_attempting : (t : Tunnels) (x c : ℕ) → EpochsHold t → t.phase x ≡ Attempts (t.answered c) → t.answers c ≢ 0 → t.entered x < t.makes c
 above_attempting t x c ok p n = let a = ok.attempts_entered x (t.answered c) p in let b = ok.attempts_answered x (t.answered c) c p n refl in grind (arith, b)
 
-above_answering : (t : Tunnels) (x c : ℕ) → EpochsHold t → t.phase x ≡ Answers c → t.entered x < t.makes c
+pub above_answering : (t : Tunnels) (x c : ℕ) → EpochsHold t → t.phase x ≡ Answers c → t.entered x < t.makes c
 above_answering t x c ok p = ok.answers_entered x c p
 
 abbrev Later : Tunnels → Tunnels → Type 0

@@ -1,1 +1,3 @@
 pub mod Epochs
+pub mod Answers
+pub mod Numbers

@@ -1,7 +1,7 @@
 -- What a move does, with what is known before it.
 use Rattle.std.proofs.Common.{◌≡◌, ◌≢◌, ◌⊎◌, inl, inr, ⊎_elim, ℕ, ◌≤◌, Bool, true, false, cond, eqb, ltb, not, ◌&&◌, ◌||◌, List, refl, ap, slice_get, Option, Some, None, arith}
 use Rattle.std.proofs.lemmas.Bool.Decides.{nat_tests}
-use Rattle.epoch_machine.specs.Names.{is_new}
+use Rattle.epoch_machine.specs.Names.{is_new, is_name}
 use Rattle.epoch_machine.specs.Letters.{Letter, Sccrq, Sccrp, Scccn, StopCcn, Hello, Request, Reply, Connect, Cdn, Fsq, Fsr}
 use Rattle.epoch_machine.specs.Tunnels.{Tunnels, Gone, WaitReply, WaitConnect, Open, Closed, Attempts, Answers, is_established, is_live, is_active, is_open, is_wait_reply, is_wait_connect, attempts_by, answers_by}
 use Rattle.epoch_machine.specs.Channels.{Stands, refuses}
@@ -26,13 +26,12 @@ pub record Takes (r : Rules) (w : World) (x s e k : ℕ) (l : Letter) : Type 0 w
   pub next : k ≡ w.channels.taken x (w.tunnels.entered x)
   pub stands : Stands w.channels s e k l
 
--- a letter that is taken and changes nothing else
+-- a letter that is taken and changes nothing else; so may a request be
 pub record Ignores (w : World) (x : ℕ) (l : Letter) : Type 0 where
   pub no_stop : is_stop l ≡ false
   pub no_opening : l ≡ Sccrp → is_wait_reply (w.tunnels.phase x) ≡ false
   pub no_confirming : l ≡ Scccn → is_wait_connect (w.tunnels.phase x) ≡ false
   pub no_connecting : (z : ℕ) → l ≡ Connect z → is_open (w.tunnels.phase x) ≡ true → (eqb (w.calls.tunnel z) x && waits_connect (w.calls.state z)) ≡ false
-  pub no_request : (own : ℕ) → l ≡ Request own → is_open (w.tunnels.phase x) ≡ false
   pub no_cdn : (own y : ℕ) → l ≡ Cdn own y → is_open (w.tunnels.phase x) ≡ false
   pub no_answer : (own y : ℕ) (here : Bool) → l ≡ Fsr own y here → is_open (w.tunnels.phase x) ≡ false
 
@@ -58,13 +57,13 @@ pub data Did (r : Rules) (w : World) : World → Type 0 where
   did_hello : (x : ℕ) → w.tunnels.phase x ≡ Open → Did r w (gives w x Hello)
   did_close : (x : ℕ) → is_active (w.tunnels.phase x) ≡ true → Did r w (leaves (gives w x StopCcn) x Closed)
   did_clear : (x : ℕ) → Did r w (leaves w x Gone)
-  did_add : (x z : ℕ) → w.tunnels.opener x ≡ true → (w.tunnels.phase x ≡ Open) ⊎ (w.tunnels.phase x ≡ WaitReply) → IsNew w.calls.drawn z → Did r w (adds_call w x z)
+  did_add : (x z : ℕ) → (w.tunnels.phase x ≡ Open) ⊎ (w.tunnels.phase x ≡ WaitReply) → IsNew w.calls.drawn z → Did r w (adds_call w x z)
   did_ask : (z : ℕ) → w.tunnels.phase (w.calls.tunnel z) ≡ Open → w.calls.state z ≡ Waits → Did r w (asks_for w z)
   did_end_told : (z : ℕ) → w.tunnels.phase (w.calls.tunnel z) ≡ Open → lives (w.calls.state z) ≡ true → waits (w.calls.state z) ≡ false → Did r w (ends_told r w z)
   did_end_silent : (z : ℕ) → lives (w.calls.state z) ≡ true → (is_active (w.tunnels.phase (w.calls.tunnel z)) ≡ false) ⊎ (w.calls.state z ≡ Waits) → Did r w (ends_call w z)
   did_query : (x z : ℕ) → w.tunnels.phase x ≡ Open → w.calls.asks x z ≡ true → Did r w (queries w x z)
   -- recovery
-  did_freeze : (x a c : ℕ) → is_established (w.tunnels.phase x) ≡ true → w.tunnels.attempts a ≢ 0 → w.tunnels.learned (w.tunnels.attempts a) ≡ x → w.tunnels.learned x ≡ w.tunnels.attempts a → IsNew w.tunnels.drawn c → Did r w (freezes r w x a c)
+  did_freeze : (x a c own theirs : ℕ) → is_established (w.tunnels.phase x) ≡ true → w.tunnels.attempts a ≢ 0 → w.tunnels.learned (w.tunnels.attempts a) ≡ x → w.tunnels.learned x ≡ w.tunnels.attempts a → IsNew w.tunnels.drawn c → Did r w (freezes r w x a c own theirs)
   did_reset_attempting : (x c : ℕ) → w.tunnels.phase x ≡ Attempts (w.tunnels.answered c) → w.tunnels.answers c ≢ 0 → Did r w (resets_attempting r w x c)
   did_reset_answering : (x c : ℕ) → w.tunnels.phase x ≡ Answers c → w.tunnels.confirmed c ≡ true → Did r w (resets_answering r w x c)
   did_restore : (x a : ℕ) → w.tunnels.booked x ≡ true → w.tunnels.phase x ≡ Gone → IsNew w.tunnels.drawn a → Did r w (restores w x a)
@@ -96,25 +95,25 @@ header t s x l h n = grind (arith, nat_tests)
 
 -- no letter about calls
 ignored : (w : World) (x : ℕ) (l : Letter) → is_stop l ≡ false → (l ≡ Sccrp → is_wait_reply (w.tunnels.phase x) ≡ false) → (l ≡ Scccn → is_wait_connect (w.tunnels.phase x) ≡ false) → is_open (w.tunnels.phase x) ≡ false → Ignores w x l
-ignored w x l a b c d = record { no_stop = a; no_opening = b; no_confirming = c; no_connecting = λ z h o. absurd (no_way (is_open (w.tunnels.phase x)) o d); no_request = λ own h. d; no_cdn = λ own y h. d; no_answer = λ own y here h. d }
+ignored w x l a b c d = record { no_stop = a; no_opening = b; no_confirming = c; no_connecting = λ z h o. absurd (no_way (is_open (w.tunnels.phase x)) o d); no_cdn = λ own y h. d; no_answer = λ own y here h. d }
 
 module _ (r : Rules) (w : World) (x s e k : ℕ) where
   open_did : (z : ℕ) (l : Letter) → Takes r w x s e k l → is_stop l ≡ false → w.tunnels.phase x ≡ Open → Did r w (takes_open r (took_one w x) x l z)
   unfolding takes_open answers_request takes_reply takes_connect took_one
-  open_did z Sccrq t n p = did_take x s e k Sccrq t record { no_stop = refl; no_opening = λ h. absurd cc; no_confirming = λ h. absurd cc; no_connecting = λ z h o. absurd cc; no_request = λ own h. absurd cc; no_cdn = λ own y h. absurd cc; no_answer = λ own y here h. absurd cc }
-  open_did z Sccrp t n p = did_take x s e k Sccrp t record { no_stop = refl; no_opening = λ h. ap is_wait_reply p; no_confirming = λ h. absurd cc; no_connecting = λ z h o. absurd cc; no_request = λ own h. absurd cc; no_cdn = λ own y h. absurd cc; no_answer = λ own y here h. absurd cc }
-  open_did z Scccn t n p = did_take x s e k Scccn t record { no_stop = refl; no_opening = λ h. absurd cc; no_confirming = λ h. ap is_wait_connect p; no_connecting = λ z h o. absurd cc; no_request = λ own h. absurd cc; no_cdn = λ own y h. absurd cc; no_answer = λ own y here h. absurd cc }
+  open_did z Sccrq t n p = did_take x s e k Sccrq t record { no_stop = refl; no_opening = λ h. absurd cc; no_confirming = λ h. absurd cc; no_connecting = λ z h o. absurd cc; no_cdn = λ own y h. absurd cc; no_answer = λ own y here h. absurd cc }
+  open_did z Sccrp t n p = did_take x s e k Sccrp t record { no_stop = refl; no_opening = λ h. ap is_wait_reply p; no_confirming = λ h. absurd cc; no_connecting = λ z h o. absurd cc; no_cdn = λ own y h. absurd cc; no_answer = λ own y here h. absurd cc }
+  open_did z Scccn t n p = did_take x s e k Scccn t record { no_stop = refl; no_opening = λ h. absurd cc; no_confirming = λ h. ap is_wait_connect p; no_connecting = λ z h o. absurd cc; no_cdn = λ own y h. absurd cc; no_answer = λ own y here h. absurd cc }
   open_did z StopCcn t n p = absurd cc
-  open_did z Hello t n p = did_take x s e k Hello t record { no_stop = refl; no_opening = λ h. absurd cc; no_confirming = λ h. absurd cc; no_connecting = λ z h o. absurd cc; no_request = λ own h. absurd cc; no_cdn = λ own y h. absurd cc; no_answer = λ own y here h. absurd cc }
-  open_did z (Request own) t n p = let f = header w.tunnels s x (Request own) t.way n in chosen (Did r w) (is_new w.calls.drawn z) _ _ (λ h. did_reply x s e k own z t p f (new_tells w.calls.drawn z h)) (λ h. did_decline x s e k own t p f)
+  open_did z Hello t n p = did_take x s e k Hello t record { no_stop = refl; no_opening = λ h. absurd cc; no_confirming = λ h. absurd cc; no_connecting = λ z h o. absurd cc; no_cdn = λ own y h. absurd cc; no_answer = λ own y here h. absurd cc }
+  open_did z (Request own) t n p = let f = header w.tunnels s x (Request own) t.way n in chosen (Did r w) (is_new w.calls.drawn z) _ _ (λ h. did_reply x s e k own z t p f (new_tells w.calls.drawn z h)) (λ h. chosen (Did r w) (is_name z) _ _ (λ g. did_decline x s e k own t p f) (λ g. did_take x s e k (Request own) t record { no_stop = refl; no_opening = λ h. absurd cc; no_confirming = λ h. absurd cc; no_connecting = λ z h o. absurd cc; no_cdn = λ own y h. absurd cc; no_answer = λ own y here h. absurd cc }))
   open_did z (Reply own y) t n p =
       chosen (Did r w) (eqb (w.calls.tunnel y) x && waits_reply (w.calls.state y)) _ _
       (λ h. let a = both (eqb (w.calls.tunnel y) x) (waits_reply (w.calls.state y)) h in did_first_up x s e k own y t p (header w.tunnels s x (Reply own y) t.way n) (same (w.calls.tunnel y) x a.0) (reply_state (w.calls.state y) a.1))
-      (λ h. did_take x s e k (Reply own y) t record { no_stop = refl; no_opening = λ h. absurd cc; no_confirming = λ h. absurd cc; no_connecting = λ z h o. absurd cc; no_request = λ own h. absurd cc; no_cdn = λ own y h. absurd cc; no_answer = λ own y here h. absurd cc })
+      (λ h. did_take x s e k (Reply own y) t record { no_stop = refl; no_opening = λ h. absurd cc; no_confirming = λ h. absurd cc; no_connecting = λ z h o. absurd cc; no_cdn = λ own y h. absurd cc; no_answer = λ own y here h. absurd cc })
   open_did z (Connect y) t n p =
       chosen (Did r w) (eqb (w.calls.tunnel y) x && waits_connect (w.calls.state y)) _ _
       (λ h. let a = both (eqb (w.calls.tunnel y) x) (waits_connect (w.calls.state y)) h in did_second_up x s e k y t p (header w.tunnels s x (Connect y) t.way n) (same (w.calls.tunnel y) x a.0) (connect_state (w.calls.state y) a.1))
-      (λ h. did_take x s e k (Connect y) t record { no_stop = refl; no_opening = λ h. absurd cc; no_confirming = λ h. absurd cc; no_connecting = connecting y h; no_request = λ own h. absurd cc; no_cdn = λ own y h. absurd cc; no_answer = λ own y here h. absurd cc })
+      (λ h. did_take x s e k (Connect y) t record { no_stop = refl; no_opening = λ h. absurd cc; no_confirming = λ h. absurd cc; no_connecting = connecting y h; no_cdn = λ own y h. absurd cc; no_answer = λ own y here h. absurd cc })
     where
       connecting : (y : ℕ) → (eqb (w.calls.tunnel y) x && waits_connect (w.calls.state y)) ≡ false → (z : ℕ) → Connect y ≡ Connect z → is_open (w.tunnels.phase x) ≡ true → (eqb (w.calls.tunnel z) x && waits_connect (w.calls.state z)) ≡ false
       connecting y h z e o = let same_call : y ≡ z = cc in rw (← same_call) h
@@ -129,8 +128,8 @@ module _ (r : Rules) (w : World) (x s e k : ℕ) where
   taking_did : (z : ℕ) (l : Letter) → Takes r w x s e k l → is_stop l ≡ false → Did r w (takes r (took_one w x) x s l z)
   unfolding takes took_one
   taking_did z StopCcn t n = absurd cc
-  taking_did z Sccrp t n = chosen (Did r w) (is_wait_reply (w.tunnels.phase x)) _ _ (λ h. did_connect x s e k t (reply_phase (w.tunnels.phase x) h) (header w.tunnels s x Sccrp t.way refl)) (λ h. did_take x s e k Sccrp t record { no_stop = refl; no_opening = λ g. h; no_confirming = λ g. absurd cc; no_connecting = λ z g o. absurd cc; no_request = λ own g. absurd cc; no_cdn = λ own y g. absurd cc; no_answer = λ own y here g. absurd cc })
-  taking_did z Scccn t n = chosen (Did r w) (is_wait_connect (w.tunnels.phase x)) _ _ (λ h. did_confirm x s e k t (connect_phase (w.tunnels.phase x) h) (header w.tunnels s x Scccn t.way refl)) (λ h. did_take x s e k Scccn t record { no_stop = refl; no_opening = λ g. absurd cc; no_confirming = λ g. h; no_connecting = λ z g o. absurd cc; no_request = λ own g. absurd cc; no_cdn = λ own y g. absurd cc; no_answer = λ own y here g. absurd cc })
+  taking_did z Sccrp t n = chosen (Did r w) (is_wait_reply (w.tunnels.phase x)) _ _ (λ h. did_connect x s e k t (reply_phase (w.tunnels.phase x) h) (header w.tunnels s x Sccrp t.way refl)) (λ h. did_take x s e k Sccrp t record { no_stop = refl; no_opening = λ g. h; no_confirming = λ g. absurd cc; no_connecting = λ z g o. absurd cc; no_cdn = λ own y g. absurd cc; no_answer = λ own y here g. absurd cc })
+  taking_did z Scccn t n = chosen (Did r w) (is_wait_connect (w.tunnels.phase x)) _ _ (λ h. did_confirm x s e k t (connect_phase (w.tunnels.phase x) h) (header w.tunnels s x Scccn t.way refl)) (λ h. did_take x s e k Scccn t record { no_stop = refl; no_opening = λ g. absurd cc; no_confirming = λ g. h; no_connecting = λ z g o. absurd cc; no_cdn = λ own y g. absurd cc; no_answer = λ own y here g. absurd cc })
   taking_did z Sccrq t n = other_did z Sccrq t refl (λ h. cc) (λ h. cc)
   taking_did z Hello t n = other_did z Hello t refl (λ h. cc) (λ h. cc)
   taking_did z (Request own) t n = other_did z (Request own) t refl (λ h. cc) (λ h. cc)
@@ -174,12 +173,11 @@ refusal_tells w x h =
     let b = both (is_wait_reply (w.tunnels.phase x)) (eqb (w.channels.taken x 0) 0) a.1 in
     (reply_phase (w.tunnels.phase x) b.0, same (w.channels.taken x 0) 0 b.1)
 
-add_tells : (w : World) (x z : ℕ) → may_add w x z ≡ true → (w.tunnels.opener x ≡ true) × ((w.tunnels.phase x ≡ Open) ⊎ (w.tunnels.phase x ≡ WaitReply)) × IsNew w.calls.drawn z
+add_tells : (w : World) (x z : ℕ) → may_add w x z ≡ true → ((w.tunnels.phase x ≡ Open) ⊎ (w.tunnels.phase x ≡ WaitReply)) × IsNew w.calls.drawn z
 unfolding may_add
 add_tells w x z h =
-    let a = both (w.tunnels.opener x) ((is_open (w.tunnels.phase x) || is_wait_reply (w.tunnels.phase x)) && is_new w.calls.drawn z) h in
-    let b = both (is_open (w.tunnels.phase x) || is_wait_reply (w.tunnels.phase x)) (is_new w.calls.drawn z) a.1 in
-    (a.0, ⊎_elim (λ p. inl (open_phase (w.tunnels.phase x) p)) (λ p. inr (reply_phase (w.tunnels.phase x) p)) (either (is_open (w.tunnels.phase x)) (is_wait_reply (w.tunnels.phase x)) b.0), new_tells w.calls.drawn z b.1)
+    let a = both (is_open (w.tunnels.phase x) || is_wait_reply (w.tunnels.phase x)) (is_new w.calls.drawn z) h in
+    (⊎_elim (λ p. inl (open_phase (w.tunnels.phase x) p)) (λ p. inr (reply_phase (w.tunnels.phase x) p)) (either (is_open (w.tunnels.phase x)) (is_wait_reply (w.tunnels.phase x)) a.0), new_tells w.calls.drawn z a.1)
 
 ask_tells : (w : World) (z : ℕ) → may_ask w z ≡ true → (w.tunnels.phase (w.calls.tunnel z) ≡ Open) × (w.calls.state z ≡ Waits)
 unfolding may_ask
@@ -238,12 +236,12 @@ step_did r w (Delivers x s e k z) = delivers_did r w x s e k z _ refl
 step_did r w (SaysHello x) = chosen (Did r w) (is_open (w.tunnels.phase x)) _ _ (λ h. did_hello x (open_phase (w.tunnels.phase x) h)) (λ h. idle)
 step_did r w (Closes x) = chosen (Did r w) (is_active (w.tunnels.phase x)) _ _ (λ h. did_close x h) (λ h. idle)
 step_did r w (Clears x) = chosen (Did r w) (may_clear w x) _ _ (λ h. did_clear x) (λ h. idle)
-step_did r w (AddsCall x z) = chosen (Did r w) (may_add w x z) _ _ (λ h. let t = add_tells w x z h in did_add x z t.0 t.1 t.2) (λ h. idle)
+step_did r w (AddsCall x z) = chosen (Did r w) (may_add w x z) _ _ (λ h. let t = add_tells w x z h in did_add x z t.0 t.1) (λ h. idle)
 step_did r w (Asks z) = chosen (Did r w) (may_ask w z) _ _ (λ h. let t = ask_tells w z h in did_ask z t.0 t.1) (λ h. idle)
 step_did r w (EndsTold z) = chosen (Did r w) (may_end_told w z) _ _ (λ h. let t = told_tells w z h in did_end_told z t.0 t.1 t.2) (λ h. idle)
 step_did r w (EndsSilent z) = chosen (Did r w) (may_end_silent w z) _ _ (λ h. let t = silent_tells w z h in did_end_silent z t.0 t.1) (λ h. idle)
 step_did r w (Queries x z) = chosen (Did r w) (may_query w x z) _ _ (λ h. let t = query_tells w x z h in did_query x z t.0 t.1) (λ h. idle)
-step_did r w (Freezes x a c) = chosen (Did r w) (may_freeze w x a c) _ _ (λ h. let t = freeze_tells w x a c h in did_freeze x a c t.0 t.1 t.2 t.3 t.4) (λ h. idle)
+step_did r w (Freezes x a c own theirs) = chosen (Did r w) (may_freeze w x a c) _ _ (λ h. let t = freeze_tells w x a c h in did_freeze x a c own theirs t.0 t.1 t.2 t.3 t.4) (λ h. idle)
 step_did r w (ResetsAttempting x c) = chosen (Did r w) (may_reset_attempting w x c) _ _ (λ h. let t = attempting_tells w x c h in did_reset_attempting x c t.0 t.1) (λ h. idle)
 step_did r w (ResetsAnswering x c) = chosen (Did r w) (may_reset_answering w x c) _ _ (λ h. let t = answering_tells w x c h in did_reset_answering x c t.0 t.1) (λ h. idle)
 step_did r w (Restores x a) = chosen (Did r w) (may_restore w x a) _ _ (λ h. let t = restore_tells w x a h in did_restore x a t.0 t.1 t.2) (λ h. idle)

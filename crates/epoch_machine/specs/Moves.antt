@@ -25,13 +25,13 @@ pub data Move : Type 0 where
   Refuses : ℕ → Move
   -- the opener takes that
   TakesRefusal : ℕ → Move
-  -- a letter is delivered: to this tunnel, the sender, its epoch, its place, and a new call's name or one that isn't new
+  -- a letter is delivered: to this tunnel, the sender, its epoch, its place, and for a request the name of a new call, one that isn't new, or 0
   Delivers : ℕ → ℕ → ℕ → ℕ → ℕ → Move
   SaysHello : ℕ → Move
   Closes : ℕ → Move
   -- the tunnel is removed, with no letter
   Clears : ℕ → Move
-  -- a new call of an opener's: tunnel, call
+  -- a new call that asks, at either end of a link: tunnel, call
   AddsCall : ℕ → ℕ → Move
   Asks : ℕ → Move
   -- a call is ended by its own end, with a CDN
@@ -40,8 +40,8 @@ pub data Move : Type 0 where
   EndsSilent : ℕ → Move
   -- the next letter of a tunnel's query: tunnel, call
   Queries : ℕ → ℕ → Move
-  -- an attempt of the other end's is answered: tunnel, attempt, new answer
-  Freezes : ℕ → ℕ → ℕ → Move
+  -- an attempt of the other end's is answered: tunnel, attempt, new answer, the first numbers of the tunnel's letters and of the other end's
+  Freezes : ℕ → ℕ → ℕ → ℕ → ℕ → Move
   -- the attempting end takes an answer: tunnel, answer
   ResetsAttempting : ℕ → ℕ → Move
   -- the answering end takes the confirmation of its answer
@@ -128,8 +128,9 @@ may_accept w s x = w.tunnels.up (w.tunnels.peer s) && ((w.tunnels.drawn s && w.t
 unfoldable pub may_take_refusal : World → ℕ → Bool
 may_take_refusal w x = w.channels.refused x && (is_wait_reply (w.tunnels.phase x) && (w.channels.taken x 0 == 0))
 
+-- an opener may have calls before it's open; both ends may ask, since what accepts a LAC's tunnel may be a LAC too
 unfoldable pub may_add : World → ℕ → ℕ → Bool
-may_add w x z = w.tunnels.opener x && ((is_open (w.tunnels.phase x) || is_wait_reply (w.tunnels.phase x)) && is_new w.calls.drawn z)
+may_add w x z = (is_open (w.tunnels.phase x) || is_wait_reply (w.tunnels.phase x)) && is_new w.calls.drawn z
 
 unfoldable pub may_ask : World → ℕ → Bool
 may_ask w z = is_open (w.tunnels.phase (w.calls.tunnel z)) && waits (w.calls.state z)
@@ -180,8 +181,8 @@ ends_told r w z = if r.tells_ends then gives (ends_call w z) (w.calls.tunnel z) 
 unfoldable pub queries : World → ℕ → ℕ → World
 queries w x z = gives w x (Fsq z (w.calls.held x (w.tunnels.entered x) z))
 
-unfoldable pub freezes : Rules → World → ℕ → ℕ → ℕ → World
-freezes r w x a c = record w { tunnels = frozen w.tunnels x a c; calls = if r.ends_at_freezes then ends w.calls (unfinished w.calls x) else w.calls }
+unfoldable pub freezes : Rules → World → ℕ → ℕ → ℕ → ℕ → ℕ → World
+freezes r w x a c own theirs = record w { tunnels = frozen w.tunnels x a c own theirs; calls = if r.ends_at_freezes then ends w.calls (unfinished w.calls x) else w.calls }
 
 unfoldable pub resets_attempting : Rules → World → ℕ → ℕ → World
 resets_attempting r w x c = record w { tunnels = confirms w.tunnels x c; calls = resets r.asks_after_resets w.calls x (w.tunnels.makes c) }
@@ -207,7 +208,7 @@ step r w (Asks z) = if may_ask w z then asks_for w z else w
 step r w (EndsTold z) = if may_end_told w z then ends_told r w z else w
 step r w (EndsSilent z) = if may_end_silent w z then ends_call w z else w
 step r w (Queries x z) = if may_query w x z then queries w x z else w
-step r w (Freezes x a c) = if may_freeze w x a c then freezes r w x a c else w
+step r w (Freezes x a c own theirs) = if may_freeze w x a c then freezes r w x a c own theirs else w
 step r w (ResetsAttempting x c) = if may_reset_attempting w x c then resets_attempting r w x c else w
 step r w (ResetsAnswering x c) = if may_reset_answering w x c then resets_answering r w x c else w
 step r w (Restores x a) = if may_restore w x a then restores w x a else w

@@ -56,7 +56,7 @@ pub record Tunnels : Type 0 where
   -- the names that were drawn, for tunnels, attempts and answers
   pub drawn : ℕ → Bool
   pub up : ℕ → Bool
-  -- the tunnel's node, the peer's node, and whether it opened: the opener is a LAC's end, the acceptor an LNS's
+  -- the tunnel's node, the peer's node, and whether it opened: the opener is a LAC's end, the acceptor an LNS's, or that of another LAC
   pub node : ℕ → ℕ
   pub peer : ℕ → ℕ
   pub opener : ℕ → Bool
@@ -68,14 +68,19 @@ pub record Tunnels : Type 0 where
   -- the epoch that it entered last, and how many epochs its link has
   pub entered : ℕ → ℕ
   pub epochs : ℕ → ℕ
+  -- the answer by which the tunnel entered this epoch, at a reset; 0 where it didn't
+  pub entered_by : ℕ → ℕ → ℕ
   -- of an attempt: its tunnel, and how many epochs the link had when it began
   pub attempts : ℕ → ℕ
   pub base : ℕ → ℕ
-  -- of an answer: the tunnel that gave it, the attempt that it answers, the epoch that it makes, and whether it was confirmed
+  -- of an answer: the tunnel that gave it, the attempt that it answers, the epoch that it makes, whether it was confirmed, and the
+  -- numbers that it suggests: the first of its giver's letters in that epoch, and the first of the other end's
   pub answers : ℕ → ℕ
   pub answered : ℕ → ℕ
   pub makes : ℕ → ℕ
   pub confirmed : ℕ → Bool
+  pub giver_first : ℕ → ℕ
+  pub other_first : ℕ → ℕ
 
 abbrev pub no_tunnels : Tunnels
 no_tunnels = record {
@@ -89,12 +94,15 @@ no_tunnels = record {
   booked = λ x. false;
   entered = λ x. 0;
   epochs = λ x. 0;
+  entered_by = λ x e. 0;
   attempts = λ a. 0;
   base = λ a. 0;
   answers = λ c. 0;
   answered = λ c. 0;
   makes = λ c. 0;
   confirmed = λ c. false;
+  giver_first = λ c. 0;
+  other_first = λ c. 0;
 }
 
 -- the two ends of one link have learned each other
@@ -124,17 +132,17 @@ left t x p = record t { phase = assign t.phase x p; booked = assign t.booked x f
 unfoldable pub restored : Tunnels → ℕ → ℕ → Tunnels
 restored t x a = record t { drawn = assign t.drawn a true; phase = assign t.phase x (Attempts a); attempts = assign t.attempts a x; base = assign t.base a (t.epochs x) }
 
--- the end answers an attempt of the other end's, which makes the next epoch of the link
-unfoldable pub frozen : Tunnels → ℕ → ℕ → ℕ → Tunnels
-frozen t x a c = record t { drawn = assign t.drawn c true; phase = assign t.phase x (Answers c); epochs = assign (assign t.epochs (t.learned x) (suc (t.epochs x))) x (suc (t.epochs x)); answers = assign t.answers c x; answered = assign t.answered c a; makes = assign t.makes c (suc (t.epochs x)) }
+-- the end answers an attempt of the other end's, which makes the next epoch of the link, with the first numbers of both ends in it
+unfoldable pub frozen : Tunnels → ℕ → ℕ → ℕ → ℕ → ℕ → Tunnels
+frozen t x a c own theirs = record t { drawn = assign t.drawn c true; phase = assign t.phase x (Answers c); epochs = assign (assign t.epochs (t.learned x) (suc (t.epochs x))) x (suc (t.epochs x)); answers = assign t.answers c x; answered = assign t.answered c a; makes = assign t.makes c (suc (t.epochs x)); giver_first = assign t.giver_first c own; other_first = assign t.other_first c theirs }
 
 -- the attempting end enters the epoch of this answer, and confirms it
 unfoldable pub confirms : Tunnels → ℕ → ℕ → Tunnels
-confirms t x c = record t { phase = assign t.phase x Open; entered = assign t.entered x (t.makes c); confirmed = assign t.confirmed c true }
+confirms t x c = record t { phase = assign t.phase x Open; entered = assign t.entered x (t.makes c); entered_by = assign t.entered_by x (assign (t.entered_by x) (t.makes c) c); confirmed = assign t.confirmed c true }
 
 -- the answering end enters the epoch of its answer
 unfoldable pub is_confirmed : Tunnels → ℕ → ℕ → Tunnels
-is_confirmed t x c = record t { phase = assign t.phase x Open; entered = assign t.entered x (t.makes c) }
+is_confirmed t x c = record t { phase = assign t.phase x Open; entered = assign t.entered x (t.makes c); entered_by = assign t.entered_by x (assign (t.entered_by x) (t.makes c) c) }
 
 unfoldable pub goes_down : Tunnels → ℕ → Tunnels
 goes_down t n = record t { up = assign t.up n false; phase = λ x. if t.node x == n then Gone else t.phase x }

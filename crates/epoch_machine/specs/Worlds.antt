@@ -1,6 +1,6 @@
 -- The world, and what one end does in it.
 use Rattle.std.specs.Prelude.{ℕ, Bool, true, false, if◌then◌else◌, ◌==◌, ◌&&◌, not}
-use Rattle.epoch_machine.specs.Names.{is_new}
+use Rattle.epoch_machine.specs.Names.{is_new, is_name}
 use Rattle.epoch_machine.specs.Letters.{Letter, Sccrp, Scccn, StopCcn, Request, Reply, Connect, Cdn, Fsq, Fsr}
 use Rattle.epoch_machine.specs.Tunnels.{Tunnels, no_tunnels, Phase, is_wait_reply, is_wait_connect, is_open, established_with, established, left}
 use Rattle.epoch_machine.specs.Channels.{Channels, no_channels, puts, counts}
@@ -52,12 +52,14 @@ connects w x s = gives (record w { tunnels = established_with w.tunnels x s }) x
 unfoldable pub is_connected : World → ℕ → World
 is_connected w x = record w { tunnels = established w.tunnels x }
 
--- a request is answered by a new call, or refused
+-- a request is answered by a new call, or refused; or it's ignored, by an end that has no id left, or takes no calls
 unfoldable pub answers_request : World → ℕ → ℕ → ℕ → World
 answers_request w x own z =
     if is_new w.calls.drawn z
     then gives (record w { calls = replies w.calls x (w.tunnels.entered x) z own }) x (Reply z own)
-    else gives w x (Cdn 0 own)
+    else if is_name z
+    then gives w x (Cdn 0 own)
+    else w
 
 unfoldable pub takes_reply : World → ℕ → ℕ → ℕ → World
 takes_reply w x own z =
@@ -84,7 +86,7 @@ takes_answer w x own z here =
     then record w { calls = ends (is_told w.calls x z) (is_call z) }
     else record w { calls = is_told w.calls x z }
 
--- what an open tunnel does with a letter about calls; the last name is for a new call
+-- what an open tunnel does with a letter about calls; the last name is for the call that answers a request
 unfoldable pub takes_open : Rules → World → ℕ → Letter → ℕ → World
 takes_open r w x (Request own) z = answers_request w x own z
 takes_open r w x (Reply own y) z = takes_reply w x own y

@@ -1,18 +1,18 @@
 -- A letter that is taken is the next one, in every run.
-use Rattle.std.proofs.Common.{◌≡◌, ◌≢◌, ◌⊎◌, inl, inr, ⊎_elim, ℕ, ◌<◌, ◌≤◌, true, List, [], ◌∷◌, Some, refl, sym, ap, ◌∙◌, subst, arith}
+use Rattle.std.proofs.Common.{◌≡◌, ◌⊎◌, inl, inr, ⊎_elim, ℕ, ◌<◌, ◌≤◌, Bool, true, false, eqb, ◌&&◌, List, [], ◌∷◌, Some, refl, sym, ap, ◌∙◌, subst, arith}
 use Rattle.std.proofs.lemmas.Bool.Decides.{nat_tests}
 use Rattle.epoch_machine.specs.Letters.{Letter, Sccrp, StopCcn}
-use Rattle.epoch_machine.specs.Tunnels.{Linked, WaitReply, Open, Closed, left, established_with, is_wait_reply, is_established}
+use Rattle.epoch_machine.specs.Tunnels.{Linked, WaitReply, WaitConnect, Open, Closed, left, established_with, is_wait_reply, is_active}
 use Rattle.epoch_machine.specs.Channels.{Stands}
-use Rattle.epoch_machine.specs.Worlds.{World, Rules, all_rules, empty_world, took_one, takes, leaves, connects, gives}
-use Rattle.epoch_machine.specs.Moves.{Move, Delivers, TakesRefusal, step, delivers, goes_on, may_take, may_take_refusal}
-use Rattle.epoch_machine.proofs.Splits.{same_or_not}
+use Rattle.epoch_machine.specs.Worlds.{World, Rules, all_rules, empty_world, took_one, takes, leaves, connects, gives, is_stop}
+use Rattle.epoch_machine.specs.Moves.{Move, Delivers, TakesRefusal, step, delivers, goes_on, may_take, may_take_refusal, reaches}
+use Rattle.epoch_machine.proofs.Tells.{both, either, same, active_phase}
 use Rattle.epoch_machine.proofs.Did.{step_did, take_tells, refusal_tells}
 use Rattle.epoch_laws.specs.Epochs.{EpochsHold}
 use Rattle.epoch_laws.proofs.Steps.{step_ok as epochs_step, empty_ok as epochs_empty, holds_after}
 use Rattle.epoch_laws.proofs.Growth.{did_grow}
 use Rattle.letter_laws.specs.Letters.{LettersHold, IsNextOf, ClosesOpener, TakesNext, LettersOfRuns}
-use Rattle.letter_laws.proofs.Sources.{Source, source, unlinked_end}
+use Rattle.letter_laws.proofs.Sources.{Source, source}
 use Rattle.letter_laws.proofs.Steps.{did_ok}
 use Rattle.letter_laws.proofs.Begins.{not_entered}
 
@@ -66,20 +66,34 @@ takes_next r w reads ep ok = record { takes = takes_it; refusal = refusal; newer
     refusal : (x : ℕ) → may_take_refusal w x ≡ true → (w.tunnels.opener x ≡ true) × (w.tunnels.entered x ≡ 0) × ((step r w (TakesRefusal x)).tunnels.phase x ≡ Closed)
     refusal x may = let t = refusal_tells w x may in let p = ep.waits_reply x t.0 in (p.0, not_entered w.tunnels x ep (let a = ep.epochs_linked x in grind (arith, a)), refusal_closes r w x may)
 
-    newer : (x s e k : ℕ) (l : Letter) → Stands w.channels s e k l → w.tunnels.learned s ≡ x → w.tunnels.entered x < e → w.tunnels.phase x ≢ Open
-    newer x s e k l st h below p = ⊎_elim (λ a. absurd (chosen_end a)) (λ a. absurd (other_end a)) (same_or_not (w.tunnels.learned x) s)
+    newer : (x s e k : ℕ) (l : Letter) → Stands w.channels s e k l → reaches w.tunnels s x l ≡ true → w.tunnels.entered x < e → is_active (w.tunnels.phase x) ≡ false
+    newer x s e k l st way below = by (is_active (w.tunnels.phase x)) refl
       where
         given : e ≤ w.tunnels.entered s
         given = ok.given_entered s e k l st
 
-        link : Linked w.tunnels.learned x (w.tunnels.learned x)
-        link = ep.established_linked x (ap is_established p)
+        -- the sender has entered an epoch, so it's one end of a link
+        link : Linked w.tunnels.learned s (w.tunnels.learned s)
+        link = ep.epochs_linked s (λ q. let g = given in let m = ep.entered_made s in omega (arith, q))
 
-        chosen_end : w.tunnels.learned x ≡ s → ⊥
-        chosen_end a = let b = ep.open_above x (w.tunnels.learned x) p link in let d : w.tunnels.entered s ≤ w.tunnels.entered x = rw (← a) b in let g = given in omega arith
+        h : w.tunnels.learned s ≡ x
+        h = ⊎_elim (λ a. same (w.tunnels.learned s) x a) (λ a. absurd (link.to_name (same (w.tunnels.learned s) 0 (both (eqb (w.tunnels.learned s) 0) (eqb (w.tunnels.learned x) s) (both (is_stop l) (eqb (w.tunnels.learned s) 0 && eqb (w.tunnels.learned x) s) a).1).0))) (either (eqb (w.tunnels.learned s) x) (is_stop l && (eqb (w.tunnels.learned s) 0 && eqb (w.tunnels.learned x) s)) way)
 
-        other_end : (w.tunnels.learned x ≡ s → ⊥) → ⊥
-        other_end n = let z = unlinked_end w.tunnels s ep (λ f. n (rw (← h) f.back)) in let g = given in omega arith
+        back : w.tunnels.learned x ≡ s
+        back = rw (← h) link.back
+
+        at_reply : w.tunnels.phase x ≡ WaitReply → ⊥
+        at_reply p = link.from_name (sym back ∙ (ep.waits_reply x p).1)
+
+        at_connect : w.tunnels.phase x ≡ WaitConnect → ⊥
+        at_connect p = let a = ep.same_epochs s (w.tunnels.learned s) link in let b : w.tunnels.epochs (w.tunnels.learned s) ≡ 0 = ap w.tunnels.epochs h ∙ (ep.waits_connect x p).1 in let g = given in let m = ep.entered_made s in omega arith
+
+        at_open : w.tunnels.phase x ≡ Open → ⊥
+        at_open p = let a = ep.open_above x s p record { forth = back; back = h; from_name = (λ q. link.to_name (h ∙ q)); to_name = link.from_name } in let g = given in omega arith
+
+        by : (b : Bool) → is_active (w.tunnels.phase x) ≡ b → is_active (w.tunnels.phase x) ≡ false
+        by false a = a
+        by true a = absurd (⊎_elim at_reply (λ q. ⊎_elim at_connect at_open q) (active_phase (w.tunnels.phase x) a))
 
 -- the two facts over all runs
 pub both_after : (r : Rules) (ms : List Move) (w : World) → r.reads_epochs ≡ true → EpochsHold w.tunnels → LettersHold w.tunnels w.channels → LettersHold (goes_on r w ms).tunnels (goes_on r w ms).channels

@@ -139,9 +139,9 @@ restores t c x a ep ok p0 =
       unchosen = ok.unchosen;
     }
 
-pub freezes : (t : Tunnels) (c : Channels) (x a b : ℕ) → EpochsHold t → LettersHold t c → (b ≢ 0) → LettersHold (frozen t x a b) (c)
+pub freezes : (t : Tunnels) (c : Channels) (x a b own theirs : ℕ) → EpochsHold t → LettersHold t c → (b ≢ 0) → LettersHold (frozen t x a b own theirs) (c)
 unfolding frozen
-freezes t c x a b ep ok p0 =
+freezes t c x a b own theirs ep ok p0 =
     record {
       given_drawn = grind (arith, nat_tests);
       given_entered = ok.given_entered;

@@ -1,10 +1,10 @@
 -- The lists of letters of each tunnel, epoch by epoch, and how many of the other end's it took.
 use Rattle.std.specs.Prelude.{◌≡◌, ◌≢◌, ◌⊎◌, ℕ, ◌<◌, ◌≤◌, true, false, List, length}
 use Rattle.epoch_machine.specs.Letters.{Letter, Sccrq, Sccrp, Scccn, StopCcn}
-use Rattle.epoch_machine.specs.Tunnels.{Tunnels, WaitReply, WaitConnect, Open, Closed}
+use Rattle.epoch_machine.specs.Tunnels.{Tunnels, WaitReply, WaitConnect, Open, Closed, is_active}
 use Rattle.epoch_machine.specs.Channels.{Channels, Stands}
 use Rattle.epoch_machine.specs.Worlds.{World, Rules, all_rules}
-use Rattle.epoch_machine.specs.Moves.{Move, Delivers, TakesRefusal, step, after, may_take, may_take_refusal}
+use Rattle.epoch_machine.specs.Moves.{Move, Delivers, TakesRefusal, step, after, may_take, may_take_refusal, reaches}
 
 pub record LettersHold (t : Tunnels) (c : Channels) : Type 0 where
   -- a letter was given, or taken, in an epoch that the tunnel entered
@@ -46,8 +46,8 @@ pub record TakesNext (r : Rules) (w : World) : Type 0 where
   pub takes : (x s e k z : ℕ) (l : Letter) → Stands w.channels s e k l → may_take r w x s e k l ≡ true → IsNextOf w (step r w (Delivers x s e k z)) x s e k l ⊎ ClosesOpener w (step r w (Delivers x s e k z)) x s e l
   -- the same of a StopCCN of no tunnel
   pub refusal : (x : ℕ) → may_take_refusal w x ≡ true → (w.tunnels.opener x ≡ true) × (w.tunnels.entered x ≡ 0) × ((step r w (TakesRefusal x)).tunnels.phase x ≡ Closed)
-  -- a letter of a newer epoch finds a tunnel that isn't open
-  pub newer : (x s e k : ℕ) (l : Letter) → Stands w.channels s e k l → w.tunnels.learned s ≡ x → w.tunnels.entered x < e → w.tunnels.phase x ≢ Open
+  -- a letter of a newer epoch reaches only a tunnel that isn't active: neither open nor on the way there
+  pub newer : (x s e k : ℕ) (l : Letter) → Stands w.channels s e k l → reaches w.tunnels s x l ≡ true → w.tunnels.entered x < e → is_active (w.tunnels.phase x) ≡ false
 
 -- over every list of moves from the empty world, by all rules
 pub record LettersOfRuns : Type 0 where

@@ -1,2 +1,4 @@
 pub mod Computed
+pub mod Holdings
 pub mod Weights
+pub mod Cuts

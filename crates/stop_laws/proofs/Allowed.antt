@@ -3,7 +3,7 @@ use Rattle.std.proofs.Common.{◌≡◌, ◌≢◌, ◌⊎◌, inl, inr, ℕ, Bo
 use Rattle.std.proofs.lemmas.Bool.Decides.{nat_tests}
 use Rattle.epoch_machine.specs.Letters.{Letter, Sccrp, Scccn, StopCcn, Reply, Connect, Cdn, Fsr}
 use Rattle.epoch_machine.specs.Tunnels.{Gone, WaitReply, WaitConnect, Open, is_live, is_open, is_active, is_established, is_wait_reply, is_wait_connect}
-use Rattle.epoch_machine.specs.Channels.{Stands}
+use Rattle.epoch_machine.specs.Channels.{Channels, Stands}
 use Rattle.epoch_machine.specs.Calls.{lives, is_up, waits, waits_reply, waits_connect, stands_with}
 use Rattle.epoch_machine.specs.Worlds.{World, all_rules, is_sccrp, is_scccn, is_stop}
 use Rattle.epoch_machine.specs.Moves.{Move, TakesRefusal, Delivers, Closes, Clears, EndsTold, EndsSilent, Stops, Kept, TunnelUp, TunnelDown, CallUp, CallDown, may_keep, may_take, may_take_refusal, may_clear, may_end_told, may_end_silent, is_there, is_reply, is_connect}
@@ -17,14 +17,14 @@ use Rattle.stop_laws.specs.Records.{node_of, of_leaving, of_ending, of_call_lett
 use Rattle.stop_laws.proofs.Lists.{all_of, kept_allowed}
 use Rattle.stop_laws.proofs.Books.{active_live}
 
-name_test : (k : ℕ) → k ≢ 0 → ltb 0 k ≡ true
+pub name_test : (k : ℕ) → k ≢ 0 → ltb 0 k ≡ true
 name_test k h = grind (arith, nat_tests)
 
-first : (a b : Bool) → a ≡ true → (a || b) ≡ true
+pub first : (a b : Bool) → a ≡ true → (a || b) ≡ true
 first true b h = refl
 first false b h = absurd cc
 
-second : (a b : Bool) → b ≡ true → (a || b) ≡ true
+pub second : (a b : Bool) → b ≡ true → (a || b) ≡ true
 second true b h = refl
 second false b h = h
 
@@ -61,9 +61,15 @@ module _ (w : World) (h : Whole w) where
       by (inr (inl a)) = a.epoch
       by (inr (inr a)) = absurd (let b : is_stop l ≡ true = ap is_stop a.letter in cc)
 
-  -- a letter that a waiting tunnel takes stands in epoch 0, at the place of those that it took
-  waiting_stands : (x s e k j : ℕ) (l : Letter) → Takes all_rules w x s e k l → is_stop l ≡ false → w.tunnels.entered x ≡ 0 → w.channels.taken x 0 ≡ j → Stands w.channels s 0 j l
-  waiting_stands x s e k j l t n x0 took = subst (λ (q : ℕ). Stands w.channels s 0 q l) (t.next ∙ ap (λ (q : ℕ). w.channels.taken x q) x0 ∙ took) (subst (λ (q : ℕ). Stands w.channels s q k l) (its_epoch x s e k l t n ∙ x0) t.stands)
+  -- a letter that a waiting tunnel takes is of epoch 0, at the place of those that it took, in whichever lists it stands
+  waiting_stands : (x s e k j : ℕ) (l : Letter) → Takes all_rules w x s e k l → is_stop l ≡ false → w.tunnels.entered x ≡ 0 → w.channels.taken x 0 ≡ j → (c : Channels) → Stands c s e k l → Stands c s 0 j l
+  waiting_stands x s e k j l t n x0 took c st = subst (λ (q : ℕ). Stands c s 0 q l) (t.next ∙ ap (λ (q : ℕ). w.channels.taken x q) x0 ∙ took) (subst (λ (q : ℕ). Stands c s q k l) (its_epoch x s e k l t n ∙ x0) st)
+
+  pub reply_stands : (x s e k : ℕ) → Takes all_rules w x s e k Sccrp → w.tunnels.phase x ≡ WaitReply → (c : Channels) → Stands c s e k Sccrp → Stands c s 0 0 Sccrp
+  reply_stands x s e k t p = waiting_stands x s e k 0 Sccrp t refl (unlinked_end w.tunnels x h.sound.epochs (λ l. l.to_name (h.sound.epochs.waits_reply x p).1)) (h.sound.given.waits_reply x p).0
+
+  pub connect_stands : (x s e k : ℕ) → Takes all_rules w x s e k Scccn → w.tunnels.phase x ≡ WaitConnect → (c : Channels) → Stands c s e k Scccn → Stands c s 0 1 Scccn
+  connect_stands x s e k t p = waiting_stands x s e k 1 Scccn t refl (not_entered w.tunnels x h.sound.epochs (h.sound.epochs.waits_connect x p).1) (h.sound.given.waits_connect x p).0
 
   connect_allowed : (x s e k : ℕ) → Takes all_rules w x s e k Sccrp → w.tunnels.phase x ≡ WaitReply → may_keep w (w.tunnels.node x) (TunnelUp x s) ≡ true
   unfolding may_keep
@@ -71,10 +77,7 @@ module _ (w : World) (h : Whole w) where
       all_of (eqb (w.tunnels.node x) (w.tunnels.node x)) _ (same_test (w.tunnels.node x) (w.tunnels.node x) refl)
       (all_of (ltb 0 s && eqb (w.tunnels.learned s) x) _ (all_of (ltb 0 s) (eqb (w.tunnels.learned s) x) (name_test s t.sender) (same_test (w.tunnels.learned s) x (header w.tunnels s x Sccrp t.way refl)))
       (first (is_wait_reply (w.tunnels.phase x) && is_there is_sccrp (slice_get (w.channels.sent s 0) 0)) (is_wait_connect (w.tunnels.phase x) && is_there is_scccn (slice_get (w.channels.sent s 0) 1))
-      (all_of (is_wait_reply (w.tunnels.phase x)) (is_there is_sccrp (slice_get (w.channels.sent s 0) 0)) (ap is_wait_reply p) (ap (is_there is_sccrp) (waiting_stands x s e k 0 Sccrp t refl x0 (h.sound.given.waits_reply x p).0)))))
-    where
-      x0 : w.tunnels.entered x ≡ 0
-      x0 = unlinked_end w.tunnels x h.sound.epochs (λ l. l.to_name (h.sound.epochs.waits_reply x p).1)
+      (all_of (is_wait_reply (w.tunnels.phase x)) (is_there is_sccrp (slice_get (w.channels.sent s 0) 0)) (ap is_wait_reply p) (ap (is_there is_sccrp) (reply_stands x s e k t p w.channels t.stands)))))
 
   confirm_allowed : (x s e k : ℕ) → Takes all_rules w x s e k Scccn → w.tunnels.phase x ≡ WaitConnect → may_keep w (w.tunnels.node x) (TunnelUp x s) ≡ true
   unfolding may_keep
@@ -82,16 +85,13 @@ module _ (w : World) (h : Whole w) where
       all_of (eqb (w.tunnels.node x) (w.tunnels.node x)) _ (same_test (w.tunnels.node x) (w.tunnels.node x) refl)
       (all_of (ltb 0 s && eqb (w.tunnels.learned s) x) _ (all_of (ltb 0 s) (eqb (w.tunnels.learned s) x) (name_test s t.sender) (same_test (w.tunnels.learned s) x (header w.tunnels s x Scccn t.way refl)))
       (second (is_wait_reply (w.tunnels.phase x) && is_there is_sccrp (slice_get (w.channels.sent s 0) 0)) (is_wait_connect (w.tunnels.phase x) && is_there is_scccn (slice_get (w.channels.sent s 0) 1))
-      (all_of (is_wait_connect (w.tunnels.phase x)) (is_there is_scccn (slice_get (w.channels.sent s 0) 1)) (ap is_wait_connect p) (ap (is_there is_scccn) (waiting_stands x s e k 1 Scccn t refl x0 (h.sound.given.waits_connect x p).0)))))
-    where
-      x0 : w.tunnels.entered x ≡ 0
-      x0 = not_entered w.tunnels x h.sound.epochs (h.sound.epochs.waits_connect x p).1
+      (all_of (is_wait_connect (w.tunnels.phase x)) (is_there is_scccn (slice_get (w.channels.sent s 0) 1)) (ap is_wait_connect p) (ap (is_there is_scccn) (connect_stands x s e k t p w.channels t.stands)))))
 
-  -- a letter about calls stands in the list of the end that the open tunnel learned
-  partner_stands : (x s e k y : ℕ) (l : Letter) → Takes all_rules w x s e k l → is_stop l ≡ false → w.tunnels.phase x ≡ Open → w.calls.tunnel y ≡ x → slice_get (w.channels.sent (w.tunnels.learned (w.calls.tunnel y)) (w.tunnels.entered (w.calls.tunnel y))) k ≡ Some l
-  partner_stands x s e k y l t n p at =
+  -- a letter about calls is of the end that the open tunnel learned, in whichever lists it stands
+  pub partner_stands : (x s e k y : ℕ) (l : Letter) → Takes all_rules w x s e k l → is_stop l ≡ false → w.tunnels.phase x ≡ Open → w.calls.tunnel y ≡ x → (c : Channels) → Stands c s e k l → Stands c (w.tunnels.learned (w.calls.tunnel y)) (w.tunnels.entered (w.calls.tunnel y)) k l
+  partner_stands x s e k y l t n p at c st =
       let from = partner all_rules w x s e k l refl h.sound.epochs h.sound.given t p n in
-      subst (λ (q : ℕ). Stands w.channels (w.tunnels.learned q) (w.tunnels.entered q) k l) (sym at) (subst (λ (q : ℕ). Stands w.channels q (w.tunnels.entered x) k l) (sym from.linked.back) (subst (λ (q : ℕ). Stands w.channels s q k l) from.epoch t.stands))
+      subst (λ (q : ℕ). Stands c (w.tunnels.learned q) (w.tunnels.entered q) k l) (sym at) (subst (λ (q : ℕ). Stands c q (w.tunnels.entered x) k l) (sym from.linked.back) (subst (λ (q : ℕ). Stands c s q k l) from.epoch st))
 
   reply_test : (a b : ℕ) → (eqb a a && eqb b b) ≡ true
   reply_test a b = all_of (eqb a a) (eqb b b) (same_test a a refl) (same_test b b refl)
@@ -102,7 +102,7 @@ module _ (w : World) (h : Whole w) where
       all_of (eqb (w.tunnels.node (w.calls.tunnel y)) (w.tunnels.node x)) _ (same_test (w.tunnels.node (w.calls.tunnel y)) (w.tunnels.node x) (ap w.tunnels.node at))
       (all_of (is_open (w.tunnels.phase (w.calls.tunnel y))) _ (ap is_open (ap w.tunnels.phase at ∙ p))
       (first (waits_reply (w.calls.state y) && is_there (is_reply own y) there) (waits_connect (w.calls.state y) && (eqb (w.calls.remote y) own && is_there (is_connect y) there))
-      (all_of (waits_reply (w.calls.state y)) (is_there (is_reply own y) there) waiting (ap (is_there (is_reply own y)) (partner_stands x s e k y (Reply own y) t refl p at) ∙ reply_test own y))))
+      (all_of (waits_reply (w.calls.state y)) (is_there (is_reply own y) there) waiting (ap (is_there (is_reply own y)) (partner_stands x s e k y (Reply own y) t refl p at w.channels t.stands) ∙ reply_test own y))))
     where
       there : Option Letter
       there = slice_get (w.channels.sent (w.tunnels.learned (w.calls.tunnel y)) (w.tunnels.entered (w.calls.tunnel y))) k
@@ -113,7 +113,7 @@ module _ (w : World) (h : Whole w) where
       all_of (eqb (w.tunnels.node (w.calls.tunnel y)) (w.tunnels.node x)) _ (same_test (w.tunnels.node (w.calls.tunnel y)) (w.tunnels.node x) (ap w.tunnels.node at))
       (all_of (is_open (w.tunnels.phase (w.calls.tunnel y))) _ (ap is_open (ap w.tunnels.phase at ∙ p))
       (second (waits_reply (w.calls.state y) && is_there (is_reply (w.calls.remote y) y) there) (waits_connect (w.calls.state y) && (eqb (w.calls.remote y) (w.calls.remote y) && is_there (is_connect y) there))
-      (all_of (waits_connect (w.calls.state y)) (eqb (w.calls.remote y) (w.calls.remote y) && is_there (is_connect y) there) waiting (all_of (eqb (w.calls.remote y) (w.calls.remote y)) (is_there (is_connect y) there) (same_test (w.calls.remote y) (w.calls.remote y) refl) (ap (is_there (is_connect y)) (partner_stands x s e k y (Connect y) t refl p at) ∙ same_test y y refl)))))
+      (all_of (waits_connect (w.calls.state y)) (eqb (w.calls.remote y) (w.calls.remote y) && is_there (is_connect y) there) waiting (all_of (eqb (w.calls.remote y) (w.calls.remote y)) (is_there (is_connect y) there) (same_test (w.calls.remote y) (w.calls.remote y) refl) (ap (is_there (is_connect y)) (partner_stands x s e k y (Connect y) t refl p at w.channels t.stands) ∙ same_test y y refl)))))
     where
       there : Option Letter
       there = slice_get (w.channels.sent (w.tunnels.learned (w.calls.tunnel y)) (w.tunnels.entered (w.calls.tunnel y))) k

@@ -2,6 +2,7 @@
 use Rattle.std.proofs.Common.{◌≡◌, ℕ, true, List, [], ◌∷◌, ◌++◌, ap, ◌∙◌, subst}
 use Rattle.epoch_machine.specs.Worlds.{World, all_rules, empty_world}
 use Rattle.epoch_machine.specs.Moves.{Move, Stops, Kept, falls, step, goes_on}
+use Rattle.epoch_laws.proofs.Answering.{answers_after}
 use Rattle.coverage_laws.proofs.Runs.{whole_after}
 use Rattle.coverage_laws.proofs.Covered.{pairs_covered, ends_agree}
 use Rattle.stop_laws.specs.Records.{node_of, records_of, writes, each_allowed}
@@ -17,23 +18,24 @@ at ms = goes_on all_rules empty_world ms
 each_prefix : (ms : List Move) (m : Move) (ks rest : List Kept) → ks ++ rest ≡ records_of (at ms) m → each_allowed (at ms) (node_of (at ms) m) ks ≡ true
 each_prefix ms m ks rest e = prefix_allowed (at ms) (node_of (at ms) m) ks rest (ap (each_allowed (at ms) (node_of (at ms) m)) e ∙ step_allowed (at ms) (whole_after ms) m)
 
-stop_is_cut : (w : World) (n : ℕ) (ks : List Kept) → each_allowed w n ks ≡ true → step all_rules w (Stops n ks) ≡ falls (writes w ks) n
+pub stop_is_cut : (w : World) (n : ℕ) (ks : List Kept) → each_allowed w n ks ≡ true → step all_rules w (Stops n ks) ≡ falls (writes w ks) n
 unfolding step
 stop_is_cut w n ks h = ap (λ (v : World). falls v n) (allowed_kept w n ks w h)
 
 -- what is allowed is reached by a stop
-by_stop : (ms : List Move) (n : ℕ) (ks : List Kept) → each_allowed (at ms) n ks ≡ true → IsReached (falls (writes (at ms) ks) n)
+pub by_stop : (ms : List Move) (n : ℕ) (ks : List Kept) → each_allowed (at ms) n ks ≡ true → IsReached (falls (writes (at ms) ks) n)
 by_stop ms n ks h = record { moves = ms ++ Stops n ks ∷ []; reached = one_more all_rules ms (Stops n ks) empty_world ∙ stop_is_cut (at ms) n ks h }
 
 reached : (ms : List Move) (m : Move) (ks rest : List Kept) → ks ++ rest ≡ records_of (at ms) m → IsReached (cut (at ms) m ks)
 reached ms m ks rest e = by_stop ms (node_of (at ms) m) ks (each_prefix ms m ks rest e)
 
 -- all holds where a list of moves leads
-holds_at : (ms : List Move) → AllHolds (at ms)
+pub holds_at : (ms : List Move) → AllHolds (at ms)
 holds_at ms =
     let h = whole_after ms in
     record {
       epochs = h.sound.epochs;
+      answers = answers_after all_rules ms;
       letters = h.sound.given;
       births = h.sound.calls;
       meanings = h.sound.meant;

@@ -5,3 +5,10 @@ pub mod Steps
 pub mod Moves
 pub mod Allowed
 pub mod Cuts
+pub mod Stays
+pub mod Booked
+pub mod Goings
+pub mod Wrote
+pub mod Early
+pub mod Nexts
+pub mod Along

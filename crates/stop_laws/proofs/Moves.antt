@@ -34,9 +34,9 @@ module _ (w : World) (h : Whole w) (nu : NeverUp w) where
       new = let a = both (w.tunnels.up (w.tunnels.peer s)) ((w.tunnels.drawn s && w.tunnels.opener s) && is_new w.tunnels.drawn x) may in new_tells w.tunnels.drawn x (both (w.tunnels.drawn s && w.tunnels.opener s) (is_new w.tunnels.drawn x) a.1).1
 
   -- a freeze ends no call that stands in the book
-  freezes_book : (x a c : ℕ) → may_freeze w x a c ≡ true → SameBook w (freezes all_rules w x a c)
+  freezes_book : (x a c own theirs : ℕ) → may_freeze w x a c ≡ true → SameBook w (freezes all_rules w x a c own theirs)
   unfolding freezes frozen ends may_freeze
-  freezes_book x a c may = nothing_struck w (freezes all_rules w x a c) (unfinished w.calls x) none record { tunnels = λ y. refl; links = λ y. refl; calls = λ z. refl; names = λ z. refl }
+  freezes_book x a c own theirs may = nothing_struck w (freezes all_rules w x a c own theirs) (unfinished w.calls x) none record { tunnels = λ y. refl; links = λ y. refl; calls = λ z. refl; names = λ z. refl }
     where
       established : is_established (w.tunnels.phase x) ≡ true
       established = (both (is_established (w.tunnels.phase x)) _ may).0
@@ -84,7 +84,7 @@ module _ (w : World) (h : Whole w) (nu : NeverUp w) where
   step_book (EndsTold z) = choose (λ ks v. SameBook (writes w ks) v) (may_end_told w z) (of_ending w z) [] (ends_told all_rules w z) w (λ b. told_book z) (λ b. same_book w)
   step_book (EndsSilent z) = choose (λ ks v. SameBook (writes w ks) v) (may_end_silent w z) (of_ending w z) [] (ends_call w z) w (λ b. silent_book z) (λ b. same_book w)
   step_book (Queries x z) = chosen (λ (v : World). SameBook w v) (may_query w x z) _ _ (λ b. record { tunnels = λ y. refl; links = λ y q. refl; calls = λ y. refl; names = λ y q. refl }) (λ b. same_book w)
-  step_book (Freezes x a c) = chosen (λ (v : World). SameBook w v) (may_freeze w x a c) _ _ (λ b. freezes_book x a c b) (λ b. same_book w)
+  step_book (Freezes x a c own theirs) = chosen (λ (v : World). SameBook w v) (may_freeze w x a c) _ _ (λ b. freezes_book x a c own theirs b) (λ b. same_book w)
   step_book (ResetsAttempting x c) = chosen (λ (v : World). SameBook w v) (may_reset_attempting w x c) _ _ (λ b. record { tunnels = λ y. refl; links = λ y q. refl; calls = λ y. refl; names = λ y q. refl }) (λ b. same_book w)
   step_book (ResetsAnswering x c) = chosen (λ (v : World). SameBook w v) (may_reset_answering w x c) _ _ (λ b. record { tunnels = λ y. refl; links = λ y q. refl; calls = λ y. refl; names = λ y q. refl }) (λ b. same_book w)
   step_book (Restores x a) = chosen (λ (v : World). SameBook w v) (may_restore w x a) _ _ (λ b. record { tunnels = λ y. refl; links = λ y q. refl; calls = λ y. refl; names = λ y q. refl }) (λ b. same_book w)

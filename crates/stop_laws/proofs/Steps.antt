@@ -1,7 +1,7 @@
 -- The records of each step make of the book what the step makes of it.
 use Rattle.std.proofs.Common.{◌≡◌, ◌≢◌, ◌⊎◌, inl, inr, ⊎_elim, ℕ, Bool, true, false, cond, eqb, ltb, not, ◌&&◌, ◌||◌, [], ◌∷◌, slice_get, Option, Some, None, refl, sym, ap, ◌∙◌, subst, arith}
 use Rattle.std.proofs.lemmas.Bool.Decides.{nat_tests}
-use Rattle.epoch_machine.specs.Names.{is_new}
+use Rattle.epoch_machine.specs.Names.{is_new, is_name}
 use Rattle.epoch_machine.specs.Letters.{Letter, Sccrp, Scccn, StopCcn, Request, Reply, Connect, Cdn, Fsr}
 use Rattle.epoch_machine.specs.Tunnels.{Closed, is_open, is_wait_reply, is_wait_connect, established_with, established, keeps_up}
 use Rattle.epoch_machine.specs.Channels.{Stands}
@@ -30,7 +30,7 @@ tunnel_written w x s h = ap (λ (b : Bool). cond b (record w { tunnels = keeps_u
     second true b e = refl
     second false b e = e
 
-call_written : (w : World) (z own k : ℕ) → lives (w.calls.state z) ≡ true → writes w (CallUp z own k ∷ []) ≡ record w { calls = keeps_call w.calls z own }
+pub call_written : (w : World) (z own k : ℕ) → lives (w.calls.state z) ≡ true → writes w (CallUp z own k ∷ []) ≡ record w { calls = keeps_call w.calls z own }
 unfolding writes keeps
 call_written w z own k h = ap (λ (b : Bool). cond b (record w { calls = keeps_call w.calls z own }) w) h
 
@@ -91,7 +91,7 @@ module _ (w : World) (h : Whole w) (nu : NeverUp w) where
 
   call_letter_book : (x s e k z : ℕ) (l : Letter) → Takes all_rules w x s e k l → SameBook (writes w (of_call_letter w x k l)) (takes_open all_rules (took_one w x) x l z)
   unfolding takes_open answers_request takes_reply takes_connect answers_query takes_answer took_one gives writes keeps_call ends replies is_first_up is_second_up is_told
-  call_letter_book x s e k z (Request own) t = chosen (λ (v : World). SameBook w v) (is_new w.calls.drawn z) _ _ (λ n. record { tunnels = λ y. refl; links = λ y q. refl; calls = λ y. refl; names = λ y q. at_name w.calls.remote z own y (λ v. w.calls.remote y ≡ v) (λ i. absurd (new_unbooked z y (new_tells w.calls.drawn z n) i q)) (λ i. refl) }) (λ n. record { tunnels = λ y. refl; links = λ y q. refl; calls = λ y. refl; names = λ y q. refl })
+  call_letter_book x s e k z (Request own) t = chosen (λ (v : World). SameBook w v) (is_new w.calls.drawn z) _ _ (λ n. record { tunnels = λ y. refl; links = λ y q. refl; calls = λ y. refl; names = λ y q. at_name w.calls.remote z own y (λ v. w.calls.remote y ≡ v) (λ i. absurd (new_unbooked z y (new_tells w.calls.drawn z n) i q)) (λ i. refl) }) (λ n. chosen (λ (v : World). SameBook w v) (is_name z) _ _ (λ m. record { tunnels = λ y. refl; links = λ y q. refl; calls = λ y. refl; names = λ y q. refl }) (λ m. record { tunnels = λ y. refl; links = λ y q. refl; calls = λ y. refl; names = λ y q. refl }))
   call_letter_book x s e k z (Reply own y) t = choose (λ ks v. SameBook (writes w ks) v) (eqb (w.calls.tunnel y) x && waits_reply (w.calls.state y)) (CallUp y own k ∷ []) [] _ _ (λ n. let a = both (eqb (w.calls.tunnel y) x) (waits_reply (w.calls.state y)) n in subst (λ (u : World). SameBook u (gives (record w { channels = (took_one w x).channels; calls = is_first_up w.calls y own }) x (Connect own))) (sym (call_written w y own k (ap lives (reply_state (w.calls.state y) a.1)))) record { tunnels = λ q. refl; links = λ q i. refl; calls = λ q. refl; names = λ q i. refl }) (λ n. record { tunnels = λ q. refl; links = λ q i. refl; calls = λ q. refl; names = λ q i. refl })
   call_letter_book x s e k z (Connect y) t = choose (λ ks v. SameBook (writes w ks) v) (eqb (w.calls.tunnel y) x && waits_connect (w.calls.state y)) (CallUp y (w.calls.remote y) k ∷ []) [] _ _ (λ n. let a = both (eqb (w.calls.tunnel y) x) (waits_connect (w.calls.state y)) n in subst (λ (u : World). SameBook u (record w { channels = (took_one w x).channels; calls = is_second_up w.calls y })) (sym (call_written w y (w.calls.remote y) k (ap lives (connect_state (w.calls.state y) a.1)))) record { tunnels = λ q. refl; links = λ q i. refl; calls = λ q. refl; names = λ q i. assigned_here w.calls.remote y (w.calls.remote y) refl q }) (λ n. record { tunnels = λ q. refl; links = λ q i. refl; calls = λ q. refl; names = λ q i. refl })
   call_letter_book x s e k z (Cdn own y) t = cdn_book x s e k own y t.stands

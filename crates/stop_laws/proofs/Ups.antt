@@ -57,7 +57,7 @@ ups r w v (did_first_up x s e k own z t p l at st) y h = at_name w.calls.up z tr
 ups r w v (did_second_up x s e k z t p l at st) y h = at_name w.calls.up z true y (λ (b : Bool). b ≡ true → (w.calls.up y ≡ true) ⊎ (lives (w.calls.state y) ≡ true)) (λ i g. inr (ap lives (ap w.calls.state i) ∙ ap lives st)) (λ i g. inl g) h
 ups r w v (did_learn x s e k own y here t p l) z h = chosen (λ (u : World). u.calls.up z ≡ true → (w.calls.up z ≡ true) ⊎ (lives (w.calls.state z) ≡ true)) (not here && stands_with w.calls x y own) _ _ (λ i g. inl g) (λ i g. inl g) h
 ups r w v (did_end_told z p a b) y h = chosen (λ (u : World). u.calls.up y ≡ true → (w.calls.up y ≡ true) ⊎ (lives (w.calls.state y) ≡ true)) r.tells_ends _ _ (λ i g. inl g) (λ i g. inl g) h
-ups r w v (did_freeze x a c p n l f new) y h = chosen (λ (q : Calls). q.up y ≡ true → (w.calls.up y ≡ true) ⊎ (lives (w.calls.state y) ≡ true)) r.ends_at_freezes (ends w.calls (unfinished w.calls x)) w.calls (λ i g. inl g) (λ i g. inl g) h
+ups r w v (did_freeze x a c own theirs p n l f new) y h = chosen (λ (q : Calls). q.up y ≡ true → (w.calls.up y ≡ true) ⊎ (lives (w.calls.state y) ≡ true)) r.ends_at_freezes (ends w.calls (unfinished w.calls x)) w.calls (λ i g. inl g) (λ i g. inl g) h
 ups r w v (did_stop n ks) y h = stop_ups w n ks y h
 ups r w v d y h = inl h
 
@@ -109,10 +109,13 @@ step_never w v h put up ok = record { no_header = no_header; over = over_state v
     no_header : (x e k own : ℕ) → Stands v.channels x e k (Cdn own 0) → own ≢ 0 → v.calls.up own ≡ false
     no_header x e k own st n = not_up (v.calls.up own) (λ u. ⊎_elim (λ a. stood x e k own a n (up own u)) (λ a. h.sound.calls.up_remote own u a) (put x e k own st n))
 
+pub never_on : (w : World) (m : Move) → Whole w → NeverUp w → NeverUp (step all_rules w m)
+never_on w m h ok = let v = step all_rules w m in step_never w v (whole_step all_rules w m record { reads = refl; truly = refl; asks = refl; tells = refl; freezes = refl } h) (news all_rules w v (step_did all_rules w m) h.sound) (ups all_rules w v (step_did all_rules w m)) ok
+
 never_run : (ms : List Move) (w : World) → Whole w → NeverUp w → NeverUp (goes_on all_rules w ms)
 unfolding goes_on
 never_run [] w h ok = ok
-never_run (m ∷ ms) w h ok = let v = step all_rules w m in let hv : Whole v = whole_step all_rules w m record { reads = refl; truly = refl; asks = refl; tells = refl; freezes = refl } h in never_run ms v hv (step_never w v hv (news all_rules w v (step_did all_rules w m) h.sound) (ups all_rules w v (step_did all_rules w m)) ok)
+never_run (m ∷ ms) w h ok = never_run ms (step all_rules w m) (whole_step all_rules w m record { reads = refl; truly = refl; asks = refl; tells = refl; freezes = refl } h) (never_on w m h ok)
 
 pub never_after : (ms : List Move) → NeverUp (goes_on all_rules empty_world ms)
 unfolding goes_on

@@ -3,6 +3,7 @@ use Rattle.std.specs.Prelude.{◌≡◌, true, List, ◌++◌}
 use Rattle.epoch_machine.specs.Worlds.{World, all_rules}
 use Rattle.epoch_machine.specs.Moves.{Move, Kept, Stops, falls, step, after}
 use Rattle.epoch_laws.specs.Epochs.{EpochsHold}
+use Rattle.epoch_laws.specs.Answers.{AnswersHold}
 use Rattle.letter_laws.specs.Letters.{LettersHold}
 use Rattle.birth_laws.specs.Births.{CallsHold, LettersMean}
 use Rattle.coverage_laws.specs.Coverage.{StatesHold, QueriesHold, PairsCovered, EndsAgree}
@@ -20,6 +21,7 @@ pub record IsReached (w : World) : Type 0 where
 -- every invariant, and both conclusions
 pub record AllHolds (w : World) : Type 0 where
   pub epochs : EpochsHold w.tunnels
+  pub answers : AnswersHold w.tunnels
   pub letters : LettersHold w.tunnels w.channels
   pub births : CallsHold w.tunnels w.calls
   pub meanings : LettersMean w.tunnels w.channels w.calls
