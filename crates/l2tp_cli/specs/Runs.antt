@@ -1,5 +1,5 @@
 -- What holds of the run of each text's lines, the one that `due_of` speaks of.
-use Rattle.std.specs.Prelude.{◌≡◌, ℕ, List, None, Ok}
+use Rattle.std.specs.Prelude.{◌≡◌, ℕ, ◌^◌, ◌<◌, List, length, None, Ok}
 use Rattle.std.specs.List.{AllByRecursion}
 use Rattle.port_traits.specs.Limits.{limit_passed}
 use Rattle.schedule_text.specs.declared.line.Line.{Line}
@@ -10,6 +10,10 @@ use Rattle.frame_laws.specs.Past.{past_of}
 use Rattle.frame_laws.specs.Frames.{AreSent, IsCarried, IsGiven}
 use Rattle.frame_laws.specs.Reports.{ups_in, told_of}
 use Rattle.frame_laws.specs.Births.{AreApart}
+use Rattle.connection_laws.specs.Channels.{LettersAreCarried, AcksAreTrue, NumbersAreRead}
+use Rattle.request_laws.specs.Requests.{AreAskedOnce, AreMadeOnce, AreBornOnce}
+use Rattle.room_laws.specs.Room.{HoldFew, HoldSix}
+use Rattle.session_laws.specs.Sessions.{SessionsAgree}
 
 -- the frames of a run
 pub record FramesOf (lines : List Line) : Type 0 where
@@ -25,10 +29,45 @@ pub record FramesOf (lines : List Line) : Type 0 where
 abbrev pub FramesOfTexts : Type 0
 FramesOfTexts = (text : List ℕ) (lines : List Line) → lines_of text ≡ Ok lines → FramesOf lines
 
--- a birth is that of one LAC's call, in the run of a text that passes no limit
+-- a birth is that of one call: of one session of a LAC, and of one session of an LNS
+pub record BirthsOf (lines : List Line) : Type 0 where
+  pub of_lacs : AreApart (run lines).world
+  pub of_lnss : AreBornOnce (run lines).world
+
+-- in the run of a text that passes no limit
 abbrev pub BirthsOfTexts : Type 0
-BirthsOfTexts = (text : List ℕ) (lines : List Line) → limit_passed text ≡ None → lines_of text ≡ Ok lines → AreApart (run lines).world
+BirthsOfTexts = (text : List ℕ) (lines : List Line) → limit_passed text ≡ None → lines_of text ≡ Ok lines → BirthsOf lines
+
+-- what control connections carry in a run
+pub record ChannelsOf (lines : List Line) : Type 0 where
+  -- each control message is a copy of the letter at its number, and each tunnel took the first letters of its partner's list
+  pub letters : LettersAreCarried (run lines)
+  -- each letter that counts as acknowledged was taken
+  pub acks : AcksAreTrue (run lines)
+  -- the numbers of each control message that may be delivered are read as the numbers without an end
+  pub numbers : NumbersAreRead (run lines)
+  -- a node asks for each of its calls once, and for each request one call is made
+  pub asked : AreAskedOnce (run lines).done
+  pub made : AreMadeOnce (run lines).done
+  -- a tunnel holds at most three letters, and three for each session id that its node has drawn
+  pub few : HoldFew (run lines).world
+
+-- in the run of a text no tunnel holds more than six letters, where 8,192 have room
+abbrev pub ChannelsOfTexts : Type 0
+ChannelsOfTexts = (text : List ℕ) (lines : List Line) → limit_passed text ≡ None → lines_of text ≡ Ok lines
+    → ChannelsOf lines × HoldSix (run lines).world
+
+-- ends that agree hold the same established sessions
+abbrev pub SessionsOfTexts : Type 0
+SessionsOfTexts = (text : List ℕ) (lines : List Line) → limit_passed text ≡ None → lines_of text ≡ Ok lines → SessionsAgree (run lines)
 
 -- the frames of the run of each list of lines of the grammar, without the rules on single lines
 abbrev pub FramesOfLines : Type 0
 FramesOfLines = (lines : List Line) → AreLines lines → FramesOf lines
+
+-- the births and the channels of the run of each list of fewer than 2^47 lines of the grammar
+abbrev pub BirthsOfLines : Type 0
+BirthsOfLines = (lines : List Line) → AreLines lines → length lines < 2 ^ 47 → BirthsOf lines
+
+abbrev pub ChannelsOfLines : Type 0
+ChannelsOfLines = (lines : List Line) → AreLines lines → length lines < 2 ^ 47 → ChannelsOf lines

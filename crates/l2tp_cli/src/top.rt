@@ -4,8 +4,8 @@ ghost use Rattle.std.specs.Prelude.{◌≡◌, map, string_bytes};
 ghost use Rattle.l2tp_cli.specs.declared.words.Asked.TheVariants as asked;
 ghost use Rattle.l2tp_cli.specs.Words.{asked_of};
 ghost use Rattle.l2tp_cli.specs.Ends.{Ends, Tells};
-ghost use Rattle.frame_laws.specs.Births.{BirthsOfRuns};
-ghost use Rattle.l2tp_cli.specs.Runs.{FramesOfTexts, BirthsOfTexts, FramesOfLines};
+ghost use Rattle.l2tp_cli.specs.Runs.{BirthsOfLines, BirthsOfTexts, ChannelsOfLines, ChannelsOfTexts, FramesOfLines, FramesOfTexts, SessionsOfTexts};
+ghost use Rattle.session_laws.specs.Sessions.{SessionsOfRuns};
 
 use crate::answer::answer_to;
 use crate::exit::Exit;
@@ -87,8 +87,12 @@ fn command<S: Source, K: Sink>(
 ///
 /// In the run of every schedule, this one or another, each frame that an end hands up in a call was sent at an earlier
 /// line, in a call of the same birth, by an end of the other kind, at the node that the call's tunnel goes to, and was given
-/// to that end for the call by that line; and a birth is that of one LAC's call. Both hold too of the run of every list of
-/// lines, with any number of nodes, tunnels and calls, which no text spells yet.
+/// to that end for the call by that line; and a birth is that of one call, at one LAC and one LNS. Each control message is a
+/// copy of the letter with its number in the list of its sender; what a tunnel took are the first letters of the list of its
+/// partner, in order and each once; what counts as acknowledged was taken; and the 16 bits of a number have one reading. Two
+/// partners that are established, each of which took all that was given to the other, hold the same established sessions, with
+/// the same births. All of it holds too of the run of every list of lines, with any number of nodes, tunnels and calls, which
+/// no text spells yet.
 pub fn replay_top<S: Source, K: Sink>(
     alloc: Global,
     words: &[String],
@@ -107,13 +111,26 @@ pub fn replay_top<S: Source, K: Sink>(
     }) }
     ensures frames { FramesOfTexts }
     ensures births { BirthsOfTexts }
+    ensures channels { ChannelsOfTexts }
+    ensures sessions { SessionsOfTexts }
     ensures frames_of_lines { FramesOfLines }
-    ensures births_of_lines { BirthsOfRuns }
+    ensures births_of_lines { BirthsOfLines }
+    ensures channels_of_lines { ChannelsOfLines }
+    ensures sessions_of_lines { SessionsOfRuns }
 {
     schedule_text::lines_are_a_schedule();
     frame_laws::reports_tell_the_past();
     frame_laws::frames_were_sent();
     frame_laws::sent_frames_are_packets();
     frame_laws::births_are_apart();
+    connection_laws::letters_are_carried();
+    connection_laws::acks_are_true();
+    connection_laws::numbers_are_read();
+    request_laws::calls_are_asked_for_once();
+    request_laws::requests_are_taken_once();
+    request_laws::births_are_taken_once();
+    room_laws::tunnels_hold_few_letters();
+    room_laws::texts_fill_no_tunnel();
+    session_laws::ends_that_agree_hold_the_same();
     command(alloc, words, source, sink)
 }

@@ -23,9 +23,46 @@ returns-clause-frames g c = λ text lines h.
     }
 
 pub returns-clause-births_of_lines : goal.returns-clause-births_of_lines
-returns-clause-births_of_lines g c = c.births_are_apart.ensures
+returns-clause-births_of_lines g c = λ lines fits few. record {
+  of_lacs = c.births_are_apart.ensures lines fits few;
+  of_lnss = c.births_are_taken_once.ensures lines fits few;
+}
 
 pub returns-clause-births : goal.returns-clause-births
 returns-clause-births g c = λ text lines within h.
     let is = c.lines_are_a_schedule.ensures text lines h in
-    c.births_are_apart.ensures lines is.fits (few_lines text lines within is)
+    let few = few_lines text lines within is in
+    record { of_lacs = c.births_are_apart.ensures lines is.fits few; of_lnss = c.births_are_taken_once.ensures lines is.fits few }
+
+pub returns-clause-channels_of_lines : goal.returns-clause-channels_of_lines
+returns-clause-channels_of_lines g c = λ lines fits few. record {
+  letters = c.letters_are_carried.ensures lines fits few;
+  acks = c.acks_are_true.ensures lines fits few;
+  numbers = c.numbers_are_read.ensures lines fits few;
+  asked = c.calls_are_asked_for_once.ensures lines fits;
+  made = c.requests_are_taken_once.ensures lines fits few;
+  few = c.tunnels_hold_few_letters.ensures lines fits;
+}
+
+pub returns-clause-channels : goal.returns-clause-channels
+returns-clause-channels g c = λ text lines within h.
+    let is = c.lines_are_a_schedule.ensures text lines h in
+    let few = few_lines text lines within is in (
+      record {
+        letters = c.letters_are_carried.ensures lines is.fits few;
+        acks = c.acks_are_true.ensures lines is.fits few;
+        numbers = c.numbers_are_read.ensures lines is.fits few;
+        asked = c.calls_are_asked_for_once.ensures lines is.fits;
+        made = c.requests_are_taken_once.ensures lines is.fits few;
+        few = c.tunnels_hold_few_letters.ensures lines is.fits;
+      },
+      c.texts_fill_no_tunnel.ensures lines is.fits is.orderly few,
+    )
+
+pub returns-clause-sessions_of_lines : goal.returns-clause-sessions_of_lines
+returns-clause-sessions_of_lines g c = c.ends_that_agree_hold_the_same.ensures
+
+pub returns-clause-sessions : goal.returns-clause-sessions
+returns-clause-sessions g c = λ text lines within h.
+    let is = c.lines_are_a_schedule.ensures text lines h in
+    c.ends_that_agree_hold_the_same.ensures lines is.fits (few_lines text lines within is)

@@ -1,0 +1,58 @@
+-- Ids that are drawn are new ones.
+use Rattle.std.proofs.Common.{◌≡◌, ℕ, ◌+◌, ◌-◌, ◌<◌, ◌≤◌, Bool, true, false, cond, refl, sym, Option, Some, None, Ok, Err, arith}
+use Rattle.std.proofs.lemmas.Bool.{ltb-false}
+use Rattle.std.specs.Prelude.{nat_lt}
+use Rattle.id_source.specs.declared.IdError.TheVariants.{NoIds, NeedCeiling}
+use Rattle.id_source.specs.Spaces.{Space, draws, after_draw}
+use Rattle.id_table.specs.Ids.{at}
+use Rattle.protocol_model.specs.declared.event.Event.{Event}
+use Rattle.protocol_model.specs.Turn.{Tunnel}
+use Rattle.protocol_model.specs.End.{End}
+use Rattle.protocol_model.specs.World.{Sender}
+use Rattle.connection_laws.specs.Accounts.{Part, Unmade, Opener, Acceptor, no_account}
+use Rattle.connection_laws.specs.Facts.{Accounts, IsMade, IsPart, Within}
+use Rattle.session_laws.proofs.Ground.{live_made}
+
+pub draw_is : (s : Space) (k : ℕ) → draws s ≡ Ok k → (k ≡ s.next) × (k ≤ s.last)
+unfolding draws
+draw_is s k h = by (nat_lt s.last s.next) (nat_lt s.ceiling s.next) refl h
+  where
+    by : (a b : Bool) → nat_lt s.last s.next ≡ a → cond a (Err (NoIds (s.next - 1))) (cond b (Err (NeedCeiling s.next)) (Ok s.next)) ≡ Ok k
+        → (k ≡ s.next) × (k ≤ s.last)
+    by true b e h = absurd cc
+    by false true e h = absurd cc
+    by false false e h = let g : s.next ≡ k = cc in let le = ltb-false s.last s.next e in (sym g, omega (arith, g))
+
+pub next_is : (s : Space) (k : ℕ) → draws s ≡ Ok k → after_draw s ≡ record s { next = k + 1 }
+next_is s k h = rw h refl
+
+-- ---- a tunnel's id
+
+module _ (accs : Accounts) (n : ℕ) (e : End) (sender : Option Sender) (ev : Event) (within : Within accs n e sender ev) (i : ℕ)
+    (drawn : draws e.tunnel_ids ≡ Ok i) where
+  drawn_is : (i ≡ e.tunnel_ids.next) × (i ≤ e.tunnel_ids.last)
+  drawn_is = draw_is e.tunnel_ids i drawn
+
+  pub id_some : 0 < i
+  id_some = let first = within.end.first in let is = drawn_is.0 in omega arith
+
+  pub id_fits : i < 65536
+  id_fits = let last = within.end.last in let le = drawn_is.1 in omega arith
+
+  unmade : IsMade (accs n i) → ⊥
+  unmade made = let lt = within.end.drawn i made in let is = drawn_is.0 in let no : ⊥ = omega arith in no
+
+  pub no_account_yet : accs n i ≡ no_account
+  no_account_yet = by (accs n i).part refl (within.accounts n i).part
+    where
+      by : (p : Part) → (accs n i).part ≡ p → IsPart accs n i (accs n i) p → accs n i ≡ no_account
+      by Unmade e h = h
+      by Opener e h = absurd (unmade (λ none. let clash : ⊥ = cc in clash))
+      by Acceptor e h = absurd (unmade (λ none. let clash : ⊥ = cc in clash))
+
+  pub no_tunnel_yet : at e.tunnels i ≡ None
+  no_tunnel_yet = by (at e.tunnels i) refl
+    where
+      by : (o : Option Tunnel) → at e.tunnels i ≡ o → o ≡ None
+      by None there = refl
+      by (Some t) there = absurd (unmade (live_made accs n i (accs n i) t (within.end.live i t there)))

@@ -1,0 +1,133 @@
+-- A call that waits for its tunnel ends, and nobody is told, in the machine too.
+use Rattle.std.proofs.Common.{◌≡◌, inr, ℕ, ◌<◌, Bool, true, false, [], refl, ap, ◌∙◌, Option, arith, eq-eqb, ne_eqb}
+use Rattle.std.specs.Prelude.{◌||◌, not}
+use Rattle.id_table.specs.Ids.{without}
+use Rattle.id_table.specs.Order.{at_without_other, at_without_same}
+use Rattle.protocol_model.specs.declared.event.Event.{Event}
+use Rattle.protocol_model.specs.declared.moves.EndSilent.{EndSilent}
+use Rattle.protocol_model.specs.declared.moves.Move.TheVariants as move
+use Rattle.protocol_model.specs.declared.tunnel.Call.{Call}
+use Rattle.protocol_model.specs.Turn.{Tunnel}
+use Rattle.protocol_model.specs.End.{End}
+use Rattle.protocol_model.specs.World.{Sender, Deed}
+use Rattle.epoch_machine.specs.Tunnels.{is_active}
+use Rattle.epoch_machine.specs.Calls as calls
+use Rattle.epoch_machine.specs.Calls.{NoCall, Waits, is_call}
+use Rattle.epoch_machine.specs.Worlds.{World, all_rules}
+use Rattle.epoch_machine.specs.Moves.{EndsSilent, step, may_end_silent, ends_call}
+use Rattle.connection_laws.specs.Facts.{Accounts, LiveOk}
+use Rattle.connection_laws.specs.Steps.{after}
+use Rattle.session_laws.specs.Names.{name}
+use Rattle.session_laws.specs.Joined.{Ends, CallJoined, CallsJoined}
+use Rattle.session_laws.proofs.Keeps.{with_end, Laws, IsMade, Follows}
+use Rattle.session_laws.proofs.Names.{other_name}
+use Rattle.session_laws.proofs.Ground.{joined_before}
+use Rattle.session_laws.proofs.CallRows.{silent_row}
+use Rattle.session_laws.proofs.CallGround.{CallSame, OneCall, TunnelGoes, one_call_follows}
+use Rattle.session_laws.proofs.CallSpeaks.{AccountSpeaks, calls_only, says_nothing, speaks_goes, account_is}
+
+-- ---- a call ends in the machine
+
+abbrev pub ended : World → ℕ → World
+ended w z = record w { calls = calls.ends w.calls (is_call z) }
+
+pub ended_asks : (w : World) (z y k : ℕ) → (ended w z).calls.asks y k ≡ w.calls.asks y k
+unfolding calls.ends
+ended_asks w z y k = refl
+
+pub ended_other : (w : World) (z q : ℕ) → (q ≡ z → ⊥) → CallSame w (ended w z) q
+unfolding calls.ends
+ended_other w z q other = record {
+  drawn = refl;
+  tunnel = refl;
+  remote = refl;
+  state = rw (ne_eqb q z other) refl;
+}
+
+pub ended_here : (w : World) (z : ℕ) → (ended w z).calls.state z ≡ NoCall
+unfolding calls.ends
+ended_here w z = rw (eq-eqb z z refl) refl
+
+either : (b : Bool) → (b || true) ≡ true
+either true = refl
+either false = refl
+
+silent_is : (w : World) (z : ℕ) → w.calls.state z ≡ Waits → step all_rules w (EndsSilent z) ≡ ended w z
+unfolding step may_end_silent ends_call
+silent_is w z waits = rw (waits, either (not (is_active (w.tunnels.phase (w.calls.tunnel z))))) refl
+
+-- ---- in the end
+
+module _ (laws : Laws) (accs : Accounts) (ends : Ends) (w : World) (n : ℕ) (e x : End) (sender : Option Sender) (moment : ℕ) (ev : Event)
+    (m : EndSilent) (d : Deed) (h : IsMade accs ends w n e x sender moment ev (move.EndSilent m) d) where
+  abbrev i : ℕ
+  i = m.tunnel
+
+  abbrev s : ℕ
+  s = m.session
+
+  abbrev t : Tunnel
+  t = h.moved.does.tunnel
+
+  abbrev c : Call
+  c = h.moved.does.call
+
+  abbrev u : Tunnel
+  u = record t { calls = without t.calls s }
+
+  abbrev X : ℕ
+  X = name n i
+
+  abbrev Z : ℕ
+  Z = name n s
+
+  abbrev v : World
+  v = ended w Z
+
+  old : CallsJoined w accs n e
+  old = joined_before accs ends w n e x sender moment ev (move.EndSilent m) d h
+
+  live : LiveOk accs n i (accs n i) t
+  live = h.moved.within.end.live i t h.moved.does.there
+
+  call : CallJoined w n i (accs n i).peer s c
+  call = old.live i t h.moved.does.there s c h.moved.does.live
+
+  does : step all_rules w (EndsSilent Z) ≡ v
+  does = silent_is w Z (call.state ∙ silent_row e.role c.state h.moved.does.row)
+
+  says : AccountSpeaks (accs n i) (after accs d n i) [] 0
+  says = says_nothing (accs n i) (after accs d n i)
+      (account_is accs ends w n e x sender moment ev (move.EndSilent m) d h v t u h.moved.does.there)
+
+  goes : TunnelGoes accs (after accs d) w v n i u
+  goes = speaks_goes accs ends w n e x sender moment ev (move.EndSilent m) d h v t u h.moved.does.there [] 0
+      (calls_only w X (calls.ends w.calls (is_call Z)) (ended_asks w Z)) says refl (EndsSilent Z) does
+
+  sessions : x.session_ids ≡ e.session_ids
+  sessions = ap (λ (y : End). y.session_ids) h.moved.does.after
+
+  below : s < e.session_ids.next
+  below = old.drawn i t h.moved.does.there s c h.moved.does.live
+
+  fits : s < 65536
+  fits = let lt = below in let most = old.most in omega arith
+
+  one : OneCall w v n i (after accs d n i).peer e x t u s
+  one = record {
+    there = h.moved.does.there;
+    put_is = ap (λ (y : End). y.tunnels) h.moved.does.after;
+    role = ap (λ (y : End). y.role) h.moved.does.after;
+    rises = rw sessions (omega arith);
+    most = rw sessions old.most;
+    some = call.some;
+    below = rw sessions below;
+    others = λ q other. at_without_other t.calls s q other;
+    waits = λ first. first;
+    mine = inr (c, h.moved.does.live);
+    calls = λ k q kfits qfits apart. ended_other w Z (name k q) (other_name k q n s qfits fits apart);
+    here = rw (at_without_same t.calls s live.order) (ended_here w Z);
+  }
+
+  pub end_silent_follows : Follows (after accs d) (with_end ends n x)
+  end_silent_follows = one_call_follows accs ends w n e x sender moment ev (move.EndSilent m) d h v t u s one goes

@@ -1,0 +1,252 @@
+-- The next letter that a tunnel hears is delivered in the machine.
+use Rattle.std.proofs.Common.{◌≡◌, ⊎_elim, ℕ, zero, suc, ◌<◌, ◌≤◌, Bool, true, false, List, [], ◌∷◌, ◌++◌, length, refl, sym, ap, ap₂, ◌∙◌, subst, slice_get, Option, Some, None, arith, eqb, cond, eq-eqb}
+use Rattle.std.specs.List.{AllByRecursion}
+use Rattle.std.proofs.lemmas.Bool.{lt-ltb}
+use Rattle.std.proofs.lemmas.Option.{slice_get-map}
+use Rattle.id_table.specs.Ids.{at}
+use Rattle.control_message.specs.declared.message.Message.{Message}
+use Rattle.control_message.specs.Pairs.{IsWritten}
+use Rattle.control_message.specs.declared.message.Message.TheVariants.{Sccrq, Sccrp, Scccn, Hello, Icrq, Icrp, Iccn, Cdn}
+use Rattle.tunnel_fsm.specs.declared.table.TunnelState.{TunnelState}
+use Rattle.tunnel_fsm.specs.declared.table.TunnelState.TheVariants as tunnel
+use Rattle.tunnel_fsm.specs.Rows.{state_number}
+use Rattle.protocol_model.specs.declared.event.Event.{Event}
+use Rattle.protocol_model.specs.declared.moves.Move.{Move}
+use Rattle.protocol_model.specs.Turn.{Tunnel}
+use Rattle.protocol_model.specs.End.{End}
+use Rattle.protocol_model.specs.World.{Sender, Deed}
+use Rattle.step_laws.specs.Letters as step_laws
+use Rattle.step_laws.specs.Moves.{HearsNext}
+use Rattle.epoch_machine.specs.Letters.{Letter}
+use Rattle.epoch_machine.specs.Tunnels.{Open, is_active, is_live}
+use Rattle.epoch_machine.specs.Worlds.{World, Rules, all_rules, takes, took_one}
+use Rattle.epoch_machine.specs.Moves.{Delivers, may_take, delivers, step}
+use Rattle.connection_laws.specs.Accounts.{Part, Unmade, Opener, Acceptor, Taken, Account, no_account, partner_of}
+use Rattle.connection_laws.specs.Facts as facts
+use Rattle.connection_laws.specs.Facts.{Accounts, IsSpelled, IsPart, AccountOk, IsTaken, IsInState, LiveOk, Within, partner_in}
+use Rattle.connection_laws.specs.Steps.{after, NextLetter, NextIsHeard}
+use Rattle.session_laws.specs.Names.{name, name_of, spoken, letter_of, phase_of}
+use Rattle.session_laws.specs.Joined.{Ends, TunnelJoined, tunnel_in}
+use Rattle.session_laws.proofs.Letters.{with_taken}
+use Rattle.session_laws.proofs.Keeps.{IsMade}
+use Rattle.session_laws.proofs.Names.{name_some, known_name}
+use Rattle.session_laws.proofs.Ground.{live_made, tunnel_before}
+
+-- ---- states
+
+between : (s k : ℕ) → s ≡ k → 1 ≤ k → k ≤ 3 → (1 ≤ s) × (s ≤ 3)
+between s k is some few = (omega arith, omega arith)
+
+-- a live tunnel is to open, or open
+pub live_state : (accs : Accounts) (n i : ℕ) (a : Account) (t : Tunnel) → LiveOk accs n i a t
+    → (1 ≤ state_number t.control.state) × (state_number t.control.state ≤ 3)
+live_state accs n i a t live = by a.part live.state
+  where
+    by : (p : Part) → IsInState accs i a t p → (1 ≤ state_number t.control.state) × (state_number t.control.state ≤ 3)
+    by Unmade h = absurd h
+    by Opener h = ⊎_elim
+        (λ one. between (state_number t.control.state) 1 one.0 (omega arith) (omega arith))
+        (λ three. between (state_number t.control.state) 3 three.0 (omega arith) (omega arith))
+        h
+    by Acceptor h = ⊎_elim
+        (λ two. between (state_number t.control.state) 2 two.0 (omega arith) (omega arith))
+        (λ three. between (state_number t.control.state) 3 three.0 (omega arith) (omega arith))
+        h
+
+pub active_phase : (s : TunnelState) → 1 ≤ state_number s → state_number s ≤ 3 → is_active (phase_of s) ≡ true
+active_phase tunnel.Idle some few = absurd (omega arith)
+active_phase tunnel.WaitCtlReply some few = refl
+active_phase tunnel.WaitCtlConn some few = refl
+active_phase tunnel.Established some few = refl
+active_phase tunnel.Closed some few = absurd (omega arith)
+
+pub live_phase : (s : TunnelState) → 1 ≤ state_number s → is_live (phase_of s) ≡ true
+live_phase tunnel.Idle some = absurd (omega arith)
+live_phase tunnel.WaitCtlReply some = refl
+live_phase tunnel.WaitCtlConn some = refl
+live_phase tunnel.Established some = refl
+live_phase tunnel.Closed some = refl
+
+pub open_phase : (s : TunnelState) → state_number s ≡ 3 → phase_of s ≡ Open
+open_phase tunnel.Idle is = absurd (omega (arith, is))
+open_phase tunnel.WaitCtlReply is = absurd (omega (arith, is))
+open_phase tunnel.WaitCtlConn is = absurd (omega (arith, is))
+open_phase tunnel.Established is = refl
+open_phase tunnel.Closed is = absurd (omega (arith, is))
+
+-- ---- a delivery
+
+pub delivers_spoken : (r : Rules) (w : World) (x s e k z : ℕ) (n m header : ℕ) (said : Message) → may_take r w x s e k (spoken n m header said) ≡ true
+    → delivers r w x s e k z (Some (spoken n m header said)) ≡ takes r (took_one w x) x s (spoken n m header said) z
+unfolding delivers
+delivers_spoken r w x s e k z n m header (Sccrq o) may = rw may refl
+delivers_spoken r w x s e k z n m header (Sccrp o) may = rw may refl
+delivers_spoken r w x s e k z n m header Scccn may = rw may refl
+delivers_spoken r w x s e k z n m header Hello may = rw may refl
+delivers_spoken r w x s e k z n m header (Icrq session serial calling) may = rw may refl
+delivers_spoken r w x s e k z n m header (Icrp session) may = rw may refl
+delivers_spoken r w x s e k z n m header (Iccn speed framing sequenced) may = rw may refl
+delivers_spoken r w x s e k z n m header (Cdn session code error) may = rw may refl
+
+-- an active tunnel takes the next letter of one that has learned it
+pub may_take_next : (w : World) (x s k : ℕ) (l : Letter) → is_active (w.tunnels.phase x) ≡ true → 0 < s → w.tunnels.learned s ≡ x
+    → w.tunnels.entered x ≡ 0 → w.channels.taken x 0 ≡ k → may_take all_rules w x s 0 k l ≡ true
+unfolding may_take
+may_take_next w x s k l active some learned now next = rw (active, lt-ltb 0 s some, learned, eq-eqb x x refl, now, next, eq-eqb k k refl) refl
+
+-- ---- the letter that a tunnel takes
+
+-- each letter that is given is spelled
+letter_at : (ls : List step_laws.Letter) (k : ℕ) (l : step_laws.Letter) → slice_get ls k ≡ Some l → AllByRecursion IsSpelled ls → IsSpelled l
+letter_at [] k l is h = absurd cc
+letter_at (m ∷ ls) zero l is h = let same : m ≡ l = cc in subst (λ q. IsSpelled q) same h.0
+letter_at (m ∷ ls) (suc k) l is h = letter_at ls k l is h.1
+
+-- what gave a letter was made
+pub giver_made : (accs : Accounts) (n i k : ℕ) (l : step_laws.Letter) → AccountOk accs n i (accs n i) → slice_get (accs n i).given k ≡ Some l
+    → facts.IsMade (accs n i)
+giver_made accs n i k l ok there none =
+    let same : accs n i ≡ no_account = subst (IsPart accs n i (accs n i)) none ok.part in
+    let g = rw same at there in
+    let no : ⊥ = cc in no
+
+pub record Delivered (accs : Accounts) (w : World) (n i : ℕ) (sender : Option Sender) (session : ℕ) (m : Message) : Type 0 where
+  -- the tunnel that sent it
+  pub from : Sender
+  pub sender_is : sender ≡ Some from
+  pub node : (accs n i).peer ≡ from.node
+  pub fits : from.node < 256
+  pub some : 0 < from.tunnel
+  pub id : from.tunnel < 65536
+  pub joined : (o : Option Tunnel) × TunnelJoined w from.node from.tunnel (accs from.node from.tunnel) o
+  pub goes : (accs from.node from.tunnel).peer ≡ n
+  pub learned : (accs from.node from.tunnel).remote ≡ i
+  -- the letter in the machine's list, and as it was written
+  pub stands : slice_get (w.channels.sent (name from.node from.tunnel) 0) (length (accs n i).taken) ≡ Some (spoken from.node n session m)
+  pub written : IsWritten m
+  pub header : session < 65536
+  -- its delivery in the machine, with the name of a new call
+  pub is : (z : ℕ) → step all_rules w (Delivers (name n i) (name from.node from.tunnel) 0 (length (accs n i).taken) z)
+      ≡ takes all_rules (took_one w (name n i)) (name n i) (name from.node from.tunnel) (spoken from.node n session m) z
+
+module _ (accs : Accounts) (ends : Ends) (w : World) (n : ℕ) (e x : End) (sender : Option Sender) (moment : ℕ) (ev : Event) (mv : Move) (d : Deed)
+    (h : IsMade accs ends w n e x sender moment ev mv d) (i : ℕ) (t : Tunnel) (there : at e.tunnels i ≡ Some t) where
+  abbrev a : Account
+  a = accs n i
+
+  live : LiveOk accs n i a t
+  live = h.moved.within.end.live i t there
+
+  pub here_made : facts.IsMade a
+  here_made = live_made accs n i a t live
+
+  pub here_some : 0 < i
+  here_some = (h.moved.within.accounts n i).some here_made
+
+  pub here_fits : i < 65536
+  here_fits = (h.moved.within.accounts n i).id here_made
+
+  -- the live tunnel in the machine
+  pub here_joined : TunnelJoined w n i a (Some t)
+  here_joined = subst (λ o. TunnelJoined w n i a o) there (tunnel_before accs ends w n e x sender moment ev mv d h i here_fits)
+
+  here_active : is_active (w.tunnels.phase (name n i)) ≡ true
+  here_active = let s = live_state accs n i a t live in rw here_joined.phase (active_phase t.control.state s.0 s.1)
+
+  module _ (session : ℕ) (m : Message) (k : NextLetter accs n i sender session m) where
+    abbrev b : Account
+    b = accs k.from.node k.from.tunnel
+
+    from_ok : AccountOk accs k.from.node k.from.tunnel b
+    from_ok = h.moved.within.accounts k.from.node k.from.tunnel
+
+    from_made : facts.IsMade b
+    from_made = giver_made accs k.from.node k.from.tunnel (length a.taken) k.letter from_ok k.there
+
+    abbrev s : ℕ
+    s = name k.from.node k.from.tunnel
+
+    abbrev o : Option Tunnel
+    o = tunnel_in (ends k.from.node) k.from.tunnel
+
+    from_joined : TunnelJoined w k.from.node k.from.tunnel b o
+    from_joined = h.joined.tunnels k.from.node k.from.tunnel (from_ok.node from_made) (from_ok.id from_made)
+
+    -- it has learned this tunnel
+    learned : w.tunnels.learned s ≡ name n i
+    learned = from_joined.learned ∙ ap₂ name_of k.goes k.learned ∙ known_name n i here_some
+
+    stands : slice_get (w.channels.sent s 0) (length a.taken) ≡ Some (spoken k.from.node n session m)
+    stands = rw (from_joined.sent, slice_get-map (letter_of k.from.node b.peer) b.given (length a.taken), k.there, k.goes, k.session_is, k.message_is) refl
+
+    spelled : IsSpelled k.letter
+    spelled = letter_at b.given (length a.taken) k.letter k.there from_ok.spelled
+
+    may : (l : Letter) → may_take all_rules w (name n i) s 0 (length a.taken) l ≡ true
+    may l = may_take_next w (name n i) s (length a.taken) l here_active (name_some k.from.node k.from.tunnel (from_ok.some from_made)) learned
+        here_joined.entered here_joined.taken
+
+    step_is : (z : ℕ) → step all_rules w (Delivers (name n i) s 0 (length a.taken) z)
+        ≡ takes all_rules (took_one w (name n i)) (name n i) s (spoken k.from.node n session m) z
+    unfolding step
+    step_is z =
+        ap (λ g. delivers all_rules w (name n i) s 0 (length a.taken) z g) stands
+        ∙ delivers_spoken all_rules w (name n i) s 0 (length a.taken) z k.from.node n session m (may (spoken k.from.node n session m))
+
+    pub next_delivered : Delivered accs w n i sender session m
+    next_delivered = record {
+      from = k.from;
+      sender_is = k.sender_is;
+      node = k.peer;
+      fits = from_ok.node from_made;
+      some = from_ok.some from_made;
+      id = from_ok.id from_made;
+      joined = (o, from_joined);
+      goes = k.goes;
+      learned = k.learned;
+      stands = stands;
+      written = subst (λ q. IsWritten q) k.message_is spelled.written;
+      header = subst (λ q. q < 65536) k.session_is spelled.session;
+      is = step_is;
+    }
+
+-- a letter that a tunnel hears is delivered
+pub delivered : NextIsHeard → (accs : Accounts) (ends : Ends) (w : World) (n : ℕ) (e x : End) (sender : Option Sender) (moment : ℕ) (ev : Event) (mv : Move)
+    (d : Deed) → IsMade accs ends w n e x sender moment ev mv d → (i : ℕ) (t : Tunnel) → at e.tunnels i ≡ Some t → (session : ℕ) (m : Message)
+    → HearsNext ev t.control session m → Delivered accs w n i sender session m
+delivered heard accs ends w n e x sender moment ev mv d h i t there session m k =
+    next_delivered accs ends w n e x sender moment ev mv d h i t there session m
+    (heard accs n e sender ev h.moved.within i t there session m k)
+
+-- ---- the partner
+
+some_same : {X : Type 0} (x y : X) → Some x ≡ Some y → x ≡ y
+some_same x y h = cc
+
+partner_by : (b : Account) (p : Sender) → partner_of b ≡ Some p → (b.peer ≡ p.node) × (b.remote ≡ p.tunnel)
+partner_by b p h = by (eqb b.remote 0) h
+  where
+    by : (none : Bool) → cond none None (Some (record { node = b.peer; tunnel = b.remote })) ≡ Some p → (b.peer ≡ p.node) × (b.remote ≡ p.tunnel)
+    by true g = absurd cc
+    by false g =
+        let same : record { node = b.peer; tunnel = b.remote } ≡ p = some_same _ p g in
+        (ap (λ (q : Sender). q.node) same, ap (λ (q : Sender). q.tunnel) same)
+
+-- whoever sent what a tunnel took is the tunnel's partner
+pub sender_partner : (accs : Accounts) (b : Account) (number : ℕ) (tk : Taken) (from : Sender) → IsTaken accs b number tk → tk.sender ≡ Some from
+    → (b.peer ≡ from.node) × (b.remote ≡ from.tunnel)
+sender_partner accs b number tk from h is =
+    partner_by b from (h.learned ∙ sym h.sender ∙ is)
+
+-- ---- the account after a letter was taken
+
+pub got_last : {X : Type 0} (xs : List X) (x : X) → slice_get (xs ++ x ∷ []) (length xs) ≡ Some x
+got_last [] x = refl
+got_last (y ∷ xs) x = got_last xs x
+
+pub partner_now : (accs : Accounts) (ends : Ends) (w : World) (n : ℕ) (e x : End) (sender : Option Sender) (moment : ℕ) (ev : Event) (mv : Move) (d : Deed)
+    → IsMade accs ends w n e x sender moment ev mv d → (i : ℕ) (a : Account) (tk : Taken) (more : List step_laws.Letter) (from : Sender)
+    → after accs d n i ≡ with_taken tk more a → tk.sender ≡ Some from → (a.peer ≡ from.node) × (a.remote ≡ from.tunnel)
+partner_now accs ends w n e x sender moment ev mv d h i a tk more from is sent =
+    let ok : AccountOk (after accs d) n i (with_taken tk more a) = subst (λ b. AccountOk (after accs d) n i b) is (h.leads.accounts n i) in
+    sender_partner (after accs d) (with_taken tk more a) (length a.taken) tk from (ok.taken (length a.taken) tk (got_last a.taken tk)) sent

@@ -1,0 +1,191 @@
+-- An LNS replies to a request, and so does the machine.
+use Rattle.std.proofs.Common.{◌≡◌, inl, ⊎_elim, ℕ, ◌+◌, ◌<◌, ◌≤◌, false, length, refl, sym, ap, ap₂, ◌∙◌, subst, Option, Some, arith, ne_eqb, eq-eqb}
+use Rattle.std.proofs.lemmas.Bool.{true≢false, lt-ltb}
+use Rattle.id_source.specs.Spaces.{Space}
+use Rattle.id_table.specs.Ids.{put}
+use Rattle.id_table.specs.Order.{same_or_not, at_new, at_other}
+use Rattle.control_message.specs.declared.message.Message.TheVariants.{Icrq, Icrp}
+use Rattle.call_fsm.specs.declared.table.CallState.TheVariants as call_state
+use Rattle.call_fsm.specs.declared.table.CallEvent.TheVariants as call_event
+use Rattle.protocol_model.specs.declared.event.Event.{Event}
+use Rattle.protocol_model.specs.declared.moves.Replied.{Replied}
+use Rattle.protocol_model.specs.declared.moves.Move.TheVariants as move
+use Rattle.protocol_model.specs.declared.tunnel.Call.{Call}
+use Rattle.protocol_model.specs.Calls.{call_row, asked_for}
+use Rattle.protocol_model.specs.Turn.{Tunnel, counts_taken}
+use Rattle.protocol_model.specs.End.{End}
+use Rattle.protocol_model.specs.World.{Sender, Deed, config_of}
+use Rattle.step_laws.specs.Letters.{letters_of}
+use Rattle.step_laws.specs.Moves.{with_letter}
+use Rattle.epoch_machine.specs.Letters.{Request, Reply}
+use Rattle.epoch_machine.specs.Tunnels.{Open}
+use Rattle.epoch_machine.specs.Calls.{Calls, WaitsConnect, replies}
+use Rattle.epoch_machine.specs.Worlds.{World, all_rules, gives, took_one, takes, takes_open, answers_request}
+use Rattle.epoch_machine.specs.Moves.{Delivers}
+use Rattle.connection_laws.specs.Facts.{Accounts}
+use Rattle.connection_laws.specs.Steps.{after}
+use Rattle.session_laws.specs.Names.{name, name_of, state_of}
+use Rattle.session_laws.specs.Joined.{Ends, CallJoined, CallsJoined, TunnelJoined}
+use Rattle.session_laws.proofs.Keeps.{with_end, Laws, IsMade, Follows}
+use Rattle.session_laws.proofs.Names.{other_name, name_some, known_name}
+use Rattle.session_laws.proofs.Ground.{joined_before}
+use Rattle.session_laws.proofs.Heard.{Delivered, delivered, here_joined, open_phase}
+use Rattle.session_laws.proofs.Drawing.{draw_is, next_is}
+use Rattle.session_laws.proofs.CallRows.{asked_state, asked_remote, reply_row, fits_as}
+use Rattle.session_laws.proofs.CallGround.{CallSame, OneCall, one_call_follows}
+use Rattle.session_laws.proofs.CallLaws.{world_holds, request_own}
+use Rattle.session_laws.proofs.CallFacts.{zero_undrawn}
+use Rattle.session_laws.proofs.CallSpeaks.{calls_take_and_give, hears_and_says, speaks_goes, account_is}
+
+-- ---- in the machine
+
+-- the calls with the new one
+abbrev with_reply : World → ℕ → ℕ → ℕ → Calls
+with_reply w x z own = replies w.calls x (w.tunnels.entered x) z own
+
+abbrev replied_to : World → ℕ → ℕ → ℕ → World
+replied_to w x z own = gives (record (took_one w x) { calls = with_reply w x z own }) x (Reply z own)
+
+takes_request : (w : World) (x s own z : ℕ) → w.tunnels.phase x ≡ Open → 0 < z → w.calls.drawn z ≡ false
+    → takes all_rules (took_one w x) x s (Request own) z ≡ replied_to w x z own
+unfolding takes took_one takes_open answers_request
+takes_request w x s own z phase some new = rw (phase, lt-ltb 0 z some, new) refl
+
+reply_asks : (w : World) (x z own y k : ℕ) → (with_reply w x z own).asks y k ≡ w.calls.asks y k
+unfolding replies
+reply_asks w x z own y k = refl
+
+-- every other call stays
+reply_same : (w : World) (x z own k : ℕ) → (k ≡ z → ⊥) → CallSame w (replied_to w x z own) k
+unfolding gives replies
+reply_same w x z own k other = record {
+  drawn = rw (ne_eqb k z other) refl;
+  tunnel = rw (ne_eqb k z other) refl;
+  remote = rw (ne_eqb k z other) refl;
+  state = rw (ne_eqb k z other) refl;
+}
+
+record NewReply (v : World) (x z own : ℕ) : Type 0 where
+  tunnel : v.calls.tunnel z ≡ x
+  state : v.calls.state z ≡ WaitsConnect
+  remote : v.calls.remote z ≡ own
+
+reply_here : (w : World) (x z own : ℕ) → NewReply (replied_to w x z own) x z own
+unfolding gives replies
+reply_here w x z own = record { tunnel = rw (eq-eqb z z refl) refl; state = rw (eq-eqb z z refl) refl; remote = rw (eq-eqb z z refl) refl }
+
+-- ---- the move
+
+module _ (laws : Laws) (accs : Accounts) (ends : Ends) (w : World) (n : ℕ) (e x : End) (sender : Option Sender) (moment : ℕ) (ev : Event)
+    (m : Replied) (d : Deed) (h : IsMade accs ends w n e x sender moment ev (move.Replied m) d) where
+  abbrev i : ℕ
+  i = m.tunnel
+
+  abbrev s : ℕ
+  s = m.session
+
+  abbrev t : Tunnel
+  t = h.moved.does.tunnel
+
+  abbrev call : Call
+  call = asked_for e.role m.remote moment
+
+  abbrev u : Tunnel
+  u = with_letter m.remote (Icrp s) (record t { control = counts_taken t.control; calls = put t.calls s call })
+
+  del : Delivered accs w n i sender h.moved.does.hears.0 (Icrq m.remote h.moved.does.serial h.moved.does.calling)
+  del = delivered laws.heard accs ends w n e x sender moment ev (move.Replied m) d h i t h.moved.does.there h.moved.does.hears.0
+      (Icrq m.remote h.moved.does.serial h.moved.does.calling) h.moved.does.hears.1
+
+  old : TunnelJoined w n i (accs n i) (Some t)
+  old = here_joined accs ends w n e x sender moment ev (move.Replied m) d h i t h.moved.does.there
+
+  calls : CallsJoined w accs n e
+  calls = joined_before accs ends w n e x sender moment ev (move.Replied m) d h
+
+  abbrev X : ℕ
+  X = name n i
+
+  abbrev Z : ℕ
+  Z = name n s
+
+  abbrev S : ℕ
+  S = name del.from.node del.from.tunnel
+
+  -- the call that asks
+  abbrev own : ℕ
+  own = name del.from.node m.remote
+
+  abbrev v : World
+  v = replied_to w X Z own
+
+  -- the session is drawn
+  drawn : (s ≡ e.session_ids.next) × (s ≤ e.session_ids.last)
+  drawn = draw_is e.session_ids s h.moved.does.drawn
+
+  some : 0 < s
+  some = let first = h.moved.within.end.first_session in let is = drawn.0 in omega arith
+
+  fits : s < 65536
+  fits = let last = h.moved.within.end.last_session in let le = drawn.1 in omega arith
+
+  new : w.calls.drawn Z ≡ false
+  new = calls.undrawn s (let is = drawn.0 in omega arith) fits
+
+  next : x.session_ids.next ≡ s + 1
+  next = ap (λ (y : End). y.session_ids.next) h.moved.does.after ∙ ap (λ (ids : Space). ids.next) (next_is e.session_ids s h.moved.does.drawn)
+
+  -- no call that asks has session 0
+  known : 0 < m.remote
+  known = ⊎_elim
+      (λ (zero : m.remote ≡ 0).
+      let asked = request_own w (world_holds laws.births w h.joined.moves h.joined.run) S 0 (length (accs n i).taken) own del.stands in
+      let none = zero_undrawn w accs del.from.node (ends del.from.node) (h.joined.nodes del.from.node del.fits) in
+      absurd (true≢false (sym asked.1 ∙ ap (λ k. w.calls.drawn (name del.from.node k)) zero ∙ none)))
+      (λ (other : m.remote ≡ 0 → ⊥). omega (arith, other))
+      (same_or_not m.remote 0)
+
+  role_is : x.role ≡ e.role
+  role_is = ap (λ (y : End). y.role) h.moved.does.after
+
+  call_joined : CallJoined v n i (accs n i).peer s call
+  call_joined =
+      let it = reply_here w X Z own in
+      record {
+        some = some;
+        state = it.state ∙ sym (reply_row e.role h.moved.does.row).is ∙ sym (ap state_of (asked_state e.role m.remote moment));
+        tunnel = it.tunnel;
+        remote = it.remote ∙ sym (known_name del.from.node m.remote known)
+            ∙ sym (ap₂ name_of del.node (asked_remote e.role m.remote moment));
+      }
+
+  pub replied_follows : Follows (after accs d) (with_end ends n x)
+  replied_follows =
+      let is = account_is accs ends w n e x sender moment ev (move.Replied m) d h v t u h.moved.does.there in
+      let one : OneCall w v n i (accs n i).peer e x t u s = record {
+        there = h.moved.does.there;
+        put_is = ap (λ (y : End). y.tunnels) h.moved.does.after;
+        role = role_is;
+        rises = omega (arith, next, drawn.0);
+        most = omega (arith, next, fits);
+        some = some;
+        below = omega (arith, next);
+        others = λ q other. at_other t.calls s call q other;
+        waits = λ one. one;
+        mine = inl (omega (arith, drawn.0));
+        calls = λ k q kfits qfits other. reply_same w X Z own (name k q) (other_name k q n s qfits fits other);
+        here = rw (at_new t.calls s call) (
+          call_joined,
+          fits_as x.role e.role call.state (call_row e.role call_state.Idle call_event.IcrqAcc).0 role_is (asked_state e.role m.remote moment)
+              (reply_row e.role h.moved.does.row).fits,
+          λ one. (let three = h.moved.does.open_is in absurd (omega (arith, one, three))),
+        );
+      } in
+      let speaks = hears_and_says d n e.role sender (move.Replied m) m.taken (accs n i) (after accs d n i) h.moved.deed is in
+      one_call_follows accs ends w n e x sender moment ev (move.Replied m) d h v t u s
+      (subst (λ p. OneCall w v n i p e x t u s) (sym speaks.moves.peer) one)
+      (speaks_goes accs ends w n e x sender moment ev (move.Replied m) d h v t u h.moved.does.there
+      (letters_of e.role (config_of n 0) (move.Replied m)) 1
+      (rw del.node (calls_take_and_give w X (with_reply w X Z own) (Reply Z own) old.entered (reply_asks w X Z own)))
+      speaks refl (Delivers X S 0 (length (accs n i).taken) Z)
+      (del.is Z ∙ takes_request w X S own Z (old.phase ∙ open_phase t.control.state h.moved.does.open_is) (name_some n s some) new))

@@ -1,0 +1,97 @@
+-- A world of nodes, and a world of the abstract machine in which their tunnels and calls have names.
+use Rattle.std.specs.Prelude.{◌≡◌, ℕ, ◌<◌, ◌≤◌, List, map, length, true, false, Option, Some, None, option_map}
+use Rattle.id_table.specs.Ids.{at}
+use Rattle.call_fsm.specs.declared.table.CallState.{CallState}
+use Rattle.call_fsm.specs.declared.table.CallState.TheVariants.{Idle, WaitTunnel, WaitReply, WaitConnect, Established}
+use Rattle.tunnel_fsm.specs.Rows.{state_number}
+use Rattle.protocol_model.specs.declared.tunnel.Call.{Call}
+use Rattle.protocol_model.specs.declared.tunnel.Role.{Role}
+use Rattle.protocol_model.specs.declared.tunnel.Role.TheVariants.{Lac, Lns}
+use Rattle.protocol_model.specs.Turn.{Tunnel}
+use Rattle.protocol_model.specs.End.{End}
+use Rattle.protocol_model.specs.World.{Node}
+use Rattle.epoch_machine.specs.Worlds as machine
+use Rattle.epoch_machine.specs.Worlds.{all_rules}
+use Rattle.epoch_machine.specs.Moves.{Move, after}
+use Rattle.epoch_machine.specs.Calls.{NoCall}
+use Rattle.connection_laws.specs.Accounts.{Account}
+use Rattle.connection_laws.specs.Facts.{Accounts, IsMade}
+use Rattle.session_laws.specs.Names.{name, name_of, other_name, letter_of, phase_in, state_of, is_made, is_opener}
+
+-- the ends of nodes, by their numbers
+abbrev pub Ends : Type 0
+Ends = ℕ → Option End
+
+abbrev pub tunnel_in : Option End → ℕ → Option Tunnel
+tunnel_in None i = None
+tunnel_in (Some e) i = at e.tunnels i
+
+-- a tunnel that is or was, of a node, and the machine's
+pub record TunnelJoined (w : machine.World) (n i : ℕ) (a : Account) (o : Option Tunnel) : Type 0 where
+  pub drawn : w.tunnels.drawn (name n i) ≡ is_made a.part
+  pub opener : w.tunnels.opener (name n i) ≡ is_opener a.part
+  pub node : IsMade a → w.tunnels.node (name n i) ≡ n
+  pub peer : IsMade a → w.tunnels.peer (name n i) ≡ a.peer
+  pub learned : w.tunnels.learned (name n i) ≡ other_name a
+  pub phase : w.tunnels.phase (name n i) ≡ phase_in o
+  pub entered : w.tunnels.entered (name n i) ≡ 0
+  -- its letters have the places that their numbers are
+  pub sent : w.channels.sent (name n i) 0 ≡ map (λ l. letter_of n a.peer l) a.given
+  pub taken : w.channels.taken (name n i) 0 ≡ length a.taken
+  -- it asks nothing of what both ends held before a recovery
+  pub asks : (z : ℕ) → w.calls.asks (name n i) z ≡ false
+
+-- a live call of a tunnel that goes to a peer, and the machine's
+pub record CallJoined (w : machine.World) (n i peer s : ℕ) (c : Call) : Type 0 where
+  pub some : 0 < s
+  pub state : w.calls.state (name n s) ≡ state_of c.state
+  pub tunnel : w.calls.tunnel (name n s) ≡ name n i
+  pub remote : w.calls.remote (name n s) ≡ name_of peer c.remote
+
+-- no tunnel of an end has a call of this session
+abbrev pub HasNoCall : End → ℕ → Type 0
+HasNoCall e s = (i : ℕ) (t : Tunnel) → at e.tunnels i ≡ Some t → at t.calls s ≡ None
+
+-- a LAC's calls ask, and an LNS's reply
+abbrev pub FitsRole : Role → CallState → Type 0
+FitsRole r Idle = ⊥
+FitsRole Lac WaitTunnel = Unit {0}
+FitsRole Lac WaitReply = Unit {0}
+FitsRole Lac WaitConnect = ⊥
+FitsRole Lac Established = Unit {0}
+FitsRole Lns WaitTunnel = ⊥
+FitsRole Lns WaitReply = ⊥
+FitsRole Lns WaitConnect = Unit {0}
+FitsRole Lns Established = Unit {0}
+
+-- the calls of a node's end
+pub record CallsJoined (w : machine.World) (accs : Accounts) (n : ℕ) (e : End) : Type 0 where
+  pub live : (i : ℕ) (t : Tunnel) → at e.tunnels i ≡ Some t → (s : ℕ) (c : Call) → at t.calls s ≡ Some c → CallJoined w n i (accs n i).peer s c
+  pub drawn : (i : ℕ) (t : Tunnel) → at e.tunnels i ≡ Some t → (s : ℕ) (c : Call) → at t.calls s ≡ Some c → s < e.session_ids.next
+  pub gone : (s : ℕ) → s < 65536 → HasNoCall e s → w.calls.state (name n s) ≡ NoCall
+  pub undrawn : (s : ℕ) → e.session_ids.next ≤ s → s < 65536 → w.calls.drawn (name n s) ≡ false
+  -- in a tunnel that is to open calls wait
+  pub waiting : (i : ℕ) (t : Tunnel) → at e.tunnels i ≡ Some t → state_number t.control.state ≡ 1
+      → (s : ℕ) (c : Call) → at t.calls s ≡ Some c → c.state ≡ WaitTunnel
+  -- session ids have 16 bits, and tunnel ids
+  pub most : e.session_ids.next ≤ 65536
+  pub ids : (i : ℕ) (t : Tunnel) → at e.tunnels i ≡ Some t → i < 65536
+  -- no call has session 0
+  pub zero : w.calls.drawn (name n 0) ≡ false
+  pub roles : (i : ℕ) (t : Tunnel) → at e.tunnels i ≡ Some t → (s : ℕ) (c : Call) → at t.calls s ≡ Some c → FitsRole e.role c.state
+
+abbrev pub NodeJoined : machine.World → Accounts → ℕ → Option End → Type 0
+NodeJoined w accs n None = (s : ℕ) → s < 65536 → (w.calls.state (name n s) ≡ NoCall) × (w.calls.drawn (name n s) ≡ false)
+NodeJoined w accs n (Some e) = CallsJoined w accs n e
+
+-- the machine's world is one of its runs, and all tunnels and calls of the ends are joined with it
+pub record AreJoined (accs : Accounts) (ends : Ends) (w : machine.World) : Type 0 where
+  pub tunnels : (n i : ℕ) → n < 256 → i < 65536 → TunnelJoined w n i (accs n i) (tunnel_in (ends n) i)
+  pub nodes : (n : ℕ) → n < 256 → NodeJoined w accs n (ends n)
+  pub up : (n : ℕ) → w.tunnels.up n ≡ true
+  pub moves : List Move
+  pub run : w ≡ after all_rules moves
+
+-- the ends of a world's nodes
+abbrev pub ends_of : List (ℕ × Node) → Ends
+ends_of nodes n = option_map (λ (node : Node). node.end) (at nodes n)
