@@ -14,6 +14,8 @@ mod l2tp_header_tests;
 #[cfg(test)]
 mod lcp_wire_tests;
 #[cfg(test)]
+mod pppoe_discovery_tests;
+#[cfg(test)]
 mod pppoe_wire_tests;
 #[cfg(test)]
 mod schedule_text_tests;

@@ -1,0 +1,4 @@
+pub mod Sizes
+pub mod Admitted
+pub mod Reading
+pub mod Stages
