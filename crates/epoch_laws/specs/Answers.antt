@@ -1,4 +1,8 @@
 -- Which answer makes each epoch of a link, and by which answer each end entered it.
+--
+-- It holds whichever of the five rules are kept, so no run without one of them shows it to fail. It rests on what the moves
+-- themselves are: the name of an answer is new, an answer makes the next epoch of its link, and a reset enters the epoch of its
+-- answer.
 use Rattle.std.specs.Prelude.{◌≡◌, ◌≢◌, ◌⊎◌, ℕ, ◌<◌, ◌≤◌, true, List}
 use Rattle.epoch_machine.specs.Tunnels.{Tunnels, Linked}
 use Rattle.epoch_machine.specs.Worlds.{World, Rules}

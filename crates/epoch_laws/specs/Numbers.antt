@@ -1,4 +1,5 @@
--- The first numbers of both ends' letters in each epoch of a link.
+-- The first numbers of both ends' letters in each epoch of a link. As with the answers themselves, no rule stands behind it
+-- that a run could be computed without: an answer keeps the numbers that it was given with.
 use Rattle.std.specs.Prelude.{◌≡◌, ◌≢◌, ◌⊎◌, ℕ, if◌then◌else◌, ◌==◌, true, List}
 use Rattle.epoch_machine.specs.Tunnels.{Tunnels, Linked, Open}
 use Rattle.epoch_machine.specs.Worlds.{World, Rules}

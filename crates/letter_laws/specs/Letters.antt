@@ -46,7 +46,8 @@ pub record TakesNext (r : Rules) (w : World) : Type 0 where
   pub takes : (x s e k z : ℕ) (l : Letter) → Stands w.channels s e k l → may_take r w x s e k l ≡ true → IsNextOf w (step r w (Delivers x s e k z)) x s e k l ⊎ ClosesOpener w (step r w (Delivers x s e k z)) x s e l
   -- the same of a StopCCN of no tunnel
   pub refusal : (x : ℕ) → may_take_refusal w x ≡ true → (w.tunnels.opener x ≡ true) × (w.tunnels.entered x ≡ 0) × ((step r w (TakesRefusal x)).tunnels.phase x ≡ Closed)
-  -- a letter of a newer epoch reaches only a tunnel that isn't active: neither open nor on the way there
+  -- a letter of a newer epoch reaches only a tunnel that isn't active: neither open nor on the way there. It follows from
+  -- the laws of epochs alone: a link has epochs above 0 only once both ends were open, and of two ends the lower isn't open
   pub newer : (x s e k : ℕ) (l : Letter) → Stands w.channels s e k l → reaches w.tunnels s x l ≡ true → w.tunnels.entered x < e → is_active (w.tunnels.phase x) ≡ false
 
 -- over every list of moves from the empty world, by all rules
