@@ -319,3 +319,248 @@ fn refused_pairs(rt: HostRuntime) {
         assert_eq!(rt; refusal(rt.alloc(), bytes), Some(fault));
     }
 }
+
+// The StopCCN of an SCCRQ that one tunnel too many is asked by, to a tunnel that has assigned none, and that of a wrong
+// response: type, tunnel, result.
+const TOO_MANY: &[u8] =
+    b"\x80\x08\0\0\0\0\0\x04\x80\x08\0\0\0\x09\0\0\x80\x0a\0\0\0\x01\0\x02\0\x04";
+
+const UNPROVEN: &[u8] = b"\x80\x08\0\0\0\0\0\x04\x80\x08\0\0\0\x09\x02\x03\x80\x08\0\0\0\x01\0\x04";
+
+#[test]
+fn a_stop(rt: HostRuntime) -> Result<(), Fail> {
+    let mut refused = Bytes::new(rt.alloc());
+    let message = Message::StopCcn {
+        tunnel: 0,
+        result: 2,
+        error: Some(4),
+    };
+    write_message(&mut refused, &message)?;
+    assert_eq!(rt; refused.as_slice(), TOO_MANY);
+    let mut unproven = Bytes::new(rt.alloc());
+    let message = Message::StopCcn {
+        tunnel: 0x203,
+        result: 4,
+        error: None,
+    };
+    write_message(&mut unproven, &message)?;
+    assert_eq!(rt; unproven.as_slice(), UNPROVEN);
+    Ok(())
+}
+
+fn stop(alloc: Global, bytes: &[u8]) -> Option<(u16, u16, Option<u16>)> {
+    let Some(Read::Known(message)) = read(alloc, bytes) else {
+        return None;
+    };
+    match message {
+        Message::StopCcn {
+            tunnel,
+            result,
+            error,
+        } => Some((tunnel, result, error)),
+        _ => None,
+    }
+}
+
+#[test]
+fn read_stops(rt: HostRuntime) {
+    let rows: [(&[u8], (u16, u16, Option<u16>)); 3] = [
+        (TOO_MANY, (0, 2, Some(4))),
+        (UNPROVEN, (0x203, 4, None)),
+        // in another order, with a text, and with a session of no bytes, which isn't used
+        (
+            b"\x80\x0e\0\0\0\x01\0\x05\x01\0late\x80\x06\0\0\0\x0e\x80\x08\0\0\0\x09\x12\x34\x80\x08\0\0\0\0\0\x04",
+            (0x1234, 5, Some(0x100)),
+        ),
+    ];
+    for (bytes, wanted) in rows {
+        assert!(rt; stop(rt.alloc(), bytes) == Some(wanted));
+    }
+}
+
+// Six counters behind two reserved bytes; two maps behind two reserved bytes.
+const ERRORS: &[u8] = b"\x80\x08\0\0\0\0\0\x0f\x80\x20\0\0\0\x22\0\0\
+    \0\0\0\x01\0\0\0\x02\0\0\0\x03\0\0\0\x04\0\0\0\x05\0\0\0\x06";
+
+const LINK: &[u8] = b"\x80\x08\0\0\0\0\0\x10\x80\x10\0\0\0\x23\0\0\xff\xff\xff\xff\0\x0a\0\0";
+
+// An OCRQ with all that the standard wants in one: session, serial number, minimum and maximum of bits a second, bearer,
+// framing, called number.
+const ORDER: &[u8] = b"\x80\x08\0\0\0\0\0\x07\x80\x08\0\0\0\x0e\x04\x05\x80\x0a\0\0\0\x0f\0\0\0\x02\
+    \x80\x0a\0\0\0\x10\0\0\0\x01\x80\x0a\0\0\0\x11\x05\xf5\xe1\0\x80\x0a\0\0\0\x12\0\0\0\x01\
+    \x80\x0a\0\0\0\x13\0\0\0\x01\x80\x07\0\0\0\x157";
+
+#[test]
+fn read_only(rt: HostRuntime) {
+    let order = read(rt.alloc(), ORDER);
+    assert!(rt; matches!(order, Some(Read::Known(Message::Ocrq { session: 0x405 }))));
+    // with a session alone, which is 0
+    let order = read(rt.alloc(), b"\x80\x08\0\0\0\0\0\x07\x80\x08\0\0\0\x0e\0\0");
+    assert!(rt; matches!(order, Some(Read::Known(Message::Ocrq { session: 0 }))));
+    // with a session, and without one
+    let accepted = read(
+        rt.alloc(),
+        b"\x80\x08\0\0\0\0\0\x08\x80\x08\0\0\0\x0e\x03\x05",
+    );
+    assert!(rt; matches!(accepted, Some(Read::Known(Message::Ocrp))));
+    let accepted = read(rt.alloc(), b"\x80\x08\0\0\0\0\0\x08");
+    assert!(rt; matches!(accepted, Some(Read::Known(Message::Ocrp))));
+    // with a speed and a framing, and with a framing of no bytes: neither is used
+    let answered = read(
+        rt.alloc(),
+        b"\x80\x08\0\0\0\0\0\x09\x80\x0a\0\0\0\x18\x05\xf5\xe1\0\x80\x0a\0\0\0\x13\0\0\0\x01",
+    );
+    assert!(rt; matches!(answered, Some(Read::Known(Message::Occn))));
+    let answered = read(rt.alloc(), b"\x80\x08\0\0\0\0\0\x09\x80\x06\0\0\0\x13");
+    assert!(rt; matches!(answered, Some(Read::Known(Message::Occn))));
+    let errors = read(rt.alloc(), ERRORS);
+    assert!(rt; matches!(errors, Some(Read::Known(Message::Wen))));
+    let link = read(rt.alloc(), LINK);
+    assert!(rt; matches!(link, Some(Read::Known(Message::Sli))));
+    // a query of sessions is of an unknown type
+    let query = read(rt.alloc(), b"\0\x08\0\0\0\0\0\x15");
+    assert!(rt; matches!(query, Some(Read::Ignored { number: 21 })));
+}
+
+#[test]
+fn refused_others(rt: HostRuntime) {
+    let rows: [(&[u8], MessageError); 17] = [
+        // a StopCCN with a tunnel that is hidden, without a Random Vector before it and with one, and one of four bytes
+        (
+            b"\x80\x08\0\0\0\0\0\x04\xc0\x08\0\0\0\x09\0\x02\x80\x08\0\0\0\x01\0\x01",
+            MessageError::HiddenWithoutVector { attribute: 9 },
+        ),
+        (
+            b"\x80\x08\0\0\0\0\0\x04\x80\x08\0\0\0\x24ab\xc0\x08\0\0\0\x09\0\x02\x80\x08\0\0\0\x01\0\x01",
+            MessageError::BadValue { attribute: 9 },
+        ),
+        (
+            b"\x80\x08\0\0\0\0\0\x04\x80\x0a\0\0\0\x09\0\0\0\x02\x80\x08\0\0\0\x01\0\x01",
+            MessageError::BadValue { attribute: 9 },
+        ),
+        // a result of three bytes; no tunnel; no result; neither of the two
+        (
+            b"\x80\x08\0\0\0\0\0\x04\x80\x08\0\0\0\x09\0\x02\x80\x09\0\0\0\x01\0\x02\0",
+            MessageError::BadValue { attribute: 1 },
+        ),
+        (
+            b"\x80\x08\0\0\0\0\0\x04\x80\x08\0\0\0\x01\0\x01",
+            MessageError::Missing { attribute: 9 },
+        ),
+        (
+            b"\x80\x08\0\0\0\0\0\x04\x80\x08\0\0\0\x09\0\x02",
+            MessageError::Missing { attribute: 1 },
+        ),
+        (
+            b"\x80\x08\0\0\0\0\0\x04",
+            MessageError::Missing { attribute: 1 },
+        ),
+        // an OCRQ without a session, and with one of one byte; a session 0 in an OCRP
+        (
+            b"\x80\x08\0\0\0\0\0\x07\x80\x0a\0\0\0\x0f\0\0\0\x02",
+            MessageError::Missing { attribute: 14 },
+        ),
+        (
+            b"\x80\x08\0\0\0\0\0\x07\x80\x07\0\0\0\x0e\x02",
+            MessageError::BadValue { attribute: 14 },
+        ),
+        (
+            b"\x80\x08\0\0\0\0\0\x08\x80\x08\0\0\0\x0e\0\0",
+            MessageError::BadValue { attribute: 14 },
+        ),
+        // an OCCN with an unknown mandatory pair
+        (
+            b"\x80\x08\0\0\0\0\0\x09\x80\x06\0\0\0\x63",
+            MessageError::UnknownMandatory {
+                vendor: 0,
+                attribute: 0x63,
+            },
+        ),
+        // no counters, two of them, and hidden ones; no maps, and one of them
+        (
+            b"\x80\x08\0\0\0\0\0\x0f\x80\x08\0\0\0\x0e\0\x02",
+            MessageError::Missing { attribute: 34 },
+        ),
+        (
+            b"\x80\x08\0\0\0\0\0\x0f\x80\x10\0\0\0\x22\0\0\0\0\0\x01\0\0\0\x02",
+            MessageError::BadValue { attribute: 34 },
+        ),
+        (
+            b"\x80\x08\0\0\0\0\0\x0f\xc0\x08\0\0\0\x22\0\0",
+            MessageError::HiddenWithoutVector { attribute: 34 },
+        ),
+        (
+            b"\x80\x08\0\0\0\0\0\x10",
+            MessageError::Missing { attribute: 35 },
+        ),
+        (
+            b"\x80\x08\0\0\0\0\0\x10\x80\x0c\0\0\0\x23\0\0\xff\xff\xff\xff",
+            MessageError::BadValue { attribute: 35 },
+        ),
+        // a query of sessions
+        (
+            b"\x80\x08\0\0\0\0\0\x15",
+            MessageError::UnknownType { number: 21 },
+        ),
+    ];
+    for (bytes, fault) in rows {
+        assert_eq!(rt; refusal(rt.alloc(), bytes), Some(fault));
+    }
+}
+
+#[test]
+fn kinds(rt: HostRuntime) -> Result<(), Fail> {
+    let rows: [(&[u8], Option<Kind>); 20] = [
+        (b"\x80\x08\0\0\0\0\0\x01", Some(Kind::Sccrq)),
+        (b"\x80\x08\0\0\0\0\0\x02", Some(Kind::Sccrp)),
+        (b"\x80\x08\0\0\0\0\0\x03", Some(Kind::Scccn)),
+        (b"\x80\x08\0\0\0\0\0\x04", Some(Kind::StopCcn)),
+        (b"\x80\x08\0\0\0\0\0\x06", Some(Kind::Hello)),
+        (b"\x80\x08\0\0\0\0\0\x07", Some(Kind::Ocrq)),
+        (b"\x80\x08\0\0\0\0\0\x08", Some(Kind::Ocrp)),
+        (b"\x80\x08\0\0\0\0\0\x09", Some(Kind::Occn)),
+        (b"\x80\x08\0\0\0\0\0\x0a", Some(Kind::Icrq)),
+        (b"\x80\x08\0\0\0\0\0\x0b", Some(Kind::Icrp)),
+        (b"\x80\x08\0\0\0\0\0\x0c", Some(Kind::Iccn)),
+        (b"\x80\x08\0\0\0\0\0\x0e", Some(Kind::Cdn)),
+        (b"\x80\x08\0\0\0\0\0\x0f", Some(Kind::Wen)),
+        // behind an unknown mandatory pair, and before another type
+        (
+            b"\x80\x06\0\0\0\x63\0\x08\0\0\0\0\0\x10\x80\x08\0\0\0\0\0\x0e",
+            Some(Kind::Sli),
+        ),
+        // no type; types 5 and 13; a hidden type before a plain one; a type of three bytes; one with a reserved bit
+        (b"\x80\x08\0\0\0\x09\0\x01", None),
+        (b"\x80\x08\0\0\0\0\0\x05", None),
+        (b"\x80\x08\0\0\0\0\0\x0d", None),
+        (b"\xc0\x08\0\0\0\0\0\x01\x80\x08\0\0\0\0\0\x01", None),
+        (b"\x80\x09\0\0\0\0\0\x01\0", None),
+        (b"\x84\x08\0\0\0\0\0\x01", None),
+    ];
+    for (bytes, kind) in rows {
+        let avps = read_avps(rt.alloc(), bytes).ok().ok_or("pairs")?;
+        assert_eq!(rt; kind_of_pairs(&avps), kind);
+    }
+    Ok(())
+}
+
+// In an ICRQ and in a StopCCN that are refused, an id is found behind others that are hidden or of another length.
+#[test]
+fn ids_of_refused_messages(rt: HostRuntime) -> Result<(), Fail> {
+    let request = read_avps(
+        rt.alloc(),
+        b"\x80\x08\0\0\0\0\0\x0a\x80\x06\0\0\0\x63\xc0\x08\0\0\0\x0e\0\x07\x80\x09\0\0\0\x0e\0\x08\0\
+            \x80\x08\0\0\0\x0e\x04\x05\x80\x08\0\0\0\x0e\0\x09",
+    );
+    let request = request.ok().ok_or("pairs")?;
+    assert_eq!(rt; assigned_session(&request), Some(0x405));
+    assert_eq!(rt; assigned_tunnel(&request), None);
+    let stop = read_avps(
+        rt.alloc(),
+        b"\x80\x08\0\0\0\0\0\x04\x80\x0a\0\0\0\x09\0\0\0\x07\x84\x08\0\0\0\x09\0\x08\x80\x08\0\0\0\x09\x02\x03",
+    );
+    let stop = stop.ok().ok_or("pairs")?;
+    assert_eq!(rt; assigned_tunnel(&stop), Some(0x203));
+    assert_eq!(rt; assigned_session(&stop), None);
+    Ok(())
+}

@@ -12,12 +12,12 @@ use Rattle.avp_codec.specs.Spelling.{AreAvps, Fits}
 use Rattle.control_message.specs.declared.kind.Kind.TheVariants as kind
 use Rattle.control_message.specs.declared.message.MessageError.{MessageError}
 use Rattle.control_message.specs.declared.message.Message.{Message}
-use Rattle.control_message.specs.declared.message.Message.TheVariants.{Sccrq, Sccrp, Scccn, Hello, Icrq, Icrp, Iccn, Cdn}
+use Rattle.control_message.specs.declared.message.Message.TheVariants.{Sccrq, Sccrp, Scccn, StopCcn, Hello, Ocrq, Ocrp, Occn, Icrq, Icrp, Iccn, Cdn, Wen, Sli}
 use Rattle.control_message.specs.declared.message.Opening.{Opening}
 use Rattle.control_message.specs.declared.message.Failover.{Failover}
 use Rattle.control_message.specs.declared.message.Read.TheVariants.{Known}
 use Rattle.control_message.specs.Pairs.{pair, failover_pairs, opening_pairs, result_code_bytes, pairs_of, IsWritten, IsWrittenOpening}
-use Rattle.control_message.specs.Reading.{message_of, checked, checked_all, failover_value, u16_at, u32_at, window_at, failover_at, opening_at, icrq_at, icrp_at, iccn_at, result_code_in, result_code_at, cdn_at}
+use Rattle.control_message.specs.Reading.{message_of, checked, checked_all, failover_value, u16_at, u32_at, window_at, failover_at, opening_at, icrq_at, icrp_at, iccn_at, result_code_in, result_code_at, stop_ccn_at, cdn_at}
 
 -- ---- numbers
 
@@ -62,13 +62,19 @@ pub pairs_fit : (m : Message) → IsWritten m → AreAvps (pairs_of m)
 pairs_fit (Sccrq o) w = opening_fits 1 o w.name
 pairs_fit (Sccrp o) w = opening_fits 2 o w.name
 pairs_fit Scccn w = (fits_short 0 3 (omega arith), tt)
+pairs_fit (StopCcn tunnel result error) w = (fits_short 0 4 (omega arith), (fits_short 9 tunnel (omega arith), (result_code_fits result error, tt)))
 pairs_fit Hello w = (fits_short 0 6 (omega arith), tt)
+pairs_fit (Ocrq session) w = absurd w
+pairs_fit Ocrp w = absurd w
+pairs_fit Occn w = absurd w
 pairs_fit (Icrq session serial calling) w =
     let number = told_value calling (λ v. length v ≤ 1017) w.2 in
     (fits_short 0 10 (omega arith), (fits_short 14 session (omega arith), (fits_long 15 serial (omega arith), rw number.1 (fits 22 number.0 (omega arith) number.2, tt))))
 pairs_fit (Icrp session) w = (fits_short 0 11 (omega arith), (fits_short 14 session (omega arith), tt))
 pairs_fit (Iccn speed framing sequenced) w = (fits_short 0 12 (omega arith), (fits_long 24 speed (omega arith), (fits_long 19 framing (omega arith), tt)))
 pairs_fit (Cdn session result error) w = (fits_short 0 14 (omega arith), (result_code_fits result error, (fits_short 14 session (omega arith), tt)))
+pairs_fit Wen w = absurd w
+pairs_fit Sli w = absurd w
 
 -- ---- messages
 
@@ -140,6 +146,16 @@ cdn_again : (session result : ℕ) (error : Option ℕ) → IsWritten (Cdn sessi
 unfolding cdn_at result_code_at u16_at u16_bytes
 cdn_again session result error w = rw (result_code_again result error w.1 w.2, short_again session w.0) refl
 
+stop_ccn_checked : (tunnel result : ℕ) (error : Option ℕ) → checked_all kind.StopCcn [] (pairs_of (StopCcn tunnel result error)) ≡ Ok tt
+unfolding checked u16_bytes
+stop_ccn_checked tunnel result None = refl
+stop_ccn_checked tunnel result (Some error) = refl
+
+stop_ccn_again : (tunnel result : ℕ) (error : Option ℕ) → IsWritten (StopCcn tunnel result error)
+    → stop_ccn_at (pairs_of (StopCcn tunnel result error)) ≡ Ok (StopCcn tunnel result error)
+unfolding stop_ccn_at result_code_at u16_at u16_bytes
+stop_ccn_again tunnel result error w = rw (result_code_again result error w.1 w.2, short_again tunnel w.0) refl
+
 pub message_again : (m : Message) → IsWritten m → message_of (pairs_of m) ≡ Ok (Known m)
 unfolding message_of checked u16_bytes
 message_again (Sccrq o) w =
@@ -149,10 +165,16 @@ message_again (Sccrp o) w =
     let both = of_opening 2 o w in
     rw (same_uses [] (opening_pairs 2 o), both.0, both.1) refl
 message_again Scccn w = refl
+message_again (StopCcn tunnel result error) w = rw (stop_ccn_checked tunnel result error, stop_ccn_again tunnel result error w) refl
 message_again Hello w = refl
+message_again (Ocrq session) w = absurd w
+message_again Ocrp w = absurd w
+message_again Occn w = absurd w
 message_again (Icrq session serial calling) w =
     let number = told_value calling (λ v. length v ≤ 1017) w.2 in
     rw (number.1, icrq_checked session serial number.0, icrq_again session serial number.0 w.0 w.1) refl
 message_again (Icrp session) w = rw (icrp_checked session (is_not_zero session w.0 w.1), icrp_again session w.0) refl
 message_again (Iccn speed framing sequenced) w = rw (iccn_checked speed framing, iccn_again speed framing w.0 w.1, w.2) refl
 message_again (Cdn session result error) w = rw (cdn_checked session result error, cdn_again session result error w) refl
+message_again Wen w = absurd w
+message_again Sli w = absurd w

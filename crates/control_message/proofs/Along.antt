@@ -10,7 +10,7 @@ use Rattle.avp_codec.specs.declared.avp.Avp.{Avp}
 use Rattle.control_message.specs.declared.kind.Kind.{Kind}
 use Rattle.control_message.specs.declared.kind.Kind.TheVariants as kind
 use Rattle.control_message.specs.declared.kind.Shape.{Shape}
-use Rattle.control_message.specs.declared.kind.Shape.TheVariants.{Text, Short, Nonzero, Long, ShortLong, ResultCode}
+use Rattle.control_message.specs.declared.kind.Shape.TheVariants.{Text, Short, Nonzero, Long, ShortLong, ResultCode, CallErrors, Accm}
 use Rattle.control_message.specs.declared.message.MessageError.{MessageError}
 use Rattle.control_message.specs.declared.message.MessageError.TheVariants.{NoType, UnknownType, UnknownMandatory, HiddenWithoutVector, BadValue, Missing, NoMemory}
 use Rattle.control_message.specs.Table.{look_up, shape_of, uses_of, fits}
@@ -57,6 +57,8 @@ decides_shape Nonzero value = Decides-and (length value == 2) (not (big_number 2
 decides_shape Long value = Decides-eqb (length value) 4
 decides_shape ShortLong value = Decides-eqb (length value) 6
 decides_shape ResultCode value = Decides-or (length value == 2) (nat_le 4 (length value)) (Decides-eqb (length value) 2) (decides_le 4 (length value))
+decides_shape CallErrors value = Decides-eqb (length value) 26
+decides_shape Accm value = Decides-eqb (length value) 10
 
 -- ---- a pair that is used
 
@@ -76,11 +78,17 @@ all_listed : (k : Kind) → AllByRecursion (λ (u : ℕ × Shape). is_listed 0 u
 all_listed kind.Sccrq = (refl, (refl, (refl, (refl, (refl, (refl, tt))))))
 all_listed kind.Sccrp = (refl, (refl, (refl, (refl, (refl, (refl, tt))))))
 all_listed kind.Scccn = tt
+all_listed kind.StopCcn = (refl, (refl, tt))
 all_listed kind.Hello = tt
+all_listed kind.Ocrq = (refl, tt)
+all_listed kind.Ocrp = (refl, tt)
+all_listed kind.Occn = tt
 all_listed kind.Icrq = (refl, (refl, (refl, tt)))
 all_listed kind.Icrp = (refl, tt)
 all_listed kind.Iccn = (refl, (refl, (refl, tt)))
 all_listed kind.Cdn = (refl, (refl, tt))
+all_listed kind.Wen = (refl, tt)
+all_listed kind.Sli = (refl, tt)
 
 used_listed : (k : Kind) (n : ℕ) (s : Shape) → shape_of k n ≡ Some s → is_listed 0 n ≡ true
 used_listed k n s h = row_holds (λ (u : ℕ × Shape). is_listed 0 u.0 ≡ true) n s (uses_of k) (all_listed k) h

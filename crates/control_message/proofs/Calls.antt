@@ -1,23 +1,20 @@
 -- The messages of a call, as the relation has them and as the reading finds them.
-use Rattle.std.proofs.Common.{◌≡◌, ℕ, Bool, true, false, List, [], ◌∷◌, length, drop, Option, Some, None, is_some, Ok, Err, refl, sym, ap, subst, ◌∙◌, inl, inr, arith}
-use Rattle.std.specs.Prelude.{◌==◌, nat_le, option_map}
+use Rattle.std.proofs.Common.{◌≡◌, ℕ, Bool, true, false, List, [], ◌∷◌, Option, Some, None, is_some, Ok, refl, sym, ap, subst, ◌∙◌, inl, inr, arith}
+use Rattle.std.specs.Prelude.{option_map}
 use Rattle.std.specs.List.{AllByRecursion}
-use Rattle.std.proofs.lemmas.Bool.{cases_Bool, eq-eqb, ne_eqb, eqb-true, leb-true, le-leb}
-use Rattle.byteorder.specs.Endian.{big_number}
-use Rattle.wire_base.specs.Answers.{◌>>=◌}
 use Rattle.avp_codec.specs.declared.avp.Avp.{Avp}
 use Rattle.control_message.specs.declared.kind.Kind.TheVariants as kind
 use Rattle.control_message.specs.declared.kind.Shape.TheVariants.{Text, Short, Nonzero, Long, ResultCode}
 use Rattle.control_message.specs.declared.message.Message.{Message}
 use Rattle.control_message.specs.declared.message.Message.TheVariants.{Icrq, Icrp, Iccn, Cdn}
 use Rattle.control_message.specs.Table.{uses_of}
-use Rattle.control_message.specs.Reading.{first, value_at, calling_at, u16_at, u32_at, icrq_at, icrp_at, iccn_at, result_code_in, result_code_at, cdn_at}
-use Rattle.control_message.specs.Grammar.{SaysCalling, SaysSequenced, SaysIcrq, SaysIcrp, SaysIccn, HasErrorCode, HasResultCode, SaysCdn, SaysMessage, number_of}
-use Rattle.control_message.specs.declared.message.MessageError.TheVariants.{BadValue}
-use Rattle.control_message.specs.Faults.{HasShape, IsSound}
+use Rattle.control_message.specs.Reading.{first, calling_at, u16_at, u32_at, icrq_at, icrp_at, iccn_at, result_code_at, cdn_at}
+use Rattle.control_message.specs.Grammar.{SaysCalling, SaysSequenced, SaysIcrq, SaysIcrp, SaysIccn, SaysCdn, SaysMessage, number_of}
+use Rattle.control_message.specs.Faults.{IsSound}
 use Rattle.control_message.proofs.Firsts.{absent_first, first_absent, first_stands, stands_first}
-use Rattle.control_message.proofs.Values.{bind_ok, ok_same, IsGood, good, value_has, has_value, value_good, absent_good, number_has, has_number, value_or_missing, number_or_missing}
+use Rattle.control_message.proofs.Values.{bind_ok, ok_same, IsGood, good, value_has, value_good, absent_good, number_has, has_number, value_or_missing, number_or_missing}
 use Rattle.control_message.proofs.Needs.{Made, least_of}
+use Rattle.control_message.proofs.ResultCodes.{result_code_shape, some_result_code, result_code_has, has_result_code}
 
 -- a message of a number, and what it says
 abbrev Says : ℕ → List Avp → Message → Type 0
@@ -152,44 +149,6 @@ iccn_made avps sound =
       ]
     ]
 
--- ---- Result Code
-
-result_code_is : (v : List ℕ) (c : ℕ × Option ℕ) → result_code_in v ≡ Ok c → (big_number 2 v ≡ c.0) × HasErrorCode v c.1
-result_code_is v c h =
-    elim (cases_Bool (length v == 2)) [
-      | inl two ↦
-          let same : (big_number 2 v, None) ≡ c = let h' : Ok (big_number 2 v, None) ≡ Ok c = rw two at h in ok_same h' in
-          subst (λ (x : ℕ × Option ℕ). (big_number 2 v ≡ x.0) × HasErrorCode v x.1) same (refl, eqb-true (length v) 2 two)
-      | inr other ↦ elim (cases_Bool (nat_le 4 (length v))) [
-        | inl four ↦
-            let same : (big_number 2 v, Some (big_number 2 (drop 2 v))) ≡ c = let h' : Ok (big_number 2 v, Some (big_number 2 (drop 2 v))) ≡ Ok c = rw (other, four) at h in ok_same h' in
-            subst (λ (x : ℕ × Option ℕ). (big_number 2 v ≡ x.0) × HasErrorCode v x.1) same (refl, (leb-true 4 (length v) four, refl))
-        | inr less ↦ absurd (let h' : Err (BadValue 1) ≡ Ok c = rw (other, less) at h in cc)
-      ]
-    ]
-
-is_result_code : (v : List ℕ) (code : ℕ) (error : Option ℕ) → big_number 2 v ≡ code → HasErrorCode v error → result_code_in v ≡ Ok (code, error)
-is_result_code v code None number h = rw (eq-eqb (length v) 2 h, number) refl
-is_result_code v code (Some x) number h = rw (ne_eqb (length v) 2 (λ e. let four = h.0 in omega arith), le-leb 4 (length v) h.0, number, h.1) refl
-
-result_code_shape : (v : List ℕ) (error : Option ℕ) → HasErrorCode v error → HasShape ResultCode v
-result_code_shape v None h = inl h
-result_code_shape v (Some x) h = inr h.0
-
-some_result_code : (v : List ℕ) → HasShape ResultCode v → (c : ℕ × Option ℕ) × (result_code_in v ≡ Ok c)
-some_result_code v (inl two) = ((big_number 2 v, None), is_result_code v (big_number 2 v) None refl two)
-some_result_code v (inr four) = ((big_number 2 v, Some (big_number 2 (drop 2 v))), is_result_code v (big_number 2 v) (Some (big_number 2 (drop 2 v))) refl (four, refl))
-
-result_code_has : (avps : List Avp) (c : ℕ × Option ℕ) → IsSound kind.Cdn avps → (value_at 1 avps >>= λ v. result_code_in v) ≡ Ok c → HasResultCode c.0 c.1 avps
-result_code_has avps c sound h =
-    let b = bind_ok (value_at 1 avps) (λ (v : List ℕ). result_code_in v) c h in
-    let v = value_has kind.Cdn avps 1 ResultCode b.0 sound refl b.1 in
-    let says = result_code_is b.0 c b.2 in
-    record { value = b.0; has = v.0; result = says.0; error_code = says.1 }
-
-has_result_code : (avps : List Avp) (code : ℕ) (error : Option ℕ) → HasResultCode code error avps → (value_at 1 avps >>= λ v. result_code_in v) ≡ Ok (code, error)
-has_result_code avps code error h = rw (has_value avps 1 h.value h.has) (is_result_code h.value code error h.result h.error_code)
-
 -- ---- Call-Disconnect-Notify
 
 pub cdn_says : (avps : List Avp) (m : Message) → IsSound kind.Cdn avps → cdn_at avps ≡ Ok m → Says 14 avps m
@@ -199,7 +158,7 @@ cdn_says avps m sound h =
     let session = bind_ok _ _ m code.2 in
     let says : SaysCdn avps session.0 code.0.0 code.0.1 =
     record {
-      result = result_code_has avps code.0 sound code.1;
+      result = result_code_has kind.Cdn avps code.0 sound refl code.1;
       session = (number_has kind.Cdn avps 2 14 session.0 Short sound refl session.1).0;
     } in
     subst (Says 14 avps) (ok_same session.2) (refl, says)

@@ -1,6 +1,6 @@
 -- The laws of reading: what is read is what the pairs say, what they say is read, and a fault is told exactly where it stands.
 use Rattle.std.proofs.Common.{◌≡◌, ◌≢◌, ℕ, true, false, List, [], length, Option, Some, None, Result, Ok, Err, refl, sym, ap, subst, ◌∙◌, inl, inr, ◌⊎◌}
-use Rattle.std.specs.Prelude.{◌==◌, IfOk, IfErr}
+use Rattle.std.specs.Prelude.{◌==◌, IfOk, IfErr, IsNone, IfSome}
 use Rattle.std.specs.List.{AllByRecursion}
 use Rattle.std.proofs.lemmas.Bool.{cases_Bool, eq-eqb, ne_eqb, eqb-true, eqb-false}
 use Rattle.byteorder.specs.Endian.{big_number}
@@ -9,19 +9,21 @@ use Rattle.avp_codec.specs.declared.avp.Avp.{Avp}
 use Rattle.control_message.specs.declared.kind.Kind.{Kind}
 use Rattle.control_message.specs.declared.kind.Kind.TheVariants as kind
 use Rattle.control_message.specs.declared.message.Message.{Message}
-use Rattle.control_message.specs.declared.message.Message.TheVariants.{Sccrq, Sccrp, Scccn, Hello, Icrq, Icrp, Iccn, Cdn}
+use Rattle.control_message.specs.declared.message.Message.TheVariants.{Sccrq, Sccrp, Scccn, StopCcn, Hello, Ocrq, Ocrp, Occn, Icrq, Icrp, Iccn, Cdn, Wen, Sli}
 use Rattle.control_message.specs.declared.message.Read.{Read}
 use Rattle.control_message.specs.declared.message.Read.TheVariants.{Known, Ignored}
 use Rattle.control_message.specs.declared.message.MessageError.{MessageError}
 use Rattle.control_message.specs.declared.message.MessageError.TheVariants.{NoType, UnknownType, UnknownMandatory, HiddenWithoutVector, BadValue, Missing, NoMemory}
 use Rattle.control_message.specs.Table.{kinds, kind_of, uses_of}
-use Rattle.control_message.specs.Reading.{Told, first, checked_all, opening_at, of_kind, type_number, of_type, with_type, message_of}
+use Rattle.control_message.specs.Reading.{Told, first, checked_all, opening_at, of_kind, type_number, kind_named, kind_told, kind_of_pairs, of_type, with_type, message_of}
 use Rattle.control_message.specs.Grammar.{StandsFirst, HasNumber, SaysMessage, number_of, Says}
 use Rattle.control_message.specs.Faults.{IsOfKind, IsSound, IsFirstAlong, IsFault, IsToldFault}
 use Rattle.control_message.proofs.Firsts.{absent_first, first_absent, first_stands, stands_first}
 use Rattle.control_message.proofs.Along.{row_holds, is_sound, sound_is, is_first, first_is}
 use Rattle.control_message.proofs.Values.{bind_ok, ok_same, IsGood, sound_known, known_sound}
 use Rattle.control_message.proofs.Calls.{icrq_says, says_icrq, icrq_good, icrq_made, icrp_says, says_icrp, icrp_good, icrp_made, iccn_says, says_iccn, iccn_good, iccn_made, cdn_says, says_cdn, cdn_good, cdn_made}
+use Rattle.control_message.proofs.Stops.{stop_ccn_says, says_stop_ccn, stop_ccn_good, stop_ccn_made}
+use Rattle.control_message.proofs.OnlyRead.{ocrq_says, says_ocrq, ocrq_good, ocrq_made, ocrp_says, ocrp_good, wen_says, says_wen, wen_good, wen_made, sli_says, says_sli, sli_good, sli_made}
 use Rattle.control_message.proofs.Needs.{Made, made_of, made_missing}
 use Rattle.control_message.proofs.Openings.{IsOpening, opening_says, says_opening, opening_good, opening_made}
 
@@ -31,34 +33,52 @@ abbrev kind_number : Kind → ℕ
 kind_number kind.Sccrq = 1
 kind_number kind.Sccrp = 2
 kind_number kind.Scccn = 3
+kind_number kind.StopCcn = 4
 kind_number kind.Hello = 6
+kind_number kind.Ocrq = 7
+kind_number kind.Ocrp = 8
+kind_number kind.Occn = 9
 kind_number kind.Icrq = 10
 kind_number kind.Icrp = 11
 kind_number kind.Iccn = 12
 kind_number kind.Cdn = 14
+kind_number kind.Wen = 15
+kind_number kind.Sli = 16
 
 number_is : (n : ℕ) (k : Kind) → kind_of n ≡ Some k → n ≡ kind_number k
-number_is n k h = row_holds (λ (row : ℕ × Kind). row.0 ≡ kind_number row.1) n k kinds (refl, (refl, (refl, (refl, (refl, (refl, (refl, (refl, tt)))))))) h
+number_is n k h = row_holds (λ (row : ℕ × Kind). row.0 ≡ kind_number row.1) n k kinds (refl, (refl, (refl, (refl, (refl, (refl, (refl, (refl, (refl, (refl, (refl, (refl, (refl, (refl, tt)))))))))))))) h
 
 abbrev message_kind : Message → Kind
 message_kind (Sccrq o) = kind.Sccrq
 message_kind (Sccrp o) = kind.Sccrp
 message_kind Scccn = kind.Scccn
+message_kind (StopCcn tunnel result error) = kind.StopCcn
 message_kind Hello = kind.Hello
+message_kind (Ocrq session) = kind.Ocrq
+message_kind Ocrp = kind.Ocrp
+message_kind Occn = kind.Occn
 message_kind (Icrq session serial calling) = kind.Icrq
 message_kind (Icrp session) = kind.Icrp
 message_kind (Iccn speed framing sequenced) = kind.Iccn
 message_kind (Cdn session result error) = kind.Cdn
+message_kind Wen = kind.Wen
+message_kind Sli = kind.Sli
 
 kind_is : (m : Message) → kind_of (number_of m) ≡ Some (message_kind m)
 kind_is (Sccrq o) = refl
 kind_is (Sccrp o) = refl
 kind_is Scccn = refl
+kind_is (StopCcn tunnel result error) = refl
 kind_is Hello = refl
+kind_is (Ocrq session) = refl
+kind_is Ocrp = refl
+kind_is Occn = refl
 kind_is (Icrq session serial calling) = refl
 kind_is (Icrp session) = refl
 kind_is (Iccn speed framing sequenced) = refl
 kind_is (Cdn session result error) = refl
+kind_is Wen = refl
+kind_is Sli = refl
 
 sccrq_opens : IsOpening kind.Sccrq
 sccrq_opens = record { uses = refl; needs = refl }
@@ -76,41 +96,65 @@ message_says kind.Sccrp avps m sound h =
     let b = bind_ok (opening_at avps) _ m h in
     subst (λ (x : Message). (number_of x ≡ 2) × SaysMessage avps x) (ok_same b.2) (refl, opening_says kind.Sccrp avps b.0 sccrp_opens sound b.1)
 message_says kind.Scccn avps m sound h = subst (λ (x : Message). (number_of x ≡ 3) × SaysMessage avps x) (ok_same h) (refl, tt)
+message_says kind.StopCcn avps m sound h = stop_ccn_says avps m sound h
 message_says kind.Hello avps m sound h = subst (λ (x : Message). (number_of x ≡ 6) × SaysMessage avps x) (ok_same h) (refl, tt)
+message_says kind.Ocrq avps m sound h = ocrq_says avps m sound h
+message_says kind.Ocrp avps m sound h = subst (λ (x : Message). (number_of x ≡ 8) × SaysMessage avps x) (ok_same h) (refl, ocrp_says avps sound)
+message_says kind.Occn avps m sound h = subst (λ (x : Message). (number_of x ≡ 9) × SaysMessage avps x) (ok_same h) (refl, tt)
 message_says kind.Icrq avps m sound h = icrq_says avps m sound h
 message_says kind.Icrp avps m sound h = icrp_says avps m sound h
 message_says kind.Iccn avps m sound h = iccn_says avps m sound h
 message_says kind.Cdn avps m sound h = cdn_says avps m sound h
+message_says kind.Wen avps m sound h = wen_says avps m sound h
+message_says kind.Sli avps m sound h = sli_says avps m sound h
 
 says_message : (avps : List Avp) (m : Message) → SaysMessage avps m → of_kind (message_kind m) avps ≡ Ok m
 says_message avps (Sccrq o) h = rw (says_opening avps o h) refl
 says_message avps (Sccrp o) h = rw (says_opening avps o h) refl
 says_message avps Scccn h = refl
+says_message avps (StopCcn tunnel result error) h = says_stop_ccn avps tunnel result error h
 says_message avps Hello h = refl
+says_message avps (Ocrq session) h = says_ocrq avps session h
+says_message avps Ocrp h = refl
+says_message avps Occn h = refl
 says_message avps (Icrq session serial calling) h = says_icrq avps session serial calling h
 says_message avps (Icrp session) h = says_icrp avps session h
 says_message avps (Iccn speed framing sequenced) h = says_iccn avps speed framing sequenced h
 says_message avps (Cdn session result error) h = says_cdn avps session result error h
+says_message avps Wen h = says_wen avps h
+says_message avps Sli h = says_sli avps h
 
 message_good : (avps : List Avp) (m : Message) → SaysMessage avps m → AllByRecursion (IsGood avps) (uses_of (message_kind m))
 message_good avps (Sccrq o) h = opening_good avps o h
 message_good avps (Sccrp o) h = opening_good avps o h
 message_good avps Scccn h = tt
+message_good avps (StopCcn tunnel result error) h = stop_ccn_good avps tunnel result error h
 message_good avps Hello h = tt
+message_good avps (Ocrq session) h = ocrq_good avps session h
+message_good avps Ocrp h = ocrp_good avps h
+message_good avps Occn h = tt
 message_good avps (Icrq session serial calling) h = icrq_good avps session serial calling h
 message_good avps (Icrp session) h = icrp_good avps session h
 message_good avps (Iccn speed framing sequenced) h = iccn_good avps speed framing sequenced h
 message_good avps (Cdn session result error) h = cdn_good avps session result error h
+message_good avps Wen h = wen_good avps h
+message_good avps Sli h = sli_good avps h
 
 message_made : (k : Kind) (avps : List Avp) → IsSound k avps → Made k avps (of_kind k avps)
 message_made kind.Sccrq avps sound = made_of kind.Sccrq avps (opening_at avps) Sccrq (opening_made kind.Sccrq avps sccrq_opens sound)
 message_made kind.Sccrp avps sound = made_of kind.Sccrp avps (opening_at avps) Sccrp (opening_made kind.Sccrp avps sccrp_opens sound)
 message_made kind.Scccn avps sound = inl (Scccn, refl, tt)
+message_made kind.StopCcn avps sound = stop_ccn_made avps sound
 message_made kind.Hello avps sound = inl (Hello, refl, tt)
+message_made kind.Ocrq avps sound = ocrq_made avps sound
+message_made kind.Ocrp avps sound = inl (Ocrp, refl, tt)
+message_made kind.Occn avps sound = inl (Occn, refl, tt)
 message_made kind.Icrq avps sound = icrq_made avps sound
 message_made kind.Icrp avps sound = icrp_made avps sound
 message_made kind.Iccn avps sound = iccn_made avps sound
 message_made kind.Cdn avps sound = cdn_made avps sound
+message_made kind.Wen avps sound = wen_made avps
+message_made kind.Sli avps sound = sli_made avps
 
 -- ---- the type
 
@@ -140,6 +184,40 @@ type_of_number avps n h = record { first = h.has.first; plain = h.has.plain; wid
 
 number_of_type : (avps : List Avp) (a : Avp) (n : ℕ) → IsType avps a n → HasNumber 0 2 n avps
 number_of_type avps a n h = record { value = a.value; has = record { pair = a; first = h.first; plain = h.plain; same = refl }; wide = h.wide; number = h.number }
+
+-- ---- the kind that the type names
+
+kind_named_in : (avps : List Avp) (n : ℕ) (k : Option Kind) → HasNumber 0 2 n avps → kind_of n ≡ k → IfSome k (λ q. IsOfKind avps q)
+kind_named_in avps n None has names = tt
+kind_named_in avps n (Some k) has names = record { number = n; has = has; names = names }
+
+kind_in : (avps : List Avp) (a : Avp) (r : Result ℕ MessageError) → first 0 avps ≡ Some a → type_number a ≡ r → IfSome (kind_named r) (λ q. IsOfKind avps q)
+kind_in avps a (Err e) f t = tt
+kind_in avps a (Ok n) f t = kind_named_in avps n (kind_of n) (number_of_type avps a n (type_is avps a n f t)) refl
+
+kind_at : (avps : List Avp) (o : Option Avp) → first 0 avps ≡ o → IfSome (kind_told o) (λ q. IsOfKind avps q)
+kind_at avps None f = tt
+kind_at avps (Some a) f = kind_in avps a (type_number a) f refl
+
+pub kind_there : (avps : List Avp) → IfSome (kind_of_pairs avps) (λ k. IsOfKind avps k)
+unfolding kind_of_pairs
+kind_there avps = kind_at avps (first 0 avps) refl
+
+pub there_kind : (avps : List Avp) (k : Kind) → IsOfKind avps k → kind_of_pairs avps ≡ Some k
+unfolding kind_of_pairs
+there_kind avps k h =
+    let t = type_of_number avps h.number h.has in
+    rw (first_stands 0 h.has.has.pair avps t.first, t.plain, eq-eqb (length h.has.has.pair.value) 2 t.wide, t.number, h.names) refl
+
+pub no_kind : (avps : List Avp) → IsNone (kind_of_pairs avps) → (k : Kind) → ¬ IsOfKind avps k
+no_kind avps none k h = let none' : IsNone (Some k) = rw (there_kind avps k h) at none in absurd cc
+
+none_of : (avps : List Avp) (o : Option Kind) → IfSome o (λ k. IsOfKind avps k) → ((k : Kind) → ¬ IsOfKind avps k) → IsNone o
+none_of avps None h none = refl
+none_of avps (Some k) h none = absurd (none k h)
+
+pub kind_none : (avps : List Avp) → ((k : Kind) → ¬ IsOfKind avps k) → IsNone (kind_of_pairs avps)
+kind_none avps none = none_of avps (kind_of_pairs avps) (kind_there avps) none
 
 -- ---- what is read is what the pairs say
 

@@ -4,7 +4,10 @@ pub mod Walk
 pub mod Values
 pub mod Needs
 pub mod Openings
+pub mod ResultCodes
 pub mod Calls
+pub mod Stops
+pub mod OnlyRead
 pub mod Laws
 pub mod Again
 pub mod Room

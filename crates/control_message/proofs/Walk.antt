@@ -109,11 +109,17 @@ all_below : (k : Kind) → AllByRecursion (λ (u : ℕ × Shape). u.0 < 80) (use
 all_below kind.Sccrq = (omega arith, (omega arith, (omega arith, (omega arith, (omega arith, (omega arith, tt))))))
 all_below kind.Sccrp = (omega arith, (omega arith, (omega arith, (omega arith, (omega arith, (omega arith, tt))))))
 all_below kind.Scccn = tt
+all_below kind.StopCcn = (omega arith, (omega arith, tt))
 all_below kind.Hello = tt
+all_below kind.Ocrq = (omega arith, tt)
+all_below kind.Ocrp = (omega arith, tt)
+all_below kind.Occn = tt
 all_below kind.Icrq = (omega arith, (omega arith, (omega arith, tt)))
 all_below kind.Icrp = (omega arith, tt)
 all_below kind.Iccn = (omega arith, (omega arith, (omega arith, tt)))
 all_below kind.Cdn = (omega arith, (omega arith, tt))
+all_below kind.Wen = (omega arith, tt)
+all_below kind.Sli = (omega arith, tt)
 
 pub used_below : (k : Kind) (n : ℕ) (s : Shape) → shape_of k n ≡ Some s → n < 80
 used_below k n s h = row_holds (λ (u : ℕ × Shape). u.0 < 80) n s (uses_of k) (all_below k) h

@@ -4,7 +4,7 @@ use Rattle.std.specs.List.{AllByRecursion}
 use Rattle.byteorder.specs.Endian.{big_number}
 use Rattle.avp_codec.specs.declared.avp.Avp.{Avp}
 use Rattle.control_message.specs.declared.message.Message.{Message}
-use Rattle.control_message.specs.declared.message.Message.TheVariants.{Sccrq, Sccrp, Scccn, Hello, Icrq, Icrp, Iccn, Cdn}
+use Rattle.control_message.specs.declared.message.Message.TheVariants.{Sccrq, Sccrp, Scccn, StopCcn, Hello, Ocrq, Ocrp, Occn, Icrq, Icrp, Iccn, Cdn, Wen, Sli}
 use Rattle.control_message.specs.declared.message.Opening.{Opening}
 use Rattle.control_message.specs.declared.message.Failover.{Failover}
 use Rattle.control_message.specs.declared.message.Read.{Read}
@@ -64,6 +64,12 @@ pub record HasNumber (n width x : ℕ) (avps : List Avp) : Type 0 where
   pub wide : length value ≡ width
   pub number : big_number width value ≡ x
 
+-- the first pair of an attribute is plain, and its value has so many bytes
+pub record HasWidth (n width : ℕ) (avps : List Avp) : Type 0 where
+  pub value : List ℕ
+  pub has : HasValue n value avps
+  pub wide : length value ≡ width
+
 -- Failover Capability: two bytes of flags, then four of milliseconds
 pub record HasFailover (f : Failover) (avps : List Avp) : Type 0 where
   pub value : List ℕ
@@ -113,6 +119,15 @@ abbrev pub SaysSequenced : List Avp → Bool → Type 0
 SaysSequenced avps false = IsAbsent 39 avps
 SaysSequenced avps true = (value : List ℕ) × HasValue 39 value avps
 
+-- An Assigned Tunnel ID of 0 is good here: an opening may be refused by an end that has assigned none.
+pub record SaysStopCcn (avps : List Avp) (id code : ℕ) (error : Option ℕ) : Type 0 where
+  pub result : HasResultCode code error avps
+  pub tunnel : HasNumber 9 2 id avps
+
+-- Assigned Session ID needn't be there, and isn't 0 where it is
+abbrev pub SaysOcrp : List Avp → Type 0
+SaysOcrp avps = ((id : ℕ) × HasNumber 14 2 id avps × (id ≢ 0)) ⊎ IsAbsent 14 avps
+
 pub record SaysIcrq (avps : List Avp) (id count : ℕ) (caller : Option (List ℕ)) : Type 0 where
   pub session : HasNumber 14 2 id avps
   pub serial : HasNumber 15 4 count avps
@@ -136,22 +151,35 @@ abbrev pub SaysMessage : List Avp → Message → Type 0
 SaysMessage avps (Sccrq o) = SaysOpening avps o
 SaysMessage avps (Sccrp o) = SaysOpening avps o
 SaysMessage avps Scccn = ⊤
+SaysMessage avps (StopCcn tunnel result error) = SaysStopCcn avps tunnel result error
 SaysMessage avps Hello = ⊤
+SaysMessage avps (Ocrq session) = HasNumber 14 2 session avps
+SaysMessage avps Ocrp = SaysOcrp avps
+SaysMessage avps Occn = ⊤
 SaysMessage avps (Icrq session serial calling) = SaysIcrq avps session serial calling
 SaysMessage avps (Icrp session) = SaysIcrp avps session
 SaysMessage avps (Iccn speed framing sequenced) = SaysIccn avps speed framing sequenced
 SaysMessage avps (Cdn session result error) = SaysCdn avps session result error
+-- Call Errors: two reserved bytes, six counters of four; ACCM: two reserved bytes, two maps of four (RFC 2661 section 4.4.6)
+SaysMessage avps Wen = HasWidth 34 26 avps
+SaysMessage avps Sli = HasWidth 35 10 avps
 
 -- the Message Type of each message
 abbrev pub number_of : Message → ℕ
 number_of (Sccrq o) = 1
 number_of (Sccrp o) = 2
 number_of Scccn = 3
+number_of (StopCcn tunnel result error) = 4
 number_of Hello = 6
+number_of (Ocrq session) = 7
+number_of Ocrp = 8
+number_of Occn = 9
 number_of (Icrq session serial calling) = 10
 number_of (Icrp session) = 11
 number_of (Iccn speed framing sequenced) = 12
 number_of (Cdn session result error) = 14
+number_of Wen = 15
+number_of Sli = 16
 
 -- a message: its type, its values, and nothing unknown that is mandatory
 pub record SaysKnown (avps : List Avp) (m : Message) : Type 0 where

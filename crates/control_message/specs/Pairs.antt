@@ -3,7 +3,7 @@ use Rattle.std.specs.Prelude.{◌≡◌, ℕ, ◌<◌, ◌≤◌, ◌^◌, true,
 use Rattle.wire_base.specs.Numbers.{u16_bytes, u32_bytes}
 use Rattle.avp_codec.specs.declared.avp.Avp.{Avp}
 use Rattle.control_message.specs.declared.message.Message.{Message}
-use Rattle.control_message.specs.declared.message.Message.TheVariants.{Sccrq, Sccrp, Scccn, Hello, Icrq, Icrp, Iccn, Cdn}
+use Rattle.control_message.specs.declared.message.Message.TheVariants.{Sccrq, Sccrp, Scccn, StopCcn, Hello, Ocrq, Ocrp, Occn, Icrq, Icrp, Iccn, Cdn, Wen, Sli}
 use Rattle.control_message.specs.declared.message.Opening.{Opening}
 use Rattle.control_message.specs.declared.message.Failover.{Failover}
 
@@ -44,6 +44,8 @@ abbrev pub pairs_of : Message → List Avp
 pairs_of (Sccrq o) = opening_pairs 1 o
 pairs_of (Sccrp o) = opening_pairs 2 o
 pairs_of Scccn = pair 0 (u16_bytes 3) ∷ []
+-- Assigned Tunnel ID, Result Code
+pairs_of (StopCcn tunnel result error) = pair 0 (u16_bytes 4) ∷ pair 9 (u16_bytes tunnel) ∷ pair 1 (result_code_bytes result error) ∷ []
 pairs_of Hello = pair 0 (u16_bytes 6) ∷ []
 -- Assigned Session ID, Call Serial Number
 pairs_of (Icrq session serial calling) = pair 0 (u16_bytes 10) ∷ pair 14 (u16_bytes session) ∷ pair 15 (u32_bytes serial) ∷ calling_pairs calling
@@ -53,6 +55,12 @@ pairs_of (Icrp session) = pair 0 (u16_bytes 11) ∷ pair 14 (u16_bytes session) 
 pairs_of (Iccn speed framing sequenced) = pair 0 (u16_bytes 12) ∷ pair 24 (u32_bytes speed) ∷ pair 19 (u32_bytes framing) ∷ []
 -- Result Code, Assigned Session ID
 pairs_of (Cdn session result error) = pair 0 (u16_bytes 14) ∷ pair 1 (result_code_bytes result error) ∷ pair 14 (u16_bytes session) ∷ []
+-- those that are only read
+pairs_of (Ocrq session) = []
+pairs_of Ocrp = []
+pairs_of Occn = []
+pairs_of Wen = []
+pairs_of Sli = []
 
 -- version 1.0, no id or window that is 0, a name that fits into a pair, and the failover capability told
 pub record IsWrittenOpening (o : Opening) : Type 0 where
@@ -70,8 +78,14 @@ abbrev pub IsWritten : Message → Type 0
 IsWritten (Sccrq o) = IsWrittenOpening o
 IsWritten (Sccrp o) = IsWrittenOpening o
 IsWritten Scccn = ⊤
+IsWritten (StopCcn tunnel result error) = (tunnel < 2 ^ 16) × (result < 2 ^ 16) × IfSome error (λ x. x < 2 ^ 16)
 IsWritten Hello = ⊤
 IsWritten (Icrq session serial calling) = (session < 2 ^ 16) × (serial < 2 ^ 32) × IsSomeAnd calling (λ v. length v ≤ 1017)
 IsWritten (Icrp session) = (session < 2 ^ 16) × (0 < session)
 IsWritten (Iccn speed framing sequenced) = (speed < 2 ^ 32) × (framing < 2 ^ 32) × (sequenced ≡ false)
 IsWritten (Cdn session result error) = (session < 2 ^ 16) × (result < 2 ^ 16) × IfSome error (λ x. x < 2 ^ 16)
+IsWritten (Ocrq session) = ⊥
+IsWritten Ocrp = ⊥
+IsWritten Occn = ⊥
+IsWritten Wen = ⊥
+IsWritten Sli = ⊥

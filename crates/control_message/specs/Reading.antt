@@ -7,7 +7,7 @@ use Rattle.control_message.specs.declared.kind.Kind.{Kind}
 use Rattle.control_message.specs.declared.kind.Kind.TheVariants as kind
 use Rattle.control_message.specs.declared.kind.Shape.{Shape}
 use Rattle.control_message.specs.declared.message.Message.{Message}
-use Rattle.control_message.specs.declared.message.Message.TheVariants.{Sccrq, Sccrp, Scccn, Hello, Icrq, Icrp, Iccn, Cdn}
+use Rattle.control_message.specs.declared.message.Message.TheVariants.{Sccrq, Sccrp, Scccn, StopCcn, Hello, Ocrq, Ocrp, Occn, Icrq, Icrp, Iccn, Cdn, Wen, Sli}
 use Rattle.control_message.specs.declared.message.Opening.{Opening}
 use Rattle.control_message.specs.declared.message.Failover.{Failover}
 use Rattle.control_message.specs.declared.message.Read.{Read}
@@ -161,11 +161,29 @@ result_code_in value =
 unfoldable pub result_code_at : List Avp → Result (ℕ × Option ℕ) MessageError
 result_code_at avps = value_at 1 avps >>= λ v. result_code_in v
 
+unfoldable pub stop_ccn_at : List Avp → Result Message MessageError
+stop_ccn_at avps = do
+  code ← result_code_at avps
+  tunnel ← u16_at 9 avps
+  Ok (StopCcn tunnel code.0 code.1)
+
+unfoldable pub ocrq_at : List Avp → Result Message MessageError
+ocrq_at avps = do
+  session ← u16_at 14 avps
+  Ok (Ocrq session)
+
 unfoldable pub cdn_at : List Avp → Result Message MessageError
 cdn_at avps = do
   code ← result_code_at avps
   session ← u16_at 14 avps
   Ok (Cdn session code.0 code.1)
+
+-- Call Errors and ACCM have to be there, and nothing of them is kept
+unfoldable pub wen_at : List Avp → Result Message MessageError
+wen_at avps = value_at 34 avps >>= λ v. Ok Wen
+
+unfoldable pub sli_at : List Avp → Result Message MessageError
+sli_at avps = value_at 35 avps >>= λ v. Ok Sli
 
 -- ---- messages
 
@@ -174,15 +192,33 @@ abbrev pub of_kind : Kind → List Avp → Result Message MessageError
 of_kind kind.Sccrq avps = opening_at avps >>= λ o. Ok (Sccrq o)
 of_kind kind.Sccrp avps = opening_at avps >>= λ o. Ok (Sccrp o)
 of_kind kind.Scccn avps = Ok Scccn
+of_kind kind.StopCcn avps = stop_ccn_at avps
 of_kind kind.Hello avps = Ok Hello
+of_kind kind.Ocrq avps = ocrq_at avps
+of_kind kind.Ocrp avps = Ok Ocrp
+of_kind kind.Occn avps = Ok Occn
 of_kind kind.Icrq avps = icrq_at avps
 of_kind kind.Icrp avps = icrp_at avps
 of_kind kind.Iccn avps = iccn_at avps
 of_kind kind.Cdn avps = cdn_at avps
+of_kind kind.Wen avps = wen_at avps
+of_kind kind.Sli avps = sli_at avps
 
 -- the number of a Message Type
 abbrev pub type_number : Avp → Result ℕ MessageError
 type_number a = if not a.hidden && length a.value == 2 then Ok (big_number 2 a.value) else Err NoType
+
+-- the kind that the first type names, whatever else the pairs say
+abbrev pub kind_named : Result ℕ MessageError → Option Kind
+kind_named (Ok n) = kind_of n
+kind_named (Err e) = None
+
+abbrev pub kind_told : Option Avp → Option Kind
+kind_told None = None
+kind_told (Some a) = kind_named (type_number a)
+
+unfoldable pub kind_of_pairs : List Avp → Option Kind
+kind_of_pairs avps = kind_told (first 0 avps)
 
 -- a message whose type has a number, which names a kind or not
 abbrev pub of_type : ℕ → Bool → Option Kind → List Avp → Result Read MessageError

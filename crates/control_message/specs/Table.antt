@@ -2,9 +2,9 @@
 use Rattle.std.specs.Prelude.{ℕ, ◌==◌, ◌&&◌, ◌||◌, nat_le, not, Bool, true, List, [], ◌∷◌, length, find, Option, option_map}
 use Rattle.byteorder.specs.Endian.{big_number}
 use Rattle.control_message.specs.declared.kind.Kind.{Kind}
-use Rattle.control_message.specs.declared.kind.Kind.TheVariants.{Sccrq, Sccrp, Scccn, Hello, Icrq, Icrp, Iccn, Cdn}
+use Rattle.control_message.specs.declared.kind.Kind.TheVariants.{Sccrq, Sccrp, Scccn, StopCcn, Hello, Ocrq, Ocrp, Occn, Icrq, Icrp, Iccn, Cdn, Wen, Sli}
 use Rattle.control_message.specs.declared.kind.Shape.{Shape}
-use Rattle.control_message.specs.declared.kind.Shape.TheVariants.{Text, Short, Nonzero, Long, ShortLong, ResultCode}
+use Rattle.control_message.specs.declared.kind.Shape.TheVariants.{Text, Short, Nonzero, Long, ShortLong, ResultCode, CallErrors, Accm}
 
 -- what stands beside a number in a table
 abbrev pub look_up : {V : Type 0} → ℕ → List (ℕ × V) → Option V
@@ -12,7 +12,22 @@ look_up {V} n rows = option_map (λ (row : ℕ × V). row.1) (find (λ (row : �
 
 -- the Message Types that are known
 abbrev pub kinds : List (ℕ × Kind)
-kinds = (1, Sccrq) ∷ (2, Sccrp) ∷ (3, Scccn) ∷ (6, Hello) ∷ (10, Icrq) ∷ (11, Icrp) ∷ (12, Iccn) ∷ (14, Cdn) ∷ []
+kinds =
+    (1, Sccrq)
+    ∷ (2, Sccrp)
+    ∷ (3, Scccn)
+    ∷ (4, StopCcn)
+    ∷ (6, Hello)
+    ∷ (7, Ocrq)
+    ∷ (8, Ocrp)
+    ∷ (9, Occn)
+    ∷ (10, Icrq)
+    ∷ (11, Icrp)
+    ∷ (12, Iccn)
+    ∷ (14, Cdn)
+    ∷ (15, Wen)
+    ∷ (16, Sli)
+    ∷ []
 
 -- the kind that a number names
 abbrev pub kind_of : ℕ → Option Kind
@@ -27,7 +42,13 @@ abbrev pub uses_of : Kind → List (ℕ × Shape)
 uses_of Sccrq = opening_uses
 uses_of Sccrp = opening_uses
 uses_of Scccn = []
+-- Result Code, Assigned Tunnel ID
+uses_of StopCcn = (1, ResultCode) ∷ (9, Short) ∷ []
 uses_of Hello = []
+-- Assigned Session ID
+uses_of Ocrq = (14, Short) ∷ []
+uses_of Ocrp = (14, Nonzero) ∷ []
+uses_of Occn = []
 -- Assigned Session ID, Call Serial Number, Calling Number
 uses_of Icrq = (14, Short) ∷ (15, Long) ∷ (22, Text) ∷ []
 -- Assigned Session ID
@@ -36,17 +57,27 @@ uses_of Icrp = (14, Nonzero) ∷ []
 uses_of Iccn = (19, Long) ∷ (24, Long) ∷ (39, Text) ∷ []
 -- Result Code, Assigned Session ID
 uses_of Cdn = (1, ResultCode) ∷ (14, Short) ∷ []
+-- Call Errors
+uses_of Wen = (34, CallErrors) ∷ []
+-- ACCM
+uses_of Sli = (35, Accm) ∷ []
 
 -- those that it needs, in order
 abbrev pub needs_of : Kind → List ℕ
 needs_of Sccrq = 2 ∷ 3 ∷ 7 ∷ 9 ∷ []
 needs_of Sccrp = 2 ∷ 3 ∷ 7 ∷ 9 ∷ []
 needs_of Scccn = []
+needs_of StopCcn = 1 ∷ 9 ∷ []
 needs_of Hello = []
+needs_of Ocrq = 14 ∷ []
+needs_of Ocrp = []
+needs_of Occn = []
 needs_of Icrq = 14 ∷ 15 ∷ []
 needs_of Icrp = 14 ∷ []
 needs_of Iccn = 19 ∷ 24 ∷ []
 needs_of Cdn = 1 ∷ 14 ∷ []
+needs_of Wen = 34 ∷ []
+needs_of Sli = 35 ∷ []
 
 -- the shape of an attribute's value in a message of a kind, where it uses the attribute
 abbrev pub shape_of : Kind → ℕ → Option Shape
@@ -60,3 +91,5 @@ fits Nonzero value = length value == 2 && not (big_number 2 value == 0)
 fits Long value = length value == 4
 fits ShortLong value = length value == 6
 fits ResultCode value = length value == 2 || nat_le 4 (length value)
+fits CallErrors value = length value == 26
+fits Accm value = length value == 10

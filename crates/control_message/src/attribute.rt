@@ -24,6 +24,10 @@ pub const CALLING_NUMBER: u16 = 22;
 
 pub const CONNECT_SPEED: u16 = 24;
 
+pub const CALL_ERRORS: u16 = 34;
+
+pub const ACCM: u16 = 35;
+
 pub const RANDOM_VECTOR: u16 = 36;
 
 pub const SEQUENCING_REQUIRED: u16 = 39;

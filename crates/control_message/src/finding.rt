@@ -5,7 +5,7 @@ ghost use Rattle.std.specs.Option.{option_copied};
 ghost use Rattle.control_message.specs.Grammar.{HasPlainShort, HasNoPlainShort};
 ghost use Rattle.control_message.specs.Reading.{is_listed, is_recognised, is_at, is_vector, first, number_in, is_plain_short, plain_short};
 
-use crate::attribute::{ASSIGNED_TUNNEL, RANDOM_VECTOR};
+use crate::attribute::{ASSIGNED_SESSION, ASSIGNED_TUNNEL, RANDOM_VECTOR};
 use crate::message::MessageError;
 use avp_codec::{Avp, Avps};
 use wire_base::take_u16;
@@ -100,4 +100,15 @@ pub fn assigned_tunnel(avps: &Avps) -> Option<u16>
     ensures exact { result ≡ plain_short ASSIGNED_TUNNEL avps.now }
 {
     plain_short(avps, ASSIGNED_TUNNEL)
+}
+
+/// The number of the first Assigned Session ID that is recognised, plain and of two bytes (RFC 2661 section 4.4.4),
+/// whatever else the pairs say: a call that is refused is refused to it.
+pub fn assigned_session(avps: &Avps) -> Option<u16>
+    ensures found { IfSome result (λ x. HasPlainShort ASSIGNED_SESSION x avps.now) }
+    ensures none { IsNone result ↔ HasNoPlainShort ASSIGNED_SESSION avps.now }
+    // For callers: the answer as a function of the pairs.
+    ensures exact { result ≡ plain_short ASSIGNED_SESSION avps.now }
+{
+    plain_short(avps, ASSIGNED_SESSION)
 }

@@ -4,9 +4,9 @@ ghost use Rattle.std.specs.Prelude.{◌≡◌};
 ghost use Rattle.control_message.specs.Table.{kind_of, shape_of, fits};
 
 use crate::attribute::{
-    ASSIGNED_SESSION, ASSIGNED_TUNNEL, CALL_SERIAL_NUMBER, CALLING_NUMBER, CONNECT_SPEED, FAILOVER,
-    FRAMING_CAPABILITIES, FRAMING_TYPE, HOST_NAME, PROTOCOL_VERSION, RESULT_CODE,
-    SEQUENCING_REQUIRED, WINDOW,
+    ACCM, ASSIGNED_SESSION, ASSIGNED_TUNNEL, CALL_ERRORS, CALL_SERIAL_NUMBER, CALLING_NUMBER,
+    CONNECT_SPEED, FAILOVER, FRAMING_CAPABILITIES, FRAMING_TYPE, HOST_NAME, PROTOCOL_VERSION,
+    RESULT_CODE, SEQUENCING_REQUIRED, WINDOW,
 };
 use wire_base::take_u16;
 
@@ -17,7 +17,15 @@ pub const SCCRP: u16 = 2;
 
 pub const SCCCN: u16 = 3;
 
+pub const STOP_CCN: u16 = 4;
+
 pub const HELLO: u16 = 6;
+
+pub const OCRQ: u16 = 7;
+
+pub const OCRP: u16 = 8;
+
+pub const OCCN: u16 = 9;
 
 pub const ICRQ: u16 = 10;
 
@@ -27,17 +35,41 @@ pub const ICCN: u16 = 12;
 
 pub const CDN: u16 = 14;
 
-/// The kind of a control message.
+pub const WEN: u16 = 15;
+
+pub const SLI: u16 = 16;
+
+/// The kind of a control message, as its Message Type names it (RFC 2661 section 3.2).
 #[derive(Clone, Copy, Debug, PartialEq, Eq)]
 pub enum Kind {
+    /// Start-Control-Connection-Request.
     Sccrq,
+    /// Start-Control-Connection-Reply.
     Sccrp,
+    /// Start-Control-Connection-Connected.
     Scccn,
+    /// Stop-Control-Connection-Notification.
+    StopCcn,
+    /// Hello.
     Hello,
+    /// Outgoing-Call-Request.
+    Ocrq,
+    /// Outgoing-Call-Reply.
+    Ocrp,
+    /// Outgoing-Call-Connected.
+    Occn,
+    /// Incoming-Call-Request.
     Icrq,
+    /// Incoming-Call-Reply.
     Icrp,
+    /// Incoming-Call-Connected.
     Iccn,
+    /// Call-Disconnect-Notify.
     Cdn,
+    /// WAN-Error-Notify.
+    Wen,
+    /// Set-Link-Info.
+    Sli,
 }
 
 /// The shape of an attribute's value.
@@ -55,28 +87,38 @@ pub enum Shape {
     ShortLong,
     /// A number in two bytes, then nothing, or another in two and any bytes behind it (RFC 2661 section 4.4.2).
     ResultCode,
+    /// Two reserved bytes and six counters of four (RFC 2661 section 4.4.6).
+    CallErrors,
+    /// Two reserved bytes and two maps of four (RFC 2661 section 4.4.6).
+    Accm,
 }
 
 impl Kind {
     /// The kind that a Message Type names (RFC 2661 section 3.2).
-    pub fn from_number(number: u16) -> Option<Kind>
+    pub(crate) fn from_number(number: u16) -> Option<Kind>
         ensures { result ≡ kind_of number }
     {
         match number {
             SCCRQ => Some(Kind::Sccrq),
             SCCRP => Some(Kind::Sccrp),
             SCCCN => Some(Kind::Scccn),
+            STOP_CCN => Some(Kind::StopCcn),
             HELLO => Some(Kind::Hello),
+            OCRQ => Some(Kind::Ocrq),
+            OCRP => Some(Kind::Ocrp),
+            OCCN => Some(Kind::Occn),
             ICRQ => Some(Kind::Icrq),
             ICRP => Some(Kind::Icrp),
             ICCN => Some(Kind::Iccn),
             CDN => Some(Kind::Cdn),
+            WEN => Some(Kind::Wen),
+            SLI => Some(Kind::Sli),
             _ => None,
         }
     }
 
     /// The shape of an attribute's value in a message of the kind; None where such a message doesn't use it.
-    pub fn shape(&self, attribute: u16) -> Option<Shape>
+    pub(crate) fn shape(&self, attribute: u16) -> Option<Shape>
         ensures { result ≡ shape_of self.now attribute }
     {
         match self {
@@ -89,14 +131,23 @@ impl Kind {
                 FAILOVER => Some(Shape::ShortLong),
                 _ => None,
             },
-            Kind::Scccn | Kind::Hello => None,
+            Kind::Scccn | Kind::Hello | Kind::Occn => None,
+            Kind::StopCcn => match attribute {
+                RESULT_CODE => Some(Shape::ResultCode),
+                ASSIGNED_TUNNEL => Some(Shape::Short),
+                _ => None,
+            },
+            Kind::Ocrq => match attribute {
+                ASSIGNED_SESSION => Some(Shape::Short),
+                _ => None,
+            },
             Kind::Icrq => match attribute {
                 ASSIGNED_SESSION => Some(Shape::Short),
                 CALL_SERIAL_NUMBER => Some(Shape::Long),
                 CALLING_NUMBER => Some(Shape::Text),
                 _ => None,
             },
-            Kind::Icrp => match attribute {
+            Kind::Ocrp | Kind::Icrp => match attribute {
                 ASSIGNED_SESSION => Some(Shape::Nonzero),
                 _ => None,
             },
@@ -109,6 +160,14 @@ impl Kind {
             Kind::Cdn => match attribute {
                 RESULT_CODE => Some(Shape::ResultCode),
                 ASSIGNED_SESSION => Some(Shape::Short),
+                _ => None,
+            },
+            Kind::Wen => match attribute {
+                CALL_ERRORS => Some(Shape::CallErrors),
+                _ => None,
+            },
+            Kind::Sli => match attribute {
+                ACCM => Some(Shape::Accm),
                 _ => None,
             },
         }
@@ -127,6 +186,8 @@ impl Shape {
             Shape::Long => value.len() == 4,
             Shape::ShortLong => value.len() == 6,
             Shape::ResultCode => value.len() == 2 || 4 <= value.len(),
+            Shape::CallErrors => value.len() == 26,
+            Shape::Accm => value.len() == 10,
         }
     }
 }

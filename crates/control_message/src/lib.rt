@@ -9,7 +9,8 @@ mod message;
 mod reading;
 mod writing;
 
-pub use finding::assigned_tunnel;
+pub use finding::{assigned_session, assigned_tunnel};
+pub use kind::Kind;
 pub use message::{Failover, Message, MessageError, Opening, Read};
-pub use reading::{read_message, reads_what_was_written};
+pub use reading::{kind_of_pairs, read_message, reads_what_was_written};
 pub use writing::{has_room, write_message};

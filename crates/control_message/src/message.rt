@@ -14,8 +14,25 @@ pub enum Message {
     Sccrp(Opening),
     /// Start-Control-Connection-Connected, which ends the set-up.
     Scccn,
+    /// Stop-Control-Connection-Notification, which ends a tunnel: Assigned Tunnel ID of its maker, which is 0 where it
+    /// has assigned none, and Result Code, with its Error Code where that is told (RFC 2661 section 4.4.2). A text
+    /// behind them is passed over as it is read.
+    StopCcn {
+        tunnel: u16,
+        result: u16,
+        error: Option<u16>,
+    },
     /// Hello, which asks whether the peer is still there.
     Hello,
+    /// Outgoing-Call-Request, which asks for a call to be placed, with Assigned Session ID, by which its maker wants it
+    /// to be addressed. It is only read, and what else it carries isn't looked at.
+    Ocrq {
+        session: u16,
+    },
+    /// Outgoing-Call-Reply, which accepts it. It is only read.
+    Ocrp,
+    /// Outgoing-Call-Connected, which tells that the call was answered. It is only read.
+    Occn,
     /// Incoming-Call-Request, which announces a call: Assigned Session ID, by which its maker wants it to be addressed,
     /// Call Serial Number, and Calling Number, where it is told.
     Icrq {
@@ -42,6 +59,10 @@ pub enum Message {
         result: u16,
         error: Option<u16>,
     },
+    /// WAN-Error-Notify, which counts errors on a line: Call Errors has to be there, and isn't kept. It is only read.
+    Wen,
+    /// Set-Link-Info, which tells what PPP has agreed on: ACCM has to be there, and isn't kept. It is only read.
+    Sli,
 }
 
 /// What the two ends of a tunnel tell each other as it is opened (RFC 2661 sections 6.1 and 6.2).

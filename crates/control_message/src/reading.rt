@@ -1,22 +1,23 @@
 //! Reading control messages.
 
-ghost use Rattle.std.specs.Prelude.{◌≡◌, Ok, Err, IfOk, IfErr, MatchResult};
+ghost use Rattle.std.specs.Prelude.{◌≡◌, ◌↔◌, Ok, Err, IfOk, IfErr, MatchResult, IsNone, IfSome};
 ghost use Rattle.wire_base.specs.Answers.{Gives};
 ghost use Rattle.avp_codec.specs.Reading.{avps_of};
 ghost use Rattle.avp_codec.specs.Spelling.{spelling};
+ghost use Rattle.control_message.specs.declared.kind.Kind.{Kind};
 ghost use Rattle.control_message.specs.declared.message.Message.{Message};
 ghost use Rattle.control_message.specs.declared.message.Read.{Read};
 ghost use Rattle.control_message.specs.declared.message.Read.TheVariants.{Known};
 ghost use Rattle.control_message.specs.declared.message.MessageError.{MessageError};
 ghost use Rattle.control_message.specs.Grammar.{Says};
-ghost use Rattle.control_message.specs.Faults.{IsFault, IsToldFault};
+ghost use Rattle.control_message.specs.Faults.{IsOfKind, IsFault, IsToldFault};
 ghost use Rattle.control_message.specs.Pairs.{pairs_of, IsWritten};
-ghost use Rattle.control_message.specs.Reading.{Told, value_at, u16_at, u32_at, window_at, failover_value, failover_at, opening_at, calling_at, icrq_at, icrp_at, iccn_at, result_code_in, result_code_at, cdn_at, of_kind, type_number, message_of};
+ghost use Rattle.control_message.specs.Reading.{Told, value_at, u16_at, u32_at, window_at, failover_value, failover_at, opening_at, calling_at, icrq_at, icrp_at, iccn_at, result_code_in, result_code_at, stop_ccn_at, ocrq_at, cdn_at, wen_at, sli_at, of_kind, type_number, kind_of_pairs, message_of};
 
 use crate::attribute::{
-    ASSIGNED_SESSION, ASSIGNED_TUNNEL, CALL_SERIAL_NUMBER, CALLING_NUMBER, CONNECT_SPEED, FAILOVER,
-    FRAMING_CAPABILITIES, FRAMING_TYPE, HOST_NAME, MESSAGE_TYPE, PROTOCOL_VERSION, RESULT_CODE,
-    SEQUENCING_REQUIRED, WINDOW,
+    ACCM, ASSIGNED_SESSION, ASSIGNED_TUNNEL, CALL_ERRORS, CALL_SERIAL_NUMBER, CALLING_NUMBER,
+    CONNECT_SPEED, FAILOVER, FRAMING_CAPABILITIES, FRAMING_TYPE, HOST_NAME, MESSAGE_TYPE,
+    PROTOCOL_VERSION, RESULT_CODE, SEQUENCING_REQUIRED, WINDOW,
 };
 use crate::checking::check_all;
 use crate::finding::{find_avp, has_avp, u16_in};
@@ -199,6 +200,29 @@ fn result_code_of(avps: &[Avp]) -> Result<(u16, Option<u16>), MessageError>
     result_code_in(value)
 }
 
+/// Stop-Control-Connection-Notification.
+#[tactic(auto, unfolding(crate::specs::Reading::stop_ccn_at))]
+fn stop_ccn_of(avps: &[Avp]) -> Result<Message, MessageError>
+    ensures { result ≡ stop_ccn_at avps.now }
+{
+    let (result, error) = result_code_of(avps)?;
+    let tunnel = u16_of(avps, ASSIGNED_TUNNEL)?;
+    Ok(Message::StopCcn {
+        tunnel,
+        result,
+        error,
+    })
+}
+
+/// Outgoing-Call-Request.
+#[tactic(auto, unfolding(crate::specs::Reading::ocrq_at))]
+fn ocrq_of(avps: &[Avp]) -> Result<Message, MessageError>
+    ensures { result ≡ ocrq_at avps.now }
+{
+    let session = u16_of(avps, ASSIGNED_SESSION)?;
+    Ok(Message::Ocrq { session })
+}
+
 /// Call-Disconnect-Notify.
 #[tactic(auto, unfolding(crate::specs::Reading::cdn_at))]
 fn cdn_of(avps: &[Avp]) -> Result<Message, MessageError>
@@ -211,6 +235,24 @@ fn cdn_of(avps: &[Avp]) -> Result<Message, MessageError>
         result,
         error,
     })
+}
+
+/// WAN-Error-Notify.
+#[tactic(auto, unfolding(crate::specs::Reading::wen_at))]
+fn wen_of(avps: &[Avp]) -> Result<Message, MessageError>
+    ensures { result ≡ wen_at avps.now }
+{
+    let _errors = value_of(avps, CALL_ERRORS)?;
+    Ok(Message::Wen)
+}
+
+/// Set-Link-Info.
+#[tactic(auto, unfolding(crate::specs::Reading::sli_at))]
+fn sli_of(avps: &[Avp]) -> Result<Message, MessageError>
+    ensures { result ≡ sli_at avps.now }
+{
+    let _maps = value_of(avps, ACCM)?;
+    Ok(Message::Sli)
 }
 
 /// The message of a kind that the pairs make.
@@ -227,11 +269,17 @@ fn message_of_kind(alloc: Global, kind: Kind, avps: &[Avp]) -> Result<Message, M
             Ok(Message::Sccrp(opening))
         }
         Kind::Scccn => Ok(Message::Scccn),
+        Kind::StopCcn => stop_ccn_of(avps),
         Kind::Hello => Ok(Message::Hello),
+        Kind::Ocrq => ocrq_of(avps),
+        Kind::Ocrp => Ok(Message::Ocrp),
+        Kind::Occn => Ok(Message::Occn),
         Kind::Icrq => icrq_of(alloc, avps),
         Kind::Icrp => icrp_of(avps),
         Kind::Iccn => iccn_of(avps),
         Kind::Cdn => cdn_of(avps),
+        Kind::Wen => wen_of(avps),
+        Kind::Sli => sli_of(avps),
     }
 }
 
@@ -246,6 +294,31 @@ fn number_of_type(avp: &Avp) -> Result<u16, MessageError>
         Ok(number) => Ok(number),
         Err(_) => Err(MessageError::NoType),
     }
+}
+
+/// The kind of the first Message Type, as a function of the pairs.
+#[tactic(auto, unfolding(crate::specs::Reading::kind_of_pairs))]
+fn type_kind(avps: &Avps) -> Option<Kind>
+    ensures { result ≡ kind_of_pairs avps.now }
+{
+    let avp = find_avp(avps.as_slice(), MESSAGE_TYPE)?;
+    match number_of_type(avp) {
+        Ok(number) => Kind::from_number(number),
+        Err(_) => None,
+    }
+}
+
+/// The kind that the first Message Type names, whatever else the pairs say: a message that has a fault is answered by
+/// its kind. None where there is no type, where it can't be read, and where it is unknown.
+pub fn kind_of_pairs(avps: &Avps) -> Option<Kind>
+    // A kind that is told is the one that the type names.
+    ensures found { IfSome result (λ k. IsOfKind avps.now k) }
+    // None is told exactly where the type names none.
+    ensures none { IsNone result ↔ ((k : Kind) → ¬ IsOfKind avps.now k) }
+    // For callers: the answer as a function of the pairs.
+    ensures exact { result ≡ kind_of_pairs avps.now }
+{
+    type_kind(avps)
 }
 
 /// The whole reading, with the answer as a function of the pairs.

@@ -5,7 +5,7 @@ ghost use Rattle.std.specs.Option.{ForSome};
 ghost use Rattle.wire_base.specs.Numbers.{u16_bytes, u32_bytes};
 ghost use Rattle.avp_codec.specs.Spelling.{spelling, spelling_of};
 ghost use Rattle.control_message.specs.declared.message.Message.{Message};
-ghost use Rattle.control_message.specs.declared.message.Message.TheVariants.{Icrq, Cdn};
+ghost use Rattle.control_message.specs.declared.message.Message.TheVariants.{StopCcn, Icrq, Cdn};
 ghost use Rattle.control_message.specs.Pairs.{pair, pairs_of, opening_pairs, failover_pairs, calling_pairs, result_code_bytes, IsWritten};
 
 use crate::attribute::{
@@ -13,7 +13,7 @@ use crate::attribute::{
     FRAMING_CAPABILITIES, FRAMING_TYPE, HOST_NAME, MESSAGE_TYPE, PROTOCOL_VERSION, RESULT_CODE,
     WINDOW,
 };
-use crate::kind::{CDN, HELLO, ICCN, ICRP, ICRQ, SCCCN, SCCRP, SCCRQ};
+use crate::kind::{CDN, HELLO, ICCN, ICRP, ICRQ, SCCCN, SCCRP, SCCRQ, STOP_CCN};
 use crate::message::{Failover, Message, Opening};
 use avp_codec::{Avp, write_avp};
 use wire_base::{Bytes, NoMemory, put_u16, put_u32};
@@ -137,6 +137,15 @@ fn put_result_code(out: &mut Bytes, code: u16, error: Option<u16>) -> Result<(),
     put_pair(out, RESULT_CODE, value)
 }
 
+/// Appends the pairs of a Stop-Control-Connection-Notification.
+fn put_stop_ccn(out: &mut Bytes, tunnel: u16, code: u16, error: Option<u16>) -> Result<(), NoMemory>
+    ensures { OnOk result (out.new ≡ out.old ++ spelling (pairs_of (StopCcn tunnel code error))) }
+{
+    put_short(out, MESSAGE_TYPE, STOP_CCN)?;
+    put_short(out, ASSIGNED_TUNNEL, tunnel)?;
+    put_result_code(out, code, error)
+}
+
 /// Appends the pairs of a Call-Disconnect-Notify.
 fn put_cdn(out: &mut Bytes, session: u16, code: u16, error: Option<u16>) -> Result<(), NoMemory>
     ensures { OnOk result (out.new ≡ out.old ++ spelling (pairs_of (Cdn session code error))) }
@@ -155,6 +164,11 @@ fn put_message(out: &mut Bytes, message: &Message) -> Result<(), NoMemory>
         Message::Sccrq(opening) => put_opening(out, SCCRQ, opening),
         Message::Sccrp(opening) => put_opening(out, SCCRP, opening),
         Message::Scccn => put_short(out, MESSAGE_TYPE, SCCCN),
+        Message::StopCcn {
+            tunnel,
+            result,
+            error,
+        } => put_stop_ccn(out, *tunnel, *result, *error),
         Message::Hello => put_short(out, MESSAGE_TYPE, HELLO),
         Message::Icrq {
             session,
@@ -175,6 +189,9 @@ fn put_message(out: &mut Bytes, message: &Message) -> Result<(), NoMemory>
             result,
             error,
         } => put_cdn(out, *session, *result, *error),
+        Message::Ocrq { .. } | Message::Ocrp | Message::Occn | Message::Wen | Message::Sli => {
+            unreachable!()
+        }
     }
 }
 
