@@ -1,18 +1,17 @@
 -- The laws of reading: what is read is a schedule, each schedule is read, and the first bad line is told exactly where one is.
-use Rattle.std.proofs.Common.{◌≡◌, ℕ, suc, ◌+◌, ◌<◌, false, List, [], ◌∷◌, ◌++◌, length, map, Option, Some, None, Result, Ok, Err, refl, sym, ap, subst, ◌∙◌, append_assoc, arith, inl, inr}
+use Rattle.std.proofs.Common.{◌≡◌, ℕ, suc, ◌+◌, ◌<◌, List, [], ◌∷◌, ◌++◌, length, map, Option, Some, None, Result, Ok, Err, refl, sym, ap, subst, ◌∙◌, append_assoc, arith, inl, inr}
 use Rattle.std.specs.Prelude.{IfOk, IfErr}
 use Rattle.std.specs.List.{AllByRecursion}
-use Rattle.std.proofs.lemmas.Bool.{cases_lt, eq-eqb, ne_eqb, eqb-false, false_from_ne_true}
-use Rattle.std.proofs.lemmas.List.{append-nil, length-append, length-map, map-append, nil_from_length}
-use Rattle.std.proofs.lemmas.Option.{none-some, same_Some}
+use Rattle.std.proofs.lemmas.Bool.{cases_lt, eq-eqb, ne_eqb, eqb-false}
+use Rattle.std.proofs.lemmas.List.{append-nil, length-append, length-map, nil_from_length}
+use Rattle.std.proofs.lemmas.Option.{none-some}
 use Rattle.wire_base.specs.Answers.{Gives}
 use Rattle.schedule_text.specs.declared.line.Line.{Line}
 use Rattle.schedule_text.specs.declared.error.ScheduleError.{ScheduleError}
 use Rattle.schedule_text.specs.declared.error.ScheduleError.TheVariants.{BadLine, NoMemory}
-use Rattle.schedule_text.specs.Grammar.{line_text, FitsLine, AreLines, spelling, IsOrderly, IsSchedule, EndsLine, IsBadLine, IsFirstBad}
-use Rattle.schedule_text.specs.Reading.{Told, cut, text_lines, line_of, front_of, may_follow, kept_from, kept_of, lines_of}
+use Rattle.schedule_text.specs.Grammar.{line_text, FitsLine, AreLines, spelling, IsSchedule, EndsLine, IsBadLine, IsFirstBad}
+use Rattle.schedule_text.specs.Reading.{Told, cut, text_lines, line_of, front_of, lines_of}
 use Rattle.schedule_text.proofs.LineLaws.{Lacks, IsCut, cut_is, line_found, line_again}
-use Rattle.schedule_text.proofs.OrderLaws.{orderly_nil, orderly_more, kept_no, kept_past, kept_nil, Kept, kept_is}
 use Rattle.schedule_text.proofs.TextLaws.{fed, first_is, others_are, fed_line, unfed_line, fed_texts, spelled_front, texts_again, text_is}
 use Rattle.schedule_text.proofs.TextLines.{first_fed, first_unfed, front_some, front_none, front_nil, bad_is}
 
@@ -61,15 +60,12 @@ front_again (l ∷ lines) others h = front_some (line_text l) (map line_text lin
 
 -- ---- a schedule is read
 
-kept_all : (lines : List Line) → IsOrderly lines → kept_of lines ≡ length lines
-kept_all lines h = ap kept_of (sym (append-nil lines)) ∙ kept_past [] lines [] h ∙ omega (arith, kept_nil lines)
-
 pub schedule_again : (text : List ℕ) (lines : List Line) → IsSchedule text lines → lines_of text ≡ Ok lines
 schedule_again text lines h =
     let parts : text_lines text ≡ map line_text lines = texts_again text lines h.fits h.spelled in
     let front : front_of (text_lines text) ≡ lines = ap front_of (parts ∙ sym (append-nil (map line_text lines))) ∙ front_again lines [] h.fits ∙ ap (λ t. lines ++ t) front_nil ∙ append-nil lines in
-    let kept : kept_of (front_of (text_lines text)) ≡ length (text_lines text) = ap kept_of front ∙ kept_all lines h.orderly ∙ sym (length-map lines line_text) ∙ ap length (sym parts) in
-    rw (eq-eqb _ _ kept) (ap (λ (t : List Line). Ok t) front)
+    let all : length (front_of (text_lines text)) ≡ length (text_lines text) = ap length front ∙ sym (length-map lines line_text) ∙ ap length (sym parts) in
+    rw (eq-eqb _ _ all) (ap (λ (t : List Line). Ok t) front)
 
 -- ---- the text of a line in the midst
 
@@ -144,69 +140,42 @@ Outcome text (Ok v) = IsSchedule text v
 Outcome text (Err (BadLine line)) = IsBadLine text line
 Outcome text (Err NoMemory) = ⊥
 
-lines_front : (xs ys : List Line) → AreLines (xs ++ ys) → AreLines xs
-lines_front [] ys h = tt
-lines_front (x ∷ xs) ys h = (h.0, lines_front xs ys h.1)
-
-same_line : (k l : Line) → FitsLine k → FitsLine l → line_text k ≡ line_text l → k ≡ l
-same_line k l f g e = same_Some k l (sym (line_again k f) ∙ ap line_of e ∙ line_again l g)
-
-lines_behind : (xs ys : List Line) → AreLines (xs ++ ys) → AreLines ys
-lines_behind [] ys h = h
-lines_behind (x ∷ xs) ys h = lines_behind xs ys h.1
-
--- what stands behind the lines that are kept
-wrong_there : (before ko : List Line) (fo : List (List ℕ)) (w : List ℕ) (more : List (List ℕ)) → map line_text ko ++ fo ≡ w ∷ more → AreLines ko → ((k : Line) (ks : List Line) → ko ≡ k ∷ ks → ¬ (IsOrderly (before ++ k ∷ []))) → ((v : List ℕ) (vs : List (List ℕ)) → fo ≡ v ∷ vs → line_of v ≡ None) → (l : Line) → FitsLine l → w ≡ line_text l → ¬ (IsOrderly (before ++ l ∷ []))
-wrong_there before [] fo w more e fits refused stops l f g = λ h. none-some l (sym (stops w more e) ∙ ap line_of g ∙ line_again l f)
-wrong_there before (k ∷ ks) fo w more e fits refused stops l f g =
-    let same : k ≡ l = same_line k l fits.0 f (first_is (line_text k) w (map line_text ks ++ fo) more e ∙ g) in
-    subst (λ x. ¬ (IsOrderly (before ++ x ∷ []))) same (refused k ks refl)
-
-bad_there : (text : List ℕ) (k : Kept [] (front_of (text_lines text))) (f : Front (text_lines text)) (tail : List (List ℕ)) → text_lines text ≡ map line_text k.front ++ tail → map line_text k.others ++ f.others ≡ tail → AreLines (k.front ++ k.others) → 0 < length tail → IsBadLine text (kept_of (front_of (text_lines text)) + 1)
-bad_there text k f [] parts tail fits some = absurd (omega arith)
-bad_there text k f (w ∷ more) parts tail fits some =
-    let m = midst_is (map line_text k.front) text w more parts in
+bad_there : (text : List ℕ) (f : Front (text_lines text)) (tail : List (List ℕ)) → f.others ≡ tail → 0 < length tail → IsBadLine text (length (front_of (text_lines text)) + 1)
+bad_there text f [] e some = absurd (omega arith)
+bad_there text f (w ∷ more) e some =
+    let front = front_of (text_lines text) in
+    let m = midst_is (map line_text front) text w more (f.parts_are ∙ ap (λ t. map line_text front ++ t) e) in
     record {
-      before = k.front;
+      before = front;
       line = w;
       rest = m.rest;
-      fits = lines_front k.front k.others fits;
-      orderly = k.orderly;
-      parts = m.parts_are ∙ ap (λ t. t ++ w ++ m.rest) (fed_texts k.front);
+      fits = f.fits;
+      parts = m.parts_are ∙ ap (λ t. t ++ w ++ m.rest) (fed_texts front);
       no_feed = no_feeds w m.lacks;
       ends = m.ends;
-      place = omega (arith, k.count);
-      wrong = wrong_there k.front k.others f.others w more tail (lines_behind k.front k.others fits) k.refused f.stops;
+      place = refl;
+      wrong = λ l h g. none-some l (sym (f.stops w more e) ∙ ap line_of g ∙ line_again l h);
     }
 
-regroup_parts : (front kf ko : List Line) (fo : List (List ℕ)) → front ≡ kf ++ ko → map line_text front ++ fo ≡ map line_text kf ++ (map line_text ko ++ fo)
-regroup_parts front kf ko fo e = ap (λ t. map line_text t ++ fo) e ∙ ap (λ t. t ++ fo) (map-append line_text kf ko) ∙ append_assoc (map line_text kf) (map line_text ko) fo
-
--- all lines are kept, and there are no others
-whole_schedule : (text : List ℕ) (k : Kept [] (front_of (text_lines text))) (f : Front (text_lines text)) → length k.others ≡ 0 → length f.others ≡ 0 → IsSchedule text (front_of (text_lines text))
-whole_schedule text k f no_lines no_parts =
-    let same : front_of (text_lines text) ≡ k.front = k.parts ∙ ap (λ t. k.front ++ t) (nil_from_length k.others no_lines) ∙ append-nil k.front in
+-- the bytes of all lines are read, and there are no others
+whole_schedule : (text : List ℕ) (f : Front (text_lines text)) → length f.others ≡ 0 → IsSchedule text (front_of (text_lines text))
+whole_schedule text f none =
+    let front = front_of (text_lines text) in
     record {
       fits = f.fits;
-      spelled = text_is text (front_of (text_lines text)) (f.parts_are ∙ ap (λ t. map line_text (front_of (text_lines text)) ++ t) (nil_from_length f.others no_parts) ∙ append-nil (map line_text (front_of (text_lines text))));
-      orderly = subst IsOrderly (sym same) k.orderly;
+      spelled = text_is text front (f.parts_are ∙ ap (λ t. map line_text front ++ t) (nil_from_length f.others none) ∙ append-nil (map line_text front));
     }
 
 pub outcome : (text : List ℕ) → Outcome text (lines_of text)
 outcome text =
     let parts = text_lines text in
     let f = front_is parts in
-    let k = kept_is [] (front_of parts) orderly_nil in
-    let tail = map line_text k.others ++ f.others in
-    let split : parts ≡ map line_text k.front ++ tail = f.parts_are ∙ regroup_parts (front_of parts) k.front k.others f.others k.parts in
-    let all : length parts ≡ length k.front + length tail = ap length split ∙ length-append (map line_text k.front) tail ∙ ap (λ (n : ℕ). n + length tail) (length-map k.front line_text) in
-    let others : length tail ≡ length k.others + length f.others = length-append (map line_text k.others) f.others ∙ ap (λ (n : ℕ). n + length f.others) (length-map k.others line_text) in
-    let count : kept_of (front_of parts) ≡ length k.front = k.count in
-    elim (cases_lt (kept_of (front_of parts)) (length parts)) [
-      | inl lt ↦ subst (Outcome text) (sym (bad_is text lt)) (bad_there text k f tail split refl (subst AreLines k.parts f.fits) (omega arith))
+    let count : length parts ≡ length (front_of parts) + length f.others = ap length f.parts_are ∙ length-append (map line_text (front_of parts)) f.others ∙ ap (λ (n : ℕ). n + length f.others) (length-map (front_of parts) line_text) in
+    elim (cases_lt (length (front_of parts)) (length parts)) [
+      | inl lt ↦ subst (Outcome text) (sym (bad_is text lt)) (bad_there text f f.others refl (omega arith))
       | inr le ↦
-          let whole : kept_of (front_of parts) ≡ length parts = omega arith in
-          rw (eq-eqb _ _ whole) (whole_schedule text k f (omega arith) (omega arith))
+          let whole : length (front_of parts) ≡ length parts = omega arith in
+          rw (eq-eqb _ _ whole) (whole_schedule text f (omega arith))
     ]
 
 -- ---- a bad line is told
@@ -215,23 +184,19 @@ line_there : (line rest : List ℕ) → Lacks 10 line → EndsLine line rest →
 line_there line [] h some = ([], ap text_lines (append-nil line) ∙ unfed_line line h some)
 line_there line (c ∷ cs) h e = (text_lines cs, ap (λ x. text_lines (line ++ x ∷ cs)) e ∙ fed_line line cs h)
 
-none_kept : (before : List Line) (line : List ℕ) (more : List (List ℕ)) (o : Option Line) → IsOrderly before → ((l : Line) → FitsLine l → line ≡ line_text l → ¬ (IsOrderly (before ++ l ∷ []))) → line_of line ≡ o → kept_from before (front_of (line ∷ more)) ≡ 0
-none_kept before line more None h wrong e = ap (kept_from before) (front_none line more e) ∙ kept_nil before
-none_kept before line more (Some l) h wrong e =
-    let s = line_found line l e in
-    let no_more : may_follow before l ≡ false = false_from_ne_true _ (λ t. wrong l s.0 s.1 (orderly_more before l h t)) in
-    ap (kept_from before) (front_some line more l e) ∙ kept_no before (front_of more) l no_more
+none_there : (line : List ℕ) (more : List (List ℕ)) (o : Option Line) → ((l : Line) → FitsLine l → ¬ (line ≡ line_text l)) → line_of line ≡ o → front_of (line ∷ more) ≡ []
+none_there line more None wrong e = front_none line more e
+none_there line more (Some l) wrong e = let s = line_found line l e in absurd (wrong l s.0 s.1)
 
 pub bad_again : (text : List ℕ) (line : ℕ) → IsBadLine text line → lines_of text ≡ Err (BadLine line)
 bad_again text line h =
     let t = line_there h.line h.rest (lacks_feeds h.line h.no_feed) h.ends in
     let parts : text_lines text ≡ map line_text h.before ++ h.line ∷ t.0 =
     ap text_lines (h.parts ∙ append_assoc (spelling h.before) h.line h.rest) ∙ spelled_front h.before (h.line ++ h.rest) h.fits ∙ ap (λ x. map line_text h.before ++ x) t.1 in
-    let front : front_of (text_lines text) ≡ h.before ++ front_of (h.line ∷ t.0) = ap front_of parts ∙ front_again h.before (h.line ∷ t.0) h.fits in
-    let none = none_kept h.before h.line t.0 (line_of h.line) h.orderly h.wrong refl in
-    let kept : kept_of (front_of (text_lines text)) ≡ length h.before = ap kept_of front ∙ kept_past [] h.before (front_of (h.line ∷ t.0)) h.orderly ∙ omega arith in
+    let front : front_of (text_lines text) ≡ h.before =
+    ap front_of parts ∙ front_again h.before (h.line ∷ t.0) h.fits ∙ ap (λ x. h.before ++ x) (none_there h.line t.0 (line_of h.line) h.wrong refl) ∙ append-nil h.before in
     let count : length (text_lines text) ≡ length h.before + suc (length t.0) = ap length parts ∙ length-append (map line_text h.before) (h.line ∷ t.0) ∙ ap (λ (n : ℕ). n + suc (length t.0)) (length-map h.before line_text) in
-    bad_is text (omega arith) ∙ ap (λ (n : ℕ). Err (BadLine n)) (let p = h.place in omega arith)
+    bad_is text (omega (arith, ap length front)) ∙ ap (λ (n : ℕ). Err (BadLine n)) (let p = h.place in omega (arith, ap length front))
 
 -- ---- the laws, of what a call answered
 

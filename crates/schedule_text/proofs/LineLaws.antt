@@ -13,9 +13,9 @@ use Rattle.hex.specs.Hex.{decode_of, encode_lower}
 use Rattle.hex.specs.declared.error.FromHexError.{FromHexError}
 use Rattle.hex.proofs.HexLemmas.{decode_of-encode_lower, decode_of-ok}
 use Rattle.schedule_text.specs.declared.line.Line.{Line}
-use Rattle.schedule_text.specs.declared.line.Line.TheVariants.{Remark, Lac, Lns, OpenUp, Ring, FromSub, Down, Deliver, Tick}
+use Rattle.schedule_text.specs.declared.line.Line.TheVariants.{Remark, Lac, Lns, OpenUp, Ring, FromSub, Down, Hang, DropCall, Deliver, Tick}
 use Rattle.schedule_text.specs.Grammar.{call_text, line_text, IsPrintable, IsNode, IsPort, IsSession, IsFrame, IsPacket, IsMilliseconds, FitsLine}
-use Rattle.schedule_text.specs.Reading.{◌>>=◌, cut, node_of, port_of, session_of, packet_of, milliseconds_of, frame_from, frame_of, lac_of, lns_of, open_of, ring_of, call_of, from_sub_of, down_of, deliver_of, tick_of, plain_of, words_of, is_printable, remark_of, line_of}
+use Rattle.schedule_text.specs.Reading.{◌>>=◌, cut, node_of, port_of, session_of, packet_of, milliseconds_of, frame_from, frame_of, lac_of, lns_of, open_of, ring_of, call_of, from_sub_of, down_of, node_session_of, hang_of, drop_of, deliver_of, tick_of, plain_of, words_of, is_printable, remark_of, line_of}
 use Rattle.schedule_text.proofs.Numbers.{own, number_found, number_again}
 
 -- ---- parts
@@ -203,6 +203,46 @@ down_found words l e =
     let spelled : IsSpelled (Down call.0 call.1 frame) (codes "down " ++ words) = ((k.node, k.session, f.1), ap (λ t. codes "down " ++ t) (call_spelled words call frame k f.0)) in
     subst (λ x. IsSpelled x (codes "down " ++ words)) (same_Some (Down call.0 call.1 frame) l hf) spelled))
 
+-- ---- a call alone that was read
+
+-- the words are those of the node and of the session
+record IsNodeSession (words : List ℕ) (call : ℕ × ℕ) : Type 0 where
+  spelled : words ≡ decimal call.0 ++ 32 ∷ decimal call.1
+  node : IsNode call.0
+  session : IsSession call.1
+
+node_session_found : (words : List ℕ) (call : ℕ × ℕ) → node_session_of words ≡ Some call → IsNodeSession words call
+unfolding node_session_of
+node_session_found words call e =
+    bound (cut 32 words) _ call e (λ a ea ha.
+    bound (node_of a.0) _ call ha (λ node en hn.
+    bound (session_of a.1) _ call hn (λ session es hs.
+    let n = node_found node a.0 en in
+    let s = session_found session a.1 es in
+    let found : IsNodeSession words (node, session) =
+    record {
+      spelled = cut_words words a.0 a.1 node ea n.0 ∙ ap (λ t. decimal node ++ 32 ∷ t) s.0;
+      node = n.1;
+      session = s.1;
+    } in
+    subst (IsNodeSession words) (same_Some (node, session) call hs) found)))
+
+hang_found : (words : List ℕ) (l : Line) → hang_of words ≡ Some l → IsSpelled l (codes "hang " ++ words)
+unfolding hang_of
+hang_found words l e =
+    bound (node_session_of words) _ l e (λ call ec hc.
+    let k = node_session_found words call ec in
+    let spelled : IsSpelled (Hang call.0 call.1) (codes "hang " ++ words) = ((k.node, k.session), rw k.spelled (simp append_assoc)) in
+    subst (λ x. IsSpelled x (codes "hang " ++ words)) (same_Some (Hang call.0 call.1) l hc) spelled)
+
+drop_found : (words : List ℕ) (l : Line) → drop_of words ≡ Some l → IsSpelled l (codes "drop " ++ words)
+unfolding drop_of
+drop_found words l e =
+    bound (node_session_of words) _ l e (λ call ec hc.
+    let k = node_session_found words call ec in
+    let spelled : IsSpelled (DropCall call.0 call.1) (codes "drop " ++ words) = ((k.node, k.session), rw k.spelled (simp append_assoc)) in
+    subst (λ x. IsSpelled x (codes "drop " ++ words)) (same_Some (DropCall call.0 call.1) l hc) spelled)
+
 deliver_found : (words : List ℕ) (l : Line) → deliver_of words ≡ Some l → IsSpelled l (codes "deliver " ++ words)
 unfolding deliver_of
 deliver_found words l e =
@@ -242,11 +282,17 @@ plain_found kind words l e =
           | inl a ↦ kind_spelled kind (codes "open") words l a.0 (open_found words l a.1)
           | inr e3 ↦ elim (either (bytes_eq kind (codes "ring")) (ring_of words) _ l e3) [
             | inl a ↦ kind_spelled kind (codes "ring") words l a.0 (ring_found words l a.1)
-            | inr e4 ↦ elim (either (bytes_eq kind (codes "deliver")) (deliver_of words) _ l e4) [
-              | inl a ↦ kind_spelled kind (codes "deliver") words l a.0 (deliver_found words l a.1)
-              | inr e5 ↦ elim (either (bytes_eq kind (codes "tick")) (tick_of words) _ l e5) [
-                | inl a ↦ kind_spelled kind (codes "tick") words l a.0 (tick_found words l a.1)
-                | inr e6 ↦ absurd (none-some l e6)
+            | inr e4 ↦ elim (either (bytes_eq kind (codes "hang")) (hang_of words) _ l e4) [
+              | inl a ↦ kind_spelled kind (codes "hang") words l a.0 (hang_found words l a.1)
+              | inr e5 ↦ elim (either (bytes_eq kind (codes "drop")) (drop_of words) _ l e5) [
+                | inl a ↦ kind_spelled kind (codes "drop") words l a.0 (drop_found words l a.1)
+                | inr e6 ↦ elim (either (bytes_eq kind (codes "deliver")) (deliver_of words) _ l e6) [
+                  | inl a ↦ kind_spelled kind (codes "deliver") words l a.0 (deliver_found words l a.1)
+                  | inr e7 ↦ elim (either (bytes_eq kind (codes "tick")) (tick_of words) _ l e7) [
+                    | inl a ↦ kind_spelled kind (codes "tick") words l a.0 (tick_found words l a.1)
+                    | inr e8 ↦ absurd (none-some l e8)
+                  ]
+                ]
               ]
             ]
           ]
@@ -320,6 +366,18 @@ ring_again : (node port : ℕ) → IsNode node → IsPort port → ring_of (deci
 unfolding ring_of
 ring_again node port n p = rw (node_cut node (decimal port) n, node_again node n, number_again 1 65535 port (omega arith) p.0 p.1) refl
 
+node_session_again : (node session : ℕ) → IsNode node → IsSession session → node_session_of (decimal node ++ 32 ∷ decimal session) ≡ Some (node, session)
+unfolding node_session_of
+node_session_again node session n s = rw (node_cut node (decimal session) n, node_again node n, number_again 1 65535 session (omega arith) s.0 s.1) refl
+
+hang_again : (node session : ℕ) → IsNode node → IsSession session → hang_of (decimal node ++ 32 ∷ decimal session) ≡ Some (Hang node session)
+unfolding hang_of
+hang_again node session n s = rw (node_session_again node session n s) refl
+
+drop_again : (node session : ℕ) → IsNode node → IsSession session → drop_of (decimal node ++ 32 ∷ decimal session) ≡ Some (DropCall node session)
+unfolding drop_of
+drop_again node session n s = rw (node_session_again node session n s) refl
+
 tick_again : (node milliseconds : ℕ) → IsNode node → IsMilliseconds milliseconds → tick_of (decimal node ++ 32 ∷ decimal milliseconds) ≡ Some (Tick node milliseconds)
 unfolding tick_of
 tick_again node milliseconds n m = rw (node_cut node (decimal milliseconds) n, node_again node n, number_again 0 86400000 milliseconds (omega arith) (omega arith) m) refl
@@ -363,6 +421,12 @@ line_again (Ring node port) h =
     ap ring_of regrouped ∙ ring_again node port h.0 h.1
 line_again (FromSub node session frame) h = from_sub_again node session frame h.0 h.1 h.2
 line_again (Down node session frame) h = down_again node session frame h.0 h.1 h.2
+line_again (Hang node session) h =
+    let regrouped : decimal node ++ codes " " ++ decimal session ≡ decimal node ++ 32 ∷ decimal session = simp append_assoc in
+    ap hang_of regrouped ∙ hang_again node session h.0 h.1
+line_again (DropCall node session) h =
+    let regrouped : decimal node ++ codes " " ++ decimal session ≡ decimal node ++ 32 ∷ decimal session = simp append_assoc in
+    ap drop_of regrouped ∙ drop_again node session h.0 h.1
 line_again (Deliver packet) h = rw (number_again 1 4294967295 packet (omega arith) h.0 h.1) refl
 line_again (Tick node milliseconds) h =
     let regrouped : decimal node ++ codes " " ++ decimal milliseconds ≡ decimal node ++ 32 ∷ decimal milliseconds = simp append_assoc in

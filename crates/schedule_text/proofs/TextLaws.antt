@@ -7,7 +7,7 @@ use Rattle.std.proofs.lemmas.Bool.{cases_Bool, eqb-true, ne_eqb}
 use Rattle.std.proofs.lemmas.List.{append-nil, length-append}
 use Rattle.hex.specs.Hex.{encode_lower, encode_with, lower_digits}
 use Rattle.schedule_text.specs.declared.line.Line.{Line}
-use Rattle.schedule_text.specs.declared.line.Line.TheVariants.{Remark, Lac, Lns, OpenUp, Ring, FromSub, Down, Deliver, Tick}
+use Rattle.schedule_text.specs.declared.line.Line.TheVariants.{Remark, Lac, Lns, OpenUp, Ring, FromSub, Down, Hang, DropCall, Deliver, Tick}
 use Rattle.schedule_text.specs.Grammar.{call_text, line_text, IsPrintable, IsNode, IsSession, FitsLine, AreLines, spelling, IsText}
 use Rattle.schedule_text.specs.Reading.{put_first, text_lines}
 use Rattle.schedule_text.proofs.LineLaws.{Lacks, number_lacks}
@@ -113,6 +113,11 @@ call_lacks node session frame n s =
     let words = lacks_append 10 _ (codes " ") names (refl, tt) in
     lacks_append 10 _ (encode_lower frame) words (hex_lacks 10 lower_digits frame refl digits_lack)
 
+node_session_lacks : (node session : ℕ) → IsNode node → IsSession session → Lacks 10 (decimal node ++ codes " " ++ decimal session)
+node_session_lacks node session n s =
+    let front = lacks_append 10 (decimal node) (codes " ") (node_lacks node n) (refl, tt) in
+    lacks_append 10 _ (decimal session) front (number_lacks 10 session (omega arith) (omega arith))
+
 lacks_feed : (l : Line) → FitsLine l → Lacks 10 (line_text l)
 lacks_feed (Remark text) h = (refl, lacks_printable text h)
 lacks_feed (Lac node lns) h =
@@ -126,6 +131,8 @@ lacks_feed (Ring node port) h =
     (refl, (refl, (refl, (refl, (refl, lacks_append 10 _ (decimal port) front (number_lacks 10 port (omega arith) (omega arith)))))))
 lacks_feed (FromSub node session frame) h = (refl, (refl, (refl, (refl, (refl, call_lacks node session frame h.0 h.1)))))
 lacks_feed (Down node session frame) h = (refl, (refl, (refl, (refl, (refl, call_lacks node session frame h.0 h.1)))))
+lacks_feed (Hang node session) h = (refl, (refl, (refl, (refl, (refl, node_session_lacks node session h.0 h.1)))))
+lacks_feed (DropCall node session) h = (refl, (refl, (refl, (refl, (refl, node_session_lacks node session h.0 h.1)))))
 lacks_feed (Deliver packet) h = (refl, (refl, (refl, (refl, (refl, (refl, (refl, (refl, number_lacks 10 packet (omega arith) (omega arith)))))))))
 lacks_feed (Tick node milliseconds) h =
     let front = lacks_append 10 (decimal node) (codes " ") (node_lacks node h.0) (refl, tt) in
@@ -139,6 +146,8 @@ some_byte (OpenUp node) = omega arith
 some_byte (Ring node port) = omega arith
 some_byte (FromSub node session frame) = omega arith
 some_byte (Down node session frame) = omega arith
+some_byte (Hang node session) = omega arith
+some_byte (DropCall node session) = omega arith
 some_byte (Deliver packet) = omega arith
 some_byte (Tick node milliseconds) = omega arith
 

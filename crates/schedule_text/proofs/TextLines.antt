@@ -1,10 +1,10 @@
 -- The lines of a text, one after the other.
-use Rattle.std.proofs.Common.{◌≡◌, ℕ, suc, ◌+◌, ◌<◌, ◌≤◌, true, false, eqb, List, [], ◌∷◌, ◌++◌, length, Option, Some, None, Err, refl, sym, ap, subst, ◌∙◌, arith, inl, inr}
+use Rattle.std.proofs.Common.{◌≡◌, ℕ, suc, ◌+◌, ◌<◌, ◌≤◌, false, eqb, List, [], ◌∷◌, ◌++◌, length, Option, Some, None, Ok, Err, refl, sym, ap, subst, ◌∙◌, arith, inl, inr}
 use Rattle.std.specs.Prelude.{option_map}
-use Rattle.std.proofs.lemmas.Bool.{cases_Bool, eq-eqb, ne_eqb, eqb-false}
+use Rattle.std.proofs.lemmas.Bool.{cases_Bool, eq-eqb, ne_eqb}
 use Rattle.std.proofs.lemmas.List.{append_assoc, append-nil, length-append}
 use Rattle.schedule_text.specs.declared.line.Line.{Line}
-use Rattle.schedule_text.specs.Reading.{cut, text_lines, line_of, front_of, after_line, kept_of, lines_of}
+use Rattle.schedule_text.specs.Reading.{cut, text_lines, line_of, front_of, after_line, lines_of}
 use Rattle.schedule_text.specs.declared.error.ScheduleError.TheVariants.{BadLine}
 
 -- ---- the first line
@@ -48,6 +48,14 @@ pub front_nil : front_of [] ≡ []
 unfolding front_of
 front_nil = refl
 
+-- ---- all lines, or the first bad one
+
+all_are : (text : List ℕ) → length (front_of (text_lines text)) ≡ length (text_lines text) → lines_of text ≡ Ok (front_of (text_lines text))
+all_are text e = rw (eq-eqb (length (front_of (text_lines text))) (length (text_lines text)) e) refl
+
+pub bad_is : (text : List ℕ) → length (front_of (text_lines text)) < length (text_lines text) → lines_of text ≡ Err (BadLine (length (front_of (text_lines text)) + 1))
+bad_is text lt = rw (ne_eqb (length (front_of (text_lines text))) (length (text_lines text)) (λ e. omega arith)) refl
+
 -- ---- the loop over the lines
 
 -- these lines are read, and the rest of the text isn't
@@ -66,36 +74,14 @@ goes_on text lines rest bytes behind l h first shorter e =
       within = let w = h.within in omega arith;
     }
 
-pub stops : (text : List ℕ) (lines : List Line) (rest bytes behind : List ℕ) → Stands text lines rest → text_lines rest ≡ bytes ∷ text_lines behind → line_of bytes ≡ None → (lines ≡ front_of (text_lines text)) × (false ≡ eqb (length (front_of (text_lines text))) (length (text_lines text)))
+pub stops : (text : List ℕ) (lines : List Line) (rest bytes behind : List ℕ) → Stands text lines rest → text_lines rest ≡ bytes ∷ text_lines behind → line_of bytes ≡ None → lines_of text ≡ Err (BadLine (length lines + 1))
 stops text lines rest bytes behind h first e =
     let front : front_of (text_lines text) ≡ lines = h.front ∙ ap (λ t. lines ++ front_of t) first ∙ ap (λ t. lines ++ t) (front_none bytes (text_lines behind) e) ∙ append-nil lines in
     let count : length (text_lines rest) ≡ suc (length (text_lines behind)) = ap length first in
-    (sym front, sym (ne_eqb _ _ (λ s. let c = h.count in omega (arith, ap length front))))
+    bad_is text (let c = h.count in omega (arith, ap length front)) ∙ ap (λ (v : List Line). Err (BadLine (length v + 1))) front
 
-pub is_done : (text : List ℕ) (lines : List Line) (rest : List ℕ) → Stands text lines rest → length rest ≡ 0 → (lines ≡ front_of (text_lines text)) × (true ≡ eqb (length (front_of (text_lines text))) (length (text_lines text)))
+pub is_done : (text : List ℕ) (lines : List Line) (rest : List ℕ) → Stands text lines rest → length rest ≡ 0 → lines_of text ≡ Ok lines
 is_done text lines [] h e =
     let front : front_of (text_lines text) ≡ lines = h.front ∙ ap (λ t. lines ++ t) front_nil ∙ append-nil lines in
-    (sym front, sym (eq-eqb _ _ (ap length front ∙ (let c = h.count in omega arith))))
+    all_are text (ap length front ∙ (let c = h.count in omega arith)) ∙ ap (λ (v : List Line). Ok v) front
 is_done text lines (c ∷ cs) h e = absurd (omega arith)
-
--- ---- the first bad line
-
-front_is : (bytes : List ℕ) (others : List (List ℕ)) (o : Option Line) → line_of bytes ≡ o → length (front_of others) ≤ length others → length (front_of (bytes ∷ others)) ≤ length (bytes ∷ others)
-front_is bytes others None e le = omega (arith, ap length (front_none bytes others e))
-front_is bytes others (Some l) e le = omega (arith, ap length (front_some bytes others l e))
-
-pub length_front : (parts : List (List ℕ)) → length (front_of parts) ≤ length parts
-length_front [] = omega (arith, ap length front_nil)
-length_front (bytes ∷ others) = front_is bytes others (line_of bytes) refl (length_front others)
-
-pub bad_is : (text : List ℕ) → kept_of (front_of (text_lines text)) < length (text_lines text) → lines_of text ≡ Err (BadLine (kept_of (front_of (text_lines text)) + 1))
-bad_is text lt = rw (ne_eqb (kept_of (front_of (text_lines text))) (length (text_lines text)) (λ e. omega arith)) refl
-
-pub refused_inside : (text : List ℕ) (kept : ℕ) → kept ≡ kept_of (front_of (text_lines text)) → kept < length (front_of (text_lines text)) → lines_of text ≡ Err (BadLine (kept + 1))
-refused_inside text kept e lt = bad_is text (omega (arith, length_front (text_lines text))) ∙ ap (λ (n : ℕ). Err (BadLine (n + 1))) (sym e)
-
-pub refused_behind : (text : List ℕ) (kept : ℕ) → kept ≡ kept_of (front_of (text_lines text)) → kept ≤ length (front_of (text_lines text)) → eqb (length (front_of (text_lines text))) (length (text_lines text)) ≡ false → lines_of text ≡ Err (BadLine (kept + 1))
-refused_behind text kept e le ne =
-    let other : length (front_of (text_lines text)) ≡ length (text_lines text) → ⊥ = eqb-false _ _ ne in
-    let lt : kept_of (front_of (text_lines text)) < length (text_lines text) = omega (arith, length_front (text_lines text)) in
-    bad_is text lt ∙ ap (λ (n : ℕ). Err (BadLine (n + 1))) (sym e)

@@ -1,10 +1,10 @@
 -- The one spelling of each line, and which texts are schedules.
-use Rattle.std.specs.Prelude.{◌≡◌, ℕ, ◌+◌, ◌<◌, ◌≤◌, ◌⊎◌, Bool, true, false, List, [], ◌∷◌, ◌++◌, length, codes, count_by, Contains}
+use Rattle.std.specs.Prelude.{◌≡◌, ℕ, ◌+◌, ◌<◌, ◌≤◌, ◌⊎◌, List, [], ◌∷◌, ◌++◌, length, codes}
 use Rattle.std.specs.List.{flat_map, AllByRecursion}
 use Rattle.std.specs.Fmt.{decimal}
 use Rattle.hex.specs.Hex.{encode_lower, IsBytes}
 use Rattle.schedule_text.specs.declared.line.Line.{Line}
-use Rattle.schedule_text.specs.declared.line.Line.TheVariants.{Remark, Lac, Lns, OpenUp, Ring, FromSub, Down, Deliver, Tick}
+use Rattle.schedule_text.specs.declared.line.Line.TheVariants.{Remark, Lac, Lns, OpenUp, Ring, FromSub, Down, Hang, DropCall, Deliver, Tick}
 use Rattle.schedule_text.specs.declared.error.ScheduleError.{ScheduleError}
 use Rattle.schedule_text.specs.declared.error.ScheduleError.TheVariants.{BadLine, NoMemory}
 
@@ -21,6 +21,8 @@ line_text (OpenUp node) = codes "open " ++ decimal node
 line_text (Ring node port) = codes "ring " ++ decimal node ++ codes " " ++ decimal port
 line_text (FromSub node session frame) = codes "data " ++ call_text node session frame
 line_text (Down node session frame) = codes "down " ++ call_text node session frame
+line_text (Hang node session) = codes "hang " ++ decimal node ++ codes " " ++ decimal session
+line_text (DropCall node session) = codes "drop " ++ decimal node ++ codes " " ++ decimal session
 line_text (Deliver packet) = codes "deliver " ++ decimal packet
 line_text (Tick node milliseconds) = codes "tick " ++ decimal node ++ codes " " ++ decimal milliseconds
 
@@ -57,6 +59,8 @@ FitsLine (OpenUp node) = IsNode node
 FitsLine (Ring node port) = IsNode node × IsPort port
 FitsLine (FromSub node session frame) = IsNode node × IsSession session × IsFrame frame
 FitsLine (Down node session frame) = IsNode node × IsSession session × IsFrame frame
+FitsLine (Hang node session) = IsNode node × IsSession session
+FitsLine (DropCall node session) = IsNode node × IsSession session
 FitsLine (Deliver packet) = IsPacket packet
 FitsLine (Tick node milliseconds) = IsNode node × IsMilliseconds milliseconds
 
@@ -71,57 +75,29 @@ spelling lines = flat_map (λ l. line_text l ++ 10 ∷ []) lines
 abbrev pub IsText : List ℕ → List Line → Type 0
 IsText text lines = (text ≡ spelling lines) ⊎ (text ++ 10 ∷ [] ≡ spelling lines)
 
--- ---- the rules over a whole list, as long as a world has one LAC and one LNS
-
-abbrev pub is_lac : Line → Bool
-is_lac (Lac node lns) = true
-is_lac l = false
-
-abbrev pub is_lns : Line → Bool
-is_lns (Lns node) = true
-is_lns l = false
-
-abbrev pub is_open : Line → Bool
-is_open (OpenUp node) = true
-is_open l = false
-
-abbrev pub is_ring : Line → Bool
-is_ring (Ring node port) = true
-is_ring l = false
-
--- one LAC, one LNS, one opening and one ring at most, and a LAC names an LNS that was declared before it
-pub record IsOrderly (lines : List Line) : Type 0 where
-  pub one_lac : count_by is_lac lines ≤ 1
-  pub one_lns : count_by is_lns lines ≤ 1
-  pub one_open : count_by is_open lines ≤ 1
-  pub one_ring : count_by is_ring lines ≤ 1
-  pub declared : (before after : List Line) (node lns : ℕ) → lines ≡ before ++ Lac node lns ∷ after → Contains before (Lns lns)
-
 -- ---- schedules
 
--- the text spells these lines, each is in the grammar, and together they keep the rules
+-- the text spells these lines, and each is in the grammar
 pub record IsSchedule (text : List ℕ) (lines : List Line) : Type 0 where
   pub fits : AreLines lines
   pub spelled : IsText text lines
-  pub orderly : IsOrderly lines
 
 -- a line ends at a line feed, or at the end of the text where it has a byte
 abbrev pub EndsLine : List ℕ → List ℕ → Type 0
 EndsLine line [] = 0 < length line
 EndsLine line (c ∷ rest) = c ≡ 10
 
--- lines that are as they should be, and then one that is not: it spells no line, or none that may stand behind those
+-- lines that are as they should be, and then one that spells no line
 pub record IsBadLine (text : List ℕ) (number : ℕ) : Type 0 where
   pub before : List Line
   pub line : List ℕ
   pub rest : List ℕ
   pub fits : AreLines before
-  pub orderly : IsOrderly before
   pub parts : text ≡ spelling before ++ line ++ rest
   pub no_feed : AllByRecursion (λ c. ¬ (c ≡ 10)) line
   pub ends : EndsLine line rest
   pub place : number ≡ length before + 1
-  pub wrong : (l : Line) → FitsLine l → line ≡ line_text l → ¬ (IsOrderly (before ++ l ∷ []))
+  pub wrong : (l : Line) → FitsLine l → ¬ (line ≡ line_text l)
 
 -- the bad line that was told, if one was; no lines are a schedule of such a text
 abbrev pub IsFirstBad : List ℕ → ScheduleError → Type 0

@@ -1,15 +1,14 @@
 -- Reading a text as a schedule, with the first bad line.
-use Rattle.std.specs.Prelude.{◌≡◌, ℕ, suc, ◌+◌, Bool, true, false, not, ◌&&◌, if◌then◌else◌, nat_le, ◌==◌, List, [], ◌∷◌, ◌++◌, length, codes, Option, Some, None, option_map, Result, Ok, Err}
-use Rattle.std.specs.List.{list_all, list_any}
+use Rattle.std.specs.Prelude.{◌≡◌, ℕ, ◌+◌, Bool, true, false, not, ◌&&◌, if◌then◌else◌, nat_le, ◌==◌, List, [], ◌∷◌, length, codes, Option, Some, None, option_map, Result, Ok, Err}
+use Rattle.std.specs.List.{list_all}
 use Rattle.std.specs.Str.{bytes_eq, all_ascii_digits}
 use Rattle.std.specs.Str.Parse.{digits_value}
 use Rattle.hex.specs.Hex.{decode_of, encode_lower}
 use Rattle.hex.specs.declared.error.FromHexError.{FromHexError}
 use Rattle.schedule_text.specs.declared.line.Line.{Line}
-use Rattle.schedule_text.specs.declared.line.Line.TheVariants.{Remark, Lac, Lns, OpenUp, Ring, FromSub, Down, Deliver, Tick}
+use Rattle.schedule_text.specs.declared.line.Line.TheVariants.{Remark, Lac, Lns, OpenUp, Ring, FromSub, Down, Hang, DropCall, Deliver, Tick}
 use Rattle.schedule_text.specs.declared.error.ScheduleError.{ScheduleError}
 use Rattle.schedule_text.specs.declared.error.ScheduleError.TheVariants.{BadLine, NoMemory}
-use Rattle.schedule_text.specs.Grammar.{is_lac, is_lns, is_open, is_ring}
 
 -- what a call that failed tells of the reading: nothing where memory was wanting
 abbrev pub Told : {Y : Type 0} → ScheduleError → Result Y ScheduleError → Type 0
@@ -111,6 +110,17 @@ from_sub_of words = call_of words >>= λ call. frame_of call.2 >>= λ frame. Som
 unfoldable pub down_of : List ℕ → Option Line
 down_of words = call_of words >>= λ call. frame_of call.2 >>= λ frame. Some (Down call.0 call.1 frame)
 
+-- a node, and a session of it
+unfoldable pub node_session_of : List ℕ → Option (ℕ × ℕ)
+node_session_of words =
+    cut 32 words >>= λ first. node_of first.0 >>= λ node. session_of first.1 >>= λ session. Some (node, session)
+
+unfoldable pub hang_of : List ℕ → Option Line
+hang_of words = node_session_of words >>= λ call. Some (Hang call.0 call.1)
+
+unfoldable pub drop_of : List ℕ → Option Line
+drop_of words = node_session_of words >>= λ call. Some (DropCall call.0 call.1)
+
 unfoldable pub deliver_of : List ℕ → Option Line
 deliver_of words = packet_of words >>= λ packet. Some (Deliver packet)
 
@@ -125,6 +135,8 @@ plain_of kind words =
     else if bytes_eq kind (codes "lns") then lns_of words
     else if bytes_eq kind (codes "open") then open_of words
     else if bytes_eq kind (codes "ring") then ring_of words
+    else if bytes_eq kind (codes "hang") then hang_of words
+    else if bytes_eq kind (codes "drop") then drop_of words
     else if bytes_eq kind (codes "deliver") then deliver_of words
     else if bytes_eq kind (codes "tick") then tick_of words
     else None
@@ -157,31 +169,9 @@ unfoldable pub front_of : List (List ℕ) → List Line
 front_of [] = []
 front_of (bytes ∷ others) = after_line (line_of bytes) (front_of others)
 
--- a declaration of that LNS
-abbrev pub declares : ℕ → Line → Bool
-declares node (Lns n) = n == node
-declares node l = false
-
--- whether a line may stand behind others
-abbrev pub may_follow : List Line → Line → Bool
-may_follow before (Lac node lns) = not (list_any is_lac before) && list_any (declares lns) before
-may_follow before (Lns node) = not (list_any is_lns before)
-may_follow before (OpenUp node) = not (list_any is_open before)
-may_follow before (Ring node port) = not (list_any is_ring before)
-may_follow before l = true
-
--- how many lines stand before the first that may not follow those before it
-unfoldable pub kept_from : List Line → List Line → ℕ
-kept_from before [] = 0
-kept_from before (l ∷ lines) = if may_follow before l then suc (kept_from (before ++ l ∷ []) lines) else 0
-
-abbrev pub kept_of : List Line → ℕ
-kept_of lines = kept_from [] lines
-
 -- all lines, or the first bad one
 abbrev pub lines_of : List ℕ → Result (List Line) ScheduleError
 lines_of text =
     let bytes = text_lines text in
     let front = front_of bytes in
-    let kept = kept_of front in
-    if kept == length bytes then Ok front else Err (BadLine (kept + 1))
+    if length front == length bytes then Ok front else Err (BadLine (length front + 1))

@@ -8,7 +8,7 @@ use wire_base::NoMemory as OutOfMemory;
 /// Why no schedule was read.
 #[derive(Clone, Copy, Debug, PartialEq, Eq)]
 pub enum ScheduleError {
-    /// The first line that isn't in the grammar, or that may not stand behind those before it. Lines count from 1.
+    /// The first line that isn't in the grammar. Lines count from 1.
     BadLine { line: u64 },
     /// Memory was wanting.
     NoMemory,

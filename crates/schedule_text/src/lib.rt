@@ -6,7 +6,6 @@ mod line;
 mod line_reading;
 mod parts;
 mod reading;
-mod rules;
 
 pub use error::ScheduleError;
 pub use line::{Line, Lines};

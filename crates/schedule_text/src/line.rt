@@ -40,6 +40,16 @@ pub enum Line {
         session: u16,
         frame: Bytes,
     },
+    /// The subscriber of a LAC's call leaves.
+    Hang {
+        node: u8,
+        session: u16,
+    },
+    /// An administrative close of a node's call.
+    DropCall {
+        node: u8,
+        session: u16,
+    },
     /// A packet that was sent reaches its addressee.
     Deliver {
         packet: u32,

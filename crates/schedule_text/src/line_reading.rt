@@ -2,7 +2,7 @@
 
 ghost use Rattle.std.specs.Prelude.{◌≡◌, MatchOption, IfOk, Ok, Some, None};
 ghost use Rattle.std.specs.List.{list_all};
-ghost use Rattle.schedule_text.specs.Reading.{lac_of, lns_of, open_of, ring_of, call_of, from_sub_of, down_of, deliver_of, tick_of, plain_of, words_of, is_printable, line_of, node_of, port_of, session_of, packet_of, frame_from, frame_of};
+ghost use Rattle.schedule_text.specs.Reading.{lac_of, lns_of, open_of, ring_of, call_of, from_sub_of, down_of, node_session_of, hang_of, drop_of, deliver_of, tick_of, plain_of, words_of, is_printable, line_of, node_of, port_of, session_of, packet_of, frame_from, frame_of};
 
 use crate::line::Line;
 use crate::parts::{read_number, split_once};
@@ -150,6 +150,35 @@ fn read_down(alloc: Global, words: &[u8]) -> Result<Option<Line>, NoMemory>
     }))
 }
 
+/// A node, and a session of it.
+#[tactic(auto, unfolding(crate::specs::Reading::node_session_of))]
+fn read_node_session(words: &[u8]) -> Option<(u8, u16)>
+    ensures { result ≡ node_session_of words.now }
+{
+    let (node, session) = split_once(words, b' ')?;
+    let node = read_node(node)?;
+    let session = read_u16(session)?;
+    Some((node, session))
+}
+
+/// `N S`, behind `hang `.
+#[tactic(auto, unfolding(crate::specs::Reading::hang_of))]
+fn read_hang(words: &[u8]) -> Option<Line>
+    ensures { result ≡ hang_of words.now }
+{
+    let (node, session) = read_node_session(words)?;
+    Some(Line::Hang { node, session })
+}
+
+/// `N S`, behind `drop `.
+#[tactic(auto, unfolding(crate::specs::Reading::drop_of))]
+fn read_drop(words: &[u8]) -> Option<Line>
+    ensures { result ≡ drop_of words.now }
+{
+    let (node, session) = read_node_session(words)?;
+    Some(Line::DropCall { node, session })
+}
+
 /// `P`, behind `deliver `.
 #[tactic(auto, unfolding(crate::specs::Reading::deliver_of))]
 fn read_deliver(words: &[u8]) -> Option<Line>
@@ -183,6 +212,10 @@ fn read_plain(kind: &[u8], words: &[u8]) -> Option<Line>
         read_open(words)
     } else if kind == b"ring".as_slice() {
         read_ring(words)
+    } else if kind == b"hang".as_slice() {
+        read_hang(words)
+    } else if kind == b"drop".as_slice() {
+        read_drop(words)
     } else if kind == b"deliver".as_slice() {
         read_deliver(words)
     } else if kind == b"tick".as_slice() {

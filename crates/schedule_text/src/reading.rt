@@ -1,27 +1,17 @@
 //! Reading a whole schedule.
 
-ghost use Rattle.std.specs.Prelude.{◌≡◌, ◌<◌, ◌≤◌, ◌==◌, ℕ, List, ◌∷◌, length, IfOk, IfErr, Ok, Err};
+ghost use Rattle.std.specs.Prelude.{◌≡◌, ◌<◌, ℕ, List, ◌∷◌, length, IfOk, IfErr, Ok, Err};
 ghost use Rattle.wire_base.specs.Answers.{Gives};
 ghost use Rattle.schedule_text.specs.declared.line.Line.{Line};
 ghost use Rattle.schedule_text.specs.declared.error.ScheduleError.TheVariants.{BadLine};
 ghost use Rattle.schedule_text.specs.Grammar.{IsSchedule, IsBadLine, IsFirstBad};
-ghost use Rattle.schedule_text.specs.Reading.{Told, text_lines, front_of, lines_of};
+ghost use Rattle.schedule_text.specs.Reading.{Told, text_lines, lines_of};
 
 use crate::error::ScheduleError;
 use crate::line::Lines;
 use crate::line_reading::read_line;
 use crate::parts::split_once;
-use crate::rules::kept;
 use std::alloc::Global;
-use wire_base::NoMemory;
-
-/// The lines before the first bytes that spell none.
-#[derive(Drop)]
-struct Front {
-    lines: Lines,
-    /// Whether these are all lines of the text.
-    whole: bool,
-}
 
 /// The bytes of the first line, and those behind its line feed.
 #[tactic(auto, using(crate::proofs::TextLines::first_fed, crate::proofs::TextLines::first_unfed))]
@@ -36,46 +26,29 @@ fn first_line(text: &[u8]) -> (&[u8], &[u8])
     }
 }
 
-fn read_front(alloc: Global, text: &[u8]) -> Result<Front, NoMemory>
-    ensures within { IfOk result (λ f. length f.lines ≤ length text.now) }
-    ensures lines { IfOk result (λ f. f.lines ≡ front_of (text_lines text.now)) }
-    ensures whole { IfOk result (λ f. f.whole ≡ (length (front_of (text_lines text.now)) == length (text_lines text.now))) }
+fn read_all(alloc: Global, text: &[u8]) -> Result<Lines, ScheduleError>
+    ensures { Gives Told (λ v. v) result (lines_of text.now) }
 {
     let mut lines = Lines::new(alloc);
     let mut rest = text;
     while !rest.is_empty() {
         let (bytes, behind) = first_line(rest);
         let Some(line) = read_line(alloc, bytes)? else {
-            return Ok(Front {
-                lines,
-                whole: false,
+            return Err(ScheduleError::BadLine {
+                line: lines.len() as u64 + 1,
             });
         };
         lines.push(line)?;
         rest = behind;
     }
-    Ok(Front { lines, whole: true })
-}
-
-fn read_all(alloc: Global, text: &[u8]) -> Result<Lines, ScheduleError>
-    ensures { Gives Told (λ v. v) result (lines_of text.now) }
-{
-    let front = read_front(alloc, text)?;
-    let kept = kept(front.lines.as_slice());
-    if kept < front.lines.len() || !front.whole {
-        return Err(ScheduleError::BadLine {
-            line: kept as u64 + 1,
-        });
-    }
-    Ok(front.lines)
+    Ok(lines)
 }
 
 /// The lines of a schedule, in time and memory that grow with the text alone.
 ///
 /// The text is a list of lines in ASCII, each ended by a line feed, which the last may lack; the empty text has none.
 /// Words are parted by one space, numbers are decimal without sign or leading zero, and frames are pairs of hex digits in
-/// lower case. The error tells the first line that isn't in the grammar or that may not stand behind those before it,
-/// counted from 1.
+/// lower case. The error tells the first line that isn't in the grammar, counted from 1.
 pub fn read_schedule(alloc: Global, text: &[u8]) -> Result<Lines, ScheduleError>
     // What is read is a schedule.
     ensures found { IfOk result (IsSchedule text.now) }
