@@ -11,7 +11,7 @@ use Rattle.std.proofs.lemmas.Bool.Decides.{nat_tests}
 use Rattle.std.proofs.lemmas.Option.{none-some}
 use Rattle.id_table.specs.Ids.{at, put, without, at-put, at-none, at-cons, is_at-same}
 
-less_is : (k q : ℕ) → nat_cmp k q ≡ Less → k < q
+pub less_is : (k q : ℕ) → nat_cmp k q ≡ Less → k < q
 less_is k q h = grind (arith, nat_tests)
 
 greater_is : (k q : ℕ) → nat_cmp k q ≡ Greater → q < k
@@ -26,7 +26,7 @@ module _ {X : Type 0} where
   Ascends [] = Unit {0}
   Ascends (e ∷ es) = IsAbove e.0 es × Ascends es
 
-  lower : (k q : ℕ) (es : List (ℕ × X)) → k < q → IsAbove q es → IsAbove k es
+  pub lower : (k q : ℕ) (es : List (ℕ × X)) → k < q → IsAbove q es → IsAbove k es
   lower k q [] lt h = tt
   lower k q (e ∷ es) lt h = ((let a = h.0 in omega arith), lower k q es lt h.1)
 
@@ -36,7 +36,8 @@ module _ {X : Type 0} where
   at-above_by k e es lt ih Equal h = absurd (let s = nat_cmp-IsAntisymmetric k e.0 h in omega arith)
   at-above_by k e es lt ih Greater h = rw h ih
 
-  at-above : (k : ℕ) (es : List (ℕ × X)) → IsAbove k es → at es k ≡ None
+  -- there is none below the first
+  pub at-above : (k : ℕ) (es : List (ℕ × X)) → IsAbove k es → at es k ≡ None
   unfolding at
   at-above k [] h = refl
   at-above k (e ∷ es) h = at-above_by k e es h.0 (at-above k es h.1) (nat_cmp k e.0) refl

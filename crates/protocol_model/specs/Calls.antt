@@ -1,5 +1,5 @@
 -- Calls, and what the data plane sees of them.
-use Rattle.std.specs.Prelude.{ℕ, List, [], ◌∷◌, ◌++◌, Bool, true, false, ◌==◌, not, nat_lt, bytes_eq, length, take, drop, ◌&&◌, if◌then◌else◌}
+use Rattle.std.specs.Prelude.{ℕ, ◌+◌, List, [], ◌∷◌, ◌++◌, Bool, true, false, ◌==◌, not, nat_le, nat_lt, bytes_eq, length, take, drop, ◌&&◌, if◌then◌else◌}
 use Rattle.wire_base.specs.declared.why.Why.{Why}
 use Rattle.wire_base.specs.declared.why.Why.TheVariants as why
 use Rattle.wire_base.specs.declared.letter.Side.{Side}
@@ -7,6 +7,7 @@ use Rattle.wire_base.specs.declared.letter.Side.TheVariants as side
 use Rattle.l2tp_header.specs.declared.header.Header.{Header}
 use Rattle.call_fsm.specs.declared.table.CallState.{CallState}
 use Rattle.call_fsm.specs.declared.table.CallState.TheVariants.{Idle}
+use Rattle.call_fsm.specs.declared.table.CallState.TheVariants as call
 use Rattle.call_fsm.specs.declared.table.CallEvent.{CallEvent}
 use Rattle.call_fsm.specs.declared.table.CallEvent.TheVariants.{Ring, IcrqAcc}
 use Rattle.call_fsm.specs.declared.table.CallAction.{CallAction}
@@ -71,6 +72,23 @@ is_up s = state_number s == 4
 -- it is neither idle nor established
 abbrev pub is_set_up : CallState → Bool
 is_set_up s = nat_lt 0 (state_number s) && nat_lt (state_number s) 4
+
+-- how many letters the tunnel may still have to give for a call: its request, its connection and its end
+abbrev pub owes : CallState → ℕ
+owes call.Idle = 0
+owes call.WaitTunnel = 3
+owes call.WaitReply = 2
+owes call.WaitConnect = 1
+owes call.Established = 1
+
+-- and for all calls of a tunnel
+abbrev pub owed_by : List (ℕ × Call) → ℕ
+owed_by [] = 0
+owed_by (c ∷ cs) = owes c.1.state + owed_by cs
+
+-- a tunnel has 4,096 live calls at most
+abbrev pub are_too_many : List (ℕ × Call) → Bool
+are_too_many calls = nat_le 4096 (length calls)
 
 -- ---- frames that come
 

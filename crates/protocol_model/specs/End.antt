@@ -1,10 +1,11 @@
 -- An end's step.
-use Rattle.std.specs.Prelude.{ℕ, List, [], ◌∷◌, ◌++◌, find, Bool, true, false, ◌&&◌, ◌==◌, if◌then◌else◌, Option, Some, None, option_map, Result, Ok, Err}
+use Rattle.std.specs.Prelude.{ℕ, List, [], ◌∷◌, ◌++◌, find, length, Bool, true, false, ◌&&◌, ◌==◌, nat_le, if◌then◌else◌, Option, Some, None, option_map, Result, Ok, Err}
 use Rattle.std.specs.List.{flat_map}
 use Rattle.id_table.specs.Ids.{at, put, without, ids_of}
 use Rattle.id_source.specs.Spaces.{Space}
 use Rattle.wire_base.specs.declared.letter.Letter.{Letter}
 use Rattle.wire_base.specs.declared.why.Why.TheVariants as why
+use Rattle.wire_base.specs.declared.cause.Cause.TheVariants as cause
 use Rattle.l2tp_header.specs.declared.header.Header.{Header}
 use Rattle.l2tp_header.specs.declared.header.HeaderError.{HeaderError}
 use Rattle.l2tp_header.specs.Reading.{header_of}
@@ -22,9 +23,9 @@ use Rattle.protocol_model.specs.declared.tunnel.Control.{Control}
 use Rattle.protocol_model.specs.declared.tunnel.Role.{Role}
 use Rattle.protocol_model.specs.declared.tunnel.Role.TheVariants.{Lac, Lns}
 use Rattle.protocol_model.specs.declared.event.Event.{Event}
-use Rattle.protocol_model.specs.declared.event.Event.TheVariants.{Datagram, Ring, Payload, Lower, OpenTunnel, Tick}
+use Rattle.protocol_model.specs.declared.event.Event.TheVariants.{Datagram, Ring, Payload, Lower, Hang, OpenTunnel, DropCall, Tick}
 use Rattle.protocol_model.specs.declared.out.Out.{Out}
-use Rattle.protocol_model.specs.declared.out.Out.TheVariants.{Up, Drop}
+use Rattle.protocol_model.specs.declared.out.Out.TheVariants.{Up, Drop, Cause}
 use Rattle.protocol_model.specs.declared.moves.Move.{Move}
 use Rattle.protocol_model.specs.declared.moves.Move.TheVariants as move
 use Rattle.protocol_model.specs.Calls.{is_lac, Carried, Upward, Dropped, carry_look, frame_of}
@@ -146,6 +147,14 @@ after_new e t =
 unfoldable pub in_new : End → Env → Event → ℕ → Stepped
 in_new e env ev peer = after_new e (turns e.role e.config [] [] ev (turn_of (fresh peer env.moment) env))
 
+-- an end has 1,024 live tunnels at most
+abbrev pub has_all_tunnels : List (ℕ × Tunnel) → Bool
+has_all_tunnels tunnels = nat_le 1024 (length tunnels)
+
+-- where there may be one more; else the event is refused so
+unfoldable pub in_one_more : End → Env → Event → ℕ → Out → Stepped
+in_one_more e env ev peer refusal = if has_all_tunnels e.tunnels then gives_only e refusal else in_new e env ev peer
+
 -- an event for the tunnel with this id
 unfoldable pub in_main : End → Env → Event → ℕ → Option Tunnel → Stepped
 in_main e env ev i None = gives_only e (Drop why.Tunnel)
@@ -217,7 +226,7 @@ unfoldable pub reached : End → ℕ → List ℕ → Option Control
 reached e peer bytes = reached_by e peer bytes (header_of bytes)
 
 unfoldable pub for_addressee : End → Env → Event → ℕ → Addressee → Stepped
-for_addressee e env ev peer (Opens remote) = in_new e env ev peer
+for_addressee e env ev peer (Opens remote) = in_one_more e env ev peer (Drop why.Tunnel)
 for_addressee e env ev peer (Main i) = in_main e env ev i (at e.tunnels i)
 for_addressee e env ev peer (Nobody w) = gives_only e (Drop w)
 
@@ -233,15 +242,15 @@ least_in s peer tunnels = find (λ i. is_in s peer (at tunnels i)) (ids_of tunne
 unfoldable pub rings_in : End → Env → Event → Option ℕ → Option ℕ → Stepped
 rings_in e env ev (Some i) opening = in_main e env ev i (at e.tunnels i)
 rings_in e env ev None (Some i) = in_main e env ev i (at e.tunnels i)
-rings_in e env ev None None = in_new e env ev e.config.lns
+rings_in e env ev None None = in_one_more e env ev e.config.lns (Cause cause.Tunnels)
 
 unfoldable pub rings_at : End → Env → Event → Stepped
 rings_at e env ev = rings_in e env ev (least_in Established e.config.lns e.tunnels) (least_in WaitCtlReply e.config.lns e.tunnels)
 
--- a frame that is given goes to the tunnel of its call
-unfoldable pub gives_frame : End → Env → Event → Option CallPlace → Stepped
-gives_frame e env ev None = gives_only e (Drop why.Call)
-gives_frame e env ev (Some p) = in_main e env ev p.tunnel (at e.tunnels p.tunnel)
+-- an event of a call goes to its tunnel
+unfoldable pub for_call : End → Env → Event → Option CallPlace → Stepped
+for_call e env ev None = gives_only e (Drop why.Call)
+for_call e env ev (Some p) = in_main e env ev p.tunnel (at e.tunnels p.tunnel)
 
 -- ---- frames that come
 
@@ -276,9 +285,11 @@ only_by Lns e s = if is_lac e.role then gives_only e (Drop why.Node) else s
 unfoldable pub step_in : End → Env → Event → Stepped
 step_in e env (Datagram peer bytes) = receives e env peer bytes (header_of bytes)
 step_in e env (Ring port) = only_by Lac e (rings_at e env (Ring port))
-step_in e env (Payload session frame) = only_by Lac e (gives_frame e env (Payload session frame) (at e.calls session))
-step_in e env (Lower session frame) = only_by Lns e (gives_frame e env (Lower session frame) (at e.calls session))
-step_in e env OpenTunnel = only_by Lac e (in_new e env OpenTunnel e.config.lns)
+step_in e env (Payload session frame) = only_by Lac e (for_call e env (Payload session frame) (at e.calls session))
+step_in e env (Lower session frame) = only_by Lns e (for_call e env (Lower session frame) (at e.calls session))
+step_in e env (Hang session) = only_by Lac e (for_call e env (Hang session) (at e.calls session))
+step_in e env OpenTunnel = only_by Lac e (in_one_more e env OpenTunnel e.config.lns (Cause cause.Tunnels))
+step_in e env (DropCall session) = for_call e env (DropCall session) (at e.calls session)
 step_in e env Tick = ticks_all e env
 
 -- a step at a moment, with a block of random bytes

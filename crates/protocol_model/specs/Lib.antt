@@ -1,6 +1,8 @@
 pub mod Names
 pub mod Reading
 pub mod Calls
+pub mod Owing
+pub mod Reasons
 pub mod Turn
 pub mod End
 pub mod Texts

@@ -1,7 +1,9 @@
 -- What a datagram says.
-use Rattle.std.specs.Prelude.{ℕ, ◌-◌, ◌==◌, List, take, drop, if◌then◌else◌, Option, Some, None, Result, Ok, Err}
+use Rattle.std.specs.Prelude.{ℕ, ◌-◌, ◌==◌, Bool, true, false, List, take, drop, if◌then◌else◌, Option, Some, None, Result, Ok, Err}
 use Rattle.wire_base.specs.declared.why.Why.{Why}
 use Rattle.wire_base.specs.declared.why.Why.TheVariants as why
+use Rattle.wire_base.specs.declared.cause.Cause.{Cause}
+use Rattle.wire_base.specs.declared.cause.Cause.TheVariants as cause
 use Rattle.avp_codec.specs.declared.avp.Avp.{Avp}
 use Rattle.avp_codec.specs.declared.error.AvpError.{AvpError}
 use Rattle.avp_codec.specs.Reading.{avps_of}
@@ -13,8 +15,10 @@ use Rattle.control_message.specs.declared.message.Message.TheVariants.{Sccrq}
 use Rattle.control_message.specs.declared.message.Read.{Read}
 use Rattle.control_message.specs.declared.message.Read.TheVariants.{Known, Ignored}
 use Rattle.control_message.specs.declared.message.MessageError.{MessageError}
-use Rattle.control_message.specs.declared.message.MessageError.TheVariants.{NoType, UnknownType}
-use Rattle.control_message.specs.Reading.{message_of}
+use Rattle.control_message.specs.declared.message.MessageError.TheVariants.{NoType, UnknownType, UnknownMandatory, HiddenWithoutVector, BadValue, Missing}
+use Rattle.control_message.specs.declared.kind.Kind.{Kind}
+use Rattle.control_message.specs.declared.kind.Kind.TheVariants as kind
+use Rattle.control_message.specs.Reading.{message_of, kind_of_pairs, plain_short}
 use Rattle.protocol_model.specs.declared.event.Addressee.{Addressee}
 use Rattle.protocol_model.specs.declared.event.Addressee.TheVariants.{Opens, Main, Nobody}
 
@@ -40,6 +44,52 @@ pairs_read (Err e) = Err why.Avp
 
 unfoldable pub message_in : List ℕ → Result Message Why
 message_in body = pairs_read (avps_of body)
+
+-- ---- faults of messages about calls
+
+-- a pair that has to be understood isn't, or a value is wrong or wanting
+abbrev pub fault_cause : MessageError → Option Cause
+fault_cause (UnknownMandatory v n) = Some cause.Mandatory
+fault_cause (HiddenWithoutVector n) = Some cause.Value
+fault_cause (BadValue n) = Some cause.Value
+fault_cause (Missing n) = Some cause.Value
+fault_cause e = None
+
+-- those that are answered by a CDN
+abbrev pub is_about_call : Kind → Bool
+is_about_call kind.Icrq = true
+is_about_call kind.Icrp = true
+is_about_call kind.Iccn = true
+is_about_call kind.Cdn = true
+is_about_call kind.Wen = true
+is_about_call kind.Sli = true
+is_about_call kind.Ocrq = true
+is_about_call k = false
+
+-- a message about a call that has a fault, and the session id that it tells, where that can be read
+pub record CallFault : Type 0 where
+  pub kind : Kind
+  pub cause : Cause
+  pub session : Option ℕ
+
+abbrev pub with_cause : Kind → Option ℕ → Option Cause → Option CallFault
+with_cause k session None = None
+with_cause k session (Some c) = Some (record { kind = k; cause = c; session = session })
+
+abbrev pub fault_of_kind : Option Kind → MessageError → List Avp → Option CallFault
+fault_of_kind None e avps = None
+fault_of_kind (Some k) e avps = if is_about_call k then with_cause k (plain_short 14 avps) (fault_cause e) else None
+
+abbrev pub fault_read : List Avp → Result Read MessageError → Option CallFault
+fault_read avps (Ok r) = None
+fault_read avps (Err e) = fault_of_kind (kind_of_pairs avps) e avps
+
+unfoldable pub fault_of_pairs : Result (List Avp) AvpError → Option CallFault
+fault_of_pairs (Ok avps) = fault_read avps (message_of avps)
+fault_of_pairs (Err e) = None
+
+unfoldable pub call_fault_in : List ℕ → Option CallFault
+call_fault_in body = fault_of_pairs (avps_of body)
 
 -- ---- what a control message is for
 

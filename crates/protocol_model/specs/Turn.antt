@@ -1,10 +1,11 @@
 -- A tunnel's step, as a chain of functions from turn to turn.
-use Rattle.std.specs.Prelude.{ℕ, zero, suc, ◌-◌, List, [], ◌∷◌, ◌++◌, drop, find, slice_get, Bool, true, false, ◌==◌, ◌&&◌, ◌||◌, nat_le, nat_lt, length, if◌then◌else◌, Option, Some, None, unwrap_or, Result, Ok, Err}
+use Rattle.std.specs.Prelude.{ℕ, zero, suc, ◌+◌, ◌-◌, List, [], ◌∷◌, ◌++◌, drop, find, slice_get, Bool, true, false, ◌==◌, ◌&&◌, ◌||◌, not, nat_le, nat_lt, length, if◌then◌else◌, Option, Some, None, is_some, unwrap_or, Result, Ok, Err}
 use Rattle.id_table.specs.Ids.{at, put, without, ids_of}
 use Rattle.id_source.specs.Spaces.{Space, draws, after_draw}
 use Rattle.id_source.specs.declared.IdError.{IdError}
 use Rattle.wire_base.specs.declared.why.Why.{Why}
 use Rattle.wire_base.specs.declared.why.Why.TheVariants as why
+use Rattle.wire_base.specs.declared.cause.Cause.{Cause as CauseOf}
 use Rattle.wire_base.specs.declared.cause.Cause.TheVariants as cause
 use Rattle.wire_base.specs.declared.letter.Letter.{Letter}
 use Rattle.l2tp_header.specs.declared.header.Header.{Header}
@@ -13,7 +14,9 @@ use Rattle.l2tp_header.specs.Reading.{header_of}
 use Rattle.l2tp_header.specs.Spelling.{control_bytes, data_bytes}
 use Rattle.avp_codec.specs.Spelling.{spelling}
 use Rattle.control_message.specs.declared.message.Message.{Message}
-use Rattle.control_message.specs.declared.message.Message.TheVariants.{Sccrq, Sccrp, Scccn, Hello, Icrq, Icrp, Iccn, Cdn}
+use Rattle.control_message.specs.declared.message.Message.TheVariants.{Sccrq, Sccrp, Scccn, StopCcn, Hello, Ocrq, Ocrp, Occn, Icrq, Icrp, Iccn, Cdn, Wen, Sli}
+use Rattle.control_message.specs.declared.kind.Kind.{Kind}
+use Rattle.control_message.specs.declared.kind.Kind.TheVariants as kind
 use Rattle.control_message.specs.declared.message.Opening.{Opening}
 use Rattle.control_message.specs.Pairs.{pairs_of}
 use Rattle.send_window.specs.declared.window.Tick.{Tick}
@@ -29,6 +32,7 @@ use Rattle.tunnel_fsm.specs.declared.table.TunnelEvent.TheVariants as event
 use Rattle.tunnel_fsm.specs.declared.table.TunnelAction.{TunnelAction}
 use Rattle.tunnel_fsm.specs.declared.table.TunnelAction.TheVariants as action
 use Rattle.tunnel_fsm.specs.Rows.{rows, row_of, state_number}
+use Rattle.call_fsm.specs.declared.table.CallEvent.{CallEvent}
 use Rattle.call_fsm.specs.declared.table.CallEvent.TheVariants as call_event
 use Rattle.call_fsm.specs.declared.table.CallState.TheVariants as call
 use Rattle.call_fsm.specs.declared.table.CallAction.{CallAction}
@@ -40,7 +44,7 @@ use Rattle.protocol_model.specs.declared.tunnel.Config.{Config}
 use Rattle.protocol_model.specs.declared.tunnel.Control.{Control}
 use Rattle.protocol_model.specs.declared.tunnel.Role.{Role}
 use Rattle.protocol_model.specs.declared.event.Event.{Event}
-use Rattle.protocol_model.specs.declared.event.Event.TheVariants.{Datagram, Ring, Payload, Lower, OpenTunnel}
+use Rattle.protocol_model.specs.declared.event.Event.TheVariants.{Datagram, Ring, Payload, Lower, Hang, OpenTunnel, DropCall}
 use Rattle.protocol_model.specs.declared.event.Event.TheVariants as event_of
 use Rattle.protocol_model.specs.declared.out.Out.{Out}
 use Rattle.protocol_model.specs.declared.out.Out.TheVariants.{Send, Gone, Drop, Cause}
@@ -50,8 +54,9 @@ use Rattle.protocol_model.specs.declared.moves.Place.{Place}
 use Rattle.protocol_model.specs.declared.moves.Move.{Move}
 use Rattle.protocol_model.specs.declared.moves.Move.TheVariants as move
 use Rattle.protocol_model.specs.Names.{host_name, calling_number}
-use Rattle.protocol_model.specs.Reading.{header_why, body_of, message_in}
-use Rattle.protocol_model.specs.Calls.{call_row, advanced, rung, asked_for, is_request, is_reply, is_connection, is_up, is_set_up}
+pub use Rattle.protocol_model.specs.Reasons.{Reason, reason, out_of_state, fault_error, fault_reason, has_answer}
+use Rattle.protocol_model.specs.Reading.{header_why, body_of, message_in, CallFault, call_fault_in}
+use Rattle.protocol_model.specs.Calls.{call_row, advanced, rung, asked_for, is_request, is_reply, is_connection, is_up, is_set_up, owed_by, are_too_many}
 
 pub record Tunnel : Type 0 where
   pub control : Control
@@ -164,6 +169,11 @@ taken_place c = place c.channel.inbox.taken
 -- at most 8,192 letters are unacknowledged or unsent, so there is room for one more
 abbrev pub has_room : Control → Bool
 has_room c = nat_lt c.channel.window.queued 8192
+
+-- A tunnel takes the next message, and a call that rings, only where the letters that it holds, those that its calls owe and
+-- four more are at most 8,192. So there is room for each letter that it then has to give.
+abbrev pub may_take : Control → List (ℕ × Call) → Bool
+may_take c calls = nat_le (c.channel.window.queued + owed_by calls + 4) 8192
 
 abbrev pub letter_of : ℕ → Message → Letter
 letter_of session m = record { session = session; avps = spelling (pairs_of m) }
@@ -382,6 +392,13 @@ unfoldable pub rings_by : Role → ℕ → Result ℕ IdError → Turn → Turn
 rings_by role port (Err e) t = with_output (Cause cause.Ids) t
 rings_by role port (Ok s) t = rings_over role port s t
 
+-- over a tunnel that has these calls
+unfoldable pub rings_within : Role → List (ℕ × Call) → ℕ → Turn → Turn
+rings_within role calls port t =
+    if are_too_many calls then with_output (Cause cause.Calls) t
+    else if may_take t.control calls then rings_by role port (draws t.sessions) t
+    else with_output (Cause cause.Queue) t
+
 -- a new tunnel is opened for the call
 unfoldable pub rings_new : Role → Config → ℕ → Result ℕ IdError → Result ℕ IdError → Turn → Turn
 rings_new role c port (Err e) local t = with_output (Cause cause.Ids) t
@@ -389,11 +406,11 @@ rings_new role c port (Ok s) (Err e) t = with_output (Cause cause.Ids) t
 rings_new role c port (Ok s) (Ok local) t =
     if has_room t.control then adds role port s (opened role c local t) else with_output (Cause cause.Queue) t
 
-unfoldable pub rings : Role → Config → ℕ → Turn → Turn
-rings role c port t =
+unfoldable pub rings : Role → Config → List (ℕ × Call) → ℕ → Turn → Turn
+rings role c calls port t =
     if state_number t.control.state == 0
     then rings_new role c port (draws t.sessions) (draws t.tunnels) t
-    else rings_by role port (draws t.sessions) t
+    else rings_within role calls port t
 
 -- ---- letters about the tunnel
 
@@ -435,7 +452,77 @@ takes_by role calls remote window (next, a) t = ignores why.Ignored t
 unfoldable pub takes : Role → List (ℕ × Call) → TunnelEvent → ℕ → ℕ → Turn → Turn
 takes role calls e remote window t = takes_by role calls remote window (row_of rows t.control.state e) t
 
+-- ---- calls that end
+
+-- a call ends: the peer, where it was asked for it, is told by a CDN with a result code (RFC 2661 section 4.4.2)
+unfoldable pub end_silent : ℕ → Turn → Turn
+end_silent s t = with_move (move.EndSilent (record { tunnel = t.control.local; session = s })) (ends_call s t)
+
+unfoldable pub end_told : ℕ → Call → ℕ → Option ℕ → Turn → Turn
+end_told s c result error t =
+    gives c.remote (Cdn s result error)
+    (with_move (move.EndTold (record { tunnel = t.control.local; session = s; remote = c.remote; result = result; error = error; given = next_place t.control }))
+    (ends_call s t))
+
+-- by its table's row; a row that only cleans up has no cause
+unfoldable pub ends_by : CauseOf → ℕ → Option ℕ → ℕ → Call → CallAction → Turn → Turn
+ends_by for result error s c call_action.CleanUp t = end_silent s t
+ends_by for result error s c call_action.SendCdn t =
+    if has_room t.control then end_told s c result error (with_output (Cause for) t) else drops why.Queue t
+ends_by for result error s c a t = t
+
+-- a call of this end's is closed, by an event of its table; session ids have 16 bits
+unfoldable pub closes : Role → CauseOf → CallEvent → ℕ → ℕ → Option Call → Turn → Turn
+closes role for e result s None t = drops why.Call t
+closes role for e result s (Some c) t =
+    if nat_lt s 65536 then ends_by for result None s c (call_row role c.state e).1 t else t
+
 -- ---- letters about a call
+
+-- the call does what its table says on a letter, which is taken
+unfoldable pub answers_by : Reason → ℕ → Call → CallAction → Turn → Turn
+answers_by r s c a t = if nat_lt s 65536 then ends_by r.cause r.result r.error s c a (takes_plain t) else takes_plain t
+
+-- there is no such call, as the peer is told: the CDN names none of this end's
+unfoldable pub refused : Reason → ℕ → Turn → Turn
+refused r remote t =
+    gives remote (Cdn 0 r.result r.error)
+    (with_move (move.Refused (record { tunnel = t.control.local; remote = remote; result = r.result; error = r.error; taken = taken_place t.control; given = next_place t.control }))
+    (takes_one (with_output (Cause r.cause) t)))
+
+unfoldable pub refuses : Reason → ℕ → Turn → Turn
+refuses r remote t = if has_room t.control then refused r remote t else drops why.Queue t
+
+-- what the table says of a call that there isn't
+unfoldable pub of_no_call : Reason → ℕ → CallAction → Turn → Turn
+of_no_call r remote call_action.SendCdn t = refuses r remote t
+of_no_call r remote call_action.DropSession t = ignores why.Session t
+of_no_call r remote a t = takes_plain t
+
+-- a header with session 0 comes where the peer knows no session of this end: the call is the one whose other id is told
+abbrev pub is_call_of : ℕ → Option Call → Bool
+is_call_of remote None = false
+is_call_of remote (Some c) = c.remote == remote
+
+unfoldable pub call_of : List (ℕ × Call) → ℕ → Option ℕ
+call_of calls remote = find (λ s. is_call_of remote (at calls s)) (ids_of calls)
+
+unfoldable pub session_named : List (ℕ × Call) → ℕ → ℕ → ℕ
+session_named calls session remote =
+    if session == 0 then (if remote == 0 then 0 else unwrap_or (call_of calls remote) 0) else session
+
+-- the session of a call that the peer asks for, or the first cause for which there can be none: this end takes no calls; the
+-- peer's id is no id, or that of a call of the tunnel; the tunnel has as many calls as it may; there is no id left
+abbrev pub left_of : Result ℕ IdError → Result ℕ Reason
+left_of (Ok s) = Ok s
+left_of (Err e) = Err (reason cause.Ids 4 None)
+
+unfoldable pub granted : Role → List (ℕ × Call) → ℕ → Space → Result ℕ Reason
+granted role calls remote sessions =
+    if not (is_reply (call_row role call.Idle call_event.IcrqAcc).1) then Err out_of_state
+    else if remote == 0 || is_some (call_of calls remote) then Err (reason cause.Session 2 (Some 5))
+    else if are_too_many calls then Err (reason cause.Calls 4 None)
+    else left_of (draws sessions)
 
 -- the peer asks for a call: it is made, and the peer is told its session
 unfoldable pub replied : Role → ℕ → ℕ → Turn → Turn
@@ -444,13 +531,15 @@ replied role remote s t =
     (with_move (move.Replied (record { tunnel = t.control.local; peer = t.control.peer; session = s; remote = remote; taken = taken_place t.control; given = next_place t.control }))
     (with_new s (asked_for role remote t.moment) (takes_one t)))
 
-unfoldable pub replies_by : Role → ℕ → Result ℕ IdError → Turn → Turn
-replies_by role remote (Err e) t = ignores why.Session t
-replies_by role remote (Ok s) t = if has_room t.control then replied role remote s t else drops why.Queue t
+unfoldable pub replies : Role → ℕ → ℕ → Turn → Turn
+replies role remote s t = if has_room t.control then replied role remote s t else drops why.Queue t
 
-unfoldable pub replies : Role → ℕ → Turn → Turn
-replies role remote t =
-    if is_reply (call_row role call.Idle call_event.IcrqAcc).1 then replies_by role remote (draws t.sessions) t else ignores why.Session t
+-- the request for a call, or one that names a call
+unfoldable pub asked_by : Role → ℕ → ℕ → Result ℕ Reason → Option Call → Turn → Turn
+asked_by role s remote (Ok drawn) None t = replies role remote drawn t
+asked_by role s remote (Err r) None t = refuses r remote t
+asked_by role s remote (Ok drawn) (Some c) t = answers_by out_of_state s c (call_row role c.state call_event.IcrqAcc).1 t
+asked_by role s remote (Err r) (Some c) t = answers_by r s c (call_row role c.state call_event.IcrqNotAcc).1 t
 
 -- the peer's session is learned, and the call is connected and up
 unfoldable pub first_up : Role → ℕ → ℕ → Call → Turn → Turn
@@ -462,11 +551,11 @@ first_up role s remote c t =
     (takes_one t))))
 
 unfoldable pub first_up_by : Role → ℕ → ℕ → Option Call → Turn → Turn
-first_up_by role s remote None t = ignores why.Session t
+first_up_by role s remote None t = of_no_call out_of_state remote (call_row role call.Idle call_event.IcrpAcc).1 t
 first_up_by role s remote (Some c) t =
     if is_connection (call_row role c.state call_event.IcrpAcc).1
     then (if has_room t.control then first_up role s remote c t else drops why.Queue t)
-    else ignores why.Session t
+    else answers_by out_of_state s c (call_row role c.state call_event.IcrpAcc).1 t
 
 -- the call is connected: as long as no LCP end opens its network, it is known to the peer and established at once
 unfoldable pub second_up : Role → ℕ → Call → Turn → Turn
@@ -478,9 +567,10 @@ second_up role s c t =
     (takes_one t))))
 
 unfoldable pub second_up_by : Role → ℕ → Option Call → Turn → Turn
-second_up_by role s None t = ignores why.Session t
+second_up_by role s None t = of_no_call out_of_state 0 (call_row role call.Idle call_event.IccnAcc).1 t
 second_up_by role s (Some c) t =
-    if is_up (call_row role c.state call_event.IccnAcc).0 then second_up role s c t else ignores why.Session t
+    if is_up (call_row role c.state call_event.IccnAcc).0 then second_up role s c t
+    else answers_by out_of_state s c (call_row role c.state call_event.IccnAcc).1 t
 
 -- the peer says that the call ended
 unfoldable pub end_heard : ℕ → Turn → Turn
@@ -493,34 +583,57 @@ is_clean_up call_action.CleanUp = true
 is_clean_up a = false
 
 unfoldable pub end_heard_by : Role → ℕ → Option Call → Turn → Turn
-end_heard_by role s None t = ignores why.Session t
+end_heard_by role s None t = of_no_call out_of_state 0 (call_row role call.Idle call_event.CdnCame).1 t
 end_heard_by role s (Some c) t =
-    if is_clean_up (call_row role c.state call_event.CdnCame).1 then end_heard s t else ignores why.Session t
-
--- a header with session 0 comes where the peer knows no session of this end: the call is the one whose other id is told
-abbrev pub is_call_of : ℕ → Option Call → Bool
-is_call_of remote None = false
-is_call_of remote (Some c) = c.remote == remote
-
-unfoldable pub call_of : List (ℕ × Call) → ℕ → Option ℕ
-call_of calls remote = find (λ s. is_call_of remote (at calls s)) (ids_of calls)
-
-unfoldable pub session_named : List (ℕ × Call) → ℕ → ℕ → ℕ
-session_named calls session remote = if session == 0 then unwrap_or (call_of calls remote) 0 else session
+    if is_clean_up (call_row role c.state call_event.CdnCame).1 then end_heard s t else takes_plain t
 
 unfoldable pub ends_named : Role → List (ℕ × Call) → ℕ → Turn → Turn
 ends_named role calls s t = end_heard_by role s (at calls s) t
 
+-- a StopCCN is passed over as yet
 unfoldable pub about_call : Role → List (ℕ × Call) → ℕ → Message → Turn → Turn
-about_call role calls session (Icrq remote serial calling) t = replies role remote t
+about_call role calls session (Icrq remote serial calling) t =
+    asked_by role session remote (granted role calls remote t.sessions) (at calls session) t
 about_call role calls session (Icrp remote) t = first_up_by role session remote (at calls session) t
 about_call role calls session (Iccn speed framing sequenced) t = second_up_by role session (at calls session) t
 about_call role calls session (Cdn remote code error) t = ends_named role calls (session_named calls session remote) t
-about_call role calls session m t = ignores why.Session t
+about_call role calls session (Ocrq remote) t = refuses (reason cause.Outgoing 5 None) remote t
+about_call role calls session m t = takes_plain t
 
 -- only an open tunnel carries calls
 unfoldable pub in_call : Role → List (ℕ × Call) → ℕ → Message → Turn → Turn
 in_call role calls session m t = if state_number t.control.state == 3 then about_call role calls session m t else ignores why.Session t
+
+-- ---- faulty letters about a call
+
+-- of a call that there is, or of one that there isn't, by the table's rows for these events
+unfoldable pub faulty_at : Role → Reason → ℕ → ℕ → CallEvent → CallAction → Option Call → Turn → Turn
+faulty_at role r s remote e none None t = of_no_call r remote none t
+faulty_at role r s remote e none (Some c) t = answers_by r s c (call_row role c.state e).1 t
+
+unfoldable pub faulty : Role → List (ℕ × Call) → ℕ → Kind → CauseOf → Option ℕ → Turn → Turn
+faulty role calls session kind.Icrq c told t =
+    if has_answer c told
+    then faulty_at role (fault_reason c) session (unwrap_or told 0) call_event.IcrqNotAcc call_action.SendCdn (at calls session) t
+    else ignores why.Avp t
+faulty role calls session kind.Ocrq c told t =
+    if has_answer c told then refuses (fault_reason c) (unwrap_or told 0) t else ignores why.Avp t
+faulty role calls session kind.Icrp c told t =
+    faulty_at role (fault_reason c) session (unwrap_or told 0) call_event.IcrpNotAcc (call_row role call.Idle call_event.IcrpNotAcc).1 (at calls session) t
+faulty role calls session kind.Iccn c told t =
+    faulty_at role (fault_reason c) session 0 call_event.IccnNotAcc (call_row role call.Idle call_event.IccnNotAcc).1 (at calls session) t
+faulty role calls session kind.Cdn c told t =
+    faulty_at role (fault_reason c) (session_named calls session (unwrap_or told 0)) 0 call_event.Close
+    (call_row role call.Idle call_event.CdnCame).1 (at calls (session_named calls session (unwrap_or told 0))) t
+-- a WEN or an SLI
+faulty role calls session k c told t =
+    faulty_at role (fault_reason c) session 0 call_event.Close call_action.Nothing (at calls session) t
+
+-- one that has another fault, or isn't about a call, is passed over as yet
+unfoldable pub in_faulty_call : Role → List (ℕ × Call) → ℕ → Option CallFault → Why → Turn → Turn
+in_faulty_call role calls session None w t = ignores w t
+in_faulty_call role calls session (Some f) w t =
+    if state_number t.control.state == 3 then faulty role calls session f.kind f.cause f.session t else ignores why.Session t
 
 -- ---- control messages
 
@@ -533,14 +646,21 @@ hears role calls session (Icrq remote serial calling) t = in_call role calls ses
 hears role calls session (Icrp remote) t = in_call role calls session (Icrp remote) t
 hears role calls session (Iccn speed framing sequenced) t = in_call role calls session (Iccn speed framing sequenced) t
 hears role calls session (Cdn remote code error) t = in_call role calls session (Cdn remote code error) t
+hears role calls session (StopCcn tunnel code error) t = ignores why.Ignored t
+hears role calls session (Ocrq remote) t = in_call role calls session (Ocrq remote) t
+hears role calls session Ocrp t = takes_plain t
+hears role calls session Occn t = takes_plain t
+hears role calls session Wen t = takes_plain t
+hears role calls session Sli t = takes_plain t
 
-unfoldable pub hears_said : Role → List (ℕ × Call) → ℕ → Result Message Why → Turn → Turn
-hears_said role calls session (Err w) t = ignores w t
-hears_said role calls session (Ok m) t = hears role calls session m t
+unfoldable pub hears_said : Role → List (ℕ × Call) → ℕ → Option CallFault → Result Message Why → Turn → Turn
+hears_said role calls session f (Err w) t = in_faulty_call role calls session f w t
+hears_said role calls session f (Ok m) t = hears role calls session m t
 
 -- the next letter is taken; one that is ahead of it isn't, nor one that came before
 unfoldable pub hears_letter : Role → List (ℕ × Call) → ℕ → List ℕ → Option Class → Turn → Turn
-hears_letter role calls session body (Some Next) t = hears_said role calls session (message_in body) t
+hears_letter role calls session body (Some Next) t =
+    if may_take t.control calls then hears_said role calls session (call_fault_in body) (message_in body) t else drops why.Queue t
 hears_letter role calls session body (Some (Ahead by)) t = drops why.Ahead t
 hears_letter role calls session body (Some Duplicate) t = t
 hears_letter role calls session body None t = t
@@ -605,29 +725,12 @@ greets letters t =
     if state_number t.control.state == 3 && t.control.channel.window.queued == 0 && is_over patience t.moment t.control.heard
     then greeted letters t else t
 
--- a call that took too long ends: the peer, where it was asked for it, is told by a CDN with result code 10
--- (RFC 2661 section 4.4.2)
-unfoldable pub end_silent : ℕ → Turn → Turn
-end_silent s t = with_move (move.EndSilent (record { tunnel = t.control.local; session = s })) (ends_call s t)
-
-unfoldable pub end_told : ℕ → Call → ℕ → Turn → Turn
-end_told s c code t =
-    gives c.remote (Cdn s code None)
-    (with_move (move.EndTold (record { tunnel = t.control.local; session = s; remote = c.remote; code = code; given = next_place t.control }))
-    (ends_call s t))
-
-unfoldable pub limited_by : List Letter → ℕ → Call → CallAction → Turn → Turn
-limited_by letters s c call_action.CleanUp t = end_silent s t
-limited_by letters s c call_action.SendCdn t =
-    if has_room t.control then settles false letters (end_told s c 10 (with_output (Cause cause.Setup) t)) else t
-limited_by letters s c a t = t
-
--- session ids have 16 bits
+-- a call that took too long to be set up ends
 unfoldable pub limits_at : Role → List Letter → ℕ → Option Call → Turn → Turn
 limits_at role letters s None t = t
 limits_at role letters s (Some c) t =
     if nat_lt s 65536 && is_set_up c.state && is_over patience t.moment c.since
-    then limited_by letters s c (call_row role c.state call_event.Close).1 t else t
+    then settles false letters (ends_by cause.Setup 10 None s c (call_row role c.state call_event.Close).1 t) else t
 
 unfoldable pub limits_all : Role → List Letter → List ℕ → List (ℕ × Call) → Turn → Turn
 limits_all role letters [] calls t = t
@@ -662,10 +765,12 @@ hears_datagram role c letters calls bytes (Ok h) t =
 -- an event of the tunnel, which has these letters and calls
 unfoldable pub turns : Role → Config → List Letter → List (ℕ × Call) → Event → Turn → Turn
 turns role c letters calls (Datagram peer bytes) t = hears_datagram role c letters calls bytes (header_of bytes) t
-turns role c letters calls (Ring port) t = settles false letters (rings role c port t)
+turns role c letters calls (Ring port) t = settles false letters (rings role c calls port t)
 turns role c letters calls (Payload s frame) t = carries s frame (at calls s) t
 turns role c letters calls (Lower s frame) t = carries s frame (at calls s) t
+turns role c letters calls (Hang s) t = settles false letters (closes role cause.Line call_event.LineDrop 1 s (at calls s) t)
 turns role c letters calls OpenTunnel t = settles false letters (opens role c t)
+turns role c letters calls (DropCall s) t = settles false letters (closes role cause.Operator call_event.Close 3 s (at calls s) t)
 turns role c letters calls event_of.Tick t = ticks role letters calls t
 
 -- ---- what a turn leaves

@@ -5,7 +5,7 @@ use Rattle.id_table.specs.Ids.{at, put}
 use Rattle.wire_base.specs.declared.why.Why.{Why}
 use Rattle.wire_base.specs.declared.why.Why.TheVariants as why
 use Rattle.schedule_text.specs.declared.line.Line.{Line}
-use Rattle.schedule_text.specs.declared.line.Line.TheVariants.{Remark, Lac, Lns, OpenUp, Ring, FromSub, Down, Deliver, Tick}
+use Rattle.schedule_text.specs.declared.line.Line.TheVariants.{Remark, Lac, Lns, OpenUp, Ring, FromSub, Down, Hang, DropCall, Deliver, Tick}
 use Rattle.protocol_model.specs.declared.tunnel.Config.{Config}
 use Rattle.protocol_model.specs.declared.tunnel.Control.{Control}
 use Rattle.protocol_model.specs.declared.tunnel.Role.{Role}
@@ -262,4 +262,6 @@ line w number (Ring n port) = stepped w number n (event.Ring port) None (lac_at 
 line w number (FromSub n session frame) = stepped w number n (event.Payload session frame) None (with_call session (lac_at (at w.nodes n)))
 line w number (Down n session frame) = stepped w number n (event.Lower session frame) None (with_call session (lns_at (at w.nodes n)))
 line w number (Deliver p) = delivers w number (slice_get w.packets (p - 1))
+line w number (Hang n session) = stepped w number n (event.Hang session) None (with_call session (lac_at (at w.nodes n)))
+line w number (DropCall n session) = stepped w number n (event.DropCall session) None (with_call session (declared (at w.nodes n)))
 line w number (Tick n milliseconds) = stepped w number n event.Tick None (later milliseconds (declared (at w.nodes n)))

@@ -13,8 +13,12 @@ pub enum Event {
     Payload { session: u16, frame: Bytes },
     /// The network sends a PPP frame down an LNS's call, from its protocol field on.
     Lower { session: u16, frame: Bytes },
+    /// The subscriber of a LAC's call leaves.
+    Hang { session: u16 },
     /// An administrative open of a tunnel.
     OpenTunnel,
+    /// An administrative close of a call.
+    DropCall { session: u16 },
     /// Time has passed: what is due is done.
     Tick,
 }

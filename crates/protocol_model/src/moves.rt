@@ -92,14 +92,27 @@ pub struct SecondUp {
     pub taken: Place,
 }
 
-/// A call ended, and the peer was told by a CDN with this result code. `remote` is the peer's session id, 0 where it isn't
-/// known.
+/// A call ended, and the peer was told by a CDN with this result code and error code (RFC 2661 section 4.4.2). `remote` is the
+/// peer's session id, 0 where it isn't known.
 #[derive(Clone, Copy, Debug, PartialEq, Eq)]
 pub struct EndTold {
     pub tunnel: u16,
     pub session: u16,
     pub remote: u16,
-    pub code: u16,
+    pub result: u16,
+    pub error: Option<u16>,
+    pub given: Place,
+}
+
+/// A tunnel took a letter about a call that there isn't, and answered by a CDN with this result code and error code, which
+/// names no call of this end (RFC 2661 section 4.4.3). `remote` is the session id that the letter told, 0 where it told none.
+#[derive(Clone, Copy, Debug, PartialEq, Eq)]
+pub struct Refused {
+    pub tunnel: u16,
+    pub remote: u16,
+    pub result: u16,
+    pub error: Option<u16>,
+    pub taken: Place,
     pub given: Place,
 }
 
@@ -184,6 +197,7 @@ pub enum Move {
     Replied(Replied),
     FirstUp(FirstUp),
     SecondUp(SecondUp),
+    Refused(Refused),
     EndTold(EndTold),
     EndHeard(EndHeard),
     EndSilent(EndSilent),
