@@ -4,13 +4,15 @@ use Rattle.std.specs.Prelude.{if◌then◌else◌}
 use Rattle.id_table.specs.Ids.{at}
 use Rattle.id_source.specs.Spaces.{Space}
 use Rattle.wire_base.specs.declared.letter.Letter.{Letter}
+use Rattle.wire_base.specs.declared.cause.Cause.TheVariants as cause
+use Rattle.wire_base.specs.declared.cause.Cause.{Cause as CauseOf}
 use Rattle.send_window.specs.declared.window.Tick.{Tick as Due}
 use Rattle.send_window.specs.declared.window.Tick.TheVariants as tick
 use Rattle.call_fsm.specs.declared.table.CallAction.{CallAction}
 use Rattle.call_fsm.specs.declared.table.CallAction.TheVariants as call_action
 use Rattle.protocol_model.specs.declared.tunnel.Call.{Call}
 use Rattle.protocol_model.specs.declared.tunnel.Role.{Role}
-use Rattle.protocol_model.specs.Turn.{Turn, with_output, with_move, with_change, ends_call, ends_all, clears, gives, sends_letter, sends_now, lets_go, goes_by, lets_all_go, repeats, acknowledges, acknowledged_after, settles, greeted, greets, end_silent, end_told, limited_by, limits_at, limits_all, goes_quietly, ticks_by, ticks}
+use Rattle.protocol_model.specs.Turn.{Turn, with_output, with_move, with_change, drops, ends_call, ends_all, clears, gives, sends_letter, sends_now, lets_go, goes_by, lets_all_go, repeats, acknowledges, acknowledged_after, settles, greeted, greets, end_silent, end_told, ends_by, limits_at, limits_all, goes_quietly, ticks_by, ticks}
 
 -- what a turn drew
 abbrev pub drawn : Turn → List ℕ × Space × Space
@@ -19,6 +21,13 @@ drawn t = (t.added, t.tunnels, t.sessions)
 either : (b : Bool) (x y t : Turn) → drawn x ≡ drawn t → drawn y ≡ drawn t → drawn (if b then x else y) ≡ drawn t
 either true x y t one other = one
 either false x y t one other = other
+
+ended_drawn : (for : CauseOf) (result : ℕ) (error : Option ℕ) (s : ℕ) (c : Call) (a : CallAction) (t : Turn)
+    → drawn (ends_by for result error s c a t) ≡ drawn t
+unfolding ends_by end_silent end_told gives drops ends_call with_output with_move with_change
+ended_drawn for result error s c call_action.CleanUp t = refl
+ended_drawn for result error s c call_action.SendCdn t = either _ _ _ t refl refl
+ended_drawn for result error s c a t = refl
 
 module _ (letters : List Letter) where
   letter_drawn : (number : ℕ) (o : Option Letter) (t : Turn) → drawn (sends_letter number o t) ≡ drawn t
@@ -56,16 +65,10 @@ module _ (letters : List Letter) where
   unfolding greets greeted gives with_move
   greets_drawn t = either _ _ _ t (settles_drawn false _) refl
 
-  limited_drawn : (s : ℕ) (c : Call) (a : CallAction) (t : Turn) → drawn (limited_by letters s c a t) ≡ drawn t
-  unfolding limited_by end_silent end_told gives ends_call with_output with_move with_change
-  limited_drawn s c call_action.CleanUp t = refl
-  limited_drawn s c call_action.SendCdn t = either _ _ _ t (settles_drawn false _) refl
-  limited_drawn s c a t = refl
-
   limit_drawn : (role : Role) (s : ℕ) (o : Option Call) (t : Turn) → drawn (limits_at role letters s o t) ≡ drawn t
   unfolding limits_at
   limit_drawn role s None t = refl
-  limit_drawn role s (Some c) t = either _ _ _ t (limited_drawn s c _ t) refl
+  limit_drawn role s (Some c) t = either _ _ _ t (settles_drawn false _ ∙ ended_drawn cause.Setup 10 None s c _ t) refl
 
   limits_drawn : (role : Role) (ss : List ℕ) (calls : List (ℕ × Call)) (t : Turn) → drawn (limits_all role letters ss calls t) ≡ drawn t
   unfolding limits_all

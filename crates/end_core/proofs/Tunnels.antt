@@ -1,5 +1,5 @@
 -- The tunnels of a table, as they are found, put and counted.
-use Rattle.std.proofs.Common.{◌≡◌, ℕ, Bool, true, false, cond, List, [], ◌∷◌, Option, Some, refl, ap, sym, ◌∙◌}
+use Rattle.std.proofs.Common.{◌≡◌, ℕ, suc, length, Bool, true, false, cond, List, [], ◌∷◌, Option, Some, refl, ap, sym, ◌∙◌}
 use Rattle.std.specs.Prelude.{option_map}
 use Rattle.std.specs.declared.cmp.Ordering.{Ordering}
 use Rattle.std.specs.declared.cmp.Ordering.TheVariants.{Less, Equal, Greater}
@@ -43,6 +43,10 @@ without_tunnels (e ∷ es) i = without_by (is_at (nat_cmp i) e.0) e es i (withou
 pub ids_tunnels : (es : List (ℕ × Core)) → ids_of (tunnels_of es) ≡ ids_of es
 ids_tunnels [] = refl
 ids_tunnels (e ∷ es) = ap (λ is. e.0 ∷ is) (ids_tunnels es)
+
+pub length_tunnels : (es : List (ℕ × Core)) → length (tunnels_of es) ≡ length es
+length_tunnels [] = refl
+length_tunnels (e ∷ es) = ap (λ n. suc n) (length_tunnels es)
 
 -- a tunnel that was taken out and is put back as it was
 pub put_back : (es fs gs : List (ℕ × Core)) (k : ℕ) (c d v : Core) → fs ≡ put es k v → gs ≡ put fs k d → tunnel_of d ≡ tunnel_of c → put es k c ≡ es → tunnels_of gs ≡ tunnels_of es

@@ -5,8 +5,10 @@ ghost use Rattle.std.specs.Option.{option_copied};
 ghost use Rattle.id_table.specs.Ids.{at, put, ids_of};
 ghost use Rattle.id_table.specs.Tables.{HasRoom};
 ghost use Rattle.l2tp_header.specs.Reading.{header_of};
-ghost use Rattle.protocol_model.specs.End.{env_of, whole_space, gives_only, tunnels_after, after_turn, after_new, in_new, in_main, is_known, known_as, opens_once, addressed, reached, for_addressee, is_in, least_in, rings_in, rings_at, gives_frame, look_in, handed, hands_up, receives, only_by, step_in, step, new_end};
+ghost use Rattle.protocol_model.specs.End.{env_of, whole_space, gives_only, tunnels_after, after_turn, after_new, in_new, has_all_tunnels, in_one_more, in_main, is_known, known_as, opens_once, addressed, reached, for_addressee, is_in, least_in, rings_in, rings_at, for_call, look_in, handed, hands_up, receives, only_by, step_in, step, new_end};
 ghost use Rattle.protocol_model.specs.Reading.{at_tunnel};
+ghost use Rattle.protocol_model.specs.declared.out.Out.TheVariants as outs;
+ghost use Rattle.wire_base.specs.declared.cause.Cause.TheVariants as causes;
 ghost use Rattle.tunnel_core.specs.Cores.{tunnel_of, made_of, IsTurn, HasRoomFor};
 ghost use Rattle.end_core.specs.Ends.{tunnels_of, HaveRoom};
 ghost use Rattle.protocol_model.specs.Turn.{turn_of, turns, with_turn};
@@ -24,7 +26,7 @@ use std::alloc::Global;
 use std::marker::Model;
 use tunnel_core::{Env, Moves, Outputs, Planned, TunnelCore, header_why, same_state};
 use tunnel_fsm::TunnelState;
-use wire_base::{Bytes, Contents, NoMemory, Sequence, Why};
+use wire_base::{Bytes, Cause, Contents, NoMemory, Sequence, Why};
 
 /// The last tunnel id, the last session id, and the last number of a recovery.
 const LAST_TUNNEL: u32 = 65_535;
@@ -32,6 +34,18 @@ const LAST_TUNNEL: u32 = 65_535;
 const LAST_SESSION: u32 = 65_534;
 
 const LAST_RECOVERY: u32 = 4_294_967_295;
+
+/// How many live tunnels an end may have.
+const MOST_TUNNELS: usize = 1024;
+
+/// The cause of an opening or a ring that is refused where an end has as many.
+fn too_many_tunnels() -> Out
+    ensures { result ≡ outs.Cause causes.Tunnels }
+{
+    Out::Cause {
+        cause: Cause::Tunnels,
+    }
+}
 
 /// What a step gave.
 #[derive(Drop)]
@@ -125,6 +139,14 @@ impl End {
         ensures { IfOk result (λ ids. ids ≡ ids_of self.now.tunnels) }
     {
         self.tunnels.ids(alloc)
+    }
+
+    /// Whether the end has as many tunnels as it may.
+    #[tactic(auto, using(crate::proofs::Tunnels::length_tunnels))]
+    fn has_all_tunnels(&self) -> bool
+        ensures { result ≡ has_all_tunnels self.now.tunnels }
+    {
+        self.tunnels.len() >= MOST_TUNNELS
     }
 
     /// Whether a call with this session id is live.
@@ -311,6 +333,24 @@ impl End {
         })
     }
 
+    /// Makes the first step of a tunnel that is new, where the end may have one more; else it gives the refusal alone.
+    #[tactic(auto, unfolding(protocol_model::specs::End::in_one_more))]
+    fn run_one_more(
+        &mut self,
+        moment: u64,
+        block: [u8; 16],
+        event: &Event,
+        peer: u32,
+        refusal: Out,
+    ) -> Result<Given, NoMemory>
+        ensures { GivesStep result (in_one_more self.old (env_of self.old moment block) event.now peer refusal) self.old self.new }
+    {
+        if self.has_all_tunnels() {
+            return self.only(refusal);
+        }
+        self.run_new(moment, block, event, peer)
+    }
+
     /// The first of these tunnels that goes to a peer which assigned this id.
     fn first_known(&self, peer: u32, remote: u16, ids: &[u32]) -> Option<u32>
         ensures { result ≡ find (λ i. is_known peer remote (at self.now.tunnels i)) ids.now }
@@ -401,7 +441,10 @@ impl End {
         ensures { GivesStep result (for_addressee self.old (env_of self.old moment block) event.now peer to) self.old self.new }
     {
         match to {
-            Addressee::Opens { .. } => self.run_new(moment, block, event, peer),
+            Addressee::Opens { .. } => {
+                let refusal = Out::Drop { why: Why::Tunnel };
+                self.run_one_more(moment, block, event, peer, refusal)
+            }
             Addressee::Main { tunnel } => self.run_main(moment, block, event, tunnel),
             Addressee::Nobody { why } => self.drop_with(why),
         }
@@ -443,19 +486,19 @@ impl End {
         if let Some(id) = self.least_in(TunnelState::WaitCtlReply, lns)? {
             return self.run_main(moment, block, event, id);
         }
-        self.run_new(moment, block, event, lns)
+        self.run_one_more(moment, block, event, lns, too_many_tunnels())
     }
 
-    /// A frame is given for a call: it goes to the call's tunnel.
-    #[tactic(auto, unfolding(protocol_model::specs::End::gives_frame))]
-    fn give_frame(
+    /// An event of a call goes to the call's tunnel.
+    #[tactic(auto, unfolding(protocol_model::specs::End::for_call))]
+    fn run_for_call(
         &mut self,
         moment: u64,
         block: [u8; 16],
         event: &Event,
         session: u16,
     ) -> Result<Given, NoMemory>
-        ensures { GivesStep result (gives_frame self.old (env_of self.old moment block) event.now (at self.old.calls session)) self.old self.new }
+        ensures { GivesStep result (for_call self.old (env_of self.old moment block) event.now (at self.old.calls session)) self.old self.new }
     {
         match self.calls.get(u32::from(session)) {
             None => self.drop_with(Why::Call),
@@ -534,11 +577,15 @@ impl End {
             }
             (_, Event::Tick) => self.tick_all(moment, block),
             (Role::Lac, Event::Ring { .. }) => self.ring(moment, block, event),
-            (Role::Lac, Event::Payload { session, .. })
-            | (Role::Lns, Event::Lower { session, .. }) => {
-                self.give_frame(moment, block, event, *session)
+            (Role::Lac, Event::Payload { session, .. } | Event::Hang { session })
+            | (Role::Lns, Event::Lower { session, .. })
+            | (_, Event::DropCall { session }) => {
+                self.run_for_call(moment, block, event, *session)
             }
-            (Role::Lac, Event::OpenTunnel) => self.run_new(moment, block, event, self.config.lns),
+            (Role::Lac, Event::OpenTunnel) => {
+                let lns = self.config.lns;
+                self.run_one_more(moment, block, event, lns, too_many_tunnels())
+            }
             _ => self.drop_with(Why::Node),
         }
     }

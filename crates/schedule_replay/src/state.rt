@@ -239,26 +239,56 @@ impl State {
         }
     }
 
-    /// The subscriber of a LAC's call sends a frame, in a line.
+    /// An event of a node's call, in a line.
     #[tactic(auto, unfolding(protocol_model::specs::World::stepped, protocol_model::specs::World::with_call))]
-    fn send_up(&mut self, line: u64, node: u8, session: u16, frame: &Bytes) -> Result<(), LineFault>
-        ensures { Says result (stepped self.old.world line node (Event.Payload session frame.now) None (with_call session (lac_at (at self.old.world.nodes node)))) self.old self.new }
+    fn step_call(
+        &mut self,
+        line: u64,
+        node: u8,
+        session: u16,
+        event: &Event,
+    ) -> Result<(), LineFault>
+        ensures { Says result (stepped self.old.world line node event.now None (with_call session (declared (at self.old.world.nodes node)))) self.old self.new }
     {
         match self.nodes.get(u32::from(node)) {
-            Some(at) if at.is_lac() => {
+            Some(at) => {
                 if !at.end.has_call(session) {
                     return Err(LineFault::unfit(Why::Call));
                 }
-                let frame = Bytes::from_slice(self.alloc, frame.as_slice())?;
-                self.step(line, node, &Event::Payload { session, frame })?;
+                self.step(line, node, event)?;
                 Ok(())
             }
+            None => Err(LineFault::unfit(Why::Node)),
+        }
+    }
+
+    /// An event of a LAC's call, in a line.
+    #[tactic(auto, unfolding(protocol_model::specs::World::stepped))]
+    fn step_lac_call(
+        &mut self,
+        line: u64,
+        node: u8,
+        session: u16,
+        event: &Event,
+    ) -> Result<(), LineFault>
+        ensures { Says result (stepped self.old.world line node event.now None (with_call session (lac_at (at self.old.world.nodes node)))) self.old self.new }
+    {
+        match self.nodes.get(u32::from(node)) {
+            Some(at) if at.is_lac() => self.step_call(line, node, session, event),
             _ => Err(LineFault::unfit(Why::Node)),
         }
     }
 
+    /// The subscriber of a LAC's call sends a frame, in a line.
+    fn send_up(&mut self, line: u64, node: u8, session: u16, frame: &Bytes) -> Result<(), LineFault>
+        ensures { Says result (stepped self.old.world line node (Event.Payload session frame.now) None (with_call session (lac_at (at self.old.world.nodes node)))) self.old self.new }
+    {
+        let frame = Bytes::from_slice(self.alloc, frame.as_slice())?;
+        self.step_lac_call(line, node, session, &Event::Payload { session, frame })
+    }
+
     /// The network sends a frame down an LNS's call, in a line.
-    #[tactic(auto, unfolding(protocol_model::specs::World::stepped, protocol_model::specs::World::with_call))]
+    #[tactic(auto, unfolding(protocol_model::specs::World::stepped))]
     fn send_down(
         &mut self,
         line: u64,
@@ -270,12 +300,8 @@ impl State {
     {
         match self.nodes.get(u32::from(node)) {
             Some(at) if !at.is_lac() => {
-                if !at.end.has_call(session) {
-                    return Err(LineFault::unfit(Why::Call));
-                }
                 let frame = Bytes::from_slice(self.alloc, frame.as_slice())?;
-                self.step(line, node, &Event::Lower { session, frame })?;
-                Ok(())
+                self.step_call(line, node, session, &Event::Lower { session, frame })
             }
             _ => Err(LineFault::unfit(Why::Node)),
         }
@@ -352,8 +378,16 @@ impl State {
                 session,
                 frame,
             } => self.send_down(number, *node, *session, frame),
-            Line::Tick { node, milliseconds } => self.tick(number, *node, *milliseconds),
             Line::Deliver { packet } => self.deliver(number, packet.saturating_sub(1) as usize),
+            Line::Hang { node, session } => {
+                let session = *session;
+                self.step_lac_call(number, *node, session, &Event::Hang { session })
+            }
+            Line::DropCall { node, session } => {
+                let session = *session;
+                self.step_call(number, *node, session, &Event::DropCall { session })
+            }
+            Line::Tick { node, milliseconds } => self.tick(number, *node, *milliseconds),
         }
     }
 

@@ -1,36 +1,19 @@
-//! Calls that are born, asked for, made and connected (RFC 2661 section 7.4), and their frames.
+//! Calls that are connected and ended by the peer's messages (RFC 2661 section 7.4), and the frames of calls.
 
-ghost use Rattle.std.specs.Prelude.{◌≡◌, ◌≤◌, ◌<◌, OnOk, IsTrue};
+ghost use Rattle.std.specs.Prelude.{◌≡◌, OnOk, IsTrue};
 ghost use Rattle.std.specs.Option.{option_copied};
-ghost use Rattle.id_source.specs.Spaces.{draws};
-ghost use Rattle.id_table.specs.Ids.{at};
-ghost use Rattle.protocol_model.specs.Calls.{is_request, is_reply, is_connection, is_up};
-ghost use Rattle.protocol_model.specs.Turn.{has_room, requested, requests, requests_at, requests_all, adds, rings_over, rings_new, rings, replied, replies, first_up, first_up_by, second_up, second_up_by, is_clean_up, end_heard, end_heard_by, carried, carries};
-ghost use Rattle.tunnel_fsm.specs.Rows.{state_number};
+ghost use Rattle.protocol_model.specs.Calls.{is_connection, is_up};
+ghost use Rattle.protocol_model.specs.Turn.{has_room, first_up, first_up_by, second_up, second_up_by, is_clean_up, end_heard, end_heard_by, carried, carries};
 
-use crate::turn::{Turn, advanced, asked_for, call_row, request_of, rung};
+use crate::refusing::out_of_state;
+use crate::turn::{Turn, advanced, call_row};
 use call_fsm::{CallAction, CallEvent, CallState};
 use control_message::Message;
-use id_table::Table;
 use l2tp_header::write_data;
 use protocol_model::{
-    Added, Call, CellChange, Config, EndHeard, FirstUp, FrameSent, Move, Origin, Out, Replied,
-    Requested, Role, SecondUp,
+    Call, CellChange, EndHeard, FirstUp, FrameSent, Move, Origin, Out, Role, SecondUp,
 };
-use tunnel_fsm::TunnelState;
-use wire_base::{Bytes, Cause, NoMemory, Why};
-
-pub(crate) fn is_request(action: CallAction) -> bool
-    ensures { result ≡ is_request action }
-{
-    matches!(action, CallAction::SendIcrq)
-}
-
-fn is_reply(action: CallAction) -> bool
-    ensures { result ≡ is_reply action }
-{
-    matches!(action, CallAction::SendIcrp)
-}
+use wire_base::{Bytes, NoMemory, Why};
 
 fn is_connection(action: CallAction) -> bool
     ensures { result ≡ is_connection action }
@@ -51,177 +34,6 @@ fn is_up(state: CallState) -> bool
 }
 
 impl Turn {
-    /// Asks for a waiting call: the peer comes to know it.
-    #[tactic(auto, unfolding(protocol_model::specs::Turn::requested))]
-    fn request_now(&mut self, role: Role, session: u16, call: &Call) -> Result<(), NoMemory>
-        requires { IsTrue (has_room self.old.control) }
-        ensures { OnOk result (self.new ≡ requested role session call.now self.old) }
-    {
-        let given = self.next_place();
-        let tunnel = self.control.local;
-        let peer = self.control.peer;
-        let port = call.port;
-        let asked = advanced(
-            self.alloc,
-            role,
-            CallEvent::TunnelOpen,
-            self.moment,
-            call,
-            call.remote,
-        )?;
-        let request = request_of(self.alloc, session, port)?;
-        self.change(session, asked)?;
-        self.did(Move::Requested(Requested {
-            tunnel,
-            session,
-            port,
-            given,
-        }))?;
-        self.look(CellChange::Bind {
-            session,
-            tunnel,
-            peer,
-        })?;
-        self.give(0, &request)
-    }
-
-    /// Asks for a call, where its table says so.
-    #[tactic(auto, unfolding(protocol_model::specs::Turn::requests))]
-    pub(crate) fn request(&mut self, role: Role, session: u16, call: &Call) -> Result<(), NoMemory>
-        ensures { OnOk result (self.new ≡ requests role session call.now self.old) }
-    {
-        let (_, action) = call_row(role, call.state, CallEvent::TunnelOpen);
-        if !is_request(action) {
-            return Ok(());
-        }
-        if !self.has_room() {
-            return self.drop_with(Why::Queue);
-        }
-        self.request_now(role, session, call)
-    }
-
-    /// Asks for each of these calls that waits.
-    #[tactic(auto, unfolding(protocol_model::specs::Turn::requests_all, protocol_model::specs::Turn::requests_at))]
-    pub(crate) fn request_all(
-        &mut self,
-        role: Role,
-        sessions: &[u32],
-        calls: &Table<Call>,
-    ) -> Result<(), NoMemory>
-        ensures { OnOk result (self.new ≡ requests_all role sessions.now calls.now.entries self.old) }
-    {
-        for session in sessions {
-            if let Some(call) = calls.get(*session) {
-                if let Ok(id) = u16::try_from(*session) {
-                    self.request(role, id, call)?;
-                }
-            }
-        }
-        Ok(())
-    }
-
-    /// A call is born, and added to the tunnel.
-    #[tactic(auto, unfolding(protocol_model::specs::Turn::adds))]
-    fn add(&mut self, role: Role, port: u16, session: u16) -> Result<(), NoMemory>
-        ensures { OnOk result (self.new ≡ adds role port session self.old) }
-    {
-        let tunnel = self.control.local;
-        let call = rung(self.alloc, role, port, self.moment)?;
-        self.make(session, call)?;
-        self.did(Move::Added(Added {
-            tunnel,
-            session,
-            port,
-        }))
-    }
-
-    /// A ring over a tunnel that is there: an open one asks for the call at once.
-    #[tactic(auto, unfolding(protocol_model::specs::Turn::rings_over))]
-    fn ring_over(&mut self, role: Role, port: u16, session: u16) -> Result<(), NoMemory>
-        ensures { OnOk result (self.new ≡ rings_over role port session self.old) }
-    {
-        if self.control.state != TunnelState::Established {
-            return self.add(role, port, session);
-        }
-        let call = rung(self.alloc, role, port, self.moment)?;
-        self.add(role, port, session)?;
-        self.request(role, session, &call)
-    }
-
-    /// A ring over a new tunnel, which is opened for it.
-    #[tactic(auto, unfolding(protocol_model::specs::Turn::rings_new))]
-    fn ring_new(&mut self, role: Role, config: &Config, port: u16) -> Result<(), NoMemory>
-        ensures { OnOk result (self.new ≡ rings_new role config.now port (draws self.old.sessions) (draws self.old.tunnels) self.old) }
-    {
-        match (self.next_session(), self.next_tunnel()) {
-            (Ok(session), Ok(local)) => {
-                if !self.has_room() {
-                    return self.output(Out::Cause {
-                        cause: Cause::Queue,
-                    });
-                }
-                self.open_as(role, config, local as u16)?;
-                self.add(role, port, session as u16)
-            }
-            _ => self.output(Out::Cause { cause: Cause::Ids }),
-        }
-    }
-
-    /// A port rings.
-    #[tactic(auto, unfolding(protocol_model::specs::Turn::rings, protocol_model::specs::Turn::rings_by))]
-    pub(crate) fn ring(&mut self, role: Role, config: &Config, port: u16) -> Result<(), NoMemory>
-        ensures { OnOk result (self.new ≡ rings role config.now port self.old) }
-    {
-        if self.control.state == TunnelState::Idle {
-            return self.ring_new(role, config, port);
-        }
-        match self.next_session() {
-            Err(_) => self.output(Out::Cause { cause: Cause::Ids }),
-            Ok(session) => self.ring_over(role, port, session as u16),
-        }
-    }
-
-    /// Makes a call by the request for the peer's session, and replies.
-    #[tactic(auto, unfolding(protocol_model::specs::Turn::replied))]
-    fn reply_now(&mut self, role: Role, remote: u16, session: u16) -> Result<(), NoMemory>
-        requires some { 0 < session }
-        requires room { IsTrue (has_room self.old.control) }
-        ensures { OnOk result (self.new ≡ replied role remote session self.old) }
-    {
-        let given = self.next_place();
-        let taken = self.taken_place();
-        let tunnel = self.control.local;
-        let peer = self.control.peer;
-        let call = asked_for(self.alloc, role, remote, self.moment)?;
-        self.take();
-        self.make(session, call)?;
-        self.did(Move::Replied(Replied {
-            tunnel,
-            peer,
-            session,
-            remote,
-            taken,
-            given,
-        }))?;
-        self.give(remote, &Message::Icrp { session })
-    }
-
-    /// Takes the request for a call of the peer.
-    #[tactic(auto, unfolding(protocol_model::specs::Turn::replies, protocol_model::specs::Turn::replies_by))]
-    pub(crate) fn reply(&mut self, role: Role, remote: u16) -> Result<(), NoMemory>
-        ensures { OnOk result (self.new ≡ replies role remote self.old) }
-    {
-        let (_, action) = call_row(role, CallState::Idle, CallEvent::IcrqAcc);
-        if !is_reply(action) {
-            return self.ignore(Why::Session);
-        }
-        match self.next_session() {
-            Err(_) => self.ignore(Why::Session),
-            Ok(_) if !self.has_room() => self.drop_with(Why::Queue),
-            Ok(session) => self.reply_now(role, remote, session as u16),
-        }
-    }
-
     /// Learns the peer's session, and connects the call, which is up.
     #[tactic(auto, unfolding(protocol_model::specs::Turn::first_up))]
     fn first_up(
@@ -277,11 +89,12 @@ impl Turn {
         ensures { OnOk result (self.new ≡ first_up_by role session remote (option_copied call.entry) self.old) }
     {
         let Some(call) = call else {
-            return self.ignore(Why::Session);
+            let (_, none) = call_row(role, CallState::Idle, CallEvent::IcrpAcc);
+            return self.answer_no_call(&out_of_state(), remote, none);
         };
         let (_, action) = call_row(role, call.state, CallEvent::IcrpAcc);
         if !is_connection(action) {
-            return self.ignore(Why::Session);
+            return self.answer(&out_of_state(), u32::from(session), call, action);
         }
         if !self.has_room() {
             return self.drop_with(Why::Queue);
@@ -331,11 +144,12 @@ impl Turn {
         ensures { OnOk result (self.new ≡ second_up_by role session (option_copied call.entry) self.old) }
     {
         let Some(call) = call else {
-            return self.ignore(Why::Session);
+            let (_, none) = call_row(role, CallState::Idle, CallEvent::IccnAcc);
+            return self.answer_no_call(&out_of_state(), 0, none);
         };
-        let (next, _) = call_row(role, call.state, CallEvent::IccnAcc);
+        let (next, action) = call_row(role, call.state, CallEvent::IccnAcc);
         if !is_up(next) {
-            return self.ignore(Why::Session);
+            return self.answer(&out_of_state(), u32::from(session), call, action);
         }
         self.second_up(role, session, call)
     }
@@ -367,11 +181,12 @@ impl Turn {
         ensures { OnOk result (self.new ≡ end_heard_by role session (option_copied call.entry) self.old) }
     {
         let Some(call) = call else {
-            return self.ignore(Why::Session);
+            let (_, none) = call_row(role, CallState::Idle, CallEvent::CdnCame);
+            return self.answer_no_call(&out_of_state(), 0, none);
         };
         let (_, action) = call_row(role, call.state, CallEvent::CdnCame);
         if !is_clean_up(action) {
-            return self.ignore(Why::Session);
+            return self.take_plain();
         }
         self.hear_end(session)
     }

@@ -1,21 +1,22 @@
 //! Control messages and other events of a tunnel.
 
-ghost use Rattle.std.specs.Prelude.{◌≡◌, ◌==◌, find, OnOk};
+ghost use Rattle.std.specs.Prelude.{◌≡◌, ◌==◌, None, OnOk};
 ghost use Rattle.tunnel_fsm.specs.Rows.{state_number};
-ghost use Rattle.id_table.specs.Ids.{at};
+ghost use Rattle.wire_base.specs.declared.cause.Cause.TheVariants as cause;
 ghost use Rattle.l2tp_header.specs.Reading.{header_of};
-ghost use Rattle.protocol_model.specs.Turn.{connects, takes, is_call_of, session_named, ends_named, about_call, in_call, hears, hears_said, hears_letter, is_duplicate, in_tunnel, first_said, hears_control, hears_datagram, turns};
+ghost use Rattle.protocol_model.specs.Turn.{connects, takes, reason, session_named, ends_named, about_call, in_call, hears, hears_said, hears_letter, is_duplicate, in_tunnel, first_said, hears_control, hears_datagram, turns};
 
-use crate::reading::{header_why, message_in};
+use crate::reading::{Said, header_why, read_body};
+use crate::refusing::Reason;
+use crate::tunnel_calls::TunnelCalls;
 use crate::turn::Turn;
 use control_message::Message;
-use id_table::Table;
 use l2tp_header::{Header, read_header};
-use protocol_model::{Call, Config, Event, Role};
+use protocol_model::{Config, Event, Role};
 use recv_window::Class;
 use send_window::Letters;
 use tunnel_fsm::{TunnelAction, TunnelEvent, TunnelState, advance};
-use wire_base::{NoMemory, Why};
+use wire_base::{Cause, NoMemory, Why};
 
 impl Turn {
     /// Takes the SCCRP, and asks for each call that waits for the tunnel.
@@ -23,7 +24,7 @@ impl Turn {
     fn connect_all(
         &mut self,
         role: Role,
-        calls: &Table<Call>,
+        calls: &TunnelCalls,
         remote: u16,
         window: u16,
         next: TunnelState,
@@ -43,7 +44,7 @@ impl Turn {
     fn take_letter(
         &mut self,
         role: Role,
-        calls: &Table<Call>,
+        calls: &TunnelCalls,
         event: TunnelEvent,
         remote: u16,
         window: u16,
@@ -65,21 +66,17 @@ impl Turn {
     }
 
     /// Takes the CDN for a call that the header names by its session, or, where that is 0, by the one that the peer assigned.
-    #[tactic(auto, unfolding(protocol_model::specs::Turn::ends_named, protocol_model::specs::Turn::session_named, protocol_model::specs::Turn::call_of))]
+    #[tactic(auto, unfolding(protocol_model::specs::Turn::ends_named))]
     fn hear_end_of(
         &mut self,
         role: Role,
-        calls: &Table<Call>,
-        session: u32,
+        calls: &TunnelCalls,
+        session: u16,
         remote: u16,
     ) -> Result<(), NoMemory>
         ensures { OnOk result (self.new ≡ ends_named role calls.now.entries (session_named calls.now.entries session remote) self.old) }
     {
-        let mut named = session;
-        if session == 0 {
-            let sessions = calls.ids(self.alloc)?;
-            named = first_of(calls, remote, sessions.as_slice()).unwrap_or(0);
-        }
+        let named = calls.session_named(self.alloc, session, remote)?;
         self.take_end(role, named, calls.get(named))
     }
 
@@ -88,7 +85,7 @@ impl Turn {
     fn hear_about_call(
         &mut self,
         role: Role,
-        calls: &Table<Call>,
+        calls: &TunnelCalls,
         session: u16,
         message: &Message,
     ) -> Result<(), NoMemory>
@@ -99,14 +96,15 @@ impl Turn {
             Message::Icrq {
                 session: remote,
                 ..
-            } => self.reply(role, *remote),
+            } => self.take_request(role, calls, session, *remote),
             Message::Icrp { session: remote } => self.take_reply(role, session, *remote, call),
             Message::Iccn { .. } => self.take_connection(role, session, call),
             Message::Cdn {
                 session: remote,
                 ..
-            } => { self.hear_end_of(role, calls, u32::from(session), *remote) }
-            _ => self.ignore(Why::Session),
+            } => self.hear_end_of(role, calls, session, *remote),
+            Message::Ocrq { session: remote } => self.refuse(&no_outgoing(), *remote),
+            _ => self.take_plain(),
         }
     }
 
@@ -115,7 +113,7 @@ impl Turn {
     fn hear_in_call(
         &mut self,
         role: Role,
-        calls: &Table<Call>,
+        calls: &TunnelCalls,
         session: u16,
         message: &Message,
     ) -> Result<(), NoMemory>
@@ -132,7 +130,7 @@ impl Turn {
     fn hear_letter(
         &mut self,
         role: Role,
-        calls: &Table<Call>,
+        calls: &TunnelCalls,
         session: u16,
         message: &Message,
     ) -> Result<(), NoMemory>
@@ -147,7 +145,10 @@ impl Turn {
                 self.take_letter(role, calls, event, opening.tunnel, opening.window)
             }
             Message::Scccn => self.take_letter(role, calls, TunnelEvent::ScccnAcc, 0, 0),
-            Message::Hello => self.take_plain(),
+            Message::StopCcn { .. } => self.ignore(Why::Ignored),
+            Message::Hello | Message::Ocrp | Message::Occn | Message::Wen | Message::Sli => {
+                self.take_plain()
+            }
             _ => self.hear_in_call(role, calls, session, message),
         }
     }
@@ -156,25 +157,25 @@ impl Turn {
     fn hear_said(
         &mut self,
         role: Role,
-        calls: &Table<Call>,
+        calls: &TunnelCalls,
         session: u16,
-        said: &Result<Message, Why>,
+        said: &Said,
     ) -> Result<(), NoMemory>
-        ensures { OnOk result (self.new ≡ hears_said role calls.now.entries session said.now self.old) }
+        ensures { OnOk result (self.new ≡ hears_said role calls.now.entries session said.now.fault said.now.message self.old) }
     {
-        match said {
+        match &said.message {
             Ok(message) => self.hear_letter(role, calls, session, message),
-            Err(why) => self.ignore(*why),
+            Err(why) => self.hear_fault(role, calls, session, &said.fault, *why),
         }
     }
 
-    /// A message of the class that its Ns has: the next letter is taken; one that is ahead of it isn't, nor one that came
-    /// before.
+    /// A message of the class that its Ns has: the next letter is taken, where there is room for what it may cause; one that is
+    /// ahead of it isn't, nor one that came before.
     #[tactic(auto, unfolding(protocol_model::specs::Turn::hears_letter))]
     fn hear_class(
         &mut self,
         role: Role,
-        calls: &Table<Call>,
+        calls: &TunnelCalls,
         session: u16,
         body: &[u8],
         class: Option<Class>,
@@ -183,7 +184,10 @@ impl Turn {
     {
         match class {
             Some(Class::Next) => {
-                let said = message_in(self.alloc, body)?;
+                if !self.may_take(calls) {
+                    return self.drop_with(Why::Queue);
+                }
+                let said = read_body(self.alloc, body)?;
                 self.hear_said(role, calls, session, &said)
             }
             Some(Class::Ahead { .. }) => self.drop_with(Why::Ahead),
@@ -197,7 +201,7 @@ impl Turn {
         &mut self,
         role: Role,
         letters: &Letters,
-        calls: &Table<Call>,
+        calls: &TunnelCalls,
         session: u16,
         body: &[u8],
         class: Option<Class>,
@@ -233,15 +237,15 @@ impl Turn {
         role: Role,
         config: &Config,
         letters: &Letters,
-        calls: &Table<Call>,
+        calls: &TunnelCalls,
         header: &Header,
         body: &[u8],
     ) -> Result<(), NoMemory>
         ensures { OnOk result (self.new ≡ hears_control role config.now letters.now.letters calls.now.entries header.now body.now self.old) }
     {
         if self.control.state == TunnelState::Idle {
-            let said = message_in(self.alloc, body)?;
-            self.hear_first(role, config, &said)?;
+            let said = read_body(self.alloc, body)?;
+            self.hear_first(role, config, &said.message)?;
             return self.settle(false, letters);
         }
         let ns = header.ns.unwrap_or(0);
@@ -256,7 +260,7 @@ impl Turn {
         role: Role,
         config: &Config,
         letters: &Letters,
-        calls: &Table<Call>,
+        calls: &TunnelCalls,
         bytes: &[u8],
     ) -> Result<(), NoMemory>
         ensures { OnOk result (self.new ≡ hears_datagram role config.now letters.now.letters calls.now.entries bytes.now (header_of bytes.now) self.old) }
@@ -280,7 +284,7 @@ impl Turn {
         role: Role,
         config: &Config,
         letters: &Letters,
-        calls: &Table<Call>,
+        calls: &TunnelCalls,
         event: &Event,
     ) -> Result<(), NoMemory>
         ensures { OnOk result (self.new ≡ turns role config.now letters.now.letters calls.now.entries event.now self.old) }
@@ -290,33 +294,32 @@ impl Turn {
                 self.hear_datagram(role, config, letters, calls, bytes.as_slice())
             }
             Event::Ring { port } => {
-                self.ring(role, config, *port)?;
+                self.ring(role, config, calls, *port)?;
                 self.settle(false, letters)
             }
             Event::Payload { session, frame } | Event::Lower { session, frame } => {
                 self.carry(*session, frame.as_slice(), calls.get(u32::from(*session)))
             }
-            Event::Tick => self.tick(role, letters, calls),
+            Event::Hang { session } => self.hang(role, letters, calls, *session),
             Event::OpenTunnel => {
                 self.open(role, config)?;
                 self.settle(false, letters)
             }
+            Event::DropCall { session } => self.drop_call(role, letters, calls, *session),
+            Event::Tick => self.tick(role, letters, calls),
         }
     }
 }
 
-/// The first of these calls to which the peer assigned this id.
-fn first_of(calls: &Table<Call>, remote: u16, sessions: &[u32]) -> Option<u32>
-    ensures { result ≡ find (λ s. is_call_of remote (at calls.now.entries s)) sessions.now }
+/// Outgoing calls aren't served.
+fn no_outgoing() -> Reason
+    ensures { result ≡ reason cause.Outgoing 5 None }
 {
-    for session in sessions {
-        if let Some(call) = calls.get(*session) {
-            if call.remote == remote {
-                return Some(*session);
-            }
-        }
+    Reason {
+        cause: Cause::Outgoing,
+        code: 5,
+        error: None,
     }
-    None
 }
 
 fn is_duplicate(class: Option<Class>) -> bool

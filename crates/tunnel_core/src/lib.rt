@@ -4,14 +4,20 @@
 //! changes takes no memory. So where memory is wanting, the tunnel is as before.
 #![tactic(auto)]
 
+mod asking;
 mod calls;
+mod closing;
 mod env;
+mod faulty;
 mod hearing;
 mod openings;
 mod planning;
 mod reading;
+mod refusing;
+mod ringing;
 mod sending;
 mod ticking;
+mod tunnel_calls;
 mod turn;
 
 pub use env::{Env, Moves, Outputs};

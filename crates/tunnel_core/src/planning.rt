@@ -7,6 +7,7 @@ ghost use Rattle.protocol_model.specs.Turn.{fresh, turn_of, with_turn, turns, wi
 ghost use Rattle.tunnel_core.specs.Cores.{tunnel_of, made_of, AllHaveRoom, HasRoomFor, IsTurn};
 
 use crate::env::Env;
+use crate::tunnel_calls::TunnelCalls;
 use crate::turn::{Changed, Given, Turn};
 use control_channel::ChannelNumbers;
 use id_table::Table;
@@ -71,7 +72,7 @@ pub struct TunnelCore {
     control: Control,
     /// Those that aren't acknowledged.
     letters: Letters,
-    calls: Table<Call>,
+    calls: TunnelCalls,
 }
 
 impl Model for TunnelCore {
@@ -83,7 +84,7 @@ impl Model for TunnelCore {
 }
 
 /// Makes room in a table for each of these calls. Where memory is wanting, the calls are as before.
-fn make_room(calls: &mut Table<Call>, changed: &[(u32, Option<Call>)]) -> Result<(), NoMemory>
+fn make_room(calls: &mut TunnelCalls, changed: &[(u32, Option<Call>)]) -> Result<(), NoMemory>
     ensures same { calls.new.entries ≡ calls.old.entries }
     ensures room { OnOk result (AllHaveRoom calls.new changed.now) }
 {
@@ -111,7 +112,7 @@ impl TunnelCore {
                 heard: moment,
             },
             letters: Letters::new(alloc),
-            calls: Table::new(alloc),
+            calls: TunnelCalls::new(alloc),
         }
     }
 
@@ -126,7 +127,7 @@ impl TunnelCore {
     pub fn calls(&self) -> &Table<Call>
         ensures { result.now ≡ self.now.calls }
     {
-        &self.calls
+        self.calls.table()
     }
 
     /// Says what a step on an event will change, makes all room for it, and writes what it gives into `env`. What the
@@ -193,7 +194,7 @@ impl TunnelCore {
 }
 
 /// Gives back the room of these calls, where they aren't there any more.
-fn give_back(calls: &mut Table<Call>, ended: &[u32])
+fn give_back(calls: &mut TunnelCalls, ended: &[u32])
     ensures { calls.new.entries ≡ calls.old.entries }
 {
     for session in ended {
@@ -203,7 +204,7 @@ fn give_back(calls: &mut Table<Call>, ended: &[u32])
 
 /// Puts each of these calls into a table that has room for it, or takes it out where it ended. It takes no memory.
 #[tactic(auto, unfolding(protocol_model::specs::Turn::with_calls))]
-fn put_all(calls: &mut Table<Call>, changed: Changed)
+fn put_all(calls: &mut TunnelCalls, changed: Changed)
     requires { AllHaveRoom calls.old changed }
     ensures { calls.new.entries ≡ with_calls changed calls.old.entries }
 {

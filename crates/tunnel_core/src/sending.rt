@@ -3,9 +3,10 @@
 ghost use Rattle.std.specs.Prelude.{◌≡◌, ◌≤◌, length, OnOk, IfOk, IsTrue, option_copied};
 ghost use Rattle.control_message.specs.Pairs.{IsWritten};
 ghost use Rattle.control_channel.specs.Numbers.{next_to_go, ticked_at};
-ghost use Rattle.protocol_model.specs.Turn.{has_room as room_in, next_place, taken_place, gives, takes_one, learns_window, reads_nr, letter_in, origin_of, datagram, sends_now, repeats, lets_all_go, acknowledges, settles};
+ghost use Rattle.protocol_model.specs.Turn.{has_room as room_in, may_take, next_place, taken_place, gives, takes_one, learns_window, reads_nr, letter_in, origin_of, datagram, sends_now, repeats, lets_all_go, acknowledges, settles};
 ghost use Rattle.tunnel_core.specs.Gives.{WentBy};
 
+use crate::tunnel_calls::TunnelCalls;
 use crate::turn::Turn;
 use control_channel::ChannelNumbers;
 use control_message::{Message, has_room, write_message};
@@ -33,6 +34,14 @@ impl Turn {
         ensures { result ≡ room_in self.now.control }
     {
         self.control.channel.queued() < LIMIT
+    }
+
+    /// Whether the next message of the peer, or a call that rings, may be taken: there is room for the letters that the calls owe,
+    /// and for four more.
+    pub(crate) fn may_take(&self, calls: &TunnelCalls) -> bool
+        ensures { result ≡ may_take self.now.control calls.now.entries }
+    {
+        self.control.channel.queued() as u128 + calls.owed() + 4 <= LIMIT as u128
     }
 
     /// The place of the next letter to be given.

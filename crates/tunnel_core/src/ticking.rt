@@ -3,16 +3,15 @@
 ghost use Rattle.std.specs.Prelude.{◌≡◌, ◌==◌, ◌||◌, ◌<◌, OnOk, IsTrue};
 ghost use Rattle.std.specs.Option.{option_copied};
 ghost use Rattle.tunnel_fsm.specs.Rows.{state_number};
-ghost use Rattle.protocol_model.specs.declared.tunnel.Call.{Call};
 ghost use Rattle.protocol_model.specs.Calls.{is_set_up};
-ghost use Rattle.protocol_model.specs.Turn.{has_room, is_over, is_being_set_up, ends_all, clears, greeted, greets, end_silent, end_told, limited_by, limits_at, limits_all, goes_quietly, ticks};
+ghost use Rattle.protocol_model.specs.Turn.{has_room, is_over, is_being_set_up, ends_all, clears, greeted, greets, limits_at, limits_all, goes_quietly, ticks};
 
+use crate::tunnel_calls::TunnelCalls;
 use crate::turn::{Turn, call_row};
-use call_fsm::{CallAction, CallEvent, CallState};
+use call_fsm::{CallEvent, CallState};
 use control_channel::Tick;
 use control_message::Message;
-use id_table::Table;
-use protocol_model::{Call, EndSilent, EndTold, Greeted, Move, Out, Role};
+use protocol_model::{Call, Greeted, Move, Role};
 use send_window::Letters;
 use tunnel_fsm::TunnelState;
 use wire_base::{Cause, NoMemory};
@@ -59,7 +58,7 @@ impl Turn {
 
     /// The tunnel is removed with its calls, without a message.
     #[tactic(auto, unfolding(protocol_model::specs::Turn::clears))]
-    fn clear(&mut self, calls: &Table<Call>) -> Result<(), NoMemory>
+    fn clear(&mut self, calls: &TunnelCalls) -> Result<(), NoMemory>
         ensures { OnOk result (self.new ≡ clears calls.now.entries self.old) }
     {
         let sessions = calls.ids(self.alloc)?;
@@ -99,66 +98,6 @@ impl Turn {
         Ok(())
     }
 
-    /// A call ends of which the peer knows nothing.
-    #[tactic(auto, unfolding(protocol_model::specs::Turn::end_silent))]
-    fn end_silently(&mut self, session: u16) -> Result<(), NoMemory>
-        ensures { OnOk result (self.new ≡ end_silent session self.old) }
-    {
-        let tunnel = self.control.local;
-        self.end_call(u32::from(session))?;
-        self.did(Move::EndSilent(EndSilent { tunnel, session }))
-    }
-
-    /// A call ends, and the peer is told by a CDN with this result code.
-    #[tactic(auto, unfolding(protocol_model::specs::Turn::end_told))]
-    fn end_and_tell(&mut self, session: u16, remote: u16, code: u16) -> Result<(), NoMemory>
-        requires { IsTrue (has_room self.old.control) }
-        ensures { OnOk result ((call : Call) → call.remote ≡ remote → self.new ≡ end_told session call code self.old) }
-    {
-        let given = self.next_place();
-        let tunnel = self.control.local;
-        self.end_call(u32::from(session))?;
-        self.did(Move::EndTold(EndTold {
-            tunnel,
-            session,
-            remote,
-            code,
-            given,
-        }))?;
-        self.give(
-            remote,
-            &Message::Cdn {
-                session,
-                result: code,
-                error: None,
-            },
-        )
-    }
-
-    /// A call that took too long ends, as its table has it.
-    #[tactic(auto, unfolding(protocol_model::specs::Turn::limited_by))]
-    fn limit(
-        &mut self,
-        letters: &Letters,
-        session: u16,
-        remote: u16,
-        action: CallAction,
-    ) -> Result<(), NoMemory>
-        ensures { OnOk result ((call : Call) → call.remote ≡ remote → self.new ≡ limited_by letters.now.letters session call action self.old) }
-    {
-        match action {
-            CallAction::CleanUp => self.end_silently(session),
-            CallAction::SendCdn if self.has_room() => {
-                self.output(Out::Cause {
-                    cause: Cause::Setup,
-                })?;
-                self.end_and_tell(session, remote, TOO_LONG)?;
-                self.settle(false, letters)
-            }
-            _ => Ok(()),
-        }
-    }
-
     /// A call ends where it took too long to be set up.
     #[tactic(auto, unfolding(protocol_model::specs::Turn::limits_at))]
     fn limit_at(
@@ -180,7 +119,8 @@ impl Turn {
             return Ok(());
         }
         let (_, action) = call_row(role, call.state, CallEvent::Close);
-        self.limit(letters, session, call.remote, action)
+        self.end_by(Cause::Setup, TOO_LONG, None, session, call, action)?;
+        self.settle(false, letters)
     }
 
     /// Each of these calls ends where it took too long to be set up.
@@ -190,7 +130,7 @@ impl Turn {
         role: Role,
         letters: &Letters,
         sessions: &[u32],
-        calls: &Table<Call>,
+        calls: &TunnelCalls,
     ) -> Result<(), NoMemory>
         ensures { OnOk result (self.new ≡ limits_all role letters.now.letters sessions.now calls.now.entries self.old) }
     {
@@ -206,7 +146,7 @@ impl Turn {
         &mut self,
         role: Role,
         letters: &Letters,
-        calls: &Table<Call>,
+        calls: &TunnelCalls,
     ) -> Result<(), NoMemory>
         ensures { OnOk result (self.new ≡ goes_quietly role letters.now.letters calls.now.entries self.old) }
     {
@@ -221,7 +161,7 @@ impl Turn {
         &mut self,
         role: Role,
         letters: &Letters,
-        calls: &Table<Call>,
+        calls: &TunnelCalls,
     ) -> Result<(), NoMemory>
         ensures { OnOk result (self.new ≡ ticks role letters.now.letters calls.now.entries self.old) }
     {

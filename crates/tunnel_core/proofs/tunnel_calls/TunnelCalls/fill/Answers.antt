@@ -1,0 +1,28 @@
+use Rattle.std.proofs.Common.{ap, ◌∙◌, arith}
+use Rattle.id_table.specs.Order.{ascends-put}
+use Rattle.protocol_model.specs.Owing.{owed_at, owed-most, owed-put}
+use Rattle.tunnel_core.proofs.tunnel_calls.TunnelCalls.fill.Goals as goal
+
+pub overflow_add-self : goal.overflow_add-self
+overflow_add-self c =
+    let most = owed-most c.self.inside.table.entries in
+    let owed = c.self.invariant.1 in
+    let few = c.len-count.type_inv in
+    let count = c.len-count.ensures in
+    omega arith
+
+pub overflow_sub-self : goal.overflow_sub-self
+overflow_sub-self c =
+    let sum = owed-put c.self.inside.table.entries c.args.session c.args.call c.self.invariant.0 in
+    let owed = c.self.invariant.1 in
+    let before = c.owed_at-before.ensures ∙ ap owed_at c.get.ensures in
+    let own = c.owes.ensures in
+    omega arith
+
+pub invariant_of-self : goal.invariant_of-self
+invariant_of-self c =
+    let sum = owed-put c.self.inside.table.entries c.args.session c.args.call c.self.invariant.0 in
+    let owed = c.self.invariant.1 in
+    let before = c.owed_at-before.ensures ∙ ap owed_at c.get.ensures in
+    let own = c.owes.ensures in
+    rw c.fill.ensures.entries (ascends-put c.args.session c.args.call c.self.inside.table.entries c.self.invariant.0, omega arith)

@@ -1,0 +1,204 @@
+//! Letters about a call that have a fault (RFC 2661 sections 4.1, 4.4.2 and 7.4).
+
+ghost use Rattle.std.specs.Prelude.{◌≡◌, OnOk};
+ghost use Rattle.std.specs.Option.{option_copied};
+ghost use Rattle.control_message.specs.declared.kind.Kind.TheVariants as kind;
+ghost use Rattle.protocol_model.specs.Turn.{fault_error, fault_reason, faulty_at, has_answer, faulty, in_faulty_call};
+
+use crate::reading::CallFault;
+use crate::refusing::Reason;
+use crate::tunnel_calls::TunnelCalls;
+use crate::turn::{Turn, call_row};
+use call_fsm::{CallAction, CallEvent, CallState};
+use control_message::Kind;
+use protocol_model::{Call, Role};
+use tunnel_fsm::TunnelState;
+use wire_base::{Cause, NoMemory, Why};
+
+/// The error code of the CDN that answers a fault (RFC 2661 section 4.4.2).
+fn fault_error(cause: Cause) -> u16
+    ensures { result ≡ fault_error cause }
+{
+    match cause {
+        Cause::Mandatory => 8,
+        _ => 3,
+    }
+}
+
+fn fault_reason(cause: Cause) -> Reason
+    ensures { result ≡ fault_reason cause }
+{
+    Reason {
+        cause,
+        code: 2,
+        error: Some(fault_error(cause)),
+    }
+}
+
+/// Whether a faulty request, which tells this session, can be answered.
+fn has_answer(cause: Cause, told: Option<u16>) -> bool
+    ensures { result ≡ has_answer cause told }
+{
+    told.is_some() || !matches!(cause, Cause::Value)
+}
+
+impl Turn {
+    /// What is done for a faulty letter by the table's row for this event, or, where there is no such call, by the action `none`.
+    #[tactic(auto, unfolding(protocol_model::specs::Turn::faulty_at))]
+    fn answer_fault(
+        &mut self,
+        role: Role,
+        reason: &Reason,
+        remote: u16,
+        event: CallEvent,
+        none: CallAction,
+        id: u32,
+        call: Option<&Call>,
+    ) -> Result<(), NoMemory>
+        ensures { OnOk result (self.new ≡ faulty_at role reason.now id remote event none (option_copied call.entry) self.old) }
+    {
+        let Some(call) = call else {
+            return self.answer_no_call(reason, remote, none);
+        };
+        let (_, action) = call_row(role, call.state, event);
+        self.answer(reason, id, call, action)
+    }
+
+    /// A faulty request for a call.
+    #[tactic(auto, unfolding(protocol_model::specs::Turn::faulty))]
+    fn take_faulty_request(
+        &mut self,
+        role: Role,
+        calls: &TunnelCalls,
+        session: u16,
+        cause: Cause,
+        told: Option<u16>,
+    ) -> Result<(), NoMemory>
+        ensures { OnOk result (self.new ≡ faulty role calls.now.entries session kind.Icrq cause told self.old) }
+    {
+        if !has_answer(cause, told) {
+            return self.ignore(Why::Avp);
+        }
+        let id = u32::from(session);
+        let event = CallEvent::IcrqNotAcc;
+        let none = CallAction::SendCdn;
+        let remote = told.unwrap_or(0);
+        self.answer_fault(
+            role,
+            &fault_reason(cause),
+            remote,
+            event,
+            none,
+            id,
+            calls.get(id),
+        )
+    }
+
+    /// A faulty request for an outgoing call.
+    #[tactic(auto, unfolding(protocol_model::specs::Turn::faulty))]
+    fn refuse_faulty(
+        &mut self,
+        role: Role,
+        calls: &TunnelCalls,
+        session: u16,
+        cause: Cause,
+        told: Option<u16>,
+    ) -> Result<(), NoMemory>
+        ensures { OnOk result (self.new ≡ faulty role calls.now.entries session kind.Ocrq cause told self.old) }
+    {
+        if !has_answer(cause, told) {
+            return self.ignore(Why::Avp);
+        }
+        self.refuse(&fault_reason(cause), told.unwrap_or(0))
+    }
+
+    /// A faulty CDN, for a call that the header names by its session, or, where that is 0, by the one that the peer assigned.
+    #[tactic(auto, unfolding(protocol_model::specs::Turn::faulty))]
+    fn take_faulty_end(
+        &mut self,
+        role: Role,
+        calls: &TunnelCalls,
+        session: u16,
+        cause: Cause,
+        told: Option<u16>,
+    ) -> Result<(), NoMemory>
+        ensures { OnOk result (self.new ≡ faulty role calls.now.entries session kind.Cdn cause told self.old) }
+    {
+        let named = calls.session_named(self.alloc, session, told.unwrap_or(0))?;
+        let (_, none) = call_row(role, CallState::Idle, CallEvent::CdnCame);
+        let event = CallEvent::Close;
+        self.answer_fault(
+            role,
+            &fault_reason(cause),
+            0,
+            event,
+            none,
+            named,
+            calls.get(named),
+        )
+    }
+
+    /// A faulty letter of this kind about a call.
+    #[tactic(auto, unfolding(protocol_model::specs::Turn::faulty))]
+    fn take_faulty(
+        &mut self,
+        role: Role,
+        calls: &TunnelCalls,
+        session: u16,
+        kind: Kind,
+        cause: Cause,
+        told: Option<u16>,
+    ) -> Result<(), NoMemory>
+        ensures { OnOk result (self.new ≡ faulty role calls.now.entries session kind cause told self.old) }
+    {
+        let id = u32::from(session);
+        let (remote, event, none) = match kind {
+            Kind::Icrq => return self.take_faulty_request(role, calls, session, cause, told),
+            Kind::Ocrq => return self.refuse_faulty(role, calls, session, cause, told),
+            Kind::Cdn => return self.take_faulty_end(role, calls, session, cause, told),
+            Kind::Icrp => {
+                let event = CallEvent::IcrpNotAcc;
+                (
+                    told.unwrap_or(0),
+                    event,
+                    call_row(role, CallState::Idle, event).1,
+                )
+            }
+            Kind::Iccn => {
+                let event = CallEvent::IccnNotAcc;
+                (0, event, call_row(role, CallState::Idle, event).1)
+            }
+            _ => (0, CallEvent::Close, CallAction::Nothing),
+        };
+        self.answer_fault(
+            role,
+            &fault_reason(cause),
+            remote,
+            event,
+            none,
+            id,
+            calls.get(id),
+        )
+    }
+
+    /// A faulty letter: one that isn't about a call is passed over, and only an open tunnel carries calls.
+    #[tactic(auto, unfolding(protocol_model::specs::Turn::in_faulty_call))]
+    pub(crate) fn hear_fault(
+        &mut self,
+        role: Role,
+        calls: &TunnelCalls,
+        session: u16,
+        fault: &Option<CallFault>,
+        why: Why,
+    ) -> Result<(), NoMemory>
+        ensures { OnOk result (self.new ≡ in_faulty_call role calls.now.entries session fault.now why self.old) }
+    {
+        let Some(fault) = fault else {
+            return self.ignore(why);
+        };
+        if self.control.state != TunnelState::Established {
+            return self.ignore(Why::Session);
+        }
+        self.take_faulty(role, calls, session, fault.kind, fault.cause, fault.session)
+    }
+}

@@ -1,0 +1,124 @@
+//! Calls that are ended, and refused, by an answer to the peer's messages (RFC 2661 section 7.4).
+
+ghost use Rattle.std.specs.Prelude.{◌≡◌, OnOk, IsTrue};
+ghost use Rattle.protocol_model.specs.Turn.{has_room, out_of_state, answers_by, refused, refuses, of_no_call};
+
+use crate::turn::Turn;
+use call_fsm::CallAction;
+use control_message::Message;
+use protocol_model::{Call, Move, Out, Refused};
+use std::marker::Model;
+use wire_base::{Cause, NoMemory, Why};
+
+/// Why a call is ended or refused, and the result code and error code of the CDN that says so (RFC 2661 section 4.4.2).
+#[derive(Drop)]
+pub(crate) struct Reason {
+    pub(crate) cause: Cause,
+    pub(crate) code: u16,
+    pub(crate) error: Option<u16>,
+}
+
+impl Model for Reason {
+    ghost use Rattle.protocol_model.specs.Turn.{Reason as Known};
+
+    ghost Value = { Known };
+
+    ghost view = { λ r. record { cause = r.cause; result = r.code; error = r.error } };
+}
+
+/// The message is out of state.
+pub(crate) fn out_of_state() -> Reason
+    ensures { result ≡ out_of_state }
+{
+    Reason {
+        cause: Cause::State,
+        code: 2,
+        error: Some(5),
+    }
+}
+
+impl Turn {
+    /// Takes a letter to which a call does what its table says.
+    #[tactic(auto, unfolding(protocol_model::specs::Turn::answers_by))]
+    pub(crate) fn answer(
+        &mut self,
+        reason: &Reason,
+        id: u32,
+        call: &Call,
+        action: CallAction,
+    ) -> Result<(), NoMemory>
+        ensures { OnOk result (self.new ≡ answers_by reason.now id call.now action self.old) }
+    {
+        self.take_plain()?;
+        let Ok(session) = u16::try_from(id) else {
+            return Ok(());
+        };
+        self.end_by(
+            reason.cause,
+            reason.code,
+            reason.error,
+            session,
+            call,
+            action,
+        )
+    }
+
+    /// Takes a letter for which there is no call, as the peer is told by a CDN that names none of this end's.
+    #[tactic(auto, unfolding(protocol_model::specs::Turn::refused))]
+    fn refuse_now(&mut self, reason: &Reason, remote: u16) -> Result<(), NoMemory>
+        requires { IsTrue (has_room self.old.control) }
+        ensures { OnOk result (self.new ≡ refused reason.now remote self.old) }
+    {
+        let given = self.next_place();
+        let taken = self.taken_place();
+        let tunnel = self.control.local;
+        self.output(Out::Cause {
+            cause: reason.cause,
+        })?;
+        self.take();
+        self.did(Move::Refused(Refused {
+            tunnel,
+            remote,
+            result: reason.code,
+            error: reason.error,
+            taken,
+            given,
+        }))?;
+        self.give(
+            remote,
+            &Message::Cdn {
+                session: 0,
+                result: reason.code,
+                error: reason.error,
+            },
+        )
+    }
+
+    /// Refuses a letter for which there is no call, where there is room for the answer.
+    #[tactic(auto, unfolding(protocol_model::specs::Turn::refuses))]
+    pub(crate) fn refuse(&mut self, reason: &Reason, remote: u16) -> Result<(), NoMemory>
+        ensures { OnOk result (self.new ≡ refuses reason.now remote self.old) }
+    {
+        if !self.has_room() {
+            return self.drop_with(Why::Queue);
+        }
+        self.refuse_now(reason, remote)
+    }
+
+    /// Does what the table says of a call that there isn't.
+    #[tactic(auto, unfolding(protocol_model::specs::Turn::of_no_call))]
+    pub(crate) fn answer_no_call(
+        &mut self,
+        reason: &Reason,
+        remote: u16,
+        action: CallAction,
+    ) -> Result<(), NoMemory>
+        ensures { OnOk result (self.new ≡ of_no_call reason.now remote action self.old) }
+    {
+        match action {
+            CallAction::SendCdn => self.refuse(reason, remote),
+            CallAction::DropSession => self.ignore(Why::Session),
+            _ => self.take_plain(),
+        }
+    }
+}

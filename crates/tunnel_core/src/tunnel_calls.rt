@@ -1,0 +1,192 @@
+//! The calls of a tunnel, with how many letters they owe.
+
+ghost use Rattle.std.specs.Prelude.{◌≡◌, ◌<◌, ◌^◌, [], find, OnOk, IfOk, option_copied};
+ghost use Rattle.id_table.specs.Ids.{at, put, without, ids_of};
+ghost use Rattle.id_table.specs.Tables.{HasRoom, KeepsRoom};
+ghost use Rattle.protocol_model.specs.Calls.{owes, owed_by, are_too_many};
+ghost use Rattle.protocol_model.specs.Owing.{owed_at};
+ghost use Rattle.protocol_model.specs.Turn.{is_call_of, call_of, session_named};
+
+use call_fsm::CallState;
+use id_table::Table;
+use protocol_model::Call;
+use std::alloc::Global;
+use std::marker::Model;
+use wire_base::{NoMemory, Sequence};
+
+/// How many live calls a tunnel has at most.
+const MOST_CALLS: usize = 4096;
+
+/// How many letters the tunnel may still have to give for a call: its request, its connection and its end.
+fn owes(state: CallState) -> u8
+    ensures { result ≡ owes state }
+{
+    match state {
+        CallState::Idle => 0,
+        CallState::WaitTunnel => 3,
+        CallState::WaitReply => 2,
+        CallState::WaitConnect | CallState::Established => 1,
+    }
+}
+
+fn owed_at(call: Option<&Call>) -> u8
+    ensures { result ≡ owed_at (option_copied call.entry) }
+{
+    match call {
+        Some(call) => owes(call.state),
+        None => 0,
+    }
+}
+
+/// The calls of a tunnel by session id, seen as their table. How many letters they owe is kept beside it, so that what it takes
+/// to know it doesn't grow with the calls.
+#[derive(Drop)]
+pub(crate) struct TunnelCalls {
+    table: Table<Call>,
+    owed: u128,
+}
+
+impl Model for TunnelCalls {
+    ghost use Rattle.std.specs.Prelude.{◌≡◌};
+    ghost use Rattle.id_table.specs.Tables.{Kept};
+    ghost use Rattle.id_table.specs.Order.{Ascends};
+    ghost use Rattle.protocol_model.specs.declared.tunnel.Call.{Call};
+    ghost use Rattle.protocol_model.specs.Calls.{owed_by};
+
+    ghost Value = { Kept Call };
+
+    ghost view = { λ c. c.table };
+
+    ghost invariant = { λ c. Ascends c.table.entries × (c.owed ≡ owed_by c.table.entries) };
+}
+
+impl TunnelCalls {
+    /// No calls, and no room. It takes no memory.
+    pub(crate) fn new(alloc: Global) -> TunnelCalls
+        ensures { result.entries ≡ [] }
+    {
+        TunnelCalls {
+            table: Table::new(alloc),
+            owed: 0,
+        }
+    }
+
+    pub(crate) fn table(&self) -> &Table<Call>
+        ensures { result.now ≡ self.now }
+    {
+        &self.table
+    }
+
+    /// The call with this session id.
+    pub(crate) fn get(&self, session: u32) -> Option<&Call>
+        ensures { option_copied result ≡ at self.now.entries session }
+    {
+        self.table.get(session)
+    }
+
+    /// The session ids, in order.
+    pub(crate) fn ids(&self, alloc: Global) -> Result<Sequence<u32>, NoMemory>
+        ensures { IfOk result (λ ids. ids ≡ ids_of self.now.entries) }
+    {
+        self.table.ids(alloc)
+    }
+
+    /// The session of the first call to which the peer assigned this id.
+    #[tactic(auto, unfolding(protocol_model::specs::Turn::call_of))]
+    pub(crate) fn call_of(&self, alloc: Global, remote: u16) -> Result<Option<u32>, NoMemory>
+        ensures { IfOk result (λ session. session ≡ call_of self.now.entries remote) }
+    {
+        let sessions = self.ids(alloc)?;
+        Ok(first_of(self, remote, sessions.as_slice()))
+    }
+
+    /// The session that a header names, or, where that is 0, the one of the call to which the peer assigned this id.
+    #[tactic(auto, unfolding(protocol_model::specs::Turn::session_named))]
+    pub(crate) fn session_named(
+        &self,
+        alloc: Global,
+        session: u16,
+        remote: u16,
+    ) -> Result<u32, NoMemory>
+        ensures { IfOk result (λ named. named ≡ session_named self.now.entries session remote) }
+    {
+        if session != 0 {
+            return Ok(u32::from(session));
+        }
+        if remote == 0 {
+            return Ok(0);
+        }
+        let found = self.call_of(alloc, remote)?;
+        Ok(found.unwrap_or(0))
+    }
+
+    /// Whether the tunnel has as many calls as it may.
+    pub(crate) fn are_too_many(&self) -> bool
+        ensures { result ≡ are_too_many self.now.entries }
+    {
+        self.table.len() >= MOST_CALLS
+    }
+
+    /// How many letters the calls owe.
+    pub(crate) fn owed(&self) -> u128
+        ensures value { result ≡ owed_by self.now.entries }
+        ensures within { result < 2 ^ 66 }
+    {
+        let _count = self.table.len();
+        self.owed
+    }
+
+    /// Makes room for a call. Where memory is wanting, the calls are as before.
+    pub(crate) fn make_room(&mut self, session: u32) -> Result<(), NoMemory>
+        ensures entries { self.new.entries ≡ self.old.entries }
+        ensures room { KeepsRoom self.old self.new }
+        ensures made { OnOk result (HasRoom self.new session) }
+    {
+        self.table.make_room(session)
+    }
+
+    /// Puts a call at a session id that has room, in place of the one there. It takes no memory.
+    pub(crate) fn fill(&mut self, session: u32, call: Call)
+        requires { HasRoom self.old session }
+        ensures entries { self.new.entries ≡ put self.old.entries session call }
+        ensures room { KeepsRoom self.old self.new }
+    {
+        let _count = self.table.len();
+        let before = owed_at(self.table.get(session));
+        self.owed += u128::from(owes(call.state));
+        self.table.fill(session, call);
+        self.owed -= u128::from(before);
+    }
+
+    /// Takes out the call with a session id that has room, which stays. It takes no memory.
+    pub(crate) fn vacate(&mut self, session: u32)
+        requires { HasRoom self.old session }
+        ensures entries { self.new.entries ≡ without self.old.entries session }
+        ensures room { KeepsRoom self.old self.new }
+    {
+        let before = owed_at(self.table.get(session));
+        self.owed -= u128::from(before);
+        self.table.vacate(session);
+    }
+
+    /// Gives back the room of a session id that has no call.
+    pub(crate) fn give_back(&mut self, session: u32)
+        ensures { self.new.entries ≡ self.old.entries }
+    {
+        self.table.give_back(session);
+    }
+}
+
+/// The first of these calls to which the peer assigned this id.
+fn first_of(calls: &TunnelCalls, remote: u16, sessions: &[u32]) -> Option<u32>
+    ensures { result ≡ find (λ s. is_call_of remote (at calls.now.entries s)) sessions.now }
+{
+    for session in sessions {
+        if let Some(call) = calls.get(*session) {
+            if call.remote == remote {
+                return Some(*session);
+            }
+        }
+    }
+    None
+}
