@@ -1,11 +1,11 @@
 -- A turn of a tunnel is a chain of moves of its end.
-use Rattle.std.proofs.Common.{◌≡◌, ◌⊎◌, inl, inr, ⊎_elim, ℕ, true, false, List, [], ◌∷◌, refl, sym, ap, ◌∙◌, subst, Option, Some, None, Result, Ok, Err, arith, rules}
-use Rattle.std.proofs.lemmas.Bool.{eqb-true, eq-eqb, true≢false}
+use Rattle.std.proofs.Common.{◌≡◌, ◌⊎◌, inl, inr, ⊎_elim, ℕ, ◌≤◌, true, false, List, [], refl, sym, ap, ◌∙◌, subst, Option, Some, None, Result, Ok, Err, arith, rules}
+use Rattle.std.proofs.lemmas.Bool.{eqb-true, eq-eqb, ltb-true, true≢false}
 use Rattle.std.proofs.lemmas.List.{append-nil}
-use Rattle.std.specs.Prelude.{◌==◌}
+use Rattle.std.specs.Prelude.{◌==◌, nat_lt}
 use Rattle.std.specs.List.{AllByRecursion}
 use Rattle.id_table.specs.Ids.{at, put}
-use Rattle.id_table.specs.Order.{Ascends, ascends-put, ascends-empty, put-again, at_new, found_put, ascends-without}
+use Rattle.id_table.specs.Order.{ascends-put, ascends-empty, put-again, at_new, found_put}
 use Rattle.id_source.specs.Spaces.{draws}
 use Rattle.id_source.specs.declared.IdError.{IdError}
 use Rattle.wire_base.specs.declared.why.Why.{Why}
@@ -15,40 +15,39 @@ use Rattle.wire_base.specs.declared.cause.Cause.TheVariants as cause
 use Rattle.wire_base.specs.declared.letter.Letter.{Letter}
 use Rattle.tunnel_fsm.specs.declared.table.TunnelState.TheVariants.{WaitCtlConn}
 use Rattle.tunnel_fsm.specs.Rows.{state_number}
+use Rattle.call_fsm.specs.declared.table.CallEvent.{CallEvent}
+use Rattle.call_fsm.specs.declared.table.CallEvent.TheVariants as call_event
 use Rattle.l2tp_header.specs.declared.header.Header.{Header}
 use Rattle.l2tp_header.specs.Reading.{header_of}
 use Rattle.control_message.specs.declared.message.Message.{Message}
-use Rattle.control_message.specs.declared.message.Message.TheVariants.{Sccrq, Sccrp, Scccn, Hello, Icrq, Icrp, Iccn, Cdn}
+use Rattle.control_message.specs.declared.message.Message.TheVariants.{Sccrq, Sccrp, Scccn, StopCcn, Hello, Ocrq, Ocrp, Occn, Icrq, Icrp, Iccn, Cdn, Wen, Sli}
 use Rattle.control_message.specs.declared.message.Opening.{Opening}
 use Rattle.protocol_model.specs.declared.tunnel.Call.{Call}
 use Rattle.protocol_model.specs.declared.tunnel.Control.{Control}
 use Rattle.protocol_model.specs.declared.tunnel.Role.TheVariants.{Lac}
 use Rattle.protocol_model.specs.declared.event.Event.{Event}
-use Rattle.protocol_model.specs.declared.event.Event.TheVariants.{Datagram, Ring, Payload, Lower, OpenTunnel}
+use Rattle.protocol_model.specs.declared.event.Event.TheVariants.{Datagram, Ring, Payload, Lower, Hang, OpenTunnel, DropCall}
 use Rattle.protocol_model.specs.declared.out.Out.{Out}
 use Rattle.protocol_model.specs.declared.out.Out.TheVariants.{Send, Up, Gone, Drop, Cause as Refused}
 use Rattle.protocol_model.specs.declared.moves.Move.{Move}
 use Rattle.protocol_model.specs.declared.moves.Move.TheVariants as move
 use Rattle.protocol_model.specs.Reading.{body_of, message_in}
-use Rattle.protocol_model.specs.Calls.{is_up}
-use Rattle.protocol_model.specs.Turn.{Tunnel, Env, Turn, turn_of, with_output, with_move, changed_at, with_calls, with_local, letter_of, opening_of, letters_after, has_room, learns_window, gives, takes_one, drops, lets_all_go, acknowledged_after, settles, fresh, opened, opens_by, opens, accepted, accepts_by, accepts, adds, rings_new, rings, first_said, hears_control, hears_datagram, carried, carries, turns, tunnel_after}
-use Rattle.protocol_model.specs.End.{End, env_of, gives_only, placed, with_looks, after_turn, after_new}
+use Rattle.protocol_model.specs.Calls.{call_row, is_up, is_told, owes}
+use Rattle.protocol_model.specs.Turn.{Tunnel, Env, Turn, turn_of, with_output, with_move, with_calls, closes, with_local, letter_of, opening_of, letters_after, has_room, learns_window, gives, takes_one, drops, lets_all_go, acknowledged_after, settles, fresh, opened, opens_by, opens, accepted, accepts_by, accepts, adds, rings_new, rings, first_said, hears_control, hears_datagram, carried, carries, turns, tunnel_after}
+use Rattle.protocol_model.specs.End.{End, Stepped, env_of, gives_only, placed, with_looks, after_turn, after_new, has_all_tunnels}
+use Rattle.step_laws.specs.Room.{IsChosen, RingsNew}
+use Rattle.step_laws.specs.Causes.{IsTold, ForNew, ForOpening, Stands}
 use Rattle.step_laws.specs.Letters.{AFrame, HasOutput}
-use Rattle.step_laws.specs.Moves.{IsAgain, IsFor, Hears, Chain, begun}
+use Rattle.step_laws.specs.Moves.{IsAgain, IsFor, Hears, Chain, begun, WhyEnds, IsDropped, IsHungUp}
 use Rattle.step_laws.specs.Steps.{IsKept, AreKept, IsOfMoves, IsChain}
 use Rattle.step_laws.proofs.Lists.{all_map, branch, ascends_placed, ascends_looks}
-use Rattle.step_laws.proofs.Turns.{IsWord, NoFrame, Stays, Held, held_given, held_learnt, next_after, at_turn, TurnOk, learnt_state, learnt_room, drops_ok, adds_ok}
-use Rattle.step_laws.proofs.Settling.{OutOk, Settled, unsent, settles_ok}
-use Rattle.step_laws.proofs.Hearing.{Fresh, hears_control_ok, rings_ok}
-
-ascends_changed : (calls : List (ℕ × Call)) (s : ℕ) (o : Option Call) → Ascends calls → Ascends (changed_at calls s o)
-ascends_changed calls s None h = ascends-without s calls h
-ascends_changed calls s (Some c) h = ascends-put s c calls h
-
-ascends_with : (xs : List (ℕ × Option Call)) (calls : List (ℕ × Call)) → Ascends calls → Ascends (with_calls xs calls)
-unfolding with_calls
-ascends_with [] calls h = h
-ascends_with (x ∷ xs) calls h = ascends_with xs (changed_at calls x.0 x.1) (ascends_changed calls x.0 x.1 h)
+use Rattle.step_laws.proofs.Owing.{Fits, closed_owes, dropped_owes, fits_given, owes_told}
+use Rattle.step_laws.proofs.Tells.{Tells}
+use Rattle.step_laws.proofs.Turns.{IsWord, NoFrame, Stays, Held, held_given, held_learnt, next_after, at_turn, TurnOk, learnt_state, learnt_queued, drops_ok, adds_ok}
+use Rattle.step_laws.proofs.Settling.{OutOk, Settled, unsent, settled_ok, settles_ok}
+use Rattle.step_laws.proofs.Comes.{Fresh}
+use Rattle.step_laws.proofs.Closing.{ends_leave}
+use Rattle.step_laws.proofs.Hearing.{hears_control_ok, rings_ok}
 
 pub no_frame_out : (outs : List Out) (m : Move) → NoFrame m → HasOutput outs m
 no_frame_out outs (move.FrameSent f) h = absurd h
@@ -61,6 +60,7 @@ no_frame_out outs (move.Requested m) h = tt
 no_frame_out outs (move.Replied m) h = tt
 no_frame_out outs (move.FirstUp m) h = tt
 no_frame_out outs (move.SecondUp m) h = tt
+no_frame_out outs (move.Refused m) h = tt
 no_frame_out outs (move.EndTold m) h = tt
 no_frame_out outs (move.EndHeard m) h = tt
 no_frame_out outs (move.EndSilent m) h = tt
@@ -88,16 +88,24 @@ ok_is x i t is ms (Gone session) h = tt
 ok_is x i t is ms (Drop w) h = tt
 ok_is x i t is ms (Refused c) h = tt
 
+-- a step that leads there, and what it tells is so
+pub record IsStep (e : End) (moment : ℕ) (ev : Event) (s : Stepped) : Type 0 where
+  pub chain : IsChain e moment ev s
+  pub tells : AllByRecursion (Tells e moment ev) s.outputs
+
 module _ (e : End) (kept : AreKept e) (moment : ℕ) (ev : Event) where
   -- a step that tells one word
-  pub word_chain : (x : Out) → IsWord x → IsChain e moment ev (gives_only e x)
+  pub drop_chain : (w : Why) → (w ≡ why.Queue → ⊥) → IsStep e moment ev (gives_only e (Drop w))
   unfolding gives_only
-  word_chain x h = record { chain = refl; outputs = (word_is e [] x h, tt); frames = tt; kept = kept }
+  drop_chain w other =
+      record { chain = record { chain = refl; outputs = (tt, tt); frames = tt; kept = kept }; tells = ((λ q. absurd (other q)), tt) }
 
-  pub drop_chain : (w : Why) → IsChain e moment ev (gives_only e (Drop w))
-  drop_chain w = word_chain (Drop w) tt
+  -- or one cause
+  pub cause_chain : (c : Cause) → Stands e moment ev c → IsStep e moment ev (gives_only e (Refused c))
+  unfolding gives_only
+  cause_chain c stands = record { chain = record { chain = refl; outputs = (tt, tt); frames = tt; kept = kept }; tells = (stands, tt) }
 
-  module _ (letters : List Letter) (calls : List (ℕ × Call)) (sorted : Ascends calls) (i : ℕ) (some : i ≡ 0 → ⊥) (r : Turn) where
+  module _ (letters : List Letter) (calls : List (ℕ × Call)) (i : ℕ) (some : i ≡ 0 → ⊥) (r : Turn) where
     abbrev left : End
     left = (after_turn e i letters calls r).end
 
@@ -118,18 +126,23 @@ module _ (e : End) (kept : AreKept e) (moment : ℕ) (ev : Event) where
     unfolding after_turn
     left_is stays = rw stays refl
 
-    kept_with : Stays i moment r → Held r.control.channel.window (letters_after r letters) → AreKept (left_with (put e.tunnels i tunnel))
-    kept_with s held = record {
+    abbrev pub FitsAfter : Type 0
+    FitsAfter = Fits r.control (with_calls r.changed calls)
+
+    kept_with : Stays i moment r → Held r.control.channel.window (letters_after r letters) → FitsAfter → AreKept (left_with (put e.tunnels i tunnel))
+    kept_with s held fits = record {
       tunnels = λ j u found. ⊎_elim
           (λ (a : (j ≡ i) × (tunnel ≡ u)). subst (λ (x : Tunnel). IsKept j x) a.1 (record {
             local = s.0 ∙ sym a.0;
             some = λ z. some (sym a.0 ∙ z);
             busy = s.1;
-            calls = ascends_with r.changed calls sorted;
+            calls = fits.0;
             letters = held.0;
             outstanding = held.1;
-            few = held.2;
-            acked = held.3;
+            calls_few = fits.1;
+            few = fits.2;
+            owed = fits.3;
+            acked = held.2;
           }))
           (λ a. kept.tunnels j u a.1)
           (found_put e.tunnels i tunnel j u found);
@@ -139,8 +152,8 @@ module _ (e : End) (kept : AreKept e) (moment : ℕ) (ev : Event) where
       first = s.3;
     }
 
-    pub kept_after : Stays i moment r → Held r.control.channel.window (letters_after r letters) → AreKept left
-    kept_after s held = subst AreKept (sym (left_is s.5)) (kept_with s held)
+    pub kept_after : Stays i moment r → Held r.control.channel.window (letters_after r letters) → FitsAfter → AreKept left
+    kept_after s held fits = subst AreKept (sym (left_is s.5)) (kept_with s held fits)
 
     pub chain_after : Stays i moment r → Chain moment ev e r.moves (at_turn e moment ev letters calls i r) → Chain moment ev e r.moves left
     chain_after s h =
@@ -149,13 +162,16 @@ module _ (e : End) (kept : AreKept e) (moment : ℕ) (ev : Event) where
     pub there_after : r.cleared ≡ false → at left.tunnels i ≡ Some tunnel
     there_after stays = ap (λ (x : End). at x.tunnels i) (left_is stays) ∙ at_new e.tunnels i tunnel
 
-    pub turn_chain : Settled e moment ev letters calls i r → IsChain e moment ev (after_turn e i letters calls r)
+    pub turn_chain : Settled e moment ev letters calls i r → IsStep e moment ev (after_turn e i letters calls r)
     unfolding after_turn
     turn_chain h = record {
-      chain = chain_after h.stays h.chain;
-      outputs = all_map _ _ (ok_is left i tunnel (there_after h.stays.5) r.moves) r.outputs h.outs;
-      frames = all_map _ _ (no_frame_out r.outputs) r.moves h.frames;
-      kept = kept_after h.stays h.held;
+      chain = record {
+        chain = chain_after h.stays h.chain;
+        outputs = all_map _ _ (ok_is left i tunnel (there_after h.stays.5) r.moves) r.outputs h.outs;
+        frames = all_map _ _ (no_frame_out r.outputs) r.moves h.frames;
+        kept = kept_after h.stays h.held h.fits;
+      };
+      tells = h.tells;
     }
 
   -- ---- a tunnel that is there
@@ -183,7 +199,10 @@ module _ (e : End) (kept : AreKept e) (moment : ℕ) (ev : Event) where
       again = rw same (put-again t.control.local t e.tunnels kept.order there)
 
       held_first : Held t.control.channel.window (letters_after start t.letters)
-      held_first = rw (append-nil t.letters) (k.letters, k.outstanding, k.few, k.acked)
+      held_first = rw (append-nil t.letters) (k.letters, k.outstanding, k.acked)
+
+      fits_first : Fits t.control t.calls
+      fits_first = (k.calls, k.calls_few, k.few, k.owed)
 
       pub begins : Fresh e moment ev t.letters t.calls i start
       unfolding with_calls with_looks placed
@@ -191,23 +210,33 @@ module _ (e : End) (kept : AreKept e) (moment : ℕ) (ev : Event) where
         good = record {
           chain = ap (λ ts. record e { tunnels = ts }) (sym again);
           words = tt;
+          tells = tt;
           frames = tt;
           stays = (k.local, k.busy, kept.sessions, kept.first, refl, refl);
           held = held_first;
+          fits = fits_first;
         };
         changes = refl;
         changed = refl;
+        first = t.control;
+        there = is;
+        local = refl;
+        remote = refl;
+        peer = refl;
+        state = refl;
+        sessions = refl;
       }
 
       abbrev leads : Turn → Type 0
-      leads r = IsChain e moment ev (after_turn e i t.letters t.calls r)
+      leads r = IsStep e moment ev (after_turn e i t.letters t.calls r)
 
       settled_leads : (r : Turn) → Settled e moment ev t.letters t.calls i r → leads r
-      settled_leads r h = turn_chain t.letters t.calls k.calls i k.some r h
+      settled_leads r h = turn_chain t.letters t.calls i k.some r h
 
-      dropped_leads : (w : Why) → leads (drops w start)
-      dropped_leads w =
-          settled_leads _ (unsent e moment ev t.letters t.calls i _ (drops_ok e moment ev t.letters t.calls i w start begins.good))
+      dropped_leads : (w : Why) → (w ≡ why.Queue → ⊥) → leads (drops w start)
+      dropped_leads w other =
+          settled_leads _
+          (unsent e moment ev t.letters t.calls i _ (drops_ok e moment ev t.letters t.calls i w (λ q. absurd (other q)) start begins.good))
 
       -- the message names the tunnel, or comes again to it
       is_for : (h : Header) (bytes : List ℕ) → (h.tunnel ≡ i) ⊎ IsAgain h bytes t.control → IsFor h bytes t.control
@@ -215,51 +244,86 @@ module _ (e : End) (kept : AreKept e) (moment : ℕ) (ev : Event) where
 
       pub heard_chain : (bytes : List ℕ) (h : Header) → header_of bytes ≡ Ok h → h.control ≡ true → ev ≡ Datagram t.control.peer bytes
           → (h.tunnel ≡ i) ⊎ IsAgain h bytes t.control → leads (turns e.role e.config t.letters t.calls (Datagram t.control.peer bytes) start)
-      unfolding turns hears_datagram
+      unfolding turns hears_datagram begins
       heard_chain bytes h read control same to =
           subst (λ r. leads (hears_datagram e.role e.config t.letters t.calls bytes r start)) (sym read)
           (branch leads h.control _ _
           (λ c. settled_leads _
-          (hears_control_ok e moment ev t.letters t.calls i k.calls bytes h read control e.config start begins refl refl same (is_for h bytes to)))
+          (hears_control_ok e moment ev t.letters t.calls i k.calls bytes h read control start begins refl same (is_for h bytes to) e.config refl refl))
           (λ c. absurd (true≢false (sym control ∙ c))))
 
-      pub rung_chain : (port : ℕ) → (state_number t.control.state ≡ 3) ⊎ (state_number t.control.state ≡ 1) → ev ≡ Ring port → e.role ≡ Lac
-          → leads (turns e.role e.config t.letters t.calls (Ring port) start)
-      unfolding turns
-      rung_chain port goes same lac =
+      pub rung_chain : (port : ℕ) → (state_number t.control.state ≡ 3) ⊎ (state_number t.control.state ≡ 1) → IsChosen e i → t.control.peer ≡ e.config.lns → ev ≡ Ring port
+          → e.role ≡ Lac → leads (turns e.role e.config t.letters t.calls (Ring port) start)
+      unfolding turns begins
+      rung_chain port goes chosen lns same lac =
           settled_leads _ (settles_ok e moment ev t.letters t.calls i false _
-          (rings_ok e moment ev t.letters t.calls i k.calls e.config port start begins goes same lac))
+          (rings_ok e moment ev t.letters t.calls i k.calls port start begins refl chosen lns same e.config goes lac))
+
+      -- a call is closed by an event of its table
+      closed_chain : (for : Cause) (on : CallEvent) (result s : ℕ) → ((c : Call) → WhyEnds (at_turn e moment ev t.letters t.calls i start) (tunnel_after start t.letters t.calls) ev moment s c on result None)
+          → ((c : Call) → is_told (call_row e.role c.state on).1 ≡ true → 1 ≤ owes c.state) → (IsTold e t s on → Stands e moment ev for)
+          → (o : Option Call) → at t.calls s ≡ o
+          → leads (settles false t.letters (closes e.role for on result s o start))
+      unfolding closes with_calls
+      closed_chain for on result s so owed stands None found =
+          settled_leads _
+          (settles_ok e moment ev t.letters t.calls i false _ (drops_ok e moment ev t.letters t.calls i why.Call (λ q. absurd cc) start begins.good))
+      closed_chain for on result s so owed stands (Some c) found =
+          branch (λ u. leads (settles false t.letters u)) (nat_lt s 65536) _ _
+          (λ small. settled_leads _ (settled_ok e moment ev t.letters t.calls i false _
+          (ends_leave e moment ev t.letters t.calls i for s c on result None start found (so c) (ltb-true s 65536 small)
+          (λ told. (
+            owes_told t.control t.calls s c (owed c told) fits_first,
+            stands (record { id = i; there = is; call = c; live = found; row = told }),
+          )) (call_row e.role c.state on).1 refl
+          (unsent e moment ev t.letters t.calls i start begins.good)).ok))
+          (λ big. settled_leads _ (settles_ok e moment ev t.letters t.calls i false start begins.good))
+
+      pub hung_chain : (s : ℕ) → ev ≡ Hang s → leads (turns e.role e.config t.letters t.calls (Hang s) start)
+      unfolding turns
+      hung_chain s comes =
+          closed_chain cause.Line call_event.LineDrop 1 s (λ c. IsHungUp comes refl refl refl) (λ c told. dropped_owes e.role c.state told)
+          (λ told. (s, t, comes, told)) (at t.calls s) refl
+
+      pub closes_chain : (s : ℕ) → ev ≡ DropCall s → leads (turns e.role e.config t.letters t.calls (DropCall s) start)
+      unfolding turns
+      closes_chain s comes =
+          closed_chain cause.Operator call_event.Close 3 s (λ c. IsDropped comes refl refl refl) (λ c told. closed_owes e.role c.state told)
+          (λ told. (s, t, comes, told)) (at t.calls s) refl
 
       -- a frame leaves the tunnel as it was
       carried_chain : (s : ℕ) (frame : List ℕ) (c : Call) → at t.calls s ≡ Some c → is_up c.state ≡ true
           → (ev ≡ Payload s frame) ⊎ (ev ≡ Lower s frame) → leads (carried s frame c start)
       unfolding carried with_output with_move after_turn with_calls with_looks placed
       carried_chain s frame c found up given = record {
-        chain = (
-          e,
-          record { tunnel = t; there = there; peer = refl; call = c; calls = found; up = up; given = given; after = refl },
-          ap (λ ts. record e { tunnels = ts }) (sym (rw same (put-again i t e.tunnels kept.order is))),
-        );
-        outputs = (
-          record {
-            id = i;
-            tunnel = tunnel_after start t.letters t.calls;
-            there = at_new e.tunnels i (tunnel_after start t.letters t.calls);
-            peer_is = refl;
-            carries = AFrame _ c (inl refl) refl refl found up refl refl;
-          },
-          tt,
-        );
-        frames = ((t.control.remote, c.remote, inl refl), tt);
-        kept = kept_after t.letters t.calls k.calls i k.some (carried s frame c start) (k.local, k.busy, kept.sessions, kept.first, refl, refl) held_first;
+        chain = record {
+          chain = (
+            e,
+            record { tunnel = t; there = there; peer = refl; call = c; calls = found; up = up; given = given; after = refl },
+            ap (λ ts. record e { tunnels = ts }) (sym (rw same (put-again i t e.tunnels kept.order is))),
+          );
+          outputs = (
+            record {
+              id = i;
+              tunnel = tunnel_after start t.letters t.calls;
+              there = at_new e.tunnels i (tunnel_after start t.letters t.calls);
+              peer_is = refl;
+              carries = AFrame _ c (inl refl) refl refl found up refl refl;
+            },
+            tt,
+          );
+          frames = ((t.control.remote, c.remote, inl refl), tt);
+          kept = kept_after t.letters t.calls i k.some (carried s frame c start) (k.local, k.busy, kept.sessions, kept.first, refl, refl) held_first fits_first;
+        };
+        tells = (tt, tt);
       }
 
       pub carries_chain : (s : ℕ) (frame : List ℕ) (o : Option Call) → at t.calls s ≡ o → (ev ≡ Payload s frame) ⊎ (ev ≡ Lower s frame)
           → leads (carries s frame o start)
       unfolding carries
-      carries_chain s frame None found given = dropped_leads why.Call
+      carries_chain s frame None found given = dropped_leads why.Call (λ q. absurd cc)
       carries_chain s frame (Some c) found given =
-          branch leads (is_up c.state) _ _ (λ up. carried_chain s frame c found up given) (λ down. dropped_leads why.Closed)
+          branch leads (is_up c.state) _ _ (λ up. carried_chain s frame c found up given) (λ down. dropped_leads why.Closed (λ q. absurd cc))
 
     -- ---- a tunnel that is new
 
@@ -272,6 +336,7 @@ module _ (e : End) (kept : AreKept e) (moment : ℕ) (ev : Event) where
         local : r.control.local ≡ 0
         moves : r.moves ≡ []
         outs : AllByRecursion IsWord r.outputs
+        tells : AllByRecursion (Tells e moment ev) r.outputs
 
       record IsMade (r : Turn) : Type 0 where
         id : ℕ
@@ -279,16 +344,14 @@ module _ (e : End) (kept : AreKept e) (moment : ℕ) (ev : Event) where
         good : TurnOk e moment ev [] [] id r
 
       abbrev leads_new : Turn → Type 0
-      leads_new r = IsChain e moment ev (after_new e r)
+      leads_new r = IsStep e moment ev (after_new e r)
 
       unmade_leads : (r : Turn) → IsUnmade r → leads_new r
       unfolding after_new
       unmade_leads r h =
           rw (eq-eqb r.control.local 0 h.local, h.moves) (record {
-            chain = refl;
-            outputs = all_map _ _ (word_is e []) r.outputs h.outs;
-            frames = tt;
-            kept = kept;
+            chain = record { chain = refl; outputs = all_map _ _ (word_is e []) r.outputs h.outs; frames = tt; kept = kept };
+            tells = h.tells;
           })
 
       -- it goes on to its end, where its first letter goes
@@ -298,17 +361,17 @@ module _ (e : End) (kept : AreKept e) (moment : ℕ) (ev : Event) where
           let u = settles false [] r in
           let settled = settles_ok e moment ev [] [] h.id false r h.good in
           let local = settled.stays.0 in
-          branch (IsChain e moment ev) (u.control.local == 0) _ _
+          branch (IsStep e moment ev) (u.control.local == 0) _ _
           (λ zero. absurd (h.some (sym local ∙ eqb-true u.control.local 0 zero)))
-          (λ some. subst (λ j. IsChain e moment ev (after_turn e j [] [] u)) (sym local) (turn_chain [] [] (ascends-empty [] refl) h.id h.some u settled))
+          (λ some. subst (λ j. IsStep e moment ev (after_turn e j [] [] u)) (sym local) (turn_chain [] [] h.id h.some u settled))
 
-      refused_new : (c : Cause) → leads_new (settles false [] (with_output (Refused c) blank))
+      refused_new : (c : Cause) → Stands e moment ev c → leads_new (settles false [] (with_output (Refused c) blank))
       unfolding with_output settles acknowledged_after lets_all_go
-      refused_new c = unmade_leads _ (record { local = refl; moves = refl; outs = (tt, tt) })
+      refused_new c stands = unmade_leads _ (record { local = refl; moves = refl; outs = (tt, tt); tells = (stands, tt) })
 
-      dropped_new : (w : Why) → leads_new (settles false [] (drops w blank))
+      dropped_new : (w : Why) → (w ≡ why.Queue → ⊥) → leads_new (settles false [] (drops w blank))
       unfolding drops with_output settles acknowledged_after lets_all_go
-      dropped_new w = unmade_leads _ (record { local = refl; moves = refl; outs = (tt, tt) })
+      dropped_new w other = unmade_leads _ (record { local = refl; moves = refl; outs = (tt, tt); tells = ((λ q. absurd (other q)), tt) })
 
       drawn_some : (n : ℕ) → draws e.tunnel_ids ≡ Ok n → n ≡ 0 → ⊥
       unfolding draws
@@ -319,40 +382,43 @@ module _ (e : End) (kept : AreKept e) (moment : ℕ) (ev : Event) where
       opened_good local lac lns drawn = record {
         chain = (_, record { drawn = drawn; given = refl; peer = lns; role = lac; after = refl }, refl);
         words = tt;
+        tells = tt;
         frames = (tt, tt);
         stays = (refl, (λ z. absurd (omega (arith, z))), kept.sessions, next_after e.tunnel_ids kept.first, refl, refl);
-        held = (refl, omega arith, omega arith, omega arith);
+        held = (refl, omega arith, omega arith);
+        fits = (ascends-empty [] refl, omega arith, omega arith, λ o. omega arith);
       }
 
-      pub opens_chain : e.role ≡ Lac → peer ≡ e.config.lns → leads_new (turns e.role e.config [] [] OpenTunnel blank)
+      pub opens_chain : e.role ≡ Lac → peer ≡ e.config.lns → ev ≡ OpenTunnel → has_all_tunnels e.tunnels ≡ false → leads_new (turns e.role e.config [] [] OpenTunnel blank)
       unfolding turns opens opens_by
-      opens_chain lac lns = by (draws e.tunnel_ids) refl
+      opens_chain lac lns opening fewer = by (draws e.tunnel_ids) refl
         where
           by : (x : Result ℕ IdError) → draws e.tunnel_ids ≡ x → leads_new (settles false [] (opens_by e.role e.config x blank))
-          by (Err x) is = refused_new cause.Ids
+          by (Err x) is = refused_new cause.Ids (ForOpening x opening fewer is)
           by (Ok local) is =
               branch (λ u. leads_new (settles false [] u)) (has_room (fresh peer moment)) (opened e.role e.config local blank) (with_output (Refused cause.Queue) blank)
               (λ may. made_leads _ (record { id = local; some = drawn_some local is; good = opened_good local lac lns is }))
-              (λ full. refused_new cause.Queue)
+              (λ full. absurd (true≢false full))
 
       rung_good : (port s local : ℕ) → e.role ≡ Lac → peer ≡ e.config.lns → ev ≡ Ring port → draws e.session_ids ≡ Ok s
           → draws e.tunnel_ids ≡ Ok local → TurnOk e moment ev [] [] local (adds e.role port s (opened e.role e.config local blank))
-      unfolding opened gives with_move with_local
+      unfolding opened gives with_move with_local with_calls
       rung_good port s local lac lns rings session drawn =
-          adds_ok e moment ev [] [] local port s (opened e.role e.config local blank) refl (inr refl) rings lac session (opened_good local lac lns drawn)
+          adds_ok e moment ev [] [] local port s (opened e.role e.config local blank) refl refl refl refl rings lac session (opened_good local lac lns drawn)
 
-      pub rings_chain : (port : ℕ) → e.role ≡ Lac → peer ≡ e.config.lns → ev ≡ Ring port → leads_new (turns e.role e.config [] [] (Ring port) blank)
+      pub rings_chain : (port : ℕ) → e.role ≡ Lac → peer ≡ e.config.lns → ev ≡ Ring port → RingsNew e ev → has_all_tunnels e.tunnels ≡ false
+          → leads_new (turns e.role e.config [] [] (Ring port) blank)
       unfolding turns rings rings_new
-      rings_chain port lac lns rings = by (draws e.session_ids) (draws e.tunnel_ids) refl refl
+      rings_chain port lac lns rings new fewer = by (draws e.session_ids) (draws e.tunnel_ids) refl refl
         where
           by : (x y : Result ℕ IdError) → draws e.session_ids ≡ x → draws e.tunnel_ids ≡ y
               → leads_new (settles false [] (rings_new e.role e.config port x y blank))
-          by (Err x) y is drawn = refused_new cause.Ids
-          by (Ok s) (Err y) is drawn = refused_new cause.Ids
+          by (Err x) y is drawn = refused_new cause.Ids (ForNew new fewer (inl (x, is)))
+          by (Ok s) (Err y) is drawn = refused_new cause.Ids (ForNew new fewer (inr (y, drawn)))
           by (Ok s) (Ok local) is drawn =
               branch (λ u. leads_new (settles false [] u)) (has_room (fresh peer moment)) (adds e.role port s (opened e.role e.config local blank)) (with_output (Refused cause.Queue) blank)
               (λ may. made_leads _ (record { id = local; some = drawn_some local drawn; good = rung_good port s local lac lns rings is drawn }))
-              (λ full. refused_new cause.Queue)
+              (λ full. absurd (true≢false full))
 
       -- a window that is learned before the id is that of the tunnel with the id
       learnt_begun : (window remote local : ℕ)
@@ -386,11 +452,15 @@ module _ (e : End) (kept : AreKept e) (moment : ℕ) (ev : Event) where
           refl,
         );
         words = tt;
+        tells = tt;
         frames = (tt, tt);
         stays = (refl, rw (learnt_state window (begun 0 peer remote WaitCtlConn moment)) (λ z. absurd (omega (arith, z))), kept.sessions, next_after e.tunnel_ids kept.first, refl, refl);
         held = let c = begun 0 peer remote WaitCtlConn moment in
-            held_given (learns_window window c).channel.window [] (letter_of 0 (Sccrp (opening_of e.role e.config local))) (learnt_room window c)
-            (held_learnt window c [] (refl, omega arith, omega arith, omega arith));
+            held_given (learns_window window c).channel.window [] (letter_of 0 (Sccrp (opening_of e.role e.config local)))
+            (held_learnt window c [] (refl, omega arith, omega arith));
+        fits = let c = begun 0 peer remote WaitCtlConn moment in
+            let none = learnt_queued window c in
+            fits_given (learns_window window c) [] (ascends-empty [] refl) (omega arith) (omega (arith, none));
       }
 
       accepts_chain : (session : ℕ) (o : Opening) → Hears ev peer session (Sccrq o) → Alone o.tunnel
@@ -399,7 +469,7 @@ module _ (e : End) (kept : AreKept e) (moment : ℕ) (ev : Event) where
       accepts_chain session o hears alone = by (draws e.tunnel_ids) refl
         where
           by : (x : Result ℕ IdError) → draws e.tunnel_ids ≡ x → leads_new (settles false [] (accepts_by e.role e.config o.tunnel o.window x blank))
-          by (Err x) is = dropped_new why.Tunnel
+          by (Err x) is = dropped_new why.Tunnel (λ q. absurd cc)
           by (Ok local) is =
               branch (λ u. leads_new (settles false [] u)) (has_room (fresh peer moment)) (accepted e.role e.config o.tunnel o.window local blank) (drops why.Queue blank)
               (λ may. made_leads _ (record {
@@ -407,20 +477,26 @@ module _ (e : End) (kept : AreKept e) (moment : ℕ) (ev : Event) where
                 some = drawn_some local is;
                 good = accepted_good session o.tunnel o.window local o hears refl refl alone is;
               }))
-              (λ full. dropped_new why.Queue)
+              (λ full. absurd (true≢false full))
 
       first_chain : (session : ℕ) (x : Result Message Why) → ((m : Message) → x ≡ Ok m → Hears ev peer session m)
           → ((o : Opening) → x ≡ Ok (Sccrq o) → Alone o.tunnel) → leads_new (settles false [] (first_said e.role e.config x blank))
       unfolding first_said
       first_chain session (Ok (Sccrq o)) said alone = accepts_chain session o (said (Sccrq o) refl) (alone o refl)
-      first_chain session (Ok Hello) said alone = dropped_new why.Tunnel
-      first_chain session (Ok (Cdn remote code error)) said alone = dropped_new why.Tunnel
-      first_chain session (Ok (Sccrp o)) said alone = dropped_new why.Tunnel
-      first_chain session (Ok Scccn) said alone = dropped_new why.Tunnel
-      first_chain session (Ok (Icrq remote serial calling)) said alone = dropped_new why.Tunnel
-      first_chain session (Ok (Icrp remote)) said alone = dropped_new why.Tunnel
-      first_chain session (Ok (Iccn speed framing sequenced)) said alone = dropped_new why.Tunnel
-      first_chain session (Err w) said alone = dropped_new why.Tunnel
+      first_chain session (Ok Hello) said alone = dropped_new why.Tunnel (λ q. absurd cc)
+      first_chain session (Ok (Cdn remote code error)) said alone = dropped_new why.Tunnel (λ q. absurd cc)
+      first_chain session (Ok (Sccrp o)) said alone = dropped_new why.Tunnel (λ q. absurd cc)
+      first_chain session (Ok Scccn) said alone = dropped_new why.Tunnel (λ q. absurd cc)
+      first_chain session (Ok (Icrq remote serial calling)) said alone = dropped_new why.Tunnel (λ q. absurd cc)
+      first_chain session (Ok (Icrp remote)) said alone = dropped_new why.Tunnel (λ q. absurd cc)
+      first_chain session (Ok (Iccn speed framing sequenced)) said alone = dropped_new why.Tunnel (λ q. absurd cc)
+      first_chain session (Ok (StopCcn assigned code error)) said alone = dropped_new why.Tunnel (λ q. absurd cc)
+      first_chain session (Ok (Ocrq remote)) said alone = dropped_new why.Tunnel (λ q. absurd cc)
+      first_chain session (Ok Ocrp) said alone = dropped_new why.Tunnel (λ q. absurd cc)
+      first_chain session (Ok Occn) said alone = dropped_new why.Tunnel (λ q. absurd cc)
+      first_chain session (Ok Wen) said alone = dropped_new why.Tunnel (λ q. absurd cc)
+      first_chain session (Ok Sli) said alone = dropped_new why.Tunnel (λ q. absurd cc)
+      first_chain session (Err w) said alone = dropped_new why.Tunnel (λ q. absurd cc)
 
       pub first_heard : (bytes : List ℕ) (h : Header) → header_of bytes ≡ Ok h → h.control ≡ true → ev ≡ Datagram peer bytes
           → ((o : Opening) → message_in (body_of h bytes) ≡ Ok (Sccrq o) → Alone o.tunnel) → leads_new (turns e.role e.config [] [] (Datagram peer bytes) blank)

@@ -1,6 +1,5 @@
 -- What the data plane sees of each session stays so.
 use Rattle.std.proofs.Common.{◌≡◌, ⊎_elim, ℕ, ◌+◌, ◌<◌, ◌≤◌, Bool, true, false, cond, List, [], ◌∷◌, refl, sym, ap, ◌∙◌, subst, Option, Some, None, Ok, Err, arith}
-use Rattle.std.proofs.lemmas.Bool.{true≢false}
 use Rattle.std.proofs.lemmas.Option.{none-some}
 use Rattle.std.specs.Prelude.{nat_lt, ◌-◌, map}
 use Rattle.id_source.specs.declared.IdError.TheVariants.{NoIds, NeedCeiling}
@@ -9,8 +8,6 @@ use Rattle.wire_base.specs.declared.letter.Letter.{Letter}
 use Rattle.tunnel_fsm.specs.declared.table.TunnelState.TheVariants as tunnel
 use Rattle.id_table.specs.Ids.{at, put, without, at-none, ids_of}
 use Rattle.id_table.specs.Order.{Ascends, ascends-put, ascends-empty, at_new, at_other, found_put, same_or_not, at_without_other, ascends-without, found_without}
-use Rattle.call_fsm.specs.declared.table.CallState.{CallState}
-use Rattle.call_fsm.specs.declared.table.CallState.TheVariants.{Idle, WaitTunnel, WaitReply, WaitConnect, Established}
 use Rattle.call_fsm.specs.declared.table.CallEvent.TheVariants as call_event
 use Rattle.protocol_model.specs.declared.event.Event.{Event}
 use Rattle.protocol_model.specs.declared.moves.Move.{Move}
@@ -20,65 +17,15 @@ use Rattle.protocol_model.specs.declared.tunnel.CallPlace.{CallPlace}
 use Rattle.protocol_model.specs.declared.tunnel.CellChange.TheVariants as cell
 use Rattle.protocol_model.specs.declared.tunnel.Control.{Control}
 use Rattle.protocol_model.specs.declared.tunnel.Look.TheVariants as look
-use Rattle.protocol_model.specs.declared.tunnel.Role.{Role}
-use Rattle.protocol_model.specs.declared.tunnel.Role.TheVariants.{Lac, Lns}
-use Rattle.protocol_model.specs.Calls.{call_row, advanced, rung, asked_for, is_request, is_reply, is_connection, is_up}
+use Rattle.protocol_model.specs.Calls.{advanced, rung, asked_for}
 use Rattle.protocol_model.specs.Turn.{Tunnel}
 use Rattle.protocol_model.specs.End.{End, with_look, with_looks}
 use Rattle.step_laws.specs.Moves.{with_tunnel, Does, Chain}
 use Rattle.step_laws.specs.Steps.{AreKept, StepsAreChains}
+use Rattle.step_laws.proofs.States.{requested_state, replied_state, rung_state, connected_state, up_state}
 use Rattle.step_laws.proofs.Lists.{found_among, none_not_among, ascends_look, ascends_looks, killed_same, killed_other}
 use Rattle.step_laws.proofs.Turns.{learnt_peer}
 use Rattle.step_laws.specs.Looks.{look_of, IsLive, LooksAreTrue, LooksBeginTrue, LooksStayTrue}
-
-never : {X : Type 0} → false ≡ true → X
-never h = absurd (true≢false (sym h))
-
--- ---- rows
-
-requested_state : (r : Role) (s : CallState) → is_request (call_row r s call_event.TunnelOpen).1 ≡ true → (call_row r s call_event.TunnelOpen).0 ≡ WaitReply
-unfolding call_row
-requested_state Lac Idle h = never h
-requested_state Lac WaitTunnel h = refl
-requested_state Lac WaitReply h = never h
-requested_state Lac WaitConnect h = never h
-requested_state Lac Established h = never h
-requested_state Lns Idle h = never h
-requested_state Lns WaitTunnel h = never h
-requested_state Lns WaitReply h = never h
-requested_state Lns WaitConnect h = never h
-requested_state Lns Established h = never h
-
-replied_state : (r : Role) (remote moment : ℕ) → is_reply (call_row r Idle call_event.IcrqAcc).1 ≡ true → (asked_for r remote moment).state ≡ WaitConnect
-unfolding call_row asked_for advanced
-replied_state Lac remote moment h = never h
-replied_state Lns remote moment h = refl
-
-rung_state : (r : Role) (port moment : ℕ) → r ≡ Lac → (rung r port moment).state ≡ WaitTunnel
-unfolding call_row rung advanced
-rung_state Lac port moment h = refl
-rung_state Lns port moment h = absurd cc
-
-connected_state : (r : Role) (s : CallState) → is_connection (call_row r s call_event.IcrpAcc).1 ≡ true
-    → (s ≡ WaitReply) × ((call_row r s call_event.IcrpAcc).0 ≡ Established)
-unfolding call_row
-connected_state Lac Idle h = never h
-connected_state Lac WaitTunnel h = never h
-connected_state Lac WaitReply h = (refl, refl)
-connected_state Lac WaitConnect h = never h
-connected_state Lac Established h = never h
-connected_state Lns Idle h = never h
-connected_state Lns WaitTunnel h = never h
-connected_state Lns WaitReply h = never h
-connected_state Lns WaitConnect h = never h
-connected_state Lns Established h = never h
-
-up_state : (s : CallState) → is_up s ≡ true → s ≡ Established
-up_state Idle h = never h
-up_state WaitTunnel h = never h
-up_state WaitReply h = never h
-up_state WaitConnect h = never h
-up_state Established h = refl
 
 -- ---- draws
 
@@ -380,7 +327,7 @@ module _ (x : End) (ok : LooksAreTrue x) where
         there = h.there;
         peer = refl;
         only = one_tunnel m.tunnel h.tunnel h.there m.session h.call h.waits;
-        calls = same_places y.calls _ (ap (λ (e : End). e.calls) h.after ∙ rw (seen, requested_state x.role h.call.state h.row) refl);
+        calls = same_places y.calls _ (ap (λ (e : End). e.calls) h.after ∙ rw (seen, (requested_state x.role h.call.state h.row).1) refl);
         ids = ap (λ (e : End). e.tunnel_ids) h.after;
         drawn = rw ids lt;
         rises = rw ids (omega arith);
@@ -453,6 +400,7 @@ module _ (x : End) (ok : LooksAreTrue x) where
       })
   does_looks order moment ev (move.Cleared i) y h = subst LooksAreTrue (sym h.after) (tunnel_gone order i h.tunnel h.there)
   does_looks order moment ev (move.Greeted m) y h = subst LooksAreTrue (sym h.after) (calls_stay m.tunnel h.tunnel _ _ h.there refl)
+  does_looks order moment ev (move.Refused m) y h = subst LooksAreTrue (sym h.after) (calls_stay m.tunnel h.tunnel _ _ h.there refl)
   does_looks order moment ev (move.Repeated m) y h = subst LooksAreTrue (sym h.after) (calls_stay m.tunnel h.tunnel _ _ h.there refl)
   does_looks order moment ev (move.NrRead m) y h = subst LooksAreTrue (sym h.after) (calls_stay m.tunnel h.tunnel _ _ h.there refl)
   does_looks order moment ev (move.LetGo m) y h = subst LooksAreTrue (sym h.after) (calls_stay m.tunnel h.tunnel _ _ h.there refl)
@@ -495,6 +443,7 @@ module _ (x : End) (ok : AreOrdered x) where
   does_order moment ev (move.NrRead m) y h = goes_on y m.tunnel h.tunnel _ _ h.there h.after
   does_order moment ev (move.LetGo m) y h = goes_on y m.tunnel h.tunnel _ _ h.there h.after
   does_order moment ev (move.Greeted m) y h = goes_on y m.tunnel h.tunnel _ _ h.there h.after
+  does_order moment ev (move.Refused m) y h = goes_on y m.tunnel h.tunnel _ _ h.there h.after
   does_order moment ev (move.Repeated m) y h = goes_on y m.tunnel h.tunnel _ _ h.there h.after
   does_order moment ev (move.Added m) y h =
       tunnel_put y m.tunnel _ (ascends-put m.session _ h.tunnel.calls (ok.calls m.tunnel h.tunnel h.there)) (ap (λ (e : End). e.tunnels) h.after)

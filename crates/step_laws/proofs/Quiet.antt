@@ -16,7 +16,9 @@ use Rattle.l2tp_header.specs.declared.header.Header.{Header}
 use Rattle.l2tp_header.specs.declared.header.HeaderError.{HeaderError}
 use Rattle.l2tp_header.specs.Reading.{header_of}
 use Rattle.control_message.specs.declared.message.Message.{Message}
-use Rattle.control_message.specs.declared.message.Message.TheVariants.{Sccrq, Sccrp, Scccn, Hello, Icrq, Icrp, Iccn, Cdn}
+use Rattle.control_message.specs.declared.message.Message.TheVariants.{Sccrq, Sccrp, Scccn, StopCcn, Hello, Ocrq, Ocrp, Occn, Icrq, Icrp, Iccn, Cdn, Wen, Sli}
+use Rattle.control_message.specs.declared.kind.Kind.{Kind}
+use Rattle.control_message.specs.declared.kind.Kind.TheVariants as kind
 use Rattle.recv_window.specs.declared.Class.{Class}
 use Rattle.recv_window.specs.declared.Class.TheVariants.{Next, Duplicate, Ahead}
 use Rattle.send_window.specs.declared.window.Tick.{Tick as Due}
@@ -28,6 +30,7 @@ use Rattle.tunnel_fsm.specs.declared.table.TunnelAction.TheVariants as action
 use Rattle.tunnel_fsm.specs.declared.table.TunnelEvent.{TunnelEvent}
 use Rattle.tunnel_fsm.specs.declared.table.TunnelEvent.TheVariants as event
 use Rattle.tunnel_fsm.specs.Rows.{rows, row_of, state_number}
+use Rattle.call_fsm.specs.declared.table.CallEvent.{CallEvent}
 use Rattle.call_fsm.specs.declared.table.CallEvent.TheVariants as call_event
 use Rattle.call_fsm.specs.declared.table.CallState.TheVariants as call
 use Rattle.call_fsm.specs.declared.table.CallAction.{CallAction}
@@ -36,14 +39,14 @@ use Rattle.protocol_model.specs.declared.tunnel.Call.{Call}
 use Rattle.protocol_model.specs.declared.tunnel.Config.{Config}
 use Rattle.protocol_model.specs.declared.tunnel.Role.{Role}
 use Rattle.protocol_model.specs.declared.event.Event.{Event}
-use Rattle.protocol_model.specs.declared.event.Event.TheVariants.{Datagram, Ring, Payload, Lower, OpenTunnel, Tick}
+use Rattle.protocol_model.specs.declared.event.Event.TheVariants.{Datagram, Ring, Payload, Lower, Hang, OpenTunnel, DropCall, Tick}
 use Rattle.protocol_model.specs.declared.out.Out.{Out}
 use Rattle.protocol_model.specs.declared.out.Out.TheVariants.{Gone, Drop, Cause as Refused}
 use Rattle.protocol_model.specs.declared.moves.Move.{Move}
 use Rattle.protocol_model.specs.declared.moves.Move.TheVariants as move
-use Rattle.protocol_model.specs.Reading.{header_why, body_of, message_in}
-use Rattle.protocol_model.specs.Calls.{call_row, rung, is_set_up, is_request, is_reply, is_connection, is_up}
-use Rattle.protocol_model.specs.Turn.{Turn, with_output, with_move, with_change, with_call, with_new, with_local, drops, gives, has_room, sends_letter, sends_now, lets_go, goes_by, lets_all_go, acknowledges, outstanding, acknowledged_after, settles, takes_one, reads_nr, opened, opens_by, opens, accepted, accepts_by, accepts, requested, requests, requests_at, requests_all, adds, rings_over, rings_by, rings_new, rings, connected, connects, confirms, takes_plain, ignores, takes_by, takes, replied, replies_by, replies, first_up, first_up_by, second_up, second_up_by, ends_call, ends_all, is_clean_up, end_heard, end_heard_by, session_named, ends_named, repeats, greeted, greets, end_silent, end_told, limited_by, limits_at, limits_all, goes_quietly, clears, is_over, patience, is_being_set_up, ticks_by, ticks, about_call, in_call, hears, hears_said, hears_letter, is_duplicate, in_tunnel, first_said, hears_control, carried, carries, hears_datagram, turns}
+use Rattle.protocol_model.specs.Reading.{header_why, body_of, message_in, CallFault, call_fault_in}
+use Rattle.protocol_model.specs.Calls.{call_row, rung, is_set_up, is_request, is_connection, is_up, are_too_many}
+use Rattle.protocol_model.specs.Turn.{Turn, with_output, with_move, with_change, with_call, with_new, with_local, drops, gives, has_room, sends_letter, sends_now, lets_go, goes_by, lets_all_go, acknowledges, outstanding, acknowledged_after, settles, takes_one, reads_nr, opened, opens_by, opens, accepted, accepts_by, accepts, requested, requests, requests_at, requests_all, adds, rings_over, rings_by, rings_new, rings, connected, connects, confirms, takes_plain, ignores, takes_by, takes, Reason, reason, out_of_state, may_take, granted, replied, replies, refused, refuses, of_no_call, answers_by, asked_by, faulty_at, fault_reason, has_answer, faulty, in_faulty_call, closes, ends_by, rings_within, first_up, first_up_by, second_up, second_up_by, ends_call, ends_all, is_clean_up, end_heard, end_heard_by, session_named, ends_named, repeats, greeted, greets, end_silent, end_told, limits_at, limits_all, goes_quietly, clears, is_over, patience, is_being_set_up, ticks_by, ticks, about_call, in_call, hears, hears_said, hears_letter, is_duplicate, in_tunnel, first_said, hears_control, carried, carries, hears_datagram, turns}
 use Rattle.step_laws.specs.Ups.{ups_of_output, ups_of_move, births_of_move, reads_of_move, most_births, most_reads}
 use Rattle.step_laws.proofs.Lists.{branch}
 
@@ -128,9 +131,9 @@ module _ (most reads : ℕ) where
   unfolding drops with_output
   dropped w t h = told (Drop w) refl h
 
-  refused : (c : Cause) (t : Turn) → Quiet t → Quiet (with_output (Refused c) t)
+  caused : (c : Cause) (t : Turn) → Quiet t → Quiet (with_output (Refused c) t)
   unfolding with_output
-  refused c t h = told (Refused c) refl h
+  caused c t h = told (Refused c) refl h
 
   -- ---- what is sent
 
@@ -176,8 +179,8 @@ module _ (most reads : ℕ) where
   opens_quiet role c t h = by (draws t.tunnels)
     where
       by : (x : Result ℕ IdError) → Quiet (opens_by role c x t)
-      by (Err x) = refused cause.Ids t h
-      by (Ok local) = branch Quiet (has_room t.control) _ _ (λ may. opened_quiet role c local t h) (λ full. refused cause.Queue t h)
+      by (Err x) = caused cause.Ids t h
+      by (Ok local) = branch Quiet (has_room t.control) _ _ (λ may. opened_quiet role c local t h) (λ full. caused cause.Queue t h)
 
   accepted_quiet : (role : Role) (c : Config) (remote window local : ℕ) (t : Turn) → Quiet t → Quiet (accepted role c remote window local t)
   unfolding accepted gives with_move takes_one with_local
@@ -204,6 +207,12 @@ module _ (most reads : ℕ) where
   first_quiet role c (Ok (Icrq remote serial calling)) t h = dropped why.Tunnel t h
   first_quiet role c (Ok (Icrp remote)) t h = dropped why.Tunnel t h
   first_quiet role c (Ok (Iccn speed framing sequenced)) t h = dropped why.Tunnel t h
+  first_quiet role c (Ok (StopCcn tunnel code error)) t h = dropped why.Tunnel t h
+  first_quiet role c (Ok (Ocrq remote)) t h = dropped why.Tunnel t h
+  first_quiet role c (Ok Ocrp) t h = dropped why.Tunnel t h
+  first_quiet role c (Ok Occn) t h = dropped why.Tunnel t h
+  first_quiet role c (Ok Wen) t h = dropped why.Tunnel t h
+  first_quiet role c (Ok Sli) t h = dropped why.Tunnel t h
   first_quiet role c (Err w) t h = dropped why.Tunnel t h
 
   -- ---- calls that are asked for
@@ -279,14 +288,72 @@ module _ (most reads : ℕ) where
   unfolding replied gives with_move with_new takes_one
   replied_quiet role remote s t h = did _ refl refl refl h
 
-  replies_quiet : (role : Role) (remote : ℕ) (t : Turn) → Quiet t → Quiet (replies role remote t)
-  unfolding replies replies_by
-  replies_quiet role remote t h =
-      branch Quiet (is_reply (call_row role call.Idle call_event.IcrqAcc).1) _ _ (λ row. by (draws t.sessions)) (λ none. ignored why.Session t h)
-    where
-      by : (x : Result ℕ IdError) → Quiet (replies_by role remote x t)
-      by (Err x) = ignored why.Session t h
-      by (Ok s) = branch Quiet (has_room t.control) _ _ (λ may. replied_quiet role remote s t h) (λ full. dropped why.Queue t h)
+  -- ---- calls that end
+
+  ended_quiet : (s : ℕ) (t : Turn) → Quiet t → Quiet (ends_call s t)
+  unfolding ends_call with_output with_change
+  ended_quiet s t h = told (Gone s) refl h
+
+  silent_quiet : (s : ℕ) (t : Turn) → Quiet t → Quiet (end_silent s t)
+  unfolding end_silent with_move
+  silent_quiet s t h = did _ refl refl refl (ended_quiet s t h)
+
+  told_quiet : (s : ℕ) (c : Call) (result : ℕ) (error : Option ℕ) (t : Turn) → Quiet t → Quiet (end_told s c result error t)
+  unfolding end_told gives with_move
+  told_quiet s c result error t h = did _ refl refl refl (ended_quiet s t h)
+
+  ends_quiet : (for : Cause) (result : ℕ) (error : Option ℕ) (s : ℕ) (c : Call) (a : CallAction) (t : Turn) → Quiet t → Quiet (ends_by for result error s c a t)
+  unfolding ends_by
+  ends_quiet for result error s c call_action.CleanUp t h = silent_quiet s t h
+  ends_quiet for result error s c call_action.SendCdn t h =
+      branch Quiet (has_room t.control) _ _
+      (λ may. told_quiet s c result error (with_output (Refused for) t) (caused for t h))
+      (λ full. dropped why.Queue t h)
+  ends_quiet for result error s c call_action.Nothing t h = h
+  ends_quiet for result error s c call_action.SendIcrq t h = h
+  ends_quiet for result error s c call_action.SendIcrp t h = h
+  ends_quiet for result error s c call_action.SendIccn t h = h
+  ends_quiet for result error s c call_action.DropSession t h = h
+
+  closes_quiet : (role : Role) (for : Cause) (on : CallEvent) (result s : ℕ) (o : Option Call) (t : Turn) → Quiet t → Quiet (closes role for on result s o t)
+  unfolding closes
+  closes_quiet role for on result s None t h = dropped why.Call t h
+  closes_quiet role for on result s (Some c) t h =
+      branch Quiet (nat_lt s 65536) _ _ (λ small. ends_quiet for result None s c (call_row role c.state on).1 t h) (λ big. h)
+
+  -- ---- answers
+
+  answers_quiet : (r : Reason) (s : ℕ) (c : Call) (a : CallAction) (t : Turn) → Quiet t → Quiet (answers_by r s c a t)
+  unfolding answers_by
+  answers_quiet r s c a t h =
+      branch Quiet (nat_lt s 65536) _ _
+      (λ small. ends_quiet r.cause r.result r.error s c a (takes_plain t) (plain_quiet t h))
+      (λ big. plain_quiet t h)
+
+  refuses_quiet : (r : Reason) (remote : ℕ) (t : Turn) → Quiet t → Quiet (refuses r remote t)
+  unfolding refuses refused gives with_move takes_one
+  refuses_quiet r remote t h =
+      branch Quiet (has_room t.control) _ _
+      (λ may. did _ refl refl refl (caused r.cause t h))
+      (λ full. dropped why.Queue t h)
+
+  no_call_quiet : (r : Reason) (remote : ℕ) (a : CallAction) (t : Turn) → Quiet t → Quiet (of_no_call r remote a t)
+  unfolding of_no_call
+  no_call_quiet r remote call_action.SendCdn t h = refuses_quiet r remote t h
+  no_call_quiet r remote call_action.DropSession t h = ignored why.Session t h
+  no_call_quiet r remote call_action.Nothing t h = plain_quiet t h
+  no_call_quiet r remote call_action.SendIcrq t h = plain_quiet t h
+  no_call_quiet r remote call_action.SendIcrp t h = plain_quiet t h
+  no_call_quiet r remote call_action.SendIccn t h = plain_quiet t h
+  no_call_quiet r remote call_action.CleanUp t h = plain_quiet t h
+
+  asked_quiet : (role : Role) (s remote : ℕ) (g : Result ℕ Reason) (o : Option Call) (t : Turn) → Quiet t → Quiet (asked_by role s remote g o t)
+  unfolding asked_by replies
+  asked_quiet role s remote (Ok drawn) None t h =
+      branch Quiet (has_room t.control) _ _ (λ may. replied_quiet role remote drawn t h) (λ full. dropped why.Queue t h)
+  asked_quiet role s remote (Err r) None t h = refuses_quiet r remote t h
+  asked_quiet role s remote (Ok drawn) (Some c) t h = answers_quiet out_of_state s c (call_row role c.state call_event.IcrqAcc).1 t h
+  asked_quiet role s remote (Err r) (Some c) t h = answers_quiet r s c (call_row role c.state call_event.IcrqNotAcc).1 t h
 
   first_up_quiet : (role : Role) (s remote : ℕ) (c : Call) (t : Turn) → Quiet t → Quiet (first_up role s remote c t)
   unfolding first_up gives with_change with_move with_call takes_one
@@ -294,11 +361,11 @@ module _ (most reads : ℕ) where
 
   first_up_by_quiet : (role : Role) (s remote : ℕ) (o : Option Call) (t : Turn) → Quiet t → Quiet (first_up_by role s remote o t)
   unfolding first_up_by
-  first_up_by_quiet role s remote None t h = ignored why.Session t h
+  first_up_by_quiet role s remote None t h = no_call_quiet out_of_state remote (call_row role call.Idle call_event.IcrpAcc).1 t h
   first_up_by_quiet role s remote (Some c) t h =
       branch Quiet (is_connection (call_row role c.state call_event.IcrpAcc).1) _ _
       (λ row. branch Quiet (has_room t.control) _ _ (λ may. first_up_quiet role s remote c t h) (λ full. dropped why.Queue t h))
-      (λ none. ignored why.Session t h)
+      (λ none. answers_quiet out_of_state s c (call_row role c.state call_event.IcrpAcc).1 t h)
 
   second_up_quiet : (role : Role) (s : ℕ) (c : Call) (t : Turn) → Quiet t → Quiet (second_up role s c t)
   unfolding second_up with_change with_move with_call takes_one
@@ -306,35 +373,92 @@ module _ (most reads : ℕ) where
 
   second_up_by_quiet : (role : Role) (s : ℕ) (o : Option Call) (t : Turn) → Quiet t → Quiet (second_up_by role s o t)
   unfolding second_up_by
-  second_up_by_quiet role s None t h = ignored why.Session t h
+  second_up_by_quiet role s None t h = no_call_quiet out_of_state 0 (call_row role call.Idle call_event.IccnAcc).1 t h
   second_up_by_quiet role s (Some c) t h =
-      branch Quiet (is_up (call_row role c.state call_event.IccnAcc).0) _ _ (λ row. second_up_quiet role s c t h) (λ none. ignored why.Session t h)
+      branch Quiet (is_up (call_row role c.state call_event.IccnAcc).0) _ _
+      (λ row. second_up_quiet role s c t h)
+      (λ none. answers_quiet out_of_state s c (call_row role c.state call_event.IccnAcc).1 t h)
 
   end_heard_by_quiet : (role : Role) (s : ℕ) (o : Option Call) (t : Turn) → Quiet t → Quiet (end_heard_by role s o t)
   unfolding end_heard_by end_heard ends_call with_output with_change with_move takes_one
-  end_heard_by_quiet role s None t h = ignored why.Session t h
+  end_heard_by_quiet role s None t h = no_call_quiet out_of_state 0 (call_row role call.Idle call_event.CdnCame).1 t h
   end_heard_by_quiet role s (Some c) t h =
       branch Quiet (is_clean_up (call_row role c.state call_event.CdnCame).1) _ _
       (λ row. did _ refl refl refl (told _ refl h))
-      (λ none. ignored why.Session t h)
+      (λ none. plain_quiet t h)
 
   about_quiet : (role : Role) (calls : List (ℕ × Call)) (session : ℕ) (m : Message) (t : Turn) → Quiet t → Quiet (about_call role calls session m t)
   unfolding about_call ends_named
-  about_quiet role calls session (Icrq remote serial calling) t h = replies_quiet role remote t h
+  about_quiet role calls session (Icrq remote serial calling) t h =
+      asked_quiet role session remote (granted role calls remote t.sessions) (at calls session) t h
   about_quiet role calls session (Icrp remote) t h = first_up_by_quiet role session remote (at calls session) t h
   about_quiet role calls session (Iccn speed framing sequenced) t h = second_up_by_quiet role session (at calls session) t h
   about_quiet role calls session (Cdn remote code error) t h =
       let s = session_named calls session remote in
       end_heard_by_quiet role s (at calls s) t h
-  about_quiet role calls session Hello t h = ignored why.Session t h
-  about_quiet role calls session (Sccrq o) t h = ignored why.Session t h
-  about_quiet role calls session (Sccrp o) t h = ignored why.Session t h
-  about_quiet role calls session Scccn t h = ignored why.Session t h
+  about_quiet role calls session (Ocrq remote) t h = refuses_quiet (reason cause.Outgoing 5 None) remote t h
+  about_quiet role calls session (StopCcn tunnel code error) t h = plain_quiet t h
+  about_quiet role calls session Hello t h = plain_quiet t h
+  about_quiet role calls session (Sccrq o) t h = plain_quiet t h
+  about_quiet role calls session (Sccrp o) t h = plain_quiet t h
+  about_quiet role calls session Scccn t h = plain_quiet t h
+  about_quiet role calls session Ocrp t h = plain_quiet t h
+  about_quiet role calls session Occn t h = plain_quiet t h
+  about_quiet role calls session Wen t h = plain_quiet t h
+  about_quiet role calls session Sli t h = plain_quiet t h
 
   in_call_quiet : (role : Role) (calls : List (ℕ × Call)) (session : ℕ) (m : Message) (t : Turn) → Quiet t → Quiet (in_call role calls session m t)
   unfolding in_call
   in_call_quiet role calls session m t h =
       branch Quiet (state_number t.control.state == 3) _ _ (λ is. about_quiet role calls session m t h) (λ other. ignored why.Session t h)
+
+  -- ---- faulty letters about a call
+
+  faulty_at_quiet : (role : Role) (r : Reason) (s remote : ℕ) (on : CallEvent) (none : CallAction) (o : Option Call) (t : Turn) → Quiet t
+      → Quiet (faulty_at role r s remote on none o t)
+  unfolding faulty_at
+  faulty_at_quiet role r s remote on none None t h = no_call_quiet r remote none t h
+  faulty_at_quiet role r s remote on none (Some c) t h = answers_quiet r s c (call_row role c.state on).1 t h
+
+  -- a WEN, an SLI, or a message that is about no call
+  closed_quiet : (role : Role) (calls : List (ℕ × Call)) (session : ℕ) (c : Cause) (t : Turn) → Quiet t
+      → Quiet (faulty_at role (fault_reason c) session 0 call_event.Close call_action.Nothing (at calls session) t)
+  closed_quiet role calls session c t h = faulty_at_quiet role (fault_reason c) session 0 call_event.Close call_action.Nothing (at calls session) t h
+
+  faulty_quiet : (role : Role) (calls : List (ℕ × Call)) (session : ℕ) (k : Kind) (c : Cause) (said : Option ℕ) (t : Turn) → Quiet t
+      → Quiet (faulty role calls session k c said t)
+  unfolding faulty
+  faulty_quiet role calls session kind.Icrq c said t h =
+      branch Quiet (has_answer c said) _ _
+      (λ answered. faulty_at_quiet role (fault_reason c) session (unwrap_or said 0) call_event.IcrqNotAcc call_action.SendCdn (at calls session) t h)
+      (λ no. ignored why.Avp t h)
+  faulty_quiet role calls session kind.Ocrq c said t h =
+      branch Quiet (has_answer c said) _ _ (λ answered. refuses_quiet (fault_reason c) (unwrap_or said 0) t h) (λ no. ignored why.Avp t h)
+  faulty_quiet role calls session kind.Icrp c said t h =
+      faulty_at_quiet role (fault_reason c) session (unwrap_or said 0) call_event.IcrpNotAcc (call_row role call.Idle call_event.IcrpNotAcc).1 (at calls session) t h
+  faulty_quiet role calls session kind.Iccn c said t h =
+      faulty_at_quiet role (fault_reason c) session 0 call_event.IccnNotAcc (call_row role call.Idle call_event.IccnNotAcc).1 (at calls session) t h
+  faulty_quiet role calls session kind.Cdn c said t h =
+      let s = session_named calls session (unwrap_or said 0) in
+      faulty_at_quiet role (fault_reason c) s 0 call_event.Close (call_row role call.Idle call_event.CdnCame).1 (at calls s) t h
+  faulty_quiet role calls session kind.Wen c said t h = closed_quiet role calls session c t h
+  faulty_quiet role calls session kind.Sli c said t h = closed_quiet role calls session c t h
+  faulty_quiet role calls session kind.Sccrq c said t h = closed_quiet role calls session c t h
+  faulty_quiet role calls session kind.Sccrp c said t h = closed_quiet role calls session c t h
+  faulty_quiet role calls session kind.Scccn c said t h = closed_quiet role calls session c t h
+  faulty_quiet role calls session kind.StopCcn c said t h = closed_quiet role calls session c t h
+  faulty_quiet role calls session kind.Hello c said t h = closed_quiet role calls session c t h
+  faulty_quiet role calls session kind.Ocrp c said t h = closed_quiet role calls session c t h
+  faulty_quiet role calls session kind.Occn c said t h = closed_quiet role calls session c t h
+
+  in_faulty_quiet : (role : Role) (calls : List (ℕ × Call)) (session : ℕ) (o : Option CallFault) (w : Why) (t : Turn) → Quiet t
+      → Quiet (in_faulty_call role calls session o w t)
+  unfolding in_faulty_call
+  in_faulty_quiet role calls session None w t h = ignored w t h
+  in_faulty_quiet role calls session (Some k) w t h =
+      branch Quiet (state_number t.control.state == 3) _ _
+      (λ is. faulty_quiet role calls session k.kind k.cause k.session t h)
+      (λ other. ignored why.Session t h)
 
   -- ---- control messages
 
@@ -348,16 +472,26 @@ module _ (most reads : ℕ) where
   hears_quiet role calls session (Icrq remote serial calling) t h = in_call_quiet role calls session (Icrq remote serial calling) t h
   hears_quiet role calls session (Icrp remote) t h = in_call_quiet role calls session (Icrp remote) t h
   hears_quiet role calls session (Iccn speed framing sequenced) t h = in_call_quiet role calls session (Iccn speed framing sequenced) t h
+  hears_quiet role calls session (Ocrq remote) t h = in_call_quiet role calls session (Ocrq remote) t h
+  hears_quiet role calls session (StopCcn tunnel code error) t h = ignored why.Ignored t h
+  hears_quiet role calls session Ocrp t h = plain_quiet t h
+  hears_quiet role calls session Occn t h = plain_quiet t h
+  hears_quiet role calls session Wen t h = plain_quiet t h
+  hears_quiet role calls session Sli t h = plain_quiet t h
 
-  said_quiet : (role : Role) (calls : List (ℕ × Call)) (session : ℕ) (r : Result Message Why) (t : Turn) → Quiet t → Quiet (hears_said role calls session r t)
+  said_quiet : (role : Role) (calls : List (ℕ × Call)) (session : ℕ) (o : Option CallFault) (r : Result Message Why) (t : Turn) → Quiet t
+      → Quiet (hears_said role calls session o r t)
   unfolding hears_said
-  said_quiet role calls session (Err w) t h = ignored w t h
-  said_quiet role calls session (Ok m) t h = hears_quiet role calls session m t h
+  said_quiet role calls session o (Err w) t h = in_faulty_quiet role calls session o w t h
+  said_quiet role calls session o (Ok m) t h = hears_quiet role calls session m t h
 
   letter_quiet : (role : Role) (calls : List (ℕ × Call)) (session : ℕ) (body : List ℕ) (c : Option Class) (t : Turn) → Quiet t
       → Quiet (hears_letter role calls session body c t)
   unfolding hears_letter
-  letter_quiet role calls session body (Some Next) t h = said_quiet role calls session (message_in body) t h
+  letter_quiet role calls session body (Some Next) t h =
+      branch Quiet (may_take t.control calls) _ _
+      (λ may. said_quiet role calls session (call_fault_in body) (message_in body) t h)
+      (λ full. dropped why.Queue t h)
   letter_quiet role calls session body (Some (Ahead by)) t h = dropped why.Ahead t h
   letter_quiet role calls session body (Some Duplicate) t h = h
   letter_quiet role calls session body None t h = h
@@ -379,10 +513,6 @@ module _ (most reads : ℕ) where
   carries_quiet s frame (Some c) t h = branch Quiet (is_up c.state) _ _ (λ up. carried_quiet s frame c t h) (λ down. dropped why.Closed t h)
 
   -- ---- time
-
-  ended_quiet : (s : ℕ) (t : Turn) → Quiet t → Quiet (ends_call s t)
-  unfolding ends_call with_output with_change
-  ended_quiet s t h = told (Gone s) refl h
 
   ended_all : (ss : List ℕ) (t : Turn) → Quiet t → Quiet (ends_all ss t)
   unfolding ends_all
@@ -410,33 +540,12 @@ module _ (most reads : ℕ) where
       (λ due. greeted_quiet letters t h)
       (λ no. h)
 
-  silent_quiet : (s : ℕ) (t : Turn) → Quiet t → Quiet (end_silent s t)
-  unfolding end_silent with_move
-  silent_quiet s t h = did _ refl refl refl (ended_quiet s t h)
-
-  told_quiet : (s : ℕ) (c : Call) (code : ℕ) (t : Turn) → Quiet t → Quiet (end_told s c code t)
-  unfolding end_told gives with_move
-  told_quiet s c code t h = did _ refl refl refl (ended_quiet s t h)
-
-  limited_quiet : (letters : List Letter) (s : ℕ) (c : Call) (a : CallAction) (t : Turn) → Quiet t → Quiet (limited_by letters s c a t)
-  unfolding limited_by
-  limited_quiet letters s c call_action.CleanUp t h = silent_quiet s t h
-  limited_quiet letters s c call_action.SendCdn t h =
-      branch Quiet (has_room t.control) _ _
-      (λ may. let u = with_output (Refused cause.Setup) t in settled false letters (end_told s c 10 u) (told_quiet s c 10 u (refused cause.Setup t h)))
-      (λ full. h)
-  limited_quiet letters s c call_action.Nothing t h = h
-  limited_quiet letters s c call_action.SendIcrq t h = h
-  limited_quiet letters s c call_action.SendIcrp t h = h
-  limited_quiet letters s c call_action.SendIccn t h = h
-  limited_quiet letters s c call_action.DropSession t h = h
-
   limits_at_quiet : (role : Role) (letters : List Letter) (s : ℕ) (o : Option Call) (t : Turn) → Quiet t → Quiet (limits_at role letters s o t)
   unfolding limits_at
   limits_at_quiet role letters s None t h = h
   limits_at_quiet role letters s (Some c) t h =
       branch Quiet (nat_lt s 65536 && is_set_up c.state && is_over patience t.moment c.since) _ _
-      (λ due. limited_quiet letters s c (call_row role c.state call_event.Close).1 t h)
+      (λ due. settled false letters _ (ends_quiet cause.Setup 10 None s c (call_row role c.state call_event.Close).1 t h))
       (λ no. h)
 
   limits_all_quiet : (role : Role) (letters : List Letter) (ss : List ℕ) (calls : List (ℕ × Call)) (t : Turn) → Quiet t
@@ -502,24 +611,33 @@ rings_over_quiet role port s t h =
 
 rings_by_quiet : (role : Role) (port : ℕ) (x : Result ℕ IdError) (t : Turn) → IsQuiet 0 0 t → IsQuiet 1 0 (rings_by role port x t)
 unfolding rings_by
-rings_by_quiet role port (Err x) t h = refused 1 0 cause.Ids t (spared h)
+rings_by_quiet role port (Err x) t h = caused 1 0 cause.Ids t (spared h)
 rings_by_quiet role port (Ok s) t h = rings_over_quiet role port s t h
 
 rings_new_quiet : (role : Role) (c : Config) (port : ℕ) (x y : Result ℕ IdError) (t : Turn) → IsQuiet 0 0 t → IsQuiet 1 0 (rings_new role c port x y t)
 unfolding rings_new
-rings_new_quiet role c port (Err x) y t h = refused 1 0 cause.Ids t (spared h)
-rings_new_quiet role c port (Ok s) (Err y) t h = refused 1 0 cause.Ids t (spared h)
+rings_new_quiet role c port (Err x) y t h = caused 1 0 cause.Ids t (spared h)
+rings_new_quiet role c port (Ok s) (Err y) t h = caused 1 0 cause.Ids t (spared h)
 rings_new_quiet role c port (Ok s) (Ok local) t h =
     branch (IsQuiet 1 0) (has_room t.control) _ _
     (λ may. adds_quiet role port s (opened role c local t) (opened_quiet 0 0 role c local t h))
-    (λ full. refused 1 0 cause.Queue t (spared h))
+    (λ full. caused 1 0 cause.Queue t (spared h))
 
-rings_quiet : (role : Role) (c : Config) (port : ℕ) (t : Turn) → IsQuiet 0 0 t → IsQuiet 1 0 (rings role c port t)
+rings_within_quiet : (role : Role) (calls : List (ℕ × Call)) (port : ℕ) (t : Turn) → IsQuiet 0 0 t → IsQuiet 1 0 (rings_within role calls port t)
+unfolding rings_within
+rings_within_quiet role calls port t h =
+    branch (IsQuiet 1 0) (are_too_many calls) _ _
+    (λ many. caused 1 0 cause.Calls t (spared h))
+    (λ few. branch (IsQuiet 1 0) (may_take t.control calls) _ _
+    (λ may. rings_by_quiet role port (draws t.sessions) t h)
+    (λ full. caused 1 0 cause.Queue t (spared h)))
+
+rings_quiet : (role : Role) (c : Config) (calls : List (ℕ × Call)) (port : ℕ) (t : Turn) → IsQuiet 0 0 t → IsQuiet 1 0 (rings role c calls port t)
 unfolding rings
-rings_quiet role c port t h =
+rings_quiet role c calls port t h =
     branch (IsQuiet 1 0) (state_number t.control.state == 0) _ _
     (λ idle. rings_new_quiet role c port (draws t.sessions) (draws t.tunnels) t h)
-    (λ busy. rings_by_quiet role port (draws t.sessions) t h)
+    (λ busy. rings_within_quiet role calls port t h)
 
 -- ---- events
 
@@ -527,9 +645,13 @@ pub turns_quiet : (role : Role) (c : Config) (letters : List Letter) (calls : Li
     → IsQuiet (most_births ev) (most_reads ev) (turns role c letters calls ev t)
 unfolding turns
 turns_quiet role c letters calls (Datagram peer bytes) t h = datagram_quiet role c letters calls bytes (header_of bytes) t h
-turns_quiet role c letters calls (Ring port) t h = settled 1 0 false letters _ (rings_quiet role c port t h)
+turns_quiet role c letters calls (Ring port) t h = settled 1 0 false letters _ (rings_quiet role c calls port t h)
 turns_quiet role c letters calls (Payload s frame) t h = carries_quiet 0 0 s frame (at calls s) t h
 turns_quiet role c letters calls (Lower s frame) t h = carries_quiet 0 0 s frame (at calls s) t h
+turns_quiet role c letters calls (Hang s) t h =
+    settled 0 0 false letters _ (closes_quiet 0 0 role cause.Line call_event.LineDrop 1 s (at calls s) t h)
+turns_quiet role c letters calls (DropCall s) t h =
+    settled 0 0 false letters _ (closes_quiet 0 0 role cause.Operator call_event.Close 3 s (at calls s) t h)
 turns_quiet role c letters calls OpenTunnel t h = settled 0 0 false letters _ (opens_quiet 0 0 role c t h)
 turns_quiet role c letters calls Tick t h = ticks_quiet 0 0 role letters calls t h
 

@@ -10,6 +10,7 @@ use Rattle.send_window.specs.Kept.{Window}
 use Rattle.send_window.specs.Window as window
 use Rattle.control_channel.specs.Numbers.{Numbers, next_to_go, next_unsent, let_go_at}
 use Rattle.protocol_model.specs.declared.tunnel.Call.{Call}
+use Rattle.protocol_model.specs.declared.tunnel.Control.{Control}
 use Rattle.protocol_model.specs.declared.event.Event.{Event}
 use Rattle.protocol_model.specs.declared.out.Out.{Out}
 use Rattle.protocol_model.specs.declared.out.Out.TheVariants.{Send, Up, Gone, Drop, Cause}
@@ -17,11 +18,13 @@ use Rattle.protocol_model.specs.declared.out.Origin.{Origin}
 use Rattle.protocol_model.specs.declared.moves.FrameSent.{FrameSent}
 use Rattle.protocol_model.specs.declared.moves.Move.{Move}
 use Rattle.protocol_model.specs.declared.moves.Move.TheVariants as move
-use Rattle.protocol_model.specs.Turn.{Tunnel, Turn, with_output, with_move, place, counts_sent, letter_in, sends_letter, sends_now, lets_go, goes_by, lets_all_go, acknowledges, outstanding, acknowledged_after, settles, letters_after, tunnel_after}
+use Rattle.protocol_model.specs.Turn.{Tunnel, Turn, with_calls, with_output, with_move, place, counts_sent, letter_in, sends_letter, sends_now, lets_go, goes_by, lets_all_go, acknowledges, outstanding, acknowledged_after, settles, letters_after, tunnel_after}
 use Rattle.protocol_model.specs.End.{End}
 use Rattle.step_laws.specs.Letters.{Among, Carries, ALetter, Nothing, AFrame}
 use Rattle.step_laws.specs.Moves.{Chain}
 use Rattle.step_laws.proofs.Lists.{all_push, all_map, got_still, and_left, branch, chain_more}
+use Rattle.step_laws.proofs.Tells.{Tells}
+use Rattle.step_laws.proofs.Owing.{Fits}
 use Rattle.step_laws.proofs.Turns.{IsWord, NoFrame, Stays, Held, has_64_bits, at_turn, TurnOk, there}
 
 -- a letter that goes changes neither what is taken nor which letters are kept
@@ -40,8 +43,16 @@ module _ (n : Numbers) (moment : ℕ) where
       branch (λ (x : Numbers). Held x.window ls) n.frozen _ _
       (λ frozen. h)
       (λ free. branch (λ (w : Window). Held w ls) (window.may_go n.window) _ _
-      (λ may. (h.0, (let lt = ltb-true n.window.outstanding n.window.queued (and_left _ _ may) in omega (arith, lt)), h.2, h.3))
+      (λ may. (h.0, (let lt = ltb-true n.window.outstanding n.window.queued (and_left _ _ may) in omega (arith, lt)), h.2))
       (λ no. h))
+
+fits_gone : (c : Control) (moment : ℕ) (calls : List (ℕ × Call)) → Fits c calls → Fits (counts_sent moment c) calls
+fits_gone c moment calls h =
+    branch (λ (n : Numbers). Fits (record c { channel = n }) calls) c.channel.frozen _ _
+    (λ frozen. h)
+    (λ free. branch (λ (w : Window). Fits (record c { channel = record c.channel { window = w } }) calls) (window.may_go c.channel.window) _ _
+    (λ may. h)
+    (λ no. h))
 
 -- the number of the next letter has 64 bits
 small_to_go : (n : Numbers) (number : ℕ) → next_to_go n ≡ Some number → number < 2 ^ 64
@@ -114,17 +125,21 @@ module _ (e : End) (moment : ℕ) (ev : Event) (letters : List Letter) (calls : 
   pub record Settled (t : Turn) : Type 0 where
     pub chain : Chain moment ev e t.moves (at_turn e moment ev letters calls i t)
     pub outs : AllByRecursion (OutOk (tunnel t) t.moves) t.outputs
+    pub tells : AllByRecursion (Tells e moment ev) t.outputs
     pub frames : AllByRecursion NoFrame t.moves
     pub stays : Stays i moment t
     pub held : Held t.control.channel.window (letters_after t letters)
+    pub fits : Fits t.control (with_calls t.changed calls)
 
   pub unsent : (t : Turn) → TurnOk e moment ev letters calls i t → Settled t
   unsent t h = record {
     chain = h.chain;
     outs = all_map IsWord _ (word_ok (tunnel t) t.moves) t.outputs h.words;
+    tells = h.tells;
     frames = h.frames;
     stays = h.stays;
     held = h.held;
+    fits = h.fits;
   }
 
   -- what was sent stays so
@@ -159,9 +174,11 @@ module _ (e : End) (moment : ℕ) (ev : Event) (letters : List Letter) (calls : 
           more = [];
           letters = sym (append-nil (tunnel t).letters);
         }) h;
+        tells = h.tells;
         frames = all_push NoFrame t.moves m h.frames tt;
         stays = h.stays;
         held = held_gone t.control.channel t.moment (letters_after t letters) h.held;
+        fits = fits_gone t.control t.moment (with_calls t.changed calls) h.fits;
       }
 
   pub sent_ok : (number : ℕ) (t : Turn) (o : Option Letter) → number < 2 ^ 64 → letter_in letters t number ≡ o → Settled t
@@ -173,9 +190,11 @@ module _ (e : End) (moment : ℕ) (ev : Event) (letters : List Letter) (calls : 
       (λ fits. record {
         chain = h.chain;
         outs = all_push _ t.outputs _ h.outs (refl, ALetter l number small is refl refl);
+        tells = all_push _ t.outputs _ h.tells tt;
         frames = h.frames;
         stays = h.stays;
         held = h.held;
+        fits = h.fits;
       })
       (λ long. h)
 
@@ -209,9 +228,11 @@ module _ (e : End) (moment : ℕ) (ev : Event) (letters : List Letter) (calls : 
           after = refl;
         });
         outs = all_push _ t.outputs _ (outs_on t (with_move m t) (goes_nowhere (tunnel t)) h) (refl, Nothing (next_unsent t.control.channel) refl refl);
+        tells = all_push _ t.outputs _ h.tells tt;
         frames = all_push NoFrame t.moves m h.frames tt;
         stays = h.stays;
         held = h.held;
+        fits = h.fits;
       }
 
   acknowledged_ok : (again : Bool) (before : ℕ) (t : Turn) → Settled t → Settled (acknowledged_after again before t)

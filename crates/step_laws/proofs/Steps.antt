@@ -5,6 +5,7 @@ use Rattle.std.specs.Prelude.{◌==◌, nat_lt, not, option_map}
 use Rattle.id_table.specs.Ids.{at, ids_of}
 use Rattle.wire_base.specs.declared.why.Why.{Why}
 use Rattle.wire_base.specs.declared.why.Why.TheVariants as why
+use Rattle.wire_base.specs.declared.cause.Cause.TheVariants as cause
 use Rattle.wire_base.specs.declared.letter.Side.{Side}
 use Rattle.avp_codec.specs.declared.avp.Avp.{Avp}
 use Rattle.avp_codec.specs.declared.error.AvpError.{AvpError}
@@ -14,7 +15,7 @@ use Rattle.l2tp_header.specs.declared.header.HeaderError.{HeaderError}
 use Rattle.l2tp_header.specs.Reading.{header_of}
 use Rattle.control_message.specs.declared.message.Message.{Message}
 use Rattle.control_message.specs.declared.message.Opening.{Opening}
-use Rattle.control_message.specs.declared.message.Message.TheVariants.{Sccrq, Sccrp, Scccn, Hello, Icrq, Icrp, Iccn, Cdn}
+use Rattle.control_message.specs.declared.message.Message.TheVariants.{Sccrq, Sccrp, Scccn, StopCcn, Hello, Ocrq, Ocrp, Occn, Icrq, Icrp, Iccn, Cdn, Wen, Sli}
 use Rattle.control_message.specs.declared.message.Read.{Read}
 use Rattle.control_message.specs.declared.message.Read.TheVariants.{Known, Ignored}
 use Rattle.control_message.specs.declared.message.MessageError.{MessageError}
@@ -31,16 +32,20 @@ use Rattle.protocol_model.specs.declared.tunnel.Role.TheVariants.{Lac, Lns}
 use Rattle.protocol_model.specs.declared.event.Addressee.{Addressee}
 use Rattle.protocol_model.specs.declared.event.Addressee.TheVariants.{Nobody}
 use Rattle.protocol_model.specs.declared.event.Event.{Event}
-use Rattle.protocol_model.specs.declared.event.Event.TheVariants.{Datagram, Ring, Payload, Lower, OpenTunnel, Tick}
+use Rattle.protocol_model.specs.declared.event.Event.TheVariants.{Datagram, Ring, Payload, Lower, Hang, OpenTunnel, DropCall, Tick}
+use Rattle.protocol_model.specs.declared.out.Out.TheVariants.{Drop, Cause}
 use Rattle.protocol_model.specs.Reading.{header_why, body_of, message_read, pairs_read, message_in, at_zero, at_tunnel, zero_pairs, zero_read}
 use Rattle.protocol_model.specs.Calls.{is_lac, frame_of, side_of, Carried, Upward, Dropped, carry_known, carry_look}
 use Rattle.protocol_model.specs.Turn.{Tunnel, Env, turns}
-use Rattle.protocol_model.specs.End.{End, Stepped, env_of, in_new, in_main, is_known, known_as, opened_before, opens_once, addressed, for_addressee, is_in, least_in, rings_in, rings_at, gives_frame, look_in, handed, hands_up, receives, only_by, step_in, step}
+use Rattle.protocol_model.specs.End.{End, Stepped, env_of, in_new, has_all_tunnels, in_one_more, in_main, is_known, known_as, opened_before, opens_once, addressed, for_addressee, is_in, least_in, rings_in, rings_at, for_call, look_in, handed, hands_up, receives, only_by, step_in, step}
+use Rattle.step_laws.specs.Room.{IsChosen, StepsRefuseTruly}
+use Rattle.step_laws.specs.Causes.{CausesStand}
 use Rattle.step_laws.specs.Moves.{IsAgain}
-use Rattle.step_laws.specs.Steps.{AreKept, IsChain, StepsAreChains}
+use Rattle.step_laws.specs.Steps.{AreKept, StepsAreChains}
 use Rattle.step_laws.proofs.Lists.{and_left, and_right, branch, found_passes, none_passes, found_among}
+use Rattle.step_laws.proofs.Tells.{of_all, header_other}
 use Rattle.step_laws.proofs.Ticks.{ticks_chain}
-use Rattle.step_laws.proofs.Ends.{drop_chain, heard_chain, rung_chain, carries_chain, opens_chain, rings_chain, first_heard}
+use Rattle.step_laws.proofs.Ends.{IsStep, drop_chain, cause_chain, heard_chain, rung_chain, hung_chain, closes_chain, carries_chain, opens_chain, rings_chain, first_heard}
 
 not_true : (a : Bool) → not a ≡ true → a ≡ false
 not_true true h = absurd (true≢false (sym h))
@@ -74,7 +79,7 @@ is_known_by : (peer remote : ℕ) (o : Option Tunnel) (t : Tunnel) → o ≡ Som
 is_known_by peer remote o t is goes has = rw (is, eq-eqb t.control.peer peer goes, eq-eqb t.control.remote remote has) refl
 
 -- a tunnel that is in a state by its number
-in_state_is : (s : TunnelState) (peer : ℕ) (o : Option Tunnel) → is_in s peer o ≡ true → (t : Tunnel) → o ≡ Some t
+pub in_state_is : (s : TunnelState) (peer : ℕ) (o : Option Tunnel) → is_in s peer o ≡ true → (t : Tunnel) → o ≡ Some t
     → state_number t.control.state ≡ state_number s
 in_state_is s peer None known t is = absurd (true≢false (sym known))
 in_state_is s peer (Some u) known t is =
@@ -82,23 +87,32 @@ in_state_is s peer (Some u) known t is =
     ap (λ (x : Tunnel). state_number x.control.state) (sym same)
     ∙ eqb-true (state_number u.control.state) (state_number s) (and_left (state_number u.control.state == state_number s) (u.control.peer == peer) known)
 
+-- and goes to the peer
+in_state_peer : (s : TunnelState) (peer : ℕ) (o : Option Tunnel) → is_in s peer o ≡ true → (t : Tunnel) → o ≡ Some t → t.control.peer ≡ peer
+in_state_peer s peer None known t is = absurd (true≢false (sym known))
+in_state_peer s peer (Some u) known t is =
+    let same : u ≡ t = cc in
+    ap (λ (x : Tunnel). x.control.peer) (sym same)
+    ∙ eqb-true u.control.peer peer (and_right (state_number u.control.state == state_number s) (u.control.peer == peer) known)
+
 -- ---- frames that come
 
 -- what is handed up is of the tunnel that the header names and of the peer that it is from, as is seen of the call
 record IsOf (role : Role) (l : Look) (of from : ℕ) (frame : List ℕ) (c : Carried) : Type 0 where
   up : (tunnel peer : ℕ) (side : Side) (f : List ℕ) → c ≡ Upward tunnel peer side f
       → (tunnel ≡ of) × (peer ≡ from) × (f ≡ frame) × (side ≡ side_of role) × (l ≡ look.Established tunnel peer)
+  down : (w : Why) → c ≡ Dropped w → w ≡ why.Queue → ⊥
 
-dropped_is : (role : Role) (l : Look) (of from : ℕ) (frame : List ℕ) (w : Why) → IsOf role l of from frame (Dropped w)
-dropped_is role l of from frame w = record { up = λ t p s f e. absurd cc }
+dropped_is : (role : Role) (l : Look) (of from : ℕ) (frame : List ℕ) (w : Why) → (w ≡ why.Queue → ⊥) → IsOf role l of from frame (Dropped w)
+dropped_is role l of from frame w other = record { up = λ t p s f e. absurd cc; down = λ v e q. let same : w ≡ v = cc in other (same ∙ q) }
 
 known_is : (role : Role) (l : Look) (up : Bool) (tunnel of peer from : ℕ) (frame : List ℕ) → (up ≡ true → l ≡ look.Established tunnel peer)
     → IsOf role l of from frame (carry_known role up tunnel of peer from frame)
 unfolding carry_known
 known_is role l up tunnel of peer from frame seen =
-    branch (IsOf role l of from frame) (not (tunnel == of)) _ _ (λ h. dropped_is role l of from frame why.Tunnel)
-    (λ same. branch (IsOf role l of from frame) (not (peer == from)) _ _ (λ h. dropped_is role l of from frame why.Peer)
-    (λ met. branch (IsOf role l of from frame) (nat_lt (length frame) 2) _ _ (λ h. dropped_is role l of from frame why.Short)
+    branch (IsOf role l of from frame) (not (tunnel == of)) _ _ (λ h. dropped_is role l of from frame why.Tunnel (λ q. absurd cc))
+    (λ same. branch (IsOf role l of from frame) (not (peer == from)) _ _ (λ h. dropped_is role l of from frame why.Peer (λ q. absurd cc))
+    (λ met. branch (IsOf role l of from frame) (nat_lt (length frame) 2) _ _ (λ h. dropped_is role l of from frame why.Short (λ q. absurd cc))
     (λ long. branch (IsOf role l of from frame) up _ _
     (λ u. record {
       up = λ t p s f e.
@@ -109,13 +123,14 @@ known_is role l up tunnel of peer from frame seen =
           let g : frame ≡ f = cc in
           let i : side_of role ≡ s = cc in
           (sym c ∙ a, sym d ∙ b, sym g, sym i, seen u ∙ ap (λ x. look.Established x peer) c ∙ ap (λ y. look.Established t y) d);
+      down = λ w e. absurd cc;
     })
-    (λ d. dropped_is role l of from frame why.Closed))))
+    (λ d. dropped_is role l of from frame why.Closed (λ q. absurd cc)))))
 
 look_is : (role : Role) (l : Look) (from : ℕ) (h : Header) (frame : List ℕ) → IsOf role l h.tunnel from frame (carry_look role l from h frame)
 unfolding carry_look
-look_is role look.Unborn from h frame = dropped_is role look.Unborn h.tunnel from frame why.Session
-look_is role look.Dead from h frame = dropped_is role look.Dead h.tunnel from frame why.Session
+look_is role look.Unborn from h frame = dropped_is role look.Unborn h.tunnel from frame why.Session (λ q. absurd cc)
+look_is role look.Dead from h frame = dropped_is role look.Dead h.tunnel from frame why.Session (λ q. absurd cc)
 look_is role (look.Bound tunnel peer) from h frame =
     known_is role (look.Bound tunnel peer) false tunnel h.tunnel peer from frame (λ no. absurd cc)
 look_is role (look.Established tunnel peer) from h frame =
@@ -138,37 +153,40 @@ module _ (e : End) (kept : AreKept e) (moment : ℕ) (block : List ℕ) where
 
   handed_chain : (from : ℕ) (bytes : List ℕ) (h : Header) → header_of bytes ≡ Ok h → h.control ≡ false → (c : Carried)
       → IsOf e.role (look_in (at e.calls h.session)) h.tunnel from (frame_of (body_of h bytes)) c
-      → IsChain e moment (Datagram from bytes) (handed e h.session c)
+      → IsStep e moment (Datagram from bytes) (handed e h.session c)
   unfolding handed
-  handed_chain from bytes h read data_is (Dropped w) is = drop_chain e kept moment (Datagram from bytes) w
+  handed_chain from bytes h read data_is (Dropped w) is = drop_chain e kept moment (Datagram from bytes) w (is.down w refl)
   handed_chain from bytes h read data_is (Upward tunnel peer side frame) is =
       let of = is.up tunnel peer side frame refl in
       let known = place_seen e.calls h.session tunnel peer (at e.calls h.session) refl of.4 in
       record {
-        chain = (
-          e,
-          record {
-            hears = record {
-              bytes = bytes;
-              is = ap (λ p. Datagram p bytes) (sym of.1);
-              header = h;
-              read = read;
-              data_is = data_is;
-              tunnel_is = sym of.0;
-              session_is = refl;
-              frame_is = of.2;
-            };
-            place = known.place;
-            there = known.there;
-            seen = known.seen;
-            side = of.3;
-            after = refl;
-          },
-          refl,
-        );
-        outputs = (record { tunnel = tunnel; peer = peer; there = inl refl }, tt);
-        frames = (tt, tt);
-        kept = kept;
+        chain = record {
+          chain = (
+            e,
+            record {
+              hears = record {
+                bytes = bytes;
+                is = ap (λ p. Datagram p bytes) (sym of.1);
+                header = h;
+                read = read;
+                data_is = data_is;
+                tunnel_is = sym of.0;
+                session_is = refl;
+                frame_is = of.2;
+              };
+              place = known.place;
+              there = known.there;
+              seen = known.seen;
+              side = of.3;
+              after = refl;
+            },
+            refl,
+          );
+          outputs = (record { tunnel = tunnel; peer = peer; there = inl refl }, tt);
+          frames = (tt, tt);
+          kept = kept;
+        };
+        tells = (tt, tt);
       }
 
   -- ---- tunnels that are there, or not
@@ -176,50 +194,61 @@ module _ (e : End) (kept : AreKept e) (moment : ℕ) (block : List ℕ) where
   main_heard : (peer i : ℕ) (bytes : List ℕ) (h : Header) → header_of bytes ≡ Ok h → h.control ≡ true
       → (o : Option Tunnel) → at e.tunnels i ≡ o → ((t : Tunnel) → o ≡ Some t → t.control.peer ≡ peer)
       → ((t : Tunnel) → o ≡ Some t → (h.tunnel ≡ i) ⊎ IsAgain h bytes t.control)
-      → IsChain e moment (Datagram peer bytes) (in_main e env (Datagram peer bytes) i o)
+      → IsStep e moment (Datagram peer bytes) (in_main e env (Datagram peer bytes) i o)
   unfolding in_main
-  main_heard peer i bytes h read control None is goes to = drop_chain e kept moment (Datagram peer bytes) why.Tunnel
+  main_heard peer i bytes h read control None is goes to = drop_chain e kept moment (Datagram peer bytes) why.Tunnel (λ q. absurd cc)
   main_heard peer i bytes h read control (Some t) is goes to =
-      subst (λ p. IsChain e moment (Datagram p bytes) (in_main e env (Datagram p bytes) i (Some t))) (goes t refl)
+      subst (λ p. IsStep e moment (Datagram p bytes) (in_main e env (Datagram p bytes) i (Some t))) (goes t refl)
       (heard_chain e kept moment (Datagram t.control.peer bytes) block i t is bytes h read control refl (to t refl))
 
-  main_rung : (port i : ℕ) → e.role ≡ Lac → (o : Option Tunnel) → at e.tunnels i ≡ o
-      → ((t : Tunnel) → o ≡ Some t → (state_number t.control.state ≡ 3) ⊎ (state_number t.control.state ≡ 1))
-      → IsChain e moment (Ring port) (in_main e env (Ring port) i o)
+  main_rung : (port i : ℕ) → e.role ≡ Lac → IsChosen e i → (o : Option Tunnel) → at e.tunnels i ≡ o
+      → ((t : Tunnel) → o ≡ Some t → ((state_number t.control.state ≡ 3) ⊎ (state_number t.control.state ≡ 1)) × (t.control.peer ≡ e.config.lns))
+      → IsStep e moment (Ring port) (in_main e env (Ring port) i o)
   unfolding in_main
-  main_rung port i lac None is goes = drop_chain e kept moment (Ring port) why.Tunnel
-  main_rung port i lac (Some t) is goes = rung_chain e kept moment (Ring port) block i t is port (goes t refl) refl lac
+  main_rung port i lac chosen None is goes = drop_chain e kept moment (Ring port) why.Tunnel (λ q. absurd cc)
+  main_rung port i lac chosen (Some t) is goes = rung_chain e kept moment (Ring port) block i t is port (goes t refl).0 chosen (goes t refl).1 refl lac
 
-  main_payload : (s : ℕ) (frame : List ℕ) (i : ℕ) (o : Option Tunnel) → at e.tunnels i ≡ o → IsChain e moment (Payload s frame) (in_main e env (Payload s frame) i o)
+  main_payload : (s : ℕ) (frame : List ℕ) (i : ℕ) (o : Option Tunnel) → at e.tunnels i ≡ o → IsStep e moment (Payload s frame) (in_main e env (Payload s frame) i o)
   unfolding in_main turns
-  main_payload s frame i None is = drop_chain e kept moment (Payload s frame) why.Tunnel
+  main_payload s frame i None is = drop_chain e kept moment (Payload s frame) why.Tunnel (λ q. absurd cc)
   main_payload s frame i (Some t) is = carries_chain e kept moment (Payload s frame) block i t is s frame (at t.calls s) refl (inl refl)
 
-  main_lower : (s : ℕ) (frame : List ℕ) (i : ℕ) (o : Option Tunnel) → at e.tunnels i ≡ o → IsChain e moment (Lower s frame) (in_main e env (Lower s frame) i o)
+  main_lower : (s : ℕ) (frame : List ℕ) (i : ℕ) (o : Option Tunnel) → at e.tunnels i ≡ o → IsStep e moment (Lower s frame) (in_main e env (Lower s frame) i o)
   unfolding in_main turns
-  main_lower s frame i None is = drop_chain e kept moment (Lower s frame) why.Tunnel
+  main_lower s frame i None is = drop_chain e kept moment (Lower s frame) why.Tunnel (λ q. absurd cc)
   main_lower s frame i (Some t) is = carries_chain e kept moment (Lower s frame) block i t is s frame (at t.calls s) refl (inr refl)
+
+  main_hung : (s i : ℕ) (o : Option Tunnel) → at e.tunnels i ≡ o → IsStep e moment (Hang s) (in_main e env (Hang s) i o)
+  unfolding in_main
+  main_hung s i None is = drop_chain e kept moment (Hang s) why.Tunnel (λ q. absurd cc)
+  main_hung s i (Some t) is = hung_chain e kept moment (Hang s) block i t is s refl
+
+  main_closed : (s i : ℕ) (o : Option Tunnel) → at e.tunnels i ≡ o → IsStep e moment (DropCall s) (in_main e env (DropCall s) i o)
+  unfolding in_main
+  main_closed s i None is = drop_chain e kept moment (DropCall s) why.Tunnel (λ q. absurd cc)
+  main_closed s i (Some t) is = closes_chain e kept moment (DropCall s) block i t is s refl
 
   -- ---- control messages
 
   module _ (peer : ℕ) (bytes : List ℕ) (h : Header) (read : header_of bytes ≡ Ok h) (control : h.control ≡ true) where
     abbrev leads : Addressee → Type 0
-    leads a = IsChain e moment (Datagram peer bytes) (for_addressee e env (Datagram peer bytes) peer a)
+    leads a = IsStep e moment (Datagram peer bytes) (for_addressee e env (Datagram peer bytes) peer a)
 
-    nobody : (w : Why) → leads (Nobody w)
+    nobody : (w : Why) → (w ≡ why.Queue → ⊥) → leads (Nobody w)
     unfolding for_addressee
-    nobody w = drop_chain e kept moment (Datagram peer bytes) w
+    nobody w other = drop_chain e kept moment (Datagram peer bytes) w other
 
     -- an SCCRQ opens a tunnel, or comes again to the one that it opened
     opened_leads : h.tunnel ≡ 0 → (o : Opening) → message_in (body_of h bytes) ≡ Ok (Sccrq o) → (k : Option ℕ) → known_as peer o.tunnel e.tunnels ≡ k
         → leads (opened_before o.tunnel k)
-    unfolding for_addressee in_new known_as
+    unfolding for_addressee in_one_more in_new known_as
     opened_leads zero o said None is =
+        branch (IsStep e moment (Datagram peer bytes)) (has_all_tunnels e.tunnels) _ _ (λ all. drop_chain e kept moment (Datagram peer bytes) why.Tunnel (λ q. absurd cc)) (λ fewer.
         first_heard e kept moment (Datagram peer bytes) block peer bytes h read control refl (λ p again j t there goes has.
         let both : Ok (Sccrq p) ≡ Ok (Sccrq o) = sym again ∙ said in
         let same : p ≡ o = cc in
         none_passes (λ q. is_known peer o.tunnel (at e.tunnels q)) (ids_of e.tunnels) j is (found_among e.tunnels j t there)
-        (is_known_by peer o.tunnel (at e.tunnels j) t there goes (has ∙ ap (λ (x : Opening). x.tunnel) same)))
+        (is_known_by peer o.tunnel (at e.tunnels j) t there goes (has ∙ ap (λ (x : Opening). x.tunnel) same))))
     opened_leads zero o said (Some i) is =
         let known = found_passes (λ j. is_known peer o.tunnel (at e.tunnels j)) (ids_of e.tunnels) i is in
         main_heard peer i bytes h read control (at e.tunnels i) refl (known_peer peer o.tunnel (at e.tunnels i) known)
@@ -232,21 +261,27 @@ module _ (e : End) (kept : AreKept e) (moment : ℕ) (block : List ℕ) where
     zero_leads : h.tunnel ≡ 0 → (r : Result Read MessageError) → Makes r → leads (opens_once e peer (zero_read r))
     unfolding zero_read opens_once
     zero_leads zero (Ok (Known (Sccrq o))) makes = opened_leads zero o (makes (Sccrq o) refl) (known_as peer o.tunnel e.tunnels) refl
-    zero_leads zero (Ok (Known (Sccrp o))) makes = nobody why.Tunnel
-    zero_leads zero (Ok (Known Scccn)) makes = nobody why.Tunnel
-    zero_leads zero (Ok (Known Hello)) makes = nobody why.Tunnel
-    zero_leads zero (Ok (Known (Cdn remote code error))) makes = nobody why.Tunnel
-    zero_leads zero (Ok (Known (Icrq remote serial calling))) makes = nobody why.Tunnel
-    zero_leads zero (Ok (Known (Icrp remote))) makes = nobody why.Tunnel
-    zero_leads zero (Ok (Known (Iccn speed framing sequenced))) makes = nobody why.Tunnel
-    zero_leads zero (Ok (Ignored n)) makes = nobody why.Tunnel
-    zero_leads zero (Err NoType) makes = nobody why.Tunnel
-    zero_leads zero (Err (UnknownType n)) makes = nobody why.Tunnel
-    zero_leads zero (Err (UnknownMandatory v a)) makes = nobody why.Avp
-    zero_leads zero (Err (HiddenWithoutVector a)) makes = nobody why.Avp
-    zero_leads zero (Err (BadValue a)) makes = nobody why.Avp
-    zero_leads zero (Err (Missing a)) makes = nobody why.Avp
-    zero_leads zero (Err NoMemory) makes = nobody why.Avp
+    zero_leads zero (Ok (Known (Sccrp o))) makes = nobody why.Tunnel (λ q. absurd cc)
+    zero_leads zero (Ok (Known Scccn)) makes = nobody why.Tunnel (λ q. absurd cc)
+    zero_leads zero (Ok (Known Hello)) makes = nobody why.Tunnel (λ q. absurd cc)
+    zero_leads zero (Ok (Known (Cdn remote code error))) makes = nobody why.Tunnel (λ q. absurd cc)
+    zero_leads zero (Ok (Known (Icrq remote serial calling))) makes = nobody why.Tunnel (λ q. absurd cc)
+    zero_leads zero (Ok (Known (Icrp remote))) makes = nobody why.Tunnel (λ q. absurd cc)
+    zero_leads zero (Ok (Known (Iccn speed framing sequenced))) makes = nobody why.Tunnel (λ q. absurd cc)
+    zero_leads zero (Ok (Known (StopCcn tunnel code error))) makes = nobody why.Tunnel (λ q. absurd cc)
+    zero_leads zero (Ok (Known (Ocrq remote))) makes = nobody why.Tunnel (λ q. absurd cc)
+    zero_leads zero (Ok (Known Ocrp)) makes = nobody why.Tunnel (λ q. absurd cc)
+    zero_leads zero (Ok (Known Occn)) makes = nobody why.Tunnel (λ q. absurd cc)
+    zero_leads zero (Ok (Known Wen)) makes = nobody why.Tunnel (λ q. absurd cc)
+    zero_leads zero (Ok (Known Sli)) makes = nobody why.Tunnel (λ q. absurd cc)
+    zero_leads zero (Ok (Ignored n)) makes = nobody why.Tunnel (λ q. absurd cc)
+    zero_leads zero (Err NoType) makes = nobody why.Tunnel (λ q. absurd cc)
+    zero_leads zero (Err (UnknownType n)) makes = nobody why.Tunnel (λ q. absurd cc)
+    zero_leads zero (Err (UnknownMandatory v a)) makes = nobody why.Avp (λ q. absurd cc)
+    zero_leads zero (Err (HiddenWithoutVector a)) makes = nobody why.Avp (λ q. absurd cc)
+    zero_leads zero (Err (BadValue a)) makes = nobody why.Avp (λ q. absurd cc)
+    zero_leads zero (Err (Missing a)) makes = nobody why.Avp (λ q. absurd cc)
+    zero_leads zero (Err NoMemory) makes = nobody why.Avp (λ q. absurd cc)
 
     made : (avps : List Avp) → avps_of (body_of h bytes) ≡ Ok avps → Makes (message_of avps)
     unfolding message_in pairs_read message_read
@@ -255,17 +290,17 @@ module _ (e : End) (kept : AreKept e) (moment : ℕ) (block : List ℕ) where
     pairs_lead : h.tunnel ≡ 0 → (r : Result (List Avp) AvpError) → avps_of (body_of h bytes) ≡ r → leads (opens_once e peer (zero_pairs r))
     unfolding zero_pairs opens_once
     pairs_lead zero (Ok avps) is = zero_leads zero (message_of avps) (made avps is)
-    pairs_lead zero (Err x) is = nobody why.Avp
+    pairs_lead zero (Err x) is = nobody why.Avp (λ q. absurd cc)
 
     tunnel_leads : (o : Option Tunnel) → at e.tunnels h.tunnel ≡ o → leads (at_tunnel peer h.tunnel (option_map (λ t. t.control.peer) o))
     unfolding at_tunnel for_addressee
-    tunnel_leads None is = nobody why.Tunnel
+    tunnel_leads None is = nobody why.Tunnel (λ q. absurd cc)
     tunnel_leads (Some t) is =
         branch leads (t.control.peer == peer) _ _
         (λ met. main_heard peer h.tunnel bytes h read control (at e.tunnels h.tunnel) refl (λ u found.
         let same : t ≡ u = (let g : Some t ≡ Some u = sym is ∙ found in cc) in
         ap (λ (x : Tunnel). x.control.peer) (sym same) ∙ eqb-true t.control.peer peer met) (λ u found. inl refl))
-        (λ other. nobody why.Peer)
+        (λ other. nobody why.Peer (λ q. absurd cc))
 
     addressed_leads : leads (addressed e peer h (body_of h bytes))
     unfolding addressed at_zero
@@ -274,57 +309,84 @@ module _ (e : End) (kept : AreKept e) (moment : ℕ) (block : List ℕ) where
         (λ zero. pairs_lead (eqb-true h.tunnel 0 zero) (avps_of (body_of h bytes)) refl)
         (λ some. tunnel_leads (at e.tunnels h.tunnel) refl)
 
-  received : (peer : ℕ) (bytes : List ℕ) (r : Result Header HeaderError) → header_of bytes ≡ r → IsChain e moment (Datagram peer bytes) (receives e env peer bytes r)
+  received : (peer : ℕ) (bytes : List ℕ) (r : Result Header HeaderError) → header_of bytes ≡ r → IsStep e moment (Datagram peer bytes) (receives e env peer bytes r)
   unfolding receives hands_up
-  received peer bytes (Err x) read = drop_chain e kept moment (Datagram peer bytes) (header_why x)
+  received peer bytes (Err x) read = drop_chain e kept moment (Datagram peer bytes) (header_why x) (header_other x)
   received peer bytes (Ok h) read =
-      branch (IsChain e moment (Datagram peer bytes)) h.control _ _
+      branch (IsStep e moment (Datagram peer bytes)) h.control _ _
       (λ control. addressed_leads peer bytes h read control)
       (λ data_is. handed_chain peer bytes h read data_is _ (look_is e.role (look_in (at e.calls h.session)) peer h (frame_of (body_of h bytes))))
 
   -- ---- rings, opens and frames
 
-  -- the least tunnel in a state is in that state
+  -- the least tunnel in a state is in that state, and goes to the LNS
   least_is : (s : TunnelState) (i : ℕ) → least_in s e.config.lns e.tunnels ≡ Some i → (t : Tunnel) → at e.tunnels i ≡ Some t
-      → state_number t.control.state ≡ state_number s
+      → (state_number t.control.state ≡ state_number s) × (t.control.peer ≡ e.config.lns)
   unfolding least_in
   least_is s i is t there =
-      in_state_is s e.config.lns (at e.tunnels i) (found_passes (λ j. is_in s e.config.lns (at e.tunnels j)) (ids_of e.tunnels) i is) t there
+      let found = found_passes (λ j. is_in s e.config.lns (at e.tunnels j)) (ids_of e.tunnels) i is in
+      (in_state_is s e.config.lns (at e.tunnels i) found t there, in_state_peer s e.config.lns (at e.tunnels i) found t there)
 
   rung : (port : ℕ) → e.role ≡ Lac → (open_one opening : Option ℕ) → least_in Established e.config.lns e.tunnels ≡ open_one
-      → least_in WaitCtlReply e.config.lns e.tunnels ≡ opening → IsChain e moment (Ring port) (rings_in e env (Ring port) open_one opening)
-  unfolding rings_in in_new
-  rung port lac (Some i) opening is next = main_rung port i lac (at e.tunnels i) refl (λ t there. inl (least_is Established i is t there))
-  rung port lac None (Some i) is next = main_rung port i lac (at e.tunnels i) refl (λ t there. inr (least_is WaitCtlReply i next t there))
-  rung port lac None None is next = rings_chain e kept moment (Ring port) block e.config.lns port lac refl refl
+      → least_in WaitCtlReply e.config.lns e.tunnels ≡ opening → IsStep e moment (Ring port) (rings_in e env (Ring port) open_one opening)
+  unfolding rings_in in_one_more in_new
+  rung port lac (Some i) opening is next = main_rung port i lac (inl is) (at e.tunnels i) refl (λ t there. let l = least_is Established i is t there in (inl l.0, l.1))
+  rung port lac None (Some i) is next = main_rung port i lac (inr (is, next)) (at e.tunnels i) refl (λ t there. let l = least_is WaitCtlReply i next t there in (inr l.0, l.1))
+  rung port lac None None is next =
+      branch (IsStep e moment (Ring port)) (has_all_tunnels e.tunnels) _ _
+      (λ all. cause_chain e kept moment (Ring port) cause.Tunnels (inl (port, refl, is, next), all))
+      (λ fewer. rings_chain e kept moment (Ring port) block e.config.lns port lac refl refl (port, refl, is, next) fewer)
 
-  gives_payload : (s : ℕ) (frame : List ℕ) (o : Option CallPlace) → IsChain e moment (Payload s frame) (gives_frame e env (Payload s frame) o)
-  unfolding gives_frame
-  gives_payload s frame None = drop_chain e kept moment (Payload s frame) why.Call
+  gives_payload : (s : ℕ) (frame : List ℕ) (o : Option CallPlace) → IsStep e moment (Payload s frame) (for_call e env (Payload s frame) o)
+  unfolding for_call
+  gives_payload s frame None = drop_chain e kept moment (Payload s frame) why.Call (λ q. absurd cc)
   gives_payload s frame (Some p) = main_payload s frame p.tunnel (at e.tunnels p.tunnel) refl
 
-  gives_lower : (s : ℕ) (frame : List ℕ) (o : Option CallPlace) → IsChain e moment (Lower s frame) (gives_frame e env (Lower s frame) o)
-  unfolding gives_frame
-  gives_lower s frame None = drop_chain e kept moment (Lower s frame) why.Call
+  gives_lower : (s : ℕ) (frame : List ℕ) (o : Option CallPlace) → IsStep e moment (Lower s frame) (for_call e env (Lower s frame) o)
+  unfolding for_call
+  gives_lower s frame None = drop_chain e kept moment (Lower s frame) why.Call (λ q. absurd cc)
   gives_lower s frame (Some p) = main_lower s frame p.tunnel (at e.tunnels p.tunnel) refl
 
-  by_lac : (ev : Event) (s : Stepped) → (e.role ≡ Lac → IsChain e moment ev s) → IsChain e moment ev (only_by Lac e s)
-  unfolding only_by
-  by_lac ev s h = branch (IsChain e moment ev) (is_lac e.role) _ _ (λ lac. h (is_lac_role e.role lac)) (λ lns. drop_chain e kept moment ev why.Node)
+  hung : (s : ℕ) (o : Option CallPlace) → IsStep e moment (Hang s) (for_call e env (Hang s) o)
+  unfolding for_call
+  hung s None = drop_chain e kept moment (Hang s) why.Call (λ q. absurd cc)
+  hung s (Some p) = main_hung s p.tunnel (at e.tunnels p.tunnel) refl
 
-  by_lns : (ev : Event) (s : Stepped) → IsChain e moment ev s → IsChain e moment ev (only_by Lns e s)
-  unfolding only_by
-  by_lns ev s h = branch (IsChain e moment ev) (is_lac e.role) _ _ (λ lac. drop_chain e kept moment ev why.Node) (λ lns. h)
+  closed : (s : ℕ) (o : Option CallPlace) → IsStep e moment (DropCall s) (for_call e env (DropCall s) o)
+  unfolding for_call
+  closed s None = drop_chain e kept moment (DropCall s) why.Call (λ q. absurd cc)
+  closed s (Some p) = main_closed s p.tunnel (at e.tunnels p.tunnel) refl
 
-  pub step_chain : (ev : Event) → IsChain e moment ev (step e moment block ev)
-  unfolding step step_in rings_at in_new
+  by_lac : (ev : Event) (s : Stepped) → (e.role ≡ Lac → IsStep e moment ev s) → IsStep e moment ev (only_by Lac e s)
+  unfolding only_by
+  by_lac ev s h = branch (IsStep e moment ev) (is_lac e.role) _ _ (λ lac. h (is_lac_role e.role lac)) (λ lns. drop_chain e kept moment ev why.Node (λ q. absurd cc))
+
+  by_lns : (ev : Event) (s : Stepped) → IsStep e moment ev s → IsStep e moment ev (only_by Lns e s)
+  unfolding only_by
+  by_lns ev s h = branch (IsStep e moment ev) (is_lac e.role) _ _ (λ lac. drop_chain e kept moment ev why.Node (λ q. absurd cc)) (λ lns. h)
+
+  pub step_chain : (ev : Event) → IsStep e moment ev (step e moment block ev)
+  unfolding step step_in rings_at in_one_more in_new
   step_chain (Datagram peer bytes) = received peer bytes (header_of bytes) refl
   step_chain (Ring port) =
       by_lac (Ring port) _ (λ lac. rung port lac (least_in Established e.config.lns e.tunnels) (least_in WaitCtlReply e.config.lns e.tunnels) refl refl)
   step_chain (Payload s frame) = by_lac (Payload s frame) _ (λ lac. gives_payload s frame (at e.calls s))
   step_chain (Lower s frame) = by_lns (Lower s frame) _ (gives_lower s frame (at e.calls s))
+  step_chain (Hang s) = by_lac (Hang s) _ (λ lac. hung s (at e.calls s))
+  step_chain (DropCall s) = closed s (at e.calls s)
   step_chain Tick = ticks_chain moment e block kept
-  step_chain OpenTunnel = by_lac OpenTunnel _ (λ lac. opens_chain e kept moment OpenTunnel block e.config.lns lac refl)
+  step_chain OpenTunnel = by_lac OpenTunnel _ (λ lac.
+      branch (IsStep e moment OpenTunnel) (has_all_tunnels e.tunnels) _ _
+      (λ all. cause_chain e kept moment OpenTunnel cause.Tunnels (inr refl, all))
+      (λ fewer. opens_chain e kept moment OpenTunnel block e.config.lns lac refl refl fewer))
 
 pub steps_are_chains : StepsAreChains
-steps_are_chains e kept moment block ev = step_chain e kept moment block ev
+steps_are_chains e kept moment block ev = (step_chain e kept moment block ev).chain
+
+-- ---- what is told
+
+pub steps_refuse_truly : StepsRefuseTruly
+steps_refuse_truly e kept moment block ev told = of_all _ _ (Drop why.Queue) (step_chain e kept moment block ev).tells told refl
+
+pub causes_stand : CausesStand
+causes_stand e kept moment block ev c told = of_all _ _ (Cause c) (step_chain e kept moment block ev).tells told

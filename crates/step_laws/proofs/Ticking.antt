@@ -1,35 +1,34 @@
 -- A tunnel's tick is a chain of moves.
-use Rattle.std.proofs.Common.{◌≡◌, ℕ, ◌^◌, ◌<◌, Bool, true, false, cond, zero, suc, List, [], ◌∷◌, ◌++◌, refl, sym, ap, ◌∙◌, subst, Option, Some, None}
+use Rattle.std.proofs.Common.{◌≡◌, arith, ℕ, ◌+◌, ◌^◌, ◌<◌, Bool, true, false, cond, zero, suc, List, [], ◌∷◌, refl, sym, ap, ◌∙◌, subst, Option, Some, None}
 use Rattle.std.proofs.lemmas.Bool.{eqb-true, ltb-true}
+use Rattle.std.proofs.lemmas.Bool.Decides.{nat_tests}
 use Rattle.std.proofs.lemmas.List.{append-nil}
-use Rattle.std.specs.Prelude.{◌==◌, ◌&&◌, ◌||◌, nat_le, nat_lt, length, drop}
+use Rattle.std.specs.Prelude.{◌==◌, ◌&&◌, ◌||◌, nat_le, nat_lt, length}
 use Rattle.std.specs.List.{AllByRecursion}
 use Rattle.id_table.specs.Ids.{at, put-put, ids_of}
-use Rattle.id_table.specs.Order.{Ascends, at_without_other}
-use Rattle.wire_base.specs.declared.cause.Cause.{Cause as Refusal}
+use Rattle.id_table.specs.Order.{Ascends}
 use Rattle.wire_base.specs.declared.cause.Cause.TheVariants as cause
 use Rattle.wire_base.specs.declared.letter.Letter.{Letter}
-use Rattle.control_message.specs.declared.message.Message.TheVariants.{Hello, Cdn}
+use Rattle.control_message.specs.declared.message.Message.TheVariants.{Hello}
 use Rattle.send_window.specs.declared.window.Tick.TheVariants as tick
 use Rattle.send_window.specs.Kept.{Window}
 use Rattle.send_window.specs.Window as sending
 use Rattle.control_channel.specs.Numbers.{Numbers, next_to_go, answer_to_tick, ticked_at}
 use Rattle.tunnel_fsm.specs.Rows.{state_number}
-use Rattle.call_fsm.specs.declared.table.CallAction.{CallAction}
-use Rattle.call_fsm.specs.declared.table.CallAction.TheVariants as call_action
 use Rattle.call_fsm.specs.declared.table.CallEvent.TheVariants as call_event
 use Rattle.protocol_model.specs.declared.tunnel.Call.{Call}
-use Rattle.protocol_model.specs.declared.tunnel.CellChange.TheVariants as cell
+use Rattle.protocol_model.specs.declared.tunnel.Control.{Control}
 use Rattle.protocol_model.specs.declared.event.Event.TheVariants.{Tick}
-use Rattle.protocol_model.specs.declared.out.Out.TheVariants.{Gone, Cause}
 use Rattle.protocol_model.specs.declared.moves.Move.TheVariants as move
-use Rattle.protocol_model.specs.Calls.{call_row, is_told, is_set_up}
-use Rattle.protocol_model.specs.Turn.{Tunnel, Turn, with_output, with_move, with_change, with_calls, ends_call, is_clean_up, has_room, gives, place, next_place, letter_of, letter_in, letters_after, counts_repeated, sends_letter, sends_now, lets_go, goes_by, lets_all_go, repeats, acknowledges, outstanding, acknowledged_after, settles, tunnel_after, is_over, patience, greeted, greets, end_silent, end_told, limited_by, limits_at, limits_all, goes_quietly}
-use Rattle.protocol_model.specs.End.{End, placed}
-use Rattle.step_laws.specs.Moves.{TookTooLong}
-use Rattle.step_laws.proofs.Lists.{all_push, and_left, and_right, branch, with_calls-more, with_looks-more, chain_more}
+use Rattle.protocol_model.specs.Calls.{call_row, is_set_up}
+use Rattle.protocol_model.specs.Turn.{Tunnel, Turn, with_output, with_move, with_calls, has_room, gives, place, next_place, letter_of, letter_in, letters_after, counts_given, counts_sent, counts_repeated, sends_letter, sends_now, lets_go, goes_by, lets_all_go, repeats, acknowledges, outstanding, acknowledged_after, settles, tunnel_after, is_over, patience, greeted, greets, ends_by, limits_at, limits_all, goes_quietly}
+use Rattle.protocol_model.specs.End.{End}
+use Rattle.step_laws.specs.Moves.{TookTooLong, IsLate}
+use Rattle.step_laws.proofs.Lists.{all_push, and_left, and_right, branch, chain_more}
+use Rattle.step_laws.proofs.Owing.{Fits, some_owed, fits_given, owes_told}
 use Rattle.step_laws.proofs.Turns.{NoFrame, Held, given_held, at_turn, there, one_given, Others, Same, same_still, same_first}
-use Rattle.step_laws.proofs.Settling.{GoesOn, Settled, outs_on, sent_ok, settled_ok}
+use Rattle.step_laws.proofs.Settling.{Settled, outs_on, sent_ok, settled_ok}
+use Rattle.step_laws.proofs.Closing.{given_on, ends_leave}
 
 -- ---- a letter that is repeated
 
@@ -49,6 +48,15 @@ module _ (n : Numbers) (moment : ℕ) where
       (λ frozen. h)
       (λ free. branch (λ (w : Window). Held w ls) (sending.due_at n.window moment && nat_lt n.window.repetitions 5) _ _ (λ due. h) (λ no. h))
 
+fits_repeated : (c : Control) (moment : ℕ) (calls : List (ℕ × Call)) → Fits c calls → Fits (counts_repeated moment c) calls
+fits_repeated c moment calls h =
+    branch (λ (n : Numbers). Fits (record c { channel = n }) calls) c.channel.frozen _ _
+    (λ frozen. h)
+    (λ free. branch (λ (w : Window). Fits (record c { channel = record c.channel { window = w } }) calls)
+    (sending.due_at c.channel.window moment && nat_lt c.channel.window.repetitions 5) _ _
+    (λ due. h)
+    (λ no. h))
+
 -- the number of a letter that is repeated has 64 bits
 small_due : (n : Numbers) (moment number : ℕ) → n.window.acked < 2 ^ 64 → answer_to_tick n moment ≡ tick.Again number → number < 2 ^ 64
 small_due n moment number small h = by n.frozen (sending.due_at n.window moment) (nat_lt n.window.repetitions 5) h
@@ -60,25 +68,53 @@ small_due n moment number small h = by n.frozen (sending.due_at n.window moment)
     by false true false e = absurd cc
     by false false c e = absurd cc
 
--- ---- what the end of each part leaves: the calls, and where ids are drawn from
+-- one more letter makes no room
+pub more_full : (c : Control) → has_room c ≡ false → has_room (counts_given c) ≡ false
+more_full c full = still c.channel.window.queued full
+  where
+    still : (n : ℕ) → nat_lt n 8192 ≡ false → nat_lt (n + 1) 8192 ≡ false
+    still n full = grind (arith, nat_tests)
 
-abbrev Keeps : Turn → Turn → Type 0
-Keeps t u = (u.changed ≡ t.changed) × (u.added ≡ t.added) × (u.tunnels ≡ t.tunnels) × (u.sessions ≡ t.sessions)
+-- nor does one that goes, or is repeated
+gone_room : (moment : ℕ) (c : Control) → has_room (counts_sent moment c) ≡ has_room c
+gone_room moment c =
+    branch (λ (n : Numbers). nat_lt n.window.queued 8192 ≡ has_room c) c.channel.frozen _ _
+    (λ frozen. refl)
+    (λ free. branch (λ (w : Window). nat_lt w.queued 8192 ≡ has_room c) (sending.may_go c.channel.window) _ _ (λ may. refl) (λ no. refl))
+
+pub repeated_room : (moment : ℕ) (c : Control) → has_room (counts_repeated moment c) ≡ has_room c
+repeated_room moment c =
+    branch (λ (n : Numbers). nat_lt n.window.queued 8192 ≡ has_room c) c.channel.frozen _ _
+    (λ frozen. refl)
+    (λ free. branch (λ (w : Window). nat_lt w.queued 8192 ≡ has_room c) (sending.due_at c.channel.window moment && nat_lt c.channel.window.repetitions 5) _ _
+    (λ due. refl)
+    (λ no. refl))
+
+-- ---- what the end of each part leaves: the calls, where ids are drawn from, the moment, the tunnel's state, and whether there is
+-- room
+
+abbrev pub Keeps : Turn → Turn → Type 0
+Keeps t u =
+    (u.changed ≡ t.changed) × (u.added ≡ t.added) × (u.tunnels ≡ t.tunnels) × (u.sessions ≡ t.sessions) × (u.moment ≡ t.moment)
+    × (u.control.state ≡ t.control.state) × (has_room u.control ≡ has_room t.control)
 
 keeps_all : (t : Turn) → Keeps t t
-keeps_all t = (refl, refl, refl, refl)
+keeps_all t = (refl, refl, refl, refl, refl, refl, refl)
 
 keeps_on : (t u v : Turn) → Keeps t u → Keeps u v → Keeps t v
-keeps_on t u v h k = (k.0 ∙ h.0, k.1 ∙ h.1, k.2 ∙ h.2, k.3 ∙ h.3)
+keeps_on t u v h k = (k.0 ∙ h.0, k.1 ∙ h.1, k.2 ∙ h.2, k.3 ∙ h.3, k.4 ∙ h.4, k.5 ∙ h.5, k.6 ∙ h.6)
 
-sent_keeps : (number : ℕ) (o : Option Letter) (t : Turn) → Keeps t (sends_letter number o t)
+pub sent_keeps : (number : ℕ) (o : Option Letter) (t : Turn) → Keeps t (sends_letter number o t)
 unfolding sends_letter with_output
 sent_keeps number None t = keeps_all t
 sent_keeps number (Some l) t = branch (Keeps t) (nat_le (length l.avps) 65523) _ _ (λ fits. keeps_all t) (λ long. keeps_all t)
 
 gone_keeps : (letters : List Letter) (number : ℕ) (t : Turn) → Keeps t (lets_go letters number t)
 unfolding lets_go sends_now with_move
-gone_keeps letters number t = sent_keeps number _ _
+gone_keeps letters number t =
+    let u = with_move (move.LetGo (record { tunnel = t.control.local; sent = place number })) (record t { control = counts_sent t.moment t.control }) in
+    keeps_on t u (sends_letter number (letter_in letters u number) u) (refl, refl, refl, refl, refl, refl, gone_room t.moment t.control)
+    (sent_keeps number (letter_in letters u number) u)
 
 all_gone_keeps : (most : ℕ) (letters : List Letter) (t : Turn) → Keeps t (lets_all_go most letters t)
 unfolding lets_all_go goes_by
@@ -94,7 +130,7 @@ unfolding acknowledged_after acknowledges with_output with_move
 acknowledged_keeps again before t =
     branch (Keeps t) (again || (t.took && (outstanding t == before))) _ _ (λ yes. keeps_all t) (λ no. keeps_all t)
 
-settled_keeps : (again : Bool) (letters : List Letter) (t : Turn) → Keeps t (settles again letters t)
+pub settled_keeps : (again : Bool) (letters : List Letter) (t : Turn) → Keeps t (settles again letters t)
 unfolding settles
 settled_keeps again letters t =
     let u = lets_all_go t.control.channel.window.queued letters t in
@@ -119,15 +155,6 @@ module _ (e : End) (moment : ℕ) (letters : List Letter) (calls : List (ℕ × 
       record {
         settled = settled_ok e moment Tick letters calls i false t h.settled;
         none = (k.2 ∙ h.none.0, k.3 ∙ h.none.1, k.1 ∙ h.none.2);
-      }
-
-  caused_ok : (c : Refusal) (t : Turn) → Ticking t → Ticking (with_output (Cause c) t)
-  unfolding with_output
-  caused_ok c t h =
-      let s = h.settled in
-      record {
-        settled = record { chain = s.chain; outs = all_push _ t.outputs (Cause c) s.outs tt; frames = s.frames; stays = s.stays; held = s.held };
-        none = h.none;
       }
 
   -- the turn's moment is the step's
@@ -163,9 +190,11 @@ module _ (e : End) (moment : ℕ) (letters : List Letter) (calls : List (ℕ × 
           more = [];
           letters = sym (append-nil (tunnel t).letters);
         }) h;
+        tells = h.tells;
         frames = all_push NoFrame t.moves m h.frames tt;
         stays = h.stays;
         held = held_repeated t.control.channel t.moment (letters_after t letters) h.held;
+        fits = fits_repeated t.control t.moment (with_calls t.changed calls) h.fits;
       }
 
   pub repeats_ok : (number : ℕ) (t : Turn) → answer_to_tick t.control.channel moment ≡ tick.Again number → Ticking t → Ticking (repeats letters number t)
@@ -175,23 +204,9 @@ module _ (e : End) (moment : ℕ) (letters : List Letter) (calls : List (ℕ × 
       let k = sent_keeps number (letter_in letters u number) u in
       record {
         settled = sent_ok e moment Tick letters calls i number u (letter_in letters u number)
-            (small_due t.control.channel moment number h.settled.held.3 due) refl (repeated_ok number t due h.settled);
+            (small_due t.control.channel moment number h.settled.held.2 due) refl (repeated_ok number t due h.settled);
         none = (k.2 ∙ h.none.0, k.3 ∙ h.none.1, k.1 ∙ h.none.2);
       }
-
-  -- a turn that gives a letter goes on
-  given_on : (t u : Turn) (l : Letter) → u.control.local ≡ t.control.local → u.control.peer ≡ t.control.peer → u.control.remote ≡ t.control.remote
-      → u.control.channel.window.acked ≡ t.control.channel.window.acked → u.control.channel.inbox ≡ t.control.channel.inbox
-      → letters_after u letters ≡ drop t.acked letters ++ (t.given ++ l ∷ []) → GoesOn (tunnel t) (tunnel u)
-  given_on t u l local peer remote acked inbox is = record {
-    local = local;
-    peer = peer;
-    remote = remote;
-    acked = acked;
-    inbox = inbox;
-    more = l ∷ [];
-    letters = is ∙ one_given e moment Tick letters calls i t l;
-  }
 
   abbrev hello : Turn → Turn
   hello t = gives 0 Hello (with_move (move.Greeted (record { tunnel = t.control.local; given = next_place t.control })) t)
@@ -221,82 +236,14 @@ module _ (e : End) (moment : ℕ) (letters : List Letter) (calls : List (ℕ × 
             given = refl;
             after = rw (one_given e moment Tick letters calls i t l, put-put e.tunnels t.control.local (tunnel t) _) refl;
           });
-          outs = outs_on e moment Tick letters calls i t (hello t) (given_on t (hello t) l refl refl refl refl refl refl) h;
+          outs = outs_on e moment Tick letters calls i t (hello t) (given_on e moment Tick letters calls i t (hello t) l refl refl refl refl refl refl) h;
+          tells = h.tells;
           frames = all_push NoFrame t.moves m h.frames tt;
           stays = h.stays;
-          held = given_held e moment Tick letters calls i t l room h.held;
-        };
-        none = k.none;
-      }
-
-  -- ---- calls that take too long
-
-  silent_ok : (s : ℕ) (c : Call) (t : Turn) → at (with_calls t.changed calls) s ≡ Some c → TookTooLong Tick moment c
-      → is_clean_up (call_row e.role c.state call_event.Close).1 ≡ true → Ticking t → Ticking (end_silent s t)
-  unfolding end_silent ends_call with_output with_change with_move
-  silent_ok s c t found late row k =
-      let m = move.EndSilent (record { tunnel = t.control.local; session = s }) in
-      let h = k.settled in
-      record {
-        settled = record {
-          chain = chain_more moment Tick e (at_turn e moment Tick letters calls i t) _ t.moves m h.chain (record {
-            tunnel = tunnel t;
-            there = there e moment Tick letters calls i t;
-            call = c;
-            live = found;
-            late = late;
-            row = row;
-            after =
-                let changed = with_calls-more t.changed s None calls in
-                let looked = with_looks-more t.changes (cell.Kill s) (placed t.control.local t.added e.calls) in
-                rw (changed, looked, put-put e.tunnels t.control.local (tunnel t) _) refl;
-          });
-          outs = all_push _ t.outputs (Gone s) (outs_on e moment Tick letters calls i t (end_silent s t) (record {
-            local = refl;
-            peer = refl;
-            remote = refl;
-            acked = refl;
-            inbox = refl;
-            more = [];
-            letters = sym (append-nil (tunnel t).letters);
-          }) h) tt;
-          frames = all_push NoFrame t.moves m h.frames tt;
-          stays = h.stays;
-          held = h.held;
-        };
-        none = k.none;
-      }
-
-  told_ok : (s : ℕ) (c : Call) (t : Turn) → at (with_calls t.changed calls) s ≡ Some c → TookTooLong Tick moment c
-      → is_told (call_row e.role c.state call_event.Close).1 ≡ true → s < 65536 → has_room t.control ≡ true → Ticking t → Ticking (end_told s c 10 t)
-  unfolding end_told gives ends_call with_output with_change with_move
-  told_ok s c t found late row small room k =
-      let m = move.EndTold (record { tunnel = t.control.local; session = s; remote = c.remote; code = 10; given = next_place t.control }) in
-      let h = k.settled in
-      let l = letter_of c.remote (Cdn s 10 None) in
-      record {
-        settled = record {
-          chain = chain_more moment Tick e (at_turn e moment Tick letters calls i t) _ t.moves m h.chain (record {
-            tunnel = tunnel t;
-            there = there e moment Tick letters calls i t;
-            call = c;
-            live = found;
-            late = late;
-            row = row;
-            session = small;
-            remote = refl;
-            code = refl;
-            room = room;
-            given = refl;
-            after =
-                let changed = with_calls-more t.changed s None calls in
-                let looked = with_looks-more t.changes (cell.Kill s) (placed t.control.local t.added e.calls) in
-                rw (changed, looked, one_given e moment Tick letters calls i t l, put-put e.tunnels t.control.local (tunnel t) _) refl;
-          });
-          outs = all_push _ t.outputs (Gone s) (outs_on e moment Tick letters calls i t (end_told s c 10 t) (given_on t (end_told s c 10 t) l refl refl refl refl refl refl) h) tt;
-          frames = all_push NoFrame t.moves m h.frames tt;
-          stays = h.stays;
-          held = given_held e moment Tick letters calls i t l room h.held;
+          held = given_held e moment Tick letters calls i t l h.held;
+          fits =
+              let least = h.fits.3 is_open in
+              fits_given t.control (with_calls t.changed calls) h.fits.0 h.fits.1 (omega (arith, quiet, least));
         };
         none = k.none;
       }
@@ -305,72 +252,6 @@ module _ (e : End) (moment : ℕ) (letters : List Letter) (calls : List (ℕ × 
   record Limited (s : ℕ) (t u : Turn) : Type 0 where
     ok : Ticking u
     others : Others e moment Tick letters calls i s t u
-
-  -- a turn that takes a call out
-  one_taken : (s : ℕ) (t u : Turn) → u.changed ≡ t.changed ++ (s, None) ∷ [] → Others e moment Tick letters calls i s t u
-  one_taken s t u is q o = ap (λ xs. at (with_calls xs calls) q) is ∙ ap (λ xs. at xs q) (with_calls-more t.changed s None calls) ∙ at_without_other (with_calls t.changed calls) s q o
-
-  silent_others : (s : ℕ) (t : Turn) → Others e moment Tick letters calls i s t (end_silent s t)
-  unfolding end_silent ends_call with_output with_change with_move
-  silent_others s t = one_taken s t (end_silent s t) refl
-
-  caused_found : (s : ℕ) (c : Call) (t : Turn) → at (with_calls t.changed calls) s ≡ Some c
-      → at (with_calls (with_output (Cause cause.Setup) t).changed calls) s ≡ Some c
-  unfolding with_output
-  caused_found s c t found = found
-
-  caused_room : (t : Turn) → has_room t.control ≡ true → has_room (with_output (Cause cause.Setup) t).control ≡ true
-  unfolding with_output
-  caused_room t room = room
-
-  told_changed : (s : ℕ) (c : Call) (t : Turn) → (end_told s c 10 (with_output (Cause cause.Setup) t)).changed ≡ t.changed ++ (s, None) ∷ []
-  unfolding end_told gives ends_call with_output with_change with_move
-  told_changed s c t = refl
-
-  limited : (s : ℕ) (c : Call) (t : Turn) → at (with_calls t.changed calls) s ≡ Some c → TookTooLong Tick moment c → s < 65536 → (a : CallAction)
-      → (call_row e.role c.state call_event.Close).1 ≡ a → Ticking t → Limited s t (limited_by letters s c a t)
-  unfolding limited_by
-  limited s c t found late small call_action.CleanUp is h =
-      record { ok = silent_ok s c t found late (ap is_clean_up is) h; others = silent_others s t }
-  limited s c t found late small call_action.SendCdn is h =
-      branch (Limited s t) (has_room t.control) _ _
-      (λ may.
-      let u = with_output (Cause cause.Setup) t in
-      let v = end_told s c 10 u in
-      record {
-        ok = settling_ok v (told_ok s c u (caused_found s c t found) late (ap is_told is) small (caused_room t may) (caused_ok cause.Setup t h));
-        others = one_taken s t (settles false letters v) ((settled_keeps false letters v).0 ∙ told_changed s c t);
-      })
-      (λ full. record { ok = h; others = λ q o. refl })
-  limited s c t found late small call_action.Nothing is h = record { ok = h; others = λ q o. refl }
-  limited s c t found late small call_action.SendIcrq is h = record { ok = h; others = λ q o. refl }
-  limited s c t found late small call_action.SendIcrp is h = record { ok = h; others = λ q o. refl }
-  limited s c t found late small call_action.SendIccn is h = record { ok = h; others = λ q o. refl }
-  limited s c t found late small call_action.DropSession is h = record { ok = h; others = λ q o. refl }
-
-  limits_at_ok : (s : ℕ) (o : Option Call) (t : Turn) → at (with_calls t.changed calls) s ≡ o → Ticking t → Limited s t (limits_at e.role letters s o t)
-  unfolding limits_at
-  limits_at_ok s None t found h = record { ok = h; others = λ q o. refl }
-  limits_at_ok s (Some c) t found h =
-      branch (Limited s t) (nat_lt s 65536 && is_set_up c.state && is_over patience t.moment c.since) _ _
-      (λ due.
-      let both = and_left (nat_lt s 65536 && is_set_up c.state) _ due in
-      let small = ltb-true s 65536 (and_left (nat_lt s 65536) (is_set_up c.state) both) in
-      limited s c t found (record {
-        ticks = refl;
-        set_up = and_right (nat_lt s 65536) (is_set_up c.state) both;
-        over = over_at c.since t h (and_right (nat_lt s 65536 && is_set_up c.state) _ due);
-      }) small (call_row e.role c.state call_event.Close).1 refl h)
-      (λ no. record { ok = h; others = λ q o. refl })
-
-  limits_all_ok : (es : List (ℕ × Call)) → Ascends es → (t : Turn) → AllByRecursion (Same e moment Tick letters calls i t) es → Ticking t
-      → Ticking (limits_all e.role letters (ids_of es) calls t)
-  unfolding limits_all Ascends
-  limits_all_ok [] sorted t same h = h
-  limits_all_ok (x ∷ es) sorted t same h =
-      let u = limits_at e.role letters x.0 (at calls x.0) t in
-      let l = limits_at_ok x.0 (at calls x.0) t same.0 h in
-      limits_all_ok es sorted.1 u (same_still e moment Tick letters calls i x.0 t u l.others es sorted.0 same.1) l.ok
 
   -- ---- what stays of a tunnel whose channel hasn't failed
 
@@ -397,12 +278,57 @@ module _ (e : End) (moment : ℕ) (letters : List Letter) (calls : List (ℕ × 
       })
       (λ no. record { ok = h; changed = none })
 
-  pub quietly_ok : Ascends calls → (t : Turn) → t.changed ≡ [] → Ticking t → Ticking (goes_quietly e.role letters calls t)
-  unfolding goes_quietly
-  quietly_ok sorted t none h =
-      let g = greets_ok t none h in
-      limits_all_ok calls sorted (greets letters t) (same_first e moment Tick letters calls i (greets letters t) g.changed calls) g.ok
-
   pub repeated_changed : (number : ℕ) (t : Turn) → t.changed ≡ [] → (repeats letters number t).changed ≡ []
   unfolding repeats sends_now with_move
   repeated_changed number t none = let u = repeated number t in (sent_keeps number (letter_in letters u number) u).0 ∙ none
+
+  -- ---- calls that take too long, of the tunnel that is there
+
+  module _ (first : Control) (is_there : at e.tunnels i ≡ Some (record { control = first; letters = letters; calls = calls })) where
+    abbrev begun : Tunnel
+    begun = record { control = first; letters = letters; calls = calls }
+
+    limited : (s : ℕ) (c : Call) (t : Turn) → at calls s ≡ Some c → at (with_calls t.changed calls) s ≡ Some c → TookTooLong Tick moment c → s < 65536 → Ticking t
+        → Limited s t (settles false letters (ends_by cause.Setup 10 None s c (call_row e.role c.state call_event.Close).1 t))
+    limited s c t live found late small h =
+        let u = ends_by cause.Setup 10 None s c (call_row e.role c.state call_event.Close).1 t in
+        let l = ends_leave e moment Tick letters calls i cause.Setup s c call_event.Close 10 None t found (IsLate late refl refl refl) small
+        (λ told. (
+          owes_told t.control (with_calls t.changed calls) s c (some_owed c.state late.set_up) h.settled.fits,
+          record { id = i; tunnel = begun; there = is_there; session = s; call = c; live = live; late = late; row = told },
+        ))
+        (call_row e.role c.state call_event.Close).1 refl h.settled in
+        record {
+          ok = settling_ok u (record { settled = l.ok; none = (l.tunnels ∙ h.none.0, l.sessions ∙ h.none.1, l.added ∙ h.none.2) });
+          others = λ q o. ap (λ xs. at (with_calls xs calls) q) (settled_keeps false letters u).0 ∙ l.others q o;
+        }
+
+    limits_at_ok : (s : ℕ) (o : Option Call) (t : Turn) → at calls s ≡ o → at (with_calls t.changed calls) s ≡ o → Ticking t
+        → Limited s t (limits_at e.role letters s o t)
+    unfolding limits_at
+    limits_at_ok s None t live found h = record { ok = h; others = λ q o. refl }
+    limits_at_ok s (Some c) t live found h =
+        branch (Limited s t) (nat_lt s 65536 && is_set_up c.state && is_over patience t.moment c.since) _ _
+        (λ due.
+        let both = and_left (nat_lt s 65536 && is_set_up c.state) _ due in
+        limited s c t live found (record {
+          ticks = refl;
+          set_up = and_right (nat_lt s 65536) (is_set_up c.state) both;
+          over = over_at c.since t h (and_right (nat_lt s 65536 && is_set_up c.state) _ due);
+        }) (ltb-true s 65536 (and_left (nat_lt s 65536) (is_set_up c.state) both)) h)
+        (λ no. record { ok = h; others = λ q o. refl })
+
+    limits_all_ok : (es : List (ℕ × Call)) → Ascends es → (t : Turn) → AllByRecursion (Same e moment Tick letters calls i t) es → Ticking t
+        → Ticking (limits_all e.role letters (ids_of es) calls t)
+    unfolding limits_all Ascends
+    limits_all_ok [] sorted t same h = h
+    limits_all_ok (x ∷ es) sorted t same h =
+        let u = limits_at e.role letters x.0 (at calls x.0) t in
+        let l = limits_at_ok x.0 (at calls x.0) t refl same.0 h in
+        limits_all_ok es sorted.1 u (same_still e moment Tick letters calls i x.0 t u l.others es sorted.0 same.1) l.ok
+
+    pub quietly_ok : Ascends calls → (t : Turn) → t.changed ≡ [] → Ticking t → Ticking (goes_quietly e.role letters calls t)
+    unfolding goes_quietly
+    quietly_ok sorted t none h =
+        let g = greets_ok t none h in
+        limits_all_ok calls sorted (greets letters t) (same_first e moment Tick letters calls i (greets letters t) g.changed calls) g.ok

@@ -17,28 +17,32 @@ use Rattle.protocol_model.specs.declared.moves.Move.TheVariants as move
 use Rattle.protocol_model.specs.Turn.{Tunnel, Env, Turn, turn_of, with_output, with_move, with_change, ends_call, ends_all, clears, repeats, is_over, patience, is_being_set_up, ticks_by, ticks, turns, tunnel_after}
 use Rattle.protocol_model.specs.End.{End, env_of, placed, with_looks, after_turn, Turned, tick_of, ticks_of, end_after_all, after_all, ticks_all}
 use Rattle.step_laws.specs.Moves.{Chain, HasFailed}
-use Rattle.step_laws.specs.Steps.{IsKept, AreKept, IsOfMoves, IsChain}
+use Rattle.step_laws.specs.Steps.{IsKept, AreKept, IsOfMoves}
 use Rattle.step_laws.proofs.Lists.{all_append, all_map, all_push, among_right, chain_append, branch, and_left, and_right, ascends_looks}
+use Rattle.step_laws.proofs.Tells.{Tells}
 use Rattle.step_laws.proofs.Turns.{IsWord, NoFrame}
 use Rattle.step_laws.proofs.Settling.{OutOk, goes_nowhere, out_on, carries_on, unsent}
 use Rattle.step_laws.proofs.Ticking.{Ticking, quietly_ok, repeats_ok, repeated_changed}
-use Rattle.step_laws.proofs.Ends.{no_frame_out, word_is, ok_is, left_is, kept_after, chain_after, there_after, begins}
+use Rattle.step_laws.proofs.Ends.{IsStep, no_frame_out, word_is, ok_is, left_is, kept_after, chain_after, there_after, begins}
 
 -- ---- a tunnel is removed with its calls
 
-record Ended (ss : List ℕ) (t u : Turn) : Type 0 where
+record Ended (e : End) (moment : ℕ) (ss : List ℕ) (t u : Turn) : Type 0 where
   tunnels : u.tunnels ≡ t.tunnels
   sessions : u.sessions ≡ t.sessions
   added : u.added ≡ t.added
   moves : u.moves ≡ t.moves
   changes : u.changes ≡ t.changes ++ map cell.Kill ss
   words : AllByRecursion IsWord u.outputs
+  tells : AllByRecursion (Tells e moment Tick) u.outputs
 
-ended_ok : (ss : List ℕ) (t : Turn) → AllByRecursion IsWord t.outputs → Ended ss t (ends_all ss t)
+ended_ok : (e : End) (moment : ℕ) (ss : List ℕ) (t : Turn) → AllByRecursion IsWord t.outputs → AllByRecursion (Tells e moment Tick) t.outputs
+    → Ended e moment ss t (ends_all ss t)
 unfolding ends_all ends_call with_output with_change
-ended_ok [] t h = record { tunnels = refl; sessions = refl; added = refl; moves = refl; changes = sym (append-nil t.changes); words = h }
-ended_ok (s ∷ ss) t h =
-    let k = ended_ok ss (ends_call s t) (all_push IsWord t.outputs (Gone s) h tt) in
+ended_ok e moment [] t h so =
+    record { tunnels = refl; sessions = refl; added = refl; moves = refl; changes = sym (append-nil t.changes); words = h; tells = so }
+ended_ok e moment (s ∷ ss) t h so =
+    let k = ended_ok e moment ss (ends_call s t) (all_push IsWord t.outputs (Gone s) h tt) (all_push _ t.outputs (Gone s) so tt) in
     record {
       tunnels = k.tunnels;
       sessions = k.sessions;
@@ -46,6 +50,7 @@ ended_ok (s ∷ ss) t h =
       moves = k.moves;
       changes = k.changes ∙ append_assoc t.changes (cell.Kill s ∷ []) (map cell.Kill ss);
       words = k.words;
+      tells = k.tells;
     }
 
 -- ---- what is sent in a tunnel, or no datagram
@@ -85,6 +90,7 @@ like_on e x y a b = record { role = b.role ∙ a.role; config = b.config ∙ a.c
 record Ticked (e : End) (moment i : ℕ) (r : Turn) (y : End) : Type 0 where
   chain : Chain moment Tick e r.moves y
   outs : AllByRecursion (OutAt y.tunnels i r.moves) r.outputs
+  tells : AllByRecursion (Tells e moment Tick) r.outputs
   frames : AllByRecursion NoFrame r.moves
   kept : AreKept y
   like : Like e y
@@ -112,13 +118,14 @@ module _ (e : End) (kept : AreKept e) (moment : ℕ) (block : List ℕ) (i : ℕ
       let s = h.settled in
       let after = tunnel_after r t.letters t.calls in
       record {
-        chain = chain_after e kept moment Tick t.letters t.calls k.calls i k.some r s.stays s.chain;
-        outs = all_map _ _ (λ x a. inl (after, there_after e kept moment Tick t.letters t.calls k.calls i k.some r s.stays.5, a)) r.outputs s.outs;
+        chain = chain_after e kept moment Tick t.letters t.calls i k.some r s.stays s.chain;
+        outs = all_map _ _ (λ x a. inl (after, there_after e kept moment Tick t.letters t.calls i k.some r s.stays.5, a)) r.outputs s.outs;
+        tells = s.tells;
         frames = s.frames;
-        kept = kept_after e kept moment Tick t.letters t.calls k.calls i k.some r s.stays s.held;
+        kept = kept_after e kept moment Tick t.letters t.calls i k.some r s.stays s.held s.fits;
         like = like_left r h.none.0 h.none.1;
         others = λ j o.
-            ap (λ (x : End). at x.tunnels j) (left_is e kept moment Tick t.letters t.calls k.calls i k.some r s.stays.5) ∙ at_other e.tunnels i after j o;
+            ap (λ (x : End). at x.tunnels j) (left_is e kept moment Tick t.letters t.calls i k.some r s.stays.5) ∙ at_other e.tunnels i after j o;
       }
 
   abbrev gone : End
@@ -128,9 +135,9 @@ module _ (e : End) (kept : AreKept e) (moment : ℕ) (block : List ℕ) (i : ℕ
   abbrev removed : Turn
   removed = ends_all (ids_of t.calls) (with_move (move.Cleared t.control.local) start)
 
-  removed_ok : Ended (ids_of t.calls) (with_move (move.Cleared t.control.local) start) removed
+  removed_ok : Ended e moment (ids_of t.calls) (with_move (move.Cleared t.control.local) start) removed
   unfolding with_move
-  removed_ok = ended_ok (ids_of t.calls) (with_move (move.Cleared t.control.local) start) tt
+  removed_ok = ended_ok e moment (ids_of t.calls) (with_move (move.Cleared t.control.local) start) tt tt
 
   removed_moves : removed.moves ≡ move.Cleared t.control.local ∷ []
   unfolding with_move
@@ -164,6 +171,7 @@ module _ (e : End) (kept : AreKept e) (moment : ℕ) (block : List ℕ) (i : ℕ
       refl,
     );
     outs = all_map _ _ (λ x w. inr w) removed.outputs removed_ok.words;
+    tells = removed_ok.tells;
     frames = subst (AllByRecursion NoFrame) (sym removed_moves) (tt, tt);
     kept = kept_gone;
     like = record { role = refl; config = refl; tunnels = refl; sessions = refl };
@@ -181,10 +189,10 @@ module _ (e : End) (kept : AreKept e) (moment : ℕ) (block : List ℕ) (i : ℕ
 
   ticks_by_lead : (a : Due) → answer_to_tick t.control.channel moment ≡ a → leads (ticks_by e.role t.letters t.calls a start)
   unfolding ticks_by
-  ticks_by_lead Quiet due = ticking_leads _ (quietly_ok e moment t.letters t.calls i k.calls start refl begun)
+  ticks_by_lead Quiet due = ticking_leads _ (quietly_ok e moment t.letters t.calls i t.control is k.calls start refl begun)
   ticks_by_lead (Again number) due =
       ticking_leads _
-      (quietly_ok e moment t.letters t.calls i k.calls (repeats t.letters number start) (repeated_changed e moment t.letters t.calls i number start refl)
+      (quietly_ok e moment t.letters t.calls i t.control is k.calls (repeats t.letters number start) (repeated_changed e moment t.letters t.calls i number start refl)
       (repeats_ok e moment t.letters t.calls i number start due begun))
   ticks_by_lead (Failed first) due = cleared_leads (inr (first, due))
 
@@ -279,8 +287,24 @@ module _ (moment : ℕ) where
     same_all [] = tt
     same_all (q ∷ es) = (refl, same_all es)
 
-    pub ticks_chain : AreKept e → IsChain e moment Tick (ticks_all e env)
-    unfolding ticks_all after_all
-    ticks_chain kept =
-        let h = all_ticked e.tunnels kept.order e (record { role = refl; config = refl; tunnels = refl; sessions = refl }) kept (same_all e.tunnels) in
-        record { chain = h.chain; outputs = h.outs; frames = all_map _ _ (no_frame_out _) _ h.frames; kept = h.kept }
+    -- what is told is so of each tunnel as the step began
+    module _ (kept : AreKept e) where
+      tick_tells : (i : ℕ) (o : Option Tunnel) → at e.tunnels i ≡ o → (ts : List Turned)
+          → AllByRecursion (Tells e moment Tick) (flat_map (λ (t : Turned). t.turn.outputs) ts)
+          → AllByRecursion (Tells e moment Tick) (flat_map (λ (t : Turned). t.turn.outputs) (tick_of e env i o ++ ts))
+      tick_tells i None is ts h = h
+      tick_tells i (Some t) is ts h = all_append _ _ _ (tick_leads e kept moment block i t is).tells h
+
+      ticks_tell : (ids : List ℕ) → AllByRecursion (Tells e moment Tick) (flat_map (λ (t : Turned). t.turn.outputs) (ticks_of e env ids))
+      unfolding ticks_of
+      ticks_tell [] = tt
+      ticks_tell (i ∷ ids) = tick_tells i (at e.tunnels i) refl (ticks_of e env ids) (ticks_tell ids)
+
+      pub ticks_chain : IsStep e moment Tick (ticks_all e env)
+      unfolding ticks_all after_all
+      ticks_chain =
+          let h = all_ticked e.tunnels kept.order e (record { role = refl; config = refl; tunnels = refl; sessions = refl }) kept (same_all e.tunnels) in
+          record {
+            chain = record { chain = h.chain; outputs = h.outs; frames = all_map _ _ (no_frame_out _) _ h.frames; kept = h.kept };
+            tells = ticks_tell (ids_of e.tunnels);
+          }

@@ -1,16 +1,15 @@
 -- Each part of a turn is a move, from the end as the turn has it so far.
-use Rattle.std.proofs.Common.{◌≡◌, ◌⊎◌, ℕ, ◌+◌, ◌-◌, ◌%◌, ◌^◌, ◌<◌, ◌≤◌, Bool, true, false, List, [], ◌∷◌, ◌++◌, length, refl, sym, ap, ◌∙◌, subst, Option, Some, None, Result, Ok, Err, arith}
+use Rattle.std.proofs.Common.{◌≡◌, ◌⊎◌, inl, inr, ℕ, ◌+◌, ◌-◌, ◌%◌, ◌^◌, ◌<◌, ◌≤◌, Bool, true, false, List, [], ◌∷◌, ◌++◌, length, refl, sym, ap, ◌∙◌, subst, Option, Some, None, Result, Ok, Err, arith, rules}
 use Rattle.std.proofs.lemmas.List.{append-nil, append_assoc, length-append, length-drop}
 use Rattle.std.specs.List.{AllByRecursion}
 use Rattle.std.specs.Prelude.{nat_lt, drop, ◌==◌}
-use Rattle.std.proofs.lemmas.Bool.{eqb-true, ltb-true}
+use Rattle.std.proofs.lemmas.Bool.{eqb-true, ltb-true, true≢false}
 use Rattle.id_table.specs.Ids.{at, put, put-put, ids_of}
 use Rattle.id_table.specs.Order.{at_new, at_other, IsAbove, Ascends}
 use Rattle.id_source.specs.Spaces.{Space, draws, drawn, after_draw}
 use Rattle.id_source.specs.declared.IdError.{IdError}
-use Rattle.wire_base.specs.declared.why.Why.TheVariants as why
 use Rattle.wire_base.specs.declared.why.Why.{Why}
-use Rattle.wire_base.specs.declared.cause.Cause.{Cause as Refusal}
+use Rattle.wire_base.specs.declared.cause.Cause.{Cause as CauseOf}
 use Rattle.wire_base.specs.declared.letter.Letter.{Letter}
 use Rattle.control_message.specs.declared.message.Message.{Message}
 use Rattle.control_message.specs.declared.message.Message.TheVariants.{Sccrp, Scccn, Icrq, Icrp, Iccn, Cdn}
@@ -25,19 +24,25 @@ use Rattle.call_fsm.specs.declared.table.CallEvent.TheVariants as call_event
 use Rattle.protocol_model.specs.declared.tunnel.Call.{Call}
 use Rattle.protocol_model.specs.declared.tunnel.CellChange.TheVariants as cell
 use Rattle.protocol_model.specs.declared.tunnel.Control.{Control}
+use Rattle.protocol_model.specs.declared.tunnel.Role.{Role}
 use Rattle.protocol_model.specs.declared.tunnel.Role.TheVariants.{Lac}
 use Rattle.protocol_model.specs.declared.event.Event.{Event}
 use Rattle.protocol_model.specs.declared.event.Event.TheVariants.{Ring}
+use Rattle.protocol_model.specs.declared.moves.Refused.{Refused}
 use Rattle.protocol_model.specs.declared.out.Out.{Out}
 use Rattle.protocol_model.specs.declared.out.Out.TheVariants.{Send, Up, Gone, Drop, Cause}
 use Rattle.protocol_model.specs.declared.moves.Move.{Move}
 use Rattle.protocol_model.specs.declared.moves.Move.TheVariants as move
-use Rattle.protocol_model.specs.Reading.{body_of, message_in}
-use Rattle.protocol_model.specs.Calls.{call_row, advanced, rung, asked_for, is_request, is_reply, is_connection, is_up}
-use Rattle.protocol_model.specs.Turn.{Tunnel, Turn, with_output, with_move, with_change, with_call, with_new, drops, gives, takes_one, next_place, taken_place, has_room, learns_window, reads_nr, ends_call, end_heard, is_clean_up, session_named, requested, requests, requests_at, requests_all, adds, replied, first_up, second_up, connected, confirms, takes_plain, ignores, letter_of, request_of, connection, letters_after, tunnel_after, with_calls}
+use Rattle.protocol_model.specs.Reading.{body_of, message_in, call_fault_in}
+use Rattle.protocol_model.specs.Calls.{call_row, advanced, rung, asked_for, is_request, is_reply, is_connection, is_up, are_too_many}
+use Rattle.protocol_model.specs.Turn.{Tunnel, Turn, Reason, granted, refused, may_take, counts_given, in_state, changed_at, with_output, with_move, with_change, with_call, with_new, drops, gives, takes_one, next_place, taken_place, has_room, learns_window, reads_nr, ends_call, end_heard, is_clean_up, session_named, requested, requests, requests_at, requests_all, adds, replied, first_up, second_up, connected, confirms, takes_plain, ignores, letter_of, request_of, connection, letters_after, tunnel_after, with_calls}
 use Rattle.protocol_model.specs.End.{End, placed, with_looks}
-use Rattle.step_laws.specs.Moves.{Chain, ComesNext, HearsNext, IsPlain, TellsNr}
+use Rattle.step_laws.specs.Causes.{Stands}
+use Rattle.step_laws.specs.Moves.{Chain, ComesNext, HearsNext, IsPlain, TellsNr, WhyRefused}
+use Rattle.step_laws.proofs.States.{rung_asks}
 use Rattle.step_laws.proofs.Lists.{all_push, branch, with_calls-more, with_looks-more, placed-more, chain_more}
+use Rattle.step_laws.proofs.Tells.{Founded, Tells}
+use Rattle.step_laws.proofs.Owing.{Fits, Holds, has_room_for, spare_most, requested_owes, connected_owes, up_owes, replied_owes, rung_owes, fits_given, fits_spare, fits_acked, fits_open, fits_instead, fits_up, holds_new, fits_new, fits_without}
 
 -- an output that is no datagram and hands nothing up
 abbrev pub IsWord : Out → Type 0
@@ -63,8 +68,8 @@ module _ (window : ℕ) (c : Control) where
   pub learnt_state : (learns_window window c).state ≡ c.state
   learnt_state = branch (λ (d : Control). d.state ≡ c.state) (window == 0) _ _ (λ none. refl) (λ some. refl)
 
-  pub learnt_room : has_room (learns_window window c) ≡ has_room c
-  learnt_room = branch (λ (d : Control). has_room d ≡ has_room c) (window == 0) _ _ (λ none. refl) (λ some. refl)
+  pub learnt_queued : (learns_window window c).channel.window.queued ≡ c.channel.window.queued
+  learnt_queued = branch (λ (d : Control). d.channel.window.queued ≡ c.channel.window.queued) (window == 0) _ _ (λ none. refl) (λ some. refl)
 
 -- what a turn of the tunnel with an id keeps, until it is removed
 abbrev pub Stays : ℕ → ℕ → Turn → Type 0
@@ -72,22 +77,21 @@ Stays i moment t =
     (t.control.local ≡ i) × (state_number t.control.state ≡ 0 → ⊥) × (t.sessions.last < 65536) × (0 < t.tunnels.next)
     × (t.moment ≡ moment) × (t.cleared ≡ false)
 
--- the letters that a tunnel keeps are those that its window counts, 8,192 at most, and their numbers have 64 bits
+-- the letters that a tunnel keeps are those that its window counts, and their numbers have 64 bits
 abbrev pub Held : Window → List Letter → Type 0
-Held w ls = (length ls ≡ w.queued) × (w.outstanding ≤ w.queued) × (w.queued ≤ 8192) × (w.acked < 2 ^ 64)
+Held w ls = (length ls ≡ w.queued) × (w.outstanding ≤ w.queued) × (w.acked < 2 ^ 64)
 
 -- a number that is counted modulo 2^64
 pub has_64_bits : (n : ℕ) → n % 2 ^ 64 < 2 ^ 64
 has_64_bits n = omega arith
 
--- one more letter, where there is room for it
-pub held_given : (w : Window) (ls : List Letter) (l : Letter) → nat_lt w.queued 8192 ≡ true → Held w ls → Held (sending.one_more w) (ls ++ l ∷ [])
-held_given w ls l room h =
+-- one more letter
+pub held_given : (w : Window) (ls : List Letter) (l : Letter) → Held w ls → Held (sending.one_more w) (ls ++ l ∷ [])
+held_given w ls l h =
     let more = length-append ls (l ∷ []) in
     let count = h.0 in
     let few = h.1 in
-    let below = ltb-true w.queued 8192 room in
-    (omega (arith, more, count), omega (arith, few), omega (arith, below), h.3)
+    (omega (arith, more, count), omega (arith, few), h.2)
 
 pub held_read : (w : Window) (ls : List Letter) (nr moment : ℕ) → Held w ls → Held (sending.acked_at w nr moment) (drop (sending.count_acked w nr) ls)
 held_read w ls nr moment h =
@@ -97,7 +101,6 @@ held_read w ls nr moment h =
     (λ some. (
       length-drop count ls ∙ ap (λ n. n - count) h.0,
       (let few = h.1 in omega (arith, few)),
-      (let least = h.2 in omega (arith, least)),
       has_64_bits (w.acked + count),
     ))
 
@@ -111,6 +114,10 @@ last_after s = by (draws s)
     by (Ok n) = refl
     by (Err x) = refl
 
+pub small_draw : (s : Space) (n : ℕ) → draws s ≡ Ok n → s.last < 65536 → n < 65536
+unfolding draws
+small_draw s n is small = grind (arith, rules)
+
 pub next_after : (s : Space) → 0 < s.next → 0 < (after_draw s).next
 next_after s some = by (draws s)
   where
@@ -122,6 +129,12 @@ next_after s some = by (draws s)
 pub record ComesPlain (ev : Event) (x : End) (u : Tunnel) : Type 0 where
   pub comes : ComesNext ev u.control
   pub why : (m : Message) → message_in (body_of comes.header comes.bytes) ≡ Ok m → IsPlain x u comes.header.session m
+
+-- what a request that is granted needs
+pub record IsGranted (r : Role) (cs : List (ℕ × Call)) (sessions : Space) (s : ℕ) : Type 0 where
+  pub row : is_reply (call_row r call.Idle call_event.IcrqAcc).1 ≡ true
+  pub few : are_too_many cs ≡ false
+  pub drawn : draws sessions ≡ Ok s
 
 module _ (e : End) (moment : ℕ) (ev : Event) (letters : List Letter) (calls : List (ℕ × Call)) (i : ℕ) where
   -- the end as the turn has it
@@ -137,9 +150,11 @@ module _ (e : End) (moment : ℕ) (ev : Event) (letters : List Letter) (calls : 
   pub record TurnOk (t : Turn) : Type 0 where
     pub chain : Chain moment ev e t.moves (at_turn t)
     pub words : AllByRecursion IsWord t.outputs
+    pub tells : AllByRecursion (Tells e moment ev) t.outputs
     pub frames : AllByRecursion NoFrame t.moves
     pub stays : Stays i moment t
     pub held : Held t.control.channel.window (letters_after t letters)
+    pub fits : Fits t.control (with_calls t.changed calls)
 
   pub there : (t : Turn) → at (at_turn t).tunnels t.control.local ≡ Some (tunnel_after t letters calls)
   there t = at_new e.tunnels t.control.local (tunnel_after t letters calls)
@@ -148,46 +163,76 @@ module _ (e : End) (moment : ℕ) (ev : Event) (letters : List Letter) (calls : 
   pub one_given : (t : Turn) (l : Letter) → drop t.acked letters ++ (t.given ++ l ∷ []) ≡ letters_after t letters ++ l ∷ []
   one_given t l = sym (append_assoc (drop t.acked letters) t.given (l ∷ []))
 
-  pub given_held : (t : Turn) (l : Letter) → has_room t.control ≡ true → Held t.control.channel.window (letters_after t letters)
+  pub given_held : (t : Turn) (l : Letter) → Held t.control.channel.window (letters_after t letters)
       → Held (sending.one_more t.control.channel.window) (drop t.acked letters ++ (t.given ++ l ∷ []))
-  given_held t l room h =
-      subst (Held (sending.one_more t.control.channel.window)) (sym (one_given t l)) (held_given t.control.channel.window (letters_after t letters) l room h)
+  given_held t l h =
+      subst (Held (sending.one_more t.control.channel.window)) (sym (one_given t l)) (held_given t.control.channel.window (letters_after t letters) l h)
 
-  pub drops_ok : (w : Why) (t : Turn) → TurnOk t → TurnOk (drops w t)
+  -- there is room always
+  pub is_roomy : (t : Turn) → TurnOk t → has_room t.control ≡ false → ⊥
+  is_roomy t h full = true≢false (sym (has_room_for t.control (with_calls t.changed calls) (h.fits.0, h.fits.1, h.fits.2)) ∙ full)
+
+  -- what fits, once one more call is changed
+  pub fits_changed : (c : Control) (t : Turn) (s : ℕ) (o : Option Call) → Fits c (changed_at (with_calls t.changed calls) s o)
+      → Fits c (with_calls (t.changed ++ (s, o) ∷ []) calls)
+  fits_changed c t s o h = subst (Fits c) (sym (with_calls-more t.changed s o calls)) h
+
+  pub drops_ok : (w : Why) → Founded e moment ev w → (t : Turn) → TurnOk t → TurnOk (drops w t)
   unfolding drops with_output
-  drops_ok w t h = record { chain = h.chain; words = all_push IsWord t.outputs (Drop w) h.words tt; frames = h.frames; stays = h.stays; held = h.held }
+  drops_ok w so t h = record { chain = h.chain; words = all_push IsWord t.outputs (Drop w) h.words tt; tells = all_push _ t.outputs (Drop w) h.tells so; frames = h.frames; stays = h.stays; held = h.held; fits = h.fits }
 
-  pub refused_ok : (c : Refusal) (t : Turn) → TurnOk t → TurnOk (with_output (Cause c) t)
+  pub caused_ok : (c : CauseOf) → Stands e moment ev c → (t : Turn) → TurnOk t → TurnOk (with_output (Cause c) t)
   unfolding with_output
-  refused_ok c t h = record { chain = h.chain; words = all_push IsWord t.outputs (Cause c) h.words tt; frames = h.frames; stays = h.stays; held = h.held }
+  caused_ok c so t h = record { chain = h.chain; words = all_push IsWord t.outputs (Cause c) h.words tt; tells = all_push _ t.outputs (Cause c) h.tells so; frames = h.frames; stays = h.stays; held = h.held; fits = h.fits }
 
-  pub requested_ok : (s : ℕ) (c : Call) (t : Turn) → state_number t.control.state ≡ 3 → at (with_calls t.changed calls) s ≡ Some c → s < 65536
-      → is_request (call_row e.role c.state call_event.TunnelOpen).1 ≡ true → has_room t.control ≡ true → TurnOk t → TurnOk (requested e.role s c t)
-  unfolding requested gives with_output with_change with_move with_call
-  requested_ok s c t is_open found small row room h =
+  -- ---- calls that are asked for
+
+  requested_chain : (s : ℕ) (c : Call) (t : Turn) → state_number t.control.state ≡ 3 → at (with_calls t.changed calls) s ≡ Some c → s < 65536
+      → is_request (call_row e.role c.state call_event.TunnelOpen).1 ≡ true → has_room t.control ≡ true → t.moment ≡ moment
+      → Chain moment ev e t.moves (at_turn t) → Chain moment ev e (requested e.role s c t).moves (at_turn (requested e.role s c t))
+  unfolding requested gives with_change with_move with_call
+  requested_chain s c t is_open found small row room now_is h =
       let m = move.Requested (record { tunnel = t.control.local; session = s; port = c.port; given = next_place t.control }) in
-      record {
-        chain = chain_more moment ev e (at_turn t) _ t.moves m h.chain (record {
-          tunnel = tunnel_after t letters calls;
-          there = there t;
-          open_is = is_open;
-          call = c;
-          waits = found;
-          row = row;
-          session = small;
-          port = refl;
-          room = room;
-          given = refl;
-          after =
-              let changed = with_calls-more t.changed s (Some (advanced e.role call_event.TunnelOpen t.moment c)) calls in
-              let looked = with_looks-more t.changes (cell.Bind s t.control.local t.control.peer) (placed t.control.local t.added e.calls) in
-              rw (changed, looked, one_given t (letter_of 0 (request_of s c.port)), put-put e.tunnels t.control.local (tunnel_after t letters calls) _, h.stays.4) refl;
-        });
-        words = h.words;
-        frames = all_push NoFrame t.moves m h.frames tt;
-        stays = h.stays;
-        held = given_held t (letter_of 0 (request_of s c.port)) room h.held;
-      }
+      chain_more moment ev e (at_turn t) _ t.moves m h (record {
+        tunnel = tunnel_after t letters calls;
+        there = there t;
+        open_is = is_open;
+        call = c;
+        waits = found;
+        row = row;
+        session = small;
+        port = refl;
+        room = room;
+        given = refl;
+        after =
+            let changed = with_calls-more t.changed s (Some (advanced e.role call_event.TunnelOpen t.moment c)) calls in
+            let looked = with_looks-more t.changes (cell.Bind s t.control.local t.control.peer) (placed t.control.local t.added e.calls) in
+            rw (changed, looked, one_given t (letter_of 0 (request_of s c.port)), put-put e.tunnels t.control.local (tunnel_after t letters calls) _, now_is) refl;
+      })
+
+  -- it gives one of the letters that it owes
+  requested_fits : (s : ℕ) (c : Call) (t : Turn) → at (with_calls t.changed calls) s ≡ Some c
+      → is_request (call_row e.role c.state call_event.TunnelOpen).1 ≡ true → Holds t.control (with_calls t.changed calls)
+      → Fits (requested e.role s c t).control (with_calls (requested e.role s c t).changed calls)
+  unfolding requested gives with_change with_move with_call advanced
+  requested_fits s c t found row h =
+      let less = requested_owes e.role c.state row in
+      let d = advanced e.role call_event.TunnelOpen t.moment c in
+      fits_changed (counts_given t.control) t s (Some d)
+      (fits_instead t.control (with_calls t.changed calls) s d c found (let before = less.0 in let now = less.1 in omega (arith, before, now)) h)
+
+  requested_ok : (s : ℕ) (c : Call) (t : Turn) → state_number t.control.state ≡ 3 → at (with_calls t.changed calls) s ≡ Some c → s < 65536
+      → is_request (call_row e.role c.state call_event.TunnelOpen).1 ≡ true → has_room t.control ≡ true → TurnOk t → TurnOk (requested e.role s c t)
+  unfolding requested gives with_change with_move with_call
+  requested_ok s c t is_open found small row room h = record {
+    chain = requested_chain s c t is_open found small row room h.stays.4 h.chain;
+    words = h.words;
+    tells = h.tells;
+    frames = all_push NoFrame t.moves _ h.frames tt;
+    stays = h.stays;
+    held = given_held t (letter_of 0 (request_of s c.port)) h.held;
+    fits = requested_fits s c t found row (h.fits.0, h.fits.1, h.fits.2);
+  }
 
   -- ---- the calls that wait
 
@@ -196,7 +241,9 @@ module _ (e : End) (moment : ℕ) (ev : Event) (letters : List Letter) (calls : 
   unfolding requests
   requests_ok s c t is_open found small h =
       branch TurnOk (is_request (call_row e.role c.state call_event.TunnelOpen).1) _ _
-      (λ row. branch TurnOk (has_room t.control) _ _ (λ may. requested_ok s c t is_open found small row may h) (λ full. drops_ok why.Queue t h))
+      (λ row. branch TurnOk (has_room t.control) _ _
+      (λ may. requested_ok s c t is_open found small row may h)
+      (λ full. absurd (is_roomy t h full)))
       (λ none. h)
 
   -- the calls other than one stay
@@ -261,35 +308,99 @@ module _ (e : End) (moment : ℕ) (ev : Event) (letters : List Letter) (calls : 
 
   -- ---- moves of calls
 
-  pub adds_ok : (port s : ℕ) (t : Turn) → t.changes ≡ [] → (state_number t.control.state ≡ 3) ⊎ (state_number t.control.state ≡ 1) → ev ≡ Ring port
-      → e.role ≡ Lac → draws t.sessions ≡ Ok s → TurnOk t → TurnOk (adds e.role port s t)
+  adds_chain : (port s : ℕ) (t : Turn) → t.changes ≡ [] → (state_number t.control.state ≡ 3) ⊎ (state_number t.control.state ≡ 1)
+      → are_too_many (with_calls t.changed calls) ≡ false → may_take t.control (with_calls t.changed calls) ≡ true → ev ≡ Ring port → e.role ≡ Lac
+      → draws t.sessions ≡ Ok s → t.moment ≡ moment → Chain moment ev e t.moves (at_turn t)
+      → Chain moment ev e (adds e.role port s t).moves (at_turn (adds e.role port s t))
   unfolding adds with_move with_new with_looks
-  adds_ok port s t none goes rings lac drawn h =
+  adds_chain port s t none goes few spare rings lac drawn now_is h =
       let m = move.Added (record { tunnel = t.control.local; session = s; port = port }) in
+      chain_more moment ev e (at_turn t) _ t.moves m h (record {
+        tunnel = tunnel_after t letters calls;
+        there = there t;
+        goes = goes;
+        few = few;
+        spare = spare;
+        rings = rings;
+        role = lac;
+        drawn = drawn;
+        after =
+            let changed = with_calls-more t.changed s (Some (rung e.role port t.moment)) calls in
+            let added = placed-more t.control.local t.added s e.calls in
+            rw (none, changed, added, put-put e.tunnels t.control.local (tunnel_after t letters calls) _, now_is) refl;
+      })
+
+  adds_fit : (port s : ℕ) (t : Turn) → are_too_many (with_calls t.changed calls) ≡ false → may_take t.control (with_calls t.changed calls) ≡ true
+      → e.role ≡ Lac → TurnOk t → Holds (adds e.role port s t).control (with_calls (adds e.role port s t).changed calls)
+  unfolding adds with_move with_new
+  adds_fit port s t few spare lac h =
+      let d = rung e.role port t.moment in
+      subst (Holds t.control) (sym (with_calls-more t.changed s (Some d) calls))
+      (holds_new t.control (with_calls t.changed calls) s d (rung_owes e.role port t.moment lac) few spare h.fits)
+
+  small_last : (t : Turn) → t.sessions.last < 65536 → (after_draw t.sessions).last < 65536
+  small_last t small = let l = last_after t.sessions in omega (arith, l, small)
+
+  -- over a tunnel that isn't open the call waits
+  pub adds_ok : (port s : ℕ) (t : Turn) → t.changes ≡ [] → state_number t.control.state ≡ 1
+      → are_too_many (with_calls t.changed calls) ≡ false → may_take t.control (with_calls t.changed calls) ≡ true → ev ≡ Ring port → e.role ≡ Lac
+      → draws t.sessions ≡ Ok s → TurnOk t → TurnOk (adds e.role port s t)
+  unfolding adds with_move with_new
+  adds_ok port s t none waits few spare rings lac drawn h =
+      let fit = adds_fit port s t few spare lac h in
       record {
-        chain = chain_more moment ev e (at_turn t) _ t.moves m h.chain (record {
-          tunnel = tunnel_after t letters calls;
-          there = there t;
-          goes = goes;
-          rings = rings;
-          role = lac;
-          drawn = drawn;
-          after =
-              let changed = with_calls-more t.changed s (Some (rung e.role port t.moment)) calls in
-              let added = placed-more t.control.local t.added s e.calls in
-              rw (none, changed, added, put-put e.tunnels t.control.local (tunnel_after t letters calls) _, h.stays.4) refl;
-        });
+        chain = adds_chain port s t none (inr waits) few spare rings lac drawn h.stays.4 h.chain;
         words = h.words;
-        frames = all_push NoFrame t.moves m h.frames tt;
-        stays = (h.stays.0, h.stays.1, (let l = last_after t.sessions in let x = h.stays.2 in omega (arith, l, x)), h.stays.3, h.stays.4, h.stays.5);
+        tells = h.tells;
+        frames = all_push NoFrame t.moves _ h.frames tt;
+        stays = (h.stays.0, h.stays.1, small_last t h.stays.2, h.stays.3, h.stays.4, h.stays.5);
         held = h.held;
+        fits = (fit.0, fit.1, fit.2, λ o. absurd (omega (arith, waits, o)));
       }
 
+  adds_found : (port s : ℕ) (t : Turn) → at (with_calls (adds e.role port s t).changed calls) s ≡ Some (rung e.role port t.moment)
+  unfolding adds with_move with_new
+  adds_found port s t =
+      let c = rung e.role port t.moment in
+      rw (with_calls-more t.changed s (Some c) calls) (at_new (with_calls t.changed calls) s c)
+
+  adds_requested_ok : (port s : ℕ) (t : Turn) → t.changes ≡ [] → state_number t.control.state ≡ 3
+      → are_too_many (with_calls t.changed calls) ≡ false → may_take t.control (with_calls t.changed calls) ≡ true → ev ≡ Ring port → e.role ≡ Lac
+      → draws t.sessions ≡ Ok s → s < 65536 → is_request (call_row e.role (rung e.role port t.moment).state call_event.TunnelOpen).1 ≡ true
+      → has_room t.control ≡ true → TurnOk t → TurnOk (requested e.role s (rung e.role port t.moment) (adds e.role port s t))
+  unfolding requested gives with_change with_move with_call adds with_new
+  adds_requested_ok port s t none is_open few spare rings lac drawn small row room h =
+      let u = adds e.role port s t in
+      let c = rung e.role port t.moment in
+      let found = adds_found port s t in
+      record {
+        chain = requested_chain s c u is_open found small row room h.stays.4 (adds_chain port s t none (inl is_open) few spare rings lac drawn h.stays.4 h.chain);
+        words = h.words;
+        tells = h.tells;
+        frames = all_push NoFrame _ _ (all_push NoFrame t.moves _ h.frames tt) tt;
+        stays = (h.stays.0, h.stays.1, small_last t h.stays.2, h.stays.3, h.stays.4, h.stays.5);
+        held = given_held t (letter_of 0 (request_of s c.port)) h.held;
+        fits = requested_fits s c u found row (adds_fit port s t few spare lac h);
+      }
+
+  -- over an open one it is asked for at once, so that it owes two letters, and not three
+  pub adds_asked_ok : (port s : ℕ) (t : Turn) → t.changes ≡ [] → state_number t.control.state ≡ 3
+      → are_too_many (with_calls t.changed calls) ≡ false → may_take t.control (with_calls t.changed calls) ≡ true → ev ≡ Ring port → e.role ≡ Lac
+      → draws t.sessions ≡ Ok s → s < 65536 → TurnOk t → TurnOk (requests e.role s (rung e.role port t.moment) (adds e.role port s t))
+  unfolding requests adds with_move with_new
+  adds_asked_ok port s t none is_open few spare rings lac drawn small h =
+      branch TurnOk (is_request (call_row e.role (rung e.role port t.moment).state call_event.TunnelOpen).1) _ _
+      (λ row. branch TurnOk (has_room t.control) _ _
+      (λ may. adds_requested_ok port s t none is_open few spare rings lac drawn small row may h)
+      (λ full. absurd (is_roomy t h full)))
+      (λ no. absurd (true≢false (sym (rung_asks e.role port t.moment lac) ∙ no)))
+
   pub replied_ok : (remote s session serial : ℕ) (calling : Option (List ℕ)) (t : Turn) → t.changes ≡ [] → state_number t.control.state ≡ 3
-      → HearsNext ev t.control session (Icrq remote serial calling) → is_reply (call_row e.role call.Idle call_event.IcrqAcc).1 ≡ true
-      → draws t.sessions ≡ Ok s → has_room t.control ≡ true → TurnOk t → TurnOk (replied e.role remote s t)
+      → HearsNext ev t.control session (Icrq remote serial calling) → at (with_calls t.changed calls) session ≡ None
+      → granted e.role (with_calls t.changed calls) remote t.sessions ≡ Ok s → IsGranted e.role (with_calls t.changed calls) t.sessions s
+      → may_take t.control (with_calls t.changed calls) ≡ true → has_room t.control ≡ true → TurnOk t → TurnOk (replied e.role remote s t)
   unfolding replied gives with_output with_move with_new takes_one with_looks
-  replied_ok remote s session serial calling t none is_open hears row drawn room h =
+  replied_ok remote s session serial calling t none is_open hears unnamed is so spare room h =
       let m = move.Replied (record {
         tunnel = t.control.local;
         peer = t.control.peer;
@@ -307,9 +418,13 @@ module _ (e : End) (moment : ℕ) (ev : Event) (letters : List Letter) (calls : 
           serial = serial;
           calling = calling;
           hears = (session, hears);
-          row = row;
-          drawn = drawn;
+          none = unnamed;
+          granted_is = is;
+          row = so.row;
+          few = so.few;
+          drawn = so.drawn;
           taken = refl;
+          spare = spare;
           room = room;
           given = refl;
           after =
@@ -318,15 +433,20 @@ module _ (e : End) (moment : ℕ) (ev : Event) (letters : List Letter) (calls : 
               rw (none, changed, added, one_given t (letter_of remote (Icrp s)), put-put e.tunnels t.control.local (tunnel_after t letters calls) _, h.stays.4) refl;
         });
         words = h.words;
+        tells = h.tells;
         frames = all_push NoFrame t.moves m h.frames tt;
-        stays = (h.stays.0, h.stays.1, (let l = last_after t.sessions in let x = h.stays.2 in omega (arith, l, x)), h.stays.3, h.stays.4, h.stays.5);
-        held = given_held t (letter_of remote (Icrp s)) room h.held;
+        stays = (h.stays.0, h.stays.1, small_last t h.stays.2, h.stays.3, h.stays.4, h.stays.5);
+        held = given_held t (letter_of remote (Icrp s)) h.held;
+        fits =
+            let d = asked_for e.role remote t.moment in
+            fits_changed (counts_given t.control) t s (Some d)
+            (fits_new t.control (with_calls t.changed calls) s d (replied_owes e.role remote t.moment so.row) so.few spare h.fits);
       }
 
   pub first_up_ok : (s remote : ℕ) (c : Call) (t : Turn) → state_number t.control.state ≡ 3 → at (with_calls t.changed calls) s ≡ Some c
       → HearsNext ev t.control s (Icrp remote) → is_connection (call_row e.role c.state call_event.IcrpAcc).1 ≡ true → has_room t.control ≡ true → TurnOk t
       → TurnOk (first_up e.role s remote c t)
-  unfolding first_up gives with_output with_change with_move with_call takes_one
+  unfolding first_up gives with_output with_change with_move with_call takes_one advanced
   first_up_ok s remote c t is_open found hears row room h =
       let m = move.FirstUp (record {
         tunnel = t.control.local;
@@ -353,16 +473,24 @@ module _ (e : End) (moment : ℕ) (ev : Event) (letters : List Letter) (calls : 
               rw (changed, looked, one_given t (letter_of remote connection), put-put e.tunnels t.control.local (tunnel_after t letters calls) _, h.stays.4) refl;
         });
         words = h.words;
+        tells = h.tells;
         frames = all_push NoFrame t.moves m h.frames tt;
         stays = h.stays;
-        held = given_held t (letter_of remote connection) room h.held;
+        held = given_held t (letter_of remote connection) h.held;
+        fits =
+            let less = connected_owes e.role c.state row in
+            let d = advanced e.role call_event.IcrpAcc t.moment (record c { remote = remote }) in
+            fits_changed (counts_given t.control) t s (Some d)
+            (fits_instead t.control (with_calls t.changed calls) s d c found (let before = less.0 in let now = less.1 in omega (arith, before, now))
+            (h.fits.0, h.fits.1, h.fits.2));
       }
 
   pub second_up_ok : (s speed framing : ℕ) (sequenced : Bool) (c : Call) (t : Turn) → state_number t.control.state ≡ 3
       → at (with_calls t.changed calls) s ≡ Some c → HearsNext ev t.control s (Iccn speed framing sequenced)
-      → is_up (call_row e.role c.state call_event.IccnAcc).0 ≡ true → TurnOk t → TurnOk (second_up e.role s c t)
-  unfolding second_up with_change with_move with_call takes_one
-  second_up_ok s speed framing sequenced c t is_open found hears row h =
+      → is_up (call_row e.role c.state call_event.IccnAcc).0 ≡ true → may_take t.control (with_calls t.changed calls) ≡ true → TurnOk t
+      → TurnOk (second_up e.role s c t)
+  unfolding second_up with_change with_move with_call takes_one advanced
+  second_up_ok s speed framing sequenced c t is_open found hears row spare h =
       let m = move.SecondUp (record { tunnel = t.control.local; session = s; taken = taken_place t.control }) in
       let bind = cell.Bind s t.control.local t.control.peer in
       let places = placed t.control.local t.added e.calls in
@@ -386,9 +514,13 @@ module _ (e : End) (moment : ℕ) (ev : Event) (letters : List Letter) (calls : 
               rw (changed, established, bound, put-put e.tunnels t.control.local (tunnel_after t letters calls) _, h.stays.4) refl;
         });
         words = h.words;
+        tells = h.tells;
         frames = all_push NoFrame t.moves m h.frames tt;
         stays = h.stays;
         held = h.held;
+        fits =
+            let d = advanced e.role call_event.IccnAcc t.moment c in
+            fits_changed t.control t s (Some d) (fits_up t.control (with_calls t.changed calls) s d c found (up_owes _ row) spare h.fits);
       }
 
   pub end_heard_ok : (s session remote code : ℕ) (error : Option ℕ) (c : Call) (t : Turn) → state_number t.control.state ≡ 3
@@ -417,17 +549,20 @@ module _ (e : End) (moment : ℕ) (ev : Event) (letters : List Letter) (calls : 
               rw (changed, looked, put-put e.tunnels t.control.local (tunnel_after t letters calls) _) refl;
         });
         words = all_push IsWord t.outputs (Gone s) h.words tt;
+        tells = all_push _ t.outputs (Gone s) h.tells tt;
         frames = all_push NoFrame t.moves m h.frames tt;
         stays = h.stays;
         held = h.held;
+        fits = fits_changed t.control t s None (fits_without t.control (with_calls t.changed calls) s h.fits);
       }
 
   -- ---- moves of the tunnel
 
   pub connected_ok : (remote window session : ℕ) (o : Opening) (t : Turn) → t.control.state ≡ WaitCtlReply → HearsNext ev t.control session (Sccrp o)
-      → remote ≡ o.tunnel → window ≡ o.window → has_room t.control ≡ true → TurnOk t → TurnOk (connected remote window Established t)
+      → remote ≡ o.tunnel → window ≡ o.window → may_take t.control (with_calls t.changed calls) ≡ true → has_room t.control ≡ true → TurnOk t
+      → TurnOk (connected remote window Established t)
   unfolding connected gives with_move takes_one
-  connected_ok remote window session o t state hears is is_window room h =
+  connected_ok remote window session o t state hears is is_window spare room h =
       let m = move.Connected (record {
         tunnel = t.control.local;
         remote = remote;
@@ -446,21 +581,29 @@ module _ (e : End) (moment : ℕ) (ev : Event) (letters : List Letter) (calls : 
           remote = is;
           window = is_window;
           taken = refl;
+          spare = spare;
           room = room;
           given = refl;
           after = rw (learnt_local window c, one_given t (letter_of 0 Scccn), put-put e.tunnels t.control.local (tunnel_after t letters calls) _) refl;
         });
         words = h.words;
+        tells = h.tells;
         frames = all_push NoFrame t.moves m h.frames tt;
         stays = (learnt_local window c ∙ h.stays.0, rw (learnt_state window c) (λ z. absurd (omega (arith, z))), h.stays.2, h.stays.3, h.stays.4, h.stays.5);
         held = subst (Held (sending.one_more (learns_window window c).channel.window)) (sym (one_given t (letter_of 0 Scccn)))
-            (held_given (learns_window window c).channel.window (letters_after t letters) (letter_of 0 Scccn) (learnt_room window c ∙ room)
+            (held_given (learns_window window c).channel.window (letters_after t letters) (letter_of 0 Scccn)
             (held_learnt window c (letters_after t letters) h.held));
+        fits =
+            let cs = with_calls t.changed calls in
+            let most = spare_most t.control cs spare in
+            let count = learnt_queued window c in
+            fits_given (learns_window window c) cs h.fits.0 h.fits.1 (omega (arith, most, count));
       }
 
-  pub confirms_ok : (session : ℕ) (t : Turn) → t.control.state ≡ WaitCtlConn → HearsNext ev t.control session Scccn → TurnOk t → TurnOk (confirms Established t)
+  pub confirms_ok : (session : ℕ) (t : Turn) → t.control.state ≡ WaitCtlConn → HearsNext ev t.control session Scccn
+      → may_take t.control (with_calls t.changed calls) ≡ true → TurnOk t → TurnOk (confirms Established t)
   unfolding confirms with_move takes_one
-  confirms_ok session t state hears h =
+  confirms_ok session t state hears spare h =
       let m = move.Confirmed (record { tunnel = t.control.local; taken = taken_place t.control }) in
       record {
         chain = chain_more moment ev e (at_turn t) _ t.moves m h.chain (record {
@@ -472,9 +615,11 @@ module _ (e : End) (moment : ℕ) (ev : Event) (letters : List Letter) (calls : 
           after = rw (put-put e.tunnels t.control.local (tunnel_after t letters calls) _) refl;
         });
         words = h.words;
+        tells = h.tells;
         frames = all_push NoFrame t.moves m h.frames tt;
         stays = (h.stays.0, (λ z. absurd (omega (arith, z))), h.stays.2, h.stays.3, h.stays.4, h.stays.5);
         held = h.held;
+        fits = fits_open t.control (in_state Established t.control) (with_calls t.changed calls) refl spare h.fits;
       }
 
   -- a letter on which nothing is done in a turn
@@ -491,19 +636,58 @@ module _ (e : End) (moment : ℕ) (ev : Event) (letters : List Letter) (calls : 
           there = there t;
           comes = comes.comes;
           why = comes.why;
-          plain = λ waits opening said. comes.why (Sccrp opening) said waits;
           taken = refl;
           after = rw (put-put e.tunnels t.control.local (tunnel_after t letters calls) _) refl;
         });
         words = h.words;
+        tells = h.tells;
         frames = all_push NoFrame t.moves m h.frames tt;
         stays = h.stays;
         held = h.held;
+        fits = h.fits;
       }
 
-  pub ignores_ok : (w : Why) (t : Turn) → PlainAt t → TurnOk t → TurnOk (ignores w t)
+  pub ignores_ok : (w : Why) → Founded e moment ev w → (t : Turn) → PlainAt t → TurnOk t → TurnOk (ignores w t)
   unfolding ignores
-  ignores_ok w t comes h = drops_ok w (takes_plain t) (plain_ok t comes h)
+  ignores_ok w so t comes h = drops_ok w so (takes_plain t) (plain_ok t comes h)
+
+  -- a letter about a call that there isn't
+  pub refused_ok : (r : Reason) → Stands e moment ev r.cause → (remote : ℕ) (t : Turn) → state_number t.control.state ≡ 3 → (next : ComesNext ev t.control)
+      → ((m : Refused) → m.remote ≡ remote → m.result ≡ r.result → m.error ≡ r.error
+      → WhyRefused (at_turn t) (tunnel_after t letters calls) next.header.session (message_in (body_of next.header next.bytes))
+      (call_fault_in (body_of next.header next.bytes)) m)
+      → may_take t.control (with_calls t.changed calls) ≡ true → has_room t.control ≡ true → TurnOk t → TurnOk (refused r remote t)
+  unfolding refused gives with_output with_move takes_one
+  refused_ok r so remote t is_open next why spare room h =
+      let m = move.Refused (record {
+        tunnel = t.control.local;
+        remote = remote;
+        result = r.result;
+        error = r.error;
+        taken = taken_place t.control;
+        given = next_place t.control;
+      }) in
+      let l = letter_of remote (Cdn 0 r.result r.error) in
+      record {
+        chain = chain_more moment ev e (at_turn t) _ t.moves m h.chain (record {
+          tunnel = tunnel_after t letters calls;
+          there = there t;
+          open_is = is_open;
+          comes = next;
+          why = why _ refl refl refl;
+          taken = refl;
+          spare = spare;
+          room = room;
+          given = refl;
+          after = rw (one_given t l, put-put e.tunnels t.control.local (tunnel_after t letters calls) _) refl;
+        });
+        words = all_push IsWord t.outputs (Cause r.cause) h.words tt;
+        tells = all_push _ t.outputs (Cause r.cause) h.tells so;
+        frames = all_push NoFrame t.moves m h.frames tt;
+        stays = h.stays;
+        held = given_held t l h.held;
+        fits = fits_spare t.control (with_calls t.changed calls) h.fits spare;
+      }
 
   -- Nr is read before anything is given
   pub reads_ok : (nr : ℕ) (t : Turn) → t.given ≡ [] → t.acked ≡ 0 → TellsNr ev t.control nr → TurnOk t → TurnOk (reads_nr nr t)
@@ -521,8 +705,10 @@ module _ (e : End) (moment : ℕ) (ev : Event) (letters : List Letter) (calls : 
           after = rw (put-put e.tunnels t.control.local (tunnel_after t letters calls) _, all, left, h.stays.4) refl;
         });
         words = h.words;
+        tells = h.tells;
         frames = all_push NoFrame t.moves m h.frames tt;
         stays = h.stays;
         held = subst (Held (sending.acked_at t.control.channel.window nr t.moment)) (sym left)
             (held_read t.control.channel.window letters nr t.moment (subst (Held t.control.channel.window) all h.held));
+        fits = fits_acked t.control nr t.moment (with_calls t.changed calls) h.fits;
       }

@@ -5,6 +5,8 @@ use Rattle.std.specs.List.{flat_map}
 use Rattle.id_table.specs.Ids.{at, ids_of}
 use Rattle.wire_base.specs.declared.why.Why.{Why}
 use Rattle.wire_base.specs.declared.why.Why.TheVariants as why
+use Rattle.wire_base.specs.declared.cause.Cause.{Cause as CauseOf}
+use Rattle.wire_base.specs.declared.cause.Cause.TheVariants as cause
 use Rattle.l2tp_header.specs.declared.header.Header.{Header}
 use Rattle.l2tp_header.specs.declared.header.HeaderError.{HeaderError}
 use Rattle.l2tp_header.specs.Reading.{header_of}
@@ -14,12 +16,13 @@ use Rattle.protocol_model.specs.declared.tunnel.Role.TheVariants.{Lac, Lns}
 use Rattle.protocol_model.specs.declared.event.Addressee.{Addressee}
 use Rattle.protocol_model.specs.declared.event.Addressee.TheVariants.{Opens, Main, Nobody}
 use Rattle.protocol_model.specs.declared.event.Event.{Event}
-use Rattle.protocol_model.specs.declared.event.Event.TheVariants.{Datagram, Ring, Payload, Lower, OpenTunnel, Tick}
-use Rattle.protocol_model.specs.declared.out.Out.TheVariants.{Drop}
+use Rattle.protocol_model.specs.declared.event.Event.TheVariants.{Datagram, Ring, Payload, Lower, Hang, OpenTunnel, DropCall, Tick}
+use Rattle.protocol_model.specs.declared.out.Out.{Out}
+use Rattle.protocol_model.specs.declared.out.Out.TheVariants.{Drop, Cause}
 use Rattle.protocol_model.specs.Reading.{header_why, body_of}
 use Rattle.protocol_model.specs.Calls.{is_lac, Carried, Upward, Dropped}
 use Rattle.protocol_model.specs.Turn.{Tunnel, Env, turn_of, fresh, turns}
-use Rattle.protocol_model.specs.End.{End, Stepped, env_of, gives_only, after_turn, after_new, in_new, in_main, addressed, for_addressee, least_in, rings_in, rings_at, gives_frame, handed, hands_up, receives, Turned, tick_of, ticks_of, after_all, ticks_all, only_by, step_in, step}
+use Rattle.protocol_model.specs.End.{End, Stepped, env_of, gives_only, after_turn, after_new, in_new, has_all_tunnels, in_one_more, in_main, addressed, for_addressee, least_in, rings_in, rings_at, for_call, handed, hands_up, receives, Turned, tick_of, ticks_of, after_all, ticks_all, only_by, step_in, step}
 use Rattle.step_laws.specs.Ups.{ups_of_output, ups_of_move, births_of_move, reads_of_move, most_ups, most_births, most_reads, UpsAreMoves, UpsAreFew, BirthsAreFew, ReadsAreFew}
 use Rattle.step_laws.proofs.Lists.{branch}
 use Rattle.step_laws.proofs.Quiet.{AreQuiet, nothing, turns_quiet, both_quiet}
@@ -37,6 +40,10 @@ quiet_told ev s h = record { same = h.no_output ∙ sym h.no_move; ups = rw h.no
 dropped_told : (ev : Event) (e : End) (w : Why) → IsTold ev (gives_only e (Drop w))
 unfolding gives_only
 dropped_told ev e w = record { same = refl; ups = omega arith; births = omega arith; reads = omega arith }
+
+caused_told : (ev : Event) (e : End) (c : CauseOf) → IsTold ev (gives_only e (Cause c))
+unfolding gives_only
+caused_told ev e c = record { same = refl; ups = omega arith; births = omega arith; reads = omega arith }
 
 module _ (e : End) (moment : ℕ) (block : List ℕ) where
   abbrev env : Env
@@ -57,11 +64,15 @@ module _ (e : End) (moment : ℕ) (block : List ℕ) where
       (λ zero. quiet_told ev _ quiet)
       (λ some. quiet_told ev _ quiet)
 
+  more_told : (ev : Event) (peer : ℕ) (o : Out) → IsTold ev (gives_only e o) → IsTold ev (in_one_more e env ev peer o)
+  unfolding in_one_more
+  more_told ev peer o refused = branch (IsTold ev) (has_all_tunnels e.tunnels) _ _ (λ all. refused) (λ fewer. new_told ev peer)
+
   -- ---- datagrams
 
   addressee_told : (ev : Event) (peer : ℕ) (a : Addressee) → IsTold ev (for_addressee e env ev peer a)
   unfolding for_addressee
-  addressee_told ev peer (Opens remote) = new_told ev peer
+  addressee_told ev peer (Opens remote) = more_told ev peer (Drop why.Tunnel) (dropped_told ev e why.Tunnel)
   addressee_told ev peer (Main i) = main_told ev i (at e.tunnels i)
   addressee_told ev peer (Nobody w) = dropped_told ev e w
 
@@ -78,18 +89,18 @@ module _ (e : End) (moment : ℕ) (block : List ℕ) where
       (λ control. addressee_told (Datagram peer bytes) peer (addressed e peer h (body_of h bytes)))
       (λ data_is. handed_told peer bytes h.session _)
 
-  -- ---- rings and frames
+  -- ---- rings and calls
 
   rings_told : (ev : Event) (open_one opening : Option ℕ) → IsTold ev (rings_in e env ev open_one opening)
   unfolding rings_in
   rings_told ev (Some i) opening = main_told ev i (at e.tunnels i)
   rings_told ev None (Some i) = main_told ev i (at e.tunnels i)
-  rings_told ev None None = new_told ev e.config.lns
+  rings_told ev None None = more_told ev e.config.lns (Cause cause.Tunnels) (caused_told ev e cause.Tunnels)
 
-  frame_told : (ev : Event) (o : Option CallPlace) → IsTold ev (gives_frame e env ev o)
-  unfolding gives_frame
-  frame_told ev None = dropped_told ev e why.Call
-  frame_told ev (Some p) = main_told ev p.tunnel (at e.tunnels p.tunnel)
+  call_told : (ev : Event) (o : Option CallPlace) → IsTold ev (for_call e env ev o)
+  unfolding for_call
+  call_told ev None = dropped_told ev e why.Call
+  call_told ev (Some p) = main_told ev p.tunnel (at e.tunnels p.tunnel)
 
   -- ---- time
 
@@ -122,10 +133,12 @@ module _ (e : End) (moment : ℕ) (block : List ℕ) where
   step_told (Datagram peer bytes) = received_told peer bytes (header_of bytes)
   step_told (Ring port) =
       by_lac (Ring port) _ (rings_told (Ring port) (least_in Established e.config.lns e.tunnels) (least_in WaitCtlReply e.config.lns e.tunnels))
-  step_told (Payload s frame) = by_lac (Payload s frame) _ (frame_told (Payload s frame) (at e.calls s))
-  step_told (Lower s frame) = by_lns (Lower s frame) _ (frame_told (Lower s frame) (at e.calls s))
+  step_told (Payload s frame) = by_lac (Payload s frame) _ (call_told (Payload s frame) (at e.calls s))
+  step_told (Lower s frame) = by_lns (Lower s frame) _ (call_told (Lower s frame) (at e.calls s))
+  step_told (Hang s) = by_lac (Hang s) _ (call_told (Hang s) (at e.calls s))
+  step_told (DropCall s) = call_told (DropCall s) (at e.calls s)
   step_told Tick = all_told
-  step_told OpenTunnel = by_lac OpenTunnel _ (new_told OpenTunnel e.config.lns)
+  step_told OpenTunnel = by_lac OpenTunnel _ (more_told OpenTunnel e.config.lns (Cause cause.Tunnels) (caused_told OpenTunnel e cause.Tunnels))
 
 pub ups_are_moves : UpsAreMoves
 ups_are_moves e moment block ev = (step_told e moment block ev).same

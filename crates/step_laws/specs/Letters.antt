@@ -44,7 +44,8 @@ letters_of role c (move.Connected m) = letter m.tunnel m.given 0 Scccn
 letters_of role c (move.Requested m) = letter m.tunnel m.given 0 (request_of m.session m.port)
 letters_of role c (move.Replied m) = letter m.tunnel m.given m.remote (Icrp m.session)
 letters_of role c (move.FirstUp m) = letter m.tunnel m.given m.remote connection
-letters_of role c (move.EndTold m) = letter m.tunnel m.given m.remote (Cdn m.session m.code None)
+letters_of role c (move.Refused m) = letter m.tunnel m.given m.remote (Cdn 0 m.result m.error)
+letters_of role c (move.EndTold m) = letter m.tunnel m.given m.remote (Cdn m.session m.result m.error)
 letters_of role c (move.Greeted m) = letter m.tunnel m.given 0 Hello
 letters_of role c m = []
 

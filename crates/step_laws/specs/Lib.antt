@@ -1,5 +1,9 @@
 pub mod Letters
 pub mod Moves
 pub mod Steps
+pub mod Left
 pub mod Looks
 pub mod Ups
+pub mod Room
+pub mod Causes
+pub mod Codes

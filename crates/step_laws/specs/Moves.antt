@@ -1,12 +1,14 @@
 -- What each move needs before it, and what it changes.
-use Rattle.std.specs.Prelude.{◌≡◌, ℕ, ◌<◌, ◌⊎◌, Bool, true, false, List, [], ◌∷◌, ◌++◌, drop, map, length, Option, None, Some, unwrap_or, Ok, Err}
+use Rattle.std.specs.Prelude.{◌≡◌, ℕ, ◌<◌, ◌⊎◌, Bool, true, false, List, [], ◌∷◌, ◌++◌, drop, map, length, Option, None, Some, unwrap_or, Result, Ok, Err}
+use Rattle.wire_base.specs.declared.why.Why.{Why}
 use Rattle.id_table.specs.Ids.{at, put, without, ids_of}
-use Rattle.id_source.specs.declared.IdError.{IdError}
 use Rattle.id_source.specs.Spaces.{draws, after_draw}
 use Rattle.l2tp_header.specs.declared.header.Header.{Header}
 use Rattle.l2tp_header.specs.Reading.{header_of}
 use Rattle.control_message.specs.declared.message.Message.{Message}
-use Rattle.control_message.specs.declared.message.Message.TheVariants.{Sccrq, Sccrp, Scccn, Hello, Icrq, Icrp, Iccn, Cdn}
+use Rattle.control_message.specs.declared.message.Message.TheVariants.{Sccrq, Sccrp, Scccn, StopCcn, Hello, Ocrq, Ocrp, Occn, Icrq, Icrp, Iccn, Cdn, Wen, Sli}
+use Rattle.control_message.specs.declared.kind.Kind.{Kind}
+use Rattle.control_message.specs.declared.kind.Kind.TheVariants as kind
 use Rattle.control_message.specs.declared.message.Opening.{Opening}
 use Rattle.send_window.specs.declared.window.Tick.TheVariants.{Again, Failed}
 use Rattle.recv_window.specs.declared.Class.TheVariants.{Next}
@@ -16,15 +18,16 @@ use Rattle.tunnel_fsm.specs.declared.table.TunnelState.{TunnelState}
 use Rattle.tunnel_fsm.specs.declared.table.TunnelState.TheVariants.{WaitCtlReply, WaitCtlConn, Established}
 use Rattle.tunnel_fsm.specs.Rows.{state_number}
 use Rattle.call_fsm.specs.declared.table.CallState.TheVariants as call
+use Rattle.call_fsm.specs.declared.table.CallEvent.{CallEvent}
 use Rattle.call_fsm.specs.declared.table.CallEvent.TheVariants as call_event
 use Rattle.protocol_model.specs.declared.tunnel.Call.{Call}
 use Rattle.protocol_model.specs.declared.tunnel.CallPlace.{CallPlace}
 use Rattle.protocol_model.specs.declared.tunnel.Look.TheVariants as look
 use Rattle.protocol_model.specs.declared.tunnel.CellChange.TheVariants as cell
 use Rattle.protocol_model.specs.declared.tunnel.Control.{Control}
-use Rattle.protocol_model.specs.declared.tunnel.Role.TheVariants.{Lac}
+use Rattle.protocol_model.specs.declared.tunnel.Role.TheVariants.{Lac, Lns}
 use Rattle.protocol_model.specs.declared.event.Event.{Event}
-use Rattle.protocol_model.specs.declared.event.Event.TheVariants.{Datagram, Ring, Payload, Lower, Tick}
+use Rattle.protocol_model.specs.declared.event.Event.TheVariants.{Datagram, Ring, Payload, Lower, Hang, DropCall, Tick}
 use Rattle.protocol_model.specs.declared.moves.Opened.{Opened}
 use Rattle.protocol_model.specs.declared.moves.Accepted.{Accepted}
 use Rattle.protocol_model.specs.declared.moves.Connected.{Connected}
@@ -32,6 +35,7 @@ use Rattle.protocol_model.specs.declared.moves.Confirmed.{Confirmed}
 use Rattle.protocol_model.specs.declared.moves.Added.{Added}
 use Rattle.protocol_model.specs.declared.moves.Requested.{Requested}
 use Rattle.protocol_model.specs.declared.moves.Replied.{Replied}
+use Rattle.protocol_model.specs.declared.moves.Refused.{Refused}
 use Rattle.protocol_model.specs.declared.moves.FirstUp.{FirstUp}
 use Rattle.protocol_model.specs.declared.moves.SecondUp.{SecondUp}
 use Rattle.protocol_model.specs.declared.moves.TookPlain.{TookPlain}
@@ -46,9 +50,9 @@ use Rattle.protocol_model.specs.declared.moves.FrameSent.{FrameSent}
 use Rattle.protocol_model.specs.declared.moves.FrameUp.{FrameUp}
 use Rattle.protocol_model.specs.declared.moves.Move.{Move}
 use Rattle.protocol_model.specs.declared.moves.Move.TheVariants as move
-use Rattle.protocol_model.specs.Reading.{body_of, message_in}
-use Rattle.protocol_model.specs.Calls.{call_row, advanced, rung, asked_for, is_request, is_reply, is_connection, is_told, is_up, is_set_up, frame_of, side_of}
-use Rattle.protocol_model.specs.Turn.{Tunnel, has_room, place, next_place, taken_place, letter_of, fresh, counts_given, counts_taken, counts_acked, counts_sent, counts_repeated, learns_window, in_state, opening_of, request_of, connection, is_clean_up, session_named, is_over, patience, is_being_set_up}
+use Rattle.protocol_model.specs.Reading.{body_of, message_in, CallFault, call_fault_in}
+use Rattle.protocol_model.specs.Calls.{call_row, advanced, rung, asked_for, is_request, is_reply, is_connection, is_told, is_up, is_set_up, are_too_many, frame_of, side_of}
+use Rattle.protocol_model.specs.Turn.{Tunnel, has_room, may_take, place, next_place, taken_place, letter_of, fresh, counts_given, counts_taken, counts_acked, counts_sent, counts_repeated, learns_window, in_state, opening_of, request_of, connection, is_clean_up, session_named, Reason, granted, fault_error, is_over, patience, is_being_set_up}
 use Rattle.protocol_model.specs.End.{End, new_place, with_look, with_looks}
 
 -- ---- what came
@@ -101,6 +105,22 @@ pub record TellsNr (ev : Event) (c : Control) (nr : ℕ) : Type 0 where
   pub control : header.control ≡ true
   pub tunnel : IsFor header bytes c
   pub tells : nr ≡ unwrap_or header.nr 0
+
+-- a control message of a tunnel's peer, for the tunnel, with the session id of its header
+pub record InTunnel (ev : Event) (c : Control) (session : ℕ) (m : Message) : Type 0 where
+  pub hears : Hears ev c.peer session m
+  pub tunnel : IsFor hears.header hears.bytes c
+
+-- one about a call that has a fault
+pub record IsFaulty (ev : Event) (c : Control) (session : ℕ) (f : CallFault) : Type 0 where
+  pub bytes : List ℕ
+  pub is : ev ≡ Datagram c.peer bytes
+  pub header : Header
+  pub read : header_of bytes ≡ Ok header
+  pub control : header.control ≡ true
+  pub session_is : header.session ≡ session
+  pub tunnel : IsFor header bytes c
+  pub fault : call_fault_in (body_of header bytes) ≡ Some f
 
 -- a frame that a peer sent
 pub record HearsFrame (ev : Event) (peer tunnel session : ℕ) (frame : List ℕ) : Type 0 where
@@ -162,6 +182,7 @@ pub record Connects (e : End) (ev : Event) (m : Connected) (x : End) : Type 0 wh
   pub remote : m.remote ≡ opening.tunnel
   pub window : m.window ≡ opening.window
   pub taken : m.taken ≡ taken_place tunnel.control
+  pub spare : may_take tunnel.control tunnel.calls ≡ true
   pub room : has_room tunnel.control ≡ true
   pub given : m.given ≡ next_place tunnel.control
   pub after : x ≡ with_tunnel e m.tunnel (with_letter 0 Scccn (record tunnel {
@@ -182,6 +203,9 @@ pub record Adds (e : End) (moment : ℕ) (ev : Event) (m : Added) (x : End) : Ty
   pub there : at e.tunnels m.tunnel ≡ Some tunnel
   -- it is open, or its SCCRQ isn't answered yet
   pub goes : (state_number tunnel.control.state ≡ 3) ⊎ (state_number tunnel.control.state ≡ 1)
+  -- it has fewer than 4,096 calls, and room for the letters that one more owes
+  pub few : are_too_many tunnel.calls ≡ false
+  pub spare : may_take tunnel.control tunnel.calls ≡ true
   pub rings : ev ≡ Ring m.port
   pub role : e.role ≡ Lac
   pub drawn : draws e.session_ids ≡ Ok m.session
@@ -213,9 +237,14 @@ pub record Replies (e : End) (moment : ℕ) (ev : Event) (m : Replied) (x : End)
   pub serial : ℕ
   pub calling : Option (List ℕ)
   pub hears : (session : ℕ) × HearsNext ev tunnel.control session (Icrq m.remote serial calling)
+  -- it names no call, and none of the causes stands for which there can be no call
+  pub none : at tunnel.calls hears.0 ≡ None
+  pub granted_is : granted e.role tunnel.calls m.remote e.session_ids ≡ Ok m.session
   pub row : is_reply (call_row e.role call.Idle call_event.IcrqAcc).1 ≡ true
+  pub few : are_too_many tunnel.calls ≡ false
   pub drawn : draws e.session_ids ≡ Ok m.session
   pub taken : m.taken ≡ taken_place tunnel.control
+  pub spare : may_take tunnel.control tunnel.calls ≡ true
   pub room : has_room tunnel.control ≡ true
   pub given : m.given ≡ next_place tunnel.control
   pub after : x ≡ record (with_tunnel e m.tunnel (with_letter m.remote (Icrp m.session) (record tunnel {
@@ -266,20 +295,73 @@ pub record TookTooLong (ev : Event) (moment : ℕ) (c : Call) : Type 0 where
   pub set_up : is_set_up c.state ≡ true
   pub over : is_over patience moment c.since ≡ true
 
--- of a call that is neither waiting nor idle the peer is told, with result code 10 (RFC 2661 section 4.4.2)
+-- the event of a call's table that a faulty message is
+abbrev pub fault_event : Kind → CallEvent
+fault_event kind.Icrq = call_event.IcrqNotAcc
+fault_event kind.Icrp = call_event.IcrpNotAcc
+fault_event kind.Iccn = call_event.IccnNotAcc
+fault_event k = call_event.Close
+
+-- why a call ends: the event of its table, and the codes of the CDN that tells it (RFC 2661 section 4.4.2)
+pub data WhyEnds (e : End) (t : Tunnel) (ev : Event) (moment session : ℕ) (c : Call) (on : CallEvent) (result : ℕ) (error : Option ℕ) : Type 0 where
+  IsLate : TookTooLong ev moment c → on ≡ call_event.Close → result ≡ 10 → error ≡ None → WhyEnds e t ev moment session c on result error
+  IsDropped : ev ≡ DropCall session → on ≡ call_event.Close → result ≡ 3 → error ≡ None → WhyEnds e t ev moment session c on result error
+  IsHungUp : ev ≡ Hang session → on ≡ call_event.LineDrop → result ≡ 1 → error ≡ None → WhyEnds e t ev moment session c on result error
+  -- it was asked for once more, or by an end that asks for calls itself
+  IsAsked : (remote serial : ℕ) (calling : Option (List ℕ)) → InTunnel ev t.control session (Icrq remote serial calling)
+      → ((on ≡ call_event.IcrqAcc) × (result ≡ 2) × (error ≡ Some 5)) ⊎ ((on ≡ call_event.IcrqNotAcc)
+      × ((r : Reason) × (granted e.role t.calls remote e.session_ids ≡ Err r) × (result ≡ r.result) × (error ≡ r.error)))
+      → WhyEnds e t ev moment session c on result error
+  -- its reply, or its connection, came out of state
+  IsReplied : (remote : ℕ) → InTunnel ev t.control session (Icrp remote) → on ≡ call_event.IcrpAcc → result ≡ 2 → error ≡ Some 5
+      → WhyEnds e t ev moment session c on result error
+  IsConnected : (speed framing : ℕ) (sequenced : Bool) → InTunnel ev t.control session (Iccn speed framing sequenced)
+      → on ≡ call_event.IccnAcc → result ≡ 2 → error ≡ Some 5 → WhyEnds e t ev moment session c on result error
+  -- a message about it has a fault
+  HasFault : (header : ℕ) (f : CallFault) → IsFaulty ev t.control header f → on ≡ fault_event f.kind → result ≡ 2 → error ≡ Some (fault_error f.cause)
+      → WhyEnds e t ev moment session c on result error
+
+-- of a call that is neither waiting nor idle the peer is told
 pub record TellsEnd (e : End) (moment : ℕ) (ev : Event) (m : EndTold) (x : End) : Type 0 where
   pub tunnel : Tunnel
   pub there : at e.tunnels m.tunnel ≡ Some tunnel
   pub call : Call
   pub live : at tunnel.calls m.session ≡ Some call
-  pub late : TookTooLong ev moment call
-  pub row : is_told (call_row e.role call.state call_event.Close).1 ≡ true
+  pub on : CallEvent
+  pub why : WhyEnds e tunnel ev moment m.session call on m.result m.error
+  pub row : is_told (call_row e.role call.state on).1 ≡ true
   pub session : m.session < 65536
   pub remote : m.remote ≡ call.remote
-  pub code : m.code ≡ 10
   pub room : has_room tunnel.control ≡ true
   pub given : m.given ≡ next_place tunnel.control
-  pub after : x ≡ without_call e m.tunnel (with_letter m.remote (Cdn m.session m.code None) tunnel) m.session
+  pub after : x ≡ without_call e m.tunnel (with_letter m.remote (Cdn m.session m.result m.error) tunnel) m.session
+
+-- why there is no call, and what the CDN says that tells it: the session id that the letter tells, and the codes
+pub data WhyRefused (e : End) (t : Tunnel) (header : ℕ) (said : Result Message Why) (fault : Option CallFault) (m : Refused) : Type 0 where
+  -- a request that can't be granted
+  IsNotGranted : (remote serial : ℕ) (calling : Option (List ℕ)) (r : Reason) → said ≡ Ok (Icrq remote serial calling) → at t.calls header ≡ None
+      → granted e.role t.calls remote e.session_ids ≡ Err r → m.remote ≡ remote → m.result ≡ r.result → m.error ≡ r.error
+      → WhyRefused e t header said fault m
+  -- no end places calls
+  IsOutgoing : (remote : ℕ) → said ≡ Ok (Ocrq remote) → m.remote ≡ remote → m.result ≡ 5 → m.error ≡ None → WhyRefused e t header said fault m
+  -- a reply to an end that asks for none
+  IsReplyToNone : (remote : ℕ) → said ≡ Ok (Icrp remote) → at t.calls header ≡ None → e.role ≡ Lns → m.remote ≡ remote → m.result ≡ 2 → m.error ≡ Some 5
+      → WhyRefused e t header said fault m
+  IsWrong : (f : CallFault) → fault ≡ Some f → m.remote ≡ unwrap_or f.session 0 → m.result ≡ 2 → m.error ≡ Some (fault_error f.cause)
+      → WhyRefused e t header said fault m
+
+-- a letter about a call that there isn't is answered by a CDN that names none
+pub record Refuses (e : End) (ev : Event) (m : Refused) (x : End) : Type 0 where
+  pub tunnel : Tunnel
+  pub there : at e.tunnels m.tunnel ≡ Some tunnel
+  pub open_is : state_number tunnel.control.state ≡ 3
+  pub comes : ComesNext ev tunnel.control
+  pub why : WhyRefused e tunnel comes.header.session (message_in (body_of comes.header comes.bytes)) (call_fault_in (body_of comes.header comes.bytes)) m
+  pub taken : m.taken ≡ taken_place tunnel.control
+  pub spare : may_take tunnel.control tunnel.calls ≡ true
+  pub room : has_room tunnel.control ≡ true
+  pub given : m.given ≡ next_place tunnel.control
+  pub after : x ≡ with_tunnel e m.tunnel (with_letter m.remote (Cdn 0 m.result m.error) (record tunnel { control = counts_taken tunnel.control }))
 
 -- the peer's CDN names a live call: by its session id, or, where the header has none, by the one that the peer assigned
 pub record HearsEnd (e : End) (ev : Event) (m : EndHeard) (x : End) : Type 0 where
@@ -301,8 +383,11 @@ pub record EndsSilently (e : End) (moment : ℕ) (ev : Event) (m : EndSilent) (x
   pub there : at e.tunnels m.tunnel ≡ Some tunnel
   pub call : Call
   pub live : at tunnel.calls m.session ≡ Some call
-  pub late : TookTooLong ev moment call
-  pub row : is_clean_up (call_row e.role call.state call_event.Close).1 ≡ true
+  pub on : CallEvent
+  pub result : ℕ
+  pub error : Option ℕ
+  pub why : WhyEnds e tunnel ev moment m.session call on result error
+  pub row : is_clean_up (call_row e.role call.state on).1 ≡ true
   pub after : x ≡ without_call e m.tunnel tunnel m.session
 
 -- a tunnel took as long as one may to be set up, or its peer acknowledged nothing as long as a letter is repeated
@@ -336,8 +421,14 @@ IsPlain e t session (Sccrq o) = Unit {0}
 IsPlain e t session (Sccrp o) = state_number t.control.state ≡ 1 → ⊥
 IsPlain e t session Scccn = state_number t.control.state ≡ 2 → ⊥
 IsPlain e t session Hello = Unit {0}
-IsPlain e t session (Icrq remote serial calling) = state_number t.control.state ≡ 3
-    → (is_reply (call_row e.role call.Idle call_event.IcrqAcc).1 ≡ false) ⊎ ((x : IdError) × (draws e.session_ids ≡ Err x))
+IsPlain e t session (StopCcn tunnel code error) = Unit {0}
+IsPlain e t session (Ocrq remote) = state_number t.control.state ≡ 3 → ⊥
+IsPlain e t session Ocrp = Unit {0}
+IsPlain e t session Occn = Unit {0}
+IsPlain e t session Wen = Unit {0}
+IsPlain e t session Sli = Unit {0}
+-- a request that names a call makes none
+IsPlain e t session (Icrq remote serial calling) = state_number t.control.state ≡ 3 → (c : Call) × (at t.calls session ≡ Some c)
 IsPlain e t session (Icrp remote) = state_number t.control.state ≡ 3
     → (c : Call) → at t.calls session ≡ Some c → is_connection (call_row e.role c.state call_event.IcrpAcc).1 ≡ false
 IsPlain e t session (Iccn speed framing sequenced) = state_number t.control.state ≡ 3
@@ -351,7 +442,6 @@ pub record TakesPlain (e : End) (ev : Event) (m : TookPlain) (x : End) : Type 0 
   pub there : at e.tunnels m.tunnel ≡ Some tunnel
   pub comes : ComesNext ev tunnel.control
   pub why : (m : Message) → message_in (body_of comes.header comes.bytes) ≡ Ok m → IsPlain e tunnel comes.header.session m
-  pub plain : state_number tunnel.control.state ≡ 1 → (opening : Opening) → message_in (body_of comes.header comes.bytes) ≡ Ok (Sccrp opening) → ⊥
   pub taken : m.taken ≡ taken_place tunnel.control
   pub after : x ≡ with_tunnel e m.tunnel (record tunnel { control = counts_taken tunnel.control })
 
@@ -421,6 +511,7 @@ Does e moment ev (move.Requested m) x = Requests e moment m x
 Does e moment ev (move.Replied m) x = Replies e moment ev m x
 Does e moment ev (move.FirstUp m) x = ComesUpFirst e moment ev m x
 Does e moment ev (move.SecondUp m) x = ComesUpSecond e moment ev m x
+Does e moment ev (move.Refused m) x = Refuses e ev m x
 Does e moment ev (move.EndTold m) x = TellsEnd e moment ev m x
 Does e moment ev (move.EndHeard m) x = HearsEnd e ev m x
 Does e moment ev (move.EndSilent m) x = EndsSilently e moment ev m x

@@ -1,7 +1,10 @@
 //! What a step of an end does, as a chain of moves: what each move needs before it and what it changes.
 #![tactic(auto)]
 
+ghost use Rattle.step_laws.specs.Causes.{CausesStand};
+ghost use Rattle.step_laws.specs.Left.{CallsAreAsked, CallsStaySound, LateCallsEnd};
 ghost use Rattle.step_laws.specs.Looks.{LooksBeginTrue, LooksStayTrue};
+ghost use Rattle.step_laws.specs.Room.{StepsRefuseTruly};
 ghost use Rattle.step_laws.specs.Steps.{StepsAreChains};
 ghost use Rattle.step_laws.specs.Ups.{BirthsAreFew, ReadsAreFew, UpsAreFew, UpsAreMoves};
 
@@ -43,3 +46,27 @@ pub fn births_are_few()
 pub fn reads_are_few()
     ensures { ReadsAreFew }
 {}
+
+/// A step of an end whose tunnels are kept drops an event for want of room only where it is the next message of a tunnel, and the
+/// letters that the tunnel holds, once Nr is read, those that its calls owe and four more are over 8,192. So there is room for
+/// each letter that a tunnel has to give.
+pub fn steps_refuse_truly()
+    ensures { StepsRefuseTruly }
+{}
+
+/// Each cause that a step of an end whose tunnels are kept tells is so, of the end before the step and of what came. Where a
+/// request or a ring could have several, none stands that counts before the one that is told.
+pub fn causes_stand()
+    ensures { CausesStand }
+{}
+
+/// The calls of an end whose tunnels are kept have ids of 16 bits and states of the end's table, at first and after each step. A
+/// tick leaves none of them that took as long as a call may to be set up; and a step leaves none in an open tunnel that waits to
+/// be asked for, where none did before it.
+pub fn calls_are_not_left()
+    ensures sound { CallsStaySound }
+    ensures late { LateCallsEnd }
+    ensures asked { CallsAreAsked }
+{
+    steps_are_chains();
+}

@@ -1,0 +1,703 @@
+-- Where a turn leaves a call that waits in an open tunnel, there is no room for the request.
+use Rattle.std.proofs.Common.{◌≡◌, ◌⊎◌, inl, inr, ⊎_elim, ℕ, ◌<◌, Bool, true, false, List, [], ◌∷◌, ◌++◌, length, refl, sym, ap, ◌∙◌, subst, Option, Some, None, Result, Ok, Err, arith}
+use Rattle.std.proofs.lemmas.Bool.{eqb-true, eqb-false, true≢false, ltb-false}
+use Rattle.std.proofs.lemmas.Option.{none-some}
+use Rattle.std.specs.Prelude.{◌==◌, nat_lt, unwrap_or}
+use Rattle.id_table.specs.Ids.{at, put, without, ids_of}
+use Rattle.id_table.specs.Order.{Ascends, found_put, found_without, same_or_not}
+use Rattle.id_source.specs.Spaces.{draws}
+use Rattle.id_source.specs.declared.IdError.{IdError}
+use Rattle.wire_base.specs.declared.why.Why.{Why}
+use Rattle.wire_base.specs.declared.why.Why.TheVariants as why
+use Rattle.wire_base.specs.declared.cause.Cause.{Cause as CauseOf}
+use Rattle.wire_base.specs.declared.cause.Cause.TheVariants as cause
+use Rattle.wire_base.specs.declared.letter.Letter.{Letter}
+use Rattle.l2tp_header.specs.declared.header.Header.{Header}
+use Rattle.l2tp_header.specs.declared.header.HeaderError.{HeaderError}
+use Rattle.control_message.specs.declared.message.Message.{Message}
+use Rattle.control_message.specs.declared.message.Message.TheVariants.{Sccrq, Sccrp, Scccn, StopCcn, Hello, Ocrq, Ocrp, Occn, Icrq, Icrp, Iccn, Cdn, Wen, Sli}
+use Rattle.control_message.specs.declared.kind.Kind.{Kind}
+use Rattle.control_message.specs.declared.kind.Kind.TheVariants as kind
+use Rattle.recv_window.specs.declared.Class.{Class}
+use Rattle.recv_window.specs.declared.Class.TheVariants.{Next, Duplicate, Ahead}
+use Rattle.control_channel.specs.Numbers.{class_told}
+use Rattle.tunnel_fsm.specs.declared.table.TunnelState.{TunnelState}
+use Rattle.tunnel_fsm.specs.declared.table.TunnelState.TheVariants as state
+use Rattle.tunnel_fsm.specs.declared.table.TunnelAction.{TunnelAction}
+use Rattle.tunnel_fsm.specs.declared.table.TunnelAction.TheVariants as action
+use Rattle.tunnel_fsm.specs.declared.table.TunnelEvent.{TunnelEvent}
+use Rattle.tunnel_fsm.specs.declared.table.TunnelEvent.TheVariants as event
+use Rattle.tunnel_fsm.specs.Rows.{rows, row_of, state_number}
+use Rattle.call_fsm.specs.declared.table.CallAction.{CallAction}
+use Rattle.call_fsm.specs.declared.table.CallAction.TheVariants as call_action
+use Rattle.call_fsm.specs.declared.table.CallEvent.{CallEvent}
+use Rattle.call_fsm.specs.declared.table.CallEvent.TheVariants as call_event
+use Rattle.call_fsm.specs.declared.table.CallState.{CallState}
+use Rattle.call_fsm.specs.declared.table.CallState.TheVariants as call
+use Rattle.protocol_model.specs.declared.tunnel.Call.{Call}
+use Rattle.protocol_model.specs.declared.tunnel.Config.{Config}
+use Rattle.protocol_model.specs.declared.tunnel.Role.{Role}
+use Rattle.protocol_model.specs.declared.tunnel.Role.TheVariants.{Lac, Lns}
+use Rattle.protocol_model.specs.declared.out.Out.TheVariants.{Cause}
+use Rattle.protocol_model.specs.Reading.{header_why, body_of, message_in, CallFault, call_fault_in}
+use Rattle.protocol_model.specs.Calls.{call_row, advanced, rung, asked_for, is_request, is_connection, is_up, are_too_many}
+use Rattle.protocol_model.specs.Turn.{Turn, with_output, with_move, with_change, with_call, with_new, with_local, with_calls, opened, opens_by, opens, accepted, accepts_by, accepts, rings_new, first_said, drops, gives, has_room, settles, takes_one, reads_nr, requested, requests, requests_at, requests_all, adds, rings_over, rings_by, rings_within, rings, may_take, Reason, reason, out_of_state, refused, refuses, of_no_call, end_silent, end_told, ends_by, closes, answers_by, granted, asked_by, fault_reason, has_answer, faulty_at, faulty, in_faulty_call, connected, connects, confirms, takes_plain, ignores, takes_by, takes, replied, replies, first_up, first_up_by, second_up, second_up_by, ends_call, is_clean_up, end_heard, end_heard_by, session_named, ends_named, about_call, in_call, hears, hears_said, hears_letter, is_duplicate, in_tunnel, hears_control, carried, carries, hears_datagram}
+use Rattle.step_laws.specs.Letters.{Among}
+use Rattle.step_laws.proofs.Lists.{branch, found_among, with_calls-more}
+use Rattle.step_laws.proofs.States.{requested_state, connected_state, up_state}
+use Rattle.step_laws.proofs.Ticking.{settled_keeps, more_full}
+
+-- ---- which calls wait
+
+-- a call isn't asked for yet, and is to be as soon as its tunnel is open
+pub record Waits (role : Role) (s : ℕ) (c : Call) : Type 0 where
+  pub small : s < 65536
+  pub row : is_request (call_row role c.state call_event.TunnelOpen).1 ≡ true
+
+-- one in another state doesn't
+other_state : (s n : CallState) → s ≡ n → (n ≡ call.WaitTunnel → ⊥) → s ≡ call.WaitTunnel → ⊥
+other_state s n is other k = other (sym is ∙ k)
+
+-- nor does one that the peer asked for
+replied_state : (r : Role) (remote moment : ℕ) → (asked_for r remote moment).state ≡ call.WaitTunnel → ⊥
+unfolding call_row asked_for advanced
+replied_state Lac remote moment k = absurd cc
+replied_state Lns remote moment k = absurd cc
+
+-- a tunnel whose SCCRQ isn't answered yet does nothing on such letters that leads to another state
+sccrq_row : (s : TunnelState) → state_number s ≡ 1 → (row_of rows s event.SccrqAcc).1 ≡ action.Nothing → ⊥
+sccrq_row state.Idle h k = absurd (omega (arith, h))
+sccrq_row state.WaitCtlReply h k = absurd cc
+sccrq_row state.WaitCtlConn h k = absurd (omega (arith, h))
+sccrq_row state.Established h k = absurd (omega (arith, h))
+sccrq_row state.Closed h k = absurd (omega (arith, h))
+
+sccrp_row : (s : TunnelState) → state_number s ≡ 1 → (row_of rows s event.SccrpAcc).1 ≡ action.Nothing → ⊥
+sccrp_row state.Idle h k = absurd (omega (arith, h))
+sccrp_row state.WaitCtlReply h k = absurd cc
+sccrp_row state.WaitCtlConn h k = absurd (omega (arith, h))
+sccrp_row state.Established h k = absurd (omega (arith, h))
+sccrp_row state.Closed h k = absurd (omega (arith, h))
+
+scccn_row : (s : TunnelState) → state_number s ≡ 1 → (row_of rows s event.ScccnAcc).1 ≡ action.Nothing → ⊥
+scccn_row state.Idle h k = absurd (omega (arith, h))
+scccn_row state.WaitCtlReply h k = absurd cc
+scccn_row state.WaitCtlConn h k = absurd (omega (arith, h))
+scccn_row state.Established h k = absurd (omega (arith, h))
+scccn_row state.Closed h k = absurd (omega (arith, h))
+
+-- the tunnel is no new one, or it is
+abbrev pub Busy : Turn → Type 0
+Busy t = state_number t.control.state ≡ 0 → ⊥
+
+abbrev Idle : Turn → Type 0
+Idle t = state_number t.control.state ≡ 0
+
+module _ (role : Role) (calls : List (ℕ × Call)) where
+  abbrev There : Turn → ℕ → Call → Type 0
+  There t s c = at (with_calls t.changed calls) s ≡ Some c
+
+  -- the SCCRQ isn't answered yet
+  abbrev IsOpening : Turn → Type 0
+  IsOpening t = state_number t.control.state ≡ 1
+
+  -- a turn whose calls are as they were, of which none waits but in a closed tunnel
+  pub record Begins (t : Turn) : Type 0 where
+    pub none : t.changed ≡ []
+    pub asked : (IsOpening t → ⊥) → (s : ℕ) (c : Call) → at calls s ≡ Some c → Waits role s c → ⊥
+
+  -- what it leaves: none waits but where there is no room
+  abbrev pub Asked : Turn → Type 0
+  Asked t = (IsOpening t → ⊥) → (s : ℕ) (c : Call) → There t s c → Waits role s c → has_room t.control ≡ false
+
+  at_first : (t : Turn) → Begins t → (s : ℕ) (c : Call) → There t s c → at calls s ≡ Some c
+  unfolding with_calls
+  at_first t b s c there = let found = rw b.none at there in found
+
+  -- the calls and the state stay
+  same : (t u : Turn) → u.changed ≡ t.changed → u.control.state ≡ t.control.state → Begins t → Asked u
+  same t u calls_are state b is_open s c there waits =
+      absurd (b.asked (λ opening. is_open (ap state_number state ∙ opening)) s c
+      (at_first t b s c (subst (λ xs. at (with_calls xs calls) s ≡ Some c) calls_are there)) waits)
+
+  -- one call is put that doesn't wait
+  puts : (t u : Turn) (k : ℕ) (d : Call) → u.changed ≡ t.changed ++ (k, Some d) ∷ [] → u.control.state ≡ t.control.state
+      → (d.state ≡ call.WaitTunnel → ⊥) → Begins t → Asked u
+  puts t u k d more state other b is_open s c there waits =
+      let is : with_calls u.changed calls ≡ put (with_calls t.changed calls) k d = ap (λ xs. with_calls xs calls) more ∙ with_calls-more t.changed k (Some d) calls in
+      absurd (⊎_elim
+      (λ (a : (s ≡ k) × (d ≡ c)). other (ap (λ (x : Call). x.state) a.1 ∙ (requested_state role c.state waits.row).0))
+      (λ (a : (s ≡ k → ⊥) × (There t s c)). b.asked (λ opening. is_open (ap state_number state ∙ opening)) s c (at_first t b s c a.1) waits)
+      (found_put (with_calls t.changed calls) k d s c (subst (λ xs. at xs s ≡ Some c) is there)))
+
+  settled : (again : Bool) (letters : List Letter) (t : Turn) → Asked t → Asked (settles again letters t)
+  settled again letters t h is_open s c there waits =
+      let g = settled_keeps again letters t in
+      g.6 ∙ h (λ opening. is_open (ap state_number g.5 ∙ opening)) s c (subst (λ xs. at (with_calls xs calls) s ≡ Some c) g.0 there) waits
+
+  dropped : (w : Why) (t : Turn) → Begins t → Asked (drops w t)
+  unfolding drops with_output
+  dropped w t b = same t (drops w t) refl refl b
+
+  plain : (t : Turn) → Begins t → Asked (takes_plain t)
+  unfolding takes_plain with_move takes_one
+  plain t b = same t (takes_plain t) refl refl b
+
+  plain_begins : (t : Turn) → Begins t → Begins (takes_plain t)
+  unfolding takes_plain with_move takes_one
+  plain_begins t b = record { none = b.none; asked = b.asked }
+
+  ignored : (w : Why) (t : Turn) → Begins t → Asked (ignores w t)
+  unfolding ignores takes_plain drops with_output with_move takes_one
+  ignored w t b = same t (ignores w t) refl refl b
+
+  -- ---- requests
+
+  -- the calls that wait are as they were
+  abbrev IsAsking : Turn → Type 0
+  IsAsking t = (s : ℕ) (c : Call) → There t s c → Waits role s c → at calls s ≡ Some c
+
+  record Leads (t u : Turn) : Type 0 where
+    room : has_room t.control ≡ false → has_room u.control ≡ false
+    fewer : (s : ℕ) (c : Call) → There u s c → Waits role s c → There t s c
+
+  leads_nowhere : (t : Turn) → Leads t t
+  leads_nowhere t = record { room = λ f. f; fewer = λ s c there waits. there }
+
+  leads_on : (t u v : Turn) → Leads t u → Leads u v → Leads t v
+  leads_on t u v h k = record { room = λ f. k.room (h.room f); fewer = λ s c there waits. h.fewer s c (k.fewer s c there waits) waits }
+
+  abbrev Past : ℕ → Turn → Type 0
+  Past s t = (c : Call) → There t s c → Waits role s c → has_room t.control ≡ false
+
+  record Requested (s : ℕ) (t u : Turn) : Type 0 where
+    leads : Leads t u
+    past : Past s u
+
+  -- a call that doesn't wait is put
+  put_leads : (t u : Turn) (k : ℕ) (d : Call) → u.changed ≡ t.changed ++ (k, Some d) ∷ [] → (has_room t.control ≡ false → has_room u.control ≡ false)
+      → (d.state ≡ call.WaitTunnel → ⊥) → Requested k t u
+  put_leads t u k d more room other =
+      let is : with_calls u.changed calls ≡ put (with_calls t.changed calls) k d = ap (λ xs. with_calls xs calls) more ∙ with_calls-more t.changed k (Some d) calls in
+      let found : (s : ℕ) (c : Call) → There u s c → Waits role s c → (s ≡ k → ⊥) × There t s c =
+      λ s c there waits. ⊎_elim
+      (λ (a : (s ≡ k) × (d ≡ c)). absurd (other (ap (λ (x : Call). x.state) a.1 ∙ (requested_state role c.state waits.row).0)))
+      (λ (a : (s ≡ k → ⊥) × (There t s c)). a)
+      (found_put (with_calls t.changed calls) k d s c (subst (λ xs. at xs s ≡ Some c) is there)) in
+      record {
+        leads = record { room = room; fewer = λ s c there waits. (found s c there waits).1 };
+        past = λ c there waits. absurd ((found k c there waits).0 refl);
+      }
+
+  requested_ok : (s : ℕ) (c : Call) (t : Turn) → is_request (call_row role c.state call_event.TunnelOpen).1 ≡ true → Requested s t (requested role s c t)
+  unfolding requested gives with_change with_move with_call advanced
+  requested_ok s c t row = put_leads t (requested role s c t) s (advanced role call_event.TunnelOpen t.moment c) refl (λ f. more_full t.control f)
+      (other_state _ call.WaitReply (requested_state role c.state row).1 (λ k. absurd cc))
+
+  full_ok : (s : ℕ) (t : Turn) → has_room t.control ≡ false → Requested s t (drops why.Queue t)
+  unfolding drops with_output
+  full_ok s t full = record { leads = record { room = λ f. f; fewer = λ q d there waits. there }; past = λ d there waits. full }
+
+  -- that call alone waits under its session
+  abbrev OnlyThat : ℕ → Call → Turn → Type 0
+  OnlyThat s c t = (d : Call) → There t s d → Waits role s d → d ≡ c
+
+  requests_ok : (s : ℕ) (c : Call) (t : Turn) → OnlyThat s c t → Requested s t (requests role s c t)
+  unfolding requests
+  requests_ok s c t only =
+      branch (Requested s t) (is_request (call_row role c.state call_event.TunnelOpen).1) _ _
+      (λ row. branch (Requested s t) (has_room t.control) _ _ (λ may. requested_ok s c t row) (λ full. full_ok s t full))
+      (λ none. record {
+        leads = leads_nowhere t;
+        past = λ d there waits. absurd (true≢false (sym (subst (Waits role s) (only d there waits) waits).row ∙ none));
+      })
+
+  requests_at_ok : (s : ℕ) (o : Option Call) (t : Turn) → at calls s ≡ o → IsAsking t → Requested s t (requests_at role s o t)
+  unfolding requests_at
+  requests_at_ok s None t is h = record { leads = leads_nowhere t; past = λ d there waits. absurd (none-some d (sym is ∙ h s d there waits)) }
+  requests_at_ok s (Some c) t is h =
+      branch (Requested s t) (nat_lt s 65536) _ _
+      (λ small. requests_ok s c t (λ d there waits. let both : Some d ≡ Some c = sym (h s d there waits) ∙ is in cc))
+      (λ big. record {
+        leads = leads_nowhere t;
+        past = λ d there waits. absurd (let few = waits.small in let many = ltb-false s 65536 big in omega (arith, few, many));
+      })
+
+  record AllRequested (ss : List ℕ) (t u : Turn) : Type 0 where
+    leads : Leads t u
+    past : (s : ℕ) → Among s ss → Past s u
+
+  requests_all_ok : (ss : List ℕ) (t : Turn) → IsAsking t → AllRequested ss t (requests_all role ss calls t)
+  unfolding requests_all
+  requests_all_ok [] t h = record { leads = leads_nowhere t; past = λ s a. absurd a }
+  requests_all_ok (s ∷ ss) t h =
+      let u = requests_at role s (at calls s) t in
+      let v = requests_all role ss calls u in
+      let l = requests_at_ok s (at calls s) t refl h in
+      let rest = requests_all_ok ss u (λ q c there waits. h q c (l.leads.fewer q c there waits) waits) in
+      record {
+        leads = leads_on t u v l.leads rest.leads;
+        past = λ q a. ⊎_elim
+            (λ (is : s ≡ q). subst (λ k. Past k v) is (λ c there waits. rest.leads.room (l.past c (rest.leads.fewer s c there waits) waits)))
+            (λ later. rest.past q later)
+            a;
+      }
+
+  -- ---- letters about the tunnel
+
+  connects_asked : (remote window : ℕ) (next : TunnelState) (t : Turn) → Begins t → Asked (connects role calls remote window next t)
+  unfolding connects connected gives with_move takes_one with_calls
+  connects_asked remote window next t b =
+      branch Asked (has_room t.control) _ _
+      (λ may.
+      let u = connected remote window next t in
+      let first : IsAsking u = λ s c there waits. at_first t b s c there in
+      let a = requests_all_ok (ids_of calls) u first in
+      λ is_open s c there waits. a.past s (found_among calls s c (first s c (a.leads.fewer s c there waits) waits)) c there waits)
+      (λ full. dropped why.Queue t b)
+
+  confirms_asked : (next : TunnelState) (t : Turn) → (IsOpening t → ⊥) → Begins t → Asked (confirms next t)
+  unfolding confirms with_move takes_one
+  confirms_asked next t was_open b is_open s c there waits = absurd (b.asked was_open s c (at_first t b s c there) waits)
+
+  takes_by_asked : (remote window : ℕ) (next : TunnelState) (a : TunnelAction) (t : Turn) → (IsOpening t → a ≡ action.Nothing → ⊥) → Begins t
+      → Asked (takes_by role calls remote window (next, a) t)
+  unfolding takes_by
+  takes_by_asked remote window next action.SendScccn t goes b = connects_asked remote window next t b
+  takes_by_asked remote window next action.Nothing t goes b =
+      branch Asked (state_number next == state_number t.control.state) _ _ (λ is. plain t b) (λ other. confirms_asked next t (λ opening. goes opening refl) b)
+  takes_by_asked remote window next action.SendSccrq t goes b = ignored why.Ignored t b
+  takes_by_asked remote window next action.SendSccrp t goes b = ignored why.Ignored t b
+  takes_by_asked remote window next action.SendStopCcn t goes b = ignored why.Ignored t b
+  takes_by_asked remote window next action.CleanUp t goes b = ignored why.Ignored t b
+
+  takes_asked : (ev : TunnelEvent) (remote window : ℕ) (t : Turn) → (IsOpening t → (row_of rows t.control.state ev).1 ≡ action.Nothing → ⊥) → Begins t
+      → Asked (takes role calls ev remote window t)
+  unfolding takes
+  takes_asked ev remote window t goes b =
+      let row = row_of rows t.control.state ev in
+      takes_by_asked remote window row.0 row.1 t goes b
+
+  -- ---- letters about a call
+
+  replied_asked : (remote s : ℕ) (t : Turn) → Begins t → Asked (replied role remote s t)
+  unfolding replied gives with_move with_new takes_one
+  replied_asked remote s t b = puts t (replied role remote s t) s (asked_for role remote t.moment) refl refl (replied_state role remote t.moment) b
+
+  replies_asked : (remote s : ℕ) (t : Turn) → Begins t → Asked (replies role remote s t)
+  unfolding replies
+  replies_asked remote s t b = branch Asked (has_room t.control) _ _ (λ may. replied_asked remote s t b) (λ full. dropped why.Queue t b)
+
+  first_up_asked : (s remote : ℕ) (c : Call) (t : Turn) → is_connection (call_row role c.state call_event.IcrpAcc).1 ≡ true → Begins t
+      → Asked (first_up role s remote c t)
+  unfolding first_up gives with_change with_move with_call takes_one advanced
+  first_up_asked s remote c t row b =
+      puts t (first_up role s remote c t) s (advanced role call_event.IcrpAcc t.moment (record c { remote = remote })) refl refl
+      (other_state _ call.Established (connected_state role c.state row).1 (λ k. absurd cc)) b
+
+  second_up_asked : (s : ℕ) (c : Call) (t : Turn) → is_up (call_row role c.state call_event.IccnAcc).0 ≡ true → Begins t → Asked (second_up role s c t)
+  unfolding second_up with_change with_move with_call takes_one advanced
+  second_up_asked s c t row b =
+      puts t (second_up role s c t) s (advanced role call_event.IccnAcc t.moment c) refl refl
+      (other_state _ call.Established (up_state (call_row role c.state call_event.IccnAcc).0 row) (λ k. absurd cc)) b
+
+  refused_asked : (r : Reason) (remote : ℕ) (t : Turn) → Begins t → Asked (refused r remote t)
+  unfolding refused gives with_output with_move takes_one
+  refused_asked r remote t b = same t (refused r remote t) refl refl b
+
+  refuses_asked : (r : Reason) (remote : ℕ) (t : Turn) → Begins t → Asked (refuses r remote t)
+  unfolding refuses
+  refuses_asked r remote t b = branch Asked (has_room t.control) _ _ (λ may. refused_asked r remote t b) (λ full. dropped why.Queue t b)
+
+  no_call_asked : (r : Reason) (remote : ℕ) (a : CallAction) (t : Turn) → Begins t → Asked (of_no_call r remote a t)
+  unfolding of_no_call
+  no_call_asked r remote call_action.SendCdn t b = refuses_asked r remote t b
+  no_call_asked r remote call_action.DropSession t b = ignored why.Session t b
+  no_call_asked r remote call_action.Nothing t b = plain t b
+  no_call_asked r remote call_action.SendIcrq t b = plain t b
+  no_call_asked r remote call_action.SendIcrp t b = plain t b
+  no_call_asked r remote call_action.SendIccn t b = plain t b
+  no_call_asked r remote call_action.CleanUp t b = plain t b
+
+  module _ (order : Ascends calls) where
+    -- ---- calls that end
+
+    ascends_first : (t : Turn) → Begins t → Ascends (with_calls t.changed calls)
+    unfolding with_calls
+    ascends_first t b = rw b.none order
+
+    takes_out : (t u : Turn) (k : ℕ) → u.changed ≡ t.changed ++ (k, None) ∷ [] → u.control.state ≡ t.control.state → Begins t → Asked u
+    takes_out t u k more state b is_open s c there waits =
+        let less : with_calls u.changed calls ≡ without (with_calls t.changed calls) k = ap (λ xs. with_calls xs calls) more ∙ with_calls-more t.changed k None calls in
+        let sorted : Ascends (with_calls t.changed calls) = ascends_first t b in
+        let was = (found_without (with_calls t.changed calls) k s c sorted (subst (λ xs. at xs s ≡ Some c) less there)).1 in
+        absurd (b.asked (λ opening. is_open (ap state_number state ∙ opening)) s c (at_first t b s c was) waits)
+
+    silent_asked : (k : ℕ) (t : Turn) → Begins t → Asked (end_silent k t)
+    unfolding end_silent ends_call with_output with_change with_move
+    silent_asked k t b = takes_out t (end_silent k t) k refl refl b
+
+    told_asked : (for : CauseOf) (k : ℕ) (c : Call) (result : ℕ) (error : Option ℕ) (t : Turn) → Begins t
+        → Asked (end_told k c result error (with_output (Cause for) t))
+    unfolding end_told gives ends_call with_output with_change with_move
+    told_asked for k c result error t b = takes_out t (end_told k c result error (with_output (Cause for) t)) k refl refl b
+
+    ends_by_asked : (for : CauseOf) (result : ℕ) (error : Option ℕ) (k : ℕ) (c : Call) (a : CallAction) (t : Turn) → Begins t
+        → Asked (ends_by for result error k c a t)
+    unfolding ends_by
+    ends_by_asked for result error k c call_action.CleanUp t b = silent_asked k t b
+    ends_by_asked for result error k c call_action.SendCdn t b =
+        branch Asked (has_room t.control) _ _ (λ may. told_asked for k c result error t b) (λ full. dropped why.Queue t b)
+    ends_by_asked for result error k c call_action.Nothing t b = same t t refl refl b
+    ends_by_asked for result error k c call_action.SendIcrq t b = same t t refl refl b
+    ends_by_asked for result error k c call_action.SendIcrp t b = same t t refl refl b
+    ends_by_asked for result error k c call_action.SendIccn t b = same t t refl refl b
+    ends_by_asked for result error k c call_action.DropSession t b = same t t refl refl b
+
+    pub closes_asked : (for : CauseOf) (on : CallEvent) (result s : ℕ) (letters : List Letter) (o : Option Call) (t : Turn) → Begins t
+        → Asked (settles false letters (closes role for on result s o t))
+    unfolding closes
+    closes_asked for on result s letters o t b = settled false letters (closes role for on result s o t) (by o)
+      where
+        by : (o : Option Call) → Asked (closes role for on result s o t)
+        by None = dropped why.Call t b
+        by (Some c) =
+            branch Asked (nat_lt s 65536) _ _ (λ small. ends_by_asked for result None s c (call_row role c.state on).1 t b) (λ big. same t t refl refl b)
+
+    -- ---- letters about a call that there is
+
+    answers_asked : (r : Reason) (s : ℕ) (c : Call) (a : CallAction) (t : Turn) → Begins t → Asked (answers_by r s c a t)
+    unfolding answers_by
+    answers_asked r s c a t b =
+        branch Asked (nat_lt s 65536) _ _ (λ small. ends_by_asked r.cause r.result r.error s c a (takes_plain t) (plain_begins t b)) (λ big. plain t b)
+
+    asked_by_asked : (s remote : ℕ) (g : Result ℕ Reason) (o : Option Call) (t : Turn) → Begins t → Asked (asked_by role s remote g o t)
+    unfolding asked_by
+    asked_by_asked s remote (Ok drawn) None t b = replies_asked remote drawn t b
+    asked_by_asked s remote (Err r) None t b = refuses_asked r remote t b
+    asked_by_asked s remote (Ok drawn) (Some c) t b = answers_asked out_of_state s c (call_row role c.state call_event.IcrqAcc).1 t b
+    asked_by_asked s remote (Err r) (Some c) t b = answers_asked r s c (call_row role c.state call_event.IcrqNotAcc).1 t b
+
+    first_up_by_asked : (s remote : ℕ) (o : Option Call) (t : Turn) → Begins t → Asked (first_up_by role s remote o t)
+    unfolding first_up_by
+    first_up_by_asked s remote None t b = no_call_asked out_of_state remote (call_row role call.Idle call_event.IcrpAcc).1 t b
+    first_up_by_asked s remote (Some c) t b =
+        branch Asked (is_connection (call_row role c.state call_event.IcrpAcc).1) _ _
+        (λ row. branch Asked (has_room t.control) _ _ (λ may. first_up_asked s remote c t row b) (λ full. dropped why.Queue t b))
+        (λ none. answers_asked out_of_state s c (call_row role c.state call_event.IcrpAcc).1 t b)
+
+    second_up_by_asked : (s : ℕ) (o : Option Call) (t : Turn) → Begins t → Asked (second_up_by role s o t)
+    unfolding second_up_by
+    second_up_by_asked s None t b = no_call_asked out_of_state 0 (call_row role call.Idle call_event.IccnAcc).1 t b
+    second_up_by_asked s (Some c) t b =
+        branch Asked (is_up (call_row role c.state call_event.IccnAcc).0) _ _
+        (λ row. second_up_asked s c t row b)
+        (λ none. answers_asked out_of_state s c (call_row role c.state call_event.IccnAcc).1 t b)
+
+    end_heard_asked : (k : ℕ) (t : Turn) → Begins t → Asked (end_heard k t)
+    unfolding end_heard ends_call with_output with_change with_move takes_one
+    end_heard_asked k t b = takes_out t (end_heard k t) k refl refl b
+
+    end_heard_by_asked : (s : ℕ) (o : Option Call) (t : Turn) → Begins t → Asked (end_heard_by role s o t)
+    unfolding end_heard_by
+    end_heard_by_asked s None t b = no_call_asked out_of_state 0 (call_row role call.Idle call_event.CdnCame).1 t b
+    end_heard_by_asked s (Some c) t b =
+        branch Asked (is_clean_up (call_row role c.state call_event.CdnCame).1) _ _ (λ row. end_heard_asked s t b) (λ none. plain t b)
+
+    about_asked : (session : ℕ) (m : Message) (t : Turn) → Begins t → Asked (about_call role calls session m t)
+    unfolding about_call ends_named
+    about_asked session (Icrq remote serial calling) t b =
+        asked_by_asked session remote (granted role calls remote t.sessions) (at calls session) t b
+    about_asked session (Icrp remote) t b = first_up_by_asked session remote (at calls session) t b
+    about_asked session (Iccn speed framing sequenced) t b = second_up_by_asked session (at calls session) t b
+    about_asked session (Cdn remote code error) t b =
+        let s = session_named calls session remote in
+        end_heard_by_asked s (at calls s) t b
+    about_asked session (Ocrq remote) t b = refuses_asked (reason cause.Outgoing 5 None) remote t b
+    about_asked session Hello t b = plain t b
+    about_asked session (Sccrq o) t b = plain t b
+    about_asked session (Sccrp o) t b = plain t b
+    about_asked session Scccn t b = plain t b
+    about_asked session (StopCcn tunnel code error) t b = plain t b
+    about_asked session Ocrp t b = plain t b
+    about_asked session Occn t b = plain t b
+    about_asked session Wen t b = plain t b
+    about_asked session Sli t b = plain t b
+
+    in_call_asked : (session : ℕ) (m : Message) (t : Turn) → Begins t → Asked (in_call role calls session m t)
+    unfolding in_call
+    in_call_asked session m t b =
+        branch Asked (state_number t.control.state == 3) _ _ (λ is. about_asked session m t b) (λ other. ignored why.Session t b)
+
+    -- ---- faulty letters about a call
+
+    faulty_at_asked : (r : Reason) (s remote : ℕ) (on : CallEvent) (none : CallAction) (o : Option Call) (t : Turn) → Begins t
+        → Asked (faulty_at role r s remote on none o t)
+    unfolding faulty_at
+    faulty_at_asked r s remote on none None t b = no_call_asked r remote none t b
+    faulty_at_asked r s remote on none (Some c) t b = answers_asked r s c (call_row role c.state on).1 t b
+
+    faulty_asked : (session : ℕ) (k : Kind) (c : CauseOf) (told : Option ℕ) (t : Turn) → Begins t → Asked (faulty role calls session k c told t)
+    unfolding faulty
+    faulty_asked session kind.Icrq c told t b =
+        branch Asked (has_answer c told) _ _ (λ answered. faulty_at_asked (fault_reason c) session _ _ _ (at calls session) t b) (λ no. ignored why.Avp t b)
+    faulty_asked session kind.Ocrq c told t b =
+        branch Asked (has_answer c told) _ _ (λ answered. refuses_asked (fault_reason c) _ t b) (λ no. ignored why.Avp t b)
+    faulty_asked session kind.Icrp c told t b = faulty_at_asked (fault_reason c) session _ _ _ (at calls session) t b
+    faulty_asked session kind.Iccn c told t b = faulty_at_asked (fault_reason c) session 0 _ _ (at calls session) t b
+    faulty_asked session kind.Cdn c told t b =
+        let s = session_named calls session (unwrap_or told 0) in
+        faulty_at_asked (fault_reason c) s 0 call_event.Close _ (at calls s) t b
+    faulty_asked session kind.Wen c told t b = faulty_at_asked (fault_reason c) session 0 call_event.Close call_action.Nothing (at calls session) t b
+    faulty_asked session kind.Sli c told t b = faulty_at_asked (fault_reason c) session 0 call_event.Close call_action.Nothing (at calls session) t b
+    faulty_asked session kind.Sccrq c told t b = faulty_at_asked (fault_reason c) session 0 call_event.Close call_action.Nothing (at calls session) t b
+    faulty_asked session kind.Sccrp c told t b = faulty_at_asked (fault_reason c) session 0 call_event.Close call_action.Nothing (at calls session) t b
+    faulty_asked session kind.Scccn c told t b = faulty_at_asked (fault_reason c) session 0 call_event.Close call_action.Nothing (at calls session) t b
+    faulty_asked session kind.StopCcn c told t b = faulty_at_asked (fault_reason c) session 0 call_event.Close call_action.Nothing (at calls session) t b
+    faulty_asked session kind.Hello c told t b = faulty_at_asked (fault_reason c) session 0 call_event.Close call_action.Nothing (at calls session) t b
+    faulty_asked session kind.Ocrp c told t b = faulty_at_asked (fault_reason c) session 0 call_event.Close call_action.Nothing (at calls session) t b
+    faulty_asked session kind.Occn c told t b = faulty_at_asked (fault_reason c) session 0 call_event.Close call_action.Nothing (at calls session) t b
+
+    in_faulty_asked : (session : ℕ) (f : Option CallFault) (w : Why) (t : Turn) → Begins t → Asked (in_faulty_call role calls session f w t)
+    unfolding in_faulty_call
+    in_faulty_asked session None w t b = ignored w t b
+    in_faulty_asked session (Some f) w t b =
+        branch Asked (state_number t.control.state == 3) _ _ (λ is. faulty_asked session f.kind f.cause f.session t b) (λ other. ignored why.Session t b)
+
+    -- ---- control messages
+
+    hears_asked : (session : ℕ) (m : Message) (t : Turn) → Begins t → Asked (hears role calls session m t)
+    unfolding hears
+    hears_asked session (Sccrq o) t b = takes_asked event.SccrqAcc 0 o.window t (λ opening. sccrq_row t.control.state opening) b
+    hears_asked session (Sccrp o) t b = takes_asked event.SccrpAcc o.tunnel o.window t (λ opening. sccrp_row t.control.state opening) b
+    hears_asked session Scccn t b = takes_asked event.ScccnAcc 0 0 t (λ opening. scccn_row t.control.state opening) b
+    hears_asked session Hello t b = plain t b
+    hears_asked session (StopCcn tunnel code error) t b = ignored why.Ignored t b
+    hears_asked session (Ocrq remote) t b = in_call_asked session (Ocrq remote) t b
+    hears_asked session Ocrp t b = plain t b
+    hears_asked session Occn t b = plain t b
+    hears_asked session Wen t b = plain t b
+    hears_asked session Sli t b = plain t b
+    hears_asked session (Cdn remote code error) t b = in_call_asked session (Cdn remote code error) t b
+    hears_asked session (Icrq remote serial calling) t b = in_call_asked session (Icrq remote serial calling) t b
+    hears_asked session (Icrp remote) t b = in_call_asked session (Icrp remote) t b
+    hears_asked session (Iccn speed framing sequenced) t b = in_call_asked session (Iccn speed framing sequenced) t b
+
+    said_asked : (session : ℕ) (f : Option CallFault) (r : Result Message Why) (t : Turn) → Begins t → Asked (hears_said role calls session f r t)
+    unfolding hears_said
+    said_asked session f (Err w) t b = in_faulty_asked session f w t b
+    said_asked session f (Ok m) t b = hears_asked session m t b
+
+    letter_asked : (session : ℕ) (body : List ℕ) (c : Option Class) (t : Turn) → Begins t → Asked (hears_letter role calls session body c t)
+    unfolding hears_letter
+    letter_asked session body (Some Next) t b =
+        branch Asked (may_take t.control calls) _ _
+        (λ may. said_asked session (call_fault_in body) (message_in body) t b)
+        (λ full. dropped why.Queue t b)
+    letter_asked session body (Some (Ahead by)) t b = dropped why.Ahead t b
+    letter_asked session body (Some Duplicate) t b = same t t refl refl b
+    letter_asked session body None t b = same t t refl refl b
+
+    reads_begin : (nr : ℕ) (t : Turn) → Begins t → Begins (reads_nr nr t)
+    unfolding reads_nr with_move
+    reads_begin nr t b = record { none = b.none; asked = b.asked }
+
+    control_asked : (c : Config) (letters : List Letter) (k : Header) (body : List ℕ) (t : Turn) → Busy t → Begins t
+        → Asked (hears_control role c letters calls k body t)
+    unfolding hears_control in_tunnel
+    control_asked c letters k body t busy b =
+        branch Asked (state_number t.control.state == 0) _ _
+        (λ idle. absurd (busy (eqb-true (state_number t.control.state) 0 idle)))
+        (λ other.
+        let class = class_told t.control.channel (unwrap_or k.ns 0) (length body == 0) in
+        let u = reads_nr (unwrap_or k.nr 0) t in
+        settled (is_duplicate class) letters (hears_letter role calls k.session body class u)
+        (letter_asked k.session body class u (reads_begin (unwrap_or k.nr 0) t b)))
+
+    pub datagram_asked : (c : Config) (letters : List Letter) (bytes : List ℕ) (r : Result Header HeaderError) (t : Turn) → Busy t → Begins t
+        → Asked (hears_datagram role c letters calls bytes r t)
+    unfolding hears_datagram
+    datagram_asked c letters bytes (Err x) t busy b = dropped (header_why x) t b
+    datagram_asked c letters bytes (Ok k) t busy b =
+        branch Asked k.control _ _
+        (λ control. control_asked c letters k (body_of k bytes) t busy b)
+        (λ data_is. dropped why.Session t b)
+
+  -- ---- rings
+
+  adds_changed : (port s : ℕ) (t : Turn) → (adds role port s t).changed ≡ t.changed ++ (s, Some (rung role port t.moment)) ∷ []
+  unfolding adds with_move with_new
+  adds_changed port s t = refl
+
+  adds_state : (port s : ℕ) (t : Turn) → (adds role port s t).control.state ≡ t.control.state
+  unfolding adds with_move with_new
+  adds_state port s t = refl
+
+  -- the calls with the new one
+  with_added : (port s : ℕ) (t : Turn) → with_calls (adds role port s t).changed calls ≡ put (with_calls t.changed calls) s (rung role port t.moment)
+  with_added port s t = ap (λ xs. with_calls xs calls) (adds_changed port s t) ∙ with_calls-more t.changed s (Some (rung role port t.moment)) calls
+
+  -- one that rings in an open tunnel is asked for
+  rung_asked : (port s : ℕ) (t : Turn) → state_number t.control.state ≡ 3 → Begins t → Asked (requests role s (rung role port t.moment) (adds role port s t))
+  rung_asked port s t three b is_open q d there waits = ⊎_elim
+      (λ (is : q ≡ s). r.past d (subst (λ k. There v k d) is there) (subst (λ k. Waits role k d) is waits))
+      (λ other. ⊎_elim
+      (λ (a : (q ≡ s) × (c ≡ d)). absurd (other a.0))
+      (λ (a : (q ≡ s → ⊥) × There t q d). absurd (b.asked was_open q d (at_first t b q d a.1) waits))
+      (found q d (r.leads.fewer q d there waits)))
+      (same_or_not q s)
+    where
+      u : Turn
+      u = adds role port s t
+
+      c : Call
+      c = rung role port t.moment
+
+      v : Turn
+      v = requests role s c u
+
+      found : (q : ℕ) (d : Call) → There u q d → ((q ≡ s) × (c ≡ d)) ⊎ ((q ≡ s → ⊥) × There t q d)
+      found q d there = found_put (with_calls t.changed calls) s c q d (subst (λ xs. at xs q ≡ Some d) (with_added port s t) there)
+
+      was_open : IsOpening t → ⊥
+      was_open opening = omega (arith, three, opening)
+
+      only : OnlyThat s c u
+      only d there waits = ⊎_elim (λ (a : (s ≡ s) × (c ≡ d)). sym a.1) (λ (a : (s ≡ s → ⊥) × There t s d). absurd (a.0 refl)) (found s d there)
+
+      r : Requested s u v
+      r = requests_ok s c u only
+
+  rings_over_asked : (port s : ℕ) (t : Turn) → (state_number t.control.state ≡ 3) ⊎ (state_number t.control.state ≡ 1) → Begins t
+      → Asked (rings_over role port s t)
+  unfolding rings_over
+  rings_over_asked port s t goes b =
+      branch Asked (state_number t.control.state == 3) _ _
+      (λ three. rung_asked port s t (eqb-true (state_number t.control.state) 3 three) b)
+      (λ other. λ is_open q d there waits.
+      absurd (⊎_elim (λ three. eqb-false (state_number t.control.state) 3 other three) (λ opening. is_open (ap state_number (adds_state port s t) ∙ opening)) goes))
+
+  caused : (c : CauseOf) (t : Turn) → Begins t → Asked (with_output (Cause c) t)
+  unfolding with_output
+  caused c t b = same t (with_output (Cause c) t) refl refl b
+
+  rings_by_asked : (port : ℕ) (x : Result ℕ IdError) (t : Turn) → (state_number t.control.state ≡ 3) ⊎ (state_number t.control.state ≡ 1) → Begins t
+      → Asked (rings_by role port x t)
+  unfolding rings_by
+  rings_by_asked port (Err x) t goes b = caused cause.Ids t b
+  rings_by_asked port (Ok s) t goes b = rings_over_asked port s t goes b
+
+  pub rings_asked : (c : Config) (letters : List Letter) (port : ℕ) (t : Turn) → Busy t → (state_number t.control.state ≡ 3) ⊎ (state_number t.control.state ≡ 1)
+      → Begins t → Asked (settles false letters (rings role c calls port t))
+  unfolding rings rings_within
+  rings_asked c letters port t busy goes b =
+      settled false letters (rings role c calls port t)
+      (branch Asked (state_number t.control.state == 0) _ _
+      (λ idle. absurd (busy (eqb-true (state_number t.control.state) 0 idle)))
+      (λ other. branch Asked (are_too_many calls) _ _
+      (λ many. caused cause.Calls t b)
+      (λ few. branch Asked (may_take t.control calls) _ _ (λ may. rings_by_asked port (draws t.sessions) t goes b) (λ full. caused cause.Queue t b))))
+
+  -- ---- frames that are given
+
+  carried_asked : (s : ℕ) (frame : List ℕ) (c : Call) (t : Turn) → Begins t → Asked (carried s frame c t)
+  unfolding carried with_output with_move
+  carried_asked s frame c t b = same t (carried s frame c t) refl refl b
+
+  pub carries_asked : (s : ℕ) (frame : List ℕ) (o : Option Call) (t : Turn) → Begins t → Asked (carries s frame o t)
+  unfolding carries
+  carries_asked s frame None t b = dropped why.Call t b
+  carries_asked s frame (Some c) t b = branch Asked (is_up c.state) _ _ (λ up. carried_asked s frame c t b) (λ down. dropped why.Closed t b)
+
+-- ---- new tunnels: they have no calls, or their SCCRQ isn't answered yet
+
+abbrev pub IsNew : Turn → Type 0
+IsNew r = (state_number r.control.state ≡ 1) ⊎ (r.changed ≡ [])
+
+new_settled : (letters : List Letter) (t : Turn) → IsNew t → IsNew (settles false letters t)
+new_settled letters t h =
+    let g = settled_keeps false letters t in
+    ⊎_elim (λ opening. inl (ap state_number g.5 ∙ opening)) (λ none. inr (g.0 ∙ none)) h
+
+drops_new : (w : Why) (t : Turn) → t.changed ≡ [] → IsNew (drops w t)
+unfolding drops with_output
+drops_new w t none = inr none
+
+caused_new : (c : CauseOf) (t : Turn) → t.changed ≡ [] → IsNew (with_output (Cause c) t)
+unfolding with_output
+caused_new c t none = inr none
+
+opened_new : (role : Role) (c : Config) (local : ℕ) (t : Turn) → t.changed ≡ [] → IsNew (opened role c local t)
+unfolding opened gives with_move with_local
+opened_new role c local t none = inr none
+
+pub opens_new : (role : Role) (c : Config) (letters : List Letter) (t : Turn) → t.changed ≡ [] → IsNew (settles false letters (opens role c t))
+unfolding opens opens_by
+opens_new role c letters t none = new_settled letters (opens role c t) (by (draws t.tunnels))
+  where
+    by : (x : Result ℕ IdError) → IsNew (opens_by role c x t)
+    by (Err x) = caused_new cause.Ids t none
+    by (Ok local) = branch IsNew (has_room t.control) _ _ (λ may. opened_new role c local t none) (λ full. caused_new cause.Queue t none)
+
+accepted_new : (role : Role) (c : Config) (remote window local : ℕ) (t : Turn) → t.changed ≡ [] → IsNew (accepted role c remote window local t)
+unfolding accepted gives with_move takes_one with_local
+accepted_new role c remote window local t none = inr none
+
+accepts_new : (role : Role) (c : Config) (remote window : ℕ) (t : Turn) → t.changed ≡ [] → IsNew (accepts role c remote window t)
+unfolding accepts accepts_by
+accepts_new role c remote window t none = by (draws t.tunnels)
+  where
+    by : (x : Result ℕ IdError) → IsNew (accepts_by role c remote window x t)
+    by (Err x) = drops_new why.Tunnel t none
+    by (Ok local) =
+        branch IsNew (has_room t.control) _ _ (λ may. accepted_new role c remote window local t none) (λ full. drops_new why.Queue t none)
+
+first_said_new : (role : Role) (c : Config) (r : Result Message Why) (t : Turn) → t.changed ≡ [] → IsNew (first_said role c r t)
+unfolding first_said
+first_said_new role c (Ok (Sccrq o)) t none = accepts_new role c o.tunnel o.window t none
+first_said_new role c (Ok (Sccrp o)) t none = drops_new why.Tunnel t none
+first_said_new role c (Ok Scccn) t none = drops_new why.Tunnel t none
+first_said_new role c (Ok Hello) t none = drops_new why.Tunnel t none
+first_said_new role c (Ok (Cdn remote code error)) t none = drops_new why.Tunnel t none
+first_said_new role c (Ok (Icrq remote serial calling)) t none = drops_new why.Tunnel t none
+first_said_new role c (Ok (Icrp remote)) t none = drops_new why.Tunnel t none
+first_said_new role c (Ok (Iccn speed framing sequenced)) t none = drops_new why.Tunnel t none
+first_said_new role c (Ok (StopCcn tunnel code error)) t none = drops_new why.Tunnel t none
+first_said_new role c (Ok (Ocrq remote)) t none = drops_new why.Tunnel t none
+first_said_new role c (Ok Ocrp) t none = drops_new why.Tunnel t none
+first_said_new role c (Ok Occn) t none = drops_new why.Tunnel t none
+first_said_new role c (Ok Wen) t none = drops_new why.Tunnel t none
+first_said_new role c (Ok Sli) t none = drops_new why.Tunnel t none
+first_said_new role c (Err w) t none = drops_new why.Tunnel t none
+
+pub heard_new : (role : Role) (c : Config) (bytes : List ℕ) (r : Result Header HeaderError) (t : Turn) → Idle t → t.changed ≡ []
+    → IsNew (hears_datagram role c [] [] bytes r t)
+unfolding hears_datagram hears_control
+heard_new role c bytes (Err x) t idle none = drops_new (header_why x) t none
+heard_new role c bytes (Ok k) t idle none =
+    branch IsNew k.control _ _
+    (λ control. branch IsNew (state_number t.control.state == 0) _ _
+    (λ is. let u = first_said role c (message_in (body_of k bytes)) t in new_settled [] u (first_said_new role c (message_in (body_of k bytes)) t none))
+    (λ busy. absurd (eqb-false (state_number t.control.state) 0 busy idle)))
+    (λ data_is. drops_new why.Session t none)
+
+rung_new : (role : Role) (c : Config) (port s local : ℕ) (t : Turn) → t.control.state ≡ state.Idle → IsNew (adds role port s (opened role c local t))
+unfolding adds opened gives with_move with_local with_new
+rung_new role c port s local t idle = inl (rw idle refl)
+
+rings_new_new : (role : Role) (c : Config) (port : ℕ) (x y : Result ℕ IdError) (t : Turn) → t.control.state ≡ state.Idle → t.changed ≡ []
+    → IsNew (rings_new role c port x y t)
+unfolding rings_new
+rings_new_new role c port (Err x) y t idle none = caused_new cause.Ids t none
+rings_new_new role c port (Ok s) (Err y) t idle none = caused_new cause.Ids t none
+rings_new_new role c port (Ok s) (Ok local) t idle none =
+    branch IsNew (has_room t.control) _ _ (λ may. rung_new role c port s local t idle) (λ full. caused_new cause.Queue t none)
+
+pub rings_is_new : (role : Role) (c : Config) (letters : List Letter) (port : ℕ) (t : Turn) → t.control.state ≡ state.Idle → t.changed ≡ []
+    → IsNew (settles false letters (rings role c [] port t))
+unfolding rings
+rings_is_new role c letters port t idle none =
+    new_settled letters (rings role c [] port t)
+    (branch IsNew (state_number t.control.state == 0) _ _
+    (λ is. rings_new_new role c port (draws t.sessions) (draws t.tunnels) t idle none)
+    (λ busy. absurd (eqb-false (state_number t.control.state) 0 busy (ap state_number idle))))

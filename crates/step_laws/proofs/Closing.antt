@@ -1,0 +1,193 @@
+-- A call ends, and its peer is told where its table says so.
+use Rattle.std.proofs.Common.{◌≡◌, ℕ, ◌<◌, true, List, [], ◌∷◌, ◌++◌, refl, sym, ap, ◌∙◌, Option, Some, None}
+use Rattle.std.proofs.lemmas.Bool.{true≢false}
+use Rattle.std.proofs.lemmas.List.{append-nil}
+use Rattle.std.specs.Prelude.{drop}
+use Rattle.id_table.specs.Ids.{at, put-put}
+use Rattle.id_table.specs.Order.{at_without_other}
+use Rattle.wire_base.specs.declared.cause.Cause.{Cause as CauseOf}
+use Rattle.wire_base.specs.declared.letter.Letter.{Letter}
+use Rattle.control_message.specs.declared.message.Message.TheVariants.{Cdn}
+use Rattle.call_fsm.specs.declared.table.CallAction.{CallAction}
+use Rattle.call_fsm.specs.declared.table.CallAction.TheVariants as call_action
+use Rattle.call_fsm.specs.declared.table.CallEvent.{CallEvent}
+use Rattle.protocol_model.specs.declared.tunnel.Call.{Call}
+use Rattle.protocol_model.specs.declared.tunnel.CellChange.TheVariants as cell
+use Rattle.protocol_model.specs.declared.event.Event.{Event}
+use Rattle.protocol_model.specs.declared.out.Out.TheVariants.{Gone, Cause}
+use Rattle.protocol_model.specs.declared.moves.Move.TheVariants as move
+use Rattle.protocol_model.specs.Calls.{call_row, is_told}
+use Rattle.protocol_model.specs.Turn.{Tunnel, Turn, with_output, with_move, with_change, with_calls, ends_call, is_clean_up, has_room, counts_given, gives, next_place, letter_of, letters_after, tunnel_after, end_silent, end_told, ends_by}
+use Rattle.protocol_model.specs.End.{End, placed}
+use Rattle.step_laws.specs.Causes.{Stands}
+use Rattle.step_laws.specs.Moves.{WhyEnds}
+use Rattle.step_laws.proofs.Lists.{all_push, branch, with_calls-more, with_looks-more, chain_more}
+use Rattle.step_laws.proofs.Owing.{has_room_for, MayTell, fits_without, fits_told}
+use Rattle.step_laws.proofs.Turns.{NoFrame, given_held, fits_changed, at_turn, there, one_given, Others}
+use Rattle.step_laws.proofs.Settling.{GoesOn, Settled, outs_on}
+
+module _ (e : End) (moment : ℕ) (ev : Event) (letters : List Letter) (calls : List (ℕ × Call)) (i : ℕ) where
+  abbrev tunnel : Turn → Tunnel
+  tunnel t = tunnel_after t letters calls
+
+  abbrev now : Turn → List (ℕ × Call)
+  now t = with_calls t.changed calls
+
+  -- why a call ends, as the turn has it
+  abbrev pub Ends : Turn → ℕ → Call → CallEvent → ℕ → Option ℕ → Type 0
+  Ends t s c on result error = WhyEnds (at_turn e moment ev letters calls i t) (tunnel t) ev moment s c on result error
+
+  caused_ok : (for : CauseOf) → Stands e moment ev for → (t : Turn) → Settled e moment ev letters calls i t
+      → Settled e moment ev letters calls i (with_output (Cause for) t)
+  unfolding with_output
+  caused_ok for so t h = record {
+    chain = h.chain;
+    outs = all_push _ t.outputs (Cause for) h.outs tt;
+    tells = all_push _ t.outputs (Cause for) h.tells so;
+    frames = h.frames;
+    stays = h.stays;
+    held = h.held;
+    fits = h.fits;
+  }
+
+  -- a turn that gives a letter goes on
+  pub given_on : (t u : Turn) (l : Letter) → u.control.local ≡ t.control.local → u.control.peer ≡ t.control.peer → u.control.remote ≡ t.control.remote
+      → u.control.channel.window.acked ≡ t.control.channel.window.acked → u.control.channel.inbox ≡ t.control.channel.inbox
+      → letters_after u letters ≡ drop t.acked letters ++ (t.given ++ l ∷ []) → GoesOn (tunnel t) (tunnel u)
+  given_on t u l local peer remote acked inbox is = record {
+    local = local;
+    peer = peer;
+    remote = remote;
+    acked = acked;
+    inbox = inbox;
+    more = l ∷ [];
+    letters = is ∙ one_given e moment ev letters calls i t l;
+  }
+
+  silent_ok : (s : ℕ) (c : Call) (on : CallEvent) (result : ℕ) (error : Option ℕ) (t : Turn) → at (now t) s ≡ Some c → Ends t s c on result error
+      → is_clean_up (call_row e.role c.state on).1 ≡ true → Settled e moment ev letters calls i t → Settled e moment ev letters calls i (end_silent s t)
+  unfolding end_silent ends_call with_output with_change with_move
+  silent_ok s c on result error t found why row h =
+      let m = move.EndSilent (record { tunnel = t.control.local; session = s }) in
+      record {
+        chain = chain_more moment ev e (at_turn e moment ev letters calls i t) _ t.moves m h.chain (record {
+          tunnel = tunnel t;
+          there = there e moment ev letters calls i t;
+          call = c;
+          live = found;
+          on = on;
+          result = result;
+          error = error;
+          why = why;
+          row = row;
+          after =
+              let changed = with_calls-more t.changed s None calls in
+              let looked = with_looks-more t.changes (cell.Kill s) (placed t.control.local t.added e.calls) in
+              rw (changed, looked, put-put e.tunnels t.control.local (tunnel t) _) refl;
+        });
+        outs = all_push _ t.outputs (Gone s) (outs_on e moment ev letters calls i t (end_silent s t) (record {
+          local = refl;
+          peer = refl;
+          remote = refl;
+          acked = refl;
+          inbox = refl;
+          more = [];
+          letters = sym (append-nil (tunnel t).letters);
+        }) h) tt;
+        tells = all_push _ t.outputs (Gone s) h.tells tt;
+        frames = all_push NoFrame t.moves m h.frames tt;
+        stays = h.stays;
+        held = h.held;
+        fits = fits_changed e moment ev letters calls i t.control t s None (fits_without t.control (now t) s h.fits);
+      }
+
+  told_ok : (s : ℕ) (c : Call) (on : CallEvent) (result : ℕ) (error : Option ℕ) (t : Turn) → at (now t) s ≡ Some c → Ends t s c on result error
+      → is_told (call_row e.role c.state on).1 ≡ true → s < 65536 → MayTell t.control (now t) s c → has_room t.control ≡ true
+      → Settled e moment ev letters calls i t → Settled e moment ev letters calls i (end_told s c result error t)
+  unfolding end_told gives ends_call with_output with_change with_move
+  told_ok s c on result error t found why row small may room h =
+      let m = move.EndTold (record {
+        tunnel = t.control.local;
+        session = s;
+        remote = c.remote;
+        result = result;
+        error = error;
+        given = next_place t.control;
+      }) in
+      let l = letter_of c.remote (Cdn s result error) in
+      record {
+        chain = chain_more moment ev e (at_turn e moment ev letters calls i t) _ t.moves m h.chain (record {
+          tunnel = tunnel t;
+          there = there e moment ev letters calls i t;
+          call = c;
+          live = found;
+          on = on;
+          why = why;
+          row = row;
+          session = small;
+          remote = refl;
+          room = room;
+          given = refl;
+          after =
+              let changed = with_calls-more t.changed s None calls in
+              let looked = with_looks-more t.changes (cell.Kill s) (placed t.control.local t.added e.calls) in
+              rw (changed, looked, one_given e moment ev letters calls i t l, put-put e.tunnels t.control.local (tunnel t) _) refl;
+        });
+        outs = all_push _ t.outputs (Gone s)
+            (outs_on e moment ev letters calls i t (end_told s c result error t) (given_on t (end_told s c result error t) l refl refl refl refl refl refl) h) tt;
+        tells = all_push _ t.outputs (Gone s) h.tells tt;
+        frames = all_push NoFrame t.moves m h.frames tt;
+        stays = h.stays;
+        held = given_held e moment ev letters calls i t l h.held;
+        fits = fits_changed e moment ev letters calls i (counts_given t.control) t s None (fits_told t.control (now t) s c found may h.fits);
+      }
+
+  -- what the end of one call leaves
+  pub record Leaves (s : ℕ) (t u : Turn) : Type 0 where
+    pub ok : Settled e moment ev letters calls i u
+    pub others : Others e moment ev letters calls i s t u
+    pub added : u.added ≡ t.added
+    pub tunnels : u.tunnels ≡ t.tunnels
+    pub sessions : u.sessions ≡ t.sessions
+
+  pub leaves_all : (s : ℕ) (t : Turn) → Settled e moment ev letters calls i t → Leaves s t t
+  leaves_all s t h = record { ok = h; others = λ q o. refl; added = refl; tunnels = refl; sessions = refl }
+
+  -- a turn that takes a call out
+  one_taken : (s : ℕ) (t u : Turn) → u.changed ≡ t.changed ++ (s, None) ∷ [] → Others e moment ev letters calls i s t u
+  one_taken s t u is q o = ap (λ xs. at (with_calls xs calls) q) is ∙ ap (λ xs. at xs q) (with_calls-more t.changed s None calls) ∙ at_without_other (now t) s q o
+
+  silent_leaves : (s : ℕ) (t : Turn) → Settled e moment ev letters calls i (end_silent s t) → Leaves s t (end_silent s t)
+  unfolding end_silent ends_call with_output with_change with_move
+  silent_leaves s t ok = record { ok = ok; others = one_taken s t (end_silent s t) refl; added = refl; tunnels = refl; sessions = refl }
+
+  told_leaves : (for : CauseOf) (s : ℕ) (c : Call) (on : CallEvent) (result : ℕ) (error : Option ℕ) (t : Turn) → at (now t) s ≡ Some c
+      → Ends t s c on result error → is_told (call_row e.role c.state on).1 ≡ true → s < 65536 → MayTell t.control (now t) s c → has_room t.control ≡ true
+      → Stands e moment ev for → Settled e moment ev letters calls i t → Leaves s t (end_told s c result error (with_output (Cause for) t))
+  unfolding end_told gives ends_call with_output with_change with_move
+  told_leaves for s c on result error t found why row small may room so h =
+      let u = with_output (Cause for) t in
+      record {
+        ok = told_ok s c on result error u found why row small may room (caused_ok for so t h);
+        others = one_taken s t (end_told s c result error u) refl;
+        added = refl;
+        tunnels = refl;
+        sessions = refl;
+      }
+
+  -- by the action of the call's row
+  pub ends_leave : (for : CauseOf) (s : ℕ) (c : Call) (on : CallEvent) (result : ℕ) (error : Option ℕ) (t : Turn) → at (now t) s ≡ Some c
+      → Ends t s c on result error → s < 65536 → (is_told (call_row e.role c.state on).1 ≡ true → MayTell t.control (now t) s c × Stands e moment ev for) → (a : CallAction)
+      → (call_row e.role c.state on).1 ≡ a → Settled e moment ev letters calls i t → Leaves s t (ends_by for result error s c a t)
+  unfolding ends_by
+  ends_leave for s c on result error t found why small may call_action.CleanUp is h =
+      silent_leaves s t (silent_ok s c on result error t found why (ap is_clean_up is) h)
+  ends_leave for s c on result error t found why small may call_action.SendCdn is h =
+      branch (Leaves s t) (has_room t.control) _ _
+      (λ room. told_leaves for s c on result error t found why (ap is_told is) small (may (ap is_told is)).0 room (may (ap is_told is)).1 h)
+      (λ full. absurd (true≢false (sym (has_room_for t.control (now t) (h.fits.0, h.fits.1, h.fits.2)) ∙ full)))
+  ends_leave for s c on result error t found why small may call_action.Nothing is h = leaves_all s t h
+  ends_leave for s c on result error t found why small may call_action.SendIcrq is h = leaves_all s t h
+  ends_leave for s c on result error t found why small may call_action.SendIcrp is h = leaves_all s t h
+  ends_leave for s c on result error t found why small may call_action.SendIccn is h = leaves_all s t h
+  ends_leave for s c on result error t found why small may call_action.DropSession is h = leaves_all s t h

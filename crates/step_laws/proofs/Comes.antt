@@ -1,0 +1,142 @@
+-- A letter that comes, in a turn that changed nothing yet.
+use Rattle.std.proofs.Common.{◌≡◌, inl, inr, ⊎_elim, ℕ, true, List, [], ◌∷◌, length, refl, sym, ap, ◌∙◌, subst, Option, Some, None, Ok, arith}
+use Rattle.std.proofs.lemmas.Option.{none-some}
+use Rattle.id_table.specs.Ids.{at}
+use Rattle.wire_base.specs.declared.letter.Letter.{Letter}
+use Rattle.avp_codec.specs.Reading.{avps_at}
+use Rattle.l2tp_header.specs.declared.header.Header.{Header}
+use Rattle.control_message.specs.declared.message.Message.{Message}
+use Rattle.control_message.specs.Reading.{message_of}
+use Rattle.tunnel_fsm.specs.declared.table.TunnelState.{TunnelState}
+use Rattle.tunnel_fsm.specs.Rows.{state_number}
+use Rattle.call_fsm.specs.declared.table.CallEvent.{CallEvent}
+use Rattle.protocol_model.specs.declared.tunnel.Call.{Call}
+use Rattle.protocol_model.specs.declared.tunnel.Control.{Control}
+use Rattle.protocol_model.specs.declared.event.Event.{Event}
+use Rattle.protocol_model.specs.Reading.{body_of, message_read, pairs_read, message_in}
+use Rattle.protocol_model.specs.Calls.{call_row, is_told}
+use Rattle.protocol_model.specs.Turn.{Tunnel, Turn, may_take, tunnel_after, with_calls}
+use Rattle.protocol_model.specs.End.{End}
+use Rattle.step_laws.specs.Causes.{IsTold, Came}
+use Rattle.step_laws.specs.Moves.{IsFor, HearsNext, ComesNext, IsPlain, InTunnel}
+use Rattle.step_laws.proofs.Turns.{ComesPlain, TurnOk, PlainAt, at_turn}
+
+-- an empty body is no message
+pub empty_said : (body : List ℕ) (m : Message) → message_in body ≡ Ok m → length body ≡ 0 → ⊥
+unfolding message_in pairs_read message_read avps_at message_of
+empty_said [] m said none = absurd cc
+empty_said (b ∷ body) m said none = absurd (omega (arith, none))
+
+-- what is heard comes
+abbrev pub next_of_heard : (ev : Event) (c : Control) (session : ℕ) (m : Message) → HearsNext ev c session m → ComesNext ev c
+next_of_heard ev c session m h = record {
+  bytes = h.hears.bytes;
+  is = h.hears.is;
+  header = h.hears.header;
+  read = h.hears.read;
+  control = h.hears.control;
+  some = empty_said (body_of h.hears.header h.hears.bytes) m h.hears.said;
+  tunnel = h.tunnel;
+  next = h.next;
+}
+
+-- and is taken plainly where nothing is done on it
+comes : (ev : Event) (x : End) (u : Tunnel) (session : ℕ) (m : Message) → IsPlain x u session m → HearsNext ev u.control session m → ComesPlain ev x u
+comes ev x u session m plain h = record {
+  comes = next_of_heard ev u.control session m h;
+  why = λ n said.
+      let both : Ok m ≡ Ok n = sym h.hears.said ∙ said in
+      let same : m ≡ n = cc in
+      subst (λ s. IsPlain x u s n) (sym h.hears.session_is) (subst (IsPlain x u session) same plain);
+}
+
+-- a message is for the tunnel as it goes on
+pub for_still : (h : Header) (bytes : List ℕ) (c d : Control) → d.local ≡ c.local → d.remote ≡ c.remote → IsFor h bytes c → IsFor h bytes d
+for_still h bytes c d local remote to = ⊎_elim
+    (λ named. inl (named ∙ sym local))
+    (λ again. inr (record { none = again.none; opening = again.opening; said = again.said; known = remote ∙ again.known }))
+    to
+
+-- what is heard is in the tunnel, also as it goes on
+pub heard_in : (ev : Event) (c d : Control) (session : ℕ) (m : Message) → d.local ≡ c.local → d.remote ≡ c.remote → d.peer ≡ c.peer → HearsNext ev c session m
+    → InTunnel ev d session m
+heard_in ev c d session m local remote peer h = record {
+  hears = record {
+    bytes = h.hears.bytes;
+    is = rw peer h.hears.is;
+    header = h.hears.header;
+    read = h.hears.read;
+    control = h.hears.control;
+    session_is = h.hears.session_is;
+    said = h.hears.said;
+  };
+  tunnel = for_still h.hears.header h.hears.bytes c d local remote h.tunnel;
+}
+
+-- a state with another number
+pub in_other : (t : Turn) (s : TunnelState) (n : ℕ) → t.control.state ≡ s → (state_number s ≡ n → ⊥) → state_number t.control.state ≡ n → ⊥
+in_other t s n is other same = other (sym (ap state_number is) ∙ same)
+
+module _ (e : End) (moment : ℕ) (ev : Event) (letters : List Letter) (calls : List (ℕ × Call)) (i : ℕ) where
+  -- a turn that changed nothing yet
+  pub record Fresh (t : Turn) : Type 0 where
+    pub good : TurnOk e moment ev letters calls i t
+    pub changes : t.changes ≡ []
+    pub changed : t.changed ≡ []
+    -- the tunnel before the step
+    pub first : Control
+    pub there : at e.tunnels i ≡ Some (record { control = first; letters = letters; calls = calls })
+    pub local : first.local ≡ t.control.local
+    pub remote : first.remote ≡ t.control.remote
+    pub peer : first.peer ≡ t.control.peer
+    pub state : first.state ≡ t.control.state
+    pub sessions : t.sessions ≡ e.session_ids
+
+  -- and may take a letter
+  pub record Taking (t : Turn) : Type 0 where
+    pub fresh : Fresh t
+    pub may : may_take t.control calls ≡ true
+
+  abbrev pub Plain : Turn → ℕ → Message → Type 0
+  Plain t session m = IsPlain (at_turn e moment ev letters calls i t) (tunnel_after t letters calls) session m
+
+  pub comes_at : (t : Turn) (session : ℕ) (m : Message) → Plain t session m → HearsNext ev t.control session m → PlainAt e moment ev letters calls i t
+  comes_at t session m plain h = comes ev (at_turn e moment ev letters calls i t) (tunnel_after t letters calls) session m plain h
+
+  pub calls_first : (t : Turn) → Fresh t → with_calls t.changed calls ≡ calls
+  unfolding with_calls
+  calls_first t f = rw f.changed refl
+
+  pub spare_first : (t : Turn) → Taking t → may_take t.control (with_calls t.changed calls) ≡ true
+  spare_first t f = ap (may_take t.control) (calls_first t f.fresh) ∙ f.may
+
+  pub at_first : (t : Turn) → Fresh t → (s : ℕ) (o : Option Call) → at calls s ≡ o → at (with_calls t.changed calls) s ≡ o
+  at_first t f s o h = ap (λ cs. at cs s) (calls_first t f) ∙ h
+
+  -- the call that is there, or none
+  pub that_call : (P : Call → Type 0) (t : Turn) → Fresh t → (s : ℕ) (c : Call) → at calls s ≡ Some c → P c → (d : Call) → at (with_calls t.changed calls) s ≡ Some d → P d
+  that_call P t f s c is p d found =
+      let both : Some c ≡ Some d = sym (at_first t f s (Some c) is) ∙ found in
+      let same : c ≡ d = cc in
+      subst P same p
+
+  pub no_call : (t : Turn) → Fresh t → (s : ℕ) → at calls s ≡ None → (d : Call) → at (with_calls t.changed calls) s ≡ Some d → ⊥
+  no_call t f s none d found = none-some d (sym (at_first t f s None none) ∙ found)
+
+  -- ---- the tunnel before the step
+
+  abbrev pub begun : (t : Turn) → Fresh t → Tunnel
+  begun t f = record { control = f.first; letters = letters; calls = calls }
+
+  pub came_at : (t : Turn) (f : Fresh t) → state_number t.control.state ≡ 3 → (session : ℕ) (m : Message) → HearsNext ev t.control session m
+      → Came e ev (begun t f) session m
+  came_at t f is_open session m hears = record {
+    id = i;
+    there = f.there;
+    open_is = ap state_number f.state ∙ is_open;
+    came = heard_in ev t.control f.first session m f.local f.remote f.peer hears;
+  }
+
+  pub told_at : (t : Turn) (f : Fresh t) (s : ℕ) (c : Call) (on : CallEvent) → at calls s ≡ Some c → is_told (call_row e.role c.state on).1 ≡ true
+      → IsTold e (begun t f) s on
+  told_at t f s c on found row = record { id = i; there = f.there; call = c; live = found; row = row }

@@ -1,0 +1,271 @@
+-- A tunnel's tick leaves a call that took too long only where there is no room.
+use Rattle.std.proofs.Common.{◌≡◌, ◌⊎◌, inl, inr, ⊎_elim, ℕ, ◌<◌, true, false, List, [], ◌∷◌, ◌++◌, refl, sym, ap, ◌∙◌, subst, Option, Some, None}
+use Rattle.std.proofs.lemmas.Bool.{true≢false, lt-ltb}
+use Rattle.std.proofs.lemmas.Option.{none-some}
+use Rattle.std.specs.Prelude.{◌==◌, ◌&&◌, nat_lt}
+use Rattle.id_table.specs.Ids.{at, without, ids_of}
+use Rattle.id_table.specs.Order.{Ascends, ascends-without, found_without}
+use Rattle.wire_base.specs.declared.why.Why.TheVariants as why
+use Rattle.wire_base.specs.declared.cause.Cause.TheVariants as cause
+use Rattle.wire_base.specs.declared.letter.Letter.{Letter}
+use Rattle.control_message.specs.declared.message.Message.TheVariants.{Hello}
+use Rattle.send_window.specs.declared.window.Tick.{Tick as Due}
+use Rattle.send_window.specs.declared.window.Tick.TheVariants as tick
+use Rattle.control_channel.specs.Numbers.{answer_to_tick}
+use Rattle.tunnel_fsm.specs.Rows.{state_number}
+use Rattle.call_fsm.specs.declared.table.CallAction.{CallAction}
+use Rattle.call_fsm.specs.declared.table.CallAction.TheVariants as call_action
+use Rattle.call_fsm.specs.declared.table.CallEvent.TheVariants as call_event
+use Rattle.protocol_model.specs.declared.tunnel.Call.{Call}
+use Rattle.protocol_model.specs.declared.tunnel.Role.{Role}
+use Rattle.protocol_model.specs.declared.moves.Move.TheVariants as move
+use Rattle.protocol_model.specs.declared.out.Out.TheVariants.{Cause}
+use Rattle.protocol_model.specs.Calls.{call_row, is_set_up, is_told}
+use Rattle.protocol_model.specs.Turn.{Turn, with_output, with_move, with_change, with_calls, gives, has_room, place, next_place, letter_in, counts_repeated, sends_now, settles, ends_call, is_clean_up, repeats, greeted, greets, end_silent, end_told, ends_by, drops, sends_letter, limits_at, limits_all, goes_quietly, clears, is_over, patience, is_being_set_up, ticks_by, ticks}
+use Rattle.step_laws.specs.Letters.{Among}
+use Rattle.step_laws.proofs.Lists.{branch, found_among, with_calls-more}
+use Rattle.step_laws.proofs.States.{never}
+use Rattle.step_laws.proofs.Ticking.{Keeps, repeated_room, sent_keeps, settled_keeps, more_full}
+
+-- a call took as long as a call may to be set up, and ends by its table
+pub record IsDue (role : Role) (moment s : ℕ) (c : Call) : Type 0 where
+  pub small : s < 65536
+  pub set_up : is_set_up c.state ≡ true
+  pub over : is_over patience moment c.since ≡ true
+  pub ends : (is_clean_up (call_row role c.state call_event.Close).1 ≡ true) ⊎ (is_told (call_row role c.state call_event.Close).1 ≡ true)
+
+module _ (role : Role) (moment : ℕ) (calls : List (ℕ × Call)) where
+  abbrev There : Turn → ℕ → Call → Type 0
+  There t s c = at (with_calls t.changed calls) s ≡ Some c
+
+  -- a turn in which calls end
+  record Ticked (t : Turn) : Type 0 where
+    order : Ascends (with_calls t.changed calls)
+    same_moment : t.moment ≡ moment
+    few : (s : ℕ) (c : Call) → There t s c → at calls s ≡ Some c
+
+  -- what a part of it leaves
+  record Leads (t u : Turn) : Type 0 where
+    ok : Ticked u
+    room : has_room t.control ≡ false → has_room u.control ≡ false
+    fewer : (s : ℕ) (c : Call) → There u s c → There t s c
+    state : u.control.state ≡ t.control.state
+
+  leads_nowhere : (t : Turn) → Ticked t → Leads t t
+  leads_nowhere t h = record { ok = h; room = λ f. f; fewer = λ s c there. there; state = refl }
+
+  leads_on : (t u v : Turn) → Leads t u → Leads u v → Leads t v
+  leads_on t u v h k = record {
+    ok = k.ok;
+    room = λ f. k.room (h.room f);
+    fewer = λ s c there. h.fewer s c (k.fewer s c there);
+    state = k.state ∙ h.state;
+  }
+
+  -- no call ends
+  same_leads : (t u : Turn) → (has_room t.control ≡ false → has_room u.control ≡ false) → u.changed ≡ t.changed → u.moment ≡ t.moment
+      → u.control.state ≡ t.control.state → Ticked t → Leads t u
+  same_leads t u room same now state h =
+      let back : (s : ℕ) (c : Call) → There u s c → There t s c = λ s c there. subst (λ xs. at (with_calls xs calls) s ≡ Some c) same there in
+      record {
+        ok = record {
+          order = subst (λ xs. Ascends (with_calls xs calls)) (sym same) h.order;
+          same_moment = now ∙ h.same_moment;
+          few = λ s c there. h.few s c (back s c there);
+        };
+        room = room;
+        fewer = back;
+        state = state;
+      }
+
+  keeps_leads : (t u : Turn) → Keeps t u → Ticked t → Leads t u
+  keeps_leads t u k h = same_leads t u (λ f. k.6 ∙ f) k.0 k.4 k.5 h
+
+  -- one ends
+  record Ends (s : ℕ) (t u : Turn) : Type 0 where
+    leads : Leads t u
+    gone : (c : Call) → There u s c → ⊥
+
+  ends : (s : ℕ) (t u : Turn) → (has_room t.control ≡ false → has_room u.control ≡ false) → u.changed ≡ t.changed ++ (s, None) ∷ []
+      → u.moment ≡ t.moment → u.control.state ≡ t.control.state → Ticked t → Ends s t u
+  ends s t u room more now state h =
+      let less : with_calls u.changed calls ≡ without (with_calls t.changed calls) s = ap (λ xs. with_calls xs calls) more ∙ with_calls-more t.changed s None calls in
+      let found : (q : ℕ) (c : Call) → There u q c → (q ≡ s → ⊥) × There t q c =
+      λ q c there. found_without (with_calls t.changed calls) s q c h.order (subst (λ xs. at xs q ≡ Some c) less there) in
+      record {
+        leads = record {
+          ok = record {
+            order = subst Ascends (sym less) (ascends-without s (with_calls t.changed calls) h.order);
+            same_moment = now ∙ h.same_moment;
+            few = λ q c there. h.few q c (found q c there).1;
+          };
+          room = room;
+          fewer = λ q c there. (found q c there).1;
+          state = state;
+        };
+        gone = λ c there. (found s c there).0 refl;
+      }
+
+  -- it isn't late where there is room
+  abbrev Past : ℕ → Turn → Type 0
+  Past s t = (c : Call) → There t s c → IsDue role moment s c → has_room t.control ≡ false
+
+  past_on : (s : ℕ) (t u : Turn) → Leads t u → Past s t → Past s u
+  past_on s t u l past = λ c there late. l.room (past c (l.fewer s c there) late)
+
+  record Limited (s : ℕ) (t u : Turn) : Type 0 where
+    leads : Leads t u
+    past : Past s u
+
+  ended : (s : ℕ) (t u : Turn) → Ends s t u → Limited s t u
+  ended s t u h = record { leads = h.leads; past = λ c there late. absurd (h.gone c there) }
+
+  silent : (s : ℕ) (t : Turn) → Ticked t → Ends s t (end_silent s t)
+  unfolding end_silent ends_call with_output with_change with_move
+  silent s t h = ends s t (end_silent s t) (λ f. f) refl refl refl h
+
+  told : (s : ℕ) (c : Call) (t : Turn) → Ticked t → Ends s t (end_told s c 10 None (with_output (Cause cause.Setup) t))
+  unfolding end_told gives ends_call with_output with_change with_move
+  told s c t h = ends s t (end_told s c 10 None (with_output (Cause cause.Setup) t)) (λ f. more_full t.control f) refl refl refl h
+
+  -- that call, where it is there still
+  the_call : (s : ℕ) (c : Call) (t : Turn) → Ticked t → at calls s ≡ Some c → (d : Call) → There t s d → d ≡ c
+  the_call s c t h is d there = let both : Some d ≡ Some c = sym (h.few s d there) ∙ is in cc
+
+  module _ (letters : List Letter) where
+    -- it doesn't end by its table
+    kept : (s : ℕ) (c : Call) (t : Turn) (a : CallAction) → Ticked t → at calls s ≡ Some c → (call_row role c.state call_event.Close).1 ≡ a
+        → (is_clean_up a ≡ true → ⊥) → (is_told a ≡ true → ⊥) → Limited s t t
+    kept s c t a h is row clean told = record {
+      leads = leads_nowhere t h;
+      past = λ d there late.
+          let same : IsDue role moment s c = subst (IsDue role moment s) (the_call s c t h is d there) late in
+          absurd (⊎_elim (λ e. clean (ap is_clean_up (sym row) ∙ e)) (λ e. told (ap is_told (sym row) ∙ e)) same.ends);
+    }
+
+    limited_by : (s : ℕ) (c : Call) (t : Turn) → Ticked t → at calls s ≡ Some c → (a : CallAction) → (call_row role c.state call_event.Close).1 ≡ a
+        → Limited s t (ends_by cause.Setup 10 None s c a t)
+    unfolding ends_by drops with_output
+    limited_by s c t h is call_action.CleanUp row = ended s t (end_silent s t) (silent s t h)
+    limited_by s c t h is call_action.SendCdn row =
+        branch (Limited s t) (has_room t.control) _ _
+        (λ may. ended s t (end_told s c 10 None (with_output (Cause cause.Setup) t)) (told s c t h))
+        (λ full. record { leads = same_leads t (drops why.Queue t) (λ f. f) refl refl refl h; past = λ d there late. full })
+    limited_by s c t h is call_action.Nothing row = kept s c t call_action.Nothing h is row never never
+    limited_by s c t h is call_action.SendIcrq row = kept s c t call_action.SendIcrq h is row never never
+    limited_by s c t h is call_action.SendIcrp row = kept s c t call_action.SendIcrp h is row never never
+    limited_by s c t h is call_action.SendIccn row = kept s c t call_action.SendIccn h is row never never
+    limited_by s c t h is call_action.DropSession row = kept s c t call_action.DropSession h is row never never
+
+    -- then letters go
+    limited : (s : ℕ) (c : Call) (t : Turn) → Ticked t → at calls s ≡ Some c
+        → Limited s t (settles false letters (ends_by cause.Setup 10 None s c (call_row role c.state call_event.Close).1 t))
+    limited s c t h is =
+        let u = ends_by cause.Setup 10 None s c (call_row role c.state call_event.Close).1 t in
+        let v = settles false letters u in
+        let l = limited_by s c t h is (call_row role c.state call_event.Close).1 refl in
+        let g = keeps_leads u v (settled_keeps false letters u) l.leads.ok in
+        record { leads = leads_on t u v l.leads g; past = past_on s u v g l.past }
+
+    -- a call that is late is due
+    is_due : (s : ℕ) (c : Call) (t : Turn) → Ticked t → IsDue role moment s c
+        → (nat_lt s 65536 && is_set_up c.state && is_over patience t.moment c.since) ≡ true
+    is_due s c t h late =
+        let small = lt-ltb s 65536 late.small in
+        let set_up = late.set_up in
+        let over : is_over patience t.moment c.since ≡ true = ap (λ m. is_over patience m c.since) h.same_moment ∙ late.over in
+        rw (small, set_up, over) refl
+
+    limits_at_ok : (s : ℕ) (o : Option Call) (t : Turn) → at calls s ≡ o → Ticked t → Limited s t (limits_at role letters s o t)
+    unfolding limits_at
+    limits_at_ok s None t is h = record { leads = leads_nowhere t h; past = λ d there late. absurd (none-some d (sym is ∙ h.few s d there)) }
+    limits_at_ok s (Some c) t is h =
+        branch (Limited s t) (nat_lt s 65536 && is_set_up c.state && is_over patience t.moment c.since) _ _
+        (λ due. limited s c t h is)
+        (λ early. record {
+          leads = leads_nowhere t h;
+          past = λ d there late.
+              absurd (true≢false (sym (is_due s c t h (subst (IsDue role moment s) (the_call s c t h is d there) late)) ∙ early));
+        })
+
+    record AllLimited (ss : List ℕ) (t u : Turn) : Type 0 where
+      leads : Leads t u
+      past : (s : ℕ) → Among s ss → Past s u
+
+    limits_all_ok : (ss : List ℕ) (t : Turn) → Ticked t → AllLimited ss t (limits_all role letters ss calls t)
+    unfolding limits_all
+    limits_all_ok [] t h = record { leads = leads_nowhere t h; past = λ s a. absurd a }
+    limits_all_ok (s ∷ ss) t h =
+        let u = limits_at role letters s (at calls s) t in
+        let v = limits_all role letters ss calls u in
+        let l = limits_at_ok s (at calls s) t refl h in
+        let rest = limits_all_ok ss u l.leads.ok in
+        record {
+          leads = leads_on t u v l.leads rest.leads;
+          past = λ q a. ⊎_elim (λ (same : s ≡ q). subst (λ k. Past k v) same (past_on s u v rest.leads l.past)) (λ later. rest.past q later) a;
+        }
+
+    hello_ok : (t : Turn) → Ticked t → Leads t (gives 0 Hello (with_move (move.Greeted (record { tunnel = t.control.local; given = next_place t.control })) t))
+    unfolding gives with_move
+    hello_ok t h = same_leads t _ (λ f. more_full t.control f) refl refl refl h
+
+    greets_ok : (t : Turn) → Ticked t → Leads t (greets letters t)
+    unfolding greets greeted
+    greets_ok t h =
+        branch (Leads t) (state_number t.control.state == 3 && t.control.channel.window.queued == 0 && is_over patience t.moment t.control.heard) _ _
+        (λ due.
+        let v = gives 0 Hello (with_move (move.Greeted (record { tunnel = t.control.local; given = next_place t.control })) t) in
+        let l = hello_ok t h in
+        leads_on t v _ l (keeps_leads v _ (settled_keeps false letters v) l.ok))
+        (λ early. leads_nowhere t h)
+
+    repeats_ok : (number : ℕ) (t : Turn) → Ticked t → Leads t (repeats letters number t)
+    unfolding repeats sends_now with_move
+    repeats_ok number t h =
+        let u = with_move (move.Repeated (record { tunnel = t.control.local; sent = place number })) (record t { control = counts_repeated t.moment t.control }) in
+        let l = same_leads t u (λ f. repeated_room t.moment t.control ∙ f) refl refl refl h in
+        leads_on t u _ l (keeps_leads u (sends_letter number (letter_in letters u number) u) (sent_keeps number (letter_in letters u number) u) l.ok)
+
+    -- ---- what it leaves
+
+    -- the tunnel's state and those of its calls that are there still are as they were
+    pub record Stays (t r : Turn) : Type 0 where
+      pub state : r.control.state ≡ t.control.state
+      pub few : (s : ℕ) (c : Call) → There r s c → at calls s ≡ Some c
+      pub late : (s : ℕ) (c : Call) → There r s c → IsDue role moment s c → has_room r.control ≡ false
+
+    abbrev pub Ticks : Turn → Turn → Type 0
+    Ticks t r = (r.cleared ≡ true) ⊎ Stays t r
+
+    clears_ok : (t : Turn) → Ticks t (clears calls t)
+    unfolding clears
+    clears_ok t = inl refl
+
+    quietly_ok : (t u : Turn) → Leads t u → Ticks t (goes_quietly role letters calls u)
+    unfolding goes_quietly
+    quietly_ok t u h =
+        let v = greets letters u in
+        let g = greets_ok u h.ok in
+        let a = limits_all_ok (ids_of calls) v g.ok in
+        inr (record {
+          state = a.leads.state ∙ g.state ∙ h.state;
+          few = a.leads.ok.few;
+          late = λ s c there late. a.past s (found_among calls s c (a.leads.ok.few s c there)) c there late;
+        })
+
+    ticks_by_ok : (a : Due) (t : Turn) → Ticked t → Ticks t (ticks_by role letters calls a t)
+    unfolding ticks_by
+    ticks_by_ok tick.Quiet t h = quietly_ok t t (leads_nowhere t h)
+    ticks_by_ok (tick.Again number) t h = quietly_ok t (repeats letters number t) (repeats_ok number t h)
+    ticks_by_ok (tick.Failed first) t h = clears_ok t
+
+    pub ticks_ok : (t : Turn) → Ascends calls → t.changed ≡ [] → t.moment ≡ moment → Ticks t (ticks role letters calls t)
+    unfolding ticks with_calls
+    ticks_ok t order none now =
+        branch (Ticks t) (is_being_set_up t.control.state && is_over patience t.moment t.control.made) _ _
+        (λ late. clears_ok t)
+        (λ early. ticks_by_ok (answer_to_tick t.control.channel t.moment) t (record {
+          order = rw none order;
+          same_moment = now;
+          few = λ s c there. (let found = rw none at there in found);
+        }))

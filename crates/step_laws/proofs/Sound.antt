@@ -1,0 +1,196 @@
+-- Each move leaves calls whose sessions have 16 bits and whose states are those of the end's table.
+use Rattle.std.proofs.Common.{◌≡◌, ⊎_elim, ℕ, ◌<◌, true, List, [], ◌∷◌, refl, sym, ap, ◌∙◌, subst, Some}
+use Rattle.std.proofs.lemmas.Option.{none-some}
+use Rattle.id_table.specs.Ids.{at, put, without, at-none}
+use Rattle.id_table.specs.Order.{Ascends, ascends-empty, ascends-put, ascends-without, found_put, found_without}
+use Rattle.call_fsm.specs.declared.table.CallState.{CallState}
+use Rattle.call_fsm.specs.declared.table.CallState.TheVariants.{Idle, WaitTunnel, WaitReply, WaitConnect, Established}
+use Rattle.call_fsm.specs.declared.table.CallEvent.TheVariants.{TunnelOpen, IccnAcc}
+use Rattle.protocol_model.specs.declared.event.Event.{Event}
+use Rattle.protocol_model.specs.declared.moves.Move.{Move}
+use Rattle.protocol_model.specs.declared.moves.Move.TheVariants as move
+use Rattle.protocol_model.specs.declared.tunnel.Call.{Call}
+use Rattle.protocol_model.specs.declared.tunnel.Role.{Role}
+use Rattle.protocol_model.specs.declared.tunnel.Role.TheVariants.{Lac, Lns}
+use Rattle.protocol_model.specs.Calls.{call_row, advanced, rung, asked_for, is_request}
+use Rattle.protocol_model.specs.Turn.{Tunnel}
+use Rattle.protocol_model.specs.End.{End, step}
+use Rattle.step_laws.specs.Moves.{Does, Chain}
+use Rattle.step_laws.specs.Left.{CanBe, AreSound, CallsStaySound}
+use Rattle.step_laws.specs.Steps.{AreKept, StepsAreChains}
+use Rattle.step_laws.proofs.States.{requested_state, rung_state, connected_state, up_state}
+use Rattle.step_laws.proofs.Turns.{last_after, small_draw}
+
+-- ---- states
+
+-- what isn't asked for, and waits for nothing that the other role's calls wait for
+can_request : (r : Role) (s : CallState) → is_request (call_row r s TunnelOpen).1 ≡ true → CanBe r (call_row r s TunnelOpen).0
+unfolding call_row
+can_request Lac s h = rw (requested_state Lac s h).1 tt
+can_request Lns s h = absurd (none s h)
+  where
+    none : (s : CallState) → is_request (call_row Lns s TunnelOpen).1 ≡ true → ⊥
+    none Idle h = absurd cc
+    none WaitTunnel h = absurd cc
+    none WaitReply h = absurd cc
+    none WaitConnect h = absurd cc
+    none Established h = absurd cc
+
+can_be_up : (r : Role) (s : CallState) → s ≡ Established → CanBe r s
+can_be_up Lac s h = rw h tt
+can_be_up Lns s h = rw h tt
+
+can_ring : (port moment : ℕ) → CanBe Lac (rung Lac port moment).state
+can_ring port moment = rw (rung_state Lac port moment refl) tt
+
+can_be_asked : (r : Role) (remote moment : ℕ) → CanBe r (asked_for r remote moment).state
+unfolding asked_for advanced call_row
+can_be_asked Lac remote moment = tt
+can_be_asked Lns remote moment = tt
+
+-- ---- tables of calls
+
+-- they ascend, and are sound
+record IsWhole (r : Role) (calls : List (ℕ × Call)) : Type 0 where
+  order : Ascends calls
+  sound : (s : ℕ) (c : Call) → at calls s ≡ Some c → (s < 65536) × CanBe r c.state
+
+whole_none : (r : Role) → IsWhole r []
+whole_none r = record { order = ascends-empty [] refl; sound = λ s c there. absurd (none-some c (sym (at-none s) ∙ there)) }
+
+whole_put : (r : Role) (calls : List (ℕ × Call)) (k : ℕ) (d : Call) → k < 65536 → CanBe r d.state → IsWhole r calls → IsWhole r (put calls k d)
+whole_put r calls k d small can h = record {
+  order = ascends-put k d calls h.order;
+  sound = λ s c there. ⊎_elim
+      (λ (a : (s ≡ k) × (d ≡ c)). (subst (λ n. n < 65536) (sym a.0) small, subst (λ (x : Call). CanBe r x.state) a.1 can))
+      (λ (a : (s ≡ k → ⊥) × (at calls s ≡ Some c)). h.sound s c a.1)
+      (found_put calls k d s c there);
+}
+
+whole_without : (r : Role) (calls : List (ℕ × Call)) (k : ℕ) → IsWhole r calls → IsWhole r (without calls k)
+whole_without r calls k h = record {
+  order = ascends-without k calls h.order;
+  sound = λ s c there. h.sound s c (found_without calls k s c h.order there).1;
+}
+
+-- ---- moves
+
+-- so are those of each tunnel of an end
+record AreWhole (e : End) : Type 0 where
+  last : e.session_ids.last < 65536
+  order : Ascends e.tunnels
+  calls : (i : ℕ) (t : Tunnel) → at e.tunnels i ≡ Some t → IsWhole e.role t.calls
+
+module _ (e : End) (whole : AreWhole e) where
+  -- a tunnel is put whose calls are so
+  puts : (x z : End) (i : ℕ) (u : Tunnel) → x ≡ z → z.role ≡ e.role → z.session_ids.last ≡ e.session_ids.last → z.tunnels ≡ put e.tunnels i u
+      → IsWhole e.role u.calls → AreWhole x
+  puts x z i u same role last tunnels calls = subst AreWhole (sym same) (record {
+    last = subst (λ n. n < 65536) (sym last) whole.last;
+    order = rw tunnels (ascends-put i u e.tunnels whole.order);
+    calls = λ j t there. subst (λ r. IsWhole r t.calls) (sym role) (⊎_elim
+        (λ (a : (j ≡ i) × (u ≡ t)). subst (λ (y : Tunnel). IsWhole e.role y.calls) a.1 calls)
+        (λ (a : (j ≡ i → ⊥) × (at e.tunnels j ≡ Some t)). whole.calls j t a.1)
+        (found_put e.tunnels i u j t (subst (λ ts. at ts j ≡ Some t) tunnels there)));
+  })
+
+  nothing : (x : End) → x ≡ e → AreWhole x
+  nothing x same = subst AreWhole (sym same) whole
+
+  does_whole : (moment : ℕ) (ev : Event) (m : Move) (x : End) → Does e moment ev m x → AreWhole x
+  unfolding advanced
+  does_whole moment ev (move.Opened m) x h = puts x _ m.tunnel _ h.after refl refl refl (whole_none e.role)
+  does_whole moment ev (move.Accepted m) x h = puts x _ m.tunnel _ h.after refl refl refl (whole_none e.role)
+  does_whole moment ev (move.Connected m) x h = puts x _ m.tunnel _ h.after refl refl refl (whole.calls m.tunnel h.tunnel h.there)
+  does_whole moment ev (move.Confirmed m) x h = puts x _ m.tunnel _ h.after refl refl refl (whole.calls m.tunnel h.tunnel h.there)
+  does_whole moment ev (move.Added m) x h =
+      puts x _ m.tunnel _ h.after refl (last_after e.session_ids) refl
+      (whole_put e.role h.tunnel.calls m.session _ (small_draw e.session_ids m.session h.drawn whole.last)
+      (rw h.role (can_ring m.port moment)) (whole.calls m.tunnel h.tunnel h.there))
+  does_whole moment ev (move.Requested m) x h =
+      puts x _ m.tunnel _ h.after refl refl refl
+      (whole_put e.role h.tunnel.calls m.session _ h.session (can_request e.role h.call.state h.row) (whole.calls m.tunnel h.tunnel h.there))
+  does_whole moment ev (move.Replied m) x h =
+      puts x _ m.tunnel _ h.after refl (last_after e.session_ids) refl
+      (whole_put e.role h.tunnel.calls m.session _ (small_draw e.session_ids m.session h.drawn whole.last)
+      (can_be_asked e.role m.remote moment) (whole.calls m.tunnel h.tunnel h.there))
+  does_whole moment ev (move.FirstUp m) x h =
+      let calls = whole.calls m.tunnel h.tunnel h.there in
+      puts x _ m.tunnel _ h.after refl refl refl
+      (whole_put e.role h.tunnel.calls m.session _ (calls.sound m.session h.call h.asked).0
+      (can_be_up e.role _ (connected_state e.role h.call.state h.row).1) calls)
+  does_whole moment ev (move.SecondUp m) x h =
+      let calls = whole.calls m.tunnel h.tunnel h.there in
+      puts x _ m.tunnel _ h.after refl refl refl
+      (whole_put e.role h.tunnel.calls m.session _ (calls.sound m.session h.call h.made).0
+      (can_be_up e.role _ (up_state (call_row e.role h.call.state IccnAcc).0 h.row)) calls)
+  does_whole moment ev (move.Refused m) x h = puts x _ m.tunnel _ h.after refl refl refl (whole.calls m.tunnel h.tunnel h.there)
+  does_whole moment ev (move.EndTold m) x h =
+      puts x _ m.tunnel _ h.after refl refl refl (whole_without e.role h.tunnel.calls m.session (whole.calls m.tunnel h.tunnel h.there))
+  does_whole moment ev (move.EndHeard m) x h =
+      puts x _ m.tunnel _ h.after refl refl refl (whole_without e.role h.tunnel.calls m.session (whole.calls m.tunnel h.tunnel h.there))
+  does_whole moment ev (move.EndSilent m) x h =
+      puts x _ m.tunnel _ h.after refl refl refl (whole_without e.role h.tunnel.calls m.session (whole.calls m.tunnel h.tunnel h.there))
+  does_whole moment ev (move.Cleared i) x h = subst AreWhole (sym h.after) (record {
+    last = whole.last;
+    order = ascends-without i e.tunnels whole.order;
+    calls = λ j t there. whole.calls j t (found_without e.tunnels i j t whole.order there).1;
+  })
+  does_whole moment ev (move.Greeted m) x h = puts x _ m.tunnel _ h.after refl refl refl (whole.calls m.tunnel h.tunnel h.there)
+  does_whole moment ev (move.TookPlain m) x h = puts x _ m.tunnel _ h.after refl refl refl (whole.calls m.tunnel h.tunnel h.there)
+  does_whole moment ev (move.NrRead m) x h = puts x _ m.tunnel _ h.after refl refl refl (whole.calls m.tunnel h.tunnel h.there)
+  does_whole moment ev (move.LetGo m) x h = puts x _ m.tunnel _ h.after refl refl refl (whole.calls m.tunnel h.tunnel h.there)
+  does_whole moment ev (move.Repeated m) x h = puts x _ m.tunnel _ h.after refl refl refl (whole.calls m.tunnel h.tunnel h.there)
+  does_whole moment ev (move.Quiet i) x h = nothing x h.after
+  does_whole moment ev (move.FrameSent m) x h = nothing x h.after
+  does_whole moment ev (move.FrameUp m) x h = nothing x h.after
+
+-- the role is the end's
+does_role : (moment : ℕ) (ev : Event) (e x : End) (m : Move) → Does e moment ev m x → x.role ≡ e.role
+does_role moment ev e x (move.Opened m) h = ap (λ (y : End). y.role) h.after
+does_role moment ev e x (move.Accepted m) h = ap (λ (y : End). y.role) h.after
+does_role moment ev e x (move.Connected m) h = ap (λ (y : End). y.role) h.after
+does_role moment ev e x (move.Confirmed m) h = ap (λ (y : End). y.role) h.after
+does_role moment ev e x (move.Added m) h = ap (λ (y : End). y.role) h.after
+does_role moment ev e x (move.Requested m) h = ap (λ (y : End). y.role) h.after
+does_role moment ev e x (move.Replied m) h = ap (λ (y : End). y.role) h.after
+does_role moment ev e x (move.FirstUp m) h = ap (λ (y : End). y.role) h.after
+does_role moment ev e x (move.SecondUp m) h = ap (λ (y : End). y.role) h.after
+does_role moment ev e x (move.Refused m) h = ap (λ (y : End). y.role) h.after
+does_role moment ev e x (move.EndTold m) h = ap (λ (y : End). y.role) h.after
+does_role moment ev e x (move.EndHeard m) h = ap (λ (y : End). y.role) h.after
+does_role moment ev e x (move.EndSilent m) h = ap (λ (y : End). y.role) h.after
+does_role moment ev e x (move.Cleared i) h = ap (λ (y : End). y.role) h.after
+does_role moment ev e x (move.Greeted m) h = ap (λ (y : End). y.role) h.after
+does_role moment ev e x (move.TookPlain m) h = ap (λ (y : End). y.role) h.after
+does_role moment ev e x (move.NrRead m) h = ap (λ (y : End). y.role) h.after
+does_role moment ev e x (move.LetGo m) h = ap (λ (y : End). y.role) h.after
+does_role moment ev e x (move.Repeated m) h = ap (λ (y : End). y.role) h.after
+does_role moment ev e x (move.Quiet i) h = ap (λ (y : End). y.role) h.after
+does_role moment ev e x (move.FrameSent m) h = ap (λ (y : End). y.role) h.after
+does_role moment ev e x (move.FrameUp m) h = ap (λ (y : End). y.role) h.after
+
+chain_role : (moment : ℕ) (ev : Event) (ms : List Move) (e x : End) → Chain moment ev e ms x → x.role ≡ e.role
+chain_role moment ev [] e x h = ap (λ (y : End). y.role) (sym h)
+chain_role moment ev (m ∷ ms) e x h = chain_role moment ev ms h.0 x h.2 ∙ does_role moment ev e h.0 m h.1
+
+chain_whole : (moment : ℕ) (ev : Event) (ms : List Move) (e x : End) → AreWhole e → Chain moment ev e ms x → AreWhole x
+chain_whole moment ev [] e x whole h = subst AreWhole h whole
+chain_whole moment ev (m ∷ ms) e x whole h = chain_whole moment ev ms h.0 x (does_whole e whole moment ev m h.0 h.1) h.2
+
+module _ (chains : StepsAreChains) (e : End) (kept : AreKept e) (moment : ℕ) (block : List ℕ) (ev : Event) where
+  pub role_stays : (step e moment block ev).end.role ≡ e.role
+  role_stays = let s = step e moment block ev in chain_role moment ev s.moves e s.end (chains e kept moment block ev).chain
+
+  pub stays_sound : AreSound e → AreSound (step e moment block ev).end
+  stays_sound sound i t there =
+      let s = step e moment block ev in
+      let whole = chain_whole moment ev s.moves e s.end (record {
+        last = kept.sessions;
+        order = kept.order;
+        calls = λ j u is. record { order = (kept.tunnels j u is).calls; sound = sound j u is };
+      }) (chains e kept moment block ev).chain in
+      (whole.calls i t there).sound
+
+pub calls_stay_sound : StepsAreChains → CallsStaySound
+calls_stay_sound chains e kept sound moment block ev = stays_sound chains e kept moment block ev sound

@@ -1,0 +1,64 @@
+-- The states that the rows of calls lead from and to.
+use Rattle.std.proofs.Common.{◌≡◌, ℕ, true, false, refl, sym}
+use Rattle.std.proofs.lemmas.Bool.{true≢false}
+use Rattle.call_fsm.specs.declared.table.CallState.{CallState}
+use Rattle.call_fsm.specs.declared.table.CallState.TheVariants.{Idle, WaitTunnel, WaitReply, WaitConnect, Established}
+use Rattle.call_fsm.specs.declared.table.CallEvent.TheVariants as call_event
+use Rattle.protocol_model.specs.declared.tunnel.Role.{Role}
+use Rattle.protocol_model.specs.declared.tunnel.Role.TheVariants.{Lac, Lns}
+use Rattle.protocol_model.specs.Calls.{call_row, advanced, rung, asked_for, is_request, is_reply, is_connection, is_up}
+
+pub never : {X : Type 0} → false ≡ true → X
+never h = absurd (true≢false (sym h))
+
+-- a call that is asked for waited for its tunnel, and waits for a reply
+pub requested_state : (r : Role) (s : CallState) → is_request (call_row r s call_event.TunnelOpen).1 ≡ true
+    → (s ≡ WaitTunnel) × ((call_row r s call_event.TunnelOpen).0 ≡ WaitReply)
+unfolding call_row
+requested_state Lac Idle h = never h
+requested_state Lac WaitTunnel h = (refl, refl)
+requested_state Lac WaitReply h = never h
+requested_state Lac WaitConnect h = never h
+requested_state Lac Established h = never h
+requested_state Lns Idle h = never h
+requested_state Lns WaitTunnel h = never h
+requested_state Lns WaitReply h = never h
+requested_state Lns WaitConnect h = never h
+requested_state Lns Established h = never h
+
+pub replied_state : (r : Role) (remote moment : ℕ) → is_reply (call_row r Idle call_event.IcrqAcc).1 ≡ true → (asked_for r remote moment).state ≡ WaitConnect
+unfolding call_row asked_for advanced
+replied_state Lac remote moment h = never h
+replied_state Lns remote moment h = refl
+
+pub rung_state : (r : Role) (port moment : ℕ) → r ≡ Lac → (rung r port moment).state ≡ WaitTunnel
+unfolding call_row rung advanced
+rung_state Lac port moment h = refl
+rung_state Lns port moment h = absurd cc
+
+pub connected_state : (r : Role) (s : CallState) → is_connection (call_row r s call_event.IcrpAcc).1 ≡ true
+    → (s ≡ WaitReply) × ((call_row r s call_event.IcrpAcc).0 ≡ Established)
+unfolding call_row
+connected_state Lac Idle h = never h
+connected_state Lac WaitTunnel h = never h
+connected_state Lac WaitReply h = (refl, refl)
+connected_state Lac WaitConnect h = never h
+connected_state Lac Established h = never h
+connected_state Lns Idle h = never h
+connected_state Lns WaitTunnel h = never h
+connected_state Lns WaitReply h = never h
+connected_state Lns WaitConnect h = never h
+connected_state Lns Established h = never h
+
+pub up_state : (s : CallState) → is_up s ≡ true → s ≡ Established
+up_state Idle h = never h
+up_state WaitTunnel h = never h
+up_state WaitReply h = never h
+up_state WaitConnect h = never h
+up_state Established h = refl
+
+-- one that rings is asked for where its tunnel is open
+pub rung_asks : (r : Role) (port moment : ℕ) → r ≡ Lac → is_request (call_row r (rung r port moment).state call_event.TunnelOpen).1 ≡ true
+unfolding call_row rung advanced
+rung_asks Lac port moment h = refl
+rung_asks Lns port moment h = absurd cc

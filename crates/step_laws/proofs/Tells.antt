@@ -1,0 +1,169 @@
+-- What a step tells is so: that there is no room, and each cause.
+use Rattle.std.proofs.Common.{◌≡◌, ◌⊎◌, inl, inr, ⊎_elim, ℕ, Bool, true, false, cond, List, [], ◌∷◌, refl, sym, ap, ◌∙◌, subst, Option, Some, None, is_some, Result, Ok, Err}
+use Rattle.std.proofs.lemmas.Bool.{eqb-true, eq-eqb, true≢false}
+use Rattle.std.specs.Prelude.{◌==◌, ◌||◌, not}
+use Rattle.std.specs.List.{AllByRecursion}
+use Rattle.id_source.specs.Spaces.{draws}
+use Rattle.id_source.specs.declared.IdError.{IdError}
+use Rattle.wire_base.specs.declared.why.Why.{Why}
+use Rattle.wire_base.specs.declared.why.Why.TheVariants as why
+use Rattle.wire_base.specs.declared.cause.Cause.{Cause as CauseOf}
+use Rattle.wire_base.specs.declared.cause.Cause.TheVariants as cause
+use Rattle.avp_codec.specs.declared.avp.Avp.{Avp}
+use Rattle.avp_codec.specs.declared.error.AvpError.{AvpError}
+use Rattle.avp_codec.specs.Reading.{avps_of}
+use Rattle.l2tp_header.specs.declared.header.HeaderError.{HeaderError}
+use Rattle.l2tp_header.specs.declared.header.HeaderError.TheVariants as header
+use Rattle.control_message.specs.declared.kind.Kind.{Kind}
+use Rattle.control_message.specs.declared.message.Read.{Read}
+use Rattle.control_message.specs.declared.message.Read.TheVariants.{Known, Ignored}
+use Rattle.control_message.specs.declared.message.MessageError.{MessageError}
+use Rattle.control_message.specs.declared.message.MessageError.TheVariants.{NoType, UnknownType, UnknownMandatory, HiddenWithoutVector, BadValue, Missing, NoMemory}
+use Rattle.control_message.specs.Reading.{message_of, kind_of_pairs, plain_short}
+use Rattle.call_fsm.specs.declared.table.CallEvent.TheVariants as call_event
+use Rattle.call_fsm.specs.declared.table.CallState.TheVariants as call
+use Rattle.protocol_model.specs.declared.event.Event.{Event}
+use Rattle.protocol_model.specs.declared.out.Out.{Out}
+use Rattle.protocol_model.specs.declared.out.Out.TheVariants.{Send, Up, Gone, Drop, Cause}
+use Rattle.protocol_model.specs.Reading.{header_why, message_read, pairs_read, message_in, CallFault, fault_cause, is_about_call, with_cause, fault_of_kind, fault_read, fault_of_pairs, call_fault_in}
+use Rattle.protocol_model.specs.Calls.{call_row, is_reply, are_too_many}
+use Rattle.protocol_model.specs.Turn.{Tunnel, Reason, reason, out_of_state, call_of, left_of, granted}
+use Rattle.protocol_model.specs.End.{End}
+use Rattle.step_laws.specs.Letters.{Among}
+use Rattle.step_laws.specs.Room.{IsFull}
+use Rattle.step_laws.specs.Causes.{CameFaulty, Asks, IsIdInUse, AskedInVain, ForRequest, Stands}
+
+-- an output that tells why something isn't done
+abbrev pub Founded : End → ℕ → Event → Why → Type 0
+Founded e moment ev w = w ≡ why.Queue → IsFull e moment ev
+
+abbrev pub Tells : End → ℕ → Event → Out → Type 0
+Tells e moment ev (Drop w) = Founded e moment ev w
+Tells e moment ev (Cause c) = Stands e moment ev c
+Tells e moment ev (Send peer bytes o) = Unit {0}
+Tells e moment ev (Up session side frame) = Unit {0}
+Tells e moment ev (Gone session) = Unit {0}
+
+pub of_all : {X : Type 0} (P : X → Type 0) (xs : List X) (x : X) → AllByRecursion P xs → Among x xs → P x
+of_all P [] x h a = absurd a
+of_all P (y ∷ xs) x h a = ⊎_elim (λ same. subst P same h.0) (λ later. of_all P xs x h.1 later) a
+
+-- ---- words that don't tell of room
+
+-- neither a header that can't be read, nor a body
+pub header_other : (x : HeaderError) → header_why x ≡ why.Queue → ⊥
+header_other header.Short h = absurd cc
+header_other (header.Version seen) h = absurd cc
+header_other (header.ControlFlags word) h = absurd cc
+header_other (header.Length said have) h = absurd cc
+
+message_other : (r : Result Read MessageError) (w : Why) → message_read r ≡ Err w → w ≡ why.Queue → ⊥
+unfolding message_read
+message_other (Ok (Known m)) w h q = absurd cc
+message_other (Ok (Ignored n)) w h q = absurd cc
+message_other (Err x) w h q = absurd cc
+
+pairs_other : (r : Result (List Avp) AvpError) (w : Why) → pairs_read r ≡ Err w → w ≡ why.Queue → ⊥
+unfolding pairs_read
+pairs_other (Ok avps) w h q = message_other (message_of avps) w h q
+pairs_other (Err x) w h q = absurd cc
+
+pub body_other : (body : List ℕ) (w : Why) → message_in body ≡ Err w → w ≡ why.Queue → ⊥
+unfolding message_in
+body_other body w h q = pairs_other (avps_of body) w h q
+
+-- ---- the cause of a fault
+
+abbrev pub IsOfFault : CauseOf → Type 0
+IsOfFault c = (c ≡ cause.Value) ⊎ (c ≡ cause.Mandatory)
+
+error_cause : (x : MessageError) (c : CauseOf) → fault_cause x ≡ Some c → IsOfFault c
+error_cause (UnknownMandatory v n) c h = inr (let same : cause.Mandatory ≡ c = cc in sym same)
+error_cause (HiddenWithoutVector n) c h = inl (let same : cause.Value ≡ c = cc in sym same)
+error_cause (BadValue n) c h = inl (let same : cause.Value ≡ c = cc in sym same)
+error_cause (Missing n) c h = inl (let same : cause.Value ≡ c = cc in sym same)
+error_cause NoType c h = absurd cc
+error_cause (UnknownType n) c h = absurd cc
+error_cause NoMemory c h = absurd cc
+
+made_cause : (q : Kind) (s : Option ℕ) (o : Option CauseOf) (k : CallFault) → with_cause q s o ≡ Some k → o ≡ Some k.cause
+made_cause q s None k h = absurd cc
+made_cause q s (Some c) k h =
+    let f : CallFault = record { kind = q; cause = c; session = s } in
+    let same : f ≡ k = cc in
+    ap (λ (x : CallFault). Some x.cause) same
+
+kind_cause : (o : Option Kind) (x : MessageError) (avps : List Avp) (k : CallFault) → fault_of_kind o x avps ≡ Some k → IsOfFault k.cause
+kind_cause None x avps k h = absurd cc
+kind_cause (Some q) x avps k h = by (is_about_call q) h
+  where
+    by : (b : Bool) → cond b (with_cause q (plain_short 14 avps) (fault_cause x)) None ≡ Some k → IsOfFault k.cause
+    by true is = error_cause x k.cause (made_cause q (plain_short 14 avps) (fault_cause x) k is)
+    by false is = absurd cc
+
+read_cause : (avps : List Avp) (r : Result Read MessageError) (k : CallFault) → fault_read avps r ≡ Some k → IsOfFault k.cause
+read_cause avps (Ok r) k h = absurd cc
+read_cause avps (Err x) k h = kind_cause (kind_of_pairs avps) x avps k h
+
+pairs_cause : (r : Result (List Avp) AvpError) (k : CallFault) → fault_of_pairs r ≡ Some k → IsOfFault k.cause
+unfolding fault_of_pairs
+pairs_cause (Ok avps) k h = read_cause avps (message_of avps) k h
+pairs_cause (Err x) k h = absurd cc
+
+pub cause_of_fault : (body : List ℕ) (k : CallFault) → call_fault_in body ≡ Some k → IsOfFault k.cause
+unfolding call_fault_in
+cause_of_fault body k h = pairs_cause (avps_of body) k h
+
+-- ---- causes that stand
+
+module _ (e : End) (moment : ℕ) (ev : Event) (t : Tunnel) where
+  pub fault_stands : (session : ℕ) (k : CallFault) → CameFaulty e ev t session k → IsOfFault k.cause → Stands e moment ev k.cause
+  fault_stands session k came is = ⊎_elim
+      (λ (value : k.cause ≡ cause.Value). subst (Stands e moment ev) (sym value) (t, session, k, came, value))
+      (λ (mandatory : k.cause ≡ cause.Mandatory). subst (Stands e moment ev) (sym mandatory) (t, session, k, came, mandatory))
+      is
+
+  -- an id that is in use, or not
+  in_use : (remote : ℕ) → (remote == 0 || is_some (call_of t.calls remote)) ≡ true → IsIdInUse t remote
+  in_use remote h = by (remote == 0) (call_of t.calls remote) refl refl h
+    where
+      by : (a : Bool) (o : Option ℕ) → (remote == 0) ≡ a → call_of t.calls remote ≡ o → (a || is_some o) ≡ true → IsIdInUse t remote
+      by true o zero is e = inl (eqb-true remote 0 zero)
+      by false (Some s) zero is e = inr (s, is)
+      by false None zero is e = absurd (true≢false (sym e))
+
+  free : (remote : ℕ) → (remote == 0 || is_some (call_of t.calls remote)) ≡ false → IsIdInUse t remote → ⊥
+  free remote h used = by (remote == 0) (call_of t.calls remote) refl refl h
+    where
+      by : (a : Bool) (o : Option ℕ) → (remote == 0) ≡ a → call_of t.calls remote ≡ o → (a || is_some o) ≡ false → ⊥
+      by true o zero is e = true≢false e
+      by false (Some s) zero is e = true≢false e
+      by false None zero is e = ⊎_elim
+          (λ (none : remote ≡ 0). true≢false (sym (eq-eqb remote 0 none) ∙ zero))
+          (λ some. let both : None ≡ Some some.0 = sym is ∙ some.1 in absurd cc)
+          used
+
+  abbrev refusal : Reason → Result ℕ Reason
+  refusal q = Err q
+
+  -- why a request isn't granted
+  pub granted_stands : (remote : ℕ) → Asks e ev t remote → (r : Reason) → granted e.role t.calls remote e.session_ids ≡ Err r → Stands e moment ev r.cause
+  unfolding granted
+  granted_stands remote asks r h =
+      by (is_reply (call_row e.role call.Idle call_event.IcrqAcc).1) (remote == 0 || is_some (call_of t.calls remote)) (are_too_many t.calls)
+      (draws e.session_ids) refl refl refl refl h
+    where
+      so : (q : Reason) → refusal q ≡ refusal r → Stands e moment ev q.cause → Stands e moment ev r.cause
+      so q is stands = let same : q ≡ r = cc in subst (λ (x : Reason). Stands e moment ev x.cause) same stands
+
+      by : (a b c : Bool) (d : Result ℕ IdError) → is_reply (call_row e.role call.Idle call_event.IcrqAcc).1 ≡ a
+          → (remote == 0 || is_some (call_of t.calls remote)) ≡ b → are_too_many t.calls ≡ c → draws e.session_ids ≡ d
+          → cond (not a) (Err out_of_state) (cond b (Err (reason cause.Session 2 (Some 5))) (cond c (Err (reason cause.Calls 4 None)) (left_of d))) ≡ Err r
+          → Stands e moment ev r.cause
+      by false b c d row used many drawn is = so out_of_state is (t, AskedInVain remote asks row)
+      by true true c d row used many drawn is =
+          so (reason cause.Session 2 (Some 5)) is (t, remote, asks, (λ none. true≢false (sym row ∙ none)), in_use remote used)
+      by true false true d row used many drawn is =
+          so (reason cause.Calls 4 None) is (inr (t, remote, asks, (λ none. true≢false (sym row ∙ none)), free remote used, many))
+      by true false false (Err x) row used many drawn is = so (reason cause.Ids 4 None) is (ForRequest t remote x asks (free remote used) many drawn)
+      by true false false (Ok s) row used many drawn is = absurd cc

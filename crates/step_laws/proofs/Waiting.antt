@@ -1,0 +1,243 @@
+-- After a step no call waits in an open tunnel, since there is room for its request.
+use Rattle.std.proofs.Common.{◌≡◌, ◌⊎◌, inl, inr, ⊎_elim, ℕ, ◌<◌, false, List, [], refl, sym, ap, ◌∙◌, subst, Option, Some, None, Result, Ok, Err}
+use Rattle.std.proofs.lemmas.Bool.{true≢false}
+use Rattle.std.proofs.lemmas.Option.{none-some}
+use Rattle.std.specs.Prelude.{◌==◌}
+use Rattle.id_table.specs.Ids.{at, ids_of, at-none}
+use Rattle.wire_base.specs.declared.letter.Letter.{Letter}
+use Rattle.l2tp_header.specs.declared.header.Header.{Header}
+use Rattle.l2tp_header.specs.declared.header.HeaderError.{HeaderError}
+use Rattle.l2tp_header.specs.Reading.{header_of}
+use Rattle.tunnel_fsm.specs.declared.table.TunnelState.{TunnelState}
+use Rattle.tunnel_fsm.specs.declared.table.TunnelState.TheVariants.{WaitCtlReply, Established}
+use Rattle.tunnel_fsm.specs.Rows.{state_number}
+use Rattle.protocol_model.specs.declared.tunnel.Call.{Call}
+use Rattle.protocol_model.specs.declared.tunnel.CallPlace.{CallPlace}
+use Rattle.protocol_model.specs.declared.tunnel.Role.{Role}
+use Rattle.protocol_model.specs.declared.tunnel.Role.TheVariants.{Lac, Lns}
+use Rattle.wire_base.specs.declared.cause.Cause.TheVariants as cause
+use Rattle.call_fsm.specs.declared.table.CallState.TheVariants.{WaitTunnel}
+use Rattle.call_fsm.specs.declared.table.CallEvent.TheVariants as call_event
+use Rattle.protocol_model.specs.declared.event.Addressee.{Addressee}
+use Rattle.protocol_model.specs.declared.event.Addressee.TheVariants.{Opens, Main, Nobody}
+use Rattle.protocol_model.specs.declared.event.Event.{Event}
+use Rattle.protocol_model.specs.declared.event.Event.TheVariants.{Datagram, Ring, Payload, Lower, Hang, OpenTunnel, DropCall, Tick}
+use Rattle.protocol_model.specs.declared.out.Out.{Out}
+use Rattle.protocol_model.specs.declared.out.Out.TheVariants.{Drop, Cause as Refused}
+use Rattle.wire_base.specs.declared.why.Why.TheVariants as why
+use Rattle.protocol_model.specs.Reading.{body_of}
+use Rattle.protocol_model.specs.Calls.{call_row, is_lac, Carried, Upward, Dropped}
+use Rattle.protocol_model.specs.Turn.{Tunnel, Env, Turn, turn_of, with_calls, fresh, has_room, turns, tunnel_after}
+use Rattle.protocol_model.specs.End.{End, Stepped, env_of, gives_only, after_turn, after_new, in_new, has_all_tunnels, in_one_more, in_main, addressed, for_addressee, is_in, least_in, rings_in, rings_at, for_call, handed, hands_up, receives, only_by, step_in, step}
+use Rattle.step_laws.specs.Left.{CanBe, CallsAreAsked}
+use Rattle.step_laws.specs.Steps.{AreKept, StepsAreChains}
+use Rattle.step_laws.proofs.Lists.{branch, found_passes}
+use Rattle.step_laws.proofs.States.{requested_state}
+use Rattle.step_laws.proofs.Sound.{role_stays, stays_sound}
+use Rattle.step_laws.proofs.Late.{holds_after, ticks_leave, roomy, ticked}
+use Rattle.step_laws.proofs.Asking.{Waits, Busy, Begins, Asked, closes_asked, IsNew, datagram_asked, rings_asked, carries_asked, heard_new, rings_is_new, opens_new}
+use Rattle.step_laws.proofs.Steps.{in_state_is}
+
+-- no call waits but where the SCCRQ isn't answered yet
+abbrev NoneWaits : End → Type 0
+NoneWaits e = (i : ℕ) (t : Tunnel) → at e.tunnels i ≡ Some t → (state_number t.control.state ≡ 1 → ⊥) → (s : ℕ) (c : Call) → at t.calls s ≡ Some c
+    → Waits e.role s c → ⊥
+
+module _ (e : End) (kept : AreKept e) (none : NoneWaits e) (moment : ℕ) (block : List ℕ) where
+  abbrev env : Env
+  env = env_of e moment block
+
+  -- none of a tunnel's calls waits but where there is no room
+  abbrev IsAsked : Tunnel → Type 0
+  IsAsked t = (state_number t.control.state ≡ 1 → ⊥) → (s : ℕ) (c : Call) → at t.calls s ≡ Some c → Waits e.role s c → has_room t.control ≡ false
+
+  abbrev AllAsked : Stepped → Type 0
+  AllAsked x = (i : ℕ) (t : Tunnel) → at x.end.tunnels i ≡ Some t → IsAsked t
+
+  as_it_was : (i : ℕ) (t : Tunnel) → at e.tunnels i ≡ Some t → IsAsked t
+  as_it_was i t there is_open s c live waits = absurd (none i t there is_open s c live waits)
+
+  only_asked : (o : Out) → AllAsked (gives_only e o)
+  unfolding gives_only
+  only_asked o = as_it_was
+
+  -- ---- turns of tunnels
+
+  turn_asked : (i : ℕ) (letters : List Letter) (calls : List (ℕ × Call)) (r : Turn) → IsAsked (tunnel_after r letters calls)
+      → AllAsked (after_turn e i letters calls r)
+  unfolding after_turn
+  turn_asked i letters calls r asked j =
+      holds_after IsAsked e.tunnels i r.cleared (tunnel_after r letters calls) kept.order (inr asked) j (λ other. as_it_was j)
+
+  -- a new tunnel has no call, or its SCCRQ isn't answered yet
+  new_tunnel : (r : Turn) → IsNew r → IsAsked (tunnel_after r [] [])
+  unfolding with_calls
+  new_tunnel r is is_open s c live waits = ⊎_elim
+      (λ opening. absurd (is_open opening))
+      (λ none. absurd (let found = rw none at live in none-some c (sym (at-none s) ∙ found)))
+      is
+
+  new_asked : (r : Turn) → IsNew r → AllAsked (after_new e r)
+  unfolding after_new
+  new_asked r is = branch AllAsked (r.control.local == 0) _ _ (λ zero. as_it_was) (λ some. turn_asked r.control.local [] [] r (new_tunnel r is))
+
+  -- the turn of a tunnel that is there
+  abbrev turn : Event → Tunnel → Turn
+  turn ev t = turns e.role e.config t.letters t.calls ev (turn_of t.control env)
+
+  begins : (i : ℕ) (t : Tunnel) → at e.tunnels i ≡ Some t → Begins e.role t.calls (turn_of t.control env)
+  begins i t is = record { none = refl; asked = none i t is }
+
+  busy : (i : ℕ) (t : Tunnel) → at e.tunnels i ≡ Some t → Busy (turn_of t.control env)
+  busy i t is = (kept.tunnels i t is).busy
+
+  main_asked : (ev : Event) (i : ℕ) → ((t : Tunnel) → at e.tunnels i ≡ Some t → Asked e.role t.calls (turn ev t)) → AllAsked (in_main e env ev i (at e.tunnels i))
+  unfolding in_main
+  main_asked ev i asked = by (at e.tunnels i) refl
+    where
+      by : (o : Option Tunnel) → at e.tunnels i ≡ o → AllAsked (in_main e env ev i o)
+      by None is = only_asked _
+      by (Some t) is = turn_asked i t.letters t.calls (turn ev t) (asked t is)
+
+  -- one more tunnel, or the refusal
+  more_asked : (ev : Event) (peer : ℕ) (o : Out) → AllAsked (in_new e env ev peer) → AllAsked (in_one_more e env ev peer o)
+  unfolding in_one_more
+  more_asked ev peer o made = branch AllAsked (has_all_tunnels e.tunnels) _ _ (λ all. only_asked o) (λ fewer. made)
+
+  -- ---- datagrams
+
+  heard : (peer : ℕ) (bytes : List ℕ) (i : ℕ) (t : Tunnel) → at e.tunnels i ≡ Some t → Asked e.role t.calls (turn (Datagram peer bytes) t)
+  unfolding turns
+  heard peer bytes i t is =
+      datagram_asked e.role t.calls (kept.tunnels i t is).calls e.config t.letters bytes (header_of bytes) (turn_of t.control env) (busy i t is) (begins i t is)
+
+  addressee_asked : (peer : ℕ) (bytes : List ℕ) (a : Addressee) → AllAsked (for_addressee e env (Datagram peer bytes) peer a)
+  unfolding for_addressee in_new turns
+  addressee_asked peer bytes (Opens remote) =
+      more_asked (Datagram peer bytes) peer (Drop why.Tunnel)
+      (new_asked _ (heard_new e.role e.config bytes (header_of bytes) (turn_of (fresh peer moment) env) refl refl))
+  addressee_asked peer bytes (Main i) = main_asked (Datagram peer bytes) i (heard peer bytes i)
+  addressee_asked peer bytes (Nobody w) = only_asked _
+
+  handed_asked : (session : ℕ) (c : Carried) → AllAsked (handed e session c)
+  unfolding handed
+  handed_asked session (Dropped w) = only_asked _
+  handed_asked session (Upward tunnel peer side frame) = as_it_was
+
+  received_asked : (peer : ℕ) (bytes : List ℕ) (r : Result Header HeaderError) → AllAsked (receives e env peer bytes r)
+  unfolding receives hands_up
+  received_asked peer bytes (Err x) = only_asked _
+  received_asked peer bytes (Ok h) =
+      branch AllAsked h.control _ _
+      (λ control. addressee_asked peer bytes (addressed e peer h (body_of h bytes)))
+      (λ data_is. handed_asked h.session _)
+
+  -- ---- rings and frames
+
+  rung : (port i : ℕ) → ((t : Tunnel) → at e.tunnels i ≡ Some t → (state_number t.control.state ≡ 3) ⊎ (state_number t.control.state ≡ 1)) → (t : Tunnel)
+      → at e.tunnels i ≡ Some t → Asked e.role t.calls (turn (Ring port) t)
+  unfolding turns
+  rung port i goes t is = rings_asked e.role t.calls e.config t.letters port (turn_of t.control env) (busy i t is) (goes t is) (begins i t is)
+
+  -- the least tunnel in a state is in that state
+  least_is : (s : TunnelState) (i : ℕ) → least_in s e.config.lns e.tunnels ≡ Some i → (t : Tunnel) → at e.tunnels i ≡ Some t
+      → state_number t.control.state ≡ state_number s
+  unfolding least_in
+  least_is s i is t there =
+      in_state_is s e.config.lns (at e.tunnels i) (found_passes (λ j. is_in s e.config.lns (at e.tunnels j)) (ids_of e.tunnels) i is) t there
+
+  rings_asked_in : (port : ℕ) (open_one opening : Option ℕ) → least_in Established e.config.lns e.tunnels ≡ open_one
+      → least_in WaitCtlReply e.config.lns e.tunnels ≡ opening → AllAsked (rings_in e env (Ring port) open_one opening)
+  unfolding rings_in in_new turns
+  rings_asked_in port (Some i) opening is next = main_asked (Ring port) i (rung port i (λ t there. inl (least_is Established i is t there)))
+  rings_asked_in port None (Some i) is next = main_asked (Ring port) i (rung port i (λ t there. inr (least_is WaitCtlReply i next t there)))
+  rings_asked_in port None None is next =
+      more_asked (Ring port) e.config.lns (Refused cause.Tunnels)
+      (new_asked _ (rings_is_new e.role e.config [] port (turn_of (fresh e.config.lns moment) env) refl refl))
+
+  payload : (s : ℕ) (frame : List ℕ) (i : ℕ) (t : Tunnel) → at e.tunnels i ≡ Some t → Asked e.role t.calls (turn (Payload s frame) t)
+  unfolding turns
+  payload s frame i t is = carries_asked e.role t.calls s frame (at t.calls s) (turn_of t.control env) (begins i t is)
+
+  lower : (s : ℕ) (frame : List ℕ) (i : ℕ) (t : Tunnel) → at e.tunnels i ≡ Some t → Asked e.role t.calls (turn (Lower s frame) t)
+  unfolding turns
+  lower s frame i t is = carries_asked e.role t.calls s frame (at t.calls s) (turn_of t.control env) (begins i t is)
+
+  payload_asked : (s : ℕ) (frame : List ℕ) (o : Option CallPlace) → AllAsked (for_call e env (Payload s frame) o)
+  unfolding for_call
+  payload_asked s frame None = only_asked _
+  payload_asked s frame (Some p) = main_asked (Payload s frame) p.tunnel (payload s frame p.tunnel)
+
+  lower_asked : (s : ℕ) (frame : List ℕ) (o : Option CallPlace) → AllAsked (for_call e env (Lower s frame) o)
+  unfolding for_call
+  lower_asked s frame None = only_asked _
+  lower_asked s frame (Some p) = main_asked (Lower s frame) p.tunnel (lower s frame p.tunnel)
+
+  hung : (s i : ℕ) (t : Tunnel) → at e.tunnels i ≡ Some t → Asked e.role t.calls (turn (Hang s) t)
+  unfolding turns
+  hung s i t is =
+      closes_asked e.role t.calls (kept.tunnels i t is).calls cause.Line call_event.LineDrop 1 s t.letters (at t.calls s) (turn_of t.control env) (begins i t is)
+
+  closed : (s i : ℕ) (t : Tunnel) → at e.tunnels i ≡ Some t → Asked e.role t.calls (turn (DropCall s) t)
+  unfolding turns
+  closed s i t is =
+      closes_asked e.role t.calls (kept.tunnels i t is).calls cause.Operator call_event.Close 3 s t.letters (at t.calls s) (turn_of t.control env) (begins i t is)
+
+  hung_asked : (s : ℕ) (o : Option CallPlace) → AllAsked (for_call e env (Hang s) o)
+  unfolding for_call
+  hung_asked s None = only_asked _
+  hung_asked s (Some p) = main_asked (Hang s) p.tunnel (hung s p.tunnel)
+
+  closed_asked : (s : ℕ) (o : Option CallPlace) → AllAsked (for_call e env (DropCall s) o)
+  unfolding for_call
+  closed_asked s None = only_asked _
+  closed_asked s (Some p) = main_asked (DropCall s) p.tunnel (closed s p.tunnel)
+
+  opens_asked : AllAsked (in_one_more e env OpenTunnel e.config.lns (Refused cause.Tunnels))
+  unfolding in_new turns
+  opens_asked =
+      more_asked OpenTunnel e.config.lns (Refused cause.Tunnels) (new_asked _ (opens_new e.role e.config [] (turn_of (fresh e.config.lns moment) env) refl))
+
+  -- ---- the step
+
+  ticks_asked : AllAsked (step e moment block Tick)
+  ticks_asked = ticks_leave IsAsked e kept.order moment block (λ j u is. ⊎_elim
+      (λ cleared. inl cleared)
+      (λ stays. inr (λ is_open s c live waits.
+      absurd (none j u is (λ opening. is_open (ap state_number stays.state ∙ opening)) s c (stays.few s c live) waits)))
+      (ticked e kept moment block j u is))
+
+  by_lac : (x : Stepped) → AllAsked x → AllAsked (only_by Lac e x)
+  unfolding only_by
+  by_lac x h = branch AllAsked (is_lac e.role) _ _ (λ lac. h) (λ lns. only_asked _)
+
+  by_lns : (x : Stepped) → AllAsked x → AllAsked (only_by Lns e x)
+  unfolding only_by
+  by_lns x h = branch AllAsked (is_lac e.role) _ _ (λ lac. only_asked _) (λ lns. h)
+
+  step_asked : (ev : Event) → AllAsked (step e moment block ev)
+  unfolding step step_in rings_at
+  step_asked (Datagram peer bytes) = received_asked peer bytes (header_of bytes)
+  step_asked (Ring port) =
+      by_lac _ (rings_asked_in port (least_in Established e.config.lns e.tunnels) (least_in WaitCtlReply e.config.lns e.tunnels) refl refl)
+  step_asked (Payload s frame) = by_lac _ (payload_asked s frame (at e.calls s))
+  step_asked (Lower s frame) = by_lns _ (lower_asked s frame (at e.calls s))
+  step_asked (Hang s) = by_lac _ (hung_asked s (at e.calls s))
+  step_asked (DropCall s) = closed_asked s (at e.calls s)
+  step_asked Tick = ticks_asked
+  step_asked OpenTunnel = by_lac _ opens_asked
+
+-- a call that waits for its tunnel is to be asked for
+waiting : (r : Role) (s : ℕ) (c : Call) → s < 65536 → CanBe r c.state → c.state ≡ WaitTunnel → Waits r s c
+unfolding call_row
+waiting Lac s c small can is = record { small = small; row = rw is refl }
+waiting Lns s c small can is = absurd (subst (CanBe Lns) is can)
+
+pub calls_are_asked : StepsAreChains → CallsAreAsked
+calls_are_asked chains e kept sound asked moment block ev i t there is_open s c live is =
+    let x = (step e moment block ev).end in
+    let none : NoneWaits e = λ j u found opened q d here waits. asked j u found opened q d here (requested_state e.role d.state waits.row).0 in
+    let call : (s < 65536) × CanBe x.role c.state = stays_sound chains e kept moment block ev sound i t there s c live in
+    let can : CanBe e.role c.state = subst (λ r. CanBe r c.state) (role_stays chains e kept moment block ev) call.1 in
+    true≢false (sym (roomy i t ((chains e kept moment block ev).kept.tunnels i t there))
+    ∙ step_asked e kept none moment block ev i t there is_open s c live (waiting e.role s c call.0 can is))

@@ -1,0 +1,99 @@
+-- The codes of a CDN that ends a call, or refuses one, have 16 bits.
+use Rattle.std.proofs.Common.{◌≡◌, ⊎_elim, ℕ, ◌<◌, Bool, true, false, cond, List, refl, Option, Some, None, Result, Ok, Err, arith}
+use Rattle.std.specs.Prelude.{IfSome, ◌==◌, ◌||◌, not, is_some}
+use Rattle.id_source.specs.declared.IdError.{IdError}
+use Rattle.id_source.specs.Spaces.{Space, draws}
+use Rattle.wire_base.specs.declared.cause.Cause.{Cause}
+use Rattle.wire_base.specs.declared.cause.Cause.TheVariants as cause
+use Rattle.wire_base.specs.declared.why.Why.{Why}
+use Rattle.control_message.specs.declared.message.Message.{Message}
+use Rattle.call_fsm.specs.declared.table.CallEvent.{CallEvent}
+use Rattle.call_fsm.specs.declared.table.CallEvent.TheVariants as call_event
+use Rattle.call_fsm.specs.declared.table.CallState.TheVariants as call
+use Rattle.protocol_model.specs.declared.event.Event.{Event}
+use Rattle.protocol_model.specs.declared.moves.Refused.{Refused}
+use Rattle.protocol_model.specs.declared.tunnel.Call.{Call}
+use Rattle.protocol_model.specs.declared.tunnel.Role.{Role}
+use Rattle.protocol_model.specs.Reading.{CallFault}
+use Rattle.protocol_model.specs.Calls.{call_row, is_reply, are_too_many}
+use Rattle.protocol_model.specs.Turn.{Tunnel, Reason, reason, out_of_state, left_of, granted, call_of, fault_error}
+use Rattle.protocol_model.specs.End.{End}
+use Rattle.step_laws.specs.Moves.{WhyEnds, IsLate, IsDropped, IsHungUp, IsAsked, IsReplied, IsConnected, HasFault, WhyRefused, IsNotGranted, IsOutgoing, IsReplyToNone, IsWrong}
+
+-- 16 bits each
+abbrev pub CodesFit : ℕ → Option ℕ → Type 0
+CodesFit result error = (result < 65536) × IfSome error (λ x. x < 65536)
+
+fault_fits : (c : Cause) → fault_error c < 65536
+fault_fits cause.Mandatory = omega arith
+fault_fits cause.Operator = omega arith
+fault_fits cause.Line = omega arith
+fault_fits cause.Avp = omega arith
+fault_fits cause.Value = omega arith
+fault_fits cause.Version = omega arith
+fault_fits cause.State = omega arith
+fault_fits cause.Session = omega arith
+fault_fits cause.Secret = omega arith
+fault_fits cause.Ids = omega arith
+fault_fits cause.Calls = omega arith
+fault_fits cause.Tunnels = omega arith
+fault_fits cause.Setup = omega arith
+fault_fits cause.Recover = omega arith
+fault_fits cause.Query = omega arith
+fault_fits cause.Lcp = omega arith
+fault_fits cause.Outgoing = omega arith
+fault_fits cause.Recovering = omega arith
+fault_fits cause.Queue = omega arith
+fault_fits cause.Service = omega arith
+fault_fits cause.Cookie = omega arith
+
+fits : (result : ℕ) (error : Option ℕ) (x : ℕ) (y : Option ℕ) → CodesFit x y → result ≡ x → error ≡ y → CodesFit result error
+fits result error x y h a b = rw (a, b) h
+
+-- the codes of each reason for which a request isn't granted
+reason_fits : (role : Role) (calls : List (ℕ × Call)) (remote : ℕ) (sessions : Space) (r : Reason) → granted role calls remote sessions ≡ Err r
+    → CodesFit r.result r.error
+unfolding granted
+reason_fits role calls remote sessions r h =
+    by (not (is_reply (call_row role call.Idle call_event.IcrqAcc).1)) (remote == 0 || is_some (call_of calls remote)) (are_too_many calls) (draws sessions) h
+  where
+    given : (x : Reason) → CodesFit x.result x.error → (the : Result ℕ Reason) → the ≡ Err x → the ≡ Err r → CodesFit r.result r.error
+    given x small the is same = let e : x ≡ r = cc in rw (← e) small
+
+    last : (d : Result ℕ IdError) → left_of d ≡ Err r → CodesFit r.result r.error
+    last (Ok s) e = absurd cc
+    last (Err x) e = given (reason cause.Ids 4 None) (omega arith, tt) _ refl e
+
+    by : (a b c : Bool) (d : Result ℕ IdError)
+        → cond a (Err out_of_state) (cond b (Err (reason cause.Session 2 (Some 5))) (cond c (Err (reason cause.Calls 4 None)) (left_of d))) ≡ Err r
+        → CodesFit r.result r.error
+    by true b c d e = given out_of_state (omega arith, omega arith) _ refl e
+    by false true c d e = given (reason cause.Session 2 (Some 5)) (omega arith, omega arith) _ refl e
+    by false false true d e = given (reason cause.Calls 4 None) (omega arith, tt) _ refl e
+    by false false false d e = last d e
+
+pub codes_fit : (e : End) (t : Tunnel) (ev : Event) (moment session : ℕ) (c : Call) (on : CallEvent) (result : ℕ) (error : Option ℕ)
+    → WhyEnds e t ev moment session c on result error → CodesFit result error
+codes_fit e t ev moment session c on result error (IsLate late at_ r x) = fits result error 10 None (omega arith, tt) r x
+codes_fit e t ev moment session c on result error (IsDropped is at_ r x) = fits result error 3 None (omega arith, tt) r x
+codes_fit e t ev moment session c on result error (IsHungUp is at_ r x) = fits result error 1 None (omega arith, tt) r x
+codes_fit e t ev moment session c on result error (IsAsked remote serial calling came either) =
+    ⊎_elim
+    (λ k. fits result error 2 (Some 5) (omega arith, omega arith) k.1 k.2)
+    (λ k. fits result error k.1.0.result k.1.0.error (reason_fits e.role t.calls remote e.session_ids k.1.0 k.1.1) k.1.2 k.1.3)
+    either
+codes_fit e t ev moment session c on result error (IsReplied remote came at_ r x) = fits result error 2 (Some 5) (omega arith, omega arith) r x
+codes_fit e t ev moment session c on result error (IsConnected speed framing sequenced came at_ r x) =
+    fits result error 2 (Some 5) (omega arith, omega arith) r x
+codes_fit e t ev moment session c on result error (HasFault header f came at_ r x) =
+    fits result error 2 (Some (fault_error f.cause)) (omega arith, fault_fits f.cause) r x
+
+pub refusal_codes_fit : (e : End) (t : Tunnel) (header : ℕ) (said : Result Message Why) (fault : Option CallFault) (m : Refused)
+    → WhyRefused e t header said fault m → CodesFit m.result m.error
+refusal_codes_fit e t header said fault m (IsNotGranted remote serial calling r is none not_granted same result error) =
+    fits m.result m.error r.result r.error (reason_fits e.role t.calls remote e.session_ids r not_granted) result error
+refusal_codes_fit e t header said fault m (IsOutgoing remote is same result error) = fits m.result m.error 5 None (omega arith, tt) result error
+refusal_codes_fit e t header said fault m (IsReplyToNone remote is none lns same result error) =
+    fits m.result m.error 2 (Some 5) (omega arith, omega arith) result error
+refusal_codes_fit e t header said fault m (IsWrong f is same result error) =
+    fits m.result m.error 2 (Some (fault_error f.cause)) (omega arith, fault_fits f.cause) result error

@@ -1,0 +1,51 @@
+-- Which calls a step leaves: after a tick none that took too long, and in an open tunnel none that isn't asked for.
+use Rattle.std.specs.Prelude.{◌≡◌, ℕ, ◌<◌, List, Some, true}
+use Rattle.id_table.specs.Ids.{at}
+use Rattle.tunnel_fsm.specs.Rows.{state_number}
+use Rattle.call_fsm.specs.declared.table.CallState.{CallState}
+use Rattle.call_fsm.specs.declared.table.CallState.TheVariants.{WaitTunnel, WaitReply, WaitConnect}
+use Rattle.protocol_model.specs.declared.event.Event.{Event}
+use Rattle.protocol_model.specs.declared.event.Event.TheVariants.{Tick}
+use Rattle.protocol_model.specs.declared.tunnel.Call.{Call}
+use Rattle.protocol_model.specs.declared.tunnel.Role.{Role}
+use Rattle.protocol_model.specs.declared.tunnel.Role.TheVariants.{Lac, Lns}
+use Rattle.protocol_model.specs.Calls.{is_set_up}
+use Rattle.protocol_model.specs.Turn.{Tunnel, is_over, patience}
+use Rattle.protocol_model.specs.End.{End, step}
+use Rattle.step_laws.specs.Steps.{AreKept}
+
+-- a LAC's call doesn't wait to be connected, and an LNS's is made as it is asked for
+abbrev pub CanBe : Role → CallState → Type 0
+CanBe Lac WaitConnect = ⊥
+CanBe Lns WaitTunnel = ⊥
+CanBe Lns WaitReply = ⊥
+CanBe r s = Unit {0}
+
+-- the sessions of calls have 16 bits, and each call is in a state that a call of the end's role can be in
+abbrev pub AreSound : End → Type 0
+AreSound e =
+    (i : ℕ) (t : Tunnel) → at e.tunnels i ≡ Some t → (s : ℕ) (c : Call) → at t.calls s ≡ Some c → (s < 65536) × CanBe e.role c.state
+
+-- a call waits for its tunnel only where the tunnel's SCCRQ isn't answered yet
+abbrev pub AreAsked : End → Type 0
+AreAsked e =
+    (i : ℕ) (t : Tunnel) → at e.tunnels i ≡ Some t → (state_number t.control.state ≡ 1 → ⊥) → (s : ℕ) (c : Call) → at t.calls s ≡ Some c
+    → c.state ≡ WaitTunnel → ⊥
+
+-- at a moment no call that is being set up has taken as long as one may
+abbrev pub NoneIsLate : ℕ → End → Type 0
+NoneIsLate moment e =
+    (i : ℕ) (t : Tunnel) → at e.tunnels i ≡ Some t → (s : ℕ) (c : Call) → at t.calls s ≡ Some c → is_set_up c.state ≡ true
+    → is_over patience moment c.since ≡ true → ⊥
+
+-- each step of an end whose tunnels are kept
+abbrev pub CallsStaySound : Type 0
+CallsStaySound = (e : End) → AreKept e → AreSound e → (moment : ℕ) (block : List ℕ) (ev : Event) → AreSound (step e moment block ev).end
+
+abbrev pub CallsAreAsked : Type 0
+CallsAreAsked =
+    (e : End) → AreKept e → AreSound e → AreAsked e → (moment : ℕ) (block : List ℕ) (ev : Event) → AreAsked (step e moment block ev).end
+
+-- and each tick
+abbrev pub LateCallsEnd : Type 0
+LateCallsEnd = (e : End) → AreKept e → AreSound e → (moment : ℕ) (block : List ℕ) → NoneIsLate moment (step e moment block Tick).end

@@ -1,0 +1,50 @@
+-- Where a step tells that there is no room for letters.
+use Rattle.std.specs.Prelude.{◌≡◌, ◌⊎◌, ℕ, false, List, Some, None}
+use Rattle.id_table.specs.Ids.{at}
+use Rattle.tunnel_fsm.specs.declared.table.TunnelState.TheVariants.{WaitCtlReply, Established}
+use Rattle.wire_base.specs.declared.why.Why.TheVariants as why
+use Rattle.protocol_model.specs.declared.event.Event.{Event}
+use Rattle.protocol_model.specs.declared.event.Event.TheVariants.{Ring}
+use Rattle.protocol_model.specs.declared.out.Out.TheVariants.{Drop}
+use Rattle.protocol_model.specs.Turn.{Tunnel, may_take, counts_acked}
+use Rattle.protocol_model.specs.End.{End, least_in, step}
+use Rattle.step_laws.specs.Letters.{Among}
+use Rattle.step_laws.specs.Moves.{ComesNext, TellsNr}
+use Rattle.step_laws.specs.Steps.{AreKept}
+
+-- the next message of a tunnel came, which holds so many letters, once Nr is read, and whose calls owe so many, that it may not
+-- be taken
+pub record IsFull (e : End) (moment : ℕ) (ev : Event) : Type 0 where
+  pub id : ℕ
+  pub tunnel : Tunnel
+  pub there : at e.tunnels id ≡ Some tunnel
+  pub next : ComesNext ev tunnel.control
+  pub nr : ℕ
+  pub tells : TellsNr ev tunnel.control nr
+  pub full : may_take (counts_acked nr moment tunnel.control) tunnel.calls ≡ false
+
+-- a ring goes over the least tunnel to the LNS that is open, else over the least whose SCCRQ isn't answered yet
+abbrev pub IsChosen : End → ℕ → Type 0
+IsChosen e i =
+    (least_in Established e.config.lns e.tunnels ≡ Some i)
+    ⊎ ((least_in Established e.config.lns e.tunnels ≡ None) × (least_in WaitCtlReply e.config.lns e.tunnels ≡ Some i))
+
+-- else over a new one
+abbrev pub RingsNew : End → Event → Type 0
+RingsNew e ev =
+    (port : ℕ) × (ev ≡ Ring port) × (least_in Established e.config.lns e.tunnels ≡ None) × (least_in WaitCtlReply e.config.lns e.tunnels ≡ None)
+
+-- the tunnel over which a call is to go that rings
+pub record RingsOver (e : End) (ev : Event) (t : Tunnel) : Type 0 where
+  pub port : ℕ
+  pub rings : ev ≡ Ring port
+  pub id : ℕ
+  pub chosen : IsChosen e id
+  pub there : at e.tunnels id ≡ Some t
+  pub peer : t.control.peer ≡ e.config.lns
+
+-- A step tells `queue` only of a message that isn't taken, or of a ring (of that its cause tells, see Causes). So no letter that
+-- a tunnel has to give is ever refused for room.
+abbrev pub StepsRefuseTruly : Type 0
+StepsRefuseTruly = (e : End) → AreKept e → (moment : ℕ) (block : List ℕ) (ev : Event)
+    → Among (Drop why.Queue) (step e moment block ev).outputs → IsFull e moment ev
