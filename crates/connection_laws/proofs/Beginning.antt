@@ -6,7 +6,7 @@ use Rattle.id_table.specs.Order.{ascends-empty}
 use Rattle.control_message.specs.declared.message.Message.TheVariants.{Sccrq}
 use Rattle.tunnel_fsm.specs.declared.table.TunnelState.TheVariants.{WaitCtlReply}
 use Rattle.protocol_model.specs.declared.event.Event.{Event}
-use Rattle.protocol_model.specs.declared.event.Event.TheVariants.{Datagram, Ring, Payload, Lower, OpenTunnel, Tick}
+use Rattle.protocol_model.specs.declared.event.Event.TheVariants.{Datagram, Ring, Payload, Lower, Hang, OpenTunnel, DropCall, Tick}
 use Rattle.protocol_model.specs.declared.moves.Opened.{Opened}
 use Rattle.protocol_model.specs.declared.moves.Move.TheVariants as move
 use Rattle.protocol_model.specs.declared.out.Origin.{Origin}
@@ -135,7 +135,9 @@ module _ (accs : Accounts) (n : ℕ) (e : End) (sender : Option Sender) (moment 
   near (Ring port) c = tt
   near (Payload s frame) c = tt
   near (Lower s frame) c = tt
+  near (Hang s) c = tt
   near OpenTunnel c = tt
+  near (DropCall s) c = tt
   near Tick c = tt
 
   begins : Within ms n after_it sender ev

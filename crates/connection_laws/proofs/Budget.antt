@@ -115,6 +115,8 @@ does_below e x moment ev (move.FirstUp m) most order few had h =
     old_below e x (most + 8192 * 0) m.tunnel h.tunnel _ (more_below e most (8192 * 0) had) h.there (tunnels_are x _ h.after) refl
 does_below e x moment ev (move.SecondUp m) most order few had h =
     old_below e x (most + 8192 * 0) m.tunnel h.tunnel _ (more_below e most (8192 * 0) had) h.there (tunnels_are x _ h.after) refl
+does_below e x moment ev (move.Refused m) most order few had h =
+    old_below e x (most + 8192 * 0) m.tunnel h.tunnel _ (more_below e most (8192 * 0) had) h.there (tunnels_are x _ h.after) refl
 does_below e x moment ev (move.EndTold m) most order few had h =
     old_below e x (most + 8192 * 0) m.tunnel h.tunnel _ (more_below e most (8192 * 0) had) h.there (tunnels_are x _ h.after) refl
 does_below e x moment ev (move.EndHeard m) most order few had h =
@@ -163,6 +165,7 @@ does_give e x moment ev (move.Requested m) d a h = inr (put_live e x m.tunnel _ 
 does_give e x moment ev (move.Replied m) d a h = inr (put_live e x m.tunnel _ (tunnels_are x _ h.after))
 does_give e x moment ev (move.FirstUp m) d a h = inr (put_live e x m.tunnel _ (tunnels_are x _ h.after))
 does_give e x moment ev (move.SecondUp m) d a h = inl refl
+does_give e x moment ev (move.Refused m) d a h = inr (put_live e x m.tunnel _ (tunnels_are x _ h.after))
 does_give e x moment ev (move.EndTold m) d a h = inr (put_live e x m.tunnel _ (tunnels_are x _ h.after))
 does_give e x moment ev (move.EndHeard m) d a h = inl refl
 does_give e x moment ev (move.EndSilent m) d a h = inl refl

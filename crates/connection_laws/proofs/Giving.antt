@@ -1,5 +1,5 @@
 -- The moves that take no letter and read no Nr keep what holds.
-use Rattle.std.proofs.Common.{◌≡◌, ⊎_elim, ℕ, ◌+◌, ◌<◌, ◌≤◌, Bool, true, false, cond, List, [], ◌∷◌, length, refl, sym, ap, ◌∙◌, subst, append-nil, Option, Some, None, arith}
+use Rattle.std.proofs.Common.{◌≡◌, ⊎_elim, ℕ, ◌+◌, ◌<◌, ◌≤◌, Bool, true, false, cond, List, [], ◌∷◌, length, refl, sym, ap, ◌∙◌, subst, append-nil, Option, Some, arith}
 use Rattle.std.proofs.lemmas.Bool.{ltb-true}
 use Rattle.std.specs.Prelude.{◌==◌, ◌&&◌, nat_lt, if◌then◌else◌}
 use Rattle.std.proofs.lemmas.Option.{none-some}
@@ -33,6 +33,7 @@ use Rattle.protocol_model.specs.Turn.{Tunnel, has_room, request_of}
 use Rattle.protocol_model.specs.End.{End, new_place}
 use Rattle.protocol_model.specs.World.{Sender, Deed, config_of}
 use Rattle.step_laws.specs.Letters.{Letter, letters_of}
+use Rattle.step_laws.specs.Codes.{codes_fit}
 use Rattle.step_laws.specs.Moves.{with_tunnel, with_letter}
 use Rattle.connection_laws.specs.Accounts.{Account, about, entered_by, gives, gives_also}
 use Rattle.connection_laws.specs.Facts.{Accounts, IsNoOpening, IsSpelled, LiveOk, Within}
@@ -125,10 +126,10 @@ end_told_keeps accs n e x sender moment ev m d h =
     let live = h.within.end.live m.tunnel t o.there in
     subst (λ y. Within (after accs d) n y sender ev) (sym o.after)
     (given_keeps accs n e sender ev d h.within (move.EndTold m) h.deed t o.there
-    (record { tunnel = m.tunnel; place = m.given; session = m.remote; message = Cdn m.session m.code None })
+    (record { tunnel = m.tunnel; place = m.given; session = m.remote; message = Cdn m.session m.result m.error })
     (without t.calls m.session) _ tt refl refl
     (record {
-      spelled = record { written = (o.session, (let code = o.code in omega arith), tt); session = rw o.remote (live.calls m.session o.call o.live) };
+      spelled = record { written = (let k = codes_fit e t ev moment m.session o.call o.on m.result m.error o.why in (o.session, k.0, k.1)); session = rw o.remote (live.calls m.session o.call o.live) };
       plain = tt;
       room = o.room;
       remotes = λ s c f. live.calls s c (found_without t.calls m.session s c live.order f).1;

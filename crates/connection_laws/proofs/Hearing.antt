@@ -19,7 +19,7 @@ use Rattle.control_message.specs.Reading.{message_of}
 use Rattle.recv_window.specs.declared.Class.TheVariants.{Next}
 use Rattle.recv_window.specs.Window.{on_wire, class_of, ClassIsTrue}
 use Rattle.protocol_model.specs.declared.event.Event.{Event}
-use Rattle.protocol_model.specs.declared.event.Event.TheVariants.{Datagram, Ring, Payload, Lower, OpenTunnel, Tick}
+use Rattle.protocol_model.specs.declared.event.Event.TheVariants.{Datagram, Ring, Payload, Lower, Hang, OpenTunnel, DropCall, Tick}
 use Rattle.protocol_model.specs.declared.out.Origin.{Origin}
 use Rattle.protocol_model.specs.declared.out.Origin.TheVariants as origin
 use Rattle.protocol_model.specs.declared.out.ControlOrigin.{ControlOrigin}
@@ -72,7 +72,9 @@ packet_at accs n e sender (Datagram q bs) comes peer bytes is =
 packet_at accs n e sender (Ring port) comes peer bytes is = absurd cc
 packet_at accs n e sender (Payload s frame) comes peer bytes is = absurd cc
 packet_at accs n e sender (Lower s frame) comes peer bytes is = absurd cc
+packet_at accs n e sender (Hang s) comes peer bytes is = absurd cc
 packet_at accs n e sender OpenTunnel comes peer bytes is = absurd cc
+packet_at accs n e sender (DropCall s) comes peer bytes is = absurd cc
 packet_at accs n e sender Tick comes peer bytes is = absurd cc
 
 -- ---- what its bytes are read as
@@ -470,7 +472,7 @@ pub record HeardNext (accs : Accounts) (n i : ℕ) (o : ControlOrigin) (h : Head
   pub spelled : IsSpelled letter
   pub of : TakesOf accs n i o letter
 
-first_is : (i : ℕ) (says : Opening → Message) (given : List Letter) → BeginsWith i says given → (l : Letter) → slice_get given 0 ≡ Some l
+pub first_is : (i : ℕ) (says : Opening → Message) (given : List Letter) → BeginsWith i says given → (l : Letter) → slice_get given 0 ≡ Some l
     → (opening : Opening) × (l.message ≡ says opening) × (opening.tunnel ≡ i)
 first_is i says given begins l there =
     let is : slice_get (begins.first ∷ begins.rest) 0 ≡ Some l = (let a = begins.are in rw a at there) in

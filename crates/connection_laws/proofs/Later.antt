@@ -373,6 +373,7 @@ entered_extends d (move.Requested m) a h = gives_extends d a a (extends_same a)
 entered_extends d (move.Replied m) a h = gives_extends d a _ (takes_extends d m.taken a a (extends_same a))
 entered_extends d (move.FirstUp m) a h = gives_extends d a _ (takes_extends d m.taken a a (extends_same a))
 entered_extends d (move.SecondUp m) a h = takes_extends d m.taken a a (extends_same a)
+entered_extends d (move.Refused m) a h = gives_extends d a _ (takes_extends d m.taken a a (extends_same a))
 entered_extends d (move.EndTold m) a h = gives_extends d a a (extends_same a)
 entered_extends d (move.EndHeard m) a h = takes_extends d m.taken a a (extends_same a)
 entered_extends d (move.EndSilent m) a h = extends_same a

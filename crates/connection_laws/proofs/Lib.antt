@@ -13,6 +13,8 @@ pub mod Said
 pub mod Acknowledging
 pub mod Taking
 pub mod PairMoves
+pub mod Refusing
+pub mod AnyHeard
 pub mod Connecting
 pub mod Accepting
 pub mod Moves

@@ -8,7 +8,7 @@ use Rattle.id_table.specs.Order.{at_new, at_other, same_or_not, ascends-empty}
 use Rattle.wire_base.specs.declared.why.Why.{Why}
 use Rattle.wire_base.specs.declared.why.Why.TheVariants as why
 use Rattle.schedule_text.specs.declared.line.Line.{Line}
-use Rattle.schedule_text.specs.declared.line.Line.TheVariants.{Remark, Lac, Lns, OpenUp, Ring, FromSub, Down, Deliver, Tick}
+use Rattle.schedule_text.specs.declared.line.Line.TheVariants.{Remark, Lac, Lns, OpenUp, Ring, FromSub, Down, Hang, DropCall, Deliver, Tick}
 use Rattle.schedule_text.specs.Grammar.{FitsLine}
 use Rattle.protocol_model.specs.declared.event.Event.{Event}
 use Rattle.protocol_model.specs.declared.event.Event.TheVariants as event
@@ -29,7 +29,7 @@ use Rattle.connection_laws.proofs.Hearing.{all_at}
 use Rattle.connection_laws.proofs.Starts.{is_packet}
 use Rattle.connection_laws.proofs.Budget.{GivenBelow}
 use Rattle.connection_laws.specs.Steps.{LineDoes, Nothing, ANode, AStep}
-use Rattle.connection_laws.proofs.Worlds.{Goes, Laws, step_ok, step_does}
+use Rattle.connection_laws.proofs.Worlds.{births_same, added_births, Goes, Laws, step_ok, step_does}
 
 -- ---- which node it is
 
@@ -45,6 +45,10 @@ tested_not false x y z h = (refl, cc)
 lac_there : (o : Option Node) (node : Node) → lac_at o ≡ Ok node → o ≡ Some node
 lac_there None node h = absurd (cc)
 lac_there (Some x) node h = ap (λ y. Some y) (tested (is_lac x.end.role) x why.Node node h).1
+
+declared_there : (o : Option Node) (node : Node) → declared o ≡ Ok node → o ≡ Some node
+declared_there None node h = absurd (cc)
+declared_there (Some x) node h = cc
 
 lns_there : (o : Option Node) (node : Node) → lns_at o ≡ Ok node → o ≡ Some node
 lns_there None node h = absurd (cc)
@@ -141,7 +145,7 @@ module _ (w : World) (accs : Accounts) (number : ℕ) (holds : Holds w accs) (mo
       let t = tested_not (is_some (at w.nodes n)) (quiet_line (with_node w n new)) (Unfit why.Twice) x h in
       let none = none_there (at w.nodes n) t.0 in
       subst (Does w accs (most + 16384) number) t.1
-      (record { goes = quiet_goes (with_node w n new) accs most (more_holds n r lns lt has none) had; does = ANode n r lns lt none refl refl })
+      (record { goes = quiet_goes (with_node w n new) accs most (more_holds n r lns lt has none) had; does = ANode n r lns lt none refl refl (added_births w n new none refl) })
 
 -- ---- lines
 
@@ -193,7 +197,7 @@ module _ (codecs : Codecs) (laws : Laws) (number : ℕ) (w : World) (accs : Acco
   pub line_ok : (x : Lined) (l : Line) → FitsLine l → line w number l ≡ Ok x → Does w accs (most + 16384) number x
   unfolding line
   line_ok x (Remark text) fits h =
-      let e : quiet_line w ≡ x = cc in subst (Does w accs (most + 16384) number) e (record { goes = quiet_goes w accs most holds had; does = Nothing refl refl })
+      let e : quiet_line w ≡ x = cc in subst (Does w accs (most + 16384) number) e (record { goes = quiet_goes w accs most holds had; does = Nothing refl refl (births_same w) })
   line_ok x (Lac n m) fits h =
       added_ok w accs number holds most had n role.Lac (address_of m) (omega (arith, fits.0.1)) (λ lac. (m, omega (arith, fits.1.1), refl)) x h
   line_ok x (Lns n) fits h = added_ok w accs number holds most had n role.Lns 0 (omega (arith, fits.1)) (λ lac. absurd cc) x h
@@ -207,6 +211,12 @@ module _ (codecs : Codecs) (laws : Laws) (number : ℕ) (w : World) (accs : Acco
   line_ok x (Down n session frame) fits h =
       stepped_ok x n (event.Lower session frame) None (with_call session (lns_at (at w.nodes n)))
       (λ node e. is_there w n node (lns_there (at w.nodes n) node (has_call session (lns_at (at w.nodes n)) node e))) (λ node e. tt) h
+  line_ok x (Hang n session) fits h =
+      stepped_ok x n (event.Hang session) None (with_call session (lac_at (at w.nodes n)))
+      (λ node e. is_there w n node (lac_there (at w.nodes n) node (has_call session (lac_at (at w.nodes n)) node e))) (λ node e. tt) h
+  line_ok x (DropCall n session) fits h =
+      stepped_ok x n (event.DropCall session) None (with_call session (declared (at w.nodes n)))
+      (λ node e. is_there w n node (declared_there (at w.nodes n) node (has_call session (declared (at w.nodes n)) node e))) (λ node e. tt) h
   line_ok x (Deliver k) fits h =
       delivers_ok x (slice_get w.packets (k - 1)) (λ p e. all_at (PacketOk accs) w.packets (k - 1) p e holds.packets) h
   line_ok x (Tick n milliseconds) fits h =

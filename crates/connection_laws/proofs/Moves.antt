@@ -8,6 +8,7 @@ use Rattle.connection_laws.proofs.Giving.{requested_keeps, end_told_keeps, greet
 use Rattle.connection_laws.proofs.Accepting.{accepted_keeps}
 use Rattle.connection_laws.proofs.Connecting.{connected_keeps}
 use Rattle.connection_laws.proofs.PairMoves.{confirmed_keeps, replied_keeps, first_up_keeps, second_up_keeps, end_heard_keeps, plain_keeps}
+use Rattle.connection_laws.proofs.Refusing.{refused_keeps}
 use Rattle.connection_laws.proofs.Acknowledging.{read_keeps}
 
 pub moves_keep : Codecs → ClassIsTrue → MovesKeep
@@ -20,6 +21,7 @@ moves_keep codecs classes accs n e x sender moment ev (move.Requested m) d h = r
 moves_keep codecs classes accs n e x sender moment ev (move.Replied m) d h = replied_keeps codecs classes accs n e x sender moment ev d m h
 moves_keep codecs classes accs n e x sender moment ev (move.FirstUp m) d h = first_up_keeps codecs classes accs n e x sender moment ev d m h
 moves_keep codecs classes accs n e x sender moment ev (move.SecondUp m) d h = second_up_keeps codecs classes accs n e x sender moment ev d m h
+moves_keep codecs classes accs n e x sender moment ev (move.Refused m) d h = refused_keeps codecs classes accs n e x sender moment ev d m h
 moves_keep codecs classes accs n e x sender moment ev (move.EndTold m) d h = end_told_keeps accs n e x sender moment ev m d h
 moves_keep codecs classes accs n e x sender moment ev (move.EndHeard m) d h = end_heard_keeps codecs classes accs n e x sender moment ev d m h
 moves_keep codecs classes accs n e x sender moment ev (move.EndSilent m) d h = end_silent_keeps accs n e x sender moment ev m d h

@@ -1,12 +1,12 @@
 -- The moves of a tunnel that takes a letter of the partner that it has learned keep what holds.
-use Rattle.std.proofs.Common.{◌≡◌, ◌⊎◌, inl, inr, ⊎_elim, ℕ, ◌+◌, ◌^◌, ◌<◌, true, List, [], ◌∷◌, refl, sym, ap, ◌∙◌, subst, append-nil, Option, Some, Ok, arith}
+use Rattle.std.proofs.Common.{◌≡◌, ◌⊎◌, inl, inr, ⊎_elim, ℕ, ◌+◌, ◌^◌, ◌<◌, true, List, [], ◌∷◌, refl, sym, ap, ◌∙◌, subst, append-nil, Option, Some, Ok, arith, ne_eqb}
 use Rattle.std.proofs.lemmas.Bool.{ltb-true}
 use Rattle.std.specs.List.{AllByRecursion}
 use Rattle.id_table.specs.Ids.{at, put, without}
-use Rattle.id_table.specs.Order.{Ascends, ascends-put, found_put, ascends-without, found_without}
+use Rattle.id_table.specs.Order.{Ascends, ascends-put, found_put, ascends-without, found_without, same_or_not}
 use Rattle.id_source.specs.Spaces.{Space, draws, after_draw}
 use Rattle.control_message.specs.declared.message.Message.{Message}
-use Rattle.control_message.specs.declared.message.Message.TheVariants.{Scccn, Icrq, Icrp, Iccn, Cdn}
+use Rattle.control_message.specs.declared.message.Message.TheVariants.{Sccrp, Scccn, Icrq, Icrp, Iccn, Cdn}
 use Rattle.control_message.specs.Pairs.{IsWritten}
 use Rattle.recv_window.specs.Window.{ClassIsTrue}
 use Rattle.tunnel_fsm.specs.declared.table.TunnelState.{TunnelState}
@@ -28,7 +28,7 @@ use Rattle.protocol_model.specs.declared.tunnel.Call.{Call}
 use Rattle.protocol_model.specs.declared.tunnel.CallPlace.{CallPlace}
 use Rattle.protocol_model.specs.declared.tunnel.Role.{Role}
 use Rattle.protocol_model.specs.Calls.{advanced, asked_for}
-use Rattle.protocol_model.specs.Turn.{Tunnel, has_room, taken_place, in_state, counts_taken, connection}
+use Rattle.protocol_model.specs.Turn.{Tunnel, has_room, taken_place, in_state, counts_taken, connection, session_named}
 use Rattle.protocol_model.specs.End.{End}
 use Rattle.protocol_model.specs.World.{Sender, Deed}
 use Rattle.step_laws.specs.Letters.{Letter}
@@ -46,13 +46,13 @@ use Rattle.connection_laws.proofs.Taking.{with_taken, taken_as, takes_only, take
 -- ---- the tunnel that is left
 
 -- the state may change, and the calls
-abbrev took : Tunnel → TunnelState → List (ℕ × Call) → Tunnel
+abbrev pub took : Tunnel → TunnelState → List (ℕ × Call) → Tunnel
 took t s calls = record { control = counts_taken (in_state s t.control); letters = t.letters; calls = calls }
 
 -- what its calls are to be
-record AreCalls (calls : List (ℕ × Call)) : Type 0 where
-  remotes : (s : ℕ) (c : Call) → at calls s ≡ Some c → c.remote < 65536
-  order : Ascends calls
+pub record AreCalls (calls : List (ℕ × Call)) : Type 0 where
+  pub remotes : (s : ℕ) (c : Call) → at calls s ≡ Some c → c.remote < 65536
+  pub order : Ascends calls
 
 module _ (accs : Accounts) (n i : ℕ) (t : Tunnel) (live : LiveOk accs n i (accs n i) t) (fits : t.control.channel.inbox.taken + 1 < 2 ^ 64)
     (s : TunnelState) (calls : List (ℕ × Call)) (are : AreCalls calls)
@@ -74,7 +74,7 @@ module _ (accs : Accounts) (n i : ℕ) (t : Tunnel) (live : LiveOk accs n i (acc
   }
 
   -- it is given a letter too
-  took_and_given : (l : Letter) → has_room t.control ≡ true → TakesOn t (with_letter l.session l.message (took t s calls)) (l ∷ [])
+  pub took_and_given : (l : Letter) → has_room t.control ≡ true → TakesOn t (with_letter l.session l.message (took t s calls)) (l ∷ [])
   took_and_given l room =
       let lt = ltb-true t.control.channel.window.queued 8192 room in
       let out = live.outstanding in
@@ -119,13 +119,13 @@ asked_remote r remote moment = refl
 module _ (codecs : Codecs) (classes : ClassIsTrue) (accs : Accounts) (n : ℕ) (e : End) (sender : Option Sender) (ev : Event)
     (within : Within accs n e sender ev) (i : ℕ) (t : Tunnel) (there : at e.tunnels i ≡ Some t) (session : ℕ) (m : Message)
     (k : HearsNext ev t.control session m) where
-  said_written : IsWritten m
+  pub said_written : IsWritten m
   said_written =
       let s = said_so codecs classes accs n e sender ev within i t there session m k in
       subst IsWritten s.message s.next.spelled.written
 
   -- it is a letter of the partner that was learned
-  said_takes : (state_number t.control.state ≡ 1 → ⊥) → (ms : Accounts) (x : End) (u : Tunnel) (mv : Move) (place : Place) (more : List Letter)
+  pub said_takes : (state_number t.control.state ≡ 1 → ⊥) → (ms : Accounts) (x : End) (u : Tunnel) (mv : Move) (place : Place) (more : List Letter)
       → place ≡ taken_place t.control → ((l : Letter) → l.session ≡ session → l.message ≡ m → Tells l mv) → TakesOn t u more → IsOnly accs ms n i
       → ms n i ≡ with_taken (taken_as sender place mv) more (accs n i) → AllByRecursion IsSpelled more
       → AllByRecursion (λ (l : Letter). IsNoOpening l.message) more → EndPut e x i u → Within ms n x sender ev
@@ -151,7 +151,7 @@ module _ (codecs : Codecs) (classes : ClassIsTrue) (accs : Accounts) (n : ℕ) (
       })
 
 -- an open tunnel waits for no SCCRP, nor does one that waits for its SCCCN
-open_so : (t : Tunnel) → state_number t.control.state ≡ 3 → state_number t.control.state ≡ 1 → ⊥
+pub open_so : (t : Tunnel) → state_number t.control.state ≡ 3 → state_number t.control.state ≡ 1 → ⊥
 open_so t three one = let no : ⊥ = omega arith in no
 
 -- a session id was drawn too
@@ -171,6 +171,14 @@ replied_put e x places i u s drawn is =
       last_session = refl;
     })
 
+-- a CDN's header names the call that ends, or none
+header_names : (calls : List (ℕ × Call)) (session remote s : ℕ) → s ≡ session_named calls session remote → (session ≡ s) ⊎ (session ≡ 0)
+unfolding session_named
+header_names calls session remote s named = ⊎_elim
+    (λ (none : session ≡ 0). inr none)
+    (λ (other : session ≡ 0 → ⊥). inl (sym (rw (ne_eqb session 0 other) at named)))
+    (same_or_not session 0)
+
 -- ---- the moves
 
 module _ (codecs : Codecs) (classes : ClassIsTrue) (accs : Accounts) (n : ℕ) (e x : End) (sender : Option Sender) (moment : ℕ) (ev : Event) (d : Deed) where
@@ -185,7 +193,7 @@ module _ (codecs : Codecs) (classes : ClassIsTrue) (accs : Accounts) (n : ℕ) (
       let next = next_heard classes accs n e sender ev h.within m.tunnel t o.there o.comes.header o.comes.bytes hears
       (letter_some (sender_in accs n m.tunnel hears.o) hears.o o.comes.header o.comes.bytes hears.read o.comes.some) o.comes.next in
       let pair = paired_if accs n m.tunnel hears.o t next.letter live
-      (λ s opening says. o.plain s opening (next.said ∙ ap (λ (y : Message). Ok y) says)) next.of in
+      (λ s opening says. o.why (Sccrp opening) (next.said ∙ ap (λ (y : Message). Ok y) says) s) next.of in
       let u = took t t.control.state t.calls in
       pair_takes accs (after accs d) n e x sender ev m.tunnel t u (taken_as sender m.taken mv) [] o.comes.header o.comes.bytes (record {
         within = h.within;
@@ -230,7 +238,12 @@ module _ (codecs : Codecs) (classes : ClassIsTrue) (accs : Accounts) (n : ℕ) (
       let u = took t t.control.state (without t.calls m.session) in
       said_takes codecs classes accs n e sender ev h.within m.tunnel t o.there o.hears.0 (Cdn o.remote o.code o.error) o.hears.1
       (open_so t o.open_is)
-      (after accs d) x u mv m.taken [] o.taken (λ l s says. (o.remote, o.code, o.error, says))
+      (after accs d) x u mv m.taken [] o.taken
+      (λ l s says. (
+        ⊎_elim (λ (is : o.hears.0 ≡ m.session). inl (s ∙ is)) (λ (none : o.hears.0 ≡ 0). inr (s ∙ none))
+            (header_names t.calls o.hears.0 o.remote m.session o.hears.2),
+        (o.remote, o.code, o.error, says),
+      ))
       (took_on accs n m.tunnel t live (h.counts m.tunnel t o.there) t.control.state (without t.calls m.session)
       (calls_without t.calls m.session (record { remotes = live.calls; order = live.order })) (inl o.open_is))
       (only_after accs d n mv h.deed.node_is h.deed.move_is tt)

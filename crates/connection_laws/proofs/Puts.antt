@@ -4,7 +4,7 @@ use Rattle.id_table.specs.Ids.{at, put}
 use Rattle.l2tp_header.specs.declared.header.Header.{Header}
 use Rattle.l2tp_header.specs.Reading.{header_of}
 use Rattle.protocol_model.specs.declared.event.Event.{Event}
-use Rattle.protocol_model.specs.declared.event.Event.TheVariants.{Datagram, Ring, Payload, Lower, OpenTunnel, Tick}
+use Rattle.protocol_model.specs.declared.event.Event.TheVariants.{Datagram, Ring, Payload, Lower, Hang, OpenTunnel, DropCall, Tick}
 use Rattle.protocol_model.specs.declared.out.Origin.{Origin}
 use Rattle.protocol_model.specs.declared.out.Origin.TheVariants as origin
 use Rattle.protocol_model.specs.declared.packet.Packet.{Packet}
@@ -47,7 +47,9 @@ ComesNear accs n e sender (Datagram peer bytes) c ms i t = NearAt ms n i t c.pac
 ComesNear accs n e sender (Ring port) c ms i t = Unit {0}
 ComesNear accs n e sender (Payload s frame) c ms i t = Unit {0}
 ComesNear accs n e sender (Lower s frame) c ms i t = Unit {0}
+ComesNear accs n e sender (Hang s) c ms i t = Unit {0}
 ComesNear accs n e sender OpenTunnel c ms i t = Unit {0}
+ComesNear accs n e sender (DropCall s) c ms i t = Unit {0}
 ComesNear accs n e sender Tick c ms i t = Unit {0}
 
 -- what changes in an end where one tunnel is put

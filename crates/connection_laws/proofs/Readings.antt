@@ -14,7 +14,7 @@ use Rattle.l2tp_header.specs.declared.header.Header.{Header}
 use Rattle.l2tp_header.specs.declared.header.HeaderError.{HeaderError}
 use Rattle.l2tp_header.specs.Reading.{header_of}
 use Rattle.control_message.specs.declared.message.Message.{Message}
-use Rattle.control_message.specs.declared.message.Message.TheVariants.{Sccrq, Sccrp, Scccn, Hello, Icrq, Icrp, Iccn, Cdn}
+use Rattle.control_message.specs.declared.message.Message.TheVariants.{Sccrq, Sccrp, Scccn, StopCcn, Hello, Ocrq, Ocrp, Occn, Icrq, Icrp, Iccn, Cdn, Wen, Sli}
 use Rattle.control_message.specs.declared.message.MessageError.{MessageError}
 use Rattle.control_message.specs.declared.message.MessageError.TheVariants.{NoType, UnknownType, UnknownMandatory, HiddenWithoutVector, BadValue, Missing, NoMemory}
 use Rattle.control_message.specs.declared.message.Opening.{Opening}
@@ -61,7 +61,13 @@ unfolding zero_read message_read AtZero
 zero_message (Ok (Known (Sccrq o))) = (o, refl)
 zero_message (Ok (Known (Sccrp o))) = tt
 zero_message (Ok (Known Scccn)) = tt
+zero_message (Ok (Known (StopCcn tunnel code error))) = tt
 zero_message (Ok (Known Hello)) = tt
+zero_message (Ok (Known (Ocrq session))) = tt
+zero_message (Ok (Known Ocrp)) = tt
+zero_message (Ok (Known Occn)) = tt
+zero_message (Ok (Known Wen)) = tt
+zero_message (Ok (Known Sli)) = tt
 zero_message (Ok (Known (Icrq session serial calling))) = tt
 zero_message (Ok (Known (Icrp session))) = tt
 zero_message (Ok (Known (Iccn speed framing sequenced))) = tt

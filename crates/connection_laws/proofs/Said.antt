@@ -15,9 +15,9 @@ use Rattle.connection_laws.specs.Steps.{NextLetter, NextIsHeard, PlainIsHeard}
 use Rattle.connection_laws.proofs.Hearing.{sender_in, Linked, FromOpener, FromAcceptor, acceptor_of, Heard, HeardNext, heard, heard_next, letter_some, next_heard, said_so}
 
 -- the sender of the next letter goes to this node, and has learned this tunnel
-record Learned (accs : Accounts) (n i : ℕ) (o : ControlOrigin) : Type 0 where
-  remote : (sender_in accs n i o).remote ≡ i
-  peer : (sender_in accs n i o).peer ≡ n
+pub record Learned (accs : Accounts) (n i : ℕ) (o : ControlOrigin) : Type 0 where
+  pub remote : (sender_in accs n i o).remote ≡ i
+  pub peer : (sender_in accs n i o).peer ≡ n
 
 learned_by : (accs : Accounts) (n i : ℕ) (o : ControlOrigin) → ((m j : ℕ) → AccountOk accs m j (accs m j)) → o.ns ≡ length (accs n i).taken
     → Linked accs n i o → Learned accs n i o

@@ -34,6 +34,7 @@ does_role moment ev x (move.Requested m) y h = ap (λ (e : End). e.role) h.after
 does_role moment ev x (move.Replied m) y h = ap (λ (e : End). e.role) h.after
 does_role moment ev x (move.FirstUp m) y h = ap (λ (e : End). e.role) h.after
 does_role moment ev x (move.SecondUp m) y h = ap (λ (e : End). e.role) h.after
+does_role moment ev x (move.Refused m) y h = ap (λ (e : End). e.role) h.after
 does_role moment ev x (move.EndTold m) y h = ap (λ (e : End). e.role) h.after
 does_role moment ev x (move.EndHeard m) y h = ap (λ (e : End). e.role) h.after
 does_role moment ev x (move.EndSilent m) y h = ap (λ (e : End). e.role) h.after
@@ -73,6 +74,7 @@ module _ (accs : Accounts) (n : ℕ) (e : End) (sender : Option Sender) (moment 
   may_enter (move.Replied m) x h = tt
   may_enter (move.FirstUp m) x h = tt
   may_enter (move.SecondUp m) x h = tt
+  may_enter (move.Refused m) x h = tt
   may_enter (move.EndTold m) x h = tt
   may_enter (move.EndHeard m) x h = tt
   may_enter (move.EndSilent m) x h = tt

@@ -2,10 +2,10 @@
 use Rattle.std.proofs.Common.{◌≡◌, ⊎_elim, ℕ, ◌+◌, ◌^◌, ◌<◌, ◌≤◌, List, [], ◌∷◌, ◌++◌, refl, sym, ap, ◌∙◌, subst, Option, Some, None, arith}
 use Rattle.std.specs.Prelude.{option_map}
 use Rattle.std.specs.List.{AllByRecursion}
-use Rattle.id_table.specs.Ids.{at, put}
+use Rattle.id_table.specs.Ids.{at, put, at-none}
 use Rattle.id_table.specs.Order.{at_new, at_other, same_or_not}
 use Rattle.protocol_model.specs.declared.event.Event.{Event}
-use Rattle.protocol_model.specs.declared.event.Event.TheVariants.{Datagram, Ring, Payload, Lower, OpenTunnel, Tick}
+use Rattle.protocol_model.specs.declared.event.Event.TheVariants.{Datagram, Ring, Payload, Lower, Hang, OpenTunnel, DropCall, Tick}
 use Rattle.protocol_model.specs.declared.moves.Move.{Move}
 use Rattle.protocol_model.specs.declared.moves.Move.TheVariants as move
 use Rattle.protocol_model.specs.declared.out.Out.{Out}
@@ -14,7 +14,7 @@ use Rattle.protocol_model.specs.declared.packet.Packet.{Packet}
 use Rattle.protocol_model.specs.Names.{node_of}
 use Rattle.protocol_model.specs.Turn.{Tunnel}
 use Rattle.protocol_model.specs.End.{End, Stepped, step}
-use Rattle.protocol_model.specs.World.{World, Node, Sender, Deed, deed_of, with_node, with_birth_at, with_birth, is_born, moved, moved_all, sent, shown, shown_all, given, after_step}
+use Rattle.protocol_model.specs.World.{World, Node, Sender, Deed, birth_in, birth_of, deed_of, with_node, with_birth_at, with_birth, is_born, moved, moved_all, sent, shown, shown_all, given, after_step}
 use Rattle.step_laws.specs.Steps.{AreKept, IsOfMoves, IsChain, StepsAreChains}
 use Rattle.step_laws.specs.Ups.{most_reads, ReadsAreFew}
 use Rattle.connection_laws.specs.Accounts.{no_account}
@@ -23,7 +23,7 @@ use Rattle.connection_laws.proofs.Keeps.{MovesKeep}
 use Rattle.connection_laws.proofs.Later.{AllExtend, live_made, live_later, packet_later}
 use Rattle.connection_laws.proofs.Budget.{GivenBelow, acked_given}
 use Rattle.connection_laws.proofs.Steps.{afterwards, deeds, Kept, chain_keeps, Ran}
-pub use Rattle.connection_laws.specs.Steps.{end_at, LineSteps}
+pub use Rattle.connection_laws.specs.Steps.{end_at, BirthsStay, LineSteps}
 use Rattle.connection_laws.proofs.Sent.{carries_ok}
 
 -- ---- the ends of nodes
@@ -73,6 +73,7 @@ move_same n w (move.Requested m) = same_ends w
 move_same n w (move.Replied m) = birth_same w n m.session _
 move_same n w (move.FirstUp m) = same_ends w
 move_same n w (move.SecondUp m) = same_ends w
+move_same n w (move.Refused m) = same_ends w
 move_same n w (move.EndTold m) = same_ends w
 move_same n w (move.EndHeard m) = same_ends w
 move_same n w (move.EndSilent m) = same_ends w
@@ -91,6 +92,33 @@ unfolding moved_all
 moves_same n [] w = same_ends w
 moves_same n (m ∷ ms) w = ends_on w (moved n w m) (moved_all n ms (moved n w m)) (move_same n w m) (moves_same n ms (moved n w m))
 
+-- ---- births
+
+pub births_same : (w : World) → BirthsStay w w
+births_same w = record { count = refl; births = λ k q. refl }
+
+-- a node changes, but not its births
+ended_births : (w : World) (n : ℕ) (old new : Node) → at w.nodes n ≡ Some old → new.births ≡ old.births → BirthsStay w (with_node w n new)
+unfolding birth_of
+ended_births w n old new was same = record {
+  count = refl;
+  births = λ k q. ⊎_elim
+      (λ (e : k ≡ n). rw (e, at_new w.nodes n new, was, same) refl)
+      (λ o. ap (λ x. birth_in x q) (at_other w.nodes n new k o))
+      (same_or_not k n);
+}
+
+-- a new node has none
+pub added_births : (w : World) (n : ℕ) (new : Node) → at w.nodes n ≡ None → new.births ≡ [] → BirthsStay w (with_node w n new)
+unfolding birth_of
+added_births w n new none empty = record {
+  count = refl;
+  births = λ k q. ⊎_elim
+      (λ (e : k ≡ n). rw (e, at_new w.nodes n new, none, empty, at-none q) refl)
+      (λ o. ap (λ x. birth_in x q) (at_other w.nodes n new k o))
+      (same_or_not k n);
+}
+
 -- ---- what is shown
 
 shown_nodes : (n : ℕ) (os : List Out) (w : World) → (shown_all n os w).nodes ≡ w.nodes
@@ -101,6 +129,22 @@ shown_nodes n (Up session side frame ∷ os) w = shown_nodes n os w
 shown_nodes n (Gone session ∷ os) w = shown_nodes n os w
 shown_nodes n (Drop x ∷ os) w = shown_nodes n os w
 shown_nodes n (Cause x ∷ os) w = shown_nodes n os w
+
+shown_born : (n : ℕ) (os : List Out) (w : World) → (shown_all n os w).born ≡ w.born
+unfolding shown_all shown sent
+shown_born n [] w = refl
+shown_born n (Send peer bytes origin ∷ os) w = shown_born n os (sent w n (node_of peer) bytes origin)
+shown_born n (Up session side frame ∷ os) w = shown_born n os w
+shown_born n (Gone session ∷ os) w = shown_born n os w
+shown_born n (Drop x ∷ os) w = shown_born n os w
+shown_born n (Cause x ∷ os) w = shown_born n os w
+
+shown_births : (n : ℕ) (os : List Out) (w : World) → BirthsStay w (shown_all n os w)
+unfolding birth_of
+shown_births n os w = record {
+  count = shown_born n os w;
+  births = λ k q. ap (λ (ns : List (ℕ × Node)). birth_in (at ns k) q) (shown_nodes n os w);
+}
 
 -- what is to hold of the packets that are sent
 abbrev SendOk : (Packet → Type 0) → ℕ → Out → Type 0
@@ -178,7 +222,9 @@ few_reads (Datagram peer bytes) = omega arith
 few_reads (Ring port) = omega arith
 few_reads (Payload s frame) = omega arith
 few_reads (Lower s frame) = omega arith
+few_reads (Hang s) = omega arith
 few_reads OpenTunnel = omega arith
+few_reads (DropCall s) = omega arith
 few_reads Tick = omega arith
 
 -- what a line leaves
@@ -288,7 +334,12 @@ module _ (laws : Laws) (number : ℕ) (w : World) (accs : Accounts) (holds : Hol
     moment = moment;
     block = block;
     ev = ev;
+    begun = base;
+    begins = ended_births w n old ended was refl;
+    declared = (ended, at_new w.nodes n ended);
     told = v;
+    told_is = refl;
+    births = shown_births n s.outputs v;
     done = refl;
     moves = ran.moves;
     end = ends_shown n ∙ ap (λ (o : Option Node). option_map (λ (node : Node). node.end) o) (at_new w.nodes n ended);

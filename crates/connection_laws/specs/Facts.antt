@@ -9,13 +9,13 @@ use Rattle.l2tp_header.specs.Reading.{header_of}
 use Rattle.l2tp_header.specs.Spelling.{control_bytes, data_bytes}
 use Rattle.avp_codec.specs.Spelling.{spelling}
 use Rattle.control_message.specs.declared.message.Message.{Message}
-use Rattle.control_message.specs.declared.message.Message.TheVariants.{Sccrq, Sccrp, Scccn, Hello, Icrq, Icrp, Iccn, Cdn}
+use Rattle.control_message.specs.declared.message.Message.TheVariants.{Sccrq, Sccrp, Scccn, StopCcn, Hello, Ocrq, Ocrp, Occn, Icrq, Icrp, Iccn, Cdn, Wen, Sli}
 use Rattle.control_message.specs.declared.message.Opening.{Opening}
 use Rattle.control_message.specs.Pairs.{pairs_of, IsWritten}
 use Rattle.recv_window.specs.Window.{on_wire}
 use Rattle.tunnel_fsm.specs.Rows.{state_number}
 use Rattle.protocol_model.specs.declared.event.Event.{Event}
-use Rattle.protocol_model.specs.declared.event.Event.TheVariants.{Datagram, Ring, Payload, Lower, OpenTunnel, Tick}
+use Rattle.protocol_model.specs.declared.event.Event.TheVariants.{Datagram, Ring, Payload, Lower, Hang, OpenTunnel, DropCall, Tick}
 use Rattle.protocol_model.specs.declared.moves.Move.{Move}
 use Rattle.protocol_model.specs.declared.moves.Move.TheVariants as move
 use Rattle.protocol_model.specs.declared.out.Origin.{Origin}
@@ -44,7 +44,13 @@ abbrev pub IsNoOpening : Message → Type 0
 IsNoOpening (Sccrq o) = ⊥
 IsNoOpening (Sccrp o) = ⊥
 IsNoOpening Scccn = Unit {0}
+IsNoOpening (StopCcn tunnel code error) = Unit {0}
 IsNoOpening Hello = Unit {0}
+IsNoOpening (Ocrq session) = Unit {0}
+IsNoOpening Ocrp = Unit {0}
+IsNoOpening Occn = Unit {0}
+IsNoOpening Wen = Unit {0}
+IsNoOpening Sli = Unit {0}
 IsNoOpening (Icrq session serial calling) = Unit {0}
 IsNoOpening (Icrp session) = Unit {0}
 IsNoOpening (Iccn speed framing sequenced) = Unit {0}
@@ -65,7 +71,10 @@ pub record BeginsWith (i : ℕ) (says : Opening → Message) (given : List Lette
   pub id : opening.tunnel ≡ i
   pub later : AllByRecursion (λ (l : Letter). IsNoOpening l.message) rest
 
--- what a tunnel did with a letter that it took is what the letter says
+-- what a tunnel did with a letter that it took is what the letter says: it learned the id and the window that an opening tells, or was
+-- confirmed by an SCCCN; the call that it made replies to the one that the request names; a call came up by the reply or the connection
+-- whose header names it; or a call ended by a CDN whose header names it, or names none: then which call the CDN means isn't said here.
+-- Of a letter that it took plainly nothing is said
 abbrev pub Tells : Letter → Move → Type 0
 Tells l (move.Accepted m) = (o : Opening) × (l.message ≡ Sccrq o) × (m.remote ≡ o.tunnel) × (m.window ≡ o.window)
 Tells l (move.Connected m) = (o : Opening) × (l.message ≡ Sccrp o) × (m.remote ≡ o.tunnel) × (m.window ≡ o.window)
@@ -73,7 +82,10 @@ Tells l (move.Confirmed m) = l.message ≡ Scccn
 Tells l (move.Replied m) = (serial : ℕ) × (calling : Option (List ℕ)) × (l.message ≡ Icrq m.remote serial calling)
 Tells l (move.FirstUp m) = (l.session ≡ m.session) × (l.message ≡ Icrp m.remote)
 Tells l (move.SecondUp m) = (l.session ≡ m.session) × ((speed : ℕ) × (framing : ℕ) × (sequenced : Bool) × (l.message ≡ Iccn speed framing sequenced))
-Tells l (move.EndHeard m) = (remote : ℕ) × (code : ℕ) × (error : Option ℕ) × (l.message ≡ Cdn remote code error)
+Tells l (move.Refused m) =
+    ((serial : ℕ) × (calling : Option (List ℕ)) × (l.message ≡ Icrq m.remote serial calling)) ⊎ (l.message ≡ Icrp m.remote)
+Tells l (move.EndHeard m) =
+    ((l.session ≡ m.session) ⊎ (l.session ≡ 0)) × ((remote : ℕ) × (code : ℕ) × (error : Option ℕ) × (l.message ≡ Cdn remote code error))
 Tells l m = Unit {0}
 
 -- what a tunnel took as the letter with a number is the letter with that number, of those given to its partner's channel
@@ -274,7 +286,9 @@ Comes accs n e sender (Datagram peer bytes) = IsPacket accs n e sender peer byte
 Comes accs n e sender (Ring port) = Unit {0}
 Comes accs n e sender (Payload s frame) = Unit {0}
 Comes accs n e sender (Lower s frame) = Unit {0}
+Comes accs n e sender (Hang s) = Unit {0}
 Comes accs n e sender OpenTunnel = Unit {0}
+Comes accs n e sender (DropCall s) = Unit {0}
 Comes accs n e sender Tick = Unit {0}
 
 -- what holds between two moves of a step of a node's end

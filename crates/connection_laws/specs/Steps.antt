@@ -6,16 +6,17 @@ use Rattle.schedule_text.specs.declared.line.Line.{Line}
 use Rattle.schedule_text.specs.Grammar.{FitsLine}
 use Rattle.protocol_model.specs.declared.event.Event.{Event}
 use Rattle.protocol_model.specs.declared.moves.Move.{Move}
+use Rattle.protocol_model.specs.declared.tunnel.Control.{Control}
 use Rattle.protocol_model.specs.declared.tunnel.Role.{Role}
-use Rattle.protocol_model.specs.Reading.{body_of, message_in}
+use Rattle.protocol_model.specs.Reading.{body_of, message_in, CallFault}
 use Rattle.protocol_model.specs.Turn.{Tunnel}
 use Rattle.protocol_model.specs.End.{End, new_end, step}
-use Rattle.protocol_model.specs.World.{World, Node, Sender, Deed, Lined, config_of, deed_of, line}
+use Rattle.protocol_model.specs.World.{World, Node, Sender, Deed, Lined, birth_of, moved_all, config_of, deed_of, line}
 use Rattle.protocol_model.specs.Run.{Run, empty_run, after_line}
 use Rattle.step_laws.specs.Letters.{Letter}
-use Rattle.step_laws.specs.Moves.{Does, HearsNext, ComesNext}
+use Rattle.step_laws.specs.Moves.{Does, HearsNext, ComesNext, InTunnel, IsFaulty}
 use Rattle.connection_laws.specs.Accounts.{account_of, after_deed}
-use Rattle.connection_laws.specs.Facts.{Accounts, Within, Holds}
+use Rattle.connection_laws.specs.Facts.{Accounts, IsNoOpening, Within, Holds}
 
 -- ---- a move of a step
 
@@ -84,6 +85,29 @@ abbrev pub PlainIsHeard : Type 0
 PlainIsHeard = (accs : Accounts) (n : ℕ) (e : End) (sender : Option Sender) (ev : Event) → Within accs n e sender ev
     → (i : ℕ) (t : Tunnel) → at e.tunnels i ≡ Some t → (k : ComesNext ev t.control) → PlainLetter accs n i sender ev t k
 
+-- a control message that comes in a live tunnel, the next one or not, and opens or accepts none
+pub record HeardLetter (accs : Accounts) (n i : ℕ) (sender : Option Sender) (session : ℕ) (m : Message) : Type 0 where
+  pub from : Sender
+  pub sender_is : sender ≡ Some from
+  pub peer : (accs n i).peer ≡ from.node
+  pub learned : (accs from.node from.tunnel).remote ≡ i
+  pub goes : (accs from.node from.tunnel).peer ≡ n
+  pub number : ℕ
+  pub letter : Letter
+  pub there : slice_get (accs from.node from.tunnel).given number ≡ Some letter
+  pub session_is : letter.session ≡ session
+  pub message_is : letter.message ≡ m
+
+abbrev pub LettersAreHeard : Type 0
+LettersAreHeard = (accs : Accounts) (n : ℕ) (e : End) (sender : Option Sender) (ev : Event) → Within accs n e sender ev
+    → (i : ℕ) (t : Tunnel) → at e.tunnels i ≡ Some t → (session : ℕ) (m : Message) → IsNoOpening m → InTunnel ev t.control session m
+    → HeardLetter accs n i sender session m
+
+-- no message about a call has a fault
+abbrev pub NoneIsFaulty : Type 0
+NoneIsFaulty = (accs : Accounts) (n : ℕ) (e : End) (sender : Option Sender) (ev : Event) → Within accs n e sender ev
+    → (c : Control) (session : ℕ) (f : CallFault) → IsFaulty ev c session f → ⊥
+
 -- ---- lines
 
 abbrev pub GivenBelow : Accounts → ℕ → Type 0
@@ -92,6 +116,11 @@ GivenBelow accs most = (n i : ℕ) → length (accs n i).given ≤ most
 -- the end of a node, where there is one
 abbrev pub end_at : World → ℕ → Option End
 end_at w n = option_map (λ (node : Node). node.end) (at w.nodes n)
+
+-- the calls of both worlds have the same births
+pub record BirthsStay (w v : World) : Type 0 where
+  pub count : v.born ≡ w.born
+  pub births : (n session : ℕ) → birth_of v n session ≡ birth_of w n session
 
 -- a line that makes a step of a node
 pub record LineSteps (w : World) (accs : Accounts) (number : ℕ) (x : Lined) : Type 0 where
@@ -102,8 +131,13 @@ pub record LineSteps (w : World) (accs : Accounts) (number : ℕ) (x : Lined) : 
   pub moment : ℕ
   pub block : List ℕ
   pub ev : Event
-  -- the world in which the births of its moves are told
+  -- the world in which its moves begin, and the one in which their births are told
+  pub begun : World
+  pub begins : BirthsStay w begun
+  pub declared : (before : Node) × (at begun.nodes node ≡ Some before)
   pub told : World
+  pub told_is : told ≡ moved_all node (step old.end moment block ev).moves begun
+  pub births : BirthsStay told x.world
   pub done : x.done ≡ map (λ m. deed_of told number node old.end.role sender m) (step old.end moment block ev).moves
   pub moves : MovesWithin accs node old.end sender moment ev (λ m. deed_of told number node old.end.role sender m)
       (step old.end moment block ev).moves (step old.end moment block ev).end
@@ -112,9 +146,10 @@ pub record LineSteps (w : World) (accs : Accounts) (number : ℕ) (x : Lined) : 
 
 -- what a line does with the nodes: nothing, one more node, or a step of one
 pub data LineDoes (w : World) (accs : Accounts) (number : ℕ) (x : Lined) : Type 0 where
-  Nothing : x.done ≡ [] → x.world.nodes ≡ w.nodes → LineDoes w accs number x
+  Nothing : x.done ≡ [] → x.world.nodes ≡ w.nodes → BirthsStay w x.world → LineDoes w accs number x
   ANode : (n : ℕ) (role : Role) (lns : ℕ) → n < 256 → at w.nodes n ≡ None → x.done ≡ []
-      → x.world.nodes ≡ put w.nodes n (record { end = new_end role (config_of n lns); clock = 0; births = [] }) → LineDoes w accs number x
+      → x.world.nodes ≡ put w.nodes n (record { end = new_end role (config_of n lns); clock = 0; births = [] }) → BirthsStay w x.world
+      → LineDoes w accs number x
   AStep : LineSteps w accs number x → LineDoes w accs number x
 
 -- before each line of a run

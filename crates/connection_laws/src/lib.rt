@@ -6,7 +6,7 @@ ghost use Rattle.frame_laws.specs.Codecs.{Codecs};
 ghost use Rattle.step_laws.specs.Steps.{StepsAreChains};
 ghost use Rattle.step_laws.specs.Ups.{ReadsAreFew};
 ghost use Rattle.connection_laws.specs.Channels.{AcksOfRuns, HoldsInRuns, LettersOfRuns, NumbersOfRuns};
-ghost use Rattle.connection_laws.specs.Steps.{LinesGoOn, MovesKeep, NextIsHeard, PlainIsHeard, RunsBegin};
+ghost use Rattle.connection_laws.specs.Steps.{LettersAreHeard, LinesGoOn, MovesKeep, NextIsHeard, NoneIsFaulty, PlainIsHeard, RunsBegin};
 ghost use Rattle.recv_window.specs.Window.{ClassIsTrue};
 
 /// The laws that are used.
@@ -29,13 +29,16 @@ pub fn facts_hold()
     laws_below();
 }
 
-/// Each move of a step keeps all of it; the next letter that a tunnel hears is the next one of its sender's list; and each line
+/// Each move of a step keeps all of it; the next letter that a tunnel hears is the next one of its sender's list, and any that
+/// it hears is in that list, where it neither opens a tunnel nor accepts one; no message about a call has a fault; and each line
 /// of a run that fits goes on from where it holds: it does nothing, adds a node, or makes a step whose moves are made where all
 /// of it holds.
 pub fn steps_keep()
     ensures moves { MovesKeep }
     ensures heard { NextIsHeard }
     ensures plain { PlainIsHeard }
+    ensures letters { LettersAreHeard }
+    ensures sound { NoneIsFaulty }
     ensures lines { LinesGoOn }
     ensures begins { RunsBegin }
 {
@@ -44,7 +47,10 @@ pub fn steps_keep()
 
 /// Over every list of fewer than 2^47 lines of the grammar: each control message is a copy of the letter at its number in
 /// its sender's list, or of none, and goes to its sender's peer; and what a tunnel took are the first letters of the list of
-/// its partner, the one tunnel that it has learned, in order and each once. What it did with each is what the letter says.
+/// its partner, the one tunnel that it has learned, in order and each once. What it did with each is what the letter says: it
+/// learned the id and the window that an opening tells, it made a call for the request that names the other end's, and a call
+/// came up or ended that the letter's header names; or a call ended by a CDN whose header names none, of which no more is
+/// said. Of a letter that it took plainly, by which it did nothing else, nothing is said.
 pub fn letters_are_carried()
     ensures { LettersOfRuns }
 {

@@ -22,6 +22,7 @@ does_role moment ev x (move.Requested m) y h = ap (λ (e : End). e.role) h.after
 does_role moment ev x (move.Replied m) y h = ap (λ (e : End). e.role) h.after
 does_role moment ev x (move.FirstUp m) y h = ap (λ (e : End). e.role) h.after
 does_role moment ev x (move.SecondUp m) y h = ap (λ (e : End). e.role) h.after
+does_role moment ev x (move.Refused m) y h = ap (λ (e : End). e.role) h.after
 does_role moment ev x (move.EndTold m) y h = ap (λ (e : End). e.role) h.after
 does_role moment ev x (move.EndHeard m) y h = ap (λ (e : End). e.role) h.after
 does_role moment ev x (move.EndSilent m) y h = ap (λ (e : End). e.role) h.after

@@ -8,9 +8,9 @@ use Rattle.l2tp_header.specs.Reading.{header_of}
 use Rattle.avp_codec.specs.Spelling.{spelling}
 use Rattle.control_message.specs.declared.message.Message.{Message}
 use Rattle.control_message.specs.Pairs.{pairs_of, IsWritten}
-use Rattle.control_message.specs.Reading.{message_of}
+use Rattle.control_message.specs.Reading.{message_of, kind_of_pairs}
 use Rattle.recv_window.specs.Window.{on_wire}
-use Rattle.protocol_model.specs.Reading.{body_of, message_in, pairs_read, message_read}
+use Rattle.protocol_model.specs.Reading.{body_of, message_in, pairs_read, message_read, call_fault_in, fault_of_pairs}
 use Rattle.frame_laws.specs.Codecs.{Codecs}
 use Rattle.frame_laws.specs.Past.{Passage}
 use Rattle.frame_laws.proofs.Facts.{Nodes, BytesOk, WasSentInCall, NamesItsCall}
@@ -20,6 +20,16 @@ module _ (codecs : Codecs) where
   message_again : (m : Message) → IsWritten m → message_in (spelling (pairs_of m)) ≡ Ok m
   unfolding message_in pairs_read message_read
   message_again m w = let both = codecs.message m w in rw (both.0, both.1) refl
+
+  -- no fault is found in it
+  no_fault_again : (m : Message) → IsWritten m → call_fault_in (spelling (pairs_of m)) ≡ None
+  unfolding call_fault_in fault_of_pairs
+  no_fault_again m w = let both = codecs.message m w in rw (both.0, both.1) refl
+
+  -- nor in no pairs
+  no_fault : call_fault_in [] ≡ None
+  unfolding call_fault_in fault_of_pairs message_of kind_of_pairs
+  no_fault = let none = codecs.pairs [] tt in rw none refl
 
   -- no pairs make no message
   no_message : (m : Message) → message_in [] ≡ Ok m → ⊥
@@ -55,6 +65,7 @@ module _ (codecs : Codecs) where
               let g : message_in (spelling (pairs_of m)) ≡ Ok x = rw (← k.body) r in
               let same : m ≡ x = let again = message_again m w in cc in
               rw (← same) (w, rw k.session_is names);
+          sound = λ h e c. rw (control_read (spelling (pairs_of m)) h (codecs.room m w) e).body (no_fault_again m w);
         }
 
     pub alone_ok : (nodes : Nodes) (gs : List Passage) (from to : ℕ) → BytesOk nodes gs from to (control_bytes tunnel session (on_wire ns) (on_wire nr) [])
@@ -62,6 +73,7 @@ module _ (codecs : Codecs) where
         record {
           frames = λ h e c. absurd (true≢false (sym (control_read [] h (omega arith) e).control ∙ c));
           letters = λ h e c x r. absurd (no_message x (rw (← (control_read [] h (omega arith) e).body) r));
+          sound = λ h e c. rw (control_read [] h (omega arith) e).body no_fault;
         }
 
   -- a frame that is for a session
@@ -73,4 +85,5 @@ module _ (codecs : Codecs) where
       record {
         frames = λ h e k. rw (same_header bytes h _ _ c e, c.bounds) sent;
         letters = λ h e k m r. absurd (true≢false (sym k ∙ ap (λ (x : Header). x.control) (same_header bytes h _ _ c e)));
+        sound = λ h e k. absurd (true≢false (sym k ∙ ap (λ (x : Header). x.control) (same_header bytes h _ _ c e)));
       }

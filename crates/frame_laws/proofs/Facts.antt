@@ -1,10 +1,10 @@
 -- What holds of a world goes on to hold.
-use Rattle.std.proofs.Common.{◌≡◌, inl, inr, ⊎_elim, ℕ, zero, suc, ◌≤◌, List, [], ◌∷◌, ◌++◌, refl, subst, Some, arith}
+use Rattle.std.proofs.Common.{◌≡◌, inl, inr, ⊎_elim, ℕ, zero, suc, ◌≤◌, List, [], ◌∷◌, ◌++◌, refl, subst, Some, arith, ◌<◌, ◌⊎◌}
 use Rattle.std.specs.Prelude.{drop, slice_get}
 use Rattle.std.specs.List.{AllByRecursion}
 use Rattle.wire_base.specs.declared.letter.Letter.{Letter}
 use Rattle.control_message.specs.declared.message.Message.{Message}
-use Rattle.control_message.specs.declared.message.Message.TheVariants.{Sccrq, Sccrp, Scccn, Hello, Icrq, Icrp, Iccn, Cdn}
+use Rattle.control_message.specs.declared.message.Message.TheVariants.{Sccrq, Sccrp, Scccn, StopCcn, Hello, Ocrq, Ocrp, Occn, Icrq, Icrp, Iccn, Cdn, Wen, Sli}
 use Rattle.protocol_model.specs.declared.tunnel.Call.{Call}
 use Rattle.protocol_model.specs.declared.tunnel.Role.{Role}
 use Rattle.protocol_model.specs.declared.tunnel.Role.TheVariants.{Lac, Lns}
@@ -70,9 +70,19 @@ mates_later ns ms g n s m a h =
 pub names_later : (ns ms : Nodes) → Grows ns ms → (from to session : ℕ) (m : Message) → NamesItsCall ns from to session m → NamesItsCall ms from to session m
 names_later ns ms g from to session (Icrq own serial calling) h = ((h.0.0, h.0.1, g.births from own h.0.0 h.0.2), g.roles from Lac h.1)
 names_later ns ms g from to session (Icrp own) h = mates_later ns ms g from own to session h
-names_later ns ms g from to session (Cdn own code error) h =
-    ((h.0.0, h.0.1, g.births from own h.0.0 h.0.2), ⊎_elim (λ a. inl a) (λ a. inr (mates_later ns ms g from own to session a)) h.1)
+names_later ns ms g from to session (Cdn own code error) h = ⊎_elim (λ a. inl a) (λ k. inr (told_later k)) h
+  where
+    told_later : ((b : ℕ) × (0 < b) × Born ns from own b) × ((session ≡ 0) ⊎ Mates ns from own to session)
+        → ((b : ℕ) × (0 < b) × Born ms from own b) × ((session ≡ 0) ⊎ Mates ms from own to session)
+    told_later k =
+        ((k.0.0, k.0.1, g.births from own k.0.0 k.0.2), ⊎_elim (λ a. inl a) (λ a. inr (mates_later ns ms g from own to session a)) k.1)
+names_later ns ms g from to session (StopCcn tunnel code error) h = tt
 names_later ns ms g from to session Hello h = tt
+names_later ns ms g from to session (Ocrq own) h = tt
+names_later ns ms g from to session Ocrp h = tt
+names_later ns ms g from to session Occn h = tt
+names_later ns ms g from to session Wen h = tt
+names_later ns ms g from to session Sli h = tt
 names_later ns ms g from to session (Sccrq o) h = tt
 names_later ns ms g from to session (Sccrp o) h = tt
 names_later ns ms g from to session Scccn h = tt
@@ -106,6 +116,7 @@ bytes_later ns ms g gs hs from to bytes h =
     record {
       frames = λ x e c. sent_in_call_later ns ms g gs hs from to x.session _ (h.frames x e c);
       letters = λ x e c m r. let l = h.letters x e c m r in (l.0, names_later ns ms g from to x.session m l.1);
+      sound = h.sound;
     }
 
 pub packets_later : (ns ms : Nodes) → Grows ns ms → (gs hs : List Passage) (ps : List Packet) → AllByRecursion (PacketOk ns gs) ps

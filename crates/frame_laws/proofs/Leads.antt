@@ -1,5 +1,5 @@
 -- What a move leaves of a node and of the world: births and roles stay, and one tunnel of the end is put.
-use Rattle.std.proofs.Common.{◌≡◌, ⊎_elim, ℕ, ◌+◌, ◌-◌, ◌^◌, ◌<◌, ◌≤◌, Bool, true, false, cond, List, refl, sym, ap, ◌∙◌, subst, Some, Ok, Err, arith}
+use Rattle.std.proofs.Common.{◌≡◌, ⊎_elim, ℕ, ◌+◌, ◌-◌, ◌^◌, ◌<◌, ◌≤◌, Bool, true, false, cond, List, refl, sym, ap, ◌∙◌, subst, Some, Ok, Err, arith, None}
 use Rattle.std.proofs.lemmas.Bool.{ltb-false}
 use Rattle.std.specs.Prelude.{nat_lt}
 use Rattle.id_source.specs.declared.IdError.TheVariants.{NoIds, NeedCeiling}
@@ -11,11 +11,11 @@ use Rattle.l2tp_header.specs.Reading.{header_of}
 use Rattle.control_message.specs.declared.message.Message.{Message}
 use Rattle.control_message.specs.Pairs.{IsWritten}
 use Rattle.protocol_model.specs.declared.event.Event.{Event}
-use Rattle.protocol_model.specs.declared.event.Event.TheVariants.{Datagram, Ring, Payload, Lower, OpenTunnel, Tick}
+use Rattle.protocol_model.specs.declared.event.Event.TheVariants.{Datagram, Ring, Payload, Lower, Hang, OpenTunnel, DropCall, Tick}
 use Rattle.protocol_model.specs.declared.tunnel.Call.{Call}
 use Rattle.protocol_model.specs.declared.tunnel.Role.{Role}
 use Rattle.protocol_model.specs.Names.{address_of, node_of}
-use Rattle.protocol_model.specs.Reading.{body_of, message_in}
+use Rattle.protocol_model.specs.Reading.{body_of, message_in, call_fault_in}
 use Rattle.protocol_model.specs.Turn.{Tunnel}
 use Rattle.protocol_model.specs.End.{End}
 use Rattle.protocol_model.specs.World.{World, Node}
@@ -52,13 +52,16 @@ pub record HeardFrom (ns : Nodes) (n peer : ℕ) (bytes : List ℕ) : Type 0 whe
   pub address : peer ≡ address_of from
   pub letters : (h : Header) → header_of bytes ≡ Ok h → h.control ≡ true → (m : Message) → message_in (body_of h bytes) ≡ Ok m
       → IsWritten m × NamesItsCall ns from n h.session m
+  pub sound : (h : Header) → header_of bytes ≡ Ok h → h.control ≡ true → call_fault_in (body_of h bytes) ≡ None
 
 abbrev pub Heard : Nodes → ℕ → Event → Type 0
 Heard ns n (Datagram peer bytes) = HeardFrom ns n peer bytes
 Heard ns n (Ring port) = Unit {0}
 Heard ns n (Payload s frame) = Unit {0}
 Heard ns n (Lower s frame) = Unit {0}
+Heard ns n (Hang s) = Unit {0}
 Heard ns n OpenTunnel = Unit {0}
+Heard ns n (DropCall s) = Unit {0}
 Heard ns n Tick = Unit {0}
 
 pub heard_later : (ns ms : Nodes) → Grows ns ms → (n : ℕ) (ev : Event) → Heard ns n ev → Heard ms n ev
@@ -67,11 +70,14 @@ heard_later ns ms g n (Datagram peer bytes) h = record {
   number = h.number;
   address = h.address;
   letters = λ x e c m r. let l = h.letters x e c m r in (l.0, names_later ns ms g h.from n x.session m l.1);
+  sound = h.sound;
 }
 heard_later ns ms g n (Ring port) h = tt
 heard_later ns ms g n (Payload s frame) h = tt
 heard_later ns ms g n (Lower s frame) h = tt
+heard_later ns ms g n (Hang s) h = tt
 heard_later ns ms g n OpenTunnel h = tt
+heard_later ns ms g n (DropCall s) h = tt
 heard_later ns ms g n Tick h = tt
 
 pub heard_letter : (ns : Nodes) (n : ℕ) (ev : Event) → Heard ns n ev → (peer session : ℕ) (m : Message) → Hears ev peer session m
@@ -81,6 +87,11 @@ heard_letter ns n ev heard peer session m h =
     let l = k.letters h.header h.read h.control m h.said in
     let from : node_of peer ≡ k.from = ap node_of k.address ∙ node_again k.from k.number in
     (l.0, rw (from, ← h.session_is) l.1)
+
+-- no fault is heard
+pub heard_sound : (ns : Nodes) (n : ℕ) (ev : Event) → Heard ns n ev → (peer : ℕ) (bytes : List ℕ) (h : Header) → ev ≡ Datagram peer bytes
+    → header_of bytes ≡ Ok h → h.control ≡ true → call_fault_in (body_of h bytes) ≡ None
+heard_sound ns n ev heard peer bytes h is read control = let k : HeardFrom ns n peer bytes = subst (Heard ns n) is heard in k.sound h read control
 
 -- ---- an end along the moves of a step
 

@@ -3,6 +3,7 @@ pub mod Changes
 pub mod Births
 pub mod Rows
 pub mod Leads
+pub mod Refusing
 pub mod Moves
 pub mod Chains
 pub mod Datagrams

@@ -10,7 +10,7 @@ use Rattle.id_table.specs.Order.{at_new, at_other, found_put, same_or_not, ascen
 use Rattle.wire_base.specs.declared.why.Why.{Why}
 use Rattle.wire_base.specs.declared.why.Why.TheVariants as why
 use Rattle.schedule_text.specs.declared.line.Line.{Line}
-use Rattle.schedule_text.specs.declared.line.Line.TheVariants.{Remark, Lac, Lns, OpenUp, Ring, FromSub, Down, Deliver, Tick}
+use Rattle.schedule_text.specs.declared.line.Line.TheVariants.{Remark, Lac, Lns, OpenUp, Ring, FromSub, Down, Hang, DropCall, Deliver, Tick}
 use Rattle.schedule_text.specs.Grammar.{FitsLine}
 use Rattle.protocol_model.specs.declared.event.Event.{Event}
 use Rattle.protocol_model.specs.declared.event.Event.TheVariants as event
@@ -54,6 +54,10 @@ is_lac_at : (o : Option Node) (node : Node) → lac_at o ≡ Ok node → (o ≡ 
 is_lac_at None node h = absurd (cc)
 is_lac_at (Some x) node h =
     let t = tested (is_lac x.end.role) x why.Node node h in (ap (λ y. Some y) t.1, subst (λ (y : Node). y.end.role ≡ role.Lac) t.1 (is_lac_role x.end.role t.0))
+
+is_declared : (o : Option Node) (node : Node) → declared o ≡ Ok node → o ≡ Some node
+is_declared None node h = absurd (cc)
+is_declared (Some x) node h = cc
 
 is_lns_at : (o : Option Node) (node : Node) → lns_at o ≡ Ok node → (o ≡ Some node) × (node.end.role ≡ role.Lns)
 is_lns_at None node h = absurd (cc)
@@ -205,7 +209,9 @@ HasNoFrame (event.Datagram peer bytes) = Unit {0}
 HasNoFrame (event.Ring port) = Unit {0}
 HasNoFrame (event.Payload session frame) = ⊥
 HasNoFrame (event.Lower session frame) = ⊥
+HasNoFrame (event.Hang session) = Unit {0}
 HasNoFrame event.OpenTunnel = Unit {0}
+HasNoFrame (event.DropCall session) = Unit {0}
 HasNoFrame event.Tick = Unit {0}
 
 no_frame : (number n : ℕ) (r : Role) (ev : Event) (l : Line) → HasNoFrame ev → (g : Passage) → EventGives number n r ev g → LineGives number l g
@@ -213,7 +219,9 @@ no_frame number n r (event.Datagram peer bytes) l none g h = absurd (⊎_elim (�
 no_frame number n r (event.Ring port) l none g h = absurd (⊎_elim (λ e. absurd cc) (λ e. absurd cc) h.event_is)
 no_frame number n r (event.Payload session frame) l none g h = absurd none
 no_frame number n r (event.Lower session frame) l none g h = absurd none
+no_frame number n r (event.Hang session) l none g h = absurd (⊎_elim (λ e. absurd cc) (λ e. absurd cc) h.event_is)
 no_frame number n r event.OpenTunnel l none g h = absurd (⊎_elim (λ e. absurd cc) (λ e. absurd cc) h.event_is)
+no_frame number n r (event.DropCall session) l none g h = absurd (⊎_elim (λ e. absurd cc) (λ e. absurd cc) h.event_is)
 no_frame number n r event.Tick l none g h = absurd (⊎_elim (λ e. absurd cc) (λ e. absurd cc) h.event_is)
 
 from_sub : (number n : ℕ) (r : Role) (session : ℕ) (frame : List ℕ) → r ≡ role.Lac → (g : Passage)
@@ -322,6 +330,20 @@ module _ (codecs : Codecs) (laws : StepLaws) (number : ℕ) (w : World) (gs : Li
       (λ node e.
       let is = is_lns_at (at w.nodes n) node (has_call session (lns_at (at w.nodes n)) node e) in
       (is_there w n node is.0, down_to number n node.end.role session frame is.1))
+      tt h
+  line_ok x (Hang n session) fits h =
+      stepped_ok codecs laws number w gs holds below (Hang n session) x n (event.Hang session) None (with_call session (lac_at (at w.nodes n)))
+      (λ node e.
+      let is = is_lac_at (at w.nodes n) node (has_call session (lac_at (at w.nodes n)) node e) in
+      (is_there w n node is.0, no_frame number n node.end.role (event.Hang session) (Hang n session) tt))
+      tt h
+  line_ok x (DropCall n session) fits h =
+      stepped_ok codecs laws number w gs holds below (DropCall n session) x n (event.DropCall session) None
+      (with_call session (declared (at w.nodes n)))
+      (λ node e. (
+        is_there w n node (is_declared (at w.nodes n) node (has_call session (declared (at w.nodes n)) node e)),
+        no_frame number n node.end.role (event.DropCall session) (DropCall n session) tt,
+      ))
       tt h
   line_ok x (Deliver k) fits h =
       delivers_ok (Deliver k) x (slice_get w.packets (k - 1)) (λ p e. all_at (PacketOk w.nodes gs) w.packets (k - 1) p e holds.packets) h

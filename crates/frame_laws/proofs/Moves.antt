@@ -31,6 +31,7 @@ use Rattle.protocol_model.specs.declared.moves.TookPlain.{TookPlain}
 use Rattle.protocol_model.specs.declared.moves.NrRead.{NrRead}
 use Rattle.protocol_model.specs.declared.moves.LetGo.{LetGo}
 use Rattle.protocol_model.specs.declared.moves.EndTold.{EndTold}
+use Rattle.protocol_model.specs.declared.moves.Refused.{Refused}
 use Rattle.protocol_model.specs.declared.moves.EndHeard.{EndHeard}
 use Rattle.protocol_model.specs.declared.moves.EndSilent.{EndSilent}
 use Rattle.protocol_model.specs.declared.moves.Greeted.{Greeted}
@@ -47,10 +48,12 @@ use Rattle.protocol_model.specs.Calls.{advanced, rung, asked_for, is_up}
 use Rattle.protocol_model.specs.Turn.{Tunnel, letter_of, counts_given, counts_taken, learns_window, opening_of, request_of, connection}
 use Rattle.protocol_model.specs.End.{End, new_place}
 use Rattle.protocol_model.specs.World.{World, Node, with_birth, is_born, birth_of, moved}
-use Rattle.step_laws.specs.Moves.{with_tunnel, with_letter, new_tunnel, begun, Opens, Accepts, Connects, Confirms, Adds as AddsCall, Requests, Replies, ComesUpFirst, ComesUpSecond, TellsEnd, HearsEnd, EndsSilently, Clears, Greets, TakesPlain, Reads, LetsGo, Repeats, without_call, Does}
+use Rattle.step_laws.specs.Moves.{with_tunnel, with_letter, new_tunnel, begun, Opens, Accepts, Connects, Confirms, Adds as AddsCall, Requests, Replies, ComesUpFirst, ComesUpSecond, Refuses, TellsEnd, HearsEnd, EndsSilently, Clears, Greets, TakesPlain, Reads, LetsGo, Repeats, without_call, Does}
 use Rattle.frame_laws.proofs.Facts.{Nodes, Born, Plays, Grows, same_nodes, Mates, swapped, NamesItsCall, KnowsItsMate, CallOk, call_later, CallsOk, LetterOk, LettersOk, letters_later, TunnelOk, tunnel_later, all_push, all_drop}
 use Rattle.frame_laws.proofs.Changes.{next_birth, some_birth, with_one, born_nodes, born_packets, born_count, made_count, made_nodes, made_packets, Changed, birth_is, plays_at, grows, Adds, NextBirth, SameBirth}
 use Rattle.frame_laws.proofs.Births.{not_lns, counted_after}
+use Rattle.step_laws.specs.Codes.{codes_fit}
+use Rattle.frame_laws.proofs.Refusing.{refusal_fits}
 use Rattle.frame_laws.proofs.Rows.{request_row, reply_row, second_row, rung_row}
 use Rattle.frame_laws.proofs.Leads.{draw_is, next_is, Heard, heard_letter, At, Leads, Sets, calls_put, end_put}
 
@@ -380,10 +383,19 @@ module _ (digits : (port : ℕ) → length (calling_number port) ≡ 12) (n : �
   told_led : (moment : ℕ) (m : EndTold) (y : End) → TellsEnd x moment ev m y → Led v y
   told_led moment m y h =
       let o = (here.end.tunnels m.tunnel h.tunnel h.there).calls m.session h.call h.live in
-      let names : NamesItsCall v.nodes n (node_of h.tunnel.control.peer) m.remote (Cdn m.session m.code None) =
-      ((o.birth, o.some, o.born), rw h.remote o.known) in
+      let names : NamesItsCall v.nodes n (node_of h.tunnel.control.peer) m.remote (Cdn m.session m.result m.error) =
+      inr ((o.birth, o.some, o.born), rw h.remote o.known) in
       ended_led y m.tunnel h.tunnel (counts_given h.tunnel.control) _ m.session h.there h.after refl refl refl
-      (more_letters m.tunnel h.tunnel h.there m.remote (Cdn m.session m.code None) (rw h.remote o.remote) (h.session, (let code = h.code in omega (arith, code)), tt) names)
+      (more_letters m.tunnel h.tunnel h.there m.remote (Cdn m.session m.result m.error) (rw h.remote o.remote)
+      (let k = codes_fit x h.tunnel ev moment m.session h.call h.on m.result m.error h.why in (h.session, k.0, k.1)) names)
+
+  -- there was no call
+  refused_led : (m : Refused) (y : End) → Refuses x ev m y → Led v y
+  refused_led m y h =
+      let o = here.end.tunnels m.tunnel h.tunnel h.there in
+      let fits = refusal_fits v.nodes n ev heard x m y h in
+      control_led y m.tunnel h.tunnel _ _ h.there h.after refl refl o.remote
+      (more_letters m.tunnel h.tunnel h.there m.remote (Cdn 0 m.result m.error) fits.0 (omega arith, fits.1.0, fits.1.1) (inl refl))
 
   heard_led : (m : EndHeard) (y : End) → HearsEnd x ev m y → Led v y
   heard_led m y h =
@@ -620,6 +632,7 @@ module _ (digits : (port : ℕ) → length (calling_number port) ≡ 12) (n : �
   does_led moment (move.Replied m) y h = replied_led moment m y h
   does_led moment (move.FirstUp m) y h = first_led moment m y h
   does_led moment (move.SecondUp m) y h = second_led moment m y h
+  does_led moment (move.Refused m) y h = refused_led m y h
   does_led moment (move.EndTold m) y h = told_led moment m y h
   does_led moment (move.EndHeard m) y h = heard_led m y h
   does_led moment (move.EndSilent m) y h = silent_led moment m y h

@@ -61,6 +61,7 @@ module _ (line n : ℕ) (r : Role) (sender : Option Sender) (v : World) where
   deeds_told (move.Replied m ∷ ms) = deeds_told ms
   deeds_told (move.FirstUp m ∷ ms) = deeds_told ms
   deeds_told (move.SecondUp m ∷ ms) = deeds_told ms
+  deeds_told (move.Refused m ∷ ms) = deeds_told ms
   deeds_told (move.EndTold m ∷ ms) = deeds_told ms
   deeds_told (move.EndHeard m ∷ ms) = deeds_told ms
   deeds_told (move.EndSilent m ∷ ms) = deeds_told ms

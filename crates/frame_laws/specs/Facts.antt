@@ -8,7 +8,7 @@ use Rattle.l2tp_header.specs.declared.header.Header.{Header}
 use Rattle.l2tp_header.specs.Reading.{header_of}
 use Rattle.avp_codec.specs.Spelling.{spelling}
 use Rattle.control_message.specs.declared.message.Message.{Message}
-use Rattle.control_message.specs.declared.message.Message.TheVariants.{Sccrq, Sccrp, Scccn, Hello, Icrq, Icrp, Iccn, Cdn}
+use Rattle.control_message.specs.declared.message.Message.TheVariants.{Sccrq, Sccrp, Scccn, StopCcn, Hello, Ocrq, Ocrp, Occn, Icrq, Icrp, Iccn, Cdn, Wen, Sli}
 use Rattle.control_message.specs.Pairs.{pairs_of, IsWritten}
 use Rattle.protocol_model.specs.declared.tunnel.Call.{Call}
 use Rattle.protocol_model.specs.declared.tunnel.Role.{Role}
@@ -16,7 +16,7 @@ use Rattle.protocol_model.specs.declared.tunnel.Role.TheVariants.{Lac, Lns}
 use Rattle.protocol_model.specs.declared.packet.Packet.{Packet}
 use Rattle.protocol_model.specs.Names.{node_of}
 use Rattle.protocol_model.specs.Turn.{Tunnel}
-use Rattle.protocol_model.specs.Reading.{body_of, message_in}
+use Rattle.protocol_model.specs.Reading.{body_of, message_in, call_fault_in}
 use Rattle.protocol_model.specs.Calls.{frame_of, is_up}
 use Rattle.protocol_model.specs.End.{End}
 use Rattle.step_laws.specs.Letters.{Among}
@@ -68,16 +68,23 @@ pub record Mates (ns : Nodes) (n s m a : ℕ) : Type 0 where
 -- ---- packets
 
 -- the session that a message names is that of its call: a request names a session of its LAC, a reply a session that is the
--- mate of the one that its header names, and a notice that a call ends a session of its sender, which is the mate of the one
--- that its header names, if that names one
+-- mate of the one that its header names, and a notice that a call ends, or can't be had, names none, or a session of its sender,
+-- which is the mate of the one that its header names, if that names one
 abbrev pub NamesItsCall : Nodes → ℕ → ℕ → ℕ → Message → Type 0
 NamesItsCall ns from to session (Icrq own serial calling) = ((b : ℕ) × (0 < b) × Born ns from own b) × Plays ns from Lac
 NamesItsCall ns from to session (Icrp own) = Mates ns from own to session
-NamesItsCall ns from to session (Cdn own code error) = ((b : ℕ) × (0 < b) × Born ns from own b) × ((session ≡ 0) ⊎ Mates ns from own to session)
+NamesItsCall ns from to session (Cdn own code error) =
+    (own ≡ 0) ⊎ (((b : ℕ) × (0 < b) × Born ns from own b) × ((session ≡ 0) ⊎ Mates ns from own to session))
 NamesItsCall ns from to session (Sccrq o) = Unit {0}
 NamesItsCall ns from to session (Sccrp o) = Unit {0}
 NamesItsCall ns from to session Scccn = Unit {0}
+NamesItsCall ns from to session (StopCcn tunnel code error) = Unit {0}
 NamesItsCall ns from to session Hello = Unit {0}
+NamesItsCall ns from to session (Ocrq own) = Unit {0}
+NamesItsCall ns from to session Ocrp = Unit {0}
+NamesItsCall ns from to session Occn = Unit {0}
+NamesItsCall ns from to session Wen = Unit {0}
+NamesItsCall ns from to session Sli = Unit {0}
 NamesItsCall ns from to session (Iccn speed framing sequenced) = Unit {0}
 
 -- the frame was sent in the birth of the session that it is for, by its other end
@@ -96,6 +103,8 @@ pub record BytesOk (ns : Nodes) (gs : List Passage) (from to : ℕ) (bytes : Lis
   pub frames : (h : Header) → header_of bytes ≡ Ok h → h.control ≡ false → WasSentInCall ns gs from to h.session (frame_of (body_of h bytes))
   pub letters : (h : Header) → header_of bytes ≡ Ok h → h.control ≡ true → (m : Message) → message_in (body_of h bytes) ≡ Ok m
       → IsWritten m × NamesItsCall ns from to h.session m
+  -- no message about a call has a fault
+  pub sound : (h : Header) → header_of bytes ≡ Ok h → h.control ≡ true → call_fault_in (body_of h bytes) ≡ None
 
 pub record PacketOk (ns : Nodes) (gs : List Passage) (p : Packet) : Type 0 where
   pub from : p.from < 256

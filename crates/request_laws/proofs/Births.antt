@@ -260,6 +260,7 @@ module _ (v : World) (number n : ℕ) (r : Role) (sender : Option Sender) (momen
   does_born u known x y ok (move.Replied m) h = replied_born u known x y ok m h
   does_born u known x y ok (move.FirstUp m) h = still_born u known x y ok (move.FirstUp m) h (ap (λ (e : End). e.session_ids) h.after)
   does_born u known x y ok (move.SecondUp m) h = still_born u known x y ok (move.SecondUp m) h (ap (λ (e : End). e.session_ids) h.after)
+  does_born u known x y ok (move.Refused m) h = still_born u known x y ok (move.Refused m) h (ap (λ (e : End). e.session_ids) h.after)
   does_born u known x y ok (move.EndTold m) h = still_born u known x y ok (move.EndTold m) h (ap (λ (e : End). e.session_ids) h.after)
   does_born u known x y ok (move.EndHeard m) h = still_born u known x y ok (move.EndHeard m) h (ap (λ (e : End). e.session_ids) h.after)
   does_born u known x y ok (move.EndSilent m) h = still_born u known x y ok (move.EndSilent m) h (ap (λ (e : End). e.session_ids) h.after)

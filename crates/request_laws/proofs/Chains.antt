@@ -24,6 +24,7 @@ module _ (v : World) (number n : ℕ) (r : Role) (sender : Option Sender) (momen
   asks_now known x y ok (move.Replied m) h s q = absurd q
   asks_now known x y ok (move.FirstUp m) h s q = absurd q
   asks_now known x y ok (move.SecondUp m) h s q = absurd q
+  asks_now known x y ok (move.Refused m) h s q = absurd q
   asks_now known x y ok (move.EndTold m) h s q = absurd q
   asks_now known x y ok (move.EndHeard m) h s q = absurd q
   asks_now known x y ok (move.EndSilent m) h s q = absurd q

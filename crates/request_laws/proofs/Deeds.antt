@@ -34,6 +34,7 @@ IsRequest (move.Requested m) s = s ≡ m.session
 IsRequest (move.Replied m) s = ⊥
 IsRequest (move.FirstUp m) s = ⊥
 IsRequest (move.SecondUp m) s = ⊥
+IsRequest (move.Refused m) s = ⊥
 IsRequest (move.EndTold m) s = ⊥
 IsRequest (move.EndHeard m) s = ⊥
 IsRequest (move.EndSilent m) s = ⊥
@@ -81,6 +82,7 @@ module _ (v : World) (number n : ℕ) (r : Role) (sender : Option Sender) where
   entered_asks (move.Replied m) a k s h = plain (move.Replied m) a _ k s (λ serial calling e. absurd (cc)) h
   entered_asks (move.FirstUp m) a k s h = plain (move.FirstUp m) a _ k s (λ serial calling e. absurd (cc)) h
   entered_asks (move.SecondUp m) a k s h = inl h
+  entered_asks (move.Refused m) a k s h = plain (move.Refused m) a _ k s (λ serial calling e. absurd (cc)) h
   entered_asks (move.EndTold m) a k s h = plain (move.EndTold m) a _ k s (λ serial calling e. absurd (cc)) h
   entered_asks (move.EndHeard m) a k s h = inl h
   entered_asks (move.EndSilent m) a k s h = inl h
@@ -109,6 +111,7 @@ module _ (v : World) (number n : ℕ) (r : Role) (sender : Option Sender) where
   entered_taken (move.Replied m) a k u h = takes_more a _ k u h
   entered_taken (move.FirstUp m) a k u h = takes_more a _ k u h
   entered_taken (move.SecondUp m) a k u h = takes_more a _ k u h
+  entered_taken (move.Refused m) a k u h = takes_more a _ k u h
   entered_taken (move.EndTold m) a k u h = h
   entered_taken (move.EndHeard m) a k u h = takes_more a _ k u h
   entered_taken (move.EndSilent m) a k u h = h

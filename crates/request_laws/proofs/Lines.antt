@@ -6,7 +6,7 @@ use Rattle.id_table.specs.Ids.{at}
 use Rattle.wire_base.specs.declared.why.Why.{Why}
 use Rattle.wire_base.specs.declared.why.Why.TheVariants as why
 use Rattle.schedule_text.specs.declared.line.Line.{Line}
-use Rattle.schedule_text.specs.declared.line.Line.TheVariants.{Remark, Lac, Lns, OpenUp, Ring, FromSub, Down, Deliver, Tick}
+use Rattle.schedule_text.specs.declared.line.Line.TheVariants.{Remark, Lac, Lns, OpenUp, Ring, FromSub, Down, Hang, DropCall, Deliver, Tick}
 use Rattle.protocol_model.specs.declared.event.Event.{Event}
 use Rattle.protocol_model.specs.declared.event.Event.TheVariants as event
 use Rattle.protocol_model.specs.declared.packet.Packet.{Packet}
@@ -54,6 +54,10 @@ tested_not false x y z h = (refl, cc)
 is_lac_at : (o : Option Node) (node : Node) → lac_at o ≡ Ok node → o ≡ Some node
 is_lac_at None node h = absurd (cc)
 is_lac_at (Some x) node h = ap (λ y. Some y) (tested (is_lac x.end.role) x why.Node node h)
+
+is_declared : (o : Option Node) (node : Node) → declared o ≡ Ok node → o ≡ Some node
+is_declared None node h = absurd (cc)
+is_declared (Some x) node h = cc
 
 is_lns_at : (o : Option Node) (node : Node) → lns_at o ≡ Ok node → o ≡ Some node
 is_lns_at None node h = absurd (cc)
@@ -134,6 +138,12 @@ module _ (w : World) (number : ℕ) (x : Lined) where
   line_does (Down n session frame) h =
       stepped_does n (event.Lower session frame) None (with_call session (lns_at (at w.nodes n)))
       (λ node e. is_there w n node (is_lns_at (at w.nodes n) node (has_call session (lns_at (at w.nodes n)) node e))) (OfNobody refl) h
+  line_does (Hang n session) h =
+      stepped_does n (event.Hang session) None (with_call session (lac_at (at w.nodes n)))
+      (λ node e. is_there w n node (is_lac_at (at w.nodes n) node (has_call session (lac_at (at w.nodes n)) node e))) (OfNobody refl) h
+  line_does (DropCall n session) h =
+      stepped_does n (event.DropCall session) None (with_call session (declared (at w.nodes n)))
+      (λ node e. is_there w n node (is_declared (at w.nodes n) node (has_call session (declared (at w.nodes n)) node e))) (OfNobody refl) h
   line_does (Deliver k) h = delivers_does (k - 1) (slice_get w.packets (k - 1)) refl h
   line_does (Tick n milliseconds) h =
       stepped_does n event.Tick None (later milliseconds (declared (at w.nodes n)))

@@ -226,6 +226,7 @@ module _ (x y : End) (o : Ordered x) where
   does_calls moment ev (move.Replied m) h = replied_calls moment ev m h
   does_calls moment ev (move.FirstUp m) h = first_calls moment ev m h
   does_calls moment ev (move.SecondUp m) h = second_calls moment ev m h
+  does_calls moment ev (move.Refused m) h = stays m.tunnel h.tunnel _ h.there h.after refl
   does_calls moment ev (move.EndTold m) h = told_calls moment ev m h
   does_calls moment ev (move.EndHeard m) h = heard_calls moment ev m h
   does_calls moment ev (move.EndSilent m) h = silent_calls moment ev m h

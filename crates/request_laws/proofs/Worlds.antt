@@ -64,6 +64,7 @@ moved_follows n v node is (move.Replied m) =
     let b = birth_of v (node_of m.peer) m.remote in put_follows n v _ (with_one node m.session b) (made_nodes v n m.session b node is)
 moved_follows n v node is (move.FirstUp m) = same_follows n v node is
 moved_follows n v node is (move.SecondUp m) = same_follows n v node is
+moved_follows n v node is (move.Refused m) = same_follows n v node is
 moved_follows n v node is (move.EndTold m) = same_follows n v node is
 moved_follows n v node is (move.EndHeard m) = same_follows n v node is
 moved_follows n v node is (move.EndSilent m) = same_follows n v node is

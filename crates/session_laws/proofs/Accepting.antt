@@ -24,9 +24,10 @@ use Rattle.connection_laws.specs.Steps.{after}
 use Rattle.session_laws.specs.Names.{name, letter_of, phase_of}
 use Rattle.session_laws.specs.Joined.{Ends, TunnelJoined, tunnel_in}
 use Rattle.session_laws.proofs.Keeps.{with_end, Laws, IsMade, Follows}
+use Rattle.session_laws.proofs.Entering.{after_here, after_elsewhere, with_taken, taken_as, takes_and_gives}
 use Rattle.session_laws.proofs.Names.{name_some, known_name}
-use Rattle.session_laws.proofs.Ground.{TunnelStays, New, one_step, after_here, after_elsewhere, tunnel_before, tunnel_moves_follow}
-use Rattle.session_laws.proofs.Letters.{stays_on, given_elsewhere, taken_elsewhere, given_sent, given_taken, took_taken, took_sent, with_taken, taken_as, takes_and_gives}
+use Rattle.session_laws.proofs.Ground.{TunnelStays, New, one_step, tunnel_before, tunnel_moves_follow}
+use Rattle.session_laws.proofs.Letters.{stays_on, given_elsewhere, taken_elsewhere, given_sent, given_taken, took_taken, took_sent}
 use Rattle.session_laws.proofs.Connecting.{learns_state}
 use Rattle.session_laws.proofs.Drawing.{id_some, id_fits, no_account_yet, no_tunnel_yet}
 
@@ -191,10 +192,10 @@ module _ (laws : Laws) (accs : Accounts) (ends : Ends) (w : World) (n : ℕ) (e 
   state : phase_of u.control.state ≡ WaitConnect
   state = ap phase_of (learns_state m.window (begun m.tunnel m.peer m.remote WaitCtlConn moment))
 
-  pub accepted_follows : Follows (after accs d) (with_end ends n x)
+  pub accepted_follows : Follows w n e x (move.Accepted m) (after accs d) (with_end ends n x)
   accepted_follows =
       let o = h.moved.does in
-      tunnel_moves_follow accs ends w n e x sender moment ev (move.Accepted m) d h (and_taken w S X) u (record {
+      tunnel_moves_follow accs ends w n e x sender moment ev (move.Accepted m) d h tt (and_taken w S X) u (record {
         id = fits;
         put_is = ap (λ (y : End). y.tunnels) o.after;
         sessions = ap (λ (y : End). y.session_ids) o.after;

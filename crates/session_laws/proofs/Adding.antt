@@ -27,6 +27,7 @@ use Rattle.connection_laws.specs.Facts.{Accounts}
 use Rattle.connection_laws.specs.Steps.{after}
 use Rattle.session_laws.specs.Names.{name, phase_of, state_of}
 use Rattle.session_laws.specs.Joined.{Ends, TunnelJoined, CallJoined, FitsRole, CallsJoined}
+use Rattle.session_laws.proofs.Births.{IsBorn, BirthsFollow}
 use Rattle.session_laws.proofs.Keeps.{with_end, Laws, IsMade, Follows}
 use Rattle.session_laws.proofs.Names.{other_name, name_some}
 use Rattle.session_laws.proofs.Ground.{joined_before}
@@ -82,6 +83,16 @@ added_here w n i peer s c some waits unknown none = record {
   state = rw (eq-eqb (name n s) (name n s) refl, waits) refl;
   tunnel = rw (eq-eqb (name n s) (name n s) refl) refl;
   remote = rw unknown none;
+}
+
+added_births : (w : World) (x z : ℕ) → IsBorn w (with_call w x z) z
+unfolding is_born
+added_births w x z = record {
+  count = omega arith;
+  here = rw (eq-eqb z z refl) (omega arith);
+  birth = λ k other. rw (ne_eqb k z other) refl;
+  mate = λ k. refl;
+  remote = λ k. refl;
 }
 
 -- a tunnel that is open, or waits for its SCCRP
@@ -185,5 +196,14 @@ module _ (laws : Laws) (accs : Accounts) (ends : Ends) (w : World) (n : ℕ) (e 
     );
   }
 
-  pub added_follows : Follows (after accs d) (with_end ends n x)
-  added_follows = one_call_follows accs ends w n e x sender moment ev (move.Added m) d h v t u s one goes
+  births : BirthsFollow w v n e x (move.Added m)
+  births = record {
+    go = (fits, added_births w X Z);
+    role = role;
+    rises = (let is = session.0 in rw next (omega arith));
+    mates = λ z other. (added_births w X Z).mate z;
+    replies = λ r no. absurd cc;
+  }
+
+  pub added_follows : Follows w n e x (move.Added m) (after accs d) (with_end ends n x)
+  added_follows = one_call_follows accs ends w n e x sender moment ev (move.Added m) d h v t u s births one goes

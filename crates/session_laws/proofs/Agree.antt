@@ -13,7 +13,6 @@ use Rattle.call_fsm.specs.declared.table.CallState.TheVariants as call
 use Rattle.control_channel.specs.Numbers.{next_given}
 use Rattle.protocol_model.specs.declared.tunnel.Call.{Call}
 use Rattle.protocol_model.specs.Calls.{is_up}
-use Rattle.protocol_model.specs.Names.{address_of, node_of}
 use Rattle.protocol_model.specs.Turn.{Tunnel}
 use Rattle.protocol_model.specs.End.{End}
 use Rattle.protocol_model.specs.World.{World, Node}
@@ -62,11 +61,6 @@ state_up call.Established h = refl
 
 no_call_up : calls.NoCall ≡ calls.Up → ⊥
 no_call_up h = cc
-
--- a node's address is its own
-pub node_again : (from : ℕ) → from < 256 → node_of (address_of from) ≡ from
-unfolding node_of address_of
-node_again from lt = omega arith
 
 module _ (w : World) (accs : Accounts) (most : ℕ) (few : most + 8192 < 2 ^ 64) (holds : facts.Holds w accs)
     (given : (n i : ℕ) → length (accs n i).given ≤ most) (mw : machine.World) (joined : AreJoined accs (ends_of w.nodes) mw)

@@ -21,9 +21,11 @@ use Rattle.connection_laws.specs.Facts.{Accounts}
 use Rattle.connection_laws.specs.Steps.{after}
 use Rattle.session_laws.specs.Names.{name}
 use Rattle.session_laws.specs.Joined.{Ends, TunnelJoined, CallJoined, FitsRole, HasNoCall, CallsJoined}
+use Rattle.session_laws.proofs.Births.{BirthsFollow}
 use Rattle.session_laws.proofs.Keeps.{with_end, IsMade, Follows}
+use Rattle.session_laws.proofs.Entering.{after_elsewhere}
 use Rattle.session_laws.proofs.Names.{same_name}
-use Rattle.session_laws.proofs.Ground.{TunnelStays, MovesOn, after_elsewhere, ids_now, joined_before, moves_on_follow}
+use Rattle.session_laws.proofs.Ground.{TunnelStays, MovesOn, ids_now, joined_before, moves_on_follow}
 
 -- ---- calls that stay
 
@@ -264,8 +266,9 @@ module _ (accs : Accounts) (ends : Ends) (w : machine.World) (n : ℕ) (e x : En
 
   -- where the calls of the node are joined again
   moves_on : at e.tunnels i ≡ Some t → x.tunnels ≡ put e.tunnels i u → TunnelGoes accs ms w v n i u
-      → ((k q : ℕ) → (k ≡ n → ⊥) → k < 256 → q < 65536 → CallSame w v (name k q)) → CallsJoined v ms n x → MovesOn ms w v n i e x
-  moves_on there put_is g others calls = record {
+      → ((k q : ℕ) → (k ≡ n → ⊥) → k < 256 → q < 65536 → CallSame w v (name k q)) → CallsJoined v ms n x → BirthsFollow w v n e x m
+      → MovesOn ms w v n i e x m
+  moves_on there put_is g others calls births = record {
     id = (joined_before accs ends w n e x sender moment ev m d h).ids i t there;
     elsewhere = λ j other. rw put_is (at_other e.tunnels i u j other);
     tunnels = g.tunnels;
@@ -274,23 +277,24 @@ module _ (accs : Accounts) (ends : Ends) (w : machine.World) (n : ℕ) (e x : En
         (let c = others k q other kfits qfits in
         record { drawn = c.drawn; tunnel = c.tunnel; remote = c.remote; state = λ either. c.state });
     calls = calls;
+    births = births;
     up = g.up;
     more = g.more;
     run = g.run;
   }
 
-  pub one_call_follows : (s : ℕ) → OneCall w v n i (ms n i).peer e x t u s → TunnelGoes accs ms w v n i u → Follows ms (with_end ends n x)
-  one_call_follows s one g =
+  pub one_call_follows : (s : ℕ) → BirthsFollow w v n e x m → OneCall w v n i (ms n i).peer e x t u s → TunnelGoes accs ms w v n i u → Follows w n e x m ms (with_end ends n x)
+  one_call_follows s births one g =
       moves_on_follow accs ends w n e x sender moment ev m d h v
       (moves_on one.there one.put_is g
       (λ k q other kfits qfits. one.calls k q kfits qfits (λ both. other both.0))
       (one_call_joined accs ms w v n i e x t u s (joined_before accs ends w n e x sender moment ev m d h) h.moved.within.end.node
-      (ids_now accs ends w n e x sender moment ev m d h) (peers g.peer) one))
+      (ids_now accs ends w n e x sender moment ev m d h) (peers g.peer) one) births)
 
-  pub no_call_follows : NoCallMoves w v n i e x t u → TunnelGoes accs ms w v n i u → Follows ms (with_end ends n x)
-  no_call_follows none g =
+  pub no_call_follows : BirthsFollow w v n e x m → NoCallMoves w v n i e x t u → TunnelGoes accs ms w v n i u → Follows w n e x m ms (with_end ends n x)
+  no_call_follows births none g =
       moves_on_follow accs ends w n e x sender moment ev m d h v
       (moves_on none.there none.put_is g
       (λ k q other kfits qfits. none.calls k q kfits qfits)
       (no_call_joined accs ms w v n i e x t u (joined_before accs ends w n e x sender moment ev m d h) h.moved.within.end.node
-      (ids_now accs ends w n e x sender moment ev m d h) (peers g.peer) none))
+      (ids_now accs ends w n e x sender moment ev m d h) (peers g.peer) none) births)

@@ -62,19 +62,24 @@ is_call_one remote None h = absurd (true≢false (sym h))
 is_call_one remote (Some c) h = (c, refl, eqb-true c.remote remote h)
 
 -- one that is 0 names a call that knows the other one, where there is any
-pub named_by_remote : (calls : List (ℕ × Call)) (remote s : ℕ) (c : Call) → at calls s ≡ Some c → c.remote ≡ remote
+pub named_by_remote : (calls : List (ℕ × Call)) (remote s : ℕ) (c : Call) → at calls s ≡ Some c → c.remote ≡ remote → (remote ≡ 0 → ⊥)
     → NamesCall calls remote (session_named calls 0 remote)
 unfolding session_named call_of
-named_by_remote calls remote s c there knows =
+named_by_remote calls remote s c there knows some =
     let f = find_id (λ q. is_call_of remote (at calls q)) calls s c there (rw there (eq-eqb c.remote remote knows)) in
     let it = is_call_one remote (at calls f.0) (find_passes (λ q. is_call_of remote (at calls q)) (ids_of calls) f.0 f.1) in
-    record { call = it.0; there = rw f.1 it.1; knows = it.2 }
+    record { call = it.0; there = rw (ne_eqb remote 0 some, f.1) it.1; knows = it.2 }
 
 -- whatever a header of 0 names, where it is a call at all, knows the other one
 pub named_knows : (calls : List (ℕ × Call)) (remote : ℕ) (c : Call) → at calls (session_named calls 0 remote) ≡ Some c
     → (c.remote ≡ remote) ⊎ (session_named calls 0 remote ≡ 0)
 unfolding session_named call_of
-named_knows calls remote c there = by (find (λ q. is_call_of remote (at calls q)) (ids_of calls)) refl there
+named_knows calls remote c there = ⊎_elim
+    (λ (none : remote ≡ 0). inr (rw none refl))
+    (λ (some : remote ≡ 0 → ⊥).
+    let is = ne_eqb remote 0 some in
+    rw is (by (find (λ q. is_call_of remote (at calls q)) (ids_of calls)) refl (rw is at there)))
+    (same_or_not remote 0)
   where
     by : (o : Option ℕ) → find (λ q. is_call_of remote (at calls q)) (ids_of calls) ≡ o → at calls (unwrap_or o 0) ≡ Some c
         → (c.remote ≡ remote) ⊎ (unwrap_or o 0 ≡ 0)

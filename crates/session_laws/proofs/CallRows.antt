@@ -1,10 +1,10 @@
 -- What the rows of calls' tables say of the machine's calls.
-use Rattle.std.proofs.Common.{◌≡◌, ℕ, true, false, refl, sym}
+use Rattle.std.proofs.Common.{◌≡◌, ℕ, Bool, true, false, refl, sym, ap, ◌∙◌}
 use Rattle.std.proofs.lemmas.Bool.{true≢false}
 use Rattle.call_fsm.specs.declared.table.CallState.{CallState}
 use Rattle.call_fsm.specs.declared.table.CallState.TheVariants.{Idle, WaitTunnel, WaitReply, WaitConnect, Established}
 use Rattle.call_fsm.specs.declared.table.CallEvent.{CallEvent}
-use Rattle.call_fsm.specs.declared.table.CallEvent.TheVariants.{TunnelOpen, IcrqAcc, IcrpAcc, IccnAcc, CdnCame, Close}
+use Rattle.call_fsm.specs.declared.table.CallEvent.TheVariants.{Ring, TunnelOpen, IcrqAcc, IcrqNotAcc, IcrpAcc, IcrpNotAcc, IccnAcc, IccnNotAcc, CdnCame, Close, LineDrop}
 use Rattle.protocol_model.specs.declared.tunnel.Call.{Call}
 use Rattle.protocol_model.specs.declared.tunnel.Role.{Role}
 use Rattle.protocol_model.specs.declared.tunnel.Role.TheVariants.{Lac, Lns}
@@ -83,6 +83,16 @@ first_row Lns WaitReply h = never h
 first_row Lns WaitConnect h = never h
 first_row Lns Established h = never h
 
+-- a LAC's call is established by a reply
+pub first_role : (r : Role) (s : CallState) → is_connection (call_row r s IcrpAcc).1 ≡ true → r ≡ Lac
+unfolding call_row
+first_role Lac s h = refl
+first_role Lns Idle h = never h
+first_role Lns WaitTunnel h = never h
+first_role Lns WaitReply h = never h
+first_role Lns WaitConnect h = never h
+first_role Lns Established h = never h
+
 pub second_row : (r : Role) (s : CallState) → FitsRole r s → is_up (call_row r s IccnAcc).0 ≡ true
     → GoesOn r s (call_row r s IccnAcc).0 machine.WaitsConnect machine.Up
 unfolding call_row
@@ -111,10 +121,26 @@ request_row Lns WaitReply h = never h
 request_row Lns WaitConnect h = never h
 request_row Lns Established h = never h
 
+-- a LAC asks for calls
+pub request_role : (r : Role) (s : CallState) → is_request (call_row r s TunnelOpen).1 ≡ true → r ≡ Lac
+unfolding call_row
+request_role Lac s h = refl
+request_role Lns Idle h = never h
+request_role Lns WaitTunnel h = never h
+request_role Lns WaitReply h = never h
+request_role Lns WaitConnect h = never h
+request_role Lns Established h = never h
+
 pub reply_row : (r : Role) → is_reply (call_row r Idle IcrqAcc).1 ≡ true → GoesOn r Idle (call_row r Idle IcrqAcc).0 machine.NoCall machine.WaitsConnect
 unfolding call_row
 reply_row Lac h = never h
 reply_row Lns h = record { was = refl; is = refl; fits = tt }
+
+-- and an LNS replies
+pub reply_role : (r : Role) → is_reply (call_row r Idle IcrqAcc).1 ≡ true → r ≡ Lns
+unfolding call_row
+reply_role Lac h = never h
+reply_role Lns h = refl
 
 -- a call that ends with a CDN lives, and doesn't wait for its tunnel
 pub record IsTold (s : CallState) : Type 0 where
@@ -129,32 +155,114 @@ is_told_one WaitReply l h = record { lives = refl; asked = refl; other = λ e. a
 is_told_one WaitConnect l h = record { lives = refl; asked = refl; other = λ e. absurd (cc) }
 is_told_one Established l h = record { lives = refl; asked = refl; other = λ e. absurd (cc) }
 
-pub told_row : (r : Role) (s : CallState) → is_told (call_row r s Close).1 ≡ true → IsTold s
+-- whatever happens to it
+pub told_row : (r : Role) (s : CallState) (on : CallEvent) → FitsRole r s → is_told (call_row r s on).1 ≡ true → IsTold s
 unfolding call_row
-told_row Lac Idle h = never h
-told_row Lac WaitTunnel h = never h
-told_row Lac WaitReply h = is_told_one WaitReply refl refl
-told_row Lac WaitConnect h = never h
-told_row Lac Established h = is_told_one Established refl refl
-told_row Lns Idle h = never h
-told_row Lns WaitTunnel h = never h
-told_row Lns WaitReply h = never h
-told_row Lns WaitConnect h = is_told_one WaitConnect refl refl
-told_row Lns Established h = is_told_one Established refl refl
+told_row r WaitReply on fits h = is_told_one WaitReply refl refl
+told_row r WaitConnect on fits h = is_told_one WaitConnect refl refl
+told_row r Established on fits h = is_told_one Established refl refl
+told_row Lac Idle on fits h = absurd fits
+told_row Lns Idle on fits h = absurd fits
+told_row Lns WaitTunnel on fits h = absurd fits
+told_row Lac WaitTunnel on fits h = waits_on on h
+  where
+    waits_on : (on : CallEvent) → is_told (call_row Lac WaitTunnel on).1 ≡ true → IsTold WaitTunnel
+    waits_on Ring h = never h
+    waits_on TunnelOpen h = never h
+    waits_on IcrqAcc h = never h
+    waits_on IcrqNotAcc h = never h
+    waits_on IcrpAcc h = never h
+    waits_on IcrpNotAcc h = never h
+    waits_on IccnAcc h = never h
+    waits_on IccnNotAcc h = never h
+    waits_on CdnCame h = never h
+    waits_on Close h = never h
+    waits_on LineDrop h = never h
 
--- one that ends silently waits for its tunnel
-pub silent_row : (r : Role) (s : CallState) → is_clean_up (call_row r s Close).1 ≡ true → state_of s ≡ machine.Waits
+-- one that ends silently waits for its tunnel; or a LAC's call heard of a connection, one with a fault, or a CDN
+pub data IsSilent (r : Role) (s : CallState) (on : CallEvent) : Type 0 where
+  AsWaiting : state_of s ≡ machine.Waits → IsSilent r s on
+  OnConnection : r ≡ Lac → on ≡ IccnAcc → IsSilent r s on
+  OnFaultyConnection : on ≡ IccnNotAcc → IsSilent r s on
+  OnCdn : on ≡ CdnCame → IsSilent r s on
+
+pub silent_row : (r : Role) (s : CallState) (on : CallEvent) → FitsRole r s → is_clean_up (call_row r s on).1 ≡ true → IsSilent r s on
 unfolding call_row
-silent_row Lac Idle h = never h
-silent_row Lac WaitTunnel h = refl
-silent_row Lac WaitReply h = never h
-silent_row Lac WaitConnect h = never h
-silent_row Lac Established h = never h
-silent_row Lns Idle h = never h
-silent_row Lns WaitTunnel h = never h
-silent_row Lns WaitReply h = never h
-silent_row Lns WaitConnect h = never h
-silent_row Lns Established h = never h
+silent_row Lac Idle on fits h = absurd fits
+silent_row Lac WaitTunnel on fits h = AsWaiting refl
+silent_row Lac WaitReply on fits h = asked_on on h
+  where
+    asked_on : (on : CallEvent) → is_clean_up (call_row Lac WaitReply on).1 ≡ true → IsSilent Lac WaitReply on
+    asked_on Ring h = never h
+    asked_on TunnelOpen h = never h
+    asked_on IcrqAcc h = never h
+    asked_on IcrqNotAcc h = never h
+    asked_on IcrpAcc h = never h
+    asked_on IcrpNotAcc h = never h
+    asked_on IccnAcc h = OnConnection refl refl
+    asked_on IccnNotAcc h = OnFaultyConnection refl
+    asked_on CdnCame h = OnCdn refl
+    asked_on Close h = never h
+    asked_on LineDrop h = never h
+silent_row Lac WaitConnect on fits h = absurd fits
+silent_row Lac Established on fits h = up_on on h
+  where
+    up_on : (on : CallEvent) → is_clean_up (call_row Lac Established on).1 ≡ true → IsSilent Lac Established on
+    up_on Ring h = never h
+    up_on TunnelOpen h = never h
+    up_on IcrqAcc h = never h
+    up_on IcrqNotAcc h = never h
+    up_on IcrpAcc h = never h
+    up_on IcrpNotAcc h = never h
+    up_on IccnAcc h = never h
+    up_on IccnNotAcc h = never h
+    up_on CdnCame h = OnCdn refl
+    up_on Close h = never h
+    up_on LineDrop h = never h
+silent_row Lns Idle on fits h = absurd fits
+silent_row Lns WaitTunnel on fits h = absurd fits
+silent_row Lns WaitReply on fits h = absurd fits
+silent_row Lns WaitConnect on fits h = made_on on h
+  where
+    made_on : (on : CallEvent) → is_clean_up (call_row Lns WaitConnect on).1 ≡ true → IsSilent Lns WaitConnect on
+    made_on Ring h = never h
+    made_on TunnelOpen h = never h
+    made_on IcrqAcc h = never h
+    made_on IcrqNotAcc h = never h
+    made_on IcrpAcc h = never h
+    made_on IcrpNotAcc h = never h
+    made_on IccnAcc h = never h
+    made_on IccnNotAcc h = never h
+    made_on CdnCame h = OnCdn refl
+    made_on Close h = never h
+    made_on LineDrop h = never h
+silent_row Lns Established on fits h = up_on on h
+  where
+    up_on : (on : CallEvent) → is_clean_up (call_row Lns Established on).1 ≡ true → IsSilent Lns Established on
+    up_on Ring h = never h
+    up_on TunnelOpen h = never h
+    up_on IcrqAcc h = never h
+    up_on IcrqNotAcc h = never h
+    up_on IcrpAcc h = never h
+    up_on IcrpNotAcc h = never h
+    up_on IccnAcc h = never h
+    up_on IccnNotAcc h = never h
+    up_on CdnCame h = OnCdn refl
+    up_on Close h = never h
+    up_on LineDrop h = never h
+
+abbrev pub is_else : CallEvent → Bool
+is_else IccnAcc = false
+is_else IccnNotAcc = false
+is_else CdnCame = false
+is_else on = true
+
+-- on each other event it waits
+pub else_waits : (r : Role) (s : CallState) (on is : CallEvent) → IsSilent r s on → on ≡ is → is_else is ≡ true → state_of s ≡ machine.Waits
+else_waits r s on is (AsWaiting waits) same other = waits
+else_waits r s on is (OnConnection lac it) same other = never (sym (ap is_else (sym same ∙ it)) ∙ other)
+else_waits r s on is (OnFaultyConnection it) same other = never (sym (ap is_else (sym same ∙ it)) ∙ other)
+else_waits r s on is (OnCdn it) same other = never (sym (ap is_else (sym same ∙ it)) ∙ other)
 
 -- ---- calls that are made
 

@@ -23,8 +23,9 @@ use Rattle.connection_laws.specs.Steps.{IsDeed, after}
 use Rattle.session_laws.specs.Names.{name, letter_of, phase_of, other_name}
 use Rattle.session_laws.specs.Joined.{Ends, TunnelJoined}
 use Rattle.session_laws.proofs.Keeps.{IsMade}
-use Rattle.session_laws.proofs.Ground.{one_step, after_here}
-use Rattle.session_laws.proofs.Letters.{given_sent, given_taken, given_tunnels, given_calls, took_taken, took_sent, took_tunnels, taken_as, takes_only, takes_and_gives, gives_only, given_elsewhere, taken_elsewhere, AccountMoves, letters_joined}
+use Rattle.session_laws.proofs.Entering.{after_here, taken_as, takes_only, takes_and_gives, gives_only}
+use Rattle.session_laws.proofs.Ground.{one_step}
+use Rattle.session_laws.proofs.Letters.{given_sent, given_taken, given_tunnels, given_calls, took_taken, took_sent, took_tunnels, given_elsewhere, taken_elsewhere, AccountMoves, letters_joined}
 use Rattle.session_laws.proofs.Heard.{here_joined}
 use Rattle.session_laws.proofs.CallGround.{TunnelGoes}
 

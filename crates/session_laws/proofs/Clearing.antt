@@ -18,9 +18,11 @@ use Rattle.connection_laws.specs.Facts.{Accounts, LiveOk}
 use Rattle.connection_laws.specs.Steps.{after}
 use Rattle.session_laws.specs.Names.{name}
 use Rattle.session_laws.specs.Joined.{FitsRole, Ends, TunnelJoined, HasNoCall, CallsJoined}
+use Rattle.session_laws.proofs.Births.{BirthsSame, else_follow}
 use Rattle.session_laws.proofs.Keeps.{with_end, Laws, IsMade, Follows}
+use Rattle.session_laws.proofs.Entering.{after_here, after_elsewhere}
 use Rattle.session_laws.proofs.Names.{other_id}
-use Rattle.session_laws.proofs.Ground.{TunnelStays, CallStays, one_step, after_here, after_elsewhere, call_still, joined_before, ids_now, moves_on_follow}
+use Rattle.session_laws.proofs.Ground.{TunnelStays, CallStays, one_step, call_still, joined_before, ids_now, moves_on_follow}
 use Rattle.session_laws.proofs.Heard.{here_fits, here_joined, live_state, live_phase}
 
 -- ---- what the machine does
@@ -76,6 +78,10 @@ clears_call w x z = record {
       (λ (none : w.calls.state z ≡ NoCall). state_stays (eqb (w.calls.tunnel z) x) (w.calls.state z) none)
       either;
 }
+
+clears_births : (w : World) (x : ℕ) → BirthsSame w (leaves w x Gone)
+unfolding leaves «ends»
+clears_births w x = record { count = refl; birth = λ k. refl; mate = λ k. refl; remote = λ k. refl }
 
 -- a call of the tunnel ends
 clears_its : (w : World) (x z : ℕ) → w.calls.tunnel z ≡ x → (leaves w x Gone).calls.state z ≡ NoCall
@@ -163,7 +169,7 @@ module _ (laws : Laws) (accs : Accounts) (ends : Ends) (w : World) (n : ℕ) (e 
         subst (λ r. FitsRole r c.state) (sym (ap (λ (y : End). y.role) h.moved.does.after)) (before.roles j u (was j u there).1 s c call);
   }
 
-  pub cleared_follows : Follows (after accs d) (with_end ends n x)
+  pub cleared_follows : Follows w n e x (move.Cleared i) (after accs d) (with_end ends n x)
   cleared_follows =
       let state = live_state accs n i (accs n i) t live in
       moves_on_follow accs ends w n e x sender moment ev (move.Cleared i) d h v (record {
@@ -173,6 +179,7 @@ module _ (laws : Laws) (accs : Accounts) (ends : Ends) (w : World) (n : ℕ) (e 
         tunnel = rw (tunnels_are, at_without_same e.tunnels i h.moved.within.end.order, account_same i) (clears_here w n i (accs n i) (Some t) old);
         stay = λ m s other mfits few. clears_call w X (name m s);
         calls = calls_joined;
+        births = else_follow w v n e x (move.Cleared i) tt (clears_births w X) (ap (λ (y : End). y.role) h.moved.does.after) sessions_are;
         up = λ m. ap (λ (f : ℕ → Bool). f m) (clears_up w X);
         more = Clears X ∷ [];
         run = sym (one_step all_rules w (Clears X) ∙ clears_is w X (rw old.phase (live_phase t.control.state state.0)));

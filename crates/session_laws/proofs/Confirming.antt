@@ -20,8 +20,9 @@ use Rattle.connection_laws.specs.Steps.{after}
 use Rattle.session_laws.specs.Names.{name, phase_of}
 use Rattle.session_laws.specs.Joined.{Ends, TunnelJoined}
 use Rattle.session_laws.proofs.Keeps.{with_end, Laws, IsMade, Follows}
-use Rattle.session_laws.proofs.Ground.{TunnelStays, Old, one_step, after_here, tunnel_moves_follow}
-use Rattle.session_laws.proofs.Letters.{took_taken, took_sent, with_taken, taken_as, takes_only, LettersMove, letters_joined}
+use Rattle.session_laws.proofs.Entering.{after_here, with_taken, taken_as, takes_only}
+use Rattle.session_laws.proofs.Ground.{TunnelStays, Old, one_step, tunnel_moves_follow}
+use Rattle.session_laws.proofs.Letters.{took_taken, took_sent, LettersMove, letters_joined}
 use Rattle.session_laws.proofs.Heard.{Delivered, delivered, here_fits, here_joined}
 
 -- ---- what the machine does
@@ -123,8 +124,8 @@ module _ (laws : Laws) (accs : Accounts) (ends : Ends) (w : World) (n : ℕ) (e 
       (ap (λ (f : ℕ → ℕ). f X) (confirms_learned w X) ∙ old.learned)
       (confirms_phase w X)
 
-  pub confirmed_follows : Follows (after accs d) (with_end ends n x)
-  confirmed_follows = tunnel_moves_follow accs ends w n e x sender moment ev (move.Confirmed m) d h v u (record {
+  pub confirmed_follows : Follows w n e x (move.Confirmed m) (after accs d) (with_end ends n x)
+  confirmed_follows = tunnel_moves_follow accs ends w n e x sender moment ev (move.Confirmed m) d h tt v u (record {
     id = here_fits accs ends w n e x sender moment ev (move.Confirmed m) d h i t h.moved.does.there;
     put_is = ap (λ (y : End). y.tunnels) h.moved.does.after;
     sessions = ap (λ (y : End). y.session_ids) h.moved.does.after;

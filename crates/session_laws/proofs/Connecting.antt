@@ -25,9 +25,10 @@ use Rattle.connection_laws.specs.Steps.{after}
 use Rattle.session_laws.specs.Names.{name, phase_of, other_name, name_of}
 use Rattle.session_laws.specs.Joined.{Ends, TunnelJoined}
 use Rattle.session_laws.proofs.Keeps.{with_end, Laws, IsMade, Follows}
+use Rattle.session_laws.proofs.Entering.{after_here, with_taken, taken_as, takes_and_gives}
 use Rattle.session_laws.proofs.Names.{known_name}
-use Rattle.session_laws.proofs.Ground.{TunnelStays, Old, one_step, after_here, tunnel_moves_follow}
-use Rattle.session_laws.proofs.Letters.{stays_on, given_elsewhere, taken_elsewhere, given_sent, given_taken, took_taken, took_sent, with_taken, taken_as, takes_and_gives, LettersMove, letters_joined}
+use Rattle.session_laws.proofs.Ground.{TunnelStays, Old, one_step, tunnel_moves_follow}
+use Rattle.session_laws.proofs.Letters.{stays_on, given_elsewhere, taken_elsewhere, given_sent, given_taken, took_taken, took_sent, LettersMove, letters_joined}
 use Rattle.session_laws.proofs.Heard.{Delivered, delivered, here_fits, here_joined, partner_now}
 
 -- ---- what the machine does with tunnels
@@ -164,8 +165,8 @@ module _ (laws : Laws) (accs : Accounts) (ends : Ends) (w : World) (n : ℕ) (e 
       learned
       (connects_phase w X S ∙ ap phase_of (sym state))
 
-  pub connected_follows : Follows (after accs d) (with_end ends n x)
-  connected_follows = tunnel_moves_follow accs ends w n e x sender moment ev (move.Connected m) d h v u (record {
+  pub connected_follows : Follows w n e x (move.Connected m) (after accs d) (with_end ends n x)
+  connected_follows = tunnel_moves_follow accs ends w n e x sender moment ev (move.Connected m) d h tt v u (record {
     id = here_fits accs ends w n e x sender moment ev (move.Connected m) d h i t h.moved.does.there;
     put_is = ap (λ (y : End). y.tunnels) h.moved.does.after;
     sessions = ap (λ (y : End). y.session_ids) h.moved.does.after;

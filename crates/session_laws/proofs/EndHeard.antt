@@ -1,6 +1,5 @@
 -- A call ends as its peer's CDN comes, and in the machine that call alone.
 use Rattle.std.proofs.Common.{◌≡◌, ◌≢◌, inr, ⊎_elim, ℕ, ◌<◌, Bool, true, false, cond, [], length, refl, sym, ap, ap₂, ◌∙◌, subst, Option, Some, arith}
-use Rattle.std.proofs.lemmas.Bool.{true≢false}
 use Rattle.id_table.specs.Ids.{at, without}
 use Rattle.id_table.specs.Order.{same_or_not, at_without_other, at_without_same}
 use Rattle.control_message.specs.declared.message.Message.TheVariants as message
@@ -20,6 +19,7 @@ use Rattle.connection_laws.specs.Facts.{Accounts}
 use Rattle.connection_laws.specs.Steps.{after}
 use Rattle.session_laws.specs.Names.{name, name_of}
 use Rattle.session_laws.specs.Joined.{Ends, CallJoined, CallsJoined, TunnelJoined}
+use Rattle.session_laws.proofs.Births.{BirthsSame, else_follow}
 use Rattle.session_laws.proofs.Keeps.{with_end, Laws, IsMade, Follows}
 use Rattle.session_laws.proofs.Names.{same_name, name_not_zero, known_name}
 use Rattle.session_laws.proofs.Ground.{joined_before}
@@ -27,7 +27,7 @@ use Rattle.session_laws.proofs.Heard.{Delivered, delivered, here_fits, here_join
 use Rattle.session_laws.proofs.CallGround.{CallSame, OneCall, one_call_follows}
 use Rattle.session_laws.proofs.CallLaws.{WorldHolds, world_holds, cdn_own, remote_once, Named, ByHeader, ByRemote, named_tells, tells_named}
 use Rattle.session_laws.proofs.CallNamed.{no_header, some_header, named_by_header, named_knows}
-use Rattle.session_laws.proofs.CallFacts.{here_or_gone, gone_elsewhere, zero_undrawn}
+use Rattle.session_laws.proofs.CallFacts.{here_or_gone, gone_elsewhere}
 use Rattle.session_laws.proofs.CallSpeaks.{calls_and_take, hears_one, speaks_goes, account_is}
 
 -- ---- in the machine
@@ -59,6 +59,10 @@ end_same w x own header k gone = record {
     by : (b : Bool) (s : CallState) → (b ≡ true → s ≡ NoCall) → cond b NoCall s ≡ s
     by true s h = sym (h refl)
     by false s h = refl
+
+end_births : (w : World) (x own header : ℕ) → BirthsSame w (ended w x own header)
+unfolding ends
+end_births w x own header = record { count = refl; birth = λ k. refl; mate = λ k. refl; remote = λ k. refl }
 
 -- one that is named ends
 end_here : (w : World) (x own header k : ℕ) → is_named w.calls x own header k ≡ true → (ended w x own header).calls.state k ≡ NoCall
@@ -124,7 +128,7 @@ module _ (laws : Laws) (accs : Accounts) (ends : Ends) (w : World) (n : ℕ) (e 
 
   -- the call that ended at the other end
   abbrev own : ℕ
-  own = name del.from.node remote
+  own = name_of del.from.node remote
 
   abbrev header : ℕ
   header = name_of n session
@@ -146,14 +150,6 @@ module _ (laws : Laws) (accs : Accounts) (ends : Ends) (w : World) (n : ℕ) (e 
   own_drawn : session ≡ 0 → (own ≢ 0) × (w.calls.drawn own ≡ true)
   own_drawn none = cdn_own w holds S 0 (length (accs n i).taken) own (del.stands ∙ ap (λ q. Some (Cdn own q)) (stands_none none))
 
-  remote_some : session ≡ 0 → 0 < remote
-  remote_some none = ⊎_elim
-      (λ (zero : remote ≡ 0).
-      let undrawn = zero_undrawn w accs del.from.node (ends del.from.node) (h.joined.nodes del.from.node del.fits) in
-      absurd (true≢false (sym (own_drawn none).1 ∙ ap (λ q. w.calls.drawn (name del.from.node q)) zero ∙ undrawn)))
-      (λ (other : remote ≡ 0 → ⊥). omega (arith, other))
-      (same_or_not remote 0)
-
   knows : session ≡ 0 → call.remote ≡ remote
   knows none = ⊎_elim
       (λ (is : call.remote ≡ remote). is)
@@ -164,7 +160,7 @@ module _ (laws : Laws) (accs : Accounts) (ends : Ends) (w : World) (n : ℕ) (e 
       (named_knows t.calls remote call (ap (λ q. at t.calls q) (sym (named_is ∙ ap (λ q. session_named t.calls q remote) none)) ∙ h.moved.does.live))
 
   knows_own : session ≡ 0 → w.calls.remote Z ≡ own
-  knows_own none = before.remote ∙ ap₂ name_of del.node (knows none) ∙ known_name del.from.node remote (remote_some none)
+  knows_own none = before.remote ∙ ap₂ name_of del.node (knows none)
 
   -- ---- the call is named
 
@@ -208,7 +204,7 @@ module _ (laws : Laws) (accs : Accounts) (ends : Ends) (w : World) (n : ℕ) (e 
   next : x.session_ids ≡ e.session_ids
   next = ap (λ (y : End). y.session_ids) h.moved.does.after
 
-  pub end_heard_follows : Follows (after accs d) (with_end ends n x)
+  pub end_heard_follows : Follows w n e x (move.EndHeard m) (after accs d) (with_end ends n x)
   end_heard_follows =
       let is = account_is accs ends w n e x sender moment ev (move.EndHeard m) d h v t u h.moved.does.there in
       let order = (h.moved.within.end.live i t h.moved.does.there).order in
@@ -228,6 +224,7 @@ module _ (laws : Laws) (accs : Accounts) (ends : Ends) (w : World) (n : ℕ) (e 
       } in
       let speaks = hears_one d n e.role sender (move.EndHeard m) m.taken (accs n i) (after accs d n i) h.moved.deed is in
       one_call_follows accs ends w n e x sender moment ev (move.EndHeard m) d h v t u s
+      (else_follow w v n e x (move.EndHeard m) tt (end_births w X own header) (ap (λ (y : End). y.role) h.moved.does.after) next)
       (subst (λ p. OneCall w v n i p e x t u s) (sym speaks.moves.peer) one)
       (speaks_goes accs ends w n e x sender moment ev (move.EndHeard m) d h v t u h.moved.does.there [] 1
       (calls_and_take w X (without_named w X own header) old.entered (end_asks w X own header))

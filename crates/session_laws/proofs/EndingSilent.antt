@@ -1,15 +1,19 @@
--- A call that waits for its tunnel ends, and nobody is told, in the machine too.
-use Rattle.std.proofs.Common.{◌≡◌, inr, ℕ, ◌<◌, Bool, true, false, [], refl, ap, ◌∙◌, Option, arith, eq-eqb, ne_eqb}
+-- A call ends and nobody is told, in the machine too: in a run it waits for its tunnel.
+use Rattle.std.proofs.Common.{◌≡◌, inr, ⊎_elim, ℕ, ◌<◌, Bool, true, false, [], refl, ap, ap₂, ◌∙◌, subst, Option, arith, eq-eqb, ne_eqb}
 use Rattle.std.specs.Prelude.{◌||◌, not}
 use Rattle.id_table.specs.Ids.{without}
 use Rattle.id_table.specs.Order.{at_without_other, at_without_same}
+use Rattle.control_message.specs.declared.message.Message.TheVariants as message
+use Rattle.call_fsm.specs.declared.table.CallEvent.TheVariants as call_event
 use Rattle.protocol_model.specs.declared.event.Event.{Event}
 use Rattle.protocol_model.specs.declared.moves.EndSilent.{EndSilent}
 use Rattle.protocol_model.specs.declared.moves.Move.TheVariants as move
 use Rattle.protocol_model.specs.declared.tunnel.Call.{Call}
+use Rattle.protocol_model.specs.declared.tunnel.Role.TheVariants.{Lac}
 use Rattle.protocol_model.specs.Turn.{Tunnel}
 use Rattle.protocol_model.specs.End.{End}
 use Rattle.protocol_model.specs.World.{Sender, Deed}
+use Rattle.step_laws.specs.Moves.{InTunnel, WhyEnds, IsLate, IsDropped, IsHungUp, IsAsked, IsReplied, IsConnected, HasFault}
 use Rattle.epoch_machine.specs.Tunnels.{is_active}
 use Rattle.epoch_machine.specs.Calls as calls
 use Rattle.epoch_machine.specs.Calls.{NoCall, Waits, is_call}
@@ -17,12 +21,15 @@ use Rattle.epoch_machine.specs.Worlds.{World, all_rules}
 use Rattle.epoch_machine.specs.Moves.{EndsSilent, step, may_end_silent, ends_call}
 use Rattle.connection_laws.specs.Facts.{Accounts, LiveOk}
 use Rattle.connection_laws.specs.Steps.{after}
-use Rattle.session_laws.specs.Names.{name}
+use Rattle.session_laws.specs.Names.{name, state_of}
 use Rattle.session_laws.specs.Joined.{Ends, CallJoined, CallsJoined}
+use Rattle.session_laws.proofs.Births.{BirthsSame, else_follow}
 use Rattle.session_laws.proofs.Keeps.{with_end, Laws, IsMade, Follows}
 use Rattle.session_laws.proofs.Names.{other_name}
 use Rattle.session_laws.proofs.Ground.{joined_before}
-use Rattle.session_laws.proofs.CallRows.{silent_row}
+use Rattle.session_laws.proofs.Roles.{lac_not_lns, Giver, giver_of, fits_before}
+use Rattle.session_laws.proofs.Heard.{GaveReply, reply_given, replies_role}
+use Rattle.session_laws.proofs.CallRows.{IsSilent, AsWaiting, OnConnection, OnFaultyConnection, OnCdn, silent_row, else_waits}
 use Rattle.session_laws.proofs.CallGround.{CallSame, OneCall, TunnelGoes, one_call_follows}
 use Rattle.session_laws.proofs.CallSpeaks.{AccountSpeaks, calls_only, says_nothing, speaks_goes, account_is}
 
@@ -47,6 +54,10 @@ ended_other w z q other = record {
 pub ended_here : (w : World) (z : ℕ) → (ended w z).calls.state z ≡ NoCall
 unfolding calls.ends
 ended_here w z = rw (eq-eqb z z refl) refl
+
+pub ended_births : (w : World) (z : ℕ) → BirthsSame w (ended w z)
+unfolding calls.ends
+ended_births w z = record { count = refl; birth = λ k. refl; mate = λ k. refl; remote = λ k. refl }
 
 either : (b : Bool) → (b || true) ≡ true
 either true = refl
@@ -93,8 +104,37 @@ module _ (laws : Laws) (accs : Accounts) (ends : Ends) (w : World) (n : ℕ) (e 
   call : CallJoined w n i (accs n i).peer s c
   call = old.live i t h.moved.does.there s c h.moved.does.live
 
+  -- no call of a LAC's hears of a connection: only who took its reply connects a call, and a LAC gives none
+  no_connection : e.role ≡ Lac → (speed framing : ℕ) (sequenced : Bool) → InTunnel ev t.control s (message.Iccn speed framing sequenced) → ⊥
+  no_connection lac speed framing sequenced hears =
+      let k = laws.letters accs n e sender ev h.moved.within i t h.moved.does.there s (message.Iccn speed framing sequenced) tt hears in
+      let b = accs k.from.node k.from.tunnel in
+      let giver : Giver b (message.Iccn speed framing sequenced) =
+      subst (Giver b) k.message_is (giver_of (ends k.from.node) b k.number k.letter (h.joined.fit k.from.node k.from.tunnel) k.there) in
+      let gave = reply_given accs b (h.moved.within.accounts k.from.node k.from.tunnel).taken giver.says.1 in
+      let fits = fits_before accs ends w n e x sender moment ev (move.EndSilent m) d h i in
+      lac_not_lns e.role lac (replies_role e.role (accs n i) fits (subst GaveReply (ap₂ accs k.goes k.learned) gave))
+
+  -- so the call waits for its tunnel
+  waits_by : IsSilent e.role c.state h.moved.does.on → WhyEnds e t ev moment s c h.moved.does.on h.moved.does.result h.moved.does.error
+      → state_of c.state ≡ Waits
+  waits_by silent (HasFault header f faulty is result error) = absurd (laws.sound accs n e sender ev h.moved.within t.control header f faulty)
+  waits_by silent (IsLate late is result error) = else_waits e.role c.state h.moved.does.on call_event.Close silent is refl
+  waits_by silent (IsDropped dropped is result error) = else_waits e.role c.state h.moved.does.on call_event.Close silent is refl
+  waits_by silent (IsHungUp hung is result error) = else_waits e.role c.state h.moved.does.on call_event.LineDrop silent is refl
+  waits_by silent (IsAsked remote serial calling hears codes) = ⊎_elim
+      (λ q. else_waits e.role c.state h.moved.does.on call_event.IcrqAcc silent q.0 refl)
+      (λ q. else_waits e.role c.state h.moved.does.on call_event.IcrqNotAcc silent q.0 refl)
+      codes
+  waits_by silent (IsReplied remote hears is result error) = else_waits e.role c.state h.moved.does.on call_event.IcrpAcc silent is refl
+  waits_by (AsWaiting waits) (IsConnected speed framing sequenced hears is result error) = waits
+  waits_by (OnConnection lac on) (IsConnected speed framing sequenced hears is result error) = absurd (no_connection lac speed framing sequenced hears)
+  waits_by (OnFaultyConnection on) (IsConnected speed framing sequenced hears is result error) = absurd cc
+  waits_by (OnCdn on) (IsConnected speed framing sequenced hears is result error) = absurd cc
+
   does : step all_rules w (EndsSilent Z) ≡ v
-  does = silent_is w Z (call.state ∙ silent_row e.role c.state h.moved.does.row)
+  does = silent_is w Z (call.state
+      ∙ waits_by (silent_row e.role c.state h.moved.does.on (old.roles i t h.moved.does.there s c h.moved.does.live) h.moved.does.row) h.moved.does.why)
 
   says : AccountSpeaks (accs n i) (after accs d n i) [] 0
   says = says_nothing (accs n i) (after accs d n i)
@@ -129,5 +169,6 @@ module _ (laws : Laws) (accs : Accounts) (ends : Ends) (w : World) (n : ℕ) (e 
     here = rw (at_without_same t.calls s live.order) (ended_here w Z);
   }
 
-  pub end_silent_follows : Follows (after accs d) (with_end ends n x)
-  end_silent_follows = one_call_follows accs ends w n e x sender moment ev (move.EndSilent m) d h v t u s one goes
+  pub end_silent_follows : Follows w n e x (move.EndSilent m) (after accs d) (with_end ends n x)
+  end_silent_follows = one_call_follows accs ends w n e x sender moment ev (move.EndSilent m) d h v t u s
+      (else_follow w v n e x (move.EndSilent m) tt (ended_births w Z) (ap (λ (y : End). y.role) h.moved.does.after) sessions) one goes

@@ -1,5 +1,5 @@
 -- A call ends and its peer is told, in the machine too.
-use Rattle.std.proofs.Common.{◌≡◌, inr, ⊎_elim, ℕ, true, false, List, [], ◌∷◌, refl, sym, ap, ◌∙◌, Option, Some, None, arith}
+use Rattle.std.proofs.Common.{◌≡◌, inr, ⊎_elim, ℕ, true, false, List, [], ◌∷◌, refl, sym, ap, ◌∙◌, Option, Some, arith}
 use Rattle.std.proofs.lemmas.Option.{none-some}
 use Rattle.id_table.specs.Ids.{at, without, at-none}
 use Rattle.id_table.specs.Order.{at_without_other, at_without_same}
@@ -25,14 +25,15 @@ use Rattle.connection_laws.specs.Facts.{Accounts, IsInState, LiveOk}
 use Rattle.connection_laws.specs.Steps.{after}
 use Rattle.session_laws.specs.Names.{name, name_of}
 use Rattle.session_laws.specs.Joined.{Ends, TunnelJoined, CallJoined, CallsJoined}
+use Rattle.session_laws.proofs.Births.{BirthsSame, else_follow}
 use Rattle.session_laws.proofs.Keeps.{with_end, Laws, IsMade, Follows}
-use Rattle.session_laws.proofs.Names.{other_name}
+use Rattle.session_laws.proofs.Names.{other_name, known_name}
 use Rattle.session_laws.proofs.Ground.{joined_before}
 use Rattle.session_laws.proofs.Heard.{here_joined, open_phase}
 use Rattle.session_laws.proofs.CallRows.{IsTold, told_row}
 use Rattle.session_laws.proofs.CallGround.{CallSame, OneCall, TunnelGoes, one_call_follows}
 use Rattle.session_laws.proofs.CallSpeaks.{Speaks, AccountSpeaks, calls_and_give, says_one, speaks_goes, account_is}
-use Rattle.session_laws.proofs.EndingSilent.{ended, ended_asks, ended_other, ended_here}
+use Rattle.session_laws.proofs.EndingSilent.{ended, ended_asks, ended_other, ended_here, ended_births}
 
 -- ---- what the machine does
 
@@ -49,6 +50,10 @@ given_same w k x l q same = record {
 given_state : (k : World) (x : ℕ) (l : letter.Letter) (q : ℕ) → (gives k x l).calls.state q ≡ k.calls.state q
 unfolding gives
 given_state k x l q = refl
+
+given_births : (w k : World) (x : ℕ) (l : letter.Letter) → BirthsSame w k → BirthsSame w (gives k x l)
+unfolding gives
+given_births w k x l same = record { count = same.count; birth = same.birth; mate = same.mate; remote = same.remote }
 
 -- the call of tunnel x that knows the other end's as r
 abbrev ended_told : World → ℕ → ℕ → ℕ → World
@@ -88,7 +93,7 @@ module _ (laws : Laws) (accs : Accounts) (ends : Ends) (w : World) (n : ℕ) (e 
   c = h.moved.does.call
 
   abbrev with_cdn : Tunnel
-  with_cdn = with_letter m.remote (message.Cdn m.session m.code None) t
+  with_cdn = with_letter m.remote (message.Cdn m.session m.result m.error) t
 
   abbrev u : Tunnel
   u = record with_cdn { calls = without t.calls s }
@@ -118,15 +123,19 @@ module _ (laws : Laws) (accs : Accounts) (ends : Ends) (w : World) (n : ℕ) (e 
   call = old.live i t h.moved.does.there s c h.moved.does.live
 
   told : IsTold c.state
-  told = told_row e.role c.state h.moved.does.row
+  told = told_row e.role c.state h.moved.does.on (old.roles i t h.moved.does.there s c h.moved.does.live) h.moved.does.row
 
   -- as long as a tunnel isn't open, its calls wait
   open_is : state_number t.control.state ≡ 3
   open_is = open_or_first accs i (accs n i) t s c h.moved.does.live
       (λ first. told.other (old.waiting i t h.moved.does.there first s c h.moved.does.live)) (accs n i).part live.state
 
-  speaks : Speaks w v X (letter.Cdn Z R ∷ []) 0
-  speaks = calls_and_give w X (calls.ends w.calls (is_call Z)) (letter.Cdn Z R) here.entered (ended_asks w Z)
+  -- the letter names the call
+  named : name_of n s ≡ Z
+  named = known_name n s call.some
+
+  speaks : Speaks w v X (letter.Cdn (name_of n s) R ∷ []) 0
+  speaks = rw named (calls_and_give w X (calls.ends w.calls (is_call Z)) (letter.Cdn Z R) here.entered (ended_asks w Z))
 
   does : step all_rules w (EndsTold Z) ≡ v
   does = told_is w X Z R call.tunnel (call.remote ∙ sym (ap (λ r. name_of (accs n i).peer r) h.moved.does.remote))
@@ -161,5 +170,7 @@ module _ (laws : Laws) (accs : Accounts) (ends : Ends) (w : World) (n : ℕ) (e 
     here = rw (at_without_same t.calls s live.order) (given_state (ended w Z) X (letter.Cdn Z R) Z ∙ ended_here w Z);
   }
 
-  pub end_told_follows : Follows (after accs d) (with_end ends n x)
-  end_told_follows = one_call_follows accs ends w n e x sender moment ev (move.EndTold m) d h v t u s one goes
+  pub end_told_follows : Follows w n e x (move.EndTold m) (after accs d) (with_end ends n x)
+  end_told_follows = one_call_follows accs ends w n e x sender moment ev (move.EndTold m) d h v t u s
+      (else_follow w v n e x (move.EndTold m) tt (given_births w (ended w Z) X (letter.Cdn Z R) (ended_births w Z))
+      (ap (λ (y : End). y.role) h.moved.does.after) sessions) one goes

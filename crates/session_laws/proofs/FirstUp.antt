@@ -23,11 +23,12 @@ use Rattle.connection_laws.specs.Facts.{Accounts}
 use Rattle.connection_laws.specs.Steps.{after}
 use Rattle.session_laws.specs.Names.{name, name_of, state_of}
 use Rattle.session_laws.specs.Joined.{Ends, CallJoined, CallsJoined, TunnelJoined}
+use Rattle.session_laws.proofs.Births.{IsAnswered, BirthsFollow}
 use Rattle.session_laws.proofs.Keeps.{with_end, Laws, IsMade, Follows}
 use Rattle.session_laws.proofs.Names.{other_name, known_name}
 use Rattle.session_laws.proofs.Ground.{joined_before}
 use Rattle.session_laws.proofs.Heard.{Delivered, delivered, here_joined, open_phase}
-use Rattle.session_laws.proofs.CallRows.{GoesOn, advanced_state, advanced_remote, fits_as, first_row}
+use Rattle.session_laws.proofs.CallRows.{GoesOn, advanced_state, advanced_remote, fits_as, first_row, first_role}
 use Rattle.session_laws.proofs.CallGround.{CallSame, OneCall, one_call_follows}
 use Rattle.session_laws.proofs.CallSpeaks.{calls_take_and_give, hears_and_says, speaks_goes, account_is}
 
@@ -52,6 +53,15 @@ first_same w x z own k other = record {
   tunnel = refl;
   remote = rw (ne_eqb k z other) refl;
   state = rw (ne_eqb k z other) refl;
+}
+
+first_births : (w : World) (x z own : ℕ) → IsAnswered w (first_up w x z own) z
+unfolding gives is_first_up
+first_births w x z own = record {
+  count = refl;
+  birth = λ k. refl;
+  mate = λ k. refl;
+  remote = λ k other. rw (ne_eqb k z other) refl;
 }
 
 record IsUp (w v : World) (z own : ℕ) : Type 0 where
@@ -136,7 +146,16 @@ module _ (laws : Laws) (accs : Accounts) (ends : Ends) (w : World) (n : ℕ) (e 
             ∙ sym (ap₂ name_of del.node (advanced_remote e.role call_event.IcrpAcc moment (record was { remote = m.remote })));
       }
 
-  pub first_up_follows : Follows (after accs d) (with_end ends n x)
+  births : BirthsFollow w v n e x (move.FirstUp m)
+  births = record {
+    go = (first_role e.role was.state h.moved.does.row, del.header, first_births w X Z own);
+    role = role_is;
+    rises = rw next (omega arith);
+    mates = λ z other. (first_births w X Z own).mate z;
+    replies = λ r no. absurd cc;
+  }
+
+  pub first_up_follows : Follows w n e x (move.FirstUp m) (after accs d) (with_end ends n x)
   first_up_follows =
       let is = account_is accs ends w n e x sender moment ev (move.FirstUp m) d h v t u h.moved.does.there in
       let one : OneCall w v n i (accs n i).peer e x t u s = record {
@@ -159,7 +178,7 @@ module _ (laws : Laws) (accs : Accounts) (ends : Ends) (w : World) (n : ℕ) (e 
         );
       } in
       let speaks = hears_and_says d n e.role sender (move.FirstUp m) m.taken (accs n i) (after accs d n i) h.moved.deed is in
-      one_call_follows accs ends w n e x sender moment ev (move.FirstUp m) d h v t u s
+      one_call_follows accs ends w n e x sender moment ev (move.FirstUp m) d h v t u s births
       (subst (λ p. OneCall w v n i p e x t u s) (sym speaks.moves.peer) one)
       (speaks_goes accs ends w n e x sender moment ev (move.FirstUp m) d h v t u h.moved.does.there
       (letters_of e.role (config_of n 0) (move.FirstUp m)) 1

@@ -19,8 +19,9 @@ use Rattle.connection_laws.specs.Steps.{after}
 use Rattle.session_laws.specs.Names.{name}
 use Rattle.session_laws.specs.Joined.{Ends, TunnelJoined}
 use Rattle.session_laws.proofs.Keeps.{with_end, Laws, IsMade, Follows}
-use Rattle.session_laws.proofs.Ground.{Old, one_step, after_here, tunnel_moves_follow}
-use Rattle.session_laws.proofs.Letters.{given_elsewhere, given_sent, given_taken, given_tunnels, given_calls, with_given, gives_only, LettersMove, letters_joined}
+use Rattle.session_laws.proofs.Entering.{after_here, with_given, gives_only}
+use Rattle.session_laws.proofs.Ground.{Old, one_step, tunnel_moves_follow}
+use Rattle.session_laws.proofs.Letters.{given_elsewhere, given_sent, given_taken, given_tunnels, given_calls, LettersMove, letters_joined}
 use Rattle.session_laws.proofs.Heard.{here_fits, here_joined, open_phase}
 
 -- ---- what the machine does
@@ -81,8 +82,8 @@ module _ (laws : Laws) (accs : Accounts) (ends : Ends) (w : World) (n : ℕ) (e 
       (ap (λ (ts : Tunnels). ts.learned X) (given_tunnels w X letter.Hello) ∙ old.learned)
       (ap (λ (ts : Tunnels). ts.phase X) (given_tunnels w X letter.Hello) ∙ old.phase)
 
-  pub greeted_follows : Follows (after accs d) (with_end ends n x)
-  greeted_follows = tunnel_moves_follow accs ends w n e x sender moment ev (move.Greeted m) d h v u (record {
+  pub greeted_follows : Follows w n e x (move.Greeted m) (after accs d) (with_end ends n x)
+  greeted_follows = tunnel_moves_follow accs ends w n e x sender moment ev (move.Greeted m) d h tt v u (record {
     id = here_fits accs ends w n e x sender moment ev (move.Greeted m) d h i t h.moved.does.there;
     put_is = ap (λ (y : End). y.tunnels) h.moved.does.after;
     sessions = ap (λ (y : End). y.session_ids) h.moved.does.after;

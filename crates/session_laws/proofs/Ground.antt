@@ -1,5 +1,5 @@
 -- One tunnel of a node changes, with its calls, and in the machine that tunnel alone: then all is joined again.
-use Rattle.std.proofs.Common.{◌≡◌, ◌⊎◌, inl, inr, ⊎_elim, ℕ, ◌<◌, List, [], ◌∷◌, ◌++◌, refl, sym, ap, ◌∙◌, subst, Option, Some, None, arith, eq-eqb, ne_eqb}
+use Rattle.std.proofs.Common.{◌≡◌, ◌⊎◌, inl, inr, ⊎_elim, ℕ, ◌<◌, List, [], ◌∷◌, ◌++◌, refl, sym, ap, ◌∙◌, subst, Option, Some, None, arith}
 use Rattle.std.proofs.lemmas.Option.{none-some}
 use mathlib.Core.Path.{fun_ext}
 use Rattle.id_table.specs.Ids.{at, put, at-none}
@@ -17,13 +17,16 @@ use Rattle.epoch_machine.specs.Moves as moves
 use Rattle.epoch_machine.specs.Moves.{step, goes_on}
 use Rattle.epoch_machine.specs.Calls as calls
 use Rattle.epoch_machine.specs.Calls.{NoCall}
-use Rattle.connection_laws.specs.Accounts.{Account, about, entered, entered_by}
+use Rattle.connection_laws.specs.Accounts.{Account, about, entered_by}
 use Rattle.connection_laws.specs.Facts.{Accounts, IsInState, LiveOk}
 use Rattle.connection_laws.specs.Facts as facts
 use Rattle.connection_laws.specs.Steps.{after}
 use Rattle.session_laws.specs.Names.{name}
 use Rattle.session_laws.specs.Joined.{Ends, tunnel_in, TunnelJoined, CallJoined, HasNoCall, CallsJoined, NodeJoined, AreJoined}
+use Rattle.session_laws.proofs.Births.{BirthsFollow, IsElse, same_calls, else_follow}
 use Rattle.session_laws.proofs.Keeps.{with_end, IsMade, Follows}
+use Rattle.session_laws.proofs.Roles.{fit_on}
+use Rattle.session_laws.proofs.Entering.{here_or_not, after_elsewhere, all_still, with_here, with_there}
 use Rattle.session_laws.proofs.Names.{other_name, other_node}
 
 -- ---- what stays in the machine
@@ -52,13 +55,14 @@ pub record CallStays (w v : machine.World) (x z : ℕ) : Type 0 where
 
 -- tunnel i of node n changes, from end e to x; the machine goes on from w to v. Of other tunnels and of other nodes' calls
 -- nothing changes, and of this tunnel and this node's calls the new facts are given
-pub record MovesOn (ms : Accounts) (w v : machine.World) (n i : ℕ) (e x : End) : Type 0 where
+pub record MovesOn (ms : Accounts) (w v : machine.World) (n i : ℕ) (e x : End) (m : Move) : Type 0 where
   pub id : i < 65536
   pub elsewhere : (j : ℕ) → (j ≡ i → ⊥) → at x.tunnels j ≡ at e.tunnels j
   pub tunnels : (y : ℕ) → (y ≡ name n i → ⊥) → TunnelStays w v y
   pub tunnel : TunnelJoined v n i (ms n i) (at x.tunnels i)
-  pub stay : (m s : ℕ) → (m ≡ n → ⊥) → m < 256 → s < 65536 → CallStays w v (name n i) (name m s)
+  pub stay : (k s : ℕ) → (k ≡ n → ⊥) → k < 256 → s < 65536 → CallStays w v (name n i) (name k s)
   pub calls : CallsJoined v ms n x
+  pub births : BirthsFollow w v n e x m
   pub up : (m : ℕ) → v.tunnels.up m ≡ w.tunnels.up m
   -- no move of the machine, or some
   pub more : List moves.Move
@@ -90,30 +94,30 @@ pub record TunnelMoves (accs ms : Accounts) (w v : machine.World) (n i : ℕ) (e
 -- all is joined again
 abbrev pub MovesOnFollow : Type 0
 MovesOnFollow = (accs : Accounts) (ends : Ends) (w : machine.World) (n : ℕ) (e x : End) (sender : Option Sender) (moment : ℕ) (ev : Event) (m : Move) (d : Deed)
-    → IsMade accs ends w n e x sender moment ev m d → (v : machine.World) → MovesOn (after accs d) w v n (about m) e x
-    → Follows (after accs d) (with_end ends n x)
+    → IsMade accs ends w n e x sender moment ev m d → (v : machine.World) → MovesOn (after accs d) w v n (about m) e x m
+    → Follows w n e x m (after accs d) (with_end ends n x)
 
 abbrev pub TunnelMovesFollow : Type 0
 TunnelMovesFollow = (accs : Accounts) (ends : Ends) (w : machine.World) (n : ℕ) (e x : End) (sender : Option Sender) (moment : ℕ) (ev : Event) (m : Move)
     (d : Deed)
-    → IsMade accs ends w n e x sender moment ev m d → (v : machine.World) (u : Tunnel) → TunnelMoves accs (after accs d) w v n (about m) e x u
-    → Follows (after accs d) (with_end ends n x)
+    → IsMade accs ends w n e x sender moment ev m d → IsElse m → (v : machine.World) (u : Tunnel) → TunnelMoves accs (after accs d) w v n (about m) e x u
+    → Follows w n e x m (after accs d) (with_end ends n x)
 
 -- no account changes, nor the end
 abbrev pub EndStaysFollow : Type 0
 EndStaysFollow = (accs : Accounts) (ends : Ends) (w : machine.World) (n : ℕ) (e x : End) (sender : Option Sender) (moment : ℕ) (ev : Event) (m : Move)
     (d : Deed)
-    → IsMade accs ends w n e x sender moment ev m d → entered_by d m (accs n (about m)) ≡ accs n (about m) → x ≡ e
-    → Follows (after accs d) (with_end ends n x)
+    → IsMade accs ends w n e x sender moment ev m d → IsElse m → entered_by d m (accs n (about m)) ≡ accs n (about m) → x ≡ e
+    → Follows w n e x m (after accs d) (with_end ends n x)
 
 -- no account changes, and of the end only the channel of a tunnel
 abbrev pub ChannelFollows : Type 0
 ChannelFollows = (accs : Accounts) (ends : Ends) (w : machine.World) (n : ℕ) (e x : End) (sender : Option Sender) (moment : ℕ) (ev : Event) (m : Move)
     (d : Deed)
-    → IsMade accs ends w n e x sender moment ev m d → entered_by d m (accs n (about m)) ≡ accs n (about m)
+    → IsMade accs ends w n e x sender moment ev m d → IsElse m → entered_by d m (accs n (about m)) ≡ accs n (about m)
     → (t u : Tunnel) → at e.tunnels (about m) ≡ Some t → u.calls ≡ t.calls → u.control.state ≡ t.control.state
     → x.tunnels ≡ put e.tunnels (about m) u → x.session_ids ≡ e.session_ids → x.role ≡ e.role
-    → Follows (after accs d) (with_end ends n x)
+    → Follows w n e x m (after accs d) (with_end ends n x)
 
 -- ---- runs
 
@@ -130,48 +134,7 @@ pub no_step : (r : machine.Rules) (w : machine.World) → goes_on r w [] ≡ w
 unfolding goes_on
 no_step r w = refl
 
--- ---- accounts
-
-pub here_or_not : (m n j i : ℕ) → ((m ≡ n) × (j ≡ i)) ⊎ ((m ≡ n) × (j ≡ i) → ⊥)
-here_or_not m n j i =
-    ⊎_elim
-    (λ (p : m ≡ n). ⊎_elim (λ (q : j ≡ i). inl (p, q)) (λ no. inr (λ (both : (m ≡ n) × (j ≡ i)). no both.1)) (same_or_not j i))
-    (λ no. inr (λ (both : (m ≡ n) × (j ≡ i)). no both.0))
-    (same_or_not m n)
-
-after_there : (accs : Accounts) (d : Deed) (m j : ℕ) → ((m ≡ d.node) × (j ≡ about d.move) → ⊥) → after accs d m j ≡ accs m j
-after_there accs d m j apart =
-    ⊎_elim
-    (λ (p : d.node ≡ m). rw (p, eq-eqb m m refl, ne_eqb (about d.move) j (λ q. apart (sym p, sym q))) refl)
-    (λ other. rw (ne_eqb d.node m other) refl)
-    (same_or_not d.node m)
-
--- a move enters one tunnel of its node
-pub after_here : (accs : Accounts) (d : Deed) (n : ℕ) (m : Move) → d.node ≡ n → d.move ≡ m → after accs d n (about m) ≡ entered_by d m (accs n (about m))
-after_here accs d n m node is =
-    let here : after accs d n (about m) ≡ entered d (accs n (about m)) = rw (node, ap about is, eq-eqb n n refl, eq-eqb (about m) (about m) refl) refl in
-    here ∙ ap (λ q. entered_by d q (accs n (about m))) is
-
--- and no other one
-pub after_elsewhere : (accs : Accounts) (d : Deed) (n : ℕ) (m : Move) → d.node ≡ n → d.move ≡ m → (k j : ℕ) → ((k ≡ n) × (j ≡ about m) → ⊥)
-    → after accs d k j ≡ accs k j
-after_elsewhere accs d n m node is k j apart = after_there accs d k j (λ both. apart (both.0 ∙ node, both.1 ∙ ap about is))
-
--- where nothing changes in it, no account changes
-pub all_still : (accs : Accounts) (d : Deed) (n : ℕ) (m : Move) → d.node ≡ n → d.move ≡ m → entered_by d m (accs n (about m)) ≡ accs n (about m)
-    → (k j : ℕ) → after accs d k j ≡ accs k j
-all_still accs d n m node is still k j = ⊎_elim
-    (λ (p : (k ≡ n) × (j ≡ about m)). rw (p.0, p.1) (after_here accs d n m node is ∙ still))
-    (λ apart. after_elsewhere accs d n m node is k j apart)
-    (here_or_not k n j (about m))
-
--- ---- ends
-
-pub with_here : (ends : Ends) (n : ℕ) (x : End) → with_end ends n x n ≡ Some x
-with_here ends n x = rw (eq-eqb n n refl) refl
-
-pub with_there : (ends : Ends) (n : ℕ) (x : End) (m : ℕ) → (m ≡ n → ⊥) → with_end ends n x m ≡ ends m
-with_there ends n x m other = rw (ne_eqb m n other) refl
+-- ---- what was made
 
 -- a live tunnel was made
 pub live_made : (accs : Accounts) (n i : ℕ) (a : Account) (t : Tunnel) → LiveOk accs n i a t → facts.IsMade a
@@ -248,7 +211,7 @@ module _ (accs : Accounts) (ends : Ends) (w : machine.World) (n : ℕ) (e x : En
   pub ids_now : (j : ℕ) (t : Tunnel) → at x.tunnels j ≡ Some t → j < 65536
   ids_now j t there = (h.leads.accounts n j).id (live_made ms n j (ms n j) t (h.leads.end.live j t there))
 
-  module _ (v : machine.World) (g : MovesOn ms w v n i e x) where
+  module _ (v : machine.World) (g : MovesOn ms w v n i e x m) where
     -- the same tunnel in both ends
     same_there : (k j : ℕ) → ((k ≡ n) × (j ≡ i) → ⊥) → tunnel_in (with_end ends n x k) j ≡ tunnel_in (ends k) j
     same_there k j apart =
@@ -284,6 +247,7 @@ module _ (accs : Accounts) (ends : Ends) (w : machine.World) (n : ℕ) (e x : En
     joined = record {
       tunnels = tunnels;
       nodes = nodes;
+      fit = fit_on accs ends w n e x sender moment ev m d h g.births.role;
       up = λ k. g.up k ∙ h.joined.up k;
       moves = h.joined.moves ++ g.more;
       run = g.run ∙ ap (λ u. goes_on all_rules u g.more) h.joined.run ∙ sym (run_on all_rules empty_world h.joined.moves g.more);
@@ -293,6 +257,7 @@ pub moves_on_follow : MovesOnFollow
 moves_on_follow accs ends w n e x sender moment ev m d h v g = record {
   world = v;
   joined = joined accs ends w n e x sender moment ev m d h v g;
+  births = g.births;
 }
 
 -- ---- one tunnel changes, and no call
@@ -334,7 +299,7 @@ module _ (accs : Accounts) (ends : Ends) (w : machine.World) (n : ℕ) (e x : En
   pub tunnel_before : (j : ℕ) → j < 65536 → TunnelJoined w n j (accs n j) (at e.tunnels j)
   tunnel_before j fits = subst (λ o. TunnelJoined w n j (accs n j) (tunnel_in o j)) h.here (h.joined.tunnels n j h.moved.within.end.node fits)
 
-  module _ (v : machine.World) (u : Tunnel) (g : TunnelMoves accs (after accs d) w v n (about m) e x u) where
+  module _ (is_else : IsElse m) (v : machine.World) (u : Tunnel) (g : TunnelMoves accs (after accs d) w v n (about m) e x u) where
     abbrev new : Accounts
     new = after accs d
 
@@ -396,7 +361,7 @@ module _ (accs : Accounts) (ends : Ends) (w : machine.World) (n : ℕ) (e x : En
               rw g.role (old.roles j k.tunnel k.there s c k.call));
         }
 
-    moves_on : MovesOn new w v n (about m) e x
+    moves_on : MovesOn new w v n (about m) e x m
     moves_on = record {
       id = g.id;
       elsewhere = λ j other. rw g.put_is (at_other e.tunnels (about m) u j other);
@@ -409,14 +374,15 @@ module _ (accs : Accounts) (ends : Ends) (w : machine.World) (n : ℕ) (e x : En
         state = λ either. ap (λ (y : calls.Calls). y.state (name k s)) g.calls;
       };
       calls = calls_on;
+      births = else_follow w v n e x m is_else (same_calls w v g.calls) g.role g.sessions;
       up = g.up;
       more = g.more;
       run = g.run;
     }
 
 pub tunnel_moves_follow : TunnelMovesFollow
-tunnel_moves_follow accs ends w n e x sender moment ev m d h v u g =
-    moves_on_follow accs ends w n e x sender moment ev m d h v (moves_on accs ends w n e x sender moment ev m d h v u g)
+tunnel_moves_follow accs ends w n e x sender moment ev m d h is v u g =
+    moves_on_follow accs ends w n e x sender moment ev m d h v (moves_on accs ends w n e x sender moment ev m d h is v u g)
 
 -- ---- nothing changes in the machine
 
@@ -431,7 +397,8 @@ ends_same ends n e here = fun_ext (λ k. ⊎_elim
     (same_or_not k n))
 
 pub end_stays_follows : EndStaysFollow
-end_stays_follows accs ends w n e x sender moment ev m d h still same = record {
+end_stays_follows accs ends w n e x sender moment ev m d h is still same = record {
+  births = else_follow w w n e x m is (same_calls w w refl) (ap (λ (y : End). y.role) same) (ap (λ (y : End). y.session_ids) same);
   world = w;
   joined = rw (all_same accs d n m h.moved.deed.node_is h.moved.deed.move_is still, same, ends_same ends n e h.here) h.joined;
 }
@@ -467,12 +434,12 @@ tunnel_same w y = record {
 }
 
 pub channel_follows : ChannelFollows
-channel_follows accs ends w n e x sender moment ev m d h still t u there calls state put_is sessions role =
+channel_follows accs ends w n e x sender moment ev m d h is still t u there calls state put_is sessions role =
     let i = about m in
     let ok = h.moved.within.accounts n i in
     let fits = ok.id (live_made accs n i (accs n i) t (h.moved.within.end.live i t there)) in
     let same = all_still accs d n m h.moved.deed.node_is h.moved.deed.move_is still n i in
-    tunnel_moves_follow accs ends w n e x sender moment ev m d h w u (record {
+    tunnel_moves_follow accs ends w n e x sender moment ev m d h is w u (record {
       id = fits;
       put_is = put_is;
       sessions = sessions;

@@ -1,17 +1,19 @@
 -- The next letter that a tunnel hears is delivered in the machine.
-use Rattle.std.proofs.Common.{◌≡◌, ⊎_elim, ℕ, zero, suc, ◌<◌, ◌≤◌, Bool, true, false, List, [], ◌∷◌, ◌++◌, length, refl, sym, ap, ap₂, ◌∙◌, subst, slice_get, Option, Some, None, arith, eqb, cond, eq-eqb}
-use Rattle.std.specs.List.{AllByRecursion}
+use Rattle.std.proofs.Common.{◌≡◌, ⊎_elim, ℕ, ◌<◌, ◌≤◌, Bool, true, false, List, length, refl, sym, ap, ap₂, ◌∙◌, subst, slice_get, Option, Some, None, arith, eqb, cond, eq-eqb}
 use Rattle.std.proofs.lemmas.Bool.{lt-ltb}
 use Rattle.std.proofs.lemmas.Option.{slice_get-map}
 use Rattle.id_table.specs.Ids.{at}
 use Rattle.control_message.specs.declared.message.Message.{Message}
 use Rattle.control_message.specs.Pairs.{IsWritten}
-use Rattle.control_message.specs.declared.message.Message.TheVariants.{Sccrq, Sccrp, Scccn, Hello, Icrq, Icrp, Iccn, Cdn}
+use Rattle.control_message.specs.declared.message.Message.TheVariants.{Sccrq, Sccrp, Scccn, StopCcn, Hello, Ocrq, Ocrp, Occn, Icrq, Icrp, Iccn, Cdn, Wen, Sli}
 use Rattle.tunnel_fsm.specs.declared.table.TunnelState.{TunnelState}
 use Rattle.tunnel_fsm.specs.declared.table.TunnelState.TheVariants as tunnel
 use Rattle.tunnel_fsm.specs.Rows.{state_number}
 use Rattle.protocol_model.specs.declared.event.Event.{Event}
 use Rattle.protocol_model.specs.declared.moves.Move.{Move}
+use Rattle.protocol_model.specs.declared.moves.Move.TheVariants as move
+use Rattle.protocol_model.specs.declared.tunnel.Role.{Role}
+use Rattle.protocol_model.specs.declared.tunnel.Role.TheVariants.{Lns}
 use Rattle.protocol_model.specs.Turn.{Tunnel}
 use Rattle.protocol_model.specs.End.{End}
 use Rattle.protocol_model.specs.World.{Sender, Deed}
@@ -21,14 +23,17 @@ use Rattle.epoch_machine.specs.Letters.{Letter}
 use Rattle.epoch_machine.specs.Tunnels.{Open, is_active, is_live}
 use Rattle.epoch_machine.specs.Worlds.{World, Rules, all_rules, takes, took_one}
 use Rattle.epoch_machine.specs.Moves.{Delivers, may_take, delivers, step}
+use Rattle.frame_laws.proofs.Facts.{all_at}
 use Rattle.connection_laws.specs.Accounts.{Part, Unmade, Opener, Acceptor, Taken, Account, no_account, partner_of}
 use Rattle.connection_laws.specs.Facts as facts
-use Rattle.connection_laws.specs.Facts.{Accounts, IsSpelled, IsPart, AccountOk, IsTaken, IsInState, LiveOk, Within, partner_in}
+use Rattle.connection_laws.specs.Facts.{Accounts, IsSpelled, IsPart, AccountOk, Tells, IsTaken, AreTaken, IsInState, LiveOk, Within, partner_in}
 use Rattle.connection_laws.specs.Steps.{after, NextLetter, NextIsHeard}
 use Rattle.session_laws.specs.Names.{name, name_of, spoken, letter_of, phase_of}
+use Rattle.session_laws.specs.Roles.{TookReply, Says, FitsEnd}
 use Rattle.session_laws.specs.Joined.{Ends, TunnelJoined, tunnel_in}
-use Rattle.session_laws.proofs.Letters.{with_taken}
 use Rattle.session_laws.proofs.Keeps.{IsMade}
+use Rattle.session_laws.proofs.Roles.{Giver, giver_of}
+use Rattle.session_laws.proofs.Entering.{with_taken, got_last}
 use Rattle.session_laws.proofs.Names.{name_some, known_name}
 use Rattle.session_laws.proofs.Ground.{live_made, tunnel_before}
 
@@ -76,17 +81,25 @@ open_phase tunnel.Closed is = absurd (omega (arith, is))
 
 -- ---- a delivery
 
-pub delivers_spoken : (r : Rules) (w : World) (x s e k z : ℕ) (n m header : ℕ) (said : Message) → may_take r w x s e k (spoken n m header said) ≡ true
+-- of what an end says; no end says that a tunnel closes
+pub delivers_spoken : (r : Rules) (w : World) (x s e k z : ℕ) (n m header : ℕ) (role : Role) (b : Account) (said : Message) → Says role b said
+    → may_take r w x s e k (spoken n m header said) ≡ true
     → delivers r w x s e k z (Some (spoken n m header said)) ≡ takes r (took_one w x) x s (spoken n m header said) z
 unfolding delivers
-delivers_spoken r w x s e k z n m header (Sccrq o) may = rw may refl
-delivers_spoken r w x s e k z n m header (Sccrp o) may = rw may refl
-delivers_spoken r w x s e k z n m header Scccn may = rw may refl
-delivers_spoken r w x s e k z n m header Hello may = rw may refl
-delivers_spoken r w x s e k z n m header (Icrq session serial calling) may = rw may refl
-delivers_spoken r w x s e k z n m header (Icrp session) may = rw may refl
-delivers_spoken r w x s e k z n m header (Iccn speed framing sequenced) may = rw may refl
-delivers_spoken r w x s e k z n m header (Cdn session code error) may = rw may refl
+delivers_spoken r w x s e k z n m header role b (Sccrq o) says may = rw may refl
+delivers_spoken r w x s e k z n m header role b (Sccrp o) says may = rw may refl
+delivers_spoken r w x s e k z n m header role b Scccn says may = rw may refl
+delivers_spoken r w x s e k z n m header role b (StopCcn tunnel result error) says may = absurd says
+delivers_spoken r w x s e k z n m header role b Hello says may = rw may refl
+delivers_spoken r w x s e k z n m header role b (Ocrq session) says may = rw may refl
+delivers_spoken r w x s e k z n m header role b Ocrp says may = rw may refl
+delivers_spoken r w x s e k z n m header role b Occn says may = rw may refl
+delivers_spoken r w x s e k z n m header role b Wen says may = rw may refl
+delivers_spoken r w x s e k z n m header role b Sli says may = rw may refl
+delivers_spoken r w x s e k z n m header role b (Icrq session serial calling) says may = rw may refl
+delivers_spoken r w x s e k z n m header role b (Icrp session) says may = rw may refl
+delivers_spoken r w x s e k z n m header role b (Iccn speed framing sequenced) says may = rw may refl
+delivers_spoken r w x s e k z n m header role b (Cdn session result error) says may = rw may refl
 
 -- an active tunnel takes the next letter of one that has learned it
 pub may_take_next : (w : World) (x s k : ℕ) (l : Letter) → is_active (w.tunnels.phase x) ≡ true → 0 < s → w.tunnels.learned s ≡ x
@@ -95,12 +108,6 @@ unfolding may_take
 may_take_next w x s k l active some learned now next = rw (active, lt-ltb 0 s some, learned, eq-eqb x x refl, now, next, eq-eqb k k refl) refl
 
 -- ---- the letter that a tunnel takes
-
--- each letter that is given is spelled
-letter_at : (ls : List step_laws.Letter) (k : ℕ) (l : step_laws.Letter) → slice_get ls k ≡ Some l → AllByRecursion IsSpelled ls → IsSpelled l
-letter_at [] k l is h = absurd cc
-letter_at (m ∷ ls) zero l is h = let same : m ≡ l = cc in subst (λ q. IsSpelled q) same h.0
-letter_at (m ∷ ls) (suc k) l is h = letter_at ls k l is h.1
 
 -- what gave a letter was made
 pub giver_made : (accs : Accounts) (n i k : ℕ) (l : step_laws.Letter) → AccountOk accs n i (accs n i) → slice_get (accs n i).given k ≡ Some l
@@ -125,6 +132,8 @@ pub record Delivered (accs : Accounts) (w : World) (n i : ℕ) (sender : Option 
   pub stands : slice_get (w.channels.sent (name from.node from.tunnel) 0) (length (accs n i).taken) ≡ Some (spoken from.node n session m)
   pub written : IsWritten m
   pub header : session < 65536
+  -- what gave it is of an end whose role it fits
+  pub giver : Giver (accs from.node from.tunnel) m
   -- its delivery in the machine, with the name of a new call
   pub is : (z : ℕ) → step all_rules w (Delivers (name n i) (name from.node from.tunnel) 0 (length (accs n i).taken) z)
       ≡ takes all_rules (took_one w (name n i)) (name n i) (name from.node from.tunnel) (spoken from.node n session m) z
@@ -180,7 +189,10 @@ module _ (accs : Accounts) (ends : Ends) (w : World) (n : ℕ) (e x : End) (send
     stands = rw (from_joined.sent, slice_get-map (letter_of k.from.node b.peer) b.given (length a.taken), k.there, k.goes, k.session_is, k.message_is) refl
 
     spelled : IsSpelled k.letter
-    spelled = letter_at b.given (length a.taken) k.letter k.there from_ok.spelled
+    spelled = all_at IsSpelled b.given (length a.taken) k.letter k.there from_ok.spelled
+
+    giver : Giver b m
+    giver = subst (Giver b) k.message_is (giver_of (ends k.from.node) b (length a.taken) k.letter (h.joined.fit k.from.node k.from.tunnel) k.there)
 
     may : (l : Letter) → may_take all_rules w (name n i) s 0 (length a.taken) l ≡ true
     may l = may_take_next w (name n i) s (length a.taken) l here_active (name_some k.from.node k.from.tunnel (from_ok.some from_made)) learned
@@ -191,7 +203,7 @@ module _ (accs : Accounts) (ends : Ends) (w : World) (n : ℕ) (e x : End) (send
     unfolding step
     step_is z =
         ap (λ g. delivers all_rules w (name n i) s 0 (length a.taken) z g) stands
-        ∙ delivers_spoken all_rules w (name n i) s 0 (length a.taken) z k.from.node n session m (may (spoken k.from.node n session m))
+        ∙ delivers_spoken all_rules w (name n i) s 0 (length a.taken) z k.from.node n session giver.role b m giver.says (may (spoken k.from.node n session m))
 
     pub next_delivered : Delivered accs w n i sender session m
     next_delivered = record {
@@ -207,6 +219,7 @@ module _ (accs : Accounts) (ends : Ends) (w : World) (n : ℕ) (e x : End) (send
       stands = stands;
       written = subst (λ q. IsWritten q) k.message_is spelled.written;
       header = subst (λ q. q < 65536) k.session_is spelled.session;
+      giver = giver;
       is = step_is;
     }
 
@@ -223,7 +236,7 @@ delivered heard accs ends w n e x sender moment ev mv d h i t there session m k 
 some_same : {X : Type 0} (x y : X) → Some x ≡ Some y → x ≡ y
 some_same x y h = cc
 
-partner_by : (b : Account) (p : Sender) → partner_of b ≡ Some p → (b.peer ≡ p.node) × (b.remote ≡ p.tunnel)
+pub partner_by : (b : Account) (p : Sender) → partner_of b ≡ Some p → (b.peer ≡ p.node) × (b.remote ≡ p.tunnel)
 partner_by b p h = by (eqb b.remote 0) h
   where
     by : (none : Bool) → cond none None (Some (record { node = b.peer; tunnel = b.remote })) ≡ Some p → (b.peer ≡ p.node) × (b.remote ≡ p.tunnel)
@@ -238,11 +251,29 @@ pub sender_partner : (accs : Accounts) (b : Account) (number : ℕ) (tk : Taken)
 sender_partner accs b number tk from h is =
     partner_by b from (h.learned ∙ sym h.sender ∙ is)
 
--- ---- the account after a letter was taken
+-- the tunnel gave a reply
+pub record GaveReply (b : Account) : Type 0 where
+  pub number : ℕ
+  pub letter : step_laws.Letter
+  pub there : slice_get b.given number ≡ Some letter
+  pub session : ℕ
+  pub is : letter.message ≡ Icrp session
 
-pub got_last : {X : Type 0} (xs : List X) (x : X) → slice_get (xs ++ x ∷ []) (length xs) ≡ Some x
-got_last [] x = refl
-got_last (y ∷ xs) x = got_last xs x
+-- so did the partner of one that took one
+pub reply_given : (accs : Accounts) (b : Account) → AreTaken accs b → TookReply b → GaveReply (partner_in accs b)
+reply_given accs b all reply =
+    let took = all reply.number reply.taken reply.there in
+    let partner = partner_by b took.partner took.learned in
+    let tells : Tells took.letter (move.FirstUp reply.up) = subst (Tells took.letter) reply.up_is took.tells in
+    subst GaveReply (ap₂ accs (sym partner.0) (sym partner.1))
+    (record { number = reply.number; letter = took.letter; there = took.there; session = reply.up.remote; is = tells.1 })
+
+-- and an LNS replies
+pub replies_role : (r : Role) (b : Account) → FitsEnd r b → GaveReply b → r ≡ Lns
+replies_role r b fits gave =
+    subst (Says r b) gave.is (all_at (λ (l : step_laws.Letter). Says r b l.message) b.given gave.number gave.letter gave.there fits.says)
+
+-- ---- the account after a letter was taken
 
 pub partner_now : (accs : Accounts) (ends : Ends) (w : World) (n : ℕ) (e x : End) (sender : Option Sender) (moment : ℕ) (ev : Event) (mv : Move) (d : Deed)
     → IsMade accs ends w n e x sender moment ev mv d → (i : ℕ) (a : Account) (tk : Taken) (more : List step_laws.Letter) (from : Sender)

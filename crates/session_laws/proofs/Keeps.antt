@@ -9,8 +9,9 @@ use Rattle.epoch_machine.specs.Worlds as machine
 use Rattle.birth_laws.specs.Births as births
 use Rattle.coverage_laws.specs.Coverage as coverage
 use Rattle.connection_laws.specs.Facts.{Accounts, Within}
-use Rattle.connection_laws.specs.Steps.{after, IsMoved, NextIsHeard, PlainIsHeard}
+use Rattle.connection_laws.specs.Steps.{after, IsMoved, NextIsHeard, PlainIsHeard, LettersAreHeard, NoneIsFaulty}
 use Rattle.session_laws.specs.Joined.{Ends, AreJoined}
+use Rattle.session_laws.proofs.Births.{BirthsFollow}
 
 abbrev pub with_end : Ends → ℕ → End → Ends
 with_end ends n x m = if m == n then Some x else ends m
@@ -19,6 +20,8 @@ with_end ends n x m = if m == n then Some x else ends m
 pub record Laws : Type 0 where
   pub heard : NextIsHeard
   pub plain : PlainIsHeard
+  pub letters : LettersAreHeard
+  pub sound : NoneIsFaulty
   pub births : births.BirthsOfRuns
   pub coverage : coverage.CoverageOfRuns
 
@@ -31,10 +34,11 @@ pub record IsMade (accs : Accounts) (ends : Ends) (w : machine.World) (n : ℕ) 
   pub joined : AreJoined accs ends w
 
 -- the machine moves along
-pub record Follows (accs : Accounts) (ends : Ends) : Type 0 where
+pub record Follows (w : machine.World) (n : ℕ) (e x : End) (m : Move) (accs : Accounts) (ends : Ends) : Type 0 where
   pub world : machine.World
   pub joined : AreJoined accs ends world
+  pub births : BirthsFollow w world n e x m
 
 abbrev pub MovesFollow : Type 0
 MovesFollow = (accs : Accounts) (ends : Ends) (w : machine.World) (n : ℕ) (e x : End) (sender : Option Sender) (moment : ℕ) (ev : Event) (m : Move) (d : Deed)
-    → IsMade accs ends w n e x sender moment ev m d → Follows (after accs d) (with_end ends n x)
+    → IsMade accs ends w n e x sender moment ev m d → Follows w n e x m (after accs d) (with_end ends n x)

@@ -1,19 +1,14 @@
 -- The letters that a tunnel gives and takes, in the machine and in what is known of the tunnel.
-use Rattle.std.proofs.Common.{◌≡◌, ℕ, suc, ◌+◌, List, [], ◌∷◌, ◌++◌, map, length, refl, sym, ap, ◌∙◌, append-nil, Option, arith, eq-eqb, ne_eqb}
+use Rattle.std.proofs.Common.{◌≡◌, ℕ, suc, ◌+◌, List, [], ◌∷◌, ◌++◌, map, length, refl, sym, ap, ◌∙◌, Option, arith, eq-eqb, ne_eqb}
 use Rattle.std.proofs.lemmas.List.{map-append}
-use Rattle.protocol_model.specs.declared.moves.Place.{Place}
-use Rattle.protocol_model.specs.declared.moves.Move.{Move}
-use Rattle.protocol_model.specs.declared.tunnel.Role.{Role}
 use Rattle.protocol_model.specs.Turn.{Tunnel}
-use Rattle.protocol_model.specs.World.{Sender, Deed, config_of}
 use Rattle.step_laws.specs.Letters as step
 use Rattle.step_laws.specs.Letters.{letters_of}
 use Rattle.epoch_machine.specs.Letters.{Letter}
 use Rattle.epoch_machine.specs.Channels.{puts, counts}
 use Rattle.epoch_machine.specs.Calls.{Calls}
 use Rattle.epoch_machine.specs.Worlds.{World, gives, took_one}
-use Rattle.connection_laws.specs.Accounts.{Taken, Account, takes_at, gives_also}
-use Rattle.connection_laws.specs.Steps.{IsDeed}
+use Rattle.connection_laws.specs.Accounts.{Account}
 use Rattle.session_laws.specs.Names.{name, letter_of, phase_in, other_name}
 use Rattle.session_laws.specs.Joined.{TunnelJoined}
 use Rattle.session_laws.proofs.Ground.{TunnelStays}
@@ -117,31 +112,6 @@ took_tunnels w x = refl
 pub took_calls : (w : World) (x : ℕ) → (took_one w x).calls ≡ w.calls
 unfolding took_one
 took_calls w x = refl
-
--- ---- what is known of a tunnel
-
--- the account of a tunnel that takes a letter and is given these
-abbrev pub with_taken : Taken → List step.Letter → Account → Account
-with_taken tk more a = record a { given = a.given ++ more; taken = a.taken ++ tk ∷ [] }
-
-abbrev pub with_given : List step.Letter → Account → Account
-with_given more a = record a { given = a.given ++ more }
-
--- what is kept of the letter
-abbrev pub taken_as : Option Sender → Place → Move → Taken
-taken_as sender place m = record { sender = sender; number = place.number; move = m }
-
-pub takes_only : (d : Deed) (n : ℕ) (role : Role) (sender : Option Sender) (m : Move) (place : Place) (a : Account) → IsDeed d n role sender m
-    → takes_at d place a ≡ with_taken (taken_as sender place m) [] a
-takes_only d n role sender m place a deed = rw (deed.sender_is, deed.move_is, append-nil) refl
-
-pub takes_and_gives : (d : Deed) (n : ℕ) (role : Role) (sender : Option Sender) (m : Move) (place : Place) (a : Account) → IsDeed d n role sender m
-    → gives_also d (takes_at d place a) ≡ with_taken (taken_as sender place m) (letters_of role (config_of n 0) m) a
-takes_and_gives d n role sender m place a deed = rw (deed.sender_is, deed.move_is, deed.role_is, deed.node_is) refl
-
-pub gives_only : (d : Deed) (n : ℕ) (role : Role) (sender : Option Sender) (m : Move) (a : Account) → IsDeed d n role sender m
-    → gives_also d a ≡ with_given (letters_of role (config_of n 0) m) a
-gives_only d n role sender m a deed = rw (deed.move_is, deed.role_is, deed.node_is) refl
 
 -- ---- a tunnel that gives and takes letters is joined still
 

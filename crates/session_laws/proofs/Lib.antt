@@ -1,5 +1,8 @@
+pub mod Births
 pub mod Keeps
 pub mod Names
+pub mod Entering
+pub mod Roles
 pub mod Ground
 pub mod Letters
 pub mod Heard
@@ -21,12 +24,14 @@ pub mod Plain
 pub mod Adding
 pub mod Requesting
 pub mod Replying
+pub mod Refusing
 pub mod FirstUp
 pub mod SecondUp
 pub mod EndingTold
 pub mod EndHeard
 pub mod EndingSilent
 pub mod Moves
+pub mod WorldBirths
 pub mod Runs
 pub mod Agree
 pub mod Counts

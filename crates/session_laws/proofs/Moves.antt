@@ -14,6 +14,7 @@ use Rattle.session_laws.proofs.Requesting.{requested_follows}
 use Rattle.session_laws.proofs.EndingTold.{end_told_follows}
 use Rattle.session_laws.proofs.EndingSilent.{end_silent_follows}
 use Rattle.session_laws.proofs.Replying.{replied_follows}
+use Rattle.session_laws.proofs.Refusing.{refused_follows}
 use Rattle.session_laws.proofs.FirstUp.{first_up_follows}
 use Rattle.session_laws.proofs.SecondUp.{second_up_follows}
 use Rattle.session_laws.proofs.EndHeard.{end_heard_follows}
@@ -26,6 +27,7 @@ moves_follow laws accs ends w n e x sender moment ev (move.Confirmed m) d h = co
 moves_follow laws accs ends w n e x sender moment ev (move.Added m) d h = added_follows laws accs ends w n e x sender moment ev m d h
 moves_follow laws accs ends w n e x sender moment ev (move.Requested m) d h = requested_follows laws accs ends w n e x sender moment ev m d h
 moves_follow laws accs ends w n e x sender moment ev (move.Replied m) d h = replied_follows laws accs ends w n e x sender moment ev m d h
+moves_follow laws accs ends w n e x sender moment ev (move.Refused m) d h = refused_follows laws accs ends w n e x sender moment ev m d h
 moves_follow laws accs ends w n e x sender moment ev (move.FirstUp m) d h = first_up_follows laws accs ends w n e x sender moment ev m d h
 moves_follow laws accs ends w n e x sender moment ev (move.SecondUp m) d h = second_up_follows laws accs ends w n e x sender moment ev m d h
 moves_follow laws accs ends w n e x sender moment ev (move.EndTold m) d h = end_told_follows laws accs ends w n e x sender moment ev m d h

@@ -1,5 +1,6 @@
 -- Names of tunnels and calls are one to one, and what is assigned at a name.
 use Rattle.std.proofs.Common.{◌≡◌, ℕ, ◌<◌, refl, arith, eq-eqb, ne_eqb}
+use Rattle.protocol_model.specs.Names.{address_of, node_of}
 use Rattle.epoch_machine.specs.Names.{assign}
 use Rattle.session_laws.specs.Names.{name, name_of}
 
@@ -37,3 +38,8 @@ assign_here f k v = rw (eq-eqb k k refl) refl
 
 pub assign_there : {X : Type 0} (f : ℕ → X) (k : ℕ) (v : X) (q : ℕ) → (q ≡ k → ⊥) → assign f k v q ≡ f q
 assign_there f k v q other = rw (ne_eqb q k other) refl
+
+-- a node's address is its own
+pub node_again : (from : ℕ) → from < 256 → node_of (address_of from) ≡ from
+unfolding node_of address_of
+node_again from lt = omega arith

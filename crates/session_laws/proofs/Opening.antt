@@ -23,9 +23,10 @@ use Rattle.connection_laws.specs.Steps.{after}
 use Rattle.session_laws.specs.Names.{name, letter_of, phase_of}
 use Rattle.session_laws.specs.Joined.{Ends, TunnelJoined}
 use Rattle.session_laws.proofs.Keeps.{with_end, Laws, IsMade, Follows}
+use Rattle.session_laws.proofs.Entering.{after_here, with_given, gives_only}
 use Rattle.session_laws.proofs.Names.{name_some}
-use Rattle.session_laws.proofs.Ground.{TunnelStays, New, one_step, after_here, tunnel_before, tunnel_moves_follow}
-use Rattle.session_laws.proofs.Letters.{stays_on, given_elsewhere, given_sent, given_taken, with_given, gives_only}
+use Rattle.session_laws.proofs.Ground.{TunnelStays, New, one_step, tunnel_before, tunnel_moves_follow}
+use Rattle.session_laws.proofs.Letters.{stays_on, given_elsewhere, given_sent, given_taken}
 use Rattle.session_laws.proofs.Drawing.{id_some, id_fits, no_account_yet, no_tunnel_yet}
 
 -- ---- what the machine does
@@ -128,10 +129,10 @@ module _ (laws : Laws) (accs : Accounts) (ends : Ends) (w : World) (n : ℕ) (e 
   old : TunnelJoined w n i no_account (at e.tunnels i)
   old = subst (λ a. TunnelJoined w n i a (at e.tunnels i)) none (tunnel_before accs ends w n e x sender moment ev (move.Opened m) d h i fits)
 
-  pub opened_follows : Follows (after accs d) (with_end ends n x)
+  pub opened_follows : Follows w n e x (move.Opened m) (after accs d) (with_end ends n x)
   opened_follows =
       let o = h.moved.does in
-      tunnel_moves_follow accs ends w n e x sender moment ev (move.Opened m) d h v u (record {
+      tunnel_moves_follow accs ends w n e x sender moment ev (move.Opened m) d h tt v u (record {
         id = fits;
         put_is = ap (λ (y : End). y.tunnels) o.after;
         sessions = ap (λ (y : End). y.session_ids) o.after;

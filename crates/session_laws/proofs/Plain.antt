@@ -14,6 +14,7 @@ use Rattle.protocol_model.specs.declared.event.Event.{Event}
 use Rattle.protocol_model.specs.declared.moves.TookPlain.{TookPlain}
 use Rattle.protocol_model.specs.declared.moves.Move.TheVariants as move
 use Rattle.protocol_model.specs.declared.tunnel.Call.{Call}
+use Rattle.protocol_model.specs.declared.tunnel.Role.{Role}
 use Rattle.protocol_model.specs.Turn.{Tunnel, counts_taken, session_named}
 use Rattle.protocol_model.specs.End.{End}
 use Rattle.protocol_model.specs.World.{Sender, Deed}
@@ -23,10 +24,13 @@ use Rattle.epoch_machine.specs.Tunnels.{is_open, is_wait_reply, is_wait_connect}
 use Rattle.epoch_machine.specs.Calls.{Calls, CallState, NoCall, Waits, waits_reply, waits_connect, ends, is_named}
 use Rattle.epoch_machine.specs.Worlds.{World, all_rules, took_one, takes, takes_open, answers_request, takes_reply, takes_connect, takes_cdn}
 use Rattle.epoch_machine.specs.Moves.{Delivers}
+use Rattle.connection_laws.specs.Accounts.{Account}
 use Rattle.connection_laws.specs.Facts.{Accounts}
 use Rattle.connection_laws.specs.Steps.{after, PlainLetter}
 use Rattle.session_laws.specs.Names.{name, name_of, spoken, phase_of, state_of}
+use Rattle.session_laws.specs.Roles.{Says}
 use Rattle.session_laws.specs.Joined.{Ends, CallsJoined, NodeJoined, TunnelJoined}
+use Rattle.session_laws.proofs.Births.{BirthsSame, else_follow}
 use Rattle.session_laws.proofs.Keeps.{with_end, Laws, IsMade, Follows}
 use Rattle.session_laws.proofs.Names.{same_name, name_not_zero, known_name}
 use Rattle.session_laws.proofs.Ground.{joined_before}
@@ -44,6 +48,7 @@ record PlainTakes (w : World) (x s : ℕ) (l : Letter) : Type 0 where
   is : takes all_rules (took_one w x) x s l 0 ≡ record (took_one w x) { calls = calls }
   asks : (y z : ℕ) → calls.asks y z ≡ w.calls.asks y z
   same : (m q : ℕ) → m < 256 → q < 65536 → CallSame w (record (took_one w x) { calls = calls }) (name m q)
+  births : BirthsSame w (record (took_one w x) { calls = calls })
 
 -- nothing at all changes beside
 ignored : (w : World) (x s : ℕ) (l : Letter) → takes all_rules (took_one w x) x s l 0 ≡ took_one w x → PlainTakes w x s l
@@ -53,6 +58,7 @@ ignored w x s l h = record {
   is = h;
   asks = λ y z. refl;
   same = λ m q mfits qfits. record { drawn = refl; tunnel = refl; remote = refl; state = refl };
+  births = record { count = refl; birth = λ k. refl; mate = λ k. refl; remote = λ k. refl };
 }
 
 -- ---- letters of tunnels
@@ -153,6 +159,7 @@ plain_cdn w x s own z open_is gone = record {
     remote = refl;
     state = by (is_named w.calls x own z (name m q)) (w.calls.state (name m q)) (gone m q mfits qfits);
   };
+  births = record { count = refl; birth = λ k. refl; mate = λ k. refl; remote = λ k. refl };
 }
   where
     by : (b : Bool) (s : CallState) → (b ≡ true → s ≡ NoCall) → cond b NoCall s ≡ s
@@ -211,9 +218,9 @@ module _ (w : World) (accs : Accounts) (n : ℕ) (e : End) (i : ℕ) (t : Tunnel
   -- ---- a CDN
 
   module _ (remote code : ℕ) (error : Option ℕ) (rfits : remote < 65536) (three : state_number t.control.state ≡ 3)
-      (why : IsPlain e t session (message.Cdn remote code error)) (stands : slice_get (w.channels.sent s 0) k ≡ Some (Cdn (name from remote) (name_of n session))) where
+      (why : IsPlain e t session (message.Cdn remote code error)) (stands : slice_get (w.channels.sent s 0) k ≡ Some (Cdn (name_of from remote) (name_of n session))) where
     abbrev own : ℕ
-    own = name from remote
+    own = name_of from remote
 
     -- the call that the CDN names waits for its tunnel
     named_waits : (c : Call) → at t.calls (session_named t.calls session remote) ≡ Some c → w.calls.state (name n (session_named t.calls session remote)) ≡ Waits
@@ -240,16 +247,17 @@ module _ (w : World) (accs : Accounts) (n : ℕ) (e : End) (i : ℕ) (t : Tunnel
     by_remote none q c call some remote_is =
         let knows : name_of (accs n i).peer c.remote ≡ own = sym (h.old.live i t h.there q c call).remote ∙ remote_is in
         let lt = known_some (accs n i).peer c.remote own some knows in
+        let pos = known_some from remote own some refl in
         let fits = h.remotes q c call in
         let same : c.remote ≡ remote =
-        (same_name (accs n i).peer c.remote from remote fits rfits (sym (known_name (accs n i).peer c.remote lt) ∙ knows)).1 in
-        let it = named_by_remote t.calls remote q c call same in
+        (same_name (accs n i).peer c.remote from remote fits rfits
+        (sym (known_name (accs n i).peer c.remote lt) ∙ knows ∙ known_name from remote pos)).1 in
+        let it = named_by_remote t.calls remote q c call same (λ zero. (let no : ⊥ = omega (arith, zero) in no)) in
         let waits = named_waits it.call (rw none it.there) in
         let zero : w.calls.remote (name n (session_named t.calls session remote)) ≡ 0 =
         (h.holds.calls.waits (name n (session_named t.calls session remote)) waits).1 in
         let that = (h.old.live i t h.there (session_named t.calls 0 remote) it.call it.there).remote in
-        let pos : 0 < remote = omega (arith, same) in
-        some (sym (known_name from remote pos) ∙ sym (rw (it.knows, h.peer) at that) ∙ (rw none at zero))
+        some (sym (rw (it.knows, h.peer) at that) ∙ (rw none at zero))
 
     -- no call that lives
     named_gone : (m q : ℕ) → m < 256 → q < 65536 → is_named w.calls X own (name_of n session) (name m q) ≡ true → w.calls.state (name m q) ≡ NoCall
@@ -273,30 +281,36 @@ module _ (w : World) (accs : Accounts) (n : ℕ) (e : End) (i : ℕ) (t : Tunnel
             (λ (gone : w.calls.state (name n q) ≡ NoCall). gone)
             (here_or_gone w accs n i h.id e h.old t h.there q qfits (rw here at tells.0)))
 
-  plain_by : (m : Message) → IsPlain e t session m → IsWritten m → slice_get (w.channels.sent s 0) k ≡ Some (spoken from n session m)
+  plain_by : (role : Role) (b : Account) (m : Message) → Says role b m → IsPlain e t session m → IsWritten m → slice_get (w.channels.sent s 0) k ≡ Some (spoken from n session m)
       → PlainTakes w X s (spoken from n session m)
-  plain_by (message.Sccrq o) why written stands = ignored w X s Sccrq (plain_sccrq (took_one w X) X s)
-  plain_by (message.Sccrp o) why written stands = ignored w X s Sccrp (plain_sccrp w X s (rw h.phase (no_wait_reply t.control.state why)))
-  plain_by message.Scccn why written stands = ignored w X s Scccn (plain_scccn w X s (rw h.phase (no_wait_connect t.control.state why)))
-  plain_by message.Hello why written stands = ignored w X s Hello (plain_hello (took_one w X) X s)
-  plain_by (message.Icrq remote serial calling) why written stands =
+  plain_by role b (message.Sccrq o) says why written stands = ignored w X s Sccrq (plain_sccrq (took_one w X) X s)
+  plain_by role b (message.Sccrp o) says why written stands = ignored w X s Sccrp (plain_sccrp w X s (rw h.phase (no_wait_reply t.control.state why)))
+  plain_by role b message.Scccn says why written stands = ignored w X s Scccn (plain_scccn w X s (rw h.phase (no_wait_connect t.control.state why)))
+  plain_by role b (message.StopCcn tunnel result error) says why written stands = absurd says
+  plain_by role b message.Hello says why written stands = ignored w X s Hello (plain_hello (took_one w X) X s)
+  plain_by role b (message.Ocrq remote) says why written stands = absurd says
+  plain_by role b message.Ocrp says why written stands = absurd says
+  plain_by role b message.Occn says why written stands = absurd says
+  plain_by role b message.Wen says why written stands = absurd says
+  plain_by role b message.Sli says why written stands = absurd says
+  plain_by role b (message.Icrq remote serial calling) says why written stands =
       ignored w X s (Request (name from remote)) (plain_request (took_one w X) X s (name from remote))
-  plain_by (message.Icrp remote) why written stands =
+  plain_by role b (message.Icrp remote) says why written stands =
       ignored w X s (Reply (name from remote) (name n session)) (⊎_elim
       (λ (three : state_number t.control.state ≡ 3). plain_reply w X s (name from remote) (name n session)
       (untested waits_reply refl (λ c call. no_first e.role c.state (h.old.roles i t h.there session c call) (why three c call))))
       (λ is. shut_reply w X s (name from remote) (name n session) (shut is))
       (open_or_not t.control.state))
-  plain_by (message.Iccn speed framing sequenced) why written stands =
+  plain_by role b (message.Iccn speed framing sequenced) says why written stands =
       ignored w X s (Connect (name n session)) (⊎_elim
       (λ (three : state_number t.control.state ≡ 3). plain_connect w X s (name n session)
       (untested waits_connect refl (λ c call. no_second e.role c.state (h.old.roles i t h.there session c call) (why three c call))))
       (λ is. shut_connect w X s (name n session) (shut is))
       (open_or_not t.control.state))
-  plain_by (message.Cdn remote code error) why written stands = ⊎_elim
-      (λ (three : state_number t.control.state ≡ 3). plain_cdn w X s (name from remote) (name_of n session) (opens three)
+  plain_by role b (message.Cdn remote code error) says why written stands = ⊎_elim
+      (λ (three : state_number t.control.state ≡ 3). plain_cdn w X s (name_of from remote) (name_of n session) (opens three)
       (named_gone remote code error written.0 three why stands))
-      (λ is. ignored w X s (Cdn (name from remote) (name_of n session)) (shut_cdn w X s (name from remote) (name_of n session) (shut is)))
+      (λ is. ignored w X s (Cdn (name_of from remote) (name_of n session)) (shut_cdn w X s (name_of from remote) (name_of n session) (shut is)))
       (open_or_not t.control.state)
 
 -- ---- the move
@@ -341,15 +355,17 @@ module _ (laws : Laws) (accs : Accounts) (ends : Ends) (w : World) (n : ℕ) (e 
   }
 
   takes_it : PlainTakes w Y S (spoken del.from.node n header letter.message)
-  takes_it = plain_by w accs n e m.tunnel t del.from.node S (length (accs n m.tunnel).taken) header comes letter.message
-      (h.moved.does.why letter.message letter.said) del.written del.stands
+  takes_it = plain_by w accs n e m.tunnel t del.from.node S (length (accs n m.tunnel).taken) header comes del.giver.role
+      (accs del.from.node del.from.tunnel) letter.message del.giver.says (h.moved.does.why letter.message letter.said) del.written del.stands
 
   abbrev v : World
   v = record (took_one w Y) { calls = takes_it.calls }
 
-  pub took_plain_follows : Follows (after accs d) (with_end ends n x)
+  pub took_plain_follows : Follows w n e x (move.TookPlain m) (after accs d) (with_end ends n x)
   took_plain_follows =
       no_call_follows accs ends w n e x sender moment ev (move.TookPlain m) d h v t u
+      (else_follow w v n e x (move.TookPlain m) tt takes_it.births (ap (λ (y : End). y.role) h.moved.does.after)
+      (ap (λ (y : End). y.session_ids) h.moved.does.after))
       (record {
         there = h.moved.does.there;
         put_is = ap (λ (y : End). y.tunnels) h.moved.does.after;

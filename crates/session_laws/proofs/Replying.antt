@@ -11,6 +11,7 @@ use Rattle.protocol_model.specs.declared.event.Event.{Event}
 use Rattle.protocol_model.specs.declared.moves.Replied.{Replied}
 use Rattle.protocol_model.specs.declared.moves.Move.TheVariants as move
 use Rattle.protocol_model.specs.declared.tunnel.Call.{Call}
+use Rattle.protocol_model.specs.Names.{node_of}
 use Rattle.protocol_model.specs.Calls.{call_row, asked_for}
 use Rattle.protocol_model.specs.Turn.{Tunnel, counts_taken}
 use Rattle.protocol_model.specs.End.{End}
@@ -25,13 +26,14 @@ use Rattle.epoch_machine.specs.Moves.{Delivers}
 use Rattle.connection_laws.specs.Facts.{Accounts}
 use Rattle.connection_laws.specs.Steps.{after}
 use Rattle.session_laws.specs.Names.{name, name_of, state_of}
-use Rattle.session_laws.specs.Joined.{Ends, CallJoined, CallsJoined, TunnelJoined}
+use Rattle.session_laws.specs.Joined.{Ends, ReplyJoined, CallJoined, CallsJoined, TunnelJoined}
+use Rattle.session_laws.proofs.Births.{RepliesTo, BirthsFollow}
 use Rattle.session_laws.proofs.Keeps.{with_end, Laws, IsMade, Follows}
-use Rattle.session_laws.proofs.Names.{other_name, name_some, known_name}
+use Rattle.session_laws.proofs.Names.{other_name, name_some, known_name, node_again}
 use Rattle.session_laws.proofs.Ground.{joined_before}
 use Rattle.session_laws.proofs.Heard.{Delivered, delivered, here_joined, open_phase}
 use Rattle.session_laws.proofs.Drawing.{draw_is, next_is}
-use Rattle.session_laws.proofs.CallRows.{asked_state, asked_remote, reply_row, fits_as}
+use Rattle.session_laws.proofs.CallRows.{asked_state, asked_remote, reply_row, reply_role, fits_as}
 use Rattle.session_laws.proofs.CallGround.{CallSame, OneCall, one_call_follows}
 use Rattle.session_laws.proofs.CallLaws.{world_holds, request_own}
 use Rattle.session_laws.proofs.CallFacts.{zero_undrawn}
@@ -63,6 +65,18 @@ reply_same w x z own k other = record {
   tunnel = rw (ne_eqb k z other) refl;
   remote = rw (ne_eqb k z other) refl;
   state = rw (ne_eqb k z other) refl;
+}
+
+reply_births : (w : World) (x z own : ℕ) → RepliesTo w (replied_to w x z own) z own
+unfolding gives replies
+reply_births w x z own = record {
+  count = refl;
+  here = rw (eq-eqb z z refl) refl;
+  birth = λ k other. rw (ne_eqb k z other) refl;
+  mate_here = rw (eq-eqb z z refl) refl;
+  mate = λ k other. rw (ne_eqb k z other) refl;
+  remote_here = rw (eq-eqb z z refl) refl;
+  remote = λ k other. rw (ne_eqb k z other) refl;
 }
 
 record NewReply (v : World) (x z own : ℕ) : Type 0 where
@@ -159,7 +173,35 @@ module _ (laws : Laws) (accs : Accounts) (ends : Ends) (w : World) (n : ℕ) (e 
             ∙ sym (ap₂ name_of del.node (asked_remote e.role m.remote moment));
       }
 
-  pub replied_follows : Follows (after accs d) (with_end ends n x)
+  -- the request came from the tunnel's peer
+  asks_there : node_of m.peer ≡ del.from.node
+  asks_there =
+      ap node_of (h.moved.does.peer ∙ (h.moved.within.end.live i t h.moved.does.there).peer)
+      ∙ node_again (accs n i).peer (h.moved.within.accounts n i).peer ∙ del.node
+
+  -- a call that isn't yet replies to none
+  no_mate : w.calls.mate Z ≡ 0
+  no_mate = ((world_holds laws.births w h.joined.moves h.joined.run).calls.nameless Z new).mate
+
+  reply_joined : ReplyJoined v n m
+  reply_joined = record { session = fits; some = known; mate = rw asks_there (reply_births w X Z own).mate_here }
+
+  births : BirthsFollow w v n e x (move.Replied m)
+  births = record {
+    go = (
+      reply_role e.role h.moved.does.row,
+      fits,
+      rw asks_there del.fits,
+      del.written.0,
+      rw asks_there (reply_births w X Z own),
+    );
+    role = role_is;
+    rises = rw next (let is = drawn.0 in omega arith);
+    mates = λ z had. (reply_births w X Z own).mate z (λ is. had (ap w.calls.mate is ∙ no_mate));
+    replies = λ r is. (let same : m ≡ r = cc in subst (λ q. ReplyJoined v n q) same reply_joined);
+  }
+
+  pub replied_follows : Follows w n e x (move.Replied m) (after accs d) (with_end ends n x)
   replied_follows =
       let is = account_is accs ends w n e x sender moment ev (move.Replied m) d h v t u h.moved.does.there in
       let one : OneCall w v n i (accs n i).peer e x t u s = record {
@@ -182,7 +224,7 @@ module _ (laws : Laws) (accs : Accounts) (ends : Ends) (w : World) (n : ℕ) (e 
         );
       } in
       let speaks = hears_and_says d n e.role sender (move.Replied m) m.taken (accs n i) (after accs d n i) h.moved.deed is in
-      one_call_follows accs ends w n e x sender moment ev (move.Replied m) d h v t u s
+      one_call_follows accs ends w n e x sender moment ev (move.Replied m) d h v t u s births
       (subst (λ p. OneCall w v n i p e x t u s) (sym speaks.moves.peer) one)
       (speaks_goes accs ends w n e x sender moment ev (move.Replied m) d h v t u h.moved.does.there
       (letters_of e.role (config_of n 0) (move.Replied m)) 1

@@ -23,6 +23,7 @@ use Rattle.connection_laws.specs.Facts.{Accounts}
 use Rattle.connection_laws.specs.Steps.{after}
 use Rattle.session_laws.specs.Names.{name, state_of}
 use Rattle.session_laws.specs.Joined.{Ends, TunnelJoined, CallJoined, FitsRole, CallsJoined}
+use Rattle.session_laws.proofs.Births.{BirthsSame, else_follow}
 use Rattle.session_laws.proofs.Keeps.{with_end, Laws, IsMade, Follows}
 use Rattle.session_laws.proofs.Names.{other_name}
 use Rattle.session_laws.proofs.Ground.{joined_before}
@@ -52,6 +53,10 @@ asked_other w x z q other = record {
   remote = refl;
   state = rw (ne_eqb q z other) refl;
 }
+
+asked_births : (w : World) (x z : ℕ) → BirthsSame w (asked w x z)
+unfolding gives is_asked_for
+asked_births w x z = record { count = refl; birth = λ k. refl; mate = λ k. refl; remote = λ k. refl }
 
 -- a call that was there, in its new state
 asked_here : (w : World) (x n i peer s : ℕ) (c b : Call) → CallJoined w n i peer s c → state_of b.state ≡ WaitsReply → b.remote ≡ c.remote
@@ -157,5 +162,6 @@ module _ (laws : Laws) (accs : Accounts) (ends : Ends) (w : World) (n : ℕ) (e 
         (joined, fits_role, λ first. (let three = h.moved.does.open_is in let no : ⊥ = omega (arith, first) in absurd no));
   }
 
-  pub requested_follows : Follows (after accs d) (with_end ends n x)
-  requested_follows = one_call_follows accs ends w n e x sender moment ev (move.Requested m) d h v t u s one goes
+  pub requested_follows : Follows w n e x (move.Requested m) (after accs d) (with_end ends n x)
+  requested_follows = one_call_follows accs ends w n e x sender moment ev (move.Requested m) d h v t u s
+      (else_follow w v n e x (move.Requested m) tt (asked_births w X Z) role sessions) one goes

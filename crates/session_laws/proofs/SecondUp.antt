@@ -21,6 +21,7 @@ use Rattle.connection_laws.specs.Facts.{Accounts}
 use Rattle.connection_laws.specs.Steps.{after}
 use Rattle.session_laws.specs.Names.{name, name_of, state_of}
 use Rattle.session_laws.specs.Joined.{Ends, CallJoined, CallsJoined, TunnelJoined}
+use Rattle.session_laws.proofs.Births.{BirthsSame, else_follow}
 use Rattle.session_laws.proofs.Keeps.{with_end, Laws, IsMade, Follows}
 use Rattle.session_laws.proofs.Names.{other_name}
 use Rattle.session_laws.proofs.Ground.{joined_before}
@@ -46,6 +47,10 @@ second_asks w z y k = refl
 second_same : (w : World) (x z k : ℕ) → (k ≡ z → ⊥) → CallSame w (second_up w x z) k
 unfolding is_second_up
 second_same w x z k other = record { drawn = refl; tunnel = refl; remote = refl; state = rw (ne_eqb k z other) refl }
+
+second_births : (w : World) (x z : ℕ) → BirthsSame w (second_up w x z)
+unfolding is_second_up
+second_births w x z = record { count = refl; birth = λ k. refl; mate = λ k. refl; remote = λ k. refl }
 
 record IsUp (w v : World) (z own : ℕ) : Type 0 where
   tunnel : v.calls.tunnel z ≡ w.calls.tunnel z
@@ -122,7 +127,7 @@ module _ (laws : Laws) (accs : Accounts) (ends : Ends) (w : World) (n : ℕ) (e 
         remote = it.remote ∙ before.remote ∙ sym (ap (λ r. name_of (accs n i).peer r) (advanced_remote e.role call_event.IccnAcc moment was));
       }
 
-  pub second_up_follows : Follows (after accs d) (with_end ends n x)
+  pub second_up_follows : Follows w n e x (move.SecondUp m) (after accs d) (with_end ends n x)
   second_up_follows =
       let is = account_is accs ends w n e x sender moment ev (move.SecondUp m) d h v t u h.moved.does.there in
       let one : OneCall w v n i (accs n i).peer e x t u s = record {
@@ -146,6 +151,7 @@ module _ (laws : Laws) (accs : Accounts) (ends : Ends) (w : World) (n : ℕ) (e 
       } in
       let speaks = hears_one d n e.role sender (move.SecondUp m) m.taken (accs n i) (after accs d n i) h.moved.deed is in
       one_call_follows accs ends w n e x sender moment ev (move.SecondUp m) d h v t u s
+      (else_follow w v n e x (move.SecondUp m) tt (second_births w X Z) role_is next)
       (subst (λ p. OneCall w v n i p e x t u s) (sym speaks.moves.peer) one)
       (speaks_goes accs ends w n e x sender moment ev (move.SecondUp m) d h v t u h.moved.does.there [] 1
       (calls_and_take w X (is_second_up w.calls Z) old.entered (second_asks w Z))

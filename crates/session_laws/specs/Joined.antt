@@ -1,5 +1,6 @@
 -- A world of nodes, and a world of the abstract machine in which their tunnels and calls have names.
 use Rattle.std.specs.Prelude.{◌≡◌, ℕ, ◌<◌, ◌≤◌, List, map, length, true, false, Option, Some, None, option_map}
+use Rattle.std.specs.List.{AllByRecursion}
 use Rattle.id_table.specs.Ids.{at}
 use Rattle.call_fsm.specs.declared.table.CallState.{CallState}
 use Rattle.call_fsm.specs.declared.table.CallState.TheVariants.{Idle, WaitTunnel, WaitReply, WaitConnect, Established}
@@ -7,15 +8,19 @@ use Rattle.tunnel_fsm.specs.Rows.{state_number}
 use Rattle.protocol_model.specs.declared.tunnel.Call.{Call}
 use Rattle.protocol_model.specs.declared.tunnel.Role.{Role}
 use Rattle.protocol_model.specs.declared.tunnel.Role.TheVariants.{Lac, Lns}
+use Rattle.protocol_model.specs.declared.moves.Replied.{Replied}
+use Rattle.protocol_model.specs.declared.moves.Move.TheVariants as move
+use Rattle.protocol_model.specs.Names.{node_of}
 use Rattle.protocol_model.specs.Turn.{Tunnel}
 use Rattle.protocol_model.specs.End.{End}
-use Rattle.protocol_model.specs.World.{Node}
+use Rattle.protocol_model.specs.World.{World, Node, Deed, birth_of}
 use Rattle.epoch_machine.specs.Worlds as machine
 use Rattle.epoch_machine.specs.Worlds.{all_rules}
 use Rattle.epoch_machine.specs.Moves.{Move, after}
 use Rattle.epoch_machine.specs.Calls.{NoCall}
 use Rattle.connection_laws.specs.Accounts.{Account}
 use Rattle.connection_laws.specs.Facts.{Accounts, IsMade}
+use Rattle.session_laws.specs.Roles.{FitEnds}
 use Rattle.session_laws.specs.Names.{name, name_of, other_name, letter_of, phase_in, state_of, is_made, is_opener}
 
 -- the ends of nodes, by their numbers
@@ -84,10 +89,12 @@ abbrev pub NodeJoined : machine.World → Accounts → ℕ → Option End → Ty
 NodeJoined w accs n None = (s : ℕ) → s < 65536 → (w.calls.state (name n s) ≡ NoCall) × (w.calls.drawn (name n s) ≡ false)
 NodeJoined w accs n (Some e) = CallsJoined w accs n e
 
--- the machine's world is one of its runs, and all tunnels and calls of the ends are joined with it
+-- the machine's world is one of its runs, and all tunnels and calls of the ends are joined with it; each tunnel says what its end's
+-- role allows
 pub record AreJoined (accs : Accounts) (ends : Ends) (w : machine.World) : Type 0 where
   pub tunnels : (n i : ℕ) → n < 256 → i < 65536 → TunnelJoined w n i (accs n i) (tunnel_in (ends n) i)
   pub nodes : (n : ℕ) → n < 256 → NodeJoined w accs n (ends n)
+  pub fit : FitEnds accs ends
   pub up : (n : ℕ) → w.tunnels.up n ≡ true
   pub moves : List Move
   pub run : w ≡ after all_rules moves
@@ -95,3 +102,36 @@ pub record AreJoined (accs : Accounts) (ends : Ends) (w : machine.World) : Type 
 -- the ends of a world's nodes
 abbrev pub ends_of : List (ℕ × Node) → Ends
 ends_of nodes n = option_map (λ (node : Node). node.end) (at nodes n)
+
+-- ---- births and mates
+
+-- a call of a LAC's asks, and replies to none; one of an LNS's replies to the call of the other end whose name it knows
+abbrev pub mate_of : Role → ℕ → ℕ
+mate_of Lac known = 0
+mate_of Lns known = known
+
+-- the mate of a node's session, which the machine keeps when the call is gone, as it keeps the name that the call knew
+abbrev pub MateJoined : machine.World → ℕ → ℕ → Option End → Type 0
+MateJoined w n s None = (w.calls.mate (name n s) ≡ 0) × (w.calls.remote (name n s) ≡ 0)
+MateJoined w n s (Some e) = w.calls.mate (name n s) ≡ mate_of e.role (w.calls.remote (name n s))
+
+-- births and mates of all sessions, whether their calls live or not: of one that was never born the birth is 0 on both sides
+pub record BirthsJoined (world : World) (ends : Ends) (w : machine.World) : Type 0 where
+  pub count : w.calls.births ≡ world.born
+  pub birth : (n s : ℕ) → n < 256 → s < 65536 → w.calls.birth (name n s) ≡ birth_of world n s
+  pub mate : (n s : ℕ) → n < 256 → s < 65536 → MateJoined w n s (ends n)
+
+-- a call that was made for a request has the call that the request names for its mate, whether it lives or not
+pub record ReplyJoined (w : machine.World) (n : ℕ) (m : Replied) : Type 0 where
+  pub session : m.session < 65536
+  pub some : 0 < m.remote
+  pub mate : w.calls.mate (name n m.session) ≡ name (node_of m.peer) m.remote
+
+-- so has each one that was made by what a run did
+abbrev pub RepliesJoined : machine.World → List Deed → Type 0
+RepliesJoined w ds = AllByRecursion (λ (d : Deed). (m : Replied) → d.move ≡ move.Replied m → ReplyJoined w d.node m) ds
+
+-- each live call has the mate that its end knows
+abbrev pub MatesJoined : Accounts → Ends → machine.World → Type 0
+MatesJoined accs ends w = (n : ℕ) → n < 256 → (e : End) → ends n ≡ Some e → (i : ℕ) (t : Tunnel) → at e.tunnels i ≡ Some t
+    → (s : ℕ) (c : Call) → at t.calls s ≡ Some c → w.calls.mate (name n s) ≡ mate_of e.role (name_of (accs n i).peer c.remote)

@@ -1,3 +1,4 @@
 pub mod Names
+pub mod Roles
 pub mod Joined
 pub mod Sessions

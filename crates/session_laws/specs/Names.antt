@@ -25,16 +25,23 @@ name_of n i = if i == 0 then 0 else name n i
 abbrev pub other_name : Account → ℕ
 other_name a = name_of a.peer a.remote
 
--- a letter of a tunnel from one node to another, by the session id of its header and what it says
+-- a letter of a tunnel from one node to another, by the session id of its header and what it says. A CDN that ends no call of its
+-- own end has no name for one. Messages that no end gives, and of which the machine knows nothing, say as little as a HELLO
 abbrev pub spoken : ℕ → ℕ → ℕ → Message → machine.Letter
 spoken n m header (message.Sccrq o) = machine.Sccrq
 spoken n m header (message.Sccrp o) = machine.Sccrp
 spoken n m header message.Scccn = machine.Scccn
+spoken n m header (message.StopCcn tunnel result error) = machine.StopCcn
 spoken n m header message.Hello = machine.Hello
+spoken n m header (message.Ocrq session) = machine.Hello
+spoken n m header message.Ocrp = machine.Hello
+spoken n m header message.Occn = machine.Hello
+spoken n m header message.Wen = machine.Hello
+spoken n m header message.Sli = machine.Hello
 spoken n m header (message.Icrq session serial calling) = machine.Request (name n session)
 spoken n m header (message.Icrp session) = machine.Reply (name n session) (name m header)
 spoken n m header (message.Iccn speed framing sequenced) = machine.Connect (name m header)
-spoken n m header (message.Cdn session code error) = machine.Cdn (name n session) (name_of m header)
+spoken n m header (message.Cdn session result error) = machine.Cdn (name_of n session) (name_of m header)
 
 abbrev pub letter_of : ℕ → ℕ → step.Letter → machine.Letter
 letter_of n m l = spoken n m l.session l.message

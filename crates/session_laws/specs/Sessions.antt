@@ -12,7 +12,7 @@ use Rattle.protocol_model.specs.Run.{Run, run, partner_of, agree, session_count}
 use Rattle.protocol_model.specs.Names.{node_of}
 use Rattle.epoch_machine.specs.Worlds as machine
 use Rattle.connection_laws.specs.Accounts.{account_of}
-use Rattle.session_laws.specs.Joined.{AreJoined, ends_of}
+use Rattle.session_laws.specs.Joined.{AreJoined, BirthsJoined, RepliesJoined, MatesJoined, ends_of}
 
 -- a tunnel has an established call of this session, which the other end knows by that one
 pub record HoldsSession (t : Tunnel) (session remote : ℕ) : Type 0 where
@@ -46,6 +46,9 @@ SessionsAgree r = (n i : ℕ) (t u : Tunnel) → AgreeIn r.world n i t u → Hol
 pub record IsJoined (r : Run) : Type 0 where
   pub machine : machine.World
   pub joined : AreJoined (account_of r.done) (ends_of r.world.nodes) machine
+  pub births : BirthsJoined r.world (ends_of r.world.nodes) machine
+  pub replies : RepliesJoined machine r.done
+  pub mates : MatesJoined (account_of r.done) (ends_of r.world.nodes) machine
 
 -- after the run of each list of lines of the grammar
 abbrev pub JoinedInRuns : Type 0

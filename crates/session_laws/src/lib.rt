@@ -3,9 +3,8 @@
 #![tactic(auto)]
 
 ghost use Rattle.birth_laws.specs.Births as births;
-ghost use Rattle.connection_laws.specs.Steps.{LinesGoOn, MovesKeep, NextIsHeard, PlainIsHeard, RunsBegin};
+ghost use Rattle.connection_laws.specs.Steps.{LettersAreHeard, LinesGoOn, MovesKeep, NextIsHeard, NoneIsFaulty, PlainIsHeard, RunsBegin};
 ghost use Rattle.coverage_laws.specs.Coverage as coverage;
-ghost use Rattle.frame_laws.specs.Facts.{FactsOfRuns};
 ghost use Rattle.session_laws.specs.Sessions.{JoinedInRuns, SessionsOfRuns};
 
 /// The laws that are used.
@@ -13,21 +12,22 @@ fn laws_below()
     ensures moves { MovesKeep }
     ensures heard { NextIsHeard }
     ensures plain { PlainIsHeard }
+    ensures letters { LettersAreHeard }
+    ensures sound { NoneIsFaulty }
     ensures lines { LinesGoOn }
     ensures begins { RunsBegin }
-    ensures facts { FactsOfRuns }
     ensures births { births.BirthsOfRuns }
     ensures coverage { coverage.CoverageOfRuns }
 {
     connection_laws::steps_keep();
-    frame_laws::facts_hold();
     birth_laws::each_birth_has_one_mate();
     coverage_laws::pairs_are_covered();
 }
 
 /// After every list of fewer than 2^47 lines of the grammar, the ends of the nodes are joined with a run of the abstract
 /// machine: each tunnel and each call has its name there, with its phase or state, the other end that it has learned, the
-/// letters given and how many were taken.
+/// letters given and how many were taken; and a tunnel says only what the role of its end allows. Each session has its birth
+/// there, and the mate that its node knows, whether its call lives or not, and as many births are counted.
 pub fn runs_are_joined()
     ensures { JoinedInRuns }
 {

@@ -1,5 +1,6 @@
 use Rattle.connection_laws.proofs.Moves.{moves_keep}
 use Rattle.connection_laws.proofs.Said.{next_is_heard, plain_is_heard}
+use Rattle.connection_laws.proofs.AnyHeard.{letters_are_heard, none_is_faulty}
 use Rattle.connection_laws.proofs.Runs.{begins}
 use Rattle.connection_laws.proofs.Laws.{lines_of_runs}
 use Rattle.connection_laws.proofs.steps_keep.Goals as goal
@@ -12,6 +13,12 @@ returns-clause-heard c = next_is_heard c.laws_below.ensures.codecs c.laws_below.
 
 pub returns-clause-plain : goal.returns-clause-plain
 returns-clause-plain c = plain_is_heard c.laws_below.ensures.codecs c.laws_below.ensures.classes
+
+pub returns-clause-letters : goal.returns-clause-letters
+returns-clause-letters c = letters_are_heard c.laws_below.ensures.codecs
+
+pub returns-clause-sound : goal.returns-clause-sound
+returns-clause-sound c = none_is_faulty c.laws_below.ensures.codecs
 
 pub returns-clause-lines : goal.returns-clause-lines
 returns-clause-lines c = lines_of_runs c.laws_below.ensures.codecs c.laws_below.ensures.chains c.laws_below.ensures.reads c.laws_below.ensures.classes

@@ -6,5 +6,12 @@ use Rattle.session_laws.proofs.ends_that_agree_hold_the_same.Goals as goal
 pub returns : goal.returns
 returns c =
     let below = c.laws_below.ensures in
-    let laws : Laws = record { heard = below.heard; plain = below.plain; births = below.births; coverage = below.coverage } in
-    sessions_of_runs laws below.facts below.moves (moves_follow laws) below.lines below.begins
+    let laws : Laws = record {
+      heard = below.heard;
+      plain = below.plain;
+      letters = below.letters;
+      sound = below.sound;
+      births = below.births;
+      coverage = below.coverage;
+    } in
+    sessions_of_runs laws below.moves (moves_follow laws) below.lines below.begins
