@@ -12,7 +12,7 @@ use Rattle.frame_laws.specs.Reports.{ups_in, told_of}
 use Rattle.frame_laws.specs.Births.{AreApart}
 use Rattle.connection_laws.specs.Channels.{LettersAreCarried, AcksAreTrue, NumbersAreRead}
 use Rattle.request_laws.specs.Requests.{AreAskedOnce, AreMadeOnce, AreBornOnce}
-use Rattle.room_laws.specs.Room.{HoldFew, HoldSix}
+use Rattle.cause_laws.specs.Causes.{AllHaveRoom, NoneIsLeft, TellTrulyThroughout}
 use Rattle.session_laws.specs.Sessions.{SessionsAgree}
 
 -- the frames of a run
@@ -49,19 +49,24 @@ pub record ChannelsOf (lines : List Line) : Type 0 where
   -- a node asks for each of its calls once, and for each request one call is made
   pub asked : AreAskedOnce (run lines).done
   pub made : AreMadeOnce (run lines).done
-  -- a tunnel holds at most three letters, and three for each session id that its node has drawn
-  pub few : HoldFew (run lines).world
+  -- there is room for each letter that a tunnel has to give: those that it holds and those that its calls owe are fewer than 8,192
+  pub room : AllHaveRoom (run lines).world
+  -- no call is left in an open tunnel that isn't asked for, nor after a tick one that took too long to be set up
+  pub none_left : NoneIsLeft lines
 
--- in the run of a text no tunnel holds more than six letters, where 8,192 have room
 abbrev pub ChannelsOfTexts : Type 0
-ChannelsOfTexts = (text : List ℕ) (lines : List Line) → limit_passed text ≡ None → lines_of text ≡ Ok lines
-    → ChannelsOf lines × HoldSix (run lines).world
+ChannelsOfTexts = (text : List ℕ) (lines : List Line) → limit_passed text ≡ None → lines_of text ≡ Ok lines → ChannelsOf lines
+
+-- each cause that the report tells stands in the world before its line, and nothing is refused for want of room but a message of a
+-- tunnel that holds too many letters
+abbrev pub CausesOfTexts : Type 0
+CausesOfTexts = (text : List ℕ) (lines : List Line) → limit_passed text ≡ None → lines_of text ≡ Ok lines → TellTrulyThroughout lines
 
 -- ends that agree hold the same established sessions
 abbrev pub SessionsOfTexts : Type 0
 SessionsOfTexts = (text : List ℕ) (lines : List Line) → limit_passed text ≡ None → lines_of text ≡ Ok lines → SessionsAgree (run lines)
 
--- the frames of the run of each list of lines of the grammar, without the rules on single lines
+-- the frames of the run of each list of lines of the grammar
 abbrev pub FramesOfLines : Type 0
 FramesOfLines = (lines : List Line) → AreLines lines → FramesOf lines
 

@@ -24,14 +24,13 @@ A schedule is a list of lines, with one space between words:
   ring N K          a subscriber calls at port K of node N, a LAC
   data N S HEX      the subscriber of call S of node N, a LAC, sends a PPP frame
   down N S HEX      the network sends a PPP frame down call S of node N, an LNS
+  hang N S          the subscriber of call S of node N, a LAC, leaves
+  drop N S          an operator closes call S of node N
   deliver P         packet P of the report reaches the node that it was sent to
   tick N MS         the clock of node N goes on by MS milliseconds, and what is due is done
 N and M are 1 to 255, K and S 1 to 65535, P is 1 to 4294967295, MS 0 to 86400000, without leading zeros. HEX is a frame
 from its protocol field on, 2 to 1494 bytes as hex digits in lower case. A schedule has at most 1048576 lines and
-67108864 bytes.
-
-Not yet: a schedule has at most one lns, one lac, one open and one ring line, and the lac line names an LNS of an
-earlier line. Another one is a bad line.
+67108864 bytes. M of a lac line may be declared later, or never: then what is sent to it can't be delivered.
 
 A line that doesn't fit ends the run, which says why:
   node     that node isn't declared, or is of the other kind

@@ -41,23 +41,23 @@ returns-clause-channels_of_lines g c = λ lines fits few. record {
   numbers = c.numbers_are_read.ensures lines fits few;
   asked = c.calls_are_asked_for_once.ensures lines fits;
   made = c.requests_are_taken_once.ensures lines fits few;
-  few = c.tunnels_hold_few_letters.ensures lines fits;
+  room = c.tunnels_have_room.ensures lines fits few;
+  none_left = c.no_call_is_left.ensures lines fits few;
 }
 
 pub returns-clause-channels : goal.returns-clause-channels
 returns-clause-channels g c = λ text lines within h.
     let is = c.lines_are_a_schedule.ensures text lines h in
-    let few = few_lines text lines within is in (
-      record {
-        letters = c.letters_are_carried.ensures lines is.fits few;
-        acks = c.acks_are_true.ensures lines is.fits few;
-        numbers = c.numbers_are_read.ensures lines is.fits few;
-        asked = c.calls_are_asked_for_once.ensures lines is.fits;
-        made = c.requests_are_taken_once.ensures lines is.fits few;
-        few = c.tunnels_hold_few_letters.ensures lines is.fits;
-      },
-      c.texts_fill_no_tunnel.ensures lines is.fits is.orderly few,
-    )
+    let few = few_lines text lines within is in
+    record {
+      letters = c.letters_are_carried.ensures lines is.fits few;
+      acks = c.acks_are_true.ensures lines is.fits few;
+      numbers = c.numbers_are_read.ensures lines is.fits few;
+      asked = c.calls_are_asked_for_once.ensures lines is.fits;
+      made = c.requests_are_taken_once.ensures lines is.fits few;
+      room = c.tunnels_have_room.ensures lines is.fits few;
+      none_left = c.no_call_is_left.ensures lines is.fits few;
+    }
 
 pub returns-clause-sessions_of_lines : goal.returns-clause-sessions_of_lines
 returns-clause-sessions_of_lines g c = c.ends_that_agree_hold_the_same.ensures
@@ -66,3 +66,11 @@ pub returns-clause-sessions : goal.returns-clause-sessions
 returns-clause-sessions g c = λ text lines within h.
     let is = c.lines_are_a_schedule.ensures text lines h in
     c.ends_that_agree_hold_the_same.ensures lines is.fits (few_lines text lines within is)
+
+pub returns-clause-causes_of_lines : goal.returns-clause-causes_of_lines
+returns-clause-causes_of_lines g c = c.reports_tell_true_causes.ensures
+
+pub returns-clause-causes : goal.returns-clause-causes
+returns-clause-causes g c = λ text lines within h.
+    let is = c.lines_are_a_schedule.ensures text lines h in
+    c.reports_tell_true_causes.ensures lines is.fits (few_lines text lines within is)

@@ -1,0 +1,4 @@
+pub mod Lines
+pub mod Runs
+mod Seen
+mod Left

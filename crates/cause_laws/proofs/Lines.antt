@@ -1,0 +1,190 @@
+-- What a line makes is of a step of one node, which the line brings.
+use Rattle.std.proofs.Common.{◌≡◌, inl, inr, ℕ, ◌+◌, ◌-◌, ◌^◌, Bool, true, false, cond, List, [], ◌∷◌, refl, ap, subst, Option, Some, None, Result, Ok, Err}
+use Rattle.std.specs.Prelude.{is_some, min, slice_get}
+use Rattle.std.specs.List.{AllByRecursion}
+use Rattle.id_table.specs.Ids.{at}
+use Rattle.wire_base.specs.declared.why.Why.{Why}
+use Rattle.wire_base.specs.declared.why.Why.TheVariants as why
+use Rattle.schedule_text.specs.declared.line.Line.{Line}
+use Rattle.schedule_text.specs.declared.line.Line.TheVariants.{Remark, Lac, Lns, OpenUp, Ring, FromSub, Down, Hang, DropCall, Deliver, Tick}
+use Rattle.protocol_model.specs.declared.event.Event.{Event}
+use Rattle.protocol_model.specs.declared.event.Event.TheVariants as event
+use Rattle.protocol_model.specs.declared.out.Out.{Out}
+use Rattle.protocol_model.specs.declared.out.Out.TheVariants.{Send, Up, Gone, Drop, Cause}
+use Rattle.protocol_model.specs.declared.packet.Packet.{Packet}
+use Rattle.protocol_model.specs.declared.refusal.Refusal.{Refusal}
+use Rattle.protocol_model.specs.declared.refusal.Refusal.TheVariants.{Unfit}
+use Rattle.protocol_model.specs.declared.tunnel.Role.{Role}
+use Rattle.protocol_model.specs.declared.tunnel.Role.TheVariants as role
+use Rattle.protocol_model.specs.Names.{address_of}
+use Rattle.protocol_model.specs.Calls.{is_lac}
+use Rattle.protocol_model.specs.End.{new_end, step}
+use Rattle.protocol_model.specs.World.{World, Node, Sender, Lined, quiet_line, with_node, after_step, given, entries_of, entry_of, shown, moved_all, sent, declared, lac_at, lns_at, with_call, later, config_of, added, block_of, stepped, addressee_of, arrival, refused_by, sender_of, arrives, delivers_it, delivers, line}
+use Rattle.step_laws.specs.Letters.{Among}
+use Rattle.step_laws.specs.Steps.{AreKept}
+use Rattle.step_laws.specs.Room.{StepsRefuseTruly}
+use Rattle.step_laws.specs.Causes.{CausesStand}
+use Rattle.cause_laws.specs.Causes.{Brings, moment_of, CauseIsTrue, IsFullAt, IsTrue, TellsTruly}
+
+-- ---- the outputs of a step, and the entries that they make
+
+-- what an output says in a line
+abbrev OutIsTrue : World → Line → ℕ → Out → Type 0
+OutIsTrue w l n (Cause c) = CauseIsTrue w l n c
+OutIsTrue w l n (Drop x) = x ≡ why.Queue → IsFullAt w l n
+OutIsTrue w l n (Send peer bytes origin) = Unit {0}
+OutIsTrue w l n (Up session side frame) = Unit {0}
+OutIsTrue w l n (Gone session) = Unit {0}
+
+entry_true : (w v : World) (l : Line) (number n : ℕ) (o : Out) → OutIsTrue w l n o → IsTrue w l (entry_of number n v o)
+unfolding entry_of
+entry_true w v l number n (Cause c) h = h
+entry_true w v l number n (Drop x) h = h
+entry_true w v l number n (Send peer bytes origin) h = tt
+entry_true w v l number n (Up session side frame) h = tt
+entry_true w v l number n (Gone session) h = tt
+
+entries_true : (w v : World) (l : Line) (number n : ℕ) (os : List Out) → ((o : Out) → Among o os → OutIsTrue w l n o)
+    → AllByRecursion (IsTrue w l) (entries_of number n os v)
+unfolding entries_of
+entries_true w v l number n [] h = tt
+entries_true w v l number n (o ∷ os) h =
+    (entry_true w v l number n o (h o (inl refl)), entries_true w (shown n v o) l number n os (λ q a. h q (inr a)))
+
+-- ---- which node it is
+
+tested : {X Y : Type 0} (a : Bool) (x : X) (y : Y) (z : X) → cond a (Ok x) (Err y) ≡ Ok z → x ≡ z
+tested true x y z h = cc
+tested false x y z h = absurd (cc)
+
+tested_not : {X Y : Type 0} (a : Bool) (x : X) (y : Y) (z : X) → cond a (Err y) (Ok x) ≡ Ok z → x ≡ z
+tested_not true x y z h = absurd (cc)
+tested_not false x y z h = cc
+
+is_lac_at : (o : Option Node) (node : Node) → lac_at o ≡ Ok node → o ≡ Some node
+is_lac_at None node h = absurd (cc)
+is_lac_at (Some x) node h = ap (λ y. Some y) (tested (is_lac x.end.role) x why.Node node h)
+
+is_lns_at : (o : Option Node) (node : Node) → lns_at o ≡ Ok node → o ≡ Some node
+is_lns_at None node h = absurd (cc)
+is_lns_at (Some x) node h = ap (λ y. Some y) (tested_not (is_lac x.end.role) x why.Node node h)
+
+is_declared : (o : Option Node) (node : Node) → declared o ≡ Ok node → o ≡ Some node
+is_declared None node h = absurd (cc)
+is_declared (Some x) node h = cc
+
+has_call : (session : ℕ) (r : Result Node Why) (node : Node) → with_call session r ≡ Ok node → r ≡ Ok node
+has_call session (Err x) node h = absurd (cc)
+has_call session (Ok x) node h = ap (λ y. Ok y) (tested (is_some (at x.end.calls session)) x why.Call node h)
+
+-- ---- a line
+
+-- the ends of a world are kept
+abbrev pub EndsAreKept : World → Type 0
+EndsAreKept w = (n : ℕ) (node : Node) → at w.nodes n ≡ Some node → AreKept node.end
+
+module _ (causes : CausesStand) (room : StepsRefuseTruly) (w : World) (kept : EndsAreKept w) (number : ℕ) (l : Line) (x : Lined) where
+  abbrev Told : Type 0
+  Told = AllByRecursion (IsTrue w l) x.entries
+
+  -- a step that the line brings, of a node at the moment of the line
+  of_step : (n : ℕ) (old node : Node) (ev : Event) (sender : Option Sender) → at w.nodes n ≡ Some old → node.end ≡ old.end
+      → node.clock ≡ moment_of l old → Brings w l n ev
+      → after_step w number n node sender (step node.end node.clock (block_of n number) ev) ≡ x → Told
+  unfolding after_step given
+  of_step n old node ev sender was same clock brings is =
+      let s = step node.end node.clock (block_of n number) ev in
+      let alike : s ≡ step old.end (moment_of l old) (block_of n number) ev = rw (same, clock) refl in
+      let v = moved_all n s.moves (with_node w n (record node { end = s.end })) in
+      subst (λ (q : Lined). AllByRecursion (IsTrue w l) q.entries) is (entries_true w v l number n s.outputs (λ o a.
+      by o (subst (λ q. Among o q.outputs) alike a)))
+    where
+      by : (o : Out) → Among o (step old.end (moment_of l old) (block_of n number) ev).outputs → OutIsTrue w l n o
+      by (Cause c) a = record {
+        node = old;
+        is = was;
+        event = ev;
+        brings = brings;
+        stands = causes old.end (kept n old was) (moment_of l old) (block_of n number) ev c a;
+      }
+      by (Drop x) a = λ queue. record {
+        node = old;
+        is = was;
+        event = ev;
+        brings = brings;
+        full = room old.end (kept n old was) (moment_of l old) (block_of n number) ev (subst (λ q. Among (Drop q) (step old.end (moment_of l old) (block_of n number) ev).outputs) queue a);
+      }
+      by (Send peer bytes origin) a = tt
+      by (Up session side frame) a = tt
+      by (Gone session) a = tt
+
+  -- a step of a node that is there
+  stepped_true : (n : ℕ) (ev : Event) (sender : Option Sender) (o : Result Node Why) → ((node : Node) → o ≡ Ok node → at w.nodes n ≡ Some node)
+      → ((node : Node) → node.clock ≡ moment_of l node) → Brings w l n ev → stepped w number n ev sender o ≡ Ok x → Told
+  unfolding stepped
+  stepped_true n ev sender (Err y) there clock brings h = absurd (cc)
+  stepped_true n ev sender (Ok node) there clock brings h =
+      let is : after_step w number n node sender (step node.end node.clock (block_of n number) ev) ≡ x = cc in
+      of_step n node node ev sender (there node refl) refl (clock node) brings is
+
+  quiet_true : (v : World) → quiet_line v ≡ x → Told
+  quiet_true v is = subst (λ (q : Lined). AllByRecursion (IsTrue w l) q.entries) is tt
+
+  added_true : (n : ℕ) (r : Role) (lns : ℕ) → added w n r lns ≡ Ok x → Told
+  unfolding added
+  added_true n r lns h =
+      let v = with_node w n (record { end = new_end r (config_of n lns); clock = 0; births = [] }) in
+      quiet_true v (tested_not (is_some (at w.nodes n)) (quiet_line v) (Unfit why.Twice) x h)
+
+-- of each kind
+pub line_true : CausesStand → StepsRefuseTruly → (w : World) → EndsAreKept w → (number : ℕ) (l : Line) → TellsTruly w number l
+unfolding line arrives delivers delivers_it arrival addressee_of stepped
+line_true causes room w kept number (Remark text) x h =
+    let is : quiet_line w ≡ x = cc in quiet_true causes room w kept number (Remark text) x w is
+line_true causes room w kept number (Lac n m) x h = added_true causes room w kept number (Lac n m) x n role.Lac (address_of m) h
+line_true causes room w kept number (Lns n) x h = added_true causes room w kept number (Lns n) x n role.Lns 0 h
+line_true causes room w kept number (OpenUp n) x h =
+    stepped_true causes room w kept number (OpenUp n) x n event.OpenTunnel None (lac_at (at w.nodes n)) (λ node e. is_lac_at (at w.nodes n) node e)
+    (λ node. refl) (refl, refl) h
+line_true causes room w kept number (Ring n port) x h =
+    stepped_true causes room w kept number (Ring n port) x n (event.Ring port) None (lac_at (at w.nodes n))
+    (λ node e. is_lac_at (at w.nodes n) node e) (λ node. refl) (refl, refl) h
+line_true causes room w kept number (FromSub n session frame) x h =
+    stepped_true causes room w kept number (FromSub n session frame) x n (event.Payload session frame) None (with_call session (lac_at (at w.nodes n)))
+    (λ node e. is_lac_at (at w.nodes n) node (has_call session (lac_at (at w.nodes n)) node e)) (λ node. refl) (refl, refl) h
+line_true causes room w kept number (Down n session frame) x h =
+    stepped_true causes room w kept number (Down n session frame) x n (event.Lower session frame) None (with_call session (lns_at (at w.nodes n)))
+    (λ node e. is_lns_at (at w.nodes n) node (has_call session (lns_at (at w.nodes n)) node e)) (λ node. refl) (refl, refl) h
+line_true causes room w kept number (Hang n session) x h =
+    stepped_true causes room w kept number (Hang n session) x n (event.Hang session) None (with_call session (lac_at (at w.nodes n)))
+    (λ node e. is_lac_at (at w.nodes n) node (has_call session (lac_at (at w.nodes n)) node e)) (λ node. refl) (refl, refl) h
+line_true causes room w kept number (DropCall n session) x h =
+    stepped_true causes room w kept number (DropCall n session) x n (event.DropCall session) None (with_call session (declared (at w.nodes n)))
+    (λ node e. is_declared (at w.nodes n) node (has_call session (declared (at w.nodes n)) node e)) (λ node. refl) (refl, refl) h
+line_true causes room w kept number (Deliver k) x h = delivered (slice_get w.packets (k - 1)) refl h
+  where
+    arrived : (p : Packet) → slice_get w.packets (k - 1) ≡ Some p → (node : Node) → at w.nodes p.to ≡ Some node → (o : Option Refusal)
+        → arrives w number p node o ≡ Ok x → AllByRecursion (IsTrue w (Deliver k)) x.entries
+    arrived p sent node there (Some f) e = absurd (cc)
+    arrived p sent node there None e =
+        stepped_true causes room w kept number (Deliver k) x p.to (event.Datagram (address_of p.from) p.bytes) (sender_of p.from p.origin) (Ok node)
+        (λ q same. (let is : node ≡ q = cc in rw (← is) there)) (λ q. refl) (p, sent, refl, refl) e
+
+    addressed : (p : Packet) → slice_get w.packets (k - 1) ≡ Some p → (o : Option Node) → at w.nodes p.to ≡ o
+        → delivers_it w number (addressee_of p o) ≡ Ok x → AllByRecursion (IsTrue w (Deliver k)) x.entries
+    addressed p sent None is e = absurd (cc)
+    addressed p sent (Some node) is e = arrived p sent node is (refused_by p node p.origin) e
+
+    delivered : (o : Option Packet) → slice_get w.packets (k - 1) ≡ o → delivers w number o ≡ Ok x
+        → AllByRecursion (IsTrue w (Deliver k)) x.entries
+    delivered None sent e = absurd (cc)
+    delivered (Some p) sent e = addressed p sent (at w.nodes p.to) refl e
+line_true causes room w kept number (Tick n milliseconds) x h = ticked (at w.nodes n) refl h
+  where
+    ticked : (o : Option Node) → at w.nodes n ≡ o → stepped w number n event.Tick None (later milliseconds (declared o)) ≡ Ok x
+        → AllByRecursion (IsTrue w (Tick n milliseconds)) x.entries
+    ticked None is e = absurd (cc)
+    ticked (Some old) is e =
+        let node = record old { clock = min (old.clock + milliseconds) (2 ^ 64 - 1) } in
+        let same : after_step w number n node None (step node.end node.clock (block_of n number) event.Tick) ≡ x = cc in
+        of_step causes room w kept number (Tick n milliseconds) x n old node event.Tick None is refl refl (refl, refl) same

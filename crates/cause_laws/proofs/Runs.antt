@@ -1,0 +1,36 @@
+-- So it is at each line of each run.
+use Rattle.std.proofs.Common.{◌≡◌, ◌+◌, ◌^◌, ◌<◌, List, [], ◌∷◌, ◌++◌, length, ap, ◌∙◌, subst, Some, arith}
+use Rattle.std.proofs.lemmas.List.{length-append}
+use Rattle.std.specs.List.{AllByRecursion}
+use Rattle.schedule_text.specs.declared.line.Line.{Line}
+use Rattle.schedule_text.specs.Grammar.{FitsLine, AreLines}
+use Rattle.protocol_model.specs.Run.{run}
+use Rattle.step_laws.specs.Room.{StepsRefuseTruly}
+use Rattle.step_laws.specs.Causes.{CausesStand}
+use Rattle.connection_laws.specs.Facts.{NodeOk}
+use Rattle.connection_laws.specs.Accounts.{account_of}
+use Rattle.connection_laws.specs.Channels.{HoldsInRuns}
+use Rattle.cause_laws.specs.Causes.{CausesOfRuns, RoomInRuns}
+use Rattle.cause_laws.proofs.Lines.{EndsAreKept, line_true}
+
+pub all_left : {X : Type 0} (P : X → Type 0) (xs ys : List X) → AllByRecursion P (xs ++ ys) → AllByRecursion P xs
+all_left P [] ys h = tt
+all_left P (x ∷ xs) ys h = (h.0, all_left P xs ys h.1)
+
+module _ (connections : HoldsInRuns) where
+  kept : (lines : List Line) → AreLines lines → length lines < 2 ^ 47 → EndsAreKept (run lines).world
+  kept lines fits few n node is =
+      let h = connections lines fits few in
+      let both : NodeOk (account_of (run lines).done) n (Some node) = subst (NodeOk (account_of (run lines).done) n) is (h.nodes n) in
+      both.1
+
+  pub room_in_runs : RoomInRuns
+  room_in_runs lines fits few n node is i t there =
+      let k = (kept lines fits few n node is).tunnels i t there in record { letters = rw k.letters k.few; calls = k.calls_few }
+
+  pub causes_of_runs : CausesStand → StepsRefuseTruly → CausesOfRuns
+  causes_of_runs causes room lines fits few before after l split =
+      let whole : AreLines (before ++ l ∷ after) = subst AreLines split fits in
+      let count : length lines ≡ length before + length (l ∷ after) = ap length split ∙ length-append before (l ∷ after) in
+      line_true causes room (run before).world
+      (kept before (all_left FitsLine before (l ∷ after) whole) (omega (arith, count))) (length before + 1) l

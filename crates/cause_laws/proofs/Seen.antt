@@ -1,0 +1,77 @@
+-- What a step leaves of the nodes of a world, whatever births they have.
+use Rattle.std.proofs.Common.{◌≡◌, ⊎_elim, ℕ, List, [], ◌∷◌, refl, ap, ◌∙◌, Option, Some, None}
+use Rattle.std.specs.Prelude.{option_map}
+use Rattle.id_table.specs.Ids.{at, put}
+use Rattle.id_table.specs.Order.{at_new, at_other, same_or_not}
+use Rattle.protocol_model.specs.declared.moves.Move.{Move}
+use Rattle.protocol_model.specs.declared.moves.Move.TheVariants as move
+use Rattle.protocol_model.specs.End.{Stepped}
+use Rattle.protocol_model.specs.World.{World, Node, Sender, with_node, with_birth_at, with_birth, is_born, moved, moved_all, given, after_step}
+use Rattle.frame_laws.proofs.Worlds.{shown_nodes}
+
+module _ {X : Type 0} (see : Node → X) (still : (node : Node) (births : List (ℕ × ℕ)) → see (record node { births = births }) ≡ see node) where
+  abbrev seen_at : World → ℕ → Option X
+  seen_at w k = option_map see (at w.nodes k)
+
+  abbrev Same : World → World → Type 0
+  Same w v = (k : ℕ) → seen_at v k ≡ seen_at w k
+
+  with_same : (w : World) (n : ℕ) (old new : Node) → at w.nodes n ≡ Some old → see new ≡ see old → Same w (with_node w n new)
+  with_same w n old new was same k = ⊎_elim
+      (λ (e : k ≡ n). rw (e, at_new w.nodes n new, was) (ap (λ x. Some x) same))
+      (λ o. ap (λ x. option_map see x) (at_other w.nodes n new k o))
+      (same_or_not k n)
+
+  birth_same : (w : World) (n session birth : ℕ) → Same w (with_birth w n session birth)
+  unfolding with_birth
+  birth_same w n session birth = by (at w.nodes n) refl
+    where
+      by : (o : Option Node) → at w.nodes n ≡ o → Same w (with_birth_at w n session birth o)
+      by None is = λ k. refl
+      by (Some node) is =
+          let births = put node.births session birth in
+          with_same w n node (record node { births = births }) is (still node births)
+
+  born_same : (w : World) (n session : ℕ) → Same w (is_born w n session)
+  unfolding is_born
+  born_same w n session = birth_same (record w { born = _ }) n session _
+
+  move_same : (n : ℕ) (w : World) (m : Move) → Same w (moved n w m)
+  unfolding moved
+  move_same n w (move.Added m) = born_same w n m.session
+  move_same n w (move.Replied m) = birth_same w n m.session _
+  move_same n w (move.Opened m) = λ k. refl
+  move_same n w (move.Accepted m) = λ k. refl
+  move_same n w (move.Connected m) = λ k. refl
+  move_same n w (move.Confirmed m) = λ k. refl
+  move_same n w (move.Requested m) = λ k. refl
+  move_same n w (move.FirstUp m) = λ k. refl
+  move_same n w (move.SecondUp m) = λ k. refl
+  move_same n w (move.Refused m) = λ k. refl
+  move_same n w (move.EndTold m) = λ k. refl
+  move_same n w (move.EndHeard m) = λ k. refl
+  move_same n w (move.EndSilent m) = λ k. refl
+  move_same n w (move.Cleared i) = λ k. refl
+  move_same n w (move.Greeted m) = λ k. refl
+  move_same n w (move.TookPlain m) = λ k. refl
+  move_same n w (move.NrRead m) = λ k. refl
+  move_same n w (move.LetGo m) = λ k. refl
+  move_same n w (move.Repeated m) = λ k. refl
+  move_same n w (move.Quiet i) = λ k. refl
+  move_same n w (move.FrameSent m) = λ k. refl
+  move_same n w (move.FrameUp m) = λ k. refl
+
+  moves_same : (n : ℕ) (ms : List Move) (w : World) → Same w (moved_all n ms w)
+  unfolding moved_all
+  moves_same n [] w = λ k. refl
+  moves_same n (m ∷ ms) w = λ k. moves_same n ms (moved n w m) k ∙ move_same n w m k
+
+  -- a step leaves the node that makes it with its end
+  pub stepped_seen : (w : World) (number n : ℕ) (node : Node) (sender : Option Sender) (s : Stepped)
+      → option_map see (at (after_step w number n node sender s).world.nodes n) ≡ Some (see (record node { end = s.end }))
+  unfolding after_step given
+  stepped_seen w number n node sender s =
+      let ended = record node { end = s.end } in
+      let base = with_node w n ended in
+      let v = moved_all n s.moves base in
+      ap (λ ns. option_map see (at ns n)) (shown_nodes n s.outputs v) ∙ moves_same n s.moves base n ∙ ap (λ o. option_map see o) (at_new w.nodes n ended)

@@ -1,0 +1,109 @@
+-- The causes that the report tells stand, nothing is refused for want of room but where a tunnel holds too many letters, and no call
+-- is left.
+use Rattle.std.specs.Prelude.{◌≡◌, ℕ, ◌+◌, ◌-◌, ◌^◌, ◌<◌, ◌≤◌, min, List, [], ◌∷◌, ◌++◌, length, slice_get, Some, None, Ok}
+use Rattle.std.specs.List.{AllByRecursion}
+use Rattle.id_table.specs.Ids.{at}
+use Rattle.wire_base.specs.declared.why.Why.TheVariants as why
+use Rattle.wire_base.specs.declared.cause.Cause.{Cause}
+use Rattle.schedule_text.specs.declared.line.Line.{Line}
+use Rattle.schedule_text.specs.declared.line.Line.TheVariants.{Remark, Lac, Lns, OpenUp, Ring, FromSub, Down, Hang, DropCall, Deliver, Tick}
+use Rattle.schedule_text.specs.Grammar.{AreLines}
+use Rattle.protocol_model.specs.declared.event.Event.{Event}
+use Rattle.protocol_model.specs.declared.event.Event.TheVariants as event
+use Rattle.protocol_model.specs.declared.packet.Packet.{Packet}
+use Rattle.protocol_model.specs.Names.{address_of}
+use Rattle.protocol_model.specs.Calls.{owed_by}
+use Rattle.protocol_model.specs.Turn.{Tunnel}
+use Rattle.protocol_model.specs.World.{World, Node, Lined, line}
+use Rattle.protocol_model.specs.Texts.{Entry, Sends, HandsUp, Ends, Drops, Causes}
+use Rattle.protocol_model.specs.Run.{run}
+use Rattle.step_laws.specs.Room.{IsFull}
+use Rattle.step_laws.specs.Causes.{Stands}
+use Rattle.step_laws.specs.Left.{AreAsked, NoneIsLate}
+
+-- ---- what a line brings
+
+-- the event that a line is for a node
+abbrev pub Brings : World → Line → ℕ → Event → Type 0
+Brings w (Remark text) n ev = ⊥
+Brings w (Lac m lns) n ev = ⊥
+Brings w (Lns m) n ev = ⊥
+Brings w (OpenUp m) n ev = (n ≡ m) × (ev ≡ event.OpenTunnel)
+Brings w (Ring m port) n ev = (n ≡ m) × (ev ≡ event.Ring port)
+Brings w (FromSub m session frame) n ev = (n ≡ m) × (ev ≡ event.Payload session frame)
+Brings w (Down m session frame) n ev = (n ≡ m) × (ev ≡ event.Lower session frame)
+Brings w (Hang m session) n ev = (n ≡ m) × (ev ≡ event.Hang session)
+Brings w (DropCall m session) n ev = (n ≡ m) × (ev ≡ event.DropCall session)
+Brings w (Deliver k) n ev = (p : Packet) × (slice_get w.packets (k - 1) ≡ Some p) × (n ≡ p.to) × (ev ≡ event.Datagram (address_of p.from) p.bytes)
+Brings w (Tick m milliseconds) n ev = (n ≡ m) × (ev ≡ event.Tick)
+
+-- the moment at which it comes: a tick first puts the clock on
+abbrev pub moment_of : Line → Node → ℕ
+moment_of (Tick m milliseconds) node = min (node.clock + milliseconds) (2 ^ 64 - 1)
+moment_of l node = node.clock
+
+-- ---- entries of the report
+
+-- a cause that a line tells of a node stands, in the world before the line
+pub record CauseIsTrue (w : World) (l : Line) (n : ℕ) (c : Cause) : Type 0 where
+  pub node : Node
+  pub is : at w.nodes n ≡ Some node
+  pub event : Event
+  pub brings : Brings w l n event
+  pub stands : Stands node.end (moment_of l node) event c
+
+-- a message isn't taken, since its tunnel holds too many letters, with those that its calls owe
+pub record IsFullAt (w : World) (l : Line) (n : ℕ) : Type 0 where
+  pub node : Node
+  pub is : at w.nodes n ≡ Some node
+  pub event : Event
+  pub brings : Brings w l n event
+  pub full : IsFull node.end (moment_of l node) event
+
+abbrev pub IsTrue : World → Line → Entry → Type 0
+IsTrue w l (Causes number n c) = CauseIsTrue w l n c
+IsTrue w l (Drops number n x) = x ≡ why.Queue → IsFullAt w l n
+IsTrue w l (Sends number packet from to bytes) = Unit {0}
+IsTrue w l (HandsUp number n session birth side frame) = Unit {0}
+IsTrue w l (Ends number n session) = Unit {0}
+
+-- so are all entries that a line makes in a world
+abbrev pub TellsTruly : World → ℕ → Line → Type 0
+TellsTruly w number l = (x : Lined) → line w number l ≡ Ok x → AllByRecursion (IsTrue w l) x.entries
+
+-- ---- room
+
+-- the letters that a tunnel holds, and those that its calls owe, are fewer than a channel holds, so that there is room for each;
+-- and it has 4,096 calls at most
+pub record HasRoom (t : Tunnel) : Type 0 where
+  pub letters : length t.letters + owed_by t.calls ≤ 8191
+  pub calls : length t.calls ≤ 4096
+
+abbrev pub AllHaveRoom : World → Type 0
+AllHaveRoom w = (n : ℕ) (node : Node) → at w.nodes n ≡ Some node → (i : ℕ) (t : Tunnel) → at node.end.tunnels i ≡ Some t → HasRoom t
+
+-- ---- calls that are left
+
+-- after the lines a call waits for its tunnel only where the tunnel's SCCRQ isn't answered yet; and where the last of them is a
+-- tick of a node, none of the node's calls that are being set up has taken 60 seconds, by the node's clock
+pub record NoneIsLeft (lines : List Line) : Type 0 where
+  pub asked : (n : ℕ) (node : Node) → at (run lines).world.nodes n ≡ Some node → AreAsked node.end
+  pub ended : (before : List Line) (n milliseconds : ℕ) → lines ≡ before ++ Tick n milliseconds ∷ [] → (run lines).fault ≡ None
+      → (node : Node) → at (run lines).world.nodes n ≡ Some node → NoneIsLate node.clock node.end
+
+-- ---- in the run of each list of lines of the grammar
+
+-- at each of its lines
+abbrev pub TellTrulyThroughout : List Line → Type 0
+TellTrulyThroughout lines =
+    (before after : List Line) (l : Line) → lines ≡ before ++ l ∷ after → TellsTruly (run before).world (length before + 1) l
+
+abbrev pub CausesOfRuns : Type 0
+CausesOfRuns = (lines : List Line) → AreLines lines → length lines < 2 ^ 47 → TellTrulyThroughout lines
+
+abbrev pub RoomInRuns : Type 0
+RoomInRuns = (lines : List Line) → AreLines lines → length lines < 2 ^ 47 → AllHaveRoom (run lines).world
+
+-- and of each front of such a list, which is one too
+abbrev pub NoneIsLeftInRuns : Type 0
+NoneIsLeftInRuns = (lines : List Line) → AreLines lines → length lines < 2 ^ 47 → NoneIsLeft lines

@@ -1,0 +1,53 @@
+//! The causes that reports tell, the room for letters, and the calls that are left, in every run of a schedule's lines.
+#![tactic(auto)]
+
+ghost use Rattle.cause_laws.specs.Causes.{CausesOfRuns, NoneIsLeftInRuns, RoomInRuns};
+ghost use Rattle.connection_laws.specs.Channels.{HoldsInRuns};
+ghost use Rattle.connection_laws.specs.Steps.{LinesGoOn, RunsBegin};
+ghost use Rattle.step_laws.specs.Causes.{CausesStand};
+ghost use Rattle.step_laws.specs.Left.{CallsAreAsked, CallsStaySound, LateCallsEnd};
+ghost use Rattle.step_laws.specs.Room.{StepsRefuseTruly};
+
+/// The laws that are used.
+fn laws_below()
+    ensures causes { CausesStand }
+    ensures room { StepsRefuseTruly }
+    ensures sound { CallsStaySound }
+    ensures late { LateCallsEnd }
+    ensures asked { CallsAreAsked }
+    ensures connections { HoldsInRuns }
+    ensures lines { LinesGoOn }
+    ensures begins { RunsBegin }
+{
+    step_laws::causes_stand();
+    step_laws::steps_refuse_truly();
+    step_laws::calls_are_not_left();
+    connection_laws::facts_hold();
+    connection_laws::steps_keep();
+}
+
+/// Over every list of lines of the grammar, each cause that an entry of the report tells stands in the world before the entry's
+/// line, and none does that counts before it; and a message is dropped for want of room only where it is the next one of a
+/// tunnel that holds so many letters, with those that its calls owe, that four more would be too many.
+pub fn reports_tell_true_causes()
+    ensures { CausesOfRuns }
+{
+    laws_below();
+}
+
+/// Over every list of lines of the grammar, the letters that a live tunnel holds and those that its calls owe are fewer than a
+/// channel holds, so that no letter which a tunnel has to give is refused; and it has 4,096 calls at most.
+pub fn tunnels_have_room()
+    ensures { RoomInRuns }
+{
+    laws_below();
+}
+
+/// Over every list of lines of the grammar, a call waits for its tunnel only where the tunnel's SCCRQ isn't answered yet: in an open
+/// tunnel each is asked for. And where the last line is a tick of a node, none of that node's calls that are still being set up
+/// has taken 60 seconds or more.
+pub fn no_call_is_left()
+    ensures { NoneIsLeftInRuns }
+{
+    laws_below();
+}

@@ -1,9 +1,0 @@
-pub mod Owed
-pub mod Rows
-pub mod Moves
-pub mod Steps
-pub mod Worlds
-pub mod Lines
-pub mod Runs
-pub mod Six
-pub mod Laws
