@@ -1,8 +1,11 @@
 -- The runs, the steps and the tables, computed.
 use Rattle.std.proofs.Common.{refl}
 use Rattle.run_examples.specs.Crossing.{FramesCross}
+use Rattle.run_examples.specs.Endings.{CallsEndOnce}
 use Rattle.run_examples.specs.Messages.{MessagesAreTakenInOrder, MessagesAreAcknowledged, WindowsAreKept, OpeningsComeOnce}
 use Rattle.run_examples.specs.Outlived.{OldPacketsAreRefused}
+use Rattle.run_examples.specs.Owed.{LettersOwedAreCounted}
+use Rattle.run_examples.specs.Refusals.{CallsAreRefused}
 use Rattle.run_examples.specs.Rules.{IdsRunOut}
 use Rattle.run_examples.specs.Tables.{TablesTell}
 use Rattle.run_examples.proofs.Computing.{computing}
@@ -10,6 +13,26 @@ use Rattle.run_examples.proofs.Computing.{computing}
 pub frames_cross : FramesCross
 unfolding computing
 frames_cross = record { past = refl }
+
+pub calls_are_refused : CallsAreRefused
+unfolding computing
+calls_are_refused = record { entries = refl; tables = refl }
+
+pub calls_end_once : CallsEndOnce
+unfolding computing
+calls_end_once = record { entries = refl; of_lns = refl; of_lac = refl; tables = refl }
+
+pub letters_owed_are_counted : LettersOwedAreCounted
+unfolding computing
+letters_owed_are_counted = record {
+  refused = refl;
+  kept = refl;
+  last = refl;
+  none = refl;
+  taken = refl;
+  without = refl;
+  stays = refl;
+}
 
 pub messages_are_taken_in_order : MessagesAreTakenInOrder
 unfolding computing

@@ -1,6 +1,10 @@
 pub mod Channels
+pub mod Entries
 pub mod Crossing
+pub mod Endings
 pub mod Messages
 pub mod Outlived
+pub mod Owed
+pub mod Refusals
 pub mod Rules
 pub mod Tables

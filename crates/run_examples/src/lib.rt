@@ -9,14 +9,33 @@
 mod tests;
 
 ghost use Rattle.run_examples.specs.Crossing.{FramesCross};
+ghost use Rattle.run_examples.specs.Endings.{CallsEndOnce};
 ghost use Rattle.run_examples.specs.Messages.{MessagesAreTakenInOrder, MessagesAreAcknowledged, WindowsAreKept, OpeningsComeOnce};
 ghost use Rattle.run_examples.specs.Outlived.{OldPacketsAreRefused};
+ghost use Rattle.run_examples.specs.Owed.{LettersOwedAreCounted};
+ghost use Rattle.run_examples.specs.Refusals.{CallsAreRefused};
 ghost use Rattle.run_examples.specs.Rules.{FramesAreLookedAt, IdsRunOut};
 ghost use Rattle.run_examples.specs.Tables.{TablesTell};
 
 /// A run in which two LACs have calls at one LNS: what was sent and what was handed up, with sessions and births.
 pub fn frames_cross()
     ensures { FramesCross }
+{}
+
+/// An end that takes no calls refuses one that it is asked for, by a CDN that names none of its own.
+pub fn calls_are_refused()
+    ensures { CallsAreRefused }
+{}
+
+/// A call that is dropped at one end while it is hung up at the other is gone once at each.
+pub fn calls_end_once()
+    ensures { CallsEndOnce }
+{}
+
+/// A ring is refused where the letters that calls owe leave no room for those of one more: else the end of a call couldn't be
+/// told.
+pub fn letters_owed_are_counted()
+    ensures { LettersOwedAreCounted }
 {}
 
 /// A frame is handed up for the call that it was sent in: without a look at the address that it came from, or at the tunnel

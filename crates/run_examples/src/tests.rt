@@ -1,4 +1,4 @@
-use schedule_replay::replay;
+use schedule_replay::{World, replay};
 use schedule_text::{Line, read_schedule};
 use std::alloc::Global;
 use std::test::Fail;
@@ -152,6 +152,149 @@ fn two_lacs_cross_at_one_lns(rt: HostRuntime) -> Result<(), Fail> {
     Ok(())
 }
 
+/// Two LACs that name each other: an SCCRQ of each, and what opens node 9's tunnel 1, which is tunnel 2 of node 6.
+const LACS_OPENED: &[u8] = b"\
+3 send 1 6 9 c802004c000000000000000080080000000000018008000000020100800a0000000300000003800a000000076c6163368\
+00800000009000180080000000a0008000c0000004c000300007530
+4 send 2 9 6 c802004c000000000000000080080000000000018008000000020100800a0000000300000003800a000000076c6163398\
+00800000009000180080000000a0008000c0000004c000300007530
+5 send 3 6 9 c802004c000100000000000180080000000000028008000000020100800a0000000300000003800a000000076c6163368\
+00800000009000280080000000a0008000c0000004c000300007530
+6 send 4 9 6 c802001400020000000100018008000000000003
+7 send 5 6 9 c802000c0001000000010002
+";
+
+const REFUSED: &[u8] = b"\
+9 send 6 9 6 c80200380002000000020001800800000000000a80080000000e0001800a0000000f0000000180120000001666666666\
+3030303030303436
+10 send 7 9 6 c80200380002000000030001800800000000000a80080000000e0002800a0000000f0000000280120000001666666666\
+3030303030303437
+11 cause 6 state
+11 send 8 6 9 c80200260001000100010003800800000000000e800a000000010002000580080000000e0000
+12 cause 6 state
+12 send 9 6 9 c80200260001000200020004800800000000000e800a000000010002000580080000000e0000
+13 gone 9 1
+13 send 10 9 6 c802000c0002000000040002
+14 gone 9 2
+14 send 11 9 6 c802000c0002000000040003
+16 send 12 6 9 c80200380001000000030004800800000000000a80080000000e0002800a0000000f000000028012000000166666666\
+63030303030303531
+17 cause 9 state
+17 send 13 9 6 c80200260002000200040004800800000000000e800a000000010002000580080000000e0000
+18 gone 6 2
+18 send 14 6 9 c802000c0001000000040005
+end 6 tunnel 1 9 0 wait-ctl-reply 0 current complete
+end 6 call 1 1 0 wait-tunnel 1
+end 6 tunnel 2 9 1 established 0 current complete
+end 9 tunnel 1 6 2 established 0 current complete
+";
+
+/// Neither LAC takes calls: what one asks for the other refuses, and the call is gone.
+#[test]
+fn two_lacs_refuse_each_other(rt: HostRuntime) -> Result<(), Fail> {
+    let lines = [
+        Line::Lac { node: 9, lns: 6 },
+        Line::Lac { node: 6, lns: 9 },
+        Line::Ring { node: 6, port: 80 },
+        Line::OpenUp { node: 9 },
+        Line::Deliver { packet: 2 },
+        Line::Deliver { packet: 3 },
+        Line::Deliver { packet: 4 },
+        Line::Deliver { packet: 5 },
+        Line::Ring { node: 9, port: 70 },
+        Line::Ring { node: 9, port: 71 },
+        Line::Deliver { packet: 6 },
+        Line::Deliver { packet: 7 },
+        Line::Deliver { packet: 8 },
+        Line::Deliver { packet: 9 },
+        Line::Deliver { packet: 11 },
+        Line::Ring { node: 6, port: 81 },
+        Line::Deliver { packet: 12 },
+        Line::Deliver { packet: 13 },
+    ];
+    let replayed = replay(rt.alloc(), &lines)?;
+    assert_eq!(rt; replayed.fault, None);
+    assert!(rt; is_all(replayed.report.as_slice(), &[LACS_OPENED, REFUSED]));
+    Ok(())
+}
+
+/// A call that waits in tunnel 1, and one in tunnel 2 that comes up.
+const ONE_UP: &[u8] = b"\
+3 send 1 9 4 c802004c000000000000000080080000000000018008000000020100800a0000000300000003800a000000076c6163398\
+00800000009000180080000000a0008000c0000004c000300007530
+4 send 2 9 4 c802004c000000000000000080080000000000018008000000020100800a0000000300000003800a000000076c6163398\
+00800000009000280080000000a0008000c0000004c000300007530
+5 send 3 4 9 c802004c000200000000000180080000000000028008000000020100800a0000000300000003800a000000076c6e73348\
+00800000009000180080000000a0008000c0000004c000300007530
+6 send 4 9 4 c802001400010000000100018008000000000003
+7 send 5 4 9 c802000c0002000000010002
+9 send 6 9 4 c80200380001000000020001800800000000000a80080000000e0002800a0000000f0000000280120000001666666666\
+3030303030303437
+10 send 7 4 9 c802001c0002000200010003800800000000000b80080000000e0001
+11 send 8 9 4 c80200280001000100030002800800000000000c800a0000001805f5e100800a0000001300000001
+12 send 9 4 9 c802000c0002000000020004
+";
+
+const ENDED: &[u8] = b"\
+13 cause 4 operator
+13 gone 4 1
+13 send 10 4 9 c80200240002000200020004800800000000000e800800000001000380080000000e0001
+14 cause 9 line
+14 gone 9 2
+14 send 11 9 4 c80200240001000100040002800800000000000e800800000001000180080000000e0002
+15 drop 9 session
+15 send 12 9 4 c802000c0001000000050003
+16 drop 4 session
+16 send 13 4 9 c802000c0002000000030005
+17 gone 9 1
+18 send 14 9 4 c802000c0001000000050003
+19 send 15 4 9 c802000c0002000000030005
+end 4 tunnel 1 9 2 established 0 current complete
+end 9 tunnel 1 4 0 wait-ctl-reply 0 current complete
+end 9 tunnel 2 4 1 established 0 current complete
+agree 9 2 4 1 0
+";
+
+/// A call is dropped at one end while it is hung up at the other: the CDNs cross, each comes twice, and the call is gone once
+/// at each end. The one that waits is gone without a CDN.
+#[test]
+fn two_endings_of_a_call_cross(rt: HostRuntime) -> Result<(), Fail> {
+    let lines = [
+        Line::Lns { node: 4 },
+        Line::Lac { node: 9, lns: 4 },
+        Line::Ring { node: 9, port: 70 },
+        Line::OpenUp { node: 9 },
+        Line::Deliver { packet: 2 },
+        Line::Deliver { packet: 3 },
+        Line::Deliver { packet: 4 },
+        Line::Deliver { packet: 5 },
+        Line::Ring { node: 9, port: 71 },
+        Line::Deliver { packet: 6 },
+        Line::Deliver { packet: 7 },
+        Line::Deliver { packet: 8 },
+        Line::DropCall {
+            node: 4,
+            session: 1,
+        },
+        Line::Hang {
+            node: 9,
+            session: 2,
+        },
+        Line::Deliver { packet: 10 },
+        Line::Deliver { packet: 11 },
+        Line::Hang {
+            node: 9,
+            session: 1,
+        },
+        Line::Deliver { packet: 10 },
+        Line::Deliver { packet: 11 },
+    ];
+    let replayed = replay(rt.alloc(), &lines)?;
+    assert_eq!(rt; replayed.fault, None);
+    assert!(rt; is_all(replayed.report.as_slice(), &[ONE_UP, ENDED]));
+    Ok(())
+}
+
 /// An open tunnel between the LAC 9 and the LNS 4, and what its four messages are.
 const SCCRQ: &[u8] = b"\
 3 send 1 9 4 c802004c000000000000000080080000000000018008000000020100800a0000000300000003800a0000000\
@@ -278,5 +421,70 @@ fn openings_and_calls_that_are_under_way(rt: HostRuntime) -> Result<(), Fail> {
         assert_eq!(rt; replayed.fault, None);
         assert!(rt; is_all(replayed.report.as_slice(), told));
     }
+    Ok(())
+}
+
+/// Runs a line that fits.
+fn run(world: &mut World, number: u64, line: &Line) -> Result<(), Fail> {
+    world.line(number, line).map_err(|_| "a line that fits")?;
+    Ok(())
+}
+
+/// The LNS 4 and the LAC 9.
+fn world_of_two(alloc: Global) -> Result<World, Fail> {
+    let mut world = World::new(alloc);
+    run(&mut world, 1, &Line::Lns { node: 4 })?;
+    run(&mut world, 2, &Line::Lac { node: 9, lns: 4 })?;
+    Ok(world)
+}
+
+/// A tunnel that waits for its reply, and holds its SCCRQ, has room for what 2,730 calls owe: three letters each.
+#[test]
+fn a_ring_is_refused_where_calls_owe_too_much(rt: HostRuntime) -> Result<(), Fail> {
+    let mut world = world_of_two(rt.alloc())?;
+    for number in 3..2733u64 {
+        run(&mut world, number, &Line::Ring { node: 9, port: 7 })?;
+    }
+    assert!(rt; is_all(world.report(), &[SCCRQ]));
+    run(&mut world, 2733, &Line::Ring { node: 9, port: 7 })?;
+    assert!(rt; is_all(world.report(), &[SCCRQ, b"2733 cause 9 queue\n"]));
+    Ok(())
+}
+
+/// A tunnel has 4,096 calls at most. Once one of them has ended there is room for another.
+#[test]
+fn a_ring_is_refused_over_a_tunnel_that_is_full(rt: HostRuntime) -> Result<(), Fail> {
+    let mut world = world_of_two(rt.alloc())?;
+    run(&mut world, 3, &Line::OpenUp { node: 9 })?;
+    run(&mut world, 4, &Line::Deliver { packet: 1 })?;
+    run(&mut world, 5, &Line::Deliver { packet: 2 })?;
+    run(&mut world, 6, &Line::Deliver { packet: 3 })?;
+    // The four messages of a call: it is asked for, replied to, connected, and that is acknowledged.
+    for packet in 5..16389u32 {
+        if packet % 4 == 1 {
+            run(
+                &mut world,
+                u64::from(packet),
+                &Line::Ring { node: 9, port: 7 },
+            )?;
+        }
+        run(&mut world, u64::from(packet), &Line::Deliver { packet })?;
+    }
+    run(&mut world, 16389, &Line::Ring { node: 9, port: 7 })?;
+    assert!(rt;
+        world
+            .report()
+            .ends_with(b"c802000c0001000010012002\n16389 cause 9 calls\n")
+    );
+    run(
+        &mut world,
+        16390,
+        &Line::Hang {
+            node: 9,
+            session: 5,
+        },
+    )?;
+    run(&mut world, 16391, &Line::Ring { node: 9, port: 7 })?;
+    assert!(rt; world.report().ends_with(b"666666663030303030303037\n"));
     Ok(())
 }

@@ -1,0 +1,8 @@
+//! Runs of an end: what it gives for each event, in words and bytes.
+//!
+//! The messages that come are those of a peer that isn't this program: they have pairs that it doesn't write, and were worked
+//! out by hand from RFC 2661, as was what has to be given for them. Nodes, tunnel ids and session ids differ from one another.
+#![tactic(auto)]
+
+#[cfg(test)]
+mod tests;

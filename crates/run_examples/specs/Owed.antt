@@ -1,0 +1,80 @@
+-- Letters that calls owe carry weight: a tunnel that takes a call for the letters that it holds alone may have no room to tell
+-- that a call ends.
+use Rattle.std.specs.Prelude.{◌≡◌, ℕ, ◌+◌, List, [], ◌∷◌, Bool, false, nat_le, if◌then◌else◌}
+use Rattle.id_source.specs.Spaces.{draws}
+use Rattle.id_table.specs.Ids.{ids_of}
+use Rattle.wire_base.specs.declared.why.Why.TheVariants as why
+use Rattle.wire_base.specs.declared.cause.Cause.TheVariants as cause
+use Rattle.tunnel_fsm.specs.declared.table.TunnelState.TheVariants as states
+use Rattle.call_fsm.specs.declared.table.CallState.TheVariants.{Established}
+use Rattle.protocol_model.specs.declared.event.Event.TheVariants.{Ring, DropCall}
+use Rattle.protocol_model.specs.declared.out.Out.{Out}
+use Rattle.protocol_model.specs.declared.out.Out.TheVariants.{Drop, Gone, Cause}
+use Rattle.protocol_model.specs.declared.tunnel.Call.{Call}
+use Rattle.protocol_model.specs.declared.tunnel.CallPlace.{CallPlace}
+use Rattle.protocol_model.specs.declared.tunnel.Control.{Control}
+use Rattle.protocol_model.specs.declared.tunnel.Look.TheVariants as look
+use Rattle.protocol_model.specs.declared.tunnel.Role.TheVariants as role
+use Rattle.protocol_model.specs.Names.{address_of}
+use Rattle.protocol_model.specs.Turn.{rings_by, settles, turn_of}
+use Rattle.protocol_model.specs.End.{End, new_end, whole_space, env_of, after_turn, step}
+use Rattle.protocol_model.specs.World.{config_of}
+use Rattle.run_examples.specs.Channels.{channel}
+
+-- a call that is up, by the LNS's session
+abbrev pub up : ℕ → Call
+up remote = record { remote = remote; state = Established; since = 0; port = 70; steps = [] }
+
+abbrev pub place : CallPlace
+place = record { tunnel = 1; look = look.Established 1 (address_of 4) }
+
+-- sessions 3, 4, 5 and 6
+abbrev pub calls : List (ℕ × Call)
+calls = (3, up 8) ∷ (4, up 9) ∷ (5, up 10) ∷ (6, up 11) ∷ []
+
+-- the tunnel holds 8,187 letters, of which the first is outstanding; they are left out
+abbrev pub control : Control
+control = record { local = 1; peer = address_of 4; remote = 7; state = states.Established; channel = channel 3 8187 1 2; made = 0; heard = 0 }
+
+-- the LAC, node 9
+abbrev pub lac : End
+lac = record (new_end role.Lac (config_of 9 (address_of 4))) {
+  session_ids = record (whole_space 65534) { next = 7 };
+  tunnels = (1, record { control = control; letters = []; calls = calls }) ∷ [];
+  calls = (3, place) ∷ (4, place) ∷ (5, place) ∷ (6, place) ∷ [];
+}
+
+abbrev pub answer_to_ring : List Out
+answer_to_ring = (step lac 0 [] (Ring 75)).outputs
+
+-- a ring over a tunnel that looks at the letters that it holds, and at none that are owed
+abbrev pub has_room_held : Control → Bool
+has_room_held c = nat_le (c.channel.window.queued + 4) 8192
+
+-- where that rule lets a call be added, the end that is left
+abbrev pub careless : End
+careless =
+    if has_room_held control
+    then (after_turn lac 1 [] calls (settles false [] (rings_by role.Lac 75 (draws lac.session_ids) (turn_of control (env_of lac 0 []))))).end
+    else lac
+
+-- the operator drops a call
+abbrev pub answer : End → ℕ → List Out
+answer e session = (step e 0 [] (DropCall session)).outputs
+
+abbrev pub left : End → ℕ → End
+left e session = (step e 0 [] (DropCall session)).end
+
+abbrev pub four_dropped : End → End
+four_dropped e = left (left (left (left e 3) 4) 5) 6
+
+pub record LettersOwedAreCounted : Type 0 where
+  -- the ring is refused, and the end is as before; each of its calls can be dropped
+  pub refused : answer_to_ring ≡ Cause cause.Queue ∷ []
+  pub kept : (step lac 0 [] (Ring 75)).end ≡ lac
+  pub last : answer (left (left (left lac 3) 4) 5) 6 ≡ Cause cause.Operator ∷ Gone 6 ∷ []
+  pub none : (four_dropped lac).calls ≡ []
+  -- without the letters owed it is taken. Then the last call that is dropped isn't: there is no room for its CDN
+  pub taken : ids_of careless.calls ≡ 3 ∷ 4 ∷ 5 ∷ 6 ∷ 7 ∷ []
+  pub without : answer (four_dropped careless) 7 ≡ Drop why.Queue ∷ []
+  pub stays : ids_of (left (four_dropped careless) 7).calls ≡ 7 ∷ []
