@@ -1,5 +1,5 @@
 -- What a line makes is of a step of one node, which the line brings.
-use Rattle.std.proofs.Common.{◌≡◌, inl, inr, ℕ, ◌+◌, ◌-◌, ◌^◌, Bool, true, false, cond, List, [], ◌∷◌, refl, ap, subst, Option, Some, None, Result, Ok, Err}
+use Rattle.std.proofs.Common.{◌≡◌, inl, inr, ℕ, ◌+◌, ◌-◌, ◌^◌, List, [], ◌∷◌, refl, subst, Option, Some, None, Result, Ok, Err}
 use Rattle.std.specs.Prelude.{is_some, min, slice_get}
 use Rattle.std.specs.List.{AllByRecursion}
 use Rattle.id_table.specs.Ids.{at}
@@ -17,8 +17,8 @@ use Rattle.protocol_model.specs.declared.refusal.Refusal.TheVariants.{Unfit}
 use Rattle.protocol_model.specs.declared.tunnel.Role.{Role}
 use Rattle.protocol_model.specs.declared.tunnel.Role.TheVariants as role
 use Rattle.protocol_model.specs.Names.{address_of}
-use Rattle.protocol_model.specs.Calls.{is_lac}
 use Rattle.protocol_model.specs.End.{new_end, step}
+use Rattle.step_laws.specs.Lines.{tested_not, is_lac_at, is_lns_at, is_declared, has_call}
 use Rattle.protocol_model.specs.World.{World, Node, Sender, Lined, quiet_line, with_node, after_step, given, entries_of, entry_of, shown, moved_all, sent, declared, lac_at, lns_at, with_call, later, config_of, added, block_of, stepped, addressee_of, arrival, refused_by, sender_of, arrives, delivers_it, delivers, line}
 use Rattle.step_laws.specs.Letters.{Among}
 use Rattle.step_laws.specs.Steps.{AreKept}
@@ -52,30 +52,6 @@ entries_true w v l number n (o ∷ os) h =
     (entry_true w v l number n o (h o (inl refl)), entries_true w (shown n v o) l number n os (λ q a. h q (inr a)))
 
 -- ---- which node it is
-
-tested : {X Y : Type 0} (a : Bool) (x : X) (y : Y) (z : X) → cond a (Ok x) (Err y) ≡ Ok z → x ≡ z
-tested true x y z h = cc
-tested false x y z h = absurd (cc)
-
-tested_not : {X Y : Type 0} (a : Bool) (x : X) (y : Y) (z : X) → cond a (Err y) (Ok x) ≡ Ok z → x ≡ z
-tested_not true x y z h = absurd (cc)
-tested_not false x y z h = cc
-
-is_lac_at : (o : Option Node) (node : Node) → lac_at o ≡ Ok node → o ≡ Some node
-is_lac_at None node h = absurd (cc)
-is_lac_at (Some x) node h = ap (λ y. Some y) (tested (is_lac x.end.role) x why.Node node h)
-
-is_lns_at : (o : Option Node) (node : Node) → lns_at o ≡ Ok node → o ≡ Some node
-is_lns_at None node h = absurd (cc)
-is_lns_at (Some x) node h = ap (λ y. Some y) (tested_not (is_lac x.end.role) x why.Node node h)
-
-is_declared : (o : Option Node) (node : Node) → declared o ≡ Ok node → o ≡ Some node
-is_declared None node h = absurd (cc)
-is_declared (Some x) node h = cc
-
-has_call : (session : ℕ) (r : Result Node Why) (node : Node) → with_call session r ≡ Ok node → r ≡ Ok node
-has_call session (Err x) node h = absurd (cc)
-has_call session (Ok x) node h = ap (λ y. Ok y) (tested (is_some (at x.end.calls session)) x why.Call node h)
 
 -- ---- a line
 
@@ -134,7 +110,7 @@ module _ (causes : CausesStand) (room : StepsRefuseTruly) (w : World) (kept : En
   unfolding added
   added_true n r lns h =
       let v = with_node w n (record { end = new_end r (config_of n lns); clock = 0; births = [] }) in
-      quiet_true v (tested_not (is_some (at w.nodes n)) (quiet_line v) (Unfit why.Twice) x h)
+      quiet_true v (tested_not (is_some (at w.nodes n)) (quiet_line v) (Unfit why.Twice) x h).1
 
 -- of each kind
 pub line_true : CausesStand → StepsRefuseTruly → (w : World) → EndsAreKept w → (number : ℕ) (l : Line) → TellsTruly w number l
@@ -144,20 +120,20 @@ line_true causes room w kept number (Remark text) x h =
 line_true causes room w kept number (Lac n m) x h = added_true causes room w kept number (Lac n m) x n role.Lac (address_of m) h
 line_true causes room w kept number (Lns n) x h = added_true causes room w kept number (Lns n) x n role.Lns 0 h
 line_true causes room w kept number (OpenUp n) x h =
-    stepped_true causes room w kept number (OpenUp n) x n event.OpenTunnel None (lac_at (at w.nodes n)) (λ node e. is_lac_at (at w.nodes n) node e)
+    stepped_true causes room w kept number (OpenUp n) x n event.OpenTunnel None (lac_at (at w.nodes n)) (λ node e. (is_lac_at (at w.nodes n) node e).0)
     (λ node. refl) (refl, refl) h
 line_true causes room w kept number (Ring n port) x h =
     stepped_true causes room w kept number (Ring n port) x n (event.Ring port) None (lac_at (at w.nodes n))
-    (λ node e. is_lac_at (at w.nodes n) node e) (λ node. refl) (refl, refl) h
+    (λ node e. (is_lac_at (at w.nodes n) node e).0) (λ node. refl) (refl, refl) h
 line_true causes room w kept number (FromSub n session frame) x h =
     stepped_true causes room w kept number (FromSub n session frame) x n (event.Payload session frame) None (with_call session (lac_at (at w.nodes n)))
-    (λ node e. is_lac_at (at w.nodes n) node (has_call session (lac_at (at w.nodes n)) node e)) (λ node. refl) (refl, refl) h
+    (λ node e. (is_lac_at (at w.nodes n) node (has_call session (lac_at (at w.nodes n)) node e)).0) (λ node. refl) (refl, refl) h
 line_true causes room w kept number (Down n session frame) x h =
     stepped_true causes room w kept number (Down n session frame) x n (event.Lower session frame) None (with_call session (lns_at (at w.nodes n)))
-    (λ node e. is_lns_at (at w.nodes n) node (has_call session (lns_at (at w.nodes n)) node e)) (λ node. refl) (refl, refl) h
+    (λ node e. (is_lns_at (at w.nodes n) node (has_call session (lns_at (at w.nodes n)) node e)).0) (λ node. refl) (refl, refl) h
 line_true causes room w kept number (Hang n session) x h =
     stepped_true causes room w kept number (Hang n session) x n (event.Hang session) None (with_call session (lac_at (at w.nodes n)))
-    (λ node e. is_lac_at (at w.nodes n) node (has_call session (lac_at (at w.nodes n)) node e)) (λ node. refl) (refl, refl) h
+    (λ node e. (is_lac_at (at w.nodes n) node (has_call session (lac_at (at w.nodes n)) node e)).0) (λ node. refl) (refl, refl) h
 line_true causes room w kept number (DropCall n session) x h =
     stepped_true causes room w kept number (DropCall n session) x n (event.DropCall session) None (with_call session (declared (at w.nodes n)))
     (λ node e. is_declared (at w.nodes n) node (has_call session (declared (at w.nodes n)) node e)) (λ node. refl) (refl, refl) h

@@ -1,5 +1,5 @@
 -- Each line of a schedule.
-use Rattle.std.proofs.Common.{◌≡◌, ⊎_elim, ℕ, ◌+◌, ◌-◌, ◌^◌, ◌<◌, Bool, true, false, cond, [], refl, sym, ap, ◌∙◌, subst, Option, Some, None, Result, Ok, Err, arith}
+use Rattle.std.proofs.Common.{◌≡◌, ⊎_elim, ℕ, ◌+◌, ◌-◌, ◌^◌, ◌<◌, false, [], refl, sym, ap, ◌∙◌, subst, Option, Some, None, Result, Ok, Err, arith}
 use Rattle.std.proofs.lemmas.Bool.{true≢false}
 use Rattle.std.proofs.lemmas.Option.{none-some}
 use Rattle.std.specs.Prelude.{is_some, min, slice_get}
@@ -18,8 +18,8 @@ use Rattle.protocol_model.specs.declared.refusal.Refusal.TheVariants.{Unfit}
 use Rattle.protocol_model.specs.declared.tunnel.Role.{Role}
 use Rattle.protocol_model.specs.declared.tunnel.Role.TheVariants as role
 use Rattle.protocol_model.specs.Names.{address_of}
-use Rattle.protocol_model.specs.Calls.{is_lac}
 use Rattle.protocol_model.specs.End.{new_end, step}
+use Rattle.step_laws.specs.Lines.{tested_not, is_lac_at, is_lns_at, is_declared, has_call}
 use Rattle.protocol_model.specs.World.{World, Node, Sender, Lined, quiet_line, with_node, after_step, declared, lac_at, lns_at, with_call, later, config_of, added, block_of, stepped, addressee_of, arrival, refused_by, sender_of, arrives, delivers_it, delivers, line}
 use Rattle.step_laws.specs.Steps.{AreKept}
 use Rattle.frame_laws.specs.Codecs.{Codecs}
@@ -34,30 +34,6 @@ use Rattle.connection_laws.proofs.Worlds.{births_same, added_births, Goes, Laws,
 -- ---- which node it is
 
 -- by cases on a test
-tested : {X Y : Type 0} (a : Bool) (x : X) (y : Y) (z : X) → cond a (Ok x) (Err y) ≡ Ok z → (a ≡ true) × (x ≡ z)
-tested true x y z h = (refl, cc)
-tested false x y z h = absurd (cc)
-
-tested_not : {X Y : Type 0} (a : Bool) (x : X) (y : Y) (z : X) → cond a (Err y) (Ok x) ≡ Ok z → (a ≡ false) × (x ≡ z)
-tested_not true x y z h = absurd (cc)
-tested_not false x y z h = (refl, cc)
-
-lac_there : (o : Option Node) (node : Node) → lac_at o ≡ Ok node → o ≡ Some node
-lac_there None node h = absurd (cc)
-lac_there (Some x) node h = ap (λ y. Some y) (tested (is_lac x.end.role) x why.Node node h).1
-
-declared_there : (o : Option Node) (node : Node) → declared o ≡ Ok node → o ≡ Some node
-declared_there None node h = absurd (cc)
-declared_there (Some x) node h = cc
-
-lns_there : (o : Option Node) (node : Node) → lns_at o ≡ Ok node → o ≡ Some node
-lns_there None node h = absurd (cc)
-lns_there (Some x) node h = ap (λ y. Some y) (tested_not (is_lac x.end.role) x why.Node node h).1
-
-has_call : (session : ℕ) (r : Result Node Why) (node : Node) → with_call session r ≡ Ok node → r ≡ Ok node
-has_call session (Err x) node h = absurd (cc)
-has_call session (Ok x) node h = ap (λ y. Ok y) (tested (is_some (at x.end.calls session)) x why.Call node h).1
-
 -- a node of the world, at some moment
 record IsAt (w : World) (n : ℕ) (node : Node) : Type 0 where
   before : Node
@@ -202,21 +178,21 @@ module _ (codecs : Codecs) (laws : Laws) (number : ℕ) (w : World) (accs : Acco
       added_ok w accs number holds most had n role.Lac (address_of m) (omega (arith, fits.0.1)) (λ lac. (m, omega (arith, fits.1.1), refl)) x h
   line_ok x (Lns n) fits h = added_ok w accs number holds most had n role.Lns 0 (omega (arith, fits.1)) (λ lac. absurd cc) x h
   line_ok x (OpenUp n) fits h =
-      stepped_ok x n event.OpenTunnel None (lac_at (at w.nodes n)) (λ node e. is_there w n node (lac_there (at w.nodes n) node e)) (λ node e. tt) h
+      stepped_ok x n event.OpenTunnel None (lac_at (at w.nodes n)) (λ node e. is_there w n node ((is_lac_at (at w.nodes n) node e).0)) (λ node e. tt) h
   line_ok x (Ring n port) fits h =
-      stepped_ok x n (event.Ring port) None (lac_at (at w.nodes n)) (λ node e. is_there w n node (lac_there (at w.nodes n) node e)) (λ node e. tt) h
+      stepped_ok x n (event.Ring port) None (lac_at (at w.nodes n)) (λ node e. is_there w n node ((is_lac_at (at w.nodes n) node e).0)) (λ node e. tt) h
   line_ok x (FromSub n session frame) fits h =
       stepped_ok x n (event.Payload session frame) None (with_call session (lac_at (at w.nodes n)))
-      (λ node e. is_there w n node (lac_there (at w.nodes n) node (has_call session (lac_at (at w.nodes n)) node e))) (λ node e. tt) h
+      (λ node e. is_there w n node ((is_lac_at (at w.nodes n) node (has_call session (lac_at (at w.nodes n)) node e)).0)) (λ node e. tt) h
   line_ok x (Down n session frame) fits h =
       stepped_ok x n (event.Lower session frame) None (with_call session (lns_at (at w.nodes n)))
-      (λ node e. is_there w n node (lns_there (at w.nodes n) node (has_call session (lns_at (at w.nodes n)) node e))) (λ node e. tt) h
+      (λ node e. is_there w n node ((is_lns_at (at w.nodes n) node (has_call session (lns_at (at w.nodes n)) node e)).0)) (λ node e. tt) h
   line_ok x (Hang n session) fits h =
       stepped_ok x n (event.Hang session) None (with_call session (lac_at (at w.nodes n)))
-      (λ node e. is_there w n node (lac_there (at w.nodes n) node (has_call session (lac_at (at w.nodes n)) node e))) (λ node e. tt) h
+      (λ node e. is_there w n node ((is_lac_at (at w.nodes n) node (has_call session (lac_at (at w.nodes n)) node e)).0)) (λ node e. tt) h
   line_ok x (DropCall n session) fits h =
       stepped_ok x n (event.DropCall session) None (with_call session (declared (at w.nodes n)))
-      (λ node e. is_there w n node (declared_there (at w.nodes n) node (has_call session (declared (at w.nodes n)) node e))) (λ node e. tt) h
+      (λ node e. is_there w n node (is_declared (at w.nodes n) node (has_call session (declared (at w.nodes n)) node e))) (λ node e. tt) h
   line_ok x (Deliver k) fits h =
       delivers_ok x (slice_get w.packets (k - 1)) (λ p e. all_at (PacketOk accs) w.packets (k - 1) p e holds.packets) h
   line_ok x (Tick n milliseconds) fits h =

@@ -1,5 +1,5 @@
 -- Each line of a schedule.
-use Rattle.std.proofs.Common.{◌≡◌, ⊎_elim, ℕ, ◌+◌, ◌-◌, ◌^◌, ◌<◌, Bool, true, false, cond, List, [], refl, sym, ap, ◌∙◌, subst, Option, Some, None, Result, Ok, Err, arith}
+use Rattle.std.proofs.Common.{◌≡◌, ⊎_elim, ℕ, ◌+◌, ◌-◌, ◌^◌, ◌<◌, false, List, [], refl, sym, ◌∙◌, subst, Option, Some, None, Result, Ok, Err, arith}
 use Rattle.std.proofs.lemmas.Bool.{true≢false}
 use Rattle.std.proofs.lemmas.Option.{none-some}
 use Rattle.std.proofs.lemmas.List.{append-nil}
@@ -20,8 +20,8 @@ use Rattle.protocol_model.specs.declared.refusal.Refusal.TheVariants.{Unfit}
 use Rattle.protocol_model.specs.declared.tunnel.Role.{Role}
 use Rattle.protocol_model.specs.declared.tunnel.Role.TheVariants as role
 use Rattle.protocol_model.specs.Names.{address_of}
-use Rattle.protocol_model.specs.Calls.{is_lac}
 use Rattle.protocol_model.specs.End.{new_end, step}
+use Rattle.step_laws.specs.Lines.{tested_not, is_lac_at, is_lns_at, is_declared, has_call}
 use Rattle.protocol_model.specs.World.{World, Node, Sender, Lined, quiet_line, with_node, after_step, declared, lac_at, lns_at, with_call, later, config_of, added, block_of, stepped, addressee_of, arrival, refused_by, sender_of, arrives, delivers_it, delivers, line}
 use Rattle.frame_laws.specs.Codecs.{Codecs}
 use Rattle.frame_laws.specs.Past.{Passage, sent_in, handed_in}
@@ -34,41 +34,6 @@ use Rattle.frame_laws.proofs.Worlds.{Below, LineGives, EventGives, Counts, Goes,
 -- ---- which node it is
 
 -- by cases on a test
-tested : {X Y : Type 0} (a : Bool) (x : X) (y : Y) (z : X) → cond a (Ok x) (Err y) ≡ Ok z → (a ≡ true) × (x ≡ z)
-tested true x y z h = (refl, cc)
-tested false x y z h = absurd (cc)
-
-pub tested_not : {X Y : Type 0} (a : Bool) (x : X) (y : Y) (z : X) → cond a (Err y) (Ok x) ≡ Ok z → (a ≡ false) × (x ≡ z)
-tested_not true x y z h = absurd (cc)
-tested_not false x y z h = (refl, cc)
-
-is_lac_role : (r : Role) → is_lac r ≡ true → r ≡ role.Lac
-is_lac_role role.Lac h = refl
-is_lac_role role.Lns h = absurd (true≢false (sym h))
-
-is_lns_role : (r : Role) → is_lac r ≡ false → r ≡ role.Lns
-is_lns_role role.Lac h = absurd (true≢false h)
-is_lns_role role.Lns h = refl
-
-is_lac_at : (o : Option Node) (node : Node) → lac_at o ≡ Ok node → (o ≡ Some node) × (node.end.role ≡ role.Lac)
-is_lac_at None node h = absurd (cc)
-is_lac_at (Some x) node h =
-    let t = tested (is_lac x.end.role) x why.Node node h in (ap (λ y. Some y) t.1, subst (λ (y : Node). y.end.role ≡ role.Lac) t.1 (is_lac_role x.end.role t.0))
-
-is_declared : (o : Option Node) (node : Node) → declared o ≡ Ok node → o ≡ Some node
-is_declared None node h = absurd (cc)
-is_declared (Some x) node h = cc
-
-is_lns_at : (o : Option Node) (node : Node) → lns_at o ≡ Ok node → (o ≡ Some node) × (node.end.role ≡ role.Lns)
-is_lns_at None node h = absurd (cc)
-is_lns_at (Some x) node h =
-    let t = tested_not (is_lac x.end.role) x why.Node node h in
-    (ap (λ y. Some y) t.1, subst (λ (y : Node). y.end.role ≡ role.Lns) t.1 (is_lns_role x.end.role t.0))
-
-pub has_call : (session : ℕ) (r : Result Node Why) (node : Node) → with_call session r ≡ Ok node → r ≡ Ok node
-has_call session (Err x) node h = absurd (cc)
-has_call session (Ok x) node h = ap (λ y. Ok y) (tested (is_some (at x.end.calls session)) x why.Call node h).1
-
 -- ---- lines
 
 -- what a line leaves

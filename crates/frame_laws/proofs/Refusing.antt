@@ -1,5 +1,5 @@
 -- The session of a call that is refused has 16 bits, and so have the codes that tell it.
-use Rattle.std.proofs.Common.{◌≡◌, ℕ, ◌<◌, refl, Ok, arith}
+use Rattle.std.proofs.Common.{◌≡◌, ℕ, ◌<◌, refl, Ok}
 use Rattle.control_message.specs.declared.message.Message.{Message}
 use Rattle.control_message.specs.declared.message.Message.TheVariants.{Icrq, Icrp, Ocrq}
 use Rattle.protocol_model.specs.declared.event.Event.{Event}

@@ -1,5 +1,5 @@
 -- What a line does: nothing, or a node is declared, or a node makes a step.
-use Rattle.std.proofs.Common.{◌≡◌, ℕ, ◌+◌, ◌-◌, ◌^◌, Bool, true, false, cond, [], refl, sym, ap, ◌∙◌, subst, Option, Some, None, Result, Ok, Err}
+use Rattle.std.proofs.Common.{◌≡◌, ℕ, ◌+◌, ◌-◌, ◌^◌, false, [], refl, sym, ap, ◌∙◌, subst, Option, Some, None, Result, Ok, Err}
 use Rattle.std.proofs.lemmas.Bool.{true≢false}
 use Rattle.std.specs.Prelude.{is_some, min, slice_get}
 use Rattle.id_table.specs.Ids.{at}
@@ -15,8 +15,8 @@ use Rattle.protocol_model.specs.declared.refusal.Refusal.TheVariants.{Unfit}
 use Rattle.protocol_model.specs.declared.tunnel.Role.{Role}
 use Rattle.protocol_model.specs.declared.tunnel.Role.TheVariants as role
 use Rattle.protocol_model.specs.Names.{address_of}
-use Rattle.protocol_model.specs.Calls.{is_lac}
 use Rattle.protocol_model.specs.End.{new_end, step}
+use Rattle.step_laws.specs.Lines.{tested_not, is_lac_at, is_lns_at, is_declared, has_call}
 use Rattle.protocol_model.specs.World.{World, Node, Sender, Lined, quiet_line, with_node, after_step, declared, lac_at, lns_at, with_call, later, config_of, added, block_of, stepped, addressee_of, arrival, refused_by, sender_of, arrives, delivers_it, delivers, line}
 
 -- ---- what a line does
@@ -43,30 +43,6 @@ pub data LineDoes (w : World) (number : ℕ) (x : Lined) : Type 0 where
 -- ---- which node it is
 
 -- by cases on a test
-tested : {X Y : Type 0} (a : Bool) (x : X) (y : Y) (z : X) → cond a (Ok x) (Err y) ≡ Ok z → x ≡ z
-tested true x y z h = cc
-tested false x y z h = absurd (cc)
-
-tested_not : {X Y : Type 0} (a : Bool) (x : X) (y : Y) (z : X) → cond a (Err y) (Ok x) ≡ Ok z → (a ≡ false) × (x ≡ z)
-tested_not true x y z h = absurd (cc)
-tested_not false x y z h = (refl, cc)
-
-is_lac_at : (o : Option Node) (node : Node) → lac_at o ≡ Ok node → o ≡ Some node
-is_lac_at None node h = absurd (cc)
-is_lac_at (Some x) node h = ap (λ y. Some y) (tested (is_lac x.end.role) x why.Node node h)
-
-is_declared : (o : Option Node) (node : Node) → declared o ≡ Ok node → o ≡ Some node
-is_declared None node h = absurd (cc)
-is_declared (Some x) node h = cc
-
-is_lns_at : (o : Option Node) (node : Node) → lns_at o ≡ Ok node → o ≡ Some node
-is_lns_at None node h = absurd (cc)
-is_lns_at (Some x) node h = ap (λ y. Some y) (tested_not (is_lac x.end.role) x why.Node node h).1
-
-has_call : (session : ℕ) (r : Result Node Why) (node : Node) → with_call session r ≡ Ok node → r ≡ Ok node
-has_call session (Err x) node h = absurd (cc)
-has_call session (Ok x) node h = ap (λ y. Ok y) (tested (is_some (at x.end.calls session)) x why.Call node h)
-
 none_there : {X : Type 0} (o : Option X) → is_some o ≡ false → o ≡ None
 none_there None h = refl
 none_there (Some x) h = absurd (true≢false h)
@@ -129,18 +105,18 @@ module _ (w : World) (number : ℕ) (x : Lined) where
   line_does (Lac n m) h = added_does n role.Lac (address_of m) h
   line_does (Lns n) h = added_does n role.Lns 0 h
   line_does (OpenUp n) h =
-      stepped_does n event.OpenTunnel None (lac_at (at w.nodes n)) (λ node e. is_there w n node (is_lac_at (at w.nodes n) node e)) (OfNobody refl) h
+      stepped_does n event.OpenTunnel None (lac_at (at w.nodes n)) (λ node e. is_there w n node ((is_lac_at (at w.nodes n) node e).0)) (OfNobody refl) h
   line_does (Ring n port) h =
-      stepped_does n (event.Ring port) None (lac_at (at w.nodes n)) (λ node e. is_there w n node (is_lac_at (at w.nodes n) node e)) (OfNobody refl) h
+      stepped_does n (event.Ring port) None (lac_at (at w.nodes n)) (λ node e. is_there w n node ((is_lac_at (at w.nodes n) node e).0)) (OfNobody refl) h
   line_does (FromSub n session frame) h =
       stepped_does n (event.Payload session frame) None (with_call session (lac_at (at w.nodes n)))
-      (λ node e. is_there w n node (is_lac_at (at w.nodes n) node (has_call session (lac_at (at w.nodes n)) node e))) (OfNobody refl) h
+      (λ node e. is_there w n node ((is_lac_at (at w.nodes n) node (has_call session (lac_at (at w.nodes n)) node e)).0)) (OfNobody refl) h
   line_does (Down n session frame) h =
       stepped_does n (event.Lower session frame) None (with_call session (lns_at (at w.nodes n)))
-      (λ node e. is_there w n node (is_lns_at (at w.nodes n) node (has_call session (lns_at (at w.nodes n)) node e))) (OfNobody refl) h
+      (λ node e. is_there w n node ((is_lns_at (at w.nodes n) node (has_call session (lns_at (at w.nodes n)) node e)).0)) (OfNobody refl) h
   line_does (Hang n session) h =
       stepped_does n (event.Hang session) None (with_call session (lac_at (at w.nodes n)))
-      (λ node e. is_there w n node (is_lac_at (at w.nodes n) node (has_call session (lac_at (at w.nodes n)) node e))) (OfNobody refl) h
+      (λ node e. is_there w n node ((is_lac_at (at w.nodes n) node (has_call session (lac_at (at w.nodes n)) node e)).0)) (OfNobody refl) h
   line_does (DropCall n session) h =
       stepped_does n (event.DropCall session) None (with_call session (declared (at w.nodes n)))
       (λ node e. is_there w n node (is_declared (at w.nodes n) node (has_call session (declared (at w.nodes n)) node e))) (OfNobody refl) h

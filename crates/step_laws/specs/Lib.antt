@@ -7,3 +7,4 @@ pub mod Ups
 pub mod Room
 pub mod Causes
 pub mod Codes
+pub mod Lines
