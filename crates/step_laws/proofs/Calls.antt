@@ -25,11 +25,11 @@ use Rattle.protocol_model.specs.Reading.{body_of, message_in, call_fault_in}
 use Rattle.protocol_model.specs.Calls.{call_row, is_reply, is_connection, is_up, is_told, are_too_many}
 use Rattle.protocol_model.specs.Turn.{Tunnel, Turn, Reason, reason, out_of_state, tunnel_after, with_move, with_calls, takes_one, has_room, takes_plain, refuses, of_no_call, answers_by, call_of, left_of, granted, replies, asked_by, first_up_by, second_up_by, is_clean_up, end_heard_by, session_named, ends_named, about_call, in_call}
 use Rattle.protocol_model.specs.End.{End}
-use Rattle.step_laws.specs.Causes.{Came, AskedAgain, RepliedInVain, ConnectedInVain, Stands}
+use Rattle.step_laws.specs.Causes.{Came, MayBeGranted, AskedAgain, RepliedInVain, ConnectedInVain, Stands}
 use Rattle.step_laws.specs.Moves.{HearsNext, ComesNext, IsPlain, IsAsked, IsReplied, IsConnected, WhyRefused, IsNotGranted, IsOutgoing, IsReplyToNone}
 use Rattle.step_laws.proofs.Lists.{branch}
 use Rattle.step_laws.proofs.Owing.{spare_told}
-use Rattle.step_laws.proofs.Tells.{granted_stands}
+use Rattle.step_laws.proofs.Tells.{granted_stands, granted_may}
 use Rattle.step_laws.proofs.Turns.{TurnOk, PlainAt, at_turn, is_roomy, IsGranted, replied_ok, first_up_ok, second_up_ok, end_heard_ok, plain_ok, ignores_ok, refused_ok}
 use Rattle.step_laws.proofs.Settling.{Settled, unsent}
 use Rattle.step_laws.proofs.Comes.{Taking, next_of_heard, heard_in, comes_at, begun, came_at, told_at, calls_first, spare_first, at_first, that_call, no_call}
@@ -169,6 +169,11 @@ module _ (e : End) (moment : ℕ) (ev : Event) (letters : List Letter) (calls : 
         granted_stands e moment ev (begun e moment ev letters calls i t f.fresh) remote (record { header = session; serial = serial; calling = calling; came = came }) r
         (ap (granted e.role calls remote) (sym f.fresh.sessions) ∙ is)
 
+    -- or that it could be
+    grantable : (s : ℕ) → granted e.role calls remote t.sessions ≡ Ok s → MayBeGranted e (begun e moment ev letters calls i t f.fresh) remote
+    grantable s is =
+        granted_may e moment ev (begun e moment ev letters calls i t f.fresh) remote s (ap (granted e.role calls remote) (sym f.fresh.sessions) ∙ is)
+
     granted_now : (g : Result ℕ Reason) → granted e.role calls remote t.sessions ≡ g → granted e.role (with_calls t.changed calls) remote t.sessions ≡ g
     granted_now g is = ap (λ cs. granted e.role cs remote t.sessions) (calls_first e moment ev letters calls i t f.fresh) ∙ is
 
@@ -196,7 +201,8 @@ module _ (e : End) (moment : ℕ) (ev : Event) (letters : List Letter) (calls : 
         (IsAsked remote serial calling (heard_in ev t.control _ session (Icrq remote serial calling) refl refl refl hears) (inl (refl, refl, refl)))
         (λ told. (
           begun e moment ev letters calls i t f.fresh,
-          AskedAgain remote serial session calling came (told_at e moment ev letters calls i t f.fresh session c call_event.IcrqAcc found told),
+          AskedAgain remote serial session calling came (told_at e moment ev letters calls i t f.fresh session c call_event.IcrqAcc found told)
+              (grantable s is),
         ))
     asked_by_ok (Err r) is (Some c) found =
         answers_ok r session c call_event.IcrqNotAcc t f found (asks_plain c found)

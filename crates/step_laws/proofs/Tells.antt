@@ -31,7 +31,7 @@ use Rattle.protocol_model.specs.Turn.{Tunnel, Reason, reason, out_of_state, call
 use Rattle.protocol_model.specs.End.{End}
 use Rattle.step_laws.specs.Letters.{Among}
 use Rattle.step_laws.specs.Room.{IsFull}
-use Rattle.step_laws.specs.Causes.{CameFaulty, Asks, IsIdInUse, AskedInVain, ForRequest, Stands}
+use Rattle.step_laws.specs.Causes.{CameFaulty, Asks, IsIdInUse, MayBeGranted, AskedInVain, ForRequest, Stands}
 
 -- an output that tells why something isn't done
 abbrev pub Founded : End → ℕ → Event → Why → Type 0
@@ -165,5 +165,26 @@ module _ (e : End) (moment : ℕ) (ev : Event) (t : Tunnel) where
           so (reason cause.Session 2 (Some 5)) is (t, remote, asks, (λ none. true≢false (sym row ∙ none)), in_use remote used)
       by true false true d row used many drawn is =
           so (reason cause.Calls 4 None) is (inr (t, remote, asks, (λ none. true≢false (sym row ∙ none)), free remote used, many))
-      by true false false (Err x) row used many drawn is = so (reason cause.Ids 4 None) is (ForRequest t remote x asks (free remote used) many drawn)
+      by true false false (Err x) row used many drawn is = so (reason cause.Ids 4 None) is (ForRequest t remote x asks (λ none. true≢false (sym row ∙ none)) (free remote used) many drawn)
       by true false false (Ok s) row used many drawn is = absurd cc
+
+  -- where it is, none of these stands
+  pub granted_may : (remote s : ℕ) → granted e.role t.calls remote e.session_ids ≡ Ok s → MayBeGranted e t remote
+  unfolding granted
+  granted_may remote s h =
+      by (is_reply (call_row e.role call.Idle call_event.IcrqAcc).1) (remote == 0 || is_some (call_of t.calls remote)) (are_too_many t.calls)
+      (draws e.session_ids) refl refl refl refl h
+    where
+      no_error : (n : ℕ) → draws e.session_ids ≡ Ok n → (x : IdError) → draws e.session_ids ≡ Err x → ⊥
+      no_error n drawn x none = absurd cc
+
+      by : (a b c : Bool) (d : Result ℕ IdError) → is_reply (call_row e.role call.Idle call_event.IcrqAcc).1 ≡ a
+          → (remote == 0 || is_some (call_of t.calls remote)) ≡ b → are_too_many t.calls ≡ c → draws e.session_ids ≡ d
+          → cond (not a) (Err out_of_state) (cond b (Err (reason cause.Session 2 (Some 5))) (cond c (Err (reason cause.Calls 4 None)) (left_of d))) ≡ Ok s
+          → MayBeGranted e t remote
+      by false b c d row used many drawn is = absurd cc
+      by true true c d row used many drawn is = absurd cc
+      by true false true d row used many drawn is = absurd cc
+      by true false false (Err x) row used many drawn is = absurd cc
+      by true false false (Ok n) row used many drawn is =
+          record { takes = λ none. true≢false (sym row ∙ none); free = free remote used; few = many; ids = no_error n drawn }

@@ -76,11 +76,19 @@ TakesNoCalls e = is_reply (call_row e.role call.Idle call_event.IcrqAcc).1 ≡ f
 abbrev pub IsIdInUse : Tunnel → ℕ → Type 0
 IsIdInUse t remote = (remote ≡ 0) ⊎ ((s : ℕ) × (call_of t.calls remote ≡ Some s))
 
+-- none of the causes stands for which a request can't be granted
+pub record MayBeGranted (e : End) (t : Tunnel) (remote : ℕ) : Type 0 where
+  pub takes : TakesNoCalls e → ⊥
+  pub free : IsIdInUse t remote → ⊥
+  pub few : are_too_many t.calls ≡ false
+  pub ids : (x : IdError) → draws e.session_ids ≡ Err x → ⊥
+
 -- a message that the table has no good use for: a request to an end that takes none, or that names a call; a reply to an end that
 -- asks for none; a reply or a connection that comes to a call that doesn't wait for it
 pub data IsOutOfState (e : End) (ev : Event) (t : Tunnel) : Type 0 where
   AskedInVain : (remote : ℕ) → Asks e ev t remote → TakesNoCalls e → IsOutOfState e ev t
   AskedAgain : (remote serial s : ℕ) (calling : Option (List ℕ)) → Came e ev t s (Icrq remote serial calling) → IsTold e t s call_event.IcrqAcc
+      → MayBeGranted e t remote
       → IsOutOfState e ev t
   RepliedInVain : (remote s : ℕ) → Came e ev t s (Icrp remote) → ((at t.calls s ≡ None) × (e.role ≡ Lns)) ⊎ IsTold e t s call_event.IcrpAcc
       → IsOutOfState e ev t
@@ -95,7 +103,8 @@ pub data LackIds (e : End) (ev : Event) : Type 0 where
       → draws e.session_ids ≡ Err x → LackIds e ev
   ForNew : RingsNew e ev → has_all_tunnels e.tunnels ≡ false → ((x : IdError) × (draws e.session_ids ≡ Err x)) ⊎ ((x : IdError) × (draws e.tunnel_ids ≡ Err x)) → LackIds e ev
   ForOpening : (x : IdError) → ev ≡ OpenTunnel → has_all_tunnels e.tunnels ≡ false → draws e.tunnel_ids ≡ Err x → LackIds e ev
-  ForRequest : (t : Tunnel) (remote : ℕ) (x : IdError) → Asks e ev t remote → (IsIdInUse t remote → ⊥) → are_too_many t.calls ≡ false
+  ForRequest : (t : Tunnel) (remote : ℕ) (x : IdError) → Asks e ev t remote → (TakesNoCalls e → ⊥) → (IsIdInUse t remote → ⊥)
+      → are_too_many t.calls ≡ false
       → draws e.session_ids ≡ Err x → LackIds e ev
 
 -- what a cause says; those that aren't told yet say nothing that can be so
