@@ -1,5 +1,5 @@
 -- What a run did with the letters of each tunnel, of what its lines did. No end keeps it, and the run doesn't depend on it.
-use Rattle.std.specs.Prelude.{ℕ, List, [], ◌∷◌, ◌++◌, ◌==◌, ◌&&◌, Option, Some, None, if◌then◌else◌}
+use Rattle.std.specs.Prelude.{ℕ, List, [], ◌∷◌, ◌++◌, length, ◌==◌, ◌&&◌, Option, Some, None, unwrap_or, if◌then◌else◌}
 use Rattle.protocol_model.specs.declared.moves.Place.{Place}
 use Rattle.protocol_model.specs.declared.moves.Move.{Move}
 use Rattle.protocol_model.specs.declared.moves.Move.TheVariants as move
@@ -31,9 +31,15 @@ pub record Account : Type 0 where
   -- every letter that was given to its channel, and every letter that it took, in order
   pub given : List Letter
   pub taken : List Taken
+  -- once it is closed, how many letters it had taken before, or before the one that closed it; what it takes since is ignored
+  pub closed : Option ℕ
 
 abbrev pub no_account : Account
-no_account = record { part = Unmade; peer = 0; remote = 0; given = []; taken = [] }
+no_account = record { part = Unmade; peer = 0; remote = 0; given = []; taken = []; closed = None }
+
+-- how many letters it took as long as it wasn't closed
+abbrev pub heeded : Account → ℕ
+heeded a = unwrap_or a.closed (length a.taken)
 
 -- the tunnel that a move is about
 abbrev pub about : Move → ℕ
@@ -50,6 +56,8 @@ about (move.Refused m) = m.tunnel
 about (move.EndTold m) = m.tunnel
 about (move.EndHeard m) = m.tunnel
 about (move.EndSilent m) = m.tunnel
+about (move.Closed m) = m.tunnel
+about (move.ClosedBy m) = m.tunnel
 about (move.Cleared i) = i
 about (move.Greeted m) = m.tunnel
 about (move.TookPlain m) = m.tunnel
@@ -85,6 +93,8 @@ entered_by d (move.Refused m) a = gives_also d (takes_at d m.taken a)
 entered_by d (move.EndTold m) a = gives_also d a
 entered_by d (move.EndHeard m) a = takes_at d m.taken a
 entered_by d (move.EndSilent m) a = a
+entered_by d (move.Closed m) a = gives_also d (record a { remote = m.remote; closed = Some (length a.taken) })
+entered_by d (move.ClosedBy m) a = takes_at d m.taken (record a { closed = Some (length a.taken) })
 entered_by d (move.Cleared i) a = a
 entered_by d (move.Greeted m) a = gives_also d a
 entered_by d (move.TookPlain m) a = takes_at d m.taken a

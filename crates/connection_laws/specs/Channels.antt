@@ -1,5 +1,5 @@
 -- What control connections carry, in every run.
-use Rattle.std.specs.Prelude.{◌≡◌, ℕ, ◌+◌, ◌-◌, ◌^◌, ◌<◌, ◌&&◌, nat_le, false, if◌then◌else◌, List, length, slice_get, Some, None}
+use Rattle.std.specs.Prelude.{◌≡◌, ◌⊎◌, ℕ, ◌+◌, ◌-◌, ◌^◌, ◌<◌, ◌≤◌, ◌&&◌, nat_le, false, if◌then◌else◌, List, length, slice_get, Some, None}
 use Rattle.std.specs.List.{AllByRecursion}
 use Rattle.id_table.specs.Ids.{at}
 use Rattle.send_window.specs.Kept.{Window}
@@ -41,10 +41,20 @@ pub record WasTaken (ds : List Deed) (sender : Sender) (number : ℕ) : Type 0 w
   pub there : slice_get (account_of ds node tunnel).taken number ≡ Some letter
   pub from : letter.sender ≡ Some sender
 
+-- a tunnel that goes to this node had taken no more than so many letters when it was closed, and has acknowledged since what it ignored
+pub record WasIgnored (ds : List Deed) (n number : ℕ) : Type 0 where
+  pub node : ℕ
+  pub tunnel : ℕ
+  pub goes : (account_of ds node tunnel).peer ≡ n
+  pub count : ℕ
+  pub closed : (account_of ds node tunnel).closed ≡ Some count
+  pub before : count ≤ number
+
 -- each letter that a live tunnel counts as acknowledged
 abbrev pub AcksAreTrue : Run → Type 0
 AcksAreTrue r = (n : ℕ) (node : Node) → at r.world.nodes n ≡ Some node → (i : ℕ) (t : Tunnel) → at node.end.tunnels i ≡ Some t
-    → (number : ℕ) → number < t.control.channel.window.acked → WasTaken r.done (record { node = n; tunnel = i }) number
+    → (number : ℕ) → number < t.control.channel.window.acked
+    → WasTaken r.done (record { node = n; tunnel = i }) number ⊎ WasIgnored r.done n number
 
 -- ---- how numbers on the wire are read
 

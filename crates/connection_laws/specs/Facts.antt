@@ -15,7 +15,7 @@ use Rattle.control_message.specs.Pairs.{pairs_of, IsWritten}
 use Rattle.recv_window.specs.Window.{on_wire}
 use Rattle.tunnel_fsm.specs.Rows.{state_number}
 use Rattle.protocol_model.specs.declared.event.Event.{Event}
-use Rattle.protocol_model.specs.declared.event.Event.TheVariants.{Datagram, Ring, Payload, Lower, Hang, OpenTunnel, DropCall, Tick}
+use Rattle.protocol_model.specs.declared.event.Event.TheVariants.{Datagram, Ring, Payload, Lower, Hang, OpenTunnel, DropCall, CloseTunnel, Tick}
 use Rattle.protocol_model.specs.declared.moves.Move.{Move}
 use Rattle.protocol_model.specs.declared.moves.Move.TheVariants as move
 use Rattle.protocol_model.specs.declared.out.Origin.{Origin}
@@ -24,6 +24,7 @@ use Rattle.protocol_model.specs.declared.out.ControlOrigin.{ControlOrigin}
 use Rattle.protocol_model.specs.declared.packet.Packet.{Packet}
 use Rattle.protocol_model.specs.declared.tunnel.Call.{Call}
 use Rattle.protocol_model.specs.declared.tunnel.Role.TheVariants.{Lac}
+use Rattle.call_fsm.specs.declared.table.CallState.TheVariants.{WaitTunnel}
 use Rattle.protocol_model.specs.Names.{address_of}
 use Rattle.protocol_model.specs.Turn.{Tunnel, letter_of}
 use Rattle.protocol_model.specs.End.{End}
@@ -31,7 +32,7 @@ use Rattle.protocol_model.specs.World.{World, Node, Sender, sender_of}
 use Rattle.step_laws.specs.Letters.{Letter}
 use Rattle.step_laws.specs.Moves.{IsFor}
 use Rattle.step_laws.specs.Steps.{AreKept}
-use Rattle.connection_laws.specs.Accounts.{Part, Unmade, Opener, Acceptor, Taken, Account, no_account, partner_of}
+use Rattle.connection_laws.specs.Accounts.{Part, Unmade, Opener, Acceptor, Taken, Account, no_account, heeded, partner_of}
 
 -- what is known of each tunnel of each node, by the node and the local id
 abbrev pub Accounts : Type 0
@@ -55,6 +56,39 @@ IsNoOpening (Icrq session serial calling) = Unit {0}
 IsNoOpening (Icrp session) = Unit {0}
 IsNoOpening (Iccn speed framing sequenced) = Unit {0}
 IsNoOpening (Cdn session code error) = Unit {0}
+
+-- it closes no tunnel, and it does
+abbrev pub IsNoStop : Message → Type 0
+IsNoStop (StopCcn tunnel code error) = ⊥
+IsNoStop (Sccrq o) = Unit {0}
+IsNoStop (Sccrp o) = Unit {0}
+IsNoStop Scccn = Unit {0}
+IsNoStop Hello = Unit {0}
+IsNoStop (Ocrq session) = Unit {0}
+IsNoStop Ocrp = Unit {0}
+IsNoStop Occn = Unit {0}
+IsNoStop Wen = Unit {0}
+IsNoStop Sli = Unit {0}
+IsNoStop (Icrq session serial calling) = Unit {0}
+IsNoStop (Icrp session) = Unit {0}
+IsNoStop (Iccn speed framing sequenced) = Unit {0}
+IsNoStop (Cdn session code error) = Unit {0}
+
+abbrev pub IsStopCcn : Message → Type 0
+IsStopCcn (StopCcn tunnel code error) = Unit {0}
+IsStopCcn (Sccrq o) = ⊥
+IsStopCcn (Sccrp o) = ⊥
+IsStopCcn Scccn = ⊥
+IsStopCcn Hello = ⊥
+IsStopCcn (Ocrq session) = ⊥
+IsStopCcn Ocrp = ⊥
+IsStopCcn Occn = ⊥
+IsStopCcn Wen = ⊥
+IsStopCcn Sli = ⊥
+IsStopCcn (Icrq session serial calling) = ⊥
+IsStopCcn (Icrp session) = ⊥
+IsStopCcn (Iccn speed framing sequenced) = ⊥
+IsStopCcn (Cdn session code error) = ⊥
 
 -- the letter is spelled, and read again
 pub record IsSpelled (l : Letter) : Type 0 where
@@ -98,42 +132,64 @@ pub record IsTaken (accs : Accounts) (a : Account) (number : ℕ) (t : Taken) : 
   pub there : slice_get (accs partner.node partner.tunnel).given number ≡ Some letter
   pub tells : Tells letter t.move
 
+-- so it is with each that it took as long as it wasn't closed
 abbrev pub AreTaken : Accounts → Account → Type 0
-AreTaken accs a = (number : ℕ) (t : Taken) → slice_get a.taken number ≡ Some t → IsTaken accs a number t
+AreTaken accs a = (number : ℕ) (t : Taken) → slice_get a.taken number ≡ Some t → number < heeded a → IsTaken accs a number t
+
+-- ---- closed tunnels
+
+abbrev pub IsOpen : Account → Type 0
+IsOpen a = a.closed ≡ None
+
+abbrev pub IsClosed : Account → Type 0
+IsClosed a = (count : ℕ) × (a.closed ≡ Some count) × (count ≤ length a.taken)
+
+-- it was closed before it had learned its partner, or taken anything
+abbrev pub IsLost : Account → Type 0
+IsLost a = (a.closed ≡ Some 0) × (a.remote ≡ 0)
 
 -- ---- two partners
 
--- what two tunnels that have learned each other took of each other: no more than was given, and at most 8,192 letters more
--- were given than are taken
+-- what an opener and the acceptor that it has learned took of each other: no more than was given, and at most 8,192 letters more
+-- were given than are taken. An opener that is closed may have taken the SCCRP and the StopCCN of another acceptor of its SCCRQ
 pub record AreJoined (a b : Account) : Type 0 where
-  pub here : length a.taken ≤ length b.given
+  pub here : (length a.taken ≤ length b.given) ⊎ (IsClosed a × (length a.taken ≤ 2))
   pub there : length b.taken ≤ length a.given
   pub few_here : length a.given ≤ length b.taken + 8192
   pub few_there : length b.given ≤ length a.taken + 8192
+
+-- it gave one letter and then a StopCCN, or that alone
+pub record HasStopped (a : Account) : Type 0 where
+  pub closed : IsClosed a
+  pub few : length a.given ≤ 2
+  pub stops : AllByRecursion (λ (l : Letter). IsStopCcn l.message) (drop 1 a.given)
 
 -- the account of the partner of a tunnel that has learned its id
 abbrev pub partner_in : Accounts → Account → Account
 partner_in accs a = accs a.peer a.remote
 
--- a tunnel that was opened: what it takes is of the acceptor that it learned
+-- a tunnel that was opened: what it takes is of the acceptor that it learned; one that is lost gave its SCCRQ and a StopCCN at most, and
+-- ignored two letters at most
 pub record IsOpener (accs : Accounts) (n i : ℕ) (a : Account) : Type 0 where
   pub begins : BeginsWith i Sccrq a.given
-  pub none : a.remote ≡ 0 → a.taken ≡ []
+  pub none : a.remote ≡ 0 → (a.taken ≡ []) ⊎ (IsLost a × (length a.taken ≤ 2))
+  pub one_given : a.remote ≡ 0 → (length a.given ≡ 1) ⊎ (IsLost a × (length a.given ≤ 2))
   pub some : (a.remote ≡ 0 → ⊥) → 1 ≤ length a.taken
   pub part : (a.remote ≡ 0 → ⊥) → (partner_in accs a).part ≡ Acceptor
   pub peer : (a.remote ≡ 0 → ⊥) → (partner_in accs a).peer ≡ n
   pub remote : (a.remote ≡ 0 → ⊥) → (partner_in accs a).remote ≡ i
   pub joined : (a.remote ≡ 0 → ⊥) → AreJoined a (partner_in accs a)
 
--- a tunnel that was accepted: as long as its opener hasn't learned it, it took the SCCRQ alone, and gave its SCCRP alone
+-- a tunnel that was accepted: as long as its opener hasn't learned it, it took the SCCRQ alone, and gave its SCCRP alone; but one that
+-- is closed gave a StopCCN too, and the opener's StopCCN may come where the opener is lost
 pub record IsAcceptor (accs : Accounts) (n i : ℕ) (a : Account) : Type 0 where
   pub begins : BeginsWith i Sccrp a.given
   pub known : a.remote ≡ 0 → ⊥
   pub some : 1 ≤ length a.taken
   pub part : (partner_in accs a).part ≡ Opener
   pub peer : (partner_in accs a).peer ≡ n
-  pub one_taken : ((partner_in accs a).remote ≡ i → ⊥) → length a.taken ≡ 1
-  pub one_given : ((partner_in accs a).remote ≡ i → ⊥) → length a.given ≡ 1
+  pub one_taken : ((partner_in accs a).remote ≡ i → ⊥) → (length a.taken ≡ 1) ⊎ (IsLost (partner_in accs a) × (length a.taken ≤ 2))
+  pub one_given : ((partner_in accs a).remote ≡ i → ⊥) → (length a.given ≡ 1) ⊎ HasStopped a
 
 abbrev pub IsPart : Accounts → ℕ → ℕ → Account → Part → Type 0
 IsPart accs n i a Unmade = a ≡ no_account
@@ -159,30 +215,42 @@ pub record AccountOk (accs : Accounts) (n i : ℕ) (a : Account) : Type 0 where
 abbrev pub kept_letter : Letter → wire.Letter
 kept_letter l = letter_of l.session l.message
 
--- an acceptor of the tunnel's SCCRQ
-pub record IsAnswered (accs : Accounts) (n i : ℕ) (a : Account) : Type 0 where
+-- an acceptor of the tunnel's SCCRQ took so many of its letters
+pub record IsAnswered (accs : Accounts) (n i : ℕ) (a : Account) (acked : ℕ) : Type 0 where
   pub acceptor : ℕ
   pub part : (accs a.peer acceptor).part ≡ Acceptor
   pub peer : (accs a.peer acceptor).peer ≡ n
   pub remote : (accs a.peer acceptor).remote ≡ i
+  pub enough : acked ≤ length (accs a.peer acceptor).taken
+
+-- calls that wait for their tunnel
+abbrev pub AllWait : List (ℕ × Call) → Type 0
+AllWait calls = (s : ℕ) (c : Call) → at calls s ≡ Some c → c.state ≡ WaitTunnel
+
+-- a closed tunnel has no calls
+abbrev pub IsShut : Account → Tunnel → Type 0
+IsShut a t = (state_number t.control.state ≡ 4) × IsClosed a × (t.calls ≡ [])
 
 -- where a tunnel stands, by how it was made: it has learned its partner's id once it is open, and an acceptor is open only
 -- where its opener has learned it
 abbrev pub IsInState : Accounts → ℕ → Account → Tunnel → Part → Type 0
 IsInState accs i a t Unmade = ⊥
 IsInState accs i a t Opener =
-    ((state_number t.control.state ≡ 1) × (a.remote ≡ 0)) ⊎ ((state_number t.control.state ≡ 3) × (a.remote ≡ 0 → ⊥))
+    ((state_number t.control.state ≡ 1) × (a.remote ≡ 0) × IsOpen a × AllWait t.calls)
+    ⊎ (((state_number t.control.state ≡ 3) × (a.remote ≡ 0 → ⊥) × IsOpen a) ⊎ IsShut a t)
 IsInState accs i a t Acceptor =
-    ((state_number t.control.state ≡ 2) × (t.calls ≡ [])) ⊎ ((state_number t.control.state ≡ 3) × ((partner_in accs a).remote ≡ i))
+    ((state_number t.control.state ≡ 2) × (t.calls ≡ []) × IsOpen a)
+    ⊎ (((state_number t.control.state ≡ 3) × ((partner_in accs a).remote ≡ i) × IsOpen a) ⊎ IsShut a t)
 
--- what a tunnel counts as acknowledged was taken: by its partner, or, before it has learned one, by an acceptor of its SCCRQ
+-- what a tunnel counts as acknowledged was taken: by its partner, or, before it has learned one, by an acceptor of its SCCRQ; of an
+-- acceptor that its opener hasn't learned nothing was, but where the opener is lost
 abbrev pub AreAcked : Accounts → ℕ → ℕ → Account → ℕ → Part → Type 0
 AreAcked accs n i a acked Unmade = ⊥
 AreAcked accs n i a acked Opener =
-    (a.remote ≡ 0 → (acked ≡ 0) ⊎ ((acked ≡ 1) × IsAnswered accs n i a))
+    (a.remote ≡ 0 → (acked ≡ 0) ⊎ IsAnswered accs n i a acked)
     × ((a.remote ≡ 0 → ⊥) → acked ≤ length (partner_in accs a).taken)
 AreAcked accs n i a acked Acceptor =
-    (((partner_in accs a).remote ≡ i → ⊥) → acked ≡ 0)
+    (((partner_in accs a).remote ≡ i → ⊥) → (acked ≡ 0) ⊎ IsLost (partner_in accs a))
     × ((partner_in accs a).remote ≡ i → acked ≤ length (partner_in accs a).taken)
 
 -- a live tunnel and its channel are as what was done in it says
@@ -231,13 +299,14 @@ pub data Says (a : Account) (o : ControlOrigin) (tunnel : ℕ) (bytes : List ℕ
   Nothing : o.empty ≡ true → bytes ≡ control_bytes tunnel 0 (on_wire o.ns) (on_wire o.nr) [] → Says a o tunnel bytes
 
 -- a control message is a copy of a letter, with its number, or of none; it tells no more taken than was; it goes to the node
--- of its sender's peer, and names the tunnel that the sender has learned, or none: then it tells nothing taken
+-- of its sender's peer, and names the tunnel that the sender has learned, or none: then it tells nothing taken, and is the first letter,
+-- but where the sender is lost
 pub record IsCopy (a : Account) (p : Packet) (o : ControlOrigin) : Type 0 where
   pub made : IsMade a
   pub to : p.to ≡ a.peer
   pub nr : o.nr ≤ length a.taken
   pub tunnel : ℕ
-  pub named : ((tunnel ≡ 0) × (o.nr ≡ 0)) ⊎ ((tunnel ≡ 0 → ⊥) × (tunnel ≡ a.remote))
+  pub named : ((tunnel ≡ 0) × (IsLost a ⊎ ((o.nr ≡ 0) × (o.empty ≡ false → o.ns ≡ 0)))) ⊎ ((tunnel ≡ 0 → ⊥) × (tunnel ≡ a.remote))
   pub says : Says a o tunnel p.bytes
 
 -- a data message is one: nothing more is said of it here
@@ -289,6 +358,7 @@ Comes accs n e sender (Lower s frame) = Unit {0}
 Comes accs n e sender (Hang s) = Unit {0}
 Comes accs n e sender OpenTunnel = Unit {0}
 Comes accs n e sender (DropCall s) = Unit {0}
+Comes accs n e sender (CloseTunnel i) = Unit {0}
 Comes accs n e sender Tick = Unit {0}
 
 -- what holds between two moves of a step of a node's end

@@ -1,22 +1,26 @@
 -- The moves of a step, each made where all of it holds; and what a line does.
-use Rattle.std.specs.Prelude.{◌≡◌, ℕ, ◌+◌, ◌^◌, ◌<◌, ◌≤◌, List, [], ◌∷◌, map, length, slice_get, Option, Some, None, option_map, Ok}
+use Rattle.std.specs.Prelude.{◌≡◌, ◌⊎◌, ℕ, ◌+◌, ◌^◌, ◌<◌, ◌≤◌, true, false, List, [], ◌∷◌, map, length, slice_get, Option, Some, None, option_map, Ok}
 use Rattle.id_table.specs.Ids.{at, put}
 use Rattle.control_message.specs.declared.message.Message.{Message}
+use Rattle.control_message.specs.declared.message.Message.TheVariants.{Sccrq, Sccrp}
+use Rattle.control_message.specs.declared.message.Opening.{Opening}
 use Rattle.schedule_text.specs.declared.line.Line.{Line}
 use Rattle.schedule_text.specs.Grammar.{FitsLine}
 use Rattle.protocol_model.specs.declared.event.Event.{Event}
 use Rattle.protocol_model.specs.declared.moves.Move.{Move}
+use Rattle.protocol_model.specs.declared.moves.Closed.{Closed}
+use Rattle.protocol_model.specs.declared.moves.ClosedBy.{ClosedBy}
 use Rattle.protocol_model.specs.declared.tunnel.Control.{Control}
 use Rattle.protocol_model.specs.declared.tunnel.Role.{Role}
-use Rattle.protocol_model.specs.Reading.{body_of, message_in, CallFault}
-use Rattle.protocol_model.specs.Turn.{Tunnel}
+use Rattle.protocol_model.specs.Reading.{body_of, message_in, CallFault, TunnelFault}
+use Rattle.protocol_model.specs.Turn.{Tunnel, is_acceptable, is_closed}
 use Rattle.protocol_model.specs.End.{End, new_end, step}
 use Rattle.protocol_model.specs.World.{World, Node, Sender, Deed, Lined, birth_of, moved_all, config_of, deed_of, line}
 use Rattle.protocol_model.specs.Run.{Run, empty_run, after_line}
 use Rattle.step_laws.specs.Letters.{Letter}
-use Rattle.step_laws.specs.Moves.{Does, HearsNext, ComesNext, InTunnel, IsFaulty}
+use Rattle.step_laws.specs.Moves.{Does, Hears, HearsNext, ComesNext, InTunnel, IsFaulty, IsFaultyInTunnel, Closes, ClosesBy}
 use Rattle.connection_laws.specs.Accounts.{account_of, after_deed}
-use Rattle.connection_laws.specs.Facts.{Accounts, IsNoOpening, Within, Holds}
+use Rattle.connection_laws.specs.Facts.{Accounts, IsNoOpening, IsNoStop, IsStopCcn, Within, Holds}
 
 -- ---- a move of a step
 
@@ -58,7 +62,7 @@ MovesWithin accs n e sender moment ev deed (m ∷ ms) x =
 
 -- ---- the letter that is heard
 
--- the next letter that a live tunnel hears is the next one of the list of its sender, which has learned this tunnel
+-- the next letter that a live tunnel hears, which isn't closed, is the next one of the list of its sender, which has learned this tunnel
 pub record NextLetter (accs : Accounts) (n i : ℕ) (sender : Option Sender) (session : ℕ) (m : Message) : Type 0 where
   pub from : Sender
   pub sender_is : sender ≡ Some from
@@ -72,20 +76,46 @@ pub record NextLetter (accs : Accounts) (n i : ℕ) (sender : Option Sender) (se
 
 abbrev pub NextIsHeard : Type 0
 NextIsHeard = (accs : Accounts) (n : ℕ) (e : End) (sender : Option Sender) (ev : Event) → Within accs n e sender ev
-    → (i : ℕ) (t : Tunnel) → at e.tunnels i ≡ Some t → (session : ℕ) (m : Message) → HearsNext ev t.control session m
-    → NextLetter accs n i sender session m
+    → (i : ℕ) (t : Tunnel) → at e.tunnels i ≡ Some t → is_closed t.control.state ≡ false → (session : ℕ) (m : Message) → IsNoStop m
+    → HearsNext ev t.control session m → NextLetter accs n i sender session m
 
 -- one that is taken plainly
 pub record PlainLetter (accs : Accounts) (n i : ℕ) (sender : Option Sender) (ev : Event) (t : Tunnel) (k : ComesNext ev t.control) : Type 0 where
   pub message : Message
   pub said : message_in (body_of k.header k.bytes) ≡ Ok message
-  pub next : NextLetter accs n i sender k.header.session message
+  pub next : IsNoStop message → NextLetter accs n i sender k.header.session message
 
 abbrev pub PlainIsHeard : Type 0
 PlainIsHeard = (accs : Accounts) (n : ℕ) (e : End) (sender : Option Sender) (ev : Event) → Within accs n e sender ev
-    → (i : ℕ) (t : Tunnel) → at e.tunnels i ≡ Some t → (k : ComesNext ev t.control) → PlainLetter accs n i sender ev t k
+    → (i : ℕ) (t : Tunnel) → at e.tunnels i ≡ Some t → is_closed t.control.state ≡ false → (k : ComesNext ev t.control)
+    → PlainLetter accs n i sender ev t k
 
--- a control message that comes in a live tunnel, the next one or not, and opens or accepts none
+-- a StopCCN: its sender has learned this tunnel, or is lost and was accepted by it
+pub record StopLetter (accs : Accounts) (n i : ℕ) (sender : Option Sender) : Type 0 where
+  pub from : Sender
+  pub sender_is : sender ≡ Some from
+  pub peer : (accs n i).peer ≡ from.node
+  pub goes : (accs from.node from.tunnel).peer ≡ n
+  pub reaches : ((accs from.node from.tunnel).remote ≡ i) ⊎ (((accs from.node from.tunnel).remote ≡ 0) × ((accs n i).remote ≡ from.tunnel))
+  pub letter : Letter
+  pub there : slice_get (accs from.node from.tunnel).given (length (accs n i).taken) ≡ Some letter
+  pub stops : IsStopCcn letter.message
+
+abbrev pub StopIsHeard : Type 0
+StopIsHeard = (accs : Accounts) (n : ℕ) (e x : End) (sender : Option Sender) (moment : ℕ) (ev : Event) → Within accs n e sender ev
+    → (m : ClosedBy) → ClosesBy e moment ev m x → StopLetter accs n m.tunnel sender
+
+-- a StopCCN goes to the tunnel that is known
+abbrev pub ClosingsAreKnown : Type 0
+ClosingsAreKnown = (accs : Accounts) (n : ℕ) (e x : End) (sender : Option Sender) (moment : ℕ) (ev : Event) → Within accs n e sender ev
+    → (m : Closed) → Closes e moment ev m x → m.remote ≡ (accs n m.tunnel).remote
+
+-- no opening that is heard has another version
+abbrev pub OpeningsAreAcceptable : Type 0
+OpeningsAreAcceptable = (accs : Accounts) (n : ℕ) (e : End) (sender : Option Sender) (ev : Event) → Within accs n e sender ev
+    → (peer session : ℕ) (o : Opening) → (Hears ev peer session (Sccrq o)) ⊎ (Hears ev peer session (Sccrp o)) → is_acceptable o ≡ true
+
+-- a control message that comes in a live tunnel, the next one or not, and opens, accepts or closes none
 pub record HeardLetter (accs : Accounts) (n i : ℕ) (sender : Option Sender) (session : ℕ) (m : Message) : Type 0 where
   pub from : Sender
   pub sender_is : sender ≡ Some from
@@ -100,13 +130,17 @@ pub record HeardLetter (accs : Accounts) (n i : ℕ) (sender : Option Sender) (s
 
 abbrev pub LettersAreHeard : Type 0
 LettersAreHeard = (accs : Accounts) (n : ℕ) (e : End) (sender : Option Sender) (ev : Event) → Within accs n e sender ev
-    → (i : ℕ) (t : Tunnel) → at e.tunnels i ≡ Some t → (session : ℕ) (m : Message) → IsNoOpening m → InTunnel ev t.control session m
+    → (i : ℕ) (t : Tunnel) → at e.tunnels i ≡ Some t → (session : ℕ) (m : Message) → IsNoOpening m → IsNoStop m → InTunnel ev t.control session m
     → HeardLetter accs n i sender session m
 
--- no message about a call has a fault
+-- no message about a call has a fault, nor any other
 abbrev pub NoneIsFaulty : Type 0
 NoneIsFaulty = (accs : Accounts) (n : ℕ) (e : End) (sender : Option Sender) (ev : Event) → Within accs n e sender ev
     → (c : Control) (session : ℕ) (f : CallFault) → IsFaulty ev c session f → ⊥
+
+abbrev pub NoneIsFaultyInTunnel : Type 0
+NoneIsFaultyInTunnel = (accs : Accounts) (n : ℕ) (e : End) (sender : Option Sender) (ev : Event) → Within accs n e sender ev
+    → (c : Control) (g : TunnelFault) → IsFaultyInTunnel ev c g → ⊥
 
 -- ---- lines
 

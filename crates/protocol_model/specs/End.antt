@@ -23,14 +23,14 @@ use Rattle.protocol_model.specs.declared.tunnel.Control.{Control}
 use Rattle.protocol_model.specs.declared.tunnel.Role.{Role}
 use Rattle.protocol_model.specs.declared.tunnel.Role.TheVariants.{Lac, Lns}
 use Rattle.protocol_model.specs.declared.event.Event.{Event}
-use Rattle.protocol_model.specs.declared.event.Event.TheVariants.{Datagram, Ring, Payload, Lower, Hang, OpenTunnel, DropCall, Tick}
+use Rattle.protocol_model.specs.declared.event.Event.TheVariants.{Datagram, Ring, Payload, Lower, Hang, OpenTunnel, DropCall, CloseTunnel, Tick}
 use Rattle.protocol_model.specs.declared.out.Out.{Out}
 use Rattle.protocol_model.specs.declared.out.Out.TheVariants.{Up, Drop, Cause}
 use Rattle.protocol_model.specs.declared.moves.Move.{Move}
 use Rattle.protocol_model.specs.declared.moves.Move.TheVariants as move
 use Rattle.protocol_model.specs.Calls.{is_lac, Carried, Upward, Dropped, carry_look, frame_of}
 use Rattle.protocol_model.specs.declared.event.Addressee.{Addressee}
-use Rattle.protocol_model.specs.declared.event.Addressee.TheVariants.{Opens, Main, Nobody}
+use Rattle.protocol_model.specs.declared.event.Addressee.TheVariants.{Opens, Stops, Main, Nobody}
 use Rattle.protocol_model.specs.Reading.{header_why, body_of, at_zero, at_tunnel}
 use Rattle.protocol_model.specs.Turn.{Tunnel, Env, Turn, turn_of, tunnel_after, fresh, turns}
 
@@ -203,8 +203,14 @@ abbrev pub opened_before : ℕ → Option ℕ → Addressee
 opened_before remote None = Opens remote
 opened_before remote (Some i) = Main i
 
+-- a StopCCN that names no tunnel is for the one whose peer assigned the id that it tells
+abbrev pub stopped_at : Option ℕ → Addressee
+stopped_at None = Nobody why.Tunnel
+stopped_at (Some i) = Main i
+
 unfoldable pub opens_once : End → ℕ → Addressee → Addressee
 opens_once e peer (Opens remote) = opened_before remote (known_as peer remote e.tunnels)
+opens_once e peer (Stops remote) = stopped_at (known_as peer remote e.tunnels)
 opens_once e peer a = a
 
 -- what a control message is for
@@ -227,6 +233,7 @@ reached e peer bytes = reached_by e peer bytes (header_of bytes)
 
 unfoldable pub for_addressee : End → Env → Event → ℕ → Addressee → Stepped
 for_addressee e env ev peer (Opens remote) = in_one_more e env ev peer (Drop why.Tunnel)
+for_addressee e env ev peer (Stops remote) = gives_only e (Drop why.Tunnel)
 for_addressee e env ev peer (Main i) = in_main e env ev i (at e.tunnels i)
 for_addressee e env ev peer (Nobody w) = gives_only e (Drop w)
 
@@ -289,6 +296,7 @@ step_in e env (Payload session frame) = only_by Lac e (for_call e env (Payload s
 step_in e env (Lower session frame) = only_by Lns e (for_call e env (Lower session frame) (at e.calls session))
 step_in e env (Hang session) = only_by Lac e (for_call e env (Hang session) (at e.calls session))
 step_in e env OpenTunnel = only_by Lac e (in_one_more e env OpenTunnel e.config.lns (Cause cause.Tunnels))
+step_in e env (CloseTunnel i) = in_main e env (CloseTunnel i) i (at e.tunnels i)
 step_in e env (DropCall session) = for_call e env (DropCall session) (at e.calls session)
 step_in e env Tick = ticks_all e env
 

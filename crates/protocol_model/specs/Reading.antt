@@ -1,5 +1,5 @@
 -- What a datagram says.
-use Rattle.std.specs.Prelude.{ℕ, ◌-◌, ◌==◌, Bool, true, false, List, take, drop, if◌then◌else◌, Option, Some, None, Result, Ok, Err}
+use Rattle.std.specs.Prelude.{ℕ, ◌-◌, ◌==◌, ◌&&◌, not, Bool, true, false, List, take, drop, if◌then◌else◌, Option, Some, None, is_none, unwrap_or, Result, Ok, Err}
 use Rattle.wire_base.specs.declared.why.Why.{Why}
 use Rattle.wire_base.specs.declared.why.Why.TheVariants as why
 use Rattle.wire_base.specs.declared.cause.Cause.{Cause}
@@ -11,7 +11,7 @@ use Rattle.l2tp_header.specs.declared.header.Header.{Header}
 use Rattle.l2tp_header.specs.declared.header.HeaderError.{HeaderError}
 use Rattle.l2tp_header.specs.declared.header.HeaderError.TheVariants as header
 use Rattle.control_message.specs.declared.message.Message.{Message}
-use Rattle.control_message.specs.declared.message.Message.TheVariants.{Sccrq}
+use Rattle.control_message.specs.declared.message.Message.TheVariants.{Sccrq, StopCcn}
 use Rattle.control_message.specs.declared.message.Read.{Read}
 use Rattle.control_message.specs.declared.message.Read.TheVariants.{Known, Ignored}
 use Rattle.control_message.specs.declared.message.MessageError.{MessageError}
@@ -19,8 +19,10 @@ use Rattle.control_message.specs.declared.message.MessageError.TheVariants.{NoTy
 use Rattle.control_message.specs.declared.kind.Kind.{Kind}
 use Rattle.control_message.specs.declared.kind.Kind.TheVariants as kind
 use Rattle.control_message.specs.Reading.{message_of, kind_of_pairs, plain_short}
+use Rattle.tunnel_fsm.specs.declared.table.TunnelEvent.{TunnelEvent}
+use Rattle.tunnel_fsm.specs.declared.table.TunnelEvent.TheVariants as event
 use Rattle.protocol_model.specs.declared.event.Addressee.{Addressee}
-use Rattle.protocol_model.specs.declared.event.Addressee.TheVariants.{Opens, Main, Nobody}
+use Rattle.protocol_model.specs.declared.event.Addressee.TheVariants.{Opens, Stops, Main, Nobody}
 
 abbrev pub header_why : HeaderError → Why
 header_why header.Short = why.Short
@@ -55,7 +57,7 @@ fault_cause (BadValue n) = Some cause.Value
 fault_cause (Missing n) = Some cause.Value
 fault_cause e = None
 
--- those that are answered by a CDN
+-- those about calls
 abbrev pub is_about_call : Kind → Bool
 is_about_call kind.Icrq = true
 is_about_call kind.Icrp = true
@@ -76,9 +78,24 @@ abbrev pub with_cause : Kind → Option ℕ → Option Cause → Option CallFaul
 with_cause k session None = None
 with_cause k session (Some c) = Some (record { kind = k; cause = c; session = session })
 
+-- a request whose value is wrong and that tells no session can't be answered by a CDN
+abbrev pub is_request : Kind → Bool
+is_request kind.Icrq = true
+is_request kind.Ocrq = true
+is_request k = false
+
+abbrev pub is_value : Option Cause → Bool
+is_value (Some cause.Value) = true
+is_value c = false
+
+-- it is about a call, and is answered by a CDN or by nothing
+abbrev pub is_for_call : Kind → Option ℕ → Option Cause → Bool
+is_for_call k session c = is_about_call k && not (is_request k && is_value c && is_none session)
+
 abbrev pub fault_of_kind : Option Kind → MessageError → List Avp → Option CallFault
 fault_of_kind None e avps = None
-fault_of_kind (Some k) e avps = if is_about_call k then with_cause k (plain_short 14 avps) (fault_cause e) else None
+fault_of_kind (Some k) e avps =
+    if is_for_call k (plain_short 14 avps) (fault_cause e) then with_cause k (plain_short 14 avps) (fault_cause e) else None
 
 abbrev pub fault_read : List Avp → Result Read MessageError → Option CallFault
 fault_read avps (Ok r) = None
@@ -91,19 +108,75 @@ fault_of_pairs (Err e) = None
 unfoldable pub call_fault_in : List ℕ → Option CallFault
 call_fault_in body = fault_of_pairs (avps_of body)
 
+-- ---- faults of messages about tunnels
+
+-- what a faulty message is to the tunnel's table, why the tunnel is closed where its row says so, and the tunnel id that an SCCRP tells,
+-- where that can be read, else 0
+pub record TunnelFault : Type 0 where
+  pub event : TunnelEvent
+  pub cause : Cause
+  pub remote : ℕ
+
+-- of a message whose kind isn't known, and of one that isn't about the tunnel's set-up or end, the tunnel is closed
+abbrev pub event_of_kind : Kind → TunnelEvent
+event_of_kind kind.Sccrq = event.SccrqNotAcc
+event_of_kind kind.Sccrp = event.SccrpNotAcc
+event_of_kind kind.Scccn = event.ScccnNotAcc
+event_of_kind kind.StopCcn = event.StopCcnCame
+event_of_kind k = event.AdminClose
+
+abbrev pub told_by_kind : Kind → List Avp → ℕ
+told_by_kind kind.Sccrp avps = unwrap_or (plain_short 9 avps) 0
+told_by_kind k avps = 0
+
+abbrev pub closing : TunnelEvent → Cause → ℕ → TunnelFault
+closing on c remote = record { event = on; cause = c; remote = remote }
+
+abbrev pub closing_by : Kind → List Avp → Option Cause → Option TunnelFault
+closing_by k avps None = None
+closing_by k avps (Some c) = Some (closing (event_of_kind k) c (told_by_kind k avps))
+
+abbrev pub tunnel_fault_of_kind : Option Kind → MessageError → List Avp → Option TunnelFault
+tunnel_fault_of_kind None e avps = None
+tunnel_fault_of_kind (Some k) e avps =
+    if is_for_call k (plain_short 14 avps) (fault_cause e) then None else closing_by k avps (fault_cause e)
+
+abbrev pub tunnel_fault_read : List Avp → Result Read MessageError → Option TunnelFault
+tunnel_fault_read avps (Ok r) = None
+tunnel_fault_read avps (Err NoType) = Some (closing event.AdminClose cause.Avp 0)
+tunnel_fault_read avps (Err (UnknownType n)) = Some (closing event.AdminClose cause.Mandatory 0)
+tunnel_fault_read avps (Err e) = tunnel_fault_of_kind (kind_of_pairs avps) e avps
+
+unfoldable pub tunnel_fault_of_pairs : Result (List Avp) AvpError → Option TunnelFault
+tunnel_fault_of_pairs (Ok avps) = tunnel_fault_read avps (message_of avps)
+tunnel_fault_of_pairs (Err e) = Some (closing event.AdminClose cause.Avp 0)
+
+unfoldable pub tunnel_fault_in : List ℕ → Option TunnelFault
+tunnel_fault_in body = tunnel_fault_of_pairs (avps_of body)
+
 -- ---- what a control message is for
 
--- at tunnel 0: an SCCRQ opens a tunnel by the id that it assigns, one that is faulty is ignored, and every other message is
--- for none
-unfoldable pub zero_read : Result Read MessageError → Addressee
-zero_read (Ok (Known (Sccrq o))) = Opens o.tunnel
-zero_read (Ok r) = Nobody why.Tunnel
-zero_read (Err NoType) = Nobody why.Tunnel
-zero_read (Err (UnknownType n)) = Nobody why.Tunnel
-zero_read (Err e) = Nobody why.Avp
+-- a StopCCN is for the tunnel whose id it tells; one that tells none, or 0, is for none
+abbrev pub stopped : Option ℕ → Addressee
+stopped None = Nobody why.Tunnel
+stopped (Some i) = if i == 0 then Nobody why.Tunnel else Stops i
+
+-- one that is faulty, by its kind
+abbrev pub zero_faulty : Option Kind → List Avp → Addressee
+zero_faulty (Some kind.Sccrq) avps = Nobody why.Avp
+zero_faulty (Some kind.StopCcn) avps = stopped (plain_short 9 avps)
+zero_faulty k avps = Nobody why.Tunnel
+
+-- at tunnel 0: an SCCRQ opens a tunnel by the id that it assigns, one that is faulty is ignored, a StopCCN, faulty or not, is for the
+-- tunnel that it tells, and every other message is for none
+unfoldable pub zero_read : List Avp → Result Read MessageError → Addressee
+zero_read avps (Ok (Known (Sccrq o))) = Opens o.tunnel
+zero_read avps (Ok (Known (StopCcn tunnel code error))) = stopped (Some tunnel)
+zero_read avps (Ok r) = Nobody why.Tunnel
+zero_read avps (Err e) = zero_faulty (kind_of_pairs avps) avps
 
 unfoldable pub zero_pairs : Result (List Avp) AvpError → Addressee
-zero_pairs (Ok avps) = zero_read (message_of avps)
+zero_pairs (Ok avps) = zero_read avps (message_of avps)
 zero_pairs (Err e) = Nobody why.Avp
 
 unfoldable pub at_zero : List ℕ → Addressee

@@ -44,7 +44,7 @@ use Rattle.protocol_model.specs.declared.tunnel.Config.{Config}
 use Rattle.protocol_model.specs.declared.tunnel.Control.{Control}
 use Rattle.protocol_model.specs.declared.tunnel.Role.{Role}
 use Rattle.protocol_model.specs.declared.event.Event.{Event}
-use Rattle.protocol_model.specs.declared.event.Event.TheVariants.{Datagram, Ring, Payload, Lower, Hang, OpenTunnel, DropCall}
+use Rattle.protocol_model.specs.declared.event.Event.TheVariants.{Datagram, Ring, Payload, Lower, Hang, OpenTunnel, DropCall, CloseTunnel}
 use Rattle.protocol_model.specs.declared.event.Event.TheVariants as event_of
 use Rattle.protocol_model.specs.declared.out.Out.{Out}
 use Rattle.protocol_model.specs.declared.out.Out.TheVariants.{Send, Gone, Drop, Cause}
@@ -54,8 +54,8 @@ use Rattle.protocol_model.specs.declared.moves.Place.{Place}
 use Rattle.protocol_model.specs.declared.moves.Move.{Move}
 use Rattle.protocol_model.specs.declared.moves.Move.TheVariants as move
 use Rattle.protocol_model.specs.Names.{host_name, calling_number}
-pub use Rattle.protocol_model.specs.Reasons.{Reason, reason, out_of_state, fault_error, fault_reason, has_answer}
-use Rattle.protocol_model.specs.Reading.{header_why, body_of, message_in, CallFault, call_fault_in}
+pub use Rattle.protocol_model.specs.Reasons.{Reason, reason, out_of_state, out_of_order, other_version, fault_error, fault_reason}
+use Rattle.protocol_model.specs.Reading.{header_why, body_of, message_in, CallFault, call_fault_in, TunnelFault, tunnel_fault_in}
 use Rattle.protocol_model.specs.Calls.{call_row, advanced, rung, asked_for, is_request, is_reply, is_connection, is_up, is_set_up, owed_by, are_too_many}
 
 pub record Tunnel : Type 0 where
@@ -152,6 +152,11 @@ drops w t = with_output (Drop w) t
 -- a call ends: it isn't there any more, and its look is dead
 unfoldable pub ends_call : ℕ → Turn → Turn
 ends_call s t = with_output (Gone s) (with_change (cell.Kill s) (record t { changed = t.changed ++ (s, None) ∷ [] }))
+
+-- each of these calls ends
+unfoldable pub ends_all : List ℕ → Turn → Turn
+ends_all [] t = t
+ends_all (s ∷ ss) t = ends_all ss (ends_call s t)
 
 -- ---- the channel
 
@@ -307,7 +312,7 @@ connection = Iccn 100000000 1 false
 -- a tunnel to a peer that is neither opened nor accepted yet; as long as it isn't known, the peer's window counts as 4
 -- (RFC 2661 section 4.4.3)
 abbrev pub fresh : ℕ → ℕ → Control
-fresh peer moment = record { local = 0; peer = peer; remote = 0; state = Idle; channel = opened_at 0 0 4; made = moment; heard = moment }
+fresh peer moment = record { local = 0; peer = peer; remote = 0; state = Idle; channel = opened_at 0 0 4; made = moment; heard = moment; closed = 0 }
 
 abbrev pub in_state : TunnelState → Control → Control
 in_state s c = record c { state = s }
@@ -441,16 +446,65 @@ takes_plain t =
 unfoldable pub ignores : Why → Turn → Turn
 ignores w t = drops w (takes_plain t)
 
--- by the table's row; a row that closes a tunnel says so by a message that isn't written yet, so its letter is ignored
-unfoldable pub takes_by : Role → List (ℕ × Call) → ℕ → ℕ → TunnelState × TunnelAction → Turn → Turn
-takes_by role calls remote window (next, action.SendScccn) t = connects role calls remote window next t
-takes_by role calls remote window (next, action.Nothing) t =
-    if state_number next == state_number t.control.state then takes_plain t else confirms next t
-takes_by role calls remote window (next, a) t = ignores why.Ignored t
+-- ---- tunnels that close
 
--- of a letter that tells this id and this window of the peer
-unfoldable pub takes : Role → List (ℕ × Call) → TunnelEvent → ℕ → ℕ → Turn → Turn
-takes role calls e remote window t = takes_by role calls remote window (row_of rows t.control.state e) t
+-- it goes to its state, and where the id that the peer assigned wasn't known, it is learned
+abbrev pub shut : ℕ → TunnelState → ℕ → Control → Control
+shut remote next moment c = record c { state = next; remote = remote; closed = moment }
+
+-- and its calls end with it
+unfoldable pub shuts : List (ℕ × Call) → ℕ → TunnelState → Turn → Turn
+shuts calls remote next t = ends_all (ids_of calls) (record t { control = shut remote next t.moment t.control })
+
+-- the peer is told by a StopCCN with a result code (RFC 2661 sections 4.4.2 and 5.7), which names its tunnel where that is known
+unfoldable pub closed_told : Reason → List (ℕ × Call) → ℕ → TunnelState → Turn → Turn
+closed_told r calls remote next t =
+    gives 0 (StopCcn t.control.local r.result r.error)
+    (with_move (move.Closed (record { tunnel = t.control.local; remote = remote; result = r.result; error = r.error; given = next_place t.control }))
+    (shuts calls remote next (with_output (Cause r.cause) t)))
+
+unfoldable pub closes_tunnel : Reason → List (ℕ × Call) → ℕ → TunnelState → Turn → Turn
+closes_tunnel r calls remote next t = if has_room t.control then closed_told r calls remote next t else drops why.Queue t
+
+-- the peer's StopCCN is taken
+unfoldable pub closed_by : List (ℕ × Call) → TunnelState → Turn → Turn
+closed_by calls next t =
+    with_move (move.ClosedBy (record { tunnel = t.control.local; taken = taken_place t.control }))
+    (shuts calls t.control.remote next (takes_one t))
+
+-- an administrative close, by the table's row
+unfoldable pub shuts_by : List (ℕ × Call) → TunnelState × TunnelAction → Turn → Turn
+shuts_by calls (next, action.SendStopCcn) t = closes_tunnel (reason cause.Operator 1 None) calls t.control.remote next t
+shuts_by calls (next, a) t = t
+
+-- ---- letters by the tunnel's table
+
+-- the id that the peer assigned, as it is known or as it is told
+abbrev pub known_or : ℕ → Control → ℕ
+known_or told c = if c.remote == 0 then told else c.remote
+
+-- by the table's row
+unfoldable pub takes_by : Role → List (ℕ × Call) → Reason → ℕ → ℕ → TunnelState × TunnelAction → Turn → Turn
+takes_by role calls r remote window (next, action.SendScccn) t = connects role calls remote window next t
+takes_by role calls r remote window (next, action.SendStopCcn) t = closes_tunnel r calls (known_or remote t.control) next (takes_plain t)
+takes_by role calls r remote window (next, action.CleanUp) t = closed_by calls next t
+takes_by role calls r remote window (next, action.Nothing) t =
+    if state_number next == state_number t.control.state then takes_plain t else confirms next t
+takes_by role calls r remote window (next, a) t = takes_plain t
+
+-- of a letter that tells this id and this window of the peer, and why the tunnel is closed where the row says so
+unfoldable pub takes : Role → List (ℕ × Call) → Reason → TunnelEvent → ℕ → ℕ → Turn → Turn
+takes role calls r e remote window t = takes_by role calls r remote window (row_of rows t.control.state e) t
+
+-- an SCCRQ or an SCCRP is acceptable where its version is 1.0
+abbrev pub is_acceptable : Opening → Bool
+is_acceptable o = o.version == 256
+
+abbrev pub event_by : TunnelEvent → TunnelEvent → Opening → TunnelEvent
+event_by acceptable not_acceptable o = if is_acceptable o then acceptable else not_acceptable
+
+abbrev pub opening_reason : Opening → Reason
+opening_reason o = if is_acceptable o then out_of_order else other_version
 
 -- ---- calls that end
 
@@ -590,7 +644,6 @@ end_heard_by role s (Some c) t =
 unfoldable pub ends_named : Role → List (ℕ × Call) → ℕ → Turn → Turn
 ends_named role calls s t = end_heard_by role s (at calls s) t
 
--- a StopCCN is passed over as yet
 unfoldable pub about_call : Role → List (ℕ × Call) → ℕ → Message → Turn → Turn
 about_call role calls session (Icrq remote serial calling) t =
     asked_by role session remote (granted role calls remote t.sessions) (at calls session) t
@@ -613,11 +666,8 @@ faulty_at role r s remote e none (Some c) t = answers_by r s c (call_row role c.
 
 unfoldable pub faulty : Role → List (ℕ × Call) → ℕ → Kind → CauseOf → Option ℕ → Turn → Turn
 faulty role calls session kind.Icrq c told t =
-    if has_answer c told
-    then faulty_at role (fault_reason c) session (unwrap_or told 0) call_event.IcrqNotAcc call_action.SendCdn (at calls session) t
-    else ignores why.Avp t
-faulty role calls session kind.Ocrq c told t =
-    if has_answer c told then refuses (fault_reason c) (unwrap_or told 0) t else ignores why.Avp t
+    faulty_at role (fault_reason c) session (unwrap_or told 0) call_event.IcrqNotAcc call_action.SendCdn (at calls session) t
+faulty role calls session kind.Ocrq c told t = refuses (fault_reason c) (unwrap_or told 0) t
 faulty role calls session kind.Icrp c told t =
     faulty_at role (fault_reason c) session (unwrap_or told 0) call_event.IcrpNotAcc (call_row role call.Idle call_event.IcrpNotAcc).1 (at calls session) t
 faulty role calls session kind.Iccn c told t =
@@ -629,38 +679,53 @@ faulty role calls session kind.Cdn c told t =
 faulty role calls session k c told t =
     faulty_at role (fault_reason c) session 0 call_event.Close call_action.Nothing (at calls session) t
 
--- one that has another fault, or isn't about a call, is passed over as yet
-unfoldable pub in_faulty_call : Role → List (ℕ × Call) → ℕ → Option CallFault → Why → Turn → Turn
-in_faulty_call role calls session None w t = ignores w t
-in_faulty_call role calls session (Some f) w t =
+-- only an open tunnel carries calls
+unfoldable pub in_faulty_call : Role → List (ℕ × Call) → ℕ → CallFault → Turn → Turn
+in_faulty_call role calls session f t =
     if state_number t.control.state == 3 then faulty role calls session f.kind f.cause f.session t else ignores why.Session t
 
 -- ---- control messages
 
 unfoldable pub hears : Role → List (ℕ × Call) → ℕ → Message → Turn → Turn
-hears role calls session (Sccrq o) t = takes role calls event.SccrqAcc 0 o.window t
-hears role calls session (Sccrp o) t = takes role calls event.SccrpAcc o.tunnel o.window t
-hears role calls session Scccn t = takes role calls event.ScccnAcc 0 0 t
+hears role calls session (Sccrq o) t = takes role calls (opening_reason o) (event_by event.SccrqAcc event.SccrqNotAcc o) 0 o.window t
+hears role calls session (Sccrp o) t = takes role calls (opening_reason o) (event_by event.SccrpAcc event.SccrpNotAcc o) o.tunnel o.window t
+hears role calls session Scccn t = takes role calls out_of_order event.ScccnAcc 0 0 t
+hears role calls session (StopCcn tunnel code error) t = takes role calls out_of_order event.StopCcnCame 0 0 t
 hears role calls session Hello t = takes_plain t
 hears role calls session (Icrq remote serial calling) t = in_call role calls session (Icrq remote serial calling) t
 hears role calls session (Icrp remote) t = in_call role calls session (Icrp remote) t
 hears role calls session (Iccn speed framing sequenced) t = in_call role calls session (Iccn speed framing sequenced) t
 hears role calls session (Cdn remote code error) t = in_call role calls session (Cdn remote code error) t
-hears role calls session (StopCcn tunnel code error) t = ignores why.Ignored t
 hears role calls session (Ocrq remote) t = in_call role calls session (Ocrq remote) t
 hears role calls session Ocrp t = takes_plain t
 hears role calls session Occn t = takes_plain t
 hears role calls session Wen t = takes_plain t
 hears role calls session Sli t = takes_plain t
 
-unfoldable pub hears_said : Role → List (ℕ × Call) → ℕ → Option CallFault → Result Message Why → Turn → Turn
-hears_said role calls session f (Err w) t = in_faulty_call role calls session f w t
-hears_said role calls session f (Ok m) t = hears role calls session m t
+-- a letter that has a fault is one about a call, or is an event of the tunnel's table; one of an unknown type that need not be
+-- understood has none
+unfoldable pub hears_faulty : Role → List (ℕ × Call) → ℕ → Option CallFault → Option TunnelFault → Why → Turn → Turn
+hears_faulty role calls session (Some f) g w t = in_faulty_call role calls session f t
+hears_faulty role calls session None (Some g) w t = takes role calls (fault_reason g.cause) g.event g.remote 0 t
+hears_faulty role calls session None None w t = ignores w t
+
+unfoldable pub hears_said : Role → List (ℕ × Call) → ℕ → Option CallFault → Option TunnelFault → Result Message Why → Turn → Turn
+hears_said role calls session f g (Err w) t = hears_faulty role calls session f g w t
+hears_said role calls session f g (Ok m) t = hears role calls session m t
+
+abbrev pub is_closed : TunnelState → Bool
+is_closed s = state_number s == 4
+
+-- a closed tunnel takes what comes, and does nothing
+unfoldable pub hears_next : Role → List (ℕ × Call) → ℕ → List ℕ → Turn → Turn
+hears_next role calls session body t =
+    if is_closed t.control.state then takes_plain t
+    else hears_said role calls session (call_fault_in body) (tunnel_fault_in body) (message_in body) t
 
 -- the next letter is taken; one that is ahead of it isn't, nor one that came before
 unfoldable pub hears_letter : Role → List (ℕ × Call) → ℕ → List ℕ → Option Class → Turn → Turn
 hears_letter role calls session body (Some Next) t =
-    if may_take t.control calls then hears_said role calls session (call_fault_in body) (message_in body) t else drops why.Queue t
+    if may_take t.control calls then hears_next role calls session body t else drops why.Queue t
 hears_letter role calls session body (Some (Ahead by)) t = drops why.Ahead t
 hears_letter role calls session body (Some Duplicate) t = t
 hears_letter role calls session body None t = t
@@ -707,10 +772,6 @@ abbrev pub patience : ℕ
 patience = 60000
 
 -- the tunnel is removed with its calls, without a message
-unfoldable pub ends_all : List ℕ → Turn → Turn
-ends_all [] t = t
-ends_all (s ∷ ss) t = ends_all ss (ends_call s t)
-
 unfoldable pub clears : List (ℕ × Call) → Turn → Turn
 clears calls t = record (ends_all (ids_of calls) (with_move (move.Cleared t.control.local) t)) { cleared = true }
 
@@ -749,10 +810,18 @@ ticks_by role letters calls (tick.Failed first) t = clears calls t
 abbrev pub is_being_set_up : TunnelState → Bool
 is_being_set_up s = state_number s == 1 || state_number s == 2
 
+-- a closed tunnel is kept for 31 seconds, as long as its peer may repeat what it sent
+abbrev pub kept_closed : ℕ
+kept_closed = 31000
+
+abbrev pub is_at_its_end : ℕ → Control → Bool
+is_at_its_end moment c =
+    (is_closed c.state && is_over kept_closed moment c.closed) || (is_being_set_up c.state && is_over patience moment c.made)
+
 -- each part prints and sends its own before the next
 unfoldable pub ticks : Role → List Letter → List (ℕ × Call) → Turn → Turn
 ticks role letters calls t =
-    if is_being_set_up t.control.state && is_over patience t.moment t.control.made then clears calls t
+    if is_at_its_end t.moment t.control then clears calls t
     else ticks_by role letters calls (answer_to_tick t.control.channel t.moment) t
 
 -- ---- events
@@ -771,6 +840,7 @@ turns role c letters calls (Lower s frame) t = carries s frame (at calls s) t
 turns role c letters calls (Hang s) t = settles false letters (closes role cause.Line call_event.LineDrop 1 s (at calls s) t)
 turns role c letters calls OpenTunnel t = settles false letters (opens role c t)
 turns role c letters calls (DropCall s) t = settles false letters (closes role cause.Operator call_event.Close 3 s (at calls s) t)
+turns role c letters calls (CloseTunnel i) t = settles false letters (shuts_by calls (row_of rows t.control.state event.AdminClose) t)
 turns role c letters calls event_of.Tick t = ticks role letters calls t
 
 -- ---- what a turn leaves

@@ -1,11 +1,11 @@
 -- The world: nodes, and every packet that was ever sent.
-use Rattle.std.specs.Prelude.{ℕ, ◌+◌, ◌-◌, ◌^◌, min, List, [], ◌∷◌, ◌++◌, map, length, Bool, false, nat_lt, if◌then◌else◌, slice_get, Option, Some, None, is_some, unwrap_or, Result, Ok, Err}
+use Rattle.std.specs.Prelude.{ℕ, ◌+◌, ◌-◌, ◌^◌, min, List, [], ◌∷◌, ◌++◌, map, length, Bool, false, not, nat_lt, if◌then◌else◌, slice_get, Option, Some, None, is_some, unwrap_or, Result, Ok, Err}
 use Rattle.byteorder.specs.Endian.{big_bytes}
 use Rattle.id_table.specs.Ids.{at, put}
 use Rattle.wire_base.specs.declared.why.Why.{Why}
 use Rattle.wire_base.specs.declared.why.Why.TheVariants as why
 use Rattle.schedule_text.specs.declared.line.Line.{Line}
-use Rattle.schedule_text.specs.declared.line.Line.TheVariants.{Remark, Lac, Lns, OpenUp, Ring, FromSub, Down, Hang, DropCall, Deliver, Tick}
+use Rattle.schedule_text.specs.declared.line.Line.TheVariants.{Remark, Lac, Lns, OpenUp, Close, Ring, FromSub, Down, Hang, DropCall, Deliver, Tick}
 use Rattle.protocol_model.specs.declared.tunnel.Config.{Config}
 use Rattle.protocol_model.specs.declared.tunnel.Control.{Control}
 use Rattle.protocol_model.specs.declared.tunnel.Role.{Role}
@@ -24,6 +24,7 @@ use Rattle.protocol_model.specs.declared.refusal.Refusal.{Refusal}
 use Rattle.protocol_model.specs.declared.refusal.Refusal.TheVariants.{Unfit, HalfSpace}
 use Rattle.protocol_model.specs.Names.{address_of, node_of}
 use Rattle.protocol_model.specs.Calls.{is_lac}
+use Rattle.protocol_model.specs.Turn.{Tunnel, is_closed}
 use Rattle.protocol_model.specs.End.{End, Stepped, reached, step, new_end}
 use Rattle.protocol_model.specs.Texts.{Entry, Sends, HandsUp, Ends, Drops, Causes}
 
@@ -188,6 +189,15 @@ abbrev pub with_call : ℕ → Result Node Why → Result Node Why
 with_call session (Err x) = Err x
 with_call session (Ok node) = if is_some (at node.end.calls session) then Ok node else Err why.Call
 
+-- a node with a live tunnel that isn't closed
+abbrev pub is_not_closed : Option Tunnel → Bool
+is_not_closed None = false
+is_not_closed (Some t) = not (is_closed t.control.state)
+
+abbrev pub with_tunnel : ℕ → Result Node Why → Result Node Why
+with_tunnel i (Err x) = Err x
+with_tunnel i (Ok node) = if is_not_closed (at node.end.tunnels i) then Ok node else Err why.Tunnel
+
 -- ---- the lines
 
 -- the configuration of a node without a secret
@@ -258,6 +268,7 @@ line w number (Remark text) = Ok (quiet_line w)
 line w number (Lac n m) = added w n role.Lac (address_of m)
 line w number (Lns n) = added w n role.Lns 0
 line w number (OpenUp n) = stepped w number n event.OpenTunnel None (lac_at (at w.nodes n))
+line w number (Close n i) = stepped w number n (event.CloseTunnel i) None (with_tunnel i (declared (at w.nodes n)))
 line w number (Ring n port) = stepped w number n (event.Ring port) None (lac_at (at w.nodes n))
 line w number (FromSub n session frame) = stepped w number n (event.Payload session frame) None (with_call session (lac_at (at w.nodes n)))
 line w number (Down n session frame) = stepped w number n (event.Lower session frame) None (with_call session (lns_at (at w.nodes n)))

@@ -19,6 +19,8 @@ pub enum Event {
     OpenTunnel,
     /// An administrative close of a call.
     DropCall { session: u16 },
+    /// An administrative close of the tunnel with this local id.
+    CloseTunnel { tunnel: u16 },
     /// Time has passed: what is due is done.
     Tick,
 }
@@ -28,6 +30,8 @@ pub enum Event {
 pub enum Addressee {
     /// A tunnel that is to be made, to which the peer assigned this id.
     Opens { remote: u16 },
+    /// The tunnel to which the peer assigned this id, which it closes.
+    Stops { remote: u16 },
     /// The tunnel with this local id.
     Main { tunnel: u32 },
     /// None: the message is ignored.

@@ -131,6 +131,24 @@ pub struct EndSilent {
     pub session: u16,
 }
 
+/// A tunnel was closed with its calls, and the peer was told by a StopCCN with this result code and error code (RFC 2661 section
+/// 4.4.2). `remote` is the peer's tunnel id, 0 where it isn't known.
+#[derive(Clone, Copy, Debug, PartialEq, Eq)]
+pub struct Closed {
+    pub tunnel: u16,
+    pub remote: u16,
+    pub result: u16,
+    pub error: Option<u16>,
+    pub given: Place,
+}
+
+/// A tunnel took a StopCCN of its peer, and was closed with its calls.
+#[derive(Clone, Copy, Debug, PartialEq, Eq)]
+pub struct ClosedBy {
+    pub tunnel: u16,
+    pub taken: Place,
+}
+
 /// A HELLO was given to a tunnel's channel.
 #[derive(Clone, Copy, Debug, PartialEq, Eq)]
 pub struct Greeted {
@@ -201,6 +219,8 @@ pub enum Move {
     EndTold(EndTold),
     EndHeard(EndHeard),
     EndSilent(EndSilent),
+    Closed(Closed),
+    ClosedBy(ClosedBy),
     /// A tunnel was removed with its calls, and its peer wasn't told.
     Cleared { tunnel: u16 },
     Greeted(Greeted),

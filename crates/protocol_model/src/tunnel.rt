@@ -44,6 +44,8 @@ pub struct Control {
     /// The moment at which it was made, and the one at which a control message of its peer last came, in milliseconds.
     pub made: u64,
     pub heard: u64,
+    /// The moment at which it was closed, 0 as long as it isn't.
+    pub closed: u64,
 }
 
 /// A row of a call's table that a call went through.

@@ -13,9 +13,9 @@ use Rattle.hex.specs.Hex.{decode_of, encode_lower}
 use Rattle.hex.specs.declared.error.FromHexError.{FromHexError}
 use Rattle.hex.proofs.HexLemmas.{decode_of-encode_lower, decode_of-ok}
 use Rattle.schedule_text.specs.declared.line.Line.{Line}
-use Rattle.schedule_text.specs.declared.line.Line.TheVariants.{Remark, Lac, Lns, OpenUp, Ring, FromSub, Down, Hang, DropCall, Deliver, Tick}
-use Rattle.schedule_text.specs.Grammar.{call_text, line_text, IsPrintable, IsNode, IsPort, IsSession, IsFrame, IsPacket, IsMilliseconds, FitsLine}
-use Rattle.schedule_text.specs.Reading.{◌>>=◌, cut, node_of, port_of, session_of, packet_of, milliseconds_of, frame_from, frame_of, lac_of, lns_of, open_of, ring_of, call_of, from_sub_of, down_of, node_session_of, hang_of, drop_of, deliver_of, tick_of, plain_of, words_of, is_printable, remark_of, line_of}
+use Rattle.schedule_text.specs.declared.line.Line.TheVariants.{Remark, Lac, Lns, OpenUp, Close, Ring, FromSub, Down, Hang, DropCall, Deliver, Tick}
+use Rattle.schedule_text.specs.Grammar.{call_text, line_text, IsPrintable, IsNode, IsPort, IsSession, IsTunnel, IsFrame, IsPacket, IsMilliseconds, FitsLine}
+use Rattle.schedule_text.specs.Reading.{◌>>=◌, cut, node_of, port_of, session_of, packet_of, milliseconds_of, frame_from, frame_of, lac_of, lns_of, open_of, ring_of, call_of, from_sub_of, down_of, node_session_of, hang_of, drop_of, close_of, deliver_of, tick_of, plain_of, words_of, is_printable, remark_of, line_of}
 use Rattle.schedule_text.proofs.Numbers.{own, number_found, number_again}
 
 -- ---- parts
@@ -243,6 +243,14 @@ drop_found words l e =
     let spelled : IsSpelled (DropCall call.0 call.1) (codes "drop " ++ words) = ((k.node, k.session), rw k.spelled (simp append_assoc)) in
     subst (λ x. IsSpelled x (codes "drop " ++ words)) (same_Some (DropCall call.0 call.1) l hc) spelled)
 
+close_found : (words : List ℕ) (l : Line) → close_of words ≡ Some l → IsSpelled l (codes "close " ++ words)
+unfolding close_of
+close_found words l e =
+    bound (node_session_of words) _ l e (λ call ec hc.
+    let k = node_session_found words call ec in
+    let spelled : IsSpelled (Close call.0 call.1) (codes "close " ++ words) = ((k.node, k.session), rw k.spelled (simp append_assoc)) in
+    subst (λ x. IsSpelled x (codes "close " ++ words)) (same_Some (Close call.0 call.1) l hc) spelled)
+
 deliver_found : (words : List ℕ) (l : Line) → deliver_of words ≡ Some l → IsSpelled l (codes "deliver " ++ words)
 unfolding deliver_of
 deliver_found words l e =
@@ -286,11 +294,14 @@ plain_found kind words l e =
               | inl a ↦ kind_spelled kind (codes "hang") words l a.0 (hang_found words l a.1)
               | inr e5 ↦ elim (either (bytes_eq kind (codes "drop")) (drop_of words) _ l e5) [
                 | inl a ↦ kind_spelled kind (codes "drop") words l a.0 (drop_found words l a.1)
-                | inr e6 ↦ elim (either (bytes_eq kind (codes "deliver")) (deliver_of words) _ l e6) [
-                  | inl a ↦ kind_spelled kind (codes "deliver") words l a.0 (deliver_found words l a.1)
-                  | inr e7 ↦ elim (either (bytes_eq kind (codes "tick")) (tick_of words) _ l e7) [
-                    | inl a ↦ kind_spelled kind (codes "tick") words l a.0 (tick_found words l a.1)
-                    | inr e8 ↦ absurd (none-some l e8)
+                | inr e6 ↦ elim (either (bytes_eq kind (codes "close")) (close_of words) _ l e6) [
+                  | inl a ↦ kind_spelled kind (codes "close") words l a.0 (close_found words l a.1)
+                  | inr e7 ↦ elim (either (bytes_eq kind (codes "deliver")) (deliver_of words) _ l e7) [
+                    | inl a ↦ kind_spelled kind (codes "deliver") words l a.0 (deliver_found words l a.1)
+                    | inr e8 ↦ elim (either (bytes_eq kind (codes "tick")) (tick_of words) _ l e8) [
+                      | inl a ↦ kind_spelled kind (codes "tick") words l a.0 (tick_found words l a.1)
+                      | inr e9 ↦ absurd (none-some l e9)
+                    ]
                   ]
                 ]
               ]
@@ -378,6 +389,10 @@ drop_again : (node session : ℕ) → IsNode node → IsSession session → drop
 unfolding drop_of
 drop_again node session n s = rw (node_session_again node session n s) refl
 
+close_again : (node tunnel : ℕ) → IsNode node → IsTunnel tunnel → close_of (decimal node ++ 32 ∷ decimal tunnel) ≡ Some (Close node tunnel)
+unfolding close_of
+close_again node tunnel n s = rw (node_session_again node tunnel n s) refl
+
 tick_again : (node milliseconds : ℕ) → IsNode node → IsMilliseconds milliseconds → tick_of (decimal node ++ 32 ∷ decimal milliseconds) ≡ Some (Tick node milliseconds)
 unfolding tick_of
 tick_again node milliseconds n m = rw (node_cut node (decimal milliseconds) n, node_again node n, number_again 0 86400000 milliseconds (omega arith) (omega arith) m) refl
@@ -427,6 +442,9 @@ line_again (Hang node session) h =
 line_again (DropCall node session) h =
     let regrouped : decimal node ++ codes " " ++ decimal session ≡ decimal node ++ 32 ∷ decimal session = simp append_assoc in
     ap drop_of regrouped ∙ drop_again node session h.0 h.1
+line_again (Close node tunnel) h =
+    let regrouped : decimal node ++ codes " " ++ decimal tunnel ≡ decimal node ++ 32 ∷ decimal tunnel = simp append_assoc in
+    ap close_of regrouped ∙ close_again node tunnel h.0 h.1
 line_again (Deliver packet) h = rw (number_again 1 4294967295 packet (omega arith) h.0 h.1) refl
 line_again (Tick node milliseconds) h =
     let regrouped : decimal node ++ codes " " ++ decimal milliseconds ≡ decimal node ++ 32 ∷ decimal milliseconds = simp append_assoc in

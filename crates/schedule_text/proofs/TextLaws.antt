@@ -7,7 +7,7 @@ use Rattle.std.proofs.lemmas.Bool.{cases_Bool, eqb-true, ne_eqb}
 use Rattle.std.proofs.lemmas.List.{append-nil, length-append}
 use Rattle.hex.specs.Hex.{encode_lower, encode_with, lower_digits}
 use Rattle.schedule_text.specs.declared.line.Line.{Line}
-use Rattle.schedule_text.specs.declared.line.Line.TheVariants.{Remark, Lac, Lns, OpenUp, Ring, FromSub, Down, Hang, DropCall, Deliver, Tick}
+use Rattle.schedule_text.specs.declared.line.Line.TheVariants.{Remark, Lac, Lns, OpenUp, Close, Ring, FromSub, Down, Hang, DropCall, Deliver, Tick}
 use Rattle.schedule_text.specs.Grammar.{call_text, line_text, IsPrintable, IsNode, IsSession, FitsLine, AreLines, spelling, IsText}
 use Rattle.schedule_text.specs.Reading.{put_first, text_lines}
 use Rattle.schedule_text.proofs.LineLaws.{Lacks, number_lacks}
@@ -133,6 +133,7 @@ lacks_feed (FromSub node session frame) h = (refl, (refl, (refl, (refl, (refl, c
 lacks_feed (Down node session frame) h = (refl, (refl, (refl, (refl, (refl, call_lacks node session frame h.0 h.1)))))
 lacks_feed (Hang node session) h = (refl, (refl, (refl, (refl, (refl, node_session_lacks node session h.0 h.1)))))
 lacks_feed (DropCall node session) h = (refl, (refl, (refl, (refl, (refl, node_session_lacks node session h.0 h.1)))))
+lacks_feed (Close node tunnel) h = (refl, (refl, (refl, (refl, (refl, (refl, node_session_lacks node tunnel h.0 h.1))))))
 lacks_feed (Deliver packet) h = (refl, (refl, (refl, (refl, (refl, (refl, (refl, (refl, number_lacks 10 packet (omega arith) (omega arith)))))))))
 lacks_feed (Tick node milliseconds) h =
     let front = lacks_append 10 (decimal node) (codes " ") (node_lacks node h.0) (refl, tt) in
@@ -148,6 +149,7 @@ some_byte (FromSub node session frame) = omega arith
 some_byte (Down node session frame) = omega arith
 some_byte (Hang node session) = omega arith
 some_byte (DropCall node session) = omega arith
+some_byte (Close node tunnel) = omega arith
 some_byte (Deliver packet) = omega arith
 some_byte (Tick node milliseconds) = omega arith
 

@@ -4,7 +4,7 @@ use Rattle.std.specs.List.{flat_map, AllByRecursion}
 use Rattle.std.specs.Fmt.{decimal}
 use Rattle.hex.specs.Hex.{encode_lower, IsBytes}
 use Rattle.schedule_text.specs.declared.line.Line.{Line}
-use Rattle.schedule_text.specs.declared.line.Line.TheVariants.{Remark, Lac, Lns, OpenUp, Ring, FromSub, Down, Hang, DropCall, Deliver, Tick}
+use Rattle.schedule_text.specs.declared.line.Line.TheVariants.{Remark, Lac, Lns, OpenUp, Close, Ring, FromSub, Down, Hang, DropCall, Deliver, Tick}
 use Rattle.schedule_text.specs.declared.error.ScheduleError.{ScheduleError}
 use Rattle.schedule_text.specs.declared.error.ScheduleError.TheVariants.{BadLine, NoMemory}
 
@@ -18,6 +18,7 @@ line_text (Remark text) = codes "#" ++ text
 line_text (Lac node lns) = codes "lac " ++ decimal node ++ codes " " ++ decimal lns ++ codes " - plain"
 line_text (Lns node) = codes "lns " ++ decimal node ++ codes " -"
 line_text (OpenUp node) = codes "open " ++ decimal node
+line_text (Close node tunnel) = codes "close " ++ decimal node ++ codes " " ++ decimal tunnel
 line_text (Ring node port) = codes "ring " ++ decimal node ++ codes " " ++ decimal port
 line_text (FromSub node session frame) = codes "data " ++ call_text node session frame
 line_text (Down node session frame) = codes "down " ++ call_text node session frame
@@ -35,6 +36,9 @@ IsNode n = (1 ≤ n) × (n ≤ 255)
 
 abbrev pub IsPort : ℕ → Type 0
 IsPort n = (1 ≤ n) × (n ≤ 65535)
+
+abbrev pub IsTunnel : ℕ → Type 0
+IsTunnel n = (1 ≤ n) × (n ≤ 65535)
 
 abbrev pub IsSession : ℕ → Type 0
 IsSession n = (1 ≤ n) × (n ≤ 65535)
@@ -56,6 +60,7 @@ FitsLine (Remark text) = AllByRecursion IsPrintable text
 FitsLine (Lac node lns) = IsNode node × IsNode lns
 FitsLine (Lns node) = IsNode node
 FitsLine (OpenUp node) = IsNode node
+FitsLine (Close node tunnel) = IsNode node × IsTunnel tunnel
 FitsLine (Ring node port) = IsNode node × IsPort port
 FitsLine (FromSub node session frame) = IsNode node × IsSession session × IsFrame frame
 FitsLine (Down node session frame) = IsNode node × IsSession session × IsFrame frame

@@ -6,7 +6,7 @@ use Rattle.std.specs.Str.Parse.{digits_value}
 use Rattle.hex.specs.Hex.{decode_of, encode_lower}
 use Rattle.hex.specs.declared.error.FromHexError.{FromHexError}
 use Rattle.schedule_text.specs.declared.line.Line.{Line}
-use Rattle.schedule_text.specs.declared.line.Line.TheVariants.{Remark, Lac, Lns, OpenUp, Ring, FromSub, Down, Hang, DropCall, Deliver, Tick}
+use Rattle.schedule_text.specs.declared.line.Line.TheVariants.{Remark, Lac, Lns, OpenUp, Close, Ring, FromSub, Down, Hang, DropCall, Deliver, Tick}
 use Rattle.schedule_text.specs.declared.error.ScheduleError.{ScheduleError}
 use Rattle.schedule_text.specs.declared.error.ScheduleError.TheVariants.{BadLine, NoMemory}
 
@@ -110,7 +110,7 @@ from_sub_of words = call_of words >>= λ call. frame_of call.2 >>= λ frame. Som
 unfoldable pub down_of : List ℕ → Option Line
 down_of words = call_of words >>= λ call. frame_of call.2 >>= λ frame. Some (Down call.0 call.1 frame)
 
--- a node, and a session of it
+-- a node, and a session or a tunnel of it
 unfoldable pub node_session_of : List ℕ → Option (ℕ × ℕ)
 node_session_of words =
     cut 32 words >>= λ first. node_of first.0 >>= λ node. session_of first.1 >>= λ session. Some (node, session)
@@ -120,6 +120,9 @@ hang_of words = node_session_of words >>= λ call. Some (Hang call.0 call.1)
 
 unfoldable pub drop_of : List ℕ → Option Line
 drop_of words = node_session_of words >>= λ call. Some (DropCall call.0 call.1)
+
+unfoldable pub close_of : List ℕ → Option Line
+close_of words = node_session_of words >>= λ tunnel. Some (Close tunnel.0 tunnel.1)
 
 unfoldable pub deliver_of : List ℕ → Option Line
 deliver_of words = packet_of words >>= λ packet. Some (Deliver packet)
@@ -137,6 +140,7 @@ plain_of kind words =
     else if bytes_eq kind (codes "ring") then ring_of words
     else if bytes_eq kind (codes "hang") then hang_of words
     else if bytes_eq kind (codes "drop") then drop_of words
+    else if bytes_eq kind (codes "close") then close_of words
     else if bytes_eq kind (codes "deliver") then deliver_of words
     else if bytes_eq kind (codes "tick") then tick_of words
     else None

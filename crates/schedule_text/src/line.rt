@@ -23,6 +23,11 @@ pub enum Line {
     OpenUp {
         node: u8,
     },
+    /// An administrative close of a node's tunnel.
+    Close {
+        node: u8,
+        tunnel: u16,
+    },
     /// A port of a LAC rings, from 1 to 65535.
     Ring {
         node: u8,

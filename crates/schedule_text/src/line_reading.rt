@@ -2,7 +2,7 @@
 
 ghost use Rattle.std.specs.Prelude.{◌≡◌, MatchOption, IfOk, Ok, Some, None};
 ghost use Rattle.std.specs.List.{list_all};
-ghost use Rattle.schedule_text.specs.Reading.{lac_of, lns_of, open_of, ring_of, call_of, from_sub_of, down_of, node_session_of, hang_of, drop_of, deliver_of, tick_of, plain_of, words_of, is_printable, line_of, node_of, port_of, session_of, packet_of, frame_from, frame_of};
+ghost use Rattle.schedule_text.specs.Reading.{lac_of, lns_of, open_of, ring_of, call_of, from_sub_of, down_of, node_session_of, hang_of, drop_of, close_of, deliver_of, tick_of, plain_of, words_of, is_printable, line_of, node_of, port_of, session_of, packet_of, frame_from, frame_of};
 
 use crate::line::Line;
 use crate::parts::{read_number, split_once};
@@ -150,7 +150,7 @@ fn read_down(alloc: Global, words: &[u8]) -> Result<Option<Line>, NoMemory>
     }))
 }
 
-/// A node, and a session of it.
+/// A node, and a session or a tunnel of it.
 #[tactic(auto, unfolding(crate::specs::Reading::node_session_of))]
 fn read_node_session(words: &[u8]) -> Option<(u8, u16)>
     ensures { result ≡ node_session_of words.now }
@@ -177,6 +177,15 @@ fn read_drop(words: &[u8]) -> Option<Line>
 {
     let (node, session) = read_node_session(words)?;
     Some(Line::DropCall { node, session })
+}
+
+/// `N T`, behind `close `.
+#[tactic(auto, unfolding(crate::specs::Reading::close_of))]
+fn read_close(words: &[u8]) -> Option<Line>
+    ensures { result ≡ close_of words.now }
+{
+    let (node, tunnel) = read_node_session(words)?;
+    Some(Line::Close { node, tunnel })
 }
 
 /// `P`, behind `deliver `.
@@ -216,6 +225,8 @@ fn read_plain(kind: &[u8], words: &[u8]) -> Option<Line>
         read_hang(words)
     } else if kind == b"drop".as_slice() {
         read_drop(words)
+    } else if kind == b"close".as_slice() {
+        read_close(words)
     } else if kind == b"deliver".as_slice() {
         read_deliver(words)
     } else if kind == b"tick".as_slice() {

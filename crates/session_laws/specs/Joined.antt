@@ -1,5 +1,5 @@
 -- A world of nodes, and a world of the abstract machine in which their tunnels and calls have names.
-use Rattle.std.specs.Prelude.{◌≡◌, ℕ, ◌<◌, ◌≤◌, List, map, length, true, false, Option, Some, None, option_map}
+use Rattle.std.specs.Prelude.{◌≡◌, ℕ, ◌<◌, ◌≤◌, List, map, true, false, Option, Some, None, option_map}
 use Rattle.std.specs.List.{AllByRecursion}
 use Rattle.id_table.specs.Ids.{at}
 use Rattle.call_fsm.specs.declared.table.CallState.{CallState}
@@ -18,7 +18,7 @@ use Rattle.epoch_machine.specs.Worlds as machine
 use Rattle.epoch_machine.specs.Worlds.{all_rules}
 use Rattle.epoch_machine.specs.Moves.{Move, after}
 use Rattle.epoch_machine.specs.Calls.{NoCall}
-use Rattle.connection_laws.specs.Accounts.{Account}
+use Rattle.connection_laws.specs.Accounts.{Account, heeded}
 use Rattle.connection_laws.specs.Facts.{Accounts, IsMade}
 use Rattle.session_laws.specs.Roles.{FitEnds}
 use Rattle.session_laws.specs.Names.{name, name_of, other_name, letter_of, phase_in, state_of, is_made, is_opener}
@@ -42,7 +42,8 @@ pub record TunnelJoined (w : machine.World) (n i : ℕ) (a : Account) (o : Optio
   pub entered : w.tunnels.entered (name n i) ≡ 0
   -- its letters have the places that their numbers are
   pub sent : w.channels.sent (name n i) 0 ≡ map (λ l. letter_of n a.peer l) a.given
-  pub taken : w.channels.taken (name n i) 0 ≡ length a.taken
+  -- what it takes once it is closed isn't counted
+  pub taken : w.channels.taken (name n i) 0 ≡ heeded a
   -- it asks nothing of what both ends held before a recovery
   pub asks : (z : ℕ) → w.calls.asks (name n i) z ≡ false
 

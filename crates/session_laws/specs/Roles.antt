@@ -21,12 +21,12 @@ pub record TookReply (a : Account) : Type 0 where
   pub up_is : taken.move ≡ move.FirstUp up
 
 -- what a tunnel of an end of this role may have given: a LAC opens tunnels and asks for calls, and connects one only where it took a
--- reply; an LNS replies; both accept tunnels and end calls. No end closes a tunnel yet, places a call, or tells of a line
+-- reply; an LNS replies; both accept and close tunnels and end calls. No end places a call, or tells of a line
 abbrev pub Says : Role → Account → Message → Type 0
 Says r a (message.Sccrq o) = r ≡ Lac
 Says r a (message.Sccrp o) = Unit {0}
 Says r a message.Scccn = r ≡ Lac
-Says r a (message.StopCcn tunnel result error) = ⊥
+Says r a (message.StopCcn tunnel result error) = Unit {0}
 Says r a message.Hello = Unit {0}
 Says r a (message.Ocrq session) = ⊥
 Says r a message.Ocrp = ⊥

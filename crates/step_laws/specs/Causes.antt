@@ -6,22 +6,27 @@ use Rattle.id_source.specs.Spaces.{draws}
 use Rattle.wire_base.specs.declared.cause.Cause.{Cause as CauseOf}
 use Rattle.wire_base.specs.declared.cause.Cause.TheVariants as cause
 use Rattle.control_message.specs.declared.message.Message.{Message}
-use Rattle.control_message.specs.declared.message.Message.TheVariants.{Ocrq, Icrq, Icrp, Iccn}
+use Rattle.control_message.specs.declared.message.Message.TheVariants.{Sccrq, Sccrp, Scccn, Ocrq, Icrq, Icrp, Iccn}
+use Rattle.control_message.specs.declared.message.Opening.{Opening}
 use Rattle.call_fsm.specs.declared.table.CallState.TheVariants as call
 use Rattle.call_fsm.specs.declared.table.CallEvent.{CallEvent}
 use Rattle.call_fsm.specs.declared.table.CallEvent.TheVariants as call_event
-use Rattle.tunnel_fsm.specs.Rows.{state_number}
+use Rattle.tunnel_fsm.specs.declared.table.TunnelState.TheVariants as state
+use Rattle.tunnel_fsm.specs.declared.table.TunnelEvent.{TunnelEvent}
+use Rattle.tunnel_fsm.specs.declared.table.TunnelEvent.TheVariants as event
+use Rattle.tunnel_fsm.specs.declared.table.TunnelAction.TheVariants as action
+use Rattle.tunnel_fsm.specs.Rows.{rows, row_of, state_number}
 use Rattle.protocol_model.specs.declared.tunnel.Role.TheVariants.{Lns}
 use Rattle.protocol_model.specs.declared.event.Event.{Event}
-use Rattle.protocol_model.specs.declared.event.Event.TheVariants.{Hang, OpenTunnel, DropCall}
+use Rattle.protocol_model.specs.declared.event.Event.TheVariants.{Hang, OpenTunnel, DropCall, CloseTunnel}
 use Rattle.protocol_model.specs.declared.out.Out.TheVariants.{Cause}
 use Rattle.protocol_model.specs.declared.tunnel.Call.{Call}
-use Rattle.protocol_model.specs.Reading.{CallFault}
+use Rattle.protocol_model.specs.Reading.{CallFault, TunnelFault}
 use Rattle.protocol_model.specs.Calls.{call_row, is_reply, is_told, are_too_many}
-use Rattle.protocol_model.specs.Turn.{Tunnel, may_take, call_of}
+use Rattle.protocol_model.specs.Turn.{Tunnel, may_take, call_of, is_acceptable}
 use Rattle.protocol_model.specs.End.{End, has_all_tunnels, step}
 use Rattle.step_laws.specs.Letters.{Among}
-use Rattle.step_laws.specs.Moves.{TookTooLong, InTunnel, IsFaulty}
+use Rattle.step_laws.specs.Moves.{TookTooLong, InTunnel, IsFaulty, IsFaultyInTunnel}
 use Rattle.step_laws.specs.Steps.{AreKept}
 use Rattle.step_laws.specs.Room.{RingsOver, RingsNew}
 
@@ -107,14 +112,51 @@ pub data LackIds (e : End) (ev : Event) : Type 0 where
       → are_too_many t.calls ≡ false
       → draws e.session_ids ≡ Err x → LackIds e ev
 
+-- ---- tunnels that close
+
+-- a tunnel that isn't closed, and whose table has it closed with a StopCCN on such an event
+pub record IsClosedOn (e : End) (t : Tunnel) (on : TunnelEvent) : Type 0 where
+  pub id : ℕ
+  pub there : at e.tunnels id ≡ Some t
+  pub row : row_of rows t.control.state on ≡ (state.Closed, action.SendStopCcn)
+
+-- a message came in a tunnel, and has this fault
+pub record CameClosing (e : End) (ev : Event) (c : CauseOf) : Type 0 where
+  pub tunnel : Tunnel
+  pub fault : TunnelFault
+  pub came : IsFaultyInTunnel ev tunnel.control fault
+  pub closed : IsClosedOn e tunnel fault.event
+  pub is : fault.cause ≡ c
+
+-- an SCCRQ or an SCCRP that isn't acceptable came in a tunnel
+pub data IsOfOtherVersion (e : End) (ev : Event) : Type 0 where
+  InSccrq : (t : Tunnel) (session : ℕ) (o : Opening) → InTunnel ev t.control session (Sccrq o) → is_acceptable o ≡ false → IsClosedOn e t event.SccrqNotAcc
+      → IsOfOtherVersion e ev
+  InSccrp : (t : Tunnel) (session : ℕ) (o : Opening) → InTunnel ev t.control session (Sccrp o) → is_acceptable o ≡ false → IsClosedOn e t event.SccrpNotAcc
+      → IsOfOtherVersion e ev
+
+-- one that is acceptable, or an SCCCN, came in a tunnel that doesn't wait for it
+pub data IsOutOfOrder (e : End) (ev : Event) : Type 0 where
+  AnSccrq : (t : Tunnel) (session : ℕ) (o : Opening) → InTunnel ev t.control session (Sccrq o) → is_acceptable o ≡ true → IsClosedOn e t event.SccrqAcc
+      → IsOutOfOrder e ev
+  AnSccrp : (t : Tunnel) (session : ℕ) (o : Opening) → InTunnel ev t.control session (Sccrp o) → is_acceptable o ≡ true → IsClosedOn e t event.SccrpAcc
+      → IsOutOfOrder e ev
+  AnScccn : (t : Tunnel) (session : ℕ) → InTunnel ev t.control session Scccn → IsClosedOn e t event.ScccnAcc → IsOutOfOrder e ev
+
 -- what a cause says; those that aren't told yet say nothing that can be so
 abbrev pub Stands : End → ℕ → Event → CauseOf → Type 0
-Stands e moment ev cause.Operator = (s : ℕ) × (t : Tunnel) × (ev ≡ DropCall s) × IsTold e t s call_event.Close
+Stands e moment ev cause.Operator =
+    ((s : ℕ) × (t : Tunnel) × (ev ≡ DropCall s) × IsTold e t s call_event.Close)
+    ⊎ ((i : ℕ) × (t : Tunnel) × (ev ≡ CloseTunnel i) × (at e.tunnels i ≡ Some t) × IsClosedOn e t event.AdminClose)
 Stands e moment ev cause.Line = (s : ℕ) × (t : Tunnel) × (ev ≡ Hang s) × IsTold e t s call_event.LineDrop
 Stands e moment ev cause.Setup = IsLate e moment ev
-Stands e moment ev cause.Value = (t : Tunnel) × (header : ℕ) × (f : CallFault) × CameFaulty e ev t header f × (f.cause ≡ cause.Value)
-Stands e moment ev cause.Mandatory = (t : Tunnel) × (header : ℕ) × (f : CallFault) × CameFaulty e ev t header f × (f.cause ≡ cause.Mandatory)
-Stands e moment ev cause.State = (t : Tunnel) × IsOutOfState e ev t
+Stands e moment ev cause.Avp = CameClosing e ev cause.Avp
+Stands e moment ev cause.Value =
+    ((t : Tunnel) × (header : ℕ) × (f : CallFault) × CameFaulty e ev t header f × (f.cause ≡ cause.Value)) ⊎ CameClosing e ev cause.Value
+Stands e moment ev cause.Mandatory =
+    ((t : Tunnel) × (header : ℕ) × (f : CallFault) × CameFaulty e ev t header f × (f.cause ≡ cause.Mandatory)) ⊎ CameClosing e ev cause.Mandatory
+Stands e moment ev cause.Version = IsOfOtherVersion e ev
+Stands e moment ev cause.State = ((t : Tunnel) × IsOutOfState e ev t) ⊎ IsOutOfOrder e ev
 Stands e moment ev cause.Session = (t : Tunnel) × (remote : ℕ) × Asks e ev t remote × (TakesNoCalls e → ⊥) × IsIdInUse t remote
 Stands e moment ev cause.Calls =
     ((t : Tunnel) × RingsOver e ev t × (are_too_many t.calls ≡ true))

@@ -1,4 +1,4 @@
--- The codes of a CDN that ends a call, or refuses one, have 16 bits.
+-- The codes of a CDN that ends a call, or refuses one, and of a StopCCN that closes a tunnel, have 16 bits.
 use Rattle.std.proofs.Common.{◌≡◌, ⊎_elim, ℕ, ◌<◌, Bool, true, false, cond, List, refl, Option, Some, None, Result, Ok, Err, arith}
 use Rattle.std.specs.Prelude.{IfSome, ◌==◌, ◌||◌, not, is_some}
 use Rattle.id_source.specs.declared.IdError.{IdError}
@@ -16,9 +16,12 @@ use Rattle.protocol_model.specs.declared.tunnel.Call.{Call}
 use Rattle.protocol_model.specs.declared.tunnel.Role.{Role}
 use Rattle.protocol_model.specs.Reading.{CallFault}
 use Rattle.protocol_model.specs.Calls.{call_row, is_reply, are_too_many}
-use Rattle.protocol_model.specs.Turn.{Tunnel, Reason, reason, out_of_state, left_of, granted, call_of, fault_error}
+use Rattle.protocol_model.specs.Turn.{Tunnel, Reason, reason, out_of_state, left_of, granted, call_of, fault_error, is_acceptable, opening_reason, out_of_order, other_version}
 use Rattle.protocol_model.specs.End.{End}
-use Rattle.step_laws.specs.Moves.{WhyEnds, IsLate, IsDropped, IsHungUp, IsAsked, IsReplied, IsConnected, HasFault, WhyRefused, IsNotGranted, IsOutgoing, IsReplyToNone, IsWrong}
+use Rattle.control_message.specs.declared.message.Opening.{Opening}
+use Rattle.tunnel_fsm.specs.declared.table.TunnelEvent.{TunnelEvent}
+use Rattle.protocol_model.specs.declared.moves.Closed.{Closed}
+use Rattle.step_laws.specs.Moves.{WhyCloses, ByOperator, BySccrq, BySccrp, ByScccn, ByFault, WhyEnds, IsLate, IsDropped, IsHungUp, IsAsked, IsReplied, IsConnected, HasFault, WhyRefused, IsNotGranted, IsOutgoing, IsReplyToNone, IsWrong}
 
 -- 16 bits each
 abbrev pub CodesFit : ℕ → Option ℕ → Type 0
@@ -97,3 +100,18 @@ refusal_codes_fit e t header said fault m (IsReplyToNone remote is none lns same
     fits m.result m.error 2 (Some 5) (omega arith, omega arith) result error
 refusal_codes_fit e t header said fault m (IsWrong f is same result error) =
     fits m.result m.error 2 (Some (fault_error f.cause)) (omega arith, fault_fits f.cause) result error
+
+opening_fits : (o : Opening) → (opening_reason o).result < 65536
+opening_fits o = by (is_acceptable o)
+  where
+    by : (b : Bool) → (cond b out_of_order other_version).result < 65536
+    by true = omega arith
+    by false = omega arith
+
+-- and those of a StopCCN
+pub stop_codes_fit : (t : Tunnel) (ev : Event) (on : TunnelEvent) (m : Closed) → WhyCloses t ev on m → CodesFit m.result m.error
+stop_codes_fit t ev on m (ByOperator is at_ known r x) = fits m.result m.error 1 None (omega arith, tt) r x
+stop_codes_fit t ev on m (BySccrq session o came at_ known r x) = fits m.result m.error (opening_reason o).result None (opening_fits o, tt) r x
+stop_codes_fit t ev on m (BySccrp session o came at_ known r x) = fits m.result m.error (opening_reason o).result None (opening_fits o, tt) r x
+stop_codes_fit t ev on m (ByScccn session came at_ known r x) = fits m.result m.error 7 None (omega arith, tt) r x
+stop_codes_fit t ev on m (ByFault g came at_ known r x) = fits m.result m.error 2 (Some (fault_error g.cause)) (omega arith, fault_fits g.cause) r x

@@ -4,7 +4,7 @@ use Rattle.id_table.specs.Ids.{at}
 use Rattle.l2tp_header.specs.Spelling.{control_bytes, data_bytes}
 use Rattle.wire_base.specs.declared.letter.Letter as wire
 use Rattle.control_message.specs.declared.message.Message.{Message}
-use Rattle.control_message.specs.declared.message.Message.TheVariants.{Sccrq, Sccrp, Scccn, Hello, Icrp, Cdn}
+use Rattle.control_message.specs.declared.message.Message.TheVariants.{Sccrq, Sccrp, Scccn, StopCcn, Hello, Icrp, Cdn}
 use Rattle.recv_window.specs.Window.{on_wire}
 use Rattle.control_channel.specs.Numbers.{place_of}
 use Rattle.protocol_model.specs.declared.tunnel.Call.{Call}
@@ -46,6 +46,7 @@ letters_of role c (move.Replied m) = letter m.tunnel m.given m.remote (Icrp m.se
 letters_of role c (move.FirstUp m) = letter m.tunnel m.given m.remote connection
 letters_of role c (move.Refused m) = letter m.tunnel m.given m.remote (Cdn 0 m.result m.error)
 letters_of role c (move.EndTold m) = letter m.tunnel m.given m.remote (Cdn m.session m.result m.error)
+letters_of role c (move.Closed m) = letter m.tunnel m.given 0 (StopCcn m.tunnel m.result m.error)
 letters_of role c (move.Greeted m) = letter m.tunnel m.given 0 Hello
 letters_of role c m = []
 

@@ -16,7 +16,11 @@ use Rattle.recv_window.specs.Window.{class_of}
 use Rattle.control_channel.specs.Numbers.{count_acked, next_to_go, answer_to_tick}
 use Rattle.tunnel_fsm.specs.declared.table.TunnelState.{TunnelState}
 use Rattle.tunnel_fsm.specs.declared.table.TunnelState.TheVariants.{WaitCtlReply, WaitCtlConn, Established}
-use Rattle.tunnel_fsm.specs.Rows.{state_number}
+use Rattle.tunnel_fsm.specs.declared.table.TunnelState.TheVariants as state
+use Rattle.tunnel_fsm.specs.declared.table.TunnelEvent.{TunnelEvent}
+use Rattle.tunnel_fsm.specs.declared.table.TunnelEvent.TheVariants as event
+use Rattle.tunnel_fsm.specs.declared.table.TunnelAction.TheVariants as action
+use Rattle.tunnel_fsm.specs.Rows.{rows, row_of, state_number}
 use Rattle.call_fsm.specs.declared.table.CallState.TheVariants as call
 use Rattle.call_fsm.specs.declared.table.CallEvent.{CallEvent}
 use Rattle.call_fsm.specs.declared.table.CallEvent.TheVariants as call_event
@@ -27,7 +31,7 @@ use Rattle.protocol_model.specs.declared.tunnel.CellChange.TheVariants as cell
 use Rattle.protocol_model.specs.declared.tunnel.Control.{Control}
 use Rattle.protocol_model.specs.declared.tunnel.Role.TheVariants.{Lac, Lns}
 use Rattle.protocol_model.specs.declared.event.Event.{Event}
-use Rattle.protocol_model.specs.declared.event.Event.TheVariants.{Datagram, Ring, Payload, Lower, Hang, DropCall, Tick}
+use Rattle.protocol_model.specs.declared.event.Event.TheVariants.{Datagram, Ring, Payload, Lower, Hang, DropCall, CloseTunnel, Tick}
 use Rattle.protocol_model.specs.declared.moves.Opened.{Opened}
 use Rattle.protocol_model.specs.declared.moves.Accepted.{Accepted}
 use Rattle.protocol_model.specs.declared.moves.Connected.{Connected}
@@ -45,14 +49,17 @@ use Rattle.protocol_model.specs.declared.moves.EndTold.{EndTold}
 use Rattle.protocol_model.specs.declared.moves.EndHeard.{EndHeard}
 use Rattle.protocol_model.specs.declared.moves.EndSilent.{EndSilent}
 use Rattle.protocol_model.specs.declared.moves.Greeted.{Greeted}
+use Rattle.protocol_model.specs.declared.moves.Closed.{Closed}
+use Rattle.protocol_model.specs.declared.moves.ClosedBy.{ClosedBy}
 use Rattle.protocol_model.specs.declared.moves.Repeated.{Repeated}
 use Rattle.protocol_model.specs.declared.moves.FrameSent.{FrameSent}
 use Rattle.protocol_model.specs.declared.moves.FrameUp.{FrameUp}
 use Rattle.protocol_model.specs.declared.moves.Move.{Move}
 use Rattle.protocol_model.specs.declared.moves.Move.TheVariants as move
-use Rattle.protocol_model.specs.Reading.{body_of, message_in, CallFault, call_fault_in}
+use Rattle.protocol_model.specs.declared.event.Addressee.TheVariants.{Stops}
+use Rattle.protocol_model.specs.Reading.{body_of, message_in, CallFault, call_fault_in, TunnelFault, tunnel_fault_in, at_zero}
 use Rattle.protocol_model.specs.Calls.{call_row, advanced, rung, asked_for, is_request, is_reply, is_connection, is_told, is_up, is_set_up, are_too_many, frame_of, side_of}
-use Rattle.protocol_model.specs.Turn.{Tunnel, has_room, may_take, place, next_place, taken_place, letter_of, fresh, counts_given, counts_taken, counts_acked, counts_sent, counts_repeated, learns_window, in_state, opening_of, request_of, connection, is_clean_up, session_named, Reason, granted, fault_error, is_over, patience, is_being_set_up}
+use Rattle.protocol_model.specs.Turn.{Tunnel, has_room, may_take, place, next_place, taken_place, letter_of, fresh, counts_given, counts_taken, counts_acked, counts_sent, counts_repeated, learns_window, in_state, opening_of, request_of, connection, is_clean_up, session_named, Reason, granted, out_of_order, fault_reason, fault_error, is_acceptable, event_by, opening_reason, known_or, shut, is_closed, is_at_its_end, is_over, patience}
 use Rattle.protocol_model.specs.End.{End, new_place, with_look, with_looks}
 
 -- ---- what came
@@ -74,9 +81,14 @@ pub record IsAgain (h : Header) (bytes : List ℕ) (c : Control) : Type 0 where
   pub said : message_in (body_of h bytes) ≡ Ok (Sccrq opening)
   pub known : c.remote ≡ opening.tunnel
 
--- it names the tunnel, or is an SCCRQ that comes again
+-- it names no tunnel, as a StopCCN may, and is for the one whose peer assigned the id that it tells
+pub record IsStop (h : Header) (bytes : List ℕ) (c : Control) : Type 0 where
+  pub none : h.tunnel ≡ 0
+  pub stops : at_zero (body_of h bytes) ≡ Stops c.remote
+
+-- it names the tunnel, or is an SCCRQ that comes again, or a StopCCN
 abbrev pub IsFor : Header → List ℕ → Control → Type 0
-IsFor h bytes c = (h.tunnel ≡ c.local) ⊎ IsAgain h bytes c
+IsFor h bytes c = (h.tunnel ≡ c.local) ⊎ (IsAgain h bytes c ⊎ IsStop h bytes c)
 
 -- the next letter of a tunnel's peer, in the tunnel
 pub record HearsNext (ev : Event) (c : Control) (session : ℕ) (m : Message) : Type 0 where
@@ -121,6 +133,16 @@ pub record IsFaulty (ev : Event) (c : Control) (session : ℕ) (f : CallFault) :
   pub session_is : header.session ≡ session
   pub tunnel : IsFor header bytes c
   pub fault : call_fault_in (body_of header bytes) ≡ Some f
+
+-- one that has another fault
+pub record IsFaultyInTunnel (ev : Event) (c : Control) (g : TunnelFault) : Type 0 where
+  pub bytes : List ℕ
+  pub is : ev ≡ Datagram c.peer bytes
+  pub header : Header
+  pub read : header_of bytes ≡ Ok header
+  pub control : header.control ≡ true
+  pub tunnel : IsFor header bytes c
+  pub fault : tunnel_fault_in (body_of header bytes) ≡ Some g
 
 -- a frame that a peer sent
 pub record HearsFrame (ev : Event) (peer tunnel session : ℕ) (frame : List ℕ) : Type 0 where
@@ -390,10 +412,62 @@ pub record EndsSilently (e : End) (moment : ℕ) (ev : Event) (m : EndSilent) (x
   pub row : is_clean_up (call_row e.role call.state on).1 ≡ true
   pub after : x ≡ without_call e m.tunnel tunnel m.session
 
--- a tunnel took as long as one may to be set up, or its peer acknowledged nothing as long as a letter is repeated
+-- ---- tunnels that close
+
+-- why a tunnel is closed: the event of its table, the codes of the StopCCN that tells it (RFC 2661 section 4.4.2), and the id of the
+-- peer's to which it goes
+pub data WhyCloses (t : Tunnel) (ev : Event) (on : TunnelEvent) (m : Closed) : Type 0 where
+  ByOperator : ev ≡ CloseTunnel m.tunnel → on ≡ event.AdminClose → m.remote ≡ t.control.remote → m.result ≡ 1 → m.error ≡ None → WhyCloses t ev on m
+  -- an opening came again, or has another version; that of an SCCRP tells the peer's id
+  BySccrq : (session : ℕ) (o : Opening) → InTunnel ev t.control session (Sccrq o) → on ≡ event_by event.SccrqAcc event.SccrqNotAcc o
+      → m.remote ≡ t.control.remote → m.result ≡ (opening_reason o).result → m.error ≡ None → WhyCloses t ev on m
+  BySccrp : (session : ℕ) (o : Opening) → InTunnel ev t.control session (Sccrp o) → on ≡ event_by event.SccrpAcc event.SccrpNotAcc o
+      → m.remote ≡ known_or o.tunnel t.control → m.result ≡ (opening_reason o).result → m.error ≡ None → WhyCloses t ev on m
+  ByScccn : (session : ℕ) → InTunnel ev t.control session Scccn → on ≡ event.ScccnAcc → m.remote ≡ t.control.remote → m.result ≡ 7 → m.error ≡ None
+      → WhyCloses t ev on m
+  -- a message has a fault
+  ByFault : (g : TunnelFault) → IsFaultyInTunnel ev t.control g → on ≡ g.event → m.remote ≡ known_or g.remote t.control → m.result ≡ 2
+      → m.error ≡ Some (fault_error g.cause) → WhyCloses t ev on m
+
+-- its calls aren't there any more
+abbrev pub without_calls : End → ℕ → Tunnel → List (ℕ × Call) → End
+without_calls e i t calls = record (with_tunnel e i (record t { calls = [] })) { calls = with_looks (map cell.Kill (ids_of calls)) e.calls }
+
+-- a tunnel that isn't closed is, by its table, and its peer is told
+pub record Closes (e : End) (moment : ℕ) (ev : Event) (m : Closed) (x : End) : Type 0 where
+  pub tunnel : Tunnel
+  pub there : at e.tunnels m.tunnel ≡ Some tunnel
+  pub on : TunnelEvent
+  pub why : WhyCloses tunnel ev on m
+  pub row : row_of rows tunnel.control.state on ≡ (state.Closed, action.SendStopCcn)
+  pub room : has_room tunnel.control ≡ true
+  pub given : m.given ≡ next_place tunnel.control
+  pub after : x ≡ without_calls e m.tunnel (with_letter 0 (StopCcn m.tunnel m.result m.error) (record tunnel {
+    control = shut m.remote state.Closed moment tunnel.control;
+  })) tunnel.calls
+
+-- it is a StopCCN, which may have a fault
+abbrev pub SaysStop : List ℕ → Type 0
+SaysStop body =
+    ((id : ℕ) × (result : ℕ) × (error : Option ℕ) × (message_in body ≡ Ok (StopCcn id result error)))
+    ⊎ ((g : TunnelFault) × (tunnel_fault_in body ≡ Some g) × (g.event ≡ event.StopCcnCame))
+
+-- the next letter of the peer of a tunnel that isn't closed
+pub record ClosesBy (e : End) (moment : ℕ) (ev : Event) (m : ClosedBy) (x : End) : Type 0 where
+  pub tunnel : Tunnel
+  pub there : at e.tunnels m.tunnel ≡ Some tunnel
+  pub live : is_closed tunnel.control.state ≡ false
+  pub comes : ComesNext ev tunnel.control
+  pub says : SaysStop (body_of comes.header comes.bytes)
+  pub taken : m.taken ≡ taken_place tunnel.control
+  pub after : x ≡ without_calls e m.tunnel (record tunnel {
+    control = shut tunnel.control.remote state.Closed moment (counts_taken tunnel.control);
+  }) tunnel.calls
+
+-- a tunnel took as long as one may to be set up, or was closed as long as one is kept, or its peer acknowledged nothing as long as a
+-- letter is repeated
 abbrev pub HasFailed : ℕ → Control → Type 0
-HasFailed moment c =
-    ((is_being_set_up c.state ≡ true) × (is_over patience moment c.made ≡ true)) ⊎ ((first : ℕ) × (answer_to_tick c.channel moment ≡ Failed first))
+HasFailed moment c = (is_at_its_end moment c ≡ true) ⊎ ((first : ℕ) × (answer_to_tick c.channel moment ≡ Failed first))
 
 -- the tunnel isn't there any more, nor are its calls
 pub record Clears (e : End) (moment : ℕ) (ev : Event) (i : ℕ) (x : End) : Type 0 where
@@ -418,10 +492,11 @@ pub record Greets (e : End) (moment : ℕ) (ev : Event) (m : Greeted) (x : End) 
 -- by its tables the end does nothing on such a message in the tunnel
 abbrev pub IsPlain : End → Tunnel → ℕ → Message → Type 0
 IsPlain e t session (Sccrq o) = Unit {0}
-IsPlain e t session (Sccrp o) = state_number t.control.state ≡ 1 → ⊥
+-- one that is acceptable connects a tunnel that waits for it
+IsPlain e t session (Sccrp o) = state_number t.control.state ≡ 1 → is_acceptable o ≡ false
 IsPlain e t session Scccn = state_number t.control.state ≡ 2 → ⊥
 IsPlain e t session Hello = Unit {0}
-IsPlain e t session (StopCcn tunnel code error) = Unit {0}
+IsPlain e t session (StopCcn tunnel code error) = is_closed t.control.state ≡ true
 IsPlain e t session (Ocrq remote) = state_number t.control.state ≡ 3 → ⊥
 IsPlain e t session Ocrp = Unit {0}
 IsPlain e t session Occn = Unit {0}
@@ -515,6 +590,8 @@ Does e moment ev (move.Refused m) x = Refuses e ev m x
 Does e moment ev (move.EndTold m) x = TellsEnd e moment ev m x
 Does e moment ev (move.EndHeard m) x = HearsEnd e ev m x
 Does e moment ev (move.EndSilent m) x = EndsSilently e moment ev m x
+Does e moment ev (move.Closed m) x = Closes e moment ev m x
+Does e moment ev (move.ClosedBy m) x = ClosesBy e moment ev m x
 Does e moment ev (move.Cleared i) x = Clears e moment ev i x
 Does e moment ev (move.Greeted m) x = Greets e moment ev m x
 Does e moment ev (move.TookPlain m) x = TakesPlain e ev m x
