@@ -6,7 +6,7 @@ use Rattle.id_table.specs.Ids.{at}
 use Rattle.wire_base.specs.declared.why.Why.TheVariants as why
 use Rattle.wire_base.specs.declared.cause.Cause.{Cause}
 use Rattle.schedule_text.specs.declared.line.Line.{Line}
-use Rattle.schedule_text.specs.declared.line.Line.TheVariants.{Remark, Lac, Lns, OpenUp, Ring, FromSub, Down, Hang, DropCall, Deliver, Tick}
+use Rattle.schedule_text.specs.declared.line.Line.TheVariants.{Remark, Lac, Lns, OpenUp, Close, Ring, FromSub, Down, Hang, DropCall, Deliver, Tick}
 use Rattle.schedule_text.specs.Grammar.{AreLines}
 use Rattle.protocol_model.specs.declared.event.Event.{Event}
 use Rattle.protocol_model.specs.declared.event.Event.TheVariants as event
@@ -33,6 +33,7 @@ Brings w (Ring m port) n ev = (n ≡ m) × (ev ≡ event.Ring port)
 Brings w (FromSub m session frame) n ev = (n ≡ m) × (ev ≡ event.Payload session frame)
 Brings w (Down m session frame) n ev = (n ≡ m) × (ev ≡ event.Lower session frame)
 Brings w (Hang m session) n ev = (n ≡ m) × (ev ≡ event.Hang session)
+Brings w (Close m i) n ev = (n ≡ m) × (ev ≡ event.CloseTunnel i)
 Brings w (DropCall m session) n ev = (n ≡ m) × (ev ≡ event.DropCall session)
 Brings w (Deliver k) n ev = (p : Packet) × (slice_get w.packets (k - 1) ≡ Some p) × (n ≡ p.to) × (ev ≡ event.Datagram (address_of p.from) p.bytes)
 Brings w (Tick m milliseconds) n ev = (n ≡ m) × (ev ≡ event.Tick)

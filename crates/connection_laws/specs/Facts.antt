@@ -144,6 +144,32 @@ IsOpen a = a.closed ≡ None
 abbrev pub IsClosed : Account → Type 0
 IsClosed a = (count : ℕ) × (a.closed ≡ Some count) × (count ≤ length a.taken)
 
+-- a closed tunnel does nothing with what it takes; the letter that closed it is a StopCCN
+abbrev pub IsIgnored : Move → Type 0
+IsIgnored (move.TookPlain m) = Unit {0}
+IsIgnored (move.ClosedBy m) = Unit {0}
+IsIgnored m = ⊥
+
+abbrev pub AreIgnored : Account → Type 0
+AreIgnored a = (number : ℕ) (t : Taken) → slice_get a.taken number ≡ Some t → heeded a ≤ number → IsIgnored t.move
+
+-- a StopCCN tells the tunnel's own id
+abbrev pub TellsOwn : ℕ → Message → Type 0
+TellsOwn i (StopCcn tunnel code error) = tunnel ≡ i
+TellsOwn i (Sccrq o) = Unit {0}
+TellsOwn i (Sccrp o) = Unit {0}
+TellsOwn i Scccn = Unit {0}
+TellsOwn i Hello = Unit {0}
+TellsOwn i (Ocrq session) = Unit {0}
+TellsOwn i Ocrp = Unit {0}
+TellsOwn i Occn = Unit {0}
+TellsOwn i Wen = Unit {0}
+TellsOwn i Sli = Unit {0}
+TellsOwn i (Icrq session serial calling) = Unit {0}
+TellsOwn i (Icrp session) = Unit {0}
+TellsOwn i (Iccn speed framing sequenced) = Unit {0}
+TellsOwn i (Cdn session code error) = Unit {0}
+
 -- it was closed before it had learned its partner, or taken anything
 abbrev pub IsLost : Account → Type 0
 IsLost a = (a.closed ≡ Some 0) × (a.remote ≡ 0)
@@ -207,7 +233,9 @@ pub record AccountOk (accs : Accounts) (n i : ℕ) (a : Account) : Type 0 where
   pub peer : a.peer < 256
   pub remote : a.remote < 65536
   pub spelled : AllByRecursion IsSpelled a.given
+  pub told : AllByRecursion (λ (l : Letter). TellsOwn i l.message) a.given
   pub taken : AreTaken accs a
+  pub ignored : AreIgnored a
 
 -- ---- live tunnels
 
