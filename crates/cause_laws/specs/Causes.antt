@@ -1,6 +1,6 @@
 -- The causes that the report tells stand, nothing is refused for want of room but where a tunnel holds too many letters, and no call
 -- is left.
-use Rattle.std.specs.Prelude.{◌≡◌, ℕ, ◌+◌, ◌-◌, ◌^◌, ◌<◌, ◌≤◌, min, List, [], ◌∷◌, ◌++◌, length, slice_get, Some, None, Ok}
+use Rattle.std.specs.Prelude.{◌≡◌, ℕ, ◌+◌, ◌-◌, ◌^◌, ◌<◌, ◌≤◌, min, List, [], ◌∷◌, ◌++◌, length, true, false, slice_get, Some, None, Ok}
 use Rattle.std.specs.List.{AllByRecursion}
 use Rattle.id_table.specs.Ids.{at}
 use Rattle.wire_base.specs.declared.why.Why.TheVariants as why
@@ -13,7 +13,7 @@ use Rattle.protocol_model.specs.declared.event.Event.TheVariants as event
 use Rattle.protocol_model.specs.declared.packet.Packet.{Packet}
 use Rattle.protocol_model.specs.Names.{address_of}
 use Rattle.protocol_model.specs.Calls.{owed_by}
-use Rattle.protocol_model.specs.Turn.{Tunnel}
+use Rattle.protocol_model.specs.Turn.{Tunnel, is_closed}
 use Rattle.protocol_model.specs.World.{World, Node, Lined, line}
 use Rattle.protocol_model.specs.Texts.{Entry, Sends, HandsUp, Ends, Drops, Causes}
 use Rattle.protocol_model.specs.Run.{run}
@@ -74,10 +74,13 @@ TellsTruly w number l = (x : Lined) → line w number l ≡ Ok x → AllByRecurs
 
 -- ---- room
 
--- the letters that a tunnel holds, and those that its calls owe, are fewer than a channel holds, so that there is room for each;
--- and it has 4,096 calls at most
+-- the letters that a tunnel holds, and those that its calls owe, are fewer than a channel holds, so that there is room for each, as
+-- long as it isn't closed: then it has no calls and gives nothing more, and holds no more letters than a channel may; and it has 4,096
+-- calls at most
 pub record HasRoom (t : Tunnel) : Type 0 where
-  pub letters : length t.letters + owed_by t.calls ≤ 8191
+  pub letters : is_closed t.control.state ≡ false → length t.letters + owed_by t.calls ≤ 8191
+  pub most : length t.letters ≤ 8192
+  pub shut : is_closed t.control.state ≡ true → t.calls ≡ []
   pub calls : length t.calls ≤ 4096
 
 abbrev pub AllHaveRoom : World → Type 0

@@ -1,5 +1,5 @@
 -- Each step of an end is a chain of its moves; what it sends and hands up is theirs, and what is kept of tunnels stays kept.
-use Rattle.std.specs.Prelude.{◌≡◌, ◌<◌, ◌≤◌, ℕ, ◌+◌, ◌^◌, List, Some, length}
+use Rattle.std.specs.Prelude.{◌≡◌, ◌<◌, ◌≤◌, ℕ, ◌+◌, ◌^◌, true, false, List, [], Some, length}
 use Rattle.std.specs.List.{AllByRecursion}
 use Rattle.id_table.specs.Ids.{at}
 use Rattle.id_table.specs.Order.{Ascends}
@@ -12,14 +12,15 @@ use Rattle.protocol_model.specs.declared.out.Origin.{Origin}
 use Rattle.protocol_model.specs.declared.moves.Move.{Move}
 use Rattle.protocol_model.specs.declared.moves.Move.TheVariants as move
 use Rattle.protocol_model.specs.Calls.{owed_by}
-use Rattle.protocol_model.specs.Turn.{Tunnel}
+use Rattle.protocol_model.specs.Turn.{Tunnel, is_closed}
 use Rattle.protocol_model.specs.End.{End, Stepped, step}
 use Rattle.step_laws.specs.Letters.{Among, Carries, HasOutput}
 use Rattle.step_laws.specs.Moves.{Chain}
 
 -- a tunnel of an end stands under its own id, isn't idle, its calls ascend, at most 4,096 of them, and it keeps as many letters
--- as its window counts. These and the letters that its calls owe are fewer than 8,192, the most that a channel holds; so there
--- is room for one more always, also for a HELLO of an open tunnel, which comes where no letter waits
+-- as its window counts. These and the letters that its calls owe are fewer than 8,192, the most that a channel holds, as long as it
+-- isn't closed; so there is room for one more then, also for a HELLO of an open tunnel, which comes where no letter waits. A closed
+-- tunnel has no calls, and gives nothing more
 pub record IsKept (i : ℕ) (t : Tunnel) : Type 0 where
   pub local : t.control.local ≡ i
   pub some : i ≡ 0 → ⊥
@@ -28,7 +29,9 @@ pub record IsKept (i : ℕ) (t : Tunnel) : Type 0 where
   pub letters : length t.letters ≡ t.control.channel.window.queued
   pub outstanding : t.control.channel.window.outstanding ≤ t.control.channel.window.queued
   pub calls_few : length t.calls ≤ 4096
-  pub few : t.control.channel.window.queued + owed_by t.calls ≤ 8191
+  pub few : is_closed t.control.state ≡ false → t.control.channel.window.queued + owed_by t.calls ≤ 8191
+  pub most : t.control.channel.window.queued ≤ 8192
+  pub shut : is_closed t.control.state ≡ true → t.calls ≡ []
   pub owed : state_number t.control.state ≡ 3 → owed_by t.calls ≤ 8190
   pub acked : t.control.channel.window.acked < 2 ^ 64
 
