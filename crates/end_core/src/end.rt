@@ -7,6 +7,7 @@ ghost use Rattle.id_table.specs.Tables.{HasRoom};
 ghost use Rattle.l2tp_header.specs.Reading.{header_of};
 ghost use Rattle.protocol_model.specs.End.{env_of, whole_space, gives_only, tunnels_after, after_turn, after_new, in_new, has_all_tunnels, in_one_more, in_main, is_known, known_as, opens_once, addressed, reached, for_addressee, is_in, least_in, rings_in, rings_at, for_call, look_in, handed, hands_up, receives, only_by, step_in, step, new_end};
 ghost use Rattle.protocol_model.specs.Reading.{at_tunnel};
+ghost use Rattle.protocol_model.specs.World.{is_not_closed};
 ghost use Rattle.protocol_model.specs.declared.out.Out.TheVariants as outs;
 ghost use Rattle.wire_base.specs.declared.cause.Cause.TheVariants as causes;
 ghost use Rattle.tunnel_core.specs.Cores.{tunnel_of, made_of, IsTurn, HasRoomFor};
@@ -154,6 +155,17 @@ impl End {
         ensures { result ≡ is_some (at self.now.calls session) }
     {
         self.calls.contains(u32::from(session))
+    }
+
+    /// Whether a tunnel with this local id is live and isn't closed.
+    #[tactic(auto, using(crate::proofs::Tunnels::at_tunnels))]
+    pub fn has_tunnel(&self, tunnel: u16) -> bool
+        ensures { result ≡ is_not_closed (at self.now.tunnels tunnel) }
+    {
+        match self.tunnel(u32::from(tunnel)) {
+            None => false,
+            Some(core) => core.control().state != TunnelState::Closed,
+        }
     }
 
     /// The step gives one output and changes nothing.
@@ -374,17 +386,20 @@ impl End {
         Ok(self.first_known(peer, remote, ids.as_slice()))
     }
 
-    /// An SCCRQ that comes again is for the tunnel that it opened.
+    /// An SCCRQ that comes again is for the tunnel that it opened, and a StopCCN that names none for the one whose peer assigned the id
+    /// that it tells.
     #[tactic(auto, unfolding(protocol_model::specs::End::opens_once))]
     fn open_once(&self, peer: u32, to: Addressee) -> Result<Addressee, NoMemory>
         ensures { IfOk result (λ a. a ≡ opens_once self.now peer to) }
     {
-        let Addressee::Opens { remote } = to else {
-            return Ok(to);
+        let (remote, otherwise) = match to {
+            Addressee::Opens { remote } => (remote, to),
+            Addressee::Stops { remote } => (remote, Addressee::Nobody { why: Why::Tunnel }),
+            Addressee::Main { .. } | Addressee::Nobody { .. } => return Ok(to),
         };
         match self.known_as(peer, remote)? {
             Some(tunnel) => Ok(Addressee::Main { tunnel }),
-            None => Ok(to),
+            None => Ok(otherwise),
         }
     }
 
@@ -424,7 +439,9 @@ impl End {
         let body = &bytes[header.start..header.end];
         match self.addressed(peer, &header, body)? {
             Addressee::Main { tunnel } => Ok(self.tunnel(tunnel).map(|core| *core.control())),
-            Addressee::Opens { .. } | Addressee::Nobody { .. } => Ok(None),
+            Addressee::Opens { .. } | Addressee::Stops { .. } | Addressee::Nobody { .. } => {
+                Ok(None)
+            }
         }
     }
 
@@ -445,6 +462,7 @@ impl End {
                 let refusal = Out::Drop { why: Why::Tunnel };
                 self.run_one_more(moment, block, event, peer, refusal)
             }
+            Addressee::Stops { .. } => self.drop_with(Why::Tunnel),
             Addressee::Main { tunnel } => self.run_main(moment, block, event, tunnel),
             Addressee::Nobody { why } => self.drop_with(why),
         }
@@ -576,6 +594,9 @@ impl End {
                 self.receive(moment, block, event, *peer, bytes.as_slice())
             }
             (_, Event::Tick) => self.tick_all(moment, block),
+            (_, Event::CloseTunnel { tunnel }) => {
+                self.run_main(moment, block, event, u32::from(*tunnel))
+            }
             (Role::Lac, Event::Ring { .. }) => self.ring(moment, block, event),
             (Role::Lac, Event::Payload { session, .. } | Event::Hang { session })
             | (Role::Lns, Event::Lower { session, .. })

@@ -1,13 +1,37 @@
 //! What a control message is for that names no tunnel.
 
 ghost use Rattle.std.specs.Prelude.{◌≡◌, Ok, IfOk};
-ghost use Rattle.protocol_model.specs.Reading.{at_zero, zero_pairs, zero_read};
+ghost use Rattle.control_message.specs.Reading.{kind_of_pairs};
+ghost use Rattle.protocol_model.specs.Reading.{at_zero, zero_pairs, zero_read, zero_faulty, stopped};
 
 use avp_codec::{AvpError, Avps, read_avps};
-use control_message::{Message, MessageError, Read, read_message};
+use control_message::{
+    Kind, Message, MessageError, Read, assigned_tunnel, kind_of_pairs, read_message,
+};
 use protocol_model::Addressee;
 use std::alloc::Global;
 use wire_base::{NoMemory, Why};
+
+/// A StopCCN is for the tunnel whose id it tells; one that tells none, or 0, is for none.
+fn stopped(told: Option<u16>) -> Addressee
+    ensures { result ≡ stopped told }
+{
+    match told {
+        None | Some(0) => Addressee::Nobody { why: Why::Tunnel },
+        Some(remote) => Addressee::Stops { remote },
+    }
+}
+
+/// What a faulty message at tunnel 0 is for, by its kind.
+fn zero_faulty(avps: &Avps) -> Addressee
+    ensures { result ≡ zero_faulty (kind_of_pairs avps.now) avps.now }
+{
+    match kind_of_pairs(avps) {
+        Some(Kind::Sccrq) => Addressee::Nobody { why: Why::Avp },
+        Some(Kind::StopCcn) => stopped(assigned_tunnel(avps)),
+        _ => Addressee::Nobody { why: Why::Tunnel },
+    }
+}
 
 /// What a message at tunnel 0 is for, by its pairs.
 #[tactic(auto, unfolding(protocol_model::specs::Reading::zero_pairs, protocol_model::specs::Reading::zero_read))]
@@ -18,11 +42,10 @@ fn zero_pairs(alloc: Global, avps: &Avps) -> Result<Addressee, NoMemory>
         Ok(Read::Known(Message::Sccrq(opening))) => Ok(Addressee::Opens {
             remote: opening.tunnel,
         }),
-        Ok(_) | Err(MessageError::NoType | MessageError::UnknownType { .. }) => {
-            Ok(Addressee::Nobody { why: Why::Tunnel })
-        }
+        Ok(Read::Known(Message::StopCcn { tunnel, .. })) => Ok(stopped(Some(tunnel))),
+        Ok(_) => Ok(Addressee::Nobody { why: Why::Tunnel }),
         Err(MessageError::NoMemory) => Err(NoMemory),
-        Err(_) => Ok(Addressee::Nobody { why: Why::Avp }),
+        Err(_) => Ok(zero_faulty(avps)),
     }
 }
 

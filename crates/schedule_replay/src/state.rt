@@ -3,7 +3,7 @@
 ghost use Rattle.std.specs.Prelude.{◌≡◌, [], ◌∷◌, ◌++◌, ◌+◌, length, OnOk, IfOk, MatchResult, IsSome, slice_get, Ok, Err, None, Some, Option};
 ghost use Rattle.id_table.specs.Ids.{at};
 ghost use Rattle.protocol_model.specs.Texts.{send_text, entry_text, entries_text};
-ghost use Rattle.protocol_model.specs.World.{sent, birth_of, with_birth, is_born, moved, moved_all, shown, shown_all, entry_of, entries_of, declared, lac_at, lns_at, with_call, later, added, block_of, stepped, arrival, refused_by, delivers, line as line_of};
+ghost use Rattle.protocol_model.specs.World.{sent, birth_of, with_birth, is_born, moved, moved_all, shown, shown_all, entry_of, entries_of, declared, lac_at, lns_at, with_call, with_tunnel, later, added, block_of, stepped, arrival, refused_by, delivers, line as line_of};
 ghost use Rattle.protocol_model.specs.Run.{tables};
 ghost use Rattle.schedule_replay.specs.Fault.{new_told, Leads, Says};
 
@@ -262,6 +262,23 @@ impl State {
         }
     }
 
+    /// A node's tunnel is closed for administrative reasons, in a line.
+    #[tactic(auto, unfolding(protocol_model::specs::World::stepped))]
+    fn close(&mut self, line: u64, node: u8, tunnel: u16) -> Result<(), LineFault>
+        ensures { Says result (stepped self.old.world line node (Event.CloseTunnel tunnel) None (with_tunnel tunnel (declared (at self.old.world.nodes node)))) self.old self.new }
+    {
+        match self.nodes.get(u32::from(node)) {
+            Some(at) => {
+                if !at.end.has_tunnel(tunnel) {
+                    return Err(LineFault::unfit(Why::Tunnel));
+                }
+                self.step(line, node, &Event::CloseTunnel { tunnel })?;
+                Ok(())
+            }
+            None => Err(LineFault::unfit(Why::Node)),
+        }
+    }
+
     /// An event of a LAC's call, in a line.
     #[tactic(auto, unfolding(protocol_model::specs::World::stepped))]
     fn step_lac_call(
@@ -367,6 +384,7 @@ impl State {
             Line::Lac { node, lns } => self.add(*node, Role::Lac, address_of(*lns)),
             Line::Lns { node } => self.add(*node, Role::Lns, 0),
             Line::OpenUp { node } => self.step_lac(number, *node, &Event::OpenTunnel),
+            Line::Close { node, tunnel } => self.close(number, *node, *tunnel),
             Line::Ring { node, port } => self.step_lac(number, *node, &Event::Ring { port: *port }),
             Line::FromSub {
                 node,

@@ -3,9 +3,9 @@
 ghost use Rattle.std.specs.Prelude.{◌≡◌, OnOk};
 ghost use Rattle.std.specs.Option.{option_copied};
 ghost use Rattle.control_message.specs.declared.kind.Kind.TheVariants as kind;
-ghost use Rattle.protocol_model.specs.Turn.{fault_error, fault_reason, faulty_at, has_answer, faulty, in_faulty_call};
+ghost use Rattle.protocol_model.specs.Turn.{fault_error, fault_reason, faulty_at, faulty, in_faulty_call, hears_faulty};
 
-use crate::reading::CallFault;
+use crate::reading::{CallFault, Said};
 use crate::refusing::Reason;
 use crate::tunnel_calls::TunnelCalls;
 use crate::turn::{Turn, call_row};
@@ -15,17 +15,18 @@ use protocol_model::{Call, Role};
 use tunnel_fsm::TunnelState;
 use wire_base::{Cause, NoMemory, Why};
 
-/// The error code of the CDN that answers a fault (RFC 2661 section 4.4.2).
+/// The error code of the CDN, or the StopCCN, that answers a fault (RFC 2661 section 4.4.2).
 fn fault_error(cause: Cause) -> u16
     ensures { result ≡ fault_error cause }
 {
     match cause {
+        Cause::Avp => 2,
         Cause::Mandatory => 8,
         _ => 3,
     }
 }
 
-fn fault_reason(cause: Cause) -> Reason
+pub(crate) fn fault_reason(cause: Cause) -> Reason
     ensures { result ≡ fault_reason cause }
 {
     Reason {
@@ -33,13 +34,6 @@ fn fault_reason(cause: Cause) -> Reason
         code: 2,
         error: Some(fault_error(cause)),
     }
-}
-
-/// Whether a faulty request, which tells this session, can be answered.
-fn has_answer(cause: Cause, told: Option<u16>) -> bool
-    ensures { result ≡ has_answer cause told }
-{
-    told.is_some() || !matches!(cause, Cause::Value)
 }
 
 impl Turn {
@@ -76,9 +70,6 @@ impl Turn {
     ) -> Result<(), NoMemory>
         ensures { OnOk result (self.new ≡ faulty role calls.now.entries session kind.Icrq cause told self.old) }
     {
-        if !has_answer(cause, told) {
-            return self.ignore(Why::Avp);
-        }
         let id = u32::from(session);
         let event = CallEvent::IcrqNotAcc;
         let none = CallAction::SendCdn;
@@ -106,9 +97,6 @@ impl Turn {
     ) -> Result<(), NoMemory>
         ensures { OnOk result (self.new ≡ faulty role calls.now.entries session kind.Ocrq cause told self.old) }
     {
-        if !has_answer(cause, told) {
-            return self.ignore(Why::Avp);
-        }
         self.refuse(&fault_reason(cause), told.unwrap_or(0))
     }
 
@@ -181,24 +169,43 @@ impl Turn {
         )
     }
 
-    /// A faulty letter: one that isn't about a call is passed over, and only an open tunnel carries calls.
+    /// A faulty letter about a call: only an open tunnel carries calls.
     #[tactic(auto, unfolding(protocol_model::specs::Turn::in_faulty_call))]
+    fn hear_call_fault(
+        &mut self,
+        role: Role,
+        calls: &TunnelCalls,
+        session: u16,
+        fault: &CallFault,
+    ) -> Result<(), NoMemory>
+        ensures { OnOk result (self.new ≡ in_faulty_call role calls.now.entries session fault.now self.old) }
+    {
+        if self.control.state != TunnelState::Established {
+            return self.ignore(Why::Session);
+        }
+        self.take_faulty(role, calls, session, fault.kind, fault.cause, fault.session)
+    }
+
+    /// A faulty letter: one about a call, or one that is an event of the tunnel's table; one of an unknown type that need not be
+    /// understood is neither.
+    #[tactic(auto, unfolding(protocol_model::specs::Turn::hears_faulty))]
     pub(crate) fn hear_fault(
         &mut self,
         role: Role,
         calls: &TunnelCalls,
         session: u16,
-        fault: &Option<CallFault>,
+        said: &Said,
         why: Why,
     ) -> Result<(), NoMemory>
-        ensures { OnOk result (self.new ≡ in_faulty_call role calls.now.entries session fault.now why self.old) }
+        ensures { OnOk result (self.new ≡ hears_faulty role calls.now.entries session said.now.fault said.now.closing why self.old) }
     {
-        let Some(fault) = fault else {
-            return self.ignore(why);
-        };
-        if self.control.state != TunnelState::Established {
-            return self.ignore(Why::Session);
+        match (&said.fault, &said.closing) {
+            (Some(fault), _) => self.hear_call_fault(role, calls, session, fault),
+            (None, Some(fault)) => {
+                let reason = fault_reason(fault.cause);
+                self.take_letter(role, calls, &reason, fault.event, fault.remote, 0)
+            }
+            (None, None) => self.ignore(why),
         }
-        self.take_faulty(role, calls, session, fault.kind, fault.cause, fault.session)
     }
 }

@@ -4,13 +4,13 @@ ghost use Rattle.std.specs.Prelude.{◌≡◌, ◌==◌, None, OnOk};
 ghost use Rattle.tunnel_fsm.specs.Rows.{state_number};
 ghost use Rattle.wire_base.specs.declared.cause.Cause.TheVariants as cause;
 ghost use Rattle.l2tp_header.specs.Reading.{header_of};
-ghost use Rattle.protocol_model.specs.Turn.{connects, takes, reason, session_named, ends_named, about_call, in_call, hears, hears_said, hears_letter, is_duplicate, in_tunnel, first_said, hears_control, hears_datagram, turns};
+ghost use Rattle.protocol_model.specs.Turn.{connects, takes, known_or, is_acceptable, event_by, opening_reason, out_of_order, reason, session_named, ends_named, about_call, in_call, hears, hears_said, hears_next, hears_letter, is_duplicate, in_tunnel, first_said, hears_control, hears_datagram, turns};
 
 use crate::reading::{Said, header_why, read_body};
 use crate::refusing::Reason;
 use crate::tunnel_calls::TunnelCalls;
 use crate::turn::Turn;
-use control_message::Message;
+use control_message::{Message, Opening};
 use l2tp_header::{Header, read_header};
 use protocol_model::{Config, Event, Role};
 use recv_window::Class;
@@ -18,7 +18,21 @@ use send_window::Letters;
 use tunnel_fsm::{TunnelAction, TunnelEvent, TunnelState, advance};
 use wire_base::{Cause, NoMemory, Why};
 
+/// The one Protocol Version that there is: version 1, revision 0 (RFC 2661 section 4.4.3).
+const VERSION: u16 = 0x0100;
+
 impl Turn {
+    /// The id that the peer assigned, as it is known or as it is told.
+    fn known_or(&self, told: u16) -> u16
+        ensures { result ≡ known_or told self.now.control }
+    {
+        if self.control.remote == 0 {
+            told
+        } else {
+            self.control.remote
+        }
+    }
+
     /// Takes the SCCRP, and asks for each call that waits for the tunnel.
     #[tactic(auto, unfolding(protocol_model::specs::Turn::connects))]
     fn connect_all(
@@ -39,21 +53,29 @@ impl Turn {
         self.request_all(role, sessions.as_slice(), calls)
     }
 
-    /// Does what the table says on a letter about the tunnel, which tells this id and this receive window of the peer.
+    /// Does what the table says on a letter about the tunnel, which tells this id and this receive window of the peer; where its row
+    /// closes the tunnel, it is for this reason.
     #[tactic(auto, unfolding(protocol_model::specs::Turn::takes, protocol_model::specs::Turn::takes_by))]
-    fn take_letter(
+    pub(crate) fn take_letter(
         &mut self,
         role: Role,
         calls: &TunnelCalls,
+        reason: &Reason,
         event: TunnelEvent,
         remote: u16,
         window: u16,
     ) -> Result<(), NoMemory>
-        ensures { OnOk result (self.new ≡ takes role calls.now.entries event remote window self.old) }
+        ensures { OnOk result (self.new ≡ takes role calls.now.entries reason.now event remote window self.old) }
     {
         let (next, action) = advance(self.control.state, event);
         match action {
             TunnelAction::SendScccn => self.connect_all(role, calls, remote, window, next),
+            TunnelAction::SendStopCcn => {
+                let remote = self.known_or(remote);
+                self.take_plain()?;
+                self.close_tunnel(reason, calls, remote, next)
+            }
+            TunnelAction::CleanUp => self.take_stop(calls, next),
             TunnelAction::Nothing => {
                 if same_state(next, self.control.state) {
                     self.take_plain()
@@ -61,7 +83,7 @@ impl Turn {
                     self.confirm(next)
                 }
             }
-            _ => self.ignore(Why::Ignored),
+            _ => self.take_plain(),
         }
     }
 
@@ -138,14 +160,23 @@ impl Turn {
     {
         match message {
             Message::Sccrq(opening) => {
-                self.take_letter(role, calls, TunnelEvent::SccrqAcc, 0, opening.window)
+                let reason = opening_reason(opening);
+                let event = event_by(TunnelEvent::SccrqAcc, TunnelEvent::SccrqNotAcc, opening);
+                self.take_letter(role, calls, &reason, event, 0, opening.window)
             }
             Message::Sccrp(opening) => {
-                let event = TunnelEvent::SccrpAcc;
-                self.take_letter(role, calls, event, opening.tunnel, opening.window)
+                let reason = opening_reason(opening);
+                let event = event_by(TunnelEvent::SccrpAcc, TunnelEvent::SccrpNotAcc, opening);
+                self.take_letter(role, calls, &reason, event, opening.tunnel, opening.window)
             }
-            Message::Scccn => self.take_letter(role, calls, TunnelEvent::ScccnAcc, 0, 0),
-            Message::StopCcn { .. } => self.ignore(Why::Ignored),
+            Message::Scccn => {
+                let reason = out_of_order();
+                self.take_letter(role, calls, &reason, TunnelEvent::ScccnAcc, 0, 0)
+            }
+            Message::StopCcn { .. } => {
+                let reason = out_of_order();
+                self.take_letter(role, calls, &reason, TunnelEvent::StopCcnCame, 0, 0)
+            }
             Message::Hello | Message::Ocrp | Message::Occn | Message::Wen | Message::Sli => {
                 self.take_plain()
             }
@@ -161,12 +192,30 @@ impl Turn {
         session: u16,
         said: &Said,
     ) -> Result<(), NoMemory>
-        ensures { OnOk result (self.new ≡ hears_said role calls.now.entries session said.now.fault said.now.message self.old) }
+        ensures { OnOk result (self.new ≡ hears_said role calls.now.entries session said.now.fault said.now.closing said.now.message self.old) }
     {
         match &said.message {
             Ok(message) => self.hear_letter(role, calls, session, message),
-            Err(why) => self.hear_fault(role, calls, session, &said.fault, *why),
+            Err(why) => self.hear_fault(role, calls, session, said, *why),
         }
+    }
+
+    /// The next letter, which a closed tunnel takes without doing anything.
+    #[tactic(auto, unfolding(protocol_model::specs::Turn::hears_next))]
+    fn hear_next(
+        &mut self,
+        role: Role,
+        calls: &TunnelCalls,
+        session: u16,
+        body: &[u8],
+    ) -> Result<(), NoMemory>
+        ensures { OnOk result (self.new ≡ hears_next role calls.now.entries session body.now self.old) }
+    {
+        if self.control.state == TunnelState::Closed {
+            return self.take_plain();
+        }
+        let said = read_body(self.alloc, body)?;
+        self.hear_said(role, calls, session, &said)
     }
 
     /// A message of the class that its Ns has: the next letter is taken, where there is room for what it may cause; one that is
@@ -187,8 +236,7 @@ impl Turn {
                 if !self.may_take(calls) {
                     return self.drop_with(Why::Queue);
                 }
-                let said = read_body(self.alloc, body)?;
-                self.hear_said(role, calls, session, &said)
+                self.hear_next(role, calls, session, body)
             }
             Some(Class::Ahead { .. }) => self.drop_with(Why::Ahead),
             Some(Class::Duplicate) | None => Ok(()),
@@ -306,8 +354,52 @@ impl Turn {
                 self.settle(false, letters)
             }
             Event::DropCall { session } => self.drop_call(role, letters, calls, *session),
+            Event::CloseTunnel { .. } => self.close_now(letters, calls),
             Event::Tick => self.tick(role, letters, calls),
         }
+    }
+}
+
+/// A message about the tunnel is out of state.
+fn out_of_order() -> Reason
+    ensures { result ≡ out_of_order }
+{
+    Reason {
+        cause: Cause::State,
+        code: 7,
+        error: None,
+    }
+}
+
+/// Whether nothing but its state stands against an SCCRQ or an SCCRP: its version is 1.0.
+fn is_acceptable(opening: &Opening) -> bool
+    ensures { result ≡ is_acceptable opening.now }
+{
+    opening.version == VERSION
+}
+
+/// The event of the tunnel's table that an SCCRQ or an SCCRP is.
+fn event_by(acceptable: TunnelEvent, other: TunnelEvent, opening: &Opening) -> TunnelEvent
+    ensures { result ≡ event_by acceptable other opening.now }
+{
+    if is_acceptable(opening) {
+        acceptable
+    } else {
+        other
+    }
+}
+
+/// Why an SCCRQ or an SCCRP closes a tunnel, where its table's row says so.
+fn opening_reason(opening: &Opening) -> Reason
+    ensures { result ≡ opening_reason opening.now }
+{
+    if is_acceptable(opening) {
+        return out_of_order();
+    }
+    Reason {
+        cause: Cause::Version,
+        code: 5,
+        error: None,
     }
 }
 

@@ -16,6 +16,7 @@ mod reading;
 mod refusing;
 mod ringing;
 mod sending;
+mod stopping;
 mod ticking;
 mod tunnel_calls;
 mod turn;

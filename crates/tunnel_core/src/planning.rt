@@ -110,6 +110,7 @@ impl TunnelCore {
                 channel: ChannelNumbers::new(0, 0, WINDOW),
                 made: moment,
                 heard: moment,
+                closed: 0,
             },
             letters: Letters::new(alloc),
             calls: TunnelCalls::new(alloc),

@@ -1,16 +1,19 @@
 //! What a datagram says.
 
-ghost use Rattle.std.specs.Prelude.{◌≡◌, Ok, IfOk};
+ghost use Rattle.std.specs.Prelude.{◌≡◌, Ok, Err, Some, IfOk};
+ghost use Rattle.tunnel_fsm.specs.declared.table.TunnelEvent.TheVariants as event;
 ghost use Rattle.control_message.specs.Reading.{kind_of_pairs};
-ghost use Rattle.protocol_model.specs.Reading.{header_why, message_in, pairs_read, fault_cause, is_about_call, fault_of_kind, fault_of_pairs, call_fault_in};
+ghost use Rattle.protocol_model.specs.Reading.{header_why, message_in, pairs_read, fault_cause, is_about_call, is_request, is_value, is_for_call, fault_of_kind, fault_of_pairs, call_fault_in, event_of_kind, told_by_kind, closing, closing_by, tunnel_fault_of_kind, tunnel_fault_read, tunnel_fault_of_pairs, tunnel_fault_in};
 
 use avp_codec::{AvpError, Avps, read_avps};
 use control_message::{
-    Kind, Message, MessageError, Read, assigned_session, kind_of_pairs, read_message,
+    Kind, Message, MessageError, Read, assigned_session, assigned_tunnel, kind_of_pairs,
+    read_message,
 };
 use l2tp_header::HeaderError;
 use std::alloc::Global;
 use std::marker::Model;
+use tunnel_fsm::TunnelEvent;
 use wire_base::{Cause, NoMemory, Why};
 
 /// The word of the refusal of a datagram whose header couldn't be read (RFC 2661 section 3.1).
@@ -41,11 +44,30 @@ impl Model for CallFault {
     ghost view = { λ f. record { kind = f.kind; cause = f.cause; session = f.session } };
 }
 
-/// What the body of a control message says: a message, or why it is ignored; and its fault, where it is about a call.
+/// What a faulty message is to the tunnel's table, why the tunnel is closed where its row says so, and the tunnel id that an SCCRP
+/// tells, where that can be read, else 0.
+#[derive(Drop)]
+pub(crate) struct TunnelFault {
+    pub(crate) event: TunnelEvent,
+    pub(crate) cause: Cause,
+    pub(crate) remote: u16,
+}
+
+impl Model for TunnelFault {
+    ghost use Rattle.protocol_model.specs.Reading.{TunnelFault as Known};
+
+    ghost Value = { Known };
+
+    ghost view = { λ f. record { event = f.event; cause = f.cause; remote = f.remote } };
+}
+
+/// What the body of a control message says: a message, or why it is ignored; and its fault, where it is about a call, or to the
+/// tunnel's table.
 #[derive(Drop)]
 pub(crate) struct Said {
     pub(crate) message: Result<Message, Why>,
     pub(crate) fault: Option<CallFault>,
+    pub(crate) closing: Option<TunnelFault>,
 }
 
 /// What a fault says to the peer: a pair that has to be understood isn't, or a value is wrong or wanting.
@@ -61,7 +83,7 @@ fn fault_cause(error: MessageError) -> Option<Cause>
     }
 }
 
-/// Whether a faulty message of the kind is answered by a CDN.
+/// Whether a message of the kind is about a call.
 fn is_about_call(kind: Kind) -> bool
     ensures { result ≡ is_about_call kind }
 {
@@ -71,50 +93,129 @@ fn is_about_call(kind: Kind) -> bool
     )
 }
 
+/// Whether a faulty message is about a call, and answered by a CDN or by nothing: a request whose value is wrong and that tells no
+/// session can't be.
+fn is_for_call(kind: Kind, session: Option<u16>, cause: Option<Cause>) -> bool
+    ensures { result ≡ is_for_call kind session cause }
+{
+    let is_request = matches!(kind, Kind::Icrq | Kind::Ocrq);
+    let is_value = matches!(cause, Some(Cause::Value));
+    is_about_call(kind) && !(is_request && is_value && session.is_none())
+}
+
 /// The fault of pairs that aren't read, where they are about a call.
 fn fault_of(avps: &Avps, error: MessageError) -> Option<CallFault>
     ensures { result ≡ fault_of_kind (kind_of_pairs avps.now) error avps.now }
 {
     let kind = kind_of_pairs(avps)?;
-    if !is_about_call(kind) {
+    let session = assigned_session(avps);
+    let cause = fault_cause(error);
+    if !is_for_call(kind, session, cause) {
         return None;
     }
-    let cause = fault_cause(error)?;
+    let cause = cause?;
     Some(CallFault {
         kind,
         cause,
-        session: assigned_session(avps),
+        session,
     })
 }
 
+/// The event of the tunnel's table that a faulty message of the kind is.
+fn event_of_kind(kind: Kind) -> TunnelEvent
+    ensures { result ≡ event_of_kind kind }
+{
+    match kind {
+        Kind::Sccrq => TunnelEvent::SccrqNotAcc,
+        Kind::Sccrp => TunnelEvent::SccrpNotAcc,
+        Kind::Scccn => TunnelEvent::ScccnNotAcc,
+        Kind::StopCcn => TunnelEvent::StopCcnCame,
+        _ => TunnelEvent::AdminClose,
+    }
+}
+
+/// The tunnel id that an SCCRP tells, where that can be read, else 0.
+fn told_by_kind(kind: Kind, avps: &Avps) -> u16
+    ensures { result ≡ told_by_kind kind avps.now }
+{
+    match kind {
+        Kind::Sccrp => assigned_tunnel(avps).unwrap_or(0),
+        _ => 0,
+    }
+}
+
+/// What closes a tunnel, whatever its state.
+fn closing(cause: Cause) -> Option<TunnelFault>
+    ensures { result ≡ Some (closing event.AdminClose cause 0) }
+{
+    Some(TunnelFault {
+        event: TunnelEvent::AdminClose,
+        cause,
+        remote: 0,
+    })
+}
+
+/// The fault of pairs of a known kind that aren't read, where they aren't about a call.
+fn closing_of_kind(avps: &Avps, error: MessageError) -> Option<TunnelFault>
+    ensures { result ≡ tunnel_fault_of_kind (kind_of_pairs avps.now) error avps.now }
+{
+    let kind = kind_of_pairs(avps)?;
+    let cause = fault_cause(error);
+    if is_for_call(kind, assigned_session(avps), cause) {
+        return None;
+    }
+    let cause = cause?;
+    Some(TunnelFault {
+        event: event_of_kind(kind),
+        cause,
+        remote: told_by_kind(kind, avps),
+    })
+}
+
+/// The fault of pairs that aren't read, where they aren't about a call.
+fn closing_of(avps: &Avps, error: MessageError) -> Option<TunnelFault>
+    ensures { result ≡ tunnel_fault_read avps.now (Err error) }
+{
+    match error {
+        MessageError::NoType => closing(Cause::Avp),
+        MessageError::UnknownType { .. } => closing(Cause::Mandatory),
+        _ => closing_of_kind(avps, error),
+    }
+}
+
 /// What pairs say.
-#[tactic(auto, unfolding(protocol_model::specs::Reading::message_read, protocol_model::specs::Reading::pairs_read, protocol_model::specs::Reading::fault_of_pairs))]
+#[tactic(auto, unfolding(protocol_model::specs::Reading::message_read, protocol_model::specs::Reading::pairs_read, protocol_model::specs::Reading::fault_of_pairs, protocol_model::specs::Reading::tunnel_fault_of_pairs))]
 fn said_of(alloc: Global, avps: &Avps) -> Result<Said, NoMemory>
     ensures message { IfOk result (λ said. said.message ≡ pairs_read (Ok avps.now)) }
     ensures fault { IfOk result (λ said. said.fault ≡ fault_of_pairs (Ok avps.now)) }
+    ensures closing { IfOk result (λ said. said.closing ≡ tunnel_fault_of_pairs (Ok avps.now)) }
 {
     match read_message(alloc, avps) {
         Ok(Read::Known(message)) => Ok(Said {
             message: Ok(message),
             fault: None,
+            closing: None,
         }),
         Ok(Read::Ignored { .. }) => Ok(Said {
             message: Err(Why::Ignored),
             fault: None,
+            closing: None,
         }),
         Err(MessageError::NoMemory) => Err(NoMemory),
         Err(error) => Ok(Said {
             message: Err(Why::Avp),
             fault: fault_of(avps, error),
+            closing: closing_of(avps, error),
         }),
     }
 }
 
 /// What the body of a control message says.
-#[tactic(auto, unfolding(protocol_model::specs::Reading::message_in, protocol_model::specs::Reading::pairs_read, protocol_model::specs::Reading::call_fault_in, protocol_model::specs::Reading::fault_of_pairs))]
+#[tactic(auto, unfolding(protocol_model::specs::Reading::message_in, protocol_model::specs::Reading::pairs_read, protocol_model::specs::Reading::call_fault_in, protocol_model::specs::Reading::fault_of_pairs, protocol_model::specs::Reading::tunnel_fault_in, protocol_model::specs::Reading::tunnel_fault_of_pairs))]
 pub(crate) fn read_body(alloc: Global, body: &[u8]) -> Result<Said, NoMemory>
     ensures message { IfOk result (λ said. said.message ≡ message_in body.now) }
     ensures fault { IfOk result (λ said. said.fault ≡ call_fault_in body.now) }
+    ensures closing { IfOk result (λ said. said.closing ≡ tunnel_fault_in body.now) }
 {
     match read_avps(alloc, body) {
         Ok(avps) => said_of(alloc, &avps),
@@ -122,6 +223,7 @@ pub(crate) fn read_body(alloc: Global, body: &[u8]) -> Result<Said, NoMemory>
         Err(_) => Ok(Said {
             message: Err(Why::Avp),
             fault: None,
+            closing: closing(Cause::Avp),
         }),
     }
 }

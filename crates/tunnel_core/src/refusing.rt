@@ -10,7 +10,8 @@ use protocol_model::{Call, Move, Out, Refused};
 use std::marker::Model;
 use wire_base::{Cause, NoMemory, Why};
 
-/// Why a call is ended or refused, and the result code and error code of the CDN that says so (RFC 2661 section 4.4.2).
+/// Why a call is ended or refused, or a tunnel closed, and the result code and error code of the CDN, or of the StopCCN, that says so
+/// (RFC 2661 section 4.4.2).
 #[derive(Drop)]
 pub(crate) struct Reason {
     pub(crate) cause: Cause,
@@ -26,7 +27,7 @@ impl Model for Reason {
     ghost view = { λ r. record { cause = r.cause; result = r.code; error = r.error } };
 }
 
-/// The message is out of state.
+/// A message about a call is out of state.
 pub(crate) fn out_of_state() -> Reason
     ensures { result ≡ out_of_state }
 {

@@ -4,14 +4,14 @@ ghost use Rattle.std.specs.Prelude.{◌≡◌, ◌==◌, ◌||◌, ◌<◌, OnOk
 ghost use Rattle.std.specs.Option.{option_copied};
 ghost use Rattle.tunnel_fsm.specs.Rows.{state_number};
 ghost use Rattle.protocol_model.specs.Calls.{is_set_up};
-ghost use Rattle.protocol_model.specs.Turn.{has_room, is_over, is_being_set_up, ends_all, clears, greeted, greets, limits_at, limits_all, goes_quietly, ticks};
+ghost use Rattle.protocol_model.specs.Turn.{has_room, is_over, is_being_set_up, is_at_its_end, ends_all, clears, greeted, greets, limits_at, limits_all, goes_quietly, ticks};
 
 use crate::tunnel_calls::TunnelCalls;
 use crate::turn::{Turn, call_row};
 use call_fsm::{CallEvent, CallState};
 use control_channel::Tick;
 use control_message::Message;
-use protocol_model::{Call, Greeted, Move, Role};
+use protocol_model::{Call, Control, Greeted, Move, Role};
 use send_window::Letters;
 use tunnel_fsm::TunnelState;
 use wire_base::{Cause, NoMemory};
@@ -19,20 +19,32 @@ use wire_base::{Cause, NoMemory};
 /// How long a tunnel or a call may take to be set up, and how long a tunnel may be quiet, in milliseconds.
 const PATIENCE: u64 = 60_000;
 
+/// How long a closed tunnel is kept, in milliseconds: as long as its peer may repeat what it sent.
+const KEPT_CLOSED: u64 = 31_000;
+
 /// The result code of a CDN for a call that took too long to be set up (RFC 2661 section 4.4.2).
 const TOO_LONG: u16 = 10;
 
 /// Whether so much time has passed since a moment; where the present one is below it, none has.
-fn is_over(moment: u64, since: u64) -> bool
-    ensures { result ≡ is_over 60000 moment since }
+fn is_over(limit: u64, moment: u64, since: u64) -> bool
+    ensures { result ≡ is_over limit moment since }
 {
-    moment.saturating_sub(since) >= PATIENCE
+    moment.saturating_sub(since) >= limit
 }
 
 fn is_being_set_up(state: TunnelState) -> bool
     ensures { result ≡ is_being_set_up state }
 {
     matches!(state, TunnelState::WaitCtlReply | TunnelState::WaitCtlConn)
+}
+
+/// Whether a tunnel took as long as one may to be set up, or was closed as long as one is kept.
+fn is_at_its_end(moment: u64, control: &Control) -> bool
+    ensures { result ≡ is_at_its_end moment control.now }
+{
+    let is_closed = control.state == TunnelState::Closed;
+    is_closed && is_over(KEPT_CLOSED, moment, control.closed)
+        || is_being_set_up(control.state) && is_over(PATIENCE, moment, control.made)
 }
 
 fn is_set_up(state: CallState) -> bool
@@ -47,8 +59,9 @@ fn is_set_up(state: CallState) -> bool
 impl Turn {
     /// Each of these calls ends.
     #[tactic(auto, unfolding(protocol_model::specs::Turn::ends_all))]
-    fn end_all(&mut self, sessions: &[u32]) -> Result<(), NoMemory>
-        ensures { OnOk result (self.new ≡ ends_all sessions.now self.old) }
+    pub(crate) fn end_all(&mut self, sessions: &[u32]) -> Result<(), NoMemory>
+        ensures value { OnOk result (self.new ≡ ends_all sessions.now self.old) }
+        ensures same { self.new.control ≡ self.old.control }
     {
         for session in sessions {
             self.end_call(*session)?;
@@ -91,7 +104,7 @@ impl Turn {
         let is_open = self.control.state == TunnelState::Established;
         if is_open
             && self.control.channel.queued() == 0
-            && is_over(self.moment, self.control.heard)
+            && is_over(PATIENCE, self.moment, self.control.heard)
         {
             return self.greet_now(letters);
         }
@@ -115,7 +128,7 @@ impl Turn {
         let Ok(session) = u16::try_from(id) else {
             return Ok(());
         };
-        if !is_set_up(call.state) || !is_over(self.moment, call.since) {
+        if !is_set_up(call.state) || !is_over(PATIENCE, self.moment, call.since) {
             return Ok(());
         }
         let (_, action) = call_row(role, call.state, CallEvent::Close);
@@ -165,7 +178,7 @@ impl Turn {
     ) -> Result<(), NoMemory>
         ensures { OnOk result (self.new ≡ ticks role letters.now.letters calls.now.entries self.old) }
     {
-        if is_being_set_up(self.control.state) && is_over(self.moment, self.control.made) {
+        if is_at_its_end(self.moment, &self.control) {
             return self.clear(calls);
         }
         let mut channel = self.control.channel;
