@@ -28,6 +28,7 @@ help_text =
     codes "  lns N -           node N is an LNS\n" ++
     codes "  lac N M - plain   node N is a LAC, whose LNS is node M\n" ++
     codes "  open N            node N, a LAC, opens a tunnel to its LNS\n" ++
+    codes "  close N T         an operator closes tunnel T of node N, with its calls\n" ++
     codes "  ring N K          a subscriber calls at port K of node N, a LAC\n" ++
     codes "  data N S HEX      the subscriber of call S of node N, a LAC, sends a PPP frame\n" ++
     codes "  down N S HEX      the network sends a PPP frame down call S of node N, an LNS\n" ++
@@ -35,13 +36,14 @@ help_text =
     codes "  drop N S          an operator closes call S of node N\n" ++
     codes "  deliver P         packet P of the report reaches the node that it was sent to\n" ++
     codes "  tick N MS         the clock of node N goes on by MS milliseconds, and what is due is done\n" ++
-    codes "N and M are 1 to 255, K and S 1 to 65535, P is 1 to 4294967295, MS 0 to 86400000, without leading zeros. HEX is a frame\n" ++
+    codes "N and M are 1 to 255, K, S and T 1 to 65535, P is 1 to 4294967295, MS 0 to 86400000, without leading zeros. HEX is a frame\n" ++
     codes "from its protocol field on, 2 to 1494 bytes as hex digits in lower case. A schedule has at most 1048576 lines and\n" ++
     codes "67108864 bytes. M of a lac line may be declared later, or never: then what is sent to it can't be delivered.\n" ++
     codes "\n" ++
     codes "A line that doesn't fit ends the run, which says why:\n" ++
     codes "  node     that node isn't declared, or is of the other kind\n" ++
     codes "  twice    that node was declared before\n" ++
+    codes "  tunnel   that node has no such tunnel, or has closed it\n" ++
     codes "  call     that node has no such call\n" ++
     codes "  packet   no such packet was sent\n" ++
     codes "\n" ++
@@ -54,7 +56,7 @@ help_text =
     codes "                                      subscriber (sub) or to the network (net)\n" ++
     codes "  L gone N S                          call S of node N ended\n" ++
     codes "  L drop N WHY                        node N ignores what came\n" ++
-    codes "  L cause N WHY                       node N refuses what was asked for, or ends a call\n" ++
+    codes "  L cause N WHY                       node N refuses what was asked for, or ends a call, or closes a tunnel\n" ++
     codes "  end N tunnel T M R STATE 0 current complete\n" ++
     codes "                                      node N has tunnel T to node M, which calls it R\n" ++
     codes "  end N call T S R STATE B            in tunnel T it has call S, which the other end calls R, the B-th of all calls\n" ++

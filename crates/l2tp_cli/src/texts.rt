@@ -21,6 +21,7 @@ A schedule is a list of lines, with one space between words:
   lns N -           node N is an LNS
   lac N M - plain   node N is a LAC, whose LNS is node M
   open N            node N, a LAC, opens a tunnel to its LNS
+  close N T         an operator closes tunnel T of node N, with its calls
   ring N K          a subscriber calls at port K of node N, a LAC
   data N S HEX      the subscriber of call S of node N, a LAC, sends a PPP frame
   down N S HEX      the network sends a PPP frame down call S of node N, an LNS
@@ -28,13 +29,14 @@ A schedule is a list of lines, with one space between words:
   drop N S          an operator closes call S of node N
   deliver P         packet P of the report reaches the node that it was sent to
   tick N MS         the clock of node N goes on by MS milliseconds, and what is due is done
-N and M are 1 to 255, K and S 1 to 65535, P is 1 to 4294967295, MS 0 to 86400000, without leading zeros. HEX is a frame
+N and M are 1 to 255, K, S and T 1 to 65535, P is 1 to 4294967295, MS 0 to 86400000, without leading zeros. HEX is a frame
 from its protocol field on, 2 to 1494 bytes as hex digits in lower case. A schedule has at most 1048576 lines and
 67108864 bytes. M of a lac line may be declared later, or never: then what is sent to it can't be delivered.
 
 A line that doesn't fit ends the run, which says why:
   node     that node isn't declared, or is of the other kind
   twice    that node was declared before
+  tunnel   that node has no such tunnel, or has closed it
   call     that node has no such call
   packet   no such packet was sent
 
@@ -47,7 +49,7 @@ A report has lines for what is done in line L of the schedule, and ends with wha
                                       subscriber (sub) or to the network (net)
   L gone N S                          call S of node N ended
   L drop N WHY                        node N ignores what came
-  L cause N WHY                       node N refuses what was asked for, or ends a call
+  L cause N WHY                       node N refuses what was asked for, or ends a call, or closes a tunnel
   end N tunnel T M R STATE 0 current complete
                                       node N has tunnel T to node M, which calls it R
   end N call T S R STATE B            in tunnel T it has call S, which the other end calls R, the B-th of all calls

@@ -141,6 +141,8 @@ pub record IsFaultyInTunnel (ev : Event) (c : Control) (g : TunnelFault) : Type 
   pub header : Header
   pub read : header_of bytes ≡ Ok header
   pub control : header.control ≡ true
+  -- it is no acknowledgement alone
+  pub some : length (body_of header bytes) ≡ 0 → ⊥
   pub tunnel : IsFor header bytes c
   pub fault : tunnel_fault_in (body_of header bytes) ≡ Some g
 
