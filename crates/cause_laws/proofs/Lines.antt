@@ -6,7 +6,7 @@ use Rattle.id_table.specs.Ids.{at}
 use Rattle.wire_base.specs.declared.why.Why.{Why}
 use Rattle.wire_base.specs.declared.why.Why.TheVariants as why
 use Rattle.schedule_text.specs.declared.line.Line.{Line}
-use Rattle.schedule_text.specs.declared.line.Line.TheVariants.{Remark, Lac, Lns, OpenUp, Ring, FromSub, Down, Hang, DropCall, Deliver, Tick}
+use Rattle.schedule_text.specs.declared.line.Line.TheVariants.{Remark, Lac, Lns, OpenUp, Close, Ring, FromSub, Down, Hang, DropCall, Deliver, Tick}
 use Rattle.protocol_model.specs.declared.event.Event.{Event}
 use Rattle.protocol_model.specs.declared.event.Event.TheVariants as event
 use Rattle.protocol_model.specs.declared.out.Out.{Out}
@@ -19,11 +19,12 @@ use Rattle.protocol_model.specs.declared.tunnel.Role.TheVariants as role
 use Rattle.protocol_model.specs.Names.{address_of}
 use Rattle.protocol_model.specs.End.{new_end, step}
 use Rattle.step_laws.specs.Lines.{tested_not, is_lac_at, is_lns_at, is_declared, has_call}
-use Rattle.protocol_model.specs.World.{World, Node, Sender, Lined, quiet_line, with_node, after_step, given, entries_of, entry_of, shown, moved_all, sent, declared, lac_at, lns_at, with_call, later, config_of, added, block_of, stepped, addressee_of, arrival, refused_by, sender_of, arrives, delivers_it, delivers, line}
+use Rattle.protocol_model.specs.World.{World, Node, Sender, Lined, quiet_line, with_node, after_step, given, entries_of, entry_of, shown, moved_all, sent, declared, lac_at, lns_at, with_call, with_tunnel, later, config_of, added, block_of, stepped, addressee_of, arrival, refused_by, sender_of, arrives, delivers_it, delivers, line}
 use Rattle.step_laws.specs.Letters.{Among}
 use Rattle.step_laws.specs.Steps.{AreKept}
 use Rattle.step_laws.specs.Room.{StepsRefuseTruly}
 use Rattle.step_laws.specs.Causes.{CausesStand}
+use Rattle.frame_laws.proofs.Lines.{has_tunnel}
 use Rattle.cause_laws.specs.Causes.{Brings, moment_of, CauseIsTrue, IsFullAt, IsTrue, TellsTruly}
 
 -- ---- the outputs of a step, and the entries that they make
@@ -122,6 +123,9 @@ line_true causes room w kept number (Lns n) x h = added_true causes room w kept 
 line_true causes room w kept number (OpenUp n) x h =
     stepped_true causes room w kept number (OpenUp n) x n event.OpenTunnel None (lac_at (at w.nodes n)) (λ node e. (is_lac_at (at w.nodes n) node e).0)
     (λ node. refl) (refl, refl) h
+line_true causes room w kept number (Close n i) x h =
+    stepped_true causes room w kept number (Close n i) x n (event.CloseTunnel i) None (with_tunnel i (declared (at w.nodes n)))
+    (λ node e. is_declared (at w.nodes n) node (has_tunnel i (declared (at w.nodes n)) node e)) (λ node. refl) (refl, refl) h
 line_true causes room w kept number (Ring n port) x h =
     stepped_true causes room w kept number (Ring n port) x n (event.Ring port) None (lac_at (at w.nodes n))
     (λ node e. (is_lac_at (at w.nodes n) node e).0) (λ node. refl) (refl, refl) h

@@ -26,7 +26,8 @@ module _ (connections : HoldsInRuns) where
 
   pub room_in_runs : RoomInRuns
   room_in_runs lines fits few n node is i t there =
-      let k = (kept lines fits few n node is).tunnels i t there in record { letters = rw k.letters k.few; calls = k.calls_few }
+      let k = (kept lines fits few n node is).tunnels i t there in
+      record { letters = λ live. rw k.letters (k.few live); most = rw k.letters k.most; shut = k.shut; calls = k.calls_few }
 
   pub causes_of_runs : CausesStand → StepsRefuseTruly → CausesOfRuns
   causes_of_runs causes room lines fits few before after l split =

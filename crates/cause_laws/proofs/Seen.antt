@@ -51,6 +51,8 @@ module _ {X : Type 0} (see : Node → X) (still : (node : Node) (births : List (
   move_same n w (move.EndTold m) = λ k. refl
   move_same n w (move.EndHeard m) = λ k. refl
   move_same n w (move.EndSilent m) = λ k. refl
+  move_same n w (move.Closed m) = λ k. refl
+  move_same n w (move.ClosedBy m) = λ k. refl
   move_same n w (move.Cleared i) = λ k. refl
   move_same n w (move.Greeted m) = λ k. refl
   move_same n w (move.TookPlain m) = λ k. refl

@@ -36,7 +36,8 @@ pub fn reports_tell_true_causes()
 }
 
 /// Over every list of lines of the grammar, the letters that a live tunnel holds and those that its calls owe are fewer than a
-/// channel holds, so that no letter which a tunnel has to give is refused; and it has 4,096 calls at most.
+/// channel holds, as long as the tunnel isn't closed, so that no letter which it has to give is refused; a closed one has no calls, and
+/// holds no more letters than a channel may; and each has 4,096 calls at most.
 pub fn tunnels_have_room()
     ensures { RoomInRuns }
 {

@@ -1,6 +1,7 @@
 -- What the bytes of a datagram that an end sends are read as.
-use Rattle.std.proofs.Common.{◌≡◌, ℕ, ◌<◌, ◌≤◌, true, List, [], length, refl, sym, ap, ◌∙◌, None, Ok, arith}
+use Rattle.std.proofs.Common.{◌≡◌, ℕ, ◌<◌, ◌≤◌, true, List, [], length, refl, sym, ap, ◌∙◌, Some, None, Ok, arith}
 use Rattle.std.proofs.lemmas.Bool.{true≢false}
+use Rattle.wire_base.specs.declared.cause.Cause.TheVariants as cause
 use Rattle.l2tp_header.specs.declared.header.Header.{Header}
 use Rattle.l2tp_header.specs.Again.{Carries, control_header}
 use Rattle.l2tp_header.specs.Spelling.{control_bytes, data_bytes}
@@ -10,7 +11,8 @@ use Rattle.control_message.specs.declared.message.Message.{Message}
 use Rattle.control_message.specs.Pairs.{pairs_of, IsWritten}
 use Rattle.control_message.specs.Reading.{message_of, kind_of_pairs}
 use Rattle.recv_window.specs.Window.{on_wire}
-use Rattle.protocol_model.specs.Reading.{body_of, message_in, pairs_read, message_read, call_fault_in, fault_of_pairs}
+use Rattle.tunnel_fsm.specs.declared.table.TunnelEvent.TheVariants as event
+use Rattle.protocol_model.specs.Reading.{body_of, message_in, pairs_read, message_read, call_fault_in, fault_of_pairs, TunnelFault, tunnel_fault_in, tunnel_fault_of_pairs, closing}
 use Rattle.frame_laws.specs.Codecs.{Codecs}
 use Rattle.frame_laws.specs.Past.{Passage}
 use Rattle.frame_laws.proofs.Facts.{Nodes, BytesOk, WasSentInCall, NamesItsCall}
@@ -26,10 +28,22 @@ module _ (codecs : Codecs) where
   unfolding call_fault_in fault_of_pairs
   no_fault_again m w = let both = codecs.message m w in rw (both.0, both.1) refl
 
+  no_tunnel_fault_again : (m : Message) → IsWritten m → tunnel_fault_in (spelling (pairs_of m)) ≡ None
+  unfolding tunnel_fault_in tunnel_fault_of_pairs
+  no_tunnel_fault_again m w = let both = codecs.message m w in rw (both.0, both.1) refl
+
   -- nor in no pairs
   no_fault : call_fault_in [] ≡ None
   unfolding call_fault_in fault_of_pairs message_of kind_of_pairs
   no_fault = let none = codecs.pairs [] tt in rw none refl
+
+  -- but that they make no message, which tells no id
+  no_pairs : tunnel_fault_in [] ≡ Some (closing event.AdminClose cause.Avp 0)
+  unfolding tunnel_fault_in tunnel_fault_of_pairs message_of
+  no_pairs = let none = codecs.pairs [] tt in rw none refl
+
+  no_id : (g : TunnelFault) → tunnel_fault_in [] ≡ Some g → g.remote < 65536
+  no_id g h = let none = no_pairs in let same : closing event.AdminClose cause.Avp 0 ≡ g = cc in rw (← same) (omega arith)
 
   -- no pairs make no message
   no_message : (m : Message) → message_in [] ≡ Ok m → ⊥
@@ -66,6 +80,10 @@ module _ (codecs : Codecs) where
               let same : m ≡ x = let again = message_again m w in cc in
               rw (← same) (w, rw k.session_is names);
           sound = λ h e c. rw (control_read (spelling (pairs_of m)) h (codecs.room m w) e).body (no_fault_again m w);
+          told = λ h e c g f.
+              let none = no_tunnel_fault_again m w in
+              let some : tunnel_fault_in (spelling (pairs_of m)) ≡ Some g = rw (← (control_read (spelling (pairs_of m)) h (codecs.room m w) e).body) f in
+              absurd cc;
         }
 
     pub alone_ok : (nodes : Nodes) (gs : List Passage) (from to : ℕ) → BytesOk nodes gs from to (control_bytes tunnel session (on_wire ns) (on_wire nr) [])
@@ -74,6 +92,7 @@ module _ (codecs : Codecs) where
           frames = λ h e c. absurd (true≢false (sym (control_read [] h (omega arith) e).control ∙ c));
           letters = λ h e c x r. absurd (no_message x (rw (← (control_read [] h (omega arith) e).body) r));
           sound = λ h e c. rw (control_read [] h (omega arith) e).body no_fault;
+          told = λ h e c g f. no_id g (rw (← (control_read [] h (omega arith) e).body) f);
         }
 
   -- a frame that is for a session
@@ -86,4 +105,5 @@ module _ (codecs : Codecs) where
         frames = λ h e k. rw (same_header bytes h _ _ c e, c.bounds) sent;
         letters = λ h e k m r. absurd (true≢false (sym k ∙ ap (λ (x : Header). x.control) (same_header bytes h _ _ c e)));
         sound = λ h e k. absurd (true≢false (sym k ∙ ap (λ (x : Header). x.control) (same_header bytes h _ _ c e)));
+        told = λ h e k g f. absurd (true≢false (sym k ∙ ap (λ (x : Header). x.control) (same_header bytes h _ _ c e)));
       }

@@ -117,6 +117,7 @@ bytes_later ns ms g gs hs from to bytes h =
       frames = λ x e c. sent_in_call_later ns ms g gs hs from to x.session _ (h.frames x e c);
       letters = λ x e c m r. let l = h.letters x e c m r in (l.0, names_later ns ms g from to x.session m l.1);
       sound = h.sound;
+      told = h.told;
     }
 
 pub packets_later : (ns ms : Nodes) → Grows ns ms → (gs hs : List Passage) (ps : List Packet) → AllByRecursion (PacketOk ns gs) ps
@@ -171,6 +172,7 @@ end_later ns ms g n e h =
       number = h.number;
       first = h.first;
       last = h.last;
+      most_tunnels = h.most_tunnels;
       first_session = h.first_session;
       last_session = h.last_session;
       most = h.most;

@@ -11,11 +11,11 @@ use Rattle.l2tp_header.specs.Reading.{header_of}
 use Rattle.control_message.specs.declared.message.Message.{Message}
 use Rattle.control_message.specs.Pairs.{IsWritten}
 use Rattle.protocol_model.specs.declared.event.Event.{Event}
-use Rattle.protocol_model.specs.declared.event.Event.TheVariants.{Datagram, Ring, Payload, Lower, Hang, OpenTunnel, DropCall, Tick}
+use Rattle.protocol_model.specs.declared.event.Event.TheVariants.{Datagram, Ring, Payload, Lower, Hang, OpenTunnel, DropCall, CloseTunnel, Tick}
 use Rattle.protocol_model.specs.declared.tunnel.Call.{Call}
 use Rattle.protocol_model.specs.declared.tunnel.Role.{Role}
 use Rattle.protocol_model.specs.Names.{address_of, node_of}
-use Rattle.protocol_model.specs.Reading.{body_of, message_in, call_fault_in}
+use Rattle.protocol_model.specs.Reading.{body_of, message_in, call_fault_in, TunnelFault, tunnel_fault_in}
 use Rattle.protocol_model.specs.Turn.{Tunnel}
 use Rattle.protocol_model.specs.End.{End}
 use Rattle.protocol_model.specs.World.{World, Node}
@@ -53,6 +53,7 @@ pub record HeardFrom (ns : Nodes) (n peer : ℕ) (bytes : List ℕ) : Type 0 whe
   pub letters : (h : Header) → header_of bytes ≡ Ok h → h.control ≡ true → (m : Message) → message_in (body_of h bytes) ≡ Ok m
       → IsWritten m × NamesItsCall ns from n h.session m
   pub sound : (h : Header) → header_of bytes ≡ Ok h → h.control ≡ true → call_fault_in (body_of h bytes) ≡ None
+  pub told : (h : Header) → header_of bytes ≡ Ok h → h.control ≡ true → (g : TunnelFault) → tunnel_fault_in (body_of h bytes) ≡ Some g → g.remote < 65536
 
 abbrev pub Heard : Nodes → ℕ → Event → Type 0
 Heard ns n (Datagram peer bytes) = HeardFrom ns n peer bytes
@@ -62,6 +63,7 @@ Heard ns n (Lower s frame) = Unit {0}
 Heard ns n (Hang s) = Unit {0}
 Heard ns n OpenTunnel = Unit {0}
 Heard ns n (DropCall s) = Unit {0}
+Heard ns n (CloseTunnel i) = Unit {0}
 Heard ns n Tick = Unit {0}
 
 pub heard_later : (ns ms : Nodes) → Grows ns ms → (n : ℕ) (ev : Event) → Heard ns n ev → Heard ms n ev
@@ -71,6 +73,7 @@ heard_later ns ms g n (Datagram peer bytes) h = record {
   address = h.address;
   letters = λ x e c m r. let l = h.letters x e c m r in (l.0, names_later ns ms g h.from n x.session m l.1);
   sound = h.sound;
+  told = h.told;
 }
 heard_later ns ms g n (Ring port) h = tt
 heard_later ns ms g n (Payload s frame) h = tt
@@ -78,6 +81,7 @@ heard_later ns ms g n (Lower s frame) h = tt
 heard_later ns ms g n (Hang s) h = tt
 heard_later ns ms g n OpenTunnel h = tt
 heard_later ns ms g n (DropCall s) h = tt
+heard_later ns ms g n (CloseTunnel i) h = tt
 heard_later ns ms g n Tick h = tt
 
 pub heard_letter : (ns : Nodes) (n : ℕ) (ev : Event) → Heard ns n ev → (peer session : ℕ) (m : Message) → Hears ev peer session m
@@ -92,6 +96,12 @@ heard_letter ns n ev heard peer session m h =
 pub heard_sound : (ns : Nodes) (n : ℕ) (ev : Event) → Heard ns n ev → (peer : ℕ) (bytes : List ℕ) (h : Header) → ev ≡ Datagram peer bytes
     → header_of bytes ≡ Ok h → h.control ≡ true → call_fault_in (body_of h bytes) ≡ None
 heard_sound ns n ev heard peer bytes h is read control = let k : HeardFrom ns n peer bytes = subst (Heard ns n) is heard in k.sound h read control
+
+-- a fault tells no id of more than 16 bits
+pub heard_told : (ns : Nodes) (n : ℕ) (ev : Event) → Heard ns n ev → (peer : ℕ) (bytes : List ℕ) (h : Header) → ev ≡ Datagram peer bytes
+    → header_of bytes ≡ Ok h → h.control ≡ true → (g : TunnelFault) → tunnel_fault_in (body_of h bytes) ≡ Some g → g.remote < 65536
+heard_told ns n ev heard peer bytes h is read control g fault =
+    let k : HeardFrom ns n peer bytes = subst (Heard ns n) is heard in k.told h read control g fault
 
 -- ---- an end along the moves of a step
 
@@ -124,6 +134,7 @@ pub record Sets (x y : End) (i : ℕ) (t : Tunnel) : Type 0 where
   pub tunnels : y.tunnels ≡ put x.tunnels i t
   pub next : x.tunnel_ids.next ≤ y.tunnel_ids.next
   pub last : y.tunnel_ids.last ≡ x.tunnel_ids.last
+  pub most_tunnels : y.tunnel_ids.next ≤ 65536
   pub sessions : x.session_ids.next ≤ y.session_ids.next
   pub last_session : y.session_ids.last ≡ x.session_ids.last
   pub most : y.session_ids.next ≤ 65536
@@ -138,6 +149,7 @@ end_put ns ms g n x y i t h sets ok =
       number = rw sets.config h.number;
       first = (let f = h.first in let le = sets.next in omega arith);
       last = rw sets.last h.last;
+      most_tunnels = sets.most_tunnels;
       first_session = (let f = h.first_session in let le = sets.sessions in omega arith);
       last_session = rw sets.last_session h.last_session;
       most = sets.most;

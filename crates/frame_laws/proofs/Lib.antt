@@ -4,6 +4,7 @@ pub mod Births
 pub mod Rows
 pub mod Leads
 pub mod Refusing
+pub mod Closing
 pub mod Moves
 pub mod Chains
 pub mod Datagrams

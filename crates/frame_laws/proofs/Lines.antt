@@ -1,5 +1,5 @@
 -- Each line of a schedule.
-use Rattle.std.proofs.Common.{◌≡◌, ⊎_elim, ℕ, ◌+◌, ◌-◌, ◌^◌, ◌<◌, false, List, [], refl, sym, ◌∙◌, subst, Option, Some, None, Result, Ok, Err, arith}
+use Rattle.std.proofs.Common.{◌≡◌, ⊎_elim, ℕ, ◌+◌, ◌-◌, ◌^◌, ◌<◌, false, List, [], refl, sym, ap, ◌∙◌, subst, Option, Some, None, Result, Ok, Err, arith}
 use Rattle.std.proofs.lemmas.Bool.{true≢false}
 use Rattle.std.proofs.lemmas.Option.{none-some}
 use Rattle.std.proofs.lemmas.List.{append-nil}
@@ -10,7 +10,7 @@ use Rattle.id_table.specs.Order.{at_new, at_other, found_put, same_or_not, ascen
 use Rattle.wire_base.specs.declared.why.Why.{Why}
 use Rattle.wire_base.specs.declared.why.Why.TheVariants as why
 use Rattle.schedule_text.specs.declared.line.Line.{Line}
-use Rattle.schedule_text.specs.declared.line.Line.TheVariants.{Remark, Lac, Lns, OpenUp, Ring, FromSub, Down, Hang, DropCall, Deliver, Tick}
+use Rattle.schedule_text.specs.declared.line.Line.TheVariants.{Remark, Lac, Lns, OpenUp, Close, Ring, FromSub, Down, Hang, DropCall, Deliver, Tick}
 use Rattle.schedule_text.specs.Grammar.{FitsLine}
 use Rattle.protocol_model.specs.declared.event.Event.{Event}
 use Rattle.protocol_model.specs.declared.event.Event.TheVariants as event
@@ -21,8 +21,8 @@ use Rattle.protocol_model.specs.declared.tunnel.Role.{Role}
 use Rattle.protocol_model.specs.declared.tunnel.Role.TheVariants as role
 use Rattle.protocol_model.specs.Names.{address_of}
 use Rattle.protocol_model.specs.End.{new_end, step}
-use Rattle.step_laws.specs.Lines.{tested_not, is_lac_at, is_lns_at, is_declared, has_call}
-use Rattle.protocol_model.specs.World.{World, Node, Sender, Lined, quiet_line, with_node, after_step, declared, lac_at, lns_at, with_call, later, config_of, added, block_of, stepped, addressee_of, arrival, refused_by, sender_of, arrives, delivers_it, delivers, line}
+use Rattle.step_laws.specs.Lines.{tested, tested_not, is_lac_at, is_lns_at, is_declared, has_call}
+use Rattle.protocol_model.specs.World.{World, Node, Sender, Lined, quiet_line, with_node, after_step, declared, lac_at, lns_at, with_call, with_tunnel, is_not_closed, later, config_of, added, block_of, stepped, addressee_of, arrival, refused_by, sender_of, arrives, delivers_it, delivers, line}
 use Rattle.frame_laws.specs.Codecs.{Codecs}
 use Rattle.frame_laws.specs.Past.{Passage, sent_in, handed_in}
 use Rattle.frame_laws.specs.Reports.{ups_in, told_of}
@@ -101,6 +101,7 @@ module _ (ns : Nodes) (n : ℕ) (r : Role) (lns : ℕ) (none : at ns n ≡ None)
           number = lt;
           first = omega arith;
           last = omega arith;
+          most_tunnels = omega arith;
           first_session = omega arith;
           last_session = omega arith;
           most = omega arith;
@@ -177,6 +178,7 @@ HasNoFrame (event.Lower session frame) = ⊥
 HasNoFrame (event.Hang session) = Unit {0}
 HasNoFrame event.OpenTunnel = Unit {0}
 HasNoFrame (event.DropCall session) = Unit {0}
+HasNoFrame (event.CloseTunnel i) = Unit {0}
 HasNoFrame event.Tick = Unit {0}
 
 no_frame : (number n : ℕ) (r : Role) (ev : Event) (l : Line) → HasNoFrame ev → (g : Passage) → EventGives number n r ev g → LineGives number l g
@@ -187,6 +189,7 @@ no_frame number n r (event.Lower session frame) l none g h = absurd none
 no_frame number n r (event.Hang session) l none g h = absurd (⊎_elim (λ e. absurd cc) (λ e. absurd cc) h.event_is)
 no_frame number n r event.OpenTunnel l none g h = absurd (⊎_elim (λ e. absurd cc) (λ e. absurd cc) h.event_is)
 no_frame number n r (event.DropCall session) l none g h = absurd (⊎_elim (λ e. absurd cc) (λ e. absurd cc) h.event_is)
+no_frame number n r (event.CloseTunnel i) l none g h = absurd (⊎_elim (λ e. absurd cc) (λ e. absurd cc) h.event_is)
 no_frame number n r event.Tick l none g h = absurd (⊎_elim (λ e. absurd cc) (λ e. absurd cc) h.event_is)
 
 from_sub : (number n : ℕ) (r : Role) (session : ℕ) (frame : List ℕ) → r ≡ role.Lac → (g : Passage)
@@ -208,6 +211,11 @@ down_to number n r session frame lns g h = ⊎_elim
     let b : frame ≡ g.frame = cc in
     record { number_is = h.number_is; line_is = rw (h.role_is, lns, h.node_is, a, b) refl })
     h.event_is
+
+-- one that has a tunnel which isn't closed
+pub has_tunnel : (i : ℕ) (r : Result Node Why) (node : Node) → with_tunnel i r ≡ Ok node → r ≡ Ok node
+has_tunnel i (Err x) node h = absurd (cc)
+has_tunnel i (Ok x) node h = ap (λ y. Ok y) (tested (is_not_closed (at x.end.tunnels i)) x why.Tunnel node h).1
 
 -- a node of the world, at some moment
 record IsAt (w : World) (n : ℕ) (node : Node) : Type 0 where
@@ -280,6 +288,13 @@ module _ (codecs : Codecs) (laws : StepLaws) (number : ℕ) (w : World) (gs : Li
   line_ok x (OpenUp n) fits h =
       stepped_ok codecs laws number w gs holds below (OpenUp n) x n event.OpenTunnel None (lac_at (at w.nodes n))
       (λ node e. (is_there w n node (is_lac_at (at w.nodes n) node e).0, no_frame number n node.end.role event.OpenTunnel (OpenUp n) tt)) tt h
+  line_ok x (Close n i) fits h =
+      stepped_ok codecs laws number w gs holds below (Close n i) x n (event.CloseTunnel i) None (with_tunnel i (declared (at w.nodes n)))
+      (λ node e. (
+        is_there w n node (is_declared (at w.nodes n) node (has_tunnel i (declared (at w.nodes n)) node e)),
+        no_frame number n node.end.role (event.CloseTunnel i) (Close n i) tt,
+      ))
+      tt h
   line_ok x (Ring n port) fits h =
       stepped_ok codecs laws number w gs holds below (Ring n port) x n (event.Ring port) None (lac_at (at w.nodes n))
       (λ node e. (is_there w n node (is_lac_at (at w.nodes n) node e).0, no_frame number n node.end.role (event.Ring port) (Ring n port) tt)) tt h

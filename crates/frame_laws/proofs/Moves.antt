@@ -12,7 +12,7 @@ use Rattle.id_table.specs.Ids.{at, put, without, at-none}
 use Rattle.id_table.specs.Order.{Ascends, ascends-empty, ascends-put, ascends-without, at_new, at_other, found_put, found_without}
 use Rattle.wire_base.specs.declared.letter.Letter.{Letter}
 use Rattle.control_message.specs.declared.message.Message.{Message}
-use Rattle.control_message.specs.declared.message.Message.TheVariants.{Sccrq, Sccrp, Scccn, Hello, Icrq, Icrp, Cdn}
+use Rattle.control_message.specs.declared.message.Message.TheVariants.{Sccrq, Sccrp, Scccn, StopCcn, Hello, Icrq, Icrp, Cdn}
 use Rattle.control_message.specs.Pairs.{IsWritten, IsWrittenOpening}
 use Rattle.call_fsm.specs.declared.table.CallEvent.TheVariants as call_event
 use Rattle.tunnel_fsm.specs.declared.table.TunnelState.TheVariants.{WaitCtlReply, WaitCtlConn, Established}
@@ -34,6 +34,8 @@ use Rattle.protocol_model.specs.declared.moves.EndTold.{EndTold}
 use Rattle.protocol_model.specs.declared.moves.Refused.{Refused}
 use Rattle.protocol_model.specs.declared.moves.EndHeard.{EndHeard}
 use Rattle.protocol_model.specs.declared.moves.EndSilent.{EndSilent}
+use Rattle.protocol_model.specs.declared.moves.Closed.{Closed}
+use Rattle.protocol_model.specs.declared.moves.ClosedBy.{ClosedBy}
 use Rattle.protocol_model.specs.declared.moves.Greeted.{Greeted}
 use Rattle.protocol_model.specs.declared.moves.Repeated.{Repeated}
 use Rattle.protocol_model.specs.declared.moves.Move.{Move}
@@ -48,12 +50,13 @@ use Rattle.protocol_model.specs.Calls.{advanced, rung, asked_for, is_up}
 use Rattle.protocol_model.specs.Turn.{Tunnel, letter_of, counts_given, counts_taken, learns_window, opening_of, request_of, connection}
 use Rattle.protocol_model.specs.End.{End, new_place}
 use Rattle.protocol_model.specs.World.{World, Node, with_birth, is_born, birth_of, moved}
-use Rattle.step_laws.specs.Moves.{with_tunnel, with_letter, new_tunnel, begun, Opens, Accepts, Connects, Confirms, Adds as AddsCall, Requests, Replies, ComesUpFirst, ComesUpSecond, Refuses, TellsEnd, HearsEnd, EndsSilently, Clears, Greets, TakesPlain, Reads, LetsGo, Repeats, without_call, Does}
+use Rattle.step_laws.specs.Moves.{with_tunnel, with_letter, new_tunnel, begun, Opens, Accepts, Connects, Confirms, Adds as AddsCall, Requests, Replies, ComesUpFirst, ComesUpSecond, Refuses, TellsEnd, HearsEnd, EndsSilently, Closes, ClosesBy, Clears, Greets, TakesPlain, Reads, LetsGo, Repeats, without_call, without_calls, Does}
 use Rattle.frame_laws.proofs.Facts.{Nodes, Born, Plays, Grows, same_nodes, Mates, swapped, NamesItsCall, KnowsItsMate, CallOk, call_later, CallsOk, LetterOk, LettersOk, letters_later, TunnelOk, tunnel_later, all_push, all_drop}
 use Rattle.frame_laws.proofs.Changes.{next_birth, some_birth, with_one, born_nodes, born_packets, born_count, made_count, made_nodes, made_packets, Changed, birth_is, plays_at, grows, Adds, NextBirth, SameBirth}
 use Rattle.frame_laws.proofs.Births.{not_lns, counted_after}
-use Rattle.step_laws.specs.Codes.{codes_fit}
+use Rattle.step_laws.specs.Codes.{codes_fit, stop_codes_fit}
 use Rattle.frame_laws.proofs.Refusing.{refusal_fits}
+use Rattle.frame_laws.proofs.Closing.{closing_fits}
 use Rattle.frame_laws.proofs.Rows.{request_row, reply_row, second_row, rung_row}
 use Rattle.frame_laws.proofs.Leads.{draw_is, next_is, Heard, heard_letter, At, Leads, Sets, calls_put, end_put}
 
@@ -176,6 +179,7 @@ module _ (digits : (port : ℕ) → length (calling_number port) ≡ 12) (n : �
         tunnels = refl;
         next = omega (arith, d.0);
         last = refl;
+        most_tunnels = (let last = here.end.last in let le = d.1 in omega arith);
         sessions = omega arith;
         last_session = refl;
         most = here.end.most;
@@ -234,6 +238,7 @@ module _ (digits : (port : ℕ) → length (calling_number port) ≡ 12) (n : �
     tunnels = refl;
     next = omega arith;
     last = refl;
+    most_tunnels = here.end.most_tunnels;
     sessions = omega arith;
     last_session = refl;
     most = here.end.most;
@@ -407,6 +412,39 @@ module _ (digits : (port : ℕ) → length (calling_number port) ≡ 12) (n : �
       ended_led y m.tunnel h.tunnel h.tunnel.control h.tunnel.letters m.session h.there h.after refl refl refl
       (here.end.tunnels m.tunnel h.tunnel h.there).letters
 
+  -- ---- a tunnel closes
+
+  -- its calls aren't there any more, and the id that its peer assigned may be known now
+  shut_led : (y : End) (i : ℕ) (t : Tunnel) (c : Control) (ls : List Letter) → at x.tunnels i ≡ Some t
+      → y ≡ without_calls x i (record t { control = c; letters = ls }) t.calls → c.local ≡ t.control.local → c.peer ≡ t.control.peer → c.remote < 65536
+      → LettersOk v.nodes n t.control.peer ls → Led v y
+  shut_led y i t c ls there same local peer remote letters =
+      let u : Tunnel = record { control = c; letters = ls; calls = [] } in
+      let o = here.end.tunnels i t there in
+      subst (λ e. Led v e) (sym same)
+      (led_still _ i u (sets_tunnel _ i u) refl
+      (record {
+        local = local ∙ o.local;
+        drawn = o.drawn;
+        remote = remote;
+        letters = rw peer letters;
+        calls = no_calls v.nodes n x.role x.session_ids.next c.peer;
+        order = ascends-empty [] refl;
+      }))
+
+  closed_led : (moment : ℕ) (m : Closed) (y : End) → Closes x moment ev m y → Led v y
+  closed_led moment m y h =
+      let o = here.end.tunnels m.tunnel h.tunnel h.there in
+      let k = stop_codes_fit h.tunnel ev h.on m h.why in
+      let id : m.tunnel < 65536 = (let d = o.drawn in let most = here.end.most_tunnels in omega arith) in
+      shut_led y m.tunnel h.tunnel _ _ h.there h.after refl refl (closing_fits v.nodes n ev heard h.tunnel h.on m o.remote h.why)
+      (more_letters m.tunnel h.tunnel h.there 0 (StopCcn m.tunnel m.result m.error) (omega arith) (id, k.0, k.1) tt)
+
+  closed_by_led : (moment : ℕ) (m : ClosedBy) (y : End) → ClosesBy x moment ev m y → Led v y
+  closed_by_led moment m y h =
+      let o = here.end.tunnels m.tunnel h.tunnel h.there in
+      shut_led y m.tunnel h.tunnel _ h.tunnel.letters h.there h.after refl refl o.remote o.letters
+
   -- the tunnel isn't there any more
   cleared_led : (moment i : ℕ) (y : End) → Clears x moment ev i y → Led v y
   cleared_led moment i y h = subst (λ e. Led v e) (sym h.after) (record {
@@ -419,6 +457,7 @@ module _ (digits : (port : ℕ) → length (calling_number port) ≡ 12) (n : �
         number = here.end.number;
         first = here.end.first;
         last = here.end.last;
+        most_tunnels = here.end.most_tunnels;
         first_session = here.end.first_session;
         last_session = here.end.last_session;
         most = here.end.most;
@@ -540,6 +579,7 @@ module _ (digits : (port : ℕ) → length (calling_number port) ≡ 12) (n : �
         tunnels = refl;
         next = omega arith;
         last = refl;
+        most_tunnels = here.end.most_tunnels;
         sessions = omega (arith, d.0);
         last_session = refl;
         most = omega arith;
@@ -636,6 +676,8 @@ module _ (digits : (port : ℕ) → length (calling_number port) ≡ 12) (n : �
   does_led moment (move.EndTold m) y h = told_led moment m y h
   does_led moment (move.EndHeard m) y h = heard_led m y h
   does_led moment (move.EndSilent m) y h = silent_led moment m y h
+  does_led moment (move.Closed m) y h = closed_led moment m y h
+  does_led moment (move.ClosedBy m) y h = closed_by_led moment m y h
   does_led moment (move.Cleared i) y h = cleared_led moment i y h
   does_led moment (move.Greeted m) y h = greeted_led moment m y h
   does_led moment (move.TookPlain m) y h = plain_led m y h

@@ -8,7 +8,7 @@ use Rattle.l2tp_header.specs.Spelling.{data_bytes}
 use Rattle.control_channel.specs.Numbers.{place_of}
 use Rattle.schedule_text.specs.declared.line.Line.{Line}
 use Rattle.protocol_model.specs.declared.event.Event.{Event}
-use Rattle.protocol_model.specs.declared.event.Event.TheVariants.{Datagram, Ring, Payload, Lower, Hang, OpenTunnel, DropCall, Tick}
+use Rattle.protocol_model.specs.declared.event.Event.TheVariants.{Datagram, Ring, Payload, Lower, Hang, OpenTunnel, DropCall, CloseTunnel, Tick}
 use Rattle.protocol_model.specs.declared.moves.FrameSent.{FrameSent}
 use Rattle.protocol_model.specs.declared.moves.FrameUp.{FrameUp}
 use Rattle.protocol_model.specs.declared.moves.Move.TheVariants as move
@@ -206,16 +206,25 @@ IsReal w gs n (Lower s frame) = Unit {0}
 IsReal w gs n (Hang s) = Unit {0}
 IsReal w gs n OpenTunnel = Unit {0}
 IsReal w gs n (DropCall s) = Unit {0}
+IsReal w gs n (CloseTunnel i) = Unit {0}
 IsReal w gs n Tick = Unit {0}
 
 heard_of : (w : World) (gs : List Passage) (n : ℕ) (ev : Event) → IsReal w gs n ev → Heard w.nodes n ev
-heard_of w gs n (Datagram peer bytes) h = record { from = h.from; number = h.number; address = h.address; letters = h.bytes_ok.letters; sound = h.bytes_ok.sound }
+heard_of w gs n (Datagram peer bytes) h = record {
+  from = h.from;
+  number = h.number;
+  address = h.address;
+  letters = h.bytes_ok.letters;
+  sound = h.bytes_ok.sound;
+  told = h.bytes_ok.told;
+}
 heard_of w gs n (Ring port) h = tt
 heard_of w gs n (Payload s frame) h = tt
 heard_of w gs n (Lower s frame) h = tt
 heard_of w gs n (Hang s) h = tt
 heard_of w gs n OpenTunnel h = tt
 heard_of w gs n (DropCall s) h = tt
+heard_of w gs n (CloseTunnel i) h = tt
 heard_of w gs n Tick h = tt
 
 -- what a step of a node leads to, in a line

@@ -16,7 +16,7 @@ use Rattle.protocol_model.specs.declared.tunnel.Role.TheVariants.{Lac, Lns}
 use Rattle.protocol_model.specs.declared.packet.Packet.{Packet}
 use Rattle.protocol_model.specs.Names.{node_of}
 use Rattle.protocol_model.specs.Turn.{Tunnel}
-use Rattle.protocol_model.specs.Reading.{body_of, message_in, call_fault_in}
+use Rattle.protocol_model.specs.Reading.{body_of, message_in, call_fault_in, TunnelFault, tunnel_fault_in}
 use Rattle.protocol_model.specs.Calls.{frame_of, is_up}
 use Rattle.protocol_model.specs.End.{End}
 use Rattle.step_laws.specs.Letters.{Among}
@@ -105,6 +105,8 @@ pub record BytesOk (ns : Nodes) (gs : List Passage) (from to : ℕ) (bytes : Lis
       → IsWritten m × NamesItsCall ns from to h.session m
   -- no message about a call has a fault
   pub sound : (h : Header) → header_of bytes ≡ Ok h → h.control ≡ true → call_fault_in (body_of h bytes) ≡ None
+  -- one that has another fault tells no tunnel id of more than 16 bits
+  pub told : (h : Header) → header_of bytes ≡ Ok h → h.control ≡ true → (g : TunnelFault) → tunnel_fault_in (body_of h bytes) ≡ Some g → g.remote < 65536
 
 pub record PacketOk (ns : Nodes) (gs : List Passage) (p : Packet) : Type 0 where
   pub from : p.from < 256
@@ -152,6 +154,7 @@ pub record EndOk (ns : Nodes) (n : ℕ) (e : End) : Type 0 where
   pub number : e.config.number < 256
   pub first : 0 < e.tunnel_ids.next
   pub last : e.tunnel_ids.last < 65536
+  pub most_tunnels : e.tunnel_ids.next ≤ 65536
   pub first_session : 0 < e.session_ids.next
   pub last_session : e.session_ids.last < 65536
   pub most : e.session_ids.next ≤ 65536

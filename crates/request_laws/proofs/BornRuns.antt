@@ -34,7 +34,7 @@ use Rattle.request_laws.proofs.Lines.{IsFrom, OfNobody, OfPacket, LineDoes, Noth
 use Rattle.request_laws.proofs.Worlds.{step_nodes, step_done, step_follows, before_moves, after_moves}
 use Rattle.request_laws.proofs.Runs.{Reached, reached_is, holds_in_runs}
 use Rattle.request_laws.proofs.AskedRuns.{known_more, known_elsewhere, kept_order, nothing_done, asked_in_runs, drawn_at_lacs_in_runs}
-use Rattle.request_laws.proofs.Made.{taken_request, sent_by_partner, made_once}
+use Rattle.request_laws.proofs.Made.{heeds, taken_request, sent_by_partner, made_once}
 use Rattle.request_laws.proofs.Births.{Drawn, Told, BirthsStay, Tells, tells_later, ComesFrom, BornOk, Bears, born_on, birth_there, put_stays}
 
 -- ---- nodes
@@ -216,7 +216,9 @@ drawn_for_requests_in_runs chains facts lines fits n node is lns s some lt =
 module _ (ds : List Deed) (ok : (n i : ℕ) → AccountOk (account_of ds) n i (account_of ds n i)) (w : World) where
   -- the peer of the tunnel is the node at the request's address
   peer_is : (n s b : ℕ) (h : Told w.nodes (account_of ds n) s b) → (account_of ds n h.drawn.tunnel).peer ≡ node_of h.drawn.reply.peer
-  peer_is n s b h = h.sender _ (sent_by_partner ds ok n h.drawn.tunnel h.drawn.number h.drawn.taken h.drawn.there)
+  peer_is n s b h =
+      let d = h.drawn in
+      h.sender _ (sent_by_partner ds ok n d.tunnel d.number d.taken d.there (heeds ds ok n d.tunnel d.number d.reply (made_at ds n s d)))
 
   -- the request that the session was drawn for is of a LAC
   module _ (lacs : (n i k s : ℕ) → IsAskedAt ds n i k s → IsDrawnAtLac w n s) where

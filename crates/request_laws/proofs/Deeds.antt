@@ -38,6 +38,8 @@ IsRequest (move.Refused m) s = ⊥
 IsRequest (move.EndTold m) s = ⊥
 IsRequest (move.EndHeard m) s = ⊥
 IsRequest (move.EndSilent m) s = ⊥
+IsRequest (move.Closed m) s = ⊥
+IsRequest (move.ClosedBy m) s = ⊥
 IsRequest (move.Cleared i) s = ⊥
 IsRequest (move.Greeted m) s = ⊥
 IsRequest (move.TookPlain m) s = ⊥
@@ -86,6 +88,8 @@ module _ (v : World) (number n : ℕ) (r : Role) (sender : Option Sender) where
   entered_asks (move.EndTold m) a k s h = plain (move.EndTold m) a _ k s (λ serial calling e. absurd (cc)) h
   entered_asks (move.EndHeard m) a k s h = inl h
   entered_asks (move.EndSilent m) a k s h = inl h
+  entered_asks (move.Closed m) a k s h = plain (move.Closed m) a _ k s (λ serial calling e. absurd (cc)) h
+  entered_asks (move.ClosedBy m) a k s h = inl h
   entered_asks (move.Cleared i) a k s h = inl h
   entered_asks (move.Greeted m) a k s h = plain (move.Greeted m) a _ k s (λ serial calling e. absurd (cc)) h
   entered_asks (move.TookPlain m) a k s h = inl h
@@ -115,6 +119,8 @@ module _ (v : World) (number n : ℕ) (r : Role) (sender : Option Sender) where
   entered_taken (move.EndTold m) a k u h = h
   entered_taken (move.EndHeard m) a k u h = takes_more a _ k u h
   entered_taken (move.EndSilent m) a k u h = h
+  entered_taken (move.Closed m) a k u h = h
+  entered_taken (move.ClosedBy m) a k u h = takes_more a _ k u h
   entered_taken (move.Cleared i) a k u h = h
   entered_taken (move.Greeted m) a k u h = h
   entered_taken (move.TookPlain m) a k u h = takes_more a _ k u h

@@ -8,6 +8,7 @@ pub mod Lines
 pub mod Worlds
 pub mod Runs
 pub mod AskedRuns
+pub mod Replies
 pub mod Made
 pub mod Births
 pub mod BornRuns

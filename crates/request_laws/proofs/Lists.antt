@@ -1,5 +1,6 @@
 -- What is found at a place of a list that goes on.
-use Rattle.std.proofs.Common.{◌≡◌, ◌⊎◌, inl, inr, ⊎_elim, ℕ, zero, suc, ◌<◌, List, [], ◌∷◌, ◌++◌, length, refl, ap, subst, Some, arith}
+use Rattle.std.proofs.Common.{◌≡◌, ◌⊎◌, inl, inr, ⊎_elim, ℕ, zero, suc, ◌<◌, ◌≤◌, List, [], ◌∷◌, ◌++◌, length, refl, ap, subst, Some, arith}
+use Rattle.std.proofs.lemmas.Bool.Decides.{leb_tells}
 use Rattle.std.specs.Prelude.{slice_get}
 use Rattle.std.specs.List.{AllByRecursion}
 
@@ -21,6 +22,9 @@ got_in [] y zero x h = inr (refl, cc)
 got_in [] y (suc k) x h = absurd (cc)
 got_in (z ∷ xs) y zero x h = inl h
 got_in (z ∷ xs) y (suc k) x h = ⊎_elim (λ a. inl a) (λ (a : (k ≡ length xs) × (y ≡ x)). inr (ap suc a.0, a.1)) (got_in xs y k x h)
+
+pub le_or_lt : (a b : ℕ) → (a ≤ b) ⊎ (b < a)
+le_or_lt a b = ⊎_elim (λ h. inl h.1) (λ h. inr h.1) (leb_tells a b)
 
 pub got_below : {X : Type 0} (xs : List X) (k : ℕ) (x : X) → slice_get xs k ≡ Some x → k < length xs
 got_below [] k x h = absurd (cc)

@@ -1,22 +1,19 @@
 -- For a request of one node one call is made: by one tunnel, which took it once.
-use Rattle.std.proofs.Common.{◌≡◌, ⊎_elim, ℕ, zero, suc, ◌<◌, Bool, true, false, cond, List, ◌∷◌, length, refl, sym, ap, ◌∙◌, subst, Option, Some, None, slice_get, arith}
+use Rattle.std.proofs.Common.{◌≡◌, ⊎_elim, ℕ, ◌<◌, Bool, true, false, cond, List, refl, sym, ap, ◌∙◌, subst, Some, None, slice_get}
 use Rattle.std.specs.Prelude.{◌==◌}
 use Rattle.id_table.specs.Order.{same_or_not}
-use Rattle.control_message.specs.declared.message.Message.{Message}
-use Rattle.control_message.specs.declared.message.Message.TheVariants.{Sccrq, Sccrp, Icrq}
-use Rattle.control_message.specs.declared.message.Opening.{Opening}
 use Rattle.protocol_model.specs.declared.moves.Replied.{Replied}
 use Rattle.protocol_model.specs.declared.moves.Move.TheVariants as move
 use Rattle.protocol_model.specs.World.{Sender, Deed}
 use Rattle.protocol_model.specs.Run.{run}
-use Rattle.step_laws.specs.Letters.{Letter}
 use Rattle.step_laws.specs.Steps.{StepsAreChains}
 use Rattle.frame_laws.specs.Facts.{FactsOfRuns}
-use Rattle.connection_laws.specs.Accounts.{Part, Unmade, Opener, Acceptor, Taken, Account, account_of, partner_of}
-use Rattle.connection_laws.specs.Facts.{Accounts, BeginsWith, Tells, IsPart, AccountOk, partner_in}
+use Rattle.connection_laws.specs.Accounts.{Part, Unmade, Opener, Acceptor, Taken, Account, heeded, account_of, partner_of}
+use Rattle.connection_laws.specs.Facts.{Accounts, Tells, IsPart, IsIgnored, AccountOk, partner_in}
 use Rattle.connection_laws.specs.Channels.{HoldsInRuns}
 use Rattle.request_laws.specs.Requests.{IsAskedAt, AreAskedOnce, IsMadeAt, AreMadeOnce, MadeInRuns}
-use Rattle.request_laws.proofs.Lists.{got_below}
+use Rattle.request_laws.proofs.Lists.{le_or_lt}
+use Rattle.request_laws.proofs.Replies.{no_reply, replies_are_given}
 use Rattle.request_laws.proofs.AskedRuns.{asked_in_runs}
 
 -- ---- partners
@@ -32,32 +29,18 @@ partner_is a p h = ⊎_elim
     by true g = absurd (cc)
     by false g = sym (cc)
 
--- the first letter of a list asks for no call
-opening_first : (i : ℕ) (says : Opening → Message) (given : List Letter) → BeginsWith i says given
-    → ((o : Opening) (s serial : ℕ) (calling : Option (List ℕ)) → says o ≡ Icrq s serial calling → ⊥)
-    → (k s : ℕ) (l : Letter) (serial : ℕ) (calling : Option (List ℕ)) → slice_get given k ≡ Some l → l.message ≡ Icrq s serial calling → 0 < k
-opening_first i says given h other zero s l serial calling there asks =
-    let found : slice_get (h.first ∷ h.rest) 0 ≡ Some l = subst (λ ls. slice_get ls 0 ≡ Some l) h.are there in
-    let e : h.first ≡ l = cc in
-    absurd (other h.opening s serial calling (sym h.says_so ∙ ap (λ (x : Letter). x.message) e ∙ asks))
-opening_first i says given h other (suc k) s l serial calling there asks = omega arith
-
 -- ---- the tunnel that took a request
 
 module _ (ds : List Deed) (ok : (n i : ℕ) → AccountOk (account_of ds) n i (account_of ds n i)) where
   abbrev accs : Accounts
   accs = account_of ds
 
-  -- a letter that asks isn't the first one of a tunnel
-  asking_later : (n i k s : ℕ) → IsAskedAt ds n i k s → 0 < k
-  asking_later n i k s h = by (accs n i).part refl (ok n i).part
-    where
-      by : (p : Part) → (accs n i).part ≡ p → IsPart accs n i (accs n i) p → 0 < k
-      by Unmade e part = absurd (let found = rw part at h.there in let clash : ⊥ = cc in clash)
-      by Opener e part =
-          opening_first i Sccrq (accs n i).given part.begins (λ o q serial calling e. absurd (cc)) k s h.letter h.serial h.calling h.there h.asks
-      by Acceptor e part =
-          opening_first i Sccrp (accs n i).given part.begins (λ o q serial calling e. absurd (cc)) k s h.letter h.serial h.calling h.there h.asks
+  -- the tunnel wasn't closed when it took the request
+  pub heeds : (n i k : ℕ) (m : Replied) → IsMadeAt ds n i k m → k < heeded (accs n i)
+  heeds n i k m h = ⊎_elim
+      (λ le. absurd (subst IsIgnored h.replied ((ok n i).ignored k h.taken h.there le)))
+      (λ lt. lt)
+      (le_or_lt (heeded (accs n i)) k)
 
   -- what a call was made for is a request at its number in the partner's list; and the partner has learned the taker
   pub record IsTakenFor (n i k : ℕ) (m : Replied) : Type 0 where
@@ -65,40 +48,39 @@ module _ (ds : List Deed) (ok : (n i : ℕ) → AccountOk (account_of ds) n i (a
     pub node : (partner_in accs (accs n i)).peer ≡ n
     pub tunnel : (partner_in accs (accs n i)).remote ≡ i
 
-  -- a tunnel that took two letters or more was learned by its partner
-  learned : (n i : ℕ) → ((accs n i).remote ≡ 0 → ⊥) → 1 < length (accs n i).taken
+  -- a tunnel that made a call for a request was learned by its partner, since it has replied
+  learned : (n i k : ℕ) (m : Replied) → IsMadeAt ds n i k m → ((accs n i).remote ≡ 0 → ⊥)
       → ((partner_in accs (accs n i)).peer ≡ n) × ((partner_in accs (accs n i)).remote ≡ i)
-  learned n i some more = by (accs n i).part (ok n i).part
+  learned n i k m h some = by (accs n i).part (ok n i).part
     where
       by : (p : Part) → IsPart accs n i (accs n i) p → ((partner_in accs (accs n i)).peer ≡ n) × ((partner_in accs (accs n i)).remote ≡ i)
-      by Unmade part = absurd (let lt : 1 < 0 = subst (λ (x : Account). 1 < length x.taken) part more in omega (arith, lt))
+      by Unmade part = absurd (let found = rw part at h.there in let clash : ⊥ = cc in clash)
       by Opener part = (part.peer some, part.remote some)
       by Acceptor part = (
         part.peer,
-        ⊎_elim (λ same. same) (λ other. absurd (let one = part.one_taken other in omega (arith, one, more)))
+        ⊎_elim (λ same. same)
+            (λ other. absurd (no_reply i (accs n i) part.begins (part.one_given other) m.session (replies_are_given ds n i k h.taken m h.there h.replied)))
             (same_or_not (partner_in accs (accs n i)).remote i),
       )
 
   -- what a tunnel took was sent by the tunnel that it learned
-  pub sent_by_partner : (n i k : ℕ) (t : Taken) → slice_get (accs n i).taken k ≡ Some t
+  pub sent_by_partner : (n i k : ℕ) (t : Taken) → slice_get (accs n i).taken k ≡ Some t → k < heeded (accs n i)
       → t.sender ≡ Some (record { node = (accs n i).peer; tunnel = (accs n i).remote })
-  sent_by_partner n i k t there =
-      let h = (ok n i).taken k t there in
+  sent_by_partner n i k t there lt =
+      let h = (ok n i).taken k t there lt in
       h.sender ∙ ap (λ (p : Sender). Some p) (partner_is (accs n i) h.partner h.learned).1
 
   pub taken_request : (n i k : ℕ) (m : Replied) → IsMadeAt ds n i k m → IsTakenFor n i k m
   taken_request n i k m h =
       let a = accs n i in
-      let t = (ok n i).taken k h.taken h.there in
+      let t = (ok n i).taken k h.taken h.there (heeds n i k m h) in
       let p = partner_is a t.partner t.learned in
       let found : slice_get (accs a.peer a.remote).given k ≡ Some t.letter =
       subst (λ (q : Sender). slice_get (accs q.node q.tunnel).given k ≡ Some t.letter) p.1 t.there in
       let tells : Tells t.letter (move.Replied m) = subst (Tells t.letter) h.replied t.tells in
       let asked : IsAskedAt ds a.peer a.remote k m.remote =
       record { letter = t.letter; there = found; serial = tells.0; calling = tells.1; asks = tells.2 } in
-      let some = asking_later a.peer a.remote k m.remote asked in
-      let below = got_below a.taken k h.taken h.there in
-      let l = learned n i p.0 (omega (arith, some, below)) in
+      let l = learned n i k m h p.0 in
       record { asked = asked; node = l.0; tunnel = l.1 }
 
   -- two tunnels that took one request are one

@@ -18,6 +18,8 @@ use Rattle.protocol_model.specs.declared.moves.SecondUp.{SecondUp}
 use Rattle.protocol_model.specs.declared.moves.EndTold.{EndTold}
 use Rattle.protocol_model.specs.declared.moves.EndHeard.{EndHeard}
 use Rattle.protocol_model.specs.declared.moves.EndSilent.{EndSilent}
+use Rattle.protocol_model.specs.declared.moves.Closed.{Closed}
+use Rattle.protocol_model.specs.declared.moves.ClosedBy.{ClosedBy}
 use Rattle.protocol_model.specs.declared.moves.Move.{Move}
 use Rattle.protocol_model.specs.declared.moves.Move.TheVariants as move
 use Rattle.protocol_model.specs.declared.tunnel.Call.{Call}
@@ -202,6 +204,13 @@ module _ (x y : End) (o : Ordered x) where
   silent_calls : (moment : ℕ) (ev : Event) (m : EndSilent) → Does x moment ev (move.EndSilent m) y → CallsGo x y m.tunnel
   silent_calls moment ev m h = ended m.tunnel h.tunnel _ m.session h.there h.after refl
 
+  -- a tunnel closes, and has none any more
+  closed_calls : (moment : ℕ) (ev : Event) (m : Closed) → Does x moment ev (move.Closed m) y → CallsGo x y m.tunnel
+  closed_calls moment ev m h = rw h.after (puts_empty x _ m.tunnel _ (record { role = refl; tunnels = refl; rises = omega arith }) o refl)
+
+  closed_by_calls : (moment : ℕ) (ev : Event) (m : ClosedBy) → Does x moment ev (move.ClosedBy m) y → CallsGo x y m.tunnel
+  closed_by_calls moment ev m h = rw h.after (puts_empty x _ m.tunnel _ (record { role = refl; tunnels = refl; rises = omega arith }) o refl)
+
   cleared_calls : (moment : ℕ) (ev : Event) (i : ℕ) → Does x moment ev (move.Cleared i) y → CallsGo x y i
   cleared_calls moment ev i h =
       let gone = λ (j : ℕ) (t : Tunnel) (f : at (without x.tunnels i) j ≡ Some t). (found_without x.tunnels i j t o.tunnels f).1 in
@@ -230,6 +239,8 @@ module _ (x y : End) (o : Ordered x) where
   does_calls moment ev (move.EndTold m) h = told_calls moment ev m h
   does_calls moment ev (move.EndHeard m) h = heard_calls moment ev m h
   does_calls moment ev (move.EndSilent m) h = silent_calls moment ev m h
+  does_calls moment ev (move.Closed m) h = closed_calls moment ev m h
+  does_calls moment ev (move.ClosedBy m) h = closed_by_calls moment ev m h
   does_calls moment ev (move.Cleared i) h = cleared_calls moment ev i h
   does_calls moment ev (move.Greeted m) h = stays m.tunnel h.tunnel _ h.there h.after refl
   does_calls moment ev (move.TookPlain m) h = stays m.tunnel h.tunnel _ h.there h.after refl

@@ -4,7 +4,7 @@ use Rattle.l2tp_header.specs.declared.header.Header.{Header}
 use Rattle.l2tp_header.specs.declared.header.HeaderError.{HeaderError}
 use Rattle.l2tp_header.specs.Reading.{header_of}
 use Rattle.protocol_model.specs.declared.event.Event.{Event}
-use Rattle.protocol_model.specs.declared.event.Event.TheVariants.{Datagram, Ring, Payload, Lower, Hang, OpenTunnel, DropCall, Tick}
+use Rattle.protocol_model.specs.declared.event.Event.TheVariants.{Datagram, Ring, Payload, Lower, Hang, OpenTunnel, DropCall, CloseTunnel, Tick}
 use Rattle.step_laws.specs.Steps.{IsChain}
 use Rattle.protocol_model.specs.declared.tunnel.CallPlace.{CallPlace}
 use Rattle.protocol_model.specs.declared.tunnel.Look.{Look}
@@ -20,6 +20,7 @@ peer_of (Lower session frame) = 0
 peer_of (Hang session) = 0
 peer_of OpenTunnel = 0
 peer_of (DropCall session) = 0
+peer_of (CloseTunnel i) = 0
 peer_of Tick = 0
 
 bytes_of : Event → List ℕ
@@ -30,6 +31,7 @@ bytes_of (Lower session frame) = frame
 bytes_of (Hang session) = []
 bytes_of OpenTunnel = []
 bytes_of (DropCall session) = []
+bytes_of (CloseTunnel i) = []
 bytes_of Tick = []
 
 tunnel_in : Result Header HeaderError → ℕ

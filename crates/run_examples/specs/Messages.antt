@@ -37,7 +37,7 @@ lac_with c l n letters = record (new_end role.Lac (config_of 9 (address_of 4))) 
   tunnels = (
     1,
     record {
-      control = record { local = 1; peer = address_of 4; remote = 7; state = states.Established; channel = n; made = 0; heard = 0 };
+      control = record { local = 1; peer = address_of 4; remote = 7; state = states.Established; channel = n; made = 0; heard = 0; closed = 0 };
       letters = letters;
       calls = (3, c) ∷ [];
     },
@@ -157,7 +157,7 @@ opening_lac = record (new_end role.Lac (config_of 9 (address_of 4))) {
   tunnels = (
     1,
     record {
-      control = record { local = 1; peer = address_of 4; remote = 0; state = states.WaitCtlReply; channel = channel 0 1 1 0; made = 0; heard = 0 };
+      control = record { local = 1; peer = address_of 4; remote = 0; state = states.WaitCtlReply; channel = channel 0 1 1 0; made = 0; heard = 0; closed = 0 };
       letters = letter_of 0 (Sccrq (opening_of role.Lac (config_of 9 (address_of 4)) 1)) ∷ [];
       calls = (3, record { remote = 0; state = WaitTunnel; since = 0; port = 70; steps = [] }) ∷ [];
     },
@@ -182,7 +182,7 @@ lns = record (new_end role.Lns (config_of 4 0)) {
   tunnels = (
     7,
     record {
-      control = record { local = 7; peer = address_of 9; remote = 1; state = states.WaitCtlConn; channel = channel 0 1 1 1; made = 0; heard = 0 };
+      control = record { local = 7; peer = address_of 9; remote = 1; state = states.WaitCtlConn; channel = channel 0 1 1 1; made = 0; heard = 0; closed = 0 };
       letters = letter_of 0 (Sccrp (opening_of role.Lns (config_of 4 0) 7)) ∷ [];
       calls = [];
     },

@@ -26,7 +26,7 @@ lns taken = record (new_end role.Lns (config_of 4 0)) {
   tunnels = (
     7,
     record {
-      control = record { local = 7; peer = address_of 9; remote = 1; state = states.Established; channel = channel 50000 0 0 taken; made = 0; heard = 0 };
+      control = record { local = 7; peer = address_of 9; remote = 1; state = states.Established; channel = channel 50000 0 0 taken; made = 0; heard = 0; closed = 0 };
       letters = [];
       calls = [];
     },

@@ -34,7 +34,7 @@ calls = (3, up 8) ∷ (4, up 9) ∷ (5, up 10) ∷ (6, up 11) ∷ []
 
 -- the tunnel holds 8,187 letters, of which the first is outstanding; they are left out
 abbrev pub control : Control
-control = record { local = 1; peer = address_of 4; remote = 7; state = states.Established; channel = channel 3 8187 1 2; made = 0; heard = 0 }
+control = record { local = 1; peer = address_of 4; remote = 7; state = states.Established; channel = channel 3 8187 1 2; made = 0; heard = 0; closed = 0 }
 
 -- the LAC, node 9
 abbrev pub lac : End

@@ -72,7 +72,7 @@ lac = record (new_end role.Lac (config_of 9 (address_of 4))) {
   tunnels = (
     1,
     record {
-      control = record { local = 1; peer = address_of 4; remote = 7; state = states.Established; channel = channel 3 0 0 2; made = 0; heard = 0 };
+      control = record { local = 1; peer = address_of 4; remote = 7; state = states.Established; channel = channel 3 0 0 2; made = 0; heard = 0; closed = 0 };
       letters = [];
       calls = [];
     },

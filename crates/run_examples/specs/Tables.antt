@@ -13,7 +13,7 @@ use Rattle.run_examples.specs.Channels.{channel}
 -- the LAC, node 9, took two letters: one of two calls is up
 abbrev pub lac : ℕ → Tunnel
 lac queued = record {
-  control = record { local = 1; peer = address_of 4; remote = 7; state = states.Established; channel = channel 2 queued 1 2; made = 0; heard = 0 };
+  control = record { local = 1; peer = address_of 4; remote = 7; state = states.Established; channel = channel 2 queued 1 2; made = 0; heard = 0; closed = 0 };
   letters = [];
   calls =
       (1, record { remote = 5; state = Established; since = 0; port = 70; steps = [] })
@@ -24,7 +24,7 @@ lac queued = record {
 -- the LNS, node 4, took three letters
 abbrev pub lns : ℕ → Tunnel
 lns queued = record {
-  control = record { local = 7; peer = address_of 9; remote = 1; state = states.Established; channel = channel 1 queued 1 3; made = 0; heard = 0 };
+  control = record { local = 7; peer = address_of 9; remote = 1; state = states.Established; channel = channel 1 queued 1 3; made = 0; heard = 0; closed = 0 };
   letters = [];
   calls = (5, record { remote = 1; state = Established; since = 0; port = 0; steps = [] }) ∷ [];
 }

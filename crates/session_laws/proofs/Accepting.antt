@@ -1,5 +1,5 @@
 -- An opener's SCCRQ makes a tunnel at the peer's node, in the machine too.
-use Rattle.std.proofs.Common.{◌≡◌, ℕ, ◌+◌, ◌<◌, Bool, true, false, [], ◌∷◌, ◌++◌, refl, sym, ap, ap₂, ◌∙◌, subst, Option, Some, eq-eqb, ne_eqb}
+use Rattle.std.proofs.Common.{◌≡◌, ℕ, ◌+◌, ◌<◌, Bool, true, false, [], ◌∷◌, ◌++◌, refl, sym, ap, ap₂, ◌∙◌, subst, Option, Some, None, eq-eqb, ne_eqb}
 use Rattle.std.proofs.lemmas.Bool.{lt-ltb}
 use Rattle.id_table.specs.Ids.{at}
 use Rattle.control_message.specs.declared.message.Message.TheVariants.{Sccrp}
@@ -79,7 +79,7 @@ accepts_calls w s x = refl
 
 -- an acceptor that took the SCCRQ and gave its SCCRP
 abbrev as_acceptor : ℕ → ℕ → Taken → step_laws.Letter → Account
-as_acceptor peer remote tk first = record { part = Acceptor; peer = peer; remote = remote; given = first ∷ []; taken = tk ∷ [] }
+as_acceptor peer remote tk first = record { part = Acceptor; peer = peer; remote = remote; given = first ∷ []; taken = tk ∷ []; closed = None }
 
 -- what the opener is in the machine
 record IsOpenerOf (w : World) (n m j : ℕ) : Type 0 where

@@ -22,13 +22,14 @@ use Rattle.epoch_machine.specs.Tunnels.{Linked, Open}
 use Rattle.epoch_machine.specs.Calls as calls
 use Rattle.birth_laws.specs.Births as births
 use Rattle.coverage_laws.specs.Coverage as coverage
-use Rattle.connection_laws.specs.Accounts.{Part, Unmade, Opener, Acceptor}
+use Rattle.connection_laws.specs.Accounts.{Part, Unmade, Opener, Acceptor, heeded}
 use Rattle.connection_laws.specs.Facts as facts
 use Rattle.connection_laws.specs.Facts.{Accounts, IsMade, AccountOk, IsAcceptor, IsPart, LiveOk, IsInState, EndOk, NodeOk}
 use Rattle.session_laws.specs.Names.{name, name_of, letter_of, phase_of, state_of}
 use Rattle.session_laws.specs.Joined.{tunnel_in, TunnelJoined, CallJoined, CallsJoined, HasNoCall, NodeJoined, AreJoined, ends_of}
 use Rattle.session_laws.specs.Sessions.{HoldsSession}
 use Rattle.session_laws.proofs.Names.{same_name, known_name, name_not_zero}
+use Rattle.session_laws.proofs.States.{not_closed, at_work, heeds_all}
 
 pub and_left : (a b : Bool) → (a && b) ≡ true → a ≡ true
 and_left true b h = refl
@@ -78,6 +79,8 @@ module _ (w : World) (accs : Accounts) (most : ℕ) (few : most + 8192 < 2 ^ 64)
     pub id : i < 65536
     pub some : 0 < i
     pub learned : (accs n i).remote ≡ 0 → ⊥
+    -- it heeded all that it took
+    pub took : heeded (accs n i) ≡ length (accs n i).taken
     pub live : LiveOk accs n i (accs n i) t
     pub machine_is : TunnelJoined mw n i (accs n i) (Some t)
     pub phase : mw.tunnels.phase (name n i) ≡ Open
@@ -94,8 +97,9 @@ module _ (w : World) (accs : Accounts) (most : ℕ) (few : most + 8192 < 2 ^ 64)
       → (accs n i).remote ≡ 0 → ⊥
   learned_of n i t open_is Unmade p h = λ z. h
   learned_of n i t open_is Opener p h = ⊎_elim
-      (λ (k : (state_number t.control.state ≡ 1) × ((accs n i).remote ≡ 0)). λ z. (let one = k.0 in let no : ⊥ = omega arith in no))
-      (λ (k : (state_number t.control.state ≡ 3) × ((accs n i).remote ≡ 0 → ⊥)). k.1) h
+      (λ one. λ z. absurd (omega (arith, open_is, one.0)))
+      (λ more. ⊎_elim (λ three. three.1) (λ four. λ z. absurd (omega (arith, open_is, four.0))) more)
+      h
   learned_of n i t open_is Acceptor p h = p.known
 
   seen : (n i : ℕ) (t : Tunnel) (o : OpenAt n i t) → Seen n i t o.node.end
@@ -113,6 +117,7 @@ module _ (w : World) (accs : Accounts) (most : ℕ) (few : most + 8192 < 2 ^ 64)
         id = account.id made;
         some = account.some made;
         learned = learned_of n i t o.open_is a.part account.part live.state;
+        took = heeds_all a (at_work accs n i a t live (not_closed t.control.state 3 o.open_is (omega arith))).is_open;
         live = live;
         machine_is = k;
         phase = k.phase ∙ is_open t.control.state o.open_is;
@@ -171,7 +176,7 @@ module _ (w : World) (accs : Accounts) (most : ℕ) (few : most + 8192 < 2 ^ 64)
         let count = b.live.taken in
         let next = next_is n i t a.live in
         let took = p.taken in
-        rw (a.machine_is.entered, a.machine_is.sent, b.machine_is.taken) (omega arith)
+        rw (a.machine_is.entered, a.machine_is.sent, b.machine_is.taken, b.took) (omega arith)
 
     -- a call that is found at the other end
     found : (s : ℕ) (c : Call) → at t.calls s ≡ Some c → is_up c.state ≡ true → coverage.HeldByBoth mw (name m j) (name n s)

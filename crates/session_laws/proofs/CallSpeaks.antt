@@ -1,6 +1,5 @@
 -- A tunnel that stays in its state takes a letter, or none, and gives one, or none, while calls change.
 use Rattle.std.proofs.Common.{◌≡◌, ℕ, ◌+◌, List, [], ◌∷◌, ◌++◌, map, refl, sym, ap, ◌∙◌, append-nil, Option, Some, arith}
-use Rattle.std.proofs.lemmas.List.{length-append}
 use Rattle.id_table.specs.Ids.{at}
 use Rattle.protocol_model.specs.declared.event.Event.{Event}
 use Rattle.protocol_model.specs.declared.moves.Place.{Place}
@@ -18,12 +17,13 @@ use Rattle.epoch_machine.specs.Worlds.{World, all_rules, gives, took_one}
 use Rattle.epoch_machine.specs.Moves as moves
 use Rattle.epoch_machine.specs.Moves.{step}
 use Rattle.connection_laws.specs.Accounts.{Account, about, entered_by, takes_at, gives_also}
-use Rattle.connection_laws.specs.Facts.{Accounts}
+use Rattle.connection_laws.specs.Facts.{Accounts, IsOpen}
 use Rattle.connection_laws.specs.Steps.{IsDeed, after}
 use Rattle.session_laws.specs.Names.{name, letter_of, phase_of, other_name}
 use Rattle.session_laws.specs.Joined.{Ends, TunnelJoined}
 use Rattle.session_laws.proofs.Keeps.{IsMade}
 use Rattle.session_laws.proofs.Entering.{after_here, taken_as, takes_only, takes_and_gives, gives_only}
+use Rattle.session_laws.proofs.States.{heeds_one}
 use Rattle.session_laws.proofs.Ground.{one_step}
 use Rattle.session_laws.proofs.Letters.{given_sent, given_taken, given_tunnels, given_calls, took_taken, took_sent, took_tunnels, given_elsewhere, taken_elsewhere, AccountMoves, letters_joined}
 use Rattle.session_laws.proofs.Heard.{here_joined}
@@ -90,35 +90,35 @@ calls_take_and_give w x c l now asks =
 
 -- ---- in the account
 
--- what the account of a tunnel says after it took and gave letters
+-- what the account of a tunnel says after it took and gave letters; what a closed one takes isn't heeded
 pub record AccountSpeaks (a b : Account) (more : List step_laws.Letter) (took : ℕ) : Type 0 where
   pub moves : AccountMoves a b more took
   pub remote : b.remote ≡ a.remote
 
 pub says_nothing : (a b : Account) → b ≡ a → AccountSpeaks a b [] 0
 says_nothing a b is = rw is (record {
-  moves = record { part = refl; peer = refl; given = sym (append-nil a.given); taken = omega arith };
+  moves = record { part = refl; peer = refl; given = sym (append-nil a.given); heeds = omega arith };
   remote = refl;
 })
 
 pub says_one : (d : Deed) (n : ℕ) (role : Role) (sender : Option Sender) (m : Move) (a b : Account) → IsDeed d n role sender m → b ≡ gives_also d a
     → AccountSpeaks a b (letters_of role (config_of n 0) m) 0
 says_one d n role sender m a b deed is = rw (is, gives_only d n role sender m a deed) (record {
-  moves = record { part = refl; peer = refl; given = refl; taken = omega arith };
+  moves = record { part = refl; peer = refl; given = refl; heeds = omega arith };
   remote = refl;
 })
 
 pub hears_one : (d : Deed) (n : ℕ) (role : Role) (sender : Option Sender) (m : Move) (place : Place) (a b : Account) → IsDeed d n role sender m
-    → b ≡ takes_at d place a → AccountSpeaks a b [] 1
-hears_one d n role sender m place a b deed is = rw (is, takes_only d n role sender m place a deed) (record {
-  moves = record { part = refl; peer = refl; given = refl; taken = length-append a.taken (taken_as sender place m ∷ []) ∙ (omega arith) };
+    → IsOpen a → b ≡ takes_at d place a → AccountSpeaks a b [] 1
+hears_one d n role sender m place a b deed works is = rw (is, takes_only d n role sender m place a deed) (record {
+  moves = record { part = refl; peer = refl; given = refl; heeds = heeds_one (taken_as sender place m) [] a works };
   remote = refl;
 })
 
 pub hears_and_says : (d : Deed) (n : ℕ) (role : Role) (sender : Option Sender) (m : Move) (place : Place) (a b : Account) → IsDeed d n role sender m
-    → b ≡ gives_also d (takes_at d place a) → AccountSpeaks a b (letters_of role (config_of n 0) m) 1
-hears_and_says d n role sender m place a b deed is = rw (is, takes_and_gives d n role sender m place a deed) (record {
-  moves = record { part = refl; peer = refl; given = refl; taken = length-append a.taken (taken_as sender place m ∷ []) ∙ (omega arith) };
+    → IsOpen a → b ≡ gives_also d (takes_at d place a) → AccountSpeaks a b (letters_of role (config_of n 0) m) 1
+hears_and_says d n role sender m place a b deed works is = rw (is, takes_and_gives d n role sender m place a deed) (record {
+  moves = record { part = refl; peer = refl; given = refl; heeds = heeds_one (taken_as sender place m) (letters_of role (config_of n 0) m) a works };
   remote = refl;
 })
 

@@ -1,8 +1,8 @@
 -- An acceptor takes the SCCCN of its opener, and is connected; so it is in the machine.
 use Rattle.std.proofs.Common.{◌≡◌, ℕ, Bool, [], ◌∷◌, length, refl, sym, ap, ◌∙◌, append-nil, Option, Some, arith, eq-eqb, ne_eqb}
-use Rattle.std.proofs.lemmas.List.{length-append}
 use Rattle.control_message.specs.declared.message.Message.TheVariants.{Scccn}
 use Rattle.tunnel_fsm.specs.declared.table.TunnelState.TheVariants.{Established}
+use Rattle.tunnel_fsm.specs.Rows.{state_number}
 use Rattle.protocol_model.specs.declared.event.Event.{Event}
 use Rattle.protocol_model.specs.declared.moves.Confirmed.{Confirmed}
 use Rattle.protocol_model.specs.declared.moves.Move.TheVariants as move
@@ -21,6 +21,7 @@ use Rattle.session_laws.specs.Names.{name, phase_of}
 use Rattle.session_laws.specs.Joined.{Ends, TunnelJoined}
 use Rattle.session_laws.proofs.Keeps.{with_end, Laws, IsMade, Follows}
 use Rattle.session_laws.proofs.Entering.{after_here, with_taken, taken_as, takes_only}
+use Rattle.session_laws.proofs.States.{not_closed, heeds_one}
 use Rattle.session_laws.proofs.Ground.{TunnelStays, Old, one_step, tunnel_moves_follow}
 use Rattle.session_laws.proofs.Letters.{took_taken, took_sent, LettersMove, letters_joined}
 use Rattle.session_laws.proofs.Heard.{Delivered, delivered, here_fits, here_joined}
@@ -104,7 +105,8 @@ module _ (laws : Laws) (accs : Accounts) (ends : Ends) (w : World) (n : ℕ) (e 
   u = record t { control = counts_taken (in_state Established t.control) }
 
   del : Delivered accs w n i sender h.moved.does.hears.0 Scccn
-  del = delivered laws.heard accs ends w n e x sender moment ev (move.Confirmed m) d h i t h.moved.does.there h.moved.does.hears.0 Scccn h.moved.does.hears.1
+  del = delivered laws.heard accs ends w n e x sender moment ev (move.Confirmed m) d h i t h.moved.does.there
+      (not_closed t.control.state 2 (ap state_number h.moved.does.state) (omega arith)) h.moved.does.hears.0 Scccn tt h.moved.does.hears.1
 
   old : TunnelJoined w n i a (Some t)
   old = here_joined accs ends w n e x sender moment ev (move.Confirmed m) d h i t h.moved.does.there
@@ -120,7 +122,7 @@ module _ (laws : Laws) (accs : Accounts) (ends : Ends) (w : World) (n : ℕ) (e 
 
   tunnel : TunnelJoined v n i b (Some u)
   tunnel = letters_joined w v n i a b [] 1 (Some t) (Some u) old (confirms_here w X old.entered)
-      (record { part = refl; peer = refl; given = refl; taken = length-append a.taken (tk ∷ []) ∙ (omega arith) })
+      (record { part = refl; peer = refl; given = refl; heeds = heeds_one tk [] a del.is_open })
       (ap (λ (f : ℕ → ℕ). f X) (confirms_learned w X) ∙ old.learned)
       (confirms_phase w X)
 

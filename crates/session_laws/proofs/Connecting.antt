@@ -1,7 +1,6 @@
 -- An opener takes the SCCRP of the tunnel that it learns, and is connected; so it is in the machine.
 use Rattle.std.proofs.Common.{◌≡◌, ℕ, Bool, true, false, cond, [], ◌∷◌, ◌++◌, length, refl, sym, ap, ap₂, ◌∙◌, Option, Some, arith, eq-eqb, ne_eqb}
 use Rattle.std.specs.Prelude.{◌==◌}
-use Rattle.std.proofs.lemmas.List.{length-append}
 use Rattle.control_message.specs.declared.message.Message.TheVariants.{Sccrp, Scccn}
 use Rattle.control_channel.specs.Numbers.{learnt_by}
 use Rattle.tunnel_fsm.specs.declared.table.TunnelState.TheVariants.{Established}
@@ -27,6 +26,7 @@ use Rattle.session_laws.specs.Joined.{Ends, TunnelJoined}
 use Rattle.session_laws.proofs.Keeps.{with_end, Laws, IsMade, Follows}
 use Rattle.session_laws.proofs.Entering.{after_here, with_taken, taken_as, takes_and_gives}
 use Rattle.session_laws.proofs.Names.{known_name}
+use Rattle.session_laws.proofs.States.{not_closed, heeds_one}
 use Rattle.session_laws.proofs.Ground.{TunnelStays, Old, one_step, tunnel_moves_follow}
 use Rattle.session_laws.proofs.Letters.{stays_on, given_elsewhere, taken_elsewhere, given_sent, given_taken, took_taken, took_sent, LettersMove, letters_joined}
 use Rattle.session_laws.proofs.Heard.{Delivered, delivered, here_fits, here_joined, partner_now}
@@ -135,8 +135,9 @@ module _ (laws : Laws) (accs : Accounts) (ends : Ends) (w : World) (n : ℕ) (e 
   u = with_letter 0 Scccn (record t { control = counts_taken (learns_window m.window (record t.control { remote = m.remote; state = Established })) })
 
   del : Delivered accs w n i sender h.moved.does.hears.0 (Sccrp h.moved.does.opening)
-  del = delivered laws.heard accs ends w n e x sender moment ev (move.Connected m) d h i t h.moved.does.there h.moved.does.hears.0 (Sccrp h.moved.does.opening)
-      h.moved.does.hears.1
+  del = delivered laws.heard accs ends w n e x sender moment ev (move.Connected m) d h i t h.moved.does.there
+      (not_closed t.control.state 1 (ap state_number h.moved.does.state) (omega arith)) h.moved.does.hears.0
+      (Sccrp h.moved.does.opening) tt h.moved.does.hears.1
 
   old : TunnelJoined w n i a (Some t)
   old = here_joined accs ends w n e x sender moment ev (move.Connected m) d h i t h.moved.does.there
@@ -151,7 +152,8 @@ module _ (laws : Laws) (accs : Accounts) (ends : Ends) (w : World) (n : ℕ) (e 
   v = gives (with_learned w X S) X letter.Scccn
 
   partner : (a.peer ≡ del.from.node) × (m.remote ≡ del.from.tunnel)
-  partner = partner_now accs ends w n e x sender moment ev (move.Connected m) d h i (record a { remote = m.remote }) tk (last ∷ []) del.from is del.sender_is
+  partner = partner_now accs ends w n e x sender moment ev (move.Connected m) d h i (record a { remote = m.remote }) tk (last ∷ []) del.from is
+      del.is_open del.sender_is
 
   learned : v.tunnels.learned X ≡ other_name b
   learned = connects_learned w X S ∙ sym (known_name del.from.node del.from.tunnel del.some) ∙ sym (ap₂ name_of partner.0 partner.1)
@@ -161,7 +163,7 @@ module _ (laws : Laws) (accs : Accounts) (ends : Ends) (w : World) (n : ℕ) (e 
 
   tunnel : TunnelJoined v n i b (Some u)
   tunnel = letters_joined w v n i a b (last ∷ []) 1 (Some t) (Some u) old (connects_here w X S old.entered)
-      (record { part = refl; peer = refl; given = refl; taken = length-append a.taken (tk ∷ []) ∙ (omega arith) })
+      (record { part = refl; peer = refl; given = refl; heeds = heeds_one tk (last ∷ []) (record a { remote = m.remote }) del.is_open })
       learned
       (connects_phase w X S ∙ ap phase_of (sym state))
 

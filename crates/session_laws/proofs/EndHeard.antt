@@ -22,6 +22,7 @@ use Rattle.session_laws.specs.Joined.{Ends, CallJoined, CallsJoined, TunnelJoine
 use Rattle.session_laws.proofs.Births.{BirthsSame, else_follow}
 use Rattle.session_laws.proofs.Keeps.{with_end, Laws, IsMade, Follows}
 use Rattle.session_laws.proofs.Names.{same_name, name_not_zero, known_name}
+use Rattle.session_laws.proofs.States.{not_closed}
 use Rattle.session_laws.proofs.Ground.{joined_before}
 use Rattle.session_laws.proofs.Heard.{Delivered, delivered, here_fits, here_joined, open_phase}
 use Rattle.session_laws.proofs.CallGround.{CallSame, OneCall, one_call_follows}
@@ -96,8 +97,9 @@ module _ (laws : Laws) (accs : Accounts) (ends : Ends) (w : World) (n : ℕ) (e 
   u = record t { control = counts_taken t.control; calls = without t.calls s }
 
   del : Delivered accs w n i sender session (message.Cdn remote h.moved.does.code h.moved.does.error)
-  del = delivered laws.heard accs ends w n e x sender moment ev (move.EndHeard m) d h i t h.moved.does.there session
-      (message.Cdn remote h.moved.does.code h.moved.does.error) h.moved.does.hears.1
+  del = delivered laws.heard accs ends w n e x sender moment ev (move.EndHeard m) d h i t h.moved.does.there
+      (not_closed t.control.state 3 h.moved.does.open_is (omega arith)) session
+      (message.Cdn remote h.moved.does.code h.moved.does.error) tt h.moved.does.hears.1
 
   named_is : s ≡ session_named t.calls session remote
   named_is = h.moved.does.hears.2
@@ -222,7 +224,7 @@ module _ (laws : Laws) (accs : Accounts) (ends : Ends) (w : World) (n : ℕ) (e 
         calls = others;
         here = rw (at_without_same t.calls s order) (end_here w X own header Z (tells_named w.calls X own header Z before.tunnel named));
       } in
-      let speaks = hears_one d n e.role sender (move.EndHeard m) m.taken (accs n i) (after accs d n i) h.moved.deed is in
+      let speaks = hears_one d n e.role sender (move.EndHeard m) m.taken (accs n i) (after accs d n i) h.moved.deed del.is_open is in
       one_call_follows accs ends w n e x sender moment ev (move.EndHeard m) d h v t u s
       (else_follow w v n e x (move.EndHeard m) tt (end_births w X own header) (ap (λ (y : End). y.role) h.moved.does.after) next)
       (subst (λ p. OneCall w v n i p e x t u s) (sym speaks.moves.peer) one)

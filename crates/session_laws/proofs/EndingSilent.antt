@@ -107,11 +107,12 @@ module _ (laws : Laws) (accs : Accounts) (ends : Ends) (w : World) (n : ℕ) (e 
   -- no call of a LAC's hears of a connection: only who took its reply connects a call, and a LAC gives none
   no_connection : e.role ≡ Lac → (speed framing : ℕ) (sequenced : Bool) → InTunnel ev t.control s (message.Iccn speed framing sequenced) → ⊥
   no_connection lac speed framing sequenced hears =
-      let k = laws.letters accs n e sender ev h.moved.within i t h.moved.does.there s (message.Iccn speed framing sequenced) tt hears in
+      let k = laws.letters accs n e sender ev h.moved.within i t h.moved.does.there s (message.Iccn speed framing sequenced) tt tt hears in
       let b = accs k.from.node k.from.tunnel in
       let giver : Giver b (message.Iccn speed framing sequenced) =
       subst (Giver b) k.message_is (giver_of (ends k.from.node) b k.number k.letter (h.joined.fit k.from.node k.from.tunnel) k.there) in
-      let gave = reply_given accs b (h.moved.within.accounts k.from.node k.from.tunnel).taken giver.says.1 in
+      let ok = h.moved.within.accounts k.from.node k.from.tunnel in
+      let gave = reply_given accs b ok.taken ok.ignored giver.says.1 in
       let fits = fits_before accs ends w n e x sender moment ev (move.EndSilent m) d h i in
       lac_not_lns e.role lac (replies_role e.role (accs n i) fits (subst GaveReply (ap₂ accs k.goes k.learned) gave))
 

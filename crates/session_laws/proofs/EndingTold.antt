@@ -73,8 +73,14 @@ none_there cs s c none there = none-some c (sym (at-none s) ∙ sym (ap (λ ks. 
 open_or_first : (accs : Accounts) (i : ℕ) (a : Account) (t : Tunnel) (s : ℕ) (c : Call) → at t.calls s ≡ Some c
     → (state_number t.control.state ≡ 1 → ⊥) → (p : Part) → IsInState accs i a t p → state_number t.control.state ≡ 3
 open_or_first accs i a t s c there other Unmade h = absurd h
-open_or_first accs i a t s c there other Opener h = ⊎_elim (λ one. absurd (other one.0)) (λ three. three.0) h
-open_or_first accs i a t s c there other Acceptor h = ⊎_elim (λ two. absurd (none_there t.calls s c two.1 there)) (λ three. three.0) h
+open_or_first accs i a t s c there other Opener h = ⊎_elim
+    (λ one. absurd (other one.0))
+    (λ more. ⊎_elim (λ three. three.0) (λ four. absurd (none_there t.calls s c four.2 there)) more)
+    h
+open_or_first accs i a t s c there other Acceptor h = ⊎_elim
+    (λ two. absurd (none_there t.calls s c two.1 there))
+    (λ more. ⊎_elim (λ three. three.0) (λ four. absurd (none_there t.calls s c four.2 there)) more)
+    h
 
 -- ---- in the end
 

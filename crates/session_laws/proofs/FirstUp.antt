@@ -26,6 +26,7 @@ use Rattle.session_laws.specs.Joined.{Ends, CallJoined, CallsJoined, TunnelJoine
 use Rattle.session_laws.proofs.Births.{IsAnswered, BirthsFollow}
 use Rattle.session_laws.proofs.Keeps.{with_end, Laws, IsMade, Follows}
 use Rattle.session_laws.proofs.Names.{other_name, known_name}
+use Rattle.session_laws.proofs.States.{not_closed}
 use Rattle.session_laws.proofs.Ground.{joined_before}
 use Rattle.session_laws.proofs.Heard.{Delivered, delivered, here_joined, open_phase}
 use Rattle.session_laws.proofs.CallRows.{GoesOn, advanced_state, advanced_remote, fits_as, first_row, first_role}
@@ -96,7 +97,8 @@ module _ (laws : Laws) (accs : Accounts) (ends : Ends) (w : World) (n : ℕ) (e 
   u = with_letter m.remote connection (record t { control = counts_taken t.control; calls = put t.calls s call })
 
   del : Delivered accs w n i sender s (Icrp m.remote)
-  del = delivered laws.heard accs ends w n e x sender moment ev (move.FirstUp m) d h i t h.moved.does.there s (Icrp m.remote) h.moved.does.hears
+  del = delivered laws.heard accs ends w n e x sender moment ev (move.FirstUp m) d h i t h.moved.does.there
+      (not_closed t.control.state 3 h.moved.does.open_is (omega arith)) s (Icrp m.remote) tt h.moved.does.hears
 
   old : TunnelJoined w n i (accs n i) (Some t)
   old = here_joined accs ends w n e x sender moment ev (move.FirstUp m) d h i t h.moved.does.there
@@ -177,7 +179,7 @@ module _ (laws : Laws) (accs : Accounts) (ends : Ends) (w : World) (n : ℕ) (e 
           λ one. (let three = h.moved.does.open_is in absurd (omega (arith, one, three))),
         );
       } in
-      let speaks = hears_and_says d n e.role sender (move.FirstUp m) m.taken (accs n i) (after accs d n i) h.moved.deed is in
+      let speaks = hears_and_says d n e.role sender (move.FirstUp m) m.taken (accs n i) (after accs d n i) h.moved.deed del.is_open is in
       one_call_follows accs ends w n e x sender moment ev (move.FirstUp m) d h v t u s births
       (subst (λ p. OneCall w v n i p e x t u s) (sym speaks.moves.peer) one)
       (speaks_goes accs ends w n e x sender moment ev (move.FirstUp m) d h v t u h.moved.does.there

@@ -78,7 +78,7 @@ module _ (laws : Laws) (accs : Accounts) (ends : Ends) (w : World) (n : ℕ) (e 
 
   tunnel : TunnelJoined v n i b (Some u)
   tunnel = letters_joined w v n i a b (hello ∷ []) 0 (Some t) (Some u) old (gives_here w X letter.Hello old.entered)
-      (record { part = refl; peer = refl; given = refl; taken = (omega arith) })
+      (record { part = refl; peer = refl; given = refl; heeds = (omega arith) })
       (ap (λ (ts : Tunnels). ts.learned X) (given_tunnels w X letter.Hello) ∙ old.learned)
       (ap (λ (ts : Tunnels). ts.phase X) (given_tunnels w X letter.Hello) ∙ old.phase)
 

@@ -419,7 +419,8 @@ state_still w n i a t u state h = record {
   asks = h.asks;
 }
 
-tunnel_same : (w : machine.World) (y : ℕ) → TunnelStays w w y
+-- nothing changes
+pub tunnel_same : (w : machine.World) (y : ℕ) → TunnelStays w w y
 tunnel_same w y = record {
   drawn = refl;
   opener = refl;

@@ -14,7 +14,7 @@ use Rattle.protocol_model.specs.declared.moves.Move.{Move}
 use Rattle.protocol_model.specs.declared.moves.Move.TheVariants as move
 use Rattle.protocol_model.specs.declared.tunnel.Role.{Role}
 use Rattle.protocol_model.specs.declared.tunnel.Role.TheVariants.{Lns}
-use Rattle.protocol_model.specs.Turn.{Tunnel}
+use Rattle.protocol_model.specs.Turn.{Tunnel, is_closed}
 use Rattle.protocol_model.specs.End.{End}
 use Rattle.protocol_model.specs.World.{Sender, Deed}
 use Rattle.step_laws.specs.Letters as step_laws
@@ -24,9 +24,9 @@ use Rattle.epoch_machine.specs.Tunnels.{Open, is_active, is_live}
 use Rattle.epoch_machine.specs.Worlds.{World, Rules, all_rules, takes, took_one}
 use Rattle.epoch_machine.specs.Moves.{Delivers, may_take, delivers, step}
 use Rattle.frame_laws.proofs.Facts.{all_at}
-use Rattle.connection_laws.specs.Accounts.{Part, Unmade, Opener, Acceptor, Taken, Account, no_account, partner_of}
+use Rattle.connection_laws.specs.Accounts.{Taken, Account, no_account, heeded, partner_of}
 use Rattle.connection_laws.specs.Facts as facts
-use Rattle.connection_laws.specs.Facts.{Accounts, IsSpelled, IsPart, AccountOk, Tells, IsTaken, AreTaken, IsInState, LiveOk, Within, partner_in}
+use Rattle.connection_laws.specs.Facts.{Accounts, IsNoStop, IsSpelled, IsPart, AccountOk, Tells, IsTaken, AreTaken, IsOpen, IsIgnored, AreIgnored, LiveOk, Within, partner_in}
 use Rattle.connection_laws.specs.Steps.{after, NextLetter, NextIsHeard}
 use Rattle.session_laws.specs.Names.{name, name_of, spoken, letter_of, phase_of}
 use Rattle.session_laws.specs.Roles.{TookReply, Says, FitsEnd}
@@ -35,28 +35,10 @@ use Rattle.session_laws.proofs.Keeps.{IsMade}
 use Rattle.session_laws.proofs.Roles.{Giver, giver_of}
 use Rattle.session_laws.proofs.Entering.{with_taken, got_last}
 use Rattle.session_laws.proofs.Names.{name_some, known_name}
+use Rattle.session_laws.proofs.States.{IsAtWork, at_work, below_or_not, heeds_all, heeds_one}
 use Rattle.session_laws.proofs.Ground.{live_made, tunnel_before}
 
 -- ---- states
-
-between : (s k : ℕ) → s ≡ k → 1 ≤ k → k ≤ 3 → (1 ≤ s) × (s ≤ 3)
-between s k is some few = (omega arith, omega arith)
-
--- a live tunnel is to open, or open
-pub live_state : (accs : Accounts) (n i : ℕ) (a : Account) (t : Tunnel) → LiveOk accs n i a t
-    → (1 ≤ state_number t.control.state) × (state_number t.control.state ≤ 3)
-live_state accs n i a t live = by a.part live.state
-  where
-    by : (p : Part) → IsInState accs i a t p → (1 ≤ state_number t.control.state) × (state_number t.control.state ≤ 3)
-    by Unmade h = absurd h
-    by Opener h = ⊎_elim
-        (λ one. between (state_number t.control.state) 1 one.0 (omega arith) (omega arith))
-        (λ three. between (state_number t.control.state) 3 three.0 (omega arith) (omega arith))
-        h
-    by Acceptor h = ⊎_elim
-        (λ two. between (state_number t.control.state) 2 two.0 (omega arith) (omega arith))
-        (λ three. between (state_number t.control.state) 3 three.0 (omega arith) (omega arith))
-        h
 
 pub active_phase : (s : TunnelState) → 1 ≤ state_number s → state_number s ≤ 3 → is_active (phase_of s) ≡ true
 active_phase tunnel.Idle some few = absurd (omega arith)
@@ -81,25 +63,25 @@ open_phase tunnel.Closed is = absurd (omega (arith, is))
 
 -- ---- a delivery
 
--- of what an end says; no end says that a tunnel closes
-pub delivers_spoken : (r : Rules) (w : World) (x s e k z : ℕ) (n m header : ℕ) (role : Role) (b : Account) (said : Message) → Says role b said
+-- of what an end says, but that a tunnel closes
+pub delivers_spoken : (r : Rules) (w : World) (x s e k z : ℕ) (n m header : ℕ) (said : Message) → IsNoStop said
     → may_take r w x s e k (spoken n m header said) ≡ true
     → delivers r w x s e k z (Some (spoken n m header said)) ≡ takes r (took_one w x) x s (spoken n m header said) z
 unfolding delivers
-delivers_spoken r w x s e k z n m header role b (Sccrq o) says may = rw may refl
-delivers_spoken r w x s e k z n m header role b (Sccrp o) says may = rw may refl
-delivers_spoken r w x s e k z n m header role b Scccn says may = rw may refl
-delivers_spoken r w x s e k z n m header role b (StopCcn tunnel result error) says may = absurd says
-delivers_spoken r w x s e k z n m header role b Hello says may = rw may refl
-delivers_spoken r w x s e k z n m header role b (Ocrq session) says may = rw may refl
-delivers_spoken r w x s e k z n m header role b Ocrp says may = rw may refl
-delivers_spoken r w x s e k z n m header role b Occn says may = rw may refl
-delivers_spoken r w x s e k z n m header role b Wen says may = rw may refl
-delivers_spoken r w x s e k z n m header role b Sli says may = rw may refl
-delivers_spoken r w x s e k z n m header role b (Icrq session serial calling) says may = rw may refl
-delivers_spoken r w x s e k z n m header role b (Icrp session) says may = rw may refl
-delivers_spoken r w x s e k z n m header role b (Iccn speed framing sequenced) says may = rw may refl
-delivers_spoken r w x s e k z n m header role b (Cdn session result error) says may = rw may refl
+delivers_spoken r w x s e k z n m header (Sccrq o) no_stop may = rw may refl
+delivers_spoken r w x s e k z n m header (Sccrp o) no_stop may = rw may refl
+delivers_spoken r w x s e k z n m header Scccn no_stop may = rw may refl
+delivers_spoken r w x s e k z n m header (StopCcn tunnel result error) no_stop may = absurd no_stop
+delivers_spoken r w x s e k z n m header Hello no_stop may = rw may refl
+delivers_spoken r w x s e k z n m header (Ocrq session) no_stop may = rw may refl
+delivers_spoken r w x s e k z n m header Ocrp no_stop may = rw may refl
+delivers_spoken r w x s e k z n m header Occn no_stop may = rw may refl
+delivers_spoken r w x s e k z n m header Wen no_stop may = rw may refl
+delivers_spoken r w x s e k z n m header Sli no_stop may = rw may refl
+delivers_spoken r w x s e k z n m header (Icrq session serial calling) no_stop may = rw may refl
+delivers_spoken r w x s e k z n m header (Icrp session) no_stop may = rw may refl
+delivers_spoken r w x s e k z n m header (Iccn speed framing sequenced) no_stop may = rw may refl
+delivers_spoken r w x s e k z n m header (Cdn session result error) no_stop may = rw may refl
 
 -- an active tunnel takes the next letter of one that has learned it
 pub may_take_next : (w : World) (x s k : ℕ) (l : Letter) → is_active (w.tunnels.phase x) ≡ true → 0 < s → w.tunnels.learned s ≡ x
@@ -122,6 +104,8 @@ pub record Delivered (accs : Accounts) (w : World) (n i : ℕ) (sender : Option 
   pub from : Sender
   pub sender_is : sender ≡ Some from
   pub node : (accs n i).peer ≡ from.node
+  -- the tunnel that takes it isn't closed
+  pub is_open : IsOpen (accs n i)
   pub fits : from.node < 256
   pub some : 0 < from.tunnel
   pub id : from.tunnel < 65536
@@ -159,77 +143,88 @@ module _ (accs : Accounts) (ends : Ends) (w : World) (n : ℕ) (e x : End) (send
   pub here_joined : TunnelJoined w n i a (Some t)
   here_joined = subst (λ o. TunnelJoined w n i a o) there (tunnel_before accs ends w n e x sender moment ev mv d h i here_fits)
 
-  here_active : is_active (w.tunnels.phase (name n i)) ≡ true
-  here_active = let s = live_state accs n i a t live in rw here_joined.phase (active_phase t.control.state s.0 s.1)
+  module _ (not_shut : is_closed t.control.state ≡ false) where
+    here_works : IsAtWork a t
+    here_works = at_work accs n i a t live not_shut
 
-  module _ (session : ℕ) (m : Message) (k : NextLetter accs n i sender session m) where
-    abbrev b : Account
-    b = accs k.from.node k.from.tunnel
+    pub here_active : is_active (w.tunnels.phase (name n i)) ≡ true
+    here_active = rw here_joined.phase (active_phase t.control.state here_works.some here_works.few)
 
-    from_ok : AccountOk accs k.from.node k.from.tunnel b
-    from_ok = h.moved.within.accounts k.from.node k.from.tunnel
+    -- it heeded all that it took
+    pub here_took : w.channels.taken (name n i) 0 ≡ length a.taken
+    here_took = here_joined.taken ∙ heeds_all a here_works.is_open
 
-    from_made : facts.IsMade b
-    from_made = giver_made accs k.from.node k.from.tunnel (length a.taken) k.letter from_ok k.there
+    module _ (session : ℕ) (m : Message) (no_stop : IsNoStop m) (k : NextLetter accs n i sender session m) where
+      abbrev b : Account
+      b = accs k.from.node k.from.tunnel
 
-    abbrev s : ℕ
-    s = name k.from.node k.from.tunnel
+      from_ok : AccountOk accs k.from.node k.from.tunnel b
+      from_ok = h.moved.within.accounts k.from.node k.from.tunnel
 
-    abbrev o : Option Tunnel
-    o = tunnel_in (ends k.from.node) k.from.tunnel
+      from_made : facts.IsMade b
+      from_made = giver_made accs k.from.node k.from.tunnel (length a.taken) k.letter from_ok k.there
 
-    from_joined : TunnelJoined w k.from.node k.from.tunnel b o
-    from_joined = h.joined.tunnels k.from.node k.from.tunnel (from_ok.node from_made) (from_ok.id from_made)
+      abbrev s : ℕ
+      s = name k.from.node k.from.tunnel
 
-    -- it has learned this tunnel
-    learned : w.tunnels.learned s ≡ name n i
-    learned = from_joined.learned ∙ ap₂ name_of k.goes k.learned ∙ known_name n i here_some
+      abbrev o : Option Tunnel
+      o = tunnel_in (ends k.from.node) k.from.tunnel
 
-    stands : slice_get (w.channels.sent s 0) (length a.taken) ≡ Some (spoken k.from.node n session m)
-    stands = rw (from_joined.sent, slice_get-map (letter_of k.from.node b.peer) b.given (length a.taken), k.there, k.goes, k.session_is, k.message_is) refl
+      from_joined : TunnelJoined w k.from.node k.from.tunnel b o
+      from_joined = h.joined.tunnels k.from.node k.from.tunnel (from_ok.node from_made) (from_ok.id from_made)
 
-    spelled : IsSpelled k.letter
-    spelled = all_at IsSpelled b.given (length a.taken) k.letter k.there from_ok.spelled
+      -- it has learned this tunnel
+      learned : w.tunnels.learned s ≡ name n i
+      learned = from_joined.learned ∙ ap₂ name_of k.goes k.learned ∙ known_name n i here_some
 
-    giver : Giver b m
-    giver = subst (Giver b) k.message_is (giver_of (ends k.from.node) b (length a.taken) k.letter (h.joined.fit k.from.node k.from.tunnel) k.there)
+      stands : slice_get (w.channels.sent s 0) (length a.taken) ≡ Some (spoken k.from.node n session m)
+      stands =
+          rw (from_joined.sent, slice_get-map (letter_of k.from.node b.peer) b.given (length a.taken), k.there, k.goes, k.session_is, k.message_is)
+          refl
 
-    may : (l : Letter) → may_take all_rules w (name n i) s 0 (length a.taken) l ≡ true
-    may l = may_take_next w (name n i) s (length a.taken) l here_active (name_some k.from.node k.from.tunnel (from_ok.some from_made)) learned
-        here_joined.entered here_joined.taken
+      spelled : IsSpelled k.letter
+      spelled = all_at IsSpelled b.given (length a.taken) k.letter k.there from_ok.spelled
 
-    step_is : (z : ℕ) → step all_rules w (Delivers (name n i) s 0 (length a.taken) z)
-        ≡ takes all_rules (took_one w (name n i)) (name n i) s (spoken k.from.node n session m) z
-    unfolding step
-    step_is z =
-        ap (λ g. delivers all_rules w (name n i) s 0 (length a.taken) z g) stands
-        ∙ delivers_spoken all_rules w (name n i) s 0 (length a.taken) z k.from.node n session giver.role b m giver.says (may (spoken k.from.node n session m))
+      giver : Giver b m
+      giver = subst (Giver b) k.message_is (giver_of (ends k.from.node) b (length a.taken) k.letter (h.joined.fit k.from.node k.from.tunnel) k.there)
 
-    pub next_delivered : Delivered accs w n i sender session m
-    next_delivered = record {
-      from = k.from;
-      sender_is = k.sender_is;
-      node = k.peer;
-      fits = from_ok.node from_made;
-      some = from_ok.some from_made;
-      id = from_ok.id from_made;
-      joined = (o, from_joined);
-      goes = k.goes;
-      learned = k.learned;
-      stands = stands;
-      written = subst (λ q. IsWritten q) k.message_is spelled.written;
-      header = subst (λ q. q < 65536) k.session_is spelled.session;
-      giver = giver;
-      is = step_is;
-    }
+      may : (l : Letter) → may_take all_rules w (name n i) s 0 (length a.taken) l ≡ true
+      may l = may_take_next w (name n i) s (length a.taken) l here_active (name_some k.from.node k.from.tunnel (from_ok.some from_made)) learned
+          here_joined.entered here_took
+
+      step_is : (z : ℕ) → step all_rules w (Delivers (name n i) s 0 (length a.taken) z)
+          ≡ takes all_rules (took_one w (name n i)) (name n i) s (spoken k.from.node n session m) z
+      unfolding step
+      step_is z =
+          ap (λ g. delivers all_rules w (name n i) s 0 (length a.taken) z g) stands
+          ∙ delivers_spoken all_rules w (name n i) s 0 (length a.taken) z k.from.node n session m no_stop (may (spoken k.from.node n session m))
+
+      pub next_delivered : Delivered accs w n i sender session m
+      next_delivered = record {
+        from = k.from;
+        sender_is = k.sender_is;
+        node = k.peer;
+        is_open = here_works.is_open;
+        fits = from_ok.node from_made;
+        some = from_ok.some from_made;
+        id = from_ok.id from_made;
+        joined = (o, from_joined);
+        goes = k.goes;
+        learned = k.learned;
+        stands = stands;
+        written = subst (λ q. IsWritten q) k.message_is spelled.written;
+        header = subst (λ q. q < 65536) k.session_is spelled.session;
+        giver = giver;
+        is = step_is;
+      }
 
 -- a letter that a tunnel hears is delivered
 pub delivered : NextIsHeard → (accs : Accounts) (ends : Ends) (w : World) (n : ℕ) (e x : End) (sender : Option Sender) (moment : ℕ) (ev : Event) (mv : Move)
-    (d : Deed) → IsMade accs ends w n e x sender moment ev mv d → (i : ℕ) (t : Tunnel) → at e.tunnels i ≡ Some t → (session : ℕ) (m : Message)
-    → HearsNext ev t.control session m → Delivered accs w n i sender session m
-delivered heard accs ends w n e x sender moment ev mv d h i t there session m k =
-    next_delivered accs ends w n e x sender moment ev mv d h i t there session m
-    (heard accs n e sender ev h.moved.within i t there session m k)
+    (d : Deed) → IsMade accs ends w n e x sender moment ev mv d → (i : ℕ) (t : Tunnel) → at e.tunnels i ≡ Some t → is_closed t.control.state ≡ false
+    → (session : ℕ) (m : Message) → IsNoStop m → HearsNext ev t.control session m → Delivered accs w n i sender session m
+delivered heard accs ends w n e x sender moment ev mv d h i t there works session m no_stop k =
+    next_delivered accs ends w n e x sender moment ev mv d h i t there works session m no_stop
+    (heard accs n e sender ev h.moved.within i t there works session m no_stop k)
 
 -- ---- the partner
 
@@ -259,10 +254,18 @@ pub record GaveReply (b : Account) : Type 0 where
   pub session : ℕ
   pub is : letter.message ≡ Icrp session
 
+-- a closed tunnel takes no reply by which a call comes up
+heeded_reply : (b : Account) → AreIgnored b → (reply : TookReply b) → reply.number < heeded b
+heeded_reply b ignored reply = ⊎_elim
+    (λ (below : reply.number < heeded b). below)
+    (λ (above : heeded b ≤ reply.number).
+    let no : IsIgnored (move.FirstUp reply.up) = subst IsIgnored reply.up_is (ignored reply.number reply.taken reply.there above) in absurd no)
+    (below_or_not reply.number (heeded b))
+
 -- so did the partner of one that took one
-pub reply_given : (accs : Accounts) (b : Account) → AreTaken accs b → TookReply b → GaveReply (partner_in accs b)
-reply_given accs b all reply =
-    let took = all reply.number reply.taken reply.there in
+pub reply_given : (accs : Accounts) (b : Account) → AreTaken accs b → AreIgnored b → TookReply b → GaveReply (partner_in accs b)
+reply_given accs b all ignored reply =
+    let took = all reply.number reply.taken reply.there (heeded_reply b ignored reply) in
     let partner = partner_by b took.partner took.learned in
     let tells : Tells took.letter (move.FirstUp reply.up) = subst (Tells took.letter) reply.up_is took.tells in
     subst GaveReply (ap₂ accs (sym partner.0) (sym partner.1))
@@ -277,7 +280,10 @@ replies_role r b fits gave =
 
 pub partner_now : (accs : Accounts) (ends : Ends) (w : World) (n : ℕ) (e x : End) (sender : Option Sender) (moment : ℕ) (ev : Event) (mv : Move) (d : Deed)
     → IsMade accs ends w n e x sender moment ev mv d → (i : ℕ) (a : Account) (tk : Taken) (more : List step_laws.Letter) (from : Sender)
-    → after accs d n i ≡ with_taken tk more a → tk.sender ≡ Some from → (a.peer ≡ from.node) × (a.remote ≡ from.tunnel)
-partner_now accs ends w n e x sender moment ev mv d h i a tk more from is sent =
+    → after accs d n i ≡ with_taken tk more a → IsOpen a → tk.sender ≡ Some from → (a.peer ≡ from.node) × (a.remote ≡ from.tunnel)
+partner_now accs ends w n e x sender moment ev mv d h i a tk more from is works sent =
     let ok : AccountOk (after accs d) n i (with_taken tk more a) = subst (λ b. AccountOk (after accs d) n i b) is (h.leads.accounts n i) in
-    sender_partner (after accs d) (with_taken tk more a) (length a.taken) tk from (ok.taken (length a.taken) tk (got_last a.taken tk)) sent
+    let one = heeds_one tk more a works in
+    let all = heeds_all a works in
+    let lt : length a.taken < heeded (with_taken tk more a) = omega arith in
+    sender_partner (after accs d) (with_taken tk more a) (length a.taken) tk from (ok.taken (length a.taken) tk (got_last a.taken tk) lt) sent

@@ -9,7 +9,7 @@ use Rattle.epoch_machine.specs.Worlds as machine
 use Rattle.birth_laws.specs.Births as births
 use Rattle.coverage_laws.specs.Coverage as coverage
 use Rattle.connection_laws.specs.Facts.{Accounts, Within}
-use Rattle.connection_laws.specs.Steps.{after, IsMoved, NextIsHeard, PlainIsHeard, LettersAreHeard, NoneIsFaulty}
+use Rattle.connection_laws.specs.Steps.{after, IsMoved, NextIsHeard, PlainIsHeard, LettersAreHeard, StopIsHeard, ClosingsAreKnown, OpeningsAreAcceptable, NoneIsFaulty}
 use Rattle.session_laws.specs.Joined.{Ends, AreJoined}
 use Rattle.session_laws.proofs.Births.{BirthsFollow}
 
@@ -21,6 +21,9 @@ pub record Laws : Type 0 where
   pub heard : NextIsHeard
   pub plain : PlainIsHeard
   pub letters : LettersAreHeard
+  pub stop : StopIsHeard
+  pub known : ClosingsAreKnown
+  pub acceptable : OpeningsAreAcceptable
   pub sound : NoneIsFaulty
   pub births : births.BirthsOfRuns
   pub coverage : coverage.CoverageOfRuns

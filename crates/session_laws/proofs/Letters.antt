@@ -1,5 +1,5 @@
 -- The letters that a tunnel gives and takes, in the machine and in what is known of the tunnel.
-use Rattle.std.proofs.Common.{◌≡◌, ℕ, suc, ◌+◌, List, [], ◌∷◌, ◌++◌, map, length, refl, sym, ap, ◌∙◌, Option, arith, eq-eqb, ne_eqb}
+use Rattle.std.proofs.Common.{◌≡◌, ℕ, suc, ◌+◌, List, [], ◌∷◌, ◌++◌, map, refl, sym, ap, ◌∙◌, append-nil, Option, arith, eq-eqb, ne_eqb}
 use Rattle.std.proofs.lemmas.List.{map-append}
 use Rattle.protocol_model.specs.Turn.{Tunnel}
 use Rattle.step_laws.specs.Letters as step
@@ -8,7 +8,7 @@ use Rattle.epoch_machine.specs.Letters.{Letter}
 use Rattle.epoch_machine.specs.Channels.{puts, counts}
 use Rattle.epoch_machine.specs.Calls.{Calls}
 use Rattle.epoch_machine.specs.Worlds.{World, gives, took_one}
-use Rattle.connection_laws.specs.Accounts.{Account}
+use Rattle.connection_laws.specs.Accounts.{Account, heeded}
 use Rattle.session_laws.specs.Names.{name, letter_of, phase_in, other_name}
 use Rattle.session_laws.specs.Joined.{TunnelJoined}
 use Rattle.session_laws.proofs.Ground.{TunnelStays}
@@ -126,12 +126,25 @@ pub record LettersMove (w v : World) (x : ℕ) (more : List Letter) (took : ℕ)
   pub taken : v.channels.taken x 0 ≡ took + w.channels.taken x 0
   pub asks : (z : ℕ) → v.calls.asks x z ≡ w.calls.asks x z
 
--- in the account
+-- nothing is given, and nothing taken
+pub no_letters : (w : World) (x : ℕ) → LettersMove w w x [] 0
+no_letters w x = record {
+  drawn = refl;
+  opener = refl;
+  node = refl;
+  peer = refl;
+  entered = refl;
+  sent = sym (append-nil (w.channels.sent x 0));
+  taken = omega arith;
+  asks = λ z. refl;
+}
+
+-- in the account; what a closed tunnel takes isn't heeded
 pub record AccountMoves (a b : Account) (more : List step.Letter) (took : ℕ) : Type 0 where
   pub part : b.part ≡ a.part
   pub peer : b.peer ≡ a.peer
   pub given : b.given ≡ a.given ++ more
-  pub taken : length b.taken ≡ took + length a.taken
+  pub heeds : heeded b ≡ took + heeded a
 
 -- who is learned, and the new state, are told apart
 pub letters_joined : (w v : World) (n i : ℕ) (a b : Account) (more : List step.Letter) (took : ℕ) (o u : Option Tunnel) → TunnelJoined w n i a o
@@ -146,6 +159,6 @@ letters_joined w v n i a b more took o u h g k learned phase = record {
   phase = phase;
   entered = g.entered ∙ h.entered;
   sent = rw (k.given, k.peer, map-append) (g.sent ∙ ap (λ ls. ls ++ map (letter_of n a.peer) more) h.sent);
-  taken = g.taken ∙ ap (λ j. took + j) h.taken ∙ sym k.taken;
+  taken = g.taken ∙ ap (λ j. took + j) h.taken ∙ sym k.heeds;
   asks = λ z. g.asks z ∙ h.asks z;
 }

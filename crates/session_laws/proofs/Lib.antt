@@ -3,6 +3,7 @@ pub mod Keeps
 pub mod Names
 pub mod Entering
 pub mod Roles
+pub mod States
 pub mod Ground
 pub mod Letters
 pub mod Heard
@@ -13,6 +14,7 @@ pub mod Accepting
 pub mod Connecting
 pub mod Confirming
 pub mod Greeting
+pub mod Leaving
 pub mod Clearing
 pub mod CallRows
 pub mod CallGround
@@ -30,6 +32,8 @@ pub mod SecondUp
 pub mod EndingTold
 pub mod EndHeard
 pub mod EndingSilent
+pub mod Closing
+pub mod StopHeard
 pub mod Moves
 pub mod WorldBirths
 pub mod Runs

@@ -1,5 +1,5 @@
 -- A tunnel is opened, in the machine too.
-use Rattle.std.proofs.Common.{◌≡◌, ℕ, ◌<◌, Bool, true, false, [], ◌∷◌, ◌++◌, refl, sym, ap, ◌∙◌, subst, Option, Some, eq-eqb, ne_eqb}
+use Rattle.std.proofs.Common.{◌≡◌, ℕ, ◌<◌, Bool, true, false, [], ◌∷◌, ◌++◌, refl, sym, ap, ◌∙◌, subst, Option, Some, None, eq-eqb, ne_eqb}
 use Rattle.std.proofs.lemmas.Bool.{lt-ltb}
 use Rattle.id_table.specs.Ids.{at}
 use Rattle.control_message.specs.declared.message.Message.TheVariants.{Sccrq}
@@ -69,7 +69,7 @@ opens_calls w n m x = refl
 
 -- the first letter of an opener
 abbrev as_opener : ℕ → step_laws.Letter → Account
-as_opener peer first = record { part = Opener; peer = peer; remote = 0; given = first ∷ []; taken = [] }
+as_opener peer first = record { part = Opener; peer = peer; remote = 0; given = first ∷ []; taken = []; closed = None }
 
 opens_here : (w : World) (n i m : ℕ) (first : step_laws.Letter) (o : Option Tunnel) (u : Tunnel) → TunnelJoined w n i no_account o
     → letter_of n m first ≡ letter.Sccrq → phase_of u.control.state ≡ WaitReply

@@ -1,11 +1,12 @@
--- A letter that is taken plainly is counted in the machine, and nothing else changes there.
-use Rattle.std.proofs.Common.{◌≡◌, ◌≢◌, ◌⊎◌, inl, inr, ⊎_elim, ℕ, zero, suc, ◌<◌, Bool, true, false, cond, eqb, ◌&&◌, [], length, refl, sym, ap, ◌∙◌, Option, Some, arith}
-use Rattle.std.proofs.lemmas.Bool.{eqb-true}
+-- A letter that is taken plainly is counted in the machine, and nothing else changes there; what a closed tunnel takes isn't even counted.
+use Rattle.std.proofs.Common.{◌≡◌, ◌≢◌, ◌⊎◌, inl, inr, ⊎_elim, ℕ, zero, suc, ◌<◌, Bool, true, false, cond, eqb, ◌&&◌, [], length, refl, sym, ap, ◌∙◌, subst, Option, Some, arith}
+use Rattle.std.proofs.lemmas.Bool.{eqb-true, true≢false}
 use Rattle.std.specs.Prelude.{slice_get, ◌==◌}
 use Rattle.id_table.specs.Ids.{at}
 use Rattle.id_table.specs.Order.{same_or_not}
 use Rattle.control_message.specs.declared.message.Message.{Message}
 use Rattle.control_message.specs.declared.message.Message.TheVariants as message
+use Rattle.control_message.specs.declared.message.Opening.{Opening}
 use Rattle.control_message.specs.Pairs.{IsWritten}
 use Rattle.tunnel_fsm.specs.declared.table.TunnelState.{TunnelState}
 use Rattle.tunnel_fsm.specs.declared.table.TunnelState.TheVariants as tunnel
@@ -15,17 +16,17 @@ use Rattle.protocol_model.specs.declared.moves.TookPlain.{TookPlain}
 use Rattle.protocol_model.specs.declared.moves.Move.TheVariants as move
 use Rattle.protocol_model.specs.declared.tunnel.Call.{Call}
 use Rattle.protocol_model.specs.declared.tunnel.Role.{Role}
-use Rattle.protocol_model.specs.Turn.{Tunnel, counts_taken, session_named}
+use Rattle.protocol_model.specs.Turn.{Tunnel, counts_taken, session_named, is_acceptable, is_closed}
 use Rattle.protocol_model.specs.End.{End}
 use Rattle.protocol_model.specs.World.{Sender, Deed}
-use Rattle.step_laws.specs.Moves.{IsPlain}
+use Rattle.step_laws.specs.Moves.{Hears, IsPlain}
 use Rattle.epoch_machine.specs.Letters.{Letter, Sccrq, Sccrp, Scccn, Hello, Request, Reply, Connect, Cdn}
 use Rattle.epoch_machine.specs.Tunnels.{is_open, is_wait_reply, is_wait_connect}
 use Rattle.epoch_machine.specs.Calls.{Calls, CallState, NoCall, Waits, waits_reply, waits_connect, ends, is_named}
 use Rattle.epoch_machine.specs.Worlds.{World, all_rules, took_one, takes, takes_open, answers_request, takes_reply, takes_connect, takes_cdn}
 use Rattle.epoch_machine.specs.Moves.{Delivers}
-use Rattle.connection_laws.specs.Accounts.{Account}
-use Rattle.connection_laws.specs.Facts.{Accounts}
+use Rattle.connection_laws.specs.Accounts.{Taken, Account}
+use Rattle.connection_laws.specs.Facts.{Accounts, IsNoStop, IsClosed}
 use Rattle.connection_laws.specs.Steps.{after, PlainLetter}
 use Rattle.session_laws.specs.Names.{name, name_of, spoken, phase_of, state_of}
 use Rattle.session_laws.specs.Roles.{Says}
@@ -33,7 +34,10 @@ use Rattle.session_laws.specs.Joined.{Ends, CallsJoined, NodeJoined, TunnelJoine
 use Rattle.session_laws.proofs.Births.{BirthsSame, else_follow}
 use Rattle.session_laws.proofs.Keeps.{with_end, Laws, IsMade, Follows}
 use Rattle.session_laws.proofs.Names.{same_name, name_not_zero, known_name}
-use Rattle.session_laws.proofs.Ground.{joined_before}
+use Rattle.session_laws.proofs.Entering.{after_here, with_taken, taken_as, takes_only}
+use Rattle.session_laws.proofs.States.{is_shut, heeds_none}
+use Rattle.session_laws.proofs.Ground.{Old, no_step, tunnel_same, joined_before, tunnel_moves_follow}
+use Rattle.session_laws.proofs.Letters.{no_letters, letters_joined}
 use Rattle.session_laws.proofs.Heard.{Delivered, next_delivered, here_fits, here_joined}
 use Rattle.session_laws.proofs.CallRows.{no_first, no_second, no_end}
 use Rattle.session_laws.proofs.CallGround.{CallSame, no_call_follows}
@@ -281,39 +285,59 @@ module _ (w : World) (accs : Accounts) (n : ℕ) (e : End) (i : ℕ) (t : Tunnel
             (λ (gone : w.calls.state (name n q) ≡ NoCall). gone)
             (here_or_gone w accs n i h.id e h.old t h.there q qfits (rw here at tells.0)))
 
-  plain_by : (role : Role) (b : Account) (m : Message) → Says role b m → IsPlain e t session m → IsWritten m → slice_get (w.channels.sent s 0) k ≡ Some (spoken from n session m)
+  plain_by : (role : Role) (b : Account) (m : Message) → IsNoStop m → ((o : Opening) → m ≡ message.Sccrp o → is_acceptable o ≡ true) → Says role b m
+      → IsPlain e t session m → IsWritten m → slice_get (w.channels.sent s 0) k ≡ Some (spoken from n session m)
       → PlainTakes w X s (spoken from n session m)
-  plain_by role b (message.Sccrq o) says why written stands = ignored w X s Sccrq (plain_sccrq (took_one w X) X s)
-  plain_by role b (message.Sccrp o) says why written stands = ignored w X s Sccrp (plain_sccrp w X s (rw h.phase (no_wait_reply t.control.state why)))
-  plain_by role b message.Scccn says why written stands = ignored w X s Scccn (plain_scccn w X s (rw h.phase (no_wait_connect t.control.state why)))
-  plain_by role b (message.StopCcn tunnel result error) says why written stands = absurd says
-  plain_by role b message.Hello says why written stands = ignored w X s Hello (plain_hello (took_one w X) X s)
-  plain_by role b (message.Ocrq remote) says why written stands = absurd says
-  plain_by role b message.Ocrp says why written stands = absurd says
-  plain_by role b message.Occn says why written stands = absurd says
-  plain_by role b message.Wen says why written stands = absurd says
-  plain_by role b message.Sli says why written stands = absurd says
-  plain_by role b (message.Icrq remote serial calling) says why written stands =
+  plain_by role b (message.Sccrq o) no_stop fits says why written stands = ignored w X s Sccrq (plain_sccrq (took_one w X) X s)
+  plain_by role b (message.Sccrp o) no_stop fits says why written stands =
+      ignored w X s Sccrp (plain_sccrp w X s (rw h.phase (no_wait_reply t.control.state (λ one. true≢false (sym (fits o refl) ∙ why one)))))
+  plain_by role b message.Scccn no_stop fits says why written stands =
+      ignored w X s Scccn (plain_scccn w X s (rw h.phase (no_wait_connect t.control.state why)))
+  plain_by role b (message.StopCcn tunnel result error) no_stop fits says why written stands = absurd no_stop
+  plain_by role b message.Hello no_stop fits says why written stands = ignored w X s Hello (plain_hello (took_one w X) X s)
+  plain_by role b (message.Ocrq remote) no_stop fits says why written stands = absurd says
+  plain_by role b message.Ocrp no_stop fits says why written stands = absurd says
+  plain_by role b message.Occn no_stop fits says why written stands = absurd says
+  plain_by role b message.Wen no_stop fits says why written stands = absurd says
+  plain_by role b message.Sli no_stop fits says why written stands = absurd says
+  plain_by role b (message.Icrq remote serial calling) no_stop fits says why written stands =
       ignored w X s (Request (name from remote)) (plain_request (took_one w X) X s (name from remote))
-  plain_by role b (message.Icrp remote) says why written stands =
+  plain_by role b (message.Icrp remote) no_stop fits says why written stands =
       ignored w X s (Reply (name from remote) (name n session)) (⊎_elim
       (λ (three : state_number t.control.state ≡ 3). plain_reply w X s (name from remote) (name n session)
       (untested waits_reply refl (λ c call. no_first e.role c.state (h.old.roles i t h.there session c call) (why three c call))))
       (λ is. shut_reply w X s (name from remote) (name n session) (shut is))
       (open_or_not t.control.state))
-  plain_by role b (message.Iccn speed framing sequenced) says why written stands =
+  plain_by role b (message.Iccn speed framing sequenced) no_stop fits says why written stands =
       ignored w X s (Connect (name n session)) (⊎_elim
       (λ (three : state_number t.control.state ≡ 3). plain_connect w X s (name n session)
       (untested waits_connect refl (λ c call. no_second e.role c.state (h.old.roles i t h.there session c call) (why three c call))))
       (λ is. shut_connect w X s (name n session) (shut is))
       (open_or_not t.control.state))
-  plain_by role b (message.Cdn remote code error) says why written stands = ⊎_elim
+  plain_by role b (message.Cdn remote code error) no_stop fits says why written stands = ⊎_elim
       (λ (three : state_number t.control.state ≡ 3). plain_cdn w X s (name_of from remote) (name_of n session) (opens three)
       (named_gone remote code error written.0 three why stands))
       (λ is. ignored w X s (Cdn (name_of from remote) (name_of n session)) (shut_cdn w X s (name_of from remote) (name_of n session) (shut is)))
       (open_or_not t.control.state)
 
 -- ---- the move
+
+-- in a tunnel that isn't closed a plain letter is no StopCCN
+plain_no_stop : (e : End) (t : Tunnel) (session : ℕ) (m : Message) → is_closed t.control.state ≡ false → IsPlain e t session m → IsNoStop m
+plain_no_stop e t session (message.Sccrq o) works why = tt
+plain_no_stop e t session (message.Sccrp o) works why = tt
+plain_no_stop e t session message.Scccn works why = tt
+plain_no_stop e t session (message.StopCcn tunnel result error) works why = absurd (true≢false (sym why ∙ works))
+plain_no_stop e t session message.Hello works why = tt
+plain_no_stop e t session (message.Ocrq remote) works why = tt
+plain_no_stop e t session message.Ocrp works why = tt
+plain_no_stop e t session message.Occn works why = tt
+plain_no_stop e t session message.Wen works why = tt
+plain_no_stop e t session message.Sli works why = tt
+plain_no_stop e t session (message.Icrq remote serial calling) works why = tt
+plain_no_stop e t session (message.Icrp remote) works why = tt
+plain_no_stop e t session (message.Iccn speed framing sequenced) works why = tt
+plain_no_stop e t session (message.Cdn remote code error) works why = tt
 
 module _ (laws : Laws) (accs : Accounts) (ends : Ends) (w : World) (n : ℕ) (e x : End) (sender : Option Sender) (moment : ℕ) (ev : Event)
     (m : TookPlain) (d : Deed) (h : IsMade accs ends w n e x sender moment ev (move.TookPlain m) d) where
@@ -326,57 +350,126 @@ module _ (laws : Laws) (accs : Accounts) (ends : Ends) (w : World) (n : ℕ) (e 
   abbrev header : ℕ
   header = h.moved.does.comes.header.session
 
-  letter : PlainLetter accs n m.tunnel sender ev t h.moved.does.comes
-  letter = laws.plain accs n e sender ev h.moved.within m.tunnel t h.moved.does.there h.moved.does.comes
-
-  del : Delivered accs w n m.tunnel sender header letter.message
-  del = next_delivered accs ends w n e x sender moment ev (move.TookPlain m) d h m.tunnel t h.moved.does.there header letter.message letter.next
-
   old : TunnelJoined w n m.tunnel (accs n m.tunnel) (Some t)
   old = here_joined accs ends w n e x sender moment ev (move.TookPlain m) d h m.tunnel t h.moved.does.there
+
+  id : m.tunnel < 65536
+  id = here_fits accs ends w n e x sender moment ev (move.TookPlain m) d h m.tunnel t h.moved.does.there
 
   abbrev Y : ℕ
   Y = name n m.tunnel
 
-  abbrev S : ℕ
-  S = name del.from.node del.from.tunnel
+  -- ---- in a tunnel that isn't closed
 
-  comes : Comes w accs n e m.tunnel t del.from.node S (length (accs n m.tunnel).taken) header
-  comes = record {
-    holds = world_holds laws.births w h.joined.moves h.joined.run;
-    old = joined_before accs ends w n e x sender moment ev (move.TookPlain m) d h;
-    elsewhere = λ q fits. (ends q, h.joined.nodes q fits);
-    id = here_fits accs ends w n e x sender moment ev (move.TookPlain m) d h m.tunnel t h.moved.does.there;
-    there = h.moved.does.there;
-    phase = old.phase;
-    peer = del.node;
-    header = del.header;
-    remotes = (h.moved.within.end.live m.tunnel t h.moved.does.there).calls;
-  }
+  module _ (works : is_closed t.control.state ≡ false) where
+    letter : PlainLetter accs n m.tunnel sender ev t h.moved.does.comes
+    letter = laws.plain accs n e sender ev h.moved.within m.tunnel t h.moved.does.there works h.moved.does.comes
 
-  takes_it : PlainTakes w Y S (spoken del.from.node n header letter.message)
-  takes_it = plain_by w accs n e m.tunnel t del.from.node S (length (accs n m.tunnel).taken) header comes del.giver.role
-      (accs del.from.node del.from.tunnel) letter.message del.giver.says (h.moved.does.why letter.message letter.said) del.written del.stands
+    why : IsPlain e t header letter.message
+    why = h.moved.does.why letter.message letter.said
 
-  abbrev v : World
-  v = record (took_one w Y) { calls = takes_it.calls }
+    no_stop : IsNoStop letter.message
+    no_stop = plain_no_stop e t header letter.message works why
+
+    del : Delivered accs w n m.tunnel sender header letter.message
+    del = next_delivered accs ends w n e x sender moment ev (move.TookPlain m) d h m.tunnel t h.moved.does.there works header letter.message no_stop
+        (letter.next no_stop)
+
+    hears : Hears ev t.control.peer header letter.message
+    hears = record {
+      bytes = h.moved.does.comes.bytes;
+      is = h.moved.does.comes.is;
+      header = h.moved.does.comes.header;
+      read = h.moved.does.comes.read;
+      control = h.moved.does.comes.control;
+      session_is = refl;
+      said = letter.said;
+    }
+
+    fits : (o : Opening) → letter.message ≡ message.Sccrp o → is_acceptable o ≡ true
+    fits o is = laws.acceptable accs n e sender ev h.moved.within t.control.peer header o (inr (subst (Hears ev t.control.peer header) is hears))
+
+    abbrev S : ℕ
+    S = name del.from.node del.from.tunnel
+
+    comes : Comes w accs n e m.tunnel t del.from.node S (length (accs n m.tunnel).taken) header
+    comes = record {
+      holds = world_holds laws.births w h.joined.moves h.joined.run;
+      old = joined_before accs ends w n e x sender moment ev (move.TookPlain m) d h;
+      elsewhere = λ q fits. (ends q, h.joined.nodes q fits);
+      id = id;
+      there = h.moved.does.there;
+      phase = old.phase;
+      peer = del.node;
+      header = del.header;
+      remotes = (h.moved.within.end.live m.tunnel t h.moved.does.there).calls;
+    }
+
+    takes_it : PlainTakes w Y S (spoken del.from.node n header letter.message)
+    takes_it = plain_by w accs n e m.tunnel t del.from.node S (length (accs n m.tunnel).taken) header comes del.giver.role
+        (accs del.from.node del.from.tunnel) letter.message no_stop fits del.giver.says why del.written del.stands
+
+    abbrev v : World
+    v = record (took_one w Y) { calls = takes_it.calls }
+
+    heeded_follows : Follows w n e x (move.TookPlain m) (after accs d) (with_end ends n x)
+    heeded_follows =
+        no_call_follows accs ends w n e x sender moment ev (move.TookPlain m) d h v t u
+        (else_follow w v n e x (move.TookPlain m) tt takes_it.births (ap (λ (y : End). y.role) h.moved.does.after)
+        (ap (λ (y : End). y.session_ids) h.moved.does.after))
+        (record {
+          there = h.moved.does.there;
+          put_is = ap (λ (y : End). y.tunnels) h.moved.does.after;
+          role = ap (λ (y : End). y.role) h.moved.does.after;
+          sessions = ap (λ (y : End). y.session_ids) h.moved.does.after;
+          same = refl;
+          waits = λ one. one;
+          calls = takes_it.same;
+        })
+        (speaks_goes accs ends w n e x sender moment ev (move.TookPlain m) d h v t u h.moved.does.there [] 1
+        (calls_and_take w Y takes_it.calls old.entered takes_it.asks)
+        (hears_one d n e.role sender (move.TookPlain m) m.taken (accs n m.tunnel) (after accs d n m.tunnel) h.moved.deed del.is_open
+        (account_is accs ends w n e x sender moment ev (move.TookPlain m) d h v t u h.moved.does.there))
+        refl (Delivers Y S 0 (length (accs n m.tunnel).taken) 0) (del.is 0 ∙ takes_it.is))
+
+  -- ---- in a closed tunnel, where the machine does nothing
+
+  abbrev tk : Taken
+  tk = taken_as sender m.taken (move.TookPlain m)
+
+  abbrev b : Account
+  b = with_taken tk [] (accs n m.tunnel)
+
+  is_b : after accs d n m.tunnel ≡ b
+  is_b = after_here accs d n (move.TookPlain m) h.moved.deed.node_is h.moved.deed.move_is
+      ∙ takes_only d n e.role sender (move.TookPlain m) m.taken (accs n m.tunnel) h.moved.deed
+
+  tunnel_still : IsClosed (accs n m.tunnel) → TunnelJoined w n m.tunnel b (Some u)
+  tunnel_still closed =
+      letters_joined w w n m.tunnel (accs n m.tunnel) b [] 0 (Some t) (Some u) old (no_letters w Y)
+      (record { part = refl; peer = refl; given = refl; heeds = heeds_none tk [] (accs n m.tunnel) closed ∙ (omega arith) })
+      old.learned old.phase
+
+  ignored_follows : is_closed t.control.state ≡ true → Follows w n e x (move.TookPlain m) (after accs d) (with_end ends n x)
+  ignored_follows shut =
+      tunnel_moves_follow accs ends w n e x sender moment ev (move.TookPlain m) d h tt w u (record {
+        id = id;
+        put_is = ap (λ (y : End). y.tunnels) h.moved.does.after;
+        sessions = ap (λ (y : End). y.session_ids) h.moved.does.after;
+        role = ap (λ (y : End). y.role) h.moved.does.after;
+        before = Old t h.moved.does.there refl (λ one. one) (ap (λ (y : Account). y.peer) is_b);
+        tunnels = λ y other. tunnel_same w y;
+        tunnel = rw is_b
+            (tunnel_still (is_shut accs n m.tunnel (accs n m.tunnel) t (h.moved.within.end.live m.tunnel t h.moved.does.there) shut).1);
+        calls = refl;
+        up = λ k. refl;
+        more = [];
+        run = sym (no_step all_rules w);
+      })
 
   pub took_plain_follows : Follows w n e x (move.TookPlain m) (after accs d) (with_end ends n x)
-  took_plain_follows =
-      no_call_follows accs ends w n e x sender moment ev (move.TookPlain m) d h v t u
-      (else_follow w v n e x (move.TookPlain m) tt takes_it.births (ap (λ (y : End). y.role) h.moved.does.after)
-      (ap (λ (y : End). y.session_ids) h.moved.does.after))
-      (record {
-        there = h.moved.does.there;
-        put_is = ap (λ (y : End). y.tunnels) h.moved.does.after;
-        role = ap (λ (y : End). y.role) h.moved.does.after;
-        sessions = ap (λ (y : End). y.session_ids) h.moved.does.after;
-        same = refl;
-        waits = λ one. one;
-        calls = takes_it.same;
-      })
-      (speaks_goes accs ends w n e x sender moment ev (move.TookPlain m) d h v t u h.moved.does.there [] 1
-      (calls_and_take w Y takes_it.calls old.entered takes_it.asks)
-      (hears_one d n e.role sender (move.TookPlain m) m.taken (accs n m.tunnel) (after accs d n m.tunnel) h.moved.deed
-      (account_is accs ends w n e x sender moment ev (move.TookPlain m) d h v t u h.moved.does.there))
-      refl (Delivers Y S 0 (length (accs n m.tunnel).taken) 0) (del.is 0 ∙ takes_it.is))
+  took_plain_follows = by (is_closed t.control.state) refl
+    where
+      by : (shut : Bool) → is_closed t.control.state ≡ shut → Follows w n e x (move.TookPlain m) (after accs d) (with_end ends n x)
+      by false works = heeded_follows works
+      by true shut = ignored_follows shut

@@ -1,5 +1,5 @@
 -- A request is refused, and so it is in the machine: it is the one letter about a call that there isn't which comes in a run.
-use Rattle.std.proofs.Common.{◌≡◌, ⊎_elim, ℕ, ◌<◌, true, List, length, refl, sym, ap, ap₂, ◌∙◌, subst, Option, Some, Ok, arith}
+use Rattle.std.proofs.Common.{◌≡◌, ⊎_elim, ℕ, ◌<◌, true, false, List, length, refl, sym, ap, ap₂, ◌∙◌, subst, Option, Some, Ok, arith}
 use Rattle.std.proofs.lemmas.Bool.{true≢false, lt-ltb}
 use Rattle.id_table.specs.Order.{same_or_not}
 use Rattle.control_message.specs.declared.message.Message.{Message}
@@ -8,8 +8,8 @@ use Rattle.protocol_model.specs.declared.event.Event.{Event}
 use Rattle.protocol_model.specs.declared.moves.Refused.{Refused}
 use Rattle.protocol_model.specs.declared.moves.Move.TheVariants as move
 use Rattle.protocol_model.specs.declared.tunnel.Role.TheVariants.{Lns}
-use Rattle.protocol_model.specs.Reading.{body_of, message_in, call_fault_in}
-use Rattle.protocol_model.specs.Turn.{Tunnel, counts_taken}
+use Rattle.protocol_model.specs.Reading.{body_of, message_in, CallFault, call_fault_in}
+use Rattle.protocol_model.specs.Turn.{Tunnel, counts_taken, is_closed}
 use Rattle.protocol_model.specs.End.{End}
 use Rattle.protocol_model.specs.World.{Sender, Deed, config_of}
 use Rattle.step_laws.specs.Letters.{letters_of}
@@ -19,14 +19,15 @@ use Rattle.epoch_machine.specs.Tunnels.{Open}
 use Rattle.epoch_machine.specs.Worlds.{World, all_rules, gives, took_one, takes, takes_open, answers_request}
 use Rattle.epoch_machine.specs.Moves.{Delivers}
 use Rattle.connection_laws.specs.Accounts.{Part, Unmade, Opener, Acceptor, Account}
-use Rattle.connection_laws.specs.Facts.{Accounts, IsPart}
-use Rattle.connection_laws.specs.Steps.{after, PlainLetter}
+use Rattle.connection_laws.specs.Facts.{Accounts, IsNoStop, IsPart}
+use Rattle.connection_laws.specs.Steps.{after, NextLetter, PlainLetter}
 use Rattle.session_laws.specs.Names.{name, name_of}
 use Rattle.session_laws.specs.Joined.{Ends, TunnelJoined}
 use Rattle.session_laws.proofs.Births.{BirthsSame, else_follow}
 use Rattle.session_laws.proofs.Keeps.{with_end, Laws, IsMade, Follows}
 use Rattle.session_laws.proofs.Names.{name_some, known_name}
 use Rattle.session_laws.proofs.Roles.{lac_not_lns, Giver, giver_of, fits_before}
+use Rattle.session_laws.proofs.States.{not_closed}
 use Rattle.session_laws.proofs.Heard.{Delivered, next_delivered, here_joined, open_phase}
 use Rattle.session_laws.proofs.CallGround.{CallSame, no_call_follows}
 use Rattle.session_laws.proofs.CallLaws.{world_holds, request_own}
@@ -71,48 +72,17 @@ module _ (laws : Laws) (accs : Accounts) (ends : Ends) (w : World) (n : ℕ) (e 
   abbrev body : List ℕ
   body = body_of h.moved.does.comes.header h.moved.does.comes.bytes
 
-  heard : PlainLetter accs n i sender ev t h.moved.does.comes
-  heard = laws.plain accs n e sender ev h.moved.within i t h.moved.does.there h.moved.does.comes
+  not_shut : is_closed t.control.state ≡ false
+  not_shut = not_closed t.control.state 3 h.moved.does.open_is (omega arith)
 
-  at_all : Delivered accs w n i sender header heard.message
-  at_all = next_delivered accs ends w n e x sender moment ev (move.Refused m) d h i t h.moved.does.there header heard.message heard.next
+  heard : PlainLetter accs n i sender ev t h.moved.does.comes
+  heard = laws.plain accs n e sender ev h.moved.within i t h.moved.does.there not_shut h.moved.does.comes
 
   said : (q : Message) → message_in body ≡ Ok q → heard.message ≡ q
   said q is = let both = sym heard.said ∙ is in cc
 
-  -- ---- it is a request
-
-  abbrev b : Account
-  b = accs heard.next.from.node heard.next.from.tunnel
-
-  giver : (q : Message) → message_in body ≡ Ok q → Giver b q
-  giver q is = subst (Giver b) (heard.next.message_is ∙ said q is)
-      (giver_of (ends heard.next.from.node) b (length (accs n i).taken) heard.next.letter (h.joined.fit heard.next.from.node heard.next.from.tunnel)
-      heard.next.there)
-
-  -- who replies is an LNS's, and an LNS's tunnel goes to a LAC's
-  no_reply : (remote : ℕ) → message_in body ≡ Ok (Icrp remote) → e.role ≡ Lns → ⊥
-  no_reply remote is lns = by b.part refl (h.moved.within.accounts heard.next.from.node heard.next.from.tunnel).part
-    where
-      it : Giver b (Icrp remote)
-      it = giver (Icrp remote) is
-
-      by : (p : Part) → b.part ≡ p → IsPart accs heard.next.from.node heard.next.from.tunnel b p → ⊥
-      by Unmade part ok = let there = heard.next.there in let g = rw ok at there in let no : ⊥ = cc in no
-      by Opener part ok = lac_not_lns it.role (it.fits.opens part) it.says
-      by Acceptor part ok =
-          let opens = (fits_before accs ends w n e x sender moment ev (move.Refused m) d h i).opens in
-          let is_it : (accs n i).part ≡ Opener =
-          ap₂ (λ p q. (accs p q).part) (sym heard.next.goes) (sym heard.next.learned) ∙ ok.part in
-          lac_not_lns e.role (opens is_it) lns
-
-  asks_by : WhyRefused e t header (message_in body) (call_fault_in body) m → (serial : ℕ) × (calling : Option (List ℕ)) × (heard.message ≡ Icrq m.remote serial calling)
-  asks_by (IsNotGranted remote serial calling r is none granted remote_is result error) =
-      (serial, calling, said (Icrq remote serial calling) is ∙ ap (λ q. Icrq q serial calling) (sym remote_is))
-  asks_by (IsOutgoing remote is remote_is result error) =
-      absurd (giver (Ocrq remote) is).says
-  asks_by (IsReplyToNone remote is none lns remote_is result error) = absurd (no_reply remote is lns)
-  asks_by (IsWrong f fault remote_is result error) = absurd (laws.sound accs n e sender ev h.moved.within t.control header f (record {
+  no_fault : (f : CallFault) → call_fault_in body ≡ Some f → ⊥
+  no_fault f fault = laws.sound accs n e sender ev h.moved.within t.control header f (record {
     bytes = h.moved.does.comes.bytes;
     is = h.moved.does.comes.is;
     header = h.moved.does.comes.header;
@@ -121,7 +91,59 @@ module _ (laws : Laws) (accs : Accounts) (ends : Ends) (w : World) (n : ℕ) (e 
     session_is = refl;
     tunnel = h.moved.does.comes.tunnel;
     fault = fault;
-  }))
+  })
+
+  -- it closes no tunnel
+  no_stop_by : WhyRefused e t header (message_in body) (call_fault_in body) m → IsNoStop heard.message
+  no_stop_by (IsNotGranted remote serial calling r is none granted remote_is result error) =
+      subst IsNoStop (sym (said (Icrq remote serial calling) is)) tt
+  no_stop_by (IsOutgoing remote is remote_is result error) = subst IsNoStop (sym (said (Ocrq remote) is)) tt
+  no_stop_by (IsReplyToNone remote is none lns remote_is result error) = subst IsNoStop (sym (said (Icrp remote) is)) tt
+  no_stop_by (IsWrong f fault remote_is result error) = absurd (no_fault f fault)
+
+  no_stop : IsNoStop heard.message
+  no_stop = no_stop_by h.moved.does.why
+
+  next : NextLetter accs n i sender header heard.message
+  next = heard.next no_stop
+
+  at_all : Delivered accs w n i sender header heard.message
+  at_all = next_delivered accs ends w n e x sender moment ev (move.Refused m) d h i t h.moved.does.there not_shut header heard.message no_stop
+      next
+
+  -- ---- it is a request
+
+  abbrev b : Account
+  b = accs next.from.node next.from.tunnel
+
+  giver : (q : Message) → message_in body ≡ Ok q → Giver b q
+  giver q is = subst (Giver b) (next.message_is ∙ said q is)
+      (giver_of (ends next.from.node) b (length (accs n i).taken) next.letter (h.joined.fit next.from.node next.from.tunnel)
+      next.there)
+
+  -- who replies is an LNS's, and an LNS's tunnel goes to a LAC's
+  no_reply : (remote : ℕ) → message_in body ≡ Ok (Icrp remote) → e.role ≡ Lns → ⊥
+  no_reply remote is lns = by b.part refl (h.moved.within.accounts next.from.node next.from.tunnel).part
+    where
+      it : Giver b (Icrp remote)
+      it = giver (Icrp remote) is
+
+      by : (p : Part) → b.part ≡ p → IsPart accs next.from.node next.from.tunnel b p → ⊥
+      by Unmade part ok = let there = next.there in let g = rw ok at there in let no : ⊥ = cc in no
+      by Opener part ok = lac_not_lns it.role (it.fits.opens part) it.says
+      by Acceptor part ok =
+          let opens = (fits_before accs ends w n e x sender moment ev (move.Refused m) d h i).opens in
+          let is_it : (accs n i).part ≡ Opener =
+          ap₂ (λ p q. (accs p q).part) (sym next.goes) (sym next.learned) ∙ ok.part in
+          lac_not_lns e.role (opens is_it) lns
+
+  asks_by : WhyRefused e t header (message_in body) (call_fault_in body) m → (serial : ℕ) × (calling : Option (List ℕ)) × (heard.message ≡ Icrq m.remote serial calling)
+  asks_by (IsNotGranted remote serial calling r is none granted remote_is result error) =
+      (serial, calling, said (Icrq remote serial calling) is ∙ ap (λ q. Icrq q serial calling) (sym remote_is))
+  asks_by (IsOutgoing remote is remote_is result error) =
+      absurd (giver (Ocrq remote) is).says
+  asks_by (IsReplyToNone remote is none lns remote_is result error) = absurd (no_reply remote is lns)
+  asks_by (IsWrong f fault remote_is result error) = absurd (no_fault f fault)
 
   asks : (serial : ℕ) × (calling : Option (List ℕ)) × (heard.message ≡ Icrq m.remote serial calling)
   asks = asks_by h.moved.does.why
@@ -177,7 +199,7 @@ module _ (laws : Laws) (accs : Accounts) (ends : Ends) (w : World) (n : ℕ) (e 
       (speaks_goes accs ends w n e x sender moment ev (move.Refused m) d h v t u h.moved.does.there
       (letters_of e.role (config_of n 0) (move.Refused m)) 1
       (rw named (calls_take_and_give w X w.calls (letter.Cdn 0 own) old.entered (λ y k. refl)))
-      (hears_and_says d n e.role sender (move.Refused m) m.taken (accs n i) (after accs d n i) h.moved.deed
+      (hears_and_says d n e.role sender (move.Refused m) m.taken (accs n i) (after accs d n i) h.moved.deed del.is_open
       (account_is accs ends w n e x sender moment ev (move.Refused m) d h v t u h.moved.does.there))
       refl (Delivers X S 0 (length (accs n i).taken) own)
       (del.is own ∙ takes_refused w X S own (old.phase ∙ open_phase t.control.state h.moved.does.open_is) (name_some del.from.node m.remote known) drawn))

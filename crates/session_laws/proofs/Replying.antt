@@ -30,6 +30,7 @@ use Rattle.session_laws.specs.Joined.{Ends, ReplyJoined, CallJoined, CallsJoined
 use Rattle.session_laws.proofs.Births.{RepliesTo, BirthsFollow}
 use Rattle.session_laws.proofs.Keeps.{with_end, Laws, IsMade, Follows}
 use Rattle.session_laws.proofs.Names.{other_name, name_some, known_name, node_again}
+use Rattle.session_laws.proofs.States.{not_closed}
 use Rattle.session_laws.proofs.Ground.{joined_before}
 use Rattle.session_laws.proofs.Heard.{Delivered, delivered, here_joined, open_phase}
 use Rattle.session_laws.proofs.Drawing.{draw_is, next_is}
@@ -108,8 +109,9 @@ module _ (laws : Laws) (accs : Accounts) (ends : Ends) (w : World) (n : ℕ) (e 
   u = with_letter m.remote (Icrp s) (record t { control = counts_taken t.control; calls = put t.calls s call })
 
   del : Delivered accs w n i sender h.moved.does.hears.0 (Icrq m.remote h.moved.does.serial h.moved.does.calling)
-  del = delivered laws.heard accs ends w n e x sender moment ev (move.Replied m) d h i t h.moved.does.there h.moved.does.hears.0
-      (Icrq m.remote h.moved.does.serial h.moved.does.calling) h.moved.does.hears.1
+  del = delivered laws.heard accs ends w n e x sender moment ev (move.Replied m) d h i t h.moved.does.there
+      (not_closed t.control.state 3 h.moved.does.open_is (omega arith)) h.moved.does.hears.0
+      (Icrq m.remote h.moved.does.serial h.moved.does.calling) tt h.moved.does.hears.1
 
   old : TunnelJoined w n i (accs n i) (Some t)
   old = here_joined accs ends w n e x sender moment ev (move.Replied m) d h i t h.moved.does.there
@@ -223,7 +225,7 @@ module _ (laws : Laws) (accs : Accounts) (ends : Ends) (w : World) (n : ℕ) (e 
           λ one. (let three = h.moved.does.open_is in absurd (omega (arith, one, three))),
         );
       } in
-      let speaks = hears_and_says d n e.role sender (move.Replied m) m.taken (accs n i) (after accs d n i) h.moved.deed is in
+      let speaks = hears_and_says d n e.role sender (move.Replied m) m.taken (accs n i) (after accs d n i) h.moved.deed del.is_open is in
       one_call_follows accs ends w n e x sender moment ev (move.Replied m) d h v t u s births
       (subst (λ p. OneCall w v n i p e x t u s) (sym speaks.moves.peer) one)
       (speaks_goes accs ends w n e x sender moment ev (move.Replied m) d h v t u h.moved.does.there

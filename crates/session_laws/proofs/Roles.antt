@@ -124,7 +124,10 @@ giver_of (Some e) b k l h there = record {
 waits_opened : (accs : Accounts) (i : ℕ) (a : Account) (t : Tunnel) → state_number t.control.state ≡ 1 → (p : Part) → IsInState accs i a t p → p ≡ Opener
 waits_opened accs i a t one Unmade h = absurd h
 waits_opened accs i a t one Opener h = refl
-waits_opened accs i a t one Acceptor h = ⊎_elim (λ two. absurd (omega (arith, one, two.0))) (λ three. absurd (omega (arith, one, three.0))) h
+waits_opened accs i a t one Acceptor h = ⊎_elim
+    (λ two. absurd (omega (arith, one, two.0)))
+    (λ more. ⊎_elim (λ three. absurd (omega (arith, one, three.0))) (λ four. absurd (omega (arith, one, four.0))) more)
+    h
 
 module _ (accs : Accounts) (n : ℕ) (e x : End) (sender : Option Sender) (moment : ℕ) (ev : Event) (d : Deed) where
   entered_fits : (m : Move) → IsDeed d n e.role sender m → Does e moment ev m x → FitsEnd e.role (accs n (about m))
@@ -163,6 +166,8 @@ module _ (accs : Accounts) (n : ℕ) (e x : End) (sender : Option Sender) (momen
   entered_fits (move.EndTold m) deed does h live = given_fits e.role _ h d n sender (move.EndTold m) deed _ refl refl h.opens (tt, tt)
   entered_fits (move.EndHeard m) deed does h live = taken_fits e.role _ h d n sender (move.EndHeard m) deed _ refl refl h.opens m.taken
   entered_fits (move.EndSilent m) deed does h live = h
+  entered_fits (move.Closed m) deed does h live = given_fits e.role _ h d n sender (move.Closed m) deed _ refl refl h.opens (tt, tt)
+  entered_fits (move.ClosedBy m) deed does h live = taken_fits e.role _ h d n sender (move.ClosedBy m) deed _ refl refl h.opens m.taken
   entered_fits (move.Cleared i) deed does h live = h
   entered_fits (move.Greeted m) deed does h live = given_fits e.role _ h d n sender (move.Greeted m) deed _ refl refl h.opens (tt, tt)
   entered_fits (move.TookPlain m) deed does h live = taken_fits e.role _ h d n sender (move.TookPlain m) deed _ refl refl h.opens m.taken
