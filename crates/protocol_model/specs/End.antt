@@ -1,8 +1,9 @@
 -- An end's step.
-use Rattle.std.specs.Prelude.{ℕ, List, [], ◌∷◌, ◌++◌, find, length, Bool, true, false, ◌&&◌, ◌==◌, nat_le, if◌then◌else◌, Option, Some, None, option_map, Result, Ok, Err}
+use Rattle.std.specs.Prelude.{ℕ, ◌+◌, List, [], ◌∷◌, ◌++◌, find, length, Bool, true, false, not, ◌&&◌, ◌==◌, nat_le, if◌then◌else◌, Option, Some, None, is_some, unwrap_or, option_map, Result, Ok, Err}
 use Rattle.std.specs.List.{flat_map}
 use Rattle.id_table.specs.Ids.{at, put, without, ids_of}
-use Rattle.id_source.specs.Spaces.{Space}
+use Rattle.id_source.specs.Spaces.{Space, draws}
+use Rattle.id_source.specs.declared.IdError.{IdError}
 use Rattle.wire_base.specs.declared.letter.Letter.{Letter}
 use Rattle.wire_base.specs.declared.why.Why.TheVariants as why
 use Rattle.wire_base.specs.declared.cause.Cause.TheVariants as cause
@@ -25,14 +26,25 @@ use Rattle.protocol_model.specs.declared.tunnel.Role.TheVariants.{Lac, Lns}
 use Rattle.protocol_model.specs.declared.event.Event.{Event}
 use Rattle.protocol_model.specs.declared.event.Event.TheVariants.{Datagram, Ring, Payload, Lower, Hang, OpenTunnel, DropCall, CloseTunnel, Tick}
 use Rattle.protocol_model.specs.declared.out.Out.{Out}
-use Rattle.protocol_model.specs.declared.out.Out.TheVariants.{Up, Drop, Cause}
+use Rattle.protocol_model.specs.declared.out.Out.TheVariants.{Send, Up, Drop, Cause}
 use Rattle.protocol_model.specs.declared.moves.Move.{Move}
 use Rattle.protocol_model.specs.declared.moves.Move.TheVariants as move
 use Rattle.protocol_model.specs.Calls.{is_lac, Carried, Upward, Dropped, carry_look, frame_of}
 use Rattle.protocol_model.specs.declared.event.Addressee.{Addressee}
-use Rattle.protocol_model.specs.declared.event.Addressee.TheVariants.{Opens, Stops, Main, Nobody}
-use Rattle.protocol_model.specs.Reading.{header_why, body_of, at_zero, at_tunnel}
-use Rattle.protocol_model.specs.Turn.{Tunnel, Env, Turn, turn_of, tunnel_after, fresh, turns}
+use Rattle.protocol_model.specs.declared.event.Addressee.TheVariants.{Opens, Stops, Answers, Main, Nobody}
+use Rattle.protocol_model.specs.Reading.{header_why, body_of, message_in, TunnelFault, tunnel_fault_in, at_zero, at_tunnel}
+use Rattle.protocol_model.specs.Turn.{Tunnel, Env, Turn, Reason, out_of_order, other_version, no_recovery, no_secret, fault_reason, turn_of, tunnel_after, fresh, turns}
+use Rattle.protocol_model.specs.Reasons.{no_tunnel, no_id}
+use Rattle.protocol_model.specs.declared.out.Origin.{Origin}
+use Rattle.protocol_model.specs.declared.out.Origin.TheVariants as origin
+use Rattle.l2tp_header.specs.Spelling.{control_bytes}
+use Rattle.avp_codec.specs.Spelling.{spelling}
+use Rattle.recv_window.specs.Window.{on_wire}
+use Rattle.control_message.specs.declared.message.Message.{Message}
+use Rattle.control_message.specs.declared.message.Message.TheVariants.{Sccrq, StopCcn}
+use Rattle.control_message.specs.declared.message.Opening.{Opening}
+use Rattle.control_message.specs.Pairs.{pairs_of}
+use Rattle.wire_base.specs.declared.why.Why.{Why}
 
 pub record End : Type 0 where
   pub role : Role
@@ -231,11 +243,64 @@ reached_by e peer bytes (Ok h) = if h.control then main_of e (addressed e peer h
 unfoldable pub reached : End → ℕ → List ℕ → Option Control
 reached e peer bytes = reached_by e peer bytes (header_of bytes)
 
-unfoldable pub for_addressee : End → Env → Event → ℕ → Addressee → Stepped
-for_addressee e env ev peer (Opens remote) = in_one_more e env ev peer (Drop why.Tunnel)
-for_addressee e env ev peer (Stops remote) = gives_only e (Drop why.Tunnel)
-for_addressee e env ev peer (Main i) = in_main e env ev i (at e.tunnels i)
-for_addressee e env ev peer (Nobody w) = gives_only e (Drop w)
+-- ---- openings that are declined
+
+-- what stands against an SCCRQ that would open a tunnel, the first that counts: its version, a recovery, as many tunnels as there may
+-- be, a challenge, or no id that is left
+abbrev pub lacks_id : Result ℕ IdError → Option Reason
+lacks_id (Ok i) = None
+lacks_id (Err x) = Some no_id
+
+unfoldable pub against_opening : End → Opening → Option Reason
+against_opening e o =
+    if not (o.version == 256) then Some other_version
+    else if is_some o.recovery then Some no_recovery
+    else if has_all_tunnels e.tunnels then Some no_tunnel
+    else if is_some o.challenge then Some no_secret
+    else lacks_id (draws e.tunnel_ids)
+
+-- or its fault
+abbrev pub against_faulty : Option TunnelFault → Option Reason
+against_faulty None = None
+against_faulty (Some g) = Some (fault_reason g.cause)
+
+abbrev pub against_said : End → Option TunnelFault → Result Message Why → Option Reason
+against_said e g (Ok (Sccrq o)) = against_opening e o
+against_said e g (Ok m) = None
+against_said e g (Err w) = against_faulty g
+
+unfoldable pub against_body : End → List ℕ → Option Reason
+against_body e body = against_said e (tunnel_fault_in body) (message_in body)
+
+-- the number that the peer is to send next, by the message that it sent
+abbrev pub next_of_peer : Header → ℕ
+next_of_peer h = on_wire (unwrap_or h.ns 0 + 1)
+
+-- a StopCCN of no tunnel of this end's: its Ns is 0, its Nr counts the message that it answers, and it is sent once
+abbrev pub decline_bytes : ℕ → ℕ → Reason → List ℕ
+decline_bytes remote nr r = control_bytes remote 0 0 nr (spelling (pairs_of (StopCcn 0 r.result r.error)))
+
+abbrev pub decline_origin : ℕ → Origin
+decline_origin nr = origin.Control (record { tunnel = 0; epoch = 0; ns = 0; nr = nr; empty = false })
+
+unfoldable pub declined : End → ℕ → ℕ → ℕ → Reason → Stepped
+declined e peer remote nr r = record {
+  end = e;
+  outputs = Cause r.cause ∷ Send peer (decline_bytes remote nr r) (decline_origin nr) ∷ [];
+  moves = move.Declined (record { peer = peer; remote = remote; nr = nr; result = r.result; error = r.error }) ∷ [];
+}
+
+-- an SCCRQ opens a tunnel where nothing stands against it
+unfoldable pub opens_or_declines : End → Env → Event → ℕ → ℕ → ℕ → Option Reason → Stepped
+opens_or_declines e env ev peer remote nr None = in_new e env ev peer
+opens_or_declines e env ev peer remote nr (Some r) = declined e peer remote nr r
+
+unfoldable pub for_addressee : End → Env → Event → ℕ → Header → List ℕ → Addressee → Stepped
+for_addressee e env ev peer h body (Opens remote) = opens_or_declines e env ev peer remote (next_of_peer h) (against_body e body)
+for_addressee e env ev peer h body (Stops remote) = gives_only e (Drop why.Tunnel)
+for_addressee e env ev peer h body (Answers remote) = declined e peer remote (next_of_peer h) out_of_order
+for_addressee e env ev peer h body (Main i) = in_main e env ev i (at e.tunnels i)
+for_addressee e env ev peer h body (Nobody w) = gives_only e (Drop w)
 
 abbrev pub is_in : TunnelState → ℕ → Option Tunnel → Bool
 is_in s peer None = false
@@ -281,7 +346,7 @@ hands_up e peer h body = handed e h.session (carry_look e.role (look_in (at e.ca
 unfoldable pub receives : End → Env → ℕ → List ℕ → Result Header HeaderError → Stepped
 receives e env peer bytes (Err x) = gives_only e (Drop (header_why x))
 receives e env peer bytes (Ok h) =
-    if h.control then for_addressee e env (Datagram peer bytes) peer (addressed e peer h (body_of h bytes))
+    if h.control then for_addressee e env (Datagram peer bytes) peer h (body_of h bytes) (addressed e peer h (body_of h bytes))
     else hands_up e peer h (body_of h bytes)
 
 -- an event of the other kind of end is ignored

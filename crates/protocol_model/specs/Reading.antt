@@ -11,7 +11,7 @@ use Rattle.l2tp_header.specs.declared.header.Header.{Header}
 use Rattle.l2tp_header.specs.declared.header.HeaderError.{HeaderError}
 use Rattle.l2tp_header.specs.declared.header.HeaderError.TheVariants as header
 use Rattle.control_message.specs.declared.message.Message.{Message}
-use Rattle.control_message.specs.declared.message.Message.TheVariants.{Sccrq, StopCcn}
+use Rattle.control_message.specs.declared.message.Message.TheVariants.{Sccrq, Sccrp, StopCcn}
 use Rattle.control_message.specs.declared.message.Read.{Read}
 use Rattle.control_message.specs.declared.message.Read.TheVariants.{Known, Ignored}
 use Rattle.control_message.specs.declared.message.MessageError.{MessageError}
@@ -22,7 +22,7 @@ use Rattle.control_message.specs.Reading.{message_of, kind_of_pairs, plain_short
 use Rattle.tunnel_fsm.specs.declared.table.TunnelEvent.{TunnelEvent}
 use Rattle.tunnel_fsm.specs.declared.table.TunnelEvent.TheVariants as event
 use Rattle.protocol_model.specs.declared.event.Addressee.{Addressee}
-use Rattle.protocol_model.specs.declared.event.Addressee.TheVariants.{Opens, Stops, Main, Nobody}
+use Rattle.protocol_model.specs.declared.event.Addressee.TheVariants.{Opens, Stops, Answers, Main, Nobody}
 
 abbrev pub header_why : HeaderError → Why
 header_why header.Short = why.Short
@@ -161,16 +161,23 @@ abbrev pub stopped : Option ℕ → Addressee
 stopped None = Nobody why.Tunnel
 stopped (Some i) = if i == 0 then Nobody why.Tunnel else Stops i
 
+-- an SCCRQ or an SCCRP that tells no id, or 0, can't be answered
+abbrev pub told_or_none : (ℕ → Addressee) → Option ℕ → Addressee
+told_or_none to None = Nobody why.Avp
+told_or_none to (Some i) = if i == 0 then Nobody why.Avp else to i
+
 -- one that is faulty, by its kind
 abbrev pub zero_faulty : Option Kind → List Avp → Addressee
-zero_faulty (Some kind.Sccrq) avps = Nobody why.Avp
+zero_faulty (Some kind.Sccrq) avps = told_or_none (λ i. Opens i) (plain_short 9 avps)
+zero_faulty (Some kind.Sccrp) avps = told_or_none (λ i. Answers i) (plain_short 9 avps)
 zero_faulty (Some kind.StopCcn) avps = stopped (plain_short 9 avps)
 zero_faulty k avps = Nobody why.Tunnel
 
--- at tunnel 0: an SCCRQ opens a tunnel by the id that it assigns, one that is faulty is ignored, a StopCCN, faulty or not, is for the
--- tunnel that it tells, and every other message is for none
+-- at tunnel 0, faulty or not: an SCCRQ opens a tunnel by the id that it assigns, or is declined, an SCCRP is declined, a StopCCN is for
+-- the tunnel that it tells, and every other message is for none
 unfoldable pub zero_read : List Avp → Result Read MessageError → Addressee
 zero_read avps (Ok (Known (Sccrq o))) = Opens o.tunnel
+zero_read avps (Ok (Known (Sccrp o))) = Answers o.tunnel
 zero_read avps (Ok (Known (StopCcn tunnel code error))) = stopped (Some tunnel)
 zero_read avps (Ok r) = Nobody why.Tunnel
 zero_read avps (Err e) = zero_faulty (kind_of_pairs avps) avps

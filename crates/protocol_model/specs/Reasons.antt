@@ -24,6 +24,21 @@ out_of_order = reason cause.State 7 None
 abbrev pub other_version : Reason
 other_version = reason cause.Version 5 None
 
+-- it wants to recover a tunnel, and no end recovers one
+abbrev pub no_recovery : Reason
+no_recovery = reason cause.Recover 2 (Some 1)
+
+-- it has a challenge, and no end has a secret
+abbrev pub no_secret : Reason
+no_secret = reason cause.Secret 4 None
+
+-- the end has as many tunnels as it may, and no tunnel id is left
+abbrev pub no_tunnel : Reason
+no_tunnel = reason cause.Tunnels 2 (Some 4)
+
+abbrev pub no_id : Reason
+no_id = reason cause.Ids 2 (Some 4)
+
 -- ---- of a message that has a fault
 
 -- the codes of the CDN or the StopCCN that answers it: its pairs can't be read, a value is wrong, or a pair that has to be understood

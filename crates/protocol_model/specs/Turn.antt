@@ -1,5 +1,5 @@
 -- A tunnel's step, as a chain of functions from turn to turn.
-use Rattle.std.specs.Prelude.{ℕ, zero, suc, ◌+◌, ◌-◌, List, [], ◌∷◌, ◌++◌, drop, find, slice_get, Bool, true, false, ◌==◌, ◌&&◌, ◌||◌, not, nat_le, nat_lt, length, if◌then◌else◌, Option, Some, None, is_some, unwrap_or, Result, Ok, Err}
+use Rattle.std.specs.Prelude.{ℕ, zero, suc, ◌+◌, ◌-◌, List, [], ◌∷◌, ◌++◌, drop, find, slice_get, Bool, true, false, ◌==◌, ◌&&◌, ◌||◌, not, nat_le, nat_lt, length, if◌then◌else◌, Option, Some, None, is_some, is_none, unwrap_or, Result, Ok, Err}
 use Rattle.id_table.specs.Ids.{at, put, without, ids_of}
 use Rattle.id_source.specs.Spaces.{Space, draws, after_draw}
 use Rattle.id_source.specs.declared.IdError.{IdError}
@@ -54,7 +54,7 @@ use Rattle.protocol_model.specs.declared.moves.Place.{Place}
 use Rattle.protocol_model.specs.declared.moves.Move.{Move}
 use Rattle.protocol_model.specs.declared.moves.Move.TheVariants as move
 use Rattle.protocol_model.specs.Names.{host_name, calling_number}
-pub use Rattle.protocol_model.specs.Reasons.{Reason, reason, out_of_state, out_of_order, other_version, fault_error, fault_reason}
+pub use Rattle.protocol_model.specs.Reasons.{Reason, reason, out_of_state, out_of_order, other_version, no_recovery, no_secret, fault_error, fault_reason}
 use Rattle.protocol_model.specs.Reading.{header_why, body_of, message_in, CallFault, call_fault_in, TunnelFault, tunnel_fault_in}
 use Rattle.protocol_model.specs.Calls.{call_row, advanced, rung, asked_for, is_request, is_reply, is_connection, is_up, is_set_up, owed_by, are_too_many}
 
@@ -297,6 +297,8 @@ opening_of role c local = record {
   tunnel = local;
   window = 8;
   failover = Some (record { flags = 3; time = 30000 });
+  challenge = None;
+  recovery = None;
 }
 
 -- the request for a call of a LAC: its session id is its serial number too
@@ -496,15 +498,24 @@ takes_by role calls r remote window (next, a) t = takes_plain t
 unfoldable pub takes : Role → List (ℕ × Call) → Reason → TunnelEvent → ℕ → ℕ → Turn → Turn
 takes role calls r e remote window t = takes_by role calls r remote window (row_of rows t.control.state e) t
 
--- an SCCRQ or an SCCRP is acceptable where its version is 1.0
+-- what stands against an SCCRQ or an SCCRP, but for the tunnel's state, the first that counts: its version isn't 1.0, it wants to
+-- recover a tunnel, or it has a challenge
+abbrev pub against : Opening → Option Reason
+against o =
+    if not (o.version == 256) then Some other_version
+    else if is_some o.recovery then Some no_recovery
+    else if is_some o.challenge then Some no_secret
+    else None
+
+-- it is acceptable where nothing does
 abbrev pub is_acceptable : Opening → Bool
-is_acceptable o = o.version == 256
+is_acceptable o = is_none (against o)
 
 abbrev pub event_by : TunnelEvent → TunnelEvent → Opening → TunnelEvent
 event_by acceptable not_acceptable o = if is_acceptable o then acceptable else not_acceptable
 
 abbrev pub opening_reason : Opening → Reason
-opening_reason o = if is_acceptable o then out_of_order else other_version
+opening_reason o = unwrap_or (against o) out_of_order
 
 -- ---- calls that end
 

@@ -32,6 +32,8 @@ pub enum Addressee {
     Opens { remote: u16 },
     /// The tunnel to which the peer assigned this id, which it closes.
     Stops { remote: u16 },
+    /// None: an SCCRP that names no tunnel, and tells this id.
+    Answers { remote: u16 },
     /// The tunnel with this local id.
     Main { tunnel: u32 },
     /// None: the message is ignored.

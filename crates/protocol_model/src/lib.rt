@@ -16,7 +16,7 @@ mod tunnel;
 
 pub use event::{Addressee, Event};
 pub use moves::{
-    Accepted, Added, Closed, ClosedBy, Confirmed, Connected, EndHeard, EndSilent, EndTold, FirstUp, FrameSent,
+    Accepted, Added, Closed, ClosedBy, Confirmed, Connected, Declined, EndHeard, EndSilent, EndTold, FirstUp, FrameSent,
     FrameUp, Greeted, LetGo, Move, NrRead, Opened, Place, Refused, Repeated, Replied, Requested,
     SecondUp, TookPlain,
 };

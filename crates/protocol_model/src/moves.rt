@@ -131,6 +131,17 @@ pub struct EndSilent {
     pub session: u16,
 }
 
+/// An SCCRQ, or an SCCRP that names no tunnel, was answered by a StopCCN of none of this end's (RFC 2661 section 7.2.1), with this
+/// result code and error code, to the tunnel id that it told, and with this Nr.
+#[derive(Clone, Copy, Debug, PartialEq, Eq)]
+pub struct Declined {
+    pub peer: u32,
+    pub remote: u16,
+    pub nr: u16,
+    pub result: u16,
+    pub error: Option<u16>,
+}
+
 /// A tunnel was closed with its calls, and the peer was told by a StopCCN with this result code and error code (RFC 2661 section
 /// 4.4.2). `remote` is the peer's tunnel id, 0 where it isn't known.
 #[derive(Clone, Copy, Debug, PartialEq, Eq)]
@@ -219,6 +230,7 @@ pub enum Move {
     EndTold(EndTold),
     EndHeard(EndHeard),
     EndSilent(EndSilent),
+    Declined(Declined),
     Closed(Closed),
     ClosedBy(ClosedBy),
     /// A tunnel was removed with its calls, and its peer wasn't told.

@@ -6,7 +6,7 @@ use wire_base::{Bytes, Cause, Side, Why};
 /// 65536.
 #[derive(Clone, Copy, Debug, PartialEq, Eq)]
 pub struct ControlOrigin {
-    /// The local id of the tunnel that sent it.
+    /// The local id of the tunnel that sent it, 0 where the end sent it for none.
     pub tunnel: u16,
     /// How often that tunnel was recovered before.
     pub epoch: u64,

@@ -3,7 +3,7 @@ use Rattle.std.proofs.Common.{◌≡◌, ◌⊎◌, inl, inr, ⊎_elim, ℕ, ◌
 use Rattle.std.proofs.lemmas.Bool.{eqb-true, eqb-false, true≢false, ltb-false}
 use Rattle.std.proofs.lemmas.Option.{none-some}
 use Rattle.std.specs.Prelude.{◌==◌, nat_lt, unwrap_or}
-use Rattle.id_table.specs.Ids.{at, put, without, ids_of}
+use Rattle.id_table.specs.Ids.{at, put, without, ids_of, at-none}
 use Rattle.id_table.specs.Order.{Ascends, found_put, found_without, same_or_not}
 use Rattle.id_source.specs.Spaces.{draws}
 use Rattle.id_source.specs.declared.IdError.{IdError}
@@ -39,13 +39,14 @@ use Rattle.protocol_model.specs.declared.tunnel.Config.{Config}
 use Rattle.protocol_model.specs.declared.tunnel.Role.{Role}
 use Rattle.protocol_model.specs.declared.tunnel.Role.TheVariants.{Lac, Lns}
 use Rattle.protocol_model.specs.declared.out.Out.TheVariants.{Cause}
-use Rattle.protocol_model.specs.Reading.{header_why, body_of, message_in, CallFault, call_fault_in}
+use Rattle.protocol_model.specs.Reading.{header_why, body_of, message_in, CallFault, call_fault_in, TunnelFault, tunnel_fault_in}
 use Rattle.protocol_model.specs.Calls.{call_row, advanced, rung, asked_for, is_request, is_connection, is_up, are_too_many}
-use Rattle.protocol_model.specs.Turn.{Turn, with_output, with_move, with_change, with_call, with_new, with_local, with_calls, opened, opens_by, opens, accepted, accepts_by, accepts, rings_new, first_said, drops, gives, has_room, settles, takes_one, reads_nr, requested, requests, requests_at, requests_all, adds, rings_over, rings_by, rings_within, rings, may_take, Reason, reason, out_of_state, refused, refuses, of_no_call, end_silent, end_told, ends_by, closes, answers_by, granted, asked_by, fault_reason, has_answer, faulty_at, faulty, in_faulty_call, connected, connects, confirms, takes_plain, ignores, takes_by, takes, replied, replies, first_up, first_up_by, second_up, second_up_by, ends_call, is_clean_up, end_heard, end_heard_by, session_named, ends_named, about_call, in_call, hears, hears_said, hears_letter, is_duplicate, in_tunnel, hears_control, carried, carries, hears_datagram}
+use Rattle.protocol_model.specs.Turn.{Turn, with_output, with_move, with_change, with_call, with_new, with_local, with_calls, opened, opens_by, opens, accepted, accepts_by, accepts, rings_new, first_said, drops, gives, has_room, settles, takes_one, reads_nr, requested, requests, requests_at, requests_all, adds, rings_over, rings_by, rings_within, rings, may_take, Reason, reason, out_of_state, refused, refuses, of_no_call, end_silent, end_told, ends_by, closes, answers_by, granted, asked_by, fault_reason, faulty_at, faulty, in_faulty_call, ends_all, is_closed, event_by, opening_reason, out_of_order, known_or, counts_taken, shut, shuts, closed_told, closes_tunnel, closed_by, shuts_by, connected, connects, confirms, takes_plain, ignores, takes_by, takes, replied, replies, first_up, first_up_by, second_up, second_up_by, ends_call, is_clean_up, end_heard, end_heard_by, session_named, ends_named, about_call, in_call, hears, hears_faulty, hears_said, hears_next, hears_letter, is_duplicate, in_tunnel, hears_control, carried, carries, hears_datagram}
 use Rattle.step_laws.specs.Letters.{Among}
 use Rattle.step_laws.proofs.Lists.{branch, found_among, with_calls-more}
 use Rattle.step_laws.proofs.States.{requested_state, connected_state, up_state}
 use Rattle.step_laws.proofs.Ticking.{settled_keeps, more_full}
+use Rattle.step_laws.proofs.Shutting.{all_ended_is, none_left}
 
 -- ---- which calls wait
 
@@ -64,27 +65,22 @@ unfolding call_row asked_for advanced
 replied_state Lac remote moment k = absurd cc
 replied_state Lns remote moment k = absurd cc
 
--- a tunnel whose SCCRQ isn't answered yet does nothing on such letters that leads to another state
-sccrq_row : (s : TunnelState) → state_number s ≡ 1 → (row_of rows s event.SccrqAcc).1 ≡ action.Nothing → ⊥
-sccrq_row state.Idle h k = absurd (omega (arith, h))
-sccrq_row state.WaitCtlReply h k = absurd cc
-sccrq_row state.WaitCtlConn h k = absurd (omega (arith, h))
-sccrq_row state.Established h k = absurd (omega (arith, h))
-sccrq_row state.Closed h k = absurd (omega (arith, h))
-
-sccrp_row : (s : TunnelState) → state_number s ≡ 1 → (row_of rows s event.SccrpAcc).1 ≡ action.Nothing → ⊥
-sccrp_row state.Idle h k = absurd (omega (arith, h))
-sccrp_row state.WaitCtlReply h k = absurd cc
-sccrp_row state.WaitCtlConn h k = absurd (omega (arith, h))
-sccrp_row state.Established h k = absurd (omega (arith, h))
-sccrp_row state.Closed h k = absurd (omega (arith, h))
-
-scccn_row : (s : TunnelState) → state_number s ≡ 1 → (row_of rows s event.ScccnAcc).1 ≡ action.Nothing → ⊥
-scccn_row state.Idle h k = absurd (omega (arith, h))
-scccn_row state.WaitCtlReply h k = absurd cc
-scccn_row state.WaitCtlConn h k = absurd (omega (arith, h))
-scccn_row state.Established h k = absurd (omega (arith, h))
-scccn_row state.Closed h k = absurd (omega (arith, h))
+-- a tunnel whose SCCRQ isn't answered yet stays so on each event on which it does nothing
+opening_row : (s : TunnelState) → state_number s ≡ 1 → (on : TunnelEvent) → (row_of rows s on).1 ≡ action.Nothing
+    → state_number (row_of rows s on).0 ≡ state_number s
+opening_row state.Idle h on k = absurd (omega (arith, h))
+opening_row state.WaitCtlConn h on k = absurd (omega (arith, h))
+opening_row state.Established h on k = absurd (omega (arith, h))
+opening_row state.Closed h on k = absurd (omega (arith, h))
+opening_row state.WaitCtlReply h event.LocalOpen k = refl
+opening_row state.WaitCtlReply h event.SccrqAcc k = absurd cc
+opening_row state.WaitCtlReply h event.SccrqNotAcc k = absurd cc
+opening_row state.WaitCtlReply h event.SccrpAcc k = absurd cc
+opening_row state.WaitCtlReply h event.SccrpNotAcc k = absurd cc
+opening_row state.WaitCtlReply h event.ScccnAcc k = absurd cc
+opening_row state.WaitCtlReply h event.ScccnNotAcc k = absurd cc
+opening_row state.WaitCtlReply h event.AdminClose k = absurd cc
+opening_row state.WaitCtlReply h event.StopCcnCame k = absurd cc
 
 -- the tunnel is no new one, or it is
 abbrev pub Busy : Turn → Type 0
@@ -260,23 +256,64 @@ module _ (role : Role) (calls : List (ℕ × Call)) where
   unfolding confirms with_move takes_one
   confirms_asked next t was_open b is_open s c there waits = absurd (b.asked was_open s c (at_first t b s c there) waits)
 
-  takes_by_asked : (remote window : ℕ) (next : TunnelState) (a : TunnelAction) (t : Turn) → (IsOpening t → a ≡ action.Nothing → ⊥) → Begins t
-      → Asked (takes_by role calls remote window (next, a) t)
-  unfolding takes_by
-  takes_by_asked remote window next action.SendScccn t goes b = connects_asked remote window next t b
-  takes_by_asked remote window next action.Nothing t goes b =
-      branch Asked (state_number next == state_number t.control.state) _ _ (λ is. plain t b) (λ other. confirms_asked next t (λ opening. goes opening refl) b)
-  takes_by_asked remote window next action.SendSccrq t goes b = ignored why.Ignored t b
-  takes_by_asked remote window next action.SendSccrp t goes b = ignored why.Ignored t b
-  takes_by_asked remote window next action.SendStopCcn t goes b = ignored why.Ignored t b
-  takes_by_asked remote window next action.CleanUp t goes b = ignored why.Ignored t b
+  -- ---- tunnels that close
 
-  takes_asked : (ev : TunnelEvent) (remote window : ℕ) (t : Turn) → (IsOpening t → (row_of rows t.control.state ev).1 ≡ action.Nothing → ⊥) → Begins t
-      → Asked (takes role calls ev remote window t)
+  -- no call is there any more
+  none_there : (u : Turn) → with_calls u.changed calls ≡ [] → Asked u
+  none_there u none is_open s c there waits = absurd (none-some c (sym (at-none s) ∙ subst (λ xs. at xs s ≡ Some c) none there))
+
+  ended_calls : (t : Turn) → t.changed ≡ [] → with_calls (ends_all (ids_of calls) t).changed calls ≡ []
+  ended_calls t none = ap (λ (u : Turn). with_calls u.changed calls) (all_ended_is (ids_of calls) t) ∙ rw none (none_left calls)
+
+  shuts_asked : (r : Reason) (remote : ℕ) (next : TunnelState) (t : Turn) → Begins t → Asked (closes_tunnel r calls remote next t)
+  unfolding closes_tunnel closed_told shuts gives with_output with_move
+  shuts_asked r remote next t b =
+      branch Asked (has_room t.control) _ _
+      (λ may. none_there (closed_told r calls remote next t)
+      (ended_calls (record t { control = shut remote next t.moment t.control; outputs = t.outputs ++ Cause r.cause ∷ [] }) b.none))
+      (λ full. dropped why.Queue t b)
+
+  shut_heard_asked : (next : TunnelState) (t : Turn) → Begins t → Asked (closed_by calls next t)
+  unfolding closed_by shuts with_move takes_one
+  shut_heard_asked next t b =
+      none_there (closed_by calls next t)
+      (ended_calls (record t { control = shut t.control.remote next t.moment (counts_taken t.control); took = true }) b.none)
+
+  pub shuts_by_asked : (letters : List Letter) (next : TunnelState) (a : TunnelAction) (t : Turn) → Begins t
+      → Asked (settles false letters (shuts_by calls (next, a) t))
+  unfolding shuts_by
+  shuts_by_asked letters next a t b = settled false letters (shuts_by calls (next, a) t) (by a)
+    where
+      by : (a : TunnelAction) → Asked (shuts_by calls (next, a) t)
+      by action.SendStopCcn = shuts_asked (reason cause.Operator 1 None) t.control.remote next t b
+      by action.Nothing = same t t refl refl b
+      by action.SendSccrq = same t t refl refl b
+      by action.SendSccrp = same t t refl refl b
+      by action.SendScccn = same t t refl refl b
+      by action.CleanUp = same t t refl refl b
+
+  -- ---- letters by the tunnel's table
+
+  takes_by_asked : (r : Reason) (remote window : ℕ) (next : TunnelState) (a : TunnelAction) (t : Turn)
+      → (IsOpening t → a ≡ action.Nothing → state_number next ≡ state_number t.control.state) → Begins t
+      → Asked (takes_by role calls r remote window (next, a) t)
+  unfolding takes_by
+  takes_by_asked r remote window next action.SendScccn t stays b = connects_asked remote window next t b
+  takes_by_asked r remote window next action.Nothing t stays b =
+      branch Asked (state_number next == state_number t.control.state) _ _
+      (λ is. plain t b)
+      (λ other. confirms_asked next t (λ opening. eqb-false (state_number next) (state_number t.control.state) other (stays opening refl)) b)
+  takes_by_asked r remote window next action.SendSccrq t stays b = plain t b
+  takes_by_asked r remote window next action.SendSccrp t stays b = plain t b
+  takes_by_asked r remote window next action.SendStopCcn t stays b =
+      shuts_asked r (known_or remote t.control) next (takes_plain t) (plain_begins t b)
+  takes_by_asked r remote window next action.CleanUp t stays b = shut_heard_asked next t b
+
+  takes_asked : (r : Reason) (ev : TunnelEvent) (remote window : ℕ) (t : Turn) → Begins t → Asked (takes role calls r ev remote window t)
   unfolding takes
-  takes_asked ev remote window t goes b =
+  takes_asked r ev remote window t b =
       let row = row_of rows t.control.state ev in
-      takes_by_asked remote window row.0 row.1 t goes b
+      takes_by_asked r remote window row.0 row.1 t (λ opening. opening_row t.control.state opening ev) b
 
   -- ---- letters about a call
 
@@ -440,9 +477,8 @@ module _ (role : Role) (calls : List (ℕ × Call)) where
     faulty_asked : (session : ℕ) (k : Kind) (c : CauseOf) (told : Option ℕ) (t : Turn) → Begins t → Asked (faulty role calls session k c told t)
     unfolding faulty
     faulty_asked session kind.Icrq c told t b =
-        branch Asked (has_answer c told) _ _ (λ answered. faulty_at_asked (fault_reason c) session _ _ _ (at calls session) t b) (λ no. ignored why.Avp t b)
-    faulty_asked session kind.Ocrq c told t b =
-        branch Asked (has_answer c told) _ _ (λ answered. refuses_asked (fault_reason c) _ t b) (λ no. ignored why.Avp t b)
+        faulty_at_asked (fault_reason c) session (unwrap_or told 0) call_event.IcrqNotAcc call_action.SendCdn (at calls session) t b
+    faulty_asked session kind.Ocrq c told t b = refuses_asked (fault_reason c) (unwrap_or told 0) t b
     faulty_asked session kind.Icrp c told t b = faulty_at_asked (fault_reason c) session _ _ _ (at calls session) t b
     faulty_asked session kind.Iccn c told t b = faulty_at_asked (fault_reason c) session 0 _ _ (at calls session) t b
     faulty_asked session kind.Cdn c told t b =
@@ -458,21 +494,20 @@ module _ (role : Role) (calls : List (ℕ × Call)) where
     faulty_asked session kind.Ocrp c told t b = faulty_at_asked (fault_reason c) session 0 call_event.Close call_action.Nothing (at calls session) t b
     faulty_asked session kind.Occn c told t b = faulty_at_asked (fault_reason c) session 0 call_event.Close call_action.Nothing (at calls session) t b
 
-    in_faulty_asked : (session : ℕ) (f : Option CallFault) (w : Why) (t : Turn) → Begins t → Asked (in_faulty_call role calls session f w t)
+    in_faulty_asked : (session : ℕ) (f : CallFault) (t : Turn) → Begins t → Asked (in_faulty_call role calls session f t)
     unfolding in_faulty_call
-    in_faulty_asked session None w t b = ignored w t b
-    in_faulty_asked session (Some f) w t b =
+    in_faulty_asked session f t b =
         branch Asked (state_number t.control.state == 3) _ _ (λ is. faulty_asked session f.kind f.cause f.session t b) (λ other. ignored why.Session t b)
 
     -- ---- control messages
 
     hears_asked : (session : ℕ) (m : Message) (t : Turn) → Begins t → Asked (hears role calls session m t)
     unfolding hears
-    hears_asked session (Sccrq o) t b = takes_asked event.SccrqAcc 0 o.window t (λ opening. sccrq_row t.control.state opening) b
-    hears_asked session (Sccrp o) t b = takes_asked event.SccrpAcc o.tunnel o.window t (λ opening. sccrp_row t.control.state opening) b
-    hears_asked session Scccn t b = takes_asked event.ScccnAcc 0 0 t (λ opening. scccn_row t.control.state opening) b
+    hears_asked session (Sccrq o) t b = takes_asked (opening_reason o) (event_by event.SccrqAcc event.SccrqNotAcc o) 0 o.window t b
+    hears_asked session (Sccrp o) t b = takes_asked (opening_reason o) (event_by event.SccrpAcc event.SccrpNotAcc o) o.tunnel o.window t b
+    hears_asked session Scccn t b = takes_asked out_of_order event.ScccnAcc 0 0 t b
     hears_asked session Hello t b = plain t b
-    hears_asked session (StopCcn tunnel code error) t b = ignored why.Ignored t b
+    hears_asked session (StopCcn tunnel code error) t b = takes_asked out_of_order event.StopCcnCame 0 0 t b
     hears_asked session (Ocrq remote) t b = in_call_asked session (Ocrq remote) t b
     hears_asked session Ocrp t b = plain t b
     hears_asked session Occn t b = plain t b
@@ -483,16 +518,31 @@ module _ (role : Role) (calls : List (ℕ × Call)) where
     hears_asked session (Icrp remote) t b = in_call_asked session (Icrp remote) t b
     hears_asked session (Iccn speed framing sequenced) t b = in_call_asked session (Iccn speed framing sequenced) t b
 
-    said_asked : (session : ℕ) (f : Option CallFault) (r : Result Message Why) (t : Turn) → Begins t → Asked (hears_said role calls session f r t)
+    faults_asked : (session : ℕ) (f : Option CallFault) (g : Option TunnelFault) (w : Why) (t : Turn) → Begins t
+        → Asked (hears_faulty role calls session f g w t)
+    unfolding hears_faulty
+    faults_asked session (Some f) g w t b = in_faulty_asked session f t b
+    faults_asked session None (Some g) w t b = takes_asked (fault_reason g.cause) g.event g.remote 0 t b
+    faults_asked session None None w t b = ignored w t b
+
+    said_asked : (session : ℕ) (f : Option CallFault) (g : Option TunnelFault) (r : Result Message Why) (t : Turn) → Begins t
+        → Asked (hears_said role calls session f g r t)
     unfolding hears_said
-    said_asked session f (Err w) t b = in_faulty_asked session f w t b
-    said_asked session f (Ok m) t b = hears_asked session m t b
+    said_asked session f g (Err w) t b = faults_asked session f g w t b
+    said_asked session f g (Ok m) t b = hears_asked session m t b
+
+    next_asked : (session : ℕ) (body : List ℕ) (t : Turn) → Begins t → Asked (hears_next role calls session body t)
+    unfolding hears_next
+    next_asked session body t b =
+        branch Asked (is_closed t.control.state) _ _
+        (λ closed. plain t b)
+        (λ live. said_asked session (call_fault_in body) (tunnel_fault_in body) (message_in body) t b)
 
     letter_asked : (session : ℕ) (body : List ℕ) (c : Option Class) (t : Turn) → Begins t → Asked (hears_letter role calls session body c t)
     unfolding hears_letter
     letter_asked session body (Some Next) t b =
         branch Asked (may_take t.control calls) _ _
-        (λ may. said_asked session (call_fault_in body) (message_in body) t b)
+        (λ may. next_asked session body t b)
         (λ full. dropped why.Queue t b)
     letter_asked session body (Some (Ahead by)) t b = dropped why.Ahead t b
     letter_asked session body (Some Duplicate) t b = same t t refl refl b

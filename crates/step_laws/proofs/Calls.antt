@@ -110,7 +110,7 @@ module _ (e : End) (moment : ℕ) (ev : Event) (letters : List Letter) (calls : 
 
   -- there is room always
   full_not : (t : Turn) → Taking e moment ev letters calls i t → has_room t.control ≡ false → ⊥
-  full_not t f full = is_roomy e moment ev letters calls i t f.fresh.good full
+  full_not t f full = is_roomy e moment ev letters calls i t f.live f.fresh.good full
 
   -- a call that there is does what its table says
   pub answers_ok : (r : Reason) (s : ℕ) (c : Call) (on : CallEvent) (t : Turn) → Taking e moment ev letters calls i t → at calls s ≡ Some c
@@ -199,7 +199,7 @@ module _ (e : End) (moment : ℕ) (ev : Event) (letters : List Letter) (calls : 
     asked_by_ok (Ok s) is (Some c) found =
         answers_ok out_of_state session c call_event.IcrqAcc t f found (asks_plain c found)
         (IsAsked remote serial calling (heard_in ev t.control _ session (Icrq remote serial calling) refl refl refl hears) (inl (refl, refl, refl)))
-        (λ told. (
+        (λ told. inl (
           begun e moment ev letters calls i t f.fresh,
           AskedAgain remote serial session calling came (told_at e moment ev letters calls i t f.fresh session c call_event.IcrqAcc found told)
               (grantable s is),
@@ -219,10 +219,10 @@ module _ (e : End) (moment : ℕ) (ev : Event) (letters : List Letter) (calls : 
       let none = no_call e moment ev letters calls i t f.fresh session is in
       none_ok out_of_state remote (call_row e.role call.Idle call_event.IcrpAcc).1 t f
       (comes_at e moment ev letters calls i t session (Icrp remote) (λ o d found. absurd (none d found)) hears)
-      (λ told. refuses_ok out_of_state (
+      (λ told. refuses_ok out_of_state (inl (
         begun e moment ev letters calls i t f.fresh,
         RepliedInVain remote session (came_at e moment ev letters calls i t f.fresh is_open session (Icrp remote) hears) (inl (is, told_of_reply e.role told)),
-      ) remote t f is_open (next_of_heard ev t.control session (Icrp remote) hears) (λ m to result error.
+      )) remote t f is_open (next_of_heard ev t.control session (Icrp remote) hears) (λ m to result error.
       IsReplyToNone remote hears.hears.said
       (ap (λ q. at (with_calls t.changed calls) q) hears.hears.session_is ∙ at_first e moment ev letters calls i t f.fresh session None is)
       (told_of_reply e.role told) to result error))
@@ -235,7 +235,7 @@ module _ (e : End) (moment : ℕ) (ev : Event) (letters : List Letter) (calls : 
       (comes_at e moment ev letters calls i t session (Icrp remote)
       (λ o. that_call e moment ev letters calls i (λ (k : Call). is_connection (call_row e.role k.state call_event.IcrpAcc).1 ≡ false) t f.fresh session c is none) hears)
       (IsReplied remote (heard_in ev t.control _ session (Icrp remote) refl refl refl hears) refl refl refl)
-      (λ told. (
+      (λ told. inl (
         begun e moment ev letters calls i t f.fresh,
         RepliedInVain remote session (came_at e moment ev letters calls i t f.fresh is_open session (Icrp remote) hears)
             (inr (told_at e moment ev letters calls i t f.fresh session c call_event.IcrpAcc is told)),
@@ -258,7 +258,7 @@ module _ (e : End) (moment : ℕ) (ev : Event) (letters : List Letter) (calls : 
       (comes_at e moment ev letters calls i t session (Iccn speed framing sequenced)
       (λ o. that_call e moment ev letters calls i (λ (k : Call). is_up (call_row e.role k.state call_event.IccnAcc).0 ≡ false) t f.fresh session c is none) hears)
       (IsConnected speed framing sequenced (heard_in ev t.control _ session (Iccn speed framing sequenced) refl refl refl hears) refl refl refl)
-      (λ told. (
+      (λ told. inl (
         begun e moment ev letters calls i t f.fresh,
         ConnectedInVain speed framing session sequenced (came_at e moment ev letters calls i t f.fresh is_open session (Iccn speed framing sequenced) hears)
             (told_at e moment ev letters calls i t f.fresh session c call_event.IccnAcc is told),

@@ -22,7 +22,7 @@ use Rattle.protocol_model.specs.End.{End, placed}
 use Rattle.step_laws.specs.Causes.{Stands}
 use Rattle.step_laws.specs.Moves.{WhyEnds}
 use Rattle.step_laws.proofs.Lists.{all_push, branch, with_calls-more, with_looks-more, chain_more}
-use Rattle.step_laws.proofs.Owing.{has_room_for, MayTell, fits_without, fits_told}
+use Rattle.step_laws.proofs.Owing.{live_with, holds_live, has_room_for, MayTell, fits_without, fits_told}
 use Rattle.step_laws.proofs.Turns.{NoFrame, given_held, fits_changed, at_turn, there, one_given, Others}
 use Rattle.step_laws.proofs.Settling.{GoesOn, Settled, outs_on}
 
@@ -185,7 +185,8 @@ module _ (e : End) (moment : ℕ) (ev : Event) (letters : List Letter) (calls : 
   ends_leave for s c on result error t found why small may call_action.SendCdn is h =
       branch (Leaves s t) (has_room t.control) _ _
       (λ room. told_leaves for s c on result error t found why (ap is_told is) small (may (ap is_told is)).0 room (may (ap is_told is)).1 h)
-      (λ full. absurd (true≢false (sym (has_room_for t.control (now t) (h.fits.0, h.fits.1, h.fits.2)) ∙ full)))
+      (λ full. absurd (true≢false (sym (has_room_for t.control (now t)
+      (holds_live t.control (now t) (live_with t.control (now t) s c found h.fits) h.fits)) ∙ full)))
   ends_leave for s c on result error t found why small may call_action.Nothing is h = leaves_all s t h
   ends_leave for s c on result error t found why small may call_action.SendIcrq is h = leaves_all s t h
   ends_leave for s c on result error t found why small may call_action.SendIcrp is h = leaves_all s t h

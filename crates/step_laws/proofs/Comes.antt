@@ -1,5 +1,5 @@
 -- A letter that comes, in a turn that changed nothing yet.
-use Rattle.std.proofs.Common.{◌≡◌, inl, inr, ⊎_elim, ℕ, true, List, [], ◌∷◌, length, refl, sym, ap, ◌∙◌, subst, Option, Some, None, Ok, arith}
+use Rattle.std.proofs.Common.{◌≡◌, inl, inr, ⊎_elim, ℕ, true, false, List, [], ◌∷◌, length, refl, sym, ap, ◌∙◌, subst, Option, Some, None, Ok, arith}
 use Rattle.std.proofs.lemmas.Option.{none-some}
 use Rattle.id_table.specs.Ids.{at}
 use Rattle.wire_base.specs.declared.letter.Letter.{Letter}
@@ -13,9 +13,10 @@ use Rattle.call_fsm.specs.declared.table.CallEvent.{CallEvent}
 use Rattle.protocol_model.specs.declared.tunnel.Call.{Call}
 use Rattle.protocol_model.specs.declared.tunnel.Control.{Control}
 use Rattle.protocol_model.specs.declared.event.Event.{Event}
+use Rattle.protocol_model.specs.declared.event.Addressee.TheVariants.{Stops}
 use Rattle.protocol_model.specs.Reading.{body_of, message_read, pairs_read, message_in}
 use Rattle.protocol_model.specs.Calls.{call_row, is_told}
-use Rattle.protocol_model.specs.Turn.{Tunnel, Turn, may_take, tunnel_after, with_calls}
+use Rattle.protocol_model.specs.Turn.{Tunnel, Turn, is_closed, may_take, tunnel_after, with_calls}
 use Rattle.protocol_model.specs.End.{End}
 use Rattle.step_laws.specs.Causes.{IsTold, Came}
 use Rattle.step_laws.specs.Moves.{IsFor, HearsNext, ComesNext, IsPlain, InTunnel}
@@ -54,7 +55,10 @@ comes ev x u session m plain h = record {
 pub for_still : (h : Header) (bytes : List ℕ) (c d : Control) → d.local ≡ c.local → d.remote ≡ c.remote → IsFor h bytes c → IsFor h bytes d
 for_still h bytes c d local remote to = ⊎_elim
     (λ named. inl (named ∙ sym local))
-    (λ again. inr (record { none = again.none; opening = again.opening; said = again.said; known = remote ∙ again.known }))
+    (λ unnamed. inr (⊎_elim
+    (λ again. inl (record { none = again.none; opening = again.opening; said = again.said; known = remote ∙ again.known }))
+    (λ stop. inr (record { none = stop.none; stops = stop.stops ∙ ap Stops (sym remote) }))
+    unnamed))
     to
 
 -- what is heard is in the tunnel, also as it goes on
@@ -92,9 +96,10 @@ module _ (e : End) (moment : ℕ) (ev : Event) (letters : List Letter) (calls : 
     pub state : first.state ≡ t.control.state
     pub sessions : t.sessions ≡ e.session_ids
 
-  -- and may take a letter
+  -- and, of a tunnel that isn't closed, may take a letter
   pub record Taking (t : Turn) : Type 0 where
     pub fresh : Fresh t
+    pub live : is_closed t.control.state ≡ false
     pub may : may_take t.control calls ≡ true
 
   abbrev pub Plain : Turn → ℕ → Message → Type 0

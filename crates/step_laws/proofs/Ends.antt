@@ -1,5 +1,5 @@
 -- A turn of a tunnel is a chain of moves of its end.
-use Rattle.std.proofs.Common.{◌≡◌, ◌⊎◌, inl, inr, ⊎_elim, ℕ, ◌≤◌, true, false, List, [], refl, sym, ap, ◌∙◌, subst, Option, Some, None, Result, Ok, Err, arith, rules}
+use Rattle.std.proofs.Common.{◌≡◌, ◌⊎◌, inl, inr, ⊎_elim, ℕ, ◌≤◌, Bool, true, false, List, [], refl, sym, ap, ◌∙◌, subst, Option, Some, None, Result, Ok, Err, arith, rules}
 use Rattle.std.proofs.lemmas.Bool.{eqb-true, eq-eqb, ltb-true, true≢false}
 use Rattle.std.proofs.lemmas.List.{append-nil}
 use Rattle.std.specs.Prelude.{◌==◌, nat_lt}
@@ -13,8 +13,12 @@ use Rattle.wire_base.specs.declared.why.Why.TheVariants as why
 use Rattle.wire_base.specs.declared.cause.Cause.{Cause}
 use Rattle.wire_base.specs.declared.cause.Cause.TheVariants as cause
 use Rattle.wire_base.specs.declared.letter.Letter.{Letter}
+use Rattle.tunnel_fsm.specs.declared.table.TunnelState.{TunnelState}
 use Rattle.tunnel_fsm.specs.declared.table.TunnelState.TheVariants.{WaitCtlConn}
-use Rattle.tunnel_fsm.specs.Rows.{state_number}
+use Rattle.tunnel_fsm.specs.declared.table.TunnelState.TheVariants as state
+use Rattle.tunnel_fsm.specs.declared.table.TunnelEvent.TheVariants as event
+use Rattle.tunnel_fsm.specs.declared.table.TunnelAction.{TunnelAction}
+use Rattle.tunnel_fsm.specs.Rows.{rows, row_of, state_number}
 use Rattle.call_fsm.specs.declared.table.CallEvent.{CallEvent}
 use Rattle.call_fsm.specs.declared.table.CallEvent.TheVariants as call_event
 use Rattle.l2tp_header.specs.declared.header.Header.{Header}
@@ -26,19 +30,19 @@ use Rattle.protocol_model.specs.declared.tunnel.Call.{Call}
 use Rattle.protocol_model.specs.declared.tunnel.Control.{Control}
 use Rattle.protocol_model.specs.declared.tunnel.Role.TheVariants.{Lac}
 use Rattle.protocol_model.specs.declared.event.Event.{Event}
-use Rattle.protocol_model.specs.declared.event.Event.TheVariants.{Datagram, Ring, Payload, Lower, Hang, OpenTunnel, DropCall}
+use Rattle.protocol_model.specs.declared.event.Event.TheVariants.{Datagram, Ring, Payload, Lower, Hang, OpenTunnel, DropCall, CloseTunnel}
 use Rattle.protocol_model.specs.declared.out.Out.{Out}
 use Rattle.protocol_model.specs.declared.out.Out.TheVariants.{Send, Up, Gone, Drop, Cause as Refused}
 use Rattle.protocol_model.specs.declared.moves.Move.{Move}
 use Rattle.protocol_model.specs.declared.moves.Move.TheVariants as move
 use Rattle.protocol_model.specs.Reading.{body_of, message_in}
 use Rattle.protocol_model.specs.Calls.{call_row, is_up, is_told, owes}
-use Rattle.protocol_model.specs.Turn.{Tunnel, Env, Turn, turn_of, with_output, with_move, with_calls, closes, with_local, letter_of, opening_of, letters_after, has_room, learns_window, gives, takes_one, drops, lets_all_go, acknowledged_after, settles, fresh, opened, opens_by, opens, accepted, accepts_by, accepts, adds, rings_new, rings, first_said, hears_control, hears_datagram, carried, carries, turns, tunnel_after}
+use Rattle.protocol_model.specs.Turn.{Tunnel, Env, Turn, turn_of, reason, is_closed, shuts_by, closes_tunnel, with_output, with_move, with_calls, closes, with_local, letter_of, opening_of, letters_after, has_room, learns_window, gives, takes_one, drops, lets_all_go, acknowledged_after, settles, fresh, opened, opens_by, opens, accepted, accepts_by, accepts, adds, rings_new, rings, first_said, hears_control, hears_datagram, carried, carries, turns, tunnel_after}
 use Rattle.protocol_model.specs.End.{End, Stepped, env_of, gives_only, placed, with_looks, after_turn, after_new, has_all_tunnels}
 use Rattle.step_laws.specs.Room.{IsChosen, RingsNew}
 use Rattle.step_laws.specs.Causes.{IsTold, ForNew, ForOpening, Stands}
 use Rattle.step_laws.specs.Letters.{AFrame, HasOutput}
-use Rattle.step_laws.specs.Moves.{IsAgain, IsFor, Hears, Chain, begun, WhyEnds, IsDropped, IsHungUp}
+use Rattle.step_laws.specs.Moves.{IsAgain, IsStop, IsFor, Hears, Chain, begun, WhyEnds, IsDropped, IsHungUp, ByOperator}
 use Rattle.step_laws.specs.Steps.{IsKept, AreKept, IsOfMoves, IsChain}
 use Rattle.step_laws.proofs.Lists.{all_map, branch, ascends_placed, ascends_looks}
 use Rattle.step_laws.proofs.Owing.{Fits, closed_owes, dropped_owes, fits_given, owes_told}
@@ -47,6 +51,8 @@ use Rattle.step_laws.proofs.Turns.{IsWord, NoFrame, Stays, Held, held_given, hel
 use Rattle.step_laws.proofs.Settling.{OutOk, Settled, unsent, settled_ok, settles_ok}
 use Rattle.step_laws.proofs.Comes.{Fresh}
 use Rattle.step_laws.proofs.Closing.{ends_leave}
+use Rattle.step_laws.proofs.Shutting.{told_shut_ok}
+use Rattle.step_laws.proofs.Stopping.{row_shut, row_shut_closed}
 use Rattle.step_laws.proofs.Hearing.{hears_control_ok, rings_ok}
 
 pub no_frame_out : (outs : List Out) (m : Move) → NoFrame m → HasOutput outs m
@@ -64,6 +70,8 @@ no_frame_out outs (move.Refused m) h = tt
 no_frame_out outs (move.EndTold m) h = tt
 no_frame_out outs (move.EndHeard m) h = tt
 no_frame_out outs (move.EndSilent m) h = tt
+no_frame_out outs (move.Closed m) h = tt
+no_frame_out outs (move.ClosedBy m) h = tt
 no_frame_out outs (move.Cleared i) h = tt
 no_frame_out outs (move.Greeted m) h = tt
 no_frame_out outs (move.Repeated m) h = tt
@@ -87,6 +95,10 @@ ok_is x i t is ms (Up session side frame) h = absurd h
 ok_is x i t is ms (Gone session) h = tt
 ok_is x i t is ms (Drop w) h = tt
 ok_is x i t is ms (Refused c) h = tt
+
+-- a message that names the tunnel with an id, or names none and is for it
+abbrev pub IsTo : Header → List ℕ → ℕ → Control → Type 0
+IsTo h bytes i c = (h.tunnel ≡ i) ⊎ (IsAgain h bytes c ⊎ IsStop h bytes c)
 
 -- a step that leads there, and what it tells is so
 pub record IsStep (e : End) (moment : ℕ) (ev : Event) (s : Stepped) : Type 0 where
@@ -141,6 +153,8 @@ module _ (e : End) (kept : AreKept e) (moment : ℕ) (ev : Event) where
             outstanding = held.1;
             calls_few = fits.1;
             few = fits.2;
+            most = fits.4;
+            shut = fits.5;
             owed = fits.3;
             acked = held.2;
           }))
@@ -202,7 +216,7 @@ module _ (e : End) (kept : AreKept e) (moment : ℕ) (ev : Event) where
       held_first = rw (append-nil t.letters) (k.letters, k.outstanding, k.acked)
 
       fits_first : Fits t.control t.calls
-      fits_first = (k.calls, k.calls_few, k.few, k.owed)
+      fits_first = (k.calls, k.calls_few, k.few, k.owed, k.most, k.shut)
 
       pub begins : Fresh e moment ev t.letters t.calls i start
       unfolding with_calls with_looks placed
@@ -238,12 +252,12 @@ module _ (e : End) (kept : AreKept e) (moment : ℕ) (ev : Event) where
           settled_leads _
           (unsent e moment ev t.letters t.calls i _ (drops_ok e moment ev t.letters t.calls i w (λ q. absurd (other q)) start begins.good))
 
-      -- the message names the tunnel, or comes again to it
-      is_for : (h : Header) (bytes : List ℕ) → (h.tunnel ≡ i) ⊎ IsAgain h bytes t.control → IsFor h bytes t.control
-      is_for h bytes to = ⊎_elim (λ named. inl (named ∙ sym k.local)) (λ again. inr again) to
+      -- the message names the tunnel, or names none and is for it
+      is_for : (h : Header) (bytes : List ℕ) → IsTo h bytes i t.control → IsFor h bytes t.control
+      is_for h bytes to = ⊎_elim (λ named. inl (named ∙ sym k.local)) (λ unnamed. inr unnamed) to
 
       pub heard_chain : (bytes : List ℕ) (h : Header) → header_of bytes ≡ Ok h → h.control ≡ true → ev ≡ Datagram t.control.peer bytes
-          → (h.tunnel ≡ i) ⊎ IsAgain h bytes t.control → leads (turns e.role e.config t.letters t.calls (Datagram t.control.peer bytes) start)
+          → IsTo h bytes i t.control → leads (turns e.role e.config t.letters t.calls (Datagram t.control.peer bytes) start)
       unfolding turns hears_datagram begins
       heard_chain bytes h read control same to =
           subst (λ r. leads (hears_datagram e.role e.config t.letters t.calls bytes r start)) (sym read)
@@ -273,7 +287,7 @@ module _ (e : End) (kept : AreKept e) (moment : ℕ) (ev : Event) where
           (λ small. settled_leads _ (settled_ok e moment ev t.letters t.calls i false _
           (ends_leave e moment ev t.letters t.calls i for s c on result None start found (so c) (ltb-true s 65536 small)
           (λ told. (
-            owes_told t.control t.calls s c (owed c told) fits_first,
+            owes_told t.control t.calls s c found (owed c told) fits_first,
             stands (record { id = i; there = is; call = c; live = found; row = told }),
           )) (call_row e.role c.state on).1 refl
           (unsent e moment ev t.letters t.calls i start begins.good)).ok))
@@ -289,7 +303,28 @@ module _ (e : End) (kept : AreKept e) (moment : ℕ) (ev : Event) where
       unfolding turns
       closes_chain s comes =
           closed_chain cause.Operator call_event.Close 3 s (λ c. IsDropped comes refl refl refl) (λ c told. closed_owes e.role c.state told)
-          (λ told. (s, t, comes, told)) (at t.calls s) refl
+          (λ told. inl (s, t, comes, told)) (at t.calls s) refl
+
+      -- the tunnel is closed by its table, unless it is already
+      shut_start : ev ≡ CloseTunnel i → is_closed t.control.state ≡ false
+          → Settled e moment ev t.letters t.calls i (closes_tunnel (reason cause.Operator 1 None) t.calls t.control.remote state.Closed start)
+      shut_start comes live =
+          let row = row_shut t.control.state event.AdminClose k.busy live tt in
+          unsent e moment ev t.letters t.calls i _ (told_shut_ok e moment ev t.letters t.calls i (reason cause.Operator 1 None)
+          (inr (i, t, comes, is, record { id = i; there = is; row = row })) event.AdminClose t.control.remote start refl live row
+          (λ m to remote result error. ByOperator (comes ∙ ap CloseTunnel (sym (to ∙ k.local))) refl remote result error) begins.good)
+
+      abbrev Shut : TunnelState × TunnelAction → Type 0
+      Shut row = Settled e moment ev t.letters t.calls i (shuts_by t.calls row start)
+
+      pub shut_chain : ev ≡ CloseTunnel i → leads (turns e.role e.config t.letters t.calls (CloseTunnel i) start)
+      unfolding turns shuts_by
+      shut_chain comes = settled_leads _ (settled_ok e moment ev t.letters t.calls i false _ (by (is_closed t.control.state) refl))
+        where
+          by : (b : Bool) → is_closed t.control.state ≡ b → Shut (row_of rows t.control.state event.AdminClose)
+          by false live = subst Shut (sym (row_shut t.control.state event.AdminClose k.busy live tt)) (shut_start comes live)
+          by true closed =
+              subst Shut (sym (row_shut_closed t.control.state closed)) (unsent e moment ev t.letters t.calls i start begins.good)
 
       -- a frame leaves the tunnel as it was
       carried_chain : (s : ℕ) (frame : List ℕ) (c : Call) → at t.calls s ≡ Some c → is_up c.state ≡ true
@@ -386,7 +421,7 @@ module _ (e : End) (kept : AreKept e) (moment : ℕ) (ev : Event) where
         frames = (tt, tt);
         stays = (refl, (λ z. absurd (omega (arith, z))), kept.sessions, next_after e.tunnel_ids kept.first, refl, refl);
         held = (refl, omega arith, omega arith);
-        fits = (ascends-empty [] refl, omega arith, omega arith, λ o. omega arith);
+        fits = (ascends-empty [] refl, omega arith, (λ live. omega arith), (λ o. omega arith), omega arith, (λ closed. refl));
       }
 
       pub opens_chain : e.role ≡ Lac → peer ≡ e.config.lns → ev ≡ OpenTunnel → has_all_tunnels e.tunnels ≡ false → leads_new (turns e.role e.config [] [] OpenTunnel blank)
@@ -460,7 +495,7 @@ module _ (e : End) (kept : AreKept e) (moment : ℕ) (ev : Event) where
             (held_learnt window c [] (refl, omega arith, omega arith));
         fits = let c = begun 0 peer remote WaitCtlConn moment in
             let none = learnt_queued window c in
-            fits_given (learns_window window c) [] (ascends-empty [] refl) (omega arith) (omega (arith, none));
+            fits_given (learns_window window c) [] (ap is_closed (learnt_state window c)) (ascends-empty [] refl) (omega arith) (omega (arith, none));
       }
 
       accepts_chain : (session : ℕ) (o : Opening) → Hears ev peer session (Sccrq o) → Alone o.tunnel

@@ -20,7 +20,7 @@ use Rattle.protocol_model.specs.declared.tunnel.Role.TheVariants.{Lac, Lns}
 use Rattle.protocol_model.specs.declared.event.Event.{Event}
 use Rattle.protocol_model.specs.Reading.{body_of, message_in, CallFault, call_fault_in}
 use Rattle.protocol_model.specs.Calls.{call_row}
-use Rattle.protocol_model.specs.Turn.{Turn, fault_reason, takes_plain, takes_one, with_move, ignores, refuses, session_named, faulty_at, has_answer, faulty, in_faulty_call}
+use Rattle.protocol_model.specs.Turn.{Turn, fault_reason, takes_plain, takes_one, with_move, ignores, refuses, session_named, faulty_at, faulty, in_faulty_call}
 use Rattle.protocol_model.specs.End.{End}
 use Rattle.step_laws.specs.Causes.{CameFaulty, Stands}
 use Rattle.step_laws.specs.Moves.{ComesNext, HasFault, IsWrong, fault_event}
@@ -45,13 +45,13 @@ module _ (e : End) (moment : ℕ) (ev : Event) (letters : List Letter) (calls : 
   module _ (t : Turn) (f : Taking e moment ev letters calls i t) (next : ComesNext ev t.control) (w : Why)
       (unread : message_in (body_of next.header next.bytes) ≡ Err w) where
     -- it is no message
-    unread_plain : PlainAt e moment ev letters calls i t
+    pub unread_plain : PlainAt e moment ev letters calls i t
     unread_plain = record {
       comes = next;
       why = λ m reads. let both : Err w ≡ Ok m = sym unread ∙ reads in absurd cc;
     }
 
-    pub passed_over : (v : Why) → (v ≡ why.Queue → ⊥) → Good (ignores v t)
+    passed_over : (v : Why) → (v ≡ why.Queue → ⊥) → Good (ignores v t)
     passed_over v other = unsent e moment ev letters calls i _ (ignores_ok e moment ev letters calls i v (λ q. absurd (other q)) t unread_plain f.fresh.good)
 
     module _ (is_open : state_number t.control.state ≡ 3) (k : CallFault) (has : call_fault_in (body_of next.header next.bytes) ≡ Some k) where
@@ -115,12 +115,9 @@ module _ (e : End) (moment : ℕ) (ev : Event) (letters : List Letter) (calls : 
       faulty_ok : (q : Kind) → k.kind ≡ q → Good (faulty e.role calls next.header.session q k.cause k.session t)
       unfolding faulty
       faulty_ok kind.Icrq is =
-          branch Good (has_answer k.cause k.session) _ _
-          (λ answered. faulty_at_ok next.header.session (unwrap_or k.session 0) call_event.IcrqNotAcc call_action.SendCdn (ap fault_event (sym is))
-          (λ told. refuses_fault (unwrap_or k.session 0) refl) (at calls next.header.session) refl)
-          (λ no. passed_over why.Avp (λ q. absurd cc))
-      faulty_ok kind.Ocrq is =
-          branch Good (has_answer k.cause k.session) _ _ (λ answered. refuses_fault (unwrap_or k.session 0) refl) (λ no. passed_over why.Avp (λ q. absurd cc))
+          faulty_at_ok next.header.session (unwrap_or k.session 0) call_event.IcrqNotAcc call_action.SendCdn (ap fault_event (sym is))
+          (λ told. refuses_fault (unwrap_or k.session 0) refl) (at calls next.header.session) refl
+      faulty_ok kind.Ocrq is = refuses_fault (unwrap_or k.session 0) refl
       faulty_ok kind.Icrp is =
           faulty_at_ok next.header.session (unwrap_or k.session 0) call_event.IcrpNotAcc (call_row e.role call.Idle call_event.IcrpNotAcc).1
           (ap fault_event (sym is)) (λ told. refuses_fault (unwrap_or k.session 0) refl) (at calls next.header.session) refl
@@ -141,11 +138,14 @@ module _ (e : End) (moment : ℕ) (ev : Event) (letters : List Letter) (calls : 
       faulty_ok kind.Ocrp is = closed_ok (ap fault_event (sym is))
       faulty_ok kind.Occn is = closed_ok (ap fault_event (sym is))
 
-    pub in_faulty_call_ok : (o : Option CallFault) → call_fault_in (body_of next.header next.bytes) ≡ o
-        → Good (in_faulty_call e.role calls next.header.session o w t)
+    -- one of an unknown type that need not be understood
+    pub unknown_ok : Good (ignores w t)
+    unknown_ok = passed_over w (body_other (body_of next.header next.bytes) w unread)
+
+    pub in_faulty_call_ok : (k : CallFault) → call_fault_in (body_of next.header next.bytes) ≡ Some k
+        → Good (in_faulty_call e.role calls next.header.session k t)
     unfolding in_faulty_call
-    in_faulty_call_ok None has = passed_over w (body_other (body_of next.header next.bytes) w unread)
-    in_faulty_call_ok (Some k) has =
+    in_faulty_call_ok k has =
         branch Good (state_number t.control.state == 3) _ _
         (λ is. faulty_ok (eqb-true (state_number t.control.state) 3 is) k has k.kind refl)
         (λ closed. passed_over why.Session (λ q. absurd cc))

@@ -1,6 +1,6 @@
 -- What a tunnel hears is a chain of moves.
-use Rattle.std.proofs.Common.{◌≡◌, ◌⊎◌, inl, ⊎_elim, ℕ, true, false, cond, List, [], length, refl, sym, ap, ◌∙◌, subst, Option, Some, Result, Ok, Err, arith}
-use Rattle.std.proofs.lemmas.Bool.{eqb-true, eqb-false}
+use Rattle.std.proofs.Common.{◌≡◌, ◌⊎◌, inl, ⊎_elim, ℕ, Bool, true, false, cond, List, [], length, refl, sym, ap, ◌∙◌, subst, Option, Some, Result, Ok, Err, arith}
+use Rattle.std.proofs.lemmas.Bool.{eqb-true, eqb-false, true≢false}
 use Rattle.std.specs.Prelude.{◌==◌, unwrap_or}
 use Rattle.id_table.specs.Order.{Ascends}
 use Rattle.id_source.specs.Spaces.{draws}
@@ -21,25 +21,28 @@ use Rattle.control_channel.specs.Numbers.{class_told}
 use Rattle.tunnel_fsm.specs.declared.table.TunnelState.{TunnelState}
 use Rattle.tunnel_fsm.specs.declared.table.TunnelState.TheVariants as state
 use Rattle.tunnel_fsm.specs.declared.table.TunnelEvent.TheVariants as event
+use Rattle.tunnel_fsm.specs.declared.table.TunnelAction.{TunnelAction}
+use Rattle.tunnel_fsm.specs.declared.table.TunnelAction.TheVariants as action
 use Rattle.tunnel_fsm.specs.Rows.{rows, row_of, state_number}
 use Rattle.protocol_model.specs.declared.tunnel.Call.{Call}
 use Rattle.protocol_model.specs.declared.tunnel.Config.{Config}
 use Rattle.protocol_model.specs.declared.tunnel.Role.TheVariants.{Lac}
 use Rattle.protocol_model.specs.declared.event.Event.{Event}
 use Rattle.protocol_model.specs.declared.event.Event.TheVariants.{Datagram, Ring}
-use Rattle.protocol_model.specs.Reading.{body_of, message_in, call_fault_in}
+use Rattle.protocol_model.specs.Reading.{body_of, message_in, call_fault_in, tunnel_fault_in}
 use Rattle.protocol_model.specs.Calls.{are_too_many}
-use Rattle.protocol_model.specs.Turn.{Turn, with_move, with_calls, gives, takes_one, has_room, may_take, counts_acked, reads_nr, connected, connects, takes_by, takes, takes_plain, ignores, confirms, hears, hears_said, hears_letter, is_duplicate, in_tunnel, hears_control, rings_over, rings_by, rings_within, rings}
+use Rattle.protocol_model.specs.Turn.{Turn, is_closed, is_acceptable, event_by, opening_reason, out_of_order, tunnel_after, with_move, with_calls, gives, takes_one, has_room, may_take, counts_acked, reads_nr, connected, connects, takes_by, takes, takes_plain, confirms, hears, hears_said, hears_next, hears_letter, is_duplicate, in_tunnel, hears_control, rings_over, rings_by, rings_within, rings}
 use Rattle.protocol_model.specs.End.{End}
 use Rattle.step_laws.specs.Room.{IsFull, IsChosen, RingsOver}
 use Rattle.step_laws.specs.Causes.{ForRing}
 use Rattle.step_laws.specs.Moves.{IsFor, HearsNext, ComesNext, TellsNr}
 use Rattle.step_laws.proofs.Lists.{branch}
-use Rattle.step_laws.proofs.Turns.{small_draw, TurnOk, is_roomy, same_first, learnt_state, drops_ok, caused_ok, requests_all_ok, adds_ok, adds_asked_ok, connected_ok, confirms_ok, ignores_ok, reads_ok}
+use Rattle.step_laws.proofs.Owing.{live_in, live_open}
+use Rattle.step_laws.proofs.Turns.{small_draw, TurnOk, at_turn, is_roomy, same_first, learnt_state, drops_ok, caused_ok, requests_all_ok, adds_ok, adds_asked_ok, connected_ok, confirms_ok, plain_ok, reads_ok}
 use Rattle.step_laws.proofs.Settling.{Settled, unsent, settled_ok}
 use Rattle.step_laws.proofs.Comes.{Fresh, Taking, Plain, for_still, in_other, comes_at, begun, calls_first, spare_first}
 use Rattle.step_laws.proofs.Calls.{plainly, in_call_ok}
-use Rattle.step_laws.proofs.Faulty.{in_faulty_call_ok}
+use Rattle.step_laws.proofs.Stopping.{busy, sccrq_ok, sccrp_shut_ok, scccn_shut_ok, stop_ok, faulty_heard_ok, closed_plain}
 
 module _ (e : End) (moment : ℕ) (ev : Event) (letters : List Letter) (calls : List (ℕ × Call)) (i : ℕ) where
   abbrev Good : Turn → Type 0
@@ -65,45 +68,35 @@ module _ (e : End) (moment : ℕ) (ev : Event) (letters : List Letter) (calls : 
         sent_none _
         (requests_all_ok e moment ev letters calls i calls sorted u (ap state_number learnt) (same_first e moment ev letters calls i u f.fresh.changed calls)
         (connected_ok e moment ev letters calls i o.tunnel o.window session o t is hears refl refl (spare_first e moment ev letters calls i t f) room f.fresh.good)))
-        (λ full. absurd (is_roomy e moment ev letters calls i t f.fresh.good full))
+        (λ full. absurd (is_roomy e moment ev letters calls i t f.live f.fresh.good full))
 
     plain_at : (session : ℕ) (m : Message) (t : Turn) → Takes t → Plain e moment ev letters calls i t session m → HearsNext ev t.control session m
         → Good (takes_plain t)
     plain_at session m t f plain hears = plainly e moment ev letters calls i t f (comes_at e moment ev letters calls i t session m plain hears)
 
-    ignored : (session : ℕ) (m : Message) (t : Turn) → Takes t → Plain e moment ev letters calls i t session m → HearsNext ev t.control session m
-        → Good (ignores why.Ignored t)
-    ignored session m t f plain hears =
-        sent_none _ (ignores_ok e moment ev letters calls i why.Ignored (λ q. absurd cc) t (comes_at e moment ev letters calls i t session m plain hears) f.fresh.good)
+    abbrev HeardSccrp : Opening → Turn → Type 0
+    HeardSccrp o t =
+        Good (takes_by e.role calls (opening_reason o) o.tunnel o.window (row_of rows t.control.state (event_by event.SccrpAcc event.SccrpNotAcc o)) t)
 
-    -- a letter that a closed tunnel takes
-    closed_ok : (session : ℕ) (m : Message) (t : Turn) → Takes t → t.control.state ≡ state.Closed → Plain e moment ev letters calls i t session m
-        → HearsNext ev t.control session m
-        → Good (cond (state_number state.Closed == state_number t.control.state) (takes_plain t) (confirms state.Closed t))
-    closed_ok session m t f is plain hears =
-        subst (λ (s : TunnelState). Good (cond (state_number state.Closed == state_number s) (takes_plain t) (confirms state.Closed t))) (sym is)
-        (plain_at session m t f plain hears)
-
-    sccrq_ok : (session : ℕ) (o : Opening) (t : Turn) → Takes t → HearsNext ev t.control session (Sccrq o) → (s : TunnelState) → t.control.state ≡ s
-        → Good (takes_by e.role calls 0 o.window (row_of rows s event.SccrqAcc) t)
+    -- one that is acceptable connects a tunnel that waits for it; another tunnel is closed
+    sccrp_ok : (session : ℕ) (o : Opening) (t : Turn) → Takes t → HearsNext ev t.control session (Sccrp o) → HeardSccrp o t
     unfolding takes_by
-    sccrq_ok session o t f hears state.Idle is = ignored session (Sccrq o) t f tt hears
-    sccrq_ok session o t f hears state.WaitCtlReply is = ignored session (Sccrq o) t f tt hears
-    sccrq_ok session o t f hears state.WaitCtlConn is = ignored session (Sccrq o) t f tt hears
-    sccrq_ok session o t f hears state.Established is = ignored session (Sccrq o) t f tt hears
-    sccrq_ok session o t f hears state.Closed is = closed_ok session (Sccrq o) t f is tt hears
+    sccrp_ok session o t f hears = by t.control.state (is_acceptable o) refl refl
+      where
+        shut : (state_number t.control.state ≡ 1 → is_acceptable o ≡ false) → HeardSccrp o t
+        shut plain = sccrp_shut_ok e moment ev letters calls i session o t f plain hears
 
-    sccrp_ok : (session : ℕ) (o : Opening) (t : Turn) → Takes t → HearsNext ev t.control session (Sccrp o) → (s : TunnelState) → t.control.state ≡ s
-        → Good (takes_by e.role calls o.tunnel o.window (row_of rows s event.SccrpAcc) t)
-    unfolding takes_by
-    sccrp_ok session o t f hears state.Idle is =
-        ignored session (Sccrp o) t f (in_other t state.Idle 1 is (λ w. omega (arith, w))) hears
-    sccrp_ok session o t f hears state.WaitCtlReply is = connects_ok session o t f is hears
-    sccrp_ok session o t f hears state.WaitCtlConn is =
-        ignored session (Sccrp o) t f (in_other t state.WaitCtlConn 1 is (λ w. omega (arith, w))) hears
-    sccrp_ok session o t f hears state.Established is =
-        ignored session (Sccrp o) t f (in_other t state.Established 1 is (λ w. omega (arith, w))) hears
-    sccrp_ok session o t f hears state.Closed is = closed_ok session (Sccrp o) t f is (in_other t state.Closed 1 is (λ w. omega (arith, w))) hears
+        by : (s : TunnelState) (b : Bool) → t.control.state ≡ s → is_acceptable o ≡ b → HeardSccrp o t
+        by s false is bad = shut (λ waits. bad)
+        by state.WaitCtlReply true is good =
+            let row : row_of rows t.control.state (event_by event.SccrpAcc event.SccrpNotAcc o) ≡ (state.Established, action.SendScccn) =
+            rw (is, good) refl in
+            subst (λ (x : TunnelState × TunnelAction). Good (takes_by e.role calls (opening_reason o) o.tunnel o.window x t)) (sym row)
+            (connects_ok session o t f is hears)
+        by state.Idle true is good = absurd (busy e moment ev letters calls i t f (ap state_number is))
+        by state.WaitCtlConn true is good = shut (λ waits. absurd (in_other t state.WaitCtlConn 1 is (λ w. omega (arith, w)) waits))
+        by state.Established true is good = shut (λ waits. absurd (in_other t state.Established 1 is (λ w. omega (arith, w)) waits))
+        by state.Closed true is good = absurd (true≢false (sym (ap is_closed is) ∙ f.live))
 
     confirmed_ok : (session : ℕ) (t : Turn) → Takes t → t.control.state ≡ state.WaitCtlConn → HearsNext ev t.control session Scccn
         → Good (cond (state_number state.Established == state_number t.control.state) (takes_plain t) (confirms state.Established t))
@@ -111,24 +104,33 @@ module _ (e : End) (moment : ℕ) (ev : Event) (letters : List Letter) (calls : 
         subst (λ (s : TunnelState). Good (cond (state_number state.Established == state_number s) (takes_plain t) (confirms state.Established t))) (sym is)
         (sent_none _ (confirms_ok e moment ev letters calls i session t is hears (spare_first e moment ev letters calls i t f) f.fresh.good))
 
-    scccn_ok : (session : ℕ) (t : Turn) → Takes t → HearsNext ev t.control session Scccn → (s : TunnelState) → t.control.state ≡ s
-        → Good (takes_by e.role calls 0 0 (row_of rows s event.ScccnAcc) t)
+    abbrev HeardScccn : Turn → TunnelState → Type 0
+    HeardScccn t s = Good (takes_by e.role calls out_of_order 0 0 (row_of rows s event.ScccnAcc) t)
+
+    -- an SCCCN confirms a tunnel that waits for it, and another tunnel is closed
+    scccn_ok : (session : ℕ) (t : Turn) → Takes t → HearsNext ev t.control session Scccn → HeardScccn t t.control.state
     unfolding takes_by
-    scccn_ok session t f hears state.Idle is = ignored session Scccn t f (in_other t state.Idle 2 is (λ w. omega (arith, w))) hears
-    scccn_ok session t f hears state.WaitCtlReply is = ignored session Scccn t f (in_other t state.WaitCtlReply 2 is (λ w. omega (arith, w))) hears
-    scccn_ok session t f hears state.WaitCtlConn is = confirmed_ok session t f is hears
-    scccn_ok session t f hears state.Established is = ignored session Scccn t f (in_other t state.Established 2 is (λ w. omega (arith, w))) hears
-    scccn_ok session t f hears state.Closed is = closed_ok session Scccn t f is (in_other t state.Closed 2 is (λ w. omega (arith, w))) hears
+    scccn_ok session t f hears = by t.control.state refl
+      where
+        shut : (state_number t.control.state ≡ 2 → ⊥) → HeardScccn t t.control.state
+        shut other = scccn_shut_ok e moment ev letters calls i session t f other hears
+
+        by : (s : TunnelState) → t.control.state ≡ s → HeardScccn t t.control.state
+        by state.WaitCtlConn is = subst (HeardScccn t) (sym is) (confirmed_ok session t f is hears)
+        by state.Idle is = absurd (busy e moment ev letters calls i t f (ap state_number is))
+        by state.WaitCtlReply is = shut (in_other t state.WaitCtlReply 2 is (λ w. omega (arith, w)))
+        by state.Established is = shut (in_other t state.Established 2 is (λ w. omega (arith, w)))
+        by state.Closed is = absurd (true≢false (sym (ap is_closed is) ∙ f.live))
 
     -- ---- what is heard
 
     hears_ok : (session : ℕ) (m : Message) (t : Turn) → Takes t → HearsNext ev t.control session m → Good (hears e.role calls session m t)
     unfolding hears takes
-    hears_ok session (Sccrq o) t f h = sccrq_ok session o t f h t.control.state refl
-    hears_ok session (Sccrp o) t f h = sccrp_ok session o t f h t.control.state refl
-    hears_ok session Scccn t f h = scccn_ok session t f h t.control.state refl
+    hears_ok session (Sccrq o) t f h = sccrq_ok e moment ev letters calls i session o t f h
+    hears_ok session (Sccrp o) t f h = sccrp_ok session o t f h
+    hears_ok session Scccn t f h = scccn_ok session t f h
     hears_ok session Hello t f h = plain_at session Hello t f tt h
-    hears_ok session (StopCcn tunnel code error) t f h = ignored session (StopCcn tunnel code error) t f tt h
+    hears_ok session (StopCcn tunnel code error) t f h = stop_ok e moment ev letters calls i session tunnel code error t f h
     hears_ok session (Cdn remote code error) t f h = in_call_ok e moment ev letters calls i session (Cdn remote code error) t f tt h
     hears_ok session (Icrq remote serial calling) t f h = in_call_ok e moment ev letters calls i session (Icrq remote serial calling) t f tt h
     hears_ok session (Icrp remote) t f h = in_call_ok e moment ev letters calls i session (Icrp remote) t f tt h
@@ -141,11 +143,26 @@ module _ (e : End) (moment : ℕ) (ev : Event) (letters : List Letter) (calls : 
 
     hears_said_ok : (r : Result Message Why) (t : Turn) → Takes t → (next : ComesNext ev t.control) → message_in (body_of next.header next.bytes) ≡ r
         → ((m : Message) → r ≡ Ok m → HearsNext ev t.control next.header.session m)
-        → Good (hears_said e.role calls next.header.session (call_fault_in (body_of next.header next.bytes)) r t)
+        → Good (hears_said e.role calls next.header.session (call_fault_in (body_of next.header next.bytes))
+        (tunnel_fault_in (body_of next.header next.bytes)) r t)
     unfolding hears_said
     hears_said_ok (Err w) t f next is said =
-        in_faulty_call_ok e moment ev letters calls i t f next w is (call_fault_in (body_of next.header next.bytes)) refl
+        faulty_heard_ok e moment ev letters calls i t f next w is (call_fault_in (body_of next.header next.bytes)) refl
+        (tunnel_fault_in (body_of next.header next.bytes)) refl
     hears_said_ok (Ok m) t f next is said = hears_ok next.header.session m t f (said m refl)
+
+    -- a closed tunnel takes what comes, and does nothing
+    hears_next_ok : (t : Turn) → Fresh e moment ev letters calls i t → may_take t.control calls ≡ true → (next : ComesNext ev t.control)
+        → ((m : Message) → message_in (body_of next.header next.bytes) ≡ Ok m → HearsNext ev t.control next.header.session m)
+        → Good (hears_next e.role calls next.header.session (body_of next.header next.bytes) t)
+    unfolding hears_next
+    hears_next_ok t f may next said =
+        branch Good (is_closed t.control.state) _ _
+        (λ closed. sent_none _ (plain_ok e moment ev letters calls i t (record {
+          comes = next;
+          why = λ m reads. closed_plain (at_turn e moment ev letters calls i t) (tunnel_after t letters calls) next.header.session m closed;
+        }) f.good))
+        (λ live. hears_said_ok (message_in (body_of next.header next.bytes)) t (record { fresh = f; live = live; may = may }) next refl said)
 
     -- a control message of the tunnel's peer, for the tunnel
     module _ (bytes : List ℕ) (h : Header) (read : header_of bytes ≡ Ok h) (control : h.control ≡ true) where
@@ -162,9 +179,8 @@ module _ (e : End) (moment : ℕ) (ev : Event) (letters : List Letter) (calls : 
       letter_ok t f no_room is to some (Ahead by) class = sent_none _ (drops_ok e moment ev letters calls i why.Ahead (λ q. absurd cc) t f.good)
       letter_ok t f no_room is to some Next class =
           branch Good (may_take t.control calls) _ _
-          (λ may. hears_said_ok (message_in (body_of h bytes)) t (record { fresh = f; may = may })
+          (λ may. hears_next_ok t f may
           (record { bytes = bytes; is = is; header = h; read = read; control = control; some = some; tunnel = to; next = class })
-          refl
           (λ m said. record {
             hears = record { bytes = bytes; is = is; header = h; read = read; control = control; session_is = refl; said = said };
             tunnel = to;
@@ -240,6 +256,9 @@ module _ (e : End) (moment : ℕ) (ev : Event) (letters : List Letter) (calls : 
     abbrev pub Goes : Turn → Type 0
     Goes t = (state_number t.control.state ≡ 3) ⊎ (state_number t.control.state ≡ 1)
 
+    goes_live : (t : Turn) → Goes t → is_closed t.control.state ≡ false
+    goes_live t goes = ⊎_elim (λ is. live_open t.control is) (λ waits. live_in t.control 1 (λ f. omega (arith, f)) waits) goes
+
     rings_over_ok : (port s : ℕ) (t : Turn) → Takes t → are_too_many calls ≡ false → Goes t → ev ≡ Ring port → e.role ≡ Lac → draws t.sessions ≡ Ok s
         → TurnOk e moment ev letters calls i (rings_over e.role port s t)
     unfolding rings_over
@@ -268,7 +287,8 @@ module _ (e : End) (moment : ℕ) (ev : Event) (letters : List Letter) (calls : 
       rings_by_ok few may goes lac (Err x) is =
           caused_ok e moment ev letters calls i cause.Ids
           (ForRing (begun e moment ev letters calls i t f) x rings_there few (ap (λ c. may_take c calls) same ∙ may) (ap draws (sym f.sessions) ∙ is)) t f.good
-      rings_by_ok few may goes lac (Ok s) is = rings_over_ok port s t (record { fresh = f; may = may }) few goes rings_is lac is
+      rings_by_ok few may goes lac (Ok s) is =
+          rings_over_ok port s t (record { fresh = f; live = goes_live t goes; may = may }) few goes rings_is lac is
 
       pub rings_ok : (cfg : Config) → Goes t → e.role ≡ Lac → Rung (rings e.role cfg calls port t)
       unfolding rings rings_within

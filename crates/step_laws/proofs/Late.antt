@@ -20,7 +20,7 @@ use Rattle.step_laws.specs.Left.{CanBe, LateCallsEnd}
 use Rattle.step_laws.specs.Steps.{IsKept, AreKept, StepsAreChains}
 use Rattle.step_laws.proofs.Lists.{found_among}
 use Rattle.step_laws.proofs.States.{never}
-use Rattle.step_laws.proofs.Owing.{has_room_for}
+use Rattle.step_laws.proofs.Owing.{Fits, live_with, holds_live, has_room_for}
 use Rattle.step_laws.proofs.Sound.{role_stays, stays_sound}
 use Rattle.step_laws.proofs.Patience.{IsDue, Ticks, ticks_ok}
 
@@ -122,9 +122,11 @@ ends_row Lns call.WaitReply can h = absurd can
 ends_row Lns call.WaitConnect can h = inr refl
 ends_row r call.Established can h = never h
 
--- there is room in each tunnel that is kept
-pub roomy : (i : ℕ) (t : Tunnel) → IsKept i t → has_room t.control ≡ true
-roomy i t k = has_room_for t.control t.calls (k.calls, k.calls_few, k.few)
+-- there is room in each tunnel that is kept and has a call
+pub roomy : (i : ℕ) (t : Tunnel) → IsKept i t → (s : ℕ) (c : Call) → at t.calls s ≡ Some c → has_room t.control ≡ true
+roomy i t k s c live =
+    let fits : Fits t.control t.calls = (k.calls, k.calls_few, k.few, k.owed, k.most, k.shut) in
+    has_room_for t.control t.calls (holds_live t.control t.calls (live_with t.control t.calls s c live fits) fits)
 
 module _ (e : End) (kept : AreKept e) (moment : ℕ) (block : List ℕ) where
   -- no call of a tunnel is late where there is room
@@ -146,4 +148,5 @@ late_calls_end chains e kept sound moment block i t there s c live set_up over =
     let call : (s < 65536) × CanBe x.role c.state = stays_sound chains e kept moment block Tick sound i t there s c live in
     let can : CanBe e.role c.state = subst (λ r. CanBe r c.state) (role_stays chains e kept moment block Tick) call.1 in
     let due : IsDue e.role moment s c = record { small = call.0; set_up = set_up; over = over; ends = ends_row e.role c.state can set_up } in
-    true≢false (sym (roomy i t ((chains e kept moment block Tick).kept.tunnels i t there)) ∙ none_is_due e kept moment block i t there s c live due)
+    true≢false (sym (roomy i t ((chains e kept moment block Tick).kept.tunnels i t there) s c live)
+    ∙ none_is_due e kept moment block i t there s c live due)

@@ -2,12 +2,16 @@ mod Lists
 mod States
 mod Owing
 mod Tells
+mod Faults
+mod Zero
 mod Turns
 mod Settling
 mod Comes
+mod Shutting
 mod Closing
 mod Calls
 mod Faulty
+mod Stopping
 mod Hearing
 mod Ticking
 mod Ends

@@ -277,6 +277,37 @@ module _ (x : End) (ok : LooksAreTrue x) where
       sessions = λ q p f. ok.sessions q p (left_place q p f (at t.calls q) refl).1;
     }
 
+  -- a tunnel is closed with its calls
+  module _ (order : AreOrdered x) (i : ℕ) (t : Tunnel) (there : at x.tunnels i ≡ Some t) (c : Control) (ls : List Letter) where
+    abbrev bare : Tunnel
+    bare = record { control = c; letters = ls; calls = [] }
+
+    abbrev closed : End
+    closed = record x { tunnels = put x.tunnels i bare; calls = with_looks (map cell.Kill (ids_of t.calls)) x.calls }
+
+    live_open : (q : ℕ) (p : CallPlace) → (at t.calls q ≡ None) × (at x.calls q ≡ Some p) → IsLive closed p.tunnel q
+    live_open q p f =
+        let l = ok.live q p f.1 in
+        ⊎_elim
+        (λ (a : p.tunnel ≡ i). (let same = same_tunnel p.tunnel i l.tunnel t a l.there there in
+        absurd (none-some l.call (sym f.0 ∙ rw (← same) l.live))))
+        (λ b. record { tunnel = l.tunnel; there = at_other x.tunnels i bare p.tunnel b ∙ l.there; call = l.call; live = l.live })
+        (same_or_not p.tunnel i)
+
+    tunnel_shut : LooksAreTrue closed
+    tunnel_shut = record {
+      live = λ q p f. live_open q p (left_place order i t there q p f (at t.calls q) refl);
+      seen = λ j v f q d g. ⊎_elim
+          (λ (a : (j ≡ i) × (bare ≡ v)). absurd (let none : at [] q ≡ Some d = rw (← a.1) at g in none-some d (sym (at-none q) ∙ none)))
+          (λ a. seen_left order i t there j v a q d g (at t.calls q) refl)
+          (found_put x.tunnels i bare j v f);
+      tunnels = λ j v f. ⊎_elim
+          (λ (a : (j ≡ i) × (bare ≡ v)). rw a.0 (ok.tunnels i t there))
+          (λ a. ok.tunnels j v a.1)
+          (found_put x.tunnels i bare j v f);
+      sessions = λ q p f. ok.sessions q p (left_place order i t there q p f (at t.calls q) refl).1;
+    }
+
   stays : (y : End) → y ≡ x → LooksAreTrue y
   stays y same = subst LooksAreTrue (sym same) ok
 
@@ -398,6 +429,8 @@ module _ (x : End) (ok : LooksAreTrue x) where
         ids = ap (λ (e : End). e.tunnel_ids) h.after;
         drawn = ap (λ (e : End). e.session_ids) h.after;
       })
+  does_looks order moment ev (move.Closed m) y h = subst LooksAreTrue (sym h.after) (tunnel_shut order m.tunnel h.tunnel h.there _ _)
+  does_looks order moment ev (move.ClosedBy m) y h = subst LooksAreTrue (sym h.after) (tunnel_shut order m.tunnel h.tunnel h.there _ _)
   does_looks order moment ev (move.Cleared i) y h = subst LooksAreTrue (sym h.after) (tunnel_gone order i h.tunnel h.there)
   does_looks order moment ev (move.Greeted m) y h = subst LooksAreTrue (sym h.after) (calls_stay m.tunnel h.tunnel _ _ h.there refl)
   does_looks order moment ev (move.Refused m) y h = subst LooksAreTrue (sym h.after) (calls_stay m.tunnel h.tunnel _ _ h.there refl)
@@ -469,6 +502,12 @@ module _ (x : End) (ok : AreOrdered x) where
   does_order moment ev (move.EndSilent m) y h =
       tunnel_put y m.tunnel _ (ascends-without m.session h.tunnel.calls (ok.calls m.tunnel h.tunnel h.there)) (ap (λ (e : End). e.tunnels) h.after)
       (subst (λ (e : End). Ascends e.calls) (sym h.after) (ascends_look (cell.Kill m.session) x.calls ok.places))
+  does_order moment ev (move.Closed m) y h =
+      tunnel_put y m.tunnel _ (ascends-empty [] refl) (ap (λ (e : End). e.tunnels) h.after)
+      (subst (λ (e : End). Ascends e.calls) (sym h.after) (ascends_looks (map cell.Kill (ids_of h.tunnel.calls)) x.calls ok.places))
+  does_order moment ev (move.ClosedBy m) y h =
+      tunnel_put y m.tunnel _ (ascends-empty [] refl) (ap (λ (e : End). e.tunnels) h.after)
+      (subst (λ (e : End). Ascends e.calls) (sym h.after) (ascends_looks (map cell.Kill (ids_of h.tunnel.calls)) x.calls ok.places))
   does_order moment ev (move.Cleared i) y h =
       subst AreOrdered (sym h.after) (record {
         tunnels = ascends-without i x.tunnels ok.tunnels;

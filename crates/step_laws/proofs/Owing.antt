@@ -1,11 +1,13 @@
 -- Room for the letters that a tunnel holds and for those that its calls owe.
-use Rattle.std.proofs.Common.{◌≡◌, ℕ, ◌+◌, ◌≤◌, ◌<◌, true, false, List, length, sym, ap, ◌∙◌, Some, arith}
-use Rattle.std.proofs.lemmas.Bool.{leb-true, leb-false, lt-ltb}
+use Rattle.std.proofs.Common.{◌≡◌, ℕ, ◌+◌, ◌≤◌, ◌<◌, Bool, true, false, List, [], length, refl, sym, ap, ◌∙◌, Some, arith}
+use Rattle.std.proofs.lemmas.Bool.{eqb-true, leb-true, leb-false, lt-ltb, ltb-true, true≢false}
+use Rattle.std.proofs.lemmas.Option.{none-some}
 use Rattle.std.specs.Prelude.{◌==◌}
-use Rattle.id_table.specs.Ids.{at, put, without}
-use Rattle.id_table.specs.Order.{Ascends, ascends-put, ascends-without}
+use Rattle.id_table.specs.Ids.{at, put, without, at-none}
+use Rattle.id_table.specs.Order.{Ascends, ascends-empty, ascends-put, ascends-without}
 use Rattle.send_window.specs.Kept.{Window}
 use Rattle.send_window.specs.Window as sending
+use Rattle.tunnel_fsm.specs.declared.table.TunnelState.TheVariants as state
 use Rattle.tunnel_fsm.specs.Rows.{state_number}
 use Rattle.call_fsm.specs.declared.table.CallState.{CallState}
 use Rattle.call_fsm.specs.declared.table.CallState.TheVariants.{Idle, WaitTunnel, WaitReply, WaitConnect, Established}
@@ -16,19 +18,51 @@ use Rattle.protocol_model.specs.declared.tunnel.Role.{Role}
 use Rattle.protocol_model.specs.declared.tunnel.Role.TheVariants.{Lac, Lns}
 use Rattle.protocol_model.specs.Owing.{owed_at, owed-put, owed-put-most, owed-without, length-put, length-put-most, length-without}
 use Rattle.protocol_model.specs.Calls.{call_row, rung, asked_for, is_request, is_reply, is_connection, is_up, is_told, is_set_up, owes, owed_by, are_too_many}
-use Rattle.protocol_model.specs.Turn.{has_room, may_take, counts_given, counts_acked, learns_window}
+use Rattle.protocol_model.specs.Turn.{has_room, may_take, counts_given, counts_acked, learns_window, is_closed, shut}
 use Rattle.step_laws.proofs.States.{never, requested_state, replied_state, rung_state, connected_state, up_state}
 use Rattle.step_laws.proofs.Lists.{branch}
 
--- the calls ascend, 4,096 of them at most; the letters that are held and those that the calls owe are fewer than 8,192; and an
--- open tunnel that holds none has room for one more
+-- the calls ascend, 4,096 of them at most; the letters that are held and those that the calls owe are fewer than 8,192, as long as
+-- the tunnel isn't closed; an open tunnel that holds none has room for one more; and a closed one has no calls
 abbrev pub Fits : Control → List (ℕ × Call) → Type 0
 Fits c calls =
-    Ascends calls × (length calls ≤ 4096) × (c.channel.window.queued + owed_by calls ≤ 8191) × (state_number c.state ≡ 3 → owed_by calls ≤ 8190)
+    Ascends calls × (length calls ≤ 4096) × (is_closed c.state ≡ false → c.channel.window.queued + owed_by calls ≤ 8191)
+    × (state_number c.state ≡ 3 → owed_by calls ≤ 8190) × (c.channel.window.queued ≤ 8192) × (is_closed c.state ≡ true → calls ≡ [])
 
--- the same, but for the open tunnel
+-- the same of one that is neither open nor closed
 abbrev pub Holds : Control → List (ℕ × Call) → Type 0
 Holds c calls = Ascends calls × (length calls ≤ 4096) × (c.channel.window.queued + owed_by calls ≤ 8191)
+
+-- ---- tunnels that aren't closed
+
+-- as one in a state with another number isn't
+pub live_in : (c : Control) (n : ℕ) → (n ≡ 4 → ⊥) → state_number c.state ≡ n → is_closed c.state ≡ false
+live_in c n other is = rw is (not_four n other)
+  where
+    not_four : (n : ℕ) → (n ≡ 4 → ⊥) → (n == 4) ≡ false
+    not_four n other = by (n == 4) refl
+      where
+        by : (b : Bool) → (n == 4) ≡ b → b ≡ false
+        by true four = absurd (other (eqb-true n 4 four))
+        by false four = refl
+
+-- an open one
+pub live_open : (c : Control) → state_number c.state ≡ 3 → is_closed c.state ≡ false
+live_open c is = live_in c 3 (λ f. omega (arith, f)) is
+
+-- nor is one that has a call
+pub live_with : (c : Control) (calls : List (ℕ × Call)) (s : ℕ) (k : Call) → at calls s ≡ Some k → Fits c calls → is_closed c.state ≡ false
+live_with c calls s k found h = by (is_closed c.state) refl
+  where
+    by : (b : Bool) → is_closed c.state ≡ b → b ≡ false
+    by true closed = absurd (none-some k (sym (at-none s) ∙ (ap (λ xs. at xs s) (sym (h.5 closed)) ∙ found)))
+    by false closed = refl
+
+pub holds_live : (c : Control) (calls : List (ℕ × Call)) → is_closed c.state ≡ false → Fits c calls → Holds c calls
+holds_live c calls live h = (h.0, h.1, h.2 live)
+
+pub holds_open : (c : Control) (calls : List (ℕ × Call)) → state_number c.state ≡ 3 → Fits c calls → Holds c calls
+holds_open c calls is h = holds_live c calls (live_open c is) h
 
 -- ---- what a test of room says
 
@@ -101,30 +135,59 @@ dropped_owes Lns Established h = never h
 
 -- ---- what fits still fits
 
+-- of a tunnel that isn't closed
+pub fits_live : (c : Control) (calls : List (ℕ × Call)) → is_closed c.state ≡ false → Holds c calls
+    → (state_number c.state ≡ 3 → owed_by calls ≤ 8190) → Fits c calls
+fits_live c calls live h owed =
+    (h.0, h.1, (λ l. h.2), owed, (let few = h.2 in omega (arith, few)), (λ closed. absurd (true≢false (sym closed ∙ live))))
+
 -- once a letter is given there is no tunnel that holds none
-pub fits_given : (c : Control) (calls : List (ℕ × Call)) → Ascends calls → length calls ≤ 4096 → c.channel.window.queued + 1 + owed_by calls ≤ 8191
+pub fits_given : (c : Control) (calls : List (ℕ × Call)) → is_closed c.state ≡ false → Ascends calls → length calls ≤ 4096
+    → c.channel.window.queued + 1 + owed_by calls ≤ 8191
     → Fits (counts_given c) calls
-fits_given c calls sorted many few = (sorted, many, omega (arith, few), λ o. omega (arith, few))
+fits_given c calls live sorted many few = fits_live (counts_given c) calls live (sorted, many, omega (arith, few)) (λ o. omega (arith, few))
 
 -- where it may take, there is room for four more
-pub fits_spare : (c : Control) (calls : List (ℕ × Call)) → Fits c calls → may_take c calls ≡ true → Fits (counts_given c) calls
-fits_spare c calls h may = let spare = spare_most c calls may in fits_given c calls h.0 h.1 (omega (arith, spare))
+pub fits_spare : (c : Control) (calls : List (ℕ × Call)) → is_closed c.state ≡ false → Fits c calls → may_take c calls ≡ true
+    → Fits (counts_given c) calls
+fits_spare c calls live h may = let spare = spare_most c calls may in fits_given c calls live h.0 h.1 (omega (arith, spare))
+
+-- a closed tunnel has no calls, and may have as many letters as a channel holds
+fits_closed : (c : Control) → is_closed c.state ≡ true → c.channel.window.queued ≤ 8192 → Fits c []
+fits_closed c closed most = (
+  ascends-empty [] refl,
+  omega arith,
+  (λ live. absurd (true≢false (sym closed ∙ live))),
+  (λ o. absurd (true≢false (sym closed ∙ live_open c o))),
+  most,
+  (λ also. refl),
+)
+
+-- one that closes
+pub fits_shut : (c : Control) (remote moment : ℕ) (calls : List (ℕ × Call)) → Fits c calls → Fits (shut remote state.Closed moment c) []
+fits_shut c remote moment calls h = fits_closed (shut remote state.Closed moment c) refl h.4
+
+-- and gives its last letter, for which there is room
+pub fits_last : (c : Control) (remote moment : ℕ) → has_room c ≡ true → Fits (counts_given (shut remote state.Closed moment c)) []
+fits_last c remote moment room =
+    fits_closed (counts_given (shut remote state.Closed moment c)) refl (let few = ltb-true c.channel.window.queued 8192 room in omega (arith, few))
 
 -- letters are acknowledged
 pub fits_acked : (c : Control) (nr moment : ℕ) (calls : List (ℕ × Call)) → Fits c calls → Fits (counts_acked nr moment c) calls
 fits_acked c nr moment calls h =
     branch (λ (w : Window). Fits (record c { channel = record c.channel { window = w } }) calls) (sending.count_acked c.channel.window nr == 0) _ _
     (λ none. h)
-    (λ some. let few = h.2 in (h.0, h.1, omega (arith, few), h.3))
+    (λ some. (h.0, h.1, (λ live. let few = h.2 live in omega (arith, few)), h.3, (let most = h.4 in omega (arith, most)), h.5))
 
 pub fits_learnt : (window : ℕ) (c : Control) (calls : List (ℕ × Call)) → Fits c calls → Fits (learns_window window c) calls
 fits_learnt window c calls h = branch (λ (d : Control). Fits d calls) (window == 0) _ _ (λ none. h) (λ some. h)
 
 -- a tunnel that opens where it may take
-pub fits_open : (c d : Control) (calls : List (ℕ × Call)) → d.channel.window.queued ≡ c.channel.window.queued → may_take c calls ≡ true → Fits c calls
+pub fits_open : (c d : Control) (calls : List (ℕ × Call)) → is_closed d.state ≡ false → d.channel.window.queued ≡ c.channel.window.queued
+    → may_take c calls ≡ true → Fits c calls
     → Fits d calls
-fits_open c d calls same may h =
-    let spare = spare_most c calls may in (h.0, h.1, omega (arith, spare, same), λ o. omega (arith, spare))
+fits_open c d calls live same may h =
+    let spare = spare_most c calls may in fits_live d calls live (h.0, h.1, omega (arith, spare, same)) (λ o. omega (arith, spare))
 
 module _ (c : Control) (calls : List (ℕ × Call)) (s : ℕ) (d : Call) where
   -- a call that is put in place of one
@@ -139,22 +202,21 @@ module _ (c : Control) (calls : List (ℕ × Call)) (s : ℕ) (d : Call) where
   owed_instead k sorted found = ap (λ o. owed_by (put calls s d) + owed_at o) (sym found) ∙ owed-put calls s d sorted
 
   -- a call gives one of the letters that it owes
-  pub fits_instead : (k : Call) → at calls s ≡ Some k → owes d.state + 1 ≡ owes k.state → Holds c calls → Fits (counts_given c) (put calls s d)
-  fits_instead k found less h =
+  pub fits_instead : (k : Call) → is_closed c.state ≡ false → at calls s ≡ Some k → owes d.state + 1 ≡ owes k.state → Holds c calls
+      → Fits (counts_given c) (put calls s d)
+  fits_instead k live found less h =
       let owed = owed_instead k h.0 found in
       let few = h.2 in
-      fits_given c (put calls s d) (ascends-put s d calls h.0) (many_instead k h.0 found h.1) (omega (arith, owed, less, few))
+      fits_given c (put calls s d) live (ascends-put s d calls h.0) (many_instead k h.0 found h.1) (omega (arith, owed, less, few))
 
   -- a call that owes one letter is put in place of one, where the tunnel may take
   pub fits_up : (k : Call) → at calls s ≡ Some k → owes d.state ≡ 1 → may_take c calls ≡ true → Fits c calls → Fits c (put calls s d)
   fits_up k found one may h =
       let spare = spare_most c calls may in
-      let owed = owed-put-most calls s d in (
-        ascends-put s d calls h.0,
-        many_instead k h.0 found h.1,
-        omega (arith, spare, owed, one),
-        λ o. omega (arith, spare, owed, one),
-      )
+      let owed = owed-put-most calls s d in
+      fits_live c (put calls s d) (live_with c calls s k found h)
+      (ascends-put s d calls h.0, many_instead k h.0 found h.1, omega (arith, spare, owed, one))
+      (λ o. omega (arith, spare, owed, one))
 
   -- a call is new that owes three letters, or one and its reply
   pub holds_new : owes d.state ≡ 3 → are_too_many calls ≡ false → may_take c calls ≡ true → Fits c calls → Holds c (put calls s d)
@@ -163,22 +225,32 @@ module _ (c : Control) (calls : List (ℕ × Call)) (s : ℕ) (d : Call) where
       let owed = owed-put-most calls s d in
       (ascends-put s d calls h.0, many_new few, omega (arith, spare, owed, three))
 
-  pub fits_new : owes d.state ≡ 1 → are_too_many calls ≡ false → may_take c calls ≡ true → Fits c calls → Fits (counts_given c) (put calls s d)
-  fits_new one few may h =
+  pub fits_new : is_closed c.state ≡ false → owes d.state ≡ 1 → are_too_many calls ≡ false → may_take c calls ≡ true → Fits c calls
+      → Fits (counts_given c) (put calls s d)
+  fits_new live one few may h =
       let spare = spare_most c calls may in
       let owed = owed-put-most calls s d in
-      fits_given c (put calls s d) (ascends-put s d calls h.0) (many_new few) (omega (arith, spare, owed, one))
+      fits_given c (put calls s d) live (ascends-put s d calls h.0) (many_new few) (omega (arith, spare, owed, one))
 
 module _ (c : Control) (calls : List (ℕ × Call)) (s : ℕ) where
   many_left : length calls ≤ 4096 → length (without calls s) ≤ 4096
   many_left many = let count = length-without calls s in omega (arith, count, many)
 
+  without_none : calls ≡ [] → without calls s ≡ []
+  unfolding without
+  without_none none = rw none refl
+
   -- a call ends without a letter
   pub fits_without : Fits c calls → Fits c (without calls s)
   fits_without h =
-      let owed = owed-without calls s in
-      let few = h.2 in
-      (ascends-without s calls h.0, many_left h.1, omega (arith, owed, few), λ o. let least = h.3 o in omega (arith, owed, least))
+      let owed = owed-without calls s in (
+        ascends-without s calls h.0,
+        many_left h.1,
+        (λ live. let few = h.2 live in omega (arith, owed, few)),
+        (λ o. let least = h.3 o in omega (arith, owed, least)),
+        h.4,
+        (λ closed. without_none (h.5 closed)),
+      )
 
   -- a call ends with a letter, which it owed, or for which there is room
   abbrev pub MayTell : Call → Type 0
@@ -188,10 +260,10 @@ module _ (c : Control) (calls : List (ℕ × Call)) (s : ℕ) where
   fits_told k found may h =
       let owed : owed_by (without calls s) + owes k.state ≡ owed_by calls =
       ap (λ o. owed_by (without calls s) + owed_at o) (sym found) ∙ owed-without calls s in
-      fits_given c (without calls s) (ascends-without s calls h.0) (many_left h.1) (omega (arith, owed, may))
+      fits_given c (without calls s) (live_with c calls s k found h) (ascends-without s calls h.0) (many_left h.1) (omega (arith, owed, may))
 
-  pub owes_told : (k : Call) → 1 ≤ owes k.state → Fits c calls → MayTell k
-  owes_told k some h = let few = h.2 in omega (arith, some, few)
+  pub owes_told : (k : Call) → at calls s ≡ Some k → 1 ≤ owes k.state → Fits c calls → MayTell k
+  owes_told k found some h = let few = h.2 (live_with c calls s k found h) in omega (arith, some, few)
 
   pub spare_told : (k : Call) → may_take c calls ≡ true → MayTell k
   spare_told k may = let spare = spare_most c calls may in omega (arith, spare)

@@ -21,7 +21,7 @@ use Rattle.protocol_model.specs.declared.tunnel.Role.{Role}
 use Rattle.protocol_model.specs.declared.moves.Move.TheVariants as move
 use Rattle.protocol_model.specs.declared.out.Out.TheVariants.{Cause}
 use Rattle.protocol_model.specs.Calls.{call_row, is_set_up, is_told}
-use Rattle.protocol_model.specs.Turn.{Turn, with_output, with_move, with_change, with_calls, gives, has_room, place, next_place, letter_in, counts_repeated, sends_now, settles, ends_call, is_clean_up, repeats, greeted, greets, end_silent, end_told, ends_by, drops, sends_letter, limits_at, limits_all, goes_quietly, clears, is_over, patience, is_being_set_up, ticks_by, ticks}
+use Rattle.protocol_model.specs.Turn.{Turn, with_output, with_move, with_change, with_calls, gives, has_room, place, next_place, letter_in, counts_repeated, sends_now, settles, ends_call, is_clean_up, repeats, greeted, greets, end_silent, end_told, ends_by, drops, sends_letter, limits_at, limits_all, goes_quietly, clears, is_over, patience, is_at_its_end, ticks_by, ticks}
 use Rattle.step_laws.specs.Letters.{Among}
 use Rattle.step_laws.proofs.Lists.{branch, found_among, with_calls-more}
 use Rattle.step_laws.proofs.States.{never}
@@ -262,7 +262,7 @@ module _ (role : Role) (moment : ℕ) (calls : List (ℕ × Call)) where
     pub ticks_ok : (t : Turn) → Ascends calls → t.changed ≡ [] → t.moment ≡ moment → Ticks t (ticks role letters calls t)
     unfolding ticks with_calls
     ticks_ok t order none now =
-        branch (Ticks t) (is_being_set_up t.control.state && is_over patience t.moment t.control.made) _ _
+        branch (Ticks t) (is_at_its_end t.moment t.control) _ _
         (λ late. clears_ok t)
         (λ early. ticks_by_ok (answer_to_tick t.control.channel t.moment) t (record {
           order = rw none order;

@@ -39,14 +39,14 @@ use Rattle.protocol_model.specs.declared.tunnel.Call.{Call}
 use Rattle.protocol_model.specs.declared.tunnel.Config.{Config}
 use Rattle.protocol_model.specs.declared.tunnel.Role.{Role}
 use Rattle.protocol_model.specs.declared.event.Event.{Event}
-use Rattle.protocol_model.specs.declared.event.Event.TheVariants.{Datagram, Ring, Payload, Lower, Hang, OpenTunnel, DropCall, Tick}
+use Rattle.protocol_model.specs.declared.event.Event.TheVariants.{Datagram, Ring, Payload, Lower, Hang, OpenTunnel, DropCall, CloseTunnel, Tick}
 use Rattle.protocol_model.specs.declared.out.Out.{Out}
 use Rattle.protocol_model.specs.declared.out.Out.TheVariants.{Gone, Drop, Cause as Refused}
 use Rattle.protocol_model.specs.declared.moves.Move.{Move}
 use Rattle.protocol_model.specs.declared.moves.Move.TheVariants as move
-use Rattle.protocol_model.specs.Reading.{header_why, body_of, message_in, CallFault, call_fault_in}
+use Rattle.protocol_model.specs.Reading.{header_why, body_of, message_in, CallFault, call_fault_in, TunnelFault, tunnel_fault_in}
 use Rattle.protocol_model.specs.Calls.{call_row, rung, is_set_up, is_request, is_connection, is_up, are_too_many}
-use Rattle.protocol_model.specs.Turn.{Turn, with_output, with_move, with_change, with_call, with_new, with_local, drops, gives, has_room, sends_letter, sends_now, lets_go, goes_by, lets_all_go, acknowledges, outstanding, acknowledged_after, settles, takes_one, reads_nr, opened, opens_by, opens, accepted, accepts_by, accepts, requested, requests, requests_at, requests_all, adds, rings_over, rings_by, rings_new, rings, connected, connects, confirms, takes_plain, ignores, takes_by, takes, Reason, reason, out_of_state, may_take, granted, replied, replies, refused, refuses, of_no_call, answers_by, asked_by, faulty_at, fault_reason, has_answer, faulty, in_faulty_call, closes, ends_by, rings_within, first_up, first_up_by, second_up, second_up_by, ends_call, ends_all, is_clean_up, end_heard, end_heard_by, session_named, ends_named, repeats, greeted, greets, end_silent, end_told, limits_at, limits_all, goes_quietly, clears, is_over, patience, is_being_set_up, ticks_by, ticks, about_call, in_call, hears, hears_said, hears_letter, is_duplicate, in_tunnel, first_said, hears_control, carried, carries, hears_datagram, turns}
+use Rattle.protocol_model.specs.Turn.{Turn, with_output, with_move, with_change, with_call, with_new, with_local, drops, gives, has_room, sends_letter, sends_now, lets_go, goes_by, lets_all_go, acknowledges, outstanding, acknowledged_after, settles, takes_one, reads_nr, opened, opens_by, opens, accepted, accepts_by, accepts, requested, requests, requests_at, requests_all, adds, rings_over, rings_by, rings_new, rings, is_closed, event_by, opening_reason, out_of_order, known_or, shuts, closed_told, closes_tunnel, closed_by, shuts_by, connected, connects, confirms, takes_plain, ignores, takes_by, takes, Reason, reason, out_of_state, may_take, granted, replied, replies, refused, refuses, of_no_call, answers_by, asked_by, faulty_at, fault_reason, faulty, in_faulty_call, closes, ends_by, rings_within, first_up, first_up_by, second_up, second_up_by, ends_call, ends_all, is_clean_up, end_heard, end_heard_by, session_named, ends_named, repeats, greeted, greets, end_silent, end_told, limits_at, limits_all, goes_quietly, clears, is_over, patience, is_at_its_end, ticks_by, ticks, about_call, in_call, hears, hears_faulty, hears_said, hears_next, hears_letter, is_duplicate, in_tunnel, first_said, hears_control, carried, carries, hears_datagram, turns}
 use Rattle.step_laws.specs.Ups.{ups_of_output, ups_of_move, births_of_move, reads_of_move, most_births, most_reads}
 use Rattle.step_laws.proofs.Lists.{branch}
 
@@ -264,23 +264,65 @@ module _ (most reads : ℕ) where
   unfolding ignores
   ignored w t h = dropped w _ (plain_quiet t h)
 
-  takes_by_quiet : (role : Role) (calls : List (ℕ × Call)) (remote window : ℕ) (next : TunnelState) (a : TunnelAction) (t : Turn) → Quiet t
-      → Quiet (takes_by role calls remote window (next, a) t)
-  unfolding takes_by
-  takes_by_quiet role calls remote window next action.SendScccn t h = connects_quiet role calls remote window next t h
-  takes_by_quiet role calls remote window next action.Nothing t h =
-      branch Quiet (state_number next == state_number t.control.state) _ _ (λ same. plain_quiet t h) (λ other. confirms_quiet next t h)
-  takes_by_quiet role calls remote window next action.SendSccrq t h = ignored why.Ignored t h
-  takes_by_quiet role calls remote window next action.SendSccrp t h = ignored why.Ignored t h
-  takes_by_quiet role calls remote window next action.SendStopCcn t h = ignored why.Ignored t h
-  takes_by_quiet role calls remote window next action.CleanUp t h = ignored why.Ignored t h
+  -- ---- tunnels that close
 
-  takes_quiet : (role : Role) (calls : List (ℕ × Call)) (ev : TunnelEvent) (remote window : ℕ) (t : Turn) → Quiet t
-      → Quiet (takes role calls ev remote window t)
+  ended_quiet : (s : ℕ) (t : Turn) → Quiet t → Quiet (ends_call s t)
+  unfolding ends_call with_output with_change
+  ended_quiet s t h = told (Gone s) refl h
+
+  ended_all : (ss : List ℕ) (t : Turn) → Quiet t → Quiet (ends_all ss t)
+  unfolding ends_all
+  ended_all [] t h = h
+  ended_all (s ∷ ss) t h = ended_all ss (ends_call s t) (ended_quiet s t h)
+
+  shuts_quiet : (calls : List (ℕ × Call)) (remote : ℕ) (next : TunnelState) (t : Turn) → Quiet t → Quiet (shuts calls remote next t)
+  unfolding shuts
+  shuts_quiet calls remote next t h =
+      ended_all (ids_of calls) _ (record { no_output = h.no_output; no_move = h.no_move; births = h.births; read = h.read })
+
+  shut_told_quiet : (r : Reason) (calls : List (ℕ × Call)) (remote : ℕ) (next : TunnelState) (t : Turn) → Quiet t
+      → Quiet (closes_tunnel r calls remote next t)
+  unfolding closes_tunnel closed_told gives with_move
+  shut_told_quiet r calls remote next t h =
+      branch Quiet (has_room t.control) _ _
+      (λ may. did _ refl refl refl (shuts_quiet calls remote next (with_output (Refused r.cause) t) (caused r.cause t h)))
+      (λ full. dropped why.Queue t h)
+
+  shut_heard_quiet : (calls : List (ℕ × Call)) (next : TunnelState) (t : Turn) → Quiet t → Quiet (closed_by calls next t)
+  unfolding closed_by with_move takes_one
+  shut_heard_quiet calls next t h =
+      did _ refl refl refl
+      (shuts_quiet calls t.control.remote next _ (record { no_output = h.no_output; no_move = h.no_move; births = h.births; read = h.read }))
+
+  shuts_by_quiet : (calls : List (ℕ × Call)) (next : TunnelState) (a : TunnelAction) (t : Turn) → Quiet t → Quiet (shuts_by calls (next, a) t)
+  unfolding shuts_by
+  shuts_by_quiet calls next action.SendStopCcn t h = shut_told_quiet (reason cause.Operator 1 None) calls t.control.remote next t h
+  shuts_by_quiet calls next action.Nothing t h = h
+  shuts_by_quiet calls next action.SendSccrq t h = h
+  shuts_by_quiet calls next action.SendSccrp t h = h
+  shuts_by_quiet calls next action.SendScccn t h = h
+  shuts_by_quiet calls next action.CleanUp t h = h
+
+  -- ---- letters by the tunnel's table
+
+  takes_by_quiet : (role : Role) (calls : List (ℕ × Call)) (r : Reason) (remote window : ℕ) (next : TunnelState) (a : TunnelAction) (t : Turn)
+      → Quiet t → Quiet (takes_by role calls r remote window (next, a) t)
+  unfolding takes_by
+  takes_by_quiet role calls r remote window next action.SendScccn t h = connects_quiet role calls remote window next t h
+  takes_by_quiet role calls r remote window next action.Nothing t h =
+      branch Quiet (state_number next == state_number t.control.state) _ _ (λ same. plain_quiet t h) (λ other. confirms_quiet next t h)
+  takes_by_quiet role calls r remote window next action.SendSccrq t h = plain_quiet t h
+  takes_by_quiet role calls r remote window next action.SendSccrp t h = plain_quiet t h
+  takes_by_quiet role calls r remote window next action.SendStopCcn t h =
+      shut_told_quiet r calls (known_or remote t.control) next (takes_plain t) (plain_quiet t h)
+  takes_by_quiet role calls r remote window next action.CleanUp t h = shut_heard_quiet calls next t h
+
+  takes_quiet : (role : Role) (calls : List (ℕ × Call)) (r : Reason) (ev : TunnelEvent) (remote window : ℕ) (t : Turn) → Quiet t
+      → Quiet (takes role calls r ev remote window t)
   unfolding takes
-  takes_quiet role calls ev remote window t h =
+  takes_quiet role calls r ev remote window t h =
       let row = row_of rows t.control.state ev in
-      takes_by_quiet role calls remote window row.0 row.1 t h
+      takes_by_quiet role calls r remote window row.0 row.1 t h
 
   -- ---- letters about a call
 
@@ -289,10 +331,6 @@ module _ (most reads : ℕ) where
   replied_quiet role remote s t h = did _ refl refl refl h
 
   -- ---- calls that end
-
-  ended_quiet : (s : ℕ) (t : Turn) → Quiet t → Quiet (ends_call s t)
-  unfolding ends_call with_output with_change
-  ended_quiet s t h = told (Gone s) refl h
 
   silent_quiet : (s : ℕ) (t : Turn) → Quiet t → Quiet (end_silent s t)
   unfolding end_silent with_move
@@ -429,11 +467,8 @@ module _ (most reads : ℕ) where
       → Quiet (faulty role calls session k c said t)
   unfolding faulty
   faulty_quiet role calls session kind.Icrq c said t h =
-      branch Quiet (has_answer c said) _ _
-      (λ answered. faulty_at_quiet role (fault_reason c) session (unwrap_or said 0) call_event.IcrqNotAcc call_action.SendCdn (at calls session) t h)
-      (λ no. ignored why.Avp t h)
-  faulty_quiet role calls session kind.Ocrq c said t h =
-      branch Quiet (has_answer c said) _ _ (λ answered. refuses_quiet (fault_reason c) (unwrap_or said 0) t h) (λ no. ignored why.Avp t h)
+      faulty_at_quiet role (fault_reason c) session (unwrap_or said 0) call_event.IcrqNotAcc call_action.SendCdn (at calls session) t h
+  faulty_quiet role calls session kind.Ocrq c said t h = refuses_quiet (fault_reason c) (unwrap_or said 0) t h
   faulty_quiet role calls session kind.Icrp c said t h =
       faulty_at_quiet role (fault_reason c) session (unwrap_or said 0) call_event.IcrpNotAcc (call_row role call.Idle call_event.IcrpNotAcc).1 (at calls session) t h
   faulty_quiet role calls session kind.Iccn c said t h =
@@ -451,11 +486,10 @@ module _ (most reads : ℕ) where
   faulty_quiet role calls session kind.Ocrp c said t h = closed_quiet role calls session c t h
   faulty_quiet role calls session kind.Occn c said t h = closed_quiet role calls session c t h
 
-  in_faulty_quiet : (role : Role) (calls : List (ℕ × Call)) (session : ℕ) (o : Option CallFault) (w : Why) (t : Turn) → Quiet t
-      → Quiet (in_faulty_call role calls session o w t)
+  in_faulty_quiet : (role : Role) (calls : List (ℕ × Call)) (session : ℕ) (k : CallFault) (t : Turn) → Quiet t
+      → Quiet (in_faulty_call role calls session k t)
   unfolding in_faulty_call
-  in_faulty_quiet role calls session None w t h = ignored w t h
-  in_faulty_quiet role calls session (Some k) w t h =
+  in_faulty_quiet role calls session k t h =
       branch Quiet (state_number t.control.state == 3) _ _
       (λ is. faulty_quiet role calls session k.kind k.cause k.session t h)
       (λ other. ignored why.Session t h)
@@ -464,33 +498,51 @@ module _ (most reads : ℕ) where
 
   hears_quiet : (role : Role) (calls : List (ℕ × Call)) (session : ℕ) (m : Message) (t : Turn) → Quiet t → Quiet (hears role calls session m t)
   unfolding hears
-  hears_quiet role calls session (Sccrq o) t h = takes_quiet role calls event.SccrqAcc 0 o.window t h
-  hears_quiet role calls session (Sccrp o) t h = takes_quiet role calls event.SccrpAcc o.tunnel o.window t h
-  hears_quiet role calls session Scccn t h = takes_quiet role calls event.ScccnAcc 0 0 t h
+  hears_quiet role calls session (Sccrq o) t h =
+      takes_quiet role calls (opening_reason o) (event_by event.SccrqAcc event.SccrqNotAcc o) 0 o.window t h
+  hears_quiet role calls session (Sccrp o) t h =
+      takes_quiet role calls (opening_reason o) (event_by event.SccrpAcc event.SccrpNotAcc o) o.tunnel o.window t h
+  hears_quiet role calls session Scccn t h = takes_quiet role calls out_of_order event.ScccnAcc 0 0 t h
   hears_quiet role calls session Hello t h = plain_quiet t h
   hears_quiet role calls session (Cdn remote code error) t h = in_call_quiet role calls session (Cdn remote code error) t h
   hears_quiet role calls session (Icrq remote serial calling) t h = in_call_quiet role calls session (Icrq remote serial calling) t h
   hears_quiet role calls session (Icrp remote) t h = in_call_quiet role calls session (Icrp remote) t h
   hears_quiet role calls session (Iccn speed framing sequenced) t h = in_call_quiet role calls session (Iccn speed framing sequenced) t h
   hears_quiet role calls session (Ocrq remote) t h = in_call_quiet role calls session (Ocrq remote) t h
-  hears_quiet role calls session (StopCcn tunnel code error) t h = ignored why.Ignored t h
+  hears_quiet role calls session (StopCcn tunnel code error) t h = takes_quiet role calls out_of_order event.StopCcnCame 0 0 t h
   hears_quiet role calls session Ocrp t h = plain_quiet t h
   hears_quiet role calls session Occn t h = plain_quiet t h
   hears_quiet role calls session Wen t h = plain_quiet t h
   hears_quiet role calls session Sli t h = plain_quiet t h
 
-  said_quiet : (role : Role) (calls : List (ℕ × Call)) (session : ℕ) (o : Option CallFault) (r : Result Message Why) (t : Turn) → Quiet t
-      → Quiet (hears_said role calls session o r t)
+  faults_quiet : (role : Role) (calls : List (ℕ × Call)) (session : ℕ) (o : Option CallFault) (g : Option TunnelFault) (w : Why) (t : Turn) → Quiet t
+      → Quiet (hears_faulty role calls session o g w t)
+  unfolding hears_faulty
+  faults_quiet role calls session (Some k) g w t h = in_faulty_quiet role calls session k t h
+  faults_quiet role calls session None (Some g) w t h = takes_quiet role calls (fault_reason g.cause) g.event g.remote 0 t h
+  faults_quiet role calls session None None w t h = ignored w t h
+
+  said_quiet : (role : Role) (calls : List (ℕ × Call)) (session : ℕ) (o : Option CallFault) (g : Option TunnelFault) (r : Result Message Why)
+      (t : Turn)
+      → Quiet t → Quiet (hears_said role calls session o g r t)
   unfolding hears_said
-  said_quiet role calls session o (Err w) t h = in_faulty_quiet role calls session o w t h
-  said_quiet role calls session o (Ok m) t h = hears_quiet role calls session m t h
+  said_quiet role calls session o g (Err w) t h = faults_quiet role calls session o g w t h
+  said_quiet role calls session o g (Ok m) t h = hears_quiet role calls session m t h
+
+  next_quiet : (role : Role) (calls : List (ℕ × Call)) (session : ℕ) (body : List ℕ) (t : Turn) → Quiet t
+      → Quiet (hears_next role calls session body t)
+  unfolding hears_next
+  next_quiet role calls session body t h =
+      branch Quiet (is_closed t.control.state) _ _
+      (λ closed. plain_quiet t h)
+      (λ live. said_quiet role calls session (call_fault_in body) (tunnel_fault_in body) (message_in body) t h)
 
   letter_quiet : (role : Role) (calls : List (ℕ × Call)) (session : ℕ) (body : List ℕ) (c : Option Class) (t : Turn) → Quiet t
       → Quiet (hears_letter role calls session body c t)
   unfolding hears_letter
   letter_quiet role calls session body (Some Next) t h =
       branch Quiet (may_take t.control calls) _ _
-      (λ may. said_quiet role calls session (call_fault_in body) (message_in body) t h)
+      (λ may. next_quiet role calls session body t h)
       (λ full. dropped why.Queue t h)
   letter_quiet role calls session body (Some (Ahead by)) t h = dropped why.Ahead t h
   letter_quiet role calls session body (Some Duplicate) t h = h
@@ -513,11 +565,6 @@ module _ (most reads : ℕ) where
   carries_quiet s frame (Some c) t h = branch Quiet (is_up c.state) _ _ (λ up. carried_quiet s frame c t h) (λ down. dropped why.Closed t h)
 
   -- ---- time
-
-  ended_all : (ss : List ℕ) (t : Turn) → Quiet t → Quiet (ends_all ss t)
-  unfolding ends_all
-  ended_all [] t h = h
-  ended_all (s ∷ ss) t h = ended_all ss (ends_call s t) (ended_quiet s t h)
 
   cleared_quiet : (calls : List (ℕ × Call)) (t : Turn) → Quiet t → Quiet (clears calls t)
   unfolding clears with_move
@@ -568,7 +615,9 @@ module _ (most reads : ℕ) where
   ticks_quiet : (role : Role) (letters : List Letter) (calls : List (ℕ × Call)) (t : Turn) → Quiet t → Quiet (ticks role letters calls t)
   unfolding ticks
   ticks_quiet role letters calls t h =
-      branch Quiet (is_being_set_up t.control.state && is_over patience t.moment t.control.made) _ _ (λ late. cleared_quiet calls t h) (λ no. ticks_by_quiet role letters calls (answer_to_tick t.control.channel t.moment) t h)
+      branch Quiet (is_at_its_end t.moment t.control) _ _
+      (λ due. cleared_quiet calls t h)
+      (λ no. ticks_by_quiet role letters calls (answer_to_tick t.control.channel t.moment) t h)
 
 -- ---- datagrams: Nr is read before the letter is heard
 
@@ -652,6 +701,9 @@ turns_quiet role c letters calls (Hang s) t h =
     settled 0 0 false letters _ (closes_quiet 0 0 role cause.Line call_event.LineDrop 1 s (at calls s) t h)
 turns_quiet role c letters calls (DropCall s) t h =
     settled 0 0 false letters _ (closes_quiet 0 0 role cause.Operator call_event.Close 3 s (at calls s) t h)
+turns_quiet role c letters calls (CloseTunnel i) t h =
+    let row = row_of rows t.control.state event.AdminClose in
+    settled 0 0 false letters _ (shuts_by_quiet 0 0 calls row.0 row.1 t h)
 turns_quiet role c letters calls OpenTunnel t h = settled 0 0 false letters _ (opens_quiet 0 0 role c t h)
 turns_quiet role c letters calls Tick t h = ticks_quiet 0 0 role letters calls t h
 

@@ -131,6 +131,8 @@ module _ (e : End) (whole : AreWhole e) where
       puts x _ m.tunnel _ h.after refl refl refl (whole_without e.role h.tunnel.calls m.session (whole.calls m.tunnel h.tunnel h.there))
   does_whole moment ev (move.EndSilent m) x h =
       puts x _ m.tunnel _ h.after refl refl refl (whole_without e.role h.tunnel.calls m.session (whole.calls m.tunnel h.tunnel h.there))
+  does_whole moment ev (move.Closed m) x h = puts x _ m.tunnel _ h.after refl refl refl (whole_none e.role)
+  does_whole moment ev (move.ClosedBy m) x h = puts x _ m.tunnel _ h.after refl refl refl (whole_none e.role)
   does_whole moment ev (move.Cleared i) x h = subst AreWhole (sym h.after) (record {
     last = whole.last;
     order = ascends-without i e.tunnels whole.order;
@@ -160,6 +162,8 @@ does_role moment ev e x (move.Refused m) h = ap (λ (y : End). y.role) h.after
 does_role moment ev e x (move.EndTold m) h = ap (λ (y : End). y.role) h.after
 does_role moment ev e x (move.EndHeard m) h = ap (λ (y : End). y.role) h.after
 does_role moment ev e x (move.EndSilent m) h = ap (λ (y : End). y.role) h.after
+does_role moment ev e x (move.Closed m) h = ap (λ (y : End). y.role) h.after
+does_role moment ev e x (move.ClosedBy m) h = ap (λ (y : End). y.role) h.after
 does_role moment ev e x (move.Cleared i) h = ap (λ (y : End). y.role) h.after
 does_role moment ev e x (move.Greeted m) h = ap (λ (y : End). y.role) h.after
 does_role moment ev e x (move.TookPlain m) h = ap (λ (y : End). y.role) h.after

@@ -7,20 +7,11 @@ use Rattle.wire_base.specs.declared.why.Why.{Why}
 use Rattle.wire_base.specs.declared.why.Why.TheVariants as why
 use Rattle.wire_base.specs.declared.cause.Cause.TheVariants as cause
 use Rattle.wire_base.specs.declared.letter.Side.{Side}
-use Rattle.avp_codec.specs.declared.avp.Avp.{Avp}
-use Rattle.avp_codec.specs.declared.error.AvpError.{AvpError}
-use Rattle.avp_codec.specs.Reading.{avps_of}
 use Rattle.l2tp_header.specs.declared.header.Header.{Header}
 use Rattle.l2tp_header.specs.declared.header.HeaderError.{HeaderError}
 use Rattle.l2tp_header.specs.Reading.{header_of}
-use Rattle.control_message.specs.declared.message.Message.{Message}
 use Rattle.control_message.specs.declared.message.Opening.{Opening}
-use Rattle.control_message.specs.declared.message.Message.TheVariants.{Sccrq, Sccrp, Scccn, StopCcn, Hello, Ocrq, Ocrp, Occn, Icrq, Icrp, Iccn, Cdn, Wen, Sli}
-use Rattle.control_message.specs.declared.message.Read.{Read}
-use Rattle.control_message.specs.declared.message.Read.TheVariants.{Known, Ignored}
-use Rattle.control_message.specs.declared.message.MessageError.{MessageError}
-use Rattle.control_message.specs.declared.message.MessageError.TheVariants.{NoType, UnknownType, UnknownMandatory, HiddenWithoutVector, BadValue, Missing, NoMemory}
-use Rattle.control_message.specs.Reading.{message_of}
+use Rattle.control_message.specs.declared.message.Message.TheVariants.{Sccrq}
 use Rattle.tunnel_fsm.specs.declared.table.TunnelState.{TunnelState}
 use Rattle.tunnel_fsm.specs.declared.table.TunnelState.TheVariants.{WaitCtlReply, Established}
 use Rattle.tunnel_fsm.specs.Rows.{state_number}
@@ -30,22 +21,22 @@ use Rattle.protocol_model.specs.declared.tunnel.Look.TheVariants as look
 use Rattle.protocol_model.specs.declared.tunnel.Role.{Role}
 use Rattle.protocol_model.specs.declared.tunnel.Role.TheVariants.{Lac, Lns}
 use Rattle.protocol_model.specs.declared.event.Addressee.{Addressee}
-use Rattle.protocol_model.specs.declared.event.Addressee.TheVariants.{Nobody}
+use Rattle.protocol_model.specs.declared.event.Addressee.TheVariants.{Opens, Stops, Main, Nobody}
 use Rattle.protocol_model.specs.declared.event.Event.{Event}
-use Rattle.protocol_model.specs.declared.event.Event.TheVariants.{Datagram, Ring, Payload, Lower, Hang, OpenTunnel, DropCall, Tick}
+use Rattle.protocol_model.specs.declared.event.Event.TheVariants.{Datagram, Ring, Payload, Lower, Hang, OpenTunnel, DropCall, CloseTunnel, Tick}
 use Rattle.protocol_model.specs.declared.out.Out.TheVariants.{Drop, Cause}
-use Rattle.protocol_model.specs.Reading.{header_why, body_of, message_read, pairs_read, message_in, at_zero, at_tunnel, zero_pairs, zero_read}
+use Rattle.protocol_model.specs.Reading.{header_why, body_of, message_in, at_zero, at_tunnel}
 use Rattle.protocol_model.specs.Calls.{is_lac, frame_of, side_of, Carried, Upward, Dropped, carry_known, carry_look}
 use Rattle.protocol_model.specs.Turn.{Tunnel, Env, turns}
-use Rattle.protocol_model.specs.End.{End, Stepped, env_of, in_new, has_all_tunnels, in_one_more, in_main, is_known, known_as, opened_before, opens_once, addressed, for_addressee, is_in, least_in, rings_in, rings_at, for_call, look_in, handed, hands_up, receives, only_by, step_in, step}
+use Rattle.protocol_model.specs.End.{End, Stepped, env_of, in_new, has_all_tunnels, in_one_more, in_main, is_known, known_as, opened_before, stopped_at, opens_once, addressed, for_addressee, is_in, least_in, rings_in, rings_at, for_call, look_in, handed, hands_up, receives, only_by, step_in, step}
 use Rattle.step_laws.specs.Room.{IsChosen, StepsRefuseTruly}
 use Rattle.step_laws.specs.Causes.{CausesStand}
-use Rattle.step_laws.specs.Moves.{IsAgain}
 use Rattle.step_laws.specs.Steps.{AreKept, StepsAreChains}
 use Rattle.step_laws.proofs.Lists.{and_left, and_right, branch, found_passes, none_passes, found_among}
 use Rattle.step_laws.proofs.Tells.{of_all, header_other}
+use Rattle.step_laws.proofs.Zero.{ZeroSays, zero_says}
 use Rattle.step_laws.proofs.Ticks.{ticks_chain}
-use Rattle.step_laws.proofs.Ends.{IsStep, drop_chain, cause_chain, heard_chain, rung_chain, hung_chain, closes_chain, carries_chain, opens_chain, rings_chain, first_heard}
+use Rattle.step_laws.proofs.Ends.{IsTo, IsStep, drop_chain, cause_chain, heard_chain, rung_chain, hung_chain, closes_chain, shut_chain, carries_chain, opens_chain, rings_chain, first_heard}
 
 not_true : (a : Bool) → not a ≡ true → a ≡ false
 not_true true h = absurd (true≢false (sym h))
@@ -193,7 +184,7 @@ module _ (e : End) (kept : AreKept e) (moment : ℕ) (block : List ℕ) where
 
   main_heard : (peer i : ℕ) (bytes : List ℕ) (h : Header) → header_of bytes ≡ Ok h → h.control ≡ true
       → (o : Option Tunnel) → at e.tunnels i ≡ o → ((t : Tunnel) → o ≡ Some t → t.control.peer ≡ peer)
-      → ((t : Tunnel) → o ≡ Some t → (h.tunnel ≡ i) ⊎ IsAgain h bytes t.control)
+      → ((t : Tunnel) → o ≡ Some t → IsTo h bytes i t.control)
       → IsStep e moment (Datagram peer bytes) (in_main e env (Datagram peer bytes) i o)
   unfolding in_main
   main_heard peer i bytes h read control None is goes to = drop_chain e kept moment (Datagram peer bytes) why.Tunnel (λ q. absurd cc)
@@ -228,6 +219,11 @@ module _ (e : End) (kept : AreKept e) (moment : ℕ) (block : List ℕ) where
   main_closed s i None is = drop_chain e kept moment (DropCall s) why.Tunnel (λ q. absurd cc)
   main_closed s i (Some t) is = closes_chain e kept moment (DropCall s) block i t is s refl
 
+  main_shut : (i : ℕ) (o : Option Tunnel) → at e.tunnels i ≡ o → IsStep e moment (CloseTunnel i) (in_main e env (CloseTunnel i) i o)
+  unfolding in_main
+  main_shut i None is = drop_chain e kept moment (CloseTunnel i) why.Tunnel (λ q. absurd cc)
+  main_shut i (Some t) is = shut_chain e kept moment (CloseTunnel i) block i t is refl
+
   -- ---- control messages
 
   module _ (peer : ℕ) (bytes : List ℕ) (h : Header) (read : header_of bytes ≡ Ok h) (control : h.control ≡ true) where
@@ -252,45 +248,26 @@ module _ (e : End) (kept : AreKept e) (moment : ℕ) (block : List ℕ) where
     opened_leads zero o said (Some i) is =
         let known = found_passes (λ j. is_known peer o.tunnel (at e.tunnels j)) (ids_of e.tunnels) i is in
         main_heard peer i bytes h read control (at e.tunnels i) refl (known_peer peer o.tunnel (at e.tunnels i) known)
-        (λ t there. inr (record { none = zero; opening = o; said = said; known = known_remote peer o.tunnel (at e.tunnels i) known t there }))
+        (λ t there. inr (inl (record { none = zero; opening = o; said = said; known = known_remote peer o.tunnel (at e.tunnels i) known t there })))
 
-    -- what the pairs of the body make
-    abbrev Makes : Result Read MessageError → Type 0
-    Makes r = (m : Message) → r ≡ Ok (Known m) → message_in (body_of h bytes) ≡ Ok m
+    -- a StopCCN is for the tunnel whose peer assigned the id that it tells
+    stopped_leads : h.tunnel ≡ 0 → (remote : ℕ) → at_zero (body_of h bytes) ≡ Stops remote → (k : Option ℕ) → known_as peer remote e.tunnels ≡ k
+        → leads (stopped_at k)
+    unfolding for_addressee known_as
+    stopped_leads zero remote says None is = nobody why.Tunnel (λ q. absurd cc)
+    stopped_leads zero remote says (Some i) is =
+        let known = found_passes (λ j. is_known peer remote (at e.tunnels j)) (ids_of e.tunnels) i is in
+        main_heard peer i bytes h read control (at e.tunnels i) refl (known_peer peer remote (at e.tunnels i) known)
+        (λ t there. inr (inr (record { none = zero; stops = says ∙ ap Stops (sym (known_remote peer remote (at e.tunnels i) known t there)) })))
 
-    zero_leads : h.tunnel ≡ 0 → (r : Result Read MessageError) → Makes r → leads (opens_once e peer (zero_read r))
-    unfolding zero_read opens_once
-    zero_leads zero (Ok (Known (Sccrq o))) makes = opened_leads zero o (makes (Sccrq o) refl) (known_as peer o.tunnel e.tunnels) refl
-    zero_leads zero (Ok (Known (Sccrp o))) makes = nobody why.Tunnel (λ q. absurd cc)
-    zero_leads zero (Ok (Known Scccn)) makes = nobody why.Tunnel (λ q. absurd cc)
-    zero_leads zero (Ok (Known Hello)) makes = nobody why.Tunnel (λ q. absurd cc)
-    zero_leads zero (Ok (Known (Cdn remote code error))) makes = nobody why.Tunnel (λ q. absurd cc)
-    zero_leads zero (Ok (Known (Icrq remote serial calling))) makes = nobody why.Tunnel (λ q. absurd cc)
-    zero_leads zero (Ok (Known (Icrp remote))) makes = nobody why.Tunnel (λ q. absurd cc)
-    zero_leads zero (Ok (Known (Iccn speed framing sequenced))) makes = nobody why.Tunnel (λ q. absurd cc)
-    zero_leads zero (Ok (Known (StopCcn tunnel code error))) makes = nobody why.Tunnel (λ q. absurd cc)
-    zero_leads zero (Ok (Known (Ocrq remote))) makes = nobody why.Tunnel (λ q. absurd cc)
-    zero_leads zero (Ok (Known Ocrp)) makes = nobody why.Tunnel (λ q. absurd cc)
-    zero_leads zero (Ok (Known Occn)) makes = nobody why.Tunnel (λ q. absurd cc)
-    zero_leads zero (Ok (Known Wen)) makes = nobody why.Tunnel (λ q. absurd cc)
-    zero_leads zero (Ok (Known Sli)) makes = nobody why.Tunnel (λ q. absurd cc)
-    zero_leads zero (Ok (Ignored n)) makes = nobody why.Tunnel (λ q. absurd cc)
-    zero_leads zero (Err NoType) makes = nobody why.Tunnel (λ q. absurd cc)
-    zero_leads zero (Err (UnknownType n)) makes = nobody why.Tunnel (λ q. absurd cc)
-    zero_leads zero (Err (UnknownMandatory v a)) makes = nobody why.Avp (λ q. absurd cc)
-    zero_leads zero (Err (HiddenWithoutVector a)) makes = nobody why.Avp (λ q. absurd cc)
-    zero_leads zero (Err (BadValue a)) makes = nobody why.Avp (λ q. absurd cc)
-    zero_leads zero (Err (Missing a)) makes = nobody why.Avp (λ q. absurd cc)
-    zero_leads zero (Err NoMemory) makes = nobody why.Avp (λ q. absurd cc)
-
-    made : (avps : List Avp) → avps_of (body_of h bytes) ≡ Ok avps → Makes (message_of avps)
-    unfolding message_in pairs_read message_read
-    made avps is m reads = rw (is, reads) refl
-
-    pairs_lead : h.tunnel ≡ 0 → (r : Result (List Avp) AvpError) → avps_of (body_of h bytes) ≡ r → leads (opens_once e peer (zero_pairs r))
-    unfolding zero_pairs opens_once
-    pairs_lead zero (Ok avps) is = zero_leads zero (message_of avps) (made avps is)
-    pairs_lead zero (Err x) is = nobody why.Avp (λ q. absurd cc)
+    zero_leads : h.tunnel ≡ 0 → (a : Addressee) → at_zero (body_of h bytes) ≡ a → ZeroSays (body_of h bytes) a → leads (opens_once e peer a)
+    unfolding opens_once
+    zero_leads zero (Opens remote) is says =
+        subst (λ (n : ℕ). leads (opened_before n (known_as peer n e.tunnels))) (sym says.2)
+        (opened_leads zero says.0 says.1 (known_as peer says.0.tunnel e.tunnels) refl)
+    zero_leads zero (Stops remote) is says = stopped_leads zero remote is (known_as peer remote e.tunnels) refl
+    zero_leads zero (Main i) is says = absurd says
+    zero_leads zero (Nobody w) is says = nobody w says
 
     tunnel_leads : (o : Option Tunnel) → at e.tunnels h.tunnel ≡ o → leads (at_tunnel peer h.tunnel (option_map (λ t. t.control.peer) o))
     unfolding at_tunnel for_addressee
@@ -303,10 +280,10 @@ module _ (e : End) (kept : AreKept e) (moment : ℕ) (block : List ℕ) where
         (λ other. nobody why.Peer (λ q. absurd cc))
 
     addressed_leads : leads (addressed e peer h (body_of h bytes))
-    unfolding addressed at_zero
+    unfolding addressed
     addressed_leads =
         branch leads (h.tunnel == 0) _ _
-        (λ zero. pairs_lead (eqb-true h.tunnel 0 zero) (avps_of (body_of h bytes)) refl)
+        (λ zero. zero_leads (eqb-true h.tunnel 0 zero) (at_zero (body_of h bytes)) refl (zero_says (body_of h bytes)))
         (λ some. tunnel_leads (at e.tunnels h.tunnel) refl)
 
   received : (peer : ℕ) (bytes : List ℕ) (r : Result Header HeaderError) → header_of bytes ≡ r → IsStep e moment (Datagram peer bytes) (receives e env peer bytes r)
@@ -374,6 +351,7 @@ module _ (e : End) (kept : AreKept e) (moment : ℕ) (block : List ℕ) where
   step_chain (Lower s frame) = by_lns (Lower s frame) _ (gives_lower s frame (at e.calls s))
   step_chain (Hang s) = by_lac (Hang s) _ (λ lac. hung s (at e.calls s))
   step_chain (DropCall s) = closed s (at e.calls s)
+  step_chain (CloseTunnel i) = main_shut i (at e.tunnels i) refl
   step_chain Tick = ticks_chain moment e block kept
   step_chain OpenTunnel = by_lac OpenTunnel _ (λ lac.
       branch (IsStep e moment OpenTunnel) (has_all_tunnels e.tunnels) _ _

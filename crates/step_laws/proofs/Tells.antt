@@ -25,7 +25,7 @@ use Rattle.call_fsm.specs.declared.table.CallState.TheVariants as call
 use Rattle.protocol_model.specs.declared.event.Event.{Event}
 use Rattle.protocol_model.specs.declared.out.Out.{Out}
 use Rattle.protocol_model.specs.declared.out.Out.TheVariants.{Send, Up, Gone, Drop, Cause}
-use Rattle.protocol_model.specs.Reading.{header_why, message_read, pairs_read, message_in, CallFault, fault_cause, is_about_call, with_cause, fault_of_kind, fault_read, fault_of_pairs, call_fault_in}
+use Rattle.protocol_model.specs.Reading.{header_why, message_read, pairs_read, message_in, CallFault, fault_cause, is_for_call, with_cause, fault_of_kind, fault_read, fault_of_pairs, call_fault_in}
 use Rattle.protocol_model.specs.Calls.{call_row, is_reply, are_too_many}
 use Rattle.protocol_model.specs.Turn.{Tunnel, Reason, reason, out_of_state, call_of, left_of, granted}
 use Rattle.protocol_model.specs.End.{End}
@@ -77,7 +77,7 @@ body_other body w h q = pairs_other (avps_of body) w h q
 abbrev pub IsOfFault : CauseOf → Type 0
 IsOfFault c = (c ≡ cause.Value) ⊎ (c ≡ cause.Mandatory)
 
-error_cause : (x : MessageError) (c : CauseOf) → fault_cause x ≡ Some c → IsOfFault c
+pub error_cause : (x : MessageError) (c : CauseOf) → fault_cause x ≡ Some c → IsOfFault c
 error_cause (UnknownMandatory v n) c h = inr (let same : cause.Mandatory ≡ c = cc in sym same)
 error_cause (HiddenWithoutVector n) c h = inl (let same : cause.Value ≡ c = cc in sym same)
 error_cause (BadValue n) c h = inl (let same : cause.Value ≡ c = cc in sym same)
@@ -95,7 +95,7 @@ made_cause q s (Some c) k h =
 
 kind_cause : (o : Option Kind) (x : MessageError) (avps : List Avp) (k : CallFault) → fault_of_kind o x avps ≡ Some k → IsOfFault k.cause
 kind_cause None x avps k h = absurd cc
-kind_cause (Some q) x avps k h = by (is_about_call q) h
+kind_cause (Some q) x avps k h = by (is_for_call q (plain_short 14 avps) (fault_cause x)) h
   where
     by : (b : Bool) → cond b (with_cause q (plain_short 14 avps) (fault_cause x)) None ≡ Some k → IsOfFault k.cause
     by true is = error_cause x k.cause (made_cause q (plain_short 14 avps) (fault_cause x) k is)
@@ -119,8 +119,8 @@ cause_of_fault body k h = pairs_cause (avps_of body) k h
 module _ (e : End) (moment : ℕ) (ev : Event) (t : Tunnel) where
   pub fault_stands : (session : ℕ) (k : CallFault) → CameFaulty e ev t session k → IsOfFault k.cause → Stands e moment ev k.cause
   fault_stands session k came is = ⊎_elim
-      (λ (value : k.cause ≡ cause.Value). subst (Stands e moment ev) (sym value) (t, session, k, came, value))
-      (λ (mandatory : k.cause ≡ cause.Mandatory). subst (Stands e moment ev) (sym mandatory) (t, session, k, came, mandatory))
+      (λ (value : k.cause ≡ cause.Value). subst (Stands e moment ev) (sym value) (inl (t, session, k, came, value)))
+      (λ (mandatory : k.cause ≡ cause.Mandatory). subst (Stands e moment ev) (sym mandatory) (inl (t, session, k, came, mandatory)))
       is
 
   -- an id that is in use, or not
@@ -160,7 +160,7 @@ module _ (e : End) (moment : ℕ) (ev : Event) (t : Tunnel) where
           → (remote == 0 || is_some (call_of t.calls remote)) ≡ b → are_too_many t.calls ≡ c → draws e.session_ids ≡ d
           → cond (not a) (Err out_of_state) (cond b (Err (reason cause.Session 2 (Some 5))) (cond c (Err (reason cause.Calls 4 None)) (left_of d))) ≡ Err r
           → Stands e moment ev r.cause
-      by false b c d row used many drawn is = so out_of_state is (t, AskedInVain remote asks row)
+      by false b c d row used many drawn is = so out_of_state is (inl (t, AskedInVain remote asks row))
       by true true c d row used many drawn is =
           so (reason cause.Session 2 (Some 5)) is (t, remote, asks, (λ none. true≢false (sym row ∙ none)), in_use remote used)
       by true false true d row used many drawn is =

@@ -25,7 +25,7 @@ use Rattle.protocol_model.specs.Turn.{Tunnel, Turn, with_output, with_move, with
 use Rattle.protocol_model.specs.End.{End}
 use Rattle.step_laws.specs.Moves.{TookTooLong, IsLate}
 use Rattle.step_laws.proofs.Lists.{all_push, and_left, and_right, branch, chain_more}
-use Rattle.step_laws.proofs.Owing.{Fits, some_owed, fits_given, owes_told}
+use Rattle.step_laws.proofs.Owing.{Fits, live_open, some_owed, fits_given, owes_told}
 use Rattle.step_laws.proofs.Turns.{NoFrame, Held, given_held, at_turn, there, one_given, Others, Same, same_still, same_first}
 use Rattle.step_laws.proofs.Settling.{Settled, outs_on, sent_ok, settled_ok}
 use Rattle.step_laws.proofs.Closing.{given_on, ends_leave}
@@ -243,7 +243,7 @@ module _ (e : End) (moment : ℕ) (letters : List Letter) (calls : List (ℕ × 
           held = given_held e moment Tick letters calls i t l h.held;
           fits =
               let least = h.fits.3 is_open in
-              fits_given t.control (with_calls t.changed calls) h.fits.0 h.fits.1 (omega (arith, quiet, least));
+              fits_given t.control (with_calls t.changed calls) (live_open t.control is_open) h.fits.0 h.fits.1 (omega (arith, quiet, least));
         };
         none = k.none;
       }
@@ -294,7 +294,7 @@ module _ (e : End) (moment : ℕ) (letters : List Letter) (calls : List (ℕ × 
         let u = ends_by cause.Setup 10 None s c (call_row e.role c.state call_event.Close).1 t in
         let l = ends_leave e moment Tick letters calls i cause.Setup s c call_event.Close 10 None t found (IsLate late refl refl refl) small
         (λ told. (
-          owes_told t.control (with_calls t.changed calls) s c (some_owed c.state late.set_up) h.settled.fits,
+          owes_told t.control (with_calls t.changed calls) s c found (some_owed c.state late.set_up) h.settled.fits,
           record { id = i; tunnel = begun; there = is_there; session = s; call = c; live = live; late = late; row = told },
         ))
         (call_row e.role c.state call_event.Close).1 refl h.settled in

@@ -1,7 +1,7 @@
 -- An end's tick is a chain of moves: those of each tunnel by itself, one tunnel after the other.
 use Rattle.std.proofs.Common.{◌≡◌, ◌⊎◌, inl, inr, ⊎_elim, ℕ, List, [], ◌∷◌, ◌++◌, refl, sym, ap, ◌∙◌, subst, Option, Some, None, arith}
 use Rattle.std.proofs.lemmas.List.{append-nil, append_assoc}
-use Rattle.std.specs.Prelude.{◌&&◌, map}
+use Rattle.std.specs.Prelude.{map}
 use Rattle.std.specs.List.{AllByRecursion, flat_map}
 use Rattle.id_table.specs.Ids.{at, without, ids_of}
 use Rattle.id_table.specs.Order.{IsAbove, Ascends, at_other, ascends-without, at_without_other, found_without}
@@ -14,11 +14,11 @@ use Rattle.protocol_model.specs.declared.out.Out.{Out}
 use Rattle.protocol_model.specs.declared.out.Out.TheVariants.{Send, Up, Gone, Drop, Cause}
 use Rattle.protocol_model.specs.declared.moves.Move.{Move}
 use Rattle.protocol_model.specs.declared.moves.Move.TheVariants as move
-use Rattle.protocol_model.specs.Turn.{Tunnel, Env, Turn, turn_of, with_output, with_move, with_change, ends_call, ends_all, clears, repeats, is_over, patience, is_being_set_up, ticks_by, ticks, turns, tunnel_after}
+use Rattle.protocol_model.specs.Turn.{Tunnel, Env, Turn, turn_of, with_output, with_move, with_change, ends_call, ends_all, clears, repeats, is_at_its_end, ticks_by, ticks, turns, tunnel_after}
 use Rattle.protocol_model.specs.End.{End, env_of, placed, with_looks, after_turn, Turned, tick_of, ticks_of, end_after_all, after_all, ticks_all}
 use Rattle.step_laws.specs.Moves.{Chain, HasFailed}
 use Rattle.step_laws.specs.Steps.{IsKept, AreKept, IsOfMoves}
-use Rattle.step_laws.proofs.Lists.{all_append, all_map, all_push, among_right, chain_append, branch, and_left, and_right, ascends_looks}
+use Rattle.step_laws.proofs.Lists.{all_append, all_map, all_push, among_right, chain_append, branch, ascends_looks}
 use Rattle.step_laws.proofs.Tells.{Tells}
 use Rattle.step_laws.proofs.Turns.{IsWord, NoFrame}
 use Rattle.step_laws.proofs.Settling.{OutOk, goes_nowhere, out_on, carries_on, unsent}
@@ -199,10 +199,8 @@ module _ (e : End) (kept : AreKept e) (moment : ℕ) (block : List ℕ) (i : ℕ
   tick_leads : leads (turns e.role e.config t.letters t.calls Tick start)
   unfolding turns ticks
   tick_leads =
-      let setting_up = is_being_set_up t.control.state in
-      let late = is_over patience moment t.control.made in
-      branch leads (setting_up && late) _ _
-      (λ due. cleared_leads (inl (and_left setting_up late due, and_right setting_up late due)))
+      branch leads (is_at_its_end moment t.control) _ _
+      (λ due. cleared_leads (inl due))
       (λ no. ticks_by_lead (answer_to_tick t.control.channel moment) refl)
 
 -- ---- all of them

@@ -35,14 +35,14 @@ use Rattle.protocol_model.specs.declared.moves.Move.{Move}
 use Rattle.protocol_model.specs.declared.moves.Move.TheVariants as move
 use Rattle.protocol_model.specs.Reading.{body_of, message_in, call_fault_in}
 use Rattle.protocol_model.specs.Calls.{call_row, advanced, rung, asked_for, is_request, is_reply, is_connection, is_up, are_too_many}
-use Rattle.protocol_model.specs.Turn.{Tunnel, Turn, Reason, granted, refused, may_take, counts_given, in_state, changed_at, with_output, with_move, with_change, with_call, with_new, drops, gives, takes_one, next_place, taken_place, has_room, learns_window, reads_nr, ends_call, end_heard, is_clean_up, session_named, requested, requests, requests_at, requests_all, adds, replied, first_up, second_up, connected, confirms, takes_plain, ignores, letter_of, request_of, connection, letters_after, tunnel_after, with_calls}
+use Rattle.protocol_model.specs.Turn.{Tunnel, Turn, Reason, is_closed, granted, refused, may_take, counts_given, in_state, changed_at, with_output, with_move, with_change, with_call, with_new, drops, gives, takes_one, next_place, taken_place, has_room, learns_window, reads_nr, ends_call, end_heard, is_clean_up, session_named, requested, requests, requests_at, requests_all, adds, replied, first_up, second_up, connected, confirms, takes_plain, ignores, letter_of, request_of, connection, letters_after, tunnel_after, with_calls}
 use Rattle.protocol_model.specs.End.{End, placed, with_looks}
 use Rattle.step_laws.specs.Causes.{Stands}
 use Rattle.step_laws.specs.Moves.{Chain, ComesNext, HearsNext, IsPlain, TellsNr, WhyRefused}
 use Rattle.step_laws.proofs.States.{rung_asks}
 use Rattle.step_laws.proofs.Lists.{all_push, branch, with_calls-more, with_looks-more, placed-more, chain_more}
 use Rattle.step_laws.proofs.Tells.{Founded, Tells}
-use Rattle.step_laws.proofs.Owing.{Fits, Holds, has_room_for, spare_most, requested_owes, connected_owes, up_owes, replied_owes, rung_owes, fits_given, fits_spare, fits_acked, fits_open, fits_instead, fits_up, holds_new, fits_new, fits_without}
+use Rattle.step_laws.proofs.Owing.{Fits, Holds, live_in, live_open, holds_live, has_room_for, spare_most, requested_owes, connected_owes, up_owes, replied_owes, rung_owes, fits_live, fits_given, fits_spare, fits_acked, fits_open, fits_instead, fits_up, holds_new, fits_new, fits_without}
 
 -- an output that is no datagram and hands nothing up
 abbrev pub IsWord : Out → Type 0
@@ -168,9 +168,10 @@ module _ (e : End) (moment : ℕ) (ev : Event) (letters : List Letter) (calls : 
   given_held t l h =
       subst (Held (sending.one_more t.control.channel.window)) (sym (one_given t l)) (held_given t.control.channel.window (letters_after t letters) l h)
 
-  -- there is room always
-  pub is_roomy : (t : Turn) → TurnOk t → has_room t.control ≡ false → ⊥
-  is_roomy t h full = true≢false (sym (has_room_for t.control (with_calls t.changed calls) (h.fits.0, h.fits.1, h.fits.2)) ∙ full)
+  -- there is room always, as long as the tunnel isn't closed
+  pub is_roomy : (t : Turn) → is_closed t.control.state ≡ false → TurnOk t → has_room t.control ≡ false → ⊥
+  is_roomy t live h full =
+      true≢false (sym (has_room_for t.control (with_calls t.changed calls) (holds_live t.control (with_calls t.changed calls) live h.fits)) ∙ full)
 
   -- what fits, once one more call is changed
   pub fits_changed : (c : Control) (t : Turn) (s : ℕ) (o : Option Call) → Fits c (changed_at (with_calls t.changed calls) s o)
@@ -211,15 +212,15 @@ module _ (e : End) (moment : ℕ) (ev : Event) (letters : List Letter) (calls : 
       })
 
   -- it gives one of the letters that it owes
-  requested_fits : (s : ℕ) (c : Call) (t : Turn) → at (with_calls t.changed calls) s ≡ Some c
+  requested_fits : (s : ℕ) (c : Call) (t : Turn) → is_closed t.control.state ≡ false → at (with_calls t.changed calls) s ≡ Some c
       → is_request (call_row e.role c.state call_event.TunnelOpen).1 ≡ true → Holds t.control (with_calls t.changed calls)
       → Fits (requested e.role s c t).control (with_calls (requested e.role s c t).changed calls)
   unfolding requested gives with_change with_move with_call advanced
-  requested_fits s c t found row h =
+  requested_fits s c t live found row h =
       let less = requested_owes e.role c.state row in
       let d = advanced e.role call_event.TunnelOpen t.moment c in
       fits_changed (counts_given t.control) t s (Some d)
-      (fits_instead t.control (with_calls t.changed calls) s d c found (let before = less.0 in let now = less.1 in omega (arith, before, now)) h)
+      (fits_instead t.control (with_calls t.changed calls) s d c live found (let before = less.0 in let now = less.1 in omega (arith, before, now)) h)
 
   requested_ok : (s : ℕ) (c : Call) (t : Turn) → state_number t.control.state ≡ 3 → at (with_calls t.changed calls) s ≡ Some c → s < 65536
       → is_request (call_row e.role c.state call_event.TunnelOpen).1 ≡ true → has_room t.control ≡ true → TurnOk t → TurnOk (requested e.role s c t)
@@ -231,7 +232,9 @@ module _ (e : End) (moment : ℕ) (ev : Event) (letters : List Letter) (calls : 
     frames = all_push NoFrame t.moves _ h.frames tt;
     stays = h.stays;
     held = given_held t (letter_of 0 (request_of s c.port)) h.held;
-    fits = requested_fits s c t found row (h.fits.0, h.fits.1, h.fits.2);
+    fits =
+        let live = live_open t.control is_open in
+        requested_fits s c t live found row (holds_live t.control (with_calls t.changed calls) live h.fits);
   }
 
   -- ---- the calls that wait
@@ -243,7 +246,7 @@ module _ (e : End) (moment : ℕ) (ev : Event) (letters : List Letter) (calls : 
       branch TurnOk (is_request (call_row e.role c.state call_event.TunnelOpen).1) _ _
       (λ row. branch TurnOk (has_room t.control) _ _
       (λ may. requested_ok s c t is_open found small row may h)
-      (λ full. absurd (is_roomy t h full)))
+      (λ full. absurd (is_roomy t (live_open t.control is_open) h full)))
       (λ none. h)
 
   -- the calls other than one stay
@@ -355,7 +358,8 @@ module _ (e : End) (moment : ℕ) (ev : Event) (letters : List Letter) (calls : 
         frames = all_push NoFrame t.moves _ h.frames tt;
         stays = (h.stays.0, h.stays.1, small_last t h.stays.2, h.stays.3, h.stays.4, h.stays.5);
         held = h.held;
-        fits = (fit.0, fit.1, fit.2, λ o. absurd (omega (arith, waits, o)));
+        fits = fits_live (adds e.role port s t).control (with_calls (adds e.role port s t).changed calls)
+            (live_in t.control 1 (λ f. omega (arith, f)) waits) fit (λ o. absurd (omega (arith, waits, o)));
       }
 
   adds_found : (port s : ℕ) (t : Turn) → at (with_calls (adds e.role port s t).changed calls) s ≡ Some (rung e.role port t.moment)
@@ -380,7 +384,7 @@ module _ (e : End) (moment : ℕ) (ev : Event) (letters : List Letter) (calls : 
         frames = all_push NoFrame _ _ (all_push NoFrame t.moves _ h.frames tt) tt;
         stays = (h.stays.0, h.stays.1, small_last t h.stays.2, h.stays.3, h.stays.4, h.stays.5);
         held = given_held t (letter_of 0 (request_of s c.port)) h.held;
-        fits = requested_fits s c u found row (adds_fit port s t few spare lac h);
+        fits = requested_fits s c u (live_open t.control is_open) found row (adds_fit port s t few spare lac h);
       }
 
   -- over an open one it is asked for at once, so that it owes two letters, and not three
@@ -392,7 +396,7 @@ module _ (e : End) (moment : ℕ) (ev : Event) (letters : List Letter) (calls : 
       branch TurnOk (is_request (call_row e.role (rung e.role port t.moment).state call_event.TunnelOpen).1) _ _
       (λ row. branch TurnOk (has_room t.control) _ _
       (λ may. adds_requested_ok port s t none is_open few spare rings lac drawn small row may h)
-      (λ full. absurd (is_roomy t h full)))
+      (λ full. absurd (is_roomy t (live_open t.control is_open) h full)))
       (λ no. absurd (true≢false (sym (rung_asks e.role port t.moment lac) ∙ no)))
 
   pub replied_ok : (remote s session serial : ℕ) (calling : Option (List ℕ)) (t : Turn) → t.changes ≡ [] → state_number t.control.state ≡ 3
@@ -440,7 +444,8 @@ module _ (e : End) (moment : ℕ) (ev : Event) (letters : List Letter) (calls : 
         fits =
             let d = asked_for e.role remote t.moment in
             fits_changed (counts_given t.control) t s (Some d)
-            (fits_new t.control (with_calls t.changed calls) s d (replied_owes e.role remote t.moment so.row) so.few spare h.fits);
+            (fits_new t.control (with_calls t.changed calls) s d (live_open t.control is_open)
+            (replied_owes e.role remote t.moment so.row) so.few spare h.fits);
       }
 
   pub first_up_ok : (s remote : ℕ) (c : Call) (t : Turn) → state_number t.control.state ≡ 3 → at (with_calls t.changed calls) s ≡ Some c
@@ -481,8 +486,9 @@ module _ (e : End) (moment : ℕ) (ev : Event) (letters : List Letter) (calls : 
             let less = connected_owes e.role c.state row in
             let d = advanced e.role call_event.IcrpAcc t.moment (record c { remote = remote }) in
             fits_changed (counts_given t.control) t s (Some d)
-            (fits_instead t.control (with_calls t.changed calls) s d c found (let before = less.0 in let now = less.1 in omega (arith, before, now))
-            (h.fits.0, h.fits.1, h.fits.2));
+            (fits_instead t.control (with_calls t.changed calls) s d c (live_open t.control is_open) found
+            (let before = less.0 in let now = less.1 in omega (arith, before, now))
+            (holds_live t.control (with_calls t.changed calls) (live_open t.control is_open) h.fits));
       }
 
   pub second_up_ok : (s speed framing : ℕ) (sequenced : Bool) (c : Call) (t : Turn) → state_number t.control.state ≡ 3
@@ -597,7 +603,7 @@ module _ (e : End) (moment : ℕ) (ev : Event) (letters : List Letter) (calls : 
             let cs = with_calls t.changed calls in
             let most = spare_most t.control cs spare in
             let count = learnt_queued window c in
-            fits_given (learns_window window c) cs h.fits.0 h.fits.1 (omega (arith, most, count));
+            fits_given (learns_window window c) cs (ap is_closed (learnt_state window c)) h.fits.0 h.fits.1 (omega (arith, most, count));
       }
 
   pub confirms_ok : (session : ℕ) (t : Turn) → t.control.state ≡ WaitCtlConn → HearsNext ev t.control session Scccn
@@ -619,7 +625,7 @@ module _ (e : End) (moment : ℕ) (ev : Event) (letters : List Letter) (calls : 
         frames = all_push NoFrame t.moves m h.frames tt;
         stays = (h.stays.0, (λ z. absurd (omega (arith, z))), h.stays.2, h.stays.3, h.stays.4, h.stays.5);
         held = h.held;
-        fits = fits_open t.control (in_state Established t.control) (with_calls t.changed calls) refl spare h.fits;
+        fits = fits_open t.control (in_state Established t.control) (with_calls t.changed calls) refl refl spare h.fits;
       }
 
   -- a letter on which nothing is done in a turn
@@ -686,7 +692,7 @@ module _ (e : End) (moment : ℕ) (ev : Event) (letters : List Letter) (calls : 
         frames = all_push NoFrame t.moves m h.frames tt;
         stays = h.stays;
         held = given_held t l h.held;
-        fits = fits_spare t.control (with_calls t.changed calls) h.fits spare;
+        fits = fits_spare t.control (with_calls t.changed calls) (live_open t.control is_open) h.fits spare;
       }
 
   -- Nr is read before anything is given

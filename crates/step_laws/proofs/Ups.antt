@@ -14,9 +14,9 @@ use Rattle.tunnel_fsm.specs.declared.table.TunnelState.TheVariants.{WaitCtlReply
 use Rattle.protocol_model.specs.declared.tunnel.CallPlace.{CallPlace}
 use Rattle.protocol_model.specs.declared.tunnel.Role.TheVariants.{Lac, Lns}
 use Rattle.protocol_model.specs.declared.event.Addressee.{Addressee}
-use Rattle.protocol_model.specs.declared.event.Addressee.TheVariants.{Opens, Main, Nobody}
+use Rattle.protocol_model.specs.declared.event.Addressee.TheVariants.{Opens, Stops, Main, Nobody}
 use Rattle.protocol_model.specs.declared.event.Event.{Event}
-use Rattle.protocol_model.specs.declared.event.Event.TheVariants.{Datagram, Ring, Payload, Lower, Hang, OpenTunnel, DropCall, Tick}
+use Rattle.protocol_model.specs.declared.event.Event.TheVariants.{Datagram, Ring, Payload, Lower, Hang, OpenTunnel, DropCall, CloseTunnel, Tick}
 use Rattle.protocol_model.specs.declared.out.Out.{Out}
 use Rattle.protocol_model.specs.declared.out.Out.TheVariants.{Drop, Cause}
 use Rattle.protocol_model.specs.Reading.{header_why, body_of}
@@ -73,6 +73,7 @@ module _ (e : End) (moment : ℕ) (block : List ℕ) where
   addressee_told : (ev : Event) (peer : ℕ) (a : Addressee) → IsTold ev (for_addressee e env ev peer a)
   unfolding for_addressee
   addressee_told ev peer (Opens remote) = more_told ev peer (Drop why.Tunnel) (dropped_told ev e why.Tunnel)
+  addressee_told ev peer (Stops remote) = dropped_told ev e why.Tunnel
   addressee_told ev peer (Main i) = main_told ev i (at e.tunnels i)
   addressee_told ev peer (Nobody w) = dropped_told ev e w
 
@@ -137,6 +138,7 @@ module _ (e : End) (moment : ℕ) (block : List ℕ) where
   step_told (Lower s frame) = by_lns (Lower s frame) _ (call_told (Lower s frame) (at e.calls s))
   step_told (Hang s) = by_lac (Hang s) _ (call_told (Hang s) (at e.calls s))
   step_told (DropCall s) = call_told (DropCall s) (at e.calls s)
+  step_told (CloseTunnel i) = main_told (CloseTunnel i) i (at e.tunnels i)
   step_told Tick = all_told
   step_told OpenTunnel = by_lac OpenTunnel _ (more_told OpenTunnel e.config.lns (Cause cause.Tunnels) (caused_told OpenTunnel e cause.Tunnels))
 

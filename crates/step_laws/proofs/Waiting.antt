@@ -10,7 +10,8 @@ use Rattle.l2tp_header.specs.declared.header.HeaderError.{HeaderError}
 use Rattle.l2tp_header.specs.Reading.{header_of}
 use Rattle.tunnel_fsm.specs.declared.table.TunnelState.{TunnelState}
 use Rattle.tunnel_fsm.specs.declared.table.TunnelState.TheVariants.{WaitCtlReply, Established}
-use Rattle.tunnel_fsm.specs.Rows.{state_number}
+use Rattle.tunnel_fsm.specs.declared.table.TunnelEvent.TheVariants as tunnel_event
+use Rattle.tunnel_fsm.specs.Rows.{rows, row_of, state_number}
 use Rattle.protocol_model.specs.declared.tunnel.Call.{Call}
 use Rattle.protocol_model.specs.declared.tunnel.CallPlace.{CallPlace}
 use Rattle.protocol_model.specs.declared.tunnel.Role.{Role}
@@ -19,9 +20,9 @@ use Rattle.wire_base.specs.declared.cause.Cause.TheVariants as cause
 use Rattle.call_fsm.specs.declared.table.CallState.TheVariants.{WaitTunnel}
 use Rattle.call_fsm.specs.declared.table.CallEvent.TheVariants as call_event
 use Rattle.protocol_model.specs.declared.event.Addressee.{Addressee}
-use Rattle.protocol_model.specs.declared.event.Addressee.TheVariants.{Opens, Main, Nobody}
+use Rattle.protocol_model.specs.declared.event.Addressee.TheVariants.{Opens, Stops, Main, Nobody}
 use Rattle.protocol_model.specs.declared.event.Event.{Event}
-use Rattle.protocol_model.specs.declared.event.Event.TheVariants.{Datagram, Ring, Payload, Lower, Hang, OpenTunnel, DropCall, Tick}
+use Rattle.protocol_model.specs.declared.event.Event.TheVariants.{Datagram, Ring, Payload, Lower, Hang, OpenTunnel, DropCall, CloseTunnel, Tick}
 use Rattle.protocol_model.specs.declared.out.Out.{Out}
 use Rattle.protocol_model.specs.declared.out.Out.TheVariants.{Drop, Cause as Refused}
 use Rattle.wire_base.specs.declared.why.Why.TheVariants as why
@@ -35,7 +36,7 @@ use Rattle.step_laws.proofs.Lists.{branch, found_passes}
 use Rattle.step_laws.proofs.States.{requested_state}
 use Rattle.step_laws.proofs.Sound.{role_stays, stays_sound}
 use Rattle.step_laws.proofs.Late.{holds_after, ticks_leave, roomy, ticked}
-use Rattle.step_laws.proofs.Asking.{Waits, Busy, Begins, Asked, closes_asked, IsNew, datagram_asked, rings_asked, carries_asked, heard_new, rings_is_new, opens_new}
+use Rattle.step_laws.proofs.Asking.{Waits, Busy, Begins, Asked, closes_asked, shuts_by_asked, IsNew, datagram_asked, rings_asked, carries_asked, heard_new, rings_is_new, opens_new}
 use Rattle.step_laws.proofs.Steps.{in_state_is}
 
 -- no call waits but where the SCCRQ isn't answered yet
@@ -116,6 +117,7 @@ module _ (e : End) (kept : AreKept e) (none : NoneWaits e) (moment : ℕ) (block
   addressee_asked peer bytes (Opens remote) =
       more_asked (Datagram peer bytes) peer (Drop why.Tunnel)
       (new_asked _ (heard_new e.role e.config bytes (header_of bytes) (turn_of (fresh peer moment) env) refl refl))
+  addressee_asked peer bytes (Stops remote) = only_asked _
   addressee_asked peer bytes (Main i) = main_asked (Datagram peer bytes) i (heard peer bytes i)
   addressee_asked peer bytes (Nobody w) = only_asked _
 
@@ -183,6 +185,12 @@ module _ (e : End) (kept : AreKept e) (none : NoneWaits e) (moment : ℕ) (block
   closed s i t is =
       closes_asked e.role t.calls (kept.tunnels i t is).calls cause.Operator call_event.Close 3 s t.letters (at t.calls s) (turn_of t.control env) (begins i t is)
 
+  shut : (i : ℕ) (t : Tunnel) → at e.tunnels i ≡ Some t → Asked e.role t.calls (turn (CloseTunnel i) t)
+  unfolding turns
+  shut i t is =
+      let row = row_of rows t.control.state tunnel_event.AdminClose in
+      shuts_by_asked e.role t.calls t.letters row.0 row.1 (turn_of t.control env) (begins i t is)
+
   hung_asked : (s : ℕ) (o : Option CallPlace) → AllAsked (for_call e env (Hang s) o)
   unfolding for_call
   hung_asked s None = only_asked _
@@ -224,6 +232,7 @@ module _ (e : End) (kept : AreKept e) (none : NoneWaits e) (moment : ℕ) (block
   step_asked (Lower s frame) = by_lns _ (lower_asked s frame (at e.calls s))
   step_asked (Hang s) = by_lac _ (hung_asked s (at e.calls s))
   step_asked (DropCall s) = closed_asked s (at e.calls s)
+  step_asked (CloseTunnel i) = main_asked (CloseTunnel i) i (shut i)
   step_asked Tick = ticks_asked
   step_asked OpenTunnel = by_lac _ opens_asked
 
@@ -239,5 +248,5 @@ calls_are_asked chains e kept sound asked moment block ev i t there is_open s c 
     let none : NoneWaits e = λ j u found opened q d here waits. asked j u found opened q d here (requested_state e.role d.state waits.row).0 in
     let call : (s < 65536) × CanBe x.role c.state = stays_sound chains e kept moment block ev sound i t there s c live in
     let can : CanBe e.role c.state = subst (λ r. CanBe r c.state) (role_stays chains e kept moment block ev) call.1 in
-    true≢false (sym (roomy i t ((chains e kept moment block ev).kept.tunnels i t there))
+    true≢false (sym (roomy i t ((chains e kept moment block ev).kept.tunnels i t there) s c live)
     ∙ step_asked e kept none moment block ev i t there is_open s c live (waiting e.role s c call.0 can is))
