@@ -1,5 +1,5 @@
 -- What each cause that a step tells says of the end before the step and of what came, and that no cause stands which counts before it.
-use Rattle.std.specs.Prelude.{◌≡◌, ◌⊎◌, ℕ, Bool, true, false, List, Option, Some, None, Err}
+use Rattle.std.specs.Prelude.{◌≡◌, ◌⊎◌, ℕ, Bool, true, false, List, Option, Some, None, is_some, Ok, Err}
 use Rattle.id_table.specs.Ids.{at}
 use Rattle.id_source.specs.declared.IdError.{IdError}
 use Rattle.id_source.specs.Spaces.{draws}
@@ -18,13 +18,16 @@ use Rattle.tunnel_fsm.specs.declared.table.TunnelAction.TheVariants as action
 use Rattle.tunnel_fsm.specs.Rows.{rows, row_of, state_number}
 use Rattle.protocol_model.specs.declared.tunnel.Role.TheVariants.{Lns}
 use Rattle.protocol_model.specs.declared.event.Event.{Event}
-use Rattle.protocol_model.specs.declared.event.Event.TheVariants.{Hang, OpenTunnel, DropCall, CloseTunnel}
+use Rattle.protocol_model.specs.declared.event.Event.TheVariants.{Datagram, Hang, OpenTunnel, DropCall, CloseTunnel}
 use Rattle.protocol_model.specs.declared.out.Out.TheVariants.{Cause}
 use Rattle.protocol_model.specs.declared.tunnel.Call.{Call}
-use Rattle.protocol_model.specs.Reading.{CallFault, TunnelFault}
+use Rattle.protocol_model.specs.Reading.{body_of, message_in, CallFault, TunnelFault, tunnel_fault_in, at_zero}
 use Rattle.protocol_model.specs.Calls.{call_row, is_reply, is_told, are_too_many}
 use Rattle.protocol_model.specs.Turn.{Tunnel, may_take, call_of, is_acceptable}
-use Rattle.protocol_model.specs.End.{End, has_all_tunnels, step}
+use Rattle.protocol_model.specs.declared.event.Addressee.TheVariants.{Opens, Answers}
+use Rattle.l2tp_header.specs.declared.header.Header.{Header}
+use Rattle.l2tp_header.specs.Reading.{header_of}
+use Rattle.protocol_model.specs.End.{End, known_as, has_all_tunnels, step}
 use Rattle.step_laws.specs.Letters.{Among}
 use Rattle.step_laws.specs.Moves.{TookTooLong, InTunnel, IsFaulty, IsFaultyInTunnel}
 use Rattle.step_laws.specs.Steps.{AreKept}
@@ -100,18 +103,6 @@ pub data IsOutOfState (e : End) (ev : Event) (t : Tunnel) : Type 0 where
   ConnectedInVain : (speed framing s : ℕ) (sequenced : Bool) → Came e ev t s (Iccn speed framing sequenced) → IsTold e t s call_event.IccnAcc
       → IsOutOfState e ev t
 
--- ---- the causes
-
--- a space of ids is at its end, and a ring, the opening of a tunnel or a request wants one of it
-pub data LackIds (e : End) (ev : Event) : Type 0 where
-  ForRing : (t : Tunnel) (x : IdError) → RingsOver e ev t → are_too_many t.calls ≡ false → may_take t.control t.calls ≡ true
-      → draws e.session_ids ≡ Err x → LackIds e ev
-  ForNew : RingsNew e ev → has_all_tunnels e.tunnels ≡ false → ((x : IdError) × (draws e.session_ids ≡ Err x)) ⊎ ((x : IdError) × (draws e.tunnel_ids ≡ Err x)) → LackIds e ev
-  ForOpening : (x : IdError) → ev ≡ OpenTunnel → has_all_tunnels e.tunnels ≡ false → draws e.tunnel_ids ≡ Err x → LackIds e ev
-  ForRequest : (t : Tunnel) (remote : ℕ) (x : IdError) → Asks e ev t remote → (TakesNoCalls e → ⊥) → (IsIdInUse t remote → ⊥)
-      → are_too_many t.calls ≡ false
-      → draws e.session_ids ≡ Err x → LackIds e ev
-
 -- ---- tunnels that close
 
 -- a tunnel that isn't closed, and whose table has it closed with a StopCCN on such an event
@@ -128,12 +119,60 @@ pub record CameClosing (e : End) (ev : Event) (c : CauseOf) : Type 0 where
   pub closed : IsClosedOn e tunnel fault.event
   pub is : fault.cause ≡ c
 
--- an SCCRQ or an SCCRP that isn't acceptable came in a tunnel
-pub data IsOfOtherVersion (e : End) (ev : Event) : Type 0 where
-  InSccrq : (t : Tunnel) (session : ℕ) (o : Opening) → InTunnel ev t.control session (Sccrq o) → is_acceptable o ≡ false → IsClosedOn e t event.SccrqNotAcc
-      → IsOfOtherVersion e ev
-  InSccrp : (t : Tunnel) (session : ℕ) (o : Opening) → InTunnel ev t.control session (Sccrp o) → is_acceptable o ≡ false → IsClosedOn e t event.SccrpNotAcc
-      → IsOfOtherVersion e ev
+-- a control message came that names no tunnel, from a peer
+pub record NamesNone (ev : Event) (peer : ℕ) (body : List ℕ) : Type 0 where
+  pub bytes : List ℕ
+  pub is : ev ≡ Datagram peer bytes
+  pub header : Header
+  pub read : header_of bytes ≡ Ok header
+  pub control : header.control ≡ true
+  pub none : header.tunnel ≡ 0
+  pub body_is : body ≡ body_of header bytes
+
+-- an SCCRQ came that would open a tunnel: the peer's end has none here yet
+pub record WouldOpen (e : End) (ev : Event) (o : Opening) : Type 0 where
+  pub peer : ℕ
+  pub body : List ℕ
+  pub came : NamesNone ev peer body
+  pub said : message_in body ≡ Ok (Sccrq o)
+  pub alone : known_as peer o.tunnel e.tunnels ≡ None
+
+-- an opening that isn't acceptable: it came in a tunnel, which is closed, or would open one
+pub data IsNotAccepted (e : End) (ev : Event) (o : Opening) : Type 0 where
+  InSccrq : (t : Tunnel) (session : ℕ) → InTunnel ev t.control session (Sccrq o) → IsClosedOn e t event.SccrqNotAcc → IsNotAccepted e ev o
+  InSccrp : (t : Tunnel) (session : ℕ) → InTunnel ev t.control session (Sccrp o) → IsClosedOn e t event.SccrpNotAcc → IsNotAccepted e ev o
+  AtZero : WouldOpen e ev o → IsNotAccepted e ev o
+
+-- it wants to recover a tunnel, of version 1.0
+abbrev pub WantsRecovery : Opening → Type 0
+WantsRecovery o = (o.version ≡ 256) × (is_some o.recovery ≡ true)
+
+-- it is of version 1.0 and wants to recover none
+abbrev pub IsOrdinary : Opening → Type 0
+IsOrdinary o = (o.version ≡ 256) × (is_some o.recovery ≡ false)
+
+-- a challenge of an SCCRQ that would open a tunnel counts only where there may be one more
+abbrev pub MayOpen : End → Event → Opening → Type 0
+MayOpen e ev o = WouldOpen e ev o → has_all_tunnels e.tunnels ≡ false
+
+-- an SCCRQ that names no tunnel came, and has this fault; or an SCCRP did
+pub record CameFaultyOpening (e : End) (ev : Event) (c : CauseOf) : Type 0 where
+  pub peer : ℕ
+  pub remote : ℕ
+  pub body : List ℕ
+  pub came : NamesNone ev peer body
+  pub opens : at_zero body ≡ Opens remote
+  pub alone : known_as peer remote e.tunnels ≡ None
+  pub fault : TunnelFault
+  pub has : tunnel_fault_in body ≡ Some fault
+  pub is : fault.cause ≡ c
+
+pub record CameAnswer (ev : Event) : Type 0 where
+  pub peer : ℕ
+  pub remote : ℕ
+  pub body : List ℕ
+  pub came : NamesNone ev peer body
+  pub answers : at_zero body ≡ Answers remote
 
 -- one that is acceptable, or an SCCCN, came in a tunnel that doesn't wait for it
 pub data IsOutOfOrder (e : End) (ev : Event) : Type 0 where
@@ -142,6 +181,20 @@ pub data IsOutOfOrder (e : End) (ev : Event) : Type 0 where
   AnSccrp : (t : Tunnel) (session : ℕ) (o : Opening) → InTunnel ev t.control session (Sccrp o) → is_acceptable o ≡ true → IsClosedOn e t event.SccrpAcc
       → IsOutOfOrder e ev
   AnScccn : (t : Tunnel) (session : ℕ) → InTunnel ev t.control session Scccn → IsClosedOn e t event.ScccnAcc → IsOutOfOrder e ev
+
+-- ---- the causes
+
+-- a space of ids is at its end, and a ring, the opening of a tunnel or a request wants one of it
+pub data LackIds (e : End) (ev : Event) : Type 0 where
+  ForRing : (t : Tunnel) (x : IdError) → RingsOver e ev t → are_too_many t.calls ≡ false → may_take t.control t.calls ≡ true
+      → draws e.session_ids ≡ Err x → LackIds e ev
+  ForNew : RingsNew e ev → has_all_tunnels e.tunnels ≡ false → ((x : IdError) × (draws e.session_ids ≡ Err x)) ⊎ ((x : IdError) × (draws e.tunnel_ids ≡ Err x)) → LackIds e ev
+  ForOpening : (x : IdError) → ev ≡ OpenTunnel → has_all_tunnels e.tunnels ≡ false → draws e.tunnel_ids ≡ Err x → LackIds e ev
+  ForRequest : (t : Tunnel) (remote : ℕ) (x : IdError) → Asks e ev t remote → (TakesNoCalls e → ⊥) → (IsIdInUse t remote → ⊥)
+      → are_too_many t.calls ≡ false
+      → draws e.session_ids ≡ Err x → LackIds e ev
+  ForPeer : (o : Opening) (x : IdError) → WouldOpen e ev o → is_acceptable o ≡ true → has_all_tunnels e.tunnels ≡ false
+      → draws e.tunnel_ids ≡ Err x → LackIds e ev
 
 -- what a cause says; those that aren't told yet say nothing that can be so
 abbrev pub Stands : End → ℕ → Event → CauseOf → Type 0
@@ -152,18 +205,23 @@ Stands e moment ev cause.Line = (s : ℕ) × (t : Tunnel) × (ev ≡ Hang s) × 
 Stands e moment ev cause.Setup = IsLate e moment ev
 Stands e moment ev cause.Avp = CameClosing e ev cause.Avp
 Stands e moment ev cause.Value =
-    ((t : Tunnel) × (header : ℕ) × (f : CallFault) × CameFaulty e ev t header f × (f.cause ≡ cause.Value)) ⊎ CameClosing e ev cause.Value
+    ((t : Tunnel) × (header : ℕ) × (f : CallFault) × CameFaulty e ev t header f × (f.cause ≡ cause.Value))
+    ⊎ (CameClosing e ev cause.Value ⊎ CameFaultyOpening e ev cause.Value)
 Stands e moment ev cause.Mandatory =
-    ((t : Tunnel) × (header : ℕ) × (f : CallFault) × CameFaulty e ev t header f × (f.cause ≡ cause.Mandatory)) ⊎ CameClosing e ev cause.Mandatory
-Stands e moment ev cause.Version = IsOfOtherVersion e ev
-Stands e moment ev cause.State = ((t : Tunnel) × IsOutOfState e ev t) ⊎ IsOutOfOrder e ev
+    ((t : Tunnel) × (header : ℕ) × (f : CallFault) × CameFaulty e ev t header f × (f.cause ≡ cause.Mandatory))
+    ⊎ (CameClosing e ev cause.Mandatory ⊎ CameFaultyOpening e ev cause.Mandatory)
+Stands e moment ev cause.Version = (o : Opening) × IsNotAccepted e ev o × (o.version ≡ 256 → ⊥)
+Stands e moment ev cause.Recover = (o : Opening) × IsNotAccepted e ev o × WantsRecovery o
+Stands e moment ev cause.Secret = (o : Opening) × IsNotAccepted e ev o × IsOrdinary o × (is_some o.challenge ≡ true) × MayOpen e ev o
+Stands e moment ev cause.State = ((t : Tunnel) × IsOutOfState e ev t) ⊎ (IsOutOfOrder e ev ⊎ CameAnswer ev)
 Stands e moment ev cause.Session = (t : Tunnel) × (remote : ℕ) × Asks e ev t remote × (TakesNoCalls e → ⊥) × IsIdInUse t remote
 Stands e moment ev cause.Calls =
     ((t : Tunnel) × RingsOver e ev t × (are_too_many t.calls ≡ true))
     ⊎ ((t : Tunnel) × (remote : ℕ) × Asks e ev t remote × (TakesNoCalls e → ⊥) × (IsIdInUse t remote → ⊥) × (are_too_many t.calls ≡ true))
 Stands e moment ev cause.Queue = (t : Tunnel) × RingsOver e ev t × (are_too_many t.calls ≡ false) × (may_take t.control t.calls ≡ false)
 Stands e moment ev cause.Ids = LackIds e ev
-Stands e moment ev cause.Tunnels = (RingsNew e ev ⊎ (ev ≡ OpenTunnel)) × (has_all_tunnels e.tunnels ≡ true)
+Stands e moment ev cause.Tunnels =
+    (RingsNew e ev ⊎ ((ev ≡ OpenTunnel) ⊎ ((o : Opening) × WouldOpen e ev o × IsOrdinary o))) × (has_all_tunnels e.tunnels ≡ true)
 Stands e moment ev cause.Outgoing = (t : Tunnel) × (header : ℕ) × (remote : ℕ) × Came e ev t header (Ocrq remote)
 Stands e moment ev c = ⊥
 

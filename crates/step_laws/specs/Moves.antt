@@ -51,16 +51,17 @@ use Rattle.protocol_model.specs.declared.moves.EndSilent.{EndSilent}
 use Rattle.protocol_model.specs.declared.moves.Greeted.{Greeted}
 use Rattle.protocol_model.specs.declared.moves.Closed.{Closed}
 use Rattle.protocol_model.specs.declared.moves.ClosedBy.{ClosedBy}
+use Rattle.protocol_model.specs.declared.moves.Declined.{Declined}
 use Rattle.protocol_model.specs.declared.moves.Repeated.{Repeated}
 use Rattle.protocol_model.specs.declared.moves.FrameSent.{FrameSent}
 use Rattle.protocol_model.specs.declared.moves.FrameUp.{FrameUp}
 use Rattle.protocol_model.specs.declared.moves.Move.{Move}
 use Rattle.protocol_model.specs.declared.moves.Move.TheVariants as move
-use Rattle.protocol_model.specs.declared.event.Addressee.TheVariants.{Stops}
+use Rattle.protocol_model.specs.declared.event.Addressee.TheVariants.{Opens, Stops, Answers}
 use Rattle.protocol_model.specs.Reading.{body_of, message_in, CallFault, call_fault_in, TunnelFault, tunnel_fault_in, at_zero}
 use Rattle.protocol_model.specs.Calls.{call_row, advanced, rung, asked_for, is_request, is_reply, is_connection, is_told, is_up, is_set_up, are_too_many, frame_of, side_of}
-use Rattle.protocol_model.specs.Turn.{Tunnel, has_room, may_take, place, next_place, taken_place, letter_of, fresh, counts_given, counts_taken, counts_acked, counts_sent, counts_repeated, learns_window, in_state, opening_of, request_of, connection, is_clean_up, session_named, Reason, granted, out_of_order, fault_reason, fault_error, is_acceptable, event_by, opening_reason, known_or, shut, is_closed, is_at_its_end, is_over, patience}
-use Rattle.protocol_model.specs.End.{End, new_place, with_look, with_looks}
+use Rattle.protocol_model.specs.Turn.{Tunnel, has_room, may_take, place, next_place, taken_place, letter_of, fresh, counts_given, counts_taken, counts_acked, counts_sent, counts_repeated, learns_window, in_state, opening_of, request_of, connection, is_clean_up, session_named, Reason, granted, fault_error, is_acceptable, event_by, opening_reason, known_or, shut, is_closed, is_at_its_end, is_over, patience}
+use Rattle.protocol_model.specs.End.{End, new_place, with_look, with_looks, known_as, against_opening, next_of_peer}
 
 -- ---- what came
 
@@ -414,17 +415,40 @@ pub record EndsSilently (e : End) (moment : ℕ) (ev : Event) (m : EndSilent) (x
   pub row : is_clean_up (call_row e.role call.state on).1 ≡ true
   pub after : x ≡ without_call e m.tunnel tunnel m.session
 
+-- ---- openings that are declined
+
+-- why an opening is declined, by a StopCCN with these codes: something stands against an SCCRQ, or it has a fault; or it is an SCCRP
+pub data WhyDeclined (e : End) (body : List ℕ) (m : Declined) : Type 0 where
+  AnOpening : (o : Opening) (r : Reason) → message_in body ≡ Ok (Sccrq o) → m.remote ≡ o.tunnel → against_opening e o ≡ Some r
+      → m.result ≡ r.result → m.error ≡ r.error → WhyDeclined e body m
+  AFaultyOpening : (g : TunnelFault) → at_zero body ≡ Opens m.remote → tunnel_fault_in body ≡ Some g → g.event ≡ event.SccrqNotAcc
+      → m.result ≡ 2 → m.error ≡ Some (fault_error g.cause) → WhyDeclined e body m
+  AnAnswer : at_zero body ≡ Answers m.remote → m.result ≡ 7 → m.error ≡ None → WhyDeclined e body m
+
+-- it came to no tunnel, and no tunnel of this end is the other end of the peer's; nothing changes
+pub record Declines (e : End) (ev : Event) (m : Declined) (x : End) : Type 0 where
+  pub bytes : List ℕ
+  pub is : ev ≡ Datagram m.peer bytes
+  pub header : Header
+  pub read : header_of bytes ≡ Ok header
+  pub control : header.control ≡ true
+  pub none : header.tunnel ≡ 0
+  pub nr : m.nr ≡ next_of_peer header
+  pub some : m.remote ≡ 0 → ⊥
+  pub why : WhyDeclined e (body_of header bytes) m
+  pub after : x ≡ e
+
 -- ---- tunnels that close
 
 -- why a tunnel is closed: the event of its table, the codes of the StopCCN that tells it (RFC 2661 section 4.4.2), and the id of the
 -- peer's to which it goes
 pub data WhyCloses (t : Tunnel) (ev : Event) (on : TunnelEvent) (m : Closed) : Type 0 where
   ByOperator : ev ≡ CloseTunnel m.tunnel → on ≡ event.AdminClose → m.remote ≡ t.control.remote → m.result ≡ 1 → m.error ≡ None → WhyCloses t ev on m
-  -- an opening came again, or has another version; that of an SCCRP tells the peer's id
+  -- an opening came again, or isn't acceptable; that of an SCCRP tells the peer's id
   BySccrq : (session : ℕ) (o : Opening) → InTunnel ev t.control session (Sccrq o) → on ≡ event_by event.SccrqAcc event.SccrqNotAcc o
-      → m.remote ≡ t.control.remote → m.result ≡ (opening_reason o).result → m.error ≡ None → WhyCloses t ev on m
+      → m.remote ≡ t.control.remote → m.result ≡ (opening_reason o).result → m.error ≡ (opening_reason o).error → WhyCloses t ev on m
   BySccrp : (session : ℕ) (o : Opening) → InTunnel ev t.control session (Sccrp o) → on ≡ event_by event.SccrpAcc event.SccrpNotAcc o
-      → m.remote ≡ known_or o.tunnel t.control → m.result ≡ (opening_reason o).result → m.error ≡ None → WhyCloses t ev on m
+      → m.remote ≡ known_or o.tunnel t.control → m.result ≡ (opening_reason o).result → m.error ≡ (opening_reason o).error → WhyCloses t ev on m
   ByScccn : (session : ℕ) → InTunnel ev t.control session Scccn → on ≡ event.ScccnAcc → m.remote ≡ t.control.remote → m.result ≡ 7 → m.error ≡ None
       → WhyCloses t ev on m
   -- a message has a fault
@@ -592,6 +616,7 @@ Does e moment ev (move.Refused m) x = Refuses e ev m x
 Does e moment ev (move.EndTold m) x = TellsEnd e moment ev m x
 Does e moment ev (move.EndHeard m) x = HearsEnd e ev m x
 Does e moment ev (move.EndSilent m) x = EndsSilently e moment ev m x
+Does e moment ev (move.Declined m) x = Declines e ev m x
 Does e moment ev (move.Closed m) x = Closes e moment ev m x
 Does e moment ev (move.ClosedBy m) x = ClosesBy e moment ev m x
 Does e moment ev (move.Cleared i) x = Clears e moment ev i x

@@ -1,5 +1,5 @@
 -- Each step of an end is a chain of its moves; what it sends and hands up is theirs, and what is kept of tunnels stays kept.
-use Rattle.std.specs.Prelude.{◌≡◌, ◌<◌, ◌≤◌, ℕ, ◌+◌, ◌^◌, true, false, List, [], Some, length}
+use Rattle.std.specs.Prelude.{◌≡◌, ◌⊎◌, ◌<◌, ◌≤◌, ℕ, ◌+◌, ◌^◌, true, false, List, [], Some, length}
 use Rattle.std.specs.List.{AllByRecursion}
 use Rattle.id_table.specs.Ids.{at}
 use Rattle.id_table.specs.Order.{Ascends}
@@ -13,7 +13,12 @@ use Rattle.protocol_model.specs.declared.moves.Move.{Move}
 use Rattle.protocol_model.specs.declared.moves.Move.TheVariants as move
 use Rattle.protocol_model.specs.Calls.{owed_by}
 use Rattle.protocol_model.specs.Turn.{Tunnel, is_closed}
-use Rattle.protocol_model.specs.End.{End, Stepped, step}
+use Rattle.protocol_model.specs.End.{End, Stepped, decline_origin, step}
+use Rattle.protocol_model.specs.declared.moves.Declined.{Declined}
+use Rattle.l2tp_header.specs.Spelling.{control_bytes}
+use Rattle.avp_codec.specs.Spelling.{spelling}
+use Rattle.control_message.specs.declared.message.Message.TheVariants.{StopCcn}
+use Rattle.control_message.specs.Pairs.{pairs_of}
 use Rattle.step_laws.specs.Letters.{Among, Carries, HasOutput}
 use Rattle.step_laws.specs.Moves.{Chain}
 
@@ -52,6 +57,14 @@ pub record IsSent (e : End) (moves : List Move) (peer : ℕ) (bytes : List ℕ) 
   pub peer_is : peer ≡ tunnel.control.peer
   pub carries : Carries tunnel moves bytes o
 
+-- what is sent for no tunnel is the StopCCN of an opening that a move declines
+pub record IsDecline (moves : List Move) (peer : ℕ) (bytes : List ℕ) (o : Origin) : Type 0 where
+  pub declined : Declined
+  pub there : Among (move.Declined declined) moves
+  pub peer_is : peer ≡ declined.peer
+  pub bytes_are : bytes ≡ control_bytes declined.remote 0 0 declined.nr (spelling (pairs_of (StopCcn 0 declined.result declined.error)))
+  pub origin_is : o ≡ decline_origin declined.nr
+
 -- what is handed up is what a move hands up
 pub record IsHandedUp (moves : List Move) (session : ℕ) (side : Side) (frame : List ℕ) : Type 0 where
   pub tunnel : ℕ
@@ -59,7 +72,7 @@ pub record IsHandedUp (moves : List Move) (session : ℕ) (side : Side) (frame :
   pub there : Among (move.FrameUp (record { tunnel = tunnel; peer = peer; session = session; side = side; frame = frame })) moves
 
 abbrev pub IsOfMoves : End → List Move → Out → Type 0
-IsOfMoves e moves (Send peer bytes o) = IsSent e moves peer bytes o
+IsOfMoves e moves (Send peer bytes o) = IsSent e moves peer bytes o ⊎ IsDecline moves peer bytes o
 IsOfMoves e moves (Up session side frame) = IsHandedUp moves session side frame
 IsOfMoves e moves (Gone session) = Unit {0}
 IsOfMoves e moves (Drop w) = Unit {0}
