@@ -1,5 +1,5 @@
 -- What a run did with the letters of each tunnel, of what its lines did. No end keeps it, and the run doesn't depend on it.
-use Rattle.std.specs.Prelude.{ℕ, List, [], ◌∷◌, ◌++◌, length, ◌==◌, ◌&&◌, Option, Some, None, unwrap_or, if◌then◌else◌}
+use Rattle.std.specs.Prelude.{ℕ, List, [], ◌∷◌, ◌++◌, length, Bool, true, false, ◌==◌, ◌&&◌, Option, Some, None, unwrap_or, if◌then◌else◌}
 use Rattle.protocol_model.specs.declared.moves.Place.{Place}
 use Rattle.protocol_model.specs.declared.moves.Move.{Move}
 use Rattle.protocol_model.specs.declared.moves.Move.TheVariants as move
@@ -33,9 +33,11 @@ pub record Account : Type 0 where
   pub taken : List Taken
   -- once it is closed, how many letters it had taken before, or before the one that closed it; what it takes since is ignored
   pub closed : Option ℕ
+  -- whether its peer declined its SCCRQ, by a StopCCN of no tunnel
+  pub declined : Bool
 
 abbrev pub no_account : Account
-no_account = record { part = Unmade; peer = 0; remote = 0; given = []; taken = []; closed = None }
+no_account = record { part = Unmade; peer = 0; remote = 0; given = []; taken = []; closed = None; declined = false }
 
 -- how many letters it took as long as it wasn't closed
 abbrev pub heeded : Account → ℕ
@@ -56,6 +58,7 @@ about (move.Refused m) = m.tunnel
 about (move.EndTold m) = m.tunnel
 about (move.EndHeard m) = m.tunnel
 about (move.EndSilent m) = m.tunnel
+about (move.Declined m) = 0
 about (move.Closed m) = m.tunnel
 about (move.ClosedBy m) = m.tunnel
 about (move.Cleared i) = i
@@ -93,6 +96,7 @@ entered_by d (move.Refused m) a = gives_also d (takes_at d m.taken a)
 entered_by d (move.EndTold m) a = gives_also d a
 entered_by d (move.EndHeard m) a = takes_at d m.taken a
 entered_by d (move.EndSilent m) a = a
+entered_by d (move.Declined m) a = a
 entered_by d (move.Closed m) a = gives_also d (record a { remote = m.remote; closed = Some (length a.taken) })
 entered_by d (move.ClosedBy m) a = takes_at d m.taken (record a { closed = Some (length a.taken) })
 entered_by d (move.Cleared i) a = a
@@ -108,9 +112,18 @@ entered_by d (move.FrameUp m) a = a
 abbrev pub entered : Deed → Account → Account
 entered d a = entered_by d d.move a
 
+-- the tunnel of another node whose SCCRQ a move declines
+abbrev pub declines_of : Move → ℕ → ℕ → Bool
+declines_of (move.Declined m) n i = (node_of m.peer == n) && (m.remote == i)
+declines_of m n i = false
+
+abbrev pub declined_in : Bool → Account → Account
+declined_in true a = record a { declined = true }
+declined_in false a = a
+
 -- the tunnel of a node after a deed
 abbrev pub after_deed : Deed → ℕ → ℕ → Account → Account
-after_deed d n i a = if (d.node == n) && (about d.move == i) then entered d a else a
+after_deed d n i a = declined_in (declines_of d.move n i) (if (d.node == n) && (about d.move == i) then entered d a else a)
 
 unfoldable pub account_from : List Deed → ℕ → ℕ → Account → Account
 account_from [] n i a = a

@@ -1,5 +1,5 @@
 -- What control connections carry, in every run.
-use Rattle.std.specs.Prelude.{◌≡◌, ◌⊎◌, ℕ, ◌+◌, ◌-◌, ◌^◌, ◌<◌, ◌≤◌, ◌&&◌, nat_le, false, if◌then◌else◌, List, length, slice_get, Some, None}
+use Rattle.std.specs.Prelude.{◌≡◌, ◌⊎◌, ℕ, ◌+◌, ◌-◌, ◌^◌, ◌<◌, ◌≤◌, ◌&&◌, nat_le, true, false, if◌then◌else◌, List, length, slice_get, Some, None}
 use Rattle.std.specs.List.{AllByRecursion}
 use Rattle.id_table.specs.Ids.{at}
 use Rattle.send_window.specs.Kept.{Window}
@@ -17,13 +17,13 @@ use Rattle.protocol_model.specs.End.{reached}
 use Rattle.protocol_model.specs.World.{Node, Sender, Deed, too_old}
 use Rattle.protocol_model.specs.Run.{Run, run}
 use Rattle.connection_laws.specs.Accounts.{Taken, account_of}
-use Rattle.connection_laws.specs.Facts.{IsCopy, AreTaken, Holds}
+use Rattle.connection_laws.specs.Facts.{IsCopy, IsRefusal, AreTaken, Holds}
 
 -- ---- what is said and taken
 
--- a control message of a run
+-- a control message of a run: a copy of a letter, or of none; or a StopCCN of no tunnel, which declines an opening
 abbrev pub IsCopied : List Deed → Packet → Type 0
-IsCopied ds p = (o : ControlOrigin) → p.origin ≡ origin.Control o → IsCopy (account_of ds p.from o.tunnel) p o
+IsCopied ds p = (o : ControlOrigin) → p.origin ≡ origin.Control o → IsCopy (account_of ds p.from o.tunnel) p o ⊎ IsRefusal (account_of ds) p o
 
 pub record LettersAreCarried (r : Run) : Type 0 where
   -- each control message is a copy of the letter at its number in its sender's list, or of none
@@ -50,11 +50,15 @@ pub record WasIgnored (ds : List Deed) (n number : ℕ) : Type 0 where
   pub closed : (account_of ds node tunnel).closed ≡ Some count
   pub before : count ≤ number
 
+-- it is the SCCRQ of a tunnel, which its peer declined
+abbrev pub WasDeclined : List Deed → ℕ → ℕ → ℕ → Type 0
+WasDeclined ds n i number = (number ≡ 0) × ((account_of ds n i).declined ≡ true)
+
 -- each letter that a live tunnel counts as acknowledged
 abbrev pub AcksAreTrue : Run → Type 0
 AcksAreTrue r = (n : ℕ) (node : Node) → at r.world.nodes n ≡ Some node → (i : ℕ) (t : Tunnel) → at node.end.tunnels i ≡ Some t
     → (number : ℕ) → number < t.control.channel.window.acked
-    → WasTaken r.done (record { node = n; tunnel = i }) number ⊎ WasIgnored r.done n number
+    → WasTaken r.done (record { node = n; tunnel = i }) number ⊎ (WasIgnored r.done n number ⊎ WasDeclined r.done n i number)
 
 -- ---- how numbers on the wire are read
 

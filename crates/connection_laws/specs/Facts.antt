@@ -32,6 +32,7 @@ use Rattle.protocol_model.specs.World.{World, Node, Sender, sender_of}
 use Rattle.step_laws.specs.Letters.{Letter}
 use Rattle.step_laws.specs.Moves.{IsFor}
 use Rattle.step_laws.specs.Steps.{AreKept}
+use Rattle.step_laws.specs.Codes.{CodesFit}
 use Rattle.connection_laws.specs.Accounts.{Part, Unmade, Opener, Acceptor, Taken, Account, no_account, heeded, partner_of}
 
 -- what is known of each tunnel of each node, by the node and the local id
@@ -275,7 +276,7 @@ IsInState accs i a t Acceptor =
 abbrev pub AreAcked : Accounts → ℕ → ℕ → Account → ℕ → Part → Type 0
 AreAcked accs n i a acked Unmade = ⊥
 AreAcked accs n i a acked Opener =
-    (a.remote ≡ 0 → (acked ≡ 0) ⊎ IsAnswered accs n i a acked)
+    (a.remote ≡ 0 → (acked ≡ 0) ⊎ (IsAnswered accs n i a acked ⊎ ((acked ≡ 1) × (a.declined ≡ true))))
     × ((a.remote ≡ 0 → ⊥) → acked ≤ length (partner_in accs a).taken)
 AreAcked accs n i a acked Acceptor =
     (((partner_in accs a).remote ≡ i → ⊥) → (acked ≡ 0) ⊎ IsLost (partner_in accs a))
@@ -334,8 +335,24 @@ pub record IsCopy (a : Account) (p : Packet) (o : ControlOrigin) : Type 0 where
   pub to : p.to ≡ a.peer
   pub nr : o.nr ≤ length a.taken
   pub tunnel : ℕ
-  pub named : ((tunnel ≡ 0) × (IsLost a ⊎ ((o.nr ≡ 0) × (o.empty ≡ false → o.ns ≡ 0)))) ⊎ ((tunnel ≡ 0 → ⊥) × (tunnel ≡ a.remote))
+  pub named : ((tunnel ≡ 0) × (a.part ≡ Opener) × (IsLost a ⊎ ((o.nr ≡ 0) × (o.empty ≡ false → o.ns ≡ 0))))
+      ⊎ ((tunnel ≡ 0 → ⊥) × (tunnel ≡ a.remote))
   pub says : Says a o tunnel p.bytes
+
+-- a StopCCN of no tunnel declines the SCCRQ of a tunnel of the node that it goes to
+pub record IsRefusal (accs : Accounts) (p : Packet) (o : ControlOrigin) : Type 0 where
+  pub none : o.tunnel ≡ 0
+  pub ns : o.ns ≡ 0
+  pub nr : o.nr ≡ 1
+  pub some : o.empty ≡ false
+  pub tunnel : ℕ
+  pub opener : (accs p.to tunnel).part ≡ Opener
+  pub peer : (accs p.to tunnel).peer ≡ p.from
+  pub declined : (accs p.to tunnel).declined ≡ true
+  pub result : ℕ
+  pub error : Option ℕ
+  pub fit : CodesFit result error
+  pub are : p.bytes ≡ control_bytes tunnel 0 0 1 (spelling (pairs_of (StopCcn 0 result error)))
 
 -- a data message is one: nothing more is said of it here
 pub record IsData (bytes : List ℕ) : Type 0 where
@@ -347,7 +364,7 @@ pub record IsData (bytes : List ℕ) : Type 0 where
   pub are : bytes ≡ data_bytes tunnel session None frame
 
 abbrev pub OriginOk : Accounts → Packet → Origin → Type 0
-OriginOk accs p (origin.Control o) = IsCopy (accs p.from o.tunnel) p o
+OriginOk accs p (origin.Control o) = IsCopy (accs p.from o.tunnel) p o ⊎ IsRefusal accs p o
 OriginOk accs p (origin.Data session) = IsData p.bytes
 
 pub record PacketOk (accs : Accounts) (p : Packet) : Type 0 where

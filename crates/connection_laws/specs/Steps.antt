@@ -10,6 +10,8 @@ use Rattle.protocol_model.specs.declared.event.Event.{Event}
 use Rattle.protocol_model.specs.declared.moves.Move.{Move}
 use Rattle.protocol_model.specs.declared.moves.Closed.{Closed}
 use Rattle.protocol_model.specs.declared.moves.ClosedBy.{ClosedBy}
+use Rattle.protocol_model.specs.declared.moves.Declined.{Declined}
+use Rattle.protocol_model.specs.Names.{node_of}
 use Rattle.protocol_model.specs.declared.tunnel.Control.{Control}
 use Rattle.protocol_model.specs.declared.tunnel.Role.{Role}
 use Rattle.protocol_model.specs.Reading.{body_of, message_in, CallFault, TunnelFault}
@@ -18,8 +20,8 @@ use Rattle.protocol_model.specs.End.{End, new_end, step}
 use Rattle.protocol_model.specs.World.{World, Node, Sender, Deed, Lined, birth_of, moved_all, config_of, deed_of, line}
 use Rattle.protocol_model.specs.Run.{Run, empty_run, after_line}
 use Rattle.step_laws.specs.Letters.{Letter}
-use Rattle.step_laws.specs.Moves.{Does, Hears, HearsNext, ComesNext, InTunnel, IsFaulty, IsFaultyInTunnel, Closes, ClosesBy}
-use Rattle.connection_laws.specs.Accounts.{account_of, after_deed}
+use Rattle.step_laws.specs.Moves.{Does, Hears, HearsNext, ComesNext, InTunnel, IsFaulty, IsFaultyInTunnel, Closes, ClosesBy, Declines}
+use Rattle.connection_laws.specs.Accounts.{Opener, account_of, after_deed}
 use Rattle.connection_laws.specs.Facts.{Accounts, IsNoOpening, IsNoStop, IsStopCcn, Within, Holds}
 
 -- ---- a move of a step
@@ -101,9 +103,29 @@ pub record StopLetter (accs : Accounts) (n i : ℕ) (sender : Option Sender) : T
   pub there : slice_get (accs from.node from.tunnel).given (length (accs n i).taken) ≡ Some letter
   pub stops : IsStopCcn letter.message
 
+-- or it is of no tunnel, and declines the SCCRQ of this one, which has taken nothing
+pub record StopOfNone (accs : Accounts) (n i : ℕ) (sender : Option Sender) : Type 0 where
+  pub node : ℕ
+  pub sender_is : sender ≡ Some (record { node = node; tunnel = 0 })
+  pub peer : (accs n i).peer ≡ node
+  pub opener : (accs n i).part ≡ Opener
+  pub remote : (accs n i).remote ≡ 0
+  pub nothing : (accs n i).taken ≡ []
+  pub declined : (accs n i).declined ≡ true
+
 abbrev pub StopIsHeard : Type 0
 StopIsHeard = (accs : Accounts) (n : ℕ) (e x : End) (sender : Option Sender) (moment : ℕ) (ev : Event) → Within accs n e sender ev
-    → (m : ClosedBy) → ClosesBy e moment ev m x → StopLetter accs n m.tunnel sender
+    → (m : ClosedBy) → ClosesBy e moment ev m x → StopLetter accs n m.tunnel sender ⊎ StopOfNone accs n m.tunnel sender
+
+-- what is declined is the SCCRQ of a tunnel of the sender's, which goes to this node
+pub record IsOpening (accs : Accounts) (n : ℕ) (m : Declined) : Type 0 where
+  pub opener : (accs (node_of m.peer) m.remote).part ≡ Opener
+  pub peer : (accs (node_of m.peer) m.remote).peer ≡ n
+  pub nr : m.nr ≡ 1
+
+abbrev pub DeclinesAreOfOpenings : Type 0
+DeclinesAreOfOpenings = (accs : Accounts) (n : ℕ) (e x : End) (sender : Option Sender) (ev : Event) → Within accs n e sender ev
+    → (m : Declined) → Declines e ev m x → IsOpening accs n m
 
 -- a StopCCN goes to the tunnel that is known
 abbrev pub ClosingsAreKnown : Type 0

@@ -44,6 +44,8 @@ pub record TunnelJoined (w : machine.World) (n i : ℕ) (a : Account) (o : Optio
   pub sent : w.channels.sent (name n i) 0 ≡ map (λ l. letter_of n a.peer l) a.given
   -- what it takes once it is closed isn't counted
   pub taken : w.channels.taken (name n i) 0 ≡ heeded a
+  -- its SCCRQ was declined
+  pub refused : w.channels.refused (name n i) ≡ a.declined
   -- it asks nothing of what both ends held before a recovery
   pub asks : (z : ℕ) → w.calls.asks (name n i) z ≡ false
 
