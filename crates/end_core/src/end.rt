@@ -15,17 +15,18 @@ ghost use Rattle.end_core.specs.Ends.{tunnels_of, HaveRoom};
 ghost use Rattle.protocol_model.specs.Turn.{turn_of, turns, with_turn};
 ghost use Rattle.end_core.specs.Gives.{GivesStep};
 
+use crate::declining::next_of_peer;
 use crate::places::{carry_look, change_looks, frame_of, look_at, make_places, place_all};
-use crate::reading::at_zero;
 use id_source::Ids;
 use id_table::Table;
 use l2tp_header::{Header, read_header};
+use message_reading::{at_zero, header_why, out_of_order};
 use protocol_model::{
     Addressee, CallPlace, CellChanges, Config, Control, Event, FrameUp, Move, Out, Role,
 };
 use std::alloc::Global;
 use std::marker::Model;
-use tunnel_core::{Env, Moves, Outputs, Planned, TunnelCore, header_why, same_state};
+use tunnel_core::{Env, Moves, Outputs, Planned, TunnelCore, same_state};
 use tunnel_fsm::TunnelState;
 use wire_base::{Bytes, Cause, Contents, NoMemory, Sequence, Why};
 
@@ -63,7 +64,7 @@ pub struct End {
     pub(crate) alloc: Global,
     pub(crate) role: Role,
     pub(crate) config: Config,
-    tunnel_ids: Ids,
+    pub(crate) tunnel_ids: Ids,
     session_ids: Ids,
     recovery_ids: Ids,
     pub(crate) tunnels: Table<TunnelCore>,
@@ -144,7 +145,7 @@ impl End {
 
     /// Whether the end has as many tunnels as it may.
     #[tactic(auto, using(crate::proofs::Tunnels::length_tunnels))]
-    fn has_all_tunnels(&self) -> bool
+    pub(crate) fn has_all_tunnels(&self) -> bool
         ensures { result ≡ has_all_tunnels self.now.tunnels }
     {
         self.tunnels.len() >= MOST_TUNNELS
@@ -395,7 +396,9 @@ impl End {
         let (remote, otherwise) = match to {
             Addressee::Opens { remote } => (remote, to),
             Addressee::Stops { remote } => (remote, Addressee::Nobody { why: Why::Tunnel }),
-            Addressee::Main { .. } | Addressee::Nobody { .. } => return Ok(to),
+            Addressee::Answers { .. } | Addressee::Main { .. } | Addressee::Nobody { .. } => {
+                return Ok(to);
+            }
         };
         match self.known_as(peer, remote)? {
             Some(tunnel) => Ok(Addressee::Main { tunnel }),
@@ -439,29 +442,34 @@ impl End {
         let body = &bytes[header.start..header.end];
         match self.addressed(peer, &header, body)? {
             Addressee::Main { tunnel } => Ok(self.tunnel(tunnel).map(|core| *core.control())),
-            Addressee::Opens { .. } | Addressee::Stops { .. } | Addressee::Nobody { .. } => {
-                Ok(None)
-            }
+            Addressee::Opens { .. }
+            | Addressee::Stops { .. }
+            | Addressee::Answers { .. }
+            | Addressee::Nobody { .. } => Ok(None),
         }
     }
 
     /// A control message for whom it is for.
-    #[tactic(auto, unfolding(protocol_model::specs::End::for_addressee))]
+    #[tactic(auto, unfolding(protocol_model::specs::End::for_addressee, protocol_model::specs::End::opens_or_declines))]
     fn run_addressed(
         &mut self,
         moment: u64,
         block: [u8; 16],
         event: &Event,
         peer: u32,
+        header: &Header,
+        body: &[u8],
         to: Addressee,
     ) -> Result<Given, NoMemory>
-        ensures { GivesStep result (for_addressee self.old (env_of self.old moment block) event.now peer to) self.old self.new }
+        ensures { GivesStep result (for_addressee self.old (env_of self.old moment block) event.now peer header.now body.now to) self.old self.new }
     {
+        let nr = next_of_peer(header);
         match to {
-            Addressee::Opens { .. } => {
-                let refusal = Out::Drop { why: Why::Tunnel };
-                self.run_one_more(moment, block, event, peer, refusal)
-            }
+            Addressee::Opens { remote } => match self.against_body(body)? {
+                None => self.run_new(moment, block, event, peer),
+                Some(reason) => self.decline(peer, remote, nr, &reason),
+            },
+            Addressee::Answers { remote } => self.decline(peer, remote, nr, &out_of_order()),
             Addressee::Stops { .. } => self.drop_with(Why::Tunnel),
             Addressee::Main { tunnel } => self.run_main(moment, block, event, tunnel),
             Addressee::Nobody { why } => self.drop_with(why),
@@ -578,7 +586,7 @@ impl End {
                     return self.hand_up(peer, &header, body);
                 }
                 let to = self.addressed(peer, &header, body)?;
-                self.run_addressed(moment, block, event, peer, to)
+                self.run_addressed(moment, block, event, peer, &header, body, to)
             }
         }
     }

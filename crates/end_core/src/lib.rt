@@ -4,9 +4,9 @@
 //! which takes no memory. So where memory is wanting, the end is as before.
 #![tactic(auto)]
 
+mod declining;
 mod end;
 mod places;
-mod reading;
 mod ticks;
 
 pub use end::{End, Given};

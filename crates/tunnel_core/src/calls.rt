@@ -5,11 +5,11 @@ ghost use Rattle.std.specs.Option.{option_copied};
 ghost use Rattle.protocol_model.specs.Calls.{is_connection, is_up};
 ghost use Rattle.protocol_model.specs.Turn.{has_room, first_up, first_up_by, second_up, second_up_by, is_clean_up, end_heard, end_heard_by, carried, carries};
 
-use crate::refusing::out_of_state;
 use crate::turn::{Turn, advanced, call_row};
 use call_fsm::{CallAction, CallEvent, CallState};
 use control_message::Message;
 use l2tp_header::write_data;
+use message_reading::out_of_state;
 use protocol_model::{
     Call, CellChange, EndHeard, FirstUp, FrameSent, Move, Origin, Out, Role, SecondUp,
 };

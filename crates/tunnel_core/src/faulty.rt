@@ -3,38 +3,16 @@
 ghost use Rattle.std.specs.Prelude.{◌≡◌, OnOk};
 ghost use Rattle.std.specs.Option.{option_copied};
 ghost use Rattle.control_message.specs.declared.kind.Kind.TheVariants as kind;
-ghost use Rattle.protocol_model.specs.Turn.{fault_error, fault_reason, faulty_at, faulty, in_faulty_call, hears_faulty};
+ghost use Rattle.protocol_model.specs.Turn.{faulty_at, faulty, in_faulty_call, hears_faulty};
 
-use crate::reading::{CallFault, Said};
-use crate::refusing::Reason;
 use crate::tunnel_calls::TunnelCalls;
 use crate::turn::{Turn, call_row};
 use call_fsm::{CallAction, CallEvent, CallState};
 use control_message::Kind;
+use message_reading::{CallFault, Reason, Said, fault_reason};
 use protocol_model::{Call, Role};
 use tunnel_fsm::TunnelState;
 use wire_base::{Cause, NoMemory, Why};
-
-/// The error code of the CDN, or the StopCCN, that answers a fault (RFC 2661 section 4.4.2).
-fn fault_error(cause: Cause) -> u16
-    ensures { result ≡ fault_error cause }
-{
-    match cause {
-        Cause::Avp => 2,
-        Cause::Mandatory => 8,
-        _ => 3,
-    }
-}
-
-pub(crate) fn fault_reason(cause: Cause) -> Reason
-    ensures { result ≡ fault_reason cause }
-{
-    Reason {
-        cause,
-        code: 2,
-        error: Some(fault_error(cause)),
-    }
-}
 
 impl Turn {
     /// What is done for a faulty letter by the table's row for this event, or, where there is no such call, by the action `none`.

@@ -1,25 +1,22 @@
 //! Control messages and other events of a tunnel.
 
-ghost use Rattle.std.specs.Prelude.{◌≡◌, ◌==◌, None, OnOk};
+ghost use Rattle.std.specs.Prelude.{◌≡◌, ◌==◌, OnOk};
 ghost use Rattle.tunnel_fsm.specs.Rows.{state_number};
-ghost use Rattle.wire_base.specs.declared.cause.Cause.TheVariants as cause;
 ghost use Rattle.l2tp_header.specs.Reading.{header_of};
-ghost use Rattle.protocol_model.specs.Turn.{connects, takes, known_or, is_acceptable, event_by, opening_reason, out_of_order, reason, session_named, ends_named, about_call, in_call, hears, hears_said, hears_next, hears_letter, is_duplicate, in_tunnel, first_said, hears_control, hears_datagram, turns};
+ghost use Rattle.protocol_model.specs.Turn.{connects, takes, known_or, session_named, ends_named, about_call, in_call, hears, hears_said, hears_next, hears_letter, is_duplicate, in_tunnel, first_said, hears_control, hears_datagram, turns};
 
-use crate::reading::{Said, header_why, read_body};
-use crate::refusing::Reason;
 use crate::tunnel_calls::TunnelCalls;
 use crate::turn::Turn;
-use control_message::{Message, Opening};
+use control_message::Message;
 use l2tp_header::{Header, read_header};
+use message_reading::{
+    Reason, Said, event_by, header_why, no_outgoing, opening_reason, out_of_order, read_body,
+};
 use protocol_model::{Config, Event, Role};
 use recv_window::Class;
 use send_window::Letters;
 use tunnel_fsm::{TunnelAction, TunnelEvent, TunnelState, advance};
-use wire_base::{Cause, NoMemory, Why};
-
-/// The one Protocol Version that there is: version 1, revision 0 (RFC 2661 section 4.4.3).
-const VERSION: u16 = 0x0100;
+use wire_base::{NoMemory, Why};
 
 impl Turn {
     /// The id that the peer assigned, as it is known or as it is told.
@@ -357,60 +354,6 @@ impl Turn {
             Event::CloseTunnel { .. } => self.close_now(letters, calls),
             Event::Tick => self.tick(role, letters, calls),
         }
-    }
-}
-
-/// A message about the tunnel is out of state.
-fn out_of_order() -> Reason
-    ensures { result ≡ out_of_order }
-{
-    Reason {
-        cause: Cause::State,
-        code: 7,
-        error: None,
-    }
-}
-
-/// Whether nothing but its state stands against an SCCRQ or an SCCRP: its version is 1.0.
-fn is_acceptable(opening: &Opening) -> bool
-    ensures { result ≡ is_acceptable opening.now }
-{
-    opening.version == VERSION
-}
-
-/// The event of the tunnel's table that an SCCRQ or an SCCRP is.
-fn event_by(acceptable: TunnelEvent, other: TunnelEvent, opening: &Opening) -> TunnelEvent
-    ensures { result ≡ event_by acceptable other opening.now }
-{
-    if is_acceptable(opening) {
-        acceptable
-    } else {
-        other
-    }
-}
-
-/// Why an SCCRQ or an SCCRP closes a tunnel, where its table's row says so.
-fn opening_reason(opening: &Opening) -> Reason
-    ensures { result ≡ opening_reason opening.now }
-{
-    if is_acceptable(opening) {
-        return out_of_order();
-    }
-    Reason {
-        cause: Cause::Version,
-        code: 5,
-        error: None,
-    }
-}
-
-/// Outgoing calls aren't served.
-fn no_outgoing() -> Reason
-    ensures { result ≡ reason cause.Outgoing 5 None }
-{
-    Reason {
-        cause: Cause::Outgoing,
-        code: 5,
-        error: None,
     }
 }
 

@@ -1,42 +1,14 @@
 //! Calls that are ended, and refused, by an answer to the peer's messages (RFC 2661 section 7.4).
 
 ghost use Rattle.std.specs.Prelude.{◌≡◌, OnOk, IsTrue};
-ghost use Rattle.protocol_model.specs.Turn.{has_room, out_of_state, answers_by, refused, refuses, of_no_call};
+ghost use Rattle.protocol_model.specs.Turn.{has_room, answers_by, refused, refuses, of_no_call};
 
 use crate::turn::Turn;
 use call_fsm::CallAction;
 use control_message::Message;
+use message_reading::Reason;
 use protocol_model::{Call, Move, Out, Refused};
-use std::marker::Model;
-use wire_base::{Cause, NoMemory, Why};
-
-/// Why a call is ended or refused, or a tunnel closed, and the result code and error code of the CDN, or of the StopCCN, that says so
-/// (RFC 2661 section 4.4.2).
-#[derive(Drop)]
-pub(crate) struct Reason {
-    pub(crate) cause: Cause,
-    pub(crate) code: u16,
-    pub(crate) error: Option<u16>,
-}
-
-impl Model for Reason {
-    ghost use Rattle.protocol_model.specs.Turn.{Reason as Known};
-
-    ghost Value = { Known };
-
-    ghost view = { λ r. record { cause = r.cause; result = r.code; error = r.error } };
-}
-
-/// A message about a call is out of state.
-pub(crate) fn out_of_state() -> Reason
-    ensures { result ≡ out_of_state }
-{
-    Reason {
-        cause: Cause::State,
-        code: 2,
-        error: Some(5),
-    }
-}
+use wire_base::{NoMemory, Why};
 
 impl Turn {
     /// Takes a letter to which a call does what its table says.

@@ -272,6 +272,8 @@ pub(crate) fn opening_of(
             flags: 3,
             time: 30_000,
         }),
+        challenge: None,
+        recovery: None,
     })
 }
 

@@ -29,11 +29,11 @@ pub fn header_why(error: HeaderError) -> Why
 }
 
 /// A message about a call that has a fault, and the session id that it tells, where that can be read.
-#[derive(Drop)]
-pub(crate) struct CallFault {
-    pub(crate) kind: Kind,
-    pub(crate) cause: Cause,
-    pub(crate) session: Option<u16>,
+#[derive(Debug, Drop)]
+pub struct CallFault {
+    pub kind: Kind,
+    pub cause: Cause,
+    pub session: Option<u16>,
 }
 
 impl Model for CallFault {
@@ -46,11 +46,11 @@ impl Model for CallFault {
 
 /// What a faulty message is to the tunnel's table, why the tunnel is closed where its row says so, and the tunnel id that an SCCRP
 /// tells, where that can be read, else 0.
-#[derive(Drop)]
-pub(crate) struct TunnelFault {
-    pub(crate) event: TunnelEvent,
-    pub(crate) cause: Cause,
-    pub(crate) remote: u16,
+#[derive(Debug, Drop)]
+pub struct TunnelFault {
+    pub event: TunnelEvent,
+    pub cause: Cause,
+    pub remote: u16,
 }
 
 impl Model for TunnelFault {
@@ -63,11 +63,11 @@ impl Model for TunnelFault {
 
 /// What the body of a control message says: a message, or why it is ignored; and its fault, where it is about a call, or to the
 /// tunnel's table.
-#[derive(Drop)]
-pub(crate) struct Said {
-    pub(crate) message: Result<Message, Why>,
-    pub(crate) fault: Option<CallFault>,
-    pub(crate) closing: Option<TunnelFault>,
+#[derive(Debug, Drop)]
+pub struct Said {
+    pub message: Result<Message, Why>,
+    pub fault: Option<CallFault>,
+    pub closing: Option<TunnelFault>,
 }
 
 /// What a fault says to the peer: a pair that has to be understood isn't, or a value is wrong or wanting.
@@ -212,7 +212,7 @@ fn said_of(alloc: Global, avps: &Avps) -> Result<Said, NoMemory>
 
 /// What the body of a control message says.
 #[tactic(auto, unfolding(protocol_model::specs::Reading::message_in, protocol_model::specs::Reading::pairs_read, protocol_model::specs::Reading::call_fault_in, protocol_model::specs::Reading::fault_of_pairs, protocol_model::specs::Reading::tunnel_fault_in, protocol_model::specs::Reading::tunnel_fault_of_pairs))]
-pub(crate) fn read_body(alloc: Global, body: &[u8]) -> Result<Said, NoMemory>
+pub fn read_body(alloc: Global, body: &[u8]) -> Result<Said, NoMemory>
     ensures message { IfOk result (λ said. said.message ≡ message_in body.now) }
     ensures fault { IfOk result (λ said. said.fault ≡ call_fault_in body.now) }
     ensures closing { IfOk result (λ said. said.closing ≡ tunnel_fault_in body.now) }

@@ -2,7 +2,7 @@
 
 ghost use Rattle.std.specs.Prelude.{◌≡◌, Ok, IfOk};
 ghost use Rattle.control_message.specs.Reading.{kind_of_pairs};
-ghost use Rattle.protocol_model.specs.Reading.{at_zero, zero_pairs, zero_read, zero_faulty, stopped};
+ghost use Rattle.protocol_model.specs.Reading.{at_zero, zero_pairs, zero_read, zero_faulty, stopped, told_or_none};
 
 use avp_codec::{AvpError, Avps, read_avps};
 use control_message::{
@@ -27,7 +27,14 @@ fn zero_faulty(avps: &Avps) -> Addressee
     ensures { result ≡ zero_faulty (kind_of_pairs avps.now) avps.now }
 {
     match kind_of_pairs(avps) {
-        Some(Kind::Sccrq) => Addressee::Nobody { why: Why::Avp },
+        Some(Kind::Sccrq) => match assigned_tunnel(avps) {
+            None | Some(0) => Addressee::Nobody { why: Why::Avp },
+            Some(remote) => Addressee::Opens { remote },
+        },
+        Some(Kind::Sccrp) => match assigned_tunnel(avps) {
+            None | Some(0) => Addressee::Nobody { why: Why::Avp },
+            Some(remote) => Addressee::Answers { remote },
+        },
         Some(Kind::StopCcn) => stopped(assigned_tunnel(avps)),
         _ => Addressee::Nobody { why: Why::Tunnel },
     }
@@ -42,6 +49,9 @@ fn zero_pairs(alloc: Global, avps: &Avps) -> Result<Addressee, NoMemory>
         Ok(Read::Known(Message::Sccrq(opening))) => Ok(Addressee::Opens {
             remote: opening.tunnel,
         }),
+        Ok(Read::Known(Message::Sccrp(opening))) => Ok(Addressee::Answers {
+            remote: opening.tunnel,
+        }),
         Ok(Read::Known(Message::StopCcn { tunnel, .. })) => Ok(stopped(Some(tunnel))),
         Ok(_) => Ok(Addressee::Nobody { why: Why::Tunnel }),
         Err(MessageError::NoMemory) => Err(NoMemory),
@@ -51,7 +61,7 @@ fn zero_pairs(alloc: Global, avps: &Avps) -> Result<Addressee, NoMemory>
 
 /// What a control message at tunnel 0 is for (RFC 2661 section 3.1: its sender doesn't know the other end's id yet).
 #[tactic(auto, unfolding(protocol_model::specs::Reading::at_zero, protocol_model::specs::Reading::zero_pairs))]
-pub(crate) fn at_zero(alloc: Global, body: &[u8]) -> Result<Addressee, NoMemory>
+pub fn at_zero(alloc: Global, body: &[u8]) -> Result<Addressee, NoMemory>
     ensures { IfOk result (λ to. to ≡ at_zero body.now) }
 {
     match read_avps(alloc, body) {

@@ -1,0 +1,123 @@
+//! Openings that are declined (RFC 2661 section 7.2.1), by a StopCCN of no tunnel of this end's.
+
+ghost use Rattle.std.specs.Prelude.{◌≡◌, ◌+◌, unwrap_or, IfOk};
+ghost use Rattle.recv_window.specs.Window.{on_wire};
+ghost use Rattle.protocol_model.specs.End.{against_opening, against_said, against_body, declined, next_of_peer};
+ghost use Rattle.end_core.specs.Gives.{GivesStep};
+
+use crate::end::{End, Given};
+use control_message::{Message, Opening, has_room, write_message};
+use l2tp_header::{Header, write_control};
+use message_reading::{
+    Reason, Said, fault_reason, is_of_version, no_id, no_recovery, no_secret, no_tunnel,
+    other_version, read_body,
+};
+use protocol_model::{ControlOrigin, Declined, Move, Origin, Out};
+use tunnel_core::{Moves, Outputs};
+use wire_base::{Bytes, NoMemory};
+
+/// The number that the peer is to send next, by the message that it sent.
+pub(crate) fn next_of_peer(header: &Header) -> u16
+    ensures { result ≡ next_of_peer header.now }
+{
+    header.ns.unwrap_or(0).wrapping_add(1)
+}
+
+impl End {
+    /// What stands against an SCCRQ that would open a tunnel, the first that counts.
+    #[tactic(auto, unfolding(protocol_model::specs::End::against_opening))]
+    fn against_opening(&self, opening: &Opening) -> Option<Reason>
+        ensures { result ≡ against_opening self.now opening.now }
+    {
+        if !is_of_version(opening) {
+            return Some(other_version());
+        }
+        if opening.recovery.is_some() {
+            return Some(no_recovery());
+        }
+        if self.has_all_tunnels() {
+            return Some(no_tunnel());
+        }
+        if opening.challenge.is_some() {
+            return Some(no_secret());
+        }
+        let mut ids = self.tunnel_ids;
+        match ids.draw() {
+            Ok(_) => None,
+            Err(_) => Some(no_id()),
+        }
+    }
+
+    fn against_said(&self, said: &Said) -> Option<Reason>
+        ensures { result ≡ against_said self.now said.now.closing said.now.message }
+    {
+        match &said.message {
+            Ok(Message::Sccrq(opening)) => self.against_opening(opening),
+            Ok(_) => None,
+            Err(_) => match &said.closing {
+                None => None,
+                Some(fault) => Some(fault_reason(fault.cause)),
+            },
+        }
+    }
+
+    /// What stands against a message that would open a tunnel, the first that counts.
+    #[tactic(auto, unfolding(protocol_model::specs::End::against_body))]
+    pub(crate) fn against_body(&self, body: &[u8]) -> Result<Option<Reason>, NoMemory>
+        ensures { IfOk result (λ r. r ≡ against_body self.now body.now) }
+    {
+        let said = read_body(self.alloc, body)?;
+        Ok(self.against_said(&said))
+    }
+
+    /// Answers an opening by a StopCCN of no tunnel of this end's, to the tunnel id that it told: nothing changes.
+    #[tactic(auto, unfolding(protocol_model::specs::End::declined))]
+    pub(crate) fn decline(
+        &mut self,
+        peer: u32,
+        remote: u16,
+        nr: u16,
+        reason: &Reason,
+    ) -> Result<Given, NoMemory>
+        ensures { GivesStep result (declined self.old peer remote nr reason.now) self.old self.new }
+    {
+        has_room();
+        let (result, error) = (reason.code, reason.error);
+        let tunnel = 0;
+        let mut avps = Bytes::new(self.alloc);
+        write_message(
+            &mut avps,
+            &Message::StopCcn {
+                tunnel,
+                result,
+                error,
+            },
+        )?;
+        let mut bytes = Bytes::new(self.alloc);
+        write_control(&mut bytes, remote, 0, 0, nr, avps.as_slice())?;
+        let mut outputs = Outputs::new(self.alloc);
+        outputs.push(Out::Cause {
+            cause: reason.cause,
+        })?;
+        outputs.push(Out::Send {
+            peer,
+            bytes,
+            origin: Origin::Control(ControlOrigin {
+                tunnel,
+                epoch: 0,
+                ns: 0,
+                nr: u64::from(nr),
+                empty: false,
+            }),
+        })?;
+        let mut moves = Moves::new(self.alloc);
+        moves.push(Move::Declined(Declined {
+            peer,
+            remote,
+            nr,
+            result,
+            error,
+        }))?;
+        Ok(Given { outputs, moves })
+    }
+}
