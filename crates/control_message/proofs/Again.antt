@@ -17,7 +17,7 @@ use Rattle.control_message.specs.declared.message.Opening.{Opening}
 use Rattle.control_message.specs.declared.message.Failover.{Failover}
 use Rattle.control_message.specs.declared.message.Read.TheVariants.{Known}
 use Rattle.control_message.specs.Pairs.{pair, failover_pairs, opening_pairs, result_code_bytes, pairs_of, IsWritten, IsWrittenOpening}
-use Rattle.control_message.specs.Reading.{message_of, checked, checked_all, failover_value, u16_at, u32_at, window_at, failover_at, opening_at, icrq_at, icrp_at, iccn_at, result_code_in, result_code_at, stop_ccn_at, cdn_at}
+use Rattle.control_message.specs.Reading.{message_of, checked, checked_all, failover_value, u16_at, u32_at, window_at, failover_at, recovery_at, opening_at, icrq_at, icrp_at, iccn_at, result_code_in, result_code_at, stop_ccn_at, cdn_at}
 
 -- ---- numbers
 
@@ -78,35 +78,61 @@ pairs_fit Sli w = absurd w
 
 -- ---- messages
 
--- the two kinds of opening use the same attributes
-same_uses : (before avps : List Avp) → checked_all kind.Sccrp before avps ≡ checked_all kind.Sccrq before avps
-unfolding checked
-same_uses before [] = refl
-same_uses before (a ∷ avps) = ap (λ (r : Unit {0} → Result (Unit {0}) MessageError). checked kind.Sccrq before a >>= r) (λ i u. same_uses (before ++ a ∷ []) avps i)
-
 is_not_zero : (x : ℕ) → x < 2 ^ 16 → 0 < x → (big_number 2 (u16_bytes x) == 0) ≡ false
 is_not_zero x lt some = rw (short_again x lt) (ne_eqb x 0 (λ e. omega arith))
 
-opening_checked : (number : ℕ) (o : Opening) (f : Option Failover) → o.failover ≡ f → (big_number 2 (u16_bytes o.tunnel) == 0) ≡ false → (big_number 2 (u16_bytes o.window) == 0) ≡ false → checked_all kind.Sccrq [] (opening_pairs number o) ≡ Ok tt
+-- the numbers of an opening that can't be 0
+record HasIds (o : Opening) : Type 0 where
+  tunnel : (big_number 2 (u16_bytes o.tunnel) == 0) ≡ false
+  window : (big_number 2 (u16_bytes o.window) == 0) ≡ false
+
+opening_ids : (o : Opening) → IsWrittenOpening o → HasIds o
+opening_ids o w = record { tunnel = is_not_zero o.tunnel w.tunnel w.tunnel_not_zero; window = is_not_zero o.window w.window w.window_not_zero }
+
+request_checked : (number : ℕ) (o : Opening) (f : Option Failover) → o.failover ≡ f → HasIds o → checked_all kind.Sccrq [] (opening_pairs number o) ≡ Ok tt
 unfolding checked u16_bytes u32_bytes
-opening_checked number o None e t w = rw (e, t, w) refl
-opening_checked number o (Some f) e t w = rw (e, t, w) refl
+request_checked number o None e ids = rw (e, ids.tunnel, ids.window) refl
+request_checked number o (Some f) e ids = rw (e, ids.tunnel, ids.window) refl
+
+reply_checked : (number : ℕ) (o : Opening) (f : Option Failover) → o.failover ≡ f → HasIds o → checked_all kind.Sccrp [] (opening_pairs number o) ≡ Ok tt
+unfolding checked u16_bytes u32_bytes
+reply_checked number o None e ids = rw (e, ids.tunnel, ids.window) refl
+reply_checked number o (Some f) e ids = rw (e, ids.tunnel, ids.window) refl
 
 failover_again : (f : Failover) → f.flags < 2 ^ 16 → f.time < 2 ^ 32 → failover_value (u16_bytes f.flags ++ u32_bytes f.time) ≡ Some f
 unfolding u16_bytes u32_bytes
 failover_again f lt le = rw (short_again f.flags lt, long_again f.time le) refl
 
-opening_again : (number : ℕ) (o : Opening) (f : Failover) → o.failover ≡ Some f → f.flags < 2 ^ 16 → f.time < 2 ^ 32 → IsWrittenOpening o → opening_at (opening_pairs number o) ≡ Ok o
+opening_again : (number : ℕ) (o : Opening) (f : Failover) → o.failover ≡ Some f → f.flags < 2 ^ 16 → f.time < 2 ^ 32 → IsWrittenOpening o
+    → opening_at (opening_pairs number o) None ≡ Ok o
 unfolding opening_at u16_at u32_at window_at failover_at u16_bytes u32_bytes
 opening_again number o f e flags time w =
     let version : o.version < 2 ^ 16 = let v = w.version in omega arith in
-    rw (e, failover_again f flags time, short_again o.version version, long_again o.framing w.framing, short_again o.tunnel w.tunnel, short_again o.window w.window) refl
+    rw (e, w.challenge, w.recovery, failover_again f flags time, short_again o.version version, long_again o.framing w.framing, short_again o.tunnel w.tunnel, short_again o.window w.window) refl
 
--- an opening that was written
-of_opening : (number : ℕ) (o : Opening) → IsWrittenOpening o → (checked_all kind.Sccrq [] (opening_pairs number o) ≡ Ok tt) × (opening_at (opening_pairs number o) ≡ Ok o)
+-- Tunnel Recovery isn't written
+no_recovery : (number : ℕ) (o : Opening) (f : Option Failover) → o.failover ≡ f → recovery_at (opening_pairs number o) ≡ Ok None
+unfolding recovery_at
+no_recovery number o None e = rw e refl
+no_recovery number o (Some f) e = rw e refl
+
+-- an opening that was written, in either message
+record IsReadAgain (number : ℕ) (o : Opening) : Type 0 where
+  request : checked_all kind.Sccrq [] (opening_pairs number o) ≡ Ok tt
+  reply : checked_all kind.Sccrp [] (opening_pairs number o) ≡ Ok tt
+  recovery : recovery_at (opening_pairs number o) ≡ Ok None
+  opening : opening_at (opening_pairs number o) None ≡ Ok o
+
+of_opening : (number : ℕ) (o : Opening) → IsWrittenOpening o → IsReadAgain number o
 of_opening number o w =
     let f = told_value o.failover (λ f. (f.flags < 2 ^ 16) × (f.time < 2 ^ 32)) w.failover in
-    (opening_checked number o (Some f.0) f.1 (is_not_zero o.tunnel w.tunnel w.tunnel_not_zero) (is_not_zero o.window w.window w.window_not_zero), opening_again number o f.0 f.1 f.2.0 f.2.1 w)
+    let ids = opening_ids o w in
+    record {
+      request = request_checked number o (Some f.0) f.1 ids;
+      reply = reply_checked number o (Some f.0) f.1 ids;
+      recovery = no_recovery number o (Some f.0) f.1;
+      opening = opening_again number o f.0 f.1 f.2.0 f.2.1 w;
+    }
 
 icrq_checked : (session serial : ℕ) (v : List ℕ) → checked_all kind.Icrq [] (pairs_of (Icrq session serial (Some v))) ≡ Ok tt
 unfolding checked u16_bytes u32_bytes
@@ -159,11 +185,11 @@ stop_ccn_again tunnel result error w = rw (result_code_again result error w.1 w.
 pub message_again : (m : Message) → IsWritten m → message_of (pairs_of m) ≡ Ok (Known m)
 unfolding message_of checked u16_bytes
 message_again (Sccrq o) w =
-    let both = of_opening 1 o w in
-    rw (both.0, both.1) refl
+    let again = of_opening 1 o w in
+    rw (again.request, again.recovery, again.opening) refl
 message_again (Sccrp o) w =
-    let both = of_opening 2 o w in
-    rw (same_uses [] (opening_pairs 2 o), both.0, both.1) refl
+    let again = of_opening 2 o w in
+    rw (again.reply, again.opening) refl
 message_again Scccn w = refl
 message_again (StopCcn tunnel result error) w = rw (stop_ccn_checked tunnel result error, stop_ccn_again tunnel result error w) refl
 message_again Hello w = refl

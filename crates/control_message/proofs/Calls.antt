@@ -1,6 +1,5 @@
 -- The messages of a call, as the relation has them and as the reading finds them.
 use Rattle.std.proofs.Common.{◌≡◌, ℕ, Bool, true, false, List, [], ◌∷◌, Option, Some, None, is_some, Ok, refl, sym, ap, subst, ◌∙◌, inl, inr, arith}
-use Rattle.std.specs.Prelude.{option_map}
 use Rattle.std.specs.List.{AllByRecursion}
 use Rattle.avp_codec.specs.declared.avp.Avp.{Avp}
 use Rattle.control_message.specs.declared.kind.Kind.TheVariants as kind
@@ -8,31 +7,18 @@ use Rattle.control_message.specs.declared.kind.Shape.TheVariants.{Text, Short, N
 use Rattle.control_message.specs.declared.message.Message.{Message}
 use Rattle.control_message.specs.declared.message.Message.TheVariants.{Icrq, Icrp, Iccn, Cdn}
 use Rattle.control_message.specs.Table.{uses_of}
-use Rattle.control_message.specs.Reading.{first, calling_at, u16_at, u32_at, icrq_at, icrp_at, iccn_at, result_code_at, cdn_at}
-use Rattle.control_message.specs.Grammar.{SaysCalling, SaysSequenced, SaysIcrq, SaysIcrp, SaysIccn, SaysCdn, SaysMessage, number_of}
+use Rattle.control_message.specs.Reading.{first, text_at, u16_at, u32_at, icrq_at, icrp_at, iccn_at, result_code_at, cdn_at}
+use Rattle.control_message.specs.Grammar.{SaysSequenced, SaysIcrq, SaysIcrp, SaysIccn, SaysCdn, SaysMessage, number_of}
 use Rattle.control_message.specs.Faults.{IsSound}
 use Rattle.control_message.proofs.Firsts.{absent_first, first_absent, first_stands, stands_first}
 use Rattle.control_message.proofs.Values.{bind_ok, ok_same, IsGood, good, value_has, value_good, absent_good, number_has, has_number, value_or_missing, number_or_missing}
+use Rattle.control_message.proofs.Texts.{text_says, says_text, text_good}
 use Rattle.control_message.proofs.Needs.{Made, least_of}
 use Rattle.control_message.proofs.ResultCodes.{result_code_shape, some_result_code, result_code_has, has_result_code}
 
 -- a message of a number, and what it says
 abbrev Says : ℕ → List Avp → Message → Type 0
 Says n avps m = (number_of m ≡ n) × SaysMessage avps m
-
--- ---- Calling Number
-
-calling_is : (avps : List Avp) (o : Option Avp) → first 22 avps ≡ o → IsGood avps (22, Text) → SaysCalling avps (option_map (λ (a : Avp). a.value) o)
-calling_is avps None e g = first_absent 22 avps e
-calling_is avps (Some a) e g = let f = stands_first 22 a avps e in record { pair = a; first = f; plain = (g a f).0; same = refl }
-
-is_calling : (avps : List Avp) (c : Option (List ℕ)) → SaysCalling avps c → calling_at avps ≡ c
-is_calling avps None h = rw (absent_first 22 avps h) refl
-is_calling avps (Some v) h = rw (first_stands 22 h.pair avps h.first) (ap (λ (x : List ℕ). Some x) h.same)
-
-calling_good : (avps : List Avp) (c : Option (List ℕ)) → SaysCalling avps c → IsGood avps (22, Text)
-calling_good avps None h = absent_good avps 22 Text h
-calling_good avps (Some v) h = value_good avps 22 v Text h tt
 
 -- ---- Incoming-Call-Request
 
@@ -41,24 +27,24 @@ unfolding icrq_at u16_at u32_at
 icrq_says avps m sound h =
     let session = bind_ok _ _ m h in
     let serial = bind_ok _ _ m session.2 in
-    let says : SaysIcrq avps session.0 serial.0 (calling_at avps) =
+    let says : SaysIcrq avps session.0 serial.0 (text_at 22 avps) =
     record {
       session = (number_has kind.Icrq avps 2 14 session.0 Short sound refl session.1).0;
       serial = (number_has kind.Icrq avps 4 15 serial.0 Long sound refl serial.1).0;
-      calling = calling_is avps (first 22 avps) refl (good kind.Icrq avps 22 Text sound refl);
+      calling = text_says kind.Icrq avps 22 sound refl;
     } in
     subst (Says 10 avps) (ok_same serial.2) (refl, says)
 
 pub says_icrq : (avps : List Avp) (id count : ℕ) (caller : Option (List ℕ)) → SaysIcrq avps id count caller → icrq_at avps ≡ Ok (Icrq id count caller)
 unfolding icrq_at u16_at u32_at
-says_icrq avps id count caller h = rw (has_number avps 2 14 id h.session, has_number avps 4 15 count h.serial, is_calling avps caller h.calling) refl
+says_icrq avps id count caller h = rw (has_number avps 2 14 id h.session, has_number avps 4 15 count h.serial, says_text avps 22 caller h.calling) refl
 
 pub icrq_good : (avps : List Avp) (id count : ℕ) (caller : Option (List ℕ)) → SaysIcrq avps id count caller → AllByRecursion (IsGood avps) (uses_of kind.Icrq)
 icrq_good avps id count caller h = (
   value_good avps 14 h.session.value Short h.session.has h.session.wide,
   (
     value_good avps 15 h.serial.value Long h.serial.has h.serial.wide,
-    (calling_good avps caller h.calling, tt),
+    (text_good avps 22 caller h.calling, tt),
   ),
 )
 
@@ -69,7 +55,7 @@ icrq_made avps sound =
       | inr no14 ↦ inr (14, rw no14.0 refl, least_of kind.Icrq avps 14 [] (15 ∷ []) refl tt (omega arith, tt) no14.1)
       | inl session ↦ elim (number_or_missing kind.Icrq avps 4 15 Long sound refl (λ v s. s)) [
         | inr no15 ↦ inr (15, rw (session.1, no15.0) refl, least_of kind.Icrq avps 15 (14 ∷ []) [] refl (session.2, tt) tt no15.1)
-        | inl serial ↦ inl (Icrq session.0 serial.0 (calling_at avps), rw (session.1, serial.1) refl, (session.2, (serial.2, tt)))
+        | inl serial ↦ inl (Icrq session.0 serial.0 (text_at 22 avps), rw (session.1, serial.1) refl, (session.2, (serial.2, tt)))
       ]
     ]
 

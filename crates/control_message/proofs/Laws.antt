@@ -1,5 +1,5 @@
 -- The laws of reading: what is read is what the pairs say, what they say is read, and a fault is told exactly where it stands.
-use Rattle.std.proofs.Common.{◌≡◌, ◌≢◌, ℕ, true, false, List, [], length, Option, Some, None, Result, Ok, Err, refl, sym, ap, subst, ◌∙◌, inl, inr, ◌⊎◌}
+use Rattle.std.proofs.Common.{◌≡◌, ◌≢◌, ℕ, true, false, List, [], ◌∷◌, length, Option, Some, None, Result, Ok, Err, refl, sym, ap, subst, ◌∙◌, inl, inr, ◌⊎◌}
 use Rattle.std.specs.Prelude.{◌==◌, IfOk, IfErr, IsNone, IfSome}
 use Rattle.std.specs.List.{AllByRecursion}
 use Rattle.std.proofs.lemmas.Bool.{cases_Bool, eq-eqb, ne_eqb, eqb-true, eqb-false}
@@ -8,15 +8,17 @@ use Rattle.wire_base.specs.Answers.{◌>>=◌, Gives}
 use Rattle.avp_codec.specs.declared.avp.Avp.{Avp}
 use Rattle.control_message.specs.declared.kind.Kind.{Kind}
 use Rattle.control_message.specs.declared.kind.Kind.TheVariants as kind
+use Rattle.control_message.specs.declared.kind.Shape.TheVariants.{ShortLongLong}
 use Rattle.control_message.specs.declared.message.Message.{Message}
 use Rattle.control_message.specs.declared.message.Message.TheVariants.{Sccrq, Sccrp, Scccn, StopCcn, Hello, Ocrq, Ocrp, Occn, Icrq, Icrp, Iccn, Cdn, Wen, Sli}
+use Rattle.control_message.specs.declared.message.Recovery.{Recovery}
 use Rattle.control_message.specs.declared.message.Read.{Read}
 use Rattle.control_message.specs.declared.message.Read.TheVariants.{Known, Ignored}
 use Rattle.control_message.specs.declared.message.MessageError.{MessageError}
 use Rattle.control_message.specs.declared.message.MessageError.TheVariants.{NoType, UnknownType, UnknownMandatory, HiddenWithoutVector, BadValue, Missing, NoMemory}
 use Rattle.control_message.specs.Table.{kinds, kind_of, uses_of}
-use Rattle.control_message.specs.Reading.{Told, first, checked_all, opening_at, of_kind, type_number, kind_named, kind_told, kind_of_pairs, of_type, with_type, message_of}
-use Rattle.control_message.specs.Grammar.{StandsFirst, HasNumber, SaysMessage, number_of, Says}
+use Rattle.control_message.specs.Reading.{Told, first, checked_all, recovery_at, opening_at, of_kind, type_number, kind_named, kind_told, kind_of_pairs, of_type, with_type, message_of}
+use Rattle.control_message.specs.Grammar.{StandsFirst, HasNumber, SaysRecovery, SaysMessage, number_of, Says}
 use Rattle.control_message.specs.Faults.{IsOfKind, IsSound, IsFirstAlong, IsFault, IsToldFault}
 use Rattle.control_message.proofs.Firsts.{absent_first, first_absent, first_stands, stands_first}
 use Rattle.control_message.proofs.Along.{row_holds, is_sound, sound_is, is_first, first_is}
@@ -25,6 +27,7 @@ use Rattle.control_message.proofs.Calls.{icrq_says, says_icrq, icrq_good, icrq_m
 use Rattle.control_message.proofs.Stops.{stop_ccn_says, says_stop_ccn, stop_ccn_good, stop_ccn_made}
 use Rattle.control_message.proofs.OnlyRead.{ocrq_says, says_ocrq, ocrq_good, ocrq_made, ocrp_says, ocrp_good, wen_says, says_wen, wen_good, wen_made, sli_says, says_sli, sli_good, sli_made}
 use Rattle.control_message.proofs.Needs.{Made, made_of, made_missing}
+use Rattle.control_message.proofs.Recoveries.{recovery_says, says_recovery, recovery_good, some_recovery}
 use Rattle.control_message.proofs.Openings.{IsOpening, opening_says, says_opening, opening_good, opening_made}
 
 -- ---- kinds
@@ -81,20 +84,23 @@ kind_is Wen = refl
 kind_is Sli = refl
 
 sccrq_opens : IsOpening kind.Sccrq
-sccrq_opens = record { uses = refl; needs = refl }
+sccrq_opens = record { version = refl; framing = refl; name = refl; tunnel = refl; window = refl; challenge = refl; failover = refl; needs = refl }
 
 sccrp_opens : IsOpening kind.Sccrp
-sccrp_opens = record { uses = refl; needs = refl }
+sccrp_opens = record { version = refl; framing = refl; name = refl; tunnel = refl; window = refl; challenge = refl; failover = refl; needs = refl }
 
 -- ---- the message of a kind
 
 message_says : (k : Kind) (avps : List Avp) (m : Message) → IsSound k avps → of_kind k avps ≡ Ok m → (number_of m ≡ kind_number k) × SaysMessage avps m
 message_says kind.Sccrq avps m sound h =
-    let b = bind_ok (opening_at avps) _ m h in
-    subst (λ (x : Message). (number_of x ≡ 1) × SaysMessage avps x) (ok_same b.2) (refl, opening_says kind.Sccrq avps b.0 sccrq_opens sound b.1)
+    let r = bind_ok (recovery_at avps) _ m h in
+    let b = bind_ok (opening_at avps r.0) _ m r.2 in
+    let says = opening_says kind.Sccrq avps r.0 b.0 sccrq_opens sound b.1 in
+    let recovers = subst (SaysRecovery avps) (sym says.1) (recovery_says kind.Sccrq avps r.0 sound refl r.1) in
+    subst (λ (x : Message). (number_of x ≡ 1) × SaysMessage avps x) (ok_same b.2) (refl, (says.0, recovers))
 message_says kind.Sccrp avps m sound h =
-    let b = bind_ok (opening_at avps) _ m h in
-    subst (λ (x : Message). (number_of x ≡ 2) × SaysMessage avps x) (ok_same b.2) (refl, opening_says kind.Sccrp avps b.0 sccrp_opens sound b.1)
+    let b = bind_ok (opening_at avps None) _ m h in
+    subst (λ (x : Message). (number_of x ≡ 2) × SaysMessage avps x) (ok_same b.2) (refl, opening_says kind.Sccrp avps None b.0 sccrp_opens sound b.1)
 message_says kind.Scccn avps m sound h = subst (λ (x : Message). (number_of x ≡ 3) × SaysMessage avps x) (ok_same h) (refl, tt)
 message_says kind.StopCcn avps m sound h = stop_ccn_says avps m sound h
 message_says kind.Hello avps m sound h = subst (λ (x : Message). (number_of x ≡ 6) × SaysMessage avps x) (ok_same h) (refl, tt)
@@ -109,8 +115,10 @@ message_says kind.Wen avps m sound h = wen_says avps m sound h
 message_says kind.Sli avps m sound h = sli_says avps m sound h
 
 says_message : (avps : List Avp) (m : Message) → SaysMessage avps m → of_kind (message_kind m) avps ≡ Ok m
-says_message avps (Sccrq o) h = rw (says_opening avps o h) refl
-says_message avps (Sccrp o) h = rw (says_opening avps o h) refl
+says_message avps (Sccrq o) h = rw (says_recovery avps o.recovery h.1, says_opening avps o h.0) refl
+says_message avps (Sccrp o) h =
+    let read : opening_at avps None ≡ Ok o = subst (λ (r : Option Recovery). opening_at avps r ≡ Ok o) h.1 (says_opening avps o h.0) in
+    rw read refl
 says_message avps Scccn h = refl
 says_message avps (StopCcn tunnel result error) h = says_stop_ccn avps tunnel result error h
 says_message avps Hello h = refl
@@ -125,8 +133,8 @@ says_message avps Wen h = says_wen avps h
 says_message avps Sli h = says_sli avps h
 
 message_good : (avps : List Avp) (m : Message) → SaysMessage avps m → AllByRecursion (IsGood avps) (uses_of (message_kind m))
-message_good avps (Sccrq o) h = opening_good avps o h
-message_good avps (Sccrp o) h = opening_good avps o h
+message_good avps (Sccrq o) h = opening_good avps o ((77, ShortLongLong) ∷ []) h.0 (recovery_good avps o.recovery h.1, tt)
+message_good avps (Sccrp o) h = opening_good avps o [] h.0 tt
 message_good avps Scccn h = tt
 message_good avps (StopCcn tunnel result error) h = stop_ccn_good avps tunnel result error h
 message_good avps Hello h = tt
@@ -141,8 +149,11 @@ message_good avps Wen h = wen_good avps h
 message_good avps Sli h = sli_good avps h
 
 message_made : (k : Kind) (avps : List Avp) → IsSound k avps → Made k avps (of_kind k avps)
-message_made kind.Sccrq avps sound = made_of kind.Sccrq avps (opening_at avps) Sccrq (opening_made kind.Sccrq avps sccrq_opens sound)
-message_made kind.Sccrp avps sound = made_of kind.Sccrp avps (opening_at avps) Sccrp (opening_made kind.Sccrp avps sccrp_opens sound)
+message_made kind.Sccrq avps sound =
+    let r = some_recovery kind.Sccrq avps sound refl in
+    rw r.1 (made_of kind.Sccrq avps (opening_at avps r.0) Sccrq (opening_made kind.Sccrq avps r.0 sccrq_opens sound))
+message_made kind.Sccrp avps sound =
+    made_of kind.Sccrp avps (opening_at avps None) Sccrp (opening_made kind.Sccrp avps None sccrp_opens sound)
 message_made kind.Scccn avps sound = inl (Scccn, refl, tt)
 message_made kind.StopCcn avps sound = stop_ccn_made avps sound
 message_made kind.Hello avps sound = inl (Hello, refl, tt)

@@ -3,6 +3,8 @@ pub mod Along
 pub mod Walk
 pub mod Values
 pub mod Needs
+pub mod Texts
+pub mod Recoveries
 pub mod Openings
 pub mod ResultCodes
 pub mod Calls

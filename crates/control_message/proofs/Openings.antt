@@ -1,20 +1,23 @@
 -- What the two ends tell each other as a tunnel is opened, as the relation has it and as the reading finds it.
-use Rattle.std.proofs.Common.{◌≡◌, ℕ, List, [], ◌∷◌, length, drop, Option, Some, None, Ok, refl, sym, ap, subst, ◌∙◌, inl, inr, arith}
+use Rattle.std.proofs.Common.{◌≡◌, ℕ, List, [], ◌∷◌, ◌++◌, length, drop, Option, Some, None, Ok, refl, sym, ap, subst, ◌∙◌, inl, inr, arith}
 use Rattle.std.specs.List.{AllByRecursion}
 use Rattle.std.proofs.lemmas.Bool.{eq-eqb}
 use Rattle.byteorder.specs.Endian.{big_number}
 use Rattle.avp_codec.specs.declared.avp.Avp.{Avp}
 use Rattle.control_message.specs.declared.kind.Kind.{Kind}
+use Rattle.control_message.specs.declared.kind.Shape.{Shape}
 use Rattle.control_message.specs.declared.kind.Shape.TheVariants.{Text, Short, Nonzero, Long, ShortLong}
 use Rattle.control_message.specs.declared.message.Opening.{Opening}
 use Rattle.control_message.specs.declared.message.Failover.{Failover}
-use Rattle.control_message.specs.Table.{look_up, shape_of, uses_of, needs_of, opening_uses}
-use Rattle.control_message.specs.Reading.{first, u16_at, u32_at, window_in, window_at, failover_value, failover_in, failover_at, opening_at}
+use Rattle.control_message.specs.declared.message.Recovery.{Recovery}
+use Rattle.control_message.specs.Table.{shape_of, needs_of, opening_uses}
+use Rattle.control_message.specs.Reading.{first, text_at, u16_at, u32_at, window_in, window_at, failover_value, failover_in, failover_at, opening_at}
 use Rattle.control_message.specs.Grammar.{IsAbsent, SaysWindow, SaysFailover, SaysOpening}
 use Rattle.control_message.specs.Faults.{IsSound}
 use Rattle.control_message.proofs.Firsts.{absent_first, first_absent, first_stands, stands_first}
 use Rattle.control_message.proofs.Needs.{Made, least_of}
 use Rattle.control_message.proofs.Values.{bind_ok, ok_same, IsGood, good, value_has, has_value, value_good, absent_good, number_has, has_number, number_is, is_number, value_or_missing, number_or_missing}
+use Rattle.control_message.proofs.Texts.{text_says, says_text, text_good}
 
 -- ---- Receive Window Size
 
@@ -74,41 +77,67 @@ some_failover avps (Some a) e g = let p = g a (stands_first 76 a avps e) in (Som
 
 -- a kind whose messages are openings
 pub record IsOpening (k : Kind) : Type 0 where
-  pub uses : uses_of k ≡ opening_uses
+  pub version : shape_of k 2 ≡ Some Short
+  pub framing : shape_of k 3 ≡ Some Long
+  pub name : shape_of k 7 ≡ Some Text
+  pub tunnel : shape_of k 9 ≡ Some Nonzero
+  pub window : shape_of k 10 ≡ Some Nonzero
+  pub challenge : shape_of k 11 ≡ Some Text
+  pub failover : shape_of k 76 ≡ Some ShortLong
   pub needs : needs_of k ≡ 2 ∷ 3 ∷ 7 ∷ 9 ∷ []
 
-shape_is : (k : Kind) → IsOpening k → (n : ℕ) → shape_of k n ≡ look_up n opening_uses
-shape_is k h n = ap (look_up n) h.uses
-
-pub opening_says : (k : Kind) (avps : List Avp) (o : Opening) → IsOpening k → IsSound k avps → opening_at avps ≡ Ok o → SaysOpening avps o
+pub opening_says : (k : Kind) (avps : List Avp) (recovery : Option Recovery) (o : Opening) → IsOpening k → IsSound k avps → opening_at avps recovery ≡ Ok o
+    → SaysOpening avps o × (o.recovery ≡ recovery)
 unfolding opening_at u16_at u32_at window_at failover_at
-opening_says k avps o is sound h =
+opening_says k avps recovery o is sound h =
     let version = bind_ok _ _ o h in
     let framing = bind_ok _ _ o version.2 in
     let name = bind_ok _ _ o framing.2 in
     let tunnel = bind_ok _ _ o name.2 in
     let window = bind_ok _ _ o tunnel.2 in
     let failover = bind_ok _ _ o window.2 in
-    let t = number_has k avps 2 9 tunnel.0 Nonzero sound (shape_is k is 9) tunnel.1 in
-    let says : SaysOpening avps (record { version = version.0; framing = framing.0; name = name.0; tunnel = tunnel.0; window = window.0; failover = failover.0 }) =
+    let t = number_has k avps 2 9 tunnel.0 Nonzero sound is.tunnel tunnel.1 in
+    let opening : Opening =
     record {
-      version = (number_has k avps 2 2 version.0 Short sound (shape_is k is 2) version.1).0;
-      framing = (number_has k avps 4 3 framing.0 Long sound (shape_is k is 3) framing.1).0;
-      name = (value_has k avps 7 Text name.0 sound (shape_is k is 7) name.1).0;
+      version = version.0;
+      framing = framing.0;
+      name = name.0;
+      tunnel = tunnel.0;
+      window = window.0;
+      failover = failover.0;
+      challenge = text_at 11 avps;
+      recovery = recovery;
+    } in
+    let says : SaysOpening avps opening =
+    record {
+      version = (number_has k avps 2 2 version.0 Short sound is.version version.1).0;
+      framing = (number_has k avps 4 3 framing.0 Long sound is.framing framing.1).0;
+      name = (value_has k avps 7 Text name.0 sound is.name name.1).0;
       tunnel = t.0;
       tunnel_not_zero = λ zero. t.1.1.1 (t.1.3 ∙ zero);
-      window = window_is avps window.0 (first 10 avps) refl (good k avps 10 Nonzero sound (shape_is k is 10)) window.1;
-      failover = failover_is avps failover.0 (first 76 avps) refl (good k avps 76 ShortLong sound (shape_is k is 76)) failover.1;
+      window = window_is avps window.0 (first 10 avps) refl (good k avps 10 Nonzero sound is.window) window.1;
+      failover = failover_is avps failover.0 (first 76 avps) refl (good k avps 76 ShortLong sound is.failover) failover.1;
+      challenge = text_says k avps 11 sound is.challenge;
     } in
-    subst (SaysOpening avps) (ok_same failover.2) says
+    subst (λ (x : Opening). SaysOpening avps x × (x.recovery ≡ recovery)) (ok_same failover.2) (says, refl)
 
-pub says_opening : (avps : List Avp) (o : Opening) → SaysOpening avps o → opening_at avps ≡ Ok o
+pub says_opening : (avps : List Avp) (o : Opening) → SaysOpening avps o → opening_at avps o.recovery ≡ Ok o
 unfolding opening_at u16_at u32_at
 says_opening avps o h =
-    rw (has_number avps 2 2 o.version h.version, has_number avps 4 3 o.framing h.framing, has_value avps 7 o.name h.name, has_number avps 2 9 o.tunnel h.tunnel, is_window avps o.window h.window, is_failover avps o.failover h.failover) refl
+    rw (
+      has_number avps 2 2 o.version h.version,
+      has_number avps 4 3 o.framing h.framing,
+      has_value avps 7 o.name h.name,
+      has_number avps 2 9 o.tunnel h.tunnel,
+      is_window avps o.window h.window,
+      is_failover avps o.failover h.failover,
+      says_text avps 11 o.challenge h.challenge,
+    ) refl
 
-pub opening_good : (avps : List Avp) (o : Opening) → SaysOpening avps o → AllByRecursion (IsGood avps) opening_uses
-opening_good avps o h = (
+-- what an opening uses, before what its kind uses beside it
+pub opening_good : (avps : List Avp) (o : Opening) (more : List (ℕ × Shape)) → SaysOpening avps o → AllByRecursion (IsGood avps) more
+    → AllByRecursion (IsGood avps) (opening_uses ++ more)
+opening_good avps o more h others = (
   value_good avps 2 h.version.value Short h.version.has h.version.wide,
   (
     value_good avps 3 h.framing.value Long h.framing.has h.framing.wide,
@@ -118,7 +147,7 @@ opening_good avps o h = (
         value_good avps 9 h.tunnel.value Nonzero h.tunnel.has (h.tunnel.wide, λ zero. h.tunnel_not_zero (sym h.tunnel.number ∙ zero)),
         (
           window_good avps o.window h.window,
-          (failover_good avps o.failover h.failover, tt),
+          (text_good avps 11 o.challenge h.challenge, (failover_good avps o.failover h.failover, others)),
         ),
       ),
     ),
@@ -127,22 +156,33 @@ opening_good avps o h = (
 
 -- ---- what is missing
 
-pub opening_made : (k : Kind) (avps : List Avp) → IsOpening k → IsSound k avps → Made k avps (opening_at avps)
+pub opening_made : (k : Kind) (avps : List Avp) (recovery : Option Recovery) → IsOpening k → IsSound k avps → Made k avps (opening_at avps recovery)
 unfolding opening_at u16_at u32_at window_at failover_at
-opening_made k avps is sound =
-    let window = some_window avps (first 10 avps) refl (good k avps 10 Nonzero sound (shape_is k is 10)) in
-    let failover = some_failover avps (first 76 avps) refl (good k avps 76 ShortLong sound (shape_is k is 76)) in
-    elim (number_or_missing k avps 2 2 Short sound (shape_is k is 2) (λ v s. s)) [
+opening_made k avps recovery is sound =
+    let window = some_window avps (first 10 avps) refl (good k avps 10 Nonzero sound is.window) in
+    let failover = some_failover avps (first 76 avps) refl (good k avps 76 ShortLong sound is.failover) in
+    elim (number_or_missing k avps 2 2 Short sound is.version (λ v s. s)) [
       | inr no2 ↦ inr (2, rw no2.0 refl, least_of k avps 2 [] (3 ∷ 7 ∷ 9 ∷ []) is.needs tt (omega arith, (omega arith, (omega arith, tt))) no2.1)
-      | inl version ↦ elim (number_or_missing k avps 4 3 Long sound (shape_is k is 3) (λ v s. s)) [
+      | inl version ↦ elim (number_or_missing k avps 4 3 Long sound is.framing (λ v s. s)) [
         | inr no3 ↦ inr (3, rw (version.1, no3.0) refl, least_of k avps 3 (2 ∷ []) (7 ∷ 9 ∷ []) is.needs (version.2, tt) (omega arith, (omega arith, tt)) no3.1)
         | inl framing ↦ elim (value_or_missing avps 7) [
           | inr no7 ↦ inr (7, rw (version.1, framing.1, no7.0) refl, least_of k avps 7 (2 ∷ 3 ∷ []) (9 ∷ []) is.needs (version.2, (framing.2, tt)) (omega arith, tt) no7.1)
-          | inl name ↦ elim (number_or_missing k avps 2 9 Nonzero sound (shape_is k is 9) (λ v s. s.0)) [
+          | inl name ↦ elim (number_or_missing k avps 2 9 Nonzero sound is.tunnel (λ v s. s.0)) [
             | inr no9 ↦ inr (9, rw (version.1, framing.1, name.1, no9.0) refl, least_of k avps 9 (2 ∷ 3 ∷ 7 ∷ []) [] is.needs (version.2, (framing.2, (name.2, tt))) tt no9.1)
             | inl tunnel ↦
+                let opening : Opening =
+                record {
+                  version = version.0;
+                  framing = framing.0;
+                  name = name.0;
+                  tunnel = tunnel.0;
+                  window = window.0;
+                  failover = failover.0;
+                  challenge = text_at 11 avps;
+                  recovery = recovery;
+                } in
                 inl (
-                  record { version = version.0; framing = framing.0; name = name.0; tunnel = tunnel.0; window = window.0; failover = failover.0 },
+                  opening,
                   rw (version.1, framing.1, name.1, tunnel.1, window.1, failover.1) refl,
                   subst (AllByRecursion (λ n. ¬ IsAbsent n avps)) (sym is.needs) (version.2, (framing.2, (name.2, (tunnel.2, tt)))),
                 )

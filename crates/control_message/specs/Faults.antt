@@ -5,7 +5,7 @@ use Rattle.byteorder.specs.Endian.{big_number}
 use Rattle.avp_codec.specs.declared.avp.Avp.{Avp}
 use Rattle.control_message.specs.declared.kind.Kind.{Kind}
 use Rattle.control_message.specs.declared.kind.Shape.{Shape}
-use Rattle.control_message.specs.declared.kind.Shape.TheVariants.{Text, Short, Nonzero, Long, ShortLong, ResultCode, CallErrors, Accm}
+use Rattle.control_message.specs.declared.kind.Shape.TheVariants.{Text, Short, Nonzero, Long, ShortLong, ShortLongLong, ResultCode, CallErrors, Accm}
 use Rattle.control_message.specs.declared.message.MessageError.{MessageError}
 use Rattle.control_message.specs.declared.message.MessageError.TheVariants.{NoType, UnknownType, UnknownMandatory, HiddenWithoutVector, BadValue, Missing, NoMemory}
 use Rattle.control_message.specs.Table.{kind_of, shape_of, needs_of}
@@ -41,6 +41,7 @@ HasShape Short value = length value ≡ 2
 HasShape Nonzero value = (length value ≡ 2) × (big_number 2 value ≢ 0)
 HasShape Long value = length value ≡ 4
 HasShape ShortLong value = length value ≡ 6
+HasShape ShortLongLong value = length value ≡ 10
 HasShape ResultCode value = (length value ≡ 2) ⊎ (4 ≤ length value)
 HasShape CallErrors value = length value ≡ 26
 HasShape Accm value = length value ≡ 10

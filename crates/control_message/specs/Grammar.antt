@@ -1,4 +1,4 @@
--- What a list of pairs says: a relation apart from the reader (RFC 2661 sections 4.1, 4.4 and 6, RFC 4951 section 5.1).
+-- What a list of pairs says: a relation apart from the reader (RFC 2661 sections 4.1, 4.4 and 6, RFC 4951 sections 5.1 and 5.2).
 use Rattle.std.specs.Prelude.{◌≡◌, ◌≢◌, ℕ, ◌≤◌, ◌⊎◌, Bool, true, false, List, ◌∷◌, ◌++◌, length, drop, Option, Some, None, ⊤}
 use Rattle.std.specs.List.{AllByRecursion}
 use Rattle.byteorder.specs.Endian.{big_number}
@@ -7,6 +7,7 @@ use Rattle.control_message.specs.declared.message.Message.{Message}
 use Rattle.control_message.specs.declared.message.Message.TheVariants.{Sccrq, Sccrp, Scccn, StopCcn, Hello, Ocrq, Ocrp, Occn, Icrq, Icrp, Iccn, Cdn, Wen, Sli}
 use Rattle.control_message.specs.declared.message.Opening.{Opening}
 use Rattle.control_message.specs.declared.message.Failover.{Failover}
+use Rattle.control_message.specs.declared.message.Recovery.{Recovery}
 use Rattle.control_message.specs.declared.message.Read.{Read}
 use Rattle.control_message.specs.declared.message.Read.TheVariants.{Known, Ignored}
 use Rattle.control_message.specs.Table.{kind_of}
@@ -78,6 +79,14 @@ pub record HasFailover (f : Failover) (avps : List Avp) : Type 0 where
   pub flags : big_number 2 value ≡ f.flags
   pub time : big_number 4 (drop 2 value) ≡ f.time
 
+-- Tunnel Recovery: two reserved bytes, which aren't looked at, then the sender's id and the receiver's, in four each
+pub record HasRecovery (r : Recovery) (avps : List Avp) : Type 0 where
+  pub value : List ℕ
+  pub has : HasValue 77 value avps
+  pub wide : length value ≡ 10
+  pub sender : big_number 4 (drop 2 value) ≡ r.sender
+  pub receiver : big_number 4 (drop 6 value) ≡ r.receiver
+
 -- Error Code: two bytes behind the result, then any text; there is none where the result is all
 abbrev pub HasErrorCode : List ℕ → Option ℕ → Type 0
 HasErrorCode value None = length value ≡ 2
@@ -92,6 +101,11 @@ pub record HasResultCode (code : ℕ) (error : Option ℕ) (avps : List Avp) : T
 
 -- ---- messages
 
+-- the text of an attribute, where it is told
+abbrev pub SaysText : ℕ → List Avp → Option (List ℕ) → Type 0
+SaysText n avps None = IsAbsent n avps
+SaysText n avps (Some value) = HasValue n value avps
+
 -- Receive Window Size, which is 4 where it isn't told
 abbrev pub SaysWindow : List Avp → ℕ → Type 0
 SaysWindow avps window = (HasNumber 10 2 window avps × (window ≢ 0)) ⊎ (IsAbsent 10 avps × (window ≡ 4))
@@ -100,6 +114,11 @@ abbrev pub SaysFailover : List Avp → Option Failover → Type 0
 SaysFailover avps None = IsAbsent 76 avps
 SaysFailover avps (Some f) = HasFailover f avps
 
+abbrev pub SaysRecovery : List Avp → Option Recovery → Type 0
+SaysRecovery avps None = IsAbsent 77 avps
+SaysRecovery avps (Some r) = HasRecovery r avps
+
+-- What a request and a reply say alike. Tunnel Recovery, which only a request tells, isn't among it.
 pub record SaysOpening (avps : List Avp) (o : Opening) : Type 0 where
   pub version : HasNumber 2 2 o.version avps
   pub framing : HasNumber 3 4 o.framing avps
@@ -108,11 +127,7 @@ pub record SaysOpening (avps : List Avp) (o : Opening) : Type 0 where
   pub tunnel_not_zero : o.tunnel ≢ 0
   pub window : SaysWindow avps o.window
   pub failover : SaysFailover avps o.failover
-
--- Calling Number, where it is told
-abbrev pub SaysCalling : List Avp → Option (List ℕ) → Type 0
-SaysCalling avps None = IsAbsent 22 avps
-SaysCalling avps (Some value) = HasValue 22 value avps
+  pub challenge : SaysText 11 avps o.challenge
 
 -- Sequencing Required stands for itself, whatever its value
 abbrev pub SaysSequenced : List Avp → Bool → Type 0
@@ -131,7 +146,7 @@ SaysOcrp avps = ((id : ℕ) × HasNumber 14 2 id avps × (id ≢ 0)) ⊎ IsAbsen
 pub record SaysIcrq (avps : List Avp) (id count : ℕ) (caller : Option (List ℕ)) : Type 0 where
   pub session : HasNumber 14 2 id avps
   pub serial : HasNumber 15 4 count avps
-  pub calling : SaysCalling avps caller
+  pub calling : SaysText 22 avps caller
 
 pub record SaysIcrp (avps : List Avp) (id : ℕ) : Type 0 where
   pub session : HasNumber 14 2 id avps
@@ -148,8 +163,8 @@ pub record SaysCdn (avps : List Avp) (id code : ℕ) (error : Option ℕ) : Type
   pub session : HasNumber 14 2 id avps
 
 abbrev pub SaysMessage : List Avp → Message → Type 0
-SaysMessage avps (Sccrq o) = SaysOpening avps o
-SaysMessage avps (Sccrp o) = SaysOpening avps o
+SaysMessage avps (Sccrq o) = SaysOpening avps o × SaysRecovery avps o.recovery
+SaysMessage avps (Sccrp o) = SaysOpening avps o × (o.recovery ≡ None)
 SaysMessage avps Scccn = ⊤
 SaysMessage avps (StopCcn tunnel result error) = SaysStopCcn avps tunnel result error
 SaysMessage avps Hello = ⊤

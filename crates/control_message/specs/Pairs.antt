@@ -62,7 +62,8 @@ pairs_of Occn = []
 pairs_of Wen = []
 pairs_of Sli = []
 
--- version 1.0, no id or window that is 0, a name that fits into a pair, and the failover capability told
+-- version 1.0, no id or window that is 0, a name that fits into a pair, the failover capability told, and neither a challenge
+-- nor a recovery
 pub record IsWrittenOpening (o : Opening) : Type 0 where
   pub version : o.version ≡ 256
   pub framing : o.framing < 2 ^ 32
@@ -72,6 +73,8 @@ pub record IsWrittenOpening (o : Opening) : Type 0 where
   pub window : o.window < 2 ^ 16
   pub window_not_zero : 0 < o.window
   pub failover : IsSomeAnd o.failover (λ f. (f.flags < 2 ^ 16) × (f.time < 2 ^ 32))
+  pub challenge : o.challenge ≡ None
+  pub recovery : o.recovery ≡ None
 
 -- the messages that are written
 abbrev pub IsWritten : Message → Type 0

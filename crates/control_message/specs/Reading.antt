@@ -10,6 +10,7 @@ use Rattle.control_message.specs.declared.message.Message.{Message}
 use Rattle.control_message.specs.declared.message.Message.TheVariants.{Sccrq, Sccrp, Scccn, StopCcn, Hello, Ocrq, Ocrp, Occn, Icrq, Icrp, Iccn, Cdn, Wen, Sli}
 use Rattle.control_message.specs.declared.message.Opening.{Opening}
 use Rattle.control_message.specs.declared.message.Failover.{Failover}
+use Rattle.control_message.specs.declared.message.Recovery.{Recovery}
 use Rattle.control_message.specs.declared.message.Read.{Read}
 use Rattle.control_message.specs.declared.message.Read.TheVariants.{Known, Ignored}
 use Rattle.control_message.specs.declared.message.MessageError.{MessageError}
@@ -95,6 +96,10 @@ u16_at n avps = value_at n avps >>= λ v. number_in 2 n v
 unfoldable pub u32_at : ℕ → List Avp → Result ℕ MessageError
 u32_at n avps = value_at n avps >>= λ v. number_in 4 n v
 
+-- the text of an attribute, where it is told
+abbrev pub text_at : ℕ → List Avp → Option (List ℕ)
+text_at n avps = option_map (λ (a : Avp). a.value) (first n avps)
+
 -- Receive Window Size, which is 4 where it isn't told
 abbrev pub window_in : Option Avp → Result ℕ MessageError
 window_in None = Ok 4
@@ -119,25 +124,38 @@ failover_in (Some a) = failover_read (failover_value a.value)
 unfoldable pub failover_at : List Avp → Result (Option Failover) MessageError
 failover_at avps = failover_in (first 76 avps)
 
-unfoldable pub opening_at : List Avp → Result Opening MessageError
-opening_at avps = do
+-- Tunnel Recovery: two reserved bytes, which aren't looked at, then the sender's id and the receiver's
+abbrev pub recovery_value : List ℕ → Option Recovery
+recovery_value value =
+    if length value == 10 then Some (record { sender = big_number 4 (drop 2 value); receiver = big_number 4 (drop 6 value) }) else None
+
+abbrev pub recovery_read : Option Recovery → Result (Option Recovery) MessageError
+recovery_read None = Err (BadValue 77)
+recovery_read (Some r) = Ok (Some r)
+
+abbrev pub recovery_in : Option Avp → Result (Option Recovery) MessageError
+recovery_in None = Ok None
+recovery_in (Some a) = recovery_read (recovery_value a.value)
+
+unfoldable pub recovery_at : List Avp → Result (Option Recovery) MessageError
+recovery_at avps = recovery_in (first 77 avps)
+
+-- an opening, with the recovery that is asked for
+unfoldable pub opening_at : List Avp → Option Recovery → Result Opening MessageError
+opening_at avps recovery = do
   version ← u16_at 2 avps
   framing ← u32_at 3 avps
   name ← value_at 7 avps
   tunnel ← u16_at 9 avps
   window ← window_at avps
   failover ← failover_at avps
-  Ok (record { version = version; framing = framing; name = name; tunnel = tunnel; window = window; failover = failover })
-
--- Calling Number, where it is told
-abbrev pub calling_at : List Avp → Option (List ℕ)
-calling_at avps = option_map (λ (a : Avp). a.value) (first 22 avps)
+  Ok (record { version = version; framing = framing; name = name; tunnel = tunnel; window = window; failover = failover; challenge = text_at 11 avps; recovery = recovery })
 
 unfoldable pub icrq_at : List Avp → Result Message MessageError
 icrq_at avps = do
   session ← u16_at 14 avps
   serial ← u32_at 15 avps
-  Ok (Icrq session serial (calling_at avps))
+  Ok (Icrq session serial (text_at 22 avps))
 
 unfoldable pub icrp_at : List Avp → Result Message MessageError
 icrp_at avps = do
@@ -189,8 +207,8 @@ sli_at avps = value_at 35 avps >>= λ v. Ok Sli
 
 -- a message of a kind
 abbrev pub of_kind : Kind → List Avp → Result Message MessageError
-of_kind kind.Sccrq avps = opening_at avps >>= λ o. Ok (Sccrq o)
-of_kind kind.Sccrp avps = opening_at avps >>= λ o. Ok (Sccrp o)
+of_kind kind.Sccrq avps = recovery_at avps >>= λ r. opening_at avps r >>= λ o. Ok (Sccrq o)
+of_kind kind.Sccrp avps = opening_at avps None >>= λ o. Ok (Sccrp o)
 of_kind kind.Scccn avps = Ok Scccn
 of_kind kind.StopCcn avps = stop_ccn_at avps
 of_kind kind.Hello avps = Ok Hello

@@ -1,10 +1,10 @@
 -- The table of messages and attributes (RFC 2661 sections 3.2, 4.4 and 6, RFC 4951 section 5).
-use Rattle.std.specs.Prelude.{ℕ, ◌==◌, ◌&&◌, ◌||◌, nat_le, not, Bool, true, List, [], ◌∷◌, length, find, Option, option_map}
+use Rattle.std.specs.Prelude.{ℕ, ◌==◌, ◌&&◌, ◌||◌, nat_le, not, Bool, true, List, [], ◌∷◌, ◌++◌, length, find, Option, option_map}
 use Rattle.byteorder.specs.Endian.{big_number}
 use Rattle.control_message.specs.declared.kind.Kind.{Kind}
 use Rattle.control_message.specs.declared.kind.Kind.TheVariants.{Sccrq, Sccrp, Scccn, StopCcn, Hello, Ocrq, Ocrp, Occn, Icrq, Icrp, Iccn, Cdn, Wen, Sli}
 use Rattle.control_message.specs.declared.kind.Shape.{Shape}
-use Rattle.control_message.specs.declared.kind.Shape.TheVariants.{Text, Short, Nonzero, Long, ShortLong, ResultCode, CallErrors, Accm}
+use Rattle.control_message.specs.declared.kind.Shape.TheVariants.{Text, Short, Nonzero, Long, ShortLong, ShortLongLong, ResultCode, CallErrors, Accm}
 
 -- what stands beside a number in a table
 abbrev pub look_up : {V : Type 0} → ℕ → List (ℕ × V) → Option V
@@ -33,13 +33,14 @@ kinds =
 abbrev pub kind_of : ℕ → Option Kind
 kind_of n = look_up n kinds
 
--- Protocol Version, Framing Capabilities, Host Name, Assigned Tunnel ID, Receive Window Size, Failover Capability
+-- Protocol Version, Framing Capabilities, Host Name, Assigned Tunnel ID, Receive Window Size, Challenge, Failover Capability
 abbrev pub opening_uses : List (ℕ × Shape)
-opening_uses = (2, Short) ∷ (3, Long) ∷ (7, Text) ∷ (9, Nonzero) ∷ (10, Nonzero) ∷ (76, ShortLong) ∷ []
+opening_uses = (2, Short) ∷ (3, Long) ∷ (7, Text) ∷ (9, Nonzero) ∷ (10, Nonzero) ∷ (11, Text) ∷ (76, ShortLong) ∷ []
 
 -- the attributes that a message uses beside its type, and the shapes of their values
 abbrev pub uses_of : Kind → List (ℕ × Shape)
-uses_of Sccrq = opening_uses
+-- Tunnel Recovery too
+uses_of Sccrq = opening_uses ++ (77, ShortLongLong) ∷ []
 uses_of Sccrp = opening_uses
 uses_of Scccn = []
 -- Result Code, Assigned Tunnel ID
@@ -90,6 +91,7 @@ fits Short value = length value == 2
 fits Nonzero value = length value == 2 && not (big_number 2 value == 0)
 fits Long value = length value == 4
 fits ShortLong value = length value == 6
+fits ShortLongLong value = length value == 10
 fits ResultCode value = length value == 2 || nat_le 4 (length value)
 fits CallErrors value = length value == 26
 fits Accm value = length value == 10

@@ -1,4 +1,4 @@
-//! The attributes that are read and written (RFC 2661 section 4.4, RFC 4951 section 5.1).
+//! The attributes that are read and written (RFC 2661 section 4.4, RFC 4951 sections 5.1 and 5.2).
 
 pub const MESSAGE_TYPE: u16 = 0;
 
@@ -13,6 +13,8 @@ pub const HOST_NAME: u16 = 7;
 pub const ASSIGNED_TUNNEL: u16 = 9;
 
 pub const WINDOW: u16 = 10;
+
+pub const CHALLENGE: u16 = 11;
 
 pub const ASSIGNED_SESSION: u16 = 14;
 
@@ -33,3 +35,5 @@ pub const RANDOM_VECTOR: u16 = 36;
 pub const SEQUENCING_REQUIRED: u16 = 39;
 
 pub const FAILOVER: u16 = 76;
+
+pub const RECOVERY: u16 = 77;

@@ -5,8 +5,8 @@ ghost use Rattle.control_message.specs.Table.{kind_of, shape_of, fits};
 
 use crate::attribute::{
     ACCM, ASSIGNED_SESSION, ASSIGNED_TUNNEL, CALL_ERRORS, CALL_SERIAL_NUMBER, CALLING_NUMBER,
-    CONNECT_SPEED, FAILOVER, FRAMING_CAPABILITIES, FRAMING_TYPE, HOST_NAME, PROTOCOL_VERSION,
-    RESULT_CODE, SEQUENCING_REQUIRED, WINDOW,
+    CHALLENGE, CONNECT_SPEED, FAILOVER, FRAMING_CAPABILITIES, FRAMING_TYPE, HOST_NAME,
+    PROTOCOL_VERSION, RECOVERY, RESULT_CODE, SEQUENCING_REQUIRED, WINDOW,
 };
 use wire_base::take_u16;
 
@@ -85,6 +85,8 @@ pub enum Shape {
     Long,
     /// A number in two bytes, then a number in four.
     ShortLong,
+    /// Two reserved bytes, then two numbers in four.
+    ShortLongLong,
     /// A number in two bytes, then nothing, or another in two and any bytes behind it (RFC 2661 section 4.4.2).
     ResultCode,
     /// Two reserved bytes and six counters of four (RFC 2661 section 4.4.6).
@@ -128,7 +130,9 @@ impl Kind {
                 HOST_NAME => Some(Shape::Text),
                 ASSIGNED_TUNNEL => Some(Shape::Nonzero),
                 WINDOW => Some(Shape::Nonzero),
+                CHALLENGE => Some(Shape::Text),
                 FAILOVER => Some(Shape::ShortLong),
+                RECOVERY if matches!(self, Kind::Sccrq) => Some(Shape::ShortLongLong),
                 _ => None,
             },
             Kind::Scccn | Kind::Hello | Kind::Occn => None,
@@ -185,6 +189,7 @@ impl Shape {
             Shape::Nonzero => value.len() == 2 && !matches!(take_u16(value, 0), Ok(0)),
             Shape::Long => value.len() == 4,
             Shape::ShortLong => value.len() == 6,
+            Shape::ShortLongLong => value.len() == 10,
             Shape::ResultCode => value.len() == 2 || 4 <= value.len(),
             Shape::CallErrors => value.len() == 26,
             Shape::Accm => value.len() == 10,

@@ -11,6 +11,6 @@ mod writing;
 
 pub use finding::{assigned_session, assigned_tunnel};
 pub use kind::Kind;
-pub use message::{Failover, Message, MessageError, Opening, Read};
+pub use message::{Failover, Message, MessageError, Opening, Read, Recovery};
 pub use reading::{kind_of_pairs, read_message, reads_what_was_written};
 pub use writing::{has_room, write_message};

@@ -80,6 +80,10 @@ pub struct Opening {
     pub window: u16,
     /// Failover Capability, where it is told.
     pub failover: Option<Failover>,
+    /// Challenge, where it is told, of any bytes (RFC 2661 section 4.4.3). It is only read.
+    pub challenge: Option<Bytes>,
+    /// Tunnel Recovery, where a request tells it. It is only read.
+    pub recovery: Option<Recovery>,
 }
 
 /// Failover Capability, the attribute 76 of RFC 4951 section 5.1. Its layout, two bytes of flags and four of milliseconds,
@@ -90,6 +94,16 @@ pub struct Failover {
     pub flags: u16,
     /// The recovery time, in milliseconds.
     pub time: u32,
+}
+
+/// Tunnel Recovery, the attribute 77 of RFC 4951 section 5.2, by which a request names a tunnel that is to be recovered. Its
+/// layout, two reserved bytes and two ids of four, is this project's profile of it.
+#[derive(Clone, Copy, Debug, PartialEq, Eq)]
+pub struct Recovery {
+    /// The sender's id of the tunnel.
+    pub sender: u32,
+    /// The receiver's id of the tunnel.
+    pub receiver: u32,
 }
 
 /// What a list of pairs says.

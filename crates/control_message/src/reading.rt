@@ -12,17 +12,17 @@ ghost use Rattle.control_message.specs.declared.message.MessageError.{MessageErr
 ghost use Rattle.control_message.specs.Grammar.{Says};
 ghost use Rattle.control_message.specs.Faults.{IsOfKind, IsFault, IsToldFault};
 ghost use Rattle.control_message.specs.Pairs.{pairs_of, IsWritten};
-ghost use Rattle.control_message.specs.Reading.{Told, value_at, u16_at, u32_at, window_at, failover_value, failover_at, opening_at, calling_at, icrq_at, icrp_at, iccn_at, result_code_in, result_code_at, stop_ccn_at, ocrq_at, cdn_at, wen_at, sli_at, of_kind, type_number, kind_of_pairs, message_of};
+ghost use Rattle.control_message.specs.Reading.{Told, value_at, u16_at, u32_at, window_at, text_at, failover_value, failover_at, recovery_value, recovery_at, opening_at, icrq_at, icrp_at, iccn_at, result_code_in, result_code_at, stop_ccn_at, ocrq_at, cdn_at, wen_at, sli_at, of_kind, type_number, kind_of_pairs, message_of};
 
 use crate::attribute::{
     ACCM, ASSIGNED_SESSION, ASSIGNED_TUNNEL, CALL_ERRORS, CALL_SERIAL_NUMBER, CALLING_NUMBER,
-    CONNECT_SPEED, FAILOVER, FRAMING_CAPABILITIES, FRAMING_TYPE, HOST_NAME, MESSAGE_TYPE,
-    PROTOCOL_VERSION, RESULT_CODE, SEQUENCING_REQUIRED, WINDOW,
+    CHALLENGE, CONNECT_SPEED, FAILOVER, FRAMING_CAPABILITIES, FRAMING_TYPE, HOST_NAME,
+    MESSAGE_TYPE, PROTOCOL_VERSION, RECOVERY, RESULT_CODE, SEQUENCING_REQUIRED, WINDOW,
 };
 use crate::checking::check_all;
 use crate::finding::{find_avp, has_avp, u16_in};
 use crate::kind::Kind;
-use crate::message::{Failover, Message, MessageError, Opening, Read};
+use crate::message::{Failover, Message, MessageError, Opening, Read, Recovery};
 use avp_codec::{Avp, Avps};
 use std::alloc::Global;
 use wire_base::{Bytes, NoMemory, take_u16, take_u32};
@@ -55,6 +55,19 @@ fn u32_of(avps: &[Avp], attribute: u16) -> Result<u32, MessageError>
     match take_u32(value, 0) {
         Ok(number) if value.len() == 4 => Ok(number),
         _ => Err(MessageError::BadValue { attribute }),
+    }
+}
+
+/// The text of an attribute, where it is told.
+fn text_of(alloc: Global, avps: &[Avp], attribute: u16) -> Result<Option<Bytes>, NoMemory>
+    ensures { IfOk result (λ o. o ≡ text_at attribute avps.now) }
+{
+    match find_avp(avps, attribute) {
+        None => Ok(None),
+        Some(avp) => {
+            let value = Bytes::from_slice(alloc, avp.value.as_slice())?;
+            Ok(Some(value))
+        }
     }
 }
 
@@ -98,10 +111,43 @@ fn failover_of(avps: &[Avp]) -> Result<Option<Failover>, MessageError>
     }
 }
 
-/// What the two ends tell each other as a tunnel is opened.
+/// The Tunnel Recovery that a value is. Its first two bytes are reserved, and aren't looked at.
+fn recovery_in(value: &[u8]) -> Option<Recovery>
+    ensures { result ≡ recovery_value value.now }
+{
+    if value.len() != 10 {
+        return None;
+    }
+    match (take_u32(value, 2), take_u32(value, 6)) {
+        (Ok(sender), Ok(receiver)) => Some(Recovery { sender, receiver }),
+        _ => None,
+    }
+}
+
+/// Tunnel Recovery.
+#[tactic(auto, unfolding(crate::specs::Reading::recovery_at))]
+fn recovery_of(avps: &[Avp]) -> Result<Option<Recovery>, MessageError>
+    ensures { result ≡ recovery_at avps.now }
+{
+    let Some(avp) = find_avp(avps, RECOVERY) else {
+        return Ok(None);
+    };
+    match recovery_in(avp.value.as_slice()) {
+        None => Err(MessageError::BadValue {
+            attribute: RECOVERY,
+        }),
+        recovery => Ok(recovery),
+    }
+}
+
+/// What the two ends tell each other as a tunnel is opened, with the recovery that is asked for.
 #[tactic(auto, unfolding(crate::specs::Reading::opening_at))]
-fn opening_of(alloc: Global, avps: &[Avp]) -> Result<Opening, MessageError>
-    ensures { Gives Told (λ o. o) result (opening_at avps.now) }
+fn opening_of(
+    alloc: Global,
+    avps: &[Avp],
+    recovery: Option<Recovery>,
+) -> Result<Opening, MessageError>
+    ensures { Gives Told (λ o. o) result (opening_at avps.now recovery) }
 {
     let version = u16_of(avps, PROTOCOL_VERSION)?;
     let framing = u32_of(avps, FRAMING_CAPABILITIES)?;
@@ -110,6 +156,7 @@ fn opening_of(alloc: Global, avps: &[Avp]) -> Result<Opening, MessageError>
     let window = window_of(avps)?;
     let failover = failover_of(avps)?;
     let name = Bytes::from_slice(alloc, name)?;
+    let challenge = text_of(alloc, avps, CHALLENGE)?;
     Ok(Opening {
         version,
         framing,
@@ -117,20 +164,9 @@ fn opening_of(alloc: Global, avps: &[Avp]) -> Result<Opening, MessageError>
         tunnel,
         window,
         failover,
+        challenge,
+        recovery,
     })
-}
-
-/// Calling Number, where it is told.
-fn calling_of(alloc: Global, avps: &[Avp]) -> Result<Option<Bytes>, NoMemory>
-    ensures { IfOk result (λ o. o ≡ calling_at avps.now) }
-{
-    match find_avp(avps, CALLING_NUMBER) {
-        None => Ok(None),
-        Some(avp) => {
-            let value = Bytes::from_slice(alloc, avp.value.as_slice())?;
-            Ok(Some(value))
-        }
-    }
 }
 
 /// Incoming-Call-Request.
@@ -140,7 +176,7 @@ fn icrq_of(alloc: Global, avps: &[Avp]) -> Result<Message, MessageError>
 {
     let session = u16_of(avps, ASSIGNED_SESSION)?;
     let serial = u32_of(avps, CALL_SERIAL_NUMBER)?;
-    let calling = calling_of(alloc, avps)?;
+    let calling = text_of(alloc, avps, CALLING_NUMBER)?;
     Ok(Message::Icrq {
         session,
         serial,
@@ -261,11 +297,12 @@ fn message_of_kind(alloc: Global, kind: Kind, avps: &[Avp]) -> Result<Message, M
 {
     match kind {
         Kind::Sccrq => {
-            let opening = opening_of(alloc, avps)?;
+            let recovery = recovery_of(avps)?;
+            let opening = opening_of(alloc, avps, recovery)?;
             Ok(Message::Sccrq(opening))
         }
         Kind::Sccrp => {
-            let opening = opening_of(alloc, avps)?;
+            let opening = opening_of(alloc, avps, None)?;
             Ok(Message::Sccrp(opening))
         }
         Kind::Scccn => Ok(Message::Scccn),
