@@ -103,7 +103,7 @@ refusal_codes_fit e t header said fault m (IsReplyToNone remote is none lns same
 refusal_codes_fit e t header said fault m (IsWrong f is same result error) =
     fits m.result m.error 2 (Some (fault_error f.cause)) (omega arith, fault_fits f.cause) result error
 
-stop_fits : (r : Reason) → Type 0
+abbrev stop_fits : Reason → Type 0
 stop_fits r = CodesFit r.result r.error
 
 -- the codes of each reason for which an opening isn't acceptable
@@ -119,7 +119,7 @@ opening_fits o = by (not (o.version == 256)) (is_some o.recovery) (is_some o.cha
 
 last_fits : (d : Result ℕ IdError) (r : Reason) → lacks_id d ≡ Some r → stop_fits r
 last_fits (Ok i) r h = absurd cc
-last_fits (Err x) r h = let e : no_id ≡ r = cc in rw (← e) ((omega arith, omega arith) : stop_fits no_id)
+last_fits (Err x) r h = let e : no_id ≡ r = cc in let small : stop_fits no_id = (omega arith, omega arith) in rw (← e) small
 
 -- and of each for which none is opened
 against_fits : (e : End) (o : Opening) (r : Reason) → against_opening e o ≡ Some r → stop_fits r

@@ -57,7 +57,8 @@ use Rattle.protocol_model.specs.declared.moves.FrameSent.{FrameSent}
 use Rattle.protocol_model.specs.declared.moves.FrameUp.{FrameUp}
 use Rattle.protocol_model.specs.declared.moves.Move.{Move}
 use Rattle.protocol_model.specs.declared.moves.Move.TheVariants as move
-use Rattle.protocol_model.specs.declared.event.Addressee.TheVariants.{Opens, Stops, Answers}
+use Rattle.protocol_model.specs.declared.event.Addressee.TheVariants.{Stops, Answers}
+use Rattle.protocol_model.specs.declared.event.Addressee.TheVariants as addressee
 use Rattle.protocol_model.specs.Reading.{body_of, message_in, CallFault, call_fault_in, TunnelFault, tunnel_fault_in, at_zero}
 use Rattle.protocol_model.specs.Calls.{call_row, advanced, rung, asked_for, is_request, is_reply, is_connection, is_told, is_up, is_set_up, are_too_many, frame_of, side_of}
 use Rattle.protocol_model.specs.Turn.{Tunnel, has_room, may_take, place, next_place, taken_place, letter_of, fresh, counts_given, counts_taken, counts_acked, counts_sent, counts_repeated, learns_window, in_state, opening_of, request_of, connection, is_clean_up, session_named, Reason, granted, fault_error, is_acceptable, event_by, opening_reason, known_or, shut, is_closed, is_at_its_end, is_over, patience}
@@ -421,7 +422,7 @@ pub record EndsSilently (e : End) (moment : ℕ) (ev : Event) (m : EndSilent) (x
 pub data WhyDeclined (e : End) (body : List ℕ) (m : Declined) : Type 0 where
   AnOpening : (o : Opening) (r : Reason) → message_in body ≡ Ok (Sccrq o) → m.remote ≡ o.tunnel → against_opening e o ≡ Some r
       → m.result ≡ r.result → m.error ≡ r.error → WhyDeclined e body m
-  AFaultyOpening : (g : TunnelFault) → at_zero body ≡ Opens m.remote → tunnel_fault_in body ≡ Some g → g.event ≡ event.SccrqNotAcc
+  AFaultyOpening : (g : TunnelFault) → at_zero body ≡ addressee.Opens m.remote → tunnel_fault_in body ≡ Some g → g.event ≡ event.SccrqNotAcc
       → m.result ≡ 2 → m.error ≡ Some (fault_error g.cause) → WhyDeclined e body m
   AnAnswer : at_zero body ≡ Answers m.remote → m.result ≡ 7 → m.error ≡ None → WhyDeclined e body m
 
