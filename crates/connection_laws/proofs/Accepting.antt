@@ -1,6 +1,6 @@
 -- A tunnel is accepted: its first letter, and the first that it takes, are known, and its opener knows it by no id yet.
-use Rattle.std.proofs.Common.{◌≡◌, inl, ⊎_elim, ℕ, ◌+◌, ◌<◌, ◌≤◌, [], ◌∷◌, map, drop, refl, sym, ap, ap₂, ◌∙◌, subst, Option, Some, arith, ne_eqb}
-use Rattle.std.proofs.lemmas.Option.{none-some}
+use Rattle.std.proofs.Common.{◌≡◌, inl, ⊎_elim, ℕ, ◌+◌, ◌<◌, ◌≤◌, [], ◌∷◌, map, drop, refl, sym, ap, ap₂, ◌∙◌, subst, Option, Some, None, arith, ne_eqb}
+use Rattle.std.proofs.lemmas.Option.{none-some, slice_get_within}
 use Rattle.std.specs.Prelude.{slice_get}
 use Rattle.id_table.specs.Ids.{at-none}
 use Rattle.id_table.specs.Order.{ascends-empty}
@@ -106,10 +106,14 @@ module _ (codecs : Codecs) (accs : Accounts) (n : ℕ) (e x : End) (sender : Opt
   tk = taken_as sender m.taken (move.Accepted m)
 
   abbrev b : Account
-  b = record { part = Acceptor; peer = node_of m.peer; remote = m.remote; given = first ∷ []; taken = tk ∷ [] }
+  b = record { part = Acceptor; peer = node_of m.peer; remote = m.remote; given = first ∷ []; taken = tk ∷ []; closed = None }
 
   only : IsOnly accs ms n i
-  only = only_after accs d n (move.Accepted m) h.deed.node_is h.deed.move_is (ap (λ (a : Account). a.part) unmade, ap (λ (a : Account). a.remote) unmade)
+  only = only_after accs d n (move.Accepted m) h.deed.node_is h.deed.move_is (
+    ap (λ (a : Account). a.part) unmade,
+    ap (λ (a : Account). a.remote) unmade,
+    ap (λ (a : Account). a.closed) unmade,
+  )
 
   is : ms n i ≡ b
   is = after_move accs d n (move.Accepted m) h.deed.node_is h.deed.move_is
@@ -135,8 +139,8 @@ module _ (codecs : Codecs) (accs : Accounts) (n : ℕ) (e x : End) (sender : Opt
     some = omega arith;
     part = ap (λ (a : Account). a.part) stays ∙ asks.0;
     peer = ap (λ (a : Account). a.peer) stays ∙ sym f.copy.to ∙ f.to;
-    one_taken = λ no. refl;
-    one_given = λ no. refl;
+    one_taken = λ no. inl refl;
+    one_given = λ no. inl refl;
   }
 
   newly_taken : IsTaken ms b 0 tk
@@ -151,7 +155,7 @@ module _ (codecs : Codecs) (accs : Accounts) (n : ℕ) (e x : End) (sender : Opt
   }
 
   taken : AreTaken ms b
-  taken number y found = ⊎_elim
+  taken number y found lt = ⊎_elim
       (λ (q : slice_get [] number ≡ Some y). let no : ⊥ = cc in absurd no)
       (λ (q : (number ≡ 0) × (tk ≡ y)). rw (q.0, ← q.1) newly_taken)
       (got_push [] tk number y found)
@@ -165,7 +169,9 @@ module _ (codecs : Codecs) (accs : Accounts) (n : ℕ) (e x : End) (sender : Opt
     peer = node_fits m.peer;
     remote = (let le = (h.within.accounts from o.tunnel).id f.copy.made in let same = told in omega arith);
     spelled = (record { written = opening_written e.role (config_of n 0) m.tunnel h.within.end.node some fits; session = omega arith }, tt);
+    told = (tt, tt);
     taken = taken;
+    ignored = λ number y found le. (let lt = slice_get_within b.taken number y found in absurd (omega (arith, lt, le)));
   }
 
   -- ---- the tunnel
@@ -189,14 +195,14 @@ module _ (codecs : Codecs) (accs : Accounts) (n : ℕ) (e x : End) (sender : Opt
         local = learns.local;
         peer = learns.peer ∙ f.peer_is ∙ ap address_of (sym node);
         remote = learns.remote;
-        state = inl (ap state_number learns.state, refl);
+        state = inl (ap state_number learns.state, refl, refl);
         letters = ap (λ o. letter_of 0 (Sccrp o) ∷ []) (same_opening e.role e.config (config_of n 0) m.tunnel h.within.end.number)
             ∙ ap (λ (j : ℕ). map kept_letter (drop j b.given)) (sym learns.acked);
         counted = omega arith;
         few = omega arith;
         outstanding = omega arith;
         taken = omega arith;
-        acked = ((λ no. learns.acked), (λ yes. omega arith));
+        acked = ((λ no. inl learns.acked), (λ yes. omega arith));
         calls = λ s k g. absurd (none-some k (sym (at-none s) ∙ g));
         order = ascends-empty [] refl;
       }

@@ -23,7 +23,8 @@ use Rattle.connection_laws.proofs.Puts.{EndPut, IsPut}
 use Rattle.connection_laws.proofs.Later.{live_made, extends_same, same_after, joined_now}
 use Rattle.connection_laws.proofs.Put.{puts_keep}
 use Rattle.connection_laws.proofs.Numbers.{IsCount, is_count, IsWithout, without_count}
-use Rattle.connection_laws.proofs.Hearing.{heard_nr, Heard, heard, nr_few, nr_taken}
+use Rattle.connection_laws.proofs.Hearing.{heard_nr, Heard, heard}
+use Rattle.connection_laws.proofs.NextHeard.{nr_few, nr_taken}
 
 -- ---- an end that differs in one tunnel
 
@@ -49,7 +50,7 @@ still_apart accs n e sender ev within i t u there peer remote j v f same goes so
 pub in_state_like : (accs : Accounts) (i : ℕ) (a : Account) (t u : Tunnel) → u.control.state ≡ t.control.state → u.calls ≡ t.calls → (p : Part)
     → IsInState accs i a t p → IsInState accs i a u p
 in_state_like accs i a t u state calls Unmade h = h
-in_state_like accs i a t u state calls Opener h = rw state h
+in_state_like accs i a t u state calls Opener h = rw (state, calls) h
 in_state_like accs i a t u state calls Acceptor h = rw (state, calls) h
 
 -- the letters that are kept, without the first
@@ -83,7 +84,7 @@ module _ (codecs : Codecs) (classes : ClassIsTrue) (accs : Accounts) (n : ℕ) (
     k : Heard accs n e sender ev h.within.comes m.tunnel t h.does.tells.header h.does.tells.bytes
     k = heard codecs accs n e sender ev h.within m.tunnel t h.does.there h.does.tells.header h.does.tells.bytes (heard_nr ev t.control m.nr h.does.tells)
 
-    few : k.o.nr ≤ length a.given
+    few : k.o.nr ≤ length a.given + 2
     few = nr_few classes accs n e sender ev h.within m.tunnel t h.does.there h.does.tells.header h.does.tells.bytes k
 
     counted : IsCount w k.o.nr count

@@ -1,5 +1,6 @@
 -- What is said and taken, and what is acknowledged, of what holds in a run.
-use Rattle.std.proofs.Common.{◌≡◌, ⊎_elim, ℕ, ◌<◌, ◌≤◌, List, length, get_or, refl, sym, ap₂, ◌∙◌, subst, Some, None, arith, ne_eqb}
+use Rattle.std.proofs.Common.{◌≡◌, ◌⊎◌, inl, inr, ⊎_elim, ℕ, ◌<◌, ◌≤◌, List, length, get_or, refl, sym, ap₂, ◌∙◌, subst, Option, Some, None, arith, ne_eqb}
+use Rattle.std.proofs.lemmas.Bool.{cases_lt}
 use Rattle.std.specs.Prelude.{slice_get}
 use Rattle.std.proofs.lemmas.Option.{slice_get_cases}
 use Rattle.id_table.specs.Order.{same_or_not}
@@ -10,11 +11,11 @@ use Rattle.protocol_model.specs.declared.packet.Packet.{Packet}
 use Rattle.protocol_model.specs.World.{Deed}
 use Rattle.protocol_model.specs.Run.{Run}
 use Rattle.step_laws.specs.Steps.{AreKept}
-use Rattle.connection_laws.specs.Accounts.{Part, Unmade, Opener, Acceptor, Taken, Account, account_of, partner_of}
-use Rattle.connection_laws.specs.Facts.{Accounts, AreTaken, partner_in, IsOpener, IsAcceptor, IsPart, AccountOk, IsAnswered, AreAcked, EndOk, OriginOk, PacketOk, NodeOk, Holds}
-use Rattle.connection_laws.specs.Channels.{IsCopied, LettersAreCarried, WasTaken, AcksAreTrue}
+use Rattle.connection_laws.specs.Accounts.{Part, Unmade, Opener, Acceptor, Taken, Account, heeded, account_of, partner_of}
+use Rattle.connection_laws.specs.Facts.{Accounts, AreTaken, IsLost, partner_in, IsOpener, IsAcceptor, IsPart, AccountOk, IsAnswered, AreAcked, EndOk, OriginOk, PacketOk, NodeOk, Holds}
+use Rattle.connection_laws.specs.Channels.{IsCopied, LettersAreCarried, WasTaken, WasIgnored, AcksAreTrue}
 use Rattle.connection_laws.proofs.Later.{live_made}
-use Rattle.connection_laws.proofs.Hearing.{acceptor_of}
+use Rattle.connection_laws.proofs.States.{heeded_open, heeded_closed}
 use Rattle.connection_laws.proofs.Worlds.{all_map}
 
 -- ---- letters
@@ -32,19 +33,38 @@ letters_carried r holds = record {
 partner_is : (a : Account) → (a.remote ≡ 0 → ⊥) → partner_of a ≡ Some (record { node = a.peer; tunnel = a.remote })
 partner_is a some = rw (ne_eqb a.remote 0 some) refl
 
+-- a letter was taken, or ignored
+abbrev WasHeard : List Deed → ℕ → ℕ → ℕ → Type 0
+WasHeard ds n i number = WasTaken ds (record { node = n; tunnel = i }) number ⊎ WasIgnored ds n number
+
+-- once a tunnel is closed it ignores what it takes
+was_ignored : (ds : List Deed) (m j n number : ℕ) → (account_of ds m j).peer ≡ n → number < length (account_of ds m j).taken
+    → heeded (account_of ds m j) ≤ number → WasIgnored ds n number
+was_ignored ds m j n number peer lt le = by (account_of ds m j).closed refl
+  where
+    by : (c : Option ℕ) → (account_of ds m j).closed ≡ c → WasIgnored ds n number
+    by None is = let all = heeded_open (account_of ds m j) is in absurd (omega (arith, lt, le, all))
+    by (Some count) is =
+        let few = heeded_closed (account_of ds m j) count is in
+        record { node = m; tunnel = j; goes = peer; count = count; closed = is; before = omega (arith, le, few) }
+
 -- what a tunnel took is of the tunnel that it has learned
 taken_of : (ds : List Deed) (m j n i number : ℕ) → AreTaken (account_of ds) (account_of ds m j) → (account_of ds m j).peer ≡ n → (account_of ds m j).remote ≡ i
-    → (i ≡ 0 → ⊥) → number < length (account_of ds m j).taken → WasTaken ds (record { node = n; tunnel = i }) number
+    → (i ≡ 0 → ⊥) → number < length (account_of ds m j).taken → WasHeard ds n i number
 taken_of ds m j n i number taken peer remote some lt =
     let a = account_of ds m j in
     ⊎_elim
+    (λ (heeds : number < heeded a).
+    ⊎_elim
     (λ (x : (t : Taken) × (number < length a.taken) × (slice_get a.taken number ≡ Some t) × (get_or a.taken number t ≡ t)).
-    let h = taken number x.0 x.2 in
+    let h = taken number x.0 x.2 heeds in
     let is : partner_of a ≡ Some (record { node = n; tunnel = i }) =
     partner_is a (λ z. some (sym remote ∙ z)) ∙ ap₂ (λ p q. Some (record { node = p; tunnel = q })) peer remote in
-    record { node = m; tunnel = j; letter = x.0; there = x.2; from = h.sender ∙ (sym h.learned ∙ is) })
+    inl (record { node = m; tunnel = j; letter = x.0; there = x.2; from = h.sender ∙ (sym h.learned ∙ is) }))
     (λ (x : (length a.taken ≤ number) × (slice_get a.taken number ≡ None)). (let le = x.0 in absurd (omega arith)))
-    (slice_get_cases a.taken number).1
+    (slice_get_cases a.taken number).1)
+    (λ (le : heeded a ≤ number). inr (was_ignored ds m j n number peer lt le))
+    (cases_lt number (heeded a))
 
 module _ (ds : List Deed) (accounts : (m j : ℕ) → AccountOk (account_of ds) m j (account_of ds m j)) (n i : ℕ) (some : 0 < i) (acked number : ℕ)
     (lt : number < acked) where
@@ -58,29 +78,32 @@ module _ (ds : List Deed) (accounts : (m j : ℕ) → AccountOk (account_of ds) 
   not_zero z = absurd (omega arith)
 
   -- by its partner
-  by_partner : (partner_in accs a).peer ≡ n → (partner_in accs a).remote ≡ i → acked ≤ length (partner_in accs a).taken
-      → WasTaken ds (record { node = n; tunnel = i }) number
+  by_partner : (partner_in accs a).peer ≡ n → (partner_in accs a).remote ≡ i → acked ≤ length (partner_in accs a).taken → WasHeard ds n i number
   by_partner peer remote le = taken_of ds a.peer a.remote n i number (accounts a.peer a.remote).taken peer remote not_zero (omega arith)
 
   -- by an acceptor that it hasn't learned
-  by_answer : acked ≡ 1 → IsAnswered accs n i a → WasTaken ds (record { node = n; tunnel = i }) number
-  by_answer one x =
-      let one_taken = (acceptor_of accs a.peer x.acceptor (accs a.peer x.acceptor) (accounts a.peer x.acceptor) x.part).some in
+  by_answer : IsAnswered accs n i a acked → WasHeard ds n i number
+  by_answer x =
+      let le = x.enough in
       taken_of ds a.peer x.acceptor n i number (accounts a.peer x.acceptor).taken x.peer x.remote not_zero (omega arith)
 
-  opener_acked : IsOpener accs n i a → AreAcked accs n i a acked Opener → WasTaken ds (record { node = n; tunnel = i }) number
+  -- by its opener, which was closed before it took anything
+  by_lost : (partner_in accs a).peer ≡ n → IsLost (partner_in accs a) → WasHeard ds n i number
+  by_lost peer lost = inr (record { node = a.peer; tunnel = a.remote; goes = peer; count = 0; closed = lost.0; before = omega arith })
+
+  opener_acked : IsOpener accs n i a → AreAcked accs n i a acked Opener → WasHeard ds n i number
   opener_acked k h = ⊎_elim
-      (λ (z : a.remote ≡ 0). ⊎_elim (λ (none : acked ≡ 0). absurd (omega arith)) (λ (x : (acked ≡ 1) × IsAnswered accs n i a). by_answer x.0 x.1) (h.0 z))
+      (λ (z : a.remote ≡ 0). ⊎_elim (λ (none : acked ≡ 0). absurd (omega arith)) (λ (x : IsAnswered accs n i a acked). by_answer x) (h.0 z))
       (λ known. by_partner (k.peer known) (k.remote known) (h.1 known))
       (same_or_not a.remote 0)
 
-  acceptor_acked : IsAcceptor accs n i a → AreAcked accs n i a acked Acceptor → WasTaken ds (record { node = n; tunnel = i }) number
+  acceptor_acked : IsAcceptor accs n i a → AreAcked accs n i a acked Acceptor → WasHeard ds n i number
   acceptor_acked k h = ⊎_elim
       (λ (named : (partner_in accs a).remote ≡ i). by_partner k.peer named (h.1 named))
-      (λ no. (let none = h.0 no in absurd (omega arith)))
+      (λ no. ⊎_elim (λ (none : acked ≡ 0). absurd (omega arith)) (λ (lost : IsLost (partner_in accs a)). by_lost k.peer lost) (h.0 no))
       (same_or_not (partner_in accs a).remote i)
 
-  acked_by : (q : Part) → IsPart accs n i a q → AreAcked accs n i a acked q → WasTaken ds (record { node = n; tunnel = i }) number
+  acked_by : (q : Part) → IsPart accs n i a q → AreAcked accs n i a acked q → WasHeard ds n i number
   acked_by Unmade k h = absurd h
   acked_by Opener k h = opener_acked k h
   acked_by Acceptor k h = acceptor_acked k h

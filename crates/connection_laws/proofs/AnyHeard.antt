@@ -1,20 +1,34 @@
 -- A control message that a live tunnel hears, whether it is the next one or not, is a letter of its sender's, and none has a fault.
-use Rattle.std.proofs.Common.{◌≡◌, ⊎_elim, ℕ, [], refl, sym, ap, ◌∙◌, subst, Some, None}
+use Rattle.std.proofs.Common.{◌≡◌, ⊎_elim, ℕ, true, List, [], refl, sym, ap, ◌∙◌, subst, Option, Some, None, Result, Ok, Err, eq-eqb}
 use Rattle.std.specs.Prelude.{slice_get}
 use Rattle.control_message.specs.declared.message.Message.{Message}
-use Rattle.control_message.specs.declared.message.Message.TheVariants.{Sccrq}
+use Rattle.control_message.specs.declared.message.Message.TheVariants.{Sccrq, Sccrp}
+use Rattle.control_message.specs.declared.message.MessageError.{MessageError}
+use Rattle.control_message.specs.declared.message.Opening.{Opening}
+use Rattle.control_message.specs.declared.message.Read.{Read}
+use Rattle.control_message.specs.Pairs.{IsWritten, IsWrittenOpening}
 use Rattle.control_message.specs.Reading.{message_of, kind_of_pairs}
+use Rattle.avp_codec.specs.declared.avp.Avp.{Avp}
+use Rattle.avp_codec.specs.declared.error.AvpError.{AvpError}
+use Rattle.avp_codec.specs.Reading.{avps_of}
+use Rattle.wire_base.specs.declared.cause.Cause.TheVariants as cause
+use Rattle.tunnel_fsm.specs.declared.table.TunnelEvent.TheVariants as event
 use Rattle.protocol_model.specs.declared.event.Event.{Event}
 use Rattle.protocol_model.specs.declared.out.ControlOrigin.{ControlOrigin}
 use Rattle.protocol_model.specs.declared.tunnel.Control.{Control}
-use Rattle.protocol_model.specs.Reading.{body_of, call_fault_in, fault_of_pairs}
+use Rattle.protocol_model.specs.Reading.{body_of, message_in, pairs_read, message_read, call_fault_in, fault_of_pairs, TunnelFault, closing, tunnel_fault_in, tunnel_fault_of_pairs, tunnel_fault_read}
+use Rattle.protocol_model.specs.Turn.{is_acceptable}
+use Rattle.protocol_model.specs.End.{End}
+use Rattle.protocol_model.specs.World.{Sender}
 use Rattle.step_laws.specs.Letters.{Letter}
-use Rattle.step_laws.specs.Moves.{InTunnel}
+use Rattle.step_laws.specs.Moves.{Hears, InTunnel}
 use Rattle.frame_laws.specs.Codecs.{Codecs}
-use Rattle.connection_laws.specs.Facts.{Accounts, IsNoOpening, AccountOk}
-use Rattle.connection_laws.specs.Steps.{LettersAreHeard, NoneIsFaulty}
-use Rattle.connection_laws.proofs.Hearing.{sender_in, Linked, FromOpener, FromAcceptor, acceptor_of, opener_of, first_is, IsHeard, IsLetterRead, IsNoneRead, letter_said, from_peer, heard}
-use Rattle.connection_laws.proofs.Said.{Learned}
+use Rattle.connection_laws.specs.Accounts.{Account}
+use Rattle.connection_laws.specs.Facts.{Accounts, IsNoOpening, IsNoStop, AccountOk, Within}
+use Rattle.connection_laws.specs.Steps.{LettersAreHeard, OpeningsAreAcceptable, NoneIsFaulty, NoneIsFaultyInTunnel}
+use Rattle.connection_laws.proofs.Hearing.{sender_in, Sends, Chosen, Asks, Leaves, Linked, FromOpener, FromAcceptor, opener_of, IsHeard, IsLetterRead, IsNoneRead, letter_some, letter_said, from_peer, heard}
+use Rattle.connection_laws.proofs.NextHeard.{first_is}
+use Rattle.connection_laws.proofs.Said.{Learned, opener_goes, plain_no_stop}
 use Rattle.connection_laws.proofs.Refusing.{no_fault}
 
 -- ---- letters
@@ -24,22 +38,23 @@ heard_in ev c session m k = record { is = k.hears.is; read = k.hears.read; contr
 
 -- only its SCCRQ comes of an opener that hasn't learned the tunnel
 learned_unless : (accs : Accounts) (n i : ℕ) (o : ControlOrigin) → ((m j : ℕ) → AccountOk accs m j (accs m j)) → (l : Letter)
-    → slice_get (sender_in accs n i o).given o.ns ≡ Some l → IsNoOpening l.message → Linked accs n i o → Learned accs n i o
-learned_unless accs n i o all l there opens_none (FromOpener here told part which) =
-    let acceptor = acceptor_of accs n i (accs n i) (all n i) here in
-    let peer : (sender_in accs n i o).peer ≡ n = sym (ap (λ r. (accs (accs n i).peer r).peer) told) ∙ acceptor.peer in
-    ⊎_elim
-    (λ (chosen : (sender_in accs n i o).remote ≡ i). record { remote = chosen; peer = peer })
-    (λ (z : (o.ns ≡ 0) × (o.nr ≡ 0)).
-    let b = sender_in accs n i o in
-    let begins = (opener_of accs (accs n i).peer o.tunnel b (all (accs n i).peer o.tunnel) part).begins in
-    let first = first_is o.tunnel Sccrq b.given begins l (subst (λ k. slice_get b.given k ≡ Some l) z.0 there) in
-    absurd (subst IsNoOpening first.1 opens_none))
-    which
-learned_unless accs n i o all l there opens_none (FromAcceptor here part remote peer) = record { remote = remote; peer = peer }
+    → slice_get (sender_in accs n i o).given o.ns ≡ Some l → IsNoOpening l.message → IsNoStop l.message → Linked accs n i o → Learned accs n i o
+learned_unless accs n i o all l there opens_none no_stop (FromOpener here told part which) = by which
+  where
+    b : Account
+    b = sender_in accs n i o
+
+    by : Sends b i o → Learned accs n i o
+    by (Chosen chosen) = record { remote = chosen; peer = opener_goes accs n i o all here told }
+    by (Asks zeroth how) =
+        let begins = (opener_of accs (accs n i).peer o.tunnel b (all (accs n i).peer o.tunnel) part).begins in
+        let first = first_is o.tunnel Sccrq b.given begins l (subst (λ k. slice_get b.given k ≡ Some l) zeroth there) in
+        absurd (subst IsNoOpening first.1 opens_none)
+    by (Leaves lost stops) = absurd (plain_no_stop b o.ns l there no_stop stops)
+learned_unless accs n i o all l there opens_none no_stop (FromAcceptor here part remote peer) = record { remote = remote; peer = peer }
 
 pub letters_are_heard : Codecs → LettersAreHeard
-letters_are_heard codecs accs n e sender ev within i t there session m opens_none k =
+letters_are_heard codecs accs n e sender ev within i t there session m opens_none no_stop k =
     let h = k.hears.header in
     let bytes = k.hears.bytes in
     let from = heard codecs accs n e sender ev within i t there h bytes (heard_in ev t.control session m k) in
@@ -47,7 +62,8 @@ letters_are_heard codecs accs n e sender ev within i t there session m opens_non
     let was = q.said in
     let is = k.hears.said in
     let same : q.letter.message ≡ m = cc in
-    let learned = learned_unless accs n i from.o within.accounts q.letter q.there (subst IsNoOpening (sym same) opens_none) from.linked in
+    let learned = learned_unless accs n i from.o within.accounts q.letter q.there (subst IsNoOpening (sym same) opens_none)
+    (subst IsNoStop (sym same) no_stop) from.linked in
     record {
       from = record { node = (accs n i).peer; tunnel = from.o.tunnel };
       sender_is = from.sender_is;
@@ -60,6 +76,29 @@ letters_are_heard codecs accs n e sender ev within i t there session m opens_non
       session_is = sym q.session ∙ k.hears.session_is;
       message_is = same;
     }
+
+-- ---- what a peer says
+
+-- it is written by the rules
+pub hears_written : Codecs → (accs : Accounts) (n : ℕ) (e : End) (sender : Option Sender) (ev : Event) → Within accs n e sender ev
+    → (peer session : ℕ) (m : Message) → Hears ev peer session m → IsWritten m
+hears_written codecs accs n e sender ev within peer session m k =
+    let from = from_peer codecs accs n e sender ev within peer k.header k.bytes k.is k.read k.control in
+    let q = letter_said codecs (accs from.packet.from from.o.tunnel) from.o k.header k.bytes m from.read k.said in
+    let was = q.said in
+    let is = k.said in
+    let same : q.letter.message ≡ m = cc in
+    subst IsWritten same q.spelled.written
+
+-- so its version is 1.0
+pub written_acceptable : (o : Opening) → IsWrittenOpening o → is_acceptable o ≡ true
+written_acceptable o w = eq-eqb o.version 256 w.version
+
+pub openings_are_acceptable : Codecs → OpeningsAreAcceptable
+openings_are_acceptable codecs accs n e sender ev within peer session o which = written_acceptable o (⊎_elim
+    (λ (k : Hears ev peer session (Sccrq o)). hears_written codecs accs n e sender ev within peer session (Sccrq o) k)
+    (λ (k : Hears ev peer session (Sccrp o)). hears_written codecs accs n e sender ev within peer session (Sccrp o) k)
+    which)
 
 -- ---- faults
 
@@ -78,3 +117,30 @@ none_is_faulty codecs accs n e sender ev within c session f k =
     from.read.says in
     let fault = k.fault in
     cc
+
+-- what can be read has no other fault
+pub no_tunnel_fault : (body : List ℕ) (m : Message) → message_in body ≡ Ok m → tunnel_fault_in body ≡ None
+unfolding message_in pairs_read message_read tunnel_fault_in tunnel_fault_of_pairs
+no_tunnel_fault body m h = by_pairs (avps_of body) h
+  where
+    by_read : (avps : List Avp) (r : Result Read MessageError) → message_read r ≡ Ok m → tunnel_fault_read avps r ≡ None
+    by_read avps (Ok r) e = refl
+    by_read avps (Err x) e = absurd cc
+
+    by_pairs : (r : Result (List Avp) AvpError) → pairs_read r ≡ Ok m → tunnel_fault_of_pairs r ≡ None
+    by_pairs (Ok avps) e = by_read avps (message_of avps) e
+    by_pairs (Err x) e = absurd cc
+
+pub none_is_faulty_in_tunnel : Codecs → NoneIsFaultyInTunnel
+none_is_faulty_in_tunnel codecs accs n e sender ev within c g k some =
+    let from = from_peer codecs accs n e sender ev within c.peer k.header k.bytes k.is k.read k.control in
+    let q = letter_some (accs from.packet.from from.o.tunnel) from.o k.header k.bytes from.read some in
+    let none = no_tunnel_fault (body_of k.header k.bytes) q.letter.message q.said in
+    let fault = k.fault in
+    cc
+
+-- of no pairs it is told that they tell no id
+pub no_pairs_fault : Codecs → (g : TunnelFault) → tunnel_fault_in [] ≡ Some g → g.remote ≡ 0
+unfolding tunnel_fault_in tunnel_fault_of_pairs message_of
+no_pairs_fault codecs g h = let none = codecs.pairs [] tt in (let k = rw none at h in let same : closing event.AdminClose cause.Avp 0 ≡ g = cc in
+    sym (ap (λ (f : TunnelFault). f.remote) same))

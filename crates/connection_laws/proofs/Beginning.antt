@@ -1,12 +1,12 @@
 -- A tunnel is opened.
-use Rattle.std.proofs.Common.{◌≡◌, inl, ℕ, ◌+◌, ◌<◌, ◌≤◌, [], ◌∷◌, ◌++◌, refl, sym, ap, ◌∙◌, subst, Option, arith}
+use Rattle.std.proofs.Common.{◌≡◌, inl, ℕ, ◌+◌, ◌<◌, ◌≤◌, [], ◌∷◌, ◌++◌, refl, sym, ap, ◌∙◌, subst, Option, None, arith}
 use Rattle.std.proofs.lemmas.Option.{none-some}
 use Rattle.id_table.specs.Ids.{at-none}
 use Rattle.id_table.specs.Order.{ascends-empty}
 use Rattle.control_message.specs.declared.message.Message.TheVariants.{Sccrq}
 use Rattle.tunnel_fsm.specs.declared.table.TunnelState.TheVariants.{WaitCtlReply}
 use Rattle.protocol_model.specs.declared.event.Event.{Event}
-use Rattle.protocol_model.specs.declared.event.Event.TheVariants.{Datagram, Ring, Payload, Lower, Hang, OpenTunnel, DropCall, Tick}
+use Rattle.protocol_model.specs.declared.event.Event.TheVariants.{Datagram, Ring, Payload, Lower, Hang, OpenTunnel, DropCall, CloseTunnel, Tick}
 use Rattle.protocol_model.specs.declared.moves.Opened.{Opened}
 use Rattle.protocol_model.specs.declared.moves.Move.TheVariants as move
 use Rattle.protocol_model.specs.declared.out.Origin.{Origin}
@@ -53,7 +53,7 @@ module _ (accs : Accounts) (n : ℕ) (e : End) (sender : Option Sender) (moment 
   first = record { tunnel = m.tunnel; place = m.given; session = 0; message = Sccrq (opening_of e.role (config_of n 0) m.tunnel) }
 
   abbrev new_account : Account
-  new_account = record { part = Opener; peer = node_of m.peer; remote = 0; given = first ∷ []; taken = [] }
+  new_account = record { part = Opener; peer = node_of m.peer; remote = 0; given = first ∷ []; taken = []; closed = None }
 
   abbrev new : Tunnel
   new = with_letter 0 (Sccrq (opening_of e.role e.config m.tunnel)) (new_tunnel (begun m.tunnel m.peer 0 WaitCtlReply moment))
@@ -94,7 +94,8 @@ module _ (accs : Accounts) (n : ℕ) (e : End) (sender : Option Sender) (moment 
         id = refl;
         later = tt;
       };
-      none = λ unknown. refl;
+      none = λ unknown. inl refl;
+      one_given = λ unknown. inl refl;
       some = λ known. absurd (known refl);
       part = λ known. absurd (known refl);
       peer = λ known. absurd (known refl);
@@ -107,7 +108,9 @@ module _ (accs : Accounts) (n : ℕ) (e : End) (sender : Option Sender) (moment 
     peer = node_fits m.peer;
     remote = omega arith;
     spelled = (record { written = opening_written e.role (config_of n 0) m.tunnel within.end.node some fits; session = omega arith }, tt);
-    taken = λ k l f. let clash : ⊥ = cc in absurd clash;
+    told = (tt, tt);
+    taken = λ k l f lt. let clash : ⊥ = cc in absurd clash;
+    ignored = λ k l f le. let clash : ⊥ = cc in absurd clash;
   }
 
   live : LiveOk ms n i new_account new
@@ -115,7 +118,7 @@ module _ (accs : Accounts) (n : ℕ) (e : End) (sender : Option Sender) (moment 
     local = refl;
     peer = rw (lns, node_again number number_fits) refl;
     remote = refl;
-    state = inl (refl, refl);
+    state = inl (refl, refl, refl, λ s c f. absurd (none-some c (sym (at-none s) ∙ f)));
     letters = ap (λ o. letter_of 0 (Sccrq o) ∷ []) (same_opening e.role e.config (config_of n 0) m.tunnel within.end.number);
     counted = refl;
     few = omega arith;
@@ -138,6 +141,7 @@ module _ (accs : Accounts) (n : ℕ) (e : End) (sender : Option Sender) (moment 
   near (Hang s) c = tt
   near OpenTunnel c = tt
   near (DropCall s) c = tt
+  near (CloseTunnel k) c = tt
   near Tick c = tt
 
   begins : Within ms n after_it sender ev

@@ -1,11 +1,9 @@
 -- How far the numbers of letters go in a step.
 use Rattle.std.proofs.Common.{◌≡◌, ◌⊎◌, inl, inr, ⊎_elim, ℕ, ◌+◌, ◌*◌, ◌%◌, ◌^◌, ◌<◌, ◌≤◌, Bool, true, false, cond, eqb, List, [], ◌∷◌, length, refl, sym, ap, ◌∙◌, subst, Option, Some, arith}
-use Rattle.std.specs.Prelude.{nat_le, ◌&&◌, nat_lt, slice_get}
-use Rattle.std.proofs.Common.{get_or}
-use Rattle.std.proofs.lemmas.Option.{slice_get-get_or, slice_get_within}
+use Rattle.std.specs.Prelude.{nat_le, ◌&&◌, nat_lt}
 use Rattle.std.proofs.lemmas.Bool.Decides.{nat_tests}
 use Rattle.id_table.specs.Ids.{at, put}
-use Rattle.id_table.specs.Order.{Ascends, at_new, found_put, found_without}
+use Rattle.id_table.specs.Order.{Ascends, at_new, found_put, found_without, same_or_not}
 use Rattle.send_window.specs.Kept.{Window}
 use Rattle.send_window.specs.Window as window
 use Rattle.control_channel.specs.Numbers.{Numbers, acked_at, let_go_at, ticked_at}
@@ -18,10 +16,12 @@ use Rattle.protocol_model.specs.End.{End}
 use Rattle.protocol_model.specs.World.{Sender, Deed}
 use Rattle.step_laws.specs.Moves.{Does}
 use Rattle.step_laws.specs.Ups.{reads_of_move}
-use Rattle.connection_laws.specs.Accounts.{Taken, Account, about, entered_by}
-use Rattle.connection_laws.specs.Facts.{Accounts, IsTaken, AreTaken, LiveOk, EndOk, Within}
+use Rattle.connection_laws.specs.Accounts.{Part, Unmade, Opener, Acceptor, Account, no_account, about, entered_by}
+use Rattle.connection_laws.specs.Facts.{Accounts, IsClosed, IsLost, partner_in, IsPart, AccountOk, LiveOk, EndOk, Within}
 use Rattle.connection_laws.proofs.Keeps.{after, HasNumbers, HasCounts}
 pub use Rattle.connection_laws.specs.Steps.{GivenBelow}
+use Rattle.connection_laws.proofs.Hearing.{opener_of, acceptor_of}
+use Rattle.connection_laws.proofs.NextHeard.{unlearned_small, joined_opener}
 use Rattle.connection_laws.proofs.Later.{here_or_not, after_move, after_there}
 
 -- ---- the first letters that aren't acknowledged
@@ -123,6 +123,10 @@ does_below e x moment ev (move.EndHeard m) most order few had h =
     old_below e x (most + 8192 * 0) m.tunnel h.tunnel _ (more_below e most (8192 * 0) had) h.there (tunnels_are x _ h.after) refl
 does_below e x moment ev (move.EndSilent m) most order few had h =
     old_below e x (most + 8192 * 0) m.tunnel h.tunnel _ (more_below e most (8192 * 0) had) h.there (tunnels_are x _ h.after) refl
+does_below e x moment ev (move.Closed m) most order few had h =
+    old_below e x (most + 8192 * 0) m.tunnel h.tunnel _ (more_below e most (8192 * 0) had) h.there (tunnels_are x _ h.after) refl
+does_below e x moment ev (move.ClosedBy m) most order few had h =
+    old_below e x (most + 8192 * 0) m.tunnel h.tunnel _ (more_below e most (8192 * 0) had) h.there (tunnels_are x _ h.after) refl
 does_below e x moment ev (move.Cleared k) most order few had h =
     λ i t there. more_below e most (8192 * 0) had i t (found_without e.tunnels k i t order (let g = rw (tunnels_are x _ h.after) at there in g)).1
 does_below e x moment ev (move.Greeted m) most order few had h =
@@ -169,6 +173,8 @@ does_give e x moment ev (move.Refused m) d a h = inr (put_live e x m.tunnel _ (t
 does_give e x moment ev (move.EndTold m) d a h = inr (put_live e x m.tunnel _ (tunnels_are x _ h.after))
 does_give e x moment ev (move.EndHeard m) d a h = inl refl
 does_give e x moment ev (move.EndSilent m) d a h = inl refl
+does_give e x moment ev (move.Closed m) d a h = inr (put_live e x m.tunnel _ (tunnels_are x _ h.after))
+does_give e x moment ev (move.ClosedBy m) d a h = inl refl
 does_give e x moment ev (move.Cleared k) d a h = inl refl
 does_give e x moment ev (move.Greeted m) d a h = inr (put_live e x m.tunnel _ (tunnels_are x _ h.after))
 does_give e x moment ev (move.TookPlain m) d a h = inl refl
@@ -198,19 +204,41 @@ given_after accs n e x sender moment ev m d top most node is does within below r
     (λ no. rw (after_there accs d k j (λ both. no (both.0 ∙ node, both.1 ∙ ap about is))) (had k j))
     (here_or_not k n j (about m))
 
--- no more is taken than is given
-pub taken_below : (accs : Accounts) (a : Account) (most : ℕ) → AreTaken accs a → GivenBelow accs most → length a.taken ≤ most
-taken_below accs a most taken had = by a.taken (λ number t there. taken number t there)
+-- hardly more is taken than is given
+pub taken_below : (accs : Accounts) → ((m j : ℕ) → AccountOk accs m j (accs m j)) → (n i most : ℕ) → GivenBelow accs most
+    → length (accs n i).taken ≤ most + 2
+taken_below accs all n i most had = by (accs n i).part refl
   where
-    by : (ts : List Taken) → ((number : ℕ) (t : Taken) → slice_get ts number ≡ Some t → IsTaken accs a number t) → length ts ≤ most
-    by [] all = omega arith
-    by (t ∷ ts) all =
-        let k = length ts in
-        let h = all k (get_or (t ∷ ts) k t) (slice_get-get_or (t ∷ ts) k t (omega arith)) in
-        let given = (accs h.partner.node h.partner.tunnel).given in
-        let lt = slice_get_within given k h.letter h.there in
-        let le = had h.partner.node h.partner.tunnel in
-        omega arith
+    a : Account
+    a = accs n i
+
+    unmade : a ≡ no_account → length a.taken ≤ most + 2
+    unmade is = rw is (omega arith)
+
+    by : (p : Part) → a.part ≡ p → length a.taken ≤ most + 2
+    by Unmade own = unmade (subst (IsPart accs n i a) own (all n i).part)
+    by Opener own =
+        let opener = opener_of accs n i a (all n i) own in
+        ⊎_elim
+        (λ (z : a.remote ≡ 0). let two = (unlearned_small accs n i a opener z).taken in omega arith)
+        (λ (known : a.remote ≡ 0 → ⊥).
+        let le = had a.peer a.remote in
+        ⊎_elim
+        (λ (few : length a.taken ≤ length (partner_in accs a).given). omega arith)
+        (λ (k : IsClosed a × (length a.taken ≤ 2)). let two = k.1 in omega arith)
+        (opener.joined known).here)
+        (same_or_not a.remote 0)
+    by Acceptor own = ⊎_elim
+        (λ (chosen : (partner_in accs a).remote ≡ i).
+        let few = (joined_opener accs n i all own chosen).there in
+        let le = had a.peer a.remote in
+        omega arith)
+        (λ (apart : (partner_in accs a).remote ≡ i → ⊥).
+        ⊎_elim
+        (λ (one : length a.taken ≡ 1). omega arith)
+        (λ (k : IsLost (partner_in accs a) × (length a.taken ≤ 2)). let two = k.1 in omega arith)
+        ((acceptor_of accs n i a (all n i) own).one_taken apart))
+        (same_or_not (partner_in accs a).remote i)
 
 -- ---- before each move
 
@@ -218,9 +246,9 @@ pub has_numbers : (e : End) (top : ℕ) → AckedBelow e top → top + 8192 < 2 
 has_numbers e top below room i t there = let le = below i t there in omega (arith, room)
 
 pub has_counts : (accs : Accounts) (n : ℕ) (e : End) (sender : Option Sender) (ev : Event) (most : ℕ) → Within accs n e sender ev → GivenBelow accs most
-    → most + 1 < 2 ^ 64 → HasCounts e
+    → most + 3 < 2 ^ 64 → HasCounts e
 has_counts accs n e sender ev most within had room i t there =
-    let le = taken_below accs (accs n i) most (within.accounts n i).taken had in
+    let le = taken_below accs within.accounts n i most had in
     let same = (within.end.live i t there).taken in
     omega (arith, room)
 

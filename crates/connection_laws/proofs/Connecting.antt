@@ -1,6 +1,7 @@
 -- An opener takes the SCCRP of an acceptor of its SCCRQ: it learns it, and is connected.
-use Rattle.std.proofs.Common.{◌≡◌, inr, ⊎_elim, ℕ, ◌+◌, ◌<◌, ◌≤◌, Bool, true, false, cond, List, [], ◌∷◌, ◌++◌, map, drop, length, refl, sym, ap, ap₂, ◌∙◌, subst, Option, Some, arith, ne_eqb}
+use Rattle.std.proofs.Common.{◌≡◌, inl, inr, ⊎_elim, ℕ, ◌+◌, ◌<◌, ◌≤◌, Bool, true, false, cond, List, [], ◌∷◌, ◌++◌, map, drop, length, refl, sym, ap, ap₂, ◌∙◌, subst, Option, Some, arith, ne_eqb}
 use Rattle.std.proofs.lemmas.Bool.{ltb-true}
+use Rattle.std.proofs.lemmas.Option.{slice_get_within}
 use Rattle.std.proofs.lemmas.List.{length-append, map-append, drop-append-le}
 use Rattle.std.specs.Prelude.{slice_get, ◌==◌}
 use Rattle.id_table.specs.Ids.{at}
@@ -24,12 +25,14 @@ use Rattle.step_laws.specs.Letters.{Letter}
 use Rattle.step_laws.specs.Moves.{with_letter}
 use Rattle.frame_laws.specs.Codecs.{Codecs}
 use Rattle.connection_laws.specs.Accounts.{Opener, Acceptor, Taken, Account}
-use Rattle.connection_laws.specs.Facts.{Accounts, IsMade, IsTaken, AreTaken, AreJoined, partner_in, IsPart, IsOpener, IsAcceptor, AccountOk, IsSpelled, kept_letter, IsInState, IsAnswered, AreAcked, LiveOk, IsNear, Within}
+use Rattle.connection_laws.specs.Facts.{Accounts, IsMade, TellsOwn, IsTaken, AreTaken, AreIgnored, IsOpen, IsLost, AreJoined, partner_in, IsPart, IsOpener, IsAcceptor, AccountOk, IsSpelled, kept_letter, IsInState, IsAnswered, AreAcked, LiveOk, IsNear, Within}
 use Rattle.connection_laws.proofs.Keeps.{after, IsMoved}
 use Rattle.connection_laws.proofs.Puts.{IsOnly, IsPut}
 use Rattle.connection_laws.proofs.Later.{live_made, after_move, only_after}
 use Rattle.connection_laws.proofs.Put.{puts_keep}
-use Rattle.connection_laws.proofs.Hearing.{same_address, part_cases, opener_of, acceptor_of, sender_in, TakesOf, OfPartner, OfFirst, not_chosen, Said, said_so}
+use Rattle.connection_laws.proofs.States.{IsWaiting, is_waiting, lost_unless, heeded_open}
+use Rattle.connection_laws.proofs.Hearing.{same_address, part_cases, opener_of, acceptor_of, sender_in}
+use Rattle.connection_laws.proofs.NextHeard.{TakesOf, OfPartner, OfFirst, OfLost, OfOther, OfOpener, IsAlone, alone_small, alone_one, acceptor_alone, Said, said_so}
 use Rattle.connection_laws.proofs.Acknowledging.{put_of}
 use Rattle.connection_laws.proofs.Taking.{all_append, got_push, begins_on, with_taken, taken_as, takes_and_gives}
 
@@ -55,6 +58,7 @@ learnt window c = by (window == 0)
 record IsFirst (accs : Accounts) (n i : ℕ) (o : ControlOrigin) (l : Letter) : Type 0 where
   here : (accs n i).part ≡ Opener
   none : (accs n i).remote ≡ 0
+  is_open : IsOpen (accs n i)
   nothing : (accs n i).taken ≡ []
   part : (sender_in accs n i o).part ≡ Acceptor
   remote : (sender_in accs n i o).remote ≡ i
@@ -63,36 +67,29 @@ record IsFirst (accs : Accounts) (n i : ℕ) (o : ControlOrigin) (l : Letter) : 
   says : l.message ≡ Sccrp opening
   id : opening.tunnel ≡ o.tunnel
 
--- what waits for an SCCRP is an opener that has learned no id
-waits_so : (accs : Accounts) (n i : ℕ) (t : Tunnel) → LiveOk accs n i (accs n i) t → state_number t.control.state ≡ 1
-    → ((accs n i).part ≡ Opener) × ((accs n i).remote ≡ 0)
-waits_so accs n i t live one =
-    let a = accs n i in
-    ⊎_elim
-    (λ (k : a.part ≡ Opener).
-    let state : IsInState accs i a t Opener = subst (IsInState accs i a t) k live.state in
-    ⊎_elim
-    (λ (s : (state_number t.control.state ≡ 1) × (a.remote ≡ 0)). (k, s.1))
-    (λ (s : (state_number t.control.state ≡ 3) × (a.remote ≡ 0 → ⊥)). let three = s.0 in let no : ⊥ = omega arith in absurd no)
-    state)
-    (λ (k : a.part ≡ Acceptor).
-    let state : IsInState accs i a t Acceptor = subst (IsInState accs i a t) k live.state in
-    ⊎_elim
-    (λ (s : (state_number t.control.state ≡ 2) × (t.calls ≡ [])). let two = s.0 in let no : ⊥ = omega arith in absurd no)
-    (λ (s : (state_number t.control.state ≡ 3) × ((partner_in accs a).remote ≡ i)). let three = s.0 in let no : ⊥ = omega arith in absurd no)
-    state)
-    (part_cases a.part (live_made accs n i a t live))
-
-first_if : (accs : Accounts) (n i : ℕ) (o : ControlOrigin) (l : Letter) → ((accs n i).part ≡ Opener) × ((accs n i).remote ≡ 0) → TakesOf accs n i o l
+first_if : (accs : Accounts) (n i : ℕ) (t : Tunnel) (o : ControlOrigin) (l : Letter) → IsWaiting (accs n i) t (accs n i).part → TakesOf accs n i o l
     → IsFirst accs n i o l
-first_if accs n i o l waits (OfPartner pair told) =
-    let here = waits.0 in
+first_if accs n i t o l waits (OfPartner pair told) =
+    let here = waits.part in
     absurd (⊎_elim
-    (λ (p : ((accs n i).part ≡ Opener) × ((accs n i).remote ≡ 0 → ⊥)). p.1 waits.1)
+    (λ (p : ((accs n i).part ≡ Opener) × ((accs n i).remote ≡ 0 → ⊥)). p.1 waits.remote)
     (λ (p : ((accs n i).part ≡ Acceptor) × ((partner_in accs (accs n i)).remote ≡ i)). let q = p.0 in let no : ⊥ = cc in no)
     pair)
-first_if accs n i o l waits (OfFirst here none taken part remote peer opening says id) =
-    record { here = here; none = none; nothing = taken; part = part; remote = remote; peer = peer; opening = opening; says = says; id = id }
+first_if accs n i t o l waits (OfFirst here none taken part remote peer opening says id) = record {
+  here = here;
+  none = none;
+  is_open = waits.is_open;
+  nothing = taken;
+  part = part;
+  remote = remote;
+  peer = peer;
+  opening = opening;
+  says = says;
+  id = id;
+}
+first_if accs n i t o l waits (OfLost here lost few) = absurd (lost_unless (accs n i) waits.is_open lost)
+first_if accs n i t o l waits (OfOther here known few stops) = absurd (known waits.remote)
+first_if accs n i t o l waits (OfOpener here lost few stops) = let own = waits.part in let no : ⊥ = cc in absurd no
 
 module _ (codecs : Codecs) (classes : ClassIsTrue) (accs : Accounts) (n : ℕ) (e x : End) (sender : Option Sender) (moment : ℕ) (ev : Event) (d : Deed)
     (m : Connected) (h : IsMoved accs n e x sender moment ev (move.Connected m) d) where
@@ -144,14 +141,11 @@ module _ (codecs : Codecs) (classes : ClassIsTrue) (accs : Accounts) (n : ℕ) (
   o = said.heard.o
 
   first : IsFirst accs n i o said.next.letter
-  first = first_if accs n i o said.next.letter (waits_so accs n i t live (ap state_number h.does.state)) said.next.of
+  first = first_if accs n i t o said.next.letter (is_waiting accs i a t a.part live.state (ap state_number h.does.state)) said.next.of
 
   -- the acceptor that is learned
   abbrev p : Account
   p = sender_in accs n i o
-
-  acceptor : IsAcceptor accs a.peer o.tunnel p
-  acceptor = acceptor_of accs a.peer o.tunnel p (h.within.accounts a.peer o.tunnel) first.part
 
   from : 0 < o.tunnel
   from = (h.within.accounts a.peer o.tunnel).some said.heard.made
@@ -166,17 +160,25 @@ module _ (codecs : Codecs) (classes : ClassIsTrue) (accs : Accounts) (n : ℕ) (
   known : m.remote ≡ 0 → ⊥
   known z = let same = told in let some = from in omega arith
 
-  unchosen : (partner_in accs p).remote ≡ o.tunnel → ⊥
-  unchosen = not_chosen accs n i o first.remote first.peer (λ z. let none = first.none in let some = from in let no : ⊥ = omega arith in no)
+  found : IsLost a → ⊥
+  found lost = lost_unless a first.is_open lost
+
+  -- it isn't learned yet, nor is any other acceptor
+  alone : IsAlone a p
+  alone = acceptor_alone accs n i o h.within.accounts first.part first.remote first.peer
+      (λ z. let none = first.none in let some = from in let no : ⊥ = omega arith in no)
 
   one_taken : length p.taken ≡ 1
-  one_taken = acceptor.one_taken unchosen
+  one_taken = alone_one a p alone found
 
-  one_given : length p.given ≡ 1
-  one_given = acceptor.one_given unchosen
+  few_given : length p.given ≤ 2
+  few_given = (alone_small a p alone).given
+
+  some_given : 1 ≤ length p.given
+  some_given = let lt = slice_get_within p.given (length a.taken) said.next.letter said.next.there in omega arith
 
   only : IsOnly accs ms n i
-  only = only_after accs d n (move.Connected m) h.deed.node_is h.deed.move_is first.none
+  only = only_after accs d n (move.Connected m) h.deed.node_is h.deed.move_is (first.none, first.is_open)
 
   is : ms n i ≡ b
   is = after_move accs d n (move.Connected m) h.deed.node_is h.deed.move_is
@@ -195,7 +197,15 @@ module _ (codecs : Codecs) (classes : ClassIsTrue) (accs : Accounts) (n : ℕ) (
       let acks : AreAcked accs n i a t.control.channel.window.acked Opener = subst (AreAcked accs n i a t.control.channel.window.acked) first.here live.acked in
       ⊎_elim
       (λ (z : t.control.channel.window.acked ≡ 0). omega arith)
-      (λ (z : (t.control.channel.window.acked ≡ 1) × IsAnswered accs n i a). let one = z.0 in omega arith)
+      (λ (z : IsAnswered accs n i a t.control.channel.window.acked).
+      let le = z.enough in
+      let other = z.part in
+      let made_there : IsMade (accs a.peer z.acceptor) = λ none. (let no : ⊥ = cc in no) in
+      let some = (h.within.accounts a.peer z.acceptor).some made_there in
+      let it : ControlOrigin = record { tunnel = z.acceptor; epoch = 0; ns = 0; nr = 0; empty = true } in
+      let only_one = alone_one a (accs a.peer z.acceptor)
+      (acceptor_alone accs n i it h.within.accounts z.part z.remote z.peer (λ q. let none = first.none in let no : ⊥ = omega arith in no)) found in
+      omega arith)
       (acks.0 first.none)
 
   nothing_before : length a.taken ≡ 0
@@ -214,10 +224,10 @@ module _ (codecs : Codecs) (classes : ClassIsTrue) (accs : Accounts) (n : ℕ) (
   joined =
       let counted = live.counted in
       record {
-        here = omega (arith, one_now, one_given);
+        here = inl (omega (arith, one_now, some_given));
         there = omega (arith, one_taken, more_given);
         few_here = omega (arith, more_given, few_acked, room, one_taken);
-        few_there = omega (arith, one_now, one_given);
+        few_there = omega (arith, one_now, few_given);
       }
 
   joined_now : AreJoined b (partner_in ms b)
@@ -231,6 +241,7 @@ module _ (codecs : Codecs) (classes : ClassIsTrue) (accs : Accounts) (n : ℕ) (
       record {
         begins = begins_on i _ a.given (last ∷ []) (tt, tt) before.begins;
         none = λ z. absurd (known z);
+        one_given = λ z. absurd (known z);
         some = λ z. omega (arith, one_now);
         part = λ z. ap (λ (y : Account). y.part) stays ∙ first.part;
         peer = λ z. ap (λ (y : Account). y.peer) stays ∙ first.peer;
@@ -251,10 +262,17 @@ module _ (codecs : Codecs) (classes : ClassIsTrue) (accs : Accounts) (n : ℕ) (
   }
 
   taken : AreTaken ms b
-  taken number y found = ⊎_elim
+  taken number y got lt = ⊎_elim
       (λ (q : slice_get a.taken number ≡ Some y). let none = first.nothing in let g = rw none at q in let no : ⊥ = cc in absurd no)
       (λ (q : (number ≡ length a.taken) × (tk ≡ y)). rw (q.0, ← q.1) newly_taken)
-      (got_push a.taken tk number y found)
+      (got_push a.taken tk number y got)
+
+  -- it ignores nothing
+  ignored : AreIgnored b
+  ignored number y got le =
+      let lt = slice_get_within b.taken number y got in
+      let all = heeded_open b first.is_open in
+      absurd (omega (arith, lt, all, le))
 
   account : AccountOk ms n i b
   account = record {
@@ -265,7 +283,9 @@ module _ (codecs : Codecs) (classes : ClassIsTrue) (accs : Accounts) (n : ℕ) (
     peer = ok.peer;
     remote = (let fits = (h.within.accounts a.peer o.tunnel).id said.heard.made in let same = told in omega arith);
     spelled = all_append IsSpelled a.given (last ∷ []) ok.spelled (record { written = tt; session = omega arith }, tt);
+    told = all_append (λ (l : Letter). TellsOwn i l.message) a.given (last ∷ []) ok.told (tt, tt);
     taken = taken;
+    ignored = ignored;
   }
 
   -- ---- the tunnel
@@ -295,7 +315,7 @@ module _ (codecs : Codecs) (classes : ClassIsTrue) (accs : Accounts) (n : ℕ) (
         local = learns.local ∙ live.local;
         peer = learns.peer ∙ live.peer;
         remote = learns.remote;
-        state = subst (IsInState ms i b u) (sym first.here) (inr (ap state_number learns.state, known));
+        state = subst (IsInState ms i b u) (sym first.here) (inr (inl (ap state_number learns.state, known, first.is_open)));
         letters = letters;
         counted = omega (arith, more_given);
         few = omega arith;

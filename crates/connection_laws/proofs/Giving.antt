@@ -1,6 +1,6 @@
 -- The moves that take no letter and read no Nr keep what holds.
-use Rattle.std.proofs.Common.{◌≡◌, ⊎_elim, ℕ, ◌+◌, ◌<◌, ◌≤◌, Bool, true, false, cond, List, [], ◌∷◌, length, refl, sym, ap, ◌∙◌, subst, append-nil, Option, Some, arith}
-use Rattle.std.proofs.lemmas.Bool.{ltb-true}
+use Rattle.std.proofs.Common.{◌≡◌, ◌⊎◌, inl, inr, ⊎_elim, ℕ, ◌+◌, ◌<◌, ◌≤◌, Bool, true, false, cond, List, [], ◌∷◌, length, refl, sym, ap, ◌∙◌, subst, append-nil, Option, Some, arith}
+use Rattle.std.proofs.lemmas.Bool.{ltb-true, true≢false}
 use Rattle.std.specs.Prelude.{◌==◌, ◌&&◌, nat_lt, if◌then◌else◌}
 use Rattle.std.proofs.lemmas.Option.{none-some}
 use Rattle.id_table.specs.Ids.{at, put, without, at-none}
@@ -10,6 +10,7 @@ use Rattle.control_channel.specs.Numbers.{Numbers, let_go_at, ticked_at}
 use Rattle.send_window.specs.Window.{may_go, due_at}
 use Rattle.send_window.specs.Congestion.{halved}
 use Rattle.tunnel_fsm.specs.Rows.{state_number}
+use Rattle.call_fsm.specs.declared.table.CallState.TheVariants.{WaitTunnel}
 use Rattle.call_fsm.specs.declared.table.CallEvent.{CallEvent}
 use Rattle.call_fsm.specs.declared.table.CallEvent.TheVariants as call_event
 use Rattle.protocol_model.specs.declared.event.Event.{Event}
@@ -28,18 +29,19 @@ use Rattle.protocol_model.specs.declared.tunnel.Call.{Call}
 use Rattle.protocol_model.specs.declared.tunnel.CallPlace.{CallPlace}
 use Rattle.protocol_model.specs.declared.tunnel.Role.{Role}
 use Rattle.protocol_model.specs.Names.{calling_number}
-use Rattle.protocol_model.specs.Calls.{advanced, rung}
+use Rattle.protocol_model.specs.Calls.{call_row, is_told, advanced, rung}
 use Rattle.protocol_model.specs.Turn.{Tunnel, has_room, request_of}
 use Rattle.protocol_model.specs.End.{End, new_place}
 use Rattle.protocol_model.specs.World.{Sender, Deed, config_of}
 use Rattle.step_laws.specs.Letters.{Letter, letters_of}
 use Rattle.step_laws.specs.Codes.{codes_fit}
 use Rattle.step_laws.specs.Moves.{with_tunnel, with_letter}
-use Rattle.connection_laws.specs.Accounts.{Account, about, entered_by, gives, gives_also}
-use Rattle.connection_laws.specs.Facts.{Accounts, IsNoOpening, IsSpelled, LiveOk, Within}
+use Rattle.connection_laws.specs.Accounts.{Part, Unmade, Opener, Acceptor, Account, about, entered_by, gives, gives_also}
+use Rattle.connection_laws.specs.Facts.{Accounts, IsNoOpening, IsSpelled, TellsOwn, IsOpen, partner_in, AllWait, IsShut, IsInState, LiveOk, Within}
 use Rattle.connection_laws.proofs.Keeps.{IsDeed, after, IsMoved}
 use Rattle.connection_laws.proofs.Puts.{IsOnly, EndPut}
 use Rattle.connection_laws.proofs.Later.{extends_same, MayEnter, after_move, only_after, same_after}
+use Rattle.connection_laws.proofs.States.{waits_untold, rung_waits}
 use Rattle.connection_laws.proofs.Removed.{removed_keeps}
 use Rattle.connection_laws.proofs.GoingOn.{GoesOn, with_given, goes_on}
 use Rattle.connection_laws.proofs.Written.{request_written, draw_is, next_is}
@@ -54,13 +56,14 @@ abbrev with_one : Letter → List (ℕ × Call) → Tunnel → Tunnel
 with_one l calls t = record (with_letter l.session l.message t) { calls = calls }
 
 -- what a letter and the tunnel that is given it need
-record IsGiven (t : Tunnel) (l : Letter) (calls : List (ℕ × Call)) : Type 0 where
+record IsGiven (i : ℕ) (t : Tunnel) (l : Letter) (calls : List (ℕ × Call)) : Type 0 where
   spelled : IsSpelled l
   plain : IsNoOpening l.message
+  told : TellsOwn i l.message
   room : has_room t.control ≡ true
   remotes : (s : ℕ) (c : Call) → at calls s ≡ Some c → c.remote < 65536
   order : Ascends calls
-  busy : state_number t.control.state ≡ 2 → t.calls ≡ [] → ⊥
+  open_is : state_number t.control.state ≡ 3
 
 -- an end in which a tunnel is put, and places of calls change
 abbrev with_places : End → ℕ → Tunnel → List (ℕ × CallPlace) → End
@@ -82,7 +85,7 @@ module _ (accs : Accounts) (n : ℕ) (e : End) (sender : Option Sender) (ev : Ev
   live : LiveOk accs n (about m) (accs n (about m)) t
   live = within.end.live (about m) t there
 
-  one_goes_on : (l : Letter) (calls : List (ℕ × Call)) → IsGiven t l calls → GoesOn t (with_one l calls t) (l ∷ [])
+  one_goes_on : (l : Letter) (calls : List (ℕ × Call)) → IsGiven (about m) t l calls → GoesOn t (with_one l calls t) (l ∷ [])
   one_goes_on l calls h =
       let lt = ltb-true t.control.channel.window.queued 8192 h.room in
       let out = live.outstanding in
@@ -99,14 +102,14 @@ module _ (accs : Accounts) (n : ℕ) (e : End) (sender : Option Sender) (ev : Ev
         taken = refl;
         calls = h.remotes;
         order = h.order;
-        waits = λ two none. absurd (h.busy two none);
+        how = inl h.open_is;
       }
 
   gives_is : gives d ≡ letters_of e.role (config_of n 0) m
   gives_is = rw (deed.role_is, deed.node_is, deed.move_is) refl
 
   given_keeps : (l : Letter) (calls : List (ℕ × Call)) (places : List (ℕ × CallPlace)) → MayEnter m (accs n (about m))
-      → entered_by d m (accs n (about m)) ≡ gives_also d (accs n (about m)) → letters_of e.role (config_of n 0) m ≡ l ∷ [] → IsGiven t l calls
+      → entered_by d m (accs n (about m)) ≡ gives_also d (accs n (about m)) → letters_of e.role (config_of n 0) m ≡ l ∷ [] → IsGiven (about m) t l calls
       → Within (after accs d) n (with_places e (about m) (with_one l calls t) places) sender ev
   given_keeps l calls places may enters one h =
       let i = about m in
@@ -114,8 +117,30 @@ module _ (accs : Accounts) (n : ℕ) (e : End) (sender : Option Sender) (ev : Ev
       (one_goes_on l calls h)
       (only_after accs d n m deed.node_is deed.move_is may)
       (after_move accs d n m deed.node_is deed.move_is ∙ enters ∙ ap (λ ls. with_given ls (accs n i)) (gives_is ∙ one))
-      (h.spelled, tt) (h.plain, tt)
+      (h.spelled, tt) (h.plain, tt) (h.told, tt)
       (put_places e i (with_one l calls t) places)
+
+-- the peer is told of the end of a call in an open tunnel alone: in another one its calls wait, or it has none
+told_open : (accs : Accounts) (i : ℕ) (a : Account) (t : Tunnel) (role : Role) (on : CallEvent) (s : ℕ) (c : Call) → at t.calls s ≡ Some c
+    → is_told (call_row role c.state on).1 ≡ true → (r : Part) → IsInState accs i a t r → state_number t.control.state ≡ 3
+told_open accs i a t role on s c there told Unmade h = absurd h
+told_open accs i a t role on s c there told Opener h = ⊎_elim
+    (λ (k : (state_number t.control.state ≡ 1) × (a.remote ≡ 0) × IsOpen a × AllWait t.calls).
+    let waits = k.3 s c there in
+    let g : is_told (call_row role WaitTunnel on).1 ≡ true = rw waits at told in
+    absurd (true≢false (sym g ∙ waits_untold role on)))
+    (λ rest. ⊎_elim
+    (λ (k : (state_number t.control.state ≡ 3) × (a.remote ≡ 0 → ⊥) × IsOpen a). k.0)
+    (λ (k : IsShut a t). absurd (no_call t.calls s c there k.2))
+    rest)
+    h
+told_open accs i a t role on s c there told Acceptor h = ⊎_elim
+    (λ (k : (state_number t.control.state ≡ 2) × (t.calls ≡ []) × IsOpen a). absurd (no_call t.calls s c there k.1))
+    (λ rest. ⊎_elim
+    (λ (k : (state_number t.control.state ≡ 3) × ((partner_in accs a).remote ≡ i) × IsOpen a). k.0)
+    (λ (k : IsShut a t). absurd (no_call t.calls s c there k.2))
+    rest)
+    h
 
 -- the end of a live call is told
 pub end_told_keeps : (accs : Accounts) (n : ℕ) (e x : End) (sender : Option Sender) (moment : ℕ) (ev : Event) (m : EndTold) (d : Deed)
@@ -131,10 +156,11 @@ end_told_keeps accs n e x sender moment ev m d h =
     (record {
       spelled = record { written = (let k = codes_fit e t ev moment m.session o.call o.on m.result m.error o.why in (o.session, k.0, k.1)); session = rw o.remote (live.calls m.session o.call o.live) };
       plain = tt;
+      told = tt;
       room = o.room;
       remotes = λ s c f. live.calls s c (found_without t.calls m.session s c live.order f).1;
       order = ascends-without m.session t.calls live.order;
-      busy = λ two none. no_call t.calls m.session o.call o.live none;
+      open_is = told_open accs m.tunnel (accs n m.tunnel) t e.role o.on m.session o.call o.live o.row (accs n m.tunnel).part live.state;
     }))
 
 -- a quiet tunnel says that it is there
@@ -150,10 +176,11 @@ greeted_keeps accs n e x sender moment ev m d h =
     (record {
       spelled = record { written = tt; session = omega arith };
       plain = tt;
+      told = tt;
       room = o.room;
       remotes = live.calls;
       order = live.order;
-      busy = λ two none. let three = o.open_is in absurd (omega (arith, two, three));
+      open_is = o.open_is;
     }))
 
 -- a call that changed, but for its state
@@ -184,11 +211,12 @@ requested_keeps digits accs n e x sender moment ev m d h =
     (record {
       spelled = record { written = request_written digits m.session m.port o.session; session = omega arith };
       plain = tt;
+      told = tt;
       room = o.room;
       remotes = calls_put t.calls m.session call live.calls
           (rw (advanced_remote e.role call_event.TunnelOpen moment o.call) (live.calls m.session o.call o.waits));
       order = ascends-put m.session call t.calls live.order;
-      busy = λ two none. let three = o.open_is in absurd (omega (arith, two, three));
+      open_is = o.open_is;
     }))
 
 -- ---- nothing is given
@@ -206,7 +234,8 @@ record Stays (t u : Tunnel) : Type 0 where
   taken : u.control.channel.inbox.taken ≡ t.control.channel.inbox.taken
   calls : (s : ℕ) (c : Call) → at u.calls s ≡ Some c → c.remote < 65536
   order : Ascends u.calls
-  waits : state_number t.control.state ≡ 2 → t.calls ≡ [] → u.calls ≡ []
+  how : (state_number t.control.state ≡ 3)
+      ⊎ ((AllWait t.calls → AllWait u.calls) × ((state_number t.control.state ≡ 1 → ⊥) → t.calls ≡ [] → u.calls ≡ []))
 
 only_same : (accs : Accounts) (n i : ℕ) → IsOnly accs accs n i
 only_same accs n i = record { here = extends_same (accs n i); others = λ m j other. refl }
@@ -231,11 +260,11 @@ stays_keeps accs n e x sender ev within i t u there s put_is =
       taken = s.taken;
       calls = s.calls;
       order = s.order;
-      waits = λ two none. (s.waits two none, refl);
+      how = ⊎_elim (λ three. inl three) (λ k. inr (refl, k.0, k.1)) s.how;
     })
     (only_same accs n i)
     (ap (λ ls. record (accs n i) { given = ls }) (sym (append-nil (accs n i).given)))
-    tt tt put_is
+    tt tt tt put_is
 
 -- no account changes in the move
 still : (accs : Accounts) (n : ℕ) (e x : End) (sender : Option Sender) (moment : ℕ) (ev : Event) (m : Move) (d : Deed)
@@ -272,8 +301,10 @@ cleared_keeps accs n e x sender moment ev i d h =
 -- only the calls of a tunnel change
 calls_stay : (t : Tunnel) (calls : List (ℕ × Call)) → t.control.channel.window.outstanding ≤ t.control.channel.window.queued
     → ((s : ℕ) (c : Call) → at calls s ≡ Some c → c.remote < 65536) → Ascends calls
-    → (state_number t.control.state ≡ 2 → t.calls ≡ [] → calls ≡ []) → Stays t (record t { calls = calls })
-calls_stay t calls out fits order waits = record {
+    → (state_number t.control.state ≡ 3)
+    ⊎ ((AllWait t.calls → AllWait calls) × ((state_number t.control.state ≡ 1 → ⊥) → t.calls ≡ [] → calls ≡ []))
+    → Stays t (record t { calls = calls })
+calls_stay t calls out fits order how = record {
   local = refl;
   peer = refl;
   remote = refl;
@@ -285,7 +316,7 @@ calls_stay t calls out fits order waits = record {
   taken = refl;
   calls = fits;
   order = order;
-  waits = waits;
+  how = how;
 }
 
 -- a call of which the peer knows nothing ends
@@ -301,8 +332,16 @@ end_silent_keeps accs n e x sender moment ev m d h =
     (calls_stay t (without t.calls m.session) live.outstanding
     (λ s c f. live.calls s c (found_without t.calls m.session s c live.order f).1)
     (ascends-without m.session t.calls live.order)
-    (λ two none. absurd (no_call t.calls m.session o.call o.live none)))
+    (inr (
+      (λ wait s c f. wait s c (found_without t.calls m.session s c live.order f).1),
+      (λ one none. absurd (no_call t.calls m.session o.call o.live none)),
+    )))
     (put_places e m.tunnel (record t { calls = without t.calls m.session }) _)))
+
+-- one more call that waits
+waits_put : (calls : List (ℕ × Call)) (s : ℕ) (k : Call) → k.state ≡ WaitTunnel → AllWait calls → AllWait (put calls s k)
+waits_put calls s k is wait q c f =
+    ⊎_elim (λ (a : (q ≡ s) × (k ≡ c)). rw (← a.1) is) (λ a. wait q c a.1) (found_put calls s k q c f)
 
 -- a call is born, over a tunnel that is open or isn't answered yet
 pub added_keeps : (accs : Accounts) (n : ℕ) (e x : End) (sender : Option Sender) (moment : ℕ) (ev : Event) (m : Added) (d : Deed)
@@ -324,10 +363,13 @@ added_keeps accs n e x sender moment ev m d h =
     (calls_stay t (put t.calls m.session call) live.outstanding
     (calls_put t.calls m.session call live.calls (rw (rung_remote e.role m.port moment) (omega arith)))
     (ascends-put m.session call t.calls live.order)
-    (λ two none. absurd (⊎_elim
-    (λ (three : state_number t.control.state ≡ 3). omega (arith, two, three))
-    (λ (one : state_number t.control.state ≡ 1). omega (arith, two, one))
-    o.goes)))
+    (⊎_elim
+    (λ (three : state_number t.control.state ≡ 3). inl three)
+    (λ (one : state_number t.control.state ≡ 1). inr (
+      waits_put t.calls m.session call (rung_waits e.role m.port moment o.role),
+      (λ other none. absurd (other one)),
+    ))
+    o.goes))
     (record {
       role = refl;
       config = refl;
@@ -361,7 +403,7 @@ window_stays accs n i a t c live h = record {
   taken = h.taken;
   calls = live.calls;
   order = live.order;
-  waits = λ two none. none;
+  how = inr ((λ wait. wait), (λ one none. none));
 }
 
 first_holds : (a b : Bool) → (a && b) ≡ true → a ≡ true

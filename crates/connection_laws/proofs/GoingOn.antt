@@ -1,5 +1,5 @@
 -- A tunnel that takes no letter goes on: it may be given letters, its window and its calls may change.
-use Rattle.std.proofs.Common.{◌≡◌, inl, inr, ⊎_elim, ℕ, ◌+◌, ◌<◌, ◌≤◌, List, [], ◌∷◌, ◌++◌, length, map, drop, refl, sym, ap, ap₂, ◌∙◌, subst, append-nil, Option, Some, arith}
+use Rattle.std.proofs.Common.{◌≡◌, ◌⊎◌, inl, inr, ⊎_elim, ℕ, ◌+◌, ◌<◌, ◌≤◌, List, [], ◌∷◌, ◌++◌, length, map, drop, refl, sym, ap, ap₂, ◌∙◌, subst, append-nil, Option, Some, arith}
 use Rattle.std.proofs.lemmas.List.{length-append, drop-append-le, map-append}
 use Rattle.std.specs.List.{AllByRecursion}
 use Rattle.id_table.specs.Ids.{at}
@@ -10,7 +10,8 @@ use Rattle.control_message.specs.declared.message.Message.TheVariants.{Sccrq, Sc
 use Rattle.control_message.specs.declared.message.Opening.{Opening}
 use Rattle.tunnel_fsm.specs.Rows.{state_number}
 use Rattle.protocol_model.specs.declared.event.Event.{Event}
-use Rattle.protocol_model.specs.declared.event.Event.TheVariants.{Datagram, Ring, Payload, Lower, Hang, OpenTunnel, DropCall, Tick}
+use Rattle.protocol_model.specs.declared.event.Event.TheVariants.{Datagram, Ring, Payload, Lower, Hang, OpenTunnel, DropCall, CloseTunnel, Tick}
+use Rattle.protocol_model.specs.declared.event.Addressee.TheVariants.{Stops}
 use Rattle.protocol_model.specs.declared.out.Origin.{Origin}
 use Rattle.protocol_model.specs.declared.out.Origin.TheVariants as origin
 use Rattle.protocol_model.specs.declared.packet.Packet.{Packet}
@@ -20,11 +21,12 @@ use Rattle.protocol_model.specs.Turn.{Tunnel}
 use Rattle.protocol_model.specs.End.{End}
 use Rattle.protocol_model.specs.World.{Sender}
 use Rattle.step_laws.specs.Letters.{Letter}
-use Rattle.step_laws.specs.Moves.{IsFor}
+use Rattle.step_laws.specs.Moves.{IsFor, IsAgain, IsStop}
 use Rattle.connection_laws.specs.Accounts.{Part, Unmade, Opener, Acceptor, Account}
-use Rattle.connection_laws.specs.Facts.{Accounts, IsNoOpening, IsSpelled, BeginsWith, AreJoined, partner_in, IsOpener, IsAcceptor, IsPart, IsMade, AccountOk, kept_letter, IsAnswered, IsInState, AreAcked, LiveOk, AreNear, Comes, Within}
+use Rattle.connection_laws.specs.Facts.{Accounts, IsNoOpening, IsSpelled, TellsOwn, IsOpen, IsClosed, IsLost, HasStopped, AllWait, IsShut, BeginsWith, AreJoined, partner_in, IsOpener, IsAcceptor, IsPart, IsMade, AccountOk, kept_letter, IsAnswered, IsInState, AreAcked, LiveOk, AreNear, Comes, Within}
 use Rattle.connection_laws.proofs.Puts.{Extends, IsOnly, NearAt, ComesNear, EndPut}
 use Rattle.connection_laws.proofs.Later.{AllExtend, all_extend, are_acked_later, in_state_later, is_taken_on, live_made, more_given, joined_now}
+use Rattle.connection_laws.proofs.States.{opener_known, acceptor_chosen}
 use Rattle.connection_laws.proofs.Put.{puts_keep}
 
 all_append : {X : Type 0} (P : X → Type 0) (xs ys : List X) → AllByRecursion P xs → AllByRecursion P ys → AllByRecursion P (xs ++ ys)
@@ -47,15 +49,16 @@ pub record GoesOn (t u : Tunnel) (more : List Letter) : Type 0 where
   pub taken : u.control.channel.inbox.taken ≡ t.control.channel.inbox.taken
   pub calls : (s : ℕ) (c : Call) → at u.calls s ≡ Some c → c.remote < 65536
   pub order : Ascends u.calls
-  -- one that was accepted and isn't connected yet has no call, and is given nothing
-  pub waits : state_number t.control.state ≡ 2 → t.calls ≡ [] → (u.calls ≡ []) × (more ≡ [])
+  -- one that isn't open is given nothing; its calls wait, or it has none
+  pub how : (state_number t.control.state ≡ 3)
+      ⊎ ((more ≡ []) × (AllWait t.calls → AllWait u.calls) × ((state_number t.control.state ≡ 1 → ⊥) → t.calls ≡ [] → u.calls ≡ []))
 
 -- the account of a tunnel that is given these letters
 abbrev pub with_given : List Letter → Account → Account
 with_given more a = record a { given = a.given ++ more }
 
 given_extends : (a : Account) (more : List Letter) → Extends a (with_given more a)
-given_extends a more = record { part = inr refl; peer = λ made. refl; remote = inr refl; given = (more, refl); taken = ([], sym (append-nil a.taken)) }
+given_extends a more = record { part = inr refl; peer = λ made. refl; remote = inr refl; closed = inr refl; given = (more, refl); taken = ([], sym (append-nil a.taken)) }
 
 begins_on : (i : ℕ) (says : Opening → Message) (given more : List Letter) → AllByRecursion (λ (l : Letter). IsNoOpening l.message) more
     → BeginsWith i says given → BeginsWith i says (given ++ more)
@@ -74,28 +77,36 @@ still_few : (given more : List Letter) (acked queued taken : ℕ) → acked + qu
     → length (given ++ more) ≤ taken + 8192
 still_few given more acked queued taken counted few le = rw length-append (omega (arith, counted))
 
-answered_on : (accs : Accounts) (n i : ℕ) (a : Account) (more : List Letter) → IsAnswered accs n i a → IsAnswered accs n i (with_given more a)
-answered_on accs n i a more h = record { acceptor = h.acceptor; part = h.part; peer = h.peer; remote = h.remote }
+-- the acceptors that answer a tunnel are known by its peer
+pub answered_on : (accs : Accounts) (n i : ℕ) (a b : Account) (acked : ℕ) → b.peer ≡ a.peer → IsAnswered accs n i a acked → IsAnswered accs n i b acked
+answered_on accs n i a b acked peer h =
+    record { acceptor = h.acceptor; part = rw peer h.part; peer = rw peer h.peer; remote = rw peer h.remote; enough = rw peer h.enough }
 
 are_acked_on : (accs : Accounts) (n i : ℕ) (a : Account) (more : List Letter) (acked : ℕ) (p : Part) → AreAcked accs n i a acked p
     → AreAcked accs n i (with_given more a) acked p
 are_acked_on accs n i a more acked Unmade h = h
-are_acked_on accs n i a more acked Opener h =
-    ((λ unknown. ⊎_elim (λ none. inl none) (λ one. inr (one.0, answered_on accs n i a more one.1)) (h.0 unknown)), h.1)
+are_acked_on accs n i a more acked Opener h = (
+  (λ unknown. ⊎_elim (λ none. inl none)
+      (λ (one : IsAnswered accs n i a acked). inr (answered_on accs n i a (with_given more a) acked refl one)) (h.0 unknown)),
+  h.1,
+)
 are_acked_on accs n i a more acked Acceptor h = h
 
 -- a message for the tunnel as it is was for it as it was
-for_back : (h : Header) (bytes : List ℕ) (c d : Control) → d.local ≡ c.local → d.remote ≡ c.remote → IsFor h bytes d → IsFor h bytes c
+pub for_back : (h : Header) (bytes : List ℕ) (c d : Control) → d.local ≡ c.local → d.remote ≡ c.remote → IsFor h bytes d → IsFor h bytes c
 for_back h bytes c d local remote f =
     ⊎_elim
     (λ names. inl (names ∙ local))
-    (λ again. inr (record { none = again.none; opening = again.opening; said = again.said; known = sym remote ∙ again.known }))
+    (λ other. inr (⊎_elim
+    (λ (again : IsAgain h bytes d). inl (record { none = again.none; opening = again.opening; said = again.said; known = sym remote ∙ again.known }))
+    (λ (stop : IsStop h bytes d). inr (record { none = stop.none; stops = stop.stops ∙ ap (λ r. Stops r) remote }))
+    other))
     f
 
 module _ (accs ms : Accounts) (n : ℕ) (e x : End) (sender : Option Sender) (ev : Event) (within : Within accs n e sender ev) (i : ℕ) (t u : Tunnel)
     (more : List Letter) (there : at e.tunnels i ≡ Some t) (g : GoesOn t u more) (only : IsOnly accs ms n i)
     (is : ms n i ≡ with_given more (accs n i)) (spelled : AllByRecursion IsSpelled more)
-    (plain : AllByRecursion (λ (l : Letter). IsNoOpening l.message) more) (put_is : EndPut e x i u) where
+    (plain : AllByRecursion (λ (l : Letter). IsNoOpening l.message) more) (told : AllByRecursion (λ (l : Letter). TellsOwn i l.message) more) (put_is : EndPut e x i u) where
   abbrev a : Account
   a = accs n i
 
@@ -138,18 +149,22 @@ module _ (accs ms : Accounts) (n : ℕ) (e x : End) (sender : Option Sender) (ev
   acked_of : (r : Part) → a.part ≡ r → AreAcked accs n i a t.control.channel.window.acked r
   acked_of r own = subst (λ r. AreAcked accs n i a t.control.channel.window.acked r) own live.acked
 
-  -- an acceptor that is given a letter has been learned
+  -- where it isn't open
+  none_unless : (state_number t.control.state ≡ 3 → ⊥) → more ≡ []
+  none_unless other = ⊎_elim (λ three. absurd (other three)) (λ k. k.0) g.how
+
+  -- an opener that is given a letter has learned one, and an acceptor has been learned
+  none_before : a.part ≡ Opener → a.remote ≡ 0 → more ≡ []
+  none_before own none = none_unless (λ three. opener_known accs i a t (subst (λ r. IsInState accs i a t r) own live.state) three none)
+
   none_given : a.part ≡ Acceptor → (p.remote ≡ i → ⊥) → more ≡ []
-  none_given own apart =
-      ⊎_elim
-      (λ (w : (state_number t.control.state ≡ 2) × (t.calls ≡ [])). (g.waits w.0 w.1).1)
-      (λ is_open. absurd (apart is_open.1))
-      (subst (λ r. IsInState accs i a t r) own live.state)
+  none_given own apart = none_unless (λ three. apart (acceptor_chosen accs i a t (subst (λ r. IsInState accs i a t r) own live.state) three))
 
   opener_on : a.part ≡ Opener → IsOpener accs n i a → IsOpener ms n i b
   opener_on own h = record {
     begins = begins_on i Sccrq a.given more plain h.begins;
     none = h.none;
+    one_given = λ none. still_one none;
     some = h.some;
     part = λ known. rw (stays known) (h.part known);
     peer = λ known. rw (stays known) (h.peer known);
@@ -157,6 +172,9 @@ module _ (accs ms : Accounts) (n : ℕ) (e x : End) (sender : Option Sender) (ev
     joined = joined;
   }
     where
+      still_one : a.remote ≡ 0 → (length b.given ≡ 1) ⊎ (IsLost b × (length b.given ≤ 2))
+      still_one none = rw (none_before own none, append-nil) (h.one_given none)
+
       stays : (a.remote ≡ 0 → ⊥) → q ≡ p
       stays known = partner_stays Acceptor Opener (h.part known) own (λ same. let clash : ⊥ = cc in clash)
 
@@ -171,6 +189,13 @@ module _ (accs ms : Accounts) (n : ℕ) (e x : End) (sender : Option Sender) (ev
             few_there = j.few_there;
           })
 
+  stopped_on : more ≡ [] → HasStopped a → HasStopped b
+  stopped_on none s = record {
+    closed = s.closed;
+    few = rw (none, append-nil) s.few;
+    stops = rw (none, append-nil) s.stops;
+  }
+
   acceptor_on : a.part ≡ Acceptor → IsAcceptor accs n i a → IsAcceptor ms n i b
   acceptor_on own h =
       let stays = partner_stays Opener Acceptor h.part own (λ same. let clash : ⊥ = cc in clash) in
@@ -181,7 +206,10 @@ module _ (accs ms : Accounts) (n : ℕ) (e x : End) (sender : Option Sender) (ev
         part = rw stays h.part;
         peer = rw stays h.peer;
         one_taken = rw stays h.one_taken;
-        one_given = rw stays (λ apart. rw (none_given own apart, append-nil) (h.one_given apart));
+        one_given = rw stays (λ apart. ⊎_elim
+            (λ (one : length a.given ≡ 1). inl (rw (none_given own apart, append-nil) one))
+            (λ (s : HasStopped a). inr (stopped_on (none_given own apart) s))
+            (h.one_given apart));
       }
 
   part_on : (r : Part) → a.part ≡ r → IsPart accs n i a r → IsPart ms n i b r
@@ -198,7 +226,9 @@ module _ (accs ms : Accounts) (n : ℕ) (e x : End) (sender : Option Sender) (ev
     peer = ok.peer;
     remote = ok.remote;
     spelled = all_append IsSpelled a.given more ok.spelled spelled;
-    taken = λ number l f. is_taken_on accs ms grown a b (given_extends a more) made number l (ok.taken number l f);
+    told = all_append (λ (l : Letter). TellsOwn i l.message) a.given more ok.told told;
+    taken = λ number l f lt. is_taken_on accs ms grown a b (given_extends a more) made number l (ok.taken number l f lt);
+    ignored = ok.ignored;
   }
 
   stays_joined : b.part ≡ Acceptor → q.remote ≡ i → AreJoined q b
@@ -209,20 +239,48 @@ module _ (accs ms : Accounts) (n : ℕ) (e x : End) (sender : Option Sender) (ev
       let j = joined_now accs within.accounts n i own named_before in
       let more_here = more_given a b (given_extends a more) in
       rw stays (record {
-        here = (let le = j.here in omega arith);
+        here = ⊎_elim (λ (le : length p.taken ≤ length a.given). inl (omega arith)) (λ k. inr k) j.here;
         there = j.there;
         few_here = j.few_here;
         few_there = counted_more (length p.taken) ((acked_of Acceptor own).1 named_before);
       })
 
+  -- its calls still wait, or there are still none
+  still_wait : state_number t.control.state ≡ 1 → AllWait t.calls → AllWait u.calls
+  still_wait one wait =
+      ⊎_elim (λ (three : state_number t.control.state ≡ 3). absurd (omega (arith, one, three))) (λ k. k.1 wait) g.how
+
+  still_none : (state_number t.control.state ≡ 3 → ⊥) → (state_number t.control.state ≡ 1 → ⊥) → t.calls ≡ [] → u.calls ≡ []
+  still_none three one none = ⊎_elim (λ is. absurd (three is)) (λ k. k.2 one none) g.how
+
+  none_of_two : state_number t.control.state ≡ 2 → t.calls ≡ [] → u.calls ≡ []
+  none_of_two two none =
+      still_none (λ three. let no : ⊥ = omega (arith, two, three) in no) (λ one. let no : ⊥ = omega (arith, two, one) in no) none
+
+  still_shut : IsShut a t → (state_number t.control.state ≡ 4) × IsClosed b × (u.calls ≡ [])
+  still_shut k =
+      let four = k.0 in
+      (four, k.1, still_none (λ three. let no : ⊥ = omega (arith, four, three) in no) (λ one. let no : ⊥ = omega (arith, four, one) in no) k.2)
+
   state_on : (r : Part) → IsInState ms i a t r → IsInState ms i b u r
   state_on Unmade h = h
-  state_on Opener h = rw g.state h
+  state_on Opener h =
+      rw g.state
+      (⊎_elim
+      (λ (w : (state_number t.control.state ≡ 1) × (a.remote ≡ 0) × IsOpen a × AllWait t.calls). inl (w.0, w.1, w.2, still_wait w.0 w.3))
+      (λ rest. ⊎_elim
+      (λ (k : (state_number t.control.state ≡ 3) × (a.remote ≡ 0 → ⊥) × IsOpen a). inr (inl k))
+      (λ (k : IsShut a t). inr (inr (still_shut k)))
+      rest)
+      h)
   state_on Acceptor h =
       rw g.state
       (⊎_elim
-      (λ (w : (state_number t.control.state ≡ 2) × (t.calls ≡ [])). inl (w.0, (g.waits w.0 w.1).0))
-      (λ is_open. inr is_open)
+      (λ (w : (state_number t.control.state ≡ 2) × (t.calls ≡ []) × IsOpen a). inl (w.0, none_of_two w.0 w.1, w.2))
+      (λ rest. ⊎_elim
+      (λ (k : (state_number t.control.state ≡ 3) × ((partner_in ms a).remote ≡ i) × IsOpen a). inr (inl k))
+      (λ (k : IsShut a t). inr (inr (still_shut k)))
+      rest)
       h)
 
   lives : LiveOk ms n i b u
@@ -269,6 +327,7 @@ module _ (accs ms : Accounts) (n : ℕ) (e x : End) (sender : Option Sender) (ev
   near (Hang s) c = tt
   near OpenTunnel c = tt
   near (DropCall s) c = tt
+  near (CloseTunnel k) c = tt
   near Tick c = tt
 
   pub goes_on : Within ms n x sender ev

@@ -12,14 +12,14 @@ use Rattle.l2tp_header.specs.Spelling.{control_bytes, data_bytes}
 use Rattle.l2tp_header.specs.Reading.{header_of}
 use Rattle.avp_codec.specs.Spelling.{spelling}
 use Rattle.control_message.specs.declared.message.Message.{Message}
-use Rattle.control_message.specs.declared.message.Message.TheVariants.{Sccrq, Sccrp}
+use Rattle.control_message.specs.declared.message.Message.TheVariants.{Sccrq, Sccrp, StopCcn}
 use Rattle.control_message.specs.declared.message.Opening.{Opening}
 use Rattle.control_message.specs.Pairs.{pairs_of, IsWritten}
 use Rattle.control_message.specs.Reading.{message_of}
 use Rattle.recv_window.specs.declared.Class.TheVariants.{Next}
 use Rattle.recv_window.specs.Window.{on_wire, class_of, ClassIsTrue}
 use Rattle.protocol_model.specs.declared.event.Event.{Event}
-use Rattle.protocol_model.specs.declared.event.Event.TheVariants.{Datagram, Ring, Payload, Lower, Hang, OpenTunnel, DropCall, Tick}
+use Rattle.protocol_model.specs.declared.event.Event.TheVariants.{Datagram, Ring, Payload, Lower, Hang, OpenTunnel, DropCall, CloseTunnel, Tick}
 use Rattle.protocol_model.specs.declared.out.Origin.{Origin}
 use Rattle.protocol_model.specs.declared.out.Origin.TheVariants as origin
 use Rattle.protocol_model.specs.declared.out.ControlOrigin.{ControlOrigin}
@@ -31,12 +31,12 @@ use Rattle.protocol_model.specs.Turn.{Tunnel}
 use Rattle.protocol_model.specs.End.{End}
 use Rattle.protocol_model.specs.World.{Sender, sender_of}
 use Rattle.step_laws.specs.Letters.{Letter}
-use Rattle.step_laws.specs.Moves.{IsFor, IsAgain, HearsNext, ComesNext, TellsNr}
+use Rattle.step_laws.specs.Moves.{IsFor, IsAgain, IsStop, HearsNext, ComesNext, TellsNr}
 use Rattle.frame_laws.specs.Codecs.{Codecs}
 use Rattle.connection_laws.specs.Accounts.{Part, Unmade, Opener, Acceptor, Account}
-use Rattle.connection_laws.specs.Facts.{Accounts, IsMade, IsSpelled, IsNoOpening, BeginsWith, IsPart, IsOpener, IsAcceptor, AreJoined, partner_in, IsAnswered, AreAcked, AccountOk, LiveOk, Says, ALetter, Nothing, IsCopy, IsData, OriginOk, IsNear, AreNear, IsPacket, Comes, Within}
+use Rattle.connection_laws.specs.Facts.{Accounts, IsMade, IsSpelled, IsNoOpening, IsStopCcn, TellsOwn, IsLost, BeginsWith, IsPart, IsOpener, IsAcceptor, partner_in, AccountOk, LiveOk, Says, ALetter, Nothing, IsCopy, IsData, OriginOk, IsNear, AreNear, IsPacket, Comes, Within}
 use Rattle.connection_laws.proofs.Later.{live_made}
-use Rattle.connection_laws.proofs.Numbers.{next_is_expected}
+use Rattle.connection_laws.proofs.Stops.{TellsStop, stops_by, no_stop}
 use Rattle.connection_laws.proofs.Puts.{NearAt, ComesNear}
 
 -- ---- addresses
@@ -75,6 +75,7 @@ packet_at accs n e sender (Lower s frame) comes peer bytes is = absurd cc
 packet_at accs n e sender (Hang s) comes peer bytes is = absurd cc
 packet_at accs n e sender OpenTunnel comes peer bytes is = absurd cc
 packet_at accs n e sender (DropCall s) comes peer bytes is = absurd cc
+packet_at accs n e sender (CloseTunnel k) comes peer bytes is = absurd cc
 packet_at accs n e sender Tick comes peer bytes is = absurd cc
 
 -- ---- what its bytes are read as
@@ -93,16 +94,31 @@ pub record IsNoneRead (o : ControlOrigin) (h : Header) (bytes : List ℕ) : Type
   pub none : o.empty ≡ true
   pub body : body_of h bytes ≡ []
 
+-- how it names the tunnel that it is for
+abbrev pub IsNamedSo : Account → ControlOrigin → ℕ → Type 0
+IsNamedSo b o tunnel =
+    ((tunnel ≡ 0) × (IsLost b ⊎ ((o.nr ≡ 0) × (o.empty ≡ false → o.ns ≡ 0)))) ⊎ ((tunnel ≡ 0 → ⊥) × (tunnel ≡ b.remote))
+
 pub record CopyRead (b : Account) (o : ControlOrigin) (h : Header) (bytes : List ℕ) : Type 0 where
-  pub tunnel : ((h.tunnel ≡ 0) × (o.nr ≡ 0)) ⊎ ((h.tunnel ≡ 0 → ⊥) × (h.tunnel ≡ b.remote))
+  pub tunnel : IsNamedSo b o h.tunnel
   pub ns : unwrap_or h.ns 0 ≡ on_wire o.ns
   pub nr : unwrap_or h.nr 0 ≡ on_wire o.nr
   pub says : IsLetterRead b o h bytes ⊎ IsNoneRead o h bytes
 
 -- ids that a tunnel names have 16 bits
-named_fits : (b : Account) (tunnel nr : ℕ) → b.remote < 65536 → ((tunnel ≡ 0) × (nr ≡ 0)) ⊎ ((tunnel ≡ 0 → ⊥) × (tunnel ≡ b.remote)) → tunnel < 65536
-named_fits b tunnel nr fits named =
-    ⊎_elim (λ (k : (tunnel ≡ 0) × (nr ≡ 0)). let z = k.0 in omega arith) (λ (k : (tunnel ≡ 0 → ⊥) × (tunnel ≡ b.remote)). let z = k.1 in omega arith) named
+pub named_fits : (b : Account) (o : ControlOrigin) (tunnel : ℕ) → b.remote < 65536 → IsNamedSo b o tunnel → tunnel < 65536
+named_fits b o tunnel fits named = ⊎_elim
+    (λ (k : (tunnel ≡ 0) × (IsLost b ⊎ ((o.nr ≡ 0) × (o.empty ≡ false → o.ns ≡ 0)))). let z = k.0 in omega arith)
+    (λ (k : (tunnel ≡ 0 → ⊥) × (tunnel ≡ b.remote)). let z = k.1 in omega arith)
+    named
+
+-- where it names none, its sender is lost, or it is the first letter and tells nothing taken
+pub unnamed : (b : Account) (o : ControlOrigin) (tunnel : ℕ) → IsNamedSo b o tunnel → tunnel ≡ 0
+    → IsLost b ⊎ ((o.nr ≡ 0) × (o.empty ≡ false → o.ns ≡ 0))
+unnamed b o tunnel named none = ⊎_elim
+    (λ (k : (tunnel ≡ 0) × (IsLost b ⊎ ((o.nr ≡ 0) × (o.empty ≡ false → o.ns ≡ 0)))). k.1)
+    (λ (k : (tunnel ≡ 0 → ⊥) × (tunnel ≡ b.remote)). absurd (k.0 none))
+    named
 
 pub all_at : {X : Type 0} (P : X → Type 0) (xs : List X) (k : ℕ) (x : X) → slice_get xs k ≡ Some x → AllByRecursion P xs → P x
 all_at P [] k x is h = absurd (cc)
@@ -147,12 +163,12 @@ module _ (codecs : Codecs) where
       let c = codecs.frame d.tunnel d.session None d.frame d.tunnel_fits d.session_fits tt in
       true≢false (sym k ∙ ap (λ (x : Header). x.control) (same_header made h _ _ c (let a = d.are in rw a at e)))
 
-  copy_read : (b : Account) (p : Packet) (o : ControlOrigin) (h : Header) → b.remote < 65536 → AllByRecursion IsSpelled b.given → IsCopy b p o
+  pub copy_read : (b : Account) (p : Packet) (o : ControlOrigin) (h : Header) → b.remote < 65536 → AllByRecursion IsSpelled b.given → IsCopy b p o
       → header_of p.bytes ≡ Ok h → CopyRead b o h p.bytes
   copy_read b p o h fits spelled copy e = by copy.says
     where
       t : copy.tunnel < 65536
-      t = named_fits b copy.tunnel o.nr fits copy.named
+      t = named_fits b o copy.tunnel fits copy.named
 
       by : Says b o copy.tunnel p.bytes → CopyRead b o h p.bytes
       by (ALetter l some there are) =
@@ -203,10 +219,16 @@ first_only i says given begins k l there opens = by k (let a = begins.are in rw 
 abbrev pub sender_in : Accounts → ℕ → ℕ → ControlOrigin → Account
 sender_in accs n i o = accs (accs n i).peer o.tunnel
 
+-- what an opener sends to an acceptor of its SCCRQ: it has learned it, or sends its SCCRQ, or is lost and sends a StopCCN
+pub data Sends (b : Account) (i : ℕ) (o : ControlOrigin) : Type 0 where
+  Chosen : b.remote ≡ i → Sends b i o
+  Asks : o.ns ≡ 0 → IsLost b ⊎ (o.nr ≡ 0) → Sends b i o
+  Leaves : IsLost b → ((l : Letter) → slice_get b.given o.ns ≡ Some l → IsStopCcn l.message) → Sends b i o
+
 -- how the two are linked
 pub data Linked (accs : Accounts) (n i : ℕ) (o : ControlOrigin) : Type 0 where
   FromOpener : (accs n i).part ≡ Acceptor → (accs n i).remote ≡ o.tunnel → (sender_in accs n i o).part ≡ Opener
-      → ((sender_in accs n i o).remote ≡ i) ⊎ ((o.ns ≡ 0) × (o.nr ≡ 0)) → Linked accs n i o
+      → Sends (sender_in accs n i o) i o → Linked accs n i o
   FromAcceptor : (accs n i).part ≡ Opener → (sender_in accs n i o).part ≡ Acceptor → (sender_in accs n i o).remote ≡ i
       → (sender_in accs n i o).peer ≡ n → Linked accs n i o
 
@@ -221,7 +243,7 @@ link_named accs n i o all some made remote peer =
     ⊎_elim
     (λ (k : b.part ≡ Opener).
     let opener = opener_of accs (accs n i).peer o.tunnel b ok k in
-    FromOpener (sym (ap (λ (x : Account). x.part) same) ∙ opener.part known) (sym (ap (λ (x : Account). x.remote) same) ∙ opener.remote known) k (inl remote))
+    FromOpener (sym (ap (λ (x : Account). x.part) same) ∙ opener.part known) (sym (ap (λ (x : Account). x.remote) same) ∙ opener.remote known) k (Chosen remote))
     (λ (k : b.part ≡ Acceptor).
     let acceptor = acceptor_of accs (accs n i).peer o.tunnel b ok k in
     FromAcceptor (sym (ap (λ (x : Account). x.part) same) ∙ acceptor.part) k remote peer)
@@ -250,8 +272,8 @@ sccrq_of accs m j ok made k l opening there is =
 -- where it is an SCCRQ that came again
 link_again : (accs : Accounts) (n i : ℕ) (o : ControlOrigin) → ((m j : ℕ) → AccountOk accs m j (accs m j)) → IsMade (accs n i) → IsMade (sender_in accs n i o)
     → (l : Letter) (opening : Opening) → slice_get (sender_in accs n i o).given o.ns ≡ Some l → l.message ≡ Sccrq opening → (accs n i).remote ≡ opening.tunnel
-    → o.nr ≡ 0 → Linked accs n i o
-link_again accs n i o all here made l opening there is remote nr =
+    → IsLost (sender_in accs n i o) ⊎ (o.nr ≡ 0) → Linked accs n i o
+link_again accs n i o all here made l opening there is remote how =
     let a = accs n i in
     let b = sender_in accs n i o in
     let asks = sccrq_of accs a.peer o.tunnel (all a.peer o.tunnel) made o.ns l opening there is in
@@ -264,7 +286,33 @@ link_again accs n i o all here made l opening there is remote nr =
     let part = (opener_of accs n i a (all n i) j).part known in
     let own = asks.0 in
     let no : ⊥ = (let p = ap (λ (x : Account). x.part) partner in cc) in absurd no)
-    (λ (j : a.part ≡ Acceptor). FromOpener j told asks.0 (inr (asks.1, nr)))
+    (λ (j : a.part ≡ Acceptor). FromOpener j told asks.0 (Asks asks.1 how))
+    (part_cases a.part here)
+
+-- where it is a StopCCN that names none
+link_stop : (accs : Accounts) (n i : ℕ) (o : ControlOrigin) → ((m j : ℕ) → AccountOk accs m j (accs m j)) → IsMade (accs n i)
+    → IsMade (sender_in accs n i o) → (sender_in accs n i o).peer ≡ n → (l : Letter) (r code : ℕ) (error : Option ℕ)
+    → slice_get (sender_in accs n i o).given o.ns ≡ Some l → l.message ≡ StopCcn r code error → (accs n i).remote ≡ r
+    → IsLost (sender_in accs n i o) ⊎ ((o.nr ≡ 0) × (o.ns ≡ 0)) → Linked accs n i o
+link_stop accs n i o all here made peer l r code error there is remote how =
+    let a = accs n i in
+    let b = sender_in accs n i o in
+    let own = all_at (λ (x : Letter). TellsOwn o.tunnel x.message) b.given o.ns l there (all a.peer o.tunnel).told in
+    let same : r ≡ o.tunnel = subst (TellsOwn o.tunnel) is own in
+    let told : a.remote ≡ o.tunnel = remote ∙ same in
+    let some = (all a.peer o.tunnel).some made in
+    let known = λ (z : a.remote ≡ 0). let no : ⊥ = omega arith in no in
+    let partner : partner_in accs a ≡ b = ap (λ q. accs a.peer q) told in
+    let stops = λ (x : Letter) (f : slice_get b.given o.ns ≡ Some x).
+    let the : l ≡ x = cc in
+    subst (λ (y : Letter). IsStopCcn y.message) the (subst IsStopCcn (sym is) tt) in
+    ⊎_elim
+    (λ (j : a.part ≡ Opener).
+    let opener = opener_of accs n i a (all n i) j in
+    FromAcceptor j (sym (ap (λ (x : Account). x.part) partner) ∙ opener.part known) (sym (ap (λ (x : Account). x.remote) partner) ∙ opener.remote known) peer)
+    (λ (j : a.part ≡ Acceptor).
+    FromOpener j told (sym (ap (λ (x : Account). x.part) partner) ∙ (acceptor_of accs n i a (all n i) j).part)
+    (⊎_elim (λ (lost : IsLost b). Leaves lost stops) (λ (z : (o.nr ≡ 0) × (o.ns ≡ 0)). Asks z.1 (inr z.0)) how))
     (part_cases a.part here)
 
 -- ---- what a peer's tunnel sent
@@ -380,22 +428,32 @@ module _ (codecs : Codecs) where
       (λ (k : h.tunnel ≡ t.control.local).
       let local = live.local in
       ⊎_elim
-      (λ (q : (h.tunnel ≡ 0) × (o.nr ≡ 0)). let z = q.0 in let no : ⊥ = omega arith in absurd no)
+      (λ (q : (h.tunnel ≡ 0) × (IsLost b ⊎ ((o.nr ≡ 0) × (o.empty ≡ false → o.ns ≡ 0)))). let z = q.0 in let no : ⊥ = omega arith in absurd no)
       (λ (q : (h.tunnel ≡ 0 → ⊥) × (h.tunnel ≡ b.remote)). link_named accs n i o all some made (sym q.1 ∙ k ∙ local) peer)
       read.tunnel)
+      (λ other. ⊎_elim
       (λ (k : IsAgain h bytes t.control).
-      let nr : o.nr ≡ 0 = ⊎_elim
-      (λ (q : (h.tunnel ≡ 0) × (o.nr ≡ 0)). q.1)
-      (λ (q : (h.tunnel ≡ 0 → ⊥) × (h.tunnel ≡ b.remote)). absurd (q.0 k.none))
-      read.tunnel in
+      let how : IsLost b ⊎ (o.nr ≡ 0) = ⊎_elim (λ (lost : IsLost b). inl lost) (λ (q : (o.nr ≡ 0) × (o.empty ≡ false → o.ns ≡ 0)). inr q.0)
+      (unnamed b o h.tunnel read.tunnel k.none) in
       ⊎_elim
       (λ (q : IsLetterRead b o h bytes).
       let said = q.said in
       let asked = k.said in
       let is : q.letter.message ≡ Sccrq k.opening = cc in
-      link_again accs n i o all here made q.letter k.opening q.there is (sym live.remote ∙ k.known) nr)
+      link_again accs n i o all here made q.letter k.opening q.there is (sym live.remote ∙ k.known) how)
       (λ (q : IsNoneRead o h bytes). absurd (no_message codecs (Sccrq k.opening) (let s = k.said in rw q.body at s)))
       read.says)
+      (λ (k : IsStop h bytes t.control).
+      ⊎_elim
+      (λ (q : IsLetterRead b o h bytes).
+      let tells = stops_by (body_of h bytes) q.letter.message t.control.remote q.said k.stops in
+      let how : IsLost b ⊎ ((o.nr ≡ 0) × (o.ns ≡ 0)) = ⊎_elim (λ (lost : IsLost b). inl lost)
+      (λ (z : (o.nr ≡ 0) × (o.empty ≡ false → o.ns ≡ 0)). inr (z.0, z.1 q.some))
+      (unnamed b o h.tunnel read.tunnel k.none) in
+      link_stop accs n i o all here made peer q.letter t.control.remote tells.code tells.error q.there tells.is (sym live.remote) how)
+      (λ (q : IsNoneRead o h bytes). absurd (no_stop codecs t.control.remote (let s = k.stops in rw q.body at s)))
+      read.says)
+      other)
       is_for
 
   pub heard : (accs : Accounts) (n : ℕ) (e : End) (sender : Option Sender) (ev : Event) (within : Within accs n e sender ev) (i : ℕ) (t : Tunnel)
@@ -419,272 +477,3 @@ module _ (codecs : Codecs) where
         linked = link_of accs n i t o h bytes within.accounts live copy.made (sym copy.to ∙ f.to) said hears.tunnel;
         again = f.again;
       }
-
--- ---- two tunnels that have learned each other
-
-abbrev pub IsPaired : Accounts → ℕ → ℕ → Type 0
-IsPaired accs n i =
-    (((accs n i).part ≡ Opener) × ((accs n i).remote ≡ 0 → ⊥)) ⊎ (((accs n i).part ≡ Acceptor) × ((partner_in accs (accs n i)).remote ≡ i))
-
-pub swap_joined : (a b : Account) → AreJoined a b → AreJoined b a
-swap_joined a b h = record { here = h.there; there = h.here; few_here = h.few_there; few_there = h.few_here }
-
-acceptor_made : (a : Account) → a.part ≡ Acceptor → IsMade a
-acceptor_made a e z = cc
-
--- an acceptor that its opener has learned is that one's partner
-partner_back : (accs : Accounts) (n i : ℕ) → IsAcceptor accs n i (accs n i) → (partner_in accs (accs n i)).remote ≡ i
-    → partner_in accs (partner_in accs (accs n i)) ≡ accs n i
-partner_back accs n i acceptor chosen = let p = acceptor.peer in cc
-
-pub joined_pair : (accs : Accounts) (n i : ℕ) → ((m j : ℕ) → AccountOk accs m j (accs m j)) → IsPaired accs n i
-    → AreJoined (accs n i) (partner_in accs (accs n i))
-joined_pair accs n i all pair =
-    let a = accs n i in
-    ⊎_elim
-    (λ (k : (a.part ≡ Opener) × (a.remote ≡ 0 → ⊥)). (opener_of accs n i a (all n i) k.0).joined k.1)
-    (λ (k : (a.part ≡ Acceptor) × ((partner_in accs a).remote ≡ i)).
-    let acceptor = acceptor_of accs n i a (all n i) k.0 in
-    let some = (all n i).some (acceptor_made a k.0) in
-    let b = partner_in accs a in
-    let opener = opener_of accs a.peer a.remote b (all a.peer a.remote) acceptor.part in
-    let known = λ (z : b.remote ≡ 0). let c = k.1 in let no : ⊥ = omega arith in no in
-    let same = partner_back accs n i acceptor k.1 in
-    swap_joined b a (subst (λ (x : Account). AreJoined b x) same (opener.joined known)))
-    pair
-
--- ---- the next letter
-
--- what a tunnel takes is of the tunnel that it has learned, which has learned it, or it is the SCCRP of an acceptor of its
--- SCCRQ
-pub data TakesOf (accs : Accounts) (n i : ℕ) (o : ControlOrigin) (l : Letter) : Type 0 where
-  OfPartner : IsPaired accs n i → (accs n i).remote ≡ o.tunnel → TakesOf accs n i o l
-  OfFirst : (accs n i).part ≡ Opener → (accs n i).remote ≡ 0 → (accs n i).taken ≡ [] → (sender_in accs n i o).part ≡ Acceptor
-      → (sender_in accs n i o).remote ≡ i → (sender_in accs n i o).peer ≡ n → (opening : Opening) → l.message ≡ Sccrp opening
-      → opening.tunnel ≡ o.tunnel → TakesOf accs n i o l
-
-pub record HeardNext (accs : Accounts) (n i : ℕ) (o : ControlOrigin) (h : Header) (bytes : List ℕ) : Type 0 where
-  pub letter : Letter
-  pub there : slice_get (sender_in accs n i o).given (length (accs n i).taken) ≡ Some letter
-  pub number : o.ns ≡ length (accs n i).taken
-  pub session : h.session ≡ letter.session
-  pub said : message_in (body_of h bytes) ≡ Ok letter.message
-  pub spelled : IsSpelled letter
-  pub of : TakesOf accs n i o letter
-
-pub first_is : (i : ℕ) (says : Opening → Message) (given : List Letter) → BeginsWith i says given → (l : Letter) → slice_get given 0 ≡ Some l
-    → (opening : Opening) × (l.message ≡ says opening) × (opening.tunnel ≡ i)
-first_is i says given begins l there =
-    let is : slice_get (begins.first ∷ begins.rest) 0 ≡ Some l = (let a = begins.are in rw a at there) in
-    let same : begins.first ≡ l = cc in
-    (begins.opening, subst (λ (x : Letter). x.message ≡ says begins.opening) same begins.says_so, begins.id)
-
--- a tunnel that names its partner isn't chosen by it, where that one has learned another id, or none
-pub not_chosen : (accs : Accounts) (n i : ℕ) (o : ControlOrigin) → (sender_in accs n i o).remote ≡ i → (sender_in accs n i o).peer ≡ n
-    → ((accs n i).remote ≡ o.tunnel → ⊥) → (partner_in accs (sender_in accs n i o)).remote ≡ o.tunnel → ⊥
-not_chosen accs n i o remote peer apart chosen =
-    let b = sender_in accs n i o in
-    let same : partner_in accs b ≡ accs n i = cc in
-    apart (sym (ap (λ (x : Account). x.remote) same) ∙ chosen)
-
-none_or_one : {X : Type 0} (k : ℕ) → k ≤ 1 → X → (k ≡ 0) ⊎ ((k ≡ 1) × X)
-none_or_one k le x = ⊎_elim (λ (z : k ≡ 0). inl z) (λ (z : k ≡ 0 → ⊥). inr (omega arith, x)) (same_or_not k 0)
-
-module _ (classes : ClassIsTrue) (accs : Accounts) (n : ℕ) (e : End) (sender : Option Sender) (ev : Event) (within : Within accs n e sender ev)
-    (i : ℕ) (t : Tunnel) (there : at e.tunnels i ≡ Some t) (h : Header) (bytes : List ℕ) (k : Heard accs n e sender ev within.comes i t h bytes) where
-  same_partner : (accs n i).remote ≡ k.o.tunnel → partner_in accs (accs n i) ≡ sender_in accs n i k.o
-  same_partner told = ap (λ (r : ℕ). accs (accs n i).peer r) told
-
-  -- an opener that has learned the sender, or an acceptor that the sender has learned, is its pair
-  opener_paired : (accs n i).part ≡ Opener → (accs n i).remote ≡ k.o.tunnel → IsPaired accs n i
-  opener_paired here told =
-      let from = (within.accounts (accs n i).peer k.o.tunnel).some k.made in
-      inl (here, λ z. let no : ⊥ = omega arith in no)
-
-  acceptor_paired : (accs n i).part ≡ Acceptor → (accs n i).remote ≡ k.o.tunnel → (sender_in accs n i k.o).remote ≡ i → IsPaired accs n i
-  acceptor_paired here told chosen = inr (here, ap (λ (x : Account). x.remote) (same_partner told) ∙ chosen)
-
-  -- an acceptor that isn't learned took one letter, and gave one
-  acceptor_alone : (sender_in accs n i k.o).part ≡ Acceptor → (sender_in accs n i k.o).remote ≡ i → (sender_in accs n i k.o).peer ≡ n
-      → ((accs n i).remote ≡ k.o.tunnel → ⊥) → (length (sender_in accs n i k.o).taken ≡ 1) × (length (sender_in accs n i k.o).given ≡ 1)
-  acceptor_alone part remote peer apart =
-      let acceptor = acceptor_of accs (accs n i).peer k.o.tunnel (sender_in accs n i k.o) (within.accounts (accs n i).peer k.o.tunnel) part in
-      let no = not_chosen accs n i k.o remote peer apart in
-      (acceptor.one_taken no, acceptor.one_given no)
-
-  -- ---- Ns
-
-  few_of_pair : IsPaired accs n i → (accs n i).remote ≡ k.o.tunnel → IsLetterRead (sender_in accs n i k.o) k.o h bytes
-      → k.o.ns ≤ length (accs n i).taken + 8192
-  few_of_pair pair told q =
-      let joined = joined_pair accs n i within.accounts pair in
-      let few = joined.few_there in
-      let more : length (sender_in accs n i k.o).given ≤ length (accs n i).taken + 8192 = rw (same_partner told) at few in
-      let bound = slice_get_within (sender_in accs n i k.o).given k.o.ns q.letter q.there in
-      omega arith
-
-  -- no letter is far ahead of those that were taken
-  pub ns_few : IsLetterRead (sender_in accs n i k.o) k.o h bytes → k.o.ns ≤ length (accs n i).taken + 8192
-  ns_few q = by k.linked
-    where
-      by : Linked accs n i k.o → k.o.ns ≤ length (accs n i).taken + 8192
-      by (FromOpener here told part which) =
-          ⊎_elim
-          (λ (chosen : (sender_in accs n i k.o).remote ≡ i). few_of_pair (acceptor_paired here told chosen) told q)
-          (λ (z : (k.o.ns ≡ 0) × (k.o.nr ≡ 0)). let first = z.0 in omega arith)
-          which
-      by (FromAcceptor here part remote peer) =
-          ⊎_elim
-          (λ (told : (accs n i).remote ≡ k.o.tunnel). few_of_pair (opener_paired here told) told q)
-          (λ (apart : (accs n i).remote ≡ k.o.tunnel → ⊥).
-          let one = (acceptor_alone part remote peer apart).1 in
-          let bound = slice_get_within (sender_in accs n i k.o).given k.o.ns q.letter q.there in
-          omega arith)
-          (same_or_not (accs n i).remote k.o.tunnel)
-
-  -- the number of the next one is how many were taken
-  number_is : class_of (unwrap_or h.ns 0) t.control.channel.inbox ≡ Next → k.o.ns ≤ length (accs n i).taken + 8192 → k.o.ns ≡ length (accs n i).taken
-  number_is next few =
-      let live = within.end.live i t there in
-      let taken = live.taken in
-      let near = k.near.taken in
-      next_is_expected classes k.o.ns t.control.channel.inbox (omega arith) (omega arith) (let r = k.read.ns in rw r at next) ∙ taken
-
-  -- of an acceptor that the opener hasn't learned it is the first letter of all
-  first_of : k.o.ns ≡ length (accs n i).taken → (accs n i).part ≡ Opener → (sender_in accs n i k.o).part ≡ Acceptor
-      → (sender_in accs n i k.o).remote ≡ i → (sender_in accs n i k.o).peer ≡ n → ((accs n i).remote ≡ k.o.tunnel → ⊥) → (l : Letter)
-      → slice_get (sender_in accs n i k.o).given k.o.ns ≡ Some l → TakesOf accs n i k.o l
-  first_of number here part remote peer apart l x =
-      let a = accs n i in
-      let b = sender_in accs n i k.o in
-      let opener = opener_of accs n i a (within.accounts n i) here in
-      let one = (acceptor_alone part remote peer apart).1 in
-      let bound = slice_get_within b.given k.o.ns l x in
-      let zeroth : k.o.ns ≡ 0 = omega arith in
-      let acceptor = acceptor_of accs a.peer k.o.tunnel b (within.accounts a.peer k.o.tunnel) part in
-      ⊎_elim
-      (λ (z : a.remote ≡ 0).
-      let first = first_is k.o.tunnel Sccrp b.given acceptor.begins l (subst (λ (p : ℕ). slice_get b.given p ≡ Some l) zeroth x) in
-      OfFirst here z (opener.none z) part remote peer first.0 first.1 first.2)
-      (λ (z : a.remote ≡ 0 → ⊥). let some = opener.some z in let no : ⊥ = omega arith in absurd no)
-      (same_or_not a.remote 0)
-
-  takes_of : k.o.ns ≡ length (accs n i).taken → (l : Letter) → slice_get (sender_in accs n i k.o).given k.o.ns ≡ Some l → TakesOf accs n i k.o l
-  takes_of number l x = by k.linked
-    where
-      by : Linked accs n i k.o → TakesOf accs n i k.o l
-      by (FromOpener here told part which) =
-          ⊎_elim
-          (λ (chosen : (sender_in accs n i k.o).remote ≡ i). OfPartner (acceptor_paired here told chosen) told)
-          (λ (z : (k.o.ns ≡ 0) × (k.o.nr ≡ 0)).
-          let some = (acceptor_of accs n i (accs n i) (within.accounts n i) here).some in
-          let first = z.0 in
-          let no : ⊥ = omega arith in absurd no)
-          which
-      by (FromAcceptor here part remote peer) =
-          ⊎_elim
-          (λ (told : (accs n i).remote ≡ k.o.tunnel). OfPartner (opener_paired here told) told)
-          (λ (apart : (accs n i).remote ≡ k.o.tunnel → ⊥). first_of number here part remote peer apart l x)
-          (same_or_not (accs n i).remote k.o.tunnel)
-
-  pub next_heard : IsLetterRead (sender_in accs n i k.o) k.o h bytes → class_of (unwrap_or h.ns 0) t.control.channel.inbox ≡ Next
-      → HeardNext accs n i k.o h bytes
-  next_heard q next =
-      let number = number_is next (ns_few q) in
-      record {
-        letter = q.letter;
-        there = subst (λ (p : ℕ). slice_get (sender_in accs n i k.o).given p ≡ Some q.letter) number q.there;
-        number = number;
-        session = q.session;
-        said = q.said;
-        spelled = q.spelled;
-        of = takes_of number q.letter q.there;
-      }
-
-  -- ---- Nr
-
-  nr_of_pair : IsPaired accs n i → (accs n i).remote ≡ k.o.tunnel → k.o.nr ≤ length (accs n i).given
-  nr_of_pair pair told =
-      let joined = joined_pair accs n i within.accounts pair in
-      let some = joined.there in
-      let more : length (sender_in accs n i k.o).taken ≤ length (accs n i).given = rw (same_partner told) at some in
-      let nr = k.nr in
-      omega arith
-
-  -- it tells no more letters than were given
-  pub nr_few : k.o.nr ≤ length (accs n i).given
-  nr_few = by k.linked
-    where
-      by : Linked accs n i k.o → k.o.nr ≤ length (accs n i).given
-      by (FromOpener here told part which) =
-          ⊎_elim
-          (λ (chosen : (sender_in accs n i k.o).remote ≡ i). nr_of_pair (acceptor_paired here told chosen) told)
-          (λ (z : (k.o.ns ≡ 0) × (k.o.nr ≡ 0)). let none = z.1 in omega arith)
-          which
-      by (FromAcceptor here part remote peer) =
-          ⊎_elim
-          (λ (told : (accs n i).remote ≡ k.o.tunnel). nr_of_pair (opener_paired here told) told)
-          (λ (apart : (accs n i).remote ≡ k.o.tunnel → ⊥).
-          let one = (acceptor_alone part remote peer apart).0 in
-          let begins = (opener_of accs n i (accs n i) (within.accounts n i) here).begins in
-          let first = ap (λ (ls : List Letter). length ls) begins.are in
-          let nr = k.nr in
-          omega arith)
-          (same_or_not (accs n i).remote k.o.tunnel)
-
-  -- and letters that were taken
-  pub nr_taken : AreAcked accs n i (accs n i) k.o.nr (accs n i).part
-  nr_taken = by k.linked
-    where
-      by : Linked accs n i k.o → AreAcked accs n i (accs n i) k.o.nr (accs n i).part
-      by (FromOpener here told part which) =
-          let nr = k.nr in
-          let same = same_partner told in
-          let most : k.o.nr ≤ length (partner_in accs (accs n i)).taken = rw same nr in
-          let none = λ (apart : (partner_in accs (accs n i)).remote ≡ i → ⊥).
-          ⊎_elim
-          (λ (chosen : (sender_in accs n i k.o).remote ≡ i). absurd (apart (ap (λ (x : Account). x.remote) same ∙ chosen)))
-          (λ (z : (k.o.ns ≡ 0) × (k.o.nr ≡ 0)). z.1)
-          which in
-          subst (AreAcked accs n i (accs n i) k.o.nr) (sym here) (none, λ c. most)
-      by (FromAcceptor here part remote peer) =
-          let nr = k.nr in
-          ⊎_elim
-          (λ (told : (accs n i).remote ≡ k.o.tunnel).
-          let most : k.o.nr ≤ length (partner_in accs (accs n i)).taken = rw (same_partner told) nr in
-          let from = (within.accounts (accs n i).peer k.o.tunnel).some k.made in
-          subst (AreAcked accs n i (accs n i) k.o.nr) (sym here) (λ z. (let no : ⊥ = omega arith in absurd no), λ z. most))
-          (λ (apart : (accs n i).remote ≡ k.o.tunnel → ⊥).
-          let one = (acceptor_alone part remote peer apart).0 in
-          let answered : IsAnswered accs n i (accs n i) = record { acceptor = k.o.tunnel; part = part; peer = peer; remote = remote } in
-          let opener = opener_of accs n i (accs n i) (within.accounts n i) here in
-          subst (AreAcked accs n i (accs n i) k.o.nr) (sym here) (
-            λ z. none_or_one k.o.nr (omega arith) answered,
-            λ z.
-                let mate = within.accounts (accs n i).peer (accs n i).remote in
-                let taken = (acceptor_of accs (accs n i).peer (accs n i).remote (partner_in accs (accs n i)) mate (opener.part z)).some in
-                omega arith,
-          ))
-          (same_or_not (accs n i).remote k.o.tunnel)
-
--- ---- a letter that is the next one, with what it says
-
-pub record Said (accs : Accounts) (n : ℕ) (e : End) (sender : Option Sender) (ev : Event) (comes : Comes accs n e sender ev) (i : ℕ) (t : Tunnel) (h : Header)
-    (bytes : List ℕ) (session : ℕ) (m : Message) : Type 0 where
-  pub heard : Heard accs n e sender ev comes i t h bytes
-  pub next : HeardNext accs n i heard.o h bytes
-  pub message : next.letter.message ≡ m
-  pub session_is : next.letter.session ≡ session
-
-pub said_so : Codecs → ClassIsTrue → (accs : Accounts) (n : ℕ) (e : End) (sender : Option Sender) (ev : Event) (within : Within accs n e sender ev) (i : ℕ)
-    (t : Tunnel) → at e.tunnels i ≡ Some t → (session : ℕ) (m : Message) (k : HearsNext ev t.control session m)
-    → Said accs n e sender ev within.comes i t k.hears.header k.hears.bytes session m
-said_so codecs classes accs n e sender ev within i t there session m k =
-    let h = k.hears.header in
-    let bytes = k.hears.bytes in
-    let from = heard codecs accs n e sender ev within i t there h bytes (heard_of ev t.control session m k) in
-    let next = next_heard classes accs n e sender ev within i t there h bytes from
-    (letter_said codecs (sender_in accs n i from.o) from.o h bytes m from.read k.hears.said) k.next in
-    let was = next.said in
-    let is = k.hears.said in
-    record { heard = from; next = next; message = cc; session_is = sym next.session ∙ k.hears.session_is }

@@ -1,5 +1,5 @@
 -- What is known of tunnels goes on to hold where more is known of them.
-use Rattle.std.proofs.Common.{◌≡◌, ◌⊎◌, inl, inr, ⊎_elim, ℕ, zero, suc, ◌<◌, ◌≤◌, List, [], ◌∷◌, ◌++◌, length, slice_get, refl, sym, ap, ap₂, ◌∙◌, subst, append_assoc, append-nil, Some, arith, eq-eqb, ne_eqb}
+use Rattle.std.proofs.Common.{◌≡◌, ◌⊎◌, inl, inr, ⊎_elim, ℕ, zero, suc, ◌<◌, ◌≤◌, List, [], ◌∷◌, ◌++◌, length, slice_get, false, refl, sym, ap, ap₂, ◌∙◌, subst, Option, append_assoc, append-nil, Some, arith, eq-eqb, ne_eqb}
 use Rattle.std.proofs.lemmas.List.{length-append}
 use mathlib.Core.Path.{fun_ext}
 use Rattle.id_table.specs.Order.{same_or_not}
@@ -10,11 +10,12 @@ use Rattle.protocol_model.specs.declared.out.ControlOrigin.{ControlOrigin}
 use Rattle.protocol_model.specs.declared.moves.Place.{Place}
 use Rattle.protocol_model.specs.declared.moves.Move.{Move}
 use Rattle.protocol_model.specs.declared.moves.Move.TheVariants as move
+use Rattle.tunnel_fsm.specs.Rows.{state_number}
 use Rattle.protocol_model.specs.Turn.{Tunnel}
 use Rattle.protocol_model.specs.World.{Sender, Deed}
 use Rattle.step_laws.specs.Letters.{Letter}
 use Rattle.connection_laws.specs.Accounts.{Part, Unmade, Opener, Acceptor, Taken, Account, partner_of, about, entered, entered_by, takes_at, gives_also}
-use Rattle.connection_laws.specs.Facts.{Accounts, IsMade, IsTaken, AreTaken, AreJoined, partner_in, IsOpener, IsAcceptor, IsPart, AccountOk, IsAnswered, IsInState, AreAcked, LiveOk, Says, ALetter, Nothing, IsCopy, OriginOk, PacketOk}
+use Rattle.connection_laws.specs.Facts.{Accounts, IsMade, IsTaken, AreTaken, IsOpen, IsLost, AreJoined, partner_in, IsOpener, IsAcceptor, IsPart, AccountOk, IsAnswered, IsShut, IsInState, AreAcked, LiveOk, Says, ALetter, Nothing, IsCopy, OriginOk, PacketOk}
 use Rattle.connection_laws.proofs.Keeps.{after}
 use Rattle.connection_laws.proofs.Puts.{Extends, IsOnly, StaysJoined}
 
@@ -31,6 +32,7 @@ extends_same a = record {
   part = inr refl;
   peer = λ made. refl;
   remote = inr refl;
+  closed = inr refl;
   given = ([], sym (append-nil a.given));
   taken = ([], sym (append-nil a.taken));
 }
@@ -42,13 +44,32 @@ pub part_on : (a b : Account) → Extends a b → IsMade a → b.part ≡ a.part
 part_on a b g made = ⊎_elim (λ u. absurd (made u)) (λ same. same) g.part
 
 pub remote_on : (a b : Account) → Extends a b → (a.remote ≡ 0 → ⊥) → b.remote ≡ a.remote
-remote_on a b g some = ⊎_elim (λ u. absurd (some u)) (λ same. same) g.remote
+remote_on a b g some = ⊎_elim (λ u. absurd (some u.1)) (λ same. same) g.remote
+
+-- what is open was, and what is lost stays so
+pub open_on : (a b : Account) → Extends a b → IsOpen b → IsOpen a
+open_on a b g is_open = ⊎_elim (λ (was : IsOpen a). was) (λ (same : b.closed ≡ a.closed). sym same ∙ is_open) g.closed
+
+not_open : (a : Account) → IsLost a → IsOpen a → ⊥
+not_open a lost is_open = let is = lost.0 in let clash : ⊥ = cc in clash
+
+pub lost_on : (a b : Account) → Extends a b → IsLost a → IsLost b
+lost_on a b g lost = (
+  ⊎_elim (λ (was : IsOpen a). absurd (not_open a lost was)) (λ (same : b.closed ≡ a.closed). same ∙ lost.0) g.closed,
+  ⊎_elim (λ (was : IsOpen a × (a.remote ≡ 0)). absurd (not_open a lost was.0)) (λ (same : b.remote ≡ a.remote). same ∙ lost.1) g.remote,
+)
 
 pub extends_on : (a b c : Account) → Extends a b → Extends b c → Extends a c
 extends_on a b c g h = record {
   part = ⊎_elim (λ u. inl u) (λ same. ⊎_elim (λ u. inl (sym same ∙ u)) (λ again. inr (again ∙ same)) h.part) g.part;
   peer = λ made. h.peer (made_on a b g made) ∙ g.peer made;
-  remote = ⊎_elim (λ u. inl u) (λ same. ⊎_elim (λ u. inl (sym same ∙ u)) (λ again. inr (again ∙ same)) h.remote) g.remote;
+  remote = ⊎_elim (λ u. inl u)
+      (λ (same : b.remote ≡ a.remote).
+      ⊎_elim (λ (u : IsOpen b × (b.remote ≡ 0)). inl (open_on a b g u.0, sym same ∙ u.1)) (λ again. inr (again ∙ same)) h.remote)
+      g.remote;
+  closed = ⊎_elim (λ u. inl u)
+      (λ (same : b.closed ≡ a.closed). ⊎_elim (λ (u : IsOpen b). inl (sym same ∙ u)) (λ again. inr (again ∙ same)) h.closed)
+      g.closed;
   given = (g.given.0 ++ h.given.0, h.given.1 ∙ ap (λ l. l ++ h.given.0) g.given.1 ∙ append_assoc a.given g.given.0 h.given.0);
   taken = (g.taken.0 ++ h.taken.0, h.taken.1 ∙ ap (λ l. l ++ h.taken.0) g.taken.1 ∙ append_assoc a.taken g.taken.0 h.taken.0);
 }
@@ -97,7 +118,7 @@ is_taken_later accs ms g a number t h = record {
 }
 
 pub are_taken_later : (accs ms : Accounts) → AllExtend accs ms → (a : Account) → AreTaken accs a → AreTaken ms a
-are_taken_later accs ms g a h number t there = is_taken_later accs ms g a number t (h number t there)
+are_taken_later accs ms g a h number t there lt = is_taken_later accs ms g a number t (h number t there lt)
 
 -- the partner of a tunnel that has one stays
 pub known_partner : (a : Account) (p : Sender) → partner_of a ≡ Some p → a.remote ≡ 0 → ⊥
@@ -155,6 +176,7 @@ module _ (accs ms : Accounts) (n i : ℕ) (only : IsOnly accs ms n i) where
     opener_later stays h = record {
       begins = h.begins;
       none = h.none;
+      one_given = h.one_given;
       some = h.some;
       part = part;
       peer = peer;
@@ -192,7 +214,8 @@ module _ (accs ms : Accounts) (n i : ℕ) (only : IsOnly accs ms n i) where
           some = h.some;
           part = part_on b c g made ∙ h.part;
           peer = g.peer made ∙ h.peer;
-          one_taken = λ no. h.one_taken (λ named. no (named_still named));
+          one_taken = λ no. ⊎_elim (λ one. inl one) (λ (lost : IsLost b × (length a.taken ≤ 2)). inr (lost_on b c g lost.0, lost.1))
+              (h.one_taken (λ named. no (named_still named)));
           one_given = λ no. h.one_given (λ named. no (named_still named));
         }
 
@@ -206,7 +229,9 @@ module _ (accs ms : Accounts) (n i : ℕ) (only : IsOnly accs ms n i) where
     peer = h.peer;
     remote = h.remote;
     spelled = h.spelled;
+    told = h.told;
     taken = are_taken_later accs ms grown (accs m j) h.taken;
+    ignored = h.ignored;
   }
     where
       by : (p : Part) → (accs m j).part ≡ p → IsPart accs m j (accs m j) p → IsPart ms m j (accs m j) p
@@ -228,10 +253,17 @@ module _ (accs ms : Accounts) (grown : AllExtend accs ms) (n i : ℕ) (some : 0 
   pub in_state_later : (a : Account) (t : Tunnel) (p : Part) → IsInState accs i a t p → IsInState ms i a t p
   in_state_later a t Unmade h = h
   in_state_later a t Opener h = h
-  in_state_later a t Acceptor h = ⊎_elim (λ waits. inl waits) (λ is_open. inr (is_open.0, partner_names a is_open.1)) h
+  in_state_later a t Acceptor h =
+      ⊎_elim
+      (λ (waits : (state_number t.control.state ≡ 2) × (t.calls ≡ []) × IsOpen a). inl waits)
+      (λ rest. ⊎_elim
+      (λ (k : (state_number t.control.state ≡ 3) × ((partner_in accs a).remote ≡ i) × IsOpen a). inr (inl (k.0, partner_names a k.1, k.2)))
+      (λ (k : IsShut a t). inr (inr k))
+      rest)
+      h
 
-  answered_later : (a : Account) → IsAnswered accs n i a → IsAnswered ms n i a
-  answered_later a h =
+  answered_later : (a : Account) (acked : ℕ) → IsAnswered accs n i a acked → IsAnswered ms n i a acked
+  answered_later a acked h =
       let b = accs a.peer h.acceptor in
       let c = ms a.peer h.acceptor in
       let g = grown a.peer h.acceptor in
@@ -241,22 +273,28 @@ module _ (accs ms : Accounts) (grown : AllExtend accs ms) (n i : ℕ) (some : 0 
         part = part_on b c g made ∙ h.part;
         peer = g.peer made ∙ h.peer;
         remote = remote_on b c g (not_zero b.remote i h.remote some) ∙ h.remote;
+        enough = (let le = h.enough in let more = more_taken b c g in omega arith);
       }
 
   more_of_partner : (a : Account) → length (partner_in accs a).taken ≤ length (partner_in ms a).taken
   more_of_partner a = more_taken (partner_in accs a) (partner_in ms a) (grown a.peer a.remote)
 
+  lost_later : (a : Account) → IsLost (partner_in accs a) → IsLost (partner_in ms a)
+  lost_later a lost = lost_on (partner_in accs a) (partner_in ms a) (grown a.peer a.remote) lost
+
   pub are_acked_later : (a : Account) (acked : ℕ) (p : Part) → AreAcked accs n i a acked p → AreAcked ms n i a acked p
   are_acked_later a acked Unmade h = h
   are_acked_later a acked Opener h = (
-    (λ none. ⊎_elim (λ no. inl no) (λ one. inr (one.0, answered_later a one.1)) (h.0 none)),
+    (λ none. ⊎_elim (λ no. inl no) (λ (one : IsAnswered accs n i a acked). inr (answered_later a acked one)) (h.0 none)),
     (λ known. let le = h.1 known in let more = more_of_partner a in omega arith),
   )
   are_acked_later a acked Acceptor h = (
-    (λ no. h.0 (λ named. no (partner_names a named))),
+    (λ no. ⊎_elim (λ none. inl none) (λ (lost : IsLost (partner_in accs a)). inr (lost_later a lost)) (h.0 (λ named. no (partner_names a named)))),
     (λ named. ⊎_elim
         (λ (before : (partner_in accs a).remote ≡ i). let le = h.1 before in let more = more_of_partner a in omega arith)
-        (λ no. let none : acked ≡ 0 = h.0 no in omega (arith, none))
+        (λ no. ⊎_elim (λ (none : acked ≡ 0). omega (arith, none))
+        (λ (lost : IsLost (partner_in accs a)). let z = (lost_later a lost).1 in absurd (omega (arith, named, z, some)))
+        (h.0 no))
         (same_or_not (partner_in accs a).remote i)),
   )
 
@@ -288,7 +326,10 @@ copy_later a b g p o h = record {
   to = h.to ∙ sym (g.peer h.made);
   nr = (let le = h.nr in let more = more_taken a b g in omega arith);
   tunnel = h.tunnel;
-  named = ⊎_elim (λ none. inl none) (λ some. inr (some.0, some.1 ∙ sym (remote_on a b g (λ none. some.0 (some.1 ∙ none))))) h.named;
+  named = ⊎_elim
+      (λ (none : (h.tunnel ≡ 0) × (IsLost a ⊎ ((o.nr ≡ 0) × (o.empty ≡ false → o.ns ≡ 0)))).
+      inl (none.0, ⊎_elim (λ (lost : IsLost a). inl (lost_on a b g lost)) (λ first. inr first) none.1))
+      (λ some. inr (some.0, some.1 ∙ sym (remote_on a b g (λ none. some.0 (some.1 ∙ none))))) h.named;
   says = says_later a b g o h.tunnel p.bytes h.says;
 }
 
@@ -311,11 +352,13 @@ after_there accs d m j apart =
     (λ other. rw (ne_eqb d.node m other) refl)
     (same_or_not d.node m)
 
--- what a tunnel is before a move that makes it, or that learns its partner's id
+-- what a tunnel is before a move that makes it, that learns its partner's id, or that closes it
 abbrev pub MayEnter : Move → Account → Type 0
 MayEnter (move.Opened m) a = a.part ≡ Unmade
-MayEnter (move.Accepted m) a = (a.part ≡ Unmade) × (a.remote ≡ 0)
-MayEnter (move.Connected m) a = a.remote ≡ 0
+MayEnter (move.Accepted m) a = (a.part ≡ Unmade) × (a.remote ≡ 0) × IsOpen a
+MayEnter (move.Connected m) a = (a.remote ≡ 0) × IsOpen a
+MayEnter (move.Closed m) a = (m.remote ≡ a.remote) × IsOpen a
+MayEnter (move.ClosedBy m) a = IsOpen a
 MayEnter m a = Unit {0}
 
 gives_extends : (d : Deed) (a b : Account) → Extends a b → Extends a (gives_also d b)
@@ -323,6 +366,7 @@ gives_extends d a b g = extends_on a b (gives_also d b) g (record {
   part = inr refl;
   peer = λ made. refl;
   remote = inr refl;
+  closed = inr refl;
   given = (_, refl);
   taken = ([], sym (append-nil b.taken));
 })
@@ -332,6 +376,7 @@ takes_extends d place a b g = extends_on a b (takes_at d place b) g (record {
   part = inr refl;
   peer = λ made. refl;
   remote = inr refl;
+  closed = inr refl;
   given = ([], sym (append-nil b.given));
   taken = (_, refl);
 })
@@ -341,32 +386,47 @@ opens_extends a peer none = record {
   part = inl none;
   peer = λ made. absurd (made none);
   remote = inr refl;
+  closed = inr refl;
   given = ([], sym (append-nil a.given));
   taken = ([], sym (append-nil a.taken));
 }
 
-accepts_extends : (a : Account) (peer remote : ℕ) → a.part ≡ Unmade → a.remote ≡ 0 → Extends a (record a { part = Acceptor; peer = peer; remote = remote })
-accepts_extends a peer remote none unknown = record {
+accepts_extends : (a : Account) (peer remote : ℕ) → a.part ≡ Unmade → a.remote ≡ 0 → IsOpen a
+    → Extends a (record a { part = Acceptor; peer = peer; remote = remote })
+accepts_extends a peer remote none unknown is_open = record {
   part = inl none;
   peer = λ made. absurd (made none);
-  remote = inl unknown;
+  remote = inl (is_open, unknown);
+  closed = inr refl;
   given = ([], sym (append-nil a.given));
   taken = ([], sym (append-nil a.taken));
 }
 
-learns_extends : (a : Account) (remote : ℕ) → a.remote ≡ 0 → Extends a (record a { remote = remote })
-learns_extends a remote unknown = record {
+learns_extends : (a : Account) (remote : ℕ) → a.remote ≡ 0 → IsOpen a → Extends a (record a { remote = remote })
+learns_extends a remote unknown is_open = record {
   part = inr refl;
   peer = λ made. refl;
-  remote = inl unknown;
+  remote = inl (is_open, unknown);
+  closed = inr refl;
+  given = ([], sym (append-nil a.given));
+  taken = ([], sym (append-nil a.taken));
+}
+
+closes_extends : (a : Account) (remote : ℕ) (closed : Option ℕ) → remote ≡ a.remote → IsOpen a
+    → Extends a (record a { remote = remote; closed = closed })
+closes_extends a remote closed same is_open = record {
+  part = inr refl;
+  peer = λ made. refl;
+  remote = inr same;
+  closed = inl is_open;
   given = ([], sym (append-nil a.given));
   taken = ([], sym (append-nil a.taken));
 }
 
 pub entered_extends : (d : Deed) (m : Move) (a : Account) → MayEnter m a → Extends a (entered_by d m a)
 entered_extends d (move.Opened m) a h = gives_extends d a _ (opens_extends a _ h)
-entered_extends d (move.Accepted m) a h = gives_extends d a _ (takes_extends d m.taken a _ (accepts_extends a _ m.remote h.0 h.1))
-entered_extends d (move.Connected m) a h = gives_extends d a _ (takes_extends d m.taken a _ (learns_extends a m.remote h))
+entered_extends d (move.Accepted m) a h = gives_extends d a _ (takes_extends d m.taken a _ (accepts_extends a _ m.remote h.0 h.1 h.2))
+entered_extends d (move.Connected m) a h = gives_extends d a _ (takes_extends d m.taken a _ (learns_extends a m.remote h.0 h.1))
 entered_extends d (move.Confirmed m) a h = takes_extends d m.taken a a (extends_same a)
 entered_extends d (move.Added m) a h = extends_same a
 entered_extends d (move.Requested m) a h = gives_extends d a a (extends_same a)
@@ -377,6 +437,8 @@ entered_extends d (move.Refused m) a h = gives_extends d a _ (takes_extends d m.
 entered_extends d (move.EndTold m) a h = gives_extends d a a (extends_same a)
 entered_extends d (move.EndHeard m) a h = takes_extends d m.taken a a (extends_same a)
 entered_extends d (move.EndSilent m) a h = extends_same a
+entered_extends d (move.Closed m) a h = gives_extends d a _ (closes_extends a m.remote _ h.0 h.1)
+entered_extends d (move.ClosedBy m) a h = takes_extends d m.taken a _ (closes_extends a a.remote _ refl h)
 entered_extends d (move.Cleared i) a h = extends_same a
 entered_extends d (move.Greeted m) a h = gives_extends d a a (extends_same a)
 entered_extends d (move.TookPlain m) a h = takes_extends d m.taken a a (extends_same a)

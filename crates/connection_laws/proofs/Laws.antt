@@ -6,6 +6,7 @@ use Rattle.step_laws.specs.Ups.{ReadsAreFew}
 use Rattle.frame_laws.specs.Codecs.{Codecs}
 use Rattle.connection_laws.specs.Channels.{HoldsInRuns, LettersOfRuns, AcksOfRuns, NumbersOfRuns}
 use Rattle.connection_laws.proofs.Moves.{moves_keep}
+use Rattle.connection_laws.proofs.Closing.{closings_are_known}
 use Rattle.connection_laws.proofs.Worlds.{Laws}
 use Rattle.connection_laws.proofs.Runs.{holds_in_runs, lines_go_on}
 use Rattle.connection_laws.specs.Steps.{LinesGoOn}
@@ -14,7 +15,7 @@ use Rattle.connection_laws.proofs.Readings.{numbers_read}
 
 module _ (codecs : Codecs) (chains : StepsAreChains) (reads : ReadsAreFew) (classes : ClassIsTrue) where
   laws : Laws
-  laws = record { moves = moves_keep codecs classes; chains = chains; reads = reads }
+  laws = record { moves = moves_keep codecs classes; chains = chains; reads = reads; closings = closings_are_known codecs }
 
   pub facts_of_runs : HoldsInRuns
   facts_of_runs lines fits few = holds_in_runs codecs laws lines fits few

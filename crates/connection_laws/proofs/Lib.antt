@@ -1,6 +1,7 @@
 pub mod Keeps
 pub mod Puts
 pub mod Later
+pub mod States
 pub mod Put
 pub mod Removed
 pub mod Written
@@ -8,12 +9,17 @@ pub mod GoingOn
 pub mod Giving
 pub mod Beginning
 pub mod Numbers
+pub mod Stops
 pub mod Hearing
+pub mod NextHeard
 pub mod Said
 pub mod Acknowledging
 pub mod Taking
+pub mod Ignoring
 pub mod PairMoves
 pub mod Refusing
+pub mod Plainly
+pub mod Closing
 pub mod AnyHeard
 pub mod Connecting
 pub mod Accepting

@@ -8,7 +8,7 @@ use Rattle.id_table.specs.Order.{at_new, at_other, same_or_not, ascends-empty}
 use Rattle.wire_base.specs.declared.why.Why.{Why}
 use Rattle.wire_base.specs.declared.why.Why.TheVariants as why
 use Rattle.schedule_text.specs.declared.line.Line.{Line}
-use Rattle.schedule_text.specs.declared.line.Line.TheVariants.{Remark, Lac, Lns, OpenUp, Ring, FromSub, Down, Hang, DropCall, Deliver, Tick}
+use Rattle.schedule_text.specs.declared.line.Line.TheVariants.{Remark, Lac, Lns, OpenUp, Close, Ring, FromSub, Down, Hang, DropCall, Deliver, Tick}
 use Rattle.schedule_text.specs.Grammar.{FitsLine}
 use Rattle.protocol_model.specs.declared.event.Event.{Event}
 use Rattle.protocol_model.specs.declared.event.Event.TheVariants as event
@@ -19,8 +19,8 @@ use Rattle.protocol_model.specs.declared.tunnel.Role.{Role}
 use Rattle.protocol_model.specs.declared.tunnel.Role.TheVariants as role
 use Rattle.protocol_model.specs.Names.{address_of}
 use Rattle.protocol_model.specs.End.{new_end, step}
-use Rattle.step_laws.specs.Lines.{tested_not, is_lac_at, is_lns_at, is_declared, has_call}
-use Rattle.protocol_model.specs.World.{World, Node, Sender, Lined, quiet_line, with_node, after_step, declared, lac_at, lns_at, with_call, later, config_of, added, block_of, stepped, addressee_of, arrival, refused_by, sender_of, arrives, delivers_it, delivers, line}
+use Rattle.step_laws.specs.Lines.{tested, tested_not, is_lac_at, is_lns_at, is_declared, has_call}
+use Rattle.protocol_model.specs.World.{World, Node, Sender, Lined, quiet_line, with_node, after_step, declared, lac_at, lns_at, with_call, with_tunnel, is_not_closed, later, config_of, added, block_of, stepped, addressee_of, arrival, refused_by, sender_of, arrives, delivers_it, delivers, line}
 use Rattle.step_laws.specs.Steps.{AreKept}
 use Rattle.frame_laws.specs.Codecs.{Codecs}
 use Rattle.connection_laws.specs.Accounts.{Account, no_account, account_from}
@@ -49,6 +49,11 @@ is_later w n milliseconds (Some x) node is h =
     let now = min (x.clock + milliseconds) (2 ^ 64 - 1) in
     let e : record x { clock = now } ≡ node = cc in
     subst (IsAt w n) e (record { before = x; there = is; same = refl })
+
+-- one that has a live tunnel that isn't closed
+has_tunnel : (i : ℕ) (r : Result Node Why) (node : Node) → with_tunnel i r ≡ Ok node → r ≡ Ok node
+has_tunnel i (Err x) node h = absurd (cc)
+has_tunnel i (Ok x) node h = ap (λ y. Ok y) (tested (is_not_closed (at x.end.tunnels i)) x why.Tunnel node h).1
 
 none_there : {X : Type 0} (o : Option X) → is_some o ≡ false → o ≡ None
 none_there None h = refl
@@ -179,6 +184,9 @@ module _ (codecs : Codecs) (laws : Laws) (number : ℕ) (w : World) (accs : Acco
   line_ok x (Lns n) fits h = added_ok w accs number holds most had n role.Lns 0 (omega (arith, fits.1)) (λ lac. absurd cc) x h
   line_ok x (OpenUp n) fits h =
       stepped_ok x n event.OpenTunnel None (lac_at (at w.nodes n)) (λ node e. is_there w n node ((is_lac_at (at w.nodes n) node e).0)) (λ node e. tt) h
+  line_ok x (Close n i) fits h =
+      stepped_ok x n (event.CloseTunnel i) None (with_tunnel i (declared (at w.nodes n)))
+      (λ node e. is_there w n node (is_declared (at w.nodes n) node (has_tunnel i (declared (at w.nodes n)) node e))) (λ node e. tt) h
   line_ok x (Ring n port) fits h =
       stepped_ok x n (event.Ring port) None (lac_at (at w.nodes n)) (λ node e. is_there w n node ((is_lac_at (at w.nodes n) node e).0)) (λ node e. tt) h
   line_ok x (FromSub n session frame) fits h =

@@ -7,7 +7,9 @@ use Rattle.connection_laws.proofs.Beginning.{opened_keeps}
 use Rattle.connection_laws.proofs.Giving.{requested_keeps, end_told_keeps, greeted_keeps, added_keeps, end_silent_keeps, cleared_keeps, let_go_keeps, repeated_keeps, quiet_keeps, frame_sent_keeps, frame_up_keeps}
 use Rattle.connection_laws.proofs.Accepting.{accepted_keeps}
 use Rattle.connection_laws.proofs.Connecting.{connected_keeps}
-use Rattle.connection_laws.proofs.PairMoves.{confirmed_keeps, replied_keeps, first_up_keeps, second_up_keeps, end_heard_keeps, plain_keeps}
+use Rattle.connection_laws.proofs.PairMoves.{confirmed_keeps, replied_keeps, first_up_keeps, second_up_keeps, end_heard_keeps}
+use Rattle.connection_laws.proofs.Plainly.{plain_keeps, closed_by_keeps}
+use Rattle.connection_laws.proofs.Closing.{closed_keeps}
 use Rattle.connection_laws.proofs.Refusing.{refused_keeps}
 use Rattle.connection_laws.proofs.Acknowledging.{read_keeps}
 
@@ -25,6 +27,8 @@ moves_keep codecs classes accs n e x sender moment ev (move.Refused m) d h = ref
 moves_keep codecs classes accs n e x sender moment ev (move.EndTold m) d h = end_told_keeps accs n e x sender moment ev m d h
 moves_keep codecs classes accs n e x sender moment ev (move.EndHeard m) d h = end_heard_keeps codecs classes accs n e x sender moment ev d m h
 moves_keep codecs classes accs n e x sender moment ev (move.EndSilent m) d h = end_silent_keeps accs n e x sender moment ev m d h
+moves_keep codecs classes accs n e x sender moment ev (move.Closed m) d h = closed_keeps codecs accs n e x sender moment ev d m h
+moves_keep codecs classes accs n e x sender moment ev (move.ClosedBy m) d h = closed_by_keeps codecs classes accs n e x sender moment ev d m h
 moves_keep codecs classes accs n e x sender moment ev (move.Cleared i) d h = cleared_keeps accs n e x sender moment ev i d h
 moves_keep codecs classes accs n e x sender moment ev (move.Greeted m) d h = greeted_keeps accs n e x sender moment ev m d h
 moves_keep codecs classes accs n e x sender moment ev (move.TookPlain m) d h = plain_keeps codecs classes accs n e x sender moment ev d m h

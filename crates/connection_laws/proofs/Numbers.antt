@@ -22,7 +22,7 @@ next_is_expected classes n i above below next = next_truly n i (sym (classes n i
 -- ---- Nr
 
 -- its distance on the wire, where it is past the first letter that isn't acknowledged
-ahead_by : (acked nr : ℕ) → acked ≤ nr → nr ≤ acked + 8192 → distance (acked % 2 ^ 16) (on_wire nr) ≡ nr - acked
+ahead_by : (acked nr : ℕ) → acked ≤ nr → nr ≤ acked + 16384 → distance (acked % 2 ^ 16) (on_wire nr) ≡ nr - acked
 ahead_by acked nr le few = omega arith
 
 -- and where it is before
@@ -37,7 +37,7 @@ counted_behind : (w : Window) (nr d : ℕ) → nr < w.acked → w.outstanding < 
 counted_behind w nr d lt far = grind (arith, nat_tests)
 
 -- as many letters as the number without an end acknowledges
-pub count_is_true : (w : Window) (nr : ℕ) → w.acked ≤ nr + 32767 → nr ≤ w.acked + 8192 → w.outstanding ≤ 8192
+pub count_is_true : (w : Window) (nr : ℕ) → w.acked ≤ nr + 32767 → nr ≤ w.acked + 16384 → w.outstanding ≤ 8192
     → count_acked w (on_wire nr) ≡ true_count w nr
 count_is_true w nr near few out = ⊎_elim
     (λ (lt : nr < w.acked). counted_behind w nr _ lt (let far = behind_by w.acked nr lt near in omega arith))
@@ -52,7 +52,7 @@ pub record IsCount (w : Window) (nr count : ℕ) : Type 0 where
 true_counts : (w : Window) (nr : ℕ) → IsCount w nr (true_count w nr)
 true_counts w nr = record { few = grind (arith, nat_tests); leads = grind (arith, nat_tests) }
 
-pub is_count : (w : Window) (nr : ℕ) → w.acked ≤ nr + 32767 → nr ≤ w.acked + 8192 → w.outstanding ≤ 8192
+pub is_count : (w : Window) (nr : ℕ) → w.acked ≤ nr + 32767 → nr ≤ w.acked + 16384 → w.outstanding ≤ 8192
     → IsCount w nr (count_acked w (on_wire nr))
 is_count w nr near few out = subst (IsCount w nr) (sym (count_is_true w nr near few out)) (true_counts w nr)
 

@@ -34,12 +34,13 @@ use Rattle.protocol_model.specs.World.{Sender, Deed}
 use Rattle.step_laws.specs.Letters.{Letter}
 use Rattle.step_laws.specs.Moves.{HearsNext, with_tunnel, with_letter}
 use Rattle.frame_laws.specs.Codecs.{Codecs}
-use Rattle.connection_laws.specs.Facts.{Accounts, IsNoOpening, IsSpelled, Tells, LiveOk, Within}
+use Rattle.connection_laws.specs.Facts.{Accounts, IsNoOpening, IsNoStop, IsStopCcn, IsSpelled, TellsOwn, Tells, LiveOk, Within}
 use Rattle.connection_laws.proofs.Keeps.{after, IsMoved}
 use Rattle.connection_laws.proofs.Puts.{IsOnly, EndPut}
 use Rattle.connection_laws.proofs.Later.{after_move, only_after}
 use Rattle.connection_laws.proofs.Written.{draw_is, next_is}
-use Rattle.connection_laws.proofs.Hearing.{sender_in, heard_next, letter_some, heard, next_heard, said_so}
+use Rattle.connection_laws.proofs.Said.{no_stop_is}
+use Rattle.connection_laws.proofs.NextHeard.{said_so}
 use Rattle.connection_laws.proofs.Acknowledging.{put_of}
 use Rattle.connection_laws.proofs.Taking.{with_taken, taken_as, takes_only, takes_and_gives, TakesOn, paired_if, pair_takes}
 
@@ -57,7 +58,7 @@ pub record AreCalls (calls : List (ℕ × Call)) : Type 0 where
 module _ (accs : Accounts) (n i : ℕ) (t : Tunnel) (live : LiveOk accs n i (accs n i) t) (fits : t.control.channel.inbox.taken + 1 < 2 ^ 64)
     (s : TunnelState) (calls : List (ℕ × Call)) (are : AreCalls calls)
     (state : (state_number s ≡ 3) ⊎ ((s ≡ t.control.state) × (calls ≡ t.calls))) where
-  took_on : TakesOn t (took t s calls) []
+  pub took_on : TakesOn t (took t s calls) []
   took_on = record {
     local = refl;
     peer = refl;
@@ -125,16 +126,19 @@ module _ (codecs : Codecs) (classes : ClassIsTrue) (accs : Accounts) (n : ℕ) (
       subst IsWritten s.message s.next.spelled.written
 
   -- it is a letter of the partner that was learned
-  pub said_takes : (state_number t.control.state ≡ 1 → ⊥) → (ms : Accounts) (x : End) (u : Tunnel) (mv : Move) (place : Place) (more : List Letter)
+  pub said_takes : (state_number t.control.state ≡ 1 → ⊥) → (state_number t.control.state ≡ 4 → ⊥) → IsNoStop m → (ms : Accounts) (x : End) (u : Tunnel) (mv : Move) (place : Place) (more : List Letter)
       → place ≡ taken_place t.control → ((l : Letter) → l.session ≡ session → l.message ≡ m → Tells l mv) → TakesOn t u more → IsOnly accs ms n i
       → ms n i ≡ with_taken (taken_as sender place mv) more (accs n i) → AllByRecursion IsSpelled more
-      → AllByRecursion (λ (l : Letter). IsNoOpening l.message) more → EndPut e x i u → Within ms n x sender ev
-  said_takes other ms x u mv place more taken tells goes only is spelled plain put_is =
+      → AllByRecursion (λ (l : Letter). IsNoOpening l.message) more → AllByRecursion (λ (l : Letter). TellsOwn i l.message) more → EndPut e x i u
+      → Within ms n x sender ev
+  said_takes other unclosed no_stop ms x u mv place more taken tells goes only is spelled plain own put_is =
       let s = said_so codecs classes accs n e sender ev within i t there session m k in
-      let pair = paired_if accs n i s.heard.o t s.next.letter (within.end.live i t there) (λ one. absurd (other one)) s.next.of in
+      let pair = paired_if accs n i s.heard.o t s.next.letter (within.end.live i t there) unclosed (λ one. absurd (other one))
+      (λ stops. no_stop_is m no_stop (subst IsStopCcn s.message stops)) s.next.of in
       pair_takes accs ms n e x sender ev i t u (taken_as sender place mv) more k.hears.header k.hears.bytes (record {
         within = within;
         there = there;
+        unclosed = unclosed;
         heard = s.heard;
         next = s.next;
         pair = pair.0;
@@ -147,12 +151,17 @@ module _ (codecs : Codecs) (classes : ClassIsTrue) (accs : Accounts) (n : ℕ) (
         is = is;
         spelled = spelled;
         plain = plain;
+        own = own;
         put_is = put_is;
       })
 
 -- an open tunnel waits for no SCCRP, nor does one that waits for its SCCCN
 pub open_so : (t : Tunnel) → state_number t.control.state ≡ 3 → state_number t.control.state ≡ 1 → ⊥
 open_so t three one = let no : ⊥ = omega arith in no
+
+-- nor is it closed
+pub unclosed_so : (t : Tunnel) → state_number t.control.state ≡ 3 → state_number t.control.state ≡ 4 → ⊥
+unclosed_so t three four = let no : ⊥ = omega arith in no
 
 -- a session id was drawn too
 replied_put : (e x : End) (places : List (ℕ × CallPlace)) (i : ℕ) (u : Tunnel) (s : ℕ) → draws e.session_ids ≡ Ok s
@@ -182,38 +191,6 @@ header_names calls session remote s named = ⊎_elim
 -- ---- the moves
 
 module _ (codecs : Codecs) (classes : ClassIsTrue) (accs : Accounts) (n : ℕ) (e x : End) (sender : Option Sender) (moment : ℕ) (ev : Event) (d : Deed) where
-  -- whatever the letter says
-  pub plain_keeps : (m : TookPlain) → IsMoved accs n e x sender moment ev (move.TookPlain m) d → Within (after accs d) n x sender ev
-  plain_keeps m h =
-      let o = h.does in
-      let t = o.tunnel in
-      let mv = move.TookPlain m in
-      let live = h.within.end.live m.tunnel t o.there in
-      let hears = heard codecs accs n e sender ev h.within m.tunnel t o.there o.comes.header o.comes.bytes (heard_next ev t.control o.comes) in
-      let next = next_heard classes accs n e sender ev h.within m.tunnel t o.there o.comes.header o.comes.bytes hears
-      (letter_some (sender_in accs n m.tunnel hears.o) hears.o o.comes.header o.comes.bytes hears.read o.comes.some) o.comes.next in
-      let pair = paired_if accs n m.tunnel hears.o t next.letter live
-      (λ s opening says. o.why (Sccrp opening) (next.said ∙ ap (λ (y : Message). Ok y) says) s) next.of in
-      let u = took t t.control.state t.calls in
-      pair_takes accs (after accs d) n e x sender ev m.tunnel t u (taken_as sender m.taken mv) [] o.comes.header o.comes.bytes (record {
-        within = h.within;
-        there = o.there;
-        heard = hears;
-        next = next;
-        pair = pair.0;
-        told = pair.1;
-        number = ap (λ (p : Place). p.number) o.taken;
-        sender_is = refl;
-        tells = tt;
-        goes = took_on accs n m.tunnel t live (h.counts m.tunnel t o.there) t.control.state t.calls
-            (record { remotes = live.calls; order = live.order }) (inr (refl, refl));
-        only = only_after accs d n mv h.deed.node_is h.deed.move_is tt;
-        is = after_move accs d n mv h.deed.node_is h.deed.move_is ∙ takes_only d n e.role sender mv m.taken (accs n m.tunnel) h.deed;
-        spelled = tt;
-        plain = tt;
-        put_is = put_of e x e.calls m.tunnel u o.after;
-      })
-
   pub confirmed_keeps : (m : Confirmed) → IsMoved accs n e x sender moment ev (move.Confirmed m) d → Within (after accs d) n x sender ev
   confirmed_keeps m h =
       let o = h.does in
@@ -223,11 +200,12 @@ module _ (codecs : Codecs) (classes : ClassIsTrue) (accs : Accounts) (n : ℕ) (
       let u = took t Established t.calls in
       said_takes codecs classes accs n e sender ev h.within m.tunnel t o.there o.hears.0 Scccn o.hears.1
       (λ s. let is = o.state in let two = ap state_number is in let no : ⊥ = omega arith in no)
+      (λ s. let is = o.state in let two = ap state_number is in let no : ⊥ = omega arith in no) tt
       (after accs d) x u mv m.taken [] o.taken (λ l s says. says)
       (took_on accs n m.tunnel t live (h.counts m.tunnel t o.there) Established t.calls (record { remotes = live.calls; order = live.order }) (inl refl))
       (only_after accs d n mv h.deed.node_is h.deed.move_is tt)
       (after_move accs d n mv h.deed.node_is h.deed.move_is ∙ takes_only d n e.role sender mv m.taken (accs n m.tunnel) h.deed)
-      tt tt (put_of e x e.calls m.tunnel u o.after)
+      tt tt tt (put_of e x e.calls m.tunnel u o.after)
 
   pub end_heard_keeps : (m : EndHeard) → IsMoved accs n e x sender moment ev (move.EndHeard m) d → Within (after accs d) n x sender ev
   end_heard_keeps m h =
@@ -237,7 +215,7 @@ module _ (codecs : Codecs) (classes : ClassIsTrue) (accs : Accounts) (n : ℕ) (
       let live = h.within.end.live m.tunnel t o.there in
       let u = took t t.control.state (without t.calls m.session) in
       said_takes codecs classes accs n e sender ev h.within m.tunnel t o.there o.hears.0 (Cdn o.remote o.code o.error) o.hears.1
-      (open_so t o.open_is)
+      (open_so t o.open_is) (unclosed_so t o.open_is) tt
       (after accs d) x u mv m.taken [] o.taken
       (λ l s says. (
         ⊎_elim (λ (is : o.hears.0 ≡ m.session). inl (s ∙ is)) (λ (none : o.hears.0 ≡ 0). inr (s ∙ none))
@@ -248,7 +226,7 @@ module _ (codecs : Codecs) (classes : ClassIsTrue) (accs : Accounts) (n : ℕ) (
       (calls_without t.calls m.session (record { remotes = live.calls; order = live.order })) (inl o.open_is))
       (only_after accs d n mv h.deed.node_is h.deed.move_is tt)
       (after_move accs d n mv h.deed.node_is h.deed.move_is ∙ takes_only d n e.role sender mv m.taken (accs n m.tunnel) h.deed)
-      tt tt (put_of e x _ m.tunnel u o.after)
+      tt tt tt (put_of e x _ m.tunnel u o.after)
 
   pub second_up_keeps : (m : SecondUp) → IsMoved accs n e x sender moment ev (move.SecondUp m) d → Within (after accs d) n x sender ev
   second_up_keeps m h =
@@ -259,7 +237,7 @@ module _ (codecs : Codecs) (classes : ClassIsTrue) (accs : Accounts) (n : ℕ) (
       let call = advanced e.role call_event.IccnAcc moment o.call in
       let u = took t t.control.state (put t.calls m.session call) in
       said_takes codecs classes accs n e sender ev h.within m.tunnel t o.there m.session (Iccn o.speed o.framing o.sequenced) o.hears
-      (open_so t o.open_is)
+      (open_so t o.open_is) (unclosed_so t o.open_is) tt
       (after accs d) x u mv m.taken [] o.taken (λ l s says. (s, (o.speed, o.framing, o.sequenced, says)))
       (took_on accs n m.tunnel t live (h.counts m.tunnel t o.there) t.control.state (put t.calls m.session call)
       (calls_put t.calls m.session call (record { remotes = live.calls; order = live.order })
@@ -267,7 +245,7 @@ module _ (codecs : Codecs) (classes : ClassIsTrue) (accs : Accounts) (n : ℕ) (
       (inl o.open_is))
       (only_after accs d n mv h.deed.node_is h.deed.move_is tt)
       (after_move accs d n mv h.deed.node_is h.deed.move_is ∙ takes_only d n e.role sender mv m.taken (accs n m.tunnel) h.deed)
-      tt tt (put_of e x _ m.tunnel u o.after)
+      tt tt tt (put_of e x _ m.tunnel u o.after)
 
   pub first_up_keeps : (m : FirstUp) → IsMoved accs n e x sender moment ev (move.FirstUp m) d → Within (after accs d) n x sender ev
   first_up_keeps m h =
@@ -281,7 +259,7 @@ module _ (codecs : Codecs) (classes : ClassIsTrue) (accs : Accounts) (n : ℕ) (
       let l : Letter = record { tunnel = m.tunnel; place = m.given; session = m.remote; message = connection } in
       let u = with_letter l.session l.message (took t t.control.state calls) in
       said_takes codecs classes accs n e sender ev h.within m.tunnel t o.there m.session (Icrp m.remote) o.hears
-      (open_so t o.open_is)
+      (open_so t o.open_is) (unclosed_so t o.open_is) tt
       (after accs d) x u mv m.taken (l ∷ []) o.taken (λ l s says. (s, says))
       (took_and_given accs n m.tunnel t live (h.counts m.tunnel t o.there) t.control.state calls
       (calls_put t.calls m.session call (record { remotes = live.calls; order = live.order })
@@ -289,7 +267,7 @@ module _ (codecs : Codecs) (classes : ClassIsTrue) (accs : Accounts) (n : ℕ) (
       (inl o.open_is) l o.room)
       (only_after accs d n mv h.deed.node_is h.deed.move_is tt)
       (after_move accs d n mv h.deed.node_is h.deed.move_is ∙ takes_and_gives d n e.role sender mv m.taken (accs n m.tunnel) h.deed)
-      (record { written = (omega arith, omega arith, refl); session = omega arith }, tt) (tt, tt) (put_of e x _ m.tunnel u o.after)
+      (record { written = (omega arith, omega arith, refl); session = omega arith }, tt) (tt, tt) (tt, tt) (put_of e x _ m.tunnel u o.after)
 
   pub replied_keeps : (m : Replied) → IsMoved accs n e x sender moment ev (move.Replied m) d → Within (after accs d) n x sender ev
   replied_keeps m h =
@@ -308,11 +286,11 @@ module _ (codecs : Codecs) (classes : ClassIsTrue) (accs : Accounts) (n : ℕ) (
       let l : Letter = record { tunnel = m.tunnel; place = m.given; session = m.remote; message = Icrp m.session } in
       let u = with_letter l.session l.message (took t t.control.state calls) in
       said_takes codecs classes accs n e sender ev h.within m.tunnel t o.there o.hears.0 (Icrq m.remote o.serial o.calling) o.hears.1
-      (open_so t o.open_is)
+      (open_so t o.open_is) (unclosed_so t o.open_is) tt
       (after accs d) x u mv m.taken (l ∷ []) o.taken (λ l s says. (o.serial, o.calling, says))
       (took_and_given accs n m.tunnel t live (h.counts m.tunnel t o.there) t.control.state calls
       (calls_put t.calls m.session call (record { remotes = live.calls; order = live.order }) (rw (asked_remote e.role m.remote moment) (omega arith)))
       (inl o.open_is) l o.room)
       (only_after accs d n mv h.deed.node_is h.deed.move_is tt)
       (after_move accs d n mv h.deed.node_is h.deed.move_is ∙ takes_and_gives d n e.role sender mv m.taken (accs n m.tunnel) h.deed)
-      (record { written = (omega arith, omega arith); session = omega arith }, tt) (tt, tt) (replied_put e x _ m.tunnel u m.session o.drawn o.after)
+      (record { written = (omega arith, omega arith); session = omega arith }, tt) (tt, tt) (tt, tt) (replied_put e x _ m.tunnel u m.session o.drawn o.after)

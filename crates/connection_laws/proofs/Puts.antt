@@ -4,7 +4,7 @@ use Rattle.id_table.specs.Ids.{at, put}
 use Rattle.l2tp_header.specs.declared.header.Header.{Header}
 use Rattle.l2tp_header.specs.Reading.{header_of}
 use Rattle.protocol_model.specs.declared.event.Event.{Event}
-use Rattle.protocol_model.specs.declared.event.Event.TheVariants.{Datagram, Ring, Payload, Lower, Hang, OpenTunnel, DropCall, Tick}
+use Rattle.protocol_model.specs.declared.event.Event.TheVariants.{Datagram, Ring, Payload, Lower, Hang, OpenTunnel, DropCall, CloseTunnel, Tick}
 use Rattle.protocol_model.specs.declared.out.Origin.{Origin}
 use Rattle.protocol_model.specs.declared.out.Origin.TheVariants as origin
 use Rattle.protocol_model.specs.declared.packet.Packet.{Packet}
@@ -15,13 +15,15 @@ use Rattle.protocol_model.specs.World.{Sender}
 use Rattle.step_laws.specs.Letters.{Letter}
 use Rattle.step_laws.specs.Moves.{IsFor}
 use Rattle.connection_laws.specs.Accounts.{Unmade, Acceptor, Taken, Account}
-use Rattle.connection_laws.specs.Facts.{Accounts, IsMade, AreJoined, partner_in, AccountOk, LiveOk, IsNear, Comes, Within}
+use Rattle.connection_laws.specs.Facts.{Accounts, IsMade, IsOpen, AreJoined, partner_in, AccountOk, LiveOk, IsNear, Comes, Within}
 
--- what is known of a tunnel stays: more was given to it and taken by it, and it may have been made, or have learned an id
+-- what is known of a tunnel stays: more was given to it and taken by it, and it may have been made, or have learned an id, which only
+-- an open one does, or have been closed
 pub record Extends (a b : Account) : Type 0 where
   pub part : (a.part ≡ Unmade) ⊎ (b.part ≡ a.part)
   pub peer : IsMade a → b.peer ≡ a.peer
-  pub remote : (a.remote ≡ 0) ⊎ (b.remote ≡ a.remote)
+  pub remote : (IsOpen a × (a.remote ≡ 0)) ⊎ (b.remote ≡ a.remote)
+  pub closed : IsOpen a ⊎ (b.closed ≡ a.closed)
   pub given : (more : List Letter) × (b.given ≡ a.given ++ more)
   pub taken : (more : List Taken) × (b.taken ≡ a.taken ++ more)
 
@@ -50,6 +52,7 @@ ComesNear accs n e sender (Lower s frame) c ms i t = Unit {0}
 ComesNear accs n e sender (Hang s) c ms i t = Unit {0}
 ComesNear accs n e sender OpenTunnel c ms i t = Unit {0}
 ComesNear accs n e sender (DropCall s) c ms i t = Unit {0}
+ComesNear accs n e sender (CloseTunnel k) c ms i t = Unit {0}
 ComesNear accs n e sender Tick c ms i t = Unit {0}
 
 -- what changes in an end where one tunnel is put

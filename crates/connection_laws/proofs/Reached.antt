@@ -16,12 +16,12 @@ use Rattle.control_message.specs.declared.message.Opening.{Opening}
 use Rattle.control_message.specs.declared.message.Read.{Read}
 use Rattle.control_message.specs.declared.message.Read.TheVariants.{Known, Ignored}
 use Rattle.control_message.specs.Reading.{message_of}
-use Rattle.protocol_model.specs.declared.event.Addressee.TheVariants.{Opens, Main}
+use Rattle.protocol_model.specs.declared.event.Addressee.TheVariants.{Opens, Stops, Main}
 use Rattle.protocol_model.specs.Reading.{body_of, message_in, pairs_read, message_read, at_zero, zero_pairs, zero_read, at_tunnel}
 use Rattle.protocol_model.specs.Turn.{Tunnel}
 use Rattle.protocol_model.specs.End.{End, is_known, known_as, opens_once, addressed, main_of, reached_by, reached}
 use Rattle.step_laws.specs.Letters.{Among}
-use Rattle.step_laws.specs.Moves.{IsAgain, IsFor}
+use Rattle.step_laws.specs.Moves.{IsAgain, IsStop, IsFor}
 use Rattle.connection_laws.specs.Facts.{Accounts, EndOk}
 
 -- ---- what is found
@@ -114,15 +114,15 @@ unfolding addressed at_tunnel
 named_main e h body i t named some there = rw (named, ne_eqb i 0 some, there, eq-eqb t.control.peer t.control.peer refl) refl
 
 -- an SCCRQ opens by the id that it tells
-zero_message : (r : Result Read MessageError) (o : Opening) → message_read r ≡ Ok (Sccrq o) → zero_read r ≡ Opens o.tunnel
+zero_message : (avps : List Avp) (r : Result Read MessageError) (o : Opening) → message_read r ≡ Ok (Sccrq o) → zero_read avps r ≡ Opens o.tunnel
 unfolding message_read zero_read
-zero_message (Ok (Known m)) o h = let e : m ≡ Sccrq o = cc in rw e refl
-zero_message (Ok (Ignored k)) o h = absurd cc
-zero_message (Err x) o h = absurd cc
+zero_message avps (Ok (Known m)) o h = let e : m ≡ Sccrq o = cc in rw e refl
+zero_message avps (Ok (Ignored k)) o h = absurd cc
+zero_message avps (Err x) o h = absurd cc
 
 zero_opens : (r : Result (List Avp) AvpError) (o : Opening) → pairs_read r ≡ Ok (Sccrq o) → zero_pairs r ≡ Opens o.tunnel
 unfolding pairs_read zero_pairs
-zero_opens (Ok avps) o h = zero_message (message_of avps) o h
+zero_opens (Ok avps) o h = zero_message avps (message_of avps) o h
 zero_opens (Err x) o h = absurd cc
 
 sccrq_opens : (body : List ℕ) (o : Opening) → message_in body ≡ Ok (Sccrq o) → at_zero body ≡ Opens o.tunnel
@@ -135,6 +135,12 @@ again_main : (e : End) (peer : ℕ) (h : Header) (body : List ℕ) (i : ℕ) (o 
 unfolding addressed opens_once
 again_main e peer h body i o none said known = rw (none, sccrq_opens body o said, known) refl
 
+-- a StopCCN is for the tunnel whose peer's id it tells
+stop_main : (e : End) (peer : ℕ) (h : Header) (body : List ℕ) (i r : ℕ) → h.tunnel ≡ 0 → at_zero body ≡ Stops r → known_as peer r e.tunnels ≡ Some i
+    → addressed e peer h body ≡ Main i
+unfolding addressed opens_once
+stop_main e peer h body i r none stops known = rw (none, stops, known) refl
+
 main_reached : (e : End) (peer : ℕ) (bytes : List ℕ) (h : Header) (i : ℕ) (t : Tunnel) → at e.tunnels i ≡ Some t → header_of bytes ≡ Ok h → h.control ≡ true
     → addressed e peer h (body_of h bytes) ≡ Main i → reached e peer bytes ≡ Some t.control
 unfolding reached reached_by
@@ -144,14 +150,20 @@ main_reached e peer bytes h i t there read control main = rw read
 -- a control message that is for a live tunnel, and from its peer, reaches it
 pub is_reached : (accs : Accounts) (n : ℕ) (e : End) → EndOk accs n e → (i : ℕ) (t : Tunnel) → at e.tunnels i ≡ Some t → (i ≡ 0 → ⊥)
     → (bytes : List ℕ) (h : Header) → header_of bytes ≡ Ok h → h.control ≡ true
-    → ((o : Opening) → message_in (body_of h bytes) ≡ Ok (Sccrq o) → o.tunnel ≡ 0 → ⊥) → IsFor h bytes t.control
-    → reached e t.control.peer bytes ≡ Some t.control
-is_reached accs n e ok i t there some bytes h read control opens is = ⊎_elim
+    → ((o : Opening) → message_in (body_of h bytes) ≡ Ok (Sccrq o) → o.tunnel ≡ 0 → ⊥)
+    → ((r : ℕ) → at_zero (body_of h bytes) ≡ Stops r → r ≡ 0 → ⊥) → IsFor h bytes t.control → reached e t.control.peer bytes ≡ Some t.control
+is_reached accs n e ok i t there some bytes h read control opens stops is = ⊎_elim
     (λ (named : h.tunnel ≡ t.control.local).
     main_reached e t.control.peer bytes h i t there read control
     (named_main e h (body_of h bytes) i t (named ∙ (ok.live i t there).local) some there))
+    (λ other. ⊎_elim
     (λ (again : IsAgain h bytes t.control).
     main_reached e t.control.peer bytes h i t there read control
     (again_main e t.control.peer h (body_of h bytes) i again.opening again.none again.said
     (rw (← again.known) (known_here accs n e ok i t there (λ z. opens again.opening again.said (sym again.known ∙ z))))))
+    (λ (stop : IsStop h bytes t.control).
+    main_reached e t.control.peer bytes h i t there read control
+    (stop_main e t.control.peer h (body_of h bytes) i t.control.remote stop.none stop.stops
+    (known_here accs n e ok i t there (stops t.control.remote stop.stops))))
+    other)
     is

@@ -22,7 +22,7 @@ use Rattle.control_message.specs.declared.message.Read.{Read}
 use Rattle.control_message.specs.declared.message.Read.TheVariants.{Known, Ignored}
 use Rattle.control_message.specs.Reading.{message_of}
 use Rattle.protocol_model.specs.declared.event.Addressee.{Addressee}
-use Rattle.protocol_model.specs.declared.event.Addressee.TheVariants.{Opens, Main, Nobody}
+use Rattle.protocol_model.specs.declared.event.Addressee.TheVariants.{Opens, Stops, Main, Nobody}
 use Rattle.protocol_model.specs.declared.tunnel.Control.{Control}
 use Rattle.protocol_model.specs.declared.out.Origin.{Origin}
 use Rattle.protocol_model.specs.declared.out.Origin.TheVariants as origin
@@ -38,69 +38,23 @@ use Rattle.step_laws.specs.Steps.{AreKept}
 use Rattle.step_laws.specs.Letters.{Letter}
 use Rattle.frame_laws.specs.Codecs.{Codecs}
 use Rattle.connection_laws.specs.Accounts.{Opener, Account, account_of}
-use Rattle.connection_laws.specs.Facts.{Accounts, IsNoOpening, BeginsWith, AreJoined, partner_in, IsOpener, IsAcceptor, IsMade, AccountOk, LiveOk, EndOk, Says, ALetter, Nothing, IsCopy, OriginOk, PacketOk, NodeOk, Holds}
+use Rattle.connection_laws.specs.Facts.{Accounts, IsClosed, IsLost, HasStopped, AreJoined, partner_in, IsOpener, IsAcceptor, IsMade, AccountOk, LiveOk, EndOk, IsCopy, OriginOk, PacketOk, NodeOk, Holds}
 use Rattle.connection_laws.specs.Channels.{IsRead, NumbersAreRead}
 use Rattle.connection_laws.proofs.Later.{live_made}
 use Rattle.connection_laws.proofs.Told.{HeaderTells, copy_tells, copy_says}
 use Rattle.connection_laws.proofs.Starts.{IsYoung, is_young}
 use Rattle.connection_laws.proofs.Numbers.{count_is_true}
-use Rattle.connection_laws.proofs.Sent.{mapped}
+use Rattle.connection_laws.proofs.Sent.{mapped, copy_there}
 use Rattle.connection_laws.proofs.Worlds.{all_map}
-use Rattle.connection_laws.proofs.Hearing.{all_at, part_cases, opener_of, acceptor_of}
+use Rattle.connection_laws.proofs.Hearing.{unnamed, part_cases, opener_of, acceptor_of}
+use Rattle.connection_laws.proofs.NextHeard.{IsSmall, unlearned_small}
 
 -- ---- which tunnel was reached
 
--- at tunnel 0 an SCCRQ alone opens, and nothing is for a live tunnel yet
-AtZero : (Opening → Type 0) → Addressee → Type 0
-AtZero P (Opens r) = (o : Opening) × P o
-AtZero P (Main i) = ⊥
-AtZero P (Nobody w) = Unit {0}
-
-zero_message : (r : Result Read MessageError) → AtZero (λ o. message_read r ≡ Ok (Sccrq o)) (zero_read r)
-unfolding zero_read message_read AtZero
-zero_message (Ok (Known (Sccrq o))) = (o, refl)
-zero_message (Ok (Known (Sccrp o))) = tt
-zero_message (Ok (Known Scccn)) = tt
-zero_message (Ok (Known (StopCcn tunnel code error))) = tt
-zero_message (Ok (Known Hello)) = tt
-zero_message (Ok (Known (Ocrq session))) = tt
-zero_message (Ok (Known Ocrp)) = tt
-zero_message (Ok (Known Occn)) = tt
-zero_message (Ok (Known Wen)) = tt
-zero_message (Ok (Known Sli)) = tt
-zero_message (Ok (Known (Icrq session serial calling))) = tt
-zero_message (Ok (Known (Icrp session))) = tt
-zero_message (Ok (Known (Iccn speed framing sequenced))) = tt
-zero_message (Ok (Known (Cdn session code error))) = tt
-zero_message (Ok (Ignored k)) = tt
-zero_message (Err NoType) = tt
-zero_message (Err (UnknownType k)) = tt
-zero_message (Err (UnknownMandatory v k)) = tt
-zero_message (Err (HiddenWithoutVector k)) = tt
-zero_message (Err (BadValue k)) = tt
-zero_message (Err (Missing k)) = tt
-zero_message (Err NoMemory) = tt
-
-zero_says : (r : Result (List Avp) AvpError) → AtZero (λ o. pairs_read r ≡ Ok (Sccrq o)) (zero_pairs r)
-unfolding zero_pairs pairs_read AtZero
-zero_says (Ok avps) = zero_message (message_of avps)
-zero_says (Err x) = tt
-
-at_zero_says : (body : List ℕ) → AtZero (λ o. message_in body ≡ Ok (Sccrq o)) (at_zero body)
-unfolding at_zero message_in
-at_zero_says body = zero_says (avps_of body)
-
--- how a tunnel is named: by its id, and it goes to the sender's node, or not at all, by an SCCRQ
-abbrev IsNamed : ℕ → Header → List ℕ → ℕ → Tunnel → Type 0
-IsNamed peer h body i t =
-    ((h.tunnel ≡ 0 → ⊥) × (h.tunnel ≡ i) × (t.control.peer ≡ peer)) ⊎ ((h.tunnel ≡ 0) × ((o : Opening) × (message_in body ≡ Ok (Sccrq o))))
-
-named_zero : (e : End) (peer : ℕ) (body : List ℕ) (i : ℕ) (a : Addressee) → AtZero (λ o. message_in body ≡ Ok (Sccrq o)) a → opens_once e peer a ≡ Main i
-    → (o : Opening) × (message_in body ≡ Ok (Sccrq o))
-unfolding opens_once AtZero
-named_zero e peer body i (Opens r) z h = z
-named_zero e peer body i (Main j) z h = absurd z
-named_zero e peer body i (Nobody w) z h = absurd cc
+-- how a tunnel is named: by its id, and it goes to the sender's node, or not at all
+abbrev IsNamed : ℕ → Header → ℕ → Tunnel → Type 0
+IsNamed peer h i t =
+    ((h.tunnel ≡ 0 → ⊥) × (h.tunnel ≡ i) × (t.control.peer ≡ peer)) ⊎ (h.tunnel ≡ 0)
 
 named_peer : (peer k i p : ℕ) → at_tunnel peer k (Some p) ≡ Main i → (k ≡ i) × (p ≡ peer)
 unfolding at_tunnel
@@ -119,14 +73,14 @@ named_there peer k i (Some u) h =
     (n.0, λ t is. (let same : u ≡ t = cc in ap (λ (x : Tunnel). x.control.peer) (sym same) ∙ n.1))
 
 is_named : (e : End) (peer : ℕ) (h : Header) (body : List ℕ) (i : ℕ) (t : Tunnel) → at e.tunnels i ≡ Some t → addressed e peer h body ≡ Main i
-    → IsNamed peer h body i t
+    → IsNamed peer h i t
 unfolding addressed
 is_named e peer h body i t there main = by (eqb h.tunnel 0) refl main
   where
     by : (b : Bool) → eqb h.tunnel 0 ≡ b
         → cond b (opens_once e peer (at_zero body)) (at_tunnel peer h.tunnel (option_map (λ (x : Tunnel). x.control.peer) (at e.tunnels h.tunnel))) ≡ Main i
-        → IsNamed peer h body i t
-    by true is g = inr (eqb-true h.tunnel 0 is, named_zero e peer body i (at_zero body) (at_zero_says body) g)
+        → IsNamed peer h i t
+    by true is g = inr (eqb-true h.tunnel 0 is)
     by false is g =
         let n = named_there peer h.tunnel i (at e.tunnels h.tunnel) g in
         inl (eqb-false h.tunnel 0 is, n.0, n.1 t (rw n.0 there))
@@ -136,12 +90,13 @@ record IsReached (e : End) (peer : ℕ) (bytes : List ℕ) (h : Header) (c : Con
   tunnel : Tunnel
   there : at e.tunnels id ≡ Some tunnel
   same : c ≡ tunnel.control
-  named : IsNamed peer h (body_of h bytes) id tunnel
+  named : IsNamed peer h id tunnel
 
 main_is : (e : End) (a : Addressee) (c : Control) → main_of e a ≡ Some c
     → (i : ℕ) × (a ≡ Main i) × (option_map (λ (t : Tunnel). t.control) (at e.tunnels i) ≡ Some c)
 unfolding main_of
 main_is e (Opens r) c h = absurd cc
+main_is e (Stops r) c h = absurd cc
 main_is e (Main i) c h = (i, refl, h)
 main_is e (Nobody w) c h = absurd cc
 
@@ -162,25 +117,12 @@ reach_of e peer bytes h c read is =
     let k = mapped (λ (t : Tunnel). t.control) (at e.tunnels m.0) c m.2 in
     record { id = m.0; tunnel = k.0; there = k.1; same = k.2; named = is_named e peer h (body_of h bytes) m.0 k.0 k.1 m.1 }
 
--- ---- a message that opens or accepts a tunnel is the first
-
-opening_first : (i : ℕ) (says : Opening → Message) (given : List Letter) → BeginsWith i says given → (k : ℕ) (l : Letter) → slice_get given k ≡ Some l
-    → (IsNoOpening l.message → ⊥) → k ≡ 0
-opening_first i says given begins k l there opens = by k (subst (λ ls. slice_get ls k ≡ Some l) begins.are there)
-  where
-    by : (j : ℕ) → slice_get (begins.first ∷ begins.rest) j ≡ Some l → j ≡ 0
-    by zero is = refl
-    by (suc j) is = absurd (opens (all_at (λ (x : Letter). IsNoOpening x.message) begins.rest j l is begins.later))
-
-sccrq_opens : (m : Message) (o : Opening) → m ≡ Sccrq o → IsNoOpening m → ⊥
-sccrq_opens m o is none = subst IsNoOpening is none
-
 -- ---- what a tunnel and the sender of what reaches it know of each other
 
--- no letter was given that is far ahead of those that were taken, and none taken that wasn't given
+-- no letter was given that is far ahead of those that were taken, and hardly one taken that wasn't given
 record AreNearby (a b : Account) : Type 0 where
   given : length b.given ≤ length a.taken + 8192
-  taken : length b.taken ≤ length a.given
+  taken : length b.taken ≤ length a.given + 2
 
 module _ (accs : Accounts) (accounts : (m j : ℕ) → AccountOk accs m j (accs m j)) (n i m j : ℕ) (some : 0 < i) (made : IsMade (accs m j))
     (peer : (accs m j).peer ≡ n) (remote : (accs m j).remote ≡ i) where
@@ -197,7 +139,15 @@ module _ (accs : Accounts) (accounts : (m j : ℕ) → AccountOk accs m j (accs 
   known z = absurd (omega (arith, remote, z, some))
 
   of_opener : IsOpener accs m j b → AreNearby a b
-  of_opener k = let joined = subst (AreJoined b) partner (k.joined known) in record { given = joined.few_here; taken = joined.here }
+  of_opener k =
+      let joined = subst (AreJoined b) partner (k.joined known) in
+      record {
+        given = joined.few_here;
+        taken = ⊎_elim
+            (λ (le : length b.taken ≤ length a.given). omega arith)
+            (λ (two : IsClosed b × (length b.taken ≤ 2)). let le = two.1 in omega arith)
+            joined.here;
+      }
 
   of_acceptor : IsAcceptor accs m j b → AreNearby a b
   of_acceptor k =
@@ -208,13 +158,19 @@ module _ (accs : Accounts) (accounts : (m j : ℕ) → AccountOk accs m j (accs 
       (λ (named : a.remote ≡ j).
       let lt = (accounts m j).some made in
       let joined = subst (AreJoined a) (ap₂ accs back named) (opener.joined (λ z. absurd (omega (arith, named, z, lt)))) in
-      record { given = joined.few_there; taken = joined.there })
+      record { given = joined.few_there; taken = (let le = joined.there in omega arith) })
       (λ (no : a.remote ≡ j → ⊥).
       let apart = λ (named : (partner_in accs b).remote ≡ j). no (subst (λ (x : Account). x.remote ≡ j) partner named) in
-      let one_taken = k.one_taken apart in
-      let one_given = k.one_given apart in
-      let first = ap length opener.begins.are in
-      record { given = omega arith; taken = omega arith })
+      record {
+        given = ⊎_elim
+            (λ (one : length b.given ≡ 1). omega arith)
+            (λ (s : HasStopped b). let two = s.few in omega arith)
+            (k.one_given apart);
+        taken = ⊎_elim
+            (λ (one : length b.taken ≡ 1). omega arith)
+            (λ (lost : IsLost (partner_in accs b) × (length b.taken ≤ 2)). let two = lost.1 in omega arith)
+            (k.one_taken apart);
+      })
       (same_or_not a.remote j)
 
   nearby : AreNearby a b
@@ -227,12 +183,7 @@ module _ (accs : Accounts) (accounts : (m j : ℕ) → AccountOk accs m j (accs 
 
 record Fit (a : Account) (o : ControlOrigin) : Type 0 where
   ns : o.empty ≡ false → o.ns ≤ length a.taken + 8192
-  nr : o.nr ≤ length a.given
-
--- the letter of a copy that isn't empty was given
-copy_there : (b : Account) (o : ControlOrigin) (tunnel : ℕ) (bytes : List ℕ) → Says b o tunnel bytes → o.empty ≡ false → o.ns < length b.given
-copy_there b o tunnel bytes (ALetter l full there are) f = slice_get_within b.given o.ns l there
-copy_there b o tunnel bytes (Nothing empty are) f = absurd cc
+  nr : o.nr ≤ length a.given + 2
 
 module _ (codecs : Codecs) (accs : Accounts) (accounts : (m j : ℕ) → AccountOk accs m j (accs m j)) (n i : ℕ) (some : 0 < i) (p : Packet) (o : ControlOrigin)
     (copy : IsCopy (accs p.from o.tunnel) p o) (to : p.to ≡ n) (h : Header) (read : header_of p.bytes ≡ Ok h) where
@@ -247,7 +198,7 @@ module _ (codecs : Codecs) (accs : Accounts) (accounts : (m j : ℕ) → Account
   fit_named not_zero is =
       let told = tells.tunnel_is in
       let remote : from.remote ≡ i = ⊎_elim
-      (λ (z : (copy.tunnel ≡ 0) × (o.nr ≡ 0)). absurd (not_zero (told ∙ z.0)))
+      (λ (z : (copy.tunnel ≡ 0) × (IsLost from ⊎ ((o.nr ≡ 0) × (o.empty ≡ false → o.ns ≡ 0)))). absurd (not_zero (told ∙ z.0)))
       (λ (z : (copy.tunnel ≡ 0 → ⊥) × (copy.tunnel ≡ from.remote)). sym z.1 ∙ (sym told ∙ is)) copy.named in
       let near = nearby accs accounts n i p.from o.tunnel some copy.made (sym copy.to ∙ to) remote in
       let le = near.given in
@@ -255,26 +206,31 @@ module _ (codecs : Codecs) (accs : Accounts) (accounts : (m j : ℕ) → Account
       let taken = copy.nr in
       record { ns = λ full. (let lt = copy_there from o copy.tunnel p.bytes copy.says full in omega arith); nr = omega arith }
 
-  -- it is an SCCRQ: the first letter, which tells nothing taken
-  fit_zero : h.tunnel ≡ 0 → (x : Opening) → message_in (body_of h p.bytes) ≡ Ok (Sccrq x) → Fit (accs n i) o
-  fit_zero none x said =
-      let told = tells.tunnel_is in
-      let nr : o.nr ≡ 0 = ⊎_elim
-      (λ (z : (copy.tunnel ≡ 0) × (o.nr ≡ 0)). z.1)
-      (λ (z : (copy.tunnel ≡ 0 → ⊥) × (copy.tunnel ≡ from.remote)). absurd (z.0 (sym told ∙ none))) copy.named in
-      let body = copy_says codecs accs p.from o.tunnel from p o (accounts p.from o.tunnel) copy h read (Sccrq x) said in
-      let opens = sccrq_opens body.letter.message x body.says in
-      let ok = accounts p.from o.tunnel in
-      let ns : o.ns ≡ 0 = ⊎_elim
-      (λ is. opening_first o.tunnel Sccrq from.given (opener_of accs p.from o.tunnel from ok is).begins o.ns body.letter body.there opens)
-      (λ is. opening_first o.tunnel Sccrp from.given (acceptor_of accs p.from o.tunnel from ok is).begins o.ns body.letter body.there opens)
-      (part_cases from.part copy.made) in
-      record { ns = λ full. omega arith; nr = omega arith }
+  -- it names none: its sender is lost, or it is the first letter, which tells nothing taken
+  fit_zero : h.tunnel ≡ 0 → Fit (accs n i) o
+  fit_zero none = ⊎_elim
+      (λ (lost : IsLost from).
+      let small = lost_small lost in
+      let two = small.taken in
+      let few = small.given in
+      let taken = copy.nr in
+      record { ns = λ full. (let lt = copy_there from o copy.tunnel p.bytes copy.says full in omega arith); nr = omega arith })
+      (λ (k : (o.nr ≡ 0) × (o.empty ≡ false → o.ns ≡ 0)).
+      let nr = k.0 in
+      record { ns = λ full. (let ns = k.1 full in omega arith); nr = omega arith })
+      (unnamed from o copy.tunnel copy.named (sym tells.tunnel_is ∙ none))
+    where
+      lost_small : IsLost from → IsSmall from
+      lost_small lost = ⊎_elim
+          (λ (own : from.part ≡ Opener).
+          unlearned_small accs p.from o.tunnel from (opener_of accs p.from o.tunnel from (accounts p.from o.tunnel) own) lost.1)
+          (λ own. absurd ((acceptor_of accs p.from o.tunnel from (accounts p.from o.tunnel) own).known lost.1))
+          (part_cases from.part copy.made)
 
-  fits : (peer : ℕ) (t : Tunnel) → IsNamed peer h (body_of h p.bytes) i t → Fit (accs n i) o
+  fits : (peer : ℕ) (t : Tunnel) → IsNamed peer h i t → Fit (accs n i) o
   fits peer t named = ⊎_elim
       (λ (k : (h.tunnel ≡ 0 → ⊥) × (h.tunnel ≡ i) × (t.control.peer ≡ peer)). fit_named k.0 k.1)
-      (λ (k : (h.tunnel ≡ 0) × ((x : Opening) × (message_in (body_of h p.bytes) ≡ Ok (Sccrq x)))). fit_zero k.0 k.1.0 k.1.1)
+      (λ (none : h.tunnel ≡ 0). fit_zero none)
       named
 
 -- then they are read truly

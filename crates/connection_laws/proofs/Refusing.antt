@@ -21,13 +21,14 @@ use Rattle.step_laws.specs.Letters.{Letter}
 use Rattle.step_laws.specs.Moves.{HearsNext, with_letter, Refuses, WhyRefused, IsNotGranted, IsOutgoing, IsReplyToNone, IsWrong}
 use Rattle.step_laws.specs.Codes.{refusal_codes_fit}
 use Rattle.frame_laws.specs.Codecs.{Codecs}
-use Rattle.connection_laws.specs.Facts.{Accounts, Tells, Within}
+use Rattle.connection_laws.specs.Facts.{Accounts, IsNoStop, Tells, Within}
 use Rattle.connection_laws.proofs.Keeps.{after, IsMoved}
 use Rattle.connection_laws.proofs.Later.{after_move, only_after}
-use Rattle.connection_laws.proofs.Hearing.{sender_in, heard_next, letter_some, heard, next_heard}
+use Rattle.connection_laws.proofs.Hearing.{sender_in, heard_next, letter_some, heard}
+use Rattle.connection_laws.proofs.NextHeard.{next_heard}
 use Rattle.connection_laws.proofs.Acknowledging.{put_of}
 use Rattle.connection_laws.proofs.Taking.{takes_and_gives}
-use Rattle.connection_laws.proofs.PairMoves.{took, took_and_given, said_written, said_takes, open_so}
+use Rattle.connection_laws.proofs.PairMoves.{took, took_and_given, said_written, said_takes, open_so, unclosed_so}
 
 -- what can be read has no fault
 pub no_fault : (body : List ℕ) (m : Message) → message_in body ≡ Ok m → call_fault_in body ≡ None
@@ -69,15 +70,15 @@ module _ (codecs : Codecs) (classes : ClassIsTrue) (accs : Accounts) (n : ℕ) (
     next = o.comes.next;
   }
 
-  refuses : (said : Message) → message_in body ≡ Ok said → m.remote < 65536
+  refuses : (said : Message) → IsNoStop said → message_in body ≡ Ok said → m.remote < 65536
       → ((l : Letter) → l.session ≡ o.comes.header.session → l.message ≡ said → Tells l (move.Refused m)) → Within (after accs d) n x sender ev
-  refuses said is fits tells =
+  refuses said no_stop is fits tells =
       let live = h.within.end.live m.tunnel t o.there in
       let codes = refusal_codes_fit e t o.comes.header.session (message_in body) (call_fault_in body) m o.why in
       let l : Letter = record { tunnel = m.tunnel; place = m.given; session = m.remote; message = Cdn 0 m.result m.error } in
       let u = with_letter l.session l.message (took t t.control.state t.calls) in
       said_takes codecs classes accs n e sender ev h.within m.tunnel t o.there o.comes.header.session said (came said is)
-      (open_so t o.open_is)
+      (open_so t o.open_is) (unclosed_so t o.open_is) no_stop
       (after accs d) x u (move.Refused m) m.taken (l ∷ []) o.taken tells
       (took_and_given accs n m.tunnel t live (h.counts m.tunnel t o.there) t.control.state t.calls
       (record { remotes = live.calls; order = live.order })
@@ -85,7 +86,7 @@ module _ (codecs : Codecs) (classes : ClassIsTrue) (accs : Accounts) (n : ℕ) (
       (only_after accs d n (move.Refused m) h.deed.node_is h.deed.move_is tt)
       (after_move accs d n (move.Refused m) h.deed.node_is h.deed.move_is
       ∙ takes_and_gives d n e.role sender (move.Refused m) m.taken (accs n m.tunnel) h.deed)
-      (record { written = (omega arith, codes.0, codes.1); session = fits }, tt) (tt, tt) (put_of e x e.calls m.tunnel u o.after)
+      (record { written = (omega arith, codes.0, codes.1); session = fits }, tt) (tt, tt) (tt, tt) (put_of e x e.calls m.tunnel u o.after)
 
   told : (session : ℕ) → m.remote ≡ session → session < 65536 → m.remote < 65536
   told session same small = rw same small
@@ -103,11 +104,11 @@ module _ (codecs : Codecs) (classes : ClassIsTrue) (accs : Accounts) (n : ℕ) (
 
   by_why : WhyRefused e t o.comes.header.session (message_in body) (call_fault_in body) m → Within (after accs d) n x sender ev
   by_why (IsNotGranted remote serial calling r said none not_granted same result error) =
-      refuses (Icrq remote serial calling) said (told remote same (written (Icrq remote serial calling) said).0)
+      refuses (Icrq remote serial calling) tt said (told remote same (written (Icrq remote serial calling) said).0)
       (λ l session says. inl (serial, calling, says ∙ ap (λ q. Icrq q serial calling) (sym same)))
   by_why (IsOutgoing remote said same result error) = absurd (written (Ocrq remote) said)
   by_why (IsReplyToNone remote said none lns same result error) =
-      refuses (Icrp remote) said (told remote same (written (Icrp remote) said).0)
+      refuses (Icrp remote) tt said (told remote same (written (Icrp remote) said).0)
       (λ l session says. inr (says ∙ ap (λ q. Icrp q) (sym same)))
   by_why (IsWrong f fault same result error) = absurd (let none = sound in cc)
 

@@ -50,7 +50,9 @@ no_account_ok accs n i = record {
   peer = omega arith;
   remote = omega arith;
   spelled = tt;
-  taken = λ number t there. absurd cc;
+  told = tt;
+  taken = λ number t there lt. absurd cc;
+  ignored = λ number t there le. absurd cc;
 }
 
 pub begins : HoldsAt 0 empty_run

@@ -1,40 +1,74 @@
 -- The letter that a tunnel hears next, and the tunnel that sent it.
-use Rattle.std.proofs.Common.{◌≡◌, ⊎_elim, ℕ, List, refl, sym, ap, ◌∙◌, Option, arith}
-use Rattle.std.specs.Prelude.{length}
+use Rattle.std.proofs.Common.{◌≡◌, ℕ, List, refl, sym, ap, ◌∙◌, subst, Option, Some, arith}
+use Rattle.std.specs.Prelude.{length, slice_get}
 use Rattle.l2tp_header.specs.declared.header.Header.{Header}
 use Rattle.control_message.specs.declared.message.Message.{Message}
+use Rattle.control_message.specs.declared.message.Message.TheVariants.{Sccrq, Sccrp, Scccn, StopCcn, Hello, Ocrq, Ocrp, Occn, Icrq, Icrp, Iccn, Cdn, Wen, Sli}
 use Rattle.recv_window.specs.Window.{ClassIsTrue}
 use Rattle.protocol_model.specs.declared.event.Event.{Event}
 use Rattle.protocol_model.specs.declared.out.ControlOrigin.{ControlOrigin}
 use Rattle.protocol_model.specs.Turn.{Tunnel}
 use Rattle.protocol_model.specs.End.{End}
 use Rattle.protocol_model.specs.World.{Sender}
+use Rattle.step_laws.specs.Letters.{Letter}
 use Rattle.frame_laws.specs.Codecs.{Codecs}
-use Rattle.connection_laws.specs.Facts.{Accounts, AccountOk, Within}
+use Rattle.connection_laws.specs.Accounts.{Acceptor, Account}
+use Rattle.connection_laws.specs.Facts.{Accounts, IsNoStop, IsStopCcn, AccountOk, Within}
 use Rattle.connection_laws.specs.Steps.{NextLetter, NextIsHeard, PlainIsHeard}
-use Rattle.connection_laws.proofs.Hearing.{sender_in, Linked, FromOpener, FromAcceptor, acceptor_of, Heard, HeardNext, heard, heard_next, letter_some, next_heard, said_so}
+use Rattle.connection_laws.proofs.Hearing.{sender_in, Sends, Chosen, Asks, Leaves, Linked, FromOpener, FromAcceptor, acceptor_of, Heard, heard, heard_next, letter_some}
+use Rattle.connection_laws.proofs.NextHeard.{HeardNext, next_heard, said_so}
 
 -- the sender of the next letter goes to this node, and has learned this tunnel
 pub record Learned (accs : Accounts) (n i : ℕ) (o : ControlOrigin) : Type 0 where
   pub remote : (sender_in accs n i o).remote ≡ i
   pub peer : (sender_in accs n i o).peer ≡ n
 
+-- the opener of an acceptor goes to its node
+pub opener_goes : (accs : Accounts) (n i : ℕ) (o : ControlOrigin) → ((m j : ℕ) → AccountOk accs m j (accs m j)) → (accs n i).part ≡ Acceptor
+    → (accs n i).remote ≡ o.tunnel → (sender_in accs n i o).peer ≡ n
+opener_goes accs n i o all here told =
+    sym (ap (λ r. (accs (accs n i).peer r).peer) told) ∙ (acceptor_of accs n i (accs n i) (all n i) here).peer
+
+-- a letter doesn't stop a tunnel and stop it
+pub no_stop_is : (m : Message) → IsNoStop m → IsStopCcn m → ⊥
+no_stop_is (StopCcn tunnel code error) p s = p
+no_stop_is (Sccrq o) p s = s
+no_stop_is (Sccrp o) p s = s
+no_stop_is Scccn p s = s
+no_stop_is Hello p s = s
+no_stop_is (Ocrq session) p s = s
+no_stop_is Ocrp p s = s
+no_stop_is Occn p s = s
+no_stop_is Wen p s = s
+no_stop_is Sli p s = s
+no_stop_is (Icrq session serial calling) p s = s
+no_stop_is (Icrp session) p s = s
+no_stop_is (Iccn speed framing sequenced) p s = s
+no_stop_is (Cdn session code error) p s = s
+
+-- a letter that stops no tunnel is of one that has learned this one
+pub plain_no_stop : (b : Account) (k : ℕ) (l : Letter) → slice_get b.given k ≡ Some l → IsNoStop l.message
+    → ((x : Letter) → slice_get b.given k ≡ Some x → IsStopCcn x.message) → ⊥
+plain_no_stop b k l there plain stops = no_stop_is l.message plain (stops l there)
+
 learned_by : (accs : Accounts) (n i : ℕ) (o : ControlOrigin) → ((m j : ℕ) → AccountOk accs m j (accs m j)) → o.ns ≡ length (accs n i).taken
-    → Linked accs n i o → Learned accs n i o
-learned_by accs n i o all number (FromOpener here told part which) =
-    let acceptor = acceptor_of accs n i (accs n i) (all n i) here in
-    let peer : (sender_in accs n i o).peer ≡ n = sym (ap (λ r. (accs (accs n i).peer r).peer) told) ∙ acceptor.peer in
-    ⊎_elim
-    (λ (chosen : (sender_in accs n i o).remote ≡ i). record { remote = chosen; peer = peer })
-    (λ (z : (o.ns ≡ 0) × (o.nr ≡ 0)). let some = acceptor.some in let first = z.0 in let no : ⊥ = omega arith in absurd no)
-    which
-learned_by accs n i o all number (FromAcceptor here part remote peer) = record { remote = remote; peer = peer }
+    → (l : Letter) → slice_get (sender_in accs n i o).given (length (accs n i).taken) ≡ Some l → IsNoStop l.message → Linked accs n i o
+    → Learned accs n i o
+learned_by accs n i o all number l there plain (FromOpener here told part which) = by which
+  where
+    by : Sends (sender_in accs n i o) i o → Learned accs n i o
+    by (Chosen chosen) = record { remote = chosen; peer = opener_goes accs n i o all here told }
+    by (Asks first how) = let some = (acceptor_of accs n i (accs n i) (all n i) here).some in let no : ⊥ = omega arith in absurd no
+    by (Leaves lost stops) =
+        let it : slice_get (sender_in accs n i o).given o.ns ≡ Some l = rw number there in
+        absurd (plain_no_stop (sender_in accs n i o) o.ns l it plain stops)
+learned_by accs n i o all number l there plain (FromAcceptor here part remote peer) = record { remote = remote; peer = peer }
 
 next_letter : (accs : Accounts) (n : ℕ) (e : End) (sender : Option Sender) (ev : Event) (within : Within accs n e sender ev) (i : ℕ) (t : Tunnel) (h : Header)
     (bytes : List ℕ) (from : Heard accs n e sender ev within.comes i t h bytes) (next : HeardNext accs n i from.o h bytes) (session : ℕ) (m : Message)
-    → next.letter.session ≡ session → next.letter.message ≡ m → NextLetter accs n i sender session m
-next_letter accs n e sender ev within i t h bytes from next session m same says =
-    let k = learned_by accs n i from.o within.accounts next.number from.linked in
+    → next.letter.session ≡ session → next.letter.message ≡ m → IsNoStop m → NextLetter accs n i sender session m
+next_letter accs n e sender ev within i t h bytes from next session m same says plain =
+    let k = learned_by accs n i from.o within.accounts next.number next.letter next.there (subst IsNoStop (sym says) plain) from.linked in
     record {
       from = record { node = (accs n i).peer; tunnel = from.o.tunnel };
       sender_is = from.sender_is;
@@ -48,17 +82,17 @@ next_letter accs n e sender ev within i t h bytes from next session m same says 
     }
 
 pub next_is_heard : Codecs → ClassIsTrue → NextIsHeard
-next_is_heard codecs classes accs n e sender ev within i t there session m k =
+next_is_heard codecs classes accs n e sender ev within i t there live session m plain k =
     let s = said_so codecs classes accs n e sender ev within i t there session m k in
-    next_letter accs n e sender ev within i t k.hears.header k.hears.bytes s.heard s.next session m s.session_is s.message
+    next_letter accs n e sender ev within i t k.hears.header k.hears.bytes s.heard s.next session m s.session_is s.message plain
 
 pub plain_is_heard : Codecs → ClassIsTrue → PlainIsHeard
-plain_is_heard codecs classes accs n e sender ev within i t there k =
+plain_is_heard codecs classes accs n e sender ev within i t there live k =
     let from = heard codecs accs n e sender ev within i t there k.header k.bytes (heard_next ev t.control k) in
     let read = letter_some (sender_in accs n i from.o) from.o k.header k.bytes from.read k.some in
     let next = next_heard classes accs n e sender ev within i t there k.header k.bytes from read k.next in
     record {
       message = next.letter.message;
       said = next.said;
-      next = next_letter accs n e sender ev within i t k.header k.bytes from next k.header.session next.letter.message (sym next.session) refl;
+      next = λ plain. next_letter accs n e sender ev within i t k.header k.bytes from next k.header.session next.letter.message (sym next.session) refl plain;
     }

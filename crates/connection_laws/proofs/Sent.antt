@@ -1,5 +1,5 @@
 -- What a step sends is a copy of a letter of its sender, or of none, or a data message.
-use Rattle.std.proofs.Common.{◌≡◌, inl, inr, ⊎_elim, ℕ, zero, suc, ◌+◌, ◌-◌, ◌%◌, ◌^◌, ◌<◌, true, false, List, [], ◌∷◌, length, drop, map, refl, sym, ap, ◌∙◌, subst, Option, Some, None, arith}
+use Rattle.std.proofs.Common.{◌≡◌, ◌⊎◌, inl, inr, ⊎_elim, ℕ, zero, suc, ◌+◌, ◌-◌, ◌%◌, ◌^◌, ◌<◌, ◌≤◌, true, false, List, [], ◌∷◌, length, drop, map, refl, sym, ap, ◌∙◌, subst, Option, Some, None, arith}
 use Rattle.std.proofs.lemmas.Option.{slice_get-map, slice_get_within}
 use Rattle.std.specs.Prelude.{slice_get, option_map}
 use Rattle.id_table.specs.Ids.{at}
@@ -21,7 +21,7 @@ use Rattle.protocol_model.specs.World.{Sender}
 use Rattle.step_laws.specs.Letters.{Letter, letter_at, Carries}
 use Rattle.step_laws.specs.Letters as carries
 use Rattle.connection_laws.specs.Accounts.{Part, Unmade, Opener, Acceptor, Account}
-use Rattle.connection_laws.specs.Facts.{Accounts, IsMade, IsPart, AccountOk, kept_letter, LiveOk, Says, ALetter, Nothing, IsCopy, OriginOk, PacketOk, Within}
+use Rattle.connection_laws.specs.Facts.{Accounts, IsMade, IsLost, IsPart, AccountOk, kept_letter, LiveOk, Says, ALetter, Nothing, IsCopy, OriginOk, PacketOk, Within}
 use Rattle.connection_laws.proofs.Written.{node_again}
 use Rattle.connection_laws.proofs.Later.{live_made}
 use Rattle.connection_laws.proofs.Budget.{GivenBelow}
@@ -47,11 +47,21 @@ number_there : (acked number count place : ℕ) → place ≡ (number + (2 ^ 64 
     → acked + place ≡ number
 number_there acked number count place is lt there room = omega (arith, is, lt, there, room)
 
--- a tunnel that has learned none has taken nothing
-none_taken : (accs : Accounts) (n i : ℕ) (a : Account) (q : Part) → IsPart accs n i a q → (q ≡ Unmade → ⊥) → a.remote ≡ 0 → length a.taken ≡ 0
-none_taken accs n i a Unmade ok made z = absurd (made refl)
-none_taken accs n i a Opener ok made z = ap length (ok.none z)
-none_taken accs n i a Acceptor ok made z = absurd (ok.known z)
+-- a tunnel that has learned none is lost, or has given one letter and taken nothing
+none_learned : (accs : Accounts) (n i : ℕ) (a : Account) (q : Part) → IsPart accs n i a q → (q ≡ Unmade → ⊥) → a.remote ≡ 0
+    → IsLost a ⊎ ((length a.taken ≡ 0) × (length a.given ≡ 1))
+none_learned accs n i a Unmade ok made z = absurd (made refl)
+none_learned accs n i a Opener ok made z = ⊎_elim
+    (λ (none : a.taken ≡ []).
+    ⊎_elim (λ (one : length a.given ≡ 1). inr (ap length none, one)) (λ (k : IsLost a × (length a.given ≤ 2)). inl k.0) (ok.one_given z))
+    (λ (k : IsLost a × (length a.taken ≤ 2)). inl k.0)
+    (ok.none z)
+none_learned accs n i a Acceptor ok made z = absurd (ok.known z)
+
+-- the letter of a copy that isn't empty was given
+pub copy_there : (b : Account) (o : ControlOrigin) (tunnel : ℕ) (bytes : List ℕ) → Says b o tunnel bytes → o.empty ≡ false → o.ns < length b.given
+copy_there b o tunnel bytes (ALetter l full there are) f = slice_get_within b.given o.ns l there
+copy_there b o tunnel bytes (Nothing empty are) f = absurd cc
 
 module _ (ms : Accounts) (n : ℕ) (x : End) (sender : Option Sender) (ev : Event) (most : ℕ) (within : Within ms n x sender ev) (given : GivenBelow ms most)
     (last : most + 1 < 2 ^ 64) (i : ℕ) (t : Tunnel) (there : at x.tunnels i ≡ Some t) where
@@ -91,7 +101,14 @@ module _ (ms : Accounts) (n : ℕ) (x : End) (sender : Option Sender) (ev : Even
       nr = (let same = live.taken in omega arith);
       tunnel = t.control.remote;
       named = ⊎_elim
-          (λ (z : t.control.remote ≡ 0). inl (z, nr ∙ (live.taken ∙ none_taken ms n i a a.part ok.part made (sym live.remote ∙ z))))
+          (λ (z : t.control.remote ≡ 0). inl (
+            z,
+            ⊎_elim
+                (λ (lost : IsLost a). inl lost)
+                (λ (k : (length a.taken ≡ 0) × (length a.given ≡ 1)).
+                inr (nr ∙ live.taken ∙ k.0, λ full. (let lt = copy_there a c t.control.remote bytes says full in let one = k.1 in omega arith)))
+                (none_learned ms n i a a.part ok.part made (sym live.remote ∙ z)),
+          ))
           (λ some. inr (some, live.remote)) (same_or_not t.control.remote 0);
       says = says;
     }

@@ -1,5 +1,5 @@
 -- What holds where a step begins.
-use Rattle.std.proofs.Common.{◌≡◌, ℕ, ◌+◌, ◌≤◌, Bool, true, false, cond, refl, subst, Option, Some, None, Ok, arith}
+use Rattle.std.proofs.Common.{◌≡◌, ⊎_elim, ℕ, ◌+◌, ◌≤◌, Bool, true, false, cond, refl, subst, Option, Some, None, Ok, arith}
 use Rattle.std.proofs.lemmas.Bool.Decides.{nat_tests}
 use Rattle.id_table.specs.Ids.{at}
 use Rattle.l2tp_header.specs.declared.header.Header.{Header}
@@ -15,7 +15,8 @@ use Rattle.protocol_model.specs.declared.packet.Packet.{Packet}
 use Rattle.protocol_model.specs.declared.refusal.Refusal.TheVariants.{HalfSpace}
 use Rattle.protocol_model.specs.declared.tunnel.Control.{Control}
 use Rattle.protocol_model.specs.Names.{address_of}
-use Rattle.protocol_model.specs.Reading.{body_of, message_in}
+use Rattle.protocol_model.specs.declared.event.Addressee.TheVariants.{Stops}
+use Rattle.protocol_model.specs.Reading.{body_of, message_in, at_zero}
 use Rattle.protocol_model.specs.Turn.{Tunnel}
 use Rattle.protocol_model.specs.End.{End, reached}
 use Rattle.protocol_model.specs.World.{Node, outlives, too_old, refused_by, sender_of}
@@ -25,6 +26,8 @@ use Rattle.connection_laws.specs.Accounts.{Account}
 use Rattle.connection_laws.specs.Facts.{Accounts, AccountOk, LiveOk, EndOk, IsCopy, OriginOk, PacketOk, AreNear, IsPacket}
 use Rattle.connection_laws.proofs.Later.{live_made}
 use Rattle.connection_laws.proofs.Told.{copy_tells, copy_says}
+use Rattle.connection_laws.proofs.Stops.{TellsStop, stops_by, no_stop}
+use Rattle.connection_laws.proofs.Hearing.{IsLetterRead, IsNoneRead, CopyRead, copy_read}
 use Rattle.connection_laws.proofs.Reached.{is_reached}
 
 -- a live tunnel has an id
@@ -66,6 +69,17 @@ module _ (codecs : Codecs) (accs : Accounts) (accounts : (m j : ℕ) → Account
       let b = copy_says codecs accs p.from o.tunnel (accs p.from o.tunnel) p o (accounts p.from o.tunnel) c h read (Sccrq x) said in
       written_opens b.letter.message x b.says b.spelled.written z
 
+  -- so does a StopCCN that tells one
+  stops_some : (o : ControlOrigin) → IsCopy (accs p.from o.tunnel) p o → (h : Header) → header_of p.bytes ≡ Ok h
+      → (r : ℕ) → at_zero (body_of h p.bytes) ≡ Stops r → r ≡ 0 → ⊥
+  stops_some o c h read r stops =
+      let b = accs p.from o.tunnel in
+      let ok_there = accounts p.from o.tunnel in
+      ⊎_elim
+      (λ (q : IsLetterRead b o h p.bytes). (stops_by (body_of h p.bytes) q.letter.message r q.said stops).some)
+      (λ (q : IsNoneRead o h p.bytes). absurd (no_stop codecs r (let s = stops in rw q.body at s)))
+      (copy_read codecs b p o h ok_there.remote ok_there.spelled c read).says
+
   -- the tunnel that a copy is for is the one that it reaches
   pub copy_reaches : (o : ControlOrigin) → IsCopy (accs p.from o.tunnel) p o → (i : ℕ) (t : Tunnel) (h : Header) → at e.tunnels i ≡ Some t
       → t.control.peer ≡ address_of p.from → header_of p.bytes ≡ Ok h → IsFor h p.bytes t.control → reached e (address_of p.from) p.bytes ≡ Some t.control
@@ -73,7 +87,7 @@ module _ (codecs : Codecs) (accs : Accounts) (accounts : (m j : ℕ) → Account
       let tells = copy_tells codecs accs p.from o.tunnel (accs p.from o.tunnel) p o (accounts p.from o.tunnel) c h read in
       subst (λ q. reached e q p.bytes ≡ Some t.control) peer
       (is_reached accs n e ok i t there (live_some accs n i (accs n i) t (accounts n i) (ok.live i t there)) p.bytes h read tells.control
-      (opens_some o c h read) is)
+      (opens_some o c h read) (stops_some o c h read) is)
 
   near_of : (o : ControlOrigin) → IsCopy (accs p.from o.tunnel) p o → too_old o (reached e (address_of p.from) p.bytes) ≡ None
       → AreNear accs n e p (origin.Control o)

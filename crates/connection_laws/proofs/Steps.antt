@@ -1,8 +1,8 @@
 -- What a chain of moves of a step keeps.
-use Rattle.std.proofs.Common.{◌≡◌, ⊎_elim, ℕ, ◌+◌, ◌*◌, ◌^◌, ◌<◌, ◌≤◌, List, [], ◌∷◌, length, map, refl, sym, ap, ◌∙◌, subst, Option, Ok, arith, flat_map}
+use Rattle.std.proofs.Common.{◌≡◌, ℕ, ◌+◌, ◌*◌, ◌^◌, ◌<◌, ◌≤◌, List, [], ◌∷◌, length, map, refl, sym, ap, ◌∙◌, subst, Option, Some, Ok, arith, flat_map}
 use Rattle.std.proofs.lemmas.List.{length-append}
+use Rattle.id_table.specs.Ids.{at}
 use Rattle.id_source.specs.Spaces.{draws}
-use Rattle.tunnel_fsm.specs.declared.table.TunnelState.TheVariants.{WaitCtlReply}
 use Rattle.tunnel_fsm.specs.Rows.{state_number}
 use Rattle.protocol_model.specs.declared.event.Event.{Event}
 use Rattle.protocol_model.specs.declared.moves.Move.{Move}
@@ -13,11 +13,12 @@ use Rattle.protocol_model.specs.End.{End}
 use Rattle.protocol_model.specs.World.{World, Sender, Deed, deed_of}
 use Rattle.step_laws.specs.Moves.{Does, Chain}
 use Rattle.step_laws.specs.Ups.{reads_of_move}
-use Rattle.connection_laws.specs.Accounts.{Part, Unmade, Opener, Acceptor, Account, no_account, about, account_from}
-use Rattle.connection_laws.specs.Facts.{Accounts, IsInState, Within}
+use Rattle.connection_laws.specs.Accounts.{Account, no_account, about, account_from}
+use Rattle.connection_laws.specs.Facts.{Accounts, IsOpen, Within}
 use Rattle.connection_laws.proofs.Keeps.{after, IsMoved, MovesKeep}
-use Rattle.connection_laws.specs.Steps.{MovesWithin}
+use Rattle.connection_laws.specs.Steps.{MovesWithin, ClosingsAreKnown}
 use Rattle.connection_laws.proofs.Later.{extends_same, extends_on, AllExtend, all_extend, MayEnter, only_after, after_there}
+use Rattle.connection_laws.proofs.States.{not_closed, is_open_so, is_waiting, closes_open}
 use Rattle.connection_laws.proofs.Written.{draw_is}
 use Rattle.connection_laws.proofs.Beginning.{undrawn}
 use Rattle.connection_laws.proofs.Budget.{AckedBelow, GivenBelow, does_below, given_after, has_numbers, has_counts, few_out}
@@ -38,6 +39,8 @@ does_role moment ev x (move.Refused m) y h = ap (λ (e : End). e.role) h.after
 does_role moment ev x (move.EndTold m) y h = ap (λ (e : End). e.role) h.after
 does_role moment ev x (move.EndHeard m) y h = ap (λ (e : End). e.role) h.after
 does_role moment ev x (move.EndSilent m) y h = ap (λ (e : End). e.role) h.after
+does_role moment ev x (move.Closed m) y h = ap (λ (e : End). e.role) h.after
+does_role moment ev x (move.ClosedBy m) y h = ap (λ (e : End). e.role) h.after
 does_role moment ev x (move.Cleared i) y h = ap (λ (e : End). e.role) h.after
 does_role moment ev x (move.Greeted m) y h = ap (λ (e : End). e.role) h.after
 does_role moment ev x (move.TookPlain m) y h = ap (λ (e : End). e.role) h.after
@@ -48,26 +51,31 @@ does_role moment ev x (move.Quiet i) y h = ap (λ (e : End). e.role) h.after
 does_role moment ev x (move.FrameSent m) y h = ap (λ (e : End). e.role) h.after
 does_role moment ev x (move.FrameUp m) y h = ap (λ (e : End). e.role) h.after
 
--- ---- what a tunnel is before a move that makes it, or that learns its partner
+-- ---- what a tunnel is before a move that makes it, that learns its partner, or that closes it
 
--- a tunnel whose SCCRQ isn't answered has learned none
-waits_unknown : (accs : Accounts) (i : ℕ) (a : Account) (t : Tunnel) (q : Part) → IsInState accs i a t q → t.control.state ≡ WaitCtlReply → a.remote ≡ 0
-waits_unknown accs i a t Unmade h is = absurd h
-waits_unknown accs i a t Opener h is = ⊎_elim
-    (λ (k : (state_number t.control.state ≡ 1) × (a.remote ≡ 0)). k.1)
-    (λ (k : (state_number t.control.state ≡ 3) × (a.remote ≡ 0 → ⊥)). absurd (let e = rw is at k.0 in omega arith)) h
-waits_unknown accs i a t Acceptor h is = ⊎_elim (λ k. absurd (let e = rw is at k.0 in omega arith)) (λ k. absurd (let e = rw is at k.0 in omega arith)) h
-
-module _ (accs : Accounts) (n : ℕ) (e : End) (sender : Option Sender) (moment : ℕ) (ev : Event) (within : Within accs n e sender ev) where
+module _ (closings : ClosingsAreKnown) (accs : Accounts) (n : ℕ) (e : End) (sender : Option Sender) (moment : ℕ) (ev : Event)
+    (within : Within accs n e sender ev) where
   drawn_unknown : (k : ℕ) → draws e.tunnel_ids ≡ Ok k → accs n k ≡ no_account
   drawn_unknown k h = undrawn accs n e sender ev within k (draw_is e.tunnel_ids k h).0
+
+  -- a tunnel that isn't closed is open
+  opens : (i : ℕ) (t : Tunnel) → at e.tunnels i ≡ Some t → (state_number t.control.state ≡ 4 → ⊥) → IsOpen (accs n i)
+  opens i t there unclosed = is_open_so accs i (accs n i) t (accs n i).part (within.end.live i t there).state unclosed
 
   may_enter : (m : Move) (x : End) → Does e moment ev m x → MayEnter m (accs n (about m))
   may_enter (move.Opened m) x h = ap (λ (a : Account). a.part) (drawn_unknown m.tunnel h.drawn)
   may_enter (move.Accepted m) x h =
-      let none = drawn_unknown m.tunnel h.drawn in (ap (λ (a : Account). a.part) none, ap (λ (a : Account). a.remote) none)
+      let none = drawn_unknown m.tunnel h.drawn in
+      (ap (λ (a : Account). a.part) none, ap (λ (a : Account). a.remote) none, ap (λ (a : Account). a.closed) none)
   may_enter (move.Connected m) x h =
-      let a = accs n m.tunnel in waits_unknown accs m.tunnel a h.tunnel a.part (within.end.live m.tunnel h.tunnel h.there).state h.state
+      let a = accs n m.tunnel in
+      let waits = is_waiting accs m.tunnel a h.tunnel a.part (within.end.live m.tunnel h.tunnel h.there).state (ap state_number h.state) in
+      (waits.remote, waits.is_open)
+  may_enter (move.Closed m) x h = (
+    closings accs n e x sender moment ev within m h,
+    opens m.tunnel h.tunnel h.there (closes_open h.tunnel.control.state h.on h.row),
+  )
+  may_enter (move.ClosedBy m) x h = opens m.tunnel h.tunnel h.there (not_closed h.tunnel.control.state h.live)
   may_enter (move.Confirmed m) x h = tt
   may_enter (move.Added m) x h = tt
   may_enter (move.Requested m) x h = tt
@@ -113,9 +121,9 @@ reads_in ms = flat_map reads_of_move ms
 abbrev pub deeds : World → ℕ → ℕ → Role → Option Sender → List Move → List Deed
 deeds v line n r sender ms = map (λ m. deed_of v line n r sender m) ms
 
-module _ (moves_keep : MovesKeep) (v : World) (line n : ℕ) (r : Role) (sender : Option Sender) (moment : ℕ) (ev : Event) where
+module _ (moves_keep : MovesKeep) (closings : ClosingsAreKnown) (v : World) (line n : ℕ) (r : Role) (sender : Option Sender) (moment : ℕ) (ev : Event) where
   pub chain_keeps : (ms : List Move) (accs : Accounts) (e x : End) (top most : ℕ) → Chain moment ev e ms x → e.role ≡ r → Within accs n e sender ev
-      → AckedBelow e top → GivenBelow accs most → top + 8192 * length (reads_in ms) + 8192 ≤ most → most + 1 < 2 ^ 64
+      → AckedBelow e top → GivenBelow accs most → top + 8192 * length (reads_in ms) + 8192 ≤ most → most + 3 < 2 ^ 64
       → Ran accs (afterwards accs (deeds v line n r sender ms)) n e x sender moment ev (λ m. deed_of v line n r sender m) ms most
   unfolding account_from
   chain_keeps [] accs e x top most h role within below had room last = record {
@@ -142,7 +150,7 @@ module _ (moves_keep : MovesKeep) (v : World) (line n : ℕ) (r : Role) (sender 
       let w : Within (after accs d) n y sender ev = moves_keep accs n e y sender moment ev m d made in
       let next = does_below e y moment ev m top within.end.order (few_out accs n e sender ev within) below h.1 in
       let given = given_after accs n e y sender moment ev m d (top + 8192 * reads) most refl refl h.1 w next (omega (arith, room, count)) had in
-      let only = only_after accs d n m refl refl (may_enter accs n e sender moment ev within m y h.1) in
+      let only = only_after accs d n m refl refl (may_enter closings accs n e sender moment ev within m y h.1) in
       let grown = all_extend accs (after accs d) n (about m) only in
       let k = chain_keeps ms (after accs d) y x (top + 8192 * reads) most h.2 (does_role moment ev e m y h.1 ∙ role) w next given
       (omega (arith, room, count)) last in

@@ -23,12 +23,14 @@ use Rattle.protocol_model.specs.End.{End}
 use Rattle.protocol_model.specs.World.{Sender, Deed, config_of}
 use Rattle.step_laws.specs.Letters.{Letter, letters_of}
 use Rattle.connection_laws.specs.Accounts.{Part, Unmade, Opener, Acceptor, Taken, Account, takes_at, gives_also}
-use Rattle.connection_laws.specs.Facts.{Accounts, IsMade, IsNoOpening, IsSpelled, BeginsWith, Tells, IsTaken, AreTaken, AreJoined, partner_in, IsOpener, IsAcceptor, IsPart, AccountOk, kept_letter, IsInState, AreAcked, LiveOk, IsNear, Within}
+use Rattle.connection_laws.specs.Facts.{Accounts, IsMade, IsNoOpening, IsStopCcn, IsSpelled, TellsOwn, BeginsWith, Tells, IsTaken, AreTaken, AreIgnored, IsOpen, AllWait, AreJoined, partner_in, IsOpener, IsAcceptor, IsPart, AccountOk, kept_letter, IsInState, AreAcked, LiveOk, IsNear, Within}
 use Rattle.connection_laws.proofs.Keeps.{IsDeed}
 use Rattle.connection_laws.proofs.Puts.{Extends, IsOnly, StaysJoined, EndPut, IsPut}
 use Rattle.connection_laws.proofs.Later.{live_made, AllExtend, all_extend, is_taken_on}
 use Rattle.connection_laws.proofs.Put.{puts_keep}
-use Rattle.connection_laws.proofs.Hearing.{opener_of, acceptor_of, sender_in, Heard, HeardNext, TakesOf, OfPartner, OfFirst, IsPaired, joined_pair, swap_joined}
+use Rattle.connection_laws.proofs.States.{lost_unless, heeded_open, opener_in, acceptor_in, is_open_so}
+use Rattle.connection_laws.proofs.Hearing.{opener_of, acceptor_of, sender_in, Heard}
+use Rattle.connection_laws.proofs.NextHeard.{HeardNext, TakesOf, OfPartner, OfFirst, OfLost, OfOther, OfOpener, IsPaired, joined_opener}
 use Rattle.connection_laws.proofs.Acknowledging.{still_apart}
 
 -- ---- lists
@@ -92,22 +94,27 @@ pub record TakesOn (t u : Tunnel) (more : List Letter) : Type 0 where
   pub calls : (s : ℕ) (c : Call) → at u.calls s ≡ Some c → c.remote < 65536
   pub order : Ascends u.calls
 
--- an opener that has learned no partner waits for an SCCRP, and takes nothing else
+-- an opener that has learned no partner waits for an SCCRP, and takes nothing else; and an open tunnel takes no StopCCN
 pub paired_if : (accs : Accounts) (n i : ℕ) (o : ControlOrigin) (t : Tunnel) (l : Letter) → LiveOk accs n i (accs n i) t
-    → (state_number t.control.state ≡ 1 → (opening : Opening) → l.message ≡ Sccrp opening → ⊥) → TakesOf accs n i o l
-    → IsPaired accs n i × ((accs n i).remote ≡ o.tunnel)
-paired_if accs n i o t l live other (OfPartner pair told) = (pair, told)
-paired_if accs n i o t l live other (OfFirst here none taken part remote peer opening says id) =
+    → (state_number t.control.state ≡ 4 → ⊥) → (state_number t.control.state ≡ 1 → (opening : Opening) → l.message ≡ Sccrp opening → ⊥)
+    → (IsStopCcn l.message → ⊥) → TakesOf accs n i o l → IsPaired accs n i × ((accs n i).remote ≡ o.tunnel)
+paired_if accs n i o t l live unclosed other plain (OfPartner pair told) = (pair, told)
+paired_if accs n i o t l live unclosed other plain (OfFirst here none taken part remote peer opening says id) =
     let state : IsInState accs i (accs n i) t Opener = subst (IsInState accs i (accs n i) t) here live.state in
     absurd (⊎_elim
-    (λ (s : (state_number t.control.state ≡ 1) × ((accs n i).remote ≡ 0)). other s.0 opening says)
-    (λ (s : (state_number t.control.state ≡ 3) × ((accs n i).remote ≡ 0 → ⊥)). s.1 none)
-    state)
+    (λ (s : (state_number t.control.state ≡ 1) × ((accs n i).remote ≡ 0) × IsOpen (accs n i) × AllWait t.calls). other s.0 opening says)
+    (λ (s : (state_number t.control.state ≡ 3) × ((accs n i).remote ≡ 0 → ⊥) × IsOpen (accs n i)). s.1 none)
+    (opener_in accs i (accs n i) t state unclosed))
+paired_if accs n i o t l live unclosed other plain (OfLost here lost few) =
+    absurd (lost_unless (accs n i) (is_open_so accs i (accs n i) t (accs n i).part live.state unclosed) lost)
+paired_if accs n i o t l live unclosed other plain (OfOther here known few stops) = absurd (plain stops)
+paired_if accs n i o t l live unclosed other plain (OfOpener here lost few stops) = absurd (plain stops)
 
 pub record PairTakes (accs ms : Accounts) (n : ℕ) (e x : End) (sender : Option Sender) (ev : Event) (i : ℕ) (t u : Tunnel) (tk : Taken) (more : List Letter)
     (h : Header) (bytes : List ℕ) : Type 0 where
   pub within : Within accs n e sender ev
   pub there : at e.tunnels i ≡ Some t
+  pub unclosed : state_number t.control.state ≡ 4 → ⊥
   pub heard : Heard accs n e sender ev within.comes i t h bytes
   pub next : HeardNext accs n i heard.o h bytes
   pub pair : IsPaired accs n i
@@ -120,6 +127,7 @@ pub record PairTakes (accs ms : Accounts) (n : ℕ) (e x : End) (sender : Option
   pub is : ms n i ≡ with_taken tk more (accs n i)
   pub spelled : AllByRecursion IsSpelled more
   pub plain : AllByRecursion (λ (l : Letter). IsNoOpening l.message) more
+  pub own : AllByRecursion (λ (l : Letter). TellsOwn i l.message) more
   pub put_is : EndPut e x i u
 
 module _ (accs ms : Accounts) (n : ℕ) (e x : End) (sender : Option Sender) (ev : Event) (i : ℕ) (t u : Tunnel) (tk : Taken) (more : List Letter)
@@ -168,8 +176,8 @@ module _ (accs ms : Accounts) (n : ℕ) (e x : End) (sender : Option Sender) (ev
   sender_stays : p ≡ sender_in accs n i k.heard.o
   sender_stays = ap (λ (r : ℕ). accs a.peer r) k.told
 
-  joined_before : AreJoined a p
-  joined_before = joined_pair accs n i k.within.accounts k.pair
+  is_open : IsOpen a
+  is_open = is_open_so accs i a t a.part live.state k.unclosed
 
   -- ---- what the two know of each other
 
@@ -192,22 +200,30 @@ module _ (accs ms : Accounts) (n : ℕ) (e x : End) (sender : Option Sender) (ev
   taken_there : length a.taken < length p.given
   taken_there = slice_get_within p.given (length a.taken) k.next.letter (rw sender_stays k.next.there)
 
-  joined : AreJoined b p
-  joined =
-      let before = joined_before in
+  -- what isn't acknowledged is little
+  few_given : length b.given ≤ length p.taken + 8192
+  few_given =
       let counted = live.counted in
       let acked = acked_before in
       let queued = k.goes.queued in
       let few = k.goes.few in
-      record {
-        here = omega (arith, more_taken, taken_there);
-        there = (let le = before.there in omega (arith, more_given));
-        few_here = omega (arith, more_given);
-        few_there = (let le = before.few_there in omega (arith, more_taken));
-      }
+      omega (arith, more_given)
 
-  joined_now : AreJoined b q
-  joined_now = rw stays joined
+  opener_joined : AreJoined a p → AreJoined b q
+  opener_joined before = rw stays (record {
+    here = inl (omega (arith, more_taken, taken_there));
+    there = (let le = before.there in omega (arith, more_given));
+    few_here = few_given;
+    few_there = (let le = before.few_there in omega (arith, more_taken));
+  })
+
+  acceptor_joined : AreJoined p a → AreJoined q b
+  acceptor_joined before = rw stays (record {
+    here = ⊎_elim (λ (le : length p.taken ≤ length a.given). inl (omega (arith, more_given))) (λ two. inr two) before.here;
+    there = omega (arith, more_taken, taken_there);
+    few_here = (let le = before.few_here in omega (arith, more_taken));
+    few_there = few_given;
+  })
 
   -- ---- its account
 
@@ -217,11 +233,12 @@ module _ (accs ms : Accounts) (n : ℕ) (e x : End) (sender : Option Sender) (ev
       record {
         begins = begins_on i _ a.given more k.plain before.begins;
         none = λ z. absurd (known z);
+        one_given = λ z. absurd (known z);
         some = λ z. omega (arith, more_taken);
         part = λ z. ap (λ (y : Account). y.part) stays ∙ before.part known;
         peer = λ z. ap (λ (y : Account). y.peer) stays ∙ before.peer known;
         remote = λ z. ap (λ (y : Account). y.remote) stays ∙ before.remote known;
-        joined = λ z. joined_now;
+        joined = λ z. opener_joined (before.joined known);
       }
 
   -- an acceptor that takes more is the one that its opener has learned
@@ -250,7 +267,7 @@ module _ (accs ms : Accounts) (n : ℕ) (e x : End) (sender : Option Sender) (ev
   part Acceptor own = acceptor own
 
   extends : Extends a b
-  extends = record { part = inr refl; peer = λ z. refl; remote = inr refl; given = (more, refl); taken = (tk ∷ [], refl) }
+  extends = record { part = inr refl; peer = λ z. refl; remote = inr refl; closed = inr refl; given = (more, refl); taken = (tk ∷ [], refl) }
 
   -- the letter that was taken
   newly_taken : IsTaken ms b (length a.taken) tk
@@ -265,10 +282,20 @@ module _ (accs ms : Accounts) (n : ℕ) (e x : End) (sender : Option Sender) (ev
   }
 
   taken : AreTaken ms b
-  taken number y found = ⊎_elim
-      (λ (o : slice_get a.taken number ≡ Some y). is_taken_on accs ms grown a b extends made number y (ok.taken number y o))
+  taken number y found lt = ⊎_elim
+      (λ (o : slice_get a.taken number ≡ Some y).
+      let within_taken = slice_get_within a.taken number y o in
+      let all = heeded_open a is_open in
+      is_taken_on accs ms grown a b extends made number y (ok.taken number y o (omega (arith, within_taken, all))))
       (λ (o : (number ≡ length a.taken) × (tk ≡ y)). rw (o.0, ← o.1) newly_taken)
       (got_push a.taken tk number y found)
+
+  -- it ignores nothing
+  ignored : AreIgnored b
+  ignored number y found le =
+      let lt = slice_get_within b.taken number y found in
+      let all = heeded_open b is_open in
+      absurd (omega (arith, lt, all, le))
 
   account : AccountOk ms n i b
   account = record {
@@ -279,31 +306,33 @@ module _ (accs ms : Accounts) (n : ℕ) (e x : End) (sender : Option Sender) (ev
     peer = ok.peer;
     remote = ok.remote;
     spelled = all_append IsSpelled a.given more ok.spelled k.spelled;
+    told = all_append (λ (l : Letter). TellsOwn i l.message) a.given more ok.told k.own;
     taken = taken;
+    ignored = ignored;
   }
 
   -- ---- the tunnel
 
   state : (r : Part) → a.part ≡ r → IsInState accs i a t r → IsInState ms i b u r
   state Unmade own s = s
-  state Opener own s = inr (three, known)
+  state Opener own s = inr (inl (three, known, is_open))
     where
       three : state_number u.control.state ≡ 3
       three = ⊎_elim
-          (λ (o : (state_number t.control.state ≡ 1) × (a.remote ≡ 0)). absurd (known o.1))
-          (λ (o : (state_number t.control.state ≡ 3) × (a.remote ≡ 0 → ⊥)).
+          (λ (o : (state_number t.control.state ≡ 1) × (a.remote ≡ 0) × IsOpen a × AllWait t.calls). absurd (known o.1))
+          (λ (o : (state_number t.control.state ≡ 3) × (a.remote ≡ 0 → ⊥) × IsOpen a).
           ⊎_elim
           (λ (z : state_number u.control.state ≡ 3). z)
           (λ (z : (u.control.state ≡ t.control.state) × (u.calls ≡ t.calls)). ap state_number z.0 ∙ o.0)
           k.goes.state)
-          s
+          (opener_in accs i a t s k.unclosed)
   state Acceptor own s = ⊎_elim
-      (λ (z : state_number u.control.state ≡ 3). inr (z, chosen own))
+      (λ (z : state_number u.control.state ≡ 3). inr (inl (z, chosen own, is_open)))
       (λ (z : (u.control.state ≡ t.control.state) × (u.calls ≡ t.calls)).
       ⊎_elim
-      (λ (o : (state_number t.control.state ≡ 2) × (t.calls ≡ [])). inl (ap state_number z.0 ∙ o.0, z.1 ∙ o.1))
-      (λ (o : (state_number t.control.state ≡ 3) × (p.remote ≡ i)). inr (ap state_number z.0 ∙ o.0, chosen own))
-      s)
+      (λ (o : (state_number t.control.state ≡ 2) × (t.calls ≡ []) × IsOpen a). inl (ap state_number z.0 ∙ o.0, z.1 ∙ o.1, is_open))
+      (λ (o : (state_number t.control.state ≡ 3) × (p.remote ≡ i) × IsOpen a). inr (inl (ap state_number z.0 ∙ o.0, chosen own, is_open)))
+      (acceptor_in accs i a t s k.unclosed))
       k.goes.state
 
   acked : (r : Part) → a.part ≡ r → AreAcked ms n i b u.control.channel.window.acked r
@@ -358,7 +387,11 @@ module _ (accs ms : Accounts) (n : ℕ) (e x : End) (sender : Option Sender) (ev
   -- ---- and all goes on
 
   stays_joined : StaysJoined ms n i
-  stays_joined own names = subst (λ (y : Account). AreJoined (partner_in ms y) y) (sym k.is) (swap_joined b q joined_now)
+  stays_joined accepted names =
+      let own : a.part ≡ Acceptor = sym (ap (λ (y : Account). y.part) k.is) ∙ accepted in
+      let named : p.remote ≡ i = sym (ap (λ (y : Account). y.remote) stays) ∙ chosen own in
+      subst (λ (y : Account). AreJoined (partner_in ms y) y) (sym k.is)
+      (acceptor_joined (joined_opener accs n i k.within.accounts own named))
 
   put_of_it : IsPut accs ms n e x sender ev i u
   put_of_it =

@@ -18,6 +18,7 @@ use Rattle.step_laws.specs.Letters.{Letter}
 use Rattle.connection_laws.specs.Accounts.{Account}
 use Rattle.connection_laws.specs.Facts.{Accounts, IsSpelled, AccountOk, Says, ALetter, Nothing, IsCopy}
 use Rattle.connection_laws.proofs.Hearing.{all_at, no_message}
+use Rattle.connection_laws.proofs.Hearing.{named_fits as named_so}
 
 -- what the header of a control message tells
 pub record HeaderTells (o : ControlOrigin) (tunnel : ℕ) (h : Header) : Type 0 where
@@ -86,10 +87,7 @@ module _ (codecs : Codecs) where
 
   -- the tunnel that a message names has 16 bits
   named_fits : (accs : Accounts) (n i : ℕ) (a : Account) (p : Packet) (o : ControlOrigin) → AccountOk accs n i a → (c : IsCopy a p o) → c.tunnel < 65536
-  named_fits accs n i a p o ok c = ⊎_elim
-      (λ (z : (c.tunnel ≡ 0) × (o.nr ≡ 0)). let e = z.0 in omega arith)
-      (λ (z : (c.tunnel ≡ 0 → ⊥) × (c.tunnel ≡ a.remote)). let e = z.1 in let lt = ok.remote in omega arith)
-      c.named
+  named_fits accs n i a p o ok c = named_so a o c.tunnel ok.remote c.named
 
   -- of a copy that a tunnel sent
   pub copy_tells : (accs : Accounts) (n i : ℕ) (a : Account) (p : Packet) (o : ControlOrigin) → AccountOk accs n i a → (c : IsCopy a p o) → (h : Header)

@@ -5,7 +5,7 @@ use Rattle.std.specs.List.{AllByRecursion}
 use Rattle.id_table.specs.Ids.{at, put, at-none}
 use Rattle.id_table.specs.Order.{at_new, at_other, same_or_not}
 use Rattle.protocol_model.specs.declared.event.Event.{Event}
-use Rattle.protocol_model.specs.declared.event.Event.TheVariants.{Datagram, Ring, Payload, Lower, Hang, OpenTunnel, DropCall, Tick}
+use Rattle.protocol_model.specs.declared.event.Event.TheVariants.{Datagram, Ring, Payload, Lower, Hang, OpenTunnel, DropCall, CloseTunnel, Tick}
 use Rattle.protocol_model.specs.declared.moves.Move.{Move}
 use Rattle.protocol_model.specs.declared.moves.Move.TheVariants as move
 use Rattle.protocol_model.specs.declared.out.Out.{Out}
@@ -23,6 +23,7 @@ use Rattle.connection_laws.proofs.Keeps.{MovesKeep}
 use Rattle.connection_laws.proofs.Later.{AllExtend, live_made, live_later, packet_later}
 use Rattle.connection_laws.proofs.Budget.{GivenBelow, acked_given}
 use Rattle.connection_laws.proofs.Steps.{afterwards, deeds, Kept, chain_keeps, Ran}
+use Rattle.connection_laws.specs.Steps.{ClosingsAreKnown}
 pub use Rattle.connection_laws.specs.Steps.{end_at, BirthsStay, LineSteps}
 use Rattle.connection_laws.proofs.Sent.{carries_ok}
 
@@ -77,6 +78,8 @@ move_same n w (move.Refused m) = same_ends w
 move_same n w (move.EndTold m) = same_ends w
 move_same n w (move.EndHeard m) = same_ends w
 move_same n w (move.EndSilent m) = same_ends w
+move_same n w (move.Closed m) = same_ends w
+move_same n w (move.ClosedBy m) = same_ends w
 move_same n w (move.Cleared i) = same_ends w
 move_same n w (move.Greeted m) = same_ends w
 move_same n w (move.TookPlain m) = same_ends w
@@ -225,6 +228,7 @@ few_reads (Lower s frame) = omega arith
 few_reads (Hang s) = omega arith
 few_reads OpenTunnel = omega arith
 few_reads (DropCall s) = omega arith
+few_reads (CloseTunnel i) = omega arith
 few_reads Tick = omega arith
 
 -- what a line leaves
@@ -237,6 +241,7 @@ pub record Laws : Type 0 where
   pub moves : MovesKeep
   pub chains : StepsAreChains
   pub reads : ReadsAreFew
+  pub closings : ClosingsAreKnown
 
 module _ (laws : Laws) (number : ℕ) (w : World) (accs : Accounts) (holds : Holds w accs) (most : ℕ) (had : GivenBelow accs most)
     (room : most + 24576 < 2 ^ 64) (n : ℕ) (old : Node) (was : at w.nodes n ≡ Some old) (clock : ℕ) (ev : Event) (sender : Option Sender)
@@ -276,7 +281,7 @@ module _ (laws : Laws) (number : ℕ) (w : World) (accs : Accounts) (holds : Hol
   ran =
       let reads = laws.reads old.end moment block ev in
       let few = few_reads ev in
-      chain_keeps laws.moves v number n old.end.role sender moment ev s.moves accs old.end s.end most (most + 16384) chain.chain refl begun
+      chain_keeps laws.moves laws.closings v number n old.end.role sender moment ev s.moves accs old.end s.end most (most + 16384) chain.chain refl begun
       (acked_given accs n old.end most ok.0 had) (λ k j. (let le = had k j in omega arith)) (omega arith) (omega (arith, room))
 
   kept : Kept accs ms n s.end sender ev (most + 16384)

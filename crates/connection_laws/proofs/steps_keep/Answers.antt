@@ -1,6 +1,8 @@
 use Rattle.connection_laws.proofs.Moves.{moves_keep}
 use Rattle.connection_laws.proofs.Said.{next_is_heard, plain_is_heard}
-use Rattle.connection_laws.proofs.AnyHeard.{letters_are_heard, none_is_faulty}
+use Rattle.connection_laws.proofs.AnyHeard.{letters_are_heard, openings_are_acceptable, none_is_faulty, none_is_faulty_in_tunnel}
+use Rattle.connection_laws.proofs.Plainly.{stop_is_heard}
+use Rattle.connection_laws.proofs.Closing.{closings_are_known}
 use Rattle.connection_laws.proofs.Runs.{begins}
 use Rattle.connection_laws.proofs.Laws.{lines_of_runs}
 use Rattle.connection_laws.proofs.steps_keep.Goals as goal
@@ -17,8 +19,20 @@ returns-clause-plain c = plain_is_heard c.laws_below.ensures.codecs c.laws_below
 pub returns-clause-letters : goal.returns-clause-letters
 returns-clause-letters c = letters_are_heard c.laws_below.ensures.codecs
 
+pub returns-clause-stop : goal.returns-clause-stop
+returns-clause-stop c = stop_is_heard c.laws_below.ensures.codecs c.laws_below.ensures.classes
+
+pub returns-clause-known : goal.returns-clause-known
+returns-clause-known c = closings_are_known c.laws_below.ensures.codecs
+
+pub returns-clause-acceptable : goal.returns-clause-acceptable
+returns-clause-acceptable c = openings_are_acceptable c.laws_below.ensures.codecs
+
 pub returns-clause-sound : goal.returns-clause-sound
 returns-clause-sound c = none_is_faulty c.laws_below.ensures.codecs
+
+pub returns-clause-sound_in_tunnel : goal.returns-clause-sound_in_tunnel
+returns-clause-sound_in_tunnel c = none_is_faulty_in_tunnel c.laws_below.ensures.codecs
 
 pub returns-clause-lines : goal.returns-clause-lines
 returns-clause-lines c = lines_of_runs c.laws_below.ensures.codecs c.laws_below.ensures.chains c.laws_below.ensures.reads c.laws_below.ensures.classes
