@@ -30,6 +30,8 @@ fn an_opening(rt: HostRuntime) -> Result<(), Fail> {
             flags: 3,
             time: 30000,
         }),
+        challenge: None,
+        recovery: None,
     };
     let mut out = Bytes::new(rt.alloc());
     write_message(&mut out, &Message::Sccrq(opening))?;
@@ -50,10 +52,83 @@ fn an_opening(rt: HostRuntime) -> Result<(), Fail> {
                     flags: 3,
                     time: 30000
                 }),
+                challenge: None,
+                recovery: None,
                 ..
             }
         )
     );
+    Ok(())
+}
+
+// Openings that tell more, behind type, version, framing capabilities, name and tunnel: an SCCRQ with a challenge of five
+// bytes, one with a challenge of none, and one with a recovery, whose reserved bytes aren't 0; an SCCRP with a challenge,
+// and one with an attribute 77 of three bytes, which it doesn't use.
+const CHALLENGED: &[u8] =
+    b"\x80\x08\0\0\0\0\0\x01\x80\x08\0\0\0\x02\x01\0\x80\x0a\0\0\0\x03\0\0\0\x03\
+    \x80\x0a\0\0\0\x07lac1\x80\x08\0\0\0\x09\x02\x03\x80\x0b\0\0\0\x0b\x9a\0\x7b\xff\x01";
+
+const CHALLENGED_BY_NONE: &[u8] =
+    b"\x80\x08\0\0\0\0\0\x01\x80\x08\0\0\0\x02\x01\0\x80\x0a\0\0\0\x03\0\0\0\x03\
+    \x80\x0a\0\0\0\x07lac1\x80\x08\0\0\0\x09\x02\x03\x80\x06\0\0\0\x0b";
+
+const RECOVERING: &[u8] =
+    b"\x80\x08\0\0\0\0\0\x01\x80\x08\0\0\0\x02\x01\0\x80\x0a\0\0\0\x03\0\0\0\x03\
+    \x80\x0a\0\0\0\x07lac1\x80\x08\0\0\0\x09\x02\x03\x80\x10\0\0\0\x4d\xab\xcd\0\x01\x02\x04\0\x05\x06\x08";
+
+const CHALLENGED_BACK: &[u8] =
+    b"\x80\x08\0\0\0\0\0\x02\x80\x08\0\0\0\x02\x01\0\x80\x0a\0\0\0\x03\0\0\0\x03\
+    \x80\x0a\0\0\0\x07lns2\x80\x08\0\0\0\x09\x04\x05\x80\x08\0\0\0\x0b\x10\x20";
+
+const RECOVERING_BACK: &[u8] =
+    b"\x80\x08\0\0\0\0\0\x02\x80\x08\0\0\0\x02\x01\0\x80\x0a\0\0\0\x03\0\0\0\x03\
+    \x80\x0a\0\0\0\x07lns2\x80\x08\0\0\0\x09\x04\x05\x80\x09\0\0\0\x4d\x01\x02\x03";
+
+fn request(alloc: Global, bytes: &[u8]) -> Option<Opening> {
+    match read(alloc, bytes) {
+        Some(Read::Known(Message::Sccrq(opening))) => Some(opening),
+        _ => None,
+    }
+}
+
+fn reply(alloc: Global, bytes: &[u8]) -> Option<Opening> {
+    match read(alloc, bytes) {
+        Some(Read::Known(Message::Sccrp(opening))) => Some(opening),
+        _ => None,
+    }
+}
+
+// Of what an opening may leave out, the challenge and the recovery.
+fn is_told(opening: &Opening, challenge: Option<&[u8]>, recovery: Option<Recovery>) -> bool {
+    let same = match &opening.challenge {
+        None => challenge.is_none(),
+        Some(value) => challenge == Some(value.as_slice()),
+    };
+    same && opening.recovery == recovery
+}
+
+#[test]
+fn openings_that_tell_more(rt: HostRuntime) -> Result<(), Fail> {
+    let asked = request(rt.alloc(), CHALLENGED).ok_or("a challenge")?;
+    assert_eq!(rt; asked.tunnel, 0x203);
+    let value: &[u8] = b"\x9a\0\x7b\xff\x01";
+    assert!(rt; is_told(&asked, Some(value), None));
+    let asked = request(rt.alloc(), CHALLENGED_BY_NONE).ok_or("a challenge of no bytes")?;
+    let value: &[u8] = b"";
+    assert!(rt; is_told(&asked, Some(value), None));
+    let asked = request(rt.alloc(), RECOVERING).ok_or("a recovery")?;
+    let recovery = Recovery {
+        sender: 0x10204,
+        receiver: 0x50608,
+    };
+    assert!(rt; is_told(&asked, None, Some(recovery)));
+    let answered = reply(rt.alloc(), CHALLENGED_BACK).ok_or("a challenge in a reply")?;
+    assert_eq!(rt; answered.tunnel, 0x405);
+    let value: &[u8] = b"\x10\x20";
+    assert!(rt; is_told(&answered, Some(value), None));
+    let answered = reply(rt.alloc(), RECOVERING_BACK).ok_or("a reply")?;
+    assert_eq!(rt; answered.tunnel, 0x405);
+    assert!(rt; is_told(&answered, None, None));
     Ok(())
 }
 
@@ -214,7 +289,7 @@ fn refused_pairs(rt: HostRuntime) {
     };
     let bad_tunnel = MessageError::BadValue { attribute: 9 };
     let bad_result = MessageError::BadValue { attribute: 1 };
-    let rows: [(&[u8], MessageError); 22] = [
+    let rows: [(&[u8], MessageError); 26] = [
         (b"", MessageError::NoType),
         // a hidden type before a plain one
         (
@@ -269,6 +344,24 @@ fn refused_pairs(rt: HostRuntime) {
         (
             b"\x80\x08\0\0\0\0\0\x01\x80\x09\0\0\0\x0a\0\x08\0",
             MessageError::BadValue { attribute: 10 },
+        ),
+        // a recovery of nine bytes, and one of none
+        (
+            b"\x80\x08\0\0\0\0\0\x01\x80\x0f\0\0\0\x4d\0\0\0\x01\x02\x04\0\x05\x06",
+            MessageError::BadValue { attribute: 77 },
+        ),
+        (
+            b"\x80\x08\0\0\0\0\0\x01\x80\x06\0\0\0\x4d",
+            MessageError::BadValue { attribute: 77 },
+        ),
+        // a hidden challenge in a request, without a Random Vector before it, and in a reply with one
+        (
+            b"\x80\x08\0\0\0\0\0\x01\xc0\x08\0\0\0\x0b\x10\x20",
+            MessageError::HiddenWithoutVector { attribute: 11 },
+        ),
+        (
+            b"\x80\x08\0\0\0\0\0\x02\x80\x08\0\0\0\x24ab\xc0\x08\0\0\0\x0b\x10\x20",
+            MessageError::BadValue { attribute: 11 },
         ),
         // no tunnel; no serial number; neither of the two numbers of an ICCN
         (

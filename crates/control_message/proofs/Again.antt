@@ -1,16 +1,13 @@
 -- What was written is read again.
-use Rattle.std.proofs.Common.{◌≡◌, ℕ, ◌^◌, ◌<◌, ◌≤◌, ◌++◌, List, [], ◌∷◌, length, Option, Some, None, Result, Ok, false, refl, sym, ap, ◌∙◌, arith, IsSomeAnd, IfSome}
+use Rattle.std.proofs.Common.{◌≡◌, ℕ, ◌^◌, ◌<◌, ◌≤◌, ◌++◌, List, [], length, Option, Some, None, Ok, false, refl, sym, ap, ◌∙◌, arith, IsSomeAnd, IfSome}
 use Rattle.std.specs.Prelude.{◌==◌}
-use Rattle.wire_base.specs.Answers.{◌>>=◌}
 use Rattle.std.proofs.lemmas.Bool.{ne_eqb}
 use Rattle.std.proofs.lemmas.List.{append-nil}
 use Rattle.byteorder.specs.Endian.{big_number}
 use Rattle.wire_base.specs.Numbers.{u16_bytes, u32_bytes}
 use Rattle.wire_base.specs.NumberLaws.{length-u16_bytes, length-u32_bytes, number-u16_bytes}
-use Rattle.avp_codec.specs.declared.avp.Avp.{Avp}
 use Rattle.avp_codec.specs.Spelling.{AreAvps, Fits}
 use Rattle.control_message.specs.declared.kind.Kind.TheVariants as kind
-use Rattle.control_message.specs.declared.message.MessageError.{MessageError}
 use Rattle.control_message.specs.declared.message.Message.{Message}
 use Rattle.control_message.specs.declared.message.Message.TheVariants.{Sccrq, Sccrp, Scccn, StopCcn, Hello, Ocrq, Ocrp, Occn, Icrq, Icrp, Iccn, Cdn, Wen, Sli}
 use Rattle.control_message.specs.declared.message.Opening.{Opening}
@@ -81,7 +78,7 @@ pairs_fit Sli w = absurd w
 is_not_zero : (x : ℕ) → x < 2 ^ 16 → 0 < x → (big_number 2 (u16_bytes x) == 0) ≡ false
 is_not_zero x lt some = rw (short_again x lt) (ne_eqb x 0 (λ e. omega arith))
 
--- the numbers of an opening that can't be 0
+-- the two numbers of an opening that can't be 0
 record HasIds (o : Opening) : Type 0 where
   tunnel : (big_number 2 (u16_bytes o.tunnel) == 0) ≡ false
   window : (big_number 2 (u16_bytes o.window) == 0) ≡ false
@@ -89,12 +86,14 @@ record HasIds (o : Opening) : Type 0 where
 opening_ids : (o : Opening) → IsWrittenOpening o → HasIds o
 opening_ids o w = record { tunnel = is_not_zero o.tunnel w.tunnel w.tunnel_not_zero; window = is_not_zero o.window w.window w.window_not_zero }
 
-request_checked : (number : ℕ) (o : Opening) (f : Option Failover) → o.failover ≡ f → HasIds o → checked_all kind.Sccrq [] (opening_pairs number o) ≡ Ok tt
+request_checked : (number : ℕ) (o : Opening) (f : Option Failover) → o.failover ≡ f → HasIds o
+    → checked_all kind.Sccrq [] (opening_pairs number o) ≡ Ok tt
 unfolding checked u16_bytes u32_bytes
 request_checked number o None e ids = rw (e, ids.tunnel, ids.window) refl
 request_checked number o (Some f) e ids = rw (e, ids.tunnel, ids.window) refl
 
-reply_checked : (number : ℕ) (o : Opening) (f : Option Failover) → o.failover ≡ f → HasIds o → checked_all kind.Sccrp [] (opening_pairs number o) ≡ Ok tt
+reply_checked : (number : ℕ) (o : Opening) (f : Option Failover) → o.failover ≡ f → HasIds o
+    → checked_all kind.Sccrp [] (opening_pairs number o) ≡ Ok tt
 unfolding checked u16_bytes u32_bytes
 reply_checked number o None e ids = rw (e, ids.tunnel, ids.window) refl
 reply_checked number o (Some f) e ids = rw (e, ids.tunnel, ids.window) refl
@@ -108,7 +107,16 @@ opening_again : (number : ℕ) (o : Opening) (f : Failover) → o.failover ≡ S
 unfolding opening_at u16_at u32_at window_at failover_at u16_bytes u32_bytes
 opening_again number o f e flags time w =
     let version : o.version < 2 ^ 16 = let v = w.version in omega arith in
-    rw (e, w.challenge, w.recovery, failover_again f flags time, short_again o.version version, long_again o.framing w.framing, short_again o.tunnel w.tunnel, short_again o.window w.window) refl
+    rw (
+      e,
+      w.challenge,
+      w.recovery,
+      failover_again f flags time,
+      short_again o.version version,
+      long_again o.framing w.framing,
+      short_again o.tunnel w.tunnel,
+      short_again o.window w.window,
+    ) refl
 
 -- Tunnel Recovery isn't written
 no_recovery : (number : ℕ) (o : Opening) (f : Option Failover) → o.failover ≡ f → recovery_at (opening_pairs number o) ≡ Ok None

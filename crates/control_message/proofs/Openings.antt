@@ -86,8 +86,8 @@ pub record IsOpening (k : Kind) : Type 0 where
   pub failover : shape_of k 76 ≡ Some ShortLong
   pub needs : needs_of k ≡ 2 ∷ 3 ∷ 7 ∷ 9 ∷ []
 
-pub opening_says : (k : Kind) (avps : List Avp) (recovery : Option Recovery) (o : Opening) → IsOpening k → IsSound k avps → opening_at avps recovery ≡ Ok o
-    → SaysOpening avps o × (o.recovery ≡ recovery)
+pub opening_says : (k : Kind) (avps : List Avp) (recovery : Option Recovery) (o : Opening) → IsOpening k → IsSound k avps
+    → opening_at avps recovery ≡ Ok o → SaysOpening avps o × (o.recovery ≡ recovery)
 unfolding opening_at u16_at u32_at window_at failover_at
 opening_says k avps recovery o is sound h =
     let version = bind_ok _ _ o h in
@@ -156,7 +156,8 @@ opening_good avps o more h others = (
 
 -- ---- what is missing
 
-pub opening_made : (k : Kind) (avps : List Avp) (recovery : Option Recovery) → IsOpening k → IsSound k avps → Made k avps (opening_at avps recovery)
+pub opening_made : (k : Kind) (avps : List Avp) (recovery : Option Recovery) → IsOpening k → IsSound k avps
+    → Made k avps (opening_at avps recovery)
 unfolding opening_at u16_at u32_at window_at failover_at
 opening_made k avps recovery is sound =
     let window = some_window avps (first 10 avps) refl (good k avps 10 Nonzero sound is.window) in

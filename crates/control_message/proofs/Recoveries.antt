@@ -19,8 +19,8 @@ recovery_of v = record { sender = big_number 4 (drop 2 v); receiver = big_number
 ten : (v : List ℕ) → length v ≡ 10 → recovery_value v ≡ Some (recovery_of v)
 ten v e = rw (eq-eqb (length v) 10 e) refl
 
-recovery_is : (avps : List Avp) (r : Option Recovery) (o : Option Avp) → first 77 avps ≡ o → IsGood avps (77, ShortLongLong) → recovery_in o ≡ Ok r
-    → SaysRecovery avps r
+recovery_is : (avps : List Avp) (r : Option Recovery) (o : Option Avp) → first 77 avps ≡ o → IsGood avps (77, ShortLongLong)
+    → recovery_in o ≡ Ok r → SaysRecovery avps r
 recovery_is avps r None e g h = let none : None ≡ r = let h' : Ok None ≡ Ok r = h in cc in subst (SaysRecovery avps) none (first_absent 77 avps e)
 recovery_is avps r (Some a) e g h =
     let first = stands_first 77 a avps e in
@@ -36,8 +36,8 @@ recovery_is avps r (Some a) e g h =
     } in
     subst (SaysRecovery avps) some has
 
-pub recovery_says : (k : Kind) (avps : List Avp) (r : Option Recovery) → IsSound k avps → shape_of k 77 ≡ Some ShortLongLong → recovery_at avps ≡ Ok r
-    → SaysRecovery avps r
+pub recovery_says : (k : Kind) (avps : List Avp) (r : Option Recovery) → IsSound k avps → shape_of k 77 ≡ Some ShortLongLong
+    → recovery_at avps ≡ Ok r → SaysRecovery avps r
 unfolding recovery_at
 recovery_says k avps r sound shape h = recovery_is avps r (first 77 avps) refl (good k avps 77 ShortLongLong sound shape) h
 
@@ -52,11 +52,13 @@ pub recovery_good : (avps : List Avp) (r : Option Recovery) → SaysRecovery avp
 recovery_good avps None h = absent_good avps 77 ShortLongLong h
 recovery_good avps (Some r) h = value_good avps 77 h.value ShortLongLong h.has h.wide
 
-recovery_some : (avps : List Avp) (o : Option Avp) → first 77 avps ≡ o → IsGood avps (77, ShortLongLong) → (r : Option Recovery) × (recovery_in o ≡ Ok r)
+recovery_some : (avps : List Avp) (o : Option Avp) → first 77 avps ≡ o → IsGood avps (77, ShortLongLong)
+    → (r : Option Recovery) × (recovery_in o ≡ Ok r)
 recovery_some avps None e g = (None, refl)
 recovery_some avps (Some a) e g = let p = g a (stands_first 77 a avps e) in (Some (recovery_of a.value), rw (ten a.value p.1) refl)
 
 -- it is optional, so that it is read of any sound list
-pub some_recovery : (k : Kind) (avps : List Avp) → IsSound k avps → shape_of k 77 ≡ Some ShortLongLong → (r : Option Recovery) × (recovery_at avps ≡ Ok r)
+pub some_recovery : (k : Kind) (avps : List Avp) → IsSound k avps → shape_of k 77 ≡ Some ShortLongLong
+    → (r : Option Recovery) × (recovery_at avps ≡ Ok r)
 unfolding recovery_at
 some_recovery k avps sound shape = recovery_some avps (first 77 avps) refl (good k avps 77 ShortLongLong sound shape)

@@ -11,7 +11,8 @@ use Rattle.control_message.specs.Faults.{IsSound}
 use Rattle.control_message.proofs.Firsts.{absent_first, first_absent, first_stands, stands_first}
 use Rattle.control_message.proofs.Values.{IsGood, good, value_good, absent_good}
 
-text_is : (avps : List Avp) (n : ℕ) (o : Option Avp) → first n avps ≡ o → IsGood avps (n, Text) → SaysText n avps (option_map (λ (a : Avp). a.value) o)
+text_is : (avps : List Avp) (n : ℕ) (o : Option Avp) → first n avps ≡ o → IsGood avps (n, Text)
+    → SaysText n avps (option_map (λ (a : Avp). a.value) o)
 text_is avps n None e g = first_absent n avps e
 text_is avps n (Some a) e g = let f = stands_first n a avps e in record { pair = a; first = f; plain = (g a f).0; same = refl }
 

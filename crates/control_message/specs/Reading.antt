@@ -149,7 +149,16 @@ opening_at avps recovery = do
   tunnel ← u16_at 9 avps
   window ← window_at avps
   failover ← failover_at avps
-  Ok (record { version = version; framing = framing; name = name; tunnel = tunnel; window = window; failover = failover; challenge = text_at 11 avps; recovery = recovery })
+  Ok (record {
+    version = version;
+    framing = framing;
+    name = name;
+    tunnel = tunnel;
+    window = window;
+    failover = failover;
+    challenge = text_at 11 avps;
+    recovery = recovery;
+  })
 
 unfoldable pub icrq_at : List Avp → Result Message MessageError
 icrq_at avps = do
