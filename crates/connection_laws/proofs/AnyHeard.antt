@@ -1,5 +1,5 @@
 -- A control message that a live tunnel hears, whether it is the next one or not, is a letter of its sender's, and none has a fault.
-use Rattle.std.proofs.Common.{◌≡◌, ⊎_elim, ℕ, true, List, [], refl, sym, ap, ◌∙◌, subst, Option, Some, None, Result, Ok, Err, eq-eqb}
+use Rattle.std.proofs.Common.{◌≡◌, ⊎_elim, ℕ, true, List, [], refl, sym, ◌∙◌, subst, Option, Some, None, Result, Ok, Err, eq-eqb}
 use Rattle.std.specs.Prelude.{slice_get}
 use Rattle.control_message.specs.declared.message.Message.{Message}
 use Rattle.control_message.specs.declared.message.Message.TheVariants.{Sccrq, Sccrp}
@@ -11,12 +11,10 @@ use Rattle.control_message.specs.Reading.{message_of, kind_of_pairs}
 use Rattle.avp_codec.specs.declared.avp.Avp.{Avp}
 use Rattle.avp_codec.specs.declared.error.AvpError.{AvpError}
 use Rattle.avp_codec.specs.Reading.{avps_of}
-use Rattle.wire_base.specs.declared.cause.Cause.TheVariants as cause
-use Rattle.tunnel_fsm.specs.declared.table.TunnelEvent.TheVariants as event
 use Rattle.protocol_model.specs.declared.event.Event.{Event}
 use Rattle.protocol_model.specs.declared.out.ControlOrigin.{ControlOrigin}
 use Rattle.protocol_model.specs.declared.tunnel.Control.{Control}
-use Rattle.protocol_model.specs.Reading.{body_of, message_in, pairs_read, message_read, call_fault_in, fault_of_pairs, TunnelFault, closing, tunnel_fault_in, tunnel_fault_of_pairs, tunnel_fault_read}
+use Rattle.protocol_model.specs.Reading.{body_of, message_in, pairs_read, message_read, call_fault_in, fault_of_pairs, tunnel_fault_in, tunnel_fault_of_pairs, tunnel_fault_read}
 use Rattle.protocol_model.specs.Turn.{is_acceptable}
 use Rattle.protocol_model.specs.End.{End}
 use Rattle.protocol_model.specs.World.{Sender}
@@ -132,15 +130,9 @@ no_tunnel_fault body m h = by_pairs (avps_of body) h
     by_pairs (Err x) e = absurd cc
 
 pub none_is_faulty_in_tunnel : Codecs → NoneIsFaultyInTunnel
-none_is_faulty_in_tunnel codecs accs n e sender ev within c g k some =
+none_is_faulty_in_tunnel codecs accs n e sender ev within c g k =
     let from = from_peer codecs accs n e sender ev within c.peer k.header k.bytes k.is k.read k.control in
-    let q = letter_some (accs from.packet.from from.o.tunnel) from.o k.header k.bytes from.read some in
+    let q = letter_some (accs from.packet.from from.o.tunnel) from.o k.header k.bytes from.read k.some in
     let none = no_tunnel_fault (body_of k.header k.bytes) q.letter.message q.said in
     let fault = k.fault in
     cc
-
--- of no pairs it is told that they tell no id
-pub no_pairs_fault : Codecs → (g : TunnelFault) → tunnel_fault_in [] ≡ Some g → g.remote ≡ 0
-unfolding tunnel_fault_in tunnel_fault_of_pairs message_of
-no_pairs_fault codecs g h = let none = codecs.pairs [] tt in (let k = rw none at h in let same : closing event.AdminClose cause.Avp 0 ≡ g = cc in
-    sym (ap (λ (f : TunnelFault). f.remote) same))

@@ -1,11 +1,11 @@
 -- A tunnel is closed, and its peer is told.
-use Rattle.std.proofs.Common.{◌≡◌, ◌⊎◌, inl, inr, ⊎_elim, ℕ, ◌+◌, ◌<◌, ◌≤◌, Bool, true, false, cond, eqb, List, [], ◌∷◌, ◌++◌, map, drop, length, refl, sym, ap, ap₂, ◌∙◌, subst, append-nil, Option, Some, arith, ne_eqb}
-use Rattle.std.proofs.lemmas.Bool.{ltb-true, eqb-true}
+use Rattle.std.proofs.Common.{◌≡◌, ◌⊎◌, inl, inr, ⊎_elim, ℕ, ◌+◌, ◌<◌, ◌≤◌, true, List, [], ◌∷◌, ◌++◌, map, drop, length, refl, sym, ap, ap₂, ◌∙◌, subst, append-nil, Option, Some, arith, ne_eqb}
+use Rattle.std.proofs.lemmas.Bool.{ltb-true}
 use Rattle.std.proofs.lemmas.List.{length-append, map-append, drop-append-le}
 use Rattle.std.proofs.lemmas.Option.{none-some}
 use Rattle.std.specs.List.{AllByRecursion}
-use Rattle.id_table.specs.Ids.{at, at-none}
-use Rattle.id_table.specs.Order.{same_or_not, ascends-empty}
+use Rattle.id_table.specs.Ids.{at-none}
+use Rattle.id_table.specs.Order.{ascends-empty}
 use Rattle.wire_base.specs.declared.letter.Letter as wire
 use Rattle.control_message.specs.declared.message.Message.TheVariants.{StopCcn, Sccrp}
 use Rattle.control_message.specs.declared.message.Opening.{Opening}
@@ -22,39 +22,31 @@ use Rattle.protocol_model.specs.declared.out.Origin.{Origin}
 use Rattle.protocol_model.specs.declared.out.Origin.TheVariants as origin
 use Rattle.protocol_model.specs.declared.packet.Packet.{Packet}
 use Rattle.protocol_model.specs.declared.tunnel.Control.{Control}
-use Rattle.protocol_model.specs.Reading.{TunnelFault, body_of, tunnel_fault_in}
 use Rattle.protocol_model.specs.Turn.{Tunnel, known_or, event_by, is_acceptable, shut}
 use Rattle.protocol_model.specs.End.{End}
-use Rattle.protocol_model.specs.World.{Sender, Deed, config_of}
-use Rattle.step_laws.specs.Codes.{CodesFit, stop_codes_fit}
+use Rattle.protocol_model.specs.World.{Sender, Deed}
+use Rattle.step_laws.specs.Codes.{stop_codes_fit}
 use Rattle.step_laws.specs.Letters.{Letter}
-use Rattle.step_laws.specs.Moves.{InTunnel, IsFaultyInTunnel, WhyCloses, ByOperator, BySccrq, BySccrp, ByScccn, ByFault, Closes, with_letter}
+use Rattle.step_laws.specs.Moves.{InTunnel, WhyCloses, ByOperator, BySccrq, BySccrp, ByScccn, ByFault, Closes, with_letter}
 use Rattle.frame_laws.specs.Codecs.{Codecs}
 use Rattle.connection_laws.specs.Accounts.{Part, Unmade, Opener, Acceptor, Account, gives}
-use Rattle.connection_laws.specs.Facts.{Accounts, IsMade, IsNoOpening, IsStopCcn, TellsOwn, AreTaken, AreIgnored, IsOpen, IsClosed, IsLost, HasStopped, AllWait, AreJoined, partner_in, IsOpener, IsAcceptor, IsPart, AccountOk, IsSpelled, kept_letter, IsAnswered, IsInState, AreAcked, LiveOk, AreNear, Comes, Within}
+use Rattle.connection_laws.specs.Facts.{Accounts, IsMade, IsStopCcn, TellsOwn, AreTaken, AreIgnored, IsOpen, IsClosed, IsLost, HasStopped, AllWait, AreJoined, partner_in, IsOpener, IsAcceptor, IsPart, AccountOk, IsSpelled, kept_letter, IsInState, AreAcked, LiveOk, AreNear, Comes, Within}
 use Rattle.connection_laws.specs.Steps.{ClosingsAreKnown}
 use Rattle.connection_laws.proofs.Keeps.{after, IsMoved}
 use Rattle.connection_laws.proofs.Puts.{Extends, IsOnly, NearAt, ComesNear, StaysJoined, IsPut}
 use Rattle.connection_laws.proofs.Later.{live_made, AllExtend, all_extend, is_taken_on, are_acked_later, after_move, only_after}
 use Rattle.connection_laws.proofs.States.{open_unless, lost_unless, heeded_open, heeded_closed, opener_in, is_open_so, shut_stands, closes_open, reply_connects}
 use Rattle.connection_laws.proofs.Put.{puts_keep}
-use Rattle.connection_laws.proofs.GoingOn.{answered_on, for_back}
-use Rattle.connection_laws.proofs.Hearing.{part_cases, opener_of, acceptor_of, IsLetterRead, IsNoneRead, from_peer}
+use Rattle.connection_laws.proofs.GoingOn.{are_acked_on, for_back}
+use Rattle.connection_laws.proofs.Hearing.{part_cases, opener_of, acceptor_of}
 use Rattle.connection_laws.proofs.NextHeard.{joined_opener}
 use Rattle.connection_laws.proofs.Acknowledging.{put_of, still_apart}
-use Rattle.connection_laws.proofs.AnyHeard.{hears_written, written_acceptable, no_tunnel_fault, no_pairs_fault}
+use Rattle.connection_laws.proofs.AnyHeard.{hears_written, written_acceptable, none_is_faulty_in_tunnel}
 use Rattle.connection_laws.proofs.Taking.{all_append, begins_on}
 
 -- ---- the id of the peer's to which it goes
 
--- where nothing else is told, it is the one that is known
-known_alone : (c : Control) → known_or 0 c ≡ c.remote
-known_alone c = by (eqb c.remote 0) refl
-  where
-    by : (b : Bool) → eqb c.remote 0 ≡ b → cond b 0 c.remote ≡ c.remote
-    by true is = sym (eqb-true c.remote 0 is)
-    by false is = refl
-
+-- where one is known, it is that one, whatever is told
 known_still : (told : ℕ) (c : Control) → (c.remote ≡ 0 → ⊥) → known_or told c ≡ c.remote
 known_still told c some = rw (ne_eqb c.remote 0 some) refl
 
@@ -91,26 +83,13 @@ module _ (codecs : Codecs) (accs : Accounts) (n : ℕ) (e x : End) (sender : Opt
       reply_connects was.control.state (subst (λ v. row_of rows was.control.state v ≡ (state.Closed, action.SendStopCcn)) is c.row)
       (waits (sym lives.remote ∙ z)))
 
-  by_fault : (g : TunnelFault) → IsFaultyInTunnel ev was.control g → m.remote ≡ known_or g.remote was.control → m.remote ≡ was.control.remote
-  by_fault g k known =
-      let from = from_peer codecs accs n e sender ev within was.control.peer k.header k.bytes k.is k.read k.control in
-      let b = accs from.packet.from from.o.tunnel in
-      ⊎_elim
-      (λ (q : IsLetterRead b from.o k.header k.bytes).
-      let none = no_tunnel_fault (body_of k.header k.bytes) q.letter.message q.said in
-      let fault = k.fault in
-      let no : ⊥ = cc in absurd no)
-      (λ (q : IsNoneRead from.o k.header k.bytes).
-      let zeroth = no_pairs_fault codecs g (let f = k.fault in rw q.body at f) in
-      known ∙ ap (λ r. known_or r was.control) zeroth ∙ known_alone was.control)
-      from.read.says
-
   by_why : WhyCloses was ev c.on m → m.remote ≡ was.control.remote
   by_why (ByOperator is on known result error) = known
   by_why (BySccrq session o came on known result error) = known
   by_why (BySccrp session o came on known result error) = by_reply session o came on known
   by_why (ByScccn session came on known result error) = known
-  by_why (ByFault g came on known result error) = by_fault g came known
+  by_why (ByFault g came on known result error) =
+      absurd (none_is_faulty_in_tunnel codecs accs n e sender ev within was.control g came)
 
   pub closes_known : m.remote ≡ (accs n m.tunnel).remote
   closes_known = by_why c.why ∙ lives.remote
@@ -327,14 +306,6 @@ module _ (codecs : Codecs) (accs : Accounts) (n : ℕ) (e x : End) (sender : Opt
 
   -- ---- the tunnel
 
-  acked_on : (acked : ℕ) (r : Part) → AreAcked ms n i a acked r → AreAcked ms n i b acked r
-  acked_on acked Unmade k = k
-  acked_on acked Opener k = (
-    (λ z. ⊎_elim (λ none. inl none) (λ (one : IsAnswered ms n i a acked). inr (answered_on ms n i a b acked refl one)) (k.0 z)),
-    k.1,
-  )
-  acked_on acked Acceptor k = k
-
   letters : u.letters ≡ map kept_letter (drop u.control.channel.window.acked b.given)
   letters =
       let counted = live.counted in
@@ -358,7 +329,7 @@ module _ (codecs : Codecs) (accs : Accounts) (n : ℕ) (e x : End) (sender : Opt
         few = omega arith;
         outstanding = omega arith;
         taken = live.taken;
-        acked = acked_on t.control.channel.window.acked a.part
+        acked = are_acked_on ms n i a b t.control.channel.window.acked refl refl a.part
             (are_acked_later accs ms grown n i some a t.control.channel.window.acked a.part live.acked);
         calls = λ s k f. absurd (none-some k (sym (at-none s) ∙ f));
         order = ascends-empty [] refl;

@@ -25,7 +25,7 @@ use Rattle.step_laws.specs.Letters.{Letter}
 use Rattle.step_laws.specs.Moves.{with_letter}
 use Rattle.frame_laws.specs.Codecs.{Codecs}
 use Rattle.connection_laws.specs.Accounts.{Opener, Acceptor, Taken, Account}
-use Rattle.connection_laws.specs.Facts.{Accounts, IsMade, TellsOwn, IsTaken, AreTaken, AreIgnored, IsOpen, IsLost, AreJoined, partner_in, IsPart, IsOpener, IsAcceptor, AccountOk, IsSpelled, kept_letter, IsInState, IsAnswered, AreAcked, LiveOk, IsNear, Within}
+use Rattle.connection_laws.specs.Facts.{Accounts, IsMade, TellsOwn, IsTaken, AreTaken, AreIgnored, IsOpen, IsLost, AreJoined, partner_in, IsPart, IsOpener, AccountOk, IsSpelled, kept_letter, IsInState, IsAnswered, AreAcked, LiveOk, IsNear, Within}
 use Rattle.connection_laws.proofs.Keeps.{after, IsMoved}
 use Rattle.connection_laws.proofs.Puts.{IsOnly, IsPut}
 use Rattle.connection_laws.proofs.Later.{live_made, after_move, only_after}

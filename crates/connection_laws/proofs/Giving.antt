@@ -2,8 +2,7 @@
 use Rattle.std.proofs.Common.{◌≡◌, ◌⊎◌, inl, inr, ⊎_elim, ℕ, ◌+◌, ◌<◌, ◌≤◌, Bool, true, false, cond, List, [], ◌∷◌, length, refl, sym, ap, ◌∙◌, subst, append-nil, Option, Some, arith}
 use Rattle.std.proofs.lemmas.Bool.{ltb-true, true≢false}
 use Rattle.std.specs.Prelude.{◌==◌, ◌&&◌, nat_lt, if◌then◌else◌}
-use Rattle.std.proofs.lemmas.Option.{none-some}
-use Rattle.id_table.specs.Ids.{at, put, without, at-none}
+use Rattle.id_table.specs.Ids.{at, put, without}
 use Rattle.id_table.specs.Order.{Ascends, ascends-put, found_put, ascends-without, found_without}
 use Rattle.control_message.specs.declared.message.Message.TheVariants.{Hello, Cdn}
 use Rattle.control_channel.specs.Numbers.{Numbers, let_go_at, ticked_at}
@@ -41,13 +40,10 @@ use Rattle.connection_laws.specs.Facts.{Accounts, IsNoOpening, IsSpelled, TellsO
 use Rattle.connection_laws.proofs.Keeps.{IsDeed, after, IsMoved}
 use Rattle.connection_laws.proofs.Puts.{IsOnly, EndPut}
 use Rattle.connection_laws.proofs.Later.{extends_same, MayEnter, after_move, only_after, same_after}
-use Rattle.connection_laws.proofs.States.{waits_untold, rung_waits}
+use Rattle.connection_laws.proofs.States.{no_call, waits_untold, rung_waits}
 use Rattle.connection_laws.proofs.Removed.{removed_keeps}
 use Rattle.connection_laws.proofs.GoingOn.{GoesOn, with_given, goes_on}
 use Rattle.connection_laws.proofs.Written.{request_written, draw_is, next_is}
-
-no_call : (calls : List (ℕ × Call)) (s : ℕ) (c : Call) → at calls s ≡ Some c → calls ≡ [] → ⊥
-no_call calls s c there none = none-some c (sym (at-none s) ∙ subst (λ (cs : List (ℕ × Call)). at cs s ≡ Some c) none there)
 
 -- ---- one letter is given
 

@@ -58,7 +58,14 @@ abbrev pub with_given : List Letter → Account → Account
 with_given more a = record a { given = a.given ++ more }
 
 given_extends : (a : Account) (more : List Letter) → Extends a (with_given more a)
-given_extends a more = record { part = inr refl; peer = λ made. refl; remote = inr refl; closed = inr refl; given = (more, refl); taken = ([], sym (append-nil a.taken)) }
+given_extends a more = record {
+  part = inr refl;
+  peer = λ made. refl;
+  remote = inr refl;
+  closed = inr refl;
+  given = (more, refl);
+  taken = ([], sym (append-nil a.taken));
+}
 
 begins_on : (i : ℕ) (says : Opening → Message) (given more : List Letter) → AllByRecursion (λ (l : Letter). IsNoOpening l.message) more
     → BeginsWith i says given → BeginsWith i says (given ++ more)
@@ -78,19 +85,23 @@ still_few : (given more : List Letter) (acked queued taken : ℕ) → acked + qu
 still_few given more acked queued taken counted few le = rw length-append (omega (arith, counted))
 
 -- the acceptors that answer a tunnel are known by its peer
-pub answered_on : (accs : Accounts) (n i : ℕ) (a b : Account) (acked : ℕ) → b.peer ≡ a.peer → IsAnswered accs n i a acked → IsAnswered accs n i b acked
+answered_on : (accs : Accounts) (n i : ℕ) (a b : Account) (acked : ℕ) → b.peer ≡ a.peer → IsAnswered accs n i a acked → IsAnswered accs n i b acked
 answered_on accs n i a b acked peer h =
     record { acceptor = h.acceptor; part = rw peer h.part; peer = rw peer h.peer; remote = rw peer h.remote; enough = rw peer h.enough }
 
-are_acked_on : (accs : Accounts) (n i : ℕ) (a : Account) (more : List Letter) (acked : ℕ) (p : Part) → AreAcked accs n i a acked p
-    → AreAcked accs n i (with_given more a) acked p
-are_acked_on accs n i a more acked Unmade h = h
-are_acked_on accs n i a more acked Opener h = (
-  (λ unknown. ⊎_elim (λ none. inl none)
-      (λ (one : IsAnswered accs n i a acked). inr (answered_on accs n i a (with_given more a) acked refl one)) (h.0 unknown)),
-  h.1,
-)
-are_acked_on accs n i a more acked Acceptor h = h
+-- and so is its partner
+pub are_acked_on : (accs : Accounts) (n i : ℕ) (a b : Account) (acked : ℕ) → b.peer ≡ a.peer → b.remote ≡ a.remote → (p : Part)
+    → AreAcked accs n i a acked p → AreAcked accs n i b acked p
+are_acked_on accs n i a b acked peer remote Unmade h = h
+are_acked_on accs n i a b acked peer remote Opener h =
+    let same : partner_in accs a ≡ partner_in accs b = sym (ap₂ accs peer remote) in (
+      (λ unknown. ⊎_elim (λ none. inl none)
+          (λ (one : IsAnswered accs n i a acked). inr (answered_on accs n i a b acked peer one)) (h.0 (sym remote ∙ unknown))),
+      (λ known. subst (λ (x : Account). acked ≤ length x.taken) same (h.1 (λ none. known (remote ∙ none)))),
+    )
+are_acked_on accs n i a b acked peer remote Acceptor h =
+    let same : partner_in accs a ≡ partner_in accs b = sym (ap₂ accs peer remote) in
+    subst (λ (x : Account). ((x.remote ≡ i → ⊥) → (acked ≡ 0) ⊎ IsLost x) × (x.remote ≡ i → acked ≤ length x.taken)) same h
 
 -- a message for the tunnel as it is was for it as it was
 pub for_back : (h : Header) (bytes : List ℕ) (c d : Control) → d.local ≡ c.local → d.remote ≡ c.remote → IsFor h bytes d → IsFor h bytes c
@@ -106,7 +117,8 @@ for_back h bytes c d local remote f =
 module _ (accs ms : Accounts) (n : ℕ) (e x : End) (sender : Option Sender) (ev : Event) (within : Within accs n e sender ev) (i : ℕ) (t u : Tunnel)
     (more : List Letter) (there : at e.tunnels i ≡ Some t) (g : GoesOn t u more) (only : IsOnly accs ms n i)
     (is : ms n i ≡ with_given more (accs n i)) (spelled : AllByRecursion IsSpelled more)
-    (plain : AllByRecursion (λ (l : Letter). IsNoOpening l.message) more) (told : AllByRecursion (λ (l : Letter). TellsOwn i l.message) more) (put_is : EndPut e x i u) where
+    (plain : AllByRecursion (λ (l : Letter). IsNoOpening l.message) more) (told : AllByRecursion (λ (l : Letter). TellsOwn i l.message) more)
+    (put_is : EndPut e x i u) where
   abbrev a : Account
   a = accs n i
 
@@ -294,7 +306,7 @@ module _ (accs ms : Accounts) (n : ℕ) (e x : End) (sender : Option Sender) (ev
     few = g.few;
     outstanding = g.outstanding;
     taken = g.taken ∙ live.taken;
-    acked = rw g.acked (are_acked_on ms n i a more acked a.part (are_acked_later accs ms grown n i some a acked a.part live.acked));
+    acked = rw g.acked (are_acked_on ms n i a b acked refl refl a.part (are_acked_later accs ms grown n i some a acked a.part live.acked));
     calls = g.calls;
     order = g.order;
   }

@@ -1,11 +1,9 @@
 -- What is read of a packet: which tunnel sent it, and what that tunnel and the one that it is for know of each other.
-use Rattle.std.proofs.Common.{◌≡◌, ◌⊎◌, inl, inr, ⊎_elim, ℕ, zero, suc, ◌+◌, ◌<◌, ◌≤◌, true, false, List, [], ◌∷◌, length, refl, sym, ap, ◌∙◌, subst, Option, Some, None, Ok, arith}
+use Rattle.std.proofs.Common.{◌≡◌, ◌⊎◌, inl, inr, ⊎_elim, ℕ, zero, suc, ◌<◌, ◌≤◌, true, false, List, [], ◌∷◌, length, refl, sym, ap, ◌∙◌, subst, Option, Some, None, Ok, arith}
 use Rattle.std.proofs.lemmas.Bool.{true≢false}
-use Rattle.std.proofs.lemmas.Option.{slice_get_within}
 use Rattle.std.specs.Prelude.{slice_get, unwrap_or}
 use Rattle.std.specs.List.{AllByRecursion}
 use Rattle.id_table.specs.Ids.{at}
-use Rattle.id_table.specs.Order.{same_or_not}
 use Rattle.l2tp_header.specs.declared.header.Header.{Header}
 use Rattle.l2tp_header.specs.Again.{Carries, control_header}
 use Rattle.l2tp_header.specs.Spelling.{control_bytes, data_bytes}
@@ -16,8 +14,7 @@ use Rattle.control_message.specs.declared.message.Message.TheVariants.{Sccrq, Sc
 use Rattle.control_message.specs.declared.message.Opening.{Opening}
 use Rattle.control_message.specs.Pairs.{pairs_of, IsWritten}
 use Rattle.control_message.specs.Reading.{message_of}
-use Rattle.recv_window.specs.declared.Class.TheVariants.{Next}
-use Rattle.recv_window.specs.Window.{on_wire, class_of, ClassIsTrue}
+use Rattle.recv_window.specs.Window.{on_wire}
 use Rattle.protocol_model.specs.declared.event.Event.{Event}
 use Rattle.protocol_model.specs.declared.event.Event.TheVariants.{Datagram, Ring, Payload, Lower, Hang, OpenTunnel, DropCall, CloseTunnel, Tick}
 use Rattle.protocol_model.specs.declared.out.Origin.{Origin}
@@ -36,7 +33,7 @@ use Rattle.frame_laws.specs.Codecs.{Codecs}
 use Rattle.connection_laws.specs.Accounts.{Part, Unmade, Opener, Acceptor, Account}
 use Rattle.connection_laws.specs.Facts.{Accounts, IsMade, IsSpelled, IsNoOpening, IsStopCcn, TellsOwn, IsLost, BeginsWith, IsPart, IsOpener, IsAcceptor, partner_in, AccountOk, LiveOk, Says, ALetter, Nothing, IsCopy, IsData, OriginOk, IsNear, AreNear, IsPacket, Comes, Within}
 use Rattle.connection_laws.proofs.Later.{live_made}
-use Rattle.connection_laws.proofs.Stops.{TellsStop, stops_by, no_stop}
+use Rattle.connection_laws.proofs.Stops.{stops_by, no_stop}
 use Rattle.connection_laws.proofs.Puts.{NearAt, ComesNear}
 
 -- ---- addresses

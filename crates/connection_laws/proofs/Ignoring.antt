@@ -1,29 +1,27 @@
 -- A tunnel that is closed, or is closed by the letter that it takes, does nothing with it.
 use Rattle.std.proofs.Common.{◌≡◌, ◌⊎◌, inl, inr, ⊎_elim, ℕ, ◌+◌, ◌<◌, ◌≤◌, List, [], ◌∷◌, ◌++◌, map, drop, length, refl, sym, ap, ap₂, ◌∙◌, subst, append-nil, Option, Some, arith}
 use Rattle.std.proofs.lemmas.List.{length-append}
-use Rattle.std.proofs.lemmas.Option.{none-some, slice_get_within}
+use Rattle.std.proofs.lemmas.Option.{slice_get_within}
 use Rattle.std.specs.Prelude.{slice_get}
-use Rattle.id_table.specs.Ids.{at, at-none}
+use Rattle.id_table.specs.Ids.{at}
 use Rattle.id_table.specs.Order.{ascends-empty}
 use Rattle.l2tp_header.specs.declared.header.Header.{Header}
 use Rattle.tunnel_fsm.specs.Rows.{state_number}
 use Rattle.protocol_model.specs.declared.event.Event.{Event}
 use Rattle.protocol_model.specs.declared.moves.Place.{Place}
 use Rattle.protocol_model.specs.declared.moves.Move.{Move}
-use Rattle.protocol_model.specs.declared.tunnel.Call.{Call}
 use Rattle.protocol_model.specs.declared.tunnel.Role.{Role}
 use Rattle.protocol_model.specs.Turn.{Tunnel}
 use Rattle.protocol_model.specs.End.{End}
 use Rattle.protocol_model.specs.World.{Sender, Deed}
-use Rattle.step_laws.specs.Letters.{Letter}
 use Rattle.connection_laws.specs.Accounts.{Part, Unmade, Opener, Acceptor, Taken, Account, heeded, takes_at}
-use Rattle.connection_laws.specs.Facts.{Accounts, IsMade, AreTaken, IsOpen, IsClosed, IsIgnored, AreIgnored, IsLost, HasStopped, AreJoined, partner_in, IsOpener, IsAcceptor, IsPart, AccountOk, kept_letter, IsAnswered, IsShut, AreAcked, LiveOk, IsNear, Within}
+use Rattle.connection_laws.specs.Facts.{Accounts, IsMade, AreTaken, IsOpen, IsClosed, IsIgnored, AreIgnored, IsLost, HasStopped, AreJoined, partner_in, IsOpener, IsAcceptor, IsPart, AccountOk, kept_letter, AreAcked, LiveOk, IsNear, Within}
 use Rattle.connection_laws.proofs.Keeps.{IsDeed}
 use Rattle.connection_laws.proofs.Puts.{Extends, IsOnly, StaysJoined, EndPut, IsPut}
 use Rattle.connection_laws.proofs.Later.{live_made, AllExtend, all_extend, is_taken_on, are_acked_later}
-use Rattle.connection_laws.proofs.States.{open_unless, lost_unless, heeded_open, heeded_closed, shut_stands}
+use Rattle.connection_laws.proofs.States.{no_call, lost_unless, heeded_open, heeded_closed, shut_stands}
 use Rattle.connection_laws.proofs.Put.{puts_keep}
-use Rattle.connection_laws.proofs.GoingOn.{answered_on}
+use Rattle.connection_laws.proofs.GoingOn.{are_acked_on}
 use Rattle.connection_laws.proofs.Hearing.{opener_of, acceptor_of, sender_in, Heard}
 use Rattle.connection_laws.proofs.NextHeard.{HeardNext, TakesOf, OfPartner, OfFirst, OfLost, OfOther, OfOpener, joined_opener}
 use Rattle.connection_laws.proofs.Acknowledging.{still_apart}
@@ -68,11 +66,6 @@ pub record Ignores (accs ms : Accounts) (n : ℕ) (e x : End) (sender : Option S
   pub only : IsOnly accs ms n i
   pub is : ms n i ≡ with_ignored tk closed (accs n i)
   pub put_is : EndPut e x i u
-
--- ---- no calls
-
-no_calls : (calls : List (ℕ × Call)) → calls ≡ [] → (s : ℕ) (c : Call) → at calls s ≡ Some c → ⊥
-no_calls calls none s c f = none-some c (sym (at-none s) ∙ subst (λ (cs : List (ℕ × Call)). at cs s ≡ Some c) none f)
 
 module _ (accs ms : Accounts) (n : ℕ) (e x : End) (sender : Option Sender) (ev : Event) (i : ℕ) (t u : Tunnel) (tk : Taken) (closed : Option ℕ)
     (h : Header) (bytes : List ℕ) (k : Ignores accs ms n e x sender ev i t u tk closed h bytes) where
@@ -228,7 +221,10 @@ module _ (accs ms : Accounts) (n : ℕ) (e x : End) (sender : Option Sender) (ev
       let before = opener_of accs n i a ok own in
       record {
         begins = before.begins;
-        none = λ z. inr (⊎_elim (λ (none : a.taken ≡ []). lost_now z none) (λ (o : IsLost a × (length a.taken ≤ 2)). lost_still o.0) (before.none z), few_lost own z);
+        none = λ z. inr (
+          ⊎_elim (λ (none : a.taken ≡ []). lost_now z none) (λ (o : IsLost a × (length a.taken ≤ 2)). lost_still o.0) (before.none z),
+          few_lost own z,
+        );
         one_given = λ z. ⊎_elim (λ (one : length a.given ≡ 1). inl one)
             (λ (o : IsLost a × (length a.given ≤ 2)). inr (lost_still o.0, o.1)) (before.one_given z);
         some = λ z. omega (arith, more_taken);
@@ -304,17 +300,9 @@ module _ (accs ms : Accounts) (n : ℕ) (e x : End) (sender : Option Sender) (ev
 
   -- ---- the tunnel
 
-  acked_on : (acked : ℕ) (r : Part) → AreAcked ms n i a acked r → AreAcked ms n i b acked r
-  acked_on acked Unmade h = h
-  acked_on acked Opener h = (
-    (λ z. ⊎_elim (λ none. inl none) (λ (one : IsAnswered ms n i a acked). inr (answered_on ms n i a b acked refl one)) (h.0 z)),
-    h.1,
-  )
-  acked_on acked Acceptor h = h
-
   acked : AreAcked ms n i b u.control.channel.window.acked a.part
   acked = rw k.goes.acked
-      (acked_on t.control.channel.window.acked a.part
+      (are_acked_on ms n i a b t.control.channel.window.acked refl refl a.part
       (are_acked_later accs ms grown n i some a t.control.channel.window.acked a.part live.acked))
 
   still_live : LiveOk ms n i b u
@@ -338,7 +326,7 @@ module _ (accs ms : Accounts) (n : ℕ) (e x : End) (sender : Option Sender) (ev
         outstanding = omega arith;
         taken = omega (arith, more_taken);
         acked = acked;
-        calls = λ s c f. absurd (no_calls u.calls k.goes.none s c f);
+        calls = λ s c f. absurd (no_call u.calls s c f k.goes.none);
         order = ascends-empty u.calls k.goes.none;
       }
 

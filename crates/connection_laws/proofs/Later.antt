@@ -17,6 +17,7 @@ use Rattle.step_laws.specs.Letters.{Letter}
 use Rattle.connection_laws.specs.Accounts.{Part, Unmade, Opener, Acceptor, Taken, Account, partner_of, about, entered, entered_by, takes_at, gives_also}
 use Rattle.connection_laws.specs.Facts.{Accounts, IsMade, IsTaken, AreTaken, IsOpen, IsLost, AreJoined, partner_in, IsOpener, IsAcceptor, IsPart, AccountOk, IsAnswered, IsShut, IsInState, AreAcked, LiveOk, Says, ALetter, Nothing, IsCopy, OriginOk, PacketOk}
 use Rattle.connection_laws.proofs.Keeps.{after}
+use Rattle.connection_laws.proofs.States.{lost_unless}
 use Rattle.connection_laws.proofs.Puts.{Extends, IsOnly, StaysJoined}
 
 -- what is in a list is in a longer one
@@ -50,13 +51,10 @@ remote_on a b g some = ⊎_elim (λ u. absurd (some u.1)) (λ same. same) g.remo
 pub open_on : (a b : Account) → Extends a b → IsOpen b → IsOpen a
 open_on a b g is_open = ⊎_elim (λ (was : IsOpen a). was) (λ (same : b.closed ≡ a.closed). sym same ∙ is_open) g.closed
 
-not_open : (a : Account) → IsLost a → IsOpen a → ⊥
-not_open a lost is_open = let is = lost.0 in let clash : ⊥ = cc in clash
-
 pub lost_on : (a b : Account) → Extends a b → IsLost a → IsLost b
 lost_on a b g lost = (
-  ⊎_elim (λ (was : IsOpen a). absurd (not_open a lost was)) (λ (same : b.closed ≡ a.closed). same ∙ lost.0) g.closed,
-  ⊎_elim (λ (was : IsOpen a × (a.remote ≡ 0)). absurd (not_open a lost was.0)) (λ (same : b.remote ≡ a.remote). same ∙ lost.1) g.remote,
+  ⊎_elim (λ (was : IsOpen a). absurd (lost_unless a was lost)) (λ (same : b.closed ≡ a.closed). same ∙ lost.0) g.closed,
+  ⊎_elim (λ (was : IsOpen a × (a.remote ≡ 0)). absurd (lost_unless a was.0 lost)) (λ (same : b.remote ≡ a.remote). same ∙ lost.1) g.remote,
 )
 
 pub extends_on : (a b c : Account) → Extends a b → Extends b c → Extends a c

@@ -6,7 +6,7 @@ use Rattle.id_table.specs.Ids.{at, put, without}
 use Rattle.id_table.specs.Order.{Ascends, ascends-put, found_put, ascends-without, found_without, same_or_not}
 use Rattle.id_source.specs.Spaces.{Space, draws, after_draw}
 use Rattle.control_message.specs.declared.message.Message.{Message}
-use Rattle.control_message.specs.declared.message.Message.TheVariants.{Sccrp, Scccn, Icrq, Icrp, Iccn, Cdn}
+use Rattle.control_message.specs.declared.message.Message.TheVariants.{Scccn, Icrq, Icrp, Iccn, Cdn}
 use Rattle.control_message.specs.Pairs.{IsWritten}
 use Rattle.recv_window.specs.Window.{ClassIsTrue}
 use Rattle.tunnel_fsm.specs.declared.table.TunnelState.{TunnelState}
@@ -20,7 +20,6 @@ use Rattle.protocol_model.specs.declared.moves.EndHeard.{EndHeard}
 use Rattle.protocol_model.specs.declared.moves.FirstUp.{FirstUp}
 use Rattle.protocol_model.specs.declared.moves.Replied.{Replied}
 use Rattle.protocol_model.specs.declared.moves.SecondUp.{SecondUp}
-use Rattle.protocol_model.specs.declared.moves.TookPlain.{TookPlain}
 use Rattle.protocol_model.specs.declared.moves.Place.{Place}
 use Rattle.protocol_model.specs.declared.moves.Move.{Move}
 use Rattle.protocol_model.specs.declared.moves.Move.TheVariants as move
@@ -126,7 +125,8 @@ module _ (codecs : Codecs) (classes : ClassIsTrue) (accs : Accounts) (n : ℕ) (
       subst IsWritten s.message s.next.spelled.written
 
   -- it is a letter of the partner that was learned
-  pub said_takes : (state_number t.control.state ≡ 1 → ⊥) → (state_number t.control.state ≡ 4 → ⊥) → IsNoStop m → (ms : Accounts) (x : End) (u : Tunnel) (mv : Move) (place : Place) (more : List Letter)
+  pub said_takes : (state_number t.control.state ≡ 1 → ⊥) → (state_number t.control.state ≡ 4 → ⊥) → IsNoStop m
+      → (ms : Accounts) (x : End) (u : Tunnel) (mv : Move) (place : Place) (more : List Letter)
       → place ≡ taken_place t.control → ((l : Letter) → l.session ≡ session → l.message ≡ m → Tells l mv) → TakesOn t u more → IsOnly accs ms n i
       → ms n i ≡ with_taken (taken_as sender place mv) more (accs n i) → AllByRecursion IsSpelled more
       → AllByRecursion (λ (l : Letter). IsNoOpening l.message) more → AllByRecursion (λ (l : Letter). TellsOwn i l.message) more → EndPut e x i u

@@ -1,5 +1,5 @@
 -- A tunnel that takes a letter plainly, and one that is closed by it, keep what holds.
-use Rattle.std.proofs.Common.{◌≡◌, ◌⊎◌, inl, inr, ⊎_elim, ℕ, ◌+◌, ◌^◌, ◌<◌, List, [], length, refl, sym, ap, ◌∙◌, subst, Option, Some, Ok, arith}
+use Rattle.std.proofs.Common.{◌≡◌, ◌⊎◌, inl, inr, ⊎_elim, ℕ, List, [], length, refl, sym, ap, ◌∙◌, subst, Option, Some, Ok, arith}
 use Rattle.std.proofs.lemmas.Bool.{true≢false}
 use Rattle.id_table.specs.Ids.{at}
 use Rattle.id_table.specs.Order.{same_or_not}
@@ -21,8 +21,7 @@ use Rattle.protocol_model.specs.Reading.{body_of, message_in, TunnelFault, tunne
 use Rattle.protocol_model.specs.Turn.{Tunnel, counts_taken, shut}
 use Rattle.protocol_model.specs.End.{End}
 use Rattle.protocol_model.specs.World.{Sender, Deed}
-use Rattle.step_laws.specs.Letters.{Letter}
-use Rattle.step_laws.specs.Moves.{ComesNext, SaysStop, ClosesBy}
+use Rattle.step_laws.specs.Moves.{ComesNext, SaysStop}
 use Rattle.frame_laws.specs.Codecs.{Codecs}
 use Rattle.connection_laws.specs.Accounts.{Acceptor, Account}
 use Rattle.connection_laws.specs.Facts.{Accounts, IsStopCcn, LiveOk, Comes, Within}
@@ -37,7 +36,7 @@ use Rattle.connection_laws.proofs.Acknowledging.{put_of}
 use Rattle.connection_laws.proofs.Taking.{taken_as, takes_only, paired_if, pair_takes}
 use Rattle.connection_laws.proofs.PairMoves.{took, took_on}
 use Rattle.connection_laws.proofs.AnyHeard.{written_acceptable, no_tunnel_fault}
-use Rattle.connection_laws.proofs.Ignoring.{IgnoresOn, ignores_only, ignores}
+use Rattle.connection_laws.proofs.Ignoring.{ignores_only, ignores}
 
 -- ---- StopCCNs
 

@@ -1,26 +1,14 @@
 -- How the numbers of a control message are read that reaches a live tunnel.
-use Rattle.std.proofs.Common.{◌≡◌, ◌⊎◌, inl, inr, ⊎_elim, ℕ, ◌+◌, ◌<◌, ◌≤◌, Bool, true, false, cond, eqb, zero, suc, List, ◌∷◌, length, refl, sym, ap, ap₂, ◌∙◌, subst, Option, Some, None, Result, Ok, Err, arith}
+use Rattle.std.proofs.Common.{◌≡◌, ◌⊎◌, inl, inr, ⊎_elim, ℕ, ◌+◌, ◌<◌, ◌≤◌, Bool, true, false, cond, eqb, List, length, refl, sym, ap, ap₂, ◌∙◌, subst, Option, Some, None, Result, Ok, Err, arith}
 use Rattle.std.proofs.lemmas.Bool.{eqb-true, eqb-false}
-use Rattle.std.proofs.lemmas.Option.{slice_get_within}
-use Rattle.std.specs.Prelude.{slice_get, option_map}
+use Rattle.std.specs.Prelude.{option_map}
 use Rattle.id_table.specs.Ids.{at}
 use Rattle.id_table.specs.Order.{same_or_not}
 use Rattle.recv_window.specs.Window.{ClassIsTrue}
-use Rattle.avp_codec.specs.declared.avp.Avp.{Avp}
-use Rattle.avp_codec.specs.declared.error.AvpError.{AvpError}
-use Rattle.avp_codec.specs.Reading.{avps_of}
 use Rattle.wire_base.specs.declared.why.Why.TheVariants as why
 use Rattle.l2tp_header.specs.declared.header.Header.{Header}
 use Rattle.l2tp_header.specs.declared.header.HeaderError.{HeaderError}
 use Rattle.l2tp_header.specs.Reading.{header_of}
-use Rattle.control_message.specs.declared.message.Message.{Message}
-use Rattle.control_message.specs.declared.message.Message.TheVariants.{Sccrq, Sccrp, Scccn, StopCcn, Hello, Ocrq, Ocrp, Occn, Icrq, Icrp, Iccn, Cdn, Wen, Sli}
-use Rattle.control_message.specs.declared.message.MessageError.{MessageError}
-use Rattle.control_message.specs.declared.message.MessageError.TheVariants.{NoType, UnknownType, UnknownMandatory, HiddenWithoutVector, BadValue, Missing, NoMemory}
-use Rattle.control_message.specs.declared.message.Opening.{Opening}
-use Rattle.control_message.specs.declared.message.Read.{Read}
-use Rattle.control_message.specs.declared.message.Read.TheVariants.{Known, Ignored}
-use Rattle.control_message.specs.Reading.{message_of}
 use Rattle.protocol_model.specs.declared.event.Addressee.{Addressee}
 use Rattle.protocol_model.specs.declared.event.Addressee.TheVariants.{Opens, Stops, Main, Nobody}
 use Rattle.protocol_model.specs.declared.tunnel.Control.{Control}
@@ -29,19 +17,18 @@ use Rattle.protocol_model.specs.declared.out.Origin.TheVariants as origin
 use Rattle.protocol_model.specs.declared.out.ControlOrigin.{ControlOrigin}
 use Rattle.protocol_model.specs.declared.packet.Packet.{Packet}
 use Rattle.protocol_model.specs.Names.{address_of}
-use Rattle.protocol_model.specs.Reading.{body_of, message_in, pairs_read, message_read, at_zero, zero_pairs, zero_read, at_tunnel}
+use Rattle.protocol_model.specs.Reading.{body_of, at_zero, at_tunnel}
 use Rattle.protocol_model.specs.Turn.{Tunnel}
 use Rattle.protocol_model.specs.End.{End, opens_once, addressed, main_of, reached_by, reached}
 use Rattle.protocol_model.specs.World.{Node, too_old}
 use Rattle.protocol_model.specs.Run.{Run}
 use Rattle.step_laws.specs.Steps.{AreKept}
-use Rattle.step_laws.specs.Letters.{Letter}
 use Rattle.frame_laws.specs.Codecs.{Codecs}
 use Rattle.connection_laws.specs.Accounts.{Opener, Account, account_of}
 use Rattle.connection_laws.specs.Facts.{Accounts, IsClosed, IsLost, HasStopped, AreJoined, partner_in, IsOpener, IsAcceptor, IsMade, AccountOk, LiveOk, EndOk, IsCopy, OriginOk, PacketOk, NodeOk, Holds}
 use Rattle.connection_laws.specs.Channels.{IsRead, NumbersAreRead}
 use Rattle.connection_laws.proofs.Later.{live_made}
-use Rattle.connection_laws.proofs.Told.{HeaderTells, copy_tells, copy_says}
+use Rattle.connection_laws.proofs.Told.{HeaderTells, copy_tells}
 use Rattle.connection_laws.proofs.Starts.{IsYoung, is_young}
 use Rattle.connection_laws.proofs.Numbers.{count_is_true}
 use Rattle.connection_laws.proofs.Sent.{mapped, copy_there}

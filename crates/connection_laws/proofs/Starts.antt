@@ -26,8 +26,8 @@ use Rattle.connection_laws.specs.Accounts.{Account}
 use Rattle.connection_laws.specs.Facts.{Accounts, AccountOk, LiveOk, EndOk, IsCopy, OriginOk, PacketOk, AreNear, IsPacket}
 use Rattle.connection_laws.proofs.Later.{live_made}
 use Rattle.connection_laws.proofs.Told.{copy_tells, copy_says}
-use Rattle.connection_laws.proofs.Stops.{TellsStop, stops_by, no_stop}
-use Rattle.connection_laws.proofs.Hearing.{IsLetterRead, IsNoneRead, CopyRead, copy_read}
+use Rattle.connection_laws.proofs.Stops.{stops_by, no_stop}
+use Rattle.connection_laws.proofs.Hearing.{IsLetterRead, IsNoneRead, copy_read}
 use Rattle.connection_laws.proofs.Reached.{is_reached}
 
 -- a live tunnel has an id

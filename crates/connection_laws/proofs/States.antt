@@ -1,7 +1,8 @@
 -- What the state of a live tunnel says of its account, and what the tables' rows say of states.
-use Rattle.std.proofs.Common.{◌≡◌, ◌⊎◌, inl, inr, ⊎_elim, ℕ, ◌<◌, ◌≤◌, true, false, [], length, refl, sym, ap, ◌∙◌, Some, arith}
-use Rattle.std.proofs.lemmas.Bool.{true≢false, eqb-true, eqb-false}
-use Rattle.id_table.specs.Order.{same_or_not}
+use Rattle.std.proofs.Common.{◌≡◌, ◌⊎◌, inl, inr, ⊎_elim, ℕ, true, false, List, [], length, refl, sym, ap, ◌∙◌, subst, Some, arith}
+use Rattle.std.proofs.lemmas.Bool.{eqb-true, eqb-false}
+use Rattle.std.proofs.lemmas.Option.{none-some}
+use Rattle.id_table.specs.Ids.{at, at-none}
 use Rattle.tunnel_fsm.specs.declared.table.TunnelState.{TunnelState}
 use Rattle.tunnel_fsm.specs.declared.table.TunnelState.TheVariants as state
 use Rattle.tunnel_fsm.specs.declared.table.TunnelEvent.{TunnelEvent}
@@ -12,6 +13,7 @@ use Rattle.tunnel_fsm.specs.Rows.{rows, row_of, state_number}
 use Rattle.call_fsm.specs.declared.table.CallState.TheVariants.{WaitTunnel}
 use Rattle.call_fsm.specs.declared.table.CallEvent.{CallEvent}
 use Rattle.call_fsm.specs.declared.table.CallEvent.TheVariants as call_event
+use Rattle.protocol_model.specs.declared.tunnel.Call.{Call}
 use Rattle.protocol_model.specs.declared.tunnel.Role.{Role}
 use Rattle.protocol_model.specs.declared.tunnel.Role.TheVariants.{Lac, Lns}
 use Rattle.protocol_model.specs.Calls.{call_row, is_told, rung, advanced}
@@ -39,6 +41,12 @@ heeded_open a is_open = rw is_open refl
 
 pub heeded_closed : (a : Account) (count : ℕ) → a.closed ≡ Some count → heeded a ≡ count
 heeded_closed a count is = rw is refl
+
+-- ---- calls
+
+-- where there are none, there is none of this session
+pub no_call : (calls : List (ℕ × Call)) (s : ℕ) (c : Call) → at calls s ≡ Some c → calls ≡ [] → ⊥
+no_call calls s c there none = none-some c (sym (at-none s) ∙ subst (λ (cs : List (ℕ × Call)). at cs s ≡ Some c) none there)
 
 -- ---- where a tunnel stands
 

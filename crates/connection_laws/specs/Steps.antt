@@ -160,10 +160,9 @@ abbrev pub NoneIsFaulty : Type 0
 NoneIsFaulty = (accs : Accounts) (n : ℕ) (e : End) (sender : Option Sender) (ev : Event) → Within accs n e sender ev
     → (c : Control) (session : ℕ) (f : CallFault) → IsFaulty ev c session f → ⊥
 
--- an acknowledgement alone has no pairs, and isn't read as a letter
 abbrev pub NoneIsFaultyInTunnel : Type 0
 NoneIsFaultyInTunnel = (accs : Accounts) (n : ℕ) (e : End) (sender : Option Sender) (ev : Event) → Within accs n e sender ev
-    → (c : Control) (g : TunnelFault) (k : IsFaultyInTunnel ev c g) → (length (body_of k.header k.bytes) ≡ 0 → ⊥) → ⊥
+    → (c : Control) (g : TunnelFault) → IsFaultyInTunnel ev c g → ⊥
 
 -- ---- lines
 

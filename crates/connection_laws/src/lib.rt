@@ -30,9 +30,10 @@ pub fn facts_hold()
 }
 
 /// Each move of a step keeps all of it; the next letter that a tunnel hears is the next one of its sender's list, and any that
-/// it hears is in that list, where it neither opens a tunnel nor accepts one; no message about a call has a fault; and each line
-/// of a run that fits goes on from where it holds: it does nothing, adds a node, or makes a step whose moves are made where all
-/// of it holds.
+/// it hears is in that list, where it neither opens, accepts nor stops a tunnel; so is the StopCCN by which a tunnel is closed,
+/// whose sender has learned it, or was lost before it did; one that a tunnel gives goes to the tunnel that it knows; no opening
+/// that is heard has another version, and no message has a fault; and each line of a run that fits goes on from where it holds:
+/// it does nothing, adds a node, or makes a step whose moves are made where all of it holds.
 pub fn steps_keep()
     ensures moves { MovesKeep }
     ensures heard { NextIsHeard }
@@ -51,18 +52,19 @@ pub fn steps_keep()
 }
 
 /// Over every list of fewer than 2^47 lines of the grammar: each control message is a copy of the letter at its number in
-/// its sender's list, or of none, and goes to its sender's peer; and what a tunnel took are the first letters of the list of
-/// its partner, the one tunnel that it has learned, in order and each once. What it did with each is what the letter says: it
-/// learned the id and the window that an opening tells, it made a call for the request that names the other end's, and a call
-/// came up or ended that the letter's header names; or a call ended by a CDN whose header names none, of which no more is
-/// said. Of a letter that it took plainly, by which it did nothing else, nothing is said.
+/// its sender's list, or of none, and goes to its sender's peer; and what a tunnel took, as long as it wasn't closed, are the
+/// first letters of the list of its partner, the one tunnel that it has learned, in order and each once. What it did with each
+/// is what the letter says: it learned the id and the window that an opening tells, it made a call for the request that names
+/// the other end's, and a call came up or ended that the letter's header names; or a call ended by a CDN whose header names
+/// none, of which no more is said. Of a letter that it took plainly, by which it did nothing else, nothing is said.
 pub fn letters_are_carried()
     ensures { LettersOfRuns }
 {
     laws_below();
 }
 
-/// Each letter that a live tunnel counts as acknowledged was taken by a tunnel of its peer.
+/// Each letter that a live tunnel counts as acknowledged was taken by a tunnel of its peer, or ignored by one that had been
+/// closed by then.
 pub fn acks_are_true()
     ensures { AcksOfRuns }
 {
