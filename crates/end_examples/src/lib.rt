@@ -5,4 +5,10 @@
 #![tactic(auto)]
 
 #[cfg(test)]
-mod tests;
+mod bench;
+#[cfg(test)]
+mod calls;
+#[cfg(test)]
+mod limits;
+#[cfg(test)]
+mod tunnels;

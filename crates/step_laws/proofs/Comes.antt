@@ -13,7 +13,7 @@ use Rattle.call_fsm.specs.declared.table.CallEvent.{CallEvent}
 use Rattle.protocol_model.specs.declared.tunnel.Call.{Call}
 use Rattle.protocol_model.specs.declared.tunnel.Control.{Control}
 use Rattle.protocol_model.specs.declared.event.Event.{Event}
-use Rattle.protocol_model.specs.declared.event.Addressee.TheVariants.{Stops}
+use Rattle.protocol_model.specs.declared.event.Addressee.TheVariants.{Opens, Stops}
 use Rattle.protocol_model.specs.Reading.{body_of, message_read, pairs_read, message_in}
 use Rattle.protocol_model.specs.Calls.{call_row, is_told}
 use Rattle.protocol_model.specs.Turn.{Tunnel, Turn, is_closed, may_take, tunnel_after, with_calls}
@@ -56,7 +56,7 @@ pub for_still : (h : Header) (bytes : List ℕ) (c d : Control) → d.local ≡ 
 for_still h bytes c d local remote to = ⊎_elim
     (λ named. inl (named ∙ sym local))
     (λ unnamed. inr (⊎_elim
-    (λ again. inl (record { none = again.none; opening = again.opening; said = again.said; known = remote ∙ again.known }))
+    (λ again. inl (record { none = again.none; opens = again.opens ∙ ap Opens (sym remote) }))
     (λ stop. inr (record { none = stop.none; stops = stop.stops ∙ ap Stops (sym remote) }))
     unnamed))
     to
@@ -95,6 +95,8 @@ module _ (e : End) (moment : ℕ) (ev : Event) (letters : List Letter) (calls : 
     pub peer : first.peer ≡ t.control.peer
     pub state : first.state ≡ t.control.state
     pub sessions : t.sessions ≡ e.session_ids
+    -- and its id is one
+    pub some : i ≡ 0 → ⊥
 
   -- and, of a tunnel that isn't closed, may take a letter
   pub record Taking (t : Turn) : Type 0 where

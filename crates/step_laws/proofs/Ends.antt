@@ -70,6 +70,7 @@ no_frame_out outs (move.Refused m) h = tt
 no_frame_out outs (move.EndTold m) h = tt
 no_frame_out outs (move.EndHeard m) h = tt
 no_frame_out outs (move.EndSilent m) h = tt
+no_frame_out outs (move.Declined m) h = tt
 no_frame_out outs (move.Closed m) h = tt
 no_frame_out outs (move.ClosedBy m) h = tt
 no_frame_out outs (move.Cleared i) h = tt
@@ -90,7 +91,7 @@ word_is e ms (Up session side frame) h = absurd h
 
 -- what is sent in a tunnel of an end
 pub ok_is : (x : End) (i : ℕ) (t : Tunnel) → at x.tunnels i ≡ Some t → (ms : List Move) (o : Out) → OutOk t ms o → IsOfMoves x ms o
-ok_is x i t is ms (Send p bytes o) h = record { id = i; tunnel = t; there = is; peer_is = h.0; carries = h.1 }
+ok_is x i t is ms (Send p bytes o) h = inl (record { id = i; tunnel = t; there = is; peer_is = h.0; carries = h.1 })
 ok_is x i t is ms (Up session side frame) h = absurd h
 ok_is x i t is ms (Gone session) h = tt
 ok_is x i t is ms (Drop w) h = tt
@@ -239,6 +240,7 @@ module _ (e : End) (kept : AreKept e) (moment : ℕ) (ev : Event) where
         peer = refl;
         state = refl;
         sessions = refl;
+        some = k.some;
       }
 
       abbrev leads : Turn → Type 0
@@ -338,13 +340,13 @@ module _ (e : End) (kept : AreKept e) (moment : ℕ) (ev : Event) where
             ap (λ ts. record e { tunnels = ts }) (sym (rw same (put-again i t e.tunnels kept.order is))),
           );
           outputs = (
-            record {
+            inl (record {
               id = i;
               tunnel = tunnel_after start t.letters t.calls;
               there = at_new e.tunnels i (tunnel_after start t.letters t.calls);
               peer_is = refl;
               carries = AFrame _ c (inl refl) refl refl found up refl refl;
-            },
+            }),
             tt,
           );
           frames = ((t.control.remote, c.remote, inl refl), tt);

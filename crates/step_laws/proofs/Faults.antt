@@ -16,7 +16,8 @@ use Rattle.tunnel_fsm.specs.declared.table.TunnelEvent.TheVariants as event
 use Rattle.protocol_model.specs.declared.event.Event.{Event}
 use Rattle.protocol_model.specs.Reading.{fault_cause, is_for_call, TunnelFault, event_of_kind, told_by_kind, closing, closing_by, tunnel_fault_of_kind, tunnel_fault_read, tunnel_fault_of_pairs, tunnel_fault_in}
 use Rattle.protocol_model.specs.End.{End}
-use Rattle.step_laws.specs.Causes.{CameClosing, Stands}
+use Rattle.step_laws.specs.Causes.{CameClosing, CameFaultyOpening, Stands}
+use Rattle.step_laws.proofs.Assigned.{IsInner}
 use Rattle.step_laws.proofs.Tells.{IsOfFault, error_cause}
 
 -- the events that faults are: no message that has one is acceptable, and none opens a tunnel
@@ -91,7 +92,45 @@ pub closing_stands : (e : End) (moment : ℕ) (ev : Event) (g : TunnelFault) →
 closing_stands e moment ev g is came = ⊎_elim
     (λ (avp : g.cause ≡ cause.Avp). subst (Stands e moment ev) (sym avp) (subst (CameClosing e ev) avp came))
     (λ other. ⊎_elim
-    (λ (value : g.cause ≡ cause.Value). subst (Stands e moment ev) (sym value) (inr (subst (CameClosing e ev) value came)))
-    (λ (mandatory : g.cause ≡ cause.Mandatory). subst (Stands e moment ev) (sym mandatory) (inr (subst (CameClosing e ev) mandatory came)))
+    (λ (value : g.cause ≡ cause.Value). subst (Stands e moment ev) (sym value) (inr (inl (subst (CameClosing e ev) value came))))
+    (λ (mandatory : g.cause ≡ cause.Mandatory). subst (Stands e moment ev) (sym mandatory) (inr (inl (subst (CameClosing e ev) mandatory came))))
     other)
+    is.cause
+
+-- ---- faults of openings
+
+-- of an SCCRQ
+pub record IsOfOpening (g : TunnelFault) : Type 0 where
+  pub event : g.event ≡ event.SccrqNotAcc
+  pub cause : IsOfFault g.cause
+
+opening_made : (x : MessageError) (avps : List Avp) (g : TunnelFault) (o : Option CauseOf) → fault_cause x ≡ o → closing_by kind.Sccrq avps o ≡ Some g
+    → IsOfOpening g
+opening_made x avps g None is h = absurd cc
+opening_made x avps g (Some c) is h =
+    let same : closing event.SccrqNotAcc c 0 ≡ g = cc in
+    subst IsOfOpening same (record { event = refl; cause = error_cause x c is })
+
+of_sccrq : (x : MessageError) (avps : List Avp) (g : TunnelFault) (o : Option Kind) → o ≡ Some kind.Sccrq → tunnel_fault_of_kind o x avps ≡ Some g
+    → IsOfOpening g
+of_sccrq x avps g o is h = opening_made x avps g (fault_cause x) refl (rw is at h)
+
+-- the fault is of its pairs, and not of its type
+pub of_opening : (x : MessageError) (avps : List Avp) (g : TunnelFault) → kind_of_pairs avps ≡ Some kind.Sccrq → IsInner x
+    → tunnel_fault_read avps (Err x) ≡ Some g → IsOfOpening g
+of_opening NoType avps g named inner h = absurd inner
+of_opening (UnknownType n) avps g named inner h = absurd inner
+of_opening (UnknownMandatory v n) avps g named inner h = of_sccrq (UnknownMandatory v n) avps g (kind_of_pairs avps) named h
+of_opening (HiddenWithoutVector n) avps g named inner h = of_sccrq (HiddenWithoutVector n) avps g (kind_of_pairs avps) named h
+of_opening (BadValue n) avps g named inner h = of_sccrq (BadValue n) avps g (kind_of_pairs avps) named h
+of_opening (Missing n) avps g named inner h = of_sccrq (Missing n) avps g (kind_of_pairs avps) named h
+of_opening NoMemory avps g named inner h = of_sccrq NoMemory avps g (kind_of_pairs avps) named h
+
+-- its cause stands, where the opening is declined for it
+pub opening_fault_stands : (e : End) (moment : ℕ) (ev : Event) (g : TunnelFault) → IsOfOpening g → CameFaultyOpening e ev g.cause
+    → Stands e moment ev g.cause
+opening_fault_stands e moment ev g is came = ⊎_elim
+    (λ (value : g.cause ≡ cause.Value). subst (Stands e moment ev) (sym value) (inr (inr (subst (CameFaultyOpening e ev) value came))))
+    (λ (mandatory : g.cause ≡ cause.Mandatory).
+    subst (Stands e moment ev) (sym mandatory) (inr (inr (subst (CameFaultyOpening e ev) mandatory came))))
     is.cause

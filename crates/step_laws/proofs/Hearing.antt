@@ -239,6 +239,7 @@ module _ (e : End) (moment : ℕ) (ev : Event) (letters : List Letter) (calls : 
           peer = f.peer;
           state = f.state;
           sessions = f.sessions;
+          some = f.some;
         }
 
         pub hears_control_ok : (cfg : Config) → t.given ≡ [] → t.acked ≡ 0

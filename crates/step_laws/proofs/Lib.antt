@@ -2,8 +2,11 @@ mod Lists
 mod States
 mod Owing
 mod Tells
+mod Assigned
 mod Faults
 mod Zero
+mod Known
+mod Openings
 mod Turns
 mod Settling
 mod Comes
@@ -15,6 +18,7 @@ mod Stopping
 mod Hearing
 mod Ticking
 mod Ends
+mod Declining
 mod Ticks
 mod Quiet
 pub mod Steps

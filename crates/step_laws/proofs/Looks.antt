@@ -437,6 +437,7 @@ module _ (x : End) (ok : LooksAreTrue x) where
   does_looks order moment ev (move.Repeated m) y h = subst LooksAreTrue (sym h.after) (calls_stay m.tunnel h.tunnel _ _ h.there refl)
   does_looks order moment ev (move.NrRead m) y h = subst LooksAreTrue (sym h.after) (calls_stay m.tunnel h.tunnel _ _ h.there refl)
   does_looks order moment ev (move.LetGo m) y h = subst LooksAreTrue (sym h.after) (calls_stay m.tunnel h.tunnel _ _ h.there refl)
+  does_looks order moment ev (move.Declined m) y h = stays y h.after
   does_looks order moment ev (move.Quiet i) y h = stays y h.after
   does_looks order moment ev (move.FrameSent m) y h = stays y h.after
   does_looks order moment ev (move.FrameUp m) y h = stays y h.after
@@ -514,6 +515,7 @@ module _ (x : End) (ok : AreOrdered x) where
         calls = λ j u f. ok.calls j u (found_without x.tunnels i j u ok.tunnels f).1;
         places = ascends_looks (map cell.Kill (ids_of h.tunnel.calls)) x.calls ok.places;
       })
+  does_order moment ev (move.Declined m) y h = subst AreOrdered (sym h.after) ok
   does_order moment ev (move.Quiet i) y h = subst AreOrdered (sym h.after) ok
   does_order moment ev (move.FrameSent m) y h = subst AreOrdered (sym h.after) ok
   does_order moment ev (move.FrameUp m) y h = subst AreOrdered (sym h.after) ok

@@ -131,6 +131,7 @@ module _ (e : End) (whole : AreWhole e) where
       puts x _ m.tunnel _ h.after refl refl refl (whole_without e.role h.tunnel.calls m.session (whole.calls m.tunnel h.tunnel h.there))
   does_whole moment ev (move.EndSilent m) x h =
       puts x _ m.tunnel _ h.after refl refl refl (whole_without e.role h.tunnel.calls m.session (whole.calls m.tunnel h.tunnel h.there))
+  does_whole moment ev (move.Declined m) x h = nothing x h.after
   does_whole moment ev (move.Closed m) x h = puts x _ m.tunnel _ h.after refl refl refl (whole_none e.role)
   does_whole moment ev (move.ClosedBy m) x h = puts x _ m.tunnel _ h.after refl refl refl (whole_none e.role)
   does_whole moment ev (move.Cleared i) x h = subst AreWhole (sym h.after) (record {
@@ -162,6 +163,7 @@ does_role moment ev e x (move.Refused m) h = ap (λ (y : End). y.role) h.after
 does_role moment ev e x (move.EndTold m) h = ap (λ (y : End). y.role) h.after
 does_role moment ev e x (move.EndHeard m) h = ap (λ (y : End). y.role) h.after
 does_role moment ev e x (move.EndSilent m) h = ap (λ (y : End). y.role) h.after
+does_role moment ev e x (move.Declined m) h = ap (λ (y : End). y.role) h.after
 does_role moment ev e x (move.Closed m) h = ap (λ (y : End). y.role) h.after
 does_role moment ev e x (move.ClosedBy m) h = ap (λ (y : End). y.role) h.after
 does_role moment ev e x (move.Cleared i) h = ap (λ (y : End). y.role) h.after

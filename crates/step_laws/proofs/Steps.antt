@@ -1,6 +1,6 @@
 -- Each step of an end is a chain of moves.
 use Rattle.std.proofs.Common.{◌≡◌, ◌⊎◌, inl, inr, ℕ, Bool, true, false, List, length, refl, sym, ap, ◌∙◌, subst, Option, Some, None, Result, Ok, Err}
-use Rattle.std.proofs.lemmas.Bool.{eqb-true, eq-eqb, true≢false}
+use Rattle.std.proofs.lemmas.Bool.{eqb-true, true≢false}
 use Rattle.std.specs.Prelude.{◌==◌, nat_lt, not, option_map}
 use Rattle.id_table.specs.Ids.{at, ids_of}
 use Rattle.wire_base.specs.declared.why.Why.{Why}
@@ -10,8 +10,6 @@ use Rattle.wire_base.specs.declared.letter.Side.{Side}
 use Rattle.l2tp_header.specs.declared.header.Header.{Header}
 use Rattle.l2tp_header.specs.declared.header.HeaderError.{HeaderError}
 use Rattle.l2tp_header.specs.Reading.{header_of}
-use Rattle.control_message.specs.declared.message.Opening.{Opening}
-use Rattle.control_message.specs.declared.message.Message.TheVariants.{Sccrq}
 use Rattle.tunnel_fsm.specs.declared.table.TunnelState.{TunnelState}
 use Rattle.tunnel_fsm.specs.declared.table.TunnelState.TheVariants.{WaitCtlReply, Established}
 use Rattle.tunnel_fsm.specs.Rows.{state_number}
@@ -21,22 +19,24 @@ use Rattle.protocol_model.specs.declared.tunnel.Look.TheVariants as look
 use Rattle.protocol_model.specs.declared.tunnel.Role.{Role}
 use Rattle.protocol_model.specs.declared.tunnel.Role.TheVariants.{Lac, Lns}
 use Rattle.protocol_model.specs.declared.event.Addressee.{Addressee}
-use Rattle.protocol_model.specs.declared.event.Addressee.TheVariants.{Opens, Stops, Main, Nobody}
+use Rattle.protocol_model.specs.declared.event.Addressee.TheVariants.{Opens, Stops, Answers, Main, Nobody}
 use Rattle.protocol_model.specs.declared.event.Event.{Event}
 use Rattle.protocol_model.specs.declared.event.Event.TheVariants.{Datagram, Ring, Payload, Lower, Hang, OpenTunnel, DropCall, CloseTunnel, Tick}
 use Rattle.protocol_model.specs.declared.out.Out.TheVariants.{Drop, Cause}
-use Rattle.protocol_model.specs.Reading.{header_why, body_of, message_in, at_zero, at_tunnel}
+use Rattle.protocol_model.specs.Reading.{header_why, body_of, at_zero, at_tunnel}
 use Rattle.protocol_model.specs.Calls.{is_lac, frame_of, side_of, Carried, Upward, Dropped, carry_known, carry_look}
 use Rattle.protocol_model.specs.Turn.{Tunnel, Env, turns}
 use Rattle.protocol_model.specs.End.{End, Stepped, env_of, in_new, has_all_tunnels, in_one_more, in_main, is_known, known_as, opened_before, stopped_at, opens_once, addressed, for_addressee, is_in, least_in, rings_in, rings_at, for_call, look_in, handed, hands_up, receives, only_by, step_in, step}
 use Rattle.step_laws.specs.Room.{IsChosen, StepsRefuseTruly}
 use Rattle.step_laws.specs.Causes.{CausesStand}
 use Rattle.step_laws.specs.Steps.{AreKept, StepsAreChains}
-use Rattle.step_laws.proofs.Lists.{and_left, and_right, branch, found_passes, none_passes, found_among}
+use Rattle.step_laws.proofs.Lists.{and_left, and_right, branch, found_passes}
 use Rattle.step_laws.proofs.Tells.{of_all, header_other}
-use Rattle.step_laws.proofs.Zero.{ZeroSays, zero_says}
+use Rattle.step_laws.proofs.Zero.{SaysOpening, ZeroSays, zero_says}
+use Rattle.step_laws.proofs.Known.{known_peer, known_remote}
+use Rattle.step_laws.proofs.Declining.{answer_chain, asks_chain}
 use Rattle.step_laws.proofs.Ticks.{ticks_chain}
-use Rattle.step_laws.proofs.Ends.{IsTo, IsStep, drop_chain, cause_chain, heard_chain, rung_chain, hung_chain, closes_chain, shut_chain, carries_chain, opens_chain, rings_chain, first_heard}
+use Rattle.step_laws.proofs.Ends.{IsTo, IsStep, drop_chain, cause_chain, heard_chain, rung_chain, hung_chain, closes_chain, shut_chain, carries_chain, opens_chain, rings_chain}
 
 not_true : (a : Bool) → not a ≡ true → a ≡ false
 not_true true h = absurd (true≢false (sym h))
@@ -49,25 +49,6 @@ not_false false h = absurd (true≢false h)
 is_lac_role : (r : Role) → is_lac r ≡ true → r ≡ Lac
 is_lac_role Lac h = refl
 is_lac_role Lns h = absurd (true≢false (sym h))
-
--- a tunnel that is known by a peer's id goes to the peer
-known_peer : (peer remote : ℕ) (o : Option Tunnel) → is_known peer remote o ≡ true → (t : Tunnel) → o ≡ Some t → t.control.peer ≡ peer
-known_peer peer remote None known t is = absurd (true≢false (sym known))
-known_peer peer remote (Some u) known t is =
-    let same : u ≡ t = cc in
-    ap (λ (x : Tunnel). x.control.peer) (sym same) ∙ eqb-true u.control.peer peer (and_left (u.control.peer == peer) (u.control.remote == remote) known)
-
--- and the peer assigned it the id
-known_remote : (peer remote : ℕ) (o : Option Tunnel) → is_known peer remote o ≡ true → (t : Tunnel) → o ≡ Some t → t.control.remote ≡ remote
-known_remote peer remote None known t is = absurd (true≢false (sym known))
-known_remote peer remote (Some u) known t is =
-    let same : u ≡ t = cc in
-    ap (λ (x : Tunnel). x.control.remote) (sym same) ∙ eqb-true u.control.remote remote (and_right (u.control.peer == peer) (u.control.remote == remote) known)
-
--- one that goes to the peer and has the id is known by it
-is_known_by : (peer remote : ℕ) (o : Option Tunnel) (t : Tunnel) → o ≡ Some t → t.control.peer ≡ peer → t.control.remote ≡ remote
-    → is_known peer remote o ≡ true
-is_known_by peer remote o t is goes has = rw (is, eq-eqb t.control.peer peer goes, eq-eqb t.control.remote remote has) refl
 
 -- a tunnel that is in a state by its number
 pub in_state_is : (s : TunnelState) (peer : ℕ) (o : Option Tunnel) → is_in s peer o ≡ true → (t : Tunnel) → o ≡ Some t
@@ -228,27 +209,22 @@ module _ (e : End) (kept : AreKept e) (moment : ℕ) (block : List ℕ) where
 
   module _ (peer : ℕ) (bytes : List ℕ) (h : Header) (read : header_of bytes ≡ Ok h) (control : h.control ≡ true) where
     abbrev leads : Addressee → Type 0
-    leads a = IsStep e moment (Datagram peer bytes) (for_addressee e env (Datagram peer bytes) peer a)
+    leads a = IsStep e moment (Datagram peer bytes) (for_addressee e env (Datagram peer bytes) peer h (body_of h bytes) a)
 
     nobody : (w : Why) → (w ≡ why.Queue → ⊥) → leads (Nobody w)
     unfolding for_addressee
     nobody w other = drop_chain e kept moment (Datagram peer bytes) w other
 
-    -- an SCCRQ opens a tunnel, or comes again to the one that it opened
-    opened_leads : h.tunnel ≡ 0 → (o : Opening) → message_in (body_of h bytes) ≡ Ok (Sccrq o) → (k : Option ℕ) → known_as peer o.tunnel e.tunnels ≡ k
-        → leads (opened_before o.tunnel k)
-    unfolding for_addressee in_one_more in_new known_as
-    opened_leads zero o said None is =
-        branch (IsStep e moment (Datagram peer bytes)) (has_all_tunnels e.tunnels) _ _ (λ all. drop_chain e kept moment (Datagram peer bytes) why.Tunnel (λ q. absurd cc)) (λ fewer.
-        first_heard e kept moment (Datagram peer bytes) block peer bytes h read control refl (λ p again j t there goes has.
-        let both : Ok (Sccrq p) ≡ Ok (Sccrq o) = sym again ∙ said in
-        let same : p ≡ o = cc in
-        none_passes (λ q. is_known peer o.tunnel (at e.tunnels q)) (ids_of e.tunnels) j is (found_among e.tunnels j t there)
-        (is_known_by peer o.tunnel (at e.tunnels j) t there goes (has ∙ ap (λ (x : Opening). x.tunnel) same))))
-    opened_leads zero o said (Some i) is =
-        let known = found_passes (λ j. is_known peer o.tunnel (at e.tunnels j)) (ids_of e.tunnels) i is in
-        main_heard peer i bytes h read control (at e.tunnels i) refl (known_peer peer o.tunnel (at e.tunnels i) known)
-        (λ t there. inr (inl (record { none = zero; opening = o; said = said; known = known_remote peer o.tunnel (at e.tunnels i) known t there })))
+    -- an SCCRQ opens a tunnel or is declined, or comes again to the one that it opened
+    opened_leads : h.tunnel ≡ 0 → (remote : ℕ) → at_zero (body_of h bytes) ≡ Opens remote → (remote ≡ 0 → ⊥) → SaysOpening (body_of h bytes) remote
+        → (k : Option ℕ) → known_as peer remote e.tunnels ≡ k → leads (opened_before remote k)
+    unfolding for_addressee known_as
+    opened_leads zero remote opens some says None is =
+        asks_chain e kept moment peer bytes h read control zero remote some is block opens says
+    opened_leads zero remote opens some says (Some i) is =
+        let known = found_passes (λ j. is_known peer remote (at e.tunnels j)) (ids_of e.tunnels) i is in
+        main_heard peer i bytes h read control (at e.tunnels i) refl (known_peer peer remote (at e.tunnels i) known)
+        (λ t there. inr (inl (record { none = zero; opens = opens ∙ ap Opens (sym (known_remote peer remote (at e.tunnels i) known t there)) })))
 
     -- a StopCCN is for the tunnel whose peer assigned the id that it tells
     stopped_leads : h.tunnel ≡ 0 → (remote : ℕ) → at_zero (body_of h bytes) ≡ Stops remote → (k : Option ℕ) → known_as peer remote e.tunnels ≡ k
@@ -260,12 +236,16 @@ module _ (e : End) (kept : AreKept e) (moment : ℕ) (block : List ℕ) where
         main_heard peer i bytes h read control (at e.tunnels i) refl (known_peer peer remote (at e.tunnels i) known)
         (λ t there. inr (inr (record { none = zero; stops = says ∙ ap Stops (sym (known_remote peer remote (at e.tunnels i) known t there)) })))
 
+    -- an SCCRP is declined
+    answered_leads : h.tunnel ≡ 0 → (remote : ℕ) → at_zero (body_of h bytes) ≡ Answers remote → (remote ≡ 0 → ⊥) → leads (Answers remote)
+    unfolding for_addressee
+    answered_leads zero remote is some = answer_chain e kept moment peer bytes h read control zero remote some is
+
     zero_leads : h.tunnel ≡ 0 → (a : Addressee) → at_zero (body_of h bytes) ≡ a → ZeroSays (body_of h bytes) a → leads (opens_once e peer a)
     unfolding opens_once
-    zero_leads zero (Opens remote) is says =
-        subst (λ (n : ℕ). leads (opened_before n (known_as peer n e.tunnels))) (sym says.2)
-        (opened_leads zero says.0 says.1 (known_as peer says.0.tunnel e.tunnels) refl)
+    zero_leads zero (Opens remote) is says = opened_leads zero remote is says.0 says.1 (known_as peer remote e.tunnels) refl
     zero_leads zero (Stops remote) is says = stopped_leads zero remote is (known_as peer remote e.tunnels) refl
+    zero_leads zero (Answers remote) is says = answered_leads zero remote is says
     zero_leads zero (Main i) is says = absurd says
     zero_leads zero (Nobody w) is says = nobody w says
 
@@ -355,7 +335,7 @@ module _ (e : End) (kept : AreKept e) (moment : ℕ) (block : List ℕ) where
   step_chain Tick = ticks_chain moment e block kept
   step_chain OpenTunnel = by_lac OpenTunnel _ (λ lac.
       branch (IsStep e moment OpenTunnel) (has_all_tunnels e.tunnels) _ _
-      (λ all. cause_chain e kept moment OpenTunnel cause.Tunnels (inr refl, all))
+      (λ all. cause_chain e kept moment OpenTunnel cause.Tunnels (inr (inl refl), all))
       (λ fewer. opens_chain e kept moment OpenTunnel block e.config.lns lac refl refl fewer))
 
 pub steps_are_chains : StepsAreChains

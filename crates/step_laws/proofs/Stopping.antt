@@ -18,13 +18,15 @@ use Rattle.protocol_model.specs.declared.tunnel.Call.{Call}
 use Rattle.protocol_model.specs.declared.tunnel.Control.{Control}
 use Rattle.protocol_model.specs.declared.event.Event.{Event}
 use Rattle.protocol_model.specs.Reading.{body_of, message_in, CallFault, call_fault_in, TunnelFault, tunnel_fault_in}
-use Rattle.protocol_model.specs.Turn.{Tunnel, Turn, Reason, is_closed, is_acceptable, event_by, opening_reason, out_of_order, other_version, fault_reason, known_or, with_move, takes_one, takes_plain, closes_tunnel, takes_by, takes, hears_faulty}
+use Rattle.protocol_model.specs.Turn.{Tunnel, Turn, Reason, is_closed, is_acceptable, event_by, opening_reason, out_of_order, fault_reason, known_or, with_move, takes_one, takes_plain, closes_tunnel, takes_by, takes, hears_faulty}
 use Rattle.protocol_model.specs.End.{End}
 use Rattle.step_laws.specs.Causes.{IsClosedOn, InSccrq, InSccrp, AnSccrq, AnSccrp, AnScccn, Stands}
 use Rattle.step_laws.specs.Moves.{HearsNext, ComesNext, IsPlain, InTunnel, SaysStop, BySccrq, BySccrp, ByScccn, ByFault}
 use Rattle.step_laws.proofs.Faults.{IsEventOfFault, of_tunnel, closing_stands}
 use Rattle.step_laws.proofs.Turns.{TurnOk, PlainAt, plain_ok}
 use Rattle.step_laws.proofs.Settling.{Settled, unsent}
+use Rattle.step_laws.proofs.Known.{sccrq_opens_none, sccrp_opens_none}
+use Rattle.step_laws.proofs.Openings.{opening_stands}
 use Rattle.step_laws.proofs.Comes.{Taking, next_of_heard, heard_in, for_still, comes_at, begun}
 use Rattle.step_laws.proofs.Shutting.{Why, told_shut_ok, heard_shut_ok}
 use Rattle.step_laws.proofs.Faulty.{unread_plain, unknown_ok, in_faulty_call_ok}
@@ -124,14 +126,7 @@ row_stop state.WaitCtlConn = refl
 row_stop state.Established = refl
 row_stop state.Closed = refl
 
--- ---- codes and ids
-
-opening_no_error : (o : Opening) → (opening_reason o).error ≡ None
-opening_no_error o = by (is_acceptable o)
-  where
-    by : (b : Bool) → (cond b out_of_order other_version).error ≡ None
-    by true = refl
-    by false = refl
+-- ---- ids
 
 -- where no id is told, the peer's is the one that is known
 known_or_none : (c : Control) → known_or 0 c ≡ c.remote
@@ -205,10 +200,20 @@ module _ (e : End) (moment : ℕ) (ev : Event) (letters : List Letter) (calls : 
   -- ---- messages that the table has no good use for
 
   module _ (session : ℕ) (o : Opening) (t : Turn) (f : Takes t) where
-    sccrq_stands : HearsNext ev t.control session (Sccrq o) → (b : Bool) → is_acceptable o ≡ b
-        → IsClosedOn e (begun_at t f) (cond b event.SccrqAcc event.SccrqNotAcc) → Stands e moment ev (cond b out_of_order other_version).cause
-    sccrq_stands hears true good on = inr (AnSccrq (begun_at t f) session o (came_in t f session (Sccrq o) hears) good on)
-    sccrq_stands hears false bad on = InSccrq (begun_at t f) session o (came_in t f session (Sccrq o) hears) bad on
+    none_of : t.control.local ≡ i
+    none_of = f.fresh.good.stays.0
+
+    some_at : (begun_at t f).control.local ≡ 0 → ⊥
+    some_at zero = f.fresh.some (sym none_of ∙ sym f.fresh.local ∙ zero)
+
+    sccrq_stands : HearsNext ev t.control session (Sccrq o) → IsClosedOn e (begun_at t f) (event_by event.SccrqAcc event.SccrqNotAcc o)
+        → Stands e moment ev (opening_reason o).cause
+    sccrq_stands hears =
+        let came = came_in t f session (Sccrq o) hears in
+        opening_stands e moment ev o event.SccrqAcc event.SccrqNotAcc (begun_at t f)
+        (λ on. InSccrq (begun_at t f) session came on)
+        (λ good on. AnSccrq (begun_at t f) session o came good on)
+        (λ would. absurd (sccrq_opens_none e ev i (begun_at t f) f.fresh.there some_at session o came would))
 
     pub sccrq_ok : HearsNext ev t.control session (Sccrq o)
         → Good (takes_by e.role calls (opening_reason o) 0 o.window (row_of rows t.control.state (event_by event.SccrqAcc event.SccrqNotAcc o)) t)
@@ -216,16 +221,19 @@ module _ (e : End) (moment : ℕ) (ev : Event) (letters : List Letter) (calls : 
     sccrq_ok hears =
         let on = event_by event.SccrqAcc event.SccrqNotAcc o in
         let row = row_sccrq t.control.state o (busy t f) f.live in
-        shuts_ok (opening_reason o) (sccrq_stands hears (is_acceptable o) refl (shut_on t f on row)) on 0 o.window t f
+        shuts_ok (opening_reason o) (sccrq_stands hears (shut_on t f on row)) on 0 o.window t f
         (comes_at e moment ev letters calls i t session (Sccrq o) tt hears) row
         (λ m to remote result error.
-        BySccrq session o (heard_in ev t.control _ session (Sccrq o) refl refl refl hears) refl (remote ∙ known_or_none t.control) result
-        (error ∙ opening_no_error o))
+        BySccrq session o (heard_in ev t.control _ session (Sccrq o) refl refl refl hears) refl (remote ∙ known_or_none t.control) result error)
 
-    sccrp_stands : HearsNext ev t.control session (Sccrp o) → (b : Bool) → is_acceptable o ≡ b
-        → IsClosedOn e (begun_at t f) (cond b event.SccrpAcc event.SccrpNotAcc) → Stands e moment ev (cond b out_of_order other_version).cause
-    sccrp_stands hears true good on = inr (AnSccrp (begun_at t f) session o (came_in t f session (Sccrp o) hears) good on)
-    sccrp_stands hears false bad on = InSccrp (begun_at t f) session o (came_in t f session (Sccrp o) hears) bad on
+    sccrp_stands : HearsNext ev t.control session (Sccrp o) → IsClosedOn e (begun_at t f) (event_by event.SccrpAcc event.SccrpNotAcc o)
+        → Stands e moment ev (opening_reason o).cause
+    sccrp_stands hears =
+        let came = came_in t f session (Sccrp o) hears in
+        opening_stands e moment ev o event.SccrpAcc event.SccrpNotAcc (begun_at t f)
+        (λ on. InSccrp (begun_at t f) session came on)
+        (λ good on. AnSccrp (begun_at t f) session o came good on)
+        (λ would. absurd (sccrp_opens_none e ev i (begun_at t f) f.fresh.there some_at session o came o would))
 
     -- one that is acceptable closes no tunnel that waits for it
     pub sccrp_shut_ok : (state_number t.control.state ≡ 1 → is_acceptable o ≡ false) → HearsNext ev t.control session (Sccrp o)
@@ -235,17 +243,17 @@ module _ (e : End) (moment : ℕ) (ev : Event) (letters : List Letter) (calls : 
     sccrp_shut_ok plain hears =
         let on = event_by event.SccrpAcc event.SccrpNotAcc o in
         let row = row_sccrp t.control.state o (busy t f) f.live plain in
-        shuts_ok (opening_reason o) (sccrp_stands hears (is_acceptable o) refl (shut_on t f on row)) on o.tunnel o.window t f
+        shuts_ok (opening_reason o) (sccrp_stands hears (shut_on t f on row)) on o.tunnel o.window t f
         (comes_at e moment ev letters calls i t session (Sccrp o) plain hears) row
         (λ m to remote result error.
-        BySccrp session o (heard_in ev t.control _ session (Sccrp o) refl refl refl hears) refl remote result (error ∙ opening_no_error o))
+        BySccrp session o (heard_in ev t.control _ session (Sccrp o) refl refl refl hears) refl remote result error)
 
   pub scccn_shut_ok : (session : ℕ) (t : Turn) → Takes t → (state_number t.control.state ≡ 2 → ⊥) → HearsNext ev t.control session Scccn
       → Good (takes_by e.role calls out_of_order 0 0 (row_of rows t.control.state event.ScccnAcc) t)
   unfolding takes_plain with_move takes_one
   scccn_shut_ok session t f other hears =
       let row = row_scccn t.control.state (busy t f) f.live other in
-      let so = inr (AnScccn (begun_at t f) session (came_in t f session Scccn hears) (shut_on t f event.ScccnAcc row)) in
+      let so = inr (inl (AnScccn (begun_at t f) session (came_in t f session Scccn hears) (shut_on t f event.ScccnAcc row))) in
       shuts_ok out_of_order so event.ScccnAcc 0 0 t f
       (comes_at e moment ev letters calls i t session Scccn other hears) row
       (λ m to remote result error.

@@ -67,8 +67,22 @@ out_of x tunnels i same ms ns none o h = ⊎_elim
     h
 
 of_more : (x : End) (ms ns : List Move) → AllByRecursion NoFrame ns → (o : Out) → IsOfMoves x ns o → IsOfMoves x (ms ++ ns) o
-of_more x ms ns none (Send p bytes o) h =
-    record { id = h.id; tunnel = h.tunnel; there = h.there; peer_is = h.peer_is; carries = carries_on h.tunnel h.tunnel (goes_nowhere h.tunnel) ns (ms ++ ns) none bytes o h.carries }
+of_more x ms ns none (Send p bytes o) h = ⊎_elim
+    (λ s. inl (record {
+      id = s.id;
+      tunnel = s.tunnel;
+      there = s.there;
+      peer_is = s.peer_is;
+      carries = carries_on s.tunnel s.tunnel (goes_nowhere s.tunnel) ns (ms ++ ns) none bytes o s.carries;
+    }))
+    (λ d. inr (record {
+      declined = d.declined;
+      there = among_right _ ms ns d.there;
+      peer_is = d.peer_is;
+      bytes_are = d.bytes_are;
+      origin_is = d.origin_is;
+    }))
+    h
 of_more x ms ns none (Up session side frame) h = record { tunnel = h.tunnel; peer = h.peer; there = among_right _ ms ns h.there }
 of_more x ms ns none (Gone session) h = tt
 of_more x ms ns none (Drop w) h = tt

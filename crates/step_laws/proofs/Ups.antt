@@ -14,15 +14,15 @@ use Rattle.tunnel_fsm.specs.declared.table.TunnelState.TheVariants.{WaitCtlReply
 use Rattle.protocol_model.specs.declared.tunnel.CallPlace.{CallPlace}
 use Rattle.protocol_model.specs.declared.tunnel.Role.TheVariants.{Lac, Lns}
 use Rattle.protocol_model.specs.declared.event.Addressee.{Addressee}
-use Rattle.protocol_model.specs.declared.event.Addressee.TheVariants.{Opens, Stops, Main, Nobody}
+use Rattle.protocol_model.specs.declared.event.Addressee.TheVariants.{Opens, Stops, Answers, Main, Nobody}
 use Rattle.protocol_model.specs.declared.event.Event.{Event}
 use Rattle.protocol_model.specs.declared.event.Event.TheVariants.{Datagram, Ring, Payload, Lower, Hang, OpenTunnel, DropCall, CloseTunnel, Tick}
 use Rattle.protocol_model.specs.declared.out.Out.{Out}
 use Rattle.protocol_model.specs.declared.out.Out.TheVariants.{Drop, Cause}
 use Rattle.protocol_model.specs.Reading.{header_why, body_of}
 use Rattle.protocol_model.specs.Calls.{is_lac, Carried, Upward, Dropped}
-use Rattle.protocol_model.specs.Turn.{Tunnel, Env, turn_of, fresh, turns}
-use Rattle.protocol_model.specs.End.{End, Stepped, env_of, gives_only, after_turn, after_new, in_new, has_all_tunnels, in_one_more, in_main, addressed, for_addressee, least_in, rings_in, rings_at, for_call, handed, hands_up, receives, Turned, tick_of, ticks_of, after_all, ticks_all, only_by, step_in, step}
+use Rattle.protocol_model.specs.Turn.{Tunnel, Env, Reason, out_of_order, turn_of, fresh, turns}
+use Rattle.protocol_model.specs.End.{End, Stepped, env_of, gives_only, after_turn, after_new, in_new, has_all_tunnels, in_one_more, in_main, addressed, against_body, next_of_peer, declined, opens_or_declines, for_addressee, least_in, rings_in, rings_at, for_call, handed, hands_up, receives, Turned, tick_of, ticks_of, after_all, ticks_all, only_by, step_in, step}
 use Rattle.step_laws.specs.Ups.{ups_of_output, ups_of_move, births_of_move, reads_of_move, most_ups, most_births, most_reads, UpsAreMoves, UpsAreFew, BirthsAreFew, ReadsAreFew}
 use Rattle.step_laws.proofs.Lists.{branch}
 use Rattle.step_laws.proofs.Quiet.{AreQuiet, nothing, turns_quiet, both_quiet}
@@ -70,12 +70,22 @@ module _ (e : End) (moment : ℕ) (block : List ℕ) where
 
   -- ---- datagrams
 
-  addressee_told : (ev : Event) (peer : ℕ) (a : Addressee) → IsTold ev (for_addressee e env ev peer a)
+  declined_told : (ev : Event) (peer remote nr : ℕ) (r : Reason) → IsTold ev (declined e peer remote nr r)
+  unfolding declined
+  declined_told ev peer remote nr r = record { same = refl; ups = omega arith; births = omega arith; reads = omega arith }
+
+  opens_told : (ev : Event) (peer remote nr : ℕ) (o : Option Reason) → IsTold ev (opens_or_declines e env ev peer remote nr o)
+  unfolding opens_or_declines
+  opens_told ev peer remote nr None = new_told ev peer
+  opens_told ev peer remote nr (Some r) = declined_told ev peer remote nr r
+
+  addressee_told : (ev : Event) (peer : ℕ) (h : Header) (body : List ℕ) (a : Addressee) → IsTold ev (for_addressee e env ev peer h body a)
   unfolding for_addressee
-  addressee_told ev peer (Opens remote) = more_told ev peer (Drop why.Tunnel) (dropped_told ev e why.Tunnel)
-  addressee_told ev peer (Stops remote) = dropped_told ev e why.Tunnel
-  addressee_told ev peer (Main i) = main_told ev i (at e.tunnels i)
-  addressee_told ev peer (Nobody w) = dropped_told ev e w
+  addressee_told ev peer h body (Opens remote) = opens_told ev peer remote (next_of_peer h) (against_body e body)
+  addressee_told ev peer h body (Stops remote) = dropped_told ev e why.Tunnel
+  addressee_told ev peer h body (Answers remote) = declined_told ev peer remote (next_of_peer h) out_of_order
+  addressee_told ev peer h body (Main i) = main_told ev i (at e.tunnels i)
+  addressee_told ev peer h body (Nobody w) = dropped_told ev e w
 
   handed_told : (peer : ℕ) (bytes : List ℕ) (session : ℕ) (c : Carried) → IsTold (Datagram peer bytes) (handed e session c)
   unfolding handed
@@ -87,7 +97,7 @@ module _ (e : End) (moment : ℕ) (block : List ℕ) where
   received_told peer bytes (Err x) = dropped_told (Datagram peer bytes) e (header_why x)
   received_told peer bytes (Ok h) =
       branch (IsTold (Datagram peer bytes)) h.control _ _
-      (λ control. addressee_told (Datagram peer bytes) peer (addressed e peer h (body_of h bytes)))
+      (λ control. addressee_told (Datagram peer bytes) peer h (body_of h bytes) (addressed e peer h (body_of h bytes)))
       (λ data_is. handed_told peer bytes h.session _)
 
   -- ---- rings and calls

@@ -20,16 +20,15 @@ use Rattle.wire_base.specs.declared.cause.Cause.TheVariants as cause
 use Rattle.call_fsm.specs.declared.table.CallState.TheVariants.{WaitTunnel}
 use Rattle.call_fsm.specs.declared.table.CallEvent.TheVariants as call_event
 use Rattle.protocol_model.specs.declared.event.Addressee.{Addressee}
-use Rattle.protocol_model.specs.declared.event.Addressee.TheVariants.{Opens, Stops, Main, Nobody}
+use Rattle.protocol_model.specs.declared.event.Addressee.TheVariants.{Opens, Stops, Answers, Main, Nobody}
 use Rattle.protocol_model.specs.declared.event.Event.{Event}
 use Rattle.protocol_model.specs.declared.event.Event.TheVariants.{Datagram, Ring, Payload, Lower, Hang, OpenTunnel, DropCall, CloseTunnel, Tick}
 use Rattle.protocol_model.specs.declared.out.Out.{Out}
-use Rattle.protocol_model.specs.declared.out.Out.TheVariants.{Drop, Cause as Refused}
-use Rattle.wire_base.specs.declared.why.Why.TheVariants as why
+use Rattle.protocol_model.specs.declared.out.Out.TheVariants.{Cause as Refused}
 use Rattle.protocol_model.specs.Reading.{body_of}
 use Rattle.protocol_model.specs.Calls.{call_row, is_lac, Carried, Upward, Dropped}
-use Rattle.protocol_model.specs.Turn.{Tunnel, Env, Turn, turn_of, with_calls, fresh, has_room, turns, tunnel_after}
-use Rattle.protocol_model.specs.End.{End, Stepped, env_of, gives_only, after_turn, after_new, in_new, has_all_tunnels, in_one_more, in_main, addressed, for_addressee, is_in, least_in, rings_in, rings_at, for_call, handed, hands_up, receives, only_by, step_in, step}
+use Rattle.protocol_model.specs.Turn.{Tunnel, Env, Turn, Reason, out_of_order, turn_of, with_calls, fresh, has_room, turns, tunnel_after}
+use Rattle.protocol_model.specs.End.{End, Stepped, env_of, gives_only, after_turn, after_new, in_new, has_all_tunnels, in_one_more, in_main, addressed, against_body, next_of_peer, declined, opens_or_declines, for_addressee, is_in, least_in, rings_in, rings_at, for_call, handed, hands_up, receives, only_by, step_in, step}
 use Rattle.step_laws.specs.Left.{CanBe, CallsAreAsked}
 use Rattle.step_laws.specs.Steps.{AreKept, StepsAreChains}
 use Rattle.step_laws.proofs.Lists.{branch, found_passes}
@@ -112,14 +111,25 @@ module _ (e : End) (kept : AreKept e) (none : NoneWaits e) (moment : ℕ) (block
   heard peer bytes i t is =
       datagram_asked e.role t.calls (kept.tunnels i t is).calls e.config t.letters bytes (header_of bytes) (turn_of t.control env) (busy i t is) (begins i t is)
 
-  addressee_asked : (peer : ℕ) (bytes : List ℕ) (a : Addressee) → AllAsked (for_addressee e env (Datagram peer bytes) peer a)
-  unfolding for_addressee in_new turns
-  addressee_asked peer bytes (Opens remote) =
-      more_asked (Datagram peer bytes) peer (Drop why.Tunnel)
-      (new_asked _ (heard_new e.role e.config bytes (header_of bytes) (turn_of (fresh peer moment) env) refl refl))
-  addressee_asked peer bytes (Stops remote) = only_asked _
-  addressee_asked peer bytes (Main i) = main_asked (Datagram peer bytes) i (heard peer bytes i)
-  addressee_asked peer bytes (Nobody w) = only_asked _
+  declined_asked : (peer remote nr : ℕ) (r : Reason) → AllAsked (declined e peer remote nr r)
+  unfolding declined
+  declined_asked peer remote nr r = as_it_was
+
+  opens_or_asked : (peer : ℕ) (bytes : List ℕ) (remote nr : ℕ) (o : Option Reason)
+      → AllAsked (opens_or_declines e env (Datagram peer bytes) peer remote nr o)
+  unfolding opens_or_declines in_new turns
+  opens_or_asked peer bytes remote nr None =
+      new_asked _ (heard_new e.role e.config bytes (header_of bytes) (turn_of (fresh peer moment) env) refl refl)
+  opens_or_asked peer bytes remote nr (Some r) = declined_asked peer remote nr r
+
+  addressee_asked : (peer : ℕ) (bytes : List ℕ) (h : Header) (body : List ℕ) (a : Addressee)
+      → AllAsked (for_addressee e env (Datagram peer bytes) peer h body a)
+  unfolding for_addressee
+  addressee_asked peer bytes h body (Opens remote) = opens_or_asked peer bytes remote (next_of_peer h) (against_body e body)
+  addressee_asked peer bytes h body (Stops remote) = only_asked _
+  addressee_asked peer bytes h body (Answers remote) = declined_asked peer remote (next_of_peer h) out_of_order
+  addressee_asked peer bytes h body (Main i) = main_asked (Datagram peer bytes) i (heard peer bytes i)
+  addressee_asked peer bytes h body (Nobody w) = only_asked _
 
   handed_asked : (session : ℕ) (c : Carried) → AllAsked (handed e session c)
   unfolding handed
@@ -131,7 +141,7 @@ module _ (e : End) (kept : AreKept e) (none : NoneWaits e) (moment : ℕ) (block
   received_asked peer bytes (Err x) = only_asked _
   received_asked peer bytes (Ok h) =
       branch AllAsked h.control _ _
-      (λ control. addressee_asked peer bytes (addressed e peer h (body_of h bytes)))
+      (λ control. addressee_asked peer bytes h (body_of h bytes) (addressed e peer h (body_of h bytes)))
       (λ data_is. handed_asked h.session _)
 
   -- ---- rings and frames

@@ -1,6 +1,8 @@
 -- What a message says that names no tunnel.
-use Rattle.std.proofs.Common.{◌≡◌, ℕ, List, refl, Option, Some, None, Result, Ok, Err}
+use Rattle.std.proofs.Common.{◌≡◌, ◌⊎◌, inl, inr, ℕ, List, refl, sym, ◌∙◌, Option, Some, None, Result, Ok, Err}
+use Rattle.std.proofs.lemmas.Bool.{eqb-false}
 use Rattle.std.specs.Prelude.{◌==◌}
+use Rattle.wire_base.specs.declared.why.Why.{Why}
 use Rattle.wire_base.specs.declared.why.Why.TheVariants as why
 use Rattle.avp_codec.specs.declared.avp.Avp.{Avp}
 use Rattle.avp_codec.specs.declared.error.AvpError.{AvpError}
@@ -15,15 +17,28 @@ use Rattle.control_message.specs.declared.message.Read.TheVariants.{Known, Ignor
 use Rattle.control_message.specs.declared.message.MessageError.{MessageError}
 use Rattle.control_message.specs.Reading.{message_of, kind_of_pairs, plain_short}
 use Rattle.protocol_model.specs.declared.event.Addressee.{Addressee}
-use Rattle.protocol_model.specs.declared.event.Addressee.TheVariants.{Opens, Stops, Main, Nobody}
-use Rattle.protocol_model.specs.Reading.{message_read, pairs_read, message_in, stopped, zero_faulty, zero_read, zero_pairs, at_zero}
+use Rattle.protocol_model.specs.declared.event.Addressee.TheVariants.{Opens, Stops, Answers, Main, Nobody}
+use Rattle.protocol_model.specs.Reading.{message_read, pairs_read, message_in, TunnelFault, tunnel_fault_read, tunnel_fault_of_pairs, tunnel_fault_in, stopped, told_or_none, zero_faulty, zero_read, zero_pairs, at_zero}
 use Rattle.step_laws.proofs.Lists.{branch}
+use Rattle.step_laws.proofs.Assigned.{message_assigns, inner_fault}
+use Rattle.step_laws.proofs.Faults.{IsOfOpening, of_opening}
 
--- one that opens a tunnel is an SCCRQ that assigns the id, none is for a tunnel of this end by the end's own id, and where it is for
--- none, that isn't for want of room
+-- an SCCRQ that can't be read, and whose fault is one of its pairs, where that has codes
+pub record IsFaultyOpening (body : List ℕ) : Type 0 where
+  pub why : Why
+  pub unread : message_in body ≡ Err why
+  pub fault : (g : TunnelFault) → tunnel_fault_in body ≡ Some g → IsOfOpening g
+
+-- an SCCRQ that assigns the id, or one that can't be read
+abbrev pub SaysOpening : List ℕ → ℕ → Type 0
+SaysOpening body remote = ((o : Opening) × (message_in body ≡ Ok (Sccrq o)) × (remote ≡ o.tunnel)) ⊎ IsFaultyOpening body
+
+-- one that opens a tunnel is an SCCRQ, and an SCCRP is for none, of an id that isn't 0; a StopCCN is no SCCRQ; none is for a tunnel of
+-- this end by the end's own id, and where it is for none, that isn't for want of room
 abbrev pub ZeroSays : List ℕ → Addressee → Type 0
-ZeroSays body (Opens remote) = (o : Opening) × (message_in body ≡ Ok (Sccrq o)) × (remote ≡ o.tunnel)
-ZeroSays body (Stops remote) = Unit {0}
+ZeroSays body (Opens remote) = (remote ≡ 0 → ⊥) × SaysOpening body remote
+ZeroSays body (Stops remote) = (o : Opening) → message_in body ≡ Ok (Sccrq o) → ⊥
+ZeroSays body (Answers remote) = remote ≡ 0 → ⊥
 ZeroSays body (Main i) = ⊥
 ZeroSays body (Nobody w) = w ≡ why.Queue → ⊥
 
@@ -31,58 +46,88 @@ module _ (body : List ℕ) where
   for_none : ZeroSays body (Nobody why.Tunnel)
   for_none = λ q. absurd cc
 
-  -- a StopCCN
-  says_stopped : (o : Option ℕ) → ZeroSays body (stopped o)
-  says_stopped None = for_none
-  says_stopped (Some i) = branch (ZeroSays body) (i == 0) _ _ (λ zero. for_none) (λ some. tt)
+  abbrev NoOpening : Type 0
+  NoOpening = (o : Opening) → message_in body ≡ Ok (Sccrq o) → ⊥
 
-  says_faulty : (o : Option Kind) (avps : List Avp) → ZeroSays body (zero_faulty o avps)
-  says_faulty (Some kind.Sccrq) avps = λ q. absurd cc
-  says_faulty (Some kind.StopCcn) avps = says_stopped (plain_short 9 avps)
-  says_faulty None avps = for_none
-  says_faulty (Some kind.Sccrp) avps = for_none
-  says_faulty (Some kind.Scccn) avps = for_none
-  says_faulty (Some kind.Hello) avps = for_none
-  says_faulty (Some kind.Ocrq) avps = for_none
-  says_faulty (Some kind.Ocrp) avps = for_none
-  says_faulty (Some kind.Occn) avps = for_none
-  says_faulty (Some kind.Icrq) avps = for_none
-  says_faulty (Some kind.Icrp) avps = for_none
-  says_faulty (Some kind.Iccn) avps = for_none
-  says_faulty (Some kind.Cdn) avps = for_none
-  says_faulty (Some kind.Wen) avps = for_none
-  says_faulty (Some kind.Sli) avps = for_none
+  -- a StopCCN
+  says_stopped : NoOpening → (o : Option ℕ) → ZeroSays body (stopped o)
+  says_stopped other None = for_none
+  says_stopped other (Some i) = branch (ZeroSays body) (i == 0) _ _ (λ zero. for_none) (λ some. other)
+
+  -- an SCCRQ or an SCCRP that can't be read
+  says_told : (to : ℕ → Addressee) → ((i : ℕ) → (i ≡ 0 → ⊥) → ZeroSays body (to i)) → (o : Option ℕ) → ZeroSays body (told_or_none to o)
+  says_told to says None = λ q. absurd cc
+  says_told to says (Some i) = branch (ZeroSays body) (i == 0) _ _ (λ zero q. absurd cc) (λ some. says i (eqb-false i 0 some))
 
   -- what the pairs of the body make
-  abbrev Makes : Result Read MessageError → Type 0
-  Makes r = (m : Message) → r ≡ Ok (Known m) → message_in body ≡ Ok m
+  module _ (avps : List Avp) (pairs : avps_of body ≡ Ok avps) where
+    made : message_in body ≡ message_read (message_of avps)
+    unfolding message_in pairs_read
+    made = rw pairs refl
 
-  says_read : (avps : List Avp) (r : Result Read MessageError) → Makes r → ZeroSays body (zero_read avps r)
-  unfolding zero_read
-  says_read avps (Ok (Known (Sccrq o))) makes = (o, makes (Sccrq o) refl, refl)
-  says_read avps (Ok (Known (StopCcn tunnel code error))) makes = says_stopped (Some tunnel)
-  says_read avps (Ok (Known (Sccrp o))) makes = for_none
-  says_read avps (Ok (Known Scccn)) makes = for_none
-  says_read avps (Ok (Known Hello)) makes = for_none
-  says_read avps (Ok (Known (Cdn remote code error))) makes = for_none
-  says_read avps (Ok (Known (Icrq remote serial calling))) makes = for_none
-  says_read avps (Ok (Known (Icrp remote))) makes = for_none
-  says_read avps (Ok (Known (Iccn speed framing sequenced))) makes = for_none
-  says_read avps (Ok (Known (Ocrq remote))) makes = for_none
-  says_read avps (Ok (Known Ocrp)) makes = for_none
-  says_read avps (Ok (Known Occn)) makes = for_none
-  says_read avps (Ok (Known Wen)) makes = for_none
-  says_read avps (Ok (Known Sli)) makes = for_none
-  says_read avps (Ok (Ignored n)) makes = for_none
-  says_read avps (Err x) makes = says_faulty (kind_of_pairs avps) avps
+    fault_made : tunnel_fault_in body ≡ tunnel_fault_read avps (message_of avps)
+    unfolding tunnel_fault_in tunnel_fault_of_pairs
+    fault_made = rw pairs refl
 
-  made : (avps : List Avp) → avps_of body ≡ Ok avps → Makes (message_of avps)
-  unfolding message_in pairs_read message_read
-  made avps is m reads = rw (is, reads) refl
+    module _ (x : MessageError) (is : message_of avps ≡ Err x) where
+      unread : message_in body ≡ Err why.Avp
+      unfolding message_read
+      unread = made ∙ (rw is refl)
+
+      no_opening : NoOpening
+      no_opening o said = let both : Err why.Avp ≡ Ok (Sccrq o) = sym unread ∙ said in absurd cc
+
+      faulty_opening : kind_of_pairs avps ≡ Some kind.Sccrq → IsFaultyOpening body
+      faulty_opening named = record {
+        why = why.Avp;
+        unread = unread;
+        fault = λ g has. of_opening x avps g named (inner_fault avps x named is) (rw (fault_made, is) at has);
+      }
+
+      says_faulty : (o : Option Kind) → kind_of_pairs avps ≡ o → ZeroSays body (zero_faulty o avps)
+      says_faulty (Some kind.Sccrq) named = says_told (λ i. Opens i) (λ i some. (some, inr (faulty_opening named))) (plain_short 9 avps)
+      says_faulty (Some kind.Sccrp) named = says_told (λ i. Answers i) (λ i some. some) (plain_short 9 avps)
+      says_faulty (Some kind.StopCcn) named = says_stopped no_opening (plain_short 9 avps)
+      says_faulty None named = for_none
+      says_faulty (Some kind.Scccn) named = for_none
+      says_faulty (Some kind.Hello) named = for_none
+      says_faulty (Some kind.Ocrq) named = for_none
+      says_faulty (Some kind.Ocrp) named = for_none
+      says_faulty (Some kind.Occn) named = for_none
+      says_faulty (Some kind.Icrq) named = for_none
+      says_faulty (Some kind.Icrp) named = for_none
+      says_faulty (Some kind.Iccn) named = for_none
+      says_faulty (Some kind.Cdn) named = for_none
+      says_faulty (Some kind.Wen) named = for_none
+      says_faulty (Some kind.Sli) named = for_none
+
+    said : (m : Message) → message_of avps ≡ Ok (Known m) → message_in body ≡ Ok m
+    unfolding message_read
+    said m is = made ∙ (rw is refl)
+
+    says_read : (r : Result Read MessageError) → message_of avps ≡ r → ZeroSays body (zero_read avps r)
+    unfolding zero_read
+    says_read (Ok (Known (Sccrq o))) is = (message_assigns avps (Sccrq o) is, inl (o, said (Sccrq o) is, refl))
+    says_read (Ok (Known (Sccrp o))) is = message_assigns avps (Sccrp o) is
+    says_read (Ok (Known (StopCcn tunnel code error))) is =
+        says_stopped (λ o again. let both : Ok (StopCcn tunnel code error) ≡ Ok (Sccrq o) = sym (said _ is) ∙ again in absurd cc) (Some tunnel)
+    says_read (Ok (Known Scccn)) is = for_none
+    says_read (Ok (Known Hello)) is = for_none
+    says_read (Ok (Known (Cdn remote code error))) is = for_none
+    says_read (Ok (Known (Icrq remote serial calling))) is = for_none
+    says_read (Ok (Known (Icrp remote))) is = for_none
+    says_read (Ok (Known (Iccn speed framing sequenced))) is = for_none
+    says_read (Ok (Known (Ocrq remote))) is = for_none
+    says_read (Ok (Known Ocrp)) is = for_none
+    says_read (Ok (Known Occn)) is = for_none
+    says_read (Ok (Known Wen)) is = for_none
+    says_read (Ok (Known Sli)) is = for_none
+    says_read (Ok (Ignored n)) is = for_none
+    says_read (Err x) is = says_faulty x is (kind_of_pairs avps) refl
 
   says_pairs : (r : Result (List Avp) AvpError) → avps_of body ≡ r → ZeroSays body (zero_pairs r)
   unfolding zero_pairs
-  says_pairs (Ok avps) is = says_read avps (message_of avps) (made avps is)
+  says_pairs (Ok avps) is = says_read avps is (message_of avps) refl
   says_pairs (Err x) is = λ q. absurd cc
 
   pub zero_says : ZeroSays body (at_zero body)

@@ -8,3 +8,4 @@ pub mod Room
 pub mod Causes
 pub mod Codes
 pub mod Lines
+pub mod Opens

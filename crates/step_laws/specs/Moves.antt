@@ -62,7 +62,7 @@ use Rattle.protocol_model.specs.declared.event.Addressee.TheVariants as addresse
 use Rattle.protocol_model.specs.Reading.{body_of, message_in, CallFault, call_fault_in, TunnelFault, tunnel_fault_in, at_zero}
 use Rattle.protocol_model.specs.Calls.{call_row, advanced, rung, asked_for, is_request, is_reply, is_connection, is_told, is_up, is_set_up, are_too_many, frame_of, side_of}
 use Rattle.protocol_model.specs.Turn.{Tunnel, has_room, may_take, place, next_place, taken_place, letter_of, fresh, counts_given, counts_taken, counts_acked, counts_sent, counts_repeated, learns_window, in_state, opening_of, request_of, connection, is_clean_up, session_named, Reason, granted, fault_error, is_acceptable, event_by, opening_reason, known_or, shut, is_closed, is_at_its_end, is_over, patience}
-use Rattle.protocol_model.specs.End.{End, new_place, with_look, with_looks, known_as, against_opening, next_of_peer}
+use Rattle.protocol_model.specs.End.{End, new_place, with_look, with_looks, against_opening, next_of_peer}
 
 -- ---- what came
 
@@ -76,12 +76,10 @@ pub record Hears (ev : Event) (peer session : ℕ) (m : Message) : Type 0 where
   pub session_is : header.session ≡ session
   pub said : message_in (body_of header bytes) ≡ Ok m
 
--- it names no tunnel, as an SCCRQ doesn't, and is for the one whose peer assigned the id that it tells
+-- it names no tunnel, as an SCCRQ doesn't, faulty or not, and is for the one whose peer assigned the id that it tells
 pub record IsAgain (h : Header) (bytes : List ℕ) (c : Control) : Type 0 where
   pub none : h.tunnel ≡ 0
-  pub opening : Opening
-  pub said : message_in (body_of h bytes) ≡ Ok (Sccrq opening)
-  pub known : c.remote ≡ opening.tunnel
+  pub opens : at_zero (body_of h bytes) ≡ addressee.Opens c.remote
 
 -- it names no tunnel, as a StopCCN may, and is for the one whose peer assigned the id that it tells
 pub record IsStop (h : Header) (bytes : List ℕ) (c : Control) : Type 0 where

@@ -5,12 +5,12 @@ ghost use Rattle.id_table.specs.Ids.{at};
 ghost use Rattle.protocol_model.specs.Calls.{is_reply};
 ghost use Rattle.protocol_model.specs.Turn.{has_room, granted, replied, replies, asked_by};
 
-use crate::tunnel_calls::TunnelCalls;
 use crate::turn::{Turn, asked_for, call_row};
 use call_fsm::{CallAction, CallEvent, CallState};
 use control_message::Message;
 use message_reading::{Reason, out_of_state};
 use protocol_model::{Move, Replied, Role};
+use tunnel_calls::TunnelCalls;
 use wire_base::{Cause, NoMemory, Why};
 
 fn is_reply(action: CallAction) -> bool

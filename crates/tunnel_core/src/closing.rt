@@ -8,12 +8,12 @@ ghost use Rattle.wire_base.specs.declared.cause.Cause.TheVariants as cause;
 ghost use Rattle.call_fsm.specs.declared.table.CallEvent.TheVariants as event;
 ghost use Rattle.protocol_model.specs.Turn.{has_room, settles, end_silent, end_told, ends_by, closes};
 
-use crate::tunnel_calls::TunnelCalls;
 use crate::turn::{Turn, call_row};
 use call_fsm::{CallAction, CallEvent};
 use control_message::Message;
 use protocol_model::{Call, EndSilent, EndTold, Move, Out, Role};
 use send_window::Letters;
+use tunnel_calls::TunnelCalls;
 use wire_base::{Cause, NoMemory, Why};
 
 /// The result code of a CDN for a call whose carrier was lost (RFC 2661 section 4.4.2).

@@ -5,12 +5,12 @@ ghost use Rattle.std.specs.Option.{option_copied};
 ghost use Rattle.control_message.specs.declared.kind.Kind.TheVariants as kind;
 ghost use Rattle.protocol_model.specs.Turn.{faulty_at, faulty, in_faulty_call, hears_faulty};
 
-use crate::tunnel_calls::TunnelCalls;
 use crate::turn::{Turn, call_row};
 use call_fsm::{CallAction, CallEvent, CallState};
 use control_message::Kind;
 use message_reading::{CallFault, Reason, Said, fault_reason};
 use protocol_model::{Call, Role};
+use tunnel_calls::TunnelCalls;
 use tunnel_fsm::TunnelState;
 use wire_base::{Cause, NoMemory, Why};
 

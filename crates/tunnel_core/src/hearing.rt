@@ -5,7 +5,6 @@ ghost use Rattle.tunnel_fsm.specs.Rows.{state_number};
 ghost use Rattle.l2tp_header.specs.Reading.{header_of};
 ghost use Rattle.protocol_model.specs.Turn.{connects, takes, known_or, session_named, ends_named, about_call, in_call, hears, hears_said, hears_next, hears_letter, is_duplicate, in_tunnel, first_said, hears_control, hears_datagram, turns};
 
-use crate::tunnel_calls::TunnelCalls;
 use crate::turn::Turn;
 use control_message::Message;
 use l2tp_header::{Header, read_header};
@@ -15,6 +14,7 @@ use message_reading::{
 use protocol_model::{Config, Event, Role};
 use recv_window::Class;
 use send_window::Letters;
+use tunnel_calls::TunnelCalls;
 use tunnel_fsm::{TunnelAction, TunnelEvent, TunnelState, advance};
 use wire_base::{NoMemory, Why};
 

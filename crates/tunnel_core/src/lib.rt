@@ -17,7 +17,6 @@ mod ringing;
 mod sending;
 mod stopping;
 mod ticking;
-mod tunnel_calls;
 mod turn;
 
 pub use env::{Env, Moves, Outputs};

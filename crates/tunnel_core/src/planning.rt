@@ -7,7 +7,6 @@ ghost use Rattle.protocol_model.specs.Turn.{fresh, turn_of, with_turn, turns, wi
 ghost use Rattle.tunnel_core.specs.Cores.{tunnel_of, made_of, AllHaveRoom, HasRoomFor, IsTurn};
 
 use crate::env::Env;
-use crate::tunnel_calls::TunnelCalls;
 use crate::turn::{Changed, Given, Turn};
 use control_channel::ChannelNumbers;
 use id_table::Table;
@@ -15,6 +14,7 @@ use protocol_model::{Call, Config, Control, Event, Role};
 use send_window::Letters;
 use std::alloc::Global;
 use std::marker::Model;
+use tunnel_calls::TunnelCalls;
 use tunnel_fsm::TunnelState;
 use wire_base::{NoMemory, Sequence};
 

@@ -5,10 +5,10 @@ ghost use Rattle.id_source.specs.Spaces.{draws};
 ghost use Rattle.protocol_model.specs.Calls.{is_request};
 ghost use Rattle.protocol_model.specs.Turn.{has_room, requested, requests, requests_at, requests_all, adds, rings_over, rings_within, rings_new, rings};
 
-use crate::tunnel_calls::TunnelCalls;
 use crate::turn::{Turn, advanced, call_row, request_of, rung};
 use call_fsm::{CallAction, CallEvent};
 use protocol_model::{Added, Call, CellChange, Config, Move, Out, Requested, Role};
+use tunnel_calls::TunnelCalls;
 use tunnel_fsm::TunnelState;
 use wire_base::{Cause, NoMemory, Why};
 

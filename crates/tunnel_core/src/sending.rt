@@ -6,13 +6,13 @@ ghost use Rattle.control_channel.specs.Numbers.{next_to_go, ticked_at};
 ghost use Rattle.protocol_model.specs.Turn.{has_room as room_in, may_take, next_place, taken_place, gives, takes_one, learns_window, reads_nr, letter_in, origin_of, datagram, sends_now, repeats, lets_all_go, acknowledges, settles};
 ghost use Rattle.tunnel_core.specs.Gives.{WentBy};
 
-use crate::tunnel_calls::TunnelCalls;
 use crate::turn::Turn;
 use control_channel::ChannelNumbers;
 use control_message::{Message, has_room, write_message};
 use l2tp_header::write_control;
 use protocol_model::{ControlOrigin, LetGo, Move, NrRead, Origin, Out, Place, Repeated};
 use send_window::Letters;
+use tunnel_calls::TunnelCalls;
 use wire_base::{Bytes, Letter, NoMemory};
 
 /// How many letters of a channel may be unacknowledged or unsent.

@@ -5,12 +5,12 @@ ghost use Rattle.protocol_model.specs.Turn.{has_room, settles, shuts, closed_tol
 ghost use Rattle.tunnel_fsm.specs.Rows.{rows, row_of};
 ghost use Rattle.tunnel_fsm.specs.declared.table.TunnelEvent.TheVariants as event;
 
-use crate::tunnel_calls::TunnelCalls;
 use crate::turn::Turn;
 use control_message::Message;
 use message_reading::Reason;
 use protocol_model::{Closed, ClosedBy, Move, Out};
 use send_window::Letters;
+use tunnel_calls::TunnelCalls;
 use tunnel_fsm::{TunnelAction, TunnelEvent, TunnelState, advance};
 use wire_base::{Cause, NoMemory, Why};
 

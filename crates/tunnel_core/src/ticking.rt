@@ -6,13 +6,13 @@ ghost use Rattle.tunnel_fsm.specs.Rows.{state_number};
 ghost use Rattle.protocol_model.specs.Calls.{is_set_up};
 ghost use Rattle.protocol_model.specs.Turn.{has_room, is_over, is_being_set_up, is_at_its_end, ends_all, clears, greeted, greets, limits_at, limits_all, goes_quietly, ticks};
 
-use crate::tunnel_calls::TunnelCalls;
 use crate::turn::{Turn, call_row};
 use call_fsm::{CallEvent, CallState};
 use control_channel::Tick;
 use control_message::Message;
 use protocol_model::{Call, Control, Greeted, Move, Role};
 use send_window::Letters;
+use tunnel_calls::TunnelCalls;
 use tunnel_fsm::TunnelState;
 use wire_base::{Cause, NoMemory};
 

@@ -11,4 +11,6 @@ returns-clause-written c = record {
   window = omega arith;
   window_not_zero = omega arith;
   failover = (omega arith, omega arith);
+  challenge = refl;
+  recovery = refl;
 }

@@ -1,4 +1,5 @@
-//! The calls of a tunnel, with how many letters they owe.
+//! The calls of a tunnel, by session id, with how many letters they owe.
+#![tactic(auto)]
 
 ghost use Rattle.std.specs.Prelude.{◌≡◌, ◌<◌, ◌^◌, [], find, OnOk, IfOk, option_copied};
 ghost use Rattle.id_table.specs.Ids.{at, put, without, ids_of};
@@ -41,7 +42,7 @@ fn owed_at(call: Option<&Call>) -> u8
 /// The calls of a tunnel by session id, seen as their table. How many letters they owe is kept beside it, so that what it takes
 /// to know it doesn't grow with the calls.
 #[derive(Drop)]
-pub(crate) struct TunnelCalls {
+pub struct TunnelCalls {
     table: Table<Call>,
     owed: u128,
 }
@@ -62,7 +63,7 @@ impl Model for TunnelCalls {
 
 impl TunnelCalls {
     /// No calls, and no room. It takes no memory.
-    pub(crate) fn new(alloc: Global) -> TunnelCalls
+    pub fn new(alloc: Global) -> TunnelCalls
         ensures { result.entries ≡ [] }
     {
         TunnelCalls {
@@ -71,21 +72,21 @@ impl TunnelCalls {
         }
     }
 
-    pub(crate) fn table(&self) -> &Table<Call>
+    pub fn table(&self) -> &Table<Call>
         ensures { result.now ≡ self.now }
     {
         &self.table
     }
 
     /// The call with this session id.
-    pub(crate) fn get(&self, session: u32) -> Option<&Call>
+    pub fn get(&self, session: u32) -> Option<&Call>
         ensures { option_copied result ≡ at self.now.entries session }
     {
         self.table.get(session)
     }
 
     /// The session ids, in order.
-    pub(crate) fn ids(&self, alloc: Global) -> Result<Sequence<u32>, NoMemory>
+    pub fn ids(&self, alloc: Global) -> Result<Sequence<u32>, NoMemory>
         ensures { IfOk result (λ ids. ids ≡ ids_of self.now.entries) }
     {
         self.table.ids(alloc)
@@ -93,7 +94,7 @@ impl TunnelCalls {
 
     /// The session of the first call to which the peer assigned this id.
     #[tactic(auto, unfolding(protocol_model::specs::Turn::call_of))]
-    pub(crate) fn call_of(&self, alloc: Global, remote: u16) -> Result<Option<u32>, NoMemory>
+    pub fn call_of(&self, alloc: Global, remote: u16) -> Result<Option<u32>, NoMemory>
         ensures { IfOk result (λ session. session ≡ call_of self.now.entries remote) }
     {
         let sessions = self.ids(alloc)?;
@@ -102,12 +103,7 @@ impl TunnelCalls {
 
     /// The session that a header names, or, where that is 0, the one of the call to which the peer assigned this id.
     #[tactic(auto, unfolding(protocol_model::specs::Turn::session_named))]
-    pub(crate) fn session_named(
-        &self,
-        alloc: Global,
-        session: u16,
-        remote: u16,
-    ) -> Result<u32, NoMemory>
+    pub fn session_named(&self, alloc: Global, session: u16, remote: u16) -> Result<u32, NoMemory>
         ensures { IfOk result (λ named. named ≡ session_named self.now.entries session remote) }
     {
         if session != 0 {
@@ -121,14 +117,14 @@ impl TunnelCalls {
     }
 
     /// Whether the tunnel has as many calls as it may.
-    pub(crate) fn are_too_many(&self) -> bool
+    pub fn are_too_many(&self) -> bool
         ensures { result ≡ are_too_many self.now.entries }
     {
         self.table.len() >= MOST_CALLS
     }
 
     /// How many letters the calls owe.
-    pub(crate) fn owed(&self) -> u128
+    pub fn owed(&self) -> u128
         ensures value { result ≡ owed_by self.now.entries }
         ensures within { result < 2 ^ 66 }
     {
@@ -137,7 +133,7 @@ impl TunnelCalls {
     }
 
     /// Makes room for a call. Where memory is wanting, the calls are as before.
-    pub(crate) fn make_room(&mut self, session: u32) -> Result<(), NoMemory>
+    pub fn make_room(&mut self, session: u32) -> Result<(), NoMemory>
         ensures entries { self.new.entries ≡ self.old.entries }
         ensures room { KeepsRoom self.old self.new }
         ensures made { OnOk result (HasRoom self.new session) }
@@ -146,7 +142,7 @@ impl TunnelCalls {
     }
 
     /// Puts a call at a session id that has room, in place of the one there. It takes no memory.
-    pub(crate) fn fill(&mut self, session: u32, call: Call)
+    pub fn fill(&mut self, session: u32, call: Call)
         requires { HasRoom self.old session }
         ensures entries { self.new.entries ≡ put self.old.entries session call }
         ensures room { KeepsRoom self.old self.new }
@@ -159,7 +155,7 @@ impl TunnelCalls {
     }
 
     /// Takes out the call with a session id that has room, which stays. It takes no memory.
-    pub(crate) fn vacate(&mut self, session: u32)
+    pub fn vacate(&mut self, session: u32)
         requires { HasRoom self.old session }
         ensures entries { self.new.entries ≡ without self.old.entries session }
         ensures room { KeepsRoom self.old self.new }
@@ -170,7 +166,7 @@ impl TunnelCalls {
     }
 
     /// Gives back the room of a session id that has no call.
-    pub(crate) fn give_back(&mut self, session: u32)
+    pub fn give_back(&mut self, session: u32)
         ensures { self.new.entries ≡ self.old.entries }
     {
         self.table.give_back(session);

@@ -1,7 +1,7 @@
 use Rattle.std.proofs.Common.{ap, ◌∙◌, arith}
 use Rattle.id_table.specs.Order.{ascends-put}
 use Rattle.protocol_model.specs.Owing.{owed_at, owed-most, owed-put}
-use Rattle.tunnel_core.proofs.tunnel_calls.TunnelCalls.fill.Goals as goal
+use Rattle.tunnel_calls.proofs.TunnelCalls.fill.Goals as goal
 
 pub overflow_add-self : goal.overflow_add-self
 overflow_add-self c =

@@ -1,7 +1,7 @@
 use Rattle.std.proofs.Common.{◌∙◌, ap, arith}
 use Rattle.id_table.specs.Order.{ascends-without}
 use Rattle.protocol_model.specs.Owing.{owed_at, owed-without}
-use Rattle.tunnel_core.proofs.tunnel_calls.TunnelCalls.vacate.Goals as goal
+use Rattle.tunnel_calls.proofs.TunnelCalls.vacate.Goals as goal
 
 pub overflow_sub-self : goal.overflow_sub-self
 overflow_sub-self c =

@@ -1,6 +1,6 @@
 use Rattle.std.proofs.Common.{arith}
 use Rattle.protocol_model.specs.Owing.{owed-most}
-use Rattle.tunnel_core.proofs.tunnel_calls.TunnelCalls.owed.Goals as goal
+use Rattle.tunnel_calls.proofs.TunnelCalls.owed.Goals as goal
 
 pub returns-clause-within : goal.returns-clause-within
 returns-clause-within c =

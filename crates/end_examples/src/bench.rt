@@ -1,0 +1,163 @@
+//! An end with a peer that is another program: the events that words tell, and the lines of what the end gives.
+
+use end_core::End;
+use protocol_model::{Config, Event, Out, Role, address_of, node_of};
+use std::alloc::Global;
+use std::test::Fail;
+use wire_base::{Bytes, NoMemory};
+
+fn new_end(alloc: Global, role: Role, number: u8, lns: u32) -> End {
+    let config = Config {
+        number,
+        address: address_of(number),
+        lns,
+        secret: None,
+        hide: false,
+    };
+    End::new(alloc, role, config)
+}
+
+/// A number of decimal digits.
+fn number_of(digits: &str) -> Result<u32, Fail> {
+    digits.parse::<u32>().map_err(|_| Fail::from("a number"))
+}
+
+/// The event that words tell: an administrative open, a ring, an administrative close of a tunnel, or the hex digits of a
+/// datagram from a peer.
+fn event_of(alloc: Global, peer: u32, words: &str) -> Result<Event, Fail> {
+    match words {
+        "open" => return Ok(Event::OpenTunnel),
+        "ring" => return Ok(Event::Ring { port: 70 }),
+        _ => {}
+    }
+    if let Some(digits) = words.strip_prefix("close ") {
+        return Ok(Event::CloseTunnel {
+            tunnel: number_of(digits)? as u16,
+        });
+    }
+    let bytes = hex::decode(alloc, words).map_err(|_| "hex digits")?;
+    Ok(Event::Datagram {
+        peer,
+        bytes: Bytes::from_slice(alloc, bytes.as_slice())?,
+    })
+}
+
+fn push_number(alloc: Global, text: &mut Bytes, number: u32) -> Result<(), NoMemory> {
+    let digits = number.to_string(alloc)?;
+    text.push_slice(digits.as_bytes())
+}
+
+/// Appends the line of an output.
+fn push_output(alloc: Global, text: &mut Bytes, output: &Out) -> Result<(), NoMemory> {
+    match output {
+        Out::Send { peer, bytes, .. } => {
+            let digits = hex::encode(alloc, bytes.as_slice())?;
+            text.push_slice(b"send ")?;
+            push_number(alloc, text, u32::from(node_of(*peer)))?;
+            text.push_slice(b" ")?;
+            text.push_slice(digits.as_bytes())?;
+        }
+        Out::Up { .. } => text.push_slice(b"up")?,
+        Out::Gone { session } => {
+            text.push_slice(b"gone ")?;
+            push_number(alloc, text, *session)?;
+        }
+        Out::Drop { why } => {
+            text.push_slice(b"drop ")?;
+            text.push_slice(why.word())?;
+        }
+        Out::Cause { cause } => {
+            text.push_slice(b"cause ")?;
+            text.push_slice(cause.word())?;
+        }
+    }
+    text.push_slice(b"\n")
+}
+
+/// The lines of what a step of an end gives, at a moment.
+pub(crate) fn given(
+    alloc: Global,
+    end: &mut End,
+    moment: u64,
+    event: &Event,
+) -> Result<Bytes, NoMemory> {
+    let given = end.step(moment, [7; 16], event)?;
+    let mut text = Bytes::new(alloc);
+    for output in given.outputs.as_slice() {
+        push_output(alloc, &mut text, output)?;
+    }
+    Ok(text)
+}
+
+/// An end, where its messages come from, and the moment.
+#[derive(Drop)]
+pub(crate) struct Bench {
+    end: End,
+    peer: u32,
+    moment: u64,
+}
+
+impl Bench {
+    /// The LNS 7, to which the LAC 9 speaks.
+    pub(crate) fn lns(alloc: Global) -> Bench {
+        Bench {
+            end: new_end(alloc, Role::Lns, 7, 0),
+            peer: address_of(9),
+            moment: 1000,
+        }
+    }
+
+    /// The LAC 9, to which the LNS 7 speaks.
+    pub(crate) fn lac(alloc: Global) -> Bench {
+        Bench {
+            end: new_end(alloc, Role::Lac, 9, address_of(7)),
+            peer: address_of(7),
+            moment: 1000,
+        }
+    }
+
+    /// The lines of what the end gives for a datagram of its peer.
+    pub(crate) fn hear(&mut self, alloc: Global, datagram: &Bytes) -> Result<Bytes, NoMemory> {
+        let event = Event::Datagram {
+            peer: self.peer,
+            bytes: Bytes::from_slice(alloc, datagram.as_slice())?,
+        };
+        given(alloc, &mut self.end, self.moment, &event)
+    }
+
+    /// What the words of a row lead to: an end that is new, or the lines of what the end gives.
+    pub(crate) fn run(&mut self, alloc: Global, words: &str) -> Result<Bytes, Fail> {
+        match words {
+            "new lns" => {
+                *self = Bench::lns(alloc);
+                return Ok(Bytes::new(alloc));
+            }
+            "new lac" => {
+                *self = Bench::lac(alloc);
+                return Ok(Bytes::new(alloc));
+            }
+            _ => {}
+        }
+        if let Some(digits) = words.strip_prefix("tick ") {
+            self.moment = self.moment.saturating_add(u64::from(number_of(digits)?));
+            return Ok(given(alloc, &mut self.end, self.moment, &Event::Tick)?);
+        }
+        let event = event_of(alloc, self.peer, words)?;
+        Ok(given(alloc, &mut self.end, self.moment, &event)?)
+    }
+}
+
+/// The first of these rows, by its number, whose words give something else.
+pub(crate) fn first_wrong(
+    alloc: Global,
+    bench: &mut Bench,
+    rows: &[(&str, &str)],
+) -> Result<Option<usize>, Fail> {
+    for (number, (words, told)) in rows.iter().enumerate() {
+        let text = bench.run(alloc, words)?;
+        if text.as_slice() != told.as_bytes() {
+            return Ok(Some(number));
+        }
+    }
+    Ok(None)
+}

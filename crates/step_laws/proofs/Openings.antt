@@ -1,0 +1,64 @@
+-- What stands against an opening: in a tunnel, and where it would open one.
+use Rattle.std.proofs.Common.{◌≡◌, inl, inr, ℕ, Bool, true, false, cond, refl, sym, ◌∙◌, subst, Option, Some, None, is_some, Result, Ok, Err}
+use Rattle.std.proofs.lemmas.Bool.{eqb-true, eq-eqb, true≢false}
+use Rattle.std.specs.Prelude.{◌==◌, not, is_none, unwrap_or}
+use Rattle.id_source.specs.Spaces.{draws}
+use Rattle.id_source.specs.declared.IdError.{IdError}
+use Rattle.control_message.specs.declared.message.Opening.{Opening}
+use Rattle.tunnel_fsm.specs.declared.table.TunnelEvent.{TunnelEvent}
+use Rattle.protocol_model.specs.declared.event.Event.{Event}
+use Rattle.protocol_model.specs.Reasons.{no_tunnel}
+use Rattle.protocol_model.specs.Turn.{Tunnel, Reason, out_of_order, other_version, no_recovery, no_secret, is_acceptable, event_by, opening_reason}
+use Rattle.protocol_model.specs.End.{End, has_all_tunnels, lacks_id, against_opening}
+use Rattle.step_laws.specs.Causes.{IsClosedOn, WouldOpen, IsNotAccepted, AtZero, MayOpen, IsOutOfOrder, ForPeer, Stands}
+
+module _ (e : End) (moment : ℕ) (ev : Event) (o : Opening) where
+  other_than : (o.version == 256) ≡ false → o.version ≡ 256 → ⊥
+  other_than other is = true≢false (sym (eq-eqb o.version 256 is) ∙ other)
+
+  -- ---- in a tunnel
+
+  -- by its version, a recovery and a challenge
+  abbrev against_by : Bool → Bool → Bool → Option Reason
+  against_by a b c = cond (not a) (Some other_version) (cond b (Some no_recovery) (cond c (Some no_secret) None))
+
+  module _ (good bad : TunnelEvent) (t : Tunnel) (refused : IsClosedOn e t bad → IsNotAccepted e ev o)
+      (in_order : is_acceptable o ≡ true → IsClosedOn e t good → IsOutOfOrder e ev) (may : MayOpen e ev o) where
+    -- the tunnel is closed for it, or since it doesn't wait for it
+    pub opening_stands : IsClosedOn e t (event_by good bad o) → Stands e moment ev (opening_reason o).cause
+    opening_stands closed = by (o.version == 256) (is_some o.recovery) (is_some o.challenge) refl refl refl closed
+      where
+        by : (a b c : Bool) → (o.version == 256) ≡ a → is_some o.recovery ≡ b → is_some o.challenge ≡ c
+            → IsClosedOn e t (cond (is_none (against_by a b c)) good bad) → Stands e moment ev (unwrap_or (against_by a b c) out_of_order).cause
+        by false b c version recovery challenge on = (o, refused on, other_than version)
+        by true true c version recovery challenge on = (o, refused on, (eqb-true o.version 256 version, recovery))
+        by true false true version recovery challenge on = (o, refused on, (eqb-true o.version 256 version, recovery), challenge, may)
+        by true false false version recovery challenge on = inr (inl (in_order (rw (version, recovery, challenge) refl) on))
+
+  -- ---- where it would open one
+
+  pub against_stands : WouldOpen e ev o → (r : Reason) → against_opening e o ≡ Some r → Stands e moment ev r.cause
+  unfolding against_opening
+  against_stands would r h =
+      by (o.version == 256) (is_some o.recovery) (has_all_tunnels e.tunnels) (is_some o.challenge) (draws e.tunnel_ids) refl refl refl refl refl h
+    where
+      so : (q : Reason) → Some q ≡ Some r → Stands e moment ev q.cause → Stands e moment ev r.cause
+      so q is stands = let same : q ≡ r = cc in subst (λ (x : Reason). Stands e moment ev x.cause) same stands
+
+      last : (d : Result ℕ IdError) → draws e.tunnel_ids ≡ d → lacks_id d ≡ Some r → is_acceptable o ≡ true → has_all_tunnels e.tunnels ≡ false
+          → Stands e moment ev r.cause
+      last (Ok i) drawn is good fewer = absurd cc
+      last (Err x) drawn is good fewer = so _ is (ForPeer o x would good fewer drawn)
+
+      by : (a b c d : Bool) (i : Result ℕ IdError) → (o.version == 256) ≡ a → is_some o.recovery ≡ b → has_all_tunnels e.tunnels ≡ c
+          → is_some o.challenge ≡ d → draws e.tunnel_ids ≡ i
+          → cond (not a) (Some other_version)
+          (cond b (Some no_recovery) (cond c (Some no_tunnel) (cond d (Some no_secret) (lacks_id i)))) ≡ Some r → Stands e moment ev r.cause
+      by false b c d i version recovery all challenge drawn is = so other_version is (o, AtZero would, other_than version)
+      by true true c d i version recovery all challenge drawn is =
+          so no_recovery is (o, AtZero would, (eqb-true o.version 256 version, recovery))
+      by true false true d i version recovery all challenge drawn is =
+          so no_tunnel is (inr (inr (o, would, (eqb-true o.version 256 version, recovery))), all)
+      by true false false true i version recovery all challenge drawn is =
+          so no_secret is (o, AtZero would, (eqb-true o.version 256 version, recovery), challenge, λ w. all)
+      by true false false false i version recovery all challenge drawn is = last i drawn is (rw (version, recovery, challenge) refl) all
