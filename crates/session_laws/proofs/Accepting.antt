@@ -27,7 +27,7 @@ use Rattle.session_laws.proofs.Keeps.{with_end, Laws, IsMade, Follows}
 use Rattle.session_laws.proofs.Entering.{after_here, after_elsewhere, with_taken, taken_as, takes_and_gives}
 use Rattle.session_laws.proofs.Names.{name_some, known_name}
 use Rattle.session_laws.proofs.Ground.{TunnelStays, New, one_step, tunnel_before, tunnel_moves_follow}
-use Rattle.session_laws.proofs.Letters.{stays_on, given_elsewhere, taken_elsewhere, given_sent, given_taken, took_taken, took_sent}
+use Rattle.session_laws.proofs.Letters.{stays_on, given_elsewhere, taken_elsewhere, given_sent, given_taken, given_refused, took_taken, took_sent, took_refused}
 use Rattle.session_laws.proofs.Connecting.{learns_state}
 use Rattle.session_laws.proofs.Drawing.{id_some, id_fits, no_account_yet, no_tunnel_yet}
 
@@ -59,6 +59,7 @@ accepted_elsewhere w s x y other = record {
   entered = refl;
   sent = refl;
   taken = refl;
+  refused = refl;
   asks = λ z. refl;
 }
 
@@ -79,7 +80,15 @@ accepts_calls w s x = refl
 
 -- an acceptor that took the SCCRQ and gave its SCCRP
 abbrev as_acceptor : ℕ → ℕ → Taken → step_laws.Letter → Account
-as_acceptor peer remote tk first = record { part = Acceptor; peer = peer; remote = remote; given = first ∷ []; taken = tk ∷ []; closed = None }
+as_acceptor peer remote tk first = record {
+  part = Acceptor;
+  peer = peer;
+  remote = remote;
+  given = first ∷ [];
+  taken = tk ∷ [];
+  closed = None;
+  declined = false;
+}
 
 -- what the opener is in the machine
 record IsOpenerOf (w : World) (n m j : ℕ) : Type 0 where
@@ -104,6 +113,8 @@ accepts_here w n i m j tk first o u h k says waits = record {
       ∙ ap (λ ls. ls ++ letter.Sccrp ∷ []) h.sent ∙ ap (λ l. l ∷ []) (sym says);
   taken = took_taken (and_given w (name m j) (name n i)) (name n i) h.entered
       ∙ ap (λ c. 1 + c) (given_taken (with_accepted w (name m j) (name n i)) (name n i) letter.Sccrp (name n i) ∙ h.taken);
+  refused = took_refused (and_given w (name m j) (name n i)) (name n i) (name n i)
+      ∙ given_refused (with_accepted w (name m j) (name n i)) (name n i) letter.Sccrp (name n i) ∙ h.refused;
   asks = h.asks;
 }
 
@@ -131,7 +142,7 @@ module _ (laws : Laws) (accs : Accounts) (ends : Ends) (w : World) (n : ℕ) (e 
   none = no_account_yet accs n e sender ev h.moved.within i h.moved.does.drawn
 
   is : after accs d n i ≡ b
-  is = after_here accs d n (move.Accepted m) h.moved.deed.node_is h.moved.deed.move_is
+  is = after_here accs d n (move.Accepted m) h.moved.deed.node_is h.moved.deed.move_is (λ k j. refl)
       ∙ takes_and_gives d n e.role sender (move.Accepted m) m.taken (record (accs n i) { part = Acceptor; peer = peer; remote = m.remote }) h.moved.deed
       ∙ ap (λ (a : Account). with_taken tk (first ∷ []) (record a { part = Acceptor; peer = peer; remote = m.remote })) none
 
@@ -155,7 +166,7 @@ module _ (laws : Laws) (accs : Accounts) (ends : Ends) (w : World) (n : ℕ) (e 
 
   -- it is another tunnel, and as it was
   stays : partner_in (after accs d) b ≡ p
-  stays = after_elsewhere accs d n (move.Accepted m) h.moved.deed.node_is h.moved.deed.move_is peer m.remote (λ both.
+  stays = after_elsewhere accs d n (move.Accepted m) h.moved.deed.node_is h.moved.deed.move_is (λ k j. refl) peer m.remote (λ both.
       let own : (after accs d n i).part ≡ Opener = ap₂ (λ k j. (after accs d k j).part) (sym both.0) (sym both.1) ∙ acceptor.part in
       let here = ap (λ (a : Account). a.part) is in
       let no : ⊥ = cc in no)

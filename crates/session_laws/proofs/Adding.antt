@@ -161,10 +161,11 @@ module _ (laws : Laws) (accs : Accounts) (ends : Ends) (w : World) (n : ℕ) (e 
   does = adds_is w X Z (rw here.phase (goes_phase t.control.state h.moved.does.goes)) (name_some n s some) new
 
   says : AccountSpeaks (accs n i) (after accs d n i) [] 0
-  says = says_nothing (accs n i) (after accs d n i) (account_is accs ends w n e x sender moment ev (move.Added m) d h v t u h.moved.does.there)
+  says = says_nothing (accs n i) (after accs d n i)
+      (account_is accs ends w n e x sender moment ev (move.Added m) d h (λ k j. refl) v t u h.moved.does.there)
 
   goes : TunnelGoes accs (after accs d) w v n i u
-  goes = speaks_goes accs ends w n e x sender moment ev (move.Added m) d h v t u h.moved.does.there [] 0
+  goes = speaks_goes accs ends w n e x sender moment ev (move.Added m) d h (λ k j. refl) v t u h.moved.does.there [] 0
       (calls_only w X (is_born w.calls X Z) (added_asks w X Z)) says refl (AddsCall X Z) does
 
   next : x.session_ids.next ≡ s + 1
@@ -206,4 +207,4 @@ module _ (laws : Laws) (accs : Accounts) (ends : Ends) (w : World) (n : ℕ) (e 
   }
 
   pub added_follows : Follows w n e x (move.Added m) (after accs d) (with_end ends n x)
-  added_follows = one_call_follows accs ends w n e x sender moment ev (move.Added m) d h v t u s births one goes
+  added_follows = one_call_follows accs ends w n e x sender moment ev (move.Added m) d h (λ k j. refl) v t u s births one goes

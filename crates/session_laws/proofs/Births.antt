@@ -66,11 +66,12 @@ pub record BirthsFollow (w v : machine.World) (n : ℕ) (e x : End) (m : Move) :
   pub mates : (z : ℕ) → (w.calls.mate z ≡ 0 → ⊥) → v.calls.mate z ≡ w.calls.mate z
   pub replies : (r : Replied) → m ≡ move.Replied r → ReplyJoined v n r
 
--- a move by which no call is born, replies or is replied to
+-- a move by which no call is born, replies or is replied to, and no opening is declined
 abbrev pub IsElse : Move → Type 0
 IsElse (move.Added m) = ⊥
 IsElse (move.Replied m) = ⊥
 IsElse (move.FirstUp m) = ⊥
+IsElse (move.Declined m) = ⊥
 IsElse m = Unit {0}
 
 pub same_calls : (w v : machine.World) → v.calls ≡ w.calls → BirthsSame w v
@@ -81,23 +82,29 @@ same_calls w v same = record {
   remote = λ z. ap (λ (c : calls.Calls). c.remote z) same;
 }
 
+-- no session id is drawn, and no call is born or replies
+pub none_follow : (w v : machine.World) (n : ℕ) (e x : End) (m : Move) → x.role ≡ e.role → x.session_ids ≡ e.session_ids
+    → BirthsGo w v n e.role m → births_by m ≡ 0 → BirthsSame w v → ((r : Replied) → m ≡ move.Replied r → ⊥) → BirthsFollow w v n e x m
+none_follow w v n e x m role sessions go none same other = record {
+  go = go;
+  role = role;
+  rises = rw (none, sessions) (omega arith);
+  mates = λ z some. same.mate z;
+  replies = λ r is. absurd (other r is);
+}
+
 pub else_follow : (w v : machine.World) (n : ℕ) (e x : End) (m : Move) → IsElse m → BirthsSame w v → x.role ≡ e.role
     → x.session_ids ≡ e.session_ids → BirthsFollow w v n e x m
 else_follow w v n e x m is same role sessions = by m is
   where
     it : (m : Move) → BirthsGo w v n e.role m → births_by m ≡ 0 → ((r : Replied) → m ≡ move.Replied r → ⊥) → BirthsFollow w v n e x m
-    it m go none other = record {
-      go = go;
-      role = role;
-      rises = rw (none, sessions) (omega arith);
-      mates = λ z some. same.mate z;
-      replies = λ r is. absurd (other r is);
-    }
+    it m go none other = none_follow w v n e x m role sessions go none same other
 
     by : (m : Move) → IsElse m → BirthsFollow w v n e x m
     by (move.Added m) is = absurd is
     by (move.Replied m) is = absurd is
     by (move.FirstUp m) is = absurd is
+    by (move.Declined m) is = absurd is
     by (move.Opened m) is = it (move.Opened m) same refl (λ r no. absurd cc)
     by (move.Accepted m) is = it (move.Accepted m) same refl (λ r no. absurd cc)
     by (move.Connected m) is = it (move.Connected m) same refl (λ r no. absurd cc)

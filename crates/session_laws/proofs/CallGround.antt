@@ -23,7 +23,7 @@ use Rattle.session_laws.specs.Names.{name}
 use Rattle.session_laws.specs.Joined.{Ends, TunnelJoined, CallJoined, FitsRole, HasNoCall, CallsJoined}
 use Rattle.session_laws.proofs.Births.{BirthsFollow}
 use Rattle.session_laws.proofs.Keeps.{with_end, IsMade, Follows}
-use Rattle.session_laws.proofs.Entering.{after_elsewhere}
+use Rattle.session_laws.proofs.Entering.{DeclinesNone, after_elsewhere}
 use Rattle.session_laws.proofs.Names.{same_name}
 use Rattle.session_laws.proofs.Ground.{TunnelStays, MovesOn, ids_now, joined_before, moves_on_follow}
 
@@ -251,7 +251,7 @@ pub record TunnelGoes (accs ms : Accounts) (w v : machine.World) (n i : ℕ) (u 
   pub run : v ≡ goes_on all_rules w more
 
 module _ (accs : Accounts) (ends : Ends) (w : machine.World) (n : ℕ) (e x : End) (sender : Option Sender) (moment : ℕ) (ev : Event) (m : Move) (d : Deed)
-    (h : IsMade accs ends w n e x sender moment ev m d) (v : machine.World) (t u : Tunnel) where
+    (h : IsMade accs ends w n e x sender moment ev m d) (declines : DeclinesNone m) (v : machine.World) (t u : Tunnel) where
   abbrev ms : Accounts
   ms = after accs d
 
@@ -261,7 +261,8 @@ module _ (accs : Accounts) (ends : Ends) (w : machine.World) (n : ℕ) (e x : En
   peers : (ms n i).peer ≡ (accs n i).peer → (j : ℕ) → (ms n j).peer ≡ (accs n j).peer
   peers same j = ⊎_elim
       (λ (p : j ≡ i). rw p same)
-      (λ other. ap (λ (a : Account). a.peer) (after_elsewhere accs d n m h.moved.deed.node_is h.moved.deed.move_is n j (λ both. other both.1)))
+      (λ other. ap (λ (a : Account). a.peer)
+      (after_elsewhere accs d n m h.moved.deed.node_is h.moved.deed.move_is declines n j (λ both. other both.1)))
       (same_or_not j i)
 
   -- where the calls of the node are joined again
@@ -270,6 +271,7 @@ module _ (accs : Accounts) (ends : Ends) (w : machine.World) (n : ℕ) (e x : En
       → MovesOn ms w v n i e x m
   moves_on there put_is g others calls births = record {
     id = (joined_before accs ends w n e x sender moment ev m d h).ids i t there;
+    declines = declines;
     elsewhere = λ j other. rw put_is (at_other e.tunnels i u j other);
     tunnels = g.tunnels;
     tunnel = rw (put_is, at_new e.tunnels i u) g.tunnel;

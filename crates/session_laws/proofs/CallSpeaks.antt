@@ -22,10 +22,10 @@ use Rattle.connection_laws.specs.Steps.{IsDeed, after}
 use Rattle.session_laws.specs.Names.{name, letter_of, phase_of, other_name}
 use Rattle.session_laws.specs.Joined.{Ends, TunnelJoined}
 use Rattle.session_laws.proofs.Keeps.{IsMade}
-use Rattle.session_laws.proofs.Entering.{after_here, taken_as, takes_only, takes_and_gives, gives_only}
+use Rattle.session_laws.proofs.Entering.{DeclinesNone, after_here, taken_as, takes_only, takes_and_gives, gives_only}
 use Rattle.session_laws.proofs.States.{heeds_one}
 use Rattle.session_laws.proofs.Ground.{one_step}
-use Rattle.session_laws.proofs.Letters.{given_sent, given_taken, given_tunnels, given_calls, took_taken, took_sent, took_tunnels, given_elsewhere, taken_elsewhere, AccountMoves, letters_joined}
+use Rattle.session_laws.proofs.Letters.{given_sent, given_taken, given_refused, given_tunnels, given_calls, took_taken, took_sent, took_refused, took_tunnels, given_elsewhere, taken_elsewhere, AccountMoves, letters_joined}
 use Rattle.session_laws.proofs.Heard.{here_joined}
 use Rattle.session_laws.proofs.CallGround.{TunnelGoes}
 
@@ -38,6 +38,7 @@ pub record Speaks (w v : World) (x : ℕ) (more : List Letter) (took : ℕ) : Ty
   pub taken : v.channels.taken x 0 ≡ took + w.channels.taken x 0
   pub sent_elsewhere : (y : ℕ) → (y ≡ x → ⊥) → v.channels.sent y 0 ≡ w.channels.sent y 0
   pub taken_elsewhere : (y : ℕ) → (y ≡ x → ⊥) → v.channels.taken y 0 ≡ w.channels.taken y 0
+  pub refused : (y : ℕ) → v.channels.refused y ≡ w.channels.refused y
   pub asks : (y z : ℕ) → v.calls.asks y z ≡ w.calls.asks y z
 
 pub calls_only : (w : World) (x : ℕ) (c : Calls) → ((y z : ℕ) → c.asks y z ≡ w.calls.asks y z) → Speaks w (record w { calls = c }) x [] 0
@@ -47,6 +48,7 @@ calls_only w x c asks = record {
   taken = omega arith;
   sent_elsewhere = λ y other. refl;
   taken_elsewhere = λ y other. refl;
+  refused = λ y. refl;
   asks = asks;
 }
 
@@ -60,6 +62,7 @@ calls_and_give w x c l now asks =
       taken = given_taken v x l x ∙ (omega arith);
       sent_elsewhere = λ y other. (given_elsewhere v x l y other).sent;
       taken_elsewhere = λ y other. (given_elsewhere v x l y other).taken;
+      refused = λ y. given_refused v x l y;
       asks = λ y z. ap (λ (k : Calls). k.asks y z) (given_calls v x l) ∙ asks y z;
     }
 
@@ -71,6 +74,7 @@ calls_and_take w x c now asks = record {
   taken = took_taken w x now;
   sent_elsewhere = λ y other. (taken_elsewhere w x y other).sent;
   taken_elsewhere = λ y other. (taken_elsewhere w x y other).taken;
+  refused = λ y. took_refused w x y;
   asks = asks;
 }
 
@@ -85,6 +89,7 @@ calls_take_and_give w x c l now asks =
       taken = given_taken v x l x ∙ took_taken w x now;
       sent_elsewhere = λ y other. (given_elsewhere v x l y other).sent ∙ (taken_elsewhere w x y other).sent;
       taken_elsewhere = λ y other. (given_elsewhere v x l y other).taken ∙ (taken_elsewhere w x y other).taken;
+      refused = λ y. given_refused v x l y ∙ took_refused w x y;
       asks = λ y z. ap (λ (k : Calls). k.asks y z) (given_calls v x l) ∙ asks y z;
     }
 
@@ -97,35 +102,42 @@ pub record AccountSpeaks (a b : Account) (more : List step_laws.Letter) (took : 
 
 pub says_nothing : (a b : Account) → b ≡ a → AccountSpeaks a b [] 0
 says_nothing a b is = rw is (record {
-  moves = record { part = refl; peer = refl; given = sym (append-nil a.given); heeds = omega arith };
+  moves = record { part = refl; peer = refl; given = sym (append-nil a.given); heeds = omega arith; declined = refl };
   remote = refl;
 })
 
 pub says_one : (d : Deed) (n : ℕ) (role : Role) (sender : Option Sender) (m : Move) (a b : Account) → IsDeed d n role sender m → b ≡ gives_also d a
     → AccountSpeaks a b (letters_of role (config_of n 0) m) 0
 says_one d n role sender m a b deed is = rw (is, gives_only d n role sender m a deed) (record {
-  moves = record { part = refl; peer = refl; given = refl; heeds = omega arith };
+  moves = record { part = refl; peer = refl; given = refl; heeds = omega arith; declined = refl };
   remote = refl;
 })
 
 pub hears_one : (d : Deed) (n : ℕ) (role : Role) (sender : Option Sender) (m : Move) (place : Place) (a b : Account) → IsDeed d n role sender m
     → IsOpen a → b ≡ takes_at d place a → AccountSpeaks a b [] 1
 hears_one d n role sender m place a b deed works is = rw (is, takes_only d n role sender m place a deed) (record {
-  moves = record { part = refl; peer = refl; given = refl; heeds = heeds_one (taken_as sender place m) [] a works };
+  moves = record { part = refl; peer = refl; given = refl; heeds = heeds_one (taken_as sender place m) [] a works; declined = refl };
   remote = refl;
 })
 
 pub hears_and_says : (d : Deed) (n : ℕ) (role : Role) (sender : Option Sender) (m : Move) (place : Place) (a b : Account) → IsDeed d n role sender m
     → IsOpen a → b ≡ gives_also d (takes_at d place a) → AccountSpeaks a b (letters_of role (config_of n 0) m) 1
 hears_and_says d n role sender m place a b deed works is = rw (is, takes_and_gives d n role sender m place a deed) (record {
-  moves = record { part = refl; peer = refl; given = refl; heeds = heeds_one (taken_as sender place m) (letters_of role (config_of n 0) m) a works };
+  moves = record {
+    part = refl;
+    peer = refl;
+    given = refl;
+    heeds = heeds_one (taken_as sender place m) (letters_of role (config_of n 0) m) a works;
+    declined = refl;
+  };
   remote = refl;
 })
 
 -- ---- both
 
 module _ (accs : Accounts) (ends : Ends) (w : World) (n : ℕ) (e x : End) (sender : Option Sender) (moment : ℕ) (ev : Event) (m : Move) (d : Deed)
-    (h : IsMade accs ends w n e x sender moment ev m d) (v : World) (t u : Tunnel) (there : at e.tunnels (about m) ≡ Some t) where
+    (h : IsMade accs ends w n e x sender moment ev m d) (declines : DeclinesNone m) (v : World) (t u : Tunnel)
+    (there : at e.tunnels (about m) ≡ Some t) where
   abbrev ms : Accounts
   ms = after accs d
 
@@ -147,6 +159,7 @@ module _ (accs : Accounts) (ends : Ends) (w : World) (n : ℕ) (e x : End) (send
       entered = ap (λ (ts : Tunnels). ts.entered y) g.tunnels;
       sent = g.sent_elsewhere y other;
       taken = g.taken_elsewhere y other;
+      refused = g.refused y;
       asks = g.asks y;
     };
     tunnel = letters_joined w v n i (accs n i) (ms n i) more took (Some t) (Some u) old
@@ -158,6 +171,7 @@ module _ (accs : Accounts) (ends : Ends) (w : World) (n : ℕ) (e x : End) (send
           entered = ap (λ (ts : Tunnels). ts.entered (name n i)) g.tunnels;
           sent = g.sent;
           taken = g.taken;
+          refused = g.refused (name n i);
           asks = g.asks (name n i);
         })
         s.moves
@@ -177,4 +191,4 @@ module _ (accs : Accounts) (ends : Ends) (w : World) (n : ℕ) (e x : End) (send
 
   -- the account after the move
   pub account_is : ms n i ≡ entered_by d m (accs n i)
-  account_is = after_here accs d n m h.moved.deed.node_is h.moved.deed.move_is
+  account_is = after_here accs d n m h.moved.deed.node_is h.moved.deed.move_is declines

@@ -41,6 +41,7 @@ clears_here w n i a o h = record {
   entered = h.entered;
   sent = h.sent;
   taken = h.taken;
+  refused = h.refused;
   asks = h.asks;
 }
 
@@ -79,7 +80,7 @@ module _ (laws : Laws) (accs : Accounts) (ends : Ends) (w : World) (n : ℕ) (e 
   }
 
   account_same : after accs d n i ≡ accs n i
-  account_same = after_here accs d n (move.Cleared i) h.moved.deed.node_is h.moved.deed.move_is
+  account_same = after_here accs d n (move.Cleared i) h.moved.deed.node_is h.moved.deed.move_is (λ k j. refl)
 
   pub cleared_follows : Follows w n e x (move.Cleared i) (after accs d) (with_end ends n x)
   cleared_follows =

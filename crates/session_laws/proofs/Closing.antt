@@ -85,7 +85,7 @@ module _ (laws : Laws) (accs : Accounts) (ends : Ends) (w : World) (n : ℕ) (e 
   b = with_given (last ∷ []) closed
 
   is : after accs d n i ≡ b
-  is = after_here accs d n (move.Closed m) h.moved.deed.node_is h.moved.deed.move_is
+  is = after_here accs d n (move.Closed m) h.moved.deed.node_is h.moved.deed.move_is (λ k j. refl)
       ∙ gives_only d n e.role sender (move.Closed m) closed h.moved.deed
 
   abbrev told : Tunnel
@@ -124,7 +124,7 @@ module _ (laws : Laws) (accs : Accounts) (ends : Ends) (w : World) (n : ℕ) (e 
   tunnel : TunnelJoined v n i b (Some u)
   tunnel = letters_joined w v n i a b (last ∷ []) 0 (Some t) (Some u) old
       (leaves_letters w and_given X Closed (letter.StopCcn ∷ []) 0 (gives_here w X letter.StopCcn old.entered))
-      (record { part = refl; peer = refl; given = refl; heeds = sym (heeds_all a works.is_open) ∙ (omega arith) })
+      (record { part = refl; peer = refl; given = refl; heeds = sym (heeds_all a works.is_open) ∙ (omega arith); declined = refl })
       learned (leaves_phase and_given X Closed)
 
   pub closed_follows : Follows w n e x (move.Closed m) (after accs d) (with_end ends n x)

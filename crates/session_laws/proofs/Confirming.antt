@@ -23,7 +23,7 @@ use Rattle.session_laws.proofs.Keeps.{with_end, Laws, IsMade, Follows}
 use Rattle.session_laws.proofs.Entering.{after_here, with_taken, taken_as, takes_only}
 use Rattle.session_laws.proofs.States.{not_closed, heeds_one}
 use Rattle.session_laws.proofs.Ground.{TunnelStays, Old, one_step, tunnel_moves_follow}
-use Rattle.session_laws.proofs.Letters.{took_taken, took_sent, LettersMove, letters_joined}
+use Rattle.session_laws.proofs.Letters.{took_taken, took_sent, took_refused, LettersMove, letters_joined}
 use Rattle.session_laws.proofs.Heard.{Delivered, delivered, here_fits, here_joined}
 
 -- ---- what the machine does
@@ -44,6 +44,7 @@ confirms_elsewhere w x y other = record {
   entered = refl;
   sent = refl;
   taken = rw (ne_eqb y x other) refl;
+  refused = refl;
   asks = λ z. refl;
 }
 
@@ -61,6 +62,7 @@ confirms_here w x now = record {
   entered = refl;
   sent = took_sent w x x ∙ sym (append-nil (w.channels.sent x 0));
   taken = took_taken w x now;
+  refused = took_refused w x x;
   asks = λ z. refl;
 }
 
@@ -98,7 +100,7 @@ module _ (laws : Laws) (accs : Accounts) (ends : Ends) (w : World) (n : ℕ) (e 
   b = with_taken tk [] a
 
   is : after accs d n i ≡ b
-  is = after_here accs d n (move.Confirmed m) h.moved.deed.node_is h.moved.deed.move_is
+  is = after_here accs d n (move.Confirmed m) h.moved.deed.node_is h.moved.deed.move_is (λ k j. refl)
       ∙ takes_only d n e.role sender (move.Confirmed m) m.taken a h.moved.deed
 
   abbrev u : Tunnel
@@ -122,7 +124,7 @@ module _ (laws : Laws) (accs : Accounts) (ends : Ends) (w : World) (n : ℕ) (e 
 
   tunnel : TunnelJoined v n i b (Some u)
   tunnel = letters_joined w v n i a b [] 1 (Some t) (Some u) old (confirms_here w X old.entered)
-      (record { part = refl; peer = refl; given = refl; heeds = heeds_one tk [] a del.is_open })
+      (record { part = refl; peer = refl; given = refl; heeds = heeds_one tk [] a del.is_open; declined = refl })
       (ap (λ (f : ℕ → ℕ). f X) (confirms_learned w X) ∙ old.learned)
       (confirms_phase w X)
 

@@ -28,7 +28,7 @@ use Rattle.session_laws.proofs.Entering.{after_here, with_taken, taken_as, takes
 use Rattle.session_laws.proofs.Names.{known_name}
 use Rattle.session_laws.proofs.States.{not_closed, heeds_one}
 use Rattle.session_laws.proofs.Ground.{TunnelStays, Old, one_step, tunnel_moves_follow}
-use Rattle.session_laws.proofs.Letters.{stays_on, given_elsewhere, taken_elsewhere, given_sent, given_taken, took_taken, took_sent, LettersMove, letters_joined}
+use Rattle.session_laws.proofs.Letters.{stays_on, given_elsewhere, taken_elsewhere, given_sent, given_taken, given_refused, took_taken, took_sent, took_refused, LettersMove, letters_joined}
 use Rattle.session_laws.proofs.Heard.{Delivered, delivered, here_fits, here_joined, partner_now}
 
 -- ---- what the machine does with tunnels
@@ -45,6 +45,7 @@ established_with_elsewhere w x s y other = record {
   entered = refl;
   sent = refl;
   taken = refl;
+  refused = refl;
   asks = λ z. refl;
 }
 
@@ -76,6 +77,7 @@ connects_here w x s now = record {
   entered = refl;
   sent = given_sent (with_learned w x s) x letter.Scccn now ∙ ap (λ ls. ls ++ letter.Scccn ∷ []) (took_sent w x x);
   taken = given_taken (with_learned w x s) x letter.Scccn x ∙ took_taken w x now;
+  refused = given_refused (with_learned w x s) x letter.Scccn x ∙ took_refused w x x;
   asks = λ z. refl;
 }
 
@@ -128,7 +130,7 @@ module _ (laws : Laws) (accs : Accounts) (ends : Ends) (w : World) (n : ℕ) (e 
   b = with_taken tk (last ∷ []) (record a { remote = m.remote })
 
   is : after accs d n i ≡ b
-  is = after_here accs d n (move.Connected m) h.moved.deed.node_is h.moved.deed.move_is
+  is = after_here accs d n (move.Connected m) h.moved.deed.node_is h.moved.deed.move_is (λ k j. refl)
       ∙ takes_and_gives d n e.role sender (move.Connected m) m.taken (record a { remote = m.remote }) h.moved.deed
 
   abbrev u : Tunnel
@@ -163,7 +165,13 @@ module _ (laws : Laws) (accs : Accounts) (ends : Ends) (w : World) (n : ℕ) (e 
 
   tunnel : TunnelJoined v n i b (Some u)
   tunnel = letters_joined w v n i a b (last ∷ []) 1 (Some t) (Some u) old (connects_here w X S old.entered)
-      (record { part = refl; peer = refl; given = refl; heeds = heeds_one tk (last ∷ []) (record a { remote = m.remote }) del.is_open })
+      (record {
+        part = refl;
+        peer = refl;
+        given = refl;
+        heeds = heeds_one tk (last ∷ []) (record a { remote = m.remote }) del.is_open;
+        declined = refl;
+      })
       learned
       (connects_phase w X S ∙ ap phase_of (sym state))
 

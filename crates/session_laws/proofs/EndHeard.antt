@@ -208,7 +208,7 @@ module _ (laws : Laws) (accs : Accounts) (ends : Ends) (w : World) (n : ℕ) (e 
 
   pub end_heard_follows : Follows w n e x (move.EndHeard m) (after accs d) (with_end ends n x)
   end_heard_follows =
-      let is = account_is accs ends w n e x sender moment ev (move.EndHeard m) d h v t u h.moved.does.there in
+      let is = account_is accs ends w n e x sender moment ev (move.EndHeard m) d h (λ k j. refl) v t u h.moved.does.there in
       let order = (h.moved.within.end.live i t h.moved.does.there).order in
       let one : OneCall w v n i (accs n i).peer e x t u s = record {
         there = h.moved.does.there;
@@ -225,10 +225,10 @@ module _ (laws : Laws) (accs : Accounts) (ends : Ends) (w : World) (n : ℕ) (e 
         here = rw (at_without_same t.calls s order) (end_here w X own header Z (tells_named w.calls X own header Z before.tunnel named));
       } in
       let speaks = hears_one d n e.role sender (move.EndHeard m) m.taken (accs n i) (after accs d n i) h.moved.deed del.is_open is in
-      one_call_follows accs ends w n e x sender moment ev (move.EndHeard m) d h v t u s
+      one_call_follows accs ends w n e x sender moment ev (move.EndHeard m) d h (λ k j. refl) v t u s
       (else_follow w v n e x (move.EndHeard m) tt (end_births w X own header) (ap (λ (y : End). y.role) h.moved.does.after) next)
       (subst (λ p. OneCall w v n i p e x t u s) (sym speaks.moves.peer) one)
-      (speaks_goes accs ends w n e x sender moment ev (move.EndHeard m) d h v t u h.moved.does.there [] 1
+      (speaks_goes accs ends w n e x sender moment ev (move.EndHeard m) d h (λ k j. refl) v t u h.moved.does.there [] 1
       (calls_and_take w X (without_named w X own header) old.entered (end_asks w X own header))
       speaks refl (Delivers X S 0 (length (accs n i).taken) 0)
       (del.is 0 ∙ takes_end w X S own header (old.phase ∙ open_phase t.control.state h.moved.does.open_is)))

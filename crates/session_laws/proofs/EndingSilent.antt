@@ -139,10 +139,10 @@ module _ (laws : Laws) (accs : Accounts) (ends : Ends) (w : World) (n : ℕ) (e 
 
   says : AccountSpeaks (accs n i) (after accs d n i) [] 0
   says = says_nothing (accs n i) (after accs d n i)
-      (account_is accs ends w n e x sender moment ev (move.EndSilent m) d h v t u h.moved.does.there)
+      (account_is accs ends w n e x sender moment ev (move.EndSilent m) d h (λ k j. refl) v t u h.moved.does.there)
 
   goes : TunnelGoes accs (after accs d) w v n i u
-  goes = speaks_goes accs ends w n e x sender moment ev (move.EndSilent m) d h v t u h.moved.does.there [] 0
+  goes = speaks_goes accs ends w n e x sender moment ev (move.EndSilent m) d h (λ k j. refl) v t u h.moved.does.there [] 0
       (calls_only w X (calls.ends w.calls (is_call Z)) (ended_asks w Z)) says refl (EndsSilent Z) does
 
   sessions : x.session_ids ≡ e.session_ids
@@ -171,5 +171,5 @@ module _ (laws : Laws) (accs : Accounts) (ends : Ends) (w : World) (n : ℕ) (e 
   }
 
   pub end_silent_follows : Follows w n e x (move.EndSilent m) (after accs d) (with_end ends n x)
-  end_silent_follows = one_call_follows accs ends w n e x sender moment ev (move.EndSilent m) d h v t u s
+  end_silent_follows = one_call_follows accs ends w n e x sender moment ev (move.EndSilent m) d h (λ k j. refl) v t u s
       (else_follow w v n e x (move.EndSilent m) tt (ended_births w Z) (ap (λ (y : End). y.role) h.moved.does.after) sessions) one goes

@@ -149,10 +149,10 @@ module _ (laws : Laws) (accs : Accounts) (ends : Ends) (w : World) (n : ℕ) (e 
 
   says : AccountSpeaks (accs n i) (after accs d n i) (letters_of e.role (config_of n 0) (move.EndTold m)) 0
   says = says_one d n e.role sender (move.EndTold m) (accs n i) (after accs d n i) h.moved.deed
-      (account_is accs ends w n e x sender moment ev (move.EndTold m) d h v t u h.moved.does.there)
+      (account_is accs ends w n e x sender moment ev (move.EndTold m) d h (λ k j. refl) v t u h.moved.does.there)
 
   goes : TunnelGoes accs (after accs d) w v n i u
-  goes = speaks_goes accs ends w n e x sender moment ev (move.EndTold m) d h v t u h.moved.does.there
+  goes = speaks_goes accs ends w n e x sender moment ev (move.EndTold m) d h (λ k j. refl) v t u h.moved.does.there
       (letters_of e.role (config_of n 0) (move.EndTold m)) 0 speaks says refl (EndsTold Z) does
 
   sessions : x.session_ids ≡ e.session_ids
@@ -177,6 +177,6 @@ module _ (laws : Laws) (accs : Accounts) (ends : Ends) (w : World) (n : ℕ) (e 
   }
 
   pub end_told_follows : Follows w n e x (move.EndTold m) (after accs d) (with_end ends n x)
-  end_told_follows = one_call_follows accs ends w n e x sender moment ev (move.EndTold m) d h v t u s
+  end_told_follows = one_call_follows accs ends w n e x sender moment ev (move.EndTold m) d h (λ k j. refl) v t u s
       (else_follow w v n e x (move.EndTold m) tt (given_births w (ended w Z) X (letter.Cdn Z R) (ended_births w Z))
       (ap (λ (y : End). y.role) h.moved.does.after) sessions) one goes

@@ -159,7 +159,7 @@ module _ (laws : Laws) (accs : Accounts) (ends : Ends) (w : World) (n : ℕ) (e 
 
   pub first_up_follows : Follows w n e x (move.FirstUp m) (after accs d) (with_end ends n x)
   first_up_follows =
-      let is = account_is accs ends w n e x sender moment ev (move.FirstUp m) d h v t u h.moved.does.there in
+      let is = account_is accs ends w n e x sender moment ev (move.FirstUp m) d h (λ k j. refl) v t u h.moved.does.there in
       let one : OneCall w v n i (accs n i).peer e x t u s = record {
         there = h.moved.does.there;
         put_is = ap (λ (y : End). y.tunnels) h.moved.does.after;
@@ -180,9 +180,9 @@ module _ (laws : Laws) (accs : Accounts) (ends : Ends) (w : World) (n : ℕ) (e 
         );
       } in
       let speaks = hears_and_says d n e.role sender (move.FirstUp m) m.taken (accs n i) (after accs d n i) h.moved.deed del.is_open is in
-      one_call_follows accs ends w n e x sender moment ev (move.FirstUp m) d h v t u s births
+      one_call_follows accs ends w n e x sender moment ev (move.FirstUp m) d h (λ k j. refl) v t u s births
       (subst (λ p. OneCall w v n i p e x t u s) (sym speaks.moves.peer) one)
-      (speaks_goes accs ends w n e x sender moment ev (move.FirstUp m) d h v t u h.moved.does.there
+      (speaks_goes accs ends w n e x sender moment ev (move.FirstUp m) d h (λ k j. refl) v t u h.moved.does.there
       (letters_of e.role (config_of n 0) (move.FirstUp m)) 1
       (rw del.node (calls_take_and_give w X (is_first_up w.calls Z own) (Connect own) old.entered (first_asks w Z own)))
       speaks refl (Delivers X S 0 (length (accs n i).taken) 0)

@@ -21,7 +21,7 @@ use Rattle.session_laws.specs.Joined.{Ends, TunnelJoined}
 use Rattle.session_laws.proofs.Keeps.{with_end, Laws, IsMade, Follows}
 use Rattle.session_laws.proofs.Entering.{after_here, with_given, gives_only}
 use Rattle.session_laws.proofs.Ground.{Old, one_step, tunnel_moves_follow}
-use Rattle.session_laws.proofs.Letters.{given_elsewhere, given_sent, given_taken, given_tunnels, given_calls, LettersMove, letters_joined}
+use Rattle.session_laws.proofs.Letters.{given_elsewhere, given_sent, given_taken, given_refused, given_tunnels, given_calls, LettersMove, letters_joined}
 use Rattle.session_laws.proofs.Heard.{here_fits, here_joined, open_phase}
 
 -- ---- what the machine does
@@ -40,6 +40,7 @@ gives_here w x l now = record {
   entered = refl;
   sent = given_sent w x l now;
   taken = given_taken w x l x ∙ (omega arith);
+  refused = given_refused w x l x;
   asks = λ z. refl;
 }
 
@@ -61,7 +62,7 @@ module _ (laws : Laws) (accs : Accounts) (ends : Ends) (w : World) (n : ℕ) (e 
   b = with_given (hello ∷ []) a
 
   is : after accs d n i ≡ b
-  is = after_here accs d n (move.Greeted m) h.moved.deed.node_is h.moved.deed.move_is
+  is = after_here accs d n (move.Greeted m) h.moved.deed.node_is h.moved.deed.move_is (λ k j. refl)
       ∙ gives_only d n e.role sender (move.Greeted m) a h.moved.deed
 
   abbrev u : Tunnel
@@ -78,7 +79,7 @@ module _ (laws : Laws) (accs : Accounts) (ends : Ends) (w : World) (n : ℕ) (e 
 
   tunnel : TunnelJoined v n i b (Some u)
   tunnel = letters_joined w v n i a b (hello ∷ []) 0 (Some t) (Some u) old (gives_here w X letter.Hello old.entered)
-      (record { part = refl; peer = refl; given = refl; heeds = (omega arith) })
+      (record { part = refl; peer = refl; given = refl; heeds = omega arith; declined = refl })
       (ap (λ (ts : Tunnels). ts.learned X) (given_tunnels w X letter.Hello) ∙ old.learned)
       (ap (λ (ts : Tunnels). ts.phase X) (given_tunnels w X letter.Hello) ∙ old.phase)
 

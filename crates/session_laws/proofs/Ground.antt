@@ -26,7 +26,7 @@ use Rattle.session_laws.specs.Joined.{Ends, tunnel_in, TunnelJoined, CallJoined,
 use Rattle.session_laws.proofs.Births.{BirthsFollow, IsElse, same_calls, else_follow}
 use Rattle.session_laws.proofs.Keeps.{with_end, IsMade, Follows}
 use Rattle.session_laws.proofs.Roles.{fit_on}
-use Rattle.session_laws.proofs.Entering.{here_or_not, after_elsewhere, all_still, with_here, with_there}
+use Rattle.session_laws.proofs.Entering.{here_or_not, DeclinesNone, else_none, after_elsewhere, all_still, with_here, with_there}
 use Rattle.session_laws.proofs.Names.{other_name, other_node}
 
 -- ---- what stays in the machine
@@ -42,6 +42,7 @@ pub record TunnelStays (w v : machine.World) (y : ℕ) : Type 0 where
   pub entered : v.tunnels.entered y ≡ w.tunnels.entered y
   pub sent : v.channels.sent y 0 ≡ w.channels.sent y 0
   pub taken : v.channels.taken y 0 ≡ w.channels.taken y 0
+  pub refused : v.channels.refused y ≡ w.channels.refused y
   pub asks : (z : ℕ) → v.calls.asks y z ≡ w.calls.asks y z
 
 -- a call is as it was; its state may change only where it lives and is of tunnel x
@@ -57,6 +58,7 @@ pub record CallStays (w v : machine.World) (x z : ℕ) : Type 0 where
 -- nothing changes, and of this tunnel and this node's calls the new facts are given
 pub record MovesOn (ms : Accounts) (w v : machine.World) (n i : ℕ) (e x : End) (m : Move) : Type 0 where
   pub id : i < 65536
+  pub declines : DeclinesNone m
   pub elsewhere : (j : ℕ) → (j ≡ i → ⊥) → at x.tunnels j ≡ at e.tunnels j
   pub tunnels : (y : ℕ) → (y ≡ name n i → ⊥) → TunnelStays w v y
   pub tunnel : TunnelJoined v n i (ms n i) (at x.tunnels i)
@@ -154,6 +156,7 @@ tunnel_still w v n i a o s h = record {
   entered = s.entered ∙ h.entered;
   sent = s.sent ∙ h.sent;
   taken = s.taken ∙ h.taken;
+  refused = s.refused ∙ h.refused;
   asks = λ z. s.asks z ∙ h.asks z;
 }
 
@@ -204,14 +207,14 @@ module _ (accs : Accounts) (ends : Ends) (w : machine.World) (n : ℕ) (e x : En
   abbrev i : ℕ
   i = about m
 
-  elsewhere : (k j : ℕ) → ((k ≡ n) × (j ≡ i) → ⊥) → ms k j ≡ accs k j
-  elsewhere = after_elsewhere accs d n m h.moved.deed.node_is h.moved.deed.move_is
-
   -- the ids of tunnels that live have 16 bits
   pub ids_now : (j : ℕ) (t : Tunnel) → at x.tunnels j ≡ Some t → j < 65536
   ids_now j t there = (h.leads.accounts n j).id (live_made ms n j (ms n j) t (h.leads.end.live j t there))
 
   module _ (v : machine.World) (g : MovesOn ms w v n i e x m) where
+    elsewhere : (k j : ℕ) → ((k ≡ n) × (j ≡ i) → ⊥) → ms k j ≡ accs k j
+    elsewhere = after_elsewhere accs d n m h.moved.deed.node_is h.moved.deed.move_is g.declines
+
     -- the same tunnel in both ends
     same_there : (k j : ℕ) → ((k ≡ n) × (j ≡ i) → ⊥) → tunnel_in (with_end ends n x k) j ≡ tunnel_in (ends k) j
     same_there k j apart =
@@ -247,7 +250,7 @@ module _ (accs : Accounts) (ends : Ends) (w : machine.World) (n : ℕ) (e x : En
     joined = record {
       tunnels = tunnels;
       nodes = nodes;
-      fit = fit_on accs ends w n e x sender moment ev m d h g.births.role;
+      fit = fit_on accs ends w n e x sender moment ev m d h g.declines g.births.role;
       up = λ k. g.up k ∙ h.joined.up k;
       moves = h.joined.moves ++ g.more;
       run = g.run ∙ ap (λ u. goes_on all_rules u g.more) h.joined.run ∙ sym (run_on all_rules empty_world h.joined.moves g.more);
@@ -316,7 +319,7 @@ module _ (accs : Accounts) (ends : Ends) (w : machine.World) (n : ℕ) (e x : En
           there = p.1;
           call = call;
           peer = ap (λ (a : Account). a.peer)
-              (after_elsewhere accs d n m h.moved.deed.node_is h.moved.deed.move_is n j (λ both. p.0 both.1));
+              (after_elsewhere accs d n m h.moved.deed.node_is h.moved.deed.move_is (else_none m is_else) n j (λ both. p.0 both.1));
           waits = λ one. one;
         })
         (found j t there)
@@ -364,6 +367,7 @@ module _ (accs : Accounts) (ends : Ends) (w : machine.World) (n : ℕ) (e x : En
     moves_on : MovesOn new w v n (about m) e x m
     moves_on = record {
       id = g.id;
+      declines = else_none m is_else;
       elsewhere = λ j other. rw g.put_is (at_other e.tunnels (about m) u j other);
       tunnels = g.tunnels;
       tunnel = rw (g.put_is, at_new e.tunnels (about m) u) g.tunnel;
@@ -386,11 +390,11 @@ tunnel_moves_follow accs ends w n e x sender moment ev m d h is v u g =
 
 -- ---- nothing changes in the machine
 
-all_same : (accs : Accounts) (d : Deed) (n : ℕ) (m : Move) → d.node ≡ n → d.move ≡ m → entered_by d m (accs n (about m)) ≡ accs n (about m)
-    → after accs d ≡ accs
-all_same accs d n m node is still = fun_ext (λ k. fun_ext (λ j. all_still accs d n m node is still k j))
+all_same : (accs : Accounts) (d : Deed) (n : ℕ) (m : Move) → d.node ≡ n → d.move ≡ m → DeclinesNone m
+    → entered_by d m (accs n (about m)) ≡ accs n (about m) → after accs d ≡ accs
+all_same accs d n m node is none still = fun_ext (λ k. fun_ext (λ j. all_still accs d n m node is none still k j))
 
-ends_same : (ends : Ends) (n : ℕ) (e : End) → ends n ≡ Some e → with_end ends n e ≡ ends
+pub ends_same : (ends : Ends) (n : ℕ) (e : End) → ends n ≡ Some e → with_end ends n e ≡ ends
 ends_same ends n e here = fun_ext (λ k. ⊎_elim
     (λ (p : k ≡ n). rw (p, with_here ends n e) (sym here))
     (λ other. with_there ends n e k other)
@@ -400,7 +404,7 @@ pub end_stays_follows : EndStaysFollow
 end_stays_follows accs ends w n e x sender moment ev m d h is still same = record {
   births = else_follow w w n e x m is (same_calls w w refl) (ap (λ (y : End). y.role) same) (ap (λ (y : End). y.session_ids) same);
   world = w;
-  joined = rw (all_same accs d n m h.moved.deed.node_is h.moved.deed.move_is still, same, ends_same ends n e h.here) h.joined;
+  joined = rw (all_same accs d n m h.moved.deed.node_is h.moved.deed.move_is (else_none m is) still, same, ends_same ends n e h.here) h.joined;
 }
 
 -- of a tunnel no more is seen than its state
@@ -416,6 +420,7 @@ state_still w n i a t u state h = record {
   entered = h.entered;
   sent = h.sent;
   taken = h.taken;
+  refused = h.refused;
   asks = h.asks;
 }
 
@@ -431,6 +436,7 @@ tunnel_same w y = record {
   entered = refl;
   sent = refl;
   taken = refl;
+  refused = refl;
   asks = λ z. refl;
 }
 
@@ -439,7 +445,7 @@ channel_follows accs ends w n e x sender moment ev m d h is still t u there call
     let i = about m in
     let ok = h.moved.within.accounts n i in
     let fits = ok.id (live_made accs n i (accs n i) t (h.moved.within.end.live i t there)) in
-    let same = all_still accs d n m h.moved.deed.node_is h.moved.deed.move_is still n i in
+    let same = all_still accs d n m h.moved.deed.node_is h.moved.deed.move_is (else_none m is) still n i in
     tunnel_moves_follow accs ends w n e x sender moment ev m d h is w u (record {
       id = fits;
       put_is = put_is;

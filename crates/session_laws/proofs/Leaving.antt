@@ -23,7 +23,7 @@ use Rattle.session_laws.specs.Names.{name}
 use Rattle.session_laws.specs.Joined.{FitsRole, Ends, TunnelJoined, HasNoCall, CallsJoined}
 use Rattle.session_laws.proofs.Births.{BirthsSame, IsElse, else_follow}
 use Rattle.session_laws.proofs.Keeps.{with_end, IsMade, Follows}
-use Rattle.session_laws.proofs.Entering.{after_elsewhere}
+use Rattle.session_laws.proofs.Entering.{else_none, after_elsewhere}
 use Rattle.session_laws.proofs.Names.{other_id}
 use Rattle.session_laws.proofs.Ground.{TunnelStays, CallStays, one_step, call_still, joined_before, ids_now, moves_on_follow}
 use Rattle.session_laws.proofs.Letters.{LettersMove}
@@ -42,6 +42,7 @@ leaves_elsewhere w x p y other = record {
   entered = refl;
   sent = refl;
   taken = refl;
+  refused = refl;
   asks = λ z. refl;
 }
 
@@ -69,6 +70,7 @@ leaves_letters w v x p more took g = record {
   entered = g.entered;
   sent = g.sent;
   taken = g.taken;
+  refused = g.refused;
   asks = g.asks;
 }
 
@@ -197,9 +199,10 @@ module _ (accs : Accounts) (ends : Ends) (w : World) (n : ℕ) (e x : End) (send
   left_follows is left leave g =
       let before = joined_before accs ends w n e x sender moment ev m d h in
       let peers = λ (j : ℕ) (other : j ≡ i → ⊥). ap (λ (a : Account). a.peer)
-      (after_elsewhere accs d n m h.moved.deed.node_is h.moved.deed.move_is n j (λ both. other both.1)) in
+      (after_elsewhere accs d n m h.moved.deed.node_is h.moved.deed.move_is (else_none m is) n j (λ both. other both.1)) in
       moves_on_follow accs ends w n e x sender moment ev m d h v (record {
         id = before.ids i t left.there;
+        declines = else_none m is;
         elsewhere = left.elsewhere;
         tunnels = g.tunnels;
         tunnel = g.tunnel;

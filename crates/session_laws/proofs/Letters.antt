@@ -26,6 +26,7 @@ stays_on w v u y g h = record {
   entered = h.entered ∙ g.entered;
   sent = h.sent ∙ g.sent;
   taken = h.taken ∙ g.taken;
+  refused = h.refused ∙ g.refused;
   asks = λ z. h.asks z ∙ g.asks z;
 }
 
@@ -42,6 +43,7 @@ given_elsewhere w x l y other = record {
   entered = refl;
   sent = rw (ne_eqb y x other) refl;
   taken = refl;
+  refused = refl;
   asks = λ z. refl;
 }
 
@@ -58,6 +60,7 @@ taken_elsewhere w x y other = record {
   entered = refl;
   sent = refl;
   taken = rw (ne_eqb y x other) refl;
+  refused = refl;
   asks = λ z. refl;
 }
 
@@ -73,6 +76,7 @@ calls_elsewhere w c y asks = record {
   entered = refl;
   sent = refl;
   taken = refl;
+  refused = refl;
   asks = asks;
 }
 
@@ -85,6 +89,10 @@ given_sent w x l now = rw (now, eq-eqb x x refl) refl
 pub given_taken : (w : World) (x : ℕ) (l : Letter) (y : ℕ) → (gives w x l).channels.taken y 0 ≡ w.channels.taken y 0
 unfolding gives puts
 given_taken w x l y = refl
+
+pub given_refused : (w : World) (x : ℕ) (l : Letter) (y : ℕ) → (gives w x l).channels.refused y ≡ w.channels.refused y
+unfolding gives puts
+given_refused w x l y = refl
 
 pub given_tunnels : (w : World) (x : ℕ) (l : Letter) → (gives w x l).tunnels ≡ w.tunnels
 unfolding gives
@@ -105,6 +113,10 @@ pub took_sent : (w : World) (x y : ℕ) → (took_one w x).channels.sent y 0 ≡
 unfolding took_one counts
 took_sent w x y = refl
 
+pub took_refused : (w : World) (x y : ℕ) → (took_one w x).channels.refused y ≡ w.channels.refused y
+unfolding took_one counts
+took_refused w x y = refl
+
 pub took_tunnels : (w : World) (x : ℕ) → (took_one w x).tunnels ≡ w.tunnels
 unfolding took_one
 took_tunnels w x = refl
@@ -124,6 +136,7 @@ pub record LettersMove (w v : World) (x : ℕ) (more : List Letter) (took : ℕ)
   pub entered : v.tunnels.entered x ≡ w.tunnels.entered x
   pub sent : v.channels.sent x 0 ≡ w.channels.sent x 0 ++ more
   pub taken : v.channels.taken x 0 ≡ took + w.channels.taken x 0
+  pub refused : v.channels.refused x ≡ w.channels.refused x
   pub asks : (z : ℕ) → v.calls.asks x z ≡ w.calls.asks x z
 
 -- nothing is given, and nothing taken
@@ -136,6 +149,7 @@ no_letters w x = record {
   entered = refl;
   sent = sym (append-nil (w.channels.sent x 0));
   taken = omega arith;
+  refused = refl;
   asks = λ z. refl;
 }
 
@@ -145,6 +159,7 @@ pub record AccountMoves (a b : Account) (more : List step.Letter) (took : ℕ) :
   pub peer : b.peer ≡ a.peer
   pub given : b.given ≡ a.given ++ more
   pub heeds : heeded b ≡ took + heeded a
+  pub declined : b.declined ≡ a.declined
 
 -- who is learned, and the new state, are told apart
 pub letters_joined : (w v : World) (n i : ℕ) (a b : Account) (more : List step.Letter) (took : ℕ) (o u : Option Tunnel) → TunnelJoined w n i a o
@@ -160,5 +175,6 @@ letters_joined w v n i a b more took o u h g k learned phase = record {
   entered = g.entered ∙ h.entered;
   sent = rw (k.given, k.peer, map-append) (g.sent ∙ ap (λ ls. ls ++ map (letter_of n a.peer) more) h.sent);
   taken = g.taken ∙ ap (λ j. took + j) h.taken ∙ sym k.heeds;
+  refused = g.refused ∙ h.refused ∙ sym k.declined;
   asks = λ z. g.asks z ∙ h.asks z;
 }

@@ -32,6 +32,7 @@ pub mod SecondUp
 pub mod EndingTold
 pub mod EndHeard
 pub mod EndingSilent
+pub mod Declining
 pub mod Closing
 pub mod StopHeard
 pub mod Moves

@@ -26,7 +26,7 @@ use Rattle.session_laws.proofs.Keeps.{with_end, Laws, IsMade, Follows}
 use Rattle.session_laws.proofs.Entering.{after_here, with_given, gives_only}
 use Rattle.session_laws.proofs.Names.{name_some}
 use Rattle.session_laws.proofs.Ground.{TunnelStays, New, one_step, tunnel_before, tunnel_moves_follow}
-use Rattle.session_laws.proofs.Letters.{stays_on, given_elsewhere, given_sent, given_taken}
+use Rattle.session_laws.proofs.Letters.{stays_on, given_elsewhere, given_sent, given_taken, given_refused}
 use Rattle.session_laws.proofs.Drawing.{id_some, id_fits, no_account_yet, no_tunnel_yet}
 
 -- ---- what the machine does
@@ -51,6 +51,7 @@ opened_elsewhere w n m x y other = record {
   entered = refl;
   sent = refl;
   taken = refl;
+  refused = refl;
   asks = λ z. refl;
 }
 
@@ -69,7 +70,7 @@ opens_calls w n m x = refl
 
 -- the first letter of an opener
 abbrev as_opener : ℕ → step_laws.Letter → Account
-as_opener peer first = record { part = Opener; peer = peer; remote = 0; given = first ∷ []; taken = []; closed = None }
+as_opener peer first = record { part = Opener; peer = peer; remote = 0; given = first ∷ []; taken = []; closed = None; declined = false }
 
 opens_here : (w : World) (n i m : ℕ) (first : step_laws.Letter) (o : Option Tunnel) (u : Tunnel) → TunnelJoined w n i no_account o
     → letter_of n m first ≡ letter.Sccrq → phase_of u.control.state ≡ WaitReply
@@ -86,6 +87,7 @@ opens_here w n i m first o u h says waits = record {
   sent = given_sent (with_opened w n m (name n i)) (name n i) letter.Sccrq h.entered
       ∙ ap (λ ls. ls ++ letter.Sccrq ∷ []) h.sent ∙ ap (λ l. l ∷ []) (sym says);
   taken = given_taken (with_opened w n m (name n i)) (name n i) letter.Sccrq (name n i) ∙ h.taken;
+  refused = given_refused (with_opened w n m (name n i)) (name n i) letter.Sccrq (name n i) ∙ h.refused;
   asks = h.asks;
 }
 
@@ -110,7 +112,7 @@ module _ (laws : Laws) (accs : Accounts) (ends : Ends) (w : World) (n : ℕ) (e 
   none = no_account_yet accs n e sender ev h.moved.within i h.moved.does.drawn
 
   is : after accs d n i ≡ b
-  is = after_here accs d n (move.Opened m) h.moved.deed.node_is h.moved.deed.move_is
+  is = after_here accs d n (move.Opened m) h.moved.deed.node_is h.moved.deed.move_is (λ k j. refl)
       ∙ gives_only d n e.role sender (move.Opened m) (record (accs n i) { part = Opener; peer = peer }) h.moved.deed
       ∙ ap (λ (a : Account). with_given (first ∷ []) (record a { part = Opener; peer = peer })) none
 

@@ -34,7 +34,7 @@ use Rattle.session_laws.specs.Joined.{Ends, CallsJoined, NodeJoined, TunnelJoine
 use Rattle.session_laws.proofs.Births.{BirthsSame, else_follow}
 use Rattle.session_laws.proofs.Keeps.{with_end, Laws, IsMade, Follows}
 use Rattle.session_laws.proofs.Names.{same_name, name_not_zero, known_name}
-use Rattle.session_laws.proofs.Entering.{after_here, with_taken, taken_as, takes_only}
+use Rattle.session_laws.proofs.Entering.{either_way, after_here, with_taken, taken_as, takes_only}
 use Rattle.session_laws.proofs.States.{is_shut, heeds_none}
 use Rattle.session_laws.proofs.Ground.{Old, no_step, tunnel_same, joined_before, tunnel_moves_follow}
 use Rattle.session_laws.proofs.Letters.{no_letters, letters_joined}
@@ -66,10 +66,6 @@ ignored w x s l h = record {
 }
 
 -- ---- letters of tunnels
-
-either_way : {X : Type 0} (b : Bool) (x : X) → cond b x x ≡ x
-either_way true x = refl
-either_way false x = refl
 
 no_wait_reply : (s : TunnelState) → (state_number s ≡ 1 → ⊥) → is_wait_reply (phase_of s) ≡ false
 no_wait_reply tunnel.Idle other = refl
@@ -414,7 +410,7 @@ module _ (laws : Laws) (accs : Accounts) (ends : Ends) (w : World) (n : ℕ) (e 
 
     heeded_follows : Follows w n e x (move.TookPlain m) (after accs d) (with_end ends n x)
     heeded_follows =
-        no_call_follows accs ends w n e x sender moment ev (move.TookPlain m) d h v t u
+        no_call_follows accs ends w n e x sender moment ev (move.TookPlain m) d h (λ k j. refl) v t u
         (else_follow w v n e x (move.TookPlain m) tt takes_it.births (ap (λ (y : End). y.role) h.moved.does.after)
         (ap (λ (y : End). y.session_ids) h.moved.does.after))
         (record {
@@ -426,10 +422,10 @@ module _ (laws : Laws) (accs : Accounts) (ends : Ends) (w : World) (n : ℕ) (e 
           waits = λ one. one;
           calls = takes_it.same;
         })
-        (speaks_goes accs ends w n e x sender moment ev (move.TookPlain m) d h v t u h.moved.does.there [] 1
+        (speaks_goes accs ends w n e x sender moment ev (move.TookPlain m) d h (λ k j. refl) v t u h.moved.does.there [] 1
         (calls_and_take w Y takes_it.calls old.entered takes_it.asks)
         (hears_one d n e.role sender (move.TookPlain m) m.taken (accs n m.tunnel) (after accs d n m.tunnel) h.moved.deed del.is_open
-        (account_is accs ends w n e x sender moment ev (move.TookPlain m) d h v t u h.moved.does.there))
+        (account_is accs ends w n e x sender moment ev (move.TookPlain m) d h (λ k j. refl) v t u h.moved.does.there))
         refl (Delivers Y S 0 (length (accs n m.tunnel).taken) 0) (del.is 0 ∙ takes_it.is))
 
   -- ---- in a closed tunnel, where the machine does nothing
@@ -441,13 +437,13 @@ module _ (laws : Laws) (accs : Accounts) (ends : Ends) (w : World) (n : ℕ) (e 
   b = with_taken tk [] (accs n m.tunnel)
 
   is_b : after accs d n m.tunnel ≡ b
-  is_b = after_here accs d n (move.TookPlain m) h.moved.deed.node_is h.moved.deed.move_is
+  is_b = after_here accs d n (move.TookPlain m) h.moved.deed.node_is h.moved.deed.move_is (λ k j. refl)
       ∙ takes_only d n e.role sender (move.TookPlain m) m.taken (accs n m.tunnel) h.moved.deed
 
   tunnel_still : IsClosed (accs n m.tunnel) → TunnelJoined w n m.tunnel b (Some u)
   tunnel_still closed =
       letters_joined w w n m.tunnel (accs n m.tunnel) b [] 0 (Some t) (Some u) old (no_letters w Y)
-      (record { part = refl; peer = refl; given = refl; heeds = heeds_none tk [] (accs n m.tunnel) closed ∙ (omega arith) })
+      (record { part = refl; peer = refl; given = refl; heeds = heeds_none tk [] (accs n m.tunnel) closed ∙ (omega arith); declined = refl })
       old.learned old.phase
 
   ignored_follows : is_closed t.control.state ≡ true → Follows w n e x (move.TookPlain m) (after accs d) (with_end ends n x)

@@ -184,7 +184,7 @@ module _ (laws : Laws) (accs : Accounts) (ends : Ends) (w : World) (n : ℕ) (e 
 
   pub refused_follows : Follows w n e x (move.Refused m) (after accs d) (with_end ends n x)
   refused_follows =
-      no_call_follows accs ends w n e x sender moment ev (move.Refused m) d h v t u
+      no_call_follows accs ends w n e x sender moment ev (move.Refused m) d h (λ k j. refl) v t u
       (else_follow w v n e x (move.Refused m) tt (refused_births w X own) (ap (λ (y : End). y.role) h.moved.does.after)
       (ap (λ (y : End). y.session_ids) h.moved.does.after))
       (record {
@@ -196,10 +196,10 @@ module _ (laws : Laws) (accs : Accounts) (ends : Ends) (w : World) (n : ℕ) (e 
         waits = λ one. one;
         calls = λ k q kfits qfits. refused_same w X own (name k q);
       })
-      (speaks_goes accs ends w n e x sender moment ev (move.Refused m) d h v t u h.moved.does.there
+      (speaks_goes accs ends w n e x sender moment ev (move.Refused m) d h (λ k j. refl) v t u h.moved.does.there
       (letters_of e.role (config_of n 0) (move.Refused m)) 1
       (rw named (calls_take_and_give w X w.calls (letter.Cdn 0 own) old.entered (λ y k. refl)))
       (hears_and_says d n e.role sender (move.Refused m) m.taken (accs n i) (after accs d n i) h.moved.deed del.is_open
-      (account_is accs ends w n e x sender moment ev (move.Refused m) d h v t u h.moved.does.there))
+      (account_is accs ends w n e x sender moment ev (move.Refused m) d h (λ k j. refl) v t u h.moved.does.there))
       refl (Delivers X S 0 (length (accs n i).taken) own)
       (del.is own ∙ takes_refused w X S own (old.phase ∙ open_phase t.control.state h.moved.does.open_is) (name_some del.from.node m.remote known) drawn))

@@ -205,7 +205,7 @@ module _ (laws : Laws) (accs : Accounts) (ends : Ends) (w : World) (n : ℕ) (e 
 
   pub replied_follows : Follows w n e x (move.Replied m) (after accs d) (with_end ends n x)
   replied_follows =
-      let is = account_is accs ends w n e x sender moment ev (move.Replied m) d h v t u h.moved.does.there in
+      let is = account_is accs ends w n e x sender moment ev (move.Replied m) d h (λ k j. refl) v t u h.moved.does.there in
       let one : OneCall w v n i (accs n i).peer e x t u s = record {
         there = h.moved.does.there;
         put_is = ap (λ (y : End). y.tunnels) h.moved.does.after;
@@ -226,9 +226,9 @@ module _ (laws : Laws) (accs : Accounts) (ends : Ends) (w : World) (n : ℕ) (e 
         );
       } in
       let speaks = hears_and_says d n e.role sender (move.Replied m) m.taken (accs n i) (after accs d n i) h.moved.deed del.is_open is in
-      one_call_follows accs ends w n e x sender moment ev (move.Replied m) d h v t u s births
+      one_call_follows accs ends w n e x sender moment ev (move.Replied m) d h (λ k j. refl) v t u s births
       (subst (λ p. OneCall w v n i p e x t u s) (sym speaks.moves.peer) one)
-      (speaks_goes accs ends w n e x sender moment ev (move.Replied m) d h v t u h.moved.does.there
+      (speaks_goes accs ends w n e x sender moment ev (move.Replied m) d h (λ k j. refl) v t u h.moved.does.there
       (letters_of e.role (config_of n 0) (move.Replied m)) 1
       (rw del.node (calls_take_and_give w X (with_reply w X Z own) (Reply Z own) old.entered (reply_asks w X Z own)))
       speaks refl (Delivers X S 0 (length (accs n i).taken) Z)

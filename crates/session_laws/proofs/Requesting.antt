@@ -123,10 +123,10 @@ module _ (laws : Laws) (accs : Accounts) (ends : Ends) (w : World) (n : ℕ) (e 
 
   says : AccountSpeaks (accs n i) (after accs d n i) (letters_of e.role (config_of n 0) (move.Requested m)) 0
   says = says_one d n e.role sender (move.Requested m) (accs n i) (after accs d n i) h.moved.deed
-      (account_is accs ends w n e x sender moment ev (move.Requested m) d h v t u h.moved.does.there)
+      (account_is accs ends w n e x sender moment ev (move.Requested m) d h (λ k j. refl) v t u h.moved.does.there)
 
   goes : TunnelGoes accs (after accs d) w v n i u
-  goes = speaks_goes accs ends w n e x sender moment ev (move.Requested m) d h v t u h.moved.does.there
+  goes = speaks_goes accs ends w n e x sender moment ev (move.Requested m) d h (λ k j. refl) v t u h.moved.does.there
       (letters_of e.role (config_of n 0) (move.Requested m)) 0 speaks says refl (Asks Z) does
 
   sessions : x.session_ids ≡ e.session_ids
@@ -163,5 +163,5 @@ module _ (laws : Laws) (accs : Accounts) (ends : Ends) (w : World) (n : ℕ) (e 
   }
 
   pub requested_follows : Follows w n e x (move.Requested m) (after accs d) (with_end ends n x)
-  requested_follows = one_call_follows accs ends w n e x sender moment ev (move.Requested m) d h v t u s
+  requested_follows = one_call_follows accs ends w n e x sender moment ev (move.Requested m) d h (λ k j. refl) v t u s
       (else_follow w v n e x (move.Requested m) tt (asked_births w X Z) role sessions) one goes

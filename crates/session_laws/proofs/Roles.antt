@@ -1,5 +1,5 @@
 -- What tunnels say fits the roles of their ends after each move.
-use Rattle.std.proofs.Common.{◌≡◌, ⊎_elim, ℕ, zero, suc, List, [], ◌∷◌, ◌++◌, length, slice_get, refl, sym, ap, ◌∙◌, subst, append-nil, Option, Some, None, arith}
+use Rattle.std.proofs.Common.{◌≡◌, ⊎_elim, ℕ, zero, suc, true, List, [], ◌∷◌, ◌++◌, length, slice_get, refl, sym, ap, ◌∙◌, subst, append-nil, Option, Some, None, arith}
 use Rattle.std.specs.List.{AllByRecursion}
 use Rattle.id_table.specs.Ids.{at}
 use Rattle.id_table.specs.Order.{same_or_not}
@@ -18,13 +18,13 @@ use Rattle.protocol_model.specs.World.{Sender, Deed, config_of}
 use Rattle.step_laws.specs.Letters.{Letter, letters_of}
 use Rattle.step_laws.specs.Moves.{Does}
 use Rattle.epoch_machine.specs.Worlds as machine
-use Rattle.connection_laws.specs.Accounts.{Part, Unmade, Opener, Acceptor, Taken, Account, about, entered_by, takes_at, gives_also}
+use Rattle.connection_laws.specs.Accounts.{Part, Unmade, Opener, Acceptor, Taken, Account, about, entered_by, takes_at, gives_also, declined_in}
 use Rattle.connection_laws.specs.Facts.{Accounts, IsInState, LiveOk}
 use Rattle.connection_laws.specs.Steps.{after, IsDeed}
 use Rattle.session_laws.specs.Roles.{TookReply, Says, FitsEnd, IsOfEnd, FitEnds}
 use Rattle.session_laws.specs.Joined.{Ends}
 use Rattle.session_laws.proofs.Keeps.{with_end, IsMade}
-use Rattle.session_laws.proofs.Entering.{here_or_not, after_here, after_elsewhere, with_here, with_there, with_taken, with_given, taken_as, takes_only, takes_and_gives, gives_only, got_last}
+use Rattle.session_laws.proofs.Entering.{here_or_not, DeclinesNone, after_here, after_elsewhere, with_here, with_there, with_taken, with_given, taken_as, takes_only, takes_and_gives, gives_only, got_last}
 use Rattle.session_laws.proofs.CallRows.{request_role, reply_role, first_role}
 use Rattle.frame_laws.proofs.Facts.{all_map, all_at}
 
@@ -99,6 +99,12 @@ module _ (r : Role) (a : Account) (h : FitsEnd r a) where
       both_fit says = subst (FitsEnd r) (sym (takes_and_gives d n r sender m place b deed))
           (fits_more (with_taken tk more b) more (tk ∷ []) (ap (λ ls. ls ++ more) given) (ap (λ ts. ts ++ tk ∷ []) taken) opens says)
 
+-- an opener is declined
+pub declined_fits : (o : Option End) (a : Account) → a.part ≡ Opener → IsOfEnd o a → IsOfEnd o (declined_in true a)
+declined_fits None a opener h = absurd cc
+declined_fits (Some e) a opener h =
+    fits_more e.role a h (declined_in true a) [] [] (sym (append-nil a.given)) (sym (append-nil a.taken)) h.opens tt
+
 pub lac_not_lns : (r : Role) → r ≡ Lac → r ≡ Lns → ⊥
 lac_not_lns r lac lns = let no : Lac ≡ Lns = sym lac ∙ lns in cc
 
@@ -166,6 +172,7 @@ module _ (accs : Accounts) (n : ℕ) (e x : End) (sender : Option Sender) (momen
   entered_fits (move.EndTold m) deed does h live = given_fits e.role _ h d n sender (move.EndTold m) deed _ refl refl h.opens (tt, tt)
   entered_fits (move.EndHeard m) deed does h live = taken_fits e.role _ h d n sender (move.EndHeard m) deed _ refl refl h.opens m.taken
   entered_fits (move.EndSilent m) deed does h live = h
+  entered_fits (move.Declined m) deed does h live = h
   entered_fits (move.Closed m) deed does h live = given_fits e.role _ h d n sender (move.Closed m) deed _ refl refl h.opens (tt, tt)
   entered_fits (move.ClosedBy m) deed does h live = taken_fits e.role _ h d n sender (move.ClosedBy m) deed _ refl refl h.opens m.taken
   entered_fits (move.Cleared i) deed does h live = h
@@ -190,18 +197,18 @@ module _ (accs : Accounts) (ends : Ends) (w : machine.World) (n : ℕ) (e x : En
   of_node : x.role ≡ e.role → (i : ℕ) → FitsEnd e.role (after accs d n i) → IsOfEnd (with_end ends n x n) (after accs d n i)
   of_node role i f = subst (λ o. IsOfEnd o (after accs d n i)) (sym (with_here ends n x)) (rw role f)
 
-  pub fit_on : x.role ≡ e.role → FitEnds (after accs d) (with_end ends n x)
-  fit_on role k j = ⊎_elim
+  pub fit_on : DeclinesNone m → x.role ≡ e.role → FitEnds (after accs d) (with_end ends n x)
+  fit_on none role k j = ⊎_elim
       (λ (p : (k ≡ n) × (j ≡ about m)).
       rw (p.0, p.1) (of_node role (about m)
-      (subst (FitsEnd e.role) (sym (after_here accs d n m h.moved.deed.node_is h.moved.deed.move_is))
+      (subst (FitsEnd e.role) (sym (after_here accs d n m h.moved.deed.node_is h.moved.deed.move_is none))
       (entered_fits accs n e x sender moment ev d m h.moved.deed h.moved.does (fits_before (about m)) (h.moved.within.end.live (about m))))))
       (λ (apart : (k ≡ n) × (j ≡ about m) → ⊥). elsewhere apart)
       (here_or_not k n j (about m))
     where
       elsewhere : ((k ≡ n) × (j ≡ about m) → ⊥) → IsOfEnd (with_end ends n x k) (after accs d k j)
       elsewhere apart =
-          subst (IsOfEnd (with_end ends n x k)) (sym (after_elsewhere accs d n m h.moved.deed.node_is h.moved.deed.move_is k j apart))
+          subst (IsOfEnd (with_end ends n x k)) (sym (after_elsewhere accs d n m h.moved.deed.node_is h.moved.deed.move_is none k j apart))
           (⊎_elim
           (λ (p : k ≡ n). subst (λ q. IsOfEnd (with_end ends n x q) (accs q j)) (sym p)
           (subst (λ o. IsOfEnd o (accs n j)) (sym (with_here ends n x)) (rw role (fits_before j))))

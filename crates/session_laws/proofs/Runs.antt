@@ -367,6 +367,7 @@ at_first = record {
           entered = refl;
           sent = refl;
           taken = refl;
+          refused = refl;
           asks = λ z. refl;
         }));
     nodes = λ n a. subst (λ (o : Option End). NodeJoined machine.empty_world (account_of []) n o) (sym (no_ends n)) (λ s fits. (refl, refl));

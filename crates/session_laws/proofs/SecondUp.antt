@@ -131,7 +131,7 @@ module _ (laws : Laws) (accs : Accounts) (ends : Ends) (w : World) (n : ℕ) (e 
 
   pub second_up_follows : Follows w n e x (move.SecondUp m) (after accs d) (with_end ends n x)
   second_up_follows =
-      let is = account_is accs ends w n e x sender moment ev (move.SecondUp m) d h v t u h.moved.does.there in
+      let is = account_is accs ends w n e x sender moment ev (move.SecondUp m) d h (λ k j. refl) v t u h.moved.does.there in
       let one : OneCall w v n i (accs n i).peer e x t u s = record {
         there = h.moved.does.there;
         put_is = ap (λ (y : End). y.tunnels) h.moved.does.after;
@@ -152,10 +152,10 @@ module _ (laws : Laws) (accs : Accounts) (ends : Ends) (w : World) (n : ℕ) (e 
         );
       } in
       let speaks = hears_one d n e.role sender (move.SecondUp m) m.taken (accs n i) (after accs d n i) h.moved.deed del.is_open is in
-      one_call_follows accs ends w n e x sender moment ev (move.SecondUp m) d h v t u s
+      one_call_follows accs ends w n e x sender moment ev (move.SecondUp m) d h (λ k j. refl) v t u s
       (else_follow w v n e x (move.SecondUp m) tt (second_births w X Z) role_is next)
       (subst (λ p. OneCall w v n i p e x t u s) (sym speaks.moves.peer) one)
-      (speaks_goes accs ends w n e x sender moment ev (move.SecondUp m) d h v t u h.moved.does.there [] 1
+      (speaks_goes accs ends w n e x sender moment ev (move.SecondUp m) d h (λ k j. refl) v t u h.moved.does.there [] 1
       (calls_and_take w X (is_second_up w.calls Z) old.entered (second_asks w Z))
       speaks refl (Delivers X S 0 (length (accs n i).taken) 0)
       (del.is 0

@@ -3,7 +3,7 @@
 #![tactic(auto)]
 
 ghost use Rattle.birth_laws.specs.Births as births;
-ghost use Rattle.connection_laws.specs.Steps.{ClosingsAreKnown, LettersAreHeard, LinesGoOn, MovesKeep, NextIsHeard, NoneIsFaulty, OpeningsAreAcceptable, PlainIsHeard, RunsBegin, StopIsHeard};
+ghost use Rattle.connection_laws.specs.Steps.{ClosingsAreKnown, DeclinesAreOfOpenings, LettersAreHeard, LinesGoOn, MovesKeep, NextIsHeard, NoneIsFaulty, OpeningsAreAcceptable, PlainIsHeard, RunsBegin, StopIsHeard};
 ghost use Rattle.coverage_laws.specs.Coverage as coverage;
 ghost use Rattle.session_laws.specs.Sessions.{JoinedInRuns, SessionsOfRuns};
 
@@ -15,6 +15,7 @@ fn laws_below()
     ensures letters { LettersAreHeard }
     ensures stop { StopIsHeard }
     ensures known { ClosingsAreKnown }
+    ensures openings { DeclinesAreOfOpenings }
     ensures acceptable { OpeningsAreAcceptable }
     ensures sound { NoneIsFaulty }
     ensures lines { LinesGoOn }
@@ -29,8 +30,9 @@ fn laws_below()
 
 /// After every list of fewer than 2^47 lines of the grammar, the ends of the nodes are joined with a run of the abstract
 /// machine: each tunnel and each call has its name there, with its phase or state, the other end that it has learned, the
-/// letters given and how many were taken before it was closed; and a tunnel says only what the role of its end allows. Each
-/// session has its birth there, and the mate that its node knows, whether its call lives or not, and as many births are counted.
+/// letters given, how many were taken before it was closed, and whether its SCCRQ was declined; and a tunnel says only what the
+/// role of its end allows. Each session has its birth there, and the mate that its node knows, whether its call lives or not, and
+/// as many births are counted.
 pub fn runs_are_joined()
     ensures { JoinedInRuns }
 {

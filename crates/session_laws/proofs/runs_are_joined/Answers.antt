@@ -12,6 +12,7 @@ returns c =
       letters = below.letters;
       stop = below.stop;
       known = below.known;
+      openings = below.openings;
       acceptable = below.acceptable;
       sound = below.sound;
       births = below.births;
