@@ -1,7 +1,6 @@
 //! Openings that are declined (RFC 2661 section 7.2.1), by a StopCCN of no tunnel of this end's.
 
-ghost use Rattle.std.specs.Prelude.{◌≡◌, ◌+◌, unwrap_or, IfOk};
-ghost use Rattle.recv_window.specs.Window.{on_wire};
+ghost use Rattle.std.specs.Prelude.{◌≡◌, IfOk};
 ghost use Rattle.protocol_model.specs.End.{against_opening, against_said, against_body, declined, next_of_peer};
 ghost use Rattle.end_core.specs.Gives.{GivesStep};
 
