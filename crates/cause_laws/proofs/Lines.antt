@@ -18,13 +18,12 @@ use Rattle.protocol_model.specs.declared.tunnel.Role.{Role}
 use Rattle.protocol_model.specs.declared.tunnel.Role.TheVariants as role
 use Rattle.protocol_model.specs.Names.{address_of}
 use Rattle.protocol_model.specs.End.{new_end, step}
-use Rattle.step_laws.specs.Lines.{tested_not, is_lac_at, is_lns_at, is_declared, has_call}
+use Rattle.step_laws.specs.Lines.{tested_not, is_lac_at, is_lns_at, is_declared, has_call, has_tunnel}
 use Rattle.protocol_model.specs.World.{World, Node, Sender, Lined, quiet_line, with_node, after_step, given, entries_of, entry_of, shown, moved_all, sent, declared, lac_at, lns_at, with_call, with_tunnel, later, config_of, added, block_of, stepped, addressee_of, arrival, refused_by, sender_of, arrives, delivers_it, delivers, line}
 use Rattle.step_laws.specs.Letters.{Among}
 use Rattle.step_laws.specs.Steps.{AreKept}
 use Rattle.step_laws.specs.Room.{StepsRefuseTruly}
 use Rattle.step_laws.specs.Causes.{CausesStand}
-use Rattle.frame_laws.proofs.Lines.{has_tunnel}
 use Rattle.cause_laws.specs.Causes.{Brings, moment_of, CauseIsTrue, IsFullAt, IsTrue, TellsTruly}
 
 -- ---- the outputs of a step, and the entries that they make

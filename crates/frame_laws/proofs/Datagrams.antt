@@ -1,18 +1,25 @@
 -- What the bytes of a datagram that an end sends are read as.
-use Rattle.std.proofs.Common.{◌≡◌, ℕ, ◌<◌, ◌≤◌, true, List, [], length, refl, sym, ap, ◌∙◌, Some, None, Ok, arith}
+use Rattle.std.proofs.Common.{◌≡◌, ◌⊎◌, ⊎_elim, ℕ, ◌<◌, ◌≤◌, Bool, true, false, cond, List, [], length, refl, sym, ap, ◌∙◌, Some, None, Ok, arith}
 use Rattle.std.proofs.lemmas.Bool.{true≢false}
+use Rattle.std.specs.Prelude.{◌==◌}
+use Rattle.wire_base.specs.declared.why.Why.TheVariants as why
 use Rattle.wire_base.specs.declared.cause.Cause.TheVariants as cause
 use Rattle.l2tp_header.specs.declared.header.Header.{Header}
 use Rattle.l2tp_header.specs.Again.{Carries, control_header}
 use Rattle.l2tp_header.specs.Spelling.{control_bytes, data_bytes}
 use Rattle.l2tp_header.specs.Reading.{header_of}
+use Rattle.avp_codec.specs.declared.avp.Avp.{Avp}
 use Rattle.avp_codec.specs.Spelling.{spelling}
 use Rattle.control_message.specs.declared.message.Message.{Message}
+use Rattle.control_message.specs.declared.message.Message.TheVariants.{Sccrq, Sccrp, Scccn, StopCcn, Hello, Ocrq, Ocrp, Occn, Icrq, Icrp, Iccn, Cdn, Wen, Sli}
+use Rattle.control_message.specs.declared.message.Read.TheVariants.{Known}
 use Rattle.control_message.specs.Pairs.{pairs_of, IsWritten}
 use Rattle.control_message.specs.Reading.{message_of, kind_of_pairs}
 use Rattle.recv_window.specs.Window.{on_wire}
 use Rattle.tunnel_fsm.specs.declared.table.TunnelEvent.TheVariants as event
-use Rattle.protocol_model.specs.Reading.{body_of, message_in, pairs_read, message_read, call_fault_in, fault_of_pairs, TunnelFault, tunnel_fault_in, tunnel_fault_of_pairs, closing}
+use Rattle.protocol_model.specs.declared.event.Addressee.{Addressee}
+use Rattle.protocol_model.specs.declared.event.Addressee.TheVariants.{Opens, Stops, Answers, Nobody}
+use Rattle.protocol_model.specs.Reading.{body_of, message_in, pairs_read, message_read, call_fault_in, fault_of_pairs, TunnelFault, tunnel_fault_in, tunnel_fault_of_pairs, closing, at_zero, zero_pairs, zero_read}
 use Rattle.frame_laws.specs.Codecs.{Codecs}
 use Rattle.frame_laws.specs.Past.{Passage}
 use Rattle.frame_laws.proofs.Facts.{Nodes, BytesOk, WasSentInCall, NamesItsCall}
@@ -44,6 +51,43 @@ module _ (codecs : Codecs) where
 
   no_id : (g : TunnelFault) → tunnel_fault_in [] ≡ Some g → g.remote < 65536
   no_id g h = let none = no_pairs in let same : closing event.AdminClose cause.Avp 0 ≡ g = cc in rw (← same) (omega arith)
+
+  -- where it comes to no tunnel, the id that it tells has 16 bits
+  zero_again : (m : Message) → IsWritten m → at_zero (spelling (pairs_of m)) ≡ zero_read (pairs_of m) (Ok (Known m))
+  unfolding at_zero zero_pairs
+  zero_again m w = let both = codecs.message m w in rw (both.0, both.1) refl
+
+  abbrev TellsId : Addressee → ℕ → Type 0
+  TellsId a i = (a ≡ Opens i) ⊎ (a ≡ Answers i)
+
+  zero_fits : (m : Message) (avps : List Avp) → IsWritten m → (i : ℕ) → TellsId (zero_read avps (Ok (Known m))) i → i < 65536
+  unfolding zero_read
+  zero_fits (Sccrq o) avps w i h = ⊎_elim (λ e. let same : o.tunnel ≡ i = cc in rw (← same) w.tunnel) (λ e. absurd cc) h
+  zero_fits (Sccrp o) avps w i h = ⊎_elim (λ e. absurd cc) (λ e. let same : o.tunnel ≡ i = cc in rw (← same) w.tunnel) h
+  zero_fits (StopCcn tunnel code error) avps w i h = by (tunnel == 0) h
+    where
+      by : (none : Bool) → TellsId (cond none (Nobody why.Tunnel) (Stops tunnel)) i → i < 65536
+      by true h = ⊎_elim (λ e. absurd cc) (λ e. absurd cc) h
+      by false h = ⊎_elim (λ e. absurd cc) (λ e. absurd cc) h
+  zero_fits Scccn avps w i h = ⊎_elim (λ e. absurd cc) (λ e. absurd cc) h
+  zero_fits Hello avps w i h = ⊎_elim (λ e. absurd cc) (λ e. absurd cc) h
+  zero_fits (Ocrq own) avps w i h = ⊎_elim (λ e. absurd cc) (λ e. absurd cc) h
+  zero_fits Ocrp avps w i h = ⊎_elim (λ e. absurd cc) (λ e. absurd cc) h
+  zero_fits Occn avps w i h = ⊎_elim (λ e. absurd cc) (λ e. absurd cc) h
+  zero_fits (Icrq own serial calling) avps w i h = ⊎_elim (λ e. absurd cc) (λ e. absurd cc) h
+  zero_fits (Icrp own) avps w i h = ⊎_elim (λ e. absurd cc) (λ e. absurd cc) h
+  zero_fits (Iccn speed framing sequenced) avps w i h = ⊎_elim (λ e. absurd cc) (λ e. absurd cc) h
+  zero_fits (Cdn own code error) avps w i h = ⊎_elim (λ e. absurd cc) (λ e. absurd cc) h
+  zero_fits Wen avps w i h = ⊎_elim (λ e. absurd cc) (λ e. absurd cc) h
+  zero_fits Sli avps w i h = ⊎_elim (λ e. absurd cc) (λ e. absurd cc) h
+
+  -- no pairs tell none
+  none_at_zero : at_zero [] ≡ Nobody why.Tunnel
+  unfolding at_zero zero_pairs zero_read message_of kind_of_pairs
+  none_at_zero = let none = codecs.pairs [] tt in rw none refl
+
+  none_told : (i : ℕ) → TellsId (at_zero []) i → i < 65536
+  none_told i h = let none = none_at_zero in ⊎_elim (λ e. absurd cc) (λ e. absurd cc) h
 
   -- no pairs make no message
   no_message : (m : Message) → message_in [] ≡ Ok m → ⊥
@@ -84,6 +128,10 @@ module _ (codecs : Codecs) where
               let none = no_tunnel_fault_again m w in
               let some : tunnel_fault_in (spelling (pairs_of m)) ≡ Some g = rw (← (control_read (spelling (pairs_of m)) h (codecs.room m w) e).body) f in
               absurd cc;
+          zero = λ h e c i t.
+              let body = (control_read (spelling (pairs_of m)) h (codecs.room m w) e).body in
+              let here : TellsId (at_zero (spelling (pairs_of m))) i = rw (← body) t in
+              zero_fits m (pairs_of m) w i (rw (← zero_again m w) here);
         }
 
     pub alone_ok : (nodes : Nodes) (gs : List Passage) (from to : ℕ) → BytesOk nodes gs from to (control_bytes tunnel session (on_wire ns) (on_wire nr) [])
@@ -93,6 +141,7 @@ module _ (codecs : Codecs) where
           letters = λ h e c x r. absurd (no_message x (rw (← (control_read [] h (omega arith) e).body) r));
           sound = λ h e c. rw (control_read [] h (omega arith) e).body no_fault;
           told = λ h e c g f. no_id g (rw (← (control_read [] h (omega arith) e).body) f);
+          zero = λ h e c i t. none_told i (rw (← (control_read [] h (omega arith) e).body) t);
         }
 
   -- a frame that is for a session
@@ -106,4 +155,5 @@ module _ (codecs : Codecs) where
         letters = λ h e k m r. absurd (true≢false (sym k ∙ ap (λ (x : Header). x.control) (same_header bytes h _ _ c e)));
         sound = λ h e k. absurd (true≢false (sym k ∙ ap (λ (x : Header). x.control) (same_header bytes h _ _ c e)));
         told = λ h e k g f. absurd (true≢false (sym k ∙ ap (λ (x : Header). x.control) (same_header bytes h _ _ c e)));
+        zero = λ h e k i t. absurd (true≢false (sym k ∙ ap (λ (x : Header). x.control) (same_header bytes h _ _ c e)));
       }

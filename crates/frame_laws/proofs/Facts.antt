@@ -118,6 +118,7 @@ bytes_later ns ms g gs hs from to bytes h =
       letters = λ x e c m r. let l = h.letters x e c m r in (l.0, names_later ns ms g from to x.session m l.1);
       sound = h.sound;
       told = h.told;
+      zero = h.zero;
     }
 
 pub packets_later : (ns ms : Nodes) → Grows ns ms → (gs hs : List Passage) (ps : List Packet) → AllByRecursion (PacketOk ns gs) ps

@@ -5,6 +5,7 @@ pub mod Rows
 pub mod Leads
 pub mod Refusing
 pub mod Closing
+pub mod Declining
 pub mod Moves
 pub mod Chains
 pub mod Datagrams

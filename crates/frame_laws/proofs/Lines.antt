@@ -1,5 +1,5 @@
 -- Each line of a schedule.
-use Rattle.std.proofs.Common.{◌≡◌, ⊎_elim, ℕ, ◌+◌, ◌-◌, ◌^◌, ◌<◌, false, List, [], refl, sym, ap, ◌∙◌, subst, Option, Some, None, Result, Ok, Err, arith}
+use Rattle.std.proofs.Common.{◌≡◌, ⊎_elim, ℕ, ◌+◌, ◌-◌, ◌^◌, ◌<◌, false, List, [], refl, sym, ◌∙◌, subst, Option, Some, None, Result, Ok, Err, arith}
 use Rattle.std.proofs.lemmas.Bool.{true≢false}
 use Rattle.std.proofs.lemmas.Option.{none-some}
 use Rattle.std.proofs.lemmas.List.{append-nil}
@@ -21,8 +21,8 @@ use Rattle.protocol_model.specs.declared.tunnel.Role.{Role}
 use Rattle.protocol_model.specs.declared.tunnel.Role.TheVariants as role
 use Rattle.protocol_model.specs.Names.{address_of}
 use Rattle.protocol_model.specs.End.{new_end, step}
-use Rattle.step_laws.specs.Lines.{tested, tested_not, is_lac_at, is_lns_at, is_declared, has_call}
-use Rattle.protocol_model.specs.World.{World, Node, Sender, Lined, quiet_line, with_node, after_step, declared, lac_at, lns_at, with_call, with_tunnel, is_not_closed, later, config_of, added, block_of, stepped, addressee_of, arrival, refused_by, sender_of, arrives, delivers_it, delivers, line}
+use Rattle.step_laws.specs.Lines.{tested_not, is_lac_at, is_lns_at, is_declared, has_call, has_tunnel}
+use Rattle.protocol_model.specs.World.{World, Node, Sender, Lined, quiet_line, with_node, after_step, declared, lac_at, lns_at, with_call, with_tunnel, later, config_of, added, block_of, stepped, addressee_of, arrival, refused_by, sender_of, arrives, delivers_it, delivers, line}
 use Rattle.frame_laws.specs.Codecs.{Codecs}
 use Rattle.frame_laws.specs.Past.{Passage, sent_in, handed_in}
 use Rattle.frame_laws.specs.Reports.{ups_in, told_of}
@@ -31,9 +31,6 @@ use Rattle.frame_laws.proofs.Changes.{birth_there}
 use Rattle.frame_laws.proofs.Births.{Counted}
 use Rattle.frame_laws.proofs.Worlds.{Below, LineGives, EventGives, Counts, Goes, IsReal, StepOk, step_ok}
 
--- ---- which node it is
-
--- by cases on a test
 -- ---- lines
 
 -- what a line leaves
@@ -211,11 +208,6 @@ down_to number n r session frame lns g h = ⊎_elim
     let b : frame ≡ g.frame = cc in
     record { number_is = h.number_is; line_is = rw (h.role_is, lns, h.node_is, a, b) refl })
     h.event_is
-
--- one that has a tunnel which isn't closed
-pub has_tunnel : (i : ℕ) (r : Result Node Why) (node : Node) → with_tunnel i r ≡ Ok node → r ≡ Ok node
-has_tunnel i (Err x) node h = absurd (cc)
-has_tunnel i (Ok x) node h = ap (λ y. Ok y) (tested (is_not_closed (at x.end.tunnels i)) x why.Tunnel node h).1
 
 -- a node of the world, at some moment
 record IsAt (w : World) (n : ℕ) (node : Node) : Type 0 where

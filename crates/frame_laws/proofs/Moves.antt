@@ -81,6 +81,8 @@ opening_written r c local lt some fits =
       window = omega arith;
       window_not_zero = omega arith;
       failover = (omega arith, omega arith);
+      challenge = refl;
+      recovery = refl;
     }
 
 request_written : ((port : ℕ) → length (calling_number port) ≡ 12) → (s port : ℕ) → s < 65536 → IsWritten (request_of s port)
@@ -676,6 +678,7 @@ module _ (digits : (port : ℕ) → length (calling_number port) ≡ 12) (n : �
   does_led moment (move.EndTold m) y h = told_led moment m y h
   does_led moment (move.EndHeard m) y h = heard_led m y h
   does_led moment (move.EndSilent m) y h = silent_led moment m y h
+  does_led moment (move.Declined m) y h = led_same y h.after
   does_led moment (move.Closed m) y h = closed_led moment m y h
   does_led moment (move.ClosedBy m) y h = closed_by_led moment m y h
   does_led moment (move.Cleared i) y h = cleared_led moment i y h

@@ -65,6 +65,7 @@ module _ (line n : ℕ) (r : Role) (sender : Option Sender) (v : World) where
   deeds_told (move.EndTold m ∷ ms) = deeds_told ms
   deeds_told (move.EndHeard m ∷ ms) = deeds_told ms
   deeds_told (move.EndSilent m ∷ ms) = deeds_told ms
+  deeds_told (move.Declined m ∷ ms) = deeds_told ms
   deeds_told (move.Closed m ∷ ms) = deeds_told ms
   deeds_told (move.ClosedBy m ∷ ms) = deeds_told ms
   deeds_told (move.Cleared i ∷ ms) = deeds_told ms

@@ -1,11 +1,13 @@
 -- What a step of a node leaves of the world.
 use Rattle.std.proofs.Common.{◌≡◌, ◌⊎◌, inl, inr, ⊎_elim, ℕ, ◌+◌, ◌-◌, ◌^◌, ◌<◌, ◌≤◌, List, [], ◌∷◌, ◌++◌, refl, sym, ap, ◌∙◌, subst, Option, Some, None, arith, append_assoc}
 use Rattle.std.proofs.lemmas.List.{append-nil}
+use Rattle.std.specs.Prelude.{unwrap_or}
 use Rattle.std.specs.List.{AllByRecursion}
 use Rattle.id_table.specs.Ids.{at}
 use Rattle.id_table.specs.Order.{at_new, at_other, same_or_not}
 use Rattle.l2tp_header.specs.Spelling.{data_bytes}
 use Rattle.control_channel.specs.Numbers.{place_of}
+use Rattle.control_message.specs.declared.message.Message.TheVariants.{StopCcn}
 use Rattle.schedule_text.specs.declared.line.Line.{Line}
 use Rattle.protocol_model.specs.declared.event.Event.{Event}
 use Rattle.protocol_model.specs.declared.event.Event.TheVariants.{Datagram, Ring, Payload, Lower, Hang, OpenTunnel, DropCall, CloseTunnel, Tick}
@@ -19,11 +21,13 @@ use Rattle.protocol_model.specs.declared.out.Origin.TheVariants as origin
 use Rattle.protocol_model.specs.declared.packet.Packet.{Packet}
 use Rattle.protocol_model.specs.declared.tunnel.Role.{Role}
 use Rattle.protocol_model.specs.Names.{address_of, node_of}
+use Rattle.protocol_model.specs.Reading.{body_of}
 use Rattle.protocol_model.specs.Turn.{Tunnel}
 use Rattle.protocol_model.specs.End.{End, Stepped, step}
 use Rattle.protocol_model.specs.World.{World, Node, Sender, Deed, Lined, with_node, moved_all, sent, shown, shown_all, given, after_step}
 use Rattle.step_laws.specs.Letters.{Among, Carries, ALetter, Nothing, AFrame, HasOutput}
-use Rattle.step_laws.specs.Steps.{IsOfMoves, IsChain}
+use Rattle.step_laws.specs.Steps.{IsOfMoves, IsDecline, IsChain}
+use Rattle.step_laws.specs.Codes.{decline_codes_fit}
 use Rattle.frame_laws.specs.Codecs.{Codecs}
 use Rattle.frame_laws.specs.Past.{Passage, sent_in, handed_in}
 use Rattle.frame_laws.specs.Frames.{WasSent, IsCarried, other_end, gives_frame}
@@ -32,6 +36,7 @@ use Rattle.frame_laws.proofs.Changes.{birth_is, role_there, Changed, grows, NoBi
 use Rattle.frame_laws.proofs.Births.{Counted, counted_after}
 use Rattle.frame_laws.proofs.Leads.{Heard, heard_later, At, node_again}
 use Rattle.frame_laws.proofs.Chains.{Ran, ran, same_role}
+use Rattle.frame_laws.proofs.Declining.{declined_fits}
 use Rattle.frame_laws.proofs.Datagrams.{letter_ok, alone_ok, frame_ok}
 use Rattle.frame_laws.specs.Reports.{ups_in, told_of}
 use Rattle.frame_laws.proofs.Ups.{ups_told}
@@ -371,8 +376,22 @@ module _ (codecs : Codecs) (laws : StepLaws) (number : ℕ) (w : World) (gs : Li
         let was_sent = sent_in_call f a (node_of peer) call.remote (ap node_of (same ∙ sym peer_is)) mates in
         rw are (frame_ok codecs v.nodes (gs ++ more) n (node_of peer) tunnel.control.remote call.remote f.frame to.remote k.remote was_sent)
 
+  -- a StopCCN of no tunnel names no call
+  declined_ok : (peer : ℕ) (bytes : List ℕ) (o : Origin) → IsDecline s.moves peer bytes o → BytesOk v.nodes (gs ++ more) n (node_of peer) bytes
+  declined_ok peer bytes o h =
+      let m = h.declined in
+      let d = done_among moment ev old.end s.end s.moves chain.chain (move.Declined m) h.there in
+      let why = d.does.why in
+      let k : IsFrom w gs n m.peer d.does.bytes = subst (IsReal w gs n) d.does.is real in
+      let fits = declined_fits w.nodes gs k.from n d.does.bytes k.bytes_ok d.does.header d.does.read d.does.control d.before m why in
+      let codes = decline_codes_fit d.before (body_of d.does.header d.does.bytes) m why in
+      rw (h.bytes_are, d.does.nr)
+      (letter_ok codecs m.remote 0 0 (unwrap_or d.does.header.ns 0 + 1) fits (omega arith) v.nodes (gs ++ more) n (node_of peer)
+      (StopCcn 0 m.result m.error) (omega arith, codes.0, codes.1) tt)
+
   send_ok : (o : Out) → IsOfMoves s.end s.moves o → SendOk (λ to bytes. BytesOk v.nodes (gs ++ more) n to bytes) o
-  send_ok (Send peer bytes o) h = carries_ok peer h.id h.tunnel h.there h.peer_is bytes o h.carries
+  send_ok (Send peer bytes o) h =
+      ⊎_elim (λ k. carries_ok peer k.id k.tunnel k.there k.peer_is bytes o k.carries) (λ k. declined_ok peer bytes o k) h
   send_ok (Up session side frame) h = tt
   send_ok (Gone session) h = tt
   send_ok (Drop x) h = tt

@@ -16,7 +16,8 @@ use Rattle.protocol_model.specs.declared.tunnel.Role.TheVariants.{Lac, Lns}
 use Rattle.protocol_model.specs.declared.packet.Packet.{Packet}
 use Rattle.protocol_model.specs.Names.{node_of}
 use Rattle.protocol_model.specs.Turn.{Tunnel}
-use Rattle.protocol_model.specs.Reading.{body_of, message_in, call_fault_in, TunnelFault, tunnel_fault_in}
+use Rattle.protocol_model.specs.declared.event.Addressee.TheVariants.{Opens, Answers}
+use Rattle.protocol_model.specs.Reading.{body_of, message_in, call_fault_in, TunnelFault, tunnel_fault_in, at_zero}
 use Rattle.protocol_model.specs.Calls.{frame_of, is_up}
 use Rattle.protocol_model.specs.End.{End}
 use Rattle.step_laws.specs.Letters.{Among}
@@ -107,6 +108,9 @@ pub record BytesOk (ns : Nodes) (gs : List Passage) (from to : ℕ) (bytes : Lis
   pub sound : (h : Header) → header_of bytes ≡ Ok h → h.control ≡ true → call_fault_in (body_of h bytes) ≡ None
   -- one that has another fault tells no tunnel id of more than 16 bits
   pub told : (h : Header) → header_of bytes ≡ Ok h → h.control ≡ true → (g : TunnelFault) → tunnel_fault_in (body_of h bytes) ≡ Some g → g.remote < 65536
+  -- nor does one that would open a tunnel, or answer an opening, where it comes to none
+  pub zero : (h : Header) → header_of bytes ≡ Ok h → h.control ≡ true → (i : ℕ)
+      → (at_zero (body_of h bytes) ≡ Opens i) ⊎ (at_zero (body_of h bytes) ≡ Answers i) → i < 65536
 
 pub record PacketOk (ns : Nodes) (gs : List Passage) (p : Packet) : Type 0 where
   pub from : p.from < 256

@@ -15,10 +15,10 @@ use Rattle.protocol_model.specs.World.{World, Node, Sender, Deed, Lined, quiet_l
 use Rattle.protocol_model.specs.Run.{Run, after_line, run}
 use Rattle.step_laws.specs.Steps.{AreKept, StepsAreChains}
 use Rattle.frame_laws.specs.Facts.{FactsOfRuns}
-use Rattle.connection_laws.specs.Accounts.{Account, no_account, account_from, account_of}
+use Rattle.connection_laws.specs.Accounts.{no_account, account_from, account_of}
 use Rattle.request_laws.specs.Requests.{IsAskedAt, AskedInRuns, IsDrawnAtLac, DrawnAtLacsInRuns}
 use Rattle.request_laws.proofs.Asked.{Asking, IsCall, Known, Ordered, AskOk}
-use Rattle.request_laws.proofs.Deeds.{deeds, deeds_elsewhere, account_from-append}
+use Rattle.request_laws.proofs.Deeds.{KeepsLetters, deeds, deeds_elsewhere, account_from-append}
 use Rattle.request_laws.proofs.Chains.{asks_on}
 use Rattle.request_laws.proofs.Lines.{LineDoes, Nothing, Declares, Steps, fresh_node, step_of, line_does}
 use Rattle.request_laws.proofs.Worlds.{step_done, step_follows, after_moves}
@@ -30,35 +30,56 @@ use Rattle.request_laws.proofs.Runs.{Reached, reached_is, holds_in_runs}
 pub known_more : (ds es : List Deed) (n : ℕ) → account_of (ds ++ es) n ≡ (λ i. account_from es n i (account_of ds n i))
 known_more ds es n = fun_ext (λ i. account_from-append ds es n i no_account)
 
--- nothing more is known of another node's
-pub known_elsewhere : (v : World) (number n : ℕ) (r : Role) (sender : Option Sender) (ds : List Deed) (ms : List Move) (q : ℕ) → (q ≡ n → ⊥)
-    → account_of (ds ++ deeds v number n r sender ms) q ≡ account_of ds q
-known_elsewhere v number n r sender ds ms q other =
-    known_more ds (deeds v number n r sender ms) q ∙ fun_ext (λ i. deeds_elsewhere v number n r sender ms q i (account_of ds q i) other)
+-- no more letters are known of a node's tunnels
+abbrev pub StillKnown : Known → Known → Type 0
+StillKnown known later = (i : ℕ) → KeepsLetters (known i) (later i)
+
+pub still_same : (known later : Known) → later ≡ known → StillKnown known later
+still_same known later same i = rw same (record { given = refl; taken = refl })
+
+-- so it is with another node's
+pub known_elsewhere : (v : World) (number n : ℕ) (r : Role) (sender : Option Sender) (ds es : List Deed) (ms : List Move) → es ≡ deeds v number n r sender ms
+    → (q : ℕ) → (q ≡ n → ⊥) → StillKnown (account_of ds q) (account_of (ds ++ es) q)
+known_elsewhere v number n r sender ds es ms done q other i =
+    rw (done, account_from-append ds (deeds v number n r sender ms) q i no_account) (deeds_elsewhere v number n r sender ms q i (account_of ds q i) other)
 
 -- ---- nodes
 
--- of a node that isn't declared nothing is known
+-- of a node that isn't declared no letter is known
 abbrev pub NodeAsks : List Deed → ℕ → Option Node → Type 0
-NodeAsks ds n None = (i : ℕ) → account_of ds n i ≡ no_account
+NodeAsks ds n None = (i : ℕ) → (account_of ds n i).given ≡ []
 NodeAsks ds n (Some node) = AskOk (account_of ds n) node.end
 
 abbrev pub RunAsks : Run → Type 0
 RunAsks r = (n : ℕ) → NodeAsks r.done n (at r.world.nodes n)
 
+-- letters that ask were there
+ask_still : (known later : Known) → StillKnown known later → (e : End) → AskOk known e → AskOk later e
+ask_still known later same e h =
+    let was : (i k s : ℕ) → Asking (later i).given k s → Asking (known i).given k s = λ i k s a. subst (λ ls. Asking ls k s) (same i).given a in
+    record {
+      order = h.order;
+      first = h.first;
+      drawn = h.drawn;
+      asked = λ i k s a. h.asked i k s (was i k s a);
+      apart = h.apart;
+      waits = λ i s c is asks j k a. h.waits i s c is asks j k (was j k s a);
+      once = λ i k j l s a b. h.once i k j l s (was i k s a) (was j l s b);
+    }
+
 -- the same is known of it
-nodes_ask : (ds es : List Deed) (n : ℕ) (o : Option Node) → account_of es n ≡ account_of ds n → NodeAsks ds n o → NodeAsks es n o
-nodes_ask ds es n None same h = λ i. ap (λ (k : Known). k i) same ∙ h i
-nodes_ask ds es n (Some node) same h = subst (λ (k : Known). AskOk k node.end) (sym same) h
+nodes_ask : (ds es : List Deed) (n : ℕ) (o : Option Node) → StillKnown (account_of ds n) (account_of es n) → NodeAsks ds n o → NodeAsks es n o
+nodes_ask ds es n None same h = λ i. (same i).given ∙ h i
+nodes_ask ds es n (Some node) same h = ask_still (account_of ds n) (account_of es n) same node.end h
 
 no_asking : (k s : ℕ) → Asking [] k s → ⊥
 no_asking k s h = none-some h.letter h.there
 
-nothing_asks : (known : Known) → ((i : ℕ) → known i ≡ no_account) → (i k s : ℕ) → Asking (known i).given k s → ⊥
-nothing_asks known none i k s a = no_asking k s (subst (λ (b : Account). Asking b.given k s) (none i) a)
+nothing_asks : (known : Known) → ((i : ℕ) → (known i).given ≡ []) → (i k s : ℕ) → Asking (known i).given k s → ⊥
+nothing_asks known none i k s a = no_asking k s (subst (λ ls. Asking ls k s) (none i) a)
 
 -- a node that is new
-fresh_asks : (known : Known) → ((i : ℕ) → known i ≡ no_account) → (n : ℕ) (r : Role) (lns : ℕ) → AskOk known (fresh_node n r lns).end
+fresh_asks : (known : Known) → ((i : ℕ) → (known i).given ≡ []) → (n : ℕ) (r : Role) (lns : ℕ) → AskOk known (fresh_node n r lns).end
 fresh_asks known none n r lns =
     let no_call = λ (i s : ℕ) (c : Call) (h : IsCall (fresh_node n r lns).end i s c). none-some h.tunnel (sym (at-none i) ∙ h.there) in
     record {
@@ -81,8 +102,10 @@ pub kept_order : (e : End) → AreKept e → Ordered e
 kept_order e h = record { tunnels = h.order; calls = λ i t f. (h.tunnels i t f).calls }
 
 -- nothing more is known
-pub nothing_done : (ds es : List Deed) → es ≡ [] → (n : ℕ) → account_of (ds ++ es) n ≡ account_of ds n
-nothing_done ds es none n = ap (λ (fs : List Deed). account_of fs n) (ap (λ (fs : List Deed). ds ++ fs) none ∙ append-nil ds)
+pub nothing_done : (ds es : List Deed) → es ≡ [] → (n : ℕ) → StillKnown (account_of ds n) (account_of (ds ++ es) n)
+nothing_done ds es none n =
+    still_same (account_of ds n) (account_of (ds ++ es) n)
+    (ap (λ (fs : List Deed). account_of fs n) (ap (λ (fs : List Deed). ds ++ fs) none ∙ append-nil ds))
 
 module _ (r : Run) (ok : RunAsks r) where
   quiet_asks : (x : Lined) → x ≡ quiet_line r.world → RunAsks (after_line r x)
@@ -98,7 +121,7 @@ module _ (r : Run) (ok : RunAsks r) where
       let done = ap (λ (y : Lined). y.done) e in
       let world = ap (λ (y : Lined). y.world) e in
       let new = fresh_node n role lns in
-      let unknown : (i : ℕ) → account_of r.done n i ≡ no_account = subst (λ o. NodeAsks r.done n o) none (ok n) in
+      let unknown : (i : ℕ) → (account_of r.done n i).given ≡ [] = subst (λ o. NodeAsks r.done n o) none (ok n) in
       subst (λ (w : World). NodeAsks (r.done ++ x.done) q (at w.nodes q)) (sym world)
       (nodes_ask r.done (r.done ++ x.done) q (at (put r.world.nodes n new) q) (nothing_done r.done x.done done q)
       (⊎_elim
@@ -139,7 +162,7 @@ module _ (r : Run) (ok : RunAsks r) where
         let here : NodeAsks (r.done ++ x.done) n (at x.world.nodes n) = rw (f.is, f.end_is) asks_then in
         subst (λ k. NodeAsks (r.done ++ x.done) k (at x.world.nodes k)) (sym a) here)
         (λ other.
-        let same = ap (λ (ds : List Deed). account_of (r.done ++ ds) q) done_is ∙ known_elsewhere v number n old.end.role sender r.done s.moves q other in
+        let same = known_elsewhere v number n old.end.role sender r.done x.done s.moves done_is q other in
         rw (f.others q other) (nodes_ask r.done (r.done ++ x.done) q (at r.world.nodes q) same (ok q)))
         (same_or_not q n)
 

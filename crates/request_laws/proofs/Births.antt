@@ -264,6 +264,7 @@ module _ (v : World) (number n : ℕ) (r : Role) (sender : Option Sender) (momen
   does_born u known x y ok (move.EndTold m) h = still_born u known x y ok (move.EndTold m) h (ap (λ (e : End). e.session_ids) h.after)
   does_born u known x y ok (move.EndHeard m) h = still_born u known x y ok (move.EndHeard m) h (ap (λ (e : End). e.session_ids) h.after)
   does_born u known x y ok (move.EndSilent m) h = still_born u known x y ok (move.EndSilent m) h (ap (λ (e : End). e.session_ids) h.after)
+  does_born u known x y ok (move.Declined m) h = still_born u known x y ok (move.Declined m) h (ap (λ (e : End). e.session_ids) h.after)
   does_born u known x y ok (move.Closed m) h = still_born u known x y ok (move.Closed m) h (ap (λ (e : End). e.session_ids) h.after)
   does_born u known x y ok (move.ClosedBy m) h = still_born u known x y ok (move.ClosedBy m) h (ap (λ (e : End). e.session_ids) h.after)
   does_born u known x y ok (move.Cleared i) h = still_born u known x y ok (move.Cleared i) h (ap (λ (e : End). e.session_ids) h.after)

@@ -33,7 +33,7 @@ use Rattle.request_laws.proofs.Chains.{known_then}
 use Rattle.request_laws.proofs.Lines.{IsFrom, OfNobody, OfPacket, LineDoes, Nothing, Declares, Steps, fresh_node, step_of, line_does}
 use Rattle.request_laws.proofs.Worlds.{step_nodes, step_done, step_follows, before_moves, after_moves}
 use Rattle.request_laws.proofs.Runs.{Reached, reached_is, holds_in_runs}
-use Rattle.request_laws.proofs.AskedRuns.{known_more, known_elsewhere, kept_order, nothing_done, asked_in_runs, drawn_at_lacs_in_runs}
+use Rattle.request_laws.proofs.AskedRuns.{StillKnown, known_more, known_elsewhere, kept_order, nothing_done, asked_in_runs, drawn_at_lacs_in_runs}
 use Rattle.request_laws.proofs.Made.{heeds, taken_request, sent_by_partner, made_once}
 use Rattle.request_laws.proofs.Births.{Drawn, Told, BirthsStay, Tells, tells_later, ComesFrom, BornOk, Bears, born_on, birth_there, put_stays}
 
@@ -46,10 +46,10 @@ NodeTells ns known node = node.end.role ≡ Lns → Tells ns known node.end.sess
 abbrev pub RunTells : Run → Type 0
 RunTells r = (n : ℕ) (node : Node) → at r.world.nodes n ≡ Some node → NodeTells r.world.nodes (account_of r.done n) node
 
-node_tells_later : (ns ms : Nodes) → BirthsStay ns ms → (known later : Known) → later ≡ known → (node : Node)
+node_tells_later : (ns ms : Nodes) → BirthsStay ns ms → (known later : Known) → StillKnown known later → (node : Node)
     → NodeTells ns known node → NodeTells ms later node
 node_tells_later ns ms births known later same node h lns =
-    tells_later ns ms births known later (λ i k t g. rw same g) node.end.session_ids.next node.births (h lns)
+    tells_later ns ms births known later (λ i k t g. rw (same i).taken g) node.end.session_ids.next node.births (h lns)
 
 -- a node that is new has drawn no session id
 fresh_tells : (ns : Nodes) (known : Known) (n : ℕ) (r : Role) (lns : ℕ) → NodeTells ns known (fresh_node n r lns)
@@ -183,7 +183,7 @@ module _ (r : Run) (ok : RunTells r) where
         let end : node.end ≡ s.end = ap (λ (y : Node). y.end) (sym same) ∙ g.end_is in
         subst (λ k. NodeTells v.nodes (account_of (r.done ++ x.done) k) node) (sym a) (mine node (rw (← nodes_are) found) end))
         (λ other.
-        let same = ap (λ (ds : List Deed). account_of (r.done ++ ds) q) done_is ∙ known_elsewhere v number n old.end.role sender r.done s.moves q other in
+        let same = known_elsewhere v number n old.end.role sender r.done x.done s.moves done_is q other in
         node_tells_later r.world.nodes v.nodes stay (account_of r.done q) later same node (ok q node (sym (g.others q other) ∙ f)))
         (same_or_not q n))
 

@@ -1,5 +1,5 @@
 -- What the deeds of a step leave of what is known of each tunnel.
-use Rattle.std.proofs.Common.{◌≡◌, ◌⊎◌, inl, inr, ⊎_elim, ℕ, List, [], ◌∷◌, ◌++◌, length, slice_get, refl, sym, ap, ◌∙◌, subst, Option, Some, eq-eqb, ne_eqb}
+use Rattle.std.proofs.Common.{◌≡◌, ◌⊎◌, inl, inr, ⊎_elim, ℕ, Bool, true, false, List, [], ◌∷◌, ◌++◌, length, slice_get, refl, sym, ap, ◌∙◌, subst, Option, Some, eq-eqb, ne_eqb}
 use Rattle.std.specs.Prelude.{map}
 use Rattle.id_table.specs.Order.{same_or_not}
 use Rattle.control_message.specs.declared.message.Message.TheVariants.{Icrq}
@@ -10,7 +10,7 @@ use Rattle.protocol_model.specs.declared.tunnel.Role.{Role}
 use Rattle.protocol_model.specs.Turn.{request_of}
 use Rattle.protocol_model.specs.World.{World, Sender, Deed, deed_of}
 use Rattle.step_laws.specs.Letters.{Letter}
-use Rattle.connection_laws.specs.Accounts.{Taken, Account, about, entered, after_deed, account_from}
+use Rattle.connection_laws.specs.Accounts.{Taken, Account, about, entered, declines_of, declined_in, after_deed, account_from}
 use Rattle.request_laws.proofs.Lists.{got_left, got_last, got_in}
 use Rattle.request_laws.proofs.Asked.{Asking, Known}
 
@@ -22,6 +22,15 @@ pushed ls l k s a = ⊎_elim
     (λ b. inl (record { letter = a.letter; there = b; serial = a.serial; calling = a.calling; asks = a.asks }))
     (λ (b : (k ≡ length ls) × (l ≡ a.letter)). inr (b.0, (a.serial, a.calling, ap (λ (x : Letter). x.message) b.1 ∙ a.asks)))
     (got_in ls l k a.letter a.there)
+
+-- an account after which the letters are as before: a tunnel whose SCCRQ is declined has the same ones
+pub record KeepsLetters (a b : Account) : Type 0 where
+  pub given : b.given ≡ a.given
+  pub taken : b.taken ≡ a.taken
+
+declined_keeps : (declined : Bool) (a : Account) → KeepsLetters a (declined_in declined a)
+declined_keeps true a = record { given = refl; taken = refl }
+declined_keeps false a = record { given = refl; taken = refl }
 
 -- the move asks for the call of a session
 abbrev pub IsRequest : Move → ℕ → Type 0
@@ -38,6 +47,7 @@ IsRequest (move.Refused m) s = ⊥
 IsRequest (move.EndTold m) s = ⊥
 IsRequest (move.EndHeard m) s = ⊥
 IsRequest (move.EndSilent m) s = ⊥
+IsRequest (move.Declined m) s = ⊥
 IsRequest (move.Closed m) s = ⊥
 IsRequest (move.ClosedBy m) s = ⊥
 IsRequest (move.Cleared i) s = ⊥
@@ -88,6 +98,7 @@ module _ (v : World) (number n : ℕ) (r : Role) (sender : Option Sender) where
   entered_asks (move.EndTold m) a k s h = plain (move.EndTold m) a _ k s (λ serial calling e. absurd (cc)) h
   entered_asks (move.EndHeard m) a k s h = inl h
   entered_asks (move.EndSilent m) a k s h = inl h
+  entered_asks (move.Declined m) a k s h = inl h
   entered_asks (move.Closed m) a k s h = plain (move.Closed m) a _ k s (λ serial calling e. absurd (cc)) h
   entered_asks (move.ClosedBy m) a k s h = inl h
   entered_asks (move.Cleared i) a k s h = inl h
@@ -119,6 +130,7 @@ module _ (v : World) (number n : ℕ) (r : Role) (sender : Option Sender) where
   entered_taken (move.EndTold m) a k u h = h
   entered_taken (move.EndHeard m) a k u h = takes_more a _ k u h
   entered_taken (move.EndSilent m) a k u h = h
+  entered_taken (move.Declined m) a k u h = h
   entered_taken (move.Closed m) a k u h = h
   entered_taken (move.ClosedBy m) a k u h = takes_more a _ k u h
   entered_taken (move.Cleared i) a k u h = h
@@ -140,14 +152,14 @@ module _ (v : World) (number n : ℕ) (r : Role) (sender : Option Sender) where
 
   -- ---- after a deed
 
-  deed_here : (m : Move) (a : Account) → after_deed (deed m) n (about m) a ≡ entered (deed m) a
-  deed_here m a = rw (eq-eqb n n refl, eq-eqb (about m) (about m) refl) refl
+  deed_here : (m : Move) (a : Account) → KeepsLetters (entered (deed m) a) (after_deed (deed m) n (about m) a)
+  deed_here m a = rw (eq-eqb n n refl, eq-eqb (about m) (about m) refl) (declined_keeps (declines_of m n (about m)) (entered (deed m) a))
 
-  deed_other : (m : Move) (i : ℕ) (a : Account) → (i ≡ about m → ⊥) → after_deed (deed m) n i a ≡ a
-  deed_other m i a other = rw (eq-eqb n n refl, ne_eqb (about m) i (λ e. other (sym e))) refl
+  deed_other : (m : Move) (i : ℕ) (a : Account) → (i ≡ about m → ⊥) → KeepsLetters a (after_deed (deed m) n i a)
+  deed_other m i a other = rw (eq-eqb n n refl, ne_eqb (about m) i (λ e. other (sym e))) (declined_keeps (declines_of m n i) a)
 
-  deed_elsewhere : (m : Move) (q i : ℕ) (a : Account) → (q ≡ n → ⊥) → after_deed (deed m) q i a ≡ a
-  deed_elsewhere m q i a other = rw (ne_eqb n q (λ e. other (sym e))) refl
+  deed_elsewhere : (m : Move) (q i : ℕ) (a : Account) → (q ≡ n → ⊥) → KeepsLetters a (after_deed (deed m) q i a)
+  deed_elsewhere m q i a other = rw (ne_eqb n q (λ e. other (sym e))) (declined_keeps (declines_of m q i) a)
 
   -- the tunnels of the node
   abbrev pub known_after : Move → Known → Known
@@ -160,12 +172,12 @@ module _ (v : World) (number n : ℕ) (r : Role) (sender : Option Sender) where
       (λ (e : i ≡ about m).
       let here : Asking (after_deed (deed m) n (about m) (known (about m))).given k s =
       subst (λ j. Asking (after_deed (deed m) n j (known j)).given k s) e h in
-      let now : Asking (entered (deed m) (known (about m))).given k s = subst (λ (a : Account). Asking a.given k s) (deed_here m (known (about m))) here in
+      let now : Asking (entered (deed m) (known (about m))).given k s = subst (λ ls. Asking ls k s) (deed_here m (known (about m))).given here in
       ⊎_elim
       (λ b. inl (subst (λ j. Asking (known j).given k s) (sym e) b))
       (λ (b : (k ≡ length (known (about m)).given) × IsRequest m s). inr (e, b.0, b.1))
       (entered_asks m (known (about m)) k s now))
-      (λ other. inl (subst (λ (a : Account). Asking a.given k s) (deed_other m i (known i) other) h))
+      (λ other. inl (subst (λ ls. Asking ls k s) (deed_other m i (known i) other).given h))
       (same_or_not i (about m))
 
   -- what was taken stays
@@ -174,23 +186,25 @@ module _ (v : World) (number n : ℕ) (r : Role) (sender : Option Sender) where
       (λ (e : i ≡ about m).
       let now = entered_taken m (known (about m)) k u (subst (λ j. slice_get (known j).taken k ≡ Some u) e h) in
       let here : slice_get (after_deed (deed m) n (about m) (known (about m))).taken k ≡ Some u =
-      subst (λ (a : Account). slice_get a.taken k ≡ Some u) (sym (deed_here m (known (about m)))) now in
+      subst (λ ts. slice_get ts k ≡ Some u) (sym (deed_here m (known (about m))).taken) now in
       subst (λ j. slice_get (after_deed (deed m) n j (known j)).taken k ≡ Some u) (sym e) here)
-      (λ other. subst (λ (a : Account). slice_get a.taken k ≡ Some u) (sym (deed_other m i (known i) other)) h)
+      (λ other. subst (λ ts. slice_get ts k ≡ Some u) (sym (deed_other m i (known i) other).taken) h)
       (same_or_not i (about m))
 
   pub deed_replied : (m : Replied) (known : Known)
       → slice_get (known_after (move.Replied m) known m.tunnel).taken (length (known m.tunnel).taken) ≡ Some (taken_for m)
   deed_replied m known = subst
-      (λ (a : Account). slice_get a.taken (length (known m.tunnel).taken) ≡ Some (taken_for m)) (sym (deed_here (move.Replied m) (known m.tunnel)))
+      (λ ts. slice_get ts (length (known m.tunnel).taken) ≡ Some (taken_for m)) (sym (deed_here (move.Replied m) (known m.tunnel)).taken)
       (entered_replied m (known m.tunnel))
 
-  -- the deeds of a step change no tunnel of another node
-  pub deeds_elsewhere : (ms : List Move) (q i : ℕ) (a : Account) → (q ≡ n → ⊥) → account_from (deeds ms) q i a ≡ a
+  -- the deeds of a step change no letters of a tunnel of another node
+  pub deeds_elsewhere : (ms : List Move) (q i : ℕ) (a : Account) → (q ≡ n → ⊥) → KeepsLetters a (account_from (deeds ms) q i a)
   unfolding account_from
-  deeds_elsewhere [] q i a other = refl
+  deeds_elsewhere [] q i a other = record { given = refl; taken = refl }
   deeds_elsewhere (m ∷ ms) q i a other =
-      deeds_elsewhere ms q i (after_deed (deed m) q i a) other ∙ deed_elsewhere m q i a other
+      let first = deed_elsewhere m q i a other in
+      let rest = deeds_elsewhere ms q i (after_deed (deed m) q i a) other in
+      record { given = rest.given ∙ first.given; taken = rest.taken ∙ first.taken }
 
 -- ---- deeds and more deeds
 

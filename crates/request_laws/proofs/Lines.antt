@@ -16,8 +16,8 @@ use Rattle.protocol_model.specs.declared.tunnel.Role.{Role}
 use Rattle.protocol_model.specs.declared.tunnel.Role.TheVariants as role
 use Rattle.protocol_model.specs.Names.{address_of}
 use Rattle.protocol_model.specs.End.{new_end, step}
-use Rattle.step_laws.specs.Lines.{tested, tested_not, is_lac_at, is_lns_at, is_declared, has_call}
-use Rattle.protocol_model.specs.World.{World, Node, Sender, Lined, quiet_line, with_node, after_step, declared, lac_at, lns_at, with_call, with_tunnel, is_not_closed, later, config_of, added, block_of, stepped, addressee_of, arrival, refused_by, sender_of, arrives, delivers_it, delivers, line}
+use Rattle.step_laws.specs.Lines.{tested_not, is_lac_at, is_lns_at, is_declared, has_call, has_tunnel}
+use Rattle.protocol_model.specs.World.{World, Node, Sender, Lined, quiet_line, with_node, after_step, declared, lac_at, lns_at, with_call, with_tunnel, later, config_of, added, block_of, stepped, addressee_of, arrival, refused_by, sender_of, arrives, delivers_it, delivers, line}
 
 -- ---- what a line does
 
@@ -42,15 +42,10 @@ pub data LineDoes (w : World) (number : ℕ) (x : Lined) : Type 0 where
 
 -- ---- which node it is
 
--- by cases on a test
+-- none is there
 none_there : {X : Type 0} (o : Option X) → is_some o ≡ false → o ≡ None
 none_there None h = refl
 none_there (Some x) h = absurd (true≢false h)
-
--- one that has a tunnel which isn't closed
-has_tunnel : (i : ℕ) (r : Result Node Why) (node : Node) → with_tunnel i r ≡ Ok node → r ≡ Ok node
-has_tunnel i (Err x) node h = absurd (cc)
-has_tunnel i (Ok x) node h = ap (λ y. Ok y) (tested (is_not_closed (at x.end.tunnels i)) x why.Tunnel node h).1
 
 -- a node of the world, at some moment
 record IsAt (w : World) (n : ℕ) (node : Node) : Type 0 where

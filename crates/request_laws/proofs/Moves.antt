@@ -239,6 +239,7 @@ module _ (x y : End) (o : Ordered x) where
   does_calls moment ev (move.EndTold m) h = told_calls moment ev m h
   does_calls moment ev (move.EndHeard m) h = heard_calls moment ev m h
   does_calls moment ev (move.EndSilent m) h = silent_calls moment ev m h
+  does_calls moment ev (move.Declined m) h = same 0 h.after
   does_calls moment ev (move.Closed m) h = closed_calls moment ev m h
   does_calls moment ev (move.ClosedBy m) h = closed_by_calls moment ev m h
   does_calls moment ev (move.Cleared i) h = cleared_calls moment ev i h

@@ -8,7 +8,7 @@ use Rattle.protocol_model.specs.declared.moves.Move.{Move}
 use Rattle.protocol_model.specs.declared.moves.Move.TheVariants as move
 use Rattle.protocol_model.specs.World.{Deed, config_of}
 use Rattle.step_laws.specs.Letters.{Letter, letters_of}
-use Rattle.connection_laws.specs.Accounts.{Taken, Account, no_account, gives, about, entered, entered_by, after_deed, account_from, account_of}
+use Rattle.connection_laws.specs.Accounts.{Taken, Account, no_account, gives, about, entered, entered_by, declines_of, declined_in, after_deed, account_from, account_of}
 use Rattle.connection_laws.specs.Facts.{BeginsWith, IsStopCcn, HasStopped}
 use Rattle.request_laws.proofs.Lists.{got_left, got_last, got_in, got_below, all_at}
 
@@ -73,6 +73,7 @@ entered_replied d a (move.Refused m) is h = does_both d a _ refl h
 entered_replied d a (move.EndTold m) is h = gives_one d a h
 entered_replied d a (move.EndHeard m) is h = takes_one d a _ refl (λ k e. absurd (cc)) h
 entered_replied d a (move.EndSilent m) is h = h
+entered_replied d a (move.Declined m) is h = h
 entered_replied d a (move.Closed m) is h = gives_one d a h
 entered_replied d a (move.ClosedBy m) is h = takes_one d a _ refl (λ k e. absurd (cc)) h
 entered_replied d a (move.Cleared i) is h = h
@@ -86,11 +87,13 @@ entered_replied d a (move.FrameSent m) is h = h
 entered_replied d a (move.FrameUp m) is h = h
 
 deed_replied : (d : Deed) (n i : ℕ) (a : Account) → AreReplied a.taken a.given → AreReplied (after_deed d n i a).taken (after_deed d n i a).given
-deed_replied d n i a h = by ((d.node == n) && (about d.move == i))
+deed_replied d n i a h = by (declines_of d.move n i) ((d.node == n) && (about d.move == i))
   where
-    by : (here : Bool) → let b : Account = cond here (entered d a) a in AreReplied b.taken b.given
-    by true = entered_replied d a d.move refl h
-    by false = h
+    by : (declined here : Bool) → let b : Account = declined_in declined (cond here (entered d a) a) in AreReplied b.taken b.given
+    by true true = entered_replied d a d.move refl h
+    by true false = h
+    by false true = entered_replied d a d.move refl h
+    by false false = h
 
 deeds_replied : (ds : List Deed) (n i : ℕ) (a : Account) → AreReplied a.taken a.given
     → AreReplied (account_from ds n i a).taken (account_from ds n i a).given

@@ -88,4 +88,4 @@ tables_tell = record { agreed = refl; of_lac = refl; of_lns = refl }
 
 pub ids_run_out : IdsRunOut
 unfolding computing
-ids_run_out = record { tunnels = refl; tunnels_kept = refl; sessions = refl; sessions_kept = refl }
+ids_run_out = record { tunnels = refl; tunnels_kept = refl; opening = refl; opening_kept = refl; sessions = refl; sessions_kept = refl }

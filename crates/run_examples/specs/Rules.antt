@@ -1,16 +1,20 @@
 -- Rules of the data plane that carry weight: without one of them a step isn't a chain of its moves. And what comes where no id
 -- is left.
-use Rattle.std.specs.Prelude.{◌≡◌, ℕ, ◌+◌, List, [], ◌∷◌, None}
+use Rattle.std.specs.Prelude.{◌≡◌, ℕ, ◌+◌, List, [], ◌∷◌, false, Some, None}
 use Rattle.wire_base.specs.declared.why.Why.TheVariants as why
 use Rattle.wire_base.specs.declared.cause.Cause.TheVariants as cause
 use Rattle.wire_base.specs.declared.letter.Side.TheVariants.{Net}
 use Rattle.id_source.specs.Spaces.{Space}
-use Rattle.l2tp_header.specs.Spelling.{data_bytes}
+use Rattle.l2tp_header.specs.Spelling.{control_bytes, data_bytes}
+use Rattle.avp_codec.specs.Spelling.{spelling}
+use Rattle.control_message.specs.declared.message.Message.TheVariants.{StopCcn}
+use Rattle.control_message.specs.Pairs.{pairs_of}
 use Rattle.tunnel_fsm.specs.declared.table.TunnelState.TheVariants as states
 use Rattle.protocol_model.specs.declared.event.Event.{Event}
 use Rattle.protocol_model.specs.declared.event.Event.TheVariants.{Datagram, Ring, OpenTunnel}
 use Rattle.protocol_model.specs.declared.out.Out.{Out}
-use Rattle.protocol_model.specs.declared.out.Out.TheVariants.{Up, Drop, Cause}
+use Rattle.protocol_model.specs.declared.out.Out.TheVariants.{Send, Up, Drop, Cause}
+use Rattle.protocol_model.specs.declared.out.Origin.TheVariants as origin
 use Rattle.protocol_model.specs.declared.tunnel.Look.{Look}
 use Rattle.protocol_model.specs.declared.tunnel.Look.TheVariants.{Established}
 use Rattle.protocol_model.specs.declared.tunnel.Role.{Role}
@@ -21,6 +25,7 @@ use Rattle.protocol_model.specs.End.{End, Stepped, new_end, handed, step}
 use Rattle.protocol_model.specs.World.{config_of}
 use Rattle.step_laws.specs.Steps.{IsChain}
 use Rattle.run_examples.specs.Channels.{channel}
+use Rattle.run_examples.specs.Messages.{sccrq}
 
 -- the LNS, node 4, with one established call: session 3, in tunnel 2 to node 6
 abbrev pub lns : End
@@ -79,9 +84,16 @@ lac = record (new_end role.Lac (config_of 9 (address_of 4))) {
   ) ∷ [];
 }
 
--- where no id is left, an open and a ring are refused with that cause, and the end is as before
+-- where no id is left, an open and a ring are refused with that cause, and an SCCRQ of another node is declined by a StopCCN of no
+-- tunnel, with the codes of a general error: 2, and 4 for what there isn't enough of. The end is as before
 pub record IdsRunOut : Type 0 where
   pub tunnels : (step (record lac { tunnel_ids = spent 65535 }) 0 [] OpenTunnel).outputs ≡ Cause cause.Ids ∷ []
   pub tunnels_kept : (step (record lac { tunnel_ids = spent 65535 }) 0 [] OpenTunnel).end ≡ record lac { tunnel_ids = spent 65535 }
+  pub opening : (step (record lac { tunnel_ids = spent 65535 }) 0 [] (sccrq 6 2)).outputs ≡
+      Cause cause.Ids
+      ∷ Send (address_of 6) (control_bytes 2 0 0 1 (spelling (pairs_of (StopCcn 0 2 (Some 4)))))
+      (origin.Control (record { tunnel = 0; epoch = 0; ns = 0; nr = 1; empty = false }))
+      ∷ []
+  pub opening_kept : (step (record lac { tunnel_ids = spent 65535 }) 0 [] (sccrq 6 2)).end ≡ record lac { tunnel_ids = spent 65535 }
   pub sessions : (step (record lac { session_ids = spent 65534 }) 0 [] (Ring 70)).outputs ≡ Cause cause.Ids ∷ []
   pub sessions_kept : (step (record lac { session_ids = spent 65534 }) 0 [] (Ring 70)).end ≡ record lac { session_ids = spent 65534 }

@@ -8,7 +8,7 @@ use Rattle.wire_base.specs.declared.why.Why.TheVariants as why
 use Rattle.protocol_model.specs.declared.tunnel.Role.{Role}
 use Rattle.protocol_model.specs.declared.tunnel.Role.TheVariants as role
 use Rattle.protocol_model.specs.Calls.{is_lac}
-use Rattle.protocol_model.specs.World.{Node, declared, lac_at, lns_at, with_call}
+use Rattle.protocol_model.specs.World.{Node, declared, lac_at, lns_at, with_call, with_tunnel, is_not_closed}
 
 -- ---- tests that end in an answer or a refusal
 
@@ -49,3 +49,8 @@ is_declared (Some x) node h = cc
 pub has_call : (session : ℕ) (r : Result Node Why) (node : Node) → with_call session r ≡ Ok node → r ≡ Ok node
 has_call session (Err x) node h = absurd (cc)
 has_call session (Ok x) node h = ap (λ y. Ok y) (tested (is_some (at x.end.calls session)) x why.Call node h).1
+
+-- one that has a tunnel which isn't closed
+pub has_tunnel : (i : ℕ) (r : Result Node Why) (node : Node) → with_tunnel i r ≡ Ok node → r ≡ Ok node
+has_tunnel i (Err x) node h = absurd (cc)
+has_tunnel i (Ok x) node h = ap (λ y. Ok y) (tested (is_not_closed (at x.end.tunnels i)) x why.Tunnel node h).1
