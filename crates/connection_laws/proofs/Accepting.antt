@@ -1,5 +1,5 @@
 -- A tunnel is accepted: its first letter, and the first that it takes, are known, and its opener knows it by no id yet.
-use Rattle.std.proofs.Common.{◌≡◌, inl, ⊎_elim, ℕ, ◌+◌, ◌<◌, ◌≤◌, [], ◌∷◌, map, drop, refl, sym, ap, ap₂, ◌∙◌, subst, Option, Some, None, arith, ne_eqb}
+use Rattle.std.proofs.Common.{◌≡◌, inl, ⊎_elim, ℕ, ◌+◌, ◌<◌, ◌≤◌, false, [], ◌∷◌, map, drop, refl, sym, ap, ap₂, ◌∙◌, subst, Option, Some, None, arith, ne_eqb}
 use Rattle.std.proofs.lemmas.Option.{none-some, slice_get_within}
 use Rattle.std.specs.Prelude.{slice_get}
 use Rattle.id_table.specs.Ids.{at-none}
@@ -29,7 +29,7 @@ use Rattle.connection_laws.proofs.Later.{after_move, only_after}
 use Rattle.connection_laws.proofs.Put.{puts_keep}
 use Rattle.connection_laws.proofs.Written.{opening_written, same_opening, draw_is, next_is, node_again, node_fits}
 use Rattle.connection_laws.proofs.Beginning.{undrawn}
-use Rattle.connection_laws.proofs.Hearing.{opener_of, sccrq_of, IsLetterRead, FromPeer, letter_said, from_peer}
+use Rattle.connection_laws.proofs.Hearing.{opener_of, sccrq_of, IsLetterRead, FromPeer, letter_said, from_peer_said}
 use Rattle.connection_laws.proofs.Taking.{got_push, with_taken, taken_as, takes_and_gives}
 use Rattle.connection_laws.proofs.Connecting.{IsLearnt, learnt}
 
@@ -46,7 +46,7 @@ module _ (codecs : Codecs) (accs : Accounts) (n : ℕ) (e x : End) (sender : Opt
   f : FromPeer accs n e sender ev h.within.comes m.peer h.does.hears.1.header h.does.hears.1.bytes
   f =
       let k = h.does.hears.1 in
-      from_peer codecs accs n e sender ev h.within m.peer k.header k.bytes k.is k.read k.control
+      from_peer_said codecs accs n e sender ev h.within m.peer k.header k.bytes k.is k.read k.control (Sccrq h.does.opening) tt k.said
 
   abbrev o : ControlOrigin
   o = f.o
@@ -106,17 +106,17 @@ module _ (codecs : Codecs) (accs : Accounts) (n : ℕ) (e x : End) (sender : Opt
   tk = taken_as sender m.taken (move.Accepted m)
 
   abbrev b : Account
-  b = record { part = Acceptor; peer = node_of m.peer; remote = m.remote; given = first ∷ []; taken = tk ∷ []; closed = None }
+  b = record { part = Acceptor; peer = node_of m.peer; remote = m.remote; given = first ∷ []; taken = tk ∷ []; closed = None; declined = false }
 
   only : IsOnly accs ms n i
-  only = only_after accs d n (move.Accepted m) h.deed.node_is h.deed.move_is (
+  only = only_after accs d n (move.Accepted m) tt h.deed.node_is h.deed.move_is (
     ap (λ (a : Account). a.part) unmade,
     ap (λ (a : Account). a.remote) unmade,
     ap (λ (a : Account). a.closed) unmade,
   )
 
   is : ms n i ≡ b
-  is = after_move accs d n (move.Accepted m) h.deed.node_is h.deed.move_is
+  is = after_move accs d n (move.Accepted m) tt h.deed.node_is h.deed.move_is
       ∙ takes_and_gives d n e.role sender (move.Accepted m) m.taken (record (accs n i) { part = Acceptor; peer = node_of m.peer; remote = m.remote }) h.deed
       ∙ ap (λ (a : Account). with_taken tk (first ∷ []) (record a { part = Acceptor; peer = node_of m.peer; remote = m.remote })) unmade
 

@@ -1,10 +1,13 @@
 -- Reading Nr keeps what is known: the letters before it were taken.
-use Rattle.std.proofs.Common.{◌≡◌, ⊎_elim, ℕ, ◌+◌, ◌<◌, ◌≤◌, List, map, drop, length, refl, sym, ap, ◌∙◌, subst, Option, Some, arith}
+use Rattle.std.proofs.Common.{◌≡◌, inr, ⊎_elim, ℕ, ◌+◌, ◌<◌, ◌≤◌, true, List, map, drop, length, refl, sym, ap, ◌∙◌, subst, Option, Some, arith}
 use Rattle.std.proofs.lemmas.List.{drop-drop, drop-map}
 use Rattle.id_table.specs.Ids.{at}
 use Rattle.send_window.specs.Kept.{Window}
 use Rattle.send_window.specs.Window.{count_acked, without_first}
-use Rattle.recv_window.specs.Window.{ClassIsTrue}
+use Rattle.std.specs.Prelude.{unwrap_or}
+use Rattle.l2tp_header.specs.declared.header.Header.{Header}
+use Rattle.recv_window.specs.Window.{on_wire, ClassIsTrue}
+use Rattle.protocol_model.specs.declared.out.ControlOrigin.{ControlOrigin}
 use Rattle.wire_base.specs.declared.letter.Letter as wire
 use Rattle.protocol_model.specs.declared.event.Event.{Event}
 use Rattle.protocol_model.specs.declared.moves.NrRead.{NrRead}
@@ -17,13 +20,13 @@ use Rattle.step_laws.specs.Letters.{Letter}
 use Rattle.step_laws.specs.Moves.{with_tunnel}
 use Rattle.frame_laws.specs.Codecs.{Codecs}
 use Rattle.connection_laws.specs.Accounts.{Part, Unmade, Opener, Acceptor, Account}
-use Rattle.connection_laws.specs.Facts.{Accounts, IsInState, AreAcked, LiveOk, IsNear, kept_letter, Within}
+use Rattle.connection_laws.specs.Facts.{Accounts, partner_in, AccountOk, IsInState, AreAcked, LiveOk, IsNear, kept_letter, Comes, Within}
 use Rattle.connection_laws.proofs.Keeps.{after, IsMoved}
-use Rattle.connection_laws.proofs.Puts.{EndPut, IsPut}
+use Rattle.connection_laws.proofs.Puts.{ComesNear, EndPut, IsPut}
 use Rattle.connection_laws.proofs.Later.{live_made, extends_same, same_after, joined_now}
 use Rattle.connection_laws.proofs.Put.{puts_keep}
 use Rattle.connection_laws.proofs.Numbers.{IsCount, is_count, IsWithout, without_count}
-use Rattle.connection_laws.proofs.Hearing.{heard_nr, Heard, heard}
+use Rattle.connection_laws.proofs.Hearing.{opener_of, acceptor_of, IsHeard, heard_nr, Heard, HeardRefusal, heard}
 use Rattle.connection_laws.proofs.NextHeard.{nr_few, nr_taken}
 
 -- ---- an end that differs in one tunnel
@@ -57,6 +60,52 @@ in_state_like accs i a t u state calls Acceptor h = rw (state, calls) h
 pub kept_on : (given : List Letter) (acked count : ℕ) → drop count (map kept_letter (drop acked given)) ≡ map kept_letter (drop (acked + count) given)
 kept_on given acked count = drop-map kept_letter count (drop acked given) ∙ ap (λ (ls : List Letter). map kept_letter ls) (drop-drop count acked given)
 
+-- ---- what a control message tells that a live tunnel hears
+
+record TellsTaken (accs : Accounts) (n : ℕ) (e : End) (sender : Option Sender) (ev : Event) (comes : Comes accs n e sender ev) (i : ℕ) (t : Tunnel)
+    (h : Header) : Type 0 where
+  o : ControlOrigin
+  near : IsNear (accs n i) t o
+  nr : unwrap_or h.nr 0 ≡ on_wire o.nr
+  few : o.nr ≤ length (accs n i).given + 2
+  acked : AreAcked accs n i (accs n i) o.nr (accs n i).part
+  again : (ms : Accounts) (j : ℕ) (u : Tunnel) → IsNear (ms n j) u o → ComesNear accs n e sender ev comes ms j u
+
+-- one that declines its SCCRQ tells that one letter was taken
+refusal_acked : (accs : Accounts) (n i acked : ℕ) → ((m j : ℕ) → AccountOk accs m j (accs m j)) → (accs n i).part ≡ Opener → (accs n i).declined ≡ true
+    → acked ≡ 1 → AreAcked accs n i (accs n i) acked (accs n i).part
+refusal_acked accs n i acked all here declined one =
+    let a = accs n i in
+    let opener = opener_of accs n i a (all n i) here in
+    subst (AreAcked accs n i a acked) (sym here) (
+      λ z. inr (inr (one, declined)),
+      λ z.
+          let some = (acceptor_of accs a.peer a.remote (partner_in accs a) (all a.peer a.remote) (opener.part z)).some in
+          omega (arith, one, some),
+    )
+
+tells_taken : Codecs → ClassIsTrue → (accs : Accounts) (n : ℕ) (e : End) (sender : Option Sender) (ev : Event) (within : Within accs n e sender ev) (i : ℕ)
+    (t : Tunnel) → at e.tunnels i ≡ Some t → (h : Header) (bytes : List ℕ) → IsHeard ev t.control h bytes
+    → TellsTaken accs n e sender ev within.comes i t h
+tells_taken codecs classes accs n e sender ev within i t there h bytes hears = ⊎_elim
+    (λ (k : Heard accs n e sender ev within.comes i t h bytes). record {
+      o = k.o;
+      near = k.near;
+      nr = k.read.nr;
+      few = nr_few classes accs n e sender ev within i t there h bytes k;
+      acked = nr_taken classes accs n e sender ev within i t there h bytes k;
+      again = k.again;
+    })
+    (λ (k : HeardRefusal accs n e sender ev within.comes i t h bytes). record {
+      o = k.o;
+      near = k.near;
+      nr = k.read.nr;
+      few = (let one = k.nr in omega arith);
+      acked = refusal_acked accs n i k.o.nr within.accounts k.opener k.declined k.nr;
+      again = k.again;
+    })
+    (heard codecs accs n e sender ev within i t there h bytes hears)
+
 module _ (codecs : Codecs) (classes : ClassIsTrue) (accs : Accounts) (n : ℕ) (e x : End) (sender : Option Sender) (moment : ℕ) (ev : Event) where
   module _ (m : NrRead) (d : Deed) (h : IsMoved accs n e x sender moment ev (move.NrRead m) d) where
     abbrev t : Tunnel
@@ -81,11 +130,10 @@ module _ (codecs : Codecs) (classes : ClassIsTrue) (accs : Accounts) (n : ℕ) (
     live : LiveOk accs n m.tunnel a t
     live = h.within.end.live m.tunnel t h.does.there
 
-    k : Heard accs n e sender ev h.within.comes m.tunnel t h.does.tells.header h.does.tells.bytes
-    k = heard codecs accs n e sender ev h.within m.tunnel t h.does.there h.does.tells.header h.does.tells.bytes (heard_nr ev t.control m.nr h.does.tells)
-
-    few : k.o.nr ≤ length a.given + 2
-    few = nr_few classes accs n e sender ev h.within m.tunnel t h.does.there h.does.tells.header h.does.tells.bytes k
+    k : TellsTaken accs n e sender ev h.within.comes m.tunnel t h.does.tells.header
+    k =
+        let came = h.does.tells in
+        tells_taken codecs classes accs n e sender ev h.within m.tunnel t h.does.there came.header came.bytes (heard_nr ev t.control m.nr came)
 
     counted : IsCount w k.o.nr count
     counted =
@@ -93,8 +141,8 @@ module _ (codecs : Codecs) (classes : ClassIsTrue) (accs : Accounts) (n : ℕ) (
         let outstanding = live.outstanding in
         let most = live.few in
         let all = live.counted in
-        let given = few in
-        subst (λ (nr : ℕ). IsCount w k.o.nr (count_acked w nr)) (sym (h.does.tells.tells ∙ k.read.nr))
+        let given = k.few in
+        subst (λ (nr : ℕ). IsCount w k.o.nr (count_acked w nr)) (sym (h.does.tells.tells ∙ k.nr))
         (is_count w k.o.nr near (omega arith) (omega arith))
 
     left : IsWithout w count v
@@ -110,7 +158,7 @@ module _ (codecs : Codecs) (classes : ClassIsTrue) (accs : Accounts) (n : ℕ) (
         (⊎_elim
         (λ (same : w.acked + count ≡ w.acked). subst (λ (q : ℕ). AreAcked accs n m.tunnel a q a.part) (sym same) live.acked)
         (λ (same : w.acked + count ≡ k.o.nr). subst (λ (q : ℕ). AreAcked accs n m.tunnel a q a.part) (sym same)
-        (nr_taken classes accs n e sender ev h.within m.tunnel t h.does.there h.does.tells.header h.does.tells.bytes k))
+        k.acked)
         counted.leads)
 
     still_live : LiveOk accs n m.tunnel a u
@@ -164,5 +212,5 @@ module _ (codecs : Codecs) (classes : ClassIsTrue) (accs : Accounts) (n : ℕ) (
 
     pub read_keeps : Within (after accs d) n x sender ev
     read_keeps =
-        subst (λ (ms : Accounts). Within ms n x sender ev) (sym (same_after accs d n (move.NrRead m) h.deed.node_is h.deed.move_is refl))
+        subst (λ (ms : Accounts). Within ms n x sender ev) (sym (same_after accs d n (move.NrRead m) tt h.deed.node_is h.deed.move_is refl))
         (puts_keep accs accs n e x sender ev m.tunnel u put_is)

@@ -1,5 +1,5 @@
 -- What is said and taken, and what is acknowledged, of what holds in a run.
-use Rattle.std.proofs.Common.{◌≡◌, ◌⊎◌, inl, inr, ⊎_elim, ℕ, ◌<◌, ◌≤◌, List, length, get_or, refl, sym, ap₂, ◌∙◌, subst, Option, Some, None, arith, ne_eqb}
+use Rattle.std.proofs.Common.{◌≡◌, ◌⊎◌, inl, inr, ⊎_elim, ℕ, ◌<◌, ◌≤◌, true, List, length, get_or, refl, sym, ap₂, ◌∙◌, subst, Option, Some, None, arith, ne_eqb}
 use Rattle.std.proofs.lemmas.Bool.{cases_lt}
 use Rattle.std.specs.Prelude.{slice_get}
 use Rattle.std.proofs.lemmas.Option.{slice_get_cases}
@@ -13,7 +13,7 @@ use Rattle.protocol_model.specs.Run.{Run}
 use Rattle.step_laws.specs.Steps.{AreKept}
 use Rattle.connection_laws.specs.Accounts.{Part, Unmade, Opener, Acceptor, Taken, Account, heeded, account_of, partner_of}
 use Rattle.connection_laws.specs.Facts.{Accounts, AreTaken, IsLost, partner_in, IsOpener, IsAcceptor, IsPart, AccountOk, IsAnswered, AreAcked, EndOk, OriginOk, PacketOk, NodeOk, Holds}
-use Rattle.connection_laws.specs.Channels.{IsCopied, LettersAreCarried, WasTaken, WasIgnored, AcksAreTrue}
+use Rattle.connection_laws.specs.Channels.{IsCopied, LettersAreCarried, WasTaken, WasIgnored, WasDeclined, AcksAreTrue}
 use Rattle.connection_laws.proofs.Later.{live_made}
 use Rattle.connection_laws.proofs.States.{heeded_open, heeded_closed}
 use Rattle.connection_laws.proofs.Worlds.{all_map}
@@ -33,9 +33,9 @@ letters_carried r holds = record {
 partner_is : (a : Account) → (a.remote ≡ 0 → ⊥) → partner_of a ≡ Some (record { node = a.peer; tunnel = a.remote })
 partner_is a some = rw (ne_eqb a.remote 0 some) refl
 
--- a letter was taken, or ignored
+-- a letter was taken, or ignored, or is the SCCRQ of a tunnel that was declined
 abbrev WasHeard : List Deed → ℕ → ℕ → ℕ → Type 0
-WasHeard ds n i number = WasTaken ds (record { node = n; tunnel = i }) number ⊎ WasIgnored ds n number
+WasHeard ds n i number = WasTaken ds (record { node = n; tunnel = i }) number ⊎ (WasIgnored ds n number ⊎ WasDeclined ds n i number)
 
 -- once a tunnel is closed it ignores what it takes
 was_ignored : (ds : List Deed) (m j n number : ℕ) → (account_of ds m j).peer ≡ n → number < length (account_of ds m j).taken
@@ -63,7 +63,7 @@ taken_of ds m j n i number taken peer remote some lt =
     inl (record { node = m; tunnel = j; letter = x.0; there = x.2; from = h.sender ∙ (sym h.learned ∙ is) }))
     (λ (x : (length a.taken ≤ number) × (slice_get a.taken number ≡ None)). (let le = x.0 in absurd (omega arith)))
     (slice_get_cases a.taken number).1)
-    (λ (le : heeded a ≤ number). inr (was_ignored ds m j n number peer lt le))
+    (λ (le : heeded a ≤ number). inr (inl (was_ignored ds m j n number peer lt le)))
     (cases_lt number (heeded a))
 
 module _ (ds : List Deed) (accounts : (m j : ℕ) → AccountOk (account_of ds) m j (account_of ds m j)) (n i : ℕ) (some : 0 < i) (acked number : ℕ)
@@ -89,11 +89,18 @@ module _ (ds : List Deed) (accounts : (m j : ℕ) → AccountOk (account_of ds) 
 
   -- by its opener, which was closed before it took anything
   by_lost : (partner_in accs a).peer ≡ n → IsLost (partner_in accs a) → WasHeard ds n i number
-  by_lost peer lost = inr (record { node = a.peer; tunnel = a.remote; goes = peer; count = 0; closed = lost.0; before = omega arith })
+  by_lost peer lost = inr (inl (record { node = a.peer; tunnel = a.remote; goes = peer; count = 0; closed = lost.0; before = omega arith }))
 
   opener_acked : IsOpener accs n i a → AreAcked accs n i a acked Opener → WasHeard ds n i number
   opener_acked k h = ⊎_elim
-      (λ (z : a.remote ≡ 0). ⊎_elim (λ (none : acked ≡ 0). absurd (omega arith)) (λ (x : IsAnswered accs n i a acked). by_answer x) (h.0 z))
+      (λ (z : a.remote ≡ 0).
+      ⊎_elim
+      (λ (none : acked ≡ 0). absurd (omega arith))
+      (λ rest. ⊎_elim
+      (λ (x : IsAnswered accs n i a acked). by_answer x)
+      (λ (x : (acked ≡ 1) × (a.declined ≡ true)). let one = x.0 in inr (inr (omega arith, x.1)))
+      rest)
+      (h.0 z))
       (λ known. by_partner (k.peer known) (k.remote known) (h.1 known))
       (same_or_not a.remote 0)
 

@@ -1,6 +1,6 @@
 -- A control message that a live tunnel hears, whether it is the next one or not, is a letter of its sender's, and none has a fault.
-use Rattle.std.proofs.Common.{◌≡◌, ⊎_elim, ℕ, true, List, [], refl, sym, ◌∙◌, subst, Option, Some, None, Result, Ok, Err, eq-eqb}
-use Rattle.std.specs.Prelude.{slice_get}
+use Rattle.std.proofs.Common.{◌≡◌, ⊎_elim, ℕ, true, List, [], refl, sym, ap, ◌∙◌, subst, Option, Some, None, Result, Ok, Err, eq-eqb}
+use Rattle.std.specs.Prelude.{length, slice_get}
 use Rattle.control_message.specs.declared.message.Message.{Message}
 use Rattle.control_message.specs.declared.message.Message.TheVariants.{Sccrq, Sccrp}
 use Rattle.control_message.specs.declared.message.MessageError.{MessageError}
@@ -24,7 +24,7 @@ use Rattle.frame_laws.specs.Codecs.{Codecs}
 use Rattle.connection_laws.specs.Accounts.{Account}
 use Rattle.connection_laws.specs.Facts.{Accounts, IsNoOpening, IsNoStop, AccountOk, Within}
 use Rattle.connection_laws.specs.Steps.{LettersAreHeard, OpeningsAreAcceptable, NoneIsFaulty, NoneIsFaultyInTunnel}
-use Rattle.connection_laws.proofs.Hearing.{sender_in, Sends, Chosen, Asks, Leaves, Linked, FromOpener, FromAcceptor, opener_of, IsHeard, IsLetterRead, IsNoneRead, letter_some, letter_said, from_peer, heard}
+use Rattle.connection_laws.proofs.Hearing.{sender_in, Sends, Chosen, Asks, Leaves, Linked, FromOpener, FromAcceptor, opener_of, no_message, IsHeard, PeerSays, letter_said, peer_says, heard_said}
 use Rattle.connection_laws.proofs.NextHeard.{first_is}
 use Rattle.connection_laws.proofs.Said.{Learned, opener_goes, plain_no_stop}
 use Rattle.connection_laws.proofs.Refusing.{no_fault}
@@ -55,7 +55,7 @@ pub letters_are_heard : Codecs → LettersAreHeard
 letters_are_heard codecs accs n e sender ev within i t there session m opens_none no_stop k =
     let h = k.hears.header in
     let bytes = k.hears.bytes in
-    let from = heard codecs accs n e sender ev within i t there h bytes (heard_in ev t.control session m k) in
+    let from = heard_said codecs accs n e sender ev within i t there h bytes (heard_in ev t.control session m k) m no_stop k.hears.said in
     let q = letter_said codecs (sender_in accs n i from.o) from.o h bytes m from.read k.hears.said in
     let was = q.said in
     let is = k.hears.said in
@@ -81,16 +81,18 @@ letters_are_heard codecs accs n e sender ev within i t there session m opens_non
 pub hears_written : Codecs → (accs : Accounts) (n : ℕ) (e : End) (sender : Option Sender) (ev : Event) → Within accs n e sender ev
     → (peer session : ℕ) (m : Message) → Hears ev peer session m → IsWritten m
 hears_written codecs accs n e sender ev within peer session m k =
-    let from = from_peer codecs accs n e sender ev within peer k.header k.bytes k.is k.read k.control in
-    let q = letter_said codecs (accs from.packet.from from.o.tunnel) from.o k.header k.bytes m from.read k.said in
+    ⊎_elim
+    (λ (q : PeerSays k.header k.bytes).
     let was = q.said in
     let is = k.said in
-    let same : q.letter.message ≡ m = cc in
-    subst IsWritten same q.spelled.written
+    let same : q.message ≡ m = cc in
+    subst IsWritten same q.written)
+    (λ (none : body_of k.header k.bytes ≡ []). absurd (no_message codecs m (let is = k.said in rw none at is)))
+    (peer_says codecs accs n e sender ev within peer k.header k.bytes k.is k.read k.control)
 
--- so its version is 1.0
+-- so its version is 1.0, and it has neither a challenge nor a recovery
 pub written_acceptable : (o : Opening) → IsWrittenOpening o → is_acceptable o ≡ true
-written_acceptable o w = eq-eqb o.version 256 w.version
+written_acceptable o w = rw (eq-eqb o.version 256 w.version, w.recovery, w.challenge) refl
 
 pub openings_are_acceptable : Codecs → OpeningsAreAcceptable
 openings_are_acceptable codecs accs n e sender ev within peer session o which = written_acceptable o (⊎_elim
@@ -107,12 +109,10 @@ no_fault_in_none codecs = rw (codecs.pairs [] tt) refl
 
 pub none_is_faulty : Codecs → NoneIsFaulty
 none_is_faulty codecs accs n e sender ev within c session f k =
-    let from = from_peer codecs accs n e sender ev within c.peer k.header k.bytes k.is k.read k.control in
-    let b = accs from.packet.from from.o.tunnel in
     let none : call_fault_in (body_of k.header k.bytes) ≡ None = ⊎_elim
-    (λ (q : IsLetterRead b from.o k.header k.bytes). no_fault (body_of k.header k.bytes) q.letter.message q.said)
-    (λ (q : IsNoneRead from.o k.header k.bytes). rw q.body (no_fault_in_none codecs))
-    from.read.says in
+    (λ (q : PeerSays k.header k.bytes). no_fault (body_of k.header k.bytes) q.message q.said)
+    (λ (nothing : body_of k.header k.bytes ≡ []). rw nothing (no_fault_in_none codecs))
+    (peer_says codecs accs n e sender ev within c.peer k.header k.bytes k.is k.read k.control) in
     let fault = k.fault in
     cc
 
@@ -131,8 +131,10 @@ no_tunnel_fault body m h = by_pairs (avps_of body) h
 
 pub none_is_faulty_in_tunnel : Codecs → NoneIsFaultyInTunnel
 none_is_faulty_in_tunnel codecs accs n e sender ev within c g k =
-    let from = from_peer codecs accs n e sender ev within c.peer k.header k.bytes k.is k.read k.control in
-    let q = letter_some (accs from.packet.from from.o.tunnel) from.o k.header k.bytes from.read k.some in
-    let none = no_tunnel_fault (body_of k.header k.bytes) q.letter.message q.said in
+    ⊎_elim
+    (λ (q : PeerSays k.header k.bytes).
+    let none = no_tunnel_fault (body_of k.header k.bytes) q.message q.said in
     let fault = k.fault in
-    cc
+    let no : ⊥ = cc in no)
+    (λ (none : body_of k.header k.bytes ≡ []). k.some (ap (λ (ls : List ℕ). length ls) none))
+    (peer_says codecs accs n e sender ev within c.peer k.header k.bytes k.is k.read k.control)

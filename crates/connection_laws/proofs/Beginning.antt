@@ -1,5 +1,5 @@
 -- A tunnel is opened.
-use Rattle.std.proofs.Common.{◌≡◌, inl, ℕ, ◌+◌, ◌<◌, ◌≤◌, [], ◌∷◌, ◌++◌, refl, sym, ap, ◌∙◌, subst, Option, None, arith}
+use Rattle.std.proofs.Common.{◌≡◌, inl, ℕ, ◌+◌, ◌<◌, ◌≤◌, [], ◌∷◌, ◌++◌, false, refl, sym, ap, ◌∙◌, subst, Option, None, arith}
 use Rattle.std.proofs.lemmas.Option.{none-some}
 use Rattle.id_table.specs.Ids.{at-none}
 use Rattle.id_table.specs.Order.{ascends-empty}
@@ -53,7 +53,7 @@ module _ (accs : Accounts) (n : ℕ) (e : End) (sender : Option Sender) (moment 
   first = record { tunnel = m.tunnel; place = m.given; session = 0; message = Sccrq (opening_of e.role (config_of n 0) m.tunnel) }
 
   abbrev new_account : Account
-  new_account = record { part = Opener; peer = node_of m.peer; remote = 0; given = first ∷ []; taken = []; closed = None }
+  new_account = record { part = Opener; peer = node_of m.peer; remote = 0; given = first ∷ []; taken = []; closed = None; declined = false }
 
   abbrev new : Tunnel
   new = with_letter 0 (Sccrq (opening_of e.role e.config m.tunnel)) (new_tunnel (begun m.tunnel m.peer 0 WaitCtlReply moment))
@@ -69,12 +69,12 @@ module _ (accs : Accounts) (n : ℕ) (e : End) (sender : Option Sender) (moment 
 
   is : ms n i ≡ new_account
   is =
-      after_move accs d n (move.Opened m) deed.node_is deed.move_is
+      after_move accs d n (move.Opened m) tt deed.node_is deed.move_is
       ∙ ap (λ (a : Account). record a { part = Opener; peer = node_of m.peer; given = a.given ++ gives d }) unmade
       ∙ ap (λ ls. record new_account { given = ls }) gives_is
 
   only : IsOnly accs ms n i
-  only = only_after accs d n (move.Opened m) deed.node_is deed.move_is (ap (λ (a : Account). a.part) unmade)
+  only = only_after accs d n (move.Opened m) tt deed.node_is deed.move_is (ap (λ (a : Account). a.part) unmade)
 
   some : 0 < i
   some = let f = within.end.first in omega (arith, next)

@@ -22,7 +22,7 @@ use Rattle.connection_laws.proofs.Keeps.{after, HasNumbers, HasCounts}
 pub use Rattle.connection_laws.specs.Steps.{GivenBelow}
 use Rattle.connection_laws.proofs.Hearing.{opener_of, acceptor_of}
 use Rattle.connection_laws.proofs.NextHeard.{unlearned_small, joined_opener}
-use Rattle.connection_laws.proofs.Later.{here_or_not, after_move, after_there}
+use Rattle.connection_laws.proofs.Later.{here_or_not, DeclinesNone, after_move, after_there}
 
 -- ---- the first letters that aren't acknowledged
 
@@ -123,6 +123,8 @@ does_below e x moment ev (move.EndHeard m) most order few had h =
     old_below e x (most + 8192 * 0) m.tunnel h.tunnel _ (more_below e most (8192 * 0) had) h.there (tunnels_are x _ h.after) refl
 does_below e x moment ev (move.EndSilent m) most order few had h =
     old_below e x (most + 8192 * 0) m.tunnel h.tunnel _ (more_below e most (8192 * 0) had) h.there (tunnels_are x _ h.after) refl
+does_below e x moment ev (move.Declined m) most order few had h =
+    same_below e x (most + 8192 * 0) (more_below e most (8192 * 0) had) (tunnels_are x _ h.after)
 does_below e x moment ev (move.Closed m) most order few had h =
     old_below e x (most + 8192 * 0) m.tunnel h.tunnel _ (more_below e most (8192 * 0) had) h.there (tunnels_are x _ h.after) refl
 does_below e x moment ev (move.ClosedBy m) most order few had h =
@@ -173,6 +175,7 @@ does_give e x moment ev (move.Refused m) d a h = inr (put_live e x m.tunnel _ (t
 does_give e x moment ev (move.EndTold m) d a h = inr (put_live e x m.tunnel _ (tunnels_are x _ h.after))
 does_give e x moment ev (move.EndHeard m) d a h = inl refl
 does_give e x moment ev (move.EndSilent m) d a h = inl refl
+does_give e x moment ev (move.Declined m) d a h = inl refl
 does_give e x moment ev (move.Closed m) d a h = inr (put_live e x m.tunnel _ (tunnels_are x _ h.after))
 does_give e x moment ev (move.ClosedBy m) d a h = inl refl
 does_give e x moment ev (move.Cleared k) d a h = inl refl
@@ -191,17 +194,18 @@ live_below : (accs : Accounts) (n i : ℕ) (x : End) (top most : ℕ) (t : Tunne
 live_below accs n i x top most t live there below room =
     let le = below i t there in let sum = live.counted in let few = live.few in omega arith
 
-pub given_after : (accs : Accounts) (n : ℕ) (e x : End) (sender : Option Sender) (moment : ℕ) (ev : Event) (m : Move) (d : Deed) (top most : ℕ) → d.node ≡ n
-    → d.move ≡ m → Does e moment ev m x → Within (after accs d) n x sender ev → AckedBelow x top → top + 8192 ≤ most → GivenBelow accs most
+pub given_after : (accs : Accounts) (n : ℕ) (e x : End) (sender : Option Sender) (moment : ℕ) (ev : Event) (m : Move) (d : Deed) (top most : ℕ)
+    → DeclinesNone m → d.node ≡ n → d.move ≡ m → Does e moment ev m x → Within (after accs d) n x sender ev → AckedBelow x top → top + 8192 ≤ most
+    → GivenBelow accs most
     → GivenBelow (after accs d) most
-given_after accs n e x sender moment ev m d top most node is does within below room had k j = ⊎_elim
+given_after accs n e x sender moment ev m d top most none node is does within below room had k j = ⊎_elim
     (λ (p : (k ≡ n) × (j ≡ about m)).
     rw (p.0, p.1) (⊎_elim
     (λ (same : (entered_by d m (accs n (about m))).given ≡ (accs n (about m)).given).
-    subst (λ (b : Account). length b.given ≤ most) (sym (after_move accs d n m node is)) (rw same (had n (about m))))
+    subst (λ (b : Account). length b.given ≤ most) (sym (after_move accs d n m none node is)) (rw same (had n (about m))))
     (λ (l : IsLive x (about m)). live_below (after accs d) n (about m) x top most l.tunnel (within.end.live (about m) l.tunnel l.there) l.there below room)
     (does_give e x moment ev m d (accs n (about m)) does)))
-    (λ no. rw (after_there accs d k j (λ both. no (both.0 ∙ node, both.1 ∙ ap about is))) (had k j))
+    (λ no. rw (after_there accs d k j (subst DeclinesNone (sym is) none) (λ both. no (both.0 ∙ node, both.1 ∙ ap about is))) (had k j))
     (here_or_not k n j (about m))
 
 -- hardly more is taken than is given

@@ -157,7 +157,7 @@ module _ (codecs : Codecs) (accs : Accounts) (n : ℕ) (e x : End) (sender : Opt
   known = closes_known codecs accs n e x sender moment ev h.within m h.does
 
   only : IsOnly accs ms n i
-  only = only_after accs d n (move.Closed m) h.deed.node_is h.deed.move_is (known, is_open)
+  only = only_after accs d n (move.Closed m) tt h.deed.node_is h.deed.move_is (known, is_open)
 
   grown : AllExtend accs ms
   grown = all_extend accs ms n i only
@@ -166,7 +166,7 @@ module _ (codecs : Codecs) (accs : Accounts) (n : ℕ) (e x : End) (sender : Opt
   gives_is = rw (h.deed.role_is, h.deed.node_is, h.deed.move_is) refl
 
   is : ms n i ≡ b
-  is = after_move accs d n (move.Closed m) h.deed.node_is h.deed.move_is
+  is = after_move accs d n (move.Closed m) tt h.deed.node_is h.deed.move_is
       ∙ ap₂ (λ (r : ℕ) (ls : List Letter). record a { remote = r; closed = Some (length a.taken); given = a.given ++ ls }) known gives_is
 
   -- ---- its partner
@@ -272,6 +272,7 @@ module _ (codecs : Codecs) (accs : Accounts) (n : ℕ) (e x : End) (sender : Opt
     closed = inl is_open;
     given = (last ∷ [], refl);
     taken = ([], sym (append-nil a.taken));
+    declined = λ z. z;
   }
 
   -- what it heeds is what it took
@@ -329,7 +330,7 @@ module _ (codecs : Codecs) (accs : Accounts) (n : ℕ) (e x : End) (sender : Opt
         few = omega arith;
         outstanding = omega arith;
         taken = live.taken;
-        acked = are_acked_on ms n i a b t.control.channel.window.acked refl refl a.part
+        acked = are_acked_on ms n i a b t.control.channel.window.acked refl refl (λ z. z) a.part
             (are_acked_later accs ms grown n i some a t.control.channel.window.acked a.part live.acked);
         calls = λ s k f. absurd (none-some k (sym (at-none s) ∙ f));
         order = ascends-empty [] refl;

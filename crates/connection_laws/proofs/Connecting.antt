@@ -135,7 +135,7 @@ module _ (codecs : Codecs) (classes : ClassIsTrue) (accs : Accounts) (n : ℕ) (
   made = live_made accs n i a t live
 
   said : Said accs n e sender ev h.within.comes i t h.does.hears.1.hears.header h.does.hears.1.hears.bytes h.does.hears.0 (Sccrp h.does.opening)
-  said = said_so codecs classes accs n e sender ev h.within i t h.does.there h.does.hears.0 (Sccrp h.does.opening) h.does.hears.1
+  said = said_so codecs classes accs n e sender ev h.within i t h.does.there h.does.hears.0 (Sccrp h.does.opening) tt h.does.hears.1
 
   abbrev o : ControlOrigin
   o = said.heard.o
@@ -178,10 +178,10 @@ module _ (codecs : Codecs) (classes : ClassIsTrue) (accs : Accounts) (n : ℕ) (
   some_given = let lt = slice_get_within p.given (length a.taken) said.next.letter said.next.there in omega arith
 
   only : IsOnly accs ms n i
-  only = only_after accs d n (move.Connected m) h.deed.node_is h.deed.move_is (first.none, first.is_open)
+  only = only_after accs d n (move.Connected m) tt h.deed.node_is h.deed.move_is (first.none, first.is_open)
 
   is : ms n i ≡ b
-  is = after_move accs d n (move.Connected m) h.deed.node_is h.deed.move_is
+  is = after_move accs d n (move.Connected m) tt h.deed.node_is h.deed.move_is
       ∙ takes_and_gives d n e.role sender (move.Connected m) m.taken (record a { remote = m.remote }) h.deed
 
   -- it is another tunnel, and stays
@@ -197,6 +197,7 @@ module _ (codecs : Codecs) (classes : ClassIsTrue) (accs : Accounts) (n : ℕ) (
       let acks : AreAcked accs n i a t.control.channel.window.acked Opener = subst (AreAcked accs n i a t.control.channel.window.acked) first.here live.acked in
       ⊎_elim
       (λ (z : t.control.channel.window.acked ≡ 0). omega arith)
+      (λ rest. ⊎_elim
       (λ (z : IsAnswered accs n i a t.control.channel.window.acked).
       let le = z.enough in
       let other = z.part in
@@ -206,6 +207,9 @@ module _ (codecs : Codecs) (classes : ClassIsTrue) (accs : Accounts) (n : ℕ) (
       let only_one = alone_one a (accs a.peer z.acceptor)
       (acceptor_alone accs n i it h.within.accounts z.part z.remote z.peer (λ q. let none = first.none in let no : ⊥ = omega arith in no)) found in
       omega arith)
+      -- its SCCRQ alone was declined
+      (λ (z : (t.control.channel.window.acked ≡ 1) × (a.declined ≡ true)). let one = z.0 in omega arith)
+      rest)
       (acks.0 first.none)
 
   nothing_before : length a.taken ≡ 0

@@ -39,7 +39,7 @@ use Rattle.connection_laws.specs.Accounts.{Part, Unmade, Opener, Acceptor, Accou
 use Rattle.connection_laws.specs.Facts.{Accounts, IsNoOpening, IsSpelled, TellsOwn, IsOpen, partner_in, AllWait, IsShut, IsInState, LiveOk, Within}
 use Rattle.connection_laws.proofs.Keeps.{IsDeed, after, IsMoved}
 use Rattle.connection_laws.proofs.Puts.{IsOnly, EndPut}
-use Rattle.connection_laws.proofs.Later.{extends_same, MayEnter, after_move, only_after, same_after}
+use Rattle.connection_laws.proofs.Later.{extends_same, DeclinesNone, MayEnter, after_move, only_after, same_after}
 use Rattle.connection_laws.proofs.States.{no_call, waits_untold, rung_waits}
 use Rattle.connection_laws.proofs.Removed.{removed_keeps}
 use Rattle.connection_laws.proofs.GoingOn.{GoesOn, with_given, goes_on}
@@ -77,7 +77,7 @@ put_places e i u places = record {
 }
 
 module _ (accs : Accounts) (n : ℕ) (e : End) (sender : Option Sender) (ev : Event) (d : Deed) (within : Within accs n e sender ev) (m : Move)
-    (deed : IsDeed d n e.role sender m) (t : Tunnel) (there : at e.tunnels (about m) ≡ Some t) where
+    (deed : IsDeed d n e.role sender m) (none : DeclinesNone m) (t : Tunnel) (there : at e.tunnels (about m) ≡ Some t) where
   live : LiveOk accs n (about m) (accs n (about m)) t
   live = within.end.live (about m) t there
 
@@ -111,8 +111,8 @@ module _ (accs : Accounts) (n : ℕ) (e : End) (sender : Option Sender) (ev : Ev
       let i = about m in
       goes_on accs (after accs d) n e (with_places e i (with_one l calls t) places) sender ev within i t (with_one l calls t) (l ∷ []) there
       (one_goes_on l calls h)
-      (only_after accs d n m deed.node_is deed.move_is may)
-      (after_move accs d n m deed.node_is deed.move_is ∙ enters ∙ ap (λ ls. with_given ls (accs n i)) (gives_is ∙ one))
+      (only_after accs d n m none deed.node_is deed.move_is may)
+      (after_move accs d n m none deed.node_is deed.move_is ∙ enters ∙ ap (λ ls. with_given ls (accs n i)) (gives_is ∙ one))
       (h.spelled, tt) (h.plain, tt) (h.told, tt)
       (put_places e i (with_one l calls t) places)
 
@@ -146,7 +146,7 @@ end_told_keeps accs n e x sender moment ev m d h =
     let t = o.tunnel in
     let live = h.within.end.live m.tunnel t o.there in
     subst (λ y. Within (after accs d) n y sender ev) (sym o.after)
-    (given_keeps accs n e sender ev d h.within (move.EndTold m) h.deed t o.there
+    (given_keeps accs n e sender ev d h.within (move.EndTold m) h.deed tt t o.there
     (record { tunnel = m.tunnel; place = m.given; session = m.remote; message = Cdn m.session m.result m.error })
     (without t.calls m.session) _ tt refl refl
     (record {
@@ -167,7 +167,7 @@ greeted_keeps accs n e x sender moment ev m d h =
     let t = o.tunnel in
     let live = h.within.end.live m.tunnel t o.there in
     subst (λ y. Within (after accs d) n y sender ev) (sym o.after)
-    (given_keeps accs n e sender ev d h.within (move.Greeted m) h.deed t o.there
+    (given_keeps accs n e sender ev d h.within (move.Greeted m) h.deed tt t o.there
     (record { tunnel = m.tunnel; place = m.given; session = 0; message = Hello }) t.calls e.calls tt refl refl
     (record {
       spelled = record { written = tt; session = omega arith };
@@ -202,7 +202,7 @@ requested_keeps digits accs n e x sender moment ev m d h =
     let live = h.within.end.live m.tunnel t o.there in
     let call = advanced e.role call_event.TunnelOpen moment o.call in
     subst (λ y. Within (after accs d) n y sender ev) (sym o.after)
-    (given_keeps accs n e sender ev d h.within (move.Requested m) h.deed t o.there
+    (given_keeps accs n e sender ev d h.within (move.Requested m) h.deed tt t o.there
     (record { tunnel = m.tunnel; place = m.given; session = 0; message = request_of m.session m.port }) (put t.calls m.session call) _ tt refl refl
     (record {
       spelled = record { written = request_written digits m.session m.port o.session; session = omega arith };
@@ -264,32 +264,32 @@ stays_keeps accs n e x sender ev within i t u there s put_is =
 
 -- no account changes in the move
 still : (accs : Accounts) (n : ℕ) (e x : End) (sender : Option Sender) (moment : ℕ) (ev : Event) (m : Move) (d : Deed)
-    → IsMoved accs n e x sender moment ev m d → entered_by d m (accs n (about m)) ≡ accs n (about m) → Within accs n x sender ev
+    → IsMoved accs n e x sender moment ev m d → DeclinesNone m → entered_by d m (accs n (about m)) ≡ accs n (about m) → Within accs n x sender ev
     → Within (after accs d) n x sender ev
-still accs n e x sender moment ev m d h same w =
-    subst (λ ms. Within ms n x sender ev) (sym (same_after accs d n m h.deed.node_is h.deed.move_is same)) w
+still accs n e x sender moment ev m d h none same w =
+    subst (λ ms. Within ms n x sender ev) (sym (same_after accs d n m none h.deed.node_is h.deed.move_is same)) w
 
 -- nothing changes at all
 pub quiet_keeps : (accs : Accounts) (n : ℕ) (e x : End) (sender : Option Sender) (moment : ℕ) (ev : Event) (i : ℕ) (d : Deed)
     → IsMoved accs n e x sender moment ev (move.Quiet i) d → Within (after accs d) n x sender ev
 quiet_keeps accs n e x sender moment ev i d h =
-    still accs n e x sender moment ev (move.Quiet i) d h refl (subst (λ y. Within accs n y sender ev) (sym h.does.after) h.within)
+    still accs n e x sender moment ev (move.Quiet i) d h tt refl (subst (λ y. Within accs n y sender ev) (sym h.does.after) h.within)
 
 pub frame_sent_keeps : (accs : Accounts) (n : ℕ) (e x : End) (sender : Option Sender) (moment : ℕ) (ev : Event) (m : FrameSent) (d : Deed)
     → IsMoved accs n e x sender moment ev (move.FrameSent m) d → Within (after accs d) n x sender ev
 frame_sent_keeps accs n e x sender moment ev m d h =
-    still accs n e x sender moment ev (move.FrameSent m) d h refl (subst (λ y. Within accs n y sender ev) (sym h.does.after) h.within)
+    still accs n e x sender moment ev (move.FrameSent m) d h tt refl (subst (λ y. Within accs n y sender ev) (sym h.does.after) h.within)
 
 pub frame_up_keeps : (accs : Accounts) (n : ℕ) (e x : End) (sender : Option Sender) (moment : ℕ) (ev : Event) (m : FrameUp) (d : Deed)
     → IsMoved accs n e x sender moment ev (move.FrameUp m) d → Within (after accs d) n x sender ev
 frame_up_keeps accs n e x sender moment ev m d h =
-    still accs n e x sender moment ev (move.FrameUp m) d h refl (subst (λ y. Within accs n y sender ev) (sym h.does.after) h.within)
+    still accs n e x sender moment ev (move.FrameUp m) d h tt refl (subst (λ y. Within accs n y sender ev) (sym h.does.after) h.within)
 
 -- the tunnel isn't there any more
 pub cleared_keeps : (accs : Accounts) (n : ℕ) (e x : End) (sender : Option Sender) (moment : ℕ) (ev : Event) (i : ℕ) (d : Deed)
     → IsMoved accs n e x sender moment ev (move.Cleared i) d → Within (after accs d) n x sender ev
 cleared_keeps accs n e x sender moment ev i d h =
-    still accs n e x sender moment ev (move.Cleared i) d h refl
+    still accs n e x sender moment ev (move.Cleared i) d h tt refl
     (subst (λ y. Within accs n y sender ev) (sym h.does.after) (removed_keeps accs n e sender ev h.within i _))
 
 -- ---- its calls change
@@ -322,7 +322,7 @@ end_silent_keeps accs n e x sender moment ev m d h =
     let o = h.does in
     let t = o.tunnel in
     let live = h.within.end.live m.tunnel t o.there in
-    still accs n e x sender moment ev (move.EndSilent m) d h refl
+    still accs n e x sender moment ev (move.EndSilent m) d h tt refl
     (subst (λ y. Within accs n y sender ev) (sym o.after)
     (stays_keeps accs n e _ sender ev h.within m.tunnel t (record t { calls = without t.calls m.session }) o.there
     (calls_stay t (without t.calls m.session) live.outstanding
@@ -353,7 +353,7 @@ added_keeps accs n e x sender moment ev m d h =
     (next_is e.session_ids m.session o.drawn) in
     let drawn = draw_is e.session_ids m.session o.drawn in
     let next = drawn.0 in
-    still accs n e x sender moment ev (move.Added m) d h refl
+    still accs n e x sender moment ev (move.Added m) d h tt refl
     (subst (λ y. Within accs n y sender ev) (sym same)
     (stays_keeps accs n e _ sender ev h.within m.tunnel t u o.there
     (calls_stay t (put t.calls m.session call) live.outstanding
@@ -439,14 +439,14 @@ ticked_only c moment le = by c.frozen (due_at c.window moment && nat_lt c.window
     by false false = record { acked = refl; queued = refl; outstanding = le; taken = refl }
 
 window_keeps : (accs : Accounts) (n : ℕ) (e x : End) (sender : Option Sender) (moment : ℕ) (ev : Event) (m : Move) (d : Deed)
-    → IsMoved accs n e x sender moment ev m d → entered_by d m (accs n (about m)) ≡ accs n (about m) → (t : Tunnel) (c : Numbers)
+    → IsMoved accs n e x sender moment ev m d → DeclinesNone m → entered_by d m (accs n (about m)) ≡ accs n (about m) → (t : Tunnel) (c : Numbers)
     → at e.tunnels (about m) ≡ Some t → x ≡ with_tunnel e (about m) (record t { control = record t.control { channel = c } })
     → (t.control.channel.window.outstanding ≤ t.control.channel.window.queued → WindowOnly t.control.channel c) → Within (after accs d) n x sender ev
-window_keeps accs n e x sender moment ev m d h same t c there is stays =
+window_keeps accs n e x sender moment ev m d h none same t c there is stays =
     let i = about m in
     let u : Tunnel = record t { control = record t.control { channel = c } } in
     let live = h.within.end.live i t there in
-    still accs n e x sender moment ev m d h same
+    still accs n e x sender moment ev m d h none same
     (subst (λ y. Within accs n y sender ev) (sym is)
     (stays_keeps accs n e _ sender ev h.within i t u there (window_stays accs n i (accs n i) t c live (stays live.outstanding)) (put_places e i u e.calls)))
 
@@ -455,7 +455,7 @@ pub let_go_keeps : (accs : Accounts) (n : ℕ) (e x : End) (sender : Option Send
     → IsMoved accs n e x sender moment ev (move.LetGo m) d → Within (after accs d) n x sender ev
 let_go_keeps accs n e x sender moment ev m d h =
     let o = h.does in
-    window_keeps accs n e x sender moment ev (move.LetGo m) d h refl o.tunnel (let_go_at o.tunnel.control.channel moment) o.there o.after
+    window_keeps accs n e x sender moment ev (move.LetGo m) d h tt refl o.tunnel (let_go_at o.tunnel.control.channel moment) o.there o.after
     (let_go_only o.tunnel.control.channel moment)
 
 -- a letter is repeated
@@ -463,5 +463,5 @@ pub repeated_keeps : (accs : Accounts) (n : ℕ) (e x : End) (sender : Option Se
     → IsMoved accs n e x sender moment ev (move.Repeated m) d → Within (after accs d) n x sender ev
 repeated_keeps accs n e x sender moment ev m d h =
     let o = h.does in
-    window_keeps accs n e x sender moment ev (move.Repeated m) d h refl o.tunnel (ticked_at o.tunnel.control.channel moment) o.there o.after
+    window_keeps accs n e x sender moment ev (move.Repeated m) d h tt refl o.tunnel (ticked_at o.tunnel.control.channel moment) o.there o.after
     (ticked_only o.tunnel.control.channel moment)

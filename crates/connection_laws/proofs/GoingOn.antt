@@ -1,5 +1,5 @@
 -- A tunnel that takes no letter goes on: it may be given letters, its window and its calls may change.
-use Rattle.std.proofs.Common.{◌≡◌, ◌⊎◌, inl, inr, ⊎_elim, ℕ, ◌+◌, ◌<◌, ◌≤◌, List, [], ◌∷◌, ◌++◌, length, map, drop, refl, sym, ap, ap₂, ◌∙◌, subst, append-nil, Option, Some, arith}
+use Rattle.std.proofs.Common.{◌≡◌, ◌⊎◌, inl, inr, ⊎_elim, ℕ, ◌+◌, ◌<◌, ◌≤◌, true, List, [], ◌∷◌, ◌++◌, length, map, drop, refl, sym, ap, ap₂, ◌∙◌, subst, append-nil, Option, Some, arith}
 use Rattle.std.proofs.lemmas.List.{length-append, drop-append-le, map-append}
 use Rattle.std.specs.List.{AllByRecursion}
 use Rattle.id_table.specs.Ids.{at}
@@ -11,7 +11,7 @@ use Rattle.control_message.specs.declared.message.Opening.{Opening}
 use Rattle.tunnel_fsm.specs.Rows.{state_number}
 use Rattle.protocol_model.specs.declared.event.Event.{Event}
 use Rattle.protocol_model.specs.declared.event.Event.TheVariants.{Datagram, Ring, Payload, Lower, Hang, OpenTunnel, DropCall, CloseTunnel, Tick}
-use Rattle.protocol_model.specs.declared.event.Addressee.TheVariants.{Stops}
+use Rattle.protocol_model.specs.declared.event.Addressee.TheVariants.{Opens, Stops}
 use Rattle.protocol_model.specs.declared.out.Origin.{Origin}
 use Rattle.protocol_model.specs.declared.out.Origin.TheVariants as origin
 use Rattle.protocol_model.specs.declared.packet.Packet.{Packet}
@@ -65,6 +65,7 @@ given_extends a more = record {
   closed = inr refl;
   given = (more, refl);
   taken = ([], sym (append-nil a.taken));
+  declined = λ z. z;
 }
 
 begins_on : (i : ℕ) (says : Opening → Message) (given more : List Letter) → AllByRecursion (λ (l : Letter). IsNoOpening l.message) more
@@ -89,17 +90,22 @@ answered_on : (accs : Accounts) (n i : ℕ) (a b : Account) (acked : ℕ) → b.
 answered_on accs n i a b acked peer h =
     record { acceptor = h.acceptor; part = rw peer h.part; peer = rw peer h.peer; remote = rw peer h.remote; enough = rw peer h.enough }
 
--- and so is its partner
-pub are_acked_on : (accs : Accounts) (n i : ℕ) (a b : Account) (acked : ℕ) → b.peer ≡ a.peer → b.remote ≡ a.remote → (p : Part)
-    → AreAcked accs n i a acked p → AreAcked accs n i b acked p
-are_acked_on accs n i a b acked peer remote Unmade h = h
-are_acked_on accs n i a b acked peer remote Opener h =
+-- and so is its partner; what was declined still is
+pub are_acked_on : (accs : Accounts) (n i : ℕ) (a b : Account) (acked : ℕ) → b.peer ≡ a.peer → b.remote ≡ a.remote
+    → (a.declined ≡ true → b.declined ≡ true) → (p : Part) → AreAcked accs n i a acked p → AreAcked accs n i b acked p
+are_acked_on accs n i a b acked peer remote keeps Unmade h = h
+are_acked_on accs n i a b acked peer remote keeps Opener h =
     let same : partner_in accs a ≡ partner_in accs b = sym (ap₂ accs peer remote) in (
-      (λ unknown. ⊎_elim (λ none. inl none)
-          (λ (one : IsAnswered accs n i a acked). inr (answered_on accs n i a b acked peer one)) (h.0 (sym remote ∙ unknown))),
+      (λ unknown. ⊎_elim
+          (λ none. inl none)
+          (λ rest. inr (⊎_elim
+          (λ (one : IsAnswered accs n i a acked). inl (answered_on accs n i a b acked peer one))
+          (λ (k : (acked ≡ 1) × (a.declined ≡ true)). inr (k.0, keeps k.1))
+          rest))
+          (h.0 (sym remote ∙ unknown))),
       (λ known. subst (λ (x : Account). acked ≤ length x.taken) same (h.1 (λ none. known (remote ∙ none)))),
     )
-are_acked_on accs n i a b acked peer remote Acceptor h =
+are_acked_on accs n i a b acked peer remote keeps Acceptor h =
     let same : partner_in accs a ≡ partner_in accs b = sym (ap₂ accs peer remote) in
     subst (λ (x : Account). ((x.remote ≡ i → ⊥) → (acked ≡ 0) ⊎ IsLost x) × (x.remote ≡ i → acked ≤ length x.taken)) same h
 
@@ -109,7 +115,7 @@ for_back h bytes c d local remote f =
     ⊎_elim
     (λ names. inl (names ∙ local))
     (λ other. inr (⊎_elim
-    (λ (again : IsAgain h bytes d). inl (record { none = again.none; opening = again.opening; said = again.said; known = sym remote ∙ again.known }))
+    (λ (again : IsAgain h bytes d). inl (record { none = again.none; opens = again.opens ∙ ap (λ r. Opens r) remote }))
     (λ (stop : IsStop h bytes d). inr (record { none = stop.none; stops = stop.stops ∙ ap (λ r. Stops r) remote }))
     other))
     f
@@ -306,7 +312,7 @@ module _ (accs ms : Accounts) (n : ℕ) (e x : End) (sender : Option Sender) (ev
     few = g.few;
     outstanding = g.outstanding;
     taken = g.taken ∙ live.taken;
-    acked = rw g.acked (are_acked_on ms n i a b acked refl refl a.part (are_acked_later accs ms grown n i some a acked a.part live.acked));
+    acked = rw g.acked (are_acked_on ms n i a b acked refl refl (λ z. z) a.part (are_acked_later accs ms grown n i some a acked a.part live.acked));
     calls = g.calls;
     order = g.order;
   }

@@ -1,11 +1,11 @@
 -- What is read of a packet: which tunnel sent it, and what that tunnel and the one that it is for know of each other.
-use Rattle.std.proofs.Common.{◌≡◌, ◌⊎◌, inl, inr, ⊎_elim, ℕ, zero, suc, ◌<◌, ◌≤◌, true, false, List, [], ◌∷◌, length, refl, sym, ap, ◌∙◌, subst, Option, Some, None, Ok, arith}
+use Rattle.std.proofs.Common.{◌≡◌, ◌⊎◌, inl, inr, ⊎_elim, ℕ, zero, suc, ◌<◌, ◌≤◌, true, false, List, [], ◌∷◌, length, refl, sym, ap, ap₂, ◌∙◌, subst, Option, Some, None, Ok, arith}
 use Rattle.std.proofs.lemmas.Bool.{true≢false}
 use Rattle.std.specs.Prelude.{slice_get, unwrap_or}
 use Rattle.std.specs.List.{AllByRecursion}
 use Rattle.id_table.specs.Ids.{at}
 use Rattle.l2tp_header.specs.declared.header.Header.{Header}
-use Rattle.l2tp_header.specs.Again.{Carries, control_header}
+use Rattle.l2tp_header.specs.Again.{control_header}
 use Rattle.l2tp_header.specs.Spelling.{control_bytes, data_bytes}
 use Rattle.l2tp_header.specs.Reading.{header_of}
 use Rattle.avp_codec.specs.Spelling.{spelling}
@@ -29,11 +29,13 @@ use Rattle.protocol_model.specs.End.{End}
 use Rattle.protocol_model.specs.World.{Sender, sender_of}
 use Rattle.step_laws.specs.Letters.{Letter}
 use Rattle.step_laws.specs.Moves.{IsFor, IsAgain, IsStop, HearsNext, ComesNext, TellsNr}
+use Rattle.step_laws.specs.Opens.{opens_said, empty_opens_none}
 use Rattle.frame_laws.specs.Codecs.{Codecs}
 use Rattle.connection_laws.specs.Accounts.{Part, Unmade, Opener, Acceptor, Account}
-use Rattle.connection_laws.specs.Facts.{Accounts, IsMade, IsSpelled, IsNoOpening, IsStopCcn, TellsOwn, IsLost, BeginsWith, IsPart, IsOpener, IsAcceptor, partner_in, AccountOk, LiveOk, Says, ALetter, Nothing, IsCopy, IsData, OriginOk, IsNear, AreNear, IsPacket, Comes, Within}
+use Rattle.connection_laws.specs.Facts.{Accounts, IsMade, IsSpelled, IsNoOpening, IsNoStop, IsStopCcn, TellsOwn, IsLost, BeginsWith, IsPart, IsOpener, IsAcceptor, partner_in, AccountOk, LiveOk, Says, ALetter, Nothing, IsCopy, IsRefusal, IsData, OriginOk, IsNear, AreNear, IsPacket, Comes, Within}
 use Rattle.connection_laws.proofs.Later.{live_made}
 use Rattle.connection_laws.proofs.Stops.{stops_by, no_stop}
+use Rattle.connection_laws.proofs.Refusals.{message_again, same_header, refusal_some, RefusalRead, refusal_read}
 use Rattle.connection_laws.proofs.Puts.{NearAt, ComesNear}
 
 -- ---- addresses
@@ -92,9 +94,11 @@ pub record IsNoneRead (o : ControlOrigin) (h : Header) (bytes : List ℕ) : Type
   pub body : body_of h bytes ≡ []
 
 -- how it names the tunnel that it is for
+abbrev pub NamesNone : Account → ControlOrigin → ℕ → Type 0
+NamesNone b o tunnel = (tunnel ≡ 0) × (b.part ≡ Opener) × (IsLost b ⊎ ((o.nr ≡ 0) × (o.empty ≡ false → o.ns ≡ 0)))
+
 abbrev pub IsNamedSo : Account → ControlOrigin → ℕ → Type 0
-IsNamedSo b o tunnel =
-    ((tunnel ≡ 0) × (IsLost b ⊎ ((o.nr ≡ 0) × (o.empty ≡ false → o.ns ≡ 0)))) ⊎ ((tunnel ≡ 0 → ⊥) × (tunnel ≡ b.remote))
+IsNamedSo b o tunnel = NamesNone b o tunnel ⊎ ((tunnel ≡ 0 → ⊥) × (tunnel ≡ b.remote))
 
 pub record CopyRead (b : Account) (o : ControlOrigin) (h : Header) (bytes : List ℕ) : Type 0 where
   pub tunnel : IsNamedSo b o h.tunnel
@@ -105,15 +109,22 @@ pub record CopyRead (b : Account) (o : ControlOrigin) (h : Header) (bytes : List
 -- ids that a tunnel names have 16 bits
 pub named_fits : (b : Account) (o : ControlOrigin) (tunnel : ℕ) → b.remote < 65536 → IsNamedSo b o tunnel → tunnel < 65536
 named_fits b o tunnel fits named = ⊎_elim
-    (λ (k : (tunnel ≡ 0) × (IsLost b ⊎ ((o.nr ≡ 0) × (o.empty ≡ false → o.ns ≡ 0)))). let z = k.0 in omega arith)
+    (λ (k : NamesNone b o tunnel). let z = k.0 in omega arith)
     (λ (k : (tunnel ≡ 0 → ⊥) × (tunnel ≡ b.remote)). let z = k.1 in omega arith)
     named
 
--- where it names none, its sender is lost, or it is the first letter and tells nothing taken
+-- where it names none, its sender is an opener
+pub unnamed_opener : (b : Account) (o : ControlOrigin) (tunnel : ℕ) → IsNamedSo b o tunnel → tunnel ≡ 0 → b.part ≡ Opener
+unnamed_opener b o tunnel named none = ⊎_elim
+    (λ (k : NamesNone b o tunnel). k.1)
+    (λ (k : (tunnel ≡ 0 → ⊥) × (tunnel ≡ b.remote)). absurd (k.0 none))
+    named
+
+-- which is lost, or it is the first letter and tells nothing taken
 pub unnamed : (b : Account) (o : ControlOrigin) (tunnel : ℕ) → IsNamedSo b o tunnel → tunnel ≡ 0
     → IsLost b ⊎ ((o.nr ≡ 0) × (o.empty ≡ false → o.ns ≡ 0))
 unnamed b o tunnel named none = ⊎_elim
-    (λ (k : (tunnel ≡ 0) × (IsLost b ⊎ ((o.nr ≡ 0) × (o.empty ≡ false → o.ns ≡ 0)))). k.1)
+    (λ (k : NamesNone b o tunnel). k.2)
     (λ (k : (tunnel ≡ 0 → ⊥) × (tunnel ≡ b.remote)). absurd (k.0 none))
     named
 
@@ -123,18 +134,10 @@ all_at P (y ∷ xs) zero x is h = let e : y ≡ x = cc in subst P e h.0
 all_at P (y ∷ xs) (suc k) x is h = all_at P xs k x is h.1
 
 module _ (codecs : Codecs) where
-  -- the message that was written
-  message_again : (m : Message) → IsWritten m → message_in (spelling (pairs_of m)) ≡ Ok m
-  unfolding message_in pairs_read message_read
-  message_again m w = let both = codecs.message m w in rw (both.0, both.1) refl
-
   -- no pairs make no message
   pub no_message : (m : Message) → message_in [] ≡ Ok m → ⊥
   unfolding message_in pairs_read message_read message_of
   no_message m h = let none = codecs.pairs [] tt in (let g = rw none at h in cc)
-
-  same_header : (bytes : List ℕ) (h k : Header) (body : List ℕ) → Carries bytes k body → header_of bytes ≡ Ok h → h ≡ k
-  same_header bytes h k body c e = let r = c.reads in cc
 
   -- of a control message the header and the pairs
   record ControlRead (tunnel session ns nr : ℕ) (pairs bytes : List ℕ) (h : Header) : Type 0 where
@@ -150,7 +153,7 @@ module _ (codecs : Codecs) where
       let made = control_bytes tunnel session (on_wire ns) (on_wire nr) pairs in
       let k = control_header tunnel session (on_wire ns) (on_wire nr) (length pairs) in
       let c = codecs.control tunnel session (on_wire ns) (on_wire nr) pairs t s (omega arith) (omega arith) le in
-      let same : h ≡ k = same_header made h k pairs c (rw are at e) in
+      let same : h ≡ k = same_header codecs made h k pairs c (rw are at e) in
       rw (same, are) (record { tunnel_is = refl; session_is = refl; ns_is = refl; nr_is = refl; body = c.bounds })
 
   -- a data message is no control message
@@ -158,7 +161,7 @@ module _ (codecs : Codecs) where
   data_read bytes h d e k =
       let made = data_bytes d.tunnel d.session None d.frame in
       let c = codecs.frame d.tunnel d.session None d.frame d.tunnel_fits d.session_fits tt in
-      true≢false (sym k ∙ ap (λ (x : Header). x.control) (same_header made h _ _ c (let a = d.are in rw a at e)))
+      true≢false (sym k ∙ ap (λ (x : Header). x.control) (same_header codecs made h _ _ c (let a = d.are in rw a at e)))
 
   pub copy_read : (b : Account) (p : Packet) (o : ControlOrigin) (h : Header) → b.remote < 65536 → AllByRecursion IsSpelled b.given → IsCopy b p o
       → header_of p.bytes ≡ Ok h → CopyRead b o h p.bytes
@@ -180,7 +183,7 @@ module _ (codecs : Codecs) where
               some = some;
               there = there;
               session = r.session_is;
-              said = rw r.body (message_again l.message s.written);
+              said = rw r.body (message_again codecs l.message s.written);
               spelled = s;
             });
           }
@@ -329,11 +332,40 @@ pub record FromPeer (accs : Accounts) (n : ℕ) (e : End) (sender : Option Sende
   pub near : AreNear accs n e packet (origin.Control o)
   pub again : (ms : Accounts) (j : ℕ) (u : Tunnel) → IsNear (ms n j) u o → ComesNear accs n e sender ev comes ms j u
 
+-- or it is a StopCCN of no tunnel, which declines the SCCRQ of a tunnel of this node
+pub record DeclinedByPeer (accs : Accounts) (n : ℕ) (e : End) (sender : Option Sender) (ev : Event) (comes : Comes accs n e sender ev) (peer : ℕ) (h : Header)
+    (bytes : List ℕ) : Type 0 where
+  pub packet : Packet
+  pub o : ControlOrigin
+  pub refusal : IsRefusal accs packet o
+  pub some : 0 < refusal.tunnel
+  pub read : RefusalRead refusal.tunnel o h bytes
+  pub sender_is : sender ≡ Some (record { node = packet.from; tunnel = o.tunnel })
+  pub to : packet.to ≡ n
+  pub peer_is : peer ≡ address_of packet.from
+  pub bytes_are : bytes ≡ packet.bytes
+  pub near : AreNear accs n e packet (origin.Control o)
+  pub again : (ms : Accounts) (j : ℕ) (u : Tunnel) → IsNear (ms n j) u o → ComesNear accs n e sender ev comes ms j u
+
 -- a packet that is a control message
 record IsControl (accs : Accounts) (p : Packet) : Type 0 where
   o : ControlOrigin
   is : p.origin ≡ origin.Control o
-  copy : IsCopy (accs p.from o.tunnel) p o
+  sent : IsCopy (accs p.from o.tunnel) p o ⊎ IsRefusal accs p o
+
+-- it is read as a message that is written by the rules
+pub record PeerSays (h : Header) (bytes : List ℕ) : Type 0 where
+  pub message : Message
+  pub said : message_in (body_of h bytes) ≡ Ok message
+  pub written : IsWritten message
+
+-- a StopCCN of no tunnel says nothing that stops none
+refusal_stops : (tunnel : ℕ) (o : ControlOrigin) (h : Header) (bytes : List ℕ) → RefusalRead tunnel o h bytes → (m : Message) → IsNoStop m
+    → message_in (body_of h bytes) ≡ Ok m → ⊥
+refusal_stops tunnel o h bytes r m plain said =
+    let was = r.said in
+    let same : m ≡ StopCcn 0 r.result r.error = cc in
+    subst IsNoStop same plain
 
 -- a control message with a body is a letter
 pub letter_some : (b : Account) (o : ControlOrigin) (h : Header) (bytes : List ℕ) → CopyRead b o h bytes → (length (body_of h bytes) ≡ 0 → ⊥)
@@ -354,33 +386,78 @@ module _ (codecs : Codecs) where
 
   control_of : (accs : Accounts) (p : Packet) (h : Header) → header_of p.bytes ≡ Ok h → h.control ≡ true → (g : Origin) → p.origin ≡ g → OriginOk accs p g
       → IsControl accs p
-  control_of accs p h read control (origin.Control o) is ok = record { o = o; is = is; copy = ok }
+  control_of accs p h read control (origin.Control o) is ok = record { o = o; is = is; sent = ok }
   control_of accs p h read control (origin.Data session) is ok = absurd (data_read codecs p.bytes h ok read control)
 
   pub from_peer : (accs : Accounts) (n : ℕ) (e : End) (sender : Option Sender) (ev : Event) (within : Within accs n e sender ev) (peer : ℕ) (h : Header)
       (bytes : List ℕ) → ev ≡ Datagram peer bytes → header_of bytes ≡ Ok h → h.control ≡ true
-      → FromPeer accs n e sender ev within.comes peer h bytes
+      → FromPeer accs n e sender ev within.comes peer h bytes ⊎ DeclinedByPeer accs n e sender ev within.comes peer h bytes
   from_peer accs n e sender ev within peer h bytes is reads control =
       let at_peer = packet_at accs n e sender ev within.comes peer bytes is in
       let p = at_peer.is.packet in
       let read : header_of p.bytes ≡ Ok h = (let r = reads in rw at_peer.is.bytes_are at r) in
       let c = control_of accs p h read control p.origin refl at_peer.is.ok.sent in
       let o = c.o in
+      let sender_is = at_peer.is.sender_is ∙ ap (λ (g : Origin). sender_of p.from g) c.is in
+      let near = subst (λ (g : Origin). AreNear accs n e p g) c.is at_peer.is.near in
+      let again = λ (ms : Accounts) (j : ℕ) (u : Tunnel) (k : IsNear (ms n j) u o).
+      at_peer.again ms j u (subst (λ (g : Origin). NearAt ms n j u p g) (sym c.is) (λ x q r s. k)) in
+      ⊎_elim
+      (λ (copy : IsCopy (accs p.from o.tunnel) p o).
       let ok = within.accounts p.from o.tunnel in
-      record {
+      inl (record {
         packet = p;
         o = o;
-        copy = c.copy;
+        copy = copy;
         read = subst (λ (bs : List ℕ). CopyRead (accs p.from o.tunnel) o h bs) (sym at_peer.is.bytes_are)
-            (copy_read codecs (accs p.from o.tunnel) p o h ok.remote ok.spelled c.copy read);
-        sender_is = at_peer.is.sender_is ∙ ap (λ (g : Origin). sender_of p.from g) c.is;
+            (copy_read codecs (accs p.from o.tunnel) p o h ok.remote ok.spelled copy read);
+        sender_is = sender_is;
         from = at_peer.is.ok.from;
         to = at_peer.is.to;
         peer_is = at_peer.is.peer_is;
         bytes_are = at_peer.is.bytes_are;
-        near = subst (λ (g : Origin). AreNear accs n e p g) c.is at_peer.is.near;
-        again = λ ms j u near. at_peer.again ms j u (subst (λ (g : Origin). NearAt ms n j u p g) (sym c.is) (λ x q r s. near));
-      }
+        near = near;
+        again = again;
+      }))
+      (λ (refusal : IsRefusal accs p o).
+      inr (record {
+        packet = p;
+        o = o;
+        refusal = refusal;
+        some = refusal_some accs within.accounts p o refusal;
+        read = subst (λ (bs : List ℕ). RefusalRead refusal.tunnel o h bs) (sym at_peer.is.bytes_are)
+            (refusal_read codecs accs within.accounts p o refusal h read);
+        sender_is = sender_is;
+        to = at_peer.is.to;
+        peer_is = at_peer.is.peer_is;
+        bytes_are = at_peer.is.bytes_are;
+        near = near;
+        again = again;
+      }))
+      c.sent
+
+  -- where it stops no tunnel, it is of a tunnel of the peer's
+  pub from_peer_said : (accs : Accounts) (n : ℕ) (e : End) (sender : Option Sender) (ev : Event) (within : Within accs n e sender ev) (peer : ℕ) (h : Header)
+      (bytes : List ℕ) → ev ≡ Datagram peer bytes → header_of bytes ≡ Ok h → h.control ≡ true → (m : Message) → IsNoStop m
+      → message_in (body_of h bytes) ≡ Ok m → FromPeer accs n e sender ev within.comes peer h bytes
+  from_peer_said accs n e sender ev within peer h bytes is reads control m plain said = ⊎_elim
+      (λ (f : FromPeer accs n e sender ev within.comes peer h bytes). f)
+      (λ (r : DeclinedByPeer accs n e sender ev within.comes peer h bytes). absurd (refusal_stops r.refusal.tunnel r.o h bytes r.read m plain said))
+      (from_peer accs n e sender ev within peer h bytes is reads control)
+
+  -- whatever it is, it says something that is written by the rules, or nothing
+  pub peer_says : (accs : Accounts) (n : ℕ) (e : End) (sender : Option Sender) (ev : Event) → Within accs n e sender ev → (peer : ℕ) (h : Header)
+      (bytes : List ℕ) → ev ≡ Datagram peer bytes → header_of bytes ≡ Ok h → h.control ≡ true → PeerSays h bytes ⊎ (body_of h bytes ≡ [])
+  peer_says accs n e sender ev within peer h bytes is reads control = ⊎_elim
+      (λ (f : FromPeer accs n e sender ev within.comes peer h bytes).
+      let b = accs f.packet.from f.o.tunnel in
+      ⊎_elim
+      (λ (q : IsLetterRead b f.o h bytes). inl (record { message = q.letter.message; said = q.said; written = q.spelled.written }))
+      (λ (q : IsNoneRead f.o h bytes). inr q.body)
+      f.read.says)
+      (λ (r : DeclinedByPeer accs n e sender ev within.comes peer h bytes).
+      inl (record { message = StopCcn 0 r.read.result r.read.error; said = r.read.said; written = r.read.written }))
+      (from_peer accs n e sender ev within peer h bytes is reads control)
 
 -- ---- what a live tunnel hears
 
@@ -412,6 +489,20 @@ pub record Heard (accs : Accounts) (n : ℕ) (e : End) (sender : Option Sender) 
   pub linked : Linked accs n i o
   pub again : (ms : Accounts) (j : ℕ) (u : Tunnel) → IsNear (ms n j) u o → ComesNear accs n e sender ev comes ms j u
 
+-- or it is a StopCCN of no tunnel, which declines the tunnel's SCCRQ: it counts as its first letter, and as one that took the SCCRQ
+pub record HeardRefusal (accs : Accounts) (n : ℕ) (e : End) (sender : Option Sender) (ev : Event) (comes : Comes accs n e sender ev) (i : ℕ) (t : Tunnel)
+    (h : Header) (bytes : List ℕ) : Type 0 where
+  pub o : ControlOrigin
+  pub ns : o.ns ≡ 0
+  pub nr : o.nr ≡ 1
+  pub sender_is : sender ≡ Some (record { node = (accs n i).peer; tunnel = 0 })
+  pub near : IsNear (accs n i) t o
+  pub opener : (accs n i).part ≡ Opener
+  pub declined : (accs n i).declined ≡ true
+  pub tunnel : ℕ
+  pub read : RefusalRead tunnel o h bytes
+  pub again : (ms : Accounts) (j : ℕ) (u : Tunnel) → IsNear (ms n j) u o → ComesNear accs n e sender ev comes ms j u
+
 module _ (codecs : Codecs) where
   -- how the tunnel and the packet's sender are linked
   link_of : (accs : Accounts) (n i : ℕ) (t : Tunnel) (o : ControlOrigin) (h : Header) (bytes : List ℕ) → ((m j : ℕ) → AccountOk accs m j (accs m j))
@@ -425,7 +516,7 @@ module _ (codecs : Codecs) where
       (λ (k : h.tunnel ≡ t.control.local).
       let local = live.local in
       ⊎_elim
-      (λ (q : (h.tunnel ≡ 0) × (IsLost b ⊎ ((o.nr ≡ 0) × (o.empty ≡ false → o.ns ≡ 0)))). let z = q.0 in let no : ⊥ = omega arith in absurd no)
+      (λ (q : NamesNone b o h.tunnel). let z = q.0 in let no : ⊥ = omega arith in absurd no)
       (λ (q : (h.tunnel ≡ 0 → ⊥) × (h.tunnel ≡ b.remote)). link_named accs n i o all some made (sym q.1 ∙ k ∙ local) peer)
       read.tunnel)
       (λ other. ⊎_elim
@@ -434,11 +525,9 @@ module _ (codecs : Codecs) where
       (unnamed b o h.tunnel read.tunnel k.none) in
       ⊎_elim
       (λ (q : IsLetterRead b o h bytes).
-      let said = q.said in
-      let asked = k.said in
-      let is : q.letter.message ≡ Sccrq k.opening = cc in
-      link_again accs n i o all here made q.letter k.opening q.there is (sym live.remote ∙ k.known) how)
-      (λ (q : IsNoneRead o h bytes). absurd (no_message codecs (Sccrq k.opening) (let s = k.said in rw q.body at s)))
+      let asks = opens_said (body_of h bytes) q.letter.message t.control.remote k.opens q.said in
+      link_again accs n i o all here made q.letter asks.0 q.there asks.1 (sym live.remote ∙ asks.2) how)
+      (λ (q : IsNoneRead o h bytes). absurd (empty_opens_none t.control.remote (let s = k.opens in rw q.body at s)))
       read.says)
       (λ (k : IsStop h bytes t.control).
       ⊎_elim
@@ -453,11 +542,12 @@ module _ (codecs : Codecs) where
       other)
       is_for
 
-  pub heard : (accs : Accounts) (n : ℕ) (e : End) (sender : Option Sender) (ev : Event) (within : Within accs n e sender ev) (i : ℕ) (t : Tunnel)
-      → at e.tunnels i ≡ Some t → (h : Header) (bytes : List ℕ) → IsHeard ev t.control h bytes → Heard accs n e sender ev within.comes i t h bytes
-  heard accs n e sender ev within i t there h bytes hears =
+  -- a copy of a tunnel of the peer's
+  heard_copy : (accs : Accounts) (n : ℕ) (e : End) (sender : Option Sender) (ev : Event) (within : Within accs n e sender ev) (i : ℕ) (t : Tunnel)
+      → at e.tunnels i ≡ Some t → (h : Header) (bytes : List ℕ) → IsHeard ev t.control h bytes
+      → FromPeer accs n e sender ev within.comes t.control.peer h bytes → Heard accs n e sender ev within.comes i t h bytes
+  heard_copy accs n e sender ev within i t there h bytes hears f =
       let live = within.end.live i t there in
-      let f = from_peer codecs accs n e sender ev within t.control.peer h bytes hears.is hears.read hears.control in
       let p = f.packet in
       let o = f.o in
       let from : p.from ≡ (accs n i).peer = same_address p.from (accs n i).peer (sym f.peer_is ∙ live.peer) in
@@ -474,3 +564,54 @@ module _ (codecs : Codecs) where
         linked = link_of accs n i t o h bytes within.accounts live copy.made (sym copy.to ∙ f.to) said hears.tunnel;
         again = f.again;
       }
+
+  -- a StopCCN of no tunnel: it names the tunnel, whose SCCRQ it declines
+  heard_refusal : (accs : Accounts) (n : ℕ) (e : End) (sender : Option Sender) (ev : Event) (within : Within accs n e sender ev) (i : ℕ) (t : Tunnel)
+      → at e.tunnels i ≡ Some t → (h : Header) (bytes : List ℕ) → IsHeard ev t.control h bytes
+      → DeclinedByPeer accs n e sender ev within.comes t.control.peer h bytes → HeardRefusal accs n e sender ev within.comes i t h bytes
+  heard_refusal accs n e sender ev within i t there h bytes hears f =
+      let live = within.end.live i t there in
+      let p = f.packet in
+      let o = f.o in
+      let r = f.refusal in
+      let some = f.some in
+      let tells = f.read.tunnel_is in
+      let from : p.from ≡ (accs n i).peer = same_address p.from (accs n i).peer (sym f.peer_is ∙ live.peer) in
+      let read : header_of p.bytes ≡ Ok h = (let r = hears.read in rw f.bytes_are at r) in
+      let named : r.tunnel ≡ i = ⊎_elim
+      (λ (k : h.tunnel ≡ t.control.local). sym tells ∙ k ∙ live.local)
+      (λ other. ⊎_elim
+      (λ (k : IsAgain h bytes t.control). let z = k.none in absurd (omega arith))
+      (λ (k : IsStop h bytes t.control). let z = k.none in absurd (omega arith))
+      other)
+      hears.tunnel in
+      let it : accs p.to r.tunnel ≡ accs n i = ap₂ accs f.to named in
+      record {
+        o = o;
+        ns = r.ns;
+        nr = r.nr;
+        sender_is = f.sender_is ∙ ap₂ (λ (q j : ℕ). Some (record { node = q; tunnel = j })) from r.none;
+        near = f.near i t h there f.peer_is read (subst (λ (bs : List ℕ). IsFor h bs t.control) f.bytes_are hears.tunnel);
+        opener = sym (ap (λ (x : Account). x.part) it) ∙ r.opener;
+        declined = sym (ap (λ (x : Account). x.declined) it) ∙ r.declined;
+        read = f.read;
+        tunnel = r.tunnel;
+        again = f.again;
+      }
+
+  pub heard : (accs : Accounts) (n : ℕ) (e : End) (sender : Option Sender) (ev : Event) (within : Within accs n e sender ev) (i : ℕ) (t : Tunnel)
+      → at e.tunnels i ≡ Some t → (h : Header) (bytes : List ℕ) → IsHeard ev t.control h bytes
+      → Heard accs n e sender ev within.comes i t h bytes ⊎ HeardRefusal accs n e sender ev within.comes i t h bytes
+  heard accs n e sender ev within i t there h bytes hears = ⊎_elim
+      (λ (f : FromPeer accs n e sender ev within.comes t.control.peer h bytes). inl (heard_copy accs n e sender ev within i t there h bytes hears f))
+      (λ (f : DeclinedByPeer accs n e sender ev within.comes t.control.peer h bytes). inr (heard_refusal accs n e sender ev within i t there h bytes hears f))
+      (from_peer codecs accs n e sender ev within t.control.peer h bytes hears.is hears.read hears.control)
+
+  -- where it stops no tunnel, it is a copy
+  pub heard_said : (accs : Accounts) (n : ℕ) (e : End) (sender : Option Sender) (ev : Event) (within : Within accs n e sender ev) (i : ℕ) (t : Tunnel)
+      → at e.tunnels i ≡ Some t → (h : Header) (bytes : List ℕ) → IsHeard ev t.control h bytes → (m : Message) → IsNoStop m
+      → message_in (body_of h bytes) ≡ Ok m → Heard accs n e sender ev within.comes i t h bytes
+  heard_said accs n e sender ev within i t there h bytes hears m plain said = ⊎_elim
+      (λ (k : Heard accs n e sender ev within.comes i t h bytes). k)
+      (λ (k : HeardRefusal accs n e sender ev within.comes i t h bytes). absurd (refusal_stops k.tunnel k.o h bytes k.read m plain said))
+      (heard accs n e sender ev within i t there h bytes hears)

@@ -8,6 +8,7 @@ use Rattle.id_table.specs.Order.{ascends-empty}
 use Rattle.l2tp_header.specs.declared.header.Header.{Header}
 use Rattle.tunnel_fsm.specs.Rows.{state_number}
 use Rattle.protocol_model.specs.declared.event.Event.{Event}
+use Rattle.protocol_model.specs.declared.out.ControlOrigin.{ControlOrigin}
 use Rattle.protocol_model.specs.declared.moves.Place.{Place}
 use Rattle.protocol_model.specs.declared.moves.Move.{Move}
 use Rattle.protocol_model.specs.declared.tunnel.Role.{Role}
@@ -15,15 +16,15 @@ use Rattle.protocol_model.specs.Turn.{Tunnel}
 use Rattle.protocol_model.specs.End.{End}
 use Rattle.protocol_model.specs.World.{Sender, Deed}
 use Rattle.connection_laws.specs.Accounts.{Part, Unmade, Opener, Acceptor, Taken, Account, heeded, takes_at}
-use Rattle.connection_laws.specs.Facts.{Accounts, IsMade, AreTaken, IsOpen, IsClosed, IsIgnored, AreIgnored, IsLost, HasStopped, AreJoined, partner_in, IsOpener, IsAcceptor, IsPart, AccountOk, kept_letter, AreAcked, LiveOk, IsNear, Within}
+use Rattle.connection_laws.specs.Facts.{Accounts, IsMade, AreTaken, IsOpen, IsClosed, IsIgnored, AreIgnored, IsLost, HasStopped, AreJoined, partner_in, IsOpener, IsAcceptor, IsPart, AccountOk, kept_letter, AreAcked, LiveOk, IsNear, Comes, Within}
 use Rattle.connection_laws.proofs.Keeps.{IsDeed}
-use Rattle.connection_laws.proofs.Puts.{Extends, IsOnly, StaysJoined, EndPut, IsPut}
+use Rattle.connection_laws.proofs.Puts.{ComesNear, Extends, IsOnly, StaysJoined, EndPut, IsPut}
 use Rattle.connection_laws.proofs.Later.{live_made, AllExtend, all_extend, is_taken_on, are_acked_later}
 use Rattle.connection_laws.proofs.States.{no_call, lost_unless, heeded_open, heeded_closed, shut_stands}
 use Rattle.connection_laws.proofs.Put.{puts_keep}
 use Rattle.connection_laws.proofs.GoingOn.{are_acked_on}
-use Rattle.connection_laws.proofs.Hearing.{opener_of, acceptor_of, sender_in, Heard}
-use Rattle.connection_laws.proofs.NextHeard.{HeardNext, TakesOf, OfPartner, OfFirst, OfLost, OfOther, OfOpener, joined_opener}
+use Rattle.connection_laws.proofs.Hearing.{opener_of, acceptor_of, sender_in, Heard, HeardRefusal}
+use Rattle.connection_laws.proofs.NextHeard.{IsPaired, HeardNext, TakesOf, OfPartner, OfFirst, OfLost, OfOther, OfOpener, joined_opener}
 use Rattle.connection_laws.proofs.Acknowledging.{still_apart}
 use Rattle.connection_laws.proofs.Taking.{got_push, taken_as}
 
@@ -54,12 +55,57 @@ pub record IgnoresOn (t u : Tunnel) : Type 0 where
   pub outstanding : u.control.channel.window.outstanding ≡ t.control.channel.window.outstanding
   pub taken : u.control.channel.inbox.taken ≡ t.control.channel.inbox.taken + 1
 
+-- of whom the letter is: of the tunnel's partner, the next one of its list; of another tunnel or of none, where an opener has taken one
+-- letter at most; or of an opener that is lost, where its acceptor has taken one at most
+pub data IgnoresOf (accs : Accounts) (n i : ℕ) : Type 0 where
+  FromPartner : IsPaired accs n i → length (accs n i).taken < length (partner_in accs (accs n i)).given → IgnoresOf accs n i
+  FromOther : (accs n i).part ≡ Opener → length (accs n i).taken ≤ 1 → IgnoresOf accs n i
+  FromLost : (accs n i).part ≡ Acceptor → IsLost (partner_in accs (accs n i)) → length (accs n i).taken ≤ 1 → IgnoresOf accs n i
+
+-- it is the next one
+pub record IsDue (accs : Accounts) (n : ℕ) (e : End) (sender : Option Sender) (ev : Event) (comes : Comes accs n e sender ev) (i : ℕ) (t : Tunnel)
+    : Type 0 where
+  pub o : ControlOrigin
+  pub number : o.ns ≡ length (accs n i).taken
+  pub near : IsNear (accs n i) t o
+  pub of : IgnoresOf accs n i
+  pub again : (ms : Accounts) (j : ℕ) (u : Tunnel) → IsNear (ms n j) u o → ComesNear accs n e sender ev comes ms j u
+
+-- a letter of a list
+of_copy : (accs : Accounts) (n i : ℕ) (o : ControlOrigin) (h : Header) (bytes : List ℕ) → (k : HeardNext accs n i o h bytes) → IgnoresOf accs n i
+of_copy accs n i o h bytes k = by k.of
+  where
+    a : Account
+    a = accs n i
+
+    by : TakesOf accs n i o k.letter → IgnoresOf accs n i
+    by (OfPartner pair told) =
+        let same : partner_in accs a ≡ sender_in accs n i o = ap (λ (r : ℕ). accs a.peer r) told in
+        FromPartner pair (slice_get_within (partner_in accs a).given (length a.taken) k.letter (rw same k.there))
+    by (OfFirst here none taken part remote peer opening says id) =
+        let count = ap (λ (ts : List Taken). length ts) taken in FromOther here (omega (arith, count))
+    by (OfLost here lost few) = FromOther here few
+    by (OfOther here known few stops) = FromOther here few
+    by (OfOpener here lost few stops) = FromLost here lost few
+
+pub copy_due : (accs : Accounts) (n : ℕ) (e : End) (sender : Option Sender) (ev : Event) (comes : Comes accs n e sender ev) (i : ℕ) (t : Tunnel) (h : Header)
+    (bytes : List ℕ) (k : Heard accs n e sender ev comes i t h bytes) → HeardNext accs n i k.o h bytes → IsDue accs n e sender ev comes i t
+copy_due accs n e sender ev comes i t h bytes k next =
+    record { o = k.o; number = next.number; near = k.near; of = of_copy accs n i k.o h bytes next; again = k.again }
+
+-- a StopCCN of no tunnel
+pub refusal_due : (accs : Accounts) (n : ℕ) (e : End) (sender : Option Sender) (ev : Event) (comes : Comes accs n e sender ev) (i : ℕ) (t : Tunnel)
+    (h : Header) (bytes : List ℕ) (k : HeardRefusal accs n e sender ev comes i t h bytes) → k.o.ns ≡ length (accs n i).taken
+    → IsDue accs n e sender ev comes i t
+refusal_due accs n e sender ev comes i t h bytes k number =
+    let first = k.ns in
+    record { o = k.o; number = number; near = k.near; of = FromOther k.opener (omega (arith, number, first)); again = k.again }
+
 pub record Ignores (accs ms : Accounts) (n : ℕ) (e x : End) (sender : Option Sender) (ev : Event) (i : ℕ) (t u : Tunnel) (tk : Taken) (closed : Option ℕ)
-    (h : Header) (bytes : List ℕ) : Type 0 where
+    : Type 0 where
   pub within : Within accs n e sender ev
   pub there : at e.tunnels i ≡ Some t
-  pub heard : Heard accs n e sender ev within.comes i t h bytes
-  pub next : HeardNext accs n i heard.o h bytes
+  pub due : IsDue accs n e sender ev within.comes i t
   pub ignored : IsIgnored tk.move
   pub goes : IgnoresOn t u
   pub shuts : Shuts (accs n i) closed
@@ -68,7 +114,7 @@ pub record Ignores (accs ms : Accounts) (n : ℕ) (e x : End) (sender : Option S
   pub put_is : EndPut e x i u
 
 module _ (accs ms : Accounts) (n : ℕ) (e x : End) (sender : Option Sender) (ev : Event) (i : ℕ) (t u : Tunnel) (tk : Taken) (closed : Option ℕ)
-    (h : Header) (bytes : List ℕ) (k : Ignores accs ms n e x sender ev i t u tk closed h bytes) where
+    (k : Ignores accs ms n e x sender ev i t u tk closed) where
   abbrev a : Account
   a = accs n i
 
@@ -148,69 +194,52 @@ module _ (accs ms : Accounts) (n : ℕ) (e x : End) (sender : Option Sender) (ev
 
   -- ---- how much was taken
 
-  sender_stays : a.remote ≡ k.heard.o.tunnel → p ≡ sender_in accs n i k.heard.o
-  sender_stays told = ap (λ (r : ℕ). accs a.peer r) told
-
-  taken_there : a.remote ≡ k.heard.o.tunnel → length b.taken ≤ length p.given
-  taken_there told =
-      let lt = slice_get_within p.given (length a.taken) k.next.letter (rw (sender_stays told) k.next.there) in
-      omega (arith, more_taken, lt)
-
   -- by an opener that has learned none
   few_lost : a.part ≡ Opener → a.remote ≡ 0 → length b.taken ≤ 2
-  few_lost own unknown = by k.next.of
+  few_lost own unknown = by k.due.of
     where
-      by : TakesOf accs n i k.heard.o k.next.letter → length b.taken ≤ 2
-      by (OfPartner pair told) = absurd (⊎_elim
+      by : IgnoresOf accs n i → length b.taken ≤ 2
+      by (FromPartner pair lt) = absurd (⊎_elim
           (λ (o : (a.part ≡ Opener) × (a.remote ≡ 0 → ⊥)). o.1 unknown)
           (λ (o : (a.part ≡ Acceptor) × (p.remote ≡ i)). let y = o.0 in let no : ⊥ = cc in no)
           pair)
-      by (OfFirst here none taken part remote peer opening says id) =
-          let count = ap (λ (ts : List Taken). length ts) taken in omega (arith, more_taken, count)
-      by (OfLost here lost few) = omega (arith, more_taken, few)
-      by (OfOther here known few stops) = omega (arith, more_taken, few)
-      by (OfOpener here lost few stops) = omega (arith, more_taken, few)
+      by (FromOther here few) = omega (arith, more_taken, few)
+      by (FromLost here lost few) = omega (arith, more_taken, few)
 
   -- by one that has
-  few_known : (a.remote ≡ 0 → ⊥) → (length b.taken ≤ length p.given) ⊎ (IsClosed b × (length b.taken ≤ 2))
-  few_known known = by k.next.of
+  few_known : (length b.taken ≤ length p.given) ⊎ (IsClosed b × (length b.taken ≤ 2))
+  few_known = by k.due.of
     where
-      by : TakesOf accs n i k.heard.o k.next.letter → (length b.taken ≤ length p.given) ⊎ (IsClosed b × (length b.taken ≤ 2))
-      by (OfPartner pair told) = inl (taken_there told)
-      by (OfFirst here none taken part remote peer opening says id) = absurd (known none)
-      by (OfLost here lost few) = absurd (known lost.1)
-      by (OfOther here known few stops) = inr (closed_now, omega (arith, more_taken, few))
-      by (OfOpener here lost few stops) = inr (closed_now, omega (arith, more_taken, few))
+      by : IgnoresOf accs n i → (length b.taken ≤ length p.given) ⊎ (IsClosed b × (length b.taken ≤ 2))
+      by (FromPartner pair lt) = inl (omega (arith, more_taken, lt))
+      by (FromOther here few) = inr (closed_now, omega (arith, more_taken, few))
+      by (FromLost here lost few) = inr (closed_now, omega (arith, more_taken, few))
 
   -- by an acceptor
   few_unchosen : a.part ≡ Acceptor → (p.remote ≡ i → ⊥) → (length b.taken ≡ 1) ⊎ (IsLost p × (length b.taken ≤ 2))
-  few_unchosen own apart = by k.next.of
+  few_unchosen own apart = by k.due.of
     where
-      by : TakesOf accs n i k.heard.o k.next.letter → (length b.taken ≡ 1) ⊎ (IsLost p × (length b.taken ≤ 2))
-      by (OfPartner pair told) = absurd (⊎_elim
+      by : IgnoresOf accs n i → (length b.taken ≡ 1) ⊎ (IsLost p × (length b.taken ≤ 2))
+      by (FromPartner pair lt) = absurd (⊎_elim
           (λ (o : (a.part ≡ Opener) × (a.remote ≡ 0 → ⊥)). let y = o.0 in let no : ⊥ = cc in no)
           (λ (o : (a.part ≡ Acceptor) × (p.remote ≡ i)). apart o.1)
           pair)
-      by (OfFirst here none taken part remote peer opening says id) = let no : ⊥ = cc in absurd no
-      by (OfLost here lost few) = let no : ⊥ = cc in absurd no
-      by (OfOther here known few stops) = let no : ⊥ = cc in absurd no
-      by (OfOpener here lost few stops) = inr (lost, omega (arith, more_taken, few))
+      by (FromOther here few) = let no : ⊥ = cc in absurd no
+      by (FromLost here lost few) = inr (lost, omega (arith, more_taken, few))
 
   few_chosen : a.part ≡ Acceptor → p.remote ≡ i → length b.taken ≤ length p.given
-  few_chosen own chosen = by k.next.of
+  few_chosen own chosen = by k.due.of
     where
-      by : TakesOf accs n i k.heard.o k.next.letter → length b.taken ≤ length p.given
-      by (OfPartner pair told) = taken_there told
-      by (OfFirst here none taken part remote peer opening says id) = let no : ⊥ = cc in absurd no
-      by (OfLost here lost few) = let no : ⊥ = cc in absurd no
-      by (OfOther here known few stops) = let no : ⊥ = cc in absurd no
-      by (OfOpener here lost few stops) = let z = lost.1 in absurd (omega (arith, chosen, z, some))
+      by : IgnoresOf accs n i → length b.taken ≤ length p.given
+      by (FromPartner pair lt) = omega (arith, more_taken, lt)
+      by (FromOther here few) = let no : ⊥ = cc in absurd no
+      by (FromLost here lost few) = let z = lost.1 in absurd (omega (arith, chosen, z, some))
 
   -- ---- its account
 
-  opener_joined : AreJoined a p → (a.remote ≡ 0 → ⊥) → AreJoined b p
-  opener_joined before known = record {
-    here = few_known known;
+  opener_joined : AreJoined a p → AreJoined b p
+  opener_joined before = record {
+    here = few_known;
     there = before.there;
     few_here = before.few_here;
     few_there = (let le = before.few_there in omega (arith, more_taken));
@@ -231,7 +260,7 @@ module _ (accs ms : Accounts) (n : ℕ) (e x : End) (sender : Option Sender) (ev
         part = λ z. ap (λ (y : Account). y.part) (opener_stays own z) ∙ before.part z;
         peer = λ z. ap (λ (y : Account). y.peer) (opener_stays own z) ∙ before.peer z;
         remote = λ z. ap (λ (y : Account). y.remote) (opener_stays own z) ∙ before.remote z;
-        joined = λ z. rw (opener_stays own z) (opener_joined (before.joined z) z);
+        joined = λ z. rw (opener_stays own z) (opener_joined (before.joined z));
       }
 
   acceptor : a.part ≡ Acceptor → IsAcceptor ms n i b
@@ -265,6 +294,7 @@ module _ (accs ms : Accounts) (n : ℕ) (e x : End) (sender : Option Sender) (ev
         k.shuts;
     given = ([], sym (append-nil a.given));
     taken = (tk ∷ [], refl);
+    declined = λ z. z;
   }
 
   -- what it heeded it took before
@@ -302,7 +332,7 @@ module _ (accs ms : Accounts) (n : ℕ) (e x : End) (sender : Option Sender) (ev
 
   acked : AreAcked ms n i b u.control.channel.window.acked a.part
   acked = rw k.goes.acked
-      (are_acked_on ms n i a b t.control.channel.window.acked refl refl a.part
+      (are_acked_on ms n i a b t.control.channel.window.acked refl refl (λ z. z) a.part
       (are_acked_later accs ms grown n i some a t.control.channel.window.acked a.part live.acked))
 
   still_live : LiveOk ms n i b u
@@ -330,11 +360,11 @@ module _ (accs ms : Accounts) (n : ℕ) (e x : End) (sender : Option Sender) (ev
         order = ascends-empty u.calls k.goes.none;
       }
 
-  near : IsNear b u k.heard.o
+  near : IsNear b u k.due.o
   near =
-      let number = k.next.number in
+      let number = k.due.number in
       let acks = k.goes.acked in
-      let le = k.heard.near.acked in
+      let le = k.due.near.acked in
       record { taken = omega (arith, more_taken); acked = omega arith }
 
   -- ---- and all goes on
@@ -369,7 +399,7 @@ module _ (accs ms : Accounts) (n : ℕ) (e x : End) (sender : Option Sender) (ev
         live = rw k.is still_live;
         joined = stays_joined;
         apart = still_apart accs n e sender ev k.within i t u k.there k.goes.peer k.goes.remote;
-        near = k.heard.again ms i u (rw k.is near);
+        near = k.due.again ms i u (rw k.is near);
       }
 
   pub ignores : Within ms n x sender ev

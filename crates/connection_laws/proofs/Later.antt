@@ -14,8 +14,8 @@ use Rattle.tunnel_fsm.specs.Rows.{state_number}
 use Rattle.protocol_model.specs.Turn.{Tunnel}
 use Rattle.protocol_model.specs.World.{Sender, Deed}
 use Rattle.step_laws.specs.Letters.{Letter}
-use Rattle.connection_laws.specs.Accounts.{Part, Unmade, Opener, Acceptor, Taken, Account, partner_of, about, entered, entered_by, takes_at, gives_also}
-use Rattle.connection_laws.specs.Facts.{Accounts, IsMade, IsTaken, AreTaken, IsOpen, IsLost, AreJoined, partner_in, IsOpener, IsAcceptor, IsPart, AccountOk, IsAnswered, IsShut, IsInState, AreAcked, LiveOk, Says, ALetter, Nothing, IsCopy, OriginOk, PacketOk}
+use Rattle.connection_laws.specs.Accounts.{Part, Unmade, Opener, Acceptor, Taken, Account, partner_of, about, entered, entered_by, takes_at, gives_also, declines_of}
+use Rattle.connection_laws.specs.Facts.{Accounts, IsMade, IsTaken, AreTaken, IsOpen, IsLost, AreJoined, partner_in, IsOpener, IsAcceptor, IsPart, AccountOk, IsAnswered, IsShut, IsInState, AreAcked, LiveOk, Says, ALetter, Nothing, IsCopy, IsRefusal, OriginOk, PacketOk}
 use Rattle.connection_laws.proofs.Keeps.{after}
 use Rattle.connection_laws.proofs.States.{lost_unless}
 use Rattle.connection_laws.proofs.Puts.{Extends, IsOnly, StaysJoined}
@@ -36,6 +36,7 @@ extends_same a = record {
   closed = inr refl;
   given = ([], sym (append-nil a.given));
   taken = ([], sym (append-nil a.taken));
+  declined = λ z. z;
 }
 
 pub made_on : (a b : Account) → Extends a b → IsMade a → IsMade b
@@ -70,6 +71,7 @@ extends_on a b c g h = record {
       g.closed;
   given = (g.given.0 ++ h.given.0, h.given.1 ∙ ap (λ l. l ++ h.given.0) g.given.1 ∙ append_assoc a.given g.given.0 h.given.0);
   taken = (g.taken.0 ++ h.taken.0, h.taken.1 ∙ ap (λ l. l ++ h.taken.0) g.taken.1 ∙ append_assoc a.taken g.taken.0 h.taken.0);
+  declined = λ z. h.declined (g.declined z);
 }
 
 pub got_given : (a b : Account) → Extends a b → (k : ℕ) (l : Letter) → slice_get a.given k ≡ Some l → slice_get b.given k ≡ Some l
@@ -140,7 +142,7 @@ is_taken_on accs ms g a b on made number t h = record {
 
 -- ---- the account of another tunnel
 
-opener_made : (a : Account) → a.part ≡ Opener → IsMade a
+pub opener_made : (a : Account) → a.part ≡ Opener → IsMade a
 opener_made a h none = let clash : ⊥ = cc in clash
 
 acceptor_made : (a : Account) → a.part ≡ Acceptor → IsMade a
@@ -283,7 +285,10 @@ module _ (accs ms : Accounts) (grown : AllExtend accs ms) (n i : ℕ) (some : 0 
   pub are_acked_later : (a : Account) (acked : ℕ) (p : Part) → AreAcked accs n i a acked p → AreAcked ms n i a acked p
   are_acked_later a acked Unmade h = h
   are_acked_later a acked Opener h = (
-    (λ none. ⊎_elim (λ no. inl no) (λ (one : IsAnswered accs n i a acked). inr (answered_later a acked one)) (h.0 none)),
+    (λ none. ⊎_elim
+        (λ no. inl no)
+        (λ rest. inr (⊎_elim (λ (one : IsAnswered accs n i a acked). inl (answered_later a acked one)) (λ one. inr one) rest))
+        (h.0 none)),
     (λ known. let le = h.1 known in let more = more_of_partner a in omega arith),
   )
   are_acked_later a acked Acceptor h = (
@@ -325,29 +330,88 @@ copy_later a b g p o h = record {
   nr = (let le = h.nr in let more = more_taken a b g in omega arith);
   tunnel = h.tunnel;
   named = ⊎_elim
-      (λ (none : (h.tunnel ≡ 0) × (IsLost a ⊎ ((o.nr ≡ 0) × (o.empty ≡ false → o.ns ≡ 0)))).
-      inl (none.0, ⊎_elim (λ (lost : IsLost a). inl (lost_on a b g lost)) (λ first. inr first) none.1))
+      (λ (none : (h.tunnel ≡ 0) × (a.part ≡ Opener) × (IsLost a ⊎ ((o.nr ≡ 0) × (o.empty ≡ false → o.ns ≡ 0)))).
+      inl (none.0, part_on a b g h.made ∙ none.1, ⊎_elim (λ (lost : IsLost a). inl (lost_on a b g lost)) (λ first. inr first) none.2))
       (λ some. inr (some.0, some.1 ∙ sym (remote_on a b g (λ none. some.0 (some.1 ∙ none))))) h.named;
   says = says_later a b g o h.tunnel p.bytes h.says;
 }
+
+-- what is declined stays so
+pub refusal_later : (accs ms : Accounts) → AllExtend accs ms → (p : Packet) (o : ControlOrigin) → IsRefusal accs p o → IsRefusal ms p o
+refusal_later accs ms g p o h =
+    let a = accs p.to h.tunnel in
+    let b = ms p.to h.tunnel in
+    let made = opener_made a h.opener in
+    let more = g p.to h.tunnel in
+    record {
+      none = h.none;
+      ns = h.ns;
+      nr = h.nr;
+      some = h.some;
+      tunnel = h.tunnel;
+      opener = part_on a b more made ∙ h.opener;
+      peer = more.peer made ∙ h.peer;
+      declined = more.declined h.declined;
+      result = h.result;
+      error = h.error;
+      fit = h.fit;
+      are = h.are;
+    }
 
 pub packet_later : (accs ms : Accounts) → AllExtend accs ms → (p : Packet) → PacketOk accs p → PacketOk ms p
 packet_later accs ms g p h = record { from = h.from; sent = by p.origin h.sent }
   where
     by : (o : Origin) → OriginOk accs p o → OriginOk ms p o
-    by (origin.Control o) k = copy_later (accs p.from o.tunnel) (ms p.from o.tunnel) (g p.from o.tunnel) p o k
+    by (origin.Control o) k = ⊎_elim
+        (λ (c : IsCopy (accs p.from o.tunnel) p o). inl (copy_later (accs p.from o.tunnel) (ms p.from o.tunnel) (g p.from o.tunnel) p o c))
+        (λ (r : IsRefusal accs p o). inr (refusal_later accs ms g p o r))
+        k
     by (origin.Data session) k = k
 
 -- ---- the accounts after a deed
 
-pub after_here : (accs : Accounts) (d : Deed) (n i : ℕ) → d.node ≡ n → about d.move ≡ i → after accs d n i ≡ entered d (accs n i)
-after_here accs d n i node is = rw (node, is, eq-eqb n n refl, eq-eqb i i refl) refl
+-- a move by which no SCCRQ is declined: it enters one tunnel of its node alone
+abbrev pub DeclinesNone : Move → Type 0
+DeclinesNone (move.Declined m) = ⊥
+DeclinesNone m = Unit {0}
 
-pub after_there : (accs : Accounts) (d : Deed) (m j : ℕ) → ((m ≡ d.node) × (j ≡ about d.move) → ⊥) → after accs d m j ≡ accs m j
-after_there accs d m j apart =
+declines_none : (m : Move) → DeclinesNone m → (n i : ℕ) → declines_of m n i ≡ false
+declines_none (move.Opened m) plain n i = refl
+declines_none (move.Accepted m) plain n i = refl
+declines_none (move.Connected m) plain n i = refl
+declines_none (move.Confirmed m) plain n i = refl
+declines_none (move.Added m) plain n i = refl
+declines_none (move.Requested m) plain n i = refl
+declines_none (move.Replied m) plain n i = refl
+declines_none (move.FirstUp m) plain n i = refl
+declines_none (move.SecondUp m) plain n i = refl
+declines_none (move.Refused m) plain n i = refl
+declines_none (move.EndTold m) plain n i = refl
+declines_none (move.EndHeard m) plain n i = refl
+declines_none (move.EndSilent m) plain n i = refl
+declines_none (move.Declined m) plain n i = absurd plain
+declines_none (move.Closed m) plain n i = refl
+declines_none (move.ClosedBy m) plain n i = refl
+declines_none (move.Cleared k) plain n i = refl
+declines_none (move.Greeted m) plain n i = refl
+declines_none (move.TookPlain m) plain n i = refl
+declines_none (move.NrRead m) plain n i = refl
+declines_none (move.LetGo m) plain n i = refl
+declines_none (move.Repeated m) plain n i = refl
+declines_none (move.Quiet k) plain n i = refl
+declines_none (move.FrameSent m) plain n i = refl
+declines_none (move.FrameUp m) plain n i = refl
+
+pub after_here : (accs : Accounts) (d : Deed) (n i : ℕ) → DeclinesNone d.move → d.node ≡ n → about d.move ≡ i
+    → after accs d n i ≡ entered d (accs n i)
+after_here accs d n i plain node is = rw (declines_none d.move plain n i, node, is, eq-eqb n n refl, eq-eqb i i refl) refl
+
+pub after_there : (accs : Accounts) (d : Deed) (m j : ℕ) → DeclinesNone d.move → ((m ≡ d.node) × (j ≡ about d.move) → ⊥)
+    → after accs d m j ≡ accs m j
+after_there accs d m j plain apart =
     ⊎_elim
-    (λ (p : d.node ≡ m). rw (p, eq-eqb m m refl, ne_eqb (about d.move) j (λ q. apart (sym p, sym q))) refl)
-    (λ other. rw (ne_eqb d.node m other) refl)
+    (λ (p : d.node ≡ m). rw (declines_none d.move plain m j, p, eq-eqb m m refl, ne_eqb (about d.move) j (λ q. apart (sym p, sym q))) refl)
+    (λ other. rw (declines_none d.move plain m j, ne_eqb d.node m other) refl)
     (same_or_not d.node m)
 
 -- what a tunnel is before a move that makes it, that learns its partner's id, or that closes it
@@ -367,6 +431,7 @@ gives_extends d a b g = extends_on a b (gives_also d b) g (record {
   closed = inr refl;
   given = (_, refl);
   taken = ([], sym (append-nil b.taken));
+  declined = λ z. z;
 })
 
 takes_extends : (d : Deed) (place : Place) (a b : Account) → Extends a b → Extends a (takes_at d place b)
@@ -377,6 +442,7 @@ takes_extends d place a b g = extends_on a b (takes_at d place b) g (record {
   closed = inr refl;
   given = ([], sym (append-nil b.given));
   taken = (_, refl);
+  declined = λ z. z;
 })
 
 opens_extends : (a : Account) (peer : ℕ) → a.part ≡ Unmade → Extends a (record a { part = Opener; peer = peer })
@@ -387,6 +453,7 @@ opens_extends a peer none = record {
   closed = inr refl;
   given = ([], sym (append-nil a.given));
   taken = ([], sym (append-nil a.taken));
+  declined = λ z. z;
 }
 
 accepts_extends : (a : Account) (peer remote : ℕ) → a.part ≡ Unmade → a.remote ≡ 0 → IsOpen a
@@ -398,6 +465,7 @@ accepts_extends a peer remote none unknown is_open = record {
   closed = inr refl;
   given = ([], sym (append-nil a.given));
   taken = ([], sym (append-nil a.taken));
+  declined = λ z. z;
 }
 
 learns_extends : (a : Account) (remote : ℕ) → a.remote ≡ 0 → IsOpen a → Extends a (record a { remote = remote })
@@ -408,6 +476,7 @@ learns_extends a remote unknown is_open = record {
   closed = inr refl;
   given = ([], sym (append-nil a.given));
   taken = ([], sym (append-nil a.taken));
+  declined = λ z. z;
 }
 
 closes_extends : (a : Account) (remote : ℕ) (closed : Option ℕ) → remote ≡ a.remote → IsOpen a
@@ -419,6 +488,7 @@ closes_extends a remote closed same is_open = record {
   closed = inl is_open;
   given = ([], sym (append-nil a.given));
   taken = ([], sym (append-nil a.taken));
+  declined = λ z. z;
 }
 
 pub entered_extends : (d : Deed) (m : Move) (a : Account) → MayEnter m a → Extends a (entered_by d m a)
@@ -435,6 +505,7 @@ entered_extends d (move.Refused m) a h = gives_extends d a _ (takes_extends d m.
 entered_extends d (move.EndTold m) a h = gives_extends d a a (extends_same a)
 entered_extends d (move.EndHeard m) a h = takes_extends d m.taken a a (extends_same a)
 entered_extends d (move.EndSilent m) a h = extends_same a
+entered_extends d (move.Declined m) a h = extends_same a
 entered_extends d (move.Closed m) a h = gives_extends d a _ (closes_extends a m.remote _ h.0 h.1)
 entered_extends d (move.ClosedBy m) a h = takes_extends d m.taken a _ (closes_extends a a.remote _ refl h)
 entered_extends d (move.Cleared i) a h = extends_same a
@@ -448,25 +519,26 @@ entered_extends d (move.FrameSent m) a h = extends_same a
 entered_extends d (move.FrameUp m) a h = extends_same a
 
 -- a move of a node enters one of its tunnels alone
-pub after_move : (accs : Accounts) (d : Deed) (n : ℕ) (m : Move) → d.node ≡ n → d.move ≡ m
+pub after_move : (accs : Accounts) (d : Deed) (n : ℕ) (m : Move) → DeclinesNone m → d.node ≡ n → d.move ≡ m
     → after accs d n (about m) ≡ entered_by d m (accs n (about m))
-after_move accs d n m node is = after_here accs d n (about m) node (ap about is) ∙ ap (λ q. entered_by d q (accs n (about m))) is
+after_move accs d n m plain node is =
+    after_here accs d n (about m) (subst DeclinesNone (sym is) plain) node (ap about is) ∙ ap (λ q. entered_by d q (accs n (about m))) is
 
-pub only_after : (accs : Accounts) (d : Deed) (n : ℕ) (m : Move) → d.node ≡ n → d.move ≡ m → MayEnter m (accs n (about m))
+pub only_after : (accs : Accounts) (d : Deed) (n : ℕ) (m : Move) → DeclinesNone m → d.node ≡ n → d.move ≡ m → MayEnter m (accs n (about m))
     → IsOnly accs (after accs d) n (about m)
-only_after accs d n m node is may = record {
-  here = subst (λ b. Extends (accs n (about m)) b) (sym (after_move accs d n m node is)) (entered_extends d m (accs n (about m)) may);
-  others = λ k j apart. after_there accs d k j (λ both. apart (both.0 ∙ node, both.1 ∙ ap about is));
+only_after accs d n m plain node is may = record {
+  here = subst (λ b. Extends (accs n (about m)) b) (sym (after_move accs d n m plain node is)) (entered_extends d m (accs n (about m)) may);
+  others = λ k j apart. after_there accs d k j (subst DeclinesNone (sym is) plain) (λ both. apart (both.0 ∙ node, both.1 ∙ ap about is));
 }
 
 -- where nothing changes in it, no account changes
-pub same_after : (accs : Accounts) (d : Deed) (n : ℕ) (m : Move) → d.node ≡ n → d.move ≡ m → entered_by d m (accs n (about m)) ≡ accs n (about m)
-    → after accs d ≡ accs
-same_after accs d n m node is still = fun_ext (λ k. fun_ext (λ j. by k j (here_or_not k n j (about m))))
+pub same_after : (accs : Accounts) (d : Deed) (n : ℕ) (m : Move) → DeclinesNone m → d.node ≡ n → d.move ≡ m
+    → entered_by d m (accs n (about m)) ≡ accs n (about m) → after accs d ≡ accs
+same_after accs d n m plain node is still = fun_ext (λ k. fun_ext (λ j. by k j (here_or_not k n j (about m))))
   where
     by : (k j : ℕ) → ((k ≡ n) × (j ≡ about m)) ⊎ ((k ≡ n) × (j ≡ about m) → ⊥) → after accs d k j ≡ accs k j
-    by k j (inl p) = rw (p.0, p.1) (after_move accs d n m node is ∙ still)
-    by k j (inr apart) = after_there accs d k j (λ both. apart (both.0 ∙ node, both.1 ∙ ap about is))
+    by k j (inl p) = rw (p.0, p.1) (after_move accs d n m plain node is ∙ still)
+    by k j (inr apart) = after_there accs d k j (subst DeclinesNone (sym is) plain) (λ both. apart (both.0 ∙ node, both.1 ∙ ap about is))
 
 -- ---- partners
 

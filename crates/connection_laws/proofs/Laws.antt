@@ -7,6 +7,7 @@ use Rattle.frame_laws.specs.Codecs.{Codecs}
 use Rattle.connection_laws.specs.Channels.{HoldsInRuns, LettersOfRuns, AcksOfRuns, NumbersOfRuns}
 use Rattle.connection_laws.proofs.Moves.{moves_keep}
 use Rattle.connection_laws.proofs.Closing.{closings_are_known}
+use Rattle.connection_laws.proofs.Declining.{declines_are_of_openings}
 use Rattle.connection_laws.proofs.Worlds.{Laws}
 use Rattle.connection_laws.proofs.Runs.{holds_in_runs, lines_go_on}
 use Rattle.connection_laws.specs.Steps.{LinesGoOn}
@@ -15,7 +16,13 @@ use Rattle.connection_laws.proofs.Readings.{numbers_read}
 
 module _ (codecs : Codecs) (chains : StepsAreChains) (reads : ReadsAreFew) (classes : ClassIsTrue) where
   laws : Laws
-  laws = record { moves = moves_keep codecs classes; chains = chains; reads = reads; closings = closings_are_known codecs }
+  laws = record {
+    moves = moves_keep codecs classes;
+    chains = chains;
+    reads = reads;
+    closings = closings_are_known codecs;
+    declines = declines_are_of_openings codecs;
+  }
 
   pub facts_of_runs : HoldsInRuns
   facts_of_runs lines fits few = holds_in_runs codecs laws lines fits few

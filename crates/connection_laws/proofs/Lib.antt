@@ -6,10 +6,13 @@ pub mod Put
 pub mod Removed
 pub mod Written
 pub mod GoingOn
+pub mod Reached
+pub mod Staying
 pub mod Giving
 pub mod Beginning
 pub mod Numbers
 pub mod Stops
+pub mod Refusals
 pub mod Hearing
 pub mod NextHeard
 pub mod Said
@@ -21,11 +24,11 @@ pub mod Refusing
 pub mod Plainly
 pub mod Closing
 pub mod AnyHeard
+pub mod Declining
 pub mod Connecting
 pub mod Accepting
 pub mod Moves
 pub mod Told
-pub mod Reached
 pub mod Starts
 pub mod Budget
 pub mod Steps

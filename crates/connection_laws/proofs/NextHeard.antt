@@ -21,9 +21,9 @@ use Rattle.step_laws.specs.Letters.{Letter}
 use Rattle.step_laws.specs.Moves.{HearsNext}
 use Rattle.frame_laws.specs.Codecs.{Codecs}
 use Rattle.connection_laws.specs.Accounts.{Opener, Acceptor, Account}
-use Rattle.connection_laws.specs.Facts.{Accounts, IsMade, IsSpelled, IsStopCcn, IsClosed, IsLost, HasStopped, BeginsWith, IsOpener, IsAcceptor, AreJoined, partner_in, IsAnswered, AreAcked, AccountOk, Comes, Within}
+use Rattle.connection_laws.specs.Facts.{Accounts, IsMade, IsSpelled, IsNoStop, IsStopCcn, IsClosed, IsLost, HasStopped, BeginsWith, IsOpener, IsAcceptor, AreJoined, partner_in, IsAnswered, AreAcked, AccountOk, Comes, Within}
 use Rattle.connection_laws.proofs.Numbers.{next_is_expected}
-use Rattle.connection_laws.proofs.Hearing.{all_at, opener_of, acceptor_of, sender_in, Sends, Chosen, Asks, Leaves, Linked, FromOpener, FromAcceptor, IsLetterRead, letter_said, Heard, heard_of, heard}
+use Rattle.connection_laws.proofs.Hearing.{all_at, opener_of, acceptor_of, sender_in, Sends, Chosen, Asks, Leaves, Linked, FromOpener, FromAcceptor, IsLetterRead, letter_said, Heard, heard_of, heard_said}
 
 -- ---- two tunnels that have learned each other
 
@@ -357,7 +357,7 @@ module _ (classes : ClassIsTrue) (accs : Accounts) (n : ℕ) (e : End) (sender :
           let answered : IsAnswered accs n i a k.o.nr = record { acceptor = k.o.tunnel; part = part; peer = peer; remote = remote; enough = nr } in
           let opener = opener_of accs n i a (within.accounts n i) here in
           subst (AreAcked accs n i a k.o.nr) (sym here) (
-            λ z. inr answered,
+            λ z. inr (inl answered),
             λ z.
                 let mate = within.accounts a.peer a.remote in
                 let taken = (acceptor_of accs a.peer a.remote (partner_in accs a) mate (opener.part z)).some in
@@ -376,12 +376,12 @@ pub record Said (accs : Accounts) (n : ℕ) (e : End) (sender : Option Sender) (
   pub session_is : next.letter.session ≡ session
 
 pub said_so : Codecs → ClassIsTrue → (accs : Accounts) (n : ℕ) (e : End) (sender : Option Sender) (ev : Event) (within : Within accs n e sender ev) (i : ℕ)
-    (t : Tunnel) → at e.tunnels i ≡ Some t → (session : ℕ) (m : Message) (k : HearsNext ev t.control session m)
+    (t : Tunnel) → at e.tunnels i ≡ Some t → (session : ℕ) (m : Message) → IsNoStop m → (k : HearsNext ev t.control session m)
     → Said accs n e sender ev within.comes i t k.hears.header k.hears.bytes session m
-said_so codecs classes accs n e sender ev within i t there session m k =
+said_so codecs classes accs n e sender ev within i t there session m plain k =
     let h = k.hears.header in
     let bytes = k.hears.bytes in
-    let from = heard codecs accs n e sender ev within i t there h bytes (heard_of ev t.control session m k) in
+    let from = heard_said codecs accs n e sender ev within i t there h bytes (heard_of ev t.control session m k) m plain k.hears.said in
     let next = next_heard classes accs n e sender ev within i t there h bytes from
     (letter_said codecs (sender_in accs n i from.o) from.o h bytes m from.read k.hears.said) k.next in
     let was = next.said in

@@ -119,9 +119,9 @@ asked_remote r remote moment = refl
 module _ (codecs : Codecs) (classes : ClassIsTrue) (accs : Accounts) (n : ℕ) (e : End) (sender : Option Sender) (ev : Event)
     (within : Within accs n e sender ev) (i : ℕ) (t : Tunnel) (there : at e.tunnels i ≡ Some t) (session : ℕ) (m : Message)
     (k : HearsNext ev t.control session m) where
-  pub said_written : IsWritten m
-  said_written =
-      let s = said_so codecs classes accs n e sender ev within i t there session m k in
+  pub said_written : IsNoStop m → IsWritten m
+  said_written no_stop =
+      let s = said_so codecs classes accs n e sender ev within i t there session m no_stop k in
       subst IsWritten s.message s.next.spelled.written
 
   -- it is a letter of the partner that was learned
@@ -132,7 +132,7 @@ module _ (codecs : Codecs) (classes : ClassIsTrue) (accs : Accounts) (n : ℕ) (
       → AllByRecursion (λ (l : Letter). IsNoOpening l.message) more → AllByRecursion (λ (l : Letter). TellsOwn i l.message) more → EndPut e x i u
       → Within ms n x sender ev
   said_takes other unclosed no_stop ms x u mv place more taken tells goes only is spelled plain own put_is =
-      let s = said_so codecs classes accs n e sender ev within i t there session m k in
+      let s = said_so codecs classes accs n e sender ev within i t there session m no_stop k in
       let pair = paired_if accs n i s.heard.o t s.next.letter (within.end.live i t there) unclosed (λ one. absurd (other one))
       (λ stops. no_stop_is m no_stop (subst IsStopCcn s.message stops)) s.next.of in
       pair_takes accs ms n e x sender ev i t u (taken_as sender place mv) more k.hears.header k.hears.bytes (record {
@@ -203,8 +203,8 @@ module _ (codecs : Codecs) (classes : ClassIsTrue) (accs : Accounts) (n : ℕ) (
       (λ s. let is = o.state in let two = ap state_number is in let no : ⊥ = omega arith in no) tt
       (after accs d) x u mv m.taken [] o.taken (λ l s says. says)
       (took_on accs n m.tunnel t live (h.counts m.tunnel t o.there) Established t.calls (record { remotes = live.calls; order = live.order }) (inl refl))
-      (only_after accs d n mv h.deed.node_is h.deed.move_is tt)
-      (after_move accs d n mv h.deed.node_is h.deed.move_is ∙ takes_only d n e.role sender mv m.taken (accs n m.tunnel) h.deed)
+      (only_after accs d n mv tt h.deed.node_is h.deed.move_is tt)
+      (after_move accs d n mv tt h.deed.node_is h.deed.move_is ∙ takes_only d n e.role sender mv m.taken (accs n m.tunnel) h.deed)
       tt tt tt (put_of e x e.calls m.tunnel u o.after)
 
   pub end_heard_keeps : (m : EndHeard) → IsMoved accs n e x sender moment ev (move.EndHeard m) d → Within (after accs d) n x sender ev
@@ -224,8 +224,8 @@ module _ (codecs : Codecs) (classes : ClassIsTrue) (accs : Accounts) (n : ℕ) (
       ))
       (took_on accs n m.tunnel t live (h.counts m.tunnel t o.there) t.control.state (without t.calls m.session)
       (calls_without t.calls m.session (record { remotes = live.calls; order = live.order })) (inl o.open_is))
-      (only_after accs d n mv h.deed.node_is h.deed.move_is tt)
-      (after_move accs d n mv h.deed.node_is h.deed.move_is ∙ takes_only d n e.role sender mv m.taken (accs n m.tunnel) h.deed)
+      (only_after accs d n mv tt h.deed.node_is h.deed.move_is tt)
+      (after_move accs d n mv tt h.deed.node_is h.deed.move_is ∙ takes_only d n e.role sender mv m.taken (accs n m.tunnel) h.deed)
       tt tt tt (put_of e x _ m.tunnel u o.after)
 
   pub second_up_keeps : (m : SecondUp) → IsMoved accs n e x sender moment ev (move.SecondUp m) d → Within (after accs d) n x sender ev
@@ -243,8 +243,8 @@ module _ (codecs : Codecs) (classes : ClassIsTrue) (accs : Accounts) (n : ℕ) (
       (calls_put t.calls m.session call (record { remotes = live.calls; order = live.order })
       (rw (advanced_remote e.role call_event.IccnAcc moment o.call) (live.calls m.session o.call o.made)))
       (inl o.open_is))
-      (only_after accs d n mv h.deed.node_is h.deed.move_is tt)
-      (after_move accs d n mv h.deed.node_is h.deed.move_is ∙ takes_only d n e.role sender mv m.taken (accs n m.tunnel) h.deed)
+      (only_after accs d n mv tt h.deed.node_is h.deed.move_is tt)
+      (after_move accs d n mv tt h.deed.node_is h.deed.move_is ∙ takes_only d n e.role sender mv m.taken (accs n m.tunnel) h.deed)
       tt tt tt (put_of e x _ m.tunnel u o.after)
 
   pub first_up_keeps : (m : FirstUp) → IsMoved accs n e x sender moment ev (move.FirstUp m) d → Within (after accs d) n x sender ev
@@ -253,7 +253,7 @@ module _ (codecs : Codecs) (classes : ClassIsTrue) (accs : Accounts) (n : ℕ) (
       let t = o.tunnel in
       let mv = move.FirstUp m in
       let live = h.within.end.live m.tunnel t o.there in
-      let fits = (said_written codecs classes accs n e sender ev h.within m.tunnel t o.there m.session (Icrp m.remote) o.hears).0 in
+      let fits = (said_written codecs classes accs n e sender ev h.within m.tunnel t o.there m.session (Icrp m.remote) o.hears tt).0 in
       let call = advanced e.role call_event.IcrpAcc moment (record o.call { remote = m.remote }) in
       let calls = put t.calls m.session call in
       let l : Letter = record { tunnel = m.tunnel; place = m.given; session = m.remote; message = connection } in
@@ -265,8 +265,8 @@ module _ (codecs : Codecs) (classes : ClassIsTrue) (accs : Accounts) (n : ℕ) (
       (calls_put t.calls m.session call (record { remotes = live.calls; order = live.order })
       (rw (advanced_remote e.role call_event.IcrpAcc moment (record o.call { remote = m.remote })) (omega arith)))
       (inl o.open_is) l o.room)
-      (only_after accs d n mv h.deed.node_is h.deed.move_is tt)
-      (after_move accs d n mv h.deed.node_is h.deed.move_is ∙ takes_and_gives d n e.role sender mv m.taken (accs n m.tunnel) h.deed)
+      (only_after accs d n mv tt h.deed.node_is h.deed.move_is tt)
+      (after_move accs d n mv tt h.deed.node_is h.deed.move_is ∙ takes_and_gives d n e.role sender mv m.taken (accs n m.tunnel) h.deed)
       (record { written = (omega arith, omega arith, refl); session = omega arith }, tt) (tt, tt) (tt, tt) (put_of e x _ m.tunnel u o.after)
 
   pub replied_keeps : (m : Replied) → IsMoved accs n e x sender moment ev (move.Replied m) d → Within (after accs d) n x sender ev
@@ -275,7 +275,7 @@ module _ (codecs : Codecs) (classes : ClassIsTrue) (accs : Accounts) (n : ℕ) (
       let t = o.tunnel in
       let mv = move.Replied m in
       let live = h.within.end.live m.tunnel t o.there in
-      let fits = (said_written codecs classes accs n e sender ev h.within m.tunnel t o.there o.hears.0 (Icrq m.remote o.serial o.calling) o.hears.1).0 in
+      let fits = (said_written codecs classes accs n e sender ev h.within m.tunnel t o.there o.hears.0 (Icrq m.remote o.serial o.calling) o.hears.1 tt).0 in
       let drawn = draw_is e.session_ids m.session o.drawn in
       let id = drawn.0 in
       let le = drawn.1 in
@@ -291,6 +291,6 @@ module _ (codecs : Codecs) (classes : ClassIsTrue) (accs : Accounts) (n : ℕ) (
       (took_and_given accs n m.tunnel t live (h.counts m.tunnel t o.there) t.control.state calls
       (calls_put t.calls m.session call (record { remotes = live.calls; order = live.order }) (rw (asked_remote e.role m.remote moment) (omega arith)))
       (inl o.open_is) l o.room)
-      (only_after accs d n mv h.deed.node_is h.deed.move_is tt)
-      (after_move accs d n mv h.deed.node_is h.deed.move_is ∙ takes_and_gives d n e.role sender mv m.taken (accs n m.tunnel) h.deed)
+      (only_after accs d n mv tt h.deed.node_is h.deed.move_is tt)
+      (after_move accs d n mv tt h.deed.node_is h.deed.move_is ∙ takes_and_gives d n e.role sender mv m.taken (accs n m.tunnel) h.deed)
       (record { written = (omega arith, omega arith); session = omega arith }, tt) (tt, tt) (tt, tt) (replied_put e x _ m.tunnel u m.session o.drawn o.after)

@@ -1,6 +1,7 @@
 -- A tunnel that takes a letter plainly, and one that is closed by it, keep what holds.
-use Rattle.std.proofs.Common.{◌≡◌, ◌⊎◌, inl, inr, ⊎_elim, ℕ, List, [], length, refl, sym, ap, ◌∙◌, subst, Option, Some, Ok, arith}
+use Rattle.std.proofs.Common.{◌≡◌, ◌⊎◌, inl, inr, ⊎_elim, ℕ, ◌≤◌, List, [], length, refl, sym, ap, ◌∙◌, subst, Option, Some, Ok, arith}
 use Rattle.std.proofs.lemmas.Bool.{true≢false}
+use Rattle.std.specs.Prelude.{unwrap_or}
 use Rattle.id_table.specs.Ids.{at}
 use Rattle.id_table.specs.Order.{same_or_not}
 use Rattle.l2tp_header.specs.declared.header.Header.{Header}
@@ -8,7 +9,8 @@ use Rattle.control_message.specs.declared.message.Message.{Message}
 use Rattle.control_message.specs.declared.message.Message.TheVariants.{Sccrq, Sccrp, Scccn, StopCcn, Hello, Ocrq, Ocrp, Occn, Icrq, Icrp, Iccn, Cdn, Wen, Sli}
 use Rattle.control_message.specs.declared.message.Opening.{Opening}
 use Rattle.control_message.specs.Pairs.{IsWritten}
-use Rattle.recv_window.specs.Window.{ClassIsTrue}
+use Rattle.recv_window.specs.declared.Class.TheVariants.{Next}
+use Rattle.recv_window.specs.Window.{class_of, ClassIsTrue}
 use Rattle.tunnel_fsm.specs.declared.table.TunnelState.TheVariants as state
 use Rattle.tunnel_fsm.specs.declared.table.TunnelEvent.TheVariants as event
 use Rattle.tunnel_fsm.specs.Rows.{state_number}
@@ -24,19 +26,20 @@ use Rattle.protocol_model.specs.World.{Sender, Deed}
 use Rattle.step_laws.specs.Moves.{ComesNext, SaysStop}
 use Rattle.frame_laws.specs.Codecs.{Codecs}
 use Rattle.connection_laws.specs.Accounts.{Acceptor, Account}
-use Rattle.connection_laws.specs.Facts.{Accounts, IsStopCcn, LiveOk, Comes, Within}
-use Rattle.connection_laws.specs.Steps.{StopLetter, StopIsHeard}
+use Rattle.connection_laws.specs.Facts.{Accounts, IsStopCcn, IsLost, LiveOk, Comes, Within}
+use Rattle.connection_laws.specs.Steps.{StopLetter, StopOfNone, StopIsHeard}
 use Rattle.connection_laws.proofs.Keeps.{after, IsMoved}
 use Rattle.connection_laws.proofs.Later.{after_move, only_after}
-use Rattle.connection_laws.proofs.States.{not_closed, closed_so, is_open_so, is_shut_so}
-use Rattle.connection_laws.proofs.Hearing.{sender_in, Sends, Chosen, Asks, Leaves, Linked, FromOpener, FromAcceptor, acceptor_of, heard_next, letter_some, Heard, heard}
+use Rattle.connection_laws.proofs.States.{lost_unless, not_closed, closed_so, is_open_so, is_shut_so}
+use Rattle.connection_laws.proofs.Hearing.{sender_in, Sends, Chosen, Asks, Leaves, Linked, FromOpener, FromAcceptor, opener_of, acceptor_of, heard_next, letter_some, Heard, HeardRefusal, heard}
+use Rattle.connection_laws.proofs.Numbers.{next_is_expected}
 use Rattle.connection_laws.proofs.NextHeard.{HeardNext, next_heard}
 use Rattle.connection_laws.proofs.Said.{opener_goes}
 use Rattle.connection_laws.proofs.Acknowledging.{put_of}
 use Rattle.connection_laws.proofs.Taking.{taken_as, takes_only, paired_if, pair_takes}
 use Rattle.connection_laws.proofs.PairMoves.{took, took_on}
 use Rattle.connection_laws.proofs.AnyHeard.{written_acceptable, no_tunnel_fault}
-use Rattle.connection_laws.proofs.Ignoring.{ignores_only, ignores}
+use Rattle.connection_laws.proofs.Ignoring.{IsDue, copy_due, refusal_due, ignores_only, ignores}
 
 -- ---- StopCCNs
 
@@ -82,15 +85,43 @@ record Came (accs : Accounts) (n : ℕ) (e : End) (sender : Option Sender) (ev :
   heard : Heard accs n e sender ev comes i t h bytes
   next : HeardNext accs n i heard.o h bytes
 
+-- or it is a StopCCN of no tunnel, and the tunnel has taken nothing
+record CameRefusal (accs : Accounts) (n : ℕ) (e : End) (sender : Option Sender) (ev : Event) (comes : Comes accs n e sender ev) (i : ℕ) (t : Tunnel)
+    (h : Header) (bytes : List ℕ) : Type 0 where
+  heard : HeardRefusal accs n e sender ev comes i t h bytes
+  number : heard.o.ns ≡ length (accs n i).taken
+
+refusal_number : ClassIsTrue → (accs : Accounts) (n : ℕ) (e : End) (sender : Option Sender) (ev : Event) (within : Within accs n e sender ev) (i : ℕ)
+    (t : Tunnel) → at e.tunnels i ≡ Some t → (h : Header) (bytes : List ℕ) → (k : HeardRefusal accs n e sender ev within.comes i t h bytes)
+    → class_of (unwrap_or h.ns 0) t.control.channel.inbox ≡ Next → k.o.ns ≡ length (accs n i).taken
+refusal_number classes accs n e sender ev within i t there h bytes k next =
+    let taken = (within.end.live i t there).taken in
+    let near = k.near.taken in
+    let first = k.ns in
+    next_is_expected classes k.o.ns t.control.channel.inbox (omega arith) (omega arith) (let r = k.read.ns in rw r at next) ∙ taken
+
 came : Codecs → ClassIsTrue → (accs : Accounts) (n : ℕ) (e : End) (sender : Option Sender) (ev : Event) (within : Within accs n e sender ev) (i : ℕ)
-    (t : Tunnel) → at e.tunnels i ≡ Some t → (k : ComesNext ev t.control) → Came accs n e sender ev within.comes i t k.header k.bytes
-came codecs classes accs n e sender ev within i t there k =
-    let hears = heard codecs accs n e sender ev within i t there k.header k.bytes (heard_next ev t.control k) in
-    record {
+    (t : Tunnel) → at e.tunnels i ≡ Some t → (k : ComesNext ev t.control)
+    → Came accs n e sender ev within.comes i t k.header k.bytes ⊎ CameRefusal accs n e sender ev within.comes i t k.header k.bytes
+came codecs classes accs n e sender ev within i t there k = ⊎_elim
+    (λ (hears : Heard accs n e sender ev within.comes i t k.header k.bytes).
+    inl (record {
       heard = hears;
       next = next_heard classes accs n e sender ev within i t there k.header k.bytes hears
           (letter_some (sender_in accs n i hears.o) hears.o k.header k.bytes hears.read k.some) k.next;
-    }
+    }))
+    (λ (hears : HeardRefusal accs n e sender ev within.comes i t k.header k.bytes).
+    inr (record { heard = hears; number = refusal_number classes accs n e sender ev within i t there k.header k.bytes hears k.next }))
+    (heard codecs accs n e sender ev within i t there k.header k.bytes (heard_next ev t.control k))
+
+-- a tunnel that ignores it takes it
+came_due : Codecs → ClassIsTrue → (accs : Accounts) (n : ℕ) (e : End) (sender : Option Sender) (ev : Event) (within : Within accs n e sender ev) (i : ℕ)
+    (t : Tunnel) → at e.tunnels i ≡ Some t → ComesNext ev t.control → IsDue accs n e sender ev within.comes i t
+came_due codecs classes accs n e sender ev within i t there k = ⊎_elim
+    (λ (c : Came accs n e sender ev within.comes i t k.header k.bytes). copy_due accs n e sender ev within.comes i t k.header k.bytes c.heard c.next)
+    (λ (c : CameRefusal accs n e sender ev within.comes i t k.header k.bytes).
+    refusal_due accs n e sender ev within.comes i t k.header k.bytes c.heard c.number)
+    (came codecs classes accs n e sender ev within i t there k)
 
 -- ---- the moves
 
@@ -105,59 +136,63 @@ module _ (codecs : Codecs) (classes : ClassIsTrue) (accs : Accounts) (n : ℕ) (
     live : LiveOk accs n i (accs n i) t
     live = h.within.end.live i t h.does.there
 
-    k : Came accs n e sender ev h.within.comes i t h.does.comes.header h.does.comes.bytes
-    k = came codecs classes accs n e sender ev h.within i t h.does.there h.does.comes
-
     abbrev u : Tunnel
     u = took t t.control.state t.calls
 
-    -- an open tunnel takes neither an SCCRP for which it waits so, nor a StopCCN
-    no_reply : state_number t.control.state ≡ 1 → (opening : Opening) → k.next.letter.message ≡ Sccrp opening → ⊥
-    no_reply one opening says =
-        let refused = h.does.why (Sccrp opening) (k.next.said ∙ ap (λ (y : Message). Ok y) says) one in
-        let granted = written_acceptable opening (subst IsWritten says k.next.spelled.written) in
-        true≢false (sym granted ∙ refused)
+    -- it is a letter of a list
+    module _ (k : Came accs n e sender ev h.within.comes i t h.does.comes.header h.does.comes.bytes) where
+      -- an open tunnel takes neither an SCCRP for which it waits so, nor a StopCCN
+      no_reply : state_number t.control.state ≡ 1 → (opening : Opening) → k.next.letter.message ≡ Sccrp opening → ⊥
+      no_reply one opening says =
+          let refused = h.does.why (Sccrp opening) (k.next.said ∙ ap (λ (y : Message). Ok y) says) one in
+          let granted = written_acceptable opening (subst IsWritten says k.next.spelled.written) in
+          true≢false (sym granted ∙ refused)
 
-    no_stop : (state_number t.control.state ≡ 4 → ⊥) → IsStopCcn k.next.letter.message → ⊥
-    no_stop unclosed stops =
-        let s = stop_said k.next.letter.message stops in
-        unclosed (closed_so t.control.state (h.does.why (StopCcn s.tunnel s.code s.error) (k.next.said ∙ ap (λ (y : Message). Ok y) s.is)))
+      no_stop : (state_number t.control.state ≡ 4 → ⊥) → IsStopCcn k.next.letter.message → ⊥
+      no_stop unclosed stops =
+          let s = stop_said k.next.letter.message stops in
+          unclosed (closed_so t.control.state (h.does.why (StopCcn s.tunnel s.code s.error) (k.next.said ∙ ap (λ (y : Message). Ok y) s.is)))
 
-    takes : (state_number t.control.state ≡ 4 → ⊥) → Within (after accs d) n x sender ev
-    takes unclosed =
-        let mv = move.TookPlain m in
-        let pair = paired_if accs n i k.heard.o t k.next.letter live unclosed no_reply (no_stop unclosed) k.next.of in
-        pair_takes accs (after accs d) n e x sender ev i t u (taken_as sender m.taken mv) [] h.does.comes.header h.does.comes.bytes (record {
-          within = h.within;
-          there = h.does.there;
-          unclosed = unclosed;
-          heard = k.heard;
-          next = k.next;
-          pair = pair.0;
-          told = pair.1;
-          number = ap (λ (p : Place). p.number) h.does.taken;
-          sender_is = refl;
-          tells = tt;
-          goes = took_on accs n i t live (h.counts i t h.does.there) t.control.state t.calls
-              (record { remotes = live.calls; order = live.order }) (inr (refl, refl));
-          only = only_after accs d n mv h.deed.node_is h.deed.move_is tt;
-          is = after_move accs d n mv h.deed.node_is h.deed.move_is ∙ takes_only d n e.role sender mv m.taken (accs n i) h.deed;
-          spelled = tt;
-          plain = tt;
-          own = tt;
-          put_is = put_of e x e.calls i u h.does.after;
-        })
+      takes : (state_number t.control.state ≡ 4 → ⊥) → Within (after accs d) n x sender ev
+      takes unclosed =
+          let mv = move.TookPlain m in
+          let pair = paired_if accs n i k.heard.o t k.next.letter live unclosed no_reply (no_stop unclosed) k.next.of in
+          pair_takes accs (after accs d) n e x sender ev i t u (taken_as sender m.taken mv) [] h.does.comes.header h.does.comes.bytes (record {
+            within = h.within;
+            there = h.does.there;
+            unclosed = unclosed;
+            heard = k.heard;
+            next = k.next;
+            pair = pair.0;
+            told = pair.1;
+            number = ap (λ (p : Place). p.number) h.does.taken;
+            sender_is = refl;
+            tells = tt;
+            goes = took_on accs n i t live (h.counts i t h.does.there) t.control.state t.calls
+                (record { remotes = live.calls; order = live.order }) (inr (refl, refl));
+            only = only_after accs d n mv tt h.deed.node_is h.deed.move_is tt;
+            is = after_move accs d n mv tt h.deed.node_is h.deed.move_is ∙ takes_only d n e.role sender mv m.taken (accs n i) h.deed;
+            spelled = tt;
+            plain = tt;
+            own = tt;
+            put_is = put_of e x e.calls i u h.does.after;
+          })
+
+    -- or a StopCCN of no tunnel, which an open tunnel doesn't take so
+    no_refusal : (state_number t.control.state ≡ 4 → ⊥) → CameRefusal accs n e sender ev h.within.comes i t h.does.comes.header h.does.comes.bytes → ⊥
+    no_refusal unclosed k =
+        let r = k.heard.read in
+        unclosed (closed_so t.control.state (h.does.why (StopCcn 0 r.result r.error) r.said))
 
     leaves : state_number t.control.state ≡ 4 → Within (after accs d) n x sender ev
     leaves four =
         let mv = move.TookPlain m in
         let is_shut = is_shut_so accs i (accs n i) t (accs n i).part live.state four in
         let fits = h.counts i t h.does.there in
-        ignores accs (after accs d) n e x sender ev i t u (taken_as sender m.taken mv) (accs n i).closed h.does.comes.header h.does.comes.bytes (record {
+        ignores accs (after accs d) n e x sender ev i t u (taken_as sender m.taken mv) (accs n i).closed (record {
           within = h.within;
           there = h.does.there;
-          heard = k.heard;
-          next = k.next;
+          due = came_due codecs classes accs n e sender ev h.within i t h.does.there h.does.comes;
           ignored = tt;
           goes = record {
             local = refl;
@@ -172,8 +207,8 @@ module _ (codecs : Codecs) (classes : ClassIsTrue) (accs : Accounts) (n : ℕ) (
             taken = omega arith;
           };
           shuts = inr (is_shut.1, refl);
-          only = only_after accs d n mv h.deed.node_is h.deed.move_is tt;
-          is = after_move accs d n mv h.deed.node_is h.deed.move_is
+          only = only_after accs d n mv tt h.deed.node_is h.deed.move_is tt;
+          is = after_move accs d n mv tt h.deed.node_is h.deed.move_is
               ∙ ignores_only d n e.role sender mv m.taken (accs n i).closed (accs n i) h.deed;
           put_is = put_of e x e.calls i u h.does.after;
         })
@@ -182,7 +217,11 @@ module _ (codecs : Codecs) (classes : ClassIsTrue) (accs : Accounts) (n : ℕ) (
     pub plain_keeps : Within (after accs d) n x sender ev
     plain_keeps = ⊎_elim
         (λ (four : state_number t.control.state ≡ 4). leaves four)
-        (λ (unclosed : state_number t.control.state ≡ 4 → ⊥). takes unclosed)
+        (λ (unclosed : state_number t.control.state ≡ 4 → ⊥).
+        ⊎_elim
+        (λ (k : Came accs n e sender ev h.within.comes i t h.does.comes.header h.does.comes.bytes). takes k unclosed)
+        (λ (k : CameRefusal accs n e sender ev h.within.comes i t h.does.comes.header h.does.comes.bytes). absurd (no_refusal unclosed k))
+        (came codecs classes accs n e sender ev h.within i t h.does.there h.does.comes))
         (same_or_not (state_number t.control.state) 4)
 
   pub closed_by_keeps : (m : ClosedBy) → IsMoved accs n e x sender moment ev (move.ClosedBy m) d → Within (after accs d) n x sender ev
@@ -195,13 +234,11 @@ module _ (codecs : Codecs) (classes : ClassIsTrue) (accs : Accounts) (n : ℕ) (
       let live = h.within.end.live i t o.there in
       let is_open = is_open_so accs i a t a.part live.state (not_closed t.control.state o.live) in
       let fits = h.counts i t o.there in
-      let k = came codecs classes accs n e sender ev h.within i t o.there o.comes in
       let u : Tunnel = record t { control = shut t.control.remote state.Closed moment (counts_taken t.control); calls = [] } in
-      ignores accs (after accs d) n e x sender ev i t u (taken_as sender m.taken mv) (Some (length a.taken)) o.comes.header o.comes.bytes (record {
+      ignores accs (after accs d) n e x sender ev i t u (taken_as sender m.taken mv) (Some (length a.taken)) (record {
         within = h.within;
         there = o.there;
-        heard = k.heard;
-        next = k.next;
+        due = came_due codecs classes accs n e sender ev h.within i t o.there o.comes;
         ignored = tt;
         goes = record {
           local = refl;
@@ -216,42 +253,74 @@ module _ (codecs : Codecs) (classes : ClassIsTrue) (accs : Accounts) (n : ℕ) (
           taken = omega arith;
         };
         shuts = inl (is_open, refl);
-        only = only_after accs d n mv h.deed.node_is h.deed.move_is is_open;
-        is = after_move accs d n mv h.deed.node_is h.deed.move_is ∙ ignores_only d n e.role sender mv m.taken (Some (length a.taken)) a h.deed;
+        only = only_after accs d n mv tt h.deed.node_is h.deed.move_is is_open;
+        is = after_move accs d n mv tt h.deed.node_is h.deed.move_is ∙ ignores_only d n e.role sender mv m.taken (Some (length a.taken)) a h.deed;
         put_is = put_of e x _ i u o.after;
       })
 
 -- ---- the StopCCN by which a tunnel is closed
 
 pub stop_is_heard : Codecs → ClassIsTrue → StopIsHeard
-stop_is_heard codecs classes accs n e x sender moment ev within m c = by k.heard.linked
+stop_is_heard codecs classes accs n e x sender moment ev within m c = ⊎_elim
+    (λ (k : Came accs n e sender ev within.comes m.tunnel c.tunnel c.comes.header c.comes.bytes). inl (of_copy k))
+    (λ (k : CameRefusal accs n e sender ev within.comes m.tunnel c.tunnel c.comes.header c.comes.bytes). inr (of_none k))
+    (came codecs classes accs n e sender ev within m.tunnel c.tunnel c.there c.comes)
   where
-    k : Came accs n e sender ev within.comes m.tunnel c.tunnel c.comes.header c.comes.bytes
-    k = came codecs classes accs n e sender ev within m.tunnel c.tunnel c.there c.comes
+    a : Account
+    a = accs n m.tunnel
 
-    b : Account
-    b = sender_in accs n m.tunnel k.heard.o
+    -- a letter of a list
+    of_copy : Came accs n e sender ev within.comes m.tunnel c.tunnel c.comes.header c.comes.bytes → StopLetter accs n m.tunnel sender
+    of_copy k = by k.heard.linked
+      where
+        b : Account
+        b = sender_in accs n m.tunnel k.heard.o
 
-    tells : b.peer ≡ n → (b.remote ≡ m.tunnel) ⊎ ((b.remote ≡ 0) × ((accs n m.tunnel).remote ≡ k.heard.o.tunnel)) → StopLetter accs n m.tunnel sender
-    tells goes reaches = record {
-      from = record { node = (accs n m.tunnel).peer; tunnel = k.heard.o.tunnel };
-      sender_is = k.heard.sender_is;
-      peer = refl;
-      goes = goes;
-      reaches = reaches;
-      letter = k.next.letter;
-      there = k.next.there;
-      stops = says_stop (body_of c.comes.header c.comes.bytes) k.next.letter.message k.next.said c.says;
-    }
+        tells : b.peer ≡ n → (b.remote ≡ m.tunnel) ⊎ ((b.remote ≡ 0) × (a.remote ≡ k.heard.o.tunnel)) → StopLetter accs n m.tunnel sender
+        tells goes reaches = record {
+          from = record { node = a.peer; tunnel = k.heard.o.tunnel };
+          sender_is = k.heard.sender_is;
+          peer = refl;
+          goes = goes;
+          reaches = reaches;
+          letter = k.next.letter;
+          there = k.next.there;
+          stops = says_stop (body_of c.comes.header c.comes.bytes) k.next.letter.message k.next.said c.says;
+        }
 
-    of_opener : (accs n m.tunnel).part ≡ Acceptor → (accs n m.tunnel).remote ≡ k.heard.o.tunnel → Sends b m.tunnel k.heard.o → StopLetter accs n m.tunnel sender
-    of_opener here told (Chosen chosen) = tells (opener_goes accs n m.tunnel k.heard.o within.accounts here told) (inl chosen)
-    of_opener here told (Asks first how) =
-        let some = (acceptor_of accs n m.tunnel (accs n m.tunnel) (within.accounts n m.tunnel) here).some in
-        let number = k.next.number in
-        absurd (omega (arith, some, number, first))
-    of_opener here told (Leaves lost stops) = tells (opener_goes accs n m.tunnel k.heard.o within.accounts here told) (inr (lost.1, told))
+        of_opener : a.part ≡ Acceptor → a.remote ≡ k.heard.o.tunnel → Sends b m.tunnel k.heard.o → StopLetter accs n m.tunnel sender
+        of_opener here told (Chosen chosen) = tells (opener_goes accs n m.tunnel k.heard.o within.accounts here told) (inl chosen)
+        of_opener here told (Asks first how) =
+            let some = (acceptor_of accs n m.tunnel a (within.accounts n m.tunnel) here).some in
+            let number = k.next.number in
+            absurd (omega (arith, some, number, first))
+        of_opener here told (Leaves lost stops) = tells (opener_goes accs n m.tunnel k.heard.o within.accounts here told) (inr (lost.1, told))
 
-    by : Linked accs n m.tunnel k.heard.o → StopLetter accs n m.tunnel sender
-    by (FromOpener here told part which) = of_opener here told which
-    by (FromAcceptor here part remote peer) = tells peer (inl remote)
+        by : Linked accs n m.tunnel k.heard.o → StopLetter accs n m.tunnel sender
+        by (FromOpener here told part which) = of_opener here told which
+        by (FromAcceptor here part remote peer) = tells peer (inl remote)
+
+    -- or of no tunnel: an opener that has learned one, or was closed, has taken something
+    of_none : CameRefusal accs n e sender ev within.comes m.tunnel c.tunnel c.comes.header c.comes.bytes → StopOfNone accs n m.tunnel sender
+    of_none k =
+        let opener = opener_of accs n m.tunnel a (within.accounts n m.tunnel) k.heard.opener in
+        let number = k.number in
+        let first = k.heard.ns in
+        let live = within.end.live m.tunnel c.tunnel c.there in
+        let is_open = is_open_so accs m.tunnel a c.tunnel a.part live.state (not_closed c.tunnel.control.state c.live) in
+        let unknown : a.remote ≡ 0 = ⊎_elim
+        (λ (z : a.remote ≡ 0). z)
+        (λ (known : a.remote ≡ 0 → ⊥). let some = opener.some known in absurd (omega (arith, number, first, some)))
+        (same_or_not a.remote 0) in
+        record {
+          node = a.peer;
+          sender_is = k.heard.sender_is;
+          peer = refl;
+          opener = k.heard.opener;
+          remote = unknown;
+          nothing = ⊎_elim
+              (λ (none : a.taken ≡ []). none)
+              (λ (q : IsLost a × (length a.taken ≤ 2)). absurd (lost_unless a is_open q.0))
+              (opener.none unknown);
+          declined = k.heard.declined;
+        }

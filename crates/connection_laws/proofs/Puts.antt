@@ -1,5 +1,5 @@
 -- One tunnel of an end is put, and what is known of it goes on: what is to hold of it then, so that all goes on to hold.
-use Rattle.std.proofs.Common.{◌≡◌, ◌⊎◌, ℕ, ◌<◌, ◌≤◌, List, ◌++◌, Option, Some, Ok}
+use Rattle.std.proofs.Common.{◌≡◌, ◌⊎◌, ℕ, ◌<◌, ◌≤◌, true, List, ◌++◌, Option, Some, Ok}
 use Rattle.id_table.specs.Ids.{at, put}
 use Rattle.l2tp_header.specs.declared.header.Header.{Header}
 use Rattle.l2tp_header.specs.Reading.{header_of}
@@ -18,7 +18,7 @@ use Rattle.connection_laws.specs.Accounts.{Unmade, Acceptor, Taken, Account}
 use Rattle.connection_laws.specs.Facts.{Accounts, IsMade, IsOpen, AreJoined, partner_in, AccountOk, LiveOk, IsNear, Comes, Within}
 
 -- what is known of a tunnel stays: more was given to it and taken by it, and it may have been made, or have learned an id, which only
--- an open one does, or have been closed
+-- an open one does, or have been closed, or its SCCRQ may have been declined
 pub record Extends (a b : Account) : Type 0 where
   pub part : (a.part ≡ Unmade) ⊎ (b.part ≡ a.part)
   pub peer : IsMade a → b.peer ≡ a.peer
@@ -26,6 +26,7 @@ pub record Extends (a b : Account) : Type 0 where
   pub closed : IsOpen a ⊎ (b.closed ≡ a.closed)
   pub given : (more : List Letter) × (b.given ≡ a.given ++ more)
   pub taken : (more : List Taken) × (b.taken ≡ a.taken ++ more)
+  pub declined : a.declined ≡ true → b.declined ≡ true
 
 -- the accounts of all tunnels but one stay as they are
 pub record IsOnly (accs ms : Accounts) (n i : ℕ) : Type 0 where

@@ -1,23 +1,14 @@
 -- Which tunnel a control message reaches.
-use Rattle.std.proofs.Common.{◌≡◌, inl, inr, ⊎_elim, ℕ, Bool, true, false, cond, eqb, List, [], ◌∷◌, refl, sym, ap, ◌∙◌, Option, Some, None, Result, Ok, Err}
+use Rattle.std.proofs.Common.{◌≡◌, inl, inr, ⊎_elim, ℕ, Bool, true, false, cond, eqb, List, [], ◌∷◌, refl, sym, ap, ◌∙◌, Option, Some, None, Ok}
 use Rattle.std.proofs.lemmas.Bool.{true≢false, eqb-true, ne_eqb, eq-eqb}
 use Rattle.std.proofs.lemmas.Option.{none-some}
 use Rattle.std.specs.Prelude.{◌==◌, ◌&&◌}
 use Rattle.std.specs.List.{find}
 use Rattle.id_table.specs.Ids.{at, is_at-same, ids_of}
-use Rattle.avp_codec.specs.declared.avp.Avp.{Avp}
-use Rattle.avp_codec.specs.declared.error.AvpError.{AvpError}
-use Rattle.avp_codec.specs.Reading.{avps_of}
 use Rattle.l2tp_header.specs.declared.header.Header.{Header}
 use Rattle.l2tp_header.specs.Reading.{header_of}
-use Rattle.control_message.specs.declared.message.Message.TheVariants.{Sccrq}
-use Rattle.control_message.specs.declared.message.MessageError.{MessageError}
-use Rattle.control_message.specs.declared.message.Opening.{Opening}
-use Rattle.control_message.specs.declared.message.Read.{Read}
-use Rattle.control_message.specs.declared.message.Read.TheVariants.{Known, Ignored}
-use Rattle.control_message.specs.Reading.{message_of}
 use Rattle.protocol_model.specs.declared.event.Addressee.TheVariants.{Opens, Stops, Main}
-use Rattle.protocol_model.specs.Reading.{body_of, message_in, pairs_read, message_read, at_zero, zero_pairs, zero_read, at_tunnel}
+use Rattle.protocol_model.specs.Reading.{body_of, at_zero, at_tunnel}
 use Rattle.protocol_model.specs.Turn.{Tunnel}
 use Rattle.protocol_model.specs.End.{End, is_known, known_as, opens_once, addressed, main_of, reached_by, reached}
 use Rattle.step_laws.specs.Letters.{Among}
@@ -113,27 +104,11 @@ named_main : (e : End) (h : Header) (body : List ℕ) (i : ℕ) (t : Tunnel) →
 unfolding addressed at_tunnel
 named_main e h body i t named some there = rw (named, ne_eqb i 0 some, there, eq-eqb t.control.peer t.control.peer refl) refl
 
--- an SCCRQ opens by the id that it tells
-zero_message : (avps : List Avp) (r : Result Read MessageError) (o : Opening) → message_read r ≡ Ok (Sccrq o) → zero_read avps r ≡ Opens o.tunnel
-unfolding message_read zero_read
-zero_message avps (Ok (Known m)) o h = let e : m ≡ Sccrq o = cc in rw e refl
-zero_message avps (Ok (Ignored k)) o h = absurd cc
-zero_message avps (Err x) o h = absurd cc
-
-zero_opens : (r : Result (List Avp) AvpError) (o : Opening) → pairs_read r ≡ Ok (Sccrq o) → zero_pairs r ≡ Opens o.tunnel
-unfolding pairs_read zero_pairs
-zero_opens (Ok avps) o h = zero_message avps (message_of avps) o h
-zero_opens (Err x) o h = absurd cc
-
-sccrq_opens : (body : List ℕ) (o : Opening) → message_in body ≡ Ok (Sccrq o) → at_zero body ≡ Opens o.tunnel
-unfolding message_in at_zero
-sccrq_opens body o h = zero_opens (avps_of body) o h
-
--- one that comes again is for the tunnel that it opened
-again_main : (e : End) (peer : ℕ) (h : Header) (body : List ℕ) (i : ℕ) (o : Opening) → h.tunnel ≡ 0 → message_in body ≡ Ok (Sccrq o)
-    → known_as peer o.tunnel e.tunnels ≡ Some i → addressed e peer h body ≡ Main i
+-- an SCCRQ that comes again is for the tunnel that it opened
+again_main : (e : End) (peer : ℕ) (h : Header) (body : List ℕ) (i r : ℕ) → h.tunnel ≡ 0 → at_zero body ≡ Opens r → known_as peer r e.tunnels ≡ Some i
+    → addressed e peer h body ≡ Main i
 unfolding addressed opens_once
-again_main e peer h body i o none said known = rw (none, sccrq_opens body o said, known) refl
+again_main e peer h body i r none opens known = rw (none, opens, known) refl
 
 -- a StopCCN is for the tunnel whose peer's id it tells
 stop_main : (e : End) (peer : ℕ) (h : Header) (body : List ℕ) (i r : ℕ) → h.tunnel ≡ 0 → at_zero body ≡ Stops r → known_as peer r e.tunnels ≡ Some i
@@ -150,8 +125,8 @@ main_reached e peer bytes h i t there read control main = rw read
 -- a control message that is for a live tunnel, and from its peer, reaches it
 pub is_reached : (accs : Accounts) (n : ℕ) (e : End) → EndOk accs n e → (i : ℕ) (t : Tunnel) → at e.tunnels i ≡ Some t → (i ≡ 0 → ⊥)
     → (bytes : List ℕ) (h : Header) → header_of bytes ≡ Ok h → h.control ≡ true
-    → ((o : Opening) → message_in (body_of h bytes) ≡ Ok (Sccrq o) → o.tunnel ≡ 0 → ⊥)
-    → ((r : ℕ) → at_zero (body_of h bytes) ≡ Stops r → r ≡ 0 → ⊥) → IsFor h bytes t.control → reached e t.control.peer bytes ≡ Some t.control
+    → ((r : ℕ) → at_zero (body_of h bytes) ≡ Opens r → r ≡ 0 → ⊥) → ((r : ℕ) → at_zero (body_of h bytes) ≡ Stops r → r ≡ 0 → ⊥)
+    → IsFor h bytes t.control → reached e t.control.peer bytes ≡ Some t.control
 is_reached accs n e ok i t there some bytes h read control opens stops is = ⊎_elim
     (λ (named : h.tunnel ≡ t.control.local).
     main_reached e t.control.peer bytes h i t there read control
@@ -159,8 +134,8 @@ is_reached accs n e ok i t there some bytes h read control opens stops is = ⊎_
     (λ other. ⊎_elim
     (λ (again : IsAgain h bytes t.control).
     main_reached e t.control.peer bytes h i t there read control
-    (again_main e t.control.peer h (body_of h bytes) i again.opening again.none again.said
-    (rw (← again.known) (known_here accs n e ok i t there (λ z. opens again.opening again.said (sym again.known ∙ z))))))
+    (again_main e t.control.peer h (body_of h bytes) i t.control.remote again.none again.opens
+    (known_here accs n e ok i t there (opens t.control.remote again.opens))))
     (λ (stop : IsStop h bytes t.control).
     main_reached e t.control.peer bytes h i t there read control
     (stop_main e t.control.peer h (body_of h bytes) i t.control.remote stop.none stop.stops

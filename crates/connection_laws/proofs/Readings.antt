@@ -10,7 +10,7 @@ use Rattle.l2tp_header.specs.declared.header.Header.{Header}
 use Rattle.l2tp_header.specs.declared.header.HeaderError.{HeaderError}
 use Rattle.l2tp_header.specs.Reading.{header_of}
 use Rattle.protocol_model.specs.declared.event.Addressee.{Addressee}
-use Rattle.protocol_model.specs.declared.event.Addressee.TheVariants.{Opens, Stops, Main, Nobody}
+use Rattle.protocol_model.specs.declared.event.Addressee.TheVariants.{Opens, Stops, Answers, Main, Nobody}
 use Rattle.protocol_model.specs.declared.tunnel.Control.{Control}
 use Rattle.protocol_model.specs.declared.out.Origin.{Origin}
 use Rattle.protocol_model.specs.declared.out.Origin.TheVariants as origin
@@ -25,7 +25,7 @@ use Rattle.protocol_model.specs.Run.{Run}
 use Rattle.step_laws.specs.Steps.{AreKept}
 use Rattle.frame_laws.specs.Codecs.{Codecs}
 use Rattle.connection_laws.specs.Accounts.{Opener, Account, account_of}
-use Rattle.connection_laws.specs.Facts.{Accounts, IsClosed, IsLost, HasStopped, AreJoined, partner_in, IsOpener, IsAcceptor, IsMade, AccountOk, LiveOk, EndOk, IsCopy, OriginOk, PacketOk, NodeOk, Holds}
+use Rattle.connection_laws.specs.Facts.{Accounts, IsClosed, IsLost, HasStopped, AreJoined, partner_in, IsOpener, IsAcceptor, IsMade, AccountOk, LiveOk, EndOk, IsCopy, IsRefusal, OriginOk, PacketOk, NodeOk, Holds}
 use Rattle.connection_laws.specs.Channels.{IsRead, NumbersAreRead}
 use Rattle.connection_laws.proofs.Later.{live_made}
 use Rattle.connection_laws.proofs.Told.{HeaderTells, copy_tells}
@@ -33,7 +33,7 @@ use Rattle.connection_laws.proofs.Starts.{IsYoung, is_young}
 use Rattle.connection_laws.proofs.Numbers.{count_is_true}
 use Rattle.connection_laws.proofs.Sent.{mapped, copy_there}
 use Rattle.connection_laws.proofs.Worlds.{all_map}
-use Rattle.connection_laws.proofs.Hearing.{unnamed, part_cases, opener_of, acceptor_of}
+use Rattle.connection_laws.proofs.Hearing.{NamesNone, unnamed, part_cases, opener_of, acceptor_of}
 use Rattle.connection_laws.proofs.NextHeard.{IsSmall, unlearned_small}
 
 -- ---- which tunnel was reached
@@ -84,6 +84,7 @@ main_is : (e : End) (a : Addressee) (c : Control) → main_of e a ≡ Some c
 unfolding main_of
 main_is e (Opens r) c h = absurd cc
 main_is e (Stops r) c h = absurd cc
+main_is e (Answers r) c h = absurd cc
 main_is e (Main i) c h = (i, refl, h)
 main_is e (Nobody w) c h = absurd cc
 
@@ -185,7 +186,7 @@ module _ (codecs : Codecs) (accs : Accounts) (accounts : (m j : ℕ) → Account
   fit_named not_zero is =
       let told = tells.tunnel_is in
       let remote : from.remote ≡ i = ⊎_elim
-      (λ (z : (copy.tunnel ≡ 0) × (IsLost from ⊎ ((o.nr ≡ 0) × (o.empty ≡ false → o.ns ≡ 0)))). absurd (not_zero (told ∙ z.0)))
+      (λ (z : NamesNone from o copy.tunnel). absurd (not_zero (told ∙ z.0)))
       (λ (z : (copy.tunnel ≡ 0 → ⊥) × (copy.tunnel ≡ from.remote)). sym z.1 ∙ (sym told ∙ is)) copy.named in
       let near = nearby accs accounts n i p.from o.tunnel some copy.made (sym copy.to ∙ to) remote in
       let le = near.given in
@@ -220,6 +221,10 @@ module _ (codecs : Codecs) (accs : Accounts) (accounts : (m j : ℕ) → Account
       (λ (none : h.tunnel ≡ 0). fit_zero none)
       named
 
+-- those of a StopCCN of no tunnel are 0 and 1
+refusal_fits : (accs : Accounts) (n i : ℕ) (p : Packet) (o : ControlOrigin) → IsRefusal accs p o → Fit (accs n i) o
+refusal_fits accs n i p o r = let ns = r.ns in let nr = r.nr in record { ns = λ full. omega arith; nr = omega arith }
+
 -- then they are read truly
 is_read : ClassIsTrue → (accs : Accounts) (n i : ℕ) (t : Tunnel) (o : ControlOrigin) → LiveOk accs n i (accs n i) t → IsYoung o t.control → Fit (accs n i) o
     → IsRead t.control o
@@ -249,11 +254,15 @@ module _ (codecs : Codecs) (classes : ClassIsTrue) (r : Run) (holds : Holds r.wo
       by (Err x) read = absurd (unreached node.end (address_of p.from) p.bytes x c read reach)
       by (Ok h) read =
           let k = reach_of node.end (address_of p.from) p.bytes h c read reach in
-          let copy : IsCopy (known_accounts p.from o.tunnel) p o = subst (λ (q : Origin). OriginOk known_accounts p q) is ok.sent in
+          let sent : OriginOk known_accounts p (origin.Control o) = subst (λ (q : Origin). OriginOk known_accounts p q) is ok.sent in
           let end : EndOk known_accounts p.to node.end × AreKept node.end = subst (NodeOk known_accounts p.to) there (holds.nodes p.to) in
           let live = end.0.live k.id k.tunnel k.there in
           let some = (holds.accounts p.to k.id).some (live_made known_accounts p.to k.id (known_accounts p.to k.id) k.tunnel live) in
-          let fit = fits codecs known_accounts holds.accounts p.to k.id some p o copy refl h read (address_of p.from) k.tunnel k.named in
+          let fit : Fit (known_accounts p.to k.id) o = ⊎_elim
+          (λ (copy : IsCopy (known_accounts p.from o.tunnel) p o).
+          fits codecs known_accounts holds.accounts p.to k.id some p o copy refl h read (address_of p.from) k.tunnel k.named)
+          (λ (r : IsRefusal known_accounts p o). refusal_fits known_accounts p.to k.id p o r)
+          sent in
           let y = is_young o k.tunnel.control (subst (λ (q : Control). too_old o (Some q) ≡ None) k.same young) in
           subst (λ (q : Control). IsRead q o) (sym k.same) (is_read classes known_accounts p.to k.id k.tunnel o live y fit)
 

@@ -1,5 +1,5 @@
 -- A tunnel that takes a letter about a call that there isn't, and refuses it by a CDN, keeps what holds.
-use Rattle.std.proofs.Common.{◌≡◌, inl, inr, ℕ, ◌<◌, List, [], ◌∷◌, refl, sym, ap, ◌∙◌, Option, None, Result, Ok, Err, arith}
+use Rattle.std.proofs.Common.{◌≡◌, inl, inr, ⊎_elim, ℕ, ◌<◌, List, [], ◌∷◌, length, refl, sym, ap, ◌∙◌, Option, None, Result, Ok, Err, arith}
 use Rattle.avp_codec.specs.declared.avp.Avp.{Avp}
 use Rattle.avp_codec.specs.declared.error.AvpError.{AvpError}
 use Rattle.avp_codec.specs.Reading.{avps_of}
@@ -24,8 +24,7 @@ use Rattle.frame_laws.specs.Codecs.{Codecs}
 use Rattle.connection_laws.specs.Facts.{Accounts, IsNoStop, Tells, Within}
 use Rattle.connection_laws.proofs.Keeps.{after, IsMoved}
 use Rattle.connection_laws.proofs.Later.{after_move, only_after}
-use Rattle.connection_laws.proofs.Hearing.{sender_in, heard_next, letter_some, heard}
-use Rattle.connection_laws.proofs.NextHeard.{next_heard}
+use Rattle.connection_laws.proofs.Hearing.{PeerSays, peer_says}
 use Rattle.connection_laws.proofs.Acknowledging.{put_of}
 use Rattle.connection_laws.proofs.Taking.{takes_and_gives}
 use Rattle.connection_laws.proofs.PairMoves.{took, took_and_given, said_written, said_takes, open_so, unclosed_so}
@@ -83,32 +82,32 @@ module _ (codecs : Codecs) (classes : ClassIsTrue) (accs : Accounts) (n : ℕ) (
       (took_and_given accs n m.tunnel t live (h.counts m.tunnel t o.there) t.control.state t.calls
       (record { remotes = live.calls; order = live.order })
       (inr (refl, refl)) l o.room)
-      (only_after accs d n (move.Refused m) h.deed.node_is h.deed.move_is tt)
-      (after_move accs d n (move.Refused m) h.deed.node_is h.deed.move_is
+      (only_after accs d n (move.Refused m) tt h.deed.node_is h.deed.move_is tt)
+      (after_move accs d n (move.Refused m) tt h.deed.node_is h.deed.move_is
       ∙ takes_and_gives d n e.role sender (move.Refused m) m.taken (accs n m.tunnel) h.deed)
       (record { written = (omega arith, codes.0, codes.1); session = fits }, tt) (tt, tt) (tt, tt) (put_of e x e.calls m.tunnel u o.after)
 
   told : (session : ℕ) → m.remote ≡ session → session < 65536 → m.remote < 65536
   told session same small = rw same small
 
-  written : (said : Message) → message_in body ≡ Ok said → IsWritten said
-  written said is = said_written codecs classes accs n e sender ev h.within m.tunnel t o.there o.comes.header.session said (came said is)
+  written : (said : Message) → IsNoStop said → message_in body ≡ Ok said → IsWritten said
+  written said plain is = said_written codecs classes accs n e sender ev h.within m.tunnel t o.there o.comes.header.session said (came said is) plain
 
   -- no fault comes
   sound : call_fault_in body ≡ None
   sound =
-      let hears = heard codecs accs n e sender ev h.within m.tunnel t o.there o.comes.header o.comes.bytes (heard_next ev t.control o.comes) in
-      let next = next_heard classes accs n e sender ev h.within m.tunnel t o.there o.comes.header o.comes.bytes hears
-      (letter_some (sender_in accs n m.tunnel hears.o) hears.o o.comes.header o.comes.bytes hears.read o.comes.some) o.comes.next in
-      no_fault body next.letter.message next.said
+      ⊎_elim
+      (λ (k : PeerSays o.comes.header o.comes.bytes). no_fault body k.message k.said)
+      (λ (none : body ≡ []). absurd (o.comes.some (ap (λ (ls : List ℕ). length ls) none)))
+      (peer_says codecs accs n e sender ev h.within t.control.peer o.comes.header o.comes.bytes o.comes.is o.comes.read o.comes.control)
 
   by_why : WhyRefused e t o.comes.header.session (message_in body) (call_fault_in body) m → Within (after accs d) n x sender ev
   by_why (IsNotGranted remote serial calling r said none not_granted same result error) =
-      refuses (Icrq remote serial calling) tt said (told remote same (written (Icrq remote serial calling) said).0)
+      refuses (Icrq remote serial calling) tt said (told remote same (written (Icrq remote serial calling) tt said).0)
       (λ l session says. inl (serial, calling, says ∙ ap (λ q. Icrq q serial calling) (sym same)))
-  by_why (IsOutgoing remote said same result error) = absurd (written (Ocrq remote) said)
+  by_why (IsOutgoing remote said same result error) = absurd (written (Ocrq remote) tt said)
   by_why (IsReplyToNone remote said none lns same result error) =
-      refuses (Icrp remote) tt said (told remote same (written (Icrp remote) said).0)
+      refuses (Icrp remote) tt said (told remote same (written (Icrp remote) tt said).0)
       (λ l session says. inr (says ∙ ap (λ q. Icrp q) (sym same)))
   by_why (IsWrong f fault same result error) = absurd (let none = sound in cc)
 

@@ -1,5 +1,5 @@
 -- The letter that a tunnel hears next, and the tunnel that sent it.
-use Rattle.std.proofs.Common.{◌≡◌, ℕ, List, refl, sym, ap, ◌∙◌, subst, Option, Some, arith}
+use Rattle.std.proofs.Common.{◌≡◌, ⊎_elim, ℕ, List, refl, sym, ap, ◌∙◌, subst, Option, Some, arith}
 use Rattle.std.specs.Prelude.{length, slice_get}
 use Rattle.l2tp_header.specs.declared.header.Header.{Header}
 use Rattle.control_message.specs.declared.message.Message.{Message}
@@ -15,7 +15,7 @@ use Rattle.frame_laws.specs.Codecs.{Codecs}
 use Rattle.connection_laws.specs.Accounts.{Acceptor, Account}
 use Rattle.connection_laws.specs.Facts.{Accounts, IsNoStop, IsStopCcn, AccountOk, Within}
 use Rattle.connection_laws.specs.Steps.{NextLetter, NextIsHeard, PlainIsHeard}
-use Rattle.connection_laws.proofs.Hearing.{sender_in, Sends, Chosen, Asks, Leaves, Linked, FromOpener, FromAcceptor, acceptor_of, Heard, heard, heard_next, letter_some}
+use Rattle.connection_laws.proofs.Hearing.{sender_in, Sends, Chosen, Asks, Leaves, Linked, FromOpener, FromAcceptor, acceptor_of, Heard, HeardRefusal, heard, heard_next, letter_some}
 use Rattle.connection_laws.proofs.NextHeard.{HeardNext, next_heard, said_so}
 
 -- the sender of the next letter goes to this node, and has learned this tunnel
@@ -83,16 +83,21 @@ next_letter accs n e sender ev within i t h bytes from next session m same says 
 
 pub next_is_heard : Codecs → ClassIsTrue → NextIsHeard
 next_is_heard codecs classes accs n e sender ev within i t there live session m plain k =
-    let s = said_so codecs classes accs n e sender ev within i t there session m k in
+    let s = said_so codecs classes accs n e sender ev within i t there session m plain k in
     next_letter accs n e sender ev within i t k.hears.header k.hears.bytes s.heard s.next session m s.session_is s.message plain
 
 pub plain_is_heard : Codecs → ClassIsTrue → PlainIsHeard
 plain_is_heard codecs classes accs n e sender ev within i t there live k =
-    let from = heard codecs accs n e sender ev within i t there k.header k.bytes (heard_next ev t.control k) in
+    ⊎_elim
+    (λ (from : Heard accs n e sender ev within.comes i t k.header k.bytes).
     let read = letter_some (sender_in accs n i from.o) from.o k.header k.bytes from.read k.some in
     let next = next_heard classes accs n e sender ev within i t there k.header k.bytes from read k.next in
     record {
       message = next.letter.message;
       said = next.said;
       next = λ plain. next_letter accs n e sender ev within i t k.header k.bytes from next k.header.session next.letter.message (sym next.session) refl plain;
-    }
+    })
+    -- one of no tunnel stops this one
+    (λ (from : HeardRefusal accs n e sender ev within.comes i t k.header k.bytes).
+    record { message = StopCcn 0 from.read.result from.read.error; said = from.read.said; next = λ plain. absurd plain })
+    (heard codecs accs n e sender ev within i t there k.header k.bytes (heard_next ev t.control k))

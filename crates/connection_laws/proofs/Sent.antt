@@ -58,6 +58,12 @@ none_learned accs n i a Opener ok made z = ⊎_elim
     (ok.none z)
 none_learned accs n i a Acceptor ok made z = absurd (ok.known z)
 
+-- an acceptor has learned its opener
+opener_only : (accs : Accounts) (n i : ℕ) (a : Account) (q : Part) → IsPart accs n i a q → (q ≡ Unmade → ⊥) → a.remote ≡ 0 → q ≡ Opener
+opener_only accs n i a Unmade ok made z = absurd (made refl)
+opener_only accs n i a Opener ok made z = refl
+opener_only accs n i a Acceptor ok made z = absurd (ok.known z)
+
 -- the letter of a copy that isn't empty was given
 pub copy_there : (b : Account) (o : ControlOrigin) (tunnel : ℕ) (bytes : List ℕ) → Says b o tunnel bytes → o.empty ≡ false → o.ns < length b.given
 copy_there b o tunnel bytes (ALetter l full there are) f = slice_get_within b.given o.ns l there
@@ -103,6 +109,7 @@ module _ (ms : Accounts) (n : ℕ) (x : End) (sender : Option Sender) (ev : Even
       named = ⊎_elim
           (λ (z : t.control.remote ≡ 0). inl (
             z,
+            opener_only ms n i a a.part ok.part made (sym live.remote ∙ z),
             ⊎_elim
                 (λ (lost : IsLost a). inl lost)
                 (λ (k : (length a.taken ≡ 0) × (length a.given ≡ 1)).
@@ -118,7 +125,7 @@ module _ (ms : Accounts) (n : ℕ) (x : End) (sender : Option Sender) (ev : Even
     packet_of o c from is is_copy = record {
       from = within.end.node;
       sent = subst (λ q. OriginOk ms (packet o) q) (sym is)
-          (subst (λ j. IsCopy (ms n j) (packet o) c) (sym (from ∙ live.local)) is_copy);
+          (inl (subst (λ j. IsCopy (ms n j) (packet o) c) (sym (from ∙ live.local)) is_copy));
     }
 
     pub carries_ok : (moves : List Move) (o : Origin) → Carries t moves bytes o → PacketOk ms (packet o)

@@ -1,11 +1,11 @@
 -- What holds where a step begins.
-use Rattle.std.proofs.Common.{◌≡◌, ⊎_elim, ℕ, ◌+◌, ◌≤◌, Bool, true, false, cond, refl, subst, Option, Some, None, Ok, arith}
+use Rattle.std.proofs.Common.{◌≡◌, ⊎_elim, ℕ, ◌+◌, ◌≤◌, Bool, true, false, cond, refl, sym, ◌∙◌, subst, Option, Some, None, Ok, arith}
 use Rattle.std.proofs.lemmas.Bool.Decides.{nat_tests}
 use Rattle.id_table.specs.Ids.{at}
 use Rattle.l2tp_header.specs.declared.header.Header.{Header}
 use Rattle.l2tp_header.specs.Reading.{header_of}
 use Rattle.control_message.specs.declared.message.Message.{Message}
-use Rattle.control_message.specs.declared.message.Message.TheVariants.{Sccrq}
+use Rattle.control_message.specs.declared.message.Message.TheVariants.{Sccrq, StopCcn}
 use Rattle.control_message.specs.declared.message.Opening.{Opening}
 use Rattle.control_message.specs.Pairs.{IsWritten}
 use Rattle.protocol_model.specs.declared.out.Origin.{Origin}
@@ -15,18 +15,20 @@ use Rattle.protocol_model.specs.declared.packet.Packet.{Packet}
 use Rattle.protocol_model.specs.declared.refusal.Refusal.TheVariants.{HalfSpace}
 use Rattle.protocol_model.specs.declared.tunnel.Control.{Control}
 use Rattle.protocol_model.specs.Names.{address_of}
-use Rattle.protocol_model.specs.declared.event.Addressee.TheVariants.{Stops}
-use Rattle.protocol_model.specs.Reading.{body_of, message_in, at_zero}
+use Rattle.protocol_model.specs.declared.event.Addressee.TheVariants.{Opens, Stops}
+use Rattle.protocol_model.specs.Reading.{body_of, at_zero}
 use Rattle.protocol_model.specs.Turn.{Tunnel}
 use Rattle.protocol_model.specs.End.{End, reached}
 use Rattle.protocol_model.specs.World.{Node, outlives, too_old, refused_by, sender_of}
 use Rattle.step_laws.specs.Moves.{IsFor}
+use Rattle.step_laws.specs.Opens.{opens_said, empty_opens_none}
 use Rattle.frame_laws.specs.Codecs.{Codecs}
 use Rattle.connection_laws.specs.Accounts.{Account}
-use Rattle.connection_laws.specs.Facts.{Accounts, AccountOk, LiveOk, EndOk, IsCopy, OriginOk, PacketOk, AreNear, IsPacket}
+use Rattle.connection_laws.specs.Facts.{Accounts, AccountOk, LiveOk, EndOk, IsCopy, IsRefusal, OriginOk, PacketOk, AreNear, IsPacket}
 use Rattle.connection_laws.proofs.Later.{live_made}
-use Rattle.connection_laws.proofs.Told.{copy_tells, copy_says}
+use Rattle.connection_laws.proofs.Told.{copy_tells}
 use Rattle.connection_laws.proofs.Stops.{stops_by, no_stop}
+use Rattle.connection_laws.proofs.Refusals.{refusal_read}
 use Rattle.connection_laws.proofs.Hearing.{IsLetterRead, IsNoneRead, copy_read}
 use Rattle.connection_laws.proofs.Reached.{is_reached}
 
@@ -64,10 +66,16 @@ written_opens m x is w z = let k = subst IsWritten is w in let lt = k.tunnel_not
 module _ (codecs : Codecs) (accs : Accounts) (accounts : (m j : ℕ) → AccountOk accs m j (accs m j)) (n : ℕ) (e : End) (ok : EndOk accs n e) (p : Packet) where
   -- an SCCRQ tells an id
   opens_some : (o : ControlOrigin) → IsCopy (accs p.from o.tunnel) p o → (h : Header) → header_of p.bytes ≡ Ok h
-      → (x : Opening) → message_in (body_of h p.bytes) ≡ Ok (Sccrq x) → x.tunnel ≡ 0 → ⊥
-  opens_some o c h read x said z =
-      let b = copy_says codecs accs p.from o.tunnel (accs p.from o.tunnel) p o (accounts p.from o.tunnel) c h read (Sccrq x) said in
-      written_opens b.letter.message x b.says b.spelled.written z
+      → (r : ℕ) → at_zero (body_of h p.bytes) ≡ Opens r → r ≡ 0 → ⊥
+  opens_some o c h read r opens z =
+      let b = accs p.from o.tunnel in
+      let ok_there = accounts p.from o.tunnel in
+      ⊎_elim
+      (λ (q : IsLetterRead b o h p.bytes).
+      let asks = opens_said (body_of h p.bytes) q.letter.message r opens q.said in
+      written_opens q.letter.message asks.0 asks.1 q.spelled.written (sym asks.2 ∙ z))
+      (λ (q : IsNoneRead o h p.bytes). empty_opens_none r (let s = opens in rw q.body at s))
+      (copy_read codecs b p o h ok_there.remote ok_there.spelled c read).says
 
   -- so does a StopCCN that tells one
   stops_some : (o : ControlOrigin) → IsCopy (accs p.from o.tunnel) p o → (h : Header) → header_of p.bytes ≡ Ok h
@@ -89,17 +97,32 @@ module _ (codecs : Codecs) (accs : Accounts) (accounts : (m j : ℕ) → Account
       (is_reached accs n e ok i t there (live_some accs n i (accs n i) t (accounts n i) (ok.live i t there)) p.bytes h read tells.control
       (opens_some o c h read) (stops_some o c h read) is)
 
-  near_of : (o : ControlOrigin) → IsCopy (accs p.from o.tunnel) p o → too_old o (reached e (address_of p.from) p.bytes) ≡ None
-      → AreNear accs n e p (origin.Control o)
-  near_of o c young i t h there peer read is =
-      let y = is_young o t.control (rw (copy_reaches o c i t h there peer read is) at young) in
+  -- so is the one that a StopCCN of no tunnel is for
+  refusal_reaches : (o : ControlOrigin) → IsRefusal accs p o → (i : ℕ) (t : Tunnel) (h : Header) → at e.tunnels i ≡ Some t
+      → t.control.peer ≡ address_of p.from → header_of p.bytes ≡ Ok h → IsFor h p.bytes t.control → reached e (address_of p.from) p.bytes ≡ Some t.control
+  refusal_reaches o r i t h there peer read is =
+      let k = refusal_read codecs accs accounts p o r h read in
+      subst (λ q. reached e q p.bytes ≡ Some t.control) peer
+      (is_reached accs n e ok i t there (live_some accs n i (accs n i) t (accounts n i) (ok.live i t there)) p.bytes h read k.control
+      (λ q opens z. (let asks = (opens_said (body_of h p.bytes) (StopCcn 0 k.result k.error) q opens k.said).1 in let no : ⊥ = cc in no))
+      (λ q stops. (stops_by (body_of h p.bytes) (StopCcn 0 k.result k.error) q k.said stops).some) is)
+
+  near_of : (o : ControlOrigin)
+      → ((i : ℕ) (t : Tunnel) (h : Header) → at e.tunnels i ≡ Some t → t.control.peer ≡ address_of p.from → header_of p.bytes ≡ Ok h
+      → IsFor h p.bytes t.control → reached e (address_of p.from) p.bytes ≡ Some t.control)
+      → too_old o (reached e (address_of p.from) p.bytes) ≡ None → AreNear accs n e p (origin.Control o)
+  near_of o reaches young i t h there peer read is =
+      let y = is_young o t.control (rw (reaches i t h there peer read is) at young) in
       let taken = (ok.live i t there).taken in
       let le = y.taken in
       record { taken = omega arith; acked = y.acked }
 
   pub near_all : (node : Node) → node.end ≡ e → (q : Origin) → OriginOk accs p q → refused_by p node q ≡ None → AreNear accs n e p q
   unfolding refused_by
-  near_all node same (origin.Control o) c h = near_of o c (rw same at h)
+  near_all node same (origin.Control o) c h = ⊎_elim
+      (λ (k : IsCopy (accs p.from o.tunnel) p o). near_of o (copy_reaches o k) (rw same at h))
+      (λ (k : IsRefusal accs p o). near_of o (refusal_reaches o k) (rw same at h))
+      c
   near_all node same (origin.Data session) c h = tt
 
   pub is_packet : (node : Node) → node.end ≡ e → PacketOk accs p → p.to ≡ n → refused_by p node p.origin ≡ None

@@ -1,23 +1,28 @@
 -- What a chain of moves of a step keeps.
-use Rattle.std.proofs.Common.{◌≡◌, ℕ, ◌+◌, ◌*◌, ◌^◌, ◌<◌, ◌≤◌, List, [], ◌∷◌, length, map, refl, sym, ap, ◌∙◌, subst, Option, Some, Ok, arith, flat_map}
+use Rattle.std.proofs.Common.{◌≡◌, ⊎_elim, ℕ, ◌+◌, ◌*◌, ◌^◌, ◌<◌, ◌≤◌, List, [], ◌∷◌, length, map, refl, sym, ap, ◌∙◌, subst, Option, Some, Ok, arith, flat_map}
 use Rattle.std.proofs.lemmas.List.{length-append}
 use Rattle.id_table.specs.Ids.{at}
 use Rattle.id_source.specs.Spaces.{draws}
 use Rattle.tunnel_fsm.specs.Rows.{state_number}
 use Rattle.protocol_model.specs.declared.event.Event.{Event}
+use Rattle.protocol_model.specs.declared.moves.Declined.{Declined}
 use Rattle.protocol_model.specs.declared.moves.Move.{Move}
 use Rattle.protocol_model.specs.declared.moves.Move.TheVariants as move
 use Rattle.protocol_model.specs.declared.tunnel.Role.{Role}
+use Rattle.protocol_model.specs.Reading.{body_of}
 use Rattle.protocol_model.specs.Turn.{Tunnel}
 use Rattle.protocol_model.specs.End.{End}
 use Rattle.protocol_model.specs.World.{World, Sender, Deed, deed_of}
-use Rattle.step_laws.specs.Moves.{Does, Chain}
+use Rattle.step_laws.specs.Letters.{Among}
+use Rattle.step_laws.specs.Moves.{Does, Chain, Declines}
+use Rattle.step_laws.specs.Codes.{decline_codes_fit}
 use Rattle.step_laws.specs.Ups.{reads_of_move}
 use Rattle.connection_laws.specs.Accounts.{Account, no_account, about, account_from}
 use Rattle.connection_laws.specs.Facts.{Accounts, IsOpen, Within}
 use Rattle.connection_laws.proofs.Keeps.{after, IsMoved, MovesKeep}
-use Rattle.connection_laws.specs.Steps.{MovesWithin, ClosingsAreKnown}
-use Rattle.connection_laws.proofs.Later.{extends_same, extends_on, AllExtend, all_extend, MayEnter, only_after, after_there}
+use Rattle.connection_laws.specs.Steps.{MovesWithin, ClosingsAreKnown, DeclinesAreOfOpenings}
+use Rattle.connection_laws.proofs.Later.{extends_same, extends_on, AllExtend, all_extend, DeclinesNone, MayEnter, only_after, after_there}
+use Rattle.connection_laws.proofs.Staying.{Stays, stays_same, stays_on, all_stay_extend, given_stays, IsDeclining, declines_or_not, opening_stays, WasOpening, was_opening, opening_later}
 use Rattle.connection_laws.proofs.States.{not_closed, is_open_so, is_waiting, closes_open}
 use Rattle.connection_laws.proofs.Written.{draw_is}
 use Rattle.connection_laws.proofs.Beginning.{undrawn}
@@ -39,6 +44,7 @@ does_role moment ev x (move.Refused m) y h = ap (λ (e : End). e.role) h.after
 does_role moment ev x (move.EndTold m) y h = ap (λ (e : End). e.role) h.after
 does_role moment ev x (move.EndHeard m) y h = ap (λ (e : End). e.role) h.after
 does_role moment ev x (move.EndSilent m) y h = ap (λ (e : End). e.role) h.after
+does_role moment ev x (move.Declined m) y h = ap (λ (e : End). e.role) h.after
 does_role moment ev x (move.Closed m) y h = ap (λ (e : End). e.role) h.after
 does_role moment ev x (move.ClosedBy m) y h = ap (λ (e : End). e.role) h.after
 does_role moment ev x (move.Cleared i) y h = ap (λ (e : End). e.role) h.after
@@ -86,6 +92,7 @@ module _ (closings : ClosingsAreKnown) (accs : Accounts) (n : ℕ) (e : End) (se
   may_enter (move.EndTold m) x h = tt
   may_enter (move.EndHeard m) x h = tt
   may_enter (move.EndSilent m) x h = tt
+  may_enter (move.Declined m) x h = tt
   may_enter (move.Cleared i) x h = tt
   may_enter (move.Greeted m) x h = tt
   may_enter (move.TookPlain m) x h = tt
@@ -107,13 +114,25 @@ pub record Kept (accs ms : Accounts) (n : ℕ) (x : End) (sender : Option Sender
   pub within : Within ms n x sender ev
   pub given : GivenBelow ms most
   pub grown : AllExtend accs ms
-  pub others : (k j : ℕ) → (k ≡ n → ⊥) → ms k j ≡ accs k j
+  -- of the tunnels of other nodes only SCCRQs may be declined
+  pub others : (k j : ℕ) → (k ≡ n → ⊥) → Stays (accs k j) (ms k j)
 
 -- and its moves, each made where all of it holds
 pub record Ran (accs ms : Accounts) (n : ℕ) (e x : End) (sender : Option Sender) (moment : ℕ) (ev : Event) (deed : Move → Deed) (made : List Move) (most : ℕ)
     : Type 0 where
   pub kept : Kept accs ms n x sender ev most
   pub moves : MovesWithin accs n e sender moment ev deed made x
+  pub openings : (q : Declined) → Among (move.Declined q) made → WasOpening ms n q
+
+-- what one move leaves of the accounts
+record MoveLeaves (accs ms : Accounts) (n most : ℕ) (m : Move) : Type 0 where
+  grown : AllExtend accs ms
+  given : GivenBelow ms most
+  others : (k j : ℕ) → (k ≡ n → ⊥) → Stays (accs k j) (ms k j)
+  openings : (q : Declined) → m ≡ move.Declined q → WasOpening ms n q
+
+no_opening : (m : Move) → DeclinesNone m → (q : Declined) → m ≡ move.Declined q → ⊥
+no_opening m plain q is = subst DeclinesNone is plain
 
 abbrev pub reads_in : List Move → List ℕ
 reads_in ms = flat_map reads_of_move ms
@@ -121,7 +140,33 @@ reads_in ms = flat_map reads_of_move ms
 abbrev pub deeds : World → ℕ → ℕ → Role → Option Sender → List Move → List Deed
 deeds v line n r sender ms = map (λ m. deed_of v line n r sender m) ms
 
-module _ (moves_keep : MovesKeep) (closings : ClosingsAreKnown) (v : World) (line n : ℕ) (r : Role) (sender : Option Sender) (moment : ℕ) (ev : Event) where
+module _ (moves_keep : MovesKeep) (closings : ClosingsAreKnown) (declines : DeclinesAreOfOpenings) (v : World) (line n : ℕ) (r : Role)
+    (sender : Option Sender) (moment : ℕ) (ev : Event) where
+  move_leaves : (accs : Accounts) (e y : End) (m : Move) (d : Deed) (top most : ℕ) → d.node ≡ n → d.move ≡ m → Within accs n e sender ev
+      → Does e moment ev m y → Within (after accs d) n y sender ev → AckedBelow y top → top + 8192 ≤ most → GivenBelow accs most
+      → MoveLeaves accs (after accs d) n most m
+  move_leaves accs e y m d top most node is within does then below room had = ⊎_elim
+      (λ (plain : DeclinesNone m). record {
+        grown = all_extend accs (after accs d) n (about m)
+            (only_after accs d n m plain node is (may_enter closings accs n e sender moment ev within m y does));
+        given = given_after accs n e y sender moment ev m d top most plain node is does then below room had;
+        others = λ k j other. stays_same (accs k j) (after accs d k j)
+            (after_there accs d k j (subst DeclinesNone (sym is) plain) (λ both. other (both.0 ∙ node)));
+        openings = λ q same. absurd (no_opening m plain q same);
+      })
+      (λ (k : IsDeclining m).
+      let all = opening_stays accs n d k.declined (is ∙ k.is)
+      (declines accs n e y sender ev within k.declined (subst (λ (q : Move). Does e moment ev q y) k.is does)) in
+      record {
+        grown = all_stay_extend accs (after accs d) all;
+        given = given_stays accs (after accs d) all most had;
+        others = λ i j other. all i j;
+        openings = λ q same.
+            let did : Declines e ev q y = subst (λ (q : Move). Does e moment ev q y) same does in
+            was_opening accs n d q (is ∙ same) (declines accs n e y sender ev within q did) (decline_codes_fit e (body_of did.header did.bytes) q did.why);
+      })
+      (declines_or_not m)
+
   pub chain_keeps : (ms : List Move) (accs : Accounts) (e x : End) (top most : ℕ) → Chain moment ev e ms x → e.role ≡ r → Within accs n e sender ev
       → AckedBelow e top → GivenBelow accs most → top + 8192 * length (reads_in ms) + 8192 ≤ most → most + 3 < 2 ^ 64
       → Ran accs (afterwards accs (deeds v line n r sender ms)) n e x sender moment ev (λ m. deed_of v line n r sender m) ms most
@@ -131,9 +176,10 @@ module _ (moves_keep : MovesKeep) (closings : ClosingsAreKnown) (v : World) (lin
       within = subst (λ y. Within accs n y sender ev) h within;
       given = had;
       grown = λ k j. extends_same (accs k j);
-      others = λ k j o. refl;
+      others = λ k j o. stays_same (accs k j) (accs k j) refl;
     };
     moves = h;
+    openings = λ q among. absurd among;
   }
   chain_keeps (m ∷ ms) accs e x top most h role within below had room last =
       let d = deed_of v line n r sender m in
@@ -149,17 +195,20 @@ module _ (moves_keep : MovesKeep) (closings : ClosingsAreKnown) (v : World) (lin
       } in
       let w : Within (after accs d) n y sender ev = moves_keep accs n e y sender moment ev m d made in
       let next = does_below e y moment ev m top within.end.order (few_out accs n e sender ev within) below h.1 in
-      let given = given_after accs n e y sender moment ev m d (top + 8192 * reads) most refl refl h.1 w next (omega (arith, room, count)) had in
-      let only = only_after accs d n m refl refl (may_enter closings accs n e sender moment ev within m y h.1) in
-      let grown = all_extend accs (after accs d) n (about m) only in
-      let k = chain_keeps ms (after accs d) y x (top + 8192 * reads) most h.2 (does_role moment ev e m y h.1 ∙ role) w next given
+      let leaves = move_leaves accs e y m d (top + 8192 * reads) most refl refl within h.1 w next (omega (arith, room, count)) had in
+      let k = chain_keeps ms (after accs d) y x (top + 8192 * reads) most h.2 (does_role moment ev e m y h.1 ∙ role) w next leaves.given
       (omega (arith, room, count)) last in
+      let left : Accounts = afterwards (after accs d) (deeds v line n r sender ms) in
       record {
         kept = record {
           within = k.kept.within;
           given = k.kept.given;
-          grown = λ i j. extends_on (accs i j) (after accs d i j) (afterwards (after accs d) (deeds v line n r sender ms) i j) (grown i j) (k.kept.grown i j);
-          others = λ i j o. k.kept.others i j o ∙ after_there accs d i j (λ both. o both.0);
+          grown = λ i j. extends_on (accs i j) (after accs d i j) (left i j) (leaves.grown i j) (k.kept.grown i j);
+          others = λ i j o. stays_on (accs i j) (after accs d i j) (left i j) (leaves.others i j o) (k.kept.others i j o);
         };
         moves = (y, made, k.moves);
+        openings = λ q among. ⊎_elim
+            (λ (same : m ≡ move.Declined q). opening_later (after accs d) left k.kept.grown n q (leaves.openings q same))
+            (λ (later : Among (move.Declined q) ms). k.openings q later)
+            among;
       }

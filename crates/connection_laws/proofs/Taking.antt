@@ -267,7 +267,15 @@ module _ (accs ms : Accounts) (n : ℕ) (e x : End) (sender : Option Sender) (ev
   part Acceptor own = acceptor own
 
   extends : Extends a b
-  extends = record { part = inr refl; peer = λ z. refl; remote = inr refl; closed = inr refl; given = (more, refl); taken = (tk ∷ [], refl) }
+  extends = record {
+    part = inr refl;
+    peer = λ z. refl;
+    remote = inr refl;
+    closed = inr refl;
+    given = (more, refl);
+    taken = (tk ∷ [], refl);
+    declined = λ z. z;
+  }
 
   -- the letter that was taken
   newly_taken : IsTaken ms b (length a.taken) tk

@@ -12,20 +12,21 @@ use Rattle.protocol_model.specs.declared.out.Out.{Out}
 use Rattle.protocol_model.specs.declared.out.Out.TheVariants.{Send, Up, Gone, Drop, Cause}
 use Rattle.protocol_model.specs.declared.packet.Packet.{Packet}
 use Rattle.protocol_model.specs.Names.{node_of}
-use Rattle.protocol_model.specs.Turn.{Tunnel}
 use Rattle.protocol_model.specs.End.{End, Stepped, step}
 use Rattle.protocol_model.specs.World.{World, Node, Sender, Deed, birth_in, birth_of, deed_of, with_node, with_birth_at, with_birth, is_born, moved, moved_all, sent, shown, shown_all, given, after_step}
-use Rattle.step_laws.specs.Steps.{AreKept, IsOfMoves, IsChain, StepsAreChains}
+use Rattle.step_laws.specs.Steps.{AreKept, IsSent, IsDecline, IsOfMoves, IsChain, StepsAreChains}
 use Rattle.step_laws.specs.Ups.{most_reads, ReadsAreFew}
 use Rattle.connection_laws.specs.Accounts.{no_account}
-use Rattle.connection_laws.specs.Facts.{Accounts, IsMade, LiveOk, EndOk, PacketOk, Comes, Within, NodeOk, Holds}
+use Rattle.connection_laws.specs.Facts.{Accounts, IsMade, EndOk, PacketOk, Comes, Within, NodeOk, Holds}
 use Rattle.connection_laws.proofs.Keeps.{MovesKeep}
-use Rattle.connection_laws.proofs.Later.{AllExtend, live_made, live_later, packet_later}
+use Rattle.connection_laws.proofs.Later.{AllExtend, packet_later}
 use Rattle.connection_laws.proofs.Budget.{GivenBelow, acked_given}
 use Rattle.connection_laws.proofs.Steps.{afterwards, deeds, Kept, chain_keeps, Ran}
-use Rattle.connection_laws.specs.Steps.{ClosingsAreKnown}
+use Rattle.connection_laws.specs.Steps.{ClosingsAreKnown, DeclinesAreOfOpenings}
 pub use Rattle.connection_laws.specs.Steps.{end_at, BirthsStay, LineSteps}
 use Rattle.connection_laws.proofs.Sent.{carries_ok}
+use Rattle.connection_laws.proofs.Staying.{Stays, end_stays, unknown_stays}
+use Rattle.connection_laws.proofs.Declining.{declined_ok}
 
 -- ---- the ends of nodes
 
@@ -78,6 +79,7 @@ move_same n w (move.Refused m) = same_ends w
 move_same n w (move.EndTold m) = same_ends w
 move_same n w (move.EndHeard m) = same_ends w
 move_same n w (move.EndSilent m) = same_ends w
+move_same n w (move.Declined m) = same_ends w
 move_same n w (move.Closed m) = same_ends w
 move_same n w (move.ClosedBy m) = same_ends w
 move_same n w (move.Cleared i) = same_ends w
@@ -191,32 +193,11 @@ of_end : (accs : Accounts) (n : ℕ) (o : Option Node) → NodeEndOk accs n (opt
 of_end accs n None h = h
 of_end accs n (Some node) h = h
 
-module _ (accs ms : Accounts) (grown : AllExtend accs ms) (k : ℕ) (same : (i : ℕ) → ms k i ≡ accs k i)
-    (some : (i : ℕ) → IsMade (accs k i) → 0 < i) where
-  -- the accounts of an end stay, and more is known of its tunnels' partners
-  end_later : (e : End) → EndOk accs k e → EndOk ms k e
-  end_later e h = record {
-    node = h.node;
-    number = h.number;
-    lns = h.lns;
-    first = h.first;
-    last = h.last;
-    first_session = h.first_session;
-    last_session = h.last_session;
-    order = h.order;
-    drawn = λ i made. h.drawn i (subst IsMade (same i) made);
-    live = live;
-    apart = h.apart;
-  }
-    where
-      live : (i : ℕ) (t : Tunnel) → at e.tunnels i ≡ Some t → LiveOk ms k i (ms k i) t
-      live i t there =
-          let l = h.live i t there in
-          subst (λ a. LiveOk ms k i a t) (sym (same i)) (live_later accs ms grown k i (some i (live_made accs k i (accs k i) t l)) (accs k i) t l)
-
-  node_later : (o : Option End) → NodeEndOk accs k o → NodeEndOk ms k o
-  node_later None h = λ i. same i ∙ h i
-  node_later (Some e) h = (end_later e h.0, h.1)
+-- of the accounts of an end only SCCRQs may be declined, and more is known of its tunnels' partners
+node_later : (accs ms : Accounts) → AllExtend accs ms → (k : ℕ) → ((i : ℕ) → Stays (accs k i) (ms k i)) → ((i : ℕ) → IsMade (accs k i) → 0 < i)
+    → (o : Option End) → NodeEndOk accs k o → NodeEndOk ms k o
+node_later accs ms grown k same some None h = λ i. unknown_stays (accs k i) (ms k i) (same i) (h i)
+node_later accs ms grown k same some (Some e) h = (end_stays accs ms grown k same some e h.0, h.1)
 
 -- ---- a step
 
@@ -242,6 +223,7 @@ pub record Laws : Type 0 where
   pub chains : StepsAreChains
   pub reads : ReadsAreFew
   pub closings : ClosingsAreKnown
+  pub declines : DeclinesAreOfOpenings
 
 module _ (laws : Laws) (number : ℕ) (w : World) (accs : Accounts) (holds : Holds w accs) (most : ℕ) (had : GivenBelow accs most)
     (room : most + 24576 < 2 ^ 64) (n : ℕ) (old : Node) (was : at w.nodes n ≡ Some old) (clock : ℕ) (ev : Event) (sender : Option Sender)
@@ -281,15 +263,21 @@ module _ (laws : Laws) (number : ℕ) (w : World) (accs : Accounts) (holds : Hol
   ran =
       let reads = laws.reads old.end moment block ev in
       let few = few_reads ev in
-      chain_keeps laws.moves laws.closings v number n old.end.role sender moment ev s.moves accs old.end s.end most (most + 16384) chain.chain refl begun
+      chain_keeps laws.moves laws.closings laws.declines v number n old.end.role sender moment ev s.moves accs old.end s.end most (most + 16384)
+      chain.chain refl begun
       (acked_given accs n old.end most ok.0 had) (λ k j. (let le = had k j in omega arith)) (omega arith) (omega (arith, room))
 
   kept : Kept accs ms n s.end sender ev (most + 16384)
   kept = ran.kept
 
   send_ok : (o : Out) → IsOfMoves s.end s.moves o → SendOk (PacketOk ms) n o
-  send_ok (Send peer bytes o) h =
-      carries_ok ms n s.end sender ev (most + 16384) kept.within kept.given (omega (arith, room)) h.id h.tunnel h.there peer h.peer_is bytes s.moves o h.carries
+  send_ok (Send peer bytes o) h = ⊎_elim
+      (λ (k : IsSent s.end s.moves peer bytes o).
+      carries_ok ms n s.end sender ev (most + 16384) kept.within kept.given (omega (arith, room)) k.id k.tunnel k.there peer k.peer_is bytes s.moves o
+      k.carries)
+      (λ (k : IsDecline s.moves peer bytes o).
+      declined_ok ms n kept.within.end.node k.declined (ran.openings k.declined k.there) peer bytes o k.peer_is k.bytes_are k.origin_is)
+      h
   send_ok (Up session side frame) h = tt
   send_ok (Gone session) h = tt
   send_ok (Drop x) h = tt

@@ -34,6 +34,8 @@ opening_written r c local lt some fits = record {
   window = omega arith;
   window_not_zero = omega arith;
   failover = (omega arith, omega arith);
+  challenge = refl;
+  recovery = refl;
 }
 
 -- only the number of the end is told

@@ -1,7 +1,10 @@
 //! Openings that are declined (RFC 2661 section 7.2.1), by a StopCCN of no tunnel of this end's.
 
-ghost use Rattle.std.specs.Prelude.{◌≡◌, IfOk};
-ghost use Rattle.protocol_model.specs.End.{against_opening, against_said, against_body, declined, next_of_peer};
+ghost use Rattle.std.specs.Prelude.{◌≡◌, ◌≤◌, length, IfOk};
+ghost use Rattle.avp_codec.specs.Spelling.{spelling};
+ghost use Rattle.control_message.specs.Pairs.{pairs_of};
+ghost use Rattle.control_message.specs.declared.message.Message.TheVariants as message;
+ghost use Rattle.protocol_model.specs.End.{against_opening, against_said, against_body, decline_bytes, declined, next_of_peer};
 ghost use Rattle.end_core.specs.Gives.{GivesStep};
 
 use crate::end::{End, Given};
@@ -12,6 +15,7 @@ use message_reading::{
     other_version, read_body,
 };
 use protocol_model::{ControlOrigin, Declined, Move, Origin, Out};
+use std::alloc::Global;
 use tunnel_core::{Moves, Outputs};
 use wire_base::{Bytes, NoMemory};
 
@@ -80,20 +84,7 @@ impl End {
     ) -> Result<Given, NoMemory>
         ensures { GivesStep result (declined self.old peer remote nr reason.now) self.old self.new }
     {
-        has_room();
-        let (result, error) = (reason.code, reason.error);
-        let tunnel = 0;
-        let mut avps = Bytes::new(self.alloc);
-        write_message(
-            &mut avps,
-            &Message::StopCcn {
-                tunnel,
-                result,
-                error,
-            },
-        )?;
-        let mut bytes = Bytes::new(self.alloc);
-        write_control(&mut bytes, remote, 0, 0, nr, avps.as_slice())?;
+        let bytes = decline_bytes(self.alloc, remote, nr, reason)?;
         let mut outputs = Outputs::new(self.alloc);
         outputs.push(Out::Cause {
             cause: reason.cause,
@@ -102,7 +93,7 @@ impl End {
             peer,
             bytes,
             origin: Origin::Control(ControlOrigin {
-                tunnel,
+                tunnel: 0,
                 epoch: 0,
                 ns: 0,
                 nr: u64::from(nr),
@@ -114,9 +105,37 @@ impl End {
             peer,
             remote,
             nr,
-            result,
-            error,
+            result: reason.code,
+            error: reason.error,
         }))?;
         Ok(Given { outputs, moves })
     }
+}
+
+/// The pairs of a StopCCN of no tunnel.
+fn stop_pairs(alloc: Global, reason: &Reason) -> Result<Bytes, NoMemory>
+    ensures value { IfOk result (λ pairs. pairs ≡ spelling (pairs_of (message.StopCcn 0 reason.now.result reason.now.error))) }
+    ensures room { IfOk result (λ pairs. length pairs ≤ 65523) }
+{
+    has_room();
+    let mut pairs = Bytes::new(alloc);
+    write_message(
+        &mut pairs,
+        &Message::StopCcn {
+            tunnel: 0,
+            result: reason.code,
+            error: reason.error,
+        },
+    )?;
+    Ok(pairs)
+}
+
+/// A StopCCN of no tunnel, to a tunnel id of the peer's.
+fn decline_bytes(alloc: Global, remote: u16, nr: u16, reason: &Reason) -> Result<Bytes, NoMemory>
+    ensures { IfOk result (λ bytes. bytes ≡ decline_bytes remote nr reason.now) }
+{
+    let pairs = stop_pairs(alloc, reason)?;
+    let mut bytes = Bytes::new(alloc);
+    write_control(&mut bytes, remote, 0, 0, nr, pairs.as_slice())?;
+    Ok(bytes)
 }

@@ -3,6 +3,7 @@ use Rattle.connection_laws.proofs.Said.{next_is_heard, plain_is_heard}
 use Rattle.connection_laws.proofs.AnyHeard.{letters_are_heard, openings_are_acceptable, none_is_faulty, none_is_faulty_in_tunnel}
 use Rattle.connection_laws.proofs.Plainly.{stop_is_heard}
 use Rattle.connection_laws.proofs.Closing.{closings_are_known}
+use Rattle.connection_laws.proofs.Declining.{declines_are_of_openings}
 use Rattle.connection_laws.proofs.Runs.{begins}
 use Rattle.connection_laws.proofs.Laws.{lines_of_runs}
 use Rattle.connection_laws.proofs.steps_keep.Goals as goal
@@ -24,6 +25,9 @@ returns-clause-stop c = stop_is_heard c.laws_below.ensures.codecs c.laws_below.e
 
 pub returns-clause-known : goal.returns-clause-known
 returns-clause-known c = closings_are_known c.laws_below.ensures.codecs
+
+pub returns-clause-openings : goal.returns-clause-openings
+returns-clause-openings c = declines_are_of_openings c.laws_below.ensures.codecs
 
 pub returns-clause-acceptable : goal.returns-clause-acceptable
 returns-clause-acceptable c = openings_are_acceptable c.laws_below.ensures.codecs
