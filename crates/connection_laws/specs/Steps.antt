@@ -132,7 +132,7 @@ abbrev pub ClosingsAreKnown : Type 0
 ClosingsAreKnown = (accs : Accounts) (n : ℕ) (e x : End) (sender : Option Sender) (moment : ℕ) (ev : Event) → Within accs n e sender ev
     → (m : Closed) → Closes e moment ev m x → m.remote ≡ (accs n m.tunnel).remote
 
--- no opening that is heard has another version
+-- no opening that is heard has another version, wants a recovery or has a challenge
 abbrev pub OpeningsAreAcceptable : Type 0
 OpeningsAreAcceptable = (accs : Accounts) (n : ℕ) (e : End) (sender : Option Sender) (ev : Event) → Within accs n e sender ev
     → (peer session : ℕ) (o : Opening) → (Hears ev peer session (Sccrq o)) ⊎ (Hears ev peer session (Sccrp o)) → is_acceptable o ≡ true

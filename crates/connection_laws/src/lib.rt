@@ -31,8 +31,9 @@ pub fn facts_hold()
 
 /// Each move of a step keeps all of it; the next letter that a tunnel hears is the next one of its sender's list, and any that
 /// it hears is in that list, where it neither opens, accepts nor stops a tunnel; so is the StopCCN by which a tunnel is closed,
-/// whose sender has learned it, or was lost before it did; one that a tunnel gives goes to the tunnel that it knows; no opening
-/// that is heard has another version, and no message has a fault; and each line of a run that fits goes on from where it holds:
+/// whose sender has learned it, or was lost before it did, or it is of no tunnel and declines this one's SCCRQ; one that a
+/// tunnel gives goes to the tunnel that it knows; what is declined is the SCCRQ of a tunnel of the sender's; no opening that is
+/// heard has another version, wants a recovery or has a challenge, and no message has a fault; and each line of a run that fits goes on from where it holds:
 /// it does nothing, adds a node, or makes a step whose moves are made where all of it holds.
 pub fn steps_keep()
     ensures moves { MovesKeep }
@@ -52,7 +53,8 @@ pub fn steps_keep()
 }
 
 /// Over every list of fewer than 2^47 lines of the grammar: each control message is a copy of the letter at its number in
-/// its sender's list, or of none, and goes to its sender's peer; and what a tunnel took, as long as it wasn't closed, are the
+/// its sender's list, or of none, and goes to its sender's peer, or it is a StopCCN of no tunnel, which declines an opening; and
+/// what a tunnel took, as long as it wasn't closed, are the
 /// first letters of the list of its partner, the one tunnel that it has learned, in order and each once. What it did with each
 /// is what the letter says: it learned the id and the window that an opening tells, it made a call for the request that names
 /// the other end's, and a call came up or ended that the letter's header names; or a call ended by a CDN whose header names
@@ -64,7 +66,7 @@ pub fn letters_are_carried()
 }
 
 /// Each letter that a live tunnel counts as acknowledged was taken by a tunnel of its peer, or ignored by one that had been
-/// closed by then.
+/// closed by then, or is an SCCRQ that was declined.
 pub fn acks_are_true()
     ensures { AcksOfRuns }
 {

@@ -112,9 +112,9 @@ impl End {
     }
 }
 
-/// The pairs of a StopCCN of no tunnel.
-fn stop_pairs(alloc: Global, reason: &Reason) -> Result<Bytes, NoMemory>
-    ensures value { IfOk result (λ pairs. pairs ≡ spelling (pairs_of (message.StopCcn 0 reason.now.result reason.now.error))) }
+/// The pairs of a StopCCN of no tunnel, with a result code and an error code.
+fn stop_pairs(alloc: Global, code: u16, error: Option<u16>) -> Result<Bytes, NoMemory>
+    ensures value { IfOk result (λ pairs. pairs ≡ spelling (pairs_of (message.StopCcn 0 code error))) }
     ensures room { IfOk result (λ pairs. length pairs ≤ 65523) }
 {
     has_room();
@@ -123,18 +123,23 @@ fn stop_pairs(alloc: Global, reason: &Reason) -> Result<Bytes, NoMemory>
         &mut pairs,
         &Message::StopCcn {
             tunnel: 0,
-            result: reason.code,
-            error: reason.error,
+            result: code,
+            error,
         },
     )?;
     Ok(pairs)
 }
 
 /// A StopCCN of no tunnel, to a tunnel id of the peer's.
-fn decline_bytes(alloc: Global, remote: u16, nr: u16, reason: &Reason) -> Result<Bytes, NoMemory>
+fn decline_bytes(
+    alloc: Global,
+    remote: u16,
+    nr: u16,
+    reason: &Reason,
+) -> Result<Bytes, NoMemory>
     ensures { IfOk result (λ bytes. bytes ≡ decline_bytes remote nr reason.now) }
 {
-    let pairs = stop_pairs(alloc, reason)?;
+    let pairs = stop_pairs(alloc, reason.code, reason.error)?;
     let mut bytes = Bytes::new(alloc);
     write_control(&mut bytes, remote, 0, 0, nr, pairs.as_slice())?;
     Ok(bytes)

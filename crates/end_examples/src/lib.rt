@@ -11,4 +11,6 @@ mod calls;
 #[cfg(test)]
 mod limits;
 #[cfg(test)]
+mod tables;
+#[cfg(test)]
 mod tunnels;

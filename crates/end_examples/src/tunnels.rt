@@ -5,7 +5,7 @@ use std::test::Fail;
 
 /// What comes to an LNS 7 from the LAC 9, or to a LAC 9 from the LNS 7, each new where it says so, and what it gives: the rows of a
 /// tunnel's table, and what a faulty message is to it.
-const TUNNELS: [(&str, &str); 188] = [
+const TUNNELS: [(&str, &str); 193] = [
     // An SCCCN that has to be understood and can't be.
     ("new lns", ""),
     (
@@ -793,6 +793,27 @@ const TUNNELS: [(&str, &str); 188] = [
          800800000009432180080000000a001080080000000b7071",
         "cause secret\n\
          send 7 c80200244321000000010001800800000000000480080000000900018008000000010004\n",
+    ),
+    // A request with a pair that has to be understood is refused, and the tunnel stays open.
+    ("new lns", ""),
+    (
+        "c802004c000000000000000080080000000000018008000000020100800a0000000300000003800a000000076c616331\
+         800800000009000180080000000a0008000c0000004c000300007530",
+        "send 9 c802004c000100000000000180080000000000028008000000020100800a0000000300000003800a000000076\
+         c6e7337800800000009000180080000000a0008000c0000004c000300007530\n",
+    ),
+    (
+        "c802001400010000000100018008000000000003",
+        "send 9 c802000c0001000000010002\n",
+    ),
+    (
+        "c802002c0001000000020001800800000000000a80080000000e0001800a0000000f00000001800600000063",
+        "cause mandatory\n\
+         send 9 c80200260001000100010003800800000000000e800a000000010002000880080000000e0000\n",
+    ),
+    (
+        "c802001400010000000300028008000000000006",
+        "send 9 c802000c0001000000020004\n",
     ),
 ];
 

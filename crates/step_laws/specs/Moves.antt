@@ -424,7 +424,7 @@ pub data WhyDeclined (e : End) (body : List ℕ) (m : Declined) : Type 0 where
       → m.result ≡ 2 → m.error ≡ Some (fault_error g.cause) → WhyDeclined e body m
   AnAnswer : at_zero body ≡ Answers m.remote → m.result ≡ 7 → m.error ≡ None → WhyDeclined e body m
 
--- it came to no tunnel, and no tunnel of this end is the other end of the peer's; nothing changes
+-- it named no tunnel, and tells the id to which it is answered; nothing changes
 pub record Declines (e : End) (ev : Event) (m : Declined) (x : End) : Type 0 where
   pub bytes : List ℕ
   pub is : ev ≡ Datagram m.peer bytes
