@@ -14,3 +14,5 @@ mod limits;
 mod tables;
 #[cfg(test)]
 mod tunnels;
+#[cfg(test)]
+mod zero;

@@ -11,7 +11,7 @@ use Rattle.call_fsm.specs.declared.table.CallState.TheVariants as call
 use Rattle.call_fsm.specs.declared.table.CallEvent.{CallEvent}
 use Rattle.call_fsm.specs.declared.table.CallEvent.TheVariants.{Ring, IcrqAcc}
 use Rattle.call_fsm.specs.declared.table.CallAction.{CallAction}
-use Rattle.call_fsm.specs.declared.table.CallAction.TheVariants.{SendIcrq, SendIcrp, SendIccn, SendCdn}
+use Rattle.call_fsm.specs.declared.table.CallAction.TheVariants.{SendIcrq, SendIcrp, SendIccn, SendCdn, CleanUp}
 use Rattle.call_fsm.specs.Rows.{lac_rows, lns_rows, row_of, state_number}
 use Rattle.protocol_model.specs.declared.tunnel.Role.{Role}
 use Rattle.protocol_model.specs.declared.tunnel.Role.TheVariants.{Lac, Lns}
@@ -65,6 +65,11 @@ is_connection a = false
 abbrev pub is_told : CallAction → Bool
 is_told SendCdn = true
 is_told a = false
+
+-- the peer knows of its end, or nothing of the call
+abbrev pub is_clean_up : CallAction → Bool
+is_clean_up CleanUp = true
+is_clean_up a = false
 
 abbrev pub is_up : CallState → Bool
 is_up s = state_number s == 4

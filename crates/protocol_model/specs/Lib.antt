@@ -3,6 +3,8 @@ pub mod Reading
 pub mod Calls
 pub mod Owing
 pub mod Reasons
+pub mod Messages
+pub mod Moments
 pub mod Turn
 pub mod End
 pub mod Texts

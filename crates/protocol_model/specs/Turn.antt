@@ -1,5 +1,5 @@
 -- A tunnel's step, as a chain of functions from turn to turn.
-use Rattle.std.specs.Prelude.{ℕ, zero, suc, ◌+◌, ◌-◌, List, [], ◌∷◌, ◌++◌, drop, find, slice_get, Bool, true, false, ◌==◌, ◌&&◌, ◌||◌, not, nat_le, nat_lt, length, if◌then◌else◌, Option, Some, None, is_some, is_none, unwrap_or, Result, Ok, Err}
+use Rattle.std.specs.Prelude.{ℕ, zero, suc, ◌+◌, List, [], ◌∷◌, ◌++◌, drop, find, slice_get, Bool, true, false, ◌==◌, ◌&&◌, ◌||◌, not, nat_le, nat_lt, length, if◌then◌else◌, Option, Some, None, is_some, unwrap_or, Result, Ok, Err}
 use Rattle.id_table.specs.Ids.{at, put, without, ids_of}
 use Rattle.id_source.specs.Spaces.{Space, draws, after_draw}
 use Rattle.id_source.specs.declared.IdError.{IdError}
@@ -17,7 +17,6 @@ use Rattle.control_message.specs.declared.message.Message.{Message}
 use Rattle.control_message.specs.declared.message.Message.TheVariants.{Sccrq, Sccrp, Scccn, StopCcn, Hello, Ocrq, Ocrp, Occn, Icrq, Icrp, Iccn, Cdn, Wen, Sli}
 use Rattle.control_message.specs.declared.kind.Kind.{Kind}
 use Rattle.control_message.specs.declared.kind.Kind.TheVariants as kind
-use Rattle.control_message.specs.declared.message.Opening.{Opening}
 use Rattle.control_message.specs.Pairs.{pairs_of}
 use Rattle.send_window.specs.declared.window.Tick.{Tick}
 use Rattle.send_window.specs.declared.window.Tick.TheVariants as tick
@@ -53,7 +52,9 @@ use Rattle.protocol_model.specs.declared.out.Origin.TheVariants as origin
 use Rattle.protocol_model.specs.declared.moves.Place.{Place}
 use Rattle.protocol_model.specs.declared.moves.Move.{Move}
 use Rattle.protocol_model.specs.declared.moves.Move.TheVariants as move
-use Rattle.protocol_model.specs.Names.{host_name, calling_number}
+pub use Rattle.protocol_model.specs.Calls.{is_clean_up}
+pub use Rattle.protocol_model.specs.Messages.{opening_of, request_of, connection, against, is_acceptable, event_by, opening_reason}
+pub use Rattle.protocol_model.specs.Moments.{is_over, patience, is_closed, kept_closed, is_being_set_up, is_at_its_end}
 pub use Rattle.protocol_model.specs.Reasons.{Reason, reason, out_of_state, out_of_order, other_version, no_recovery, no_secret, fault_error, fault_reason}
 use Rattle.protocol_model.specs.Reading.{header_why, body_of, message_in, CallFault, call_fault_in, TunnelFault, tunnel_fault_in}
 use Rattle.protocol_model.specs.Calls.{call_row, advanced, rung, asked_for, is_request, is_reply, is_connection, is_up, is_set_up, owed_by, are_too_many}
@@ -285,30 +286,6 @@ acknowledged_after again before t = if again || (t.took && (outstanding t == bef
 unfoldable pub settles : Bool → List Letter → Turn → Turn
 settles again letters t = acknowledged_after again (outstanding t) (lets_all_go t.control.channel.window.queued letters t)
 
--- ---- what messages say
-
--- what an end says of itself when it opens or accepts a tunnel: version 1.0, both kinds of framing, its name, the
--- tunnel id that it assigns, a window of 8, and failover of both kinds within 30 seconds
-abbrev pub opening_of : Role → Config → ℕ → Opening
-opening_of role c local = record {
-  version = 256;
-  framing = 3;
-  name = host_name role c.number;
-  tunnel = local;
-  window = 8;
-  failover = Some (record { flags = 3; time = 30000 });
-  challenge = None;
-  recovery = None;
-}
-
--- the request for a call of a LAC: its session id is its serial number too
-abbrev pub request_of : ℕ → ℕ → Message
-request_of s port = Icrq s s (Some (calling_number port))
-
--- the connection of a call: 100 Mbit a second, synchronous framing
-abbrev pub connection : Message
-connection = Iccn 100000000 1 false
-
 -- ---- new tunnels
 
 -- a tunnel to a peer that is neither opened nor accepted yet; as long as it isn't known, the peer's window counts as 4
@@ -498,25 +475,6 @@ takes_by role calls r remote window (next, a) t = takes_plain t
 unfoldable pub takes : Role → List (ℕ × Call) → Reason → TunnelEvent → ℕ → ℕ → Turn → Turn
 takes role calls r e remote window t = takes_by role calls r remote window (row_of rows t.control.state e) t
 
--- what stands against an SCCRQ or an SCCRP, but for the tunnel's state, the first that counts: its version isn't 1.0, it wants to
--- recover a tunnel, or it has a challenge
-abbrev pub against : Opening → Option Reason
-against o =
-    if not (o.version == 256) then Some other_version
-    else if is_some o.recovery then Some no_recovery
-    else if is_some o.challenge then Some no_secret
-    else None
-
--- it is acceptable where nothing does
-abbrev pub is_acceptable : Opening → Bool
-is_acceptable o = is_none (against o)
-
-abbrev pub event_by : TunnelEvent → TunnelEvent → Opening → TunnelEvent
-event_by acceptable not_acceptable o = if is_acceptable o then acceptable else not_acceptable
-
-abbrev pub opening_reason : Opening → Reason
-opening_reason o = unwrap_or (against o) out_of_order
-
 -- ---- calls that end
 
 -- a call ends: the peer, where it was asked for it, is told by a CDN with a result code (RFC 2661 section 4.4.2)
@@ -643,10 +601,6 @@ end_heard s t =
     with_move (move.EndHeard (record { tunnel = t.control.local; session = s; taken = taken_place t.control }))
     (ends_call s (takes_one t))
 
-abbrev pub is_clean_up : CallAction → Bool
-is_clean_up call_action.CleanUp = true
-is_clean_up a = false
-
 unfoldable pub end_heard_by : Role → ℕ → Option Call → Turn → Turn
 end_heard_by role s None t = of_no_call out_of_state 0 (call_row role call.Idle call_event.CdnCame).1 t
 end_heard_by role s (Some c) t =
@@ -724,9 +678,6 @@ unfoldable pub hears_said : Role → List (ℕ × Call) → ℕ → Option CallF
 hears_said role calls session f g (Err w) t = hears_faulty role calls session f g w t
 hears_said role calls session f g (Ok m) t = hears role calls session m t
 
-abbrev pub is_closed : TunnelState → Bool
-is_closed s = state_number s == 4
-
 -- a closed tunnel takes what comes, and does nothing
 unfoldable pub hears_next : Role → List (ℕ × Call) → ℕ → List ℕ → Turn → Turn
 hears_next role calls session body t =
@@ -774,14 +725,6 @@ carries s frame (Some c) t = if is_up c.state then carried s frame c t else drop
 
 -- ---- time
 
--- so many milliseconds have passed; where the moment is below the kept one, no time has
-abbrev pub is_over : ℕ → ℕ → ℕ → Bool
-is_over limit moment kept = nat_le limit (moment - kept)
-
--- how long a tunnel and a call may take to be set up, and how long a tunnel may be quiet: 60 seconds
-abbrev pub patience : ℕ
-patience = 60000
-
 -- the tunnel is removed with its calls, without a message
 unfoldable pub clears : List (ℕ × Call) → Turn → Turn
 clears calls t = record (ends_all (ids_of calls) (with_move (move.Cleared t.control.local) t)) { cleared = true }
@@ -816,18 +759,6 @@ unfoldable pub ticks_by : Role → List Letter → List (ℕ × Call) → Tick �
 ticks_by role letters calls tick.Quiet t = goes_quietly role letters calls t
 ticks_by role letters calls (tick.Again number) t = goes_quietly role letters calls (repeats letters number t)
 ticks_by role letters calls (tick.Failed first) t = clears calls t
-
--- it is in wait-ctl-reply or wait-ctl-conn
-abbrev pub is_being_set_up : TunnelState → Bool
-is_being_set_up s = state_number s == 1 || state_number s == 2
-
--- a closed tunnel is kept for 31 seconds, as long as its peer may repeat what it sent
-abbrev pub kept_closed : ℕ
-kept_closed = 31000
-
-abbrev pub is_at_its_end : ℕ → Control → Bool
-is_at_its_end moment c =
-    (is_closed c.state && is_over kept_closed moment c.closed) || (is_being_set_up c.state && is_over patience moment c.made)
 
 -- each part prints and sends its own before the next
 unfoldable pub ticks : Role → List Letter → List (ℕ × Call) → Turn → Turn
