@@ -52,12 +52,11 @@ use Rattle.protocol_model.specs.declared.out.Origin.TheVariants as origin
 use Rattle.protocol_model.specs.declared.moves.Place.{Place}
 use Rattle.protocol_model.specs.declared.moves.Move.{Move}
 use Rattle.protocol_model.specs.declared.moves.Move.TheVariants as move
-pub use Rattle.protocol_model.specs.Calls.{is_clean_up}
 pub use Rattle.protocol_model.specs.Messages.{opening_of, request_of, connection, against, is_acceptable, event_by, opening_reason}
 pub use Rattle.protocol_model.specs.Moments.{is_over, patience, is_closed, kept_closed, is_being_set_up, is_at_its_end}
 pub use Rattle.protocol_model.specs.Reasons.{Reason, reason, out_of_state, out_of_order, other_version, no_recovery, no_secret, fault_error, fault_reason}
 use Rattle.protocol_model.specs.Reading.{header_why, body_of, message_in, CallFault, call_fault_in, TunnelFault, tunnel_fault_in}
-use Rattle.protocol_model.specs.Calls.{call_row, advanced, rung, asked_for, is_request, is_reply, is_connection, is_up, is_set_up, owed_by, are_too_many}
+pub use Rattle.protocol_model.specs.Calls.{call_row, advanced, rung, asked_for, is_request, is_reply, is_connection, is_up, is_set_up, owed_by, are_too_many, is_clean_up}
 
 pub record Tunnel : Type 0 where
   pub control : Control
