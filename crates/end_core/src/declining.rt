@@ -131,12 +131,7 @@ fn stop_pairs(alloc: Global, code: u16, error: Option<u16>) -> Result<Bytes, NoM
 }
 
 /// A StopCCN of no tunnel, to a tunnel id of the peer's.
-fn decline_bytes(
-    alloc: Global,
-    remote: u16,
-    nr: u16,
-    reason: &Reason,
-) -> Result<Bytes, NoMemory>
+fn decline_bytes(alloc: Global, remote: u16, nr: u16, reason: &Reason) -> Result<Bytes, NoMemory>
     ensures { IfOk result (λ bytes. bytes ≡ decline_bytes remote nr reason.now) }
 {
     let pairs = stop_pairs(alloc, reason.code, reason.error)?;

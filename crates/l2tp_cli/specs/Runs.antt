@@ -40,16 +40,18 @@ BirthsOfTexts = (text : List ℕ) (lines : List Line) → limit_passed text ≡ 
 
 -- what control connections carry in a run
 pub record ChannelsOf (lines : List Line) : Type 0 where
-  -- each control message is a copy of the letter at its number, and each tunnel took the first letters of its partner's list
+  -- each control message is a copy of the letter at its number, or declines an opening, and each tunnel took the first letters of its
+  -- partner's list as long as it wasn't closed
   pub letters : LettersAreCarried (run lines)
-  -- each letter that counts as acknowledged was taken
+  -- each letter that counts as acknowledged was taken, ignored by a closed tunnel, or declined
   pub acks : AcksAreTrue (run lines)
   -- the numbers of each control message that may be delivered are read as the numbers without an end
   pub numbers : NumbersAreRead (run lines)
   -- a node asks for each of its calls once, and for each request one call is made
   pub asked : AreAskedOnce (run lines).done
   pub made : AreMadeOnce (run lines).done
-  -- there is room for each letter that a tunnel has to give: those that it holds and those that its calls owe are fewer than 8,192
+  -- there is room for each letter that a tunnel has to give: as long as it isn't closed, those that it holds and those that its calls owe
+  -- are fewer than 8,192
   pub room : AllHaveRoom (run lines).world
   -- no call is left in an open tunnel that isn't asked for, nor after a tick one that took too long to be set up
   pub none_left : NoneIsLeft lines

@@ -11,5 +11,7 @@ pub use openings::{
     against, event_by, is_of_version, no_recovery, no_secret, opening_reason, other_version,
 };
 pub use reading::{CallFault, Said, TunnelFault, header_why, read_body};
-pub use reasons::{Reason, fault_reason, no_id, no_outgoing, no_tunnel, out_of_order, out_of_state};
+pub use reasons::{
+    Reason, fault_reason, no_id, no_outgoing, no_tunnel, out_of_order, out_of_state,
+};
 pub use zero::at_zero;
