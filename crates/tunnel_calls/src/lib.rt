@@ -1,17 +1,21 @@
 //! The calls of a tunnel, by session id, with how many letters they owe.
 #![tactic(auto)]
 
-ghost use Rattle.std.specs.Prelude.{◌≡◌, ◌<◌, ◌^◌, [], find, OnOk, IfOk, option_copied};
+ghost use Rattle.std.specs.Prelude.{◌≡◌, ◌<◌, ◌^◌, [], find, OnOk, IfOk, option_copied, option_map};
 ghost use Rattle.id_table.specs.Ids.{at, put, without, ids_of};
 ghost use Rattle.id_table.specs.Tables.{HasRoom, KeepsRoom};
 ghost use Rattle.protocol_model.specs.Calls.{owes, owed_by, are_too_many};
 ghost use Rattle.protocol_model.specs.Owing.{owed_at};
 ghost use Rattle.protocol_model.specs.Turn.{is_call_of, call_of, session_named};
 
+mod remotes;
+
 use call_fsm::CallState;
 use id_table::Table;
 use protocol_model::Call;
+use remotes::{first_listed, make_key, relist};
 use std::alloc::Global;
+use std::collections::BTreeMap;
 use std::marker::Model;
 use wire_base::{NoMemory, Sequence};
 
@@ -39,26 +43,41 @@ fn owed_at(call: Option<&Call>) -> u8
     }
 }
 
+/// The id that the peer assigned to a call.
+fn remote_of(call: Option<&Call>) -> Option<u16>
+    ensures { result ≡ option_map (λ c. c.remote) (option_copied call.entry) }
+{
+    match call {
+        Some(call) => Some(call.remote),
+        None => None,
+    }
+}
+
 /// The calls of a tunnel by session id, seen as their table. How many letters they owe is kept beside it, so that what it takes
-/// to know it doesn't grow with the calls.
+/// to know it doesn't grow with the calls, and so is an index of the calls by the ids that the peer assigned.
 #[derive(Drop)]
 pub struct TunnelCalls {
     table: Table<Call>,
     owed: u128,
+    /// Each id that the peer assigned with its session, as a key; a key with `false` is room that was made for one.
+    remotes: BTreeMap<u64, bool>,
+    /// Whether the index lists every call: each was put with room for its key.
+    listed: bool,
 }
 
 impl Model for TunnelCalls {
-    ghost use Rattle.std.specs.Prelude.{◌≡◌};
+    ghost use Rattle.std.specs.Prelude.{◌≡◌, true};
     ghost use Rattle.id_table.specs.Tables.{Kept};
     ghost use Rattle.id_table.specs.Order.{Ascends};
     ghost use Rattle.protocol_model.specs.declared.tunnel.Call.{Call};
     ghost use Rattle.protocol_model.specs.Calls.{owed_by};
+    ghost use Rattle.tunnel_calls.specs.Remotes.{IsIndex, IsWithin};
 
     ghost Value = { Kept Call };
 
     ghost view = { λ c. c.table };
 
-    ghost invariant = { λ c. Ascends c.table.entries × (c.owed ≡ owed_by c.table.entries) };
+    ghost invariant = { λ c. Ascends c.table.entries × (c.owed ≡ owed_by c.table.entries) × IsWithin c.table.entries × (c.listed ≡ true → IsIndex c.remotes.entries c.table.entries) };
 }
 
 impl TunnelCalls {
@@ -69,6 +88,8 @@ impl TunnelCalls {
         TunnelCalls {
             table: Table::new(alloc),
             owed: 0,
+            remotes: BTreeMap::new(alloc),
+            listed: true,
         }
     }
 
@@ -92,11 +113,18 @@ impl TunnelCalls {
         self.table.ids(alloc)
     }
 
-    /// The session of the first call to which the peer assigned this id.
+    /// The session of the first call to which the peer assigned this id. The index tells it in time in proportion to the
+    /// logarithm of the number of calls. They are looked through only where room for this very id was made that no call took,
+    /// as when memory was wanting for a step, or where a call was put without room for its id.
     #[tactic(auto, unfolding(protocol_model::specs::Turn::call_of))]
     pub fn call_of(&self, alloc: Global, remote: u16) -> Result<Option<u32>, NoMemory>
         ensures { IfOk result (λ session. session ≡ call_of self.now.entries remote) }
     {
+        if self.listed {
+            if let Some(session) = first_listed(&self.remotes, remote) {
+                return Ok(session);
+            }
+        }
         let sessions = self.ids(alloc)?;
         Ok(first_of(self, remote, sessions.as_slice()))
     }
@@ -132,16 +160,19 @@ impl TunnelCalls {
         self.owed
     }
 
-    /// Makes room for a call. Where memory is wanting, the calls are as before.
-    pub fn make_room(&mut self, session: u32) -> Result<(), NoMemory>
+    /// Makes room for a call at a session id, and for the id that the peer assigned to it. Where memory is wanting, the calls are
+    /// as before.
+    pub fn make_room(&mut self, session: u32, call: Option<&Call>) -> Result<(), NoMemory>
         ensures entries { self.new.entries ≡ self.old.entries }
         ensures room { KeepsRoom self.old self.new }
         ensures made { OnOk result (HasRoom self.new session) }
     {
+        make_key(&mut self.remotes, session, remote_of(call))?;
         self.table.make_room(session)
     }
 
-    /// Puts a call at a session id that has room, in place of the one there. It takes no memory.
+    /// Puts a call at a session id that has room, in place of the one there. It takes no memory where room was made for this
+    /// call, and else at most that of a key.
     pub fn fill(&mut self, session: u32, call: Call)
         requires { HasRoom self.old session }
         ensures entries { self.new.entries ≡ put self.old.entries session call }
@@ -150,6 +181,9 @@ impl TunnelCalls {
         let _count = self.table.len();
         let before = owed_at(self.table.get(session));
         self.owed += u128::from(owes(call.state));
+        let known = remote_of(self.table.get(session));
+        let listed = relist(&mut self.remotes, session, known, Some(call.remote));
+        self.listed &= listed;
         self.table.fill(session, call);
         self.owed -= u128::from(before);
     }
@@ -162,6 +196,9 @@ impl TunnelCalls {
     {
         let before = owed_at(self.table.get(session));
         self.owed -= u128::from(before);
+        let known = remote_of(self.table.get(session));
+        let listed = relist(&mut self.remotes, session, known, None);
+        self.listed &= listed;
         self.table.vacate(session);
     }
 

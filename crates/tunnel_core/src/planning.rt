@@ -88,8 +88,8 @@ fn make_room(calls: &mut TunnelCalls, changed: &[(u32, Option<Call>)]) -> Result
     ensures same { calls.new.entries ≡ calls.old.entries }
     ensures room { OnOk result (AllHaveRoom calls.new changed.now) }
 {
-    for (session, _) in changed {
-        calls.make_room(*session)?;
+    for (session, call) in changed {
+        calls.make_room(*session, call.as_ref())?;
     }
     Ok(())
 }

@@ -1,6 +1,9 @@
-use Rattle.std.proofs.Common.{ap, ◌∙◌, arith}
+use Rattle.std.proofs.Common.{◌≡◌, true, Some, option_map, subst, ap, ◌∙◌, arith}
 use Rattle.id_table.specs.Order.{ascends-put}
+use Rattle.protocol_model.specs.declared.tunnel.Call.{Call}
 use Rattle.protocol_model.specs.Owing.{owed_at, owed-most, owed-put}
+use Rattle.tunnel_calls.specs.Remotes.{IsRelisted}
+use Rattle.tunnel_calls.proofs.Listing.{both_true, index_put, within_put}
 use Rattle.tunnel_calls.proofs.TunnelCalls.fill.Goals as goal
 
 pub overflow_add-self : goal.overflow_add-self
@@ -25,4 +28,14 @@ invariant_of-self c =
     let owed = c.self.invariant.1 in
     let before = c.owed_at-before.ensures ∙ ap owed_at c.get.ensures in
     let own = c.owes.ensures in
-    rw c.fill.ensures.entries (ascends-put c.args.session c.args.call c.self.inside.table.entries c.self.invariant.0, omega arith)
+    let known = c.remote_of-known.ensures ∙ ap (option_map (λ (x : Call). x.remote)) c.get-2.ensures in
+    let relisted = λ (done : c.relist-listed.result ≡ true).
+    subst (λ o. IsRelisted c.self.inside.remotes.entries c.relist-listed.new.pairs.entries c.args.session o (Some c.args.call.remote)) known
+    (c.relist-listed.ensures done) in
+    rw c.fill.ensures.entries (
+      ascends-put c.args.session c.args.call c.self.inside.table.entries c.self.invariant.0,
+      omega arith,
+      within_put c.self.inside.table.entries c.args.session c.args.call c.ranges.session.fits c.self.invariant.2,
+      λ whole. index_put c.self.inside.remotes.entries c.relist-listed.new.pairs.entries c.self.inside.table.entries c.args.session c.args.call
+          c.ranges.session.fits (c.self.invariant.3 (both_true _ _ whole).0) (relisted (both_true _ _ whole).1),
+    )

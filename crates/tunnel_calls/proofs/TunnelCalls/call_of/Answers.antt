@@ -1,0 +1,10 @@
+use Rattle.std.proofs.Common.{sym, ap, ◌∙◌}
+use Rattle.protocol_model.specs.Turn.{call_of}
+use Rattle.tunnel_calls.proofs.Listing.{first_listed}
+use Rattle.tunnel_calls.proofs.TunnelCalls.call_of.Goals as goal
+
+pub returns-in-Some : goal.returns-in-Some
+returns-in-Some c =
+    sym (first_listed c.self.inside.remotes.entries c.self.inside.table.entries c.args.remote c.in-Some.session
+    c.self.invariant.0 c.self.invariant.2 (c.self.invariant.3 c.if-self.true) c.in-Some.ensures)
+    ∙ ap (λ k. call_of k.entries c.args.remote) c.self.view_is
