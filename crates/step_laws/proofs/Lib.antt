@@ -29,3 +29,5 @@ mod Asking
 mod Waiting
 pub mod Looks
 pub mod Ups
+mod Bodies
+mod Still
