@@ -1,13 +1,11 @@
 -- What the body of a request for a call says that has a fault.
-use Rattle.std.proofs.Common.{◌≡◌, ⊎_elim, ℕ, cond, List, refl, sym, subst, Option, Some, None, Result, Ok, Err}
-use Rattle.wire_base.specs.declared.why.Why.{Why}
+use Rattle.std.proofs.Common.{◌≡◌, ⊎_elim, ℕ, cond, List, refl, subst, Option, Some, None, Result, Ok, Err}
 use Rattle.wire_base.specs.declared.why.Why.TheVariants as why
 use Rattle.wire_base.specs.declared.cause.Cause.TheVariants as cause
 use Rattle.avp_codec.specs.declared.avp.Avp.{Avp}
 use Rattle.avp_codec.specs.declared.error.AvpError.{AvpError}
 use Rattle.avp_codec.specs.Reading.{avps_of}
 use Rattle.control_message.specs.declared.kind.Kind.TheVariants as kind
-use Rattle.control_message.specs.declared.message.Message.{Message}
 use Rattle.control_message.specs.declared.message.Read.{Read}
 use Rattle.control_message.specs.declared.message.MessageError.{MessageError}
 use Rattle.control_message.specs.declared.message.MessageError.TheVariants.{NoType, UnknownType, UnknownMandatory, HiddenWithoutVector, BadValue, Missing, NoMemory}
@@ -103,10 +101,13 @@ module _ (avps : List Avp) (g : TunnelFault) where
       → (message_read r ≡ Err why.Avp) × ((fault_read avps r ≡ None) × IsOfRequest g)
   unfolding message_read
   asked_read (Ok r) is asks h = absurd cc
-  asked_read (Err x) is asks h = (refl, ⊎_elim
-      (λ (a : kind_of_pairs avps ≡ Some kind.Icrq). icrq_read x (inner_icrq avps x a is) a h)
-      (λ (a : kind_of_pairs avps ≡ Some kind.Ocrq). ocrq_read x (inner_ocrq avps x a is) a h)
-      asks)
+  asked_read (Err x) is asks h = (
+    refl,
+    ⊎_elim
+        (λ (a : kind_of_pairs avps ≡ Some kind.Icrq). icrq_read x (inner_icrq avps x a is) a h)
+        (λ (a : kind_of_pairs avps ≡ Some kind.Ocrq). ocrq_read x (inner_ocrq avps x a is) a h)
+        asks,
+  )
 
 pub too_faulty : (body : List ℕ) (avps : List Avp) (g : TunnelFault) → avps_of body ≡ Ok avps → AsksForCall (kind_of_pairs avps)
     → tunnel_fault_in body ≡ Some g → IsUnanswerable body g

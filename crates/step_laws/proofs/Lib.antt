@@ -31,3 +31,6 @@ pub mod Looks
 pub mod Ups
 mod Bodies
 mod Still
+mod Answering
+mod Ringing
+pub mod Requests
