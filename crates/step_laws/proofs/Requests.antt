@@ -1,11 +1,13 @@
 -- Each step answers the request that it takes, and the ring that comes.
-use Rattle.std.proofs.Common.{◌≡◌, inl, inr, ℕ, Bool, true, false, List, [], ◌∷◌, length, refl, sym, ap, ◌∙◌, subst, Option, Some, None, Result, Ok, Err, arith}
+use Rattle.std.proofs.Common.{◌≡◌, inl, inr, ℕ, Bool, true, false, List, [], ◌∷◌, length, refl, sym, ap, ◌∙◌, subst, Option, Some, None, Result, Ok, Err, arith, ◌⊎◌, cond}
 use Rattle.std.proofs.lemmas.Bool.{true≢false, eqb-true, eqb-false}
 use Rattle.std.specs.Prelude.{◌==◌, not, ◌||◌, is_some, unwrap_or, option_map}
+use Rattle.wire_base.specs.declared.cause.Cause.TheVariants as cause
 use Rattle.id_table.specs.Ids.{at, ids_of}
 use Rattle.id_source.specs.Spaces.{draws}
 use Rattle.id_source.specs.declared.IdError.{IdError}
 use Rattle.l2tp_header.specs.declared.header.Header.{Header}
+use Rattle.control_message.specs.declared.message.Message.TheVariants.{Icrq}
 use Rattle.recv_window.specs.declared.Class.{Class}
 use Rattle.recv_window.specs.declared.Class.TheVariants.{Next}
 use Rattle.control_channel.specs.Numbers.{class_told}
@@ -19,17 +21,17 @@ use Rattle.protocol_model.specs.declared.event.Event.{Event}
 use Rattle.protocol_model.specs.declared.event.Event.TheVariants.{Datagram, Ring, Tick}
 use Rattle.protocol_model.specs.declared.event.Addressee.TheVariants.{Main}
 use Rattle.protocol_model.specs.declared.moves.Move.{Move}
-use Rattle.protocol_model.specs.Reading.{body_of, at_tunnel}
+use Rattle.protocol_model.specs.Reading.{body_of, message_in, at_tunnel}
 use Rattle.protocol_model.specs.Calls.{call_row, is_reply, is_lac, are_too_many}
-use Rattle.protocol_model.specs.Turn.{Env, Turn, Tunnel, call_of, left_of, granted, turn_of, with_move, reads_nr, hears_letter, in_tunnel, hears_control, hears_datagram, turns, may_take, counts_acked}
+use Rattle.protocol_model.specs.Turn.{Env, Turn, Tunnel, call_of, left_of, granted, turn_of, with_move, reads_nr, hears_letter, in_tunnel, hears_control, hears_datagram, turns, may_take, counts_acked, Reason, reason, out_of_state}
 use Rattle.protocol_model.specs.End.{End, Stepped, env_of, after_turn, in_main, addressed, for_addressee, is_in, least_in, rings_in, rings_at, receives, only_by, step_in, step}
 use Rattle.step_laws.specs.Causes.{MayBeGranted}
 use Rattle.step_laws.specs.Left.{AreSound, AreAsked}
 use Rattle.step_laws.specs.Steps.{AreKept}
-use Rattle.step_laws.specs.Answers.{Incoming, TakesRequest, IsReply, AnswersIcrq, IsAnswer, IsAnswered, IsRepliedTo, GrantedAreRepliedTo, RingIsAnswered, RequestsAreAnswered}
+use Rattle.step_laws.specs.Answers.{Incoming, TakesRequest, IsReply, AnswersIcrq, IsAnswer, IsAnswered, IsRepliedTo, GrantedAreRepliedTo, RingIsAnswered, RequestsAreAnswered, IsRefusal, IsDenied, NoCalls, InUse, TooMany, NoIds, IsRefusedTo, NewAreJudged}
 use Rattle.step_laws.proofs.Lists.{branch, and_left, found_passes}
 use Rattle.step_laws.proofs.Owing.{spare_room}
-use Rattle.step_laws.proofs.Tells.{in_use}
+use Rattle.step_laws.proofs.Tells.{in_use, granted_may}
 use Rattle.step_laws.proofs.Answering.{open_not, OneAnswer, settled_answer, next_once}
 use Rattle.step_laws.proofs.Ringing.{main_ring, one_more_ring}
 
@@ -159,6 +161,35 @@ module _ (e : End) (t : Tunnel) (remote : ℕ) (may : MayBeGranted e t remote) w
       by (Ok x) is = record { session = x; drawn = is; is = passes x is }
       by (Err x) is = absurd (may.ids x is)
 
+-- ---- requests that aren't granted
+
+module _ (e : End) (t : Tunnel) (remote : ℕ) where
+  abbrev Denies : Reason → Type 0
+  Denies r = IsDenied e t remote r.result r.error
+
+  abbrev reply_row : Bool
+  reply_row = is_reply (call_row e.role call.Idle call_event.IcrqAcc).1
+
+  abbrev refusal : Reason → Result ℕ Reason
+  refusal q = Err q
+
+  pub denied_is : (r : Reason) → granted e.role t.calls remote e.session_ids ≡ Err r → Denies r
+  unfolding granted
+  denied_is r h = by reply_row (remote == 0 || is_some (call_of t.calls remote)) (are_too_many t.calls) (draws e.session_ids) refl refl refl refl h
+    where
+      so : (q : Reason) → refusal q ≡ refusal r → Denies q → Denies r
+      so q is denies = let same : q ≡ r = cc in subst Denies same denies
+
+      by : (a b c : Bool) (d : Result ℕ IdError) → reply_row ≡ a → (remote == 0 || is_some (call_of t.calls remote)) ≡ b
+          → are_too_many t.calls ≡ c → draws e.session_ids ≡ d
+          → cond (not a) (Err out_of_state) (cond b (Err (reason cause.Session 2 (Some 5))) (cond c (Err (reason cause.Calls 4 None)) (left_of d))) ≡ Err r
+          → Denies r
+      by false b c d row used many drawn is = so out_of_state is (NoCalls row refl refl)
+      by true true c d row used many drawn is = so (reason cause.Session 2 (Some 5)) is (InUse (in_use e 0 Tick t remote used) refl refl)
+      by true false true d row used many drawn is = so (reason cause.Calls 4 None) is (TooMany many refl refl)
+      by true false false (Err x) row used many drawn is = so (reason cause.Ids 4 None) is (NoIds x drawn refl refl)
+      by true false false (Ok s) row used many drawn is = absurd cc
+
 -- ---- each step
 
 module _ (e : End) (kept : AreKept e) (sound : AreSound e) (asked : AreAsked e) (moment : ℕ) (block : List ℕ) (ev : Event) where
@@ -179,25 +210,62 @@ module _ (e : End) (kept : AreKept e) (sound : AreSound e) (asked : AreAsked e) 
         drawn = h.right.1 ∙ ap (λ s. Ok s) (sym a.session_is);
       }
 
+  -- what an ICRQ that names no call is answered by
+  module _ (r : TakesRequest e moment ev) (remote serial : ℕ) (calling : Option (List ℕ))
+      (said : message_in (body_of r.comes.header r.comes.bytes) ≡ Ok (Icrq remote serial calling))
+      (none : at r.tunnel.calls r.comes.header.session ≡ None) where
+    abbrev judgement : Result ℕ Reason
+    judgement = granted e.role r.tunnel.calls remote e.session_ids
+
+    abbrev AnswersNew : Result ℕ Reason → Move → Type 0
+    AnswersNew q m = AnswersIcrq r.id r.comes.header.session remote None q m
+
+    new_answered : OneAnswer (AnswersNew judgement) stepped.moves
+    new_answered =
+        let q : TakesRequest e moment ev = record {
+          id = r.id;
+          tunnel = r.tunnel;
+          there = r.there;
+          open_is = r.open_is;
+          comes = r.comes;
+          named = r.named;
+          spare = r.spare;
+          request = Incoming remote serial calling said;
+        } in
+        let h = request_answered e kept sound asked moment block ev q in
+        let right : AnswersIcrq r.id r.comes.header.session remote (at r.tunnel.calls r.comes.header.session) judgement h.answer = h.right in
+        record {
+          answer = h.answer;
+          only = h.only;
+          right = subst (λ o. AnswersIcrq r.id r.comes.header.session remote o judgement h.answer) none right;
+        }
+
+    new_replied : MayBeGranted e r.tunnel remote → IsRepliedTo e r.id remote stepped
+    new_replied may =
+        let h = new_answered in
+        let g = granted_is e r.tunnel remote may in
+        let reply : IsReply r.id remote g.session h.answer = subst (λ q. AnswersNew q h.answer) g.is h.right in
+        replied_to r.id remote (record { answer = h.answer; only = h.only; right = (g.session, g.drawn, reply) })
+
+    new_judged : (q : Result ℕ Reason) → judgement ≡ q
+        → (MayBeGranted e r.tunnel remote × IsRepliedTo e r.id remote stepped) ⊎ IsRefusedTo e r.tunnel r.id remote stepped
+    new_judged (Ok s) is = let may = granted_may e 0 Tick r.tunnel remote s is in inl (may, new_replied may)
+    new_judged (Err w) is =
+        let h = new_answered in
+        let a : IsRefusal r.id remote w.result w.error h.answer = subst (λ q. AnswersNew q h.answer) is h.right in
+        inr (record {
+          refused = a.refused;
+          only = h.only ∙ ap (λ (m : Move). m ∷ []) a.is;
+          tunnel = a.tunnel;
+          remote_is = a.remote_is;
+          denied = rw (a.result_is, a.error_is) (denied_is e r.tunnel remote w is);
+        })
+
   granted_answered : GrantedAreRepliedTo e moment ev stepped
-  granted_answered r remote serial calling said none may =
-      let q : TakesRequest e moment ev = record {
-        id = r.id;
-        tunnel = r.tunnel;
-        there = r.there;
-        open_is = r.open_is;
-        comes = r.comes;
-        named = r.named;
-        spare = r.spare;
-        request = Incoming remote serial calling said;
-      } in
-      let h = request_answered e kept sound asked moment block ev q in
-      let g = granted_is e r.tunnel remote may in
-      let right : AnswersIcrq r.id r.comes.header.session remote (at r.tunnel.calls r.comes.header.session)
-      (granted e.role r.tunnel.calls remote e.session_ids) h.answer = h.right in
-      let reply : IsReply r.id remote g.session h.answer = subst (λ x. AnswersIcrq r.id r.comes.header.session remote None x h.answer) g.is
-      (subst (λ o. AnswersIcrq r.id r.comes.header.session remote o (granted e.role r.tunnel.calls remote e.session_ids) h.answer) none right) in
-      replied_to r.id remote (record { answer = h.answer; only = h.only; right = (g.session, g.drawn, reply) })
+  granted_answered r remote serial calling said none may = new_replied r remote serial calling said none may
+
+  judged : NewAreJudged e moment ev stepped
+  judged r remote serial calling said none = new_judged r remote serial calling said none (granted e.role r.tunnel.calls remote e.session_ids) refl
 
 module _ (e : End) (kept : AreKept e) (moment : ℕ) (block : List ℕ) (port : ℕ) (lac : e.role ≡ Lac) where
   -- a tunnel that is found is there
@@ -238,5 +306,6 @@ pub requests_are_answered : RequestsAreAnswered
 requests_are_answered e kept sound asked moment block ev = record {
   requests = request_answered e kept sound asked moment block ev;
   granted = granted_answered e kept sound asked moment block ev;
+  judged = judged e kept sound asked moment block ev;
   rings = λ port is lac. subst (λ x. RingIsAnswered e port (step e moment block x)) (sym is) (rung_step e kept moment block port lac);
 }

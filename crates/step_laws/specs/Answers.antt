@@ -3,6 +3,7 @@ use Rattle.std.specs.Prelude.{◌≡◌, ◌⊎◌, ℕ, true, List, [], ◌∷�
 use Rattle.std.specs.List.{flat_map}
 use Rattle.id_table.specs.Ids.{at}
 use Rattle.id_source.specs.Spaces.{draws}
+use Rattle.id_source.specs.declared.IdError.{IdError}
 use Rattle.wire_base.specs.declared.cause.Cause.{Cause as CauseOf}
 use Rattle.avp_codec.specs.declared.avp.Avp.{Avp}
 use Rattle.avp_codec.specs.Reading.{avps_of}
@@ -28,10 +29,11 @@ use Rattle.protocol_model.specs.declared.moves.Closed.{Closed}
 use Rattle.protocol_model.specs.declared.moves.Move.{Move}
 use Rattle.protocol_model.specs.declared.moves.Move.TheVariants as move
 use Rattle.protocol_model.specs.Reading.{body_of, message_in, CallFault, call_fault_in, TunnelFault, tunnel_fault_in}
+use Rattle.protocol_model.specs.Calls.{are_too_many}
 use Rattle.protocol_model.specs.Turn.{Tunnel, Reason, may_take, counts_acked, fault_error, granted}
 use Rattle.protocol_model.specs.End.{End, Stepped, step, least_in}
 use Rattle.step_laws.specs.Moves.{ComesNext}
-use Rattle.step_laws.specs.Causes.{MayBeGranted}
+use Rattle.step_laws.specs.Causes.{TakesNoCalls, IsIdInUse, MayBeGranted}
 use Rattle.step_laws.specs.Room.{RingsNew}
 use Rattle.step_laws.specs.Left.{AreSound, AreAsked}
 use Rattle.step_laws.specs.Steps.{AreKept}
@@ -153,6 +155,27 @@ GrantedAreRepliedTo e moment ev s = (r : TakesRequest e moment ev) (remote seria
     → message_in (body_of r.comes.header r.comes.bytes) ≡ Ok (Icrq remote serial calling) → at r.tunnel.calls r.comes.header.session ≡ None
     → MayBeGranted e r.tunnel remote → IsRepliedTo e r.id remote s
 
+-- why an ICRQ that names no call makes none, and the codes that say so (RFC 2661 section 4.4.2): this end takes no calls; the peer's id is
+-- none, or that of a live call; the tunnel has as many calls as it may; no session id is left
+pub data IsDenied (e : End) (t : Tunnel) (remote result : ℕ) (error : Option ℕ) : Type 0 where
+  NoCalls : TakesNoCalls e → result ≡ 2 → error ≡ Some 5 → IsDenied e t remote result error
+  InUse : IsIdInUse t remote → result ≡ 2 → error ≡ Some 5 → IsDenied e t remote result error
+  TooMany : are_too_many t.calls ≡ true → result ≡ 4 → error ≡ None → IsDenied e t remote result error
+  NoIds : (x : IdError) → draws e.session_ids ≡ Err x → result ≡ 4 → error ≡ None → IsDenied e t remote result error
+
+pub record IsRefusedTo (e : End) (t : Tunnel) (id remote : ℕ) (s : Stepped) : Type 0 where
+  pub refused : Refused
+  pub only : answers_of s.moves ≡ move.Refused refused ∷ []
+  pub tunnel : refused.tunnel ≡ id
+  pub remote_is : refused.remote ≡ remote
+  pub denied : IsDenied e t remote refused.result refused.error
+
+-- so it is replied to where none of these stands, and else refused by one that does
+abbrev pub NewAreJudged : End → ℕ → Event → Stepped → Type 0
+NewAreJudged e moment ev s = (r : TakesRequest e moment ev) (remote serial : ℕ) (calling : Option (List ℕ))
+    → message_in (body_of r.comes.header r.comes.bytes) ≡ Ok (Icrq remote serial calling) → at r.tunnel.calls r.comes.header.session ≡ None
+    → (MayBeGranted e r.tunnel remote × IsRepliedTo e r.id remote s) ⊎ IsRefusedTo e r.tunnel r.id remote s
+
 -- ---- rings
 
 -- the moves that a ring makes: a tunnel is opened by an SCCRQ, a call is born, it is asked for by an ICRQ
@@ -191,6 +214,7 @@ pub data RingIsAnswered (e : End) (port : ℕ) (s : Stepped) : Type 0 where
 pub record StepAnswers (e : End) (moment : ℕ) (ev : Event) (s : Stepped) : Type 0 where
   pub requests : (r : TakesRequest e moment ev) → IsAnswered e moment ev r s
   pub granted : GrantedAreRepliedTo e moment ev s
+  pub judged : NewAreJudged e moment ev s
   pub rings : (port : ℕ) → ev ≡ Ring port → e.role ≡ Lac → RingIsAnswered e port s
 
 -- of an end whose tunnels are kept, and whose calls are those that an end can have
