@@ -33,11 +33,11 @@ pub record CallLaws : Type 0 where
   pub asked : CallsAreAsked
 
 -- the calls of an end, and of each end of a world
-record IsFine (e : End) : Type 0 where
-  sound : AreSound e
-  asked : AreAsked e
+pub record IsFine (e : End) : Type 0 where
+  pub sound : AreSound e
+  pub asked : AreAsked e
 
-abbrev AreFine : World → Type 0
+abbrev pub AreFine : World → Type 0
 AreFine w = (k : ℕ) (e : End) → end_at w k ≡ Some e → IsFine e
 
 -- a new end has none
@@ -48,10 +48,10 @@ new_fine r c = record {
 }
 
 -- the ends of nodes are kept
-kept_in : (w : World) (accs : Accounts) → Holds w accs → EndsAreKept w
+pub kept_in : (w : World) (accs : Accounts) → Holds w accs → EndsAreKept w
 kept_in w accs holds n node is = let both : NodeOk accs n (Some node) = subst (NodeOk accs n) is (holds.nodes n) in both.1
 
-seen_end : (w : World) (k : ℕ) (node : Node) → at w.nodes k ≡ Some node → end_at w k ≡ Some node.end
+pub seen_end : (w : World) (k : ℕ) (node : Node) → at w.nodes k ≡ Some node → end_at w k ≡ Some node.end
 seen_end w k node is = ap (λ o. option_map (λ (x : Node). x.end) o) is
 
 same_end : (e x : End) → Some x ≡ Some e → x ≡ e
@@ -121,9 +121,9 @@ module _ (laws : CallLaws) where
 
   -- ---- runs
 
-  record Ended (r : Run) : Type 0 where
-    holds : Holds r.world (account_of r.done)
-    fine : AreFine r.world
+  pub record Ended (r : Run) : Type 0 where
+    pub holds : Holds r.world (account_of r.done)
+    pub fine : AreFine r.world
 
   module _ (lines_go_on : LinesGoOn) where
     ended_from : (number : ℕ) (lines : List Line) (r : Run) (most : ℕ) → AreLines lines → HoldsAt most r → AreFine r.world
@@ -141,7 +141,7 @@ module _ (laws : CallLaws) where
     nobody : AreFine empty_world
     nobody k e there = absurd (none-some e (sym (ap (λ o. option_map (λ (node : Node). node.end) o) (at-none k)) ∙ there))
 
-    ended : RunsBegin → (lines : List Line) → AreLines lines → length lines < 2 ^ 47 → Ended (run lines)
+    pub ended : RunsBegin → (lines : List Line) → AreLines lines → length lines < 2 ^ 47 → Ended (run lines)
     ended begins lines fits few = ended_from 1 lines empty_run 0 fits begins nobody (omega (arith, few))
 
 -- the last line of a run that isn't refused

@@ -2,3 +2,4 @@ pub mod Lines
 pub mod Runs
 mod Seen
 mod Left
+mod Answers

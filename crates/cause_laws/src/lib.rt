@@ -1,9 +1,11 @@
-//! The causes that reports tell, the room for letters, and the calls that are left, in every run of a schedule's lines.
+//! The causes that reports tell, the room for letters, the calls that are left, and the answers to requests, in every run of a schedule's lines.
 #![tactic(auto)]
 
+ghost use Rattle.cause_laws.specs.Answers.{AnswersOfRuns};
 ghost use Rattle.cause_laws.specs.Causes.{CausesOfRuns, NoneIsLeftInRuns, RoomInRuns};
 ghost use Rattle.connection_laws.specs.Channels.{HoldsInRuns};
 ghost use Rattle.connection_laws.specs.Steps.{LinesGoOn, RunsBegin};
+ghost use Rattle.step_laws.specs.Answers.{RequestsAreAnswered};
 ghost use Rattle.step_laws.specs.Causes.{CausesStand};
 ghost use Rattle.step_laws.specs.Left.{CallsAreAsked, CallsStaySound, LateCallsEnd};
 ghost use Rattle.step_laws.specs.Room.{StepsRefuseTruly};
@@ -15,6 +17,7 @@ fn laws_below()
     ensures sound { CallsStaySound }
     ensures late { LateCallsEnd }
     ensures asked { CallsAreAsked }
+    ensures answers { RequestsAreAnswered }
     ensures connections { HoldsInRuns }
     ensures lines { LinesGoOn }
     ensures begins { RunsBegin }
@@ -22,6 +25,7 @@ fn laws_below()
     step_laws::causes_stand();
     step_laws::steps_refuse_truly();
     step_laws::calls_are_not_left();
+    step_laws::requests_are_answered();
     connection_laws::facts_hold();
     connection_laws::steps_keep();
 }
@@ -49,6 +53,15 @@ pub fn tunnels_have_room()
 /// has taken 60 seconds or more.
 pub fn no_call_is_left()
     ensures { NoneIsLeftInRuns }
+{
+    laws_below();
+}
+
+/// Over every list of lines of the grammar, each call request that a line brings to a node is answered, by one move of what the line
+/// does and no more than one, as the tables and the causes say; and so is each ring: by a call that is asked for or waits for its
+/// tunnel, or by a cause.
+pub fn requests_are_answered_in_runs()
+    ensures { AnswersOfRuns }
 {
     laws_below();
 }

@@ -13,6 +13,7 @@ use Rattle.frame_laws.specs.Births.{AreApart}
 use Rattle.connection_laws.specs.Channels.{LettersAreCarried, AcksAreTrue, NumbersAreRead}
 use Rattle.request_laws.specs.Requests.{AreAskedOnce, AreMadeOnce, AreBornOnce}
 use Rattle.cause_laws.specs.Causes.{AllHaveRoom, NoneIsLeft, TellTrulyThroughout}
+use Rattle.cause_laws.specs.Answers.{AnswerThroughout}
 use Rattle.session_laws.specs.Sessions.{SessionsAgree}
 
 -- the frames of a run
@@ -63,6 +64,11 @@ ChannelsOfTexts = (text : List ℕ) (lines : List Line) → limit_passed text �
 -- tunnel that holds too many letters
 abbrev pub CausesOfTexts : Type 0
 CausesOfTexts = (text : List ℕ) (lines : List Line) → limit_passed text ≡ None → lines_of text ≡ Ok lines → TellTrulyThroughout lines
+
+-- each request for a call that comes to a node, and is taken, is answered once, as the tables and the causes say; and each ring makes a
+-- call or tells a cause
+abbrev pub AnswersOfTexts : Type 0
+AnswersOfTexts = (text : List ℕ) (lines : List Line) → limit_passed text ≡ None → lines_of text ≡ Ok lines → AnswerThroughout lines
 
 -- ends that agree hold the same established sessions
 abbrev pub SessionsOfTexts : Type 0

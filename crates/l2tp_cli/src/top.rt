@@ -4,8 +4,9 @@ ghost use Rattle.std.specs.Prelude.{◌≡◌, map, string_bytes};
 ghost use Rattle.l2tp_cli.specs.declared.words.Asked.TheVariants as asked;
 ghost use Rattle.l2tp_cli.specs.Words.{asked_of};
 ghost use Rattle.l2tp_cli.specs.Ends.{Ends, Tells};
+ghost use Rattle.cause_laws.specs.Answers.{AnswersOfRuns};
 ghost use Rattle.cause_laws.specs.Causes.{CausesOfRuns};
-ghost use Rattle.l2tp_cli.specs.Runs.{BirthsOfLines, BirthsOfTexts, CausesOfTexts, ChannelsOfLines, ChannelsOfTexts, FramesOfLines, FramesOfTexts, SessionsOfTexts};
+ghost use Rattle.l2tp_cli.specs.Runs.{AnswersOfTexts, BirthsOfLines, BirthsOfTexts, CausesOfTexts, ChannelsOfLines, ChannelsOfTexts, FramesOfLines, FramesOfTexts, SessionsOfTexts};
 ghost use Rattle.session_laws.specs.Sessions.{SessionsOfRuns};
 
 use crate::answer::answer_to;
@@ -92,11 +93,12 @@ fn command<S: Source, K: Sink>(
 /// copy of the letter with its number in the list of its sender, or a StopCCN of no tunnel that declines an opening; what a tunnel
 /// took as long as it wasn't closed are the first letters of the list of its partner, in order and each once; what counts as
 /// acknowledged was taken, or ignored by a tunnel that had been closed, or declined; the 16 bits of a number have one reading; and
-/// there is room for each letter that a tunnel has to give. In an open tunnel each call is asked for, and a tick of a node leaves none of
-/// its calls that took 60 seconds or more to be set up. Each cause that the report tells stands in the world before its line. Two
-/// partners that are established, each of which took all that was given to the other, hold the same established sessions, with
-/// the same births. All of it holds too of the run of every list of fewer than 2^47 lines of the grammar, whether a text within
-/// the limits has room for it or not.
+/// there is room for each letter that a tunnel has to give. In an open tunnel each call is asked for, and a tick of a node leaves
+/// none of its calls that took 60 seconds or more to be set up. Each cause that the report tells stands in the world before its
+/// line. Each call request that comes to an open tunnel and is taken is answered once, as the tables and the causes say, and each
+/// ring makes a call or tells a cause. Two partners that are established, each of which took all that was given to the other, hold
+/// the same established sessions, with the same births. All of it holds too of the run of every list of fewer than 2^47 lines of
+/// the grammar, whether a text within the limits has room for it or not.
 pub fn replay_top<S: Source, K: Sink>(
     alloc: Global,
     words: &[String],
@@ -118,11 +120,13 @@ pub fn replay_top<S: Source, K: Sink>(
     ensures channels { ChannelsOfTexts }
     ensures sessions { SessionsOfTexts }
     ensures causes { CausesOfTexts }
+    ensures answers { AnswersOfTexts }
     ensures frames_of_lines { FramesOfLines }
     ensures births_of_lines { BirthsOfLines }
     ensures channels_of_lines { ChannelsOfLines }
     ensures sessions_of_lines { SessionsOfRuns }
     ensures causes_of_lines { CausesOfRuns }
+    ensures answers_of_lines { AnswersOfRuns }
 {
     schedule_text::lines_are_a_schedule();
     frame_laws::reports_tell_the_past();
@@ -138,6 +142,7 @@ pub fn replay_top<S: Source, K: Sink>(
     cause_laws::tunnels_have_room();
     cause_laws::no_call_is_left();
     cause_laws::reports_tell_true_causes();
+    cause_laws::requests_are_answered_in_runs();
     session_laws::ends_that_agree_hold_the_same();
     command(alloc, words, source, sink)
 }

@@ -304,3 +304,42 @@ module _ (avps : List Avp) where
       told : (o : Option Avp) → kind_told o ≡ Some kind.Sccrq → with_type o avps ≡ Err x → IsInner x
       told None named e = absurd cc
       told (Some a) named e = typed a (type_number a) refl named e
+
+  -- a request for a call
+  icrq_fails : FailsInside (of_kind kind.Icrq avps)
+  unfolding icrq_at
+  icrq_fails =
+      fails_after IsInner (u16_at 14 avps) _ (short_fails 14)
+      (λ session. fails_after IsInner (u32_at 15 avps) _ (long_fails 15) (λ serial. tt))
+
+  ocrq_fails : FailsInside (of_kind kind.Ocrq avps)
+  unfolding ocrq_at
+  ocrq_fails = fails_after IsInner (u16_at 14 avps) _ (short_fails 14) (λ session. tt)
+
+  module _ (k : Kind) (inside : FailsInside (of_kind k avps)) where
+    kind_fails : (n : ℕ) (mandatory : Bool) → FailsInside (of_type n mandatory (Some k) avps)
+    kind_fails n mandatory =
+        fails_after IsInner (checked_all k [] avps) _ (all_fail k [] avps)
+        (λ u. fails_after IsInner (of_kind k avps) _ inside (λ m. tt))
+
+    inner_of : (x : MessageError) → kind_of_pairs avps ≡ Some k → message_of avps ≡ Err x → IsInner x
+    unfolding kind_of_pairs message_of
+    inner_of x named failed = told (first 0 avps) named failed
+      where
+        numbered : (a : Avp) (n : ℕ) (o : Option Kind) → o ≡ Some k → of_type n a.mandatory o avps ≡ Err x → IsInner x
+        numbered a n o is e = subst (Fails IsInner) e (rw is (kind_fails n a.mandatory))
+
+        typed : (a : Avp) (r : Result ℕ MessageError) → type_number a ≡ r → kind_told (Some a) ≡ Some k
+            → with_type (Some a) avps ≡ Err x → IsInner x
+        typed a (Ok n) is named e = numbered a n (kind_of n) (rw is at named) (rw is at e)
+        typed a (Err y) is named e = absurd (let f : None ≡ Some k = rw is at named in cc)
+
+        told : (o : Option Avp) → kind_told o ≡ Some k → with_type o avps ≡ Err x → IsInner x
+        told None named e = absurd cc
+        told (Some a) named e = typed a (type_number a) refl named e
+
+  pub inner_icrq : (x : MessageError) → kind_of_pairs avps ≡ Some kind.Icrq → message_of avps ≡ Err x → IsInner x
+  inner_icrq x named failed = inner_of kind.Icrq icrq_fails x named failed
+
+  pub inner_ocrq : (x : MessageError) → kind_of_pairs avps ≡ Some kind.Ocrq → message_of avps ≡ Err x → IsInner x
+  inner_ocrq x named failed = inner_of kind.Ocrq ocrq_fails x named failed

@@ -29,3 +29,8 @@ mod Asking
 mod Waiting
 pub mod Looks
 pub mod Ups
+mod Bodies
+mod Still
+mod Answering
+mod Ringing
+pub mod Requests

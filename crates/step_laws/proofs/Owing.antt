@@ -73,6 +73,10 @@ has_room_for c calls h = let few = h.2 in lt-ltb c.channel.window.queued 8192 (o
 pub spare_most : (c : Control) (calls : List (ℕ × Call)) → may_take c calls ≡ true → c.channel.window.queued + owed_by calls ≤ 8188
 spare_most c calls h = let least = leb-true (c.channel.window.queued + owed_by calls + 4) 8192 h in omega (arith, least)
 
+-- so there is room for one letter more
+pub spare_room : (c : Control) (calls : List (ℕ × Call)) → may_take c calls ≡ true → has_room c ≡ true
+spare_room c calls h = let spare = spare_most c calls h in lt-ltb c.channel.window.queued 8192 (omega (arith, spare))
+
 pub fewer : (calls : List (ℕ × Call)) → are_too_many calls ≡ false → length calls < 4096
 fewer calls h = leb-false 4096 (length calls) h
 

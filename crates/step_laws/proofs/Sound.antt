@@ -5,20 +5,20 @@ use Rattle.id_table.specs.Ids.{at, put, without, at-none}
 use Rattle.id_table.specs.Order.{Ascends, ascends-empty, ascends-put, ascends-without, found_put, found_without}
 use Rattle.call_fsm.specs.declared.table.CallState.{CallState}
 use Rattle.call_fsm.specs.declared.table.CallState.TheVariants.{Idle, WaitTunnel, WaitReply, WaitConnect, Established}
-use Rattle.call_fsm.specs.declared.table.CallEvent.TheVariants.{TunnelOpen, IccnAcc}
+use Rattle.call_fsm.specs.declared.table.CallEvent.TheVariants.{TunnelOpen, IcrqAcc, IccnAcc}
 use Rattle.protocol_model.specs.declared.event.Event.{Event}
 use Rattle.protocol_model.specs.declared.moves.Move.{Move}
 use Rattle.protocol_model.specs.declared.moves.Move.TheVariants as move
 use Rattle.protocol_model.specs.declared.tunnel.Call.{Call}
 use Rattle.protocol_model.specs.declared.tunnel.Role.{Role}
 use Rattle.protocol_model.specs.declared.tunnel.Role.TheVariants.{Lac, Lns}
-use Rattle.protocol_model.specs.Calls.{call_row, advanced, rung, asked_for, is_request}
+use Rattle.protocol_model.specs.Calls.{call_row, advanced, rung, asked_for, is_request, is_reply}
 use Rattle.protocol_model.specs.Turn.{Tunnel}
 use Rattle.protocol_model.specs.End.{End, step}
 use Rattle.step_laws.specs.Moves.{Does, Chain}
 use Rattle.step_laws.specs.Left.{CanBe, AreSound, CallsStaySound}
 use Rattle.step_laws.specs.Steps.{AreKept, StepsAreChains}
-use Rattle.step_laws.proofs.States.{requested_state, rung_state, connected_state, up_state}
+use Rattle.step_laws.proofs.States.{never, requested_state, rung_state, connected_state, up_state}
 use Rattle.step_laws.proofs.Turns.{last_after, small_draw}
 
 -- ---- states
@@ -43,10 +43,10 @@ can_be_up Lns s h = rw h tt
 can_ring : (port moment : ℕ) → CanBe Lac (rung Lac port moment).state
 can_ring port moment = rw (rung_state Lac port moment refl) tt
 
-can_be_asked : (r : Role) (remote moment : ℕ) → CanBe r (asked_for r remote moment).state
+can_be_asked : (r : Role) (remote moment : ℕ) → is_reply (call_row r Idle IcrqAcc).1 ≡ true → CanBe r (asked_for r remote moment).state
 unfolding asked_for advanced call_row
-can_be_asked Lac remote moment = tt
-can_be_asked Lns remote moment = tt
+can_be_asked Lac remote moment h = never h
+can_be_asked Lns remote moment h = tt
 
 -- ---- tables of calls
 
@@ -113,7 +113,7 @@ module _ (e : End) (whole : AreWhole e) where
   does_whole moment ev (move.Replied m) x h =
       puts x _ m.tunnel _ h.after refl (last_after e.session_ids) refl
       (whole_put e.role h.tunnel.calls m.session _ (small_draw e.session_ids m.session h.drawn whole.last)
-      (can_be_asked e.role m.remote moment) (whole.calls m.tunnel h.tunnel h.there))
+      (can_be_asked e.role m.remote moment h.row) (whole.calls m.tunnel h.tunnel h.there))
   does_whole moment ev (move.FirstUp m) x h =
       let calls = whole.calls m.tunnel h.tunnel h.there in
       puts x _ m.tunnel _ h.after refl refl refl

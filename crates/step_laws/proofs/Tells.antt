@@ -124,7 +124,7 @@ module _ (e : End) (moment : ℕ) (ev : Event) (t : Tunnel) where
       is
 
   -- an id that is in use, or not
-  in_use : (remote : ℕ) → (remote == 0 || is_some (call_of t.calls remote)) ≡ true → IsIdInUse t remote
+  pub in_use : (remote : ℕ) → (remote == 0 || is_some (call_of t.calls remote)) ≡ true → IsIdInUse t remote
   in_use remote h = by (remote == 0) (call_of t.calls remote) refl refl h
     where
       by : (a : Bool) (o : Option ℕ) → (remote == 0) ≡ a → call_of t.calls remote ≡ o → (a || is_some o) ≡ true → IsIdInUse t remote

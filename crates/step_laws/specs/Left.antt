@@ -3,7 +3,7 @@ use Rattle.std.specs.Prelude.{◌≡◌, ℕ, ◌<◌, List, Some, true}
 use Rattle.id_table.specs.Ids.{at}
 use Rattle.tunnel_fsm.specs.Rows.{state_number}
 use Rattle.call_fsm.specs.declared.table.CallState.{CallState}
-use Rattle.call_fsm.specs.declared.table.CallState.TheVariants.{WaitTunnel, WaitReply, WaitConnect}
+use Rattle.call_fsm.specs.declared.table.CallState.TheVariants.{Idle, WaitTunnel, WaitReply, WaitConnect}
 use Rattle.protocol_model.specs.declared.event.Event.{Event}
 use Rattle.protocol_model.specs.declared.event.Event.TheVariants.{Tick}
 use Rattle.protocol_model.specs.declared.tunnel.Call.{Call}
@@ -14,8 +14,10 @@ use Rattle.protocol_model.specs.Turn.{Tunnel, is_over, patience}
 use Rattle.protocol_model.specs.End.{End, step}
 use Rattle.step_laws.specs.Steps.{AreKept}
 
--- a LAC's call doesn't wait to be connected, and an LNS's is made as it is asked for
+-- no call that is there is idle, a LAC's doesn't wait to be connected, and an LNS's is made as it is asked for
 abbrev pub CanBe : Role → CallState → Type 0
+CanBe Lac Idle = ⊥
+CanBe Lns Idle = ⊥
 CanBe Lac WaitConnect = ⊥
 CanBe Lns WaitTunnel = ⊥
 CanBe Lns WaitReply = ⊥

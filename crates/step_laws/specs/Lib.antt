@@ -9,3 +9,4 @@ pub mod Causes
 pub mod Codes
 pub mod Lines
 pub mod Opens
+pub mod Answers

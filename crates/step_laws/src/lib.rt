@@ -1,6 +1,7 @@
 //! What a step of an end does, as a chain of moves: what each move needs before it and what it changes.
 #![tactic(auto)]
 
+ghost use Rattle.step_laws.specs.Answers.{RequestsAreAnswered};
 ghost use Rattle.step_laws.specs.Causes.{CausesStand};
 ghost use Rattle.step_laws.specs.Left.{CallsAreAsked, CallsStaySound, LateCallsEnd};
 ghost use Rattle.step_laws.specs.Looks.{LooksBeginTrue, LooksStayTrue};
@@ -70,3 +71,13 @@ pub fn calls_are_not_left()
 {
     steps_are_chains();
 }
+
+/// Each call request is answered. Where the next message of the peer of an open tunnel asks for a call, and is taken, one move of the
+/// step is an answer and no more than one: an ICRQ that names no call, and against which no cause stands, is replied to; one against
+/// which a cause stands is refused with the codes of the first that counts; one that names a call ends it; an OCRQ is refused; and a faulty
+/// one is refused, ends the call that it names, or closes the tunnel where it can't be answered. And each ring of a LAC
+/// asks for a call in an open tunnel, adds one to a tunnel that waits for its SCCRP or is opened for it, or does nothing and tells
+/// one cause.
+pub fn requests_are_answered()
+    ensures { RequestsAreAnswered }
+{}

@@ -74,3 +74,11 @@ pub returns-clause-causes : goal.returns-clause-causes
 returns-clause-causes g c = λ text lines within h.
     let is = c.lines_are_a_schedule.ensures text lines h in
     c.reports_tell_true_causes.ensures lines is.fits (few_lines text lines within is)
+
+pub returns-clause-answers_of_lines : goal.returns-clause-answers_of_lines
+returns-clause-answers_of_lines g c = c.requests_are_answered_in_runs.ensures
+
+pub returns-clause-answers : goal.returns-clause-answers
+returns-clause-answers g c = λ text lines within h.
+    let is = c.lines_are_a_schedule.ensures text lines h in
+    c.requests_are_answered_in_runs.ensures lines is.fits (few_lines text lines within is)

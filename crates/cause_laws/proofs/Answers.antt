@@ -1,0 +1,136 @@
+-- What a line did are the moves of the step of the node to which it brings an event, and that step answers it.
+use Rattle.std.proofs.Common.{◌≡◌, ℕ, ◌+◌, ◌-◌, ◌^◌, List, [], ◌∷◌, ◌++◌, length, map, refl, sym, ap, ◌∙◌, subst, Option, Some, None, Result, Ok, Err, arith}
+use Rattle.std.proofs.lemmas.List.{length-append}
+use Rattle.std.specs.Prelude.{min, slice_get}
+use Rattle.id_table.specs.Ids.{at}
+use Rattle.wire_base.specs.declared.why.Why.{Why}
+use Rattle.schedule_text.specs.declared.line.Line.{Line}
+use Rattle.schedule_text.specs.declared.line.Line.TheVariants.{Remark, Lac, Lns, OpenUp, Close, Ring, FromSub, Down, Hang, DropCall, Deliver, Tick}
+use Rattle.schedule_text.specs.Grammar.{FitsLine, AreLines}
+use Rattle.protocol_model.specs.declared.event.Event.{Event}
+use Rattle.protocol_model.specs.declared.event.Event.TheVariants as event
+use Rattle.protocol_model.specs.declared.moves.Move.{Move}
+use Rattle.protocol_model.specs.declared.packet.Packet.{Packet}
+use Rattle.protocol_model.specs.declared.refusal.Refusal.{Refusal}
+use Rattle.protocol_model.specs.Names.{address_of}
+use Rattle.protocol_model.specs.End.{Stepped, step}
+use Rattle.step_laws.specs.Lines.{is_lac_at, is_lns_at, is_declared, has_call, has_tunnel}
+use Rattle.protocol_model.specs.World.{World, Node, Sender, Deed, Lined, after_step, given, declared, lac_at, lns_at, with_call, with_tunnel, later, block_of, stepped, addressee_of, arrival, refused_by, sender_of, arrives, delivers_it, delivers, line}
+use Rattle.protocol_model.specs.Run.{run}
+use Rattle.step_laws.specs.Answers.{RequestsAreAnswered}
+use Rattle.connection_laws.specs.Accounts.{account_of}
+use Rattle.connection_laws.specs.Steps.{LinesGoOn, RunsBegin}
+use Rattle.cause_laws.specs.Causes.{Brings, moment_of}
+use Rattle.cause_laws.specs.Answers.{step_at, AnswersOfRuns}
+use Rattle.cause_laws.proofs.Runs.{all_left}
+use Rattle.cause_laws.proofs.Left.{CallLaws, kept_in, seen_end, ended}
+
+-- what is done are the moves
+moves_done : (f : Move → Deed) → ((m : Move) → (f m).move ≡ m) → (ms : List Move) → map (λ (d : Deed). d.move) (map f ms) ≡ ms
+moves_done f same [] = refl
+moves_done f same (m ∷ ms) = rw (same m, moves_done f same ms) refl
+
+module _ (w : World) (number : ℕ) (l : Line) (x : Lined) where
+  abbrev Does : ℕ → Node → Event → Type 0
+  Does n node ev = map (λ (d : Deed). d.move) x.done ≡ (step_at number l n node ev).moves
+
+  -- a step that the line brings, of a node at the moment of the line
+  of_step : (n : ℕ) (old node : Node) (ev : Event) (sender : Option Sender) → node.end ≡ old.end → node.clock ≡ moment_of l old
+      → after_step w number n node sender (step node.end node.clock (block_of n number) ev) ≡ x → Does n old ev
+  unfolding after_step given
+  of_step n old node ev sender same clock is =
+      let s = step node.end node.clock (block_of n number) ev in
+      let alike : s ≡ step_at number l n old ev = rw (same, clock) refl in
+      subst (λ (q : Lined). map (λ (d : Deed). d.move) q.done ≡ (step_at number l n old ev).moves) is
+      (moves_done _ (λ m. refl) s.moves ∙ ap (λ (q : Stepped). q.moves) alike)
+
+  -- a step of a node that is there, to which it brings this event
+  stepped_does : (m : ℕ) (c : Event) (sender : Option Sender) (o : Result Node Why) → ((q : Node) → o ≡ Ok q → at w.nodes m ≡ Some q)
+      → ((q : Node) → q.clock ≡ moment_of l q) → stepped w number m c sender o ≡ Ok x → (n : ℕ) (node : Node) (ev : Event)
+      → at w.nodes n ≡ Some node → n ≡ m → ev ≡ c → Does n node ev
+  unfolding stepped
+  stepped_does m c sender (Err y) there clock h n node ev was to is = absurd cc
+  stepped_does m c sender (Ok q) there clock h n node ev was to is =
+      let both : Some q ≡ Some node = sym (there q refl) ∙ (ap (at w.nodes) (sym to) ∙ was) in
+      let same : q ≡ node = cc in
+      let made : after_step w number m q sender (step q.end q.clock (block_of m number) c) ≡ x = cc in
+      let done : Does m q c = of_step m q q c sender refl (clock q) made in
+      rw (to, is, ← same) done
+
+-- of each kind
+line_does : (w : World) (number : ℕ) (l : Line) (x : Lined) → line w number l ≡ Ok x → (n : ℕ) (node : Node) (ev : Event) → at w.nodes n ≡ Some node
+    → Brings w l n ev → Does w number l x n node ev
+unfolding line arrives delivers delivers_it arrival addressee_of stepped
+line_does w number (Remark text) x h n node ev was brings = absurd brings
+line_does w number (Lac m k) x h n node ev was brings = absurd brings
+line_does w number (Lns m) x h n node ev was brings = absurd brings
+line_does w number (OpenUp m) x h n node ev was brings =
+    stepped_does w number (OpenUp m) x m event.OpenTunnel None (lac_at (at w.nodes m)) (λ q e. (is_lac_at (at w.nodes m) q e).0) (λ q. refl) h
+    n node ev was brings.0 brings.1
+line_does w number (Close m i) x h n node ev was brings =
+    stepped_does w number (Close m i) x m (event.CloseTunnel i) None (with_tunnel i (declared (at w.nodes m)))
+    (λ q e. is_declared (at w.nodes m) q (has_tunnel i (declared (at w.nodes m)) q e)) (λ q. refl) h n node ev was brings.0 brings.1
+line_does w number (Ring m port) x h n node ev was brings =
+    stepped_does w number (Ring m port) x m (event.Ring port) None (lac_at (at w.nodes m)) (λ q e. (is_lac_at (at w.nodes m) q e).0) (λ q. refl) h
+    n node ev was brings.0 brings.1
+line_does w number (FromSub m session frame) x h n node ev was brings =
+    stepped_does w number (FromSub m session frame) x m (event.Payload session frame) None (with_call session (lac_at (at w.nodes m)))
+    (λ q e. (is_lac_at (at w.nodes m) q (has_call session (lac_at (at w.nodes m)) q e)).0) (λ q. refl) h n node ev was brings.0 brings.1
+line_does w number (Down m session frame) x h n node ev was brings =
+    stepped_does w number (Down m session frame) x m (event.Lower session frame) None (with_call session (lns_at (at w.nodes m)))
+    (λ q e. (is_lns_at (at w.nodes m) q (has_call session (lns_at (at w.nodes m)) q e)).0) (λ q. refl) h n node ev was brings.0 brings.1
+line_does w number (Hang m session) x h n node ev was brings =
+    stepped_does w number (Hang m session) x m (event.Hang session) None (with_call session (lac_at (at w.nodes m)))
+    (λ q e. (is_lac_at (at w.nodes m) q (has_call session (lac_at (at w.nodes m)) q e)).0) (λ q. refl) h n node ev was brings.0 brings.1
+line_does w number (DropCall m session) x h n node ev was brings =
+    stepped_does w number (DropCall m session) x m (event.DropCall session) None (with_call session (declared (at w.nodes m)))
+    (λ q e. is_declared (at w.nodes m) q (has_call session (declared (at w.nodes m)) q e)) (λ q. refl) h n node ev was brings.0 brings.1
+line_does w number (Deliver k) x h n node ev was brings = delivered (slice_get w.packets (k - 1)) refl h
+  where
+    arrived : (p : Packet) → slice_get w.packets (k - 1) ≡ Some p → (q : Node) → at w.nodes p.to ≡ Some q → (o : Option Refusal)
+        → arrives w number p q o ≡ Ok x → Does w number (Deliver k) x n node ev
+    arrived p sent q there (Some f) e = absurd cc
+    arrived p sent q there None e =
+        let both : Some p ≡ Some brings.0 = sym sent ∙ brings.1 in
+        let same : brings.0 ≡ p = cc in
+        stepped_does w number (Deliver k) x p.to (event.Datagram (address_of p.from) p.bytes) (sender_of p.from p.origin) (Ok q)
+        (λ y is. (let here : q ≡ y = cc in rw (← here) there)) (λ y. refl) e
+        n node ev was (brings.2 ∙ ap (λ (y : Packet). y.to) same)
+        (brings.3 ∙ ap (λ (y : Packet). event.Datagram (address_of y.from) y.bytes) same)
+
+    addressed : (p : Packet) → slice_get w.packets (k - 1) ≡ Some p → (o : Option Node) → at w.nodes p.to ≡ o
+        → delivers_it w number (addressee_of p o) ≡ Ok x → Does w number (Deliver k) x n node ev
+    addressed p sent None is e = absurd cc
+    addressed p sent (Some q) is e = arrived p sent q is (refused_by p q p.origin) e
+
+    delivered : (o : Option Packet) → slice_get w.packets (k - 1) ≡ o → delivers w number o ≡ Ok x → Does w number (Deliver k) x n node ev
+    delivered None sent e = absurd cc
+    delivered (Some p) sent e = addressed p sent (at w.nodes p.to) refl e
+line_does w number (Tick m milliseconds) x h n node ev was brings = ticked (at w.nodes m) refl h
+  where
+    ticked : (o : Option Node) → at w.nodes m ≡ o → stepped w number m event.Tick None (later milliseconds (declared o)) ≡ Ok x
+        → Does w number (Tick m milliseconds) x n node ev
+    ticked None is e = absurd cc
+    ticked (Some old) is e =
+        let timed = record old { clock = min (old.clock + milliseconds) (2 ^ 64 - 1) } in
+        let made : after_step w number m timed None (step timed.end timed.clock (block_of m number) event.Tick) ≡ x = cc in
+        let both : Some old ≡ Some node = sym is ∙ (ap (at w.nodes) (sym brings.0) ∙ was) in
+        let same : old ≡ node = cc in
+        let done : Does w number (Tick m milliseconds) x m old event.Tick =
+        of_step w number (Tick m milliseconds) x m old timed event.Tick None refl refl made in
+        rw (brings.0, brings.1, ← same) done
+
+-- ---- runs
+
+pub answers_of_runs : RequestsAreAnswered → CallLaws → LinesGoOn → RunsBegin → AnswersOfRuns
+answers_of_runs answers laws go_on begins lines fits few before after l split x made n node ev was brings =
+    let whole : AreLines (before ++ l ∷ after) = subst AreLines split fits in
+    let count : length lines ≡ length before + length (l ∷ after) = ap length split ∙ length-append before (l ∷ after) in
+    let r = run before in
+    let first = ended laws go_on begins before (all_left FitsLine before (l ∷ after) whole) (omega (arith, count, few)) in
+    let fine = first.fine n node.end (seen_end r.world n node was) in
+    record {
+      done = line_does r.world (length before + 1) l x made n node ev was brings;
+      answers = answers node.end (kept_in r.world (account_of r.done) first.holds n node was) fine.sound fine.asked (moment_of l node)
+          (block_of n (length before + 1)) ev;
+    }

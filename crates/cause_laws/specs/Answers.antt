@@ -1,0 +1,34 @@
+-- In each run, what each line brings to a node is answered.
+use Rattle.std.specs.Prelude.{◌≡◌, ℕ, ◌+◌, ◌^◌, ◌<◌, List, ◌∷◌, ◌++◌, length, map, Some, Ok}
+use Rattle.id_table.specs.Ids.{at}
+use Rattle.schedule_text.specs.declared.line.Line.{Line}
+use Rattle.schedule_text.specs.Grammar.{AreLines}
+use Rattle.protocol_model.specs.declared.event.Event.{Event}
+use Rattle.protocol_model.specs.End.{Stepped, step}
+use Rattle.protocol_model.specs.World.{World, Node, Deed, Lined, block_of, line}
+use Rattle.protocol_model.specs.Run.{run}
+use Rattle.step_laws.specs.Answers.{StepAnswers}
+use Rattle.cause_laws.specs.Causes.{Brings, moment_of}
+
+-- the step of a node that a line makes on what it brings, at the line's moment and with the line's random bytes
+abbrev pub step_at : ℕ → Line → ℕ → Node → Event → Stepped
+step_at number l n node ev = step node.end (moment_of l node) (block_of n number) ev
+
+-- what the line did are the moves of that step, and the step answers the request, or the ring, that the line brings
+pub record LineAnswers (number : ℕ) (l : Line) (x : Lined) (n : ℕ) (node : Node) (ev : Event) : Type 0 where
+  pub done : map (λ (d : Deed). d.move) x.done ≡ (step_at number l n node ev).moves
+  pub answers : StepAnswers node.end (moment_of l node) ev (step_at number l n node ev)
+
+-- so it is of a line that is done in a world, for the node to which it brings an event
+abbrev pub AnswersWhatComes : World → ℕ → Line → Type 0
+AnswersWhatComes w number l = (x : Lined) → line w number l ≡ Ok x → (n : ℕ) (node : Node) (ev : Event) → at w.nodes n ≡ Some node
+    → Brings w l n ev → LineAnswers number l x n node ev
+
+-- at each of the lines of a run
+abbrev pub AnswerThroughout : List Line → Type 0
+AnswerThroughout lines =
+    (before after : List Line) (l : Line) → lines ≡ before ++ l ∷ after → AnswersWhatComes (run before).world (length before + 1) l
+
+-- of each list of lines of the grammar
+abbrev pub AnswersOfRuns : Type 0
+AnswersOfRuns = (lines : List Line) → AreLines lines → length lines < 2 ^ 47 → AnswerThroughout lines

@@ -1,0 +1,311 @@
+-- Each step answers the request that it takes, and the ring that comes.
+use Rattle.std.proofs.Common.{◌≡◌, inl, inr, ℕ, Bool, true, false, List, [], ◌∷◌, length, refl, sym, ap, ◌∙◌, subst, Option, Some, None, Result, Ok, Err, arith, ◌⊎◌, cond}
+use Rattle.std.proofs.lemmas.Bool.{true≢false, eqb-true, eqb-false}
+use Rattle.std.specs.Prelude.{◌==◌, not, ◌||◌, is_some, unwrap_or, option_map}
+use Rattle.wire_base.specs.declared.cause.Cause.TheVariants as cause
+use Rattle.id_table.specs.Ids.{at, ids_of}
+use Rattle.id_source.specs.Spaces.{draws}
+use Rattle.id_source.specs.declared.IdError.{IdError}
+use Rattle.l2tp_header.specs.declared.header.Header.{Header}
+use Rattle.control_message.specs.declared.message.Message.TheVariants.{Icrq}
+use Rattle.recv_window.specs.declared.Class.{Class}
+use Rattle.recv_window.specs.declared.Class.TheVariants.{Next}
+use Rattle.control_channel.specs.Numbers.{class_told}
+use Rattle.tunnel_fsm.specs.declared.table.TunnelState.{TunnelState}
+use Rattle.tunnel_fsm.specs.declared.table.TunnelState.TheVariants.{WaitCtlReply, Established}
+use Rattle.tunnel_fsm.specs.Rows.{state_number}
+use Rattle.call_fsm.specs.declared.table.CallState.TheVariants as call
+use Rattle.call_fsm.specs.declared.table.CallEvent.TheVariants as call_event
+use Rattle.protocol_model.specs.declared.tunnel.Role.TheVariants.{Lac}
+use Rattle.protocol_model.specs.declared.event.Event.{Event}
+use Rattle.protocol_model.specs.declared.event.Event.TheVariants.{Datagram, Ring, Tick}
+use Rattle.protocol_model.specs.declared.event.Addressee.TheVariants.{Main}
+use Rattle.protocol_model.specs.declared.moves.Move.{Move}
+use Rattle.protocol_model.specs.Reading.{body_of, message_in, at_tunnel}
+use Rattle.protocol_model.specs.Calls.{call_row, is_reply, is_lac, are_too_many}
+use Rattle.protocol_model.specs.Turn.{Env, Turn, Tunnel, call_of, left_of, granted, turn_of, with_move, reads_nr, hears_letter, in_tunnel, hears_control, hears_datagram, turns, may_take, counts_acked, Reason, reason, out_of_state}
+use Rattle.protocol_model.specs.End.{End, Stepped, env_of, after_turn, in_main, addressed, for_addressee, is_in, least_in, rings_in, rings_at, receives, only_by, step_in, step}
+use Rattle.step_laws.specs.Causes.{MayBeGranted}
+use Rattle.step_laws.specs.Left.{AreSound, AreAsked}
+use Rattle.step_laws.specs.Steps.{AreKept}
+use Rattle.step_laws.specs.Answers.{Incoming, TakesRequest, IsReply, AnswersIcrq, IsAnswer, IsAnswered, IsRepliedTo, GrantedAreRepliedTo, RingIsAnswered, RequestsAreAnswered, IsRefusal, IsDenied, NoCalls, InUse, TooMany, NoIds, IsRefusedTo, NewAreJudged}
+use Rattle.step_laws.proofs.Lists.{branch, and_left, found_passes}
+use Rattle.step_laws.proofs.Owing.{spare_room}
+use Rattle.step_laws.proofs.Tells.{in_use, granted_may}
+use Rattle.step_laws.proofs.Answering.{open_not, OneAnswer, settled_answer, next_once}
+use Rattle.step_laws.proofs.Ringing.{main_ring, one_more_ring}
+
+-- ---- requests
+
+module _ (e : End) (kept : AreKept e) (sound : AreSound e) (asked : AreAsked e) (moment : ℕ) (block : List ℕ) where
+  abbrev env : Env
+  env = env_of e moment block
+
+  module _ (ev : Event) (r : TakesRequest e moment ev) where
+    abbrev t : Tunnel
+    t = r.tunnel
+
+    abbrev header : Header
+    header = r.comes.header
+
+    abbrev body : List ℕ
+    body = body_of header r.comes.bytes
+
+    abbrev nr : ℕ
+    nr = unwrap_or header.nr 0
+
+    -- the turn once Nr is read
+    abbrev read_turn : Turn
+    read_turn = reads_nr nr (turn_of t.control env)
+
+    abbrev Right : Turn → Type 0
+    Right u = OneAnswer (IsAnswer e r.id t header.session body r.request) u.moves
+
+    local_is : t.control.local ≡ r.id
+    local_is = (kept.tunnels r.id t r.there).local
+
+    taken_right : Right (hears_letter e.role t.calls header.session body (Some Next) read_turn)
+    unfolding hears_letter reads_nr with_move
+    taken_right =
+        branch Right (may_take (counts_acked nr moment t.control) t.calls) _ _
+        (λ may. next_once e r.id t header.session read_turn
+        (record { none = refl; local = local_is; room = spare_room (counts_acked nr moment t.control) t.calls r.spare; state = r.open_is })
+        refl (λ s c live. sound r.id t r.there s c live)
+        (λ s c live. asked r.id t r.there (λ one. open_one one) s c live) body r.request)
+        (λ full. absurd (true≢false (sym r.spare ∙ full)))
+      where
+        open_one : state_number t.control.state ≡ 1 → ⊥
+        open_one one = open_not (state_number t.control.state) 1 r.open_is one (λ f. omega (arith, f))
+
+    class_is : class_told t.control.channel (unwrap_or header.ns 0) (length body == 0) ≡ Some Next
+    class_is =
+        branch (λ (o : Option Class). o ≡ Some Next) (length body == 0) _ _
+        (λ none. absurd (r.comes.some (eqb-true (length body) 0 none)))
+        (λ some. ap (λ c. Some c) r.comes.next)
+
+    heard_right : Right (hears_control e.role e.config t.letters t.calls header body (turn_of t.control env))
+    unfolding hears_control in_tunnel
+    heard_right =
+        branch Right (state_number t.control.state == 0) _ _
+        (λ zero. absurd ((kept.tunnels r.id t r.there).busy (eqb-true (state_number t.control.state) 0 zero)))
+        (λ some. subst (λ o. Right (in_tunnel e.role t.letters t.calls header.session body o read_turn)) (sym class_is)
+        (settled_answer _ false t.letters (hears_letter e.role t.calls header.session body (Some Next) read_turn) taken_right))
+
+    turn_right : Right (turns e.role e.config t.letters t.calls (Datagram t.control.peer r.comes.bytes) (turn_of t.control env))
+    unfolding turns hears_datagram
+    turn_right =
+        subst (λ q. Right (hears_datagram e.role e.config t.letters t.calls r.comes.bytes q (turn_of t.control env))) (sym r.comes.read)
+        (branch Right header.control _ _ (λ c. heard_right) (λ c. absurd (true≢false (sym r.comes.control ∙ c))))
+
+    -- the message is for the tunnel
+    abbrev RightIn : Stepped → Type 0
+    RightIn s = OneAnswer (IsAnswer e r.id t header.session body r.request) s.moves
+
+    for_tunnel : addressed e t.control.peer header body ≡ Main r.id
+    unfolding addressed at_tunnel
+    for_tunnel =
+        branch (λ a. a ≡ Main r.id) (header.tunnel == 0) _ _
+        (λ zero. absurd ((kept.tunnels r.id t r.there).some (sym r.named ∙ eqb-true header.tunnel 0 zero)))
+        (λ some. ap (λ i. at_tunnel t.control.peer i (option_map (λ (u : Tunnel). u.control.peer) (at e.tunnels i))) r.named
+        ∙ (ap (λ o. at_tunnel t.control.peer r.id (option_map (λ (u : Tunnel). u.control.peer) o)) r.there
+        ∙ branch (λ a. a ≡ Main r.id) (t.control.peer == t.control.peer) _ _
+        (λ same. refl)
+        (λ other. absurd (eqb-false t.control.peer t.control.peer other refl))))
+
+    main_right : RightIn (for_addressee e env (Datagram t.control.peer r.comes.bytes) t.control.peer header body (addressed e t.control.peer header body))
+    unfolding for_addressee in_main after_turn
+    main_right =
+        subst (λ a. RightIn (for_addressee e env (Datagram t.control.peer r.comes.bytes) t.control.peer header body a)) (sym for_tunnel)
+        (subst (λ o. RightIn (in_main e env (Datagram t.control.peer r.comes.bytes) r.id o)) (sym r.there) turn_right)
+
+    received_right : RightIn (step e moment block (Datagram t.control.peer r.comes.bytes))
+    unfolding step step_in receives
+    received_right =
+        subst (λ q. RightIn (receives e env t.control.peer r.comes.bytes q)) (sym r.comes.read)
+        (branch RightIn header.control _ _ (λ c. main_right) (λ c. absurd (true≢false (sym r.comes.control ∙ c))))
+
+    step_right : RightIn (step e moment block ev)
+    step_right = subst (λ x. RightIn (step e moment block x)) (sym r.comes.is) received_right
+
+  pub request_answered : (ev : Event) (r : TakesRequest e moment ev) → IsAnswered e moment ev r (step e moment block ev)
+  request_answered ev r = let h = step_right ev r in record { answer = h.answer; only = h.only; right = h.right }
+
+-- ---- requests against which nothing stands
+
+module _ (e : End) (t : Tunnel) (remote : ℕ) (may : MayBeGranted e t remote) where
+  pub record IsGranted : Type 0 where
+    pub session : ℕ
+    pub drawn : draws e.session_ids ≡ Ok session
+    pub is : granted e.role t.calls remote e.session_ids ≡ Ok session
+
+  -- the tests pass, one by one
+  passes : (x : ℕ) → draws e.session_ids ≡ Ok x → granted e.role t.calls remote e.session_ids ≡ Ok x
+  unfolding granted
+  passes x drawn =
+      branch (λ q. q ≡ Ok x) (not (is_reply (call_row e.role call.Idle call_event.IcrqAcc).1)) _ _
+      (λ none. absurd (may.takes (untaken (is_reply (call_row e.role call.Idle call_event.IcrqAcc).1) refl none)))
+      (λ takes. branch (λ q. q ≡ Ok x) (remote == 0 || is_some (call_of t.calls remote)) _ _
+      (λ used. absurd (may.free (in_use e 0 Tick t remote used)))
+      (λ free. branch (λ q. q ≡ Ok x) (are_too_many t.calls) _ _
+      (λ many. absurd (true≢false (sym many ∙ may.few)))
+      (λ few. ap left_of drawn)))
+    where
+      untaken : (b : Bool) → is_reply (call_row e.role call.Idle call_event.IcrqAcc).1 ≡ b → not b ≡ true → is_reply (call_row e.role call.Idle call_event.IcrqAcc).1 ≡ false
+      untaken true is h = absurd (true≢false (sym h))
+      untaken false is h = is
+
+  pub granted_is : IsGranted
+  granted_is = by (draws e.session_ids) refl
+    where
+      by : (d : Result ℕ IdError) → draws e.session_ids ≡ d → IsGranted
+      by (Ok x) is = record { session = x; drawn = is; is = passes x is }
+      by (Err x) is = absurd (may.ids x is)
+
+-- ---- requests that aren't granted
+
+module _ (e : End) (t : Tunnel) (remote : ℕ) where
+  abbrev Denies : Reason → Type 0
+  Denies r = IsDenied e t remote r.result r.error
+
+  abbrev reply_row : Bool
+  reply_row = is_reply (call_row e.role call.Idle call_event.IcrqAcc).1
+
+  abbrev refusal : Reason → Result ℕ Reason
+  refusal q = Err q
+
+  pub denied_is : (r : Reason) → granted e.role t.calls remote e.session_ids ≡ Err r → Denies r
+  unfolding granted
+  denied_is r h = by reply_row (remote == 0 || is_some (call_of t.calls remote)) (are_too_many t.calls) (draws e.session_ids) refl refl refl refl h
+    where
+      so : (q : Reason) → refusal q ≡ refusal r → Denies q → Denies r
+      so q is denies = let same : q ≡ r = cc in subst Denies same denies
+
+      by : (a b c : Bool) (d : Result ℕ IdError) → reply_row ≡ a → (remote == 0 || is_some (call_of t.calls remote)) ≡ b
+          → are_too_many t.calls ≡ c → draws e.session_ids ≡ d
+          → cond (not a) (Err out_of_state) (cond b (Err (reason cause.Session 2 (Some 5))) (cond c (Err (reason cause.Calls 4 None)) (left_of d))) ≡ Err r
+          → Denies r
+      by false b c d row used many drawn is = so out_of_state is (NoCalls row refl refl)
+      by true true c d row used many drawn is = so (reason cause.Session 2 (Some 5)) is (InUse (in_use e 0 Tick t remote used) refl refl)
+      by true false true d row used many drawn is = so (reason cause.Calls 4 None) is (TooMany many refl refl)
+      by true false false (Err x) row used many drawn is = so (reason cause.Ids 4 None) is (NoIds x drawn refl refl)
+      by true false false (Ok s) row used many drawn is = absurd cc
+
+-- ---- each step
+
+module _ (e : End) (kept : AreKept e) (sound : AreSound e) (asked : AreAsked e) (moment : ℕ) (block : List ℕ) (ev : Event) where
+  abbrev stepped : Stepped
+  stepped = step e moment block ev
+
+  abbrev RepliedAt : ℕ → ℕ → Move → Type 0
+  RepliedAt id remote m = (s : ℕ) × (draws e.session_ids ≡ Ok s) × IsReply id remote s m
+
+  replied_to : (id remote : ℕ) → (h : OneAnswer (RepliedAt id remote) stepped.moves) → IsRepliedTo e id remote stepped
+  replied_to id remote h =
+      let a = h.right.2 in
+      record {
+        replied = a.replied;
+        only = h.only ∙ ap (λ (m : Move). m ∷ []) a.is;
+        tunnel = a.tunnel;
+        remote_is = a.remote_is;
+        drawn = h.right.1 ∙ ap (λ s. Ok s) (sym a.session_is);
+      }
+
+  -- what an ICRQ that names no call is answered by
+  module _ (r : TakesRequest e moment ev) (remote serial : ℕ) (calling : Option (List ℕ))
+      (said : message_in (body_of r.comes.header r.comes.bytes) ≡ Ok (Icrq remote serial calling))
+      (none : at r.tunnel.calls r.comes.header.session ≡ None) where
+    abbrev judgement : Result ℕ Reason
+    judgement = granted e.role r.tunnel.calls remote e.session_ids
+
+    abbrev AnswersNew : Result ℕ Reason → Move → Type 0
+    AnswersNew q m = AnswersIcrq r.id r.comes.header.session remote None q m
+
+    new_answered : OneAnswer (AnswersNew judgement) stepped.moves
+    new_answered =
+        let q : TakesRequest e moment ev = record {
+          id = r.id;
+          tunnel = r.tunnel;
+          there = r.there;
+          open_is = r.open_is;
+          comes = r.comes;
+          named = r.named;
+          spare = r.spare;
+          request = Incoming remote serial calling said;
+        } in
+        let h = request_answered e kept sound asked moment block ev q in
+        let right : AnswersIcrq r.id r.comes.header.session remote (at r.tunnel.calls r.comes.header.session) judgement h.answer = h.right in
+        record {
+          answer = h.answer;
+          only = h.only;
+          right = subst (λ o. AnswersIcrq r.id r.comes.header.session remote o judgement h.answer) none right;
+        }
+
+    new_replied : MayBeGranted e r.tunnel remote → IsRepliedTo e r.id remote stepped
+    new_replied may =
+        let h = new_answered in
+        let g = granted_is e r.tunnel remote may in
+        let reply : IsReply r.id remote g.session h.answer = subst (λ q. AnswersNew q h.answer) g.is h.right in
+        replied_to r.id remote (record { answer = h.answer; only = h.only; right = (g.session, g.drawn, reply) })
+
+    new_judged : (q : Result ℕ Reason) → judgement ≡ q
+        → (MayBeGranted e r.tunnel remote × IsRepliedTo e r.id remote stepped) ⊎ IsRefusedTo e r.tunnel r.id remote stepped
+    new_judged (Ok s) is = let may = granted_may e 0 Tick r.tunnel remote s is in inl (may, new_replied may)
+    new_judged (Err w) is =
+        let h = new_answered in
+        let a : IsRefusal r.id remote w.result w.error h.answer = subst (λ q. AnswersNew q h.answer) is h.right in
+        inr (record {
+          refused = a.refused;
+          only = h.only ∙ ap (λ (m : Move). m ∷ []) a.is;
+          tunnel = a.tunnel;
+          remote_is = a.remote_is;
+          denied = rw (a.result_is, a.error_is) (denied_is e r.tunnel remote w is);
+        })
+
+  granted_answered : GrantedAreRepliedTo e moment ev stepped
+  granted_answered r remote serial calling said none may = new_replied r remote serial calling said none may
+
+  judged : NewAreJudged e moment ev stepped
+  judged r remote serial calling said none = new_judged r remote serial calling said none (granted e.role r.tunnel.calls remote e.session_ids) refl
+
+module _ (e : End) (kept : AreKept e) (moment : ℕ) (block : List ℕ) (port : ℕ) (lac : e.role ≡ Lac) where
+  -- a tunnel that is found is there
+  in_state : (s : TunnelState) (o : Option Tunnel) → is_in s e.config.lns o ≡ true
+      → (t : Tunnel) × (o ≡ Some t) × (state_number t.control.state ≡ state_number s)
+  in_state s None h = absurd (true≢false (sym h))
+  in_state s (Some t) h = (t, refl, eqb-true (state_number t.control.state) (state_number s) (and_left _ _ h))
+
+  least_there : (s : TunnelState) (i : ℕ) → least_in s e.config.lns e.tunnels ≡ Some i
+      → (t : Tunnel) × (at e.tunnels i ≡ Some t) × (state_number t.control.state ≡ state_number s)
+  unfolding least_in
+  least_there s i is = in_state s (at e.tunnels i) (found_passes (λ j. is_in s e.config.lns (at e.tunnels j)) (ids_of e.tunnels) i is)
+
+  abbrev Rung : Stepped → Type 0
+  Rung s = RingIsAnswered e port s
+
+  rung_in : (open_one opening : Option ℕ) → least_in Established e.config.lns e.tunnels ≡ open_one
+      → least_in WaitCtlReply e.config.lns e.tunnels ≡ opening → Rung (rings_in e (env_of e moment block) (Ring port) open_one opening)
+  unfolding rings_in
+  rung_in (Some i) opening is next =
+      let f = least_there Established i is in
+      subst (λ o. Rung (in_main e (env_of e moment block) (Ring port) i o)) (sym f.1)
+      (main_ring e kept lac moment block port i f.0 f.1 (inl f.2))
+  rung_in None (Some i) is next =
+      let f = least_there WaitCtlReply i next in
+      subst (λ o. Rung (in_main e (env_of e moment block) (Ring port) i o)) (sym f.1)
+      (main_ring e kept lac moment block port i f.0 f.1 (inr (f.2, is)))
+  rung_in None None is next = one_more_ring e kept lac moment block port (port, refl, is, next)
+
+  rung_step : Rung (step e moment block (Ring port))
+  unfolding step step_in only_by rings_at
+  rung_step =
+      branch Rung (is_lac e.role) _ _
+      (λ yes. rung_in (least_in Established e.config.lns e.tunnels) (least_in WaitCtlReply e.config.lns e.tunnels) refl refl)
+      (λ no. absurd (true≢false (sym (rw lac refl) ∙ no)))
+
+pub requests_are_answered : RequestsAreAnswered
+requests_are_answered e kept sound asked moment block ev = record {
+  requests = request_answered e kept sound asked moment block ev;
+  granted = granted_answered e kept sound asked moment block ev;
+  judged = judged e kept sound asked moment block ev;
+  rings = λ port is lac. subst (λ x. RingIsAnswered e port (step e moment block x)) (sym is) (rung_step e kept moment block port lac);
+}

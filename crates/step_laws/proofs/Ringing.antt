@@ -1,0 +1,153 @@
+-- What comes of a ring: a call is born, or nothing is done and a cause is told.
+use Rattle.std.proofs.Common.{◌≡◌, ◌⊎◌, ⊎_elim, ℕ, true, false, List, [], refl, sym, ap, ◌∙◌, Some, None, Result, Ok, Err}
+use Rattle.std.proofs.lemmas.Bool.{true≢false, eq-eqb, eqb-true}
+use Rattle.std.specs.Prelude.{◌==◌}
+use Rattle.std.specs.List.{flat_map}
+use Rattle.id_table.specs.Ids.{at}
+use Rattle.id_source.specs.Spaces.{draws}
+use Rattle.id_source.specs.declared.IdError.{IdError}
+use Rattle.wire_base.specs.declared.cause.Cause.{Cause as CauseOf}
+use Rattle.wire_base.specs.declared.cause.Cause.TheVariants as cause
+use Rattle.wire_base.specs.declared.letter.Letter.{Letter}
+use Rattle.tunnel_fsm.specs.declared.table.TunnelState.TheVariants.{Established}
+use Rattle.tunnel_fsm.specs.Rows.{state_number}
+use Rattle.call_fsm.specs.declared.table.CallEvent.TheVariants as call_event
+use Rattle.protocol_model.specs.declared.tunnel.Role.TheVariants.{Lac}
+use Rattle.protocol_model.specs.declared.event.Event.TheVariants.{Ring}
+use Rattle.protocol_model.specs.declared.out.Out.TheVariants.{Cause}
+use Rattle.protocol_model.specs.Calls.{call_row, advanced, rung, is_request, are_too_many}
+use Rattle.protocol_model.specs.Turn.{Env, Turn, Tunnel, turn_of, with_output, with_move, with_change, with_call, with_new, with_local, gives, has_room, may_take, fresh, opened, requested, requests, adds, rings_over, rings_by, rings_within, rings_new, rings, settles, turns}
+use Rattle.protocol_model.specs.End.{End, Stepped, env_of, gives_only, after_turn, after_new, in_new, has_all_tunnels, in_one_more, in_main, least_in}
+use Rattle.step_laws.specs.Room.{RingsNew}
+use Rattle.step_laws.specs.Steps.{AreKept}
+use Rattle.step_laws.specs.Answers.{ring_of_move, cause_of_output, IsIn, RingIsAnswered, IsAsked, Waits, Opens, IsRefused}
+use Rattle.step_laws.proofs.Lists.{branch}
+use Rattle.step_laws.proofs.Owing.{spare_room}
+use Rattle.step_laws.proofs.States.{rung_asks}
+use Rattle.step_laws.proofs.Still.{settled_done, settled_told}
+
+module _ (e : End) (kept : AreKept e) (lac : e.role ≡ Lac) (moment : ℕ) (block : List ℕ) (port : ℕ) where
+  abbrev env : Env
+  env = env_of e moment block
+
+  -- what a turn has done and told, as that of a step
+  abbrev of_turn : Turn → Stepped
+  of_turn u = record { end = e; outputs = u.outputs; moves = u.moves }
+
+  abbrev Answers : Turn → Type 0
+  Answers u = RingIsAnswered e port (of_turn u)
+
+  -- it is the same of a step that made the same moves of a ring, and told the same causes
+  same_ring : (s z : Stepped) → flat_map ring_of_move z.moves ≡ flat_map ring_of_move s.moves
+      → flat_map cause_of_output z.outputs ≡ flat_map cause_of_output s.outputs → RingIsAnswered e port s → RingIsAnswered e port z
+  same_ring s z done told (IsAsked a q is born open_is tunnel session at_port) = IsAsked a q (done ∙ is) born open_is tunnel session at_port
+  same_ring s z done told (Waits a is born waits none) = Waits a (done ∙ is) born waits none
+  same_ring s z done told (Opens o a is born drawn peer tunnel new) = Opens o a (done ∙ is) born drawn peer tunnel new
+  same_ring s z done told (IsRefused c is one) = IsRefused c (done ∙ is) (told ∙ one)
+
+  settled_ring : (letters : List Letter) (u : Turn) → Answers u → Answers (settles false letters u)
+  settled_ring letters u h =
+      same_ring (of_turn u) (of_turn (settles false letters u)) (settled_done ring_of_move (λ m. refl) (λ i. refl) false letters u)
+      (settled_told cause_of_output (λ peer bytes o. refl) false letters u) h
+
+  -- ---- over a tunnel that is there
+
+  module _ (i : ℕ) (t : Tunnel) (there : at e.tunnels i ≡ Some t)
+      (goes : (state_number t.control.state ≡ 3) ⊎ ((state_number t.control.state ≡ 1) × (least_in Established e.config.lns e.tunnels ≡ None))) where
+    abbrev start : Turn
+    start = turn_of t.control env
+
+    refused_ring : (c : CauseOf) → Answers (with_output (Cause c) start)
+    unfolding with_output
+    refused_ring c = IsRefused c refl refl
+
+    -- under its own id
+    here : (number : ℕ) → state_number t.control.state ≡ number → IsIn e t.control.local number
+    here number is = (t, ap (at e.tunnels) (kept.tunnels i t there).local ∙ there, is)
+
+    asked_ring : (s : ℕ) → draws e.session_ids ≡ Ok s → may_take t.control t.calls ≡ true → state_number t.control.state ≡ 3
+        → Answers (requests e.role s (rung e.role port moment) (adds e.role port s start))
+    unfolding requests requested gives with_change with_move with_call adds with_new rung advanced
+    asked_ring s drawn may is =
+        branch Answers (is_request (call_row e.role (rung e.role port moment).state call_event.TunnelOpen).1) _ _
+        (λ row. branch Answers (has_room t.control) _ _
+        (λ room. IsAsked _ _ refl (record { drawn = drawn; port_is = refl }) (here 3 is) refl refl refl)
+        (λ full. absurd (true≢false (sym (spare_room t.control t.calls may) ∙ full))))
+        (λ none. absurd (true≢false (sym (rung_asks e.role port moment lac) ∙ none)))
+
+    waits_ring : (s : ℕ) → draws e.session_ids ≡ Ok s → (state_number t.control.state ≡ 3 → ⊥) → Answers (adds e.role port s start)
+    unfolding adds with_move with_new
+    waits_ring s drawn other =
+        ⊎_elim
+        (λ (is : state_number t.control.state ≡ 3). absurd (other is))
+        (λ both. Waits _ refl (record { drawn = drawn; port_is = refl }) (here 1 both.0) both.1)
+        goes
+
+    drawn_ring : may_take t.control t.calls ≡ true → (r : Result ℕ IdError) → draws e.session_ids ≡ r → Answers (rings_by e.role port r start)
+    unfolding rings_by rings_over
+    drawn_ring may (Err x) drawn = refused_ring cause.Ids
+    drawn_ring may (Ok s) drawn =
+        branch Answers (state_number t.control.state == 3) _ _
+        (λ is. asked_ring s drawn may (eqb-true (state_number t.control.state) 3 is))
+        (λ other. waits_ring s drawn (λ is. true≢false (sym (eq-eqb (state_number t.control.state) 3 is) ∙ other)))
+
+    busy : state_number t.control.state ≡ 0 → ⊥
+    busy zero = (kept.tunnels i t there).busy zero
+
+    rung_ring : Answers (turns e.role e.config t.letters t.calls (Ring port) start)
+    unfolding turns rings rings_within
+    rung_ring =
+        settled_ring t.letters _
+        (branch Answers (state_number t.control.state == 0) _ _
+        (λ zero. absurd (busy (eqb-true (state_number t.control.state) 0 zero)))
+        (λ some. branch Answers (are_too_many t.calls) _ _
+        (λ many. refused_ring cause.Calls)
+        (λ few. branch Answers (may_take t.control t.calls) _ _
+        (λ may. drawn_ring may (draws e.session_ids) refl)
+        (λ full. refused_ring cause.Queue))))
+
+    pub main_ring : RingIsAnswered e port (in_main e env (Ring port) i (Some t))
+    unfolding in_main after_turn
+    main_ring = same_ring (of_turn (turns e.role e.config t.letters t.calls (Ring port) start)) _ refl refl rung_ring
+
+  -- ---- over a tunnel that is opened for it
+
+  abbrev blank : Turn
+  blank = turn_of (fresh e.config.lns moment) env
+
+  refused_new : (c : CauseOf) → Answers (with_output (Cause c) blank)
+  unfolding with_output
+  refused_new c = IsRefused c refl refl
+
+  opened_ring : RingsNew e (Ring port) → (s i : ℕ) → draws e.session_ids ≡ Ok s → draws e.tunnel_ids ≡ Ok i
+      → Answers (adds e.role port s (opened e.role e.config i blank))
+  unfolding adds with_new opened gives with_move with_local
+  opened_ring new s i drawn got = Opens _ _ refl (record { drawn = drawn; port_is = refl }) got refl refl new
+
+  new_ring : RingsNew e (Ring port) → (r q : Result ℕ IdError) → draws e.session_ids ≡ r → draws e.tunnel_ids ≡ q
+      → Answers (rings_new e.role e.config port r q blank)
+  unfolding rings_new
+  new_ring new (Err x) q drawn got = refused_new cause.Ids
+  new_ring new (Ok s) (Err x) drawn got = refused_new cause.Ids
+  new_ring new (Ok s) (Ok i) drawn got =
+      branch Answers (has_room blank.control) (adds e.role port s (opened e.role e.config i blank)) (with_output (Cause cause.Queue) blank)
+      (λ may. opened_ring new s i drawn got)
+      (λ full. refused_new cause.Queue)
+
+  made_ring : RingsNew e (Ring port) → Answers (turns e.role e.config [] [] (Ring port) blank)
+  unfolding turns rings
+  made_ring new = settled_ring [] _ (new_ring new (draws e.session_ids) (draws e.tunnel_ids) refl refl)
+
+  abbrev IsRung : Stepped → Type 0
+  IsRung s = RingIsAnswered e port s
+
+  pub one_more_ring : RingsNew e (Ring port) → IsRung (in_one_more e env (Ring port) e.config.lns (Cause cause.Tunnels))
+  unfolding in_one_more gives_only in_new after_new after_turn
+  one_more_ring new =
+      let u = turns e.role e.config [] [] (Ring port) blank in
+      let made = made_ring new in
+      branch IsRung (has_all_tunnels e.tunnels) _ _
+      (λ all. IsRefused cause.Tunnels refl refl)
+      (λ fewer. branch IsRung (u.control.local == 0) _ _
+      (λ zero. same_ring (of_turn u) _ refl refl made)
+      (λ some. same_ring (of_turn u) _ refl refl made))

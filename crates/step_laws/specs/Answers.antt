@@ -1,0 +1,223 @@
+-- How each request for a call is answered, and what comes of each ring.
+use Rattle.std.specs.Prelude.{◌≡◌, ◌⊎◌, ℕ, true, List, [], ◌∷◌, Option, Some, None, unwrap_or, Result, Ok, Err}
+use Rattle.std.specs.List.{flat_map}
+use Rattle.id_table.specs.Ids.{at}
+use Rattle.id_source.specs.Spaces.{draws}
+use Rattle.id_source.specs.declared.IdError.{IdError}
+use Rattle.wire_base.specs.declared.cause.Cause.{Cause as CauseOf}
+use Rattle.avp_codec.specs.declared.avp.Avp.{Avp}
+use Rattle.avp_codec.specs.Reading.{avps_of}
+use Rattle.control_message.specs.declared.message.Message.TheVariants.{Icrq, Ocrq}
+use Rattle.control_message.specs.declared.kind.Kind.{Kind}
+use Rattle.control_message.specs.declared.kind.Kind.TheVariants as kind
+use Rattle.control_message.specs.Reading.{kind_of_pairs}
+use Rattle.tunnel_fsm.specs.declared.table.TunnelState.TheVariants.{Established}
+use Rattle.tunnel_fsm.specs.Rows.{state_number}
+use Rattle.protocol_model.specs.declared.tunnel.Call.{Call}
+use Rattle.protocol_model.specs.declared.tunnel.Role.TheVariants.{Lac}
+use Rattle.protocol_model.specs.declared.event.Event.{Event}
+use Rattle.protocol_model.specs.declared.event.Event.TheVariants.{Ring}
+use Rattle.protocol_model.specs.declared.out.Out.{Out}
+use Rattle.protocol_model.specs.declared.out.Out.TheVariants.{Cause}
+use Rattle.protocol_model.specs.declared.moves.Opened.{Opened}
+use Rattle.protocol_model.specs.declared.moves.Added.{Added}
+use Rattle.protocol_model.specs.declared.moves.Requested.{Requested}
+use Rattle.protocol_model.specs.declared.moves.Replied.{Replied}
+use Rattle.protocol_model.specs.declared.moves.Refused.{Refused}
+use Rattle.protocol_model.specs.declared.moves.EndTold.{EndTold}
+use Rattle.protocol_model.specs.declared.moves.Closed.{Closed}
+use Rattle.protocol_model.specs.declared.moves.Move.{Move}
+use Rattle.protocol_model.specs.declared.moves.Move.TheVariants as move
+use Rattle.protocol_model.specs.Reading.{body_of, message_in, CallFault, call_fault_in, TunnelFault, tunnel_fault_in}
+use Rattle.protocol_model.specs.Calls.{are_too_many}
+use Rattle.protocol_model.specs.Turn.{Tunnel, Reason, may_take, counts_acked, fault_error, granted}
+use Rattle.protocol_model.specs.End.{End, Stepped, step, least_in}
+use Rattle.step_laws.specs.Moves.{ComesNext}
+use Rattle.step_laws.specs.Causes.{TakesNoCalls, IsIdInUse, MayBeGranted}
+use Rattle.step_laws.specs.Room.{RingsNew}
+use Rattle.step_laws.specs.Left.{AreSound, AreAsked}
+use Rattle.step_laws.specs.Steps.{AreKept}
+
+-- ---- requests that come
+
+abbrev pub AsksForCall : Option Kind → Type 0
+AsksForCall k = (k ≡ Some kind.Icrq) ⊎ (k ≡ Some kind.Ocrq)
+
+-- a control message that asks for a call: an ICRQ or an OCRQ, that can be read; one that has a fault, and can be answered by a CDN;
+-- or one so faulty that it can't
+pub data IsRequest (body : List ℕ) : Type 0 where
+  Incoming : (remote serial : ℕ) (calling : Option (List ℕ)) → message_in body ≡ Ok (Icrq remote serial calling) → IsRequest body
+  Outgoing : (remote : ℕ) → message_in body ≡ Ok (Ocrq remote) → IsRequest body
+  FaultyIncoming : (f : CallFault) → call_fault_in body ≡ Some f → f.kind ≡ kind.Icrq → IsRequest body
+  FaultyOutgoing : (f : CallFault) → call_fault_in body ≡ Some f → f.kind ≡ kind.Ocrq → IsRequest body
+  TooFaulty : (avps : List Avp) (g : TunnelFault) → avps_of body ≡ Ok avps → AsksForCall (kind_of_pairs avps) → tunnel_fault_in body ≡ Some g
+      → IsRequest body
+
+-- the next message of the peer of an open tunnel, in the tunnel that its header names; once Nr is read the tunnel has room for what it
+-- may have to give, so the message is taken; and it asks for a call
+pub record TakesRequest (e : End) (moment : ℕ) (ev : Event) : Type 0 where
+  pub id : ℕ
+  pub tunnel : Tunnel
+  pub there : at e.tunnels id ≡ Some tunnel
+  pub open_is : state_number tunnel.control.state ≡ 3
+  pub comes : ComesNext ev tunnel.control
+  pub named : comes.header.tunnel ≡ id
+  pub spare : may_take (counts_acked (unwrap_or comes.header.nr 0) moment tunnel.control) tunnel.calls ≡ true
+  pub request : IsRequest (body_of comes.header comes.bytes)
+
+-- ---- answers
+
+-- the moves that answer: an ICRP, a CDN that names no call, a CDN that ends one, a StopCCN
+abbrev pub answer_of_move : Move → List Move
+answer_of_move (move.Replied m) = move.Replied m ∷ []
+answer_of_move (move.Refused m) = move.Refused m ∷ []
+answer_of_move (move.EndTold m) = move.EndTold m ∷ []
+answer_of_move (move.Closed m) = move.Closed m ∷ []
+answer_of_move m = []
+
+abbrev pub answers_of : List Move → List Move
+answers_of ms = flat_map answer_of_move ms
+
+-- an ICRP in the tunnel: a call of this session is made for the peer's
+pub record IsReply (id remote session : ℕ) (m : Move) : Type 0 where
+  pub replied : Replied
+  pub is : m ≡ move.Replied replied
+  pub tunnel : replied.tunnel ≡ id
+  pub remote_is : replied.remote ≡ remote
+  pub session_is : replied.session ≡ session
+
+-- a CDN in the tunnel to the peer's session, with these codes, that names no call of this end
+pub record IsRefusal (id remote result : ℕ) (error : Option ℕ) (m : Move) : Type 0 where
+  pub refused : Refused
+  pub is : m ≡ move.Refused refused
+  pub tunnel : refused.tunnel ≡ id
+  pub remote_is : refused.remote ≡ remote
+  pub result_is : refused.result ≡ result
+  pub error_is : refused.error ≡ error
+
+-- a CDN in the tunnel, with these codes, that ends a call
+pub record IsEnd (id session : ℕ) (c : Call) (result : ℕ) (error : Option ℕ) (m : Move) : Type 0 where
+  pub told : EndTold
+  pub is : m ≡ move.EndTold told
+  pub tunnel : told.tunnel ≡ id
+  pub session_is : told.session ≡ session
+  pub remote_is : told.remote ≡ c.remote
+  pub result_is : told.result ≡ result
+  pub error_is : told.error ≡ error
+
+-- a StopCCN that closes the tunnel, with these codes
+pub record IsClose (id result : ℕ) (error : Option ℕ) (m : Move) : Type 0 where
+  pub closed : Closed
+  pub is : m ≡ move.Closed closed
+  pub tunnel : closed.tunnel ≡ id
+  pub result_is : closed.result ≡ result
+  pub error_is : closed.error ≡ error
+
+-- An ICRQ, by the call that its header names, and by the first cause for which there can be none, or the session that is drawn. One that
+-- names no call is replied to, or refused with the codes of the cause. One that names a call ends it, by an error of 5, or with the
+-- codes of the cause.
+abbrev pub AnswersIcrq : ℕ → ℕ → ℕ → Option Call → Result ℕ Reason → Move → Type 0
+AnswersIcrq id session remote None (Ok drawn) m = IsReply id remote drawn m
+AnswersIcrq id session remote None (Err r) m = IsRefusal id remote r.result r.error m
+AnswersIcrq id session remote (Some c) (Ok drawn) m = IsEnd id session c 2 (Some 5) m
+AnswersIcrq id session remote (Some c) (Err r) m = IsEnd id session c r.result r.error m
+
+-- a faulty ICRQ, by the call that its header names: it ends the call, or there is none
+abbrev pub AnswersFaulty : ℕ → ℕ → CallFault → Option Call → Move → Type 0
+AnswersFaulty id session f None m = IsRefusal id (unwrap_or f.session 0) 2 (Some (fault_error f.cause)) m
+AnswersFaulty id session f (Some c) m = IsEnd id session c 2 (Some (fault_error f.cause)) m
+
+-- no end places calls, so an OCRQ is refused with a result of 5; one that can't be answered by a CDN closes the tunnel
+abbrev pub IsAnswer : End → ℕ → Tunnel → ℕ → (body : List ℕ) → IsRequest body → Move → Type 0
+IsAnswer e id t session body (Incoming remote serial calling said) m =
+    AnswersIcrq id session remote (at t.calls session) (granted e.role t.calls remote e.session_ids) m
+IsAnswer e id t session body (Outgoing remote said) m = IsRefusal id remote 5 None m
+IsAnswer e id t session body (FaultyIncoming f has is) m = AnswersFaulty id session f (at t.calls session) m
+IsAnswer e id t session body (FaultyOutgoing f has is) m = IsRefusal id (unwrap_or f.session 0) 2 (Some (fault_error f.cause)) m
+IsAnswer e id t session body (TooFaulty avps g read is has) m = IsClose id 2 (Some 3) m
+
+-- one move of the step is an answer, and no more than one, and it is the one that the tables and the causes give
+pub record IsAnswered (e : End) (moment : ℕ) (ev : Event) (r : TakesRequest e moment ev) (s : Stepped) : Type 0 where
+  pub answer : Move
+  pub only : answers_of s.moves ≡ answer ∷ []
+  pub right : IsAnswer e r.id r.tunnel r.comes.header.session (body_of r.comes.header r.comes.bytes) r.request answer
+
+-- an ICRQ that names no call, against which no cause stands, is replied to with the session that is drawn, and by nothing else
+pub record IsRepliedTo (e : End) (id remote : ℕ) (s : Stepped) : Type 0 where
+  pub replied : Replied
+  pub only : answers_of s.moves ≡ move.Replied replied ∷ []
+  pub tunnel : replied.tunnel ≡ id
+  pub remote_is : replied.remote ≡ remote
+  pub drawn : draws e.session_ids ≡ Ok replied.session
+
+abbrev pub GrantedAreRepliedTo : End → ℕ → Event → Stepped → Type 0
+GrantedAreRepliedTo e moment ev s = (r : TakesRequest e moment ev) (remote serial : ℕ) (calling : Option (List ℕ))
+    → message_in (body_of r.comes.header r.comes.bytes) ≡ Ok (Icrq remote serial calling) → at r.tunnel.calls r.comes.header.session ≡ None
+    → MayBeGranted e r.tunnel remote → IsRepliedTo e r.id remote s
+
+-- why an ICRQ that names no call makes none, and the codes that say so (RFC 2661 section 4.4.2): this end takes no calls; the peer's id is
+-- none, or that of a live call; the tunnel has as many calls as it may; no session id is left
+pub data IsDenied (e : End) (t : Tunnel) (remote result : ℕ) (error : Option ℕ) : Type 0 where
+  NoCalls : TakesNoCalls e → result ≡ 2 → error ≡ Some 5 → IsDenied e t remote result error
+  InUse : IsIdInUse t remote → result ≡ 2 → error ≡ Some 5 → IsDenied e t remote result error
+  TooMany : are_too_many t.calls ≡ true → result ≡ 4 → error ≡ None → IsDenied e t remote result error
+  NoIds : (x : IdError) → draws e.session_ids ≡ Err x → result ≡ 4 → error ≡ None → IsDenied e t remote result error
+
+pub record IsRefusedTo (e : End) (t : Tunnel) (id remote : ℕ) (s : Stepped) : Type 0 where
+  pub refused : Refused
+  pub only : answers_of s.moves ≡ move.Refused refused ∷ []
+  pub tunnel : refused.tunnel ≡ id
+  pub remote_is : refused.remote ≡ remote
+  pub denied : IsDenied e t remote refused.result refused.error
+
+-- so it is replied to where none of these stands, and else refused by one that does
+abbrev pub NewAreJudged : End → ℕ → Event → Stepped → Type 0
+NewAreJudged e moment ev s = (r : TakesRequest e moment ev) (remote serial : ℕ) (calling : Option (List ℕ))
+    → message_in (body_of r.comes.header r.comes.bytes) ≡ Ok (Icrq remote serial calling) → at r.tunnel.calls r.comes.header.session ≡ None
+    → (MayBeGranted e r.tunnel remote × IsRepliedTo e r.id remote s) ⊎ IsRefusedTo e r.tunnel r.id remote s
+
+-- ---- rings
+
+-- the moves that a ring makes: a tunnel is opened by an SCCRQ, a call is born, it is asked for by an ICRQ
+abbrev pub ring_of_move : Move → List Move
+ring_of_move (move.Opened m) = move.Opened m ∷ []
+ring_of_move (move.Added m) = move.Added m ∷ []
+ring_of_move (move.Requested m) = move.Requested m ∷ []
+ring_of_move m = []
+
+abbrev pub cause_of_output : Out → List CauseOf
+cause_of_output (Cause c) = c ∷ []
+cause_of_output o = []
+
+-- a call of the session that is drawn is born in a tunnel, for the port that rings
+pub record IsBorn (e : End) (port : ℕ) (m : Added) : Type 0 where
+  pub drawn : draws e.session_ids ≡ Ok m.session
+  pub port_is : m.port ≡ port
+
+-- a tunnel of the end is in the state of this number
+abbrev pub IsIn : End → ℕ → ℕ → Type 0
+IsIn e id number = (t : Tunnel) × (at e.tunnels id ≡ Some t) × (state_number t.control.state ≡ number)
+
+-- over an open tunnel the call is asked for; over one whose SCCRQ isn't answered yet it waits, and so it does over one that is opened
+-- for it where there is neither; or nothing is done, and one cause is told (of that see Causes)
+pub data RingIsAnswered (e : End) (port : ℕ) (s : Stepped) : Type 0 where
+  IsAsked : (a : Added) (q : Requested) → flat_map ring_of_move s.moves ≡ move.Added a ∷ move.Requested q ∷ [] → IsBorn e port a
+      → IsIn e a.tunnel 3 → q.tunnel ≡ a.tunnel → q.session ≡ a.session → q.port ≡ port → RingIsAnswered e port s
+  Waits : (a : Added) → flat_map ring_of_move s.moves ≡ move.Added a ∷ [] → IsBorn e port a → IsIn e a.tunnel 1
+      → least_in Established e.config.lns e.tunnels ≡ None → RingIsAnswered e port s
+  Opens : (o : Opened) (a : Added) → flat_map ring_of_move s.moves ≡ move.Opened o ∷ move.Added a ∷ [] → IsBorn e port a
+      → draws e.tunnel_ids ≡ Ok o.tunnel → o.peer ≡ e.config.lns → a.tunnel ≡ o.tunnel → RingsNew e (Ring port) → RingIsAnswered e port s
+  IsRefused : (c : CauseOf) → flat_map ring_of_move s.moves ≡ [] → flat_map cause_of_output s.outputs ≡ c ∷ [] → RingIsAnswered e port s
+
+-- ---- each step
+
+pub record StepAnswers (e : End) (moment : ℕ) (ev : Event) (s : Stepped) : Type 0 where
+  pub requests : (r : TakesRequest e moment ev) → IsAnswered e moment ev r s
+  pub granted : GrantedAreRepliedTo e moment ev s
+  pub judged : NewAreJudged e moment ev s
+  pub rings : (port : ℕ) → ev ≡ Ring port → e.role ≡ Lac → RingIsAnswered e port s
+
+-- of an end whose tunnels are kept, and whose calls are those that an end can have
+abbrev pub RequestsAreAnswered : Type 0
+RequestsAreAnswered =
+    (e : End) → AreKept e → AreSound e → AreAsked e → (moment : ℕ) (block : List ℕ) (ev : Event) → StepAnswers e moment ev (step e moment block ev)
