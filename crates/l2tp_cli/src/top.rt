@@ -95,9 +95,9 @@ fn command<S: Source, K: Sink>(
 /// room for each letter that a tunnel has to give. In an open tunnel each call is asked for, and a tick of a node leaves none of
 /// its calls that took 60 seconds or more to be set up. Each cause that the report tells stands in the world before its line. Each
 /// call request that comes to an open tunnel and is taken is answered once, as the tables and the causes say, and each ring makes
-/// a call or tells a cause. Two partners that are established, each of which took all that was given to the other, hold the same established sessions, with
-/// the same births. All of it holds too of the run of every list of fewer than 2^47 lines of the grammar, whether a text within
-/// the limits has room for it or not.
+/// a call or tells a cause. Two partners that are established, each of which took all that was given to the other, hold the same
+/// established sessions, with the same births. All of it holds too of the run of every list of fewer than 2^47 lines of the
+/// grammar, whether a text within the limits has room for it or not.
 pub fn replay_top<S: Source, K: Sink>(
     alloc: Global,
     words: &[String],
