@@ -32,7 +32,7 @@ fn event_of(alloc: Global, peer: u32, words: &str) -> Result<Event, Fail> {
     }
     if let Some(digits) = words.strip_prefix("close ") {
         return Ok(Event::CloseTunnel {
-            tunnel: number_of(digits)? as u16,
+            tunnel: u16::try_from(number_of(digits)?).map_err(|_| "a tunnel id")?,
         });
     }
     let bytes = hex::decode(alloc, words).map_err(|_| "hex digits")?;
