@@ -22,24 +22,63 @@ fn number_of(digits: &str) -> Result<u32, Fail> {
     digits.parse::<u32>().map_err(|_| Fail::from("a number"))
 }
 
-/// The event that words tell: an administrative open, a ring, an administrative close of a tunnel, or the hex digits of a
-/// datagram from a peer.
+/// The number of a tunnel or of a session.
+fn id_of(digits: &str) -> Result<u16, Fail> {
+    u16::try_from(number_of(digits)?).map_err(|_| Fail::from("an id of 16 bits"))
+}
+
+fn bytes_of(alloc: Global, digits: &str) -> Result<Bytes, Fail> {
+    let bytes = hex::decode(alloc, digits).map_err(|_| "hex digits")?;
+    Ok(Bytes::from_slice(alloc, bytes.as_slice())?)
+}
+
+/// The event of a word and an id: an administrative close of a tunnel or of a call, or a subscriber that leaves.
+fn event_of_id(word: &str, id: u16) -> Result<Event, Fail> {
+    match word {
+        "close" => Ok(Event::CloseTunnel { tunnel: id }),
+        "drop" => Ok(Event::DropCall { session: id }),
+        "hang" => Ok(Event::Hang { session: id }),
+        _ => Err(Fail::from("a word")),
+    }
+}
+
+/// A frame of the subscriber's or of the network's.
+fn event_of_frame(word: &str, session: u16, frame: Bytes) -> Result<Event, Fail> {
+    match word {
+        "payload" => Ok(Event::Payload { session, frame }),
+        "lower" => Ok(Event::Lower { session, frame }),
+        _ => Err(Fail::from("a word")),
+    }
+}
+
+/// The event of a word and what it is about: an id, a session and a frame, or a datagram of the node 5.
+fn event_about(alloc: Global, word: &str, about: &str) -> Result<Event, Fail> {
+    match about.split_once(' ') {
+        None => event_of_id(word, id_of(about)?),
+        Some(("5", digits)) => Ok(Event::Datagram {
+            peer: address_of(5),
+            bytes: bytes_of(alloc, digits)?,
+        }),
+        Some((session, digits)) => {
+            event_of_frame(word, id_of(session)?, bytes_of(alloc, digits)?)
+        }
+    }
+}
+
+/// The event that words tell: an administrative open, a ring, a word with what it is about, or the hex digits of a datagram of the
+/// peer.
 fn event_of(alloc: Global, peer: u32, words: &str) -> Result<Event, Fail> {
     match words {
-        "open" => return Ok(Event::OpenTunnel),
-        "ring" => return Ok(Event::Ring { port: 70 }),
-        _ => {}
+        "open" => Ok(Event::OpenTunnel),
+        "ring" => Ok(Event::Ring { port: 70 }),
+        _ => match words.split_once(' ') {
+            Some((word, about)) => event_about(alloc, word, about),
+            None => Ok(Event::Datagram {
+                peer,
+                bytes: bytes_of(alloc, words)?,
+            }),
+        },
     }
-    if let Some(digits) = words.strip_prefix("close ") {
-        return Ok(Event::CloseTunnel {
-            tunnel: u16::try_from(number_of(digits)?).map_err(|_| "a tunnel id")?,
-        });
-    }
-    let bytes = hex::decode(alloc, words).map_err(|_| "hex digits")?;
-    Ok(Event::Datagram {
-        peer,
-        bytes: Bytes::from_slice(alloc, bytes.as_slice())?,
-    })
 }
 
 fn push_number(alloc: Global, text: &mut Bytes, number: u32) -> Result<(), NoMemory> {

@@ -9,6 +9,8 @@ mod bench;
 #[cfg(test)]
 mod calls;
 #[cfg(test)]
+mod dropped;
+#[cfg(test)]
 mod limits;
 #[cfg(test)]
 mod tables;

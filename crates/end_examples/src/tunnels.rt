@@ -1,11 +1,13 @@
-//! Messages about tunnels, and those that name none.
+//! Messages about tunnels.
+//!
+//! Each row has what comes to an LNS 7 from the LAC 9, or to a LAC 9 from the LNS 7, each new where it says so, and what it gives: the
+//! rows of a tunnel's table, and what a faulty message is to it.
 
 use crate::bench::{Bench, first_wrong};
 use std::test::Fail;
 
-/// What comes to an LNS 7 from the LAC 9, or to a LAC 9 from the LNS 7, each new where it says so, and what it gives: the rows of a
-/// tunnel's table, and what a faulty message is to it.
-const TUNNELS: [(&str, &str); 175] = [
+/// Openings at an LNS that a message is against.
+const OPENINGS_AT_AN_LNS: [(&str, &str); 18] = [
     // An SCCCN that has to be understood and can't be.
     ("new lns", ""),
     (
@@ -89,6 +91,10 @@ const TUNNELS: [(&str, &str); 175] = [
         "cause version\n\
          send 9 c80200241234000000010002800800000000000480080000000900018008000000010005\n",
     ),
+];
+
+/// Tunnels that are closed: by an administrator, or by the peer's StopCCN.
+const CLOSES: [(&str, &str); 31] = [
     // An administrative close.
     ("new lns", ""),
     (
@@ -203,6 +209,10 @@ const TUNNELS: [(&str, &str); 175] = [
         "c802001400010000000200018008000000000003",
         "send 9 c802000c1234000000010003\n",
     ),
+];
+
+/// Messages that can't be read, or that aren't known.
+const FAULTS: [(&str, &str); 18] = [
     // Pairs that can't be read.
     ("new lns", ""),
     (
@@ -282,6 +292,10 @@ const TUNNELS: [(&str, &str); 175] = [
         "cause mandatory\n\
          send 9 c8020026123400000001000380080000000000048008000000090001800a0000000100020008\n",
     ),
+];
+
+/// Messages that don't come in a tunnel's state.
+const OUT_OF_STATE: [(&str, &str); 32] = [
     // An SCCRQ, an SCCRP or an SCCCN.
     ("new lns", ""),
     (
@@ -416,6 +430,10 @@ const TUNNELS: [(&str, &str); 175] = [
         "cause value\n\
          send 9 c8020026123400000001000380080000000000048008000000090001800a0000000100020003\n",
     ),
+];
+
+/// Tunnels that are closed with their calls.
+const WITH_CALLS: [(&str, &str); 20] = [
     // The calls of a tunnel end with it: by an administrative close, an answer, or a StopCCN.
     ("new lns", ""),
     (
@@ -493,6 +511,10 @@ const TUNNELS: [(&str, &str); 175] = [
     ),
     // No tunnel is closed that there isn't.
     ("close 2", "drop tunnel\n"),
+];
+
+/// Tunnels that a LAC opens.
+const AT_A_LAC: [(&str, &str); 32] = [
     // An SCCRP of version 2.0: it tells the id to which the StopCCN goes.
     ("new lac", ""),
     (
@@ -621,6 +643,10 @@ const TUNNELS: [(&str, &str); 175] = [
         "send 7 c802004c000000000000000080080000000000018008000000020100800a0000000300000003800a000000076\
          c616339800800000009000280080000000a0008000c0000004c000300007530\n",
     ),
+];
+
+/// When a tunnel is removed, and what it does until then.
+const MOMENTS: [(&str, &str); 24] = [
     // A closed tunnel is kept for 31 seconds since it closed, and not since it was made; its StopCCN is repeated.
     ("new lns", ""),
     (
@@ -700,9 +726,57 @@ const TUNNELS: [(&str, &str); 175] = [
 ];
 
 #[test]
-fn messages_about_tunnels(rt: HostRuntime) -> Result<(), Fail> {
+fn openings_at_an_lns(rt: HostRuntime) -> Result<(), Fail> {
     let alloc = rt.alloc();
     let mut bench = Bench::lns(alloc);
-    assert_eq!(rt; first_wrong(alloc, &mut bench, &TUNNELS)?, None);
+    assert_eq!(rt; first_wrong(alloc, &mut bench, &OPENINGS_AT_AN_LNS)?, None);
+    Ok(())
+}
+
+#[test]
+fn tunnels_that_are_closed(rt: HostRuntime) -> Result<(), Fail> {
+    let alloc = rt.alloc();
+    let mut bench = Bench::lns(alloc);
+    assert_eq!(rt; first_wrong(alloc, &mut bench, &CLOSES)?, None);
+    Ok(())
+}
+
+#[test]
+fn messages_with_faults(rt: HostRuntime) -> Result<(), Fail> {
+    let alloc = rt.alloc();
+    let mut bench = Bench::lns(alloc);
+    assert_eq!(rt; first_wrong(alloc, &mut bench, &FAULTS)?, None);
+    Ok(())
+}
+
+#[test]
+fn messages_out_of_state(rt: HostRuntime) -> Result<(), Fail> {
+    let alloc = rt.alloc();
+    let mut bench = Bench::lns(alloc);
+    assert_eq!(rt; first_wrong(alloc, &mut bench, &OUT_OF_STATE)?, None);
+    Ok(())
+}
+
+#[test]
+fn tunnels_with_calls(rt: HostRuntime) -> Result<(), Fail> {
+    let alloc = rt.alloc();
+    let mut bench = Bench::lns(alloc);
+    assert_eq!(rt; first_wrong(alloc, &mut bench, &WITH_CALLS)?, None);
+    Ok(())
+}
+
+#[test]
+fn tunnels_of_a_lac(rt: HostRuntime) -> Result<(), Fail> {
+    let alloc = rt.alloc();
+    let mut bench = Bench::lns(alloc);
+    assert_eq!(rt; first_wrong(alloc, &mut bench, &AT_A_LAC)?, None);
+    Ok(())
+}
+
+#[test]
+fn moments_of_tunnels(rt: HostRuntime) -> Result<(), Fail> {
+    let alloc = rt.alloc();
+    let mut bench = Bench::lns(alloc);
+    assert_eq!(rt; first_wrong(alloc, &mut bench, &MOMENTS)?, None);
     Ok(())
 }
