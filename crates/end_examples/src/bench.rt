@@ -164,6 +164,16 @@ impl Bench {
         given(alloc, &mut self.end, self.moment, &event)
     }
 
+    /// The lines of what the end gives for an administrative close of a tunnel.
+    pub(crate) fn close(&mut self, alloc: Global, tunnel: u16) -> Result<Bytes, NoMemory> {
+        given(
+            alloc,
+            &mut self.end,
+            self.moment,
+            &Event::CloseTunnel { tunnel },
+        )
+    }
+
     /// What the words of a row lead to: an end that is new, or the lines of what the end gives.
     pub(crate) fn run(&mut self, alloc: Global, words: &str) -> Result<Bytes, Fail> {
         match words {

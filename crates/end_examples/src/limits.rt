@@ -180,3 +180,35 @@ fn a_tunnel_takes_no_more_than_it_has_room_for(rt: HostRuntime) -> Result<(), Fa
     );
     Ok(())
 }
+
+#[test]
+fn an_opener_has_as_many_tunnels_as_it_may(rt: HostRuntime) -> Result<(), Fail> {
+    let alloc = rt.alloc();
+    let mut bench = Bench::lac(alloc);
+    for _ in 0..1024 {
+        let opening = bench.run(alloc, "open")?;
+        assert_eq!(rt; opening.as_slice().get(..7), Some(b"send 7 ".as_slice()));
+    }
+    assert_eq!(rt;
+        bench.run(alloc, "open")?.as_slice(),
+        b"cause tunnels\n".as_slice()
+    );
+    // A ring waits for a tunnel that is to open, as long as there is one.
+    assert_eq!(rt; bench.run(alloc, "ring")?.as_slice(), b"".as_slice());
+    for tunnel in 1..1025_u16 {
+        bench.close(alloc, tunnel)?;
+    }
+    assert_eq!(rt;
+        bench.run(alloc, "ring")?.as_slice(),
+        b"cause tunnels\n".as_slice()
+    );
+    assert_eq!(rt;
+        bench.run(alloc, "open")?.as_slice(),
+        b"cause tunnels\n".as_slice()
+    );
+    // The closed ones are removed.
+    bench.run(alloc, "tick 31000")?;
+    let opening = bench.run(alloc, "ring")?;
+    assert_eq!(rt; opening.as_slice().get(..7), Some(b"send 7 ".as_slice()));
+    Ok(())
+}
