@@ -1,3 +1,5 @@
 pub mod Ends
+pub mod Fits
 pub mod Gives
+pub mod Rows
 pub mod Ticking

@@ -82,7 +82,8 @@ impl End {
         nr: u16,
         reason: &Reason,
     ) -> Result<Given, NoMemory>
-        ensures { GivesStep result (declined self.old peer remote nr reason.now) self.old self.new }
+        ensures given { GivesStep result (declined self.old peer remote nr reason.now) self.old self.new }
+        ensures role { self.new.role ≡ self.old.role }
     {
         let bytes = decline_bytes(self.alloc, remote, nr, reason)?;
         let mut outputs = Outputs::new(self.alloc);

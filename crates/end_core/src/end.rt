@@ -5,11 +5,10 @@ ghost use Rattle.std.specs.Option.{option_copied};
 ghost use Rattle.id_table.specs.Ids.{at, put, ids_of};
 ghost use Rattle.id_table.specs.Tables.{HasRoom};
 ghost use Rattle.l2tp_header.specs.Reading.{header_of};
-ghost use Rattle.protocol_model.specs.End.{env_of, whole_space, gives_only, tunnels_after, after_turn, after_new, in_new, has_all_tunnels, in_one_more, in_main, is_known, known_as, opens_once, addressed, reached, for_addressee, is_in, least_in, rings_in, rings_at, for_call, look_in, handed, hands_up, receives, only_by, step_in, step, new_end};
+ghost use Rattle.protocol_model.specs.End.{env_of, whole_space, gives_only, tunnels_after, after_turn, after_new, in_new, has_all_tunnels, in_one_more, in_main, is_known, known_as, opens_once, addressed, reached, for_addressee, is_in, least_in, for_call, look_in, handed, hands_up, receives, new_end};
 ghost use Rattle.protocol_model.specs.Reading.{at_tunnel};
 ghost use Rattle.protocol_model.specs.World.{is_not_closed};
-ghost use Rattle.protocol_model.specs.declared.out.Out.TheVariants as outs;
-ghost use Rattle.wire_base.specs.declared.cause.Cause.TheVariants as causes;
+ghost use Rattle.end_core.specs.Fits.{fits};
 ghost use Rattle.tunnel_core.specs.Cores.{tunnel_of, made_of, IsTurn, HasRoomFor};
 ghost use Rattle.end_core.specs.Ends.{tunnels_of, HaveRoom};
 ghost use Rattle.protocol_model.specs.Turn.{turn_of, turns, with_turn};
@@ -22,13 +21,13 @@ use id_table::Table;
 use l2tp_header::{Header, read_header};
 use message_reading::{at_zero, header_why, out_of_order};
 use protocol_model::{
-    Addressee, CallPlace, CellChanges, Config, Control, Event, FrameUp, Move, Out, Role,
+    Addressee, CallPlace, CellChanges, Config, Control, Event, FrameUp, Look, Move, Out, Role,
 };
 use std::alloc::Global;
 use std::marker::Model;
 use tunnel_core::{Env, Moves, Outputs, Planned, TunnelCore, same_state};
 use tunnel_fsm::TunnelState;
-use wire_base::{Bytes, Cause, Contents, NoMemory, Sequence, Why};
+use wire_base::{Bytes, Contents, NoMemory, Sequence, Why};
 
 /// The last tunnel id, the last session id, and the last number of a recovery.
 const LAST_TUNNEL: u32 = 65_535;
@@ -39,15 +38,6 @@ const LAST_RECOVERY: u32 = 4_294_967_295;
 
 /// How many live tunnels an end may have.
 const MOST_TUNNELS: usize = 1024;
-
-/// The cause of an opening or a ring that is refused where an end has as many.
-fn too_many_tunnels() -> Out
-    ensures { result ≡ outs.Cause causes.Tunnels }
-{
-    Out::Cause {
-        cause: Cause::Tunnels,
-    }
-}
 
 /// What a step gave.
 #[derive(Drop)]
@@ -127,6 +117,13 @@ impl End {
         self.role
     }
 
+    /// The address of the LNS to which a LAC opens its tunnels, an IPv4 address as a number.
+    pub fn lns(&self) -> u32
+        ensures { result ≡ self.now.config.lns }
+    {
+        self.config.lns
+    }
+
     /// The tunnel with a local id.
     #[tactic(auto, using(crate::proofs::Tunnels::at_tunnels))]
     pub fn tunnel(&self, id: u32) -> Option<&TunnelCore>
@@ -169,16 +166,52 @@ impl End {
         }
     }
 
+    /// Why an event doesn't fit, where it names a call that isn't live, or a tunnel that isn't, or is closed.
+    #[tactic(auto, unfolding(crate::specs::Fits::fits))]
+    pub fn fits(&self, event: &Event) -> Option<Why>
+        ensures { result ≡ fits self.now event.now }
+    {
+        match event {
+            Event::Payload { session, .. }
+            | Event::Lower { session, .. }
+            | Event::Hang { session }
+            | Event::DropCall { session } => {
+                if self.has_call(*session) {
+                    None
+                } else {
+                    Some(Why::Call)
+                }
+            }
+            Event::CloseTunnel { tunnel } => {
+                if self.has_tunnel(*tunnel) {
+                    None
+                } else {
+                    Some(Why::Tunnel)
+                }
+            }
+            Event::Datagram { .. } | Event::Ring { .. } | Event::OpenTunnel | Event::Tick => None,
+        }
+    }
+
+    /// What the data plane sees of a session: nothing, where no call is live under its id.
+    pub fn look(&self, session: u16) -> Look
+        ensures { result ≡ look_in (at self.now.calls session) }
+    {
+        look_at(&self.calls, session)
+    }
+
     /// The step gives one output and changes nothing.
     #[tactic(auto, unfolding(protocol_model::specs::End::gives_only))]
     fn only(&mut self, out: Out) -> Result<Given, NoMemory>
-        ensures { GivesStep result (gives_only self.old out) self.old self.new }
+        ensures given { GivesStep result (gives_only self.old out) self.old self.new }
+        ensures role { self.new.role ≡ self.old.role }
     {
         give_only(self.alloc, out)
     }
 
-    fn drop_with(&mut self, why: Why) -> Result<Given, NoMemory>
-        ensures { GivesStep result (gives_only self.old (Out.Drop why)) self.old self.new }
+    pub fn drop_with(&mut self, why: Why) -> Result<Given, NoMemory>
+        ensures given { GivesStep result (gives_only self.old (Out.Drop why)) self.old self.new }
+        ensures role { self.new.role ≡ self.old.role }
     {
         self.only(Out::Drop { why })
     }
@@ -261,14 +294,15 @@ fn put_after(tunnels: &mut Table<TunnelCore>, id: u32, core: TunnelCore, planned
 impl End {
     /// Makes a step of the tunnel with this id, if there is one.
     #[tactic(auto, using(crate::proofs::Tunnels::at_tunnels, id_table::specs::Tables::entry_has_room), unfolding(protocol_model::specs::End::in_main, protocol_model::specs::End::after_turn, protocol_model::specs::Turn::with_turn))]
-    fn run_main(
+    pub fn run_main(
         &mut self,
         moment: u64,
         block: [u8; 16],
         event: &Event,
         id: u32,
     ) -> Result<Given, NoMemory>
-        ensures { GivesStep result (in_main self.old (env_of self.old moment block) event.now id (at self.old.tunnels id)) self.old self.new }
+        ensures given { GivesStep result (in_main self.old (env_of self.old moment block) event.now id (at self.old.tunnels id)) self.old self.new }
+        ensures role { self.new.role ≡ self.old.role }
     {
         if !self.tunnels.contains(id) {
             return self.drop_with(Why::Tunnel);
@@ -315,7 +349,8 @@ impl End {
         event: &Event,
         peer: u32,
     ) -> Result<Given, NoMemory>
-        ensures { GivesStep result (in_new self.old (env_of self.old moment block) event.now peer) self.old self.new }
+        ensures given { GivesStep result (in_new self.old (env_of self.old moment block) event.now peer) self.old self.new }
+        ensures role { self.new.role ≡ self.old.role }
     {
         let mut env = self.env(moment, block);
         let mut core = TunnelCore::idle(self.alloc, peer, moment);
@@ -348,7 +383,7 @@ impl End {
 
     /// Makes the first step of a tunnel that is new, where the end may have one more; else it gives the refusal alone.
     #[tactic(auto, unfolding(protocol_model::specs::End::in_one_more))]
-    fn run_one_more(
+    pub fn run_one_more(
         &mut self,
         moment: u64,
         block: [u8; 16],
@@ -356,7 +391,8 @@ impl End {
         peer: u32,
         refusal: Out,
     ) -> Result<Given, NoMemory>
-        ensures { GivesStep result (in_one_more self.old (env_of self.old moment block) event.now peer refusal) self.old self.new }
+        ensures given { GivesStep result (in_one_more self.old (env_of self.old moment block) event.now peer refusal) self.old self.new }
+        ensures role { self.new.role ≡ self.old.role }
     {
         if self.has_all_tunnels() {
             return self.only(refusal);
@@ -461,7 +497,8 @@ impl End {
         body: &[u8],
         to: Addressee,
     ) -> Result<Given, NoMemory>
-        ensures { GivesStep result (for_addressee self.old (env_of self.old moment block) event.now peer header.now body.now to) self.old self.new }
+        ensures given { GivesStep result (for_addressee self.old (env_of self.old moment block) event.now peer header.now body.now to) self.old self.new }
+        ensures role { self.new.role ≡ self.old.role }
     {
         let nr = next_of_peer(header);
         match to {
@@ -478,7 +515,7 @@ impl End {
 
     /// The least tunnel to a peer that is in a state.
     #[tactic(auto, using(crate::proofs::Tunnels::at_tunnels), unfolding(protocol_model::specs::End::least_in))]
-    fn least_in(&self, state: TunnelState, peer: u32) -> Result<Option<u32>, NoMemory>
+    pub fn least_in(&self, state: TunnelState, peer: u32) -> Result<Option<u32>, NoMemory>
         ensures { IfOk result (λ found. found ≡ least_in state peer self.now.tunnels) }
     {
         let ids = self.tunnel_ids(self.alloc)?;
@@ -499,32 +536,17 @@ impl End {
         None
     }
 
-    /// A port rings: over the least tunnel to the LNS that is open, else over the least that is to open, else over a new
-    /// one.
-    #[tactic(auto, unfolding(protocol_model::specs::End::rings_at, protocol_model::specs::End::rings_in))]
-    fn ring(&mut self, moment: u64, block: [u8; 16], event: &Event) -> Result<Given, NoMemory>
-        ensures { GivesStep result (rings_at self.old (env_of self.old moment block) event.now) self.old self.new }
-    {
-        let lns = self.config.lns;
-        if let Some(id) = self.least_in(TunnelState::Established, lns)? {
-            return self.run_main(moment, block, event, id);
-        }
-        if let Some(id) = self.least_in(TunnelState::WaitCtlReply, lns)? {
-            return self.run_main(moment, block, event, id);
-        }
-        self.run_one_more(moment, block, event, lns, too_many_tunnels())
-    }
-
     /// An event of a call goes to the call's tunnel.
     #[tactic(auto, unfolding(protocol_model::specs::End::for_call))]
-    fn run_for_call(
+    pub fn run_for_call(
         &mut self,
         moment: u64,
         block: [u8; 16],
         event: &Event,
         session: u16,
     ) -> Result<Given, NoMemory>
-        ensures { GivesStep result (for_call self.old (env_of self.old moment block) event.now (at self.old.calls session)) self.old self.new }
+        ensures given { GivesStep result (for_call self.old (env_of self.old moment block) event.now (at self.old.calls session)) self.old self.new }
+        ensures role { self.new.role ≡ self.old.role }
     {
         match self.calls.get(u32::from(session)) {
             None => self.drop_with(Why::Call),
@@ -538,7 +560,8 @@ impl End {
     /// A data message: its frame is handed up, or dropped, by what is seen of its session.
     #[tactic(auto, unfolding(protocol_model::specs::End::hands_up, protocol_model::specs::End::handed))]
     fn hand_up(&mut self, peer: u32, header: &Header, body: &[u8]) -> Result<Given, NoMemory>
-        ensures { GivesStep result (hands_up self.old peer header.now body.now) self.old self.new }
+        ensures given { GivesStep result (hands_up self.old peer header.now body.now) self.old self.new }
+        ensures role { self.new.role ≡ self.old.role }
     {
         let session = header.session;
         let frame = frame_of(body);
@@ -567,7 +590,7 @@ impl End {
 
     /// A datagram from a peer.
     #[tactic(auto, unfolding(protocol_model::specs::End::receives))]
-    fn receive(
+    pub fn receive(
         &mut self,
         moment: u64,
         block: [u8; 16],
@@ -576,7 +599,8 @@ impl End {
         bytes: &[u8],
     ) -> Result<Given, NoMemory>
         requires { event.now ≡ Event.Datagram peer bytes.now }
-        ensures { GivesStep result (receives self.old (env_of self.old moment block) peer bytes.now (header_of bytes.now)) self.old self.new }
+        ensures given { GivesStep result (receives self.old (env_of self.old moment block) peer bytes.now (header_of bytes.now)) self.old self.new }
+        ensures role { self.new.role ≡ self.old.role }
     {
         match read_header(bytes) {
             Err(error) => self.drop_with(header_why(error)),
@@ -588,34 +612,6 @@ impl End {
                 let to = self.addressed(peer, &header, body)?;
                 self.run_addressed(moment, block, event, peer, &header, body, to)
             }
-        }
-    }
-
-    /// A step of the end on an event, at a moment in milliseconds, with a block of random bytes. Where memory is wanting,
-    /// the end is as before.
-    #[tactic(auto, unfolding(protocol_model::specs::End::step, protocol_model::specs::End::step_in, protocol_model::specs::End::only_by))]
-    pub fn step(&mut self, moment: u64, block: [u8; 16], event: &Event) -> Result<Given, NoMemory>
-        ensures { GivesStep result (step self.old moment block event.now) self.old self.new }
-    {
-        match (self.role, event) {
-            (_, Event::Datagram { peer, bytes }) => {
-                self.receive(moment, block, event, *peer, bytes.as_slice())
-            }
-            (_, Event::Tick) => self.tick_all(moment, block),
-            (_, Event::CloseTunnel { tunnel }) => {
-                self.run_main(moment, block, event, u32::from(*tunnel))
-            }
-            (Role::Lac, Event::Ring { .. }) => self.ring(moment, block, event),
-            (Role::Lac, Event::Payload { session, .. } | Event::Hang { session })
-            | (Role::Lns, Event::Lower { session, .. })
-            | (_, Event::DropCall { session }) => {
-                self.run_for_call(moment, block, event, *session)
-            }
-            (Role::Lac, Event::OpenTunnel) => {
-                let lns = self.config.lns;
-                self.run_one_more(moment, block, event, lns, too_many_tunnels())
-            }
-            _ => self.drop_with(Why::Node),
         }
     }
 }

@@ -7,6 +7,8 @@
 mod declining;
 mod end;
 mod places;
+mod rows;
 mod ticks;
 
 pub use end::{End, Given};
+pub use rows::{CallRow, CallTable, EndRows, Mode, TunnelRow};

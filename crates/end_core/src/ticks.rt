@@ -94,8 +94,9 @@ fn make_all(tunnels: &mut Table<TunnelCore>, alloc: Global, plans: Plans)
 
 impl End {
     /// Time passes: each tunnel takes its turn. Where memory is wanting, the end is as before.
-    pub(crate) fn tick_all(&mut self, moment: u64, block: [u8; 16]) -> Result<Given, NoMemory>
-        ensures { GivesStep result (ticks_all self.old (env_of self.old moment block)) self.old self.new }
+    pub fn tick_all(&mut self, moment: u64, block: [u8; 16]) -> Result<Given, NoMemory>
+        ensures given { GivesStep result (ticks_all self.old (env_of self.old moment block)) self.old self.new }
+        ensures role { self.new.role ≡ self.old.role }
     {
         let mut env = self.env(moment, block);
         let plans = plan_all(

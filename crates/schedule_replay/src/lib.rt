@@ -3,6 +3,7 @@
 
 mod age;
 mod fault;
+mod kinds;
 mod node;
 mod replaying;
 mod state;

@@ -6,7 +6,7 @@ ghost use Rattle.protocol_model.specs.Calls.{is_lac};
 ghost use Rattle.protocol_model.specs.End.{new_end};
 ghost use Rattle.protocol_model.specs.World.{config_of, count_at, later};
 
-use end_core::End;
+use crate::kinds::NodeEnd;
 use id_table::Table;
 use protocol_model::{Config, Role, address_of};
 use std::alloc::Global;
@@ -16,7 +16,7 @@ use wire_base::NoMemory;
 /// An end, with its clock, in milliseconds, and the births of its calls by local session id.
 #[derive(Drop)]
 pub(crate) struct Node {
-    pub(crate) end: End,
+    pub(crate) end: NodeEnd,
     pub(crate) clock: u64,
     pub(crate) births: Table<u64>,
 }
@@ -54,7 +54,7 @@ impl Node {
         ensures { result ≡ record { end = new_end role config; clock = 0; births = [] } }
     {
         Node {
-            end: End::new(alloc, role, config),
+            end: NodeEnd::new(alloc, role, config),
             clock: 0,
             births: Table::new(alloc),
         }
@@ -68,7 +68,7 @@ impl Node {
     pub(crate) fn is_lac(&self) -> bool
         ensures { result ≡ is_lac self.now.end.role }
     {
-        self.end.role() == Role::Lac
+        self.end.end().role() == Role::Lac
     }
 
     /// The node's clock goes on by so many milliseconds.

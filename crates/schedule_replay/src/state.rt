@@ -6,6 +6,7 @@ ghost use Rattle.protocol_model.specs.Texts.{send_text, entry_text, entries_text
 ghost use Rattle.protocol_model.specs.World.{sent, birth_of, with_birth, is_born, moved, moved_all, shown, shown_all, entry_of, entries_of, declared, lac_at, lns_at, with_call, with_tunnel, later, added, block_of, stepped, arrival, refused_by, delivers, line as line_of};
 ghost use Rattle.protocol_model.specs.Run.{tables};
 ghost use Rattle.schedule_replay.specs.Fault.{new_told, Leads, Says};
+ghost use Rattle.schedule_replay.specs.Kinds.{of_role, fitting};
 
 use crate::age::too_old;
 use crate::fault::LineFault;
@@ -225,35 +226,15 @@ impl State {
         Ok(())
     }
 
-    /// An event of a LAC, in a line.
+    /// An event of a node, in a line.
     #[tactic(auto, unfolding(protocol_model::specs::World::stepped))]
-    fn step_lac(&mut self, line: u64, node: u8, event: &Event) -> Result<(), LineFault>
-        ensures { Says result (stepped self.old.world line node event.now None (lac_at (at self.old.world.nodes node))) self.old self.new }
-    {
-        match self.nodes.get(u32::from(node)) {
-            Some(at) if at.is_lac() => {
-                self.step(line, node, event)?;
-                Ok(())
-            }
-            _ => Err(LineFault::unfit(Why::Node)),
-        }
-    }
-
-    /// An event of a node's call, in a line.
-    #[tactic(auto, unfolding(protocol_model::specs::World::stepped, protocol_model::specs::World::with_call))]
-    fn step_call(
-        &mut self,
-        line: u64,
-        node: u8,
-        session: u16,
-        event: &Event,
-    ) -> Result<(), LineFault>
-        ensures { Says result (stepped self.old.world line node event.now None (with_call session (declared (at self.old.world.nodes node)))) self.old self.new }
+    fn step_fitting(&mut self, line: u64, node: u8, event: &Event) -> Result<(), LineFault>
+        ensures { Says result (stepped self.old.world line node event.now None (fitting event.now (declared (at self.old.world.nodes node)))) self.old self.new }
     {
         match self.nodes.get(u32::from(node)) {
             Some(at) => {
-                if !at.end.has_call(session) {
-                    return Err(LineFault::unfit(Why::Call));
+                if let Some(why) = at.end.fits(event) {
+                    return Err(LineFault::unfit(why));
                 }
                 self.step(line, node, event)?;
                 Ok(())
@@ -262,50 +243,34 @@ impl State {
         }
     }
 
-    /// A node's tunnel is closed for administrative reasons, in a line.
+    /// An event of a node of this kind, in a line.
     #[tactic(auto, unfolding(protocol_model::specs::World::stepped))]
-    fn close(&mut self, line: u64, node: u8, tunnel: u16) -> Result<(), LineFault>
-        ensures { Says result (stepped self.old.world line node (Event.CloseTunnel tunnel) None (with_tunnel tunnel (declared (at self.old.world.nodes node)))) self.old self.new }
-    {
-        match self.nodes.get(u32::from(node)) {
-            Some(at) => {
-                if !at.end.has_tunnel(tunnel) {
-                    return Err(LineFault::unfit(Why::Tunnel));
-                }
-                self.step(line, node, &Event::CloseTunnel { tunnel })?;
-                Ok(())
-            }
-            None => Err(LineFault::unfit(Why::Node)),
-        }
-    }
-
-    /// An event of a LAC's call, in a line.
-    #[tactic(auto, unfolding(protocol_model::specs::World::stepped))]
-    fn step_lac_call(
+    fn step_of(
         &mut self,
         line: u64,
         node: u8,
-        session: u16,
+        role: Role,
         event: &Event,
     ) -> Result<(), LineFault>
-        ensures { Says result (stepped self.old.world line node event.now None (with_call session (lac_at (at self.old.world.nodes node)))) self.old self.new }
+        ensures { Says result (stepped self.old.world line node event.now None (fitting event.now (of_role role (at self.old.world.nodes node)))) self.old self.new }
     {
         match self.nodes.get(u32::from(node)) {
-            Some(at) if at.is_lac() => self.step_call(line, node, session, event),
+            Some(at) if at.end.end().role() == role => self.step_fitting(line, node, event),
             _ => Err(LineFault::unfit(Why::Node)),
         }
     }
 
     /// The subscriber of a LAC's call sends a frame, in a line.
+    #[tactic(auto, using(crate::specs::Kinds::payload_fits))]
     fn send_up(&mut self, line: u64, node: u8, session: u16, frame: &Bytes) -> Result<(), LineFault>
         ensures { Says result (stepped self.old.world line node (Event.Payload session frame.now) None (with_call session (lac_at (at self.old.world.nodes node)))) self.old self.new }
     {
         let frame = Bytes::from_slice(self.alloc, frame.as_slice())?;
-        self.step_lac_call(line, node, session, &Event::Payload { session, frame })
+        self.step_of(line, node, Role::Lac, &Event::Payload { session, frame })
     }
 
     /// The network sends a frame down an LNS's call, in a line.
-    #[tactic(auto, unfolding(protocol_model::specs::World::stepped))]
+    #[tactic(auto, using(crate::specs::Kinds::lower_fits))]
     fn send_down(
         &mut self,
         line: u64,
@@ -315,13 +280,8 @@ impl State {
     ) -> Result<(), LineFault>
         ensures { Says result (stepped self.old.world line node (Event.Lower session frame.now) None (with_call session (lns_at (at self.old.world.nodes node)))) self.old self.new }
     {
-        match self.nodes.get(u32::from(node)) {
-            Some(at) if !at.is_lac() => {
-                let frame = Bytes::from_slice(self.alloc, frame.as_slice())?;
-                self.step_call(line, node, session, &Event::Lower { session, frame })
-            }
-            _ => Err(LineFault::unfit(Why::Node)),
-        }
+        let frame = Bytes::from_slice(self.alloc, frame.as_slice())?;
+        self.step_of(line, node, Role::Lns, &Event::Lower { session, frame })
     }
 
     /// A packet by its place, counted from 0, and the node that it is for, or why it can't be delivered.
@@ -375,7 +335,7 @@ impl State {
     }
 
     /// A line with its number, counted from 1.
-    #[tactic(auto, unfolding(protocol_model::specs::World::line))]
+    #[tactic(auto, using(crate::specs::Kinds::open_fits, crate::specs::Kinds::ring_fits, crate::specs::Kinds::hang_fits, crate::specs::Kinds::drop_fits, crate::specs::Kinds::close_fits), unfolding(protocol_model::specs::World::line))]
     pub(crate) fn line(&mut self, number: u64, line: &Line) -> Result<(), LineFault>
         ensures { Says result (line_of self.old.world number line.now) self.old self.new }
     {
@@ -383,9 +343,15 @@ impl State {
             Line::Remark { .. } => Ok(()),
             Line::Lac { node, lns } => self.add(*node, Role::Lac, address_of(*lns)),
             Line::Lns { node } => self.add(*node, Role::Lns, 0),
-            Line::OpenUp { node } => self.step_lac(number, *node, &Event::OpenTunnel),
-            Line::Close { node, tunnel } => self.close(number, *node, *tunnel),
-            Line::Ring { node, port } => self.step_lac(number, *node, &Event::Ring { port: *port }),
+            Line::OpenUp { node } => self.step_of(number, *node, Role::Lac, &Event::OpenTunnel),
+            Line::Close { node, tunnel } => {
+                let tunnel = *tunnel;
+                self.step_fitting(number, *node, &Event::CloseTunnel { tunnel })
+            }
+            Line::Ring { node, port } => {
+                let port = *port;
+                self.step_of(number, *node, Role::Lac, &Event::Ring { port })
+            }
             Line::FromSub {
                 node,
                 session,
@@ -399,11 +365,11 @@ impl State {
             Line::Deliver { packet } => self.deliver(number, packet.saturating_sub(1) as usize),
             Line::Hang { node, session } => {
                 let session = *session;
-                self.step_lac_call(number, *node, session, &Event::Hang { session })
+                self.step_of(number, *node, Role::Lac, &Event::Hang { session })
             }
             Line::DropCall { node, session } => {
                 let session = *session;
-                self.step_call(number, *node, session, &Event::DropCall { session })
+                self.step_fitting(number, *node, &Event::DropCall { session })
             }
             Line::Tick { node, milliseconds } => self.tick(number, *node, *milliseconds),
         }
@@ -428,6 +394,7 @@ fn refused_by(packet: &Packet, node: &Node) -> Result<Option<Refusal>, NoMemory>
         Origin::Control(origin) => {
             let reached = node
                 .end
+                .end()
                 .reached(address_of(packet.from), packet.bytes.as_slice())?;
             Ok(too_old(origin, reached))
         }

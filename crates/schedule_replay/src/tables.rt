@@ -59,9 +59,9 @@ fn push_tunnel_line(
 fn push_node_table(alloc: Global, out: &mut Bytes, number: u32, node: &Node) -> Result<(), NoMemory>
     ensures { OnOk result (out.new ≡ out.old ++ node_table number (Some node.now)) }
 {
-    let ids = node.end.tunnel_ids(alloc)?;
+    let ids = node.end.end().tunnel_ids(alloc)?;
     for id in ids.as_slice() {
-        if let Some(tunnel) = node.end.tunnel(*id) {
+        if let Some(tunnel) = node.end.end().tunnel(*id) {
             push_tunnel_line(alloc, out, number, &node.births, *id, tunnel)?;
         }
     }
@@ -95,7 +95,7 @@ fn partner<'a>(nodes: &'a Table<Node>, tunnel: &Control) -> Option<&'a TunnelCor
     if node.is_lac() {
         return None;
     }
-    node.end.tunnel(u32::from(tunnel.remote))
+    node.end.end().tunnel(u32::from(tunnel.remote))
 }
 
 /// Whether two tunnels have learned each other, are established, and each took all that the other was given to send.
@@ -171,9 +171,9 @@ fn push_node_agreements(
     if !node.is_lac() {
         return Ok(());
     }
-    let ids = node.end.tunnel_ids(alloc)?;
+    let ids = node.end.end().tunnel_ids(alloc)?;
     for id in ids.as_slice() {
-        if let Some(tunnel) = node.end.tunnel(*id) {
+        if let Some(tunnel) = node.end.end().tunnel(*id) {
             push_agree_line(alloc, out, nodes, number, tunnel)?;
         }
     }

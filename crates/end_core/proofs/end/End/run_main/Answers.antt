@@ -10,13 +10,13 @@ use Rattle.end_core.proofs.Tunnels.{at_tunnels, put_back, after_out}
 use Rattle.end_core.proofs.Steps.{main_is}
 use Rattle.end_core.proofs.end.End.run_main.Goals as goal
 
-pub returns-in-Err : goal.returns-in-Err
-returns-in-Err c =
+pub returns-in-Err-clause-given : goal.returns-in-Err-clause-given
+returns-in-Err-clause-given c =
     let tunnels = put_back _ _ _ _ _ _ _ c.swap-core.ensures.after c.replace.ensures.entries c.in-Err.ensures.same c.swap-core.ensures.back in
     rw (tunnels, c.in-Err.ensures.places) c.self.view_is
 
-pub returns-in-Ok : goal.returns-in-Ok
-returns-in-Ok c =
+pub returns-in-Ok-clause-given : goal.returns-in-Ok-clause-given
+returns-in-Ok-clause-given c =
     let v = view_of c.self.inside in
     let start = c.env-env.result in
     let empty : (start.outputs ≡ []) × (start.changes ≡ []) × (start.moves ≡ []) = (ap (λ (x : Env). x.outputs) c.env-env.ensures, ap (λ (x : Env). x.changes) c.env-env.ensures, ap (λ (x : Env). x.moves) c.env-env.ensures) in

@@ -9,8 +9,8 @@ use Rattle.tunnel_core.specs.contracts.env.Env.{the_view as env_view_of}
 use Rattle.end_core.proofs.Steps.{new_is, not_made, turned}
 use Rattle.end_core.proofs.end.End.run_new.Goals as goal
 
-pub returns-then-local-eq0 : goal.returns-then-local-eq0
-returns-then-local-eq0 c =
+pub returns-then-local-eq0-clause-given : goal.returns-then-local-eq0-clause-given
+returns-then-local-eq0-clause-given c =
     let v = view_of c.self.inside in
     let start = c.env-env.result in
     let none : (start.outputs ≡ []) × (start.moves ≡ []) = (ap (λ (x : Env). x.outputs) c.env-env.ensures, ap (λ (x : Env). x.moves) c.env-env.ensures) in
@@ -24,8 +24,8 @@ returns-then-local-eq0 c =
     let three = subst (λ (x : End). in_new x (env_of c.args.self.now c.args.moment c.args.block) c.args.event.now c.args.peer ≡ s) c.self.view_is two in
     three ∙ rw c.in_ok-planned.ensures.places refl
 
-pub returns : goal.returns
-returns c =
+pub returns-clause-given : goal.returns-clause-given
+returns-clause-given c =
     let v = view_of c.self.inside in
     let start = c.env-env.result in
     let core = c.idle-core.result in

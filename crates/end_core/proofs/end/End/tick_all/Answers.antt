@@ -8,8 +8,8 @@ use Rattle.tunnel_core.specs.contracts.env.Env.{the_view as env_view_of}
 use Rattle.end_core.proofs.Plans.{all_is}
 use Rattle.end_core.proofs.end.End.tick_all.Goals as goal
 
-pub returns : goal.returns
-returns c =
+pub returns-clause-given : goal.returns-clause-given
+returns-clause-given c =
     let v = view_of c.self.inside in
     let es = c.self.inside.tunnels.entries in
     let begin : c.env-env.result ≡ env_of v c.args.moment c.args.block = c.env-env.ensures ∙ ap (λ (x : End). env_of x c.args.moment c.args.block) (sym c.self.view_is) in

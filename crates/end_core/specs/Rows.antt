@@ -1,0 +1,36 @@
+-- The tables of an end, for printing.
+use Rattle.std.specs.Prelude.{ℕ, ◌%◌, List, [], ◌∷◌, true, Option, Some, None}
+use Rattle.std.specs.List.{flat_map}
+use Rattle.id_table.specs.Ids.{at, ids_of}
+use Rattle.protocol_model.specs.declared.tunnel.Call.{Call}
+use Rattle.protocol_model.specs.Turn.{Tunnel}
+use Rattle.protocol_model.specs.End.{End}
+use Rattle.end_core.specs.declared.rows.Mode.TheVariants.{Current}
+use Rattle.end_core.specs.declared.rows.CallRow.{CallRow}
+use Rattle.end_core.specs.declared.rows.TunnelRow.{TunnelRow}
+
+-- a session id has 16 bits
+abbrev pub calls_at : ℕ → Option Call → List CallRow
+calls_at s None = []
+calls_at s (Some c) = record { local = s % 65536; remote = c.remote; state = c.state } ∷ []
+
+-- the calls of a tunnel, by local session id
+unfoldable pub call_rows : List (ℕ × Call) → List CallRow
+call_rows calls = flat_map (λ s. calls_at s (at calls s)) (ids_of calls)
+
+-- As long as nothing is kept over a start, a tunnel is current and complete.
+abbrev pub rows_at : Option Tunnel → List TunnelRow
+rows_at None = []
+rows_at (Some t) = record {
+  local = t.control.local;
+  peer = t.control.peer;
+  remote = t.control.remote;
+  state = t.control.state;
+  mode = Current;
+  complete = true;
+  calls = call_rows t.calls;
+} ∷ []
+
+-- the tunnels with their calls, by local tunnel id
+unfoldable pub tunnel_rows : End → List TunnelRow
+tunnel_rows e = flat_map (λ i. rows_at (at e.tunnels i)) (ids_of e.tunnels)

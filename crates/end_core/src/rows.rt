@@ -1,0 +1,107 @@
+//! The tables of an end, for printing: its tunnels with their calls, by local ids.
+
+ghost use Rattle.std.specs.Prelude.{◌≡◌, ◌++◌, ◌∷◌, [], IfOk, OnOk, Some};
+ghost use Rattle.id_table.specs.Ids.{at};
+ghost use Rattle.tunnel_core.specs.Cores.{tunnel_of};
+ghost use Rattle.end_core.specs.Rows.{rows_at, tunnel_rows, call_rows, calls_at};
+
+use crate::end::End;
+use call_fsm::CallState;
+use id_table::Table;
+use protocol_model::Call;
+use std::alloc::Global;
+use tunnel_core::TunnelCore;
+use tunnel_fsm::TunnelState;
+use wire_base::{NoMemory, Sequence};
+
+/// Whether a tunnel works, answers a recovery, or was kept over a start and isn't recovered yet (RFC 4951). As long as nothing is
+/// kept over a start, each tunnel is current.
+#[derive(Clone, Copy, Debug, PartialEq, Eq)]
+pub enum Mode {
+    Current,
+    Frozen,
+    Restored,
+}
+
+/// A call of a tunnel.
+#[derive(Clone, Copy, Debug, PartialEq, Eq)]
+pub struct CallRow {
+    /// Its local session id.
+    pub local: u16,
+    /// The session id that the peer assigned to it, 0 as long as none is known.
+    pub remote: u16,
+    pub state: CallState,
+}
+
+/// The calls of a tunnel, by local session id.
+pub type CallTable = Sequence<CallRow>;
+
+/// A tunnel of an end.
+#[derive(Debug, Drop)]
+pub struct TunnelRow {
+    /// Its local tunnel id.
+    pub local: u16,
+    /// The address of its peer, an IPv4 address as a number.
+    pub peer: u32,
+    /// The tunnel id that the peer assigned to it, 0 as long as none is known.
+    pub remote: u16,
+    pub state: TunnelState,
+    pub mode: Mode,
+    /// Whether the ends have told each other which calls they kept; that is so of each tunnel that wasn't recovered.
+    pub complete: bool,
+    pub calls: CallTable,
+}
+
+/// The tunnels of an end, by local tunnel id.
+pub type EndRows = Sequence<TunnelRow>;
+
+/// The calls of a tunnel, by local session id.
+#[tactic(auto, unfolding(crate::specs::Rows::call_rows))]
+fn call_rows(alloc: Global, calls: &Table<Call>) -> Result<CallTable, NoMemory>
+    ensures { IfOk result (λ rows. rows ≡ call_rows calls.now.entries) }
+{
+    let sessions = calls.ids(alloc)?;
+    let mut rows = CallTable::new(alloc);
+    for session in sessions.as_slice() {
+        if let Some(call) = calls.get(*session) {
+            rows.push(CallRow {
+                local: (*session % 65_536) as u16,
+                remote: call.remote,
+                state: call.state,
+            })?;
+        }
+    }
+    Ok(rows)
+}
+
+fn tunnel_row(alloc: Global, core: &TunnelCore) -> Result<TunnelRow, NoMemory>
+    ensures { IfOk result (λ row. row ∷ [] ≡ rows_at (Some (tunnel_of core.now))) }
+{
+    let control = core.control();
+    Ok(TunnelRow {
+        local: control.local,
+        peer: control.peer,
+        remote: control.remote,
+        state: control.state,
+        mode: Mode::Current,
+        complete: true,
+        calls: call_rows(alloc, core.calls())?,
+    })
+}
+
+impl End {
+    /// The tunnels with their calls, by local ids.
+    #[tactic(auto, unfolding(crate::specs::Rows::tunnel_rows))]
+    pub fn tunnel_rows(&self, alloc: Global) -> Result<EndRows, NoMemory>
+        ensures { IfOk result (λ rows. rows ≡ tunnel_rows self.now) }
+    {
+        let ids = self.tunnel_ids(alloc)?;
+        let mut rows = EndRows::new(alloc);
+        for id in ids.as_slice() {
+            if let Some(core) = self.tunnel(*id) {
+                rows.push(tunnel_row(alloc, core)?)?;
+            }
+        }
+        Ok(rows)
+    }
+}

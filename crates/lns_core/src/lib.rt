@@ -1,0 +1,98 @@
+//! An LNS: an end to which LACs open tunnels, and down whose calls a network sends frames (RFC 2661 sections 5 and 6).
+#![tactic(auto)]
+
+ghost use Rattle.std.specs.Prelude.{◌≡◌, IfOk};
+ghost use Rattle.id_table.specs.Ids.{at};
+ghost use Rattle.protocol_model.specs.declared.tunnel.Role.TheVariants as roles;
+ghost use Rattle.protocol_model.specs.End.{new_end, step, look_in};
+ghost use Rattle.end_core.specs.Fits.{fits};
+ghost use Rattle.end_core.specs.Gives.{GivesStep};
+ghost use Rattle.end_core.specs.Rows.{tunnel_rows};
+
+use end_core::{End, EndRows, Given};
+use protocol_model::{Config, Event, Look, Role};
+use std::alloc::Global;
+use std::marker::Model;
+use wire_base::{NoMemory, Why};
+
+/// An LNS.
+#[derive(Drop)]
+pub struct Lns {
+    end: End,
+}
+
+impl Model for Lns {
+    ghost use Rattle.std.specs.Prelude.{◌≡◌};
+    ghost use Rattle.protocol_model.specs.End.{End as Known};
+    ghost use Rattle.protocol_model.specs.declared.tunnel.Role.TheVariants as roles;
+
+    ghost Value = { Known };
+
+    ghost view = { λ l. l.end };
+
+    ghost invariant = { λ l. l.end.role ≡ roles.Lns };
+}
+
+impl Lns {
+    /// An LNS without a tunnel. It takes no memory.
+    pub fn new(alloc: Global, config: Config) -> Lns
+        ensures { result ≡ new_end roles.Lns config }
+    {
+        Lns {
+            end: End::new(alloc, Role::Lns, config),
+        }
+    }
+
+    /// The LNS as an end, with its tunnels.
+    pub fn end(&self) -> &End
+        ensures { result.now ≡ self.now }
+    {
+        &self.end
+    }
+
+    /// Why an event doesn't fit, where it names a call that isn't live, or a tunnel that isn't, or is closed.
+    pub fn fits(&self, event: &Event) -> Option<Why>
+        ensures { result ≡ fits self.now event.now }
+    {
+        self.end.fits(event)
+    }
+
+    /// What the data plane sees of a session: nothing, where no call is live under its id.
+    pub fn look(&self, session: u16) -> Look
+        ensures { result ≡ look_in (at self.now.calls session) }
+    {
+        self.end.look(session)
+    }
+
+    /// The tunnels with their calls, by local ids, for printing.
+    pub fn tunnel_rows(&self, alloc: Global) -> Result<EndRows, NoMemory>
+        ensures { IfOk result (λ rows. rows ≡ tunnel_rows self.now) }
+    {
+        self.end.tunnel_rows(alloc)
+    }
+
+    /// A step of the LNS on an event, at a moment in milliseconds, with a block of random bytes. An event of a LAC is dropped
+    /// with `node`, and one of a call or a tunnel that isn't live with `call` or `tunnel`. Where memory is wanting, the LNS is
+    /// as before.
+    #[tactic(auto, unfolding(protocol_model::specs::End::step, protocol_model::specs::End::step_in, protocol_model::specs::End::only_by))]
+    pub fn step(&mut self, moment: u64, block: [u8; 16], event: &Event) -> Result<Given, NoMemory>
+        ensures { GivesStep result (step self.old moment block event.now) self.old self.new }
+    {
+        match event {
+            Event::Datagram { peer, bytes } => {
+                self.end
+                    .receive(moment, block, event, *peer, bytes.as_slice())
+            }
+            Event::Lower { session, .. } | Event::DropCall { session } => {
+                self.end.run_for_call(moment, block, event, *session)
+            }
+            Event::CloseTunnel { tunnel } => {
+                self.end.run_main(moment, block, event, u32::from(*tunnel))
+            }
+            Event::Tick => self.end.tick_all(moment, block),
+            Event::Ring { .. } | Event::Payload { .. } | Event::Hang { .. } | Event::OpenTunnel => {
+                self.end.drop_with(Why::Node)
+            }
+        }
+    }
+}
