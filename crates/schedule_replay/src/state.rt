@@ -245,13 +245,7 @@ impl State {
 
     /// An event of a node of this kind, in a line.
     #[tactic(auto, unfolding(protocol_model::specs::World::stepped))]
-    fn step_of(
-        &mut self,
-        line: u64,
-        node: u8,
-        role: Role,
-        event: &Event,
-    ) -> Result<(), LineFault>
+    fn step_of(&mut self, line: u64, node: u8, role: Role, event: &Event) -> Result<(), LineFault>
         ensures { Says result (stepped self.old.world line node event.now None (fitting event.now (of_role role (at self.old.world.nodes node)))) self.old self.new }
     {
         match self.nodes.get(u32::from(node)) {
