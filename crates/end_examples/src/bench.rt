@@ -1,20 +1,37 @@
 //! An end with a peer that is another program: the events that words tell, and the lines of what the end gives.
 
-use end_core::End;
-use protocol_model::{Config, Event, Out, Role, address_of, node_of};
+use end_core::{EndRows, Given};
+use lac_core::Lac;
+use lns_core::Lns;
+use protocol_model::{Config, Event, Look, Out, address_of, node_of};
 use std::alloc::Global;
 use std::test::Fail;
-use wire_base::{Bytes, NoMemory};
+use wire_base::{Bytes, NoMemory, Why};
 
-fn new_end(alloc: Global, role: Role, number: u8, lns: u32) -> End {
-    let config = Config {
+fn config(number: u8, lns: u32) -> Config {
+    Config {
         number,
         address: address_of(number),
         lns,
         secret: None,
         hide: false,
-    };
-    End::new(alloc, role, config)
+    }
+}
+
+/// An end of either kind.
+#[derive(Drop)]
+enum Side {
+    Lac(Lac),
+    Lns(Lns),
+}
+
+impl Side {
+    fn step(&mut self, moment: u64, event: &Event) -> Result<Given, NoMemory> {
+        match self {
+            Side::Lac(lac) => lac.step(moment, [7; 16], event),
+            Side::Lns(lns) => lns.step(moment, [7; 16], event),
+        }
+    }
 }
 
 /// A number of decimal digits.
@@ -114,13 +131,8 @@ fn push_output(alloc: Global, text: &mut Bytes, output: &Out) -> Result<(), NoMe
 }
 
 /// The lines of what a step of an end gives, at a moment.
-pub(crate) fn given(
-    alloc: Global,
-    end: &mut End,
-    moment: u64,
-    event: &Event,
-) -> Result<Bytes, NoMemory> {
-    let given = end.step(moment, [7; 16], event)?;
+fn given(alloc: Global, end: &mut Side, moment: u64, event: &Event) -> Result<Bytes, NoMemory> {
+    let given = end.step(moment, event)?;
     let mut text = Bytes::new(alloc);
     for output in given.outputs.as_slice() {
         push_output(alloc, &mut text, output)?;
@@ -131,7 +143,7 @@ pub(crate) fn given(
 /// An end, where its messages come from, and the moment.
 #[derive(Drop)]
 pub(crate) struct Bench {
-    end: End,
+    end: Side,
     peer: u32,
     moment: u64,
 }
@@ -140,7 +152,7 @@ impl Bench {
     /// The LNS 7, to which the LAC 9 speaks.
     pub(crate) fn lns(alloc: Global) -> Bench {
         Bench {
-            end: new_end(alloc, Role::Lns, 7, 0),
+            end: Side::Lns(Lns::new(alloc, config(7, 0))),
             peer: address_of(9),
             moment: 1000,
         }
@@ -149,9 +161,34 @@ impl Bench {
     /// The LAC 9, to which the LNS 7 speaks.
     pub(crate) fn lac(alloc: Global) -> Bench {
         Bench {
-            end: new_end(alloc, Role::Lac, 9, address_of(7)),
+            end: Side::Lac(Lac::new(alloc, config(9, address_of(7)))),
             peer: address_of(7),
             moment: 1000,
+        }
+    }
+
+    /// Why the event of these words doesn't fit the end.
+    pub(crate) fn fits(&self, alloc: Global, words: &str) -> Result<Option<Why>, Fail> {
+        let event = event_of(alloc, self.peer, words)?;
+        Ok(match &self.end {
+            Side::Lac(lac) => lac.fits(&event),
+            Side::Lns(lns) => lns.fits(&event),
+        })
+    }
+
+    /// What the data plane sees of a session.
+    pub(crate) fn look(&self, session: u16) -> Look {
+        match &self.end {
+            Side::Lac(lac) => lac.look(session),
+            Side::Lns(lns) => lns.look(session),
+        }
+    }
+
+    /// The end's tables.
+    pub(crate) fn rows(&self, alloc: Global) -> Result<EndRows, NoMemory> {
+        match &self.end {
+            Side::Lac(lac) => lac.tunnel_rows(alloc),
+            Side::Lns(lns) => lns.tunnel_rows(alloc),
         }
     }
 
