@@ -1,5 +1,5 @@
 -- What an end's tick makes of it.
-use Rattle.std.proofs.Common.{◌≡◌, ℕ, zero, suc, ◌+◌, ◌<◌, Bool, true, false, cond, length, List, [], ◌∷◌, ◌++◌, take, get_or, Option, Some, None, refl, ap, sym, subst, ◌∙◌, arith}
+use Rattle.std.proofs.Common.{◌≡◌, ℕ, zero, suc, ◌+◌, ◌<◌, Bool, true, false, cond, length, List, [], ◌∷◌, ◌++◌, take, get_or, Option, Some, None, refl, ap, sym, subst, ◌∙◌, arith, true≢false}
 use Rattle.std.proofs.lemmas.Bool.{eq-eqb}
 use Rattle.std.proofs.lemmas.List.{append_assoc, append-nil, take_more}
 use Rattle.std.proofs.lemmas.Grind.{flat_map-append}
@@ -10,7 +10,7 @@ use Rattle.std.specs.declared.cmp.Ordering.TheVariants.{Less}
 use Rattle.std.specs.Ordering.{nat_cmp}
 use Rattle.std.specs.BTreeMap.{is_at}
 use Rattle.std.proofs.lemmas.Bool.Decides.{nat_tests}
-use Rattle.id_table.specs.Ids.{at, put, without, ids_of, is_at-same, put-put}
+use Rattle.id_table.specs.Ids.{at, ids_of, is_at-same}
 use Rattle.id_table.specs.Order.{at_other, at_without_other}
 use Rattle.id_table.specs.Tables.{Kept}
 use Rattle.protocol_model.specs.declared.tunnel.CallPlace.{CallPlace}
@@ -23,46 +23,30 @@ use Rattle.protocol_model.specs.declared.moves.Move.{Move}
 use Rattle.protocol_model.specs.Turn.{Tunnel, Env, Turn, turn_of, with_turn, turns, ticks}
 use Rattle.protocol_model.specs.End.{End, Stepped, env_of, placed, with_look, with_looks, tunnels_after, after_turn, Turned, tick_of, ticks_of, end_after_all, after_all, ticks_all}
 use Rattle.tunnel_core.specs.Cores.{Core, Plan, IsTurn, tunnel_of, made_of}
-use Rattle.end_core.specs.Ends.{tunnels_of}
-use Rattle.end_core.specs.Ticking.{with_tunnels, tick_at, ticks_at, ArePlanned, with_ticks, HasPlace, HavePlaces, after_plan, after_plans}
+use Rattle.tunnel_table.specs.Plans.{HasPlace, after_plan, IsPlanned, IsGiven}
+use Rattle.tunnel_table.specs.Tunnels.{tunnels_of, at_tunnels, ids_tunnels}
+use Rattle.end_core.specs.Ticking.{with_tunnels, tick_at, ticks_at, ArePlanned, with_ticks, HavePlaces, after_plans}
 use Rattle.end_core.proofs.Draws.{ticks_drawn}
-use Rattle.end_core.proofs.Tunnels.{at_tunnels, put_tunnels, without_tunnels, ids_tunnels}
 
 -- ---- one tunnel is planned
 
-module _ {X : Type 0} where
-  -- a value that was taken out and put back changed: the others are as they were
-  pub others_back : (es fs gs : List (ℕ × X)) (k : ℕ) (v w : X) → fs ≡ put es k v → gs ≡ put fs k w → (q : ℕ) → q ≢ k → at gs q ≡ at es q
-  others_back es fs gs k v w out back q apart = ap (λ x. at x q) back ∙ at_other fs k w q apart ∙ ap (λ x. at x q) out ∙ at_other es k v q apart
-
 -- what a turn gave, as a list of turns of which it is the only one
-pub one_given : (role : Role) (c : Config) (es : List (ℕ × Core)) (env : Env) (id : ℕ) (core : Core) → at es id ≡ Some core → with_turn (turns role c core.letters.letters core.calls.entries Tick (turn_of core.control env)) env ≡ with_ticks (tick_at role c es env id) env
+pub one_given : (role : Role) (c : Config) (es : List (ℕ × Core)) (env now : Env) (id : ℕ) (o : Option Tunnel) → IsSome o → IsGiven role c Tick env o now
+    → now ≡ with_ticks (tick_of (with_tunnels role c es) env id o) env
 unfolding with_turn with_ticks turns
-one_given role c es env id core there =
-    let is : at (tunnels_of es) id ≡ Some (tunnel_of core) = at_tunnels es id ∙ ap (λ o. option_map tunnel_of o) there in
-    let t = ticks role core.letters.letters core.calls.entries (turn_of core.control env) in
-    let d = ticks_drawn role core.letters.letters core.calls.entries (turn_of core.control env) in
+one_given role c es env now id None some given = absurd (true≢false (sym some))
+one_given role c es env now id (Some u) some given =
+    let t = ticks role u.letters u.calls (turn_of u.control env) in
+    let d = ticks_drawn role u.letters u.calls (turn_of u.control env) in
     let space = ap (λ x. x.1) d in
     let sessions = ap (λ x. x.2) d in
-    rw (is, space, sessions, append-nil t.outputs, append-nil t.changes, append-nil t.moves) refl
+    given ∙ rw (space, sessions, append-nil t.outputs, append-nil t.changes, append-nil t.moves) refl
 
-pub one_planned : (role : Role) (c : Config) (es : List (ℕ × Core)) (env : Env) (id : ℕ) (core : Core) → at es id ≡ Some core → (p : Plan) → IsTurn p (turns role c core.letters.letters core.calls.entries Tick (turn_of core.control env)) → ArePlanned ((id, p) ∷ []) (tick_at role c es env id)
+pub one_planned : (role : Role) (c : Config) (es : List (ℕ × Core)) (env : Env) (id : ℕ) (o : Option Tunnel) → IsSome o → (p : Plan) → IsPlanned role c Tick env o p
+    → ArePlanned ((id, p) ∷ []) (tick_of (with_tunnels role c es) env id o)
 unfolding ArePlanned
-one_planned role c es env id core there p h =
-    let is : at (tunnels_of es) id ≡ Some (tunnel_of core) = at_tunnels es id ∙ ap (λ o. option_map tunnel_of o) there in
-    subst (λ o. ArePlanned ((id, p) ∷ []) (tick_of (with_tunnels role c es) env id o)) (sym is) (refl, h, tt)
-
--- ---- one plan is made
-
-pub cleared_made : (es fs : List (ℕ × Core)) (id : ℕ) (p : Plan) (core : Core) → at es id ≡ Some core → p.cleared ≡ true → fs ≡ without es id → tunnels_of fs ≡ after_plan (tunnels_of es) (id, p) (at (tunnels_of es) id)
-cleared_made es fs id p core there cleared removed =
-    let is : at (tunnels_of es) id ≡ Some (tunnel_of core) = at_tunnels es id ∙ ap (λ o. option_map tunnel_of o) there in
-    ap tunnels_of removed ∙ without_tunnels es id ∙ rw (is, cleared) refl
-
-pub kept_made : (es fs gs : List (ℕ × Core)) (id : ℕ) (p : Plan) (core d v : Core) → at es id ≡ Some core → p.cleared ≡ false → fs ≡ put es id v → gs ≡ put fs id d → tunnel_of d ≡ made_of p (tunnel_of core) → tunnels_of gs ≡ after_plan (tunnels_of es) (id, p) (at (tunnels_of es) id)
-kept_made es fs gs id p core d v there kept out back made =
-    let is : at (tunnels_of es) id ≡ Some (tunnel_of core) = at_tunnels es id ∙ ap (λ o. option_map tunnel_of o) there in
-    ap tunnels_of (back ∙ ap (λ (xs : List (ℕ × Core)). put xs id d) out ∙ put-put es id v d) ∙ put_tunnels es id d ∙ ap (λ (t : Tunnel). put (tunnels_of es) id t) made ∙ rw (is, kept) refl
+one_planned role c es env id None some p h = absurd (true≢false (sym some))
+one_planned role c es env id (Some t) some p h = (refl, h, tt)
 
 -- ---- lists of plans
 
@@ -130,7 +114,7 @@ some_tunnel_by : (o : Option Core) → IsSome (option_map tunnel_of o) → IsSom
 some_tunnel_by None h = h
 some_tunnel_by (Some c) h = refl
 
-tunnel_some : (es : List (ℕ × Core)) (i : ℕ) → IsSome (at es i) → IsSome (at (tunnels_of es) i)
+pub tunnel_some : (es : List (ℕ × Core)) (i : ℕ) → IsSome (at es i) → IsSome (at (tunnels_of es) i)
 tunnel_some es i h = rw (at_tunnels es i) (tunnel_some_by (at es i) h)
 
 some_tunnel : (es : List (ℕ × Core)) (i : ℕ) → IsSome (at (tunnels_of es) i) → IsSome (at es i)

@@ -1,5 +1,6 @@
 -- What a step of a tunnel makes of an end.
-use Rattle.std.proofs.Common.{◌≡◌, ℕ, List, [], ◌++◌, refl, Some, ap, sym, ◌∙◌}
+use Rattle.std.proofs.Common.{◌≡◌, ℕ, List, [], ◌++◌, refl, Option, Some, None, true≢false, ap, sym, ◌∙◌}
+use Rattle.std.specs.Prelude.{IsSome}
 use Rattle.std.proofs.lemmas.Bool.{ne_eqb, eq-eqb}
 use Rattle.id_table.specs.Ids.{at}
 use Rattle.wire_base.specs.declared.letter.Letter.{Letter}
@@ -10,7 +11,8 @@ use Rattle.protocol_model.specs.declared.out.Out.{Out}
 use Rattle.protocol_model.specs.declared.moves.Move.{Move}
 use Rattle.protocol_model.specs.Turn.{Tunnel, Env, Turn, turn_of, with_turn, turns, fresh}
 use Rattle.protocol_model.specs.End.{End, Stepped, placed, with_looks, tunnels_after, after_turn, after_new, in_main, in_new}
-use Rattle.tunnel_core.specs.Cores.{Core, Plan, tunnel_of, made_of, IsTurn}
+use Rattle.tunnel_core.specs.Cores.{Plan, made_of, IsTurn}
+use Rattle.tunnel_table.specs.Plans.{IsPlanned, IsGiven, after_plan}
 
 abbrev pub turned : End → Env → Event → Tunnel → Turn
 turned e env ev t = turns e.role e.config t.letters t.calls ev (turn_of t.control env)
@@ -19,12 +21,12 @@ same_parts : (s u : Stepped) → s.end ≡ u.end → s.outputs ≡ u.outputs →
 same_parts s u a b c = ap (λ (x : End). record { end = x; outputs = s.outputs; moves = s.moves }) a ∙ ap (λ (x : List Out). record { end = u.end; outputs = x; moves = s.moves }) b ∙ ap (λ (x : List Move). record { end = u.end; outputs = u.outputs; moves = x }) c
 
 -- what is planned of a turn, and the environment that took in what it gave
-pub record IsSettled (v : End) (i : ℕ) (core : Core) (p : Plan) (env : Env) (s : Stepped) : Type 0 where
-  pub end : s.end ≡ record v { tunnel_ids = env.tunnels; session_ids = env.sessions; tunnels = tunnels_after v.tunnels i p.cleared (made_of p (tunnel_of core)); calls = with_looks env.changes (placed p.control.local p.added v.calls) }
+pub record IsSettled (v : End) (i : ℕ) (t : Tunnel) (p : Plan) (env : Env) (s : Stepped) : Type 0 where
+  pub end : s.end ≡ record v { tunnel_ids = env.tunnels; session_ids = env.sessions; tunnels = tunnels_after v.tunnels i p.cleared (made_of p t); calls = with_looks env.changes (placed p.control.local p.added v.calls) }
   pub outputs : s.outputs ≡ env.outputs
   pub moves : s.moves ≡ env.moves
 
-module _ (v : End) (start : Env) (none : (start.outputs ≡ []) × (start.changes ≡ []) × (start.moves ≡ [])) (ev : Event) (i : ℕ) (core : Core) (p : Plan) (env : Env) (s : Stepped) (r : Turn) (is : r ≡ turned v start ev (tunnel_of core)) (plan : IsTurn p r) (given : env ≡ with_turn r start) (settled : IsSettled v i core p env s) where
+module _ (v : End) (start : Env) (none : (start.outputs ≡ []) × (start.changes ≡ []) × (start.moves ≡ [])) (ev : Event) (i : ℕ) (t : Tunnel) (p : Plan) (env : Env) (s : Stepped) (r : Turn) (is : r ≡ turned v start ev t) (plan : IsTurn p r) (given : env ≡ with_turn r start) (settled : IsSettled v i t p env s) where
   outputs_are : env.outputs ≡ r.outputs
   unfolding with_turn
   outputs_are = ap (λ (x : Env). x.outputs) given ∙ ap (λ xs. xs ++ r.outputs) none.0
@@ -45,15 +47,15 @@ module _ (v : End) (start : Env) (none : (start.outputs ≡ []) × (start.change
   unfolding with_turn
   sessions_are = ap (λ (x : Env). x.sessions) given
 
-  pub end_is : s.end ≡ (after_turn v i core.letters.letters core.calls.entries r).end
+  pub end_is : s.end ≡ (after_turn v i t.letters t.calls r).end
   unfolding after_turn
   end_is = settled.end ∙ rw (tunnels_are, sessions_are, changes_are, plan.control, plan.acked, plan.given, plan.cleared, plan.changed, plan.added) refl
 
-  pub turn_is : after_turn v i core.letters.letters core.calls.entries (turned v start ev (tunnel_of core)) ≡ s
+  pub turn_is : after_turn v i t.letters t.calls (turned v start ev t) ≡ s
   unfolding after_turn
-  turn_is = rw (← is) (same_parts (after_turn v i core.letters.letters core.calls.entries r) s (sym end_is) (sym (settled.outputs ∙ outputs_are)) (sym (settled.moves ∙ moves_are)))
+  turn_is = rw (← is) (same_parts (after_turn v i t.letters t.calls r) s (sym end_is) (sym (settled.outputs ∙ outputs_are)) (sym (settled.moves ∙ moves_are)))
 
-  pub main_is : at v.tunnels i ≡ Some (tunnel_of core) → in_main v start ev i (at v.tunnels i) ≡ s
+  main_is : at v.tunnels i ≡ Some t → in_main v start ev i (at v.tunnels i) ≡ s
   unfolding in_main
   main_is there = rw there turn_is
 
@@ -61,17 +63,26 @@ module _ (v : End) (start : Env) (none : (start.outputs ≡ []) × (start.change
   unfolding after_new
   kept some at = rw (ne_eqb r.control.local 0 (λ e. some (sym at ∙ e))) refl
 
-  same_turn : after_turn v i core.letters.letters core.calls.entries r ≡ s
-  same_turn = ap (λ (x : Turn). after_turn v i core.letters.letters core.calls.entries x) is ∙ turn_is
+  same_turn : after_turn v i t.letters t.calls r ≡ s
+  same_turn = ap (λ (x : Turn). after_turn v i t.letters t.calls x) is ∙ turn_is
 
-  pub new_is : (peer : ℕ) → tunnel_of core ≡ record { control = fresh peer start.moment; letters = []; calls = [] } → p.control.local ≡ i → (i ≡ 0 → ⊥) → in_new v start ev peer ≡ s
+  pub new_is : (peer : ℕ) → t ≡ record { control = fresh peer start.moment; letters = []; calls = [] } → p.control.local ≡ i → (i ≡ 0 → ⊥) → in_new v start ev peer ≡ s
   unfolding in_new
   new_is peer idle local some =
-      let same : r ≡ turns v.role v.config [] [] ev (turn_of (fresh peer start.moment) start) = is ∙ ap (λ t. turned v start ev t) idle in
+      let same : r ≡ turns v.role v.config [] [] ev (turn_of (fresh peer start.moment) start) = is ∙ ap (λ (u : Tunnel). turned v start ev u) idle in
       let at : r.control.local ≡ i = ap (λ (c : Control). c.local) (sym plan.control) ∙ local in
-      let none : core.calls.entries ≡ [] = ap (λ (t : Tunnel). t.calls) idle in
-      let silent : core.letters.letters ≡ [] = ap (λ (t : Tunnel). t.letters) idle in
-      ap (after_new v) (sym same) ∙ kept some at ∙ ap (λ k. after_turn v k [] [] r) at ∙ ap (λ (cs : List (ℕ × Call)). after_turn v i [] cs r) (sym none) ∙ ap (λ (ls : List Letter). after_turn v i ls core.calls.entries r) (sym silent) ∙ same_turn
+      let none : t.calls ≡ [] = ap (λ (u : Tunnel). u.calls) idle in
+      let silent : t.letters ≡ [] = ap (λ (u : Tunnel). u.letters) idle in
+      ap (after_new v) (sym same) ∙ kept some at ∙ ap (λ k. after_turn v k [] [] r) at ∙ ap (λ (cs : List (ℕ × Call)). after_turn v i [] cs r) (sym none) ∙ ap (λ (ls : List Letter). after_turn v i ls t.calls r) (sym silent) ∙ same_turn
+
+-- a step of a tunnel that is there
+pub main_made : (v : End) (start : Env) → (start.outputs ≡ []) × (start.changes ≡ []) × (start.moves ≡ []) → (ev : Event) (i : ℕ) (o : Option Tunnel) (p : Plan)
+    (env : Env) (s : Stepped) → at v.tunnels i ≡ o → IsSome o → IsPlanned v.role v.config ev start o p → IsGiven v.role v.config ev start o env
+    → s.end ≡ record v { tunnel_ids = env.tunnels; session_ids = env.sessions; tunnels = after_plan v.tunnels (i, p) o; calls = with_looks env.changes (placed p.control.local p.added v.calls) }
+    → s.outputs ≡ env.outputs → s.moves ≡ env.moves → in_main v start ev i (at v.tunnels i) ≡ s
+main_made v start none ev i None p env s there some planned given end outputs moves = absurd (true≢false (sym some))
+main_made v start none ev i (Some t) p env s there some planned given end outputs moves =
+    main_is v start none ev i t p env s (turned v start ev t) refl planned given (record { end = end; outputs = outputs; moves = moves }) there
 
 -- a new tunnel that drew no id
 pub not_made : (v : End) (start env : Env) (ev : Event) (peer : ℕ) (r : Turn) (os : List Out) (ms : List Move) → (start.outputs ≡ []) × (start.moves ≡ []) → r ≡ turns v.role v.config [] [] ev (turn_of (fresh peer start.moment) start) → env ≡ with_turn r start → r.control.local ≡ 0 → os ≡ env.outputs → ms ≡ env.moves → in_new v start ev peer ≡ record { end = v; outputs = os; moves = ms }

@@ -1,14 +1,15 @@
 -- An end's tick: what is planned for each tunnel, and then made.
-use Rattle.std.specs.Prelude.{◌≡◌, ℕ, List, [], ◌∷◌, ◌++◌, Option, Some, None}
+use Rattle.std.specs.Prelude.{◌≡◌, ℕ, List, [], ◌∷◌, ◌++◌}
 use Rattle.std.specs.List.{AllByRecursion, flat_map}
 use Rattle.id_table.specs.Ids.{at}
 use Rattle.id_table.specs.Tables.{Kept}
 use Rattle.protocol_model.specs.declared.tunnel.Config.{Config}
 use Rattle.protocol_model.specs.declared.tunnel.Role.{Role}
 use Rattle.protocol_model.specs.Turn.{Tunnel, Env}
-use Rattle.protocol_model.specs.End.{End, new_end, tunnels_after, Turned, tick_of, ticks_of}
-use Rattle.tunnel_core.specs.Cores.{Core, Plan, IsTurn, HasRoomFor, made_of}
-use Rattle.end_core.specs.Ends.{tunnels_of}
+use Rattle.protocol_model.specs.End.{End, new_end, Turned, tick_of, ticks_of}
+use Rattle.tunnel_core.specs.Cores.{Core, Plan, IsTurn}
+use Rattle.tunnel_table.specs.Plans.{HasPlace, after_plan}
+use Rattle.tunnel_table.specs.Tunnels.{tunnels_of}
 
 -- an end with these tunnels: of the rest nothing is asked
 abbrev pub with_tunnels : Role → Config → List (ℕ × Core) → End
@@ -37,21 +38,10 @@ with_ticks ts e = record e {
   moves = e.moves ++ flat_map (λ t. t.turn.moves) ts;
 }
 
--- there is a tunnel with the plan's id, and in it room for what is planned
-pub record HasPlace (kept : Kept Core) (p : ℕ × Plan) : Type 0 where
-  pub core : Core
-  pub there : at kept.entries p.0 ≡ Some core
-  pub room : HasRoomFor core p.1
-
 abbrev pub HavePlaces : Kept Core → List (ℕ × Plan) → Type 0
 HavePlaces kept ps = AllByRecursion (λ p. HasPlace kept p) ps
 
--- the tunnels after a plan was made
-abbrev pub after_plan : List (ℕ × Tunnel) → ℕ × Plan → Option Tunnel → List (ℕ × Tunnel)
-after_plan ts p None = ts
-after_plan ts p (Some t) = tunnels_after ts p.0 p.1.cleared (made_of p.1 t)
-
--- and after all of them, one after the other
+-- the tunnels after plans were made, one after the other
 unfoldable pub after_plans : List (ℕ × Plan) → List (ℕ × Tunnel) → List (ℕ × Tunnel)
 after_plans [] ts = ts
 after_plans (p ∷ ps) ts = after_plans ps (after_plan ts p (at ts p.0))

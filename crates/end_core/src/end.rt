@@ -1,16 +1,15 @@
 //! An end with its tunnels: which tunnel an event is for, and what is seen of the calls.
 
-ghost use Rattle.std.specs.Prelude.{ℕ, ◌≡◌, ◌≤◌, [], ◌∷◌, find, option_map, is_some, IfOk, OnOk, IsSome};
+ghost use Rattle.std.specs.Prelude.{◌≡◌, ◌≤◌, [], ◌∷◌, option_map, is_some, IfOk, OnOk};
 ghost use Rattle.std.specs.Option.{option_copied};
-ghost use Rattle.id_table.specs.Ids.{at, put, ids_of};
-ghost use Rattle.id_table.specs.Tables.{HasRoom};
+ghost use Rattle.id_table.specs.Ids.{at, ids_of};
 ghost use Rattle.l2tp_header.specs.Reading.{header_of};
-ghost use Rattle.protocol_model.specs.End.{env_of, whole_space, gives_only, tunnels_after, after_turn, after_new, in_new, has_all_tunnels, in_one_more, in_main, is_known, known_as, opens_once, addressed, reached, for_addressee, is_in, least_in, for_call, look_in, handed, hands_up, receives, new_end};
+ghost use Rattle.protocol_model.specs.End.{env_of, whole_space, gives_only, after_turn, after_new, in_new, has_all_tunnels, in_one_more, in_main, known_as, opens_once, addressed, reached, for_addressee, least_in, for_call, look_in, handed, hands_up, receives, new_end};
 ghost use Rattle.protocol_model.specs.Reading.{at_tunnel};
 ghost use Rattle.protocol_model.specs.World.{is_not_closed};
 ghost use Rattle.end_core.specs.Fits.{fits};
-ghost use Rattle.tunnel_core.specs.Cores.{tunnel_of, made_of, IsTurn, HasRoomFor};
-ghost use Rattle.end_core.specs.Ends.{tunnels_of, HaveRoom};
+ghost use Rattle.tunnel_core.specs.Cores.{tunnel_of, IsTurn, HasRoomFor};
+ghost use Rattle.end_core.specs.Ends.{HaveRoom};
 ghost use Rattle.protocol_model.specs.Turn.{turn_of, turns, with_turn};
 ghost use Rattle.end_core.specs.Gives.{GivesStep};
 
@@ -25,8 +24,9 @@ use protocol_model::{
 };
 use std::alloc::Global;
 use std::marker::Model;
-use tunnel_core::{Env, Moves, Outputs, Planned, TunnelCore, same_state};
+use tunnel_core::{Env, Moves, Outputs, Planned, TunnelCore};
 use tunnel_fsm::TunnelState;
+use tunnel_table::TunnelTable;
 use wire_base::{Bytes, Contents, NoMemory, Sequence, Why};
 
 /// The last tunnel id, the last session id, and the last number of a recovery.
@@ -57,14 +57,14 @@ pub struct End {
     pub(crate) tunnel_ids: Ids,
     session_ids: Ids,
     recovery_ids: Ids,
-    pub(crate) tunnels: Table<TunnelCore>,
+    pub(crate) tunnels: TunnelTable,
     pub(crate) calls: Table<CallPlace>,
 }
 
 impl Model for End {
     ghost use Rattle.std.specs.Prelude.{◌≤◌};
     ghost use Rattle.protocol_model.specs.End.{End as Known};
-    ghost use Rattle.end_core.specs.Ends.{tunnels_of};
+    ghost use Rattle.tunnel_table.specs.Tunnels.{tunnels_of};
 
     ghost Value = { Known };
 
@@ -105,7 +105,7 @@ impl End {
             tunnel_ids: whole_space(LAST_TUNNEL),
             session_ids: whole_space(LAST_SESSION),
             recovery_ids: whole_space(LAST_RECOVERY),
-            tunnels: Table::new(alloc),
+            tunnels: TunnelTable::new(alloc),
             calls: Table::new(alloc),
         }
     }
@@ -125,7 +125,7 @@ impl End {
     }
 
     /// The tunnel with a local id.
-    #[tactic(auto, using(crate::proofs::Tunnels::at_tunnels))]
+    #[tactic(auto, using(tunnel_table::specs::Tunnels::at_tunnels))]
     pub fn tunnel(&self, id: u32) -> Option<&TunnelCore>
         ensures { option_map tunnel_of (option_copied result) ≡ at self.now.tunnels id }
     {
@@ -133,7 +133,7 @@ impl End {
     }
 
     /// The local ids of the tunnels, in order.
-    #[tactic(auto, using(crate::proofs::Tunnels::ids_tunnels))]
+    #[tactic(auto, using(tunnel_table::specs::Tunnels::ids_tunnels))]
     pub fn tunnel_ids(&self, alloc: Global) -> Result<Sequence<u32>, NoMemory>
         ensures { IfOk result (λ ids. ids ≡ ids_of self.now.tunnels) }
     {
@@ -141,7 +141,7 @@ impl End {
     }
 
     /// Whether the end has as many tunnels as it may.
-    #[tactic(auto, using(crate::proofs::Tunnels::length_tunnels))]
+    #[tactic(auto, using(tunnel_table::specs::Tunnels::length_tunnels))]
     pub(crate) fn has_all_tunnels(&self) -> bool
         ensures { result ≡ has_all_tunnels self.now.tunnels }
     {
@@ -156,7 +156,7 @@ impl End {
     }
 
     /// Whether a tunnel with this local id is live and isn't closed.
-    #[tactic(auto, using(crate::proofs::Tunnels::at_tunnels))]
+    #[tactic(auto, using(tunnel_table::specs::Tunnels::at_tunnels))]
     pub fn has_tunnel(&self, tunnel: u16) -> bool
         ensures { result ≡ is_not_closed (at self.now.tunnels tunnel) }
     {
@@ -256,44 +256,9 @@ fn plan_step(
     Ok(planned)
 }
 
-/// Puts a tunnel that is new into a table after what was planned for it, or leaves it out where the step removes it. It takes
-/// no memory.
-#[tactic(auto, using(crate::proofs::Tunnels::put_tunnels, crate::proofs::Tunnels::without_tunnels))]
-fn put_new(tunnels: &mut Table<TunnelCore>, id: u32, core: TunnelCore, planned: Planned)
-    requires planned { HasRoomFor core planned }
-    requires room { HasRoom tunnels.old id }
-    ensures { tunnels_of tunnels.new.entries ≡ tunnels_after (tunnels_of tunnels.old.entries) id planned.cleared (made_of planned (tunnel_of core)) }
-{
-    if planned.clears() {
-        tunnels.remove(id);
-        return;
-    }
-    let mut core = core;
-    core.apply(planned);
-    tunnels.fill(id, core);
-}
-
-/// Puts a tunnel back into a table after what was planned for it, or takes it out where the step removes it. It takes no
-/// memory.
-#[tactic(auto, using(crate::proofs::Tunnels::put_tunnels, crate::proofs::Tunnels::without_tunnels, crate::proofs::Tunnels::put_twice))]
-fn put_after(tunnels: &mut Table<TunnelCore>, id: u32, core: TunnelCore, planned: Planned)
-    requires planned { HasRoomFor core planned }
-    requires room { HasRoom tunnels.old id }
-    ensures { tunnels_of tunnels.new.entries ≡ tunnels_after (put (tunnels_of tunnels.old.entries) id (tunnel_of core)) id planned.cleared (made_of planned (tunnel_of core)) }
-{
-    if planned.clears() {
-        tunnels.fill(id, core);
-        tunnels.remove(id);
-        return;
-    }
-    let mut core = core;
-    core.apply(planned);
-    tunnels.fill(id, core);
-}
-
 impl End {
     /// Makes a step of the tunnel with this id, if there is one.
-    #[tactic(auto, using(crate::proofs::Tunnels::at_tunnels, id_table::specs::Tables::entry_has_room), unfolding(protocol_model::specs::End::in_main, protocol_model::specs::End::after_turn, protocol_model::specs::Turn::with_turn))]
+    #[tactic(auto, using(tunnel_table::specs::Tunnels::at_tunnels), unfolding(protocol_model::specs::End::in_main))]
     pub fn run_main(
         &mut self,
         moment: u64,
@@ -308,34 +273,19 @@ impl End {
             return self.drop_with(Why::Tunnel);
         }
         let mut env = self.env(moment, block);
-        let mut core = self
+        let planned = self
             .tunnels
-            .swap(id, TunnelCore::idle(self.alloc, 0, moment));
-        let planned = plan_step(
-            &mut core,
-            &mut self.calls,
-            self.role,
-            &self.config,
-            &mut env,
-            event,
-        );
-        match planned {
-            Err(e) => {
-                self.tunnels.replace(id, core);
-                Err(e)
-            }
-            Ok(planned) => {
-                place_all(&mut self.calls, planned.local(), planned.added());
-                change_looks(&mut self.calls, env.changes.as_slice());
-                put_after(&mut self.tunnels, id, core, planned);
-                self.tunnel_ids = env.tunnels;
-                self.session_ids = env.sessions;
-                Ok(Given {
-                    outputs: env.outputs,
-                    moves: env.moves,
-                })
-            }
-        }
+            .plan(self.role, &self.config, &mut env, id, event)?;
+        make_places(&mut self.calls, planned.added())?;
+        place_all(&mut self.calls, planned.local(), planned.added());
+        change_looks(&mut self.calls, env.changes.as_slice());
+        self.tunnels.make(id, planned);
+        self.tunnel_ids = env.tunnels;
+        self.session_ids = env.sessions;
+        Ok(Given {
+            outputs: env.outputs,
+            moves: env.moves,
+        })
     }
 }
 
@@ -369,10 +319,10 @@ impl End {
                 moves: env.moves,
             });
         }
-        self.tunnels.make_room(u32::from(local))?;
+        self.tunnels.make_room(u32::from(local), &planned)?;
         place_all(&mut self.calls, local, planned.added());
         change_looks(&mut self.calls, env.changes.as_slice());
-        put_new(&mut self.tunnels, u32::from(local), core, planned);
+        self.tunnels.make_new(u32::from(local), core, planned);
         self.tunnel_ids = env.tunnels;
         self.session_ids = env.sessions;
         Ok(Given {
@@ -400,27 +350,11 @@ impl End {
         self.run_new(moment, block, event, peer)
     }
 
-    /// The first of these tunnels that goes to a peer which assigned this id.
-    fn first_known(&self, peer: u32, remote: u16, ids: &[u32]) -> Option<u32>
-        ensures { result ≡ find (λ i. is_known peer remote (at self.now.tunnels i)) ids.now }
-    {
-        for id in ids {
-            if let Some(core) = self.tunnel(*id) {
-                if core.control().peer == peer && core.control().remote == remote {
-                    return Some(*id);
-                }
-            }
-        }
-        None
-    }
-
     /// The least tunnel to a peer that has assigned this id.
-    #[tactic(auto, unfolding(protocol_model::specs::End::known_as))]
     fn known_as(&self, peer: u32, remote: u16) -> Result<Option<u32>, NoMemory>
         ensures { IfOk result (λ found. found ≡ known_as peer remote self.now.tunnels) }
     {
-        let ids = self.tunnel_ids(self.alloc)?;
-        Ok(self.first_known(peer, remote, ids.as_slice()))
+        self.tunnels.known_as(self.alloc, peer, remote)
     }
 
     /// An SCCRQ that comes again is for the tunnel that it opened, and a StopCCN that names none for the one whose peer assigned the id
@@ -443,7 +377,7 @@ impl End {
     }
 
     /// What a control message is for.
-    #[tactic(auto, using(crate::proofs::Tunnels::at_tunnels), unfolding(protocol_model::specs::End::addressed, protocol_model::specs::Reading::at_tunnel))]
+    #[tactic(auto, using(tunnel_table::specs::Tunnels::at_tunnels), unfolding(protocol_model::specs::End::addressed, protocol_model::specs::Reading::at_tunnel))]
     fn addressed(&self, peer: u32, header: &Header, body: &[u8]) -> Result<Addressee, NoMemory>
         ensures { IfOk result (λ to. to ≡ addressed self.now peer header.now body.now) }
     {
@@ -465,7 +399,7 @@ impl End {
     }
 
     /// The tunnel that a datagram from a peer is for, where it is a control message and there is one.
-    #[tactic(auto, using(crate::proofs::Tunnels::at_tunnels), unfolding(protocol_model::specs::End::reached, protocol_model::specs::End::reached_by, protocol_model::specs::End::main_of))]
+    #[tactic(auto, using(tunnel_table::specs::Tunnels::at_tunnels), unfolding(protocol_model::specs::End::reached, protocol_model::specs::End::reached_by, protocol_model::specs::End::main_of))]
     pub fn reached(&self, peer: u32, bytes: &[u8]) -> Result<Option<Control>, NoMemory>
         ensures { IfOk result (λ found. found ≡ reached self.now peer bytes.now) }
     {
@@ -514,26 +448,10 @@ impl End {
     }
 
     /// The least tunnel to a peer that is in a state.
-    #[tactic(auto, using(crate::proofs::Tunnels::at_tunnels), unfolding(protocol_model::specs::End::least_in))]
     pub fn least_in(&self, state: TunnelState, peer: u32) -> Result<Option<u32>, NoMemory>
         ensures { IfOk result (λ found. found ≡ least_in state peer self.now.tunnels) }
     {
-        let ids = self.tunnel_ids(self.alloc)?;
-        Ok(self.first_in(state, peer, ids.as_slice()))
-    }
-
-    /// The first of these tunnels that goes to a peer and is in a state.
-    fn first_in(&self, state: TunnelState, peer: u32, ids: &[u32]) -> Option<u32>
-        ensures { result ≡ find (λ i. is_in state peer (at self.now.tunnels i)) ids.now }
-    {
-        for id in ids {
-            if let Some(core) = self.tunnel(*id) {
-                if same_state(core.control().state, state) && core.control().peer == peer {
-                    return Some(*id);
-                }
-            }
-        }
-        None
+        self.tunnels.least_in(self.alloc, state, peer)
     }
 
     /// An event of a call goes to the call's tunnel.

@@ -5,16 +5,17 @@ ghost use Rattle.std.specs.List.Sorted.{IsStrictlySortedBy};
 ghost use Rattle.std.specs.Ordering.{nat_cmp};
 ghost use Rattle.id_table.specs.Ids.{at, ids_of};
 ghost use Rattle.protocol_model.specs.End.{env_of, ticks_all};
-ghost use Rattle.end_core.specs.Ends.{tunnels_of};
 ghost use Rattle.end_core.specs.Gives.{GivesStep};
-ghost use Rattle.end_core.specs.Ticking.{tick_at, ticks_at, ArePlanned, HasPlace, HavePlaces, with_ticks, after_plan, after_plans};
+ghost use Rattle.end_core.specs.Ticking.{tick_at, ticks_at, ArePlanned, HavePlaces, with_ticks, after_plans};
+ghost use Rattle.tunnel_table.specs.Plans.{HasPlace};
+ghost use Rattle.tunnel_table.specs.Tunnels.{tunnels_of};
 
 use crate::end::{End, Given};
 use crate::places::change_looks;
-use id_table::Table;
 use protocol_model::{Config, Event, Role};
 use std::alloc::Global;
-use tunnel_core::{Env, Planned, TunnelCore};
+use tunnel_core::{Env, Planned};
+use tunnel_table::TunnelTable;
 use wire_base::{NoMemory, Sequence};
 
 /// What is planned for tunnels, by their ids.
@@ -22,8 +23,7 @@ type Plans = Sequence<(u32, Planned)>;
 
 /// Plans the turn of the tunnel with this id, and makes room for it. What the tunnels stand for is as before.
 fn plan_at(
-    tunnels: &mut Table<TunnelCore>,
-    alloc: Global,
+    tunnels: &mut TunnelTable,
     role: Role,
     config: &Config,
     env: &mut Env,
@@ -36,15 +36,12 @@ fn plan_at(
     ensures place { IfOk result (λ p. HasPlace tunnels.new (id, p)) }
     ensures given { OnOk result (env.new ≡ with_ticks (tick_at role config.now tunnels.old.entries env.old id) env.old) }
 {
-    let mut core = tunnels.swap(id, TunnelCore::idle(alloc, 0, env.moment));
-    let planned = core.plan(role, config, env, &Event::Tick);
-    tunnels.replace(id, core);
-    planned
+    tunnels.plan(role, config, env, id, &Event::Tick)
 }
 
 /// Plans the turns of all tunnels, and makes room for them. What the tunnels stand for is as before.
 fn plan_all(
-    tunnels: &mut Table<TunnelCore>,
+    tunnels: &mut TunnelTable,
     alloc: Global,
     role: Role,
     config: &Config,
@@ -59,36 +56,21 @@ fn plan_all(
     let ids = tunnels.ids(alloc)?;
     let mut plans = Plans::new(alloc);
     for id in ids.as_slice() {
-        let planned = plan_at(tunnels, alloc, role, config, env, *id)?;
+        let planned = plan_at(tunnels, role, config, env, *id)?;
         plans.push((*id, planned))?;
     }
     Ok(plans)
 }
 
-/// Makes what was planned for the tunnel with this id. It takes no memory.
-fn make_at(tunnels: &mut Table<TunnelCore>, alloc: Global, id: u32, planned: Planned)
-    requires { HasPlace tunnels.old (id, planned) }
-    ensures made { tunnels_of tunnels.new.entries ≡ after_plan (tunnels_of tunnels.old.entries) (id, planned) (at (tunnels_of tunnels.old.entries) id) }
-    ensures others { (q : ℕ) → q ≢ id → at tunnels.new.entries q ≡ at tunnels.old.entries q }
-{
-    if planned.clears() {
-        tunnels.remove(id);
-        return;
-    }
-    let mut core = tunnels.swap(id, TunnelCore::idle(alloc, 0, 0));
-    core.apply(planned);
-    tunnels.replace(id, core);
-}
-
 /// Makes what was planned for tunnels. It takes no memory.
 #[tactic(auto, unfolding(crate::specs::Ticking::after_plans))]
-fn make_all(tunnels: &mut Table<TunnelCore>, alloc: Global, plans: Plans)
+fn make_all(tunnels: &mut TunnelTable, plans: Plans)
     requires ascend { IsStrictlySortedBy nat_cmp (ids_of plans) }
     requires places { HavePlaces tunnels.old plans }
     ensures { tunnels_of tunnels.new.entries ≡ after_plans plans (tunnels_of tunnels.old.entries) }
 {
     for (id, planned) in plans.into_vec() {
-        make_at(tunnels, alloc, id, planned);
+        tunnels.make(id, planned);
     }
 }
 
@@ -106,7 +88,7 @@ impl End {
             &self.config,
             &mut env,
         )?;
-        make_all(&mut self.tunnels, self.alloc, plans);
+        make_all(&mut self.tunnels, plans);
         change_looks(&mut self.calls, env.changes.as_slice());
         Ok(Given {
             outputs: env.outputs,

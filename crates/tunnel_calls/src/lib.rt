@@ -8,14 +8,11 @@ ghost use Rattle.protocol_model.specs.Calls.{owes, owed_by, are_too_many};
 ghost use Rattle.protocol_model.specs.Owing.{owed_at};
 ghost use Rattle.protocol_model.specs.Turn.{is_call_of, call_of, session_named};
 
-mod remotes;
-
 use call_fsm::CallState;
+use id_index::Index;
 use id_table::Table;
 use protocol_model::Call;
-use remotes::{first_listed, make_key, relist};
 use std::alloc::Global;
-use std::collections::BTreeMap;
 use std::marker::Model;
 use wire_base::{NoMemory, Sequence};
 
@@ -44,11 +41,11 @@ fn owed_at(call: Option<&Call>) -> u8
 }
 
 /// The id that the peer assigned to a call.
-fn remote_of(call: Option<&Call>) -> Option<u16>
+fn remote_of(call: Option<&Call>) -> Option<u64>
     ensures { result ≡ option_map (λ c. c.remote) (option_copied call.entry) }
 {
     match call {
-        Some(call) => Some(call.remote),
+        Some(call) => Some(u64::from(call.remote)),
         None => None,
     }
 }
@@ -59,25 +56,24 @@ fn remote_of(call: Option<&Call>) -> Option<u16>
 pub struct TunnelCalls {
     table: Table<Call>,
     owed: u128,
-    /// Each id that the peer assigned with its session, as a key; a key with `false` is room that was made for one.
-    remotes: BTreeMap<u64, bool>,
-    /// Whether the index lists every call: each was put with room for its key.
-    listed: bool,
+    /// The sessions by the ids that the peer assigned.
+    remotes: Index,
 }
 
 impl Model for TunnelCalls {
-    ghost use Rattle.std.specs.Prelude.{◌≡◌, true};
+    ghost use Rattle.std.specs.Prelude.{◌≡◌};
     ghost use Rattle.id_table.specs.Tables.{Kept};
     ghost use Rattle.id_table.specs.Order.{Ascends};
     ghost use Rattle.protocol_model.specs.declared.tunnel.Call.{Call};
     ghost use Rattle.protocol_model.specs.Calls.{owed_by};
-    ghost use Rattle.tunnel_calls.specs.Remotes.{IsIndex, IsWithin};
+    ghost use Rattle.id_index.specs.Indexes.{Lists, IsWithin};
+    ghost use Rattle.tunnel_calls.specs.Remotes.{remotes_of};
 
     ghost Value = { Kept Call };
 
     ghost view = { λ c. c.table };
 
-    ghost invariant = { λ c. Ascends c.table.entries × (c.owed ≡ owed_by c.table.entries) × IsWithin c.table.entries × (c.listed ≡ true → IsIndex c.remotes.entries c.table.entries) };
+    ghost invariant = { λ c. Ascends c.table.entries × (c.owed ≡ owed_by c.table.entries) × IsWithin c.table.entries × Lists c.remotes (remotes_of c.table.entries) };
 }
 
 impl TunnelCalls {
@@ -88,8 +84,7 @@ impl TunnelCalls {
         TunnelCalls {
             table: Table::new(alloc),
             owed: 0,
-            remotes: BTreeMap::new(alloc),
-            listed: true,
+            remotes: Index::new(alloc),
         }
     }
 
@@ -120,10 +115,8 @@ impl TunnelCalls {
     pub fn call_of(&self, alloc: Global, remote: u16) -> Result<Option<u32>, NoMemory>
         ensures { IfOk result (λ session. session ≡ call_of self.now.entries remote) }
     {
-        if self.listed {
-            if let Some(session) = first_listed(&self.remotes, remote) {
-                return Ok(session);
-            }
+        if let Some(session) = self.remotes.first(u64::from(remote)) {
+            return Ok(session);
         }
         let sessions = self.ids(alloc)?;
         Ok(first_of(self, remote, sessions.as_slice()))
@@ -167,7 +160,7 @@ impl TunnelCalls {
         ensures room { KeepsRoom self.old self.new }
         ensures made { OnOk result (HasRoom self.new session) }
     {
-        make_key(&mut self.remotes, session, remote_of(call))?;
+        self.remotes.make_key(session, remote_of(call))?;
         self.table.make_room(session)
     }
 
@@ -182,8 +175,8 @@ impl TunnelCalls {
         let before = owed_at(self.table.get(session));
         self.owed += u128::from(owes(call.state));
         let known = remote_of(self.table.get(session));
-        let listed = relist(&mut self.remotes, session, known, Some(call.remote));
-        self.listed &= listed;
+        self.remotes
+            .relabel(session, known, Some(u64::from(call.remote)));
         self.table.fill(session, call);
         self.owed -= u128::from(before);
     }
@@ -197,8 +190,7 @@ impl TunnelCalls {
         let before = owed_at(self.table.get(session));
         self.owed -= u128::from(before);
         let known = remote_of(self.table.get(session));
-        let listed = relist(&mut self.remotes, session, known, None);
-        self.listed &= listed;
+        self.remotes.relabel(session, known, None);
         self.table.vacate(session);
     }
 

@@ -43,6 +43,13 @@ impl Model for Planned {
 }
 
 impl Planned {
+    /// The tunnel after the step, apart from its calls.
+    pub fn control(&self) -> &Control
+        ensures { result.now ≡ self.now.control }
+    {
+        &self.control
+    }
+
     /// The tunnel's local id after the step, 0 where it drew none.
     pub fn local(&self) -> u16
         ensures { result ≡ self.now.control.local }

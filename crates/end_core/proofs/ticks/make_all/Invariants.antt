@@ -3,7 +3,7 @@ use Rattle.std.specs.List.Sorted.{IsStrictlySortedBy}
 use Rattle.std.specs.Ordering.{nat_cmp}
 use Rattle.std.specs.Vec.Iter.{into_iter_items}
 use Rattle.id_table.specs.Ids.{ids_of}
-use Rattle.end_core.specs.Ends.{tunnels_of}
+use Rattle.tunnel_table.specs.Tunnels.{tunnels_of}
 use Rattle.end_core.specs.Ticking.{HavePlaces, after_plans}
 use Rattle.end_core.proofs.ticks.make_all.Given as goal
 

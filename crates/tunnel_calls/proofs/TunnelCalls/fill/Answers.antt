@@ -1,9 +1,10 @@
-use Rattle.std.proofs.Common.{◌≡◌, true, Some, option_map, subst, ap, ◌∙◌, arith}
+use Rattle.std.proofs.Common.{Some, option_map, subst, ap, ◌∙◌, arith}
 use Rattle.id_table.specs.Order.{ascends-put}
 use Rattle.protocol_model.specs.declared.tunnel.Call.{Call}
 use Rattle.protocol_model.specs.Owing.{owed_at, owed-most, owed-put}
-use Rattle.tunnel_calls.specs.Remotes.{IsRelisted}
-use Rattle.tunnel_calls.proofs.Listing.{both_true, index_put, within_put}
+use Rattle.id_index.specs.Indexes.{IsRelabelled}
+use Rattle.id_index.specs.Firsts.{within_put}
+use Rattle.tunnel_calls.proofs.Listing.{listed_put}
 use Rattle.tunnel_calls.proofs.TunnelCalls.fill.Goals as goal
 
 pub overflow_add-self : goal.overflow_add-self
@@ -29,13 +30,11 @@ invariant_of-self c =
     let before = c.owed_at-before.ensures ∙ ap owed_at c.get.ensures in
     let own = c.owes.ensures in
     let known = c.remote_of-known.ensures ∙ ap (option_map (λ (x : Call). x.remote)) c.get-2.ensures in
-    let relisted = λ (done : c.relist-listed.result ≡ true).
-    subst (λ o. IsRelisted c.self.inside.remotes.entries c.relist-listed.new.pairs.entries c.args.session o (Some c.args.call.remote)) known
-    (c.relist-listed.ensures done) in
+    let to = subst (λ r. IsRelabelled c.self.inside.remotes c.relabel.new.self c.args.session c.remote_of-known.result (Some r)) c.from-2.ensures c.relabel.ensures in
+    let relabelled = subst (λ o. IsRelabelled c.self.inside.remotes c.relabel.new.self c.args.session o (Some c.args.call.remote)) known to in
     rw c.fill.ensures.entries (
       ascends-put c.args.session c.args.call c.self.inside.table.entries c.self.invariant.0,
       omega arith,
       within_put c.self.inside.table.entries c.args.session c.args.call c.ranges.session.fits c.self.invariant.2,
-      λ whole. index_put c.self.inside.remotes.entries c.relist-listed.new.pairs.entries c.self.inside.table.entries c.args.session c.args.call
-          c.ranges.session.fits (c.self.invariant.3 (both_true _ _ whole).0) (relisted (both_true _ _ whole).1),
+      listed_put c.self.inside.remotes c.relabel.new.self c.self.inside.table.entries c.args.session c.args.call relabelled c.self.invariant.3,
     )

@@ -1,9 +1,10 @@
-use Rattle.std.proofs.Common.{◌≡◌, true, None, option_map, subst, ◌∙◌, ap, arith}
+use Rattle.std.proofs.Common.{None, option_map, subst, ◌∙◌, ap, arith}
 use Rattle.id_table.specs.Order.{ascends-without}
 use Rattle.protocol_model.specs.declared.tunnel.Call.{Call}
 use Rattle.protocol_model.specs.Owing.{owed_at, owed-without}
-use Rattle.tunnel_calls.specs.Remotes.{IsRelisted}
-use Rattle.tunnel_calls.proofs.Listing.{both_true, index_without, within_without}
+use Rattle.id_index.specs.Indexes.{IsRelabelled}
+use Rattle.id_index.specs.Firsts.{within_without}
+use Rattle.tunnel_calls.proofs.Listing.{listed_without}
 use Rattle.tunnel_calls.proofs.TunnelCalls.vacate.Goals as goal
 
 pub overflow_sub-self : goal.overflow_sub-self
@@ -19,12 +20,10 @@ invariant_of-self c =
     let owed = c.self.invariant.1 in
     let before = c.owed_at-before.ensures ∙ ap owed_at c.get.ensures in
     let known = c.remote_of-known.ensures ∙ ap (option_map (λ (x : Call). x.remote)) c.get-2.ensures in
-    let relisted = λ (done : c.relist-listed.result ≡ true).
-    subst (λ o. IsRelisted c.self.inside.remotes.entries c.relist-listed.new.pairs.entries c.args.session o None) known (c.relist-listed.ensures done) in
+    let relabelled = subst (λ o. IsRelabelled c.self.inside.remotes c.relabel.new.self c.args.session o None) known c.relabel.ensures in
     rw c.vacate.ensures.entries (
       ascends-without c.args.session c.self.inside.table.entries c.self.invariant.0,
       omega arith,
       within_without c.self.inside.table.entries c.args.session c.ranges.session.fits c.self.invariant.2,
-      λ whole. index_without c.self.inside.remotes.entries c.relist-listed.new.pairs.entries c.self.inside.table.entries c.args.session
-          c.ranges.session.fits c.self.invariant.0 (c.self.invariant.3 (both_true _ _ whole).0) (relisted (both_true _ _ whole).1),
+      listed_without c.self.inside.remotes c.relabel.new.self c.self.inside.table.entries c.args.session c.self.invariant.0 relabelled c.self.invariant.3,
     )

@@ -1,7 +1,0 @@
-use Rattle.std.proofs.Common.{◌≡◌, drop, find}
-use Rattle.id_table.specs.Ids.{at}
-use Rattle.protocol_model.specs.End.{is_in}
-use Rattle.end_core.proofs.end.End.first_in.Given as goal
-
-abbrev pub invariant-loop-id : goal.invariant-loop-id
-invariant-loop-id l = find (λ i. is_in l.state l.peer (at l.self.tunnels i)) (drop l.id-index l.ids) ≡ find (λ i. is_in l.state l.peer (at l.self.tunnels i)) l.ids

@@ -1,8 +1,0 @@
-use Rattle.std.proofs.Common.{sym, ◌∙◌}
-use Rattle.tunnel_calls.proofs.Listing.{room_lists}
-use Rattle.tunnel_calls.proofs.remotes.make_key.Goals as goal
-
-pub returns-in_ok-insert : goal.returns-in_ok-insert
-returns-in_ok-insert c =
-    room_lists c.key-key.result c.args.pairs.now.entries c.insert.new.self.entries
-    (sym c.contains_key.ensures ∙ c.if-not-contains_key.true) c.in_ok-insert.ensures.entries

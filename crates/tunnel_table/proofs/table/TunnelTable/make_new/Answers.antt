@@ -1,0 +1,32 @@
+use Rattle.std.proofs.Common.{sym, ap, subst, ◌∙◌}
+use Rattle.id_table.specs.Ids.{put, without}
+use Rattle.id_table.specs.Tables.{Kept}
+use Rattle.protocol_model.specs.Turn.{Tunnel}
+use Rattle.tunnel_core.specs.Cores.{Core, tunnel_of, made_of}
+use Rattle.tunnel_table.specs.Labels.{AreKept}
+use Rattle.tunnel_table.specs.Tunnels.{tunnels_of, put_tunnels, without_tunnels}
+use Rattle.tunnel_table.proofs.Made.{new_cleared, new_kept}
+use Rattle.tunnel_table.proofs.table.TunnelTable.make_new.Goals as goal
+
+pub invariant_of-self : goal.invariant_of-self
+invariant_of-self c =
+    let es = c.self.inside.table.entries in
+    subst (λ ts. AreKept c.unlist.new.self.remotes c.unlist.new.self.states ts) (sym (ap tunnels_of c.remove.ensures.removed ∙ without_tunnels es c.args.id))
+    (c.unlist.ensures (tunnels_of es) c.self.invariant (sym c.control_at-before.ensures))
+
+pub returns-then-clears : goal.returns-then-clears
+returns-then-clears c =
+    new_cleared c.args.self.now.entries c.remove.new.self.entries c.args.id c.args.planned.cleared (made_of c.args.planned (tunnel_of c.args.core))
+    (sym c.clears.ensures ∙ c.if-clears.true) (c.remove.ensures.removed ∙ ap (λ (k : Kept Core). without k.entries c.args.id) c.self.view_is)
+
+pub invariant_of-self-2 : goal.invariant_of-self-2
+invariant_of-self-2 c =
+    let es = c.self.inside.table.entries in
+    subst (λ ts. AreKept c.list.new.self.remotes c.list.new.self.states ts) (sym (ap tunnels_of c.fill.ensures.entries ∙ put_tunnels es c.args.id c.apply.new.self))
+    (c.list.ensures (tunnels_of es) (tunnel_of c.apply.new.self) c.self.invariant (sym c.control_at-before.ensures)
+    (ap (λ (t : Tunnel). t.control) c.apply.ensures ∙ sym c.control.ensures))
+
+pub returns : goal.returns
+returns c =
+    new_kept c.args.self.now.entries c.fill.new.self.entries c.args.id c.args.planned.cleared c.apply.new.self (made_of c.args.planned (tunnel_of c.args.core))
+    (sym c.clears.ensures ∙ c.if-clears.false) (c.fill.ensures.entries ∙ ap (λ (k : Kept Core). put k.entries c.args.id c.apply.new.self) c.self.view_is) c.apply.ensures

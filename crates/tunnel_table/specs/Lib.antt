@@ -1,0 +1,3 @@
+pub mod Tunnels
+pub mod Labels
+pub mod Plans

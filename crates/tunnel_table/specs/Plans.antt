@@ -1,0 +1,33 @@
+-- What is planned for a tunnel of a table, and then made.
+use Rattle.std.specs.Prelude.{◌≡◌, ℕ, List, Option, Some, None, IfSome}
+use Rattle.id_table.specs.Ids.{at}
+use Rattle.id_table.specs.Tables.{Kept}
+use Rattle.protocol_model.specs.declared.tunnel.Config.{Config}
+use Rattle.protocol_model.specs.declared.tunnel.Role.{Role}
+use Rattle.protocol_model.specs.declared.event.Event.{Event}
+use Rattle.protocol_model.specs.Turn.{Tunnel, Turn, Env, turn_of, with_turn, turns}
+use Rattle.protocol_model.specs.End.{tunnels_after}
+use Rattle.tunnel_core.specs.Cores.{Core, Plan, IsTurn, HasRoomFor, made_of}
+
+-- the turn of a tunnel on an event
+abbrev pub turn_at : Role → Config → Event → Env → Tunnel → Turn
+turn_at role c ev env t = turns role c t.letters t.calls ev (turn_of t.control env)
+
+-- the plan has what an event leads to at this tunnel
+abbrev pub IsPlanned : Role → Config → Event → Env → Option Tunnel → Plan → Type 0
+IsPlanned role c ev env o p = IfSome o (λ t. IsTurn p (turn_at role c ev env t))
+
+-- and this took in what it gave
+abbrev pub IsGiven : Role → Config → Event → Env → Option Tunnel → Env → Type 0
+IsGiven role c ev env o later = IfSome o (λ t. later ≡ with_turn (turn_at role c ev env t) env)
+
+-- there is a tunnel with the plan's id, and in it room for what is planned
+pub record HasPlace (kept : Kept Core) (p : ℕ × Plan) : Type 0 where
+  pub core : Core
+  pub there : at kept.entries p.0 ≡ Some core
+  pub room : HasRoomFor core p.1
+
+-- the tunnels after a plan was made
+abbrev pub after_plan : List (ℕ × Tunnel) → ℕ × Plan → Option Tunnel → List (ℕ × Tunnel)
+after_plan ts p None = ts
+after_plan ts p (Some t) = tunnels_after ts p.0 p.1.cleared (made_of p.1 t)

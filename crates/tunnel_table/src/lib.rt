@@ -1,0 +1,11 @@
+//! The tunnels of an end, by local id, which are also found by their peer with the id that it assigned, and by their peer with
+//! their state.
+//!
+//! A step of a tunnel is planned, and room is made for all that it changes, in the indexes too; what is then made takes no
+//! memory.
+#![tactic(auto)]
+
+mod indexes;
+mod table;
+
+pub use table::TunnelTable;

@@ -1,0 +1,255 @@
+//! A table of tunnels with its indexes.
+
+ghost use Rattle.std.specs.Prelude.{ℕ, ◌≡◌, ◌≢◌, [], List, find, length, is_some, option_map, IfOk, OnOk, IsSome};
+ghost use Rattle.std.specs.Option.{option_copied};
+ghost use Rattle.std.specs.List.Sorted.{IsStrictlySortedBy};
+ghost use Rattle.std.specs.Ordering.{nat_cmp};
+ghost use Rattle.id_table.specs.Ids.{at, ids_of};
+ghost use Rattle.id_table.specs.Tables.{HasRoom};
+ghost use Rattle.protocol_model.specs.Turn.{Tunnel, with_turn};
+ghost use Rattle.protocol_model.specs.End.{tunnels_after, is_known, known_as, is_in, least_in};
+ghost use Rattle.tunnel_core.specs.Cores.{tunnel_of, made_of, IsTurn, HasRoomFor};
+ghost use Rattle.tunnel_table.specs.Labels.{control_in, AreKept};
+ghost use Rattle.tunnel_table.specs.Plans.{turn_at, IsPlanned, IsGiven, HasPlace, after_plan};
+ghost use Rattle.tunnel_table.specs.Tunnels.{tunnels_of};
+
+use crate::indexes::Indexes;
+use id_table::Table;
+use protocol_model::{Config, Control, Event, Role};
+use std::alloc::Global;
+use std::marker::Model;
+use tunnel_core::{Env, Planned, TunnelCore, same_state};
+use tunnel_fsm::TunnelState;
+use wire_base::{NoMemory, Sequence};
+
+/// Tunnels by local id, seen as their table. Beside it stand the indexes of all its tunnels.
+#[derive(Drop)]
+pub struct TunnelTable {
+    alloc: Global,
+    table: Table<TunnelCore>,
+    indexes: Indexes,
+}
+
+impl Model for TunnelTable {
+    ghost use Rattle.id_table.specs.Tables.{Kept};
+    ghost use Rattle.tunnel_core.specs.Cores.{Core};
+    ghost use Rattle.tunnel_table.specs.Labels.{AreKept};
+    ghost use Rattle.tunnel_table.specs.Tunnels.{tunnels_of};
+
+    ghost Value = { Kept Core };
+
+    ghost view = { λ t. t.table };
+
+    ghost invariant = { λ t. AreKept t.indexes.remotes t.indexes.states (tunnels_of t.table.entries) };
+}
+
+/// The tunnel with this id, apart from its calls.
+#[tactic(auto, using(crate::specs::Tunnels::at_tunnels))]
+fn control_at(table: &Table<TunnelCore>, id: u32) -> Option<Control>
+    ensures { result ≡ control_in (tunnels_of table.now.entries) id }
+{
+    table.get(id).map(|core| *core.control())
+}
+
+/// Makes room in the indexes for what a tunnel becomes by a plan.
+fn make_keys(indexes: &mut Indexes, id: u32, planned: &Planned) -> Result<(), NoMemory>
+    ensures { (ts : List (ℕ × Tunnel)) → AreKept indexes.old.remotes indexes.old.states ts → AreKept indexes.new.remotes indexes.new.states ts }
+{
+    if planned.clears() {
+        return Ok(());
+    }
+    indexes.make_keys(id, planned.control())
+}
+
+/// Plans a step of a tunnel, and makes room for what it changes, in the indexes too. What the tunnel stands for is as before.
+fn plan_for(
+    core: &mut TunnelCore,
+    indexes: &mut Indexes,
+    role: Role,
+    config: &Config,
+    env: &mut Env,
+    id: u32,
+    event: &Event,
+) -> Result<Planned, NoMemory>
+    ensures same { tunnel_of core.new ≡ tunnel_of core.old }
+    ensures planned { IfOk result (λ p. IsTurn p (turn_at role config.now event.now env.old (tunnel_of core.old))) }
+    ensures room { IfOk result (λ p. HasRoomFor core.new p) }
+    ensures given { OnOk result (env.new ≡ with_turn (turn_at role config.now event.now env.old (tunnel_of core.old)) env.old) }
+    ensures kept { (ts : List (ℕ × Tunnel)) → AreKept indexes.old.remotes indexes.old.states ts → AreKept indexes.new.remotes indexes.new.states ts }
+{
+    let planned = core.plan(role, config, env, event)?;
+    make_keys(indexes, id, &planned)?;
+    Ok(planned)
+}
+
+impl TunnelTable {
+    /// No tunnels. It takes no memory.
+    pub fn new(alloc: Global) -> TunnelTable
+        ensures { result.entries ≡ [] }
+    {
+        TunnelTable {
+            alloc,
+            table: Table::new(alloc),
+            indexes: Indexes::new(alloc),
+        }
+    }
+
+    /// How many tunnels there are.
+    pub fn len(&self) -> usize
+        ensures { result ≡ length self.now.entries }
+    {
+        self.table.len()
+    }
+
+    /// The tunnel with this local id.
+    pub fn get(&self, id: u32) -> Option<&TunnelCore>
+        ensures { option_copied result ≡ at self.now.entries id }
+    {
+        self.table.get(id)
+    }
+
+    /// Whether a tunnel has this local id.
+    pub fn contains(&self, id: u32) -> bool
+        ensures { result ≡ is_some (at self.now.entries id) }
+    {
+        self.table.contains(id)
+    }
+
+    /// The local ids, in order: each is below those after it.
+    pub fn ids(&self, alloc: Global) -> Result<Sequence<u32>, NoMemory>
+        ensures all { IfOk result (λ ids. ids ≡ ids_of self.now.entries) }
+        ensures ascend { IfOk result (λ ids. IsStrictlySortedBy nat_cmp ids) }
+    {
+        self.table.ids(alloc)
+    }
+
+    /// Plans a step of the tunnel with this id, and makes room for all that it changes. What the tunnels stand for is as before.
+    pub fn plan(
+        &mut self,
+        role: Role,
+        config: &Config,
+        env: &mut Env,
+        id: u32,
+        event: &Event,
+    ) -> Result<Planned, NoMemory>
+        requires { IsSome (at self.old.entries id) }
+        ensures same { tunnels_of self.new.entries ≡ tunnels_of self.old.entries }
+        ensures others { (q : ℕ) → q ≢ id → at self.new.entries q ≡ at self.old.entries q }
+        ensures planned { IfOk result (λ p. IsPlanned role config.now event.now env.old (at (tunnels_of self.old.entries) id) p) }
+        ensures place { IfOk result (λ p. HasPlace self.new (id, p)) }
+        ensures given { OnOk result (IsGiven role config.now event.now env.old (at (tunnels_of self.old.entries) id) env.new) }
+    {
+        let mut core = self
+            .table
+            .swap(id, TunnelCore::idle(self.alloc, 0, env.moment));
+        let planned = plan_for(&mut core, &mut self.indexes, role, config, env, id, event);
+        self.table.replace(id, core);
+        planned
+    }
+
+    /// Makes what was planned for the tunnel with this id. It takes no memory.
+    pub fn make(&mut self, id: u32, planned: Planned)
+        requires { HasPlace self.old (id, planned) }
+        ensures made { tunnels_of self.new.entries ≡ after_plan (tunnels_of self.old.entries) (id, planned) (at (tunnels_of self.old.entries) id) }
+        ensures others { (q : ℕ) → q ≢ id → at self.new.entries q ≡ at self.old.entries q }
+    {
+        let before = control_at(&self.table, id);
+        if planned.clears() {
+            self.indexes.unlist(id, before);
+            self.table.remove(id);
+            return;
+        }
+        self.indexes.list(id, before, planned.control());
+        let mut core = self.table.swap(id, TunnelCore::idle(self.alloc, 0, 0));
+        core.apply(planned);
+        self.table.replace(id, core);
+    }
+
+    /// Makes room for a tunnel that is new, for which this is planned. Where memory is wanting, the tunnels are as before.
+    pub fn make_room(&mut self, id: u32, planned: &Planned) -> Result<(), NoMemory>
+        ensures entries { self.new.entries ≡ self.old.entries }
+        ensures made { OnOk result (HasRoom self.new id) }
+    {
+        make_keys(&mut self.indexes, id, planned)?;
+        self.table.make_room(id)
+    }
+
+    /// Puts a tunnel that is new at an id that has room after what was planned for it, or leaves it out where the step removes
+    /// it. It takes no memory where room was made for what is planned.
+    pub fn make_new(&mut self, id: u32, core: TunnelCore, planned: Planned)
+        requires planned { HasRoomFor core planned }
+        requires room { HasRoom self.old id }
+        ensures { tunnels_of self.new.entries ≡ tunnels_after (tunnels_of self.old.entries) id planned.cleared (made_of planned (tunnel_of core)) }
+    {
+        let before = control_at(&self.table, id);
+        if planned.clears() {
+            self.indexes.unlist(id, before);
+            self.table.remove(id);
+            return;
+        }
+        self.indexes.list(id, before, planned.control());
+        let mut core = core;
+        core.apply(planned);
+        self.table.fill(id, core);
+    }
+
+    /// The least tunnel to a peer that has assigned this id. The index tells it in time in proportion to the logarithm of the
+    /// number of tunnels. They are looked through only where it doesn't, as where memory was wanting for a step.
+    #[tactic(auto, using(crate::specs::Tunnels::ids_tunnels), unfolding(protocol_model::specs::End::known_as))]
+    pub fn known_as(&self, alloc: Global, peer: u32, remote: u16) -> Result<Option<u32>, NoMemory>
+        ensures { IfOk result (λ found. found ≡ known_as peer remote (tunnels_of self.now.entries)) }
+    {
+        if let Some(id) = self.indexes.first_known(peer, remote) {
+            return Ok(id);
+        }
+        let ids = self.table.ids(alloc)?;
+        Ok(first_known(&self.table, peer, remote, ids.as_slice()))
+    }
+
+    /// The least tunnel to a peer that is in a state, as fast.
+    #[tactic(auto, using(crate::specs::Tunnels::ids_tunnels), unfolding(protocol_model::specs::End::least_in))]
+    pub fn least_in(
+        &self,
+        alloc: Global,
+        state: TunnelState,
+        peer: u32,
+    ) -> Result<Option<u32>, NoMemory>
+        ensures { IfOk result (λ found. found ≡ least_in state peer (tunnels_of self.now.entries)) }
+    {
+        if let Some(id) = self.indexes.first_in(state, peer) {
+            return Ok(id);
+        }
+        let ids = self.table.ids(alloc)?;
+        Ok(first_in(&self.table, state, peer, ids.as_slice()))
+    }
+}
+
+/// The first of these tunnels that goes to a peer which assigned this id.
+#[tactic(auto, using(crate::specs::Tunnels::at_tunnels))]
+fn first_known(table: &Table<TunnelCore>, peer: u32, remote: u16, ids: &[u32]) -> Option<u32>
+    ensures { result ≡ find (λ i. is_known peer remote (at (tunnels_of table.now.entries) i)) ids.now }
+{
+    for id in ids {
+        if let Some(control) = control_at(table, *id) {
+            if control.peer == peer && control.remote == remote {
+                return Some(*id);
+            }
+        }
+    }
+    None
+}
+
+/// The first of these tunnels that goes to a peer and is in a state.
+#[tactic(auto, using(crate::specs::Tunnels::at_tunnels))]
+fn first_in(table: &Table<TunnelCore>, state: TunnelState, peer: u32, ids: &[u32]) -> Option<u32>
+    ensures { result ≡ find (λ i. is_in state peer (at (tunnels_of table.now.entries) i)) ids.now }
+{
+    for id in ids {
+        if let Some(control) = control_at(table, *id) {
+            if same_state(control.state, state) && control.peer == peer {
+                return Some(*id);
+            }
+        }
+    }
+    None
+}
