@@ -146,21 +146,32 @@ fn is_opened_safely(
     )
 }
 
+/// What a disk opens with that takes at most three contents in one call and crashes.
+fn reopened<D: Crash>(
+    alloc: Global,
+    disk: &mut D,
+    contents: &[[u8; 31]],
+    kept: bool,
+) -> Option<Reopened> {
+    let (mut journal, _) = open_disk(alloc, disk, 1, 1).ok()?;
+    journal.prepare(disk, 3).ok()?;
+    if contents.len() > 3 {
+        return None;
+    }
+    commit_and_crash(alloc, journal, disk, contents, kept).ok()
+}
+
 /// Three commits in one call, on a disk that stops after so many of its twelve calls and crashes, leave so many contents.
 fn are_left(alloc: Global, passes: u64, kept: bool, left: usize) -> Result<bool, NoMemory> {
     let all = [ONE, TUNNEL, CALL];
     let mut disk = StopDisk::new(holding(alloc, b"")?, 6 + passes);
-    let Ok((mut journal, _)) = open_disk(alloc, &mut disk, 1, 1) else {
-        return Ok(false);
-    };
-    if journal.prepare(&mut disk, 3).is_err() {
-        return Ok(false);
-    }
-    let Ok(reopened) = commit_and_crash(alloc, journal, &mut disk, &all, kept) else {
-        return Ok(false);
-    };
     let (first, _) = all.as_slice().split_at(left.min(3));
-    Ok(reopened.acknowledged == (passes == 12) && reopened.contents.as_slice() == first)
+    match reopened(alloc, &mut disk, &all, kept) {
+        Some(reopened) => {
+            Ok(reopened.acknowledged == (passes == 12) && reopened.contents.as_slice() == first)
+        }
+        None => Ok(false),
+    }
 }
 
 /// A commit of a second content whose first write was torn: the file ends after so many bytes of it, whatever these are.
