@@ -1,12 +1,12 @@
 -- A commit to a journal that a disk holds.
-use Rattle.std.proofs.Common.{◌≡◌, inl, inr, ℕ, ◌+◌, ◌<◌, List, [], ◌∷◌, ◌++◌, length, Option, sym, ◌∙◌, ap, arith, length-append}
-use Rattle.std.specs.Prelude.{option_map}
+use Rattle.std.proofs.Common.{◌≡◌, inl, inr, ℕ, ◌+◌, ◌<◌, List, [], ◌∷◌, ◌++◌, length, Option, sym, ◌∙◌, ap, subst, arith, length-append}
+use Rattle.std.specs.Prelude.{option_map, is_some}
 use Rattle.disk_core.specs.Disk.{Held, MayLeave}
 use Rattle.checkpoint_journal.specs.Format.{most_records, gate_place, IsBeforeOrAfter}
 use Rattle.checkpoint_journal.specs.Commit.{commit_after, IsFile, IsStopped}
-use Rattle.checkpoint_journal.specs.State.{State, next_gate, HasContents, CrashLeavesBeforeOrAfter}
-use Rattle.checkpoint_journal.proofs.Options.{on_map}
-use Rattle.checkpoint_journal.proofs.Steps.{Ready, at_any, goes_on}
+use Rattle.checkpoint_journal.specs.State.{State, next_gate, HasContents, MayFind, FindsBeforeOrAfter}
+use Rattle.checkpoint_journal.proofs.Options.{on_map, map_some}
+use Rattle.checkpoint_journal.proofs.Steps.{Ready, at_any, as_read, goes_on}
 
 -- a content that is committed at the next gate of a journal with room
 pub record Commits (j : State) (cs : List (List ℕ)) (content : List ℕ) (o : Option Held) (gate : ℕ) : Type 0 where
@@ -22,14 +22,21 @@ module _ {j : State} {cs : List (List ℕ)} {content : List ℕ} {o : Option Hel
   ready : (held : Held) → IsFile j.kind j.number j.start cs held → Ready j.kind j.number j.start cs content held
   ready held file = record { file = file; room = let n = c.is.count in let few = c.few in omega arith; size = c.size }
 
-  pub crash_after : (calls : ℕ) → p ≡ option_map (commit_after calls gate content) o → CrashLeavesBeforeOrAfter j cs content p
+  at_found : {held : Held} → Ready j.kind j.number j.start cs content held → (calls : ℕ) (image : List ℕ)
+      → MayFind (commit_after calls (gate_place j.start (length cs)) content held) image → IsBeforeOrAfter j.kind j.number cs content image
+  at_found {held} r calls image (inl read) =
+      at_any r calls image
+      (subst (λ (l : List ℕ). MayLeave (commit_after calls (gate_place j.start (length cs)) content held) l) (sym read) (as_read r calls))
+  at_found r calls image (inr left) = at_any r calls image left
+
+  pub crash_after : (calls : ℕ) → p ≡ option_map (commit_after calls gate content) o → FindsBeforeOrAfter j cs content p
   crash_after calls made =
       on_map (commit_after calls (gate_place j.start (length cs)) content) o p (IsFile j.kind j.number j.start cs)
-      (λ (h : Held). (image : List ℕ) → MayLeave h image → IsBeforeOrAfter j.kind j.number cs content image)
+      (λ (h : Held). (image : List ℕ) → MayFind h image → IsBeforeOrAfter j.kind j.number cs content image)
       (made ∙ ap (λ (n : ℕ). option_map (commit_after calls n content) o) gate_is)
-      (λ held file image left. at_any (ready held file) calls image left) c.is.file
+      (λ held file image found. at_found (ready held file) calls image found) c.is.file
 
-  pub crash_stopped : IsStopped gate content o p → CrashLeavesBeforeOrAfter j cs content p
+  pub crash_stopped : IsStopped gate content o p → FindsBeforeOrAfter j cs content p
   crash_stopped (inl first) = crash_after 1 first
   crash_stopped (inr second) = crash_after 3 second
 
@@ -42,3 +49,8 @@ module _ {j : State} {cs : List (List ℕ)} {content : List ℕ} {o : Option Hel
         (made ∙ ap (λ (n : ℕ). option_map (commit_after 4 n content) o) gate_is)
         (λ held file. goes_on (ready held file)) c.is.file;
   }
+
+-- a disk that tells what it holds goes on telling
+pub stopped_some : (gate : ℕ) (content : List ℕ) (o p : Option Held) → IsStopped gate content o p → is_some p ≡ is_some o
+stopped_some gate content o p (inl first) = map_some (commit_after 1 gate content) o p first
+stopped_some gate content o p (inr second) = map_some (commit_after 3 gate content) o p second

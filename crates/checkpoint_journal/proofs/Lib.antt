@@ -7,3 +7,6 @@ pub mod Walk
 pub mod Fresh
 pub mod Heads
 pub mod Commits
+pub mod Same
+pub mod Several
+pub mod Reopens

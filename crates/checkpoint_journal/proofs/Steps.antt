@@ -2,7 +2,7 @@
 use Rattle.std.proofs.Common.{subst, ◌≡◌, ◌⊎◌, inl, inr, ℕ, zero, suc, ◌+◌, ◌<◌, ◌≤◌, false, List, [], ◌∷◌, ◌++◌, length, drop, refl, sym, ◌∙◌, ap, arith, append_assoc}
 use Rattle.std.specs.Prelude.{Ok}
 use Rattle.disk_core.specs.Disk.{Held, MayLeave, durable, wrote, overwritten}
-use Rattle.disk_core.proofs.Torn.{only_synced}
+use Rattle.disk_core.proofs.Torn.{only_synced, crashable_durable, crashable_wrote}
 use Rattle.checkpoint_journal.specs.Format.{is_open, closed_gate, most_records, gate_place, spelled, opens, IsBeforeOrAfter}
 use Rattle.checkpoint_journal.specs.Commit.{commit_after, IsFile}
 use Rattle.checkpoint_journal.specs.Laws.{IsCut, CutIsBeforeOrAfter, CutIsBefore, CutIsAfter}
@@ -102,6 +102,20 @@ module _ {kind number start : ℕ} {cs : List (List ℕ)} {content : List ℕ} {
   at_past : (n : ℕ) (image : List ℕ) → MayLeave (commit_after (suc (suc (suc (suc n)))) place content held) image
       → opens kind number image ≡ Ok (cs ++ content ∷ [])
   at_past n image left = at_last image (subst (λ (h : Held). MayLeave h image) (past n) left)
+
+  -- what a read gives is among what a crash may leave
+  pub as_read : (calls : ℕ) → MayLeave (commit_after calls place content held) (commit_after calls place content held).bytes
+  as_read zero = subst (λ (h : Held). MayLeave h h.bytes) (sym is.synced) (crashable_durable held.bytes).read
+  as_read (suc zero) =
+      subst (λ (h : Held). MayLeave (wrote (place + 1) piece h) (wrote (place + 1) piece h).bytes) (sym is.synced)
+      (crashable_wrote (place + 1) piece (durable held.bytes) (crashable_durable held.bytes)).read
+  as_read (suc (suc zero)) = (crashable_durable (overwritten (place + 1) piece held.bytes)).read
+  as_read (suc (suc (suc zero))) =
+      let staged = overwritten (place + 1) piece held.bytes in
+      (crashable_wrote place (79 ∷ []) (durable staged) (crashable_durable staged)).read
+  as_read (suc (suc (suc (suc n)))) =
+      subst (λ (h : Held). MayLeave h h.bytes) (sym (past n))
+      (crashable_durable (overwritten place (79 ∷ []) (overwritten (place + 1) piece held.bytes))).read
 
   pub at_first : (calls : ℕ) (image : List ℕ) → calls ≤ 2 → MayLeave (commit_after calls place content held) image
       → opens kind number image ≡ Ok cs

@@ -1,9 +1,11 @@
 -- What the calls answer, and when each refusal comes.
-use Rattle.std.specs.Prelude.{◌≡◌, ◌⊎◌, ◌<◌, ◌≤◌, ◌+◌, ℕ, true, false, [], length, Option, Some, Result, Ok, Err}
+use Rattle.std.specs.Prelude.{◌≡◌, ◌⊎◌, ◌<◌, ◌≤◌, ◌+◌, ◌-◌, ℕ, true, false, List, [], ◌++◌, length, take, Option, Some, Result, Ok, Err}
 use Rattle.wire_base.specs.Causes.{Rose}
 use Rattle.disk_core.specs.Disk.{Held, durable, settled}
 use Rattle.checkpoint_journal.specs.Format.{most_records, is_made, spelling}
-use Rattle.checkpoint_journal.specs.State.{State}
+use Rattle.checkpoint_journal.specs.Commit.{IsHalfMade}
+use Rattle.checkpoint_journal.specs.State.{State, FindsNothingNew}
+use Rattle.checkpoint_journal.specs.declared.crash.Reopened.{Reopened}
 use Rattle.checkpoint_journal.specs.declared.open.JournalOpen.{JournalOpen}
 use Rattle.checkpoint_journal.specs.declared.open.JournalOpen.TheVariants.{NotJournal, StoreFault, NoMemory}
 use Rattle.checkpoint_journal.specs.declared.journal.JournalRoom.{JournalRoom}
@@ -38,9 +40,25 @@ FaultHasCause before now (NotJournal at) = now ≡ before
 FaultHasCause before now StoreFault = Rose before now
 FaultHasCause before now NoMemory = ⊥
 
--- a file that isn't made new isn't written: it is as it was, or synced
+-- the file is as it was, or synced
+abbrev pub IsSame : Option Held → Held → Type 0
+IsSame file held = (file ≡ Some held) ⊎ (file ≡ Some (settled held))
+
+-- a file that isn't made new isn't written
 abbrev pub IsUnwritten : Option Held → Held → Type 0
-IsUnwritten file held = (is_made held.bytes ≡ true) ⊎ (33 < length held.bytes) → (file ≡ Some held) ⊎ (file ≡ Some (settled held))
+IsUnwritten file held = (is_made held.bytes ≡ true) ⊎ (33 < length held.bytes) → IsSame file held
+
+-- so a crash in the call leaves nothing that one before it might not have left
+abbrev pub IsSafe : Option Held → Held → Type 0
+IsSafe file held = (is_made held.bytes ≡ true) ⊎ (33 < length held.bytes) → FindsNothingNew file held
+
+-- after a refusal no file is written but one that is to be made new, where the disk failed while it was made
+abbrev pub IsLeftBehind : {T : Type 0} → ℕ → ℕ → Option Held → Result T JournalOpen → Held → Type 0
+IsLeftBehind kind number file (Ok opened) held = Unit {0}
+IsLeftBehind kind number file (Err (NotJournal at)) held = IsSame file held
+IsLeftBehind kind number file (Err StoreFault) held =
+    IsSame file held ⊎ ((is_made held.bytes ≡ false) × IsHalfMade kind number (Some (settled held)) file)
+IsLeftBehind kind number file (Err NoMemory) held = IsSame file held
 
 -- a file that is made new has the spelling of no contents
 abbrev pub IsMadeNew : ℕ → ℕ → Option Held → Held → Type 0
@@ -62,3 +80,30 @@ StopHasCause before after faults now (Ok done) = (before.halted ≡ false) × (n
 StopHasCause before after faults now (Err stop.Halted) = (before.halted ≡ true) × (after ≡ before) × (now ≡ faults)
 StopHasCause before after faults now (Err stop.StoreFault) =
     (before.halted ≡ false) × (after ≡ record before { halted = true }) × Rose faults now
+
+-- why not all of so many contents were committed: some of them may be, and after a failure of the disk the journal is halted
+abbrev pub SomeHaveCause : {T : Type 0} → ℕ → State → State → ℕ → ℕ → Result T JournalStop → Type 0
+SomeHaveCause count before after faults now (Ok done) = (before.halted ≡ false) × (now ≡ faults)
+SomeHaveCause count before after faults now (Err stop.Halted) = (before.halted ≡ true) × (after ≡ before) × (now ≡ faults)
+SomeHaveCause count before after faults now (Err stop.StoreFault) =
+    (before.halted ≡ false) × Rose faults now
+    × ((done : ℕ) × (done < count)
+    × (after ≡ record before { records = before.records + done; spare = before.spare - done; halted = true }))
+
+-- ---- a commit, a crash, and opening again
+
+-- the contents from before and the first few of these, and all of them where their commit was acknowledged
+abbrev pub GivesBeforeAndFirst : List (List ℕ) → List (List ℕ) → Result Reopened JournalOpen → Type 0
+GivesBeforeAndFirst before contents (Ok reopened) =
+    (n : ℕ) × (n ≤ length contents) × (reopened.contents ≡ before ++ take n contents) × (reopened.acknowledged ≡ true → n ≡ length contents)
+GivesBeforeAndFirst before contents (Err (NotJournal at)) = ⊥
+GivesBeforeAndFirst before contents (Err StoreFault) = Unit {0}
+GivesBeforeAndFirst before contents (Err NoMemory) = Unit {0}
+
+-- a commit isn't acknowledged, and nothing opened, only where the disk failed, the journal was halted or memory was wanting
+abbrev pub ReopenHasCause : State → ℕ → ℕ → Result Reopened JournalOpen → Type 0
+ReopenHasCause before faults now (Ok reopened) =
+    (reopened.acknowledged ≡ true → now ≡ faults) × (reopened.acknowledged ≡ false → (before.halted ≡ true) ⊎ Rose faults now)
+ReopenHasCause before faults now (Err (NotJournal at)) = Unit {0}
+ReopenHasCause before faults now (Err StoreFault) = Rose faults now
+ReopenHasCause before faults now (Err NoMemory) = Unit {0}

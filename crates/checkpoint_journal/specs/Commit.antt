@@ -1,7 +1,7 @@
 -- A commit as calls of the device, and the file after so many of them.
 use Rattle.std.specs.Prelude.{◌≡◌, ◌⊎◌, ℕ, ◌+◌, true, List, [], ◌∷◌, ◌++◌, take, Option, option_map, Ok}
 use Rattle.disk_core.specs.Disk.{Held, durable, wrote, settled}
-use Rattle.checkpoint_journal.specs.Format.{open_gate, closed_gate, is_made, start_of, opens}
+use Rattle.checkpoint_journal.specs.Format.{open_gate, closed_gate, header, is_made, start_of, opens}
 
 pub data DeviceCall : Type 0 where
   Writes : ℕ → List ℕ → DeviceCall
@@ -22,6 +22,20 @@ commit_calls gate content = Writes (gate + 1) (content ++ closed_gate ∷ []) �
 -- the file after so many calls of a commit
 abbrev pub commit_after : ℕ → ℕ → List ℕ → Held → Held
 commit_after count gate content held = after_calls (take count (commit_calls gate content)) held
+
+-- a new file: its header and a closed gate, and only once they are durable its own gate
+abbrev pub make_calls : ℕ → ℕ → List DeviceCall
+make_calls kind number =
+    Writes 1 (header kind number ++ closed_gate ∷ closed_gate ∷ []) ∷ Syncs ∷ Writes 0 (open_gate ∷ []) ∷ Syncs ∷ []
+
+-- the file after so many calls of its making
+abbrev pub make_after : ℕ → ℕ → ℕ → Held → Held
+make_after count kind number held = after_calls (take count (make_calls kind number)) held
+
+-- the making of a new file stopped at its first or its second write: the write is pending
+abbrev pub IsHalfMade : ℕ → ℕ → Option Held → Option Held → Type 0
+IsHalfMade kind number before file =
+    (file ≡ option_map (make_after 1 kind number) before) ⊎ (file ≡ option_map (make_after 3 kind number) before)
 
 -- a commit stopped at its first or its second write: the write is pending
 abbrev pub IsStopped : ℕ → List ℕ → Option Held → Option Held → Type 0

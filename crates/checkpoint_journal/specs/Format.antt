@@ -1,5 +1,5 @@
 -- The bytes of a journal: how its contents are spelled, and what is read of a file.
-use Rattle.std.specs.Prelude.{◌≡◌, ◌⊎◌, ℕ, zero, suc, ◌+◌, ◌*◌, ◌==◌, nat_lt, Bool, if◌then◌else◌, List, [], ◌∷◌, ◌++◌, length, take, drop, replicate, slice_index, codes, Option, Some, None, Result, Ok, Err}
+use Rattle.std.specs.Prelude.{◌≡◌, ◌⊎◌, ℕ, zero, suc, ◌+◌, ◌*◌, ◌≤◌, ◌==◌, nat_lt, Bool, if◌then◌else◌, List, [], ◌∷◌, ◌++◌, length, take, drop, replicate, slice_index, codes, Option, Some, None, Result, Ok, Err}
 
 -- a gate is open at the byte 4f alone; 43 is what a closed one is written as
 abbrev pub open_gate : ℕ
@@ -92,6 +92,11 @@ opens kind number file =
 abbrev pub IsBeforeOrAfter : ℕ → ℕ → List (List ℕ) → List ℕ → List ℕ → Type 0
 IsBeforeOrAfter kind number contents content file =
     (opens kind number file ≡ Ok contents) ⊎ (opens kind number file ≡ Ok (contents ++ content ∷ []))
+
+-- the file opens with the contents from before and the first few of these, so many at least
+abbrev pub IsBeforeAndFirst : ℕ → ℕ → List (List ℕ) → List (List ℕ) → ℕ → List ℕ → Type 0
+IsBeforeAndFirst kind number before contents least file =
+    (n : ℕ) × (least ≤ n) × (n ≤ length contents) × (opens kind number file ≡ Ok (before ++ take n contents))
 
 -- ---- the first bytes alone
 

@@ -1,8 +1,8 @@
 -- A journal between two calls, and its disk.
-use Rattle.std.specs.Prelude.{◌≡◌, ◌<◌, ◌≤◌, ◌+◌, ◌*◌, ℕ, Bool, false, List, length, Option, IfSome}
+use Rattle.std.specs.Prelude.{◌≡◌, ◌⊎◌, ◌<◌, ◌≤◌, ◌+◌, ◌*◌, ℕ, Bool, false, List, length, Option, IfSome}
 use Rattle.disk_core.specs.Disk.{Held, MayLeave}
 use Rattle.checkpoint_journal.specs.Commit.{IsFile}
-use Rattle.checkpoint_journal.specs.Format.{gate_place, IsBeforeOrAfter}
+use Rattle.checkpoint_journal.specs.Format.{gate_place, IsBeforeOrAfter, IsBeforeAndFirst}
 
 pub record State : Type 0 where
   -- 1 at a LAC, 2 at an LNS
@@ -30,10 +30,23 @@ pub record HasContents (journal : State) (contents : List (List ℕ)) (held : Op
   pub count : length contents ≡ journal.records
   pub file : IfSome held (IsFile journal.kind journal.number journal.start contents)
 
--- each image that a crash may leave opens with the contents from before, or with these and this one last
-abbrev pub CrashLeavesBeforeOrAfter : State → List (List ℕ) → List ℕ → Option Held → Type 0
-CrashLeavesBeforeOrAfter journal contents content held = IfSome held (λ file. (image : List ℕ) → MayLeave file image
+-- what may be found on a disk: what a read gives, and after a crash one of the images that it may leave
+abbrev pub MayFind : Held → List ℕ → Type 0
+MayFind held image = (image ≡ held.bytes) ⊎ MayLeave held image
+
+-- all that may be found opens with the contents from before, or with these and this one last
+abbrev pub FindsBeforeOrAfter : State → List (List ℕ) → List ℕ → Option Held → Type 0
+FindsBeforeOrAfter journal contents content held = IfSome held (λ file. (image : List ℕ) → MayFind file image
     → IsBeforeOrAfter journal.kind journal.number contents content image)
+
+-- all that may be found opens with the contents from before and the first few of these, so many at least
+abbrev pub FindsBeforeAndFirst : State → List (List ℕ) → List (List ℕ) → ℕ → Option Held → Type 0
+FindsBeforeAndFirst journal before contents least held = IfSome held (λ file. (image : List ℕ) → MayFind file image
+    → IsBeforeAndFirst journal.kind journal.number before contents least image)
+
+-- nothing may be found that might not have been found before
+abbrev pub FindsNothingNew : Option Held → Held → Type 0
+FindsNothingNew file before = IfSome file (λ held. (image : List ℕ) → MayFind held image → MayFind before image)
 
 -- the room that was made on the disk for its spare is still there
 pub record HasRoom {D : Type 0} (reach calls_left : D → ℕ) (journal : State) (disk : D) : Type 0 where

@@ -1,10 +1,11 @@
 //! The first bytes of a journal.
 
-ghost use Rattle.std.specs.Prelude.{◌≡◌, ◌≤◌, ◌<◌, ◌⊎◌, [], ◌∷◌, ◌++◌, Some, length, IfOk, OnOk, IfSome, true, false};
+ghost use Rattle.std.specs.Prelude.{◌≡◌, ◌≤◌, ◌<◌, ◌⊎◌, [], ◌∷◌, ◌++◌, Some, length, IfOk, OnOk, OnErr, IfSome, true, false};
 ghost use Rattle.wire_base.specs.Causes.{HasCause};
 ghost use Rattle.disk_core.specs.Disk.{durable};
 ghost use Rattle.disk_core.specs.Room.{SameRoom};
 ghost use Rattle.checkpoint_journal.specs.Format.{first_area, second_area, closed_gate, header, differs, start_of, head_of, is_made, spelling};
+ghost use Rattle.checkpoint_journal.specs.Commit.{IsHalfMade};
 ghost use Rattle.checkpoint_journal.specs.Answers.{Opens, OpenHasCause};
 
 use crate::area::{FIRST_AREA, SECOND_AREA};
@@ -100,6 +101,7 @@ pub fn make<D: Disk>(disk: &mut D, kind: u8, number: u8) -> Result<(), Failed>
     requires calls { 4 ≤ D.calls_left disk.old }
     requires short { IfSome (D.holds disk.old) (λ held. length held.bytes ≤ 33) }
     ensures made { OnOk result (IfSome (D.holds disk.new) (λ held. held ≡ durable (spelling kind number []))) }
+    ensures stopped { OnErr result (IsHalfMade kind number (D.holds disk.old) (D.holds disk.new)) }
     ensures tells { OnOk result (IfSome (D.holds disk.old) (λ _. D.holds disk.new ≡ Some (durable (spelling kind number [])))) }
     ensures cause { HasCause (D.faults disk.old) (D.faults disk.new) result }
 {

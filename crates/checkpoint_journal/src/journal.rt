@@ -1,10 +1,10 @@
 //! The journal: contents in order, each on the disk before its gate is opened.
 
-ghost use Rattle.std.specs.Prelude.{◌≡◌, ◌≤◌, ◌<◌, ◌+◌, ◌-◌, ◌++◌, ◌∷◌, [], ℕ, List, max, OnOk, OnErr, option_map, true, false};
+ghost use Rattle.std.specs.Prelude.{◌≡◌, ◌≤◌, ◌<◌, ◌+◌, ◌-◌, ◌++◌, ◌∷◌, [], ℕ, List, length, max, OnOk, OnErr, option_map, is_some, true, false};
 ghost use Rattle.checkpoint_journal.specs.Format.{most_records, second_area};
 ghost use Rattle.checkpoint_journal.specs.Commit.{commit_after, IsStopped};
-ghost use Rattle.checkpoint_journal.specs.State.{opened_at, next_gate, HasContents, HasRoom, CrashLeavesBeforeOrAfter};
-ghost use Rattle.checkpoint_journal.specs.Answers.{RoomHasCause, StopHasCause};
+ghost use Rattle.checkpoint_journal.specs.State.{opened_at, next_gate, HasContents, HasRoom, FindsBeforeOrAfter, FindsBeforeAndFirst};
+ghost use Rattle.checkpoint_journal.specs.Answers.{RoomHasCause, StopHasCause, SomeHaveCause};
 
 use crate::area::MOST_RECORDS;
 use crate::record::write_record;
@@ -89,6 +89,26 @@ impl Journal {
         self.records
     }
 
+    /// Whose journal it is.
+    pub(crate) fn kind(&self) -> u8
+        ensures { result ≡ self.now.kind }
+    {
+        self.kind
+    }
+
+    pub(crate) fn number(&self) -> u8
+        ensures { result ≡ self.now.number }
+    {
+        self.number
+    }
+
+    /// Whether the disk failed at an earlier commit.
+    fn is_halted(&self) -> bool
+        ensures { result ≡ self.now.halted }
+    {
+        self.halted
+    }
+
     /// Makes the spare at least `count`: the disk has room for so many records, and for the four calls of each. It makes
     /// no call of the device, and where it is refused the journal is as before.
     #[tactic(auto, unfolding(crate::specs::Format::most_records, crate::specs::Format::second_area))]
@@ -131,15 +151,16 @@ impl Journal {
         ensures done { OnOk result (D.holds disk.new ≡ option_map (commit_after 4 (next_gate self.old) content.now) (D.holds disk.old)) }
         ensures stopped { self.old.halted ≡ false → OnErr result (IsStopped (next_gate self.old) content.now (D.holds disk.old) (D.holds disk.new)) }
         ensures halted { self.old.halted ≡ true → D.holds disk.new ≡ D.holds disk.old }
+        ensures tells { is_some (D.holds disk.new) ≡ is_some (D.holds disk.old) }
 
         // At `Ok` the journal has the contents from before, and this one last.
         ensures committed { (contents : List (List ℕ)) → HasContents self.old contents (D.holds disk.old)
             → OnOk result (HasContents self.new (contents ++ content.now ∷ []) (D.holds disk.new)) }
 
-        // Whatever comes of the call, each image that a crash may leave opens with the contents from before, or with these
-        // and this one last.
+        // Whatever comes of the call, the file opens with the contents from before, or with these and this one last: as a
+        // read gives it, and in each image that a crash may leave.
         ensures crash { (contents : List (List ℕ)) → HasContents self.old contents (D.holds disk.old)
-            → CrashLeavesBeforeOrAfter self.old contents content.now (D.holds disk.new) }
+            → FindsBeforeOrAfter self.old contents content.now (D.holds disk.new) }
     {
         if self.halted {
             return Err(JournalStop::Halted);
@@ -156,5 +177,39 @@ impl Journal {
                 Err(JournalStop::StoreFault)
             }
         }
+    }
+
+    /// Puts contents behind the others, one after the other; its condition is that the spare is enough for all of them. It
+    /// makes four calls of the device for each, and takes no memory. Of contents that aren't all committed `records` tells
+    /// how many are.
+    pub fn commit_all<D: Disk>(
+        &mut self,
+        disk: &mut D,
+        contents: &[[u8; 31]],
+    ) -> Result<(), JournalStop>
+        requires spare { length contents.now ≤ self.old.spare }
+        requires room { self.old.halted ≡ false → HasRoom D.reach D.calls_left self.old disk.old }
+        ensures room { OnOk result (HasRoom D.reach D.calls_left self.new disk.new) }
+        ensures state { OnOk result (self.new ≡ record self.old { records = self.old.records + length contents.now; spare = self.old.spare - length contents.now }) }
+        ensures cause { SomeHaveCause (length contents.now) self.old self.new (D.faults disk.old) (D.faults disk.new) result }
+        ensures halted { self.old.halted ≡ true → D.holds disk.new ≡ D.holds disk.old }
+        ensures tells { is_some (D.holds disk.new) ≡ is_some (D.holds disk.old) }
+
+        // At `Ok` the journal has the contents from before, and these behind them.
+        ensures committed { (before : List (List ℕ)) → HasContents self.old before (D.holds disk.old)
+            → OnOk result (HasContents self.new (before ++ contents.now) (D.holds disk.new)) }
+
+        // Whatever comes of the call, the file opens with the contents from before and the first few of these, and with as
+        // many of these at least as the journal says that it took.
+        ensures crash { (before : List (List ℕ)) → HasContents self.old before (D.holds disk.old)
+            → FindsBeforeAndFirst self.old before contents.now (self.new.records - self.old.records) (D.holds disk.new) }
+    {
+        if self.is_halted() {
+            return Err(JournalStop::Halted);
+        }
+        for content in contents {
+            self.commit(disk, content)?;
+        }
+        Ok(())
     }
 }

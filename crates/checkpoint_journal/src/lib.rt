@@ -4,12 +4,14 @@
 #![tactic(auto)]
 
 mod area;
+mod crash;
 mod head;
 mod journal;
 mod laws;
 mod open;
 mod record;
 
+pub use crash::{Reopened, commit_and_crash};
 pub use journal::{Journal, JournalRoom, JournalStop};
 pub use laws::{a_commit_spells_one_more, a_crash_leaves_whole_commits, what_is_spelled_is_read};
 pub use open::{JournalOpen, open_disk};

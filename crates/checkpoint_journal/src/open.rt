@@ -5,7 +5,7 @@ ghost use Rattle.disk_core.specs.Disk.{durable};
 ghost use Rattle.checkpoint_journal.specs.Format.{opens, most_records, first_area, second_area};
 ghost use Rattle.checkpoint_journal.specs.Commit.{IsFile};
 ghost use Rattle.checkpoint_journal.specs.State.{opened_at, HasContents, HasRoom};
-ghost use Rattle.checkpoint_journal.specs.Answers.{Opens, OpenHasCause, IsUnwritten, IsMadeNew};
+ghost use Rattle.checkpoint_journal.specs.Answers.{Opens, OpenHasCause, IsUnwritten, IsSafe, IsLeftBehind, IsMadeNew};
 
 use crate::area::{FIRST_AREA, read_area};
 use crate::head::{make, read_head};
@@ -62,8 +62,10 @@ pub fn open_disk<D: Disk>(
     ensures contents { IfOk result (λ opened. HasContents opened.0 opened.1 (D.holds disk.new)) }
     ensures room { IfOk result (λ opened. HasRoom D.reach D.calls_left opened.0 disk.new) }
 
-    // Whatever comes of the call, a file that isn't made new isn't written.
+    // Whatever comes of the call, a file that isn't made new isn't written, and a crash in it leaves nothing new.
     ensures unwritten { IfSome (D.holds disk.old) (IsUnwritten (D.holds disk.new)) }
+    ensures safe { IfSome (D.holds disk.old) (IsSafe (D.holds disk.new)) }
+    ensures refused { IfSome (D.holds disk.old) (IsLeftBehind kind number (D.holds disk.new) result) }
     ensures made_new { OnOk result (IfSome (D.holds disk.old) (IsMadeNew kind number (D.holds disk.new))) }
     ensures cause { OpenHasCause (D.faults disk.old) (D.faults disk.new) result }
 {
@@ -89,6 +91,7 @@ fn read_or_make<D: Disk>(
     ensures start { IfOk result (λ found. (found.0 ≡ first_area) ⊎ (found.0 ≡ second_area)) }
     ensures few { IfOk result (λ found. length found.1 ≤ most_records) }
     ensures unwritten { IfSome (D.holds disk.old) (IsUnwritten (D.holds disk.new)) }
+    ensures refused { IfSome (D.holds disk.old) (IsLeftBehind kind number (D.holds disk.new) result) }
     ensures made_new { OnOk result (IfSome (D.holds disk.old) (IsMadeNew kind number (D.holds disk.new))) }
     ensures cause { OpenHasCause (D.faults disk.old) (D.faults disk.new) result }
 {

@@ -1,5 +1,5 @@
 use checkpoint_journal::*;
-use disk_core::{Disk, Fails, MemoryDisk, StopDisk};
+use disk_core::{Crash, Disk, Fails, MemoryDisk, StopDisk};
 use std::alloc::Global;
 use std::test::Fail;
 use wire_base::{Bytes, NoMemory};
@@ -21,6 +21,18 @@ const CALL: [u8; 31] =
 
 fn holding(alloc: Global, image: &[u8]) -> Result<MemoryDisk, NoMemory> {
     MemoryDisk::new(alloc, Bytes::from_slice(alloc, image)?, Fails::new(alloc))
+}
+
+/// The file of a journal with these contents: each behind an open gate, and a closed gate behind the last one.
+fn spelled(alloc: Global, contents: &[[u8; 31]]) -> Result<Bytes, NoMemory> {
+    let mut file = Bytes::from_slice(alloc, HEAD)?;
+    file.push_slice(b"C")?;
+    for content in contents {
+        file.push_slice(b"O")?;
+        file.push_slice(content)?;
+    }
+    file.push_slice(b"C")?;
+    Ok(file)
 }
 
 /// The disk opens with these contents.
@@ -88,6 +100,111 @@ fn is_left(alloc: Global, passes: u64, kept: bool, both: bool) -> Result<bool, N
     Ok(one.is_ok() && two.is_ok() == (passes == 14) && opens_with(alloc, &mut disk, left))
 }
 
+/// Two commits to a disk of which one call of the device fails leave so many of the contents, as they are read again at once
+/// and after a crash. The first six calls open the disk, and each commit makes four; no call has the number 0.
+fn is_left_by_a_fault(
+    alloc: Global,
+    call: u64,
+    crash: Option<bool>,
+    left: usize,
+) -> Result<bool, NoMemory> {
+    let fails = Fails::from_slice(alloc, &[call])?;
+    let mut disk = MemoryDisk::new(alloc, Bytes::new(alloc), fails)?;
+    let answers = two_commits(alloc, &mut disk, &ONE, &TUNNEL);
+    let fault = Err(JournalStop::StoreFault);
+    let halted = Err(JournalStop::Halted);
+    let expected = match call {
+        1..=6 => None,
+        7..=10 => Some((fault, halted, Err(JournalRoom::Halted))),
+        11..=14 => Some((Ok(()), fault, Err(JournalRoom::Halted))),
+        _ => Some((Ok(()), Ok(()), Ok(()))),
+    };
+    if let Some(kept) = crash {
+        disk.after_crash(kept);
+    }
+    let both = [ONE, TUNNEL];
+    let (first, _) = both.as_slice().split_at(left.min(2));
+    Ok(answers == expected && opens_with(alloc, &mut disk, first))
+}
+
+/// Opening an image on a disk that stops after so many calls, and a crash behind it, leave a disk that opens with the same
+/// contents as before.
+fn is_opened_safely(
+    alloc: Global,
+    image: &[u8],
+    passes: u64,
+    kept: bool,
+    contents: &[[u8; 31]],
+) -> Result<bool, NoMemory> {
+    let mut stop = StopDisk::new(holding(alloc, image)?, passes);
+    let answer = open_disk(alloc, &mut stop, 1, 1).err();
+    let mut disk = stop.into_disk();
+    disk.after_crash(kept);
+    Ok(
+        matches!(answer, None | Some(JournalOpen::StoreFault))
+            && opens_with(alloc, &mut disk, contents),
+    )
+}
+
+/// What a disk opens with that takes at most three contents in one call and crashes.
+fn reopened<D: Crash>(
+    alloc: Global,
+    disk: &mut D,
+    contents: &[[u8; 31]],
+    kept: bool,
+) -> Option<Reopened> {
+    let (mut journal, _) = open_disk(alloc, disk, 1, 1).ok()?;
+    journal.prepare(disk, 3).ok()?;
+    if contents.len() > 3 {
+        return None;
+    }
+    commit_and_crash(alloc, journal, disk, contents, kept).ok()
+}
+
+/// Three commits in one call, on a disk that stops after so many of its twelve calls and crashes, leave so many contents.
+fn are_left(alloc: Global, passes: u64, kept: bool, left: usize) -> Result<bool, NoMemory> {
+    let all = [ONE, TUNNEL, CALL];
+    let mut disk = StopDisk::new(holding(alloc, b"")?, 6 + passes);
+    let (first, _) = all.as_slice().split_at(left.min(3));
+    match reopened(alloc, &mut disk, &all, kept) {
+        Some(reopened) => {
+            Ok(reopened.acknowledged == (passes == 12) && reopened.contents.as_slice() == first)
+        }
+        None => Ok(false),
+    }
+}
+
+/// A commit of a second content whose first write was torn: the file ends after so many bytes of it, whatever these are.
+fn is_torn_in_its_content(
+    alloc: Global,
+    gate: u8,
+    count: usize,
+    byte: u8,
+) -> Result<bool, NoMemory> {
+    let mut image = Bytes::from_slice(alloc, HEAD)?;
+    image.push_slice(b"CO")?;
+    image.push_slice(&ONE)?;
+    image.push_slice(&[gate])?;
+    for _ in 0..count {
+        image.push_slice(&[byte])?;
+    }
+    let mut disk = MemoryDisk::new(alloc, image, Fails::new(alloc))?;
+    Ok(opens_with(alloc, &mut disk, &[ONE]))
+}
+
+/// A commit of a second content whose second write was torn: any byte may stand at its gate.
+fn is_torn_at_its_gate(alloc: Global, gate: u8) -> Result<bool, NoMemory> {
+    let mut image = Bytes::from_slice(alloc, HEAD)?;
+    image.push_slice(b"CO")?;
+    image.push_slice(&ONE)?;
+    image.push_slice(&[gate])?;
+    image.push_slice(&TUNNEL)?;
+    image.push_slice(b"C")?;
+    let mut disk = MemoryDisk::new(alloc, image, Fails::new(alloc))?;
+    let left: &[[u8; 31]] = if gate == b'O' { &[ONE, TUNNEL] } else { &[ONE] };
+    Ok(opens_with(alloc, &mut disk, left))
+}
+
 /// The disk opens with 1,048,576 contents, and has room for no more.
 fn has_no_room(alloc: Global, disk: &mut MemoryDisk) -> bool {
     let Ok((mut journal, contents)) = open_disk(alloc, disk, 1, 1) else {
@@ -147,7 +264,8 @@ fn four_contents_are_read_again(rt: HostRuntime) -> Result<(), Fail> {
         assert!(rt; takes(rt.alloc(), &mut disk, content).is_some());
         disk.after_crash(false);
     }
-    assert!(rt; disk.bytes().len() == 161);
+    let file = spelled(rt.alloc(), &all)?;
+    assert!(rt; file.as_slice().len() == 161 && disk.bytes() == file.as_slice());
     assert!(rt; opens_with(rt.alloc(), &mut disk, &all));
     Ok(())
 }
@@ -185,6 +303,93 @@ fn a_commit_stops_at_each_call_of_the_device(rt: HostRuntime) -> Result<(), Fail
         (14, true, true),
     ] {
         assert!(rt; is_left(rt.alloc(), passes, kept, both)?);
+    }
+    Ok(())
+}
+
+#[test]
+fn each_call_of_the_device_fails_in_turn(rt: HostRuntime) -> Result<(), Fail> {
+    // A write that fails is pending: a crash loses it or keeps it, and a read gives it.
+    for (call, lost, kept) in [
+        (1, 0, 0),
+        (2, 0, 0),
+        (3, 0, 0),
+        (4, 0, 0),
+        (5, 0, 0),
+        (6, 0, 0),
+        (7, 0, 0),
+        (8, 0, 0),
+        (9, 0, 1),
+        (10, 0, 1),
+        (11, 1, 1),
+        (12, 1, 1),
+        (13, 1, 2),
+        (14, 1, 2),
+        (0, 2, 2),
+    ] {
+        assert!(rt;
+            is_left_by_a_fault(rt.alloc(), call, Some(false), lost)?,
+            "call {call}"
+        );
+        assert!(rt;
+            is_left_by_a_fault(rt.alloc(), call, Some(true), kept)?,
+            "call {call}"
+        );
+        assert!(rt;
+            is_left_by_a_fault(rt.alloc(), call, None, kept)?,
+            "call {call}"
+        );
+    }
+    Ok(())
+}
+
+#[test]
+fn opening_stops_at_each_call_of_the_device(rt: HostRuntime) -> Result<(), Fail> {
+    let file = spelled(rt.alloc(), &[ONE])?;
+    for passes in 0..=6u64 {
+        for kept in [false, true] {
+            assert!(rt; is_opened_safely(rt.alloc(), b"", passes, kept, &[])?);
+            assert!(rt; is_opened_safely(rt.alloc(), file.as_slice(), passes, kept, &[ONE])?);
+        }
+    }
+    Ok(())
+}
+
+#[test]
+fn three_commits_stop_at_each_call_of_the_device(rt: HostRuntime) -> Result<(), Fail> {
+    for (passes, lost, kept) in [
+        (0, 0, 0),
+        (1, 0, 0),
+        (2, 0, 1),
+        (3, 0, 1),
+        (4, 1, 1),
+        (5, 1, 1),
+        (6, 1, 2),
+        (7, 1, 2),
+        (8, 2, 2),
+        (9, 2, 2),
+        (10, 2, 3),
+        (11, 2, 3),
+        (12, 3, 3),
+    ] {
+        assert!(rt;
+            are_left(rt.alloc(), passes, false, lost)?,
+            "after {passes}"
+        );
+        assert!(rt; are_left(rt.alloc(), passes, true, kept)?, "after {passes}");
+    }
+    Ok(())
+}
+
+#[test]
+fn a_torn_write_leaves_whole_contents(rt: HostRuntime) -> Result<(), Fail> {
+    for count in 0..=32usize {
+        for byte in [0, b'C', b'O', 0xff] {
+            assert!(rt; is_torn_in_its_content(rt.alloc(), b'C', count, byte)?);
+        }
+    }
+    for gate in 0..=255u8 {
+        assert!(rt; is_torn_at_its_gate(rt.alloc(), gate)?, "gate {gate}");
     }
     Ok(())
 }

@@ -56,6 +56,68 @@ fn is_marked_and_dropped(book: &mut Book) -> Result<bool, NoMemory> {
     Ok(is_marked && book.spare() == 0 && book.tunnels().is_empty() && book.calls().is_empty())
 }
 
+/// The contents make no book: the one at this place is the first that isn't in place.
+fn is_refused_at(alloc: Global, rows: &[[u8; 31]], at: usize) -> bool {
+    match book_of(alloc, rows) {
+        Err(BookError::BadRecord { at: place }) => place == at,
+        _ => false,
+    }
+}
+
+/// Both ceilings, and the tunnel; then this content.
+fn is_refused_behind_a_tunnel(alloc: Global, content: &[u8]) -> bool {
+    let rows = [
+        filled(&[1, 1, 0, 0, 0, 0x40]),
+        filled(&[1, 2, 0, 0, 0, 0x40]),
+        filled(&[2, 0, 1, 0, 1, 0x0a, 0, 0, 2, 0, 8, 0, 3]),
+        filled(content),
+        filled(&[9]),
+    ];
+    is_refused_at(alloc, &rows, 3)
+}
+
+#[test]
+fn the_first_content_out_of_place_is_told(rt: HostRuntime) -> Result<(), Fail> {
+    assert!(rt; is_refused_at(rt.alloc(), &[filled(&[9])], 0));
+    assert!(rt; is_refused_at(rt.alloc(), &[filled(&[1, 3, 0, 0, 0, 1]), filled(&[0])], 1));
+    let last: [u8; 31] = *b"\x05\0\x01\0\0\0\0\0\0\0\0\0\0\0\0\0\0\0\0\0\0\0\0\0\0\0\0\0\0\0\x01";
+    assert!(rt; is_refused_at(rt.alloc(), &[last], 0));
+    for content in [
+        // a ceiling that doesn't rise, that passes the last number, and of no space
+        [1, 1, 0, 0, 0, 0x40, 0, 0, 0, 0, 0, 0, 0, 0, 0].as_slice(),
+        &[1, 1, 0, 1, 0, 0],
+        &[1, 2, 0, 0, 0xff, 0xff],
+        &[1, 4, 0, 0, 0, 1],
+        // a tunnel: kept already, with the id 0, above the ceiling, with the remote id 0, without a window
+        &[2, 0, 1, 0, 1, 0x0a, 0, 0, 2, 0, 8, 0, 3],
+        &[2, 0, 0, 0, 1, 0x0a, 0, 0, 2, 0, 8, 0, 3],
+        &[2, 0, 0x41, 0, 1, 0x0a, 0, 0, 2, 0, 8, 0, 3],
+        &[2, 0, 2, 0, 0, 0x0a, 0, 0, 2, 0, 8, 0, 3],
+        &[2, 0, 2, 0, 1, 0x0a, 0, 0, 2, 0, 0, 0, 3],
+        // what isn't there goes down
+        &[3, 0, 2],
+        &[5, 0, 1],
+        // a call: over no tunnel, with the id 0, above the ceiling, and neither sequenced nor not
+        &[4, 0, 1, 0, 2, 0, 1],
+        &[4, 0, 0, 0, 1, 0, 1],
+        &[4, 0, 0x41, 0, 1, 0, 1],
+        &[4, 0, 1, 0, 1, 0, 1, 0, 0, 0, 0, 0, 0, 2],
+        // a mark of no tunnel, and one that doesn't rise
+        &[6, 0, 2, 0, 0, 0, 1],
+        &[6, 0, 1, 0, 0, 0, 0],
+        // kinds that there aren't, and a byte behind the fields
+        &[0],
+        &[7],
+        &[3, 0, 1, 1],
+    ] {
+        assert!(rt;
+            is_refused_behind_a_tunnel(rt.alloc(), content),
+            "{content:?}"
+        );
+    }
+    Ok(())
+}
+
 #[test]
 fn a_tunnel_with_a_call(rt: HostRuntime) -> Result<(), Fail> {
     let rows = [
@@ -74,7 +136,5 @@ fn a_tunnel_with_a_call(rt: HostRuntime) -> Result<(), Fail> {
     let mut book = book_of(rt.alloc(), &rows).ok().ok_or("they make a book")?;
     assert!(rt; has_both(&book));
     assert!(rt; is_marked_and_dropped(&mut book)?);
-    let unknown = book_of(rt.alloc(), &[filled(&[9])]).err();
-    assert!(rt; matches!(unknown, Some(BookError::BadRecord { at: 0 })));
     Ok(())
 }

@@ -8,7 +8,7 @@ mod memory;
 mod steady;
 mod stop;
 
-pub use disk::{Disk, WrittenRange};
+pub use disk::{Crash, Disk, WrittenRange};
 pub use laws::{
     a_crash_may_keep_all_or_nothing, a_sync_leaves_one_image, a_torn_write_leaves_any_bytes,
     a_torn_write_stays_in_its_range,

@@ -1,7 +1,8 @@
 use Rattle.std.proofs.Common.{◌+◌, ◌-◌, ◌*◌, ℕ, ap, subst, sym, arith}
 use Rattle.checkpoint_journal.specs.State.{State, HasContents}
 use Rattle.checkpoint_journal.proofs.Parts.{most_is, second_is}
-use Rattle.checkpoint_journal.proofs.Commits.{Commits, crash_after, crash_stopped, committed}
+use Rattle.checkpoint_journal.proofs.Commits.{Commits, crash_after, crash_stopped, committed, stopped_some}
+use Rattle.checkpoint_journal.proofs.Options.{map_some}
 use Rattle.checkpoint_journal.proofs.journal.Journal.commit.Goals as goal
 
 pub overflow_add-gate : goal.overflow_add-gate
@@ -61,3 +62,9 @@ returns-in-Err-clause-crash g c cs is =
       size = c.told-content;
     } in
     crash_stopped commits (g.D.Disk.holds c.write_record.new.disk) c.in-Err.ensures.stopped
+
+pub returns-in-Ok-clause-tells : goal.returns-in-Ok-clause-tells
+returns-in-Ok-clause-tells g c = map_some _ (g.D.Disk.holds c.args.disk.now) _ c.in-Ok.ensures.done
+
+pub returns-in-Err-clause-tells : goal.returns-in-Err-clause-tells
+returns-in-Err-clause-tells g c = stopped_some _ _ (g.D.Disk.holds c.args.disk.now) _ c.in-Err.ensures.stopped
