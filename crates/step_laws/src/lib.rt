@@ -3,7 +3,7 @@
 
 ghost use Rattle.step_laws.specs.Answers.{RequestsAreAnswered};
 ghost use Rattle.step_laws.specs.Causes.{CausesStand};
-ghost use Rattle.step_laws.specs.Left.{CallsAreAsked, CallsStaySound, LateCallsEnd};
+ghost use Rattle.step_laws.specs.Left.{CallsAreAsked, CallsStaySound, FailedTunnelsGo, LateCallsEnd, TunnelsBeginFew, TunnelsStayFew};
 ghost use Rattle.step_laws.specs.Looks.{LooksBeginTrue, LooksStayTrue};
 ghost use Rattle.step_laws.specs.Room.{StepsRefuseTruly};
 ghost use Rattle.step_laws.specs.Steps.{StepsAreChains};
@@ -68,6 +68,20 @@ pub fn calls_are_not_left()
     ensures sound { CallsStaySound }
     ensures late { LateCallsEnd }
     ensures asked { CallsAreAsked }
+{
+    steps_are_chains();
+}
+
+/// A tick leaves no tunnel that was made 60 seconds ago or more and isn't set up, none that was closed 31 seconds ago or more, and none whose
+/// oldest unacknowledged letter was repeated five times, the last time 8 seconds ago or more; and no other is removed, nor by another event.
+pub fn failed_tunnels_go()
+    ensures { FailedTunnelsGo }
+{}
+
+/// An end has no more than 1,024 tunnels, those among them that are closed: at first none, and none of its steps leaves more.
+pub fn tunnels_stay_few()
+    ensures begin { TunnelsBeginFew }
+    ensures stay { TunnelsStayFew }
 {
     steps_are_chains();
 }
