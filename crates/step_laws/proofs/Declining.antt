@@ -78,7 +78,7 @@ module _ (e : End) (kept : AreKept e) (moment peer : ℕ) (bytes : List ℕ) (h 
     opening_chain o said is r against =
         let unknown = subst (λ (n : ℕ). known_as peer n e.tunnels ≡ None) is alone in
         declined_chain r
-        (against_stands e moment ev o (record { peer = peer; body = body; came = named; said = said; alone = unknown }) r against)
+        (against_stands e moment ev o (record { peer = peer; body = body; came = named; said = said; alone = none_known peer o.tunnel e.tunnels unknown }) r against)
         (AnOpening o said is (none_known peer remote e.tunnels alone) (against_is e o r against))
 
     -- or that has a fault
@@ -91,7 +91,7 @@ module _ (e : End) (kept : AreKept e) (moment peer : ℕ) (bytes : List ℕ) (h 
           body = body;
           came = named;
           opens = opens;
-          alone = alone;
+          alone = none_known peer remote e.tunnels alone;
           fault = g;
           has = has;
           is = refl;

@@ -1,5 +1,5 @@
 -- No step leaves an end more tunnels than it may have.
-use Rattle.std.proofs.Common.{◌≡◌, ℕ, ◌<◌, ◌≤◌, suc, Bool, true, false, List, [], ◌∷◌, length, refl, sym, ap, ◌∙◌, subst, Option, Some, None, arith}
+use Rattle.std.proofs.Common.{◌≡◌, ℕ, ◌<◌, ◌≤◌, suc, List, [], ◌∷◌, length, refl, sym, ap, ◌∙◌, subst, Some, arith}
 use Rattle.std.proofs.lemmas.Option.{none-some}
 use Rattle.std.specs.declared.cmp.Ordering.{Ordering}
 use Rattle.std.specs.declared.cmp.Ordering.TheVariants.{Less, Equal, Greater}
@@ -13,7 +13,7 @@ use Rattle.protocol_model.specs.Turn.{Tunnel}
 use Rattle.protocol_model.specs.End.{End}
 use Rattle.step_laws.specs.Left.{AreFew, TunnelsBeginFew, TunnelsStayFew}
 use Rattle.step_laws.specs.Moves.{Does, Chain}
-use Rattle.step_laws.specs.Steps.{AreKept, StepsAreChains}
+use Rattle.step_laws.specs.Steps.{StepsAreChains}
 use Rattle.step_laws.proofs.Looks.{AreOrdered, does_order, kept_order}
 
 -- ---- how many entries a table then has

@@ -25,7 +25,6 @@ use Rattle.protocol_model.specs.Turn.{Tunnel, Turn, turn_of, with_output, with_m
 use Rattle.protocol_model.specs.End.{End, env_of}
 use Rattle.step_laws.specs.Left.{FailedTunnelsGo}
 use Rattle.step_laws.specs.Moves.{IsGivenUp, HasFailed, IsNotSetUp, WasClosed, IsUnanswered}
-use Rattle.step_laws.specs.Steps.{AreKept}
 use Rattle.step_laws.proofs.Lists.{branch}
 use Rattle.step_laws.proofs.Moments.{failed_ends}
 use Rattle.step_laws.proofs.Late.{ticks_leave}

@@ -17,6 +17,7 @@ mod Faulty
 mod Stopping
 mod Hearing
 mod Moments
+mod Named
 mod Ticking
 mod Ends
 mod Declining

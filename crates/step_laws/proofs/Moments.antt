@@ -1,8 +1,8 @@
 -- When a tunnel has failed, in milliseconds: what tells it, and what it tells.
 use Rattle.std.proofs.Common.{◌≡◌, ◌⊎◌, inl, inr, ℕ, ◌+◌, ◌-◌, ◌<◌, ◌≤◌, Bool, true, false, cond, refl, ap, ◌∙◌, sym, subst, arith, ne_eqb}
-use Rattle.std.proofs.lemmas.Bool.{eqb-true, eq-eqb, ltb-true, lt-ltb, ltb-false, le-ltb, true≢false}
+use Rattle.std.proofs.lemmas.Bool.{ltb-true, lt-ltb, ltb-false, le-ltb, true≢false}
 use Rattle.std.proofs.lemmas.Bool.Decides.{nat_tests}
-use Rattle.std.specs.Prelude.{◌==◌, ◌&&◌, ◌||◌, nat_le, nat_lt}
+use Rattle.std.specs.Prelude.{◌&&◌, ◌||◌, nat_le, nat_lt}
 use Rattle.send_window.specs.declared.window.Tick.TheVariants.{Quiet, Again, Failed}
 use Rattle.send_window.specs.Window.{wait_after, is_due, due_at}
 use Rattle.control_channel.specs.Numbers.{Numbers, answer_to_tick}

@@ -8,7 +8,6 @@ use Rattle.wire_base.specs.declared.cause.Cause.TheVariants as cause
 use Rattle.control_message.specs.declared.message.Message.{Message}
 use Rattle.control_message.specs.declared.message.Message.TheVariants.{Sccrq, Sccrp, Scccn, Ocrq, Icrq, Icrp, Iccn}
 use Rattle.control_message.specs.declared.message.Opening.{Opening}
-use Rattle.call_fsm.specs.declared.table.CallState.TheVariants as call
 use Rattle.call_fsm.specs.declared.table.CallEvent.{CallEvent}
 use Rattle.call_fsm.specs.declared.table.CallEvent.TheVariants as call_event
 use Rattle.tunnel_fsm.specs.declared.table.TunnelState.TheVariants as state
@@ -16,20 +15,20 @@ use Rattle.tunnel_fsm.specs.declared.table.TunnelEvent.{TunnelEvent}
 use Rattle.tunnel_fsm.specs.declared.table.TunnelEvent.TheVariants as event
 use Rattle.tunnel_fsm.specs.declared.table.TunnelAction.TheVariants as action
 use Rattle.tunnel_fsm.specs.Rows.{rows, row_of, state_number}
-use Rattle.protocol_model.specs.declared.tunnel.Role.TheVariants.{Lns}
+use Rattle.protocol_model.specs.declared.tunnel.Role.TheVariants.{Lac, Lns}
 use Rattle.protocol_model.specs.declared.event.Event.{Event}
 use Rattle.protocol_model.specs.declared.event.Event.TheVariants.{Datagram, Hang, OpenTunnel, DropCall, CloseTunnel}
 use Rattle.protocol_model.specs.declared.out.Out.TheVariants.{Cause}
 use Rattle.protocol_model.specs.declared.tunnel.Call.{Call}
 use Rattle.protocol_model.specs.Reading.{body_of, message_in, CallFault, TunnelFault, tunnel_fault_in, at_zero}
-use Rattle.protocol_model.specs.Calls.{call_row, is_reply, is_told}
-use Rattle.protocol_model.specs.Turn.{Tunnel, call_of, is_acceptable}
+use Rattle.protocol_model.specs.Calls.{call_row, is_told}
+use Rattle.protocol_model.specs.Turn.{Tunnel, is_acceptable}
 use Rattle.protocol_model.specs.declared.event.Addressee.TheVariants.{Opens, Answers}
 use Rattle.l2tp_header.specs.declared.header.Header.{Header}
 use Rattle.l2tp_header.specs.Reading.{header_of}
-use Rattle.protocol_model.specs.End.{End, known_as, step}
+use Rattle.protocol_model.specs.End.{End, step}
 use Rattle.step_laws.specs.Letters.{Among}
-use Rattle.step_laws.specs.Moves.{has_all_tunnels, has_all_calls, may_take, TookTooLong, InTunnel, IsFaulty, IsFaultyInTunnel}
+use Rattle.step_laws.specs.Moves.{has_all_tunnels, has_all_calls, may_take, IsUnknown, TookTooLong, InTunnel, IsFaulty, IsFaultyInTunnel}
 use Rattle.step_laws.specs.Steps.{AreKept}
 use Rattle.step_laws.specs.Room.{RingsOver, RingsNew}
 
@@ -76,13 +75,13 @@ pub record Asks (e : End) (ev : Event) (t : Tunnel) (remote : ℕ) : Type 0 wher
   pub calling : Option (List ℕ)
   pub came : Came e ev t header (Icrq remote serial calling)
 
--- this end replies to no request
+-- this end replies to no request: it asks for calls itself
 abbrev pub TakesNoCalls : End → Type 0
-TakesNoCalls e = is_reply (call_row e.role call.Idle call_event.IcrqAcc).1 ≡ false
+TakesNoCalls e = e.role ≡ Lac
 
 -- the peer's id is no id, or that of a live call of the tunnel
 abbrev pub IsIdInUse : Tunnel → ℕ → Type 0
-IsIdInUse t remote = (remote ≡ 0) ⊎ ((s : ℕ) × (call_of t.calls remote ≡ Some s))
+IsIdInUse t remote = (remote ≡ 0) ⊎ ((s : ℕ) × (c : Call) × (at t.calls s ≡ Some c) × (c.remote ≡ remote))
 
 -- none of the causes stands for which a request can't be granted
 pub record MayBeGranted (e : End) (t : Tunnel) (remote : ℕ) : Type 0 where
@@ -135,7 +134,7 @@ pub record WouldOpen (e : End) (ev : Event) (o : Opening) : Type 0 where
   pub body : List ℕ
   pub came : NamesNone ev peer body
   pub said : message_in body ≡ Ok (Sccrq o)
-  pub alone : known_as peer o.tunnel e.tunnels ≡ None
+  pub alone : IsUnknown e peer o.tunnel
 
 -- an opening that isn't acceptable: it came in a tunnel, which is closed, or would open one
 pub data IsNotAccepted (e : End) (ev : Event) (o : Opening) : Type 0 where
@@ -162,7 +161,7 @@ pub record CameFaultyOpening (e : End) (ev : Event) (c : CauseOf) : Type 0 where
   pub body : List ℕ
   pub came : NamesNone ev peer body
   pub opens : at_zero body ≡ Opens remote
-  pub alone : known_as peer remote e.tunnels ≡ None
+  pub alone : IsUnknown e peer remote
   pub fault : TunnelFault
   pub has : tunnel_fault_in body ≡ Some fault
   pub is : fault.cause ≡ c

@@ -28,6 +28,13 @@ use Rattle.step_laws.specs.Moves.{StandsAgainst, OtherVersion, Recovers, NoTunne
 abbrev pub CodesFit : ℕ → Option ℕ → Type 0
 CodesFit result error = (result < 65536) × IfSome error (λ x. x < 65536)
 
+-- the error codes that tell a fault (RFC 2661 section 4.4.2): of pairs that can't be read, of a value that is wrong or wanting, and of a pair
+-- or a type that has to be understood and isn't
+pub record FaultsHaveCodes : Type 0 where
+  pub avp : fault_error cause.Avp ≡ 2
+  pub value : fault_error cause.Value ≡ 3
+  pub mandatory : fault_error cause.Mandatory ≡ 8
+
 fault_fits : (c : Cause) → fault_error c < 65536
 fault_fits cause.Mandatory = omega arith
 fault_fits cause.Operator = omega arith

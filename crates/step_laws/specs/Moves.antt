@@ -1,5 +1,5 @@
 -- What each move needs before it, and what it changes.
-use Rattle.std.specs.Prelude.{◌≡◌, ℕ, ◌+◌, ◌%◌, ◌<◌, ◌≤◌, ◌⊎◌, Bool, true, false, nat_le, nat_lt, List, [], ◌∷◌, ◌++◌, drop, map, length, Option, None, Some, is_some, unwrap_or, Result, Ok, Err}
+use Rattle.std.specs.Prelude.{◌≡◌, ℕ, ◌+◌, ◌%◌, ◌<◌, ◌≤◌, ◌⊎◌, Bool, true, false, ◌==◌, if◌then◌else◌, nat_le, nat_lt, List, [], ◌∷◌, ◌++◌, drop, map, length, Option, None, Some, is_some, unwrap_or, Result, Ok, Err}
 use Rattle.wire_base.specs.declared.why.Why.{Why}
 use Rattle.id_table.specs.Ids.{at, put, without, ids_of}
 use Rattle.id_source.specs.declared.IdError.{IdError}
@@ -14,7 +14,7 @@ use Rattle.control_message.specs.declared.message.Opening.{Opening}
 use Rattle.send_window.specs.declared.window.Tick.TheVariants.{Again}
 use Rattle.recv_window.specs.declared.Class.TheVariants.{Next}
 use Rattle.recv_window.specs.Window.{class_of}
-use Rattle.control_channel.specs.Numbers.{Numbers, count_acked, next_to_go, answer_to_tick}
+use Rattle.control_channel.specs.Numbers.{Numbers, opened_at, learnt_by, count_acked, next_to_go, answer_to_tick}
 use Rattle.tunnel_fsm.specs.declared.table.TunnelState.{TunnelState}
 use Rattle.tunnel_fsm.specs.declared.table.TunnelState.TheVariants.{WaitCtlReply, WaitCtlConn, Established}
 use Rattle.tunnel_fsm.specs.declared.table.TunnelState.TheVariants as state
@@ -62,7 +62,7 @@ use Rattle.protocol_model.specs.declared.event.Addressee.TheVariants.{Stops, Ans
 use Rattle.protocol_model.specs.declared.event.Addressee.TheVariants as addressee
 use Rattle.protocol_model.specs.Reading.{body_of, message_in, CallFault, call_fault_in, TunnelFault, tunnel_fault_in, at_zero}
 use Rattle.protocol_model.specs.Calls.{call_row, advanced, rung, asked_for, is_request, is_reply, is_connection, is_told, is_up, owed_by, frame_of, side_of}
-use Rattle.protocol_model.specs.Turn.{Tunnel, place, next_place, taken_place, letter_of, fresh, counts_given, counts_taken, counts_acked, counts_sent, counts_repeated, learns_window, in_state, opening_of, request_of, connection, is_clean_up, session_named, Reason, granted, fault_error, is_acceptable, event_by, is_closed}
+use Rattle.protocol_model.specs.Turn.{Tunnel, place, next_place, taken_place, letter_of, counts_given, counts_taken, counts_acked, counts_sent, counts_repeated, in_state, opening_of, request_of, connection, is_clean_up, session_named, Reason, granted, fault_error, is_acceptable, event_by, is_closed}
 use Rattle.protocol_model.specs.End.{End, new_place, with_look, with_looks}
 
 -- ---- what came
@@ -190,9 +190,22 @@ with_letter session m t = record t { control = counts_given t.control; letters =
 abbrev pub new_tunnel : Control → Tunnel
 new_tunnel c = record { control = c; letters = []; calls = [] }
 
--- of these ids, in this state, made at a moment
+-- of these ids, in this state, made at a moment, with an empty channel and a window of 4 (RFC 2661 section 4.4.3)
 abbrev pub begun : ℕ → ℕ → ℕ → TunnelState → ℕ → Control
-begun local peer remote state moment = record (fresh peer moment) { local = local; remote = remote; state = state }
+begun local peer remote state moment = record {
+  local = local;
+  peer = peer;
+  remote = remote;
+  state = state;
+  channel = opened_at 0 0 4;
+  made = moment;
+  heard = moment;
+  closed = 0;
+}
+
+-- the peer's receive window becomes known; one of 0 letters is none
+abbrev pub learns_window : ℕ → Control → Control
+learns_window window c = if window == 0 then c else record c { channel = learnt_by c.channel window }
 
 pub record Opens (e : End) (moment : ℕ) (m : Opened) (x : End) : Type 0 where
   pub few : length e.tunnels < 1024
@@ -423,6 +436,7 @@ pub record HearsEnd (e : End) (ev : Event) (m : EndHeard) (x : End) : Type 0 whe
   pub code : ℕ
   pub error : Option ℕ
   pub hears : (session : ℕ) × HearsNext ev tunnel.control session (Cdn remote code error) × (m.session ≡ session_named tunnel.calls session remote)
+  pub named : (hears.0 ≡ m.session) ⊎ ((hears.0 ≡ 0) × (call.remote ≡ remote))
   pub row : is_clean_up (call_row e.role call.state call_event.CdnCame).1 ≡ true
   pub taken : m.taken ≡ taken_place tunnel.control
   pub after : x ≡ without_call e m.tunnel (record tunnel { control = counts_taken tunnel.control }) m.session

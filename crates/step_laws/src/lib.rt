@@ -3,6 +3,7 @@
 
 ghost use Rattle.step_laws.specs.Answers.{RequestsAreAnswered};
 ghost use Rattle.step_laws.specs.Causes.{CausesStand};
+ghost use Rattle.step_laws.specs.Codes.{FaultsHaveCodes};
 ghost use Rattle.step_laws.specs.Left.{CallsAreAsked, CallsStaySound, FailedTunnelsGo, LateCallsEnd, TunnelsBeginFew, TunnelsStayFew};
 ghost use Rattle.step_laws.specs.Looks.{LooksBeginTrue, LooksStayTrue};
 ghost use Rattle.step_laws.specs.Room.{StepsRefuseTruly};
@@ -59,6 +60,12 @@ pub fn steps_refuse_truly()
 /// request or a ring could have several, none stands that counts before the one that is told.
 pub fn causes_stand()
     ensures { CausesStand }
+{}
+
+/// The error code that a CDN or a StopCCN tells on a message that has a fault is 2 where its pairs can't be read, 3 where a value is wrong or
+/// wanting, and 8 where something in it has to be understood and isn't.
+pub fn faults_have_codes()
+    ensures { FaultsHaveCodes }
 {}
 
 /// The calls of an end whose tunnels are kept have ids of 16 bits and states of the end's table, at first and after each step. A
