@@ -1,4 +1,4 @@
--- In no run is a call left: each line of it leaves none.
+-- In no run is a call or a tunnel left, and in none are there too many tunnels: each line of it leaves none.
 use Rattle.std.proofs.Common.{◌≡◌, ⊎_elim, ℕ, ◌+◌, ◌-◌, ◌*◌, ◌^◌, ◌<◌, List, [], ◌∷◌, ◌++◌, length, refl, sym, ap, ◌∙◌, subst, Option, Some, None, Result, Ok, Err, arith}
 use Rattle.std.proofs.lemmas.List.{length-append}
 use Rattle.std.proofs.lemmas.Option.{none-some}
@@ -16,35 +16,40 @@ use Rattle.protocol_model.specs.End.{End, new_end, step}
 use Rattle.protocol_model.specs.World.{World, Node, Lined, empty_world, declared, later, config_of, block_of, stepped, after_step, line}
 use Rattle.protocol_model.specs.Run.{Run, empty_run, after_line, goes_on, run_from, run}
 use Rattle.step_laws.specs.Steps.{AreKept}
-use Rattle.step_laws.specs.Left.{AreSound, AreAsked, NoneIsLate, CallsStaySound, CallsAreAsked, LateCallsEnd}
+use Rattle.step_laws.specs.Left.{AreSound, AreAsked, AreFew, NoneIsLate, NoneHasFailed, CallsStaySound, CallsAreAsked, LateCallsEnd, FailedTunnelsGo, TunnelsBeginFew, TunnelsStayFew}
 use Rattle.connection_laws.specs.Accounts.{account_of}
 use Rattle.connection_laws.specs.Facts.{Accounts, Holds, NodeOk}
 use Rattle.connection_laws.specs.Steps.{end_at, LineSteps, LineDoes, Nothing, ANode, AStep, HoldsAt, LinesGoOn, RunsBegin}
 use Rattle.frame_laws.proofs.Runs.{where_it_fits}
-use Rattle.cause_laws.specs.Causes.{NoneIsLeftInRuns}
+use Rattle.cause_laws.specs.Causes.{NoneIsLeftInRuns, TunnelsAreFewInRuns}
 use Rattle.cause_laws.proofs.Lines.{EndsAreKept}
 use Rattle.cause_laws.proofs.Runs.{all_left}
 use Rattle.cause_laws.proofs.Seen.{stepped_seen}
 
--- what was proved of the calls that steps leave
+-- what was proved of the calls and the tunnels that steps leave
 pub record CallLaws : Type 0 where
   pub sound : CallsStaySound
   pub late : LateCallsEnd
   pub asked : CallsAreAsked
+  pub gone : FailedTunnelsGo
+  pub begin_few : TunnelsBeginFew
+  pub stay_few : TunnelsStayFew
 
--- the calls of an end, and of each end of a world
+-- the calls and the tunnels of an end, and of each end of a world
 pub record IsFine (e : End) : Type 0 where
   pub sound : AreSound e
   pub asked : AreAsked e
+  pub few : AreFew e
 
 abbrev pub AreFine : World → Type 0
 AreFine w = (k : ℕ) (e : End) → end_at w k ≡ Some e → IsFine e
 
 -- a new end has none
-new_fine : (r : Role) (c : Config) → IsFine (new_end r c)
-new_fine r c = record {
+new_fine : CallLaws → (r : Role) (c : Config) → IsFine (new_end r c)
+new_fine laws r c = record {
   sound = λ i t there. absurd (none-some t (sym (at-none i) ∙ there));
   asked = λ i t there. absurd (none-some t (sym (at-none i) ∙ there));
+  few = laws.begin_few r c;
 }
 
 -- the ends of nodes are kept
@@ -68,6 +73,7 @@ module _ (laws : CallLaws) where
       record {
         sound = laws.sound s.old.end kept before.sound s.moment s.block s.ev;
         asked = laws.asked s.old.end kept before.sound before.asked s.moment s.block s.ev;
+        few = laws.stay_few s.old.end kept before.few s.moment s.block s.ev;
       }
 
   line_fine : (w : World) (accs : Accounts) (number : ℕ) (x : Lined) → Holds w accs → AreFine w → LineDoes w accs number x → AreFine x.world
@@ -79,7 +85,7 @@ module _ (laws : CallLaws) where
       ⊎_elim
       (λ (a : k ≡ n).
       let here : Some new.end ≡ Some e = sym (ap (λ o. option_map (λ (node : Node). node.end) o) (ap (λ q. at (put w.nodes n new) q) a ∙ at_new w.nodes n new)) ∙ seen in
-      subst IsFine (same_end e new.end here) (new_fine role (config_of n lns)))
+      subst IsFine (same_end e new.end here) (new_fine laws role (config_of n lns)))
       (λ o. fine k e (sym (ap (λ p. option_map (λ (node : Node). node.end) p) (at_other w.nodes n new k o)) ∙ seen))
       (same_or_not k n)
   line_fine w accs number x holds fine (AStep s) k e is =
@@ -92,8 +98,11 @@ module _ (laws : CallLaws) where
 
   -- ---- a tick
 
+  abbrev NoneIsLeftAt : ℕ → End → Type 0
+  NoneIsLeftAt moment e = NoneIsLate moment e × NoneHasFailed moment e
+
   abbrev LeavesNone : ℕ → Lined → Type 0
-  LeavesNone n x = (node : Node) → at x.world.nodes n ≡ Some node → NoneIsLate node.clock node.end
+  LeavesNone n x = (node : Node) → at x.world.nodes n ≡ Some node → NoneIsLeftAt node.clock node.end
 
   ticked_none : (w : World) → EndsAreKept w → AreFine w → (number n : ℕ) (old : Node) (clock : ℕ) → at w.nodes n ≡ Some old
       → LeavesNone n (after_step w number n (record old { clock = clock }) None (step old.end clock (block_of n number) event.Tick))
@@ -105,8 +114,11 @@ module _ (laws : CallLaws) where
       let at_clock : Some node.clock ≡ Some clock =
       sym (ap (λ o. option_map (λ (x : Node). x.clock) o) is) ∙ stepped_seen (λ (x : Node). x.clock) (λ x births. refl) w number n timed None s in
       let moment : clock ≡ node.clock = (let e = at_clock in cc) in
-      let none = laws.late old.end (kept n old was) (fine n old.end (seen_end w n old was)).sound clock (block_of n number) in
-      subst (λ (m : ℕ). NoneIsLate m node.end) moment (subst (NoneIsLate clock) (same_end node.end s.end (sym ended)) none)
+      let none : NoneIsLeftAt clock s.end = (
+        laws.late old.end (kept n old was) (fine n old.end (seen_end w n old was)).sound clock (block_of n number),
+        laws.gone old.end (kept n old was) clock (block_of n number),
+      ) in
+      subst (λ (m : ℕ). NoneIsLeftAt m node.end) moment (subst (NoneIsLeftAt clock) (same_end node.end s.end (sym ended)) none)
 
   tick_none : (w : World) → EndsAreKept w → AreFine w → (number n milliseconds : ℕ) (x : Lined) → line w number (Tick n milliseconds) ≡ Ok x → LeavesNone n x
   unfolding line stepped
@@ -169,16 +181,27 @@ last_line number (k ∷ ks) l r none = by (line r.world number k) (λ x e. last_
     by (Err w) rest e = absurd cc
     by (Ok x) rest e = rest x e
 
+-- none is left by the tick that a run ends with
+left_none : (laws : CallLaws) → LinesGoOn → RunsBegin → (lines : List Line) → AreLines lines → length lines < 2 ^ 47
+    → (before : List Line) (n milliseconds : ℕ) → lines ≡ before ++ Tick n milliseconds ∷ [] → (run lines).fault ≡ None
+    → (node : Node) → at (run lines).world.nodes n ≡ Some node → NoneIsLeftAt laws node.clock node.end
+left_none laws go_on begins lines fits few before n milliseconds split none node is =
+    let tick = Tick n milliseconds in
+    let whole : AreLines (before ++ tick ∷ []) = subst AreLines split fits in
+    let count : length lines ≡ length before + length (tick ∷ []) = ap length split ∙ length-append before (tick ∷ []) in
+    let first = ended laws go_on begins before (all_left FitsLine before (tick ∷ []) whole) (omega (arith, count, few)) in
+    let last = last_line 1 before tick empty_run (subst (λ ls. (run ls).fault ≡ None) split none) in
+    let there = ap (λ (r : Run). at r.world.nodes n) (sym (ap run split ∙ last.leads)) ∙ is in
+    tick_none laws (run before).world (kept_in (run before).world (account_of (run before).done) first.holds) first.fine last.number n milliseconds
+    last.lined last.fits node there
+
 pub none_is_left : CallLaws → LinesGoOn → RunsBegin → NoneIsLeftInRuns
 none_is_left laws go_on begins lines fits few = record {
   asked = λ n node is. ((ended laws go_on begins lines fits few).fine n node.end (seen_end (run lines).world n node is)).asked;
-  ended = λ before n milliseconds split none node is.
-      let tick = Tick n milliseconds in
-      let whole : AreLines (before ++ tick ∷ []) = subst AreLines split fits in
-      let count : length lines ≡ length before + length (tick ∷ []) = ap length split ∙ length-append before (tick ∷ []) in
-      let first = ended laws go_on begins before (all_left FitsLine before (tick ∷ []) whole) (omega (arith, count, few)) in
-      let last = last_line 1 before tick empty_run (subst (λ ls. (run ls).fault ≡ None) split none) in
-      let there = ap (λ (r : Run). at r.world.nodes n) (sym (ap run split ∙ last.leads)) ∙ is in
-      tick_none laws (run before).world (kept_in (run before).world (account_of (run before).done) first.holds) first.fine last.number n milliseconds
-      last.lined last.fits node there;
+  ended = λ before n milliseconds split none node is. (left_none laws go_on begins lines fits few before n milliseconds split none node is).0;
+  gone = λ before n milliseconds split none node is. (left_none laws go_on begins lines fits few before n milliseconds split none node is).1;
 }
+
+pub tunnels_are_few : CallLaws → LinesGoOn → RunsBegin → TunnelsAreFewInRuns
+tunnels_are_few laws go_on begins lines fits few n node is =
+    ((ended laws go_on begins lines fits few).fine n node.end (seen_end (run lines).world n node is)).few

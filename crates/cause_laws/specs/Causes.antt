@@ -1,5 +1,5 @@
--- The causes that the report tells stand, nothing is refused for want of room but where a tunnel holds too many letters, and no call
--- is left.
+-- The causes that the report tells stand, nothing is refused for want of room but where a tunnel holds too many letters, no end has more
+-- tunnels than it may, and no call and no tunnel is left.
 use Rattle.std.specs.Prelude.{◌≡◌, ℕ, ◌+◌, ◌-◌, ◌^◌, ◌<◌, ◌≤◌, min, List, [], ◌∷◌, ◌++◌, length, true, false, slice_get, Some, None, Ok}
 use Rattle.std.specs.List.{AllByRecursion}
 use Rattle.id_table.specs.Ids.{at}
@@ -19,7 +19,7 @@ use Rattle.protocol_model.specs.Texts.{Entry, Sends, HandsUp, Ends, Drops, Cause
 use Rattle.protocol_model.specs.Run.{run}
 use Rattle.step_laws.specs.Room.{IsFull}
 use Rattle.step_laws.specs.Causes.{Stands}
-use Rattle.step_laws.specs.Left.{AreAsked, NoneIsLate}
+use Rattle.step_laws.specs.Left.{AreAsked, AreFew, NoneHasFailed, NoneIsLate}
 
 -- ---- what a line brings
 
@@ -86,14 +86,21 @@ pub record HasRoom (t : Tunnel) : Type 0 where
 abbrev pub AllHaveRoom : World → Type 0
 AllHaveRoom w = (n : ℕ) (node : Node) → at w.nodes n ≡ Some node → (i : ℕ) (t : Tunnel) → at node.end.tunnels i ≡ Some t → HasRoom t
 
--- ---- calls that are left
+-- each end has 1,024 tunnels at most, and closed ones count
+abbrev pub AllAreFew : World → Type 0
+AllAreFew w = (n : ℕ) (node : Node) → at w.nodes n ≡ Some node → AreFew node.end
+
+-- ---- calls and tunnels that are left
 
 -- after the lines a call waits for its tunnel only where the tunnel's SCCRQ isn't answered yet; and where the last of them is a
--- tick of a node, none of the node's calls that are being set up has taken 60 seconds, by the node's clock
+-- tick of a node, none of the node's calls that are being set up has taken 60 seconds, by the node's clock, and none of its tunnels has
+-- failed: none that isn't set up was made 60 seconds ago, none was closed 31 seconds ago, and none was repeated to in vain
 pub record NoneIsLeft (lines : List Line) : Type 0 where
   pub asked : (n : ℕ) (node : Node) → at (run lines).world.nodes n ≡ Some node → AreAsked node.end
   pub ended : (before : List Line) (n milliseconds : ℕ) → lines ≡ before ++ Tick n milliseconds ∷ [] → (run lines).fault ≡ None
       → (node : Node) → at (run lines).world.nodes n ≡ Some node → NoneIsLate node.clock node.end
+  pub gone : (before : List Line) (n milliseconds : ℕ) → lines ≡ before ++ Tick n milliseconds ∷ [] → (run lines).fault ≡ None
+      → (node : Node) → at (run lines).world.nodes n ≡ Some node → NoneHasFailed node.clock node.end
 
 -- ---- in the run of each list of lines of the grammar
 
@@ -107,6 +114,9 @@ CausesOfRuns = (lines : List Line) → AreLines lines → length lines < 2 ^ 47 
 
 abbrev pub RoomInRuns : Type 0
 RoomInRuns = (lines : List Line) → AreLines lines → length lines < 2 ^ 47 → AllHaveRoom (run lines).world
+
+abbrev pub TunnelsAreFewInRuns : Type 0
+TunnelsAreFewInRuns = (lines : List Line) → AreLines lines → length lines < 2 ^ 47 → AllAreFew (run lines).world
 
 -- and of each front of such a list, which is one too
 abbrev pub NoneIsLeftInRuns : Type 0

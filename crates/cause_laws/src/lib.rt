@@ -1,13 +1,14 @@
-//! The causes that reports tell, the room for letters, the calls that are left, and the answers to requests, in every run of a schedule's lines.
+//! The causes that reports tell, the room for letters, how many tunnels there are, the calls and tunnels that are left, and the answers to
+//! requests, in every run of a schedule's lines.
 #![tactic(auto)]
 
 ghost use Rattle.cause_laws.specs.Answers.{AnswersOfRuns};
-ghost use Rattle.cause_laws.specs.Causes.{CausesOfRuns, NoneIsLeftInRuns, RoomInRuns};
+ghost use Rattle.cause_laws.specs.Causes.{CausesOfRuns, NoneIsLeftInRuns, RoomInRuns, TunnelsAreFewInRuns};
 ghost use Rattle.connection_laws.specs.Channels.{HoldsInRuns};
 ghost use Rattle.connection_laws.specs.Steps.{LinesGoOn, RunsBegin};
 ghost use Rattle.step_laws.specs.Answers.{RequestsAreAnswered};
 ghost use Rattle.step_laws.specs.Causes.{CausesStand};
-ghost use Rattle.step_laws.specs.Left.{CallsAreAsked, CallsStaySound, LateCallsEnd};
+ghost use Rattle.step_laws.specs.Left.{CallsAreAsked, CallsStaySound, FailedTunnelsGo, LateCallsEnd, TunnelsBeginFew, TunnelsStayFew};
 ghost use Rattle.step_laws.specs.Room.{StepsRefuseTruly};
 
 /// The laws that are used.
@@ -17,6 +18,9 @@ fn laws_below()
     ensures sound { CallsStaySound }
     ensures late { LateCallsEnd }
     ensures asked { CallsAreAsked }
+    ensures gone { FailedTunnelsGo }
+    ensures begin_few { TunnelsBeginFew }
+    ensures stay_few { TunnelsStayFew }
     ensures answers { RequestsAreAnswered }
     ensures connections { HoldsInRuns }
     ensures lines { LinesGoOn }
@@ -25,6 +29,8 @@ fn laws_below()
     step_laws::causes_stand();
     step_laws::steps_refuse_truly();
     step_laws::calls_are_not_left();
+    step_laws::failed_tunnels_go();
+    step_laws::tunnels_stay_few();
     step_laws::requests_are_answered();
     connection_laws::facts_hold();
     connection_laws::steps_keep();
@@ -48,9 +54,17 @@ pub fn tunnels_have_room()
     laws_below();
 }
 
+/// Over every list of lines of the grammar, each end has 1,024 tunnels at most, the closed ones among them.
+pub fn no_end_has_too_many_tunnels()
+    ensures { TunnelsAreFewInRuns }
+{
+    laws_below();
+}
+
 /// Over every list of lines of the grammar, a call waits for its tunnel only where the tunnel's SCCRQ isn't answered yet: in an open
 /// tunnel each is asked for. And where the last line is a tick of a node, none of that node's calls that are still being set up
-/// has taken 60 seconds or more.
+/// has taken 60 seconds or more; nor is one of its tunnels left that isn't set up and was made 60 seconds ago or more, that was closed 31
+/// seconds ago or more, or whose oldest unacknowledged letter was repeated five times, the last time 8 seconds ago or more.
 pub fn no_call_is_left()
     ensures { NoneIsLeftInRuns }
 {

@@ -1,5 +1,5 @@
 -- A tunnel is closed, and its peer is told.
-use Rattle.std.proofs.Common.{◌≡◌, ◌⊎◌, inl, inr, ⊎_elim, ℕ, ◌+◌, ◌<◌, ◌≤◌, true, List, [], ◌∷◌, ◌++◌, map, drop, length, refl, sym, ap, ap₂, ◌∙◌, subst, append-nil, Option, Some, arith, ne_eqb}
+use Rattle.std.proofs.Common.{◌≡◌, ◌⊎◌, inl, inr, ⊎_elim, ℕ, ◌+◌, ◌<◌, ◌≤◌, true, List, [], ◌∷◌, ◌++◌, map, drop, length, refl, sym, ap, ap₂, ◌∙◌, subst, append-nil, Option, Some, arith}
 use Rattle.std.proofs.lemmas.Bool.{ltb-true}
 use Rattle.std.proofs.lemmas.List.{length-append, map-append, drop-append-le}
 use Rattle.std.proofs.lemmas.Option.{none-some}
@@ -21,13 +21,12 @@ use Rattle.protocol_model.specs.declared.moves.Move.TheVariants as move
 use Rattle.protocol_model.specs.declared.out.Origin.{Origin}
 use Rattle.protocol_model.specs.declared.out.Origin.TheVariants as origin
 use Rattle.protocol_model.specs.declared.packet.Packet.{Packet}
-use Rattle.protocol_model.specs.declared.tunnel.Control.{Control}
-use Rattle.protocol_model.specs.Turn.{Tunnel, known_or, event_by, is_acceptable, shut}
+use Rattle.protocol_model.specs.Turn.{Tunnel, event_by, is_acceptable}
 use Rattle.protocol_model.specs.End.{End}
 use Rattle.protocol_model.specs.World.{Sender, Deed}
 use Rattle.step_laws.specs.Codes.{stop_codes_fit}
 use Rattle.step_laws.specs.Letters.{Letter}
-use Rattle.step_laws.specs.Moves.{InTunnel, WhyCloses, ByOperator, BySccrq, BySccrp, ByScccn, ByFault, Closes, with_letter}
+use Rattle.step_laws.specs.Moves.{IsKnownOr, InTunnel, WhyCloses, ByOperator, BySccrq, BySccrp, ByScccn, ByFault, Closes, with_letter}
 use Rattle.frame_laws.specs.Codecs.{Codecs}
 use Rattle.connection_laws.specs.Accounts.{Part, Unmade, Opener, Acceptor, Account, gives}
 use Rattle.connection_laws.specs.Facts.{Accounts, IsMade, IsStopCcn, TellsOwn, AreTaken, AreIgnored, IsOpen, IsClosed, IsLost, HasStopped, AllWait, AreJoined, partner_in, IsOpener, IsAcceptor, IsPart, AccountOk, IsSpelled, kept_letter, IsInState, AreAcked, LiveOk, AreNear, Comes, Within}
@@ -45,10 +44,6 @@ use Rattle.connection_laws.proofs.AnyHeard.{hears_written, written_acceptable, n
 use Rattle.connection_laws.proofs.Taking.{all_append, begins_on}
 
 -- ---- the id of the peer's to which it goes
-
--- where one is known, it is that one, whatever is told
-known_still : (told : ℕ) (c : Control) → (c.remote ≡ 0 → ⊥) → known_or told c ≡ c.remote
-known_still told c some = rw (ne_eqb c.remote 0 some) refl
 
 acceptable_event : (acceptable other : TunnelEvent) (o : Opening) → is_acceptable o ≡ true → event_by acceptable other o ≡ acceptable
 acceptable_event acceptable other o h = rw h refl
@@ -76,8 +71,8 @@ module _ (codecs : Codecs) (accs : Accounts) (n : ℕ) (e x : End) (sender : Opt
       by (inr own) = absurd ((acceptor_of accs n m.tunnel (accs n m.tunnel) (within.accounts n m.tunnel) own).known none)
 
   by_reply : (session : ℕ) (o : Opening) → InTunnel ev was.control session (Sccrp o) → c.on ≡ event_by event.SccrpAcc event.SccrpNotAcc o
-      → m.remote ≡ known_or o.tunnel was.control → m.remote ≡ was.control.remote
-  by_reply session o came on known = known ∙ known_still o.tunnel was.control (λ z.
+      → IsKnownOr o.tunnel was.control m.remote → m.remote ≡ was.control.remote
+  by_reply session o came on known = known.0 (λ z.
       let fine = written_acceptable o (hears_written codecs accs n e sender ev within was.control.peer session (Sccrp o) came.hears) in
       let is = on ∙ acceptable_event event.SccrpAcc event.SccrpNotAcc o fine in
       reply_connects was.control.state (subst (λ v. row_of rows was.control.state v ≡ (state.Closed, action.SendStopCcn)) is c.row)
@@ -85,8 +80,8 @@ module _ (codecs : Codecs) (accs : Accounts) (n : ℕ) (e x : End) (sender : Opt
 
   by_why : WhyCloses was ev c.on m → m.remote ≡ was.control.remote
   by_why (ByOperator is on known result error) = known
-  by_why (BySccrq session o came on known result error) = known
-  by_why (BySccrp session o came on known result error) = by_reply session o came on known
+  by_why (BySccrq session o came on known why) = known
+  by_why (BySccrp session o came on known why) = by_reply session o came on known
   by_why (ByScccn session came on known result error) = known
   by_why (ByFault g came on known result error) =
       absurd (none_is_faulty_in_tunnel codecs accs n e sender ev within was.control g came)
@@ -129,7 +124,7 @@ module _ (codecs : Codecs) (accs : Accounts) (n : ℕ) (e x : End) (sender : Opt
   b = record a { given = a.given ++ last ∷ []; closed = Some (length a.taken) }
 
   abbrev u : Tunnel
-  u = record (with_letter 0 (StopCcn m.tunnel m.result m.error) (record t { control = shut m.remote state.Closed moment t.control })) { calls = [] }
+  u = record (with_letter 0 (StopCcn m.tunnel m.result m.error) (record t { control = record t.control { state = state.Closed; remote = m.remote; closed = moment } })) { calls = [] }
 
   -- the partner as it was, and as it is
   abbrev p : Account

@@ -127,8 +127,8 @@ module _ (codecs : Codecs) (accs : Accounts) (n : ℕ) (e x : End) (sender : Opt
         let no : ⊥ = cc in no
 
     by_why : WhyDeclined e body m → IsOpening accs n m
-    by_why (AnOpening o r said told is result error) = by_opening o said told
-    by_why (AFaultyOpening g to is on result error) = absurd (⊎_elim
+    by_why (AnOpening o said told unknown against) = by_opening o said told
+    by_why (AFaultyOpening g to unknown is on result error) = absurd (⊎_elim
         (λ (q : IsLetterRead b f.o d.header d.bytes).
         let none = no_tunnel_fault body q.letter.message q.said in
         let no : ⊥ = cc in no)

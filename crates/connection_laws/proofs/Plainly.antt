@@ -20,7 +20,7 @@ use Rattle.protocol_model.specs.declared.moves.TookPlain.{TookPlain}
 use Rattle.protocol_model.specs.declared.moves.Place.{Place}
 use Rattle.protocol_model.specs.declared.moves.Move.TheVariants as move
 use Rattle.protocol_model.specs.Reading.{body_of, message_in, TunnelFault, tunnel_fault_in}
-use Rattle.protocol_model.specs.Turn.{Tunnel, counts_taken, shut}
+use Rattle.protocol_model.specs.Turn.{Tunnel, counts_taken}
 use Rattle.protocol_model.specs.End.{End}
 use Rattle.protocol_model.specs.World.{Sender, Deed}
 use Rattle.step_laws.specs.Moves.{ComesNext, SaysStop}
@@ -234,7 +234,7 @@ module _ (codecs : Codecs) (classes : ClassIsTrue) (accs : Accounts) (n : ℕ) (
       let live = h.within.end.live i t o.there in
       let is_open = is_open_so accs i a t a.part live.state (not_closed t.control.state o.live) in
       let fits = h.counts i t o.there in
-      let u : Tunnel = record t { control = shut t.control.remote state.Closed moment (counts_taken t.control); calls = [] } in
+      let u : Tunnel = record t { control = record (counts_taken t.control) { state = state.Closed; closed = moment }; calls = [] } in
       ignores accs (after accs d) n e x sender ev i t u (taken_as sender m.taken mv) (Some (length a.taken)) (record {
         within = h.within;
         there = o.there;

@@ -12,7 +12,7 @@ use Rattle.frame_laws.specs.Reports.{ups_in, told_of}
 use Rattle.frame_laws.specs.Births.{AreApart}
 use Rattle.connection_laws.specs.Channels.{LettersAreCarried, AcksAreTrue, NumbersAreRead}
 use Rattle.request_laws.specs.Requests.{AreAskedOnce, AreMadeOnce, AreBornOnce}
-use Rattle.cause_laws.specs.Causes.{AllHaveRoom, NoneIsLeft, TellTrulyThroughout}
+use Rattle.cause_laws.specs.Causes.{AllAreFew, AllHaveRoom, NoneIsLeft, TellTrulyThroughout}
 use Rattle.cause_laws.specs.Answers.{AnswerThroughout}
 use Rattle.session_laws.specs.Sessions.{SessionsAgree}
 
@@ -54,7 +54,10 @@ pub record ChannelsOf (lines : List Line) : Type 0 where
   -- there is room for each letter that a tunnel has to give: as long as it isn't closed, those that it holds and those that its calls owe
   -- are fewer than 8,192
   pub room : AllHaveRoom (run lines).world
-  -- no call is left in an open tunnel that isn't asked for, nor after a tick one that took too long to be set up
+  -- each end has 1,024 tunnels at most, the closed ones among them
+  pub few : AllAreFew (run lines).world
+  -- no call is left in an open tunnel that isn't asked for, nor after a tick one that took too long to be set up; nor is a tunnel that wasn't
+  -- set up in time, that was closed long enough ago, or whose peer acknowledges nothing
   pub none_left : NoneIsLeft lines
 
 abbrev pub ChannelsOfTexts : Type 0

@@ -93,8 +93,9 @@ fn command<S: Source, K: Sink>(
 /// copy of the letter with its number in the list of its sender, or a StopCCN of no tunnel that declines an opening; what a tunnel
 /// took as long as it wasn't closed are the first letters of the list of its partner, in order and each once; what counts as
 /// acknowledged was taken, or ignored by a tunnel that had been closed, or declined; the 16 bits of a number have one reading; and
-/// there is room for each letter that a tunnel has to give. In an open tunnel each call is asked for, and a tick of a node leaves
-/// none of its calls that took 60 seconds or more to be set up. Each cause that the report tells stands in the world before its
+/// there is room for each letter that a tunnel has to give. No end has more than 1,024 tunnels. In an open tunnel each call is asked
+/// for, and a tick of a node leaves none of its calls that took 60 seconds or more to be set up, and no tunnel that did, that was closed
+/// 31 seconds ago or more, or that repeated a letter in vain. Each cause that the report tells stands in the world before its
 /// line. Each call request that comes to an open tunnel and is taken is answered once, as the tables and the causes say, and each
 /// ring makes a call or tells a cause. Two partners that are established, each of which took all that was given to the other, hold
 /// the same established sessions, with the same births. All of it holds too of the run of every list of fewer than 2^47 lines of
@@ -140,6 +141,7 @@ pub fn replay_top<S: Source, K: Sink>(
     request_laws::requests_are_taken_once();
     request_laws::births_are_taken_once();
     cause_laws::tunnels_have_room();
+    cause_laws::no_end_has_too_many_tunnels();
     cause_laws::no_call_is_left();
     cause_laws::reports_tell_true_causes();
     cause_laws::requests_are_answered_in_runs();

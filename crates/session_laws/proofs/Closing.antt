@@ -12,7 +12,7 @@ use Rattle.tunnel_fsm.specs.Rows.{rows, row_of}
 use Rattle.protocol_model.specs.declared.event.Event.{Event}
 use Rattle.protocol_model.specs.declared.moves.Closed as moves
 use Rattle.protocol_model.specs.declared.moves.Move.TheVariants as move
-use Rattle.protocol_model.specs.Turn.{Tunnel, shut, is_closed}
+use Rattle.protocol_model.specs.Turn.{Tunnel, is_closed}
 use Rattle.protocol_model.specs.End.{End}
 use Rattle.protocol_model.specs.World.{Sender, Deed}
 use Rattle.step_laws.specs.Letters as step_laws
@@ -89,7 +89,7 @@ module _ (laws : Laws) (accs : Accounts) (ends : Ends) (w : World) (n : ℕ) (e 
       ∙ gives_only d n e.role sender (move.Closed m) closed h.moved.deed
 
   abbrev told : Tunnel
-  told = with_letter 0 (message.StopCcn m.tunnel m.result m.error) (record t { control = shut m.remote state.Closed moment t.control })
+  told = with_letter 0 (message.StopCcn m.tunnel m.result m.error) (record t { control = record t.control { state = state.Closed; remote = m.remote; closed = moment } })
 
   abbrev u : Tunnel
   u = record told { calls = [] }

@@ -12,7 +12,7 @@ use Rattle.tunnel_fsm.specs.Rows.{state_number}
 use Rattle.protocol_model.specs.declared.event.Event.{Event}
 use Rattle.protocol_model.specs.declared.moves.ClosedBy.{ClosedBy}
 use Rattle.protocol_model.specs.declared.moves.Move.TheVariants as move
-use Rattle.protocol_model.specs.Turn.{Tunnel, counts_taken, shut, is_closed}
+use Rattle.protocol_model.specs.Turn.{Tunnel, counts_taken, is_closed}
 use Rattle.protocol_model.specs.End.{End}
 use Rattle.protocol_model.specs.World.{Sender, Deed}
 use Rattle.epoch_machine.specs.Letters as letter
@@ -130,7 +130,7 @@ module _ (laws : Laws) (accs : Accounts) (ends : Ends) (w : World) (n : ℕ) (e 
       ∙ takes_only d n e.role sender (move.ClosedBy m) m.taken closed h.moved.deed
 
   abbrev u : Tunnel
-  u = record t { control = shut t.control.remote state.Closed moment (counts_taken t.control); calls = [] }
+  u = record t { control = record (counts_taken t.control) { state = state.Closed; closed = moment }; calls = [] }
 
   live : LiveOk accs n i a t
   live = h.moved.within.end.live i t h.moved.does.there

@@ -1,5 +1,5 @@
 -- An SCCRQ opens a tunnel or is declined, and an SCCRP that names no tunnel is declined.
-use Rattle.std.proofs.Common.{◌≡◌, inl, inr, ⊎_elim, ℕ, true, List, refl, sym, ap, ◌∙◌, subst, Option, Some, None, Ok, Err}
+use Rattle.std.proofs.Common.{◌≡◌, inl, inr, ⊎_elim, ℕ, ◌<◌, true, List, length, refl, sym, ap, ◌∙◌, subst, Option, Some, None, Ok, Err}
 use Rattle.l2tp_header.specs.declared.header.Header.{Header}
 use Rattle.l2tp_header.specs.Reading.{header_of}
 use Rattle.control_message.specs.declared.message.Opening.{Opening}
@@ -17,7 +17,7 @@ use Rattle.step_laws.specs.Steps.{AreKept}
 use Rattle.step_laws.proofs.Faults.{IsOfOpening, opening_fault_stands}
 use Rattle.step_laws.proofs.Zero.{IsFaultyOpening, SaysOpening}
 use Rattle.step_laws.proofs.Known.{none_known}
-use Rattle.step_laws.proofs.Openings.{against_stands}
+use Rattle.step_laws.proofs.Openings.{against_is, none_against, against_stands}
 use Rattle.step_laws.proofs.Ends.{IsStep, first_heard}
 
 module _ (e : End) (kept : AreKept e) (moment peer : ℕ) (bytes : List ℕ) (h : Header) (read : header_of bytes ≡ Ok h) (control : h.control ≡ true)
@@ -78,8 +78,8 @@ module _ (e : End) (kept : AreKept e) (moment peer : ℕ) (bytes : List ℕ) (h 
     opening_chain o said is r against =
         let unknown = subst (λ (n : ℕ). known_as peer n e.tunnels ≡ None) is alone in
         declined_chain r
-        (against_stands e moment ev o (record { peer = peer; body = body; came = named; said = said; alone = unknown }) r against)
-        (AnOpening o r said is against refl refl)
+        (against_stands e moment ev o (record { peer = peer; body = body; came = named; said = said; alone = none_known peer o.tunnel e.tunnels unknown }) r against)
+        (AnOpening o said is (none_known peer remote e.tunnels alone) (against_is e o r against))
 
     -- or that has a fault
     faulty_chain : at_zero body ≡ Opens remote → (g : TunnelFault) → tunnel_fault_in body ≡ Some g → IsOfOpening g → Declining (fault_reason g.cause)
@@ -91,12 +91,12 @@ module _ (e : End) (kept : AreKept e) (moment peer : ℕ) (bytes : List ℕ) (h 
           body = body;
           came = named;
           opens = opens;
-          alone = alone;
+          alone = none_known peer remote e.tunnels alone;
           fault = g;
           has = has;
           is = refl;
         }))
-        (AFaultyOpening g opens has is.event refl refl)
+        (AFaultyOpening g opens (none_known peer remote e.tunnels alone) has is.event refl refl)
 
     -- ---- what opens a tunnel
 
@@ -107,11 +107,11 @@ module _ (e : End) (kept : AreKept e) (moment peer : ℕ) (bytes : List ℕ) (h 
       abbrev Leads : Option Reason → Type 0
       Leads o = IsStep e moment ev (opens_or_declines e env ev peer remote (next_of_peer h) o)
 
-      -- where it tells no other id
-      new_chain : ((o : Opening) → message_in body ≡ Ok (Sccrq o) → o.tunnel ≡ remote) → Leads None
+      -- where it tells no other id, and there may be one more
+      new_chain : ((o : Opening) → message_in body ≡ Ok (Sccrq o) → (o.tunnel ≡ remote) × (length e.tunnels < 1024)) → Leads None
       unfolding opens_or_declines in_new
       new_chain tells = first_heard e kept moment ev block peer bytes h read control refl
-          (λ o said j t there goes has. none_known peer remote e.tunnels alone j t there goes (has ∙ tells o said))
+          (λ o said. ((λ j t there goes has. none_known peer remote e.tunnels alone j t there goes (has ∙ (tells o said).0)), (tells o said).1))
 
       -- an SCCRQ that can be read
       module _ (o : Opening) (said : message_in body ≡ Ok (Sccrq o)) (is : remote ≡ o.tunnel) where
@@ -119,15 +119,15 @@ module _ (e : End) (kept : AreKept e) (moment peer : ℕ) (bytes : List ℕ) (h 
         unfolding against_body
         against_said = rw said refl
 
-        said_same : (p : Opening) → message_in body ≡ Ok (Sccrq p) → p.tunnel ≡ remote
-        said_same p again =
+        said_same : length e.tunnels < 1024 → (p : Opening) → message_in body ≡ Ok (Sccrq p) → (p.tunnel ≡ remote) × (length e.tunnels < 1024)
+        said_same fewer p again =
             let both : Ok (Sccrq o) ≡ Ok (Sccrq p) = sym said ∙ again in
             let same : o ≡ p = cc in
-            sym (is ∙ ap (λ (x : Opening). x.tunnel) same)
+            (sym (is ∙ ap (λ (x : Opening). x.tunnel) same), fewer)
 
         said_by : (r : Option Reason) → against_opening e o ≡ r → Leads r
         unfolding opens_or_declines
-        said_by None stands = new_chain said_same
+        said_by None stands = new_chain (said_same (none_against e o stands))
         said_by (Some r) stands = opening_chain o said is r stands
 
         said_chain : Leads (against_body e body)
@@ -139,7 +139,7 @@ module _ (e : End) (kept : AreKept e) (moment peer : ℕ) (bytes : List ℕ) (h 
         unfolding against_body
         against_unread = rw faulty.unread refl
 
-        unread_none : (p : Opening) → message_in body ≡ Ok (Sccrq p) → p.tunnel ≡ remote
+        unread_none : (p : Opening) → message_in body ≡ Ok (Sccrq p) → (p.tunnel ≡ remote) × (length e.tunnels < 1024)
         unread_none p said = let both : Err faulty.why ≡ Ok (Sccrq p) = sym faulty.unread ∙ said in absurd cc
 
         unread_by : (q : Option TunnelFault) → tunnel_fault_in body ≡ q → Leads (against_faulty q)

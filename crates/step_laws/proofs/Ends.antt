@@ -1,5 +1,5 @@
 -- A turn of a tunnel is a chain of moves of its end.
-use Rattle.std.proofs.Common.{◌≡◌, ◌⊎◌, inl, inr, ⊎_elim, ℕ, ◌≤◌, Bool, true, false, List, [], refl, sym, ap, ◌∙◌, subst, Option, Some, None, Result, Ok, Err, arith, rules}
+use Rattle.std.proofs.Common.{◌≡◌, ◌⊎◌, inl, inr, ⊎_elim, ℕ, ◌<◌, ◌≤◌, length, Bool, true, false, List, [], refl, sym, ap, ◌∙◌, subst, Option, Some, None, Result, Ok, Err, arith, rules}
 use Rattle.std.proofs.lemmas.Bool.{eqb-true, eq-eqb, ltb-true, true≢false}
 use Rattle.std.proofs.lemmas.List.{append-nil}
 use Rattle.std.specs.Prelude.{◌==◌, nat_lt}
@@ -38,14 +38,15 @@ use Rattle.protocol_model.specs.declared.moves.Move.TheVariants as move
 use Rattle.protocol_model.specs.Reading.{body_of, message_in}
 use Rattle.protocol_model.specs.Calls.{call_row, is_up, is_told, owes}
 use Rattle.protocol_model.specs.Turn.{Tunnel, Env, Turn, turn_of, reason, is_closed, shuts_by, closes_tunnel, with_output, with_move, with_calls, closes, with_local, letter_of, opening_of, letters_after, has_room, learns_window, gives, takes_one, drops, lets_all_go, acknowledged_after, settles, fresh, opened, opens_by, opens, accepted, accepts_by, accepts, adds, rings_new, rings, first_said, hears_control, hears_datagram, carried, carries, turns, tunnel_after}
-use Rattle.protocol_model.specs.End.{End, Stepped, env_of, gives_only, placed, with_looks, after_turn, after_new, has_all_tunnels}
+use Rattle.protocol_model.specs.End.{End, Stepped, env_of, gives_only, placed, with_looks, after_turn, after_new}
 use Rattle.step_laws.specs.Room.{IsChosen, RingsNew}
 use Rattle.step_laws.specs.Causes.{IsTold, ForNew, ForOpening, Stands}
 use Rattle.step_laws.specs.Letters.{AFrame, HasOutput}
-use Rattle.step_laws.specs.Moves.{IsAgain, IsStop, IsFor, Hears, Chain, begun, WhyEnds, IsDropped, IsHungUp, ByOperator}
+use Rattle.step_laws.specs.Moves.{has_all_tunnels, IsUnknown, IsAgain, IsStop, IsFor, Hears, Chain, begun, WhyEnds, IsDropped, IsHungUp, ByOperator}
 use Rattle.step_laws.specs.Steps.{IsKept, AreKept, IsOfMoves, IsChain}
 use Rattle.step_laws.proofs.Lists.{all_map, branch, ascends_placed, ascends_looks}
 use Rattle.step_laws.proofs.Owing.{Fits, closed_owes, dropped_owes, fits_given, owes_told}
+use Rattle.step_laws.proofs.Openings.{not_all}
 use Rattle.step_laws.proofs.Tells.{Tells}
 use Rattle.step_laws.proofs.Turns.{IsWord, NoFrame, Stays, Held, held_given, held_learnt, next_after, at_turn, TurnOk, learnt_state, learnt_queued, drops_ok, adds_ok}
 use Rattle.step_laws.proofs.Settling.{OutOk, Settled, unsent, settled_ok, settles_ok}
@@ -414,10 +415,10 @@ module _ (e : End) (kept : AreKept e) (moment : ℕ) (ev : Event) where
       unfolding draws
       drawn_some n is zero = let first = kept.first in grind (arith, rules)
 
-      opened_good : (local : ℕ) → e.role ≡ Lac → peer ≡ e.config.lns → draws e.tunnel_ids ≡ Ok local → TurnOk e moment ev [] [] local (opened e.role e.config local blank)
+      opened_good : (local : ℕ) → length e.tunnels < 1024 → e.role ≡ Lac → peer ≡ e.config.lns → draws e.tunnel_ids ≡ Ok local → TurnOk e moment ev [] [] local (opened e.role e.config local blank)
       unfolding opened gives with_move with_local with_calls with_looks placed
-      opened_good local lac lns drawn = record {
-        chain = (_, record { drawn = drawn; given = refl; peer = lns; role = lac; after = refl }, refl);
+      opened_good local fewer lac lns drawn = record {
+        chain = (_, record { few = fewer; drawn = drawn; given = refl; peer = lns; role = lac; after = refl }, refl);
         words = tt;
         tells = tt;
         frames = (tt, tt);
@@ -426,7 +427,7 @@ module _ (e : End) (kept : AreKept e) (moment : ℕ) (ev : Event) where
         fits = (ascends-empty [] refl, omega arith, (λ live. omega arith), (λ o. omega arith), omega arith, (λ closed. refl));
       }
 
-      pub opens_chain : e.role ≡ Lac → peer ≡ e.config.lns → ev ≡ OpenTunnel → has_all_tunnels e.tunnels ≡ false → leads_new (turns e.role e.config [] [] OpenTunnel blank)
+      pub opens_chain : e.role ≡ Lac → peer ≡ e.config.lns → ev ≡ OpenTunnel → has_all_tunnels e ≡ false → leads_new (turns e.role e.config [] [] OpenTunnel blank)
       unfolding turns opens opens_by
       opens_chain lac lns opening fewer = by (draws e.tunnel_ids) refl
         where
@@ -434,16 +435,16 @@ module _ (e : End) (kept : AreKept e) (moment : ℕ) (ev : Event) where
           by (Err x) is = refused_new cause.Ids (ForOpening x opening fewer is)
           by (Ok local) is =
               branch (λ u. leads_new (settles false [] u)) (has_room (fresh peer moment)) (opened e.role e.config local blank) (with_output (Refused cause.Queue) blank)
-              (λ may. made_leads _ (record { id = local; some = drawn_some local is; good = opened_good local lac lns is }))
+              (λ may. made_leads _ (record { id = local; some = drawn_some local is; good = opened_good local (not_all e fewer) lac lns is }))
               (λ full. absurd (true≢false full))
 
-      rung_good : (port s local : ℕ) → e.role ≡ Lac → peer ≡ e.config.lns → ev ≡ Ring port → draws e.session_ids ≡ Ok s
+      rung_good : (port s local : ℕ) → length e.tunnels < 1024 → e.role ≡ Lac → peer ≡ e.config.lns → ev ≡ Ring port → draws e.session_ids ≡ Ok s
           → draws e.tunnel_ids ≡ Ok local → TurnOk e moment ev [] [] local (adds e.role port s (opened e.role e.config local blank))
       unfolding opened gives with_move with_local with_calls
-      rung_good port s local lac lns rings session drawn =
-          adds_ok e moment ev [] [] local port s (opened e.role e.config local blank) refl refl refl refl rings lac session (opened_good local lac lns drawn)
+      rung_good port s local fewer lac lns rings session drawn =
+          adds_ok e moment ev [] [] local port s (opened e.role e.config local blank) refl refl refl refl rings lac session (opened_good local fewer lac lns drawn)
 
-      pub rings_chain : (port : ℕ) → e.role ≡ Lac → peer ≡ e.config.lns → ev ≡ Ring port → RingsNew e ev → has_all_tunnels e.tunnels ≡ false
+      pub rings_chain : (port : ℕ) → e.role ≡ Lac → peer ≡ e.config.lns → ev ≡ Ring port → RingsNew e ev → has_all_tunnels e ≡ false
           → leads_new (turns e.role e.config [] [] (Ring port) blank)
       unfolding turns rings rings_new
       rings_chain port lac lns rings new fewer = by (draws e.session_ids) (draws e.tunnel_ids) refl refl
@@ -454,7 +455,7 @@ module _ (e : End) (kept : AreKept e) (moment : ℕ) (ev : Event) where
           by (Ok s) (Err y) is drawn = refused_new cause.Ids (ForNew new fewer (inr (y, drawn)))
           by (Ok s) (Ok local) is drawn =
               branch (λ u. leads_new (settles false [] u)) (has_room (fresh peer moment)) (adds e.role port s (opened e.role e.config local blank)) (with_output (Refused cause.Queue) blank)
-              (λ may. made_leads _ (record { id = local; some = drawn_some local drawn; good = rung_good port s local lac lns rings is drawn }))
+              (λ may. made_leads _ (record { id = local; some = drawn_some local drawn; good = rung_good port s local (not_all e fewer) lac lns rings is drawn }))
               (λ full. absurd (true≢false full))
 
       -- a window that is learned before the id is that of the tunnel with the id
@@ -465,22 +466,23 @@ module _ (e : End) (kept : AreKept e) (moment : ℕ) (ev : Event) where
           (λ none. rw none refl)
           (λ some. rw some refl)
 
-      -- no tunnel of this end is to the peer and has this id there
-      abbrev pub Alone : ℕ → Type 0
-      Alone remote = (j : ℕ) (t : Tunnel) → at e.tunnels j ≡ Some t → t.control.peer ≡ peer → t.control.remote ≡ remote → ⊥
+      -- no tunnel of this end is to the peer and has this id there, and there may be one more
+      abbrev pub MayMake : ℕ → Type 0
+      MayMake remote = IsUnknown e peer remote × (length e.tunnels < 1024)
 
-      accepted_good : (session remote window local : ℕ) (o : Opening) → Hears ev peer session (Sccrq o) → remote ≡ o.tunnel → window ≡ o.window → Alone remote
+      accepted_good : (session remote window local : ℕ) (o : Opening) → Hears ev peer session (Sccrq o) → remote ≡ o.tunnel → window ≡ o.window → MayMake remote
           → draws e.tunnel_ids ≡ Ok local → TurnOk e moment ev [] [] local (accepted e.role e.config remote window local blank)
       unfolding accepted gives with_move with_local takes_one with_calls with_looks placed
-      accepted_good session remote window local o hears is told alone drawn = record {
+      accepted_good session remote window local o hears is told may drawn = record {
         chain = (
           _,
           record {
+            few = may.1;
             opening = o;
             hears = (session, hears);
             remote = is;
             window = told;
-            alone = alone;
+            alone = may.0;
             drawn = drawn;
             taken = refl;
             given = refl;
@@ -500,7 +502,7 @@ module _ (e : End) (kept : AreKept e) (moment : ℕ) (ev : Event) where
             fits_given (learns_window window c) [] (ap is_closed (learnt_state window c)) (ascends-empty [] refl) (omega arith) (omega (arith, none));
       }
 
-      accepts_chain : (session : ℕ) (o : Opening) → Hears ev peer session (Sccrq o) → Alone o.tunnel
+      accepts_chain : (session : ℕ) (o : Opening) → Hears ev peer session (Sccrq o) → MayMake o.tunnel
           → leads_new (settles false [] (accepts e.role e.config o.tunnel o.window blank))
       unfolding accepts accepts_by
       accepts_chain session o hears alone = by (draws e.tunnel_ids) refl
@@ -517,7 +519,7 @@ module _ (e : End) (kept : AreKept e) (moment : ℕ) (ev : Event) where
               (λ full. absurd (true≢false full))
 
       first_chain : (session : ℕ) (x : Result Message Why) → ((m : Message) → x ≡ Ok m → Hears ev peer session m)
-          → ((o : Opening) → x ≡ Ok (Sccrq o) → Alone o.tunnel) → leads_new (settles false [] (first_said e.role e.config x blank))
+          → ((o : Opening) → x ≡ Ok (Sccrq o) → MayMake o.tunnel) → leads_new (settles false [] (first_said e.role e.config x blank))
       unfolding first_said
       first_chain session (Ok (Sccrq o)) said alone = accepts_chain session o (said (Sccrq o) refl) (alone o refl)
       first_chain session (Ok Hello) said alone = dropped_new why.Tunnel (λ q. absurd cc)
@@ -536,7 +538,7 @@ module _ (e : End) (kept : AreKept e) (moment : ℕ) (ev : Event) where
       first_chain session (Err w) said alone = dropped_new why.Tunnel (λ q. absurd cc)
 
       pub first_heard : (bytes : List ℕ) (h : Header) → header_of bytes ≡ Ok h → h.control ≡ true → ev ≡ Datagram peer bytes
-          → ((o : Opening) → message_in (body_of h bytes) ≡ Ok (Sccrq o) → Alone o.tunnel) → leads_new (turns e.role e.config [] [] (Datagram peer bytes) blank)
+          → ((o : Opening) → message_in (body_of h bytes) ≡ Ok (Sccrq o) → MayMake o.tunnel) → leads_new (turns e.role e.config [] [] (Datagram peer bytes) blank)
       unfolding turns hears_datagram hears_control
       first_heard bytes h read control same alone =
           subst (λ x. leads_new (hears_datagram e.role e.config [] [] bytes x blank)) (sym read)

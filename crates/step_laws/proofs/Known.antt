@@ -86,7 +86,7 @@ module _ (e : End) (ev : Event) (i : ℕ) (t : Tunnel) (there : at e.tunnels i �
       some (sym named ∙ ap (λ (x : Header). x.tunnel) once.one_header ∙ would.came.none))
       (λ unnamed. ⊎_elim
       (λ (again : IsAgain came.hears.header came.hears.bytes t.control).
-      none_known would.peer o.tunnel e.tunnels would.alone i t there once.one_peer
+      would.alone i t there once.one_peer
       (sccrq_opens (body_of came.hears.header came.hears.bytes) t.control.remote o again.opens came.hears.said))
       (λ (stop : IsStop came.hears.header came.hears.bytes t.control).
       stop_opens_none (body_of came.hears.header came.hears.bytes) t.control.remote o stop.stops came.hears.said)

@@ -20,6 +20,7 @@ use Rattle.step_laws.specs.Left.{CanBe, LateCallsEnd}
 use Rattle.step_laws.specs.Steps.{IsKept, AreKept, StepsAreChains}
 use Rattle.step_laws.proofs.Lists.{found_among}
 use Rattle.step_laws.proofs.States.{never}
+use Rattle.step_laws.proofs.Moments.{is_past, set_up}
 use Rattle.step_laws.proofs.Owing.{Fits, live_with, holds_live, has_room_for}
 use Rattle.step_laws.proofs.Sound.{role_stays, stays_sound}
 use Rattle.step_laws.proofs.Patience.{IsDue, Ticks, ticks_ok}
@@ -143,10 +144,11 @@ module _ (e : End) (kept : AreKept e) (moment : ℕ) (block : List ℕ) where
       ticks_leave NoneIsDue e kept.order moment block (λ j u is. ⊎_elim (λ cleared. inl cleared) (λ stays. inr stays.late) (ticked j u is)) i t there
 
 pub late_calls_end : StepsAreChains → LateCallsEnd
-late_calls_end chains e kept sound moment block i t there s c live set_up over =
+late_calls_end chains e kept sound moment block i t there s c live other over =
     let x = (step e moment block Tick).end in
     let call : (s < 65536) × CanBe x.role c.state = stays_sound chains e kept moment block Tick sound i t there s c live in
     let can : CanBe e.role c.state = subst (λ r. CanBe r c.state) (role_stays chains e kept moment block Tick) call.1 in
-    let due : IsDue e.role moment s c = record { small = call.0; set_up = set_up; over = over; ends = ends_row e.role c.state can set_up } in
+    let being = set_up e.role c.state can other in
+    let due : IsDue e.role moment s c = record { small = call.0; set_up = being; over = is_past moment c.since over; ends = ends_row e.role c.state can being } in
     true≢false (sym (roomy i t ((chains e kept moment block Tick).kept.tunnels i t there) s c live)
     ∙ none_is_due e kept moment block i t there s c live due)

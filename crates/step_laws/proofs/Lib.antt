@@ -16,6 +16,8 @@ mod Calls
 mod Faulty
 mod Stopping
 mod Hearing
+mod Moments
+mod Named
 mod Ticking
 mod Ends
 mod Declining
@@ -25,9 +27,11 @@ pub mod Steps
 mod Sound
 mod Patience
 mod Late
+mod Lasting
 mod Asking
 mod Waiting
 pub mod Looks
+mod Few
 pub mod Ups
 mod Bodies
 mod Still

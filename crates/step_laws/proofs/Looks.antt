@@ -46,10 +46,10 @@ drawn_next s k h = ap (λ (d : Space). d.next) (next_is s k h)
 
 -- ---- tables that ascend
 
-record AreOrdered (e : End) : Type 0 where
-  tunnels : Ascends e.tunnels
-  calls : (i : ℕ) (t : Tunnel) → at e.tunnels i ≡ Some t → Ascends t.calls
-  places : Ascends e.calls
+pub record AreOrdered (e : End) : Type 0 where
+  pub tunnels : Ascends e.tunnels
+  pub calls : (i : ℕ) (t : Tunnel) → at e.tunnels i ≡ Some t → Ascends t.calls
+  pub places : Ascends e.calls
 
 -- ---- one tunnel is put, and one place
 
@@ -466,7 +466,7 @@ module _ (x : End) (ok : AreOrdered x) where
       tunnel_put y i (record t { control = c; letters = ls }) (ok.calls i t there) (ap (λ (e : End). e.tunnels) is)
       (looks_stay_so y (ap (λ (e : End). e.calls) is))
 
-  does_order : (moment : ℕ) (ev : Event) (m : Move) (y : End) → Does x moment ev m y → AreOrdered y
+  pub does_order : (moment : ℕ) (ev : Event) (m : Move) (y : End) → Does x moment ev m y → AreOrdered y
   does_order moment ev (move.Opened m) y h =
       tunnel_put y m.tunnel _ (ascends-empty [] refl) (ap (λ (e : End). e.tunnels) h.after) (looks_stay_so y (ap (λ (e : End). e.calls) h.after))
   does_order moment ev (move.Accepted m) y h =
@@ -525,7 +525,7 @@ chain_looks moment ev x y [] h order ok = subst LooksAreTrue h ok
 chain_looks moment ev x y (m ∷ ms) h order ok =
     chain_looks moment ev h.0 y ms h.2 (does_order x order moment ev m h.0 h.1) (does_looks x ok order moment ev m h.0 h.1)
 
-kept_order : (e : End) → AreKept e → AreOrdered e
+pub kept_order : (e : End) → AreKept e → AreOrdered e
 kept_order e kept = record { tunnels = kept.order; calls = λ i t f. (kept.tunnels i t f).calls; places = kept.places }
 
 pub looks_begin : LooksBeginTrue

@@ -1,21 +1,95 @@
 -- What stands against an opening: in a tunnel, and where it would open one.
-use Rattle.std.proofs.Common.{◌≡◌, inl, inr, ℕ, Bool, true, false, cond, refl, sym, ◌∙◌, subst, Option, Some, None, is_some, Result, Ok, Err}
+use Rattle.std.proofs.Common.{◌≡◌, inl, inr, ℕ, ◌<◌, ◌≤◌, length, Bool, true, false, cond, refl, sym, ◌∙◌, subst, Option, Some, None, is_some, Result, Ok, Err, arith}
 use Rattle.std.proofs.lemmas.Bool.{eqb-true, eq-eqb, true≢false}
-use Rattle.std.specs.Prelude.{◌==◌, not, is_none, unwrap_or}
+use Rattle.std.proofs.lemmas.Bool.Decides.{nat_tests}
+use Rattle.std.specs.Prelude.{◌==◌, not, is_none, unwrap_or, nat_le}
 use Rattle.id_source.specs.Spaces.{draws}
 use Rattle.id_source.specs.declared.IdError.{IdError}
 use Rattle.control_message.specs.declared.message.Opening.{Opening}
 use Rattle.tunnel_fsm.specs.declared.table.TunnelEvent.{TunnelEvent}
 use Rattle.protocol_model.specs.declared.event.Event.{Event}
-use Rattle.protocol_model.specs.Reasons.{no_tunnel}
+use Rattle.protocol_model.specs.Reasons.{no_tunnel, no_id}
 use Rattle.protocol_model.specs.Turn.{Tunnel, Reason, out_of_order, other_version, no_recovery, no_secret, is_acceptable, event_by, opening_reason}
-use Rattle.protocol_model.specs.End.{End, has_all_tunnels, lacks_id, against_opening}
+use Rattle.protocol_model.specs.End.{End, lacks_id, against_opening}
+use Rattle.step_laws.specs.Moves.{has_all_tunnels, StandsAgainst, OtherVersion, Recovers, NoTunnel, Challenges, NoId, ClosesIn, HasOtherVersion, HasRecovery, HasChallenge, IsUnawaited}
 use Rattle.step_laws.specs.Causes.{IsClosedOn, WouldOpen, IsNotAccepted, AtZero, MayOpen, IsOutOfOrder, ForPeer, Stands}
 
-module _ (e : End) (moment : ℕ) (ev : Event) (o : Opening) where
-  other_than : (o.version == 256) ≡ false → o.version ≡ 256 → ⊥
-  other_than other is = true≢false (sym (eq-eqb o.version 256 is) ∙ other)
+other_than : (o : Opening) → (o.version == 256) ≡ false → o.version ≡ 256 → ⊥
+other_than o other is = true≢false (sym (eq-eqb o.version 256 is) ∙ other)
 
+-- ---- how many tunnels there are
+
+below : (n : ℕ) → nat_le 1024 n ≡ false → n < 1024
+below n h = grind (arith, nat_tests)
+
+reached : (n : ℕ) → nat_le 1024 n ≡ true → 1024 ≤ n
+reached n h = grind (arith, nat_tests)
+
+pub not_all : (e : End) → has_all_tunnels e ≡ false → length e.tunnels < 1024
+not_all e fewer = below (length e.tunnels) fewer
+
+pub all_made : (e : End) → has_all_tunnels e ≡ true → 1024 ≤ length e.tunnels
+all_made e all = reached (length e.tunnels) all
+
+-- ---- the codes
+
+-- of what stands against an opening where it would open a tunnel
+module _ (e : End) (o : Opening) where
+  pub against_is : (r : Reason) → against_opening e o ≡ Some r → StandsAgainst e o r.result r.error
+  unfolding against_opening
+  against_is r h = by (o.version == 256) (is_some o.recovery) (has_all_tunnels e) (is_some o.challenge) (draws e.tunnel_ids) refl refl refl refl refl h
+    where
+      so : (q : Reason) → Some q ≡ Some r → StandsAgainst e o q.result q.error → StandsAgainst e o r.result r.error
+      so q is stands = let same : q ≡ r = cc in subst (λ (x : Reason). StandsAgainst e o x.result x.error) same stands
+
+      last : (d : Result ℕ IdError) → draws e.tunnel_ids ≡ d → lacks_id d ≡ Some r
+          → ((x : IdError) → draws e.tunnel_ids ≡ Err x → StandsAgainst e o no_id.result no_id.error) → StandsAgainst e o r.result r.error
+      last (Ok i) drawn is stands = absurd cc
+      last (Err x) drawn is stands = so no_id is (stands x drawn)
+
+      by : (a b c d : Bool) (i : Result ℕ IdError) → (o.version == 256) ≡ a → is_some o.recovery ≡ b → has_all_tunnels e ≡ c
+          → is_some o.challenge ≡ d → draws e.tunnel_ids ≡ i
+          → cond (not a) (Some other_version)
+          (cond b (Some no_recovery) (cond c (Some no_tunnel) (cond d (Some no_secret) (lacks_id i)))) ≡ Some r → StandsAgainst e o r.result r.error
+      by false b c d i version recovery all challenge drawn is = so other_version is (OtherVersion (other_than o version) refl refl)
+      by true true c d i version recovery all challenge drawn is = so no_recovery is (Recovers (eqb-true o.version 256 version) recovery refl refl)
+      by true false true d i version recovery all challenge drawn is =
+          so no_tunnel is (NoTunnel (eqb-true o.version 256 version) recovery (all_made e all) refl refl)
+      by true false false true i version recovery all challenge drawn is =
+          so no_secret is (Challenges (eqb-true o.version 256 version) recovery (not_all e all) challenge refl refl)
+      by true false false false i version recovery all challenge drawn is =
+          last i drawn is (λ x none. NoId (eqb-true o.version 256 version) recovery (not_all e all) challenge x none refl refl)
+
+  -- where nothing does there may be one more
+  pub none_against : against_opening e o ≡ None → length e.tunnels < 1024
+  unfolding against_opening
+  none_against h = by (o.version == 256) (is_some o.recovery) (has_all_tunnels e) (is_some o.challenge) (lacks_id (draws e.tunnel_ids)) refl h
+    where
+      by : (a b c d : Bool) (i : Option Reason) → has_all_tunnels e ≡ c
+          → cond (not a) (Some other_version) (cond b (Some no_recovery) (cond c (Some no_tunnel) (cond d (Some no_secret) i))) ≡ None
+          → length e.tunnels < 1024
+      by false b c d i all is = absurd cc
+      by true true c d i all is = absurd cc
+      by true false true d i all is = absurd cc
+      by true false false d i all is = not_all e all
+
+-- and of one that closes the tunnel in which it comes
+abbrev reason_by : Bool → Bool → Bool → Reason
+reason_by a b c = unwrap_or (cond (not a) (Some other_version) (cond b (Some no_recovery) (cond c (Some no_secret) None))) out_of_order
+
+pub closes_in : (o : Opening) (result : ℕ) (error : Option ℕ) → result ≡ (opening_reason o).result → error ≡ (opening_reason o).error
+    → ClosesIn o result error
+closes_in o result error r x = rw (r, x) (by (o.version == 256) (is_some o.recovery) (is_some o.challenge) refl refl refl)
+  where
+    by : (a b c : Bool) → (o.version == 256) ≡ a → is_some o.recovery ≡ b → is_some o.challenge ≡ c → ClosesIn o (reason_by a b c).result (reason_by a b c).error
+    by false b c version recovery challenge = HasOtherVersion (other_than o version) refl refl
+    by true true c version recovery challenge = HasRecovery (eqb-true o.version 256 version) recovery refl refl
+    by true false true version recovery challenge = HasChallenge (eqb-true o.version 256 version) recovery challenge refl refl
+    by true false false version recovery challenge = IsUnawaited (eqb-true o.version 256 version) recovery challenge refl refl
+
+-- ---- the causes
+
+module _ (e : End) (moment : ℕ) (ev : Event) (o : Opening) where
   -- ---- in a tunnel
 
   -- by its version, a recovery and a challenge
@@ -30,7 +104,7 @@ module _ (e : End) (moment : ℕ) (ev : Event) (o : Opening) where
       where
         by : (a b c : Bool) → (o.version == 256) ≡ a → is_some o.recovery ≡ b → is_some o.challenge ≡ c
             → IsClosedOn e t (cond (is_none (against_by a b c)) good bad) → Stands e moment ev (unwrap_or (against_by a b c) out_of_order).cause
-        by false b c version recovery challenge on = (o, refused on, other_than version)
+        by false b c version recovery challenge on = (o, refused on, other_than o version)
         by true true c version recovery challenge on = (o, refused on, (eqb-true o.version 256 version, recovery))
         by true false true version recovery challenge on = (o, refused on, (eqb-true o.version 256 version, recovery), challenge, may)
         by true false false version recovery challenge on = inr (inl (in_order (rw (version, recovery, challenge) refl) on))
@@ -40,21 +114,21 @@ module _ (e : End) (moment : ℕ) (ev : Event) (o : Opening) where
   pub against_stands : WouldOpen e ev o → (r : Reason) → against_opening e o ≡ Some r → Stands e moment ev r.cause
   unfolding against_opening
   against_stands would r h =
-      by (o.version == 256) (is_some o.recovery) (has_all_tunnels e.tunnels) (is_some o.challenge) (draws e.tunnel_ids) refl refl refl refl refl h
+      by (o.version == 256) (is_some o.recovery) (has_all_tunnels e) (is_some o.challenge) (draws e.tunnel_ids) refl refl refl refl refl h
     where
       so : (q : Reason) → Some q ≡ Some r → Stands e moment ev q.cause → Stands e moment ev r.cause
       so q is stands = let same : q ≡ r = cc in subst (λ (x : Reason). Stands e moment ev x.cause) same stands
 
-      last : (d : Result ℕ IdError) → draws e.tunnel_ids ≡ d → lacks_id d ≡ Some r → is_acceptable o ≡ true → has_all_tunnels e.tunnels ≡ false
+      last : (d : Result ℕ IdError) → draws e.tunnel_ids ≡ d → lacks_id d ≡ Some r → is_acceptable o ≡ true → has_all_tunnels e ≡ false
           → Stands e moment ev r.cause
       last (Ok i) drawn is good fewer = absurd cc
       last (Err x) drawn is good fewer = so _ is (ForPeer o x would good fewer drawn)
 
-      by : (a b c d : Bool) (i : Result ℕ IdError) → (o.version == 256) ≡ a → is_some o.recovery ≡ b → has_all_tunnels e.tunnels ≡ c
+      by : (a b c d : Bool) (i : Result ℕ IdError) → (o.version == 256) ≡ a → is_some o.recovery ≡ b → has_all_tunnels e ≡ c
           → is_some o.challenge ≡ d → draws e.tunnel_ids ≡ i
           → cond (not a) (Some other_version)
           (cond b (Some no_recovery) (cond c (Some no_tunnel) (cond d (Some no_secret) (lacks_id i)))) ≡ Some r → Stands e moment ev r.cause
-      by false b c d i version recovery all challenge drawn is = so other_version is (o, AtZero would, other_than version)
+      by false b c d i version recovery all challenge drawn is = so other_version is (o, AtZero would, other_than o version)
       by true true c d i version recovery all challenge drawn is =
           so no_recovery is (o, AtZero would, (eqb-true o.version 256 version, recovery))
       by true false true d i version recovery all challenge drawn is =

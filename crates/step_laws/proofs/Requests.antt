@@ -29,6 +29,7 @@ use Rattle.step_laws.specs.Causes.{MayBeGranted}
 use Rattle.step_laws.specs.Left.{AreSound, AreAsked}
 use Rattle.step_laws.specs.Steps.{AreKept}
 use Rattle.step_laws.specs.Answers.{Incoming, TakesRequest, IsReply, AnswersIcrq, IsAnswer, IsAnswered, IsRepliedTo, GrantedAreRepliedTo, RingIsAnswered, RequestsAreAnswered, IsRefusal, IsDenied, NoCalls, InUse, TooMany, NoIds, IsRefusedTo, NewAreJudged}
+use Rattle.step_laws.proofs.States.{takes_none}
 use Rattle.step_laws.proofs.Lists.{branch, and_left, found_passes}
 use Rattle.step_laws.proofs.Owing.{spare_room}
 use Rattle.step_laws.proofs.Tells.{in_use, granted_may}
@@ -143,7 +144,7 @@ module _ (e : End) (t : Tunnel) (remote : ℕ) (may : MayBeGranted e t remote) w
   unfolding granted
   passes x drawn =
       branch (λ q. q ≡ Ok x) (not (is_reply (call_row e.role call.Idle call_event.IcrqAcc).1)) _ _
-      (λ none. absurd (may.takes (untaken (is_reply (call_row e.role call.Idle call_event.IcrqAcc).1) refl none)))
+      (λ none. absurd (may.takes (takes_none e.role (untaken (is_reply (call_row e.role call.Idle call_event.IcrqAcc).1) refl none))))
       (λ takes. branch (λ q. q ≡ Ok x) (remote == 0 || is_some (call_of t.calls remote)) _ _
       (λ used. absurd (may.free (in_use e 0 Tick t remote used)))
       (λ free. branch (λ q. q ≡ Ok x) (are_too_many t.calls) _ _
@@ -184,7 +185,7 @@ module _ (e : End) (t : Tunnel) (remote : ℕ) where
           → are_too_many t.calls ≡ c → draws e.session_ids ≡ d
           → cond (not a) (Err out_of_state) (cond b (Err (reason cause.Session 2 (Some 5))) (cond c (Err (reason cause.Calls 4 None)) (left_of d))) ≡ Err r
           → Denies r
-      by false b c d row used many drawn is = so out_of_state is (NoCalls row refl refl)
+      by false b c d row used many drawn is = so out_of_state is (NoCalls (takes_none e.role row) refl refl)
       by true true c d row used many drawn is = so (reason cause.Session 2 (Some 5)) is (InUse (in_use e 0 Tick t remote used) refl refl)
       by true false true d row used many drawn is = so (reason cause.Calls 4 None) is (TooMany many refl refl)
       by true false false (Err x) row used many drawn is = so (reason cause.Ids 4 None) is (NoIds x drawn refl refl)

@@ -11,6 +11,17 @@ use Rattle.protocol_model.specs.Calls.{call_row, advanced, rung, asked_for, is_r
 pub never : {X : Type 0} → false ≡ true → X
 never h = absurd (true≢false (sym h))
 
+-- a LAC replies to no request, and an LNS does
+pub takes_none : (r : Role) → is_reply (call_row r Idle call_event.IcrqAcc).1 ≡ false → r ≡ Lac
+unfolding call_row
+takes_none Lac h = refl
+takes_none Lns h = absurd (true≢false h)
+
+pub none_taken : (r : Role) → r ≡ Lac → is_reply (call_row r Idle call_event.IcrqAcc).1 ≡ false
+unfolding call_row
+none_taken Lac h = refl
+none_taken Lns h = absurd cc
+
 -- a call that is asked for waited for its tunnel, and waits for a reply
 pub requested_state : (r : Role) (s : CallState) → is_request (call_row r s call_event.TunnelOpen).1 ≡ true
     → (s ≡ WaitTunnel) × ((call_row r s call_event.TunnelOpen).0 ≡ WaitReply)

@@ -26,7 +26,8 @@ use Rattle.protocol_model.specs.declared.out.Out.TheVariants.{Drop, Cause}
 use Rattle.protocol_model.specs.Reading.{header_why, body_of, at_zero, at_tunnel}
 use Rattle.protocol_model.specs.Calls.{is_lac, frame_of, side_of, Carried, Upward, Dropped, carry_known, carry_look}
 use Rattle.protocol_model.specs.Turn.{Tunnel, Env, turns}
-use Rattle.protocol_model.specs.End.{End, Stepped, env_of, in_new, has_all_tunnels, in_one_more, in_main, is_known, known_as, opened_before, stopped_at, opens_once, addressed, for_addressee, is_in, least_in, rings_in, rings_at, for_call, look_in, handed, hands_up, receives, only_by, step_in, step}
+use Rattle.protocol_model.specs.End.{End, Stepped, env_of, in_new, in_one_more, in_main, is_known, known_as, opened_before, stopped_at, opens_once, addressed, for_addressee, is_in, least_in, rings_in, rings_at, for_call, look_in, handed, hands_up, receives, only_by, step_in, step}
+use Rattle.step_laws.specs.Moves.{has_all_tunnels}
 use Rattle.step_laws.specs.Room.{IsChosen, StepsRefuseTruly}
 use Rattle.step_laws.specs.Causes.{CausesStand}
 use Rattle.step_laws.specs.Steps.{AreKept, StepsAreChains}
@@ -290,7 +291,7 @@ module _ (e : End) (kept : AreKept e) (moment : ℕ) (block : List ℕ) where
   rung port lac (Some i) opening is next = main_rung port i lac (inl is) (at e.tunnels i) refl (λ t there. let l = least_is Established i is t there in (inl l.0, l.1))
   rung port lac None (Some i) is next = main_rung port i lac (inr (is, next)) (at e.tunnels i) refl (λ t there. let l = least_is WaitCtlReply i next t there in (inr l.0, l.1))
   rung port lac None None is next =
-      branch (IsStep e moment (Ring port)) (has_all_tunnels e.tunnels) _ _
+      branch (IsStep e moment (Ring port)) (has_all_tunnels e) _ _
       (λ all. cause_chain e kept moment (Ring port) cause.Tunnels (inl (port, refl, is, next), all))
       (λ fewer. rings_chain e kept moment (Ring port) block e.config.lns port lac refl refl (port, refl, is, next) fewer)
 
@@ -334,7 +335,7 @@ module _ (e : End) (kept : AreKept e) (moment : ℕ) (block : List ℕ) where
   step_chain (CloseTunnel i) = main_shut i (at e.tunnels i) refl
   step_chain Tick = ticks_chain moment e block kept
   step_chain OpenTunnel = by_lac OpenTunnel _ (λ lac.
-      branch (IsStep e moment OpenTunnel) (has_all_tunnels e.tunnels) _ _
+      branch (IsStep e moment OpenTunnel) (has_all_tunnels e) _ _
       (λ all. cause_chain e kept moment OpenTunnel cause.Tunnels (inr (inl refl), all))
       (λ fewer. opens_chain e kept moment OpenTunnel block e.config.lns lac refl refl fewer))
 

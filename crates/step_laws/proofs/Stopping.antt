@@ -1,6 +1,6 @@
 -- A letter that closes its tunnel: one that its table has no good use for, one that has a fault, or a StopCCN.
 use Rattle.std.proofs.Common.{◌≡◌, inl, inr, ℕ, Bool, true, false, cond, List, refl, sym, ap, ◌∙◌, subst, Option, Some, None, Err, arith}
-use Rattle.std.proofs.lemmas.Bool.{eqb-true, true≢false}
+use Rattle.std.proofs.lemmas.Bool.{eqb-true, eq-eqb, true≢false}
 use Rattle.std.specs.Prelude.{◌==◌}
 use Rattle.wire_base.specs.declared.why.Why.{Why as WhyOf}
 use Rattle.wire_base.specs.declared.letter.Letter.{Letter}
@@ -21,12 +21,12 @@ use Rattle.protocol_model.specs.Reading.{body_of, message_in, CallFault, call_fa
 use Rattle.protocol_model.specs.Turn.{Tunnel, Turn, Reason, is_closed, is_acceptable, event_by, opening_reason, out_of_order, fault_reason, known_or, with_move, takes_one, takes_plain, closes_tunnel, takes_by, takes, hears_faulty}
 use Rattle.protocol_model.specs.End.{End}
 use Rattle.step_laws.specs.Causes.{IsClosedOn, InSccrq, InSccrp, AnSccrq, AnSccrp, AnScccn, Stands}
-use Rattle.step_laws.specs.Moves.{HearsNext, ComesNext, IsPlain, InTunnel, SaysStop, BySccrq, BySccrp, ByScccn, ByFault}
+use Rattle.step_laws.specs.Moves.{HearsNext, ComesNext, IsPlain, InTunnel, IsKnownOr, SaysStop, BySccrq, BySccrp, ByScccn, ByFault}
 use Rattle.step_laws.proofs.Faults.{IsEventOfFault, of_tunnel, closing_stands}
 use Rattle.step_laws.proofs.Turns.{TurnOk, PlainAt, plain_ok}
 use Rattle.step_laws.proofs.Settling.{Settled, unsent}
 use Rattle.step_laws.proofs.Known.{sccrq_opens_none, sccrp_opens_none}
-use Rattle.step_laws.proofs.Openings.{opening_stands}
+use Rattle.step_laws.proofs.Openings.{closes_in, opening_stands}
 use Rattle.step_laws.proofs.Comes.{Taking, next_of_heard, heard_in, for_still, comes_at, begun}
 use Rattle.step_laws.proofs.Shutting.{Why, told_shut_ok, heard_shut_ok}
 use Rattle.step_laws.proofs.Faulty.{unread_plain, unknown_ok, in_faulty_call_ok}
@@ -136,6 +136,14 @@ known_or_none c = by (c.remote == 0) refl
     by true none = sym (eqb-true c.remote 0 none)
     by false some = refl
 
+-- else it is the one that is known, or, where none is, the one that is told
+is_known_or : (told : ℕ) (c : Control) (remote : ℕ) → remote ≡ known_or told c → IsKnownOr told c remote
+is_known_or told c remote is = by (c.remote == 0) refl is
+  where
+    by : (b : Bool) → (c.remote == 0) ≡ b → remote ≡ cond b told c.remote → IsKnownOr told c remote
+    by true none is = ((λ some. absurd (some (eqb-true c.remote 0 none))), (λ zero. is))
+    by false some is = ((λ known. is), (λ zero. absurd (true≢false (sym (eq-eqb c.remote 0 zero) ∙ some))))
+
 -- ---- a closed tunnel does nothing on a message
 
 pub closed_plain : (x : End) (u : Tunnel) (session : ℕ) (m : Message) → is_closed u.control.state ≡ true → IsPlain x u session m
@@ -224,7 +232,8 @@ module _ (e : End) (moment : ℕ) (ev : Event) (letters : List Letter) (calls : 
         shuts_ok (opening_reason o) (sccrq_stands hears (shut_on t f on row)) on 0 o.window t f
         (comes_at e moment ev letters calls i t session (Sccrq o) tt hears) row
         (λ m to remote result error.
-        BySccrq session o (heard_in ev t.control _ session (Sccrq o) refl refl refl hears) refl (remote ∙ known_or_none t.control) result error)
+        BySccrq session o (heard_in ev t.control _ session (Sccrq o) refl refl refl hears) refl (remote ∙ known_or_none t.control)
+        (closes_in o m.result m.error result error))
 
     sccrp_stands : HearsNext ev t.control session (Sccrp o) → IsClosedOn e (begun_at t f) (event_by event.SccrpAcc event.SccrpNotAcc o)
         → Stands e moment ev (opening_reason o).cause
@@ -246,7 +255,8 @@ module _ (e : End) (moment : ℕ) (ev : Event) (letters : List Letter) (calls : 
         shuts_ok (opening_reason o) (sccrp_stands hears (shut_on t f on row)) on o.tunnel o.window t f
         (comes_at e moment ev letters calls i t session (Sccrp o) plain hears) row
         (λ m to remote result error.
-        BySccrp session o (heard_in ev t.control _ session (Sccrp o) refl refl refl hears) refl remote result error)
+        BySccrp session o (heard_in ev t.control _ session (Sccrp o) refl refl refl hears) refl (is_known_or o.tunnel t.control m.remote remote)
+        (closes_in o m.result m.error result error))
 
   pub scccn_shut_ok : (session : ℕ) (t : Turn) → Takes t → (state_number t.control.state ≡ 2 → ⊥) → HearsNext ev t.control session Scccn
       → Good (takes_by e.role calls out_of_order 0 0 (row_of rows t.control.state event.ScccnAcc) t)
@@ -309,7 +319,7 @@ module _ (e : End) (moment : ℕ) (ev : Event) (letters : List Letter) (calls : 
             some = next.some;
             tunnel = for_still next.header next.bytes t.control _ refl refl next.tunnel;
             fault = has;
-          }) refl remote result error)
+          }) refl (is_known_or g.remote t.control m.remote remote) result error)
 
       -- by the event that it is to the table
       fault_ok : (on : TunnelEvent) → g.event ≡ on → IsEventOfFault on

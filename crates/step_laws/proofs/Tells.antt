@@ -4,6 +4,7 @@ use Rattle.std.proofs.lemmas.Bool.{eqb-true, eq-eqb, true≢false}
 use Rattle.std.specs.Prelude.{◌==◌, ◌||◌, not}
 use Rattle.std.specs.List.{AllByRecursion}
 use Rattle.id_source.specs.Spaces.{draws}
+use Rattle.id_table.specs.Ids.{at}
 use Rattle.id_source.specs.declared.IdError.{IdError}
 use Rattle.wire_base.specs.declared.why.Why.{Why}
 use Rattle.wire_base.specs.declared.why.Why.TheVariants as why
@@ -23,6 +24,7 @@ use Rattle.control_message.specs.Reading.{message_of, kind_of_pairs, plain_short
 use Rattle.call_fsm.specs.declared.table.CallEvent.TheVariants as call_event
 use Rattle.call_fsm.specs.declared.table.CallState.TheVariants as call
 use Rattle.protocol_model.specs.declared.event.Event.{Event}
+use Rattle.protocol_model.specs.declared.tunnel.Call.{Call}
 use Rattle.protocol_model.specs.declared.out.Out.{Out}
 use Rattle.protocol_model.specs.declared.out.Out.TheVariants.{Send, Up, Gone, Drop, Cause}
 use Rattle.protocol_model.specs.Reading.{header_why, message_read, pairs_read, message_in, CallFault, fault_cause, is_for_call, with_cause, fault_of_kind, fault_read, fault_of_pairs, call_fault_in}
@@ -31,6 +33,8 @@ use Rattle.protocol_model.specs.Turn.{Tunnel, Reason, reason, out_of_state, call
 use Rattle.protocol_model.specs.End.{End}
 use Rattle.step_laws.specs.Letters.{Among}
 use Rattle.step_laws.specs.Room.{IsFull}
+use Rattle.step_laws.proofs.Named.{found_call, none_found}
+use Rattle.step_laws.proofs.States.{takes_none, none_taken}
 use Rattle.step_laws.specs.Causes.{CameFaulty, Asks, IsIdInUse, MayBeGranted, AskedInVain, ForRequest, Stands}
 
 -- an output that tells why something isn't done
@@ -129,7 +133,7 @@ module _ (e : End) (moment : ℕ) (ev : Event) (t : Tunnel) where
     where
       by : (a : Bool) (o : Option ℕ) → (remote == 0) ≡ a → call_of t.calls remote ≡ o → (a || is_some o) ≡ true → IsIdInUse t remote
       by true o zero is e = inl (eqb-true remote 0 zero)
-      by false (Some s) zero is e = inr (s, is)
+      by false (Some s) zero is e = let found = found_call t.calls remote s is in inr (s, found.0, found.1, found.2)
       by false None zero is e = absurd (true≢false (sym e))
 
   free : (remote : ℕ) → (remote == 0 || is_some (call_of t.calls remote)) ≡ false → IsIdInUse t remote → ⊥
@@ -140,7 +144,7 @@ module _ (e : End) (moment : ℕ) (ev : Event) (t : Tunnel) where
       by false (Some s) zero is e = true≢false e
       by false None zero is e = ⊎_elim
           (λ (none : remote ≡ 0). true≢false (sym (eq-eqb remote 0 none) ∙ zero))
-          (λ some. let both : None ≡ Some some.0 = sym is ∙ some.1 in absurd cc)
+          (λ (some : (s : ℕ) × (c : Call) × (at t.calls s ≡ Some c) × (c.remote ≡ remote)). none_found t.calls remote is some.0 (some.1, some.2, some.3))
           used
 
   abbrev refusal : Reason → Result ℕ Reason
@@ -160,12 +164,12 @@ module _ (e : End) (moment : ℕ) (ev : Event) (t : Tunnel) where
           → (remote == 0 || is_some (call_of t.calls remote)) ≡ b → are_too_many t.calls ≡ c → draws e.session_ids ≡ d
           → cond (not a) (Err out_of_state) (cond b (Err (reason cause.Session 2 (Some 5))) (cond c (Err (reason cause.Calls 4 None)) (left_of d))) ≡ Err r
           → Stands e moment ev r.cause
-      by false b c d row used many drawn is = so out_of_state is (inl (t, AskedInVain remote asks row))
+      by false b c d row used many drawn is = so out_of_state is (inl (t, AskedInVain remote asks (takes_none e.role row)))
       by true true c d row used many drawn is =
-          so (reason cause.Session 2 (Some 5)) is (t, remote, asks, (λ none. true≢false (sym row ∙ none)), in_use remote used)
+          so (reason cause.Session 2 (Some 5)) is (t, remote, asks, (λ lac. true≢false (sym row ∙ none_taken e.role lac)), in_use remote used)
       by true false true d row used many drawn is =
-          so (reason cause.Calls 4 None) is (inr (t, remote, asks, (λ none. true≢false (sym row ∙ none)), free remote used, many))
-      by true false false (Err x) row used many drawn is = so (reason cause.Ids 4 None) is (ForRequest t remote x asks (λ none. true≢false (sym row ∙ none)) (free remote used) many drawn)
+          so (reason cause.Calls 4 None) is (inr (t, remote, asks, (λ lac. true≢false (sym row ∙ none_taken e.role lac)), free remote used, many))
+      by true false false (Err x) row used many drawn is = so (reason cause.Ids 4 None) is (ForRequest t remote x asks (λ lac. true≢false (sym row ∙ none_taken e.role lac)) (free remote used) many drawn)
       by true false false (Ok s) row used many drawn is = absurd cc
 
   -- where it is, none of these stands
@@ -187,4 +191,4 @@ module _ (e : End) (moment : ℕ) (ev : Event) (t : Tunnel) where
       by true false true d row used many drawn is = absurd cc
       by true false false (Err x) row used many drawn is = absurd cc
       by true false false (Ok n) row used many drawn is =
-          record { takes = λ none. true≢false (sym row ∙ none); free = free remote used; few = many; ids = no_error n drawn }
+          record { takes = λ lac. true≢false (sym row ∙ none_taken e.role lac); free = free remote used; few = many; ids = no_error n drawn }

@@ -1,5 +1,5 @@
 -- A tunnel's tick is a chain of moves.
-use Rattle.std.proofs.Common.{◌≡◌, arith, ℕ, ◌+◌, ◌^◌, ◌<◌, Bool, true, false, cond, zero, suc, List, [], ◌∷◌, refl, sym, ap, ◌∙◌, subst, Option, Some, None}
+use Rattle.std.proofs.Common.{◌≡◌, arith, ℕ, ◌+◌, ◌^◌, ◌<◌, ◌≤◌, Bool, true, false, cond, zero, suc, List, [], ◌∷◌, refl, sym, ap, ◌∙◌, subst, Option, Some, None}
 use Rattle.std.proofs.lemmas.Bool.{eqb-true, ltb-true}
 use Rattle.std.proofs.lemmas.Bool.Decides.{nat_tests}
 use Rattle.std.proofs.lemmas.List.{append-nil}
@@ -25,6 +25,7 @@ use Rattle.protocol_model.specs.Turn.{Tunnel, Turn, with_output, with_move, with
 use Rattle.protocol_model.specs.End.{End}
 use Rattle.step_laws.specs.Moves.{TookTooLong, IsLate}
 use Rattle.step_laws.proofs.Lists.{all_push, and_left, and_right, branch, chain_more}
+use Rattle.step_laws.proofs.Moments.{passed, not_up}
 use Rattle.step_laws.proofs.Owing.{Fits, live_open, some_owed, fits_given, owes_told}
 use Rattle.step_laws.proofs.Turns.{NoFrame, Held, given_held, at_turn, there, one_given, Others, Same, same_still, same_first}
 use Rattle.step_laws.proofs.Settling.{Settled, outs_on, sent_ok, settled_ok}
@@ -158,8 +159,8 @@ module _ (e : End) (moment : ℕ) (letters : List Letter) (calls : List (ℕ × 
       }
 
   -- the turn's moment is the step's
-  over_at : (since : ℕ) (t : Turn) → Ticking t → is_over patience t.moment since ≡ true → is_over patience moment since ≡ true
-  over_at since t h over = ap (λ m. is_over patience m since) (sym h.settled.stays.4) ∙ over
+  over_at : (since : ℕ) (t : Turn) → Ticking t → is_over patience t.moment since ≡ true → since + 60000 ≤ moment
+  over_at since t h over = passed moment since (ap (λ m. is_over patience m since) (sym h.settled.stays.4) ∙ over)
 
   -- ---- repetitions and greetings
 
@@ -215,7 +216,7 @@ module _ (e : End) (moment : ℕ) (letters : List Letter) (calls : List (ℕ × 
   empty_room : (t : Turn) → t.control.channel.window.queued ≡ 0 → has_room t.control ≡ true
   empty_room t none = rw none refl
 
-  hello_ok : (t : Turn) → state_number t.control.state ≡ 3 → t.control.channel.window.queued ≡ 0 → is_over patience moment t.control.heard ≡ true → Ticking t
+  hello_ok : (t : Turn) → state_number t.control.state ≡ 3 → t.control.channel.window.queued ≡ 0 → t.control.heard + 60000 ≤ moment → Ticking t
       → Ticking (hello t)
   unfolding gives with_move
   hello_ok t is_open quiet over k =
@@ -288,13 +289,13 @@ module _ (e : End) (moment : ℕ) (letters : List Letter) (calls : List (ℕ × 
     abbrev begun : Tunnel
     begun = record { control = first; letters = letters; calls = calls }
 
-    limited : (s : ℕ) (c : Call) (t : Turn) → at calls s ≡ Some c → at (with_calls t.changed calls) s ≡ Some c → TookTooLong Tick moment c → s < 65536 → Ticking t
+    limited : (s : ℕ) (c : Call) (t : Turn) → at calls s ≡ Some c → at (with_calls t.changed calls) s ≡ Some c → TookTooLong Tick moment c → is_set_up c.state ≡ true → s < 65536 → Ticking t
         → Limited s t (settles false letters (ends_by cause.Setup 10 None s c (call_row e.role c.state call_event.Close).1 t))
-    limited s c t live found late small h =
+    limited s c t live found late set_up small h =
         let u = ends_by cause.Setup 10 None s c (call_row e.role c.state call_event.Close).1 t in
         let l = ends_leave e moment Tick letters calls i cause.Setup s c call_event.Close 10 None t found (IsLate late refl refl refl) small
         (λ told. (
-          owes_told t.control (with_calls t.changed calls) s c found (some_owed c.state late.set_up) h.settled.fits,
+          owes_told t.control (with_calls t.changed calls) s c found (some_owed c.state set_up) h.settled.fits,
           record { id = i; tunnel = begun; there = is_there; session = s; call = c; live = live; late = late; row = told },
         ))
         (call_row e.role c.state call_event.Close).1 refl h.settled in
@@ -313,9 +314,9 @@ module _ (e : End) (moment : ℕ) (letters : List Letter) (calls : List (ℕ × 
         let both = and_left (nat_lt s 65536 && is_set_up c.state) _ due in
         limited s c t live found (record {
           ticks = refl;
-          set_up = and_right (nat_lt s 65536) (is_set_up c.state) both;
+          not_up = not_up c.state (and_right (nat_lt s 65536) (is_set_up c.state) both);
           over = over_at c.since t h (and_right (nat_lt s 65536 && is_set_up c.state) _ due);
-        }) (ltb-true s 65536 (and_left (nat_lt s 65536) (is_set_up c.state) both)) h)
+        }) (and_right (nat_lt s 65536) (is_set_up c.state) both) (ltb-true s 65536 (and_left (nat_lt s 65536) (is_set_up c.state) both)) h)
         (λ no. record { ok = h; others = λ q o. refl })
 
     limits_all_ok : (es : List (ℕ × Call)) → Ascends es → (t : Turn) → AllByRecursion (Same e moment Tick letters calls i t) es → Ticking t

@@ -16,12 +16,13 @@ use Rattle.protocol_model.specs.declared.moves.Move.{Move}
 use Rattle.protocol_model.specs.declared.moves.Move.TheVariants as move
 use Rattle.protocol_model.specs.Turn.{Tunnel, Env, Turn, turn_of, with_output, with_move, with_change, ends_call, ends_all, clears, repeats, is_at_its_end, ticks_by, ticks, turns, tunnel_after}
 use Rattle.protocol_model.specs.End.{End, env_of, placed, with_looks, after_turn, Turned, tick_of, ticks_of, end_after_all, after_all, ticks_all}
-use Rattle.step_laws.specs.Moves.{Chain, HasFailed}
+use Rattle.step_laws.specs.Moves.{Chain, HasFailed, IsUnanswered}
 use Rattle.step_laws.specs.Steps.{IsKept, AreKept, IsOfMoves}
 use Rattle.step_laws.proofs.Lists.{all_append, all_map, all_push, among_right, chain_append, branch, ascends_looks}
 use Rattle.step_laws.proofs.Tells.{Tells}
 use Rattle.step_laws.proofs.Turns.{IsWord, NoFrame}
 use Rattle.step_laws.proofs.Settling.{OutOk, goes_nowhere, out_on, carries_on, unsent}
+use Rattle.step_laws.proofs.Moments.{ended_failed, given_up}
 use Rattle.step_laws.proofs.Ticking.{Ticking, quietly_ok, repeats_ok, repeated_changed}
 use Rattle.step_laws.proofs.Ends.{IsStep, no_frame_out, word_is, ok_is, left_is, kept_after, chain_after, there_after, begins}
 
@@ -208,13 +209,13 @@ module _ (e : End) (kept : AreKept e) (moment : ℕ) (block : List ℕ) (i : ℕ
       ticking_leads _
       (quietly_ok e moment t.letters t.calls i t.control is k.calls (repeats t.letters number start) (repeated_changed e moment t.letters t.calls i number start refl)
       (repeats_ok e moment t.letters t.calls i number start due begun))
-  ticks_by_lead (Failed first) due = cleared_leads (inr (first, due))
+  ticks_by_lead (Failed first) due = cleared_leads (IsUnanswered (given_up moment t.control.channel first due))
 
   tick_leads : leads (turns e.role e.config t.letters t.calls Tick start)
   unfolding turns ticks
   tick_leads =
       branch leads (is_at_its_end moment t.control) _ _
-      (λ due. cleared_leads (inl due))
+      (λ due. cleared_leads (ended_failed moment t.control due))
       (λ no. ticks_by_lead (answer_to_tick t.control.channel moment) refl)
 
 -- ---- all of them

@@ -42,6 +42,7 @@ use Rattle.step_laws.specs.Moves.{Chain, ComesNext, HearsNext, IsPlain, TellsNr,
 use Rattle.step_laws.proofs.States.{rung_asks}
 use Rattle.step_laws.proofs.Lists.{all_push, branch, with_calls-more, with_looks-more, placed-more, chain_more}
 use Rattle.step_laws.proofs.Tells.{Founded, Tells}
+use Rattle.step_laws.proofs.Named.{named_so}
 use Rattle.step_laws.proofs.Owing.{Fits, Holds, live_in, live_open, holds_live, has_room_for, spare_most, requested_owes, connected_owes, up_owes, replied_owes, rung_owes, fits_live, fits_given, fits_spare, fits_acked, fits_open, fits_instead, fits_up, holds_new, fits_new, fits_without}
 
 -- an output that is no datagram and hands nothing up
@@ -547,6 +548,7 @@ module _ (e : End) (moment : ℕ) (ev : Event) (letters : List Letter) (calls : 
           code = code;
           error = error;
           hears = (session, hears, named);
+          named = named_so (with_calls t.changed calls) session remote s c named found;
           row = row;
           taken = refl;
           after =

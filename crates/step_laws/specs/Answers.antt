@@ -29,10 +29,9 @@ use Rattle.protocol_model.specs.declared.moves.Closed.{Closed}
 use Rattle.protocol_model.specs.declared.moves.Move.{Move}
 use Rattle.protocol_model.specs.declared.moves.Move.TheVariants as move
 use Rattle.protocol_model.specs.Reading.{body_of, message_in, CallFault, call_fault_in, TunnelFault, tunnel_fault_in}
-use Rattle.protocol_model.specs.Calls.{are_too_many}
-use Rattle.protocol_model.specs.Turn.{Tunnel, Reason, may_take, counts_acked, fault_error, granted}
+use Rattle.protocol_model.specs.Turn.{Tunnel, Reason, counts_acked, fault_error, granted}
 use Rattle.protocol_model.specs.End.{End, Stepped, step, least_in}
-use Rattle.step_laws.specs.Moves.{ComesNext}
+use Rattle.step_laws.specs.Moves.{has_all_calls, may_take, ComesNext}
 use Rattle.step_laws.specs.Causes.{TakesNoCalls, IsIdInUse, MayBeGranted}
 use Rattle.step_laws.specs.Room.{RingsNew}
 use Rattle.step_laws.specs.Left.{AreSound, AreAsked}
@@ -160,7 +159,7 @@ GrantedAreRepliedTo e moment ev s = (r : TakesRequest e moment ev) (remote seria
 pub data IsDenied (e : End) (t : Tunnel) (remote result : ℕ) (error : Option ℕ) : Type 0 where
   NoCalls : TakesNoCalls e → result ≡ 2 → error ≡ Some 5 → IsDenied e t remote result error
   InUse : IsIdInUse t remote → result ≡ 2 → error ≡ Some 5 → IsDenied e t remote result error
-  TooMany : are_too_many t.calls ≡ true → result ≡ 4 → error ≡ None → IsDenied e t remote result error
+  TooMany : has_all_calls t.calls ≡ true → result ≡ 4 → error ≡ None → IsDenied e t remote result error
   NoIds : (x : IdError) → draws e.session_ids ≡ Err x → result ≡ 4 → error ≡ None → IsDenied e t remote result error
 
 pub record IsRefusedTo (e : End) (t : Tunnel) (id remote : ℕ) (s : Stepped) : Type 0 where

@@ -8,7 +8,6 @@ use Rattle.wire_base.specs.declared.cause.Cause.TheVariants as cause
 use Rattle.control_message.specs.declared.message.Message.{Message}
 use Rattle.control_message.specs.declared.message.Message.TheVariants.{Sccrq, Sccrp, Scccn, Ocrq, Icrq, Icrp, Iccn}
 use Rattle.control_message.specs.declared.message.Opening.{Opening}
-use Rattle.call_fsm.specs.declared.table.CallState.TheVariants as call
 use Rattle.call_fsm.specs.declared.table.CallEvent.{CallEvent}
 use Rattle.call_fsm.specs.declared.table.CallEvent.TheVariants as call_event
 use Rattle.tunnel_fsm.specs.declared.table.TunnelState.TheVariants as state
@@ -16,20 +15,20 @@ use Rattle.tunnel_fsm.specs.declared.table.TunnelEvent.{TunnelEvent}
 use Rattle.tunnel_fsm.specs.declared.table.TunnelEvent.TheVariants as event
 use Rattle.tunnel_fsm.specs.declared.table.TunnelAction.TheVariants as action
 use Rattle.tunnel_fsm.specs.Rows.{rows, row_of, state_number}
-use Rattle.protocol_model.specs.declared.tunnel.Role.TheVariants.{Lns}
+use Rattle.protocol_model.specs.declared.tunnel.Role.TheVariants.{Lac, Lns}
 use Rattle.protocol_model.specs.declared.event.Event.{Event}
 use Rattle.protocol_model.specs.declared.event.Event.TheVariants.{Datagram, Hang, OpenTunnel, DropCall, CloseTunnel}
 use Rattle.protocol_model.specs.declared.out.Out.TheVariants.{Cause}
 use Rattle.protocol_model.specs.declared.tunnel.Call.{Call}
 use Rattle.protocol_model.specs.Reading.{body_of, message_in, CallFault, TunnelFault, tunnel_fault_in, at_zero}
-use Rattle.protocol_model.specs.Calls.{call_row, is_reply, is_told, are_too_many}
-use Rattle.protocol_model.specs.Turn.{Tunnel, may_take, call_of, is_acceptable}
+use Rattle.protocol_model.specs.Calls.{call_row, is_told}
+use Rattle.protocol_model.specs.Turn.{Tunnel, is_acceptable}
 use Rattle.protocol_model.specs.declared.event.Addressee.TheVariants.{Opens, Answers}
 use Rattle.l2tp_header.specs.declared.header.Header.{Header}
 use Rattle.l2tp_header.specs.Reading.{header_of}
-use Rattle.protocol_model.specs.End.{End, known_as, has_all_tunnels, step}
+use Rattle.protocol_model.specs.End.{End, step}
 use Rattle.step_laws.specs.Letters.{Among}
-use Rattle.step_laws.specs.Moves.{TookTooLong, InTunnel, IsFaulty, IsFaultyInTunnel}
+use Rattle.step_laws.specs.Moves.{has_all_tunnels, has_all_calls, may_take, IsUnknown, TookTooLong, InTunnel, IsFaulty, IsFaultyInTunnel}
 use Rattle.step_laws.specs.Steps.{AreKept}
 use Rattle.step_laws.specs.Room.{RingsOver, RingsNew}
 
@@ -76,19 +75,19 @@ pub record Asks (e : End) (ev : Event) (t : Tunnel) (remote : ℕ) : Type 0 wher
   pub calling : Option (List ℕ)
   pub came : Came e ev t header (Icrq remote serial calling)
 
--- this end replies to no request
+-- this end replies to no request: it asks for calls itself
 abbrev pub TakesNoCalls : End → Type 0
-TakesNoCalls e = is_reply (call_row e.role call.Idle call_event.IcrqAcc).1 ≡ false
+TakesNoCalls e = e.role ≡ Lac
 
 -- the peer's id is no id, or that of a live call of the tunnel
 abbrev pub IsIdInUse : Tunnel → ℕ → Type 0
-IsIdInUse t remote = (remote ≡ 0) ⊎ ((s : ℕ) × (call_of t.calls remote ≡ Some s))
+IsIdInUse t remote = (remote ≡ 0) ⊎ ((s : ℕ) × (c : Call) × (at t.calls s ≡ Some c) × (c.remote ≡ remote))
 
 -- none of the causes stands for which a request can't be granted
 pub record MayBeGranted (e : End) (t : Tunnel) (remote : ℕ) : Type 0 where
   pub takes : TakesNoCalls e → ⊥
   pub free : IsIdInUse t remote → ⊥
-  pub few : are_too_many t.calls ≡ false
+  pub few : has_all_calls t.calls ≡ false
   pub ids : (x : IdError) → draws e.session_ids ≡ Err x → ⊥
 
 -- a message that the table has no good use for: a request to an end that takes none, or that names a call; a reply to an end that
@@ -135,7 +134,7 @@ pub record WouldOpen (e : End) (ev : Event) (o : Opening) : Type 0 where
   pub body : List ℕ
   pub came : NamesNone ev peer body
   pub said : message_in body ≡ Ok (Sccrq o)
-  pub alone : known_as peer o.tunnel e.tunnels ≡ None
+  pub alone : IsUnknown e peer o.tunnel
 
 -- an opening that isn't acceptable: it came in a tunnel, which is closed, or would open one
 pub data IsNotAccepted (e : End) (ev : Event) (o : Opening) : Type 0 where
@@ -153,7 +152,7 @@ IsOrdinary o = (o.version ≡ 256) × (is_some o.recovery ≡ false)
 
 -- a challenge of an SCCRQ that would open a tunnel counts only where there may be one more
 abbrev pub MayOpen : End → Event → Opening → Type 0
-MayOpen e ev o = WouldOpen e ev o → has_all_tunnels e.tunnels ≡ false
+MayOpen e ev o = WouldOpen e ev o → has_all_tunnels e ≡ false
 
 -- an SCCRQ that names no tunnel came, and has this fault; or an SCCRP did
 pub record CameFaultyOpening (e : End) (ev : Event) (c : CauseOf) : Type 0 where
@@ -162,7 +161,7 @@ pub record CameFaultyOpening (e : End) (ev : Event) (c : CauseOf) : Type 0 where
   pub body : List ℕ
   pub came : NamesNone ev peer body
   pub opens : at_zero body ≡ Opens remote
-  pub alone : known_as peer remote e.tunnels ≡ None
+  pub alone : IsUnknown e peer remote
   pub fault : TunnelFault
   pub has : tunnel_fault_in body ≡ Some fault
   pub is : fault.cause ≡ c
@@ -186,14 +185,14 @@ pub data IsOutOfOrder (e : End) (ev : Event) : Type 0 where
 
 -- a space of ids is at its end, and a ring, the opening of a tunnel or a request wants one of it
 pub data LackIds (e : End) (ev : Event) : Type 0 where
-  ForRing : (t : Tunnel) (x : IdError) → RingsOver e ev t → are_too_many t.calls ≡ false → may_take t.control t.calls ≡ true
+  ForRing : (t : Tunnel) (x : IdError) → RingsOver e ev t → has_all_calls t.calls ≡ false → may_take t.control t.calls ≡ true
       → draws e.session_ids ≡ Err x → LackIds e ev
-  ForNew : RingsNew e ev → has_all_tunnels e.tunnels ≡ false → ((x : IdError) × (draws e.session_ids ≡ Err x)) ⊎ ((x : IdError) × (draws e.tunnel_ids ≡ Err x)) → LackIds e ev
-  ForOpening : (x : IdError) → ev ≡ OpenTunnel → has_all_tunnels e.tunnels ≡ false → draws e.tunnel_ids ≡ Err x → LackIds e ev
+  ForNew : RingsNew e ev → has_all_tunnels e ≡ false → ((x : IdError) × (draws e.session_ids ≡ Err x)) ⊎ ((x : IdError) × (draws e.tunnel_ids ≡ Err x)) → LackIds e ev
+  ForOpening : (x : IdError) → ev ≡ OpenTunnel → has_all_tunnels e ≡ false → draws e.tunnel_ids ≡ Err x → LackIds e ev
   ForRequest : (t : Tunnel) (remote : ℕ) (x : IdError) → Asks e ev t remote → (TakesNoCalls e → ⊥) → (IsIdInUse t remote → ⊥)
-      → are_too_many t.calls ≡ false
+      → has_all_calls t.calls ≡ false
       → draws e.session_ids ≡ Err x → LackIds e ev
-  ForPeer : (o : Opening) (x : IdError) → WouldOpen e ev o → is_acceptable o ≡ true → has_all_tunnels e.tunnels ≡ false
+  ForPeer : (o : Opening) (x : IdError) → WouldOpen e ev o → is_acceptable o ≡ true → has_all_tunnels e ≡ false
       → draws e.tunnel_ids ≡ Err x → LackIds e ev
 
 -- what a cause says; those that aren't told yet say nothing that can be so
@@ -216,12 +215,12 @@ Stands e moment ev cause.Secret = (o : Opening) × IsNotAccepted e ev o × IsOrd
 Stands e moment ev cause.State = ((t : Tunnel) × IsOutOfState e ev t) ⊎ (IsOutOfOrder e ev ⊎ CameAnswer ev)
 Stands e moment ev cause.Session = (t : Tunnel) × (remote : ℕ) × Asks e ev t remote × (TakesNoCalls e → ⊥) × IsIdInUse t remote
 Stands e moment ev cause.Calls =
-    ((t : Tunnel) × RingsOver e ev t × (are_too_many t.calls ≡ true))
-    ⊎ ((t : Tunnel) × (remote : ℕ) × Asks e ev t remote × (TakesNoCalls e → ⊥) × (IsIdInUse t remote → ⊥) × (are_too_many t.calls ≡ true))
-Stands e moment ev cause.Queue = (t : Tunnel) × RingsOver e ev t × (are_too_many t.calls ≡ false) × (may_take t.control t.calls ≡ false)
+    ((t : Tunnel) × RingsOver e ev t × (has_all_calls t.calls ≡ true))
+    ⊎ ((t : Tunnel) × (remote : ℕ) × Asks e ev t remote × (TakesNoCalls e → ⊥) × (IsIdInUse t remote → ⊥) × (has_all_calls t.calls ≡ true))
+Stands e moment ev cause.Queue = (t : Tunnel) × RingsOver e ev t × (has_all_calls t.calls ≡ false) × (may_take t.control t.calls ≡ false)
 Stands e moment ev cause.Ids = LackIds e ev
 Stands e moment ev cause.Tunnels =
-    (RingsNew e ev ⊎ ((ev ≡ OpenTunnel) ⊎ ((o : Opening) × WouldOpen e ev o × IsOrdinary o))) × (has_all_tunnels e.tunnels ≡ true)
+    (RingsNew e ev ⊎ ((ev ≡ OpenTunnel) ⊎ ((o : Opening) × WouldOpen e ev o × IsOrdinary o))) × (has_all_tunnels e ≡ true)
 Stands e moment ev cause.Outgoing = (t : Tunnel) × (header : ℕ) × (remote : ℕ) × Came e ev t header (Ocrq remote)
 Stands e moment ev c = ⊥
 

@@ -1,6 +1,6 @@
 -- The codes of a CDN that ends a call, or refuses one, and of a StopCCN that closes a tunnel, have 16 bits.
 use Rattle.std.proofs.Common.{◌≡◌, ⊎_elim, ℕ, ◌<◌, Bool, true, false, cond, List, refl, Option, Some, None, Result, Ok, Err, arith}
-use Rattle.std.specs.Prelude.{IfSome, ◌==◌, ◌||◌, not, is_some, unwrap_or}
+use Rattle.std.specs.Prelude.{IfSome, ◌==◌, ◌||◌, not, is_some}
 use Rattle.id_source.specs.declared.IdError.{IdError}
 use Rattle.id_source.specs.Spaces.{Space, draws}
 use Rattle.wire_base.specs.declared.cause.Cause.{Cause}
@@ -16,18 +16,24 @@ use Rattle.protocol_model.specs.declared.tunnel.Call.{Call}
 use Rattle.protocol_model.specs.declared.tunnel.Role.{Role}
 use Rattle.protocol_model.specs.Reading.{CallFault}
 use Rattle.protocol_model.specs.Calls.{call_row, is_reply, are_too_many}
-use Rattle.protocol_model.specs.Turn.{Tunnel, Reason, reason, out_of_state, left_of, granted, call_of, fault_error, opening_reason, out_of_order, other_version, no_recovery, no_secret}
-use Rattle.protocol_model.specs.Reasons.{no_tunnel, no_id}
-use Rattle.protocol_model.specs.End.{End, has_all_tunnels, lacks_id, against_opening}
+use Rattle.protocol_model.specs.Turn.{Tunnel, Reason, reason, out_of_state, left_of, granted, call_of, fault_error}
+use Rattle.protocol_model.specs.End.{End}
 use Rattle.control_message.specs.declared.message.Opening.{Opening}
 use Rattle.tunnel_fsm.specs.declared.table.TunnelEvent.{TunnelEvent}
 use Rattle.protocol_model.specs.declared.moves.Closed.{Closed}
 use Rattle.protocol_model.specs.declared.moves.Declined.{Declined}
-use Rattle.step_laws.specs.Moves.{WhyDeclined, AnOpening, AFaultyOpening, AnAnswer, WhyCloses, ByOperator, BySccrq, BySccrp, ByScccn, ByFault, WhyEnds, IsLate, IsDropped, IsHungUp, IsAsked, IsReplied, IsConnected, HasFault, WhyRefused, IsNotGranted, IsOutgoing, IsReplyToNone, IsWrong}
+use Rattle.step_laws.specs.Moves.{StandsAgainst, OtherVersion, Recovers, NoTunnel, Challenges, NoId, ClosesIn, HasOtherVersion, HasRecovery, HasChallenge, IsUnawaited, WhyDeclined, AnOpening, AFaultyOpening, AnAnswer, WhyCloses, ByOperator, BySccrq, BySccrp, ByScccn, ByFault, WhyEnds, IsLate, IsDropped, IsHungUp, IsAsked, IsReplied, IsConnected, HasFault, WhyRefused, IsNotGranted, IsOutgoing, IsReplyToNone, IsWrong}
 
 -- 16 bits each
 abbrev pub CodesFit : ℕ → Option ℕ → Type 0
 CodesFit result error = (result < 65536) × IfSome error (λ x. x < 65536)
+
+-- the error codes that tell a fault (RFC 2661 section 4.4.2): of pairs that can't be read, of a value that is wrong or wanting, and of a pair
+-- or a type that has to be understood and isn't
+pub record FaultsHaveCodes : Type 0 where
+  pub avp : fault_error cause.Avp ≡ 2
+  pub value : fault_error cause.Value ≡ 3
+  pub mandatory : fault_error cause.Mandatory ≡ 8
 
 fault_fits : (c : Cause) → fault_error c < 65536
 fault_fits cause.Mandatory = omega arith
@@ -103,52 +109,32 @@ refusal_codes_fit e t header said fault m (IsReplyToNone remote is none lns same
 refusal_codes_fit e t header said fault m (IsWrong f is same result error) =
     fits m.result m.error 2 (Some (fault_error f.cause)) (omega arith, fault_fits f.cause) result error
 
-abbrev stop_fits : Reason → Type 0
-stop_fits r = CodesFit r.result r.error
+-- the codes of each reason for which no tunnel is opened
+against_fits : (e : End) (o : Opening) (result : ℕ) (error : Option ℕ) → StandsAgainst e o result error → CodesFit result error
+against_fits e o result error (OtherVersion version r x) = fits result error 5 None (omega arith, tt) r x
+against_fits e o result error (Recovers version recovery r x) = fits result error 2 (Some 1) (omega arith, omega arith) r x
+against_fits e o result error (NoTunnel version recovery all r x) = fits result error 2 (Some 4) (omega arith, omega arith) r x
+against_fits e o result error (Challenges version recovery fewer challenge r x) = fits result error 4 None (omega arith, tt) r x
+against_fits e o result error (NoId version recovery fewer challenge y none r x) = fits result error 2 (Some 4) (omega arith, omega arith) r x
 
--- the codes of each reason for which an opening isn't acceptable
-opening_fits : (o : Opening) → stop_fits (opening_reason o)
-opening_fits o = by (not (o.version == 256)) (is_some o.recovery) (is_some o.challenge)
-  where
-    by : (a b c : Bool)
-        → stop_fits (unwrap_or (cond a (Some other_version) (cond b (Some no_recovery) (cond c (Some no_secret) None))) out_of_order)
-    by true b c = (omega arith, tt)
-    by false true c = (omega arith, omega arith)
-    by false false true = (omega arith, tt)
-    by false false false = (omega arith, tt)
-
-last_fits : (d : Result ℕ IdError) (r : Reason) → lacks_id d ≡ Some r → stop_fits r
-last_fits (Ok i) r h = absurd cc
-last_fits (Err x) r h = let e : no_id ≡ r = cc in let small : stop_fits no_id = (omega arith, omega arith) in rw (← e) small
-
--- and of each for which none is opened
-against_fits : (e : End) (o : Opening) (r : Reason) → against_opening e o ≡ Some r → stop_fits r
-unfolding against_opening
-against_fits e o r h =
-    by (not (o.version == 256)) (is_some o.recovery) (has_all_tunnels e.tunnels) (is_some o.challenge) (draws e.tunnel_ids) h
-  where
-    given : (x : Reason) → stop_fits x → Some x ≡ Some r → stop_fits r
-    given x small same = let e : x ≡ r = cc in rw (← e) small
-
-    by : (a b c d : Bool) (i : Result ℕ IdError)
-        → cond a (Some other_version) (cond b (Some no_recovery) (cond c (Some no_tunnel) (cond d (Some no_secret) (lacks_id i)))) ≡ Some r → stop_fits r
-    by true b c d i k = given other_version (omega arith, tt) k
-    by false true c d i k = given no_recovery (omega arith, omega arith) k
-    by false false true d i k = given no_tunnel (omega arith, omega arith) k
-    by false false false true i k = given no_secret (omega arith, tt) k
-    by false false false false i k = last_fits i r k
+-- and of each for which an opening closes a tunnel
+closing_fits : (o : Opening) (result : ℕ) (error : Option ℕ) → ClosesIn o result error → CodesFit result error
+closing_fits o result error (HasOtherVersion version r x) = fits result error 5 None (omega arith, tt) r x
+closing_fits o result error (HasRecovery version recovery r x) = fits result error 2 (Some 1) (omega arith, omega arith) r x
+closing_fits o result error (HasChallenge version recovery challenge r x) = fits result error 4 None (omega arith, tt) r x
+closing_fits o result error (IsUnawaited version recovery challenge r x) = fits result error 7 None (omega arith, tt) r x
 
 -- and those of a StopCCN
 pub stop_codes_fit : (t : Tunnel) (ev : Event) (on : TunnelEvent) (m : Closed) → WhyCloses t ev on m → CodesFit m.result m.error
 stop_codes_fit t ev on m (ByOperator is at_ known r x) = fits m.result m.error 1 None (omega arith, tt) r x
-stop_codes_fit t ev on m (BySccrq session o came at_ known r x) = fits m.result m.error (opening_reason o).result (opening_reason o).error (opening_fits o) r x
-stop_codes_fit t ev on m (BySccrp session o came at_ known r x) = fits m.result m.error (opening_reason o).result (opening_reason o).error (opening_fits o) r x
+stop_codes_fit t ev on m (BySccrq session o came at_ known why) = closing_fits o m.result m.error why
+stop_codes_fit t ev on m (BySccrp session o came at_ known why) = closing_fits o m.result m.error why
 stop_codes_fit t ev on m (ByScccn session came at_ known r x) = fits m.result m.error 7 None (omega arith, tt) r x
 stop_codes_fit t ev on m (ByFault g came at_ known r x) = fits m.result m.error 2 (Some (fault_error g.cause)) (omega arith, fault_fits g.cause) r x
 
 -- and those of one that declines an opening
 pub decline_codes_fit : (e : End) (body : List ℕ) (m : Declined) → WhyDeclined e body m → CodesFit m.result m.error
-decline_codes_fit e body m (AnOpening o r said known is result error) = fits m.result m.error r.result r.error (against_fits e o r is) result error
-decline_codes_fit e body m (AFaultyOpening g to is on result error) =
+decline_codes_fit e body m (AnOpening o said known unknown against) = against_fits e o m.result m.error against
+decline_codes_fit e body m (AFaultyOpening g to unknown is on result error) =
     fits m.result m.error 2 (Some (fault_error g.cause)) (omega arith, fault_fits g.cause) result error
 decline_codes_fit e body m (AnAnswer to result error) = fits m.result m.error 7 None (omega arith, tt) result error

@@ -1,7 +1,8 @@
 -- What each move needs before it, and what it changes.
-use Rattle.std.specs.Prelude.{◌≡◌, ℕ, ◌<◌, ◌⊎◌, Bool, true, false, List, [], ◌∷◌, ◌++◌, drop, map, length, Option, None, Some, unwrap_or, Result, Ok, Err}
+use Rattle.std.specs.Prelude.{◌≡◌, ℕ, ◌+◌, ◌%◌, ◌<◌, ◌≤◌, ◌⊎◌, Bool, true, false, ◌==◌, if◌then◌else◌, nat_le, nat_lt, List, [], ◌∷◌, ◌++◌, drop, map, length, Option, None, Some, is_some, unwrap_or, Result, Ok, Err}
 use Rattle.wire_base.specs.declared.why.Why.{Why}
 use Rattle.id_table.specs.Ids.{at, put, without, ids_of}
+use Rattle.id_source.specs.declared.IdError.{IdError}
 use Rattle.id_source.specs.Spaces.{draws, after_draw}
 use Rattle.l2tp_header.specs.declared.header.Header.{Header}
 use Rattle.l2tp_header.specs.Reading.{header_of}
@@ -10,10 +11,10 @@ use Rattle.control_message.specs.declared.message.Message.TheVariants.{Sccrq, Sc
 use Rattle.control_message.specs.declared.kind.Kind.{Kind}
 use Rattle.control_message.specs.declared.kind.Kind.TheVariants as kind
 use Rattle.control_message.specs.declared.message.Opening.{Opening}
-use Rattle.send_window.specs.declared.window.Tick.TheVariants.{Again, Failed}
+use Rattle.send_window.specs.declared.window.Tick.TheVariants.{Again}
 use Rattle.recv_window.specs.declared.Class.TheVariants.{Next}
 use Rattle.recv_window.specs.Window.{class_of}
-use Rattle.control_channel.specs.Numbers.{count_acked, next_to_go, answer_to_tick}
+use Rattle.control_channel.specs.Numbers.{Numbers, opened_at, learnt_by, count_acked, next_to_go, answer_to_tick}
 use Rattle.tunnel_fsm.specs.declared.table.TunnelState.{TunnelState}
 use Rattle.tunnel_fsm.specs.declared.table.TunnelState.TheVariants.{WaitCtlReply, WaitCtlConn, Established}
 use Rattle.tunnel_fsm.specs.declared.table.TunnelState.TheVariants as state
@@ -60,9 +61,9 @@ use Rattle.protocol_model.specs.declared.moves.Move.TheVariants as move
 use Rattle.protocol_model.specs.declared.event.Addressee.TheVariants.{Stops, Answers}
 use Rattle.protocol_model.specs.declared.event.Addressee.TheVariants as addressee
 use Rattle.protocol_model.specs.Reading.{body_of, message_in, CallFault, call_fault_in, TunnelFault, tunnel_fault_in, at_zero}
-use Rattle.protocol_model.specs.Calls.{call_row, advanced, rung, asked_for, is_request, is_reply, is_connection, is_told, is_up, is_set_up, are_too_many, frame_of, side_of}
-use Rattle.protocol_model.specs.Turn.{Tunnel, has_room, may_take, place, next_place, taken_place, letter_of, fresh, counts_given, counts_taken, counts_acked, counts_sent, counts_repeated, learns_window, in_state, opening_of, request_of, connection, is_clean_up, session_named, Reason, granted, fault_error, is_acceptable, event_by, opening_reason, known_or, shut, is_closed, is_at_its_end, is_over, patience}
-use Rattle.protocol_model.specs.End.{End, new_place, with_look, with_looks, against_opening, next_of_peer}
+use Rattle.protocol_model.specs.Calls.{call_row, advanced, rung, asked_for, is_request, is_reply, is_connection, is_told, is_up, owed_by, frame_of, side_of}
+use Rattle.protocol_model.specs.Turn.{Tunnel, place, next_place, taken_place, letter_of, counts_given, counts_taken, counts_acked, counts_sent, counts_repeated, in_state, opening_of, request_of, connection, is_clean_up, session_named, Reason, granted, fault_error, is_acceptable, event_by, is_closed}
+use Rattle.protocol_model.specs.End.{End, new_place, with_look, with_looks}
 
 -- ---- what came
 
@@ -157,6 +158,25 @@ pub record HearsFrame (ev : Event) (peer tunnel session : ℕ) (frame : List ℕ
   pub session_is : header.session ≡ session
   pub frame_is : frame ≡ frame_of (body_of header bytes)
 
+-- ---- how much there may be
+
+-- an end has 1,024 tunnels at most, and closed ones count
+abbrev pub has_all_tunnels : End → Bool
+has_all_tunnels e = nat_le 1024 (length e.tunnels)
+
+-- a tunnel has 4,096 calls at most
+abbrev pub has_all_calls : List (ℕ × Call) → Bool
+has_all_calls calls = nat_le 4096 (length calls)
+
+-- a channel holds 8,192 letters at most, so there is room for one more
+abbrev pub has_room : Control → Bool
+has_room c = nat_lt c.channel.window.queued 8192
+
+-- a tunnel takes the next message, and a call that rings, only where the letters that it holds, those that its calls owe and four more are
+-- at most so many
+abbrev pub may_take : Control → List (ℕ × Call) → Bool
+may_take c calls = nat_le (c.channel.window.queued + owed_by calls + 4) 8192
+
 -- ---- what it changes
 
 abbrev pub with_tunnel : End → ℕ → Tunnel → End
@@ -170,11 +190,25 @@ with_letter session m t = record t { control = counts_given t.control; letters =
 abbrev pub new_tunnel : Control → Tunnel
 new_tunnel c = record { control = c; letters = []; calls = [] }
 
--- of these ids, in this state, made at a moment
+-- of these ids, in this state, made at a moment, with an empty channel and a window of 4 (RFC 2661 section 4.4.3)
 abbrev pub begun : ℕ → ℕ → ℕ → TunnelState → ℕ → Control
-begun local peer remote state moment = record (fresh peer moment) { local = local; remote = remote; state = state }
+begun local peer remote state moment = record {
+  local = local;
+  peer = peer;
+  remote = remote;
+  state = state;
+  channel = opened_at 0 0 4;
+  made = moment;
+  heard = moment;
+  closed = 0;
+}
+
+-- the peer's receive window becomes known; one of 0 letters is none
+abbrev pub learns_window : ℕ → Control → Control
+learns_window window c = if window == 0 then c else record c { channel = learnt_by c.channel window }
 
 pub record Opens (e : End) (moment : ℕ) (m : Opened) (x : End) : Type 0 where
+  pub few : length e.tunnels < 1024
   pub drawn : draws e.tunnel_ids ≡ Ok m.tunnel
   pub given : m.given ≡ place 0
   pub peer : m.peer ≡ e.config.lns
@@ -183,13 +217,17 @@ pub record Opens (e : End) (moment : ℕ) (m : Opened) (x : End) : Type 0 where
     tunnel_ids = after_draw e.tunnel_ids;
   }
 
+-- no tunnel of this end is the other end of the peer's with this id yet
+abbrev pub IsUnknown : End → ℕ → ℕ → Type 0
+IsUnknown e peer remote = (i : ℕ) (t : Tunnel) → at e.tunnels i ≡ Some t → t.control.peer ≡ peer → t.control.remote ≡ remote → ⊥
+
 pub record Accepts (e : End) (moment : ℕ) (ev : Event) (m : Accepted) (x : End) : Type 0 where
+  pub few : length e.tunnels < 1024
   pub opening : Opening
   pub hears : (session : ℕ) × Hears ev m.peer session (Sccrq opening)
   pub remote : m.remote ≡ opening.tunnel
   pub window : m.window ≡ opening.window
-  -- no tunnel of this end is the other end of the peer's yet
-  pub alone : (i : ℕ) (t : Tunnel) → at e.tunnels i ≡ Some t → t.control.peer ≡ m.peer → t.control.remote ≡ m.remote → ⊥
+  pub alone : IsUnknown e m.peer m.remote
   pub drawn : draws e.tunnel_ids ≡ Ok m.tunnel
   pub taken : m.taken ≡ place 0
   pub given : m.given ≡ place 0
@@ -228,7 +266,7 @@ pub record Adds (e : End) (moment : ℕ) (ev : Event) (m : Added) (x : End) : Ty
   -- it is open, or its SCCRQ isn't answered yet
   pub goes : (state_number tunnel.control.state ≡ 3) ⊎ (state_number tunnel.control.state ≡ 1)
   -- it has fewer than 4,096 calls, and room for the letters that one more owes
-  pub few : are_too_many tunnel.calls ≡ false
+  pub few : has_all_calls tunnel.calls ≡ false
   pub spare : may_take tunnel.control tunnel.calls ≡ true
   pub rings : ev ≡ Ring m.port
   pub role : e.role ≡ Lac
@@ -265,7 +303,7 @@ pub record Replies (e : End) (moment : ℕ) (ev : Event) (m : Replied) (x : End)
   pub none : at tunnel.calls hears.0 ≡ None
   pub granted_is : granted e.role tunnel.calls m.remote e.session_ids ≡ Ok m.session
   pub row : is_reply (call_row e.role call.Idle call_event.IcrqAcc).1 ≡ true
-  pub few : are_too_many tunnel.calls ≡ false
+  pub few : has_all_calls tunnel.calls ≡ false
   pub drawn : draws e.session_ids ≡ Ok m.session
   pub taken : m.taken ≡ taken_place tunnel.control
   pub spare : may_take tunnel.control tunnel.calls ≡ true
@@ -313,11 +351,11 @@ pub record ComesUpSecond (e : End) (moment : ℕ) (ev : Event) (m : SecondUp) (x
 abbrev pub without_call : End → ℕ → Tunnel → ℕ → End
 without_call e i t s = record (with_tunnel e i (record t { calls = without t.calls s })) { calls = with_look (cell.Kill s) e.calls }
 
--- a call that isn't established took as long as a call may to be set up
+-- a call that isn't established entered its state 60 seconds ago or more
 pub record TookTooLong (ev : Event) (moment : ℕ) (c : Call) : Type 0 where
   pub ticks : ev ≡ Tick
-  pub set_up : is_set_up c.state ≡ true
-  pub over : is_over patience moment c.since ≡ true
+  pub not_up : c.state ≡ call.Established → ⊥
+  pub over : c.since + 60000 ≤ moment
 
 -- the event of a call's table that a faulty message is
 abbrev pub fault_event : Kind → CallEvent
@@ -398,6 +436,7 @@ pub record HearsEnd (e : End) (ev : Event) (m : EndHeard) (x : End) : Type 0 whe
   pub code : ℕ
   pub error : Option ℕ
   pub hears : (session : ℕ) × HearsNext ev tunnel.control session (Cdn remote code error) × (m.session ≡ session_named tunnel.calls session remote)
+  pub named : (hears.0 ≡ m.session) ⊎ ((hears.0 ≡ 0) × (call.remote ≡ remote))
   pub row : is_clean_up (call_row e.role call.state call_event.CdnCame).1 ≡ true
   pub taken : m.taken ≡ taken_place tunnel.control
   pub after : x ≡ without_call e m.tunnel (record tunnel { control = counts_taken tunnel.control }) m.session
@@ -416,15 +455,27 @@ pub record EndsSilently (e : End) (moment : ℕ) (ev : Event) (m : EndSilent) (x
 
 -- ---- openings that are declined
 
--- why an opening is declined, by a StopCCN with these codes: something stands against an SCCRQ, or it has a fault; or it is an SCCRP
+-- what stands against an SCCRQ that would open a tunnel, the first that counts, and the codes of the StopCCN that says so (RFC 2661 section
+-- 4.4.2): its version isn't 1.0; it wants to recover a tunnel; the end has 1,024 tunnels; it has a challenge; no tunnel id is left
+pub data StandsAgainst (e : End) (o : Opening) (result : ℕ) (error : Option ℕ) : Type 0 where
+  OtherVersion : (o.version ≡ 256 → ⊥) → result ≡ 5 → error ≡ None → StandsAgainst e o result error
+  Recovers : o.version ≡ 256 → is_some o.recovery ≡ true → result ≡ 2 → error ≡ Some 1 → StandsAgainst e o result error
+  NoTunnel : o.version ≡ 256 → is_some o.recovery ≡ false → 1024 ≤ length e.tunnels → result ≡ 2 → error ≡ Some 4 → StandsAgainst e o result error
+  Challenges : o.version ≡ 256 → is_some o.recovery ≡ false → length e.tunnels < 1024 → is_some o.challenge ≡ true → result ≡ 4 → error ≡ None
+      → StandsAgainst e o result error
+  NoId : o.version ≡ 256 → is_some o.recovery ≡ false → length e.tunnels < 1024 → is_some o.challenge ≡ false
+      → (x : IdError) → draws e.tunnel_ids ≡ Err x → result ≡ 2 → error ≡ Some 4 → StandsAgainst e o result error
+
+-- why an opening is declined, by a StopCCN with these codes: something stands against an SCCRQ, or it has a fault, and none of this end's
+-- tunnels is the one that it comes for again; or it is an SCCRP
 pub data WhyDeclined (e : End) (body : List ℕ) (m : Declined) : Type 0 where
-  AnOpening : (o : Opening) (r : Reason) → message_in body ≡ Ok (Sccrq o) → m.remote ≡ o.tunnel → against_opening e o ≡ Some r
-      → m.result ≡ r.result → m.error ≡ r.error → WhyDeclined e body m
-  AFaultyOpening : (g : TunnelFault) → at_zero body ≡ addressee.Opens m.remote → tunnel_fault_in body ≡ Some g → g.event ≡ event.SccrqNotAcc
-      → m.result ≡ 2 → m.error ≡ Some (fault_error g.cause) → WhyDeclined e body m
+  AnOpening : (o : Opening) → message_in body ≡ Ok (Sccrq o) → m.remote ≡ o.tunnel → IsUnknown e m.peer m.remote
+      → StandsAgainst e o m.result m.error → WhyDeclined e body m
+  AFaultyOpening : (g : TunnelFault) → at_zero body ≡ addressee.Opens m.remote → IsUnknown e m.peer m.remote → tunnel_fault_in body ≡ Some g
+      → g.event ≡ event.SccrqNotAcc → m.result ≡ 2 → m.error ≡ Some (fault_error g.cause) → WhyDeclined e body m
   AnAnswer : at_zero body ≡ Answers m.remote → m.result ≡ 7 → m.error ≡ None → WhyDeclined e body m
 
--- it named no tunnel, and tells the id to which it is answered; nothing changes
+-- it named no tunnel, and tells the id to which it is answered, with the number that its sender is to send next; nothing changes
 pub record Declines (e : End) (ev : Event) (m : Declined) (x : End) : Type 0 where
   pub bytes : List ℕ
   pub is : ev ≡ Datagram m.peer bytes
@@ -432,12 +483,24 @@ pub record Declines (e : End) (ev : Event) (m : Declined) (x : End) : Type 0 whe
   pub read : header_of bytes ≡ Ok header
   pub control : header.control ≡ true
   pub none : header.tunnel ≡ 0
-  pub nr : m.nr ≡ next_of_peer header
+  pub nr : m.nr ≡ (unwrap_or header.ns 0 + 1) % 65536
   pub some : m.remote ≡ 0 → ⊥
   pub why : WhyDeclined e (body_of header bytes) m
   pub after : x ≡ e
 
 -- ---- tunnels that close
+
+-- the id of the peer's to which a StopCCN goes: the one that is known, or as long as none is, the one that is told
+abbrev pub IsKnownOr : ℕ → Control → ℕ → Type 0
+IsKnownOr told c remote = ((c.remote ≡ 0 → ⊥) → remote ≡ c.remote) × (c.remote ≡ 0 → remote ≡ told)
+
+-- why an SCCRQ or an SCCRP closes the tunnel in which it comes, the first that counts, and the codes that say so: its version isn't 1.0; it
+-- wants to recover a tunnel; it has a challenge; or the tunnel doesn't wait for it
+pub data ClosesIn (o : Opening) (result : ℕ) (error : Option ℕ) : Type 0 where
+  HasOtherVersion : (o.version ≡ 256 → ⊥) → result ≡ 5 → error ≡ None → ClosesIn o result error
+  HasRecovery : o.version ≡ 256 → is_some o.recovery ≡ true → result ≡ 2 → error ≡ Some 1 → ClosesIn o result error
+  HasChallenge : o.version ≡ 256 → is_some o.recovery ≡ false → is_some o.challenge ≡ true → result ≡ 4 → error ≡ None → ClosesIn o result error
+  IsUnawaited : o.version ≡ 256 → is_some o.recovery ≡ false → is_some o.challenge ≡ false → result ≡ 7 → error ≡ None → ClosesIn o result error
 
 -- why a tunnel is closed: the event of its table, the codes of the StopCCN that tells it (RFC 2661 section 4.4.2), and the id of the
 -- peer's to which it goes
@@ -445,20 +508,20 @@ pub data WhyCloses (t : Tunnel) (ev : Event) (on : TunnelEvent) (m : Closed) : T
   ByOperator : ev ≡ CloseTunnel m.tunnel → on ≡ event.AdminClose → m.remote ≡ t.control.remote → m.result ≡ 1 → m.error ≡ None → WhyCloses t ev on m
   -- an opening came again, or isn't acceptable; that of an SCCRP tells the peer's id
   BySccrq : (session : ℕ) (o : Opening) → InTunnel ev t.control session (Sccrq o) → on ≡ event_by event.SccrqAcc event.SccrqNotAcc o
-      → m.remote ≡ t.control.remote → m.result ≡ (opening_reason o).result → m.error ≡ (opening_reason o).error → WhyCloses t ev on m
+      → m.remote ≡ t.control.remote → ClosesIn o m.result m.error → WhyCloses t ev on m
   BySccrp : (session : ℕ) (o : Opening) → InTunnel ev t.control session (Sccrp o) → on ≡ event_by event.SccrpAcc event.SccrpNotAcc o
-      → m.remote ≡ known_or o.tunnel t.control → m.result ≡ (opening_reason o).result → m.error ≡ (opening_reason o).error → WhyCloses t ev on m
+      → IsKnownOr o.tunnel t.control m.remote → ClosesIn o m.result m.error → WhyCloses t ev on m
   ByScccn : (session : ℕ) → InTunnel ev t.control session Scccn → on ≡ event.ScccnAcc → m.remote ≡ t.control.remote → m.result ≡ 7 → m.error ≡ None
       → WhyCloses t ev on m
   -- a message has a fault
-  ByFault : (g : TunnelFault) → IsFaultyInTunnel ev t.control g → on ≡ g.event → m.remote ≡ known_or g.remote t.control → m.result ≡ 2
+  ByFault : (g : TunnelFault) → IsFaultyInTunnel ev t.control g → on ≡ g.event → IsKnownOr g.remote t.control m.remote → m.result ≡ 2
       → m.error ≡ Some (fault_error g.cause) → WhyCloses t ev on m
 
 -- its calls aren't there any more
 abbrev pub without_calls : End → ℕ → Tunnel → List (ℕ × Call) → End
 without_calls e i t calls = record (with_tunnel e i (record t { calls = [] })) { calls = with_looks (map cell.Kill (ids_of calls)) e.calls }
 
--- a tunnel that isn't closed is, by its table, and its peer is told
+-- a tunnel that isn't closed is, by its table, at the moment of the step, and its peer is told
 pub record Closes (e : End) (moment : ℕ) (ev : Event) (m : Closed) (x : End) : Type 0 where
   pub tunnel : Tunnel
   pub there : at e.tunnels m.tunnel ≡ Some tunnel
@@ -468,7 +531,7 @@ pub record Closes (e : End) (moment : ℕ) (ev : Event) (m : Closed) (x : End) :
   pub room : has_room tunnel.control ≡ true
   pub given : m.given ≡ next_place tunnel.control
   pub after : x ≡ without_calls e m.tunnel (with_letter 0 (StopCcn m.tunnel m.result m.error) (record tunnel {
-    control = shut m.remote state.Closed moment tunnel.control;
+    control = record tunnel.control { state = state.Closed; remote = m.remote; closed = moment };
   })) tunnel.calls
 
 -- it is a StopCCN, which may have a fault
@@ -486,13 +549,22 @@ pub record ClosesBy (e : End) (moment : ℕ) (ev : Event) (m : ClosedBy) (x : En
   pub says : SaysStop (body_of comes.header comes.bytes)
   pub taken : m.taken ≡ taken_place tunnel.control
   pub after : x ≡ without_calls e m.tunnel (record tunnel {
-    control = shut tunnel.control.remote state.Closed moment (counts_taken tunnel.control);
+    control = record (counts_taken tunnel.control) { state = state.Closed; closed = moment };
   }) tunnel.calls
 
--- a tunnel took as long as one may to be set up, or was closed as long as one is kept, or its peer acknowledged nothing as long as a
--- letter is repeated
-abbrev pub HasFailed : ℕ → Control → Type 0
-HasFailed moment c = (is_at_its_end moment c ≡ true) ⊎ ((first : ℕ) × (answer_to_tick c.channel moment ≡ Failed first))
+-- the oldest letter that isn't acknowledged was repeated five times, the last time 8 seconds ago or more
+pub record IsGivenUp (moment : ℕ) (n : Numbers) : Type 0 where
+  pub going : n.frozen ≡ false
+  pub some : 0 < n.window.outstanding
+  pub repeated : 5 ≤ n.window.repetitions
+  pub over : n.window.since + 8000 ≤ moment
+
+-- a tunnel that waits to be set up was made 60 seconds ago or more, a closed one was closed 31 seconds ago or more, or its peer
+-- acknowledges nothing
+pub data HasFailed (moment : ℕ) (c : Control) : Type 0 where
+  IsNotSetUp : (c.state ≡ WaitCtlReply) ⊎ (c.state ≡ WaitCtlConn) → c.made + 60000 ≤ moment → HasFailed moment c
+  WasClosed : c.state ≡ state.Closed → c.closed + 31000 ≤ moment → HasFailed moment c
+  IsUnanswered : IsGivenUp moment c.channel → HasFailed moment c
 
 -- the tunnel isn't there any more, nor are its calls
 pub record Clears (e : End) (moment : ℕ) (ev : Event) (i : ℕ) (x : End) : Type 0 where
@@ -509,7 +581,7 @@ pub record Greets (e : End) (moment : ℕ) (ev : Event) (m : Greeted) (x : End) 
   pub ticks : ev ≡ Tick
   pub open_is : state_number tunnel.control.state ≡ 3
   pub quiet : tunnel.control.channel.window.queued ≡ 0
-  pub over : is_over patience moment tunnel.control.heard ≡ true
+  pub over : tunnel.control.heard + 60000 ≤ moment
   pub room : has_room tunnel.control ≡ true
   pub given : m.given ≡ next_place tunnel.control
   pub after : x ≡ with_tunnel e m.tunnel (with_letter 0 Hello tunnel)

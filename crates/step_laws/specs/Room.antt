@@ -6,10 +6,10 @@ use Rattle.wire_base.specs.declared.why.Why.TheVariants as why
 use Rattle.protocol_model.specs.declared.event.Event.{Event}
 use Rattle.protocol_model.specs.declared.event.Event.TheVariants.{Ring}
 use Rattle.protocol_model.specs.declared.out.Out.TheVariants.{Drop}
-use Rattle.protocol_model.specs.Turn.{Tunnel, may_take, counts_acked}
+use Rattle.protocol_model.specs.Turn.{Tunnel, counts_acked}
 use Rattle.protocol_model.specs.End.{End, least_in, step}
 use Rattle.step_laws.specs.Letters.{Among}
-use Rattle.step_laws.specs.Moves.{ComesNext, TellsNr}
+use Rattle.step_laws.specs.Moves.{may_take, ComesNext, TellsNr}
 use Rattle.step_laws.specs.Steps.{AreKept}
 
 -- the next message of a tunnel came, which holds so many letters, once Nr is read, and whose calls owe so many, that it may not

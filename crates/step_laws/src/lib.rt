@@ -3,7 +3,8 @@
 
 ghost use Rattle.step_laws.specs.Answers.{RequestsAreAnswered};
 ghost use Rattle.step_laws.specs.Causes.{CausesStand};
-ghost use Rattle.step_laws.specs.Left.{CallsAreAsked, CallsStaySound, LateCallsEnd};
+ghost use Rattle.step_laws.specs.Codes.{FaultsHaveCodes};
+ghost use Rattle.step_laws.specs.Left.{CallsAreAsked, CallsStaySound, FailedTunnelsGo, LateCallsEnd, TunnelsBeginFew, TunnelsStayFew};
 ghost use Rattle.step_laws.specs.Looks.{LooksBeginTrue, LooksStayTrue};
 ghost use Rattle.step_laws.specs.Room.{StepsRefuseTruly};
 ghost use Rattle.step_laws.specs.Steps.{StepsAreChains};
@@ -61,6 +62,12 @@ pub fn causes_stand()
     ensures { CausesStand }
 {}
 
+/// The error code that a CDN or a StopCCN tells on a message that has a fault is 2 where its pairs can't be read, 3 where a value is wrong or
+/// wanting, and 8 where something in it has to be understood and isn't.
+pub fn faults_have_codes()
+    ensures { FaultsHaveCodes }
+{}
+
 /// The calls of an end whose tunnels are kept have ids of 16 bits and states of the end's table, at first and after each step. A
 /// tick leaves none of them that took as long as a call may to be set up; and a step leaves none in an open tunnel that waits to
 /// be asked for, where none did before it.
@@ -68,6 +75,20 @@ pub fn calls_are_not_left()
     ensures sound { CallsStaySound }
     ensures late { LateCallsEnd }
     ensures asked { CallsAreAsked }
+{
+    steps_are_chains();
+}
+
+/// A tick leaves no tunnel that was made 60 seconds ago or more and isn't set up, none that was closed 31 seconds ago or more, and none whose
+/// oldest unacknowledged letter was repeated five times, the last time 8 seconds ago or more; and no other is removed, nor by another event.
+pub fn failed_tunnels_go()
+    ensures { FailedTunnelsGo }
+{}
+
+/// An end has no more than 1,024 tunnels, those among them that are closed: at first none, and none of its steps leaves more.
+pub fn tunnels_stay_few()
+    ensures begin { TunnelsBeginFew }
+    ensures stay { TunnelsStayFew }
 {
     steps_are_chains();
 }

@@ -42,6 +42,7 @@ returns-clause-channels_of_lines g c = λ lines fits few. record {
   asked = c.calls_are_asked_for_once.ensures lines fits;
   made = c.requests_are_taken_once.ensures lines fits few;
   room = c.tunnels_have_room.ensures lines fits few;
+  few = c.no_end_has_too_many_tunnels.ensures lines fits few;
   none_left = c.no_call_is_left.ensures lines fits few;
 }
 
@@ -56,6 +57,7 @@ returns-clause-channels g c = λ text lines within h.
       asked = c.calls_are_asked_for_once.ensures lines is.fits;
       made = c.requests_are_taken_once.ensures lines is.fits few;
       room = c.tunnels_have_room.ensures lines is.fits few;
+      few = c.no_end_has_too_many_tunnels.ensures lines is.fits few;
       none_left = c.no_call_is_left.ensures lines is.fits few;
     }
 
