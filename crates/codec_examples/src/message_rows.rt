@@ -1,0 +1,98 @@
+//! Rows of control messages.
+
+ghost use Rattle.std.specs.Prelude.{◌<◌, IfOk};
+ghost use Rattle.control_message.specs.Pairs.{IsWritten, IsWrittenOpening};
+
+use crate::row::{Fault, Row};
+use crate::spelling::told;
+use avp_codec::read_avps;
+use control_message::*;
+use wire_base::{Bytes, NoMemory};
+
+/// The answer of a call that reads pairs.
+pub fn pairs_row(row: &Row<'_>) -> Result<String, Fault> {
+    let avps = match read_avps(row.alloc, row.bytes(1, 2000)) {
+        Ok(avps) => avps,
+        fault => return told(row.alloc, &fault),
+    };
+    match row.word(0) {
+        "read_avps" => told(row.alloc, &Ok::<_, Fault>(avps)),
+        "read_message" => told(row.alloc, &read_message(row.alloc, &avps)),
+        "kind_of_pairs" => told(row.alloc, &kind_of_pairs(&avps)),
+        "assigned_tunnel" => told(row.alloc, &assigned_tunnel(&avps)),
+        "assigned_session" => told(row.alloc, &assigned_session(&avps)),
+        _ => Err(Fault::NotARow),
+    }
+}
+
+/// An opening of version 1.0, with a failover capability.
+fn opening(row: &Row<'_>, tunnel: u16, window: u16) -> Result<Opening, NoMemory>
+    requires tunnel { 0 < tunnel }
+    requires window { 0 < window }
+    ensures { IfOk result IsWrittenOpening }
+{
+    Ok(Opening {
+        version: 0x0100,
+        framing: row.long(3),
+        name: row.owned(4, 1017)?,
+        tunnel,
+        window,
+        failover: Some(Failover {
+            flags: row.short(7),
+            time: row.long(8),
+        }),
+        challenge: None,
+        recovery: None,
+    })
+}
+
+fn message(row: &Row<'_>) -> Result<Message, Fault>
+    ensures { IfOk result IsWritten }
+{
+    match row.word(2) {
+        "Sccrq" => match (row.short(5), row.short(6)) {
+            (0, _) | (_, 0) => Err(Fault::NotARow),
+            (tunnel, window) => Ok(Message::Sccrq(opening(row, tunnel, window)?)),
+        },
+        "Scccn" => Ok(Message::Scccn),
+        "Hello" => Ok(Message::Hello),
+        "StopCcn" => Ok(Message::StopCcn {
+            tunnel: row.short(3),
+            result: row.short(4),
+            error: row.some_short(5),
+        }),
+        "Cdn" => Ok(Message::Cdn {
+            session: row.short(3),
+            result: row.short(4),
+            error: row.some_short(5),
+        }),
+        "Icrq" => Ok(Message::Icrq {
+            session: row.short(3),
+            serial: row.long(4),
+            calling: Some(row.owned(5, 1017)?),
+        }),
+        "Icrp" => match row.short(3) {
+            0 => Err(Fault::NotARow),
+            session => Ok(Message::Icrp { session }),
+        },
+        "Iccn" => Ok(Message::Iccn {
+            speed: row.long(3),
+            framing: row.long(4),
+            sequenced: false,
+        }),
+        _ => Err(Fault::NotARow),
+    }
+}
+
+/// Writes a message behind some bytes, and alone, and reads it back.
+pub fn write_message_row(row: &Row<'_>) -> Result<String, Fault> {
+    let message = message(row)?;
+    let mut out = row.owned(1, 2000)?;
+    let mut alone = Bytes::new(row.alloc);
+    write_message(&mut out, &message)?;
+    write_message(&mut alone, &message)?;
+    match read_avps(row.alloc, alone.as_slice()) {
+        Ok(avps) => told(row.alloc, &(out, read_message(row.alloc, &avps))),
+        Err(_) => Err(Fault::NotARow),
+    }
+}
