@@ -1,5 +1,5 @@
 -- Opening after a crash.
-use Rattle.std.proofs.Common.{◌≡◌, inr, ℕ, ◌≤◌, true, List, ◌++◌, length, take, Option, Some, None, sym, ◌∙◌, ap, arith}
+use Rattle.std.proofs.Common.{◌≡◌, inr, ℕ, true, List, ◌++◌, length, take, Option, Some, None, sym, ◌∙◌, ap, arith}
 use Rattle.std.specs.Prelude.{Result, Ok, Err, IfSome, OnOk, is_some, is_ok}
 use Rattle.disk_core.specs.Disk.{Held, IsLeft, durable}
 use Rattle.checkpoint_journal.specs.Format.{opens, IsBeforeAndFirst}

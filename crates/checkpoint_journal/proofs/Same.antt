@@ -1,5 +1,5 @@
 -- A file that isn't written, and one that rests.
-use Rattle.std.proofs.Common.{◌≡◌, ◌⊎◌, inl, inr, ℕ, List, Option, Some, None, sym, ◌∙◌, ap, subst}
+use Rattle.std.proofs.Common.{◌≡◌, inl, inr, ℕ, List, Option, Some, None, sym, ◌∙◌, ap, subst}
 use Rattle.std.specs.Prelude.{option_map, IfSome, Ok}
 use Rattle.disk_core.specs.Disk.{Held, MayLeave, settled}
 use Rattle.disk_core.proofs.Torn.{only_synced}

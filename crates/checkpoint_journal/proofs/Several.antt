@@ -1,9 +1,9 @@
 -- Several contents, one after the other.
-use Rattle.std.proofs.Common.{◌≡◌, inl, inr, ℕ, ◌+◌, ◌-◌, ◌<◌, ◌≤◌, true, false, List, [], ◌∷◌, ◌++◌, length, take, get_or, Option, Some, None, sym, ◌∙◌, ap, subst, arith, append_assoc}
-use Rattle.std.specs.Prelude.{Result, Ok, Err}
+use Rattle.std.proofs.Common.{◌≡◌, inl, inr, ℕ, ◌+◌, ◌-◌, ◌<◌, ◌≤◌, true, false, List, [], ◌∷◌, ◌++◌, length, take, get_or, Option, Some, None, sym, ◌∙◌, ap, arith, append_assoc}
+use Rattle.std.specs.Prelude.{Ok, Err}
 use Rattle.std.proofs.lemmas.List.{take_more, take_all, append-nil}
 use Rattle.disk_core.specs.Disk.{Held}
-use Rattle.checkpoint_journal.specs.Format.{opens, IsBeforeOrAfter, IsBeforeAndFirst}
+use Rattle.checkpoint_journal.specs.Format.{IsBeforeOrAfter, IsBeforeAndFirst}
 use Rattle.checkpoint_journal.specs.State.{State, HasContents, FindsBeforeOrAfter, FindsBeforeAndFirst}
 use Rattle.checkpoint_journal.specs.Answers.{StopHasCause, SomeHaveCause}
 use Rattle.checkpoint_journal.specs.declared.journal.JournalStop.{JournalStop}

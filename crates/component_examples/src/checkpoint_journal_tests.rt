@@ -164,7 +164,7 @@ fn reopened<D: Crash>(
 /// Three commits in one call, on a disk that stops after so many of its twelve calls and crashes, leave so many contents.
 fn are_left(alloc: Global, passes: u64, kept: bool, left: usize) -> Result<bool, NoMemory> {
     let all = [ONE, TUNNEL, CALL];
-    let mut disk = StopDisk::new(holding(alloc, b"")?, 6 + passes);
+    let mut disk = StopDisk::new(holding(alloc, b"")?, passes.saturating_add(6));
     let (first, _) = all.as_slice().split_at(left.min(3));
     match reopened(alloc, &mut disk, &all, kept) {
         Some(reopened) => {

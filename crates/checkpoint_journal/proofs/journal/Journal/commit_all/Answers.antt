@@ -1,4 +1,4 @@
-use Rattle.std.proofs.Common.{◌≤◌, ◌+◌, ◌-◌, ◌++◌, take, get_or, [], ℕ, List, length, ap, ◌∙◌, arith, sym, subst}
+use Rattle.std.proofs.Common.{◌≤◌, ◌-◌, ◌++◌, take, get_or, [], ℕ, List, ap, arith, subst}
 use Rattle.std.proofs.lemmas.List.{take_all}
 use Rattle.checkpoint_journal.specs.State.{State, HasContents, FindsBeforeOrAfter}
 use Rattle.checkpoint_journal.proofs.Several.{stopped, finds_none, finds_all, stopped_records}
