@@ -6,6 +6,7 @@ mod Assigned
 mod Faults
 mod Zero
 mod Known
+mod Chosen
 mod Openings
 mod Turns
 mod Settling

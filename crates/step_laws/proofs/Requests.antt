@@ -3,7 +3,7 @@ use Rattle.std.proofs.Common.{◌≡◌, inl, inr, ℕ, Bool, true, false, List,
 use Rattle.std.proofs.lemmas.Bool.{true≢false, eqb-true, eqb-false}
 use Rattle.std.specs.Prelude.{◌==◌, not, ◌||◌, is_some, unwrap_or, option_map}
 use Rattle.wire_base.specs.declared.cause.Cause.TheVariants as cause
-use Rattle.id_table.specs.Ids.{at, ids_of}
+use Rattle.id_table.specs.Ids.{at}
 use Rattle.id_source.specs.Spaces.{draws}
 use Rattle.id_source.specs.declared.IdError.{IdError}
 use Rattle.l2tp_header.specs.declared.header.Header.{Header}
@@ -11,7 +11,6 @@ use Rattle.control_message.specs.declared.message.Message.TheVariants.{Icrq}
 use Rattle.recv_window.specs.declared.Class.{Class}
 use Rattle.recv_window.specs.declared.Class.TheVariants.{Next}
 use Rattle.control_channel.specs.Numbers.{class_told}
-use Rattle.tunnel_fsm.specs.declared.table.TunnelState.{TunnelState}
 use Rattle.tunnel_fsm.specs.declared.table.TunnelState.TheVariants.{WaitCtlReply, Established}
 use Rattle.tunnel_fsm.specs.Rows.{state_number}
 use Rattle.call_fsm.specs.declared.table.CallState.TheVariants as call
@@ -24,16 +23,17 @@ use Rattle.protocol_model.specs.declared.moves.Move.{Move}
 use Rattle.protocol_model.specs.Reading.{body_of, message_in, at_tunnel}
 use Rattle.protocol_model.specs.Calls.{call_row, is_reply, is_lac, are_too_many}
 use Rattle.protocol_model.specs.Turn.{Env, Turn, Tunnel, call_of, left_of, granted, turn_of, with_move, reads_nr, hears_letter, in_tunnel, hears_control, hears_datagram, turns, may_take, counts_acked, Reason, reason, out_of_state}
-use Rattle.protocol_model.specs.End.{End, Stepped, env_of, after_turn, in_main, addressed, for_addressee, is_in, least_in, rings_in, rings_at, receives, only_by, step_in, step}
+use Rattle.protocol_model.specs.End.{End, Stepped, env_of, after_turn, in_main, addressed, for_addressee, least_in, rings_in, rings_at, receives, only_by, step_in, step}
 use Rattle.step_laws.specs.Causes.{MayBeGranted}
 use Rattle.step_laws.specs.Left.{AreSound, AreAsked}
 use Rattle.step_laws.specs.Steps.{AreKept}
 use Rattle.step_laws.specs.Answers.{Incoming, TakesRequest, IsReply, AnswersIcrq, IsAnswer, IsAnswered, IsRepliedTo, GrantedAreRepliedTo, RingIsAnswered, RequestsAreAnswered, IsRefusal, IsDenied, NoCalls, InUse, TooMany, NoIds, IsRefusedTo, NewAreJudged}
 use Rattle.step_laws.proofs.States.{takes_none}
-use Rattle.step_laws.proofs.Lists.{branch, and_left, found_passes}
+use Rattle.step_laws.proofs.Lists.{branch}
 use Rattle.step_laws.proofs.Owing.{spare_room}
 use Rattle.step_laws.proofs.Tells.{in_use, granted_may}
 use Rattle.step_laws.proofs.Answering.{open_not, OneAnswer, settled_answer, next_once}
+use Rattle.step_laws.proofs.Chosen.{least_is, least_open, least_opening, none_open, none_opening}
 use Rattle.step_laws.proofs.Ringing.{main_ring, one_more_ring}
 
 -- ---- requests
@@ -269,17 +269,6 @@ module _ (e : End) (kept : AreKept e) (sound : AreSound e) (asked : AreAsked e) 
   judged r remote serial calling said none = new_judged r remote serial calling said none (granted e.role r.tunnel.calls remote e.session_ids) refl
 
 module _ (e : End) (kept : AreKept e) (moment : ℕ) (block : List ℕ) (port : ℕ) (lac : e.role ≡ Lac) where
-  -- a tunnel that is found is there
-  in_state : (s : TunnelState) (o : Option Tunnel) → is_in s e.config.lns o ≡ true
-      → (t : Tunnel) × (o ≡ Some t) × (state_number t.control.state ≡ state_number s)
-  in_state s None h = absurd (true≢false (sym h))
-  in_state s (Some t) h = (t, refl, eqb-true (state_number t.control.state) (state_number s) (and_left _ _ h))
-
-  least_there : (s : TunnelState) (i : ℕ) → least_in s e.config.lns e.tunnels ≡ Some i
-      → (t : Tunnel) × (at e.tunnels i ≡ Some t) × (state_number t.control.state ≡ state_number s)
-  unfolding least_in
-  least_there s i is = in_state s (at e.tunnels i) (found_passes (λ j. is_in s e.config.lns (at e.tunnels j)) (ids_of e.tunnels) i is)
-
   abbrev Rung : Stepped → Type 0
   Rung s = RingIsAnswered e port s
 
@@ -287,14 +276,15 @@ module _ (e : End) (kept : AreKept e) (moment : ℕ) (block : List ℕ) (port : 
       → least_in WaitCtlReply e.config.lns e.tunnels ≡ opening → Rung (rings_in e (env_of e moment block) (Ring port) open_one opening)
   unfolding rings_in
   rung_in (Some i) opening is next =
-      let f = least_there Established i is in
-      subst (λ o. Rung (in_main e (env_of e moment block) (Ring port) i o)) (sym f.1)
-      (main_ring e kept lac moment block port i f.0 f.1 (inl f.2))
+      let least = least_open e kept i is in
+      subst (λ o. Rung (in_main e (env_of e moment block) (Ring port) i o)) (sym least.there)
+      (main_ring e kept lac moment block port i least.tunnel least.there (inl ((least_is e Established i least least.tunnel least.there).0, least)))
   rung_in None (Some i) is next =
-      let f = least_there WaitCtlReply i next in
-      subst (λ o. Rung (in_main e (env_of e moment block) (Ring port) i o)) (sym f.1)
-      (main_ring e kept lac moment block port i f.0 f.1 (inr (f.2, is)))
-  rung_in None None is next = one_more_ring e kept lac moment block port (port, refl, is, next)
+      let least = least_opening e kept i next in
+      subst (λ o. Rung (in_main e (env_of e moment block) (Ring port) i o)) (sym least.there)
+      (main_ring e kept lac moment block port i least.tunnel least.there
+      (inr ((least_is e WaitCtlReply i least least.tunnel least.there).0, none_open e kept is, least)))
+  rung_in None None is next = one_more_ring e kept lac moment block port (port, refl, none_open e kept is, none_opening e kept next)
 
   rung_step : Rung (step e moment block (Ring port))
   unfolding step step_in only_by rings_at

@@ -1,5 +1,5 @@
 -- What comes of a ring: a call is born, or nothing is done and a cause is told.
-use Rattle.std.proofs.Common.{◌≡◌, ◌⊎◌, ⊎_elim, ℕ, true, false, List, [], refl, sym, ap, ◌∙◌, Some, None, Result, Ok, Err}
+use Rattle.std.proofs.Common.{◌≡◌, ◌⊎◌, ⊎_elim, ℕ, true, false, List, [], refl, sym, ◌∙◌, subst, arith, Some, Result, Ok, Err}
 use Rattle.std.proofs.lemmas.Bool.{true≢false, eq-eqb, eqb-true}
 use Rattle.std.specs.Prelude.{◌==◌}
 use Rattle.std.specs.List.{flat_map}
@@ -9,7 +9,8 @@ use Rattle.id_source.specs.declared.IdError.{IdError}
 use Rattle.wire_base.specs.declared.cause.Cause.{Cause as CauseOf}
 use Rattle.wire_base.specs.declared.cause.Cause.TheVariants as cause
 use Rattle.wire_base.specs.declared.letter.Letter.{Letter}
-use Rattle.tunnel_fsm.specs.declared.table.TunnelState.TheVariants.{Established}
+use Rattle.tunnel_fsm.specs.declared.table.TunnelState.{TunnelState}
+use Rattle.tunnel_fsm.specs.declared.table.TunnelState.TheVariants.{WaitCtlReply, Established}
 use Rattle.tunnel_fsm.specs.Rows.{state_number}
 use Rattle.call_fsm.specs.declared.table.CallEvent.TheVariants as call_event
 use Rattle.protocol_model.specs.declared.tunnel.Role.TheVariants.{Lac}
@@ -17,10 +18,10 @@ use Rattle.protocol_model.specs.declared.event.Event.TheVariants.{Ring}
 use Rattle.protocol_model.specs.declared.out.Out.TheVariants.{Cause}
 use Rattle.protocol_model.specs.Calls.{call_row, advanced, rung, is_request, are_too_many}
 use Rattle.protocol_model.specs.Turn.{Env, Turn, Tunnel, turn_of, with_output, with_move, with_change, with_call, with_new, with_local, gives, has_room, may_take, fresh, opened, requested, requests, adds, rings_over, rings_by, rings_within, rings_new, rings, settles, turns}
-use Rattle.protocol_model.specs.End.{End, Stepped, env_of, gives_only, after_turn, after_new, in_new, has_all_tunnels, in_one_more, in_main, least_in}
-use Rattle.step_laws.specs.Room.{RingsNew}
+use Rattle.protocol_model.specs.End.{End, Stepped, env_of, gives_only, after_turn, after_new, in_new, has_all_tunnels, in_one_more, in_main}
+use Rattle.step_laws.specs.Room.{IsLeast, HasNone, RingsNew}
 use Rattle.step_laws.specs.Steps.{AreKept}
-use Rattle.step_laws.specs.Answers.{ring_of_move, cause_of_output, IsIn, RingIsAnswered, IsAsked, Waits, Opens, IsRefused}
+use Rattle.step_laws.specs.Answers.{ring_of_move, cause_of_output, RingIsAnswered, IsAsked, Waits, Opens, IsRefused}
 use Rattle.step_laws.proofs.Lists.{branch}
 use Rattle.step_laws.proofs.Owing.{spare_room}
 use Rattle.step_laws.proofs.States.{rung_asks}
@@ -40,8 +41,8 @@ module _ (e : End) (kept : AreKept e) (lac : e.role ≡ Lac) (moment : ℕ) (blo
   -- it is the same of a step that made the same moves of a ring, and told the same causes
   same_ring : (s z : Stepped) → flat_map ring_of_move z.moves ≡ flat_map ring_of_move s.moves
       → flat_map cause_of_output z.outputs ≡ flat_map cause_of_output s.outputs → RingIsAnswered e port s → RingIsAnswered e port z
-  same_ring s z done told (IsAsked a q is born open_is tunnel session at_port) = IsAsked a q (done ∙ is) born open_is tunnel session at_port
-  same_ring s z done told (Waits a is born waits none) = Waits a (done ∙ is) born waits none
+  same_ring s z done told (IsAsked a q is born least tunnel session at_port) = IsAsked a q (done ∙ is) born least tunnel session at_port
+  same_ring s z done told (Waits a is born none least) = Waits a (done ∙ is) born none least
   same_ring s z done told (Opens o a is born drawn peer tunnel new) = Opens o a (done ∙ is) born drawn peer tunnel new
   same_ring s z done told (IsRefused c is one) = IsRefused c (done ∙ is) (told ∙ one)
 
@@ -53,7 +54,7 @@ module _ (e : End) (kept : AreKept e) (lac : e.role ≡ Lac) (moment : ℕ) (blo
   -- ---- over a tunnel that is there
 
   module _ (i : ℕ) (t : Tunnel) (there : at e.tunnels i ≡ Some t)
-      (goes : (state_number t.control.state ≡ 3) ⊎ ((state_number t.control.state ≡ 1) × (least_in Established e.config.lns e.tunnels ≡ None))) where
+      (goes : ((state_number t.control.state ≡ 3) × IsLeast e Established i) ⊎ ((state_number t.control.state ≡ 1) × HasNone e Established × IsLeast e WaitCtlReply i)) where
     abbrev start : Turn
     start = turn_of t.control env
 
@@ -62,8 +63,15 @@ module _ (e : End) (kept : AreKept e) (lac : e.role ≡ Lac) (moment : ℕ) (blo
     refused_ring c = IsRefused c refl refl
 
     -- under its own id
-    here : (number : ℕ) → state_number t.control.state ≡ number → IsIn e t.control.local number
-    here number is = (t, ap (at e.tunnels) (kept.tunnels i t there).local ∙ there, is)
+    here : (s : TunnelState) → IsLeast e s i → IsLeast e s t.control.local
+    here s least = subst (λ n. IsLeast e s n) (sym (kept.tunnels i t there).local) least
+
+    open_least : state_number t.control.state ≡ 3 → IsLeast e Established i
+    open_least is =
+        ⊎_elim
+        (λ (both : (state_number t.control.state ≡ 3) × IsLeast e Established i). both.1)
+        (λ waits. absurd (let opening = waits.0 in omega arith))
+        goes
 
     asked_ring : (s : ℕ) → draws e.session_ids ≡ Ok s → may_take t.control t.calls ≡ true → state_number t.control.state ≡ 3
         → Answers (requests e.role s (rung e.role port moment) (adds e.role port s start))
@@ -71,7 +79,7 @@ module _ (e : End) (kept : AreKept e) (lac : e.role ≡ Lac) (moment : ℕ) (blo
     asked_ring s drawn may is =
         branch Answers (is_request (call_row e.role (rung e.role port moment).state call_event.TunnelOpen).1) _ _
         (λ row. branch Answers (has_room t.control) _ _
-        (λ room. IsAsked _ _ refl (record { drawn = drawn; port_is = refl }) (here 3 is) refl refl refl)
+        (λ room. IsAsked _ _ refl (record { drawn = drawn; port_is = refl }) (here Established (open_least is)) refl refl refl)
         (λ full. absurd (true≢false (sym (spare_room t.control t.calls may) ∙ full))))
         (λ none. absurd (true≢false (sym (rung_asks e.role port moment lac) ∙ none)))
 
@@ -79,8 +87,8 @@ module _ (e : End) (kept : AreKept e) (lac : e.role ≡ Lac) (moment : ℕ) (blo
     unfolding adds with_move with_new
     waits_ring s drawn other =
         ⊎_elim
-        (λ (is : state_number t.control.state ≡ 3). absurd (other is))
-        (λ both. Waits _ refl (record { drawn = drawn; port_is = refl }) (here 1 both.0) both.1)
+        (λ (both : (state_number t.control.state ≡ 3) × IsLeast e Established i). absurd (other both.0))
+        (λ waits. Waits _ refl (record { drawn = drawn; port_is = refl }) waits.1 (here WaitCtlReply waits.2))
         goes
 
     drawn_ring : may_take t.control t.calls ≡ true → (r : Result ℕ IdError) → draws e.session_ids ≡ r → Answers (rings_by e.role port r start)

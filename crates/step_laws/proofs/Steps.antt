@@ -10,7 +10,6 @@ use Rattle.wire_base.specs.declared.letter.Side.{Side}
 use Rattle.l2tp_header.specs.declared.header.Header.{Header}
 use Rattle.l2tp_header.specs.declared.header.HeaderError.{HeaderError}
 use Rattle.l2tp_header.specs.Reading.{header_of}
-use Rattle.tunnel_fsm.specs.declared.table.TunnelState.{TunnelState}
 use Rattle.tunnel_fsm.specs.declared.table.TunnelState.TheVariants.{WaitCtlReply, Established}
 use Rattle.tunnel_fsm.specs.Rows.{state_number}
 use Rattle.protocol_model.specs.declared.tunnel.CallPlace.{CallPlace}
@@ -26,15 +25,16 @@ use Rattle.protocol_model.specs.declared.out.Out.TheVariants.{Drop, Cause}
 use Rattle.protocol_model.specs.Reading.{header_why, body_of, at_zero, at_tunnel}
 use Rattle.protocol_model.specs.Calls.{is_lac, frame_of, side_of, Carried, Upward, Dropped, carry_known, carry_look}
 use Rattle.protocol_model.specs.Turn.{Tunnel, Env, turns}
-use Rattle.protocol_model.specs.End.{End, Stepped, env_of, in_new, in_one_more, in_main, is_known, known_as, opened_before, stopped_at, opens_once, addressed, for_addressee, is_in, least_in, rings_in, rings_at, for_call, look_in, handed, hands_up, receives, only_by, step_in, step}
+use Rattle.protocol_model.specs.End.{End, Stepped, env_of, in_new, in_one_more, in_main, is_known, known_as, opened_before, stopped_at, opens_once, addressed, for_addressee, least_in, rings_in, rings_at, for_call, look_in, handed, hands_up, receives, only_by, step_in, step}
 use Rattle.step_laws.specs.Moves.{has_all_tunnels}
 use Rattle.step_laws.specs.Room.{IsChosen, StepsRefuseTruly}
 use Rattle.step_laws.specs.Causes.{CausesStand}
 use Rattle.step_laws.specs.Steps.{AreKept, StepsAreChains}
-use Rattle.step_laws.proofs.Lists.{and_left, and_right, branch, found_passes}
+use Rattle.step_laws.proofs.Lists.{branch, found_passes}
 use Rattle.step_laws.proofs.Tells.{of_all, header_other}
 use Rattle.step_laws.proofs.Zero.{SaysOpening, ZeroSays, zero_says}
 use Rattle.step_laws.proofs.Known.{known_peer, known_remote}
+use Rattle.step_laws.proofs.Chosen.{least_is, least_open, least_opening, none_open, none_opening}
 use Rattle.step_laws.proofs.Declining.{answer_chain, asks_chain}
 use Rattle.step_laws.proofs.Ticks.{ticks_chain}
 use Rattle.step_laws.proofs.Ends.{IsTo, IsStep, drop_chain, cause_chain, heard_chain, rung_chain, hung_chain, closes_chain, shut_chain, carries_chain, opens_chain, rings_chain}
@@ -50,23 +50,6 @@ not_false false h = absurd (true≢false h)
 is_lac_role : (r : Role) → is_lac r ≡ true → r ≡ Lac
 is_lac_role Lac h = refl
 is_lac_role Lns h = absurd (true≢false (sym h))
-
--- a tunnel that is in a state by its number
-pub in_state_is : (s : TunnelState) (peer : ℕ) (o : Option Tunnel) → is_in s peer o ≡ true → (t : Tunnel) → o ≡ Some t
-    → state_number t.control.state ≡ state_number s
-in_state_is s peer None known t is = absurd (true≢false (sym known))
-in_state_is s peer (Some u) known t is =
-    let same : u ≡ t = cc in
-    ap (λ (x : Tunnel). state_number x.control.state) (sym same)
-    ∙ eqb-true (state_number u.control.state) (state_number s) (and_left (state_number u.control.state == state_number s) (u.control.peer == peer) known)
-
--- and goes to the peer
-in_state_peer : (s : TunnelState) (peer : ℕ) (o : Option Tunnel) → is_in s peer o ≡ true → (t : Tunnel) → o ≡ Some t → t.control.peer ≡ peer
-in_state_peer s peer None known t is = absurd (true≢false (sym known))
-in_state_peer s peer (Some u) known t is =
-    let same : u ≡ t = cc in
-    ap (λ (x : Tunnel). x.control.peer) (sym same)
-    ∙ eqb-true u.control.peer peer (and_right (state_number u.control.state == state_number s) (u.control.peer == peer) known)
 
 -- ---- frames that come
 
@@ -277,23 +260,20 @@ module _ (e : End) (kept : AreKept e) (moment : ℕ) (block : List ℕ) where
 
   -- ---- rings, opens and frames
 
-  -- the least tunnel in a state is in that state, and goes to the LNS
-  least_is : (s : TunnelState) (i : ℕ) → least_in s e.config.lns e.tunnels ≡ Some i → (t : Tunnel) → at e.tunnels i ≡ Some t
-      → (state_number t.control.state ≡ state_number s) × (t.control.peer ≡ e.config.lns)
-  unfolding least_in
-  least_is s i is t there =
-      let found = found_passes (λ j. is_in s e.config.lns (at e.tunnels j)) (ids_of e.tunnels) i is in
-      (in_state_is s e.config.lns (at e.tunnels i) found t there, in_state_peer s e.config.lns (at e.tunnels i) found t there)
-
   rung : (port : ℕ) → e.role ≡ Lac → (open_one opening : Option ℕ) → least_in Established e.config.lns e.tunnels ≡ open_one
       → least_in WaitCtlReply e.config.lns e.tunnels ≡ opening → IsStep e moment (Ring port) (rings_in e env (Ring port) open_one opening)
   unfolding rings_in in_one_more in_new
-  rung port lac (Some i) opening is next = main_rung port i lac (inl is) (at e.tunnels i) refl (λ t there. let l = least_is Established i is t there in (inl l.0, l.1))
-  rung port lac None (Some i) is next = main_rung port i lac (inr (is, next)) (at e.tunnels i) refl (λ t there. let l = least_is WaitCtlReply i next t there in (inr l.0, l.1))
+  rung port lac (Some i) opening is next =
+      let least = least_open e kept i is in
+      main_rung port i lac (inl least) (at e.tunnels i) refl (λ t there. let l = least_is e Established i least t there in (inl l.0, l.1))
+  rung port lac None (Some i) is next =
+      let least = least_opening e kept i next in
+      main_rung port i lac (inr (none_open e kept is, least)) (at e.tunnels i) refl
+      (λ t there. let l = least_is e WaitCtlReply i least t there in (inr l.0, l.1))
   rung port lac None None is next =
       branch (IsStep e moment (Ring port)) (has_all_tunnels e) _ _
-      (λ all. cause_chain e kept moment (Ring port) cause.Tunnels (inl (port, refl, is, next), all))
-      (λ fewer. rings_chain e kept moment (Ring port) block e.config.lns port lac refl refl (port, refl, is, next) fewer)
+      (λ all. cause_chain e kept moment (Ring port) cause.Tunnels (inl (port, refl, none_open e kept is, none_opening e kept next), all))
+      (λ fewer. rings_chain e kept moment (Ring port) block e.config.lns port lac refl refl (port, refl, none_open e kept is, none_opening e kept next) fewer)
 
   gives_payload : (s : ℕ) (frame : List ℕ) (o : Option CallPlace) → IsStep e moment (Payload s frame) (for_call e env (Payload s frame) o)
   unfolding for_call

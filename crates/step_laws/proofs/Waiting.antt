@@ -3,12 +3,11 @@ use Rattle.std.proofs.Common.{◌≡◌, ◌⊎◌, inl, inr, ⊎_elim, ℕ, ◌
 use Rattle.std.proofs.lemmas.Bool.{true≢false}
 use Rattle.std.proofs.lemmas.Option.{none-some}
 use Rattle.std.specs.Prelude.{◌==◌}
-use Rattle.id_table.specs.Ids.{at, ids_of, at-none}
+use Rattle.id_table.specs.Ids.{at, at-none}
 use Rattle.wire_base.specs.declared.letter.Letter.{Letter}
 use Rattle.l2tp_header.specs.declared.header.Header.{Header}
 use Rattle.l2tp_header.specs.declared.header.HeaderError.{HeaderError}
 use Rattle.l2tp_header.specs.Reading.{header_of}
-use Rattle.tunnel_fsm.specs.declared.table.TunnelState.{TunnelState}
 use Rattle.tunnel_fsm.specs.declared.table.TunnelState.TheVariants.{WaitCtlReply, Established}
 use Rattle.tunnel_fsm.specs.declared.table.TunnelEvent.TheVariants as tunnel_event
 use Rattle.tunnel_fsm.specs.Rows.{rows, row_of, state_number}
@@ -28,15 +27,15 @@ use Rattle.protocol_model.specs.declared.out.Out.TheVariants.{Cause as Refused}
 use Rattle.protocol_model.specs.Reading.{body_of}
 use Rattle.protocol_model.specs.Calls.{call_row, is_lac, Carried, Upward, Dropped}
 use Rattle.protocol_model.specs.Turn.{Tunnel, Env, Turn, Reason, out_of_order, turn_of, with_calls, fresh, has_room, turns, tunnel_after}
-use Rattle.protocol_model.specs.End.{End, Stepped, env_of, gives_only, after_turn, after_new, in_new, has_all_tunnels, in_one_more, in_main, addressed, against_body, next_of_peer, declined, opens_or_declines, for_addressee, is_in, least_in, rings_in, rings_at, for_call, handed, hands_up, receives, only_by, step_in, step}
+use Rattle.protocol_model.specs.End.{End, Stepped, env_of, gives_only, after_turn, after_new, in_new, has_all_tunnels, in_one_more, in_main, addressed, against_body, next_of_peer, declined, opens_or_declines, for_addressee, least_in, rings_in, rings_at, for_call, handed, hands_up, receives, only_by, step_in, step}
 use Rattle.step_laws.specs.Left.{CanBe, CallsAreAsked}
 use Rattle.step_laws.specs.Steps.{AreKept, StepsAreChains}
-use Rattle.step_laws.proofs.Lists.{branch, found_passes}
+use Rattle.step_laws.proofs.Lists.{branch}
 use Rattle.step_laws.proofs.States.{requested_state}
 use Rattle.step_laws.proofs.Sound.{role_stays, stays_sound}
 use Rattle.step_laws.proofs.Late.{holds_after, ticks_leave, roomy, ticked}
 use Rattle.step_laws.proofs.Asking.{Waits, Busy, Begins, Asked, closes_asked, shuts_by_asked, IsNew, datagram_asked, rings_asked, carries_asked, heard_new, rings_is_new, opens_new}
-use Rattle.step_laws.proofs.Steps.{in_state_is}
+use Rattle.step_laws.proofs.Chosen.{least_is, least_open, least_opening}
 
 -- no call waits but where the SCCRQ isn't answered yet
 abbrev NoneWaits : End → Type 0
@@ -151,18 +150,11 @@ module _ (e : End) (kept : AreKept e) (none : NoneWaits e) (moment : ℕ) (block
   unfolding turns
   rung port i goes t is = rings_asked e.role t.calls e.config t.letters port (turn_of t.control env) (busy i t is) (goes t is) (begins i t is)
 
-  -- the least tunnel in a state is in that state
-  least_is : (s : TunnelState) (i : ℕ) → least_in s e.config.lns e.tunnels ≡ Some i → (t : Tunnel) → at e.tunnels i ≡ Some t
-      → state_number t.control.state ≡ state_number s
-  unfolding least_in
-  least_is s i is t there =
-      in_state_is s e.config.lns (at e.tunnels i) (found_passes (λ j. is_in s e.config.lns (at e.tunnels j)) (ids_of e.tunnels) i is) t there
-
   rings_asked_in : (port : ℕ) (open_one opening : Option ℕ) → least_in Established e.config.lns e.tunnels ≡ open_one
       → least_in WaitCtlReply e.config.lns e.tunnels ≡ opening → AllAsked (rings_in e env (Ring port) open_one opening)
   unfolding rings_in in_new turns
-  rings_asked_in port (Some i) opening is next = main_asked (Ring port) i (rung port i (λ t there. inl (least_is Established i is t there)))
-  rings_asked_in port None (Some i) is next = main_asked (Ring port) i (rung port i (λ t there. inr (least_is WaitCtlReply i next t there)))
+  rings_asked_in port (Some i) opening is next = main_asked (Ring port) i (rung port i (λ t there. inl (least_is e Established i (least_open e kept i is) t there).0))
+  rings_asked_in port None (Some i) is next = main_asked (Ring port) i (rung port i (λ t there. inr (least_is e WaitCtlReply i (least_opening e kept i next) t there).0))
   rings_asked_in port None None is next =
       more_asked (Ring port) e.config.lns (Refused cause.Tunnels)
       (new_asked _ (rings_is_new e.role e.config [] port (turn_of (fresh e.config.lns moment) env) refl refl))

@@ -11,7 +11,7 @@ use Rattle.control_message.specs.declared.message.Message.TheVariants.{Icrq, Ocr
 use Rattle.control_message.specs.declared.kind.Kind.{Kind}
 use Rattle.control_message.specs.declared.kind.Kind.TheVariants as kind
 use Rattle.control_message.specs.Reading.{kind_of_pairs}
-use Rattle.tunnel_fsm.specs.declared.table.TunnelState.TheVariants.{Established}
+use Rattle.tunnel_fsm.specs.declared.table.TunnelState.TheVariants.{WaitCtlReply, Established}
 use Rattle.tunnel_fsm.specs.Rows.{state_number}
 use Rattle.protocol_model.specs.declared.tunnel.Call.{Call}
 use Rattle.protocol_model.specs.declared.tunnel.Role.TheVariants.{Lac}
@@ -30,10 +30,10 @@ use Rattle.protocol_model.specs.declared.moves.Move.{Move}
 use Rattle.protocol_model.specs.declared.moves.Move.TheVariants as move
 use Rattle.protocol_model.specs.Reading.{body_of, message_in, CallFault, call_fault_in, TunnelFault, tunnel_fault_in}
 use Rattle.protocol_model.specs.Turn.{Tunnel, Reason, counts_acked, fault_error, granted}
-use Rattle.protocol_model.specs.End.{End, Stepped, step, least_in}
+use Rattle.protocol_model.specs.End.{End, Stepped, step}
 use Rattle.step_laws.specs.Moves.{has_all_calls, may_take, ComesNext}
 use Rattle.step_laws.specs.Causes.{TakesNoCalls, IsIdInUse, MayBeGranted}
-use Rattle.step_laws.specs.Room.{RingsNew}
+use Rattle.step_laws.specs.Room.{IsLeast, HasNone, RingsNew}
 use Rattle.step_laws.specs.Left.{AreSound, AreAsked}
 use Rattle.step_laws.specs.Steps.{AreKept}
 
@@ -193,17 +193,13 @@ pub record IsBorn (e : End) (port : ℕ) (m : Added) : Type 0 where
   pub drawn : draws e.session_ids ≡ Ok m.session
   pub port_is : m.port ≡ port
 
--- a tunnel of the end is in the state of this number
-abbrev pub IsIn : End → ℕ → ℕ → Type 0
-IsIn e id number = (t : Tunnel) × (at e.tunnels id ≡ Some t) × (state_number t.control.state ≡ number)
-
--- over an open tunnel the call is asked for; over one whose SCCRQ isn't answered yet it waits, and so it does over one that is opened
--- for it where there is neither; or nothing is done, and one cause is told (of that see Causes)
+-- over the least tunnel to the LNS that is open the call is asked for; where none is, it waits over the least whose SCCRQ isn't
+-- answered yet, and over one that is opened for it where there is neither; or nothing is done, and one cause is told (of that see Causes)
 pub data RingIsAnswered (e : End) (port : ℕ) (s : Stepped) : Type 0 where
   IsAsked : (a : Added) (q : Requested) → flat_map ring_of_move s.moves ≡ move.Added a ∷ move.Requested q ∷ [] → IsBorn e port a
-      → IsIn e a.tunnel 3 → q.tunnel ≡ a.tunnel → q.session ≡ a.session → q.port ≡ port → RingIsAnswered e port s
-  Waits : (a : Added) → flat_map ring_of_move s.moves ≡ move.Added a ∷ [] → IsBorn e port a → IsIn e a.tunnel 1
-      → least_in Established e.config.lns e.tunnels ≡ None → RingIsAnswered e port s
+      → IsLeast e Established a.tunnel → q.tunnel ≡ a.tunnel → q.session ≡ a.session → q.port ≡ port → RingIsAnswered e port s
+  Waits : (a : Added) → flat_map ring_of_move s.moves ≡ move.Added a ∷ [] → IsBorn e port a → HasNone e Established
+      → IsLeast e WaitCtlReply a.tunnel → RingIsAnswered e port s
   Opens : (o : Opened) (a : Added) → flat_map ring_of_move s.moves ≡ move.Opened o ∷ move.Added a ∷ [] → IsBorn e port a
       → draws e.tunnel_ids ≡ Ok o.tunnel → o.peer ≡ e.config.lns → a.tunnel ≡ o.tunnel → RingsNew e (Ring port) → RingIsAnswered e port s
   IsRefused : (c : CauseOf) → flat_map ring_of_move s.moves ≡ [] → flat_map cause_of_output s.outputs ≡ c ∷ [] → RingIsAnswered e port s

@@ -1,13 +1,14 @@
 -- Where a step tells that there is no room for letters.
-use Rattle.std.specs.Prelude.{◌≡◌, ◌⊎◌, ℕ, false, List, Some, None}
+use Rattle.std.specs.Prelude.{◌≡◌, ◌⊎◌, ◌≤◌, ℕ, false, List, Some}
 use Rattle.id_table.specs.Ids.{at}
+use Rattle.tunnel_fsm.specs.declared.table.TunnelState.{TunnelState}
 use Rattle.tunnel_fsm.specs.declared.table.TunnelState.TheVariants.{WaitCtlReply, Established}
 use Rattle.wire_base.specs.declared.why.Why.TheVariants as why
 use Rattle.protocol_model.specs.declared.event.Event.{Event}
 use Rattle.protocol_model.specs.declared.event.Event.TheVariants.{Ring}
 use Rattle.protocol_model.specs.declared.out.Out.TheVariants.{Drop}
 use Rattle.protocol_model.specs.Turn.{Tunnel, counts_acked}
-use Rattle.protocol_model.specs.End.{End, least_in, step}
+use Rattle.protocol_model.specs.End.{End, step}
 use Rattle.step_laws.specs.Letters.{Among}
 use Rattle.step_laws.specs.Moves.{may_take, ComesNext, TellsNr}
 use Rattle.step_laws.specs.Steps.{AreKept}
@@ -23,16 +24,25 @@ pub record IsFull (e : End) (moment : ℕ) (ev : Event) : Type 0 where
   pub tells : TellsNr ev tunnel.control nr
   pub full : may_take (counts_acked nr moment tunnel.control) tunnel.calls ≡ false
 
+-- a tunnel to the LNS is in this state, and none with a lesser id is
+pub record IsLeast (e : End) (s : TunnelState) (i : ℕ) : Type 0 where
+  pub tunnel : Tunnel
+  pub there : at e.tunnels i ≡ Some tunnel
+  pub peer : tunnel.control.peer ≡ e.config.lns
+  pub state : tunnel.control.state ≡ s
+  pub least : (j : ℕ) (t : Tunnel) → at e.tunnels j ≡ Some t → t.control.peer ≡ e.config.lns → t.control.state ≡ s → i ≤ j
+
+-- no tunnel to the LNS is in this state
+abbrev pub HasNone : End → TunnelState → Type 0
+HasNone e s = (j : ℕ) (t : Tunnel) → at e.tunnels j ≡ Some t → t.control.peer ≡ e.config.lns → t.control.state ≡ s → ⊥
+
 -- a ring goes over the least tunnel to the LNS that is open, else over the least whose SCCRQ isn't answered yet
 abbrev pub IsChosen : End → ℕ → Type 0
-IsChosen e i =
-    (least_in Established e.config.lns e.tunnels ≡ Some i)
-    ⊎ ((least_in Established e.config.lns e.tunnels ≡ None) × (least_in WaitCtlReply e.config.lns e.tunnels ≡ Some i))
+IsChosen e i = IsLeast e Established i ⊎ (HasNone e Established × IsLeast e WaitCtlReply i)
 
 -- else over a new one
 abbrev pub RingsNew : End → Event → Type 0
-RingsNew e ev =
-    (port : ℕ) × (ev ≡ Ring port) × (least_in Established e.config.lns e.tunnels ≡ None) × (least_in WaitCtlReply e.config.lns e.tunnels ≡ None)
+RingsNew e ev = (port : ℕ) × (ev ≡ Ring port) × HasNone e Established × HasNone e WaitCtlReply
 
 -- the tunnel over which a call is to go that rings
 pub record RingsOver (e : End) (ev : Event) (t : Tunnel) : Type 0 where
