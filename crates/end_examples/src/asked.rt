@@ -1,92 +1,96 @@
-//! What an end tells when it is asked: which events fit it, what is seen of its sessions, and its tables.
+//! What an end tells when it is asked: whether an event fits it, what is seen of a session, and its tables.
 
-use crate::bench::Bench;
-use call_fsm::CallState;
-use end_core::Mode;
-use protocol_model::{Look, address_of};
+use crate::bench::{Bench, push_number};
+use crate::event::{Fault, id_of};
+use end_core::{CallRow, Mode, TunnelRow};
+use protocol_model::{Look, node_of};
 use std::alloc::Global;
-use std::test::Fail;
-use tunnel_fsm::TunnelState;
-use wire_base::Why;
+use wire_base::{Bytes, NoMemory};
 
-/// A LAC's tunnel 1, whose peer assigned 1234 to it: it is opened by a ring, whose call 1 the peer knows as 0201.
-const OPENED: [&str; 5] = [
-    "open",
-    "ring",
-    "c802004c00010000000000018008000000000002800800000002010080\
-     0a0000000300000003800a0000000769737039800800000009123480080000\
-     000a0010000c0000004c000300007530",
-    "c802000c0001000000010002",
-    "c802001c0001000100010003800800000000000b80080000000e0201",
-];
-
-/// The event of these words is told to fit, or why it doesn't.
-fn tells(alloc: Global, bench: &Bench, words: &str, told: Option<Why>) -> Result<bool, Fail> {
-    Ok(bench.fits(alloc, words)? == told)
-}
-
-#[test]
-fn events_of_what_is_not_live_do_not_fit(rt: HostRuntime) -> Result<(), Fail> {
-    let alloc = rt.alloc();
-    let mut bench = Bench::lac(alloc);
-    assert!(rt; tells(alloc, &bench, "close 1", Some(Why::Tunnel))?);
-    assert!(rt; tells(alloc, &bench, "hang 1", Some(Why::Call))?);
-    for words in OPENED {
-        bench.run(alloc, words)?;
+/// Appends words that are numbers, each behind a space.
+fn push_numbers(alloc: Global, text: &mut Bytes, numbers: &[u32]) -> Result<(), NoMemory> {
+    for number in numbers {
+        text.push_slice(b" ")?;
+        push_number(alloc, text, *number)?;
     }
-    for words in [
-        "open",
-        "ring",
-        "close 1",
-        "hang 1",
-        "drop 1",
-        "payload 1 0021aa",
-        "lower 1 0021aa",
-    ] {
-        assert!(rt; tells(alloc, &bench, words, None)?);
-    }
-    for words in ["hang 2", "drop 2", "payload 2 0021aa", "lower 513 0021aa"] {
-        assert!(rt; tells(alloc, &bench, words, Some(Why::Call))?);
-    }
-    assert!(rt; tells(alloc, &bench, "close 2", Some(Why::Tunnel))?);
-    // a closed tunnel isn't there to be closed, and its calls are gone
-    bench.run(alloc, "close 1")?;
-    assert!(rt; tells(alloc, &bench, "close 1", Some(Why::Tunnel))?);
-    assert!(rt; tells(alloc, &bench, "drop 1", Some(Why::Call))?);
     Ok(())
 }
 
-#[test]
-fn looks_and_tables_are_told(rt: HostRuntime) -> Result<(), Fail> {
-    let alloc = rt.alloc();
-    let mut bench = Bench::lac(alloc);
-    assert_eq!(rt; bench.rows(alloc)?.len(), 0);
-    for words in OPENED {
-        bench.run(alloc, words)?;
+/// Whether the event of words fits, or the word of why it doesn't.
+pub(crate) fn fits_row(alloc: Global, bench: &Bench, words: &str) -> Result<Bytes, Fault> {
+    let mut text = Bytes::new(alloc);
+    match bench.fits(alloc, words)? {
+        None => text.push_slice(b"fits")?,
+        Some(why) => text.push_slice(why.word())?,
     }
-    bench.run(alloc, "open")?;
-    let peer = address_of(7);
-    assert!(rt; bench.look(1) == Look::Established { tunnel: 1, peer });
-    assert!(rt; bench.look(513) == Look::Unborn);
+    text.push_slice(b"\n")?;
+    Ok(text)
+}
+
+/// What the data plane sees of a session, with the tunnel and the node of its peer.
+pub(crate) fn look_row(alloc: Global, bench: &Bench, session: &str) -> Result<Bytes, Fault> {
+    let (word, known) = match bench.look(id_of(session)?) {
+        Look::Unborn => (b"unborn".as_slice(), None),
+        Look::Bound { tunnel, peer } => (b"bound".as_slice(), Some((tunnel, peer))),
+        Look::Established { tunnel, peer } => (b"established".as_slice(), Some((tunnel, peer))),
+        Look::Dead => (b"dead".as_slice(), None),
+    };
+    let mut text = Bytes::from_slice(alloc, word)?;
+    if let Some((tunnel, peer)) = known {
+        let numbers = [u32::from(tunnel), u32::from(node_of(peer))];
+        push_numbers(alloc, &mut text, &numbers)?;
+    }
+    text.push_slice(b"\n")?;
+    Ok(text)
+}
+
+fn mode_word(mode: Mode) -> &'static [u8] {
+    match mode {
+        Mode::Current => b"current",
+        Mode::Frozen => b"frozen",
+        Mode::Restored => b"restored",
+    }
+}
+
+/// Appends the line of a call: its ids at this end and at the other, and its state.
+fn push_call(alloc: Global, text: &mut Bytes, call: &CallRow) -> Result<(), NoMemory> {
+    text.push_slice(b"call")?;
+    let numbers = [u32::from(call.local), u32::from(call.remote)];
+    push_numbers(alloc, text, &numbers)?;
+    text.push_slice(b" ")?;
+    text.push_slice(call.state.word())?;
+    text.push_slice(b"\n")
+}
+
+/// Appends the line of a tunnel: its id, the node of its peer, its id there, its state and its mode, and whether it is complete.
+fn push_tunnel(alloc: Global, text: &mut Bytes, tunnel: &TunnelRow) -> Result<(), NoMemory> {
+    text.push_slice(b"tunnel")?;
+    let numbers = [
+        u32::from(tunnel.local),
+        u32::from(node_of(tunnel.peer)),
+        u32::from(tunnel.remote),
+    ];
+    push_numbers(alloc, text, &numbers)?;
+    text.push_slice(b" ")?;
+    text.push_slice(tunnel.state.word())?;
+    text.push_slice(b" ")?;
+    text.push_slice(mode_word(tunnel.mode))?;
+    text.push_slice(if tunnel.complete {
+        b" complete\n"
+    } else {
+        b"\n"
+    })
+}
+
+/// The end's tunnels, each with its calls behind it.
+pub(crate) fn tables_row(alloc: Global, bench: &Bench) -> Result<Bytes, Fault> {
+    let mut text = Bytes::new(alloc);
     let rows = bench.rows(alloc)?;
-    assert_eq!(rt; rows.len(), 2);
-    let Some(open) = rows.lend(0) else {
-        return Err(Fail::from("a row"));
-    };
-    assert_eq!(rt; (open.local, open.peer, open.remote), (1, peer, 0x1234));
-    assert!(rt;
-        open.state == TunnelState::Established && open.mode == Mode::Current && open.complete
-    );
-    assert_eq!(rt; open.calls.len(), 1);
-    let Some(call) = open.calls.lend(0) else {
-        return Err(Fail::from("a row"));
-    };
-    assert_eq!(rt; (call.local, call.remote), (1, 0x0201));
-    assert!(rt; call.state == CallState::Established);
-    let Some(opening) = rows.lend(1) else {
-        return Err(Fail::from("a row"));
-    };
-    assert_eq!(rt; (opening.local, opening.peer, opening.remote), (2, peer, 0));
-    assert!(rt; opening.state == TunnelState::WaitCtlReply && opening.calls.len() == 0);
-    Ok(())
+    for tunnel in rows.as_slice() {
+        push_tunnel(alloc, &mut text, tunnel)?;
+        for call in tunnel.calls.as_slice() {
+            push_call(alloc, &mut text, call)?;
+        }
+    }
+    Ok(text)
 }

@@ -1,11 +1,11 @@
-//! An end with a peer that is another program: the events that words tell, and the lines of what the end gives.
+//! An end with a peer that is another program: the lines of what the end gives for an event.
 
+use crate::event::{Fault, event_of, number_of};
 use end_core::{EndRows, Given};
 use lac_core::Lac;
 use lns_core::Lns;
 use protocol_model::{Config, Event, Look, Out, address_of, node_of};
 use std::alloc::Global;
-use std::test::Fail;
 use wire_base::{Bytes, NoMemory, Why};
 
 fn config(number: u8, lns: u32) -> Config {
@@ -34,71 +34,7 @@ impl Side {
     }
 }
 
-/// A number of decimal digits.
-fn number_of(digits: &str) -> Result<u32, Fail> {
-    digits.parse::<u32>().map_err(|_| Fail::from("a number"))
-}
-
-/// The number of a tunnel or of a session.
-fn id_of(digits: &str) -> Result<u16, Fail> {
-    u16::try_from(number_of(digits)?).map_err(|_| Fail::from("an id of 16 bits"))
-}
-
-fn bytes_of(alloc: Global, digits: &str) -> Result<Bytes, Fail> {
-    let bytes = hex::decode(alloc, digits).map_err(|_| "hex digits")?;
-    Ok(Bytes::from_slice(alloc, bytes.as_slice())?)
-}
-
-/// The event of a word and an id: an administrative close of a tunnel or of a call, or a subscriber that leaves.
-fn event_of_id(word: &str, id: u16) -> Result<Event, Fail> {
-    match word {
-        "close" => Ok(Event::CloseTunnel { tunnel: id }),
-        "drop" => Ok(Event::DropCall { session: id }),
-        "hang" => Ok(Event::Hang { session: id }),
-        _ => Err(Fail::from("a word")),
-    }
-}
-
-/// A frame of the subscriber's or of the network's.
-fn event_of_frame(word: &str, session: u16, frame: Bytes) -> Result<Event, Fail> {
-    match word {
-        "payload" => Ok(Event::Payload { session, frame }),
-        "lower" => Ok(Event::Lower { session, frame }),
-        _ => Err(Fail::from("a word")),
-    }
-}
-
-/// The event of a word and what it is about: an id, a session and a frame, or a datagram of the node 5.
-fn event_about(alloc: Global, word: &str, about: &str) -> Result<Event, Fail> {
-    match about.split_once(' ') {
-        None => event_of_id(word, id_of(about)?),
-        Some(("5", digits)) => Ok(Event::Datagram {
-            peer: address_of(5),
-            bytes: bytes_of(alloc, digits)?,
-        }),
-        Some((session, digits)) => {
-            event_of_frame(word, id_of(session)?, bytes_of(alloc, digits)?)
-        }
-    }
-}
-
-/// The event that words tell: an administrative open, a ring, a word with what it is about, or the hex digits of a datagram of the
-/// peer.
-fn event_of(alloc: Global, peer: u32, words: &str) -> Result<Event, Fail> {
-    match words {
-        "open" => Ok(Event::OpenTunnel),
-        "ring" => Ok(Event::Ring { port: 70 }),
-        _ => match words.split_once(' ') {
-            Some((word, about)) => event_about(alloc, word, about),
-            None => Ok(Event::Datagram {
-                peer,
-                bytes: bytes_of(alloc, words)?,
-            }),
-        },
-    }
-}
-
-fn push_number(alloc: Global, text: &mut Bytes, number: u32) -> Result<(), NoMemory> {
+pub(crate) fn push_number(alloc: Global, text: &mut Bytes, number: u32) -> Result<(), NoMemory> {
     let digits = number.to_string(alloc)?;
     text.push_slice(digits.as_bytes())
 }
@@ -130,16 +66,6 @@ fn push_output(alloc: Global, text: &mut Bytes, output: &Out) -> Result<(), NoMe
     text.push_slice(b"\n")
 }
 
-/// The lines of what a step of an end gives, at a moment.
-fn given(alloc: Global, end: &mut Side, moment: u64, event: &Event) -> Result<Bytes, NoMemory> {
-    let given = end.step(moment, event)?;
-    let mut text = Bytes::new(alloc);
-    for output in given.outputs.as_slice() {
-        push_output(alloc, &mut text, output)?;
-    }
-    Ok(text)
-}
-
 /// An end, where its messages come from, and the moment.
 #[derive(Drop)]
 pub(crate) struct Bench {
@@ -168,7 +94,7 @@ impl Bench {
     }
 
     /// Why the event of these words doesn't fit the end.
-    pub(crate) fn fits(&self, alloc: Global, words: &str) -> Result<Option<Why>, Fail> {
+    pub(crate) fn fits(&self, alloc: Global, words: &str) -> Result<Option<Why>, Fault> {
         let event = event_of(alloc, self.peer, words)?;
         Ok(match &self.end {
             Side::Lac(lac) => lac.fits(&event),
@@ -192,58 +118,38 @@ impl Bench {
         }
     }
 
-    /// The lines of what the end gives for a datagram of its peer.
-    pub(crate) fn hear(&mut self, alloc: Global, datagram: &Bytes) -> Result<Bytes, NoMemory> {
-        let event = Event::Datagram {
-            peer: self.peer,
-            bytes: Bytes::from_slice(alloc, datagram.as_slice())?,
-        };
-        given(alloc, &mut self.end, self.moment, &event)
+    /// The lines of what the end gives for an event.
+    pub(crate) fn give(&mut self, alloc: Global, event: &Event) -> Result<Bytes, NoMemory> {
+        let given = self.end.step(self.moment, event)?;
+        let mut text = Bytes::new(alloc);
+        for output in given.outputs.as_slice() {
+            push_output(alloc, &mut text, output)?;
+        }
+        Ok(text)
     }
 
-    /// The lines of what the end gives for an administrative close of a tunnel.
-    pub(crate) fn close(&mut self, alloc: Global, tunnel: u16) -> Result<Bytes, NoMemory> {
-        given(
-            alloc,
-            &mut self.end,
-            self.moment,
-            &Event::CloseTunnel { tunnel },
-        )
+    /// The event of words, or a tick after so many milliseconds.
+    fn next(&mut self, alloc: Global, words: &str) -> Result<Event, Fault> {
+        match words.strip_prefix("tick ") {
+            Some(digits) => {
+                let later = u64::from(number_of(digits)?);
+                self.moment = self.moment.saturating_add(later);
+                Ok(Event::Tick)
+            }
+            None => event_of(alloc, self.peer, words),
+        }
     }
 
     /// What the words of a row lead to: an end that is new, or the lines of what the end gives.
-    pub(crate) fn run(&mut self, alloc: Global, words: &str) -> Result<Bytes, Fail> {
+    pub(crate) fn run(&mut self, alloc: Global, words: &str) -> Result<Bytes, Fault> {
         match words {
-            "new lns" => {
-                *self = Bench::lns(alloc);
-                return Ok(Bytes::new(alloc));
+            "new lns" => *self = Bench::lns(alloc),
+            "new lac" => *self = Bench::lac(alloc),
+            _ => {
+                let event = self.next(alloc, words)?;
+                return Ok(self.give(alloc, &event)?);
             }
-            "new lac" => {
-                *self = Bench::lac(alloc);
-                return Ok(Bytes::new(alloc));
-            }
-            _ => {}
         }
-        if let Some(digits) = words.strip_prefix("tick ") {
-            self.moment = self.moment.saturating_add(u64::from(number_of(digits)?));
-            return Ok(given(alloc, &mut self.end, self.moment, &Event::Tick)?);
-        }
-        let event = event_of(alloc, self.peer, words)?;
-        Ok(given(alloc, &mut self.end, self.moment, &event)?)
+        Ok(Bytes::new(alloc))
     }
-}
-
-/// The first of these rows, by its number, whose words give something else.
-pub(crate) fn first_wrong(
-    alloc: Global,
-    bench: &mut Bench,
-    rows: &[(&str, &str)],
-) -> Result<Option<usize>, Fail> {
-    for (number, (words, told)) in rows.iter().enumerate() {
-        let text = bench.run(alloc, words)?;
-        if text.as_slice() != told.as_bytes() {
-            return Ok(Some(number));
-        }
-    }
-    Ok(None)
 }

@@ -2,6 +2,7 @@
 
 use crate::bench::Bench;
 use l2tp_header::write_control;
+use protocol_model::{Event, address_of};
 use std::alloc::Global;
 use std::test::Fail;
 use wire_base::{Bytes, NoMemory, put_u16};
@@ -53,6 +54,15 @@ impl Peer {
     }
 }
 
+/// The lines of what the LNS gives for a datagram of the LAC 9.
+fn hear(alloc: Global, bench: &mut Bench, datagram: &Bytes) -> Result<Bytes, NoMemory> {
+    let event = Event::Datagram {
+        peer: address_of(9),
+        bytes: Bytes::from_slice(alloc, datagram.as_slice())?,
+    };
+    bench.give(alloc, &event)
+}
+
 /// An LNS with an open tunnel 1.
 fn open_lns(alloc: Global) -> Result<(Bench, Peer), Fail> {
     let mut bench = Bench::lns(alloc);
@@ -62,11 +72,11 @@ fn open_lns(alloc: Global) -> Result<(Bench, Peer), Fail> {
         nr: 0,
     };
     let opening = peer.say(alloc, 0, SCCRQ)?;
-    bench.hear(alloc, &opening)?;
+    hear(alloc, &mut bench, &opening)?;
     peer.tunnel = 1;
     peer.nr = 1;
     let connected = peer.say(alloc, 0, SCCCN)?;
-    bench.hear(alloc, &connected)?;
+    hear(alloc, &mut bench, &connected)?;
     Ok((bench, peer))
 }
 
@@ -81,10 +91,10 @@ fn tunnel_ids_come_to_their_end(rt: HostRuntime) -> Result<(), Fail> {
     };
     let opening = peer.say(alloc, 0, SCCRQ)?;
     for _ in 0..65_535 {
-        bench.hear(alloc, &opening)?;
+        hear(alloc, &mut bench, &opening)?;
         bench.run(alloc, "tick 60000")?;
     }
-    let declined = bench.hear(alloc, &opening)?;
+    let declined = hear(alloc, &mut bench, &opening)?;
     assert_eq!(rt;
         declined.as_slice(),
         b"cause ids\n\
@@ -119,15 +129,15 @@ fn session_ids_come_to_their_end(rt: HostRuntime) -> Result<(), Fail> {
     let (mut bench, mut peer) = open_lns(alloc)?;
     for session in 1..65_535_u16 {
         let request = peer.ask(alloc, 0x0201)?;
-        bench.hear(alloc, &request)?;
+        hear(alloc, &mut bench, &request)?;
         peer.nr = peer.nr.wrapping_add(1);
         let end = peer.say(alloc, session, CDN)?;
-        bench.hear(alloc, &end)?;
+        hear(alloc, &mut bench, &end)?;
     }
     // 131,070 letters were taken, and 65,535 given.
     let request = peer.ask(alloc, 0x0202)?;
     assert_eq!(rt;
-        bench.hear(alloc, &request)?.as_slice(),
+        hear(alloc, &mut bench, &request)?.as_slice(),
         b"cause ids\n\
           send 9 c802002412340202ffffffff800800000000000e800800000001000480080000000e0000\n"
             .as_slice()
@@ -141,13 +151,13 @@ fn a_tunnel_has_as_many_calls_as_it_may(rt: HostRuntime) -> Result<(), Fail> {
     let (mut bench, mut peer) = open_lns(alloc)?;
     for remote in 1..4097_u16 {
         let request = peer.ask(alloc, remote)?;
-        let reply = bench.hear(alloc, &request)?;
+        let reply = hear(alloc, &mut bench, &request)?;
         assert_eq!(rt; reply.as_slice().get(..5), Some(b"send ".as_slice()));
         peer.nr = peer.nr.wrapping_add(1);
     }
     let request = peer.ask(alloc, 0x7000)?;
     assert_eq!(rt;
-        bench.hear(alloc, &request)?.as_slice(),
+        hear(alloc, &mut bench, &request)?.as_slice(),
         b"cause calls\n\
           send 9 c80200241234700010011003800800000000000e800800000001000480080000000e0000\n"
             .as_slice()
@@ -162,20 +172,20 @@ fn a_tunnel_takes_no_more_than_it_has_room_for(rt: HostRuntime) -> Result<(), Fa
     // None of the letters is acknowledged but the first, and each call ends at once.
     for session in 1..8188_u16 {
         let request = peer.ask(alloc, 0x0201)?;
-        bench.hear(alloc, &request)?;
+        hear(alloc, &mut bench, &request)?;
         let end = peer.say(alloc, session, CDN)?;
-        bench.hear(alloc, &end)?;
+        hear(alloc, &mut bench, &end)?;
     }
     // 8,187 letters are held, and with four more there is room; then 8,188 are, and one is owed.
     let request = peer.ask(alloc, 0x0201)?;
-    let acknowledged = bench.hear(alloc, &request)?;
+    let acknowledged = hear(alloc, &mut bench, &request)?;
     assert_eq!(rt;
         acknowledged.as_slice(),
         b"send 9 c802000c1234000000033ff9\n".as_slice()
     );
     let end = peer.say(alloc, 8188, CDN)?;
     assert_eq!(rt;
-        bench.hear(alloc, &end)?.as_slice(),
+        hear(alloc, &mut bench, &end)?.as_slice(),
         b"drop queue\n".as_slice()
     );
     Ok(())
@@ -196,7 +206,7 @@ fn an_opener_has_as_many_tunnels_as_it_may(rt: HostRuntime) -> Result<(), Fail> 
     // A ring waits for a tunnel that is to open, as long as there is one.
     assert_eq!(rt; bench.run(alloc, "ring")?.as_slice(), b"".as_slice());
     for tunnel in 1..1025_u16 {
-        bench.close(alloc, tunnel)?;
+        bench.give(alloc, &Event::CloseTunnel { tunnel })?;
     }
     assert_eq!(rt;
         bench.run(alloc, "ring")?.as_slice(),
