@@ -102,7 +102,7 @@ module _ (codecs : Codecs) (classes : ClassIsTrue) (accs : Accounts) (n : ℕ) (
       (peer_says codecs accs n e sender ev h.within t.control.peer o.comes.header o.comes.bytes o.comes.is o.comes.read o.comes.control)
 
   by_why : WhyRefused e t o.comes.header.session (message_in body) (call_fault_in body) m → Within (after accs d) n x sender ev
-  by_why (IsNotGranted remote serial calling r said none not_granted same result error) =
+  by_why (IsNotGranted remote serial calling said none same denied) =
       refuses (Icrq remote serial calling) tt said (told remote same (written (Icrq remote serial calling) tt said).0)
       (λ l session says. inl (serial, calling, says ∙ ap (λ q. Icrq q serial calling) (sym same)))
   by_why (IsOutgoing remote said same result error) = absurd (written (Ocrq remote) tt said)

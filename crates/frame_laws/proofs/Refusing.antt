@@ -31,7 +31,7 @@ refusal_fits ns n ev heard e m y h = (by h.why, refusal_codes_fit e h.tunnel h.c
 
     by : WhyRefused e h.tunnel h.comes.header.session (message_in (body_of h.comes.header h.comes.bytes))
         (call_fault_in (body_of h.comes.header h.comes.bytes)) m → m.remote < 65536
-    by (IsNotGranted remote serial calling r said none not_granted same result error) =
+    by (IsNotGranted remote serial calling said none same denied) =
         told remote same
         (heard_letter ns n ev heard h.tunnel.control.peer h.comes.header.session (Icrq remote serial calling) (came (Icrq remote serial calling) said)).0.0
     by (IsOutgoing remote said same result error) =

@@ -95,7 +95,7 @@ module _ (laws : Laws) (accs : Accounts) (ends : Ends) (w : World) (n : ℕ) (e 
 
   -- it closes no tunnel
   no_stop_by : WhyRefused e t header (message_in body) (call_fault_in body) m → IsNoStop heard.message
-  no_stop_by (IsNotGranted remote serial calling r is none granted remote_is result error) =
+  no_stop_by (IsNotGranted remote serial calling is none remote_is denied) =
       subst IsNoStop (sym (said (Icrq remote serial calling) is)) tt
   no_stop_by (IsOutgoing remote is remote_is result error) = subst IsNoStop (sym (said (Ocrq remote) is)) tt
   no_stop_by (IsReplyToNone remote is none lns remote_is result error) = subst IsNoStop (sym (said (Icrp remote) is)) tt
@@ -138,7 +138,7 @@ module _ (laws : Laws) (accs : Accounts) (ends : Ends) (w : World) (n : ℕ) (e 
           lac_not_lns e.role (opens is_it) lns
 
   asks_by : WhyRefused e t header (message_in body) (call_fault_in body) m → (serial : ℕ) × (calling : Option (List ℕ)) × (heard.message ≡ Icrq m.remote serial calling)
-  asks_by (IsNotGranted remote serial calling r is none granted remote_is result error) =
+  asks_by (IsNotGranted remote serial calling is none remote_is denied) =
       (serial, calling, said (Icrq remote serial calling) is ∙ ap (λ q. Icrq q serial calling) (sym remote_is))
   asks_by (IsOutgoing remote is remote_is result error) =
       absurd (giver (Ocrq remote) is).says

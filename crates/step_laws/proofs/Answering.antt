@@ -28,7 +28,8 @@ use Rattle.protocol_model.specs.Calls.{call_row}
 use Rattle.protocol_model.specs.Turn.{Turn, Tunnel, Reason, with_output, with_move, with_change, with_new, gives, takes_one, takes_plain, has_room, out_of_state, fault_reason, known_or, shuts, ends_call, closed_told, closes_tunnel, takes_by, takes, ends_by, end_told, answers_by, refused, refuses, of_no_call, replied, replies, granted, asked_by, about_call, in_call, faulty_at, faulty, in_faulty_call, hears, hears_faulty, hears_said, hears_next, is_closed, settles}
 use Rattle.protocol_model.specs.End.{End}
 use Rattle.step_laws.specs.Left.{CanBe}
-use Rattle.step_laws.specs.Answers.{IsRequest, Incoming, Outgoing, FaultyIncoming, FaultyOutgoing, TooFaulty, answer_of_move, IsReply, IsRefusal, IsEnd, IsClose, AnswersIcrq, AnswersFaulty, IsAnswer}
+use Rattle.step_laws.specs.Answers.{IsRequest, Incoming, Outgoing, FaultyIncoming, FaultyOutgoing, TooFaulty, answer_of_move, IsReply, IsRefusal, IsEnd, IsClose, AnswersIcrq, WithReply, WithRefusal, WithEnd, WithDeniedEnd, AnswersFaulty, IsAnswer}
+use Rattle.step_laws.proofs.Granting.{grants_is, denies_is}
 use Rattle.step_laws.proofs.Lists.{branch}
 use Rattle.step_laws.proofs.Owing.{live_open}
 use Rattle.step_laws.proofs.Shutting.{all_ended_is}
@@ -158,19 +159,23 @@ module _ (e : End) (id : ℕ) (tunnel : Tunnel) (session : ℕ) (t : Turn) (h : 
   abbrev calls : List (ℕ × Call)
   calls = tunnel.calls
 
-  icrq_once : (remote : ℕ) (q : Result ℕ Reason) (o : Option Call) → at calls session ≡ o
-      → OneAnswer (AnswersIcrq id session remote o q) (asked_by e.role session remote q o t).moves
+  icrq_once : (remote : ℕ) (q : Result ℕ Reason) → granted e.role calls remote e.session_ids ≡ q → (o : Option Call) → at calls session ≡ o
+      → OneAnswer (AnswersIcrq e id tunnel session remote) (asked_by e.role session remote q o t).moves
   unfolding asked_by
-  icrq_once remote (Ok drawn) None is = replies_once (IsReply id remote drawn) id e.role remote drawn t h (λ m right. right)
-  icrq_once remote (Err r) None is = refuses_once (IsRefusal id remote r.result r.error) id r remote t h (λ m right. right)
-  icrq_once remote (Ok drawn) (Some c) is =
+  icrq_once remote (Ok drawn) judged None is =
+      replies_once (AnswersIcrq e id tunnel session remote) id e.role remote drawn t h
+      (λ m right. WithReply drawn is (grants_is e tunnel remote drawn judged) right)
+  icrq_once remote (Err r) judged None is =
+      refuses_once (AnswersIcrq e id tunnel session remote) id r remote t h
+      (λ m right. WithRefusal r.result r.error is (denies_is e tunnel remote r judged) right)
+  icrq_once remote (Ok drawn) judged (Some c) is =
       let call = sound session c is in
-      ends_once (IsEnd id session c 2 (Some 5)) id out_of_state session c _ t h call.0 (told_again e.role c.state call.1 (asked session c is))
-      (λ m right. right)
-  icrq_once remote (Err r) (Some c) is =
+      ends_once (AnswersIcrq e id tunnel session remote) id out_of_state session c _ t h call.0 (told_again e.role c.state call.1 (asked session c is))
+      (λ m right. WithEnd c drawn is (grants_is e tunnel remote drawn judged) right)
+  icrq_once remote (Err r) judged (Some c) is =
       let call = sound session c is in
-      ends_once (IsEnd id session c r.result r.error) id r session c _ t h call.0 (told_faulty e.role c.state call.1 (asked session c is))
-      (λ m right. right)
+      ends_once (AnswersIcrq e id tunnel session remote) id r session c _ t h call.0 (told_faulty e.role c.state call.1 (asked session c is))
+      (λ m right. WithDeniedEnd c r.result r.error is (denies_is e tunnel remote r judged) right)
 
   faulty_once : (f : CallFault) (o : Option Call) → at calls session ≡ o
       → OneAnswer (AnswersFaulty id session f o)
@@ -200,7 +205,7 @@ module _ (e : End) (id : ℕ) (tunnel : Tunnel) (session : ℕ) (t : Turn) (h : 
         subst (λ q. Right (Incoming remote serial calling said) (hears_said e.role calls session (call_fault_in body) (tunnel_fault_in body) q t)) (sym said)
         (is_open (λ u. Right (Incoming remote serial calling said) u) _ _
         (subst (λ ss. Right (Incoming remote serial calling said) (asked_by e.role session remote (granted e.role calls remote ss) (at calls session) t))
-        (sym ids) (icrq_once remote (granted e.role calls remote e.session_ids) (at calls session) refl)))
+        (sym ids) (icrq_once remote (granted e.role calls remote e.session_ids) refl (at calls session) refl)))
     said_once (Outgoing remote said) =
         subst (λ q. Right (Outgoing remote said) (hears_said e.role calls session (call_fault_in body) (tunnel_fault_in body) q t)) (sym said)
         (is_open (λ u. Right (Outgoing remote said) u) _ _ (refuses_once _ id _ remote t h (λ m right. right)))

@@ -26,7 +26,8 @@ use Rattle.protocol_model.specs.Calls.{call_row, is_reply, is_connection, is_up,
 use Rattle.protocol_model.specs.Turn.{Tunnel, Turn, Reason, reason, out_of_state, tunnel_after, with_move, with_calls, takes_one, has_room, takes_plain, refuses, of_no_call, answers_by, call_of, left_of, granted, replies, asked_by, first_up_by, second_up_by, is_clean_up, end_heard_by, session_named, ends_named, about_call, in_call}
 use Rattle.protocol_model.specs.End.{End}
 use Rattle.step_laws.specs.Causes.{Came, MayBeGranted, AskedAgain, RepliedInVain, ConnectedInVain, Stands}
-use Rattle.step_laws.specs.Moves.{HearsNext, ComesNext, IsPlain, IsAsked, IsReplied, IsConnected, WhyRefused, IsNotGranted, IsOutgoing, IsReplyToNone}
+use Rattle.step_laws.specs.Moves.{DeniesCall, HearsNext, ComesNext, IsPlain, IsAsked, IsReplied, IsConnected, WhyRefused, IsNotGranted, IsOutgoing, IsReplyToNone}
+use Rattle.step_laws.proofs.Granting.{grants_is, denies_is}
 use Rattle.step_laws.proofs.Lists.{branch}
 use Rattle.step_laws.proofs.Owing.{spare_told}
 use Rattle.step_laws.proofs.Tells.{granted_stands, granted_may}
@@ -177,12 +178,23 @@ module _ (e : End) (moment : ℕ) (ev : Event) (letters : List Letter) (calls : 
     granted_now : (g : Result ℕ Reason) → granted e.role calls remote t.sessions ≡ g → granted e.role (with_calls t.changed calls) remote t.sessions ≡ g
     granted_now g is = ap (λ cs. granted e.role cs remote t.sessions) (calls_first e moment ev letters calls i t f.fresh) ∙ is
 
+    denied_now : (r : Reason) → granted e.role calls remote t.sessions ≡ Err r
+        → DeniesCall (at_turn e moment ev letters calls i t) (tunnel_after t letters calls) remote r.result r.error
+    denied_now r is = denies_is (at_turn e moment ev letters calls i t) (tunnel_after t letters calls) remote r (granted_now (Err r) is)
+
     refusing : (r : Reason) → granted e.role calls remote t.sessions ≡ Err r → at calls session ≡ None
         → Refusing r remote t (next_of_heard ev t.control session (Icrq remote serial calling) hears)
     refusing r is none m to result error =
-        IsNotGranted remote serial calling r hears.hears.said
+        IsNotGranted remote serial calling hears.hears.said
         (ap (λ q. at (with_calls t.changed calls) q) hears.hears.session_is ∙ at_first e moment ev letters calls i t f.fresh session None none)
-        (granted_now (Err r) is) to result error
+        to (rw (result, error) (denied_now r is))
+
+    -- once the request is taken
+    abbrev taken_end : Turn → End
+    taken_end u = at_turn e moment ev letters calls i (takes_plain u)
+
+    abbrev taken_tunnel : Turn → Tunnel
+    taken_tunnel u = tunnel_after (takes_plain u) letters calls
 
     asked_by_ok : (g : Result ℕ Reason) → granted e.role calls remote t.sessions ≡ g → (o : Option Call) → at calls session ≡ o
         → Good (asked_by e.role session remote g o t)
@@ -198,7 +210,8 @@ module _ (e : End) (moment : ℕ) (ev : Event) (letters : List Letter) (calls : 
         refuses_ok r (ungranted r is) remote t f is_open (next_of_heard ev t.control session (Icrq remote serial calling) hears) (refusing r is found)
     asked_by_ok (Ok s) is (Some c) found =
         answers_ok out_of_state session c call_event.IcrqAcc t f found (asks_plain c found)
-        (IsAsked remote serial calling (heard_in ev t.control _ session (Icrq remote serial calling) refl refl refl hears) (inl (refl, refl, refl)))
+        (IsAsked remote serial calling (heard_in ev t.control _ session (Icrq remote serial calling) refl refl refl hears)
+        (inl (refl, (s, grants_is (taken_end t) (taken_tunnel t) remote s (granted_now (Ok s) is)), refl, refl)))
         (λ told. inl (
           begun e moment ev letters calls i t f.fresh,
           AskedAgain remote serial session calling came (told_at e moment ev letters calls i t f.fresh session c call_event.IcrqAcc found told)
@@ -207,7 +220,7 @@ module _ (e : End) (moment : ℕ) (ev : Event) (letters : List Letter) (calls : 
     asked_by_ok (Err r) is (Some c) found =
         answers_ok r session c call_event.IcrqNotAcc t f found (asks_plain c found)
         (IsAsked remote serial calling (heard_in ev t.control _ session (Icrq remote serial calling) refl refl refl hears)
-        (inr (refl, (r, granted_now (Err r) is, refl, refl))))
+        (inr (refl, denies_is (taken_end t) (taken_tunnel t) remote r (granted_now (Err r) is))))
         (λ told. ungranted r is)
 
   -- ---- replies, connections and ends

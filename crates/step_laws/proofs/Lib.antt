@@ -7,6 +7,7 @@ mod Faults
 mod Zero
 mod Known
 mod Chosen
+mod Granting
 mod Openings
 mod Turns
 mod Settling

@@ -1,8 +1,9 @@
 -- Each step answers the request that it takes, and the ring that comes.
-use Rattle.std.proofs.Common.{◌≡◌, inl, inr, ℕ, Bool, true, false, List, [], ◌∷◌, length, refl, sym, ap, ◌∙◌, subst, Option, Some, None, Result, Ok, Err, arith, ◌⊎◌, cond}
+use Rattle.std.proofs.Common.{◌≡◌, inl, inr, ℕ, true, false, List, [], ◌∷◌, length, refl, sym, ap, ◌∙◌, subst, Option, Some, None, Ok, Err, arith, ◌⊎◌, ◌<◌, ◌≤◌}
 use Rattle.std.proofs.lemmas.Bool.{true≢false, eqb-true, eqb-false}
-use Rattle.std.specs.Prelude.{◌==◌, not, ◌||◌, is_some, unwrap_or, option_map}
-use Rattle.wire_base.specs.declared.cause.Cause.TheVariants as cause
+use Rattle.std.proofs.lemmas.Bool.Decides.{nat_tests}
+use Rattle.std.proofs.lemmas.Option.{none-some}
+use Rattle.std.specs.Prelude.{◌==◌, unwrap_or, option_map, nat_le}
 use Rattle.id_table.specs.Ids.{at}
 use Rattle.id_source.specs.Spaces.{draws}
 use Rattle.id_source.specs.declared.IdError.{IdError}
@@ -13,25 +14,23 @@ use Rattle.recv_window.specs.declared.Class.TheVariants.{Next}
 use Rattle.control_channel.specs.Numbers.{class_told}
 use Rattle.tunnel_fsm.specs.declared.table.TunnelState.TheVariants.{WaitCtlReply, Established}
 use Rattle.tunnel_fsm.specs.Rows.{state_number}
-use Rattle.call_fsm.specs.declared.table.CallState.TheVariants as call
-use Rattle.call_fsm.specs.declared.table.CallEvent.TheVariants as call_event
-use Rattle.protocol_model.specs.declared.tunnel.Role.TheVariants.{Lac}
+use Rattle.protocol_model.specs.declared.tunnel.Call.{Call}
+use Rattle.protocol_model.specs.declared.tunnel.Role.TheVariants.{Lac, Lns}
 use Rattle.protocol_model.specs.declared.event.Event.{Event}
-use Rattle.protocol_model.specs.declared.event.Event.TheVariants.{Datagram, Ring, Tick}
+use Rattle.protocol_model.specs.declared.event.Event.TheVariants.{Datagram, Ring}
 use Rattle.protocol_model.specs.declared.event.Addressee.TheVariants.{Main}
 use Rattle.protocol_model.specs.declared.moves.Move.{Move}
 use Rattle.protocol_model.specs.Reading.{body_of, message_in, at_tunnel}
-use Rattle.protocol_model.specs.Calls.{call_row, is_reply, is_lac, are_too_many}
-use Rattle.protocol_model.specs.Turn.{Env, Turn, Tunnel, call_of, left_of, granted, turn_of, with_move, reads_nr, hears_letter, in_tunnel, hears_control, hears_datagram, turns, may_take, counts_acked, Reason, reason, out_of_state}
+use Rattle.protocol_model.specs.Calls.{is_lac}
+use Rattle.protocol_model.specs.Turn.{Env, Turn, Tunnel, turn_of, with_move, reads_nr, hears_letter, in_tunnel, hears_control, hears_datagram, turns, may_take, counts_acked}
 use Rattle.protocol_model.specs.End.{End, Stepped, env_of, after_turn, in_main, addressed, for_addressee, least_in, rings_in, rings_at, receives, only_by, step_in, step}
+use Rattle.step_laws.specs.Moves.{GrantsCall, DeniesCall, AsksItself, HasUsedId, HasAllCalls, HasNoSession}
 use Rattle.step_laws.specs.Causes.{MayBeGranted}
 use Rattle.step_laws.specs.Left.{AreSound, AreAsked}
 use Rattle.step_laws.specs.Steps.{AreKept}
-use Rattle.step_laws.specs.Answers.{Incoming, TakesRequest, IsReply, AnswersIcrq, IsAnswer, IsAnswered, IsRepliedTo, GrantedAreRepliedTo, RingIsAnswered, RequestsAreAnswered, IsRefusal, IsDenied, NoCalls, InUse, TooMany, NoIds, IsRefusedTo, NewAreJudged}
-use Rattle.step_laws.proofs.States.{takes_none}
+use Rattle.step_laws.specs.Answers.{Incoming, TakesRequest, IsReply, AnswersIcrq, WithReply, WithRefusal, WithEnd, WithDeniedEnd, IsAnswer, IsAnswered, IsRepliedTo, GrantedAreRepliedTo, RingIsAnswered, RequestsAreAnswered, IsRefusedTo, NewAreJudged}
 use Rattle.step_laws.proofs.Lists.{branch}
 use Rattle.step_laws.proofs.Owing.{spare_room}
-use Rattle.step_laws.proofs.Tells.{in_use, granted_may}
 use Rattle.step_laws.proofs.Answering.{open_not, OneAnswer, settled_answer, next_once}
 use Rattle.step_laws.proofs.Chosen.{least_is, least_open, least_opening, none_open, none_opening}
 use Rattle.step_laws.proofs.Ringing.{main_ring, one_more_ring}
@@ -131,65 +130,28 @@ module _ (e : End) (kept : AreKept e) (sound : AreSound e) (asked : AreAsked e) 
   pub request_answered : (ev : Event) (r : TakesRequest e moment ev) → IsAnswered e moment ev r (step e moment block ev)
   request_answered ev r = let h = step_right ev r in record { answer = h.answer; only = h.only; right = h.right }
 
--- ---- requests against which nothing stands
+few_tested : (n : ℕ) → n < 4096 → nat_le 4096 n ≡ false
+few_tested n few = grind (arith, nat_tests)
 
-module _ (e : End) (t : Tunnel) (remote : ℕ) (may : MayBeGranted e t remote) where
-  pub record IsGranted : Type 0 where
-    pub session : ℕ
-    pub drawn : draws e.session_ids ≡ Ok session
-    pub is : granted e.role t.calls remote e.session_ids ≡ Ok session
+many_tested : (n : ℕ) → 4096 ≤ n → nat_le 4096 n ≡ true
+many_tested n many = grind (arith, nat_tests)
 
-  -- the tests pass, one by one
-  passes : (x : ℕ) → draws e.session_ids ≡ Ok x → granted e.role t.calls remote e.session_ids ≡ Ok x
-  unfolding granted
-  passes x drawn =
-      branch (λ q. q ≡ Ok x) (not (is_reply (call_row e.role call.Idle call_event.IcrqAcc).1)) _ _
-      (λ none. absurd (may.takes (takes_none e.role (untaken (is_reply (call_row e.role call.Idle call_event.IcrqAcc).1) refl none))))
-      (λ takes. branch (λ q. q ≡ Ok x) (remote == 0 || is_some (call_of t.calls remote)) _ _
-      (λ used. absurd (may.free (in_use e 0 Tick t remote used)))
-      (λ free. branch (λ q. q ≡ Ok x) (are_too_many t.calls) _ _
-      (λ many. absurd (true≢false (sym many ∙ may.few)))
-      (λ few. ap left_of drawn)))
-    where
-      untaken : (b : Bool) → is_reply (call_row e.role call.Idle call_event.IcrqAcc).1 ≡ b → not b ≡ true → is_reply (call_row e.role call.Idle call_event.IcrqAcc).1 ≡ false
-      untaken true is h = absurd (true≢false (sym h))
-      untaken false is h = is
-
-  pub granted_is : IsGranted
-  granted_is = by (draws e.session_ids) refl
-    where
-      by : (d : Result ℕ IdError) → draws e.session_ids ≡ d → IsGranted
-      by (Ok x) is = record { session = x; drawn = is; is = passes x is }
-      by (Err x) is = absurd (may.ids x is)
-
--- ---- requests that aren't granted
+-- ---- what is granted, and what isn't
 
 module _ (e : End) (t : Tunnel) (remote : ℕ) where
-  abbrev Denies : Reason → Type 0
-  Denies r = IsDenied e t remote r.result r.error
+  may_be : (s : ℕ) → GrantsCall e t remote s → MayBeGranted e t remote
+  may_be s g = record {
+    takes = λ (lac : e.role ≡ Lac). (let lns = g.lns in let two : Lac ≡ Lns = sym lac ∙ lns in absurd cc);
+    free = g.free;
+    few = few_tested (length t.calls) g.few;
+    ids = λ (x : IdError) (none : draws e.session_ids ≡ Err x). (let drawn = g.drawn in absurd cc);
+  }
 
-  abbrev reply_row : Bool
-  reply_row = is_reply (call_row e.role call.Idle call_event.IcrqAcc).1
-
-  abbrev refusal : Reason → Result ℕ Reason
-  refusal q = Err q
-
-  pub denied_is : (r : Reason) → granted e.role t.calls remote e.session_ids ≡ Err r → Denies r
-  unfolding granted
-  denied_is r h = by reply_row (remote == 0 || is_some (call_of t.calls remote)) (are_too_many t.calls) (draws e.session_ids) refl refl refl refl h
-    where
-      so : (q : Reason) → refusal q ≡ refusal r → Denies q → Denies r
-      so q is denies = let same : q ≡ r = cc in subst Denies same denies
-
-      by : (a b c : Bool) (d : Result ℕ IdError) → reply_row ≡ a → (remote == 0 || is_some (call_of t.calls remote)) ≡ b
-          → are_too_many t.calls ≡ c → draws e.session_ids ≡ d
-          → cond (not a) (Err out_of_state) (cond b (Err (reason cause.Session 2 (Some 5))) (cond c (Err (reason cause.Calls 4 None)) (left_of d))) ≡ Err r
-          → Denies r
-      by false b c d row used many drawn is = so out_of_state is (NoCalls (takes_none e.role row) refl refl)
-      by true true c d row used many drawn is = so (reason cause.Session 2 (Some 5)) is (InUse (in_use e 0 Tick t remote used) refl refl)
-      by true false true d row used many drawn is = so (reason cause.Calls 4 None) is (TooMany many refl refl)
-      by true false false (Err x) row used many drawn is = so (reason cause.Ids 4 None) is (NoIds x drawn refl refl)
-      by true false false (Ok s) row used many drawn is = absurd cc
+  not_denied : (result : ℕ) (error : Option ℕ) → MayBeGranted e t remote → DeniesCall e t remote result error → ⊥
+  not_denied result error may (AsksItself lac r x) = may.takes lac
+  not_denied result error may (HasUsedId lns used r x) = may.free used
+  not_denied result error may (HasAllCalls lns free many r x) = true≢false (sym (many_tested (length t.calls) many) ∙ may.few)
+  not_denied result error may (HasNoSession lns free few y none r x) = may.ids y none
 
 -- ---- each step
 
@@ -215,13 +177,10 @@ module _ (e : End) (kept : AreKept e) (sound : AreSound e) (asked : AreAsked e) 
   module _ (r : TakesRequest e moment ev) (remote serial : ℕ) (calling : Option (List ℕ))
       (said : message_in (body_of r.comes.header r.comes.bytes) ≡ Ok (Icrq remote serial calling))
       (none : at r.tunnel.calls r.comes.header.session ≡ None) where
-    abbrev judgement : Result ℕ Reason
-    judgement = granted e.role r.tunnel.calls remote e.session_ids
+    abbrev Answer : Move → Type 0
+    Answer m = AnswersIcrq e r.id r.tunnel r.comes.header.session remote m
 
-    abbrev AnswersNew : Result ℕ Reason → Move → Type 0
-    AnswersNew q m = AnswersIcrq r.id r.comes.header.session remote None q m
-
-    new_answered : OneAnswer (AnswersNew judgement) stepped.moves
+    new_answered : OneAnswer Answer stepped.moves
     new_answered =
         let q : TakesRequest e moment ev = record {
           id = r.id;
@@ -234,39 +193,42 @@ module _ (e : End) (kept : AreKept e) (sound : AreSound e) (asked : AreAsked e) 
           request = Incoming remote serial calling said;
         } in
         let h = request_answered e kept sound asked moment block ev q in
-        let right : AnswersIcrq r.id r.comes.header.session remote (at r.tunnel.calls r.comes.header.session) judgement h.answer = h.right in
-        record {
-          answer = h.answer;
-          only = h.only;
-          right = subst (λ o. AnswersIcrq r.id r.comes.header.session remote o judgement h.answer) none right;
-        }
+        record { answer = h.answer; only = h.only; right = h.right }
+
+    -- no call is named
+    named_none : (c : Call) → at r.tunnel.calls r.comes.header.session ≡ Some c → ⊥
+    named_none c named = none-some c (sym none ∙ named)
 
     new_replied : MayBeGranted e r.tunnel remote → IsRepliedTo e r.id remote stepped
-    new_replied may =
-        let h = new_answered in
-        let g = granted_is e r.tunnel remote may in
-        let reply : IsReply r.id remote g.session h.answer = subst (λ q. AnswersNew q h.answer) g.is h.right in
-        replied_to r.id remote (record { answer = h.answer; only = h.only; right = (g.session, g.drawn, reply) })
+    new_replied may = by new_answered.right
+      where
+        by : Answer new_answered.answer → IsRepliedTo e r.id remote stepped
+        by (WithReply drawn unnamed grants reply) =
+            replied_to r.id remote (record { answer = new_answered.answer; only = new_answered.only; right = (drawn, grants.drawn, reply) })
+        by (WithRefusal result error unnamed denies refusal) = absurd (not_denied e r.tunnel remote result error may denies)
+        by (WithEnd c drawn named grants end) = absurd (named_none c named)
+        by (WithDeniedEnd c result error named denies end) = absurd (named_none c named)
 
-    new_judged : (q : Result ℕ Reason) → judgement ≡ q
-        → (MayBeGranted e r.tunnel remote × IsRepliedTo e r.id remote stepped) ⊎ IsRefusedTo e r.tunnel r.id remote stepped
-    new_judged (Ok s) is = let may = granted_may e 0 Tick r.tunnel remote s is in inl (may, new_replied may)
-    new_judged (Err w) is =
-        let h = new_answered in
-        let a : IsRefusal r.id remote w.result w.error h.answer = subst (λ q. AnswersNew q h.answer) is h.right in
-        inr (record {
+    new_judged : (MayBeGranted e r.tunnel remote × IsRepliedTo e r.id remote stepped) ⊎ IsRefusedTo e r.tunnel r.id remote stepped
+    new_judged = by new_answered.right
+      where
+        by : Answer new_answered.answer → (MayBeGranted e r.tunnel remote × IsRepliedTo e r.id remote stepped) ⊎ IsRefusedTo e r.tunnel r.id remote stepped
+        by (WithReply drawn unnamed grants reply) = let may = may_be e r.tunnel remote drawn grants in inl (may, new_replied may)
+        by (WithRefusal result error unnamed denies a) = inr (record {
           refused = a.refused;
-          only = h.only ∙ ap (λ (m : Move). m ∷ []) a.is;
+          only = new_answered.only ∙ ap (λ (m : Move). m ∷ []) a.is;
           tunnel = a.tunnel;
           remote_is = a.remote_is;
-          denied = rw (a.result_is, a.error_is) (denied_is e r.tunnel remote w is);
+          denied = rw (a.result_is, a.error_is) denies;
         })
+        by (WithEnd c drawn named grants end) = absurd (named_none c named)
+        by (WithDeniedEnd c result error named denies end) = absurd (named_none c named)
 
   granted_answered : GrantedAreRepliedTo e moment ev stepped
   granted_answered r remote serial calling said none may = new_replied r remote serial calling said none may
 
   judged : NewAreJudged e moment ev stepped
-  judged r remote serial calling said none = new_judged r remote serial calling said none (granted e.role r.tunnel.calls remote e.session_ids) refl
+  judged r remote serial calling said none = new_judged r remote serial calling said none
 
 module _ (e : End) (kept : AreKept e) (moment : ℕ) (block : List ℕ) (port : ℕ) (lac : e.role ≡ Lac) where
   abbrev Rung : Stepped → Type 0

@@ -33,9 +33,10 @@ use Rattle.protocol_model.specs.Turn.{Tunnel, Reason, reason, out_of_state, call
 use Rattle.protocol_model.specs.End.{End}
 use Rattle.step_laws.specs.Letters.{Among}
 use Rattle.step_laws.specs.Room.{IsFull}
+use Rattle.step_laws.specs.Moves.{IsIdInUse}
 use Rattle.step_laws.proofs.Named.{found_call, none_found}
 use Rattle.step_laws.proofs.States.{takes_none, none_taken}
-use Rattle.step_laws.specs.Causes.{CameFaulty, Asks, IsIdInUse, MayBeGranted, AskedInVain, ForRequest, Stands}
+use Rattle.step_laws.specs.Causes.{CameFaulty, Asks, MayBeGranted, AskedInVain, ForRequest, Stands}
 
 -- an output that tells why something isn't done
 abbrev pub Founded : End → ℕ → Event → Why → Type 0
@@ -136,7 +137,7 @@ module _ (e : End) (moment : ℕ) (ev : Event) (t : Tunnel) where
       by false (Some s) zero is e = let found = found_call t.calls remote s is in inr (s, found.0, found.1, found.2)
       by false None zero is e = absurd (true≢false (sym e))
 
-  free : (remote : ℕ) → (remote == 0 || is_some (call_of t.calls remote)) ≡ false → IsIdInUse t remote → ⊥
+  pub free : (remote : ℕ) → (remote == 0 || is_some (call_of t.calls remote)) ≡ false → IsIdInUse t remote → ⊥
   free remote h used = by (remote == 0) (call_of t.calls remote) refl refl h
     where
       by : (a : Bool) (o : Option ℕ) → (remote == 0) ≡ a → call_of t.calls remote ≡ o → (a || is_some o) ≡ false → ⊥

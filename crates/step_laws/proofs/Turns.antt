@@ -39,6 +39,7 @@ use Rattle.protocol_model.specs.Turn.{Tunnel, Turn, Reason, is_closed, granted, 
 use Rattle.protocol_model.specs.End.{End, placed, with_looks}
 use Rattle.step_laws.specs.Causes.{Stands}
 use Rattle.step_laws.specs.Moves.{Chain, ComesNext, HearsNext, IsPlain, TellsNr, WhyRefused}
+use Rattle.step_laws.proofs.Granting.{grants_is}
 use Rattle.step_laws.proofs.States.{rung_asks}
 use Rattle.step_laws.proofs.Lists.{all_push, branch, with_calls-more, with_looks-more, placed-more, chain_more}
 use Rattle.step_laws.proofs.Tells.{Founded, Tells}
@@ -424,7 +425,7 @@ module _ (e : End) (moment : ℕ) (ev : Event) (letters : List Letter) (calls : 
           calling = calling;
           hears = (session, hears);
           none = unnamed;
-          granted_is = is;
+          granted = grants_is (at_turn t) (tunnel_after t letters calls) remote s is;
           row = so.row;
           few = so.few;
           drawn = so.drawn;

@@ -1,9 +1,8 @@
 -- How each request for a call is answered, and what comes of each ring.
-use Rattle.std.specs.Prelude.{◌≡◌, ◌⊎◌, ℕ, true, List, [], ◌∷◌, Option, Some, None, unwrap_or, Result, Ok, Err}
+use Rattle.std.specs.Prelude.{◌≡◌, ◌⊎◌, ℕ, true, List, [], ◌∷◌, Option, Some, None, unwrap_or, Ok}
 use Rattle.std.specs.List.{flat_map}
 use Rattle.id_table.specs.Ids.{at}
 use Rattle.id_source.specs.Spaces.{draws}
-use Rattle.id_source.specs.declared.IdError.{IdError}
 use Rattle.wire_base.specs.declared.cause.Cause.{Cause as CauseOf}
 use Rattle.avp_codec.specs.declared.avp.Avp.{Avp}
 use Rattle.avp_codec.specs.Reading.{avps_of}
@@ -29,10 +28,10 @@ use Rattle.protocol_model.specs.declared.moves.Closed.{Closed}
 use Rattle.protocol_model.specs.declared.moves.Move.{Move}
 use Rattle.protocol_model.specs.declared.moves.Move.TheVariants as move
 use Rattle.protocol_model.specs.Reading.{body_of, message_in, CallFault, call_fault_in, TunnelFault, tunnel_fault_in}
-use Rattle.protocol_model.specs.Turn.{Tunnel, Reason, counts_acked, fault_error, granted}
+use Rattle.protocol_model.specs.Turn.{Tunnel, counts_acked, fault_error}
 use Rattle.protocol_model.specs.End.{End, Stepped, step}
-use Rattle.step_laws.specs.Moves.{has_all_calls, may_take, ComesNext}
-use Rattle.step_laws.specs.Causes.{TakesNoCalls, IsIdInUse, MayBeGranted}
+use Rattle.step_laws.specs.Moves.{may_take, ComesNext, GrantsCall, DeniesCall}
+use Rattle.step_laws.specs.Causes.{MayBeGranted}
 use Rattle.step_laws.specs.Room.{IsLeast, HasNone, RingsNew}
 use Rattle.step_laws.specs.Left.{AreSound, AreAsked}
 use Rattle.step_laws.specs.Steps.{AreKept}
@@ -112,14 +111,16 @@ pub record IsClose (id result : ℕ) (error : Option ℕ) (m : Move) : Type 0 wh
   pub result_is : closed.result ≡ result
   pub error_is : closed.error ≡ error
 
--- An ICRQ, by the call that its header names, and by the first cause for which there can be none, or the session that is drawn. One that
--- names no call is replied to, or refused with the codes of the cause. One that names a call ends it, by an error of 5, or with the
--- codes of the cause.
-abbrev pub AnswersIcrq : ℕ → ℕ → ℕ → Option Call → Result ℕ Reason → Move → Type 0
-AnswersIcrq id session remote None (Ok drawn) m = IsReply id remote drawn m
-AnswersIcrq id session remote None (Err r) m = IsRefusal id remote r.result r.error m
-AnswersIcrq id session remote (Some c) (Ok drawn) m = IsEnd id session c 2 (Some 5) m
-AnswersIcrq id session remote (Some c) (Err r) m = IsEnd id session c r.result r.error m
+-- An ICRQ, by the call that its header names, and by whether it is granted. One that names no call is replied to, or refused with the codes
+-- of the first cause that stands against it. One that names a call ends it, by an error of 5, or with the codes of that cause.
+pub data AnswersIcrq (e : End) (id : ℕ) (t : Tunnel) (session remote : ℕ) (m : Move) : Type 0 where
+  WithReply : (drawn : ℕ) → at t.calls session ≡ None → GrantsCall e t remote drawn → IsReply id remote drawn m → AnswersIcrq e id t session remote m
+  WithRefusal : (result : ℕ) (error : Option ℕ) → at t.calls session ≡ None → DeniesCall e t remote result error → IsRefusal id remote result error m
+      → AnswersIcrq e id t session remote m
+  WithEnd : (c : Call) (drawn : ℕ) → at t.calls session ≡ Some c → GrantsCall e t remote drawn → IsEnd id session c 2 (Some 5) m
+      → AnswersIcrq e id t session remote m
+  WithDeniedEnd : (c : Call) (result : ℕ) (error : Option ℕ) → at t.calls session ≡ Some c → DeniesCall e t remote result error
+      → IsEnd id session c result error m → AnswersIcrq e id t session remote m
 
 -- a faulty ICRQ, by the call that its header names: it ends the call, or there is none
 abbrev pub AnswersFaulty : ℕ → ℕ → CallFault → Option Call → Move → Type 0
@@ -128,8 +129,7 @@ AnswersFaulty id session f (Some c) m = IsEnd id session c 2 (Some (fault_error 
 
 -- no end places calls, so an OCRQ is refused with a result of 5; one that can't be answered by a CDN closes the tunnel
 abbrev pub IsAnswer : End → ℕ → Tunnel → ℕ → (body : List ℕ) → IsRequest body → Move → Type 0
-IsAnswer e id t session body (Incoming remote serial calling said) m =
-    AnswersIcrq id session remote (at t.calls session) (granted e.role t.calls remote e.session_ids) m
+IsAnswer e id t session body (Incoming remote serial calling said) m = AnswersIcrq e id t session remote m
 IsAnswer e id t session body (Outgoing remote said) m = IsRefusal id remote 5 None m
 IsAnswer e id t session body (FaultyIncoming f has is) m = AnswersFaulty id session f (at t.calls session) m
 IsAnswer e id t session body (FaultyOutgoing f has is) m = IsRefusal id (unwrap_or f.session 0) 2 (Some (fault_error f.cause)) m
@@ -154,22 +154,14 @@ GrantedAreRepliedTo e moment ev s = (r : TakesRequest e moment ev) (remote seria
     → message_in (body_of r.comes.header r.comes.bytes) ≡ Ok (Icrq remote serial calling) → at r.tunnel.calls r.comes.header.session ≡ None
     → MayBeGranted e r.tunnel remote → IsRepliedTo e r.id remote s
 
--- why an ICRQ that names no call makes none, and the codes that say so (RFC 2661 section 4.4.2): this end takes no calls; the peer's id is
--- none, or that of a live call; the tunnel has as many calls as it may; no session id is left
-pub data IsDenied (e : End) (t : Tunnel) (remote result : ℕ) (error : Option ℕ) : Type 0 where
-  NoCalls : TakesNoCalls e → result ≡ 2 → error ≡ Some 5 → IsDenied e t remote result error
-  InUse : IsIdInUse t remote → result ≡ 2 → error ≡ Some 5 → IsDenied e t remote result error
-  TooMany : has_all_calls t.calls ≡ true → result ≡ 4 → error ≡ None → IsDenied e t remote result error
-  NoIds : (x : IdError) → draws e.session_ids ≡ Err x → result ≡ 4 → error ≡ None → IsDenied e t remote result error
-
 pub record IsRefusedTo (e : End) (t : Tunnel) (id remote : ℕ) (s : Stepped) : Type 0 where
   pub refused : Refused
   pub only : answers_of s.moves ≡ move.Refused refused ∷ []
   pub tunnel : refused.tunnel ≡ id
   pub remote_is : refused.remote ≡ remote
-  pub denied : IsDenied e t remote refused.result refused.error
+  pub denied : DeniesCall e t remote refused.result refused.error
 
--- so it is replied to where none of these stands, and else refused by one that does
+-- one that names no call is replied to where no cause stands, and else refused by the first that does
 abbrev pub NewAreJudged : End → ℕ → Event → Stepped → Type 0
 NewAreJudged e moment ev s = (r : TakesRequest e moment ev) (remote serial : ℕ) (calling : Option (List ℕ))
     → message_in (body_of r.comes.header r.comes.bytes) ≡ Ok (Icrq remote serial calling) → at r.tunnel.calls r.comes.header.session ≡ None

@@ -28,7 +28,7 @@ use Rattle.l2tp_header.specs.declared.header.Header.{Header}
 use Rattle.l2tp_header.specs.Reading.{header_of}
 use Rattle.protocol_model.specs.End.{End, step}
 use Rattle.step_laws.specs.Letters.{Among}
-use Rattle.step_laws.specs.Moves.{has_all_tunnels, has_all_calls, may_take, IsUnknown, TookTooLong, InTunnel, IsFaulty, IsFaultyInTunnel}
+use Rattle.step_laws.specs.Moves.{has_all_tunnels, has_all_calls, may_take, IsIdInUse, IsUnknown, TookTooLong, InTunnel, IsFaulty, IsFaultyInTunnel}
 use Rattle.step_laws.specs.Steps.{AreKept}
 use Rattle.step_laws.specs.Room.{RingsOver, RingsNew}
 
@@ -78,10 +78,6 @@ pub record Asks (e : End) (ev : Event) (t : Tunnel) (remote : ℕ) : Type 0 wher
 -- this end replies to no request: it asks for calls itself
 abbrev pub TakesNoCalls : End → Type 0
 TakesNoCalls e = e.role ≡ Lac
-
--- the peer's id is no id, or that of a live call of the tunnel
-abbrev pub IsIdInUse : Tunnel → ℕ → Type 0
-IsIdInUse t remote = (remote ≡ 0) ⊎ ((s : ℕ) × (c : Call) × (at t.calls s ≡ Some c) × (c.remote ≡ remote))
 
 -- none of the causes stands for which a request can't be granted
 pub record MayBeGranted (e : End) (t : Tunnel) (remote : ℕ) : Type 0 where

@@ -1,28 +1,22 @@
 -- The codes of a CDN that ends a call, or refuses one, and of a StopCCN that closes a tunnel, have 16 bits.
-use Rattle.std.proofs.Common.{◌≡◌, ⊎_elim, ℕ, ◌<◌, Bool, true, false, cond, List, refl, Option, Some, None, Result, Ok, Err, arith}
-use Rattle.std.specs.Prelude.{IfSome, ◌==◌, ◌||◌, not, is_some}
-use Rattle.id_source.specs.declared.IdError.{IdError}
-use Rattle.id_source.specs.Spaces.{Space, draws}
+use Rattle.std.proofs.Common.{◌≡◌, ⊎_elim, ℕ, ◌<◌, List, Option, Some, None, Result, arith}
+use Rattle.std.specs.Prelude.{IfSome}
 use Rattle.wire_base.specs.declared.cause.Cause.{Cause}
 use Rattle.wire_base.specs.declared.cause.Cause.TheVariants as cause
 use Rattle.wire_base.specs.declared.why.Why.{Why}
 use Rattle.control_message.specs.declared.message.Message.{Message}
 use Rattle.call_fsm.specs.declared.table.CallEvent.{CallEvent}
-use Rattle.call_fsm.specs.declared.table.CallEvent.TheVariants as call_event
-use Rattle.call_fsm.specs.declared.table.CallState.TheVariants as call
 use Rattle.protocol_model.specs.declared.event.Event.{Event}
 use Rattle.protocol_model.specs.declared.moves.Refused.{Refused}
 use Rattle.protocol_model.specs.declared.tunnel.Call.{Call}
-use Rattle.protocol_model.specs.declared.tunnel.Role.{Role}
 use Rattle.protocol_model.specs.Reading.{CallFault}
-use Rattle.protocol_model.specs.Calls.{call_row, is_reply, are_too_many}
-use Rattle.protocol_model.specs.Turn.{Tunnel, Reason, reason, out_of_state, left_of, granted, call_of, fault_error}
+use Rattle.protocol_model.specs.Turn.{Tunnel, fault_error}
 use Rattle.protocol_model.specs.End.{End}
 use Rattle.control_message.specs.declared.message.Opening.{Opening}
 use Rattle.tunnel_fsm.specs.declared.table.TunnelEvent.{TunnelEvent}
 use Rattle.protocol_model.specs.declared.moves.Closed.{Closed}
 use Rattle.protocol_model.specs.declared.moves.Declined.{Declined}
-use Rattle.step_laws.specs.Moves.{StandsAgainst, OtherVersion, Recovers, NoTunnel, Challenges, NoId, ClosesIn, HasOtherVersion, HasRecovery, HasChallenge, IsUnawaited, WhyDeclined, AnOpening, AFaultyOpening, AnAnswer, WhyCloses, ByOperator, BySccrq, BySccrp, ByScccn, ByFault, WhyEnds, IsLate, IsDropped, IsHungUp, IsAsked, IsReplied, IsConnected, HasFault, WhyRefused, IsNotGranted, IsOutgoing, IsReplyToNone, IsWrong}
+use Rattle.step_laws.specs.Moves.{DeniesCall, AsksItself, HasUsedId, HasAllCalls, HasNoSession, StandsAgainst, OtherVersion, Recovers, NoTunnel, Challenges, NoId, ClosesIn, HasOtherVersion, HasRecovery, HasChallenge, IsUnawaited, WhyDeclined, AnOpening, AFaultyOpening, AnAnswer, WhyCloses, ByOperator, BySccrq, BySccrp, ByScccn, ByFault, WhyEnds, IsLate, IsDropped, IsHungUp, IsAsked, IsReplied, IsConnected, HasFault, WhyRefused, IsNotGranted, IsOutgoing, IsReplyToNone, IsWrong}
 
 -- 16 bits each
 abbrev pub CodesFit : ℕ → Option ℕ → Type 0
@@ -62,26 +56,11 @@ fits : (result : ℕ) (error : Option ℕ) (x : ℕ) (y : Option ℕ) → CodesF
 fits result error x y h a b = rw (a, b) h
 
 -- the codes of each reason for which a request isn't granted
-reason_fits : (role : Role) (calls : List (ℕ × Call)) (remote : ℕ) (sessions : Space) (r : Reason) → granted role calls remote sessions ≡ Err r
-    → CodesFit r.result r.error
-unfolding granted
-reason_fits role calls remote sessions r h =
-    by (not (is_reply (call_row role call.Idle call_event.IcrqAcc).1)) (remote == 0 || is_some (call_of calls remote)) (are_too_many calls) (draws sessions) h
-  where
-    given : (x : Reason) → CodesFit x.result x.error → (the : Result ℕ Reason) → the ≡ Err x → the ≡ Err r → CodesFit r.result r.error
-    given x small the is same = let e : x ≡ r = cc in rw (← e) small
-
-    last : (d : Result ℕ IdError) → left_of d ≡ Err r → CodesFit r.result r.error
-    last (Ok s) e = absurd cc
-    last (Err x) e = given (reason cause.Ids 4 None) (omega arith, tt) _ refl e
-
-    by : (a b c : Bool) (d : Result ℕ IdError)
-        → cond a (Err out_of_state) (cond b (Err (reason cause.Session 2 (Some 5))) (cond c (Err (reason cause.Calls 4 None)) (left_of d))) ≡ Err r
-        → CodesFit r.result r.error
-    by true b c d e = given out_of_state (omega arith, omega arith) _ refl e
-    by false true c d e = given (reason cause.Session 2 (Some 5)) (omega arith, omega arith) _ refl e
-    by false false true d e = given (reason cause.Calls 4 None) (omega arith, tt) _ refl e
-    by false false false d e = last d e
+denied_fits : (e : End) (t : Tunnel) (remote result : ℕ) (error : Option ℕ) → DeniesCall e t remote result error → CodesFit result error
+denied_fits e t remote result error (AsksItself lac r x) = fits result error 2 (Some 5) (omega arith, omega arith) r x
+denied_fits e t remote result error (HasUsedId lns used r x) = fits result error 2 (Some 5) (omega arith, omega arith) r x
+denied_fits e t remote result error (HasAllCalls lns free many r x) = fits result error 4 None (omega arith, tt) r x
+denied_fits e t remote result error (HasNoSession lns free few y none r x) = fits result error 4 None (omega arith, tt) r x
 
 pub codes_fit : (e : End) (t : Tunnel) (ev : Event) (moment session : ℕ) (c : Call) (on : CallEvent) (result : ℕ) (error : Option ℕ)
     → WhyEnds e t ev moment session c on result error → CodesFit result error
@@ -90,8 +69,8 @@ codes_fit e t ev moment session c on result error (IsDropped is at_ r x) = fits 
 codes_fit e t ev moment session c on result error (IsHungUp is at_ r x) = fits result error 1 None (omega arith, tt) r x
 codes_fit e t ev moment session c on result error (IsAsked remote serial calling came either) =
     ⊎_elim
-    (λ k. fits result error 2 (Some 5) (omega arith, omega arith) k.1 k.2)
-    (λ k. fits result error k.1.0.result k.1.0.error (reason_fits e.role t.calls remote e.session_ids k.1.0 k.1.1) k.1.2 k.1.3)
+    (λ k. fits result error 2 (Some 5) (omega arith, omega arith) k.2 k.3)
+    (λ k. denied_fits e t remote result error k.1)
     either
 codes_fit e t ev moment session c on result error (IsReplied remote came at_ r x) = fits result error 2 (Some 5) (omega arith, omega arith) r x
 codes_fit e t ev moment session c on result error (IsConnected speed framing sequenced came at_ r x) =
@@ -101,8 +80,7 @@ codes_fit e t ev moment session c on result error (HasFault header f came at_ r 
 
 pub refusal_codes_fit : (e : End) (t : Tunnel) (header : ℕ) (said : Result Message Why) (fault : Option CallFault) (m : Refused)
     → WhyRefused e t header said fault m → CodesFit m.result m.error
-refusal_codes_fit e t header said fault m (IsNotGranted remote serial calling r is none not_granted same result error) =
-    fits m.result m.error r.result r.error (reason_fits e.role t.calls remote e.session_ids r not_granted) result error
+refusal_codes_fit e t header said fault m (IsNotGranted remote serial calling is none same denied) = denied_fits e t remote m.result m.error denied
 refusal_codes_fit e t header said fault m (IsOutgoing remote is same result error) = fits m.result m.error 5 None (omega arith, tt) result error
 refusal_codes_fit e t header said fault m (IsReplyToNone remote is none lns same result error) =
     fits m.result m.error 2 (Some 5) (omega arith, omega arith) result error

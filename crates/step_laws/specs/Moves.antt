@@ -62,7 +62,7 @@ use Rattle.protocol_model.specs.declared.event.Addressee.TheVariants.{Stops, Ans
 use Rattle.protocol_model.specs.declared.event.Addressee.TheVariants as addressee
 use Rattle.protocol_model.specs.Reading.{body_of, message_in, CallFault, call_fault_in, TunnelFault, tunnel_fault_in, at_zero}
 use Rattle.protocol_model.specs.Calls.{call_row, advanced, rung, asked_for, is_request, is_reply, is_connection, is_told, is_up, owed_by, frame_of, side_of}
-use Rattle.protocol_model.specs.Turn.{Tunnel, place, next_place, taken_place, letter_of, counts_given, counts_taken, counts_acked, counts_sent, counts_repeated, in_state, opening_of, request_of, connection, is_clean_up, session_named, Reason, granted, fault_error, is_acceptable, event_by, is_closed}
+use Rattle.protocol_model.specs.Turn.{Tunnel, place, next_place, taken_place, letter_of, counts_given, counts_taken, counts_acked, counts_sent, counts_repeated, in_state, opening_of, request_of, connection, is_clean_up, session_named, fault_error, is_acceptable, event_by, is_closed}
 use Rattle.protocol_model.specs.End.{End, new_place, with_look, with_looks}
 
 -- ---- what came
@@ -291,6 +291,29 @@ pub record Requests (e : End) (moment : ℕ) (m : Requested) (x : End) : Type 0 
     calls = put tunnel.calls m.session (advanced e.role call_event.TunnelOpen moment call);
   }))) { calls = with_look (cell.Bind m.session m.tunnel tunnel.control.peer) e.calls }
 
+-- ---- requests for a call
+
+-- the id that a request tells is none, or that of a live call of the tunnel
+abbrev pub IsIdInUse : Tunnel → ℕ → Type 0
+IsIdInUse t remote = (remote ≡ 0) ⊎ ((s : ℕ) × (c : Call) × (at t.calls s ≡ Some c) × (c.remote ≡ remote))
+
+-- a request in the tunnel is granted this session: the end is an LNS, the id that is told is neither 0 nor that of a live call of the
+-- tunnel, which has fewer than 4,096 calls, and the session is the next one that is drawn
+pub record GrantsCall (e : End) (t : Tunnel) (remote session : ℕ) : Type 0 where
+  pub lns : e.role ≡ Lns
+  pub free : IsIdInUse t remote → ⊥
+  pub few : length t.calls < 4096
+  pub drawn : draws e.session_ids ≡ Ok session
+
+-- what stands against it, the first that counts, and the codes of the CDN that says so (RFC 2661 section 4.4.2): the end is a LAC, which
+-- asks for calls itself; the id that is told is 0, or that of a live call of the tunnel; the tunnel has 4,096 calls; no session id is left
+pub data DeniesCall (e : End) (t : Tunnel) (remote result : ℕ) (error : Option ℕ) : Type 0 where
+  AsksItself : e.role ≡ Lac → result ≡ 2 → error ≡ Some 5 → DeniesCall e t remote result error
+  HasUsedId : e.role ≡ Lns → IsIdInUse t remote → result ≡ 2 → error ≡ Some 5 → DeniesCall e t remote result error
+  HasAllCalls : e.role ≡ Lns → (IsIdInUse t remote → ⊥) → 4096 ≤ length t.calls → result ≡ 4 → error ≡ None → DeniesCall e t remote result error
+  HasNoSession : e.role ≡ Lns → (IsIdInUse t remote → ⊥) → length t.calls < 4096 → (x : IdError) → draws e.session_ids ≡ Err x
+      → result ≡ 4 → error ≡ None → DeniesCall e t remote result error
+
 pub record Replies (e : End) (moment : ℕ) (ev : Event) (m : Replied) (x : End) : Type 0 where
   pub tunnel : Tunnel
   pub there : at e.tunnels m.tunnel ≡ Some tunnel
@@ -301,7 +324,7 @@ pub record Replies (e : End) (moment : ℕ) (ev : Event) (m : Replied) (x : End)
   pub hears : (session : ℕ) × HearsNext ev tunnel.control session (Icrq m.remote serial calling)
   -- it names no call, and none of the causes stands for which there can be no call
   pub none : at tunnel.calls hears.0 ≡ None
-  pub granted_is : granted e.role tunnel.calls m.remote e.session_ids ≡ Ok m.session
+  pub granted : GrantsCall e tunnel m.remote m.session
   pub row : is_reply (call_row e.role call.Idle call_event.IcrqAcc).1 ≡ true
   pub few : has_all_calls tunnel.calls ≡ false
   pub drawn : draws e.session_ids ≡ Ok m.session
@@ -371,8 +394,8 @@ pub data WhyEnds (e : End) (t : Tunnel) (ev : Event) (moment session : ℕ) (c :
   IsHungUp : ev ≡ Hang session → on ≡ call_event.LineDrop → result ≡ 1 → error ≡ None → WhyEnds e t ev moment session c on result error
   -- it was asked for once more, or by an end that asks for calls itself
   IsAsked : (remote serial : ℕ) (calling : Option (List ℕ)) → InTunnel ev t.control session (Icrq remote serial calling)
-      → ((on ≡ call_event.IcrqAcc) × (result ≡ 2) × (error ≡ Some 5)) ⊎ ((on ≡ call_event.IcrqNotAcc)
-      × ((r : Reason) × (granted e.role t.calls remote e.session_ids ≡ Err r) × (result ≡ r.result) × (error ≡ r.error)))
+      → ((on ≡ call_event.IcrqAcc) × ((s : ℕ) × GrantsCall e t remote s) × (result ≡ 2) × (error ≡ Some 5))
+      ⊎ ((on ≡ call_event.IcrqNotAcc) × DeniesCall e t remote result error)
       → WhyEnds e t ev moment session c on result error
   -- its reply, or its connection, came out of state
   IsReplied : (remote : ℕ) → InTunnel ev t.control session (Icrp remote) → on ≡ call_event.IcrpAcc → result ≡ 2 → error ≡ Some 5
@@ -401,8 +424,8 @@ pub record TellsEnd (e : End) (moment : ℕ) (ev : Event) (m : EndTold) (x : End
 -- why there is no call, and what the CDN says that tells it: the session id that the letter tells, and the codes
 pub data WhyRefused (e : End) (t : Tunnel) (header : ℕ) (said : Result Message Why) (fault : Option CallFault) (m : Refused) : Type 0 where
   -- a request that can't be granted
-  IsNotGranted : (remote serial : ℕ) (calling : Option (List ℕ)) (r : Reason) → said ≡ Ok (Icrq remote serial calling) → at t.calls header ≡ None
-      → granted e.role t.calls remote e.session_ids ≡ Err r → m.remote ≡ remote → m.result ≡ r.result → m.error ≡ r.error
+  IsNotGranted : (remote serial : ℕ) (calling : Option (List ℕ)) → said ≡ Ok (Icrq remote serial calling) → at t.calls header ≡ None
+      → m.remote ≡ remote → DeniesCall e t remote m.result m.error
       → WhyRefused e t header said fault m
   -- no end places calls
   IsOutgoing : (remote : ℕ) → said ≡ Ok (Ocrq remote) → m.remote ≡ remote → m.result ≡ 5 → m.error ≡ None → WhyRefused e t header said fault m
