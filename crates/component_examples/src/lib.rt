@@ -13,6 +13,8 @@ mod control_channel_tests;
 #[cfg(test)]
 mod disk_core_tests;
 #[cfg(test)]
+mod id_index_tests;
+#[cfg(test)]
 mod id_source_tests;
 #[cfg(test)]
 mod lcp_end_tests;
