@@ -1,5 +1,5 @@
 -- What a map that has ids without a value shows of those with one.
-use Rattle.std.specs.Prelude.{◌≡◌, ℕ, Bool, true, false, cond, List, [], ◌∷◌, Option, Some, None, is_some, IsSome, IfSome, IsTrue, ◌||◌, ◌≢◌, eqb, map, length, ◌+◌, ◌-◌, ◌^◌, ◌<◌, ◌≤◌, not}
+use Rattle.std.specs.Prelude.{◌≡◌, ℕ, Bool, true, false, cond, List, [], ◌∷◌, Option, Some, None, is_some, IsSome, IsTrue, ◌||◌, ◌≢◌, eqb, map, length, ◌+◌, ◌-◌, ◌^◌, ◌<◌, ◌≤◌, not}
 use Rattle.std.specs.Int.{from_bool}
 use Rattle.std.specs.Option.{option_flatten, option_map}
 use Rattle.std.specs.declared.cmp.Ordering.{Ordering}
@@ -8,14 +8,15 @@ use Rattle.std.specs.Ordering.{nat_cmp, is_eq}
 use Rattle.std.specs.Cmp.{nat_cmp_total}
 use Rattle.std.specs.List.{AllByRecursion, list_any, cons_option, filter}
 use Rattle.std.specs.List.Sorted.{IsStrictlySortedBy}
-use Rattle.std.specs.Map.{lookup, remove_entry, keys_of}
+use Rattle.std.specs.Map.{lookup, remove_entry, set_value, keys_of}
 use Rattle.std.specs.BTreeMap.{is_at, insert_entry}
 use Rattle.std.specs.FinMap.{nat_cmp-IsAntisymmetric}
 use Rattle.std.proofs.Common.{refl, ap, sym, subst, ◌∙◌, arith, true≢false, Fits, w64}
 use Rattle.std.proofs.lemmas.Bool.Decides.{nat_tests}
 use Rattle.std.proofs.lemmas.Option.{none-some}
+use Rattle.std.proofs.lemmas.Map.Steps.{set_value_same}
 use Rattle.id_table.specs.Ids.{at, put, without, is_at-same, ids_of}
-use Rattle.id_table.specs.Tables.{Kept, HasRoom, KeepsRoom, KeepsOtherRoom, filled, shown}
+use Rattle.id_table.specs.Tables.{Kept, HasRoom, KeepsRoom, KeepsOtherRoom, kept_with, filled, shown}
 
 -- each id is above k
 abbrev IsAbove : {Y : Type 0} → ℕ → List (ℕ × Y) → Type 0
@@ -53,6 +54,22 @@ module _ {Y : Type 0} where
   same : (k q : ℕ) (es : List (ℕ × Y)) → nat_cmp k q ≡ Equal → IsAbove q es → IsAbove k es
   same k q es equal h = subst (λ t. IsAbove t es) (sym (nat_cmp-IsAntisymmetric k q equal)) h
 
+module _ {Y : Type 0} where
+  found-above : (k : ℕ) (fs : List (ℕ × Y)) → IsAbove k fs → lookup (is_at (nat_cmp k)) fs ≡ None
+  found-above k [] h = refl
+  found-above k (f ∷ fs) h = rw h.0 (found-above k fs h.1)
+
+  set_there_by : (k : ℕ) (v w : Y) (f : ℕ × Y) (fs : List (ℕ × Y)) → IsAbove f.0 fs → (lookup (is_at (nat_cmp k)) fs ≡ Some v → set_value (is_at (nat_cmp k)) fs w ≡ insert_entry nat_cmp fs k w) → lookup (is_at (nat_cmp k)) (f ∷ fs) ≡ Some v → (r : Ordering) → nat_cmp k f.0 ≡ r → set_value (is_at (nat_cmp k)) (f ∷ fs) w ≡ insert_entry nat_cmp (f ∷ fs) k w
+  set_there_by k v w f fs above ih found Less h = absurd (none-some v (sym (found-above k fs (lower k f.0 fs h above)) ∙ (let g = rw h at found in g)))
+  set_there_by k v w f fs above ih found Equal h = rw h refl
+  set_there_by k v w f fs above ih found Greater h = let g = rw h at found in rw h (ap (λ t. f ∷ t) (ih g))
+
+  -- a value that is changed in its place is put there
+  set_there : (k : ℕ) (v w : Y) (fs : List (ℕ × Y)) → Ascends fs → lookup (is_at (nat_cmp k)) fs ≡ Some v → set_value (is_at (nat_cmp k)) fs w ≡ insert_entry nat_cmp fs k w
+  unfolding IsStrictlySortedBy
+  set_there k v w [] s found = absurd (none-some v found)
+  set_there k v w (f ∷ fs) s found = set_there_by k v w f fs s.0 (set_there k v w fs s.1) found (nat_cmp k f.0) refl
+
 module _ {X : Type 0} where
   at-above : (k : ℕ) (fs : List (ℕ × X)) → IsAbove k fs → at fs k ≡ None
   unfolding at
@@ -76,18 +93,6 @@ module _ {X : Type 0} where
   filled-above : (k : ℕ) (es : List (ℕ × Option X)) → IsAbove k es → IsAbove k (filled es)
   filled-above k [] h = tt
   filled-above k (e ∷ es) h = filled-above_by k e.0 e.1 es h.0 (filled-above k es h.1)
-
-  put-again_by : (k : ℕ) (v : X) (f : ℕ × X) (fs : List (ℕ × X)) → IsAbove f.0 fs → (at fs k ≡ Some v → put fs k v ≡ fs) → at (f ∷ fs) k ≡ Some v → (r : Ordering) → nat_cmp k f.0 ≡ r → put (f ∷ fs) k v ≡ f ∷ fs
-  unfolding at put
-  put-again_by k v f fs above ih found Less h = absurd (none-some v (sym (at-above k fs (lower k f.0 fs h above)) ∙ (let g = rw h at found in g)))
-  put-again_by k v f fs above ih found Equal h = let g = rw h at found in let e : f.1 ≡ v = cc in rw (h, ← e) refl
-  put-again_by k v f fs above ih found Greater h = let g = rw h at found in rw h (ap (λ t. f ∷ t) (ih g))
-
-  -- the value that is there is put again
-  put-again : (k : ℕ) (v : X) (fs : List (ℕ × X)) → Ascends fs → at fs k ≡ Some v → put fs k v ≡ fs
-  unfolding IsStrictlySortedBy
-  put-again k v [] s found = absurd (none-some v (sym (at-above k [] tt) ∙ found))
-  put-again k v (f ∷ fs) s found = put-again_by k v f fs s.0 (put-again k v fs s.1) found (nat_cmp k f.0) refl
 
   -- ---- how many there are
   length-put_by : (k : ℕ) (v : X) (f : ℕ × X) (fs : List (ℕ × X)) → IsAbove f.0 fs → length (put fs k v) ≡ length fs + cond (is_some (at fs k)) 0 1 → (r : Ordering) → nat_cmp k f.0 ≡ r → length (put (f ∷ fs) k v) ≡ length (f ∷ fs) + cond (is_some (at (f ∷ fs) k)) 0 1
@@ -235,15 +240,8 @@ module _ {X : Type 0} where
     pub at_shown : Ascends es → at kept.entries k ≡ option_flatten (lookup (is_at (nat_cmp k)) es)
     at_shown s = ap (λ t. at t.entries k) (sym is) ∙ filled-at k es s
 
-    pub again_shown : Ascends es → (v : X) → at kept.entries k ≡ Some v → put kept.entries k v ≡ kept.entries
-    again_shown s v found = subst (λ (t : Kept X). at t.entries k ≡ Some v → put t.entries k v ≡ t.entries) is (put-again k v (filled es) (filled-ascends es s)) found
-
     pub put_shown : Ascends es → (v : X) (fs : List (ℕ × Option X)) → fs ≡ insert_entry nat_cmp es k (Some v) → filled fs ≡ put kept.entries k v
     put_shown s v fs e = ap filled e ∙ filled-put k v es s ∙ ap (λ t. put t.entries k v) is
-
-    pub back_shown : Ascends es → (o : Option X) → o ≡ at kept.entries k → IfSome o (λ v. put kept.entries k v ≡ kept.entries)
-    back_shown s None e = tt
-    back_shown s (Some v) e = again_shown s v (sym e)
 
     pub room_shown : lookup (is_at (nat_cmp k)) es ≡ None → (fs : List (ℕ × Option X)) → fs ≡ insert_entry nat_cmp es k None → filled fs ≡ kept.entries
     room_shown none fs e = ap filled e ∙ filled-room k es none ∙ ap (λ t. t.entries) is
@@ -286,6 +284,34 @@ module _ {X : Type 0} where
 
     pub counted_vacated : Ascends es → (n m : ℕ) (b : Bool) (r : Option X) (fs : List (ℕ × Option X)) → n ≡ length (filled es) → r ≡ at kept.entries k → b ≡ is_some r → m ≡ from_bool b → fs ≡ insert_entry nat_cmp es k None → (m ≤ n) × (n - m ≡ length (filled fs))
     counted_vacated s n m b r fs count there t byte e = let sum = vacated s n m b r fs count there t byte e in (omega (arith, sum), omega (arith, sum))
+
+    -- a value that was lent, and what was left in its place
+    module _ (s : Ascends es) (y : Option X) (v w : X) (fs : List (ℕ × Option X)) (found : Some y ≡ lookup (is_at (nat_cmp k)) es) (there : Some v ≡ y) (e : fs ≡ set_value (is_at (nat_cmp k)) es (Some w)) where
+      lent_put : fs ≡ insert_entry nat_cmp es k (Some w)
+      lent_put = e ∙ set_there k y (Some w) es s (sym found)
+
+      pub lent_shown : keys_of fs ≡ keys_of es → shown fs ≡ kept_with kept k w
+      lent_shown ids =
+          let values : filled fs ≡ put (filled es) k w = ap filled lent_put ∙ filled-put k w es s in
+          subst (λ (t : Kept X). shown fs ≡ kept_with t k w) is (rw (values, ids) refl)
+
+      pub lent_counted : (n : ℕ) → n ≡ length (filled es) → n ≡ length (filled fs)
+      lent_counted n count =
+          let old : is_some (at (filled es) k) ≡ true = ap is_some (filled-at k es s ∙ ap option_flatten (sym found)) ∙ ap is_some (sym there) in
+          let more = length-put k w (filled es) (filled-ascends es s) ∙ ap (λ b. length (filled es) + cond b 0 1) old in
+          let after = ap length (ap filled lent_put ∙ filled-put k w es s) in
+          omega (arith, count, more, after)
+
+    -- what was found, left as it was
+    module _ (y : Option X) (fs : List (ℕ × Option X)) (found : Some y ≡ lookup (is_at (nat_cmp k)) es) (e : fs ≡ set_value (is_at (nat_cmp k)) es y) where
+      left : fs ≡ es
+      left = e ∙ set_value_same (is_at (nat_cmp k)) es y (sym found)
+
+      pub left_shown : shown fs ≡ kept
+      left_shown = ap shown left ∙ is
+
+      pub left_counted : (n : ℕ) → n ≡ length (filled es) → n ≡ length (filled fs)
+      left_counted n count = count ∙ ap (λ t. length (filled t)) (sym left)
 
     pub found_from_room : Ascends es → HasRoom kept k → IsSome (lookup (is_at (nat_cmp k)) es)
     unfolding HasRoom

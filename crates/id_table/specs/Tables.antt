@@ -3,7 +3,7 @@ use Rattle.std.specs.Prelude.{ℕ, List, Option, is_some, IsSome, IsTrue, ◌||�
 use Rattle.std.specs.List.{list_any}
 use Rattle.std.specs.Map.{keys_of}
 use Rattle.std.proofs.Common.{ap}
-use Rattle.id_table.specs.Ids.{at}
+use Rattle.id_table.specs.Ids.{at, put}
 use Rattle.std.specs.Coded.{Coded, code_by, coded×, coded_list, coded_ℕ}
 
 -- the entries in the order of their ids, and the ids for which there is memory, each with a value or without one
@@ -16,6 +16,10 @@ module _ {X : Type 0} where
   abbrev pub kept_code : Coded X → Coded (Kept X)
   kept_code code =
       code_by (List (ℕ × X) × List ℕ) (coded× (coded_list (coded× coded_ℕ code)) (coded_list coded_ℕ)) (λ k. (k.entries, k.room)) (λ p. record { entries = p.0; room = p.1 }) (λ _. refl)
+
+  -- with this value in place of the one with this id, and the same room
+  abbrev pub kept_with : Kept X → ℕ → X → Kept X
+  kept_with kept id v = record kept { entries = put kept.entries id v }
 
   -- a value can be put at this id, and no memory is taken: there is one, or there is room for one
   unfoldable pub HasRoom : Kept X → ℕ → Type 0

@@ -1,6 +1,6 @@
 use Rattle.std.proofs.Common.{Some}
-use Rattle.id_table.proofs.Filled.{room_kept, value_shown, back_shown, counted_more, fits}
-use Rattle.id_table.proofs.Table.set.Goals as goal
+use Rattle.id_table.proofs.Filled.{room_kept, value_shown, counted_more, fits}
+use Rattle.id_table.proofs.Table.fill.Goals as goal
 
 pub returns-clause-room : goal.returns-clause-room
 returns-clause-room g c =
@@ -14,8 +14,3 @@ pub invariant_of-self : goal.invariant_of-self
 invariant_of-self g c =
     let there = value_shown c.args.self.now c.self.inside.kept.entries c.args.id c.self.view_is c.self.invariant.0 _ _ c.in-Ok.ensures.old c.flatten-before.ensures in
     (c.insert.ensures.ordered, counted_more c.args.self.now c.self.inside.kept.entries c.args.id c.self.view_is c.self.invariant.0 _ _ _ _ c.args.value _ c.self.invariant.1 there c.is_none.ensures c.from.ensures c.in-Ok.ensures.entries)
-
-pub returns-clause-back : goal.returns-clause-back
-returns-clause-back g c =
-    let there = value_shown c.args.self.now c.self.inside.kept.entries c.args.id c.self.view_is c.self.invariant.0 _ _ c.in-Ok.ensures.old c.flatten-before.ensures in
-    back_shown c.args.self.now c.self.inside.kept.entries c.args.id c.self.view_is c.self.invariant.0 _ there
