@@ -25,7 +25,6 @@ use wire_base::{NoMemory, Sequence};
 /// Tunnels by local id, seen as their table. Beside it stand the indexes of all its tunnels.
 #[derive(Drop)]
 pub struct TunnelTable {
-    alloc: Global,
     table: Table<TunnelCore>,
     indexes: Indexes,
 }
@@ -88,7 +87,6 @@ impl TunnelTable {
         ensures { result.entries ≡ [] }
     {
         TunnelTable {
-            alloc,
             table: Table::new(alloc),
             indexes: Indexes::new(alloc),
         }
@@ -139,12 +137,10 @@ impl TunnelTable {
         ensures place { IfOk result (λ p. HasPlace self.new (id, p)) }
         ensures given { OnOk result (IsGiven role config.now event.now env.old (at (tunnels_of self.old.entries) id) env.new) }
     {
-        let mut core = self
-            .table
-            .swap(id, TunnelCore::idle(self.alloc, 0, env.moment));
-        let planned = plan_for(&mut core, &mut self.indexes, role, config, env, id, event);
-        self.table.replace(id, core);
-        planned
+        let Some(core) = self.table.get_mut(id) else {
+            unreachable!()
+        };
+        plan_for(core, &mut self.indexes, role, config, env, id, event)
     }
 
     /// Makes what was planned for the tunnel with this id. It takes no memory.
@@ -160,9 +156,10 @@ impl TunnelTable {
             return;
         }
         self.indexes.list(id, before, planned.control());
-        let mut core = self.table.swap(id, TunnelCore::idle(self.alloc, 0, 0));
+        let Some(core) = self.table.get_mut(id) else {
+            unreachable!()
+        };
         core.apply(planned);
-        self.table.replace(id, core);
     }
 
     /// Makes room for a tunnel that is new, for which this is planned. Where memory is wanting, the tunnels are as before.

@@ -1,4 +1,4 @@
-use Rattle.std.proofs.Common.{sym, ap, subst, ◌∙◌}
+use Rattle.std.proofs.Common.{refl, sym, ap, subst, ◌∙◌}
 use Rattle.id_table.specs.Ids.{at, without}
 use Rattle.id_table.specs.Order.{at_without_other}
 use Rattle.id_table.specs.Tables.{Kept}
@@ -7,7 +7,7 @@ use Rattle.tunnel_core.specs.Cores.{Core, tunnel_of}
 use Rattle.tunnel_table.specs.Labels.{AreKept}
 use Rattle.tunnel_table.specs.Plans.{after_plan}
 use Rattle.tunnel_table.specs.Tunnels.{tunnels_of, without_tunnels}
-use Rattle.tunnel_table.proofs.Made.{put_out, others_back, kept_made, cleared_made}
+use Rattle.tunnel_table.proofs.Made.{put_changed, others_same, kept_made, cleared_made}
 use Rattle.tunnel_table.proofs.table.TunnelTable.make.Goals as goal
 
 pub invariant_of-self : goal.invariant_of-self
@@ -29,17 +29,17 @@ returns-then-clears-clause-others c q apart =
 pub invariant_of-self-2 : goal.invariant_of-self-2
 invariant_of-self-2 c =
     let es = c.self.inside.table.entries in
-    subst (λ ts. AreKept c.list.new.self.remotes c.list.new.self.states ts) (sym (put_out es _ _ c.args.id _ _ c.swap-core.ensures.after c.replace.ensures.entries))
+    subst (λ ts. AreKept c.list.new.self.remotes c.list.new.self.states ts) (sym (put_changed es _ c.args.id c.apply.new.self refl))
     (c.list.ensures (tunnels_of es) (tunnel_of c.apply.new.self) c.self.invariant (sym c.control_at-before.ensures)
     (ap (λ (t : Tunnel). t.control) c.apply.ensures ∙ sym c.control.ensures))
 
 pub returns-clause-made : goal.returns-clause-made
 returns-clause-made c =
-    kept_made c.self.inside.table.entries _ _ c.args.id _ _ c.swap-core.ensures.after c.replace.ensures.entries c.args.planned c.swap-core.result
-    c.swap-core.ensures.before (sym c.clears.ensures ∙ c.if-clears.false) c.apply.ensures
+    kept_made c.self.inside.table.entries _ c.args.id c.apply.new.self refl c.args.planned c.in-Some.core.now
+    (sym c.in-Some.ensures.value) (sym c.clears.ensures ∙ c.if-clears.false) c.apply.ensures
     ∙ ap (λ (k : Kept Core). after_plan (tunnels_of k.entries) (c.args.id, c.args.planned) (at (tunnels_of k.entries) c.args.id)) c.self.view_is
 
 pub returns-clause-others : goal.returns-clause-others
 returns-clause-others c q apart =
-    others_back c.self.inside.table.entries _ _ c.args.id _ _ c.swap-core.ensures.after c.replace.ensures.entries q apart
+    others_same c.self.inside.table.entries _ c.args.id c.apply.new.self refl q apart
     ∙ ap (λ (k : Kept Core). at k.entries q) c.self.view_is
