@@ -60,11 +60,6 @@ impl Node {
         }
     }
 
-    /// What stands at a node's place while it takes a step.
-    pub(crate) fn vacant(alloc: Global) -> Node {
-        Node::new(alloc, Role::Lns, config_of(0, 0))
-    }
-
     pub(crate) fn is_lac(&self) -> bool
         ensures { result ≡ is_lac self.now.end.role }
     {

@@ -147,19 +147,15 @@ impl State {
     }
 
     /// A node's call is of this birth.
-    #[tactic(auto, using(id_table::specs::Ids::put_put_is), unfolding(protocol_model::specs::World::with_birth))]
+    #[tactic(auto, unfolding(protocol_model::specs::World::with_birth))]
     fn set_birth(&mut self, node: u8, session: u16, birth: u64) -> Result<(), NoMemory>
         ensures world { OnOk result (self.new.world ≡ with_birth self.old.world node session birth) }
         ensures report { self.new.report ≡ self.old.report }
     {
-        let number = u32::from(node);
-        if !self.nodes.contains(number) {
+        let Some(node) = self.nodes.get_mut(u32::from(node)) else {
             return Ok(());
-        }
-        let mut node = self.nodes.swap(number, Node::vacant(self.alloc));
-        node.bear(session, birth)?;
-        self.nodes.replace(number, node);
-        Ok(())
+        };
+        node.bear(session, birth)
     }
 
     /// A call is born at a node.
@@ -200,15 +196,15 @@ impl State {
     }
 
     /// A node's step on an event, in a line, at the moment of its clock.
-    #[tactic(auto, using(id_table::specs::Ids::put_put_is), unfolding(protocol_model::specs::World::stepped, protocol_model::specs::World::after_step, protocol_model::specs::World::given))]
+    #[tactic(auto, unfolding(protocol_model::specs::World::stepped, protocol_model::specs::World::after_step, protocol_model::specs::World::given))]
     fn step(&mut self, line: u64, node: u8, event: &Event) -> Result<(), NoMemory>
         requires { IsSome (at self.old.world.nodes node) }
         ensures { OnOk result (Leads (stepped self.old.world line node event.now None (declared (at self.old.world.nodes node))) self.old self.new) }
     {
-        let number = u32::from(node);
-        let mut at = self.nodes.swap(number, Node::vacant(self.alloc));
+        let Some(at) = self.nodes.get_mut(u32::from(node)) else {
+            unreachable!()
+        };
         let given = at.end.step(at.clock, block_of(node, line), event)?;
-        self.nodes.replace(number, at);
         self.follow_all(node, given.moves.as_slice())?;
         self.show_all(line, node, given.outputs)
     }
@@ -317,13 +313,10 @@ impl State {
     fn tick(&mut self, line: u64, node: u8, milliseconds: u32) -> Result<(), LineFault>
         ensures { Says result (stepped self.old.world line node Event.Tick None (later milliseconds (declared (at self.old.world.nodes node)))) self.old self.new }
     {
-        let number = u32::from(node);
-        if !self.nodes.contains(number) {
+        let Some(at) = self.nodes.get_mut(u32::from(node)) else {
             return Err(LineFault::unfit(Why::Node));
-        }
-        let mut at = self.nodes.swap(number, Node::vacant(self.alloc));
+        };
         at.pass(milliseconds);
-        self.nodes.replace(number, at);
         self.step(line, node, &Event::Tick)?;
         Ok(())
     }

@@ -1,5 +1,5 @@
 use Rattle.std.proofs.Common.{◌≡◌, ℕ, List, refl, ap, sym, subst, ◌∙◌, Some, None, Ok}
-use Rattle.id_table.specs.Ids.{at, put, put-put}
+use Rattle.id_table.specs.Ids.{at, put}
 use Rattle.id_table.specs.Order.{at_new}
 use Rattle.protocol_model.specs.declared.event.Event.TheVariants.{Tick}
 use Rattle.protocol_model.specs.World.{World, Node, later, declared, stepped}
@@ -10,15 +10,13 @@ use Rattle.schedule_replay.proofs.state.State.tick.Goals as goal
 pub returns : goal.returns
 returns c =
     let w : World = record { nodes = c.self.inside.nodes.entries; packets = c.self.inside.packets; born = c.self.inside.born } in
-    let v : World = record { nodes = c.replace.new.self.entries; packets = c.self.inside.packets; born = c.self.inside.born } in
     let told : Told = record { world = w; report = c.self.inside.report } in
     let n = c.args.node in
     let x : Node = c.pass.new.self in
-    let out : c.swap-at.new.self.entries ≡ put w.nodes n c.vacant.result = c.swap-at.ensures.after ∙ ap (λ i. put w.nodes i c.vacant.result) c.from-number.ensures in
-    let put_is : c.replace.new.self.entries ≡ put w.nodes n x =
-    c.replace.ensures.entries ∙ ap (λ i. put c.swap-at.new.self.entries i x) c.from-number.ensures ∙ ap (λ (ns : List (ℕ × Node)). put ns n x) out ∙ put-put w.nodes n c.vacant.result x in
+    let v : World = record w { nodes = put w.nodes c.from.result x } in
+    let put_is : v.nodes ≡ put w.nodes n x = ap (λ i. put w.nodes i x) c.from.ensures in
     let here : declared (at v.nodes n) ≡ Ok x = ap (λ (ns : List (ℕ × Node)). declared (at ns n)) put_is ∙ ap declared (at_new w.nodes n x) in
-    let before : at w.nodes n ≡ Some c.swap-at.result = ap (λ i. at w.nodes i) (sym c.from-number.ensures) ∙ c.swap-at.ensures.before in
+    let before : at w.nodes n ≡ Some c.in-Some.at.now = ap (λ i. at w.nodes i) (sym c.from.ensures) ∙ sym c.in-Some.ensures.value in
     let there : later c.args.milliseconds (declared (at w.nodes n)) ≡ Ok x = ap (λ o. later c.args.milliseconds (declared o)) before ∙ sym c.pass.ensures in
     let again : v ≡ record w { nodes = put w.nodes n x } = ap (λ (ns : List (ℕ × Node)). record w { nodes = ns }) put_is in
     let same : stepped v c.args.line n Tick None (declared (at v.nodes n)) ≡ stepped w c.args.line n Tick None (later c.args.milliseconds (declared (at w.nodes n))) =
