@@ -2,14 +2,11 @@
 //! a few calls show that this is what was meant, and each public call is run once where memory is ample. Ports and disks
 //! fail at each of their calls in turn.
 //!
-//! The answers were worked out by hand: of control channels from RFC 2661 section 5.8 and its appendix A, of an LCP end from
-//! RFC 1661, whose table in section 4.1 is a row for each event, and of journals and books from the format of a checkpoint.
+//! The answers of journals and books were worked out by hand from the format of a checkpoint.
 #![tactic(auto)]
 
 #[cfg(test)]
 mod checkpoint_journal_tests;
-#[cfg(test)]
-mod control_channel_tests;
 #[cfg(test)]
 mod disk_core_tests;
 #[cfg(test)]
@@ -17,14 +14,10 @@ mod id_index_tests;
 #[cfg(test)]
 mod id_source_tests;
 #[cfg(test)]
-mod lcp_end_tests;
-#[cfg(test)]
 mod port_traits_tests;
 #[cfg(test)]
 mod pppoe_session_tests;
 #[cfg(test)]
 mod recv_window_tests;
-#[cfg(test)]
-mod send_window_tests;
 #[cfg(test)]
 mod session_book_tests;
