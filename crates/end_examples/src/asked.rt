@@ -1,7 +1,6 @@
 //! What an end tells when it is asked: whether an event fits it, what is seen of a session, and its tables.
 
-use crate::bench::{Bench, push_number};
-use crate::event::{Fault, id_of};
+use bench_examples::{Bench, Fault, id_of, push_number};
 use end_core::{CallRow, Mode, TunnelRow};
 use protocol_model::{Look, node_of};
 use std::alloc::Global;

@@ -6,15 +6,10 @@
 #![tactic(auto)]
 
 mod asked;
-mod bench;
-mod event;
-#[cfg(test)]
-mod limits;
 mod tables;
 
 use asked::{fits_row, look_row, tables_row};
-use bench::Bench;
-use event::Fault;
+use bench_examples::{Bench, Fault};
 use std::alloc::Global;
 use std::io;
 use std::io::{ErrorKind, Print};

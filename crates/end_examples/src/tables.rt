@@ -1,6 +1,6 @@
 //! The tables of tunnels and calls (RFC 2661 section 7), each pair of a state and an event.
 
-use crate::event::Fault;
+use bench_examples::Fault;
 use call_fsm::{CallAction, CallEvent, CallState, lac_advance, lns_advance};
 use std::alloc::Global;
 use std::fmt::Debug;

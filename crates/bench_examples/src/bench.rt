@@ -34,7 +34,7 @@ impl Side {
     }
 }
 
-pub(crate) fn push_number(alloc: Global, text: &mut Bytes, number: u32) -> Result<(), NoMemory> {
+pub fn push_number(alloc: Global, text: &mut Bytes, number: u32) -> Result<(), NoMemory> {
     let digits = number.to_string(alloc)?;
     text.push_slice(digits.as_bytes())
 }
@@ -68,7 +68,7 @@ fn push_output(alloc: Global, text: &mut Bytes, output: &Out) -> Result<(), NoMe
 
 /// An end, where its messages come from, and the moment.
 #[derive(Drop)]
-pub(crate) struct Bench {
+pub struct Bench {
     end: Side,
     peer: u32,
     moment: u64,
@@ -76,7 +76,7 @@ pub(crate) struct Bench {
 
 impl Bench {
     /// The LNS 7, to which the LAC 9 speaks.
-    pub(crate) fn lns(alloc: Global) -> Bench {
+    pub fn lns(alloc: Global) -> Bench {
         Bench {
             end: Side::Lns(Lns::new(alloc, config(7, 0))),
             peer: address_of(9),
@@ -85,7 +85,7 @@ impl Bench {
     }
 
     /// The LAC 9, to which the LNS 7 speaks.
-    pub(crate) fn lac(alloc: Global) -> Bench {
+    pub fn lac(alloc: Global) -> Bench {
         Bench {
             end: Side::Lac(Lac::new(alloc, config(9, address_of(7)))),
             peer: address_of(7),
@@ -94,7 +94,7 @@ impl Bench {
     }
 
     /// Why the event of these words doesn't fit the end.
-    pub(crate) fn fits(&self, alloc: Global, words: &str) -> Result<Option<Why>, Fault> {
+    pub fn fits(&self, alloc: Global, words: &str) -> Result<Option<Why>, Fault> {
         let event = event_of(alloc, self.peer, words)?;
         Ok(match &self.end {
             Side::Lac(lac) => lac.fits(&event),
@@ -103,7 +103,7 @@ impl Bench {
     }
 
     /// What the data plane sees of a session.
-    pub(crate) fn look(&self, session: u16) -> Look {
+    pub fn look(&self, session: u16) -> Look {
         match &self.end {
             Side::Lac(lac) => lac.look(session),
             Side::Lns(lns) => lns.look(session),
@@ -111,7 +111,7 @@ impl Bench {
     }
 
     /// The end's tables.
-    pub(crate) fn rows(&self, alloc: Global) -> Result<EndRows, NoMemory> {
+    pub fn rows(&self, alloc: Global) -> Result<EndRows, NoMemory> {
         match &self.end {
             Side::Lac(lac) => lac.tunnel_rows(alloc),
             Side::Lns(lns) => lns.tunnel_rows(alloc),
@@ -119,7 +119,7 @@ impl Bench {
     }
 
     /// The lines of what the end gives for an event.
-    pub(crate) fn give(&mut self, alloc: Global, event: &Event) -> Result<Bytes, NoMemory> {
+    pub fn give(&mut self, alloc: Global, event: &Event) -> Result<Bytes, NoMemory> {
         let given = self.end.step(self.moment, event)?;
         let mut text = Bytes::new(alloc);
         for output in given.outputs.as_slice() {
@@ -141,7 +141,7 @@ impl Bench {
     }
 
     /// What the words of a row lead to: an end that is new, or the lines of what the end gives.
-    pub(crate) fn run(&mut self, alloc: Global, words: &str) -> Result<Bytes, Fault> {
+    pub fn run(&mut self, alloc: Global, words: &str) -> Result<Bytes, Fault> {
         match words {
             "new lns" => *self = Bench::lns(alloc),
             "new lac" => *self = Bench::lac(alloc),

@@ -1,6 +1,6 @@
 //! The ends of the spaces of ids, and the limits of a tunnel on calls and on letters.
 
-use crate::bench::Bench;
+use bench_examples::Bench;
 use l2tp_header::write_control;
 use protocol_model::{Event, address_of};
 use std::alloc::Global;

@@ -6,7 +6,7 @@ use wire_base::{Bytes, NoMemory};
 
 /// Why a row isn't answered.
 #[derive(Clone, Copy, Debug)]
-pub(crate) enum Fault {
+pub enum Fault {
     /// It isn't in the grammar of the rows.
     NotARow,
     NoMemory,
@@ -30,7 +30,7 @@ pub(crate) fn number_of(digits: &str) -> Result<u32, Fault> {
 }
 
 /// The number of a tunnel or of a session.
-pub(crate) fn id_of(digits: &str) -> Result<u16, Fault> {
+pub fn id_of(digits: &str) -> Result<u16, Fault> {
     digits.parse::<u16>().map_err(|_| Fault::NotARow)
 }
 
