@@ -10,8 +10,8 @@ pub struct Avp {
     pub mandatory: bool,
     /// H: the value is hidden by a secret (RFC 2661 section 4.3).
     pub hidden: bool,
-    /// The four reserved bits, as a number from 0 to 15. It is 0 in a pair that is written; one with another number is
-    /// unrecognised.
+    /// The four reserved bits, as a number from 0 to 15. It is 0 in a pair that is made; one with another number is
+    /// unrecognised, and is written again as it was read.
     pub reserved: u8,
     /// Vendor ID, which is 0 for the attributes of the IETF.
     pub vendor: u16,

@@ -9,4 +9,4 @@ mod writing;
 pub use avp::{Avp, Avps};
 pub use error::AvpError;
 pub use reading::{read_avps, reads_what_was_written};
-pub use writing::write_avp;
+pub use writing::{spell_avps, write_avp};

@@ -1,21 +1,23 @@
 //! Writing pairs.
 
-ghost use Rattle.std.specs.Prelude.{◌≡◌, ◌≤◌, ◌++◌, length, OnOk, OnErr};
-ghost use Rattle.avp_codec.specs.Spelling.{spelling_of};
+ghost use Rattle.std.specs.Prelude.{◌≡◌, ◌≤◌, ◌<◌, ◌++◌, length, OnOk, OnErr, IfOk};
+ghost use Rattle.avp_codec.specs.Spelling.{AreAvps, spelling, spelling_of};
 
 use crate::avp::Avp;
+use std::alloc::Global;
 use wire_base::{Bytes, NoMemory, put_u16};
 
-/// Appends the one spelling of a pair: its head and its value, with nothing behind it. Where memory is wanting, nothing
-/// is appended.
+/// Appends the one spelling of a pair: its head and its value, with nothing behind it. Its reserved bits are written as
+/// they are: those of a pair that is made are 0, and a pair that was read is written again as it was. Where memory is
+/// wanting, nothing is appended.
 pub fn write_avp(out: &mut Bytes, avp: &Avp) -> Result<(), NoMemory>
-    requires reserved { avp.now.reserved ≡ 0 }
+    requires reserved { avp.now.reserved < 16 }
     requires value { length avp.now.value ≤ 1017 }
     ensures ok { OnOk result (out.new ≡ out.old ++ spelling_of avp.now) }
     ensures err { OnErr result (out.new ≡ out.old) }
 {
     let value = avp.value.as_slice();
-    let mut word = 6 + value.len() as u16;
+    let mut word = 0x400 * u16::from(avp.reserved) + (6 + value.len() as u16);
     if avp.mandatory {
         word += 0x8000;
     }
@@ -28,4 +30,16 @@ pub fn write_avp(out: &mut Bytes, avp: &Avp) -> Result<(), NoMemory>
     put_u16(&mut piece, avp.attribute)?;
     piece.push_slice(value)?;
     out.push_slice(piece.as_slice())
+}
+
+/// The one spelling of a list of pairs, in their order (RFC 2661 section 4.1). Each has at most 1,017 bytes of value.
+pub fn spell_avps(alloc: Global, avps: &[Avp]) -> Result<Bytes, NoMemory>
+    requires { AreAvps avps.now }
+    ensures { IfOk result (λ bytes. bytes ≡ spelling avps.now) }
+{
+    let mut out = Bytes::new(alloc);
+    for avp in avps {
+        write_avp(&mut out, avp)?;
+    }
+    Ok(out)
 }

@@ -1,11 +1,9 @@
 //! Rows of PPPoE's discovery stage.
 
-ghost use Rattle.std.specs.Prelude.{◌≤◌, length, IfOk, IfSome};
-
 use crate::row::{Fault, Row};
 use crate::spelling::told;
 use pppoe_discovery::{Discovered, cookie, on_frame, write_pads, write_padt};
-use wire_base::{Bytes, Cause, NoMemory};
+use wire_base::Cause;
 
 /// The cookie of an address, what a frame leads to, or a PADT from an address of one's own to another.
 pub fn discovery_row(row: &Row<'_>) -> Result<String, Fault> {
@@ -30,23 +28,13 @@ pub fn discovery_row(row: &Row<'_>) -> Result<String, Fault> {
     }
 }
 
-/// Bytes, or `none`.
-fn some_bytes(row: &Row<'_>, place: usize) -> Result<Option<Bytes>, NoMemory>
-    ensures { IfOk result (λ value. IfSome value (λ v. length v ≤ 600)) }
-{
-    if row.word(place) == "none" {
-        return Ok(None);
-    }
-    Ok(Some(row.owned(place, 600)?))
-}
-
 /// The PADS to a PADR that was admitted.
 pub fn write_pads_row(row: &Row<'_>) -> Result<String, Fault> {
     let asked = Discovered::Admit {
         src: row.array(2),
         service: row.owned(3, 600)?,
-        uniq: some_bytes(row, 4)?,
-        relay: some_bytes(row, 5)?,
+        uniq: row.some_owned(4, 600)?,
+        relay: row.some_owned(5, 600)?,
     };
     let cause = match row.word(7) {
         "Calls" => Some(Cause::Calls),

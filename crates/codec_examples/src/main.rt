@@ -2,7 +2,7 @@
 //! tells the value or the fault. A line that begins with `#` is a remark, which is told as it is.
 //!
 //! The rows were written down from the standards (RFC 2661, 2516 and 1661) and from the grammar of schedules, byte by byte,
-//! and none is the program's own output. Digests are those of RFC 1321 appendix A.5, and one hidden value is another MD5's.
+//! and none is the program's own output. Digests are those of RFC 1321 appendix A.5, or another MD5's, as hidden values are.
 #![tactic(auto)]
 
 mod base_rows;
@@ -18,7 +18,7 @@ use discovery_rows::{discovery_row, write_pads_row};
 use link_rows::{
     link_row, list_packet_row, write_frame_row, write_lcp_row, write_option_row, write_tag_row,
 };
-use message_rows::{pairs_row, write_message_row};
+use message_rows::{pairs_row, write_hidden_row, write_message_row};
 use row::{Fault, Row};
 use spelling::plain;
 use std::alloc::Global;
@@ -35,6 +35,7 @@ fn answer(alloc: Global, line: &str) -> Result<String, Fault> {
         "read_avps" | "read_message" | "kind_of_pairs" => pairs_row(&row),
         "assigned_tunnel" | "assigned_session" => pairs_row(&row),
         "write_message" => write_message_row(&row),
+        "write_hidden" => write_hidden_row(&row),
         "read_schedule" => schedule_row(alloc, line),
         "hide" | "unhide" | "response" => secret_row(&row),
         "read_lcp" | "read_options" | "read_frame" | "read_tags" => link_row(alloc, &row),

@@ -1,6 +1,6 @@
 //! Rows of control messages.
 
-ghost use Rattle.std.specs.Prelude.{◌<◌, IfOk};
+ghost use Rattle.std.specs.Prelude.{◌≡◌, ◌<◌, IfOk};
 ghost use Rattle.control_message.specs.Pairs.{IsWritten, IsWrittenOpening};
 
 use crate::row::{Fault, Row};
@@ -17,7 +17,10 @@ pub fn pairs_row(row: &Row<'_>) -> Result<String, Fault> {
     };
     match row.word(0) {
         "read_avps" => told(row.alloc, &Ok::<_, Fault>(avps)),
-        "read_message" => told(row.alloc, &read_message(row.alloc, &avps)),
+        "read_message" => told(
+            row.alloc,
+            &read_message(row.alloc, &avps, row.some_bytes(2, 99)),
+        ),
         "kind_of_pairs" => told(row.alloc, &kind_of_pairs(&avps)),
         "assigned_tunnel" => told(row.alloc, &assigned_tunnel(&avps)),
         "assigned_session" => told(row.alloc, &assigned_session(&avps)),
@@ -25,11 +28,17 @@ pub fn pairs_row(row: &Row<'_>) -> Result<String, Fault> {
     }
 }
 
-/// An opening of version 1.0, with a failover capability.
-fn opening(row: &Row<'_>, tunnel: u16, window: u16) -> Result<Opening, NoMemory>
+/// An opening of version 1.0, with a failover capability and a response.
+fn opening(
+    row: &Row<'_>,
+    tunnel: u16,
+    window: u16,
+    response: Option<[u8; 16]>,
+) -> Result<Opening, NoMemory>
     requires tunnel { 0 < tunnel }
     requires window { 0 < window }
-    ensures { IfOk result IsWrittenOpening }
+    ensures written { IfOk result IsWrittenOpening }
+    ensures response { IfOk result (λ o. o.response ≡ response) }
 {
     Ok(Opening {
         version: 0x0100,
@@ -41,7 +50,8 @@ fn opening(row: &Row<'_>, tunnel: u16, window: u16) -> Result<Opening, NoMemory>
             flags: row.short(7),
             time: row.long(8),
         }),
-        challenge: None,
+        challenge: row.some_owned(9, 1017)?,
+        response,
         recovery: None,
     })
 }
@@ -52,9 +62,18 @@ fn message(row: &Row<'_>) -> Result<Message, Fault>
     match row.word(2) {
         "Sccrq" => match (row.short(5), row.short(6)) {
             (0, _) | (_, 0) => Err(Fault::NotARow),
-            (tunnel, window) => Ok(Message::Sccrq(opening(row, tunnel, window)?)),
+            (tunnel, window) => Ok(Message::Sccrq(opening(row, tunnel, window, None)?)),
         },
-        "Scccn" => Ok(Message::Scccn),
+        "Sccrp" => match (row.short(5), row.short(6)) {
+            (0, _) | (_, 0) => Err(Fault::NotARow),
+            (tunnel, window) => {
+                let response = row.some_array(10);
+                Ok(Message::Sccrp(opening(row, tunnel, window, response)?))
+            }
+        },
+        "Scccn" => Ok(Message::Scccn {
+            response: row.some_array(3),
+        }),
         "Hello" => Ok(Message::Hello),
         "StopCcn" => Ok(Message::StopCcn {
             tunnel: row.short(3),
@@ -84,15 +103,41 @@ fn message(row: &Row<'_>) -> Result<Message, Fault>
     }
 }
 
+/// Some bytes with a message behind them, and what the message alone says to an end with the secret.
+fn told_message(
+    row: &Row<'_>,
+    out: &Bytes,
+    alone: &Bytes,
+    secret: Option<&[u8]>,
+) -> Result<String, Fault> {
+    match read_avps(row.alloc, alone.as_slice()) {
+        Ok(avps) => told(row.alloc, &(out, read_message(row.alloc, &avps, secret))),
+        Err(_) => Err(Fault::NotARow),
+    }
+}
+
 /// Writes a message behind some bytes, and alone, and reads it back.
 pub fn write_message_row(row: &Row<'_>) -> Result<String, Fault> {
     let message = message(row)?;
     let mut out = row.owned(1, 2000)?;
     let mut alone = Bytes::new(row.alloc);
-    write_message(&mut out, &message)?;
-    write_message(&mut alone, &message)?;
-    match read_avps(row.alloc, alone.as_slice()) {
-        Ok(avps) => told(row.alloc, &(out, read_message(row.alloc, &avps))),
-        Err(_) => Err(Fault::NotARow),
-    }
+    write_message(&mut out, &message, None, None)?;
+    write_message(&mut alone, &message, None, None)?;
+    told_message(row, &out, &alone, None)
+}
+
+/// Writes an Incoming-Call-Request with its number hidden behind some bytes, and alone, and reads it back.
+pub fn write_hidden_row(row: &Row<'_>) -> Result<String, Fault> {
+    let message = Message::Icrq {
+        session: row.short(2),
+        serial: row.long(3),
+        calling: Some(row.owned(4, 990)?),
+    };
+    let secret = Some(row.bytes(5, 99));
+    let vector = row.array(6);
+    let mut out = row.owned(1, 2000)?;
+    let mut alone = Bytes::new(row.alloc);
+    write_message(&mut out, &message, secret, Some(&vector))?;
+    write_message(&mut alone, &message, secret, Some(&vector))?;
+    told_message(row, &out, &alone, secret)
 }

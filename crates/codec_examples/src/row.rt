@@ -1,8 +1,8 @@
 //! The words of a row.
 
-ghost use Rattle.std.specs.Prelude.{◌≤◌, length, IfOk};
+ghost use Rattle.std.specs.Prelude.{◌≤◌, length, IfOk, IfSome};
 
-use hex::FromHex;
+use hex::{FromHex, FromHexError};
 use std::alloc::{AllocError, Global};
 use wire_base::{Bytes, NoMemory, Sequence};
 
@@ -46,8 +46,10 @@ impl<'a> Row<'a> {
         let mut words = Sequence::new(alloc);
         for word in line.split(' ') {
             let mut bytes = Bytes::new(alloc);
-            if let Ok(cells) = hex::decode(alloc, word) {
-                bytes.push_slice(cells.as_slice())?;
+            match hex::decode(alloc, word) {
+                Ok(cells) => bytes.push_slice(cells.as_slice())?,
+                Err(FromHexError::OutOfMemory) => return Err(Fault::NoMemory),
+                Err(_) => {}
             }
             words.push(Word { word, bytes })?;
         }
@@ -98,8 +100,31 @@ impl<'a> Row<'a> {
         Bytes::from_slice(self.alloc, self.bytes(place, most))
     }
 
+    /// Bytes in hex, where they are told: `none` tells none, and neither does a word that isn't there.
+    pub fn some_bytes(&self, place: usize, most: usize) -> Option<&[u8]> {
+        match self.word(place) {
+            "" | "none" => None,
+            _ => Some(self.bytes(place, most)),
+        }
+    }
+
+    /// Such bytes as a value.
+    pub fn some_owned(&self, place: usize, most: usize) -> Result<Option<Bytes>, NoMemory>
+        ensures { IfOk result (λ value. IfSome value (λ v. length v ≤ most)) }
+    {
+        match self.word(place) {
+            "" | "none" => Ok(None),
+            _ => Ok(Some(self.owned(place, most)?)),
+        }
+    }
+
     /// So many bytes in hex.
     pub fn array<const N: usize>(&self, place: usize) -> [u8; N] {
         <[u8; N] as FromHex>::from_hex(self.word(place)).unwrap_or([0; N])
+    }
+
+    /// So many bytes in hex, where they are told.
+    pub fn some_array<const N: usize>(&self, place: usize) -> Option<[u8; N]> {
+        <[u8; N] as FromHex>::from_hex(self.word(place)).ok()
     }
 }

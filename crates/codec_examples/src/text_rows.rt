@@ -2,14 +2,58 @@
 
 use crate::row::{Fault, Row};
 use crate::spelling::{told, unescaped};
-use schedule_text::read_schedule;
+use schedule_text::{Line, read_schedule};
 use std::alloc::Global;
 use tunnel_secret::{check_response, hide, response, unhide};
+
+/// A line that names an end. Lines have no `Debug`, since they may hold a secret; those of the rows are no one's.
+fn told_end(alloc: Global, line: &Line) -> Result<String, Fault> {
+    match line {
+        Line::Lac { node, lns, secret } => told(alloc, &("Lac", node, lns, secret)),
+        Line::Lns { node, secret } => told(alloc, &("Lns", node, secret)),
+        Line::OpenUp { node } => told(alloc, &("OpenUp", node)),
+        Line::Close { node, tunnel } => told(alloc, &("Close", node, tunnel)),
+        _ => Ok(String::new(alloc)),
+    }
+}
+
+/// A line of a call, of a packet or of a clock, or a remark.
+fn told_line(alloc: Global, line: &Line) -> Result<String, Fault> {
+    match line {
+        Line::Remark { text } => told(alloc, &("Remark", text)),
+        Line::Ring { node, port } => told(alloc, &("Ring", node, port)),
+        Line::FromSub {
+            node,
+            session,
+            frame,
+        } => told(alloc, &("FromSub", node, session, frame)),
+        Line::Down {
+            node,
+            session,
+            frame,
+        } => told(alloc, &("Down", node, session, frame)),
+        Line::Hang { node, session } => told(alloc, &("Hang", node, session)),
+        Line::DropCall { node, session } => told(alloc, &("DropCall", node, session)),
+        Line::Deliver { packet } => told(alloc, &("Deliver", packet)),
+        Line::Tick { node, milliseconds } => told(alloc, &("Tick", node, milliseconds)),
+        _ => told_end(alloc, line),
+    }
+}
 
 pub fn schedule_row(alloc: Global, line: &str) -> Result<String, Fault> {
     let (_call, text) = line.split_once(' ').unwrap_or((line, ""));
     let text = unescaped(alloc, text)?;
-    told(alloc, &read_schedule(alloc, text.as_slice()))
+    match read_schedule(alloc, text.as_slice()) {
+        Ok(lines) => {
+            let mut answer = String::from_str(alloc, "Ok [")?;
+            for line in lines.as_slice() {
+                answer.push_str(told_line(alloc, line)?.as_str())?;
+            }
+            answer.push(']')?;
+            Ok(answer)
+        }
+        Err(fault) => told(alloc, &("Err", fault)),
+    }
 }
 
 /// Reveals a value, or hides it and reveals it again, or tells a response and whether it is the one that is given.

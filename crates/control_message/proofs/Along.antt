@@ -10,7 +10,7 @@ use Rattle.avp_codec.specs.declared.avp.Avp.{Avp}
 use Rattle.control_message.specs.declared.kind.Kind.{Kind}
 use Rattle.control_message.specs.declared.kind.Kind.TheVariants as kind
 use Rattle.control_message.specs.declared.kind.Shape.{Shape}
-use Rattle.control_message.specs.declared.kind.Shape.TheVariants.{Text, Short, Nonzero, Long, ShortLong, ShortLongLong, ResultCode, CallErrors, Accm}
+use Rattle.control_message.specs.declared.kind.Shape.TheVariants.{Text, Short, Nonzero, Long, ShortLong, ShortLongLong, Sixteen, ResultCode, CallErrors, Accm}
 use Rattle.control_message.specs.declared.message.MessageError.{MessageError}
 use Rattle.control_message.specs.declared.message.MessageError.TheVariants.{NoType, UnknownType, UnknownMandatory, HiddenWithoutVector, BadValue, Missing, NoMemory}
 use Rattle.control_message.specs.Table.{look_up, shape_of, uses_of, fits}
@@ -57,6 +57,7 @@ decides_shape Nonzero value = Decides-and (length value == 2) (not (big_number 2
 decides_shape Long value = Decides-eqb (length value) 4
 decides_shape ShortLong value = Decides-eqb (length value) 6
 decides_shape ShortLongLong value = Decides-eqb (length value) 10
+decides_shape Sixteen value = Decides-eqb (length value) 16
 decides_shape ResultCode value = Decides-or (length value == 2) (nat_le 4 (length value)) (Decides-eqb (length value) 2) (decides_le 4 (length value))
 decides_shape CallErrors value = Decides-eqb (length value) 26
 decides_shape Accm value = Decides-eqb (length value) 10
@@ -77,8 +78,8 @@ row_holds {V} P n v (u ∷ rows) all h =
 
 all_listed : (k : Kind) → AllByRecursion (λ (u : ℕ × Shape). is_listed 0 u.0 ≡ true) (uses_of k)
 all_listed kind.Sccrq = (refl, (refl, (refl, (refl, (refl, (refl, (refl, (refl, tt))))))))
-all_listed kind.Sccrp = (refl, (refl, (refl, (refl, (refl, (refl, (refl, tt)))))))
-all_listed kind.Scccn = tt
+all_listed kind.Sccrp = (refl, (refl, (refl, (refl, (refl, (refl, (refl, (refl, tt))))))))
+all_listed kind.Scccn = (refl, tt)
 all_listed kind.StopCcn = (refl, (refl, tt))
 all_listed kind.Hello = tt
 all_listed kind.Ocrq = (refl, tt)

@@ -67,7 +67,7 @@ stands_first n a avps h = found_first (λ a. is_at n a) (λ a. IsAt n a) (decide
 
 -- ---- Random Vectors
 
-decides_vector : (a : Avp) → Decides (is_vector a) (IsVector a)
+pub decides_vector : (a : Avp) → Decides (is_vector a) (IsVector a)
 decides_vector a = Decides-and (is_at 36 a) (not a.hidden) (decides_at 36 a) (not-true a.hidden, not_from_false a.hidden)
 
 vector_in : (avps : List Avp) (o : Option Avp) → find (λ a. is_vector a) avps ≡ o → ((is_some o ≡ true) × HasVector avps) ⊎ ((is_some o ≡ false) × HasNoVector avps)

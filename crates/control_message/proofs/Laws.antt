@@ -8,7 +8,7 @@ use Rattle.wire_base.specs.Answers.{◌>>=◌, Gives}
 use Rattle.avp_codec.specs.declared.avp.Avp.{Avp}
 use Rattle.control_message.specs.declared.kind.Kind.{Kind}
 use Rattle.control_message.specs.declared.kind.Kind.TheVariants as kind
-use Rattle.control_message.specs.declared.kind.Shape.TheVariants.{ShortLongLong}
+use Rattle.control_message.specs.declared.kind.Shape.TheVariants.{ShortLongLong, Sixteen}
 use Rattle.control_message.specs.declared.message.Message.{Message}
 use Rattle.control_message.specs.declared.message.Message.TheVariants.{Sccrq, Sccrp, Scccn, StopCcn, Hello, Ocrq, Ocrp, Occn, Icrq, Icrp, Iccn, Cdn, Wen, Sli}
 use Rattle.control_message.specs.declared.message.Recovery.{Recovery}
@@ -17,8 +17,8 @@ use Rattle.control_message.specs.declared.message.Read.TheVariants.{Known, Ignor
 use Rattle.control_message.specs.declared.message.MessageError.{MessageError}
 use Rattle.control_message.specs.declared.message.MessageError.TheVariants.{NoType, UnknownType, UnknownMandatory, HiddenWithoutVector, BadValue, Missing, NoMemory}
 use Rattle.control_message.specs.Table.{kinds, kind_of, uses_of}
-use Rattle.control_message.specs.Reading.{Told, first, checked_all, recovery_at, opening_at, of_kind, type_number, kind_named, kind_told, kind_of_pairs, of_type, with_type, message_of}
-use Rattle.control_message.specs.Grammar.{StandsFirst, HasNumber, SaysRecovery, SaysMessage, number_of, Says}
+use Rattle.control_message.specs.Reading.{Told, first, checked_all, recovery_at, response_at, opening_at, of_kind, type_number, kind_named, kind_told, kind_of_pairs, of_type, with_type, message_of}
+use Rattle.control_message.specs.Grammar.{StandsFirst, HasNumber, SaysRecovery, SaysResponse, SaysMessage, number_of, Says}
 use Rattle.control_message.specs.Faults.{IsOfKind, IsSound, IsFirstAlong, IsFault, IsToldFault}
 use Rattle.control_message.proofs.Firsts.{absent_first, first_absent, first_stands, stands_first}
 use Rattle.control_message.proofs.Along.{row_holds, is_sound, sound_is, is_first, first_is}
@@ -28,6 +28,7 @@ use Rattle.control_message.proofs.Stops.{stop_ccn_says, says_stop_ccn, stop_ccn_
 use Rattle.control_message.proofs.OnlyRead.{ocrq_says, says_ocrq, ocrq_good, ocrq_made, ocrp_says, ocrp_good, wen_says, says_wen, wen_good, wen_made, sli_says, says_sli, sli_good, sli_made}
 use Rattle.control_message.proofs.Needs.{Made, made_of, made_missing}
 use Rattle.control_message.proofs.Recoveries.{recovery_says, says_recovery, recovery_good, some_recovery}
+use Rattle.control_message.proofs.Responses.{response_says, says_response, response_good, some_response}
 use Rattle.control_message.proofs.Openings.{IsOpening, opening_says, says_opening, opening_good, opening_made}
 
 -- ---- kinds
@@ -54,7 +55,7 @@ number_is n k h = row_holds (λ (row : ℕ × Kind). row.0 ≡ kind_number row.1
 abbrev message_kind : Message → Kind
 message_kind (Sccrq o) = kind.Sccrq
 message_kind (Sccrp o) = kind.Sccrp
-message_kind Scccn = kind.Scccn
+message_kind (Scccn response) = kind.Scccn
 message_kind (StopCcn tunnel result error) = kind.StopCcn
 message_kind Hello = kind.Hello
 message_kind (Ocrq session) = kind.Ocrq
@@ -70,7 +71,7 @@ message_kind Sli = kind.Sli
 kind_is : (m : Message) → kind_of (number_of m) ≡ Some (message_kind m)
 kind_is (Sccrq o) = refl
 kind_is (Sccrp o) = refl
-kind_is Scccn = refl
+kind_is (Scccn response) = refl
 kind_is (StopCcn tunnel result error) = refl
 kind_is Hello = refl
 kind_is (Ocrq session) = refl
@@ -94,14 +95,19 @@ sccrp_opens = record { version = refl; framing = refl; name = refl; tunnel = ref
 message_says : (k : Kind) (avps : List Avp) (m : Message) → IsSound k avps → of_kind k avps ≡ Ok m → (number_of m ≡ kind_number k) × SaysMessage avps m
 message_says kind.Sccrq avps m sound h =
     let r = bind_ok (recovery_at avps) _ m h in
-    let b = bind_ok (opening_at avps r.0) _ m r.2 in
-    let says = opening_says kind.Sccrq avps r.0 b.0 sccrq_opens sound b.1 in
-    let recovers = subst (SaysRecovery avps) (sym says.1) (recovery_says kind.Sccrq avps r.0 sound refl r.1) in
-    subst (λ (x : Message). (number_of x ≡ 1) × SaysMessage avps x) (ok_same b.2) (refl, (says.0, recovers))
+    let b = bind_ok (opening_at avps None r.0) _ m r.2 in
+    let says = opening_says kind.Sccrq avps None r.0 b.0 sccrq_opens sound b.1 in
+    let recovers = subst (SaysRecovery avps) (sym says.2) (recovery_says kind.Sccrq avps r.0 sound refl r.1) in
+    subst (λ (x : Message). (number_of x ≡ 1) × SaysMessage avps x) (ok_same b.2) (refl, (says.0, recovers, says.1))
 message_says kind.Sccrp avps m sound h =
-    let b = bind_ok (opening_at avps None) _ m h in
-    subst (λ (x : Message). (number_of x ≡ 2) × SaysMessage avps x) (ok_same b.2) (refl, opening_says kind.Sccrp avps None b.0 sccrp_opens sound b.1)
-message_says kind.Scccn avps m sound h = subst (λ (x : Message). (number_of x ≡ 3) × SaysMessage avps x) (ok_same h) (refl, tt)
+    let r = bind_ok (response_at avps) _ m h in
+    let b = bind_ok (opening_at avps r.0 None) _ m r.2 in
+    let says = opening_says kind.Sccrp avps r.0 None b.0 sccrp_opens sound b.1 in
+    let responds = subst (SaysResponse avps) (sym says.1) (response_says kind.Sccrp avps r.0 sound refl r.1) in
+    subst (λ (x : Message). (number_of x ≡ 2) × SaysMessage avps x) (ok_same b.2) (refl, (says.0, says.2, responds))
+message_says kind.Scccn avps m sound h =
+    let r = bind_ok (response_at avps) _ m h in
+    subst (λ (x : Message). (number_of x ≡ 3) × SaysMessage avps x) (ok_same r.2) (refl, response_says kind.Scccn avps r.0 sound refl r.1)
 message_says kind.StopCcn avps m sound h = stop_ccn_says avps m sound h
 message_says kind.Hello avps m sound h = subst (λ (x : Message). (number_of x ≡ 6) × SaysMessage avps x) (ok_same h) (refl, tt)
 message_says kind.Ocrq avps m sound h = ocrq_says avps m sound h
@@ -115,11 +121,13 @@ message_says kind.Wen avps m sound h = wen_says avps m sound h
 message_says kind.Sli avps m sound h = sli_says avps m sound h
 
 says_message : (avps : List Avp) (m : Message) → SaysMessage avps m → of_kind (message_kind m) avps ≡ Ok m
-says_message avps (Sccrq o) h = rw (says_recovery avps o.recovery h.1, says_opening avps o h.0) refl
+says_message avps (Sccrq o) h =
+    let read : opening_at avps None o.recovery ≡ Ok o = subst (λ (r : Option (List ℕ)). opening_at avps r o.recovery ≡ Ok o) h.2 (says_opening avps o h.0) in
+    rw (says_recovery avps o.recovery h.1, read) refl
 says_message avps (Sccrp o) h =
-    let read : opening_at avps None ≡ Ok o = subst (λ (r : Option Recovery). opening_at avps r ≡ Ok o) h.1 (says_opening avps o h.0) in
-    rw read refl
-says_message avps Scccn h = refl
+    let read : opening_at avps o.response None ≡ Ok o = subst (λ (r : Option Recovery). opening_at avps o.response r ≡ Ok o) h.1 (says_opening avps o h.0) in
+    rw (says_response avps o.response h.2, read) refl
+says_message avps (Scccn response) h = rw (says_response avps response h) refl
 says_message avps (StopCcn tunnel result error) h = says_stop_ccn avps tunnel result error h
 says_message avps Hello h = refl
 says_message avps (Ocrq session) h = says_ocrq avps session h
@@ -134,8 +142,8 @@ says_message avps Sli h = says_sli avps h
 
 message_good : (avps : List Avp) (m : Message) → SaysMessage avps m → AllByRecursion (IsGood avps) (uses_of (message_kind m))
 message_good avps (Sccrq o) h = opening_good avps o ((77, ShortLongLong) ∷ []) h.0 (recovery_good avps o.recovery h.1, tt)
-message_good avps (Sccrp o) h = opening_good avps o [] h.0 tt
-message_good avps Scccn h = tt
+message_good avps (Sccrp o) h = opening_good avps o ((13, Sixteen) ∷ []) h.0 (response_good avps o.response h.2, tt)
+message_good avps (Scccn response) h = (response_good avps response h, tt)
 message_good avps (StopCcn tunnel result error) h = stop_ccn_good avps tunnel result error h
 message_good avps Hello h = tt
 message_good avps (Ocrq session) h = ocrq_good avps session h
@@ -151,10 +159,11 @@ message_good avps Sli h = sli_good avps h
 message_made : (k : Kind) (avps : List Avp) → IsSound k avps → Made k avps (of_kind k avps)
 message_made kind.Sccrq avps sound =
     let r = some_recovery kind.Sccrq avps sound refl in
-    rw r.1 (made_of kind.Sccrq avps (opening_at avps r.0) Sccrq (opening_made kind.Sccrq avps r.0 sccrq_opens sound))
+    rw r.1 (made_of kind.Sccrq avps (opening_at avps None r.0) Sccrq (opening_made kind.Sccrq avps None r.0 sccrq_opens sound))
 message_made kind.Sccrp avps sound =
-    made_of kind.Sccrp avps (opening_at avps None) Sccrp (opening_made kind.Sccrp avps None sccrp_opens sound)
-message_made kind.Scccn avps sound = inl (Scccn, refl, tt)
+    let r = some_response kind.Sccrp avps sound refl in
+    rw r.1 (made_of kind.Sccrp avps (opening_at avps r.0 None) Sccrp (opening_made kind.Sccrp avps r.0 None sccrp_opens sound))
+message_made kind.Scccn avps sound = let r = some_response kind.Scccn avps sound refl in inl (Scccn r.0, rw r.1 refl, tt)
 message_made kind.StopCcn avps sound = stop_ccn_made avps sound
 message_made kind.Hello avps sound = inl (Hello, refl, tt)
 message_made kind.Ocrq avps sound = ocrq_made avps sound
@@ -367,3 +376,9 @@ pub is_told : (avps : List Avp) (r : Result Read MessageError) → Gives Told (�
 is_told avps (Ok r) given = tt
 is_told avps (Err NoMemory) given = tt
 is_told avps (Err e) given = fault avps e given
+
+pub found_only : (avps : List Avp) (r : Result Read MessageError) (x : Read) → Says avps x → Gives Told (λ y. y) r (message_of avps) → Gives Told (λ y. y) r (Ok x)
+found_only avps r x h given = subst (λ (q : Result Read MessageError). Gives Told (λ y. y) r q) (only avps x h) given
+
+pub found_told : (avps : List Avp) (r : Result Read MessageError) (e : MessageError) → IsFault avps e → Gives Told (λ y. y) r (message_of avps) → Gives Told (λ y. y) r (Err e)
+found_told avps r e h given = subst (λ (q : Result Read MessageError). Gives Told (λ y. y) r q) (told avps e h) given

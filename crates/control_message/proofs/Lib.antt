@@ -5,6 +5,7 @@ pub mod Values
 pub mod Needs
 pub mod Texts
 pub mod Recoveries
+pub mod Responses
 pub mod Openings
 pub mod ResultCodes
 pub mod Calls
@@ -13,3 +14,6 @@ pub mod OnlyRead
 pub mod Laws
 pub mod Again
 pub mod Room
+pub mod Vectors
+pub mod Plain
+pub mod WithVector

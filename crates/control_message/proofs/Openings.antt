@@ -86,10 +86,14 @@ pub record IsOpening (k : Kind) : Type 0 where
   pub failover : shape_of k 76 ≡ Some ShortLong
   pub needs : needs_of k ≡ 2 ∷ 3 ∷ 7 ∷ 9 ∷ []
 
-pub opening_says : (k : Kind) (avps : List Avp) (recovery : Option Recovery) (o : Opening) → IsOpening k → IsSound k avps
-    → opening_at avps recovery ≡ Ok o → SaysOpening avps o × (o.recovery ≡ recovery)
+-- what an opening says, with a response and a recovery
+abbrev pub SaysWith : List Avp → Option (List ℕ) → Option Recovery → Opening → Type 0
+SaysWith avps response recovery o = SaysOpening avps o × (o.response ≡ response) × (o.recovery ≡ recovery)
+
+pub opening_says : (k : Kind) (avps : List Avp) (response : Option (List ℕ)) (recovery : Option Recovery) (o : Opening) → IsOpening k → IsSound k avps
+    → opening_at avps response recovery ≡ Ok o → SaysWith avps response recovery o
 unfolding opening_at u16_at u32_at window_at failover_at
-opening_says k avps recovery o is sound h =
+opening_says k avps response recovery o is sound h =
     let version = bind_ok _ _ o h in
     let framing = bind_ok _ _ o version.2 in
     let name = bind_ok _ _ o framing.2 in
@@ -106,6 +110,7 @@ opening_says k avps recovery o is sound h =
       window = window.0;
       failover = failover.0;
       challenge = text_at 11 avps;
+      response = response;
       recovery = recovery;
     } in
     let says : SaysOpening avps opening =
@@ -119,9 +124,9 @@ opening_says k avps recovery o is sound h =
       failover = failover_is avps failover.0 (first 76 avps) refl (good k avps 76 ShortLong sound is.failover) failover.1;
       challenge = text_says k avps 11 sound is.challenge;
     } in
-    subst (λ (x : Opening). SaysOpening avps x × (x.recovery ≡ recovery)) (ok_same failover.2) (says, refl)
+    subst (SaysWith avps response recovery) (ok_same failover.2) (says, refl, refl)
 
-pub says_opening : (avps : List Avp) (o : Opening) → SaysOpening avps o → opening_at avps o.recovery ≡ Ok o
+pub says_opening : (avps : List Avp) (o : Opening) → SaysOpening avps o → opening_at avps o.response o.recovery ≡ Ok o
 unfolding opening_at u16_at u32_at
 says_opening avps o h =
     rw (
@@ -156,10 +161,10 @@ opening_good avps o more h others = (
 
 -- ---- what is missing
 
-pub opening_made : (k : Kind) (avps : List Avp) (recovery : Option Recovery) → IsOpening k → IsSound k avps
-    → Made k avps (opening_at avps recovery)
+pub opening_made : (k : Kind) (avps : List Avp) (response : Option (List ℕ)) (recovery : Option Recovery) → IsOpening k → IsSound k avps
+    → Made k avps (opening_at avps response recovery)
 unfolding opening_at u16_at u32_at window_at failover_at
-opening_made k avps recovery is sound =
+opening_made k avps response recovery is sound =
     let window = some_window avps (first 10 avps) refl (good k avps 10 Nonzero sound is.window) in
     let failover = some_failover avps (first 76 avps) refl (good k avps 76 ShortLong sound is.failover) in
     elim (number_or_missing k avps 2 2 Short sound is.version (λ v s. s)) [
@@ -180,6 +185,7 @@ opening_made k avps recovery is sound =
                   window = window.0;
                   failover = failover.0;
                   challenge = text_at 11 avps;
+                  response = response;
                   recovery = recovery;
                 } in
                 inl (

@@ -1,23 +1,55 @@
 -- How long a message is that was written.
-use Rattle.std.proofs.Common.{ℕ, ◌≤◌, List, length, Option, Some, None, arith}
+use Rattle.std.proofs.Common.{◌≡◌, ℕ, ◌+◌, ◌≤◌, List, [], ◌∷◌, ◌++◌, length, Option, Some, None, IfSome, ap, ◌∙◌, arith}
 use Rattle.std.proofs.lemmas.List.{length-append}
+use Rattle.std.proofs.lemmas.List.Concat.{flat_map-cons}
 use Rattle.wire_base.specs.Numbers.{u16_bytes, u32_bytes}
-use Rattle.avp_codec.specs.Spelling.{spelling}
+use Rattle.avp_codec.specs.declared.avp.Avp.{Avp}
+use Rattle.avp_codec.specs.Spelling.{spelling_of, spelling}
 use Rattle.control_message.specs.declared.message.Message.{Message}
 use Rattle.control_message.specs.declared.message.Message.TheVariants.{Sccrq, Sccrp, Scccn, StopCcn, Hello, Ocrq, Ocrp, Occn, Icrq, Icrp, Iccn, Cdn, Wen, Sli}
 use Rattle.control_message.specs.declared.message.Opening.{Opening}
 use Rattle.control_message.specs.declared.message.Failover.{Failover}
-use Rattle.control_message.specs.Pairs.{failover_pairs, opening_pairs, calling_pairs, pairs_of, IsWritten}
+use Rattle.control_message.specs.Pairs.{failover_pairs, challenge_pairs, response_pairs, opening_pairs, calling_pairs, pairs_of, IsWritten, IsWrittenOpening}
 use Rattle.control_message.proofs.Again.{told_value}
+
+-- one pair more
+pub one_spelled : (a : Avp) (avps : List Avp) → length (spelling (a ∷ avps)) ≡ 6 + length a.value + length (spelling avps)
+unfolding u16_bytes
+one_spelled a avps = ap length (flat_map-cons spelling_of a avps) ∙ length-append (spelling_of a) (spelling avps) ∙ omega arith
 
 failover_room : (f : Option Failover) → length (spelling (failover_pairs f)) ≤ 12
 unfolding u16_bytes u32_bytes
 failover_room None = omega arith
 failover_room (Some f) = omega arith
 
-opening_room : (number : ℕ) (o : Opening) → length o.name ≤ 1017 → length (spelling (opening_pairs number o)) ≤ 65523
+challenge_room : (c : Option (List ℕ)) → IfSome c (λ v. length v ≤ 1017) → length (spelling (challenge_pairs c)) ≤ 1023
+unfolding u16_bytes
+challenge_room None h = omega arith
+challenge_room (Some v) h = simp length-append (omega arith)
+
+response_room : (r : Option (List ℕ)) → IfSome r (λ v. length v ≡ 16) → length (spelling (response_pairs r)) ≤ 22
+unfolding u16_bytes
+response_room None h = omega arith
+response_room (Some v) h = simp length-append (omega arith)
+
+both_spelled : (v w : List Avp) → length (spelling (v ++ w)) ≡ length (spelling v) + length (spelling w)
+both_spelled [] w = omega arith
+both_spelled (a ∷ v) w =
+    let ih = both_spelled v w in
+    let l = one_spelled a (v ++ w) in
+    let r = one_spelled a v in
+    omega arith
+
+opening_room : (number : ℕ) (o : Opening) → IsWrittenOpening o → length (spelling (opening_pairs number o)) ≤ 65523
 unfolding u16_bytes u32_bytes
-opening_room number o name = let failover = failover_room o.failover in simp length-append (omega arith)
+opening_room number o w =
+    let name = w.name in
+    let failover = failover_room o.failover in
+    let challenge = challenge_room o.challenge w.challenge in
+    let response = response_room o.response w.response in
+    let both = both_spelled (failover_pairs o.failover) (challenge_pairs o.challenge) in
+    let more = both_spelled (failover_pairs o.failover ++ challenge_pairs o.challenge) (response_pairs o.response) in
+    simp length-append (omega arith)
 
 calling_room : (number : List ℕ) → length number ≤ 1017 → length (spelling (calling_pairs (Some number))) ≤ 1023
 unfolding u16_bytes
@@ -25,9 +57,9 @@ calling_room number le = simp length-append (omega arith)
 
 pub room : (m : Message) → IsWritten m → length (spelling (pairs_of m)) ≤ 65523
 unfolding u16_bytes u32_bytes
-room (Sccrq o) w = opening_room 1 o w.name
-room (Sccrp o) w = opening_room 2 o w.name
-room Scccn w = omega arith
+room (Sccrq o) w = opening_room 1 o w.0
+room (Sccrp o) w = opening_room 2 o w
+room (Scccn response) w = let more = response_room response w in simp length-append (omega arith)
 room (StopCcn tunnel result None) w = omega arith
 room (StopCcn tunnel result (Some error)) w = omega arith
 room Hello w = omega arith

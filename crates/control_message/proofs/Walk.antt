@@ -107,8 +107,8 @@ added s avps a is e h =
 
 all_below : (k : Kind) → AllByRecursion (λ (u : ℕ × Shape). u.0 < 80) (uses_of k)
 all_below kind.Sccrq = (omega arith, (omega arith, (omega arith, (omega arith, (omega arith, (omega arith, (omega arith, (omega arith, tt))))))))
-all_below kind.Sccrp = (omega arith, (omega arith, (omega arith, (omega arith, (omega arith, (omega arith, (omega arith, tt)))))))
-all_below kind.Scccn = tt
+all_below kind.Sccrp = (omega arith, (omega arith, (omega arith, (omega arith, (omega arith, (omega arith, (omega arith, (omega arith, tt))))))))
+all_below kind.Scccn = (omega arith, tt)
 all_below kind.StopCcn = (omega arith, (omega arith, tt))
 all_below kind.Hello = tt
 all_below kind.Ocrq = (omega arith, tt)

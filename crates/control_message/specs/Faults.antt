@@ -5,7 +5,7 @@ use Rattle.byteorder.specs.Endian.{big_number}
 use Rattle.avp_codec.specs.declared.avp.Avp.{Avp}
 use Rattle.control_message.specs.declared.kind.Kind.{Kind}
 use Rattle.control_message.specs.declared.kind.Shape.{Shape}
-use Rattle.control_message.specs.declared.kind.Shape.TheVariants.{Text, Short, Nonzero, Long, ShortLong, ShortLongLong, ResultCode, CallErrors, Accm}
+use Rattle.control_message.specs.declared.kind.Shape.TheVariants.{Text, Short, Nonzero, Long, ShortLong, ShortLongLong, Sixteen, ResultCode, CallErrors, Accm}
 use Rattle.control_message.specs.declared.message.MessageError.{MessageError}
 use Rattle.control_message.specs.declared.message.MessageError.TheVariants.{NoType, UnknownType, UnknownMandatory, HiddenWithoutVector, BadValue, Missing, NoMemory}
 use Rattle.control_message.specs.Table.{kind_of, shape_of, needs_of}
@@ -42,6 +42,7 @@ HasShape Nonzero value = (length value ≡ 2) × (big_number 2 value ≢ 0)
 HasShape Long value = length value ≡ 4
 HasShape ShortLong value = length value ≡ 6
 HasShape ShortLongLong value = length value ≡ 10
+HasShape Sixteen value = length value ≡ 16
 HasShape ResultCode value = (length value ≡ 2) ⊎ (4 ≤ length value)
 HasShape CallErrors value = length value ≡ 26
 HasShape Accm value = length value ≡ 10
@@ -64,7 +65,7 @@ HasVector avps = (a : Avp) × IsFirstWith (λ b. IsVector b) a avps
 abbrev pub HasNoVector : List Avp → Type 0
 HasNoVector avps = AllByRecursion (λ a. ¬ IsVector a) avps
 
--- hidden behind a Random Vector, and there is no secret to uncover it by
+-- hidden behind a Random Vector, and not uncovered: there is no secret, or it hides no value
 abbrev pub IsHiddenValue : List Avp → Avp → Type 0
 IsHiddenValue before a = (a.hidden ≡ true) × HasVector before
 

@@ -118,7 +118,13 @@ abbrev pub SaysRecovery : List Avp → Option Recovery → Type 0
 SaysRecovery avps None = IsAbsent 77 avps
 SaysRecovery avps (Some r) = HasRecovery r avps
 
--- What a request and a reply say alike. Tunnel Recovery, which only a request tells, isn't among it.
+-- Challenge Response, in sixteen bytes
+abbrev pub SaysResponse : List Avp → Option (List ℕ) → Type 0
+SaysResponse avps None = IsAbsent 13 avps
+SaysResponse avps (Some r) = HasValue 13 r avps × (length r ≡ 16)
+
+-- What a request and a reply say alike. Tunnel Recovery, which only a request tells, and Challenge Response, which only a reply
+-- tells, aren't among it.
 pub record SaysOpening (avps : List Avp) (o : Opening) : Type 0 where
   pub version : HasNumber 2 2 o.version avps
   pub framing : HasNumber 3 4 o.framing avps
@@ -163,9 +169,9 @@ pub record SaysCdn (avps : List Avp) (id code : ℕ) (error : Option ℕ) : Type
   pub session : HasNumber 14 2 id avps
 
 abbrev pub SaysMessage : List Avp → Message → Type 0
-SaysMessage avps (Sccrq o) = SaysOpening avps o × SaysRecovery avps o.recovery
-SaysMessage avps (Sccrp o) = SaysOpening avps o × (o.recovery ≡ None)
-SaysMessage avps Scccn = ⊤
+SaysMessage avps (Sccrq o) = SaysOpening avps o × SaysRecovery avps o.recovery × (o.response ≡ None)
+SaysMessage avps (Sccrp o) = SaysOpening avps o × (o.recovery ≡ None) × SaysResponse avps o.response
+SaysMessage avps (Scccn response) = SaysResponse avps response
 SaysMessage avps (StopCcn tunnel result error) = SaysStopCcn avps tunnel result error
 SaysMessage avps Hello = ⊤
 SaysMessage avps (Ocrq session) = HasNumber 14 2 session avps
@@ -183,7 +189,7 @@ SaysMessage avps Sli = HasWidth 35 10 avps
 abbrev pub number_of : Message → ℕ
 number_of (Sccrq o) = 1
 number_of (Sccrp o) = 2
-number_of Scccn = 3
+number_of (Scccn response) = 3
 number_of (StopCcn tunnel result error) = 4
 number_of Hello = 6
 number_of (Ocrq session) = 7

@@ -4,3 +4,4 @@ pub mod Reading
 pub mod Walk
 pub mod Grammar
 pub mod Faults
+pub mod Uncovering

@@ -1,7 +1,8 @@
 -- The pairs of each message as it is written, and which messages have such a form.
-use Rattle.std.specs.Prelude.{◌≡◌, ℕ, ◌<◌, ◌≤◌, ◌^◌, true, false, List, [], ◌∷◌, ◌++◌, length, Option, Some, None, IsSomeAnd, IfSome, ⊤}
+use Rattle.std.specs.Prelude.{◌≡◌, ℕ, ◌+◌, ◌-◌, ◌%◌, ◌<◌, ◌≤◌, ◌^◌, true, false, List, [], ◌∷◌, ◌++◌, length, Option, Some, None, IsSome, IsSomeAnd, IfSome, ⊤}
 use Rattle.wire_base.specs.Numbers.{u16_bytes, u32_bytes}
 use Rattle.avp_codec.specs.declared.avp.Avp.{Avp}
+use Rattle.tunnel_secret.specs.Hiding.{hidden}
 use Rattle.control_message.specs.declared.message.Message.{Message}
 use Rattle.control_message.specs.declared.message.Message.TheVariants.{Sccrq, Sccrp, Scccn, StopCcn, Hello, Ocrq, Ocrp, Occn, Icrq, Icrp, Iccn, Cdn, Wen, Sli}
 use Rattle.control_message.specs.declared.message.Opening.{Opening}
@@ -19,16 +20,30 @@ abbrev pub failover_pairs : Option Failover → List Avp
 failover_pairs None = []
 failover_pairs (Some f) = optional_pair 76 (u16_bytes f.flags ++ u32_bytes f.time) ∷ []
 
+-- Challenge
+abbrev pub challenge_pairs : Option (List ℕ) → List Avp
+challenge_pairs None = []
+challenge_pairs (Some v) = pair 11 v ∷ []
+
+-- Challenge Response
+abbrev pub response_pairs : Option (List ℕ) → List Avp
+response_pairs None = []
+response_pairs (Some r) = pair 13 r ∷ []
+
 -- Message Type, Protocol Version, Framing Capabilities, Host Name, Assigned Tunnel ID, Receive Window Size
-abbrev pub opening_pairs : ℕ → Opening → List Avp
-opening_pairs number o =
+abbrev pub opening_front : ℕ → Opening → List Avp
+opening_front number o =
     pair 0 (u16_bytes number)
     ∷ pair 2 (u16_bytes o.version)
     ∷ pair 3 (u32_bytes o.framing)
     ∷ pair 7 o.name
     ∷ pair 9 (u16_bytes o.tunnel)
     ∷ pair 10 (u16_bytes o.window)
-    ∷ failover_pairs o.failover
+    ∷ []
+
+-- those, then what is told
+abbrev pub opening_pairs : ℕ → Opening → List Avp
+opening_pairs number o = opening_front number o ++ (failover_pairs o.failover ++ challenge_pairs o.challenge ++ response_pairs o.response)
 
 -- Calling Number
 abbrev pub calling_pairs : Option (List ℕ) → List Avp
@@ -43,7 +58,7 @@ result_code_bytes result (Some error) = u16_bytes result ++ u16_bytes error
 abbrev pub pairs_of : Message → List Avp
 pairs_of (Sccrq o) = opening_pairs 1 o
 pairs_of (Sccrp o) = opening_pairs 2 o
-pairs_of Scccn = pair 0 (u16_bytes 3) ∷ []
+pairs_of (Scccn response) = pair 0 (u16_bytes 3) ∷ response_pairs response
 -- Assigned Tunnel ID, Result Code
 pairs_of (StopCcn tunnel result error) = pair 0 (u16_bytes 4) ∷ pair 9 (u16_bytes tunnel) ∷ pair 1 (result_code_bytes result error) ∷ []
 pairs_of Hello = pair 0 (u16_bytes 6) ∷ []
@@ -62,8 +77,8 @@ pairs_of Occn = []
 pairs_of Wen = []
 pairs_of Sli = []
 
--- version 1.0, no id or window that is 0, a name that fits into a pair, the failover capability told, and neither a challenge
--- nor a recovery
+-- version 1.0, no id or window that is 0, a name and a challenge that fit into a pair, the failover capability told, and no
+-- recovery
 pub record IsWrittenOpening (o : Opening) : Type 0 where
   pub version : o.version ≡ 256
   pub framing : o.framing < 2 ^ 32
@@ -73,14 +88,16 @@ pub record IsWrittenOpening (o : Opening) : Type 0 where
   pub window : o.window < 2 ^ 16
   pub window_not_zero : 0 < o.window
   pub failover : IsSomeAnd o.failover (λ f. (f.flags < 2 ^ 16) × (f.time < 2 ^ 32))
-  pub challenge : o.challenge ≡ None
+  pub challenge : IfSome o.challenge (λ v. length v ≤ 1017)
+  pub response : IfSome o.response (λ r. length r ≡ 16)
   pub recovery : o.recovery ≡ None
 
 -- the messages that are written
 abbrev pub IsWritten : Message → Type 0
-IsWritten (Sccrq o) = IsWrittenOpening o
+-- a request answers no challenge
+IsWritten (Sccrq o) = IsWrittenOpening o × (o.response ≡ None)
 IsWritten (Sccrp o) = IsWrittenOpening o
-IsWritten Scccn = ⊤
+IsWritten (Scccn response) = IfSome response (λ r. length r ≡ 16)
 IsWritten (StopCcn tunnel result error) = (tunnel < 2 ^ 16) × (result < 2 ^ 16) × IfSome error (λ x. x < 2 ^ 16)
 IsWritten Hello = ⊤
 IsWritten (Icrq session serial calling) = (session < 2 ^ 16) × (serial < 2 ^ 32) × IsSomeAnd calling (λ v. length v ≤ 1017)
@@ -92,3 +109,51 @@ IsWritten Ocrp = ⊥
 IsWritten Occn = ⊥
 IsWritten Wen = ⊥
 IsWritten Sli = ⊥
+
+-- ---- with a secret and a random vector (RFC 2661 section 4.3)
+
+-- a mandatory pair whose value is hidden
+abbrev pub hidden_pair : ℕ → List ℕ → Avp
+hidden_pair n cipher = record { mandatory = true; hidden = true; reserved = 0; vendor = 0; attribute = n; value = cipher }
+
+-- as many zeros as fill a value with its length in two bytes to blocks of 16
+abbrev pub padding_of : List ℕ → ℕ
+padding_of v = 15 - (length v + 1) % 16
+
+-- Calling Number, hidden behind a Random Vector where there are a secret and a vector
+abbrev pub number_pairs : Option (List ℕ) → Option (List ℕ) → List ℕ → List Avp
+number_pairs (Some secret) (Some vector) number = pair 36 vector ∷ hidden_pair 22 (hidden 22 secret vector number (padding_of number)) ∷ []
+number_pairs secret vector number = pair 22 number ∷ []
+
+abbrev pub calling_pairs_with : Option (List ℕ) → Option (List ℕ) → Option (List ℕ) → List Avp
+calling_pairs_with secret vector None = []
+calling_pairs_with secret vector (Some number) = number_pairs secret vector number
+
+-- the pairs of a message that is written with a secret and a vector, which is used where a value is hidden
+abbrev pub pairs_with : Option (List ℕ) → Option (List ℕ) → Message → List Avp
+pairs_with secret vector (Icrq session serial calling) = pair 0 (u16_bytes 10) ∷ pair 14 (u16_bytes session) ∷ pair 15 (u32_bytes serial) ∷ calling_pairs_with secret vector calling
+pairs_with secret vector m = pairs_of m
+
+-- the same pairs, with the vector and without what hides a value
+abbrev pub calling_pairs_behind : List ℕ → Option (List ℕ) → List Avp
+calling_pairs_behind vector None = []
+calling_pairs_behind vector (Some number) = pair 36 vector ∷ pair 22 number ∷ []
+
+abbrev pub plain_pairs_with : List ℕ → Message → List Avp
+plain_pairs_with vector (Icrq session serial calling) = pair 0 (u16_bytes 10) ∷ pair 14 (u16_bytes session) ∷ pair 15 (u32_bytes serial) ∷ calling_pairs_behind vector calling
+plain_pairs_with vector m = pairs_of m
+
+-- what is hidden of a message, where a vector is there
+abbrev pub hidden_of : Message → Option (List ℕ)
+hidden_of (Icrq session serial calling) = calling
+hidden_of m = None
+
+-- a vector of 16 bytes, a secret to hide by, and a number that fits into a pair with its length and the padding
+pub record CanHide (secret : Option (List ℕ)) (vector : List ℕ) (m : Message) : Type 0 where
+  pub sized : length vector ≡ 16
+  pub secret_there : IsSome secret
+  pub fits : IfSome (hidden_of m) (λ v. length v ≤ 990)
+
+abbrev pub IsWrittenWith : Option (List ℕ) → Option (List ℕ) → Message → Type 0
+IsWrittenWith secret None m = IsWritten m
+IsWrittenWith secret (Some vector) m = IsWritten m × CanHide secret vector m

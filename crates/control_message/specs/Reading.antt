@@ -140,9 +140,24 @@ recovery_in (Some a) = recovery_read (recovery_value a.value)
 unfoldable pub recovery_at : List Avp → Result (Option Recovery) MessageError
 recovery_at avps = recovery_in (first 77 avps)
 
--- an opening, with the recovery that is asked for
-unfoldable pub opening_at : List Avp → Option Recovery → Result Opening MessageError
-opening_at avps recovery = do
+-- Challenge Response: sixteen bytes
+abbrev pub response_value : List ℕ → Option (List ℕ)
+response_value value = if length value == 16 then Some value else None
+
+abbrev pub response_read : Option (List ℕ) → Result (Option (List ℕ)) MessageError
+response_read None = Err (BadValue 13)
+response_read (Some r) = Ok (Some r)
+
+abbrev pub response_in : Option Avp → Result (Option (List ℕ)) MessageError
+response_in None = Ok None
+response_in (Some a) = response_read (response_value a.value)
+
+unfoldable pub response_at : List Avp → Result (Option (List ℕ)) MessageError
+response_at avps = response_in (first 13 avps)
+
+-- an opening, with the response that it gives and the recovery that it asks for
+unfoldable pub opening_at : List Avp → Option (List ℕ) → Option Recovery → Result Opening MessageError
+opening_at avps response recovery = do
   version ← u16_at 2 avps
   framing ← u32_at 3 avps
   name ← value_at 7 avps
@@ -157,6 +172,7 @@ opening_at avps recovery = do
     window = window;
     failover = failover;
     challenge = text_at 11 avps;
+    response = response;
     recovery = recovery;
   })
 
@@ -216,9 +232,9 @@ sli_at avps = value_at 35 avps >>= λ v. Ok Sli
 
 -- a message of a kind
 abbrev pub of_kind : Kind → List Avp → Result Message MessageError
-of_kind kind.Sccrq avps = recovery_at avps >>= λ r. opening_at avps r >>= λ o. Ok (Sccrq o)
-of_kind kind.Sccrp avps = opening_at avps None >>= λ o. Ok (Sccrp o)
-of_kind kind.Scccn avps = Ok Scccn
+of_kind kind.Sccrq avps = recovery_at avps >>= λ r. opening_at avps None r >>= λ o. Ok (Sccrq o)
+of_kind kind.Sccrp avps = response_at avps >>= λ r. opening_at avps r None >>= λ o. Ok (Sccrp o)
+of_kind kind.Scccn avps = response_at avps >>= λ r. Ok (Scccn r)
 of_kind kind.StopCcn avps = stop_ccn_at avps
 of_kind kind.Hello avps = Ok Hello
 of_kind kind.Ocrq avps = ocrq_at avps

@@ -4,7 +4,7 @@ use Rattle.byteorder.specs.Endian.{big_number}
 use Rattle.control_message.specs.declared.kind.Kind.{Kind}
 use Rattle.control_message.specs.declared.kind.Kind.TheVariants.{Sccrq, Sccrp, Scccn, StopCcn, Hello, Ocrq, Ocrp, Occn, Icrq, Icrp, Iccn, Cdn, Wen, Sli}
 use Rattle.control_message.specs.declared.kind.Shape.{Shape}
-use Rattle.control_message.specs.declared.kind.Shape.TheVariants.{Text, Short, Nonzero, Long, ShortLong, ShortLongLong, ResultCode, CallErrors, Accm}
+use Rattle.control_message.specs.declared.kind.Shape.TheVariants.{Text, Short, Nonzero, Long, ShortLong, ShortLongLong, Sixteen, ResultCode, CallErrors, Accm}
 
 -- what stands beside a number in a table
 abbrev pub look_up : {V : Type 0} → ℕ → List (ℕ × V) → Option V
@@ -41,8 +41,10 @@ opening_uses = (2, Short) ∷ (3, Long) ∷ (7, Text) ∷ (9, Nonzero) ∷ (10, 
 abbrev pub uses_of : Kind → List (ℕ × Shape)
 -- Tunnel Recovery too
 uses_of Sccrq = opening_uses ++ (77, ShortLongLong) ∷ []
-uses_of Sccrp = opening_uses
-uses_of Scccn = []
+-- Challenge Response too
+uses_of Sccrp = opening_uses ++ (13, Sixteen) ∷ []
+-- Challenge Response
+uses_of Scccn = (13, Sixteen) ∷ []
 -- Result Code, Assigned Tunnel ID
 uses_of StopCcn = (1, ResultCode) ∷ (9, Short) ∷ []
 uses_of Hello = []
@@ -92,6 +94,7 @@ fits Nonzero value = length value == 2 && not (big_number 2 value == 0)
 fits Long value = length value == 4
 fits ShortLong value = length value == 6
 fits ShortLongLong value = length value == 10
+fits Sixteen value = length value == 16
 fits ResultCode value = length value == 2 || nat_le 4 (length value)
 fits CallErrors value = length value == 26
 fits Accm value = length value == 10

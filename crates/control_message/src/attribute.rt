@@ -16,6 +16,8 @@ pub const WINDOW: u16 = 10;
 
 pub const CHALLENGE: u16 = 11;
 
+pub const CHALLENGE_RESPONSE: u16 = 13;
+
 pub const ASSIGNED_SESSION: u16 = 14;
 
 pub const CALL_SERIAL_NUMBER: u16 = 15;

@@ -5,8 +5,8 @@ ghost use Rattle.control_message.specs.Table.{kind_of, shape_of, fits};
 
 use crate::attribute::{
     ACCM, ASSIGNED_SESSION, ASSIGNED_TUNNEL, CALL_ERRORS, CALL_SERIAL_NUMBER, CALLING_NUMBER,
-    CHALLENGE, CONNECT_SPEED, FAILOVER, FRAMING_CAPABILITIES, FRAMING_TYPE, HOST_NAME,
-    PROTOCOL_VERSION, RECOVERY, RESULT_CODE, SEQUENCING_REQUIRED, WINDOW,
+    CHALLENGE, CHALLENGE_RESPONSE, CONNECT_SPEED, FAILOVER, FRAMING_CAPABILITIES, FRAMING_TYPE,
+    HOST_NAME, PROTOCOL_VERSION, RECOVERY, RESULT_CODE, SEQUENCING_REQUIRED, WINDOW,
 };
 use wire_base::take_u16;
 
@@ -87,6 +87,8 @@ pub enum Shape {
     ShortLong,
     /// Two reserved bytes, then two numbers in four.
     ShortLongLong,
+    /// Sixteen bytes.
+    Sixteen,
     /// A number in two bytes, then nothing, or another in two and any bytes behind it (RFC 2661 section 4.4.2).
     ResultCode,
     /// Two reserved bytes and six counters of four (RFC 2661 section 4.4.6).
@@ -133,9 +135,14 @@ impl Kind {
                 CHALLENGE => Some(Shape::Text),
                 FAILOVER => Some(Shape::ShortLong),
                 RECOVERY if matches!(self, Kind::Sccrq) => Some(Shape::ShortLongLong),
+                CHALLENGE_RESPONSE if matches!(self, Kind::Sccrp) => Some(Shape::Sixteen),
                 _ => None,
             },
-            Kind::Scccn | Kind::Hello | Kind::Occn => None,
+            Kind::Scccn => match attribute {
+                CHALLENGE_RESPONSE => Some(Shape::Sixteen),
+                _ => None,
+            },
+            Kind::Hello | Kind::Occn => None,
             Kind::StopCcn => match attribute {
                 RESULT_CODE => Some(Shape::ResultCode),
                 ASSIGNED_TUNNEL => Some(Shape::Short),
@@ -190,6 +197,7 @@ impl Shape {
             Shape::Long => value.len() == 4,
             Shape::ShortLong => value.len() == 6,
             Shape::ShortLongLong => value.len() == 10,
+            Shape::Sixteen => value.len() == 16,
             Shape::ResultCode => value.len() == 2 || 4 <= value.len(),
             Shape::CallErrors => value.len() == 26,
             Shape::Accm => value.len() == 10,

@@ -12,8 +12,11 @@ pub enum Message {
     Sccrq(Opening),
     /// Start-Control-Connection-Reply, which answers it.
     Sccrp(Opening),
-    /// Start-Control-Connection-Connected, which ends the set-up.
-    Scccn,
+    /// Start-Control-Connection-Connected, which ends the set-up, with Challenge Response to the challenge of the reply,
+    /// where it is told.
+    Scccn {
+        response: Option<[u8; 16]>,
+    },
     /// Stop-Control-Connection-Notification, which ends a tunnel: Assigned Tunnel ID of its maker, which is 0 where it
     /// has assigned none, and Result Code, with its Error Code where that is told (RFC 2661 section 4.4.2). A text
     /// behind them is passed over as it is read.
@@ -80,8 +83,10 @@ pub struct Opening {
     pub window: u16,
     /// Failover Capability, where it is told.
     pub failover: Option<Failover>,
-    /// Challenge, where it is told, of any bytes (RFC 2661 section 4.4.3). It is only read.
+    /// Challenge, where it is told, of any bytes (RFC 2661 section 4.4.3).
     pub challenge: Option<Bytes>,
+    /// Challenge Response to the challenge of the request, where a reply tells it (RFC 2661 section 4.4.3).
+    pub response: Option<[u8; 16]>,
     /// Tunnel Recovery, where a request tells it. It is only read.
     pub recovery: Option<Recovery>,
 }

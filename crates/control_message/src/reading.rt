@@ -1,7 +1,9 @@
 //! Reading control messages.
 
-ghost use Rattle.std.specs.Prelude.{◌≡◌, ◌↔◌, Ok, Err, IfOk, IfErr, MatchResult, IsNone, IfSome};
+ghost use Rattle.std.specs.Prelude.{◌≡◌, ◌↔◌, List, None, Ok, Err, IfOk, IfErr, MatchResult, IsNone, IfSome};
+ghost use Rattle.std.specs.Option.{option_copied};
 ghost use Rattle.wire_base.specs.Answers.{Gives};
+ghost use Rattle.avp_codec.specs.declared.avp.Avp.{Avp};
 ghost use Rattle.avp_codec.specs.Reading.{avps_of};
 ghost use Rattle.avp_codec.specs.Spelling.{spelling};
 ghost use Rattle.control_message.specs.declared.kind.Kind.{Kind};
@@ -12,17 +14,19 @@ ghost use Rattle.control_message.specs.declared.message.MessageError.{MessageErr
 ghost use Rattle.control_message.specs.Grammar.{Says};
 ghost use Rattle.control_message.specs.Faults.{IsOfKind, IsFault, IsToldFault};
 ghost use Rattle.control_message.specs.Pairs.{pairs_of, IsWritten};
-ghost use Rattle.control_message.specs.Reading.{Told, value_at, u16_at, u32_at, window_at, text_at, failover_value, failover_at, recovery_value, recovery_at, opening_at, icrq_at, icrp_at, iccn_at, result_code_in, result_code_at, stop_ccn_at, ocrq_at, cdn_at, wen_at, sli_at, of_kind, type_number, kind_of_pairs, message_of};
+ghost use Rattle.control_message.specs.Uncovering.{uncovered_all, uncovered, Uncovers};
+ghost use Rattle.control_message.specs.Reading.{Told, value_at, u16_at, u32_at, window_at, text_at, failover_value, failover_at, recovery_value, recovery_at, response_value, response_at, opening_at, icrq_at, icrp_at, iccn_at, result_code_in, result_code_at, stop_ccn_at, ocrq_at, cdn_at, wen_at, sli_at, of_kind, type_number, kind_of_pairs, message_of};
 
 use crate::attribute::{
     ACCM, ASSIGNED_SESSION, ASSIGNED_TUNNEL, CALL_ERRORS, CALL_SERIAL_NUMBER, CALLING_NUMBER,
-    CHALLENGE, CONNECT_SPEED, FAILOVER, FRAMING_CAPABILITIES, FRAMING_TYPE, HOST_NAME,
-    MESSAGE_TYPE, PROTOCOL_VERSION, RECOVERY, RESULT_CODE, SEQUENCING_REQUIRED, WINDOW,
+    CHALLENGE, CHALLENGE_RESPONSE, CONNECT_SPEED, FAILOVER, FRAMING_CAPABILITIES, FRAMING_TYPE,
+    HOST_NAME, MESSAGE_TYPE, PROTOCOL_VERSION, RECOVERY, RESULT_CODE, SEQUENCING_REQUIRED, WINDOW,
 };
 use crate::checking::check_all;
 use crate::finding::{find_avp, has_avp, u16_in};
 use crate::kind::Kind;
 use crate::message::{Failover, Message, MessageError, Opening, Read, Recovery};
+use crate::uncovering::{copy_uncovered, find_hidden};
 use avp_codec::{Avp, Avps};
 use std::alloc::Global;
 use wire_base::{Bytes, NoMemory, take_u16, take_u32};
@@ -140,14 +144,44 @@ fn recovery_of(avps: &[Avp]) -> Result<Option<Recovery>, MessageError>
     }
 }
 
-/// What the two ends tell each other as a tunnel is opened, with the recovery that is asked for.
+/// The Challenge Response that a value is.
+fn response_in(value: &[u8]) -> Option<[u8; 16]>
+    ensures { result ≡ response_value value.now }
+{
+    if value.len() != 16 {
+        return None;
+    }
+    let mut response = [0u8; 16];
+    response.copy_from_slice(value);
+    Some(response)
+}
+
+/// Challenge Response (RFC 2661 section 4.4.3).
+#[tactic(auto, unfolding(crate::specs::Reading::response_at))]
+fn response_of(avps: &[Avp]) -> Result<Option<[u8; 16]>, MessageError>
+    ensures { result ≡ response_at avps.now }
+{
+    let Some(avp) = find_avp(avps, CHALLENGE_RESPONSE) else {
+        return Ok(None);
+    };
+    match response_in(avp.value.as_slice()) {
+        None => Err(MessageError::BadValue {
+            attribute: CHALLENGE_RESPONSE,
+        }),
+        response => Ok(response),
+    }
+}
+
+/// What the two ends tell each other as a tunnel is opened, with the response that is given and the recovery that is
+/// asked for.
 #[tactic(auto, unfolding(crate::specs::Reading::opening_at))]
 fn opening_of(
     alloc: Global,
     avps: &[Avp],
+    response: Option<[u8; 16]>,
     recovery: Option<Recovery>,
 ) -> Result<Opening, MessageError>
-    ensures { Gives Told (λ o. o) result (opening_at avps.now recovery) }
+    ensures { Gives Told (λ o. o) result (opening_at avps.now response recovery) }
 {
     let version = u16_of(avps, PROTOCOL_VERSION)?;
     let framing = u32_of(avps, FRAMING_CAPABILITIES)?;
@@ -165,6 +199,7 @@ fn opening_of(
         window,
         failover,
         challenge,
+        response,
         recovery,
     })
 }
@@ -298,14 +333,18 @@ fn message_of_kind(alloc: Global, kind: Kind, avps: &[Avp]) -> Result<Message, M
     match kind {
         Kind::Sccrq => {
             let recovery = recovery_of(avps)?;
-            let opening = opening_of(alloc, avps, recovery)?;
+            let opening = opening_of(alloc, avps, None, recovery)?;
             Ok(Message::Sccrq(opening))
         }
         Kind::Sccrp => {
-            let opening = opening_of(alloc, avps, None)?;
+            let response = response_of(avps)?;
+            let opening = opening_of(alloc, avps, response, None)?;
             Ok(Message::Sccrp(opening))
         }
-        Kind::Scccn => Ok(Message::Scccn),
+        Kind::Scccn => {
+            let response = response_of(avps)?;
+            Ok(Message::Scccn { response })
+        }
         Kind::StopCcn => stop_ccn_of(avps),
         Kind::Hello => Ok(Message::Hello),
         Kind::Ocrq => ocrq_of(avps),
@@ -358,12 +397,11 @@ pub fn kind_of_pairs(avps: &Avps) -> Option<Kind>
     type_kind(avps)
 }
 
-/// The whole reading, with the answer as a function of the pairs.
+/// The whole reading of plain pairs, with the answer as a function of them.
 #[tactic(auto, unfolding(crate::specs::Reading::message_of))]
-fn read_pairs(alloc: Global, avps: &Avps) -> Result<Read, MessageError>
-    ensures { Gives Told (λ x. x) result (message_of avps.now) }
+fn read_pairs(alloc: Global, pairs: &[Avp]) -> Result<Read, MessageError>
+    ensures { Gives Told (λ x. x) result (message_of pairs.now) }
 {
-    let pairs = avps.as_slice();
     let Some(avp) = find_avp(pairs, MESSAGE_TYPE) else {
         return Err(MessageError::NoType);
     };
@@ -379,23 +417,49 @@ fn read_pairs(alloc: Global, avps: &Avps) -> Result<Read, MessageError>
     Ok(Read::Known(message))
 }
 
+/// The whole reading by a secret.
+fn read_uncovered(alloc: Global, pairs: &[Avp], secret: &[u8]) -> Result<Read, MessageError>
+    ensures { Gives Told (λ x. x) result (message_of (uncovered_all secret.now None pairs.now)) }
+{
+    match find_hidden(pairs) {
+        None => read_pairs(alloc, pairs),
+        Some(_) => {
+            let plain = copy_uncovered(alloc, pairs, secret)?;
+            read_pairs(alloc, plain.as_slice())
+        }
+    }
+}
+
+/// The whole reading, with the answer as a function of the pairs.
+fn read_with(alloc: Global, avps: &Avps, secret: Option<&[u8]>) -> Result<Read, MessageError>
+    ensures { Gives Told (λ x. x) result (message_of (uncovered (option_copied secret.entry) avps.now)) }
+{
+    match secret {
+        None => read_pairs(alloc, avps.as_slice()),
+        Some(secret) => read_uncovered(alloc, avps.as_slice(), secret),
+    }
+}
+
 /// What a list of pairs says: a message, or one that is to be passed over. The first fault decides in this order: the
 /// type; then the pairs from the front; then the least attribute that the message needs and that isn't there. Only
-/// pairs that the message uses are valued, and of a repeated attribute only the first. There is no secret yet, so a
-/// hidden value that is used can't be read.
-pub fn read_message(alloc: Global, avps: &Avps) -> Result<Read, MessageError>
-    // What is read is what the pairs say.
-    ensures found { IfOk result (Says avps.now) }
+/// pairs that the message uses are valued, and of a repeated attribute only the first. Hidden values are uncovered by
+/// the secret first (RFC 2661 section 4.3); one that is used and stays hidden can't be read. Nothing is copied to
+/// uncover where there is no secret or no pair is hidden.
+pub fn read_message(alloc: Global, avps: &Avps, secret: Option<&[u8]>) -> Result<Read, MessageError>
+    // What is read is what the pairs say, as they are uncovered.
+    ensures found { (plain : List Avp) → Uncovers (option_copied secret.entry) avps.now plain → IfOk result (Says plain) }
     // A fault stands where it is told, and it is the first.
-    ensures fault { IfErr result (IsToldFault avps.now) }
+    ensures fault { (plain : List Avp) → Uncovers (option_copied secret.entry) avps.now plain → IfErr result (IsToldFault plain) }
     // What the pairs say is read, unless memory runs out.
-    ensures only { (r : Read) → Says avps.now r → Gives Told (λ x. x) result (Ok r) }
+    ensures only { (plain : List Avp) → Uncovers (option_copied secret.entry) avps.now plain →
+        (r : Read) → Says plain r → Gives Told (λ x. x) result (Ok r) }
     // A first fault that stands there is told, unless memory runs out.
-    ensures told { (e : MessageError) → IsFault avps.now e → Gives Told (λ x. x) result (Err e) }
+    ensures told { (plain : List Avp) → Uncovers (option_copied secret.entry) avps.now plain →
+        (e : MessageError) → IsFault plain e → Gives Told (λ x. x) result (Err e) }
     // For callers: the answer as a function of the pairs.
-    ensures exact { Gives Told (λ x. x) result (message_of avps.now) }
+    ensures exact { Gives Told (λ x. x) result (message_of (uncovered (option_copied secret.entry) avps.now)) }
 {
-    read_pairs(alloc, avps)
+    read_with(alloc, avps, secret)
 }
 
 /// A law: what was written is read again, first as the same pairs, then as the same message.

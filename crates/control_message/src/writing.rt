@@ -1,21 +1,23 @@
 //! Writing control messages.
 
-ghost use Rattle.std.specs.Prelude.{◌≡◌, ◌≤◌, ◌++◌, length, OnOk, OnErr};
-ghost use Rattle.std.specs.Option.{ForSome};
+ghost use Rattle.std.specs.Prelude.{◌≡◌, ℕ, ◌+◌, ◌≤◌, List, ◌++◌, length, Option, Some, None, OnOk, OnErr};
+ghost use Rattle.std.specs.Option.{ForSome, option_copied};
 ghost use Rattle.wire_base.specs.Numbers.{u16_bytes, u32_bytes};
 ghost use Rattle.avp_codec.specs.Spelling.{spelling, spelling_of};
 ghost use Rattle.control_message.specs.declared.message.Message.{Message};
-ghost use Rattle.control_message.specs.declared.message.Message.TheVariants.{StopCcn, Icrq, Cdn};
-ghost use Rattle.control_message.specs.Pairs.{pair, pairs_of, opening_pairs, failover_pairs, calling_pairs, result_code_bytes, IsWritten};
+ghost use Rattle.control_message.specs.declared.message.Message.TheVariants.{Scccn, StopCcn, Icrq, Cdn};
+ghost use Rattle.tunnel_secret.specs.Hiding.{hidden};
+ghost use Rattle.control_message.specs.Pairs.{pair, hidden_pair, pairs_of, opening_front, opening_pairs, failover_pairs, challenge_pairs, response_pairs, calling_pairs, result_code_bytes, IsWritten, padding_of, calling_pairs_with, pairs_with, IsWrittenWith};
 
 use crate::attribute::{
-    ASSIGNED_SESSION, ASSIGNED_TUNNEL, CALL_SERIAL_NUMBER, CALLING_NUMBER, CONNECT_SPEED, FAILOVER,
-    FRAMING_CAPABILITIES, FRAMING_TYPE, HOST_NAME, MESSAGE_TYPE, PROTOCOL_VERSION, RESULT_CODE,
-    WINDOW,
+    ASSIGNED_SESSION, ASSIGNED_TUNNEL, CALL_SERIAL_NUMBER, CALLING_NUMBER, CHALLENGE,
+    CHALLENGE_RESPONSE, CONNECT_SPEED, FAILOVER, FRAMING_CAPABILITIES, FRAMING_TYPE, HOST_NAME,
+    MESSAGE_TYPE, PROTOCOL_VERSION, RANDOM_VECTOR, RESULT_CODE, WINDOW,
 };
 use crate::kind::{CDN, HELLO, ICCN, ICRP, ICRQ, SCCCN, SCCRP, SCCRQ, STOP_CCN};
 use crate::message::{Failover, Message, Opening};
 use avp_codec::{Avp, write_avp};
+use tunnel_secret::hide;
 use wire_base::{Bytes, NoMemory, put_u16, put_u32};
 
 /// Appends a mandatory pair.
@@ -82,10 +84,43 @@ fn put_failover(out: &mut Bytes, failover: &Option<Failover>) -> Result<(), NoMe
     write_avp(out, &avp)
 }
 
-/// Appends the pairs of an opening.
-fn put_opening(out: &mut Bytes, number: u16, opening: &Opening) -> Result<(), NoMemory>
+/// Appends Challenge, where it is told.
+fn put_challenge(out: &mut Bytes, challenge: &Option<Bytes>) -> Result<(), NoMemory>
+    requires { ForSome challenge.now (λ v. length v ≤ 1017) }
+    ensures { OnOk result (out.new ≡ out.old ++ spelling (challenge_pairs challenge.now)) }
+{
+    match challenge {
+        None => Ok(()),
+        Some(challenge) => put_text(out, CHALLENGE, challenge.as_slice()),
+    }
+}
+
+/// Appends Challenge Response, where it is told.
+fn put_response(out: &mut Bytes, response: &Option<[u8; 16]>) -> Result<(), NoMemory>
+    ensures { OnOk result (out.new ≡ out.old ++ spelling (response_pairs response.now)) }
+{
+    match response {
+        None => Ok(()),
+        Some(response) => put_text(out, CHALLENGE_RESPONSE, response),
+    }
+}
+
+/// Appends what an opening tells beside its numbers and its name.
+fn put_told(out: &mut Bytes, opening: &Opening) -> Result<(), NoMemory>
+    requires { ForSome opening.now.challenge (λ v. length v ≤ 1017) }
+    ensures { OnOk result (out.new ≡ out.old ++ spelling (failover_pairs opening.now.failover ++
+        challenge_pairs opening.now.challenge ++ response_pairs opening.now.response)) }
+{
+    put_failover(out, &opening.failover)?;
+    put_challenge(out, &opening.challenge)?;
+    put_response(out, &opening.response)?;
+    Ok(())
+}
+
+/// Appends the pairs of an opening that are always there.
+fn put_opening_front(out: &mut Bytes, number: u16, opening: &Opening) -> Result<(), NoMemory>
     requires { length opening.now.name ≤ 1017 }
-    ensures { OnOk result (out.new ≡ out.old ++ spelling (opening_pairs number opening.now)) }
+    ensures { OnOk result (out.new ≡ out.old ++ spelling (opening_front number opening.now)) }
 {
     put_short(out, MESSAGE_TYPE, number)?;
     put_short(out, PROTOCOL_VERSION, opening.version)?;
@@ -93,7 +128,17 @@ fn put_opening(out: &mut Bytes, number: u16, opening: &Opening) -> Result<(), No
     put_text(out, HOST_NAME, opening.name.as_slice())?;
     put_short(out, ASSIGNED_TUNNEL, opening.tunnel)?;
     put_short(out, WINDOW, opening.window)?;
-    put_failover(out, &opening.failover)?;
+    Ok(())
+}
+
+/// Appends the pairs of an opening.
+fn put_opening(out: &mut Bytes, number: u16, opening: &Opening) -> Result<(), NoMemory>
+    requires name { length opening.now.name ≤ 1017 }
+    requires challenge { ForSome opening.now.challenge (λ v. length v ≤ 1017) }
+    ensures { OnOk result (out.new ≡ out.old ++ spelling (opening_pairs number opening.now)) }
+{
+    put_opening_front(out, number, opening)?;
+    put_told(out, opening)?;
     Ok(())
 }
 
@@ -108,6 +153,15 @@ fn put_calling(out: &mut Bytes, calling: &Option<Bytes>) -> Result<(), NoMemory>
     }
 }
 
+/// Appends the pairs of an Incoming-Call-Request that stand before Calling Number.
+fn put_icrq_front(out: &mut Bytes, session: u16, serial: u32) -> Result<(), NoMemory>
+    ensures { OnOk result (out.new ≡ out.old ++ spelling (pairs_of (Icrq session serial None))) }
+{
+    put_short(out, MESSAGE_TYPE, ICRQ)?;
+    put_short(out, ASSIGNED_SESSION, session)?;
+    put_long(out, CALL_SERIAL_NUMBER, serial)
+}
+
 /// Appends the pairs of an Incoming-Call-Request.
 fn put_icrq(
     out: &mut Bytes,
@@ -118,11 +172,85 @@ fn put_icrq(
     requires { ForSome calling.now (λ v. length v ≤ 1017) }
     ensures { OnOk result (out.new ≡ out.old ++ spelling (pairs_of (Icrq session serial calling.now))) }
 {
-    put_short(out, MESSAGE_TYPE, ICRQ)?;
-    put_short(out, ASSIGNED_SESSION, session)?;
-    put_long(out, CALL_SERIAL_NUMBER, serial)?;
-    put_calling(out, calling)?;
-    Ok(())
+    put_icrq_front(out, session, serial)?;
+    put_calling(out, calling)
+}
+
+/// How many zeros fill a value with its length in two bytes to blocks of 16.
+fn padding_of(value: &[u8]) -> usize
+    requires { length value.now ≤ 990 }
+    ensures exact { result ≡ padding_of value.now }
+    ensures fits { 2 + length value.now + result ≤ 1017 }
+{
+    15 - (value.len() + 1) % 16
+}
+
+/// Appends a mandatory pair whose value is hidden, behind the Random Vector that it is hidden by (RFC 2661 section 4.3).
+fn put_hidden(
+    out: &mut Bytes,
+    attribute: u16,
+    secret: &[u8],
+    vector: &[u8; 16],
+    value: &[u8],
+) -> Result<(), NoMemory>
+    requires { length value.now ≤ 990 }
+    ensures { OnOk result (out.new ≡ out.old ++ (spelling_of (pair RANDOM_VECTOR vector.now) ++
+        spelling_of (hidden_pair attribute (hidden attribute secret.now vector.now value.now (padding_of value.now))))) }
+{
+    put_text(out, RANDOM_VECTOR, vector)?;
+    let padding = padding_of(value);
+    let cipher = hide(out.allocator(), attribute, secret, vector, value, padding)?;
+    let avp = Avp {
+        mandatory: true,
+        hidden: true,
+        reserved: 0,
+        vendor: 0,
+        attribute,
+        value: cipher,
+    };
+    write_avp(out, &avp)
+}
+
+/// Appends Calling Number, hidden, where it is told.
+fn put_hidden_calling(
+    out: &mut Bytes,
+    secret: &[u8],
+    vector: &[u8; 16],
+    calling: &Option<Bytes>,
+) -> Result<(), NoMemory>
+    requires { ForSome calling.now (λ v. length v ≤ 990) }
+    ensures { OnOk result (out.new ≡ out.old ++
+        spelling (calling_pairs_with (Some secret.now) (Some vector.now) calling.now)) }
+{
+    match calling {
+        None => Ok(()),
+        Some(number) => put_hidden(out, CALLING_NUMBER, secret, vector, number.as_slice()),
+    }
+}
+
+/// Appends the pairs of an Incoming-Call-Request, with Calling Number hidden.
+fn put_hidden_icrq(
+    out: &mut Bytes,
+    session: u16,
+    serial: u32,
+    calling: &Option<Bytes>,
+    secret: &[u8],
+    vector: &[u8; 16],
+) -> Result<(), NoMemory>
+    requires { ForSome calling.now (λ v. length v ≤ 990) }
+    ensures { OnOk result (out.new ≡ out.old ++
+        spelling (pairs_with (Some secret.now) (Some vector.now) (Icrq session serial calling.now))) }
+{
+    put_icrq_front(out, session, serial)?;
+    put_hidden_calling(out, secret, vector, calling)
+}
+
+/// Appends the pairs of a Start-Control-Connection-Connected.
+fn put_scccn(out: &mut Bytes, response: &Option<[u8; 16]>) -> Result<(), NoMemory>
+    ensures { OnOk result (out.new ≡ out.old ++ spelling (pairs_of (Scccn response.now))) }
+{
+    put_short(out, MESSAGE_TYPE, SCCCN)?;
+    put_response(out, response)
 }
 
 /// Appends Result Code, with its Error Code where that is told.
@@ -163,7 +291,7 @@ fn put_message(out: &mut Bytes, message: &Message) -> Result<(), NoMemory>
     match message {
         Message::Sccrq(opening) => put_opening(out, SCCRQ, opening),
         Message::Sccrp(opening) => put_opening(out, SCCRP, opening),
-        Message::Scccn => put_short(out, MESSAGE_TYPE, SCCCN),
+        Message::Scccn { response } => put_scccn(out, response),
         Message::StopCcn {
             tunnel,
             result,
@@ -195,20 +323,63 @@ fn put_message(out: &mut Bytes, message: &Message) -> Result<(), NoMemory>
     }
 }
 
+/// Appends the pairs of a message, with what is to be hidden of it hidden where a vector is there.
+fn put_message_with(
+    out: &mut Bytes,
+    message: &Message,
+    secret: Option<&[u8]>,
+    vector: Option<&[u8; 16]>,
+) -> Result<(), NoMemory>
+    requires { IsWrittenWith (option_copied secret) (option_copied vector) message.now }
+    ensures { OnOk result (out.new ≡ out.old ++ spelling (pairs_with (option_copied secret.entry) (option_copied vector.entry) message.now)) }
+{
+    match (message, secret, vector) {
+        (
+            Message::Icrq {
+                session,
+                serial,
+                calling,
+            },
+            Some(secret),
+            Some(vector),
+        ) => put_hidden_icrq(out, *session, *serial, calling, secret, vector),
+        _ => put_message(out, message),
+    }
+}
+
 /// Appends the one spelling of a message in written form: its pairs in the order of the table, each mandatory but for
-/// Failover Capability, none hidden and none padded. Where memory is wanting, nothing is appended.
-pub fn write_message(out: &mut Bytes, message: &Message) -> Result<(), NoMemory>
-    requires { IsWritten message.now }
-    ensures ok { OnOk result (out.new ≡ out.old ++ spelling (pairs_of message.now)) }
+/// Failover Capability, and none padded. Where a vector of 16 random bytes is given, a secret is given too, and Calling
+/// Number is hidden by both (RFC 2661 section 4.3): a Random Vector stands directly before it, and zeros fill its text to
+/// blocks of 16 bytes. Nothing else is hidden. Where memory is wanting, nothing is appended.
+pub fn write_message(
+    out: &mut Bytes,
+    message: &Message,
+    secret: Option<&[u8]>,
+    vector: Option<&[u8; 16]>,
+) -> Result<(), NoMemory>
+    requires { IsWrittenWith (option_copied secret) (option_copied vector) message.now }
+    ensures ok { OnOk result (out.new ≡ out.old ++ spelling (pairs_with (option_copied secret.entry) (option_copied vector.entry) message.now)) }
     ensures err { OnErr result (out.new ≡ out.old) }
 {
     let mut whole = Bytes::new(out.allocator());
-    put_message(&mut whole, message)?;
+    put_message_with(&mut whole, message, secret, vector)?;
     out.push_slice(whole.as_slice())
 }
+
+/// A law: without a vector, a message is written as it is without a secret.
+pub fn hides_nothing_without_a_vector()
+    ensures { (k : Option (List ℕ)) (m : Message) → pairs_with k None m ≡ pairs_of m }
+{}
 
 /// A law: what is written has room in one control message, whose length field counts the header's 12 bytes too
 /// (RFC 2661 section 3.1).
 pub fn has_room()
     ensures { (m : Message) → IsWritten m → length (spelling (pairs_of m)) ≤ 65523 }
 {}
+
+/// A law: so has what is written with a secret and a vector.
+pub fn has_room_with()
+    ensures { (k v : Option (List ℕ)) (m : Message) → IsWrittenWith k v m → length (spelling (pairs_with k v m)) ≤ 65523 }
+{
+    tunnel_secret::unhides_what_was_hidden();
+}

@@ -1,6 +1,6 @@
 -- A line that is read is spelled so, and a line that is spelled so is read.
-use Rattle.std.proofs.Common.{◌≡◌, ◌⊎◌, ℕ, ◌^◌, ◌<◌, ◌&&◌, Bool, true, false, cond, eqb, leb, List, [], ◌∷◌, ◌++◌, length, Option, Some, None, Result, Ok, Err, refl, sym, ap, subst, ◌∙◌, append_assoc, arith, inl, inr}
-use Rattle.std.specs.Prelude.{codes, option_map}
+use Rattle.std.proofs.Common.{◌≡◌, ◌⊎◌, ℕ, ◌^◌, ◌<◌, ◌≤◌, ◌&&◌, zero, suc, ◌/◌, ◌%◌, slice_index, Bool, true, false, cond, eqb, leb, List, [], ◌∷◌, ◌++◌, length, Option, Some, None, Result, Ok, Err, refl, sym, ap, subst, ◌∙◌, append_assoc, arith, inl, inr}
+use Rattle.std.specs.Prelude.{codes, option_map, IfSome}
 use Rattle.std.specs.List.{list_all, AllByRecursion}
 use Rattle.std.specs.Char.{is_ascii_digit}
 use Rattle.std.specs.Str.{bytes_eq, all_ascii_digits}
@@ -9,13 +9,13 @@ use Rattle.std.proofs.lemmas.Bool.{cases_Bool, eqb-true, eq-eqb, ne_eqb, leb-tru
 use Rattle.std.proofs.lemmas.Option.{none-some, same_Some}
 use Rattle.std.proofs.lemmas.Slice.Eq.{bytes_eq-Decides}
 use Rattle.std.proofs.lemmas.Fmt.{digits_decimal}
-use Rattle.hex.specs.Hex.{decode_of, encode_lower}
+use Rattle.hex.specs.Hex.{decode_of, encode_lower, encode_with, lower_digits, IsBytes}
 use Rattle.hex.specs.declared.error.FromHexError.{FromHexError}
 use Rattle.hex.proofs.HexLemmas.{decode_of-encode_lower, decode_of-ok}
 use Rattle.schedule_text.specs.declared.line.Line.{Line}
 use Rattle.schedule_text.specs.declared.line.Line.TheVariants.{Remark, Lac, Lns, OpenUp, Close, Ring, FromSub, Down, Hang, DropCall, Deliver, Tick}
-use Rattle.schedule_text.specs.Grammar.{call_text, line_text, IsPrintable, IsNode, IsPort, IsSession, IsTunnel, IsFrame, IsPacket, IsMilliseconds, FitsLine}
-use Rattle.schedule_text.specs.Reading.{◌>>=◌, cut, node_of, port_of, session_of, packet_of, milliseconds_of, frame_from, frame_of, lac_of, lns_of, open_of, ring_of, call_of, from_sub_of, down_of, node_session_of, hang_of, drop_of, close_of, deliver_of, tick_of, plain_of, words_of, is_printable, remark_of, line_of}
+use Rattle.schedule_text.specs.Grammar.{call_text, line_text, IsPrintable, IsNode, IsPort, IsSession, IsTunnel, IsFrame, IsPacket, IsMilliseconds, IsSecret, secret_text, FitsLine}
+use Rattle.schedule_text.specs.Reading.{◌>>=◌, cut, node_of, port_of, session_of, packet_of, milliseconds_of, bytes_from, bytes_of, frame_of, secret_of, pair_of, lac_of, lns_of, open_of, ring_of, call_of, from_sub_of, down_of, node_session_of, hang_of, drop_of, close_of, deliver_of, tick_of, plain_of, words_of, is_printable, remark_of, line_of}
 use Rattle.schedule_text.proofs.Numbers.{own, number_found, number_again}
 
 -- ---- parts
@@ -58,6 +58,10 @@ chosen : {A : Type 0} (b : Bool) (o : Option A) (y : A) → cond b o None ≡ So
 chosen true o y e = (refl, e)
 chosen false o y e = absurd (none-some y e)
 
+either : {A : Type 0} (b : Bool) (o p : Option A) (y : A) → cond b o p ≡ Some y → ((b ≡ true) × (o ≡ Some y)) ⊎ (p ≡ Some y)
+either true o p y e = inl (refl, e)
+either false o p y e = inr e
+
 same_text : (xs ys : List ℕ) → bytes_eq xs ys ≡ true → xs ≡ ys
 same_text xs ys e = (bytes_eq-Decides xs ys).0 e
 
@@ -86,33 +90,98 @@ milliseconds_found n word e = let f = number_found 0 86400000 n word (omega arit
 cut_words : (words word rest : List ℕ) (n : ℕ) → cut 32 words ≡ Some (word, rest) → word ≡ decimal n → words ≡ decimal n ++ 32 ∷ rest
 cut_words words word rest n e f = cut_found 32 words word rest e ∙ ap (λ w. w ++ 32 ∷ rest) f
 
-lac_spelled : (words rest : List ℕ) (node lns : ℕ) → words ≡ decimal node ++ 32 ∷ rest → rest ≡ decimal lns ++ 32 ∷ codes "- plain" → codes "lac " ++ words ≡ line_text (Lac node lns)
-lac_spelled words rest node lns e f = rw (e, f) (simp append_assoc)
+-- ---- bytes that were read
+
+-- the bytes that a word spells, in so many
+abbrev IsHex : ℕ → ℕ → List ℕ → List ℕ → Type 0
+IsHex least most word bytes = (word ≡ encode_lower bytes) × ((least ≤ length bytes) × (length bytes ≤ most) × IsBytes bytes)
+
+bytes_kept : (least most : ℕ) (word bytes : List ℕ) (r : Result (List ℕ) FromHexError) → decode_of word ≡ r → bytes_from least most word r ≡ Some bytes → IsHex least most word bytes
+bytes_kept least most word bytes (Err x) d e = absurd (none-some bytes e)
+bytes_kept least most word bytes (Ok x) d e =
+    let c = chosen _ _ bytes e in
+    let p = and_parts (leb least (length x) && leb (length x) most) (bytes_eq (encode_lower x) word) c.0 in
+    let q = and_parts (leb least (length x)) (leb (length x) most) p.0 in
+    let spelled : IsHex least most word x = (sym (same_text (encode_lower x) word p.1), (leb-true least (length x) q.0, leb-true (length x) most q.1, (decode_of-ok word x d).3)) in
+    subst (IsHex least most word) (same_Some x bytes c.1) spelled
+
+bytes_found : (least most : ℕ) (word bytes : List ℕ) → bytes_of least most word ≡ Some bytes → IsHex least most word bytes
+unfolding bytes_of
+bytes_found least most word bytes e = bytes_kept least most word bytes (decode_of word) refl e
+
+-- the word is that of the secret, or says that there is none
+abbrev IsSecretWord : List ℕ → Option (List ℕ) → Type 0
+IsSecretWord word secret = (word ≡ secret_text secret) × IfSome secret IsSecret
+
+secret_found : (word : List ℕ) (secret : Option (List ℕ)) → secret_of word ≡ Some secret → IsSecretWord word secret
+unfolding secret_of
+secret_found word secret e =
+    elim (either (bytes_eq word (codes "-")) (Some None) _ secret e) [
+      | inl a ↦ subst (IsSecretWord word) (same_Some None secret a.1) (same_text word (codes "-") a.0, tt)
+      | inr e1 ↦ bound (bytes_of 1 64 word) _ secret e1 (λ bytes eb hb.
+          let found : IsSecretWord word (Some bytes) = bytes_found 1 64 word bytes eb in
+          subst (IsSecretWord word) (same_Some (Some bytes) secret hb) found)
+    ]
+
+-- ---- ends that were read
+
+-- the words are those of a LAC, of its LNS, and of their secret
+record IsPair (words : List ℕ) (pair : ℕ × ℕ × List ℕ) : Type 0 where
+  spelled : words ≡ decimal pair.0 ++ 32 ∷ (decimal pair.1 ++ 32 ∷ (pair.2 ++ 32 ∷ codes "plain"))
+  node : IsNode pair.0
+  lns : IsNode pair.1
+
+pair_found : (words : List ℕ) (pair : ℕ × ℕ × List ℕ) → pair_of words ≡ Some pair → IsPair words pair
+unfolding pair_of
+pair_found words pair e =
+    bound (cut 32 words) _ pair e (λ a ea ha.
+    bound (cut 32 a.1) _ pair ha (λ b eb hb.
+    bound (cut 32 b.1) _ pair hb (λ c ec hc.
+    let plain = chosen _ _ pair hc in
+    bound (node_of a.0) _ pair plain.1 (λ node en hn.
+    bound (node_of b.0) _ pair hn (λ lns em hm.
+    let n = node_found node a.0 en in
+    let m = node_found lns b.0 em in
+    let mode : b.1 ≡ c.0 ++ 32 ∷ codes "plain" = cut_found 32 b.1 c.0 c.1 ec ∙ ap (λ t. c.0 ++ 32 ∷ t) (same_text c.1 (codes "plain") plain.0) in
+    let tail = cut_words a.1 b.0 b.1 lns eb m.0 ∙ ap (λ t. decimal lns ++ 32 ∷ t) mode in
+    let found : IsPair words (node, lns, c.0) =
+    record {
+      spelled = cut_words words a.0 a.1 node ea n.0 ∙ ap (λ t. decimal node ++ 32 ∷ t) tail;
+      node = n.1;
+      lns = m.1;
+    } in
+    subst (IsPair words) (same_Some (node, lns, c.0) pair hm) found)))))
+
+-- the same bytes, as words that are cut in turn
+regroup_lac : (node lns : ℕ) (secret : List ℕ) → decimal node ++ codes " " ++ decimal lns ++ codes " " ++ secret ++ codes " plain" ≡ decimal node ++ 32 ∷ (decimal lns ++ 32 ∷ (secret ++ 32 ∷ codes "plain"))
+regroup_lac node lns secret = simp append_assoc
+
+regroup_lns : (node : ℕ) (secret : List ℕ) → decimal node ++ codes " " ++ secret ≡ decimal node ++ 32 ∷ secret
+regroup_lns node secret = simp append_assoc
 
 lac_found : (words : List ℕ) (l : Line) → lac_of words ≡ Some l → IsSpelled l (codes "lac " ++ words)
 unfolding lac_of
 lac_found words l e =
-    bound (cut 32 words) _ l e (λ a ea ha.
-    bound (cut 32 a.1) _ l ha (λ b eb hb.
-    let c = chosen _ _ l hb in
-    bound (node_of a.0) _ l c.1 (λ node en hn.
-    bound (node_of b.0) _ l hn (λ lns em hm.
-    let n = node_found node a.0 en in
-    let m = node_found lns b.0 em in
-    let tail = cut_words a.1 b.0 b.1 lns eb m.0 ∙ ap (λ t. decimal lns ++ 32 ∷ t) (same_text b.1 (codes "- plain") c.0) in
-    let spelled : IsSpelled (Lac node lns) (codes "lac " ++ words) = ((n.1, m.1), lac_spelled words a.1 node lns (cut_words words a.0 a.1 node ea n.0) tail) in
-    subst (λ x. IsSpelled x (codes "lac " ++ words)) (same_Some (Lac node lns) l hm) spelled))))
+    bound (pair_of words) _ l e (λ pair ep hp.
+    bound (secret_of pair.2) _ l hp (λ secret es hs.
+    let p = pair_found words pair ep in
+    let s = secret_found pair.2 secret es in
+    let text : words ≡ decimal pair.0 ++ codes " " ++ decimal pair.1 ++ codes " " ++ secret_text secret ++ codes " plain" =
+    p.spelled ∙ ap (λ t. decimal pair.0 ++ 32 ∷ (decimal pair.1 ++ 32 ∷ (t ++ 32 ∷ codes "plain"))) s.0 ∙ sym (regroup_lac pair.0 pair.1 (secret_text secret)) in
+    let spelled : IsSpelled (Lac pair.0 pair.1 secret) (codes "lac " ++ words) = ((p.node, p.lns, s.1), ap (λ t. codes "lac " ++ t) text) in
+    subst (λ x. IsSpelled x (codes "lac " ++ words)) (same_Some (Lac pair.0 pair.1 secret) l hs) spelled))
 
 lns_found : (words : List ℕ) (l : Line) → lns_of words ≡ Some l → IsSpelled l (codes "lns " ++ words)
 unfolding lns_of
 lns_found words l e =
     bound (cut 32 words) _ l e (λ a ea ha.
-    let c = chosen _ _ l ha in
-    bound (node_of a.0) _ l c.1 (λ node en hn.
+    bound (node_of a.0) _ l ha (λ node en hn.
+    bound (secret_of a.1) _ l hn (λ secret es hs.
     let n = node_found node a.0 en in
-    let tail = cut_words words a.0 a.1 node ea n.0 ∙ ap (λ t. decimal node ++ 32 ∷ t) (same_text a.1 (codes "-") c.0) in
-    let spelled : IsSpelled (Lns node) (codes "lns " ++ words) = (n.1, rw tail (simp append_assoc)) in
-    subst (λ x. IsSpelled x (codes "lns " ++ words)) (same_Some (Lns node) l hn) spelled))
+    let s = secret_found a.1 secret es in
+    let text : words ≡ decimal node ++ codes " " ++ secret_text secret = cut_words words a.0 a.1 node ea n.0 ∙ ap (λ t. decimal node ++ 32 ∷ t) s.0 ∙ sym (regroup_lns node (secret_text secret)) in
+    let spelled : IsSpelled (Lns node secret) (codes "lns " ++ words) = ((n.1, s.1), ap (λ t. codes "lns " ++ t) text) in
+    subst (λ x. IsSpelled x (codes "lns " ++ words)) (same_Some (Lns node secret) l hs) spelled)))
 
 open_found : (words : List ℕ) (l : Line) → open_of words ≡ Some l → IsSpelled l (codes "open " ++ words)
 unfolding open_of
@@ -136,19 +205,8 @@ ring_found words l e =
 
 -- ---- a frame of a call that was read
 
-frame_kept : (word frame : List ℕ) (r : Result (List ℕ) FromHexError) → decode_of word ≡ r → frame_from word r ≡ Some frame → (word ≡ encode_lower frame) × IsFrame frame
-frame_kept word frame (Err x) d e = absurd (none-some frame e)
-frame_kept word frame (Ok x) d e =
-    let c = chosen _ _ frame e in
-    let p = and_parts (leb 2 (length x) && leb (length x) 1494) (bytes_eq (encode_lower x) word) c.0 in
-    let q = and_parts (leb 2 (length x)) (leb (length x) 1494) p.0 in
-    let spelled : word ≡ encode_lower x = sym (same_text (encode_lower x) word p.1) in
-    let fits : IsFrame x = (leb-true 2 (length x) q.0, leb-true (length x) 1494 q.1, (decode_of-ok word x d).3) in
-    subst (λ f. (word ≡ encode_lower f) × IsFrame f) (same_Some x frame c.1) (spelled, fits)
-
 frame_found : (word frame : List ℕ) → frame_of word ≡ Some frame → (word ≡ encode_lower frame) × IsFrame frame
-unfolding frame_of
-frame_found word frame e = frame_kept word frame (decode_of word) refl e
+frame_found word frame e = bytes_found 2 1494 word frame e
 
 -- the words are those of the call
 record IsCall (words : List ℕ) (call : ℕ × ℕ × List ℕ) : Type 0 where
@@ -275,34 +333,24 @@ tick_found words l e =
 kind_spelled : (kind name words : List ℕ) (l : Line) → bytes_eq kind name ≡ true → IsSpelled l (name ++ 32 ∷ words) → IsSpelled l (kind ++ 32 ∷ words)
 kind_spelled kind name words l e h = subst (λ k. IsSpelled l (k ++ 32 ∷ words)) (sym (same_text kind name e)) h
 
-either : {A : Type 0} (b : Bool) (o p : Option A) (y : A) → cond b o p ≡ Some y → ((b ≡ true) × (o ≡ Some y)) ⊎ (p ≡ Some y)
-either true o p y e = inl (refl, e)
-either false o p y e = inr e
-
 plain_found : (kind words : List ℕ) (l : Line) → plain_of kind words ≡ Some l → IsSpelled l (kind ++ 32 ∷ words)
 unfolding plain_of
 plain_found kind words l e =
-    elim (either (bytes_eq kind (codes "lac")) (lac_of words) _ l e) [
-      | inl a ↦ kind_spelled kind (codes "lac") words l a.0 (lac_found words l a.1)
-      | inr e1 ↦ elim (either (bytes_eq kind (codes "lns")) (lns_of words) _ l e1) [
-        | inl a ↦ kind_spelled kind (codes "lns") words l a.0 (lns_found words l a.1)
-        | inr e2 ↦ elim (either (bytes_eq kind (codes "open")) (open_of words) _ l e2) [
-          | inl a ↦ kind_spelled kind (codes "open") words l a.0 (open_found words l a.1)
-          | inr e3 ↦ elim (either (bytes_eq kind (codes "ring")) (ring_of words) _ l e3) [
-            | inl a ↦ kind_spelled kind (codes "ring") words l a.0 (ring_found words l a.1)
-            | inr e4 ↦ elim (either (bytes_eq kind (codes "hang")) (hang_of words) _ l e4) [
-              | inl a ↦ kind_spelled kind (codes "hang") words l a.0 (hang_found words l a.1)
-              | inr e5 ↦ elim (either (bytes_eq kind (codes "drop")) (drop_of words) _ l e5) [
-                | inl a ↦ kind_spelled kind (codes "drop") words l a.0 (drop_found words l a.1)
-                | inr e6 ↦ elim (either (bytes_eq kind (codes "close")) (close_of words) _ l e6) [
-                  | inl a ↦ kind_spelled kind (codes "close") words l a.0 (close_found words l a.1)
-                  | inr e7 ↦ elim (either (bytes_eq kind (codes "deliver")) (deliver_of words) _ l e7) [
-                    | inl a ↦ kind_spelled kind (codes "deliver") words l a.0 (deliver_found words l a.1)
-                    | inr e8 ↦ elim (either (bytes_eq kind (codes "tick")) (tick_of words) _ l e8) [
-                      | inl a ↦ kind_spelled kind (codes "tick") words l a.0 (tick_found words l a.1)
-                      | inr e9 ↦ absurd (none-some l e9)
-                    ]
-                  ]
+    elim (either (bytes_eq kind (codes "open")) (open_of words) _ l e) [
+      | inl a ↦ kind_spelled kind (codes "open") words l a.0 (open_found words l a.1)
+      | inr e1 ↦ elim (either (bytes_eq kind (codes "ring")) (ring_of words) _ l e1) [
+        | inl a ↦ kind_spelled kind (codes "ring") words l a.0 (ring_found words l a.1)
+        | inr e2 ↦ elim (either (bytes_eq kind (codes "hang")) (hang_of words) _ l e2) [
+          | inl a ↦ kind_spelled kind (codes "hang") words l a.0 (hang_found words l a.1)
+          | inr e3 ↦ elim (either (bytes_eq kind (codes "drop")) (drop_of words) _ l e3) [
+            | inl a ↦ kind_spelled kind (codes "drop") words l a.0 (drop_found words l a.1)
+            | inr e4 ↦ elim (either (bytes_eq kind (codes "close")) (close_of words) _ l e4) [
+              | inl a ↦ kind_spelled kind (codes "close") words l a.0 (close_found words l a.1)
+              | inr e5 ↦ elim (either (bytes_eq kind (codes "deliver")) (deliver_of words) _ l e5) [
+                | inl a ↦ kind_spelled kind (codes "deliver") words l a.0 (deliver_found words l a.1)
+                | inr e6 ↦ elim (either (bytes_eq kind (codes "tick")) (tick_of words) _ l e6) [
+                  | inl a ↦ kind_spelled kind (codes "tick") words l a.0 (tick_found words l a.1)
+                  | inr e7 ↦ absurd (none-some l e7)
                 ]
               ]
             ]
@@ -314,11 +362,17 @@ plain_found kind words l e =
 words_found : (kind words : List ℕ) (l : Line) → words_of kind words ≡ Some l → IsSpelled l (kind ++ 32 ∷ words)
 unfolding words_of
 words_found kind words l e =
-    elim (either (bytes_eq kind (codes "data")) (from_sub_of words) _ l e) [
-      | inl a ↦ kind_spelled kind (codes "data") words l a.0 (from_sub_found words l a.1)
-      | inr e1 ↦ elim (either (bytes_eq kind (codes "down")) (down_of words) _ l e1) [
-        | inl a ↦ kind_spelled kind (codes "down") words l a.0 (down_found words l a.1)
-        | inr e2 ↦ plain_found kind words l e2
+    elim (either (bytes_eq kind (codes "lac")) (lac_of words) _ l e) [
+      | inl a ↦ kind_spelled kind (codes "lac") words l a.0 (lac_found words l a.1)
+      | inr e1 ↦ elim (either (bytes_eq kind (codes "lns")) (lns_of words) _ l e1) [
+        | inl a ↦ kind_spelled kind (codes "lns") words l a.0 (lns_found words l a.1)
+        | inr e2 ↦ elim (either (bytes_eq kind (codes "data")) (from_sub_of words) _ l e2) [
+          | inl a ↦ kind_spelled kind (codes "data") words l a.0 (from_sub_found words l a.1)
+          | inr e3 ↦ elim (either (bytes_eq kind (codes "down")) (down_of words) _ l e3) [
+            | inl a ↦ kind_spelled kind (codes "down") words l a.0 (down_found words l a.1)
+            | inr e4 ↦ plain_found kind words l e4
+          ]
+        ]
       ]
     ]
 
@@ -359,19 +413,74 @@ lacks_byte c (d ∷ ds) lt e =
 pub number_lacks : (c n : ℕ) → c < 48 → n < 2 ^ 64 → Lacks c (decimal n)
 number_lacks c n lt small = lacks_byte c (decimal n) lt (digits_decimal own n small)
 
+-- no place of a table has the byte, if none of its digits is the byte
+digit_lacks : (c : ℕ) (table : List ℕ) (place : ℕ) → eqb 0 c ≡ false → Lacks c table → eqb (slice_index table place) c ≡ false
+digit_lacks c [] place z h = z
+digit_lacks c (x ∷ xs) zero z h = h.0
+digit_lacks c (x ∷ xs) (suc place) z h = digit_lacks c xs place z h.1
+
+pub hex_lacks : (c : ℕ) (table bytes : List ℕ) → eqb 0 c ≡ false → Lacks c table → Lacks c (encode_with table bytes)
+unfolding encode_with
+hex_lacks c table [] z h = tt
+hex_lacks c table (b ∷ bs) z h = (digit_lacks c table (b / 16) z h, (digit_lacks c table (b % 16) z h, hex_lacks c table bs z h))
+
+pub digits_lack_feed : Lacks 10 lower_digits
+digits_lack_feed = (refl, (refl, (refl, (refl, (refl, (refl, (refl, (refl, (refl, (refl, (refl, (refl, (refl, (refl, (refl, (refl, tt))))))))))))))))
+
+digits_lack_space : Lacks 32 lower_digits
+digits_lack_space = (refl, (refl, (refl, (refl, (refl, (refl, (refl, (refl, (refl, (refl, (refl, (refl, (refl, (refl, (refl, (refl, tt))))))))))))))))
+
+digits_lack_dash : Lacks 45 lower_digits
+digits_lack_dash = (refl, (refl, (refl, (refl, (refl, (refl, (refl, (refl, (refl, (refl, (refl, (refl, (refl, (refl, (refl, (refl, tt))))))))))))))))
+
+-- a secret's word has no such byte, where neither the digits are it nor the sign that there is no secret
+pub secret_lacks : (c : ℕ) (secret : Option (List ℕ)) → eqb 0 c ≡ false → eqb 45 c ≡ false → Lacks c lower_digits → Lacks c (secret_text secret)
+secret_lacks c None z d h = (d, tt)
+secret_lacks c (Some s) z d h = hex_lacks c lower_digits s z h
+
+-- what begins with another byte isn't the sign that there is no secret
+other_word : (word : List ℕ) → 0 < length word → Lacks 45 word → bytes_eq word (codes "-") ≡ false
+other_word [] some h = absurd (omega arith)
+other_word (c ∷ cs) some h = rw h.0 refl
+
+no_dash : (secret : List ℕ) → 0 < length secret → bytes_eq (encode_lower secret) (codes "-") ≡ false
+unfolding encode_with
+no_dash [] some = absurd (omega arith)
+no_dash (b ∷ bs) some = other_word (encode_lower (b ∷ bs)) (omega arith) (hex_lacks 45 lower_digits (b ∷ bs) refl digits_lack_dash)
+
 node_again : (n : ℕ) → IsNode n → node_of (decimal n) ≡ Some n
 node_again n h = number_again 1 255 n (omega arith) h.0 h.1
 
 node_cut : (n : ℕ) (rest : List ℕ) → IsNode n → cut 32 (decimal n ++ 32 ∷ rest) ≡ Some (decimal n, rest)
 node_cut n rest h = cut_again 32 (decimal n) rest (number_lacks 32 n (omega arith) (omega arith))
 
-lac_again : (node lns : ℕ) → IsNode node → IsNode lns → lac_of (decimal node ++ 32 ∷ (decimal lns ++ 32 ∷ codes "- plain")) ≡ Some (Lac node lns)
-unfolding lac_of
-lac_again node lns n m = rw (node_cut node (decimal lns ++ 32 ∷ codes "- plain") n, node_cut lns (codes "- plain") m, node_again node n, node_again lns m) refl
+bytes_again : (least most : ℕ) (bytes : List ℕ) → least ≤ length bytes → length bytes ≤ most → IsBytes bytes → bytes_of least most (encode_lower bytes) ≡ Some bytes
+unfolding bytes_of
+bytes_again least most bytes low high h =
+    let same : bytes_eq (encode_lower bytes) (encode_lower bytes) ≡ true = (bytes_eq-Decides (encode_lower bytes) (encode_lower bytes)).1 refl in
+    rw (decode_of-encode_lower bytes h, le-leb least (length bytes) low, le-leb (length bytes) most high, same) refl
 
-lns_again : (node : ℕ) → IsNode node → lns_of (decimal node ++ 32 ∷ codes "-") ≡ Some (Lns node)
+-- no table of digits has the sign that there is no secret
+secret_again : (secret : Option (List ℕ)) → IfSome secret IsSecret → secret_of (secret_text secret) ≡ Some secret
+unfolding secret_of
+secret_again None h = refl
+secret_again (Some s) h = rw (no_dash s h.0, bytes_again 1 64 s h.0 h.1 h.2) refl
+
+secret_cut : (secret : Option (List ℕ)) (rest : List ℕ) → cut 32 (secret_text secret ++ 32 ∷ rest) ≡ Some (secret_text secret, rest)
+secret_cut secret rest = cut_again 32 (secret_text secret) rest (secret_lacks 32 secret refl refl digits_lack_space)
+
+pair_again : (node lns : ℕ) (secret : Option (List ℕ)) → IsNode node → IsNode lns → pair_of (decimal node ++ 32 ∷ (decimal lns ++ 32 ∷ (secret_text secret ++ 32 ∷ codes "plain"))) ≡ Some (node, lns, secret_text secret)
+unfolding pair_of
+pair_again node lns secret n m =
+    rw (node_cut node (decimal lns ++ 32 ∷ (secret_text secret ++ 32 ∷ codes "plain")) n, node_cut lns (secret_text secret ++ 32 ∷ codes "plain") m, secret_cut secret (codes "plain"), node_again node n, node_again lns m) refl
+
+lac_again : (node lns : ℕ) (secret : Option (List ℕ)) → IsNode node → IsNode lns → IfSome secret IsSecret → lac_of (decimal node ++ 32 ∷ (decimal lns ++ 32 ∷ (secret_text secret ++ 32 ∷ codes "plain"))) ≡ Some (Lac node lns secret)
+unfolding lac_of
+lac_again node lns secret n m s = rw (pair_again node lns secret n m, secret_again secret s) refl
+
+lns_again : (node : ℕ) (secret : Option (List ℕ)) → IsNode node → IfSome secret IsSecret → lns_of (decimal node ++ 32 ∷ secret_text secret) ≡ Some (Lns node secret)
 unfolding lns_of
-lns_again node n = rw (node_cut node (codes "-") n, node_again node n) refl
+lns_again node secret n s = rw (node_cut node (secret_text secret) n, node_again node n, secret_again secret s) refl
 
 ring_again : (node port : ℕ) → IsNode node → IsPort port → ring_of (decimal node ++ 32 ∷ decimal port) ≡ Some (Ring node port)
 unfolding ring_of
@@ -398,10 +507,7 @@ unfolding tick_of
 tick_again node milliseconds n m = rw (node_cut node (decimal milliseconds) n, node_again node n, number_again 0 86400000 milliseconds (omega arith) (omega arith) m) refl
 
 frame_again : (frame : List ℕ) → IsFrame frame → frame_of (encode_lower frame) ≡ Some frame
-unfolding frame_of
-frame_again frame h =
-    let same : bytes_eq (encode_lower frame) (encode_lower frame) ≡ true = (bytes_eq-Decides (encode_lower frame) (encode_lower frame)).1 refl in
-    rw (decode_of-encode_lower frame h.2, le-leb 2 (length frame) h.0, le-leb (length frame) 1494 h.1, same) refl
+frame_again frame h = bytes_again 2 1494 frame h.0 h.1 h.2
 
 call_again : (node session : ℕ) (word : List ℕ) → IsNode node → IsSession session → call_of (decimal node ++ 32 ∷ (decimal session ++ 32 ∷ word)) ≡ Some (node, session, word)
 unfolding call_of
@@ -426,10 +532,8 @@ printable_again (c ∷ cs) h = and_from _ _ (and_from _ _ (le-leb 32 c h.0.0) (l
 pub line_again : (l : Line) → FitsLine l → line_of (line_text l) ≡ Some l
 unfolding line_of words_of plain_of remark_of open_of deliver_of
 line_again (Remark text) h = rw (printable_again text h) refl
-line_again (Lac node lns) h =
-    let regrouped : decimal node ++ codes " " ++ decimal lns ++ codes " - plain" ≡ decimal node ++ 32 ∷ (decimal lns ++ 32 ∷ codes "- plain") = simp append_assoc in
-    ap lac_of regrouped ∙ lac_again node lns h.0 h.1
-line_again (Lns node) h = lns_again node h
+line_again (Lac node lns secret) h = ap lac_of (regroup_lac node lns (secret_text secret)) ∙ lac_again node lns secret h.0 h.1 h.2
+line_again (Lns node secret) h = ap lns_of (regroup_lns node (secret_text secret)) ∙ lns_again node secret h.0 h.1
 line_again (OpenUp node) h = rw (node_again node h) refl
 line_again (Ring node port) h =
     let regrouped : decimal node ++ codes " " ++ decimal port ≡ decimal node ++ 32 ∷ decimal port = simp append_assoc in

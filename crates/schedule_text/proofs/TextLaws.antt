@@ -1,16 +1,16 @@
 -- The bytes of the lines of a text, and the text that they make.
-use Rattle.std.proofs.Common.{◌≡◌, ◌⊎◌, ℕ, zero, suc, ◌<◌, ◌/◌, ◌%◌, false, eqb, slice_index, List, [], ◌∷◌, ◌++◌, length, map, refl, sym, ap, subst, ◌∙◌, append_assoc, arith, inl, inr}
+use Rattle.std.proofs.Common.{◌≡◌, ◌⊎◌, ℕ, ◌<◌, eqb, List, [], ◌∷◌, ◌++◌, length, map, refl, sym, ap, subst, ◌∙◌, append_assoc, arith, inl, inr}
 use Rattle.std.specs.Prelude.{codes}
 use Rattle.std.specs.Fmt.{decimal}
 use Rattle.std.specs.List.{flat_map, AllByRecursion}
 use Rattle.std.proofs.lemmas.Bool.{cases_Bool, eqb-true, ne_eqb}
 use Rattle.std.proofs.lemmas.List.{append-nil, length-append}
-use Rattle.hex.specs.Hex.{encode_lower, encode_with, lower_digits}
+use Rattle.hex.specs.Hex.{encode_lower, lower_digits}
 use Rattle.schedule_text.specs.declared.line.Line.{Line}
 use Rattle.schedule_text.specs.declared.line.Line.TheVariants.{Remark, Lac, Lns, OpenUp, Close, Ring, FromSub, Down, Hang, DropCall, Deliver, Tick}
-use Rattle.schedule_text.specs.Grammar.{call_text, line_text, IsPrintable, IsNode, IsSession, FitsLine, AreLines, spelling, IsText}
+use Rattle.schedule_text.specs.Grammar.{call_text, secret_text, line_text, IsPrintable, IsNode, IsSession, FitsLine, AreLines, spelling, IsText}
 use Rattle.schedule_text.specs.Reading.{put_first, text_lines}
-use Rattle.schedule_text.proofs.LineLaws.{Lacks, number_lacks}
+use Rattle.schedule_text.proofs.LineLaws.{Lacks, number_lacks, hex_lacks, digits_lack_feed, secret_lacks}
 
 pub first_is : (x y : List ℕ) (xs ys : List (List ℕ)) → x ∷ xs ≡ y ∷ ys → x ≡ y
 first_is x y xs ys e = cc
@@ -92,26 +92,12 @@ lacks_printable (c ∷ cs) h = (ne_eqb c 10 (λ e. let low = h.0.0 in omega arit
 node_lacks : (n : ℕ) → IsNode n → Lacks 10 (decimal n)
 node_lacks n h = number_lacks 10 n (omega arith) (omega arith)
 
--- no place of a table has the byte, if none of its digits is the byte
-digit_lacks : (c : ℕ) (table : List ℕ) (place : ℕ) → eqb 0 c ≡ false → Lacks c table → eqb (slice_index table place) c ≡ false
-digit_lacks c [] place z h = z
-digit_lacks c (x ∷ xs) zero z h = h.0
-digit_lacks c (x ∷ xs) (suc place) z h = digit_lacks c xs place z h.1
-
-hex_lacks : (c : ℕ) (table bytes : List ℕ) → eqb 0 c ≡ false → Lacks c table → Lacks c (encode_with table bytes)
-unfolding encode_with
-hex_lacks c table [] z h = tt
-hex_lacks c table (b ∷ bs) z h = (digit_lacks c table (b / 16) z h, (digit_lacks c table (b % 16) z h, hex_lacks c table bs z h))
-
-digits_lack : Lacks 10 lower_digits
-digits_lack = (refl, (refl, (refl, (refl, (refl, (refl, (refl, (refl, (refl, (refl, (refl, (refl, (refl, (refl, (refl, (refl, tt))))))))))))))))
-
 call_lacks : (node session : ℕ) (frame : List ℕ) → IsNode node → IsSession session → Lacks 10 (call_text node session frame)
 call_lacks node session frame n s =
     let front = lacks_append 10 (decimal node) (codes " ") (node_lacks node n) (refl, tt) in
     let names = lacks_append 10 (decimal node ++ codes " ") (decimal session) front (number_lacks 10 session (omega arith) (omega arith)) in
     let words = lacks_append 10 _ (codes " ") names (refl, tt) in
-    lacks_append 10 _ (encode_lower frame) words (hex_lacks 10 lower_digits frame refl digits_lack)
+    lacks_append 10 _ (encode_lower frame) words (hex_lacks 10 lower_digits frame refl digits_lack_feed)
 
 node_session_lacks : (node session : ℕ) → IsNode node → IsSession session → Lacks 10 (decimal node ++ codes " " ++ decimal session)
 node_session_lacks node session n s =
@@ -120,11 +106,15 @@ node_session_lacks node session n s =
 
 lacks_feed : (l : Line) → FitsLine l → Lacks 10 (line_text l)
 lacks_feed (Remark text) h = (refl, lacks_printable text h)
-lacks_feed (Lac node lns) h =
+lacks_feed (Lac node lns secret) h =
     let front = lacks_append 10 (decimal node) (codes " ") (node_lacks node h.0) (refl, tt) in
     let names = lacks_append 10 (decimal node ++ codes " ") (decimal lns) front (node_lacks lns h.1) in
-    (refl, (refl, (refl, (refl, lacks_append 10 _ (codes " - plain") names (refl, (refl, (refl, (refl, (refl, (refl, (refl, (refl, tt))))))))))))
-lacks_feed (Lns node) h = (refl, (refl, (refl, (refl, lacks_append 10 (decimal node) (codes " -") (node_lacks node h) (refl, (refl, tt))))))
+    let words = lacks_append 10 _ (codes " ") names (refl, tt) in
+    let secrets = lacks_append 10 _ (secret_text secret) words (secret_lacks 10 secret refl refl digits_lack_feed) in
+    (refl, (refl, (refl, (refl, lacks_append 10 _ (codes " plain") secrets (refl, (refl, (refl, (refl, (refl, (refl, tt))))))))))
+lacks_feed (Lns node secret) h =
+    let front = lacks_append 10 (decimal node) (codes " ") (node_lacks node h.0) (refl, tt) in
+    (refl, (refl, (refl, (refl, lacks_append 10 _ (secret_text secret) front (secret_lacks 10 secret refl refl digits_lack_feed)))))
 lacks_feed (OpenUp node) h = (refl, (refl, (refl, (refl, (refl, node_lacks node h)))))
 lacks_feed (Ring node port) h =
     let front = lacks_append 10 (decimal node) (codes " ") (node_lacks node h.0) (refl, tt) in
@@ -141,8 +131,8 @@ lacks_feed (Tick node milliseconds) h =
 
 some_byte : (l : Line) → 0 < length (line_text l)
 some_byte (Remark text) = omega arith
-some_byte (Lac node lns) = omega arith
-some_byte (Lns node) = omega arith
+some_byte (Lac node lns secret) = omega arith
+some_byte (Lns node secret) = omega arith
 some_byte (OpenUp node) = omega arith
 some_byte (Ring node port) = omega arith
 some_byte (FromSub node session frame) = omega arith

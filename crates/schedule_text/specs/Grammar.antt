@@ -1,5 +1,5 @@
 -- The one spelling of each line, and which texts are schedules.
-use Rattle.std.specs.Prelude.{◌≡◌, ℕ, ◌+◌, ◌<◌, ◌≤◌, ◌⊎◌, List, [], ◌∷◌, ◌++◌, length, codes}
+use Rattle.std.specs.Prelude.{◌≡◌, ℕ, ◌+◌, ◌<◌, ◌≤◌, ◌⊎◌, List, [], ◌∷◌, ◌++◌, length, codes, Option, Some, None, IfSome}
 use Rattle.std.specs.List.{flat_map, AllByRecursion}
 use Rattle.std.specs.Fmt.{decimal}
 use Rattle.hex.specs.Hex.{encode_lower, IsBytes}
@@ -12,11 +12,16 @@ use Rattle.schedule_text.specs.declared.error.ScheduleError.TheVariants.{BadLine
 abbrev pub call_text : ℕ → ℕ → List ℕ → List ℕ
 call_text node session frame = decimal node ++ codes " " ++ decimal session ++ codes " " ++ encode_lower frame
 
+-- the spelling of a secret; each byte is two digits of hex, with letters in lower case
+abbrev pub secret_text : Option (List ℕ) → List ℕ
+secret_text None = codes "-"
+secret_text (Some secret) = encode_lower secret
+
 -- the spelling of a line, without the line feed that ends it; words are parted by one space
 abbrev pub line_text : Line → List ℕ
 line_text (Remark text) = codes "#" ++ text
-line_text (Lac node lns) = codes "lac " ++ decimal node ++ codes " " ++ decimal lns ++ codes " - plain"
-line_text (Lns node) = codes "lns " ++ decimal node ++ codes " -"
+line_text (Lac node lns secret) = codes "lac " ++ decimal node ++ codes " " ++ decimal lns ++ codes " " ++ secret_text secret ++ codes " plain"
+line_text (Lns node secret) = codes "lns " ++ decimal node ++ codes " " ++ secret_text secret
 line_text (OpenUp node) = codes "open " ++ decimal node
 line_text (Close node tunnel) = codes "close " ++ decimal node ++ codes " " ++ decimal tunnel
 line_text (Ring node port) = codes "ring " ++ decimal node ++ codes " " ++ decimal port
@@ -43,6 +48,10 @@ IsTunnel n = (1 ≤ n) × (n ≤ 65535)
 abbrev pub IsSession : ℕ → Type 0
 IsSession n = (1 ≤ n) × (n ≤ 65535)
 
+-- what both ends of a tunnel know, in bytes
+abbrev pub IsSecret : List ℕ → Type 0
+IsSecret secret = (1 ≤ length secret) × (length secret ≤ 64) × IsBytes secret
+
 -- a PPP frame from its protocol field on, which has two bytes; PPPoE's six leave it 1494 of the 1500 that Ethernet carries
 abbrev pub IsFrame : List ℕ → Type 0
 IsFrame frame = (2 ≤ length frame) × (length frame ≤ 1494) × IsBytes frame
@@ -57,8 +66,8 @@ IsMilliseconds n = n ≤ 86400000
 -- which lines have a spelling
 abbrev pub FitsLine : Line → Type 0
 FitsLine (Remark text) = AllByRecursion IsPrintable text
-FitsLine (Lac node lns) = IsNode node × IsNode lns
-FitsLine (Lns node) = IsNode node
+FitsLine (Lac node lns secret) = IsNode node × IsNode lns × IfSome secret IsSecret
+FitsLine (Lns node secret) = IsNode node × IfSome secret IsSecret
 FitsLine (OpenUp node) = IsNode node
 FitsLine (Close node tunnel) = IsNode node × IsTunnel tunnel
 FitsLine (Ring node port) = IsNode node × IsPort port

@@ -68,28 +68,39 @@ packet_of word = number_of 1 4294967295 word
 abbrev pub milliseconds_of : List ℕ → Option ℕ
 milliseconds_of word = number_of 0 86400000 word
 
--- what a word was decoded to, where it has the length of a frame; the word is its spelling, so no letter is upper case
-abbrev pub frame_from : List ℕ → Result (List ℕ) FromHexError → Option (List ℕ)
-frame_from word (Ok frame) =
-    if nat_le 2 (length frame) && nat_le (length frame) 1494 && bytes_eq (encode_lower frame) word then Some frame else None
-frame_from word (Err e) = None
+-- what a word was decoded to, where its length is between two bounds; the word is its spelling, so no letter is upper case
+abbrev pub bytes_from : ℕ → ℕ → List ℕ → Result (List ℕ) FromHexError → Option (List ℕ)
+bytes_from least most word (Ok bytes) =
+    if nat_le least (length bytes) && nat_le (length bytes) most && bytes_eq (encode_lower bytes) word then Some bytes else None
+bytes_from least most word (Err e) = None
 
--- the frame that a word spells
-unfoldable pub frame_of : List ℕ → Option (List ℕ)
-frame_of word = frame_from word (decode_of word)
+-- the bytes that a word spells in hex, where their length is between two bounds
+unfoldable pub bytes_of : ℕ → ℕ → List ℕ → Option (List ℕ)
+bytes_of least most word = bytes_from least most word (decode_of word)
+
+abbrev pub frame_of : List ℕ → Option (List ℕ)
+frame_of word = bytes_of 2 1494 word
+
+-- the secret that a word spells, or that there is none
+unfoldable pub secret_of : List ℕ → Option (Option (List ℕ))
+secret_of word = if bytes_eq word (codes "-") then Some None else (bytes_of 1 64 word >>= λ secret. Some (Some secret))
 
 -- what follows the word of each kind of line, and a space
-unfoldable pub lac_of : List ℕ → Option Line
-lac_of words =
-    cut 32 words >>= λ first. cut 32 first.1 >>= λ second.
-    if bytes_eq second.1 (codes "- plain")
-    then (node_of first.0 >>= λ node. node_of second.0 >>= λ lns. Some (Lac node lns))
+
+-- a LAC, its LNS, and the word of their secret; the mode is plain
+unfoldable pub pair_of : List ℕ → Option (ℕ × ℕ × List ℕ)
+pair_of words =
+    cut 32 words >>= λ first. cut 32 first.1 >>= λ second. cut 32 second.1 >>= λ third.
+    if bytes_eq third.1 (codes "plain")
+    then (node_of first.0 >>= λ node. node_of second.0 >>= λ lns. Some (node, lns, third.0))
     else None
+
+unfoldable pub lac_of : List ℕ → Option Line
+lac_of words = pair_of words >>= λ pair. secret_of pair.2 >>= λ secret. Some (Lac pair.0 pair.1 secret)
 
 unfoldable pub lns_of : List ℕ → Option Line
 lns_of words =
-    cut 32 words >>= λ first.
-    if bytes_eq first.1 (codes "-") then node_of first.0 >>= (λ node. Some (Lns node)) else None
+    cut 32 words >>= λ first. node_of first.0 >>= λ node. secret_of first.1 >>= λ secret. Some (Lns node secret)
 
 unfoldable pub open_of : List ℕ → Option Line
 open_of words = node_of words >>= λ node. Some (OpenUp node)
@@ -134,9 +145,7 @@ tick_of words =
 -- the line of a kind that holds no bytes
 unfoldable pub plain_of : List ℕ → List ℕ → Option Line
 plain_of kind words =
-    if bytes_eq kind (codes "lac") then lac_of words
-    else if bytes_eq kind (codes "lns") then lns_of words
-    else if bytes_eq kind (codes "open") then open_of words
+    if bytes_eq kind (codes "open") then open_of words
     else if bytes_eq kind (codes "ring") then ring_of words
     else if bytes_eq kind (codes "hang") then hang_of words
     else if bytes_eq kind (codes "drop") then drop_of words
@@ -147,7 +156,9 @@ plain_of kind words =
 
 unfoldable pub words_of : List ℕ → List ℕ → Option Line
 words_of kind words =
-    if bytes_eq kind (codes "data") then from_sub_of words
+    if bytes_eq kind (codes "lac") then lac_of words
+    else if bytes_eq kind (codes "lns") then lns_of words
+    else if bytes_eq kind (codes "data") then from_sub_of words
     else if bytes_eq kind (codes "down") then down_of words
     else plain_of kind words
 

@@ -4,20 +4,25 @@ use wire_base::{Bytes, Sequence};
 
 /// A line of a schedule. Nodes are numbered from 1 to 255, and packets from 1 to 4,294,967,295, in the order in which
 /// they were sent.
-#[derive(Debug, Drop)]
+///
+/// A line may hold a secret, so it has no `Debug`: what it holds can't be written by accident.
+#[derive(Drop)]
 pub enum Line {
     /// A remark, which means nothing: the bytes behind the `#`, each of which is printable ASCII.
     Remark {
         text: Bytes,
     },
-    /// A node that is a LAC, and the node of the LNS that it opens tunnels to.
+    /// A node that is a LAC, the node of the LNS that it opens tunnels to, and the secret that it shares with it, of 1 to 64
+    /// bytes, if there is one. Its mode is `plain`, which is the only one: its calling numbers aren't hidden.
     Lac {
         node: u8,
         lns: u8,
+        secret: Option<Bytes>,
     },
-    /// A node that is an LNS.
+    /// A node that is an LNS, and the secret that it shares with its LACs, of 1 to 64 bytes, if there is one.
     Lns {
         node: u8,
+        secret: Option<Bytes>,
     },
     /// A LAC opens a tunnel.
     OpenUp {

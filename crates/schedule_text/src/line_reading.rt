@@ -2,7 +2,7 @@
 
 ghost use Rattle.std.specs.Prelude.{◌≡◌, MatchOption, IfOk, Ok, Some, None};
 ghost use Rattle.std.specs.List.{list_all};
-ghost use Rattle.schedule_text.specs.Reading.{lac_of, lns_of, open_of, ring_of, call_of, from_sub_of, down_of, node_session_of, hang_of, drop_of, close_of, deliver_of, tick_of, plain_of, words_of, is_printable, line_of, node_of, port_of, session_of, packet_of, frame_from, frame_of};
+ghost use Rattle.schedule_text.specs.Reading.{pair_of, lac_of, lns_of, open_of, ring_of, call_of, from_sub_of, down_of, node_session_of, hang_of, drop_of, close_of, deliver_of, tick_of, plain_of, words_of, is_printable, line_of, node_of, port_of, session_of, packet_of, bytes_from, bytes_of, frame_of, secret_of};
 
 use crate::line::Line;
 use crate::parts::{read_number, split_once};
@@ -26,60 +26,111 @@ fn read_u16(word: &[u8]) -> Option<u16>
     Some(number as u16)
 }
 
-/// The frame, where it has the length of one and the word is its spelling. A decoder takes upper case too, so the frame
-/// is spelled again.
-fn keep_frame(alloc: Global, word: &[u8], frame: &[u8]) -> Result<Option<Bytes>, NoMemory>
-    ensures { IfOk result (λ f. f ≡ frame_from word.now (Ok frame.now)) }
+/// The bytes, where their length is between two bounds and the word is their spelling. A decoder takes upper case too, so
+/// the bytes are spelled again.
+fn keep_bytes(
+    alloc: Global,
+    word: &[u8],
+    bytes: &[u8],
+    least: usize,
+    most: usize,
+) -> Result<Option<Bytes>, NoMemory>
+    ensures { IfOk result (λ b. b ≡ bytes_from least most word.now (Ok bytes.now)) }
 {
-    if frame.len() < 2 || 1494 < frame.len() {
+    if bytes.len() < least || most < bytes.len() {
         return Ok(None);
     }
-    let spelling = hex::encode(alloc, frame)?;
+    let spelling = hex::encode(alloc, bytes)?;
     if spelling.as_bytes() != word {
         return Ok(None);
     }
-    let frame = Bytes::from_slice(alloc, frame)?;
-    Ok(Some(frame))
+    let kept = Bytes::from_slice(alloc, bytes)?;
+    Ok(Some(kept))
 }
 
-/// The frame that a word spells.
-#[tactic(auto, unfolding(crate::specs::Reading::frame_of))]
-fn read_frame(alloc: Global, word: &[u8]) -> Result<Option<Bytes>, NoMemory>
-    ensures { IfOk result (λ f. f ≡ frame_of word.now) }
+/// The bytes that a word spells in hex, where their length is between two bounds.
+#[tactic(auto, unfolding(crate::specs::Reading::bytes_of))]
+fn read_bytes(
+    alloc: Global,
+    word: &[u8],
+    least: usize,
+    most: usize,
+) -> Result<Option<Bytes>, NoMemory>
+    ensures { IfOk result (λ b. b ≡ bytes_of least most word.now) }
 {
     match hex::decode(alloc, word) {
-        Ok(frame) => keep_frame(alloc, word, frame.as_slice()),
+        Ok(bytes) => keep_bytes(alloc, word, bytes.as_slice(), least, most),
         Err(FromHexError::OutOfMemory) => Err(NoMemory),
         Err(_) => Ok(None),
     }
 }
 
-/// `N M - plain`, behind `lac `.
-#[tactic(auto, unfolding(crate::specs::Reading::lac_of))]
-fn read_lac(words: &[u8]) -> Option<Line>
-    ensures { result ≡ lac_of words.now }
+/// The frame that a word spells.
+fn read_frame(alloc: Global, word: &[u8]) -> Result<Option<Bytes>, NoMemory>
+    ensures { IfOk result (λ f. f ≡ frame_of word.now) }
+{
+    read_bytes(alloc, word, 2, 1494)
+}
+
+/// The secret that a word spells, or that there is none.
+#[tactic(auto, unfolding(crate::specs::Reading::secret_of))]
+fn read_secret(alloc: Global, word: &[u8]) -> Result<Option<Option<Bytes>>, NoMemory>
+    ensures { IfOk result (λ s. s ≡ secret_of word.now) }
+{
+    if word == b"-".as_slice() {
+        return Ok(Some(None));
+    }
+    match read_bytes(alloc, word, 1, 64)? {
+        Some(secret) => Ok(Some(Some(secret))),
+        None => Ok(None),
+    }
+}
+
+/// A LAC, its LNS, and the word of their secret; the mode is plain.
+#[tactic(auto, unfolding(crate::specs::Reading::pair_of))]
+fn read_pair(words: &[u8]) -> Option<(u8, u8, &[u8])>
+    ensures { MatchOption result (pair_of words.now ≡ None) (λ p. pair_of words.now ≡ Some (p.0, p.1, p.2.now)) }
 {
     let (node, words) = split_once(words, b' ')?;
     let (lns, words) = split_once(words, b' ')?;
-    if words != b"- plain".as_slice() {
+    let (secret, mode) = split_once(words, b' ')?;
+    if mode != b"plain".as_slice() {
         return None;
     }
     let node = read_node(node)?;
     let lns = read_node(lns)?;
-    Some(Line::Lac { node, lns })
+    Some((node, lns, secret))
 }
 
-/// `N -`, behind `lns `.
-#[tactic(auto, unfolding(crate::specs::Reading::lns_of))]
-fn read_lns(words: &[u8]) -> Option<Line>
-    ensures { result ≡ lns_of words.now }
+/// `N M SECRET plain`, behind `lac `.
+#[tactic(auto, unfolding(crate::specs::Reading::lac_of))]
+fn read_lac(alloc: Global, words: &[u8]) -> Result<Option<Line>, NoMemory>
+    ensures { IfOk result (λ l. l ≡ lac_of words.now) }
 {
-    let (node, words) = split_once(words, b' ')?;
-    if words != b"-".as_slice() {
-        return None;
-    }
-    let node = read_node(node)?;
-    Some(Line::Lns { node })
+    let Some((node, lns, word)) = read_pair(words) else {
+        return Ok(None);
+    };
+    let Some(secret) = read_secret(alloc, word)? else {
+        return Ok(None);
+    };
+    Ok(Some(Line::Lac { node, lns, secret }))
+}
+
+/// `N SECRET`, behind `lns `.
+#[tactic(auto, unfolding(crate::specs::Reading::lns_of))]
+fn read_lns(alloc: Global, words: &[u8]) -> Result<Option<Line>, NoMemory>
+    ensures { IfOk result (λ l. l ≡ lns_of words.now) }
+{
+    let Some((node, word)) = split_once(words, b' ') else {
+        return Ok(None);
+    };
+    let Some(node) = read_node(node) else {
+        return Ok(None);
+    };
+    let Some(secret) = read_secret(alloc, word)? else {
+        return Ok(None);
+    };
+    Ok(Some(Line::Lns { node, secret }))
 }
 
 /// `N`, behind `open `.
@@ -213,11 +264,7 @@ fn read_tick(words: &[u8]) -> Option<Line>
 fn read_plain(kind: &[u8], words: &[u8]) -> Option<Line>
     ensures { result ≡ plain_of kind.now words.now }
 {
-    if kind == b"lac".as_slice() {
-        read_lac(words)
-    } else if kind == b"lns".as_slice() {
-        read_lns(words)
-    } else if kind == b"open".as_slice() {
+    if kind == b"open".as_slice() {
         read_open(words)
     } else if kind == b"ring".as_slice() {
         read_ring(words)
@@ -241,7 +288,11 @@ fn read_plain(kind: &[u8], words: &[u8]) -> Option<Line>
 fn read_words(alloc: Global, kind: &[u8], words: &[u8]) -> Result<Option<Line>, NoMemory>
     ensures { IfOk result (λ l. l ≡ words_of kind.now words.now) }
 {
-    if kind == b"data".as_slice() {
+    if kind == b"lac".as_slice() {
+        read_lac(alloc, words)
+    } else if kind == b"lns".as_slice() {
+        read_lns(alloc, words)
+    } else if kind == b"data".as_slice() {
         read_from_sub(alloc, words)
     } else if kind == b"down".as_slice() {
         read_down(alloc, words)

@@ -1,0 +1,184 @@
+//! Hidden values that are uncovered by a secret (RFC 2661 section 4.3).
+
+ghost use Rattle.std.specs.Prelude.{◌≡◌, ℕ, ◌≤◌, [], ◌∷◌, ◌++◌, List, Option, Some, None, Ok, length, OnOk, OnErr, IfOk};
+ghost use Rattle.std.specs.Option.{option_copied};
+ghost use Rattle.std.specs.List.{find};
+ghost use Rattle.byteorder.specs.Endian.{big_number};
+ghost use Rattle.wire_base.specs.NumberLaws.{AreBytes};
+ghost use Rattle.avp_codec.specs.declared.avp.Avp.{Avp};
+ghost use Rattle.avp_codec.specs.Reading.{avps_of};
+ghost use Rattle.avp_codec.specs.Spelling.{AreAvps, spelling};
+ghost use Rattle.control_message.specs.declared.message.Message.{Message};
+ghost use Rattle.control_message.specs.declared.message.Read.TheVariants.{Known};
+ghost use Rattle.control_message.specs.Reading.{message_of};
+ghost use Rattle.control_message.specs.Pairs.{pairs_of, pairs_with, plain_pairs_with, IsWrittenWith};
+ghost use Rattle.control_message.specs.Uncovering.{may_be_uncovered, uncovered_pair, vector_after, uncovered_all, uncovered, NoneIsHidden, IsUncovered, UncoversBehind, Uncovers, IsVectorBehind};
+
+use crate::attribute::{MESSAGE_TYPE, RANDOM_VECTOR};
+use crate::finding::{is_at, is_vector};
+use avp_codec::{Avp, Avps};
+use std::alloc::Global;
+use tunnel_secret::{UnhideError, unhide};
+use wire_base::{Bytes, NoMemory};
+
+/// A copy of a pair.
+fn copy_avp(alloc: Global, avp: &Avp) -> Result<Avp, NoMemory>
+    ensures { IfOk result (λ a. a ≡ avp.now) }
+{
+    Ok(Avp {
+        mandatory: avp.mandatory,
+        hidden: avp.hidden,
+        reserved: avp.reserved,
+        vendor: avp.vendor,
+        attribute: avp.attribute,
+        value: Bytes::from_slice(alloc, avp.value.as_slice())?,
+    })
+}
+
+/// Whether a pair may be uncovered: it is hidden, and neither the type, which never is, nor an attribute 36.
+fn may_be_uncovered(avp: &Avp) -> bool
+    ensures { result ≡ may_be_uncovered avp.now }
+{
+    avp.hidden && !(is_at(avp, MESSAGE_TYPE) || is_at(avp, RANDOM_VECTOR))
+}
+
+/// What a pair behind a Random Vector is to an end that knows the secret.
+#[tactic(auto, unfolding(crate::specs::Uncovering::uncovered_pair))]
+fn reveal(alloc: Global, secret: &[u8], vector: &[u8], avp: &Avp) -> Result<Avp, NoMemory>
+    ensures exact { IfOk result (λ a. a ≡ uncovered_pair secret.now (Some vector.now) avp.now) }
+    ensures found { (before : List Avp) → IsVectorBehind before (Some vector.now) →
+        IfOk result (λ a. IsUncovered secret.now before avp.now a) }
+{
+    if !may_be_uncovered(avp) {
+        return copy_avp(alloc, avp);
+    }
+    match unhide(alloc, avp.attribute, secret, vector, avp.value.as_slice()) {
+        Ok(value) => Ok(Avp {
+            mandatory: avp.mandatory,
+            hidden: false,
+            reserved: avp.reserved,
+            vendor: avp.vendor,
+            attribute: avp.attribute,
+            value,
+        }),
+        Err(UnhideError::BadLength { .. }) => copy_avp(alloc, avp),
+        Err(UnhideError::NoMemory) => Err(NoMemory),
+    }
+}
+
+/// What a pair is to it, behind a Random Vector or not.
+#[tactic(auto, unfolding(crate::specs::Uncovering::uncovered_pair))]
+fn uncover_pair(
+    alloc: Global,
+    secret: &[u8],
+    vector: Option<&[u8]>,
+    avp: &Avp,
+) -> Result<Avp, NoMemory>
+    ensures exact { IfOk result (λ a. a ≡ uncovered_pair secret.now (option_copied vector.entry) avp.now) }
+    ensures found { (before : List Avp) → IsVectorBehind before (option_copied vector.entry) →
+        IfOk result (λ a. IsUncovered secret.now before avp.now a) }
+{
+    match vector {
+        None => copy_avp(alloc, avp),
+        Some(vector) => reveal(alloc, secret, vector, avp),
+    }
+}
+
+/// The Random Vector that counts behind a pair.
+fn vector_after<'a>(vector: Option<&'a [u8]>, avp: &'a Avp) -> Option<&'a [u8]>
+    ensures { option_copied result ≡ vector_after (option_copied vector.entry) avp.now }
+{
+    if is_vector(avp) {
+        Some(avp.value.as_slice())
+    } else {
+        vector
+    }
+}
+
+/// A copy of the pairs, with what the secret uncovers of them uncovered.
+pub(crate) fn copy_uncovered(alloc: Global, avps: &[Avp], secret: &[u8]) -> Result<Avps, NoMemory>
+    ensures exact { IfOk result (λ plain. plain ≡ uncovered_all secret.now None avps.now) }
+    ensures found { IfOk result (UncoversBehind secret.now [] avps.now) }
+{
+    let mut plain = Avps::new(alloc);
+    let mut vector: Option<&[u8]> = None;
+    for avp in avps {
+        let pair = uncover_pair(alloc, secret, vector, avp)?;
+        plain.push(pair)?;
+        vector = vector_after(vector, avp);
+    }
+    Ok(plain)
+}
+
+/// The first pair that is hidden.
+pub(crate) fn find_hidden(avps: &[Avp]) -> Option<&Avp>
+    ensures { option_copied result ≡ find (λ a. a.hidden) avps.now }
+{
+    avps.iter().find(|a| a.hidden)
+}
+
+/// Uncovers what a secret uncovers of a list of pairs.
+fn uncover_by(avps: &mut Avps, secret: &[u8]) -> Result<(), NoMemory>
+    ensures found { OnOk result (UncoversBehind secret.now [] avps.old avps.new) }
+    ensures exact { OnOk result (avps.new ≡ uncovered_all secret.now None avps.old) }
+    ensures err { OnErr result (avps.new ≡ avps.old) }
+{
+    match find_hidden(avps.as_slice()) {
+        None => Ok(()),
+        Some(hidden) => {
+            let plain = copy_uncovered(hidden.value.allocator(), avps.as_slice(), secret)?;
+            *avps = plain;
+            Ok(())
+        }
+    }
+}
+
+/// Uncovers what a secret uncovers of a list of pairs (RFC 2661 section 4.3): the value of a hidden pair behind a Random
+/// Vector, by the last one before it. Message Type and Random Vector itself are never uncovered, and a value that is
+/// none stays hidden. Nothing is copied where there is no secret or no pair is hidden. Where memory is wanting, the
+/// pairs stay as they were.
+pub fn uncover(avps: &mut Avps, secret: Option<&[u8]>) -> Result<(), NoMemory>
+    // Each pair is uncovered, or stays for a cause.
+    ensures found { OnOk result (Uncovers (option_copied secret.entry) avps.old avps.new) }
+    // For callers: the pairs as a function of the pairs.
+    ensures exact { OnOk result (avps.new ≡ uncovered (option_copied secret.entry) avps.old) }
+    ensures err { OnErr result (avps.new ≡ avps.old) }
+{
+    match secret {
+        None => Ok(()),
+        Some(secret) => uncover_by(avps, secret),
+    }
+}
+
+/// A law: pairs of which none is hidden stay as they are.
+pub fn leaves_plain_pairs()
+    ensures { (k : Option (List ℕ)) (avps : List Avp) → NoneIsHidden avps → uncovered k avps ≡ avps }
+{}
+
+/// A law: so do the pairs of a message that is written without a vector.
+pub fn plain_messages_stay()
+    ensures { (k : Option (List ℕ)) (m : Message) → uncovered k (pairs_of m) ≡ pairs_of m }
+{}
+
+/// A law: what was written with a secret and a vector is read again, as the same pairs, then as those with the value in
+/// plain, then as the same message.
+pub fn reads_what_was_hidden()
+    ensures { (s v : List ℕ) (m : Message) → IsWrittenWith (Some s) (Some v) m →
+        (avps_of (spelling (pairs_with (Some s) (Some v) m)) ≡ Ok (pairs_with (Some s) (Some v) m))
+        × (uncovered (Some s) (pairs_with (Some s) (Some v) m) ≡ plain_pairs_with v m)
+        × (message_of (uncovered (Some s) (pairs_with (Some s) (Some v) m)) ≡ Ok (Known m)) }
+{
+    avp_codec::reads_what_was_written();
+    tunnel_secret::unhides_what_was_hidden();
+}
+
+/// A law: what is uncovered has a spelling of no more bytes, and is read again of it.
+pub fn spells_what_was_uncovered()
+    ensures shorter { (k : Option (List ℕ)) (avps : List Avp) → length (spelling (uncovered k avps)) ≤ length (spelling avps) }
+    ensures fits { (k : Option (List ℕ)) (avps : List Avp) → AreAvps avps →
+        AreAvps (uncovered k avps) × (avps_of (spelling (uncovered k avps)) ≡ Ok (uncovered k avps)) }
+    ensures read { (k : Option (List ℕ)) (body : List ℕ) (avps : List Avp) → AreBytes body → avps_of body ≡ Ok avps →
+        avps_of (spelling (uncovered k avps)) ≡ Ok (uncovered k avps) }
+{
+    avp_codec::reads_what_was_written();
+}
