@@ -1,6 +1,6 @@
 //! An end with a peer that is another program: the lines of what the end gives for an event.
 
-use crate::event::{Fault, event_of, number_of};
+use crate::event::{Fault, bytes_of, event_of, node_number, number_of};
 use end_core::{EndRows, Given};
 use lac_core::Lac;
 use lns_core::Lns;
@@ -8,12 +8,17 @@ use protocol_model::{Config, Event, Look, Out, address_of, node_of};
 use std::alloc::Global;
 use wire_base::{Bytes, NoMemory, Why};
 
-fn config(number: u8, lns: u32) -> Config {
+/// What an end of this number is told. A secret of no bytes is none.
+fn config(number: u8, lns: u32, secret: Bytes) -> Config {
     Config {
         number,
         address: address_of(number),
         lns,
-        secret: None,
+        secret: if secret.len() == 0 {
+            None
+        } else {
+            Some(secret)
+        },
         hide: false,
     }
 }
@@ -75,21 +80,56 @@ pub struct Bench {
 }
 
 impl Bench {
-    /// The LNS 7, to which the LAC 9 speaks.
-    pub fn lns(alloc: Global) -> Bench {
+    /// The LNS of this number, to which the LAC of the other number speaks.
+    fn lns_of(alloc: Global, number: u8, lac: u8, secret: Bytes) -> Bench {
         Bench {
-            end: Side::Lns(Lns::new(alloc, config(7, 0))),
-            peer: address_of(9),
+            end: Side::Lns(Lns::new(alloc, config(number, 0, secret))),
+            peer: address_of(lac),
             moment: 1000,
         }
     }
 
-    /// The LAC 9, to which the LNS 7 speaks.
-    pub fn lac(alloc: Global) -> Bench {
+    /// The LAC of this number, to which the LNS of the other number speaks.
+    fn lac_of(alloc: Global, number: u8, lns: u8, secret: Bytes) -> Bench {
+        let lns = address_of(lns);
         Bench {
-            end: Side::Lac(Lac::new(alloc, config(9, address_of(7)))),
-            peer: address_of(7),
+            end: Side::Lac(Lac::new(alloc, config(number, lns, secret))),
+            peer: lns,
             moment: 1000,
+        }
+    }
+
+    /// The LNS 7, to which the LAC 9 speaks, without a secret.
+    pub fn lns(alloc: Global) -> Bench {
+        Bench::lns_of(alloc, 7, 9, Bytes::new(alloc))
+    }
+
+    /// The LAC 9, to which the LNS 7 speaks, without a secret.
+    pub fn lac(alloc: Global) -> Bench {
+        Bench::lac_of(alloc, 9, 7, Bytes::new(alloc))
+    }
+
+    /// An end of this kind, of words that are its number, its peer's number, and the hex digits of its secret, or `-`.
+    fn numbered(alloc: Global, kind: &str, words: &str) -> Result<Bench, Fault> {
+        let (number, words) = words.split_once(' ').ok_or(Fault::NotARow)?;
+        let (peer, digits) = words.split_once(' ').ok_or(Fault::NotARow)?;
+        let number = node_number(number)?;
+        let peer = node_number(peer)?;
+        let secret = bytes_of(alloc, digits)?;
+        match kind {
+            "lns" => Ok(Bench::lns_of(alloc, number, peer, secret)),
+            "lac" => Ok(Bench::lac_of(alloc, number, peer, secret)),
+            _ => Err(Fault::NotARow),
+        }
+    }
+
+    /// The new end that words tell.
+    fn told(alloc: Global, words: &str) -> Result<Bench, Fault> {
+        match (words, words.split_once(' ')) {
+            ("lns", _) => Ok(Bench::lns(alloc)),
+            ("lac", _) => Ok(Bench::lac(alloc)),
+            (_, Some((kind, about))) => Bench::numbered(alloc, kind, about),
+            (_, None) => Err(Fault::NotARow),
         }
     }
 
@@ -142,14 +182,15 @@ impl Bench {
 
     /// What the words of a row lead to: an end that is new, or the lines of what the end gives.
     pub fn run(&mut self, alloc: Global, words: &str) -> Result<Bytes, Fault> {
-        match words {
-            "new lns" => *self = Bench::lns(alloc),
-            "new lac" => *self = Bench::lac(alloc),
-            _ => {
+        match words.strip_prefix("new ") {
+            Some(end) => {
+                *self = Bench::told(alloc, end)?;
+                Ok(Bytes::new(alloc))
+            }
+            None => {
                 let event = self.next(alloc, words)?;
-                return Ok(self.give(alloc, &event)?);
+                Ok(self.give(alloc, &event)?)
             }
         }
-        Ok(Bytes::new(alloc))
     }
 }

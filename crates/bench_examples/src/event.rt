@@ -34,16 +34,18 @@ pub fn id_of(digits: &str) -> Result<u16, Fault> {
     digits.parse::<u16>().map_err(|_| Fault::NotARow)
 }
 
+/// The number of a node.
+pub(crate) fn node_number(digits: &str) -> Result<u8, Fault> {
+    digits.parse::<u8>().map_err(|_| Fault::NotARow)
+}
+
 /// The address of the node of a number.
 fn peer_of(digits: &str) -> Result<u32, Fault> {
-    match digits.parse::<u8>() {
-        Ok(number) => Ok(address_of(number)),
-        Err(_) => Err(Fault::NotARow),
-    }
+    Ok(address_of(node_number(digits)?))
 }
 
 /// The bytes of hex digits, or none for a `-`.
-fn bytes_of(alloc: Global, digits: &str) -> Result<Bytes, Fault> {
+pub(crate) fn bytes_of(alloc: Global, digits: &str) -> Result<Bytes, Fault> {
     if digits == "-" {
         return Ok(Bytes::new(alloc));
     }

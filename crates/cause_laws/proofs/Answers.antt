@@ -13,6 +13,7 @@ use Rattle.protocol_model.specs.declared.moves.Move.{Move}
 use Rattle.protocol_model.specs.declared.packet.Packet.{Packet}
 use Rattle.protocol_model.specs.declared.refusal.Refusal.{Refusal}
 use Rattle.protocol_model.specs.Names.{address_of}
+use Rattle.protocol_model.specs.Secrets.{uncovered_event}
 use Rattle.protocol_model.specs.End.{Stepped, step}
 use Rattle.step_laws.specs.Lines.{is_lac_at, is_lns_at, is_declared, has_call, has_tunnel}
 use Rattle.protocol_model.specs.World.{World, Node, Sender, Deed, Lined, after_step, given, declared, lac_at, lns_at, with_call, with_tunnel, later, block_of, stepped, addressee_of, arrival, refused_by, sender_of, arrives, delivers_it, delivers, line}
@@ -62,8 +63,8 @@ line_does : (w : World) (number : ℕ) (l : Line) (x : Lined) → line w number 
     → Brings w l n ev → Does w number l x n node ev
 unfolding line arrives delivers delivers_it arrival addressee_of stepped
 line_does w number (Remark text) x h n node ev was brings = absurd brings
-line_does w number (Lac m k) x h n node ev was brings = absurd brings
-line_does w number (Lns m) x h n node ev was brings = absurd brings
+line_does w number (Lac m k secret) x h n node ev was brings = absurd brings
+line_does w number (Lns m secret) x h n node ev was brings = absurd brings
 line_does w number (OpenUp m) x h n node ev was brings =
     stepped_does w number (OpenUp m) x m event.OpenTunnel None (lac_at (at w.nodes m)) (λ q e. (is_lac_at (at w.nodes m) q e).0) (λ q. refl) h
     n node ev was brings.0 brings.1
@@ -132,5 +133,5 @@ answers_of_runs answers laws go_on begins lines fits few before after l split x 
     record {
       done = line_does r.world (length before + 1) l x made n node ev was brings;
       answers = answers node.end (kept_in r.world (account_of r.done) first.holds n node was) fine.sound fine.asked (moment_of l node)
-          (block_of n (length before + 1)) ev;
+          (block_of n (length before + 1)) (uncovered_event node.end.config.secret ev);
     }

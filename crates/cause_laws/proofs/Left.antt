@@ -12,7 +12,7 @@ use Rattle.protocol_model.specs.declared.event.Event.TheVariants as event
 use Rattle.protocol_model.specs.declared.refusal.Refusal.{Refusal}
 use Rattle.protocol_model.specs.declared.tunnel.Config.{Config}
 use Rattle.protocol_model.specs.declared.tunnel.Role.{Role}
-use Rattle.protocol_model.specs.End.{End, new_end, step}
+use Rattle.protocol_model.specs.End.{End, new_end, plain_step, step}
 use Rattle.protocol_model.specs.World.{World, Node, Lined, empty_world, declared, later, config_of, block_of, stepped, after_step, line}
 use Rattle.protocol_model.specs.Run.{Run, empty_run, after_line, goes_on, run_from, run}
 use Rattle.step_laws.specs.Steps.{AreKept}
@@ -66,7 +66,7 @@ module _ (laws : CallLaws) where
   -- ---- a line
 
   step_fine : (w : World) (accs : Accounts) (number : ℕ) (x : Lined) → Holds w accs → AreFine w → (s : LineSteps w accs number x)
-      → IsFine (step s.old.end s.moment s.block s.ev).end
+      → IsFine (plain_step s.old.end s.moment s.block s.ev).end
   step_fine w accs number x holds fine s =
       let kept : AreKept s.old.end = kept_in w accs holds s.node s.old s.was in
       let before = fine s.node s.old.end (seen_end w s.node s.old s.was) in
@@ -79,13 +79,13 @@ module _ (laws : CallLaws) where
   line_fine : (w : World) (accs : Accounts) (number : ℕ) (x : Lined) → Holds w accs → AreFine w → LineDoes w accs number x → AreFine x.world
   line_fine w accs number x holds fine (Nothing none same births) k e is =
       fine k e (ap (λ (ns : List (ℕ × Node)). option_map (λ (node : Node). node.end) (at ns k)) (sym same) ∙ is)
-  line_fine w accs number x holds fine (ANode n role lns small unused none nodes births) k e is =
-      let new : Node = record { end = new_end role (config_of n lns); clock = 0; births = [] } in
+  line_fine w accs number x holds fine (ANode n role lns secret small unused none nodes births) k e is =
+      let new : Node = record { end = new_end role (config_of n lns secret); clock = 0; births = [] } in
       let seen = ap (λ (ns : List (ℕ × Node)). option_map (λ (node : Node). node.end) (at ns k)) (sym nodes) ∙ is in
       ⊎_elim
       (λ (a : k ≡ n).
       let here : Some new.end ≡ Some e = sym (ap (λ o. option_map (λ (node : Node). node.end) o) (ap (λ q. at (put w.nodes n new) q) a ∙ at_new w.nodes n new)) ∙ seen in
-      subst IsFine (same_end e new.end here) (new_fine laws role (config_of n lns)))
+      subst IsFine (same_end e new.end here) (new_fine laws role (config_of n lns secret)))
       (λ o. fine k e (sym (ap (λ p. option_map (λ (node : Node). node.end) p) (at_other w.nodes n new k o)) ∙ seen))
       (same_or_not k n)
   line_fine w accs number x holds fine (AStep s) k e is =

@@ -17,6 +17,7 @@ use Rattle.protocol_model.specs.declared.refusal.Refusal.TheVariants.{Unfit}
 use Rattle.protocol_model.specs.declared.tunnel.Role.{Role}
 use Rattle.protocol_model.specs.declared.tunnel.Role.TheVariants as role
 use Rattle.protocol_model.specs.Names.{address_of}
+use Rattle.protocol_model.specs.Secrets.{uncovered_event}
 use Rattle.protocol_model.specs.End.{new_end, step}
 use Rattle.step_laws.specs.Lines.{tested_not, is_lac_at, is_lns_at, is_declared, has_call, has_tunnel}
 use Rattle.protocol_model.specs.World.{World, Node, Sender, Lined, quiet_line, with_node, after_step, given, entries_of, entry_of, shown, moved_all, sent, declared, lac_at, lns_at, with_call, with_tunnel, later, config_of, added, block_of, stepped, addressee_of, arrival, refused_by, sender_of, arrives, delivers_it, delivers, line}
@@ -81,14 +82,15 @@ module _ (causes : CausesStand) (room : StepsRefuseTruly) (w : World) (kept : En
         is = was;
         event = ev;
         brings = brings;
-        stands = causes old.end (kept n old was) (moment_of l old) (block_of n number) ev c a;
+        stands = causes old.end (kept n old was) (moment_of l old) (block_of n number) (uncovered_event old.end.config.secret ev) c a;
       }
       by (Drop x) a = λ queue. record {
         node = old;
         is = was;
         event = ev;
         brings = brings;
-        full = room old.end (kept n old was) (moment_of l old) (block_of n number) ev (subst (λ q. Among (Drop q) (step old.end (moment_of l old) (block_of n number) ev).outputs) queue a);
+        full = room old.end (kept n old was) (moment_of l old) (block_of n number) (uncovered_event old.end.config.secret ev)
+            (subst (λ q. Among (Drop q) (step old.end (moment_of l old) (block_of n number) ev).outputs) queue a);
       }
       by (Send peer bytes origin) a = tt
       by (Up session side frame) a = tt
@@ -106,10 +108,10 @@ module _ (causes : CausesStand) (room : StepsRefuseTruly) (w : World) (kept : En
   quiet_true : (v : World) → quiet_line v ≡ x → Told
   quiet_true v is = subst (λ (q : Lined). AllByRecursion (IsTrue w l) q.entries) is tt
 
-  added_true : (n : ℕ) (r : Role) (lns : ℕ) → added w n r lns ≡ Ok x → Told
+  added_true : (n : ℕ) (r : Role) (lns : ℕ) (secret : Option (List ℕ)) → added w n r lns secret ≡ Ok x → Told
   unfolding added
-  added_true n r lns h =
-      let v = with_node w n (record { end = new_end r (config_of n lns); clock = 0; births = [] }) in
+  added_true n r lns secret h =
+      let v = with_node w n (record { end = new_end r (config_of n lns secret); clock = 0; births = [] }) in
       quiet_true v (tested_not (is_some (at w.nodes n)) (quiet_line v) (Unfit why.Twice) x h).1
 
 -- of each kind
@@ -117,8 +119,10 @@ pub line_true : CausesStand → StepsRefuseTruly → (w : World) → EndsAreKept
 unfolding line arrives delivers delivers_it arrival addressee_of stepped
 line_true causes room w kept number (Remark text) x h =
     let is : quiet_line w ≡ x = cc in quiet_true causes room w kept number (Remark text) x w is
-line_true causes room w kept number (Lac n m) x h = added_true causes room w kept number (Lac n m) x n role.Lac (address_of m) h
-line_true causes room w kept number (Lns n) x h = added_true causes room w kept number (Lns n) x n role.Lns 0 h
+line_true causes room w kept number (Lac n m secret) x h =
+    added_true causes room w kept number (Lac n m secret) x n role.Lac (address_of m) secret h
+line_true causes room w kept number (Lns n secret) x h =
+    added_true causes room w kept number (Lns n secret) x n role.Lns 0 secret h
 line_true causes room w kept number (OpenUp n) x h =
     stepped_true causes room w kept number (OpenUp n) x n event.OpenTunnel None (lac_at (at w.nodes n)) (λ node e. (is_lac_at (at w.nodes n) node e).0)
     (λ node. refl) (refl, refl) h

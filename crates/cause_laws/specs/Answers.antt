@@ -4,6 +4,7 @@ use Rattle.id_table.specs.Ids.{at}
 use Rattle.schedule_text.specs.declared.line.Line.{Line}
 use Rattle.schedule_text.specs.Grammar.{AreLines}
 use Rattle.protocol_model.specs.declared.event.Event.{Event}
+use Rattle.protocol_model.specs.Secrets.{uncovered_event}
 use Rattle.protocol_model.specs.End.{Stepped, step}
 use Rattle.protocol_model.specs.World.{World, Node, Deed, Lined, block_of, line}
 use Rattle.protocol_model.specs.Run.{run}
@@ -14,10 +15,11 @@ use Rattle.cause_laws.specs.Causes.{Brings, moment_of}
 abbrev pub step_at : ℕ → Line → ℕ → Node → Event → Stepped
 step_at number l n node ev = step node.end (moment_of l node) (block_of n number) ev
 
--- what the line did are the moves of that step, and the step answers the request, or the ring, that the line brings
+-- what the line did are the moves of that step, and the step answers the request, or the ring, that the line brings; a datagram counts
+-- as it is read, with what the node's secret uncovers in plain
 pub record LineAnswers (number : ℕ) (l : Line) (x : Lined) (n : ℕ) (node : Node) (ev : Event) : Type 0 where
   pub done : map (λ (d : Deed). d.move) x.done ≡ (step_at number l n node ev).moves
-  pub answers : StepAnswers node.end (moment_of l node) ev (step_at number l n node ev)
+  pub answers : StepAnswers node.end (moment_of l node) (uncovered_event node.end.config.secret ev) (step_at number l n node ev)
 
 -- so it is of a line that is done in a world, for the node to which it brings an event
 abbrev pub AnswersWhatComes : World → ℕ → Line → Type 0

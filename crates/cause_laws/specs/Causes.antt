@@ -12,6 +12,7 @@ use Rattle.protocol_model.specs.declared.event.Event.{Event}
 use Rattle.protocol_model.specs.declared.event.Event.TheVariants as event
 use Rattle.protocol_model.specs.declared.packet.Packet.{Packet}
 use Rattle.protocol_model.specs.Names.{address_of}
+use Rattle.protocol_model.specs.Secrets.{uncovered_event}
 use Rattle.protocol_model.specs.Calls.{owed_by}
 use Rattle.protocol_model.specs.Turn.{Tunnel, is_closed}
 use Rattle.protocol_model.specs.World.{World, Node, Lined, line}
@@ -26,8 +27,8 @@ use Rattle.step_laws.specs.Left.{AreAsked, AreFew, NoneHasFailed, NoneIsLate}
 -- the event that a line is for a node
 abbrev pub Brings : World → Line → ℕ → Event → Type 0
 Brings w (Remark text) n ev = ⊥
-Brings w (Lac m lns) n ev = ⊥
-Brings w (Lns m) n ev = ⊥
+Brings w (Lac m lns secret) n ev = ⊥
+Brings w (Lns m secret) n ev = ⊥
 Brings w (OpenUp m) n ev = (n ≡ m) × (ev ≡ event.OpenTunnel)
 Brings w (Ring m port) n ev = (n ≡ m) × (ev ≡ event.Ring port)
 Brings w (FromSub m session frame) n ev = (n ≡ m) × (ev ≡ event.Payload session frame)
@@ -45,13 +46,14 @@ moment_of l node = node.clock
 
 -- ---- entries of the report
 
--- a cause that a line tells of a node stands, in the world before the line
+-- a cause that a line tells of a node stands, in the world before the line; a datagram counts as it is read, with what the node's secret
+-- uncovers in plain
 pub record CauseIsTrue (w : World) (l : Line) (n : ℕ) (c : Cause) : Type 0 where
   pub node : Node
   pub is : at w.nodes n ≡ Some node
   pub event : Event
   pub brings : Brings w l n event
-  pub stands : Stands node.end (moment_of l node) event c
+  pub stands : Stands node.end (moment_of l node) (uncovered_event node.end.config.secret event) c
 
 -- a message isn't taken, since its tunnel holds too many letters, with those that its calls owe
 pub record IsFullAt (w : World) (l : Line) (n : ℕ) : Type 0 where
@@ -59,7 +61,7 @@ pub record IsFullAt (w : World) (l : Line) (n : ℕ) : Type 0 where
   pub is : at w.nodes n ≡ Some node
   pub event : Event
   pub brings : Brings w l n event
-  pub full : IsFull node.end (moment_of l node) event
+  pub full : IsFull node.end (moment_of l node) (uncovered_event node.end.config.secret event)
 
 abbrev pub IsTrue : World → Line → Entry → Type 0
 IsTrue w l (Causes number n c) = CauseIsTrue w l n c

@@ -27,7 +27,7 @@ use Rattle.connection_laws.proofs.Keeps.{after, IsMoved}
 use Rattle.connection_laws.proofs.Puts.{IsOnly, StaysJoined}
 use Rattle.connection_laws.proofs.Later.{after_move, only_after}
 use Rattle.connection_laws.proofs.Put.{puts_keep}
-use Rattle.connection_laws.proofs.Written.{opening_written, same_opening, draw_is, next_is, node_again, node_fits}
+use Rattle.connection_laws.proofs.Written.{asks_short, responds_sized, opening_written, same_opening, draw_is, next_is, node_again, node_fits}
 use Rattle.connection_laws.proofs.Beginning.{undrawn}
 use Rattle.connection_laws.proofs.Hearing.{opener_of, sccrq_of, IsLetterRead, FromPeer, letter_said, from_peer_said}
 use Rattle.connection_laws.proofs.Taking.{got_push, with_taken, taken_as, takes_and_gives}
@@ -100,7 +100,7 @@ module _ (codecs : Codecs) (accs : Accounts) (n : ℕ) (e x : End) (sender : Opt
 
   -- the SCCRP
   abbrev first : Letter
-  first = record { tunnel = m.tunnel; place = m.given; session = 0; message = Sccrp (opening_of e.role (config_of n 0) m.tunnel) }
+  first = record { tunnel = m.tunnel; place = m.given; session = 0; message = Sccrp (opening_of e.role (config_of n 0 None) m.challenge m.response m.tunnel) }
 
   abbrev tk : Taken
   tk = taken_as sender m.taken (move.Accepted m)
@@ -130,7 +130,7 @@ module _ (codecs : Codecs) (accs : Accounts) (n : ℕ) (e x : End) (sender : Opt
       first = first;
       rest = [];
       are = refl;
-      opening = opening_of e.role (config_of n 0) m.tunnel;
+      opening = opening_of e.role (config_of n 0 None) m.challenge m.response m.tunnel;
       says_so = refl;
       id = refl;
       later = tt;
@@ -168,7 +168,14 @@ module _ (codecs : Codecs) (accs : Accounts) (n : ℕ) (e x : End) (sender : Opt
     node = λ made. h.within.end.node;
     peer = node_fits m.peer;
     remote = (let le = (h.within.accounts from o.tunnel).id f.copy.made in let same = told in omega arith);
-    spelled = (record { written = opening_written e.role (config_of n 0) m.tunnel h.within.end.node some fits; session = omega arith }, tt);
+    spelled = (
+      record {
+        written = opening_written e.role (config_of n 0 None) m.challenge m.response m.tunnel h.within.end.node some fits
+            (asks_short e.config.secret m.challenge h.does.asks) (responds_sized 2 e.config.secret h.does.opening.challenge m.response h.does.responds);
+        session = omega arith;
+      },
+      tt,
+    );
     told = (tt, tt);
     taken = taken;
     ignored = λ number y found le. (let lt = slice_get_within b.taken number y found in absurd (omega (arith, lt, le)));
@@ -177,13 +184,13 @@ module _ (codecs : Codecs) (accs : Accounts) (n : ℕ) (e x : End) (sender : Opt
   -- ---- the tunnel
 
   abbrev c : Control
-  c = learns_window m.window (begun m.tunnel m.peer m.remote WaitCtlConn moment)
+  c = learns_window m.window (begun m.tunnel m.peer m.remote WaitCtlConn moment m.challenge)
 
   abbrev u : Tunnel
-  u = with_letter 0 (Sccrp (opening_of e.role e.config m.tunnel)) (new_tunnel (counts_taken c))
+  u = with_letter 0 (Sccrp (opening_of e.role e.config m.challenge m.response m.tunnel)) (new_tunnel (counts_taken c))
 
-  learns : IsLearnt (begun m.tunnel m.peer m.remote WaitCtlConn moment) c
-  learns = learnt m.window (begun m.tunnel m.peer m.remote WaitCtlConn moment)
+  learns : IsLearnt (begun m.tunnel m.peer m.remote WaitCtlConn moment m.challenge) c
+  learns = learnt m.window (begun m.tunnel m.peer m.remote WaitCtlConn moment m.challenge)
 
   live : LiveOk ms n i b u
   live =
@@ -196,7 +203,7 @@ module _ (codecs : Codecs) (accs : Accounts) (n : ℕ) (e x : End) (sender : Opt
         peer = learns.peer ∙ f.peer_is ∙ ap address_of (sym node);
         remote = learns.remote;
         state = inl (ap state_number learns.state, refl, refl);
-        letters = ap (λ o. letter_of 0 (Sccrp o) ∷ []) (same_opening e.role e.config (config_of n 0) m.tunnel h.within.end.number)
+        letters = ap (λ o. letter_of 0 (Sccrp o) ∷ []) (same_opening e.role e.config (config_of n 0 None) m.challenge m.response m.tunnel h.within.end.number)
             ∙ ap (λ (j : ℕ). map kept_letter (drop j b.given)) (sym learns.acked);
         counted = omega arith;
         few = omega arith;

@@ -1,10 +1,9 @@
 -- A control message that a live tunnel hears, whether it is the next one or not, is a letter of its sender's, and none has a fault.
-use Rattle.std.proofs.Common.{◌≡◌, ⊎_elim, ℕ, true, List, [], refl, sym, ap, ◌∙◌, subst, Option, Some, None, Result, Ok, Err, eq-eqb}
+use Rattle.std.proofs.Common.{◌≡◌, ⊎_elim, ℕ, List, [], refl, sym, ap, ◌∙◌, subst, Option, Some, None, Result, Ok, Err}
 use Rattle.std.specs.Prelude.{length, slice_get}
 use Rattle.control_message.specs.declared.message.Message.{Message}
 use Rattle.control_message.specs.declared.message.Message.TheVariants.{Sccrq, Sccrp}
 use Rattle.control_message.specs.declared.message.MessageError.{MessageError}
-use Rattle.control_message.specs.declared.message.Opening.{Opening}
 use Rattle.control_message.specs.declared.message.Read.{Read}
 use Rattle.control_message.specs.Pairs.{IsWritten, IsWrittenOpening}
 use Rattle.control_message.specs.Reading.{message_of, kind_of_pairs}
@@ -15,7 +14,6 @@ use Rattle.protocol_model.specs.declared.event.Event.{Event}
 use Rattle.protocol_model.specs.declared.out.ControlOrigin.{ControlOrigin}
 use Rattle.protocol_model.specs.declared.tunnel.Control.{Control}
 use Rattle.protocol_model.specs.Reading.{body_of, message_in, pairs_read, message_read, call_fault_in, fault_of_pairs, tunnel_fault_in, tunnel_fault_of_pairs, tunnel_fault_read}
-use Rattle.protocol_model.specs.Turn.{is_acceptable}
 use Rattle.protocol_model.specs.End.{End}
 use Rattle.protocol_model.specs.World.{Sender}
 use Rattle.step_laws.specs.Letters.{Letter}
@@ -90,15 +88,13 @@ hears_written codecs accs n e sender ev within peer session m k =
     (λ (none : body_of k.header k.bytes ≡ []). absurd (no_message codecs m (let is = k.said in rw none at is)))
     (peer_says codecs accs n e sender ev within peer k.header k.bytes k.is k.read k.control)
 
--- so its version is 1.0, and it has neither a challenge nor a recovery
-pub written_acceptable : (o : Opening) → IsWrittenOpening o → is_acceptable o ≡ true
-written_acceptable o w = rw (eq-eqb o.version 256 w.version, w.recovery, w.challenge) refl
-
 pub openings_are_acceptable : Codecs → OpeningsAreAcceptable
-openings_are_acceptable codecs accs n e sender ev within peer session o which = written_acceptable o (⊎_elim
-    (λ (k : Hears ev peer session (Sccrq o)). hears_written codecs accs n e sender ev within peer session (Sccrq o) k)
+openings_are_acceptable codecs accs n e sender ev within peer session o which =
+    let w : IsWrittenOpening o = ⊎_elim
+    (λ (k : Hears ev peer session (Sccrq o)). (hears_written codecs accs n e sender ev within peer session (Sccrq o) k).0)
     (λ (k : Hears ev peer session (Sccrp o)). hears_written codecs accs n e sender ev within peer session (Sccrp o) k)
-    which)
+    which in
+    (w.version, w.recovery)
 
 -- ---- faults
 

@@ -17,14 +17,14 @@ use Rattle.protocol_model.specs.Turn.{Tunnel, letter_of, opening_of}
 use Rattle.protocol_model.specs.End.{End}
 use Rattle.protocol_model.specs.World.{Sender, Deed, config_of}
 use Rattle.step_laws.specs.Letters.{Letter}
-use Rattle.step_laws.specs.Moves.{with_tunnel, with_letter, new_tunnel, begun}
+use Rattle.step_laws.specs.Moves.{Asks, with_tunnel, with_letter, new_tunnel, begun}
 use Rattle.connection_laws.specs.Accounts.{Part, Unmade, Opener, Acceptor, Account, no_account, gives}
 use Rattle.connection_laws.specs.Facts.{Accounts, IsMade, IsPart, AccountOk, LiveOk, Comes, Within}
 use Rattle.connection_laws.proofs.Keeps.{IsDeed, after, IsMoved}
 use Rattle.connection_laws.proofs.Puts.{IsOnly, NearAt, ComesNear}
 use Rattle.connection_laws.proofs.Later.{after_move, only_after}
 use Rattle.connection_laws.proofs.Put.{puts_keep}
-use Rattle.connection_laws.proofs.Written.{opening_written, same_opening, draw_is, next_is, node_again, node_fits}
+use Rattle.connection_laws.proofs.Written.{asks_short, opening_written, same_opening, draw_is, next_is, node_again, node_fits}
 
 -- an id that wasn't drawn is that of no tunnel
 pub undrawn : (accs : Accounts) (n : ℕ) (e : End) (sender : Option Sender) (ev : Event) → Within accs n e sender ev → (i : ℕ) → i ≡ e.tunnel_ids.next
@@ -41,7 +41,7 @@ undrawn accs n e sender ev within i is = by (accs n i).part refl (within.account
 
 module _ (accs : Accounts) (n : ℕ) (e : End) (sender : Option Sender) (moment : ℕ) (ev : Event) (d : Deed) (within : Within accs n e sender ev) (m : Opened)
     (deed : IsDeed d n e.role sender (move.Opened m)) (next : m.tunnel ≡ e.tunnel_ids.next) (last : m.tunnel ≤ e.tunnel_ids.last)
-    (number : ℕ) (number_fits : number < 256) (lns : m.peer ≡ address_of number) where
+    (number : ℕ) (number_fits : number < 256) (lns : m.peer ≡ address_of number) (asks : Asks e.config.secret m.challenge) where
   abbrev ms : Accounts
   ms = after accs d
 
@@ -50,13 +50,13 @@ module _ (accs : Accounts) (n : ℕ) (e : End) (sender : Option Sender) (moment 
 
   -- the SCCRQ
   abbrev first : Letter
-  first = record { tunnel = m.tunnel; place = m.given; session = 0; message = Sccrq (opening_of e.role (config_of n 0) m.tunnel) }
+  first = record { tunnel = m.tunnel; place = m.given; session = 0; message = Sccrq (opening_of e.role (config_of n 0 None) m.challenge None m.tunnel) }
 
   abbrev new_account : Account
   new_account = record { part = Opener; peer = node_of m.peer; remote = 0; given = first ∷ []; taken = []; closed = None; declined = false }
 
   abbrev new : Tunnel
-  new = with_letter 0 (Sccrq (opening_of e.role e.config m.tunnel)) (new_tunnel (begun m.tunnel m.peer 0 WaitCtlReply moment))
+  new = with_letter 0 (Sccrq (opening_of e.role e.config m.challenge None m.tunnel)) (new_tunnel (begun m.tunnel m.peer 0 WaitCtlReply moment m.challenge))
 
   abbrev after_it : End
   after_it = record (with_tunnel e i new) { tunnel_ids = record e.tunnel_ids { next = m.tunnel + 1 } }
@@ -89,7 +89,7 @@ module _ (accs : Accounts) (n : ℕ) (e : End) (sender : Option Sender) (moment 
         first = first;
         rest = [];
         are = refl;
-        opening = opening_of e.role (config_of n 0) m.tunnel;
+        opening = opening_of e.role (config_of n 0 None) m.challenge None m.tunnel;
         says_so = refl;
         id = refl;
         later = tt;
@@ -101,13 +101,14 @@ module _ (accs : Accounts) (n : ℕ) (e : End) (sender : Option Sender) (moment 
       peer = λ known. absurd (known refl);
       remote = λ known. absurd (known refl);
       joined = λ known. absurd (known refl);
+      early = λ z. (let no : ⊥ = cc in absurd no);
     };
     some = λ made. some;
     id = λ made. fits;
     node = λ made. within.end.node;
     peer = node_fits m.peer;
     remote = omega arith;
-    spelled = (record { written = opening_written e.role (config_of n 0) m.tunnel within.end.node some fits; session = omega arith }, tt);
+    spelled = (record { written = (opening_written e.role (config_of n 0 None) m.challenge None m.tunnel within.end.node some fits (asks_short e.config.secret m.challenge asks) tt, refl); session = omega arith }, tt);
     told = (tt, tt);
     taken = λ k l f lt. let clash : ⊥ = cc in absurd clash;
     ignored = λ k l f le. let clash : ⊥ = cc in absurd clash;
@@ -119,7 +120,7 @@ module _ (accs : Accounts) (n : ℕ) (e : End) (sender : Option Sender) (moment 
     peer = rw (lns, node_again number number_fits) refl;
     remote = refl;
     state = inl (refl, refl, refl, λ s c f. absurd (none-some c (sym (at-none s) ∙ f)));
-    letters = ap (λ o. letter_of 0 (Sccrq o) ∷ []) (same_opening e.role e.config (config_of n 0) m.tunnel within.end.number);
+    letters = ap (λ o. letter_of 0 (Sccrq o) ∷ []) (same_opening e.role e.config (config_of n 0 None) m.challenge None m.tunnel within.end.number);
     counted = refl;
     few = omega arith;
     outstanding = omega arith;
@@ -171,7 +172,7 @@ opened_keeps accs n e x sender moment ev m d h =
     let o = h.does in
     let drawn = draw_is e.tunnel_ids m.tunnel o.drawn in
     let lns = h.within.end.lns o.role in
-    let t = with_letter 0 (Sccrq (opening_of e.role e.config m.tunnel)) (new_tunnel (begun m.tunnel m.peer 0 WaitCtlReply moment)) in
+    let t = with_letter 0 (Sccrq (opening_of e.role e.config m.challenge None m.tunnel)) (new_tunnel (begun m.tunnel m.peer 0 WaitCtlReply moment m.challenge)) in
     let same = o.after ∙ ap (λ s. record (with_tunnel e m.tunnel t) { tunnel_ids = s }) (next_is e.tunnel_ids m.tunnel o.drawn) in
     subst (λ y. Within (after accs d) n y sender ev) (sym same)
-    (begins accs n e sender moment ev d h.within m h.deed drawn.0 drawn.1 lns.0 lns.1 (o.peer ∙ lns.2))
+    (begins accs n e sender moment ev d h.within m h.deed drawn.0 drawn.1 lns.0 lns.1 (o.peer ∙ lns.2) o.asks)

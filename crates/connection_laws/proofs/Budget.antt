@@ -125,6 +125,8 @@ does_below e x moment ev (move.EndSilent m) most order few had h =
     old_below e x (most + 8192 * 0) m.tunnel h.tunnel _ (more_below e most (8192 * 0) had) h.there (tunnels_are x _ h.after) refl
 does_below e x moment ev (move.Declined m) most order few had h =
     same_below e x (most + 8192 * 0) (more_below e most (8192 * 0) had) (tunnels_are x _ h.after)
+does_below e x moment ev (move.Rejected m) most order few had h =
+    old_below e x (most + 8192 * 0) m.tunnel h.tunnel _ (more_below e most (8192 * 0) had) h.there (tunnels_are x _ h.after) refl
 does_below e x moment ev (move.Closed m) most order few had h =
     old_below e x (most + 8192 * 0) m.tunnel h.tunnel _ (more_below e most (8192 * 0) had) h.there (tunnels_are x _ h.after) refl
 does_below e x moment ev (move.ClosedBy m) most order few had h =
@@ -176,6 +178,7 @@ does_give e x moment ev (move.EndTold m) d a h = inr (put_live e x m.tunnel _ (t
 does_give e x moment ev (move.EndHeard m) d a h = inl refl
 does_give e x moment ev (move.EndSilent m) d a h = inl refl
 does_give e x moment ev (move.Declined m) d a h = inl refl
+does_give e x moment ev (move.Rejected m) d a h = inr (put_live e x m.tunnel _ (tunnels_are x _ h.after))
 does_give e x moment ev (move.Closed m) d a h = inr (put_live e x m.tunnel _ (tunnels_are x _ h.after))
 does_give e x moment ev (move.ClosedBy m) d a h = inl refl
 does_give e x moment ev (move.Cleared k) d a h = inl refl

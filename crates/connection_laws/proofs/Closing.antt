@@ -1,19 +1,15 @@
 -- A tunnel is closed, and its peer is told.
-use Rattle.std.proofs.Common.{◌≡◌, ◌⊎◌, inl, inr, ⊎_elim, ℕ, ◌+◌, ◌<◌, ◌≤◌, true, List, [], ◌∷◌, ◌++◌, map, drop, length, refl, sym, ap, ap₂, ◌∙◌, subst, append-nil, Option, Some, arith}
+use Rattle.std.proofs.Common.{◌≡◌, ◌⊎◌, inl, inr, ⊎_elim, ℕ, ◌+◌, ◌<◌, ◌≤◌, List, [], ◌∷◌, ◌++◌, map, drop, length, refl, sym, ap, ap₂, ◌∙◌, subst, append-nil, Option, Some, arith}
 use Rattle.std.proofs.lemmas.Bool.{ltb-true}
 use Rattle.std.proofs.lemmas.List.{length-append, map-append, drop-append-le}
 use Rattle.std.proofs.lemmas.Option.{none-some}
 use Rattle.std.specs.List.{AllByRecursion}
 use Rattle.id_table.specs.Ids.{at-none}
-use Rattle.id_table.specs.Order.{ascends-empty}
+use Rattle.id_table.specs.Order.{same_or_not, ascends-empty}
 use Rattle.wire_base.specs.declared.letter.Letter as wire
-use Rattle.control_message.specs.declared.message.Message.TheVariants.{StopCcn, Sccrp}
-use Rattle.control_message.specs.declared.message.Opening.{Opening}
-use Rattle.tunnel_fsm.specs.declared.table.TunnelEvent.{TunnelEvent}
-use Rattle.tunnel_fsm.specs.declared.table.TunnelEvent.TheVariants as event
+use Rattle.control_message.specs.declared.message.Message.TheVariants.{StopCcn}
 use Rattle.tunnel_fsm.specs.declared.table.TunnelState.TheVariants as state
-use Rattle.tunnel_fsm.specs.declared.table.TunnelAction.TheVariants as action
-use Rattle.tunnel_fsm.specs.Rows.{rows, row_of, state_number}
+use Rattle.tunnel_fsm.specs.Rows.{state_number}
 use Rattle.protocol_model.specs.declared.event.Event.{Event}
 use Rattle.protocol_model.specs.declared.event.Event.TheVariants.{Datagram, Ring, Payload, Lower, Hang, OpenTunnel, DropCall, CloseTunnel, Tick}
 use Rattle.protocol_model.specs.declared.moves.Closed.{Closed}
@@ -21,32 +17,28 @@ use Rattle.protocol_model.specs.declared.moves.Move.TheVariants as move
 use Rattle.protocol_model.specs.declared.out.Origin.{Origin}
 use Rattle.protocol_model.specs.declared.out.Origin.TheVariants as origin
 use Rattle.protocol_model.specs.declared.packet.Packet.{Packet}
-use Rattle.protocol_model.specs.Turn.{Tunnel, event_by, is_acceptable}
+use Rattle.protocol_model.specs.Turn.{Tunnel}
 use Rattle.protocol_model.specs.End.{End}
 use Rattle.protocol_model.specs.World.{Sender, Deed}
 use Rattle.step_laws.specs.Codes.{stop_codes_fit}
 use Rattle.step_laws.specs.Letters.{Letter}
-use Rattle.step_laws.specs.Moves.{IsKnownOr, InTunnel, WhyCloses, ByOperator, BySccrq, BySccrp, ByScccn, ByFault, Closes, with_letter}
+use Rattle.step_laws.specs.Moves.{WhyCloses, ByOperator, ByLetter, Closes, with_letter}
 use Rattle.frame_laws.specs.Codecs.{Codecs}
 use Rattle.connection_laws.specs.Accounts.{Part, Unmade, Opener, Acceptor, Account, gives}
-use Rattle.connection_laws.specs.Facts.{Accounts, IsMade, IsStopCcn, TellsOwn, AreTaken, AreIgnored, IsOpen, IsClosed, IsLost, HasStopped, AllWait, AreJoined, partner_in, IsOpener, IsAcceptor, IsPart, AccountOk, IsSpelled, kept_letter, IsInState, AreAcked, LiveOk, AreNear, Comes, Within}
+use Rattle.connection_laws.specs.Facts.{Accounts, IsMade, IsStopCcn, TellsOwn, AreTaken, AreIgnored, IsOpen, IsClosed, IsLost, HasStopped, AreJoined, partner_in, IsOpener, IsAcceptor, IsPart, AccountOk, IsSpelled, kept_letter, AreAcked, LiveOk, AreNear, Comes, Within}
 use Rattle.connection_laws.specs.Steps.{ClosingsAreKnown}
 use Rattle.connection_laws.proofs.Keeps.{after, IsMoved}
 use Rattle.connection_laws.proofs.Puts.{Extends, IsOnly, NearAt, ComesNear, StaysJoined, IsPut}
 use Rattle.connection_laws.proofs.Later.{live_made, AllExtend, all_extend, is_taken_on, are_acked_later, after_move, only_after}
-use Rattle.connection_laws.proofs.States.{open_unless, lost_unless, heeded_open, heeded_closed, opener_in, is_open_so, shut_stands, closes_open, reply_connects}
+use Rattle.connection_laws.proofs.States.{open_unless, lost_unless, heeded_open, heeded_closed, is_open_so, shut_stands, closes_open}
 use Rattle.connection_laws.proofs.Put.{puts_keep}
 use Rattle.connection_laws.proofs.GoingOn.{are_acked_on, for_back}
-use Rattle.connection_laws.proofs.Hearing.{part_cases, opener_of, acceptor_of}
+use Rattle.connection_laws.proofs.Hearing.{opener_of, acceptor_of}
 use Rattle.connection_laws.proofs.NextHeard.{joined_opener}
 use Rattle.connection_laws.proofs.Acknowledging.{put_of, still_apart}
-use Rattle.connection_laws.proofs.AnyHeard.{hears_written, written_acceptable, none_is_faulty_in_tunnel}
 use Rattle.connection_laws.proofs.Taking.{all_append, begins_on}
 
 -- ---- the id of the peer's to which it goes
-
-acceptable_event : (acceptable other : TunnelEvent) (o : Opening) → is_acceptable o ≡ true → event_by acceptable other o ≡ acceptable
-acceptable_event acceptable other o h = rw h refl
 
 module _ (codecs : Codecs) (accs : Accounts) (n : ℕ) (e x : End) (sender : Option Sender) (moment : ℕ) (ev : Event) (within : Within accs n e sender ev)
     (m : Closed) (c : Closes e moment ev m x) where
@@ -59,32 +51,9 @@ module _ (codecs : Codecs) (accs : Accounts) (n : ℕ) (e x : End) (sender : Opt
   pub unclosed : state_number was.control.state ≡ 4 → ⊥
   unclosed = closes_open was.control.state c.on c.row
 
-  -- a tunnel that knows no id waits for an SCCRP, by which it isn't closed
-  waits : (accs n m.tunnel).remote ≡ 0 → state_number was.control.state ≡ 1
-  waits none = by (part_cases (accs n m.tunnel).part (live_made accs n m.tunnel (accs n m.tunnel) was lives))
-    where
-      by : ((accs n m.tunnel).part ≡ Opener) ⊎ ((accs n m.tunnel).part ≡ Acceptor) → state_number was.control.state ≡ 1
-      by (inl own) = ⊎_elim
-          (λ (k : (state_number was.control.state ≡ 1) × ((accs n m.tunnel).remote ≡ 0) × IsOpen (accs n m.tunnel) × AllWait was.calls). k.0)
-          (λ (k : (state_number was.control.state ≡ 3) × ((accs n m.tunnel).remote ≡ 0 → ⊥) × IsOpen (accs n m.tunnel)). absurd (k.1 none))
-          (opener_in accs m.tunnel (accs n m.tunnel) was (subst (IsInState accs m.tunnel (accs n m.tunnel) was) own lives.state) unclosed)
-      by (inr own) = absurd ((acceptor_of accs n m.tunnel (accs n m.tunnel) (within.accounts n m.tunnel) own).known none)
-
-  by_reply : (session : ℕ) (o : Opening) → InTunnel ev was.control session (Sccrp o) → c.on ≡ event_by event.SccrpAcc event.SccrpNotAcc o
-      → IsKnownOr o.tunnel was.control m.remote → m.remote ≡ was.control.remote
-  by_reply session o came on known = known.0 (λ z.
-      let fine = written_acceptable o (hears_written codecs accs n e sender ev within was.control.peer session (Sccrp o) came.hears) in
-      let is = on ∙ acceptable_event event.SccrpAcc event.SccrpNotAcc o fine in
-      reply_connects was.control.state (subst (λ v. row_of rows was.control.state v ≡ (state.Closed, action.SendStopCcn)) is c.row)
-      (waits (sym lives.remote ∙ z)))
-
-  by_why : WhyCloses was ev c.on m → m.remote ≡ was.control.remote
+  by_why : WhyCloses e.config.secret was ev c.on m → m.remote ≡ was.control.remote
   by_why (ByOperator is on known result error) = known
-  by_why (BySccrq session o came on known why) = known
-  by_why (BySccrp session o came on known why) = by_reply session o came on known
-  by_why (ByScccn session came on known result error) = known
-  by_why (ByFault g came on known result error) =
-      absurd (none_is_faulty_in_tunnel codecs accs n e sender ev within was.control g came)
+  by_why (ByLetter told why other known) = known
 
   pub closes_known : m.remote ≡ (accs n m.tunnel).remote
   closes_known = by_why c.why ∙ lives.remote
@@ -94,7 +63,7 @@ closings_are_known codecs accs n e x sender moment ev within m c = closes_known 
 
 -- ---- one that gave one letter gives a StopCCN
 
-stop_behind : (given : List Letter) (l : Letter) → length given ≡ 1 → IsStopCcn l.message
+pub stop_behind : (given : List Letter) (l : Letter) → length given ≡ 1 → IsStopCcn l.message
     → AllByRecursion (λ (x : Letter). IsStopCcn x.message) (drop 1 (given ++ l ∷ []))
 stop_behind [] l one stops = absurd (omega arith)
 stop_behind (x ∷ []) l one stops = (stops, tt)
@@ -205,10 +174,22 @@ module _ (codecs : Codecs) (accs : Accounts) (n : ℕ) (e x : End) (sender : Opt
         peer = λ z. ap (λ (y : Account). y.peer) (opener_stays own z) ∙ before.peer z;
         remote = λ z. ap (λ (y : Account). y.remote) (opener_stays own z) ∙ before.remote z;
         joined = λ z. rw (opener_stays own z) (joined z);
+        early = little;
       }
     where
       had : IsOpener accs n i a
       had = opener_of accs n i a ok own
+
+      -- closed before it took a letter, it knew no partner, and had given its SCCRQ alone
+      little : b.closed ≡ Some 0 → (length b.given ≤ 2) × AllByRecursion (λ (l : Letter). IsStopCcn l.message) (drop 1 b.given)
+      little z =
+          let none : length a.taken ≡ 0 = cc in
+          let unknown : a.remote ≡ 0 = ⊎_elim (λ (q : a.remote ≡ 0). q)
+          (λ (q : a.remote ≡ 0 → ⊥). let one = had.some q in absurd (omega (arith, one, none))) (same_or_not a.remote 0) in
+          ⊎_elim
+          (λ (one : length a.given ≡ 1). (omega (arith, more_given, one), stop_behind a.given last one tt))
+          (λ (o : IsLost a × (length a.given ≤ 2)). absurd (lost_unless a is_open o.0))
+          (had.one_given unknown)
 
       lost : a.remote ≡ 0 → IsLost b
       lost z = ⊎_elim
@@ -285,7 +266,7 @@ module _ (codecs : Codecs) (accs : Accounts) (n : ℕ) (e x : End) (sender : Opt
 
   account : AccountOk ms n i b
   account =
-      let codes = stop_codes_fit t ev h.does.on m h.does.why in
+      let codes = stop_codes_fit e.config.secret t ev h.does.on m h.does.why in
       record {
         part = part a.part refl;
         some = ok.some;

@@ -12,6 +12,7 @@ use Rattle.control_channel.specs.Numbers.{learnt_by}
 use Rattle.recv_window.specs.Window.{ClassIsTrue}
 use Rattle.tunnel_fsm.specs.declared.table.TunnelState.TheVariants.{Established}
 use Rattle.tunnel_fsm.specs.Rows.{state_number}
+use Rattle.connection_laws.proofs.Written.{responds_sized}
 use Rattle.protocol_model.specs.declared.event.Event.{Event}
 use Rattle.protocol_model.specs.declared.moves.Connected.{Connected}
 use Rattle.protocol_model.specs.declared.moves.Place.{Place}
@@ -55,19 +56,19 @@ learnt window c = by (window == 0)
     by false = record { local = refl; peer = refl; remote = refl; state = refl; acked = refl; queued = refl; outstanding = refl; taken = refl }
 
 -- an opener that waits for the SCCRP takes the first letter of an acceptor
-record IsFirst (accs : Accounts) (n i : ℕ) (o : ControlOrigin) (l : Letter) : Type 0 where
-  here : (accs n i).part ≡ Opener
-  none : (accs n i).remote ≡ 0
-  is_open : IsOpen (accs n i)
-  nothing : (accs n i).taken ≡ []
-  part : (sender_in accs n i o).part ≡ Acceptor
-  remote : (sender_in accs n i o).remote ≡ i
-  peer : (sender_in accs n i o).peer ≡ n
-  opening : Opening
-  says : l.message ≡ Sccrp opening
-  id : opening.tunnel ≡ o.tunnel
+pub record IsFirst (accs : Accounts) (n i : ℕ) (o : ControlOrigin) (l : Letter) : Type 0 where
+  pub here : (accs n i).part ≡ Opener
+  pub none : (accs n i).remote ≡ 0
+  pub is_open : IsOpen (accs n i)
+  pub nothing : (accs n i).taken ≡ []
+  pub part : (sender_in accs n i o).part ≡ Acceptor
+  pub remote : (sender_in accs n i o).remote ≡ i
+  pub peer : (sender_in accs n i o).peer ≡ n
+  pub opening : Opening
+  pub says : l.message ≡ Sccrp opening
+  pub id : opening.tunnel ≡ o.tunnel
 
-first_if : (accs : Accounts) (n i : ℕ) (t : Tunnel) (o : ControlOrigin) (l : Letter) → IsWaiting (accs n i) t (accs n i).part → TakesOf accs n i o l
+pub first_if : (accs : Accounts) (n i : ℕ) (t : Tunnel) (o : ControlOrigin) (l : Letter) → IsWaiting (accs n i) t (accs n i).part → TakesOf accs n i o l
     → IsFirst accs n i o l
 first_if accs n i t o l waits (OfPartner pair told) =
     let here = waits.part in
@@ -107,7 +108,7 @@ module _ (codecs : Codecs) (classes : ClassIsTrue) (accs : Accounts) (n : ℕ) (
 
   -- the SCCCN
   abbrev last : Letter
-  last = record { tunnel = m.tunnel; place = m.given; session = 0; message = Scccn }
+  last = record { tunnel = m.tunnel; place = m.given; session = 0; message = Scccn m.response }
 
   abbrev tk : Taken
   tk = taken_as sender m.taken (move.Connected m)
@@ -120,7 +121,7 @@ module _ (codecs : Codecs) (classes : ClassIsTrue) (accs : Accounts) (n : ℕ) (
   c = learns_window m.window (record t.control { remote = m.remote; state = Established })
 
   abbrev u : Tunnel
-  u = with_letter 0 Scccn (record t { control = counts_taken c })
+  u = with_letter 0 (Scccn m.response) (record t { control = counts_taken c })
 
   learns : IsLearnt (record t.control { remote = m.remote; state = Established }) c
   learns = learnt m.window (record t.control { remote = m.remote; state = Established })
@@ -251,6 +252,7 @@ module _ (codecs : Codecs) (classes : ClassIsTrue) (accs : Accounts) (n : ℕ) (
         peer = λ z. ap (λ (y : Account). y.peer) stays ∙ first.peer;
         remote = λ z. ap (λ (y : Account). y.remote) stays ∙ first.remote;
         joined = λ z. joined_now;
+        early = λ z. (let open_is = first.is_open in let no : ⊥ = cc in absurd no);
       }
 
   -- the SCCRP that was taken
@@ -286,7 +288,7 @@ module _ (codecs : Codecs) (classes : ClassIsTrue) (accs : Accounts) (n : ℕ) (
     node = ok.node;
     peer = ok.peer;
     remote = (let fits = (h.within.accounts a.peer o.tunnel).id said.heard.made in let same = told in omega arith);
-    spelled = all_append IsSpelled a.given (last ∷ []) ok.spelled (record { written = tt; session = omega arith }, tt);
+    spelled = all_append IsSpelled a.given (last ∷ []) ok.spelled (record { written = responds_sized 3 e.config.secret h.does.opening.challenge m.response h.does.responds; session = omega arith }, tt);
     told = all_append (λ (l : Letter). TellsOwn i l.message) a.given (last ∷ []) ok.told (tt, tt);
     taken = taken;
     ignored = ignored;

@@ -52,7 +52,7 @@ known_answers avps (StopCcn tunnel code error) r h = by (tunnel == 0) h
     by true is = absurd cc
     by false is = absurd cc
 known_answers avps (Sccrq o) r h = absurd cc
-known_answers avps Scccn r h = absurd cc
+known_answers avps (Scccn response) r h = absurd cc
 known_answers avps Hello r h = absurd cc
 known_answers avps (Ocrq session) r h = absurd cc
 known_answers avps Ocrp r h = absurd cc

@@ -1,5 +1,5 @@
 -- The moves that take no letter and read no Nr keep what holds.
-use Rattle.std.proofs.Common.{◌≡◌, ◌⊎◌, inl, inr, ⊎_elim, ℕ, ◌+◌, ◌<◌, ◌≤◌, Bool, true, false, cond, List, [], ◌∷◌, length, refl, sym, ap, ◌∙◌, subst, append-nil, Option, Some, arith}
+use Rattle.std.proofs.Common.{None, ◌≡◌, ◌⊎◌, inl, inr, ⊎_elim, ℕ, ◌+◌, ◌<◌, ◌≤◌, Bool, true, false, cond, List, [], ◌∷◌, length, refl, sym, ap, ◌∙◌, subst, append-nil, Option, Some, arith}
 use Rattle.std.proofs.lemmas.Bool.{ltb-true, true≢false}
 use Rattle.std.specs.Prelude.{◌==◌, ◌&&◌, nat_lt, if◌then◌else◌}
 use Rattle.id_table.specs.Ids.{at, put, without}
@@ -101,11 +101,11 @@ module _ (accs : Accounts) (n : ℕ) (e : End) (sender : Option Sender) (ev : Ev
         how = inl h.open_is;
       }
 
-  gives_is : gives d ≡ letters_of e.role (config_of n 0) m
+  gives_is : gives d ≡ letters_of e.role (config_of n 0 None) m
   gives_is = rw (deed.role_is, deed.node_is, deed.move_is) refl
 
   given_keeps : (l : Letter) (calls : List (ℕ × Call)) (places : List (ℕ × CallPlace)) → MayEnter m (accs n (about m))
-      → entered_by d m (accs n (about m)) ≡ gives_also d (accs n (about m)) → letters_of e.role (config_of n 0) m ≡ l ∷ [] → IsGiven (about m) t l calls
+      → entered_by d m (accs n (about m)) ≡ gives_also d (accs n (about m)) → letters_of e.role (config_of n 0 None) m ≡ l ∷ [] → IsGiven (about m) t l calls
       → Within (after accs d) n (with_places e (about m) (with_one l calls t) places) sender ev
   given_keeps l calls places may enters one h =
       let i = about m in

@@ -23,10 +23,10 @@ use Rattle.protocol_model.specs.World.{Sender}
 use Rattle.step_laws.specs.Letters.{Letter}
 use Rattle.step_laws.specs.Moves.{IsFor, IsAgain, IsStop}
 use Rattle.connection_laws.specs.Accounts.{Part, Unmade, Opener, Acceptor, Account}
-use Rattle.connection_laws.specs.Facts.{Accounts, IsNoOpening, IsSpelled, TellsOwn, IsOpen, IsClosed, IsLost, HasStopped, AllWait, IsShut, BeginsWith, AreJoined, partner_in, IsOpener, IsAcceptor, IsPart, IsMade, AccountOk, kept_letter, IsAnswered, IsInState, AreAcked, LiveOk, AreNear, Comes, Within}
+use Rattle.connection_laws.specs.Facts.{GaveLittle, Accounts, IsNoOpening, IsSpelled, TellsOwn, IsOpen, IsClosed, IsLost, HasStopped, AllWait, IsShut, BeginsWith, AreJoined, partner_in, IsOpener, IsAcceptor, IsPart, IsMade, AccountOk, kept_letter, IsAnswered, IsInState, AreAcked, LiveOk, AreNear, Comes, Within}
 use Rattle.connection_laws.proofs.Puts.{Extends, IsOnly, NearAt, ComesNear, EndPut}
 use Rattle.connection_laws.proofs.Later.{AllExtend, all_extend, are_acked_later, in_state_later, is_taken_on, live_made, more_given, joined_now}
-use Rattle.connection_laws.proofs.States.{opener_known, acceptor_chosen}
+use Rattle.connection_laws.proofs.States.{closed_still, opener_known, acceptor_chosen}
 use Rattle.connection_laws.proofs.Put.{puts_keep}
 
 all_append : {X : Type 0} (P : X → Type 0) (xs ys : List X) → AllByRecursion P xs → AllByRecursion P ys → AllByRecursion P (xs ++ ys)
@@ -188,8 +188,13 @@ module _ (accs ms : Accounts) (n : ℕ) (e x : End) (sender : Option Sender) (ev
     peer = λ known. rw (stays known) (h.peer known);
     remote = λ known. rw (stays known) (h.remote known);
     joined = joined;
+    early = λ z. little z;
   }
     where
+      -- a closed tunnel gives nothing more
+      little : a.closed ≡ Some 0 → GaveLittle b
+      little z = rw (none_unless (λ three. closed_still accs i a t own live.state z three), append-nil) (h.early z)
+
       still_one : a.remote ≡ 0 → (length b.given ≡ 1) ⊎ (IsLost b × (length b.given ≤ 2))
       still_one none = rw (none_before own none, append-nil) (h.one_given none)
 

@@ -1,10 +1,11 @@
 -- A tunnel that is closed, or is closed by the letter that it takes, does nothing with it.
 use Rattle.std.proofs.Common.{◌≡◌, ◌⊎◌, inl, inr, ⊎_elim, ℕ, ◌+◌, ◌<◌, ◌≤◌, List, [], ◌∷◌, ◌++◌, map, drop, length, refl, sym, ap, ap₂, ◌∙◌, subst, append-nil, Option, Some, arith}
 use Rattle.std.proofs.lemmas.List.{length-append}
+use Rattle.std.specs.List.{AllByRecursion}
 use Rattle.std.proofs.lemmas.Option.{slice_get_within}
 use Rattle.std.specs.Prelude.{slice_get}
 use Rattle.id_table.specs.Ids.{at}
-use Rattle.id_table.specs.Order.{ascends-empty}
+use Rattle.id_table.specs.Order.{same_or_not, ascends-empty}
 use Rattle.l2tp_header.specs.declared.header.Header.{Header}
 use Rattle.tunnel_fsm.specs.Rows.{state_number}
 use Rattle.protocol_model.specs.declared.event.Event.{Event}
@@ -15,8 +16,9 @@ use Rattle.protocol_model.specs.declared.tunnel.Role.{Role}
 use Rattle.protocol_model.specs.Turn.{Tunnel}
 use Rattle.protocol_model.specs.End.{End}
 use Rattle.protocol_model.specs.World.{Sender, Deed}
+use Rattle.step_laws.specs.Letters.{Letter}
 use Rattle.connection_laws.specs.Accounts.{Part, Unmade, Opener, Acceptor, Taken, Account, heeded, takes_at}
-use Rattle.connection_laws.specs.Facts.{Accounts, IsMade, AreTaken, IsOpen, IsClosed, IsIgnored, AreIgnored, IsLost, HasStopped, AreJoined, partner_in, IsOpener, IsAcceptor, IsPart, AccountOk, kept_letter, AreAcked, LiveOk, IsNear, Comes, Within}
+use Rattle.connection_laws.specs.Facts.{IsStopCcn, Accounts, IsMade, AreTaken, IsOpen, IsClosed, IsIgnored, AreIgnored, IsLost, HasStopped, AreJoined, partner_in, IsOpener, IsAcceptor, IsPart, AccountOk, kept_letter, AreAcked, LiveOk, IsNear, Comes, Within}
 use Rattle.connection_laws.proofs.Keeps.{IsDeed}
 use Rattle.connection_laws.proofs.Puts.{ComesNear, Extends, IsOnly, StaysJoined, EndPut, IsPut}
 use Rattle.connection_laws.proofs.Later.{live_made, AllExtend, all_extend, is_taken_on, are_acked_later}
@@ -112,6 +114,11 @@ pub record Ignores (accs ms : Accounts) (n : ℕ) (e x : End) (sender : Option S
   pub only : IsOnly accs ms n i
   pub is : ms n i ≡ with_ignored tk closed (accs n i)
   pub put_is : EndPut e x i u
+
+none_behind : (given : List Letter) → length given ≡ 1 → AllByRecursion (λ (l : Letter). IsStopCcn l.message) (drop 1 given)
+none_behind [] one = tt
+none_behind (x ∷ []) one = tt
+none_behind (x ∷ y ∷ ys) one = absurd (omega arith)
 
 module _ (accs ms : Accounts) (n : ℕ) (e x : End) (sender : Option Sender) (ev : Event) (i : ℕ) (t u : Tunnel) (tk : Taken) (closed : Option ℕ)
     (k : Ignores accs ms n e x sender ev i t u tk closed) where
@@ -237,6 +244,23 @@ module _ (accs ms : Accounts) (n : ℕ) (e x : End) (sender : Option Sender) (ev
 
   -- ---- its account
 
+  -- closed before it heeded a letter, it gave no more than a StopCCN behind its SCCRQ
+  little : a.part ≡ Opener → b.closed ≡ Some 0 → (length b.given ≤ 2) × AllByRecursion (λ (l : Letter). IsStopCcn l.message) (drop 1 b.given)
+  little own z =
+      let before = opener_of accs n i a ok own in
+      ⊎_elim
+      (λ (o : IsOpen a × (closed ≡ Some (length a.taken))).
+      let shut = o.1 in
+      let none : length a.taken ≡ 0 = cc in
+      let unknown : a.remote ≡ 0 = ⊎_elim (λ (q : a.remote ≡ 0). q)
+      (λ (q : a.remote ≡ 0 → ⊥). let one = before.some q in absurd (omega (arith, one, none))) (same_or_not a.remote 0) in
+      ⊎_elim
+      (λ (one : length a.given ≡ 1). (omega (arith, one), none_behind a.given one))
+      (λ (q : IsLost a × (length a.given ≤ 2)). absurd (lost_unless a o.0 q.0))
+      (before.one_given unknown))
+      (λ (o : IsClosed a × (closed ≡ a.closed)). before.early (sym o.1 ∙ z))
+      k.shuts
+
   opener_joined : AreJoined a p → AreJoined b p
   opener_joined before = record {
     here = few_known;
@@ -261,6 +285,7 @@ module _ (accs ms : Accounts) (n : ℕ) (e x : End) (sender : Option Sender) (ev
         peer = λ z. ap (λ (y : Account). y.peer) (opener_stays own z) ∙ before.peer z;
         remote = λ z. ap (λ (y : Account). y.remote) (opener_stays own z) ∙ before.remote z;
         joined = λ z. rw (opener_stays own z) (opener_joined (before.joined z));
+        early = λ z. little own z;
       }
 
   acceptor : a.part ≡ Acceptor → IsAcceptor ms n i b

@@ -182,6 +182,7 @@ module _ (accs ms : Accounts) (n i : ℕ) (only : IsOnly accs ms n i) where
       peer = peer;
       remote = remote;
       joined = joined;
+      early = h.early;
     }
       where
         part : (a.remote ≡ 0 → ⊥) → c.part ≡ Acceptor
@@ -391,6 +392,7 @@ declines_none (move.EndHeard m) plain n i = refl
 declines_none (move.EndSilent m) plain n i = refl
 declines_none (move.Declined m) plain n i = absurd plain
 declines_none (move.Closed m) plain n i = refl
+declines_none (move.Rejected m) plain n i = refl
 declines_none (move.ClosedBy m) plain n i = refl
 declines_none (move.Cleared k) plain n i = refl
 declines_none (move.Greeted m) plain n i = refl
@@ -420,6 +422,7 @@ MayEnter (move.Opened m) a = a.part ≡ Unmade
 MayEnter (move.Accepted m) a = (a.part ≡ Unmade) × (a.remote ≡ 0) × IsOpen a
 MayEnter (move.Connected m) a = (a.remote ≡ 0) × IsOpen a
 MayEnter (move.Closed m) a = (m.remote ≡ a.remote) × IsOpen a
+MayEnter (move.Rejected m) a = (a.remote ≡ 0) × IsOpen a
 MayEnter (move.ClosedBy m) a = IsOpen a
 MayEnter m a = Unit {0}
 
@@ -491,6 +494,18 @@ closes_extends a remote closed same is_open = record {
   declined = λ z. z;
 }
 
+rejects_extends : (a : Account) (remote : ℕ) (closed : Option ℕ) → a.remote ≡ 0 → IsOpen a
+    → Extends a (record a { remote = remote; closed = closed })
+rejects_extends a remote closed unknown is_open = record {
+  part = inr refl;
+  peer = λ made. refl;
+  remote = inl (is_open, unknown);
+  closed = inl is_open;
+  given = ([], sym (append-nil a.given));
+  taken = ([], sym (append-nil a.taken));
+  declined = λ z. z;
+}
+
 pub entered_extends : (d : Deed) (m : Move) (a : Account) → MayEnter m a → Extends a (entered_by d m a)
 entered_extends d (move.Opened m) a h = gives_extends d a _ (opens_extends a _ h)
 entered_extends d (move.Accepted m) a h = gives_extends d a _ (takes_extends d m.taken a _ (accepts_extends a _ m.remote h.0 h.1 h.2))
@@ -507,6 +522,7 @@ entered_extends d (move.EndHeard m) a h = takes_extends d m.taken a a (extends_s
 entered_extends d (move.EndSilent m) a h = extends_same a
 entered_extends d (move.Declined m) a h = extends_same a
 entered_extends d (move.Closed m) a h = gives_extends d a _ (closes_extends a m.remote _ h.0 h.1)
+entered_extends d (move.Rejected m) a h = gives_extends d a _ (takes_extends d m.taken a _ (rejects_extends a m.remote _ h.0 h.1))
 entered_extends d (move.ClosedBy m) a h = takes_extends d m.taken a _ (closes_extends a a.remote _ refl h)
 entered_extends d (move.Cleared i) a h = extends_same a
 entered_extends d (move.Greeted m) a h = gives_extends d a a (extends_same a)

@@ -14,6 +14,7 @@ pub mod Numbers
 pub mod Stops
 pub mod Refusals
 pub mod Hearing
+pub mod Plain
 pub mod NextHeard
 pub mod Said
 pub mod Acknowledging
@@ -26,6 +27,7 @@ pub mod Closing
 pub mod AnyHeard
 pub mod Declining
 pub mod Connecting
+pub mod Rejecting
 pub mod Accepting
 pub mod Moves
 pub mod Told

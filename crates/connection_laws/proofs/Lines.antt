@@ -1,5 +1,5 @@
 -- Each line of a schedule.
-use Rattle.std.proofs.Common.{◌≡◌, ⊎_elim, ℕ, ◌+◌, ◌-◌, ◌^◌, ◌<◌, false, [], refl, sym, ap, ◌∙◌, subst, Option, Some, None, Result, Ok, Err, arith}
+use Rattle.std.proofs.Common.{◌≡◌, ⊎_elim, ℕ, ◌+◌, ◌-◌, ◌^◌, ◌<◌, false, List, [], refl, sym, ap, ◌∙◌, subst, Option, Some, None, Result, Ok, Err, arith}
 use Rattle.std.proofs.lemmas.Bool.{true≢false}
 use Rattle.std.proofs.lemmas.Option.{none-some}
 use Rattle.std.specs.Prelude.{is_some, min, slice_get}
@@ -10,6 +10,7 @@ use Rattle.wire_base.specs.declared.why.Why.TheVariants as why
 use Rattle.schedule_text.specs.declared.line.Line.{Line}
 use Rattle.schedule_text.specs.declared.line.Line.TheVariants.{Remark, Lac, Lns, OpenUp, Close, Ring, FromSub, Down, Hang, DropCall, Deliver, Tick}
 use Rattle.schedule_text.specs.Grammar.{FitsLine}
+use Rattle.connection_laws.proofs.Plain.{comes_plain}
 use Rattle.protocol_model.specs.declared.event.Event.{Event}
 use Rattle.protocol_model.specs.declared.event.Event.TheVariants as event
 use Rattle.protocol_model.specs.declared.packet.Packet.{Packet}
@@ -18,7 +19,7 @@ use Rattle.protocol_model.specs.declared.refusal.Refusal.TheVariants.{Unfit}
 use Rattle.protocol_model.specs.declared.tunnel.Role.{Role}
 use Rattle.protocol_model.specs.declared.tunnel.Role.TheVariants as role
 use Rattle.protocol_model.specs.Names.{address_of}
-use Rattle.protocol_model.specs.End.{new_end, step}
+use Rattle.protocol_model.specs.End.{plain_step, new_end, step}
 use Rattle.step_laws.specs.Lines.{tested, tested_not, is_lac_at, is_lns_at, is_declared, has_call}
 use Rattle.protocol_model.specs.World.{World, Node, Sender, Lined, quiet_line, with_node, after_step, declared, lac_at, lns_at, with_call, with_tunnel, is_not_closed, later, config_of, added, block_of, stepped, addressee_of, arrival, refused_by, sender_of, arrives, delivers_it, delivers, line}
 use Rattle.step_laws.specs.Steps.{AreKept}
@@ -77,9 +78,9 @@ not_made a none made = made (ap (λ (x : Account). x.part) none)
 abbrev pub HasLns : Role → ℕ → Type 0
 HasLns r lns = r ≡ role.Lac → (m : ℕ) × (m < 256) × (lns ≡ address_of m)
 
-new_ok : (accs : Accounts) (n : ℕ) (r : Role) (lns : ℕ) → n < 256 → HasLns r lns → ((i : ℕ) → accs n i ≡ no_account)
-    → EndOk accs n (new_end r (config_of n lns)) × AreKept (new_end r (config_of n lns))
-new_ok accs n r lns lt has none = (
+new_ok : (accs : Accounts) (n : ℕ) (r : Role) (lns : ℕ) (secret : Option (List ℕ)) → n < 256 → HasLns r lns → ((i : ℕ) → accs n i ≡ no_account)
+    → EndOk accs n (new_end r (config_of n lns secret)) × AreKept (new_end r (config_of n lns secret))
+new_ok accs n r lns secret lt has none = (
   record {
     node = lt;
     number = refl;
@@ -103,30 +104,30 @@ new_ok accs n r lns lt has none = (
 )
 
 module _ (w : World) (accs : Accounts) (number : ℕ) (holds : Holds w accs) (most : ℕ) (had : GivenBelow accs most) where
-  more_holds : (n : ℕ) (r : Role) (lns : ℕ) → n < 256 → HasLns r lns → at w.nodes n ≡ None
-      → Holds (with_node w n (record { end = new_end r (config_of n lns); clock = 0; births = [] })) accs
-  more_holds n r lns lt has none = record {
+  more_holds : (n : ℕ) (r : Role) (lns : ℕ) (secret : Option (List ℕ)) → n < 256 → HasLns r lns → at w.nodes n ≡ None
+      → Holds (with_node w n (record { end = new_end r (config_of n lns secret); clock = 0; births = [] })) accs
+  more_holds n r lns secret lt has none = record {
     accounts = holds.accounts;
     nodes = λ k. ⊎_elim
         (λ (e : k ≡ n).
         subst (λ q. NodeOk accs q (at (put w.nodes n new) q)) (sym e)
-        (rw (at_new w.nodes n new) (new_ok accs n r lns lt has (subst (NodeOk accs n) none (holds.nodes n)))))
+        (rw (at_new w.nodes n new) (new_ok accs n r lns secret lt has (subst (NodeOk accs n) none (holds.nodes n)))))
         (λ o. rw (at_other w.nodes n new k o) (holds.nodes k))
         (same_or_not k n);
     packets = holds.packets;
   }
     where
       new : Node
-      new = record { end = new_end r (config_of n lns); clock = 0; births = [] }
+      new = record { end = new_end r (config_of n lns secret); clock = 0; births = [] }
 
-  added_ok : (n : ℕ) (r : Role) (lns : ℕ) → n < 256 → HasLns r lns → (x : Lined) → added w n r lns ≡ Ok x → Does w accs (most + 16384) number x
+  added_ok : (n : ℕ) (r : Role) (lns : ℕ) (secret : Option (List ℕ)) → n < 256 → HasLns r lns → (x : Lined) → added w n r lns secret ≡ Ok x → Does w accs (most + 16384) number x
   unfolding added
-  added_ok n r lns lt has x h =
-      let new : Node = record { end = new_end r (config_of n lns); clock = 0; births = [] } in
+  added_ok n r lns secret lt has x h =
+      let new : Node = record { end = new_end r (config_of n lns secret); clock = 0; births = [] } in
       let t = tested_not (is_some (at w.nodes n)) (quiet_line (with_node w n new)) (Unfit why.Twice) x h in
       let none = none_there (at w.nodes n) t.0 in
       subst (Does w accs (most + 16384) number) t.1
-      (record { goes = quiet_goes (with_node w n new) accs most (more_holds n r lns lt has none) had; does = ANode n r lns lt none refl refl (added_births w n new none refl) })
+      (record { goes = quiet_goes (with_node w n new) accs most (more_holds n r lns secret lt has none) had; does = ANode n r lns secret lt none refl refl (added_births w n new none refl) })
 
 -- ---- lines
 
@@ -135,12 +136,14 @@ module _ (codecs : Codecs) (laws : Laws) (number : ℕ) (w : World) (accs : Acco
   timed_ok : (n : ℕ) (ev : Event) (sender : Option Sender) (node : Node) → IsAt w n node → Comes accs n node.end sender ev
       → Does w accs (most + 16384) number (after_step w number n node sender (step node.end node.clock (block_of n number) ev))
   timed_ok n ev sender node is comes =
-      subst (λ (q : Node). Does w accs (most + 16384) number (after_step w number n q sender (step q.end q.clock (block_of n number) ev))) (sym is.same)
+      subst (λ (v : Event). Does w accs (most + 16384) number (after_step w number n node sender (plain_step node.end node.clock (block_of n number) v)))
+      (sym (comes_plain codecs accs holds.accounts n node.end sender ev comes node.end.config.secret))
+      (subst (λ (q : Node). Does w accs (most + 16384) number (after_step w number n q sender (plain_step q.end q.clock (block_of n number) ev))) (sym is.same)
       (let here = subst (λ (q : Node). Comes accs n q.end sender ev) is.same comes in
       record {
         goes = step_ok laws number w accs holds most had room n is.before is.there node.clock ev sender here node.clock (block_of n number);
         does = AStep (step_does laws number w accs holds most had room n is.before is.there node.clock ev sender here node.clock (block_of n number));
-      })
+      }))
 
   stepped_ok : (x : Lined) (n : ℕ) (ev : Event) (sender : Option Sender) (o : Result Node Why)
       → ((node : Node) → o ≡ Ok node → IsAt w n node) → ((node : Node) → o ≡ Ok node → Comes accs n node.end sender ev)
@@ -179,9 +182,9 @@ module _ (codecs : Codecs) (laws : Laws) (number : ℕ) (w : World) (accs : Acco
   unfolding line
   line_ok x (Remark text) fits h =
       let e : quiet_line w ≡ x = cc in subst (Does w accs (most + 16384) number) e (record { goes = quiet_goes w accs most holds had; does = Nothing refl refl (births_same w) })
-  line_ok x (Lac n m) fits h =
-      added_ok w accs number holds most had n role.Lac (address_of m) (omega (arith, fits.0.1)) (λ lac. (m, omega (arith, fits.1.1), refl)) x h
-  line_ok x (Lns n) fits h = added_ok w accs number holds most had n role.Lns 0 (omega (arith, fits.1)) (λ lac. absurd cc) x h
+  line_ok x (Lac n m secret) fits h =
+      added_ok w accs number holds most had n role.Lac (address_of m) secret (omega (arith, fits.0.1)) (λ lac. (m, omega (arith, fits.1.1), refl)) x h
+  line_ok x (Lns n secret) fits h = added_ok w accs number holds most had n role.Lns 0 secret (omega (arith, fits.0.1)) (λ lac. absurd cc) x h
   line_ok x (OpenUp n) fits h =
       stepped_ok x n event.OpenTunnel None (lac_at (at w.nodes n)) (λ node e. is_there w n node ((is_lac_at (at w.nodes n) node e).0)) (λ node e. tt) h
   line_ok x (Close n i) fits h =

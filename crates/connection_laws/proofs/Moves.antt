@@ -10,6 +10,7 @@ use Rattle.connection_laws.proofs.Connecting.{connected_keeps}
 use Rattle.connection_laws.proofs.PairMoves.{confirmed_keeps, replied_keeps, first_up_keeps, second_up_keeps, end_heard_keeps}
 use Rattle.connection_laws.proofs.Plainly.{plain_keeps, closed_by_keeps}
 use Rattle.connection_laws.proofs.Closing.{closed_keeps}
+use Rattle.connection_laws.proofs.Rejecting.{rejected_keeps}
 use Rattle.connection_laws.proofs.Refusing.{refused_keeps}
 use Rattle.connection_laws.proofs.Declining.{declined_keeps}
 use Rattle.connection_laws.proofs.Acknowledging.{read_keeps}
@@ -30,6 +31,7 @@ moves_keep codecs classes accs n e x sender moment ev (move.EndHeard m) d h = en
 moves_keep codecs classes accs n e x sender moment ev (move.EndSilent m) d h = end_silent_keeps accs n e x sender moment ev m d h
 moves_keep codecs classes accs n e x sender moment ev (move.Declined m) d h = declined_keeps codecs accs n e x sender moment ev d m h
 moves_keep codecs classes accs n e x sender moment ev (move.Closed m) d h = closed_keeps codecs accs n e x sender moment ev d m h
+moves_keep codecs classes accs n e x sender moment ev (move.Rejected m) d h = rejected_keeps codecs classes accs n e x sender moment ev d m h
 moves_keep codecs classes accs n e x sender moment ev (move.ClosedBy m) d h = closed_by_keeps codecs classes accs n e x sender moment ev d m h
 moves_keep codecs classes accs n e x sender moment ev (move.Cleared i) d h = cleared_keeps accs n e x sender moment ev i d h
 moves_keep codecs classes accs n e x sender moment ev (move.Greeted m) d h = greeted_keeps accs n e x sender moment ev m d h

@@ -198,10 +198,10 @@ module _ (codecs : Codecs) (classes : ClassIsTrue) (accs : Accounts) (n : ℕ) (
       let mv = move.Confirmed m in
       let live = h.within.end.live m.tunnel t o.there in
       let u = took t Established t.calls in
-      said_takes codecs classes accs n e sender ev h.within m.tunnel t o.there o.hears.0 Scccn o.hears.1
+      said_takes codecs classes accs n e sender ev h.within m.tunnel t o.there o.hears.0 (Scccn o.response) o.hears.1
       (λ s. let is = o.state in let two = ap state_number is in let no : ⊥ = omega arith in no)
       (λ s. let is = o.state in let two = ap state_number is in let no : ⊥ = omega arith in no) tt
-      (after accs d) x u mv m.taken [] o.taken (λ l s says. says)
+      (after accs d) x u mv m.taken [] o.taken (λ l s says. (o.response, says))
       (took_on accs n m.tunnel t live (h.counts m.tunnel t o.there) Established t.calls (record { remotes = live.calls; order = live.order }) (inl refl))
       (only_after accs d n mv tt h.deed.node_is h.deed.move_is tt)
       (after_move accs d n mv tt h.deed.node_is h.deed.move_is ∙ takes_only d n e.role sender mv m.taken (accs n m.tunnel) h.deed)

@@ -1,6 +1,5 @@
 -- A tunnel that takes a letter plainly, and one that is closed by it, keep what holds.
-use Rattle.std.proofs.Common.{◌≡◌, ◌⊎◌, inl, inr, ⊎_elim, ℕ, ◌≤◌, List, [], length, refl, sym, ap, ◌∙◌, subst, Option, Some, Ok, arith}
-use Rattle.std.proofs.lemmas.Bool.{true≢false}
+use Rattle.std.proofs.Common.{◌≡◌, ◌⊎◌, inl, inr, ⊎_elim, ℕ, ◌≤◌, List, [], length, refl, ap, ◌∙◌, subst, Option, Some, Ok, arith}
 use Rattle.std.specs.Prelude.{unwrap_or}
 use Rattle.id_table.specs.Ids.{at}
 use Rattle.id_table.specs.Order.{same_or_not}
@@ -8,7 +7,6 @@ use Rattle.l2tp_header.specs.declared.header.Header.{Header}
 use Rattle.control_message.specs.declared.message.Message.{Message}
 use Rattle.control_message.specs.declared.message.Message.TheVariants.{Sccrq, Sccrp, Scccn, StopCcn, Hello, Ocrq, Ocrp, Occn, Icrq, Icrp, Iccn, Cdn, Wen, Sli}
 use Rattle.control_message.specs.declared.message.Opening.{Opening}
-use Rattle.control_message.specs.Pairs.{IsWritten}
 use Rattle.recv_window.specs.declared.Class.TheVariants.{Next}
 use Rattle.recv_window.specs.Window.{class_of, ClassIsTrue}
 use Rattle.tunnel_fsm.specs.declared.table.TunnelState.TheVariants as state
@@ -38,7 +36,7 @@ use Rattle.connection_laws.proofs.Said.{opener_goes}
 use Rattle.connection_laws.proofs.Acknowledging.{put_of}
 use Rattle.connection_laws.proofs.Taking.{taken_as, takes_only, paired_if, pair_takes}
 use Rattle.connection_laws.proofs.PairMoves.{took, took_on}
-use Rattle.connection_laws.proofs.AnyHeard.{written_acceptable, no_tunnel_fault}
+use Rattle.connection_laws.proofs.AnyHeard.{no_tunnel_fault}
 use Rattle.connection_laws.proofs.Ignoring.{IsDue, copy_due, refusal_due, ignores_only, ignores}
 
 -- ---- StopCCNs
@@ -53,7 +51,7 @@ stop_said : (m : Message) → IsStopCcn m → IsStopSaid m
 stop_said (StopCcn tunnel code error) s = record { tunnel = tunnel; code = code; error = error; is = refl }
 stop_said (Sccrq o) s = absurd s
 stop_said (Sccrp o) s = absurd s
-stop_said Scccn s = absurd s
+stop_said (Scccn response) s = absurd s
 stop_said Hello s = absurd s
 stop_said (Ocrq session) s = absurd s
 stop_said Ocrp s = absurd s
@@ -80,16 +78,16 @@ says_stop body m said says = ⊎_elim
 
 -- ---- the next letter, whatever it says
 
-record Came (accs : Accounts) (n : ℕ) (e : End) (sender : Option Sender) (ev : Event) (comes : Comes accs n e sender ev) (i : ℕ) (t : Tunnel) (h : Header)
+pub record Came (accs : Accounts) (n : ℕ) (e : End) (sender : Option Sender) (ev : Event) (comes : Comes accs n e sender ev) (i : ℕ) (t : Tunnel) (h : Header)
     (bytes : List ℕ) : Type 0 where
-  heard : Heard accs n e sender ev comes i t h bytes
-  next : HeardNext accs n i heard.o h bytes
+  pub heard : Heard accs n e sender ev comes i t h bytes
+  pub next : HeardNext accs n i heard.o h bytes
 
 -- or it is a StopCCN of no tunnel, and the tunnel has taken nothing
-record CameRefusal (accs : Accounts) (n : ℕ) (e : End) (sender : Option Sender) (ev : Event) (comes : Comes accs n e sender ev) (i : ℕ) (t : Tunnel)
+pub record CameRefusal (accs : Accounts) (n : ℕ) (e : End) (sender : Option Sender) (ev : Event) (comes : Comes accs n e sender ev) (i : ℕ) (t : Tunnel)
     (h : Header) (bytes : List ℕ) : Type 0 where
-  heard : HeardRefusal accs n e sender ev comes i t h bytes
-  number : heard.o.ns ≡ length (accs n i).taken
+  pub heard : HeardRefusal accs n e sender ev comes i t h bytes
+  pub number : heard.o.ns ≡ length (accs n i).taken
 
 refusal_number : ClassIsTrue → (accs : Accounts) (n : ℕ) (e : End) (sender : Option Sender) (ev : Event) (within : Within accs n e sender ev) (i : ℕ)
     (t : Tunnel) → at e.tunnels i ≡ Some t → (h : Header) (bytes : List ℕ) → (k : HeardRefusal accs n e sender ev within.comes i t h bytes)
@@ -100,7 +98,7 @@ refusal_number classes accs n e sender ev within i t there h bytes k next =
     let first = k.ns in
     next_is_expected classes k.o.ns t.control.channel.inbox (omega arith) (omega arith) (let r = k.read.ns in rw r at next) ∙ taken
 
-came : Codecs → ClassIsTrue → (accs : Accounts) (n : ℕ) (e : End) (sender : Option Sender) (ev : Event) (within : Within accs n e sender ev) (i : ℕ)
+pub came : Codecs → ClassIsTrue → (accs : Accounts) (n : ℕ) (e : End) (sender : Option Sender) (ev : Event) (within : Within accs n e sender ev) (i : ℕ)
     (t : Tunnel) → at e.tunnels i ≡ Some t → (k : ComesNext ev t.control)
     → Came accs n e sender ev within.comes i t k.header k.bytes ⊎ CameRefusal accs n e sender ev within.comes i t k.header k.bytes
 came codecs classes accs n e sender ev within i t there k = ⊎_elim
@@ -143,10 +141,7 @@ module _ (codecs : Codecs) (classes : ClassIsTrue) (accs : Accounts) (n : ℕ) (
     module _ (k : Came accs n e sender ev h.within.comes i t h.does.comes.header h.does.comes.bytes) where
       -- an open tunnel takes neither an SCCRP for which it waits so, nor a StopCCN
       no_reply : state_number t.control.state ≡ 1 → (opening : Opening) → k.next.letter.message ≡ Sccrp opening → ⊥
-      no_reply one opening says =
-          let refused = h.does.why (Sccrp opening) (k.next.said ∙ ap (λ (y : Message). Ok y) says) one in
-          let granted = written_acceptable opening (subst IsWritten says k.next.spelled.written) in
-          true≢false (sym granted ∙ refused)
+      no_reply one opening says = h.does.why (Sccrp opening) (k.next.said ∙ ap (λ (y : Message). Ok y) says) one
 
       no_stop : (state_number t.control.state ≡ 4 → ⊥) → IsStopCcn k.next.letter.message → ⊥
       no_stop unclosed stops =

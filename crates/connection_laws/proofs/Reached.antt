@@ -10,7 +10,7 @@ use Rattle.l2tp_header.specs.Reading.{header_of}
 use Rattle.protocol_model.specs.declared.event.Addressee.TheVariants.{Opens, Stops, Main}
 use Rattle.protocol_model.specs.Reading.{body_of, at_zero, at_tunnel}
 use Rattle.protocol_model.specs.Turn.{Tunnel}
-use Rattle.protocol_model.specs.End.{End, is_known, known_as, opens_once, addressed, main_of, reached_by, reached}
+use Rattle.protocol_model.specs.End.{End, is_known, known_as, opens_once, addressed, main_of, reached_by, reached_plain}
 use Rattle.step_laws.specs.Letters.{Among}
 use Rattle.step_laws.specs.Moves.{IsAgain, IsStop, IsFor}
 use Rattle.connection_laws.specs.Facts.{Accounts, EndOk}
@@ -117,8 +117,8 @@ unfolding addressed opens_once
 stop_main e peer h body i r none stops known = rw (none, stops, known) refl
 
 main_reached : (e : End) (peer : ℕ) (bytes : List ℕ) (h : Header) (i : ℕ) (t : Tunnel) → at e.tunnels i ≡ Some t → header_of bytes ≡ Ok h → h.control ≡ true
-    → addressed e peer h (body_of h bytes) ≡ Main i → reached e peer bytes ≡ Some t.control
-unfolding reached reached_by
+    → addressed e peer h (body_of h bytes) ≡ Main i → reached_plain e peer bytes ≡ Some t.control
+unfolding reached_plain reached_by
 main_reached e peer bytes h i t there read control main = rw read
     (ap (λ b. cond b (main_of e (addressed e peer h (body_of h bytes))) None) control ∙ (ap (λ a. main_of e a) main ∙ main_there e i t there))
 
@@ -126,7 +126,7 @@ main_reached e peer bytes h i t there read control main = rw read
 pub is_reached : (accs : Accounts) (n : ℕ) (e : End) → EndOk accs n e → (i : ℕ) (t : Tunnel) → at e.tunnels i ≡ Some t → (i ≡ 0 → ⊥)
     → (bytes : List ℕ) (h : Header) → header_of bytes ≡ Ok h → h.control ≡ true
     → ((r : ℕ) → at_zero (body_of h bytes) ≡ Opens r → r ≡ 0 → ⊥) → ((r : ℕ) → at_zero (body_of h bytes) ≡ Stops r → r ≡ 0 → ⊥)
-    → IsFor h bytes t.control → reached e t.control.peer bytes ≡ Some t.control
+    → IsFor h bytes t.control → reached_plain e t.control.peer bytes ≡ Some t.control
 is_reached accs n e ok i t there some bytes h read control opens stops is = ⊎_elim
     (λ (named : h.tunnel ≡ t.control.local).
     main_reached e t.control.peer bytes h i t there read control

@@ -9,6 +9,7 @@ use Rattle.wire_base.specs.declared.why.Why.TheVariants as why
 use Rattle.l2tp_header.specs.declared.header.Header.{Header}
 use Rattle.l2tp_header.specs.declared.header.HeaderError.{HeaderError}
 use Rattle.l2tp_header.specs.Reading.{header_of}
+use Rattle.connection_laws.proofs.Plain.{packet_plain}
 use Rattle.protocol_model.specs.declared.event.Addressee.{Addressee}
 use Rattle.protocol_model.specs.declared.event.Addressee.TheVariants.{Opens, Stops, Answers, Main, Nobody}
 use Rattle.protocol_model.specs.declared.tunnel.Control.{Control}
@@ -19,7 +20,7 @@ use Rattle.protocol_model.specs.declared.packet.Packet.{Packet}
 use Rattle.protocol_model.specs.Names.{address_of}
 use Rattle.protocol_model.specs.Reading.{body_of, at_zero, at_tunnel}
 use Rattle.protocol_model.specs.Turn.{Tunnel}
-use Rattle.protocol_model.specs.End.{End, opens_once, addressed, main_of, reached_by, reached}
+use Rattle.protocol_model.specs.End.{reached, End, opens_once, addressed, main_of, reached_by, reached_plain}
 use Rattle.protocol_model.specs.World.{Node, too_old}
 use Rattle.protocol_model.specs.Run.{Run}
 use Rattle.step_laws.specs.Steps.{AreKept}
@@ -92,13 +93,13 @@ is_some_of : {X : Type 0} (b : Bool) (o : Option X) (x : X) → cond b o None �
 is_some_of true o x h = h
 is_some_of false o x h = absurd cc
 
-unreached : (e : End) (peer : ℕ) (bytes : List ℕ) (x : HeaderError) (c : Control) → header_of bytes ≡ Err x → reached e peer bytes ≡ Some c → ⊥
-unfolding reached reached_by
+unreached : (e : End) (peer : ℕ) (bytes : List ℕ) (x : HeaderError) (c : Control) → header_of bytes ≡ Err x → reached_plain e peer bytes ≡ Some c → ⊥
+unfolding reached_plain reached_by
 unreached e peer bytes x c read is = (let g = rw read at is in absurd cc)
 
-reach_of : (e : End) (peer : ℕ) (bytes : List ℕ) (h : Header) (c : Control) → header_of bytes ≡ Ok h → reached e peer bytes ≡ Some c
+reach_of : (e : End) (peer : ℕ) (bytes : List ℕ) (h : Header) (c : Control) → header_of bytes ≡ Ok h → reached_plain e peer bytes ≡ Some c
     → IsReached e peer bytes h c
-unfolding reached reached_by
+unfolding reached_plain reached_by
 reach_of e peer bytes h c read is =
     let g = rw read at is in
     let m = main_is e (addressed e peer h (body_of h bytes)) c (is_some_of h.control _ c g) in
@@ -248,8 +249,13 @@ module _ (codecs : Codecs) (classes : ClassIsTrue) (r : Run) (holds : Holds r.wo
 
   packet_read : (p : Packet) → PacketOk known_accounts p → (o : ControlOrigin) → p.origin ≡ origin.Control o → (node : Node)
       → at r.world.nodes p.to ≡ Some node → (c : Control) → reached node.end (address_of p.from) p.bytes ≡ Some c → too_old o (Some c) ≡ None → IsRead c o
-  packet_read p ok o is node there c reach young = by (header_of p.bytes) refl
+  packet_read p ok o is node there c reached_it young = by (header_of p.bytes) refl
     where
+      -- as it is read
+      reach : reached_plain node.end (address_of p.from) p.bytes ≡ Some c
+      reach = ap (λ (bs : List ℕ). reached_plain node.end (address_of p.from) bs)
+          (sym (packet_plain codecs known_accounts holds.accounts p p.origin ok.sent node.end.config.secret)) ∙ reached_it
+
       by : (x : Result Header HeaderError) → header_of p.bytes ≡ x → IsRead c o
       by (Err x) read = absurd (unreached node.end (address_of p.from) p.bytes x c read reach)
       by (Ok h) read =

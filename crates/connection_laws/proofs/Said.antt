@@ -34,7 +34,7 @@ pub no_stop_is : (m : Message) → IsNoStop m → IsStopCcn m → ⊥
 no_stop_is (StopCcn tunnel code error) p s = p
 no_stop_is (Sccrq o) p s = s
 no_stop_is (Sccrp o) p s = s
-no_stop_is Scccn p s = s
+no_stop_is (Scccn response) p s = s
 no_stop_is Hello p s = s
 no_stop_is (Ocrq session) p s = s
 no_stop_is Ocrp p s = s

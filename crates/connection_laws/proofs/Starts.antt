@@ -1,5 +1,5 @@
 -- What holds where a step begins.
-use Rattle.std.proofs.Common.{◌≡◌, ⊎_elim, ℕ, ◌+◌, ◌≤◌, Bool, true, false, cond, refl, sym, ◌∙◌, subst, Option, Some, None, Ok, arith}
+use Rattle.std.proofs.Common.{ap, List, ◌≡◌, ⊎_elim, ℕ, ◌+◌, ◌≤◌, Bool, true, false, cond, refl, sym, ◌∙◌, subst, Option, Some, None, Ok, arith}
 use Rattle.std.proofs.lemmas.Bool.Decides.{nat_tests}
 use Rattle.id_table.specs.Ids.{at}
 use Rattle.l2tp_header.specs.declared.header.Header.{Header}
@@ -8,6 +8,7 @@ use Rattle.control_message.specs.declared.message.Message.{Message}
 use Rattle.control_message.specs.declared.message.Message.TheVariants.{Sccrq, StopCcn}
 use Rattle.control_message.specs.declared.message.Opening.{Opening}
 use Rattle.control_message.specs.Pairs.{IsWritten}
+use Rattle.connection_laws.proofs.Plain.{packet_plain}
 use Rattle.protocol_model.specs.declared.out.Origin.{Origin}
 use Rattle.protocol_model.specs.declared.out.Origin.TheVariants as origin
 use Rattle.protocol_model.specs.declared.out.ControlOrigin.{ControlOrigin}
@@ -18,7 +19,7 @@ use Rattle.protocol_model.specs.Names.{address_of}
 use Rattle.protocol_model.specs.declared.event.Addressee.TheVariants.{Opens, Stops}
 use Rattle.protocol_model.specs.Reading.{body_of, at_zero}
 use Rattle.protocol_model.specs.Turn.{Tunnel}
-use Rattle.protocol_model.specs.End.{End, reached}
+use Rattle.protocol_model.specs.End.{End, reached_plain}
 use Rattle.protocol_model.specs.World.{Node, outlives, too_old, refused_by, sender_of}
 use Rattle.step_laws.specs.Moves.{IsFor}
 use Rattle.step_laws.specs.Opens.{opens_said, empty_opens_none}
@@ -61,7 +62,7 @@ is_young o c h =
 -- ---- the numbers of a packet that isn't refused
 
 written_opens : (m : Message) (x : Opening) → m ≡ Sccrq x → IsWritten m → x.tunnel ≡ 0 → ⊥
-written_opens m x is w z = let k = subst IsWritten is w in let lt = k.tunnel_not_zero in absurd (omega arith)
+written_opens m x is w z = let k = subst IsWritten is w in let lt = k.0.tunnel_not_zero in absurd (omega arith)
 
 module _ (codecs : Codecs) (accs : Accounts) (accounts : (m j : ℕ) → AccountOk accs m j (accs m j)) (n : ℕ) (e : End) (ok : EndOk accs n e) (p : Packet) where
   -- an SCCRQ tells an id
@@ -90,27 +91,27 @@ module _ (codecs : Codecs) (accs : Accounts) (accounts : (m j : ℕ) → Account
 
   -- the tunnel that a copy is for is the one that it reaches
   pub copy_reaches : (o : ControlOrigin) → IsCopy (accs p.from o.tunnel) p o → (i : ℕ) (t : Tunnel) (h : Header) → at e.tunnels i ≡ Some t
-      → t.control.peer ≡ address_of p.from → header_of p.bytes ≡ Ok h → IsFor h p.bytes t.control → reached e (address_of p.from) p.bytes ≡ Some t.control
+      → t.control.peer ≡ address_of p.from → header_of p.bytes ≡ Ok h → IsFor h p.bytes t.control → reached_plain e (address_of p.from) p.bytes ≡ Some t.control
   copy_reaches o c i t h there peer read is =
       let tells = copy_tells codecs accs p.from o.tunnel (accs p.from o.tunnel) p o (accounts p.from o.tunnel) c h read in
-      subst (λ q. reached e q p.bytes ≡ Some t.control) peer
+      subst (λ q. reached_plain e q p.bytes ≡ Some t.control) peer
       (is_reached accs n e ok i t there (live_some accs n i (accs n i) t (accounts n i) (ok.live i t there)) p.bytes h read tells.control
       (opens_some o c h read) (stops_some o c h read) is)
 
   -- so is the one that a StopCCN of no tunnel is for
   refusal_reaches : (o : ControlOrigin) → IsRefusal accs p o → (i : ℕ) (t : Tunnel) (h : Header) → at e.tunnels i ≡ Some t
-      → t.control.peer ≡ address_of p.from → header_of p.bytes ≡ Ok h → IsFor h p.bytes t.control → reached e (address_of p.from) p.bytes ≡ Some t.control
+      → t.control.peer ≡ address_of p.from → header_of p.bytes ≡ Ok h → IsFor h p.bytes t.control → reached_plain e (address_of p.from) p.bytes ≡ Some t.control
   refusal_reaches o r i t h there peer read is =
       let k = refusal_read codecs accs accounts p o r h read in
-      subst (λ q. reached e q p.bytes ≡ Some t.control) peer
+      subst (λ q. reached_plain e q p.bytes ≡ Some t.control) peer
       (is_reached accs n e ok i t there (live_some accs n i (accs n i) t (accounts n i) (ok.live i t there)) p.bytes h read k.control
       (λ q opens z. (let asks = (opens_said (body_of h p.bytes) (StopCcn 0 k.result k.error) q opens k.said).1 in let no : ⊥ = cc in no))
       (λ q stops. (stops_by (body_of h p.bytes) (StopCcn 0 k.result k.error) q k.said stops).some) is)
 
   near_of : (o : ControlOrigin)
       → ((i : ℕ) (t : Tunnel) (h : Header) → at e.tunnels i ≡ Some t → t.control.peer ≡ address_of p.from → header_of p.bytes ≡ Ok h
-      → IsFor h p.bytes t.control → reached e (address_of p.from) p.bytes ≡ Some t.control)
-      → too_old o (reached e (address_of p.from) p.bytes) ≡ None → AreNear accs n e p (origin.Control o)
+      → IsFor h p.bytes t.control → reached_plain e (address_of p.from) p.bytes ≡ Some t.control)
+      → too_old o (reached_plain e (address_of p.from) p.bytes) ≡ None → AreNear accs n e p (origin.Control o)
   near_of o reaches young i t h there peer read is =
       let y = is_young o t.control (rw (reaches i t h there peer read is) at young) in
       let taken = (ok.live i t there).taken in
@@ -119,9 +120,13 @@ module _ (codecs : Codecs) (accs : Accounts) (accounts : (m j : ℕ) → Account
 
   pub near_all : (node : Node) → node.end ≡ e → (q : Origin) → OriginOk accs p q → refused_by p node q ≡ None → AreNear accs n e p q
   unfolding refused_by
-  near_all node same (origin.Control o) c h = ⊎_elim
-      (λ (k : IsCopy (accs p.from o.tunnel) p o). near_of o (copy_reaches o k) (rw same at h))
-      (λ (k : IsRefusal accs p o). near_of o (refusal_reaches o k) (rw same at h))
+  near_all node same (origin.Control o) c h =
+      let bytes = packet_plain codecs accs accounts p (origin.Control o) c e.config.secret in
+      let young : too_old o (reached_plain e (address_of p.from) p.bytes) ≡ None =
+      ap (λ (bs : List ℕ). too_old o (reached_plain e (address_of p.from) bs)) (sym bytes) ∙ (rw same at h) in
+      ⊎_elim
+      (λ (k : IsCopy (accs p.from o.tunnel) p o). near_of o (copy_reaches o k) young)
+      (λ (k : IsRefusal accs p o). near_of o (refusal_reaches o k) young)
       c
   near_all node same (origin.Data session) c h = tt
 

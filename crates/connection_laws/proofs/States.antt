@@ -32,6 +32,17 @@ closed_so s h = eqb-true (state_number s) 4 h
 pub open_unless : (a : Account) → IsOpen a → IsClosed a → ⊥
 open_unless a is_open closed = let is = closed.1 in let clash : ⊥ = cc in clash
 
+-- an opener that is closed isn't established
+pub closed_still : (accs : Accounts) (i : ℕ) (a : Account) (t : Tunnel) → a.part ≡ Opener → IsInState accs i a t a.part → a.closed ≡ Some 0
+    → state_number t.control.state ≡ 3 → ⊥
+closed_still accs i a t own state closed three = ⊎_elim
+    (λ (w : (state_number t.control.state ≡ 1) × (a.remote ≡ 0) × IsOpen a × AllWait t.calls). let one = w.0 in omega (arith, one, three))
+    (λ rest. ⊎_elim
+    (λ (k : (state_number t.control.state ≡ 3) × (a.remote ≡ 0 → ⊥) × IsOpen a). let open_is = k.2 in let no : ⊥ = cc in no)
+    (λ (k : IsShut a t). let four = k.0 in omega (arith, four, three))
+    rest)
+    (subst (IsInState accs i a t) own state)
+
 pub lost_unless : (a : Account) → IsOpen a → IsLost a → ⊥
 lost_unless a is_open lost = let is = lost.0 in let clash : ⊥ = cc in clash
 

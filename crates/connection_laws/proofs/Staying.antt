@@ -91,6 +91,7 @@ module _ (accs ms : Accounts) (all : AllStay accs ms) where
       remote = λ z. ap (λ (y : Account). y.remote) s.is ∙ h.remote z;
       joined = λ z. subst (λ (y : Account). AreJoined b y) (sym s.is) (let k = h.joined z in
           record { here = k.here; there = k.there; few_here = k.few_here; few_there = k.few_there });
+      early = h.early;
     }
 
     named_before : p.remote ≡ j → c.remote ≡ j
@@ -269,6 +270,7 @@ declines_or_not (move.EndHeard m) = inl tt
 declines_or_not (move.EndSilent m) = inl tt
 declines_or_not (move.Declined m) = inr (record { declined = m; is = refl })
 declines_or_not (move.Closed m) = inl tt
+declines_or_not (move.Rejected m) = inl tt
 declines_or_not (move.ClosedBy m) = inl tt
 declines_or_not (move.Cleared k) = inl tt
 declines_or_not (move.Greeted m) = inl tt

@@ -46,6 +46,7 @@ does_role moment ev x (move.EndHeard m) y h = ap (λ (e : End). e.role) h.after
 does_role moment ev x (move.EndSilent m) y h = ap (λ (e : End). e.role) h.after
 does_role moment ev x (move.Declined m) y h = ap (λ (e : End). e.role) h.after
 does_role moment ev x (move.Closed m) y h = ap (λ (e : End). e.role) h.after
+does_role moment ev x (move.Rejected m) y h = ap (λ (e : End). e.role) h.after
 does_role moment ev x (move.ClosedBy m) y h = ap (λ (e : End). e.role) h.after
 does_role moment ev x (move.Cleared i) y h = ap (λ (e : End). e.role) h.after
 does_role moment ev x (move.Greeted m) y h = ap (λ (e : End). e.role) h.after
@@ -81,6 +82,10 @@ module _ (closings : ClosingsAreKnown) (accs : Accounts) (n : ℕ) (e : End) (se
     closings accs n e x sender moment ev within m h,
     opens m.tunnel h.tunnel h.there (closes_open h.tunnel.control.state h.on h.row),
   )
+  may_enter (move.Rejected m) x h =
+      let a = accs n m.tunnel in
+      let waits = is_waiting accs m.tunnel a h.tunnel a.part (within.end.live m.tunnel h.tunnel h.there).state h.waits in
+      (waits.remote, waits.is_open)
   may_enter (move.ClosedBy m) x h = opens m.tunnel h.tunnel h.there (not_closed h.tunnel.control.state h.live)
   may_enter (move.Confirmed m) x h = tt
   may_enter (move.Added m) x h = tt

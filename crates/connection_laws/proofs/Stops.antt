@@ -35,7 +35,7 @@ message_tells : (avps : List Avp) (m : Message) (r : ℕ) → zero_read avps (Ok
 unfolding zero_read
 message_tells avps (Sccrq o) r h = absurd cc
 message_tells avps (Sccrp o) r h = absurd cc
-message_tells avps Scccn r h = absurd cc
+message_tells avps (Scccn response) r h = absurd cc
 message_tells avps (StopCcn tunnel code error) r h = stopped_tells tunnel code error r h
 message_tells avps Hello r h = absurd cc
 message_tells avps (Ocrq session) r h = absurd cc

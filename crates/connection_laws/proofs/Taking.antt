@@ -1,5 +1,5 @@
 -- A tunnel takes the next letter of its partner, may be given letters, and goes on.
-use Rattle.std.proofs.Common.{◌≡◌, ◌⊎◌, inl, inr, ⊎_elim, ℕ, zero, suc, ◌+◌, ◌<◌, ◌≤◌, List, [], ◌∷◌, ◌++◌, map, drop, length, refl, sym, ap, ap₂, ◌∙◌, subst, append-nil, Option, Some, arith, ne_eqb}
+use Rattle.std.proofs.Common.{None, ◌≡◌, ◌⊎◌, inl, inr, ⊎_elim, ℕ, zero, suc, ◌+◌, ◌<◌, ◌≤◌, List, [], ◌∷◌, ◌++◌, map, drop, length, refl, sym, ap, ap₂, ◌∙◌, subst, append-nil, Option, Some, arith, ne_eqb}
 use Rattle.std.proofs.lemmas.List.{length-append, map-append, drop-append-le}
 use Rattle.std.proofs.lemmas.Option.{slice_get_within}
 use Rattle.std.specs.Prelude.{slice_get}
@@ -73,7 +73,7 @@ pub takes_only : (d : Deed) (n : ℕ) (role : Role) (sender : Option Sender) (m 
 takes_only d n role sender m place a deed = rw (deed.sender_is, deed.move_is, append-nil) refl
 
 pub takes_and_gives : (d : Deed) (n : ℕ) (role : Role) (sender : Option Sender) (m : Move) (place : Place) (a : Account) → IsDeed d n role sender m
-    → gives_also d (takes_at d place a) ≡ with_taken (taken_as sender place m) (letters_of role (config_of n 0) m) a
+    → gives_also d (takes_at d place a) ≡ with_taken (taken_as sender place m) (letters_of role (config_of n 0 None) m) a
 takes_and_gives d n role sender m place a deed = rw (deed.sender_is, deed.move_is, deed.role_is, deed.node_is) refl
 
 -- ---- what goes on
@@ -239,6 +239,7 @@ module _ (accs ms : Accounts) (n : ℕ) (e x : End) (sender : Option Sender) (ev
         peer = λ z. ap (λ (y : Account). y.peer) stays ∙ before.peer known;
         remote = λ z. ap (λ (y : Account). y.remote) stays ∙ before.remote known;
         joined = λ z. opener_joined (before.joined known);
+        early = λ z. (let o = is_open in let no : ⊥ = cc in absurd no);
       }
 
   -- an acceptor that takes more is the one that its opener has learned

@@ -12,7 +12,7 @@ use Rattle.protocol_model.specs.declared.out.Out.{Out}
 use Rattle.protocol_model.specs.declared.out.Out.TheVariants.{Send, Up, Gone, Drop, Cause}
 use Rattle.protocol_model.specs.declared.packet.Packet.{Packet}
 use Rattle.protocol_model.specs.Names.{node_of}
-use Rattle.protocol_model.specs.End.{End, Stepped, step}
+use Rattle.protocol_model.specs.End.{End, Stepped, plain_step}
 use Rattle.protocol_model.specs.World.{World, Node, Sender, Deed, birth_in, birth_of, deed_of, with_node, with_birth_at, with_birth, is_born, moved, moved_all, sent, shown, shown_all, given, after_step}
 use Rattle.step_laws.specs.Steps.{AreKept, IsSent, IsDecline, IsOfMoves, IsChain, StepsAreChains}
 use Rattle.step_laws.specs.Ups.{most_reads, ReadsAreFew}
@@ -81,6 +81,7 @@ move_same n w (move.EndHeard m) = same_ends w
 move_same n w (move.EndSilent m) = same_ends w
 move_same n w (move.Declined m) = same_ends w
 move_same n w (move.Closed m) = same_ends w
+move_same n w (move.Rejected m) = same_ends w
 move_same n w (move.ClosedBy m) = same_ends w
 move_same n w (move.Cleared i) = same_ends w
 move_same n w (move.Greeted m) = same_ends w
@@ -236,7 +237,7 @@ module _ (laws : Laws) (number : ℕ) (w : World) (accs : Accounts) (holds : Hol
   timed = record old { clock = clock }
 
   abbrev s : Stepped
-  s = step old.end moment block ev
+  s = plain_step old.end moment block ev
 
   chain : IsChain old.end moment ev s
   chain = laws.chains old.end ok.1 moment block ev

@@ -1,5 +1,5 @@
 -- What is given to a channel is written, and ids are drawn in order.
-use Rattle.std.proofs.Common.{◌≡◌, ℕ, ◌+◌, ◌-◌, ◌<◌, ◌≤◌, Bool, true, false, cond, length, refl, sym, Ok, Err, arith}
+use Rattle.std.proofs.Common.{Option, Some, None, IfSome, List, ◌∷◌, ◌++◌, ◌≡◌, ℕ, ◌+◌, ◌-◌, ◌<◌, ◌≤◌, Bool, true, false, cond, length, refl, sym, Ok, Err, arith}
 use Rattle.std.proofs.lemmas.Bool.{ltb-false}
 use Rattle.std.proofs.lemmas.List.{length-append}
 use Rattle.std.proofs.lemmas.Fmt.{length-decimal-le}
@@ -8,6 +8,8 @@ use Rattle.std.specs.Prelude.{nat_lt}
 use Rattle.id_source.specs.declared.IdError.TheVariants.{NoIds, NeedCeiling}
 use Rattle.id_source.specs.Spaces.{Space, draws, after_draw}
 use Rattle.control_message.specs.Pairs.{IsWritten, IsWrittenOpening}
+use Rattle.md5.proofs.StandardFacts.{length-md5}
+use Rattle.step_laws.specs.Moves.{Asks, Responds}
 use Rattle.protocol_model.specs.declared.tunnel.Config.{Config}
 use Rattle.protocol_model.specs.declared.tunnel.Role.{Role}
 use Rattle.protocol_model.specs.declared.tunnel.Role.TheVariants.{Lac, Lns}
@@ -24,8 +26,19 @@ name_fits r n lt = by r (length-decimal-le 3 n (omega arith) (omega arith) (omeg
     by Lac le = simp length-append (omega arith)
     by Lns le = simp length-append (omega arith)
 
-pub opening_written : (r : Role) (c : Config) (local : ℕ) → c.number < 256 → 0 < local → local < 65536 → IsWrittenOpening (opening_of r c local)
-opening_written r c local lt some fits = record {
+-- what is asked fits into a pair, and what is answered has 16 bytes
+pub asks_short : (secret challenge : Option (List ℕ)) → Asks secret challenge → IfSome challenge (λ v. length v ≤ 1017)
+asks_short None challenge is = rw is tt
+asks_short (Some s) challenge is = let sized = is.2 in rw is.1 (omega (arith, sized))
+
+pub responds_sized : (kind : ℕ) (secret asked response : Option (List ℕ)) → Responds kind secret asked response → IfSome response (λ v. length v ≡ 16)
+responds_sized kind None asked response is = rw is tt
+responds_sized kind (Some s) None response is = rw is tt
+responds_sized kind (Some s) (Some a) response is = rw is (length-md5 (kind ∷ s ++ a))
+
+pub opening_written : (r : Role) (c : Config) (challenge response : Option (List ℕ)) (local : ℕ) → c.number < 256 → 0 < local → local < 65536
+    → IfSome challenge (λ v. length v ≤ 1017) → IfSome response (λ v. length v ≡ 16) → IsWrittenOpening (opening_of r c challenge response local)
+opening_written r c challenge response local lt some fits short sized = record {
   version = refl;
   framing = omega arith;
   name = name_fits r c.number lt;
@@ -34,13 +47,15 @@ opening_written r c local lt some fits = record {
   window = omega arith;
   window_not_zero = omega arith;
   failover = (omega arith, omega arith);
-  challenge = refl;
+  challenge = short;
+  response = sized;
   recovery = refl;
 }
 
 -- only the number of the end is told
-pub same_opening : (r : Role) (c d : Config) (local : ℕ) → c.number ≡ d.number → opening_of r c local ≡ opening_of r d local
-same_opening r c d local same = rw same refl
+pub same_opening : (r : Role) (c d : Config) (challenge response : Option (List ℕ)) (local : ℕ) → c.number ≡ d.number
+    → opening_of r c challenge response local ≡ opening_of r d challenge response local
+same_opening r c d challenge response local same = rw same refl
 
 pub request_written : ((port : ℕ) → length (calling_number port) ≡ 12) → (s port : ℕ) → s < 65536 → IsWritten (request_of s port)
 request_written digits s port fits = (omega arith, omega arith, (let d = digits port in omega arith))

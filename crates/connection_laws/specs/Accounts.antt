@@ -60,6 +60,7 @@ about (move.EndHeard m) = m.tunnel
 about (move.EndSilent m) = m.tunnel
 about (move.Declined m) = 0
 about (move.Closed m) = m.tunnel
+about (move.Rejected m) = m.tunnel
 about (move.ClosedBy m) = m.tunnel
 about (move.Cleared i) = i
 about (move.Greeted m) = m.tunnel
@@ -73,7 +74,7 @@ about (move.FrameUp m) = m.tunnel
 
 -- the letters that a deed gives
 abbrev pub gives : Deed → List Letter
-gives d = letters_of d.role (config_of d.node 0) d.move
+gives d = letters_of d.role (config_of d.node 0 None) d.move
 
 abbrev pub takes_at : Deed → Place → Account → Account
 takes_at d place a = record a { taken = a.taken ++ (record { sender = d.sender; number = place.number; move = d.move }) ∷ [] }
@@ -98,6 +99,7 @@ entered_by d (move.EndHeard m) a = takes_at d m.taken a
 entered_by d (move.EndSilent m) a = a
 entered_by d (move.Declined m) a = a
 entered_by d (move.Closed m) a = gives_also d (record a { remote = m.remote; closed = Some (length a.taken) })
+entered_by d (move.Rejected m) a = gives_also d (takes_at d m.taken (record a { remote = m.remote; closed = Some (length a.taken) }))
 entered_by d (move.ClosedBy m) a = takes_at d m.taken (record a { closed = Some (length a.taken) })
 entered_by d (move.Cleared i) a = a
 entered_by d (move.Greeted m) a = gives_also d a

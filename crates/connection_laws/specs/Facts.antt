@@ -45,7 +45,7 @@ Accounts = ℕ → ℕ → Account
 abbrev pub IsNoOpening : Message → Type 0
 IsNoOpening (Sccrq o) = ⊥
 IsNoOpening (Sccrp o) = ⊥
-IsNoOpening Scccn = Unit {0}
+IsNoOpening (Scccn response) = Unit {0}
 IsNoOpening (StopCcn tunnel code error) = Unit {0}
 IsNoOpening Hello = Unit {0}
 IsNoOpening (Ocrq session) = Unit {0}
@@ -63,7 +63,7 @@ abbrev pub IsNoStop : Message → Type 0
 IsNoStop (StopCcn tunnel code error) = ⊥
 IsNoStop (Sccrq o) = Unit {0}
 IsNoStop (Sccrp o) = Unit {0}
-IsNoStop Scccn = Unit {0}
+IsNoStop (Scccn response) = Unit {0}
 IsNoStop Hello = Unit {0}
 IsNoStop (Ocrq session) = Unit {0}
 IsNoStop Ocrp = Unit {0}
@@ -79,7 +79,7 @@ abbrev pub IsStopCcn : Message → Type 0
 IsStopCcn (StopCcn tunnel code error) = Unit {0}
 IsStopCcn (Sccrq o) = ⊥
 IsStopCcn (Sccrp o) = ⊥
-IsStopCcn Scccn = ⊥
+IsStopCcn (Scccn response) = ⊥
 IsStopCcn Hello = ⊥
 IsStopCcn (Ocrq session) = ⊥
 IsStopCcn Ocrp = ⊥
@@ -113,7 +113,7 @@ pub record BeginsWith (i : ℕ) (says : Opening → Message) (given : List Lette
 abbrev pub Tells : Letter → Move → Type 0
 Tells l (move.Accepted m) = (o : Opening) × (l.message ≡ Sccrq o) × (m.remote ≡ o.tunnel) × (m.window ≡ o.window)
 Tells l (move.Connected m) = (o : Opening) × (l.message ≡ Sccrp o) × (m.remote ≡ o.tunnel) × (m.window ≡ o.window)
-Tells l (move.Confirmed m) = l.message ≡ Scccn
+Tells l (move.Confirmed m) = (response : Option (List ℕ)) × (l.message ≡ Scccn response)
 Tells l (move.Replied m) = (serial : ℕ) × (calling : Option (List ℕ)) × (l.message ≡ Icrq m.remote serial calling)
 Tells l (move.FirstUp m) = (l.session ≡ m.session) × (l.message ≡ Icrp m.remote)
 Tells l (move.SecondUp m) = (l.session ≡ m.session) × ((speed : ℕ) × (framing : ℕ) × (sequenced : Bool) × (l.message ≡ Iccn speed framing sequenced))
@@ -145,10 +145,11 @@ IsOpen a = a.closed ≡ None
 abbrev pub IsClosed : Account → Type 0
 IsClosed a = (count : ℕ) × (a.closed ≡ Some count) × (count ≤ length a.taken)
 
--- a closed tunnel does nothing with what it takes; the letter that closed it is a StopCCN
+-- a closed tunnel does nothing with what it takes; the letter that closed it is a StopCCN, or an SCCRP that it rejected
 abbrev pub IsIgnored : Move → Type 0
 IsIgnored (move.TookPlain m) = Unit {0}
 IsIgnored (move.ClosedBy m) = Unit {0}
+IsIgnored (move.Rejected m) = Unit {0}
 IsIgnored m = ⊥
 
 abbrev pub AreIgnored : Account → Type 0
@@ -159,7 +160,7 @@ abbrev pub TellsOwn : ℕ → Message → Type 0
 TellsOwn i (StopCcn tunnel code error) = tunnel ≡ i
 TellsOwn i (Sccrq o) = Unit {0}
 TellsOwn i (Sccrp o) = Unit {0}
-TellsOwn i Scccn = Unit {0}
+TellsOwn i (Scccn response) = Unit {0}
 TellsOwn i Hello = Unit {0}
 TellsOwn i (Ocrq session) = Unit {0}
 TellsOwn i Ocrp = Unit {0}
@@ -195,8 +196,12 @@ pub record HasStopped (a : Account) : Type 0 where
 abbrev pub partner_in : Accounts → Account → Account
 partner_in accs a = accs a.peer a.remote
 
+-- it gave one letter and a StopCCN at most
+abbrev pub GaveLittle : Account → Type 0
+GaveLittle a = (length a.given ≤ 2) × AllByRecursion (λ (l : Letter). IsStopCcn l.message) (drop 1 a.given)
+
 -- a tunnel that was opened: what it takes is of the acceptor that it learned; one that is lost gave its SCCRQ and a StopCCN at most, and
--- ignored two letters at most
+-- ignored two letters at most. One that was closed before it heeded a letter, lost or as it rejected its SCCRP, gave no more than that
 pub record IsOpener (accs : Accounts) (n i : ℕ) (a : Account) : Type 0 where
   pub begins : BeginsWith i Sccrq a.given
   pub none : a.remote ≡ 0 → (a.taken ≡ []) ⊎ (IsLost a × (length a.taken ≤ 2))
@@ -206,6 +211,7 @@ pub record IsOpener (accs : Accounts) (n i : ℕ) (a : Account) : Type 0 where
   pub peer : (a.remote ≡ 0 → ⊥) → (partner_in accs a).peer ≡ n
   pub remote : (a.remote ≡ 0 → ⊥) → (partner_in accs a).remote ≡ i
   pub joined : (a.remote ≡ 0 → ⊥) → AreJoined a (partner_in accs a)
+  pub early : a.closed ≡ Some 0 → GaveLittle a
 
 -- a tunnel that was accepted: as long as its opener hasn't learned it, it took the SCCRQ alone, and gave its SCCRP alone; but one that
 -- is closed gave a StopCCN too, and the opener's StopCCN may come where the opener is lost

@@ -15,8 +15,8 @@ use Rattle.protocol_model.specs.Names.{node_of}
 use Rattle.protocol_model.specs.declared.tunnel.Control.{Control}
 use Rattle.protocol_model.specs.declared.tunnel.Role.{Role}
 use Rattle.protocol_model.specs.Reading.{body_of, message_in, CallFault, TunnelFault}
-use Rattle.protocol_model.specs.Turn.{Tunnel, is_acceptable, is_closed}
-use Rattle.protocol_model.specs.End.{End, new_end, step}
+use Rattle.protocol_model.specs.Turn.{Tunnel, is_closed}
+use Rattle.protocol_model.specs.End.{End, new_end, plain_step}
 use Rattle.protocol_model.specs.World.{World, Node, Sender, Deed, Lined, birth_of, moved_all, config_of, deed_of, line}
 use Rattle.protocol_model.specs.Run.{Run, empty_run, after_line}
 use Rattle.step_laws.specs.Letters.{Letter}
@@ -132,10 +132,11 @@ abbrev pub ClosingsAreKnown : Type 0
 ClosingsAreKnown = (accs : Accounts) (n : ℕ) (e x : End) (sender : Option Sender) (moment : ℕ) (ev : Event) → Within accs n e sender ev
     → (m : Closed) → Closes e moment ev m x → m.remote ≡ (accs n m.tunnel).remote
 
--- no opening that is heard has another version, wants a recovery or has a challenge
+-- no opening that is heard has another version or wants a recovery
 abbrev pub OpeningsAreAcceptable : Type 0
 OpeningsAreAcceptable = (accs : Accounts) (n : ℕ) (e : End) (sender : Option Sender) (ev : Event) → Within accs n e sender ev
-    → (peer session : ℕ) (o : Opening) → (Hears ev peer session (Sccrq o)) ⊎ (Hears ev peer session (Sccrp o)) → is_acceptable o ≡ true
+    → (peer session : ℕ) (o : Opening) → (Hears ev peer session (Sccrq o)) ⊎ (Hears ev peer session (Sccrp o))
+    → (o.version ≡ 256) × (o.recovery ≡ None)
 
 -- a control message that comes in a live tunnel, the next one or not, and opens, accepts or closes none
 pub record HeardLetter (accs : Accounts) (n i : ℕ) (sender : Option Sender) (session : ℕ) (m : Message) : Type 0 where
@@ -192,19 +193,19 @@ pub record LineSteps (w : World) (accs : Accounts) (number : ℕ) (x : Lined) : 
   pub begins : BirthsStay w begun
   pub declared : (before : Node) × (at begun.nodes node ≡ Some before)
   pub told : World
-  pub told_is : told ≡ moved_all node (step old.end moment block ev).moves begun
+  pub told_is : told ≡ moved_all node (plain_step old.end moment block ev).moves begun
   pub births : BirthsStay told x.world
-  pub done : x.done ≡ map (λ m. deed_of told number node old.end.role sender m) (step old.end moment block ev).moves
+  pub done : x.done ≡ map (λ m. deed_of told number node old.end.role sender m) (plain_step old.end moment block ev).moves
   pub moves : MovesWithin accs node old.end sender moment ev (λ m. deed_of told number node old.end.role sender m)
-      (step old.end moment block ev).moves (step old.end moment block ev).end
-  pub end : end_at x.world node ≡ Some (step old.end moment block ev).end
+      (plain_step old.end moment block ev).moves (plain_step old.end moment block ev).end
+  pub end : end_at x.world node ≡ Some (plain_step old.end moment block ev).end
   pub others : (k : ℕ) → (k ≡ node → ⊥) → end_at x.world k ≡ end_at w k
 
 -- what a line does with the nodes: nothing, one more node, or a step of one
 pub data LineDoes (w : World) (accs : Accounts) (number : ℕ) (x : Lined) : Type 0 where
   Nothing : x.done ≡ [] → x.world.nodes ≡ w.nodes → BirthsStay w x.world → LineDoes w accs number x
-  ANode : (n : ℕ) (role : Role) (lns : ℕ) → n < 256 → at w.nodes n ≡ None → x.done ≡ []
-      → x.world.nodes ≡ put w.nodes n (record { end = new_end role (config_of n lns); clock = 0; births = [] }) → BirthsStay w x.world
+  ANode : (n : ℕ) (role : Role) (lns : ℕ) (secret : Option (List ℕ)) → n < 256 → at w.nodes n ≡ None → x.done ≡ []
+      → x.world.nodes ≡ put w.nodes n (record { end = new_end role (config_of n lns secret); clock = 0; births = [] }) → BirthsStay w x.world
       → LineDoes w accs number x
   AStep : LineSteps w accs number x → LineDoes w accs number x
 

@@ -8,11 +8,11 @@ ghost use Rattle.protocol_model.specs.End.{against_opening, against_said, agains
 ghost use Rattle.end_core.specs.Gives.{GivesStep};
 
 use crate::end::{End, Given};
-use control_message::{Message, Opening, has_room, write_message};
+use control_message::{Message, Opening, has_room, hides_nothing_without_a_vector, write_message};
 use l2tp_header::{Header, write_control};
 use message_reading::{
-    Reason, Said, fault_reason, is_of_version, no_id, no_recovery, no_secret, no_tunnel,
-    other_version, read_body,
+    Reason, Said, fault_reason, is_of_version, lacks_secret, no_id, no_recovery, no_secret,
+    no_tunnel, other_version, read_body,
 };
 use protocol_model::{ControlOrigin, Declined, Move, Origin, Out};
 use std::alloc::Global;
@@ -41,7 +41,7 @@ impl End {
         if self.has_all_tunnels() {
             return Some(no_tunnel());
         }
-        if opening.challenge.is_some() {
+        if lacks_secret(&self.config.secret, &opening.challenge) {
             return Some(no_secret());
         }
         let mut ids = self.tunnel_ids;
@@ -119,6 +119,7 @@ fn stop_pairs(alloc: Global, code: u16, error: Option<u16>) -> Result<Bytes, NoM
     ensures room { IfOk result (λ pairs. length pairs ≤ 65523) }
 {
     has_room();
+    hides_nothing_without_a_vector();
     let mut pairs = Bytes::new(alloc);
     write_message(
         &mut pairs,
@@ -127,6 +128,8 @@ fn stop_pairs(alloc: Global, code: u16, error: Option<u16>) -> Result<Bytes, NoM
             result: code,
             error,
         },
+        None,
+        None,
     )?;
     Ok(pairs)
 }

@@ -1,11 +1,12 @@
 //! An end with its tunnels: which tunnel an event is for, and what is seen of the calls.
 
-ghost use Rattle.std.specs.Prelude.{◌≡◌, ◌≤◌, [], ◌∷◌, option_map, is_some, IfOk, OnOk};
+ghost use Rattle.std.specs.Prelude.{◌≡◌, ◌≤◌, [], ◌∷◌, option_map, is_some, unwrap_or, IfOk, OnOk};
 ghost use Rattle.std.specs.Option.{option_copied};
 ghost use Rattle.id_table.specs.Ids.{at, ids_of};
 ghost use Rattle.l2tp_header.specs.Reading.{header_of};
-ghost use Rattle.protocol_model.specs.End.{env_of, whole_space, gives_only, after_turn, after_new, in_new, has_all_tunnels, in_one_more, in_main, known_as, opens_once, addressed, reached, for_addressee, least_in, for_call, look_in, handed, hands_up, receives, new_end};
+ghost use Rattle.protocol_model.specs.End.{env_of, whole_space, gives_only, after_turn, after_new, in_new, has_all_tunnels, in_one_more, in_main, known_as, opens_once, addressed, reached_plain, reached, for_addressee, least_in, for_call, look_in, handed, hands_up, receives, new_end};
 ghost use Rattle.protocol_model.specs.Reading.{at_tunnel};
+ghost use Rattle.protocol_model.specs.Secrets.{uncovered_datagram, uncovered_event};
 ghost use Rattle.protocol_model.specs.World.{is_not_closed};
 ghost use Rattle.end_core.specs.Fits.{fits};
 ghost use Rattle.tunnel_core.specs.Cores.{tunnel_of, IsTurn, HasRoomFor};
@@ -18,7 +19,7 @@ use crate::places::{carry_look, change_looks, frame_of, look_at, make_places, pl
 use id_source::Ids;
 use id_table::Table;
 use l2tp_header::{Header, read_header};
-use message_reading::{at_zero, header_why, out_of_order};
+use message_reading::{at_zero, header_why, out_of_order, uncover_datagram};
 use protocol_model::{
     Addressee, CallPlace, CellChanges, Config, Control, Event, FrameUp, Look, Move, Out, Role,
 };
@@ -398,10 +399,10 @@ impl End {
         }
     }
 
-    /// The tunnel that a datagram from a peer is for, where it is a control message and there is one.
-    #[tactic(auto, using(tunnel_table::specs::Tunnels::at_tunnels), unfolding(protocol_model::specs::End::reached, protocol_model::specs::End::reached_by, protocol_model::specs::End::main_of))]
-    pub fn reached(&self, peer: u32, bytes: &[u8]) -> Result<Option<Control>, NoMemory>
-        ensures { IfOk result (λ found. found ≡ reached self.now peer bytes.now) }
+    /// The tunnel that a datagram of which nothing is hidden is for, where it is a control message and there is one.
+    #[tactic(auto, using(tunnel_table::specs::Tunnels::at_tunnels), unfolding(protocol_model::specs::End::reached_plain, protocol_model::specs::End::reached_by, protocol_model::specs::End::main_of))]
+    fn reached_plain(&self, peer: u32, bytes: &[u8]) -> Result<Option<Control>, NoMemory>
+        ensures { IfOk result (λ found. found ≡ reached_plain self.now peer bytes.now) }
     {
         let Ok(header) = read_header(bytes) else {
             return Ok(None);
@@ -416,6 +417,38 @@ impl End {
             | Addressee::Stops { .. }
             | Addressee::Answers { .. }
             | Addressee::Nobody { .. } => Ok(None),
+        }
+    }
+
+    /// A datagram as the end reads it by its secret, None where it is as it came.
+    fn plain_datagram(&self, bytes: &[u8]) -> Result<Option<Bytes>, NoMemory>
+        ensures { IfOk result (λ r. unwrap_or r bytes.now ≡ uncovered_datagram self.now.config.secret bytes.now) }
+    {
+        uncover_datagram(self.alloc, &self.config.secret, bytes)
+    }
+
+    /// The tunnel that a datagram from a peer is for, as the end reads it by its secret, where it is a control message and
+    /// there is one.
+    pub fn reached(&self, peer: u32, bytes: &[u8]) -> Result<Option<Control>, NoMemory>
+        ensures { IfOk result (λ found. found ≡ reached self.now peer bytes.now) }
+    {
+        match self.plain_datagram(bytes)? {
+            None => self.reached_plain(peer, bytes),
+            Some(plain) => self.reached_plain(peer, plain.as_slice()),
+        }
+    }
+
+    /// An event as the end reads it: a datagram whose hidden values its secret uncovers is one with those values in plain
+    /// (RFC 2661 section 4.3). None where it is as it came. Where memory is wanting, nothing changes.
+    pub fn plain_event(&self, event: &Event) -> Result<Option<Event>, NoMemory>
+        ensures { IfOk result (λ r. unwrap_or r event.now ≡ uncovered_event self.now.config.secret event.now) }
+    {
+        let Event::Datagram { peer, bytes } = event else {
+            return Ok(None);
+        };
+        match self.plain_datagram(bytes.as_slice())? {
+            None => Ok(None),
+            Some(bytes) => Ok(Some(Event::Datagram { peer: *peer, bytes })),
         }
     }
 

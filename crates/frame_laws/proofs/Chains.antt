@@ -28,6 +28,7 @@ does_role moment ev x (move.EndHeard m) y h = ap (λ (e : End). e.role) h.after
 does_role moment ev x (move.EndSilent m) y h = ap (λ (e : End). e.role) h.after
 does_role moment ev x (move.Declined m) y h = ap (λ (e : End). e.role) h.after
 does_role moment ev x (move.Closed m) y h = ap (λ (e : End). e.role) h.after
+does_role moment ev x (move.Rejected m) y h = ap (λ (e : End). e.role) h.after
 does_role moment ev x (move.ClosedBy m) y h = ap (λ (e : End). e.role) h.after
 does_role moment ev x (move.Cleared i) y h = ap (λ (e : End). e.role) h.after
 does_role moment ev x (move.Greeted m) y h = ap (λ (e : End). e.role) h.after

@@ -21,6 +21,7 @@ use Rattle.protocol_model.specs.declared.event.Addressee.{Addressee}
 use Rattle.protocol_model.specs.declared.event.Addressee.TheVariants.{Opens, Stops, Answers, Nobody}
 use Rattle.protocol_model.specs.Reading.{body_of, message_in, pairs_read, message_read, call_fault_in, fault_of_pairs, TunnelFault, tunnel_fault_in, tunnel_fault_of_pairs, closing, at_zero, zero_pairs, zero_read}
 use Rattle.frame_laws.specs.Codecs.{Codecs}
+use Rattle.frame_laws.specs.Plain.{stays_plain, letter_stays, frame_stays}
 use Rattle.frame_laws.specs.Past.{Passage}
 use Rattle.frame_laws.proofs.Facts.{Nodes, BytesOk, WasSentInCall, NamesItsCall}
 
@@ -62,14 +63,14 @@ module _ (codecs : Codecs) where
 
   zero_fits : (m : Message) (avps : List Avp) → IsWritten m → (i : ℕ) → TellsId (zero_read avps (Ok (Known m))) i → i < 65536
   unfolding zero_read
-  zero_fits (Sccrq o) avps w i h = ⊎_elim (λ e. let same : o.tunnel ≡ i = cc in rw (← same) w.tunnel) (λ e. absurd cc) h
+  zero_fits (Sccrq o) avps w i h = ⊎_elim (λ e. let same : o.tunnel ≡ i = cc in rw (← same) w.0.tunnel) (λ e. absurd cc) h
   zero_fits (Sccrp o) avps w i h = ⊎_elim (λ e. absurd cc) (λ e. let same : o.tunnel ≡ i = cc in rw (← same) w.tunnel) h
   zero_fits (StopCcn tunnel code error) avps w i h = by (tunnel == 0) h
     where
       by : (none : Bool) → TellsId (cond none (Nobody why.Tunnel) (Stops tunnel)) i → i < 65536
       by true h = ⊎_elim (λ e. absurd cc) (λ e. absurd cc) h
       by false h = ⊎_elim (λ e. absurd cc) (λ e. absurd cc) h
-  zero_fits Scccn avps w i h = ⊎_elim (λ e. absurd cc) (λ e. absurd cc) h
+  zero_fits (Scccn response) avps w i h = ⊎_elim (λ e. absurd cc) (λ e. absurd cc) h
   zero_fits Hello avps w i h = ⊎_elim (λ e. absurd cc) (λ e. absurd cc) h
   zero_fits (Ocrq own) avps w i h = ⊎_elim (λ e. absurd cc) (λ e. absurd cc) h
   zero_fits Ocrp avps w i h = ⊎_elim (λ e. absurd cc) (λ e. absurd cc) h
@@ -103,13 +104,13 @@ module _ (codecs : Codecs) where
     pub session_is : h.session ≡ session
     pub body : body_of h bytes ≡ pairs
 
-  module _ (tunnel session ns nr : ℕ) (t : tunnel < 65536) (s : session < 65536) where
+  module _ (tunnel session ns nr : ℕ) (t : tunnel < 65536) (s_fits : session < 65536) where
     control_read : (pairs : List ℕ) (h : Header) → length pairs ≤ 65523
         → header_of (control_bytes tunnel session (on_wire ns) (on_wire nr) pairs) ≡ Ok h
         → ControlRead session pairs (control_bytes tunnel session (on_wire ns) (on_wire nr) pairs) h
     control_read pairs h le e =
         let bytes = control_bytes tunnel session (on_wire ns) (on_wire nr) pairs in
-        let c = codecs.control tunnel session (on_wire ns) (on_wire nr) pairs t s (omega arith) (omega arith) le in
+        let c = codecs.control tunnel session (on_wire ns) (on_wire nr) pairs t s_fits (omega arith) (omega arith) le in
         let same = same_header bytes h (control_header tunnel session (on_wire ns) (on_wire nr) (length pairs)) pairs c e in
         rw same (record { control = refl; session_is = refl; body = c.bounds })
 
@@ -132,6 +133,7 @@ module _ (codecs : Codecs) where
               let body = (control_read (spelling (pairs_of m)) h (codecs.room m w) e).body in
               let here : TellsId (at_zero (spelling (pairs_of m))) i = rw (← body) t in
               zero_fits m (pairs_of m) w i (rw (← zero_again m w) here);
+          plain = λ secret. letter_stays codecs secret tunnel session (on_wire ns) (on_wire nr) m t s_fits (omega arith) (omega arith) w;
         }
 
     pub alone_ok : (nodes : Nodes) (gs : List Passage) (from to : ℕ) → BytesOk nodes gs from to (control_bytes tunnel session (on_wire ns) (on_wire nr) [])
@@ -142,6 +144,7 @@ module _ (codecs : Codecs) where
           sound = λ h e c. rw (control_read [] h (omega arith) e).body no_fault;
           told = λ h e c g f. no_id g (rw (← (control_read [] h (omega arith) e).body) f);
           zero = λ h e c i t. none_told i (rw (← (control_read [] h (omega arith) e).body) t);
+          plain = λ secret. stays_plain codecs secret tunnel session (on_wire ns) (on_wire nr) [] [] t s_fits (omega arith) (omega arith) (omega arith) (codecs.pairs [] tt) refl;
         }
 
   -- a frame that is for a session
@@ -156,4 +159,5 @@ module _ (codecs : Codecs) where
         sound = λ h e k. absurd (true≢false (sym k ∙ ap (λ (x : Header). x.control) (same_header bytes h _ _ c e)));
         told = λ h e k g f. absurd (true≢false (sym k ∙ ap (λ (x : Header). x.control) (same_header bytes h _ _ c e)));
         zero = λ h e k i t. absurd (true≢false (sym k ∙ ap (λ (x : Header). x.control) (same_header bytes h _ _ c e)));
+        plain = λ secret. frame_stays codecs secret tunnel session frame t s;
       }

@@ -13,6 +13,6 @@ use Rattle.frame_laws.proofs.Facts.{Nodes, BytesOk}
 pub declined_fits : (ns : Nodes) (gs : List Passage) (from to : ℕ) (bytes : List ℕ) → BytesOk ns gs from to bytes → (h : Header) → header_of bytes ≡ Ok h
     → h.control ≡ true → (e : End) (m : Declined) → WhyDeclined e (body_of h bytes) m → m.remote < 65536
 declined_fits ns gs from to bytes ok h read control e m (AnOpening o said told unknown against) =
-    let fits = (ok.letters h read control (Sccrq o) said).0.tunnel in rw told fits
+    let fits = (ok.letters h read control (Sccrq o) said).0.0.tunnel in rw told fits
 declined_fits ns gs from to bytes ok h read control e m (AFaultyOpening g opens unknown is on result error) = ok.zero h read control m.remote (inl opens)
 declined_fits ns gs from to bytes ok h read control e m (AnAnswer answers result error) = ok.zero h read control m.remote (inr answers)

@@ -85,7 +85,7 @@ names_later ns ms g from to session Wen h = tt
 names_later ns ms g from to session Sli h = tt
 names_later ns ms g from to session (Sccrq o) h = tt
 names_later ns ms g from to session (Sccrp o) h = tt
-names_later ns ms g from to session Scccn h = tt
+names_later ns ms g from to session (Scccn response) h = tt
 names_later ns ms g from to session (Iccn speed framing sequenced) h = tt
 
 pub among_left : {X : Type 0} (g : X) (gs hs : List X) → Among g gs → Among g (gs ++ hs)
@@ -119,6 +119,7 @@ bytes_later ns ms g gs hs from to bytes h =
       sound = h.sound;
       told = h.told;
       zero = h.zero;
+      plain = h.plain;
     }
 
 pub packets_later : (ns ms : Nodes) → Grows ns ms → (gs hs : List Passage) (ps : List Packet) → AllByRecursion (PacketOk ns gs) ps

@@ -20,7 +20,7 @@ use Rattle.protocol_model.specs.declared.refusal.Refusal.TheVariants.{Unfit}
 use Rattle.protocol_model.specs.declared.tunnel.Role.{Role}
 use Rattle.protocol_model.specs.declared.tunnel.Role.TheVariants as role
 use Rattle.protocol_model.specs.Names.{address_of}
-use Rattle.protocol_model.specs.End.{new_end, step}
+use Rattle.protocol_model.specs.End.{plain_step, new_end, step}
 use Rattle.step_laws.specs.Lines.{tested_not, is_lac_at, is_lns_at, is_declared, has_call, has_tunnel}
 use Rattle.protocol_model.specs.World.{World, Node, Sender, Lined, quiet_line, with_node, after_step, declared, lac_at, lns_at, with_call, with_tunnel, later, config_of, added, block_of, stepped, addressee_of, arrival, refused_by, sender_of, arrives, delivers_it, delivers, line}
 use Rattle.frame_laws.specs.Codecs.{Codecs}
@@ -29,7 +29,7 @@ use Rattle.frame_laws.specs.Reports.{ups_in, told_of}
 use Rattle.frame_laws.proofs.Facts.{StepLaws, Born, Plays, Nodes, Grows, PacketOk, NodeOk, Holds, packets_later, node_later, birth_in_node, role_in_node, all_map, all_at}
 use Rattle.frame_laws.proofs.Changes.{birth_there}
 use Rattle.frame_laws.proofs.Births.{Counted}
-use Rattle.frame_laws.proofs.Worlds.{Below, LineGives, EventGives, Counts, Goes, IsReal, StepOk, step_ok}
+use Rattle.frame_laws.proofs.Worlds.{plain_real, Below, LineGives, EventGives, Counts, Goes, IsReal, StepOk, step_ok}
 
 -- ---- lines
 
@@ -60,9 +60,9 @@ uncounted : (w : World) → Counts w.nodes w.born w
 uncounted w = record { few = omega arith; counted = λ few had. had }
 
 -- one more node
-module _ (ns : Nodes) (n : ℕ) (r : Role) (lns : ℕ) (none : at ns n ≡ None) where
+module _ (ns : Nodes) (n : ℕ) (r : Role) (lns : ℕ) (secret : Option (List ℕ)) (none : at ns n ≡ None) where
   abbrev fresh_node : Node
-  fresh_node = record { end = new_end r (config_of n lns); clock = 0; births = [] }
+  fresh_node = record { end = new_end r (config_of n lns secret); clock = 0; births = [] }
 
   no_birth : (m s b : ℕ) → m ≡ n → birth_in_node (at ns m) s ≡ Some b → ⊥
   no_birth m s b e h = none-some b (subst (λ o. birth_in_node o s ≡ Some b) none (subst (λ x. birth_in_node (at ns x) s ≡ Some b) e h))
@@ -135,18 +135,18 @@ none_there None h = refl
 none_there (Some x) h = absurd (true≢false h)
 
 module _ (number : ℕ) (w : World) (gs : List Passage) (holds : Holds w gs) (l : Line)
-    (n : ℕ) (r : Role) (lns : ℕ) (lt : n < 256) (none : at w.nodes n ≡ None) where
+    (n : ℕ) (r : Role) (lns : ℕ) (secret : Option (List ℕ)) (lt : n < 256) (none : at w.nodes n ≡ None) where
   abbrev new : Node
-  new = record { end = new_end r (config_of n lns); clock = 0; births = [] }
+  new = record { end = new_end r (config_of n lns secret); clock = 0; births = [] }
 
   more_ok : LineOk number w gs l (quiet_line (with_node w n new))
   more_ok =
-      let g = more_nodes w.nodes n r lns none in
+      let g = more_nodes w.nodes n r lns secret none in
       quiet_goes number w (with_node w n new) gs l
       (record {
         nodes = λ m node f. ⊎_elim
             (λ (a : (m ≡ n) × (new ≡ node)).
-            let mine = subst (λ y. NodeOk (put w.nodes n new) n y) a.1 (fresh_ok w.nodes n r lns none lt) in
+            let mine = subst (λ y. NodeOk (put w.nodes n new) n y) a.1 (fresh_ok w.nodes n r lns secret none lt) in
             subst (λ y. NodeOk (put w.nodes n new) y node) (sym a.0) mine)
             (λ a. node_later w.nodes (put w.nodes n new) g m node (holds.nodes m node a.1))
             (found_put w.nodes n new m node f);
@@ -154,15 +154,15 @@ module _ (number : ℕ) (w : World) (gs : List Passage) (holds : Holds w gs) (l 
             (λ hs. AllByRecursion (PacketOk (put w.nodes n new) hs) w.packets) (append-nil gs)
             (packets_later w.nodes (put w.nodes n new) g gs [] w.packets holds.packets);
       })
-      (record { few = omega arith; counted = λ few had. fresh_counted w.nodes n r lns none w.born had })
+      (record { few = omega arith; counted = λ few had. fresh_counted w.nodes n r lns secret none w.born had })
       refl
 
-added_ok : (number : ℕ) (w : World) (gs : List Passage) → Holds w gs → (l : Line) (n : ℕ) (r : Role) (lns : ℕ) → n < 256 → (x : Lined)
-    → added w n r lns ≡ Ok x → LineOk number w gs l x
+added_ok : (number : ℕ) (w : World) (gs : List Passage) → Holds w gs → (l : Line) (n : ℕ) (r : Role) (lns : ℕ) (secret : Option (List ℕ)) → n < 256 → (x : Lined)
+    → added w n r lns secret ≡ Ok x → LineOk number w gs l x
 unfolding added
-added_ok number w gs holds l n r lns lt x h =
-    let t = tested_not (is_some (at w.nodes n)) (quiet_line (with_node w n (record { end = new_end r (config_of n lns); clock = 0; births = [] }))) (Unfit why.Twice) x h in
-    subst (LineOk number w gs l) t.1 (more_ok number w gs holds l n r lns lt (none_there (at w.nodes n) t.0))
+added_ok number w gs holds l n r lns secret lt x h =
+    let t = tested_not (is_some (at w.nodes n)) (quiet_line (with_node w n (record { end = new_end r (config_of n lns secret); clock = 0; births = [] }))) (Unfit why.Twice) x h in
+    subst (LineOk number w gs l) t.1 (more_ok number w gs holds l n r lns secret lt (none_there (at w.nodes n) t.0))
 
 -- ---- frames that lines give
 
@@ -229,8 +229,10 @@ module _ (codecs : Codecs) (laws : StepLaws) (number : ℕ) (w : World) (gs : Li
   timed_ok : (n : ℕ) (ev : Event) (sender : Option Sender) (node : Node) → IsAt w n node → IsReal w gs n ev
       → StepOk number w gs n node.end.role ev (after_step w number n node sender (step node.end node.clock (block_of n number) ev))
   timed_ok n ev sender node is real = subst
-      (λ (q : Node). StepOk number w gs n q.end.role ev (after_step w number n q sender (step q.end q.clock (block_of n number) ev))) (sym is.same)
-      (step_ok codecs laws number w gs holds below n is.before is.there node.clock ev real node.clock (block_of n number) sender)
+      (λ (came : Event). StepOk number w gs n node.end.role ev (after_step w number n node sender (plain_step node.end node.clock (block_of n number) came)))
+      (sym (plain_real w gs n ev real node.end.config.secret)) (subst
+      (λ (q : Node). StepOk number w gs n q.end.role ev (after_step w number n q sender (plain_step q.end q.clock (block_of n number) ev))) (sym is.same)
+      (step_ok codecs laws number w gs holds below n is.before is.there node.clock ev real node.clock (block_of n number) sender))
 
   stepped_ok : (x : Lined) (n : ℕ) (ev : Event) (sender : Option Sender) (o : Result Node Why)
       → ((node : Node) → o ≡ Ok node → IsAt w n node × ((g : Passage) → EventGives number n node.end.role ev g → LineGives number l g))
@@ -275,8 +277,8 @@ module _ (codecs : Codecs) (laws : StepLaws) (number : ℕ) (w : World) (gs : Li
   unfolding line
   line_ok x (Remark text) fits h =
       let e : quiet_line w ≡ x = cc in subst (LineOk number w gs (Remark text)) e (quiet_goes number w w gs (Remark text) holds (uncounted w) refl)
-  line_ok x (Lac n m) fits h = added_ok number w gs holds (Lac n m) n role.Lac (address_of m) (omega (arith, fits.0.1)) x h
-  line_ok x (Lns n) fits h = added_ok number w gs holds (Lns n) n role.Lns 0 (omega (arith, fits.1)) x h
+  line_ok x (Lac n m secret) fits h = added_ok number w gs holds (Lac n m secret) n role.Lac (address_of m) secret (omega (arith, fits.0.1)) x h
+  line_ok x (Lns n secret) fits h = added_ok number w gs holds (Lns n secret) n role.Lns 0 secret (omega (arith, fits.0.1)) x h
   line_ok x (OpenUp n) fits h =
       stepped_ok codecs laws number w gs holds below (OpenUp n) x n event.OpenTunnel None (lac_at (at w.nodes n))
       (λ node e. (is_there w n node (is_lac_at (at w.nodes n) node e).0, no_frame number n node.end.role event.OpenTunnel (OpenUp n) tt)) tt h

@@ -1,5 +1,5 @@
 -- What each move leaves: the letters that its tunnel keeps may be read, and its calls have their mates.
-use Rattle.std.proofs.Common.{◌≡◌, ◌⊎◌, inl, inr, ⊎_elim, ℕ, ◌+◌, ◌<◌, ◌≤◌, Bool, true, false, cond, List, [], ◌∷◌, ◌++◌, length, refl, sym, ap, ◌∙◌, subst, Some, arith, Ok}
+use Rattle.std.proofs.Common.{IfSome, Option, None, ◌≡◌, ◌⊎◌, inl, inr, ⊎_elim, ℕ, ◌+◌, ◌<◌, ◌≤◌, Bool, true, false, cond, List, [], ◌∷◌, ◌++◌, length, refl, sym, ap, ◌∙◌, subst, Some, arith, Ok}
 use Rattle.std.proofs.lemmas.Bool.{true≢false}
 use Rattle.std.proofs.lemmas.Option.{none-some}
 use Rattle.std.proofs.lemmas.List.{length-append}
@@ -7,6 +7,8 @@ use Rattle.std.proofs.lemmas.Fmt.{length-decimal-le}
 use Rattle.std.specs.Fmt.{decimal}
 use Rattle.std.specs.Prelude.{◌==◌}
 use Rattle.id_source.specs.Spaces.{Space, draws}
+use Rattle.md5.proofs.StandardFacts.{length-md5}
+use Rattle.protocol_model.specs.declared.moves.Rejected.{Rejected}
 use Rattle.protocol_model.specs.declared.tunnel.CallPlace.{CallPlace}
 use Rattle.id_table.specs.Ids.{at, put, without, at-none}
 use Rattle.id_table.specs.Order.{Ascends, ascends-empty, ascends-put, ascends-without, at_new, at_other, found_put, found_without}
@@ -50,13 +52,13 @@ use Rattle.protocol_model.specs.Calls.{advanced, rung, asked_for, is_up}
 use Rattle.protocol_model.specs.Turn.{Tunnel, letter_of, counts_given, counts_taken, learns_window, opening_of, request_of, connection}
 use Rattle.protocol_model.specs.End.{End, new_place}
 use Rattle.protocol_model.specs.World.{World, Node, with_birth, is_born, birth_of, moved}
-use Rattle.step_laws.specs.Moves.{with_tunnel, with_letter, new_tunnel, begun, Opens, Accepts, Connects, Confirms, Adds as AddsCall, Requests, Replies, ComesUpFirst, ComesUpSecond, Refuses, TellsEnd, HearsEnd, EndsSilently, Closes, ClosesBy, Clears, Greets, TakesPlain, Reads, LetsGo, Repeats, without_call, without_calls, Does}
+use Rattle.step_laws.specs.Moves.{Rejects, Asks, Responds, with_tunnel, with_letter, new_tunnel, begun, Opens, Accepts, Connects, Confirms, Adds as AddsCall, Requests, Replies, ComesUpFirst, ComesUpSecond, Refuses, TellsEnd, HearsEnd, EndsSilently, Closes, ClosesBy, Clears, Greets, TakesPlain, Reads, LetsGo, Repeats, without_call, without_calls, Does}
 use Rattle.frame_laws.proofs.Facts.{Nodes, Born, Plays, Grows, same_nodes, Mates, swapped, NamesItsCall, KnowsItsMate, CallOk, call_later, CallsOk, LetterOk, LettersOk, letters_later, TunnelOk, tunnel_later, all_push, all_drop}
 use Rattle.frame_laws.proofs.Changes.{next_birth, some_birth, with_one, born_nodes, born_packets, born_count, made_count, made_nodes, made_packets, Changed, birth_is, plays_at, grows, Adds, NextBirth, SameBirth}
 use Rattle.frame_laws.proofs.Births.{not_lns, counted_after}
-use Rattle.step_laws.specs.Codes.{codes_fit, stop_codes_fit}
+use Rattle.step_laws.specs.Codes.{letter_codes_fit, codes_fit, stop_codes_fit}
 use Rattle.frame_laws.proofs.Refusing.{refusal_fits}
-use Rattle.frame_laws.proofs.Closing.{closing_fits}
+use Rattle.frame_laws.proofs.Closing.{told_fits, closing_fits}
 use Rattle.frame_laws.proofs.Rows.{request_row, reply_row, second_row, rung_row}
 use Rattle.frame_laws.proofs.Leads.{draw_is, next_is, Heard, heard_letter, At, Leads, Sets, calls_put, end_put}
 
@@ -70,8 +72,19 @@ name_fits r n lt = by r (length-decimal-le 3 n (omega arith) (omega arith) (omeg
     by Lac le = simp length-append (omega arith)
     by Lns le = simp length-append (omega arith)
 
-opening_written : (r : Role) (c : Config) (local : ℕ) → c.number < 256 → 0 < local → local < 65536 → IsWrittenOpening (opening_of r c local)
-opening_written r c local lt some fits =
+-- what is asked fits into a pair, and what is answered has 16 bytes
+asks_short : (secret challenge : Option (List ℕ)) → Asks secret challenge → IfSome challenge (λ v. length v ≤ 1017)
+asks_short None challenge is = rw is tt
+asks_short (Some s) challenge is = let sized = is.2 in rw is.1 (omega (arith, sized))
+
+responds_sized : (kind : ℕ) (secret asked response : Option (List ℕ)) → Responds kind secret asked response → IfSome response (λ v. length v ≡ 16)
+responds_sized kind None asked response is = rw is tt
+responds_sized kind (Some s) None response is = rw is tt
+responds_sized kind (Some s) (Some a) response is = rw is (length-md5 (kind ∷ s ++ a))
+
+opening_written : (r : Role) (c : Config) (challenge response : Option (List ℕ)) (local : ℕ) → c.number < 256 → 0 < local → local < 65536
+    → IfSome challenge (λ v. length v ≤ 1017) → IfSome response (λ v. length v ≡ 16) → IsWrittenOpening (opening_of r c challenge response local)
+opening_written r c challenge response local lt some fits short sized =
     record {
       version = refl;
       framing = omega arith;
@@ -81,7 +94,8 @@ opening_written r c local lt some fits =
       window = omega arith;
       window_not_zero = omega arith;
       failover = (omega arith, omega arith);
-      challenge = refl;
+      challenge = short;
+      response = sized;
       recovery = refl;
     }
 
@@ -193,8 +207,10 @@ module _ (digits : (port : ℕ) → length (calling_number port) ≡ 12) (n : �
       let first = here.end.first in
       let last = here.end.last in
       let le = d.1 in
-      let written = opening_written x.role x.config m.tunnel here.end.number (omega (arith, d.0)) (omega arith) in
-      let t = with_letter 0 (Sccrq (opening_of x.role x.config m.tunnel)) (new_tunnel (begun m.tunnel m.peer 0 WaitCtlReply moment)) in
+      let asked = asks_short x.config.secret m.challenge h.asks in
+      let written : IsWritten (Sccrq (opening_of x.role x.config m.challenge None m.tunnel)) =
+      (opening_written x.role x.config m.challenge None m.tunnel here.end.number (omega (arith, d.0)) (omega arith) asked tt, refl) in
+      let t = with_letter 0 (Sccrq (opening_of x.role x.config m.challenge None m.tunnel)) (new_tunnel (begun m.tunnel m.peer 0 WaitCtlReply moment m.challenge)) in
       let w = with_new (record x.tunnel_ids { next = m.tunnel + 1 }) m.tunnel t in
       let same : y ≡ w = h.after ∙ ap (λ s. with_new s m.tunnel t) (next_is x.tunnel_ids m.tunnel h.drawn) in
       let sets = sets_new m.tunnel t h.drawn in
@@ -203,7 +219,7 @@ module _ (digits : (port : ℕ) → length (calling_number port) ≡ 12) (n : �
         local = refl;
         drawn = omega arith;
         remote = omega arith;
-        letters = one_more v.nodes n m.peer [] tt 0 (Sccrq (opening_of x.role x.config m.tunnel)) (omega arith) written tt;
+        letters = one_more v.nodes n m.peer [] tt 0 (Sccrq (opening_of x.role x.config m.challenge None m.tunnel)) (omega arith) written tt;
         calls = no_calls v.nodes n x.role x.session_ids.next m.peer;
         order = ascends-empty [] refl;
       }))
@@ -214,20 +230,22 @@ module _ (digits : (port : ℕ) → length (calling_number port) ≡ 12) (n : �
       let first = here.end.first in
       let last = here.end.last in
       let le = d.1 in
-      let written = opening_written x.role x.config m.tunnel here.end.number (omega (arith, d.0)) (omega arith) in
-      let c = counts_taken (learns_window m.window (begun m.tunnel m.peer m.remote WaitCtlConn moment)) in
-      let ids = learnt m.window (begun m.tunnel m.peer m.remote WaitCtlConn moment) in
-      let t = with_letter 0 (Sccrp (opening_of x.role x.config m.tunnel)) (new_tunnel c) in
+      let asked = asks_short x.config.secret m.challenge h.asks in
+      let answered = responds_sized 2 x.config.secret h.opening.challenge m.response h.responds in
+      let written = opening_written x.role x.config m.challenge m.response m.tunnel here.end.number (omega (arith, d.0)) (omega arith) asked answered in
+      let c = counts_taken (learns_window m.window (begun m.tunnel m.peer m.remote WaitCtlConn moment m.challenge)) in
+      let ids = learnt m.window (begun m.tunnel m.peer m.remote WaitCtlConn moment m.challenge) in
+      let t = with_letter 0 (Sccrp (opening_of x.role x.config m.challenge m.response m.tunnel)) (new_tunnel c) in
       let w = with_new (record x.tunnel_ids { next = m.tunnel + 1 }) m.tunnel t in
       let same : y ≡ w = h.after ∙ ap (λ s. with_new s m.tunnel t) (next_is x.tunnel_ids m.tunnel h.drawn) in
       let sets = sets_new m.tunnel t h.drawn in
-      let fits = (heard_letter v.nodes n ev heard m.peer h.hears.0 (Sccrq h.opening) h.hears.1).0.tunnel in
+      let fits = (heard_letter v.nodes n ev heard m.peer h.hears.0 (Sccrq h.opening) h.hears.1).0.0.tunnel in
       subst (λ e. Led v e) (sym same)
       (led_still w m.tunnel t sets refl (record {
         local = ids.local;
         drawn = omega arith;
         remote = rw (ids.remote, h.remote) fits;
-        letters = one_more v.nodes n c.peer [] tt 0 (Sccrp (opening_of x.role x.config m.tunnel)) (omega arith) written tt;
+        letters = one_more v.nodes n c.peer [] tt 0 (Sccrp (opening_of x.role x.config m.challenge m.response m.tunnel)) (omega arith) written tt;
         calls = no_calls v.nodes n x.role x.session_ids.next c.peer;
         order = ascends-empty [] refl;
       }))
@@ -268,7 +286,8 @@ module _ (digits : (port : ℕ) → length (calling_number port) ≡ 12) (n : �
       let fits = (heard_letter v.nodes n ev heard h.tunnel.control.peer h.hears.0 (Sccrp h.opening) h.hears.1.hears).0.tunnel in
       let ids = learnt m.window (record h.tunnel.control { remote = m.remote; state = Established }) in
       control_led y m.tunnel h.tunnel _ _ h.there h.after ids.local ids.peer (rw (ids.remote, h.remote) fits)
-      (more_letters m.tunnel h.tunnel h.there 0 Scccn (omega arith) tt tt)
+      (more_letters m.tunnel h.tunnel h.there 0 (Scccn m.response) (omega arith)
+      (responds_sized 3 x.config.secret h.opening.challenge m.response h.responds) tt)
 
   -- its ids and its letters stay
   stays_led : (y : End) (i : ℕ) (t : Tunnel) (c : Control) → at x.tunnels i ≡ Some t → y ≡ with_tunnel x i (record t { control = c })
@@ -437,9 +456,18 @@ module _ (digits : (port : ℕ) → length (calling_number port) ≡ 12) (n : �
   closed_led : (moment : ℕ) (m : Closed) (y : End) → Closes x moment ev m y → Led v y
   closed_led moment m y h =
       let o = here.end.tunnels m.tunnel h.tunnel h.there in
-      let k = stop_codes_fit h.tunnel ev h.on m h.why in
+      let k = stop_codes_fit x.config.secret h.tunnel ev h.on m h.why in
       let id : m.tunnel < 65536 = (let d = o.drawn in let most = here.end.most_tunnels in omega arith) in
-      shut_led y m.tunnel h.tunnel _ _ h.there h.after refl refl (closing_fits v.nodes n ev heard h.tunnel h.on m o.remote h.why)
+      shut_led y m.tunnel h.tunnel _ _ h.there h.after refl refl (closing_fits x.config.secret ev h.tunnel h.on m o.remote h.why)
+      (more_letters m.tunnel h.tunnel h.there 0 (StopCcn m.tunnel m.result m.error) (omega arith) (id, k.0, k.1) tt)
+
+  rejected_led : (moment : ℕ) (m : Rejected) (y : End) → Rejects x moment ev m y → Led v y
+  rejected_led moment m y h =
+      let o = here.end.tunnels m.tunnel h.tunnel h.there in
+      let k = letter_codes_fit x.config.secret h.tunnel.control ev h.on m.remote m.result m.error h.why in
+      let id : m.tunnel < 65536 = (let d = o.drawn in let most = here.end.most_tunnels in omega arith) in
+      let told = told_fits v.nodes n ev heard x.config.secret h.tunnel.control h.on m.remote m.result m.error h.why in
+      shut_led y m.tunnel h.tunnel _ _ h.there h.after refl refl told
       (more_letters m.tunnel h.tunnel h.there 0 (StopCcn m.tunnel m.result m.error) (omega arith) (id, k.0, k.1) tt)
 
   closed_by_led : (moment : ℕ) (m : ClosedBy) (y : End) → ClosesBy x moment ev m y → Led v y
@@ -680,6 +708,7 @@ module _ (digits : (port : ℕ) → length (calling_number port) ≡ 12) (n : �
   does_led moment (move.EndSilent m) y h = silent_led moment m y h
   does_led moment (move.Declined m) y h = led_same y h.after
   does_led moment (move.Closed m) y h = closed_led moment m y h
+  does_led moment (move.Rejected m) y h = rejected_led moment m y h
   does_led moment (move.ClosedBy m) y h = closed_by_led moment m y h
   does_led moment (move.Cleared i) y h = cleared_led moment i y h
   does_led moment (move.Greeted m) y h = greeted_led moment m y h

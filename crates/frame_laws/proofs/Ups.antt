@@ -67,6 +67,7 @@ module _ (line n : ℕ) (r : Role) (sender : Option Sender) (v : World) where
   deeds_told (move.EndSilent m ∷ ms) = deeds_told ms
   deeds_told (move.Declined m ∷ ms) = deeds_told ms
   deeds_told (move.Closed m ∷ ms) = deeds_told ms
+  deeds_told (move.Rejected m ∷ ms) = deeds_told ms
   deeds_told (move.ClosedBy m ∷ ms) = deeds_told ms
   deeds_told (move.Cleared i ∷ ms) = deeds_told ms
   deeds_told (move.Greeted m ∷ ms) = deeds_told ms

@@ -9,6 +9,7 @@ use Rattle.l2tp_header.specs.Spelling.{data_bytes}
 use Rattle.control_channel.specs.Numbers.{place_of}
 use Rattle.control_message.specs.declared.message.Message.TheVariants.{StopCcn}
 use Rattle.schedule_text.specs.declared.line.Line.{Line}
+use Rattle.protocol_model.specs.Secrets.{uncovered_event}
 use Rattle.protocol_model.specs.declared.event.Event.{Event}
 use Rattle.protocol_model.specs.declared.event.Event.TheVariants.{Datagram, Ring, Payload, Lower, Hang, OpenTunnel, DropCall, CloseTunnel, Tick}
 use Rattle.protocol_model.specs.declared.moves.FrameSent.{FrameSent}
@@ -23,7 +24,7 @@ use Rattle.protocol_model.specs.declared.tunnel.Role.{Role}
 use Rattle.protocol_model.specs.Names.{address_of, node_of}
 use Rattle.protocol_model.specs.Reading.{body_of}
 use Rattle.protocol_model.specs.Turn.{Tunnel}
-use Rattle.protocol_model.specs.End.{End, Stepped, step}
+use Rattle.protocol_model.specs.End.{plain_step, End, Stepped}
 use Rattle.protocol_model.specs.World.{World, Node, Sender, Deed, Lined, with_node, moved_all, sent, shown, shown_all, given, after_step}
 use Rattle.step_laws.specs.Letters.{Among, Carries, ALetter, Nothing, AFrame, HasOutput}
 use Rattle.step_laws.specs.Steps.{IsOfMoves, IsDecline, IsChain}
@@ -232,6 +233,18 @@ heard_of w gs n (DropCall s) h = tt
 heard_of w gs n (CloseTunnel i) h = tt
 heard_of w gs n Tick h = tt
 
+-- what is real has nothing hidden in it
+pub plain_real : (w : World) (gs : List Passage) (n : ℕ) (ev : Event) → IsReal w gs n ev → (secret : Option (List ℕ)) → uncovered_event secret ev ≡ ev
+plain_real w gs n (Datagram peer bytes) h secret = ap (λ (b : List ℕ). Datagram peer b) (h.bytes_ok.plain secret)
+plain_real w gs n (Ring port) h secret = refl
+plain_real w gs n (Payload s frame) h secret = refl
+plain_real w gs n (Lower s frame) h secret = refl
+plain_real w gs n (Hang s) h secret = refl
+plain_real w gs n OpenTunnel h secret = refl
+plain_real w gs n (DropCall s) h secret = refl
+plain_real w gs n (CloseTunnel i) h secret = refl
+plain_real w gs n Tick h secret = refl
+
 -- what a step of a node leads to, in a line
 pub record StepOk (number : ℕ) (w : World) (gs : List Passage) (n : ℕ) (r : Role) (ev : Event) (x : Lined) : Type 0 where
   pub goes : Goes number w gs x.world x.done
@@ -249,7 +262,7 @@ module _ (codecs : Codecs) (laws : StepLaws) (number : ℕ) (w : World) (gs : Li
   timed = record old { clock = clock }
 
   abbrev s : Stepped
-  s = step old.end moment block ev
+  s = plain_step old.end moment block ev
 
   chain : IsChain old.end moment ev s
   chain = laws.chains old.end ok.kept moment block ev

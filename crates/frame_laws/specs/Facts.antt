@@ -17,6 +17,7 @@ use Rattle.protocol_model.specs.declared.packet.Packet.{Packet}
 use Rattle.protocol_model.specs.Names.{node_of}
 use Rattle.protocol_model.specs.Turn.{Tunnel}
 use Rattle.protocol_model.specs.declared.event.Addressee.TheVariants.{Opens, Answers}
+use Rattle.protocol_model.specs.Secrets.{uncovered_datagram}
 use Rattle.protocol_model.specs.Reading.{body_of, message_in, call_fault_in, TunnelFault, tunnel_fault_in, at_zero}
 use Rattle.protocol_model.specs.Calls.{frame_of, is_up}
 use Rattle.protocol_model.specs.End.{End}
@@ -78,7 +79,7 @@ NamesItsCall ns from to session (Cdn own code error) =
     (own ≡ 0) ⊎ (((b : ℕ) × (0 < b) × Born ns from own b) × ((session ≡ 0) ⊎ Mates ns from own to session))
 NamesItsCall ns from to session (Sccrq o) = Unit {0}
 NamesItsCall ns from to session (Sccrp o) = Unit {0}
-NamesItsCall ns from to session Scccn = Unit {0}
+NamesItsCall ns from to session (Scccn response) = Unit {0}
 NamesItsCall ns from to session (StopCcn tunnel code error) = Unit {0}
 NamesItsCall ns from to session Hello = Unit {0}
 NamesItsCall ns from to session (Ocrq own) = Unit {0}
@@ -111,6 +112,8 @@ pub record BytesOk (ns : Nodes) (gs : List Passage) (from to : ℕ) (bytes : Lis
   -- nor does one that would open a tunnel, or answer an opening, where it comes to none
   pub zero : (h : Header) → header_of bytes ≡ Ok h → h.control ≡ true → (i : ℕ)
       → (at_zero (body_of h bytes) ≡ Opens i) ⊎ (at_zero (body_of h bytes) ≡ Answers i) → i < 65536
+  -- nothing in it is hidden, whatever secret it is read with
+  pub plain : (secret : Option (List ℕ)) → uncovered_datagram secret bytes ≡ bytes
 
 pub record PacketOk (ns : Nodes) (gs : List Passage) (p : Packet) : Type 0 where
   pub from : p.from < 256

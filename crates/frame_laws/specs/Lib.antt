@@ -1,4 +1,5 @@
 pub mod Codecs
+pub mod Plain
 pub mod Past
 pub mod Frames
 pub mod Facts

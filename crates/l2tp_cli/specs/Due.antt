@@ -24,21 +24,22 @@ help_text =
     codes "  l2tp --version   writes the version\n" ++
     codes "\n" ++
     codes "A schedule is a list of lines, with one space between words:\n" ++
-    codes "  # TEXT            a remark\n" ++
-    codes "  lns N -           node N is an LNS\n" ++
-    codes "  lac N M - plain   node N is a LAC, whose LNS is node M\n" ++
-    codes "  open N            node N, a LAC, opens a tunnel to its LNS\n" ++
-    codes "  close N T         an operator closes tunnel T of node N, with its calls\n" ++
-    codes "  ring N K          a subscriber calls at port K of node N, a LAC\n" ++
-    codes "  data N S HEX      the subscriber of call S of node N, a LAC, sends a PPP frame\n" ++
-    codes "  down N S HEX      the network sends a PPP frame down call S of node N, an LNS\n" ++
-    codes "  hang N S          the subscriber of call S of node N, a LAC, leaves\n" ++
-    codes "  drop N S          an operator closes call S of node N\n" ++
-    codes "  deliver P         packet P of the report reaches the node that it was sent to\n" ++
-    codes "  tick N MS         the clock of node N goes on by MS milliseconds, and what is due is done\n" ++
+    codes "  # TEXT                a remark\n" ++
+    codes "  lns N SECRET          node N is an LNS\n" ++
+    codes "  lac N M SECRET plain  node N is a LAC, whose LNS is node M\n" ++
+    codes "  open N                node N, a LAC, opens a tunnel to its LNS\n" ++
+    codes "  close N T             an operator closes tunnel T of node N, with its calls\n" ++
+    codes "  ring N K              a subscriber calls at port K of node N, a LAC\n" ++
+    codes "  data N S HEX          the subscriber of call S of node N, a LAC, sends a PPP frame\n" ++
+    codes "  down N S HEX          the network sends a PPP frame down call S of node N, an LNS\n" ++
+    codes "  hang N S              the subscriber of call S of node N, a LAC, leaves\n" ++
+    codes "  drop N S              an operator closes call S of node N\n" ++
+    codes "  deliver P             packet P of the report reaches the node that it was sent to\n" ++
+    codes "  tick N MS             the clock of node N goes on by MS milliseconds, and what is due is done\n" ++
     codes "N and M are 1 to 255, K, S and T 1 to 65535, P is 1 to 4294967295, MS 0 to 86400000, without leading zeros. HEX is a frame\n" ++
-    codes "from its protocol field on, 2 to 1494 bytes as hex digits in lower case. A schedule has at most 1048576 lines and\n" ++
-    codes "67108864 bytes. M of a lac line may be declared later, or never: then what is sent to it can't be delivered.\n" ++
+    codes "from its protocol field on, 2 to 1494 bytes as hex digits in lower case. SECRET is the secret that both ends of a tunnel\n" ++
+    codes "share, 1 to 64 bytes as hex digits, or - where there is none. A schedule has at most 1048576 lines and 67108864 bytes.\n" ++
+    codes "M of a lac line may be declared later, or never: then what is sent to it can't be delivered.\n" ++
     codes "\n" ++
     codes "A line that doesn't fit ends the run, which says why:\n" ++
     codes "  node     that node isn't declared, or is of the other kind\n" ++

@@ -6,7 +6,7 @@ ghost use Rattle.id_table.specs.Ids.{at};
 ghost use Rattle.wire_base.specs.declared.cause.Cause.TheVariants as causes;
 ghost use Rattle.protocol_model.specs.declared.out.Out.TheVariants as outs;
 ghost use Rattle.protocol_model.specs.declared.tunnel.Role.TheVariants as roles;
-ghost use Rattle.protocol_model.specs.End.{env_of, rings_at, new_end, step, look_in};
+ghost use Rattle.protocol_model.specs.End.{env_of, rings_at, new_end, plain_step, step, look_in};
 ghost use Rattle.end_core.specs.Fits.{fits};
 ghost use Rattle.end_core.specs.Gives.{GivesStep};
 ghost use Rattle.end_core.specs.Rows.{tunnel_rows};
@@ -99,12 +99,10 @@ impl Lac {
         self.end.tunnel_rows(alloc)
     }
 
-    /// A step of the LAC on an event, at a moment in milliseconds, with a block of random bytes. An event of an LNS is dropped
-    /// with `node`, and one of a call or a tunnel that isn't live with `call` or `tunnel`. Where memory is wanting, the LAC is
-    /// as before.
-    #[tactic(auto, unfolding(protocol_model::specs::End::step, protocol_model::specs::End::step_in, protocol_model::specs::End::only_by))]
-    pub fn step(&mut self, moment: u64, block: [u8; 16], event: &Event) -> Result<Given, NoMemory>
-        ensures { GivesStep result (step self.old moment block event.now) self.old self.new }
+    /// A step on an event of which nothing is hidden.
+    #[tactic(auto, unfolding(protocol_model::specs::End::plain_step, protocol_model::specs::End::step_in, protocol_model::specs::End::only_by))]
+    fn plain_step(&mut self, moment: u64, block: [u8; 16], event: &Event) -> Result<Given, NoMemory>
+        ensures { GivesStep result (plain_step self.old moment block event.now) self.old self.new }
     {
         match event {
             Event::Datagram { peer, bytes } => {
@@ -127,6 +125,18 @@ impl Lac {
             }
             Event::Tick => self.end.tick_all(moment, block),
             Event::Lower { .. } => self.end.drop_with(Why::Node),
+        }
+    }
+
+    /// A step of the LAC on an event, at a moment in milliseconds, with a block of random bytes. What a datagram hides by the
+    /// LAC's secret is uncovered first (RFC 2661 section 4.3). An event of an LNS is dropped with `node`, and one of a call or a
+    /// tunnel that isn't live with `call` or `tunnel`. Where memory is wanting, the LAC is as before.
+    pub fn step(&mut self, moment: u64, block: [u8; 16], event: &Event) -> Result<Given, NoMemory>
+        ensures { GivesStep result (step self.old moment block event.now) self.old self.new }
+    {
+        match self.end.plain_event(event)? {
+            None => self.plain_step(moment, block, event),
+            Some(plain) => self.plain_step(moment, block, &plain),
         }
     }
 }

@@ -4,7 +4,7 @@
 ghost use Rattle.std.specs.Prelude.{◌≡◌, IfOk};
 ghost use Rattle.id_table.specs.Ids.{at};
 ghost use Rattle.protocol_model.specs.declared.tunnel.Role.TheVariants as roles;
-ghost use Rattle.protocol_model.specs.End.{new_end, step, look_in};
+ghost use Rattle.protocol_model.specs.End.{new_end, plain_step, step, look_in};
 ghost use Rattle.end_core.specs.Fits.{fits};
 ghost use Rattle.end_core.specs.Gives.{GivesStep};
 ghost use Rattle.end_core.specs.Rows.{tunnel_rows};
@@ -71,12 +71,10 @@ impl Lns {
         self.end.tunnel_rows(alloc)
     }
 
-    /// A step of the LNS on an event, at a moment in milliseconds, with a block of random bytes. An event of a LAC is dropped
-    /// with `node`, and one of a call or a tunnel that isn't live with `call` or `tunnel`. Where memory is wanting, the LNS is
-    /// as before.
-    #[tactic(auto, unfolding(protocol_model::specs::End::step, protocol_model::specs::End::step_in, protocol_model::specs::End::only_by))]
-    pub fn step(&mut self, moment: u64, block: [u8; 16], event: &Event) -> Result<Given, NoMemory>
-        ensures { GivesStep result (step self.old moment block event.now) self.old self.new }
+    /// A step on an event of which nothing is hidden.
+    #[tactic(auto, unfolding(protocol_model::specs::End::plain_step, protocol_model::specs::End::step_in, protocol_model::specs::End::only_by))]
+    fn plain_step(&mut self, moment: u64, block: [u8; 16], event: &Event) -> Result<Given, NoMemory>
+        ensures { GivesStep result (plain_step self.old moment block event.now) self.old self.new }
     {
         match event {
             Event::Datagram { peer, bytes } => {
@@ -93,6 +91,18 @@ impl Lns {
             Event::Ring { .. } | Event::Payload { .. } | Event::Hang { .. } | Event::OpenTunnel => {
                 self.end.drop_with(Why::Node)
             }
+        }
+    }
+
+    /// A step of the LNS on an event, at a moment in milliseconds, with a block of random bytes. What a datagram hides by the
+    /// LNS's secret is uncovered first (RFC 2661 section 4.3). An event of a LAC is dropped with `node`, and one of a call or a
+    /// tunnel that isn't live with `call` or `tunnel`. Where memory is wanting, the LNS is as before.
+    pub fn step(&mut self, moment: u64, block: [u8; 16], event: &Event) -> Result<Given, NoMemory>
+        ensures { GivesStep result (step self.old moment block event.now) self.old self.new }
+    {
+        match self.end.plain_event(event)? {
+            None => self.plain_step(moment, block, event),
+            Some(plain) => self.plain_step(moment, block, &plain),
         }
     }
 }

@@ -190,7 +190,7 @@ fn said_of(alloc: Global, avps: &Avps) -> Result<Said, NoMemory>
     ensures fault { IfOk result (λ said. said.fault ≡ fault_of_pairs (Ok avps.now)) }
     ensures closing { IfOk result (λ said. said.closing ≡ tunnel_fault_of_pairs (Ok avps.now)) }
 {
-    match read_message(alloc, avps) {
+    match read_message(alloc, avps, None) {
         Ok(Read::Known(message)) => Ok(Said {
             message: Ok(message),
             fault: None,

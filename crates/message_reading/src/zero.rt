@@ -45,7 +45,7 @@ fn zero_faulty(avps: &Avps) -> Addressee
 fn zero_pairs(alloc: Global, avps: &Avps) -> Result<Addressee, NoMemory>
     ensures { IfOk result (λ to. to ≡ zero_pairs (Ok avps.now)) }
 {
-    match read_message(alloc, avps) {
+    match read_message(alloc, avps, None) {
         Ok(Read::Known(Message::Sccrq(opening))) => Ok(Addressee::Opens {
             remote: opening.tunnel,
         }),

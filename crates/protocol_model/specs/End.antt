@@ -33,6 +33,7 @@ use Rattle.protocol_model.specs.Calls.{is_lac, Carried, Upward, Dropped, carry_l
 use Rattle.protocol_model.specs.declared.event.Addressee.{Addressee}
 use Rattle.protocol_model.specs.declared.event.Addressee.TheVariants.{Opens, Stops, Answers, Main, Nobody}
 use Rattle.protocol_model.specs.Reading.{header_why, body_of, message_in, TunnelFault, tunnel_fault_in, at_zero, at_tunnel}
+use Rattle.protocol_model.specs.Secrets.{lacks_secret, uncovered_datagram, uncovered_event}
 use Rattle.protocol_model.specs.Turn.{Tunnel, Env, Turn, Reason, out_of_order, other_version, no_recovery, no_secret, fault_reason, turn_of, tunnel_after, fresh, turns}
 use Rattle.protocol_model.specs.Reasons.{no_tunnel, no_id}
 use Rattle.protocol_model.specs.declared.out.Origin.{Origin}
@@ -240,13 +241,17 @@ unfoldable pub reached_by : End → ℕ → List ℕ → Result Header HeaderErr
 reached_by e peer bytes (Err x) = None
 reached_by e peer bytes (Ok h) = if h.control then main_of e (addressed e peer h (body_of h bytes)) else None
 
-unfoldable pub reached : End → ℕ → List ℕ → Option Control
-reached e peer bytes = reached_by e peer bytes (header_of bytes)
+unfoldable pub reached_plain : End → ℕ → List ℕ → Option Control
+reached_plain e peer bytes = reached_by e peer bytes (header_of bytes)
+
+-- as the end reads it
+abbrev pub reached : End → ℕ → List ℕ → Option Control
+reached e peer bytes = reached_plain e peer (uncovered_datagram e.config.secret bytes)
 
 -- ---- openings that are declined
 
 -- what stands against an SCCRQ that would open a tunnel, the first that counts: its version, a recovery, as many tunnels as there may
--- be, a challenge, or no id that is left
+-- be, a challenge to an end that has no secret, or no id that is left
 abbrev pub lacks_id : Result ℕ IdError → Option Reason
 lacks_id (Ok i) = None
 lacks_id (Err x) = Some no_id
@@ -256,7 +261,7 @@ against_opening e o =
     if not (o.version == 256) then Some other_version
     else if is_some o.recovery then Some no_recovery
     else if has_all_tunnels e.tunnels then Some no_tunnel
-    else if is_some o.challenge then Some no_secret
+    else if lacks_secret e.config.secret o.challenge then Some no_secret
     else lacks_id (draws e.tunnel_ids)
 
 -- or its fault
@@ -365,6 +370,10 @@ step_in e env (CloseTunnel i) = in_main e env (CloseTunnel i) i (at e.tunnels i)
 step_in e env (DropCall session) = for_call e env (DropCall session) (at e.calls session)
 step_in e env Tick = ticks_all e env
 
--- a step at a moment, with a block of random bytes
-unfoldable pub step : End → ℕ → List ℕ → Event → Stepped
-step e moment block ev = step_in e (env_of e moment block) ev
+-- a step at a moment, with a block of random bytes, on an event whose hidden values are uncovered
+unfoldable pub plain_step : End → ℕ → List ℕ → Event → Stepped
+plain_step e moment block ev = step_in e (env_of e moment block) ev
+
+-- a step on what comes: what is hidden by the end's secret is uncovered first
+abbrev pub step : End → ℕ → List ℕ → Event → Stepped
+step e moment block ev = plain_step e moment block (uncovered_event e.config.secret ev)

@@ -1,10 +1,12 @@
 pub mod Names
 pub mod Reading
+pub mod Secrets
 pub mod Calls
 pub mod Owing
 pub mod Reasons
 pub mod Messages
 pub mod Moments
+pub mod Channels
 pub mod Turn
 pub mod End
 pub mod Texts

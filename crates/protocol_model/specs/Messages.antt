@@ -1,25 +1,28 @@
 -- What ends say when they open tunnels and ask for calls, and what stands against an opening.
-use Rattle.std.specs.Prelude.{ℕ, ◌==◌, not, Bool, false, if◌then◌else◌, Option, Some, None, is_some, is_none, unwrap_or}
+use Rattle.std.specs.Prelude.{ℕ, ◌==◌, ◌||◌, not, Bool, List, false, if◌then◌else◌, Option, Some, None, is_some, is_none, unwrap_or}
 use Rattle.control_message.specs.declared.message.Message.{Message}
 use Rattle.control_message.specs.declared.message.Message.TheVariants.{Icrq, Iccn}
 use Rattle.control_message.specs.declared.message.Opening.{Opening}
 use Rattle.tunnel_fsm.specs.declared.table.TunnelEvent.{TunnelEvent}
+use Rattle.tunnel_fsm.specs.declared.table.TunnelEvent.TheVariants.{ScccnAcc, ScccnNotAcc}
 use Rattle.protocol_model.specs.declared.tunnel.Config.{Config}
 use Rattle.protocol_model.specs.declared.tunnel.Role.{Role}
 use Rattle.protocol_model.specs.Names.{host_name, calling_number}
+use Rattle.protocol_model.specs.Secrets.{lacks_secret, is_wrong}
 use Rattle.protocol_model.specs.Reasons.{Reason, out_of_order, other_version, no_recovery, no_secret}
 
 -- what an end says of itself when it opens or accepts a tunnel: version 1.0, both kinds of framing, its name, the
--- tunnel id that it assigns, a window of 8, and failover of both kinds within 30 seconds
-abbrev pub opening_of : Role → Config → ℕ → Opening
-opening_of role c local = record {
+-- tunnel id that it assigns, a window of 8, failover of both kinds within 30 seconds, and what it asks and answers by its secret
+abbrev pub opening_of : Role → Config → Option (List ℕ) → Option (List ℕ) → ℕ → Opening
+opening_of role c challenge response local = record {
   version = 256;
   framing = 3;
   name = host_name role c.number;
   tunnel = local;
   window = 8;
   failover = Some (record { flags = 3; time = 30000 });
-  challenge = None;
+  challenge = challenge;
+  response = response;
   recovery = None;
 }
 
@@ -31,21 +34,28 @@ request_of s port = Icrq s s (Some (calling_number port))
 abbrev pub connection : Message
 connection = Iccn 100000000 1 false
 
--- what stands against an SCCRQ or an SCCRP, but for the tunnel's state, the first that counts: its version isn't 1.0, it wants to
--- recover a tunnel, or it has a challenge
-abbrev pub against : Opening → Option Reason
-against o =
+-- what stands against an SCCRQ or an SCCRP at an end with this secret, which asked this of its peer, but for the tunnel's state; the
+-- first that counts: its version isn't 1.0, it wants to recover a tunnel, it asks an end that has no secret, or answers wrongly
+abbrev pub against : Option (List ℕ) → Option (List ℕ) → Opening → Option Reason
+against secret asked o =
     if not (o.version == 256) then Some other_version
     else if is_some o.recovery then Some no_recovery
-    else if is_some o.challenge then Some no_secret
+    else if lacks_secret secret o.challenge || is_wrong 2 secret asked o.response then Some no_secret
     else None
 
 -- it is acceptable where nothing does
-abbrev pub is_acceptable : Opening → Bool
-is_acceptable o = is_none (against o)
+abbrev pub is_acceptable : Option (List ℕ) → Option (List ℕ) → Opening → Bool
+is_acceptable secret asked o = is_none (against secret asked o)
 
-abbrev pub event_by : TunnelEvent → TunnelEvent → Opening → TunnelEvent
-event_by acceptable not_acceptable o = if is_acceptable o then acceptable else not_acceptable
+abbrev pub event_by : TunnelEvent → TunnelEvent → Option (List ℕ) → Option (List ℕ) → Opening → TunnelEvent
+event_by acceptable not_acceptable secret asked o = if is_acceptable secret asked o then acceptable else not_acceptable
 
-abbrev pub opening_reason : Opening → Reason
-opening_reason o = unwrap_or (against o) out_of_order
+abbrev pub opening_reason : Option (List ℕ) → Option (List ℕ) → Opening → Reason
+opening_reason secret asked o = unwrap_or (against secret asked o) out_of_order
+
+-- of an SCCCN, which has an answer where one was asked
+abbrev pub connected_event : Option (List ℕ) → Option (List ℕ) → Option (List ℕ) → TunnelEvent
+connected_event secret asked given = if is_wrong 3 secret asked given then ScccnNotAcc else ScccnAcc
+
+abbrev pub connected_reason : Option (List ℕ) → Option (List ℕ) → Option (List ℕ) → Reason
+connected_reason secret asked given = if is_wrong 3 secret asked given then no_secret else out_of_order

@@ -28,7 +28,7 @@ other_version = reason cause.Version 5 None
 abbrev pub no_recovery : Reason
 no_recovery = reason cause.Recover 2 (Some 1)
 
--- it has a challenge, and no end has a secret
+-- it asks for what only one who knows the secret can answer, or it should have answered that and didn't
 abbrev pub no_secret : Reason
 no_secret = reason cause.Secret 4 None
 

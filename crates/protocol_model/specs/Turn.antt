@@ -1,5 +1,5 @@
 -- A tunnel's step, as a chain of functions from turn to turn.
-use Rattle.std.specs.Prelude.{ℕ, zero, suc, ◌+◌, List, [], ◌∷◌, ◌++◌, drop, find, slice_get, Bool, true, false, ◌==◌, ◌&&◌, ◌||◌, not, nat_le, nat_lt, length, if◌then◌else◌, Option, Some, None, is_some, unwrap_or, Result, Ok, Err}
+use Rattle.std.specs.Prelude.{ℕ, zero, suc, List, [], ◌∷◌, ◌++◌, drop, find, slice_get, Bool, true, false, ◌==◌, ◌&&◌, ◌||◌, not, nat_le, nat_lt, length, if◌then◌else◌, Option, Some, None, is_some, unwrap_or, Result, Ok, Err}
 use Rattle.id_table.specs.Ids.{at, put, without, ids_of}
 use Rattle.id_source.specs.Spaces.{Space, draws, after_draw}
 use Rattle.id_source.specs.declared.IdError.{IdError}
@@ -11,19 +11,16 @@ use Rattle.wire_base.specs.declared.letter.Letter.{Letter}
 use Rattle.l2tp_header.specs.declared.header.Header.{Header}
 use Rattle.l2tp_header.specs.declared.header.HeaderError.{HeaderError}
 use Rattle.l2tp_header.specs.Reading.{header_of}
-use Rattle.l2tp_header.specs.Spelling.{control_bytes, data_bytes}
-use Rattle.avp_codec.specs.Spelling.{spelling}
+use Rattle.l2tp_header.specs.Spelling.{data_bytes}
 use Rattle.control_message.specs.declared.message.Message.{Message}
 use Rattle.control_message.specs.declared.message.Message.TheVariants.{Sccrq, Sccrp, Scccn, StopCcn, Hello, Ocrq, Ocrp, Occn, Icrq, Icrp, Iccn, Cdn, Wen, Sli}
 use Rattle.control_message.specs.declared.kind.Kind.{Kind}
 use Rattle.control_message.specs.declared.kind.Kind.TheVariants as kind
-use Rattle.control_message.specs.Pairs.{pairs_of}
 use Rattle.send_window.specs.declared.window.Tick.{Tick}
 use Rattle.send_window.specs.declared.window.Tick.TheVariants as tick
 use Rattle.recv_window.specs.declared.Class.{Class}
 use Rattle.recv_window.specs.declared.Class.TheVariants.{Next, Duplicate, Ahead}
-use Rattle.recv_window.specs.Window.{on_wire}
-use Rattle.control_channel.specs.Numbers.{opened_at, one_more, count_acked, acked_at, class_told, taken_by, next_to_go, let_go_at, answer_to_tick, ticked_at, next_given, next_unsent, place_of, learnt_by}
+use Rattle.control_channel.specs.Numbers.{opened_at, count_acked, class_told, next_to_go, answer_to_tick, next_unsent, place_of}
 use Rattle.tunnel_fsm.specs.declared.table.TunnelState.{TunnelState}
 use Rattle.tunnel_fsm.specs.declared.table.TunnelState.TheVariants.{Idle}
 use Rattle.tunnel_fsm.specs.declared.table.TunnelEvent.{TunnelEvent}
@@ -47,12 +44,12 @@ use Rattle.protocol_model.specs.declared.event.Event.TheVariants.{Datagram, Ring
 use Rattle.protocol_model.specs.declared.event.Event.TheVariants as event_of
 use Rattle.protocol_model.specs.declared.out.Out.{Out}
 use Rattle.protocol_model.specs.declared.out.Out.TheVariants.{Send, Gone, Drop, Cause}
-use Rattle.protocol_model.specs.declared.out.Origin.{Origin}
 use Rattle.protocol_model.specs.declared.out.Origin.TheVariants as origin
-use Rattle.protocol_model.specs.declared.moves.Place.{Place}
 use Rattle.protocol_model.specs.declared.moves.Move.{Move}
 use Rattle.protocol_model.specs.declared.moves.Move.TheVariants as move
-pub use Rattle.protocol_model.specs.Messages.{opening_of, request_of, connection, against, is_acceptable, event_by, opening_reason}
+pub use Rattle.protocol_model.specs.Channels.{place, next_place, taken_place, has_room, may_take, letter_of, counts_given, counts_taken, learns_window, counts_acked, datagram, origin_of, sends, counts_sent, counts_repeated}
+pub use Rattle.protocol_model.specs.Messages.{opening_of, request_of, connection, against, is_acceptable, event_by, opening_reason, connected_event, connected_reason}
+pub use Rattle.protocol_model.specs.Secrets.{challenge_by, response_by}
 pub use Rattle.protocol_model.specs.Moments.{is_over, patience, is_closed, kept_closed, is_being_set_up, is_at_its_end}
 pub use Rattle.protocol_model.specs.Reasons.{Reason, reason, out_of_state, out_of_order, other_version, no_recovery, no_secret, fault_error, fault_reason}
 use Rattle.protocol_model.specs.Reading.{header_why, body_of, message_in, CallFault, call_fault_in, TunnelFault, tunnel_fault_in}
@@ -83,8 +80,9 @@ pub record Env : Type 0 where
 
 -- a tunnel in a step, with what the step gave so far
 pub record Turn : Type 0 where
-  -- the moment of the step, in milliseconds
+  -- the moment of the step, in milliseconds, and its 16 random bytes
   pub moment : ℕ
+  pub block : List ℕ
   pub control : Control
   -- the letters that the step gave to the channel, in order
   pub given : List Letter
@@ -106,6 +104,7 @@ pub record Turn : Type 0 where
 abbrev pub turn_of : Control → Env → Turn
 turn_of c e = record {
   moment = e.moment;
+  block = e.block;
   control = c;
   given = [];
   acked = 0;
@@ -160,67 +159,21 @@ ends_all (s ∷ ss) t = ends_all ss (ends_call s t)
 
 -- ---- the channel
 
--- the place of a letter; no tunnel was recovered
-abbrev pub place : ℕ → Place
-place number = record { epoch = 0; number = number }
-
--- the numbers that the next letter given, and the next letter taken, have
-abbrev pub next_place : Control → Place
-next_place c = place (next_given c.channel)
-
-abbrev pub taken_place : Control → Place
-taken_place c = place c.channel.inbox.taken
-
--- at most 8,192 letters are unacknowledged or unsent, so there is room for one more
-abbrev pub has_room : Control → Bool
-has_room c = nat_lt c.channel.window.queued 8192
-
--- A tunnel takes the next message, and a call that rings, only where the letters that it holds, those that its calls owe and
--- four more are at most 8,192. So there is room for each letter that it then has to give.
-abbrev pub may_take : Control → List (ℕ × Call) → Bool
-may_take c calls = nat_le (c.channel.window.queued + owed_by calls + 4) 8192
-
-abbrev pub letter_of : ℕ → Message → Letter
-letter_of session m = record { session = session; avps = spelling (pairs_of m) }
-
-abbrev pub counts_given : Control → Control
-counts_given c = record c { channel = one_more c.channel }
-
 -- one more letter is given to the channel
 unfoldable pub gives : ℕ → Message → Turn → Turn
 gives session m t = record t { control = counts_given t.control; given = t.given ++ letter_of session m ∷ [] }
-
-abbrev pub counts_taken : Control → Control
-counts_taken c = record c { channel = taken_by c.channel }
 
 -- the next letter of the peer is taken
 unfoldable pub takes_one : Turn → Turn
 takes_one t = record t { control = counts_taken t.control; took = true }
 
--- the peer's window becomes known; one of 0 letters is none
-abbrev pub learns_window : ℕ → Control → Control
-learns_window window c = if window == 0 then c else record c { channel = learnt_by c.channel window }
-
 -- what the peer expects next is read, and it was heard: letters are acknowledged
-abbrev pub counts_acked : ℕ → ℕ → Control → Control
-counts_acked nr moment c = record c { channel = acked_at c.channel nr moment }
-
 unfoldable pub reads_nr : ℕ → Turn → Turn
 reads_nr nr t =
     with_move (move.NrRead (record { tunnel = t.control.local; nr = nr }))
     (record t { control = record (counts_acked nr t.moment t.control) { heard = t.moment }; acked = count_acked t.control.channel nr })
 
 -- ---- what is sent
-
--- a datagram of pairs with a number
-abbrev pub datagram : Control → ℕ → ℕ → List ℕ → List ℕ
-datagram c session number pairs = control_bytes c.remote session (on_wire number) (on_wire c.channel.inbox.taken) pairs
-
-abbrev pub origin_of : Control → ℕ → Bool → Origin
-origin_of c number empty = origin.Control (record { tunnel = c.local; epoch = 0; ns = number; nr = c.channel.inbox.taken; empty = empty })
-
-abbrev pub sends : Control → ℕ → ℕ → Bool → List ℕ → Out
-sends c session number empty pairs = Send c.peer (datagram c session number pairs) (origin_of c number empty)
 
 -- the letters that the tunnel had, without those that are acknowledged, and those that the step gave
 abbrev pub letters_after : Turn → List Letter → List Letter
@@ -235,9 +188,6 @@ unfoldable pub sends_letter : ℕ → Option Letter → Turn → Turn
 sends_letter number None t = t
 sends_letter number (Some l) t =
     if nat_le (length l.avps) 65523 then with_output (sends t.control l.session number false l.avps) t else t
-
-abbrev pub counts_sent : ℕ → Control → Control
-counts_sent moment c = record c { channel = let_go_at c.channel moment }
 
 -- the letter with a number goes out
 unfoldable pub sends_now : List Letter → ℕ → Turn → Turn
@@ -255,9 +205,6 @@ goes_by rest letters None t = t
 goes_by rest letters (Some number) t = rest (lets_go letters number t)
 
 -- the oldest letter that isn't acknowledged goes out again
-abbrev pub counts_repeated : ℕ → Control → Control
-counts_repeated moment c = record c { channel = ticked_at c.channel moment }
-
 unfoldable pub repeats : List Letter → ℕ → Turn → Turn
 repeats letters number t =
     sends_now letters number
@@ -290,10 +237,14 @@ settles again letters t = acknowledged_after again (outstanding t) (lets_all_go 
 -- a tunnel to a peer that is neither opened nor accepted yet; as long as it isn't known, the peer's window counts as 4
 -- (RFC 2661 section 4.4.3)
 abbrev pub fresh : ℕ → ℕ → Control
-fresh peer moment = record { local = 0; peer = peer; remote = 0; state = Idle; channel = opened_at 0 0 4; made = moment; heard = moment; closed = 0 }
+fresh peer moment = record { local = 0; peer = peer; remote = 0; state = Idle; channel = opened_at 0 0 4; made = moment; heard = moment; closed = 0; challenge = None }
 
 abbrev pub in_state : TunnelState → Control → Control
 in_state s c = record c { state = s }
+
+-- what it asks its peer to answer by the secret
+abbrev pub asking : Option (List ℕ) → Control → Control
+asking challenge c = record c { challenge = challenge }
 
 -- the state that follows on an event by the table
 abbrev pub next_of : TunnelState → TunnelEvent → TunnelState
@@ -306,9 +257,9 @@ with_local local t = record t { control = record t.control { local = local }; tu
 -- a new tunnel is opened by an SCCRQ
 unfoldable pub opened : Role → Config → ℕ → Turn → Turn
 opened role c local t =
-    gives 0 (Sccrq (opening_of role c local))
-    (with_move (move.Opened (record { tunnel = local; peer = t.control.peer; given = next_place t.control }))
-    (with_local local (record t { control = in_state (next_of t.control.state event.LocalOpen) t.control })))
+    gives 0 (Sccrq (opening_of role c (challenge_by c.secret t.block) None local))
+    (with_move (move.Opened (record { tunnel = local; peer = t.control.peer; challenge = challenge_by c.secret t.block; given = next_place t.control }))
+    (with_local local (record t { control = asking (challenge_by c.secret t.block) (in_state (next_of t.control.state event.LocalOpen) t.control) })))
 
 unfoldable pub opens_by : Role → Config → Result ℕ IdError → Turn → Turn
 opens_by role c (Err e) t = with_output (Cause cause.Ids) t
@@ -317,21 +268,21 @@ opens_by role c (Ok local) t = if has_room t.control then opened role c local t 
 unfoldable pub opens : Role → Config → Turn → Turn
 opens role c t = opens_by role c (draws t.tunnels) t
 
--- a new tunnel is made by an SCCRQ that assigns this id and tells this window, and answered by an SCCRP
-unfoldable pub accepted : Role → Config → ℕ → ℕ → ℕ → Turn → Turn
-accepted role c remote window local t =
-    gives 0 (Sccrp (opening_of role c local))
-    (with_move (move.Accepted (record { tunnel = local; peer = t.control.peer; remote = remote; window = window; taken = taken_place t.control; given = next_place t.control }))
+-- a new tunnel is made by an SCCRQ that asks this, assigns this id and tells this window, and answered by an SCCRP
+unfoldable pub accepted : Role → Config → Option (List ℕ) → ℕ → ℕ → ℕ → Turn → Turn
+accepted role c asked remote window local t =
+    gives 0 (Sccrp (opening_of role c (challenge_by c.secret t.block) (response_by 2 c.secret asked) local))
+    (with_move (move.Accepted (record { tunnel = local; peer = t.control.peer; remote = remote; window = window; challenge = challenge_by c.secret t.block; response = response_by 2 c.secret asked; taken = taken_place t.control; given = next_place t.control }))
     (takes_one
-    (with_local local (record t { control = learns_window window (record t.control { remote = remote; state = next_of t.control.state event.SccrqAcc }) }))))
+    (with_local local (record t { control = learns_window window (asking (challenge_by c.secret t.block) (record t.control { remote = remote; state = next_of t.control.state event.SccrqAcc })) }))))
 
-unfoldable pub accepts_by : Role → Config → ℕ → ℕ → Result ℕ IdError → Turn → Turn
-accepts_by role c remote window (Err e) t = drops why.Tunnel t
-accepts_by role c remote window (Ok local) t =
-    if has_room t.control then accepted role c remote window local t else drops why.Queue t
+unfoldable pub accepts_by : Role → Config → Option (List ℕ) → ℕ → ℕ → Result ℕ IdError → Turn → Turn
+accepts_by role c asked remote window (Err e) t = drops why.Tunnel t
+accepts_by role c asked remote window (Ok local) t =
+    if has_room t.control then accepted role c asked remote window local t else drops why.Queue t
 
-unfoldable pub accepts : Role → Config → ℕ → ℕ → Turn → Turn
-accepts role c remote window t = accepts_by role c remote window (draws t.tunnels) t
+unfoldable pub accepts : Role → Config → Option (List ℕ) → ℕ → ℕ → Turn → Turn
+accepts role c asked remote window t = accepts_by role c asked remote window (draws t.tunnels) t
 
 -- ---- calls that are asked for
 
@@ -397,17 +348,17 @@ rings role c calls port t =
 
 -- ---- letters about the tunnel
 
--- the peer's id and window are learned, and the tunnel is connected
-unfoldable pub connected : ℕ → ℕ → TunnelState → Turn → Turn
-connected remote window next t =
-    gives 0 Scccn
-    (with_move (move.Connected (record { tunnel = t.control.local; remote = remote; window = window; taken = taken_place t.control; given = next_place t.control }))
+-- the peer's id and window are learned, what it asks is answered, and the tunnel is connected
+unfoldable pub connected : Config → Option (List ℕ) → ℕ → ℕ → TunnelState → Turn → Turn
+connected c asked remote window next t =
+    gives 0 (Scccn (response_by 3 c.secret asked))
+    (with_move (move.Connected (record { tunnel = t.control.local; remote = remote; window = window; response = response_by 3 c.secret asked; taken = taken_place t.control; given = next_place t.control }))
     (takes_one (record t { control = learns_window window (record t.control { remote = remote; state = next }) })))
 
 -- then each call that waits for it is asked for
-unfoldable pub connects : Role → List (ℕ × Call) → ℕ → ℕ → TunnelState → Turn → Turn
-connects role calls remote window next t =
-    if has_room t.control then requests_all role (ids_of calls) calls (connected remote window next t) else drops why.Queue t
+unfoldable pub connects : Role → Config → List (ℕ × Call) → Option (List ℕ) → ℕ → ℕ → TunnelState → Turn → Turn
+connects role c calls asked remote window next t =
+    if has_room t.control then requests_all role (ids_of calls) calls (connected c asked remote window next t) else drops why.Queue t
 
 unfoldable pub confirms : TunnelState → Turn → Turn
 confirms next t =
@@ -444,6 +395,16 @@ closed_told r calls remote next t =
 unfoldable pub closes_tunnel : Reason → List (ℕ × Call) → ℕ → TunnelState → Turn → Turn
 closes_tunnel r calls remote next t = if has_room t.control then closed_told r calls remote next t else drops why.Queue t
 
+-- a letter that closes a tunnel which waits for its SCCRP is taken, and the peer told, whose id is as the letter tells it
+unfoldable pub rejected : Reason → List (ℕ × Call) → ℕ → TunnelState → Turn → Turn
+rejected r calls remote next t =
+    gives 0 (StopCcn t.control.local r.result r.error)
+    (with_move (move.Rejected (record { tunnel = t.control.local; remote = remote; result = r.result; error = r.error; taken = taken_place t.control; given = next_place t.control }))
+    (shuts calls remote next (takes_one (with_output (Cause r.cause) t))))
+
+unfoldable pub rejects : Reason → List (ℕ × Call) → ℕ → TunnelState → Turn → Turn
+rejects r calls remote next t = if has_room t.control then rejected r calls remote next t else drops why.Queue t
+
 -- the peer's StopCCN is taken
 unfoldable pub closed_by : List (ℕ × Call) → TunnelState → Turn → Turn
 closed_by calls next t =
@@ -457,22 +418,19 @@ shuts_by calls (next, a) t = t
 
 -- ---- letters by the tunnel's table
 
--- the id that the peer assigned, as it is known or as it is told
-abbrev pub known_or : ℕ → Control → ℕ
-known_or told c = if c.remote == 0 then told else c.remote
-
--- by the table's row
-unfoldable pub takes_by : Role → List (ℕ × Call) → Reason → ℕ → ℕ → TunnelState × TunnelAction → Turn → Turn
-takes_by role calls r remote window (next, action.SendScccn) t = connects role calls remote window next t
-takes_by role calls r remote window (next, action.SendStopCcn) t = closes_tunnel r calls (known_or remote t.control) next (takes_plain t)
-takes_by role calls r remote window (next, action.CleanUp) t = closed_by calls next t
-takes_by role calls r remote window (next, action.Nothing) t =
+-- by the table's row. A letter that closes a tunnel of which the peer's id is known is one that the closed tunnel takes
+unfoldable pub takes_by : Role → Config → List (ℕ × Call) → Reason → Option (List ℕ) → ℕ → ℕ → TunnelState × TunnelAction → Turn → Turn
+takes_by role c calls r asked remote window (next, action.SendScccn) t = connects role c calls asked remote window next t
+takes_by role c calls r asked remote window (next, action.SendStopCcn) t =
+    if state_number t.control.state == 1 then rejects r calls remote next t else takes_plain (closes_tunnel r calls t.control.remote next t)
+takes_by role c calls r asked remote window (next, action.CleanUp) t = closed_by calls next t
+takes_by role c calls r asked remote window (next, action.Nothing) t =
     if state_number next == state_number t.control.state then takes_plain t else confirms next t
-takes_by role calls r remote window (next, a) t = takes_plain t
+takes_by role c calls r asked remote window (next, a) t = takes_plain t
 
--- of a letter that tells this id and this window of the peer, and why the tunnel is closed where the row says so
-unfoldable pub takes : Role → List (ℕ × Call) → Reason → TunnelEvent → ℕ → ℕ → Turn → Turn
-takes role calls r e remote window t = takes_by role calls r remote window (row_of rows t.control.state e) t
+-- of a letter that asks this, and tells this id and this window of the peer, and why the tunnel is closed where the row says so
+unfoldable pub takes : Role → Config → List (ℕ × Call) → Reason → TunnelEvent → Option (List ℕ) → ℕ → ℕ → Turn → Turn
+takes role c calls r e asked remote window t = takes_by role c calls r asked remote window (row_of rows t.control.state e) t
 
 -- ---- calls that end
 
@@ -650,65 +608,69 @@ in_faulty_call role calls session f t =
 
 -- ---- control messages
 
-unfoldable pub hears : Role → List (ℕ × Call) → ℕ → Message → Turn → Turn
-hears role calls session (Sccrq o) t = takes role calls (opening_reason o) (event_by event.SccrqAcc event.SccrqNotAcc o) 0 o.window t
-hears role calls session (Sccrp o) t = takes role calls (opening_reason o) (event_by event.SccrpAcc event.SccrpNotAcc o) o.tunnel o.window t
-hears role calls session Scccn t = takes role calls out_of_order event.ScccnAcc 0 0 t
-hears role calls session (StopCcn tunnel code error) t = takes role calls out_of_order event.StopCcnCame 0 0 t
-hears role calls session Hello t = takes_plain t
-hears role calls session (Icrq remote serial calling) t = in_call role calls session (Icrq remote serial calling) t
-hears role calls session (Icrp remote) t = in_call role calls session (Icrp remote) t
-hears role calls session (Iccn speed framing sequenced) t = in_call role calls session (Iccn speed framing sequenced) t
-hears role calls session (Cdn remote code error) t = in_call role calls session (Cdn remote code error) t
-hears role calls session (Ocrq remote) t = in_call role calls session (Ocrq remote) t
-hears role calls session Ocrp t = takes_plain t
-hears role calls session Occn t = takes_plain t
-hears role calls session Wen t = takes_plain t
-hears role calls session Sli t = takes_plain t
+unfoldable pub hears : Role → Config → List (ℕ × Call) → ℕ → Message → Turn → Turn
+hears role c calls session (Sccrq o) t =
+    takes role c calls (opening_reason c.secret None o) (event_by event.SccrqAcc event.SccrqNotAcc c.secret None o) None 0 o.window t
+hears role c calls session (Sccrp o) t =
+    takes role c calls (opening_reason c.secret t.control.challenge o)
+    (event_by event.SccrpAcc event.SccrpNotAcc c.secret t.control.challenge o) o.challenge o.tunnel o.window t
+hears role c calls session (Scccn response) t =
+    takes role c calls (connected_reason c.secret t.control.challenge response) (connected_event c.secret t.control.challenge response) None 0 0 t
+hears role c calls session (StopCcn tunnel code error) t = takes role c calls out_of_order event.StopCcnCame None 0 0 t
+hears role c calls session Hello t = takes_plain t
+hears role c calls session (Icrq remote serial calling) t = in_call role calls session (Icrq remote serial calling) t
+hears role c calls session (Icrp remote) t = in_call role calls session (Icrp remote) t
+hears role c calls session (Iccn speed framing sequenced) t = in_call role calls session (Iccn speed framing sequenced) t
+hears role c calls session (Cdn remote code error) t = in_call role calls session (Cdn remote code error) t
+hears role c calls session (Ocrq remote) t = in_call role calls session (Ocrq remote) t
+hears role c calls session Ocrp t = takes_plain t
+hears role c calls session Occn t = takes_plain t
+hears role c calls session Wen t = takes_plain t
+hears role c calls session Sli t = takes_plain t
 
 -- a letter that has a fault is one about a call, or is an event of the tunnel's table; one of an unknown type that need not be
 -- understood has none
-unfoldable pub hears_faulty : Role → List (ℕ × Call) → ℕ → Option CallFault → Option TunnelFault → Why → Turn → Turn
-hears_faulty role calls session (Some f) g w t = in_faulty_call role calls session f t
-hears_faulty role calls session None (Some g) w t = takes role calls (fault_reason g.cause) g.event g.remote 0 t
-hears_faulty role calls session None None w t = ignores w t
+unfoldable pub hears_faulty : Role → Config → List (ℕ × Call) → ℕ → Option CallFault → Option TunnelFault → Why → Turn → Turn
+hears_faulty role c calls session (Some f) g w t = in_faulty_call role calls session f t
+hears_faulty role c calls session None (Some g) w t = takes role c calls (fault_reason g.cause) g.event None g.remote 0 t
+hears_faulty role c calls session None None w t = ignores w t
 
-unfoldable pub hears_said : Role → List (ℕ × Call) → ℕ → Option CallFault → Option TunnelFault → Result Message Why → Turn → Turn
-hears_said role calls session f g (Err w) t = hears_faulty role calls session f g w t
-hears_said role calls session f g (Ok m) t = hears role calls session m t
+unfoldable pub hears_said : Role → Config → List (ℕ × Call) → ℕ → Option CallFault → Option TunnelFault → Result Message Why → Turn → Turn
+hears_said role c calls session f g (Err w) t = hears_faulty role c calls session f g w t
+hears_said role c calls session f g (Ok m) t = hears role c calls session m t
 
 -- a closed tunnel takes what comes, and does nothing
-unfoldable pub hears_next : Role → List (ℕ × Call) → ℕ → List ℕ → Turn → Turn
-hears_next role calls session body t =
+unfoldable pub hears_next : Role → Config → List (ℕ × Call) → ℕ → List ℕ → Turn → Turn
+hears_next role c calls session body t =
     if is_closed t.control.state then takes_plain t
-    else hears_said role calls session (call_fault_in body) (tunnel_fault_in body) (message_in body) t
+    else hears_said role c calls session (call_fault_in body) (tunnel_fault_in body) (message_in body) t
 
 -- the next letter is taken; one that is ahead of it isn't, nor one that came before
-unfoldable pub hears_letter : Role → List (ℕ × Call) → ℕ → List ℕ → Option Class → Turn → Turn
-hears_letter role calls session body (Some Next) t =
-    if may_take t.control calls then hears_next role calls session body t else drops why.Queue t
-hears_letter role calls session body (Some (Ahead by)) t = drops why.Ahead t
-hears_letter role calls session body (Some Duplicate) t = t
-hears_letter role calls session body None t = t
+unfoldable pub hears_letter : Role → Config → List (ℕ × Call) → ℕ → List ℕ → Option Class → Turn → Turn
+hears_letter role c calls session body (Some Next) t =
+    if may_take t.control calls then hears_next role c calls session body t else drops why.Queue t
+hears_letter role c calls session body (Some (Ahead by)) t = drops why.Ahead t
+hears_letter role c calls session body (Some Duplicate) t = t
+hears_letter role c calls session body None t = t
 
 abbrev pub is_duplicate : Option Class → Bool
 is_duplicate (Some Duplicate) = true
 is_duplicate c = false
 
 -- a message of the class that its Ns has; what came before is acknowledged again
-unfoldable pub in_tunnel : Role → List Letter → List (ℕ × Call) → ℕ → List ℕ → Option Class → Turn → Turn
-in_tunnel role letters calls session body class t = settles (is_duplicate class) letters (hears_letter role calls session body class t)
+unfoldable pub in_tunnel : Role → Config → List Letter → List (ℕ × Call) → ℕ → List ℕ → Option Class → Turn → Turn
+in_tunnel role c letters calls session body class t = settles (is_duplicate class) letters (hears_letter role c calls session body class t)
 
 -- a tunnel that is new is made by an SCCRQ
 unfoldable pub first_said : Role → Config → Result Message Why → Turn → Turn
-first_said role c (Ok (Sccrq o)) t = accepts role c o.tunnel o.window t
+first_said role c (Ok (Sccrq o)) t = accepts role c o.challenge o.tunnel o.window t
 first_said role c r t = drops why.Tunnel t
 
 -- a control message that is for the tunnel: Nr is read first; an acknowledgement alone has no body
 unfoldable pub hears_control : Role → Config → List Letter → List (ℕ × Call) → Header → List ℕ → Turn → Turn
 hears_control role c letters calls h body t =
     if state_number t.control.state == 0 then settles false letters (first_said role c (message_in body) t)
-    else in_tunnel role letters calls h.session body (class_told t.control.channel (unwrap_or h.ns 0) (length body == 0)) (reads_nr (unwrap_or h.nr 0) t)
+    else in_tunnel role c letters calls h.session body (class_told t.control.channel (unwrap_or h.ns 0) (length body == 0)) (reads_nr (unwrap_or h.nr 0) t)
 
 -- ---- frames that are given
 

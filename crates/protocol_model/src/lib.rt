@@ -18,7 +18,7 @@ pub use event::{Addressee, Event};
 pub use moves::{
     Accepted, Added, Closed, ClosedBy, Confirmed, Connected, Declined, EndHeard, EndSilent,
     EndTold, FirstUp, FrameSent, FrameUp, Greeted, LetGo, Move, NrRead, Opened, Place, Refused,
-    Repeated, Replied, Requested, SecondUp, TookPlain,
+    Rejected, Repeated, Replied, Requested, SecondUp, TookPlain,
 };
 pub use names::{address_of, calling_number, host_name, node_of, twelve_digits};
 pub use out::{ControlOrigin, Origin, Out};

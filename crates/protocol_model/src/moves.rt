@@ -10,31 +10,37 @@ pub struct Place {
     pub number: u64,
 }
 
-/// A tunnel was opened to a peer, by an SCCRQ.
+/// A tunnel was opened to a peer, by an SCCRQ with this challenge.
 #[derive(Clone, Copy, Debug, PartialEq, Eq)]
 pub struct Opened {
     pub tunnel: u16,
     pub peer: u32,
+    pub challenge: Option<[u8; 16]>,
     pub given: Place,
 }
 
-/// A tunnel was made by the SCCRQ of a peer that assigned an id and told its receive window, and answered by an SCCRP.
+/// A tunnel was made by the SCCRQ of a peer that assigned an id and told its receive window, and answered by an SCCRP with
+/// this challenge and this response.
 #[derive(Clone, Copy, Debug, PartialEq, Eq)]
 pub struct Accepted {
     pub tunnel: u16,
     pub peer: u32,
     pub remote: u16,
     pub window: u16,
+    pub challenge: Option<[u8; 16]>,
+    pub response: Option<[u8; 16]>,
     pub taken: Place,
     pub given: Place,
 }
 
-/// A tunnel learned by an SCCRP which id its peer assigned and which receive window it has, and was connected by an SCCCN.
+/// A tunnel learned by an SCCRP which id its peer assigned and which receive window it has, and was connected by an SCCCN
+/// with this response.
 #[derive(Clone, Copy, Debug, PartialEq, Eq)]
 pub struct Connected {
     pub tunnel: u16,
     pub remote: u16,
     pub window: u16,
+    pub response: Option<[u8; 16]>,
     pub taken: Place,
     pub given: Place,
 }
@@ -153,6 +159,18 @@ pub struct Closed {
     pub given: Place,
 }
 
+/// A tunnel that waited for its SCCRP took a letter that closes it with its calls, and the peer was told by a StopCCN with this
+/// result code and error code. `remote` is the peer's tunnel id, as the letter tells it; 0 where it doesn't.
+#[derive(Clone, Copy, Debug, PartialEq, Eq)]
+pub struct Rejected {
+    pub tunnel: u16,
+    pub remote: u16,
+    pub result: u16,
+    pub error: Option<u16>,
+    pub taken: Place,
+    pub given: Place,
+}
+
 /// A tunnel took a StopCCN of its peer, and was closed with its calls.
 #[derive(Clone, Copy, Debug, PartialEq, Eq)]
 pub struct ClosedBy {
@@ -232,6 +250,7 @@ pub enum Move {
     EndSilent(EndSilent),
     Declined(Declined),
     Closed(Closed),
+    Rejected(Rejected),
     ClosedBy(ClosedBy),
     /// A tunnel was removed with its calls, and its peer wasn't told.
     Cleared { tunnel: u16 },

@@ -14,8 +14,9 @@ pub enum Role {
     Lns,
 }
 
-/// What an end is told when it is made. Where `hide` is set there is a secret.
-#[derive(Debug, Drop)]
+/// What an end is told when it is made. Where `hide` is set there is a secret. It has no text for debugging, which would
+/// show the secret.
+#[derive(Drop)]
 pub struct Config {
     /// The node's number, which its host name ends with.
     pub number: u8,
@@ -46,6 +47,9 @@ pub struct Control {
     pub heard: u64,
     /// The moment at which it was closed, 0 as long as it isn't.
     pub closed: u64,
+    /// What this end asked its peer to answer by the secret, when it opened or accepted the tunnel; None where it has no
+    /// secret (RFC 2661 section 5.1.1).
+    pub challenge: Option<[u8; 16]>,
 }
 
 /// A row of a call's table that a call went through.

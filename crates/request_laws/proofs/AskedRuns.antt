@@ -10,6 +10,7 @@ use Rattle.protocol_model.specs.declared.event.Event.{Event}
 use Rattle.protocol_model.specs.declared.moves.Move.{Move}
 use Rattle.protocol_model.specs.declared.tunnel.Call.{Call}
 use Rattle.protocol_model.specs.declared.tunnel.Role.{Role}
+use Rattle.protocol_model.specs.Secrets.{uncovered_event}
 use Rattle.protocol_model.specs.End.{End, Stepped, step}
 use Rattle.protocol_model.specs.World.{World, Node, Sender, Deed, Lined, quiet_line, with_node, block_of}
 use Rattle.protocol_model.specs.Run.{Run, after_line, run}
@@ -79,9 +80,10 @@ nothing_asks : (known : Known) → ((i : ℕ) → (known i).given ≡ []) → (i
 nothing_asks known none i k s a = no_asking k s (subst (λ ls. Asking ls k s) (none i) a)
 
 -- a node that is new
-fresh_asks : (known : Known) → ((i : ℕ) → (known i).given ≡ []) → (n : ℕ) (r : Role) (lns : ℕ) → AskOk known (fresh_node n r lns).end
-fresh_asks known none n r lns =
-    let no_call = λ (i s : ℕ) (c : Call) (h : IsCall (fresh_node n r lns).end i s c). none-some h.tunnel (sym (at-none i) ∙ h.there) in
+fresh_asks : (known : Known) → ((i : ℕ) → (known i).given ≡ []) → (n : ℕ) (r : Role) (lns : ℕ) (secret : Option (List ℕ))
+    → AskOk known (fresh_node n r lns secret).end
+fresh_asks known none n r lns secret =
+    let no_call = λ (i s : ℕ) (c : Call) (h : IsCall (fresh_node n r lns secret).end i s c). none-some h.tunnel (sym (at-none i) ∙ h.there) in
     record {
       order = record {
         tunnels = ascends-empty [] refl;
@@ -115,23 +117,27 @@ module _ (r : Run) (ok : RunAsks r) where
       subst (λ (w : World). NodeAsks (r.done ++ x.done) n (at w.nodes n)) (sym world)
       (nodes_ask r.done (r.done ++ x.done) n (at r.world.nodes n) (nothing_done r.done x.done done n) (ok n))
 
-  declared_asks : (x : Lined) (n : ℕ) (role : Role) (lns : ℕ) → at r.world.nodes n ≡ None
-      → x ≡ quiet_line (with_node r.world n (fresh_node n role lns)) → RunAsks (after_line r x)
-  declared_asks x n role lns none e q =
+  declared_asks : (x : Lined) (n : ℕ) (role : Role) (lns : ℕ) (secret : Option (List ℕ)) → at r.world.nodes n ≡ None
+      → x ≡ quiet_line (with_node r.world n (fresh_node n role lns secret)) → RunAsks (after_line r x)
+  declared_asks x n role lns secret none e q =
       let done = ap (λ (y : Lined). y.done) e in
       let world = ap (λ (y : Lined). y.world) e in
-      let new = fresh_node n role lns in
+      let new = fresh_node n role lns secret in
       let unknown : (i : ℕ) → (account_of r.done n i).given ≡ [] = subst (λ o. NodeAsks r.done n o) none (ok n) in
       subst (λ (w : World). NodeAsks (r.done ++ x.done) q (at w.nodes q)) (sym world)
       (nodes_ask r.done (r.done ++ x.done) q (at (put r.world.nodes n new) q) (nothing_done r.done x.done done q)
       (⊎_elim
       (λ (a : q ≡ n). subst (λ k. NodeAsks r.done k (at (put r.world.nodes n new) k)) (sym a)
-      (rw (at_new r.world.nodes n new) (fresh_asks (account_of r.done n) unknown n role lns)))
+      (rw (at_new r.world.nodes n new) (fresh_asks (account_of r.done n) unknown n role lns secret)))
       (λ other. rw (at_other r.world.nodes n new q other) (ok q))
       (same_or_not q n)))
 
   module _ (chains : StepsAreChains) (kept : (n : ℕ) (node : Node) → at r.world.nodes n ≡ Some node → AreKept node.end)
       (number n : ℕ) (old : Node) (clock : ℕ) (ev : Event) (sender : Option Sender) (there : at r.world.nodes n ≡ Some old) where
+    -- what came, as it is read
+    abbrev came : Event
+    came = uncovered_event old.end.config.secret ev
+
     abbrev s : Stepped
     s = step old.end clock (block_of n number) ev
 
@@ -150,8 +156,8 @@ module _ (r : Run) (ok : RunAsks r) where
     asks_then : AskOk (account_of (r.done ++ x.done) n) s.end
     asks_then =
         let before : AskOk (account_of r.done n) old.end = subst (λ o. NodeAsks r.done n o) there (ok n) in
-        let chain = (chains old.end (kept n old there) clock (block_of n number) ev).chain in
-        let after = asks_on v number n old.end.role sender clock ev (account_of r.done n) old.end s.end before s.moves chain in
+        let chain = (chains old.end (kept n old there) clock (block_of n number) came).chain in
+        let after = asks_on v number n old.end.role sender clock came (account_of r.done n) old.end s.end before s.moves chain in
         rw done_is (rw (known_more r.done (deeds v number n old.end.role sender s.moves) n) after)
 
     step_asks : RunAsks (after_line r x)
@@ -175,7 +181,7 @@ module _ (chains : StepsAreChains) (facts : FactsOfRuns) where
   line_asks : (number : ℕ) (before : List Line) (r : Run) → Reached number before r → RunAsks r → (x : Lined) → LineDoes r.world number x
       → RunAsks (after_line r x)
   line_asks number before r h ok x (Nothing e) = quiet_asks r ok x e
-  line_asks number before r h ok x (Declares n role lns none e) = declared_asks r ok x n role lns none e
+  line_asks number before r h ok x (Declares n role lns secret none e) = declared_asks r ok x n role lns secret none e
   line_asks number before r h ok x (Steps n old clock ev sender there from e) =
       subst (λ y. RunAsks (after_line r y)) (sym e) (step_asks r ok chains (kept_now number before r h) number n old clock ev sender there)
 

@@ -266,6 +266,7 @@ module _ (v : World) (number n : ℕ) (r : Role) (sender : Option Sender) (momen
   does_born u known x y ok (move.EndSilent m) h = still_born u known x y ok (move.EndSilent m) h (ap (λ (e : End). e.session_ids) h.after)
   does_born u known x y ok (move.Declined m) h = still_born u known x y ok (move.Declined m) h (ap (λ (e : End). e.session_ids) h.after)
   does_born u known x y ok (move.Closed m) h = still_born u known x y ok (move.Closed m) h (ap (λ (e : End). e.session_ids) h.after)
+  does_born u known x y ok (move.Rejected m) h = still_born u known x y ok (move.Rejected m) h (ap (λ (e : End). e.session_ids) h.after)
   does_born u known x y ok (move.ClosedBy m) h = still_born u known x y ok (move.ClosedBy m) h (ap (λ (e : End). e.session_ids) h.after)
   does_born u known x y ok (move.Cleared i) h = still_born u known x y ok (move.Cleared i) h (ap (λ (e : End). e.session_ids) h.after)
   does_born u known x y ok (move.Greeted m) h = still_born u known x y ok (move.Greeted m) h (ap (λ (e : End). e.session_ids) h.after)

@@ -15,6 +15,7 @@ use Rattle.protocol_model.specs.declared.moves.Move.TheVariants as move
 use Rattle.protocol_model.specs.declared.tunnel.Role.{Role}
 use Rattle.protocol_model.specs.declared.tunnel.Role.TheVariants.{Lns}
 use Rattle.protocol_model.specs.Names.{address_of, node_of}
+use Rattle.protocol_model.specs.Secrets.{uncovered_event}
 use Rattle.protocol_model.specs.End.{End, Stepped, step}
 use Rattle.protocol_model.specs.World.{World, Node, Sender, Deed, Lined, quiet_line, with_node, block_of, sender_of}
 use Rattle.protocol_model.specs.Run.{Run, after_line, run}
@@ -30,7 +31,7 @@ use Rattle.request_laws.proofs.Lists.{all_at}
 use Rattle.request_laws.proofs.Asked.{Known}
 use Rattle.request_laws.proofs.Deeds.{deeds}
 use Rattle.request_laws.proofs.Chains.{known_then}
-use Rattle.request_laws.proofs.Lines.{IsFrom, OfNobody, OfPacket, LineDoes, Nothing, Declares, Steps, fresh_node, step_of, line_does}
+use Rattle.request_laws.proofs.Lines.{IsFrom, OfNobody, OfPacket, uncovered_from, LineDoes, Nothing, Declares, Steps, fresh_node, step_of, line_does}
 use Rattle.request_laws.proofs.Worlds.{step_nodes, step_done, step_follows, before_moves, after_moves}
 use Rattle.request_laws.proofs.Runs.{Reached, reached_is, holds_in_runs}
 use Rattle.request_laws.proofs.AskedRuns.{StillKnown, known_more, known_elsewhere, kept_order, nothing_done, asked_in_runs, drawn_at_lacs_in_runs}
@@ -52,8 +53,8 @@ node_tells_later ns ms births known later same node h lns =
     tells_later ns ms births known later (λ i k t g. rw (same i).taken g) node.end.session_ids.next node.births (h lns)
 
 -- a node that is new has drawn no session id
-fresh_tells : (ns : Nodes) (known : Known) (n : ℕ) (r : Role) (lns : ℕ) → NodeTells ns known (fresh_node n r lns)
-fresh_tells ns known n r lns is_lns = record {
+fresh_tells : (ns : Nodes) (known : Known) (n : ℕ) (r : Role) (lns : ℕ) (secret : Option (List ℕ)) → NodeTells ns known (fresh_node n r lns secret)
+fresh_tells ns known n r lns secret is_lns = record {
   drawn = λ s some lt. absurd (omega (arith, some, lt));
   told = λ s b f some. absurd (none-some b (sym (at-none s) ∙ f));
 }
@@ -70,8 +71,8 @@ sent_from from (origin.Data session) s h = absurd (cc)
 comes_from : (w : World) (sender : Option Sender) (ev : Event) → ((k : ℕ) (p : Packet) → slice_get w.packets k ≡ Some p → p.from < 256) → IsFrom w sender ev
     → ComesFrom sender ev
 comes_from w sender ev few (OfNobody none) peer bytes e from is = absurd (none-some from (sym none ∙ is))
-comes_from w sender ev few (OfPacket k p there sent came) peer bytes e from is =
-    let same : Datagram (address_of p.from) p.bytes ≡ Datagram peer bytes = sym came ∙ e in
+comes_from w sender ev few (OfPacket k p there sent had came) peer bytes e from is =
+    let same : Datagram (address_of p.from) had ≡ Datagram peer bytes = sym came ∙ e in
     let address : address_of p.from ≡ peer = cc in
     sent_from p.from p.origin from (sym sent ∙ is) ∙ (sym (node_again p.from (few k p there)) ∙ ap node_of address)
 
@@ -91,23 +92,27 @@ module _ (r : Run) (ok : RunTells r) where
   fresh_stay n new none =
       put_stays r.world.nodes n new (λ q c h. absurd (none-some c (subst (λ (o : Option Node). birth_in_node o q ≡ Some c) none h)))
 
-  declared_tells : (x : Lined) (n : ℕ) (role : Role) (lns : ℕ) → at r.world.nodes n ≡ None
-      → x ≡ quiet_line (with_node r.world n (fresh_node n role lns)) → RunTells (after_line r x)
-  declared_tells x n role lns none e q node f =
+  declared_tells : (x : Lined) (n : ℕ) (role : Role) (lns : ℕ) (secret : Option (List ℕ)) → at r.world.nodes n ≡ None
+      → x ≡ quiet_line (with_node r.world n (fresh_node n role lns secret)) → RunTells (after_line r x)
+  declared_tells x n role lns secret none e q node f =
       let done = nothing_done r.done x.done (ap (λ (y : Lined). y.done) e) q in
-      let new = fresh_node n role lns in
+      let new = fresh_node n role lns secret in
       let ns = put r.world.nodes n new in
       let nodes : x.world.nodes ≡ ns = ap (λ (y : Lined). y.world.nodes) e in
       let later = account_of (r.done ++ x.done) q in
       subst (λ ms. NodeTells ms later node) (sym nodes)
       (⊎_elim
-      (λ (a : (q ≡ n) × (new ≡ node)). subst (λ y. NodeTells ns later y) a.1 (fresh_tells ns later n role lns))
+      (λ (a : (q ≡ n) × (new ≡ node)). subst (λ y. NodeTells ns later y) a.1 (fresh_tells ns later n role lns secret))
       (λ a. node_tells_later r.world.nodes ns (fresh_stay n new none) (account_of r.done q) later done node (ok q node a.1))
       (found_put r.world.nodes n new q node (rw (← nodes) f)))
 
   module _ (chains : StepsAreChains) (gs : List Passage) (facts : Holds r.world gs)
       (number n : ℕ) (old : Node) (clock : ℕ) (ev : Event) (sender : Option Sender) (there : at r.world.nodes n ≡ Some old)
       (from : IsFrom r.world sender ev) where
+    -- what came, as it is read
+    abbrev came : Event
+    came = uncovered_event old.end.config.secret ev
+
     abbrev s : Stepped
     s = step old.end clock (block_of n number) ev
 
@@ -146,10 +151,11 @@ module _ (r : Run) (ok : RunTells r) where
           (ok n old there lns);
     }
 
-    bears : Bears n base.nodes v.nodes (known_then v number n old.end.role sender clock ev s.moves (account_of r.done n)) s.end
+    bears : Bears n base.nodes v.nodes (known_then v number n old.end.role sender clock came s.moves (account_of r.done n)) s.end
     bears =
-        let chain = (chains old.end node_ok.kept clock (block_of n number) ev).chain in
-        born_on v number n old.end.role sender clock ev (comes_from r.world sender ev few from) base (account_of r.done n) old.end s.end here s.moves chain
+        let chain = (chains old.end node_ok.kept clock (block_of n number) came).chain in
+        born_on v number n old.end.role sender clock came
+        (comes_from r.world sender came few (uncovered_from r.world sender ev old.end.config.secret from)) base (account_of r.done n) old.end s.end here s.moves chain
 
     done_is : x.done ≡ deeds v number n old.end.role sender s.moves
     done_is = step_done r.world number n timed sender s
@@ -157,7 +163,7 @@ module _ (r : Run) (ok : RunTells r) where
     stay : BirthsStay r.world.nodes v.nodes
     stay m q c h = bears.stay m q c (begun m q c h)
 
-    known_is : account_of (r.done ++ x.done) n ≡ known_then v number n old.end.role sender clock ev s.moves (account_of r.done n)
+    known_is : account_of (r.done ++ x.done) n ≡ known_then v number n old.end.role sender clock came s.moves (account_of r.done n)
     known_is = ap (λ (ds : List Deed). account_of (r.done ++ ds) n) done_is ∙ known_more r.done (deeds v number n old.end.role sender s.moves) n
 
     nodes_are : x.world.nodes ≡ v.nodes
@@ -191,7 +197,7 @@ module _ (chains : StepsAreChains) (facts : FactsOfRuns) where
   line_tells : (number : ℕ) (before : List Line) (r : Run) → Reached number before r → RunTells r → (x : Lined) → LineDoes r.world number x
       → RunTells (after_line r x)
   line_tells number before r h ok x (Nothing e) = quiet_tells r ok x e
-  line_tells number before r h ok x (Declares n role lns none e) = declared_tells r ok x n role lns none e
+  line_tells number before r h ok x (Declares n role lns secret none e) = declared_tells r ok x n role lns secret none e
   line_tells number before r h ok x (Steps n old clock ev sender there from e) =
       let gs = (past_of before).sent in
       let now : Holds r.world gs = subst (λ (q : Run). Holds q.world gs) (reached_is number before r h) (facts before h.fit) in

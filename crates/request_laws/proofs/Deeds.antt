@@ -49,6 +49,7 @@ IsRequest (move.EndHeard m) s = ⊥
 IsRequest (move.EndSilent m) s = ⊥
 IsRequest (move.Declined m) s = ⊥
 IsRequest (move.Closed m) s = ⊥
+IsRequest (move.Rejected m) s = ⊥
 IsRequest (move.ClosedBy m) s = ⊥
 IsRequest (move.Cleared i) s = ⊥
 IsRequest (move.Greeted m) s = ⊥
@@ -100,6 +101,7 @@ module _ (v : World) (number n : ℕ) (r : Role) (sender : Option Sender) where
   entered_asks (move.EndSilent m) a k s h = inl h
   entered_asks (move.Declined m) a k s h = inl h
   entered_asks (move.Closed m) a k s h = plain (move.Closed m) a _ k s (λ serial calling e. absurd (cc)) h
+  entered_asks (move.Rejected m) a k s h = plain (move.Rejected m) a _ k s (λ serial calling e. absurd (cc)) h
   entered_asks (move.ClosedBy m) a k s h = inl h
   entered_asks (move.Cleared i) a k s h = inl h
   entered_asks (move.Greeted m) a k s h = plain (move.Greeted m) a _ k s (λ serial calling e. absurd (cc)) h
@@ -132,6 +134,7 @@ module _ (v : World) (number n : ℕ) (r : Role) (sender : Option Sender) where
   entered_taken (move.EndSilent m) a k u h = h
   entered_taken (move.Declined m) a k u h = h
   entered_taken (move.Closed m) a k u h = h
+  entered_taken (move.Rejected m) a k u h = takes_more a _ k u h
   entered_taken (move.ClosedBy m) a k u h = takes_more a _ k u h
   entered_taken (move.Cleared i) a k u h = h
   entered_taken (move.Greeted m) a k u h = h

@@ -1,5 +1,5 @@
 -- What a line does: nothing, or a node is declared, or a node makes a step.
-use Rattle.std.proofs.Common.{◌≡◌, ℕ, ◌+◌, ◌-◌, ◌^◌, false, [], refl, sym, ap, ◌∙◌, subst, Option, Some, None, Result, Ok, Err}
+use Rattle.std.proofs.Common.{◌≡◌, ℕ, ◌+◌, ◌-◌, ◌^◌, false, List, [], refl, sym, ap, ◌∙◌, subst, Option, Some, None, Result, Ok, Err}
 use Rattle.std.proofs.lemmas.Bool.{true≢false}
 use Rattle.std.specs.Prelude.{is_some, min, slice_get}
 use Rattle.id_table.specs.Ids.{at}
@@ -15,6 +15,7 @@ use Rattle.protocol_model.specs.declared.refusal.Refusal.TheVariants.{Unfit}
 use Rattle.protocol_model.specs.declared.tunnel.Role.{Role}
 use Rattle.protocol_model.specs.declared.tunnel.Role.TheVariants as role
 use Rattle.protocol_model.specs.Names.{address_of}
+use Rattle.protocol_model.specs.Secrets.{uncovered_datagram, uncovered_event}
 use Rattle.protocol_model.specs.End.{new_end, step}
 use Rattle.step_laws.specs.Lines.{tested_not, is_lac_at, is_lns_at, is_declared, has_call, has_tunnel}
 use Rattle.protocol_model.specs.World.{World, Node, Sender, Lined, quiet_line, with_node, after_step, declared, lac_at, lns_at, with_call, with_tunnel, later, config_of, added, block_of, stepped, addressee_of, arrival, refused_by, sender_of, arrives, delivers_it, delivers, line}
@@ -24,11 +25,18 @@ use Rattle.protocol_model.specs.World.{World, Node, Sender, Lined, quiet_line, w
 -- what comes in a step was sent, or nothing comes of a tunnel
 pub data IsFrom (w : World) (sender : Option Sender) (ev : Event) : Type 0 where
   OfNobody : sender ≡ None → IsFrom w sender ev
-  OfPacket : (k : ℕ) (p : Packet) → slice_get w.packets k ≡ Some p → sender ≡ sender_of p.from p.origin → ev ≡ event.Datagram (address_of p.from) p.bytes
-      → IsFrom w sender ev
+  OfPacket : (k : ℕ) (p : Packet) → slice_get w.packets k ≡ Some p → sender ≡ sender_of p.from p.origin → (bytes : List ℕ)
+      → ev ≡ event.Datagram (address_of p.from) bytes → IsFrom w sender ev
 
-abbrev pub fresh_node : ℕ → Role → ℕ → Node
-fresh_node n r lns = record { end = new_end r (config_of n lns); clock = 0; births = [] }
+-- what is hidden in it says nothing of who sent it
+pub uncovered_from : (w : World) (sender : Option Sender) (ev : Event) (secret : Option (List ℕ)) → IsFrom w sender ev
+    → IsFrom w sender (uncovered_event secret ev)
+uncovered_from w sender ev secret (OfNobody none) = OfNobody none
+uncovered_from w sender ev secret (OfPacket k p there sent bytes is) =
+    OfPacket k p there sent (uncovered_datagram secret bytes) (ap (uncovered_event secret) is)
+
+abbrev pub fresh_node : ℕ → Role → ℕ → Option (List ℕ) → Node
+fresh_node n r lns secret = record { end = new_end r (config_of n lns secret); clock = 0; births = [] }
 
 -- a step of a node, at the clock's moment
 abbrev pub step_of : World → ℕ → ℕ → Node → Event → Option Sender → Lined
@@ -36,7 +44,8 @@ step_of w number n node ev sender = after_step w number n node sender (step node
 
 pub data LineDoes (w : World) (number : ℕ) (x : Lined) : Type 0 where
   Nothing : x ≡ quiet_line w → LineDoes w number x
-  Declares : (n : ℕ) (r : Role) (lns : ℕ) → at w.nodes n ≡ None → x ≡ quiet_line (with_node w n (fresh_node n r lns)) → LineDoes w number x
+  Declares : (n : ℕ) (r : Role) (lns : ℕ) (secret : Option (List ℕ)) → at w.nodes n ≡ None
+      → x ≡ quiet_line (with_node w n (fresh_node n r lns secret)) → LineDoes w number x
   Steps : (n : ℕ) (old : Node) (clock : ℕ) (ev : Event) (sender : Option Sender) → at w.nodes n ≡ Some old → IsFrom w sender ev
       → x ≡ step_of w number n (record old { clock = clock }) ev sender → LineDoes w number x
 
@@ -66,11 +75,11 @@ is_later w n milliseconds (Some x) node is h =
 -- ---- lines
 
 module _ (w : World) (number : ℕ) (x : Lined) where
-  added_does : (n : ℕ) (r : Role) (lns : ℕ) → added w n r lns ≡ Ok x → LineDoes w number x
+  added_does : (n : ℕ) (r : Role) (lns : ℕ) (secret : Option (List ℕ)) → added w n r lns secret ≡ Ok x → LineDoes w number x
   unfolding added
-  added_does n r lns h =
-      let t = tested_not (is_some (at w.nodes n)) (quiet_line (with_node w n (fresh_node n r lns))) (Unfit why.Twice) x h in
-      Declares n r lns (none_there (at w.nodes n) t.0) (sym t.1)
+  added_does n r lns secret h =
+      let t = tested_not (is_some (at w.nodes n)) (quiet_line (with_node w n (fresh_node n r lns secret))) (Unfit why.Twice) x h in
+      Declares n r lns secret (none_there (at w.nodes n) t.0) (sym t.1)
 
   stepped_does : (n : ℕ) (ev : Event) (sender : Option Sender) (o : Result Node Why) → ((node : Node) → o ≡ Ok node → IsAt w n node)
       → IsFrom w sender ev → stepped w number n ev sender o ≡ Ok x → LineDoes w number x
@@ -88,7 +97,7 @@ module _ (w : World) (number : ℕ) (x : Lined) where
   arrives_does k p sent node there None h =
       stepped_does p.to (event.Datagram (address_of p.from) p.bytes) (sender_of p.from p.origin) (Ok node)
       (λ q e. (let same : node ≡ q = cc in rw (← same) (is_there w p.to node there)))
-      (OfPacket k p sent refl refl) h
+      (OfPacket k p sent refl p.bytes refl) h
 
   delivers_does : (k : ℕ) (o : Option Packet) → slice_get w.packets k ≡ o → delivers w number o ≡ Ok x → LineDoes w number x
   unfolding delivers delivers_it arrival addressee_of
@@ -102,8 +111,8 @@ module _ (w : World) (number : ℕ) (x : Lined) where
   pub line_does : (l : Line) → line w number l ≡ Ok x → LineDoes w number x
   unfolding line
   line_does (Remark text) h = let e : quiet_line w ≡ x = cc in Nothing (sym e)
-  line_does (Lac n m) h = added_does n role.Lac (address_of m) h
-  line_does (Lns n) h = added_does n role.Lns 0 h
+  line_does (Lac n m secret) h = added_does n role.Lac (address_of m) secret h
+  line_does (Lns n secret) h = added_does n role.Lns 0 secret h
   line_does (OpenUp n) h =
       stepped_does n event.OpenTunnel None (lac_at (at w.nodes n)) (λ node e. is_there w n node ((is_lac_at (at w.nodes n) node e).0)) (OfNobody refl) h
   line_does (Close n i) h =

@@ -20,6 +20,7 @@ use Rattle.protocol_model.specs.declared.moves.EndHeard.{EndHeard}
 use Rattle.protocol_model.specs.declared.moves.EndSilent.{EndSilent}
 use Rattle.protocol_model.specs.declared.moves.Closed.{Closed}
 use Rattle.protocol_model.specs.declared.moves.ClosedBy.{ClosedBy}
+use Rattle.protocol_model.specs.declared.moves.Rejected.{Rejected}
 use Rattle.protocol_model.specs.declared.moves.Move.{Move}
 use Rattle.protocol_model.specs.declared.moves.Move.TheVariants as move
 use Rattle.protocol_model.specs.declared.tunnel.Call.{Call}
@@ -208,6 +209,9 @@ module _ (x y : End) (o : Ordered x) where
   closed_calls : (moment : ℕ) (ev : Event) (m : Closed) → Does x moment ev (move.Closed m) y → CallsGo x y m.tunnel
   closed_calls moment ev m h = rw h.after (puts_empty x _ m.tunnel _ (record { role = refl; tunnels = refl; rises = omega arith }) o refl)
 
+  rejected_calls : (moment : ℕ) (ev : Event) (m : Rejected) → Does x moment ev (move.Rejected m) y → CallsGo x y m.tunnel
+  rejected_calls moment ev m h = rw h.after (puts_empty x _ m.tunnel _ (record { role = refl; tunnels = refl; rises = omega arith }) o refl)
+
   closed_by_calls : (moment : ℕ) (ev : Event) (m : ClosedBy) → Does x moment ev (move.ClosedBy m) y → CallsGo x y m.tunnel
   closed_by_calls moment ev m h = rw h.after (puts_empty x _ m.tunnel _ (record { role = refl; tunnels = refl; rises = omega arith }) o refl)
 
@@ -241,6 +245,7 @@ module _ (x y : End) (o : Ordered x) where
   does_calls moment ev (move.EndSilent m) h = silent_calls moment ev m h
   does_calls moment ev (move.Declined m) h = same 0 h.after
   does_calls moment ev (move.Closed m) h = closed_calls moment ev m h
+  does_calls moment ev (move.Rejected m) h = rejected_calls moment ev m h
   does_calls moment ev (move.ClosedBy m) h = closed_by_calls moment ev m h
   does_calls moment ev (move.Cleared i) h = cleared_calls moment ev i h
   does_calls moment ev (move.Greeted m) h = stays m.tunnel h.tunnel _ h.there h.after refl

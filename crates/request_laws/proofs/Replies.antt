@@ -1,5 +1,5 @@
 -- A tunnel that made a call for a request gave its reply, and so it gave more than an SCCRP and a StopCCN.
-use Rattle.std.proofs.Common.{◌≡◌, ◌⊎◌, ⊎_elim, ℕ, zero, suc, Bool, true, false, cond, List, [], ◌∷◌, ◌++◌, length, slice_get, refl, sym, ap, ◌∙◌, subst, Some, arith}
+use Rattle.std.proofs.Common.{◌≡◌, ◌⊎◌, ⊎_elim, ℕ, zero, suc, Bool, true, false, cond, List, [], ◌∷◌, ◌++◌, length, slice_get, refl, sym, ap, ◌∙◌, subst, Some, None, arith}
 use Rattle.std.specs.Prelude.{◌==◌, ◌&&◌, drop}
 use Rattle.std.specs.List.{AllByRecursion}
 use Rattle.control_message.specs.declared.message.Message.TheVariants.{Sccrp, Icrp}
@@ -40,7 +40,7 @@ more_taken ts ls t new h k u m there is = ⊎_elim
 reply_given : (d : Deed) (ls : List Letter) (m : Replied) → d.move ≡ move.Replied m → HasReply (ls ++ gives d) m.session
 reply_given d ls m is =
     let l : Letter = record { tunnel = m.tunnel; place = m.given; session = m.remote; message = Icrp m.session } in
-    let one : gives d ≡ l ∷ [] = ap (λ q. letters_of d.role (config_of d.node 0) q) is in
+    let one : gives d ≡ l ∷ [] = ap (λ q. letters_of d.role (config_of d.node 0 None) q) is in
     rw one (record { number = length ls; letter = l; there = got_last ls l; says = refl })
 
 -- what a deed leaves of a tunnel
@@ -75,6 +75,7 @@ entered_replied d a (move.EndHeard m) is h = takes_one d a _ refl (λ k e. absur
 entered_replied d a (move.EndSilent m) is h = h
 entered_replied d a (move.Declined m) is h = h
 entered_replied d a (move.Closed m) is h = gives_one d a h
+entered_replied d a (move.Rejected m) is h = does_both d a _ refl h
 entered_replied d a (move.ClosedBy m) is h = takes_one d a _ refl (λ k e. absurd (cc)) h
 entered_replied d a (move.Cleared i) is h = h
 entered_replied d a (move.Greeted m) is h = gives_one d a h

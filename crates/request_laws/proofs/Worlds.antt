@@ -70,6 +70,7 @@ moved_follows n v node is (move.EndHeard m) = same_follows n v node is
 moved_follows n v node is (move.EndSilent m) = same_follows n v node is
 moved_follows n v node is (move.Declined m) = same_follows n v node is
 moved_follows n v node is (move.Closed m) = same_follows n v node is
+moved_follows n v node is (move.Rejected m) = same_follows n v node is
 moved_follows n v node is (move.ClosedBy m) = same_follows n v node is
 moved_follows n v node is (move.Cleared i) = same_follows n v node is
 moved_follows n v node is (move.Greeted m) = same_follows n v node is

@@ -16,7 +16,7 @@ use Rattle.run_examples.specs.Entries.{entries_since, message, acknowledgement}
 -- tunnel 2 the LNS's tunnel 1.
 abbrev pub connected : List Line
 connected =
-    Lns 4 ∷ Lac 9 4 ∷ Ring 9 70
+    Lns 4 None ∷ Lac 9 4 None ∷ Ring 9 70
     ∷ OpenUp 9 ∷ Deliver 2 ∷ Deliver 3 ∷ Deliver 4 ∷ Deliver 5
     ∷ Ring 9 71 ∷ Deliver 6 ∷ Deliver 7 ∷ Deliver 8
     ∷ []

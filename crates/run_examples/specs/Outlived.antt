@@ -1,5 +1,5 @@
 -- Packets that have outlived half of the numbers of their channel (RFC 2661 section 5.8).
-use Rattle.std.specs.Prelude.{◌≡◌, ℕ, List, [], ◌∷◌, false, Option, Some, option_map, Result, Ok, Err}
+use Rattle.std.specs.Prelude.{◌≡◌, ℕ, List, [], ◌∷◌, false, Option, Some, option_map, Result, Ok, Err, None}
 use Rattle.id_table.specs.Ids.{at}
 use Rattle.l2tp_header.specs.Spelling.{control_bytes}
 use Rattle.avp_codec.specs.Spelling.{spelling}
@@ -22,11 +22,11 @@ use Rattle.run_examples.specs.Channels.{channel}
 
 -- the LNS, node 4: in tunnel 7 to node 9 it took so many messages, and 50,000 of its own were acknowledged
 abbrev pub lns : ℕ → End
-lns taken = record (new_end role.Lns (config_of 4 0)) {
+lns taken = record (new_end role.Lns (config_of 4 0 None)) {
   tunnels = (
     7,
     record {
-      control = record { local = 7; peer = address_of 9; remote = 1; state = states.Established; channel = channel 50000 0 0 taken; made = 0; heard = 0; closed = 0 };
+      control = record { local = 7; peer = address_of 9; remote = 1; state = states.Established; channel = channel 50000 0 0 taken; made = 0; heard = 0; closed = 0; challenge = None };
       letters = [];
       calls = [];
     },

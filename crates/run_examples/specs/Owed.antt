@@ -1,6 +1,6 @@
 -- Letters that calls owe carry weight: a tunnel that takes a call for the letters that it holds alone may have no room to tell
 -- that a call ends.
-use Rattle.std.specs.Prelude.{◌≡◌, ℕ, ◌+◌, List, [], ◌∷◌, Bool, false, nat_le, if◌then◌else◌}
+use Rattle.std.specs.Prelude.{◌≡◌, ℕ, ◌+◌, List, [], ◌∷◌, Bool, false, nat_le, if◌then◌else◌, None}
 use Rattle.id_source.specs.Spaces.{draws}
 use Rattle.id_table.specs.Ids.{ids_of}
 use Rattle.wire_base.specs.declared.why.Why.TheVariants as why
@@ -34,11 +34,11 @@ calls = (3, up 8) ∷ (4, up 9) ∷ (5, up 10) ∷ (6, up 11) ∷ []
 
 -- the tunnel holds 8,187 letters, of which the first is outstanding; they are left out
 abbrev pub control : Control
-control = record { local = 1; peer = address_of 4; remote = 7; state = states.Established; channel = channel 3 8187 1 2; made = 0; heard = 0; closed = 0 }
+control = record { local = 1; peer = address_of 4; remote = 7; state = states.Established; channel = channel 3 8187 1 2; made = 0; heard = 0; closed = 0; challenge = None }
 
 -- the LAC, node 9
 abbrev pub lac : End
-lac = record (new_end role.Lac (config_of 9 (address_of 4))) {
+lac = record (new_end role.Lac (config_of 9 (address_of 4) None)) {
   session_ids = record (whole_space 65534) { next = 7 };
   tunnels = (1, record { control = control; letters = []; calls = calls }) ∷ [];
   calls = (3, place) ∷ (4, place) ∷ (5, place) ∷ (6, place) ∷ [];

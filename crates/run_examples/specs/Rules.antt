@@ -29,7 +29,7 @@ use Rattle.run_examples.specs.Messages.{sccrq}
 
 -- the LNS, node 4, with one established call: session 3, in tunnel 2 to node 6
 abbrev pub lns : End
-lns = record (new_end role.Lns (config_of 4 0)) { calls = (3, record { tunnel = 2; look = Established 2 (address_of 6) }) ∷ [] }
+lns = record (new_end role.Lns (config_of 4 0 None)) { calls = (3, record { tunnel = 2; look = Established 2 (address_of 6) }) ∷ [] }
 
 abbrev pub frame : List ℕ
 frame = 0 ∷ 33 ∷ 170 ∷ []
@@ -73,11 +73,11 @@ spent last = record { last = last; ceiling = last; next = last + 1 }
 
 -- the LAC, node 9, with an open tunnel
 abbrev pub lac : End
-lac = record (new_end role.Lac (config_of 9 (address_of 4))) {
+lac = record (new_end role.Lac (config_of 9 (address_of 4) None)) {
   tunnels = (
     1,
     record {
-      control = record { local = 1; peer = address_of 4; remote = 7; state = states.Established; channel = channel 3 0 0 2; made = 0; heard = 0; closed = 0 };
+      control = record { local = 1; peer = address_of 4; remote = 7; state = states.Established; channel = channel 3 0 0 2; made = 0; heard = 0; closed = 0; challenge = None };
       letters = [];
       calls = [];
     },

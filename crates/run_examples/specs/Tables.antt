@@ -1,5 +1,5 @@
 -- The tables at the end of a report, where a call isn't up yet, and where a letter wasn't taken.
-use Rattle.std.specs.Prelude.{◌≡◌, ℕ, List, [], ◌∷◌, ◌++◌, codes}
+use Rattle.std.specs.Prelude.{◌≡◌, ℕ, List, [], ◌∷◌, ◌++◌, codes, None}
 use Rattle.tunnel_fsm.specs.declared.table.TunnelState.TheVariants as states
 use Rattle.call_fsm.specs.declared.table.CallState.TheVariants.{Established, WaitReply}
 use Rattle.protocol_model.specs.declared.tunnel.Role.TheVariants as role
@@ -13,7 +13,7 @@ use Rattle.run_examples.specs.Channels.{channel}
 -- the LAC, node 9, took two letters: one of two calls is up
 abbrev pub lac : ℕ → Tunnel
 lac queued = record {
-  control = record { local = 1; peer = address_of 4; remote = 7; state = states.Established; channel = channel 2 queued 1 2; made = 0; heard = 0; closed = 0 };
+  control = record { local = 1; peer = address_of 4; remote = 7; state = states.Established; channel = channel 2 queued 1 2; made = 0; heard = 0; closed = 0; challenge = None };
   letters = [];
   calls =
       (1, record { remote = 5; state = Established; since = 0; port = 70; steps = [] })
@@ -24,20 +24,20 @@ lac queued = record {
 -- the LNS, node 4, took three letters
 abbrev pub lns : ℕ → Tunnel
 lns queued = record {
-  control = record { local = 7; peer = address_of 9; remote = 1; state = states.Established; channel = channel 1 queued 1 3; made = 0; heard = 0; closed = 0 };
+  control = record { local = 7; peer = address_of 9; remote = 1; state = states.Established; channel = channel 1 queued 1 3; made = 0; heard = 0; closed = 0; challenge = None };
   letters = [];
   calls = (5, record { remote = 1; state = Established; since = 0; port = 0; steps = [] }) ∷ [];
 }
 
 abbrev pub lac_node : ℕ → Node
 lac_node queued = record {
-  end = record (new_end role.Lac (config_of 9 (address_of 4))) { tunnels = (1, lac queued) ∷ [] };
+  end = record (new_end role.Lac (config_of 9 (address_of 4) None)) { tunnels = (1, lac queued) ∷ [] };
   clock = 0;
   births = (1, 2) ∷ (2, 1) ∷ [];
 }
 
 abbrev pub lns_node : ℕ → Node
-lns_node queued = record { end = record (new_end role.Lns (config_of 4 0)) { tunnels = (7, lns queued) ∷ [] }; clock = 0; births = (5, 2) ∷ [] }
+lns_node queued = record { end = record (new_end role.Lns (config_of 4 0 None)) { tunnels = (7, lns queued) ∷ [] }; clock = 0; births = (5, 2) ∷ [] }
 
 -- where the LAC and the LNS keep so many letters, of which the first was acknowledged by none yet
 abbrev pub world : ℕ → ℕ → World

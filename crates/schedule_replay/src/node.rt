@@ -1,6 +1,6 @@
 //! A node of the world.
 
-ghost use Rattle.std.specs.Prelude.{◌≡◌, [], OnOk, Ok};
+ghost use Rattle.std.specs.Prelude.{◌≡◌, [], OnOk, IfOk, Ok};
 ghost use Rattle.id_table.specs.Ids.{put};
 ghost use Rattle.protocol_model.specs.Calls.{is_lac};
 ghost use Rattle.protocol_model.specs.End.{new_end};
@@ -11,7 +11,7 @@ use id_table::Table;
 use protocol_model::{Config, Role, address_of};
 use std::alloc::Global;
 use std::marker::Model;
-use wire_base::NoMemory;
+use wire_base::{Bytes, NoMemory};
 
 /// An end, with its clock, in milliseconds, and the births of its calls by local session id.
 #[derive(Drop)]
@@ -29,15 +29,25 @@ impl Model for Node {
     ghost view = { λ n. record { end = n.end; clock = n.clock; births = n.births.entries } };
 }
 
-/// The configuration of a node without a secret.
-pub(crate) fn config_of(number: u8, lns: u32) -> Config
-    ensures { result ≡ config_of number lns }
+/// A copy of a tunnel secret.
+pub(crate) fn copy_secret(alloc: Global, secret: &Option<Bytes>) -> Result<Option<Bytes>, NoMemory>
+    ensures { IfOk result (λ s. s ≡ secret.now) }
+{
+    match secret {
+        None => Ok(None),
+        Some(secret) => Ok(Some(Bytes::from_slice(alloc, secret.as_slice())?)),
+    }
+}
+
+/// The configuration of a node with this tunnel secret, which hides nothing.
+pub(crate) fn config_of(number: u8, lns: u32, secret: Option<Bytes>) -> Config
+    ensures { result ≡ config_of number lns secret }
 {
     Config {
         number,
         address: address_of(number),
         lns,
-        secret: None,
+        secret,
         hide: false,
     }
 }

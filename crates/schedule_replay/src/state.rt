@@ -10,7 +10,7 @@ ghost use Rattle.schedule_replay.specs.Kinds.{of_role, fitting};
 
 use crate::age::too_old;
 use crate::fault::LineFault;
-use crate::node::{Node, config_of, count_at};
+use crate::node::{Node, config_of, copy_secret, count_at};
 use crate::tables::{push_agreement_table, push_end_table};
 use crate::texts::{push_cause, push_drop, push_gone, push_send, push_up};
 use byteorder::{BigEndian, ByteOrder};
@@ -209,15 +209,22 @@ impl State {
         self.show_all(line, node, given.outputs)
     }
 
-    /// A new node.
+    /// A new node, with this tunnel secret.
     #[tactic(auto, unfolding(protocol_model::specs::World::added))]
-    fn add(&mut self, node: u8, role: Role, lns: u32) -> Result<(), LineFault>
-        ensures { Says result (added self.old.world node role lns) self.old self.new }
+    fn add(
+        &mut self,
+        node: u8,
+        role: Role,
+        lns: u32,
+        secret: &Option<Bytes>,
+    ) -> Result<(), LineFault>
+        ensures { Says result (added self.old.world node role lns secret.now) self.old self.new }
     {
         if self.nodes.contains(u32::from(node)) {
             return Err(LineFault::unfit(Why::Twice));
         }
-        let new = Node::new(self.alloc, role, config_of(node, lns));
+        let secret = copy_secret(self.alloc, secret)?;
+        let new = Node::new(self.alloc, role, config_of(node, lns, secret));
         self.nodes.insert(u32::from(node), new)?;
         Ok(())
     }
@@ -328,8 +335,10 @@ impl State {
     {
         match line {
             Line::Remark { .. } => Ok(()),
-            Line::Lac { node, lns } => self.add(*node, Role::Lac, address_of(*lns)),
-            Line::Lns { node } => self.add(*node, Role::Lns, 0),
+            Line::Lac { node, lns, secret } => {
+                self.add(*node, Role::Lac, address_of(*lns), secret)
+            }
+            Line::Lns { node, secret } => self.add(*node, Role::Lns, 0, secret),
             Line::OpenUp { node } => self.step_of(number, *node, Role::Lac, &Event::OpenTunnel),
             Line::Close { node, tunnel } => {
                 let tunnel = *tunnel;

@@ -130,7 +130,7 @@ module _ (laws : Laws) (accs : Accounts) (ends : Ends) (w : World) (n : ℕ) (e 
 
   -- the SCCRP
   abbrev first : step_laws.Letter
-  first = record { tunnel = m.tunnel; place = m.given; session = 0; message = Sccrp (opening_of e.role (config_of n 0) m.tunnel) }
+  first = record { tunnel = m.tunnel; place = m.given; session = 0; message = Sccrp (opening_of e.role (config_of n 0 None) m.challenge m.response m.tunnel) }
 
   abbrev tk : Taken
   tk = taken_as sender m.taken (move.Accepted m)
@@ -147,8 +147,8 @@ module _ (laws : Laws) (accs : Accounts) (ends : Ends) (w : World) (n : ℕ) (e 
       ∙ ap (λ (a : Account). with_taken tk (first ∷ []) (record a { part = Acceptor; peer = peer; remote = m.remote })) none
 
   abbrev u : Tunnel
-  u = with_letter 0 (Sccrp (opening_of e.role e.config m.tunnel))
-      (new_tunnel (counts_taken (learns_window m.window (begun m.tunnel m.peer m.remote WaitCtlConn moment))))
+  u = with_letter 0 (Sccrp (opening_of e.role e.config m.challenge m.response m.tunnel))
+      (new_tunnel (counts_taken (learns_window m.window (begun m.tunnel m.peer m.remote WaitCtlConn moment m.challenge))))
 
   fits : i < 65536
   fits = id_fits accs n e sender ev h.moved.within i h.moved.does.drawn
@@ -201,7 +201,7 @@ module _ (laws : Laws) (accs : Accounts) (ends : Ends) (w : World) (n : ℕ) (e 
   old = subst (λ a. TunnelJoined w n i a (at e.tunnels i)) none (tunnel_before accs ends w n e x sender moment ev (move.Accepted m) d h i fits)
 
   state : phase_of u.control.state ≡ WaitConnect
-  state = ap phase_of (learns_state m.window (begun m.tunnel m.peer m.remote WaitCtlConn moment))
+  state = ap phase_of (learns_state m.window (begun m.tunnel m.peer m.remote WaitCtlConn moment m.challenge))
 
   pub accepted_follows : Follows w n e x (move.Accepted m) (after accs d) (with_end ends n x)
   accepted_follows =

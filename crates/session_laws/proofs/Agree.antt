@@ -24,10 +24,11 @@ use Rattle.birth_laws.specs.Births as births
 use Rattle.coverage_laws.specs.Coverage as coverage
 use Rattle.connection_laws.specs.Accounts.{Part, Unmade, Opener, Acceptor, heeded}
 use Rattle.connection_laws.specs.Facts as facts
-use Rattle.connection_laws.specs.Facts.{Accounts, IsMade, AccountOk, IsAcceptor, IsPart, LiveOk, IsInState, EndOk, NodeOk}
+use Rattle.connection_laws.specs.Facts.{Accounts, IsOpen, IsMade, AccountOk, IsAcceptor, IsPart, LiveOk, IsInState, EndOk, NodeOk}
 use Rattle.session_laws.specs.Names.{name, name_of, letter_of, phase_of, state_of}
 use Rattle.session_laws.specs.Joined.{tunnel_in, TunnelJoined, CallJoined, CallsJoined, HasNoCall, NodeJoined, AreJoined, ends_of}
 use Rattle.session_laws.specs.Sessions.{HoldsSession}
+use Rattle.session_laws.proofs.Learned.{open_learned}
 use Rattle.session_laws.proofs.Names.{same_name, known_name, name_not_zero}
 use Rattle.session_laws.proofs.States.{not_closed, at_work, heeds_all}
 
@@ -81,6 +82,7 @@ module _ (w : World) (accs : Accounts) (most : ℕ) (few : most + 8192 < 2 ^ 64)
     pub learned : (accs n i).remote ≡ 0 → ⊥
     -- it heeded all that it took
     pub took : heeded (accs n i) ≡ length (accs n i).taken
+    pub is_open : IsOpen (accs n i)
     pub live : LiveOk accs n i (accs n i) t
     pub machine_is : TunnelJoined mw n i (accs n i) (Some t)
     pub phase : mw.tunnels.phase (name n i) ≡ Open
@@ -109,6 +111,7 @@ module _ (w : World) (accs : Accounts) (most : ℕ) (few : most + 8192 < 2 ^ 64)
       let live = ok.live i t o.there in
       let account = holds.accounts n i in
       let made = made_of n i t a.part refl live.state in
+      let works = at_work accs n i a t live (not_closed t.control.state 3 o.open_is (omega arith)) in
       let here : ends_of w.nodes n ≡ Some o.node.end = ap (λ (x : Option Node). Rattle.std.specs.Prelude.option_map (λ (node : Node). node.end) x) o.is in
       let there : tunnel_in (ends_of w.nodes n) i ≡ Some t = ap (λ (x : Option End). tunnel_in x i) here ∙ o.there in
       let k : TunnelJoined mw n i a (Some t) = subst (TunnelJoined mw n i a) there (joined.tunnels n i ok.node (account.id made)) in
@@ -117,7 +120,8 @@ module _ (w : World) (accs : Accounts) (most : ℕ) (few : most + 8192 < 2 ^ 64)
         id = account.id made;
         some = account.some made;
         learned = learned_of n i t o.open_is a.part account.part live.state;
-        took = heeds_all a (at_work accs n i a t live (not_closed t.control.state 3 o.open_is (omega arith))).is_open;
+        took = heeds_all a works.is_open;
+        is_open = works.is_open;
         live = live;
         machine_is = k;
         phase = k.phase ∙ is_open t.control.state o.open_is;
@@ -161,10 +165,10 @@ module _ (w : World) (accs : Accounts) (most : ℕ) (few : most + 8192 < 2 ^ 64)
     b = seen m j u p.other
 
     forth_name : mw.tunnels.learned (name n i) ≡ name m j
-    forth_name = a.machine_is.learned ∙ (rw (p.goes, p.forth) (known_name m j b.some))
+    forth_name = a.machine_is.learned ∙ open_learned (accs n i) a.is_open ∙ (rw (p.goes, p.forth) (known_name m j b.some))
 
     back_name : mw.tunnels.learned (name m j) ≡ name n i
-    back_name = b.machine_is.learned ∙ (rw (p.comes, p.back) (known_name n i a.some))
+    back_name = b.machine_is.learned ∙ open_learned (accs m j) b.is_open ∙ (rw (p.comes, p.back) (known_name n i a.some))
 
     linked : Linked mw.tunnels.learned (name n i) (name m j)
     linked = record { forth = forth_name; back = back_name; from_name = name_not_zero n i a.some; to_name = name_not_zero m j b.some }

@@ -116,6 +116,7 @@ else_follow w v n e x m is same role sessions = by m is
     by (move.EndHeard m) is = it (move.EndHeard m) same refl (λ r no. absurd cc)
     by (move.EndSilent m) is = it (move.EndSilent m) same refl (λ r no. absurd cc)
     by (move.Closed m) is = it (move.Closed m) same refl (λ r no. absurd cc)
+    by (move.Rejected m) is = it (move.Rejected m) same refl (λ r no. absurd cc)
     by (move.ClosedBy m) is = it (move.ClosedBy m) same refl (λ r no. absurd cc)
     by (move.Cleared i) is = it (move.Cleared i) same refl (λ r no. absurd cc)
     by (move.Greeted m) is = it (move.Greeted m) same refl (λ r no. absurd cc)

@@ -1,5 +1,5 @@
 -- A tunnel that stays in its state takes a letter, or none, and gives one, or none, while calls change.
-use Rattle.std.proofs.Common.{◌≡◌, ℕ, ◌+◌, List, [], ◌∷◌, ◌++◌, map, refl, sym, ap, ◌∙◌, append-nil, Option, Some, arith}
+use Rattle.std.proofs.Common.{◌≡◌, ℕ, ◌+◌, List, [], ◌∷◌, ◌++◌, map, refl, sym, ap, ◌∙◌, append-nil, Option, Some, arith, None}
 use Rattle.id_table.specs.Ids.{at}
 use Rattle.protocol_model.specs.declared.event.Event.{Event}
 use Rattle.protocol_model.specs.declared.moves.Place.{Place}
@@ -19,7 +19,7 @@ use Rattle.epoch_machine.specs.Moves.{step}
 use Rattle.connection_laws.specs.Accounts.{Account, about, entered_by, takes_at, gives_also}
 use Rattle.connection_laws.specs.Facts.{Accounts, IsOpen}
 use Rattle.connection_laws.specs.Steps.{IsDeed, after}
-use Rattle.session_laws.specs.Names.{name, letter_of, phase_of, other_name}
+use Rattle.session_laws.specs.Names.{name, letter_of, phase_of, learned_name}
 use Rattle.session_laws.specs.Joined.{Ends, TunnelJoined}
 use Rattle.session_laws.proofs.Keeps.{IsMade}
 use Rattle.session_laws.proofs.Entering.{DeclinesNone, after_here, taken_as, takes_only, takes_and_gives, gives_only}
@@ -99,18 +99,21 @@ calls_take_and_give w x c l now asks =
 pub record AccountSpeaks (a b : Account) (more : List step_laws.Letter) (took : ℕ) : Type 0 where
   pub moves : AccountMoves a b more took
   pub remote : b.remote ≡ a.remote
+  pub closed : b.closed ≡ a.closed
 
 pub says_nothing : (a b : Account) → b ≡ a → AccountSpeaks a b [] 0
 says_nothing a b is = rw is (record {
   moves = record { part = refl; peer = refl; given = sym (append-nil a.given); heeds = omega arith; declined = refl };
   remote = refl;
+  closed = refl;
 })
 
 pub says_one : (d : Deed) (n : ℕ) (role : Role) (sender : Option Sender) (m : Move) (a b : Account) → IsDeed d n role sender m → b ≡ gives_also d a
-    → AccountSpeaks a b (letters_of role (config_of n 0) m) 0
+    → AccountSpeaks a b (letters_of role (config_of n 0 None) m) 0
 says_one d n role sender m a b deed is = rw (is, gives_only d n role sender m a deed) (record {
   moves = record { part = refl; peer = refl; given = refl; heeds = omega arith; declined = refl };
   remote = refl;
+  closed = refl;
 })
 
 pub hears_one : (d : Deed) (n : ℕ) (role : Role) (sender : Option Sender) (m : Move) (place : Place) (a b : Account) → IsDeed d n role sender m
@@ -118,19 +121,21 @@ pub hears_one : (d : Deed) (n : ℕ) (role : Role) (sender : Option Sender) (m :
 hears_one d n role sender m place a b deed works is = rw (is, takes_only d n role sender m place a deed) (record {
   moves = record { part = refl; peer = refl; given = refl; heeds = heeds_one (taken_as sender place m) [] a works; declined = refl };
   remote = refl;
+  closed = refl;
 })
 
 pub hears_and_says : (d : Deed) (n : ℕ) (role : Role) (sender : Option Sender) (m : Move) (place : Place) (a b : Account) → IsDeed d n role sender m
-    → IsOpen a → b ≡ gives_also d (takes_at d place a) → AccountSpeaks a b (letters_of role (config_of n 0) m) 1
+    → IsOpen a → b ≡ gives_also d (takes_at d place a) → AccountSpeaks a b (letters_of role (config_of n 0 None) m) 1
 hears_and_says d n role sender m place a b deed works is = rw (is, takes_and_gives d n role sender m place a deed) (record {
   moves = record {
     part = refl;
     peer = refl;
     given = refl;
-    heeds = heeds_one (taken_as sender place m) (letters_of role (config_of n 0) m) a works;
+    heeds = heeds_one (taken_as sender place m) (letters_of role (config_of n 0 None) m) a works;
     declined = refl;
   };
   remote = refl;
+  closed = refl;
 })
 
 -- ---- both
@@ -186,8 +191,8 @@ module _ (accs : Accounts) (ends : Ends) (w : World) (n : ℕ) (e x : End) (send
       old : TunnelJoined w n i (accs n i) (Some t)
       old = here_joined accs ends w n e x sender moment ev m d h i t there
 
-      other : other_name (ms n i) ≡ other_name (accs n i)
-      other = rw (s.moves.peer, s.remote) refl
+      other : learned_name (ms n i) ≡ learned_name (accs n i)
+      other = rw (s.moves.part, s.moves.peer, s.remote, s.closed) refl
 
   -- the account after the move
   pub account_is : ms n i ≡ entered_by d m (accs n i)

@@ -24,8 +24,9 @@ use Rattle.epoch_machine.specs.Moves.{Closes, step}
 use Rattle.connection_laws.specs.Accounts.{Account}
 use Rattle.connection_laws.specs.Facts.{Accounts, LiveOk}
 use Rattle.connection_laws.specs.Steps.{after}
-use Rattle.session_laws.specs.Names.{name, name_of, other_name}
+use Rattle.session_laws.specs.Names.{name, learned_name}
 use Rattle.session_laws.specs.Joined.{Ends, TunnelJoined}
+use Rattle.session_laws.proofs.Learned.{open_learned, closed_learned}
 use Rattle.session_laws.proofs.Keeps.{with_end, Laws, IsMade, Follows}
 use Rattle.session_laws.proofs.Entering.{after_here, with_given, gives_only}
 use Rattle.session_laws.proofs.States.{IsAtWork, at_work, heeds_all}
@@ -36,7 +37,7 @@ use Rattle.session_laws.proofs.Leaving.{leaves_elsewhere, leaves_phase, leaves_l
 
 -- ---- what the machine does
 
-closes_is : (w : World) (x : ℕ) → is_active (w.tunnels.phase x) ≡ true → step all_rules w (Closes x) ≡ leaves (gives w x letter.StopCcn) x Closed
+pub closes_is : (w : World) (x : ℕ) → is_active (w.tunnels.phase x) ≡ true → step all_rules w (Closes x) ≡ leaves (gives w x letter.StopCcn) x Closed
 unfolding step
 closes_is w x works = rw works refl
 
@@ -116,10 +117,12 @@ module _ (laws : Laws) (accs : Accounts) (ends : Ends) (w : World) (n : ℕ) (e 
   v = leaves and_given X Closed
 
   -- it goes to the tunnel that is known
-  learned : v.tunnels.learned X ≡ other_name b
+  learned : v.tunnels.learned X ≡ learned_name b
   learned = ap (λ (f : ℕ → ℕ). f X) (leaves_learned and_given X Closed)
-      ∙ ap (λ (ts : Tunnels). ts.learned X) (given_tunnels w X letter.StopCcn) ∙ old.learned
-      ∙ sym (ap (λ r. name_of a.peer r) (laws.known accs n e x sender moment ev h.moved.within m h.moved.does))
+      ∙ ap (λ (ts : Tunnels). ts.learned X) (given_tunnels w X letter.StopCcn) ∙ old.learned ∙ open_learned a works.is_open
+      ∙ sym (ap (λ r. learned_name (record a { remote = r; closed = Some (length a.taken) }))
+      (laws.known accs n e x sender moment ev h.moved.within m h.moved.does)
+      ∙ closed_learned accs n i a (h.moved.within.accounts n i).part)
 
   tunnel : TunnelJoined v n i b (Some u)
   tunnel = letters_joined w v n i a b (last ∷ []) 0 (Some t) (Some u) old

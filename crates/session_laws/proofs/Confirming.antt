@@ -106,9 +106,9 @@ module _ (laws : Laws) (accs : Accounts) (ends : Ends) (w : World) (n : ℕ) (e 
   abbrev u : Tunnel
   u = record t { control = counts_taken (in_state Established t.control) }
 
-  del : Delivered accs w n i sender h.moved.does.hears.0 Scccn
+  del : Delivered accs w n i sender h.moved.does.hears.0 (Scccn h.moved.does.response)
   del = delivered laws.heard accs ends w n e x sender moment ev (move.Confirmed m) d h i t h.moved.does.there
-      (not_closed t.control.state 2 (ap state_number h.moved.does.state) (omega arith)) h.moved.does.hears.0 Scccn tt h.moved.does.hears.1
+      (not_closed t.control.state 2 (ap state_number h.moved.does.state) (omega arith)) h.moved.does.hears.0 (Scccn h.moved.does.response) tt h.moved.does.hears.1
 
   old : TunnelJoined w n i a (Some t)
   old = here_joined accs ends w n e x sender moment ev (move.Confirmed m) d h i t h.moved.does.there

@@ -21,8 +21,9 @@ use Rattle.epoch_machine.specs.Moves.{Delivers}
 use Rattle.connection_laws.specs.Accounts.{Taken, Account}
 use Rattle.connection_laws.specs.Facts.{Accounts}
 use Rattle.connection_laws.specs.Steps.{after}
-use Rattle.session_laws.specs.Names.{name, phase_of, other_name, name_of}
+use Rattle.session_laws.specs.Names.{name, phase_of, learned_name, name_of}
 use Rattle.session_laws.specs.Joined.{Ends, TunnelJoined}
+use Rattle.session_laws.proofs.Learned.{open_learned}
 use Rattle.session_laws.proofs.Keeps.{with_end, Laws, IsMade, Follows}
 use Rattle.session_laws.proofs.Entering.{after_here, with_taken, taken_as, takes_and_gives}
 use Rattle.session_laws.proofs.Names.{known_name}
@@ -121,7 +122,7 @@ module _ (laws : Laws) (accs : Accounts) (ends : Ends) (w : World) (n : ℕ) (e 
 
   -- the SCCCN
   abbrev last : step_laws.Letter
-  last = record { tunnel = m.tunnel; place = m.given; session = 0; message = Scccn }
+  last = record { tunnel = m.tunnel; place = m.given; session = 0; message = Scccn m.response }
 
   abbrev tk : Taken
   tk = taken_as sender m.taken (move.Connected m)
@@ -134,7 +135,7 @@ module _ (laws : Laws) (accs : Accounts) (ends : Ends) (w : World) (n : ℕ) (e 
       ∙ takes_and_gives d n e.role sender (move.Connected m) m.taken (record a { remote = m.remote }) h.moved.deed
 
   abbrev u : Tunnel
-  u = with_letter 0 Scccn (record t { control = counts_taken (learns_window m.window (record t.control { remote = m.remote; state = Established })) })
+  u = with_letter 0 (Scccn m.response) (record t { control = counts_taken (learns_window m.window (record t.control { remote = m.remote; state = Established })) })
 
   del : Delivered accs w n i sender h.moved.does.hears.0 (Sccrp h.moved.does.opening)
   del = delivered laws.heard accs ends w n e x sender moment ev (move.Connected m) d h i t h.moved.does.there
@@ -157,8 +158,9 @@ module _ (laws : Laws) (accs : Accounts) (ends : Ends) (w : World) (n : ℕ) (e 
   partner = partner_now accs ends w n e x sender moment ev (move.Connected m) d h i (record a { remote = m.remote }) tk (last ∷ []) del.from is
       del.is_open del.sender_is
 
-  learned : v.tunnels.learned X ≡ other_name b
+  learned : v.tunnels.learned X ≡ learned_name b
   learned = connects_learned w X S ∙ sym (known_name del.from.node del.from.tunnel del.some) ∙ sym (ap₂ name_of partner.0 partner.1)
+      ∙ sym (open_learned b del.is_open)
 
   state : u.control.state ≡ Established
   state = learns_state m.window (record t.control { remote = m.remote; state = Established })

@@ -1,5 +1,5 @@
 -- A call ends and its peer is told, in the machine too.
-use Rattle.std.proofs.Common.{◌≡◌, inr, ⊎_elim, ℕ, true, false, List, [], ◌∷◌, refl, sym, ap, ◌∙◌, Option, Some, arith}
+use Rattle.std.proofs.Common.{◌≡◌, inr, ⊎_elim, ℕ, true, false, List, [], ◌∷◌, refl, sym, ap, ◌∙◌, Option, Some, arith, None}
 use Rattle.std.proofs.lemmas.Option.{none-some}
 use Rattle.id_table.specs.Ids.{at, without, at-none}
 use Rattle.id_table.specs.Order.{at_without_other, at_without_same}
@@ -147,13 +147,13 @@ module _ (laws : Laws) (accs : Accounts) (ends : Ends) (w : World) (n : ℕ) (e 
   does = told_is w X Z R call.tunnel (call.remote ∙ sym (ap (λ r. name_of (accs n i).peer r) h.moved.does.remote))
       (here.phase ∙ open_phase t.control.state open_is) (ap lives call.state ∙ told.lives) (ap waits call.state ∙ told.asked)
 
-  says : AccountSpeaks (accs n i) (after accs d n i) (letters_of e.role (config_of n 0) (move.EndTold m)) 0
+  says : AccountSpeaks (accs n i) (after accs d n i) (letters_of e.role (config_of n 0 None) (move.EndTold m)) 0
   says = says_one d n e.role sender (move.EndTold m) (accs n i) (after accs d n i) h.moved.deed
       (account_is accs ends w n e x sender moment ev (move.EndTold m) d h (λ k j. refl) v t u h.moved.does.there)
 
   goes : TunnelGoes accs (after accs d) w v n i u
   goes = speaks_goes accs ends w n e x sender moment ev (move.EndTold m) d h (λ k j. refl) v t u h.moved.does.there
-      (letters_of e.role (config_of n 0) (move.EndTold m)) 0 speaks says refl (EndsTold Z) does
+      (letters_of e.role (config_of n 0 None) (move.EndTold m)) 0 speaks says refl (EndsTold Z) does
 
   sessions : x.session_ids ≡ e.session_ids
   sessions = ap (λ (y : End). y.session_ids) h.moved.does.after

@@ -1,5 +1,5 @@
 -- What a move changes in the accounts of tunnels, and whose end it changes.
-use Rattle.std.proofs.Common.{◌≡◌, ◌⊎◌, inl, inr, ⊎_elim, ℕ, Bool, true, false, cond, List, [], ◌∷◌, ◌++◌, length, slice_get, refl, sym, ap, ◌∙◌, append-nil, Option, Some, eq-eqb, ne_eqb}
+use Rattle.std.proofs.Common.{◌≡◌, ◌⊎◌, inl, inr, ⊎_elim, ℕ, Bool, true, false, cond, List, [], ◌∷◌, ◌++◌, length, slice_get, refl, sym, ap, ◌∙◌, append-nil, Option, Some, eq-eqb, ne_eqb, None}
 use Rattle.id_table.specs.Order.{same_or_not}
 use Rattle.protocol_model.specs.declared.moves.Place.{Place}
 use Rattle.protocol_model.specs.declared.moves.Move.{Move}
@@ -49,6 +49,7 @@ else_none (move.EndTold m) is = λ k j. refl
 else_none (move.EndHeard m) is = λ k j. refl
 else_none (move.EndSilent m) is = λ k j. refl
 else_none (move.Closed m) is = λ k j. refl
+else_none (move.Rejected m) is = λ k j. refl
 else_none (move.ClosedBy m) is = λ k j. refl
 else_none (move.Cleared i) is = λ k j. refl
 else_none (move.Greeted m) is = λ k j. refl
@@ -119,11 +120,11 @@ pub takes_only : (d : Deed) (n : ℕ) (role : Role) (sender : Option Sender) (m 
 takes_only d n role sender m place a deed = rw (deed.sender_is, deed.move_is, append-nil) refl
 
 pub takes_and_gives : (d : Deed) (n : ℕ) (role : Role) (sender : Option Sender) (m : Move) (place : Place) (a : Account) → IsDeed d n role sender m
-    → gives_also d (takes_at d place a) ≡ with_taken (taken_as sender place m) (letters_of role (config_of n 0) m) a
+    → gives_also d (takes_at d place a) ≡ with_taken (taken_as sender place m) (letters_of role (config_of n 0 None) m) a
 takes_and_gives d n role sender m place a deed = rw (deed.sender_is, deed.move_is, deed.role_is, deed.node_is) refl
 
 pub gives_only : (d : Deed) (n : ℕ) (role : Role) (sender : Option Sender) (m : Move) (a : Account) → IsDeed d n role sender m
-    → gives_also d a ≡ with_given (letters_of role (config_of n 0) m) a
+    → gives_also d a ≡ with_given (letters_of role (config_of n 0 None) m) a
 gives_only d n role sender m a deed = rw (deed.move_is, deed.role_is, deed.node_is) refl
 
 -- the letter that was taken is the last one

@@ -1,7 +1,8 @@
 -- The next letter that a tunnel hears is delivered in the machine.
-use Rattle.std.proofs.Common.{◌≡◌, ⊎_elim, ℕ, ◌<◌, ◌≤◌, Bool, true, false, List, length, refl, sym, ap, ap₂, ◌∙◌, subst, slice_get, Option, Some, None, arith, eqb, cond, eq-eqb}
+use Rattle.std.proofs.Common.{◌≡◌, ⊎_elim, ℕ, ◌<◌, ◌≤◌, Bool, true, false, zero, suc, drop, List, [], ◌∷◌, length, refl, sym, ap, ap₂, ◌∙◌, subst, slice_get, Option, Some, None, arith, eqb, cond, eq-eqb}
 use Rattle.std.proofs.lemmas.Bool.{lt-ltb}
 use Rattle.std.proofs.lemmas.Option.{slice_get-map}
+use Rattle.std.specs.List.{AllByRecursion}
 use Rattle.id_table.specs.Ids.{at}
 use Rattle.control_message.specs.declared.message.Message.{Message}
 use Rattle.control_message.specs.Pairs.{IsWritten}
@@ -24,11 +25,13 @@ use Rattle.epoch_machine.specs.Tunnels.{Open, is_active, is_live}
 use Rattle.epoch_machine.specs.Worlds.{World, Rules, all_rules, takes, took_one}
 use Rattle.epoch_machine.specs.Moves.{Delivers, may_take, delivers, step}
 use Rattle.frame_laws.proofs.Facts.{all_at}
-use Rattle.connection_laws.specs.Accounts.{Taken, Account, no_account, heeded, partner_of}
+use Rattle.connection_laws.specs.Accounts.{Opener, Acceptor, Taken, Account, no_account, heeded, partner_of}
 use Rattle.connection_laws.specs.Facts as facts
-use Rattle.connection_laws.specs.Facts.{Accounts, IsNoStop, IsSpelled, IsPart, AccountOk, Tells, IsTaken, AreTaken, IsOpen, IsIgnored, AreIgnored, LiveOk, Within, partner_in}
+use Rattle.connection_laws.specs.Facts.{Accounts, IsNoStop, IsStopCcn, IsSpelled, IsOpener, IsAcceptor, IsPart, AccountOk, Tells, IsTaken, AreTaken, IsOpen, IsIgnored, AreIgnored, LiveOk, Within, partner_in}
 use Rattle.connection_laws.specs.Steps.{after, NextLetter, NextIsHeard}
-use Rattle.session_laws.specs.Names.{name, name_of, spoken, letter_of, phase_of}
+use Rattle.connection_laws.proofs.Said.{no_stop_is}
+use Rattle.session_laws.proofs.Learned.{early_or_not, late_learned}
+use Rattle.session_laws.specs.Names.{is_early, name, name_of, spoken, letter_of, phase_of}
 use Rattle.session_laws.specs.Roles.{TookReply, Says, FitsEnd}
 use Rattle.session_laws.specs.Joined.{Ends, TunnelJoined, tunnel_in}
 use Rattle.session_laws.proofs.Keeps.{IsMade}
@@ -70,7 +73,7 @@ pub delivers_spoken : (r : Rules) (w : World) (x s e k z : ℕ) (n m header : �
 unfolding delivers
 delivers_spoken r w x s e k z n m header (Sccrq o) no_stop may = rw may refl
 delivers_spoken r w x s e k z n m header (Sccrp o) no_stop may = rw may refl
-delivers_spoken r w x s e k z n m header Scccn no_stop may = rw may refl
+delivers_spoken r w x s e k z n m header (Scccn response) no_stop may = rw may refl
 delivers_spoken r w x s e k z n m header (StopCcn tunnel result error) no_stop may = absurd no_stop
 delivers_spoken r w x s e k z n m header Hello no_stop may = rw may refl
 delivers_spoken r w x s e k z n m header (Ocrq session) no_stop may = rw may refl
@@ -98,6 +101,13 @@ giver_made accs n i k l ok there none =
     let same : accs n i ≡ no_account = subst (IsPart accs n i (accs n i)) none ok.part in
     let g = rw same at there in
     let no : ⊥ = cc in no
+
+-- so it is of those behind the first
+later_is : (P : step_laws.Letter → Type 0) (ls : List step_laws.Letter) (k : ℕ) (l : step_laws.Letter) → 1 ≤ k → slice_get ls k ≡ Some l
+    → AllByRecursion P (drop 1 ls) → P l
+later_is P [] k l some there all = let no : ⊥ = cc in absurd no
+later_is P (x ∷ ls) zero l some there all = absurd (omega (arith, some))
+later_is P (x ∷ ls) (suc k) l some there all = all_at P ls k l there all
 
 pub record Delivered (accs : Accounts) (w : World) (n i : ℕ) (sender : Option Sender) (session : ℕ) (m : Message) : Type 0 where
   -- the tunnel that sent it
@@ -173,9 +183,26 @@ module _ (accs : Accounts) (ends : Ends) (w : World) (n : ℕ) (e x : End) (send
       from_joined : TunnelJoined w k.from.node k.from.tunnel b o
       from_joined = h.joined.tunnels k.from.node k.from.tunnel (from_ok.node from_made) (from_ok.id from_made)
 
+      -- one that is closed before it heeded a letter gives no more than a StopCCN behind its SCCRQ, which its acceptor has taken
+      no_early : b.part ≡ Opener → b.closed ≡ Some 0 → ⊥
+      no_early opens closed =
+          let opener : IsOpener accs k.from.node k.from.tunnel b = subst (IsPart accs k.from.node k.from.tunnel b) opens from_ok.part in
+          let known : b.remote ≡ 0 → ⊥ = λ z. (let told = k.learned in let some = here_some in let no : ⊥ = omega (arith, z) in no) in
+          let other : a.part ≡ Acceptor = ap₂ (λ p q. (accs p q).part) (sym k.goes) (sym k.learned) ∙ opener.part known in
+          let acceptor : IsAcceptor accs n i a = subst (IsPart accs n i a) other (h.moved.within.accounts n i).part in
+          no_stop_is m no_stop
+          (subst IsStopCcn k.message_is
+          (later_is (λ (l : step_laws.Letter). IsStopCcn l.message) b.given (length a.taken) k.letter acceptor.some k.there (opener.early closed).1))
+
+      late : is_early b.part b.closed ≡ false
+      late = ⊎_elim
+          (λ (e : (b.part ≡ Opener) × (b.closed ≡ Some 0)). absurd (no_early e.0 e.1))
+          (λ (is : is_early b.part b.closed ≡ false). is)
+          (early_or_not b.part b.closed)
+
       -- it has learned this tunnel
       learned : w.tunnels.learned s ≡ name n i
-      learned = from_joined.learned ∙ ap₂ name_of k.goes k.learned ∙ known_name n i here_some
+      learned = from_joined.learned ∙ late_learned b late ∙ ap₂ name_of k.goes k.learned ∙ known_name n i here_some
 
       stands : slice_get (w.channels.sent s 0) (length a.taken) ≡ Some (spoken k.from.node n session m)
       stands =

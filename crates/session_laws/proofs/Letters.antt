@@ -9,7 +9,7 @@ use Rattle.epoch_machine.specs.Channels.{puts, counts}
 use Rattle.epoch_machine.specs.Calls.{Calls}
 use Rattle.epoch_machine.specs.Worlds.{World, gives, took_one}
 use Rattle.connection_laws.specs.Accounts.{Account, heeded}
-use Rattle.session_laws.specs.Names.{name, letter_of, phase_in, other_name}
+use Rattle.session_laws.specs.Names.{name, letter_of, phase_in, learned_name}
 use Rattle.session_laws.specs.Joined.{TunnelJoined}
 use Rattle.session_laws.proofs.Ground.{TunnelStays}
 
@@ -163,7 +163,7 @@ pub record AccountMoves (a b : Account) (more : List step.Letter) (took : ℕ) :
 
 -- who is learned, and the new state, are told apart
 pub letters_joined : (w v : World) (n i : ℕ) (a b : Account) (more : List step.Letter) (took : ℕ) (o u : Option Tunnel) → TunnelJoined w n i a o
-    → LettersMove w v (name n i) (map (letter_of n a.peer) more) took → AccountMoves a b more took → v.tunnels.learned (name n i) ≡ other_name b
+    → LettersMove w v (name n i) (map (letter_of n a.peer) more) took → AccountMoves a b more took → v.tunnels.learned (name n i) ≡ learned_name b
     → v.tunnels.phase (name n i) ≡ phase_in u → TunnelJoined v n i b u
 letters_joined w v n i a b more took o u h g k learned phase = record {
   drawn = rw k.part (g.drawn ∙ h.drawn);

@@ -1,6 +1,7 @@
 pub mod Births
 pub mod Keeps
 pub mod Names
+pub mod Learned
 pub mod Entering
 pub mod Roles
 pub mod States
@@ -34,6 +35,7 @@ pub mod EndHeard
 pub mod EndingSilent
 pub mod Declining
 pub mod Closing
+pub mod Rejecting
 pub mod StopHeard
 pub mod Moves
 pub mod WorldBirths

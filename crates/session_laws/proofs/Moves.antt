@@ -20,6 +20,7 @@ use Rattle.session_laws.proofs.SecondUp.{second_up_follows}
 use Rattle.session_laws.proofs.EndHeard.{end_heard_follows}
 use Rattle.session_laws.proofs.Declining.{declined_follows}
 use Rattle.session_laws.proofs.Closing.{closed_follows}
+use Rattle.session_laws.proofs.Rejecting.{rejected_follows}
 use Rattle.session_laws.proofs.StopHeard.{closed_by_follows}
 
 pub moves_follow : Laws → MovesFollow
@@ -38,6 +39,7 @@ moves_follow laws accs ends w n e x sender moment ev (move.EndHeard m) d h = end
 moves_follow laws accs ends w n e x sender moment ev (move.EndSilent m) d h = end_silent_follows laws accs ends w n e x sender moment ev m d h
 moves_follow laws accs ends w n e x sender moment ev (move.Declined m) d h = declined_follows laws accs ends w n e x sender moment ev m d h
 moves_follow laws accs ends w n e x sender moment ev (move.Closed m) d h = closed_follows laws accs ends w n e x sender moment ev m d h
+moves_follow laws accs ends w n e x sender moment ev (move.Rejected m) d h = rejected_follows laws accs ends w n e x sender moment ev m d h
 moves_follow laws accs ends w n e x sender moment ev (move.ClosedBy m) d h = closed_by_follows laws accs ends w n e x sender moment ev m d h
 moves_follow laws accs ends w n e x sender moment ev (move.Cleared i) d h = cleared_follows laws accs ends w n e x sender moment ev i d h
 moves_follow laws accs ends w n e x sender moment ev (move.Greeted m) d h = greeted_follows laws accs ends w n e x sender moment ev m d h

@@ -103,7 +103,7 @@ module _ (laws : Laws) (accs : Accounts) (ends : Ends) (w : World) (n : ℕ) (e 
 
   -- the SCCRQ
   abbrev first : step_laws.Letter
-  first = record { tunnel = m.tunnel; place = m.given; session = 0; message = Sccrq (opening_of e.role (config_of n 0) m.tunnel) }
+  first = record { tunnel = m.tunnel; place = m.given; session = 0; message = Sccrq (opening_of e.role (config_of n 0 None) m.challenge None m.tunnel) }
 
   abbrev b : Account
   b = as_opener peer first
@@ -117,7 +117,8 @@ module _ (laws : Laws) (accs : Accounts) (ends : Ends) (w : World) (n : ℕ) (e 
       ∙ ap (λ (a : Account). with_given (first ∷ []) (record a { part = Opener; peer = peer })) none
 
   abbrev u : Tunnel
-  u = with_letter 0 (Sccrq (opening_of e.role e.config m.tunnel)) (new_tunnel (begun m.tunnel m.peer 0 WaitCtlReply moment))
+  u = with_letter 0 (Sccrq (opening_of e.role e.config m.challenge None m.tunnel))
+      (new_tunnel (begun m.tunnel m.peer 0 WaitCtlReply moment m.challenge))
 
   fits : i < 65536
   fits = id_fits accs n e sender ev h.moved.within i h.moved.does.drawn

@@ -1,12 +1,11 @@
 -- A letter that is taken plainly is counted in the machine, and nothing else changes there; what a closed tunnel takes isn't even counted.
-use Rattle.std.proofs.Common.{◌≡◌, ◌≢◌, ◌⊎◌, inl, inr, ⊎_elim, ℕ, zero, suc, ◌<◌, Bool, true, false, cond, eqb, ◌&&◌, [], length, refl, sym, ap, ◌∙◌, subst, Option, Some, arith}
+use Rattle.std.proofs.Common.{◌≡◌, ◌≢◌, ◌⊎◌, inl, inr, ⊎_elim, ℕ, zero, suc, ◌<◌, Bool, true, false, cond, eqb, ◌&&◌, [], length, refl, sym, ap, ◌∙◌, Option, Some, arith}
 use Rattle.std.proofs.lemmas.Bool.{eqb-true, true≢false}
 use Rattle.std.specs.Prelude.{slice_get, ◌==◌}
 use Rattle.id_table.specs.Ids.{at}
 use Rattle.id_table.specs.Order.{same_or_not}
 use Rattle.control_message.specs.declared.message.Message.{Message}
 use Rattle.control_message.specs.declared.message.Message.TheVariants as message
-use Rattle.control_message.specs.declared.message.Opening.{Opening}
 use Rattle.control_message.specs.Pairs.{IsWritten}
 use Rattle.tunnel_fsm.specs.declared.table.TunnelState.{TunnelState}
 use Rattle.tunnel_fsm.specs.declared.table.TunnelState.TheVariants as tunnel
@@ -16,10 +15,10 @@ use Rattle.protocol_model.specs.declared.moves.TookPlain.{TookPlain}
 use Rattle.protocol_model.specs.declared.moves.Move.TheVariants as move
 use Rattle.protocol_model.specs.declared.tunnel.Call.{Call}
 use Rattle.protocol_model.specs.declared.tunnel.Role.{Role}
-use Rattle.protocol_model.specs.Turn.{Tunnel, counts_taken, session_named, is_acceptable, is_closed}
+use Rattle.protocol_model.specs.Turn.{Tunnel, counts_taken, session_named, is_closed}
 use Rattle.protocol_model.specs.End.{End}
 use Rattle.protocol_model.specs.World.{Sender, Deed}
-use Rattle.step_laws.specs.Moves.{Hears, IsPlain}
+use Rattle.step_laws.specs.Moves.{IsPlain}
 use Rattle.epoch_machine.specs.Letters.{Letter, Sccrq, Sccrp, Scccn, Hello, Request, Reply, Connect, Cdn}
 use Rattle.epoch_machine.specs.Tunnels.{is_open, is_wait_reply, is_wait_connect}
 use Rattle.epoch_machine.specs.Calls.{Calls, CallState, NoCall, Waits, waits_reply, waits_connect, ends, is_named}
@@ -281,36 +280,36 @@ module _ (w : World) (accs : Accounts) (n : ℕ) (e : End) (i : ℕ) (t : Tunnel
             (λ (gone : w.calls.state (name n q) ≡ NoCall). gone)
             (here_or_gone w accs n i h.id e h.old t h.there q qfits (rw here at tells.0)))
 
-  plain_by : (role : Role) (b : Account) (m : Message) → IsNoStop m → ((o : Opening) → m ≡ message.Sccrp o → is_acceptable o ≡ true) → Says role b m
+  plain_by : (role : Role) (b : Account) (m : Message) → IsNoStop m → Says role b m
       → IsPlain e t session m → IsWritten m → slice_get (w.channels.sent s 0) k ≡ Some (spoken from n session m)
       → PlainTakes w X s (spoken from n session m)
-  plain_by role b (message.Sccrq o) no_stop fits says why written stands = ignored w X s Sccrq (plain_sccrq (took_one w X) X s)
-  plain_by role b (message.Sccrp o) no_stop fits says why written stands =
-      ignored w X s Sccrp (plain_sccrp w X s (rw h.phase (no_wait_reply t.control.state (λ one. true≢false (sym (fits o refl) ∙ why one)))))
-  plain_by role b message.Scccn no_stop fits says why written stands =
+  plain_by role b (message.Sccrq o) no_stop says why written stands = ignored w X s Sccrq (plain_sccrq (took_one w X) X s)
+  plain_by role b (message.Sccrp o) no_stop says why written stands =
+      ignored w X s Sccrp (plain_sccrp w X s (rw h.phase (no_wait_reply t.control.state why)))
+  plain_by role b (message.Scccn response) no_stop says why written stands =
       ignored w X s Scccn (plain_scccn w X s (rw h.phase (no_wait_connect t.control.state why)))
-  plain_by role b (message.StopCcn tunnel result error) no_stop fits says why written stands = absurd no_stop
-  plain_by role b message.Hello no_stop fits says why written stands = ignored w X s Hello (plain_hello (took_one w X) X s)
-  plain_by role b (message.Ocrq remote) no_stop fits says why written stands = absurd says
-  plain_by role b message.Ocrp no_stop fits says why written stands = absurd says
-  plain_by role b message.Occn no_stop fits says why written stands = absurd says
-  plain_by role b message.Wen no_stop fits says why written stands = absurd says
-  plain_by role b message.Sli no_stop fits says why written stands = absurd says
-  plain_by role b (message.Icrq remote serial calling) no_stop fits says why written stands =
+  plain_by role b (message.StopCcn tunnel result error) no_stop says why written stands = absurd no_stop
+  plain_by role b message.Hello no_stop says why written stands = ignored w X s Hello (plain_hello (took_one w X) X s)
+  plain_by role b (message.Ocrq remote) no_stop says why written stands = absurd says
+  plain_by role b message.Ocrp no_stop says why written stands = absurd says
+  plain_by role b message.Occn no_stop says why written stands = absurd says
+  plain_by role b message.Wen no_stop says why written stands = absurd says
+  plain_by role b message.Sli no_stop says why written stands = absurd says
+  plain_by role b (message.Icrq remote serial calling) no_stop says why written stands =
       ignored w X s (Request (name from remote)) (plain_request (took_one w X) X s (name from remote))
-  plain_by role b (message.Icrp remote) no_stop fits says why written stands =
+  plain_by role b (message.Icrp remote) no_stop says why written stands =
       ignored w X s (Reply (name from remote) (name n session)) (⊎_elim
       (λ (three : state_number t.control.state ≡ 3). plain_reply w X s (name from remote) (name n session)
       (untested waits_reply refl (λ c call. no_first e.role c.state (h.old.roles i t h.there session c call) (why three c call))))
       (λ is. shut_reply w X s (name from remote) (name n session) (shut is))
       (open_or_not t.control.state))
-  plain_by role b (message.Iccn speed framing sequenced) no_stop fits says why written stands =
+  plain_by role b (message.Iccn speed framing sequenced) no_stop says why written stands =
       ignored w X s (Connect (name n session)) (⊎_elim
       (λ (three : state_number t.control.state ≡ 3). plain_connect w X s (name n session)
       (untested waits_connect refl (λ c call. no_second e.role c.state (h.old.roles i t h.there session c call) (why three c call))))
       (λ is. shut_connect w X s (name n session) (shut is))
       (open_or_not t.control.state))
-  plain_by role b (message.Cdn remote code error) no_stop fits says why written stands = ⊎_elim
+  plain_by role b (message.Cdn remote code error) no_stop says why written stands = ⊎_elim
       (λ (three : state_number t.control.state ≡ 3). plain_cdn w X s (name_of from remote) (name_of n session) (opens three)
       (named_gone remote code error written.0 three why stands))
       (λ is. ignored w X s (Cdn (name_of from remote) (name_of n session)) (shut_cdn w X s (name_of from remote) (name_of n session) (shut is)))
@@ -322,7 +321,7 @@ module _ (w : World) (accs : Accounts) (n : ℕ) (e : End) (i : ℕ) (t : Tunnel
 plain_no_stop : (e : End) (t : Tunnel) (session : ℕ) (m : Message) → is_closed t.control.state ≡ false → IsPlain e t session m → IsNoStop m
 plain_no_stop e t session (message.Sccrq o) works why = tt
 plain_no_stop e t session (message.Sccrp o) works why = tt
-plain_no_stop e t session message.Scccn works why = tt
+plain_no_stop e t session (message.Scccn response) works why = tt
 plain_no_stop e t session (message.StopCcn tunnel result error) works why = absurd (true≢false (sym why ∙ works))
 plain_no_stop e t session message.Hello works why = tt
 plain_no_stop e t session (message.Ocrq remote) works why = tt
@@ -371,20 +370,6 @@ module _ (laws : Laws) (accs : Accounts) (ends : Ends) (w : World) (n : ℕ) (e 
     del = next_delivered accs ends w n e x sender moment ev (move.TookPlain m) d h m.tunnel t h.moved.does.there works header letter.message no_stop
         (letter.next no_stop)
 
-    hears : Hears ev t.control.peer header letter.message
-    hears = record {
-      bytes = h.moved.does.comes.bytes;
-      is = h.moved.does.comes.is;
-      header = h.moved.does.comes.header;
-      read = h.moved.does.comes.read;
-      control = h.moved.does.comes.control;
-      session_is = refl;
-      said = letter.said;
-    }
-
-    fits : (o : Opening) → letter.message ≡ message.Sccrp o → is_acceptable o ≡ true
-    fits o is = laws.acceptable accs n e sender ev h.moved.within t.control.peer header o (inr (subst (Hears ev t.control.peer header) is hears))
-
     abbrev S : ℕ
     S = name del.from.node del.from.tunnel
 
@@ -403,7 +388,7 @@ module _ (laws : Laws) (accs : Accounts) (ends : Ends) (w : World) (n : ℕ) (e 
 
     takes_it : PlainTakes w Y S (spoken del.from.node n header letter.message)
     takes_it = plain_by w accs n e m.tunnel t del.from.node S (length (accs n m.tunnel).taken) header comes del.giver.role
-        (accs del.from.node del.from.tunnel) letter.message no_stop fits del.giver.says why del.written del.stands
+        (accs del.from.node del.from.tunnel) letter.message no_stop del.giver.says why del.written del.stands
 
     abbrev v : World
     v = record (took_one w Y) { calls = takes_it.calls }

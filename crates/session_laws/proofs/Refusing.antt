@@ -1,5 +1,5 @@
 -- A request is refused, and so it is in the machine: it is the one letter about a call that there isn't which comes in a run.
-use Rattle.std.proofs.Common.{◌≡◌, ⊎_elim, ℕ, ◌<◌, true, false, List, length, refl, sym, ap, ap₂, ◌∙◌, subst, Option, Some, Ok, arith}
+use Rattle.std.proofs.Common.{◌≡◌, ⊎_elim, ℕ, ◌<◌, true, false, List, length, refl, sym, ap, ap₂, ◌∙◌, subst, Option, Some, Ok, arith, None}
 use Rattle.std.proofs.lemmas.Bool.{true≢false, lt-ltb}
 use Rattle.id_table.specs.Order.{same_or_not}
 use Rattle.control_message.specs.declared.message.Message.{Message}
@@ -197,7 +197,7 @@ module _ (laws : Laws) (accs : Accounts) (ends : Ends) (w : World) (n : ℕ) (e 
         calls = λ k q kfits qfits. refused_same w X own (name k q);
       })
       (speaks_goes accs ends w n e x sender moment ev (move.Refused m) d h (λ k j. refl) v t u h.moved.does.there
-      (letters_of e.role (config_of n 0) (move.Refused m)) 1
+      (letters_of e.role (config_of n 0 None) (move.Refused m)) 1
       (rw named (calls_take_and_give w X w.calls (letter.Cdn 0 own) old.entered (λ y k. refl)))
       (hears_and_says d n e.role sender (move.Refused m) m.taken (accs n i) (after accs d n i) h.moved.deed del.is_open
       (account_is accs ends w n e x sender moment ev (move.Refused m) d h (λ k j. refl) v t u h.moved.does.there))

@@ -1,5 +1,5 @@
 -- A call is requested, in the machine too.
-use Rattle.std.proofs.Common.{◌≡◌, inr, ℕ, [], ◌∷◌, refl, sym, ap, ◌∙◌, subst, Option, Some, arith, eq-eqb, ne_eqb}
+use Rattle.std.proofs.Common.{◌≡◌, inr, ℕ, [], ◌∷◌, refl, sym, ap, ◌∙◌, subst, Option, Some, arith, eq-eqb, ne_eqb, None}
 use Rattle.id_table.specs.Ids.{put}
 use Rattle.id_table.specs.Order.{at_new, at_other}
 use Rattle.call_fsm.specs.declared.table.CallEvent.TheVariants.{TunnelOpen}
@@ -121,13 +121,13 @@ module _ (laws : Laws) (accs : Accounts) (ends : Ends) (w : World) (n : ℕ) (e 
   does : step all_rules w (Asks Z) ≡ v
   does = asks_is w X Z call.tunnel (here.phase ∙ open_phase t.control.state h.moved.does.open_is) (call.state ∙ on.was)
 
-  says : AccountSpeaks (accs n i) (after accs d n i) (letters_of e.role (config_of n 0) (move.Requested m)) 0
+  says : AccountSpeaks (accs n i) (after accs d n i) (letters_of e.role (config_of n 0 None) (move.Requested m)) 0
   says = says_one d n e.role sender (move.Requested m) (accs n i) (after accs d n i) h.moved.deed
       (account_is accs ends w n e x sender moment ev (move.Requested m) d h (λ k j. refl) v t u h.moved.does.there)
 
   goes : TunnelGoes accs (after accs d) w v n i u
   goes = speaks_goes accs ends w n e x sender moment ev (move.Requested m) d h (λ k j. refl) v t u h.moved.does.there
-      (letters_of e.role (config_of n 0) (move.Requested m)) 0 speaks says refl (Asks Z) does
+      (letters_of e.role (config_of n 0 None) (move.Requested m)) 0 speaks says refl (Asks Z) does
 
   sessions : x.session_ids ≡ e.session_ids
   sessions = ap (λ (y : End). y.session_ids) h.moved.does.after

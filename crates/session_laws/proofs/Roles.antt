@@ -52,7 +52,7 @@ took_still a b got is h = record {
 says_still : (r : Role) (a b : Account) (got : List Taken) → b.taken ≡ a.taken ++ got → (m : Message) → Says r a m → Says r b m
 says_still r a b got is (message.Sccrq o) h = h
 says_still r a b got is (message.Sccrp o) h = h
-says_still r a b got is message.Scccn h = h
+says_still r a b got is (message.Scccn response) h = h
 says_still r a b got is (message.StopCcn tunnel result error) h = h
 says_still r a b got is message.Hello h = h
 says_still r a b got is (message.Ocrq session) h = h
@@ -81,7 +81,7 @@ module _ (r : Role) (a : Account) (h : FitsEnd r a) where
   module _ (d : Deed) (n : ℕ) (sender : Option Sender) (m : Move) (deed : IsDeed d n r sender m) (b : Account) (given : b.given ≡ a.given)
       (taken : b.taken ≡ a.taken) (opens : b.part ≡ Opener → r ≡ Lac) where
     abbrev more : List Letter
-    more = letters_of r (config_of n 0) m
+    more = letters_of r (config_of n 0 None) m
 
     given_fits : AllByRecursion (λ (l : Letter). Says r (with_given more b) l.message) more → FitsEnd r (gives_also d b)
     given_fits says = subst (FitsEnd r) (sym (gives_only d n r sender m b deed))
@@ -174,6 +174,7 @@ module _ (accs : Accounts) (n : ℕ) (e x : End) (sender : Option Sender) (momen
   entered_fits (move.EndSilent m) deed does h live = h
   entered_fits (move.Declined m) deed does h live = h
   entered_fits (move.Closed m) deed does h live = given_fits e.role _ h d n sender (move.Closed m) deed _ refl refl h.opens (tt, tt)
+  entered_fits (move.Rejected m) deed does h live = both_fit e.role _ h d n sender (move.Rejected m) deed _ refl refl h.opens m.taken (tt, tt)
   entered_fits (move.ClosedBy m) deed does h live = taken_fits e.role _ h d n sender (move.ClosedBy m) deed _ refl refl h.opens m.taken
   entered_fits (move.Cleared i) deed does h live = h
   entered_fits (move.Greeted m) deed does h live = given_fits e.role _ h d n sender (move.Greeted m) deed _ refl refl h.opens (tt, tt)

@@ -13,7 +13,7 @@ use Rattle.protocol_model.specs.declared.moves.Move.{Move}
 use Rattle.protocol_model.specs.declared.refusal.Refusal.{Refusal}
 use Rattle.protocol_model.specs.declared.tunnel.Role.{Role}
 use Rattle.protocol_model.specs.declared.tunnel.Role.TheVariants.{Lac, Lns}
-use Rattle.protocol_model.specs.End.{End, new_end, step}
+use Rattle.protocol_model.specs.End.{End, new_end, plain_step}
 use Rattle.protocol_model.specs.World.{World, Node, Sender, Deed, Lined, birth_in, birth_of, moved, moved_all, config_of, line}
 use Rattle.protocol_model.specs.Run.{Run, empty_run, after_line, goes_on, run_from}
 use Rattle.epoch_machine.specs.Worlds as machine
@@ -139,9 +139,9 @@ some_not_none : {X Y : Type 0} (o : Option X) (x : X) → o ≡ None → o ≡ S
 some_not_none o x n s = absurd (none-some x (sym n ∙ s))
 
 module _ (accs : Accounts) (ends : Ends) (w : machine.World) (joined : AreJoined accs ends w) (n : ℕ) (lt : n < 256) (role : Role) (lns : ℕ)
-    (none : ends n ≡ None) where
+    (secret : Option (List ℕ)) (none : ends n ≡ None) where
   abbrev new : End
-  new = new_end role (config_of n lns)
+  new = new_end role (config_of n lns secret)
 
   new_calls : CallsJoined w accs n new
   new_calls =
@@ -220,7 +220,7 @@ pub record RunOk (r : Run) : Type 0 where
 
 -- the births after the moves of a line are those of the world that it leaves
 step_told : (w : World) (accs : Accounts) (number : ℕ) (x : Lined) (s : LineSteps w accs number x)
-    → BirthsStay (moved_all s.node (step s.old.end s.moment s.block s.ev).moves s.begun) x.world
+    → BirthsStay (moved_all s.node (plain_step s.old.end s.moment s.block s.ev).moves s.begun) x.world
 step_told w accs number x s = subst (λ (v : World). BirthsStay v x.world) s.told_is s.births
 
 -- what a line leaves
@@ -244,8 +244,8 @@ module _ (keep : MovesKeep) (follow : MovesFollow) where
         });
         count = rw born.count (omega arith);
       }
-  line_follows w accs holds number x mw joined births room ds replies (ANode n role lns lt free none same born) =
-      let new : Node = record { end = new_end role (config_of n lns); clock = 0; births = [] } in
+  line_follows w accs holds number x mw joined births room ds replies (ANode n role lns secret lt free none same born) =
+      let new : Node = record { end = new_end role (config_of n lns secret); clock = 0; births = [] } in
       let there : (m : ℕ) → with_end (ends_of w.nodes) n new.end m ≡ ends_of x.world.nodes m = λ m. ⊎_elim
       (λ (s : m ≡ n). subst (λ q. with_end (ends_of w.nodes) n new.end q ≡ ends_of x.world.nodes q) (sym s)
       (here_end (ends_of w.nodes) n new.end
@@ -259,9 +259,9 @@ module _ (keep : MovesKeep) (follow : MovesFollow) where
       record {
         joins = rw none (record {
           world = mw;
-          joined = same_ends accs grown (ends_of x.world.nodes) mw there (new_joined accs (ends_of w.nodes) mw joined n lt role lns is_none);
+          joined = same_ends accs grown (ends_of x.world.nodes) mw there (new_joined accs (ends_of w.nodes) mw joined n lt role lns secret is_none);
           births = births_ended x.world grown (ends_of x.world.nodes) mw there
-              (births_told w x.world grown mw born (new_births accs (ends_of w.nodes) mw joined n lt role lns is_none w births));
+              (births_told w x.world grown mw born (new_births accs (ends_of w.nodes) mw joined n lt role lns secret is_none w births));
           replies = subst (λ qs. RepliesJoined mw qs) (sym (append-nil ds)) replies;
         });
         count = rw born.count (omega arith);

@@ -1,5 +1,5 @@
 -- A tunnel is closed with its calls as its peer's StopCCN comes, and so it is in the machine.
-use Rattle.std.proofs.Common.{◌≡◌, ◌⊎◌, inl, inr, ⊎_elim, ℕ, ◌<◌, true, false, [], length, refl, sym, ap, ap₂, ◌∙◌, slice_get, Option, Some, arith, eq-eqb}
+use Rattle.std.proofs.Common.{◌≡◌, ◌⊎◌, inl, inr, ⊎_elim, ℕ, ◌<◌, true, false, [], length, refl, sym, ap, ap₂, ◌∙◌, subst, slice_get, Option, Some, arith, eq-eqb}
 use Rattle.std.proofs.lemmas.Bool.{lt-ltb, or_right, true≢false}
 use Rattle.std.proofs.lemmas.Option.{slice_get-map}
 use Rattle.std.specs.Prelude.{◌==◌}
@@ -22,10 +22,11 @@ use Rattle.epoch_machine.specs.Moves as moves
 use Rattle.epoch_machine.specs.Moves.{Delivers, TakesRefusal, reaches, may_take, may_take_refusal, delivers, step}
 use Rattle.connection_laws.specs.Accounts.{Part, Unmade, Opener, Acceptor, Taken, Account}
 use Rattle.connection_laws.specs.Facts as facts
-use Rattle.connection_laws.specs.Facts.{Accounts, IsStopCcn, AccountOk, IsInState, LiveOk}
+use Rattle.connection_laws.specs.Facts.{Accounts, IsStopCcn, IsOpener, IsPart, AccountOk, IsInState, LiveOk}
 use Rattle.connection_laws.specs.Steps.{after, StopLetter, StopOfNone}
-use Rattle.session_laws.specs.Names.{name, name_of, spoken, letter_of, phase_of}
+use Rattle.session_laws.specs.Names.{is_early, name, name_of, spoken, letter_of, phase_of}
 use Rattle.session_laws.specs.Joined.{Ends, tunnel_in, TunnelJoined}
+use Rattle.session_laws.proofs.Learned.{early_or_not, late_learned, early_learned, none_learned, open_learned, closed_learned}
 use Rattle.session_laws.proofs.Keeps.{with_end, Laws, IsMade, Follows}
 use Rattle.session_laws.proofs.Entering.{after_here, with_taken, taken_as, takes_only}
 use Rattle.session_laws.proofs.Names.{name_some, known_name}
@@ -69,7 +70,7 @@ stop_spoken : (n m header : ℕ) (q : Message) → IsStopCcn q → spoken n m he
 stop_spoken n m header (message.StopCcn tunnel result error) stops = refl
 stop_spoken n m header (message.Sccrq o) stops = absurd stops
 stop_spoken n m header (message.Sccrp o) stops = absurd stops
-stop_spoken n m header message.Scccn stops = absurd stops
+stop_spoken n m header (message.Scccn response) stops = absurd stops
 stop_spoken n m header message.Hello stops = absurd stops
 stop_spoken n m header (message.Ocrq session) stops = absurd stops
 stop_spoken n m header message.Ocrp stops = absurd stops
@@ -175,14 +176,28 @@ module _ (laws : Laws) (accs : Accounts) (ends : Ends) (w : World) (n : ℕ) (e 
     stands = rw (c_joined.sent, slice_get-map (letter_of f.node c.peer) c.given (length a.taken), stop.there)
         (ap (λ l. Some l) (stop_spoken f.node c.peer stop.letter.session stop.letter.message stop.stops))
 
+    here : 0 < i
+    here = here_some accs ends w n e x sender moment ev (move.ClosedBy m) d h i t h.moved.does.there
+
+    -- this one has learned it
+    here_learned : a.remote ≡ f.tunnel → w.tunnels.learned X ≡ S
+    here_learned known = old.learned ∙ open_learned a works.is_open ∙ ap₂ name_of stop.peer known ∙ known_name f.node f.tunnel some
+
+    -- an opener that knows this one is known to it
+    opener_known : c.remote ≡ i → c.part ≡ Opener → a.remote ≡ f.tunnel
+    opener_known known opens =
+        let opener : IsOpener accs f.node f.tunnel c = subst (IsPart accs f.node f.tunnel c) opens c_ok.part in
+        ap₂ (λ k j. (accs k j).remote) (sym stop.goes) (sym known) ∙ opener.remote (λ z. (let some_here = here in let no : ⊥ = omega (arith, z, known) in no))
+
     -- it has learned this tunnel, or has learned none and is known to this one
     knows : (w.tunnels.learned S ≡ X) ⊎ ((w.tunnels.learned S ≡ 0) × (w.tunnels.learned X ≡ S))
     knows = ⊎_elim
-        (λ (known : c.remote ≡ i).
-        inl (c_joined.learned ∙ ap₂ name_of stop.goes known
-        ∙ known_name n i (here_some accs ends w n e x sender moment ev (move.ClosedBy m) d h i t h.moved.does.there)))
-        (λ (lost : (c.remote ≡ 0) × (a.remote ≡ f.tunnel)).
-        inr (c_joined.learned ∙ ap (λ r. name_of c.peer r) lost.0, old.learned ∙ ap₂ name_of stop.peer lost.1 ∙ known_name f.node f.tunnel some))
+        (λ (known : c.remote ≡ i). ⊎_elim
+        (λ (e : (c.part ≡ Opener) × (c.closed ≡ Some 0)). inr (c_joined.learned ∙ early_learned c e.0 e.1, here_learned (opener_known known e.0)))
+        (λ (late : is_early c.part c.closed ≡ false).
+        inl (c_joined.learned ∙ late_learned c late ∙ ap₂ name_of stop.goes known ∙ known_name n i here))
+        (early_or_not c.part c.closed))
+        (λ (lost : (c.remote ≡ 0) × (a.remote ≡ f.tunnel)). inr (c_joined.learned ∙ none_learned c lost.0, here_learned lost.1))
         stop.reaches
 
     delivery : Does w v
@@ -215,7 +230,8 @@ module _ (laws : Laws) (accs : Accounts) (ends : Ends) (w : World) (n : ℕ) (e 
   tunnel : TunnelJoined v n i b (Some u)
   tunnel = letters_joined w v n i a b [] 0 (Some t) (Some u) old (leaves_letters w w X Closed [] 0 (no_letters w X))
       (record { part = refl; peer = refl; given = refl; heeds = sym (heeds_all a works.is_open) ∙ (omega arith); declined = refl })
-      (ap (λ (g : ℕ → ℕ). g X) (leaves_learned w X Closed) ∙ old.learned) (leaves_phase w X Closed)
+      (ap (λ (g : ℕ → ℕ). g X) (leaves_learned w X Closed) ∙ old.learned ∙ open_learned a works.is_open
+      ∙ sym (closed_learned accs n i a (h.moved.within.accounts n i).part)) (leaves_phase w X Closed)
 
   pub closed_by_follows : Follows w n e x (move.ClosedBy m) (after accs d) (with_end ends n x)
   closed_by_follows =

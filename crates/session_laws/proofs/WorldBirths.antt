@@ -231,6 +231,7 @@ module _ (world : World) (ends : Ends) (w v : machine.World) (n : ℕ) (lt : n <
   births_on (move.EndSilent m) g = else_on (move.EndSilent m) g.role refl g.go
   births_on (move.Declined m) g = else_on (move.Declined m) g.role refl g.go
   births_on (move.Closed m) g = else_on (move.Closed m) g.role refl g.go
+  births_on (move.Rejected m) g = else_on (move.Rejected m) g.role refl g.go
   births_on (move.ClosedBy m) g = else_on (move.ClosedBy m) g.role refl g.go
   births_on (move.Cleared i) g = else_on (move.Cleared i) g.role refl g.go
   births_on (move.Greeted m) g = else_on (move.Greeted m) g.role refl g.go

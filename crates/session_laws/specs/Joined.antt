@@ -21,7 +21,7 @@ use Rattle.epoch_machine.specs.Calls.{NoCall}
 use Rattle.connection_laws.specs.Accounts.{Account, heeded}
 use Rattle.connection_laws.specs.Facts.{Accounts, IsMade}
 use Rattle.session_laws.specs.Roles.{FitEnds}
-use Rattle.session_laws.specs.Names.{name, name_of, other_name, letter_of, phase_in, state_of, is_made, is_opener}
+use Rattle.session_laws.specs.Names.{name, name_of, learned_name, letter_of, phase_in, state_of, is_made, is_opener}
 
 -- the ends of nodes, by their numbers
 abbrev pub Ends : Type 0
@@ -37,7 +37,7 @@ pub record TunnelJoined (w : machine.World) (n i : ℕ) (a : Account) (o : Optio
   pub opener : w.tunnels.opener (name n i) ≡ is_opener a.part
   pub node : IsMade a → w.tunnels.node (name n i) ≡ n
   pub peer : IsMade a → w.tunnels.peer (name n i) ≡ a.peer
-  pub learned : w.tunnels.learned (name n i) ≡ other_name a
+  pub learned : w.tunnels.learned (name n i) ≡ learned_name a
   pub phase : w.tunnels.phase (name n i) ≡ phase_in o
   pub entered : w.tunnels.entered (name n i) ≡ 0
   -- its letters have the places that their numbers are

@@ -25,12 +25,23 @@ name_of n i = if i == 0 then 0 else name n i
 abbrev pub other_name : Account → ℕ
 other_name a = name_of a.peer a.remote
 
+-- an opener that is closed before it heeded a letter learns none: it gave up, or rejected the SCCRP that told it the id
+abbrev pub is_early : Part → Option ℕ → Bool
+is_early Unmade closed = false
+is_early Acceptor closed = false
+is_early Opener None = false
+is_early Opener (Some count) = count == 0
+
+-- the other end, as far as it was learned
+abbrev pub learned_name : Account → ℕ
+learned_name a = if is_early a.part a.closed then 0 else other_name a
+
 -- a letter of a tunnel from one node to another, by the session id of its header and what it says. A CDN that ends no call of its
 -- own end has no name for one. Messages that no end gives, and of which the machine knows nothing, say as little as a HELLO
 abbrev pub spoken : ℕ → ℕ → ℕ → Message → machine.Letter
 spoken n m header (message.Sccrq o) = machine.Sccrq
 spoken n m header (message.Sccrp o) = machine.Sccrp
-spoken n m header message.Scccn = machine.Scccn
+spoken n m header (message.Scccn response) = machine.Scccn
 spoken n m header (message.StopCcn tunnel result error) = machine.StopCcn
 spoken n m header message.Hello = machine.Hello
 spoken n m header (message.Ocrq session) = machine.Hello

@@ -25,7 +25,7 @@ pub record TookReply (a : Account) : Type 0 where
 abbrev pub Says : Role → Account → Message → Type 0
 Says r a (message.Sccrq o) = r ≡ Lac
 Says r a (message.Sccrp o) = Unit {0}
-Says r a message.Scccn = r ≡ Lac
+Says r a (message.Scccn response) = r ≡ Lac
 Says r a (message.StopCcn tunnel result error) = Unit {0}
 Says r a message.Hello = Unit {0}
 Says r a (message.Ocrq session) = ⊥

@@ -1,6 +1,6 @@
 -- A turn that takes a request for a call answers it once, by its tables.
 use Rattle.std.proofs.Common.{◌≡◌, ℕ, ◌<◌, Bool, true, cond, List, [], ◌∷◌, ◌++◌, refl, sym, ap, ◌∙◌, subst, Option, Some, None, Result, Ok, Err, arith}
-use Rattle.std.proofs.lemmas.Bool.{true≢false, eq-eqb, lt-ltb}
+use Rattle.std.proofs.lemmas.Bool.{eqb-true, true≢false, eq-eqb, lt-ltb}
 use Rattle.std.proofs.lemmas.Grind.{flat_map-append}
 use Rattle.std.specs.Prelude.{◌==◌, nat_lt, unwrap_or}
 use Rattle.std.specs.List.{flat_map}
@@ -25,7 +25,7 @@ use Rattle.protocol_model.specs.declared.tunnel.Role.TheVariants.{Lac, Lns}
 use Rattle.protocol_model.specs.declared.moves.Move.{Move}
 use Rattle.protocol_model.specs.Reading.{message_in, CallFault, call_fault_in, tunnel_fault_in}
 use Rattle.protocol_model.specs.Calls.{call_row}
-use Rattle.protocol_model.specs.Turn.{Turn, Tunnel, Reason, with_output, with_move, with_change, with_new, gives, takes_one, takes_plain, has_room, out_of_state, fault_reason, known_or, shuts, ends_call, closed_told, closes_tunnel, takes_by, takes, ends_by, end_told, answers_by, refused, refuses, of_no_call, replied, replies, granted, asked_by, about_call, in_call, faulty_at, faulty, in_faulty_call, hears, hears_faulty, hears_said, hears_next, is_closed, settles}
+use Rattle.protocol_model.specs.Turn.{Turn, Tunnel, Reason, with_output, with_move, with_change, with_new, gives, takes_one, takes_plain, has_room, out_of_state, fault_reason, shuts, ends_call, closed_told, closes_tunnel, takes_by, takes, ends_by, end_told, answers_by, refused, refuses, of_no_call, replied, replies, granted, asked_by, about_call, in_call, faulty_at, faulty, in_faulty_call, hears, hears_faulty, hears_said, hears_next, is_closed, settles}
 use Rattle.protocol_model.specs.End.{End}
 use Rattle.step_laws.specs.Left.{CanBe}
 use Rattle.step_laws.specs.Answers.{IsRequest, Incoming, Outgoing, FaultyIncoming, FaultyOutgoing, TooFaulty, answer_of_move, IsReply, IsRefusal, IsEnd, IsClose, AnswersIcrq, WithReply, WithRefusal, WithEnd, WithDeniedEnd, AnswersFaulty, IsAnswer}
@@ -86,6 +86,10 @@ answered A ms m none one right = record {
   right = right;
 }
 
+-- and a move after it that answers nothing
+answered_before : (A : Move → Type 0) (ms : List Move) (m : Move) → answer_of_move m ≡ [] → OneAnswer A ms → OneAnswer A (ms ++ m ∷ [])
+answered_before A ms m none h = record { answer = h.answer; only = none_more answer_of_move ms m none ∙ h.only; right = h.right }
+
 pub settled_answer : (A : Move → Type 0) (again : Bool) (letters : List Letter) (t : Turn) → OneAnswer A t.moves
     → OneAnswer A (settles again letters t).moves
 settled_answer A again letters t h = record {
@@ -143,12 +147,12 @@ module _ (A : Move → Type 0) (id : ℕ) where
 
   -- the tunnel closes
   closes_once : (r : Reason) (calls : List (ℕ × Call)) (remote : ℕ) (next : TunnelState) (t : Turn) → IsOpen id t
-      → ((m : Move) → IsClose id r.result r.error m → A m) → Answered (closes_tunnel r calls remote next (takes_plain t))
+      → ((m : Move) → IsClose id r.result r.error m → A m) → Answered (takes_plain (closes_tunnel r calls remote next t))
   unfolding closes_tunnel closed_told shuts gives with_move with_output takes_plain takes_one
   closes_once r calls remote next t h right =
-      branch Answered (has_room t.control) _ _
-      (λ may. rw (all_ended_is (ids_of calls) _) (answered A _ _ (none_more answer_of_move t.moves _ refl ∙ h.none) refl
-      (right _ (record { closed = _; is = refl; tunnel = h.local; result_is = refl; error_is = refl }))))
+      branch (λ (u : Turn). Answered (takes_plain u)) (has_room t.control) _ _
+      (λ may. rw (all_ended_is (ids_of calls) _) (answered_before A _ _ refl (answered A t.moves _ h.none refl
+      (right _ (record { closed = _; is = refl; tunnel = h.local; result_is = refl; error_is = refl })))))
       (λ full. absurd (true≢false (sym h.room ∙ full)))
 
 -- ---- the request is heard
@@ -199,45 +203,53 @@ module _ (e : End) (id : ℕ) (tunnel : Tunnel) (session : ℕ) (t : Turn) (h : 
         branch X (state_number t.control.state == 3) x y (λ yes. good)
         (λ no. absurd (true≢false (sym (eq-eqb (state_number t.control.state) 3 h.state) ∙ no)))
 
-    said_once : (r : IsRequest body) → Right r (hears_said e.role calls session (call_fault_in body) (tunnel_fault_in body) (message_in body) t)
+    said_once : (r : IsRequest body) → Right r (hears_said e.role e.config calls session (call_fault_in body) (tunnel_fault_in body) (message_in body) t)
     unfolding hears_said hears in_call about_call hears_faulty in_faulty_call faulty takes takes_by
     said_once (Incoming remote serial calling said) =
-        subst (λ q. Right (Incoming remote serial calling said) (hears_said e.role calls session (call_fault_in body) (tunnel_fault_in body) q t)) (sym said)
+        subst (λ q. Right (Incoming remote serial calling said) (hears_said e.role e.config calls session (call_fault_in body) (tunnel_fault_in body) q t)) (sym said)
         (is_open (λ u. Right (Incoming remote serial calling said) u) _ _
         (subst (λ ss. Right (Incoming remote serial calling said) (asked_by e.role session remote (granted e.role calls remote ss) (at calls session) t))
         (sym ids) (icrq_once remote (granted e.role calls remote e.session_ids) refl (at calls session) refl)))
     said_once (Outgoing remote said) =
-        subst (λ q. Right (Outgoing remote said) (hears_said e.role calls session (call_fault_in body) (tunnel_fault_in body) q t)) (sym said)
+        subst (λ q. Right (Outgoing remote said) (hears_said e.role e.config calls session (call_fault_in body) (tunnel_fault_in body) q t)) (sym said)
         (is_open (λ u. Right (Outgoing remote said) u) _ _ (refuses_once _ id _ remote t h (λ m right. right)))
     said_once (FaultyIncoming f has is) =
-        subst (λ q. Right (FaultyIncoming f has is) (hears_said e.role calls session (call_fault_in body) (tunnel_fault_in body) q t))
+        subst (λ q. Right (FaultyIncoming f has is) (hears_said e.role e.config calls session (call_fault_in body) (tunnel_fault_in body) q t))
         (sym (fault_unread body f has))
-        (subst (λ o. Right (FaultyIncoming f has is) (hears_faulty e.role calls session o (tunnel_fault_in body) why.Avp t)) (sym has)
+        (subst (λ o. Right (FaultyIncoming f has is) (hears_faulty e.role e.config calls session o (tunnel_fault_in body) why.Avp t)) (sym has)
         (is_open (λ u. Right (FaultyIncoming f has is) u) _ _
         (subst (λ k. Right (FaultyIncoming f has is) (faulty e.role calls session k f.cause f.session t)) (sym is)
         (faulty_once f (at calls session) refl))))
     said_once (FaultyOutgoing f has is) =
-        subst (λ q. Right (FaultyOutgoing f has is) (hears_said e.role calls session (call_fault_in body) (tunnel_fault_in body) q t))
+        subst (λ q. Right (FaultyOutgoing f has is) (hears_said e.role e.config calls session (call_fault_in body) (tunnel_fault_in body) q t))
         (sym (fault_unread body f has))
-        (subst (λ o. Right (FaultyOutgoing f has is) (hears_faulty e.role calls session o (tunnel_fault_in body) why.Avp t)) (sym has)
+        (subst (λ o. Right (FaultyOutgoing f has is) (hears_faulty e.role e.config calls session o (tunnel_fault_in body) why.Avp t)) (sym has)
         (is_open (λ u. Right (FaultyOutgoing f has is) u) _ _
         (subst (λ k. Right (FaultyOutgoing f has is) (faulty e.role calls session k f.cause f.session t)) (sym is)
         (refuses_once _ id (fault_reason f.cause) (unwrap_or f.session 0) t h (λ m right. right)))))
     said_once (TooFaulty avps g read asks has) =
         let u = too_faulty body avps g read asks has in
-        subst (λ q. Right (TooFaulty avps g read asks has) (hears_said e.role calls session (call_fault_in body) (tunnel_fault_in body) q t)) (sym u.unread)
-        (subst (λ o. Right (TooFaulty avps g read asks has) (hears_faulty e.role calls session o (tunnel_fault_in body) why.Avp t)) (sym u.no_call)
-        (subst (λ o. Right (TooFaulty avps g read asks has) (hears_faulty e.role calls session None o why.Avp t)) (sym has)
-        (subst (λ (on : TunnelEvent). Right (TooFaulty avps g read asks has) (takes e.role calls (fault_reason g.cause) on g.remote 0 t)) (sym u.closes.event)
-        (subst (λ row. Right (TooFaulty avps g read asks has) (takes_by e.role calls (fault_reason g.cause) g.remote 0 row t))
+        subst (λ q. Right (TooFaulty avps g read asks has) (hears_said e.role e.config calls session (call_fault_in body) (tunnel_fault_in body) q t)) (sym u.unread)
+        (subst (λ o. Right (TooFaulty avps g read asks has) (hears_faulty e.role e.config calls session o (tunnel_fault_in body) why.Avp t)) (sym u.no_call)
+        (subst (λ o. Right (TooFaulty avps g read asks has) (hears_faulty e.role e.config calls session None o why.Avp t)) (sym has)
+        (subst (λ (on : TunnelEvent). Right (TooFaulty avps g read asks has) (takes e.role e.config calls (fault_reason g.cause) on None g.remote 0 t)) (sym u.closes.event)
+        (subst (λ row. Right (TooFaulty avps g read asks has) (takes_by e.role e.config calls (fault_reason g.cause) None g.remote 0 row t))
         (sym (row_shut t.control.state event.AdminClose (λ z. open_busy z) (live_open t.control h.state) tt))
-        (subst (λ (c : CauseOf). Right (TooFaulty avps g read asks has) (closes_tunnel (fault_reason c) calls (known_or g.remote t.control) state.Closed (takes_plain t)))
-        (sym u.closes.cause) (closes_once _ id (fault_reason cause.Value) calls _ _ t h (λ m right. right)))))))
+        (not_waiting (λ u. Right (TooFaulty avps g read asks has) u) _ _
+        (subst (λ (c : CauseOf). Right (TooFaulty avps g read asks has) (takes_plain (closes_tunnel (fault_reason c) calls t.control.remote state.Closed t)))
+        (sym u.closes.cause) (closes_once _ id (fault_reason cause.Value) calls _ _ t h (λ m right. right))))))))
       where
+        -- an open tunnel doesn't wait for its SCCRP
+        not_waiting : (X : Turn → Type 0) (x y : Turn) → X y → X (cond (state_number t.control.state == 1) x y)
+        not_waiting X x y good =
+            branch X (state_number t.control.state == 1) x y
+            (λ one. absurd (open_not (state_number t.control.state) 1 h.state (eqb-true (state_number t.control.state) 1 one) (λ f. omega (arith, f))))
+            (λ no. good)
+
         open_busy : state_number t.control.state ≡ 0 → ⊥
         open_busy z = open_not (state_number t.control.state) 0 h.state z (λ f. omega (arith, f))
 
-    pub next_once : (r : IsRequest body) → Right r (hears_next e.role calls session body t)
+    pub next_once : (r : IsRequest body) → Right r (hears_next e.role e.config calls session body t)
     unfolding hears_next
     next_once r =
         branch (λ u. Right r u) (is_closed t.control.state) _ _

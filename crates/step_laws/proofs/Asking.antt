@@ -41,7 +41,7 @@ use Rattle.protocol_model.specs.declared.tunnel.Role.TheVariants.{Lac, Lns}
 use Rattle.protocol_model.specs.declared.out.Out.TheVariants.{Cause}
 use Rattle.protocol_model.specs.Reading.{header_why, body_of, message_in, CallFault, call_fault_in, TunnelFault, tunnel_fault_in}
 use Rattle.protocol_model.specs.Calls.{call_row, advanced, rung, asked_for, is_request, is_connection, is_up, are_too_many}
-use Rattle.protocol_model.specs.Turn.{Turn, with_output, with_move, with_change, with_call, with_new, with_local, with_calls, opened, opens_by, opens, accepted, accepts_by, accepts, rings_new, first_said, drops, gives, has_room, settles, takes_one, reads_nr, requested, requests, requests_at, requests_all, adds, rings_over, rings_by, rings_within, rings, may_take, Reason, reason, out_of_state, refused, refuses, of_no_call, end_silent, end_told, ends_by, closes, answers_by, granted, asked_by, fault_reason, faulty_at, faulty, in_faulty_call, ends_all, is_closed, event_by, opening_reason, out_of_order, known_or, counts_taken, shut, shuts, closed_told, closes_tunnel, closed_by, shuts_by, connected, connects, confirms, takes_plain, ignores, takes_by, takes, replied, replies, first_up, first_up_by, second_up, second_up_by, ends_call, is_clean_up, end_heard, end_heard_by, session_named, ends_named, about_call, in_call, hears, hears_faulty, hears_said, hears_next, hears_letter, is_duplicate, in_tunnel, hears_control, carried, carries, hears_datagram}
+use Rattle.protocol_model.specs.Turn.{rejects, rejected, connected_reason, connected_event, Turn, with_output, with_move, with_change, with_call, with_new, with_local, with_calls, opened, opens_by, opens, accepted, accepts_by, accepts, rings_new, first_said, drops, gives, has_room, settles, takes_one, reads_nr, requested, requests, requests_at, requests_all, adds, rings_over, rings_by, rings_within, rings, may_take, Reason, reason, out_of_state, refused, refuses, of_no_call, end_silent, end_told, ends_by, closes, answers_by, granted, asked_by, fault_reason, faulty_at, faulty, in_faulty_call, ends_all, is_closed, event_by, opening_reason, out_of_order, counts_taken, shut, shuts, closed_told, closes_tunnel, closed_by, shuts_by, connected, connects, confirms, takes_plain, ignores, takes_by, takes, replied, replies, first_up, first_up_by, second_up, second_up_by, ends_call, is_clean_up, end_heard, end_heard_by, session_named, ends_named, about_call, in_call, hears, hears_faulty, hears_said, hears_next, hears_letter, is_duplicate, in_tunnel, hears_control, carried, carries, hears_datagram}
 use Rattle.step_laws.specs.Letters.{Among}
 use Rattle.step_laws.proofs.Lists.{branch, found_among, with_calls-more}
 use Rattle.step_laws.proofs.States.{requested_state, connected_state, up_state}
@@ -241,12 +241,13 @@ module _ (role : Role) (calls : List (ℕ × Call)) where
 
   -- ---- letters about the tunnel
 
-  connects_asked : (remote window : ℕ) (next : TunnelState) (t : Turn) → Begins t → Asked (connects role calls remote window next t)
+  connects_asked : (c : Config) (asked : Option (List ℕ)) (remote window : ℕ) (next : TunnelState) (t : Turn) → Begins t
+      → Asked (connects role c calls asked remote window next t)
   unfolding connects connected gives with_move takes_one with_calls
-  connects_asked remote window next t b =
+  connects_asked c asked remote window next t b =
       branch Asked (has_room t.control) _ _
       (λ may.
-      let u = connected remote window next t in
+      let u = connected c asked remote window next t in
       let first : IsAsking u = λ s c there waits. at_first t b s c there in
       let a = requests_all_ok (ids_of calls) u first in
       λ is_open s c there waits. a.past s (found_among calls s c (first s c (a.leads.fewer s c there waits) waits)) c there waits)
@@ -273,6 +274,20 @@ module _ (role : Role) (calls : List (ℕ × Call)) where
       (ended_calls (record t { control = shut remote next t.moment t.control; outputs = t.outputs ++ Cause r.cause ∷ [] }) b.none))
       (λ full. dropped why.Queue t b)
 
+  -- and the letter is taken
+  shut_taken : (r : Reason) (remote : ℕ) (next : TunnelState) (t : Turn) → Asked (closes_tunnel r calls remote next t)
+      → Asked (takes_plain (closes_tunnel r calls remote next t))
+  unfolding takes_plain with_move takes_one
+  shut_taken r remote next t h = h
+
+  rejects_asked : (r : Reason) (remote : ℕ) (next : TunnelState) (t : Turn) → Begins t → Asked (rejects r calls remote next t)
+  unfolding rejects rejected shuts gives with_output with_move takes_one
+  rejects_asked r remote next t b =
+      branch Asked (has_room t.control) _ _
+      (λ may. none_there (rejected r calls remote next t)
+      (ended_calls (record t { control = shut remote next t.moment (counts_taken t.control); took = true; outputs = t.outputs ++ Cause r.cause ∷ [] }) b.none))
+      (λ full. dropped why.Queue t b)
+
   shut_heard_asked : (next : TunnelState) (t : Turn) → Begins t → Asked (closed_by calls next t)
   unfolding closed_by shuts with_move takes_one
   shut_heard_asked next t b =
@@ -294,26 +309,29 @@ module _ (role : Role) (calls : List (ℕ × Call)) where
 
   -- ---- letters by the tunnel's table
 
-  takes_by_asked : (r : Reason) (remote window : ℕ) (next : TunnelState) (a : TunnelAction) (t : Turn)
+  takes_by_asked : (c : Config) (r : Reason) (asked : Option (List ℕ)) (remote window : ℕ) (next : TunnelState) (a : TunnelAction) (t : Turn)
       → (IsOpening t → a ≡ action.Nothing → state_number next ≡ state_number t.control.state) → Begins t
-      → Asked (takes_by role calls r remote window (next, a) t)
+      → Asked (takes_by role c calls r asked remote window (next, a) t)
   unfolding takes_by
-  takes_by_asked r remote window next action.SendScccn t stays b = connects_asked remote window next t b
-  takes_by_asked r remote window next action.Nothing t stays b =
+  takes_by_asked c r asked remote window next action.SendScccn t stays b = connects_asked c asked remote window next t b
+  takes_by_asked c r asked remote window next action.Nothing t stays b =
       branch Asked (state_number next == state_number t.control.state) _ _
       (λ is. plain t b)
       (λ other. confirms_asked next t (λ opening. eqb-false (state_number next) (state_number t.control.state) other (stays opening refl)) b)
-  takes_by_asked r remote window next action.SendSccrq t stays b = plain t b
-  takes_by_asked r remote window next action.SendSccrp t stays b = plain t b
-  takes_by_asked r remote window next action.SendStopCcn t stays b =
-      shuts_asked r (known_or remote t.control) next (takes_plain t) (plain_begins t b)
-  takes_by_asked r remote window next action.CleanUp t stays b = shut_heard_asked next t b
+  takes_by_asked c r asked remote window next action.SendSccrq t stays b = plain t b
+  takes_by_asked c r asked remote window next action.SendSccrp t stays b = plain t b
+  takes_by_asked c r asked remote window next action.SendStopCcn t stays b =
+      branch Asked (state_number t.control.state == 1) _ _
+      (λ one. rejects_asked r remote next t b)
+      (λ other. shut_taken r t.control.remote next t (shuts_asked r t.control.remote next t b))
+  takes_by_asked c r asked remote window next action.CleanUp t stays b = shut_heard_asked next t b
 
-  takes_asked : (r : Reason) (ev : TunnelEvent) (remote window : ℕ) (t : Turn) → Begins t → Asked (takes role calls r ev remote window t)
+  takes_asked : (c : Config) (r : Reason) (ev : TunnelEvent) (asked : Option (List ℕ)) (remote window : ℕ) (t : Turn) → Begins t
+      → Asked (takes role c calls r ev asked remote window t)
   unfolding takes
-  takes_asked r ev remote window t b =
+  takes_asked c r ev asked remote window t b =
       let row = row_of rows t.control.state ev in
-      takes_by_asked r remote window row.0 row.1 t (λ opening. opening_row t.control.state opening ev) b
+      takes_by_asked c r asked remote window row.0 row.1 t (λ opening. opening_row t.control.state opening ev) b
 
   -- ---- letters about a call
 
@@ -454,7 +472,7 @@ module _ (role : Role) (calls : List (ℕ × Call)) where
     about_asked session Hello t b = plain t b
     about_asked session (Sccrq o) t b = plain t b
     about_asked session (Sccrp o) t b = plain t b
-    about_asked session Scccn t b = plain t b
+    about_asked session (Scccn response) t b = plain t b
     about_asked session (StopCcn tunnel code error) t b = plain t b
     about_asked session Ocrp t b = plain t b
     about_asked session Occn t b = plain t b
@@ -501,52 +519,56 @@ module _ (role : Role) (calls : List (ℕ × Call)) where
 
     -- ---- control messages
 
-    hears_asked : (session : ℕ) (m : Message) (t : Turn) → Begins t → Asked (hears role calls session m t)
+    hears_asked : (c : Config) (session : ℕ) (m : Message) (t : Turn) → Begins t → Asked (hears role c calls session m t)
     unfolding hears
-    hears_asked session (Sccrq o) t b = takes_asked (opening_reason o) (event_by event.SccrqAcc event.SccrqNotAcc o) 0 o.window t b
-    hears_asked session (Sccrp o) t b = takes_asked (opening_reason o) (event_by event.SccrpAcc event.SccrpNotAcc o) o.tunnel o.window t b
-    hears_asked session Scccn t b = takes_asked out_of_order event.ScccnAcc 0 0 t b
-    hears_asked session Hello t b = plain t b
-    hears_asked session (StopCcn tunnel code error) t b = takes_asked out_of_order event.StopCcnCame 0 0 t b
-    hears_asked session (Ocrq remote) t b = in_call_asked session (Ocrq remote) t b
-    hears_asked session Ocrp t b = plain t b
-    hears_asked session Occn t b = plain t b
-    hears_asked session Wen t b = plain t b
-    hears_asked session Sli t b = plain t b
-    hears_asked session (Cdn remote code error) t b = in_call_asked session (Cdn remote code error) t b
-    hears_asked session (Icrq remote serial calling) t b = in_call_asked session (Icrq remote serial calling) t b
-    hears_asked session (Icrp remote) t b = in_call_asked session (Icrp remote) t b
-    hears_asked session (Iccn speed framing sequenced) t b = in_call_asked session (Iccn speed framing sequenced) t b
+    hears_asked c session (Sccrq o) t b =
+        takes_asked c (opening_reason c.secret None o) (event_by event.SccrqAcc event.SccrqNotAcc c.secret None o) None 0 o.window t b
+    hears_asked c session (Sccrp o) t b =
+        takes_asked c (opening_reason c.secret t.control.challenge o) (event_by event.SccrpAcc event.SccrpNotAcc c.secret t.control.challenge o) o.challenge
+        o.tunnel o.window t b
+    hears_asked c session (Scccn response) t b =
+        takes_asked c (connected_reason c.secret t.control.challenge response) (connected_event c.secret t.control.challenge response) None 0 0 t b
+    hears_asked c session Hello t b = plain t b
+    hears_asked c session (StopCcn tunnel code error) t b = takes_asked c out_of_order event.StopCcnCame None 0 0 t b
+    hears_asked c session (Ocrq remote) t b = in_call_asked session (Ocrq remote) t b
+    hears_asked c session Ocrp t b = plain t b
+    hears_asked c session Occn t b = plain t b
+    hears_asked c session Wen t b = plain t b
+    hears_asked c session Sli t b = plain t b
+    hears_asked c session (Cdn remote code error) t b = in_call_asked session (Cdn remote code error) t b
+    hears_asked c session (Icrq remote serial calling) t b = in_call_asked session (Icrq remote serial calling) t b
+    hears_asked c session (Icrp remote) t b = in_call_asked session (Icrp remote) t b
+    hears_asked c session (Iccn speed framing sequenced) t b = in_call_asked session (Iccn speed framing sequenced) t b
 
-    faults_asked : (session : ℕ) (f : Option CallFault) (g : Option TunnelFault) (w : Why) (t : Turn) → Begins t
-        → Asked (hears_faulty role calls session f g w t)
+    faults_asked : (c : Config) (session : ℕ) (f : Option CallFault) (g : Option TunnelFault) (w : Why) (t : Turn) → Begins t
+        → Asked (hears_faulty role c calls session f g w t)
     unfolding hears_faulty
-    faults_asked session (Some f) g w t b = in_faulty_asked session f t b
-    faults_asked session None (Some g) w t b = takes_asked (fault_reason g.cause) g.event g.remote 0 t b
-    faults_asked session None None w t b = ignored w t b
+    faults_asked c session (Some f) g w t b = in_faulty_asked session f t b
+    faults_asked c session None (Some g) w t b = takes_asked c (fault_reason g.cause) g.event None g.remote 0 t b
+    faults_asked c session None None w t b = ignored w t b
 
-    said_asked : (session : ℕ) (f : Option CallFault) (g : Option TunnelFault) (r : Result Message Why) (t : Turn) → Begins t
-        → Asked (hears_said role calls session f g r t)
+    said_asked : (c : Config) (session : ℕ) (f : Option CallFault) (g : Option TunnelFault) (r : Result Message Why) (t : Turn) → Begins t
+        → Asked (hears_said role c calls session f g r t)
     unfolding hears_said
-    said_asked session f g (Err w) t b = faults_asked session f g w t b
-    said_asked session f g (Ok m) t b = hears_asked session m t b
+    said_asked c session f g (Err w) t b = faults_asked c session f g w t b
+    said_asked c session f g (Ok m) t b = hears_asked c session m t b
 
-    next_asked : (session : ℕ) (body : List ℕ) (t : Turn) → Begins t → Asked (hears_next role calls session body t)
+    next_asked : (c : Config) (session : ℕ) (body : List ℕ) (t : Turn) → Begins t → Asked (hears_next role c calls session body t)
     unfolding hears_next
-    next_asked session body t b =
+    next_asked c session body t b =
         branch Asked (is_closed t.control.state) _ _
         (λ closed. plain t b)
-        (λ live. said_asked session (call_fault_in body) (tunnel_fault_in body) (message_in body) t b)
+        (λ live. said_asked c session (call_fault_in body) (tunnel_fault_in body) (message_in body) t b)
 
-    letter_asked : (session : ℕ) (body : List ℕ) (c : Option Class) (t : Turn) → Begins t → Asked (hears_letter role calls session body c t)
+    letter_asked : (g : Config) (session : ℕ) (body : List ℕ) (c : Option Class) (t : Turn) → Begins t → Asked (hears_letter role g calls session body c t)
     unfolding hears_letter
-    letter_asked session body (Some Next) t b =
+    letter_asked g session body (Some Next) t b =
         branch Asked (may_take t.control calls) _ _
-        (λ may. next_asked session body t b)
+        (λ may. next_asked g session body t b)
         (λ full. dropped why.Queue t b)
-    letter_asked session body (Some (Ahead by)) t b = dropped why.Ahead t b
-    letter_asked session body (Some Duplicate) t b = same t t refl refl b
-    letter_asked session body None t b = same t t refl refl b
+    letter_asked g session body (Some (Ahead by)) t b = dropped why.Ahead t b
+    letter_asked g session body (Some Duplicate) t b = same t t refl refl b
+    letter_asked g session body None t b = same t t refl refl b
 
     reads_begin : (nr : ℕ) (t : Turn) → Begins t → Begins (reads_nr nr t)
     unfolding reads_nr with_move
@@ -561,8 +583,8 @@ module _ (role : Role) (calls : List (ℕ × Call)) where
         (λ other.
         let class = class_told t.control.channel (unwrap_or k.ns 0) (length body == 0) in
         let u = reads_nr (unwrap_or k.nr 0) t in
-        settled (is_duplicate class) letters (hears_letter role calls k.session body class u)
-        (letter_asked k.session body class u (reads_begin (unwrap_or k.nr 0) t b)))
+        settled (is_duplicate class) letters (hears_letter role c calls k.session body class u)
+        (letter_asked c k.session body class u (reads_begin (unwrap_or k.nr 0) t b)))
 
     pub datagram_asked : (c : Config) (letters : List Letter) (bytes : List ℕ) (r : Result Header HeaderError) (t : Turn) → Busy t → Begins t
         → Asked (hears_datagram role c letters calls bytes r t)
@@ -689,24 +711,26 @@ opens_new role c letters t none = new_settled letters (opens role c t) (by (draw
     by (Err x) = caused_new cause.Ids t none
     by (Ok local) = branch IsNew (has_room t.control) _ _ (λ may. opened_new role c local t none) (λ full. caused_new cause.Queue t none)
 
-accepted_new : (role : Role) (c : Config) (remote window local : ℕ) (t : Turn) → t.changed ≡ [] → IsNew (accepted role c remote window local t)
+accepted_new : (role : Role) (c : Config) (asked : Option (List ℕ)) (remote window local : ℕ) (t : Turn) → t.changed ≡ []
+    → IsNew (accepted role c asked remote window local t)
 unfolding accepted gives with_move takes_one with_local
-accepted_new role c remote window local t none = inr none
+accepted_new role c asked remote window local t none = inr none
 
-accepts_new : (role : Role) (c : Config) (remote window : ℕ) (t : Turn) → t.changed ≡ [] → IsNew (accepts role c remote window t)
+accepts_new : (role : Role) (c : Config) (asked : Option (List ℕ)) (remote window : ℕ) (t : Turn) → t.changed ≡ []
+    → IsNew (accepts role c asked remote window t)
 unfolding accepts accepts_by
-accepts_new role c remote window t none = by (draws t.tunnels)
+accepts_new role c asked remote window t none = by (draws t.tunnels)
   where
-    by : (x : Result ℕ IdError) → IsNew (accepts_by role c remote window x t)
+    by : (x : Result ℕ IdError) → IsNew (accepts_by role c asked remote window x t)
     by (Err x) = drops_new why.Tunnel t none
     by (Ok local) =
-        branch IsNew (has_room t.control) _ _ (λ may. accepted_new role c remote window local t none) (λ full. drops_new why.Queue t none)
+        branch IsNew (has_room t.control) _ _ (λ may. accepted_new role c asked remote window local t none) (λ full. drops_new why.Queue t none)
 
 first_said_new : (role : Role) (c : Config) (r : Result Message Why) (t : Turn) → t.changed ≡ [] → IsNew (first_said role c r t)
 unfolding first_said
-first_said_new role c (Ok (Sccrq o)) t none = accepts_new role c o.tunnel o.window t none
+first_said_new role c (Ok (Sccrq o)) t none = accepts_new role c o.challenge o.tunnel o.window t none
 first_said_new role c (Ok (Sccrp o)) t none = drops_new why.Tunnel t none
-first_said_new role c (Ok Scccn) t none = drops_new why.Tunnel t none
+first_said_new role c (Ok (Scccn response)) t none = drops_new why.Tunnel t none
 first_said_new role c (Ok Hello) t none = drops_new why.Tunnel t none
 first_said_new role c (Ok (Cdn remote code error)) t none = drops_new why.Tunnel t none
 first_said_new role c (Ok (Icrq remote serial calling)) t none = drops_new why.Tunnel t none

@@ -19,7 +19,7 @@ use Rattle.control_message.specs.declared.message.Read.TheVariants.{Known, Ignor
 use Rattle.control_message.specs.declared.message.MessageError.{MessageError}
 use Rattle.control_message.specs.declared.message.MessageError.TheVariants.{NoType, UnknownType, HiddenWithoutVector, BadValue}
 use Rattle.control_message.specs.Table.{kind_of, shape_of, fits}
-use Rattle.control_message.specs.Reading.{is_listed, is_recognised, is_at, first, has_vector, checked_value, checked_use, checked, checked_all, value_in, value_at, number_in, u16_at, u32_at, window_in, window_at, failover_value, failover_read, failover_in, failover_at, recovery_value, recovery_read, recovery_in, recovery_at, opening_at, icrq_at, icrp_at, iccn_at, result_code_at, stop_ccn_at, ocrq_at, cdn_at, wen_at, sli_at, of_kind, type_number, kind_told, kind_of_pairs, of_type, with_type, message_of}
+use Rattle.control_message.specs.Reading.{response_at, is_listed, is_recognised, is_at, first, has_vector, checked_value, checked_use, checked, checked_all, value_in, value_at, number_in, u16_at, u32_at, window_in, window_at, failover_value, failover_read, failover_in, failover_at, recovery_value, recovery_read, recovery_in, recovery_at, opening_at, icrq_at, icrp_at, iccn_at, result_code_at, stop_ccn_at, ocrq_at, cdn_at, wen_at, sli_at, of_kind, type_number, kind_told, kind_of_pairs, of_type, with_type, message_of}
 use Rattle.step_laws.proofs.Lists.{branch, and_left, and_right}
 
 -- ---- a reading in steps
@@ -130,9 +130,9 @@ module _ (k : Kind) (shape : shape_of k 9 ≡ Some Nonzero) where
             let fit = subst (λ (x : List ℕ). fits Nonzero x ≡ true) same (first_fits [] avps u refl checks a is) in
             not_zero (length value == 2) _ n number fit zero
 
-    opening_some : (recovery : Option Recovery) (o : Opening) → opening_at avps recovery ≡ Ok o → o.tunnel ≡ 0 → ⊥
+    opening_some : (response : Option (List ℕ)) (recovery : Option Recovery) (o : Opening) → opening_at avps response recovery ≡ Ok o → o.tunnel ≡ 0 → ⊥
     unfolding opening_at
-    opening_some recovery o h zero =
+    opening_some response recovery o h zero =
         let a = bound (u16_at 2 avps) _ o h in
         let b = bound (u32_at 3 avps) _ o a.then in
         let c = bound (value_at 7 avps) _ o b.then in
@@ -155,13 +155,14 @@ AssignsSome m = Unit {0}
 
 module _ (avps : List Avp) where
   kind_assigns : (k : Kind) (u : Unit {0}) → checked_all k [] avps ≡ Ok u → Gives AssignsSome (of_kind k avps)
-  unfolding stop_ccn_at icrq_at icrp_at iccn_at ocrq_at cdn_at wen_at sli_at
+  unfolding response_at stop_ccn_at icrq_at icrp_at iccn_at ocrq_at cdn_at wen_at sli_at
   kind_assigns kind.Sccrq u checks =
       gives_after AssignsSome (recovery_at avps) _
-      (λ r is. gives_after AssignsSome (opening_at avps r) _ (λ o made. opening_some kind.Sccrq refl avps u checks r o made))
+      (λ r is. gives_after AssignsSome (opening_at avps None r) _ (λ o made. opening_some kind.Sccrq refl avps u checks None r o made))
   kind_assigns kind.Sccrp u checks =
-      gives_after AssignsSome (opening_at avps None) _ (λ o made. opening_some kind.Sccrp refl avps u checks None o made)
-  kind_assigns kind.Scccn u checks = tt
+      gives_after AssignsSome (response_at avps) _
+      (λ r is. gives_after AssignsSome (opening_at avps r None) _ (λ o made. opening_some kind.Sccrp refl avps u checks r None o made))
+  kind_assigns kind.Scccn u checks = gives_after AssignsSome (response_at avps) _ (λ r is. tt)
   kind_assigns kind.StopCcn u checks =
       gives_after AssignsSome (result_code_at avps) _ (λ code is. gives_after AssignsSome (u16_at 9 avps) _ (λ tunnel at_. tt))
   kind_assigns kind.Hello u checks = tt
@@ -267,9 +268,9 @@ module _ (avps : List Avp) where
   unfolding u32_at
   long_fails n = fails_after IsInner (value_at n avps) _ (value_at_fails n (first n avps)) (λ v. number_fails 4 n v)
 
-  opening_fails : (r : Option Recovery) → FailsInside (opening_at avps r)
+  opening_fails : (response : Option (List ℕ)) (r : Option Recovery) → FailsInside (opening_at avps response r)
   unfolding opening_at window_at failover_at
-  opening_fails r =
+  opening_fails response r =
       fails_after IsInner (u16_at 2 avps) _ (short_fails 2)
       (λ version. fails_after IsInner (u32_at 3 avps) _ (long_fails 3)
       (λ framing. fails_after IsInner (value_at 7 avps) _ (value_at_fails 7 (first 7 avps))
@@ -282,7 +283,7 @@ module _ (avps : List Avp) where
   unfolding recovery_at
   sccrq_fails =
       fails_after IsInner (recovery_at avps) _ (recovery_fails (first 77 avps))
-      (λ r. fails_after IsInner (opening_at avps r) _ (opening_fails r) (λ o. tt))
+      (λ r. fails_after IsInner (opening_at avps None r) _ (opening_fails None r) (λ o. tt))
 
   known_fails : (n : ℕ) (mandatory : Bool) → FailsInside (of_type n mandatory (Some kind.Sccrq) avps)
   known_fails n mandatory =

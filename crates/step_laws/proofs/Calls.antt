@@ -56,7 +56,7 @@ not_open x u session (StopCcn tunnel code error) about closed = absurd about
 not_open x u session Hello about closed = absurd about
 not_open x u session (Sccrq o) about closed = absurd about
 not_open x u session (Sccrp o) about closed = absurd about
-not_open x u session Scccn about closed = absurd about
+not_open x u session (Scccn response) about closed = absurd about
 not_open x u session Ocrp about closed = absurd about
 not_open x u session Occn about closed = absurd about
 not_open x u session Wen about closed = absurd about
@@ -323,7 +323,7 @@ module _ (e : End) (moment : ℕ) (ev : Event) (letters : List Letter) (calls : 
   about_call_ok session Hello t f other is_open hears = absurd other
   about_call_ok session (Sccrq o) t f other is_open hears = absurd other
   about_call_ok session (Sccrp o) t f other is_open hears = absurd other
-  about_call_ok session Scccn t f other is_open hears = absurd other
+  about_call_ok session (Scccn response) t f other is_open hears = absurd other
   about_call_ok session Ocrp t f other is_open hears = absurd other
   about_call_ok session Occn t f other is_open hears = absurd other
   about_call_ok session Wen t f other is_open hears = absurd other

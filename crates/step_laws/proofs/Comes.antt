@@ -94,6 +94,7 @@ module _ (e : End) (moment : ℕ) (ev : Event) (letters : List Letter) (calls : 
     pub remote : first.remote ≡ t.control.remote
     pub peer : first.peer ≡ t.control.peer
     pub state : first.state ≡ t.control.state
+    pub challenge : first.challenge ≡ t.control.challenge
     pub sessions : t.sessions ≡ e.session_ids
     -- and its id is one
     pub some : i ≡ 0 → ⊥

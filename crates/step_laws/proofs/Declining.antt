@@ -12,7 +12,7 @@ use Rattle.protocol_model.specs.Reading.{body_of, message_in, TunnelFault, tunne
 use Rattle.protocol_model.specs.Turn.{Env, Reason, out_of_order, fault_reason}
 use Rattle.protocol_model.specs.End.{End, env_of, in_new, known_as, against_opening, against_faulty, against_body, next_of_peer, declined, opens_or_declines}
 use Rattle.step_laws.specs.Causes.{NamesNone, Stands}
-use Rattle.step_laws.specs.Moves.{WhyDeclined, AnOpening, AFaultyOpening, AnAnswer}
+use Rattle.step_laws.specs.Moves.{LacksSecret, WhyDeclined, AnOpening, AFaultyOpening, AnAnswer}
 use Rattle.step_laws.specs.Steps.{AreKept}
 use Rattle.step_laws.proofs.Faults.{IsOfOpening, opening_fault_stands}
 use Rattle.step_laws.proofs.Zero.{IsFaultyOpening, SaysOpening}
@@ -107,8 +107,12 @@ module _ (e : End) (kept : AreKept e) (moment peer : ℕ) (bytes : List ℕ) (h 
       abbrev Leads : Option Reason → Type 0
       Leads o = IsStep e moment ev (opens_or_declines e env ev peer remote (next_of_peer h) o)
 
-      -- where it tells no other id, and there may be one more
-      new_chain : ((o : Opening) → message_in body ≡ Ok (Sccrq o) → (o.tunnel ≡ remote) × (length e.tunnels < 1024)) → Leads None
+      -- there may be one more, and what is asked can be answered
+      abbrev MayAnswer : Opening → Type 0
+      MayAnswer o = (length e.tunnels < 1024) × (LacksSecret e.config.secret o.challenge → ⊥)
+
+      -- where it tells no other id, and that is so
+      new_chain : ((o : Opening) → message_in body ≡ Ok (Sccrq o) → (o.tunnel ≡ remote) × MayAnswer o) → Leads None
       unfolding opens_or_declines in_new
       new_chain tells = first_heard e kept moment ev block peer bytes h read control refl
           (λ o said. ((λ j t there goes has. none_known peer remote e.tunnels alone j t there goes (has ∙ (tells o said).0)), (tells o said).1))
@@ -119,11 +123,11 @@ module _ (e : End) (kept : AreKept e) (moment peer : ℕ) (bytes : List ℕ) (h 
         unfolding against_body
         against_said = rw said refl
 
-        said_same : length e.tunnels < 1024 → (p : Opening) → message_in body ≡ Ok (Sccrq p) → (p.tunnel ≡ remote) × (length e.tunnels < 1024)
-        said_same fewer p again =
+        said_same : MayAnswer o → (p : Opening) → message_in body ≡ Ok (Sccrq p) → (p.tunnel ≡ remote) × MayAnswer p
+        said_same may p again =
             let both : Ok (Sccrq o) ≡ Ok (Sccrq p) = sym said ∙ again in
             let same : o ≡ p = cc in
-            (sym (is ∙ ap (λ (x : Opening). x.tunnel) same), fewer)
+            (sym (is ∙ ap (λ (x : Opening). x.tunnel) same), subst MayAnswer same may)
 
         said_by : (r : Option Reason) → against_opening e o ≡ r → Leads r
         unfolding opens_or_declines
@@ -139,7 +143,7 @@ module _ (e : End) (kept : AreKept e) (moment peer : ℕ) (bytes : List ℕ) (h 
         unfolding against_body
         against_unread = rw faulty.unread refl
 
-        unread_none : (p : Opening) → message_in body ≡ Ok (Sccrq p) → (p.tunnel ≡ remote) × (length e.tunnels < 1024)
+        unread_none : (p : Opening) → message_in body ≡ Ok (Sccrq p) → (p.tunnel ≡ remote) × MayAnswer p
         unread_none p said = let both : Err faulty.why ≡ Ok (Sccrq p) = sym faulty.unread ∙ said in absurd cc
 
         unread_by : (q : Option TunnelFault) → tunnel_fault_in body ≡ q → Leads (against_faulty q)

@@ -42,7 +42,7 @@ use Rattle.protocol_model.specs.End.{End, Stepped, env_of, gives_only, placed, w
 use Rattle.step_laws.specs.Room.{IsChosen, RingsNew}
 use Rattle.step_laws.specs.Causes.{IsTold, ForNew, ForOpening, Stands}
 use Rattle.step_laws.specs.Letters.{AFrame, HasOutput}
-use Rattle.step_laws.specs.Moves.{has_all_tunnels, IsUnknown, IsAgain, IsStop, IsFor, Hears, Chain, begun, WhyEnds, IsDropped, IsHungUp, ByOperator}
+use Rattle.step_laws.specs.Moves.{LacksSecret, has_all_tunnels, IsUnknown, IsAgain, IsStop, IsFor, Hears, Chain, begun, WhyEnds, IsDropped, IsHungUp, ByOperator}
 use Rattle.step_laws.specs.Steps.{IsKept, AreKept, IsOfMoves, IsChain}
 use Rattle.step_laws.proofs.Lists.{all_map, branch, ascends_placed, ascends_looks}
 use Rattle.step_laws.proofs.Owing.{Fits, closed_owes, dropped_owes, fits_given, owes_told}
@@ -54,6 +54,8 @@ use Rattle.step_laws.proofs.Comes.{Fresh}
 use Rattle.step_laws.proofs.Closing.{ends_leave}
 use Rattle.step_laws.proofs.Shutting.{told_shut_ok}
 use Rattle.step_laws.proofs.Stopping.{row_shut, row_shut_closed}
+use Rattle.protocol_model.specs.Secrets.{challenge_by, response_by}
+use Rattle.step_laws.proofs.Secrets.{asks_so, responds_so}
 use Rattle.step_laws.proofs.Hearing.{hears_control_ok, rings_ok}
 
 pub no_frame_out : (outs : List Out) (m : Move) → NoFrame m → HasOutput outs m
@@ -73,6 +75,7 @@ no_frame_out outs (move.EndHeard m) h = tt
 no_frame_out outs (move.EndSilent m) h = tt
 no_frame_out outs (move.Declined m) h = tt
 no_frame_out outs (move.Closed m) h = tt
+no_frame_out outs (move.Rejected m) h = tt
 no_frame_out outs (move.ClosedBy m) h = tt
 no_frame_out outs (move.Cleared i) h = tt
 no_frame_out outs (move.Greeted m) h = tt
@@ -240,6 +243,7 @@ module _ (e : End) (kept : AreKept e) (moment : ℕ) (ev : Event) where
         remote = refl;
         peer = refl;
         state = refl;
+        challenge = refl;
         sessions = refl;
         some = k.some;
       }
@@ -266,7 +270,7 @@ module _ (e : End) (kept : AreKept e) (moment : ℕ) (ev : Event) where
           subst (λ r. leads (hears_datagram e.role e.config t.letters t.calls bytes r start)) (sym read)
           (branch leads h.control _ _
           (λ c. settled_leads _
-          (hears_control_ok e moment ev t.letters t.calls i k.calls bytes h read control start begins refl same (is_for h bytes to) e.config refl refl))
+          (hears_control_ok e moment ev t.letters t.calls i k.calls bytes h read control start begins refl same (is_for h bytes to) refl refl))
           (λ c. absurd (true≢false (sym control ∙ c))))
 
       pub rung_chain : (port : ℕ) → (state_number t.control.state ≡ 3) ⊎ (state_number t.control.state ≡ 1) → IsChosen e i → t.control.peer ≡ e.config.lns → ev ≡ Ring port
@@ -418,7 +422,7 @@ module _ (e : End) (kept : AreKept e) (moment : ℕ) (ev : Event) where
       opened_good : (local : ℕ) → length e.tunnels < 1024 → e.role ≡ Lac → peer ≡ e.config.lns → draws e.tunnel_ids ≡ Ok local → TurnOk e moment ev [] [] local (opened e.role e.config local blank)
       unfolding opened gives with_move with_local with_calls with_looks placed
       opened_good local fewer lac lns drawn = record {
-        chain = (_, record { few = fewer; drawn = drawn; given = refl; peer = lns; role = lac; after = refl }, refl);
+        chain = (_, record { few = fewer; drawn = drawn; given = refl; peer = lns; role = lac; asks = asks_so e.config.secret block; after = refl }, refl);
         words = tt;
         tells = tt;
         frames = (tt, tt);
@@ -459,30 +463,39 @@ module _ (e : End) (kept : AreKept e) (moment : ℕ) (ev : Event) where
               (λ full. absurd (true≢false full))
 
       -- a window that is learned before the id is that of the tunnel with the id
+      abbrev asked : Option (List ℕ)
+      asked = challenge_by e.config.secret block
+
+      abbrev accepting : ℕ → ℕ → Control
+      accepting remote local = begun local peer remote WaitCtlConn moment asked
+
       learnt_begun : (window remote local : ℕ)
-          → record (learns_window window (begun 0 peer remote WaitCtlConn moment)) { local = local } ≡ learns_window window (begun local peer remote WaitCtlConn moment)
+          → record (learns_window window (accepting remote 0)) { local = local } ≡ learns_window window (accepting remote local)
       learnt_begun window remote local =
-          branch (λ (c : Control). record c { local = local } ≡ learns_window window (begun local peer remote WaitCtlConn moment)) (window == 0) _ _
+          branch (λ (c : Control). record c { local = local } ≡ learns_window window (accepting remote local)) (window == 0) _ _
           (λ none. rw none refl)
           (λ some. rw some refl)
 
-      -- no tunnel of this end is to the peer and has this id there, and there may be one more
-      abbrev pub MayMake : ℕ → Type 0
-      MayMake remote = IsUnknown e peer remote × (length e.tunnels < 1024)
+      -- no tunnel of this end is to the peer and has this id there, there may be one more, and the end can answer what is asked
+      abbrev pub MayMake : Opening → Type 0
+      MayMake o = IsUnknown e peer o.tunnel × ((length e.tunnels < 1024) × (LacksSecret e.config.secret o.challenge → ⊥))
 
-      accepted_good : (session remote window local : ℕ) (o : Opening) → Hears ev peer session (Sccrq o) → remote ≡ o.tunnel → window ≡ o.window → MayMake remote
-          → draws e.tunnel_ids ≡ Ok local → TurnOk e moment ev [] [] local (accepted e.role e.config remote window local blank)
+      accepted_good : (session remote window local : ℕ) (o : Opening) → Hears ev peer session (Sccrq o) → remote ≡ o.tunnel → window ≡ o.window → MayMake o
+          → draws e.tunnel_ids ≡ Ok local → TurnOk e moment ev [] [] local (accepted e.role e.config o.challenge remote window local blank)
       unfolding accepted gives with_move with_local takes_one with_calls with_looks placed
       accepted_good session remote window local o hears is told may drawn = record {
         chain = (
           _,
           record {
-            few = may.1;
+            few = may.1.0;
             opening = o;
             hears = (session, hears);
             remote = is;
             window = told;
-            alone = may.0;
+            alone = rw is may.0;
+            able = may.1.1;
+            asks = asks_so e.config.secret block;
+            responds = responds_so 2 e.config.secret o.challenge;
             drawn = drawn;
             taken = refl;
             given = refl;
@@ -493,24 +506,24 @@ module _ (e : End) (kept : AreKept e) (moment : ℕ) (ev : Event) where
         words = tt;
         tells = tt;
         frames = (tt, tt);
-        stays = (refl, rw (learnt_state window (begun 0 peer remote WaitCtlConn moment)) (λ z. absurd (omega (arith, z))), kept.sessions, next_after e.tunnel_ids kept.first, refl, refl);
-        held = let c = begun 0 peer remote WaitCtlConn moment in
-            held_given (learns_window window c).channel.window [] (letter_of 0 (Sccrp (opening_of e.role e.config local)))
+        stays = (refl, rw (learnt_state window (accepting remote 0)) (λ z. absurd (omega (arith, z))), kept.sessions, next_after e.tunnel_ids kept.first, refl, refl);
+        held = let c = accepting remote 0 in
+            held_given (learns_window window c).channel.window [] (letter_of 0 (Sccrp (opening_of e.role e.config asked (response_by 2 e.config.secret o.challenge) local)))
             (held_learnt window c [] (refl, omega arith, omega arith));
-        fits = let c = begun 0 peer remote WaitCtlConn moment in
+        fits = let c = accepting remote 0 in
             let none = learnt_queued window c in
             fits_given (learns_window window c) [] (ap is_closed (learnt_state window c)) (ascends-empty [] refl) (omega arith) (omega (arith, none));
       }
 
-      accepts_chain : (session : ℕ) (o : Opening) → Hears ev peer session (Sccrq o) → MayMake o.tunnel
-          → leads_new (settles false [] (accepts e.role e.config o.tunnel o.window blank))
+      accepts_chain : (session : ℕ) (o : Opening) → Hears ev peer session (Sccrq o) → MayMake o
+          → leads_new (settles false [] (accepts e.role e.config o.challenge o.tunnel o.window blank))
       unfolding accepts accepts_by
       accepts_chain session o hears alone = by (draws e.tunnel_ids) refl
         where
-          by : (x : Result ℕ IdError) → draws e.tunnel_ids ≡ x → leads_new (settles false [] (accepts_by e.role e.config o.tunnel o.window x blank))
+          by : (x : Result ℕ IdError) → draws e.tunnel_ids ≡ x → leads_new (settles false [] (accepts_by e.role e.config o.challenge o.tunnel o.window x blank))
           by (Err x) is = dropped_new why.Tunnel (λ q. absurd cc)
           by (Ok local) is =
-              branch (λ u. leads_new (settles false [] u)) (has_room (fresh peer moment)) (accepted e.role e.config o.tunnel o.window local blank) (drops why.Queue blank)
+              branch (λ u. leads_new (settles false [] u)) (has_room (fresh peer moment)) (accepted e.role e.config o.challenge o.tunnel o.window local blank) (drops why.Queue blank)
               (λ may. made_leads _ (record {
                 id = local;
                 some = drawn_some local is;
@@ -519,13 +532,13 @@ module _ (e : End) (kept : AreKept e) (moment : ℕ) (ev : Event) where
               (λ full. absurd (true≢false full))
 
       first_chain : (session : ℕ) (x : Result Message Why) → ((m : Message) → x ≡ Ok m → Hears ev peer session m)
-          → ((o : Opening) → x ≡ Ok (Sccrq o) → MayMake o.tunnel) → leads_new (settles false [] (first_said e.role e.config x blank))
+          → ((o : Opening) → x ≡ Ok (Sccrq o) → MayMake o) → leads_new (settles false [] (first_said e.role e.config x blank))
       unfolding first_said
       first_chain session (Ok (Sccrq o)) said alone = accepts_chain session o (said (Sccrq o) refl) (alone o refl)
       first_chain session (Ok Hello) said alone = dropped_new why.Tunnel (λ q. absurd cc)
       first_chain session (Ok (Cdn remote code error)) said alone = dropped_new why.Tunnel (λ q. absurd cc)
       first_chain session (Ok (Sccrp o)) said alone = dropped_new why.Tunnel (λ q. absurd cc)
-      first_chain session (Ok Scccn) said alone = dropped_new why.Tunnel (λ q. absurd cc)
+      first_chain session (Ok (Scccn response)) said alone = dropped_new why.Tunnel (λ q. absurd cc)
       first_chain session (Ok (Icrq remote serial calling)) said alone = dropped_new why.Tunnel (λ q. absurd cc)
       first_chain session (Ok (Icrp remote)) said alone = dropped_new why.Tunnel (λ q. absurd cc)
       first_chain session (Ok (Iccn speed framing sequenced)) said alone = dropped_new why.Tunnel (λ q. absurd cc)
@@ -538,7 +551,7 @@ module _ (e : End) (kept : AreKept e) (moment : ℕ) (ev : Event) where
       first_chain session (Err w) said alone = dropped_new why.Tunnel (λ q. absurd cc)
 
       pub first_heard : (bytes : List ℕ) (h : Header) → header_of bytes ≡ Ok h → h.control ≡ true → ev ≡ Datagram peer bytes
-          → ((o : Opening) → message_in (body_of h bytes) ≡ Ok (Sccrq o) → MayMake o.tunnel) → leads_new (turns e.role e.config [] [] (Datagram peer bytes) blank)
+          → ((o : Opening) → message_in (body_of h bytes) ≡ Ok (Sccrq o) → MayMake o) → leads_new (turns e.role e.config [] [] (Datagram peer bytes) blank)
       unfolding turns hears_datagram hears_control
       first_heard bytes h read control same alone =
           subst (λ x. leads_new (hears_datagram e.role e.config [] [] bytes x blank)) (sym read)

@@ -96,6 +96,7 @@ module _ (x y : End) (order : Ascends x.tunnels) (few : AreFew x) where
   does_few moment ev (move.EndSilent m) h = same_few m.tunnel h.tunnel _ h.there (ap tunnels_of h.after)
   does_few moment ev (move.Declined m) h = still_few h.after
   does_few moment ev (move.Closed m) h = same_few m.tunnel h.tunnel _ h.there (ap tunnels_of h.after)
+  does_few moment ev (move.Rejected m) h = same_few m.tunnel h.tunnel _ h.there (ap tunnels_of h.after)
   does_few moment ev (move.ClosedBy m) h = same_few m.tunnel h.tunnel _ h.there (ap tunnels_of h.after)
   does_few moment ev (move.Cleared i) h = less_few i (ap tunnels_of h.after)
   does_few moment ev (move.Greeted m) h = same_few m.tunnel h.tunnel _ h.there (ap tunnels_of h.after)

@@ -1,5 +1,5 @@
 -- What a tunnel hears is a chain of moves.
-use Rattle.std.proofs.Common.{◌≡◌, ◌⊎◌, inl, ⊎_elim, ℕ, Bool, true, false, cond, List, [], length, refl, sym, ap, ◌∙◌, subst, Option, Some, Result, Ok, Err, arith}
+use Rattle.std.proofs.Common.{◌≡◌, ◌⊎◌, inl, ⊎_elim, ℕ, Bool, true, false, cond, List, [], length, refl, sym, ap, ◌∙◌, subst, Option, Some, None, Result, Ok, Err, arith}
 use Rattle.std.proofs.lemmas.Bool.{eqb-true, eqb-false, true≢false}
 use Rattle.std.specs.Prelude.{◌==◌, unwrap_or}
 use Rattle.id_table.specs.Order.{Ascends}
@@ -35,14 +35,17 @@ use Rattle.protocol_model.specs.Turn.{Turn, is_closed, is_acceptable, event_by, 
 use Rattle.protocol_model.specs.End.{End}
 use Rattle.step_laws.specs.Room.{IsFull, IsChosen, RingsOver}
 use Rattle.step_laws.specs.Causes.{ForRing}
-use Rattle.step_laws.specs.Moves.{IsFor, HearsNext, ComesNext, TellsNr}
+use Rattle.protocol_model.specs.Secrets.{is_wrong}
+use Rattle.protocol_model.specs.Reasons.{no_secret}
+use Rattle.step_laws.proofs.Secrets.{right_of}
+use Rattle.step_laws.specs.Moves.{IsRight, IsFor, HearsNext, ComesNext, TellsNr}
 use Rattle.step_laws.proofs.Lists.{branch}
 use Rattle.step_laws.proofs.Owing.{live_in, live_open}
 use Rattle.step_laws.proofs.Turns.{small_draw, TurnOk, at_turn, is_roomy, same_first, learnt_state, drops_ok, caused_ok, requests_all_ok, adds_ok, adds_asked_ok, connected_ok, confirms_ok, plain_ok, reads_ok}
 use Rattle.step_laws.proofs.Settling.{Settled, unsent, settled_ok}
 use Rattle.step_laws.proofs.Comes.{Fresh, Taking, Plain, for_still, in_other, comes_at, begun, calls_first, spare_first}
 use Rattle.step_laws.proofs.Calls.{plainly, in_call_ok}
-use Rattle.step_laws.proofs.Stopping.{busy, sccrq_ok, sccrp_shut_ok, scccn_shut_ok, stop_ok, faulty_heard_ok, closed_plain}
+use Rattle.step_laws.proofs.Stopping.{busy, sccrq_ok, sccrp_shut_ok, scccn_shut_ok, scccn_wrong_ok, stop_ok, faulty_heard_ok, closed_plain}
 
 module _ (e : End) (moment : ℕ) (ev : Event) (letters : List Letter) (calls : List (ℕ × Call)) (i : ℕ) where
   abbrev Good : Turn → Type 0
@@ -58,16 +61,17 @@ module _ (e : End) (moment : ℕ) (ev : Event) (letters : List Letter) (calls : 
     -- ---- letters about the tunnel
 
     connects_ok : (session : ℕ) (o : Opening) (t : Turn) → Takes t → t.control.state ≡ state.WaitCtlReply → HearsNext ev t.control session (Sccrp o)
-        → Good (connects e.role calls o.tunnel o.window state.Established t)
+        → is_acceptable e.config.secret t.control.challenge o ≡ true
+        → Good (connects e.role e.config calls o.challenge o.tunnel o.window state.Established t)
     unfolding connects connected gives with_move takes_one
-    connects_ok session o t f is hears =
+    connects_ok session o t f is hears good =
         branch Good (has_room t.control) _ _
         (λ room.
-        let u = connected o.tunnel o.window state.Established t in
+        let u = connected e.config o.challenge o.tunnel o.window state.Established t in
         let learnt = learnt_state o.window (record t.control { remote = o.tunnel; state = state.Established }) in
         sent_none _
         (requests_all_ok e moment ev letters calls i calls sorted u (ap state_number learnt) (same_first e moment ev letters calls i u f.fresh.changed calls)
-        (connected_ok e moment ev letters calls i o.tunnel o.window session o t is hears refl refl (spare_first e moment ev letters calls i t f) room f.fresh.good)))
+        (connected_ok e moment ev letters calls i o.tunnel o.window session o t is hears good refl refl (spare_first e moment ev letters calls i t f) room f.fresh.good)))
         (λ full. absurd (is_roomy e moment ev letters calls i t f.live f.fresh.good full))
 
     plain_at : (session : ℕ) (m : Message) (t : Turn) → Takes t → Plain e moment ev letters calls i t session m → HearsNext ev t.control session m
@@ -76,59 +80,68 @@ module _ (e : End) (moment : ℕ) (ev : Event) (letters : List Letter) (calls : 
 
     abbrev HeardSccrp : Opening → Turn → Type 0
     HeardSccrp o t =
-        Good (takes_by e.role calls (opening_reason o) o.tunnel o.window (row_of rows t.control.state (event_by event.SccrpAcc event.SccrpNotAcc o)) t)
+        Good (takes_by e.role e.config calls (opening_reason e.config.secret t.control.challenge o) o.challenge o.tunnel o.window
+        (row_of rows t.control.state (event_by event.SccrpAcc event.SccrpNotAcc e.config.secret t.control.challenge o)) t)
 
     -- one that is acceptable connects a tunnel that waits for it; another tunnel is closed
     sccrp_ok : (session : ℕ) (o : Opening) (t : Turn) → Takes t → HearsNext ev t.control session (Sccrp o) → HeardSccrp o t
     unfolding takes_by
-    sccrp_ok session o t f hears = by t.control.state (is_acceptable o) refl refl
+    sccrp_ok session o t f hears = by t.control.state (is_acceptable e.config.secret t.control.challenge o) refl refl
       where
-        shut : (state_number t.control.state ≡ 1 → is_acceptable o ≡ false) → HeardSccrp o t
+        shut : (state_number t.control.state ≡ 1 → is_acceptable e.config.secret t.control.challenge o ≡ false) → HeardSccrp o t
         shut plain = sccrp_shut_ok e moment ev letters calls i session o t f plain hears
 
-        by : (s : TunnelState) (b : Bool) → t.control.state ≡ s → is_acceptable o ≡ b → HeardSccrp o t
+        by : (s : TunnelState) (b : Bool) → t.control.state ≡ s → is_acceptable e.config.secret t.control.challenge o ≡ b → HeardSccrp o t
         by s false is bad = shut (λ waits. bad)
         by state.WaitCtlReply true is good =
-            let row : row_of rows t.control.state (event_by event.SccrpAcc event.SccrpNotAcc o) ≡ (state.Established, action.SendScccn) =
+            let row : row_of rows t.control.state (event_by event.SccrpAcc event.SccrpNotAcc e.config.secret t.control.challenge o) ≡ (state.Established, action.SendScccn) =
             rw (is, good) refl in
-            subst (λ (x : TunnelState × TunnelAction). Good (takes_by e.role calls (opening_reason o) o.tunnel o.window x t)) (sym row)
-            (connects_ok session o t f is hears)
+            subst (λ (x : TunnelState × TunnelAction). Good (takes_by e.role e.config calls (opening_reason e.config.secret t.control.challenge o) o.challenge
+            o.tunnel o.window x t)) (sym row)
+            (connects_ok session o t f is hears good)
         by state.Idle true is good = absurd (busy e moment ev letters calls i t f (ap state_number is))
         by state.WaitCtlConn true is good = shut (λ waits. absurd (in_other t state.WaitCtlConn 1 is (λ w. omega (arith, w)) waits))
         by state.Established true is good = shut (λ waits. absurd (in_other t state.Established 1 is (λ w. omega (arith, w)) waits))
         by state.Closed true is good = absurd (true≢false (sym (ap is_closed is) ∙ f.live))
 
-    confirmed_ok : (session : ℕ) (t : Turn) → Takes t → t.control.state ≡ state.WaitCtlConn → HearsNext ev t.control session Scccn
+    confirmed_ok : (session : ℕ) (response : Option (List ℕ)) (t : Turn) → Takes t → t.control.state ≡ state.WaitCtlConn
+        → HearsNext ev t.control session (Scccn response) → IsRight 3 e.config.secret t.control.challenge response
         → Good (cond (state_number state.Established == state_number t.control.state) (takes_plain t) (confirms state.Established t))
-    confirmed_ok session t f is hears =
+    confirmed_ok session response t f is hears right =
         subst (λ (s : TunnelState). Good (cond (state_number state.Established == state_number s) (takes_plain t) (confirms state.Established t))) (sym is)
-        (sent_none _ (confirms_ok e moment ev letters calls i session t is hears (spare_first e moment ev letters calls i t f) f.fresh.good))
+        (sent_none _ (confirms_ok e moment ev letters calls i session response t is hears right (spare_first e moment ev letters calls i t f) f.fresh.good))
 
-    abbrev HeardScccn : Turn → TunnelState → Type 0
-    HeardScccn t s = Good (takes_by e.role calls out_of_order 0 0 (row_of rows s event.ScccnAcc) t)
+    -- by whether it answers wrongly
+    abbrev HeardScccn : Turn → Bool → TunnelState → Type 0
+    HeardScccn t wrong s =
+        Good (takes_by e.role e.config calls (cond wrong no_secret out_of_order) None 0 0 (row_of rows s (cond wrong event.ScccnNotAcc event.ScccnAcc)) t)
 
-    -- an SCCCN confirms a tunnel that waits for it, and another tunnel is closed
-    scccn_ok : (session : ℕ) (t : Turn) → Takes t → HearsNext ev t.control session Scccn → HeardScccn t t.control.state
+    -- an SCCCN that answers rightly confirms a tunnel that waits for it; else the tunnel is closed
+    scccn_ok : (session : ℕ) (response : Option (List ℕ)) (t : Turn) → Takes t → HearsNext ev t.control session (Scccn response)
+        → HeardScccn t (is_wrong 3 e.config.secret t.control.challenge response) t.control.state
     unfolding takes_by
-    scccn_ok session t f hears = by t.control.state refl
+    scccn_ok session response t f hears = by (is_wrong 3 e.config.secret t.control.challenge response) t.control.state refl refl
       where
-        shut : (state_number t.control.state ≡ 2 → ⊥) → HeardScccn t t.control.state
-        shut other = scccn_shut_ok e moment ev letters calls i session t f other hears
-
-        by : (s : TunnelState) → t.control.state ≡ s → HeardScccn t t.control.state
-        by state.WaitCtlConn is = subst (HeardScccn t) (sym is) (confirmed_ok session t f is hears)
-        by state.Idle is = absurd (busy e moment ev letters calls i t f (ap state_number is))
-        by state.WaitCtlReply is = shut (in_other t state.WaitCtlReply 2 is (λ w. omega (arith, w)))
-        by state.Established is = shut (in_other t state.Established 2 is (λ w. omega (arith, w)))
-        by state.Closed is = absurd (true≢false (sym (ap is_closed is) ∙ f.live))
+        by : (wrong : Bool) (s : TunnelState) → is_wrong 3 e.config.secret t.control.challenge response ≡ wrong → t.control.state ≡ s
+            → HeardScccn t wrong t.control.state
+        by true s wrong is = scccn_wrong_ok e moment ev letters calls i session response t f wrong hears
+        by false state.WaitCtlConn right is =
+            subst (HeardScccn t false) (sym is)
+            (confirmed_ok session response t f is hears (right_of 3 e.config.secret t.control.challenge response right))
+        by false state.Idle right is = absurd (busy e moment ev letters calls i t f (ap state_number is))
+        by false state.WaitCtlReply right is =
+            scccn_shut_ok e moment ev letters calls i session response t f (in_other t state.WaitCtlReply 2 is (λ w. omega (arith, w))) right hears
+        by false state.Established right is =
+            scccn_shut_ok e moment ev letters calls i session response t f (in_other t state.Established 2 is (λ w. omega (arith, w))) right hears
+        by false state.Closed right is = absurd (true≢false (sym (ap is_closed is) ∙ f.live))
 
     -- ---- what is heard
 
-    hears_ok : (session : ℕ) (m : Message) (t : Turn) → Takes t → HearsNext ev t.control session m → Good (hears e.role calls session m t)
+    hears_ok : (session : ℕ) (m : Message) (t : Turn) → Takes t → HearsNext ev t.control session m → Good (hears e.role e.config calls session m t)
     unfolding hears takes
     hears_ok session (Sccrq o) t f h = sccrq_ok e moment ev letters calls i session o t f h
     hears_ok session (Sccrp o) t f h = sccrp_ok session o t f h
-    hears_ok session Scccn t f h = scccn_ok session t f h
+    hears_ok session (Scccn response) t f h = scccn_ok session response t f h
     hears_ok session Hello t f h = plain_at session Hello t f tt h
     hears_ok session (StopCcn tunnel code error) t f h = stop_ok e moment ev letters calls i session tunnel code error t f h
     hears_ok session (Cdn remote code error) t f h = in_call_ok e moment ev letters calls i session (Cdn remote code error) t f tt h
@@ -143,7 +156,7 @@ module _ (e : End) (moment : ℕ) (ev : Event) (letters : List Letter) (calls : 
 
     hears_said_ok : (r : Result Message Why) (t : Turn) → Takes t → (next : ComesNext ev t.control) → message_in (body_of next.header next.bytes) ≡ r
         → ((m : Message) → r ≡ Ok m → HearsNext ev t.control next.header.session m)
-        → Good (hears_said e.role calls next.header.session (call_fault_in (body_of next.header next.bytes))
+        → Good (hears_said e.role e.config calls next.header.session (call_fault_in (body_of next.header next.bytes))
         (tunnel_fault_in (body_of next.header next.bytes)) r t)
     unfolding hears_said
     hears_said_ok (Err w) t f next is said =
@@ -154,7 +167,7 @@ module _ (e : End) (moment : ℕ) (ev : Event) (letters : List Letter) (calls : 
     -- a closed tunnel takes what comes, and does nothing
     hears_next_ok : (t : Turn) → Fresh e moment ev letters calls i t → may_take t.control calls ≡ true → (next : ComesNext ev t.control)
         → ((m : Message) → message_in (body_of next.header next.bytes) ≡ Ok m → HearsNext ev t.control next.header.session m)
-        → Good (hears_next e.role calls next.header.session (body_of next.header next.bytes) t)
+        → Good (hears_next e.role e.config calls next.header.session (body_of next.header next.bytes) t)
     unfolding hears_next
     hears_next_ok t f may next said =
         branch Good (is_closed t.control.state) _ _
@@ -173,7 +186,7 @@ module _ (e : End) (moment : ℕ) (ev : Event) (letters : List Letter) (calls : 
           → IsFull e moment ev
 
       letter_ok : (t : Turn) → Fresh e moment ev letters calls i t → FullAt t → ev ≡ Datagram t.control.peer bytes → IsFor h bytes t.control
-          → (length (body_of h bytes) ≡ 0 → ⊥) → (c : Class) → class_of (unwrap_or h.ns 0) t.control.channel.inbox ≡ c → Good (hears_letter e.role calls h.session (body_of h bytes) (Some c) t)
+          → (length (body_of h bytes) ≡ 0 → ⊥) → (c : Class) → class_of (unwrap_or h.ns 0) t.control.channel.inbox ≡ c → Good (hears_letter e.role e.config calls h.session (body_of h bytes) (Some c) t)
       unfolding hears_letter
       letter_ok t f no_room is to some Duplicate class = sent_none t f.good
       letter_ok t f no_room is to some (Ahead by) class = sent_none _ (drops_ok e moment ev letters calls i why.Ahead (λ q. absurd cc) t f.good)
@@ -189,15 +202,15 @@ module _ (e : End) (moment : ℕ) (ev : Event) (letters : List Letter) (calls : 
           (λ full. sent_none _ (drops_ok e moment ev letters calls i why.Queue (λ q. no_room some class full) t f.good))
 
       told_ok : (t : Turn) → Fresh e moment ev letters calls i t → FullAt t → ev ≡ Datagram t.control.peer bytes → IsFor h bytes t.control
-          → Good (hears_letter e.role calls h.session (body_of h bytes) (class_told t.control.channel (unwrap_or h.ns 0) (length (body_of h bytes) == 0)) t)
+          → Good (hears_letter e.role e.config calls h.session (body_of h bytes) (class_told t.control.channel (unwrap_or h.ns 0) (length (body_of h bytes) == 0)) t)
       unfolding hears_letter
       told_ok t f no_room is to =
-          branch (λ c. Good (hears_letter e.role calls h.session (body_of h bytes) c t)) (length (body_of h bytes) == 0) _ _
+          branch (λ c. Good (hears_letter e.role e.config calls h.session (body_of h bytes) c t)) (length (body_of h bytes) == 0) _ _
           (λ none. sent_none t f.good)
           (λ some. letter_ok t f no_room is to (eqb-false (length (body_of h bytes)) 0 some) (class_of (unwrap_or h.ns 0) t.control.channel.inbox) refl)
 
-      in_tunnel_ok : (t : Turn) (c : Option Class) → Good (hears_letter e.role calls h.session (body_of h bytes) c t)
-          → Settled e moment ev letters calls i (in_tunnel e.role letters calls h.session (body_of h bytes) c t)
+      in_tunnel_ok : (t : Turn) (c : Option Class) → Good (hears_letter e.role e.config calls h.session (body_of h bytes) c t)
+          → Settled e moment ev letters calls i (in_tunnel e.role e.config letters calls h.session (body_of h bytes) c t)
       unfolding in_tunnel
       in_tunnel_ok t c good = settled_ok e moment ev letters calls i (is_duplicate c) _ good
 
@@ -238,14 +251,15 @@ module _ (e : End) (moment : ℕ) (ev : Event) (letters : List Letter) (calls : 
           remote = f.remote;
           peer = f.peer;
           state = f.state;
+          challenge = f.challenge;
           sessions = f.sessions;
           some = f.some;
         }
 
-        pub hears_control_ok : (cfg : Config) → t.given ≡ [] → t.acked ≡ 0
-            → Settled e moment ev letters calls i (hears_control e.role cfg letters calls h (body_of h bytes) t)
+        pub hears_control_ok : t.given ≡ [] → t.acked ≡ 0
+            → Settled e moment ev letters calls i (hears_control e.role e.config letters calls h (body_of h bytes) t)
         unfolding hears_control reads_nr with_move
-        hears_control_ok cfg none whole =
+        hears_control_ok none whole =
             branch (Settled e moment ev letters calls i) (state_number t.control.state == 0) _ _
             (λ idle. absurd (f.good.stays.1 (eqb-true (state_number t.control.state) 0 idle)))
             (λ busy. in_tunnel_ok (reads_nr nr t) (class_told t.control.channel (unwrap_or h.ns 0) (length (body_of h bytes) == 0))

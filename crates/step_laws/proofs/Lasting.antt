@@ -24,7 +24,7 @@ use Rattle.protocol_model.specs.Calls.{call_row, is_set_up}
 use Rattle.protocol_model.specs.Turn.{Tunnel, Turn, turn_of, with_output, with_move, with_change, gives, has_room, counts_sent, counts_repeated, sends_letter, sends_now, lets_go, goes_by, lets_all_go, repeats, acknowledges, outstanding, acknowledged_after, settles, ends_call, end_silent, end_told, ends_by, drops, greeted, greets, limits_at, limits_all, goes_quietly, clears, is_over, patience, is_at_its_end, ticks_by, ticks, turns}
 use Rattle.protocol_model.specs.End.{End, env_of}
 use Rattle.step_laws.specs.Left.{FailedTunnelsGo}
-use Rattle.step_laws.specs.Moves.{IsGivenUp, HasFailed, IsNotSetUp, WasClosed, IsUnanswered}
+use Rattle.step_laws.specs.Failing.{IsGivenUp, HasFailed, IsNotSetUp, WasClosed, IsUnanswered}
 use Rattle.step_laws.proofs.Lists.{branch}
 use Rattle.step_laws.proofs.Moments.{failed_ends}
 use Rattle.step_laws.proofs.Late.{ticks_leave}

@@ -14,7 +14,7 @@ use Rattle.call_fsm.specs.declared.table.CallState.TheVariants as call
 use Rattle.call_fsm.specs.declared.table.CallEvent.TheVariants.{Close}
 use Rattle.protocol_model.specs.Calls.{call_row, is_set_up, is_told}
 use Rattle.protocol_model.specs.Turn.{Tunnel, Env, Turn, turn_of, has_room, is_clean_up, turns, tunnel_after}
-use Rattle.protocol_model.specs.End.{End, env_of, tunnels_after, after_turn, Turned, tick_of, ticks_of, end_after_all, after_all, ticks_all, step_in, step}
+use Rattle.protocol_model.specs.End.{End, env_of, tunnels_after, after_turn, Turned, tick_of, ticks_of, end_after_all, after_all, ticks_all, step_in, plain_step}
 use Rattle.step_laws.specs.Letters.{Among}
 use Rattle.step_laws.specs.Left.{CanBe, LateCallsEnd}
 use Rattle.step_laws.specs.Steps.{IsKept, AreKept, StepsAreChains}
@@ -102,8 +102,8 @@ module _ (P : Tunnel → Type 0) where
         tick_among i j t there (at e.tunnels i) refl (ticks_of e env is) (⊎_elim (λ same. inl same) (λ later. inr (among is j t there later)) a)
 
     -- so what holds of what each turn leaves holds of each tunnel after a tick
-    pub ticks_leave : Leaves → (j : ℕ) (t : Tunnel) → at (step e moment block Tick).end.tunnels j ≡ Some t → P t
-    unfolding step step_in ticks_all after_all
+    pub ticks_leave : Leaves → (j : ℕ) (t : Tunnel) → at (plain_step e moment block Tick).end.tunnels j ≡ Some t → P t
+    unfolding plain_step step_in ticks_all after_all
     ticks_leave leaves j = all_hold (ticks_of e env (ids_of e.tunnels)) (ticks_good leaves (ids_of e.tunnels)) e order j (by (at e.tunnels j) refl)
       where
         by : (o : Option Tunnel) → at e.tunnels j ≡ o → HoldsAt e.tunnels j ⊎ Among j (map (λ (u : Turned). u.id) (ticks_of e env (ids_of e.tunnels)))
@@ -139,13 +139,13 @@ module _ (e : End) (kept : AreKept e) (moment : ℕ) (block : List ℕ) where
   unfolding turns
   ticked i t is = ticks_ok e.role moment t.calls t.letters (turn_of t.control (env_of e moment block)) (kept.tunnels i t is).calls refl refl
 
-  none_is_due : (i : ℕ) (t : Tunnel) → at (step e moment block Tick).end.tunnels i ≡ Some t → NoneIsDue t
+  none_is_due : (i : ℕ) (t : Tunnel) → at (plain_step e moment block Tick).end.tunnels i ≡ Some t → NoneIsDue t
   none_is_due i t there =
       ticks_leave NoneIsDue e kept.order moment block (λ j u is. ⊎_elim (λ cleared. inl cleared) (λ stays. inr stays.late) (ticked j u is)) i t there
 
 pub late_calls_end : StepsAreChains → LateCallsEnd
 late_calls_end chains e kept sound moment block i t there s c live other over =
-    let x = (step e moment block Tick).end in
+    let x = (plain_step e moment block Tick).end in
     let call : (s < 65536) × CanBe x.role c.state = stays_sound chains e kept moment block Tick sound i t there s c live in
     let can : CanBe e.role c.state = subst (λ r. CanBe r c.state) (role_stays chains e kept moment block Tick) call.1 in
     let being = set_up e.role c.state can other in

@@ -6,6 +6,7 @@ mod Assigned
 mod Faults
 mod Zero
 mod Known
+mod Secrets
 mod Chosen
 mod Granting
 mod Openings

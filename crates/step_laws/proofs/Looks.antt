@@ -430,6 +430,7 @@ module _ (x : End) (ok : LooksAreTrue x) where
         drawn = ap (λ (e : End). e.session_ids) h.after;
       })
   does_looks order moment ev (move.Closed m) y h = subst LooksAreTrue (sym h.after) (tunnel_shut order m.tunnel h.tunnel h.there _ _)
+  does_looks order moment ev (move.Rejected m) y h = subst LooksAreTrue (sym h.after) (tunnel_shut order m.tunnel h.tunnel h.there _ _)
   does_looks order moment ev (move.ClosedBy m) y h = subst LooksAreTrue (sym h.after) (tunnel_shut order m.tunnel h.tunnel h.there _ _)
   does_looks order moment ev (move.Cleared i) y h = subst LooksAreTrue (sym h.after) (tunnel_gone order i h.tunnel h.there)
   does_looks order moment ev (move.Greeted m) y h = subst LooksAreTrue (sym h.after) (calls_stay m.tunnel h.tunnel _ _ h.there refl)
@@ -504,6 +505,9 @@ module _ (x : End) (ok : AreOrdered x) where
       tunnel_put y m.tunnel _ (ascends-without m.session h.tunnel.calls (ok.calls m.tunnel h.tunnel h.there)) (ap (λ (e : End). e.tunnels) h.after)
       (subst (λ (e : End). Ascends e.calls) (sym h.after) (ascends_look (cell.Kill m.session) x.calls ok.places))
   does_order moment ev (move.Closed m) y h =
+      tunnel_put y m.tunnel _ (ascends-empty [] refl) (ap (λ (e : End). e.tunnels) h.after)
+      (subst (λ (e : End). Ascends e.calls) (sym h.after) (ascends_looks (map cell.Kill (ids_of h.tunnel.calls)) x.calls ok.places))
+  does_order moment ev (move.Rejected m) y h =
       tunnel_put y m.tunnel _ (ascends-empty [] refl) (ap (λ (e : End). e.tunnels) h.after)
       (subst (λ (e : End). Ascends e.calls) (sym h.after) (ascends_looks (map cell.Kill (ids_of h.tunnel.calls)) x.calls ok.places))
   does_order moment ev (move.ClosedBy m) y h =

@@ -16,7 +16,7 @@ use Rattle.protocol_model.specs.declared.tunnel.Role.TheVariants.{Lac, Lns}
 use Rattle.protocol_model.specs.Calls.{is_set_up}
 use Rattle.protocol_model.specs.Turn.{is_over, patience, is_closed, kept_closed, is_being_set_up, is_at_its_end}
 use Rattle.step_laws.specs.Left.{CanBe}
-use Rattle.step_laws.specs.Moves.{IsGivenUp, HasFailed, IsNotSetUp, WasClosed, IsUnanswered}
+use Rattle.step_laws.specs.Failing.{IsGivenUp, HasFailed, IsNotSetUp, WasClosed, IsUnanswered}
 use Rattle.step_laws.proofs.Lists.{and_left, and_right}
 use Rattle.step_laws.proofs.States.{never}
 

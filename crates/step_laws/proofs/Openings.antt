@@ -1,5 +1,5 @@
 -- What stands against an opening: in a tunnel, and where it would open one.
-use Rattle.std.proofs.Common.{◌≡◌, inl, inr, ℕ, ◌<◌, ◌≤◌, length, Bool, true, false, cond, refl, sym, ◌∙◌, subst, Option, Some, None, is_some, Result, Ok, Err, arith}
+use Rattle.std.proofs.Common.{◌≡◌, inl, inr, ℕ, ◌<◌, ◌≤◌, length, Bool, true, false, cond, List, refl, sym, ◌∙◌, subst, Option, Some, None, is_some, Result, Ok, Err, arith}
 use Rattle.std.proofs.lemmas.Bool.{eqb-true, eq-eqb, true≢false}
 use Rattle.std.proofs.lemmas.Bool.Decides.{nat_tests}
 use Rattle.std.specs.Prelude.{◌==◌, not, is_none, unwrap_or, nat_le}
@@ -11,8 +11,10 @@ use Rattle.protocol_model.specs.declared.event.Event.{Event}
 use Rattle.protocol_model.specs.Reasons.{no_tunnel, no_id}
 use Rattle.protocol_model.specs.Turn.{Tunnel, Reason, out_of_order, other_version, no_recovery, no_secret, is_acceptable, event_by, opening_reason}
 use Rattle.protocol_model.specs.End.{End, lacks_id, against_opening}
-use Rattle.step_laws.specs.Moves.{has_all_tunnels, StandsAgainst, OtherVersion, Recovers, NoTunnel, Challenges, NoId, ClosesIn, HasOtherVersion, HasRecovery, HasChallenge, IsUnawaited}
-use Rattle.step_laws.specs.Causes.{IsClosedOn, WouldOpen, IsNotAccepted, AtZero, MayOpen, IsOutOfOrder, ForPeer, Stands}
+use Rattle.step_laws.specs.Moves.{has_all_tunnels, StandsAgainst, OtherVersion, Recovers, NoTunnel, Challenges, NoId, ClosesIn, HasOtherVersion, HasRecovery, HasOtherSecret, IsUnawaited, LacksSecret, FailsSecret}
+use Rattle.step_laws.specs.Causes.{IsClosedOn, WouldOpen, IsNotAccepted, AtZero, MayOpen, IsOutOfOrder, ForPeer, FailsBySecret, AsksInVain, Stands}
+use Rattle.protocol_model.specs.Secrets.{lacks_secret}
+use Rattle.step_laws.proofs.Secrets.{lacks_so, lacks_not, fails, fails_so, fails_not, acceptable_at_first}
 
 other_than : (o : Opening) → (o.version == 256) ≡ false → o.version ≡ 256 → ⊥
 other_than o other is = true≢false (sym (eq-eqb o.version 256 is) ∙ other)
@@ -37,7 +39,7 @@ all_made e all = reached (length e.tunnels) all
 module _ (e : End) (o : Opening) where
   pub against_is : (r : Reason) → against_opening e o ≡ Some r → StandsAgainst e o r.result r.error
   unfolding against_opening
-  against_is r h = by (o.version == 256) (is_some o.recovery) (has_all_tunnels e) (is_some o.challenge) (draws e.tunnel_ids) refl refl refl refl refl h
+  against_is r h = by (o.version == 256) (is_some o.recovery) (has_all_tunnels e) (lacks_secret e.config.secret o.challenge) (draws e.tunnel_ids) refl refl refl refl refl h
     where
       so : (q : Reason) → Some q ≡ Some r → StandsAgainst e o q.result q.error → StandsAgainst e o r.result r.error
       so q is stands = let same : q ≡ r = cc in subst (λ (x : Reason). StandsAgainst e o x.result x.error) same stands
@@ -48,7 +50,7 @@ module _ (e : End) (o : Opening) where
       last (Err x) drawn is stands = so no_id is (stands x drawn)
 
       by : (a b c d : Bool) (i : Result ℕ IdError) → (o.version == 256) ≡ a → is_some o.recovery ≡ b → has_all_tunnels e ≡ c
-          → is_some o.challenge ≡ d → draws e.tunnel_ids ≡ i
+          → lacks_secret e.config.secret o.challenge ≡ d → draws e.tunnel_ids ≡ i
           → cond (not a) (Some other_version)
           (cond b (Some no_recovery) (cond c (Some no_tunnel) (cond d (Some no_secret) (lacks_id i)))) ≡ Some r → StandsAgainst e o r.result r.error
       by false b c d i version recovery all challenge drawn is = so other_version is (OtherVersion (other_than o version) refl refl)
@@ -56,76 +58,80 @@ module _ (e : End) (o : Opening) where
       by true false true d i version recovery all challenge drawn is =
           so no_tunnel is (NoTunnel (eqb-true o.version 256 version) recovery (all_made e all) refl refl)
       by true false false true i version recovery all challenge drawn is =
-          so no_secret is (Challenges (eqb-true o.version 256 version) recovery (not_all e all) challenge refl refl)
+          so no_secret is (Challenges (eqb-true o.version 256 version) recovery (not_all e all) (lacks_so e.config.secret o.challenge challenge) refl refl)
       by true false false false i version recovery all challenge drawn is =
-          last i drawn is (λ x none. NoId (eqb-true o.version 256 version) recovery (not_all e all) challenge x none refl refl)
+          last i drawn is (λ x none. NoId (eqb-true o.version 256 version) recovery (not_all e all) (lacks_not e.config.secret o.challenge challenge) x none refl refl)
 
-  -- where nothing does there may be one more
-  pub none_against : against_opening e o ≡ None → length e.tunnels < 1024
+  -- where nothing does there may be one more, and what is asked can be answered
+  pub none_against : against_opening e o ≡ None → (length e.tunnels < 1024) × (LacksSecret e.config.secret o.challenge → ⊥)
   unfolding against_opening
-  none_against h = by (o.version == 256) (is_some o.recovery) (has_all_tunnels e) (is_some o.challenge) (lacks_id (draws e.tunnel_ids)) refl h
+  none_against h = by (o.version == 256) (is_some o.recovery) (has_all_tunnels e) (lacks_secret e.config.secret o.challenge) (lacks_id (draws e.tunnel_ids)) refl refl h
     where
-      by : (a b c d : Bool) (i : Option Reason) → has_all_tunnels e ≡ c
+      by : (a b c d : Bool) (i : Option Reason) → has_all_tunnels e ≡ c → lacks_secret e.config.secret o.challenge ≡ d
           → cond (not a) (Some other_version) (cond b (Some no_recovery) (cond c (Some no_tunnel) (cond d (Some no_secret) i))) ≡ None
-          → length e.tunnels < 1024
-      by false b c d i all is = absurd cc
-      by true true c d i all is = absurd cc
-      by true false true d i all is = absurd cc
-      by true false false d i all is = not_all e all
+          → (length e.tunnels < 1024) × (LacksSecret e.config.secret o.challenge → ⊥)
+      by false b c d i all lacks is = absurd cc
+      by true true c d i all lacks is = absurd cc
+      by true false true d i all lacks is = absurd cc
+      by true false false true i all lacks is = absurd cc
+      by true false false false i all lacks is = (not_all e all, lacks_not e.config.secret o.challenge lacks)
 
 -- and of one that closes the tunnel in which it comes
 abbrev reason_by : Bool → Bool → Bool → Reason
 reason_by a b c = unwrap_or (cond (not a) (Some other_version) (cond b (Some no_recovery) (cond c (Some no_secret) None))) out_of_order
 
-pub closes_in : (o : Opening) (result : ℕ) (error : Option ℕ) → result ≡ (opening_reason o).result → error ≡ (opening_reason o).error
-    → ClosesIn o result error
-closes_in o result error r x = rw (r, x) (by (o.version == 256) (is_some o.recovery) (is_some o.challenge) refl refl refl)
+pub closes_in : (secret asked : Option (List ℕ)) (o : Opening) (result : ℕ) (error : Option ℕ) → result ≡ (opening_reason secret asked o).result
+    → error ≡ (opening_reason secret asked o).error → ClosesIn secret asked o result error
+closes_in secret asked o result error r x = rw (r, x) (by (o.version == 256) (is_some o.recovery) (fails secret asked o) refl refl refl)
   where
-    by : (a b c : Bool) → (o.version == 256) ≡ a → is_some o.recovery ≡ b → is_some o.challenge ≡ c → ClosesIn o (reason_by a b c).result (reason_by a b c).error
-    by false b c version recovery challenge = HasOtherVersion (other_than o version) refl refl
-    by true true c version recovery challenge = HasRecovery (eqb-true o.version 256 version) recovery refl refl
-    by true false true version recovery challenge = HasChallenge (eqb-true o.version 256 version) recovery challenge refl refl
-    by true false false version recovery challenge = IsUnawaited (eqb-true o.version 256 version) recovery challenge refl refl
+    by : (a b c : Bool) → (o.version == 256) ≡ a → is_some o.recovery ≡ b → fails secret asked o ≡ c
+        → ClosesIn secret asked o (reason_by a b c).result (reason_by a b c).error
+    by false b c version recovery failed = HasOtherVersion (other_than o version) refl refl
+    by true true c version recovery failed = HasRecovery (eqb-true o.version 256 version) recovery refl refl
+    by true false true version recovery failed = HasOtherSecret (eqb-true o.version 256 version) recovery (fails_so secret asked o failed) refl refl
+    by true false false version recovery failed = IsUnawaited (eqb-true o.version 256 version) recovery (fails_not secret asked o failed) refl refl
 
 -- ---- the causes
 
 module _ (e : End) (moment : ℕ) (ev : Event) (o : Opening) where
   -- ---- in a tunnel
 
-  -- by its version, a recovery and a challenge
+  -- by its version, a recovery and the secret
   abbrev against_by : Bool → Bool → Bool → Option Reason
   against_by a b c = cond (not a) (Some other_version) (cond b (Some no_recovery) (cond c (Some no_secret) None))
 
   module _ (good bad : TunnelEvent) (t : Tunnel) (refused : IsClosedOn e t bad → IsNotAccepted e ev o)
-      (in_order : is_acceptable o ≡ true → IsClosedOn e t good → IsOutOfOrder e ev) (may : MayOpen e ev o) where
+      (asked : Option (List ℕ)) (in_order : is_acceptable e.config.secret asked o ≡ true → IsClosedOn e t good → IsOutOfOrder e ev)
+      (failing : FailsSecret e.config.secret asked o → FailsBySecret e ev o) (may : MayOpen e ev o) where
     -- the tunnel is closed for it, or since it doesn't wait for it
-    pub opening_stands : IsClosedOn e t (event_by good bad o) → Stands e moment ev (opening_reason o).cause
-    opening_stands closed = by (o.version == 256) (is_some o.recovery) (is_some o.challenge) refl refl refl closed
+    pub opening_stands : IsClosedOn e t (event_by good bad e.config.secret asked o) → Stands e moment ev (opening_reason e.config.secret asked o).cause
+    opening_stands closed = by (o.version == 256) (is_some o.recovery) (fails e.config.secret asked o) refl refl refl closed
       where
-        by : (a b c : Bool) → (o.version == 256) ≡ a → is_some o.recovery ≡ b → is_some o.challenge ≡ c
+        by : (a b c : Bool) → (o.version == 256) ≡ a → is_some o.recovery ≡ b → fails e.config.secret asked o ≡ c
             → IsClosedOn e t (cond (is_none (against_by a b c)) good bad) → Stands e moment ev (unwrap_or (against_by a b c) out_of_order).cause
         by false b c version recovery challenge on = (o, refused on, other_than o version)
         by true true c version recovery challenge on = (o, refused on, (eqb-true o.version 256 version, recovery))
-        by true false true version recovery challenge on = (o, refused on, (eqb-true o.version 256 version, recovery), challenge, may)
-        by true false false version recovery challenge on = inr (inl (in_order (rw (version, recovery, challenge) refl) on))
+        by true false true version recovery failed on =
+            inl (o, refused on, (eqb-true o.version 256 version, recovery), failing (fails_so e.config.secret asked o failed), may)
+        by true false false version recovery failed on = inr (inl (in_order (rw (version, recovery, failed) refl) on))
 
   -- ---- where it would open one
 
   pub against_stands : WouldOpen e ev o → (r : Reason) → against_opening e o ≡ Some r → Stands e moment ev r.cause
   unfolding against_opening
   against_stands would r h =
-      by (o.version == 256) (is_some o.recovery) (has_all_tunnels e) (is_some o.challenge) (draws e.tunnel_ids) refl refl refl refl refl h
+      by (o.version == 256) (is_some o.recovery) (has_all_tunnels e) (lacks_secret e.config.secret o.challenge) (draws e.tunnel_ids) refl refl refl refl refl h
     where
       so : (q : Reason) → Some q ≡ Some r → Stands e moment ev q.cause → Stands e moment ev r.cause
       so q is stands = let same : q ≡ r = cc in subst (λ (x : Reason). Stands e moment ev x.cause) same stands
 
-      last : (d : Result ℕ IdError) → draws e.tunnel_ids ≡ d → lacks_id d ≡ Some r → is_acceptable o ≡ true → has_all_tunnels e ≡ false
+      last : (d : Result ℕ IdError) → draws e.tunnel_ids ≡ d → lacks_id d ≡ Some r → is_acceptable e.config.secret None o ≡ true → has_all_tunnels e ≡ false
           → Stands e moment ev r.cause
       last (Ok i) drawn is good fewer = absurd cc
       last (Err x) drawn is good fewer = so _ is (ForPeer o x would good fewer drawn)
 
       by : (a b c d : Bool) (i : Result ℕ IdError) → (o.version == 256) ≡ a → is_some o.recovery ≡ b → has_all_tunnels e ≡ c
-          → is_some o.challenge ≡ d → draws e.tunnel_ids ≡ i
+          → lacks_secret e.config.secret o.challenge ≡ d → draws e.tunnel_ids ≡ i
           → cond (not a) (Some other_version)
           (cond b (Some no_recovery) (cond c (Some no_tunnel) (cond d (Some no_secret) (lacks_id i)))) ≡ Some r → Stands e moment ev r.cause
       by false b c d i version recovery all challenge drawn is = so other_version is (o, AtZero would, other_than o version)
@@ -134,5 +140,6 @@ module _ (e : End) (moment : ℕ) (ev : Event) (o : Opening) where
       by true false true d i version recovery all challenge drawn is =
           so no_tunnel is (inr (inr (o, would, (eqb-true o.version 256 version, recovery))), all)
       by true false false true i version recovery all challenge drawn is =
-          so no_secret is (o, AtZero would, (eqb-true o.version 256 version, recovery), challenge, λ w. all)
-      by true false false false i version recovery all challenge drawn is = last i drawn is (rw (version, recovery, challenge) refl) all
+          so no_secret is
+          (inl (o, AtZero would, (eqb-true o.version 256 version, recovery), AsksInVain (lacks_so e.config.secret o.challenge challenge), λ w. all))
+      by true false false false i version recovery all challenge drawn is = last i drawn is (acceptable_at_first e.config.secret o version recovery challenge) all

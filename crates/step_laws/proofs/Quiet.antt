@@ -46,7 +46,7 @@ use Rattle.protocol_model.specs.declared.moves.Move.{Move}
 use Rattle.protocol_model.specs.declared.moves.Move.TheVariants as move
 use Rattle.protocol_model.specs.Reading.{header_why, body_of, message_in, CallFault, call_fault_in, TunnelFault, tunnel_fault_in}
 use Rattle.protocol_model.specs.Calls.{call_row, rung, is_set_up, is_request, is_connection, is_up, are_too_many}
-use Rattle.protocol_model.specs.Turn.{Turn, with_output, with_move, with_change, with_call, with_new, with_local, drops, gives, has_room, sends_letter, sends_now, lets_go, goes_by, lets_all_go, acknowledges, outstanding, acknowledged_after, settles, takes_one, reads_nr, opened, opens_by, opens, accepted, accepts_by, accepts, requested, requests, requests_at, requests_all, adds, rings_over, rings_by, rings_new, rings, is_closed, event_by, opening_reason, out_of_order, known_or, shuts, closed_told, closes_tunnel, closed_by, shuts_by, connected, connects, confirms, takes_plain, ignores, takes_by, takes, Reason, reason, out_of_state, may_take, granted, replied, replies, refused, refuses, of_no_call, answers_by, asked_by, faulty_at, fault_reason, faulty, in_faulty_call, closes, ends_by, rings_within, first_up, first_up_by, second_up, second_up_by, ends_call, ends_all, is_clean_up, end_heard, end_heard_by, session_named, ends_named, repeats, greeted, greets, end_silent, end_told, limits_at, limits_all, goes_quietly, clears, is_over, patience, is_at_its_end, ticks_by, ticks, about_call, in_call, hears, hears_faulty, hears_said, hears_next, hears_letter, is_duplicate, in_tunnel, first_said, hears_control, carried, carries, hears_datagram, turns}
+use Rattle.protocol_model.specs.Turn.{rejects, rejected, connected_reason, connected_event, Turn, with_output, with_move, with_change, with_call, with_new, with_local, drops, gives, has_room, sends_letter, sends_now, lets_go, goes_by, lets_all_go, acknowledges, outstanding, acknowledged_after, settles, takes_one, reads_nr, opened, opens_by, opens, accepted, accepts_by, accepts, requested, requests, requests_at, requests_all, adds, rings_over, rings_by, rings_new, rings, is_closed, event_by, opening_reason, out_of_order, shuts, closed_told, closes_tunnel, closed_by, shuts_by, connected, connects, confirms, takes_plain, ignores, takes_by, takes, Reason, reason, out_of_state, may_take, granted, replied, replies, refused, refuses, of_no_call, answers_by, asked_by, faulty_at, fault_reason, faulty, in_faulty_call, closes, ends_by, rings_within, first_up, first_up_by, second_up, second_up_by, ends_call, ends_all, is_clean_up, end_heard, end_heard_by, session_named, ends_named, repeats, greeted, greets, end_silent, end_told, limits_at, limits_all, goes_quietly, clears, is_over, patience, is_at_its_end, ticks_by, ticks, about_call, in_call, hears, hears_faulty, hears_said, hears_next, hears_letter, is_duplicate, in_tunnel, first_said, hears_control, carried, carries, hears_datagram, turns}
 use Rattle.step_laws.specs.Ups.{ups_of_output, ups_of_move, births_of_move, reads_of_move, most_births, most_reads}
 use Rattle.step_laws.proofs.Lists.{branch}
 
@@ -182,26 +182,28 @@ module _ (most reads : ℕ) where
       by (Err x) = caused cause.Ids t h
       by (Ok local) = branch Quiet (has_room t.control) _ _ (λ may. opened_quiet role c local t h) (λ full. caused cause.Queue t h)
 
-  accepted_quiet : (role : Role) (c : Config) (remote window local : ℕ) (t : Turn) → Quiet t → Quiet (accepted role c remote window local t)
+  accepted_quiet : (role : Role) (c : Config) (asked : Option (List ℕ)) (remote window local : ℕ) (t : Turn) → Quiet t
+      → Quiet (accepted role c asked remote window local t)
   unfolding accepted gives with_move takes_one with_local
-  accepted_quiet role c remote window local t h = did _ refl refl refl h
+  accepted_quiet role c asked remote window local t h = did _ refl refl refl h
 
-  accepts_quiet : (role : Role) (c : Config) (remote window : ℕ) (t : Turn) → Quiet t → Quiet (accepts role c remote window t)
+  accepts_quiet : (role : Role) (c : Config) (asked : Option (List ℕ)) (remote window : ℕ) (t : Turn) → Quiet t
+      → Quiet (accepts role c asked remote window t)
   unfolding accepts accepts_by
-  accepts_quiet role c remote window t h = by (draws t.tunnels)
+  accepts_quiet role c asked remote window t h = by (draws t.tunnels)
     where
-      by : (x : Result ℕ IdError) → Quiet (accepts_by role c remote window x t)
+      by : (x : Result ℕ IdError) → Quiet (accepts_by role c asked remote window x t)
       by (Err x) = dropped why.Tunnel t h
       by (Ok local) =
           branch Quiet (has_room t.control) _ _
-          (λ may. accepted_quiet role c remote window local t h)
+          (λ may. accepted_quiet role c asked remote window local t h)
           (λ full. dropped why.Queue t h)
 
   first_quiet : (role : Role) (c : Config) (r : Result Message Why) (t : Turn) → Quiet t → Quiet (first_said role c r t)
   unfolding first_said
-  first_quiet role c (Ok (Sccrq o)) t h = accepts_quiet role c o.tunnel o.window t h
+  first_quiet role c (Ok (Sccrq o)) t h = accepts_quiet role c o.challenge o.tunnel o.window t h
   first_quiet role c (Ok (Sccrp o)) t h = dropped why.Tunnel t h
-  first_quiet role c (Ok Scccn) t h = dropped why.Tunnel t h
+  first_quiet role c (Ok (Scccn response)) t h = dropped why.Tunnel t h
   first_quiet role c (Ok Hello) t h = dropped why.Tunnel t h
   first_quiet role c (Ok (Cdn remote code error)) t h = dropped why.Tunnel t h
   first_quiet role c (Ok (Icrq remote serial calling)) t h = dropped why.Tunnel t h
@@ -240,16 +242,17 @@ module _ (most reads : ℕ) where
 
   -- ---- letters about the tunnel
 
-  connected_quiet : (remote window : ℕ) (next : TunnelState) (t : Turn) → Quiet t → Quiet (connected remote window next t)
+  connected_quiet : (c : Config) (asked : Option (List ℕ)) (remote window : ℕ) (next : TunnelState) (t : Turn) → Quiet t
+      → Quiet (connected c asked remote window next t)
   unfolding connected gives with_move takes_one
-  connected_quiet remote window next t h = did _ refl refl refl h
+  connected_quiet c asked remote window next t h = did _ refl refl refl h
 
-  connects_quiet : (role : Role) (calls : List (ℕ × Call)) (remote window : ℕ) (next : TunnelState) (t : Turn) → Quiet t
-      → Quiet (connects role calls remote window next t)
+  connects_quiet : (role : Role) (c : Config) (calls : List (ℕ × Call)) (asked : Option (List ℕ)) (remote window : ℕ) (next : TunnelState) (t : Turn) → Quiet t
+      → Quiet (connects role c calls asked remote window next t)
   unfolding connects
-  connects_quiet role calls remote window next t h =
+  connects_quiet role c calls asked remote window next t h =
       branch Quiet (has_room t.control) _ _
-      (λ may. requests_all_quiet role (ids_of calls) calls (connected remote window next t) (connected_quiet remote window next t h))
+      (λ may. requests_all_quiet role (ids_of calls) calls (connected c asked remote window next t) (connected_quiet c asked remote window next t h))
       (λ full. dropped why.Queue t h)
 
   confirms_quiet : (next : TunnelState) (t : Turn) → Quiet t → Quiet (confirms next t)
@@ -288,6 +291,16 @@ module _ (most reads : ℕ) where
       (λ may. did _ refl refl refl (shuts_quiet calls remote next (with_output (Refused r.cause) t) (caused r.cause t h)))
       (λ full. dropped why.Queue t h)
 
+  rejects_quiet : (r : Reason) (calls : List (ℕ × Call)) (remote : ℕ) (next : TunnelState) (t : Turn) → Quiet t → Quiet (rejects r calls remote next t)
+  unfolding rejects rejected gives with_move takes_one
+  rejects_quiet r calls remote next t h =
+      branch Quiet (has_room t.control) _ _
+      (λ may.
+      let told = caused r.cause t h in
+      did _ refl refl refl
+      (shuts_quiet calls remote next _ (record { no_output = told.no_output; no_move = told.no_move; births = told.births; read = told.read })))
+      (λ full. dropped why.Queue t h)
+
   shut_heard_quiet : (calls : List (ℕ × Call)) (next : TunnelState) (t : Turn) → Quiet t → Quiet (closed_by calls next t)
   unfolding closed_by with_move takes_one
   shut_heard_quiet calls next t h =
@@ -305,24 +318,26 @@ module _ (most reads : ℕ) where
 
   -- ---- letters by the tunnel's table
 
-  takes_by_quiet : (role : Role) (calls : List (ℕ × Call)) (r : Reason) (remote window : ℕ) (next : TunnelState) (a : TunnelAction) (t : Turn)
-      → Quiet t → Quiet (takes_by role calls r remote window (next, a) t)
+  takes_by_quiet : (role : Role) (c : Config) (calls : List (ℕ × Call)) (r : Reason) (asked : Option (List ℕ)) (remote window : ℕ) (next : TunnelState) (a : TunnelAction) (t : Turn)
+      → Quiet t → Quiet (takes_by role c calls r asked remote window (next, a) t)
   unfolding takes_by
-  takes_by_quiet role calls r remote window next action.SendScccn t h = connects_quiet role calls remote window next t h
-  takes_by_quiet role calls r remote window next action.Nothing t h =
+  takes_by_quiet role c calls r asked remote window next action.SendScccn t h = connects_quiet role c calls asked remote window next t h
+  takes_by_quiet role c calls r asked remote window next action.Nothing t h =
       branch Quiet (state_number next == state_number t.control.state) _ _ (λ same. plain_quiet t h) (λ other. confirms_quiet next t h)
-  takes_by_quiet role calls r remote window next action.SendSccrq t h = plain_quiet t h
-  takes_by_quiet role calls r remote window next action.SendSccrp t h = plain_quiet t h
-  takes_by_quiet role calls r remote window next action.SendStopCcn t h =
-      shut_told_quiet r calls (known_or remote t.control) next (takes_plain t) (plain_quiet t h)
-  takes_by_quiet role calls r remote window next action.CleanUp t h = shut_heard_quiet calls next t h
+  takes_by_quiet role c calls r asked remote window next action.SendSccrq t h = plain_quiet t h
+  takes_by_quiet role c calls r asked remote window next action.SendSccrp t h = plain_quiet t h
+  takes_by_quiet role c calls r asked remote window next action.SendStopCcn t h =
+      branch Quiet (state_number t.control.state == 1) _ _
+      (λ one. rejects_quiet r calls remote next t h)
+      (λ other. plain_quiet (closes_tunnel r calls t.control.remote next t) (shut_told_quiet r calls t.control.remote next t h))
+  takes_by_quiet role c calls r asked remote window next action.CleanUp t h = shut_heard_quiet calls next t h
 
-  takes_quiet : (role : Role) (calls : List (ℕ × Call)) (r : Reason) (ev : TunnelEvent) (remote window : ℕ) (t : Turn) → Quiet t
-      → Quiet (takes role calls r ev remote window t)
+  takes_quiet : (role : Role) (c : Config) (calls : List (ℕ × Call)) (r : Reason) (ev : TunnelEvent) (asked : Option (List ℕ)) (remote window : ℕ)
+      (t : Turn) → Quiet t → Quiet (takes role c calls r ev asked remote window t)
   unfolding takes
-  takes_quiet role calls r ev remote window t h =
+  takes_quiet role c calls r ev asked remote window t h =
       let row = row_of rows t.control.state ev in
-      takes_by_quiet role calls r remote window row.0 row.1 t h
+      takes_by_quiet role c calls r asked remote window row.0 row.1 t h
 
   -- ---- letters about a call
 
@@ -439,7 +454,7 @@ module _ (most reads : ℕ) where
   about_quiet role calls session Hello t h = plain_quiet t h
   about_quiet role calls session (Sccrq o) t h = plain_quiet t h
   about_quiet role calls session (Sccrp o) t h = plain_quiet t h
-  about_quiet role calls session Scccn t h = plain_quiet t h
+  about_quiet role calls session (Scccn response) t h = plain_quiet t h
   about_quiet role calls session Ocrp t h = plain_quiet t h
   about_quiet role calls session Occn t h = plain_quiet t h
   about_quiet role calls session Wen t h = plain_quiet t h
@@ -496,62 +511,65 @@ module _ (most reads : ℕ) where
 
   -- ---- control messages
 
-  hears_quiet : (role : Role) (calls : List (ℕ × Call)) (session : ℕ) (m : Message) (t : Turn) → Quiet t → Quiet (hears role calls session m t)
+  hears_quiet : (role : Role) (c : Config) (calls : List (ℕ × Call)) (session : ℕ) (m : Message) (t : Turn) → Quiet t
+      → Quiet (hears role c calls session m t)
   unfolding hears
-  hears_quiet role calls session (Sccrq o) t h =
-      takes_quiet role calls (opening_reason o) (event_by event.SccrqAcc event.SccrqNotAcc o) 0 o.window t h
-  hears_quiet role calls session (Sccrp o) t h =
-      takes_quiet role calls (opening_reason o) (event_by event.SccrpAcc event.SccrpNotAcc o) o.tunnel o.window t h
-  hears_quiet role calls session Scccn t h = takes_quiet role calls out_of_order event.ScccnAcc 0 0 t h
-  hears_quiet role calls session Hello t h = plain_quiet t h
-  hears_quiet role calls session (Cdn remote code error) t h = in_call_quiet role calls session (Cdn remote code error) t h
-  hears_quiet role calls session (Icrq remote serial calling) t h = in_call_quiet role calls session (Icrq remote serial calling) t h
-  hears_quiet role calls session (Icrp remote) t h = in_call_quiet role calls session (Icrp remote) t h
-  hears_quiet role calls session (Iccn speed framing sequenced) t h = in_call_quiet role calls session (Iccn speed framing sequenced) t h
-  hears_quiet role calls session (Ocrq remote) t h = in_call_quiet role calls session (Ocrq remote) t h
-  hears_quiet role calls session (StopCcn tunnel code error) t h = takes_quiet role calls out_of_order event.StopCcnCame 0 0 t h
-  hears_quiet role calls session Ocrp t h = plain_quiet t h
-  hears_quiet role calls session Occn t h = plain_quiet t h
-  hears_quiet role calls session Wen t h = plain_quiet t h
-  hears_quiet role calls session Sli t h = plain_quiet t h
+  hears_quiet role c calls session (Sccrq o) t h =
+      takes_quiet role c calls (opening_reason c.secret None o) (event_by event.SccrqAcc event.SccrqNotAcc c.secret None o) None 0 o.window t h
+  hears_quiet role c calls session (Sccrp o) t h =
+      takes_quiet role c calls (opening_reason c.secret t.control.challenge o)
+      (event_by event.SccrpAcc event.SccrpNotAcc c.secret t.control.challenge o) o.challenge o.tunnel o.window t h
+  hears_quiet role c calls session (Scccn response) t h =
+      takes_quiet role c calls (connected_reason c.secret t.control.challenge response) (connected_event c.secret t.control.challenge response) None 0 0 t h
+  hears_quiet role c calls session Hello t h = plain_quiet t h
+  hears_quiet role c calls session (Cdn remote code error) t h = in_call_quiet role calls session (Cdn remote code error) t h
+  hears_quiet role c calls session (Icrq remote serial calling) t h = in_call_quiet role calls session (Icrq remote serial calling) t h
+  hears_quiet role c calls session (Icrp remote) t h = in_call_quiet role calls session (Icrp remote) t h
+  hears_quiet role c calls session (Iccn speed framing sequenced) t h = in_call_quiet role calls session (Iccn speed framing sequenced) t h
+  hears_quiet role c calls session (Ocrq remote) t h = in_call_quiet role calls session (Ocrq remote) t h
+  hears_quiet role c calls session (StopCcn tunnel code error) t h = takes_quiet role c calls out_of_order event.StopCcnCame None 0 0 t h
+  hears_quiet role c calls session Ocrp t h = plain_quiet t h
+  hears_quiet role c calls session Occn t h = plain_quiet t h
+  hears_quiet role c calls session Wen t h = plain_quiet t h
+  hears_quiet role c calls session Sli t h = plain_quiet t h
 
-  faults_quiet : (role : Role) (calls : List (ℕ × Call)) (session : ℕ) (o : Option CallFault) (g : Option TunnelFault) (w : Why) (t : Turn) → Quiet t
-      → Quiet (hears_faulty role calls session o g w t)
+  faults_quiet : (role : Role) (c : Config) (calls : List (ℕ × Call)) (session : ℕ) (o : Option CallFault) (g : Option TunnelFault) (w : Why) (t : Turn) → Quiet t
+      → Quiet (hears_faulty role c calls session o g w t)
   unfolding hears_faulty
-  faults_quiet role calls session (Some k) g w t h = in_faulty_quiet role calls session k t h
-  faults_quiet role calls session None (Some g) w t h = takes_quiet role calls (fault_reason g.cause) g.event g.remote 0 t h
-  faults_quiet role calls session None None w t h = ignored w t h
+  faults_quiet role c calls session (Some k) g w t h = in_faulty_quiet role calls session k t h
+  faults_quiet role c calls session None (Some g) w t h = takes_quiet role c calls (fault_reason g.cause) g.event None g.remote 0 t h
+  faults_quiet role c calls session None None w t h = ignored w t h
 
-  said_quiet : (role : Role) (calls : List (ℕ × Call)) (session : ℕ) (o : Option CallFault) (g : Option TunnelFault) (r : Result Message Why)
+  said_quiet : (role : Role) (c : Config) (calls : List (ℕ × Call)) (session : ℕ) (o : Option CallFault) (g : Option TunnelFault) (r : Result Message Why)
       (t : Turn)
-      → Quiet t → Quiet (hears_said role calls session o g r t)
+      → Quiet t → Quiet (hears_said role c calls session o g r t)
   unfolding hears_said
-  said_quiet role calls session o g (Err w) t h = faults_quiet role calls session o g w t h
-  said_quiet role calls session o g (Ok m) t h = hears_quiet role calls session m t h
+  said_quiet role c calls session o g (Err w) t h = faults_quiet role c calls session o g w t h
+  said_quiet role c calls session o g (Ok m) t h = hears_quiet role c calls session m t h
 
-  next_quiet : (role : Role) (calls : List (ℕ × Call)) (session : ℕ) (body : List ℕ) (t : Turn) → Quiet t
-      → Quiet (hears_next role calls session body t)
+  next_quiet : (role : Role) (c : Config) (calls : List (ℕ × Call)) (session : ℕ) (body : List ℕ) (t : Turn) → Quiet t
+      → Quiet (hears_next role c calls session body t)
   unfolding hears_next
-  next_quiet role calls session body t h =
+  next_quiet role c calls session body t h =
       branch Quiet (is_closed t.control.state) _ _
       (λ closed. plain_quiet t h)
-      (λ live. said_quiet role calls session (call_fault_in body) (tunnel_fault_in body) (message_in body) t h)
+      (λ live. said_quiet role c calls session (call_fault_in body) (tunnel_fault_in body) (message_in body) t h)
 
-  letter_quiet : (role : Role) (calls : List (ℕ × Call)) (session : ℕ) (body : List ℕ) (c : Option Class) (t : Turn) → Quiet t
-      → Quiet (hears_letter role calls session body c t)
+  letter_quiet : (role : Role) (g : Config) (calls : List (ℕ × Call)) (session : ℕ) (body : List ℕ) (c : Option Class) (t : Turn) → Quiet t
+      → Quiet (hears_letter role g calls session body c t)
   unfolding hears_letter
-  letter_quiet role calls session body (Some Next) t h =
+  letter_quiet role g calls session body (Some Next) t h =
       branch Quiet (may_take t.control calls) _ _
-      (λ may. next_quiet role calls session body t h)
+      (λ may. next_quiet role g calls session body t h)
       (λ full. dropped why.Queue t h)
-  letter_quiet role calls session body (Some (Ahead by)) t h = dropped why.Ahead t h
-  letter_quiet role calls session body (Some Duplicate) t h = h
-  letter_quiet role calls session body None t h = h
+  letter_quiet role g calls session body (Some (Ahead by)) t h = dropped why.Ahead t h
+  letter_quiet role g calls session body (Some Duplicate) t h = h
+  letter_quiet role g calls session body None t h = h
 
-  in_tunnel_quiet : (role : Role) (letters : List Letter) (calls : List (ℕ × Call)) (session : ℕ) (body : List ℕ) (c : Option Class) (t : Turn) → Quiet t
-      → Quiet (in_tunnel role letters calls session body c t)
+  in_tunnel_quiet : (role : Role) (g : Config) (letters : List Letter) (calls : List (ℕ × Call)) (session : ℕ) (body : List ℕ) (c : Option Class) (t : Turn) → Quiet t
+      → Quiet (in_tunnel role g letters calls session body c t)
   unfolding in_tunnel
-  in_tunnel_quiet role letters calls session body c t h = settled (is_duplicate c) letters _ (letter_quiet role calls session body c t h)
+  in_tunnel_quiet role g letters calls session body c t h = settled (is_duplicate c) letters _ (letter_quiet role g calls session body c t h)
 
   -- ---- frames that are given
 
@@ -633,7 +651,7 @@ control_quiet role c letters calls k body t h =
     (λ idle. settled 0 1 false letters _ (first_quiet 0 1 role c (message_in body) t (unread h)))
     (λ busy.
     let class = class_told t.control.channel (unwrap_or k.ns 0) (length body == 0) in
-    in_tunnel_quiet 0 1 role letters calls k.session body class _ (read_quiet (unwrap_or k.nr 0) t h))
+    in_tunnel_quiet 0 1 role c letters calls k.session body class _ (read_quiet (unwrap_or k.nr 0) t h))
 
 datagram_quiet : (role : Role) (c : Config) (letters : List Letter) (calls : List (ℕ × Call)) (bytes : List ℕ) (r : Result Header HeaderError) (t : Turn)
     → IsQuiet 0 0 t → IsQuiet 0 1 (hears_datagram role c letters calls bytes r t)

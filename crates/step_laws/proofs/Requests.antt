@@ -23,7 +23,7 @@ use Rattle.protocol_model.specs.declared.moves.Move.{Move}
 use Rattle.protocol_model.specs.Reading.{body_of, message_in, at_tunnel}
 use Rattle.protocol_model.specs.Calls.{is_lac}
 use Rattle.protocol_model.specs.Turn.{Env, Turn, Tunnel, turn_of, with_move, reads_nr, hears_letter, in_tunnel, hears_control, hears_datagram, turns, may_take, counts_acked}
-use Rattle.protocol_model.specs.End.{End, Stepped, env_of, after_turn, in_main, addressed, for_addressee, least_in, rings_in, rings_at, receives, only_by, step_in, step}
+use Rattle.protocol_model.specs.End.{End, Stepped, env_of, after_turn, in_main, addressed, for_addressee, least_in, rings_in, rings_at, receives, only_by, step_in, plain_step}
 use Rattle.step_laws.specs.Moves.{GrantsCall, DeniesCall, AsksItself, HasUsedId, HasAllCalls, HasNoSession}
 use Rattle.step_laws.specs.Causes.{MayBeGranted}
 use Rattle.step_laws.specs.Left.{AreSound, AreAsked}
@@ -64,7 +64,7 @@ module _ (e : End) (kept : AreKept e) (sound : AreSound e) (asked : AreAsked e) 
     local_is : t.control.local ≡ r.id
     local_is = (kept.tunnels r.id t r.there).local
 
-    taken_right : Right (hears_letter e.role t.calls header.session body (Some Next) read_turn)
+    taken_right : Right (hears_letter e.role e.config t.calls header.session body (Some Next) read_turn)
     unfolding hears_letter reads_nr with_move
     taken_right =
         branch Right (may_take (counts_acked nr moment t.control) t.calls) _ _
@@ -88,8 +88,8 @@ module _ (e : End) (kept : AreKept e) (sound : AreSound e) (asked : AreAsked e) 
     heard_right =
         branch Right (state_number t.control.state == 0) _ _
         (λ zero. absurd ((kept.tunnels r.id t r.there).busy (eqb-true (state_number t.control.state) 0 zero)))
-        (λ some. subst (λ o. Right (in_tunnel e.role t.letters t.calls header.session body o read_turn)) (sym class_is)
-        (settled_answer _ false t.letters (hears_letter e.role t.calls header.session body (Some Next) read_turn) taken_right))
+        (λ some. subst (λ o. Right (in_tunnel e.role e.config t.letters t.calls header.session body o read_turn)) (sym class_is)
+        (settled_answer _ false t.letters (hears_letter e.role e.config t.calls header.session body (Some Next) read_turn) taken_right))
 
     turn_right : Right (turns e.role e.config t.letters t.calls (Datagram t.control.peer r.comes.bytes) (turn_of t.control env))
     unfolding turns hears_datagram
@@ -118,16 +118,16 @@ module _ (e : End) (kept : AreKept e) (sound : AreSound e) (asked : AreAsked e) 
         subst (λ a. RightIn (for_addressee e env (Datagram t.control.peer r.comes.bytes) t.control.peer header body a)) (sym for_tunnel)
         (subst (λ o. RightIn (in_main e env (Datagram t.control.peer r.comes.bytes) r.id o)) (sym r.there) turn_right)
 
-    received_right : RightIn (step e moment block (Datagram t.control.peer r.comes.bytes))
-    unfolding step step_in receives
+    received_right : RightIn (plain_step e moment block (Datagram t.control.peer r.comes.bytes))
+    unfolding plain_step step_in receives
     received_right =
         subst (λ q. RightIn (receives e env t.control.peer r.comes.bytes q)) (sym r.comes.read)
         (branch RightIn header.control _ _ (λ c. main_right) (λ c. absurd (true≢false (sym r.comes.control ∙ c))))
 
-    step_right : RightIn (step e moment block ev)
-    step_right = subst (λ x. RightIn (step e moment block x)) (sym r.comes.is) received_right
+    step_right : RightIn (plain_step e moment block ev)
+    step_right = subst (λ x. RightIn (plain_step e moment block x)) (sym r.comes.is) received_right
 
-  pub request_answered : (ev : Event) (r : TakesRequest e moment ev) → IsAnswered e moment ev r (step e moment block ev)
+  pub request_answered : (ev : Event) (r : TakesRequest e moment ev) → IsAnswered e moment ev r (plain_step e moment block ev)
   request_answered ev r = let h = step_right ev r in record { answer = h.answer; only = h.only; right = h.right }
 
 few_tested : (n : ℕ) → n < 4096 → nat_le 4096 n ≡ false
@@ -157,7 +157,7 @@ module _ (e : End) (t : Tunnel) (remote : ℕ) where
 
 module _ (e : End) (kept : AreKept e) (sound : AreSound e) (asked : AreAsked e) (moment : ℕ) (block : List ℕ) (ev : Event) where
   abbrev stepped : Stepped
-  stepped = step e moment block ev
+  stepped = plain_step e moment block ev
 
   abbrev RepliedAt : ℕ → ℕ → Move → Type 0
   RepliedAt id remote m = (s : ℕ) × (draws e.session_ids ≡ Ok s) × IsReply id remote s m
@@ -248,8 +248,8 @@ module _ (e : End) (kept : AreKept e) (moment : ℕ) (block : List ℕ) (port : 
       (inr ((least_is e WaitCtlReply i least least.tunnel least.there).0, none_open e kept is, least)))
   rung_in None None is next = one_more_ring e kept lac moment block port (port, refl, none_open e kept is, none_opening e kept next)
 
-  rung_step : Rung (step e moment block (Ring port))
-  unfolding step step_in only_by rings_at
+  rung_step : Rung (plain_step e moment block (Ring port))
+  unfolding plain_step step_in only_by rings_at
   rung_step =
       branch Rung (is_lac e.role) _ _
       (λ yes. rung_in (least_in Established e.config.lns e.tunnels) (least_in WaitCtlReply e.config.lns e.tunnels) refl refl)
@@ -260,5 +260,5 @@ requests_are_answered e kept sound asked moment block ev = record {
   requests = request_answered e kept sound asked moment block ev;
   granted = granted_answered e kept sound asked moment block ev;
   judged = judged e kept sound asked moment block ev;
-  rings = λ port is lac. subst (λ x. RingIsAnswered e port (step e moment block x)) (sym is) (rung_step e kept moment block port lac);
+  rings = λ port is lac. subst (λ x. RingIsAnswered e port (plain_step e moment block x)) (sym is) (rung_step e kept moment block port lac);
 }

@@ -12,7 +12,7 @@ use Rattle.control_message.specs.declared.message.Message.TheVariants.{StopCcn}
 use Rattle.tunnel_fsm.specs.declared.table.TunnelState.TheVariants as state
 use Rattle.tunnel_fsm.specs.declared.table.TunnelEvent.{TunnelEvent}
 use Rattle.tunnel_fsm.specs.declared.table.TunnelAction.TheVariants as action
-use Rattle.tunnel_fsm.specs.Rows.{rows, row_of}
+use Rattle.tunnel_fsm.specs.Rows.{rows, row_of, state_number}
 use Rattle.protocol_model.specs.declared.tunnel.Call.{Call}
 use Rattle.protocol_model.specs.declared.tunnel.CallPlace.{CallPlace}
 use Rattle.protocol_model.specs.declared.tunnel.CellChange.{CellChange}
@@ -22,10 +22,10 @@ use Rattle.protocol_model.specs.declared.out.Out.TheVariants.{Gone, Cause}
 use Rattle.protocol_model.specs.declared.moves.Closed.{Closed}
 use Rattle.protocol_model.specs.declared.moves.Move.TheVariants as move
 use Rattle.protocol_model.specs.Reading.{body_of}
-use Rattle.protocol_model.specs.Turn.{Tunnel, Turn, Reason, is_closed, with_output, with_move, with_change, with_calls, ends_call, ends_all, gives, takes_one, next_place, taken_place, has_room, letter_of, tunnel_after, counts_taken, shut, shuts, closed_told, closes_tunnel, closed_by}
+use Rattle.protocol_model.specs.Turn.{rejected, rejects, Tunnel, Turn, Reason, is_closed, with_output, with_move, with_change, with_calls, ends_call, ends_all, gives, takes_one, next_place, taken_place, has_room, letter_of, tunnel_after, counts_taken, shut, shuts, closed_told, closes_tunnel, closed_by}
 use Rattle.protocol_model.specs.End.{End, placed, with_looks, with_look}
 use Rattle.step_laws.specs.Causes.{Stands}
-use Rattle.step_laws.specs.Moves.{ComesNext, WhyCloses, SaysStop}
+use Rattle.step_laws.specs.Moves.{LetterCloses, ComesNext, WhyCloses, SaysStop}
 use Rattle.step_laws.proofs.Lists.{all_push, all_append, branch, chain_more}
 use Rattle.step_laws.proofs.Owing.{fits_shut, fits_last}
 use Rattle.step_laws.proofs.Tells.{Tells}
@@ -88,11 +88,11 @@ module _ (e : End) (moment : ℕ) (ev : Event) (letters : List Letter) (calls : 
   -- why the tunnel is closed, as the turn has it
   abbrev pub Why : Turn → TunnelEvent → Reason → ℕ → Type 0
   Why t on r remote =
-      (m : Closed) → m.tunnel ≡ t.control.local → m.remote ≡ remote → m.result ≡ r.result → m.error ≡ r.error → WhyCloses (tunnel t) ev on m
+      (m : Closed) → m.tunnel ≡ t.control.local → m.remote ≡ remote → m.result ≡ r.result → m.error ≡ r.error → WhyCloses e.config.secret (tunnel t) ev on m
 
   -- ---- the peer is told
 
-  told_ok : (r : Reason) → Stands e moment ev r.cause → (on : TunnelEvent) (remote : ℕ) (t : Turn) → t.changed ≡ []
+  pub told_ok : (r : Reason) → Stands e moment ev r.cause → (on : TunnelEvent) (remote : ℕ) (t : Turn) → t.changed ≡ []
       → row_of rows t.control.state on ≡ (state.Closed, action.SendStopCcn) → Why t on r remote → has_room t.control ≡ true
       → TurnOk e moment ev letters calls i t → TurnOk e moment ev letters calls i (closed_told r calls remote state.Closed t)
   unfolding closed_told shuts gives with_output with_move with_calls
@@ -122,6 +122,60 @@ module _ (e : End) (moment : ℕ) (ev : Event) (letters : List Letter) (calls : 
         held = given_held e moment ev letters calls i t l h.held;
         fits = rw (none, none_left calls) (fits_last t.control remote t.moment room);
       })
+
+  -- a letter is taken, and the peer told
+  rejected_ok : (r : Reason) → Stands e moment ev r.cause → (on : TunnelEvent) (remote : ℕ) (t : Turn) → t.changed ≡ []
+      → row_of rows t.control.state on ≡ (state.Closed, action.SendStopCcn) → state_number t.control.state ≡ 1 → ComesNext ev t.control
+      → LetterCloses e.config.secret t.control ev on remote r.result r.error → has_room t.control ≡ true
+      → TurnOk e moment ev letters calls i t → TurnOk e moment ev letters calls i (rejected r calls remote state.Closed t)
+  unfolding rejected shuts gives with_output with_move with_calls takes_one
+  rejected_ok r so on remote t none row waits next why room h =
+      let m = move.Rejected (record {
+        tunnel = t.control.local;
+        remote = remote;
+        result = r.result;
+        error = r.error;
+        taken = taken_place t.control;
+        given = next_place t.control;
+      }) in
+      let l = letter_of 0 (StopCcn t.control.local r.result r.error) in
+      let outs = t.outputs ++ Cause r.cause ∷ [] in
+      let u : Turn = record t { control = shut remote state.Closed t.moment (counts_taken t.control); took = true; outputs = outs } in
+      rw (all_ended_is (ids_of calls) u) (record {
+        chain = chain_more moment ev e (at_turn e moment ev letters calls i t) _ t.moves m h.chain (record {
+          tunnel = tunnel t;
+          there = there e moment ev letters calls i t;
+          waits = waits;
+          on = on;
+          comes = next;
+          why = why;
+          row = row;
+          taken = refl;
+          room = room;
+          given = refl;
+          after =
+              let looked = with_looks-append t.changes (map cell.Kill (ids_of calls)) (placed t.control.local t.added e.calls) in
+              let given = one_given e moment ev letters calls i t l in
+              rw (put-put e.tunnels t.control.local (tunnel t) _, given, looked, h.stays.4, none, none_left calls) refl;
+        });
+        words = all_append IsWord outs _ (all_push IsWord t.outputs (Cause r.cause) h.words tt) (gone_words (ids_of calls));
+        tells = all_append _ outs _ (all_push _ t.outputs (Cause r.cause) h.tells so) (gone_tells e moment ev (ids_of calls));
+        frames = all_push NoFrame t.moves m h.frames tt;
+        stays = (h.stays.0, (λ z. absurd (omega (arith, z))), h.stays.2, h.stays.3, h.stays.4, h.stays.5);
+        held = given_held e moment ev letters calls i t l h.held;
+        fits = rw (none, none_left calls) (fits_last (counts_taken t.control) remote t.moment room);
+      })
+
+  -- there is room for that too
+  pub rejects_ok : (r : Reason) → Stands e moment ev r.cause → (on : TunnelEvent) (remote : ℕ) (t : Turn) → t.changed ≡ []
+      → is_closed t.control.state ≡ false → row_of rows t.control.state on ≡ (state.Closed, action.SendStopCcn) → state_number t.control.state ≡ 1
+      → ComesNext ev t.control → LetterCloses e.config.secret t.control ev on remote r.result r.error
+      → TurnOk e moment ev letters calls i t → TurnOk e moment ev letters calls i (rejects r calls remote state.Closed t)
+  unfolding rejects
+  rejects_ok r so on remote t none live row waits next why h =
+      branch (TurnOk e moment ev letters calls i) (has_room t.control) _ _
+      (λ room. rejected_ok r so on remote t none row waits next why room h)
+      (λ full. absurd (is_roomy e moment ev letters calls i t live h full))
 
   -- there is room for that, as long as it isn't closed
   pub told_shut_ok : (r : Reason) → Stands e moment ev r.cause → (on : TunnelEvent) (remote : ℕ) (t : Turn) → t.changed ≡ []

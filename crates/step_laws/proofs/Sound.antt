@@ -14,7 +14,7 @@ use Rattle.protocol_model.specs.declared.tunnel.Role.{Role}
 use Rattle.protocol_model.specs.declared.tunnel.Role.TheVariants.{Lac, Lns}
 use Rattle.protocol_model.specs.Calls.{call_row, advanced, rung, asked_for, is_request, is_reply}
 use Rattle.protocol_model.specs.Turn.{Tunnel}
-use Rattle.protocol_model.specs.End.{End, step}
+use Rattle.protocol_model.specs.End.{End, plain_step}
 use Rattle.step_laws.specs.Moves.{Does, Chain}
 use Rattle.step_laws.specs.Left.{CanBe, AreSound, CallsStaySound}
 use Rattle.step_laws.specs.Steps.{AreKept, StepsAreChains}
@@ -133,6 +133,7 @@ module _ (e : End) (whole : AreWhole e) where
       puts x _ m.tunnel _ h.after refl refl refl (whole_without e.role h.tunnel.calls m.session (whole.calls m.tunnel h.tunnel h.there))
   does_whole moment ev (move.Declined m) x h = nothing x h.after
   does_whole moment ev (move.Closed m) x h = puts x _ m.tunnel _ h.after refl refl refl (whole_none e.role)
+  does_whole moment ev (move.Rejected m) x h = puts x _ m.tunnel _ h.after refl refl refl (whole_none e.role)
   does_whole moment ev (move.ClosedBy m) x h = puts x _ m.tunnel _ h.after refl refl refl (whole_none e.role)
   does_whole moment ev (move.Cleared i) x h = subst AreWhole (sym h.after) (record {
     last = whole.last;
@@ -165,6 +166,7 @@ does_role moment ev e x (move.EndHeard m) h = ap (λ (y : End). y.role) h.after
 does_role moment ev e x (move.EndSilent m) h = ap (λ (y : End). y.role) h.after
 does_role moment ev e x (move.Declined m) h = ap (λ (y : End). y.role) h.after
 does_role moment ev e x (move.Closed m) h = ap (λ (y : End). y.role) h.after
+does_role moment ev e x (move.Rejected m) h = ap (λ (y : End). y.role) h.after
 does_role moment ev e x (move.ClosedBy m) h = ap (λ (y : End). y.role) h.after
 does_role moment ev e x (move.Cleared i) h = ap (λ (y : End). y.role) h.after
 does_role moment ev e x (move.Greeted m) h = ap (λ (y : End). y.role) h.after
@@ -185,12 +187,12 @@ chain_whole moment ev [] e x whole h = subst AreWhole h whole
 chain_whole moment ev (m ∷ ms) e x whole h = chain_whole moment ev ms h.0 x (does_whole e whole moment ev m h.0 h.1) h.2
 
 module _ (chains : StepsAreChains) (e : End) (kept : AreKept e) (moment : ℕ) (block : List ℕ) (ev : Event) where
-  pub role_stays : (step e moment block ev).end.role ≡ e.role
-  role_stays = let s = step e moment block ev in chain_role moment ev s.moves e s.end (chains e kept moment block ev).chain
+  pub role_stays : (plain_step e moment block ev).end.role ≡ e.role
+  role_stays = let s = plain_step e moment block ev in chain_role moment ev s.moves e s.end (chains e kept moment block ev).chain
 
-  pub stays_sound : AreSound e → AreSound (step e moment block ev).end
+  pub stays_sound : AreSound e → AreSound (plain_step e moment block ev).end
   stays_sound sound i t there =
-      let s = step e moment block ev in
+      let s = plain_step e moment block ev in
       let whole = chain_whole moment ev s.moves e s.end (record {
         last = kept.sessions;
         order = kept.order;

@@ -25,7 +25,7 @@ use Rattle.protocol_model.specs.declared.out.Out.TheVariants.{Drop, Cause}
 use Rattle.protocol_model.specs.Reading.{header_why, body_of, at_zero, at_tunnel}
 use Rattle.protocol_model.specs.Calls.{is_lac, frame_of, side_of, Carried, Upward, Dropped, carry_known, carry_look}
 use Rattle.protocol_model.specs.Turn.{Tunnel, Env, turns}
-use Rattle.protocol_model.specs.End.{End, Stepped, env_of, in_new, in_one_more, in_main, is_known, known_as, opened_before, stopped_at, opens_once, addressed, for_addressee, least_in, rings_in, rings_at, for_call, look_in, handed, hands_up, receives, only_by, step_in, step}
+use Rattle.protocol_model.specs.End.{End, Stepped, env_of, in_new, in_one_more, in_main, is_known, known_as, opened_before, stopped_at, opens_once, addressed, for_addressee, least_in, rings_in, rings_at, for_call, look_in, handed, hands_up, receives, only_by, step_in, plain_step}
 use Rattle.step_laws.specs.Moves.{has_all_tunnels}
 use Rattle.step_laws.specs.Room.{IsChosen, StepsRefuseTruly}
 use Rattle.step_laws.specs.Causes.{CausesStand}
@@ -303,8 +303,8 @@ module _ (e : End) (kept : AreKept e) (moment : ℕ) (block : List ℕ) where
   unfolding only_by
   by_lns ev s h = branch (IsStep e moment ev) (is_lac e.role) _ _ (λ lac. drop_chain e kept moment ev why.Node (λ q. absurd cc)) (λ lns. h)
 
-  pub step_chain : (ev : Event) → IsStep e moment ev (step e moment block ev)
-  unfolding step step_in rings_at in_one_more in_new
+  pub step_chain : (ev : Event) → IsStep e moment ev (plain_step e moment block ev)
+  unfolding plain_step step_in rings_at in_one_more in_new
   step_chain (Datagram peer bytes) = received peer bytes (header_of bytes) refl
   step_chain (Ring port) =
       by_lac (Ring port) _ (λ lac. rung port lac (least_in Established e.config.lns e.tunnels) (least_in WaitCtlReply e.config.lns e.tunnels) refl refl)

@@ -1,7 +1,8 @@
 -- A letter that closes its tunnel: one that its table has no good use for, one that has a fault, or a StopCCN.
-use Rattle.std.proofs.Common.{◌≡◌, inl, inr, ℕ, Bool, true, false, cond, List, refl, sym, ap, ◌∙◌, subst, Option, Some, None, Err, arith}
-use Rattle.std.proofs.lemmas.Bool.{eqb-true, eq-eqb, true≢false}
+use Rattle.std.proofs.Common.{◌≡◌, inl, inr, ⊎_elim, ℕ, Bool, true, false, cond, List, refl, sym, ap, ◌∙◌, subst, Option, Some, None, Err, arith}
+use Rattle.std.proofs.lemmas.Bool.{eqb-false, eqb-true, true≢false}
 use Rattle.std.specs.Prelude.{◌==◌}
+use Rattle.id_table.specs.Ids.{ids_of}
 use Rattle.wire_base.specs.declared.why.Why.{Why as WhyOf}
 use Rattle.wire_base.specs.declared.letter.Letter.{Letter}
 use Rattle.control_message.specs.declared.message.Message.{Message}
@@ -18,18 +19,22 @@ use Rattle.protocol_model.specs.declared.tunnel.Call.{Call}
 use Rattle.protocol_model.specs.declared.tunnel.Control.{Control}
 use Rattle.protocol_model.specs.declared.event.Event.{Event}
 use Rattle.protocol_model.specs.Reading.{body_of, message_in, CallFault, call_fault_in, TunnelFault, tunnel_fault_in}
-use Rattle.protocol_model.specs.Turn.{Tunnel, Turn, Reason, is_closed, is_acceptable, event_by, opening_reason, out_of_order, fault_reason, known_or, with_move, takes_one, takes_plain, closes_tunnel, takes_by, takes, hears_faulty}
+use Rattle.protocol_model.specs.Turn.{Tunnel, Turn, Reason, is_closed, is_acceptable, event_by, opening_reason, out_of_order, fault_reason, with_output, with_move, gives, shuts, has_room, tunnel_after, closed_told, takes_plain, closes_tunnel, takes_by, takes, hears_faulty}
 use Rattle.protocol_model.specs.End.{End}
-use Rattle.step_laws.specs.Causes.{IsClosedOn, InSccrq, InSccrp, AnSccrq, AnSccrp, AnScccn, Stands}
-use Rattle.step_laws.specs.Moves.{HearsNext, ComesNext, IsPlain, InTunnel, IsKnownOr, SaysStop, BySccrq, BySccrp, ByScccn, ByFault}
+use Rattle.protocol_model.specs.Secrets.{is_wrong}
+use Rattle.protocol_model.specs.Reasons.{no_secret}
+use Rattle.step_laws.specs.Causes.{IsClosedOn, InSccrq, InSccrp, AnSccrq, AnSccrp, AnScccn, AsksInVain, AnswersWrongly, Stands}
+use Rattle.step_laws.proofs.Secrets.{right_of, wrong_of, right_if_unasked}
+use Rattle.step_laws.specs.Moves.{LetterCloses, ByLetter, HearsNext, ComesNext, IsPlain, InTunnel, SaysStop, BySccrq, BySccrp, ByScccn, ByFault, WronglyConnected, ComesUnawaited}
 use Rattle.step_laws.proofs.Faults.{IsEventOfFault, of_tunnel, closing_stands}
-use Rattle.step_laws.proofs.Turns.{TurnOk, PlainAt, plain_ok}
+use Rattle.step_laws.proofs.Turns.{TurnOk, PlainAt, at_turn, is_roomy, plain_ok}
+use Rattle.step_laws.proofs.Lists.{branch}
 use Rattle.step_laws.proofs.Settling.{Settled, unsent}
 use Rattle.step_laws.proofs.Known.{sccrq_opens_none, sccrp_opens_none}
 use Rattle.step_laws.proofs.Openings.{closes_in, opening_stands}
-use Rattle.step_laws.proofs.Comes.{Taking, next_of_heard, heard_in, for_still, comes_at, begun}
-use Rattle.step_laws.proofs.Shutting.{Why, told_shut_ok, heard_shut_ok}
-use Rattle.step_laws.proofs.Faulty.{unread_plain, unknown_ok, in_faulty_call_ok}
+use Rattle.step_laws.proofs.Comes.{Taking, next_of_heard, heard_in, for_still, begun}
+use Rattle.step_laws.proofs.Shutting.{all_ended_is, rejects_ok, Why, told_ok, heard_shut_ok}
+use Rattle.step_laws.proofs.Faulty.{unknown_ok, in_faulty_call_ok}
 
 -- ---- rows of the tunnel's table
 
@@ -86,9 +91,9 @@ row_shut_closed state.WaitCtlConn closed = absurd (true≢false (sym closed))
 row_shut_closed state.Established closed = absurd (true≢false (sym closed))
 
 -- an SCCRQ does, whether it is acceptable or not
-row_sccrq : (s : TunnelState) (o : Opening) → (state_number s ≡ 0 → ⊥) → is_closed s ≡ false
-    → row_of rows s (event_by event.SccrqAcc event.SccrqNotAcc o) ≡ shut_row
-row_sccrq s o busy live = by (is_acceptable o)
+row_sccrq : (secret : Option (List ℕ)) (s : TunnelState) (o : Opening) → (state_number s ≡ 0 → ⊥) → is_closed s ≡ false
+    → row_of rows s (event_by event.SccrqAcc event.SccrqNotAcc secret None o) ≡ shut_row
+row_sccrq secret s o busy live = by (is_acceptable secret None o)
   where
     by : (b : Bool) → row_of rows s (cond b event.SccrqAcc event.SccrqNotAcc) ≡ shut_row
     by true = row_shut s event.SccrqAcc busy live tt
@@ -103,11 +108,11 @@ row_unawaited state.WaitCtlReply busy live other = absurd (other refl)
 row_unawaited state.WaitCtlConn busy live other = refl
 row_unawaited state.Established busy live other = refl
 
-row_sccrp : (s : TunnelState) (o : Opening) → (state_number s ≡ 0 → ⊥) → is_closed s ≡ false → (state_number s ≡ 1 → is_acceptable o ≡ false)
-    → row_of rows s (event_by event.SccrpAcc event.SccrpNotAcc o) ≡ shut_row
-row_sccrp s o busy live plain = by (is_acceptable o) refl
+row_sccrp : (secret asked : Option (List ℕ)) (s : TunnelState) (o : Opening) → (state_number s ≡ 0 → ⊥) → is_closed s ≡ false
+    → (state_number s ≡ 1 → is_acceptable secret asked o ≡ false) → row_of rows s (event_by event.SccrpAcc event.SccrpNotAcc secret asked o) ≡ shut_row
+row_sccrp secret asked s o busy live plain = by (is_acceptable secret asked o) refl
   where
-    by : (b : Bool) → is_acceptable o ≡ b → row_of rows s (cond b event.SccrpAcc event.SccrpNotAcc) ≡ shut_row
+    by : (b : Bool) → is_acceptable secret asked o ≡ b → row_of rows s (cond b event.SccrpAcc event.SccrpNotAcc) ≡ shut_row
     by true good = row_unawaited s busy live (λ waits. true≢false (sym good ∙ plain waits))
     by false bad = row_shut s event.SccrpNotAcc busy live tt
 
@@ -126,24 +131,6 @@ row_stop state.WaitCtlConn = refl
 row_stop state.Established = refl
 row_stop state.Closed = refl
 
--- ---- ids
-
--- where no id is told, the peer's is the one that is known
-known_or_none : (c : Control) → known_or 0 c ≡ c.remote
-known_or_none c = by (c.remote == 0) refl
-  where
-    by : (b : Bool) → (c.remote == 0) ≡ b → cond b 0 c.remote ≡ c.remote
-    by true none = sym (eqb-true c.remote 0 none)
-    by false some = refl
-
--- else it is the one that is known, or, where none is, the one that is told
-is_known_or : (told : ℕ) (c : Control) (remote : ℕ) → remote ≡ known_or told c → IsKnownOr told c remote
-is_known_or told c remote is = by (c.remote == 0) refl is
-  where
-    by : (b : Bool) → (c.remote == 0) ≡ b → remote ≡ cond b told c.remote → IsKnownOr told c remote
-    by true none is = ((λ some. absurd (some (eqb-true c.remote 0 none))), (λ zero. is))
-    by false some is = ((λ known. is), (λ zero. absurd (true≢false (sym (eq-eqb c.remote 0 zero) ∙ some))))
-
 -- ---- a closed tunnel does nothing on a message
 
 pub closed_plain : (x : End) (u : Tunnel) (session : ℕ) (m : Message) → is_closed u.control.state ≡ true → IsPlain x u session m
@@ -151,8 +138,8 @@ closed_plain x u session m closed = by (eqb-true (state_number u.control.state) 
   where
     by : state_number u.control.state ≡ 4 → (m : Message) → IsPlain x u session m
     by four (Sccrq o) = tt
-    by four (Sccrp o) = λ n. absurd (omega (arith, four, n))
-    by four Scccn = λ n. omega (arith, four, n)
+    by four (Sccrp o) = λ n. omega (arith, four, n)
+    by four (Scccn response) = λ n. omega (arith, four, n)
     by four (StopCcn tunnel code error) = closed
     by four Hello = tt
     by four (Ocrq remote) = λ n. omega (arith, four, n)
@@ -185,25 +172,71 @@ module _ (e : End) (moment : ℕ) (ev : Event) (letters : List Letter) (calls : 
   came_in : (t : Turn) (f : Takes t) (session : ℕ) (m : Message) → HearsNext ev t.control session m → InTunnel ev (begun_at t f).control session m
   came_in t f session m hears = heard_in ev t.control f.fresh.first session m f.fresh.local f.fresh.remote f.fresh.peer hears
 
-  -- ---- a letter is taken, and then the tunnel is closed
+  -- ---- the tunnel is closed, and then the letter is taken, as a closed tunnel takes each
 
-  taken_shut_ok : (r : Reason) → Stands e moment ev r.cause → (on : TunnelEvent) (remote : ℕ) (t : Turn) → Takes t
-      → PlainAt e moment ev letters calls i t
-      → row_of rows t.control.state on ≡ shut_row → Why e moment ev letters calls i (takes_plain t) on r remote
-      → TurnOk e moment ev letters calls i (closes_tunnel r calls remote state.Closed (takes_plain t))
-  unfolding takes_plain with_move takes_one
-  taken_shut_ok r so on remote t f plain row why =
-      told_shut_ok e moment ev letters calls i r so on remote (takes_plain t) f.fresh.changed f.live row why
-      (plain_ok e moment ev letters calls i t plain f.fresh.good)
+  abbrev told : Reason → Turn → Turn
+  told r t = closed_told r calls t.control.remote state.Closed t
 
-  shuts_ok : (r : Reason) → Stands e moment ev r.cause → (on : TunnelEvent) (remote window : ℕ) (t : Turn) → Takes t
-      → PlainAt e moment ev letters calls i t → row_of rows t.control.state on ≡ shut_row
-      → Why e moment ev letters calls i (takes_plain t) on r (known_or remote t.control)
-      → Good (takes_by e.role calls r remote window (row_of rows t.control.state on) t)
+  comes_still : (r : Reason) (t : Turn) → ComesNext ev t.control → ComesNext ev (told r t).control
+  unfolding closed_told shuts gives with_output with_move
+  comes_still r t next =
+      rw (all_ended_is (ids_of calls) _) (record {
+        bytes = next.bytes;
+        is = next.is;
+        header = next.header;
+        read = next.read;
+        control = next.control;
+        some = next.some;
+        tunnel = for_still next.header next.bytes t.control _ refl refl next.tunnel;
+        next = next.next;
+      })
+
+  told_closed : (r : Reason) (t : Turn) → is_closed (told r t).control.state ≡ true
+  unfolding closed_told shuts gives with_output with_move
+  told_closed r t = rw (all_ended_is (ids_of calls) _) refl
+
+  shut_plain : (r : Reason) (t : Turn) → ComesNext ev t.control → PlainAt e moment ev letters calls i (told r t)
+  shut_plain r t next =
+      let came = comes_still r t next in
+      record {
+        comes = came;
+        why = λ m reads. closed_plain (at_turn e moment ev letters calls i (told r t)) (tunnel_after (told r t) letters calls) came.header.session m
+            (told_closed r t);
+      }
+
+  taken_shut_ok : (r : Reason) → Stands e moment ev r.cause → (on : TunnelEvent) (t : Turn) → Takes t → ComesNext ev t.control
+      → row_of rows t.control.state on ≡ shut_row → Why e moment ev letters calls i t on r t.control.remote
+      → TurnOk e moment ev letters calls i (takes_plain (closes_tunnel r calls t.control.remote state.Closed t))
+  unfolding closes_tunnel
+  taken_shut_ok r so on t f next row why =
+      branch (λ (u : Turn). TurnOk e moment ev letters calls i (takes_plain u)) (has_room t.control) _ _
+      (λ room. plain_ok e moment ev letters calls i (told r t) (shut_plain r t next)
+      (told_ok e moment ev letters calls i r so on t.control.remote t f.fresh.changed row why room f.fresh.good))
+      (λ full. absurd (is_roomy e moment ev letters calls i t f.live f.fresh.good full))
+
+  -- why a letter closes it, of a tunnel with the same ids that asked the same
+  abbrev WhyLetter : Turn → TunnelEvent → Reason → ℕ → Type 0
+  WhyLetter t on r told =
+      (c : Control) → c.local ≡ t.control.local → c.remote ≡ t.control.remote → c.peer ≡ t.control.peer → c.challenge ≡ t.control.challenge
+      → LetterCloses e.config.secret c ev on told r.result r.error
+
+  -- where it waits for its SCCRP the id that is told is learned; else the tunnel is closed, and then the letter is taken
+  shuts_ok : (r : Reason) → Stands e moment ev r.cause → (on : TunnelEvent) (asked : Option (List ℕ)) (remote window : ℕ) (t : Turn) → Takes t
+      → ComesNext ev t.control
+      → row_of rows t.control.state on ≡ shut_row → WhyLetter t on r remote
+      → Good (takes_by e.role e.config calls r asked remote window (row_of rows t.control.state on) t)
   unfolding takes_by
-  shuts_ok r so on remote window t f plain row why =
-      subst (λ (x : TunnelState × TunnelAction). Good (takes_by e.role calls r remote window x t)) (sym row)
-      (unsent e moment ev letters calls i _ (taken_shut_ok r so on (known_or remote t.control) t f plain row why))
+  shuts_ok r so on asked remote window t f next row why =
+      subst (λ (x : TunnelState × TunnelAction). Good (takes_by e.role e.config calls r asked remote window x t)) (sym row)
+      (branch Good (state_number t.control.state == 1) _ _
+      (λ one. unsent e moment ev letters calls i _
+      (rejects_ok e moment ev letters calls i r so on remote t f.fresh.changed f.live row (eqb-true (state_number t.control.state) 1 one) next
+      (why t.control refl refl refl refl) f.fresh.good))
+      (λ two.
+      let other = eqb-false (state_number t.control.state) 1 two in
+      unsent e moment ev letters calls i _
+      (taken_shut_ok r so on t f next row
+      (λ m to known result error. ByLetter remote (rw (result, error) (why t.control refl refl refl refl)) other known))))
 
   -- ---- messages that the table has no good use for
 
@@ -214,72 +247,97 @@ module _ (e : End) (moment : ℕ) (ev : Event) (letters : List Letter) (calls : 
     some_at : (begun_at t f).control.local ≡ 0 → ⊥
     some_at zero = f.fresh.some (sym none_of ∙ sym f.fresh.local ∙ zero)
 
-    sccrq_stands : HearsNext ev t.control session (Sccrq o) → IsClosedOn e (begun_at t f) (event_by event.SccrqAcc event.SccrqNotAcc o)
-        → Stands e moment ev (opening_reason o).cause
+    sccrq_stands : HearsNext ev t.control session (Sccrq o)
+        → IsClosedOn e (begun_at t f) (event_by event.SccrqAcc event.SccrqNotAcc e.config.secret None o)
+        → Stands e moment ev (opening_reason e.config.secret None o).cause
     sccrq_stands hears =
         let came = came_in t f session (Sccrq o) hears in
         opening_stands e moment ev o event.SccrqAcc event.SccrqNotAcc (begun_at t f)
-        (λ on. InSccrq (begun_at t f) session came on)
+        (λ on. InSccrq (begun_at t f) session came on) None
         (λ good on. AnSccrq (begun_at t f) session o came good on)
+        (λ failed. ⊎_elim (λ lacks. AsksInVain lacks) (λ wrong. absurd (wrong (right_if_unasked 2 e.config.secret o.response))) failed)
         (λ would. absurd (sccrq_opens_none e ev i (begun_at t f) f.fresh.there some_at session o came would))
 
     pub sccrq_ok : HearsNext ev t.control session (Sccrq o)
-        → Good (takes_by e.role calls (opening_reason o) 0 o.window (row_of rows t.control.state (event_by event.SccrqAcc event.SccrqNotAcc o)) t)
-    unfolding takes_plain with_move takes_one
+        → Good (takes_by e.role e.config calls (opening_reason e.config.secret None o) None 0 o.window
+        (row_of rows t.control.state (event_by event.SccrqAcc event.SccrqNotAcc e.config.secret None o)) t)
     sccrq_ok hears =
-        let on = event_by event.SccrqAcc event.SccrqNotAcc o in
-        let row = row_sccrq t.control.state o (busy t f) f.live in
-        shuts_ok (opening_reason o) (sccrq_stands hears (shut_on t f on row)) on 0 o.window t f
-        (comes_at e moment ev letters calls i t session (Sccrq o) tt hears) row
-        (λ m to remote result error.
-        BySccrq session o (heard_in ev t.control _ session (Sccrq o) refl refl refl hears) refl (remote ∙ known_or_none t.control)
-        (closes_in o m.result m.error result error))
+        let on = event_by event.SccrqAcc event.SccrqNotAcc e.config.secret None o in
+        let row = row_sccrq e.config.secret t.control.state o (busy t f) f.live in
+        shuts_ok (opening_reason e.config.secret None o) (sccrq_stands hears (shut_on t f on row)) on None 0 o.window t f
+        (next_of_heard ev t.control session (Sccrq o) hears) row
+        (λ c local remote peer challenge. BySccrq session o (heard_in ev t.control c session (Sccrq o) local remote peer hears) refl refl
+        (closes_in e.config.secret None o _ _ refl refl))
 
-    sccrp_stands : HearsNext ev t.control session (Sccrp o) → IsClosedOn e (begun_at t f) (event_by event.SccrpAcc event.SccrpNotAcc o)
-        → Stands e moment ev (opening_reason o).cause
+    sccrp_stands : HearsNext ev t.control session (Sccrp o)
+        → IsClosedOn e (begun_at t f) (event_by event.SccrpAcc event.SccrpNotAcc e.config.secret t.control.challenge o)
+        → Stands e moment ev (opening_reason e.config.secret t.control.challenge o).cause
     sccrp_stands hears =
         let came = came_in t f session (Sccrp o) hears in
         opening_stands e moment ev o event.SccrpAcc event.SccrpNotAcc (begun_at t f)
-        (λ on. InSccrp (begun_at t f) session came on)
-        (λ good on. AnSccrp (begun_at t f) session o came good on)
+        (λ on. InSccrp (begun_at t f) session came on) t.control.challenge
+        (λ good on. AnSccrp (begun_at t f) session o came (rw f.fresh.challenge good) on)
+        (λ failed. ⊎_elim (λ lacks. AsksInVain lacks) (λ wrong. AnswersWrongly (begun_at t f) session came (rw f.fresh.challenge wrong)) failed)
         (λ would. absurd (sccrp_opens_none e ev i (begun_at t f) f.fresh.there some_at session o came o would))
 
     -- one that is acceptable closes no tunnel that waits for it
-    pub sccrp_shut_ok : (state_number t.control.state ≡ 1 → is_acceptable o ≡ false) → HearsNext ev t.control session (Sccrp o)
-        → Good (takes_by e.role calls (opening_reason o) o.tunnel o.window
-        (row_of rows t.control.state (event_by event.SccrpAcc event.SccrpNotAcc o)) t)
-    unfolding takes_plain with_move takes_one
+    pub sccrp_shut_ok : (state_number t.control.state ≡ 1 → is_acceptable e.config.secret t.control.challenge o ≡ false)
+        → HearsNext ev t.control session (Sccrp o)
+        → Good (takes_by e.role e.config calls (opening_reason e.config.secret t.control.challenge o) o.challenge o.tunnel o.window
+        (row_of rows t.control.state (event_by event.SccrpAcc event.SccrpNotAcc e.config.secret t.control.challenge o)) t)
     sccrp_shut_ok plain hears =
-        let on = event_by event.SccrpAcc event.SccrpNotAcc o in
-        let row = row_sccrp t.control.state o (busy t f) f.live plain in
-        shuts_ok (opening_reason o) (sccrp_stands hears (shut_on t f on row)) on o.tunnel o.window t f
-        (comes_at e moment ev letters calls i t session (Sccrp o) plain hears) row
-        (λ m to remote result error.
-        BySccrp session o (heard_in ev t.control _ session (Sccrp o) refl refl refl hears) refl (is_known_or o.tunnel t.control m.remote remote)
-        (closes_in o m.result m.error result error))
+        let on = event_by event.SccrpAcc event.SccrpNotAcc e.config.secret t.control.challenge o in
+        let row = row_sccrp e.config.secret t.control.challenge t.control.state o (busy t f) f.live plain in
+        shuts_ok (opening_reason e.config.secret t.control.challenge o) (sccrp_stands hears (shut_on t f on row)) on o.challenge o.tunnel o.window t f
+        (next_of_heard ev t.control session (Sccrp o) hears) row
+        (λ c local remote peer challenge. BySccrp session o (heard_in ev t.control c session (Sccrp o) local remote peer hears) (rw challenge refl) refl
+        (rw challenge (closes_in e.config.secret t.control.challenge o _ _ refl refl)))
 
-  pub scccn_shut_ok : (session : ℕ) (t : Turn) → Takes t → (state_number t.control.state ≡ 2 → ⊥) → HearsNext ev t.control session Scccn
-      → Good (takes_by e.role calls out_of_order 0 0 (row_of rows t.control.state event.ScccnAcc) t)
-  unfolding takes_plain with_move takes_one
-  scccn_shut_ok session t f other hears =
-      let row = row_scccn t.control.state (busy t f) f.live other in
-      let so = inr (inl (AnScccn (begun_at t f) session (came_in t f session Scccn hears) (shut_on t f event.ScccnAcc row))) in
-      shuts_ok out_of_order so event.ScccnAcc 0 0 t f
-      (comes_at e moment ev letters calls i t session Scccn other hears) row
-      (λ m to remote result error.
-      ByScccn session (heard_in ev t.control _ session Scccn refl refl refl hears) refl (remote ∙ known_or_none t.control) result error)
+  module _ (session : ℕ) (response : Option (List ℕ)) (t : Turn) (f : Takes t) where
+    -- one that answers rightly closes a tunnel that doesn't wait for it
+    pub scccn_shut_ok : (state_number t.control.state ≡ 2 → ⊥) → is_wrong 3 e.config.secret t.control.challenge response ≡ false
+        → HearsNext ev t.control session (Scccn response)
+        → Good (takes_by e.role e.config calls out_of_order None 0 0 (row_of rows t.control.state event.ScccnAcc) t)
+    scccn_shut_ok other is hears =
+        let right = right_of 3 e.config.secret t.control.challenge response is in
+        let row = row_scccn t.control.state (busy t f) f.live other in
+        let so = inr (inl (AnScccn (begun_at t f) session response (came_in t f session (Scccn response) hears) (rw f.fresh.challenge right)
+        (shut_on t f event.ScccnAcc row))) in
+        shuts_ok out_of_order so event.ScccnAcc None 0 0 t f
+        (next_of_heard ev t.control session (Scccn response) hears) row
+        (λ c local remote peer challenge. ByScccn session response (heard_in ev t.control c session (Scccn response) local remote peer hears) refl
+        (rw challenge (ComesUnawaited right refl refl refl)))
+
+    -- one that doesn't closes each tunnel
+    pub scccn_wrong_ok : is_wrong 3 e.config.secret t.control.challenge response ≡ true → HearsNext ev t.control session (Scccn response)
+        → Good (takes_by e.role e.config calls no_secret None 0 0 (row_of rows t.control.state event.ScccnNotAcc) t)
+    scccn_wrong_ok is hears =
+        let wrong = wrong_of 3 e.config.secret t.control.challenge response is in
+        let row = row_shut t.control.state event.ScccnNotAcc (busy t f) f.live tt in
+        let so = inr (record {
+          tunnel = begun_at t f;
+          session = session;
+          response = response;
+          came = came_in t f session (Scccn response) hears;
+          wrong = rw f.fresh.challenge wrong;
+          closed = shut_on t f event.ScccnNotAcc row;
+        }) in
+        shuts_ok no_secret so event.ScccnNotAcc None 0 0 t f
+        (next_of_heard ev t.control session (Scccn response) hears) row
+        (λ c local remote peer challenge. ByScccn session response (heard_in ev t.control c session (Scccn response) local remote peer hears) refl
+        (rw challenge (WronglyConnected wrong refl refl refl)))
 
   -- ---- StopCCNs
 
   says_stop_ok : (r : Reason) (remote : ℕ) (t : Turn) → Takes t → (next : ComesNext ev t.control) → SaysStop (body_of next.header next.bytes)
-      → Good (takes_by e.role calls r remote 0 (row_of rows t.control.state event.StopCcnCame) t)
+      → Good (takes_by e.role e.config calls r None remote 0 (row_of rows t.control.state event.StopCcnCame) t)
   unfolding takes_by
   says_stop_ok r remote t f next says =
-      subst (λ (x : TunnelState × TunnelAction). Good (takes_by e.role calls r remote 0 x t)) (sym (row_stop t.control.state))
+      subst (λ (x : TunnelState × TunnelAction). Good (takes_by e.role e.config calls r None remote 0 x t)) (sym (row_stop t.control.state))
       (unsent e moment ev letters calls i _ (heard_shut_ok e moment ev letters calls i t f.fresh.changed f.live next says f.fresh.good))
 
   pub stop_ok : (session id code : ℕ) (error : Option ℕ) (t : Turn) → Takes t → HearsNext ev t.control session (StopCcn id code error)
-      → Good (takes_by e.role calls out_of_order 0 0 (row_of rows t.control.state event.StopCcnCame) t)
+      → Good (takes_by e.role e.config calls out_of_order None 0 0 (row_of rows t.control.state event.StopCcnCame) t)
   stop_ok session id code error t f hears =
       says_stop_ok out_of_order 0 t f (next_of_heard ev t.control session (StopCcn id code error) hears) (inl (id, code, error, hears.hears.said))
 
@@ -306,26 +364,25 @@ module _ (e : End) (moment : ℕ) (ev : Event) (letters : List Letter) (calls : 
       })
 
       fault_shuts_ok : row_of rows t.control.state g.event ≡ shut_row
-          → Good (takes_by e.role calls (fault_reason g.cause) g.remote 0 (row_of rows t.control.state g.event) t)
-      unfolding takes_plain with_move takes_one
+          → Good (takes_by e.role e.config calls (fault_reason g.cause) None g.remote 0 (row_of rows t.control.state g.event) t)
       fault_shuts_ok row =
-          shuts_ok (fault_reason g.cause) (fault_stands row) g.event g.remote 0 t f (unread_plain e moment ev letters calls i t f next w unread) row
-          (λ m to remote result error. ByFault g (record {
+          shuts_ok (fault_reason g.cause) (fault_stands row) g.event None g.remote 0 t f next row
+          (λ c local remote peer challenge. ByFault g (record {
             bytes = next.bytes;
-            is = next.is;
+            is = rw peer next.is;
             header = next.header;
             read = next.read;
             control = next.control;
             some = next.some;
-            tunnel = for_still next.header next.bytes t.control _ refl refl next.tunnel;
+            tunnel = for_still next.header next.bytes t.control c local remote next.tunnel;
             fault = has;
-          }) refl (is_known_or g.remote t.control m.remote remote) result error)
+          }) refl refl refl refl)
 
       -- by the event that it is to the table
       fault_ok : (on : TunnelEvent) → g.event ≡ on → IsEventOfFault on
-          → Good (takes_by e.role calls (fault_reason g.cause) g.remote 0 (row_of rows t.control.state g.event) t)
+          → Good (takes_by e.role e.config calls (fault_reason g.cause) None g.remote 0 (row_of rows t.control.state g.event) t)
       fault_ok event.StopCcnCame is so =
-          subst (λ x. Good (takes_by e.role calls (fault_reason g.cause) g.remote 0 (row_of rows t.control.state x) t)) (sym is)
+          subst (λ x. Good (takes_by e.role e.config calls (fault_reason g.cause) None g.remote 0 (row_of rows t.control.state x) t)) (sym is)
           (says_stop_ok (fault_reason g.cause) g.remote t f next (inr (g, has, is)))
       fault_ok event.SccrqNotAcc is so = fault_shuts_ok (rw is (row_shut t.control.state event.SccrqNotAcc (busy t f) f.live tt))
       fault_ok event.SccrpNotAcc is so = fault_shuts_ok (rw is (row_shut t.control.state event.SccrpNotAcc (busy t f) f.live tt))
@@ -338,7 +395,7 @@ module _ (e : End) (moment : ℕ) (ev : Event) (letters : List Letter) (calls : 
 
     pub faulty_heard_ok : (o : Option CallFault) → call_fault_in (body_of next.header next.bytes) ≡ o
         → (q : Option TunnelFault) → tunnel_fault_in (body_of next.header next.bytes) ≡ q
-        → Good (hears_faulty e.role calls next.header.session o q w t)
+        → Good (hears_faulty e.role e.config calls next.header.session o q w t)
     unfolding hears_faulty takes
     faulty_heard_ok (Some k) has q is = in_faulty_call_ok e moment ev letters calls i t f next w unread k has
     faulty_heard_ok None has (Some g) is = fault_ok g is g.event refl (of_tunnel (body_of next.header next.bytes) g is).event

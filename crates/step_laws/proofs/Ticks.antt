@@ -16,7 +16,8 @@ use Rattle.protocol_model.specs.declared.moves.Move.{Move}
 use Rattle.protocol_model.specs.declared.moves.Move.TheVariants as move
 use Rattle.protocol_model.specs.Turn.{Tunnel, Env, Turn, turn_of, with_output, with_move, with_change, ends_call, ends_all, clears, repeats, is_at_its_end, ticks_by, ticks, turns, tunnel_after}
 use Rattle.protocol_model.specs.End.{End, env_of, placed, with_looks, after_turn, Turned, tick_of, ticks_of, end_after_all, after_all, ticks_all}
-use Rattle.step_laws.specs.Moves.{Chain, HasFailed, IsUnanswered}
+use Rattle.step_laws.specs.Failing.{HasFailed, IsUnanswered}
+use Rattle.step_laws.specs.Moves.{Chain}
 use Rattle.step_laws.specs.Steps.{IsKept, AreKept, IsOfMoves}
 use Rattle.step_laws.proofs.Lists.{all_append, all_map, all_push, among_right, chain_append, branch, ascends_looks}
 use Rattle.step_laws.proofs.Tells.{Tells}

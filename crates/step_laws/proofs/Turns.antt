@@ -35,10 +35,12 @@ use Rattle.protocol_model.specs.declared.moves.Move.{Move}
 use Rattle.protocol_model.specs.declared.moves.Move.TheVariants as move
 use Rattle.protocol_model.specs.Reading.{body_of, message_in, call_fault_in}
 use Rattle.protocol_model.specs.Calls.{call_row, advanced, rung, asked_for, is_request, is_reply, is_connection, is_up, are_too_many}
-use Rattle.protocol_model.specs.Turn.{Tunnel, Turn, Reason, is_closed, granted, refused, may_take, counts_given, in_state, changed_at, with_output, with_move, with_change, with_call, with_new, drops, gives, takes_one, next_place, taken_place, has_room, learns_window, reads_nr, ends_call, end_heard, is_clean_up, session_named, requested, requests, requests_at, requests_all, adds, replied, first_up, second_up, connected, confirms, takes_plain, ignores, letter_of, request_of, connection, letters_after, tunnel_after, with_calls}
+use Rattle.protocol_model.specs.Secrets.{response_by}
+use Rattle.step_laws.proofs.Secrets.{acceptable_proven, responds_so}
+use Rattle.protocol_model.specs.Turn.{is_acceptable, Tunnel, Turn, Reason, is_closed, granted, refused, may_take, counts_given, in_state, changed_at, with_output, with_move, with_change, with_call, with_new, drops, gives, takes_one, next_place, taken_place, has_room, learns_window, reads_nr, ends_call, end_heard, is_clean_up, session_named, requested, requests, requests_at, requests_all, adds, replied, first_up, second_up, connected, confirms, takes_plain, ignores, letter_of, request_of, connection, letters_after, tunnel_after, with_calls}
 use Rattle.protocol_model.specs.End.{End, placed, with_looks}
 use Rattle.step_laws.specs.Causes.{Stands}
-use Rattle.step_laws.specs.Moves.{Chain, ComesNext, HearsNext, IsPlain, TellsNr, WhyRefused}
+use Rattle.step_laws.specs.Moves.{IsRight, Chain, ComesNext, HearsNext, IsPlain, TellsNr, WhyRefused}
 use Rattle.step_laws.proofs.Granting.{grants_is}
 use Rattle.step_laws.proofs.States.{rung_asks}
 use Rattle.step_laws.proofs.Lists.{all_push, branch, with_calls-more, with_looks-more, placed-more, chain_more}
@@ -568,14 +570,19 @@ module _ (e : End) (moment : ℕ) (ev : Event) (letters : List Letter) (calls : 
   -- ---- moves of the tunnel
 
   pub connected_ok : (remote window session : ℕ) (o : Opening) (t : Turn) → t.control.state ≡ WaitCtlReply → HearsNext ev t.control session (Sccrp o)
+      → is_acceptable e.config.secret t.control.challenge o ≡ true
       → remote ≡ o.tunnel → window ≡ o.window → may_take t.control (with_calls t.changed calls) ≡ true → has_room t.control ≡ true → TurnOk t
-      → TurnOk (connected remote window Established t)
+      → TurnOk (connected e.config o.challenge remote window Established t)
   unfolding connected gives with_move takes_one
-  connected_ok remote window session o t state hears is is_window spare room h =
+  connected_ok remote window session o t state hears good is is_window spare room h =
+      let proven = acceptable_proven e.config.secret t.control.challenge o good in
+      let response = response_by 3 e.config.secret o.challenge in
+      let l = letter_of 0 (Scccn response) in
       let m = move.Connected (record {
         tunnel = t.control.local;
         remote = remote;
         window = window;
+        response = response;
         taken = taken_place t.control;
         given = next_place t.control;
       }) in
@@ -589,18 +596,21 @@ module _ (e : End) (moment : ℕ) (ev : Event) (letters : List Letter) (calls : 
           hears = (session, hears);
           remote = is;
           window = is_window;
+          right = proven.right;
+          able = proven.able;
+          responds = responds_so 3 e.config.secret o.challenge;
           taken = refl;
           spare = spare;
           room = room;
           given = refl;
-          after = rw (learnt_local window c, one_given t (letter_of 0 Scccn), put-put e.tunnels t.control.local (tunnel_after t letters calls) _) refl;
+          after = rw (learnt_local window c, one_given t l, put-put e.tunnels t.control.local (tunnel_after t letters calls) _) refl;
         });
         words = h.words;
         tells = h.tells;
         frames = all_push NoFrame t.moves m h.frames tt;
         stays = (learnt_local window c ∙ h.stays.0, rw (learnt_state window c) (λ z. absurd (omega (arith, z))), h.stays.2, h.stays.3, h.stays.4, h.stays.5);
-        held = subst (Held (sending.one_more (learns_window window c).channel.window)) (sym (one_given t (letter_of 0 Scccn)))
-            (held_given (learns_window window c).channel.window (letters_after t letters) (letter_of 0 Scccn)
+        held = subst (Held (sending.one_more (learns_window window c).channel.window)) (sym (one_given t l))
+            (held_given (learns_window window c).channel.window (letters_after t letters) l
             (held_learnt window c (letters_after t letters) h.held));
         fits =
             let cs = with_calls t.changed calls in
@@ -609,17 +619,20 @@ module _ (e : End) (moment : ℕ) (ev : Event) (letters : List Letter) (calls : 
             fits_given (learns_window window c) cs (ap is_closed (learnt_state window c)) h.fits.0 h.fits.1 (omega (arith, most, count));
       }
 
-  pub confirms_ok : (session : ℕ) (t : Turn) → t.control.state ≡ WaitCtlConn → HearsNext ev t.control session Scccn
+  pub confirms_ok : (session : ℕ) (response : Option (List ℕ)) (t : Turn) → t.control.state ≡ WaitCtlConn
+      → HearsNext ev t.control session (Scccn response) → IsRight 3 e.config.secret t.control.challenge response
       → may_take t.control (with_calls t.changed calls) ≡ true → TurnOk t → TurnOk (confirms Established t)
   unfolding confirms with_move takes_one
-  confirms_ok session t state hears spare h =
+  confirms_ok session response t state hears right spare h =
       let m = move.Confirmed (record { tunnel = t.control.local; taken = taken_place t.control }) in
       record {
         chain = chain_more moment ev e (at_turn t) _ t.moves m h.chain (record {
           tunnel = tunnel_after t letters calls;
           there = there t;
           state = state;
+          response = response;
           hears = (session, hears);
+          right = right;
           taken = refl;
           after = rw (put-put e.tunnels t.control.local (tunnel_after t letters calls) _) refl;
         });

@@ -22,7 +22,7 @@ use Rattle.protocol_model.specs.declared.out.Out.TheVariants.{Drop, Cause}
 use Rattle.protocol_model.specs.Reading.{header_why, body_of}
 use Rattle.protocol_model.specs.Calls.{is_lac, Carried, Upward, Dropped}
 use Rattle.protocol_model.specs.Turn.{Tunnel, Env, Reason, out_of_order, turn_of, fresh, turns}
-use Rattle.protocol_model.specs.End.{End, Stepped, env_of, gives_only, after_turn, after_new, in_new, has_all_tunnels, in_one_more, in_main, addressed, against_body, next_of_peer, declined, opens_or_declines, for_addressee, least_in, rings_in, rings_at, for_call, handed, hands_up, receives, Turned, tick_of, ticks_of, after_all, ticks_all, only_by, step_in, step}
+use Rattle.protocol_model.specs.End.{End, Stepped, env_of, gives_only, after_turn, after_new, in_new, has_all_tunnels, in_one_more, in_main, addressed, against_body, next_of_peer, declined, opens_or_declines, for_addressee, least_in, rings_in, rings_at, for_call, handed, hands_up, receives, Turned, tick_of, ticks_of, after_all, ticks_all, only_by, step_in, plain_step}
 use Rattle.step_laws.specs.Ups.{ups_of_output, ups_of_move, births_of_move, reads_of_move, most_ups, most_births, most_reads, UpsAreMoves, UpsAreFew, BirthsAreFew, ReadsAreFew}
 use Rattle.step_laws.proofs.Lists.{branch}
 use Rattle.step_laws.proofs.Quiet.{AreQuiet, nothing, turns_quiet, both_quiet}
@@ -139,8 +139,8 @@ module _ (e : End) (moment : ℕ) (block : List ℕ) where
   unfolding only_by
   by_lns ev s h = branch (IsTold ev) (is_lac e.role) _ _ (λ lac. dropped_told ev e why.Node) (λ lns. h)
 
-  step_told : (ev : Event) → IsTold ev (step e moment block ev)
-  unfolding step step_in rings_at
+  step_told : (ev : Event) → IsTold ev (plain_step e moment block ev)
+  unfolding plain_step step_in rings_at
   step_told (Datagram peer bytes) = received_told peer bytes (header_of bytes)
   step_told (Ring port) =
       by_lac (Ring port) _ (rings_told (Ring port) (least_in Established e.config.lns e.tunnels) (least_in WaitCtlReply e.config.lns e.tunnels))

@@ -27,7 +27,7 @@ use Rattle.protocol_model.specs.declared.out.Out.TheVariants.{Cause as Refused}
 use Rattle.protocol_model.specs.Reading.{body_of}
 use Rattle.protocol_model.specs.Calls.{call_row, is_lac, Carried, Upward, Dropped}
 use Rattle.protocol_model.specs.Turn.{Tunnel, Env, Turn, Reason, out_of_order, turn_of, with_calls, fresh, has_room, turns, tunnel_after}
-use Rattle.protocol_model.specs.End.{End, Stepped, env_of, gives_only, after_turn, after_new, in_new, has_all_tunnels, in_one_more, in_main, addressed, against_body, next_of_peer, declined, opens_or_declines, for_addressee, least_in, rings_in, rings_at, for_call, handed, hands_up, receives, only_by, step_in, step}
+use Rattle.protocol_model.specs.End.{End, Stepped, env_of, gives_only, after_turn, after_new, in_new, has_all_tunnels, in_one_more, in_main, addressed, against_body, next_of_peer, declined, opens_or_declines, for_addressee, least_in, rings_in, rings_at, for_call, handed, hands_up, receives, only_by, step_in, plain_step}
 use Rattle.step_laws.specs.Left.{CanBe, CallsAreAsked}
 use Rattle.step_laws.specs.Steps.{AreKept, StepsAreChains}
 use Rattle.step_laws.proofs.Lists.{branch}
@@ -210,7 +210,7 @@ module _ (e : End) (kept : AreKept e) (none : NoneWaits e) (moment : ℕ) (block
 
   -- ---- the step
 
-  ticks_asked : AllAsked (step e moment block Tick)
+  ticks_asked : AllAsked (plain_step e moment block Tick)
   ticks_asked = ticks_leave IsAsked e kept.order moment block (λ j u is. ⊎_elim
       (λ cleared. inl cleared)
       (λ stays. inr (λ is_open s c live waits.
@@ -225,8 +225,8 @@ module _ (e : End) (kept : AreKept e) (none : NoneWaits e) (moment : ℕ) (block
   unfolding only_by
   by_lns x h = branch AllAsked (is_lac e.role) _ _ (λ lac. only_asked _) (λ lns. h)
 
-  step_asked : (ev : Event) → AllAsked (step e moment block ev)
-  unfolding step step_in rings_at
+  step_asked : (ev : Event) → AllAsked (plain_step e moment block ev)
+  unfolding plain_step step_in rings_at
   step_asked (Datagram peer bytes) = received_asked peer bytes (header_of bytes)
   step_asked (Ring port) =
       by_lac _ (rings_asked_in port (least_in Established e.config.lns e.tunnels) (least_in WaitCtlReply e.config.lns e.tunnels) refl refl)
@@ -246,7 +246,7 @@ waiting Lns s c small can is = absurd (subst (CanBe Lns) is can)
 
 pub calls_are_asked : StepsAreChains → CallsAreAsked
 calls_are_asked chains e kept sound asked moment block ev i t there is_open s c live is =
-    let x = (step e moment block ev).end in
+    let x = (plain_step e moment block ev).end in
     let none : NoneWaits e = λ j u found opened q d here waits. asked j u found opened q d here (requested_state e.role d.state waits.row).0 in
     let call : (s < 65536) × CanBe x.role c.state = stays_sound chains e kept moment block ev sound i t there s c live in
     let can : CanBe e.role c.state = subst (λ r. CanBe r c.state) (role_stays chains e kept moment block ev) call.1 in

@@ -111,7 +111,7 @@ module _ (body : List ℕ) where
     says_read (Ok (Known (Sccrp o))) is = message_assigns avps (Sccrp o) is
     says_read (Ok (Known (StopCcn tunnel code error))) is =
         says_stopped (λ o again. let both : Ok (StopCcn tunnel code error) ≡ Ok (Sccrq o) = sym (said _ is) ∙ again in absurd cc) (Some tunnel)
-    says_read (Ok (Known Scccn)) is = for_none
+    says_read (Ok (Known (Scccn response))) is = for_none
     says_read (Ok (Known Hello)) is = for_none
     says_read (Ok (Known (Cdn remote code error))) is = for_none
     says_read (Ok (Known (Icrq remote serial calling))) is = for_none

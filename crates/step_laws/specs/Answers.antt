@@ -29,7 +29,7 @@ use Rattle.protocol_model.specs.declared.moves.Move.{Move}
 use Rattle.protocol_model.specs.declared.moves.Move.TheVariants as move
 use Rattle.protocol_model.specs.Reading.{body_of, message_in, CallFault, call_fault_in, TunnelFault, tunnel_fault_in}
 use Rattle.protocol_model.specs.Turn.{Tunnel, counts_acked, fault_error}
-use Rattle.protocol_model.specs.End.{End, Stepped, step}
+use Rattle.protocol_model.specs.End.{End, Stepped, plain_step}
 use Rattle.step_laws.specs.Moves.{may_take, ComesNext, GrantsCall, DeniesCall}
 use Rattle.step_laws.specs.Causes.{MayBeGranted}
 use Rattle.step_laws.specs.Room.{IsLeast, HasNone, RingsNew}
@@ -207,4 +207,4 @@ pub record StepAnswers (e : End) (moment : ℕ) (ev : Event) (s : Stepped) : Typ
 -- of an end whose tunnels are kept, and whose calls are those that an end can have
 abbrev pub RequestsAreAnswered : Type 0
 RequestsAreAnswered =
-    (e : End) → AreKept e → AreSound e → AreAsked e → (moment : ℕ) (block : List ℕ) (ev : Event) → StepAnswers e moment ev (step e moment block ev)
+    (e : End) → AreKept e → AreSound e → AreAsked e → (moment : ℕ) (block : List ℕ) (ev : Event) → StepAnswers e moment ev (plain_step e moment block ev)

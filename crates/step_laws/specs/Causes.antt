@@ -26,9 +26,9 @@ use Rattle.protocol_model.specs.Turn.{Tunnel, is_acceptable}
 use Rattle.protocol_model.specs.declared.event.Addressee.TheVariants.{Opens, Answers}
 use Rattle.l2tp_header.specs.declared.header.Header.{Header}
 use Rattle.l2tp_header.specs.Reading.{header_of}
-use Rattle.protocol_model.specs.End.{End, step}
+use Rattle.protocol_model.specs.End.{End, plain_step}
 use Rattle.step_laws.specs.Letters.{Among}
-use Rattle.step_laws.specs.Moves.{has_all_tunnels, has_all_calls, may_take, IsIdInUse, IsUnknown, TookTooLong, InTunnel, IsFaulty, IsFaultyInTunnel}
+use Rattle.step_laws.specs.Moves.{has_all_tunnels, has_all_calls, may_take, IsIdInUse, IsRight, LacksSecret, IsUnknown, TookTooLong, InTunnel, IsFaulty, IsFaultyInTunnel}
 use Rattle.step_laws.specs.Steps.{AreKept}
 use Rattle.step_laws.specs.Room.{RingsOver, RingsNew}
 
@@ -150,6 +150,22 @@ IsOrdinary o = (o.version ≡ 256) × (is_some o.recovery ≡ false)
 abbrev pub MayOpen : End → Event → Opening → Type 0
 MayOpen e ev o = WouldOpen e ev o → has_all_tunnels e ≡ false
 
+-- an opening that asks this end, which has no secret; or an SCCRP, in a tunnel that it closes, that doesn't answer rightly what the
+-- tunnel asked
+pub data FailsBySecret (e : End) (ev : Event) (o : Opening) : Type 0 where
+  AsksInVain : LacksSecret e.config.secret o.challenge → FailsBySecret e ev o
+  AnswersWrongly : (t : Tunnel) (session : ℕ) → InTunnel ev t.control session (Sccrp o)
+      → (IsRight 2 e.config.secret t.control.challenge o.response → ⊥) → FailsBySecret e ev o
+
+-- an SCCCN that doesn't answer rightly what the tunnel asked, and closes it
+pub record IsWronglyConnected (e : End) (ev : Event) : Type 0 where
+  pub tunnel : Tunnel
+  pub session : ℕ
+  pub response : Option (List ℕ)
+  pub came : InTunnel ev tunnel.control session (Scccn response)
+  pub wrong : IsRight 3 e.config.secret tunnel.control.challenge response → ⊥
+  pub closed : IsClosedOn e tunnel event.ScccnNotAcc
+
 -- an SCCRQ that names no tunnel came, and has this fault; or an SCCRP did
 pub record CameFaultyOpening (e : End) (ev : Event) (c : CauseOf) : Type 0 where
   pub peer : ℕ
@@ -171,11 +187,12 @@ pub record CameAnswer (ev : Event) : Type 0 where
 
 -- one that is acceptable, or an SCCCN, came in a tunnel that doesn't wait for it
 pub data IsOutOfOrder (e : End) (ev : Event) : Type 0 where
-  AnSccrq : (t : Tunnel) (session : ℕ) (o : Opening) → InTunnel ev t.control session (Sccrq o) → is_acceptable o ≡ true → IsClosedOn e t event.SccrqAcc
+  AnSccrq : (t : Tunnel) (session : ℕ) (o : Opening) → InTunnel ev t.control session (Sccrq o) → is_acceptable e.config.secret None o ≡ true → IsClosedOn e t event.SccrqAcc
       → IsOutOfOrder e ev
-  AnSccrp : (t : Tunnel) (session : ℕ) (o : Opening) → InTunnel ev t.control session (Sccrp o) → is_acceptable o ≡ true → IsClosedOn e t event.SccrpAcc
+  AnSccrp : (t : Tunnel) (session : ℕ) (o : Opening) → InTunnel ev t.control session (Sccrp o) → is_acceptable e.config.secret t.control.challenge o ≡ true → IsClosedOn e t event.SccrpAcc
       → IsOutOfOrder e ev
-  AnScccn : (t : Tunnel) (session : ℕ) → InTunnel ev t.control session Scccn → IsClosedOn e t event.ScccnAcc → IsOutOfOrder e ev
+  AnScccn : (t : Tunnel) (session : ℕ) (response : Option (List ℕ)) → InTunnel ev t.control session (Scccn response)
+      → IsRight 3 e.config.secret t.control.challenge response → IsClosedOn e t event.ScccnAcc → IsOutOfOrder e ev
 
 -- ---- the causes
 
@@ -188,7 +205,7 @@ pub data LackIds (e : End) (ev : Event) : Type 0 where
   ForRequest : (t : Tunnel) (remote : ℕ) (x : IdError) → Asks e ev t remote → (TakesNoCalls e → ⊥) → (IsIdInUse t remote → ⊥)
       → has_all_calls t.calls ≡ false
       → draws e.session_ids ≡ Err x → LackIds e ev
-  ForPeer : (o : Opening) (x : IdError) → WouldOpen e ev o → is_acceptable o ≡ true → has_all_tunnels e ≡ false
+  ForPeer : (o : Opening) (x : IdError) → WouldOpen e ev o → is_acceptable e.config.secret None o ≡ true → has_all_tunnels e ≡ false
       → draws e.tunnel_ids ≡ Err x → LackIds e ev
 
 -- what a cause says; those that aren't told yet say nothing that can be so
@@ -207,7 +224,8 @@ Stands e moment ev cause.Mandatory =
     ⊎ (CameClosing e ev cause.Mandatory ⊎ CameFaultyOpening e ev cause.Mandatory)
 Stands e moment ev cause.Version = (o : Opening) × IsNotAccepted e ev o × (o.version ≡ 256 → ⊥)
 Stands e moment ev cause.Recover = (o : Opening) × IsNotAccepted e ev o × WantsRecovery o
-Stands e moment ev cause.Secret = (o : Opening) × IsNotAccepted e ev o × IsOrdinary o × (is_some o.challenge ≡ true) × MayOpen e ev o
+Stands e moment ev cause.Secret =
+    ((o : Opening) × IsNotAccepted e ev o × IsOrdinary o × FailsBySecret e ev o × MayOpen e ev o) ⊎ IsWronglyConnected e ev
 Stands e moment ev cause.State = ((t : Tunnel) × IsOutOfState e ev t) ⊎ (IsOutOfOrder e ev ⊎ CameAnswer ev)
 Stands e moment ev cause.Session = (t : Tunnel) × (remote : ℕ) × Asks e ev t remote × (TakesNoCalls e → ⊥) × IsIdInUse t remote
 Stands e moment ev cause.Calls =
@@ -222,5 +240,5 @@ Stands e moment ev c = ⊥
 
 -- in each step of an end whose tunnels are kept, each cause that is told stands
 abbrev pub CausesStand : Type 0
-CausesStand = (e : End) → AreKept e → (moment : ℕ) (block : List ℕ) (ev : Event) (c : CauseOf) → Among (Cause c) (step e moment block ev).outputs
+CausesStand = (e : End) → AreKept e → (moment : ℕ) (block : List ℕ) (ev : Event) (c : CauseOf) → Among (Cause c) (plain_step e moment block ev).outputs
     → Stands e moment ev c

@@ -10,13 +10,14 @@ use Rattle.protocol_model.specs.declared.event.Event.{Event}
 use Rattle.protocol_model.specs.declared.moves.Refused.{Refused}
 use Rattle.protocol_model.specs.declared.tunnel.Call.{Call}
 use Rattle.protocol_model.specs.Reading.{CallFault}
+use Rattle.protocol_model.specs.declared.tunnel.Control.{Control}
 use Rattle.protocol_model.specs.Turn.{Tunnel, fault_error}
 use Rattle.protocol_model.specs.End.{End}
 use Rattle.control_message.specs.declared.message.Opening.{Opening}
 use Rattle.tunnel_fsm.specs.declared.table.TunnelEvent.{TunnelEvent}
 use Rattle.protocol_model.specs.declared.moves.Closed.{Closed}
 use Rattle.protocol_model.specs.declared.moves.Declined.{Declined}
-use Rattle.step_laws.specs.Moves.{DeniesCall, AsksItself, HasUsedId, HasAllCalls, HasNoSession, StandsAgainst, OtherVersion, Recovers, NoTunnel, Challenges, NoId, ClosesIn, HasOtherVersion, HasRecovery, HasChallenge, IsUnawaited, WhyDeclined, AnOpening, AFaultyOpening, AnAnswer, WhyCloses, ByOperator, BySccrq, BySccrp, ByScccn, ByFault, WhyEnds, IsLate, IsDropped, IsHungUp, IsAsked, IsReplied, IsConnected, HasFault, WhyRefused, IsNotGranted, IsOutgoing, IsReplyToNone, IsWrong}
+use Rattle.step_laws.specs.Moves.{DeniesCall, AsksItself, HasUsedId, HasAllCalls, HasNoSession, StandsAgainst, OtherVersion, Recovers, NoTunnel, Challenges, NoId, ClosesIn, HasOtherVersion, HasRecovery, HasOtherSecret, ClosesConnected, WronglyConnected, ComesUnawaited, IsUnawaited, WhyDeclined, AnOpening, AFaultyOpening, AnAnswer, LetterCloses, WhyCloses, ByOperator, ByLetter, BySccrq, BySccrp, ByScccn, ByFault, WhyEnds, IsLate, IsDropped, IsHungUp, IsAsked, IsReplied, IsConnected, HasFault, WhyRefused, IsNotGranted, IsOutgoing, IsReplyToNone, IsWrong}
 
 -- 16 bits each
 abbrev pub CodesFit : ℕ → Option ℕ → Type 0
@@ -96,19 +97,30 @@ against_fits e o result error (Challenges version recovery fewer challenge r x) 
 against_fits e o result error (NoId version recovery fewer challenge y none r x) = fits result error 2 (Some 4) (omega arith, omega arith) r x
 
 -- and of each for which an opening closes a tunnel
-closing_fits : (o : Opening) (result : ℕ) (error : Option ℕ) → ClosesIn o result error → CodesFit result error
-closing_fits o result error (HasOtherVersion version r x) = fits result error 5 None (omega arith, tt) r x
-closing_fits o result error (HasRecovery version recovery r x) = fits result error 2 (Some 1) (omega arith, omega arith) r x
-closing_fits o result error (HasChallenge version recovery challenge r x) = fits result error 4 None (omega arith, tt) r x
-closing_fits o result error (IsUnawaited version recovery challenge r x) = fits result error 7 None (omega arith, tt) r x
+closing_fits : (secret asked : Option (List ℕ)) (o : Opening) (result : ℕ) (error : Option ℕ) → ClosesIn secret asked o result error → CodesFit result error
+closing_fits secret asked o result error (HasOtherVersion version r x) = fits result error 5 None (omega arith, tt) r x
+closing_fits secret asked o result error (HasRecovery version recovery r x) = fits result error 2 (Some 1) (omega arith, omega arith) r x
+closing_fits secret asked o result error (HasOtherSecret version recovery fails r x) = fits result error 4 None (omega arith, tt) r x
+closing_fits secret asked o result error (IsUnawaited version recovery good r x) = fits result error 7 None (omega arith, tt) r x
+
+-- and of each for which an SCCCN does
+connected_fits : (secret asked response : Option (List ℕ)) (on : TunnelEvent) (result : ℕ) (error : Option ℕ)
+    → ClosesConnected secret asked response on result error → CodesFit result error
+connected_fits secret asked response on result error (WronglyConnected wrong at_ r x) = fits result error 4 None (omega arith, tt) r x
+connected_fits secret asked response on result error (ComesUnawaited right at_ r x) = fits result error 7 None (omega arith, tt) r x
 
 -- and those of a StopCCN
-pub stop_codes_fit : (t : Tunnel) (ev : Event) (on : TunnelEvent) (m : Closed) → WhyCloses t ev on m → CodesFit m.result m.error
-stop_codes_fit t ev on m (ByOperator is at_ known r x) = fits m.result m.error 1 None (omega arith, tt) r x
-stop_codes_fit t ev on m (BySccrq session o came at_ known why) = closing_fits o m.result m.error why
-stop_codes_fit t ev on m (BySccrp session o came at_ known why) = closing_fits o m.result m.error why
-stop_codes_fit t ev on m (ByScccn session came at_ known r x) = fits m.result m.error 7 None (omega arith, tt) r x
-stop_codes_fit t ev on m (ByFault g came at_ known r x) = fits m.result m.error 2 (Some (fault_error g.cause)) (omega arith, fault_fits g.cause) r x
+pub letter_codes_fit : (secret : Option (List ℕ)) (c : Control) (ev : Event) (on : TunnelEvent) (told result : ℕ) (error : Option ℕ)
+    → LetterCloses secret c ev on told result error → CodesFit result error
+letter_codes_fit secret c ev on told result error (BySccrq session o came at_ known why) = closing_fits secret None o result error why
+letter_codes_fit secret c ev on told result error (BySccrp session o came at_ known why) = closing_fits secret c.challenge o result error why
+letter_codes_fit secret c ev on told result error (ByScccn session response came known why) = connected_fits secret c.challenge response on result error why
+letter_codes_fit secret c ev on told result error (ByFault g came at_ known r x) =
+    fits result error 2 (Some (fault_error g.cause)) (omega arith, fault_fits g.cause) r x
+
+pub stop_codes_fit : (secret : Option (List ℕ)) (t : Tunnel) (ev : Event) (on : TunnelEvent) (m : Closed) → WhyCloses secret t ev on m → CodesFit m.result m.error
+stop_codes_fit secret t ev on m (ByOperator is at_ known r x) = fits m.result m.error 1 None (omega arith, tt) r x
+stop_codes_fit secret t ev on m (ByLetter told why other known) = letter_codes_fit secret t.control ev on told m.result m.error why
 
 -- and those of one that declines an opening
 pub decline_codes_fit : (e : End) (body : List ℕ) (m : Declined) → WhyDeclined e body m → CodesFit m.result m.error

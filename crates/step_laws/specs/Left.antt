@@ -12,8 +12,8 @@ use Rattle.protocol_model.specs.declared.tunnel.Config.{Config}
 use Rattle.protocol_model.specs.declared.tunnel.Role.{Role}
 use Rattle.protocol_model.specs.declared.tunnel.Role.TheVariants.{Lac, Lns}
 use Rattle.protocol_model.specs.Turn.{Tunnel}
-use Rattle.protocol_model.specs.End.{End, new_end, step}
-use Rattle.step_laws.specs.Moves.{HasFailed}
+use Rattle.protocol_model.specs.End.{End, new_end, plain_step}
+use Rattle.step_laws.specs.Failing.{HasFailed}
 use Rattle.step_laws.specs.Steps.{AreKept}
 
 -- no call that is there is idle, a LAC's doesn't wait to be connected, and an LNS's is made as it is asked for
@@ -52,22 +52,22 @@ AreFew e = length e.tunnels ≤ 1024
 
 -- each step of an end whose tunnels are kept
 abbrev pub CallsStaySound : Type 0
-CallsStaySound = (e : End) → AreKept e → AreSound e → (moment : ℕ) (block : List ℕ) (ev : Event) → AreSound (step e moment block ev).end
+CallsStaySound = (e : End) → AreKept e → AreSound e → (moment : ℕ) (block : List ℕ) (ev : Event) → AreSound (plain_step e moment block ev).end
 
 abbrev pub CallsAreAsked : Type 0
 CallsAreAsked =
-    (e : End) → AreKept e → AreSound e → AreAsked e → (moment : ℕ) (block : List ℕ) (ev : Event) → AreAsked (step e moment block ev).end
+    (e : End) → AreKept e → AreSound e → AreAsked e → (moment : ℕ) (block : List ℕ) (ev : Event) → AreAsked (plain_step e moment block ev).end
 
 -- and each tick
 abbrev pub LateCallsEnd : Type 0
-LateCallsEnd = (e : End) → AreKept e → AreSound e → (moment : ℕ) (block : List ℕ) → NoneIsLate moment (step e moment block Tick).end
+LateCallsEnd = (e : End) → AreKept e → AreSound e → (moment : ℕ) (block : List ℕ) → NoneIsLate moment (plain_step e moment block Tick).end
 
 abbrev pub FailedTunnelsGo : Type 0
-FailedTunnelsGo = (e : End) → AreKept e → (moment : ℕ) (block : List ℕ) → NoneHasFailed moment (step e moment block Tick).end
+FailedTunnelsGo = (e : End) → AreKept e → (moment : ℕ) (block : List ℕ) → NoneHasFailed moment (plain_step e moment block Tick).end
 
 -- a new end has none, and each step leaves no more than there may be
 abbrev pub TunnelsBeginFew : Type 0
 TunnelsBeginFew = (r : Role) (c : Config) → AreFew (new_end r c)
 
 abbrev pub TunnelsStayFew : Type 0
-TunnelsStayFew = (e : End) → AreKept e → AreFew e → (moment : ℕ) (block : List ℕ) (ev : Event) → AreFew (step e moment block ev).end
+TunnelsStayFew = (e : End) → AreKept e → AreFew e → (moment : ℕ) (block : List ℕ) (ev : Event) → AreFew (plain_step e moment block ev).end

@@ -38,15 +38,16 @@ letter tunnel place session m = record { tunnel = tunnel; place = place; session
 
 -- the letters that a move gives
 abbrev pub letters_of : Role → Config → Move → List Letter
-letters_of role c (move.Opened m) = letter m.tunnel m.given 0 (Sccrq (opening_of role c m.tunnel))
-letters_of role c (move.Accepted m) = letter m.tunnel m.given 0 (Sccrp (opening_of role c m.tunnel))
-letters_of role c (move.Connected m) = letter m.tunnel m.given 0 Scccn
+letters_of role c (move.Opened m) = letter m.tunnel m.given 0 (Sccrq (opening_of role c m.challenge None m.tunnel))
+letters_of role c (move.Accepted m) = letter m.tunnel m.given 0 (Sccrp (opening_of role c m.challenge m.response m.tunnel))
+letters_of role c (move.Connected m) = letter m.tunnel m.given 0 (Scccn m.response)
 letters_of role c (move.Requested m) = letter m.tunnel m.given 0 (request_of m.session m.port)
 letters_of role c (move.Replied m) = letter m.tunnel m.given m.remote (Icrp m.session)
 letters_of role c (move.FirstUp m) = letter m.tunnel m.given m.remote connection
 letters_of role c (move.Refused m) = letter m.tunnel m.given m.remote (Cdn 0 m.result m.error)
 letters_of role c (move.EndTold m) = letter m.tunnel m.given m.remote (Cdn m.session m.result m.error)
 letters_of role c (move.Closed m) = letter m.tunnel m.given 0 (StopCcn m.tunnel m.result m.error)
+letters_of role c (move.Rejected m) = letter m.tunnel m.given 0 (StopCcn m.tunnel m.result m.error)
 letters_of role c (move.Greeted m) = letter m.tunnel m.given 0 Hello
 letters_of role c m = []
 

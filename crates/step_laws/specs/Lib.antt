@@ -1,4 +1,5 @@
 pub mod Letters
+pub mod Failing
 pub mod Moves
 pub mod Steps
 pub mod Left

@@ -11,7 +11,7 @@ use Rattle.protocol_model.specs.declared.tunnel.Look.{Look}
 use Rattle.protocol_model.specs.declared.tunnel.Look.TheVariants as look
 use Rattle.protocol_model.specs.declared.tunnel.Role.{Role}
 use Rattle.protocol_model.specs.Turn.{Tunnel}
-use Rattle.protocol_model.specs.End.{End, new_end, step}
+use Rattle.protocol_model.specs.End.{End, new_end, plain_step}
 use Rattle.step_laws.specs.Steps.{AreKept}
 
 -- what is to be seen of a call in a state, in a tunnel to a peer: the other end knows it once it was asked for, and it
@@ -42,7 +42,7 @@ pub record LooksAreTrue (e : End) : Type 0 where
 
 -- at first, and after each step
 abbrev pub LooksStayTrue : Type 0
-LooksStayTrue = (e : End) → AreKept e → LooksAreTrue e → (moment : ℕ) (block : List ℕ) (ev : Event) → LooksAreTrue (step e moment block ev).end
+LooksStayTrue = (e : End) → AreKept e → LooksAreTrue e → (moment : ℕ) (block : List ℕ) (ev : Event) → LooksAreTrue (plain_step e moment block ev).end
 
 abbrev pub LooksBeginTrue : Type 0
 LooksBeginTrue = (r : Role) (c : Config) → LooksAreTrue (new_end r c)

@@ -5,6 +5,7 @@ use Rattle.id_table.specs.Ids.{at, put, without, ids_of}
 use Rattle.id_source.specs.declared.IdError.{IdError}
 use Rattle.id_source.specs.Spaces.{draws, after_draw}
 use Rattle.l2tp_header.specs.declared.header.Header.{Header}
+use Rattle.md5.specs.Md5.{md5}
 use Rattle.l2tp_header.specs.Reading.{header_of}
 use Rattle.control_message.specs.declared.message.Message.{Message}
 use Rattle.control_message.specs.declared.message.Message.TheVariants.{Sccrq, Sccrp, Scccn, StopCcn, Hello, Ocrq, Ocrp, Occn, Icrq, Icrp, Iccn, Cdn, Wen, Sli}
@@ -14,7 +15,7 @@ use Rattle.control_message.specs.declared.message.Opening.{Opening}
 use Rattle.send_window.specs.declared.window.Tick.TheVariants.{Again}
 use Rattle.recv_window.specs.declared.Class.TheVariants.{Next}
 use Rattle.recv_window.specs.Window.{class_of}
-use Rattle.control_channel.specs.Numbers.{Numbers, opened_at, learnt_by, count_acked, next_to_go, answer_to_tick}
+use Rattle.control_channel.specs.Numbers.{opened_at, learnt_by, count_acked, next_to_go, answer_to_tick}
 use Rattle.tunnel_fsm.specs.declared.table.TunnelState.{TunnelState}
 use Rattle.tunnel_fsm.specs.declared.table.TunnelState.TheVariants.{WaitCtlReply, WaitCtlConn, Established}
 use Rattle.tunnel_fsm.specs.declared.table.TunnelState.TheVariants as state
@@ -52,6 +53,7 @@ use Rattle.protocol_model.specs.declared.moves.EndSilent.{EndSilent}
 use Rattle.protocol_model.specs.declared.moves.Greeted.{Greeted}
 use Rattle.protocol_model.specs.declared.moves.Closed.{Closed}
 use Rattle.protocol_model.specs.declared.moves.ClosedBy.{ClosedBy}
+use Rattle.protocol_model.specs.declared.moves.Rejected.{Rejected}
 use Rattle.protocol_model.specs.declared.moves.Declined.{Declined}
 use Rattle.protocol_model.specs.declared.moves.Repeated.{Repeated}
 use Rattle.protocol_model.specs.declared.moves.FrameSent.{FrameSent}
@@ -62,7 +64,8 @@ use Rattle.protocol_model.specs.declared.event.Addressee.TheVariants.{Stops, Ans
 use Rattle.protocol_model.specs.declared.event.Addressee.TheVariants as addressee
 use Rattle.protocol_model.specs.Reading.{body_of, message_in, CallFault, call_fault_in, TunnelFault, tunnel_fault_in, at_zero}
 use Rattle.protocol_model.specs.Calls.{call_row, advanced, rung, asked_for, is_request, is_reply, is_connection, is_told, is_up, owed_by, frame_of, side_of}
-use Rattle.protocol_model.specs.Turn.{Tunnel, place, next_place, taken_place, letter_of, counts_given, counts_taken, counts_acked, counts_sent, counts_repeated, in_state, opening_of, request_of, connection, is_clean_up, session_named, fault_error, is_acceptable, event_by, is_closed}
+use Rattle.protocol_model.specs.Turn.{Tunnel, place, next_place, taken_place, letter_of, counts_given, counts_taken, counts_acked, counts_sent, counts_repeated, in_state, opening_of, request_of, connection, is_clean_up, session_named, fault_error, event_by, is_closed}
+use Rattle.step_laws.specs.Failing.{HasFailed}
 use Rattle.protocol_model.specs.End.{End, new_place, with_look, with_looks}
 
 -- ---- what came
@@ -158,6 +161,33 @@ pub record HearsFrame (ev : Event) (peer tunnel session : ℕ) (frame : List ℕ
   pub session_is : header.session ≡ session
   pub frame_is : frame ≡ frame_of (body_of header bytes)
 
+-- ---- secrets (RFC 2661 sections 4.4.3 and 5.1.1)
+
+-- what an end asks its peer to answer: 16 bytes where it has a secret, and nothing where it has none
+abbrev pub Asks : Option (List ℕ) → Option (List ℕ) → Type 0
+Asks None challenge = challenge ≡ None
+Asks (Some secret) challenge = (bytes : List ℕ) × (challenge ≡ Some bytes) × (length bytes ≡ 16)
+
+-- the right answer in a message of this type, which is 2 for an SCCRP and 3 for an SCCCN: MD5 over the type, the secret and what was asked
+abbrev pub right_answer : ℕ → List ℕ → List ℕ → List ℕ
+right_answer kind secret asked = md5 (kind ∷ secret ++ asked)
+
+-- an end that has a secret answers what it was asked
+abbrev pub Responds : ℕ → Option (List ℕ) → Option (List ℕ) → Option (List ℕ) → Type 0
+Responds kind None asked response = response ≡ None
+Responds kind (Some secret) None response = response ≡ None
+Responds kind (Some secret) (Some asked) response = response ≡ Some (right_answer kind secret asked)
+
+-- an end that has a secret, and asked, wants the right answer
+abbrev pub IsRight : ℕ → Option (List ℕ) → Option (List ℕ) → Option (List ℕ) → Type 0
+IsRight kind None asked given = Unit {0}
+IsRight kind (Some secret) None given = Unit {0}
+IsRight kind (Some secret) (Some asked) given = given ≡ Some (right_answer kind secret asked)
+
+-- one that has none can't answer
+abbrev pub LacksSecret : Option (List ℕ) → Option (List ℕ) → Type 0
+LacksSecret secret asked = (is_some asked ≡ true) × (secret ≡ None)
+
 -- ---- how much there may be
 
 -- an end has 1,024 tunnels at most, and closed ones count
@@ -190,9 +220,9 @@ with_letter session m t = record t { control = counts_given t.control; letters =
 abbrev pub new_tunnel : Control → Tunnel
 new_tunnel c = record { control = c; letters = []; calls = [] }
 
--- of these ids, in this state, made at a moment, with an empty channel and a window of 4 (RFC 2661 section 4.4.3)
-abbrev pub begun : ℕ → ℕ → ℕ → TunnelState → ℕ → Control
-begun local peer remote state moment = record {
+-- of these ids, in this state, made at a moment, with an empty channel and a window of 4 (RFC 2661 section 4.4.3), asking this
+abbrev pub begun : ℕ → ℕ → ℕ → TunnelState → ℕ → Option (List ℕ) → Control
+begun local peer remote state moment challenge = record {
   local = local;
   peer = peer;
   remote = remote;
@@ -201,6 +231,7 @@ begun local peer remote state moment = record {
   made = moment;
   heard = moment;
   closed = 0;
+  challenge = challenge;
 }
 
 -- the peer's receive window becomes known; one of 0 letters is none
@@ -213,7 +244,8 @@ pub record Opens (e : End) (moment : ℕ) (m : Opened) (x : End) : Type 0 where
   pub given : m.given ≡ place 0
   pub peer : m.peer ≡ e.config.lns
   pub role : e.role ≡ Lac
-  pub after : x ≡ record (with_tunnel e m.tunnel (with_letter 0 (Sccrq (opening_of e.role e.config m.tunnel)) (new_tunnel (begun m.tunnel m.peer 0 WaitCtlReply moment)))) {
+  pub asks : Asks e.config.secret m.challenge
+  pub after : x ≡ record (with_tunnel e m.tunnel (with_letter 0 (Sccrq (opening_of e.role e.config m.challenge None m.tunnel)) (new_tunnel (begun m.tunnel m.peer 0 WaitCtlReply moment m.challenge)))) {
     tunnel_ids = after_draw e.tunnel_ids;
   }
 
@@ -228,10 +260,13 @@ pub record Accepts (e : End) (moment : ℕ) (ev : Event) (m : Accepted) (x : End
   pub remote : m.remote ≡ opening.tunnel
   pub window : m.window ≡ opening.window
   pub alone : IsUnknown e m.peer m.remote
+  pub able : LacksSecret e.config.secret opening.challenge → ⊥
+  pub asks : Asks e.config.secret m.challenge
+  pub responds : Responds 2 e.config.secret opening.challenge m.response
   pub drawn : draws e.tunnel_ids ≡ Ok m.tunnel
   pub taken : m.taken ≡ place 0
   pub given : m.given ≡ place 0
-  pub after : x ≡ record (with_tunnel e m.tunnel (with_letter 0 (Sccrp (opening_of e.role e.config m.tunnel)) (new_tunnel (counts_taken (learns_window m.window (begun m.tunnel m.peer m.remote WaitCtlConn moment)))))) {
+  pub after : x ≡ record (with_tunnel e m.tunnel (with_letter 0 (Sccrp (opening_of e.role e.config m.challenge m.response m.tunnel)) (new_tunnel (counts_taken (learns_window m.window (begun m.tunnel m.peer m.remote WaitCtlConn moment m.challenge)))))) {
     tunnel_ids = after_draw e.tunnel_ids;
   }
 
@@ -243,11 +278,15 @@ pub record Connects (e : End) (ev : Event) (m : Connected) (x : End) : Type 0 wh
   pub hears : (session : ℕ) × HearsNext ev tunnel.control session (Sccrp opening)
   pub remote : m.remote ≡ opening.tunnel
   pub window : m.window ≡ opening.window
+  -- the peer answered rightly what it was asked, and is answered what it asks
+  pub right : IsRight 2 e.config.secret tunnel.control.challenge opening.response
+  pub able : LacksSecret e.config.secret opening.challenge → ⊥
+  pub responds : Responds 3 e.config.secret opening.challenge m.response
   pub taken : m.taken ≡ taken_place tunnel.control
   pub spare : may_take tunnel.control tunnel.calls ≡ true
   pub room : has_room tunnel.control ≡ true
   pub given : m.given ≡ next_place tunnel.control
-  pub after : x ≡ with_tunnel e m.tunnel (with_letter 0 Scccn (record tunnel {
+  pub after : x ≡ with_tunnel e m.tunnel (with_letter 0 (Scccn m.response) (record tunnel {
     control = counts_taken (learns_window m.window (record tunnel.control { remote = m.remote; state = Established }));
   }))
 
@@ -255,7 +294,10 @@ pub record Confirms (e : End) (ev : Event) (m : Confirmed) (x : End) : Type 0 wh
   pub tunnel : Tunnel
   pub there : at e.tunnels m.tunnel ≡ Some tunnel
   pub state : tunnel.control.state ≡ WaitCtlConn
-  pub hears : (session : ℕ) × HearsNext ev tunnel.control session Scccn
+  -- the peer answered rightly what it was asked
+  pub response : Option (List ℕ)
+  pub hears : (session : ℕ) × HearsNext ev tunnel.control session (Scccn response)
+  pub right : IsRight 3 e.config.secret tunnel.control.challenge response
   pub taken : m.taken ≡ taken_place tunnel.control
   pub after : x ≡ with_tunnel e m.tunnel (record tunnel { control = counts_taken (in_state Established tunnel.control) })
 
@@ -479,14 +521,15 @@ pub record EndsSilently (e : End) (moment : ℕ) (ev : Event) (m : EndSilent) (x
 -- ---- openings that are declined
 
 -- what stands against an SCCRQ that would open a tunnel, the first that counts, and the codes of the StopCCN that says so (RFC 2661 section
--- 4.4.2): its version isn't 1.0; it wants to recover a tunnel; the end has 1,024 tunnels; it has a challenge; no tunnel id is left
+-- 4.4.2): its version isn't 1.0; it wants to recover a tunnel; the end has 1,024 tunnels; it asks an end that has no secret; no tunnel id
+-- is left
 pub data StandsAgainst (e : End) (o : Opening) (result : ℕ) (error : Option ℕ) : Type 0 where
   OtherVersion : (o.version ≡ 256 → ⊥) → result ≡ 5 → error ≡ None → StandsAgainst e o result error
   Recovers : o.version ≡ 256 → is_some o.recovery ≡ true → result ≡ 2 → error ≡ Some 1 → StandsAgainst e o result error
   NoTunnel : o.version ≡ 256 → is_some o.recovery ≡ false → 1024 ≤ length e.tunnels → result ≡ 2 → error ≡ Some 4 → StandsAgainst e o result error
-  Challenges : o.version ≡ 256 → is_some o.recovery ≡ false → length e.tunnels < 1024 → is_some o.challenge ≡ true → result ≡ 4 → error ≡ None
+  Challenges : o.version ≡ 256 → is_some o.recovery ≡ false → length e.tunnels < 1024 → LacksSecret e.config.secret o.challenge → result ≡ 4 → error ≡ None
       → StandsAgainst e o result error
-  NoId : o.version ≡ 256 → is_some o.recovery ≡ false → length e.tunnels < 1024 → is_some o.challenge ≡ false
+  NoId : o.version ≡ 256 → is_some o.recovery ≡ false → length e.tunnels < 1024 → (LacksSecret e.config.secret o.challenge → ⊥)
       → (x : IdError) → draws e.tunnel_ids ≡ Err x → result ≡ 2 → error ≡ Some 4 → StandsAgainst e o result error
 
 -- why an opening is declined, by a StopCCN with these codes: something stands against an SCCRQ, or it has a fault, and none of this end's
@@ -513,32 +556,47 @@ pub record Declines (e : End) (ev : Event) (m : Declined) (x : End) : Type 0 whe
 
 -- ---- tunnels that close
 
--- the id of the peer's to which a StopCCN goes: the one that is known, or as long as none is, the one that is told
-abbrev pub IsKnownOr : ℕ → Control → ℕ → Type 0
-IsKnownOr told c remote = ((c.remote ≡ 0 → ⊥) → remote ≡ c.remote) × (c.remote ≡ 0 → remote ≡ told)
+-- what stands against an opening in a tunnel that asked this: it asks an end that has no secret, or doesn't answer rightly
+abbrev pub FailsSecret : Option (List ℕ) → Option (List ℕ) → Opening → Type 0
+FailsSecret secret asked o = LacksSecret secret o.challenge ⊎ (IsRight 2 secret asked o.response → ⊥)
 
 -- why an SCCRQ or an SCCRP closes the tunnel in which it comes, the first that counts, and the codes that say so: its version isn't 1.0; it
--- wants to recover a tunnel; it has a challenge; or the tunnel doesn't wait for it
-pub data ClosesIn (o : Opening) (result : ℕ) (error : Option ℕ) : Type 0 where
-  HasOtherVersion : (o.version ≡ 256 → ⊥) → result ≡ 5 → error ≡ None → ClosesIn o result error
-  HasRecovery : o.version ≡ 256 → is_some o.recovery ≡ true → result ≡ 2 → error ≡ Some 1 → ClosesIn o result error
-  HasChallenge : o.version ≡ 256 → is_some o.recovery ≡ false → is_some o.challenge ≡ true → result ≡ 4 → error ≡ None → ClosesIn o result error
-  IsUnawaited : o.version ≡ 256 → is_some o.recovery ≡ false → is_some o.challenge ≡ false → result ≡ 7 → error ≡ None → ClosesIn o result error
+-- wants to recover a tunnel; its secret fails; or the tunnel doesn't wait for it
+pub data ClosesIn (secret asked : Option (List ℕ)) (o : Opening) (result : ℕ) (error : Option ℕ) : Type 0 where
+  HasOtherVersion : (o.version ≡ 256 → ⊥) → result ≡ 5 → error ≡ None → ClosesIn secret asked o result error
+  HasRecovery : o.version ≡ 256 → is_some o.recovery ≡ true → result ≡ 2 → error ≡ Some 1 → ClosesIn secret asked o result error
+  HasOtherSecret : o.version ≡ 256 → is_some o.recovery ≡ false → FailsSecret secret asked o → result ≡ 4 → error ≡ None
+      → ClosesIn secret asked o result error
+  IsUnawaited : o.version ≡ 256 → is_some o.recovery ≡ false → (FailsSecret secret asked o → ⊥) → result ≡ 7 → error ≡ None
+      → ClosesIn secret asked o result error
 
--- why a tunnel is closed: the event of its table, the codes of the StopCCN that tells it (RFC 2661 section 4.4.2), and the id of the
--- peer's to which it goes
-pub data WhyCloses (t : Tunnel) (ev : Event) (on : TunnelEvent) (m : Closed) : Type 0 where
-  ByOperator : ev ≡ CloseTunnel m.tunnel → on ≡ event.AdminClose → m.remote ≡ t.control.remote → m.result ≡ 1 → m.error ≡ None → WhyCloses t ev on m
-  -- an opening came again, or isn't acceptable; that of an SCCRP tells the peer's id
-  BySccrq : (session : ℕ) (o : Opening) → InTunnel ev t.control session (Sccrq o) → on ≡ event_by event.SccrqAcc event.SccrqNotAcc o
-      → m.remote ≡ t.control.remote → ClosesIn o m.result m.error → WhyCloses t ev on m
-  BySccrp : (session : ℕ) (o : Opening) → InTunnel ev t.control session (Sccrp o) → on ≡ event_by event.SccrpAcc event.SccrpNotAcc o
-      → IsKnownOr o.tunnel t.control m.remote → ClosesIn o m.result m.error → WhyCloses t ev on m
-  ByScccn : (session : ℕ) → InTunnel ev t.control session Scccn → on ≡ event.ScccnAcc → m.remote ≡ t.control.remote → m.result ≡ 7 → m.error ≡ None
-      → WhyCloses t ev on m
-  -- a message has a fault
-  ByFault : (g : TunnelFault) → IsFaultyInTunnel ev t.control g → on ≡ g.event → IsKnownOr g.remote t.control m.remote → m.result ≡ 2
-      → m.error ≡ Some (fault_error g.cause) → WhyCloses t ev on m
+-- and why an SCCCN does: it doesn't answer rightly, or the tunnel doesn't wait for it
+pub data ClosesConnected (secret asked response : Option (List ℕ)) (on : TunnelEvent) (result : ℕ) (error : Option ℕ) : Type 0 where
+  WronglyConnected : (IsRight 3 secret asked response → ⊥) → on ≡ event.ScccnNotAcc → result ≡ 4 → error ≡ None
+      → ClosesConnected secret asked response on result error
+  ComesUnawaited : IsRight 3 secret asked response → on ≡ event.ScccnAcc → result ≡ 7 → error ≡ None
+      → ClosesConnected secret asked response on result error
+
+-- why a letter closes the tunnel in which it comes: the event of the tunnel's table, the id of the peer's tunnel that it tells, where it is
+-- an SCCRP, and the codes of the StopCCN that says so (RFC 2661 section 4.4.2); of an end with this secret
+pub data LetterCloses (secret : Option (List ℕ)) (c : Control) (ev : Event) (on : TunnelEvent) (told result : ℕ) (error : Option ℕ) : Type 0 where
+  -- an opening came again, or isn't acceptable
+  BySccrq : (session : ℕ) (o : Opening) → InTunnel ev c session (Sccrq o) → on ≡ event_by event.SccrqAcc event.SccrqNotAcc secret None o
+      → told ≡ 0 → ClosesIn secret None o result error → LetterCloses secret c ev on told result error
+  BySccrp : (session : ℕ) (o : Opening) → InTunnel ev c session (Sccrp o) → on ≡ event_by event.SccrpAcc event.SccrpNotAcc secret c.challenge o
+      → told ≡ o.tunnel → ClosesIn secret c.challenge o result error → LetterCloses secret c ev on told result error
+  ByScccn : (session : ℕ) (response : Option (List ℕ)) → InTunnel ev c session (Scccn response) → told ≡ 0
+      → ClosesConnected secret c.challenge response on result error → LetterCloses secret c ev on told result error
+  -- it has a fault
+  ByFault : (g : TunnelFault) → IsFaultyInTunnel ev c g → on ≡ g.event → told ≡ g.remote → result ≡ 2 → error ≡ Some (fault_error g.cause)
+      → LetterCloses secret c ev on told result error
+
+-- why a tunnel is closed with a StopCCN to the peer's tunnel that it knows: by an administrator, or by a letter that it took before
+pub data WhyCloses (secret : Option (List ℕ)) (t : Tunnel) (ev : Event) (on : TunnelEvent) (m : Closed) : Type 0 where
+  ByOperator : ev ≡ CloseTunnel m.tunnel → on ≡ event.AdminClose → m.remote ≡ t.control.remote → m.result ≡ 1 → m.error ≡ None
+      → WhyCloses secret t ev on m
+  ByLetter : (told : ℕ) → LetterCloses secret t.control ev on told m.result m.error → (state_number t.control.state ≡ 1 → ⊥)
+      → m.remote ≡ t.control.remote → WhyCloses secret t ev on m
 
 -- its calls aren't there any more
 abbrev pub without_calls : End → ℕ → Tunnel → List (ℕ × Call) → End
@@ -549,12 +607,28 @@ pub record Closes (e : End) (moment : ℕ) (ev : Event) (m : Closed) (x : End) :
   pub tunnel : Tunnel
   pub there : at e.tunnels m.tunnel ≡ Some tunnel
   pub on : TunnelEvent
-  pub why : WhyCloses tunnel ev on m
+  pub why : WhyCloses e.config.secret tunnel ev on m
   pub row : row_of rows tunnel.control.state on ≡ (state.Closed, action.SendStopCcn)
   pub room : has_room tunnel.control ≡ true
   pub given : m.given ≡ next_place tunnel.control
   pub after : x ≡ without_calls e m.tunnel (with_letter 0 (StopCcn m.tunnel m.result m.error) (record tunnel {
     control = record tunnel.control { state = state.Closed; remote = m.remote; closed = moment };
+  })) tunnel.calls
+
+-- a letter closes a tunnel that waits for its SCCRP, and the peer is told, whose id is as the letter tells it
+pub record Rejects (e : End) (moment : ℕ) (ev : Event) (m : Rejected) (x : End) : Type 0 where
+  pub tunnel : Tunnel
+  pub there : at e.tunnels m.tunnel ≡ Some tunnel
+  pub waits : state_number tunnel.control.state ≡ 1
+  pub on : TunnelEvent
+  pub comes : ComesNext ev tunnel.control
+  pub why : LetterCloses e.config.secret tunnel.control ev on m.remote m.result m.error
+  pub row : row_of rows tunnel.control.state on ≡ (state.Closed, action.SendStopCcn)
+  pub taken : m.taken ≡ taken_place tunnel.control
+  pub room : has_room tunnel.control ≡ true
+  pub given : m.given ≡ next_place tunnel.control
+  pub after : x ≡ without_calls e m.tunnel (with_letter 0 (StopCcn m.tunnel m.result m.error) (record tunnel {
+    control = record (counts_taken tunnel.control) { state = state.Closed; remote = m.remote; closed = moment };
   })) tunnel.calls
 
 -- it is a StopCCN, which may have a fault
@@ -574,20 +648,6 @@ pub record ClosesBy (e : End) (moment : ℕ) (ev : Event) (m : ClosedBy) (x : En
   pub after : x ≡ without_calls e m.tunnel (record tunnel {
     control = record (counts_taken tunnel.control) { state = state.Closed; closed = moment };
   }) tunnel.calls
-
--- the oldest letter that isn't acknowledged was repeated five times, the last time 8 seconds ago or more
-pub record IsGivenUp (moment : ℕ) (n : Numbers) : Type 0 where
-  pub going : n.frozen ≡ false
-  pub some : 0 < n.window.outstanding
-  pub repeated : 5 ≤ n.window.repetitions
-  pub over : n.window.since + 8000 ≤ moment
-
--- a tunnel that waits to be set up was made 60 seconds ago or more, a closed one was closed 31 seconds ago or more, or its peer
--- acknowledges nothing
-pub data HasFailed (moment : ℕ) (c : Control) : Type 0 where
-  IsNotSetUp : (c.state ≡ WaitCtlReply) ⊎ (c.state ≡ WaitCtlConn) → c.made + 60000 ≤ moment → HasFailed moment c
-  WasClosed : c.state ≡ state.Closed → c.closed + 31000 ≤ moment → HasFailed moment c
-  IsUnanswered : IsGivenUp moment c.channel → HasFailed moment c
 
 -- the tunnel isn't there any more, nor are its calls
 pub record Clears (e : End) (moment : ℕ) (ev : Event) (i : ℕ) (x : End) : Type 0 where
@@ -612,9 +672,9 @@ pub record Greets (e : End) (moment : ℕ) (ev : Event) (m : Greeted) (x : End) 
 -- by its tables the end does nothing on such a message in the tunnel
 abbrev pub IsPlain : End → Tunnel → ℕ → Message → Type 0
 IsPlain e t session (Sccrq o) = Unit {0}
--- one that is acceptable connects a tunnel that waits for it
-IsPlain e t session (Sccrp o) = state_number t.control.state ≡ 1 → is_acceptable o ≡ false
-IsPlain e t session Scccn = state_number t.control.state ≡ 2 → ⊥
+-- it connects or closes a tunnel that waits for it
+IsPlain e t session (Sccrp o) = state_number t.control.state ≡ 1 → ⊥
+IsPlain e t session (Scccn response) = state_number t.control.state ≡ 2 → ⊥
 IsPlain e t session Hello = Unit {0}
 IsPlain e t session (StopCcn tunnel code error) = is_closed t.control.state ≡ true
 IsPlain e t session (Ocrq remote) = state_number t.control.state ≡ 3 → ⊥
@@ -712,6 +772,7 @@ Does e moment ev (move.EndHeard m) x = HearsEnd e ev m x
 Does e moment ev (move.EndSilent m) x = EndsSilently e moment ev m x
 Does e moment ev (move.Declined m) x = Declines e ev m x
 Does e moment ev (move.Closed m) x = Closes e moment ev m x
+Does e moment ev (move.Rejected m) x = Rejects e moment ev m x
 Does e moment ev (move.ClosedBy m) x = ClosesBy e moment ev m x
 Does e moment ev (move.Cleared i) x = Clears e moment ev i x
 Does e moment ev (move.Greeted m) x = Greets e moment ev m x

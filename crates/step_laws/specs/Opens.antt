@@ -28,7 +28,7 @@ known_opens avps (StopCcn tunnel code error) remote h = by (tunnel == 0) h
     by true is = absurd cc
     by false is = absurd cc
 known_opens avps (Sccrp o) remote h = absurd cc
-known_opens avps Scccn remote h = absurd cc
+known_opens avps (Scccn response) remote h = absurd cc
 known_opens avps Hello remote h = absurd cc
 known_opens avps (Ocrq session) remote h = absurd cc
 known_opens avps Ocrp remote h = absurd cc

@@ -8,7 +8,7 @@ use Rattle.protocol_model.specs.declared.event.Event.{Event}
 use Rattle.protocol_model.specs.declared.event.Event.TheVariants.{Ring}
 use Rattle.protocol_model.specs.declared.out.Out.TheVariants.{Drop}
 use Rattle.protocol_model.specs.Turn.{Tunnel, counts_acked}
-use Rattle.protocol_model.specs.End.{End, step}
+use Rattle.protocol_model.specs.End.{End, plain_step}
 use Rattle.step_laws.specs.Letters.{Among}
 use Rattle.step_laws.specs.Moves.{may_take, ComesNext, TellsNr}
 use Rattle.step_laws.specs.Steps.{AreKept}
@@ -57,4 +57,4 @@ pub record RingsOver (e : End) (ev : Event) (t : Tunnel) : Type 0 where
 -- a tunnel has to give is ever refused for room.
 abbrev pub StepsRefuseTruly : Type 0
 StepsRefuseTruly = (e : End) → AreKept e → (moment : ℕ) (block : List ℕ) (ev : Event)
-    → Among (Drop why.Queue) (step e moment block ev).outputs → IsFull e moment ev
+    → Among (Drop why.Queue) (plain_step e moment block ev).outputs → IsFull e moment ev

@@ -13,7 +13,7 @@ use Rattle.protocol_model.specs.declared.moves.Move.{Move}
 use Rattle.protocol_model.specs.declared.moves.Move.TheVariants as move
 use Rattle.protocol_model.specs.Calls.{owed_by}
 use Rattle.protocol_model.specs.Turn.{Tunnel, is_closed}
-use Rattle.protocol_model.specs.End.{End, Stepped, decline_origin, step}
+use Rattle.protocol_model.specs.End.{End, Stepped, decline_origin, plain_step}
 use Rattle.protocol_model.specs.declared.moves.Declined.{Declined}
 use Rattle.l2tp_header.specs.Spelling.{control_bytes}
 use Rattle.avp_codec.specs.Spelling.{spelling}
@@ -87,4 +87,4 @@ pub record IsChain (e : End) (moment : ℕ) (ev : Event) (s : Stepped) : Type 0 
 
 -- each step of an end whose tunnels are kept
 abbrev pub StepsAreChains : Type 0
-StepsAreChains = (e : End) → AreKept e → (moment : ℕ) (block : List ℕ) (ev : Event) → IsChain e moment ev (step e moment block ev)
+StepsAreChains = (e : End) → AreKept e → (moment : ℕ) (block : List ℕ) (ev : Event) → IsChain e moment ev (plain_step e moment block ev)

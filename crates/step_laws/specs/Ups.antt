@@ -8,7 +8,7 @@ use Rattle.protocol_model.specs.declared.out.Out.{Out}
 use Rattle.protocol_model.specs.declared.out.Out.TheVariants.{Up}
 use Rattle.protocol_model.specs.declared.moves.Move.{Move}
 use Rattle.protocol_model.specs.declared.moves.Move.TheVariants as move
-use Rattle.protocol_model.specs.End.{End, step}
+use Rattle.protocol_model.specs.End.{End, plain_step}
 
 -- an output, if it hands a frame up
 abbrev pub ups_of_output : Out → List Out
@@ -48,22 +48,22 @@ most_reads ev = 0
 abbrev pub UpsAreMoves : Type 0
 UpsAreMoves =
     (e : End) (moment : ℕ) (block : List ℕ) (ev : Event)
-    → flat_map ups_of_output (step e moment block ev).outputs ≡ flat_map ups_of_move (step e moment block ev).moves
+    → flat_map ups_of_output (plain_step e moment block ev).outputs ≡ flat_map ups_of_move (plain_step e moment block ev).moves
 
 -- one frame at most is handed up, and none on an event that is no datagram
 abbrev pub UpsAreFew : Type 0
 UpsAreFew =
     (e : End) (moment : ℕ) (block : List ℕ) (ev : Event)
-    → length (flat_map ups_of_output (step e moment block ev).outputs) ≤ most_ups ev
+    → length (flat_map ups_of_output (plain_step e moment block ev).outputs) ≤ most_ups ev
 
 -- one call at most is born, and none on an event that is no ring
 abbrev pub BirthsAreFew : Type 0
 BirthsAreFew =
     (e : End) (moment : ℕ) (block : List ℕ) (ev : Event)
-    → length (flat_map births_of_move (step e moment block ev).moves) ≤ most_births ev
+    → length (flat_map births_of_move (plain_step e moment block ev).moves) ≤ most_births ev
 
 -- Nr is read once at most, and only of a datagram
 abbrev pub ReadsAreFew : Type 0
 ReadsAreFew =
     (e : End) (moment : ℕ) (block : List ℕ) (ev : Event)
-    → length (flat_map reads_of_move (step e moment block ev).moves) ≤ most_reads ev
+    → length (flat_map reads_of_move (plain_step e moment block ev).moves) ≤ most_reads ev

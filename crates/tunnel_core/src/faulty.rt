@@ -9,7 +9,7 @@ use crate::turn::{Turn, call_row};
 use call_fsm::{CallAction, CallEvent, CallState};
 use control_message::Kind;
 use message_reading::{CallFault, Reason, Said, fault_reason};
-use protocol_model::{Call, Role};
+use protocol_model::{Call, Config, Role};
 use tunnel_calls::TunnelCalls;
 use tunnel_fsm::TunnelState;
 use wire_base::{Cause, NoMemory, Why};
@@ -170,18 +170,28 @@ impl Turn {
     pub(crate) fn hear_fault(
         &mut self,
         role: Role,
+        config: &Config,
         calls: &TunnelCalls,
         session: u16,
         said: &Said,
         why: Why,
     ) -> Result<(), NoMemory>
-        ensures { OnOk result (self.new ≡ hears_faulty role calls.now.entries session said.now.fault said.now.closing why self.old) }
+        ensures { OnOk result (self.new ≡ hears_faulty role config.now calls.now.entries session said.now.fault said.now.closing why self.old) }
     {
         match (&said.fault, &said.closing) {
             (Some(fault), _) => self.hear_call_fault(role, calls, session, fault),
             (None, Some(fault)) => {
                 let reason = fault_reason(fault.cause);
-                self.take_letter(role, calls, &reason, fault.event, fault.remote, 0)
+                self.take_letter(
+                    role,
+                    config,
+                    calls,
+                    &reason,
+                    fault.event,
+                    &None,
+                    fault.remote,
+                    0,
+                )
             }
             (None, None) => self.ignore(why),
         }

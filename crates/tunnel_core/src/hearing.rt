@@ -1,76 +1,76 @@
 //! Control messages and other events of a tunnel.
 
-ghost use Rattle.std.specs.Prelude.{◌≡◌, ◌==◌, OnOk};
+ghost use Rattle.std.specs.Prelude.{◌≡◌, ◌==◌, ℕ, OnOk};
+ghost use Rattle.control_message.specs.declared.message.Message.TheVariants.{Sccrq, Sccrp, Scccn};
 ghost use Rattle.tunnel_fsm.specs.Rows.{state_number};
 ghost use Rattle.l2tp_header.specs.Reading.{header_of};
-ghost use Rattle.protocol_model.specs.Turn.{connects, takes, known_or, session_named, ends_named, about_call, in_call, hears, hears_said, hears_next, hears_letter, is_duplicate, in_tunnel, first_said, hears_control, hears_datagram, turns};
+ghost use Rattle.protocol_model.specs.Turn.{connects, takes, session_named, ends_named, about_call, in_call, hears, hears_said, hears_next, hears_letter, is_duplicate, in_tunnel, first_said, hears_control, hears_datagram, turns};
 
 use crate::turn::Turn;
-use control_message::Message;
+use control_message::{Message, Opening};
 use l2tp_header::{Header, read_header};
 use message_reading::{
-    Reason, Said, event_by, header_why, no_outgoing, opening_reason, out_of_order, read_body,
+    Reason, Said, connected_event, connected_reason, event_by, header_why, no_outgoing,
+    opening_reason, out_of_order, read_body,
 };
 use protocol_model::{Config, Event, Role};
 use recv_window::Class;
 use send_window::Letters;
 use tunnel_calls::TunnelCalls;
 use tunnel_fsm::{TunnelAction, TunnelEvent, TunnelState, advance};
-use wire_base::{NoMemory, Why};
+use wire_base::{Bytes, NoMemory, Why};
 
 impl Turn {
-    /// The id that the peer assigned, as it is known or as it is told.
-    fn known_or(&self, told: u16) -> u16
-        ensures { result ≡ known_or told self.now.control }
-    {
-        if self.control.remote == 0 {
-            told
-        } else {
-            self.control.remote
-        }
-    }
-
     /// Takes the SCCRP, and asks for each call that waits for the tunnel.
     #[tactic(auto, unfolding(protocol_model::specs::Turn::connects))]
     fn connect_all(
         &mut self,
         role: Role,
+        config: &Config,
         calls: &TunnelCalls,
+        asked: &Option<Bytes>,
         remote: u16,
         window: u16,
         next: TunnelState,
     ) -> Result<(), NoMemory>
-        ensures { OnOk result (self.new ≡ connects role calls.now.entries remote window next self.old) }
+        ensures { OnOk result (self.new ≡ connects role config.now calls.now.entries asked.now remote window next self.old) }
     {
         if !self.has_room() {
             return self.drop_with(Why::Queue);
         }
         let sessions = calls.ids(self.alloc)?;
-        self.connect(remote, window, next)?;
+        self.connect(config, asked, remote, window, next)?;
         self.request_all(role, sessions.as_slice(), calls)
     }
 
-    /// Does what the table says on a letter about the tunnel, which tells this id and this receive window of the peer; where its row
-    /// closes the tunnel, it is for this reason.
+    /// Does what the table says on a letter about the tunnel, which asks this, and tells this id and this receive window of the peer;
+    /// where its row closes the tunnel, it is for this reason. A tunnel of which the peer's id is known is closed first, and then takes
+    /// the letter as a closed one does.
     #[tactic(auto, unfolding(protocol_model::specs::Turn::takes, protocol_model::specs::Turn::takes_by))]
     pub(crate) fn take_letter(
         &mut self,
         role: Role,
+        config: &Config,
         calls: &TunnelCalls,
         reason: &Reason,
         event: TunnelEvent,
+        asked: &Option<Bytes>,
         remote: u16,
         window: u16,
     ) -> Result<(), NoMemory>
-        ensures { OnOk result (self.new ≡ takes role calls.now.entries reason.now event remote window self.old) }
+        ensures { OnOk result (self.new ≡ takes role config.now calls.now.entries reason.now event asked.now remote window self.old) }
     {
         let (next, action) = advance(self.control.state, event);
         match action {
-            TunnelAction::SendScccn => self.connect_all(role, calls, remote, window, next),
+            TunnelAction::SendScccn => {
+                self.connect_all(role, config, calls, asked, remote, window, next)
+            }
             TunnelAction::SendStopCcn => {
-                let remote = self.known_or(remote);
-                self.take_plain()?;
-                self.close_tunnel(reason, calls, remote, next)
+                if self.control.state == TunnelState::WaitCtlReply {
+                    return self.reject(reason, calls, remote, next);
+                }
+                self.close_tunnel(reason, calls, self.control.remote, next)?;
+                self.take_plain()
             }
             TunnelAction::CleanUp => self.take_stop(calls, next),
             TunnelAction::Nothing => {
@@ -144,35 +144,92 @@ impl Turn {
         self.hear_about_call(role, calls, session, message)
     }
 
+    /// An SCCRQ in a tunnel, which asked nothing that it could answer.
+    #[tactic(auto, unfolding(protocol_model::specs::Turn::hears))]
+    fn hear_sccrq(
+        &mut self,
+        role: Role,
+        config: &Config,
+        calls: &TunnelCalls,
+        opening: &Opening,
+    ) -> Result<(), NoMemory>
+        ensures { (session : ℕ) → OnOk result (self.new ≡ hears role config.now calls.now.entries session (Sccrq opening.now) self.old) }
+    {
+        let secret = &config.secret;
+        let reason = opening_reason(secret, &None, opening);
+        let (good, bad) = (TunnelEvent::SccrqAcc, TunnelEvent::SccrqNotAcc);
+        let event = event_by(good, bad, secret, &None, opening);
+        self.take_letter(
+            role,
+            config,
+            calls,
+            &reason,
+            event,
+            &None,
+            0,
+            opening.window,
+        )
+    }
+
+    /// An SCCRP, which answers what the tunnel asked.
+    #[tactic(auto, unfolding(protocol_model::specs::Turn::hears))]
+    fn hear_sccrp(
+        &mut self,
+        role: Role,
+        config: &Config,
+        calls: &TunnelCalls,
+        opening: &Opening,
+    ) -> Result<(), NoMemory>
+        ensures { (session : ℕ) → OnOk result (self.new ≡ hears role config.now calls.now.entries session (Sccrp opening.now) self.old) }
+    {
+        let secret = &config.secret;
+        let asked = self.control.challenge;
+        let reason = opening_reason(secret, &asked, opening);
+        let (good, bad) = (TunnelEvent::SccrpAcc, TunnelEvent::SccrpNotAcc);
+        let event = event_by(good, bad, secret, &asked, opening);
+        let (remote, window) = (opening.tunnel, opening.window);
+        let asks = &opening.challenge;
+        self.take_letter(role, config, calls, &reason, event, asks, remote, window)
+    }
+
+    /// An SCCCN, which answers what the tunnel asked.
+    #[tactic(auto, unfolding(protocol_model::specs::Turn::hears))]
+    fn hear_scccn(
+        &mut self,
+        role: Role,
+        config: &Config,
+        calls: &TunnelCalls,
+        response: &Option<[u8; 16]>,
+    ) -> Result<(), NoMemory>
+        ensures { (session : ℕ) → OnOk result (self.new ≡ hears role config.now calls.now.entries session (Scccn response.now) self.old) }
+    {
+        let secret = &config.secret;
+        let asked = self.control.challenge;
+        let reason = connected_reason(secret, &asked, response);
+        let event = connected_event(secret, &asked, response);
+        self.take_letter(role, config, calls, &reason, event, &None, 0, 0)
+    }
+
     /// The next letter of the peer.
     #[tactic(auto, unfolding(protocol_model::specs::Turn::hears))]
     fn hear_letter(
         &mut self,
         role: Role,
+        config: &Config,
         calls: &TunnelCalls,
         session: u16,
         message: &Message,
     ) -> Result<(), NoMemory>
-        ensures { OnOk result (self.new ≡ hears role calls.now.entries session message.now self.old) }
+        ensures { OnOk result (self.new ≡ hears role config.now calls.now.entries session message.now self.old) }
     {
         match message {
-            Message::Sccrq(opening) => {
-                let reason = opening_reason(opening);
-                let event = event_by(TunnelEvent::SccrqAcc, TunnelEvent::SccrqNotAcc, opening);
-                self.take_letter(role, calls, &reason, event, 0, opening.window)
-            }
-            Message::Sccrp(opening) => {
-                let reason = opening_reason(opening);
-                let event = event_by(TunnelEvent::SccrpAcc, TunnelEvent::SccrpNotAcc, opening);
-                self.take_letter(role, calls, &reason, event, opening.tunnel, opening.window)
-            }
-            Message::Scccn => {
-                let reason = out_of_order();
-                self.take_letter(role, calls, &reason, TunnelEvent::ScccnAcc, 0, 0)
-            }
+            Message::Sccrq(opening) => self.hear_sccrq(role, config, calls, opening),
+            Message::Sccrp(opening) => self.hear_sccrp(role, config, calls, opening),
+            Message::Scccn { response } => self.hear_scccn(role, config, calls, response),
             Message::StopCcn { .. } => {
                 let reason = out_of_order();
-                self.take_letter(role, calls, &reason, TunnelEvent::StopCcnCame, 0, 0)
+                let event = TunnelEvent::StopCcnCame;
+                self.take_letter(role, config, calls, &reason, event, &None, 0, 0)
             }
             Message::Hello | Message::Ocrp | Message::Occn | Message::Wen | Message::Sli => {
                 self.take_plain()
@@ -185,15 +242,16 @@ impl Turn {
     fn hear_said(
         &mut self,
         role: Role,
+        config: &Config,
         calls: &TunnelCalls,
         session: u16,
         said: &Said,
     ) -> Result<(), NoMemory>
-        ensures { OnOk result (self.new ≡ hears_said role calls.now.entries session said.now.fault said.now.closing said.now.message self.old) }
+        ensures { OnOk result (self.new ≡ hears_said role config.now calls.now.entries session said.now.fault said.now.closing said.now.message self.old) }
     {
         match &said.message {
-            Ok(message) => self.hear_letter(role, calls, session, message),
-            Err(why) => self.hear_fault(role, calls, session, said, *why),
+            Ok(message) => self.hear_letter(role, config, calls, session, message),
+            Err(why) => self.hear_fault(role, config, calls, session, said, *why),
         }
     }
 
@@ -202,17 +260,18 @@ impl Turn {
     fn hear_next(
         &mut self,
         role: Role,
+        config: &Config,
         calls: &TunnelCalls,
         session: u16,
         body: &[u8],
     ) -> Result<(), NoMemory>
-        ensures { OnOk result (self.new ≡ hears_next role calls.now.entries session body.now self.old) }
+        ensures { OnOk result (self.new ≡ hears_next role config.now calls.now.entries session body.now self.old) }
     {
         if self.control.state == TunnelState::Closed {
             return self.take_plain();
         }
         let said = read_body(self.alloc, body)?;
-        self.hear_said(role, calls, session, &said)
+        self.hear_said(role, config, calls, session, &said)
     }
 
     /// A message of the class that its Ns has: the next letter is taken, where there is room for what it may cause; one that is
@@ -221,19 +280,20 @@ impl Turn {
     fn hear_class(
         &mut self,
         role: Role,
+        config: &Config,
         calls: &TunnelCalls,
         session: u16,
         body: &[u8],
         class: Option<Class>,
     ) -> Result<(), NoMemory>
-        ensures { OnOk result (self.new ≡ hears_letter role calls.now.entries session body.now class self.old) }
+        ensures { OnOk result (self.new ≡ hears_letter role config.now calls.now.entries session body.now class self.old) }
     {
         match class {
             Some(Class::Next) => {
                 if !self.may_take(calls) {
                     return self.drop_with(Why::Queue);
                 }
-                self.hear_next(role, calls, session, body)
+                self.hear_next(role, config, calls, session, body)
             }
             Some(Class::Ahead { .. }) => self.drop_with(Why::Ahead),
             Some(Class::Duplicate) | None => Ok(()),
@@ -245,15 +305,16 @@ impl Turn {
     fn hear_in_tunnel(
         &mut self,
         role: Role,
+        config: &Config,
         letters: &Letters,
         calls: &TunnelCalls,
         session: u16,
         body: &[u8],
         class: Option<Class>,
     ) -> Result<(), NoMemory>
-        ensures { OnOk result (self.new ≡ in_tunnel role letters.now.letters calls.now.entries session body.now class self.old) }
+        ensures { OnOk result (self.new ≡ in_tunnel role config.now letters.now.letters calls.now.entries session body.now class self.old) }
     {
-        self.hear_class(role, calls, session, body, class)?;
+        self.hear_class(role, config, calls, session, body, class)?;
         self.settle(is_duplicate(class), letters)
     }
 
@@ -269,7 +330,8 @@ impl Turn {
     {
         match said {
             Ok(Message::Sccrq(opening)) => {
-                self.accept(role, config, opening.tunnel, opening.window)
+                let asked = &opening.challenge;
+                self.accept(role, config, asked, opening.tunnel, opening.window)
             }
             _ => self.drop_with(Why::Tunnel),
         }
@@ -296,7 +358,7 @@ impl Turn {
         let ns = header.ns.unwrap_or(0);
         let class = self.control.channel.classify(ns, body.is_empty());
         self.read_nr(header.nr.unwrap_or(0))?;
-        self.hear_in_tunnel(role, letters, calls, header.session, body, class)
+        self.hear_in_tunnel(role, config, letters, calls, header.session, body, class)
     }
 
     #[tactic(auto, unfolding(protocol_model::specs::Turn::hears_datagram))]

@@ -4,11 +4,12 @@ ghost use Rattle.std.specs.Prelude.{◌≡◌, ◌≤◌, ◌<◌, OnOk, IsTrue}
 ghost use Rattle.control_message.specs.Pairs.{IsWrittenOpening};
 ghost use Rattle.protocol_model.specs.Turn.{has_room, opened, opens, accepted, accepts, connected, confirms, takes_plain, ignores};
 
-use crate::turn::{Turn, opening_of};
+use crate::turn::{Turn, challenge_by, opening_of};
 use control_message::{Message, Opening};
+use message_reading::{connection_by, reply_by};
 use protocol_model::{Accepted, Config, Confirmed, Connected, Move, Opened, Out, Role, TookPlain};
 use tunnel_fsm::{TunnelEvent, TunnelState, advance};
-use wire_base::{Cause, NoMemory, Why};
+use wire_base::{Bytes, Cause, NoMemory, Why};
 
 impl Turn {
     /// Opens a new tunnel, with this id, by an SCCRQ.
@@ -23,15 +24,18 @@ impl Turn {
         requires room { IsTrue (has_room self.old.control) }
         ensures { OnOk result (self.new ≡ opened role config.now local self.old) }
     {
-        let opening = opening_of(self.alloc, role, config, local)?;
+        let challenge = challenge_by(config, &self.block);
+        let opening = opening_of(self.alloc, role, config, challenge, None, local)?;
         let given = self.next_place();
         let peer = self.control.peer;
         let (next, _) = advance(self.control.state, TunnelEvent::LocalOpen);
         self.control.state = next;
+        self.control.challenge = challenge;
         self.draw_tunnel(local);
         self.did(Move::Opened(Opened {
             tunnel: local,
             peer,
+            challenge,
             given,
         }))?;
         self.give(0, &Message::Sccrq(opening))
@@ -57,21 +61,25 @@ impl Turn {
         &mut self,
         role: Role,
         config: &Config,
+        asked: &Option<Bytes>,
         remote: u16,
         window: u16,
         local: u16,
     ) -> Result<(), NoMemory>
         requires some { 0 < local }
         requires room { IsTrue (has_room self.old.control) }
-        ensures { OnOk result (self.new ≡ accepted role config.now remote window local self.old) }
+        ensures { OnOk result (self.new ≡ accepted role config.now asked.now remote window local self.old) }
     {
-        let opening = opening_of(self.alloc, role, config, local)?;
+        let challenge = challenge_by(config, &self.block);
+        let response = reply_by(&config.secret, asked);
+        let opening = opening_of(self.alloc, role, config, challenge, response, local)?;
         let given = self.next_place();
         let taken = self.taken_place();
         let peer = self.control.peer;
         let (next, _) = advance(self.control.state, TunnelEvent::SccrqAcc);
         self.control.remote = remote;
         self.control.state = next;
+        self.control.challenge = challenge;
         self.learn_window(window);
         self.draw_tunnel(local);
         self.take();
@@ -80,22 +88,25 @@ impl Turn {
             peer,
             remote,
             window,
+            challenge,
+            response,
             taken,
             given,
         }))?;
         self.give(0, &Message::Sccrp(opening))
     }
 
-    /// Makes a new tunnel by the SCCRQ of a peer that assigned this id and has this receive window.
+    /// Makes a new tunnel by the SCCRQ of a peer that asks this, assigned this id and has this receive window.
     #[tactic(auto, unfolding(protocol_model::specs::Turn::accepts, protocol_model::specs::Turn::accepts_by))]
     pub(crate) fn accept(
         &mut self,
         role: Role,
         config: &Config,
+        asked: &Option<Bytes>,
         remote: u16,
         window: u16,
     ) -> Result<(), NoMemory>
-        ensures { OnOk result (self.new ≡ accepts role config.now remote window self.old) }
+        ensures { OnOk result (self.new ≡ accepts role config.now asked.now remote window self.old) }
     {
         match self.next_tunnel() {
             Err(_) => self.drop_with(Why::Tunnel),
@@ -103,23 +114,26 @@ impl Turn {
                 if !self.has_room() {
                     return self.drop_with(Why::Queue);
                 }
-                self.accept_as(role, config, remote, window, local as u16)
+                self.accept_as(role, config, asked, remote, window, local as u16)
             }
         }
     }
 
     /// Takes the SCCRP of the peer, learns the id that it assigned and its receive window, and connects the tunnel by an
-    /// SCCCN.
+    /// SCCCN, which answers what the peer asks.
     #[tactic(auto, unfolding(protocol_model::specs::Turn::connected))]
     pub(crate) fn connect(
         &mut self,
+        config: &Config,
+        asked: &Option<Bytes>,
         remote: u16,
         window: u16,
         next: TunnelState,
     ) -> Result<(), NoMemory>
         requires room { IsTrue (has_room self.old.control) }
-        ensures { OnOk result (self.new ≡ connected remote window next self.old) }
+        ensures { OnOk result (self.new ≡ connected config.now asked.now remote window next self.old) }
     {
+        let response = connection_by(&config.secret, asked);
         let given = self.next_place();
         let taken = self.taken_place();
         let tunnel = self.control.local;
@@ -131,10 +145,11 @@ impl Turn {
             tunnel,
             remote,
             window,
+            response,
             taken,
             given,
         }))?;
-        self.give(0, &Message::Scccn)
+        self.give(0, &Message::Scccn { response })
     }
 
     /// Takes the SCCCN of the peer.

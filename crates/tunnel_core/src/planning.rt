@@ -118,6 +118,7 @@ impl TunnelCore {
                 made: moment,
                 heard: moment,
                 closed: 0,
+                challenge: None,
             },
             letters: Letters::new(alloc),
             calls: TunnelCalls::new(alloc),

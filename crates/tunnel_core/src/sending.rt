@@ -8,7 +8,7 @@ ghost use Rattle.tunnel_core.specs.Gives.{WentBy};
 
 use crate::turn::Turn;
 use control_channel::ChannelNumbers;
-use control_message::{Message, has_room, write_message};
+use control_message::{Message, has_room, hides_nothing_without_a_vector, write_message};
 use l2tp_header::write_control;
 use protocol_model::{ControlOrigin, LetGo, Move, NrRead, Origin, Out, Place, Repeated};
 use send_window::Letters;
@@ -65,8 +65,9 @@ impl Turn {
         requires room { IsTrue (room_in self.old.control) }
         ensures { OnOk result (self.new ≡ gives session message.now self.old) }
     {
+        hides_nothing_without_a_vector();
         let mut avps = Bytes::new(self.alloc);
-        write_message(&mut avps, message)?;
+        write_message(&mut avps, message, None, None)?;
         self.given.push(Letter { session, avps })?;
         self.control.channel.put();
         Ok(())

@@ -1,14 +1,14 @@
 //! Tunnels that are closed (RFC 2661 sections 4.4.2, 5.7 and 7.2): by this end, which tells its peer, and by the peer.
 
 ghost use Rattle.std.specs.Prelude.{◌≡◌, false, OnOk, IsTrue};
-ghost use Rattle.protocol_model.specs.Turn.{has_room, settles, shuts, closed_told, closes_tunnel, closed_by, shuts_by};
+ghost use Rattle.protocol_model.specs.Turn.{has_room, settles, shuts, closed_told, closes_tunnel, rejected, rejects, closed_by, shuts_by};
 ghost use Rattle.tunnel_fsm.specs.Rows.{rows, row_of};
 ghost use Rattle.tunnel_fsm.specs.declared.table.TunnelEvent.TheVariants as event;
 
 use crate::turn::Turn;
 use control_message::Message;
 use message_reading::Reason;
-use protocol_model::{Closed, ClosedBy, Move, Out};
+use protocol_model::{Closed, ClosedBy, Move, Out, Rejected};
 use send_window::Letters;
 use tunnel_calls::TunnelCalls;
 use tunnel_fsm::{TunnelAction, TunnelEvent, TunnelState, advance};
@@ -81,6 +81,60 @@ impl Turn {
             return self.drop_with(Why::Queue);
         }
         self.close_and_tell(reason, calls, remote, next)
+    }
+
+    /// Takes the letter that closes the tunnel, and tells the peer by a StopCCN, which goes to the id that the letter tells.
+    #[tactic(auto, unfolding(protocol_model::specs::Turn::rejected))]
+    fn reject_and_tell(
+        &mut self,
+        reason: &Reason,
+        calls: &TunnelCalls,
+        remote: u16,
+        next: TunnelState,
+    ) -> Result<(), NoMemory>
+        requires { IsTrue (has_room self.old.control) }
+        ensures { OnOk result (self.new ≡ rejected reason.now calls.now.entries remote next self.old) }
+    {
+        let (taken, given) = (self.taken_place(), self.next_place());
+        let tunnel = self.control.local;
+        self.output(Out::Cause {
+            cause: reason.cause,
+        })?;
+        self.take();
+        self.shut(calls, remote, next)?;
+        self.did(Move::Rejected(Rejected {
+            tunnel,
+            remote,
+            result: reason.code,
+            error: reason.error,
+            taken,
+            given,
+        }))?;
+        self.give(
+            0,
+            &Message::StopCcn {
+                tunnel,
+                result: reason.code,
+                error: reason.error,
+            },
+        )
+    }
+
+    /// Takes a letter that closes a tunnel which waits for its SCCRP, where there is room for the StopCCN; else it will come again.
+    #[tactic(auto, unfolding(protocol_model::specs::Turn::rejects))]
+    pub(crate) fn reject(
+        &mut self,
+        reason: &Reason,
+        calls: &TunnelCalls,
+        remote: u16,
+        next: TunnelState,
+    ) -> Result<(), NoMemory>
+        ensures { OnOk result (self.new ≡ rejects reason.now calls.now.entries remote next self.old) }
+    {
+        if !self.has_room() {
+            return self.drop_with(Why::Queue);
+        }
+        self.reject_and_tell(reason, calls, remote, next)
     }
 
     /// Takes the StopCCN of the peer, which closes the tunnel.

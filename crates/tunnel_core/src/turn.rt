@@ -1,10 +1,11 @@
 //! A tunnel in a step, with what the step gives so far. What the tunnel stands for is changed only afterwards.
 
-ghost use Rattle.std.specs.Prelude.{◌≡◌, ◌≤◌, ◌<◌, IfOk, OnOk};
+ghost use Rattle.std.specs.Prelude.{◌≡◌, ◌≤◌, ◌<◌, length, IfSome, IfOk, OnOk};
 ghost use Rattle.id_source.specs.Spaces.{draws};
 ghost use Rattle.control_message.specs.Pairs.{IsWritten, IsWrittenOpening};
 ghost use Rattle.protocol_model.specs.Calls.{call_row, rung, advanced, idle_call, asked_for};
 ghost use Rattle.protocol_model.specs.Turn.{turn_of, with_output, with_move, with_change, with_call, with_new, drops, ends_call, opening_of, request_of, with_local};
+ghost use Rattle.protocol_model.specs.Secrets.{challenge_by};
 
 use crate::env::{Env, Moves, Outputs};
 use call_fsm::{CallAction, CallEvent, CallState, lac_advance, lns_advance};
@@ -16,7 +17,7 @@ use protocol_model::{
 };
 use std::alloc::Global;
 use std::marker::Model;
-use wire_base::{Letter, NoMemory, Sequence, Why};
+use wire_base::{Bytes, Letter, NoMemory, Sequence, Why};
 
 /// Calls with their sessions; a call that ended isn't there any more.
 pub(crate) type Changed = Sequence<(u32, Option<Call>)>;
@@ -28,8 +29,9 @@ pub(crate) type Given = Sequence<Letter>;
 #[derive(Drop)]
 pub(crate) struct Turn {
     pub(crate) alloc: Global,
-    /// The moment of the step, in milliseconds.
+    /// The moment of the step, in milliseconds, and its random block.
     pub(crate) moment: u64,
+    pub(crate) block: [u8; 16],
     pub(crate) control: Control,
     /// The letters that the step gave to the channel, in order.
     pub(crate) given: Given,
@@ -57,7 +59,7 @@ impl Model for Turn {
 
     ghost Value = { Known };
 
-    ghost view = { λ t. record { moment = t.moment; control = t.control; given = t.given; acked = t.acked; took = t.took; cleared = t.cleared; changed = t.changed; added = t.added; tunnels = t.tunnels; sessions = t.sessions; outputs = t.outputs; changes = t.changes; moves = t.moves } };
+    ghost view = { λ t. record { moment = t.moment; block = t.block; control = t.control; given = t.given; acked = t.acked; took = t.took; cleared = t.cleared; changed = t.changed; added = t.added; tunnels = t.tunnels; sessions = t.sessions; outputs = t.outputs; changes = t.changes; moves = t.moves } };
 
     ghost invariant = { λ t. (t.tunnels.last ≤ 65535) × (t.sessions.last ≤ 65535) };
 }
@@ -69,6 +71,7 @@ impl Turn {
         Turn {
             alloc,
             moment: env.moment,
+            block: env.block,
             control,
             given: Given::new(alloc),
             acked: 0,
@@ -251,15 +254,39 @@ pub(crate) fn asked_for(
     advanced(alloc, role, CallEvent::IcrqAcc, moment, &idle, remote)
 }
 
-/// What an end says of itself when it opens or accepts a tunnel.
+/// What an end asks the peer of a tunnel that it opens or accepts, where it has a secret: the step's random block.
+#[tactic(auto, using(protocol_model::specs::Secrets::sixteen_is))]
+pub(crate) fn challenge_by(config: &Config, block: &[u8; 16]) -> Option<[u8; 16]>
+    ensures { result ≡ challenge_by config.now.secret block.now }
+{
+    match &config.secret {
+        None => None,
+        Some(_) => Some(*block),
+    }
+}
+
+/// A challenge as the bytes of a message.
+fn bytes_of(alloc: Global, challenge: Option<[u8; 16]>) -> Result<Option<Bytes>, NoMemory>
+    ensures value { IfOk result (λ bytes. bytes ≡ challenge) }
+    ensures sized { IfOk result (λ bytes. IfSome bytes (λ v. length v ≤ 1017)) }
+{
+    match challenge {
+        None => Ok(None),
+        Some(challenge) => Ok(Some(Bytes::from_slice(alloc, &challenge)?)),
+    }
+}
+
+/// What an end says of itself when it opens or accepts a tunnel, with what it asks and answers by its secret.
 pub(crate) fn opening_of(
     alloc: Global,
     role: Role,
     config: &Config,
+    challenge: Option<[u8; 16]>,
+    response: Option<[u8; 16]>,
     local: u16,
 ) -> Result<Opening, NoMemory>
     requires { 0 < local }
-    ensures value { IfOk result (λ o. o ≡ opening_of role config.now local) }
+    ensures value { IfOk result (λ o. o ≡ opening_of role config.now challenge response local) }
     ensures written { IfOk result IsWrittenOpening }
 {
     Ok(Opening {
@@ -272,7 +299,8 @@ pub(crate) fn opening_of(
             flags: 3,
             time: 30_000,
         }),
-        challenge: None,
+        challenge: bytes_of(alloc, challenge)?,
+        response,
         recovery: None,
     })
 }

@@ -11,6 +11,7 @@ returns-clause-written c = record {
   window = omega arith;
   window_not_zero = omega arith;
   failover = (omega arith, omega arith);
-  challenge = refl;
+  challenge = c.in_ok-bytes_of.ensures.sized;
+  response = search rules;
   recovery = refl;
 }

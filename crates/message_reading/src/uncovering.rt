@@ -1,0 +1,134 @@
+//! Datagrams whose hidden values a secret uncovers (RFC 2661 section 4.3).
+
+ghost use Rattle.std.specs.Prelude.{◌≡◌, ◌≤◌, length, unwrap_or, IfOk, Some, Ok};
+ghost use Rattle.std.specs.Option.{option_copied};
+ghost use Rattle.std.specs.List.{find};
+ghost use Rattle.avp_codec.specs.Reading.{avps_of};
+ghost use Rattle.avp_codec.specs.Spelling.{AreAvps, spelling};
+ghost use Rattle.l2tp_header.specs.Spelling.{control_bytes};
+ghost use Rattle.control_message.specs.Uncovering.{uncovered};
+ghost use Rattle.protocol_model.specs.Secrets.{has_hidden, uncovered_pairs, uncovered_datagram};
+
+use avp_codec::{Avp, AvpError, Avps, read_avps, spell_avps};
+use control_message::{spells_what_was_uncovered, uncover};
+use l2tp_header::{Header, read_header, write_control};
+use std::alloc::Global;
+use wire_base::{Bytes, NoMemory};
+
+/// How many bytes of pairs a control message has room for, whose length field counts the header's 12 bytes too.
+const ROOM: usize = 65_523;
+
+/// The first pair that is hidden.
+fn find_hidden(avps: &[Avp]) -> Option<&Avp>
+    ensures { option_copied result ≡ find (λ a. a.hidden) avps.now }
+{
+    avps.iter().find(|a| a.hidden)
+}
+
+/// Whether a pair is hidden.
+fn has_hidden(avps: &[Avp]) -> bool
+    ensures { result ≡ has_hidden avps.now }
+{
+    find_hidden(avps).is_some()
+}
+
+/// The pairs as bytes, with what the secret uncovers of them uncovered.
+fn spell_uncovered(alloc: Global, secret: &[u8], avps: Avps) -> Result<Bytes, NoMemory>
+    requires { AreAvps avps }
+    ensures { IfOk result (λ pairs. pairs ≡ spelling (uncovered (Some secret.now) avps)) }
+{
+    spells_what_was_uncovered();
+    let mut plain = avps;
+    uncover(&mut plain, Some(secret))?;
+    spell_avps(alloc, plain.as_slice())
+}
+
+/// A control message with the numbers and ids of a header, and other pairs.
+fn with_pairs(alloc: Global, header: &Header, pairs: &[u8]) -> Result<Bytes, NoMemory>
+    requires { length pairs.now ≤ 65523 }
+    ensures { IfOk result (λ bytes. bytes ≡ control_bytes header.now.tunnel header.now.session
+        (unwrap_or header.now.ns 0) (unwrap_or header.now.nr 0) pairs.now) }
+{
+    let ns = header.ns.unwrap_or(0);
+    let nr = header.nr.unwrap_or(0);
+    let mut bytes = Bytes::new(alloc);
+    write_control(&mut bytes, header.tunnel, header.session, ns, nr, pairs)?;
+    Ok(bytes)
+}
+
+/// A control message with these pairs, where one of them is hidden and there is room for what they are then.
+fn uncover_pairs(
+    alloc: Global,
+    secret: &[u8],
+    bytes: &[u8],
+    header: &Header,
+    avps: Avps,
+) -> Result<Option<Bytes>, NoMemory>
+    requires { AreAvps avps }
+    ensures { IfOk result (λ r. unwrap_or r bytes.now ≡ uncovered_pairs secret.now bytes.now header.now (Ok avps)) }
+{
+    if !has_hidden(avps.as_slice()) {
+        return Ok(None);
+    }
+    let pairs = spell_uncovered(alloc, secret, avps)?;
+    if pairs.len() > ROOM {
+        return Ok(None);
+    }
+    let plain = with_pairs(alloc, header, pairs.as_slice())?;
+    Ok(Some(plain))
+}
+
+/// A control message with this body.
+fn uncover_body(
+    alloc: Global,
+    secret: &[u8],
+    bytes: &[u8],
+    header: &Header,
+    body: &[u8],
+) -> Result<Option<Bytes>, NoMemory>
+    ensures { IfOk result (λ r. unwrap_or r bytes.now ≡ uncovered_pairs secret.now bytes.now header.now (avps_of body.now)) }
+{
+    match read_avps(alloc, body) {
+        Ok(avps) => uncover_pairs(alloc, secret, bytes, header, avps),
+        Err(AvpError::NoMemory) => Err(NoMemory),
+        Err(_) => Ok(None),
+    }
+}
+
+/// A datagram as an end with a secret reads it.
+#[tactic(auto, unfolding(protocol_model::specs::Secrets::uncovered_datagram))]
+fn uncover_by(alloc: Global, secret: &[u8], bytes: &[u8]) -> Result<Option<Bytes>, NoMemory>
+    ensures { IfOk result (λ r. unwrap_or r bytes.now ≡ uncovered_datagram (Some secret.now) bytes.now) }
+{
+    let Ok(header) = read_header(bytes) else {
+        return Ok(None);
+    };
+    if !header.control {
+        return Ok(None);
+    }
+    uncover_body(
+        alloc,
+        secret,
+        bytes,
+        &header,
+        &bytes[header.start..header.end],
+    )
+}
+
+/// A datagram as an end with this secret reads it, None where it is as it came: without a secret, where its header can't be
+/// read, where it is a data message, where its pairs can't be read or none is hidden, and where what is uncovered has no
+/// room. Else it is a control message with the same numbers and ids, and with those values in plain that the secret
+/// uncovers (RFC 2661 section 4.3). Nothing is copied where no pair is hidden.
+#[tactic(auto, unfolding(protocol_model::specs::Secrets::uncovered_datagram))]
+pub fn uncover_datagram(
+    alloc: Global,
+    secret: &Option<Bytes>,
+    bytes: &[u8],
+) -> Result<Option<Bytes>, NoMemory>
+    ensures { IfOk result (λ r. unwrap_or r bytes.now ≡ uncovered_datagram secret.now bytes.now) }
+{
+    match secret {
+        None => Ok(None),
+        Some(secret) => uncover_by(alloc, secret.as_slice(), bytes),
+    }
+}
