@@ -107,9 +107,20 @@ agree 9 1 4 1 2
 fn two_lacs_cross_at_one_lns(rt: HostRuntime) -> Result<(), Fail> {
     let alloc = rt.alloc();
     let lines = [
-        Line::Lns { node: 4 },
-        Line::Lac { node: 9, lns: 4 },
-        Line::Lac { node: 6, lns: 4 },
+        Line::Lns {
+            node: 4,
+            secret: None,
+        },
+        Line::Lac {
+            node: 9,
+            lns: 4,
+            secret: None,
+        },
+        Line::Lac {
+            node: 6,
+            lns: 4,
+            secret: None,
+        },
         Line::OpenUp { node: 9 },
         Line::Deliver { packet: 1 },
         Line::Deliver { packet: 2 },
@@ -193,8 +204,16 @@ end 9 tunnel 1 6 2 established 0 current complete
 #[test]
 fn two_lacs_refuse_each_other(rt: HostRuntime) -> Result<(), Fail> {
     let lines = [
-        Line::Lac { node: 9, lns: 6 },
-        Line::Lac { node: 6, lns: 9 },
+        Line::Lac {
+            node: 9,
+            lns: 6,
+            secret: None,
+        },
+        Line::Lac {
+            node: 6,
+            lns: 9,
+            secret: None,
+        },
         Line::Ring { node: 6, port: 80 },
         Line::OpenUp { node: 9 },
         Line::Deliver { packet: 2 },
@@ -260,8 +279,15 @@ agree 9 2 4 1 0
 #[test]
 fn two_endings_of_a_call_cross(rt: HostRuntime) -> Result<(), Fail> {
     let lines = [
-        Line::Lns { node: 4 },
-        Line::Lac { node: 9, lns: 4 },
+        Line::Lns {
+            node: 4,
+            secret: None,
+        },
+        Line::Lac {
+            node: 9,
+            lns: 4,
+            secret: None,
+        },
         Line::Ring { node: 9, port: 70 },
         Line::OpenUp { node: 9 },
         Line::Deliver { packet: 2 },
@@ -433,8 +459,23 @@ fn run(world: &mut World, number: u64, line: &Line) -> Result<(), Fail> {
 /// The LNS 4 and the LAC 9.
 fn world_of_two(alloc: Global) -> Result<World, Fail> {
     let mut world = World::new(alloc);
-    run(&mut world, 1, &Line::Lns { node: 4 })?;
-    run(&mut world, 2, &Line::Lac { node: 9, lns: 4 })?;
+    run(
+        &mut world,
+        1,
+        &Line::Lns {
+            node: 4,
+            secret: None,
+        },
+    )?;
+    run(
+        &mut world,
+        2,
+        &Line::Lac {
+            node: 9,
+            lns: 4,
+            secret: None,
+        },
+    )?;
     Ok(world)
 }
 
