@@ -63,7 +63,7 @@ line_does : (w : World) (number : ℕ) (l : Line) (x : Lined) → line w number 
     → Brings w l n ev → Does w number l x n node ev
 unfolding line arrives delivers delivers_it arrival addressee_of stepped
 line_does w number (Remark text) x h n node ev was brings = absurd brings
-line_does w number (Lac m k secret) x h n node ev was brings = absurd brings
+line_does w number (Lac m k secret hide) x h n node ev was brings = absurd brings
 line_does w number (Lns m secret) x h n node ev was brings = absurd brings
 line_does w number (OpenUp m) x h n node ev was brings =
     stepped_does w number (OpenUp m) x m event.OpenTunnel None (lac_at (at w.nodes m)) (λ q e. (is_lac_at (at w.nodes m) q e).0) (λ q. refl) h

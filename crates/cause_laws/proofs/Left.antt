@@ -79,13 +79,13 @@ module _ (laws : CallLaws) where
   line_fine : (w : World) (accs : Accounts) (number : ℕ) (x : Lined) → Holds w accs → AreFine w → LineDoes w accs number x → AreFine x.world
   line_fine w accs number x holds fine (Nothing none same births) k e is =
       fine k e (ap (λ (ns : List (ℕ × Node)). option_map (λ (node : Node). node.end) (at ns k)) (sym same) ∙ is)
-  line_fine w accs number x holds fine (ANode n role lns secret small unused none nodes births) k e is =
-      let new : Node = record { end = new_end role (config_of n lns secret); clock = 0; births = [] } in
+  line_fine w accs number x holds fine (ANode n role lns secret hide small unused none nodes births) k e is =
+      let new : Node = record { end = new_end role (config_of n lns secret hide); clock = 0; births = [] } in
       let seen = ap (λ (ns : List (ℕ × Node)). option_map (λ (node : Node). node.end) (at ns k)) (sym nodes) ∙ is in
       ⊎_elim
       (λ (a : k ≡ n).
       let here : Some new.end ≡ Some e = sym (ap (λ o. option_map (λ (node : Node). node.end) o) (ap (λ q. at (put w.nodes n new) q) a ∙ at_new w.nodes n new)) ∙ seen in
-      subst IsFine (same_end e new.end here) (new_fine laws role (config_of n lns secret)))
+      subst IsFine (same_end e new.end here) (new_fine laws role (config_of n lns secret hide)))
       (λ o. fine k e (sym (ap (λ p. option_map (λ (node : Node). node.end) p) (at_other w.nodes n new k o)) ∙ seen))
       (same_or_not k n)
   line_fine w accs number x holds fine (AStep s) k e is =

@@ -1,5 +1,5 @@
 -- What a line makes is of a step of one node, which the line brings.
-use Rattle.std.proofs.Common.{◌≡◌, inl, inr, ℕ, ◌+◌, ◌-◌, ◌^◌, List, [], ◌∷◌, refl, subst, Option, Some, None, Result, Ok, Err}
+use Rattle.std.proofs.Common.{◌≡◌, inl, inr, ℕ, ◌+◌, ◌-◌, ◌^◌, List, [], ◌∷◌, refl, subst, Option, Some, None, Result, Ok, Err, Bool, false}
 use Rattle.std.specs.Prelude.{is_some, min, slice_get}
 use Rattle.std.specs.List.{AllByRecursion}
 use Rattle.id_table.specs.Ids.{at}
@@ -108,10 +108,10 @@ module _ (causes : CausesStand) (room : StepsRefuseTruly) (w : World) (kept : En
   quiet_true : (v : World) → quiet_line v ≡ x → Told
   quiet_true v is = subst (λ (q : Lined). AllByRecursion (IsTrue w l) q.entries) is tt
 
-  added_true : (n : ℕ) (r : Role) (lns : ℕ) (secret : Option (List ℕ)) → added w n r lns secret ≡ Ok x → Told
+  added_true : (n : ℕ) (r : Role) (lns : ℕ) (secret : Option (List ℕ)) (hide : Bool) → added w n r lns secret hide ≡ Ok x → Told
   unfolding added
-  added_true n r lns secret h =
-      let v = with_node w n (record { end = new_end r (config_of n lns secret); clock = 0; births = [] }) in
+  added_true n r lns secret hide h =
+      let v = with_node w n (record { end = new_end r (config_of n lns secret hide); clock = 0; births = [] }) in
       quiet_true v (tested_not (is_some (at w.nodes n)) (quiet_line v) (Unfit why.Twice) x h).1
 
 -- of each kind
@@ -119,10 +119,10 @@ pub line_true : CausesStand → StepsRefuseTruly → (w : World) → EndsAreKept
 unfolding line arrives delivers delivers_it arrival addressee_of stepped
 line_true causes room w kept number (Remark text) x h =
     let is : quiet_line w ≡ x = cc in quiet_true causes room w kept number (Remark text) x w is
-line_true causes room w kept number (Lac n m secret) x h =
-    added_true causes room w kept number (Lac n m secret) x n role.Lac (address_of m) secret h
+line_true causes room w kept number (Lac n m secret hide) x h =
+    added_true causes room w kept number (Lac n m secret hide) x n role.Lac (address_of m) secret hide h
 line_true causes room w kept number (Lns n secret) x h =
-    added_true causes room w kept number (Lns n secret) x n role.Lns 0 secret h
+    added_true causes room w kept number (Lns n secret) x n role.Lns 0 secret false h
 line_true causes room w kept number (OpenUp n) x h =
     stepped_true causes room w kept number (OpenUp n) x n event.OpenTunnel None (lac_at (at w.nodes n)) (λ node e. (is_lac_at (at w.nodes n) node e).0)
     (λ node. refl) (refl, refl) h

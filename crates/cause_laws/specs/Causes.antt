@@ -27,7 +27,7 @@ use Rattle.step_laws.specs.Left.{AreAsked, AreFew, NoneHasFailed, NoneIsLate}
 -- the event that a line is for a node
 abbrev pub Brings : World → Line → ℕ → Event → Type 0
 Brings w (Remark text) n ev = ⊥
-Brings w (Lac m lns secret) n ev = ⊥
+Brings w (Lac m lns secret hide) n ev = ⊥
 Brings w (Lns m secret) n ev = ⊥
 Brings w (OpenUp m) n ev = (n ≡ m) × (ev ≡ event.OpenTunnel)
 Brings w (Ring m port) n ev = (n ≡ m) × (ev ≡ event.Ring port)

@@ -29,6 +29,8 @@ use Rattle.connection_laws.proofs.Later.{after_move, only_after}
 use Rattle.connection_laws.proofs.Put.{puts_keep}
 use Rattle.connection_laws.proofs.Written.{asks_short, responds_sized, opening_written, same_opening, draw_is, next_is, node_again, node_fits}
 use Rattle.connection_laws.proofs.Beginning.{undrawn}
+use Rattle.protocol_model.specs.Reading.{body_of}
+use Rattle.connection_laws.proofs.Alike.{read_same}
 use Rattle.connection_laws.proofs.Hearing.{opener_of, sccrq_of, IsLetterRead, FromPeer, letter_said, from_peer_said}
 use Rattle.connection_laws.proofs.Taking.{got_push, with_taken, taken_as, takes_and_gives}
 use Rattle.connection_laws.proofs.Connecting.{IsLearnt, learnt}
@@ -62,7 +64,7 @@ module _ (codecs : Codecs) (accs : Accounts) (n : ℕ) (e x : End) (sender : Opt
   letter = letter_said codecs p o h.does.hears.1.header h.does.hears.1.bytes (Sccrq h.does.opening) f.read h.does.hears.1.said
 
   message : letter.letter.message ≡ Sccrq h.does.opening
-  message = let was = letter.said in let is = h.does.hears.1.said in cc
+  message = read_same letter.letter.message (body_of h.does.hears.1.header h.does.hears.1.bytes) letter.reads (Sccrq h.does.opening) h.does.hears.1.said tt
 
   asks : (p.part ≡ Opener) × (o.ns ≡ 0) × (h.does.opening.tunnel ≡ o.tunnel)
   asks = sccrq_of accs from o.tunnel (h.within.accounts from o.tunnel) f.copy.made o.ns letter.letter h.does.opening letter.there message
@@ -100,7 +102,7 @@ module _ (codecs : Codecs) (accs : Accounts) (n : ℕ) (e x : End) (sender : Opt
 
   -- the SCCRP
   abbrev first : Letter
-  first = record { tunnel = m.tunnel; place = m.given; session = 0; message = Sccrp (opening_of e.role (config_of n 0 None) m.challenge m.response m.tunnel) }
+  first = record { tunnel = m.tunnel; place = m.given; session = 0; message = Sccrp (opening_of e.role (config_of n 0 None false) m.challenge m.response m.tunnel); hidden = None }
 
   abbrev tk : Taken
   tk = taken_as sender m.taken (move.Accepted m)
@@ -130,7 +132,7 @@ module _ (codecs : Codecs) (accs : Accounts) (n : ℕ) (e x : End) (sender : Opt
       first = first;
       rest = [];
       are = refl;
-      opening = opening_of e.role (config_of n 0 None) m.challenge m.response m.tunnel;
+      opening = opening_of e.role (config_of n 0 None false) m.challenge m.response m.tunnel;
       says_so = refl;
       id = refl;
       later = tt;
@@ -170,8 +172,9 @@ module _ (codecs : Codecs) (accs : Accounts) (n : ℕ) (e x : End) (sender : Opt
     remote = (let le = (h.within.accounts from o.tunnel).id f.copy.made in let same = told in omega arith);
     spelled = (
       record {
-        written = opening_written e.role (config_of n 0 None) m.challenge m.response m.tunnel h.within.end.node some fits
+        written = opening_written e.role (config_of n 0 None false) m.challenge m.response m.tunnel h.within.end.node some fits
             (asks_short e.config.secret m.challenge h.does.asks) (responds_sized 2 e.config.secret h.does.opening.challenge m.response h.does.responds);
+        hides = tt;
         session = omega arith;
       },
       tt,
@@ -203,7 +206,7 @@ module _ (codecs : Codecs) (accs : Accounts) (n : ℕ) (e x : End) (sender : Opt
         peer = learns.peer ∙ f.peer_is ∙ ap address_of (sym node);
         remote = learns.remote;
         state = inl (ap state_number learns.state, refl, refl);
-        letters = ap (λ o. letter_of 0 (Sccrp o) ∷ []) (same_opening e.role e.config (config_of n 0 None) m.challenge m.response m.tunnel h.within.end.number)
+        letters = ap (λ o. letter_of 0 (Sccrp o) ∷ []) (same_opening e.role e.config (config_of n 0 None false) m.challenge m.response m.tunnel h.within.end.number)
             ∙ ap (λ (j : ℕ). map kept_letter (drop j b.given)) (sym learns.acked);
         counted = omega arith;
         few = omega arith;

@@ -21,11 +21,11 @@ use Rattle.step_laws.specs.Moves.{Hears, InTunnel}
 use Rattle.frame_laws.specs.Codecs.{Codecs}
 use Rattle.connection_laws.specs.Accounts.{Account}
 use Rattle.connection_laws.specs.Facts.{Accounts, IsNoOpening, IsNoStop, AccountOk, Within}
-use Rattle.connection_laws.specs.Steps.{LettersAreHeard, OpeningsAreAcceptable, NoneIsFaulty, NoneIsFaultyInTunnel}
+use Rattle.connection_laws.specs.Steps.{LettersAreHeard, OpeningsAreAcceptable, FaultsAreOfRequests, NoneIsFaultyInTunnel}
 use Rattle.connection_laws.proofs.Hearing.{sender_in, Sends, Chosen, Asks, Leaves, Linked, FromOpener, FromAcceptor, opener_of, no_message, IsHeard, PeerSays, letter_said, peer_says, heard_said}
 use Rattle.connection_laws.proofs.NextHeard.{first_is}
 use Rattle.connection_laws.proofs.Said.{Learned, opener_goes, plain_no_stop}
-use Rattle.connection_laws.proofs.Refusing.{no_fault}
+use Rattle.connection_laws.proofs.Alike.{no_stop_alike, no_opening_alike, read_alike, read_written, read_faulty, read_sound}
 
 -- ---- letters
 
@@ -55,11 +55,9 @@ letters_are_heard codecs accs n e sender ev within i t there session m opens_non
     let bytes = k.hears.bytes in
     let from = heard_said codecs accs n e sender ev within i t there h bytes (heard_in ev t.control session m k) m no_stop k.hears.said in
     let q = letter_said codecs (sender_in accs n i from.o) from.o h bytes m from.read k.hears.said in
-    let was = q.said in
-    let is = k.hears.said in
-    let same : q.letter.message ≡ m = cc in
-    let learned = learned_unless accs n i from.o within.accounts q.letter q.there (subst IsNoOpening (sym same) opens_none)
-    (subst IsNoStop (sym same) no_stop) from.linked in
+    let same = read_alike q.letter.message (body_of h bytes) q.reads m k.hears.said in
+    let learned = learned_unless accs n i from.o within.accounts q.letter q.there (no_opening_alike q.letter.message m same opens_none)
+    (no_stop_alike q.letter.message m same no_stop) from.linked in
     record {
       from = record { node = (accs n i).peer; tunnel = from.o.tunnel };
       sender_is = from.sender_is;
@@ -80,11 +78,7 @@ pub hears_written : Codecs → (accs : Accounts) (n : ℕ) (e : End) (sender : O
     → (peer session : ℕ) (m : Message) → Hears ev peer session m → IsWritten m
 hears_written codecs accs n e sender ev within peer session m k =
     ⊎_elim
-    (λ (q : PeerSays k.header k.bytes).
-    let was = q.said in
-    let is = k.said in
-    let same : q.message ≡ m = cc in
-    subst IsWritten same q.written)
+    (λ (q : PeerSays k.header k.bytes). read_written q.message (body_of k.header k.bytes) q.reads m k.said)
     (λ (none : body_of k.header k.bytes ≡ []). absurd (no_message codecs m (let is = k.said in rw none at is)))
     (peer_says codecs accs n e sender ev within peer k.header k.bytes k.is k.read k.control)
 
@@ -103,33 +97,21 @@ no_fault_in_none : Codecs → call_fault_in [] ≡ None
 unfolding call_fault_in fault_of_pairs message_of kind_of_pairs
 no_fault_in_none codecs = rw (codecs.pairs [] tt) refl
 
-pub none_is_faulty : Codecs → NoneIsFaulty
-none_is_faulty codecs accs n e sender ev within c session f k =
-    let none : call_fault_in (body_of k.header k.bytes) ≡ None = ⊎_elim
-    (λ (q : PeerSays k.header k.bytes). no_fault (body_of k.header k.bytes) q.message q.said)
-    (λ (nothing : body_of k.header k.bytes ≡ []). rw nothing (no_fault_in_none codecs))
-    (peer_says codecs accs n e sender ev within c.peer k.header k.bytes k.is k.read k.control) in
-    let fault = k.fault in
-    cc
-
--- what can be read has no other fault
-pub no_tunnel_fault : (body : List ℕ) (m : Message) → message_in body ≡ Ok m → tunnel_fault_in body ≡ None
-unfolding message_in pairs_read message_read tunnel_fault_in tunnel_fault_of_pairs
-no_tunnel_fault body m h = by_pairs (avps_of body) h
-  where
-    by_read : (avps : List Avp) (r : Result Read MessageError) → message_read r ≡ Ok m → tunnel_fault_read avps r ≡ None
-    by_read avps (Ok r) e = refl
-    by_read avps (Err x) e = absurd cc
-
-    by_pairs : (r : Result (List Avp) AvpError) → pairs_read r ≡ Ok m → tunnel_fault_of_pairs r ≡ None
-    by_pairs (Ok avps) e = by_read avps (message_of avps) e
-    by_pairs (Err x) e = absurd cc
+pub faults_are_of_requests : Codecs → FaultsAreOfRequests
+faults_are_of_requests codecs accs n e sender ev within c session f k =
+    ⊎_elim
+    (λ (q : PeerSays k.header k.bytes). let r = read_faulty q.message (body_of k.header k.bytes) q.reads f k.fault in (r.0, r.4))
+    (λ (nothing : body_of k.header k.bytes ≡ []).
+    let none = no_fault_in_none codecs in
+    let fault : call_fault_in [] ≡ Some f = (let found = k.fault in rw nothing at found) in
+    absurd cc)
+    (peer_says codecs accs n e sender ev within c.peer k.header k.bytes k.is k.read k.control)
 
 pub none_is_faulty_in_tunnel : Codecs → NoneIsFaultyInTunnel
 none_is_faulty_in_tunnel codecs accs n e sender ev within c g k =
     ⊎_elim
     (λ (q : PeerSays k.header k.bytes).
-    let none = no_tunnel_fault (body_of k.header k.bytes) q.message q.said in
+    let none = read_sound q.message (body_of k.header k.bytes) q.reads in
     let fault = k.fault in
     let no : ⊥ = cc in no)
     (λ (none : body_of k.header k.bytes ≡ []). k.some (ap (λ (ls : List ℕ). length ls) none))

@@ -1,5 +1,5 @@
 -- A tunnel is opened.
-use Rattle.std.proofs.Common.{◌≡◌, inl, ℕ, ◌+◌, ◌<◌, ◌≤◌, [], ◌∷◌, ◌++◌, false, refl, sym, ap, ◌∙◌, subst, Option, None, arith}
+use Rattle.std.proofs.Common.{◌≡◌, inl, ℕ, ◌+◌, ◌<◌, ◌≤◌, [], ◌∷◌, ◌++◌, false, refl, sym, ap, ◌∙◌, subst, Option, None, arith, List}
 use Rattle.std.proofs.lemmas.Option.{none-some}
 use Rattle.id_table.specs.Ids.{at-none}
 use Rattle.id_table.specs.Order.{ascends-empty}
@@ -50,7 +50,7 @@ module _ (accs : Accounts) (n : ℕ) (e : End) (sender : Option Sender) (moment 
 
   -- the SCCRQ
   abbrev first : Letter
-  first = record { tunnel = m.tunnel; place = m.given; session = 0; message = Sccrq (opening_of e.role (config_of n 0 None) m.challenge None m.tunnel) }
+  first = record { tunnel = m.tunnel; place = m.given; session = 0; message = Sccrq (opening_of e.role (config_of n 0 None false) m.challenge None m.tunnel); hidden = None }
 
   abbrev new_account : Account
   new_account = record { part = Opener; peer = node_of m.peer; remote = 0; given = first ∷ []; taken = []; closed = None; declined = false }
@@ -89,7 +89,7 @@ module _ (accs : Accounts) (n : ℕ) (e : End) (sender : Option Sender) (moment 
         first = first;
         rest = [];
         are = refl;
-        opening = opening_of e.role (config_of n 0 None) m.challenge None m.tunnel;
+        opening = opening_of e.role (config_of n 0 None false) m.challenge None m.tunnel;
         says_so = refl;
         id = refl;
         later = tt;
@@ -108,7 +108,7 @@ module _ (accs : Accounts) (n : ℕ) (e : End) (sender : Option Sender) (moment 
     node = λ made. within.end.node;
     peer = node_fits m.peer;
     remote = omega arith;
-    spelled = (record { written = (opening_written e.role (config_of n 0 None) m.challenge None m.tunnel within.end.node some fits (asks_short e.config.secret m.challenge asks) tt, refl); session = omega arith }, tt);
+    spelled = (record { written = (opening_written e.role (config_of n 0 None false) m.challenge None m.tunnel within.end.node some fits (asks_short e.config.secret m.challenge asks) tt, refl); hides = tt; session = omega arith }, tt);
     told = (tt, tt);
     taken = λ k l f lt. let clash : ⊥ = cc in absurd clash;
     ignored = λ k l f le. let clash : ⊥ = cc in absurd clash;
@@ -120,7 +120,7 @@ module _ (accs : Accounts) (n : ℕ) (e : End) (sender : Option Sender) (moment 
     peer = rw (lns, node_again number number_fits) refl;
     remote = refl;
     state = inl (refl, refl, refl, λ s c f. absurd (none-some c (sym (at-none s) ∙ f)));
-    letters = ap (λ o. letter_of 0 (Sccrq o) ∷ []) (same_opening e.role e.config (config_of n 0 None) m.challenge None m.tunnel within.end.number);
+    letters = ap (λ o. letter_of 0 (Sccrq o) ∷ []) (same_opening e.role e.config (config_of n 0 None false) m.challenge None m.tunnel within.end.number);
     counted = refl;
     few = omega arith;
     outstanding = omega arith;
@@ -130,12 +130,12 @@ module _ (accs : Accounts) (n : ℕ) (e : End) (sender : Option Sender) (moment 
     order = ascends-empty [] refl;
   }
 
-  near_at : (p : Packet) (o : Origin) → NearAt ms n i new p o
-  near_at p (origin.Control o) = λ h peer read f. record { taken = rw is (omega arith); acked = omega arith }
-  near_at p (origin.Data session) = tt
+  near_at : (p : Packet) (bytes : List ℕ) (o : Origin) → NearAt ms n i new p bytes o
+  near_at p bytes (origin.Control o) = λ h peer read f. record { taken = rw is (omega arith); acked = omega arith }
+  near_at p bytes (origin.Data session) = tt
 
   near : (v : Event) (c : Comes accs n e sender v) → ComesNear accs n e sender v c ms i new
-  near (Datagram peer bytes) c = near_at c.packet c.packet.origin
+  near (Datagram peer bytes) c = near_at c.packet bytes c.packet.origin
   near (Ring port) c = tt
   near (Payload s frame) c = tt
   near (Lower s frame) c = tt

@@ -1,5 +1,5 @@
 -- A tunnel is closed, and its peer is told.
-use Rattle.std.proofs.Common.{◌≡◌, ◌⊎◌, inl, inr, ⊎_elim, ℕ, ◌+◌, ◌<◌, ◌≤◌, List, [], ◌∷◌, ◌++◌, map, drop, length, refl, sym, ap, ap₂, ◌∙◌, subst, append-nil, Option, Some, arith}
+use Rattle.std.proofs.Common.{◌≡◌, ◌⊎◌, inl, inr, ⊎_elim, ℕ, ◌+◌, ◌<◌, ◌≤◌, List, [], ◌∷◌, ◌++◌, map, drop, length, refl, sym, ap, ap₂, ◌∙◌, subst, append-nil, Option, Some, arith, None}
 use Rattle.std.proofs.lemmas.Bool.{ltb-true}
 use Rattle.std.proofs.lemmas.List.{length-append, map-append, drop-append-le}
 use Rattle.std.proofs.lemmas.Option.{none-some}
@@ -87,7 +87,7 @@ module _ (codecs : Codecs) (accs : Accounts) (n : ℕ) (e x : End) (sender : Opt
 
   -- the StopCCN
   abbrev last : Letter
-  last = record { tunnel = m.tunnel; place = m.given; session = 0; message = StopCcn m.tunnel m.result m.error }
+  last = record { tunnel = m.tunnel; place = m.given; session = 0; message = StopCcn m.tunnel m.result m.error; hidden = None }
 
   abbrev b : Account
   b = record a { given = a.given ++ last ∷ []; closed = Some (length a.taken) }
@@ -275,7 +275,7 @@ module _ (codecs : Codecs) (accs : Accounts) (n : ℕ) (e x : End) (sender : Opt
         peer = ok.peer;
         remote = ok.remote;
         spelled = all_append IsSpelled a.given (last ∷ []) ok.spelled
-            (record { written = (ok.id made, codes.0, codes.1); session = omega arith }, tt);
+            (record { written = (ok.id made, codes.0, codes.1); hides = tt; session = omega arith }, tt);
         told = all_append (λ (l : Letter). TellsOwn i l.message) a.given (last ∷ []) ok.told (refl, tt);
         taken = taken;
         ignored = ignored;
@@ -312,14 +312,14 @@ module _ (codecs : Codecs) (accs : Accounts) (n : ℕ) (e x : End) (sender : Opt
         order = ascends-empty [] refl;
       }
 
-  near_at : (w : Packet) (o : Origin) → AreNear accs n e w o → NearAt ms n i u w o
-  near_at w (origin.Control o) before = λ v peer read f.
-      let k = before i t v h.does.there peer read (for_back v w.bytes t.control u.control refl (known ∙ sym live.remote) f) in
+  near_at : (w : Packet) (bytes : List ℕ) (o : Origin) → AreNear accs n e w bytes o → NearAt ms n i u w bytes o
+  near_at w bytes (origin.Control o) before = λ v peer read f.
+      let k = before i t v h.does.there peer read (for_back v bytes t.control u.control refl (known ∙ sym live.remote) f) in
       record { taken = rw is k.taken; acked = k.acked }
-  near_at w (origin.Data session) before = tt
+  near_at w bytes (origin.Data session) before = tt
 
   near : (v : Event) (c : Comes accs n e sender v) → ComesNear accs n e sender v c ms i u
-  near (Datagram peer bytes) c = near_at c.packet c.packet.origin c.near
+  near (Datagram peer bytes) c = near_at c.packet bytes c.packet.origin c.near
   near (Ring port) c = tt
   near (Payload s frame) c = tt
   near (Lower s frame) c = tt

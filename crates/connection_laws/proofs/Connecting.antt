@@ -1,5 +1,5 @@
 -- An opener takes the SCCRP of an acceptor of its SCCRQ: it learns it, and is connected.
-use Rattle.std.proofs.Common.{◌≡◌, inl, inr, ⊎_elim, ℕ, ◌+◌, ◌<◌, ◌≤◌, Bool, true, false, cond, List, [], ◌∷◌, ◌++◌, map, drop, length, refl, sym, ap, ap₂, ◌∙◌, subst, Option, Some, arith, ne_eqb}
+use Rattle.std.proofs.Common.{◌≡◌, inl, inr, ⊎_elim, ℕ, ◌+◌, ◌<◌, ◌≤◌, Bool, true, false, cond, List, [], ◌∷◌, ◌++◌, map, drop, length, refl, sym, ap, ap₂, ◌∙◌, subst, Option, Some, arith, ne_eqb, None}
 use Rattle.std.proofs.lemmas.Bool.{ltb-true}
 use Rattle.std.proofs.lemmas.Option.{slice_get_within}
 use Rattle.std.proofs.lemmas.List.{length-append, map-append, drop-append-le}
@@ -32,6 +32,7 @@ use Rattle.connection_laws.proofs.Puts.{IsOnly, IsPut}
 use Rattle.connection_laws.proofs.Later.{live_made, after_move, only_after}
 use Rattle.connection_laws.proofs.Put.{puts_keep}
 use Rattle.connection_laws.proofs.States.{IsWaiting, is_waiting, lost_unless, heeded_open}
+use Rattle.connection_laws.proofs.Alike.{same_alike}
 use Rattle.connection_laws.proofs.Hearing.{same_address, part_cases, opener_of, acceptor_of, sender_in}
 use Rattle.connection_laws.proofs.NextHeard.{TakesOf, OfPartner, OfFirst, OfLost, OfOther, OfOpener, IsAlone, alone_small, alone_one, acceptor_alone, Said, said_so}
 use Rattle.connection_laws.proofs.Acknowledging.{put_of}
@@ -108,7 +109,7 @@ module _ (codecs : Codecs) (classes : ClassIsTrue) (accs : Accounts) (n : ℕ) (
 
   -- the SCCCN
   abbrev last : Letter
-  last = record { tunnel = m.tunnel; place = m.given; session = 0; message = Scccn m.response }
+  last = record { tunnel = m.tunnel; place = m.given; session = 0; message = Scccn m.response; hidden = None }
 
   abbrev tk : Taken
   tk = taken_as sender m.taken (move.Connected m)
@@ -138,6 +139,9 @@ module _ (codecs : Codecs) (classes : ClassIsTrue) (accs : Accounts) (n : ℕ) (
   said : Said accs n e sender ev h.within.comes i t h.does.hears.1.hears.header h.does.hears.1.hears.bytes h.does.hears.0 (Sccrp h.does.opening)
   said = said_so codecs classes accs n e sender ev h.within i t h.does.there h.does.hears.0 (Sccrp h.does.opening) tt h.does.hears.1
 
+  message_is : said.next.letter.message ≡ Sccrp h.does.opening
+  message_is = same_alike said.next.letter.message (Sccrp h.does.opening) said.message tt
+
   abbrev o : ControlOrigin
   o = said.heard.o
 
@@ -154,7 +158,7 @@ module _ (codecs : Codecs) (classes : ClassIsTrue) (accs : Accounts) (n : ℕ) (
   told : m.remote ≡ o.tunnel
   told =
       let says = first.says in
-      let message = said.message in
+      let message = message_is in
       let same : h.does.opening ≡ first.opening = cc in
       h.does.remote ∙ ap (λ (y : Opening). y.tunnel) same ∙ first.id
 
@@ -264,7 +268,7 @@ module _ (codecs : Codecs) (classes : ClassIsTrue) (accs : Accounts) (n : ℕ) (
     sender = said.heard.sender_is ∙ ap (λ (r : ℕ). Some (record { node = a.peer; tunnel = r })) (sym told);
     letter = said.next.letter;
     there = rw stays said.next.there;
-    tells = (h.does.opening, said.message, h.does.remote, h.does.window);
+    tells = (h.does.opening, message_is, h.does.remote, h.does.window);
   }
 
   taken : AreTaken ms b
@@ -288,7 +292,7 @@ module _ (codecs : Codecs) (classes : ClassIsTrue) (accs : Accounts) (n : ℕ) (
     node = ok.node;
     peer = ok.peer;
     remote = (let fits = (h.within.accounts a.peer o.tunnel).id said.heard.made in let same = told in omega arith);
-    spelled = all_append IsSpelled a.given (last ∷ []) ok.spelled (record { written = responds_sized 3 e.config.secret h.does.opening.challenge m.response h.does.responds; session = omega arith }, tt);
+    spelled = all_append IsSpelled a.given (last ∷ []) ok.spelled (record { written = responds_sized 3 e.config.secret h.does.opening.challenge m.response h.does.responds; hides = tt; session = omega arith }, tt);
     told = all_append (λ (l : Letter). TellsOwn i l.message) a.given (last ∷ []) ok.told (tt, tt);
     taken = taken;
     ignored = ignored;

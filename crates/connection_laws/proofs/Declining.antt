@@ -28,6 +28,8 @@ use Rattle.protocol_model.specs.World.{Sender, Deed}
 use Rattle.step_laws.specs.Moves.{WhyDeclined, AnOpening, AFaultyOpening, AnAnswer, Declines}
 use Rattle.step_laws.specs.Opens.{empty_opens_none}
 use Rattle.frame_laws.specs.Codecs.{Codecs}
+use Rattle.frame_laws.specs.Plain.{IsReadAs, AsAMessage, AsAFault, message_there, for_no_tunnel}
+use Rattle.connection_laws.proofs.Alike.{IsNoRequest, same_alike, read_same, read_sound}
 use Rattle.connection_laws.specs.Accounts.{Account}
 use Rattle.connection_laws.specs.Facts.{Accounts, IsNoOpening, OriginOk, PacketOk, Within}
 use Rattle.connection_laws.specs.Steps.{IsOpening, DeclinesAreOfOpenings}
@@ -35,7 +37,6 @@ use Rattle.connection_laws.proofs.Keeps.{after, IsMoved}
 use Rattle.connection_laws.proofs.Written.{node_again}
 use Rattle.connection_laws.proofs.Staying.{opening_stays, within_stays, WasOpening}
 use Rattle.connection_laws.proofs.Hearing.{opener_of, first_only, sccrq_of, unnamed_opener, IsLetterRead, IsNoneRead, FromPeer, DeclinedByPeer, letter_said, from_peer}
-use Rattle.connection_laws.proofs.AnyHeard.{no_tunnel_fault}
 
 -- ---- SCCRPs that name no tunnel
 
@@ -79,6 +80,15 @@ answers_said : (body : List ℕ) (m : Message) (r : ℕ) → message_in body ≡
 unfolding message_in at_zero
 answers_said body m r said h = pairs_answer (avps_of body) m r said h
 
+-- a request is none, whatever its number is read as
+read_answers_as : (m : Message) (body : List ℕ) → IsReadAs m body → (r : ℕ) → at_zero body ≡ Answers r → IsReply m
+read_answers_as m body (AsAMessage avps y pairs reads written alike) r answers =
+    let reply = answers_said body y r (message_there body avps y pairs reads) answers in
+    (reply.0, same_alike m y alike (subst IsNoRequest (sym reply.1) tt) ∙ reply.1)
+read_answers_as m body (AsAFault avps own serial number is small pairs fault kind told) r answers =
+    let none = for_no_tunnel body avps own pairs fault kind told in
+    absurd cc
+
 -- no pairs are none
 empty_answers_none : (r : ℕ) → at_zero [] ≡ Answers r → ⊥
 unfolding at_zero zero_pairs zero_read avps_at message_of kind_of_pairs
@@ -106,8 +116,7 @@ module _ (codecs : Codecs) (accs : Accounts) (n : ℕ) (e x : End) (sender : Opt
     by_opening : (o : Opening) → message_in body ≡ Ok (Sccrq o) → m.remote ≡ o.tunnel → IsOpening accs n m
     by_opening o said told =
         let q = letter_said codecs b f.o d.header d.bytes (Sccrq o) f.read said in
-        let was = q.said in
-        let message : q.letter.message ≡ Sccrq o = cc in
+        let message = read_same q.letter.message body q.reads (Sccrq o) said tt in
         let asks = sccrq_of accs f.packet.from f.o.tunnel (within.accounts f.packet.from f.o.tunnel) f.copy.made f.o.ns q.letter o q.there message in
         let same : accs (node_of m.peer) m.remote ≡ b = ap₂ accs node (told ∙ asks.2) in
         record {
@@ -130,12 +139,12 @@ module _ (codecs : Codecs) (accs : Accounts) (n : ℕ) (e x : End) (sender : Opt
     by_why (AnOpening o said told unknown against) = by_opening o said told
     by_why (AFaultyOpening g to unknown is on result error) = absurd (⊎_elim
         (λ (q : IsLetterRead b f.o d.header d.bytes).
-        let none = no_tunnel_fault body q.letter.message q.said in
+        let none = read_sound q.letter.message body q.reads in
         let no : ⊥ = cc in no)
         (λ (q : IsNoneRead f.o d.header d.bytes). empty_opens_none m.remote (let t = to in rw q.body at t))
         f.read.says)
     by_why (AnAnswer to result error) = absurd (⊎_elim
-        (λ (q : IsLetterRead b f.o d.header d.bytes). no_reply q (answers_said body q.letter.message m.remote q.said to))
+        (λ (q : IsLetterRead b f.o d.header d.bytes). no_reply q (read_answers_as q.letter.message body q.reads m.remote to))
         (λ (q : IsNoneRead f.o d.header d.bytes). empty_answers_none m.remote (let t = to in rw q.body at t))
         f.read.says)
 

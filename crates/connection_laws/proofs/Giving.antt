@@ -34,8 +34,9 @@ use Rattle.protocol_model.specs.End.{End, new_place}
 use Rattle.protocol_model.specs.World.{Sender, Deed, config_of}
 use Rattle.step_laws.specs.Letters.{Letter, letters_of}
 use Rattle.step_laws.specs.Codes.{codes_fit}
-use Rattle.step_laws.specs.Moves.{with_tunnel, with_letter}
+use Rattle.step_laws.specs.Moves.{with_tunnel, with_letter_as}
 use Rattle.connection_laws.specs.Accounts.{Part, Unmade, Opener, Acceptor, Account, about, entered_by, gives, gives_also}
+use Rattle.frame_laws.specs.Plain.{number_hides}
 use Rattle.connection_laws.specs.Facts.{Accounts, IsNoOpening, IsSpelled, TellsOwn, IsOpen, partner_in, AllWait, IsShut, IsInState, LiveOk, Within}
 use Rattle.connection_laws.proofs.Keeps.{IsDeed, after, IsMoved}
 use Rattle.connection_laws.proofs.Puts.{IsOnly, EndPut}
@@ -49,7 +50,7 @@ use Rattle.connection_laws.proofs.Written.{request_written, draw_is, next_is}
 
 -- a tunnel that is given a letter, where its calls change too
 abbrev with_one : Letter → List (ℕ × Call) → Tunnel → Tunnel
-with_one l calls t = record (with_letter l.session l.message t) { calls = calls }
+with_one l calls t = record (with_letter_as l.session l.message l.hidden t) { calls = calls }
 
 -- what a letter and the tunnel that is given it need
 record IsGiven (i : ℕ) (t : Tunnel) (l : Letter) (calls : List (ℕ × Call)) : Type 0 where
@@ -101,11 +102,11 @@ module _ (accs : Accounts) (n : ℕ) (e : End) (sender : Option Sender) (ev : Ev
         how = inl h.open_is;
       }
 
-  gives_is : gives d ≡ letters_of e.role (config_of n 0 None) m
+  gives_is : gives d ≡ letters_of e.role (config_of n 0 None false) m
   gives_is = rw (deed.role_is, deed.node_is, deed.move_is) refl
 
   given_keeps : (l : Letter) (calls : List (ℕ × Call)) (places : List (ℕ × CallPlace)) → MayEnter m (accs n (about m))
-      → entered_by d m (accs n (about m)) ≡ gives_also d (accs n (about m)) → letters_of e.role (config_of n 0 None) m ≡ l ∷ [] → IsGiven (about m) t l calls
+      → entered_by d m (accs n (about m)) ≡ gives_also d (accs n (about m)) → letters_of e.role (config_of n 0 None false) m ≡ l ∷ [] → IsGiven (about m) t l calls
       → Within (after accs d) n (with_places e (about m) (with_one l calls t) places) sender ev
   given_keeps l calls places may enters one h =
       let i = about m in
@@ -147,10 +148,10 @@ end_told_keeps accs n e x sender moment ev m d h =
     let live = h.within.end.live m.tunnel t o.there in
     subst (λ y. Within (after accs d) n y sender ev) (sym o.after)
     (given_keeps accs n e sender ev d h.within (move.EndTold m) h.deed tt t o.there
-    (record { tunnel = m.tunnel; place = m.given; session = m.remote; message = Cdn m.session m.result m.error })
+    (record { tunnel = m.tunnel; place = m.given; session = m.remote; message = Cdn m.session m.result m.error; hidden = None })
     (without t.calls m.session) _ tt refl refl
     (record {
-      spelled = record { written = (let k = codes_fit e t ev moment m.session o.call o.on m.result m.error o.why in (o.session, k.0, k.1)); session = rw o.remote (live.calls m.session o.call o.live) };
+      spelled = record { written = (let k = codes_fit e t ev moment m.session o.call o.on m.result m.error o.why in (o.session, k.0, k.1)); hides = tt; session = rw o.remote (live.calls m.session o.call o.live) };
       plain = tt;
       told = tt;
       room = o.room;
@@ -168,9 +169,9 @@ greeted_keeps accs n e x sender moment ev m d h =
     let live = h.within.end.live m.tunnel t o.there in
     subst (λ y. Within (after accs d) n y sender ev) (sym o.after)
     (given_keeps accs n e sender ev d h.within (move.Greeted m) h.deed tt t o.there
-    (record { tunnel = m.tunnel; place = m.given; session = 0; message = Hello }) t.calls e.calls tt refl refl
+    (record { tunnel = m.tunnel; place = m.given; session = 0; message = Hello; hidden = None }) t.calls e.calls tt refl refl
     (record {
-      spelled = record { written = tt; session = omega arith };
+      spelled = record { written = tt; hides = tt; session = omega arith };
       plain = tt;
       told = tt;
       room = o.room;
@@ -203,9 +204,13 @@ requested_keeps digits accs n e x sender moment ev m d h =
     let call = advanced e.role call_event.TunnelOpen moment o.call in
     subst (λ y. Within (after accs d) n y sender ev) (sym o.after)
     (given_keeps accs n e sender ev d h.within (move.Requested m) h.deed tt t o.there
-    (record { tunnel = m.tunnel; place = m.given; session = 0; message = request_of m.session m.port }) (put t.calls m.session call) _ tt refl refl
+    (record { tunnel = m.tunnel; place = m.given; session = 0; message = request_of m.session m.port; hidden = m.hidden }) (put t.calls m.session call) _ tt refl refl
     (record {
-      spelled = record { written = request_written digits m.session m.port o.session; session = omega arith };
+      spelled = record {
+        written = request_written digits m.session m.port o.session;
+        hides = number_hides e.config m.session m.port m.hidden o.session (digits m.port) o.hides;
+        session = omega arith;
+      };
       plain = tt;
       told = tt;
       room = o.room;

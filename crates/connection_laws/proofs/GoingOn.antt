@@ -336,14 +336,14 @@ module _ (accs ms : Accounts) (n : ℕ) (e x : End) (sender : Option Sender) (ev
       counted : u.control.channel.window.acked + u.control.channel.window.queued ≡ length b.given
       counted = let c = live.counted in let k = g.acked in let l = g.queued in rw length-append (omega (arith, c, k, l))
 
-  near_at : (w : Packet) (o : Origin) → AreNear accs n e w o → NearAt ms n i u w o
-  near_at w (origin.Control o) before = λ h peer read f.
-      let k = before i t h there (sym g.peer ∙ peer) read (for_back h w.bytes t.control u.control g.local g.remote f) in
+  near_at : (w : Packet) (bytes : List ℕ) (o : Origin) → AreNear accs n e w bytes o → NearAt ms n i u w bytes o
+  near_at w bytes (origin.Control o) before = λ h peer read f.
+      let k = before i t h there (sym g.peer ∙ peer) read (for_back h bytes t.control u.control g.local g.remote f) in
       record { taken = rw is k.taken; acked = rw g.acked k.acked }
-  near_at w (origin.Data session) before = tt
+  near_at w bytes (origin.Data session) before = tt
 
   near : (v : Event) (c : Comes accs n e sender v) → ComesNear accs n e sender v c ms i u
-  near (Datagram peer bytes) c = near_at c.packet c.packet.origin c.near
+  near (Datagram peer bytes) c = near_at c.packet bytes c.packet.origin c.near
   near (Ring port) c = tt
   near (Payload s frame) c = tt
   near (Lower s frame) c = tt

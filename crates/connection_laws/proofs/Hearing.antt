@@ -29,13 +29,17 @@ use Rattle.protocol_model.specs.End.{End}
 use Rattle.protocol_model.specs.World.{Sender, sender_of}
 use Rattle.step_laws.specs.Letters.{Letter}
 use Rattle.step_laws.specs.Moves.{IsFor, IsAgain, IsStop, HearsNext, ComesNext, TellsNr}
-use Rattle.step_laws.specs.Opens.{opens_said, empty_opens_none}
+use Rattle.step_laws.specs.Opens.{empty_opens_none}
+use Rattle.protocol_model.specs.Secrets.{uncovered_datagram}
 use Rattle.frame_laws.specs.Codecs.{Codecs}
+use Rattle.frame_laws.specs.Plain.{IsReadAs}
 use Rattle.connection_laws.specs.Accounts.{Part, Unmade, Opener, Acceptor, Account}
 use Rattle.connection_laws.specs.Facts.{Accounts, IsMade, IsSpelled, IsNoOpening, IsNoStop, IsStopCcn, TellsOwn, IsLost, BeginsWith, IsPart, IsOpener, IsAcceptor, partner_in, AccountOk, LiveOk, Says, ALetter, Nothing, IsCopy, IsRefusal, IsData, OriginOk, IsNear, AreNear, IsPacket, Comes, Within}
 use Rattle.connection_laws.proofs.Later.{live_made}
-use Rattle.connection_laws.proofs.Stops.{stops_by, no_stop}
-use Rattle.connection_laws.proofs.Refusals.{message_again, same_header, refusal_some, RefusalRead, refusal_read}
+use Rattle.connection_laws.proofs.Stops.{no_stop}
+use Rattle.connection_laws.proofs.Alike.{read_opens, read_stops}
+use Rattle.connection_laws.proofs.Plain.{letter_read, nothing_read, data_plain}
+use Rattle.connection_laws.proofs.Refusals.{same_header, refusal_some, RefusalRead, refusal_read}
 use Rattle.connection_laws.proofs.Puts.{NearAt, ComesNear}
 
 -- ---- addresses
@@ -49,7 +53,7 @@ same_address m n e = omega arith
 pub record PacketAt (accs : Accounts) (n : ℕ) (e : End) (sender : Option Sender) (ev : Event) (comes : Comes accs n e sender ev) (peer : ℕ)
     (bytes : List ℕ) : Type 0 where
   pub is : IsPacket accs n e sender peer bytes
-  pub again : (ms : Accounts) (i : ℕ) (u : Tunnel) → NearAt ms n i u is.packet is.packet.origin → ComesNear accs n e sender ev comes ms i u
+  pub again : (ms : Accounts) (i : ℕ) (u : Tunnel) → NearAt ms n i u is.packet bytes is.packet.origin → ComesNear accs n e sender ev comes ms i u
 
 pub packet_at : (accs : Accounts) (n : ℕ) (e : End) (sender : Option Sender) (ev : Event) (comes : Comes accs n e sender ev) (peer : ℕ) (bytes : List ℕ)
     → ev ≡ Datagram peer bytes → PacketAt accs n e sender ev comes peer bytes
@@ -62,11 +66,12 @@ packet_at accs n e sender (Datagram q bs) comes peer bytes is =
         ok = comes.ok;
         to = comes.to;
         peer_is = sym p ∙ comes.peer_is;
+        secret = comes.secret;
         bytes_are = sym b ∙ comes.bytes_are;
         sender_is = comes.sender_is;
-        near = comes.near;
+        near = subst (λ (y : List ℕ). AreNear accs n e comes.packet y comes.packet.origin) b comes.near;
       };
-      again = λ ms i u h. h;
+      again = λ ms i u h. subst (λ (y : List ℕ). NearAt ms n i u comes.packet y comes.packet.origin) (sym b) h;
     }
 packet_at accs n e sender (Ring port) comes peer bytes is = absurd cc
 packet_at accs n e sender (Payload s frame) comes peer bytes is = absurd cc
@@ -85,7 +90,7 @@ pub record IsLetterRead (b : Account) (o : ControlOrigin) (h : Header) (bytes : 
   pub some : o.empty ≡ false
   pub there : slice_get b.given o.ns ≡ Some letter
   pub session : h.session ≡ letter.session
-  pub said : message_in (body_of h bytes) ≡ Ok letter.message
+  pub reads : IsReadAs letter.message (body_of h bytes)
   pub spelled : IsSpelled letter
 
 -- or none
@@ -157,23 +162,32 @@ module _ (codecs : Codecs) where
       rw (same, are) (record { tunnel_is = refl; session_is = refl; ns_is = refl; nr_is = refl; body = c.bounds })
 
   -- a data message is no control message
-  data_read : (bytes : List ℕ) (h : Header) → IsData bytes → header_of bytes ≡ Ok h → h.control ≡ true → ⊥
-  data_read bytes h d e k =
+  frame_read : (bytes : List ℕ) (h : Header) → IsData bytes → header_of bytes ≡ Ok h → h.control ≡ true → ⊥
+  frame_read bytes h d e k =
       let made = data_bytes d.tunnel d.session None d.frame in
       let c = codecs.frame d.tunnel d.session None d.frame d.tunnel_fits d.session_fits tt in
       true≢false (sym k ∙ ap (λ (x : Header). x.control) (same_header codecs made h _ _ c (let a = d.are in rw a at e)))
 
-  pub copy_read : (b : Account) (p : Packet) (o : ControlOrigin) (h : Header) → b.remote < 65536 → AllByRecursion IsSpelled b.given → IsCopy b p o
-      → header_of p.bytes ≡ Ok h → CopyRead b o h p.bytes
-  copy_read b p o h fits spelled copy e = by copy.says
+  data_read : (secret : Option (List ℕ)) (bytes : List ℕ) (h : Header) → IsData bytes → header_of (uncovered_datagram secret bytes) ≡ Ok h → h.control ≡ true → ⊥
+  data_read secret bytes h d e k = frame_read bytes h d (ap header_of (sym (data_plain codecs secret bytes d)) ∙ e) k
+
+  -- whatever secret it is read with
+  pub copy_read : (b : Account) (p : Packet) (o : ControlOrigin) (secret : Option (List ℕ)) (h : Header) → b.remote < 65536
+      → AllByRecursion IsSpelled b.given → IsCopy b p o → header_of (uncovered_datagram secret p.bytes) ≡ Ok h
+      → CopyRead b o h (uncovered_datagram secret p.bytes)
+  copy_read b p o secret h fits spelled copy e = by copy.says
     where
       t : copy.tunnel < 65536
       t = named_fits b o copy.tunnel fits copy.named
 
-      by : Says b o copy.tunnel p.bytes → CopyRead b o h p.bytes
+      bytes : List ℕ
+      bytes = uncovered_datagram secret p.bytes
+
+      by : Says b o copy.tunnel p.bytes → CopyRead b o h bytes
       by (ALetter l some there are) =
           let s = all_at IsSpelled b.given o.ns l there spelled in
-          let r = control_read copy.tunnel l.session o.ns o.nr (spelling (pairs_of l.message)) p.bytes h t s.session (codecs.room l.message s.written) are e in
+          let u = letter_read codecs secret l copy.tunnel o.ns o.nr p.bytes t s are in
+          let r = control_read copy.tunnel l.session o.ns o.nr u.body bytes h t s.session u.few u.is e in
           record {
             tunnel = rw r.tunnel_is copy.named;
             ns = r.ns_is;
@@ -183,12 +197,12 @@ module _ (codecs : Codecs) where
               some = some;
               there = there;
               session = r.session_is;
-              said = rw r.body (message_again codecs l.message s.written);
+              reads = rw r.body u.reads;
               spelled = s;
             });
           }
       by (Nothing none are) =
-          let r = control_read copy.tunnel 0 o.ns o.nr [] p.bytes h t (omega arith) (omega arith) are e in
+          let r = control_read copy.tunnel 0 o.ns o.nr [] bytes h t (omega arith) (omega arith) (nothing_read codecs secret copy.tunnel o.ns o.nr p.bytes t are) e in
           record { tunnel = rw r.tunnel_is copy.named; ns = r.ns_is; nr = r.nr_is; says = inr (record { none = none; body = r.body }) }
 
 -- ---- which tunnels are partners
@@ -328,8 +342,7 @@ pub record FromPeer (accs : Accounts) (n : ℕ) (e : End) (sender : Option Sende
   pub from : packet.from < 256
   pub to : packet.to ≡ n
   pub peer_is : peer ≡ address_of packet.from
-  pub bytes_are : bytes ≡ packet.bytes
-  pub near : AreNear accs n e packet (origin.Control o)
+  pub near : AreNear accs n e packet bytes (origin.Control o)
   pub again : (ms : Accounts) (j : ℕ) (u : Tunnel) → IsNear (ms n j) u o → ComesNear accs n e sender ev comes ms j u
 
 -- or it is a StopCCN of no tunnel, which declines the SCCRQ of a tunnel of this node
@@ -343,8 +356,7 @@ pub record DeclinedByPeer (accs : Accounts) (n : ℕ) (e : End) (sender : Option
   pub sender_is : sender ≡ Some (record { node = packet.from; tunnel = o.tunnel })
   pub to : packet.to ≡ n
   pub peer_is : peer ≡ address_of packet.from
-  pub bytes_are : bytes ≡ packet.bytes
-  pub near : AreNear accs n e packet (origin.Control o)
+  pub near : AreNear accs n e packet bytes (origin.Control o)
   pub again : (ms : Accounts) (j : ℕ) (u : Tunnel) → IsNear (ms n j) u o → ComesNear accs n e sender ev comes ms j u
 
 -- a packet that is a control message
@@ -356,8 +368,7 @@ record IsControl (accs : Accounts) (p : Packet) : Type 0 where
 -- it is read as a message that is written by the rules
 pub record PeerSays (h : Header) (bytes : List ℕ) : Type 0 where
   pub message : Message
-  pub said : message_in (body_of h bytes) ≡ Ok message
-  pub written : IsWritten message
+  pub reads : IsReadAs message (body_of h bytes)
 
 -- a StopCCN of no tunnel says nothing that stops none
 refusal_stops : (tunnel : ℕ) (o : ControlOrigin) (h : Header) (bytes : List ℕ) → RefusalRead tunnel o h bytes → (m : Message) → IsNoStop m
@@ -384,10 +395,10 @@ module _ (codecs : Codecs) where
       (λ (q : IsNoneRead o h bytes). absurd (no_message codecs m (let s = said in rw q.body at s)))
       read.says
 
-  control_of : (accs : Accounts) (p : Packet) (h : Header) → header_of p.bytes ≡ Ok h → h.control ≡ true → (g : Origin) → p.origin ≡ g → OriginOk accs p g
-      → IsControl accs p
-  control_of accs p h read control (origin.Control o) is ok = record { o = o; is = is; sent = ok }
-  control_of accs p h read control (origin.Data session) is ok = absurd (data_read codecs p.bytes h ok read control)
+  control_of : (accs : Accounts) (p : Packet) (secret : Option (List ℕ)) (h : Header) → header_of (uncovered_datagram secret p.bytes) ≡ Ok h
+      → h.control ≡ true → (g : Origin) → p.origin ≡ g → OriginOk accs p g → IsControl accs p
+  control_of accs p secret h read control (origin.Control o) is ok = record { o = o; is = is; sent = ok }
+  control_of accs p secret h read control (origin.Data session) is ok = absurd (data_read codecs secret p.bytes h ok read control)
 
   pub from_peer : (accs : Accounts) (n : ℕ) (e : End) (sender : Option Sender) (ev : Event) (within : Within accs n e sender ev) (peer : ℕ) (h : Header)
       (bytes : List ℕ) → ev ≡ Datagram peer bytes → header_of bytes ≡ Ok h → h.control ≡ true
@@ -395,13 +406,14 @@ module _ (codecs : Codecs) where
   from_peer accs n e sender ev within peer h bytes is reads control =
       let at_peer = packet_at accs n e sender ev within.comes peer bytes is in
       let p = at_peer.is.packet in
-      let read : header_of p.bytes ≡ Ok h = (let r = reads in rw at_peer.is.bytes_are at r) in
-      let c = control_of accs p h read control p.origin refl at_peer.is.ok.sent in
+      let secret = at_peer.is.secret in
+      let read : header_of (uncovered_datagram secret p.bytes) ≡ Ok h = (let r = reads in rw at_peer.is.bytes_are at r) in
+      let c = control_of accs p secret h read control p.origin refl at_peer.is.ok.sent in
       let o = c.o in
       let sender_is = at_peer.is.sender_is ∙ ap (λ (g : Origin). sender_of p.from g) c.is in
-      let near = subst (λ (g : Origin). AreNear accs n e p g) c.is at_peer.is.near in
+      let near = subst (λ (g : Origin). AreNear accs n e p bytes g) c.is at_peer.is.near in
       let again = λ (ms : Accounts) (j : ℕ) (u : Tunnel) (k : IsNear (ms n j) u o).
-      at_peer.again ms j u (subst (λ (g : Origin). NearAt ms n j u p g) (sym c.is) (λ x q r s. k)) in
+      at_peer.again ms j u (subst (λ (g : Origin). NearAt ms n j u p bytes g) (sym c.is) (λ x q r s. k)) in
       ⊎_elim
       (λ (copy : IsCopy (accs p.from o.tunnel) p o).
       let ok = within.accounts p.from o.tunnel in
@@ -410,12 +422,11 @@ module _ (codecs : Codecs) where
         o = o;
         copy = copy;
         read = subst (λ (bs : List ℕ). CopyRead (accs p.from o.tunnel) o h bs) (sym at_peer.is.bytes_are)
-            (copy_read codecs (accs p.from o.tunnel) p o h ok.remote ok.spelled copy read);
+            (copy_read codecs (accs p.from o.tunnel) p o secret h ok.remote ok.spelled copy read);
         sender_is = sender_is;
         from = at_peer.is.ok.from;
         to = at_peer.is.to;
         peer_is = at_peer.is.peer_is;
-        bytes_are = at_peer.is.bytes_are;
         near = near;
         again = again;
       }))
@@ -426,11 +437,10 @@ module _ (codecs : Codecs) where
         refusal = refusal;
         some = refusal_some accs within.accounts p o refusal;
         read = subst (λ (bs : List ℕ). RefusalRead refusal.tunnel o h bs) (sym at_peer.is.bytes_are)
-            (refusal_read codecs accs within.accounts p o refusal h read);
+            (refusal_read codecs accs within.accounts p o refusal secret h read);
         sender_is = sender_is;
         to = at_peer.is.to;
         peer_is = at_peer.is.peer_is;
-        bytes_are = at_peer.is.bytes_are;
         near = near;
         again = again;
       }))
@@ -452,11 +462,11 @@ module _ (codecs : Codecs) where
       (λ (f : FromPeer accs n e sender ev within.comes peer h bytes).
       let b = accs f.packet.from f.o.tunnel in
       ⊎_elim
-      (λ (q : IsLetterRead b f.o h bytes). inl (record { message = q.letter.message; said = q.said; written = q.spelled.written }))
+      (λ (q : IsLetterRead b f.o h bytes). inl (record { message = q.letter.message; reads = q.reads }))
       (λ (q : IsNoneRead f.o h bytes). inr q.body)
       f.read.says)
       (λ (r : DeclinedByPeer accs n e sender ev within.comes peer h bytes).
-      inl (record { message = StopCcn 0 r.read.result r.read.error; said = r.read.said; written = r.read.written }))
+      inl (record { message = StopCcn 0 r.read.result r.read.error; reads = r.read.reads }))
       (from_peer accs n e sender ev within peer h bytes is reads control)
 
 -- ---- what a live tunnel hears
@@ -525,14 +535,14 @@ module _ (codecs : Codecs) where
       (unnamed b o h.tunnel read.tunnel k.none) in
       ⊎_elim
       (λ (q : IsLetterRead b o h bytes).
-      let asks = opens_said (body_of h bytes) q.letter.message t.control.remote k.opens q.said in
+      let asks = read_opens q.letter.message (body_of h bytes) q.reads t.control.remote k.opens in
       link_again accs n i o all here made q.letter asks.0 q.there asks.1 (sym live.remote ∙ asks.2) how)
       (λ (q : IsNoneRead o h bytes). absurd (empty_opens_none t.control.remote (let s = k.opens in rw q.body at s)))
       read.says)
       (λ (k : IsStop h bytes t.control).
       ⊎_elim
       (λ (q : IsLetterRead b o h bytes).
-      let tells = stops_by (body_of h bytes) q.letter.message t.control.remote q.said k.stops in
+      let tells = read_stops q.letter.message (body_of h bytes) q.reads t.control.remote k.stops in
       let how : IsLost b ⊎ ((o.nr ≡ 0) × (o.ns ≡ 0)) = ⊎_elim (λ (lost : IsLost b). inl lost)
       (λ (z : (o.nr ≡ 0) × (o.empty ≡ false → o.ns ≡ 0)). inr (z.0, z.1 q.some))
       (unnamed b o h.tunnel read.tunnel k.none) in
@@ -551,7 +561,6 @@ module _ (codecs : Codecs) where
       let p = f.packet in
       let o = f.o in
       let from : p.from ≡ (accs n i).peer = same_address p.from (accs n i).peer (sym f.peer_is ∙ live.peer) in
-      let read : header_of p.bytes ≡ Ok h = (let r = hears.read in rw f.bytes_are at r) in
       let copy : IsCopy (sender_in accs n i o) p o = subst (λ (q : ℕ). IsCopy (accs q o.tunnel) p o) from f.copy in
       let said : CopyRead (sender_in accs n i o) o h bytes = subst (λ (q : ℕ). CopyRead (accs q o.tunnel) o h bytes) from f.read in
       record {
@@ -559,7 +568,7 @@ module _ (codecs : Codecs) where
         made = copy.made;
         nr = copy.nr;
         sender_is = f.sender_is ∙ ap (λ (q : ℕ). Some (record { node = q; tunnel = o.tunnel })) from;
-        near = f.near i t h there f.peer_is read (subst (λ (bs : List ℕ). IsFor h bs t.control) f.bytes_are hears.tunnel);
+        near = f.near i t h there f.peer_is hears.read hears.tunnel;
         read = said;
         linked = link_of accs n i t o h bytes within.accounts live copy.made (sym copy.to ∙ f.to) said hears.tunnel;
         again = f.again;
@@ -577,7 +586,6 @@ module _ (codecs : Codecs) where
       let some = f.some in
       let tells = f.read.tunnel_is in
       let from : p.from ≡ (accs n i).peer = same_address p.from (accs n i).peer (sym f.peer_is ∙ live.peer) in
-      let read : header_of p.bytes ≡ Ok h = (let r = hears.read in rw f.bytes_are at r) in
       let named : r.tunnel ≡ i = ⊎_elim
       (λ (k : h.tunnel ≡ t.control.local). sym tells ∙ k ∙ live.local)
       (λ other. ⊎_elim
@@ -591,7 +599,7 @@ module _ (codecs : Codecs) where
         ns = r.ns;
         nr = r.nr;
         sender_is = f.sender_is ∙ ap₂ (λ (q j : ℕ). Some (record { node = q; tunnel = j })) from r.none;
-        near = f.near i t h there f.peer_is read (subst (λ (bs : List ℕ). IsFor h bs t.control) f.bytes_are hears.tunnel);
+        near = f.near i t h there f.peer_is hears.read hears.tunnel;
         opener = sym (ap (λ (x : Account). x.part) it) ∙ r.opener;
         declined = sym (ap (λ (x : Account). x.declined) it) ∙ r.declined;
         read = f.read;

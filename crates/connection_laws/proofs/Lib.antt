@@ -12,9 +12,10 @@ pub mod Giving
 pub mod Beginning
 pub mod Numbers
 pub mod Stops
+pub mod Alike
+pub mod Plain
 pub mod Refusals
 pub mod Hearing
-pub mod Plain
 pub mod NextHeard
 pub mod Said
 pub mod Acknowledging

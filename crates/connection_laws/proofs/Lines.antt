@@ -1,5 +1,5 @@
 -- Each line of a schedule.
-use Rattle.std.proofs.Common.{◌≡◌, ⊎_elim, ℕ, ◌+◌, ◌-◌, ◌^◌, ◌<◌, false, List, [], refl, sym, ap, ◌∙◌, subst, Option, Some, None, Result, Ok, Err, arith}
+use Rattle.std.proofs.Common.{◌≡◌, ⊎_elim, ℕ, ◌+◌, ◌-◌, ◌^◌, ◌<◌, false, List, [], refl, sym, ap, ◌∙◌, subst, Option, Some, None, Result, Ok, Err, arith, Bool}
 use Rattle.std.proofs.lemmas.Bool.{true≢false}
 use Rattle.std.proofs.lemmas.Option.{none-some}
 use Rattle.std.specs.Prelude.{is_some, min, slice_get}
@@ -10,7 +10,7 @@ use Rattle.wire_base.specs.declared.why.Why.TheVariants as why
 use Rattle.schedule_text.specs.declared.line.Line.{Line}
 use Rattle.schedule_text.specs.declared.line.Line.TheVariants.{Remark, Lac, Lns, OpenUp, Close, Ring, FromSub, Down, Hang, DropCall, Deliver, Tick}
 use Rattle.schedule_text.specs.Grammar.{FitsLine}
-use Rattle.connection_laws.proofs.Plain.{comes_plain}
+use Rattle.protocol_model.specs.Secrets.{uncovered_event}
 use Rattle.protocol_model.specs.declared.event.Event.{Event}
 use Rattle.protocol_model.specs.declared.event.Event.TheVariants as event
 use Rattle.protocol_model.specs.declared.packet.Packet.{Packet}
@@ -78,9 +78,9 @@ not_made a none made = made (ap (λ (x : Account). x.part) none)
 abbrev pub HasLns : Role → ℕ → Type 0
 HasLns r lns = r ≡ role.Lac → (m : ℕ) × (m < 256) × (lns ≡ address_of m)
 
-new_ok : (accs : Accounts) (n : ℕ) (r : Role) (lns : ℕ) (secret : Option (List ℕ)) → n < 256 → HasLns r lns → ((i : ℕ) → accs n i ≡ no_account)
-    → EndOk accs n (new_end r (config_of n lns secret)) × AreKept (new_end r (config_of n lns secret))
-new_ok accs n r lns secret lt has none = (
+new_ok : (accs : Accounts) (n : ℕ) (r : Role) (lns : ℕ) (secret : Option (List ℕ)) (hide : Bool) → n < 256 → HasLns r lns → ((i : ℕ) → accs n i ≡ no_account)
+    → EndOk accs n (new_end r (config_of n lns secret hide)) × AreKept (new_end r (config_of n lns secret hide))
+new_ok accs n r lns secret hide lt has none = (
   record {
     node = lt;
     number = refl;
@@ -104,55 +104,57 @@ new_ok accs n r lns secret lt has none = (
 )
 
 module _ (w : World) (accs : Accounts) (number : ℕ) (holds : Holds w accs) (most : ℕ) (had : GivenBelow accs most) where
-  more_holds : (n : ℕ) (r : Role) (lns : ℕ) (secret : Option (List ℕ)) → n < 256 → HasLns r lns → at w.nodes n ≡ None
-      → Holds (with_node w n (record { end = new_end r (config_of n lns secret); clock = 0; births = [] })) accs
-  more_holds n r lns secret lt has none = record {
+  more_holds : (n : ℕ) (r : Role) (lns : ℕ) (secret : Option (List ℕ)) (hide : Bool) → n < 256 → HasLns r lns → at w.nodes n ≡ None
+      → Holds (with_node w n (record { end = new_end r (config_of n lns secret hide); clock = 0; births = [] })) accs
+  more_holds n r lns secret hide lt has none = record {
     accounts = holds.accounts;
     nodes = λ k. ⊎_elim
         (λ (e : k ≡ n).
         subst (λ q. NodeOk accs q (at (put w.nodes n new) q)) (sym e)
-        (rw (at_new w.nodes n new) (new_ok accs n r lns secret lt has (subst (NodeOk accs n) none (holds.nodes n)))))
+        (rw (at_new w.nodes n new) (new_ok accs n r lns secret hide lt has (subst (NodeOk accs n) none (holds.nodes n)))))
         (λ o. rw (at_other w.nodes n new k o) (holds.nodes k))
         (same_or_not k n);
     packets = holds.packets;
   }
     where
       new : Node
-      new = record { end = new_end r (config_of n lns secret); clock = 0; births = [] }
+      new = record { end = new_end r (config_of n lns secret hide); clock = 0; births = [] }
 
-  added_ok : (n : ℕ) (r : Role) (lns : ℕ) (secret : Option (List ℕ)) → n < 256 → HasLns r lns → (x : Lined) → added w n r lns secret ≡ Ok x → Does w accs (most + 16384) number x
+  added_ok : (n : ℕ) (r : Role) (lns : ℕ) (secret : Option (List ℕ)) (hide : Bool) → n < 256 → HasLns r lns → (x : Lined)
+      → added w n r lns secret hide ≡ Ok x → Does w accs (most + 16384) number x
   unfolding added
-  added_ok n r lns secret lt has x h =
-      let new : Node = record { end = new_end r (config_of n lns secret); clock = 0; births = [] } in
+  added_ok n r lns secret hide lt has x h =
+      let new : Node = record { end = new_end r (config_of n lns secret hide); clock = 0; births = [] } in
       let t = tested_not (is_some (at w.nodes n)) (quiet_line (with_node w n new)) (Unfit why.Twice) x h in
       let none = none_there (at w.nodes n) t.0 in
       subst (Does w accs (most + 16384) number) t.1
-      (record { goes = quiet_goes (with_node w n new) accs most (more_holds n r lns secret lt has none) had; does = ANode n r lns secret lt none refl refl (added_births w n new none refl) })
+      (record { goes = quiet_goes (with_node w n new) accs most (more_holds n r lns secret hide lt has none) had; does = ANode n r lns secret hide lt none refl refl (added_births w n new none refl) })
 
 -- ---- lines
 
 module _ (codecs : Codecs) (laws : Laws) (number : ℕ) (w : World) (accs : Accounts) (holds : Holds w accs) (most : ℕ) (had : GivenBelow accs most)
     (room : most + 24576 < 2 ^ 64) where
+  -- on an event as the node reads it
   timed_ok : (n : ℕ) (ev : Event) (sender : Option Sender) (node : Node) → IsAt w n node → Comes accs n node.end sender ev
-      → Does w accs (most + 16384) number (after_step w number n node sender (step node.end node.clock (block_of n number) ev))
+      → Does w accs (most + 16384) number (after_step w number n node sender (plain_step node.end node.clock (block_of n number) ev))
   timed_ok n ev sender node is comes =
-      subst (λ (v : Event). Does w accs (most + 16384) number (after_step w number n node sender (plain_step node.end node.clock (block_of n number) v)))
-      (sym (comes_plain codecs accs holds.accounts n node.end sender ev comes node.end.config.secret))
-      (subst (λ (q : Node). Does w accs (most + 16384) number (after_step w number n q sender (plain_step q.end q.clock (block_of n number) ev))) (sym is.same)
+      subst (λ (q : Node). Does w accs (most + 16384) number (after_step w number n q sender (plain_step q.end q.clock (block_of n number) ev))) (sym is.same)
       (let here = subst (λ (q : Node). Comes accs n q.end sender ev) is.same comes in
       record {
         goes = step_ok laws number w accs holds most had room n is.before is.there node.clock ev sender here node.clock (block_of n number);
         does = AStep (step_does laws number w accs holds most had room n is.before is.there node.clock ev sender here node.clock (block_of n number));
-      }))
+      })
 
   stepped_ok : (x : Lined) (n : ℕ) (ev : Event) (sender : Option Sender) (o : Result Node Why)
-      → ((node : Node) → o ≡ Ok node → IsAt w n node) → ((node : Node) → o ≡ Ok node → Comes accs n node.end sender ev)
+      → ((node : Node) → o ≡ Ok node → IsAt w n node)
+      → ((node : Node) → o ≡ Ok node → Comes accs n node.end sender (uncovered_event node.end.config.secret ev))
       → stepped w number n ev sender o ≡ Ok x → Does w accs (most + 16384) number x
   unfolding stepped
   stepped_ok x n ev sender (Err q) is comes h = absurd (cc)
   stepped_ok x n ev sender (Ok node) is comes h =
       let e : after_step w number n node sender (step node.end node.clock (block_of n number) ev) ≡ x = cc in
-      subst (Does w accs (most + 16384) number) e (timed_ok n ev sender node (is node refl) (comes node refl))
+      subst (Does w accs (most + 16384) number) e
+      (timed_ok n (uncovered_event node.end.config.secret ev) sender node (is node refl) (comes node refl))
 
   -- a packet that was sent comes to its node
   arrives_ok : (x : Lined) (p : Packet) (node : Node) → at w.nodes p.to ≡ Some node → PacketOk accs p → (o : Option Refusal)
@@ -164,8 +166,10 @@ module _ (codecs : Codecs) (laws : Laws) (number : ℕ) (w : World) (accs : Acco
       stepped_ok x p.to (event.Datagram (address_of p.from) p.bytes) (sender_of p.from p.origin) (Ok node)
       (λ q e. (let same : node ≡ q = cc in rw (← same) (is_there w p.to node there)))
       (λ q e. (let same : node ≡ q = cc in
-      subst (λ (y : Node). Comes accs p.to y.end (sender_of p.from p.origin) (event.Datagram (address_of p.from) p.bytes)) same
-      (is_packet codecs accs holds.accounts p.to node.end ok.0 p node refl sent refl young))) h
+      subst
+      (λ (y : Node). Comes accs p.to y.end (sender_of p.from p.origin) (uncovered_event y.end.config.secret (event.Datagram (address_of p.from) p.bytes)))
+      same
+      (is_packet codecs accs holds.accounts p.to node ok.0 p sent refl young))) h
 
   -- what may be delivered is a packet that was sent, and its node is declared
   delivers_ok : (x : Lined) (o : Option Packet) → ((p : Packet) → o ≡ Some p → PacketOk accs p) → delivers w number o ≡ Ok x
@@ -182,9 +186,9 @@ module _ (codecs : Codecs) (laws : Laws) (number : ℕ) (w : World) (accs : Acco
   unfolding line
   line_ok x (Remark text) fits h =
       let e : quiet_line w ≡ x = cc in subst (Does w accs (most + 16384) number) e (record { goes = quiet_goes w accs most holds had; does = Nothing refl refl (births_same w) })
-  line_ok x (Lac n m secret) fits h =
-      added_ok w accs number holds most had n role.Lac (address_of m) secret (omega (arith, fits.0.1)) (λ lac. (m, omega (arith, fits.1.1), refl)) x h
-  line_ok x (Lns n secret) fits h = added_ok w accs number holds most had n role.Lns 0 secret (omega (arith, fits.0.1)) (λ lac. absurd cc) x h
+  line_ok x (Lac n m secret hide) fits h =
+      added_ok w accs number holds most had n role.Lac (address_of m) secret hide (omega (arith, fits.0.1)) (λ lac. (m, omega (arith, fits.1.1), refl)) x h
+  line_ok x (Lns n secret) fits h = added_ok w accs number holds most had n role.Lns 0 secret false (omega (arith, fits.0.1)) (λ lac. absurd cc) x h
   line_ok x (OpenUp n) fits h =
       stepped_ok x n event.OpenTunnel None (lac_at (at w.nodes n)) (λ node e. is_there w n node ((is_lac_at (at w.nodes n) node e).0)) (λ node e. tt) h
   line_ok x (Close n i) fits h =

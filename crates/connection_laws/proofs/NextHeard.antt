@@ -20,9 +20,11 @@ use Rattle.protocol_model.specs.World.{Sender}
 use Rattle.step_laws.specs.Letters.{Letter}
 use Rattle.step_laws.specs.Moves.{HearsNext}
 use Rattle.frame_laws.specs.Codecs.{Codecs}
+use Rattle.frame_laws.specs.Plain.{AreAlike, IsReadAs}
 use Rattle.connection_laws.specs.Accounts.{Opener, Acceptor, Account}
 use Rattle.connection_laws.specs.Facts.{Accounts, IsMade, IsSpelled, IsNoStop, IsStopCcn, IsClosed, IsLost, HasStopped, BeginsWith, IsOpener, IsAcceptor, AreJoined, partner_in, IsAnswered, AreAcked, AccountOk, Comes, Within}
 use Rattle.connection_laws.proofs.Numbers.{next_is_expected}
+use Rattle.connection_laws.proofs.Alike.{read_alike}
 use Rattle.connection_laws.proofs.Hearing.{all_at, opener_of, acceptor_of, sender_in, Sends, Chosen, Asks, Leaves, Linked, FromOpener, FromAcceptor, IsLetterRead, letter_said, Heard, heard_of, heard_said}
 
 -- ---- two tunnels that have learned each other
@@ -136,7 +138,7 @@ pub record HeardNext (accs : Accounts) (n i : ℕ) (o : ControlOrigin) (h : Head
   pub there : slice_get (sender_in accs n i o).given (length (accs n i).taken) ≡ Some letter
   pub number : o.ns ≡ length (accs n i).taken
   pub session : h.session ≡ letter.session
-  pub said : message_in (body_of h bytes) ≡ Ok letter.message
+  pub reads : IsReadAs letter.message (body_of h bytes)
   pub spelled : IsSpelled letter
   pub of : TakesOf accs n i o letter
 
@@ -287,7 +289,7 @@ module _ (classes : ClassIsTrue) (accs : Accounts) (n : ℕ) (e : End) (sender :
         there = subst (λ (p : ℕ). slice_get b.given p ≡ Some q.letter) number q.there;
         number = number;
         session = q.session;
-        said = q.said;
+        reads = q.reads;
         spelled = q.spelled;
         of = takes_of number q.letter q.there;
       }
@@ -372,7 +374,7 @@ pub record Said (accs : Accounts) (n : ℕ) (e : End) (sender : Option Sender) (
     (bytes : List ℕ) (session : ℕ) (m : Message) : Type 0 where
   pub heard : Heard accs n e sender ev comes i t h bytes
   pub next : HeardNext accs n i heard.o h bytes
-  pub message : next.letter.message ≡ m
+  pub message : AreAlike next.letter.message m
   pub session_is : next.letter.session ≡ session
 
 pub said_so : Codecs → ClassIsTrue → (accs : Accounts) (n : ℕ) (e : End) (sender : Option Sender) (ev : Event) (within : Within accs n e sender ev) (i : ℕ)
@@ -384,6 +386,9 @@ said_so codecs classes accs n e sender ev within i t there session m plain k =
     let from = heard_said codecs accs n e sender ev within i t there h bytes (heard_of ev t.control session m k) m plain k.hears.said in
     let next = next_heard classes accs n e sender ev within i t there h bytes from
     (letter_said codecs (sender_in accs n i from.o) from.o h bytes m from.read k.hears.said) k.next in
-    let was = next.said in
-    let is = k.hears.said in
-    record { heard = from; next = next; message = cc; session_is = sym next.session ∙ k.hears.session_is }
+    record {
+      heard = from;
+      next = next;
+      message = read_alike next.letter.message (body_of h bytes) next.reads m k.hears.said;
+      session_is = sym next.session ∙ k.hears.session_is;
+    }

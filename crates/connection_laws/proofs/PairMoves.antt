@@ -1,5 +1,5 @@
 -- The moves of a tunnel that takes a letter of the partner that it has learned keep what holds.
-use Rattle.std.proofs.Common.{◌≡◌, ◌⊎◌, inl, inr, ⊎_elim, ℕ, ◌+◌, ◌^◌, ◌<◌, true, List, [], ◌∷◌, refl, sym, ap, ◌∙◌, subst, append-nil, Option, Some, Ok, arith, ne_eqb}
+use Rattle.std.proofs.Common.{◌≡◌, ◌⊎◌, inl, inr, ⊎_elim, ℕ, ◌+◌, ◌^◌, ◌<◌, true, List, [], ◌∷◌, refl, sym, ap, ◌∙◌, subst, append-nil, Option, Some, Ok, arith, ne_eqb, None}
 use Rattle.std.proofs.lemmas.Bool.{ltb-true}
 use Rattle.std.specs.List.{AllByRecursion}
 use Rattle.id_table.specs.Ids.{at, put, without}
@@ -31,15 +31,20 @@ use Rattle.protocol_model.specs.Turn.{Tunnel, has_room, taken_place, in_state, c
 use Rattle.protocol_model.specs.End.{End}
 use Rattle.protocol_model.specs.World.{Sender, Deed}
 use Rattle.step_laws.specs.Letters.{Letter}
-use Rattle.step_laws.specs.Moves.{HearsNext, with_tunnel, with_letter}
+use Rattle.step_laws.specs.Moves.{HearsNext, with_tunnel, with_letter_as}
+use Rattle.l2tp_header.specs.declared.header.Header.{Header}
+use Rattle.protocol_model.specs.Reading.{body_of}
 use Rattle.frame_laws.specs.Codecs.{Codecs}
+use Rattle.frame_laws.specs.Plain.{AreAlike}
 use Rattle.connection_laws.specs.Facts.{Accounts, IsNoOpening, IsNoStop, IsStopCcn, IsSpelled, TellsOwn, Tells, LiveOk, Within}
 use Rattle.connection_laws.proofs.Keeps.{after, IsMoved}
 use Rattle.connection_laws.proofs.Puts.{IsOnly, EndPut}
 use Rattle.connection_laws.proofs.Later.{after_move, only_after}
 use Rattle.connection_laws.proofs.Written.{draw_is, next_is}
 use Rattle.connection_laws.proofs.Said.{no_stop_is}
-use Rattle.connection_laws.proofs.NextHeard.{said_so}
+use Rattle.connection_laws.proofs.Alike.{stop_alike, alike_back, same_alike, request_alike, read_written}
+use Rattle.connection_laws.proofs.Hearing.{Heard}
+use Rattle.connection_laws.proofs.NextHeard.{HeardNext, said_so}
 use Rattle.connection_laws.proofs.Acknowledging.{put_of}
 use Rattle.connection_laws.proofs.Taking.{with_taken, taken_as, takes_only, takes_and_gives, TakesOn, paired_if, pair_takes}
 
@@ -74,7 +79,7 @@ module _ (accs : Accounts) (n i : ℕ) (t : Tunnel) (live : LiveOk accs n i (acc
   }
 
   -- it is given a letter too
-  pub took_and_given : (l : Letter) → has_room t.control ≡ true → TakesOn t (with_letter l.session l.message (took t s calls)) (l ∷ [])
+  pub took_and_given : (l : Letter) → has_room t.control ≡ true → TakesOn t (with_letter_as l.session l.message l.hidden (took t s calls)) (l ∷ [])
   took_and_given l room =
       let lt = ltb-true t.control.channel.window.queued 8192 room in
       let out = live.outstanding in
@@ -116,36 +121,28 @@ asked_remote r remote moment = refl
 
 -- ---- what is heard
 
-module _ (codecs : Codecs) (classes : ClassIsTrue) (accs : Accounts) (n : ℕ) (e : End) (sender : Option Sender) (ev : Event)
-    (within : Within accs n e sender ev) (i : ℕ) (t : Tunnel) (there : at e.tunnels i ≡ Some t) (session : ℕ) (m : Message)
-    (k : HearsNext ev t.control session m) where
-  pub said_written : IsNoStop m → IsWritten m
-  said_written no_stop =
-      let s = said_so codecs classes accs n e sender ev within i t there session m no_stop k in
-      subst IsWritten s.message s.next.spelled.written
-
-  -- it is a letter of the partner that was learned
-  pub said_takes : (state_number t.control.state ≡ 1 → ⊥) → (state_number t.control.state ≡ 4 → ⊥) → IsNoStop m
-      → (ms : Accounts) (x : End) (u : Tunnel) (mv : Move) (place : Place) (more : List Letter)
-      → place ≡ taken_place t.control → ((l : Letter) → l.session ≡ session → l.message ≡ m → Tells l mv) → TakesOn t u more → IsOnly accs ms n i
-      → ms n i ≡ with_taken (taken_as sender place mv) more (accs n i) → AllByRecursion IsSpelled more
-      → AllByRecursion (λ (l : Letter). IsNoOpening l.message) more → AllByRecursion (λ (l : Letter). TellsOwn i l.message) more → EndPut e x i u
-      → Within ms n x sender ev
-  said_takes other unclosed no_stop ms x u mv place more taken tells goes only is spelled plain own put_is =
-      let s = said_so codecs classes accs n e sender ev within i t there session m no_stop k in
-      let pair = paired_if accs n i s.heard.o t s.next.letter (within.end.live i t there) unclosed (λ one. absurd (other one))
-      (λ stops. no_stop_is m no_stop (subst IsStopCcn s.message stops)) s.next.of in
-      pair_takes accs ms n e x sender ev i t u (taken_as sender place mv) more k.hears.header k.hears.bytes (record {
+-- the next letter of the partner that was learned is taken
+module _ (accs : Accounts) (n : ℕ) (e : End) (sender : Option Sender) (ev : Event) (within : Within accs n e sender ev) (i : ℕ) (t : Tunnel)
+    (there : at e.tunnels i ≡ Some t) (h : Header) (bytes : List ℕ) (heard : Heard accs n e sender ev within.comes i t h bytes)
+    (next : HeardNext accs n i heard.o h bytes) where
+  pub letter_takes : (state_number t.control.state ≡ 1 → ⊥) → (state_number t.control.state ≡ 4 → ⊥) → (IsStopCcn next.letter.message → ⊥)
+      → (ms : Accounts) (x : End) (u : Tunnel) (mv : Move) (place : Place) (more : List Letter) → place ≡ taken_place t.control
+      → Tells next.letter mv → TakesOn t u more → IsOnly accs ms n i → ms n i ≡ with_taken (taken_as sender place mv) more (accs n i)
+      → AllByRecursion IsSpelled more → AllByRecursion (λ (l : Letter). IsNoOpening l.message) more
+      → AllByRecursion (λ (l : Letter). TellsOwn i l.message) more → EndPut e x i u → Within ms n x sender ev
+  letter_takes other unclosed no_stop ms x u mv place more taken tells goes only is spelled plain own put_is =
+      let pair = paired_if accs n i heard.o t next.letter (within.end.live i t there) unclosed (λ one. absurd (other one)) no_stop next.of in
+      pair_takes accs ms n e x sender ev i t u (taken_as sender place mv) more h bytes (record {
         within = within;
         there = there;
         unclosed = unclosed;
-        heard = s.heard;
-        next = s.next;
+        heard = heard;
+        next = next;
         pair = pair.0;
         told = pair.1;
         number = ap (λ (p : Place). p.number) taken;
         sender_is = refl;
-        tells = tells s.next.letter s.session_is s.message;
+        tells = tells;
         goes = goes;
         only = only;
         is = is;
@@ -154,6 +151,27 @@ module _ (codecs : Codecs) (classes : ClassIsTrue) (accs : Accounts) (n : ℕ) (
         own = own;
         put_is = put_is;
       })
+
+module _ (codecs : Codecs) (classes : ClassIsTrue) (accs : Accounts) (n : ℕ) (e : End) (sender : Option Sender) (ev : Event)
+    (within : Within accs n e sender ev) (i : ℕ) (t : Tunnel) (there : at e.tunnels i ≡ Some t) (session : ℕ) (m : Message)
+    (k : HearsNext ev t.control session m) where
+  pub said_written : IsNoStop m → IsWritten m
+  said_written no_stop =
+      let s = said_so codecs classes accs n e sender ev within i t there session m no_stop k in
+      read_written s.next.letter.message (body_of k.hears.header k.hears.bytes) s.next.reads m k.hears.said
+
+  -- it is a letter of the partner that was learned
+  pub said_takes : (state_number t.control.state ≡ 1 → ⊥) → (state_number t.control.state ≡ 4 → ⊥) → IsNoStop m
+      → (ms : Accounts) (x : End) (u : Tunnel) (mv : Move) (place : Place) (more : List Letter)
+      → place ≡ taken_place t.control → ((l : Letter) → l.session ≡ session → AreAlike l.message m → Tells l mv) → TakesOn t u more → IsOnly accs ms n i
+      → ms n i ≡ with_taken (taken_as sender place mv) more (accs n i) → AllByRecursion IsSpelled more
+      → AllByRecursion (λ (l : Letter). IsNoOpening l.message) more → AllByRecursion (λ (l : Letter). TellsOwn i l.message) more → EndPut e x i u
+      → Within ms n x sender ev
+  said_takes other unclosed no_stop ms x u mv place more taken tells goes only is spelled plain own put_is =
+      let s = said_so codecs classes accs n e sender ev within i t there session m no_stop k in
+      letter_takes accs n e sender ev within i t there k.hears.header k.hears.bytes s.heard s.next other unclosed
+      (λ stops. no_stop_is m no_stop (stop_alike m s.next.letter.message (alike_back s.next.letter.message m s.message) stops))
+      ms x u mv place more taken (tells s.next.letter s.session_is s.message) goes only is spelled plain own put_is
 
 -- an open tunnel waits for no SCCRP, nor does one that waits for its SCCCN
 pub open_so : (t : Tunnel) → state_number t.control.state ≡ 3 → state_number t.control.state ≡ 1 → ⊥
@@ -201,7 +219,7 @@ module _ (codecs : Codecs) (classes : ClassIsTrue) (accs : Accounts) (n : ℕ) (
       said_takes codecs classes accs n e sender ev h.within m.tunnel t o.there o.hears.0 (Scccn o.response) o.hears.1
       (λ s. let is = o.state in let two = ap state_number is in let no : ⊥ = omega arith in no)
       (λ s. let is = o.state in let two = ap state_number is in let no : ⊥ = omega arith in no) tt
-      (after accs d) x u mv m.taken [] o.taken (λ l s says. (o.response, says))
+      (after accs d) x u mv m.taken [] o.taken (λ l s says. (o.response, same_alike l.message (Scccn o.response) says tt))
       (took_on accs n m.tunnel t live (h.counts m.tunnel t o.there) Established t.calls (record { remotes = live.calls; order = live.order }) (inl refl))
       (only_after accs d n mv tt h.deed.node_is h.deed.move_is tt)
       (after_move accs d n mv tt h.deed.node_is h.deed.move_is ∙ takes_only d n e.role sender mv m.taken (accs n m.tunnel) h.deed)
@@ -220,7 +238,7 @@ module _ (codecs : Codecs) (classes : ClassIsTrue) (accs : Accounts) (n : ℕ) (
       (λ l s says. (
         ⊎_elim (λ (is : o.hears.0 ≡ m.session). inl (s ∙ is)) (λ (none : o.hears.0 ≡ 0). inr (s ∙ none))
             (header_names t.calls o.hears.0 o.remote m.session o.hears.2),
-        (o.remote, o.code, o.error, says),
+        (o.remote, o.code, o.error, same_alike l.message (Cdn o.remote o.code o.error) says tt),
       ))
       (took_on accs n m.tunnel t live (h.counts m.tunnel t o.there) t.control.state (without t.calls m.session)
       (calls_without t.calls m.session (record { remotes = live.calls; order = live.order })) (inl o.open_is))
@@ -238,7 +256,7 @@ module _ (codecs : Codecs) (classes : ClassIsTrue) (accs : Accounts) (n : ℕ) (
       let u = took t t.control.state (put t.calls m.session call) in
       said_takes codecs classes accs n e sender ev h.within m.tunnel t o.there m.session (Iccn o.speed o.framing o.sequenced) o.hears
       (open_so t o.open_is) (unclosed_so t o.open_is) tt
-      (after accs d) x u mv m.taken [] o.taken (λ l s says. (s, (o.speed, o.framing, o.sequenced, says)))
+      (after accs d) x u mv m.taken [] o.taken (λ l s says. (s, (o.speed, o.framing, o.sequenced, same_alike l.message (Iccn o.speed o.framing o.sequenced) says tt)))
       (took_on accs n m.tunnel t live (h.counts m.tunnel t o.there) t.control.state (put t.calls m.session call)
       (calls_put t.calls m.session call (record { remotes = live.calls; order = live.order })
       (rw (advanced_remote e.role call_event.IccnAcc moment o.call) (live.calls m.session o.call o.made)))
@@ -256,18 +274,18 @@ module _ (codecs : Codecs) (classes : ClassIsTrue) (accs : Accounts) (n : ℕ) (
       let fits = (said_written codecs classes accs n e sender ev h.within m.tunnel t o.there m.session (Icrp m.remote) o.hears tt).0 in
       let call = advanced e.role call_event.IcrpAcc moment (record o.call { remote = m.remote }) in
       let calls = put t.calls m.session call in
-      let l : Letter = record { tunnel = m.tunnel; place = m.given; session = m.remote; message = connection } in
-      let u = with_letter l.session l.message (took t t.control.state calls) in
+      let l : Letter = record { tunnel = m.tunnel; place = m.given; session = m.remote; message = connection; hidden = None } in
+      let u = with_letter_as l.session l.message l.hidden (took t t.control.state calls) in
       said_takes codecs classes accs n e sender ev h.within m.tunnel t o.there m.session (Icrp m.remote) o.hears
       (open_so t o.open_is) (unclosed_so t o.open_is) tt
-      (after accs d) x u mv m.taken (l ∷ []) o.taken (λ l s says. (s, says))
+      (after accs d) x u mv m.taken (l ∷ []) o.taken (λ l s says. (s, same_alike l.message (Icrp m.remote) says tt))
       (took_and_given accs n m.tunnel t live (h.counts m.tunnel t o.there) t.control.state calls
       (calls_put t.calls m.session call (record { remotes = live.calls; order = live.order })
       (rw (advanced_remote e.role call_event.IcrpAcc moment (record o.call { remote = m.remote })) (omega arith)))
       (inl o.open_is) l o.room)
       (only_after accs d n mv tt h.deed.node_is h.deed.move_is tt)
       (after_move accs d n mv tt h.deed.node_is h.deed.move_is ∙ takes_and_gives d n e.role sender mv m.taken (accs n m.tunnel) h.deed)
-      (record { written = (omega arith, omega arith, refl); session = omega arith }, tt) (tt, tt) (tt, tt) (put_of e x _ m.tunnel u o.after)
+      (record { written = (omega arith, omega arith, refl); hides = tt; session = omega arith }, tt) (tt, tt) (tt, tt) (put_of e x _ m.tunnel u o.after)
 
   pub replied_keeps : (m : Replied) → IsMoved accs n e x sender moment ev (move.Replied m) d → Within (after accs d) n x sender ev
   replied_keeps m h =
@@ -283,14 +301,14 @@ module _ (codecs : Codecs) (classes : ClassIsTrue) (accs : Accounts) (n : ℕ) (
       let last = h.within.end.last_session in
       let call = asked_for e.role m.remote moment in
       let calls = put t.calls m.session call in
-      let l : Letter = record { tunnel = m.tunnel; place = m.given; session = m.remote; message = Icrp m.session } in
-      let u = with_letter l.session l.message (took t t.control.state calls) in
+      let l : Letter = record { tunnel = m.tunnel; place = m.given; session = m.remote; message = Icrp m.session; hidden = None } in
+      let u = with_letter_as l.session l.message l.hidden (took t t.control.state calls) in
       said_takes codecs classes accs n e sender ev h.within m.tunnel t o.there o.hears.0 (Icrq m.remote o.serial o.calling) o.hears.1
       (open_so t o.open_is) (unclosed_so t o.open_is) tt
-      (after accs d) x u mv m.taken (l ∷ []) o.taken (λ l s says. (o.serial, o.calling, says))
+      (after accs d) x u mv m.taken (l ∷ []) o.taken (λ l s says. let r = request_alike l.message m.remote o.serial o.calling says in (o.serial, r.calling, r.is))
       (took_and_given accs n m.tunnel t live (h.counts m.tunnel t o.there) t.control.state calls
       (calls_put t.calls m.session call (record { remotes = live.calls; order = live.order }) (rw (asked_remote e.role m.remote moment) (omega arith)))
       (inl o.open_is) l o.room)
       (only_after accs d n mv tt h.deed.node_is h.deed.move_is tt)
       (after_move accs d n mv tt h.deed.node_is h.deed.move_is ∙ takes_and_gives d n e.role sender mv m.taken (accs n m.tunnel) h.deed)
-      (record { written = (omega arith, omega arith); session = omega arith }, tt) (tt, tt) (tt, tt) (replied_put e x _ m.tunnel u m.session o.drawn o.after)
+      (record { written = (omega arith, omega arith); hides = tt; session = omega arith }, tt) (tt, tt) (tt, tt) (replied_put e x _ m.tunnel u m.session o.drawn o.after)

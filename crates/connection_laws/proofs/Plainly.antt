@@ -1,5 +1,5 @@
 -- A tunnel that takes a letter plainly, and one that is closed by it, keep what holds.
-use Rattle.std.proofs.Common.{◌≡◌, ◌⊎◌, inl, inr, ⊎_elim, ℕ, ◌≤◌, List, [], length, refl, ap, ◌∙◌, subst, Option, Some, Ok, arith}
+use Rattle.std.proofs.Common.{◌≡◌, ◌⊎◌, inl, inr, ⊎_elim, ℕ, ◌≤◌, List, [], length, refl, ap, ◌∙◌, subst, Option, Some, Ok, arith, sym}
 use Rattle.std.specs.Prelude.{unwrap_or}
 use Rattle.id_table.specs.Ids.{at}
 use Rattle.id_table.specs.Order.{same_or_not}
@@ -23,6 +23,7 @@ use Rattle.protocol_model.specs.End.{End}
 use Rattle.protocol_model.specs.World.{Sender, Deed}
 use Rattle.step_laws.specs.Moves.{ComesNext, SaysStop}
 use Rattle.frame_laws.specs.Codecs.{Codecs}
+use Rattle.frame_laws.specs.Plain.{IsReadAs}
 use Rattle.connection_laws.specs.Accounts.{Acceptor, Account}
 use Rattle.connection_laws.specs.Facts.{Accounts, IsStopCcn, IsLost, LiveOk, Comes, Within}
 use Rattle.connection_laws.specs.Steps.{StopLetter, StopOfNone, StopIsHeard}
@@ -36,7 +37,7 @@ use Rattle.connection_laws.proofs.Said.{opener_goes}
 use Rattle.connection_laws.proofs.Acknowledging.{put_of}
 use Rattle.connection_laws.proofs.Taking.{taken_as, takes_only, paired_if, pair_takes}
 use Rattle.connection_laws.proofs.PairMoves.{took, took_on}
-use Rattle.connection_laws.proofs.AnyHeard.{no_tunnel_fault}
+use Rattle.connection_laws.proofs.Alike.{IsNoRequest, read_plainly, read_same, read_sound}
 use Rattle.connection_laws.proofs.Ignoring.{IsDue, copy_due, refusal_due, ignores_only, ignores}
 
 -- ---- StopCCNs
@@ -64,14 +65,12 @@ stop_said (Iccn speed framing sequenced) s = absurd s
 stop_said (Cdn session code error) s = absurd s
 
 -- a letter that is one says so
-says_stop : (body : List ℕ) (m : Message) → message_in body ≡ Ok m → SaysStop body → IsStopCcn m
-says_stop body m said says = ⊎_elim
+says_stop : (body : List ℕ) (m : Message) → IsReadAs m body → SaysStop body → IsStopCcn m
+says_stop body m reads says = ⊎_elim
     (λ (k : (id : ℕ) × (result : ℕ) × (error : Option ℕ) × (message_in body ≡ Ok (StopCcn id result error))).
-    let is = k.3 in
-    let same : StopCcn k.0 k.1 k.2 ≡ m = cc in
-    subst IsStopCcn same tt)
+    subst IsStopCcn (sym (read_same m body reads (StopCcn k.0 k.1 k.2) k.3 tt)) tt)
     (λ (k : (g : TunnelFault) × (tunnel_fault_in body ≡ Some g) × (g.event ≡ event.StopCcnCame)).
-    let none = no_tunnel_fault body m said in
+    let none = read_sound m body reads in
     let fault = k.1 in
     let no : ⊥ = cc in absurd no)
     says
@@ -139,14 +138,20 @@ module _ (codecs : Codecs) (classes : ClassIsTrue) (accs : Accounts) (n : ℕ) (
 
     -- it is a letter of a list
     module _ (k : Came accs n e sender ev h.within.comes i t h.does.comes.header h.does.comes.bytes) where
+      -- what is no request is read as it is
+      read_as : (q : Message) → k.next.letter.message ≡ q → IsNoRequest q → message_in (body_of h.does.comes.header h.does.comes.bytes) ≡ Ok q
+      read_as q is plain =
+          read_plainly q (body_of h.does.comes.header h.does.comes.bytes)
+          (subst (λ (y : Message). IsReadAs y (body_of h.does.comes.header h.does.comes.bytes)) is k.next.reads) plain
+
       -- an open tunnel takes neither an SCCRP for which it waits so, nor a StopCCN
       no_reply : state_number t.control.state ≡ 1 → (opening : Opening) → k.next.letter.message ≡ Sccrp opening → ⊥
-      no_reply one opening says = h.does.why (Sccrp opening) (k.next.said ∙ ap (λ (y : Message). Ok y) says) one
+      no_reply one opening says = h.does.why (Sccrp opening) (read_as (Sccrp opening) says tt) one
 
       no_stop : (state_number t.control.state ≡ 4 → ⊥) → IsStopCcn k.next.letter.message → ⊥
       no_stop unclosed stops =
           let s = stop_said k.next.letter.message stops in
-          unclosed (closed_so t.control.state (h.does.why (StopCcn s.tunnel s.code s.error) (k.next.said ∙ ap (λ (y : Message). Ok y) s.is)))
+          unclosed (closed_so t.control.state (h.does.why (StopCcn s.tunnel s.code s.error) (read_as (StopCcn s.tunnel s.code s.error) s.is tt)))
 
       takes : (state_number t.control.state ≡ 4 → ⊥) → Within (after accs d) n x sender ev
       takes unclosed =
@@ -280,7 +285,7 @@ stop_is_heard codecs classes accs n e x sender moment ev within m c = ⊎_elim
           reaches = reaches;
           letter = k.next.letter;
           there = k.next.there;
-          stops = says_stop (body_of c.comes.header c.comes.bytes) k.next.letter.message k.next.said c.says;
+          stops = says_stop (body_of c.comes.header c.comes.bytes) k.next.letter.message k.next.reads c.says;
         }
 
         of_opener : a.part ≡ Acceptor → a.remote ≡ k.heard.o.tunnel → Sends b m.tunnel k.heard.o → StopLetter accs n m.tunnel sender

@@ -1,5 +1,5 @@
 -- One tunnel of an end is put, and all goes on to hold.
-use Rattle.std.proofs.Common.{◌≡◌, ◌⊎◌, inl, inr, ⊎_elim, ℕ, ◌<◌, sym, ◌∙◌, subst, Option, Some, arith}
+use Rattle.std.proofs.Common.{◌≡◌, ◌⊎◌, inl, inr, ⊎_elim, ℕ, ◌<◌, List, sym, ◌∙◌, subst, Option, Some, arith}
 use Rattle.id_table.specs.Ids.{at}
 use Rattle.id_table.specs.Order.{ascends-put, found_put, same_or_not}
 use Rattle.protocol_model.specs.declared.event.Event.{Event}
@@ -89,13 +89,13 @@ module _ (accs ms : Accounts) (n : ℕ) (e x : End) (sender : Option Sender) (ev
   }
 
   -- what the packet tells is near each tunnel still
-  near : (p : Packet) (o : Origin) → AreNear accs n e p o → NearAt ms n i t p o → AreNear ms n x p o
-  near p (origin.Control o) before here = λ j u b f.
+  near : (p : Packet) (bytes : List ℕ) (o : Origin) → AreNear accs n e p bytes o → NearAt ms n i t p bytes o → AreNear ms n x p bytes o
+  near p bytes (origin.Control o) before here = λ j u b f.
       ⊎_elim
       (λ (q : (j ≡ i) × (t ≡ u)). rw (q.0, ← q.1) (here b))
       (λ q. rw (as_before j q.0) (before j u b q.1))
       (found j u f)
-  near p (origin.Data session) before here = tt
+  near p bytes (origin.Data session) before here = tt
 
   comes : (v : Event) (c : Comes accs n e sender v) → ComesNear accs n e sender v c ms i t → Comes ms n x sender v
   comes (Datagram peer bytes) c here = record {
@@ -103,9 +103,10 @@ module _ (accs ms : Accounts) (n : ℕ) (e x : End) (sender : Option Sender) (ev
     ok = packet_later accs ms grown c.packet c.ok;
     to = c.to;
     peer_is = c.peer_is;
+    secret = c.secret;
     bytes_are = c.bytes_are;
     sender_is = c.sender_is;
-    near = near c.packet c.packet.origin c.near here;
+    near = near c.packet bytes c.packet.origin c.near here;
   }
   comes (Ring port) c here = tt
   comes (Payload s frame) c here = tt

@@ -39,14 +39,14 @@ StaysJoined ms n i =
     (ms n i).part ≡ Acceptor → (partner_in ms (ms n i)).remote ≡ i → AreJoined (partner_in ms (ms n i)) (ms n i)
 
 -- the numbers of the packet that comes are near those of the tunnel, if the packet is for it
-abbrev pub NearAt : Accounts → ℕ → ℕ → Tunnel → Packet → Origin → Type 0
-NearAt ms n i t p (origin.Control o) =
-    (h : Header) → t.control.peer ≡ address_of p.from → header_of p.bytes ≡ Ok h → IsFor h p.bytes t.control → IsNear (ms n i) t o
-NearAt ms n i t p (origin.Data session) = Unit {0}
+abbrev pub NearAt : Accounts → ℕ → ℕ → Tunnel → Packet → List ℕ → Origin → Type 0
+NearAt ms n i t p bytes (origin.Control o) =
+    (h : Header) → t.control.peer ≡ address_of p.from → header_of bytes ≡ Ok h → IsFor h bytes t.control → IsNear (ms n i) t o
+NearAt ms n i t p bytes (origin.Data session) = Unit {0}
 
 abbrev pub ComesNear : (accs : Accounts) (n : ℕ) (e : End) (sender : Option Sender) (ev : Event) → Comes accs n e sender ev
     → Accounts → ℕ → Tunnel → Type 0
-ComesNear accs n e sender (Datagram peer bytes) c ms i t = NearAt ms n i t c.packet c.packet.origin
+ComesNear accs n e sender (Datagram peer bytes) c ms i t = NearAt ms n i t c.packet bytes c.packet.origin
 ComesNear accs n e sender (Ring port) c ms i t = Unit {0}
 ComesNear accs n e sender (Payload s frame) c ms i t = Unit {0}
 ComesNear accs n e sender (Lower s frame) c ms i t = Unit {0}

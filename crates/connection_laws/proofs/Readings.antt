@@ -9,7 +9,7 @@ use Rattle.wire_base.specs.declared.why.Why.TheVariants as why
 use Rattle.l2tp_header.specs.declared.header.Header.{Header}
 use Rattle.l2tp_header.specs.declared.header.HeaderError.{HeaderError}
 use Rattle.l2tp_header.specs.Reading.{header_of}
-use Rattle.connection_laws.proofs.Plain.{packet_plain}
+use Rattle.protocol_model.specs.Secrets.{uncovered_datagram}
 use Rattle.protocol_model.specs.declared.event.Addressee.{Addressee}
 use Rattle.protocol_model.specs.declared.event.Addressee.TheVariants.{Opens, Stops, Answers, Main, Nobody}
 use Rattle.protocol_model.specs.declared.tunnel.Control.{Control}
@@ -175,12 +175,13 @@ record Fit (a : Account) (o : ControlOrigin) : Type 0 where
   nr : o.nr ≤ length a.given + 2
 
 module _ (codecs : Codecs) (accs : Accounts) (accounts : (m j : ℕ) → AccountOk accs m j (accs m j)) (n i : ℕ) (some : 0 < i) (p : Packet) (o : ControlOrigin)
-    (copy : IsCopy (accs p.from o.tunnel) p o) (to : p.to ≡ n) (h : Header) (read : header_of p.bytes ≡ Ok h) where
+    (copy : IsCopy (accs p.from o.tunnel) p o) (to : p.to ≡ n) (secret : Option (List ℕ)) (h : Header)
+    (read : header_of (uncovered_datagram secret p.bytes) ≡ Ok h) where
   abbrev from : Account
   from = accs p.from o.tunnel
 
   tells : HeaderTells o copy.tunnel h
-  tells = copy_tells codecs accs p.from o.tunnel from p o (accounts p.from o.tunnel) copy h read
+  tells = copy_tells codecs accs p.from o.tunnel from p o (accounts p.from o.tunnel) copy secret h read
 
   -- it names the tunnel
   fit_named : (h.tunnel ≡ 0 → ⊥) → h.tunnel ≡ i → Fit (accs n i) o
@@ -249,24 +250,22 @@ module _ (codecs : Codecs) (classes : ClassIsTrue) (r : Run) (holds : Holds r.wo
 
   packet_read : (p : Packet) → PacketOk known_accounts p → (o : ControlOrigin) → p.origin ≡ origin.Control o → (node : Node)
       → at r.world.nodes p.to ≡ Some node → (c : Control) → reached node.end (address_of p.from) p.bytes ≡ Some c → too_old o (Some c) ≡ None → IsRead c o
-  packet_read p ok o is node there c reached_it young = by (header_of p.bytes) refl
+  packet_read p ok o is node there c reached_it young = by (header_of bytes) refl
     where
-      -- as it is read
-      reach : reached_plain node.end (address_of p.from) p.bytes ≡ Some c
-      reach = ap (λ (bs : List ℕ). reached_plain node.end (address_of p.from) bs)
-          (sym (packet_plain codecs known_accounts holds.accounts p p.origin ok.sent node.end.config.secret)) ∙ reached_it
+      bytes : List ℕ
+      bytes = uncovered_datagram node.end.config.secret p.bytes
 
-      by : (x : Result Header HeaderError) → header_of p.bytes ≡ x → IsRead c o
-      by (Err x) read = absurd (unreached node.end (address_of p.from) p.bytes x c read reach)
+      by : (x : Result Header HeaderError) → header_of bytes ≡ x → IsRead c o
+      by (Err x) read = absurd (unreached node.end (address_of p.from) bytes x c read reached_it)
       by (Ok h) read =
-          let k = reach_of node.end (address_of p.from) p.bytes h c read reach in
+          let k = reach_of node.end (address_of p.from) bytes h c read reached_it in
           let sent : OriginOk known_accounts p (origin.Control o) = subst (λ (q : Origin). OriginOk known_accounts p q) is ok.sent in
           let end : EndOk known_accounts p.to node.end × AreKept node.end = subst (NodeOk known_accounts p.to) there (holds.nodes p.to) in
           let live = end.0.live k.id k.tunnel k.there in
           let some = (holds.accounts p.to k.id).some (live_made known_accounts p.to k.id (known_accounts p.to k.id) k.tunnel live) in
           let fit : Fit (known_accounts p.to k.id) o = ⊎_elim
           (λ (copy : IsCopy (known_accounts p.from o.tunnel) p o).
-          fits codecs known_accounts holds.accounts p.to k.id some p o copy refl h read (address_of p.from) k.tunnel k.named)
+          fits codecs known_accounts holds.accounts p.to k.id some p o copy refl node.end.config.secret h read (address_of p.from) k.tunnel k.named)
           (λ (r : IsRefusal known_accounts p o). refusal_fits known_accounts p.to k.id p o r)
           sent in
           let y = is_young o k.tunnel.control (subst (λ (q : Control). too_old o (Some q) ≡ None) k.same young) in

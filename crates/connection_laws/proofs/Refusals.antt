@@ -1,5 +1,5 @@
 -- What a StopCCN of no tunnel tells that declines an opening.
-use Rattle.std.proofs.Common.{◌≡◌, ℕ, ◌<◌, true, List, length, refl, Option, Ok, arith}
+use Rattle.std.proofs.Common.{◌≡◌, ℕ, ◌<◌, true, List, length, refl, sym, ap, ◌∙◌, subst, Option, Ok, arith}
 use Rattle.std.specs.Prelude.{unwrap_or}
 use Rattle.l2tp_header.specs.declared.header.Header.{Header}
 use Rattle.l2tp_header.specs.Again.{Carries, control_header}
@@ -13,7 +13,9 @@ use Rattle.recv_window.specs.Window.{on_wire}
 use Rattle.protocol_model.specs.declared.out.ControlOrigin.{ControlOrigin}
 use Rattle.protocol_model.specs.declared.packet.Packet.{Packet}
 use Rattle.protocol_model.specs.Reading.{body_of, message_in, pairs_read, message_read}
+use Rattle.protocol_model.specs.Secrets.{uncovered_datagram}
 use Rattle.frame_laws.specs.Codecs.{Codecs}
+use Rattle.frame_laws.specs.Plain.{IsReadAs, AsAMessage, letter_stays}
 use Rattle.connection_laws.specs.Facts.{Accounts, AccountOk, IsRefusal}
 use Rattle.connection_laws.proofs.Later.{opener_made}
 
@@ -31,6 +33,7 @@ pub record RefusalRead (tunnel : ℕ) (o : ControlOrigin) (h : Header) (bytes : 
   pub result : ℕ
   pub error : Option ℕ
   pub said : message_in (body_of h bytes) ≡ Ok (StopCcn 0 result error)
+  pub reads : IsReadAs (StopCcn 0 result error) (body_of h bytes)
   pub written : IsWritten (StopCcn 0 result error)
 
 module _ (codecs : Codecs) where
@@ -42,9 +45,16 @@ module _ (codecs : Codecs) where
   pub same_header : (bytes : List ℕ) (h k : Header) (body : List ℕ) → Carries bytes k body → header_of bytes ≡ Ok h → h ≡ k
   same_header bytes h k body c e = let r = c.reads in cc
 
-  pub refusal_read : (accs : Accounts) → ((m j : ℕ) → AccountOk accs m j (accs m j)) → (p : Packet) (o : ControlOrigin) → (r : IsRefusal accs p o)
+  -- whatever secret it is read with
+  pub refusal_plain : (accs : Accounts) → ((m j : ℕ) → AccountOk accs m j (accs m j)) → (p : Packet) (o : ControlOrigin) → (r : IsRefusal accs p o)
+      → (secret : Option (List ℕ)) → uncovered_datagram secret p.bytes ≡ p.bytes
+  refusal_plain accs all p o r secret =
+      let fits = (all p.to r.tunnel).id (opener_made (accs p.to r.tunnel) r.opener) in
+      rw r.are (letter_stays codecs secret r.tunnel 0 0 1 (StopCcn 0 r.result r.error) fits (omega arith) (omega arith) (omega arith) (omega arith, r.fit.0, r.fit.1))
+
+  read_as_written : (accs : Accounts) → ((m j : ℕ) → AccountOk accs m j (accs m j)) → (p : Packet) (o : ControlOrigin) → (r : IsRefusal accs p o)
       → (h : Header) → header_of p.bytes ≡ Ok h → RefusalRead r.tunnel o h p.bytes
-  refusal_read accs all p o r h e =
+  read_as_written accs all p o r h e =
       let fits = (all p.to r.tunnel).id (opener_made (accs p.to r.tunnel) r.opener) in
       let m = StopCcn 0 r.result r.error in
       let written : IsWritten m = (omega arith, r.fit.0, r.fit.1) in
@@ -61,5 +71,13 @@ module _ (codecs : Codecs) where
         result = r.result;
         error = r.error;
         said = rw c.bounds (message_again m written);
+        reads = rw c.bounds (AsAMessage (pairs_of m) m (codecs.message m written).0 (codecs.message m written).1 written refl);
         written = written;
       })
+
+  pub refusal_read : (accs : Accounts) → ((m j : ℕ) → AccountOk accs m j (accs m j)) → (p : Packet) (o : ControlOrigin) → (r : IsRefusal accs p o)
+      → (secret : Option (List ℕ)) (h : Header) → header_of (uncovered_datagram secret p.bytes) ≡ Ok h
+      → RefusalRead r.tunnel o h (uncovered_datagram secret p.bytes)
+  refusal_read accs all p o r secret h e =
+      let same = refusal_plain accs all p o r secret in
+      subst (λ (bs : List ℕ). RefusalRead r.tunnel o h bs) (sym same) (read_as_written accs all p o r h (ap header_of (sym same) ∙ e))

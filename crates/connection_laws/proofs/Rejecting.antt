@@ -1,5 +1,5 @@
 -- An opener takes the SCCRP of an acceptor of its SCCRQ, and rejects it: it learns its id, and is closed.
-use Rattle.std.proofs.Common.{◌⊎◌, Ok, ◌≡◌, inl, inr, ⊎_elim, ℕ, ◌+◌, ◌<◌, ◌≤◌, true, List, [], ◌∷◌, ◌++◌, map, drop, length, refl, sym, ap, ap₂, ◌∙◌, subst, Option, Some, arith}
+use Rattle.std.proofs.Common.{◌⊎◌, Ok, ◌≡◌, inl, inr, ⊎_elim, ℕ, ◌+◌, ◌<◌, ◌≤◌, true, List, [], ◌∷◌, ◌++◌, map, drop, length, refl, sym, ap, ap₂, ◌∙◌, subst, Option, Some, arith, None}
 use Rattle.std.proofs.lemmas.Bool.{ltb-true}
 use Rattle.std.proofs.lemmas.Option.{none-some, slice_get_within}
 use Rattle.std.proofs.lemmas.List.{length-append, map-append, drop-append-le}
@@ -42,6 +42,7 @@ use Rattle.connection_laws.proofs.Connecting.{IsFirst, first_if}
 use Rattle.connection_laws.proofs.Closing.{stop_behind}
 use Rattle.connection_laws.proofs.Plainly.{Came, CameRefusal, came}
 use Rattle.connection_laws.proofs.AnyHeard.{none_is_faulty_in_tunnel}
+use Rattle.connection_laws.proofs.Alike.{IsNoRequest, read_same}
 
 module _ (codecs : Codecs) (classes : ClassIsTrue) (accs : Accounts) (n : ℕ) (e x : End) (sender : Option Sender) (moment : ℕ) (ev : Event) (d : Deed)
     (m : Rejected) (h : IsMoved accs n e x sender moment ev (move.Rejected m) d) where
@@ -59,7 +60,7 @@ module _ (codecs : Codecs) (classes : ClassIsTrue) (accs : Accounts) (n : ℕ) (
 
   -- the StopCCN
   abbrev last : Letter
-  last = record { tunnel = m.tunnel; place = m.given; session = 0; message = StopCcn m.tunnel m.result m.error }
+  last = record { tunnel = m.tunnel; place = m.given; session = 0; message = StopCcn m.tunnel m.result m.error; hidden = None }
 
   abbrev tk : Taken
   tk = taken_as sender m.taken (move.Rejected m)
@@ -152,10 +153,14 @@ module _ (codecs : Codecs) (classes : ClassIsTrue) (accs : Accounts) (n : ℕ) (
   -- the letter is the acceptor's first, which is an SCCRP
   message : says_so.0 ≡ Sccrp first.opening
   message =
-      let so = says_so.2 in
-      let is = said.next.said in
-      let says = first.says in
-      cc
+      let plain : IsNoRequest says_so.0 = ⊎_elim
+      (λ (q : (opening : Opening) × (says_so.0 ≡ Sccrp opening) × (m.remote ≡ opening.tunnel)). subst IsNoRequest (sym q.1) tt)
+      (λ rest. ⊎_elim
+      (λ (q : (opening : Opening) × (says_so.0 ≡ Sccrq opening)). subst IsNoRequest (sym q.1) tt)
+      (λ (q : (response : Option (List ℕ)) × (says_so.0 ≡ Scccn response)). subst IsNoRequest (sym q.1) tt)
+      rest)
+      says_so.1 in
+      sym (read_same said.next.letter.message (body_of header bytes) said.next.reads says_so.0 says_so.2 plain) ∙ first.says
 
   told : m.remote ≡ o.tunnel
   told = ⊎_elim
@@ -298,7 +303,7 @@ module _ (codecs : Codecs) (classes : ClassIsTrue) (accs : Accounts) (n : ℕ) (
     node = ok.node;
     peer = ok.peer;
     remote = (let fits = (h.within.accounts a.peer o.tunnel).id said.heard.made in let same = told in omega arith);
-    spelled = all_append IsSpelled a.given (last ∷ []) ok.spelled (record { written = (ok.id made, codes.0, codes.1); session = omega arith }, tt);
+    spelled = all_append IsSpelled a.given (last ∷ []) ok.spelled (record { written = (ok.id made, codes.0, codes.1); hides = tt; session = omega arith }, tt);
     told = all_append (λ (l : Letter). TellsOwn i l.message) a.given (last ∷ []) ok.told (refl, tt);
     taken = taken;
     ignored = ignored;

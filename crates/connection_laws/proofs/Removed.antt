@@ -35,9 +35,9 @@ module _ (accs : Accounts) (n : ℕ) (e : End) (sender : Option Sender) (ev : Ev
     apart = λ j k t u f g. within.end.apart j k t u (found_without e.tunnels i j t within.end.order f).1 (found_without e.tunnels i k u within.end.order g).1;
   }
 
-  near : (p : Packet) (o : Origin) → AreNear accs n e p o → AreNear accs n left p o
-  near p (origin.Control o) h = λ j t b f. h j t b (found_without e.tunnels i j t within.end.order f).1
-  near p (origin.Data session) h = tt
+  near : (p : Packet) (bytes : List ℕ) (o : Origin) → AreNear accs n e p bytes o → AreNear accs n left p bytes o
+  near p bytes (origin.Control o) h = λ j t b f. h j t b (found_without e.tunnels i j t within.end.order f).1
+  near p bytes (origin.Data session) h = tt
 
   comes : (v : Event) → Comes accs n e sender v → Comes accs n left sender v
   comes (Datagram peer bytes) c = record {
@@ -45,9 +45,10 @@ module _ (accs : Accounts) (n : ℕ) (e : End) (sender : Option Sender) (ev : Ev
     ok = c.ok;
     to = c.to;
     peer_is = c.peer_is;
+    secret = c.secret;
     bytes_are = c.bytes_are;
     sender_is = c.sender_is;
-    near = near c.packet c.packet.origin c.near;
+    near = near c.packet bytes c.packet.origin c.near;
   }
   comes (Ring port) c = tt
   comes (Payload s frame) c = tt

@@ -12,10 +12,12 @@ use Rattle.protocol_model.specs.End.{End}
 use Rattle.protocol_model.specs.World.{Sender}
 use Rattle.step_laws.specs.Letters.{Letter}
 use Rattle.frame_laws.specs.Codecs.{Codecs}
+use Rattle.frame_laws.specs.Plain.{AreAlike}
 use Rattle.connection_laws.specs.Accounts.{Acceptor, Account}
 use Rattle.connection_laws.specs.Facts.{Accounts, IsNoStop, IsStopCcn, AccountOk, Within}
 use Rattle.connection_laws.specs.Steps.{NextLetter, NextIsHeard, PlainIsHeard}
 use Rattle.connection_laws.proofs.Hearing.{sender_in, Sends, Chosen, Asks, Leaves, Linked, FromOpener, FromAcceptor, acceptor_of, Heard, HeardRefusal, heard, heard_next, letter_some}
+use Rattle.connection_laws.proofs.Alike.{no_stop_alike}
 use Rattle.connection_laws.proofs.NextHeard.{HeardNext, next_heard, said_so}
 
 -- the sender of the next letter goes to this node, and has learned this tunnel
@@ -66,9 +68,9 @@ learned_by accs n i o all number l there plain (FromAcceptor here part remote pe
 
 next_letter : (accs : Accounts) (n : ℕ) (e : End) (sender : Option Sender) (ev : Event) (within : Within accs n e sender ev) (i : ℕ) (t : Tunnel) (h : Header)
     (bytes : List ℕ) (from : Heard accs n e sender ev within.comes i t h bytes) (next : HeardNext accs n i from.o h bytes) (session : ℕ) (m : Message)
-    → next.letter.session ≡ session → next.letter.message ≡ m → IsNoStop m → NextLetter accs n i sender session m
+    → next.letter.session ≡ session → AreAlike next.letter.message m → IsNoStop m → NextLetter accs n i sender session m
 next_letter accs n e sender ev within i t h bytes from next session m same says plain =
-    let k = learned_by accs n i from.o within.accounts next.number next.letter next.there (subst IsNoStop (sym says) plain) from.linked in
+    let k = learned_by accs n i from.o within.accounts next.number next.letter next.there (no_stop_alike next.letter.message m says plain) from.linked in
     record {
       from = record { node = (accs n i).peer; tunnel = from.o.tunnel };
       sender_is = from.sender_is;
@@ -94,10 +96,10 @@ plain_is_heard codecs classes accs n e sender ev within i t there live k =
     let next = next_heard classes accs n e sender ev within i t there k.header k.bytes from read k.next in
     record {
       message = next.letter.message;
-      said = next.said;
+      reads = next.reads;
       next = λ plain. next_letter accs n e sender ev within i t k.header k.bytes from next k.header.session next.letter.message (sym next.session) refl plain;
     })
     -- one of no tunnel stops this one
     (λ (from : HeardRefusal accs n e sender ev within.comes i t k.header k.bytes).
-    record { message = StopCcn 0 from.read.result from.read.error; said = from.read.said; next = λ plain. absurd plain })
+    record { message = StopCcn 0 from.read.result from.read.error; reads = from.read.reads; next = λ plain. absurd plain })
     (heard codecs accs n e sender ev within i t there k.header k.bytes (heard_next ev t.control k))

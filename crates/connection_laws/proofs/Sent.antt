@@ -15,7 +15,8 @@ use Rattle.protocol_model.specs.declared.out.Origin.TheVariants as origin
 use Rattle.protocol_model.specs.declared.out.ControlOrigin.{ControlOrigin}
 use Rattle.protocol_model.specs.declared.packet.Packet.{Packet}
 use Rattle.protocol_model.specs.Names.{node_of}
-use Rattle.protocol_model.specs.Turn.{Tunnel}
+use Rattle.control_message.specs.declared.message.Message.{Message}
+use Rattle.protocol_model.specs.Turn.{Tunnel, letter_as}
 use Rattle.protocol_model.specs.End.{End}
 use Rattle.protocol_model.specs.World.{Sender}
 use Rattle.step_laws.specs.Letters.{Letter, letter_at, Carries}
@@ -57,6 +58,11 @@ none_learned accs n i a Opener ok made z = ⊎_elim
     (λ (k : IsLost a × (length a.taken ≤ 2)). inl k.0)
     (ok.none z)
 none_learned accs n i a Acceptor ok made z = absurd (ok.known z)
+
+-- a letter is kept with its session
+kept_session : (session : ℕ) (m : Message) (hidden : Option (List ℕ)) → (letter_as session m hidden).session ≡ session
+kept_session session m None = refl
+kept_session session m (Some pairs) = refl
 
 -- an acceptor has learned its opener
 opener_only : (accs : Accounts) (n i : ℕ) (a : Account) (q : Part) → IsPart accs n i a q → (q ≡ Unmade → ⊥) → a.remote ≡ 0 → q ≡ Opener
@@ -132,8 +138,11 @@ module _ (ms : Accounts) (n : ℕ) (x : End) (sender : Option Sender) (ev : Even
     carries_ok moves o (carries.ALetter l number lt is origin_is are) =
         let k = is_letter number l lt is in
         let c : ControlOrigin = record { tunnel = t.control.local; epoch = 0; ns = number; nr = t.control.channel.inbox.taken; empty = false } in
-        packet_of o c refl origin_is (copy o c refl (ALetter k.letter refl k.there (are ∙ ap (λ (q : wire.Letter).
-        control_bytes t.control.remote q.session (on_wire number) (on_wire t.control.channel.inbox.taken) q.avps) k.same)))
+        let nr = on_wire t.control.channel.inbox.taken in
+        packet_of o c refl origin_is (copy o c refl (ALetter k.letter refl k.there (are
+        ∙ ap (λ (q : wire.Letter). control_bytes t.control.remote q.session (on_wire number) nr q.avps) k.same
+        ∙ ap (λ (q : ℕ). control_bytes t.control.remote q (on_wire number) nr (kept_letter k.letter).avps)
+        (kept_session k.letter.session k.letter.message k.letter.hidden))))
     carries_ok moves o (carries.Nothing number origin_is are) =
         let c : ControlOrigin = record { tunnel = t.control.local; epoch = 0; ns = number; nr = t.control.channel.inbox.taken; empty = true } in
         packet_of o c refl origin_is (copy o c refl (Nothing refl are))

@@ -8,7 +8,6 @@ use Rattle.control_message.specs.declared.message.Message.{Message}
 use Rattle.control_message.specs.declared.message.Message.TheVariants.{Sccrq, StopCcn}
 use Rattle.control_message.specs.declared.message.Opening.{Opening}
 use Rattle.control_message.specs.Pairs.{IsWritten}
-use Rattle.connection_laws.proofs.Plain.{packet_plain}
 use Rattle.protocol_model.specs.declared.out.Origin.{Origin}
 use Rattle.protocol_model.specs.declared.out.Origin.TheVariants as origin
 use Rattle.protocol_model.specs.declared.out.ControlOrigin.{ControlOrigin}
@@ -18,6 +17,7 @@ use Rattle.protocol_model.specs.declared.tunnel.Control.{Control}
 use Rattle.protocol_model.specs.Names.{address_of}
 use Rattle.protocol_model.specs.declared.event.Addressee.TheVariants.{Opens, Stops}
 use Rattle.protocol_model.specs.Reading.{body_of, at_zero}
+use Rattle.protocol_model.specs.Secrets.{uncovered_datagram}
 use Rattle.protocol_model.specs.Turn.{Tunnel}
 use Rattle.protocol_model.specs.End.{End, reached_plain}
 use Rattle.protocol_model.specs.World.{Node, outlives, too_old, refused_by, sender_of}
@@ -27,6 +27,7 @@ use Rattle.frame_laws.specs.Codecs.{Codecs}
 use Rattle.connection_laws.specs.Accounts.{Account}
 use Rattle.connection_laws.specs.Facts.{Accounts, AccountOk, LiveOk, EndOk, IsCopy, IsRefusal, OriginOk, PacketOk, AreNear, IsPacket}
 use Rattle.connection_laws.proofs.Later.{live_made}
+use Rattle.connection_laws.proofs.Alike.{read_opens, read_stops}
 use Rattle.connection_laws.proofs.Told.{copy_tells}
 use Rattle.connection_laws.proofs.Stops.{stops_by, no_stop}
 use Rattle.connection_laws.proofs.Refusals.{refusal_read}
@@ -64,80 +65,95 @@ is_young o c h =
 written_opens : (m : Message) (x : Opening) → m ≡ Sccrq x → IsWritten m → x.tunnel ≡ 0 → ⊥
 written_opens m x is w z = let k = subst IsWritten is w in let lt = k.0.tunnel_not_zero in absurd (omega arith)
 
-module _ (codecs : Codecs) (accs : Accounts) (accounts : (m j : ℕ) → AccountOk accs m j (accs m j)) (n : ℕ) (e : End) (ok : EndOk accs n e) (p : Packet) where
+module _ (codecs : Codecs) (accs : Accounts) (accounts : (m j : ℕ) → AccountOk accs m j (accs m j)) (n : ℕ) (e : End) (ok : EndOk accs n e) (p : Packet)
+    (secret : Option (List ℕ)) where
+  -- the packet as it is read
+  abbrev bytes : List ℕ
+  bytes = uncovered_datagram secret p.bytes
+
   -- an SCCRQ tells an id
-  opens_some : (o : ControlOrigin) → IsCopy (accs p.from o.tunnel) p o → (h : Header) → header_of p.bytes ≡ Ok h
-      → (r : ℕ) → at_zero (body_of h p.bytes) ≡ Opens r → r ≡ 0 → ⊥
+  opens_some : (o : ControlOrigin) → IsCopy (accs p.from o.tunnel) p o → (h : Header) → header_of bytes ≡ Ok h
+      → (r : ℕ) → at_zero (body_of h bytes) ≡ Opens r → r ≡ 0 → ⊥
   opens_some o c h read r opens z =
       let b = accs p.from o.tunnel in
       let ok_there = accounts p.from o.tunnel in
       ⊎_elim
-      (λ (q : IsLetterRead b o h p.bytes).
-      let asks = opens_said (body_of h p.bytes) q.letter.message r opens q.said in
+      (λ (q : IsLetterRead b o h bytes).
+      let asks = read_opens q.letter.message (body_of h bytes) q.reads r opens in
       written_opens q.letter.message asks.0 asks.1 q.spelled.written (sym asks.2 ∙ z))
-      (λ (q : IsNoneRead o h p.bytes). empty_opens_none r (let s = opens in rw q.body at s))
-      (copy_read codecs b p o h ok_there.remote ok_there.spelled c read).says
+      (λ (q : IsNoneRead o h bytes). empty_opens_none r (let s = opens in rw q.body at s))
+      (copy_read codecs b p o secret h ok_there.remote ok_there.spelled c read).says
 
   -- so does a StopCCN that tells one
-  stops_some : (o : ControlOrigin) → IsCopy (accs p.from o.tunnel) p o → (h : Header) → header_of p.bytes ≡ Ok h
-      → (r : ℕ) → at_zero (body_of h p.bytes) ≡ Stops r → r ≡ 0 → ⊥
+  stops_some : (o : ControlOrigin) → IsCopy (accs p.from o.tunnel) p o → (h : Header) → header_of bytes ≡ Ok h
+      → (r : ℕ) → at_zero (body_of h bytes) ≡ Stops r → r ≡ 0 → ⊥
   stops_some o c h read r stops =
       let b = accs p.from o.tunnel in
       let ok_there = accounts p.from o.tunnel in
       ⊎_elim
-      (λ (q : IsLetterRead b o h p.bytes). (stops_by (body_of h p.bytes) q.letter.message r q.said stops).some)
-      (λ (q : IsNoneRead o h p.bytes). absurd (no_stop codecs r (let s = stops in rw q.body at s)))
-      (copy_read codecs b p o h ok_there.remote ok_there.spelled c read).says
+      (λ (q : IsLetterRead b o h bytes). (read_stops q.letter.message (body_of h bytes) q.reads r stops).some)
+      (λ (q : IsNoneRead o h bytes). absurd (no_stop codecs r (let s = stops in rw q.body at s)))
+      (copy_read codecs b p o secret h ok_there.remote ok_there.spelled c read).says
 
   -- the tunnel that a copy is for is the one that it reaches
   pub copy_reaches : (o : ControlOrigin) → IsCopy (accs p.from o.tunnel) p o → (i : ℕ) (t : Tunnel) (h : Header) → at e.tunnels i ≡ Some t
-      → t.control.peer ≡ address_of p.from → header_of p.bytes ≡ Ok h → IsFor h p.bytes t.control → reached_plain e (address_of p.from) p.bytes ≡ Some t.control
+      → t.control.peer ≡ address_of p.from → header_of bytes ≡ Ok h → IsFor h bytes t.control → reached_plain e (address_of p.from) bytes ≡ Some t.control
   copy_reaches o c i t h there peer read is =
-      let tells = copy_tells codecs accs p.from o.tunnel (accs p.from o.tunnel) p o (accounts p.from o.tunnel) c h read in
-      subst (λ q. reached_plain e q p.bytes ≡ Some t.control) peer
-      (is_reached accs n e ok i t there (live_some accs n i (accs n i) t (accounts n i) (ok.live i t there)) p.bytes h read tells.control
+      let tells = copy_tells codecs accs p.from o.tunnel (accs p.from o.tunnel) p o (accounts p.from o.tunnel) c secret h read in
+      subst (λ q. reached_plain e q bytes ≡ Some t.control) peer
+      (is_reached accs n e ok i t there (live_some accs n i (accs n i) t (accounts n i) (ok.live i t there)) bytes h read tells.control
       (opens_some o c h read) (stops_some o c h read) is)
 
   -- so is the one that a StopCCN of no tunnel is for
   refusal_reaches : (o : ControlOrigin) → IsRefusal accs p o → (i : ℕ) (t : Tunnel) (h : Header) → at e.tunnels i ≡ Some t
-      → t.control.peer ≡ address_of p.from → header_of p.bytes ≡ Ok h → IsFor h p.bytes t.control → reached_plain e (address_of p.from) p.bytes ≡ Some t.control
+      → t.control.peer ≡ address_of p.from → header_of bytes ≡ Ok h → IsFor h bytes t.control → reached_plain e (address_of p.from) bytes ≡ Some t.control
   refusal_reaches o r i t h there peer read is =
-      let k = refusal_read codecs accs accounts p o r h read in
-      subst (λ q. reached_plain e q p.bytes ≡ Some t.control) peer
-      (is_reached accs n e ok i t there (live_some accs n i (accs n i) t (accounts n i) (ok.live i t there)) p.bytes h read k.control
-      (λ q opens z. (let asks = (opens_said (body_of h p.bytes) (StopCcn 0 k.result k.error) q opens k.said).1 in let no : ⊥ = cc in no))
-      (λ q stops. (stops_by (body_of h p.bytes) (StopCcn 0 k.result k.error) q k.said stops).some) is)
+      let k = refusal_read codecs accs accounts p o r secret h read in
+      subst (λ q. reached_plain e q bytes ≡ Some t.control) peer
+      (is_reached accs n e ok i t there (live_some accs n i (accs n i) t (accounts n i) (ok.live i t there)) bytes h read k.control
+      (λ q opens z. (let asks = (opens_said (body_of h bytes) (StopCcn 0 k.result k.error) q opens k.said).1 in let no : ⊥ = cc in no))
+      (λ q stops. (stops_by (body_of h bytes) (StopCcn 0 k.result k.error) q k.said stops).some) is)
 
   near_of : (o : ControlOrigin)
-      → ((i : ℕ) (t : Tunnel) (h : Header) → at e.tunnels i ≡ Some t → t.control.peer ≡ address_of p.from → header_of p.bytes ≡ Ok h
-      → IsFor h p.bytes t.control → reached_plain e (address_of p.from) p.bytes ≡ Some t.control)
-      → too_old o (reached_plain e (address_of p.from) p.bytes) ≡ None → AreNear accs n e p (origin.Control o)
+      → ((i : ℕ) (t : Tunnel) (h : Header) → at e.tunnels i ≡ Some t → t.control.peer ≡ address_of p.from → header_of bytes ≡ Ok h
+      → IsFor h bytes t.control → reached_plain e (address_of p.from) bytes ≡ Some t.control)
+      → too_old o (reached_plain e (address_of p.from) bytes) ≡ None → AreNear accs n e p bytes (origin.Control o)
   near_of o reaches young i t h there peer read is =
       let y = is_young o t.control (rw (reaches i t h there peer read is) at young) in
       let taken = (ok.live i t there).taken in
       let le = y.taken in
       record { taken = omega arith; acked = y.acked }
 
-  pub near_all : (node : Node) → node.end ≡ e → (q : Origin) → OriginOk accs p q → refused_by p node q ≡ None → AreNear accs n e p q
-  unfolding refused_by
-  near_all node same (origin.Control o) c h =
-      let bytes = packet_plain codecs accs accounts p (origin.Control o) c e.config.secret in
-      let young : too_old o (reached_plain e (address_of p.from) p.bytes) ≡ None =
-      ap (λ (bs : List ℕ). too_old o (reached_plain e (address_of p.from) bs)) (sym bytes) ∙ (rw same at h) in
+  near_all : (q : Origin) → OriginOk accs p q → ((o : ControlOrigin) → q ≡ origin.Control o → too_old o (reached_plain e (address_of p.from) bytes) ≡ None)
+      → AreNear accs n e p bytes q
+  near_all (origin.Control o) c young =
       ⊎_elim
-      (λ (k : IsCopy (accs p.from o.tunnel) p o). near_of o (copy_reaches o k) young)
-      (λ (k : IsRefusal accs p o). near_of o (refusal_reaches o k) young)
+      (λ (k : IsCopy (accs p.from o.tunnel) p o). near_of o (copy_reaches o k) (young o refl))
+      (λ (k : IsRefusal accs p o). near_of o (refusal_reaches o k) (young o refl))
       c
-  near_all node same (origin.Data session) c h = tt
+  near_all (origin.Data session) c young = tt
 
-  pub is_packet : (node : Node) → node.end ≡ e → PacketOk accs p → p.to ≡ n → refused_by p node p.origin ≡ None
-      → IsPacket accs n e (sender_of p.from p.origin) (address_of p.from) p.bytes
-  is_packet node same sent to young = record {
+-- a packet that isn't refused, as its node reads it
+module _ (codecs : Codecs) (accs : Accounts) (accounts : (m j : ℕ) → AccountOk accs m j (accs m j)) (n : ℕ) (node : Node) (ok : EndOk accs n node.end)
+    (p : Packet) where
+  abbrev own : Option (List ℕ)
+  own = node.end.config.secret
+
+  not_too_old : (q : Origin) → refused_by p node q ≡ None → (o : ControlOrigin) → q ≡ origin.Control o
+      → too_old o (reached_plain node.end (address_of p.from) (uncovered_datagram own p.bytes)) ≡ None
+  unfolding refused_by
+  not_too_old (origin.Control c) young o is = let same : c ≡ o = cc in subst (λ (y : ControlOrigin). too_old y (reached_plain node.end (address_of p.from) (uncovered_datagram own p.bytes)) ≡ None) same young
+  not_too_old (origin.Data session) young o is = absurd cc
+
+  pub is_packet : PacketOk accs p → p.to ≡ n → refused_by p node p.origin ≡ None
+      → IsPacket accs n node.end (sender_of p.from p.origin) (address_of p.from) (uncovered_datagram own p.bytes)
+  is_packet sent to young = record {
     packet = p;
     ok = sent;
     to = to;
     peer_is = refl;
+    secret = own;
     bytes_are = refl;
     sender_is = refl;
-    near = near_all node same p.origin sent.sent young;
+    near = near_all codecs accs accounts n node.end ok p own p.origin sent.sent (not_too_old p.origin young);
   }

@@ -1,5 +1,5 @@
 -- Accounts that stay, but that SCCRQs are declined now: what is known goes on to hold.
-use Rattle.std.proofs.Common.{◌≡◌, ◌⊎◌, inl, inr, ⊎_elim, ℕ, ◌+◌, ◌<◌, ◌≤◌, Bool, true, false, cond, length, refl, sym, ap, ◌∙◌, subst, append-nil, [], Option, Some, eq-eqb}
+use Rattle.std.proofs.Common.{◌≡◌, ◌⊎◌, inl, inr, ⊎_elim, ℕ, ◌+◌, ◌<◌, ◌≤◌, Bool, true, false, cond, List, length, refl, sym, ap, ◌∙◌, subst, append-nil, [], Option, Some, eq-eqb}
 use Rattle.std.proofs.lemmas.Bool.{eqb-true}
 use Rattle.std.specs.Prelude.{◌==◌, ◌&&◌}
 use Rattle.id_table.specs.Ids.{at}
@@ -209,11 +209,12 @@ unknown_stays a b s none =
 
 -- ---- what holds between two moves
 
-near_stays : (accs ms : Accounts) → AllStay accs ms → (n : ℕ) (e : End) (p : Packet) (o : Origin) → AreNear accs n e p o → AreNear ms n e p o
-near_stays accs ms all n e p (origin.Control o) before = λ i t h there peer read is.
+near_stays : (accs ms : Accounts) → AllStay accs ms → (n : ℕ) (e : End) (p : Packet) (bytes : List ℕ) (o : Origin) → AreNear accs n e p bytes o
+    → AreNear ms n e p bytes o
+near_stays accs ms all n e p bytes (origin.Control o) before = λ i t h there peer read is.
     let k = before i t h there peer read is in
     record { taken = subst (λ (y : Account). length y.taken ≤ o.ns + 32768) (sym (all n i).is) k.taken; acked = k.acked }
-near_stays accs ms all n e p (origin.Data session) before = tt
+near_stays accs ms all n e p bytes (origin.Data session) before = tt
 
 comes_stays : (accs ms : Accounts) → AllStay accs ms → (n : ℕ) (e : End) (sender : Option Sender) (v : Event) → Comes accs n e sender v
     → Comes ms n e sender v
@@ -222,9 +223,10 @@ comes_stays accs ms all n e sender (Datagram peer bytes) c = record {
   ok = packet_later accs ms (all_stay_extend accs ms all) c.packet c.ok;
   to = c.to;
   peer_is = c.peer_is;
+  secret = c.secret;
   bytes_are = c.bytes_are;
   sender_is = c.sender_is;
-  near = near_stays accs ms all n e c.packet c.packet.origin c.near;
+  near = near_stays accs ms all n e c.packet bytes c.packet.origin c.near;
 }
 comes_stays accs ms all n e sender (Ring port) c = tt
 comes_stays accs ms all n e sender (Payload s frame) c = tt

@@ -1,5 +1,5 @@
 -- A tunnel takes the next letter of its partner, may be given letters, and goes on.
-use Rattle.std.proofs.Common.{None, ◌≡◌, ◌⊎◌, inl, inr, ⊎_elim, ℕ, zero, suc, ◌+◌, ◌<◌, ◌≤◌, List, [], ◌∷◌, ◌++◌, map, drop, length, refl, sym, ap, ap₂, ◌∙◌, subst, append-nil, Option, Some, arith, ne_eqb}
+use Rattle.std.proofs.Common.{None, ◌≡◌, ◌⊎◌, inl, inr, ⊎_elim, ℕ, zero, suc, ◌+◌, ◌<◌, ◌≤◌, List, [], ◌∷◌, ◌++◌, map, drop, length, refl, sym, ap, ap₂, ◌∙◌, subst, append-nil, Option, Some, arith, ne_eqb, false}
 use Rattle.std.proofs.lemmas.List.{length-append, map-append, drop-append-le}
 use Rattle.std.proofs.lemmas.Option.{slice_get_within}
 use Rattle.std.specs.Prelude.{slice_get}
@@ -73,7 +73,7 @@ pub takes_only : (d : Deed) (n : ℕ) (role : Role) (sender : Option Sender) (m 
 takes_only d n role sender m place a deed = rw (deed.sender_is, deed.move_is, append-nil) refl
 
 pub takes_and_gives : (d : Deed) (n : ℕ) (role : Role) (sender : Option Sender) (m : Move) (place : Place) (a : Account) → IsDeed d n role sender m
-    → gives_also d (takes_at d place a) ≡ with_taken (taken_as sender place m) (letters_of role (config_of n 0 None) m) a
+    → gives_also d (takes_at d place a) ≡ with_taken (taken_as sender place m) (letters_of role (config_of n 0 None false) m) a
 takes_and_gives d n role sender m place a deed = rw (deed.sender_is, deed.move_is, deed.role_is, deed.node_is) refl
 
 -- ---- what goes on

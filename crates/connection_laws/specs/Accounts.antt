@@ -74,7 +74,7 @@ about (move.FrameUp m) = m.tunnel
 
 -- the letters that a deed gives
 abbrev pub gives : Deed → List Letter
-gives d = letters_of d.role (config_of d.node 0 None) d.move
+gives d = letters_of d.role (config_of d.node 0 None false) d.move
 
 abbrev pub takes_at : Deed → Place → Account → Account
 takes_at d place a = record a { taken = a.taken ++ (record { sender = d.sender; number = place.number; move = d.move }) ∷ [] }

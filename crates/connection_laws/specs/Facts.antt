@@ -26,13 +26,15 @@ use Rattle.protocol_model.specs.declared.tunnel.Call.{Call}
 use Rattle.protocol_model.specs.declared.tunnel.Role.TheVariants.{Lac}
 use Rattle.call_fsm.specs.declared.table.CallState.TheVariants.{WaitTunnel}
 use Rattle.protocol_model.specs.Names.{address_of}
-use Rattle.protocol_model.specs.Turn.{Tunnel, letter_of}
+use Rattle.protocol_model.specs.Secrets.{uncovered_datagram}
+use Rattle.protocol_model.specs.Turn.{Tunnel, letter_as}
 use Rattle.protocol_model.specs.End.{End}
 use Rattle.protocol_model.specs.World.{World, Node, Sender, sender_of}
 use Rattle.step_laws.specs.Letters.{Letter}
 use Rattle.step_laws.specs.Moves.{IsFor}
 use Rattle.step_laws.specs.Steps.{AreKept}
 use Rattle.step_laws.specs.Codes.{CodesFit}
+use Rattle.frame_laws.specs.Plain.{HidesOk}
 use Rattle.connection_laws.specs.Accounts.{Part, Unmade, Opener, Acceptor, Taken, Account, no_account, heeded, partner_of}
 
 -- what is known of each tunnel of each node, by the node and the local id
@@ -91,9 +93,10 @@ IsStopCcn (Icrp session) = ⊥
 IsStopCcn (Iccn speed framing sequenced) = ⊥
 IsStopCcn (Cdn session code error) = ⊥
 
--- the letter is spelled, and read again
+-- the letter is spelled, with its number hidden where it is a request that hides it
 pub record IsSpelled (l : Letter) : Type 0 where
   pub written : IsWritten l.message
+  pub hides : HidesOk l.message l.hidden
   pub session : l.session < 65536
 
 -- the first letter is this message, which tells the tunnel's id, and no other one opens or accepts a tunnel
@@ -248,7 +251,7 @@ pub record AccountOk (accs : Accounts) (n i : ℕ) (a : Account) : Type 0 where
 
 -- the letter as a channel keeps it
 abbrev pub kept_letter : Letter → wire.Letter
-kept_letter l = letter_of l.session l.message
+kept_letter l = letter_as l.session l.message l.hidden
 
 -- an acceptor of the tunnel's SCCRQ took so many of its letters
 pub record IsAnswered (accs : Accounts) (n i : ℕ) (a : Account) (acked : ℕ) : Type 0 where
@@ -330,7 +333,7 @@ pub record EndOk (accs : Accounts) (n : ℕ) (e : End) : Type 0 where
 -- the bytes of a control message: of the letter at its number, or of none
 pub data Says (a : Account) (o : ControlOrigin) (tunnel : ℕ) (bytes : List ℕ) : Type 0 where
   ALetter : (l : Letter) → o.empty ≡ false → slice_get a.given o.ns ≡ Some l
-      → bytes ≡ control_bytes tunnel l.session (on_wire o.ns) (on_wire o.nr) (spelling (pairs_of l.message)) → Says a o tunnel bytes
+      → bytes ≡ control_bytes tunnel l.session (on_wire o.ns) (on_wire o.nr) (kept_letter l).avps → Says a o tunnel bytes
   Nothing : o.empty ≡ true → bytes ≡ control_bytes tunnel 0 (on_wire o.ns) (on_wire o.nr) [] → Says a o tunnel bytes
 
 -- a control message is a copy of a letter, with its number, or of none; it tells no more taken than was; it goes to the node
@@ -385,21 +388,22 @@ pub record IsNear (a : Account) (t : Tunnel) (o : ControlOrigin) : Type 0 where
   pub taken : length a.taken ≤ o.ns + 32768
   pub acked : t.control.channel.window.acked ≤ o.nr + 32767
 
-abbrev pub AreNear : Accounts → ℕ → End → Packet → Origin → Type 0
-AreNear accs n e p (origin.Control o) =
-    (i : ℕ) (t : Tunnel) (h : Header) → at e.tunnels i ≡ Some t → t.control.peer ≡ address_of p.from → header_of p.bytes ≡ Ok h
-    → IsFor h p.bytes t.control → IsNear (accs n i) t o
-AreNear accs n e p (origin.Data session) = Unit {0}
+abbrev pub AreNear : Accounts → ℕ → End → Packet → List ℕ → Origin → Type 0
+AreNear accs n e p bytes (origin.Control o) =
+    (i : ℕ) (t : Tunnel) (h : Header) → at e.tunnels i ≡ Some t → t.control.peer ≡ address_of p.from → header_of bytes ≡ Ok h
+    → IsFor h bytes t.control → IsNear (accs n i) t o
+AreNear accs n e p bytes (origin.Data session) = Unit {0}
 
--- the datagram of a step is a packet
+-- the datagram of a step is a packet, as the end reads it with some secret, or with none
 pub record IsPacket (accs : Accounts) (n : ℕ) (e : End) (sender : Option Sender) (peer : ℕ) (bytes : List ℕ) : Type 0 where
   pub packet : Packet
   pub ok : PacketOk accs packet
   pub to : packet.to ≡ n
   pub peer_is : peer ≡ address_of packet.from
-  pub bytes_are : bytes ≡ packet.bytes
+  pub secret : Option (List ℕ)
+  pub bytes_are : bytes ≡ uncovered_datagram secret packet.bytes
   pub sender_is : sender ≡ sender_of packet.from packet.origin
-  pub near : AreNear accs n e packet packet.origin
+  pub near : AreNear accs n e packet bytes packet.origin
 
 abbrev pub Comes : Accounts → ℕ → End → Option Sender → Event → Type 0
 Comes accs n e sender (Datagram peer bytes) = IsPacket accs n e sender peer bytes

@@ -1,5 +1,5 @@
 -- The moves of a step, each made where all of it holds; and what a line does.
-use Rattle.std.specs.Prelude.{◌≡◌, ◌⊎◌, ℕ, ◌+◌, ◌^◌, ◌<◌, ◌≤◌, true, false, List, [], ◌∷◌, map, length, slice_get, Option, Some, None, option_map, Ok}
+use Rattle.std.specs.Prelude.{◌≡◌, ◌⊎◌, ℕ, ◌+◌, ◌^◌, ◌<◌, ◌≤◌, Bool, true, false, List, [], ◌∷◌, map, length, slice_get, Option, Some, None, option_map, Ok}
 use Rattle.id_table.specs.Ids.{at, put}
 use Rattle.control_message.specs.declared.message.Message.{Message}
 use Rattle.control_message.specs.declared.message.Message.TheVariants.{Sccrq, Sccrp}
@@ -21,6 +21,7 @@ use Rattle.protocol_model.specs.World.{World, Node, Sender, Deed, Lined, birth_o
 use Rattle.protocol_model.specs.Run.{Run, empty_run, after_line}
 use Rattle.step_laws.specs.Letters.{Letter}
 use Rattle.step_laws.specs.Moves.{Does, Hears, HearsNext, ComesNext, InTunnel, IsFaulty, IsFaultyInTunnel, Closes, ClosesBy, Declines}
+use Rattle.frame_laws.specs.Plain.{AreAlike, IsReadAs, number_fault}
 use Rattle.connection_laws.specs.Accounts.{Opener, account_of, after_deed}
 use Rattle.connection_laws.specs.Facts.{Accounts, IsNoOpening, IsNoStop, IsStopCcn, Within, Holds}
 
@@ -64,7 +65,8 @@ MovesWithin accs n e sender moment ev deed (m ∷ ms) x =
 
 -- ---- the letter that is heard
 
--- the next letter that a live tunnel hears, which isn't closed, is the next one of the list of its sender, which has learned this tunnel
+-- the next letter that a live tunnel hears, which isn't closed, is the next one of the list of its sender, which has learned this tunnel;
+-- a request may be heard with another Calling Number than the letter's, where its number is hidden by another secret than this end's
 pub record NextLetter (accs : Accounts) (n i : ℕ) (sender : Option Sender) (session : ℕ) (m : Message) : Type 0 where
   pub from : Sender
   pub sender_is : sender ≡ Some from
@@ -74,17 +76,17 @@ pub record NextLetter (accs : Accounts) (n i : ℕ) (sender : Option Sender) (se
   pub letter : Letter
   pub there : slice_get (accs from.node from.tunnel).given (length (accs n i).taken) ≡ Some letter
   pub session_is : letter.session ≡ session
-  pub message_is : letter.message ≡ m
+  pub message_is : AreAlike letter.message m
 
 abbrev pub NextIsHeard : Type 0
 NextIsHeard = (accs : Accounts) (n : ℕ) (e : End) (sender : Option Sender) (ev : Event) → Within accs n e sender ev
     → (i : ℕ) (t : Tunnel) → at e.tunnels i ≡ Some t → is_closed t.control.state ≡ false → (session : ℕ) (m : Message) → IsNoStop m
     → HearsNext ev t.control session m → NextLetter accs n i sender session m
 
--- one that is taken plainly
+-- one that comes next, and as what it is read
 pub record PlainLetter (accs : Accounts) (n i : ℕ) (sender : Option Sender) (ev : Event) (t : Tunnel) (k : ComesNext ev t.control) : Type 0 where
   pub message : Message
-  pub said : message_in (body_of k.header k.bytes) ≡ Ok message
+  pub reads : IsReadAs message (body_of k.header k.bytes)
   pub next : IsNoStop message → NextLetter accs n i sender k.header.session message
 
 abbrev pub PlainIsHeard : Type 0
@@ -149,17 +151,19 @@ pub record HeardLetter (accs : Accounts) (n i : ℕ) (sender : Option Sender) (s
   pub letter : Letter
   pub there : slice_get (accs from.node from.tunnel).given number ≡ Some letter
   pub session_is : letter.session ≡ session
-  pub message_is : letter.message ≡ m
+  pub message_is : AreAlike letter.message m
 
 abbrev pub LettersAreHeard : Type 0
 LettersAreHeard = (accs : Accounts) (n : ℕ) (e : End) (sender : Option Sender) (ev : Event) → Within accs n e sender ev
     → (i : ℕ) (t : Tunnel) → at e.tunnels i ≡ Some t → (session : ℕ) (m : Message) → IsNoOpening m → IsNoStop m → InTunnel ev t.control session m
     → HeardLetter accs n i sender session m
 
--- no message about a call has a fault, nor any other
-abbrev pub NoneIsFaulty : Type 0
-NoneIsFaulty = (accs : Accounts) (n : ℕ) (e : End) (sender : Option Sender) (ev : Event) → Within accs n e sender ev
-    → (c : Control) (session : ℕ) (f : CallFault) → IsFaulty ev c session f → ⊥
+-- a message about a call that has a fault is a request whose number can't be had
+abbrev pub FaultsAreOfRequests : Type 0
+FaultsAreOfRequests = (accs : Accounts) (n : ℕ) (e : End) (sender : Option Sender) (ev : Event) → Within accs n e sender ev
+    → (c : Control) (session : ℕ) (f : CallFault) → IsFaulty ev c session f → (own : ℕ) × (f ≡ number_fault own)
+
+-- no other message has a fault
 
 abbrev pub NoneIsFaultyInTunnel : Type 0
 NoneIsFaultyInTunnel = (accs : Accounts) (n : ℕ) (e : End) (sender : Option Sender) (ev : Event) → Within accs n e sender ev
@@ -204,8 +208,8 @@ pub record LineSteps (w : World) (accs : Accounts) (number : ℕ) (x : Lined) : 
 -- what a line does with the nodes: nothing, one more node, or a step of one
 pub data LineDoes (w : World) (accs : Accounts) (number : ℕ) (x : Lined) : Type 0 where
   Nothing : x.done ≡ [] → x.world.nodes ≡ w.nodes → BirthsStay w x.world → LineDoes w accs number x
-  ANode : (n : ℕ) (role : Role) (lns : ℕ) (secret : Option (List ℕ)) → n < 256 → at w.nodes n ≡ None → x.done ≡ []
-      → x.world.nodes ≡ put w.nodes n (record { end = new_end role (config_of n lns secret); clock = 0; births = [] }) → BirthsStay w x.world
+  ANode : (n : ℕ) (role : Role) (lns : ℕ) (secret : Option (List ℕ)) (hide : Bool) → n < 256 → at w.nodes n ≡ None → x.done ≡ []
+      → x.world.nodes ≡ put w.nodes n (record { end = new_end role (config_of n lns secret hide); clock = 0; births = [] }) → BirthsStay w x.world
       → LineDoes w accs number x
   AStep : LineSteps w accs number x → LineDoes w accs number x
 

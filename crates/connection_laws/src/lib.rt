@@ -6,7 +6,7 @@ ghost use Rattle.frame_laws.specs.Codecs.{Codecs};
 ghost use Rattle.step_laws.specs.Steps.{StepsAreChains};
 ghost use Rattle.step_laws.specs.Ups.{ReadsAreFew};
 ghost use Rattle.connection_laws.specs.Channels.{AcksOfRuns, HoldsInRuns, LettersOfRuns, NumbersOfRuns};
-ghost use Rattle.connection_laws.specs.Steps.{ClosingsAreKnown, DeclinesAreOfOpenings, LettersAreHeard, LinesGoOn, MovesKeep, NextIsHeard, NoneIsFaulty, NoneIsFaultyInTunnel, OpeningsAreAcceptable, PlainIsHeard, RunsBegin, StopIsHeard};
+ghost use Rattle.connection_laws.specs.Steps.{ClosingsAreKnown, DeclinesAreOfOpenings, LettersAreHeard, LinesGoOn, MovesKeep, NextIsHeard, FaultsAreOfRequests, NoneIsFaultyInTunnel, OpeningsAreAcceptable, PlainIsHeard, RunsBegin, StopIsHeard};
 ghost use Rattle.recv_window.specs.Window.{ClassIsTrue};
 
 /// The laws that are used.
@@ -44,7 +44,7 @@ pub fn steps_keep()
     ensures known { ClosingsAreKnown }
     ensures openings { DeclinesAreOfOpenings }
     ensures acceptable { OpeningsAreAcceptable }
-    ensures sound { NoneIsFaulty }
+    ensures faulty { FaultsAreOfRequests }
     ensures sound_in_tunnel { NoneIsFaultyInTunnel }
     ensures lines { LinesGoOn }
     ensures begins { RunsBegin }

@@ -17,3 +17,4 @@ pub mod Room
 pub mod Vectors
 pub mod Plain
 pub mod WithVector
+pub mod HiddenRequests

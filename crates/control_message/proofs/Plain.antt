@@ -116,7 +116,7 @@ by_within (Ok said) plain v h = let le = part_within said (drop 2 plain) v h in 
 of_within : (plain v : List ℕ) → value_of plain ≡ Ok v → length v ≤ length plain
 of_within plain v h = by_within (number_at 2 plain 0) plain v h
 
-within : (attribute : ℕ) (secret vector cipher v : List ℕ) → unhidden attribute secret vector cipher ≡ Ok v → length v ≤ length cipher
+pub within : (attribute : ℕ) (secret vector cipher v : List ℕ) → unhidden attribute secret vector cipher ≡ Ok v → length v ≤ length cipher
 within attribute secret vector cipher v h =
     subst (λ (n : ℕ). length v ≤ n) (length-text_of _ secret (first_mask attribute secret vector) cipher (length-md5 _)) (of_within _ v h)
 

@@ -51,7 +51,7 @@ length-hidden attribute secret vector v n =
 
 -- ---- a request with a hidden number
 
-abbrev cipher_of : List ℕ → List ℕ → List ℕ → List ℕ
+abbrev pub cipher_of : List ℕ → List ℕ → List ℕ → List ℕ
 cipher_of s v n = hidden 22 s v n (padding_of n)
 
 -- a number that is written hidden
@@ -91,7 +91,7 @@ icrq_read : (v n : List ℕ) (session serial : ℕ) → session < 2 ^ 16 → ser
 unfolding icrq_at u16_at u32_at u16_bytes u32_bytes
 icrq_read v n session serial lt le = rw (short_again session lt, long_again serial le) refl
 
-icrq_again : (v n : List ℕ) (session serial : ℕ) → session < 2 ^ 16 → serial < 2 ^ 32
+pub icrq_again : (v n : List ℕ) (session serial : ℕ) → session < 2 ^ 16 → serial < 2 ^ 32
     → message_of (plain_pairs_with v (Icrq session serial (Some n))) ≡ Ok (Known (Icrq session serial (Some n)))
 unfolding message_of u16_bytes
 icrq_again v n session serial lt le = rw (icrq_checked v n session serial, icrq_read v n session serial lt le) refl

@@ -5,3 +5,4 @@ pub mod Walk
 pub mod Grammar
 pub mod Faults
 pub mod Uncovering
+pub mod HiddenRequests

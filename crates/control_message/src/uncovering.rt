@@ -12,6 +12,7 @@ ghost use Rattle.control_message.specs.declared.message.Message.{Message};
 ghost use Rattle.control_message.specs.declared.message.Read.TheVariants.{Known};
 ghost use Rattle.control_message.specs.Reading.{message_of};
 ghost use Rattle.control_message.specs.Pairs.{pairs_of, pairs_with, plain_pairs_with, IsWrittenWith};
+ghost use Rattle.control_message.specs.HiddenRequests.{HiddenRequestsAreRead};
 ghost use Rattle.control_message.specs.Uncovering.{may_be_uncovered, uncovered_pair, vector_after, uncovered_all, uncovered, NoneIsHidden, IsUncovered, UncoversBehind, Uncovers, IsVectorBehind};
 
 use crate::attribute::{MESSAGE_TYPE, RANDOM_VECTOR};
@@ -181,4 +182,12 @@ pub fn spells_what_was_uncovered()
         avps_of (spelling (uncovered k avps)) ≡ Ok (uncovered k avps) }
 {
     avp_codec::reads_what_was_written();
+}
+
+/// A law: a request whose Calling Number is hidden is, to an end with whatever secret or none, the request for that
+/// session with some number, or with one that can't be had (RFC 2661 section 4.3).
+pub fn hidden_requests_are_read()
+    ensures { HiddenRequestsAreRead }
+{
+    tunnel_secret::unhides_what_was_hidden();
 }

@@ -1,5 +1,5 @@
 -- What the bytes of a datagram that an end sends are read as.
-use Rattle.std.proofs.Common.{◌≡◌, ◌⊎◌, ⊎_elim, ℕ, ◌<◌, ◌≤◌, Bool, true, false, cond, List, [], length, refl, sym, ap, ◌∙◌, Some, None, Ok, arith}
+use Rattle.std.proofs.Common.{◌≡◌, ◌⊎◌, ⊎_elim, ℕ, ◌<◌, ◌≤◌, Bool, true, false, cond, List, [], length, refl, sym, ap, ◌∙◌, subst, Option, Some, None, Ok, arith}
 use Rattle.std.proofs.lemmas.Bool.{true≢false}
 use Rattle.std.specs.Prelude.{◌==◌}
 use Rattle.wire_base.specs.declared.why.Why.TheVariants as why
@@ -19,28 +19,55 @@ use Rattle.recv_window.specs.Window.{on_wire}
 use Rattle.tunnel_fsm.specs.declared.table.TunnelEvent.TheVariants as event
 use Rattle.protocol_model.specs.declared.event.Addressee.{Addressee}
 use Rattle.protocol_model.specs.declared.event.Addressee.TheVariants.{Opens, Stops, Answers, Nobody}
-use Rattle.protocol_model.specs.Reading.{body_of, message_in, pairs_read, message_read, call_fault_in, fault_of_pairs, TunnelFault, tunnel_fault_in, tunnel_fault_of_pairs, closing, at_zero, zero_pairs, zero_read}
+use Rattle.protocol_model.specs.Channels.{letter_as}
+use Rattle.protocol_model.specs.Reading.{body_of, message_in, pairs_read, message_read, CallFault, call_fault_in, fault_of_pairs, TunnelFault, tunnel_fault_in, tunnel_fault_of_pairs, closing, at_zero, zero_pairs, zero_read}
 use Rattle.frame_laws.specs.Codecs.{Codecs}
-use Rattle.frame_laws.specs.Plain.{stays_plain, letter_stays, frame_stays}
+use Rattle.frame_laws.specs.Plain.{HidesOk, without_number, AreAlike, IsReadAs, AsAMessage, AsAFault, message_there, no_fault_there, no_tunnel_fault_there, zero_there, number_fault, no_message_there, fault_there, for_its_call, for_no_tunnel, stays_plain, letter_uncovered, frame_stays}
 use Rattle.frame_laws.specs.Past.{Passage}
-use Rattle.frame_laws.proofs.Facts.{Nodes, BytesOk, WasSentInCall, NamesItsCall}
+use Rattle.frame_laws.proofs.Facts.{Nodes, ReadOk, BytesOk, WasSentInCall, NamesItsCall}
+
+-- a request with another number names the same call
+names_alike : (nodes : Nodes) (from to session : ℕ) (m x : Message) → AreAlike m x → NamesItsCall nodes from to session m
+    → NamesItsCall nodes from to session x
+names_alike nodes from to session m x alike names =
+    names_without nodes from to session x (subst (NamesItsCall nodes from to session) alike (names_with nodes from to session m names))
+  where
+    names_with : (nodes : Nodes) (from to session : ℕ) (m : Message) → NamesItsCall nodes from to session m
+        → NamesItsCall nodes from to session (without_number m)
+    names_with nodes from to session (Icrq own serial calling) names = names
+    names_with nodes from to session (Sccrq o) names = names
+    names_with nodes from to session (Sccrp o) names = names
+    names_with nodes from to session (Scccn response) names = names
+    names_with nodes from to session (StopCcn tunnel code error) names = names
+    names_with nodes from to session Hello names = names
+    names_with nodes from to session (Ocrq own) names = names
+    names_with nodes from to session Ocrp names = names
+    names_with nodes from to session Occn names = names
+    names_with nodes from to session (Icrp own) names = names
+    names_with nodes from to session (Iccn speed framing sequenced) names = names
+    names_with nodes from to session (Cdn own code error) names = names
+    names_with nodes from to session Wen names = names
+    names_with nodes from to session Sli names = names
+
+    names_without : (nodes : Nodes) (from to session : ℕ) (m : Message) → NamesItsCall nodes from to session (without_number m)
+        → NamesItsCall nodes from to session m
+    names_without nodes from to session (Icrq own serial calling) names = names
+    names_without nodes from to session (Sccrq o) names = names
+    names_without nodes from to session (Sccrp o) names = names
+    names_without nodes from to session (Scccn response) names = names
+    names_without nodes from to session (StopCcn tunnel code error) names = names
+    names_without nodes from to session Hello names = names
+    names_without nodes from to session (Ocrq own) names = names
+    names_without nodes from to session Ocrp names = names
+    names_without nodes from to session Occn names = names
+    names_without nodes from to session (Icrp own) names = names
+    names_without nodes from to session (Iccn speed framing sequenced) names = names
+    names_without nodes from to session (Cdn own code error) names = names
+    names_without nodes from to session Wen names = names
+    names_without nodes from to session Sli names = names
 
 module _ (codecs : Codecs) where
-  -- the message that was written
-  message_again : (m : Message) → IsWritten m → message_in (spelling (pairs_of m)) ≡ Ok m
-  unfolding message_in pairs_read message_read
-  message_again m w = let both = codecs.message m w in rw (both.0, both.1) refl
-
-  -- no fault is found in it
-  no_fault_again : (m : Message) → IsWritten m → call_fault_in (spelling (pairs_of m)) ≡ None
-  unfolding call_fault_in fault_of_pairs
-  no_fault_again m w = let both = codecs.message m w in rw (both.0, both.1) refl
-
-  no_tunnel_fault_again : (m : Message) → IsWritten m → tunnel_fault_in (spelling (pairs_of m)) ≡ None
-  unfolding tunnel_fault_in tunnel_fault_of_pairs
-  no_tunnel_fault_again m w = let both = codecs.message m w in rw (both.0, both.1) refl
-
-  -- nor in no pairs
+  -- no fault is found in no pairs
   no_fault : call_fault_in [] ≡ None
   unfolding call_fault_in fault_of_pairs message_of kind_of_pairs
   no_fault = let none = codecs.pairs [] tt in rw none refl
@@ -54,10 +81,6 @@ module _ (codecs : Codecs) where
   no_id g h = let none = no_pairs in let same : closing event.AdminClose cause.Avp 0 ≡ g = cc in rw (← same) (omega arith)
 
   -- where it comes to no tunnel, the id that it tells has 16 bits
-  zero_again : (m : Message) → IsWritten m → at_zero (spelling (pairs_of m)) ≡ zero_read (pairs_of m) (Ok (Known m))
-  unfolding at_zero zero_pairs
-  zero_again m w = let both = codecs.message m w in rw (both.0, both.1) refl
-
   abbrev TellsId : Addressee → ℕ → Type 0
   TellsId a i = (a ≡ Opens i) ⊎ (a ≡ Answers i)
 
@@ -114,50 +137,92 @@ module _ (codecs : Codecs) where
         let same = same_header bytes h (control_header tunnel session (on_wire ns) (on_wire nr) (length pairs)) pairs c e in
         rw same (record { control = refl; session_is = refl; body = c.bounds })
 
-    pub letter_ok : (nodes : Nodes) (gs : List Passage) (from to : ℕ) (m : Message) → IsWritten m → NamesItsCall nodes from to session m
-        → BytesOk nodes gs from to (control_bytes tunnel session (on_wire ns) (on_wire nr) (spelling (pairs_of m)))
-    letter_ok nodes gs from to m w names =
+    -- as a message is read, or a request whose number can't be had
+    read_ok : (nodes : Nodes) (gs : List Passage) (from to : ℕ) (m : Message) (body : List ℕ) → length body ≤ 65523 → IsReadAs m body
+        → NamesItsCall nodes from to session m → ReadOk nodes gs from to (control_bytes tunnel session (on_wire ns) (on_wire nr) body)
+    read_ok nodes gs from to m body few (AsAMessage avps x pairs reads written alike) names =
         record {
-          frames = λ h e c. absurd (true≢false (sym (control_read (spelling (pairs_of m)) h (codecs.room m w) e).control ∙ c));
-          letters = λ h e c x r.
-              let k = control_read (spelling (pairs_of m)) h (codecs.room m w) e in
-              let g : message_in (spelling (pairs_of m)) ≡ Ok x = rw (← k.body) r in
-              let same : m ≡ x = let again = message_again m w in cc in
-              rw (← same) (w, rw k.session_is names);
-          sound = λ h e c. rw (control_read (spelling (pairs_of m)) h (codecs.room m w) e).body (no_fault_again m w);
+          frames = λ h e c. absurd (true≢false (sym (control_read body h few e).control ∙ c));
+          letters = λ h e c y r.
+              let k = control_read body h few e in
+              let g : message_in body ≡ Ok y = rw (← k.body) r in
+              let same : x ≡ y = let again = message_there body avps x pairs reads in cc in
+              rw (← same) (written, rw k.session_is (names_alike nodes from to session m x alike names));
+          faulty = λ h e c f r.
+              let none = no_fault_there body avps x pairs reads in
+              let some : call_fault_in body ≡ Some f = rw (← (control_read body h few e).body) r in
+              absurd cc;
           told = λ h e c g f.
-              let none = no_tunnel_fault_again m w in
-              let some : tunnel_fault_in (spelling (pairs_of m)) ≡ Some g = rw (← (control_read (spelling (pairs_of m)) h (codecs.room m w) e).body) f in
+              let none = no_tunnel_fault_there body avps x pairs reads in
+              let some : tunnel_fault_in body ≡ Some g = rw (← (control_read body h few e).body) f in
               absurd cc;
           zero = λ h e c i t.
-              let body = (control_read (spelling (pairs_of m)) h (codecs.room m w) e).body in
-              let here : TellsId (at_zero (spelling (pairs_of m))) i = rw (← body) t in
-              zero_fits m (pairs_of m) w i (rw (← zero_again m w) here);
-          plain = λ secret. letter_stays codecs secret tunnel session (on_wire ns) (on_wire nr) m t s_fits (omega arith) (omega arith) w;
+              let body_is = (control_read body h few e).body in
+              let here : TellsId (at_zero body) i = rw (← body_is) t in
+              zero_fits x avps written i (rw (← zero_there body avps x pairs reads) here);
+        }
+    read_ok nodes gs from to m body few (AsAFault avps own serial number is small pairs fault kind_is told_is) names =
+        record {
+          frames = λ h e c. absurd (true≢false (sym (control_read body h few e).control ∙ c));
+          letters = λ h e c y r.
+              let none = no_message_there body avps own pairs fault kind_is told_is in
+              let g : message_in body ≡ Ok y = rw (← (control_read body h few e).body) r in
+              absurd cc;
+          faulty = λ h e c f r.
+              let found = fault_there body avps own pairs fault kind_is told_is in
+              let some : call_fault_in body ≡ Some f = rw (← (control_read body h few e).body) r in
+              let same : number_fault own ≡ f = cc in
+              (own, ap (λ (x : CallFault). x.session) (sym same), small);
+          told = λ h e c g f.
+              let none = for_its_call body avps own pairs fault kind_is told_is in
+              let some : tunnel_fault_in body ≡ Some g = rw (← (control_read body h few e).body) f in
+              absurd cc;
+          zero = λ h e c i t.
+              let nobody = for_no_tunnel body avps own pairs fault kind_is told_is in
+              let here : TellsId (at_zero body) i = rw (← (control_read body h few e).body) t in
+              ⊎_elim (λ e. absurd cc) (λ e. absurd cc) here;
         }
 
-    pub alone_ok : (nodes : Nodes) (gs : List Passage) (from to : ℕ) → BytesOk nodes gs from to (control_bytes tunnel session (on_wire ns) (on_wire nr) [])
-    alone_ok nodes gs from to =
+    pub letter_ok : (nodes : Nodes) (gs : List Passage) (from to : ℕ) (m : Message) (hidden : Option (List ℕ)) → IsWritten m → HidesOk m hidden
+        → NamesItsCall nodes from to session m
+        → BytesOk nodes gs from to (control_bytes tunnel session (on_wire ns) (on_wire nr) (letter_as session m hidden).avps)
+    letter_ok nodes gs from to m hidden w hides names secret =
+        let u = letter_uncovered codecs secret tunnel session (on_wire ns) (on_wire nr) m hidden t s_fits (omega arith) (omega arith) w hides in
+        rw u.is (read_ok nodes gs from to m u.body u.few u.reads names)
+
+    read_alone : (nodes : Nodes) (gs : List Passage) (from to : ℕ) → ReadOk nodes gs from to (control_bytes tunnel session (on_wire ns) (on_wire nr) [])
+    read_alone nodes gs from to =
         record {
           frames = λ h e c. absurd (true≢false (sym (control_read [] h (omega arith) e).control ∙ c));
           letters = λ h e c x r. absurd (no_message x (rw (← (control_read [] h (omega arith) e).body) r));
-          sound = λ h e c. rw (control_read [] h (omega arith) e).body no_fault;
+          faulty = λ h e c f r.
+              let none = no_fault in
+              let some : call_fault_in [] ≡ Some f = rw (← (control_read [] h (omega arith) e).body) r in
+              absurd cc;
           told = λ h e c g f. no_id g (rw (← (control_read [] h (omega arith) e).body) f);
           zero = λ h e c i t. none_told i (rw (← (control_read [] h (omega arith) e).body) t);
-          plain = λ secret. stays_plain codecs secret tunnel session (on_wire ns) (on_wire nr) [] [] t s_fits (omega arith) (omega arith) (omega arith) (codecs.pairs [] tt) refl;
         }
 
+    pub alone_ok : (nodes : Nodes) (gs : List Passage) (from to : ℕ) → BytesOk nodes gs from to (control_bytes tunnel session (on_wire ns) (on_wire nr) [])
+    alone_ok nodes gs from to secret =
+        rw (stays_plain codecs secret tunnel session (on_wire ns) (on_wire nr) [] [] t s_fits (omega arith) (omega arith) (omega arith) (codecs.pairs [] tt) refl)
+        (read_alone nodes gs from to)
+
   -- a frame that is for a session
-  pub frame_ok : (ns : Nodes) (gs : List Passage) (from to tunnel session : ℕ) (frame : List ℕ) → tunnel < 65536 → session < 65536
-      → WasSentInCall ns gs from to session frame → BytesOk ns gs from to (data_bytes tunnel session None frame)
-  frame_ok ns gs from to tunnel session frame t s sent =
+  read_frame : (ns : Nodes) (gs : List Passage) (from to tunnel session : ℕ) (frame : List ℕ) → tunnel < 65536 → session < 65536
+      → WasSentInCall ns gs from to session frame → ReadOk ns gs from to (data_bytes tunnel session None frame)
+  read_frame ns gs from to tunnel session frame t s sent =
       let bytes = data_bytes tunnel session None frame in
       let c = codecs.frame tunnel session None frame t s tt in
       record {
         frames = λ h e k. rw (same_header bytes h _ _ c e, c.bounds) sent;
         letters = λ h e k m r. absurd (true≢false (sym k ∙ ap (λ (x : Header). x.control) (same_header bytes h _ _ c e)));
-        sound = λ h e k. absurd (true≢false (sym k ∙ ap (λ (x : Header). x.control) (same_header bytes h _ _ c e)));
+        faulty = λ h e k f r. absurd (true≢false (sym k ∙ ap (λ (x : Header). x.control) (same_header bytes h _ _ c e)));
         told = λ h e k g f. absurd (true≢false (sym k ∙ ap (λ (x : Header). x.control) (same_header bytes h _ _ c e)));
         zero = λ h e k i t. absurd (true≢false (sym k ∙ ap (λ (x : Header). x.control) (same_header bytes h _ _ c e)));
-        plain = λ secret. frame_stays codecs secret tunnel session frame t s;
       }
+
+  pub frame_ok : (ns : Nodes) (gs : List Passage) (from to tunnel session : ℕ) (frame : List ℕ) → tunnel < 65536 → session < 65536
+      → WasSentInCall ns gs from to session frame → BytesOk ns gs from to (data_bytes tunnel session None frame)
+  frame_ok ns gs from to tunnel session frame t s sent secret =
+      rw (frame_stays codecs secret tunnel session frame t s) (read_frame ns gs from to tunnel session frame t s sent)

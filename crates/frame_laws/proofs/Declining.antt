@@ -8,9 +8,9 @@ use Rattle.protocol_model.specs.Reading.{body_of}
 use Rattle.protocol_model.specs.End.{End}
 use Rattle.step_laws.specs.Moves.{WhyDeclined, AnOpening, AFaultyOpening, AnAnswer}
 use Rattle.frame_laws.specs.Past.{Passage}
-use Rattle.frame_laws.proofs.Facts.{Nodes, BytesOk}
+use Rattle.frame_laws.proofs.Facts.{Nodes, ReadOk}
 
-pub declined_fits : (ns : Nodes) (gs : List Passage) (from to : ℕ) (bytes : List ℕ) → BytesOk ns gs from to bytes → (h : Header) → header_of bytes ≡ Ok h
+pub declined_fits : (ns : Nodes) (gs : List Passage) (from to : ℕ) (bytes : List ℕ) → ReadOk ns gs from to bytes → (h : Header) → header_of bytes ≡ Ok h
     → h.control ≡ true → (e : End) (m : Declined) → WhyDeclined e (body_of h bytes) m → m.remote < 65536
 declined_fits ns gs from to bytes ok h read control e m (AnOpening o said told unknown against) =
     let fits = (ok.letters h read control (Sccrq o) said).0.0.tunnel in rw told fits

@@ -16,7 +16,8 @@ use Rattle.step_laws.specs.Letters.{Among}
 use Rattle.protocol_model.specs.World.{Node}
 use Rattle.frame_laws.specs.Past.{Passage}
 use Rattle.frame_laws.specs.Frames.{other_end}
-pub use Rattle.frame_laws.specs.Facts.{Nodes, birth_in_node, Born, role_in_node, Plays, Grows, Mates, NamesItsCall, WasSentInCall, BytesOk, PacketOk, KnowsItsMate, CallOk, CallsOk, LetterOk, LettersOk, TunnelOk, EndOk, NodeOk, Holds, StepLaws, LooksOfRuns, FactsOfRuns}
+use Rattle.protocol_model.specs.Secrets.{uncovered_datagram}
+pub use Rattle.frame_laws.specs.Facts.{Nodes, birth_in_node, Born, role_in_node, Plays, Grows, Mates, NamesItsCall, WasSentInCall, ReadOk, BytesOk, PacketOk, KnowsItsMate, CallOk, CallsOk, LetterOk, LettersOk, TunnelOk, EndOk, NodeOk, Holds, StepLaws, LooksOfRuns, FactsOfRuns}
 
 pub all_map : {X : Type 0} (P Q : X → Type 0) → ((x : X) → P x → Q x) → (xs : List X) → AllByRecursion P xs → AllByRecursion Q xs
 all_map P Q f [] h = tt
@@ -110,17 +111,20 @@ sent_in_call_later ns ms g gs hs from to session frame h =
       to_is = h.to_is;
     }
 
-pub bytes_later : (ns ms : Nodes) → Grows ns ms → (gs hs : List Passage) (from to : ℕ) (bytes : List ℕ) → BytesOk ns gs from to bytes
-    → BytesOk ms (gs ++ hs) from to bytes
-bytes_later ns ms g gs hs from to bytes h =
+read_later : (ns ms : Nodes) → Grows ns ms → (gs hs : List Passage) (from to : ℕ) (bytes : List ℕ) → ReadOk ns gs from to bytes
+    → ReadOk ms (gs ++ hs) from to bytes
+read_later ns ms g gs hs from to bytes h =
     record {
       frames = λ x e c. sent_in_call_later ns ms g gs hs from to x.session _ (h.frames x e c);
       letters = λ x e c m r. let l = h.letters x e c m r in (l.0, names_later ns ms g from to x.session m l.1);
-      sound = h.sound;
+      faulty = h.faulty;
       told = h.told;
       zero = h.zero;
-      plain = h.plain;
     }
+
+pub bytes_later : (ns ms : Nodes) → Grows ns ms → (gs hs : List Passage) (from to : ℕ) (bytes : List ℕ) → BytesOk ns gs from to bytes
+    → BytesOk ms (gs ++ hs) from to bytes
+bytes_later ns ms g gs hs from to bytes h secret = read_later ns ms g gs hs from to (uncovered_datagram secret bytes) (h secret)
 
 pub packets_later : (ns ms : Nodes) → Grows ns ms → (gs hs : List Passage) (ps : List Packet) → AllByRecursion (PacketOk ns gs) ps
     → AllByRecursion (PacketOk ms (gs ++ hs)) ps
@@ -147,6 +151,8 @@ pub letter_later : (ns ms : Nodes) → Grows ns ms → (n peer : ℕ) (l : Lette
 letter_later ns ms g n peer l h =
     record {
       message = h.message;
+      hidden = h.hidden;
+      hides = h.hides;
       spelt = h.spelt;
       session = h.session;
       written = h.written;

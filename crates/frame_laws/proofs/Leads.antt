@@ -15,7 +15,7 @@ use Rattle.protocol_model.specs.declared.event.Event.TheVariants.{Datagram, Ring
 use Rattle.protocol_model.specs.declared.tunnel.Call.{Call}
 use Rattle.protocol_model.specs.declared.tunnel.Role.{Role}
 use Rattle.protocol_model.specs.Names.{address_of, node_of}
-use Rattle.protocol_model.specs.Reading.{body_of, message_in, call_fault_in, TunnelFault, tunnel_fault_in}
+use Rattle.protocol_model.specs.Reading.{body_of, message_in, CallFault, call_fault_in, TunnelFault, tunnel_fault_in}
 use Rattle.protocol_model.specs.Turn.{Tunnel}
 use Rattle.protocol_model.specs.End.{End}
 use Rattle.protocol_model.specs.World.{World, Node}
@@ -52,7 +52,8 @@ pub record HeardFrom (ns : Nodes) (n peer : ℕ) (bytes : List ℕ) : Type 0 whe
   pub address : peer ≡ address_of from
   pub letters : (h : Header) → header_of bytes ≡ Ok h → h.control ≡ true → (m : Message) → message_in (body_of h bytes) ≡ Ok m
       → IsWritten m × NamesItsCall ns from n h.session m
-  pub sound : (h : Header) → header_of bytes ≡ Ok h → h.control ≡ true → call_fault_in (body_of h bytes) ≡ None
+  pub faulty : (h : Header) → header_of bytes ≡ Ok h → h.control ≡ true → (f : CallFault) → call_fault_in (body_of h bytes) ≡ Some f
+      → (own : ℕ) × (f.session ≡ Some own) × (own < 65536)
   pub told : (h : Header) → header_of bytes ≡ Ok h → h.control ≡ true → (g : TunnelFault) → tunnel_fault_in (body_of h bytes) ≡ Some g → g.remote < 65536
 
 abbrev pub Heard : Nodes → ℕ → Event → Type 0
@@ -72,7 +73,7 @@ heard_later ns ms g n (Datagram peer bytes) h = record {
   number = h.number;
   address = h.address;
   letters = λ x e c m r. let l = h.letters x e c m r in (l.0, names_later ns ms g h.from n x.session m l.1);
-  sound = h.sound;
+  faulty = h.faulty;
   told = h.told;
 }
 heard_later ns ms g n (Ring port) h = tt
@@ -92,10 +93,12 @@ heard_letter ns n ev heard peer session m h =
     let from : node_of peer ≡ k.from = ap node_of k.address ∙ node_again k.from k.number in
     (l.0, rw (from, ← h.session_is) l.1)
 
--- no fault is heard
-pub heard_sound : (ns : Nodes) (n : ℕ) (ev : Event) → Heard ns n ev → (peer : ℕ) (bytes : List ℕ) (h : Header) → ev ≡ Datagram peer bytes
-    → header_of bytes ≡ Ok h → h.control ≡ true → call_fault_in (body_of h bytes) ≡ None
-heard_sound ns n ev heard peer bytes h is read control = let k : HeardFrom ns n peer bytes = subst (Heard ns n) is heard in k.sound h read control
+-- the session that a faulty message tells has 16 bits
+pub heard_faulty : (ns : Nodes) (n : ℕ) (ev : Event) → Heard ns n ev → (peer : ℕ) (bytes : List ℕ) (h : Header) → ev ≡ Datagram peer bytes
+    → header_of bytes ≡ Ok h → h.control ≡ true → (f : CallFault) → call_fault_in (body_of h bytes) ≡ Some f
+    → (own : ℕ) × (f.session ≡ Some own) × (own < 65536)
+heard_faulty ns n ev heard peer bytes h is read control f fault =
+    let k : HeardFrom ns n peer bytes = subst (Heard ns n) is heard in k.faulty h read control f fault
 
 -- a fault tells no id of more than 16 bits
 pub heard_told : (ns : Nodes) (n : ℕ) (ev : Event) → Heard ns n ev → (peer : ℕ) (bytes : List ℕ) (h : Header) → ev ≡ Datagram peer bytes

@@ -1,5 +1,5 @@
 -- Each line of a schedule.
-use Rattle.std.proofs.Common.{◌≡◌, ⊎_elim, ℕ, ◌+◌, ◌-◌, ◌^◌, ◌<◌, false, List, [], refl, sym, ◌∙◌, subst, Option, Some, None, Result, Ok, Err, arith}
+use Rattle.std.proofs.Common.{◌≡◌, ⊎_elim, ℕ, ◌+◌, ◌-◌, ◌^◌, ◌<◌, Bool, false, List, [], refl, sym, ◌∙◌, subst, Option, Some, None, Result, Ok, Err, arith}
 use Rattle.std.proofs.lemmas.Bool.{true≢false}
 use Rattle.std.proofs.lemmas.Option.{none-some}
 use Rattle.std.proofs.lemmas.List.{append-nil}
@@ -20,6 +20,7 @@ use Rattle.protocol_model.specs.declared.refusal.Refusal.TheVariants.{Unfit}
 use Rattle.protocol_model.specs.declared.tunnel.Role.{Role}
 use Rattle.protocol_model.specs.declared.tunnel.Role.TheVariants as role
 use Rattle.protocol_model.specs.Names.{address_of}
+use Rattle.protocol_model.specs.Secrets.{uncovered_event}
 use Rattle.protocol_model.specs.End.{plain_step, new_end, step}
 use Rattle.step_laws.specs.Lines.{tested_not, is_lac_at, is_lns_at, is_declared, has_call, has_tunnel}
 use Rattle.protocol_model.specs.World.{World, Node, Sender, Lined, quiet_line, with_node, after_step, declared, lac_at, lns_at, with_call, with_tunnel, later, config_of, added, block_of, stepped, addressee_of, arrival, refused_by, sender_of, arrives, delivers_it, delivers, line}
@@ -29,7 +30,7 @@ use Rattle.frame_laws.specs.Reports.{ups_in, told_of}
 use Rattle.frame_laws.proofs.Facts.{StepLaws, Born, Plays, Nodes, Grows, PacketOk, NodeOk, Holds, packets_later, node_later, birth_in_node, role_in_node, all_map, all_at}
 use Rattle.frame_laws.proofs.Changes.{birth_there}
 use Rattle.frame_laws.proofs.Births.{Counted}
-use Rattle.frame_laws.proofs.Worlds.{plain_real, Below, LineGives, EventGives, Counts, Goes, IsReal, StepOk, step_ok}
+use Rattle.frame_laws.proofs.Worlds.{Below, LineGives, EventGives, Counts, Goes, IsReal, StepOk, step_ok}
 
 -- ---- lines
 
@@ -60,9 +61,9 @@ uncounted : (w : World) → Counts w.nodes w.born w
 uncounted w = record { few = omega arith; counted = λ few had. had }
 
 -- one more node
-module _ (ns : Nodes) (n : ℕ) (r : Role) (lns : ℕ) (secret : Option (List ℕ)) (none : at ns n ≡ None) where
+module _ (ns : Nodes) (n : ℕ) (r : Role) (lns : ℕ) (secret : Option (List ℕ)) (hide : Bool) (none : at ns n ≡ None) where
   abbrev fresh_node : Node
-  fresh_node = record { end = new_end r (config_of n lns secret); clock = 0; births = [] }
+  fresh_node = record { end = new_end r (config_of n lns secret hide); clock = 0; births = [] }
 
   no_birth : (m s b : ℕ) → m ≡ n → birth_in_node (at ns m) s ≡ Some b → ⊥
   no_birth m s b e h = none-some b (subst (λ o. birth_in_node o s ≡ Some b) none (subst (λ x. birth_in_node (at ns x) s ≡ Some b) e h))
@@ -135,18 +136,18 @@ none_there None h = refl
 none_there (Some x) h = absurd (true≢false h)
 
 module _ (number : ℕ) (w : World) (gs : List Passage) (holds : Holds w gs) (l : Line)
-    (n : ℕ) (r : Role) (lns : ℕ) (secret : Option (List ℕ)) (lt : n < 256) (none : at w.nodes n ≡ None) where
+    (n : ℕ) (r : Role) (lns : ℕ) (secret : Option (List ℕ)) (hide : Bool) (lt : n < 256) (none : at w.nodes n ≡ None) where
   abbrev new : Node
-  new = record { end = new_end r (config_of n lns secret); clock = 0; births = [] }
+  new = record { end = new_end r (config_of n lns secret hide); clock = 0; births = [] }
 
   more_ok : LineOk number w gs l (quiet_line (with_node w n new))
   more_ok =
-      let g = more_nodes w.nodes n r lns secret none in
+      let g = more_nodes w.nodes n r lns secret hide none in
       quiet_goes number w (with_node w n new) gs l
       (record {
         nodes = λ m node f. ⊎_elim
             (λ (a : (m ≡ n) × (new ≡ node)).
-            let mine = subst (λ y. NodeOk (put w.nodes n new) n y) a.1 (fresh_ok w.nodes n r lns secret none lt) in
+            let mine = subst (λ y. NodeOk (put w.nodes n new) n y) a.1 (fresh_ok w.nodes n r lns secret hide none lt) in
             subst (λ y. NodeOk (put w.nodes n new) y node) (sym a.0) mine)
             (λ a. node_later w.nodes (put w.nodes n new) g m node (holds.nodes m node a.1))
             (found_put w.nodes n new m node f);
@@ -154,15 +155,15 @@ module _ (number : ℕ) (w : World) (gs : List Passage) (holds : Holds w gs) (l 
             (λ hs. AllByRecursion (PacketOk (put w.nodes n new) hs) w.packets) (append-nil gs)
             (packets_later w.nodes (put w.nodes n new) g gs [] w.packets holds.packets);
       })
-      (record { few = omega arith; counted = λ few had. fresh_counted w.nodes n r lns secret none w.born had })
+      (record { few = omega arith; counted = λ few had. fresh_counted w.nodes n r lns secret hide none w.born had })
       refl
 
-added_ok : (number : ℕ) (w : World) (gs : List Passage) → Holds w gs → (l : Line) (n : ℕ) (r : Role) (lns : ℕ) (secret : Option (List ℕ)) → n < 256 → (x : Lined)
-    → added w n r lns secret ≡ Ok x → LineOk number w gs l x
+added_ok : (number : ℕ) (w : World) (gs : List Passage) → Holds w gs → (l : Line) (n : ℕ) (r : Role) (lns : ℕ) (secret : Option (List ℕ)) (hide : Bool) → n < 256 → (x : Lined)
+    → added w n r lns secret hide ≡ Ok x → LineOk number w gs l x
 unfolding added
-added_ok number w gs holds l n r lns secret lt x h =
-    let t = tested_not (is_some (at w.nodes n)) (quiet_line (with_node w n (record { end = new_end r (config_of n lns secret); clock = 0; births = [] }))) (Unfit why.Twice) x h in
-    subst (LineOk number w gs l) t.1 (more_ok number w gs holds l n r lns secret lt (none_there (at w.nodes n) t.0))
+added_ok number w gs holds l n r lns secret hide lt x h =
+    let t = tested_not (is_some (at w.nodes n)) (quiet_line (with_node w n (record { end = new_end r (config_of n lns secret hide); clock = 0; births = [] }))) (Unfit why.Twice) x h in
+    subst (LineOk number w gs l) t.1 (more_ok number w gs holds l n r lns secret hide lt (none_there (at w.nodes n) t.0))
 
 -- ---- frames that lines give
 
@@ -226,27 +227,40 @@ is_later w n milliseconds (Some x) node is h =
     subst (IsAt w n) e (record { before = x; there = is; same = refl })
 
 module _ (codecs : Codecs) (laws : StepLaws) (number : ℕ) (w : World) (gs : List Passage) (holds : Holds w gs) (below : Below number gs) (l : Line) where
+  -- on an event as the node reads it
   timed_ok : (n : ℕ) (ev : Event) (sender : Option Sender) (node : Node) → IsAt w n node → IsReal w gs n ev
-      → StepOk number w gs n node.end.role ev (after_step w number n node sender (step node.end node.clock (block_of n number) ev))
+      → StepOk number w gs n node.end.role ev (after_step w number n node sender (plain_step node.end node.clock (block_of n number) ev))
   timed_ok n ev sender node is real = subst
-      (λ (came : Event). StepOk number w gs n node.end.role ev (after_step w number n node sender (plain_step node.end node.clock (block_of n number) came)))
-      (sym (plain_real w gs n ev real node.end.config.secret)) (subst
       (λ (q : Node). StepOk number w gs n q.end.role ev (after_step w number n q sender (plain_step q.end q.clock (block_of n number) ev))) (sym is.same)
-      (step_ok codecs laws number w gs holds below n is.before is.there node.clock ev real node.clock (block_of n number) sender))
+      (step_ok codecs laws number w gs holds below n is.before is.there node.clock ev real node.clock (block_of n number) sender)
+
+  -- a frame is given as it is
+  gives_as_read : (n : ℕ) (r : Role) (secret : Option (List ℕ)) (ev : Event) (g : Passage) → EventGives number n r (uncovered_event secret ev) g
+      → EventGives number n r ev g
+  gives_as_read n r secret (event.Datagram peer bytes) g h = absurd (⊎_elim (λ p. cc) (λ p. cc) h.event_is)
+  gives_as_read n r secret (event.Ring port) g h = h
+  gives_as_read n r secret (event.Payload session frame) g h = h
+  gives_as_read n r secret (event.Lower session frame) g h = h
+  gives_as_read n r secret (event.Hang session) g h = h
+  gives_as_read n r secret event.OpenTunnel g h = h
+  gives_as_read n r secret (event.DropCall session) g h = h
+  gives_as_read n r secret (event.CloseTunnel i) g h = h
+  gives_as_read n r secret event.Tick g h = h
 
   stepped_ok : (x : Lined) (n : ℕ) (ev : Event) (sender : Option Sender) (o : Result Node Why)
       → ((node : Node) → o ≡ Ok node → IsAt w n node × ((g : Passage) → EventGives number n node.end.role ev g → LineGives number l g))
-      → IsReal w gs n ev → stepped w number n ev sender o ≡ Ok x → LineOk number w gs l x
+      → ((secret : Option (List ℕ)) → IsReal w gs n (uncovered_event secret ev)) → stepped w number n ev sender o ≡ Ok x → LineOk number w gs l x
   unfolding stepped
   stepped_ok x n ev sender (Err q) is real h = absurd (cc)
   stepped_ok x n ev sender (Ok node) is real h =
       let was = is node refl in
       let e : after_step w number n node sender (step node.end node.clock (block_of n number) ev) ≡ x = cc in
-      let k = timed_ok n ev sender node was.0 real in
+      let secret = node.end.config.secret in
+      let k = timed_ok n (uncovered_event secret ev) sender node was.0 (real secret) in
       subst (LineOk number w gs l) e (record {
         goes = k.goes;
-        given = all_map (EventGives number n node.end.role ev) (LineGives number l) was.1
-            (sent_in (after_step w number n node sender (step node.end node.clock (block_of n number) ev)).done) k.given;
+        given = all_map (EventGives number n node.end.role (uncovered_event secret ev)) (LineGives number l)
+            (λ g h. was.1 g (gives_as_read n node.end.role secret ev g h)) (sent_in (after_step w number n node sender (step node.end node.clock (block_of n number) ev)).done) k.given;
         told = k.told;
       })
 
@@ -260,7 +274,7 @@ module _ (codecs : Codecs) (laws : StepLaws) (number : ℕ) (w : World) (gs : Li
       let ev = event.Datagram (address_of p.from) p.bytes in
       stepped_ok codecs laws number w gs holds below l x p.to ev (sender_of p.from p.origin) (Ok node)
       (λ q e. (let same : node ≡ q = cc in rw (← same) (is_there w p.to node there, no_frame number p.to node.end.role ev l tt)))
-      (record { from = p.from; number = sent.from; address = refl; bytes_ok = sent.bytes }) h
+      (λ secret. record { from = p.from; number = sent.from; address = refl; bytes_ok = sent.bytes secret }) h
 
   -- what may be delivered is a packet that was sent, and its node is declared
   delivers_ok : (l : Line) (x : Lined) (o : Option Packet) → ((p : Packet) → o ≡ Some p → PacketOk w.nodes gs p) → delivers w number o ≡ Ok x
@@ -277,40 +291,41 @@ module _ (codecs : Codecs) (laws : StepLaws) (number : ℕ) (w : World) (gs : Li
   unfolding line
   line_ok x (Remark text) fits h =
       let e : quiet_line w ≡ x = cc in subst (LineOk number w gs (Remark text)) e (quiet_goes number w w gs (Remark text) holds (uncounted w) refl)
-  line_ok x (Lac n m secret) fits h = added_ok number w gs holds (Lac n m secret) n role.Lac (address_of m) secret (omega (arith, fits.0.1)) x h
-  line_ok x (Lns n secret) fits h = added_ok number w gs holds (Lns n secret) n role.Lns 0 secret (omega (arith, fits.0.1)) x h
+  line_ok x (Lac n m secret hide) fits h =
+      added_ok number w gs holds (Lac n m secret hide) n role.Lac (address_of m) secret hide (omega (arith, fits.0.1)) x h
+  line_ok x (Lns n secret) fits h = added_ok number w gs holds (Lns n secret) n role.Lns 0 secret false (omega (arith, fits.0.1)) x h
   line_ok x (OpenUp n) fits h =
       stepped_ok codecs laws number w gs holds below (OpenUp n) x n event.OpenTunnel None (lac_at (at w.nodes n))
-      (λ node e. (is_there w n node (is_lac_at (at w.nodes n) node e).0, no_frame number n node.end.role event.OpenTunnel (OpenUp n) tt)) tt h
+      (λ node e. (is_there w n node (is_lac_at (at w.nodes n) node e).0, no_frame number n node.end.role event.OpenTunnel (OpenUp n) tt)) (λ secret. tt) h
   line_ok x (Close n i) fits h =
       stepped_ok codecs laws number w gs holds below (Close n i) x n (event.CloseTunnel i) None (with_tunnel i (declared (at w.nodes n)))
       (λ node e. (
         is_there w n node (is_declared (at w.nodes n) node (has_tunnel i (declared (at w.nodes n)) node e)),
         no_frame number n node.end.role (event.CloseTunnel i) (Close n i) tt,
       ))
-      tt h
+      (λ secret. tt) h
   line_ok x (Ring n port) fits h =
       stepped_ok codecs laws number w gs holds below (Ring n port) x n (event.Ring port) None (lac_at (at w.nodes n))
-      (λ node e. (is_there w n node (is_lac_at (at w.nodes n) node e).0, no_frame number n node.end.role (event.Ring port) (Ring n port) tt)) tt h
+      (λ node e. (is_there w n node (is_lac_at (at w.nodes n) node e).0, no_frame number n node.end.role (event.Ring port) (Ring n port) tt)) (λ secret. tt) h
   line_ok x (FromSub n session frame) fits h =
       stepped_ok codecs laws number w gs holds below (FromSub n session frame) x n (event.Payload session frame) None
       (with_call session (lac_at (at w.nodes n)))
       (λ node e.
       let is = is_lac_at (at w.nodes n) node (has_call session (lac_at (at w.nodes n)) node e) in
       (is_there w n node is.0, from_sub number n node.end.role session frame is.1))
-      tt h
+      (λ secret. tt) h
   line_ok x (Down n session frame) fits h =
       stepped_ok codecs laws number w gs holds below (Down n session frame) x n (event.Lower session frame) None (with_call session (lns_at (at w.nodes n)))
       (λ node e.
       let is = is_lns_at (at w.nodes n) node (has_call session (lns_at (at w.nodes n)) node e) in
       (is_there w n node is.0, down_to number n node.end.role session frame is.1))
-      tt h
+      (λ secret. tt) h
   line_ok x (Hang n session) fits h =
       stepped_ok codecs laws number w gs holds below (Hang n session) x n (event.Hang session) None (with_call session (lac_at (at w.nodes n)))
       (λ node e.
       let is = is_lac_at (at w.nodes n) node (has_call session (lac_at (at w.nodes n)) node e) in
       (is_there w n node is.0, no_frame number n node.end.role (event.Hang session) (Hang n session) tt))
-      tt h
+      (λ secret. tt) h
   line_ok x (DropCall n session) fits h =
       stepped_ok codecs laws number w gs holds below (DropCall n session) x n (event.DropCall session) None
       (with_call session (declared (at w.nodes n)))
@@ -318,9 +333,9 @@ module _ (codecs : Codecs) (laws : StepLaws) (number : ℕ) (w : World) (gs : Li
         is_there w n node (is_declared (at w.nodes n) node (has_call session (declared (at w.nodes n)) node e)),
         no_frame number n node.end.role (event.DropCall session) (DropCall n session) tt,
       ))
-      tt h
+      (λ secret. tt) h
   line_ok x (Deliver k) fits h =
       delivers_ok (Deliver k) x (slice_get w.packets (k - 1)) (λ p e. all_at (PacketOk w.nodes gs) w.packets (k - 1) p e holds.packets) h
   line_ok x (Tick n milliseconds) fits h =
       stepped_ok codecs laws number w gs holds below (Tick n milliseconds) x n event.Tick None (later milliseconds (declared (at w.nodes n)))
-      (λ node e. (is_later w n milliseconds (at w.nodes n) node refl e, no_frame number n node.end.role event.Tick (Tick n milliseconds) tt)) tt h
+      (λ node e. (is_later w n milliseconds (at w.nodes n) node refl e, no_frame number n node.end.role event.Tick (Tick n milliseconds) tt)) (λ secret. tt) h

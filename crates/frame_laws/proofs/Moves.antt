@@ -49,10 +49,11 @@ use Rattle.protocol_model.specs.declared.tunnel.Role.{Role}
 use Rattle.protocol_model.specs.declared.tunnel.Role.TheVariants.{Lac, Lns}
 use Rattle.protocol_model.specs.Names.{node_of, host_name, calling_number}
 use Rattle.protocol_model.specs.Calls.{advanced, rung, asked_for, is_up}
-use Rattle.protocol_model.specs.Turn.{Tunnel, letter_of, counts_given, counts_taken, learns_window, opening_of, request_of, connection}
+use Rattle.protocol_model.specs.Turn.{Tunnel, letter_of, letter_as, counts_given, counts_taken, learns_window, opening_of, request_of, connection}
 use Rattle.protocol_model.specs.End.{End, new_place}
 use Rattle.protocol_model.specs.World.{World, Node, with_birth, is_born, birth_of, moved}
 use Rattle.step_laws.specs.Moves.{Rejects, Asks, Responds, with_tunnel, with_letter, new_tunnel, begun, Opens, Accepts, Connects, Confirms, Adds as AddsCall, Requests, Replies, ComesUpFirst, ComesUpSecond, Refuses, TellsEnd, HearsEnd, EndsSilently, Closes, ClosesBy, Clears, Greets, TakesPlain, Reads, LetsGo, Repeats, without_call, without_calls, Does}
+use Rattle.frame_laws.specs.Plain.{HidesOk, number_hides}
 use Rattle.frame_laws.proofs.Facts.{Nodes, Born, Plays, Grows, same_nodes, Mates, swapped, NamesItsCall, KnowsItsMate, CallOk, call_later, CallsOk, LetterOk, LettersOk, letters_later, TunnelOk, tunnel_later, all_push, all_drop}
 use Rattle.frame_laws.proofs.Changes.{next_birth, some_birth, with_one, born_nodes, born_packets, born_count, made_count, made_nodes, made_packets, Changed, birth_is, plays_at, grows, Adds, NextBirth, SameBirth}
 use Rattle.frame_laws.proofs.Births.{not_lns, counted_after}
@@ -126,11 +127,19 @@ learnt window c = by (window == 0)
     by true = record { local = refl; peer = refl; remote = refl }
     by false = record { local = refl; peer = refl; remote = refl }
 
+-- a letter, plain or not
+letter_ok : (ns : Nodes) (n peer session : ℕ) (m : Message) (hidden : Option (List ℕ)) → HidesOk m hidden → session < 65536 → IsWritten m
+    → NamesItsCall ns n (node_of peer) session m → LetterOk ns n peer (letter_as session m hidden)
+letter_ok ns n peer session m None hides fits written names =
+    record { message = m; hidden = None; hides = hides; spelt = refl; session = fits; written = written; names = names }
+letter_ok ns n peer session m (Some pairs) hides fits written names =
+    record { message = m; hidden = Some pairs; hides = hides; spelt = refl; session = fits; written = written; names = names }
+
 -- one more letter is given
 one_more : (ns : Nodes) (n peer : ℕ) (ls : List Letter) → LettersOk ns n peer ls → (session : ℕ) (m : Message) → session < 65536 → IsWritten m
     → NamesItsCall ns n (node_of peer) session m → LettersOk ns n peer (ls ++ letter_of session m ∷ [])
 one_more ns n peer ls olds session m fits written names =
-    all_push (LetterOk ns n peer) ls (letter_of session m) olds (record { message = m; spelt = refl; session = fits; written = written; names = names })
+    all_push (LetterOk ns n peer) ls (letter_of session m) olds (letter_ok ns n peer session m None tt fits written names)
 
 module _ (digits : (port : ℕ) → length (calling_number port) ≡ 12) (n : ℕ) (z : End) (v : World) (x : End)
     (here : At n z v x) (ev : Event) (heard : Heard v.nodes n ev) where
@@ -357,7 +366,9 @@ module _ (digits : (port : ℕ) → length (calling_number port) ≡ 12) (n : �
       (call_led _ m.tunnel h.tunnel (counts_given h.tunnel.control) _ m.session (advanced x.role call_event.TunnelOpen moment h.call) h.there
       (sets_tunnel _ m.tunnel _)
       refl refl refl refl
-      (more_letters m.tunnel h.tunnel h.there 0 (request_of m.session m.port) (omega arith) (request_written digits m.session m.port h.session) names)
+      (all_push (LetterOk v.nodes n h.tunnel.control.peer) h.tunnel.letters _ (here.end.tunnels m.tunnel h.tunnel h.there).letters
+      (letter_ok v.nodes n h.tunnel.control.peer 0 (request_of m.session m.port) m.hidden
+      (number_hides x.config m.session m.port m.hidden h.session (digits m.port) h.hides) (omega arith) (request_written digits m.session m.port h.session) names))
       (record {
         drawn = o.drawn;
         birth = o.birth;

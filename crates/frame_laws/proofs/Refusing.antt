@@ -1,5 +1,6 @@
 -- The session of a call that is refused has 16 bits, and so have the codes that tell it.
-use Rattle.std.proofs.Common.{◌≡◌, ℕ, ◌<◌, refl, Ok}
+use Rattle.std.proofs.Common.{◌≡◌, ℕ, ◌<◌, refl, ap, ◌∙◌, Option, Ok}
+use Rattle.std.specs.Prelude.{unwrap_or}
 use Rattle.control_message.specs.declared.message.Message.{Message}
 use Rattle.control_message.specs.declared.message.Message.TheVariants.{Icrq, Icrp, Ocrq}
 use Rattle.protocol_model.specs.declared.event.Event.{Event}
@@ -9,7 +10,7 @@ use Rattle.protocol_model.specs.End.{End}
 use Rattle.step_laws.specs.Moves.{Hears, WhyRefused, IsNotGranted, IsOutgoing, IsReplyToNone, IsWrong, Refuses}
 use Rattle.step_laws.specs.Codes.{CodesFit, refusal_codes_fit}
 use Rattle.frame_laws.proofs.Facts.{Nodes}
-use Rattle.frame_laws.proofs.Leads.{Heard, heard_letter, heard_sound}
+use Rattle.frame_laws.proofs.Leads.{Heard, heard_letter, heard_faulty}
 
 pub refusal_fits : (ns : Nodes) (n : ℕ) (ev : Event) → Heard ns n ev → (e : End) (m : Refused) (y : End) → Refuses e ev m y
     → (m.remote < 65536) × CodesFit m.result m.error
@@ -39,4 +40,5 @@ refusal_fits ns n ev heard e m y h = (by h.why, refusal_codes_fit e h.tunnel h.c
     by (IsReplyToNone remote said none lns same result error) =
         told remote same (heard_letter ns n ev heard h.tunnel.control.peer h.comes.header.session (Icrp remote) (came (Icrp remote) said)).0.0
     by (IsWrong f fault same result error) =
-        absurd (let none = heard_sound ns n ev heard h.tunnel.control.peer h.comes.bytes h.comes.header h.comes.is h.comes.read h.comes.control in cc)
+        let k = heard_faulty ns n ev heard h.tunnel.control.peer h.comes.bytes h.comes.header h.comes.is h.comes.read h.comes.control f fault in
+        told k.0 (same ∙ ap (λ (o : Option ℕ). unwrap_or o 0) k.1) k.2

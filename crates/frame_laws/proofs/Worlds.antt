@@ -9,7 +9,6 @@ use Rattle.l2tp_header.specs.Spelling.{data_bytes}
 use Rattle.control_channel.specs.Numbers.{place_of}
 use Rattle.control_message.specs.declared.message.Message.TheVariants.{StopCcn}
 use Rattle.schedule_text.specs.declared.line.Line.{Line}
-use Rattle.protocol_model.specs.Secrets.{uncovered_event}
 use Rattle.protocol_model.specs.declared.event.Event.{Event}
 use Rattle.protocol_model.specs.declared.event.Event.TheVariants.{Datagram, Ring, Payload, Lower, Hang, OpenTunnel, DropCall, CloseTunnel, Tick}
 use Rattle.protocol_model.specs.declared.moves.FrameSent.{FrameSent}
@@ -32,7 +31,7 @@ use Rattle.step_laws.specs.Codes.{decline_codes_fit}
 use Rattle.frame_laws.specs.Codecs.{Codecs}
 use Rattle.frame_laws.specs.Past.{Passage, sent_in, handed_in}
 use Rattle.frame_laws.specs.Frames.{WasSent, IsCarried, other_end, gives_frame}
-use Rattle.frame_laws.proofs.Facts.{StepLaws, Nodes, Plays, Grows, Mates, WasSentInCall, BytesOk, PacketOk, LetterOk, NodeOk, Holds, among_left, among_right, packets_later, node_later, end_later, all_map, all_push, all_at, grows_on}
+use Rattle.frame_laws.proofs.Facts.{StepLaws, Nodes, Plays, Grows, Mates, WasSentInCall, ReadOk, BytesOk, PacketOk, LetterOk, NodeOk, Holds, among_left, among_right, packets_later, node_later, end_later, all_map, all_push, all_at, grows_on}
 use Rattle.frame_laws.proofs.Changes.{birth_is, role_there, Changed, grows, NoBirth}
 use Rattle.frame_laws.proofs.Births.{Counted, counted_after}
 use Rattle.frame_laws.proofs.Leads.{Heard, heard_later, At, node_again}
@@ -202,7 +201,7 @@ pub record IsFrom (w : World) (gs : List Passage) (n peer : ℕ) (bytes : List �
   pub from : ℕ
   pub number : from < 256
   pub address : peer ≡ address_of from
-  pub bytes_ok : BytesOk w.nodes gs from n bytes
+  pub bytes_ok : ReadOk w.nodes gs from n bytes
 
 abbrev pub IsReal : World → List Passage → ℕ → Event → Type 0
 IsReal w gs n (Datagram peer bytes) = IsFrom w gs n peer bytes
@@ -221,7 +220,7 @@ heard_of w gs n (Datagram peer bytes) h = record {
   number = h.number;
   address = h.address;
   letters = h.bytes_ok.letters;
-  sound = h.bytes_ok.sound;
+  faulty = h.bytes_ok.faulty;
   told = h.bytes_ok.told;
 }
 heard_of w gs n (Ring port) h = tt
@@ -232,18 +231,6 @@ heard_of w gs n OpenTunnel h = tt
 heard_of w gs n (DropCall s) h = tt
 heard_of w gs n (CloseTunnel i) h = tt
 heard_of w gs n Tick h = tt
-
--- what is real has nothing hidden in it
-pub plain_real : (w : World) (gs : List Passage) (n : ℕ) (ev : Event) → IsReal w gs n ev → (secret : Option (List ℕ)) → uncovered_event secret ev ≡ ev
-plain_real w gs n (Datagram peer bytes) h secret = ap (λ (b : List ℕ). Datagram peer b) (h.bytes_ok.plain secret)
-plain_real w gs n (Ring port) h secret = refl
-plain_real w gs n (Payload s frame) h secret = refl
-plain_real w gs n (Lower s frame) h secret = refl
-plain_real w gs n (Hang s) h secret = refl
-plain_real w gs n OpenTunnel h secret = refl
-plain_real w gs n (DropCall s) h secret = refl
-plain_real w gs n (CloseTunnel i) h secret = refl
-plain_real w gs n Tick h secret = refl
 
 -- what a step of a node leads to, in a line
 pub record StepOk (number : ℕ) (w : World) (gs : List Passage) (n : ℕ) (r : Role) (ev : Event) (x : Lined) : Type 0 where
@@ -377,7 +364,7 @@ module _ (codecs : Codecs) (laws : StepLaws) (number : ℕ) (w : World) (gs : Li
         let lo = all_at keeps tunnel.letters (place_of tunnel.control.channel number) l among to.letters in
         rw (are, lo.spelt)
         (letter_ok codecs tunnel.control.remote l.session number tunnel.control.channel.inbox.taken to.remote lo.session
-        v.nodes (gs ++ more) n (node_of peer) lo.message lo.written (rw peer_is lo.names))
+        v.nodes (gs ++ more) n (node_of peer) lo.message lo.hidden lo.written lo.hides (rw peer_is lo.names))
     carries_ok bytes o (Nothing number origin_is are) =
         let to = r.at_end.end.tunnels id tunnel there in
         rw are
@@ -400,7 +387,7 @@ module _ (codecs : Codecs) (laws : StepLaws) (number : ℕ) (w : World) (gs : Li
       let codes = decline_codes_fit d.before (body_of d.does.header d.does.bytes) m why in
       rw (h.bytes_are, d.does.nr)
       (letter_ok codecs m.remote 0 0 (unwrap_or d.does.header.ns 0 + 1) fits (omega arith) v.nodes (gs ++ more) n (node_of peer)
-      (StopCcn 0 m.result m.error) (omega arith, codes.0, codes.1) tt)
+      (StopCcn 0 m.result m.error) None (omega arith, codes.0, codes.1) tt tt)
 
   send_ok : (o : Out) → IsOfMoves s.end s.moves o → SendOk (λ to bytes. BytesOk v.nodes (gs ++ more) n to bytes) o
   send_ok (Send peer bytes o) h =

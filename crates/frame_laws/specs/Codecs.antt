@@ -8,6 +8,7 @@ use Rattle.avp_codec.specs.declared.avp.Avp.{Avp}
 use Rattle.avp_codec.specs.Reading.{avps_of}
 use Rattle.control_message.specs.declared.message.Message.{Message}
 use Rattle.control_message.specs.declared.message.Read.TheVariants.{Known}
+use Rattle.control_message.specs.HiddenRequests.{HiddenRequestsAreRead}
 use Rattle.control_message.specs.Pairs.{pairs_of, IsWritten}
 use Rattle.control_message.specs.Reading.{message_of}
 use Rattle.protocol_model.specs.Names.{calling_number}
@@ -21,4 +22,5 @@ pub record Codecs : Type 0 where
   pub message : (m : Message) → IsWritten m → (avps_of (spelling (pairs_of m)) ≡ Ok (pairs_of m)) × (message_of (pairs_of m) ≡ Ok (Known m))
   pub pairs : (v : List Avp) → AreAvps v → avps_of (spelling v) ≡ Ok v
   pub room : (m : Message) → IsWritten m → length (spelling (pairs_of m)) ≤ 65523
+  pub hidden : HiddenRequestsAreRead
   pub digits : (port : ℕ) → length (calling_number port) ≡ 12

@@ -6,10 +6,9 @@ use Rattle.id_table.specs.Order.{Ascends}
 use Rattle.wire_base.specs.declared.letter.Letter.{Letter}
 use Rattle.l2tp_header.specs.declared.header.Header.{Header}
 use Rattle.l2tp_header.specs.Reading.{header_of}
-use Rattle.avp_codec.specs.Spelling.{spelling}
 use Rattle.control_message.specs.declared.message.Message.{Message}
 use Rattle.control_message.specs.declared.message.Message.TheVariants.{Sccrq, Sccrp, Scccn, StopCcn, Hello, Ocrq, Ocrp, Occn, Icrq, Icrp, Iccn, Cdn, Wen, Sli}
-use Rattle.control_message.specs.Pairs.{pairs_of, IsWritten}
+use Rattle.control_message.specs.Pairs.{IsWritten}
 use Rattle.protocol_model.specs.declared.tunnel.Call.{Call}
 use Rattle.protocol_model.specs.declared.tunnel.Role.{Role}
 use Rattle.protocol_model.specs.declared.tunnel.Role.TheVariants.{Lac, Lns}
@@ -18,7 +17,8 @@ use Rattle.protocol_model.specs.Names.{node_of}
 use Rattle.protocol_model.specs.Turn.{Tunnel}
 use Rattle.protocol_model.specs.declared.event.Addressee.TheVariants.{Opens, Answers}
 use Rattle.protocol_model.specs.Secrets.{uncovered_datagram}
-use Rattle.protocol_model.specs.Reading.{body_of, message_in, call_fault_in, TunnelFault, tunnel_fault_in, at_zero}
+use Rattle.protocol_model.specs.Channels.{letter_as}
+use Rattle.protocol_model.specs.Reading.{body_of, message_in, CallFault, call_fault_in, TunnelFault, tunnel_fault_in, at_zero}
 use Rattle.protocol_model.specs.Calls.{frame_of, is_up}
 use Rattle.protocol_model.specs.End.{End}
 use Rattle.step_laws.specs.Letters.{Among}
@@ -30,6 +30,7 @@ use Rattle.schedule_text.specs.Grammar.{AreLines}
 use Rattle.protocol_model.specs.World.{World, Node}
 use Rattle.protocol_model.specs.Run.{run}
 use Rattle.frame_laws.specs.Past.{Passage, past_of}
+use Rattle.frame_laws.specs.Plain.{HidesOk}
 use Rattle.frame_laws.specs.Frames.{other_end}
 
 abbrev pub Nodes : Type 0
@@ -100,20 +101,23 @@ pub record WasSentInCall (ns : Nodes) (gs : List Passage) (from to session : ℕ
   pub from_is : passage.node ≡ from
   pub to_is : passage.peer ≡ to
 
--- what reading a packet's bytes may give
-pub record BytesOk (ns : Nodes) (gs : List Passage) (from to : ℕ) (bytes : List ℕ) : Type 0 where
+-- what reading bytes may give
+pub record ReadOk (ns : Nodes) (gs : List Passage) (from to : ℕ) (bytes : List ℕ) : Type 0 where
   pub frames : (h : Header) → header_of bytes ≡ Ok h → h.control ≡ false → WasSentInCall ns gs from to h.session (frame_of (body_of h bytes))
   pub letters : (h : Header) → header_of bytes ≡ Ok h → h.control ≡ true → (m : Message) → message_in (body_of h bytes) ≡ Ok m
       → IsWritten m × NamesItsCall ns from to h.session m
-  -- no message about a call has a fault
-  pub sound : (h : Header) → header_of bytes ≡ Ok h → h.control ≡ true → call_fault_in (body_of h bytes) ≡ None
+  -- a message about a call that has a fault tells a session id of 16 bits
+  pub faulty : (h : Header) → header_of bytes ≡ Ok h → h.control ≡ true → (f : CallFault) → call_fault_in (body_of h bytes) ≡ Some f
+      → (own : ℕ) × (f.session ≡ Some own) × (own < 65536)
   -- one that has another fault tells no tunnel id of more than 16 bits
   pub told : (h : Header) → header_of bytes ≡ Ok h → h.control ≡ true → (g : TunnelFault) → tunnel_fault_in (body_of h bytes) ≡ Some g → g.remote < 65536
   -- nor does one that would open a tunnel, or answer an opening, where it comes to none
   pub zero : (h : Header) → header_of bytes ≡ Ok h → h.control ≡ true → (i : ℕ)
       → (at_zero (body_of h bytes) ≡ Opens i) ⊎ (at_zero (body_of h bytes) ≡ Answers i) → i < 65536
-  -- nothing in it is hidden, whatever secret it is read with
-  pub plain : (secret : Option (List ℕ)) → uncovered_datagram secret bytes ≡ bytes
+
+-- so it is with the bytes of a packet, whatever secret they are read with
+abbrev pub BytesOk : Nodes → List Passage → ℕ → ℕ → List ℕ → Type 0
+BytesOk ns gs from to bytes = (secret : Option (List ℕ)) → ReadOk ns gs from to (uncovered_datagram secret bytes)
 
 pub record PacketOk (ns : Nodes) (gs : List Passage) (p : Packet) : Type 0 where
   pub from : p.from < 256
@@ -138,10 +142,12 @@ pub record CallOk (ns : Nodes) (n : ℕ) (role : Role) (bound peer s : ℕ) (c :
 abbrev pub CallsOk : Nodes → ℕ → Role → ℕ → ℕ → List (ℕ × Call) → Type 0
 CallsOk ns n role bound peer calls = (s : ℕ) (c : Call) → at calls s ≡ Some c → CallOk ns n role bound peer s c
 
--- a letter that a tunnel to a peer keeps spells a message that is written, and that names its call
+-- a letter that a tunnel to a peer keeps spells a message that is written, plainly or with its number hidden, and that names its call
 pub record LetterOk (ns : Nodes) (n peer : ℕ) (l : Letter) : Type 0 where
   pub message : Message
-  pub spelt : l.avps ≡ spelling (pairs_of message)
+  pub hidden : Option (List ℕ)
+  pub hides : HidesOk message hidden
+  pub spelt : l.avps ≡ (letter_as l.session message hidden).avps
   pub session : l.session < 65536
   pub written : IsWritten message
   pub names : NamesItsCall ns n (node_of peer) l.session message

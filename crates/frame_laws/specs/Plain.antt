@@ -1,5 +1,9 @@
--- What an end sends has nothing hidden in it: it is the same, whatever secret it is read with.
-use Rattle.std.proofs.Common.{◌≡◌, ℕ, ◌<◌, ◌≤◌, false, List, ◌++◌, length, refl, ap, ◌∙◌, Option, Some, None, Ok}
+-- What an end reads of what another one sends, whatever secret it reads it with: what isn't hidden is the same, and a request whose number
+-- is hidden is that request, with some number, or with one that can't be had.
+use Rattle.std.proofs.Common.{◌≡◌, ℕ, ◌^◌, ◌<◌, ◌≤◌, Bool, true, false, List, ◌++◌, length, refl, ap, ◌∙◌, Option, Some, None, Result, Ok, Err, arith}
+use Rattle.std.proofs.lemmas.Bool.{le-leb}
+use Rattle.wire_base.specs.declared.cause.Cause.TheVariants as cause
+use Rattle.wire_base.specs.declared.why.Why.TheVariants as why
 use Rattle.l2tp_header.specs.declared.header.Header.{Header}
 use Rattle.l2tp_header.specs.Again.{control_header}
 use Rattle.l2tp_header.specs.Spelling.{control_bytes, data_bytes}
@@ -10,8 +14,21 @@ use Rattle.control_message.specs.declared.message.Message.{Message}
 use Rattle.control_message.specs.declared.message.Message.TheVariants.{Sccrq, Sccrp, Scccn, StopCcn, Hello, Ocrq, Ocrp, Occn, Icrq, Icrp, Iccn, Cdn, Wen, Sli}
 use Rattle.control_message.specs.declared.message.Opening.{Opening}
 use Rattle.control_message.specs.declared.message.Failover.{Failover}
-use Rattle.control_message.specs.Pairs.{pairs_of, opening_front, failover_pairs, challenge_pairs, response_pairs, IsWritten}
+use Rattle.control_message.specs.declared.message.MessageError.TheVariants.{BadValue}
+use Rattle.control_message.specs.declared.message.Read.TheVariants.{Known}
+use Rattle.control_message.specs.declared.kind.Kind.TheVariants as kind
+use Rattle.control_message.specs.HiddenRequests.{IsReadAnyway, WithANumber, WithoutANumber, hidden_pairs, ReadsAnyway}
+use Rattle.control_message.specs.Pairs.{pairs_of, opening_front, failover_pairs, challenge_pairs, response_pairs, IsWritten, IsWrittenWith}
+use Rattle.control_message.specs.Reading.{message_of, kind_of_pairs, plain_short}
+use Rattle.control_message.specs.Uncovering.{uncovered}
 use Rattle.protocol_model.specs.Secrets.{has_hidden, uncovered_pairs, uncovered_by, uncovered_datagram}
+use Rattle.protocol_model.specs.declared.event.Addressee.TheVariants.{Nobody}
+use Rattle.protocol_model.specs.declared.tunnel.Config.{Config}
+use Rattle.protocol_model.specs.Channels.{letter_as}
+use Rattle.protocol_model.specs.Messages.{request_of}
+use Rattle.protocol_model.specs.Names.{calling_number}
+use Rattle.protocol_model.specs.Reading.{message_in, pairs_read, message_read, CallFault, call_fault_in, fault_of_pairs, tunnel_fault_in, tunnel_fault_of_pairs, at_zero, zero_pairs, zero_read}
+use Rattle.step_laws.specs.Moves.{HidesNumber, InPlain, ByVector}
 use Rattle.frame_laws.specs.Codecs.{Codecs}
 
 -- what an opening tells, where it tells it, is plain
@@ -45,6 +62,108 @@ hides_nothing (Cdn own code error) = refl
 hides_nothing Wen = refl
 hides_nothing Sli = refl
 
+-- ---- messages that hide a value
+
+-- the pairs of a request whose Calling Number is hidden by some secret, as they are spelled
+pub record HidesItsNumber (m : Message) (pairs : List ℕ) : Type 0 where
+  pub own : ℕ
+  pub serial : ℕ
+  pub number : List ℕ
+  pub secret : List ℕ
+  pub vector : List ℕ
+  pub is : m ≡ Icrq own serial (Some number)
+  pub written : IsWrittenWith (Some secret) (Some vector) (Icrq own serial (Some number))
+  pub are : pairs ≡ spelling (hidden_pairs secret vector number own serial)
+
+-- no other message hides a value
+abbrev pub HidesOk : Message → Option (List ℕ) → Type 0
+HidesOk m None = Unit {0}
+HidesOk m (Some pairs) = HidesItsNumber m pairs
+
+-- a request apart from its Calling Number, which no end uses; every other message as it is
+abbrev pub without_number : Message → Message
+without_number (Icrq own serial calling) = Icrq own serial None
+without_number (Sccrq o) = Sccrq o
+without_number (Sccrp o) = Sccrp o
+without_number (Scccn response) = Scccn response
+without_number (StopCcn tunnel result error) = StopCcn tunnel result error
+without_number Hello = Hello
+without_number (Ocrq own) = Ocrq own
+without_number Ocrp = Ocrp
+without_number Occn = Occn
+without_number (Icrp own) = Icrp own
+without_number (Iccn speed framing sequenced) = Iccn speed framing sequenced
+without_number (Cdn own result error) = Cdn own result error
+without_number Wen = Wen
+without_number Sli = Sli
+
+-- two messages that are the same but for a Calling Number
+abbrev pub AreAlike : Message → Message → Type 0
+AreAlike m x = without_number m ≡ without_number x
+
+-- what the pairs of a message that was sent are read as: it, or the same request with another number, or one without a number
+pub data IsReadAs (m : Message) (body : List ℕ) : Type 0 where
+  AsAMessage : (avps : List Avp) (x : Message) → avps_of body ≡ Ok avps → message_of avps ≡ Ok (Known x) → IsWritten x → AreAlike m x → IsReadAs m body
+  AsAFault : (avps : List Avp) (own serial : ℕ) (number : List ℕ) → m ≡ Icrq own serial (Some number) → own < 2 ^ 16 → avps_of body ≡ Ok avps
+      → message_of avps ≡ Err (BadValue 22) → kind_of_pairs avps ≡ Some kind.Icrq → plain_short 14 avps ≡ Some own → IsReadAs m body
+
+-- a request that an end makes
+pub number_hides : (c : Config) (session port : ℕ) (hidden : Option (List ℕ)) → session < 65536 → length (calling_number port) ≡ 12
+    → HidesNumber c session port hidden → HidesOk (request_of session port) hidden
+number_hides c session port hidden fits digits (InPlain why none) = rw none tt
+number_hides c session port hidden fits digits (ByVector secret vector hides has sized is) = rw is (record {
+  own = session;
+  serial = session;
+  number = calling_number port;
+  secret = secret;
+  vector = vector;
+  is = refl;
+  written = ((omega (arith, fits), omega (arith, fits), omega (arith, digits)), record { sized = sized; secret_there = refl; fits = omega (arith, digits) });
+  are = refl;
+})
+
+-- ---- what is read in such pairs
+
+-- a message that can be read
+module _ (body : List ℕ) (avps : List Avp) (x : Message) (pairs : avps_of body ≡ Ok avps) (reads : message_of avps ≡ Ok (Known x)) where
+  pub message_there : message_in body ≡ Ok x
+  unfolding message_in pairs_read message_read
+  message_there = rw (pairs, reads) refl
+
+  pub no_fault_there : call_fault_in body ≡ None
+  unfolding call_fault_in fault_of_pairs
+  no_fault_there = rw (pairs, reads) refl
+
+  pub no_tunnel_fault_there : tunnel_fault_in body ≡ None
+  unfolding tunnel_fault_in tunnel_fault_of_pairs
+  no_tunnel_fault_there = rw (pairs, reads) refl
+
+  pub zero_there : at_zero body ≡ zero_read avps (Ok (Known x))
+  unfolding at_zero zero_pairs
+  zero_there = rw (pairs, reads) refl
+
+-- the fault of a request whose number can't be had
+abbrev pub number_fault : ℕ → CallFault
+number_fault own = record { kind = kind.Icrq; cause = cause.Value; session = Some own }
+
+module _ (body : List ℕ) (avps : List Avp) (own : ℕ) (pairs : avps_of body ≡ Ok avps) (fault : message_of avps ≡ Err (BadValue 22))
+    (kind_is : kind_of_pairs avps ≡ Some kind.Icrq) (told : plain_short 14 avps ≡ Some own) where
+  pub no_message_there : message_in body ≡ Err why.Avp
+  unfolding message_in pairs_read message_read
+  no_message_there = rw (pairs, fault) refl
+
+  pub fault_there : call_fault_in body ≡ Some (number_fault own)
+  unfolding call_fault_in fault_of_pairs
+  fault_there = rw (pairs, fault, kind_is, told) refl
+
+  pub for_its_call : tunnel_fault_in body ≡ None
+  unfolding tunnel_fault_in tunnel_fault_of_pairs
+  for_its_call = rw (pairs, fault, kind_is, told) refl
+
+  pub for_no_tunnel : at_zero body ≡ Nobody why.Tunnel
+  unfolding at_zero zero_pairs zero_read
+  for_no_tunnel = rw (pairs, fault, kind_is) refl
+
 -- ---- datagrams
 
 -- where no pair is hidden
@@ -72,6 +191,66 @@ module _ (codecs : Codecs) (secret : Option (List ℕ)) where
       → uncovered_datagram secret (control_bytes tunnel session ns nr (spelling (pairs_of m))) ≡ control_bytes tunnel session ns nr (spelling (pairs_of m))
   letter_stays tunnel session ns nr m t s a b w =
       stays_plain tunnel session ns nr (spelling (pairs_of m)) (pairs_of m) t s a b (codecs.room m w) (codecs.message m w).0 (hides_nothing m)
+
+  -- a datagram of pairs, as it is read
+  pub record IsUncovered (tunnel session ns nr : ℕ) (m : Message) (pairs : List ℕ) : Type 0 where
+    pub body : List ℕ
+    pub few : length body ≤ 65523
+    pub is : uncovered_datagram secret (control_bytes tunnel session ns nr pairs) ≡ control_bytes tunnel session ns nr body
+    pub reads : IsReadAs m body
+
+  -- a request whose number is hidden
+  request_uncovered : (tunnel session ns nr : ℕ) (m : Message) (pairs : List ℕ) → tunnel < 65536 → session < 65536 → ns < 65536 → nr < 65536
+      → HidesItsNumber m pairs → IsUncovered tunnel session ns nr m pairs
+  unfolding uncovered_datagram
+  request_uncovered tunnel session ns nr m pairs t s a b h = record {
+    body = spelling (uncovered secret hiding);
+    few = read.room;
+    is = rw h.are (is secret read.room);
+    reads = by read.read;
+  }
+    where
+      hiding : List Avp
+      hiding = hidden_pairs h.secret h.vector h.number h.own h.serial
+
+      read : ReadsAnyway secret h.secret h.vector h.number h.own h.serial
+      read = codecs.hidden secret h.secret h.vector h.number h.own h.serial h.written
+
+      plainly : ReadsAnyway None h.secret h.vector h.number h.own h.serial
+      plainly = codecs.hidden None h.secret h.vector h.number h.own h.serial h.written
+
+      again : avps_of (spelling (uncovered secret hiding)) ≡ Ok (uncovered secret hiding)
+      again = codecs.pairs (uncovered secret hiding) read.fit
+
+      by : IsReadAnyway h.own h.serial (uncovered secret hiding) → IsReadAs m (spelling (uncovered secret hiding))
+      by (WithANumber other short reads) =
+          AsAMessage (uncovered secret hiding) (Icrq h.own h.serial (Some other)) again reads (h.written.0.0, h.written.0.1, short) (rw h.is refl)
+      by (WithoutANumber fault kind told) =
+          AsAFault (uncovered secret hiding) h.own h.serial h.number h.is h.written.0.0 again fault kind told
+
+      bytes : List ℕ
+      bytes = control_bytes tunnel session ns nr (spelling hiding)
+
+      is : (k : Option (List ℕ)) → length (spelling (uncovered k hiding)) ≤ 65523
+          → uncovered_datagram k bytes ≡ control_bytes tunnel session ns nr (spelling (uncovered k hiding))
+      is None few = refl
+      is (Some k) few =
+          let c = codecs.control tunnel session ns nr (spelling hiding) t s a b plainly.room in
+          let header = control_header tunnel session ns nr (length (spelling hiding)) in
+          ap (uncovered_by k bytes) c.reads
+          ∙ (ap (uncovered_pairs k bytes header) (ap avps_of c.bounds ∙ codecs.pairs hiding plainly.fit)
+          ∙ (rw (le-leb (length (spelling (uncovered (Some k) hiding))) 65523 few) refl))
+
+  -- a letter as its channel keeps it
+  pub letter_uncovered : (tunnel session ns nr : ℕ) (m : Message) (hidden : Option (List ℕ)) → tunnel < 65536 → session < 65536 → ns < 65536 → nr < 65536
+      → IsWritten m → HidesOk m hidden → IsUncovered tunnel session ns nr m (letter_as session m hidden).avps
+  letter_uncovered tunnel session ns nr m None t s a b w h = record {
+    body = spelling (pairs_of m);
+    few = codecs.room m w;
+    is = letter_stays tunnel session ns nr m t s a b w;
+    reads = AsAMessage (pairs_of m) m (codecs.message m w).0 (codecs.message m w).1 w refl;
+  }
+  letter_uncovered tunnel session ns nr m (Some pairs) t s a b w h = request_uncovered tunnel session ns nr m pairs t s a b h
 
   -- and a data message
   pub frame_stays : (tunnel session : ℕ) (frame : List ℕ) → tunnel < 65536 → session < 65536

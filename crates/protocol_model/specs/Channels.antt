@@ -1,5 +1,5 @@
 -- What a tunnel's step does with the numbers of its channel, and what is sent by them.
-use Rattle.std.specs.Prelude.{ℕ, ◌+◌, List, Bool, ◌==◌, if◌then◌else◌, nat_le, nat_lt}
+use Rattle.std.specs.Prelude.{ℕ, ◌+◌, List, Option, Some, None, Bool, ◌==◌, if◌then◌else◌, nat_le, nat_lt}
 use Rattle.wire_base.specs.declared.letter.Letter.{Letter}
 use Rattle.l2tp_header.specs.Spelling.{control_bytes}
 use Rattle.avp_codec.specs.Spelling.{spelling}
@@ -38,6 +38,11 @@ may_take c calls = nat_le (c.channel.window.queued + owed_by calls + 4) 8192
 
 abbrev pub letter_of : ℕ → Message → Letter
 letter_of session m = record { session = session; avps = spelling (pairs_of m) }
+
+-- one whose pairs hide a value, where they do, and are given so
+abbrev pub letter_as : ℕ → Message → Option (List ℕ) → Letter
+letter_as session m None = letter_of session m
+letter_as session m (Some pairs) = record { session = session; avps = pairs }
 
 -- one more letter is given
 abbrev pub counts_given : Control → Control

@@ -1,5 +1,7 @@
 -- What ends say when they open tunnels and ask for calls, and what stands against an opening.
-use Rattle.std.specs.Prelude.{ℕ, ◌==◌, ◌||◌, not, Bool, List, false, if◌then◌else◌, Option, Some, None, is_some, is_none, unwrap_or}
+use Rattle.std.specs.Prelude.{ℕ, ◌==◌, ◌||◌, not, Bool, List, true, false, if◌then◌else◌, Option, Some, None, is_some, is_none, unwrap_or}
+use Rattle.avp_codec.specs.Spelling.{spelling}
+use Rattle.control_message.specs.Pairs.{pairs_with}
 use Rattle.control_message.specs.declared.message.Message.{Message}
 use Rattle.control_message.specs.declared.message.Message.TheVariants.{Icrq, Iccn}
 use Rattle.control_message.specs.declared.message.Opening.{Opening}
@@ -8,7 +10,7 @@ use Rattle.tunnel_fsm.specs.declared.table.TunnelEvent.TheVariants.{ScccnAcc, Sc
 use Rattle.protocol_model.specs.declared.tunnel.Config.{Config}
 use Rattle.protocol_model.specs.declared.tunnel.Role.{Role}
 use Rattle.protocol_model.specs.Names.{host_name, calling_number}
-use Rattle.protocol_model.specs.Secrets.{lacks_secret, is_wrong}
+use Rattle.protocol_model.specs.Secrets.{sixteen, lacks_secret, is_wrong}
 use Rattle.protocol_model.specs.Reasons.{Reason, out_of_order, other_version, no_recovery, no_secret}
 
 -- what an end says of itself when it opens or accepts a tunnel: version 1.0, both kinds of framing, its name, the
@@ -29,6 +31,15 @@ opening_of role c challenge response local = record {
 -- the request for a call of a LAC: its session id is its serial number too
 abbrev pub request_of : ℕ → ℕ → Message
 request_of s port = Icrq s s (Some (calling_number port))
+
+-- its pairs where the end hides the calling number: behind a Random Vector, by the secret (RFC 2661 section 4.3)
+abbrev pub hidden_by : Bool → Option (List ℕ) → List ℕ → Message → Option (List ℕ)
+hidden_by true (Some secret) vector m = Some (spelling (pairs_with (Some secret) (Some vector) m))
+hidden_by hide secret vector m = None
+
+-- the vector is the step's block
+abbrev pub hidden_request : Config → List ℕ → ℕ → ℕ → Option (List ℕ)
+hidden_request c block s port = hidden_by c.hide c.secret (sixteen block) (request_of s port)
 
 -- the connection of a call: 100 Mbit a second, synchronous framing
 abbrev pub connection : Message

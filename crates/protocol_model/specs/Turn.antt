@@ -47,8 +47,8 @@ use Rattle.protocol_model.specs.declared.out.Out.TheVariants.{Send, Gone, Drop, 
 use Rattle.protocol_model.specs.declared.out.Origin.TheVariants as origin
 use Rattle.protocol_model.specs.declared.moves.Move.{Move}
 use Rattle.protocol_model.specs.declared.moves.Move.TheVariants as move
-pub use Rattle.protocol_model.specs.Channels.{place, next_place, taken_place, has_room, may_take, letter_of, counts_given, counts_taken, learns_window, counts_acked, datagram, origin_of, sends, counts_sent, counts_repeated}
-pub use Rattle.protocol_model.specs.Messages.{opening_of, request_of, connection, against, is_acceptable, event_by, opening_reason, connected_event, connected_reason}
+pub use Rattle.protocol_model.specs.Channels.{place, next_place, taken_place, has_room, may_take, letter_of, letter_as, counts_given, counts_taken, learns_window, counts_acked, datagram, origin_of, sends, counts_sent, counts_repeated}
+pub use Rattle.protocol_model.specs.Messages.{opening_of, request_of, hidden_request, connection, against, is_acceptable, event_by, opening_reason, connected_event, connected_reason}
 pub use Rattle.protocol_model.specs.Secrets.{challenge_by, response_by}
 pub use Rattle.protocol_model.specs.Moments.{is_over, patience, is_closed, kept_closed, is_being_set_up, is_at_its_end}
 pub use Rattle.protocol_model.specs.Reasons.{Reason, reason, out_of_state, out_of_order, other_version, no_recovery, no_secret, fault_error, fault_reason}
@@ -162,6 +162,10 @@ ends_all (s ∷ ss) t = ends_all ss (ends_call s t)
 -- one more letter is given to the channel
 unfoldable pub gives : ℕ → Message → Turn → Turn
 gives session m t = record t { control = counts_given t.control; given = t.given ++ letter_of session m ∷ [] }
+
+-- one whose pairs hide a value
+unfoldable pub gives_as : ℕ → Message → Option (List ℕ) → Turn → Turn
+gives_as session m hidden t = record t { control = counts_given t.control; given = t.given ++ letter_as session m hidden ∷ [] }
 
 -- the next letter of the peer is taken
 unfoldable pub takes_one : Turn → Turn
@@ -287,28 +291,28 @@ accepts role c asked remote window t = accepts_by role c asked remote window (dr
 -- ---- calls that are asked for
 
 -- a waiting call is asked for, and the peer comes to know it
-unfoldable pub requested : Role → ℕ → Call → Turn → Turn
-requested role s c t =
-    gives 0 (request_of s c.port)
+unfoldable pub requested : Role → Config → ℕ → Call → Turn → Turn
+requested role config s c t =
+    gives_as 0 (request_of s c.port) (hidden_request config t.block s c.port)
     (with_change (cell.Bind s t.control.local t.control.peer)
-    (with_move (move.Requested (record { tunnel = t.control.local; session = s; port = c.port; given = next_place t.control }))
+    (with_move (move.Requested (record { tunnel = t.control.local; session = s; port = c.port; hidden = hidden_request config t.block s c.port; given = next_place t.control }))
     (with_call s (advanced role call_event.TunnelOpen t.moment c) t)))
 
-unfoldable pub requests : Role → ℕ → Call → Turn → Turn
-requests role s c t =
+unfoldable pub requests : Role → Config → ℕ → Call → Turn → Turn
+requests role config s c t =
     if is_request (call_row role c.state call_event.TunnelOpen).1
-    then (if has_room t.control then requested role s c t else drops why.Queue t)
+    then (if has_room t.control then requested role config s c t else drops why.Queue t)
     else t
 
 -- session ids have 16 bits
-unfoldable pub requests_at : Role → ℕ → Option Call → Turn → Turn
-requests_at role s None t = t
-requests_at role s (Some c) t = if nat_lt s 65536 then requests role s c t else t
+unfoldable pub requests_at : Role → Config → ℕ → Option Call → Turn → Turn
+requests_at role config s None t = t
+requests_at role config s (Some c) t = if nat_lt s 65536 then requests role config s c t else t
 
 -- each of these calls that waits is asked for
-unfoldable pub requests_all : Role → List ℕ → List (ℕ × Call) → Turn → Turn
-requests_all role [] calls t = t
-requests_all role (s ∷ ss) calls t = requests_all role ss calls (requests_at role s (at calls s) t)
+unfoldable pub requests_all : Role → Config → List ℕ → List (ℕ × Call) → Turn → Turn
+requests_all role config [] calls t = t
+requests_all role config (s ∷ ss) calls t = requests_all role config ss calls (requests_at role config s (at calls s) t)
 
 -- ---- rings
 
@@ -319,18 +323,19 @@ adds role port s t =
     (with_new s (rung role port t.moment) t)
 
 -- over a tunnel that is open the call is asked for at once; over another it waits
-unfoldable pub rings_over : Role → ℕ → ℕ → Turn → Turn
-rings_over role port s t = if state_number t.control.state == 3 then requests role s (rung role port t.moment) (adds role port s t) else adds role port s t
+unfoldable pub rings_over : Role → Config → ℕ → ℕ → Turn → Turn
+rings_over role config port s t =
+    if state_number t.control.state == 3 then requests role config s (rung role port t.moment) (adds role port s t) else adds role port s t
 
-unfoldable pub rings_by : Role → ℕ → Result ℕ IdError → Turn → Turn
-rings_by role port (Err e) t = with_output (Cause cause.Ids) t
-rings_by role port (Ok s) t = rings_over role port s t
+unfoldable pub rings_by : Role → Config → ℕ → Result ℕ IdError → Turn → Turn
+rings_by role config port (Err e) t = with_output (Cause cause.Ids) t
+rings_by role config port (Ok s) t = rings_over role config port s t
 
 -- over a tunnel that has these calls
-unfoldable pub rings_within : Role → List (ℕ × Call) → ℕ → Turn → Turn
-rings_within role calls port t =
+unfoldable pub rings_within : Role → Config → List (ℕ × Call) → ℕ → Turn → Turn
+rings_within role config calls port t =
     if are_too_many calls then with_output (Cause cause.Calls) t
-    else if may_take t.control calls then rings_by role port (draws t.sessions) t
+    else if may_take t.control calls then rings_by role config port (draws t.sessions) t
     else with_output (Cause cause.Queue) t
 
 -- a new tunnel is opened for the call
@@ -344,7 +349,7 @@ unfoldable pub rings : Role → Config → List (ℕ × Call) → ℕ → Turn �
 rings role c calls port t =
     if state_number t.control.state == 0
     then rings_new role c port (draws t.sessions) (draws t.tunnels) t
-    else rings_within role calls port t
+    else rings_within role c calls port t
 
 -- ---- letters about the tunnel
 
@@ -358,7 +363,7 @@ connected c asked remote window next t =
 -- then each call that waits for it is asked for
 unfoldable pub connects : Role → Config → List (ℕ × Call) → Option (List ℕ) → ℕ → ℕ → TunnelState → Turn → Turn
 connects role c calls asked remote window next t =
-    if has_room t.control then requests_all role (ids_of calls) calls (connected c asked remote window next t) else drops why.Queue t
+    if has_room t.control then requests_all role c (ids_of calls) calls (connected c asked remote window next t) else drops why.Queue t
 
 unfoldable pub confirms : TunnelState → Turn → Turn
 confirms next t =

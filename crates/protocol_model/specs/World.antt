@@ -200,12 +200,12 @@ with_tunnel i (Ok node) = if is_not_closed (at node.end.tunnels i) then Ok node 
 
 -- ---- the lines
 
--- the configuration of a node, which hides nothing
-abbrev pub config_of : ℕ → ℕ → Option (List ℕ) → Config
-config_of n lns secret = record { number = n; address = address_of n; lns = lns; secret = secret; hide = false }
+-- the configuration of a node
+abbrev pub config_of : ℕ → ℕ → Option (List ℕ) → Bool → Config
+config_of n lns secret hide = record { number = n; address = address_of n; lns = lns; secret = secret; hide = hide }
 
-unfoldable pub added : World → ℕ → Role → ℕ → Option (List ℕ) → Result Lined Refusal
-added w n r lns secret = if is_some (at w.nodes n) then Err (Unfit why.Twice) else Ok (quiet_line (with_node w n (record { end = new_end r (config_of n lns secret); clock = 0; births = [] })))
+unfoldable pub added : World → ℕ → Role → ℕ → Option (List ℕ) → Bool → Result Lined Refusal
+added w n r lns secret hide = if is_some (at w.nodes n) then Err (Unfit why.Twice) else Ok (quiet_line (with_node w n (record { end = new_end r (config_of n lns secret hide); clock = 0; births = [] })))
 
 -- the random bytes of a step: the node, and the line, in 8 bytes each
 unfoldable pub block_of : ℕ → ℕ → List ℕ
@@ -265,8 +265,8 @@ later milliseconds (Ok node) = Ok (record node { clock = min (node.clock + milli
 -- what a line with its number leads to, or why it is refused
 unfoldable pub line : World → ℕ → Line → Result Lined Refusal
 line w number (Remark text) = Ok (quiet_line w)
-line w number (Lac n m secret) = added w n role.Lac (address_of m) secret
-line w number (Lns n secret) = added w n role.Lns 0 secret
+line w number (Lac n m secret hide) = added w n role.Lac (address_of m) secret hide
+line w number (Lns n secret) = added w n role.Lns 0 secret false
 line w number (OpenUp n) = stepped w number n event.OpenTunnel None (lac_at (at w.nodes n))
 line w number (Close n i) = stepped w number n (event.CloseTunnel i) None (with_tunnel i (declared (at w.nodes n)))
 line w number (Ring n port) = stepped w number n (event.Ring port) None (lac_at (at w.nodes n))

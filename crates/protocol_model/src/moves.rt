@@ -60,12 +60,14 @@ pub struct Added {
     pub port: u16,
 }
 
-/// A call that waited was asked for by an ICRQ.
-#[derive(Clone, Copy, Debug, PartialEq, Eq)]
+/// A call that waited was asked for by an ICRQ. Where the end hides its Calling Number, `hidden` has the message's pairs as they
+/// are spelled (RFC 2661 section 4.3).
+#[derive(Debug, Drop)]
 pub struct Requested {
     pub tunnel: u16,
     pub session: u16,
     pub port: u16,
+    pub hidden: Option<Bytes>,
     pub given: Place,
 }
 

@@ -1,5 +1,5 @@
 -- A node asks for each of its calls once, in every run.
-use Rattle.std.proofs.Common.{◌≡◌, ⊎_elim, ℕ, List, [], ◌++◌, refl, sym, ap, ◌∙◌, subst, append-nil, Option, Some, None, arith}
+use Rattle.std.proofs.Common.{◌≡◌, ⊎_elim, ℕ, List, [], ◌++◌, refl, sym, ap, ◌∙◌, subst, append-nil, Option, Some, None, arith, Bool}
 use Rattle.std.proofs.lemmas.Option.{none-some}
 use mathlib.Core.Path.{fun_ext}
 use Rattle.id_table.specs.Ids.{at, put, at-none}
@@ -80,10 +80,10 @@ nothing_asks : (known : Known) → ((i : ℕ) → (known i).given ≡ []) → (i
 nothing_asks known none i k s a = no_asking k s (subst (λ ls. Asking ls k s) (none i) a)
 
 -- a node that is new
-fresh_asks : (known : Known) → ((i : ℕ) → (known i).given ≡ []) → (n : ℕ) (r : Role) (lns : ℕ) (secret : Option (List ℕ))
-    → AskOk known (fresh_node n r lns secret).end
-fresh_asks known none n r lns secret =
-    let no_call = λ (i s : ℕ) (c : Call) (h : IsCall (fresh_node n r lns secret).end i s c). none-some h.tunnel (sym (at-none i) ∙ h.there) in
+fresh_asks : (known : Known) → ((i : ℕ) → (known i).given ≡ []) → (n : ℕ) (r : Role) (lns : ℕ) (secret : Option (List ℕ)) (hide : Bool)
+    → AskOk known (fresh_node n r lns secret hide).end
+fresh_asks known none n r lns secret hide =
+    let no_call = λ (i s : ℕ) (c : Call) (h : IsCall (fresh_node n r lns secret hide).end i s c). none-some h.tunnel (sym (at-none i) ∙ h.there) in
     record {
       order = record {
         tunnels = ascends-empty [] refl;
@@ -117,18 +117,18 @@ module _ (r : Run) (ok : RunAsks r) where
       subst (λ (w : World). NodeAsks (r.done ++ x.done) n (at w.nodes n)) (sym world)
       (nodes_ask r.done (r.done ++ x.done) n (at r.world.nodes n) (nothing_done r.done x.done done n) (ok n))
 
-  declared_asks : (x : Lined) (n : ℕ) (role : Role) (lns : ℕ) (secret : Option (List ℕ)) → at r.world.nodes n ≡ None
-      → x ≡ quiet_line (with_node r.world n (fresh_node n role lns secret)) → RunAsks (after_line r x)
-  declared_asks x n role lns secret none e q =
+  declared_asks : (x : Lined) (n : ℕ) (role : Role) (lns : ℕ) (secret : Option (List ℕ)) (hide : Bool) → at r.world.nodes n ≡ None
+      → x ≡ quiet_line (with_node r.world n (fresh_node n role lns secret hide)) → RunAsks (after_line r x)
+  declared_asks x n role lns secret hide none e q =
       let done = ap (λ (y : Lined). y.done) e in
       let world = ap (λ (y : Lined). y.world) e in
-      let new = fresh_node n role lns secret in
+      let new = fresh_node n role lns secret hide in
       let unknown : (i : ℕ) → (account_of r.done n i).given ≡ [] = subst (λ o. NodeAsks r.done n o) none (ok n) in
       subst (λ (w : World). NodeAsks (r.done ++ x.done) q (at w.nodes q)) (sym world)
       (nodes_ask r.done (r.done ++ x.done) q (at (put r.world.nodes n new) q) (nothing_done r.done x.done done q)
       (⊎_elim
       (λ (a : q ≡ n). subst (λ k. NodeAsks r.done k (at (put r.world.nodes n new) k)) (sym a)
-      (rw (at_new r.world.nodes n new) (fresh_asks (account_of r.done n) unknown n role lns secret)))
+      (rw (at_new r.world.nodes n new) (fresh_asks (account_of r.done n) unknown n role lns secret hide)))
       (λ other. rw (at_other r.world.nodes n new q other) (ok q))
       (same_or_not q n)))
 
@@ -181,7 +181,7 @@ module _ (chains : StepsAreChains) (facts : FactsOfRuns) where
   line_asks : (number : ℕ) (before : List Line) (r : Run) → Reached number before r → RunAsks r → (x : Lined) → LineDoes r.world number x
       → RunAsks (after_line r x)
   line_asks number before r h ok x (Nothing e) = quiet_asks r ok x e
-  line_asks number before r h ok x (Declares n role lns secret none e) = declared_asks r ok x n role lns secret none e
+  line_asks number before r h ok x (Declares n role lns secret hide none e) = declared_asks r ok x n role lns secret hide none e
   line_asks number before r h ok x (Steps n old clock ev sender there from e) =
       subst (λ y. RunAsks (after_line r y)) (sym e) (step_asks r ok chains (kept_now number before r h) number n old clock ev sender there)
 

@@ -1,5 +1,5 @@
 -- Two sessions of LNSs with one birth are one, in every run.
-use Rattle.std.proofs.Common.{◌≡◌, ⊎_elim, ℕ, ◌<◌, List, ◌++◌, sym, ap, ◌∙◌, subst, Option, Some, None, slice_get, arith}
+use Rattle.std.proofs.Common.{◌≡◌, ⊎_elim, ℕ, ◌<◌, List, ◌++◌, sym, ap, ◌∙◌, subst, Option, Some, None, slice_get, arith, Bool}
 use Rattle.std.proofs.lemmas.Option.{none-some}
 use Rattle.id_table.specs.Ids.{at, put, at-none}
 use Rattle.id_table.specs.Order.{at_new, found_put, same_or_not}
@@ -53,8 +53,8 @@ node_tells_later ns ms births known later same node h lns =
     tells_later ns ms births known later (λ i k t g. rw (same i).taken g) node.end.session_ids.next node.births (h lns)
 
 -- a node that is new has drawn no session id
-fresh_tells : (ns : Nodes) (known : Known) (n : ℕ) (r : Role) (lns : ℕ) (secret : Option (List ℕ)) → NodeTells ns known (fresh_node n r lns secret)
-fresh_tells ns known n r lns secret is_lns = record {
+fresh_tells : (ns : Nodes) (known : Known) (n : ℕ) (r : Role) (lns : ℕ) (secret : Option (List ℕ)) (hide : Bool) → NodeTells ns known (fresh_node n r lns secret hide)
+fresh_tells ns known n r lns secret hide is_lns = record {
   drawn = λ s some lt. absurd (omega (arith, some, lt));
   told = λ s b f some. absurd (none-some b (sym (at-none s) ∙ f));
 }
@@ -92,17 +92,17 @@ module _ (r : Run) (ok : RunTells r) where
   fresh_stay n new none =
       put_stays r.world.nodes n new (λ q c h. absurd (none-some c (subst (λ (o : Option Node). birth_in_node o q ≡ Some c) none h)))
 
-  declared_tells : (x : Lined) (n : ℕ) (role : Role) (lns : ℕ) (secret : Option (List ℕ)) → at r.world.nodes n ≡ None
-      → x ≡ quiet_line (with_node r.world n (fresh_node n role lns secret)) → RunTells (after_line r x)
-  declared_tells x n role lns secret none e q node f =
+  declared_tells : (x : Lined) (n : ℕ) (role : Role) (lns : ℕ) (secret : Option (List ℕ)) (hide : Bool) → at r.world.nodes n ≡ None
+      → x ≡ quiet_line (with_node r.world n (fresh_node n role lns secret hide)) → RunTells (after_line r x)
+  declared_tells x n role lns secret hide none e q node f =
       let done = nothing_done r.done x.done (ap (λ (y : Lined). y.done) e) q in
-      let new = fresh_node n role lns secret in
+      let new = fresh_node n role lns secret hide in
       let ns = put r.world.nodes n new in
       let nodes : x.world.nodes ≡ ns = ap (λ (y : Lined). y.world.nodes) e in
       let later = account_of (r.done ++ x.done) q in
       subst (λ ms. NodeTells ms later node) (sym nodes)
       (⊎_elim
-      (λ (a : (q ≡ n) × (new ≡ node)). subst (λ y. NodeTells ns later y) a.1 (fresh_tells ns later n role lns secret))
+      (λ (a : (q ≡ n) × (new ≡ node)). subst (λ y. NodeTells ns later y) a.1 (fresh_tells ns later n role lns secret hide))
       (λ a. node_tells_later r.world.nodes ns (fresh_stay n new none) (account_of r.done q) later done node (ok q node a.1))
       (found_put r.world.nodes n new q node (rw (← nodes) f)))
 
@@ -197,7 +197,7 @@ module _ (chains : StepsAreChains) (facts : FactsOfRuns) where
   line_tells : (number : ℕ) (before : List Line) (r : Run) → Reached number before r → RunTells r → (x : Lined) → LineDoes r.world number x
       → RunTells (after_line r x)
   line_tells number before r h ok x (Nothing e) = quiet_tells r ok x e
-  line_tells number before r h ok x (Declares n role lns secret none e) = declared_tells r ok x n role lns secret none e
+  line_tells number before r h ok x (Declares n role lns secret hide none e) = declared_tells r ok x n role lns secret hide none e
   line_tells number before r h ok x (Steps n old clock ev sender there from e) =
       let gs = (past_of before).sent in
       let now : Holds r.world gs = subst (λ (q : Run). Holds q.world gs) (reached_is number before r h) (facts before h.fit) in

@@ -1,5 +1,5 @@
 -- What a line does: nothing, or a node is declared, or a node makes a step.
-use Rattle.std.proofs.Common.{◌≡◌, ℕ, ◌+◌, ◌-◌, ◌^◌, false, List, [], refl, sym, ap, ◌∙◌, subst, Option, Some, None, Result, Ok, Err}
+use Rattle.std.proofs.Common.{◌≡◌, ℕ, ◌+◌, ◌-◌, ◌^◌, false, List, [], refl, sym, ap, ◌∙◌, subst, Option, Some, None, Result, Ok, Err, Bool}
 use Rattle.std.proofs.lemmas.Bool.{true≢false}
 use Rattle.std.specs.Prelude.{is_some, min, slice_get}
 use Rattle.id_table.specs.Ids.{at}
@@ -35,8 +35,8 @@ uncovered_from w sender ev secret (OfNobody none) = OfNobody none
 uncovered_from w sender ev secret (OfPacket k p there sent bytes is) =
     OfPacket k p there sent (uncovered_datagram secret bytes) (ap (uncovered_event secret) is)
 
-abbrev pub fresh_node : ℕ → Role → ℕ → Option (List ℕ) → Node
-fresh_node n r lns secret = record { end = new_end r (config_of n lns secret); clock = 0; births = [] }
+abbrev pub fresh_node : ℕ → Role → ℕ → Option (List ℕ) → Bool → Node
+fresh_node n r lns secret hide = record { end = new_end r (config_of n lns secret hide); clock = 0; births = [] }
 
 -- a step of a node, at the clock's moment
 abbrev pub step_of : World → ℕ → ℕ → Node → Event → Option Sender → Lined
@@ -44,8 +44,8 @@ step_of w number n node ev sender = after_step w number n node sender (step node
 
 pub data LineDoes (w : World) (number : ℕ) (x : Lined) : Type 0 where
   Nothing : x ≡ quiet_line w → LineDoes w number x
-  Declares : (n : ℕ) (r : Role) (lns : ℕ) (secret : Option (List ℕ)) → at w.nodes n ≡ None
-      → x ≡ quiet_line (with_node w n (fresh_node n r lns secret)) → LineDoes w number x
+  Declares : (n : ℕ) (r : Role) (lns : ℕ) (secret : Option (List ℕ)) (hide : Bool) → at w.nodes n ≡ None
+      → x ≡ quiet_line (with_node w n (fresh_node n r lns secret hide)) → LineDoes w number x
   Steps : (n : ℕ) (old : Node) (clock : ℕ) (ev : Event) (sender : Option Sender) → at w.nodes n ≡ Some old → IsFrom w sender ev
       → x ≡ step_of w number n (record old { clock = clock }) ev sender → LineDoes w number x
 
@@ -75,11 +75,11 @@ is_later w n milliseconds (Some x) node is h =
 -- ---- lines
 
 module _ (w : World) (number : ℕ) (x : Lined) where
-  added_does : (n : ℕ) (r : Role) (lns : ℕ) (secret : Option (List ℕ)) → added w n r lns secret ≡ Ok x → LineDoes w number x
+  added_does : (n : ℕ) (r : Role) (lns : ℕ) (secret : Option (List ℕ)) (hide : Bool) → added w n r lns secret hide ≡ Ok x → LineDoes w number x
   unfolding added
-  added_does n r lns secret h =
-      let t = tested_not (is_some (at w.nodes n)) (quiet_line (with_node w n (fresh_node n r lns secret))) (Unfit why.Twice) x h in
-      Declares n r lns secret (none_there (at w.nodes n) t.0) (sym t.1)
+  added_does n r lns secret hide h =
+      let t = tested_not (is_some (at w.nodes n)) (quiet_line (with_node w n (fresh_node n r lns secret hide))) (Unfit why.Twice) x h in
+      Declares n r lns secret hide (none_there (at w.nodes n) t.0) (sym t.1)
 
   stepped_does : (n : ℕ) (ev : Event) (sender : Option Sender) (o : Result Node Why) → ((node : Node) → o ≡ Ok node → IsAt w n node)
       → IsFrom w sender ev → stepped w number n ev sender o ≡ Ok x → LineDoes w number x
@@ -111,8 +111,8 @@ module _ (w : World) (number : ℕ) (x : Lined) where
   pub line_does : (l : Line) → line w number l ≡ Ok x → LineDoes w number x
   unfolding line
   line_does (Remark text) h = let e : quiet_line w ≡ x = cc in Nothing (sym e)
-  line_does (Lac n m secret) h = added_does n role.Lac (address_of m) secret h
-  line_does (Lns n secret) h = added_does n role.Lns 0 secret h
+  line_does (Lac n m secret hide) h = added_does n role.Lac (address_of m) secret hide h
+  line_does (Lns n secret) h = added_does n role.Lns 0 secret false h
   line_does (OpenUp n) h =
       stepped_does n event.OpenTunnel None (lac_at (at w.nodes n)) (λ node e. is_there w n node ((is_lac_at (at w.nodes n) node e).0)) (OfNobody refl) h
   line_does (Close n i) h =

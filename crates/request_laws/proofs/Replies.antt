@@ -39,8 +39,8 @@ more_taken ts ls t new h k u m there is = ⊎_elim
 -- a move that makes a call for a request gives the reply
 reply_given : (d : Deed) (ls : List Letter) (m : Replied) → d.move ≡ move.Replied m → HasReply (ls ++ gives d) m.session
 reply_given d ls m is =
-    let l : Letter = record { tunnel = m.tunnel; place = m.given; session = m.remote; message = Icrp m.session } in
-    let one : gives d ≡ l ∷ [] = ap (λ q. letters_of d.role (config_of d.node 0 None) q) is in
+    let l : Letter = record { tunnel = m.tunnel; place = m.given; session = m.remote; message = Icrp m.session; hidden = None } in
+    let one : gives d ≡ l ∷ [] = ap (λ q. letters_of d.role (config_of d.node 0 None false) q) is in
     rw one (record { number = length ls; letter = l; there = got_last ls l; says = refl })
 
 -- what a deed leaves of a tunnel

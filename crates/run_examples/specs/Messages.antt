@@ -33,7 +33,7 @@ use Rattle.run_examples.specs.Channels.{channel}
 
 -- the tunnel is 1, which the LNS calls 7; it has these letters, and one call, session 3
 abbrev pub lac_with : Call → Look → Numbers → List Letter → End
-lac_with c l n letters = record (new_end role.Lac (config_of 9 (address_of 4) None)) {
+lac_with c l n letters = record (new_end role.Lac (config_of 9 (address_of 4) None false)) {
   tunnels = (
     1,
     record {
@@ -153,12 +153,12 @@ pub record MessagesAreAcknowledged : Type 0 where
 
 -- the LAC has sent its SCCRQ, and session 3 waits for the tunnel
 abbrev pub opening_lac : End
-opening_lac = record (new_end role.Lac (config_of 9 (address_of 4) None)) {
+opening_lac = record (new_end role.Lac (config_of 9 (address_of 4) None false)) {
   tunnels = (
     1,
     record {
       control = record { local = 1; peer = address_of 4; remote = 0; state = states.WaitCtlReply; channel = channel 0 1 1 0; made = 0; heard = 0; closed = 0; challenge = None };
-      letters = letter_of 0 (Sccrq (opening_of role.Lac (config_of 9 (address_of 4) None) None None 1)) ∷ [];
+      letters = letter_of 0 (Sccrq (opening_of role.Lac (config_of 9 (address_of 4) None false) None None 1)) ∷ [];
       calls = (3, record { remote = 0; state = WaitTunnel; since = 0; port = 70; steps = [] }) ∷ [];
     },
   ) ∷ [];
@@ -167,7 +167,7 @@ opening_lac = record (new_end role.Lac (config_of 9 (address_of 4) None)) {
 
 -- the SCCRP tells a window of so many letters
 abbrev pub sccrp : ℕ → Event
-sccrp window = Datagram (address_of 4) (control_bytes 1 0 0 1 (spelling (pairs_of (Sccrp (record (opening_of role.Lns (config_of 4 0 None) None None 7) { window = window })))))
+sccrp window = Datagram (address_of 4) (control_bytes 1 0 0 1 (spelling (pairs_of (Sccrp (record (opening_of role.Lns (config_of 4 0 None false) None None 7) { window = window })))))
 
 -- the SCCRQ that it acknowledges makes the congestion window two letters wide; a window of one letter lets one go
 pub record WindowsAreKept : Type 0 where
@@ -178,12 +178,12 @@ pub record WindowsAreKept : Type 0 where
 
 -- the LNS, node 4, answered the SCCRQ of the LAC by an SCCRP, in tunnel 7
 abbrev pub lns : End
-lns = record (new_end role.Lns (config_of 4 0 None)) {
+lns = record (new_end role.Lns (config_of 4 0 None false)) {
   tunnels = (
     7,
     record {
       control = record { local = 7; peer = address_of 9; remote = 1; state = states.WaitCtlConn; channel = channel 0 1 1 1; made = 0; heard = 0; closed = 0; challenge = None };
-      letters = letter_of 0 (Sccrp (opening_of role.Lns (config_of 4 0 None) None None 7)) ∷ [];
+      letters = letter_of 0 (Sccrp (opening_of role.Lns (config_of 4 0 None false) None None 7)) ∷ [];
       calls = [];
     },
   ) ∷ [];
@@ -191,7 +191,7 @@ lns = record (new_end role.Lns (config_of 4 0 None)) {
 
 -- an SCCRQ of a node, which assigns this id
 abbrev pub sccrq : ℕ → ℕ → Event
-sccrq node local = Datagram (address_of node) (control_bytes 0 0 0 0 (spelling (pairs_of (Sccrq (opening_of role.Lac (config_of node (address_of 4) None) None None local)))))
+sccrq node local = Datagram (address_of node) (control_bytes 0 0 0 0 (spelling (pairs_of (Sccrq (opening_of role.Lac (config_of node (address_of 4) None false) None None local)))))
 
 pub record OpeningsComeOnce : Type 0 where
   -- it is acknowledged again in the tunnel that it opened, and opens none

@@ -22,7 +22,7 @@ use Rattle.run_examples.specs.Channels.{channel}
 
 -- the LNS, node 4: in tunnel 7 to node 9 it took so many messages, and 50,000 of its own were acknowledged
 abbrev pub lns : ℕ → End
-lns taken = record (new_end role.Lns (config_of 4 0 None)) {
+lns taken = record (new_end role.Lns (config_of 4 0 None false)) {
   tunnels = (
     7,
     record {

@@ -38,7 +38,7 @@ control = record { local = 1; peer = address_of 4; remote = 7; state = states.Es
 
 -- the LAC, node 9
 abbrev pub lac : End
-lac = record (new_end role.Lac (config_of 9 (address_of 4) None)) {
+lac = record (new_end role.Lac (config_of 9 (address_of 4) None false)) {
   session_ids = record (whole_space 65534) { next = 7 };
   tunnels = (1, record { control = control; letters = []; calls = calls }) ∷ [];
   calls = (3, place) ∷ (4, place) ∷ (5, place) ∷ (6, place) ∷ [];

@@ -29,7 +29,7 @@ use Rattle.run_examples.specs.Messages.{sccrq}
 
 -- the LNS, node 4, with one established call: session 3, in tunnel 2 to node 6
 abbrev pub lns : End
-lns = record (new_end role.Lns (config_of 4 0 None)) { calls = (3, record { tunnel = 2; look = Established 2 (address_of 6) }) ∷ [] }
+lns = record (new_end role.Lns (config_of 4 0 None false)) { calls = (3, record { tunnel = 2; look = Established 2 (address_of 6) }) ∷ [] }
 
 abbrev pub frame : List ℕ
 frame = 0 ∷ 33 ∷ 170 ∷ []
@@ -73,7 +73,7 @@ spent last = record { last = last; ceiling = last; next = last + 1 }
 
 -- the LAC, node 9, with an open tunnel
 abbrev pub lac : End
-lac = record (new_end role.Lac (config_of 9 (address_of 4) None)) {
+lac = record (new_end role.Lac (config_of 9 (address_of 4) None false)) {
   tunnels = (
     1,
     record {

@@ -31,13 +31,13 @@ lns queued = record {
 
 abbrev pub lac_node : ℕ → Node
 lac_node queued = record {
-  end = record (new_end role.Lac (config_of 9 (address_of 4) None)) { tunnels = (1, lac queued) ∷ [] };
+  end = record (new_end role.Lac (config_of 9 (address_of 4) None false)) { tunnels = (1, lac queued) ∷ [] };
   clock = 0;
   births = (1, 2) ∷ (2, 1) ∷ [];
 }
 
 abbrev pub lns_node : ℕ → Node
-lns_node queued = record { end = record (new_end role.Lns (config_of 4 0 None)) { tunnels = (7, lns queued) ∷ [] }; clock = 0; births = (5, 2) ∷ [] }
+lns_node queued = record { end = record (new_end role.Lns (config_of 4 0 None false)) { tunnels = (7, lns queued) ∷ [] }; clock = 0; births = (5, 2) ∷ [] }
 
 -- where the LAC and the LNS keep so many letters, of which the first was acknowledged by none yet
 abbrev pub world : ℕ → ℕ → World

@@ -5,7 +5,7 @@ use Rattle.std.specs.List.{list_all, AllByRecursion}
 use Rattle.std.specs.Char.{is_ascii_digit}
 use Rattle.std.specs.Str.{bytes_eq, all_ascii_digits}
 use Rattle.std.specs.Fmt.{decimal}
-use Rattle.std.proofs.lemmas.Bool.{cases_Bool, eqb-true, eq-eqb, ne_eqb, leb-true, le-leb, and_parts, and_from}
+use Rattle.std.proofs.lemmas.Bool.{cases_Bool, false≢true, eqb-true, eq-eqb, ne_eqb, leb-true, le-leb, and_parts, and_from}
 use Rattle.std.proofs.lemmas.Option.{none-some, same_Some}
 use Rattle.std.proofs.lemmas.Slice.Eq.{bytes_eq-Decides}
 use Rattle.std.proofs.lemmas.Fmt.{digits_decimal}
@@ -14,8 +14,8 @@ use Rattle.hex.specs.declared.error.FromHexError.{FromHexError}
 use Rattle.hex.proofs.HexLemmas.{decode_of-encode_lower, decode_of-ok}
 use Rattle.schedule_text.specs.declared.line.Line.{Line}
 use Rattle.schedule_text.specs.declared.line.Line.TheVariants.{Remark, Lac, Lns, OpenUp, Close, Ring, FromSub, Down, Hang, DropCall, Deliver, Tick}
-use Rattle.schedule_text.specs.Grammar.{call_text, line_text, IsPrintable, IsNode, IsPort, IsSession, IsTunnel, IsFrame, IsPacket, IsMilliseconds, IsSecret, secret_text, FitsLine}
-use Rattle.schedule_text.specs.Reading.{◌>>=◌, cut, node_of, port_of, session_of, packet_of, milliseconds_of, bytes_from, bytes_of, frame_of, secret_of, pair_of, lac_of, lns_of, open_of, ring_of, call_of, from_sub_of, down_of, node_session_of, hang_of, drop_of, close_of, deliver_of, tick_of, plain_of, words_of, is_printable, remark_of, line_of}
+use Rattle.schedule_text.specs.Grammar.{call_text, line_text, IsPrintable, IsNode, IsPort, IsSession, IsTunnel, IsFrame, IsPacket, IsMilliseconds, IsSecret, HasSecret, secret_text, mode_text, FitsLine}
+use Rattle.schedule_text.specs.Reading.{◌>>=◌, cut, node_of, port_of, session_of, packet_of, milliseconds_of, bytes_from, bytes_of, frame_of, secret_of, mode_of, mode_words_of, lac_by, lac_of, lns_of, open_of, ring_of, call_of, from_sub_of, down_of, node_session_of, hang_of, drop_of, close_of, deliver_of, tick_of, plain_of, words_of, is_printable, remark_of, line_of}
 use Rattle.schedule_text.proofs.Numbers.{own, number_found, number_again}
 
 -- ---- parts
@@ -125,36 +125,55 @@ secret_found word secret e =
 
 -- ---- ends that were read
 
--- the words are those of a LAC, of its LNS, and of their secret
-record IsPair (words : List ℕ) (pair : ℕ × ℕ × List ℕ) : Type 0 where
-  spelled : words ≡ decimal pair.0 ++ 32 ∷ (decimal pair.1 ++ 32 ∷ (pair.2 ++ 32 ∷ codes "plain"))
-  node : IsNode pair.0
-  lns : IsNode pair.1
+-- the word of a mode that is read is the one spelling of it
+mode_found : (hide : Bool) (word : List ℕ) → mode_of word ≡ Some hide → word ≡ mode_text hide
+mode_found hide word e =
+    elim (either (bytes_eq word (codes "plain")) (Some false) _ hide e) [
+      | inl a ↦ subst (λ b. word ≡ mode_text b) (same_Some false hide a.1) (same_text word (codes "plain") a.0)
+      | inr e1 ↦
+          let c = chosen _ _ hide e1 in
+          subst (λ b. word ≡ mode_text b) (same_Some true hide c.1) (same_text word (codes "hide") c.0)
+    ]
 
-pair_found : (words : List ℕ) (pair : ℕ × ℕ × List ℕ) → pair_of words ≡ Some pair → IsPair words pair
-unfolding pair_of
-pair_found words pair e =
-    bound (cut 32 words) _ pair e (λ a ea ha.
-    bound (cut 32 a.1) _ pair ha (λ b eb hb.
-    bound (cut 32 b.1) _ pair hb (λ c ec hc.
-    let plain = chosen _ _ pair hc in
-    bound (node_of a.0) _ pair plain.1 (λ node en hn.
-    bound (node_of b.0) _ pair hn (λ lns em hm.
+-- the words are those of a LAC, of its LNS, of their secret, and of the mode
+record AreModeWords (words : List ℕ) (said : ℕ × ℕ × List ℕ × Bool) : Type 0 where
+  spelled : words ≡ decimal said.0 ++ 32 ∷ (decimal said.1 ++ 32 ∷ (said.2 ++ 32 ∷ mode_text said.3))
+  node : IsNode said.0
+  lns : IsNode said.1
+
+mode_words_found : (words : List ℕ) (said : ℕ × ℕ × List ℕ × Bool) → mode_words_of words ≡ Some said → AreModeWords words said
+unfolding mode_words_of
+mode_words_found words said e =
+    bound (cut 32 words) _ said e (λ a ea ha.
+    bound (cut 32 a.1) _ said ha (λ b eb hb.
+    bound (cut 32 b.1) _ said hb (λ c ec hc.
+    bound (node_of a.0) _ said hc (λ node en hn.
+    bound (node_of b.0) _ said hn (λ lns em hm.
+    bound (mode_of c.1) _ said hm (λ hide eo ho.
     let n = node_found node a.0 en in
     let m = node_found lns b.0 em in
-    let mode : b.1 ≡ c.0 ++ 32 ∷ codes "plain" = cut_found 32 b.1 c.0 c.1 ec ∙ ap (λ t. c.0 ++ 32 ∷ t) (same_text c.1 (codes "plain") plain.0) in
+    let mode : b.1 ≡ c.0 ++ 32 ∷ mode_text hide = cut_found 32 b.1 c.0 c.1 ec ∙ ap (λ t. c.0 ++ 32 ∷ t) (mode_found hide c.1 eo) in
     let tail = cut_words a.1 b.0 b.1 lns eb m.0 ∙ ap (λ t. decimal lns ++ 32 ∷ t) mode in
-    let found : IsPair words (node, lns, c.0) =
+    let found : AreModeWords words (node, lns, c.0, hide) =
     record {
       spelled = cut_words words a.0 a.1 node ea n.0 ∙ ap (λ t. decimal node ++ 32 ∷ t) tail;
       node = n.1;
       lns = m.1;
     } in
-    subst (IsPair words) (same_Some (node, lns, c.0) pair hm) found)))))
+    subst (AreModeWords words) (same_Some (node, lns, c.0, hide) said ho) found))))))
+
+-- a line that is read has a secret, if it hides
+lac_by_found : (node lns : ℕ) (secret : Option (List ℕ)) (hide : Bool) (l : Line) →
+    lac_by node lns secret hide ≡ Some l → HasSecret hide secret × (Lac node lns secret hide ≡ l)
+lac_by_found node lns secret false l e = (λ t. absurd (false≢true t), same_Some (Lac node lns secret false) l e)
+lac_by_found node lns None true l e = absurd (none-some l e)
+lac_by_found node lns (Some s) true l e = (λ t. refl, same_Some (Lac node lns (Some s) true) l e)
 
 -- the same bytes, as words that are cut in turn
-regroup_lac : (node lns : ℕ) (secret : List ℕ) → decimal node ++ codes " " ++ decimal lns ++ codes " " ++ secret ++ codes " plain" ≡ decimal node ++ 32 ∷ (decimal lns ++ 32 ∷ (secret ++ 32 ∷ codes "plain"))
-regroup_lac node lns secret = simp append_assoc
+regroup_lac : (node lns : ℕ) (secret mode : List ℕ) →
+    decimal node ++ codes " " ++ decimal lns ++ codes " " ++ secret ++ codes " " ++ mode
+    ≡ decimal node ++ 32 ∷ (decimal lns ++ 32 ∷ (secret ++ 32 ∷ mode))
+regroup_lac node lns secret mode = simp append_assoc
 
 regroup_lns : (node : ℕ) (secret : List ℕ) → decimal node ++ codes " " ++ secret ≡ decimal node ++ 32 ∷ secret
 regroup_lns node secret = simp append_assoc
@@ -162,14 +181,16 @@ regroup_lns node secret = simp append_assoc
 lac_found : (words : List ℕ) (l : Line) → lac_of words ≡ Some l → IsSpelled l (codes "lac " ++ words)
 unfolding lac_of
 lac_found words l e =
-    bound (pair_of words) _ l e (λ pair ep hp.
-    bound (secret_of pair.2) _ l hp (λ secret es hs.
-    let p = pair_found words pair ep in
-    let s = secret_found pair.2 secret es in
-    let text : words ≡ decimal pair.0 ++ codes " " ++ decimal pair.1 ++ codes " " ++ secret_text secret ++ codes " plain" =
-    p.spelled ∙ ap (λ t. decimal pair.0 ++ 32 ∷ (decimal pair.1 ++ 32 ∷ (t ++ 32 ∷ codes "plain"))) s.0 ∙ sym (regroup_lac pair.0 pair.1 (secret_text secret)) in
-    let spelled : IsSpelled (Lac pair.0 pair.1 secret) (codes "lac " ++ words) = ((p.node, p.lns, s.1), ap (λ t. codes "lac " ++ t) text) in
-    subst (λ x. IsSpelled x (codes "lac " ++ words)) (same_Some (Lac pair.0 pair.1 secret) l hs) spelled))
+    bound (mode_words_of words) _ l e (λ said em hm.
+    bound (secret_of said.2) _ l hm (λ secret es hs.
+    let m = mode_words_found words said em in
+    let s = secret_found said.2 secret es in
+    let by = lac_by_found said.0 said.1 secret said.3 l hs in
+    let text : words ≡ decimal said.0 ++ codes " " ++ decimal said.1 ++ codes " " ++ secret_text secret ++ codes " " ++ mode_text said.3 =
+    m.spelled ∙ ap (λ t. decimal said.0 ++ 32 ∷ (decimal said.1 ++ 32 ∷ (t ++ 32 ∷ mode_text said.3))) s.0
+    ∙ sym (regroup_lac said.0 said.1 (secret_text secret) (mode_text said.3)) in
+    let spelled : IsSpelled (Lac said.0 said.1 secret said.3) (codes "lac " ++ words) = ((m.node, m.lns, s.1, by.0), ap (λ t. codes "lac " ++ t) text) in
+    subst (λ x. IsSpelled x (codes "lac " ++ words)) by.1 spelled))
 
 lns_found : (words : List ℕ) (l : Line) → lns_of words ≡ Some l → IsSpelled l (codes "lns " ++ words)
 unfolding lns_of
@@ -469,14 +490,32 @@ secret_again (Some s) h = rw (no_dash s h.0, bytes_again 1 64 s h.0 h.1 h.2) ref
 secret_cut : (secret : Option (List ℕ)) (rest : List ℕ) → cut 32 (secret_text secret ++ 32 ∷ rest) ≡ Some (secret_text secret, rest)
 secret_cut secret rest = cut_again 32 (secret_text secret) rest (secret_lacks 32 secret refl refl digits_lack_space)
 
-pair_again : (node lns : ℕ) (secret : Option (List ℕ)) → IsNode node → IsNode lns → pair_of (decimal node ++ 32 ∷ (decimal lns ++ 32 ∷ (secret_text secret ++ 32 ∷ codes "plain"))) ≡ Some (node, lns, secret_text secret)
-unfolding pair_of
-pair_again node lns secret n m =
-    rw (node_cut node (decimal lns ++ 32 ∷ (secret_text secret ++ 32 ∷ codes "plain")) n, node_cut lns (secret_text secret ++ 32 ∷ codes "plain") m, secret_cut secret (codes "plain"), node_again node n, node_again lns m) refl
+mode_again : (hide : Bool) → mode_of (mode_text hide) ≡ Some hide
+mode_again false = refl
+mode_again true = refl
 
-lac_again : (node lns : ℕ) (secret : Option (List ℕ)) → IsNode node → IsNode lns → IfSome secret IsSecret → lac_of (decimal node ++ 32 ∷ (decimal lns ++ 32 ∷ (secret_text secret ++ 32 ∷ codes "plain"))) ≡ Some (Lac node lns secret)
+mode_words_again : (node lns : ℕ) (secret : Option (List ℕ)) (hide : Bool) → IsNode node → IsNode lns →
+    mode_words_of (decimal node ++ 32 ∷ (decimal lns ++ 32 ∷ (secret_text secret ++ 32 ∷ mode_text hide)))
+    ≡ Some (node, lns, secret_text secret, hide)
+unfolding mode_words_of
+mode_words_again node lns secret hide n m =
+    let first = node_cut node (decimal lns ++ 32 ∷ (secret_text secret ++ 32 ∷ mode_text hide)) n in
+    let second = node_cut lns (secret_text secret ++ 32 ∷ mode_text hide) m in
+    rw (first, second, secret_cut secret (mode_text hide), node_again node n, node_again lns m, mode_again hide) refl
+
+-- a line that has a secret, if it hides, is read
+lac_by_again : (node lns : ℕ) (secret : Option (List ℕ)) (hide : Bool) → HasSecret hide secret →
+    lac_by node lns secret hide ≡ Some (Lac node lns secret hide)
+lac_by_again node lns secret false h = refl
+lac_by_again node lns None true h = absurd (false≢true (h refl))
+lac_by_again node lns (Some s) true h = refl
+
+lac_again : (node lns : ℕ) (secret : Option (List ℕ)) (hide : Bool) → FitsLine (Lac node lns secret hide) →
+    lac_of (decimal node ++ 32 ∷ (decimal lns ++ 32 ∷ (secret_text secret ++ 32 ∷ mode_text hide)))
+    ≡ Some (Lac node lns secret hide)
 unfolding lac_of
-lac_again node lns secret n m s = rw (pair_again node lns secret n m, secret_again secret s) refl
+lac_again node lns secret hide h =
+    rw (mode_words_again node lns secret hide h.0 h.1, secret_again secret h.2, lac_by_again node lns secret hide h.3) refl
 
 lns_again : (node : ℕ) (secret : Option (List ℕ)) → IsNode node → IfSome secret IsSecret → lns_of (decimal node ++ 32 ∷ secret_text secret) ≡ Some (Lns node secret)
 unfolding lns_of
@@ -532,7 +571,7 @@ printable_again (c ∷ cs) h = and_from _ _ (and_from _ _ (le-leb 32 c h.0.0) (l
 pub line_again : (l : Line) → FitsLine l → line_of (line_text l) ≡ Some l
 unfolding line_of words_of plain_of remark_of open_of deliver_of
 line_again (Remark text) h = rw (printable_again text h) refl
-line_again (Lac node lns secret) h = ap lac_of (regroup_lac node lns (secret_text secret)) ∙ lac_again node lns secret h.0 h.1 h.2
+line_again (Lac node lns secret hide) h = ap lac_of (regroup_lac node lns (secret_text secret) (mode_text hide)) ∙ lac_again node lns secret hide h
 line_again (Lns node secret) h = ap lns_of (regroup_lns node (secret_text secret)) ∙ lns_again node secret h.0 h.1
 line_again (OpenUp node) h = rw (node_again node h) refl
 line_again (Ring node port) h =

@@ -1,5 +1,5 @@
 -- The bytes of the lines of a text, and the text that they make.
-use Rattle.std.proofs.Common.{◌≡◌, ◌⊎◌, ℕ, ◌<◌, eqb, List, [], ◌∷◌, ◌++◌, length, map, refl, sym, ap, subst, ◌∙◌, append_assoc, arith, inl, inr}
+use Rattle.std.proofs.Common.{◌≡◌, ◌⊎◌, ℕ, ◌<◌, Bool, true, false, eqb, List, [], ◌∷◌, ◌++◌, length, map, refl, sym, ap, subst, ◌∙◌, append_assoc, arith, inl, inr}
 use Rattle.std.specs.Prelude.{codes}
 use Rattle.std.specs.Fmt.{decimal}
 use Rattle.std.specs.List.{flat_map, AllByRecursion}
@@ -8,7 +8,7 @@ use Rattle.std.proofs.lemmas.List.{append-nil, length-append}
 use Rattle.hex.specs.Hex.{encode_lower, lower_digits}
 use Rattle.schedule_text.specs.declared.line.Line.{Line}
 use Rattle.schedule_text.specs.declared.line.Line.TheVariants.{Remark, Lac, Lns, OpenUp, Close, Ring, FromSub, Down, Hang, DropCall, Deliver, Tick}
-use Rattle.schedule_text.specs.Grammar.{call_text, secret_text, line_text, IsPrintable, IsNode, IsSession, FitsLine, AreLines, spelling, IsText}
+use Rattle.schedule_text.specs.Grammar.{call_text, secret_text, mode_text, line_text, IsPrintable, IsNode, IsSession, FitsLine, AreLines, spelling, IsText}
 use Rattle.schedule_text.specs.Reading.{put_first, text_lines}
 use Rattle.schedule_text.proofs.LineLaws.{Lacks, number_lacks, hex_lacks, digits_lack_feed, secret_lacks}
 
@@ -104,14 +104,19 @@ node_session_lacks node session n s =
     let front = lacks_append 10 (decimal node) (codes " ") (node_lacks node n) (refl, tt) in
     lacks_append 10 _ (decimal session) front (number_lacks 10 session (omega arith) (omega arith))
 
+mode_lacks : (hide : Bool) → Lacks 10 (mode_text hide)
+mode_lacks false = (refl, (refl, (refl, (refl, (refl, tt)))))
+mode_lacks true = (refl, (refl, (refl, (refl, tt))))
+
 lacks_feed : (l : Line) → FitsLine l → Lacks 10 (line_text l)
 lacks_feed (Remark text) h = (refl, lacks_printable text h)
-lacks_feed (Lac node lns secret) h =
+lacks_feed (Lac node lns secret hide) h =
     let front = lacks_append 10 (decimal node) (codes " ") (node_lacks node h.0) (refl, tt) in
     let names = lacks_append 10 (decimal node ++ codes " ") (decimal lns) front (node_lacks lns h.1) in
     let words = lacks_append 10 _ (codes " ") names (refl, tt) in
     let secrets = lacks_append 10 _ (secret_text secret) words (secret_lacks 10 secret refl refl digits_lack_feed) in
-    (refl, (refl, (refl, (refl, lacks_append 10 _ (codes " plain") secrets (refl, (refl, (refl, (refl, (refl, (refl, tt))))))))))
+    let parts = lacks_append 10 _ (codes " ") secrets (refl, tt) in
+    (refl, (refl, (refl, (refl, lacks_append 10 _ (mode_text hide) parts (mode_lacks hide)))))
 lacks_feed (Lns node secret) h =
     let front = lacks_append 10 (decimal node) (codes " ") (node_lacks node h.0) (refl, tt) in
     (refl, (refl, (refl, (refl, lacks_append 10 _ (secret_text secret) front (secret_lacks 10 secret refl refl digits_lack_feed)))))
@@ -131,7 +136,7 @@ lacks_feed (Tick node milliseconds) h =
 
 some_byte : (l : Line) → 0 < length (line_text l)
 some_byte (Remark text) = omega arith
-some_byte (Lac node lns secret) = omega arith
+some_byte (Lac node lns secret hide) = omega arith
 some_byte (Lns node secret) = omega arith
 some_byte (OpenUp node) = omega arith
 some_byte (Ring node port) = omega arith

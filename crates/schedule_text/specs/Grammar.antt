@@ -1,5 +1,5 @@
 -- The one spelling of each line, and which texts are schedules.
-use Rattle.std.specs.Prelude.{◌≡◌, ℕ, ◌+◌, ◌<◌, ◌≤◌, ◌⊎◌, List, [], ◌∷◌, ◌++◌, length, codes, Option, Some, None, IfSome}
+use Rattle.std.specs.Prelude.{◌≡◌, ℕ, ◌+◌, ◌<◌, ◌≤◌, ◌⊎◌, List, [], ◌∷◌, ◌++◌, length, codes, Bool, true, if◌then◌else◌, Option, Some, None, IsSome, IfSome}
 use Rattle.std.specs.List.{flat_map, AllByRecursion}
 use Rattle.std.specs.Fmt.{decimal}
 use Rattle.hex.specs.Hex.{encode_lower, IsBytes}
@@ -17,10 +17,15 @@ abbrev pub secret_text : Option (List ℕ) → List ℕ
 secret_text None = codes "-"
 secret_text (Some secret) = encode_lower secret
 
+-- the spelling of a mode: calling numbers are hidden, or they aren't
+abbrev pub mode_text : Bool → List ℕ
+mode_text hide = if hide then codes "hide" else codes "plain"
+
 -- the spelling of a line, without the line feed that ends it; words are parted by one space
 abbrev pub line_text : Line → List ℕ
 line_text (Remark text) = codes "#" ++ text
-line_text (Lac node lns secret) = codes "lac " ++ decimal node ++ codes " " ++ decimal lns ++ codes " " ++ secret_text secret ++ codes " plain"
+line_text (Lac node lns secret hide) =
+    codes "lac " ++ decimal node ++ codes " " ++ decimal lns ++ codes " " ++ secret_text secret ++ codes " " ++ mode_text hide
 line_text (Lns node secret) = codes "lns " ++ decimal node ++ codes " " ++ secret_text secret
 line_text (OpenUp node) = codes "open " ++ decimal node
 line_text (Close node tunnel) = codes "close " ++ decimal node ++ codes " " ++ decimal tunnel
@@ -52,6 +57,10 @@ IsSession n = (1 ≤ n) × (n ≤ 65535)
 abbrev pub IsSecret : List ℕ → Type 0
 IsSecret secret = (1 ≤ length secret) × (length secret ≤ 64) × IsBytes secret
 
+-- what is hidden is hidden by a secret
+abbrev pub HasSecret : Bool → Option (List ℕ) → Type 0
+HasSecret hide secret = hide ≡ true → IsSome secret
+
 -- a PPP frame from its protocol field on, which has two bytes; PPPoE's six leave it 1494 of the 1500 that Ethernet carries
 abbrev pub IsFrame : List ℕ → Type 0
 IsFrame frame = (2 ≤ length frame) × (length frame ≤ 1494) × IsBytes frame
@@ -66,7 +75,7 @@ IsMilliseconds n = n ≤ 86400000
 -- which lines have a spelling
 abbrev pub FitsLine : Line → Type 0
 FitsLine (Remark text) = AllByRecursion IsPrintable text
-FitsLine (Lac node lns secret) = IsNode node × IsNode lns × IfSome secret IsSecret
+FitsLine (Lac node lns secret hide) = IsNode node × IsNode lns × IfSome secret IsSecret × HasSecret hide secret
 FitsLine (Lns node secret) = IsNode node × IfSome secret IsSecret
 FitsLine (OpenUp node) = IsNode node
 FitsLine (Close node tunnel) = IsNode node × IsTunnel tunnel

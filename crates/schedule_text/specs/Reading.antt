@@ -1,5 +1,5 @@
 -- Reading a text as a schedule, with the first bad line.
-use Rattle.std.specs.Prelude.{◌≡◌, ℕ, ◌+◌, Bool, true, false, not, ◌&&◌, if◌then◌else◌, nat_le, ◌==◌, List, [], ◌∷◌, length, codes, Option, Some, None, option_map, Result, Ok, Err}
+use Rattle.std.specs.Prelude.{◌≡◌, ℕ, ◌+◌, Bool, true, false, not, ◌&&◌, if◌then◌else◌, nat_le, ◌==◌, List, [], ◌∷◌, length, codes, Option, Some, None, is_none, option_map, Result, Ok, Err}
 use Rattle.std.specs.List.{list_all}
 use Rattle.std.specs.Str.{bytes_eq, all_ascii_digits}
 use Rattle.std.specs.Str.Parse.{digits_value}
@@ -85,18 +85,24 @@ frame_of word = bytes_of 2 1494 word
 unfoldable pub secret_of : List ℕ → Option (Option (List ℕ))
 secret_of word = if bytes_eq word (codes "-") then Some None else (bytes_of 1 64 word >>= λ secret. Some (Some secret))
 
+-- whether a word says that calling numbers are hidden
+abbrev pub mode_of : List ℕ → Option Bool
+mode_of word = if bytes_eq word (codes "plain") then Some false else if bytes_eq word (codes "hide") then Some true else None
+
 -- what follows the word of each kind of line, and a space
 
--- a LAC, its LNS, and the word of their secret; the mode is plain
-unfoldable pub pair_of : List ℕ → Option (ℕ × ℕ × List ℕ)
-pair_of words =
+-- a LAC, its LNS, the word of their secret, and the mode
+unfoldable pub mode_words_of : List ℕ → Option (ℕ × ℕ × List ℕ × Bool)
+mode_words_of words =
     cut 32 words >>= λ first. cut 32 first.1 >>= λ second. cut 32 second.1 >>= λ third.
-    if bytes_eq third.1 (codes "plain")
-    then (node_of first.0 >>= λ node. node_of second.0 >>= λ lns. Some (node, lns, third.0))
-    else None
+    node_of first.0 >>= λ node. node_of second.0 >>= λ lns. mode_of third.1 >>= λ hide. Some (node, lns, third.0, hide)
+
+-- what is hidden needs a secret
+abbrev pub lac_by : ℕ → ℕ → Option (List ℕ) → Bool → Option Line
+lac_by node lns secret hide = if hide && is_none secret then None else Some (Lac node lns secret hide)
 
 unfoldable pub lac_of : List ℕ → Option Line
-lac_of words = pair_of words >>= λ pair. secret_of pair.2 >>= λ secret. Some (Lac pair.0 pair.1 secret)
+lac_of words = mode_words_of words >>= λ said. secret_of said.2 >>= λ secret. lac_by said.0 said.1 secret said.3
 
 unfoldable pub lns_of : List ℕ → Option Line
 lns_of words =

@@ -12,12 +12,13 @@ pub enum Line {
     Remark {
         text: Bytes,
     },
-    /// A node that is a LAC, the node of the LNS that it opens tunnels to, and the secret that it shares with it, of 1 to 64
-    /// bytes, if there is one. Its mode is `plain`, which is the only one: its calling numbers aren't hidden.
+    /// A node that is a LAC, the node of the LNS that it opens tunnels to, the secret that it shares with it, of 1 to 64 bytes,
+    /// if there is one, and whether it hides its calling numbers by the secret (RFC 2661 section 4.3), which needs one.
     Lac {
         node: u8,
         lns: u8,
         secret: Option<Bytes>,
+        hide: bool,
     },
     /// A node that is an LNS, and the secret that it shares with its LACs, of 1 to 64 bytes, if there is one.
     Lns {

@@ -2,7 +2,7 @@
 
 ghost use Rattle.std.specs.Prelude.{◌≡◌, MatchOption, IfOk, Ok, Some, None};
 ghost use Rattle.std.specs.List.{list_all};
-ghost use Rattle.schedule_text.specs.Reading.{pair_of, lac_of, lns_of, open_of, ring_of, call_of, from_sub_of, down_of, node_session_of, hang_of, drop_of, close_of, deliver_of, tick_of, plain_of, words_of, is_printable, line_of, node_of, port_of, session_of, packet_of, bytes_from, bytes_of, frame_of, secret_of};
+ghost use Rattle.schedule_text.specs.Reading.{mode_of, mode_words_of, lac_by, lac_of, lns_of, open_of, ring_of, call_of, from_sub_of, down_of, node_session_of, hang_of, drop_of, close_of, deliver_of, tick_of, plain_of, words_of, is_printable, line_of, node_of, port_of, session_of, packet_of, bytes_from, bytes_of, frame_of, secret_of};
 
 use crate::line::Line;
 use crate::parts::{read_number, split_once};
@@ -86,34 +86,60 @@ fn read_secret(alloc: Global, word: &[u8]) -> Result<Option<Option<Bytes>>, NoMe
     }
 }
 
-/// A LAC, its LNS, and the word of their secret; the mode is plain.
-#[tactic(auto, unfolding(crate::specs::Reading::pair_of))]
-fn read_pair(words: &[u8]) -> Option<(u8, u8, &[u8])>
-    ensures { MatchOption result (pair_of words.now ≡ None) (λ p. pair_of words.now ≡ Some (p.0, p.1, p.2.now)) }
+/// Whether a word says that calling numbers are hidden.
+fn read_mode(word: &[u8]) -> Option<bool>
+    ensures { result ≡ mode_of word.now }
+{
+    if word == b"plain".as_slice() {
+        Some(false)
+    } else if word == b"hide".as_slice() {
+        Some(true)
+    } else {
+        None
+    }
+}
+
+/// A LAC, its LNS, the word of their secret, and the mode.
+#[tactic(auto, unfolding(crate::specs::Reading::mode_words_of))]
+fn read_mode_words(words: &[u8]) -> Option<(u8, u8, &[u8], bool)>
+    ensures { MatchOption result (mode_words_of words.now ≡ None) (λ w. mode_words_of words.now ≡ Some (w.0, w.1, w.2.now, w.3)) }
 {
     let (node, words) = split_once(words, b' ')?;
     let (lns, words) = split_once(words, b' ')?;
     let (secret, mode) = split_once(words, b' ')?;
-    if mode != b"plain".as_slice() {
-        return None;
-    }
     let node = read_node(node)?;
     let lns = read_node(lns)?;
-    Some((node, lns, secret))
+    let hide = read_mode(mode)?;
+    Some((node, lns, secret, hide))
 }
 
-/// `N M SECRET plain`, behind `lac `.
+/// The line of a LAC, which hides only where there is a secret to hide by.
+fn lac_line(node: u8, lns: u8, secret: Option<Bytes>, hide: bool) -> Option<Line>
+    ensures { result ≡ lac_by node lns secret hide }
+{
+    if hide && secret.is_none() {
+        return None;
+    }
+    Some(Line::Lac {
+        node,
+        lns,
+        secret,
+        hide,
+    })
+}
+
+/// `N M SECRET MODE`, behind `lac `.
 #[tactic(auto, unfolding(crate::specs::Reading::lac_of))]
 fn read_lac(alloc: Global, words: &[u8]) -> Result<Option<Line>, NoMemory>
     ensures { IfOk result (λ l. l ≡ lac_of words.now) }
 {
-    let Some((node, lns, word)) = read_pair(words) else {
+    let Some((node, lns, word, hide)) = read_mode_words(words) else {
         return Ok(None);
     };
     let Some(secret) = read_secret(alloc, word)? else {
         return Ok(None);
     };
-    Ok(Some(Line::Lac { node, lns, secret }))
+    Ok(lac_line(node, lns, secret, hide))
 }
 
 /// `N SECRET`, behind `lns `.

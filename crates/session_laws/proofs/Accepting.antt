@@ -130,7 +130,7 @@ module _ (laws : Laws) (accs : Accounts) (ends : Ends) (w : World) (n : ℕ) (e 
 
   -- the SCCRP
   abbrev first : step_laws.Letter
-  first = record { tunnel = m.tunnel; place = m.given; session = 0; message = Sccrp (opening_of e.role (config_of n 0 None) m.challenge m.response m.tunnel) }
+  first = record { tunnel = m.tunnel; place = m.given; session = 0; message = Sccrp (opening_of e.role (config_of n 0 None false) m.challenge m.response m.tunnel); hidden = None }
 
   abbrev tk : Taken
   tk = taken_as sender m.taken (move.Accepted m)

@@ -1,5 +1,5 @@
 -- A tunnel that stays in its state takes a letter, or none, and gives one, or none, while calls change.
-use Rattle.std.proofs.Common.{◌≡◌, ℕ, ◌+◌, List, [], ◌∷◌, ◌++◌, map, refl, sym, ap, ◌∙◌, append-nil, Option, Some, arith, None}
+use Rattle.std.proofs.Common.{◌≡◌, ℕ, ◌+◌, List, [], ◌∷◌, ◌++◌, map, refl, sym, ap, ◌∙◌, append-nil, Option, Some, arith, None, false}
 use Rattle.id_table.specs.Ids.{at}
 use Rattle.protocol_model.specs.declared.event.Event.{Event}
 use Rattle.protocol_model.specs.declared.moves.Place.{Place}
@@ -109,7 +109,7 @@ says_nothing a b is = rw is (record {
 })
 
 pub says_one : (d : Deed) (n : ℕ) (role : Role) (sender : Option Sender) (m : Move) (a b : Account) → IsDeed d n role sender m → b ≡ gives_also d a
-    → AccountSpeaks a b (letters_of role (config_of n 0 None) m) 0
+    → AccountSpeaks a b (letters_of role (config_of n 0 None false) m) 0
 says_one d n role sender m a b deed is = rw (is, gives_only d n role sender m a deed) (record {
   moves = record { part = refl; peer = refl; given = refl; heeds = omega arith; declined = refl };
   remote = refl;
@@ -125,13 +125,13 @@ hears_one d n role sender m place a b deed works is = rw (is, takes_only d n rol
 })
 
 pub hears_and_says : (d : Deed) (n : ℕ) (role : Role) (sender : Option Sender) (m : Move) (place : Place) (a b : Account) → IsDeed d n role sender m
-    → IsOpen a → b ≡ gives_also d (takes_at d place a) → AccountSpeaks a b (letters_of role (config_of n 0 None) m) 1
+    → IsOpen a → b ≡ gives_also d (takes_at d place a) → AccountSpeaks a b (letters_of role (config_of n 0 None false) m) 1
 hears_and_says d n role sender m place a b deed works is = rw (is, takes_and_gives d n role sender m place a deed) (record {
   moves = record {
     part = refl;
     peer = refl;
     given = refl;
-    heeds = heeds_one (taken_as sender place m) (letters_of role (config_of n 0 None) m) a works;
+    heeds = heeds_one (taken_as sender place m) (letters_of role (config_of n 0 None false) m) a works;
     declined = refl;
   };
   remote = refl;

@@ -1,5 +1,5 @@
 -- An opener takes the SCCRP of the tunnel that it learns, and is connected; so it is in the machine.
-use Rattle.std.proofs.Common.{◌≡◌, ℕ, Bool, true, false, cond, [], ◌∷◌, ◌++◌, length, refl, sym, ap, ap₂, ◌∙◌, Option, Some, arith, eq-eqb, ne_eqb}
+use Rattle.std.proofs.Common.{◌≡◌, ℕ, Bool, true, false, cond, [], ◌∷◌, ◌++◌, length, refl, sym, ap, ap₂, ◌∙◌, Option, Some, arith, eq-eqb, ne_eqb, None}
 use Rattle.std.specs.Prelude.{◌==◌}
 use Rattle.control_message.specs.declared.message.Message.TheVariants.{Sccrp, Scccn}
 use Rattle.control_channel.specs.Numbers.{learnt_by}
@@ -122,7 +122,7 @@ module _ (laws : Laws) (accs : Accounts) (ends : Ends) (w : World) (n : ℕ) (e 
 
   -- the SCCCN
   abbrev last : step_laws.Letter
-  last = record { tunnel = m.tunnel; place = m.given; session = 0; message = Scccn m.response }
+  last = record { tunnel = m.tunnel; place = m.given; session = 0; message = Scccn m.response; hidden = None }
 
   abbrev tk : Taken
   tk = taken_as sender m.taken (move.Connected m)

@@ -19,6 +19,9 @@ use Rattle.epoch_machine.specs.Calls as calls
 use Rattle.epoch_machine.specs.Calls.{NoCall, Waits, is_call}
 use Rattle.epoch_machine.specs.Worlds.{World, all_rules}
 use Rattle.epoch_machine.specs.Moves.{EndsSilent, step, may_end_silent, ends_call}
+use Rattle.protocol_model.specs.Reading.{CallFault}
+use Rattle.step_laws.specs.Moves.{fault_event}
+use Rattle.session_laws.proofs.Alike.{alike_giver}
 use Rattle.connection_laws.specs.Facts.{Accounts, LiveOk}
 use Rattle.connection_laws.specs.Steps.{after}
 use Rattle.session_laws.specs.Names.{name, state_of}
@@ -110,7 +113,8 @@ module _ (laws : Laws) (accs : Accounts) (ends : Ends) (w : World) (n : ℕ) (e 
       let k = laws.letters accs n e sender ev h.moved.within i t h.moved.does.there s (message.Iccn speed framing sequenced) tt tt hears in
       let b = accs k.from.node k.from.tunnel in
       let giver : Giver b (message.Iccn speed framing sequenced) =
-      subst (Giver b) k.message_is (giver_of (ends k.from.node) b k.number k.letter (h.joined.fit k.from.node k.from.tunnel) k.there) in
+      alike_giver b k.letter.message (message.Iccn speed framing sequenced) k.message_is
+      (giver_of (ends k.from.node) b k.number k.letter (h.joined.fit k.from.node k.from.tunnel) k.there) in
       let ok = h.moved.within.accounts k.from.node k.from.tunnel in
       let gave = reply_given accs b ok.taken ok.ignored giver.says.1 in
       let fits = fits_before accs ends w n e x sender moment ev (move.EndSilent m) d h i in
@@ -119,7 +123,9 @@ module _ (laws : Laws) (accs : Accounts) (ends : Ends) (w : World) (n : ℕ) (e 
   -- so the call waits for its tunnel
   waits_by : IsSilent e.role c.state h.moved.does.on → WhyEnds e t ev moment s c h.moved.does.on h.moved.does.result h.moved.does.error
       → state_of c.state ≡ Waits
-  waits_by silent (HasFault header f faulty is result error) = absurd (laws.sound accs n e sender ev h.moved.within t.control header f faulty)
+  waits_by silent (HasFault header f faulty is result error) =
+      let r = laws.faulty accs n e sender ev h.moved.within t.control header f faulty in
+      else_waits e.role c.state h.moved.does.on call_event.IcrqNotAcc silent (is ∙ ap (λ (y : CallFault). fault_event y.kind) r.1) refl
   waits_by silent (IsLate late is result error) = else_waits e.role c.state h.moved.does.on call_event.Close silent is refl
   waits_by silent (IsDropped dropped is result error) = else_waits e.role c.state h.moved.does.on call_event.Close silent is refl
   waits_by silent (IsHungUp hung is result error) = else_waits e.role c.state h.moved.does.on call_event.LineDrop silent is refl

@@ -147,13 +147,13 @@ module _ (laws : Laws) (accs : Accounts) (ends : Ends) (w : World) (n : ℕ) (e 
   does = told_is w X Z R call.tunnel (call.remote ∙ sym (ap (λ r. name_of (accs n i).peer r) h.moved.does.remote))
       (here.phase ∙ open_phase t.control.state open_is) (ap lives call.state ∙ told.lives) (ap waits call.state ∙ told.asked)
 
-  says : AccountSpeaks (accs n i) (after accs d n i) (letters_of e.role (config_of n 0 None) (move.EndTold m)) 0
+  says : AccountSpeaks (accs n i) (after accs d n i) (letters_of e.role (config_of n 0 None false) (move.EndTold m)) 0
   says = says_one d n e.role sender (move.EndTold m) (accs n i) (after accs d n i) h.moved.deed
       (account_is accs ends w n e x sender moment ev (move.EndTold m) d h (λ k j. refl) v t u h.moved.does.there)
 
   goes : TunnelGoes accs (after accs d) w v n i u
   goes = speaks_goes accs ends w n e x sender moment ev (move.EndTold m) d h (λ k j. refl) v t u h.moved.does.there
-      (letters_of e.role (config_of n 0 None) (move.EndTold m)) 0 speaks says refl (EndsTold Z) does
+      (letters_of e.role (config_of n 0 None false) (move.EndTold m)) 0 speaks says refl (EndsTold Z) does
 
   sessions : x.session_ids ≡ e.session_ids
   sessions = ap (λ (y : End). y.session_ids) h.moved.does.after

@@ -120,11 +120,11 @@ pub takes_only : (d : Deed) (n : ℕ) (role : Role) (sender : Option Sender) (m 
 takes_only d n role sender m place a deed = rw (deed.sender_is, deed.move_is, append-nil) refl
 
 pub takes_and_gives : (d : Deed) (n : ℕ) (role : Role) (sender : Option Sender) (m : Move) (place : Place) (a : Account) → IsDeed d n role sender m
-    → gives_also d (takes_at d place a) ≡ with_taken (taken_as sender place m) (letters_of role (config_of n 0 None) m) a
+    → gives_also d (takes_at d place a) ≡ with_taken (taken_as sender place m) (letters_of role (config_of n 0 None false) m) a
 takes_and_gives d n role sender m place a deed = rw (deed.sender_is, deed.move_is, deed.role_is, deed.node_is) refl
 
 pub gives_only : (d : Deed) (n : ℕ) (role : Role) (sender : Option Sender) (m : Move) (a : Account) → IsDeed d n role sender m
-    → gives_also d a ≡ with_given (letters_of role (config_of n 0 None) m) a
+    → gives_also d a ≡ with_given (letters_of role (config_of n 0 None false) m) a
 gives_only d n role sender m a deed = rw (deed.move_is, deed.role_is, deed.node_is) refl
 
 -- the letter that was taken is the last one

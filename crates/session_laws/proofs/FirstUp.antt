@@ -1,5 +1,5 @@
 -- A call is established at the end that asked for it; so it is in the machine.
-use Rattle.std.proofs.Common.{◌≡◌, inr, ℕ, ◌<◌, length, refl, sym, ap, ap₂, ◌∙◌, subst, Option, Some, arith, ne_eqb, eq-eqb, None}
+use Rattle.std.proofs.Common.{◌≡◌, inr, ℕ, ◌<◌, length, refl, sym, ap, ap₂, ◌∙◌, subst, Option, Some, arith, ne_eqb, eq-eqb, None, false}
 use Rattle.id_table.specs.Ids.{put}
 use Rattle.id_table.specs.Order.{at_new, at_other}
 use Rattle.control_message.specs.declared.message.Message.TheVariants.{Icrp}
@@ -183,7 +183,7 @@ module _ (laws : Laws) (accs : Accounts) (ends : Ends) (w : World) (n : ℕ) (e 
       one_call_follows accs ends w n e x sender moment ev (move.FirstUp m) d h (λ k j. refl) v t u s births
       (subst (λ p. OneCall w v n i p e x t u s) (sym speaks.moves.peer) one)
       (speaks_goes accs ends w n e x sender moment ev (move.FirstUp m) d h (λ k j. refl) v t u h.moved.does.there
-      (letters_of e.role (config_of n 0 None) (move.FirstUp m)) 1
+      (letters_of e.role (config_of n 0 None false) (move.FirstUp m)) 1
       (rw del.node (calls_take_and_give w X (is_first_up w.calls Z own) (Connect own) old.entered (first_asks w Z own)))
       speaks refl (Delivers X S 0 (length (accs n i).taken) 0)
       (del.is 0

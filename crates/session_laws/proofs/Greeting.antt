@@ -1,5 +1,5 @@
 -- A tunnel gives a HELLO, in the machine too.
-use Rattle.std.proofs.Common.{◌≡◌, ℕ, [], ◌∷◌, refl, sym, ap, ◌∙◌, Option, Some, arith}
+use Rattle.std.proofs.Common.{◌≡◌, ℕ, [], ◌∷◌, refl, sym, ap, ◌∙◌, Option, Some, arith, None}
 use Rattle.control_message.specs.declared.message.Message.TheVariants.{Hello}
 use Rattle.protocol_model.specs.declared.event.Event.{Event}
 use Rattle.protocol_model.specs.declared.moves.Greeted.{Greeted}
@@ -56,7 +56,7 @@ module _ (laws : Laws) (accs : Accounts) (ends : Ends) (w : World) (n : ℕ) (e 
   a = accs n i
 
   abbrev hello : step_laws.Letter
-  hello = record { tunnel = m.tunnel; place = m.given; session = 0; message = Hello }
+  hello = record { tunnel = m.tunnel; place = m.given; session = 0; message = Hello; hidden = None }
 
   abbrev b : Account
   b = with_given (hello ∷ []) a

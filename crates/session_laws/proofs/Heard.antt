@@ -5,7 +5,6 @@ use Rattle.std.proofs.lemmas.Option.{slice_get-map}
 use Rattle.std.specs.List.{AllByRecursion}
 use Rattle.id_table.specs.Ids.{at}
 use Rattle.control_message.specs.declared.message.Message.{Message}
-use Rattle.control_message.specs.Pairs.{IsWritten}
 use Rattle.control_message.specs.declared.message.Message.TheVariants.{Sccrq, Sccrp, Scccn, StopCcn, Hello, Ocrq, Ocrp, Occn, Icrq, Icrp, Iccn, Cdn, Wen, Sli}
 use Rattle.tunnel_fsm.specs.declared.table.TunnelState.{TunnelState}
 use Rattle.tunnel_fsm.specs.declared.table.TunnelState.TheVariants as tunnel
@@ -29,6 +28,7 @@ use Rattle.connection_laws.specs.Accounts.{Opener, Acceptor, Taken, Account, no_
 use Rattle.connection_laws.specs.Facts as facts
 use Rattle.connection_laws.specs.Facts.{Accounts, IsNoStop, IsStopCcn, IsSpelled, IsOpener, IsAcceptor, IsPart, AccountOk, Tells, IsTaken, AreTaken, IsOpen, IsIgnored, AreIgnored, LiveOk, Within, partner_in}
 use Rattle.connection_laws.specs.Steps.{after, NextLetter, NextIsHeard}
+use Rattle.connection_laws.proofs.Alike.{alike_back, stop_alike}
 use Rattle.connection_laws.proofs.Said.{no_stop_is}
 use Rattle.session_laws.proofs.Learned.{early_or_not, late_learned}
 use Rattle.session_laws.specs.Names.{is_early, name, name_of, spoken, letter_of, phase_of}
@@ -36,6 +36,7 @@ use Rattle.session_laws.specs.Roles.{TookReply, Says, FitsEnd}
 use Rattle.session_laws.specs.Joined.{Ends, TunnelJoined, tunnel_in}
 use Rattle.session_laws.proofs.Keeps.{IsMade}
 use Rattle.session_laws.proofs.Roles.{Giver, giver_of}
+use Rattle.session_laws.proofs.Alike.{IsSized, alike_spoken, alike_sized, alike_giver}
 use Rattle.session_laws.proofs.Entering.{with_taken, got_last}
 use Rattle.session_laws.proofs.Names.{name_some, known_name}
 use Rattle.session_laws.proofs.States.{IsAtWork, at_work, below_or_not, heeds_all, heeds_one}
@@ -124,7 +125,7 @@ pub record Delivered (accs : Accounts) (w : World) (n i : ℕ) (sender : Option 
   pub learned : (accs from.node from.tunnel).remote ≡ i
   -- the letter in the machine's list, and as it was written
   pub stands : slice_get (w.channels.sent (name from.node from.tunnel) 0) (length (accs n i).taken) ≡ Some (spoken from.node n session m)
-  pub written : IsWritten m
+  pub written : IsSized m
   pub header : session < 65536
   -- what gave it is of an end whose role it fits
   pub giver : Giver (accs from.node from.tunnel) m
@@ -191,7 +192,7 @@ module _ (accs : Accounts) (ends : Ends) (w : World) (n : ℕ) (e x : End) (send
           let other : a.part ≡ Acceptor = ap₂ (λ p q. (accs p q).part) (sym k.goes) (sym k.learned) ∙ opener.part known in
           let acceptor : IsAcceptor accs n i a = subst (IsPart accs n i a) other (h.moved.within.accounts n i).part in
           no_stop_is m no_stop
-          (subst IsStopCcn k.message_is
+          (stop_alike m k.letter.message (alike_back k.letter.message m k.message_is)
           (later_is (λ (l : step_laws.Letter). IsStopCcn l.message) b.given (length a.taken) k.letter acceptor.some k.there (opener.early closed).1))
 
       late : is_early b.part b.closed ≡ false
@@ -206,14 +207,15 @@ module _ (accs : Accounts) (ends : Ends) (w : World) (n : ℕ) (e x : End) (send
 
       stands : slice_get (w.channels.sent s 0) (length a.taken) ≡ Some (spoken k.from.node n session m)
       stands =
-          rw (from_joined.sent, slice_get-map (letter_of k.from.node b.peer) b.given (length a.taken), k.there, k.goes, k.session_is, k.message_is)
-          refl
+          rw (from_joined.sent, slice_get-map (letter_of k.from.node b.peer) b.given (length a.taken), k.there, k.goes, k.session_is)
+          (ap (λ (q : Letter). Some q) (alike_spoken k.from.node n session k.letter.message m k.message_is))
 
       spelled : IsSpelled k.letter
       spelled = all_at IsSpelled b.given (length a.taken) k.letter k.there from_ok.spelled
 
       giver : Giver b m
-      giver = subst (Giver b) k.message_is (giver_of (ends k.from.node) b (length a.taken) k.letter (h.joined.fit k.from.node k.from.tunnel) k.there)
+      giver = alike_giver b k.letter.message m k.message_is
+          (giver_of (ends k.from.node) b (length a.taken) k.letter (h.joined.fit k.from.node k.from.tunnel) k.there)
 
       may : (l : Letter) → may_take all_rules w (name n i) s 0 (length a.taken) l ≡ true
       may l = may_take_next w (name n i) s (length a.taken) l here_active (name_some k.from.node k.from.tunnel (from_ok.some from_made)) learned
@@ -239,7 +241,7 @@ module _ (accs : Accounts) (ends : Ends) (w : World) (n : ℕ) (e x : End) (send
         goes = k.goes;
         learned = k.learned;
         stands = stands;
-        written = subst (λ q. IsWritten q) k.message_is spelled.written;
+        written = alike_sized k.letter.message m k.message_is spelled.written;
         header = subst (λ q. q < 65536) k.session_is spelled.session;
         giver = giver;
         is = step_is;

@@ -9,7 +9,7 @@ use Rattle.epoch_machine.specs.Worlds as machine
 use Rattle.birth_laws.specs.Births as births
 use Rattle.coverage_laws.specs.Coverage as coverage
 use Rattle.connection_laws.specs.Facts.{Accounts, Within}
-use Rattle.connection_laws.specs.Steps.{after, IsMoved, NextIsHeard, PlainIsHeard, LettersAreHeard, StopIsHeard, ClosingsAreKnown, DeclinesAreOfOpenings, OpeningsAreAcceptable, NoneIsFaulty}
+use Rattle.connection_laws.specs.Steps.{after, IsMoved, NextIsHeard, PlainIsHeard, LettersAreHeard, StopIsHeard, ClosingsAreKnown, DeclinesAreOfOpenings, OpeningsAreAcceptable, FaultsAreOfRequests}
 use Rattle.session_laws.specs.Joined.{Ends, AreJoined}
 use Rattle.session_laws.proofs.Births.{BirthsFollow}
 
@@ -25,7 +25,7 @@ pub record Laws : Type 0 where
   pub known : ClosingsAreKnown
   pub openings : DeclinesAreOfOpenings
   pub acceptable : OpeningsAreAcceptable
-  pub sound : NoneIsFaulty
+  pub faulty : FaultsAreOfRequests
   pub births : births.BirthsOfRuns
   pub coverage : coverage.CoverageOfRuns
 

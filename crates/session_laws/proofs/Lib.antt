@@ -7,6 +7,7 @@ pub mod Roles
 pub mod States
 pub mod Ground
 pub mod Letters
+pub mod Alike
 pub mod Heard
 pub mod Drawing
 pub mod Quiet

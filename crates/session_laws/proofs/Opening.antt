@@ -103,7 +103,7 @@ module _ (laws : Laws) (accs : Accounts) (ends : Ends) (w : World) (n : ℕ) (e 
 
   -- the SCCRQ
   abbrev first : step_laws.Letter
-  first = record { tunnel = m.tunnel; place = m.given; session = 0; message = Sccrq (opening_of e.role (config_of n 0 None) m.challenge None m.tunnel) }
+  first = record { tunnel = m.tunnel; place = m.given; session = 0; message = Sccrq (opening_of e.role (config_of n 0 None false) m.challenge None m.tunnel); hidden = None }
 
   abbrev b : Account
   b = as_opener peer first

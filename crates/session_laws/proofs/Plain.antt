@@ -24,6 +24,9 @@ use Rattle.epoch_machine.specs.Tunnels.{is_open, is_wait_reply, is_wait_connect}
 use Rattle.epoch_machine.specs.Calls.{Calls, CallState, NoCall, Waits, waits_reply, waits_connect, ends, is_named}
 use Rattle.epoch_machine.specs.Worlds.{World, all_rules, took_one, takes, takes_open, answers_request, takes_reply, takes_connect, takes_cdn}
 use Rattle.epoch_machine.specs.Moves.{Delivers}
+use Rattle.protocol_model.specs.Reading.{body_of}
+use Rattle.connection_laws.proofs.Alike.{IsNoRequest, read_plainly}
+use Rattle.session_laws.proofs.Alike.{IsSized}
 use Rattle.connection_laws.specs.Accounts.{Taken, Account}
 use Rattle.connection_laws.specs.Facts.{Accounts, IsNoStop, IsClosed}
 use Rattle.connection_laws.specs.Steps.{after, PlainLetter}
@@ -281,13 +284,13 @@ module _ (w : World) (accs : Accounts) (n : ℕ) (e : End) (i : ℕ) (t : Tunnel
             (here_or_gone w accs n i h.id e h.old t h.there q qfits (rw here at tells.0)))
 
   plain_by : (role : Role) (b : Account) (m : Message) → IsNoStop m → Says role b m
-      → IsPlain e t session m → IsWritten m → slice_get (w.channels.sent s 0) k ≡ Some (spoken from n session m)
+      → (IsNoRequest m → IsPlain e t session m) → IsSized m → slice_get (w.channels.sent s 0) k ≡ Some (spoken from n session m)
       → PlainTakes w X s (spoken from n session m)
   plain_by role b (message.Sccrq o) no_stop says why written stands = ignored w X s Sccrq (plain_sccrq (took_one w X) X s)
   plain_by role b (message.Sccrp o) no_stop says why written stands =
-      ignored w X s Sccrp (plain_sccrp w X s (rw h.phase (no_wait_reply t.control.state why)))
+      ignored w X s Sccrp (plain_sccrp w X s (rw h.phase (no_wait_reply t.control.state (why tt))))
   plain_by role b (message.Scccn response) no_stop says why written stands =
-      ignored w X s Scccn (plain_scccn w X s (rw h.phase (no_wait_connect t.control.state why)))
+      ignored w X s Scccn (plain_scccn w X s (rw h.phase (no_wait_connect t.control.state (why tt))))
   plain_by role b (message.StopCcn tunnel result error) no_stop says why written stands = absurd no_stop
   plain_by role b message.Hello no_stop says why written stands = ignored w X s Hello (plain_hello (took_one w X) X s)
   plain_by role b (message.Ocrq remote) no_stop says why written stands = absurd says
@@ -300,29 +303,30 @@ module _ (w : World) (accs : Accounts) (n : ℕ) (e : End) (i : ℕ) (t : Tunnel
   plain_by role b (message.Icrp remote) no_stop says why written stands =
       ignored w X s (Reply (name from remote) (name n session)) (⊎_elim
       (λ (three : state_number t.control.state ≡ 3). plain_reply w X s (name from remote) (name n session)
-      (untested waits_reply refl (λ c call. no_first e.role c.state (h.old.roles i t h.there session c call) (why three c call))))
+      (untested waits_reply refl (λ c call. no_first e.role c.state (h.old.roles i t h.there session c call) (why tt three c call))))
       (λ is. shut_reply w X s (name from remote) (name n session) (shut is))
       (open_or_not t.control.state))
   plain_by role b (message.Iccn speed framing sequenced) no_stop says why written stands =
       ignored w X s (Connect (name n session)) (⊎_elim
       (λ (three : state_number t.control.state ≡ 3). plain_connect w X s (name n session)
-      (untested waits_connect refl (λ c call. no_second e.role c.state (h.old.roles i t h.there session c call) (why three c call))))
+      (untested waits_connect refl (λ c call. no_second e.role c.state (h.old.roles i t h.there session c call) (why tt three c call))))
       (λ is. shut_connect w X s (name n session) (shut is))
       (open_or_not t.control.state))
   plain_by role b (message.Cdn remote code error) no_stop says why written stands = ⊎_elim
       (λ (three : state_number t.control.state ≡ 3). plain_cdn w X s (name_of from remote) (name_of n session) (opens three)
-      (named_gone remote code error written.0 three why stands))
+      (named_gone remote code error written.0 three (why tt) stands))
       (λ is. ignored w X s (Cdn (name_of from remote) (name_of n session)) (shut_cdn w X s (name_of from remote) (name_of n session) (shut is)))
       (open_or_not t.control.state)
 
 -- ---- the move
 
 -- in a tunnel that isn't closed a plain letter is no StopCCN
-plain_no_stop : (e : End) (t : Tunnel) (session : ℕ) (m : Message) → is_closed t.control.state ≡ false → IsPlain e t session m → IsNoStop m
+plain_no_stop : (e : End) (t : Tunnel) (session : ℕ) (m : Message) → is_closed t.control.state ≡ false → (IsNoRequest m → IsPlain e t session m)
+    → IsNoStop m
 plain_no_stop e t session (message.Sccrq o) works why = tt
 plain_no_stop e t session (message.Sccrp o) works why = tt
 plain_no_stop e t session (message.Scccn response) works why = tt
-plain_no_stop e t session (message.StopCcn tunnel result error) works why = absurd (true≢false (sym why ∙ works))
+plain_no_stop e t session (message.StopCcn tunnel result error) works why = absurd (true≢false (sym (why tt) ∙ works))
 plain_no_stop e t session message.Hello works why = tt
 plain_no_stop e t session (message.Ocrq remote) works why = tt
 plain_no_stop e t session message.Ocrp works why = tt
@@ -360,8 +364,10 @@ module _ (laws : Laws) (accs : Accounts) (ends : Ends) (w : World) (n : ℕ) (e 
     letter : PlainLetter accs n m.tunnel sender ev t h.moved.does.comes
     letter = laws.plain accs n e sender ev h.moved.within m.tunnel t h.moved.does.there works h.moved.does.comes
 
-    why : IsPlain e t header letter.message
-    why = h.moved.does.why letter.message letter.said
+    -- what is no request is read as it is, and nothing is done on it
+    why : IsNoRequest letter.message → IsPlain e t header letter.message
+    why plain = h.moved.does.why letter.message
+        (read_plainly letter.message (body_of h.moved.does.comes.header h.moved.does.comes.bytes) letter.reads plain)
 
     no_stop : IsNoStop letter.message
     no_stop = plain_no_stop e t header letter.message works why

@@ -1,5 +1,5 @@
 -- A request is refused, and so it is in the machine: it is the one letter about a call that there isn't which comes in a run.
-use Rattle.std.proofs.Common.{◌≡◌, ⊎_elim, ℕ, ◌<◌, true, false, List, length, refl, sym, ap, ap₂, ◌∙◌, subst, Option, Some, Ok, arith, None}
+use Rattle.std.proofs.Common.{◌≡◌, ⊎_elim, ℕ, ◌<◌, true, false, List, length, refl, sym, ap, ap₂, ◌∙◌, subst, Option, Some, Ok, arith, None, unwrap_or}
 use Rattle.std.proofs.lemmas.Bool.{true≢false, lt-ltb}
 use Rattle.id_table.specs.Order.{same_or_not}
 use Rattle.control_message.specs.declared.message.Message.{Message}
@@ -18,6 +18,9 @@ use Rattle.epoch_machine.specs.Letters as letter
 use Rattle.epoch_machine.specs.Tunnels.{Open}
 use Rattle.epoch_machine.specs.Worlds.{World, all_rules, gives, took_one, takes, takes_open, answers_request}
 use Rattle.epoch_machine.specs.Moves.{Delivers}
+use Rattle.frame_laws.specs.Plain.{AreAlike, number_fault}
+use Rattle.connection_laws.proofs.Alike.{no_stop_alike, request_alike, read_alike, read_faulty}
+use Rattle.session_laws.proofs.Alike.{alike_giver}
 use Rattle.connection_laws.specs.Accounts.{Part, Unmade, Opener, Acceptor, Account}
 use Rattle.connection_laws.specs.Facts.{Accounts, IsNoStop, IsPart}
 use Rattle.connection_laws.specs.Steps.{after, NextLetter, PlainLetter}
@@ -78,28 +81,23 @@ module _ (laws : Laws) (accs : Accounts) (ends : Ends) (w : World) (n : ℕ) (e 
   heard : PlainLetter accs n i sender ev t h.moved.does.comes
   heard = laws.plain accs n e sender ev h.moved.within i t h.moved.does.there not_shut h.moved.does.comes
 
-  said : (q : Message) → message_in body ≡ Ok q → heard.message ≡ q
-  said q is = let both = sym heard.said ∙ is in cc
+  said : (q : Message) → message_in body ≡ Ok q → AreAlike heard.message q
+  said q is = read_alike heard.message body heard.reads q is
 
-  no_fault : (f : CallFault) → call_fault_in body ≡ Some f → ⊥
-  no_fault f fault = laws.sound accs n e sender ev h.moved.within t.control header f (record {
-    bytes = h.moved.does.comes.bytes;
-    is = h.moved.does.comes.is;
-    header = h.moved.does.comes.header;
-    read = h.moved.does.comes.read;
-    control = h.moved.does.comes.control;
-    session_is = refl;
-    tunnel = h.moved.does.comes.tunnel;
-    fault = fault;
-  })
+  -- a faulty one is a request whose number can't be had
+  abbrev Requests : CallFault → Type 0
+  Requests f = (own : ℕ) × (serial : ℕ) × (number : List ℕ) × (heard.message ≡ Icrq own serial (Some number)) × (f ≡ number_fault own)
+
+  faulty : (f : CallFault) → call_fault_in body ≡ Some f → Requests f
+  faulty f fault = read_faulty heard.message body heard.reads f fault
 
   -- it closes no tunnel
   no_stop_by : WhyRefused e t header (message_in body) (call_fault_in body) m → IsNoStop heard.message
   no_stop_by (IsNotGranted remote serial calling is none remote_is denied) =
-      subst IsNoStop (sym (said (Icrq remote serial calling) is)) tt
-  no_stop_by (IsOutgoing remote is remote_is result error) = subst IsNoStop (sym (said (Ocrq remote) is)) tt
-  no_stop_by (IsReplyToNone remote is none lns remote_is result error) = subst IsNoStop (sym (said (Icrp remote) is)) tt
-  no_stop_by (IsWrong f fault remote_is result error) = absurd (no_fault f fault)
+      no_stop_alike heard.message (Icrq remote serial calling) (said (Icrq remote serial calling) is) tt
+  no_stop_by (IsOutgoing remote is remote_is result error) = no_stop_alike heard.message (Ocrq remote) (said (Ocrq remote) is) tt
+  no_stop_by (IsReplyToNone remote is none lns remote_is result error) = no_stop_alike heard.message (Icrp remote) (said (Icrp remote) is) tt
+  no_stop_by (IsWrong f fault remote_is result error) = subst IsNoStop (sym (faulty f fault).3) tt
 
   no_stop : IsNoStop heard.message
   no_stop = no_stop_by h.moved.does.why
@@ -117,7 +115,7 @@ module _ (laws : Laws) (accs : Accounts) (ends : Ends) (w : World) (n : ℕ) (e 
   b = accs next.from.node next.from.tunnel
 
   giver : (q : Message) → message_in body ≡ Ok q → Giver b q
-  giver q is = subst (Giver b) (next.message_is ∙ said q is)
+  giver q is = alike_giver b next.letter.message q (next.message_is ∙ said q is)
       (giver_of (ends next.from.node) b (length (accs n i).taken) next.letter (h.joined.fit next.from.node next.from.tunnel)
       next.there)
 
@@ -139,11 +137,15 @@ module _ (laws : Laws) (accs : Accounts) (ends : Ends) (w : World) (n : ℕ) (e 
 
   asks_by : WhyRefused e t header (message_in body) (call_fault_in body) m → (serial : ℕ) × (calling : Option (List ℕ)) × (heard.message ≡ Icrq m.remote serial calling)
   asks_by (IsNotGranted remote serial calling is none remote_is denied) =
-      (serial, calling, said (Icrq remote serial calling) is ∙ ap (λ q. Icrq q serial calling) (sym remote_is))
+      let r = request_alike heard.message remote serial calling (said (Icrq remote serial calling) is) in
+      (serial, r.calling, r.is ∙ ap (λ q. Icrq q serial r.calling) (sym remote_is))
   asks_by (IsOutgoing remote is remote_is result error) =
       absurd (giver (Ocrq remote) is).says
   asks_by (IsReplyToNone remote is none lns remote_is result error) = absurd (no_reply remote is lns)
-  asks_by (IsWrong f fault remote_is result error) = absurd (no_fault f fault)
+  asks_by (IsWrong f fault remote_is result error) =
+      let r = faulty f fault in
+      let own : m.remote ≡ r.0 = remote_is ∙ ap (λ (y : CallFault). unwrap_or y.session 0) r.4 in
+      (r.1, Some r.2, r.3 ∙ ap (λ q. Icrq q r.1 (Some r.2)) (sym own))
 
   asks : (serial : ℕ) × (calling : Option (List ℕ)) × (heard.message ≡ Icrq m.remote serial calling)
   asks = asks_by h.moved.does.why
@@ -197,7 +199,7 @@ module _ (laws : Laws) (accs : Accounts) (ends : Ends) (w : World) (n : ℕ) (e 
         calls = λ k q kfits qfits. refused_same w X own (name k q);
       })
       (speaks_goes accs ends w n e x sender moment ev (move.Refused m) d h (λ k j. refl) v t u h.moved.does.there
-      (letters_of e.role (config_of n 0 None) (move.Refused m)) 1
+      (letters_of e.role (config_of n 0 None false) (move.Refused m)) 1
       (rw named (calls_take_and_give w X w.calls (letter.Cdn 0 own) old.entered (λ y k. refl)))
       (hears_and_says d n e.role sender (move.Refused m) m.taken (accs n i) (after accs d n i) h.moved.deed del.is_open
       (account_is accs ends w n e x sender moment ev (move.Refused m) d h (λ k j. refl) v t u h.moved.does.there))

@@ -1,5 +1,5 @@
 -- An opener takes an SCCRP and rejects it: it is closed with its calls, and its peer is told. In the machine it is closed before it takes it.
-use Rattle.std.proofs.Common.{◌≡◌, ⊎_elim, ℕ, ◌≤◌, false, List, [], ◌∷◌, length, refl, sym, ap, ◌∙◌, subst, Option, Some, arith}
+use Rattle.std.proofs.Common.{◌≡◌, ⊎_elim, ℕ, ◌≤◌, false, List, [], ◌∷◌, length, refl, sym, ap, ◌∙◌, subst, Option, Some, arith, None}
 use Rattle.id_table.specs.Order.{at_new}
 use Rattle.control_message.specs.declared.message.Message.TheVariants as message
 use Rattle.tunnel_fsm.specs.declared.table.TunnelState.TheVariants as state
@@ -53,7 +53,7 @@ module _ (laws : Laws) (accs : Accounts) (ends : Ends) (w : World) (n : ℕ) (e 
 
   -- the StopCCN
   abbrev last : step_laws.Letter
-  last = record { tunnel = m.tunnel; place = m.given; session = 0; message = message.StopCcn m.tunnel m.result m.error }
+  last = record { tunnel = m.tunnel; place = m.given; session = 0; message = message.StopCcn m.tunnel m.result m.error; hidden = None }
 
   abbrev closed : Account
   closed = record a { remote = m.remote; closed = Some (length a.taken) }

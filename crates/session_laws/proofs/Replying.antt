@@ -229,7 +229,7 @@ module _ (laws : Laws) (accs : Accounts) (ends : Ends) (w : World) (n : ℕ) (e 
       one_call_follows accs ends w n e x sender moment ev (move.Replied m) d h (λ k j. refl) v t u s births
       (subst (λ p. OneCall w v n i p e x t u s) (sym speaks.moves.peer) one)
       (speaks_goes accs ends w n e x sender moment ev (move.Replied m) d h (λ k j. refl) v t u h.moved.does.there
-      (letters_of e.role (config_of n 0 None) (move.Replied m)) 1
+      (letters_of e.role (config_of n 0 None false) (move.Replied m)) 1
       (rw del.node (calls_take_and_give w X (with_reply w X Z own) (Reply Z own) old.entered (reply_asks w X Z own)))
       speaks refl (Delivers X S 0 (length (accs n i).taken) Z)
       (del.is Z ∙ takes_request w X S own Z (old.phase ∙ open_phase t.control.state h.moved.does.open_is) (name_some n s some) new))

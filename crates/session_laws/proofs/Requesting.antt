@@ -1,5 +1,5 @@
 -- A call is requested, in the machine too.
-use Rattle.std.proofs.Common.{◌≡◌, inr, ℕ, [], ◌∷◌, refl, sym, ap, ◌∙◌, subst, Option, Some, arith, eq-eqb, ne_eqb, None}
+use Rattle.std.proofs.Common.{◌≡◌, inr, ℕ, [], ◌∷◌, refl, sym, ap, ◌∙◌, subst, Option, Some, arith, eq-eqb, ne_eqb, None, false}
 use Rattle.id_table.specs.Ids.{put}
 use Rattle.id_table.specs.Order.{at_new, at_other}
 use Rattle.call_fsm.specs.declared.table.CallEvent.TheVariants.{TunnelOpen}
@@ -13,7 +13,7 @@ use Rattle.protocol_model.specs.Turn.{Tunnel, request_of}
 use Rattle.protocol_model.specs.End.{End}
 use Rattle.protocol_model.specs.World.{Sender, Deed, config_of}
 use Rattle.step_laws.specs.Letters.{letters_of}
-use Rattle.step_laws.specs.Moves.{with_letter}
+use Rattle.step_laws.specs.Moves.{with_letter_as}
 use Rattle.epoch_machine.specs.Letters.{Request}
 use Rattle.epoch_machine.specs.Tunnels.{Open}
 use Rattle.epoch_machine.specs.Calls.{Waits, WaitsReply, is_asked_for}
@@ -92,7 +92,7 @@ module _ (laws : Laws) (accs : Accounts) (ends : Ends) (w : World) (n : ℕ) (e 
   with_call = record t { calls = put t.calls s b }
 
   abbrev u : Tunnel
-  u = with_letter 0 (request_of s m.port) with_call
+  u = with_letter_as 0 (request_of s m.port) m.hidden with_call
 
   abbrev X : ℕ
   X = name n i
@@ -121,13 +121,13 @@ module _ (laws : Laws) (accs : Accounts) (ends : Ends) (w : World) (n : ℕ) (e 
   does : step all_rules w (Asks Z) ≡ v
   does = asks_is w X Z call.tunnel (here.phase ∙ open_phase t.control.state h.moved.does.open_is) (call.state ∙ on.was)
 
-  says : AccountSpeaks (accs n i) (after accs d n i) (letters_of e.role (config_of n 0 None) (move.Requested m)) 0
+  says : AccountSpeaks (accs n i) (after accs d n i) (letters_of e.role (config_of n 0 None false) (move.Requested m)) 0
   says = says_one d n e.role sender (move.Requested m) (accs n i) (after accs d n i) h.moved.deed
       (account_is accs ends w n e x sender moment ev (move.Requested m) d h (λ k j. refl) v t u h.moved.does.there)
 
   goes : TunnelGoes accs (after accs d) w v n i u
   goes = speaks_goes accs ends w n e x sender moment ev (move.Requested m) d h (λ k j. refl) v t u h.moved.does.there
-      (letters_of e.role (config_of n 0 None) (move.Requested m)) 0 speaks says refl (Asks Z) does
+      (letters_of e.role (config_of n 0 None false) (move.Requested m)) 0 speaks says refl (Asks Z) does
 
   sessions : x.session_ids ≡ e.session_ids
   sessions = ap (λ (y : End). y.session_ids) h.moved.does.after

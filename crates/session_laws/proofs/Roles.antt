@@ -1,5 +1,5 @@
 -- What tunnels say fits the roles of their ends after each move.
-use Rattle.std.proofs.Common.{◌≡◌, ⊎_elim, ℕ, zero, suc, true, List, [], ◌∷◌, ◌++◌, length, slice_get, refl, sym, ap, ◌∙◌, subst, append-nil, Option, Some, None, arith}
+use Rattle.std.proofs.Common.{◌≡◌, ⊎_elim, ℕ, zero, suc, true, List, [], ◌∷◌, ◌++◌, length, slice_get, refl, sym, ap, ◌∙◌, subst, append-nil, Option, Some, None, arith, false}
 use Rattle.std.specs.List.{AllByRecursion}
 use Rattle.id_table.specs.Ids.{at}
 use Rattle.id_table.specs.Order.{same_or_not}
@@ -81,7 +81,7 @@ module _ (r : Role) (a : Account) (h : FitsEnd r a) where
   module _ (d : Deed) (n : ℕ) (sender : Option Sender) (m : Move) (deed : IsDeed d n r sender m) (b : Account) (given : b.given ≡ a.given)
       (taken : b.taken ≡ a.taken) (opens : b.part ≡ Opener → r ≡ Lac) where
     abbrev more : List Letter
-    more = letters_of r (config_of n 0 None) m
+    more = letters_of r (config_of n 0 None false) m
 
     given_fits : AllByRecursion (λ (l : Letter). Says r (with_given more b) l.message) more → FitsEnd r (gives_also d b)
     given_fits says = subst (FitsEnd r) (sym (gives_only d n r sender m b deed))

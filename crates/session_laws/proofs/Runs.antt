@@ -1,5 +1,5 @@
 -- From the moves of a step to the lines of a run.
-use Rattle.std.proofs.Common.{◌≡◌, ⊎_elim, ℕ, ◌+◌, ◌-◌, ◌*◌, ◌^◌, ◌<◌, ◌≤◌, List, [], ◌∷◌, ◌++◌, length, refl, sym, ap, ◌∙◌, subst, append_assoc, append-nil, Option, Some, None, Result, Ok, Err, arith}
+use Rattle.std.proofs.Common.{◌≡◌, ⊎_elim, ℕ, ◌+◌, ◌-◌, ◌*◌, ◌^◌, ◌<◌, ◌≤◌, List, [], ◌∷◌, ◌++◌, length, refl, sym, ap, ◌∙◌, subst, append_assoc, append-nil, Option, Some, None, Result, Ok, Err, arith, Bool}
 use mathlib.Core.Path.{fun_ext}
 use Rattle.std.proofs.lemmas.Bool.{eq-eqb, ne_eqb}
 use Rattle.std.proofs.lemmas.Option.{none-some}
@@ -139,9 +139,9 @@ some_not_none : {X Y : Type 0} (o : Option X) (x : X) → o ≡ None → o ≡ S
 some_not_none o x n s = absurd (none-some x (sym n ∙ s))
 
 module _ (accs : Accounts) (ends : Ends) (w : machine.World) (joined : AreJoined accs ends w) (n : ℕ) (lt : n < 256) (role : Role) (lns : ℕ)
-    (secret : Option (List ℕ)) (none : ends n ≡ None) where
+    (secret : Option (List ℕ)) (hide : Bool) (none : ends n ≡ None) where
   abbrev new : End
-  new = new_end role (config_of n lns secret)
+  new = new_end role (config_of n lns secret hide)
 
   new_calls : CallsJoined w accs n new
   new_calls =
@@ -244,8 +244,8 @@ module _ (keep : MovesKeep) (follow : MovesFollow) where
         });
         count = rw born.count (omega arith);
       }
-  line_follows w accs holds number x mw joined births room ds replies (ANode n role lns secret lt free none same born) =
-      let new : Node = record { end = new_end role (config_of n lns secret); clock = 0; births = [] } in
+  line_follows w accs holds number x mw joined births room ds replies (ANode n role lns secret hide lt free none same born) =
+      let new : Node = record { end = new_end role (config_of n lns secret hide); clock = 0; births = [] } in
       let there : (m : ℕ) → with_end (ends_of w.nodes) n new.end m ≡ ends_of x.world.nodes m = λ m. ⊎_elim
       (λ (s : m ≡ n). subst (λ q. with_end (ends_of w.nodes) n new.end q ≡ ends_of x.world.nodes q) (sym s)
       (here_end (ends_of w.nodes) n new.end
@@ -259,9 +259,9 @@ module _ (keep : MovesKeep) (follow : MovesFollow) where
       record {
         joins = rw none (record {
           world = mw;
-          joined = same_ends accs grown (ends_of x.world.nodes) mw there (new_joined accs (ends_of w.nodes) mw joined n lt role lns secret is_none);
+          joined = same_ends accs grown (ends_of x.world.nodes) mw there (new_joined accs (ends_of w.nodes) mw joined n lt role lns secret hide is_none);
           births = births_ended x.world grown (ends_of x.world.nodes) mw there
-              (births_told w x.world grown mw born (new_births accs (ends_of w.nodes) mw joined n lt role lns secret is_none w births));
+              (births_told w x.world grown mw born (new_births accs (ends_of w.nodes) mw joined n lt role lns secret hide is_none w births));
           replies = subst (λ qs. RepliesJoined mw qs) (sym (append-nil ds)) replies;
         });
         count = rw born.count (omega arith);

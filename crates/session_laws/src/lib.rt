@@ -3,7 +3,7 @@
 #![tactic(auto)]
 
 ghost use Rattle.birth_laws.specs.Births as births;
-ghost use Rattle.connection_laws.specs.Steps.{ClosingsAreKnown, DeclinesAreOfOpenings, LettersAreHeard, LinesGoOn, MovesKeep, NextIsHeard, NoneIsFaulty, OpeningsAreAcceptable, PlainIsHeard, RunsBegin, StopIsHeard};
+ghost use Rattle.connection_laws.specs.Steps.{ClosingsAreKnown, DeclinesAreOfOpenings, LettersAreHeard, LinesGoOn, MovesKeep, NextIsHeard, FaultsAreOfRequests, OpeningsAreAcceptable, PlainIsHeard, RunsBegin, StopIsHeard};
 ghost use Rattle.coverage_laws.specs.Coverage as coverage;
 ghost use Rattle.session_laws.specs.Sessions.{JoinedInRuns, SessionsOfRuns};
 
@@ -17,7 +17,7 @@ fn laws_below()
     ensures known { ClosingsAreKnown }
     ensures openings { DeclinesAreOfOpenings }
     ensures acceptable { OpeningsAreAcceptable }
-    ensures sound { NoneIsFaulty }
+    ensures faulty { FaultsAreOfRequests }
     ensures lines { LinesGoOn }
     ensures begins { RunsBegin }
     ensures births { births.BirthsOfRuns }

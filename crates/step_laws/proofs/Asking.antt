@@ -41,7 +41,7 @@ use Rattle.protocol_model.specs.declared.tunnel.Role.TheVariants.{Lac, Lns}
 use Rattle.protocol_model.specs.declared.out.Out.TheVariants.{Cause}
 use Rattle.protocol_model.specs.Reading.{header_why, body_of, message_in, CallFault, call_fault_in, TunnelFault, tunnel_fault_in}
 use Rattle.protocol_model.specs.Calls.{call_row, advanced, rung, asked_for, is_request, is_connection, is_up, are_too_many}
-use Rattle.protocol_model.specs.Turn.{rejects, rejected, connected_reason, connected_event, Turn, with_output, with_move, with_change, with_call, with_new, with_local, with_calls, opened, opens_by, opens, accepted, accepts_by, accepts, rings_new, first_said, drops, gives, has_room, settles, takes_one, reads_nr, requested, requests, requests_at, requests_all, adds, rings_over, rings_by, rings_within, rings, may_take, Reason, reason, out_of_state, refused, refuses, of_no_call, end_silent, end_told, ends_by, closes, answers_by, granted, asked_by, fault_reason, faulty_at, faulty, in_faulty_call, ends_all, is_closed, event_by, opening_reason, out_of_order, counts_taken, shut, shuts, closed_told, closes_tunnel, closed_by, shuts_by, connected, connects, confirms, takes_plain, ignores, takes_by, takes, replied, replies, first_up, first_up_by, second_up, second_up_by, ends_call, is_clean_up, end_heard, end_heard_by, session_named, ends_named, about_call, in_call, hears, hears_faulty, hears_said, hears_next, hears_letter, is_duplicate, in_tunnel, hears_control, carried, carries, hears_datagram}
+use Rattle.protocol_model.specs.Turn.{rejects, rejected, connected_reason, connected_event, Turn, with_output, with_move, with_change, with_call, with_new, with_local, with_calls, opened, opens_by, opens, accepted, accepts_by, accepts, rings_new, first_said, drops, gives, gives_as, has_room, settles, takes_one, reads_nr, requested, requests, requests_at, requests_all, adds, rings_over, rings_by, rings_within, rings, may_take, Reason, reason, out_of_state, refused, refuses, of_no_call, end_silent, end_told, ends_by, closes, answers_by, granted, asked_by, fault_reason, faulty_at, faulty, in_faulty_call, ends_all, is_closed, event_by, opening_reason, out_of_order, counts_taken, shut, shuts, closed_told, closes_tunnel, closed_by, shuts_by, connected, connects, confirms, takes_plain, ignores, takes_by, takes, replied, replies, first_up, first_up_by, second_up, second_up_by, ends_call, is_clean_up, end_heard, end_heard_by, session_named, ends_named, about_call, in_call, hears, hears_faulty, hears_said, hears_next, hears_letter, is_duplicate, in_tunnel, hears_control, carried, carries, hears_datagram}
 use Rattle.step_laws.specs.Letters.{Among}
 use Rattle.step_laws.proofs.Lists.{branch, found_among, with_calls-more}
 use Rattle.step_laws.proofs.States.{requested_state, connected_state, up_state}
@@ -185,9 +185,10 @@ module _ (role : Role) (calls : List (ℕ × Call)) where
         past = λ c there waits. absurd ((found k c there waits).0 refl);
       }
 
-  requested_ok : (s : ℕ) (c : Call) (t : Turn) → is_request (call_row role c.state call_event.TunnelOpen).1 ≡ true → Requested s t (requested role s c t)
-  unfolding requested gives with_change with_move with_call advanced
-  requested_ok s c t row = put_leads t (requested role s c t) s (advanced role call_event.TunnelOpen t.moment c) refl (λ f. more_full t.control f)
+  requested_ok : (k : Config) (s : ℕ) (c : Call) (t : Turn) → is_request (call_row role c.state call_event.TunnelOpen).1 ≡ true
+      → Requested s t (requested role k s c t)
+  unfolding requested gives_as with_change with_move with_call advanced
+  requested_ok k s c t row = put_leads t (requested role k s c t) s (advanced role call_event.TunnelOpen t.moment c) refl (λ f. more_full t.control f)
       (other_state _ call.WaitReply (requested_state role c.state row).1 (λ k. absurd cc))
 
   full_ok : (s : ℕ) (t : Turn) → has_room t.control ≡ false → Requested s t (drops why.Queue t)
@@ -198,22 +199,22 @@ module _ (role : Role) (calls : List (ℕ × Call)) where
   abbrev OnlyThat : ℕ → Call → Turn → Type 0
   OnlyThat s c t = (d : Call) → There t s d → Waits role s d → d ≡ c
 
-  requests_ok : (s : ℕ) (c : Call) (t : Turn) → OnlyThat s c t → Requested s t (requests role s c t)
+  requests_ok : (k : Config) (s : ℕ) (c : Call) (t : Turn) → OnlyThat s c t → Requested s t (requests role k s c t)
   unfolding requests
-  requests_ok s c t only =
+  requests_ok k s c t only =
       branch (Requested s t) (is_request (call_row role c.state call_event.TunnelOpen).1) _ _
-      (λ row. branch (Requested s t) (has_room t.control) _ _ (λ may. requested_ok s c t row) (λ full. full_ok s t full))
+      (λ row. branch (Requested s t) (has_room t.control) _ _ (λ may. requested_ok k s c t row) (λ full. full_ok s t full))
       (λ none. record {
         leads = leads_nowhere t;
         past = λ d there waits. absurd (true≢false (sym (subst (Waits role s) (only d there waits) waits).row ∙ none));
       })
 
-  requests_at_ok : (s : ℕ) (o : Option Call) (t : Turn) → at calls s ≡ o → IsAsking t → Requested s t (requests_at role s o t)
+  requests_at_ok : (k : Config) (s : ℕ) (o : Option Call) (t : Turn) → at calls s ≡ o → IsAsking t → Requested s t (requests_at role k s o t)
   unfolding requests_at
-  requests_at_ok s None t is h = record { leads = leads_nowhere t; past = λ d there waits. absurd (none-some d (sym is ∙ h s d there waits)) }
-  requests_at_ok s (Some c) t is h =
+  requests_at_ok k s None t is h = record { leads = leads_nowhere t; past = λ d there waits. absurd (none-some d (sym is ∙ h s d there waits)) }
+  requests_at_ok k s (Some c) t is h =
       branch (Requested s t) (nat_lt s 65536) _ _
-      (λ small. requests_ok s c t (λ d there waits. let both : Some d ≡ Some c = sym (h s d there waits) ∙ is in cc))
+      (λ small. requests_ok k s c t (λ d there waits. let both : Some d ≡ Some c = sym (h s d there waits) ∙ is in cc))
       (λ big. record {
         leads = leads_nowhere t;
         past = λ d there waits. absurd (let few = waits.small in let many = ltb-false s 65536 big in omega (arith, few, many));
@@ -223,18 +224,18 @@ module _ (role : Role) (calls : List (ℕ × Call)) where
     leads : Leads t u
     past : (s : ℕ) → Among s ss → Past s u
 
-  requests_all_ok : (ss : List ℕ) (t : Turn) → IsAsking t → AllRequested ss t (requests_all role ss calls t)
+  requests_all_ok : (k : Config) (ss : List ℕ) (t : Turn) → IsAsking t → AllRequested ss t (requests_all role k ss calls t)
   unfolding requests_all
-  requests_all_ok [] t h = record { leads = leads_nowhere t; past = λ s a. absurd a }
-  requests_all_ok (s ∷ ss) t h =
-      let u = requests_at role s (at calls s) t in
-      let v = requests_all role ss calls u in
-      let l = requests_at_ok s (at calls s) t refl h in
-      let rest = requests_all_ok ss u (λ q c there waits. h q c (l.leads.fewer q c there waits) waits) in
+  requests_all_ok k [] t h = record { leads = leads_nowhere t; past = λ s a. absurd a }
+  requests_all_ok k (s ∷ ss) t h =
+      let u = requests_at role k s (at calls s) t in
+      let v = requests_all role k ss calls u in
+      let l = requests_at_ok k s (at calls s) t refl h in
+      let rest = requests_all_ok k ss u (λ q c there waits. h q c (l.leads.fewer q c there waits) waits) in
       record {
         leads = leads_on t u v l.leads rest.leads;
         past = λ q a. ⊎_elim
-            (λ (is : s ≡ q). subst (λ k. Past k v) is (λ c there waits. rest.leads.room (l.past c (rest.leads.fewer s c there waits) waits)))
+            (λ (is : s ≡ q). subst (λ j. Past j v) is (λ c there waits. rest.leads.room (l.past c (rest.leads.fewer s c there waits) waits)))
             (λ later. rest.past q later)
             a;
       }
@@ -249,7 +250,7 @@ module _ (role : Role) (calls : List (ℕ × Call)) where
       (λ may.
       let u = connected c asked remote window next t in
       let first : IsAsking u = λ s c there waits. at_first t b s c there in
-      let a = requests_all_ok (ids_of calls) u first in
+      let a = requests_all_ok c (ids_of calls) u first in
       λ is_open s c there waits. a.past s (found_among calls s c (first s c (a.leads.fewer s c there waits) waits)) c there waits)
       (λ full. dropped why.Queue t b)
 
@@ -610,9 +611,10 @@ module _ (role : Role) (calls : List (ℕ × Call)) where
   with_added port s t = ap (λ xs. with_calls xs calls) (adds_changed port s t) ∙ with_calls-more t.changed s (Some (rung role port t.moment)) calls
 
   -- one that rings in an open tunnel is asked for
-  rung_asked : (port s : ℕ) (t : Turn) → state_number t.control.state ≡ 3 → Begins t → Asked (requests role s (rung role port t.moment) (adds role port s t))
-  rung_asked port s t three b is_open q d there waits = ⊎_elim
-      (λ (is : q ≡ s). r.past d (subst (λ k. There v k d) is there) (subst (λ k. Waits role k d) is waits))
+  rung_asked : (k : Config) (port s : ℕ) (t : Turn) → state_number t.control.state ≡ 3 → Begins t
+      → Asked (requests role k s (rung role port t.moment) (adds role port s t))
+  rung_asked k port s t three b is_open q d there waits = ⊎_elim
+      (λ (is : q ≡ s). r.past d (subst (λ j. There v j d) is there) (subst (λ j. Waits role j d) is waits))
       (λ other. ⊎_elim
       (λ (a : (q ≡ s) × (c ≡ d)). absurd (other a.0))
       (λ (a : (q ≡ s → ⊥) × There t q d). absurd (b.asked was_open q d (at_first t b q d a.1) waits))
@@ -626,7 +628,7 @@ module _ (role : Role) (calls : List (ℕ × Call)) where
       c = rung role port t.moment
 
       v : Turn
-      v = requests role s c u
+      v = requests role k s c u
 
       found : (q : ℕ) (d : Call) → There u q d → ((q ≡ s) × (c ≡ d)) ⊎ ((q ≡ s → ⊥) × There t q d)
       found q d there = found_put (with_calls t.changed calls) s c q d (subst (λ xs. at xs q ≡ Some d) (with_added port s t) there)
@@ -638,14 +640,14 @@ module _ (role : Role) (calls : List (ℕ × Call)) where
       only d there waits = ⊎_elim (λ (a : (s ≡ s) × (c ≡ d)). sym a.1) (λ (a : (s ≡ s → ⊥) × There t s d). absurd (a.0 refl)) (found s d there)
 
       r : Requested s u v
-      r = requests_ok s c u only
+      r = requests_ok k s c u only
 
-  rings_over_asked : (port s : ℕ) (t : Turn) → (state_number t.control.state ≡ 3) ⊎ (state_number t.control.state ≡ 1) → Begins t
-      → Asked (rings_over role port s t)
+  rings_over_asked : (k : Config) (port s : ℕ) (t : Turn) → (state_number t.control.state ≡ 3) ⊎ (state_number t.control.state ≡ 1) → Begins t
+      → Asked (rings_over role k port s t)
   unfolding rings_over
-  rings_over_asked port s t goes b =
+  rings_over_asked k port s t goes b =
       branch Asked (state_number t.control.state == 3) _ _
-      (λ three. rung_asked port s t (eqb-true (state_number t.control.state) 3 three) b)
+      (λ three. rung_asked k port s t (eqb-true (state_number t.control.state) 3 three) b)
       (λ other. λ is_open q d there waits.
       absurd (⊎_elim (λ three. eqb-false (state_number t.control.state) 3 other three) (λ opening. is_open (ap state_number (adds_state port s t) ∙ opening)) goes))
 
@@ -653,11 +655,11 @@ module _ (role : Role) (calls : List (ℕ × Call)) where
   unfolding with_output
   caused c t b = same t (with_output (Cause c) t) refl refl b
 
-  rings_by_asked : (port : ℕ) (x : Result ℕ IdError) (t : Turn) → (state_number t.control.state ≡ 3) ⊎ (state_number t.control.state ≡ 1) → Begins t
-      → Asked (rings_by role port x t)
+  rings_by_asked : (k : Config) (port : ℕ) (x : Result ℕ IdError) (t : Turn) → (state_number t.control.state ≡ 3) ⊎ (state_number t.control.state ≡ 1) → Begins t
+      → Asked (rings_by role k port x t)
   unfolding rings_by
-  rings_by_asked port (Err x) t goes b = caused cause.Ids t b
-  rings_by_asked port (Ok s) t goes b = rings_over_asked port s t goes b
+  rings_by_asked k port (Err x) t goes b = caused cause.Ids t b
+  rings_by_asked k port (Ok s) t goes b = rings_over_asked k port s t goes b
 
   pub rings_asked : (c : Config) (letters : List Letter) (port : ℕ) (t : Turn) → Busy t → (state_number t.control.state ≡ 3) ⊎ (state_number t.control.state ≡ 1)
       → Begins t → Asked (settles false letters (rings role c calls port t))
@@ -668,7 +670,7 @@ module _ (role : Role) (calls : List (ℕ × Call)) where
       (λ idle. absurd (busy (eqb-true (state_number t.control.state) 0 idle)))
       (λ other. branch Asked (are_too_many calls) _ _
       (λ many. caused cause.Calls t b)
-      (λ few. branch Asked (may_take t.control calls) _ _ (λ may. rings_by_asked port (draws t.sessions) t goes b) (λ full. caused cause.Queue t b))))
+      (λ few. branch Asked (may_take t.control calls) _ _ (λ may. rings_by_asked c port (draws t.sessions) t goes b) (λ full. caused cause.Queue t b))))
 
   -- ---- frames that are given
 

@@ -278,7 +278,7 @@ module _ (e : End) (kept : AreKept e) (moment : ℕ) (ev : Event) where
       unfolding turns begins
       rung_chain port goes chosen lns same lac =
           settled_leads _ (settles_ok e moment ev t.letters t.calls i false _
-          (rings_ok e moment ev t.letters t.calls i k.calls port start begins refl chosen lns same e.config goes lac))
+          (rings_ok e moment ev t.letters t.calls i k.calls port start begins refl chosen lns same goes lac))
 
       -- a call is closed by an event of its table
       closed_chain : (for : Cause) (on : CallEvent) (result s : ℕ) → ((c : Call) → WhyEnds (at_turn e moment ev t.letters t.calls i start) (tunnel_after start t.letters t.calls) ev moment s c on result None)

@@ -275,7 +275,7 @@ module _ (e : End) (moment : ℕ) (ev : Event) (letters : List Letter) (calls : 
     goes_live t goes = ⊎_elim (λ is. live_open t.control is) (λ waits. live_in t.control 1 (λ f. omega (arith, f)) waits) goes
 
     rings_over_ok : (port s : ℕ) (t : Turn) → Takes t → are_too_many calls ≡ false → Goes t → ev ≡ Ring port → e.role ≡ Lac → draws t.sessions ≡ Ok s
-        → TurnOk e moment ev letters calls i (rings_over e.role port s t)
+        → TurnOk e moment ev letters calls i (rings_over e.role e.config port s t)
     unfolding rings_over
     rings_over_ok port s t f few goes rings lac drawn =
         let few_now : are_too_many (with_calls t.changed calls) ≡ false = ap are_too_many (calls_first e moment ev letters calls i t f.fresh) ∙ few in
@@ -297,7 +297,7 @@ module _ (e : End) (moment : ℕ) (ev : Event) (letters : List Letter) (calls : 
       rings_there = record { port = port; rings = rings_is; id = i; chosen = chosen; there = f.there; peer = f.peer ∙ lns }
 
       rings_by_ok : are_too_many calls ≡ false → may_take t.control calls ≡ true → Goes t → e.role ≡ Lac → (r : Result ℕ IdError) → draws t.sessions ≡ r
-          → Rung (rings_by e.role port r t)
+          → Rung (rings_by e.role e.config port r t)
       unfolding rings_by
       rings_by_ok few may goes lac (Err x) is =
           caused_ok e moment ev letters calls i cause.Ids
@@ -305,9 +305,9 @@ module _ (e : End) (moment : ℕ) (ev : Event) (letters : List Letter) (calls : 
       rings_by_ok few may goes lac (Ok s) is =
           rings_over_ok port s t (record { fresh = f; live = goes_live t goes; may = may }) few goes rings_is lac is
 
-      pub rings_ok : (cfg : Config) → Goes t → e.role ≡ Lac → Rung (rings e.role cfg calls port t)
+      pub rings_ok : Goes t → e.role ≡ Lac → Rung (rings e.role e.config calls port t)
       unfolding rings rings_within
-      rings_ok cfg goes lac =
+      rings_ok goes lac =
           branch Rung (state_number t.control.state == 0) _ _
           (λ idle. absurd (f.good.stays.1 (eqb-true (state_number t.control.state) 0 idle)))
           (λ busy. branch Rung (are_too_many calls) _ _

@@ -46,7 +46,7 @@ use Rattle.protocol_model.specs.declared.moves.Move.{Move}
 use Rattle.protocol_model.specs.declared.moves.Move.TheVariants as move
 use Rattle.protocol_model.specs.Reading.{header_why, body_of, message_in, CallFault, call_fault_in, TunnelFault, tunnel_fault_in}
 use Rattle.protocol_model.specs.Calls.{call_row, rung, is_set_up, is_request, is_connection, is_up, are_too_many}
-use Rattle.protocol_model.specs.Turn.{rejects, rejected, connected_reason, connected_event, Turn, with_output, with_move, with_change, with_call, with_new, with_local, drops, gives, has_room, sends_letter, sends_now, lets_go, goes_by, lets_all_go, acknowledges, outstanding, acknowledged_after, settles, takes_one, reads_nr, opened, opens_by, opens, accepted, accepts_by, accepts, requested, requests, requests_at, requests_all, adds, rings_over, rings_by, rings_new, rings, is_closed, event_by, opening_reason, out_of_order, shuts, closed_told, closes_tunnel, closed_by, shuts_by, connected, connects, confirms, takes_plain, ignores, takes_by, takes, Reason, reason, out_of_state, may_take, granted, replied, replies, refused, refuses, of_no_call, answers_by, asked_by, faulty_at, fault_reason, faulty, in_faulty_call, closes, ends_by, rings_within, first_up, first_up_by, second_up, second_up_by, ends_call, ends_all, is_clean_up, end_heard, end_heard_by, session_named, ends_named, repeats, greeted, greets, end_silent, end_told, limits_at, limits_all, goes_quietly, clears, is_over, patience, is_at_its_end, ticks_by, ticks, about_call, in_call, hears, hears_faulty, hears_said, hears_next, hears_letter, is_duplicate, in_tunnel, first_said, hears_control, carried, carries, hears_datagram, turns}
+use Rattle.protocol_model.specs.Turn.{rejects, rejected, connected_reason, connected_event, Turn, with_output, with_move, with_change, with_call, with_new, with_local, drops, gives, gives_as, has_room, sends_letter, sends_now, lets_go, goes_by, lets_all_go, acknowledges, outstanding, acknowledged_after, settles, takes_one, reads_nr, opened, opens_by, opens, accepted, accepts_by, accepts, requested, requests, requests_at, requests_all, adds, rings_over, rings_by, rings_new, rings, is_closed, event_by, opening_reason, out_of_order, shuts, closed_told, closes_tunnel, closed_by, shuts_by, connected, connects, confirms, takes_plain, ignores, takes_by, takes, Reason, reason, out_of_state, may_take, granted, replied, replies, refused, refuses, of_no_call, answers_by, asked_by, faulty_at, fault_reason, faulty, in_faulty_call, closes, ends_by, rings_within, first_up, first_up_by, second_up, second_up_by, ends_call, ends_all, is_clean_up, end_heard, end_heard_by, session_named, ends_named, repeats, greeted, greets, end_silent, end_told, limits_at, limits_all, goes_quietly, clears, is_over, patience, is_at_its_end, ticks_by, ticks, about_call, in_call, hears, hears_faulty, hears_said, hears_next, hears_letter, is_duplicate, in_tunnel, first_said, hears_control, carried, carries, hears_datagram, turns}
 use Rattle.step_laws.specs.Ups.{ups_of_output, ups_of_move, births_of_move, reads_of_move, most_births, most_reads}
 use Rattle.step_laws.proofs.Lists.{branch}
 
@@ -219,26 +219,27 @@ module _ (most reads : ℕ) where
 
   -- ---- calls that are asked for
 
-  requested_quiet : (role : Role) (s : ℕ) (c : Call) (t : Turn) → Quiet t → Quiet (requested role s c t)
-  unfolding requested gives with_change with_move with_call
-  requested_quiet role s c t h = did _ refl refl refl h
+  requested_quiet : (role : Role) (k : Config) (s : ℕ) (c : Call) (t : Turn) → Quiet t → Quiet (requested role k s c t)
+  unfolding requested gives_as with_change with_move with_call
+  requested_quiet role k s c t h = did _ refl refl refl h
 
-  requests_quiet : (role : Role) (s : ℕ) (c : Call) (t : Turn) → Quiet t → Quiet (requests role s c t)
+  requests_quiet : (role : Role) (k : Config) (s : ℕ) (c : Call) (t : Turn) → Quiet t → Quiet (requests role k s c t)
   unfolding requests
-  requests_quiet role s c t h =
+  requests_quiet role k s c t h =
       branch Quiet (is_request (call_row role c.state call_event.TunnelOpen).1) _ _
-      (λ row. branch Quiet (has_room t.control) _ _ (λ may. requested_quiet role s c t h) (λ full. dropped why.Queue t h))
+      (λ row. branch Quiet (has_room t.control) _ _ (λ may. requested_quiet role k s c t h) (λ full. dropped why.Queue t h))
       (λ none. h)
 
-  requests_at_quiet : (role : Role) (s : ℕ) (o : Option Call) (t : Turn) → Quiet t → Quiet (requests_at role s o t)
+  requests_at_quiet : (role : Role) (k : Config) (s : ℕ) (o : Option Call) (t : Turn) → Quiet t → Quiet (requests_at role k s o t)
   unfolding requests_at
-  requests_at_quiet role s None t h = h
-  requests_at_quiet role s (Some c) t h = branch Quiet (nat_lt s 65536) _ _ (λ small. requests_quiet role s c t h) (λ big. h)
+  requests_at_quiet role k s None t h = h
+  requests_at_quiet role k s (Some c) t h = branch Quiet (nat_lt s 65536) _ _ (λ small. requests_quiet role k s c t h) (λ big. h)
 
-  requests_all_quiet : (role : Role) (ss : List ℕ) (calls : List (ℕ × Call)) (t : Turn) → Quiet t → Quiet (requests_all role ss calls t)
+  requests_all_quiet : (role : Role) (k : Config) (ss : List ℕ) (calls : List (ℕ × Call)) (t : Turn) → Quiet t → Quiet (requests_all role k ss calls t)
   unfolding requests_all
-  requests_all_quiet role [] calls t h = h
-  requests_all_quiet role (s ∷ ss) calls t h = requests_all_quiet role ss calls (requests_at role s (at calls s) t) (requests_at_quiet role s (at calls s) t h)
+  requests_all_quiet role k [] calls t h = h
+  requests_all_quiet role k (s ∷ ss) calls t h =
+      requests_all_quiet role k ss calls (requests_at role k s (at calls s) t) (requests_at_quiet role k s (at calls s) t h)
 
   -- ---- letters about the tunnel
 
@@ -252,7 +253,7 @@ module _ (most reads : ℕ) where
   unfolding connects
   connects_quiet role c calls asked remote window next t h =
       branch Quiet (has_room t.control) _ _
-      (λ may. requests_all_quiet role (ids_of calls) calls (connected c asked remote window next t) (connected_quiet c asked remote window next t h))
+      (λ may. requests_all_quiet role c (ids_of calls) calls (connected c asked remote window next t) (connected_quiet c asked remote window next t h))
       (λ full. dropped why.Queue t h)
 
   confirms_quiet : (next : TunnelState) (t : Turn) → Quiet t → Quiet (confirms next t)
@@ -668,18 +669,18 @@ adds_quiet : (role : Role) (port s : ℕ) (t : Turn) → IsQuiet 0 0 t → IsQui
 unfolding adds with_move with_new
 adds_quiet role port s t h = with_birth _ s refl refl refl h
 
-rings_over_quiet : (role : Role) (port s : ℕ) (t : Turn) → IsQuiet 0 0 t → IsQuiet 1 0 (rings_over role port s t)
+rings_over_quiet : (role : Role) (k : Config) (port s : ℕ) (t : Turn) → IsQuiet 0 0 t → IsQuiet 1 0 (rings_over role k port s t)
 unfolding rings_over
-rings_over_quiet role port s t h =
+rings_over_quiet role k port s t h =
     let added = adds_quiet role port s t h in
     branch (IsQuiet 1 0) (state_number t.control.state == 3) _ _
-    (λ is. requests_quiet 1 0 role s (rung role port t.moment) (adds role port s t) added)
+    (λ is. requests_quiet 1 0 role k s (rung role port t.moment) (adds role port s t) added)
     (λ other. added)
 
-rings_by_quiet : (role : Role) (port : ℕ) (x : Result ℕ IdError) (t : Turn) → IsQuiet 0 0 t → IsQuiet 1 0 (rings_by role port x t)
+rings_by_quiet : (role : Role) (k : Config) (port : ℕ) (x : Result ℕ IdError) (t : Turn) → IsQuiet 0 0 t → IsQuiet 1 0 (rings_by role k port x t)
 unfolding rings_by
-rings_by_quiet role port (Err x) t h = caused 1 0 cause.Ids t (spared h)
-rings_by_quiet role port (Ok s) t h = rings_over_quiet role port s t h
+rings_by_quiet role k port (Err x) t h = caused 1 0 cause.Ids t (spared h)
+rings_by_quiet role k port (Ok s) t h = rings_over_quiet role k port s t h
 
 rings_new_quiet : (role : Role) (c : Config) (port : ℕ) (x y : Result ℕ IdError) (t : Turn) → IsQuiet 0 0 t → IsQuiet 1 0 (rings_new role c port x y t)
 unfolding rings_new
@@ -690,13 +691,13 @@ rings_new_quiet role c port (Ok s) (Ok local) t h =
     (λ may. adds_quiet role port s (opened role c local t) (opened_quiet 0 0 role c local t h))
     (λ full. caused 1 0 cause.Queue t (spared h))
 
-rings_within_quiet : (role : Role) (calls : List (ℕ × Call)) (port : ℕ) (t : Turn) → IsQuiet 0 0 t → IsQuiet 1 0 (rings_within role calls port t)
+rings_within_quiet : (role : Role) (k : Config) (calls : List (ℕ × Call)) (port : ℕ) (t : Turn) → IsQuiet 0 0 t → IsQuiet 1 0 (rings_within role k calls port t)
 unfolding rings_within
-rings_within_quiet role calls port t h =
+rings_within_quiet role k calls port t h =
     branch (IsQuiet 1 0) (are_too_many calls) _ _
     (λ many. caused 1 0 cause.Calls t (spared h))
     (λ few. branch (IsQuiet 1 0) (may_take t.control calls) _ _
-    (λ may. rings_by_quiet role port (draws t.sessions) t h)
+    (λ may. rings_by_quiet role k port (draws t.sessions) t h)
     (λ full. caused 1 0 cause.Queue t (spared h)))
 
 rings_quiet : (role : Role) (c : Config) (calls : List (ℕ × Call)) (port : ℕ) (t : Turn) → IsQuiet 0 0 t → IsQuiet 1 0 (rings role c calls port t)
@@ -704,7 +705,7 @@ unfolding rings
 rings_quiet role c calls port t h =
     branch (IsQuiet 1 0) (state_number t.control.state == 0) _ _
     (λ idle. rings_new_quiet role c port (draws t.sessions) (draws t.tunnels) t h)
-    (λ busy. rings_within_quiet role calls port t h)
+    (λ busy. rings_within_quiet role c calls port t h)
 
 -- ---- events
 

@@ -17,7 +17,7 @@ use Rattle.protocol_model.specs.declared.tunnel.Role.TheVariants.{Lac}
 use Rattle.protocol_model.specs.declared.event.Event.TheVariants.{Ring}
 use Rattle.protocol_model.specs.declared.out.Out.TheVariants.{Cause}
 use Rattle.protocol_model.specs.Calls.{call_row, advanced, rung, is_request, are_too_many}
-use Rattle.protocol_model.specs.Turn.{Env, Turn, Tunnel, turn_of, with_output, with_move, with_change, with_call, with_new, with_local, gives, has_room, may_take, fresh, opened, requested, requests, adds, rings_over, rings_by, rings_within, rings_new, rings, settles, turns}
+use Rattle.protocol_model.specs.Turn.{Env, Turn, Tunnel, turn_of, with_output, with_move, with_change, with_call, with_new, with_local, gives, gives_as, has_room, may_take, fresh, opened, requested, requests, adds, rings_over, rings_by, rings_within, rings_new, rings, settles, turns}
 use Rattle.protocol_model.specs.End.{End, Stepped, env_of, gives_only, after_turn, after_new, in_new, has_all_tunnels, in_one_more, in_main}
 use Rattle.step_laws.specs.Room.{IsLeast, HasNone, RingsNew}
 use Rattle.step_laws.specs.Steps.{AreKept}
@@ -74,8 +74,8 @@ module _ (e : End) (kept : AreKept e) (lac : e.role ≡ Lac) (moment : ℕ) (blo
         goes
 
     asked_ring : (s : ℕ) → draws e.session_ids ≡ Ok s → may_take t.control t.calls ≡ true → state_number t.control.state ≡ 3
-        → Answers (requests e.role s (rung e.role port moment) (adds e.role port s start))
-    unfolding requests requested gives with_change with_move with_call adds with_new rung advanced
+        → Answers (requests e.role e.config s (rung e.role port moment) (adds e.role port s start))
+    unfolding requests requested gives_as with_change with_move with_call adds with_new rung advanced
     asked_ring s drawn may is =
         branch Answers (is_request (call_row e.role (rung e.role port moment).state call_event.TunnelOpen).1) _ _
         (λ row. branch Answers (has_room t.control) _ _
@@ -91,7 +91,7 @@ module _ (e : End) (kept : AreKept e) (lac : e.role ≡ Lac) (moment : ℕ) (blo
         (λ waits. Waits _ refl (record { drawn = drawn; port_is = refl }) waits.1 (here WaitCtlReply waits.2))
         goes
 
-    drawn_ring : may_take t.control t.calls ≡ true → (r : Result ℕ IdError) → draws e.session_ids ≡ r → Answers (rings_by e.role port r start)
+    drawn_ring : may_take t.control t.calls ≡ true → (r : Result ℕ IdError) → draws e.session_ids ≡ r → Answers (rings_by e.role e.config port r start)
     unfolding rings_by rings_over
     drawn_ring may (Err x) drawn = refused_ring cause.Ids
     drawn_ring may (Ok s) drawn =

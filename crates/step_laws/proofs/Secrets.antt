@@ -9,9 +9,10 @@ use Rattle.std.specs.Prelude.{◌==◌, ◌||◌, not, is_none}
 use Rattle.control_message.specs.declared.message.Opening.{Opening}
 use Rattle.tunnel_secret.specs.Response.{response_of, is_response}
 use Rattle.protocol_model.specs.Secrets.{sixteen, challenge_by, response_by, lacks_secret, is_wrong}
-use Rattle.protocol_model.specs.Messages.{is_acceptable}
+use Rattle.protocol_model.specs.declared.tunnel.Config.{Config}
+use Rattle.protocol_model.specs.Messages.{is_acceptable, request_of, hidden_by, hidden_request}
 use Rattle.protocol_model.specs.Reasons.{other_version, no_recovery, no_secret}
-use Rattle.step_laws.specs.Moves.{Asks, Responds, IsRight, LacksSecret, FailsSecret}
+use Rattle.step_laws.specs.Moves.{HidesNumber, InPlain, ByVector, Asks, Responds, IsRight, LacksSecret, FailsSecret}
 
 pub sixteen_bytes : (block : List ℕ) → length (sixteen block) ≡ 16
 sixteen_bytes block =
@@ -37,6 +38,16 @@ pub lacks_not : (secret asked : Option (List ℕ)) → lacks_secret secret asked
 lacks_not None (Some a) is lacks = true≢false is
 lacks_not None None is lacks = true≢false (sym lacks.0)
 lacks_not (Some s) asked is lacks = let none : Some s ≡ None = lacks.1 in absurd cc
+
+-- a request is hidden where the end hides its numbers and has a secret
+pub hides_number : (c : Config) (block : List ℕ) (session port : ℕ) → HidesNumber c session port (hidden_request c block session port)
+hides_number c block session port = by c.hide c.secret refl refl
+  where
+    by : (hide : Bool) (secret : Option (List ℕ)) → c.hide ≡ hide → c.secret ≡ secret
+        → HidesNumber c session port (hidden_by hide secret (sixteen block) (request_of session port))
+    by false secret plain has = InPlain (λ hides. absurd (true≢false (sym hides ∙ plain))) refl
+    by true None hides none = InPlain (λ h. none) refl
+    by true (Some s) hides some = ByVector s (sixteen block) hides some (sixteen_bytes block) refl
 
 -- ---- answers
 

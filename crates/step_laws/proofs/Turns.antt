@@ -36,8 +36,8 @@ use Rattle.protocol_model.specs.declared.moves.Move.TheVariants as move
 use Rattle.protocol_model.specs.Reading.{body_of, message_in, call_fault_in}
 use Rattle.protocol_model.specs.Calls.{call_row, advanced, rung, asked_for, is_request, is_reply, is_connection, is_up, are_too_many}
 use Rattle.protocol_model.specs.Secrets.{response_by}
-use Rattle.step_laws.proofs.Secrets.{acceptable_proven, responds_so}
-use Rattle.protocol_model.specs.Turn.{is_acceptable, Tunnel, Turn, Reason, is_closed, granted, refused, may_take, counts_given, in_state, changed_at, with_output, with_move, with_change, with_call, with_new, drops, gives, takes_one, next_place, taken_place, has_room, learns_window, reads_nr, ends_call, end_heard, is_clean_up, session_named, requested, requests, requests_at, requests_all, adds, replied, first_up, second_up, connected, confirms, takes_plain, ignores, letter_of, request_of, connection, letters_after, tunnel_after, with_calls}
+use Rattle.step_laws.proofs.Secrets.{acceptable_proven, responds_so, hides_number}
+use Rattle.protocol_model.specs.Turn.{is_acceptable, Tunnel, Turn, Reason, is_closed, granted, refused, may_take, counts_given, in_state, changed_at, with_output, with_move, with_change, with_call, with_new, drops, gives, gives_as, takes_one, next_place, taken_place, has_room, learns_window, reads_nr, ends_call, end_heard, is_clean_up, session_named, requested, requests, requests_at, requests_all, adds, replied, first_up, second_up, connected, confirms, takes_plain, ignores, letter_of, letter_as, request_of, hidden_request, connection, letters_after, tunnel_after, with_calls}
 use Rattle.protocol_model.specs.End.{End, placed, with_looks}
 use Rattle.step_laws.specs.Causes.{Stands}
 use Rattle.step_laws.specs.Moves.{IsRight, Chain, ComesNext, HearsNext, IsPlain, TellsNr, WhyRefused}
@@ -194,10 +194,10 @@ module _ (e : End) (moment : ℕ) (ev : Event) (letters : List Letter) (calls : 
 
   requested_chain : (s : ℕ) (c : Call) (t : Turn) → state_number t.control.state ≡ 3 → at (with_calls t.changed calls) s ≡ Some c → s < 65536
       → is_request (call_row e.role c.state call_event.TunnelOpen).1 ≡ true → has_room t.control ≡ true → t.moment ≡ moment
-      → Chain moment ev e t.moves (at_turn t) → Chain moment ev e (requested e.role s c t).moves (at_turn (requested e.role s c t))
-  unfolding requested gives with_change with_move with_call
+      → Chain moment ev e t.moves (at_turn t) → Chain moment ev e (requested e.role e.config s c t).moves (at_turn (requested e.role e.config s c t))
+  unfolding requested gives_as with_change with_move with_call
   requested_chain s c t is_open found small row room now_is h =
-      let m = move.Requested (record { tunnel = t.control.local; session = s; port = c.port; given = next_place t.control }) in
+      let m = move.Requested (record { tunnel = t.control.local; session = s; port = c.port; hidden = hidden_request e.config t.block s c.port; given = next_place t.control }) in
       chain_more moment ev e (at_turn t) _ t.moves m h (record {
         tunnel = tunnel_after t letters calls;
         there = there t;
@@ -207,19 +207,20 @@ module _ (e : End) (moment : ℕ) (ev : Event) (letters : List Letter) (calls : 
         row = row;
         session = small;
         port = refl;
+        hides = hides_number e.config t.block s c.port;
         room = room;
         given = refl;
         after =
             let changed = with_calls-more t.changed s (Some (advanced e.role call_event.TunnelOpen t.moment c)) calls in
             let looked = with_looks-more t.changes (cell.Bind s t.control.local t.control.peer) (placed t.control.local t.added e.calls) in
-            rw (changed, looked, one_given t (letter_of 0 (request_of s c.port)), put-put e.tunnels t.control.local (tunnel_after t letters calls) _, now_is) refl;
+            rw (changed, looked, one_given t (letter_as 0 (request_of s c.port) (hidden_request e.config t.block s c.port)), put-put e.tunnels t.control.local (tunnel_after t letters calls) _, now_is) refl;
       })
 
   -- it gives one of the letters that it owes
   requested_fits : (s : ℕ) (c : Call) (t : Turn) → is_closed t.control.state ≡ false → at (with_calls t.changed calls) s ≡ Some c
       → is_request (call_row e.role c.state call_event.TunnelOpen).1 ≡ true → Holds t.control (with_calls t.changed calls)
-      → Fits (requested e.role s c t).control (with_calls (requested e.role s c t).changed calls)
-  unfolding requested gives with_change with_move with_call advanced
+      → Fits (requested e.role e.config s c t).control (with_calls (requested e.role e.config s c t).changed calls)
+  unfolding requested gives_as with_change with_move with_call advanced
   requested_fits s c t live found row h =
       let less = requested_owes e.role c.state row in
       let d = advanced e.role call_event.TunnelOpen t.moment c in
@@ -227,15 +228,15 @@ module _ (e : End) (moment : ℕ) (ev : Event) (letters : List Letter) (calls : 
       (fits_instead t.control (with_calls t.changed calls) s d c live found (let before = less.0 in let now = less.1 in omega (arith, before, now)) h)
 
   requested_ok : (s : ℕ) (c : Call) (t : Turn) → state_number t.control.state ≡ 3 → at (with_calls t.changed calls) s ≡ Some c → s < 65536
-      → is_request (call_row e.role c.state call_event.TunnelOpen).1 ≡ true → has_room t.control ≡ true → TurnOk t → TurnOk (requested e.role s c t)
-  unfolding requested gives with_change with_move with_call
+      → is_request (call_row e.role c.state call_event.TunnelOpen).1 ≡ true → has_room t.control ≡ true → TurnOk t → TurnOk (requested e.role e.config s c t)
+  unfolding requested gives_as with_change with_move with_call
   requested_ok s c t is_open found small row room h = record {
     chain = requested_chain s c t is_open found small row room h.stays.4 h.chain;
     words = h.words;
     tells = h.tells;
     frames = all_push NoFrame t.moves _ h.frames tt;
     stays = h.stays;
-    held = given_held t (letter_of 0 (request_of s c.port)) h.held;
+    held = given_held t (letter_as 0 (request_of s c.port) (hidden_request e.config t.block s c.port)) h.held;
     fits =
         let live = live_open t.control is_open in
         requested_fits s c t live found row (holds_live t.control (with_calls t.changed calls) live h.fits);
@@ -244,7 +245,7 @@ module _ (e : End) (moment : ℕ) (ev : Event) (letters : List Letter) (calls : 
   -- ---- the calls that wait
 
   pub requests_ok : (s : ℕ) (c : Call) (t : Turn) → state_number t.control.state ≡ 3 → at (with_calls t.changed calls) s ≡ Some c → s < 65536
-      → TurnOk t → TurnOk (requests e.role s c t)
+      → TurnOk t → TurnOk (requests e.role e.config s c t)
   unfolding requests
   requests_ok s c t is_open found small h =
       branch TurnOk (is_request (call_row e.role c.state call_event.TunnelOpen).1) _ _
@@ -265,8 +266,8 @@ module _ (e : End) (moment : ℕ) (ev : Event) (letters : List Letter) (calls : 
   leaves_all : (s : ℕ) (t : Turn) → Leaves s t t
   leaves_all s t = record { state = refl; others = λ q o. refl }
 
-  requests_leaves : (s : ℕ) (c : Call) (t : Turn) → Leaves s t (requests e.role s c t)
-  unfolding requests requested gives with_output with_change with_move with_call drops
+  requests_leaves : (s : ℕ) (c : Call) (t : Turn) → Leaves s t (requests e.role e.config s c t)
+  unfolding requests requested gives_as with_output with_change with_move with_call drops
   requests_leaves s c t =
       branch (Leaves s t) (is_request (call_row e.role c.state call_event.TunnelOpen).1) _ _
       (λ row. branch (Leaves s t) (has_room t.control) _ _
@@ -283,7 +284,7 @@ module _ (e : End) (moment : ℕ) (ev : Event) (letters : List Letter) (calls : 
     leaves : Leaves s t u
 
   requests_at_ok : (s : ℕ) (o : Option Call) (t : Turn) → state_number t.control.state ≡ 3 → at (with_calls t.changed calls) s ≡ o → TurnOk t
-      → Asked s t (requests_at e.role s o t)
+      → Asked s t (requests_at e.role e.config s o t)
   unfolding requests_at
   requests_at_ok s None t is_open found h = record { ok = h; leaves = leaves_all s t }
   requests_at_ok s (Some c) t is_open found h =
@@ -305,13 +306,13 @@ module _ (e : End) (moment : ℕ) (ev : Event) (letters : List Letter) (calls : 
   same_still s t u l (x ∷ es) above h = (l x.0 (λ q. let lt = above.0 in absurd (omega (arith, lt, q))) ∙ h.0, same_still s t u l es above.1 h.1)
 
   pub requests_all_ok : (es : List (ℕ × Call)) → Ascends es → (t : Turn) → state_number t.control.state ≡ 3 → AllByRecursion (Same t) es → TurnOk t
-      → TurnOk (requests_all e.role (ids_of es) calls t)
+      → TurnOk (requests_all e.role e.config (ids_of es) calls t)
   unfolding requests_all Ascends
   requests_all_ok [] sorted t is_open same h = h
   requests_all_ok (x ∷ es) sorted t is_open same h =
       let a = requests_at_ok x.0 (at calls x.0) t is_open same.0 h in
-      requests_all_ok es sorted.1 (requests_at e.role x.0 (at calls x.0) t) (ap state_number a.leaves.state ∙ is_open)
-      (same_still x.0 t (requests_at e.role x.0 (at calls x.0) t) a.leaves.others es sorted.0 same.1) a.ok
+      requests_all_ok es sorted.1 (requests_at e.role e.config x.0 (at calls x.0) t) (ap state_number a.leaves.state ∙ is_open)
+      (same_still x.0 t (requests_at e.role e.config x.0 (at calls x.0) t) a.leaves.others es sorted.0 same.1) a.ok
 
   -- ---- moves of calls
 
@@ -375,8 +376,8 @@ module _ (e : End) (moment : ℕ) (ev : Event) (letters : List Letter) (calls : 
   adds_requested_ok : (port s : ℕ) (t : Turn) → t.changes ≡ [] → state_number t.control.state ≡ 3
       → are_too_many (with_calls t.changed calls) ≡ false → may_take t.control (with_calls t.changed calls) ≡ true → ev ≡ Ring port → e.role ≡ Lac
       → draws t.sessions ≡ Ok s → s < 65536 → is_request (call_row e.role (rung e.role port t.moment).state call_event.TunnelOpen).1 ≡ true
-      → has_room t.control ≡ true → TurnOk t → TurnOk (requested e.role s (rung e.role port t.moment) (adds e.role port s t))
-  unfolding requested gives with_change with_move with_call adds with_new
+      → has_room t.control ≡ true → TurnOk t → TurnOk (requested e.role e.config s (rung e.role port t.moment) (adds e.role port s t))
+  unfolding requested gives_as with_change with_move with_call adds with_new
   adds_requested_ok port s t none is_open few spare rings lac drawn small row room h =
       let u = adds e.role port s t in
       let c = rung e.role port t.moment in
@@ -387,14 +388,14 @@ module _ (e : End) (moment : ℕ) (ev : Event) (letters : List Letter) (calls : 
         tells = h.tells;
         frames = all_push NoFrame _ _ (all_push NoFrame t.moves _ h.frames tt) tt;
         stays = (h.stays.0, h.stays.1, small_last t h.stays.2, h.stays.3, h.stays.4, h.stays.5);
-        held = given_held t (letter_of 0 (request_of s c.port)) h.held;
+        held = given_held t (letter_as 0 (request_of s c.port) (hidden_request e.config t.block s c.port)) h.held;
         fits = requested_fits s c u (live_open t.control is_open) found row (adds_fit port s t few spare lac h);
       }
 
   -- over an open one it is asked for at once, so that it owes two letters, and not three
   pub adds_asked_ok : (port s : ℕ) (t : Turn) → t.changes ≡ [] → state_number t.control.state ≡ 3
       → are_too_many (with_calls t.changed calls) ≡ false → may_take t.control (with_calls t.changed calls) ≡ true → ev ≡ Ring port → e.role ≡ Lac
-      → draws t.sessions ≡ Ok s → s < 65536 → TurnOk t → TurnOk (requests e.role s (rung e.role port t.moment) (adds e.role port s t))
+      → draws t.sessions ≡ Ok s → s < 65536 → TurnOk t → TurnOk (requests e.role e.config s (rung e.role port t.moment) (adds e.role port s t))
   unfolding requests adds with_move with_new
   adds_asked_ok port s t none is_open few spare rings lac drawn small h =
       branch TurnOk (is_request (call_row e.role (rung e.role port t.moment).state call_event.TunnelOpen).1) _ _

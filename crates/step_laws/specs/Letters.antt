@@ -26,22 +26,25 @@ abbrev pub Among : {X : Type 0} → X → List X → Type 0
 Among x [] = ⊥
 Among x (y ∷ ys) = (y ≡ x) ⊎ Among x ys
 
--- a letter that a tunnel was given: its place in the tunnel's list, the session id of its header, and what it says
+-- a letter that a tunnel was given: its place in the tunnel's list, the session id of its header, what it says, and, where it hides a
+-- value, its pairs as they are spelled
 pub record Letter : Type 0 where
   pub tunnel : ℕ
   pub place : Place
   pub session : ℕ
   pub message : Message
+  pub hidden : Option (List ℕ)
 
 abbrev pub letter : ℕ → Place → ℕ → Message → List Letter
-letter tunnel place session m = record { tunnel = tunnel; place = place; session = session; message = m } ∷ []
+letter tunnel place session m = record { tunnel = tunnel; place = place; session = session; message = m; hidden = None } ∷ []
 
 -- the letters that a move gives
 abbrev pub letters_of : Role → Config → Move → List Letter
 letters_of role c (move.Opened m) = letter m.tunnel m.given 0 (Sccrq (opening_of role c m.challenge None m.tunnel))
 letters_of role c (move.Accepted m) = letter m.tunnel m.given 0 (Sccrp (opening_of role c m.challenge m.response m.tunnel))
 letters_of role c (move.Connected m) = letter m.tunnel m.given 0 (Scccn m.response)
-letters_of role c (move.Requested m) = letter m.tunnel m.given 0 (request_of m.session m.port)
+letters_of role c (move.Requested m) =
+    record { tunnel = m.tunnel; place = m.given; session = 0; message = request_of m.session m.port; hidden = m.hidden } ∷ []
 letters_of role c (move.Replied m) = letter m.tunnel m.given m.remote (Icrp m.session)
 letters_of role c (move.FirstUp m) = letter m.tunnel m.given m.remote connection
 letters_of role c (move.Refused m) = letter m.tunnel m.given m.remote (Cdn 0 m.result m.error)

@@ -7,6 +7,8 @@ use Rattle.id_source.specs.Spaces.{draws, after_draw}
 use Rattle.l2tp_header.specs.declared.header.Header.{Header}
 use Rattle.md5.specs.Md5.{md5}
 use Rattle.l2tp_header.specs.Reading.{header_of}
+use Rattle.avp_codec.specs.Spelling.{spelling}
+use Rattle.control_message.specs.Pairs.{pairs_with}
 use Rattle.control_message.specs.declared.message.Message.{Message}
 use Rattle.control_message.specs.declared.message.Message.TheVariants.{Sccrq, Sccrp, Scccn, StopCcn, Hello, Ocrq, Ocrp, Occn, Icrq, Icrp, Iccn, Cdn, Wen, Sli}
 use Rattle.control_message.specs.declared.kind.Kind.{Kind}
@@ -30,6 +32,7 @@ use Rattle.protocol_model.specs.declared.tunnel.Call.{Call}
 use Rattle.protocol_model.specs.declared.tunnel.CallPlace.{CallPlace}
 use Rattle.protocol_model.specs.declared.tunnel.Look.TheVariants as look
 use Rattle.protocol_model.specs.declared.tunnel.CellChange.TheVariants as cell
+use Rattle.protocol_model.specs.declared.tunnel.Config.{Config}
 use Rattle.protocol_model.specs.declared.tunnel.Control.{Control}
 use Rattle.protocol_model.specs.declared.tunnel.Role.TheVariants.{Lac, Lns}
 use Rattle.protocol_model.specs.declared.event.Event.{Event}
@@ -64,7 +67,7 @@ use Rattle.protocol_model.specs.declared.event.Addressee.TheVariants.{Stops, Ans
 use Rattle.protocol_model.specs.declared.event.Addressee.TheVariants as addressee
 use Rattle.protocol_model.specs.Reading.{body_of, message_in, CallFault, call_fault_in, TunnelFault, tunnel_fault_in, at_zero}
 use Rattle.protocol_model.specs.Calls.{call_row, advanced, rung, asked_for, is_request, is_reply, is_connection, is_told, is_up, owed_by, frame_of, side_of}
-use Rattle.protocol_model.specs.Turn.{Tunnel, place, next_place, taken_place, letter_of, counts_given, counts_taken, counts_acked, counts_sent, counts_repeated, in_state, opening_of, request_of, connection, is_clean_up, session_named, fault_error, event_by, is_closed}
+use Rattle.protocol_model.specs.Turn.{Tunnel, place, next_place, taken_place, letter_of, letter_as, counts_given, counts_taken, counts_acked, counts_sent, counts_repeated, in_state, opening_of, request_of, connection, is_clean_up, session_named, fault_error, event_by, is_closed}
 use Rattle.step_laws.specs.Failing.{HasFailed}
 use Rattle.protocol_model.specs.End.{End, new_place, with_look, with_looks}
 
@@ -184,6 +187,13 @@ IsRight kind None asked given = Unit {0}
 IsRight kind (Some secret) None given = Unit {0}
 IsRight kind (Some secret) (Some asked) given = given ≡ Some (right_answer kind secret asked)
 
+-- an end that is to hide its calling numbers, and has a secret, hides that of a request behind a Random Vector of 16 bytes (section 4.3);
+-- another one sends it plainly
+pub data HidesNumber (c : Config) (session port : ℕ) (hidden : Option (List ℕ)) : Type 0 where
+  InPlain : (c.hide ≡ true → c.secret ≡ None) → hidden ≡ None → HidesNumber c session port hidden
+  ByVector : (secret vector : List ℕ) → c.hide ≡ true → c.secret ≡ Some secret → length vector ≡ 16
+      → hidden ≡ Some (spelling (pairs_with (Some secret) (Some vector) (request_of session port))) → HidesNumber c session port hidden
+
 -- one that has none can't answer
 abbrev pub LacksSecret : Option (List ℕ) → Option (List ℕ) → Type 0
 LacksSecret secret asked = (is_some asked ≡ true) × (secret ≡ None)
@@ -215,6 +225,10 @@ with_tunnel e i t = record e { tunnels = put e.tunnels i t }
 -- one more letter is given to the tunnel's channel
 abbrev pub with_letter : ℕ → Message → Tunnel → Tunnel
 with_letter session m t = record t { control = counts_given t.control; letters = t.letters ++ letter_of session m ∷ [] }
+
+-- one whose pairs hide a value, where they do
+abbrev pub with_letter_as : ℕ → Message → Option (List ℕ) → Tunnel → Tunnel
+with_letter_as session m hidden t = record t { control = counts_given t.control; letters = t.letters ++ letter_as session m hidden ∷ [] }
 
 -- a tunnel that is new, before anything is given to its channel
 abbrev pub new_tunnel : Control → Tunnel
@@ -327,9 +341,10 @@ pub record Requests (e : End) (moment : ℕ) (m : Requested) (x : End) : Type 0 
   pub row : is_request (call_row e.role call.state call_event.TunnelOpen).1 ≡ true
   pub session : m.session < 65536
   pub port : m.port ≡ call.port
+  pub hides : HidesNumber e.config m.session m.port m.hidden
   pub room : has_room tunnel.control ≡ true
   pub given : m.given ≡ next_place tunnel.control
-  pub after : x ≡ record (with_tunnel e m.tunnel (with_letter 0 (request_of m.session m.port) (record tunnel {
+  pub after : x ≡ record (with_tunnel e m.tunnel (with_letter_as 0 (request_of m.session m.port) m.hidden (record tunnel {
     calls = put tunnel.calls m.session (advanced e.role call_event.TunnelOpen moment call);
   }))) { calls = with_look (cell.Bind m.session m.tunnel tunnel.control.peer) e.calls }
 

@@ -40,7 +40,7 @@ impl Turn {
         }
         let sessions = calls.ids(self.alloc)?;
         self.connect(config, asked, remote, window, next)?;
-        self.request_all(role, sessions.as_slice(), calls)
+        self.request_all(role, config, sessions.as_slice(), calls)
     }
 
     /// Does what the table says on a letter about the tunnel, which asks this, and tells this id and this receive window of the peer;

@@ -5,6 +5,7 @@ ghost use Rattle.id_source.specs.Spaces.{draws};
 ghost use Rattle.protocol_model.specs.Calls.{is_request};
 ghost use Rattle.protocol_model.specs.Turn.{has_room, requested, requests, requests_at, requests_all, adds, rings_over, rings_within, rings_new, rings};
 
+use crate::sending::{copy_pairs, hidden_pairs};
 use crate::turn::{Turn, advanced, call_row, request_of, rung};
 use call_fsm::{CallAction, CallEvent};
 use protocol_model::{Added, Call, CellChange, Config, Move, Out, Requested, Role};
@@ -19,11 +20,17 @@ fn is_request(action: CallAction) -> bool
 }
 
 impl Turn {
-    /// Asks for a waiting call: the peer comes to know it.
+    /// Asks for a waiting call: the peer comes to know it. An end that hides its calling numbers hides this one.
     #[tactic(auto, unfolding(protocol_model::specs::Turn::requested))]
-    fn request_now(&mut self, role: Role, session: u16, call: &Call) -> Result<(), NoMemory>
+    fn request_now(
+        &mut self,
+        role: Role,
+        config: &Config,
+        session: u16,
+        call: &Call,
+    ) -> Result<(), NoMemory>
         requires { IsTrue (has_room self.old.control) }
-        ensures { OnOk result (self.new ≡ requested role session call.now self.old) }
+        ensures { OnOk result (self.new ≡ requested role config.now session call.now self.old) }
     {
         let given = self.next_place();
         let tunnel = self.control.local;
@@ -38,11 +45,14 @@ impl Turn {
             call.remote,
         )?;
         let request = request_of(self.alloc, session, port)?;
+        let hidden = hidden_pairs(self.alloc, config, &self.block, &request)?;
+        let letter = copy_pairs(self.alloc, &hidden)?;
         self.change(session, asked)?;
         self.did(Move::Requested(Requested {
             tunnel,
             session,
             port,
+            hidden,
             given,
         }))?;
         self.look(CellChange::Bind {
@@ -50,13 +60,19 @@ impl Turn {
             tunnel,
             peer,
         })?;
-        self.give(0, &request)
+        self.give_as(0, &request, letter)
     }
 
     /// Asks for a call, where its table says so.
     #[tactic(auto, unfolding(protocol_model::specs::Turn::requests))]
-    pub(crate) fn request(&mut self, role: Role, session: u16, call: &Call) -> Result<(), NoMemory>
-        ensures { OnOk result (self.new ≡ requests role session call.now self.old) }
+    pub(crate) fn request(
+        &mut self,
+        role: Role,
+        config: &Config,
+        session: u16,
+        call: &Call,
+    ) -> Result<(), NoMemory>
+        ensures { OnOk result (self.new ≡ requests role config.now session call.now self.old) }
     {
         let (_, action) = call_row(role, call.state, CallEvent::TunnelOpen);
         if !is_request(action) {
@@ -65,7 +81,7 @@ impl Turn {
         if !self.has_room() {
             return self.drop_with(Why::Queue);
         }
-        self.request_now(role, session, call)
+        self.request_now(role, config, session, call)
     }
 
     /// Asks for each of these calls that waits.
@@ -73,15 +89,16 @@ impl Turn {
     pub(crate) fn request_all(
         &mut self,
         role: Role,
+        config: &Config,
         sessions: &[u32],
         calls: &TunnelCalls,
     ) -> Result<(), NoMemory>
-        ensures { OnOk result (self.new ≡ requests_all role sessions.now calls.now.entries self.old) }
+        ensures { OnOk result (self.new ≡ requests_all role config.now sessions.now calls.now.entries self.old) }
     {
         for session in sessions {
             if let Some(call) = calls.get(*session) {
                 if let Ok(id) = u16::try_from(*session) {
-                    self.request(role, id, call)?;
+                    self.request(role, config, id, call)?;
                 }
             }
         }
@@ -105,15 +122,21 @@ impl Turn {
 
     /// A ring over a tunnel that is there: an open one asks for the call at once.
     #[tactic(auto, unfolding(protocol_model::specs::Turn::rings_over))]
-    fn ring_over(&mut self, role: Role, port: u16, session: u16) -> Result<(), NoMemory>
-        ensures { OnOk result (self.new ≡ rings_over role port session self.old) }
+    fn ring_over(
+        &mut self,
+        role: Role,
+        config: &Config,
+        port: u16,
+        session: u16,
+    ) -> Result<(), NoMemory>
+        ensures { OnOk result (self.new ≡ rings_over role config.now port session self.old) }
     {
         if self.control.state != TunnelState::Established {
             return self.add(role, port, session);
         }
         let call = rung(self.alloc, role, port, self.moment)?;
         self.add(role, port, session)?;
-        self.request(role, session, &call)
+        self.request(role, config, session, &call)
     }
 
     /// A ring over a new tunnel, which is opened for it.
@@ -137,8 +160,14 @@ impl Turn {
 
     /// A ring over a tunnel that has these calls.
     #[tactic(auto, unfolding(protocol_model::specs::Turn::rings_within, protocol_model::specs::Turn::rings_by))]
-    fn ring_within(&mut self, role: Role, calls: &TunnelCalls, port: u16) -> Result<(), NoMemory>
-        ensures { OnOk result (self.new ≡ rings_within role calls.now.entries port self.old) }
+    fn ring_within(
+        &mut self,
+        role: Role,
+        config: &Config,
+        calls: &TunnelCalls,
+        port: u16,
+    ) -> Result<(), NoMemory>
+        ensures { OnOk result (self.new ≡ rings_within role config.now calls.now.entries port self.old) }
     {
         if calls.are_too_many() {
             return self.output(Out::Cause {
@@ -152,7 +181,7 @@ impl Turn {
         }
         match self.next_session() {
             Err(_) => self.output(Out::Cause { cause: Cause::Ids }),
-            Ok(session) => self.ring_over(role, port, session as u16),
+            Ok(session) => self.ring_over(role, config, port, session as u16),
         }
     }
 
@@ -170,6 +199,6 @@ impl Turn {
         if self.control.state == TunnelState::Idle {
             return self.ring_new(role, config, port);
         }
-        self.ring_within(role, calls, port)
+        self.ring_within(role, config, calls, port)
     }
 }

@@ -1,17 +1,20 @@
 //! A tunnel's control channel in a step (RFC 2661 section 5.8): letters that are given, acknowledged and sent.
 
-ghost use Rattle.std.specs.Prelude.{◌≡◌, ◌≤◌, length, OnOk, IfOk, IsTrue, option_copied};
-ghost use Rattle.control_message.specs.Pairs.{IsWritten};
+ghost use Rattle.std.specs.Prelude.{◌≡◌, ◌≤◌, length, OnOk, IfOk, IfSome, IsTrue, option_copied};
+ghost use Rattle.control_message.specs.Pairs.{IsWritten, hidden_of};
 ghost use Rattle.control_channel.specs.Numbers.{next_to_go, ticked_at};
-ghost use Rattle.protocol_model.specs.Turn.{has_room as room_in, may_take, next_place, taken_place, gives, takes_one, learns_window, reads_nr, letter_in, origin_of, datagram, sends_now, repeats, lets_all_go, acknowledges, settles};
+ghost use Rattle.protocol_model.specs.Turn.{has_room as room_in, may_take, next_place, taken_place, gives, gives_as, takes_one, learns_window, reads_nr, letter_in, origin_of, datagram, sends_now, repeats, lets_all_go, acknowledges, settles};
+ghost use Rattle.protocol_model.specs.Messages.{hidden_by};
+ghost use Rattle.protocol_model.specs.Secrets.{sixteen};
 ghost use Rattle.tunnel_core.specs.Gives.{WentBy};
 
 use crate::turn::Turn;
 use control_channel::ChannelNumbers;
 use control_message::{Message, has_room, hides_nothing_without_a_vector, write_message};
 use l2tp_header::write_control;
-use protocol_model::{ControlOrigin, LetGo, Move, NrRead, Origin, Out, Place, Repeated};
+use protocol_model::{Config, ControlOrigin, LetGo, Move, NrRead, Origin, Out, Place, Repeated};
 use send_window::Letters;
+use std::alloc::Global;
 use tunnel_calls::TunnelCalls;
 use wire_base::{Bytes, Letter, NoMemory};
 
@@ -26,6 +29,40 @@ fn place(number: u64) -> Place
     ensures { result ≡ record { epoch = 0; number = number } }
 {
     Place { epoch: 0, number }
+}
+
+/// The pairs of a message of which an end hides the Calling Number, by its secret and behind a Random Vector, which is the
+/// step's random block (RFC 2661 section 4.3). An end that hides nothing has none.
+#[tactic(auto, using(protocol_model::specs::Secrets::sixteen_is))]
+pub(crate) fn hidden_pairs(
+    alloc: Global,
+    config: &Config,
+    block: &[u8; 16],
+    message: &Message,
+) -> Result<Option<Bytes>, NoMemory>
+    requires written { IsWritten message.now }
+    requires short { IfSome (hidden_of message.now) (λ number. length number ≤ 990) }
+    ensures { IfOk result (λ h. h ≡ hidden_by config.now.hide config.now.secret (sixteen block.now) message.now) }
+{
+    if !config.hide {
+        return Ok(None);
+    }
+    let Some(secret) = &config.secret else {
+        return Ok(None);
+    };
+    let mut pairs = Bytes::new(alloc);
+    write_message(&mut pairs, message, Some(secret.as_slice()), Some(block))?;
+    Ok(Some(pairs))
+}
+
+/// A copy of the pairs of a message that hides a value, where it does.
+pub(crate) fn copy_pairs(alloc: Global, pairs: &Option<Bytes>) -> Result<Option<Bytes>, NoMemory>
+    ensures { IfOk result (λ p. p ≡ pairs.now) }
+{
+    match pairs {
+        None => Ok(None),
+        Some(pairs) => Ok(Some(Bytes::from_slice(alloc, pairs.as_slice())?)),
+    }
 }
 
 impl Turn {
@@ -68,6 +105,26 @@ impl Turn {
         hides_nothing_without_a_vector();
         let mut avps = Bytes::new(self.alloc);
         write_message(&mut avps, message, None, None)?;
+        self.given.push(Letter { session, avps })?;
+        self.control.channel.put();
+        Ok(())
+    }
+
+    /// Gives a letter to the channel, with these pairs where they hide a value.
+    #[tactic(auto, unfolding(protocol_model::specs::Turn::gives, protocol_model::specs::Turn::gives_as))]
+    pub(crate) fn give_as(
+        &mut self,
+        session: u16,
+        message: &Message,
+        hidden: Option<Bytes>,
+    ) -> Result<(), NoMemory>
+        requires written { IsWritten message.now }
+        requires room { IsTrue (room_in self.old.control) }
+        ensures { OnOk result (self.new ≡ gives_as session message.now hidden self.old) }
+    {
+        let Some(avps) = hidden else {
+            return self.give(session, message);
+        };
         self.given.push(Letter { session, avps })?;
         self.control.channel.put();
         Ok(())

@@ -2,7 +2,7 @@
 
 ghost use Rattle.std.specs.Prelude.{◌≡◌, ◌≤◌, ◌<◌, length, IfSome, IfOk, OnOk};
 ghost use Rattle.id_source.specs.Spaces.{draws};
-ghost use Rattle.control_message.specs.Pairs.{IsWritten, IsWrittenOpening};
+ghost use Rattle.control_message.specs.Pairs.{IsWritten, IsWrittenOpening, hidden_of};
 ghost use Rattle.protocol_model.specs.Calls.{call_row, rung, advanced, idle_call, asked_for};
 ghost use Rattle.protocol_model.specs.Turn.{turn_of, with_output, with_move, with_change, with_call, with_new, drops, ends_call, opening_of, request_of, with_local};
 ghost use Rattle.protocol_model.specs.Secrets.{challenge_by};
@@ -309,6 +309,7 @@ pub(crate) fn opening_of(
 pub(crate) fn request_of(alloc: Global, session: u16, port: u16) -> Result<Message, NoMemory>
     ensures value { IfOk result (λ m. m ≡ request_of session port) }
     ensures written { IfOk result IsWritten }
+    ensures short { IfOk result (λ m. IfSome (hidden_of m) (λ number. length number ≤ 990)) }
 {
     twelve_digits();
     Ok(Message::Icrq {

@@ -1,6 +1,6 @@
 use Rattle.connection_laws.proofs.Moves.{moves_keep}
 use Rattle.connection_laws.proofs.Said.{next_is_heard, plain_is_heard}
-use Rattle.connection_laws.proofs.AnyHeard.{letters_are_heard, openings_are_acceptable, none_is_faulty, none_is_faulty_in_tunnel}
+use Rattle.connection_laws.proofs.AnyHeard.{letters_are_heard, openings_are_acceptable, faults_are_of_requests, none_is_faulty_in_tunnel}
 use Rattle.connection_laws.proofs.Plainly.{stop_is_heard}
 use Rattle.connection_laws.proofs.Closing.{closings_are_known}
 use Rattle.connection_laws.proofs.Declining.{declines_are_of_openings}
@@ -32,8 +32,8 @@ returns-clause-openings c = declines_are_of_openings c.laws_below.ensures.codecs
 pub returns-clause-acceptable : goal.returns-clause-acceptable
 returns-clause-acceptable c = openings_are_acceptable c.laws_below.ensures.codecs
 
-pub returns-clause-sound : goal.returns-clause-sound
-returns-clause-sound c = none_is_faulty c.laws_below.ensures.codecs
+pub returns-clause-faulty : goal.returns-clause-faulty
+returns-clause-faulty c = faults_are_of_requests c.laws_below.ensures.codecs
 
 pub returns-clause-sound_in_tunnel : goal.returns-clause-sound_in_tunnel
 returns-clause-sound_in_tunnel c = none_is_faulty_in_tunnel c.laws_below.ensures.codecs

@@ -8,5 +8,6 @@ returns c =
       pairs = c.reads_what_was_written-2.ensures;
       message = c.reads_what_was_written-3.ensures;
       room = c.has_room.ensures;
+      hidden = c.hidden_requests_are_read.ensures;
       digits = c.twelve_digits.ensures;
     }

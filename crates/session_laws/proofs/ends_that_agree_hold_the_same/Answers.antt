@@ -14,7 +14,7 @@ returns c =
       known = below.known;
       openings = below.openings;
       acceptable = below.acceptable;
-      sound = below.sound;
+      faulty = below.faulty;
       births = below.births;
       coverage = below.coverage;
     } in
