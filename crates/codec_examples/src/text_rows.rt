@@ -9,7 +9,12 @@ use tunnel_secret::{check_response, hide, response, unhide};
 /// A line that names an end. Lines have no `Debug`, since they may hold a secret; those of the rows are no one's.
 fn told_end(alloc: Global, line: &Line) -> Result<String, Fault> {
     match line {
-        Line::Lac { node, lns, secret } => told(alloc, &("Lac", node, lns, secret)),
+        Line::Lac {
+            node,
+            lns,
+            secret,
+            hide,
+        } => told(alloc, &("Lac", node, lns, secret, hide)),
         Line::Lns { node, secret } => told(alloc, &("Lns", node, secret)),
         Line::OpenUp { node } => told(alloc, &("OpenUp", node)),
         Line::Close { node, tunnel } => told(alloc, &("Close", node, tunnel)),

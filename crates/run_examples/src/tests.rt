@@ -115,11 +115,13 @@ fn two_lacs_cross_at_one_lns(rt: HostRuntime) -> Result<(), Fail> {
             node: 9,
             lns: 4,
             secret: None,
+            hide: false,
         },
         Line::Lac {
             node: 6,
             lns: 4,
             secret: None,
+            hide: false,
         },
         Line::OpenUp { node: 9 },
         Line::Deliver { packet: 1 },
@@ -208,11 +210,13 @@ fn two_lacs_refuse_each_other(rt: HostRuntime) -> Result<(), Fail> {
             node: 9,
             lns: 6,
             secret: None,
+            hide: false,
         },
         Line::Lac {
             node: 6,
             lns: 9,
             secret: None,
+            hide: false,
         },
         Line::Ring { node: 6, port: 80 },
         Line::OpenUp { node: 9 },
@@ -287,6 +291,7 @@ fn two_endings_of_a_call_cross(rt: HostRuntime) -> Result<(), Fail> {
             node: 9,
             lns: 4,
             secret: None,
+            hide: false,
         },
         Line::Ring { node: 9, port: 70 },
         Line::OpenUp { node: 9 },
@@ -474,6 +479,7 @@ fn world_of_two(alloc: Global) -> Result<World, Fail> {
             node: 9,
             lns: 4,
             secret: None,
+            hide: false,
         },
     )?;
     Ok(world)

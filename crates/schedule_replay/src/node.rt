@@ -39,16 +39,16 @@ pub(crate) fn copy_secret(alloc: Global, secret: &Option<Bytes>) -> Result<Optio
     }
 }
 
-/// The configuration of a node with this tunnel secret, which hides nothing.
-pub(crate) fn config_of(number: u8, lns: u32, secret: Option<Bytes>) -> Config
-    ensures { result ≡ config_of number lns secret }
+/// The configuration of a node with this tunnel secret, which hides its calling numbers by it where `hide` is set.
+pub(crate) fn config_of(number: u8, lns: u32, secret: Option<Bytes>, hide: bool) -> Config
+    ensures { result ≡ config_of number lns secret hide }
 {
     Config {
         number,
         address: address_of(number),
         lns,
         secret,
-        hide: false,
+        hide,
     }
 }
 

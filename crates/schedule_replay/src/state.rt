@@ -209,7 +209,7 @@ impl State {
         self.show_all(line, node, given.outputs)
     }
 
-    /// A new node, with this tunnel secret.
+    /// A new node, with this tunnel secret, which hides its calling numbers by it where `hide` is set.
     #[tactic(auto, unfolding(protocol_model::specs::World::added))]
     fn add(
         &mut self,
@@ -217,14 +217,15 @@ impl State {
         role: Role,
         lns: u32,
         secret: &Option<Bytes>,
+        hide: bool,
     ) -> Result<(), LineFault>
-        ensures { Says result (added self.old.world node role lns secret.now) self.old self.new }
+        ensures { Says result (added self.old.world node role lns secret.now hide) self.old self.new }
     {
         if self.nodes.contains(u32::from(node)) {
             return Err(LineFault::unfit(Why::Twice));
         }
         let secret = copy_secret(self.alloc, secret)?;
-        let new = Node::new(self.alloc, role, config_of(node, lns, secret));
+        let new = Node::new(self.alloc, role, config_of(node, lns, secret, hide));
         self.nodes.insert(u32::from(node), new)?;
         Ok(())
     }
@@ -335,10 +336,13 @@ impl State {
     {
         match line {
             Line::Remark { .. } => Ok(()),
-            Line::Lac { node, lns, secret } => {
-                self.add(*node, Role::Lac, address_of(*lns), secret)
-            }
-            Line::Lns { node, secret } => self.add(*node, Role::Lns, 0, secret),
+            Line::Lac {
+                node,
+                lns,
+                secret,
+                hide,
+            } => self.add(*node, Role::Lac, address_of(*lns), secret, *hide),
+            Line::Lns { node, secret } => self.add(*node, Role::Lns, 0, secret, false),
             Line::OpenUp { node } => self.step_of(number, *node, Role::Lac, &Event::OpenTunnel),
             Line::Close { node, tunnel } => {
                 let tunnel = *tunnel;
