@@ -10,7 +10,7 @@ use Rattle.control_message.specs.Reading.{checked, u16_at, u32_at, window_at, fa
 use Rattle.protocol_model.specs.Names.{host_name, address_of, node_of, calling_number}
 use Rattle.protocol_model.specs.Reading.{message_read, pairs_read, message_in, zero_read, zero_pairs, at_zero, at_tunnel, fault_of_pairs, call_fault_in, tunnel_fault_of_pairs, tunnel_fault_in}
 use Rattle.protocol_model.specs.Calls.{call_row, advanced, rung, asked_for, carry_known, carry_look}
-use Rattle.protocol_model.specs.Turn.{with_turn, with_output, with_move, with_change, with_call, with_new, drops, gives, takes_one, reads_nr, sends_letter, sends_now, lets_go, goes_by, lets_all_go, acknowledges, acknowledged_after, settles, with_local, opened, opens_by, opens, accepted, accepts_by, accepts, requested, requests, requests_at, requests_all, adds, rings_over, rings_by, rings_new, rings, connected, connects, confirms, takes_plain, ignores, takes_by, takes, replied, replies, first_up, first_up_by, second_up, second_up_by, about_call, in_call, hears, hears_faulty, hears_said, hears_next, hears_letter, in_tunnel, first_said, hears_control, carried, carries, hears_datagram, turns, with_calls, ends_call, ends_all, shuts, closed_told, closes_tunnel, rejected, rejects, closed_by, shuts_by, end_silent, end_told, ends_by, closes, rings_within, answers_by, refused, refuses, of_no_call, call_of, session_named, granted, asked_by, end_heard, end_heard_by, ends_named, faulty_at, faulty, in_faulty_call}
+use Rattle.protocol_model.specs.Turn.{with_turn, with_output, with_move, with_change, with_call, with_new, drops, gives, gives_as, takes_one, reads_nr, sends_letter, sends_now, lets_go, goes_by, lets_all_go, acknowledges, acknowledged_after, settles, with_local, opened, opens_by, opens, accepted, accepts_by, accepts, requested, requests, requests_at, requests_all, adds, rings_over, rings_by, rings_new, rings, connected, connects, confirms, takes_plain, ignores, takes_by, takes, replied, replies, first_up, first_up_by, second_up, second_up_by, about_call, in_call, hears, hears_faulty, hears_said, hears_next, hears_letter, in_tunnel, first_said, hears_control, carried, carries, hears_datagram, turns, with_calls, ends_call, ends_all, shuts, closed_told, closes_tunnel, rejected, rejects, closed_by, shuts_by, end_silent, end_told, ends_by, closes, rings_within, answers_by, refused, refuses, of_no_call, call_of, session_named, granted, asked_by, end_heard, end_heard_by, ends_named, faulty_at, faulty, in_faulty_call}
 use Rattle.protocol_model.specs.Secrets.{uncovered_datagram}
 use Rattle.protocol_model.specs.End.{gives_only, placed, with_look, with_looks, after_turn, after_new, in_new, in_one_more, in_main, known_as, opens_once, addressed, main_of, reached_by, reached_plain, against_opening, against_body, declined, opens_or_declines, for_addressee, least_in, rings_in, rings_at, for_call, handed, hands_up, receives, only_by, step_in, plain_step}
 use Rattle.protocol_model.specs.World.{birth_of, with_birth, is_born, moved, moved_all, sent, shown, entry_of, shown_all, entries_of, given, after_step, added, block_of, stepped, addressee_of, arrival, too_old, refused_by, arrives, delivers_it, delivers, line}
@@ -25,7 +25,7 @@ unfolding draws at put_at without u16_bytes u32_bytes is_control has_length has_
     response_at opening_at icrq_at icrp_at iccn_at message_of kind_of_pairs result_code_at cdn_at host_name address_of node_of
     calling_number message_read pairs_read message_in zero_read zero_pairs at_zero at_tunnel fault_of_pairs call_fault_in tunnel_fault_of_pairs tunnel_fault_in
     call_row advanced rung asked_for carry_known carry_look with_turn with_output with_move with_change with_call with_new drops
-    gives takes_one reads_nr sends_letter sends_now lets_go goes_by lets_all_go acknowledges acknowledged_after settles
+    gives gives_as takes_one reads_nr sends_letter sends_now lets_go goes_by lets_all_go acknowledges acknowledged_after settles
     with_local opened opens_by opens accepted accepts_by accepts requested requests requests_at requests_all adds rings_over
     rings_by rings_new rings connected connects confirms takes_plain ignores takes_by takes replied replies first_up first_up_by
     second_up second_up_by about_call in_call hears hears_faulty hears_said hears_next hears_letter in_tunnel first_said hears_control carried carries

@@ -1,5 +1,5 @@
 -- Two LACs whose tunnels and calls cross at one LNS, and a frame each way for both.
-use Rattle.std.specs.Prelude.{◌≡◌, ℕ, List, [], ◌∷◌, ◌++◌, None}
+use Rattle.std.specs.Prelude.{◌≡◌, ℕ, List, [], ◌∷◌, ◌++◌, None, false}
 use Rattle.schedule_text.specs.declared.line.Line.{Line}
 use Rattle.schedule_text.specs.declared.line.Line.TheVariants.{Lac, Lns, OpenUp, Ring, FromSub, Down, Deliver}
 use Rattle.protocol_model.specs.declared.tunnel.Role.{Role}
@@ -9,7 +9,7 @@ use Rattle.frame_laws.specs.Past.{Passage, past_of}
 -- the LNS is node 4; node 9 opens its tunnel first, and node 6 has the first births
 abbrev pub openings : List Line
 openings =
-    Lns 4 None ∷ Lac 9 4 None ∷ Lac 6 4 None
+    Lns 4 None ∷ Lac 9 4 None false ∷ Lac 6 4 None false
     ∷ OpenUp 9 ∷ Deliver 1 ∷ Deliver 2 ∷ Deliver 3
     ∷ Ring 6 80 ∷ Ring 6 81 ∷ Ring 9 70 ∷ Ring 9 71
     ∷ []

@@ -1,5 +1,5 @@
 -- A call that is dropped at one end while it is hung up at the other: their CDNs cross.
-use Rattle.std.specs.Prelude.{◌≡◌, ℕ, List, [], ◌∷◌, ◌++◌, codes, Option, Some, None, option_map}
+use Rattle.std.specs.Prelude.{◌≡◌, ℕ, List, [], ◌∷◌, ◌++◌, codes, Option, Some, None, option_map, false}
 use Rattle.id_table.specs.Ids.{at}
 use Rattle.wire_base.specs.declared.cause.Cause.TheVariants as cause
 use Rattle.wire_base.specs.declared.why.Why.TheVariants as why
@@ -16,7 +16,7 @@ use Rattle.run_examples.specs.Entries.{entries_since, message, acknowledgement}
 -- tunnel 2 the LNS's tunnel 1.
 abbrev pub connected : List Line
 connected =
-    Lns 4 None ∷ Lac 9 4 None ∷ Ring 9 70
+    Lns 4 None ∷ Lac 9 4 None false ∷ Ring 9 70
     ∷ OpenUp 9 ∷ Deliver 2 ∷ Deliver 3 ∷ Deliver 4 ∷ Deliver 5
     ∷ Ring 9 71 ∷ Deliver 6 ∷ Deliver 7 ∷ Deliver 8
     ∷ []

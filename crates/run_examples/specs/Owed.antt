@@ -55,7 +55,7 @@ has_room_held c = nat_le (c.channel.window.queued + 4) 8192
 abbrev pub careless : End
 careless =
     if has_room_held control
-    then (after_turn lac 1 [] calls (settles false [] (rings_by role.Lac 75 (draws lac.session_ids) (turn_of control (env_of lac 0 []))))).end
+    then (after_turn lac 1 [] calls (settles false [] (rings_by role.Lac lac.config 75 (draws lac.session_ids) (turn_of control (env_of lac 0 []))))).end
     else lac
 
 -- the operator drops a call

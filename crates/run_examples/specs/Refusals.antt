@@ -1,5 +1,5 @@
 -- Two LACs that name each other as their LNS: neither takes calls, so what one asks for the other refuses.
-use Rattle.std.specs.Prelude.{◌≡◌, List, [], ◌∷◌, ◌++◌, codes, Some, None}
+use Rattle.std.specs.Prelude.{◌≡◌, List, [], ◌∷◌, ◌++◌, codes, Some, None, false}
 use Rattle.wire_base.specs.declared.cause.Cause.TheVariants.{State}
 use Rattle.schedule_text.specs.declared.line.Line.{Line}
 use Rattle.schedule_text.specs.declared.line.Line.TheVariants.{Lac, OpenUp, Ring, Deliver}
@@ -11,7 +11,7 @@ use Rattle.run_examples.specs.Entries.{entries_since, message, acknowledgement}
 
 -- Session 1 of node 6 waits in a tunnel that is never answered. Node 9's tunnel 1 is tunnel 2 of node 6.
 abbrev pub openings : List Line
-openings = Lac 9 6 None ∷ Lac 6 9 None ∷ Ring 6 80 ∷ OpenUp 9 ∷ Deliver 2 ∷ Deliver 3 ∷ Deliver 4 ∷ Deliver 5 ∷ []
+openings = Lac 9 6 None false ∷ Lac 6 9 None false ∷ Ring 6 80 ∷ OpenUp 9 ∷ Deliver 2 ∷ Deliver 3 ∷ Deliver 4 ∷ Deliver 5 ∷ []
 
 -- two calls of node 9 are asked for, and one of node 6 in the same tunnel
 abbrev pub calls : List Line

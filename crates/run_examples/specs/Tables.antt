@@ -1,5 +1,5 @@
 -- The tables at the end of a report, where a call isn't up yet, and where a letter wasn't taken.
-use Rattle.std.specs.Prelude.{◌≡◌, ℕ, List, [], ◌∷◌, ◌++◌, codes, None}
+use Rattle.std.specs.Prelude.{◌≡◌, ℕ, List, [], ◌∷◌, ◌++◌, codes, None, false}
 use Rattle.tunnel_fsm.specs.declared.table.TunnelState.TheVariants as states
 use Rattle.call_fsm.specs.declared.table.CallState.TheVariants.{Established, WaitReply}
 use Rattle.protocol_model.specs.declared.tunnel.Role.TheVariants as role
