@@ -12,7 +12,8 @@ use Rattle.protocol_model.specs.Secrets.{sixteen, challenge_by, response_by, lac
 use Rattle.protocol_model.specs.declared.tunnel.Config.{Config}
 use Rattle.protocol_model.specs.Messages.{is_acceptable, request_of, hidden_by, hidden_request}
 use Rattle.protocol_model.specs.Reasons.{other_version, no_recovery, no_secret}
-use Rattle.step_laws.specs.Moves.{HidesNumber, InPlain, ByVector, Asks, Responds, IsRight, LacksSecret, FailsSecret}
+use Rattle.step_laws.specs.Hides.{HidesNumber, InPlain, ByVector}
+use Rattle.step_laws.specs.Moves.{Asks, Responds, IsRight, LacksSecret, FailsSecret}
 
 pub sixteen_bytes : (block : List ℕ) → length (sixteen block) ≡ 16
 sixteen_bytes block =

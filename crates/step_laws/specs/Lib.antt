@@ -1,5 +1,6 @@
 pub mod Letters
 pub mod Failing
+pub mod Hides
 pub mod Moves
 pub mod Steps
 pub mod Left

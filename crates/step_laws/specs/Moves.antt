@@ -7,8 +7,6 @@ use Rattle.id_source.specs.Spaces.{draws, after_draw}
 use Rattle.l2tp_header.specs.declared.header.Header.{Header}
 use Rattle.md5.specs.Md5.{md5}
 use Rattle.l2tp_header.specs.Reading.{header_of}
-use Rattle.avp_codec.specs.Spelling.{spelling}
-use Rattle.control_message.specs.Pairs.{pairs_with}
 use Rattle.control_message.specs.declared.message.Message.{Message}
 use Rattle.control_message.specs.declared.message.Message.TheVariants.{Sccrq, Sccrp, Scccn, StopCcn, Hello, Ocrq, Ocrp, Occn, Icrq, Icrp, Iccn, Cdn, Wen, Sli}
 use Rattle.control_message.specs.declared.kind.Kind.{Kind}
@@ -28,6 +26,7 @@ use Rattle.tunnel_fsm.specs.Rows.{rows, row_of, state_number}
 use Rattle.call_fsm.specs.declared.table.CallState.TheVariants as call
 use Rattle.call_fsm.specs.declared.table.CallEvent.{CallEvent}
 use Rattle.call_fsm.specs.declared.table.CallEvent.TheVariants as call_event
+use Rattle.step_laws.specs.Hides.{HidesNumber}
 use Rattle.protocol_model.specs.declared.tunnel.Call.{Call}
 use Rattle.protocol_model.specs.declared.tunnel.CallPlace.{CallPlace}
 use Rattle.protocol_model.specs.declared.tunnel.Look.TheVariants as look
@@ -186,13 +185,6 @@ abbrev pub IsRight : ℕ → Option (List ℕ) → Option (List ℕ) → Option 
 IsRight kind None asked given = Unit {0}
 IsRight kind (Some secret) None given = Unit {0}
 IsRight kind (Some secret) (Some asked) given = given ≡ Some (right_answer kind secret asked)
-
--- an end that is to hide its calling numbers, and has a secret, hides that of a request behind a Random Vector of 16 bytes (section 4.3);
--- another one sends it plainly
-pub data HidesNumber (c : Config) (session port : ℕ) (hidden : Option (List ℕ)) : Type 0 where
-  InPlain : (c.hide ≡ true → c.secret ≡ None) → hidden ≡ None → HidesNumber c session port hidden
-  ByVector : (secret vector : List ℕ) → c.hide ≡ true → c.secret ≡ Some secret → length vector ≡ 16
-      → hidden ≡ Some (spelling (pairs_with (Some secret) (Some vector) (request_of session port))) → HidesNumber c session port hidden
 
 -- one that has none can't answer
 abbrev pub LacksSecret : Option (List ℕ) → Option (List ℕ) → Type 0
