@@ -1,11 +1,12 @@
 //! An end with a peer that is another program: the lines of what the end gives for an event.
 
 use crate::event::{Fault, bytes_of, event_of, node_number, number_of};
-use end_core::{EndRows, Given};
+use end_core::EndRows;
 use lac_core::Lac;
 use lns_core::Lns;
 use protocol_model::{Config, Event, Look, Out, address_of, node_of};
 use std::alloc::Global;
+use tunnel_core::Outputs;
 use wire_base::{Bytes, NoMemory, Why};
 
 /// What an end of this number is told. A secret of no bytes is none.
@@ -23,6 +24,13 @@ fn config(number: u8, lns: u32, secret: Bytes) -> Config {
     }
 }
 
+/// What an end gives for an event: its outputs, and the Ethernet frame that answers a host behind them.
+#[derive(Drop)]
+struct Answered {
+    outputs: Outputs,
+    reply: Option<Bytes>,
+}
+
 /// An end of either kind.
 #[derive(Drop)]
 enum Side {
@@ -31,10 +39,22 @@ enum Side {
 }
 
 impl Side {
-    fn step(&mut self, moment: u64, event: &Event) -> Result<Given, NoMemory> {
+    fn step(&mut self, moment: u64, event: &Event) -> Result<Answered, NoMemory> {
         match self {
-            Side::Lac(lac) => lac.step(moment, [7; 16], event),
-            Side::Lns(lns) => lns.step(moment, [7; 16], event),
+            Side::Lac(lac) => {
+                let given = lac.step(moment, [7; 16], event)?;
+                Ok(Answered {
+                    outputs: given.outputs,
+                    reply: given.reply,
+                })
+            }
+            Side::Lns(lns) => {
+                let given = lns.step(moment, [7; 16], event)?;
+                Ok(Answered {
+                    outputs: given.outputs,
+                    reply: None,
+                })
+            }
         }
     }
 }
@@ -71,6 +91,14 @@ fn push_output(alloc: Global, text: &mut Bytes, output: &Out) -> Result<(), NoMe
     text.push_slice(b"\n")
 }
 
+/// Appends the line of a frame that answers a host.
+fn push_reply(alloc: Global, text: &mut Bytes, frame: &Bytes) -> Result<(), NoMemory> {
+    let digits = hex::encode(alloc, frame.as_slice())?;
+    text.push_slice(b"frame ")?;
+    text.push_slice(digits.as_bytes())?;
+    text.push_slice(b"\n")
+}
+
 /// An end, where its messages come from, and the moment.
 #[derive(Drop)]
 pub struct Bench {
@@ -93,7 +121,7 @@ impl Bench {
     fn lac_of(alloc: Global, number: u8, lns: u8, secret: Bytes) -> Bench {
         let lns = address_of(lns);
         Bench {
-            end: Side::Lac(Lac::new(alloc, config(number, lns, secret))),
+            end: Side::Lac(Lac::new(alloc, config(number, lns, secret), [0; 16])),
             peer: lns,
             moment: 1000,
         }
@@ -164,6 +192,9 @@ impl Bench {
         let mut text = Bytes::new(alloc);
         for output in given.outputs.as_slice() {
             push_output(alloc, &mut text, output)?;
+        }
+        if let Some(frame) = &given.reply {
+            push_reply(alloc, &mut text, frame)?;
         }
         Ok(text)
     }

@@ -84,12 +84,15 @@ fn event_of_bytes(word: &str, number: &str, bytes: Bytes) -> Result<Event, Fault
     }
 }
 
-/// The event that words tell: an administrative open, a ring, a word with what it is about, or the hex digits of a datagram of the
-/// peer.
+/// The event that words tell: an administrative open, a ring, an Ethernet frame, a word with what it is about, or the hex digits
+/// of a datagram of the peer.
 pub(crate) fn event_of(alloc: Global, peer: u32, words: &str) -> Result<Event, Fault> {
     match (words, words.split_once(' ')) {
         ("open", _) => Ok(Event::OpenTunnel),
         ("ring", _) => Ok(Event::Ring { port: 70 }),
+        (_, Some(("frame", digits))) => Ok(Event::Frame {
+            bytes: bytes_of(alloc, digits)?,
+        }),
         (_, Some((word, about))) => match about.split_once(' ') {
             Some((number, digits)) => event_of_bytes(word, number, bytes_of(alloc, digits)?),
             None => event_of_id(word, id_of(about)?),

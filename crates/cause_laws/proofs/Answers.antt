@@ -5,7 +5,7 @@ use Rattle.std.specs.Prelude.{min, slice_get}
 use Rattle.id_table.specs.Ids.{at}
 use Rattle.wire_base.specs.declared.why.Why.{Why}
 use Rattle.schedule_text.specs.declared.line.Line.{Line}
-use Rattle.schedule_text.specs.declared.line.Line.TheVariants.{Remark, Lac, Lns, OpenUp, Close, Ring, FromSub, Down, Hang, DropCall, Deliver, Tick}
+use Rattle.schedule_text.specs.declared.line.Line.TheVariants.{Remark, Lac, Lns, OpenUp, Close, Ring, Frame, FromSub, Down, Hang, DropCall, Deliver, Tick}
 use Rattle.schedule_text.specs.Grammar.{FitsLine, AreLines}
 use Rattle.protocol_model.specs.declared.event.Event.{Event}
 use Rattle.protocol_model.specs.declared.event.Event.TheVariants as event
@@ -21,7 +21,10 @@ use Rattle.protocol_model.specs.Run.{run}
 use Rattle.step_laws.specs.Answers.{RequestsAreAnswered}
 use Rattle.connection_laws.specs.Accounts.{account_of}
 use Rattle.connection_laws.specs.Steps.{LinesGoOn, RunsBegin}
-use Rattle.cause_laws.specs.Causes.{Brings, moment_of}
+use Rattle.pppoe_discovery.specs.declared.outcome.Discovered.{Discovered}
+use Rattle.protocol_model.specs.Access.{Coming, coming, Runs, Enters, Ignores, Answers}
+use Rattle.step_laws.specs.Hosts.{LacAt, with_host, OfFrame, frame_line}
+use Rattle.cause_laws.specs.Causes.{Brings, FrameBrings, ByItsHost, ByAPadr, moment_of}
 use Rattle.cause_laws.specs.Answers.{step_at, AnswersOfRuns}
 use Rattle.cause_laws.proofs.Runs.{all_left}
 use Rattle.cause_laws.proofs.Left.{CallLaws, kept_in, seen_end, ended}
@@ -58,6 +61,63 @@ module _ (w : World) (number : ℕ) (l : Line) (x : Lined) where
       let done : Does m q c = of_step m q q c sender refl (clock q) made in
       rw (to, is, ← same) done
 
+-- a step of a LAC whose hosts change with it
+host_does_it : (w : World) (number m : ℕ) (bytes : List ℕ) (l : LacAt w m) (src : List ℕ) (uniq : Option (List ℕ)) (x : Lined)
+    → stepped w number m (event.Admitted src) None (Ok (with_host w number m l src uniq)) ≡ Ok x
+    → Does w number (Frame m bytes) x m l.node (event.Admitted src)
+unfolding stepped
+host_does_it w number m bytes l src uniq x h =
+    let q = with_host w number m l src uniq in
+    let made : after_step w number m q None (step q.end q.clock (block_of m number) (event.Admitted src)) ≡ x = cc in
+    of_step w number (Frame m bytes) x m l.node q (event.Admitted src) None refl refl made
+
+-- a LAC is told by its number, and so is what comes to it
+module _ (w : World) (m : ℕ) (bytes : List ℕ) where
+  same_lac : (l k : LacAt w m) → (l.node ≡ k.node) × (l.access ≡ k.access)
+  same_lac l k =
+      let nodes : Some l.node ≡ Some k.node = sym l.there ∙ k.there in
+      let node : l.node ≡ k.node = cc in
+      let held : Some l.access ≡ Some k.access = sym l.keeps ∙ (ap (λ (q : Node). q.access) node ∙ k.keeps) in
+      (node, cc)
+
+  same_coming : (l k : LacAt w m) → coming l.access l.node.end bytes ≡ coming k.access k.node.end bytes
+  same_coming l k = let s = same_lac l k in rw (s.0, s.1) refl
+
+frame_does : (w : World) (number m : ℕ) (bytes : List ℕ) (n : ℕ) (node : Node) (ev : Event) → at w.nodes n ≡ Some node → n ≡ m → FrameBrings w m bytes ev
+    → OfFrame (λ y. Does w number (Frame m bytes) y n node ev) w number m bytes
+frame_does w number m bytes n node ev was to brings = record {
+  ignored = λ l word is x h. absurd (not_told l (Ignores word) is (λ c e. cc) (λ src uniq asked e. cc) brings);
+  answered = λ l because frame is x h. absurd (not_told l (Answers because frame) is (λ c e. cc) (λ src uniq asked e. cc) brings);
+  done = λ l c is does x h.
+      stepped_does w number (Frame m bytes) x m c None (Ok l.node) (λ q e. (let same : l.node ≡ q = cc in rw (← same) l.there)) (λ q. refl) h
+      n node ev was to (runs_this l c is brings);
+  entered = λ l src uniq asked is x h. entered_does l src uniq asked is x h brings;
+}
+  where
+    not_told : (l : LacAt w m) (k : Coming) → coming l.access l.node.end bytes ≡ k → ((c : Event) → k ≡ Runs c → ⊥)
+        → ((src : List ℕ) (uniq : Option (List ℕ)) (asked : Discovered) → k ≡ Enters src uniq asked → ⊥) → FrameBrings w m bytes ev → ⊥
+    not_told l k is other another (ByItsHost j runs) = other ev (sym is ∙ (same_coming w m bytes l j ∙ runs))
+    not_told l k is other another (ByAPadr j src uniq asked enters same) = another src uniq asked (sym is ∙ (same_coming w m bytes l j ∙ enters))
+
+    runs_this : (l : LacAt w m) (c : Event) → coming l.access l.node.end bytes ≡ Runs c → FrameBrings w m bytes ev → ev ≡ c
+    runs_this l c is (ByItsHost k runs) = let e : Runs c ≡ Runs ev = sym is ∙ (same_coming w m bytes l k ∙ runs) in cc
+    runs_this l c is (ByAPadr k src uniq asked enters same) =
+        let e : Runs c ≡ Enters src uniq asked = sym is ∙ (same_coming w m bytes l k ∙ enters) in absurd cc
+
+    entered_does : (l : LacAt w m) (src : List ℕ) (uniq : Option (List ℕ)) (asked : Discovered) → coming l.access l.node.end bytes ≡ Enters src uniq asked
+        → (x : Lined) → stepped w number m (event.Admitted src) None (Ok (with_host w number m l src uniq)) ≡ Ok x → FrameBrings w m bytes ev
+        → Does w number (Frame m bytes) x n node ev
+    entered_does l src uniq asked is x h (ByItsHost k runs) =
+        let e : Enters src uniq asked ≡ Runs ev = sym is ∙ (same_coming w m bytes l k ∙ runs) in absurd cc
+    entered_does l src uniq asked is x h (ByAPadr k from named wanted enters same) =
+        let e : Enters src uniq asked ≡ Enters from named wanted = sym is ∙ (same_coming w m bytes l k ∙ enters) in
+        let who : src ≡ from = cc in
+        let both : Some l.node ≡ Some node = sym l.there ∙ (ap (at w.nodes) (sym to) ∙ was) in
+        let here : l.node ≡ node = cc in
+        let event_is : ev ≡ event.Admitted src = same ∙ ap event.Admitted (sym who) in
+        let done = host_does_it w number m bytes l src uniq x h in
+        rw (to, event_is, ← here) done
+
 -- of each kind
 line_does : (w : World) (number : ℕ) (l : Line) (x : Lined) → line w number l ≡ Ok x → (n : ℕ) (node : Node) (ev : Event) → at w.nodes n ≡ Some node
     → Brings w l n ev → Does w number l x n node ev
@@ -74,6 +134,8 @@ line_does w number (Close m i) x h n node ev was brings =
 line_does w number (Ring m port) x h n node ev was brings =
     stepped_does w number (Ring m port) x m (event.Ring port) None (lac_at (at w.nodes m)) (λ q e. (is_lac_at (at w.nodes m) q e).0) (λ q. refl) h
     n node ev was brings.0 brings.1
+line_does w number (Frame m bytes) x h n node ev was brings =
+    frame_line (λ y. Does w number (Frame m bytes) y n node ev) w number m bytes (frame_does w number m bytes n node ev was brings.0 brings.1) x h
 line_does w number (FromSub m session frame) x h n node ev was brings =
     stepped_does w number (FromSub m session frame) x m (event.Payload session frame) None (with_call session (lac_at (at w.nodes m)))
     (λ q e. (is_lac_at (at w.nodes m) q (has_call session (lac_at (at w.nodes m)) q e)).0) (λ q. refl) h n node ev was brings.0 brings.1

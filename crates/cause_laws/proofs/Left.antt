@@ -13,7 +13,7 @@ use Rattle.protocol_model.specs.declared.refusal.Refusal.{Refusal}
 use Rattle.protocol_model.specs.declared.tunnel.Config.{Config}
 use Rattle.protocol_model.specs.declared.tunnel.Role.{Role}
 use Rattle.protocol_model.specs.End.{End, new_end, plain_step, step}
-use Rattle.protocol_model.specs.World.{World, Node, Lined, empty_world, declared, later, config_of, block_of, stepped, after_step, line}
+use Rattle.protocol_model.specs.World.{World, Node, Lined, empty_world, declared, later, config_of, block_of, stepped, after_step, line, new_node}
 use Rattle.protocol_model.specs.Run.{Run, empty_run, after_line, goes_on, run_from, run}
 use Rattle.step_laws.specs.Steps.{AreKept}
 use Rattle.step_laws.specs.Left.{AreSound, AreAsked, AreFew, NoneIsLate, NoneHasFailed, CallsStaySound, CallsAreAsked, LateCallsEnd, FailedTunnelsGo, TunnelsBeginFew, TunnelsStayFew}
@@ -80,7 +80,7 @@ module _ (laws : CallLaws) where
   line_fine w accs number x holds fine (Nothing none same births) k e is =
       fine k e (ap (λ (ns : List (ℕ × Node)). option_map (λ (node : Node). node.end) (at ns k)) (sym same) ∙ is)
   line_fine w accs number x holds fine (ANode n role lns secret hide small unused none nodes births) k e is =
-      let new : Node = record { end = new_end role (config_of n lns secret hide); clock = 0; births = [] } in
+      let new : Node = new_node number n role lns secret hide in
       let seen = ap (λ (ns : List (ℕ × Node)). option_map (λ (node : Node). node.end) (at ns k)) (sym nodes) ∙ is in
       ⊎_elim
       (λ (a : k ≡ n).

@@ -1,12 +1,12 @@
 -- What a line makes is of a step of one node, which the line brings.
-use Rattle.std.proofs.Common.{◌≡◌, inl, inr, ℕ, ◌+◌, ◌-◌, ◌^◌, List, [], ◌∷◌, refl, subst, Option, Some, None, Result, Ok, Err, Bool, false}
+use Rattle.std.proofs.Common.{◌≡◌, inl, inr, ℕ, ◌+◌, ◌-◌, ◌^◌, List, [], ◌∷◌, refl, subst, Option, Some, None, Result, Ok, Err, Bool, false, ◌++◌, ap, sym, ◌∙◌}
 use Rattle.std.specs.Prelude.{is_some, min, slice_get}
 use Rattle.std.specs.List.{AllByRecursion}
 use Rattle.id_table.specs.Ids.{at}
 use Rattle.wire_base.specs.declared.why.Why.{Why}
 use Rattle.wire_base.specs.declared.why.Why.TheVariants as why
 use Rattle.schedule_text.specs.declared.line.Line.{Line}
-use Rattle.schedule_text.specs.declared.line.Line.TheVariants.{Remark, Lac, Lns, OpenUp, Close, Ring, FromSub, Down, Hang, DropCall, Deliver, Tick}
+use Rattle.schedule_text.specs.declared.line.Line.TheVariants.{Remark, Lac, Lns, OpenUp, Close, Ring, Frame, FromSub, Down, Hang, DropCall, Deliver, Tick}
 use Rattle.protocol_model.specs.declared.event.Event.{Event}
 use Rattle.protocol_model.specs.declared.event.Event.TheVariants as event
 use Rattle.protocol_model.specs.declared.out.Out.{Out}
@@ -20,18 +20,22 @@ use Rattle.protocol_model.specs.Names.{address_of}
 use Rattle.protocol_model.specs.Secrets.{uncovered_event}
 use Rattle.protocol_model.specs.End.{new_end, step}
 use Rattle.step_laws.specs.Lines.{tested_not, is_lac_at, is_lns_at, is_declared, has_call, has_tunnel}
-use Rattle.protocol_model.specs.World.{World, Node, Sender, Lined, quiet_line, with_node, after_step, given, entries_of, entry_of, shown, moved_all, sent, declared, lac_at, lns_at, with_call, with_tunnel, later, config_of, added, block_of, stepped, addressee_of, arrival, refused_by, sender_of, arrives, delivers_it, delivers, line}
+use Rattle.protocol_model.specs.World.{World, Node, Sender, Lined, quiet_line, with_node, after_step, given, entries_of, entry_of, shown, moved_all, sent, declared, lac_at, lns_at, with_call, with_tunnel, later, new_node, answer_entries, added, block_of, stepped, addressee_of, arrival, refused_by, sender_of, arrives, delivers_it, delivers, line}
 use Rattle.step_laws.specs.Letters.{Among}
 use Rattle.step_laws.specs.Steps.{AreKept}
 use Rattle.step_laws.specs.Room.{StepsRefuseTruly}
 use Rattle.step_laws.specs.Causes.{CausesStand}
-use Rattle.cause_laws.specs.Causes.{Brings, moment_of, CauseIsTrue, IsFullAt, IsTrue, TellsTruly}
+use Rattle.protocol_model.specs.Access.{coming, Ignores, Answers}
+use Rattle.wire_base.specs.declared.cause.Cause.{Cause as BecauseOf}
+use Rattle.protocol_model.specs.Texts.{Entry, Frames}
+use Rattle.step_laws.specs.Hosts.{LacAt, with_host, reply_to, OfFrame, frame_line, never_full, discovery_refuses}
+use Rattle.cause_laws.specs.Causes.{Brings, ByItsHost, ByAPadr, CauseStandsIn, AtTheEnd, InDiscovery, moment_of, CauseIsTrue, IsFullAt, IsTrue, TellsTruly}
 
 -- ---- the outputs of a step, and the entries that they make
 
 -- what an output says in a line
 abbrev OutIsTrue : World → Line → ℕ → Out → Type 0
-OutIsTrue w l n (Cause c) = CauseIsTrue w l n c
+OutIsTrue w l n (Cause c) = CauseStandsIn w l n c
 OutIsTrue w l n (Drop x) = x ≡ why.Queue → IsFullAt w l n
 OutIsTrue w l n (Send peer bytes origin) = Unit {0}
 OutIsTrue w l n (Up session side frame) = Unit {0}
@@ -77,13 +81,13 @@ module _ (causes : CausesStand) (room : StepsRefuseTruly) (w : World) (kept : En
       by o (subst (λ q. Among o q.outputs) alike a)))
     where
       by : (o : Out) → Among o (step old.end (moment_of l old) (block_of n number) ev).outputs → OutIsTrue w l n o
-      by (Cause c) a = record {
+      by (Cause c) a = AtTheEnd (record {
         node = old;
         is = was;
         event = ev;
         brings = brings;
         stands = causes old.end (kept n old was) (moment_of l old) (block_of n number) (uncovered_event old.end.config.secret ev) c a;
-      }
+      })
       by (Drop x) a = λ queue. record {
         node = old;
         is = was;
@@ -105,14 +109,51 @@ module _ (causes : CausesStand) (room : StepsRefuseTruly) (w : World) (kept : En
       let is : after_step w number n node sender (step node.end node.clock (block_of n number) ev) ≡ x = cc in
       of_step n node node ev sender (there node refl) refl (clock node) brings is
 
+  -- a step of a node whose hosts change with it
+  entered_true : (n : ℕ) (ev : Event) (old node : Node) → at w.nodes n ≡ Some old → node.end ≡ old.end → node.clock ≡ moment_of l old → Brings w l n ev
+      → stepped w number n ev None (Ok node) ≡ Ok x → Told
+  unfolding stepped
+  entered_true n ev old node was same clock brings h =
+      let is : after_step w number n node None (step node.end node.clock (block_of n number) ev) ≡ x = cc in
+      of_step n old node ev None was same clock brings is
+
   quiet_true : (v : World) → quiet_line v ≡ x → Told
   quiet_true v is = subst (λ (q : Lined). AllByRecursion (IsTrue w l) q.entries) is tt
 
-  added_true : (n : ℕ) (r : Role) (lns : ℕ) (secret : Option (List ℕ)) (hide : Bool) → added w n r lns secret hide ≡ Ok x → Told
+  added_true : (n : ℕ) (r : Role) (lns : ℕ) (secret : Option (List ℕ)) (hide : Bool) → added w number n r lns secret hide ≡ Ok x → Told
   unfolding added
   added_true n r lns secret hide h =
-      let v = with_node w n (record { end = new_end r (config_of n lns secret hide); clock = 0; births = [] }) in
+      let v = with_node w n (new_node number n r lns secret hide) in
       quiet_true v (tested_not (is_some (at w.nodes n)) (quiet_line v) (Unfit why.Twice) x h).1
+
+-- what is answered to an Ethernet frame, with a cause where discovery has one
+module _ (w : World) (number n : ℕ) (bytes : List ℕ) (l : LacAt w n) where
+  answers_true : (because : Option BecauseOf) (frame : List ℕ) → coming l.access l.node.end bytes ≡ Answers because frame
+      → AllByRecursion (IsTrue w (Frame n bytes)) (answer_entries number n because frame)
+  answers_true None frame is = (tt, tt)
+  answers_true (Some c) frame is = (
+    InDiscovery (record { lac = l; bytes = bytes; line_is = refl; frame = frame; found = discovery_refuses l.access l.node.end bytes c frame is }),
+    (tt, tt),
+  )
+
+both_true : (w : World) (l : Line) (es fs : List Entry) → AllByRecursion (IsTrue w l) es → AllByRecursion (IsTrue w l) fs → AllByRecursion (IsTrue w l) (es ++ fs)
+both_true w l [] fs one two = two
+both_true w l (e ∷ es) fs one two = (one.0, both_true w l es fs one.1 two)
+
+frame_true : CausesStand → StepsRefuseTruly → (w : World) → EndsAreKept w → (number n : ℕ) (bytes : List ℕ)
+    → OfFrame (λ y. AllByRecursion (IsTrue w (Frame n bytes)) y.entries) w number n bytes
+frame_true causes room w kept number n bytes = record {
+  ignored = λ l word is x h. ((λ queue. absurd (never_full l.access l.node.end bytes (is ∙ ap Ignores queue))), tt);
+  answered = λ l because frame is x h. answers_true w number n bytes l because frame is;
+  done = λ l ev is does x h.
+      stepped_true causes room w kept number (Frame n bytes) x n ev None (Ok l.node) (λ node e. (let same : l.node ≡ node = cc in rw (← same) l.there)) (λ node. refl)
+      (refl, ByItsHost l is) h;
+  entered = λ l src uniq asked is x h.
+      both_true w (Frame n bytes) x.entries (Frames number n (reply_to w number n l src asked) ∷ [])
+      (entered_true causes room w kept number (Frame n bytes) x n (event.Admitted src) l.node (with_host w number n l src uniq) l.there refl refl
+      (refl, ByAPadr l src uniq asked is refl) h)
+      (tt, tt);
+}
 
 -- of each kind
 pub line_true : CausesStand → StepsRefuseTruly → (w : World) → EndsAreKept w → (number : ℕ) (l : Line) → TellsTruly w number l
@@ -132,6 +173,8 @@ line_true causes room w kept number (Close n i) x h =
 line_true causes room w kept number (Ring n port) x h =
     stepped_true causes room w kept number (Ring n port) x n (event.Ring port) None (lac_at (at w.nodes n))
     (λ node e. (is_lac_at (at w.nodes n) node e).0) (λ node. refl) (refl, refl) h
+line_true causes room w kept number (Frame n bytes) x h =
+    frame_line (λ y. AllByRecursion (IsTrue w (Frame n bytes)) y.entries) w number n bytes (frame_true causes room w kept number n bytes) x h
 line_true causes room w kept number (FromSub n session frame) x h =
     stepped_true causes room w kept number (FromSub n session frame) x n (event.Payload session frame) None (with_call session (lac_at (at w.nodes n)))
     (λ node e. (is_lac_at (at w.nodes n) node (has_call session (lac_at (at w.nodes n)) node e)).0) (λ node. refl) (refl, refl) h

@@ -1,12 +1,12 @@
 -- The causes that the report tells stand, nothing is refused for want of room but where a tunnel holds too many letters, no end has more
 -- tunnels than it may, and no call and no tunnel is left.
-use Rattle.std.specs.Prelude.{◌≡◌, ℕ, ◌+◌, ◌-◌, ◌^◌, ◌<◌, ◌≤◌, min, List, [], ◌∷◌, ◌++◌, length, true, false, slice_get, Some, None, Ok}
+use Rattle.std.specs.Prelude.{◌≡◌, ℕ, ◌+◌, ◌-◌, ◌^◌, ◌<◌, ◌≤◌, min, List, [], ◌∷◌, ◌++◌, length, true, false, slice_get, Some, None, Ok, Option}
 use Rattle.std.specs.List.{AllByRecursion}
 use Rattle.id_table.specs.Ids.{at}
 use Rattle.wire_base.specs.declared.why.Why.TheVariants as why
 use Rattle.wire_base.specs.declared.cause.Cause.{Cause}
 use Rattle.schedule_text.specs.declared.line.Line.{Line}
-use Rattle.schedule_text.specs.declared.line.Line.TheVariants.{Remark, Lac, Lns, OpenUp, Close, Ring, FromSub, Down, Hang, DropCall, Deliver, Tick}
+use Rattle.schedule_text.specs.declared.line.Line.TheVariants.{Remark, Lac, Lns, OpenUp, Close, Ring, Frame, FromSub, Down, Hang, DropCall, Deliver, Tick}
 use Rattle.schedule_text.specs.Grammar.{AreLines}
 use Rattle.protocol_model.specs.declared.event.Event.{Event}
 use Rattle.protocol_model.specs.declared.event.Event.TheVariants as event
@@ -16,13 +16,23 @@ use Rattle.protocol_model.specs.Secrets.{uncovered_event}
 use Rattle.protocol_model.specs.Calls.{owed_by}
 use Rattle.protocol_model.specs.Turn.{Tunnel, is_closed}
 use Rattle.protocol_model.specs.World.{World, Node, Lined, line}
-use Rattle.protocol_model.specs.Texts.{Entry, Sends, HandsUp, Ends, Drops, Causes}
+use Rattle.pppoe_discovery.specs.declared.outcome.Discovered.{Discovered}
+use Rattle.pppoe_discovery.specs.declared.outcome.Discovered.TheVariants.{Reply}
+use Rattle.protocol_model.specs.Access.{coming, Runs, Enters}
+use Rattle.protocol_model.specs.Texts.{Entry, Sends, HandsUp, Ends, Frames, Drops, Causes}
+use Rattle.step_laws.specs.Hosts.{LacAt, discovered_at}
 use Rattle.protocol_model.specs.Run.{run}
 use Rattle.step_laws.specs.Room.{IsFull}
 use Rattle.step_laws.specs.Causes.{Stands}
 use Rattle.step_laws.specs.Left.{AreAsked, AreFew, NoneHasFailed, NoneIsLate}
 
 -- ---- what a line brings
+
+-- the event that an Ethernet frame is for the LAC to which it comes: what the host of a call does in it, or that a host wants one
+pub data FrameBrings (w : World) (n : ℕ) (bytes : List ℕ) (ev : Event) : Type 0 where
+  ByItsHost : (l : LacAt w n) → coming l.access l.node.end bytes ≡ Runs ev → FrameBrings w n bytes ev
+  ByAPadr : (l : LacAt w n) (src : List ℕ) (uniq : Option (List ℕ)) (asked : Discovered) → coming l.access l.node.end bytes ≡ Enters src uniq asked
+      → ev ≡ event.Admitted src → FrameBrings w n bytes ev
 
 -- the event that a line is for a node
 abbrev pub Brings : World → Line → ℕ → Event → Type 0
@@ -31,6 +41,7 @@ Brings w (Lac m lns secret hide) n ev = ⊥
 Brings w (Lns m secret) n ev = ⊥
 Brings w (OpenUp m) n ev = (n ≡ m) × (ev ≡ event.OpenTunnel)
 Brings w (Ring m port) n ev = (n ≡ m) × (ev ≡ event.Ring port)
+Brings w (Frame m bytes) n ev = (n ≡ m) × FrameBrings w m bytes ev
 Brings w (FromSub m session frame) n ev = (n ≡ m) × (ev ≡ event.Payload session frame)
 Brings w (Down m session frame) n ev = (n ≡ m) × (ev ≡ event.Lower session frame)
 Brings w (Hang m session) n ev = (n ≡ m) × (ev ≡ event.Hang session)
@@ -55,6 +66,19 @@ pub record CauseIsTrue (w : World) (l : Line) (n : ℕ) (c : Cause) : Type 0 whe
   pub brings : Brings w l n event
   pub stands : Stands node.end (moment_of l node) (uncovered_event node.end.config.secret event) c
 
+-- a PADR is refused in discovery, for its service or for its cookie
+pub record DiscoveryRefuses (w : World) (l : Line) (n : ℕ) (c : Cause) : Type 0 where
+  pub lac : LacAt w n
+  pub bytes : List ℕ
+  pub line_is : l ≡ Frame n bytes
+  pub frame : List ℕ
+  pub found : discovered_at lac.access lac.node.end bytes ≡ Reply (Some c) frame
+
+-- one of the two
+pub data CauseStandsIn (w : World) (l : Line) (n : ℕ) (c : Cause) : Type 0 where
+  AtTheEnd : CauseIsTrue w l n c → CauseStandsIn w l n c
+  InDiscovery : DiscoveryRefuses w l n c → CauseStandsIn w l n c
+
 -- a message isn't taken, since its tunnel holds too many letters, with those that its calls owe
 pub record IsFullAt (w : World) (l : Line) (n : ℕ) : Type 0 where
   pub node : Node
@@ -64,11 +88,12 @@ pub record IsFullAt (w : World) (l : Line) (n : ℕ) : Type 0 where
   pub full : IsFull node.end (moment_of l node) (uncovered_event node.end.config.secret event)
 
 abbrev pub IsTrue : World → Line → Entry → Type 0
-IsTrue w l (Causes number n c) = CauseIsTrue w l n c
+IsTrue w l (Causes number n c) = CauseStandsIn w l n c
 IsTrue w l (Drops number n x) = x ≡ why.Queue → IsFullAt w l n
 IsTrue w l (Sends number packet from to bytes) = Unit {0}
 IsTrue w l (HandsUp number n session birth side frame) = Unit {0}
-IsTrue w l (Ends number n session) = Unit {0}
+IsTrue w l (Ends number n session padt) = Unit {0}
+IsTrue w l (Frames number n bytes) = Unit {0}
 
 -- so are all entries that a line makes in a world
 abbrev pub TellsTruly : World → ℕ → Line → Type 0

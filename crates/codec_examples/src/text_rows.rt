@@ -37,6 +37,7 @@ fn told_line(alloc: Global, line: &Line) -> Result<String, Fault> {
             session,
             frame,
         } => told(alloc, &("Down", node, session, frame)),
+        Line::Frame { node, bytes } => told(alloc, &("Frame", node, bytes)),
         Line::Hang { node, session } => told(alloc, &("Hang", node, session)),
         Line::DropCall { node, session } => told(alloc, &("DropCall", node, session)),
         Line::Deliver { packet } => told(alloc, &("Deliver", packet)),

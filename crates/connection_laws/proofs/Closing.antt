@@ -11,7 +11,7 @@ use Rattle.control_message.specs.declared.message.Message.TheVariants.{StopCcn}
 use Rattle.tunnel_fsm.specs.declared.table.TunnelState.TheVariants as state
 use Rattle.tunnel_fsm.specs.Rows.{state_number}
 use Rattle.protocol_model.specs.declared.event.Event.{Event}
-use Rattle.protocol_model.specs.declared.event.Event.TheVariants.{Datagram, Ring, Payload, Lower, Hang, OpenTunnel, DropCall, CloseTunnel, Tick}
+use Rattle.protocol_model.specs.declared.event.Event.TheVariants.{Datagram, Ring, Frame, Admitted, Payload, Lower, Hang, OpenTunnel, DropCall, CloseTunnel, Tick}
 use Rattle.protocol_model.specs.declared.moves.Closed.{Closed}
 use Rattle.protocol_model.specs.declared.moves.Move.TheVariants as move
 use Rattle.protocol_model.specs.declared.out.Origin.{Origin}
@@ -321,6 +321,8 @@ module _ (codecs : Codecs) (accs : Accounts) (n : ℕ) (e x : End) (sender : Opt
   near : (v : Event) (c : Comes accs n e sender v) → ComesNear accs n e sender v c ms i u
   near (Datagram peer bytes) c = near_at c.packet bytes c.packet.origin c.near
   near (Ring port) c = tt
+  near (Frame bytes) c = tt
+  near (Admitted mac) c = tt
   near (Payload s frame) c = tt
   near (Lower s frame) c = tt
   near (Hang s) c = tt

@@ -190,12 +190,12 @@ advanced_remote : (r : Role) (ev : CallEvent) (moment : ℕ) (c : Call) → (adv
 unfolding advanced
 advanced_remote r ev moment c = refl
 
-rung_remote : (r : Role) (port moment : ℕ) → (rung r port moment).remote ≡ 0
+rung_remote : (r : Role) (who : List ℕ) (moment : ℕ) → (rung r who moment).remote ≡ 0
 unfolding rung advanced
-rung_remote r port moment = refl
+rung_remote r who moment = refl
 
 -- a call is asked for
-pub requested_keeps : ((port : ℕ) → length (calling_number port) ≡ 12) → (accs : Accounts) (n : ℕ) (e x : End) (sender : Option Sender) (moment : ℕ)
+pub requested_keeps : ((who : List ℕ) → length (calling_number who) ≡ 12) → (accs : Accounts) (n : ℕ) (e x : End) (sender : Option Sender) (moment : ℕ)
     (ev : Event) (m : Requested) (d : Deed) → IsMoved accs n e x sender moment ev (move.Requested m) d → Within (after accs d) n x sender ev
 requested_keeps digits accs n e x sender moment ev m d h =
     let o = h.does in
@@ -204,11 +204,11 @@ requested_keeps digits accs n e x sender moment ev m d h =
     let call = advanced e.role call_event.TunnelOpen moment o.call in
     subst (λ y. Within (after accs d) n y sender ev) (sym o.after)
     (given_keeps accs n e sender ev d h.within (move.Requested m) h.deed tt t o.there
-    (record { tunnel = m.tunnel; place = m.given; session = 0; message = request_of m.session m.port; hidden = m.hidden }) (put t.calls m.session call) _ tt refl refl
+    (record { tunnel = m.tunnel; place = m.given; session = 0; message = request_of m.session m.subscriber; hidden = m.hidden }) (put t.calls m.session call) _ tt refl refl
     (record {
       spelled = record {
-        written = request_written digits m.session m.port o.session;
-        hides = number_hides e.config m.session m.port m.hidden o.session (digits m.port) o.hides;
+        written = request_written digits m.session m.subscriber o.session;
+        hides = number_hides e.config m.session m.subscriber m.hidden o.session (digits m.subscriber) o.hides;
         session = omega arith;
       };
       plain = tt;
@@ -351,7 +351,7 @@ added_keeps accs n e x sender moment ev m d h =
     let o = h.does in
     let t = o.tunnel in
     let live = h.within.end.live m.tunnel t o.there in
-    let call = rung e.role m.port moment in
+    let call = rung e.role m.subscriber moment in
     let u : Tunnel = record t { calls = put t.calls m.session call } in
     let same = o.after
     ∙ ap (λ ids. record (with_tunnel e m.tunnel u) { session_ids = ids; calls = put e.calls m.session (new_place m.tunnel) })
@@ -362,12 +362,12 @@ added_keeps accs n e x sender moment ev m d h =
     (subst (λ y. Within accs n y sender ev) (sym same)
     (stays_keeps accs n e _ sender ev h.within m.tunnel t u o.there
     (calls_stay t (put t.calls m.session call) live.outstanding
-    (calls_put t.calls m.session call live.calls (rw (rung_remote e.role m.port moment) (omega arith)))
+    (calls_put t.calls m.session call live.calls (rw (rung_remote e.role m.subscriber moment) (omega arith)))
     (ascends-put m.session call t.calls live.order)
     (⊎_elim
     (λ (three : state_number t.control.state ≡ 3). inl three)
     (λ (one : state_number t.control.state ≡ 1). inr (
-      waits_put t.calls m.session call (rung_waits e.role m.port moment o.role),
+      waits_put t.calls m.session call (rung_waits e.role m.subscriber moment o.role),
       (λ other none. absurd (other one)),
     ))
     o.goes))

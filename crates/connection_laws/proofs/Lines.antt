@@ -1,5 +1,5 @@
 -- Each line of a schedule.
-use Rattle.std.proofs.Common.{◌≡◌, ⊎_elim, ℕ, ◌+◌, ◌-◌, ◌^◌, ◌<◌, false, List, [], refl, sym, ap, ◌∙◌, subst, Option, Some, None, Result, Ok, Err, arith, Bool}
+use Rattle.std.proofs.Common.{◌≡◌, ⊎_elim, ℕ, ◌+◌, ◌-◌, ◌^◌, ◌<◌, false, List, [], refl, sym, ap, ◌∙◌, subst, Option, Some, None, Result, Ok, Err, arith, Bool, ◌∷◌, ◌++◌, length}
 use Rattle.std.proofs.lemmas.Bool.{true≢false}
 use Rattle.std.proofs.lemmas.Option.{none-some}
 use Rattle.std.specs.Prelude.{is_some, min, slice_get}
@@ -8,7 +8,7 @@ use Rattle.id_table.specs.Order.{at_new, at_other, same_or_not, ascends-empty}
 use Rattle.wire_base.specs.declared.why.Why.{Why}
 use Rattle.wire_base.specs.declared.why.Why.TheVariants as why
 use Rattle.schedule_text.specs.declared.line.Line.{Line}
-use Rattle.schedule_text.specs.declared.line.Line.TheVariants.{Remark, Lac, Lns, OpenUp, Close, Ring, FromSub, Down, Hang, DropCall, Deliver, Tick}
+use Rattle.schedule_text.specs.declared.line.Line.TheVariants.{Remark, Lac, Lns, OpenUp, Close, Ring, Frame, FromSub, Down, Hang, DropCall, Deliver, Tick}
 use Rattle.schedule_text.specs.Grammar.{FitsLine}
 use Rattle.protocol_model.specs.Secrets.{uncovered_event}
 use Rattle.protocol_model.specs.declared.event.Event.{Event}
@@ -19,11 +19,14 @@ use Rattle.protocol_model.specs.declared.refusal.Refusal.TheVariants.{Unfit}
 use Rattle.protocol_model.specs.declared.tunnel.Role.{Role}
 use Rattle.protocol_model.specs.declared.tunnel.Role.TheVariants as role
 use Rattle.protocol_model.specs.Names.{address_of}
-use Rattle.protocol_model.specs.End.{plain_step, new_end, step}
+use Rattle.protocol_model.specs.End.{End, plain_step, new_end, step}
 use Rattle.step_laws.specs.Lines.{tested, tested_not, is_lac_at, is_lns_at, is_declared, has_call}
-use Rattle.protocol_model.specs.World.{World, Node, Sender, Lined, quiet_line, with_node, after_step, declared, lac_at, lns_at, with_call, with_tunnel, is_not_closed, later, config_of, added, block_of, stepped, addressee_of, arrival, refused_by, sender_of, arrives, delivers_it, delivers, line}
+use Rattle.protocol_model.specs.World.{World, Node, Sender, Lined, quiet_line, with_node, after_step, declared, lac_at, lns_at, with_call, with_tunnel, is_not_closed, later, config_of, new_node, answer_entries, added, block_of, stepped, addressee_of, arrival, refused_by, sender_of, arrives, delivers_it, delivers, line}
 use Rattle.step_laws.specs.Steps.{AreKept}
 use Rattle.frame_laws.specs.Codecs.{Codecs}
+use Rattle.protocol_model.specs.Access.{Access}
+use Rattle.protocol_model.specs.Texts.{Entry, Drops, Frames}
+use Rattle.step_laws.specs.Hosts.{LacAt, with_host, reply_to, HostDoes, HostSends, HostLeaves, OfFrame, frame_line}
 use Rattle.connection_laws.specs.Accounts.{Account, no_account, account_from}
 use Rattle.connection_laws.specs.Facts.{Accounts, IsMade, EndOk, PacketOk, Comes, NodeOk, Holds}
 use Rattle.connection_laws.proofs.Hearing.{all_at}
@@ -39,7 +42,7 @@ use Rattle.connection_laws.proofs.Worlds.{births_same, added_births, Goes, Laws,
 record IsAt (w : World) (n : ℕ) (node : Node) : Type 0 where
   before : Node
   there : at w.nodes n ≡ Some before
-  same : node ≡ record before { clock = node.clock }
+  same : node ≡ record before { clock = node.clock; access = node.access }
 
 is_there : (w : World) (n : ℕ) (node : Node) → at w.nodes n ≡ Some node → IsAt w n node
 is_there w n node h = record { before = node; there = h; same = refl }
@@ -105,7 +108,7 @@ new_ok accs n r lns secret hide lt has none = (
 
 module _ (w : World) (accs : Accounts) (number : ℕ) (holds : Holds w accs) (most : ℕ) (had : GivenBelow accs most) where
   more_holds : (n : ℕ) (r : Role) (lns : ℕ) (secret : Option (List ℕ)) (hide : Bool) → n < 256 → HasLns r lns → at w.nodes n ≡ None
-      → Holds (with_node w n (record { end = new_end r (config_of n lns secret hide); clock = 0; births = [] })) accs
+      → Holds (with_node w n (new_node number n r lns secret hide)) accs
   more_holds n r lns secret hide lt has none = record {
     accounts = holds.accounts;
     nodes = λ k. ⊎_elim
@@ -118,13 +121,13 @@ module _ (w : World) (accs : Accounts) (number : ℕ) (holds : Holds w accs) (mo
   }
     where
       new : Node
-      new = record { end = new_end r (config_of n lns secret hide); clock = 0; births = [] }
+      new = new_node number n r lns secret hide
 
   added_ok : (n : ℕ) (r : Role) (lns : ℕ) (secret : Option (List ℕ)) (hide : Bool) → n < 256 → HasLns r lns → (x : Lined)
-      → added w n r lns secret hide ≡ Ok x → Does w accs (most + 16384) number x
+      → added w number n r lns secret hide ≡ Ok x → Does w accs (most + 16384) number x
   unfolding added
   added_ok n r lns secret hide lt has x h =
-      let new : Node = record { end = new_end r (config_of n lns secret hide); clock = 0; births = [] } in
+      let new : Node = new_node number n r lns secret hide in
       let t = tested_not (is_some (at w.nodes n)) (quiet_line (with_node w n new)) (Unfit why.Twice) x h in
       let none = none_there (at w.nodes n) t.0 in
       subst (Does w accs (most + 16384) number) t.1
@@ -141,8 +144,8 @@ module _ (codecs : Codecs) (laws : Laws) (number : ℕ) (w : World) (accs : Acco
       subst (λ (q : Node). Does w accs (most + 16384) number (after_step w number n q sender (plain_step q.end q.clock (block_of n number) ev))) (sym is.same)
       (let here = subst (λ (q : Node). Comes accs n q.end sender ev) is.same comes in
       record {
-        goes = step_ok laws number w accs holds most had room n is.before is.there node.clock ev sender here node.clock (block_of n number);
-        does = AStep (step_does laws number w accs holds most had room n is.before is.there node.clock ev sender here node.clock (block_of n number));
+        goes = step_ok laws number w accs holds most had room n is.before is.there node.clock node.access ev sender here node.clock (block_of n number);
+        does = AStep (step_does laws number w accs holds most had room n is.before is.there node.clock node.access ev sender here node.clock (block_of n number));
       })
 
   stepped_ok : (x : Lined) (n : ℕ) (ev : Event) (sender : Option Sender) (o : Result Node Why)
@@ -182,6 +185,61 @@ module _ (codecs : Codecs) (laws : Laws) (number : ℕ) (w : World) (accs : Acco
       by None is h = absurd (cc)
       by (Some node) is h = arrives_ok x p node is (sent p refl) (refused_by p node p.origin) refl h
 
+  host_comes : (n : ℕ) (a : Access) (e : End) (bytes : List ℕ) (ev : Event) → HostDoes a e bytes ev → (q : End) (secret : Option (List ℕ))
+      → Comes accs n q None (uncovered_event secret ev)
+  host_comes n a e bytes ev (HostSends src session start stop is of) q secret = tt
+  host_comes n a e bytes ev (HostLeaves src session is of) q secret = tt
+
+  entering : (n : ℕ) (l : LacAt w n) (src : List ℕ) (uniq : Option (List ℕ)) (node : Node) → with_host w number n l src uniq ≡ node → IsAt w n node
+  entering n l src uniq node e = subst (IsAt w n) e (record { before = l.node; there = l.there; same = refl })
+
+  -- more entries change nothing of what a line does
+  more_told : (x : Lined) (es : List Entry) → LineDoes w accs number x → LineDoes w accs number (record x { entries = es })
+  more_told x es (Nothing none nodes births) = Nothing none nodes births
+  more_told x es (ANode n r lns secret hide lt free none nodes births) = ANode n r lns secret hide lt free none nodes births
+  more_told x es (AStep s) = AStep (record {
+    node = s.node;
+    old = s.old;
+    was = s.was;
+    sender = s.sender;
+    moment = s.moment;
+    block = s.block;
+    ev = s.ev;
+    begun = s.begun;
+    begins = s.begins;
+    declared = s.declared;
+    told = s.told;
+    told_is = s.told_is;
+    births = s.births;
+    done = s.done;
+    moves = s.moves;
+    end = s.end;
+    others = s.others;
+  })
+
+  -- a frame that an end doesn't see
+  only_told : (n : ℕ) (bytes : List ℕ) (l : LacAt w n) (es : List Entry) (x : Lined) → stepped w number n (event.Frame bytes) None (Ok l.node) ≡ Ok x
+      → Does w accs (most + 16384) number (record x { entries = es })
+  only_told n bytes l es x h =
+      let k =
+      stepped_ok x n (event.Frame bytes) None (Ok l.node) (λ node e. (let same : l.node ≡ node = cc in rw (← same) (is_there w n l.node l.there)))
+      (λ node e. tt) h in
+      record { goes = k.goes; does = more_told x es k.does }
+
+  of_frame : (n : ℕ) (bytes : List ℕ) → OfFrame (Does w accs (most + 16384) number) w number n bytes
+  of_frame n bytes = record {
+    ignored = λ l word is x h. only_told n bytes l (Drops number n word ∷ []) x h;
+    answered = λ l because frame is x h. only_told n bytes l (answer_entries number n because frame) x h;
+    done = λ l ev is does x h.
+        stepped_ok x n ev None (Ok l.node) (λ node e. (let same : l.node ≡ node = cc in rw (← same) (is_there w n l.node l.there)))
+        (λ node e. host_comes n l.access l.node.end bytes ev does node.end node.end.config.secret) h;
+    entered = λ l src uniq asked is x h.
+        let k =
+        stepped_ok x n (event.Admitted src) None (Ok (with_host w number n l src uniq))
+        (λ node e. (let same : with_host w number n l src uniq ≡ node = cc in entering n l src uniq node same)) (λ node e. tt) h in
+        record { goes = k.goes; does = more_told x (x.entries ++ Frames number n (reply_to w number n l src asked) ∷ []) k.does };
+  }
+
   pub line_ok : (x : Lined) (l : Line) → FitsLine l → line w number l ≡ Ok x → Does w accs (most + 16384) number x
   unfolding line
   line_ok x (Remark text) fits h =
@@ -196,6 +254,7 @@ module _ (codecs : Codecs) (laws : Laws) (number : ℕ) (w : World) (accs : Acco
       (λ node e. is_there w n node (is_declared (at w.nodes n) node (has_tunnel i (declared (at w.nodes n)) node e))) (λ node e. tt) h
   line_ok x (Ring n port) fits h =
       stepped_ok x n (event.Ring port) None (lac_at (at w.nodes n)) (λ node e. is_there w n node ((is_lac_at (at w.nodes n) node e).0)) (λ node e. tt) h
+  line_ok x (Frame n bytes) fits h = frame_line (Does w accs (most + 16384) number) w number n bytes (of_frame n bytes) x h
   line_ok x (FromSub n session frame) fits h =
       stepped_ok x n (event.Payload session frame) None (with_call session (lac_at (at w.nodes n)))
       (λ node e. is_there w n node ((is_lac_at (at w.nodes n) node (has_call session (lac_at (at w.nodes n)) node e)).0)) (λ node e. tt) h

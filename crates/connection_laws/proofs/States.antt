@@ -212,7 +212,7 @@ waits_untold Lns call_event.Close = refl
 waits_untold Lns call_event.LineDrop = refl
 
 -- a call that a port rings for waits
-pub rung_waits : (r : Role) (port moment : ℕ) → r ≡ Lac → (rung r port moment).state ≡ WaitTunnel
+pub rung_waits : (r : Role) (who : List ℕ) (moment : ℕ) → r ≡ Lac → (rung r who moment).state ≡ WaitTunnel
 unfolding rung advanced call_row
-rung_waits Lac port moment is = refl
-rung_waits Lns port moment is = absurd cc
+rung_waits Lac who moment is = refl
+rung_waits Lns who moment is = absurd cc

@@ -4,7 +4,7 @@ use Rattle.std.proofs.lemmas.Bool.{eqb-true}
 use Rattle.std.specs.Prelude.{◌==◌, ◌&&◌}
 use Rattle.id_table.specs.Ids.{at}
 use Rattle.protocol_model.specs.declared.event.Event.{Event}
-use Rattle.protocol_model.specs.declared.event.Event.TheVariants.{Datagram, Ring, Payload, Lower, Hang, OpenTunnel, DropCall, CloseTunnel, Tick}
+use Rattle.protocol_model.specs.declared.event.Event.TheVariants.{Datagram, Ring, Frame, Admitted, Payload, Lower, Hang, OpenTunnel, DropCall, CloseTunnel, Tick}
 use Rattle.protocol_model.specs.declared.moves.Declined.{Declined}
 use Rattle.protocol_model.specs.declared.moves.Move.{Move}
 use Rattle.protocol_model.specs.declared.moves.Move.TheVariants as move
@@ -229,6 +229,8 @@ comes_stays accs ms all n e sender (Datagram peer bytes) c = record {
   near = near_stays accs ms all n e c.packet bytes c.packet.origin c.near;
 }
 comes_stays accs ms all n e sender (Ring port) c = tt
+comes_stays accs ms all n e sender (Frame bytes) c = tt
+comes_stays accs ms all n e sender (Admitted mac) c = tt
 comes_stays accs ms all n e sender (Payload s frame) c = tt
 comes_stays accs ms all n e sender (Lower s frame) c = tt
 comes_stays accs ms all n e sender (Hang s) c = tt

@@ -4,8 +4,9 @@ use Rattle.std.specs.Prelude.{option_map}
 use Rattle.std.specs.List.{AllByRecursion}
 use Rattle.id_table.specs.Ids.{at, put, at-none}
 use Rattle.id_table.specs.Order.{at_new, at_other, same_or_not}
+use Rattle.protocol_model.specs.Access.{Access}
 use Rattle.protocol_model.specs.declared.event.Event.{Event}
-use Rattle.protocol_model.specs.declared.event.Event.TheVariants.{Datagram, Ring, Payload, Lower, Hang, OpenTunnel, DropCall, CloseTunnel, Tick}
+use Rattle.protocol_model.specs.declared.event.Event.TheVariants.{Datagram, Ring, Frame, Admitted, Payload, Lower, Hang, OpenTunnel, DropCall, CloseTunnel, Tick}
 use Rattle.protocol_model.specs.declared.moves.Move.{Move}
 use Rattle.protocol_model.specs.declared.moves.Move.TheVariants as move
 use Rattle.protocol_model.specs.declared.out.Out.{Out}
@@ -205,6 +206,8 @@ node_later accs ms grown k same some (Some e) h = (end_stays accs ms grown k sam
 few_reads : (ev : Event) → most_reads ev ≤ 1
 few_reads (Datagram peer bytes) = omega arith
 few_reads (Ring port) = omega arith
+few_reads (Frame bytes) = omega arith
+few_reads (Admitted mac) = omega arith
 few_reads (Payload s frame) = omega arith
 few_reads (Lower s frame) = omega arith
 few_reads (Hang s) = omega arith
@@ -227,14 +230,14 @@ pub record Laws : Type 0 where
   pub declines : DeclinesAreOfOpenings
 
 module _ (laws : Laws) (number : ℕ) (w : World) (accs : Accounts) (holds : Holds w accs) (most : ℕ) (had : GivenBelow accs most)
-    (room : most + 24576 < 2 ^ 64) (n : ℕ) (old : Node) (was : at w.nodes n ≡ Some old) (clock : ℕ) (ev : Event) (sender : Option Sender)
+    (room : most + 24576 < 2 ^ 64) (n : ℕ) (old : Node) (was : at w.nodes n ≡ Some old) (clock : ℕ) (access : Option Access) (ev : Event) (sender : Option Sender)
     (comes : Comes accs n old.end sender ev) (moment : ℕ) (block : List ℕ) where
   ok : EndOk accs n old.end × AreKept old.end
   ok = subst (NodeOk accs n) was (holds.nodes n)
 
   -- the node at the moment of the step
   abbrev timed : Node
-  timed = record old { clock = clock }
+  timed = record old { clock = clock; access = access }
 
   abbrev s : Stepped
   s = plain_step old.end moment block ev

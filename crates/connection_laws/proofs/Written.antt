@@ -57,8 +57,8 @@ pub same_opening : (r : Role) (c d : Config) (challenge response : Option (List 
     → opening_of r c challenge response local ≡ opening_of r d challenge response local
 same_opening r c d challenge response local same = rw same refl
 
-pub request_written : ((port : ℕ) → length (calling_number port) ≡ 12) → (s port : ℕ) → s < 65536 → IsWritten (request_of s port)
-request_written digits s port fits = (omega arith, omega arith, (let d = digits port in omega arith))
+pub request_written : ((who : List ℕ) → length (calling_number who) ≡ 12) → (s : ℕ) (who : List ℕ) → s < 65536 → IsWritten (request_of s who)
+request_written digits s who fits = (omega arith, omega arith, (let d = digits who in omega arith))
 
 -- ---- ids
 

@@ -15,7 +15,7 @@ use Rattle.control_message.specs.Pairs.{pairs_of, IsWritten}
 use Rattle.recv_window.specs.Window.{on_wire}
 use Rattle.tunnel_fsm.specs.Rows.{state_number}
 use Rattle.protocol_model.specs.declared.event.Event.{Event}
-use Rattle.protocol_model.specs.declared.event.Event.TheVariants.{Datagram, Ring, Payload, Lower, Hang, OpenTunnel, DropCall, CloseTunnel, Tick}
+use Rattle.protocol_model.specs.declared.event.Event.TheVariants.{Datagram, Ring, Frame, Admitted, Payload, Lower, Hang, OpenTunnel, DropCall, CloseTunnel, Tick}
 use Rattle.protocol_model.specs.declared.moves.Move.{Move}
 use Rattle.protocol_model.specs.declared.moves.Move.TheVariants as move
 use Rattle.protocol_model.specs.declared.out.Origin.{Origin}
@@ -408,6 +408,8 @@ pub record IsPacket (accs : Accounts) (n : ℕ) (e : End) (sender : Option Sende
 abbrev pub Comes : Accounts → ℕ → End → Option Sender → Event → Type 0
 Comes accs n e sender (Datagram peer bytes) = IsPacket accs n e sender peer bytes
 Comes accs n e sender (Ring port) = Unit {0}
+Comes accs n e sender (Frame bytes) = Unit {0}
+Comes accs n e sender (Admitted mac) = Unit {0}
 Comes accs n e sender (Payload s frame) = Unit {0}
 Comes accs n e sender (Lower s frame) = Unit {0}
 Comes accs n e sender (Hang s) = Unit {0}

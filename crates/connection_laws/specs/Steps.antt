@@ -16,8 +16,8 @@ use Rattle.protocol_model.specs.declared.tunnel.Control.{Control}
 use Rattle.protocol_model.specs.declared.tunnel.Role.{Role}
 use Rattle.protocol_model.specs.Reading.{body_of, message_in, CallFault, TunnelFault}
 use Rattle.protocol_model.specs.Turn.{Tunnel, is_closed}
-use Rattle.protocol_model.specs.End.{End, new_end, plain_step}
-use Rattle.protocol_model.specs.World.{World, Node, Sender, Deed, Lined, birth_of, moved_all, config_of, deed_of, line}
+use Rattle.protocol_model.specs.End.{End, plain_step}
+use Rattle.protocol_model.specs.World.{World, Node, Sender, Deed, Lined, birth_of, moved_all, new_node, deed_of, line}
 use Rattle.protocol_model.specs.Run.{Run, empty_run, after_line}
 use Rattle.step_laws.specs.Letters.{Letter}
 use Rattle.step_laws.specs.Moves.{Does, Hears, HearsNext, ComesNext, InTunnel, IsFaulty, IsFaultyInTunnel, Closes, ClosesBy, Declines}
@@ -209,7 +209,7 @@ pub record LineSteps (w : World) (accs : Accounts) (number : ℕ) (x : Lined) : 
 pub data LineDoes (w : World) (accs : Accounts) (number : ℕ) (x : Lined) : Type 0 where
   Nothing : x.done ≡ [] → x.world.nodes ≡ w.nodes → BirthsStay w x.world → LineDoes w accs number x
   ANode : (n : ℕ) (role : Role) (lns : ℕ) (secret : Option (List ℕ)) (hide : Bool) → n < 256 → at w.nodes n ≡ None → x.done ≡ []
-      → x.world.nodes ≡ put w.nodes n (record { end = new_end role (config_of n lns secret hide); clock = 0; births = [] }) → BirthsStay w x.world
+      → x.world.nodes ≡ put w.nodes n (new_node number n role lns secret hide) → BirthsStay w x.world
       → LineDoes w accs number x
   AStep : LineSteps w accs number x → LineDoes w accs number x
 

@@ -2,4 +2,5 @@ pub mod Ends
 pub mod Fits
 pub mod Gives
 pub mod Rows
+pub mod Sessions
 pub mod Ticking

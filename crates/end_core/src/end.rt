@@ -9,6 +9,7 @@ ghost use Rattle.protocol_model.specs.Reading.{at_tunnel};
 ghost use Rattle.protocol_model.specs.Secrets.{uncovered_datagram, uncovered_event};
 ghost use Rattle.protocol_model.specs.World.{is_not_closed};
 ghost use Rattle.end_core.specs.Fits.{fits};
+ghost use Rattle.end_core.specs.Sessions.{next_session, subscriber_at};
 ghost use Rattle.tunnel_core.specs.Cores.{tunnel_of, IsTurn, HasRoomFor};
 ghost use Rattle.end_core.specs.Ends.{HaveRoom};
 ghost use Rattle.protocol_model.specs.Turn.{turn_of, turns, with_turn};
@@ -118,6 +119,13 @@ impl End {
         self.role
     }
 
+    /// The node's number, which its host name and its Ethernet address end with.
+    pub fn number(&self) -> u8
+        ensures { result ≡ self.now.config.number }
+    {
+        self.config.number
+    }
+
     /// The address of the LNS to which a LAC opens its tunnels, an IPv4 address as a number.
     pub fn lns(&self) -> u32
         ensures { result ≡ self.now.config.lns }
@@ -190,7 +198,42 @@ impl End {
                     Some(Why::Tunnel)
                 }
             }
-            Event::Datagram { .. } | Event::Ring { .. } | Event::OpenTunnel | Event::Tick => None,
+            Event::Datagram { .. }
+            | Event::Ring { .. }
+            | Event::Frame { .. }
+            | Event::Admitted { .. }
+            | Event::OpenTunnel
+            | Event::Tick => None,
+        }
+    }
+
+    /// The session id that is drawn next, None where none can be. It takes no memory.
+    #[tactic(auto, unfolding(crate::specs::Sessions::next_session))]
+    pub fn next_session(&self) -> Option<u16>
+        ensures { result ≡ next_session self.now.session_ids }
+    {
+        let mut ids = self.session_ids;
+        match ids.draw() {
+            Ok(session) => Some(session as u16),
+            Err(_) => None,
+        }
+    }
+
+    /// The six bytes of the subscriber of a session, None where no call is live under its id. It takes no memory.
+    #[tactic(auto, using(tunnel_table::specs::Tunnels::at_tunnels), unfolding(crate::specs::Sessions::subscriber_at))]
+    pub fn subscriber(&self, session: u16) -> Option<[u8; 6]>
+        ensures { result ≡ subscriber_at self.now session }
+    {
+        let id = u32::from(session);
+        let Some(place) = self.calls.get(id) else {
+            return None;
+        };
+        let Some(core) = self.tunnel(u32::from(place.tunnel)) else {
+            return None;
+        };
+        match core.calls().get(id) {
+            Some(call) => Some(call.subscriber),
+            None => None,
         }
     }
 

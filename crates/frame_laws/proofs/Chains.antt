@@ -44,7 +44,7 @@ pub same_role : (moment : ℕ) (ev : Event) (x y : End) (ms : List Move) → Cha
 same_role moment ev x y [] h = ap (λ (e : End). e.role) (sym h)
 same_role moment ev x y (m ∷ ms) h = same_role moment ev h.0 y ms h.2 ∙ does_role moment ev x m h.0 h.1
 
-module _ (digits : (port : ℕ) → length (calling_number port) ≡ 12) (n : ℕ) (z : End) (moment : ℕ) (ev : Event) where
+module _ (digits : (who : List ℕ) → length (calling_number who) ≡ 12) (n : ℕ) (z : End) (moment : ℕ) (ev : Event) where
   pub record Ran (v w : World) (x y : End) : Type 0 where
     pub at_end : At n z w y
     pub grows : Leads n v w x y

@@ -1,5 +1,5 @@
 -- Each line of a schedule.
-use Rattle.std.proofs.Common.{◌≡◌, ⊎_elim, ℕ, ◌+◌, ◌-◌, ◌^◌, ◌<◌, Bool, false, List, [], refl, sym, ◌∙◌, subst, Option, Some, None, Result, Ok, Err, arith}
+use Rattle.std.proofs.Common.{◌≡◌, ⊎_elim, ℕ, ◌+◌, ◌-◌, ◌^◌, ◌<◌, Bool, false, List, [], ◌∷◌, take, drop, refl, sym, ◌∙◌, subst, Option, Some, None, Result, Ok, Err, arith, ap}
 use Rattle.std.proofs.lemmas.Bool.{true≢false}
 use Rattle.std.proofs.lemmas.Option.{none-some}
 use Rattle.std.proofs.lemmas.List.{append-nil}
@@ -10,7 +10,7 @@ use Rattle.id_table.specs.Order.{at_new, at_other, found_put, same_or_not, ascen
 use Rattle.wire_base.specs.declared.why.Why.{Why}
 use Rattle.wire_base.specs.declared.why.Why.TheVariants as why
 use Rattle.schedule_text.specs.declared.line.Line.{Line}
-use Rattle.schedule_text.specs.declared.line.Line.TheVariants.{Remark, Lac, Lns, OpenUp, Close, Ring, FromSub, Down, Hang, DropCall, Deliver, Tick}
+use Rattle.schedule_text.specs.declared.line.Line.TheVariants.{Remark, Lac, Lns, OpenUp, Close, Ring, Frame, FromSub, Down, Hang, DropCall, Deliver, Tick}
 use Rattle.schedule_text.specs.Grammar.{FitsLine}
 use Rattle.protocol_model.specs.declared.event.Event.{Event}
 use Rattle.protocol_model.specs.declared.event.Event.TheVariants as event
@@ -21,23 +21,28 @@ use Rattle.protocol_model.specs.declared.tunnel.Role.{Role}
 use Rattle.protocol_model.specs.declared.tunnel.Role.TheVariants as role
 use Rattle.protocol_model.specs.Names.{address_of}
 use Rattle.protocol_model.specs.Secrets.{uncovered_event}
-use Rattle.protocol_model.specs.End.{plain_step, new_end, step}
+use Rattle.protocol_model.specs.End.{End, plain_step, step, step_in, gives_only}
 use Rattle.step_laws.specs.Lines.{tested_not, is_lac_at, is_lns_at, is_declared, has_call, has_tunnel}
-use Rattle.protocol_model.specs.World.{World, Node, Sender, Lined, quiet_line, with_node, after_step, declared, lac_at, lns_at, with_call, with_tunnel, later, config_of, added, block_of, stepped, addressee_of, arrival, refused_by, sender_of, arrives, delivers_it, delivers, line}
+use Rattle.protocol_model.specs.World.{World, Node, Sender, Lined, quiet_line, with_node, after_step, given, declared, lac_at, lns_at, with_call, with_tunnel, later, new_node, answer_entries, added, block_of, stepped, addressee_of, arrival, refused_by, sender_of, arrives, delivers_it, delivers, line}
 use Rattle.frame_laws.specs.Codecs.{Codecs}
 use Rattle.frame_laws.specs.Past.{Passage, sent_in, handed_in}
 use Rattle.frame_laws.specs.Reports.{ups_in, told_of}
 use Rattle.frame_laws.proofs.Facts.{StepLaws, Born, Plays, Nodes, Grows, PacketOk, NodeOk, Holds, packets_later, node_later, birth_in_node, role_in_node, all_map, all_at}
 use Rattle.frame_laws.proofs.Changes.{birth_there}
 use Rattle.frame_laws.proofs.Births.{Counted}
-use Rattle.frame_laws.proofs.Worlds.{Below, LineGives, EventGives, Counts, Goes, IsReal, StepOk, step_ok}
+use Rattle.wire_base.specs.declared.cause.Cause.{Cause}
+use Rattle.protocol_model.specs.Access.{Access}
+use Rattle.protocol_model.specs.Texts.{Entry, Drops, Frames}
+use Rattle.step_laws.specs.Hosts.{LacAt, with_host, reply_to, HostDoes, HostSends, HostLeaves, OfFrame, frame_line}
+use Rattle.frame_laws.proofs.Ups.{ups_in-append}
+use Rattle.frame_laws.proofs.Worlds.{Below, LineGives, ByLine, ByHost, EventGives, Counts, Goes, IsReal, StepOk, step_ok}
 
 -- ---- lines
 
 -- what a line leaves
 pub record LineOk (number : ℕ) (w : World) (gs : List Passage) (l : Line) (r : Lined) : Type 0 where
   pub goes : Goes number w gs r.world r.done
-  pub given : AllByRecursion (LineGives number l) (sent_in r.done)
+  pub given : AllByRecursion (LineGives number w l) (sent_in r.done)
   pub told : ups_in r.entries ≡ told_of r.done
 
 -- a line without a step
@@ -61,9 +66,9 @@ uncounted : (w : World) → Counts w.nodes w.born w
 uncounted w = record { few = omega arith; counted = λ few had. had }
 
 -- one more node
-module _ (ns : Nodes) (n : ℕ) (r : Role) (lns : ℕ) (secret : Option (List ℕ)) (hide : Bool) (none : at ns n ≡ None) where
+module _ (ns : Nodes) (number n : ℕ) (r : Role) (lns : ℕ) (secret : Option (List ℕ)) (hide : Bool) (none : at ns n ≡ None) where
   abbrev fresh_node : Node
-  fresh_node = record { end = new_end r (config_of n lns secret hide); clock = 0; births = [] }
+  fresh_node = new_node number n r lns secret hide
 
   no_birth : (m s b : ℕ) → m ≡ n → birth_in_node (at ns m) s ≡ Some b → ⊥
   no_birth m s b e h = none-some b (subst (λ o. birth_in_node o s ≡ Some b) none (subst (λ x. birth_in_node (at ns x) s ≡ Some b) e h))
@@ -138,16 +143,16 @@ none_there (Some x) h = absurd (true≢false h)
 module _ (number : ℕ) (w : World) (gs : List Passage) (holds : Holds w gs) (l : Line)
     (n : ℕ) (r : Role) (lns : ℕ) (secret : Option (List ℕ)) (hide : Bool) (lt : n < 256) (none : at w.nodes n ≡ None) where
   abbrev new : Node
-  new = record { end = new_end r (config_of n lns secret hide); clock = 0; births = [] }
+  new = new_node number n r lns secret hide
 
   more_ok : LineOk number w gs l (quiet_line (with_node w n new))
   more_ok =
-      let g = more_nodes w.nodes n r lns secret hide none in
+      let g = more_nodes w.nodes number n r lns secret hide none in
       quiet_goes number w (with_node w n new) gs l
       (record {
         nodes = λ m node f. ⊎_elim
             (λ (a : (m ≡ n) × (new ≡ node)).
-            let mine = subst (λ y. NodeOk (put w.nodes n new) n y) a.1 (fresh_ok w.nodes n r lns secret hide none lt) in
+            let mine = subst (λ y. NodeOk (put w.nodes n new) n y) a.1 (fresh_ok w.nodes number n r lns secret hide none lt) in
             subst (λ y. NodeOk (put w.nodes n new) y node) (sym a.0) mine)
             (λ a. node_later w.nodes (put w.nodes n new) g m node (holds.nodes m node a.1))
             (found_put w.nodes n new m node f);
@@ -155,14 +160,14 @@ module _ (number : ℕ) (w : World) (gs : List Passage) (holds : Holds w gs) (l 
             (λ hs. AllByRecursion (PacketOk (put w.nodes n new) hs) w.packets) (append-nil gs)
             (packets_later w.nodes (put w.nodes n new) g gs [] w.packets holds.packets);
       })
-      (record { few = omega arith; counted = λ few had. fresh_counted w.nodes n r lns secret hide none w.born had })
+      (record { few = omega arith; counted = λ few had. fresh_counted w.nodes number n r lns secret hide none w.born had })
       refl
 
 added_ok : (number : ℕ) (w : World) (gs : List Passage) → Holds w gs → (l : Line) (n : ℕ) (r : Role) (lns : ℕ) (secret : Option (List ℕ)) (hide : Bool) → n < 256 → (x : Lined)
-    → added w n r lns secret hide ≡ Ok x → LineOk number w gs l x
+    → added w number n r lns secret hide ≡ Ok x → LineOk number w gs l x
 unfolding added
 added_ok number w gs holds l n r lns secret hide lt x h =
-    let t = tested_not (is_some (at w.nodes n)) (quiet_line (with_node w n (record { end = new_end r (config_of n lns secret hide); clock = 0; births = [] }))) (Unfit why.Twice) x h in
+    let t = tested_not (is_some (at w.nodes n)) (quiet_line (with_node w n (new_node number n r lns secret hide))) (Unfit why.Twice) x h in
     subst (LineOk number w gs l) t.1 (more_ok number w gs holds l n r lns secret hide lt (none_there (at w.nodes n) t.0))
 
 -- ---- frames that lines give
@@ -171,6 +176,8 @@ added_ok number w gs holds l n r lns secret hide lt x h =
 abbrev HasNoFrame : Event → Type 0
 HasNoFrame (event.Datagram peer bytes) = Unit {0}
 HasNoFrame (event.Ring port) = Unit {0}
+HasNoFrame (event.Frame bytes) = Unit {0}
+HasNoFrame (event.Admitted mac) = Unit {0}
 HasNoFrame (event.Payload session frame) = ⊥
 HasNoFrame (event.Lower session frame) = ⊥
 HasNoFrame (event.Hang session) = Unit {0}
@@ -179,42 +186,44 @@ HasNoFrame (event.DropCall session) = Unit {0}
 HasNoFrame (event.CloseTunnel i) = Unit {0}
 HasNoFrame event.Tick = Unit {0}
 
-no_frame : (number n : ℕ) (r : Role) (ev : Event) (l : Line) → HasNoFrame ev → (g : Passage) → EventGives number n r ev g → LineGives number l g
-no_frame number n r (event.Datagram peer bytes) l none g h = absurd (⊎_elim (λ e. absurd cc) (λ e. absurd cc) h.event_is)
-no_frame number n r (event.Ring port) l none g h = absurd (⊎_elim (λ e. absurd cc) (λ e. absurd cc) h.event_is)
-no_frame number n r (event.Payload session frame) l none g h = absurd none
-no_frame number n r (event.Lower session frame) l none g h = absurd none
-no_frame number n r (event.Hang session) l none g h = absurd (⊎_elim (λ e. absurd cc) (λ e. absurd cc) h.event_is)
-no_frame number n r event.OpenTunnel l none g h = absurd (⊎_elim (λ e. absurd cc) (λ e. absurd cc) h.event_is)
-no_frame number n r (event.DropCall session) l none g h = absurd (⊎_elim (λ e. absurd cc) (λ e. absurd cc) h.event_is)
-no_frame number n r (event.CloseTunnel i) l none g h = absurd (⊎_elim (λ e. absurd cc) (λ e. absurd cc) h.event_is)
-no_frame number n r event.Tick l none g h = absurd (⊎_elim (λ e. absurd cc) (λ e. absurd cc) h.event_is)
+no_frame : (w : World) (number n : ℕ) (r : Role) (ev : Event) (l : Line) → HasNoFrame ev → (g : Passage) → EventGives number n r ev g → LineGives number w l g
+no_frame w number n r (event.Datagram peer bytes) l none g h = absurd (⊎_elim (λ e. absurd cc) (λ e. absurd cc) h.event_is)
+no_frame w number n r (event.Ring port) l none g h = absurd (⊎_elim (λ e. absurd cc) (λ e. absurd cc) h.event_is)
+no_frame w number n r (event.Frame bytes) l none g h = absurd (⊎_elim (λ e. absurd cc) (λ e. absurd cc) h.event_is)
+no_frame w number n r (event.Admitted mac) l none g h = absurd (⊎_elim (λ e. absurd cc) (λ e. absurd cc) h.event_is)
+no_frame w number n r (event.Payload session frame) l none g h = absurd none
+no_frame w number n r (event.Lower session frame) l none g h = absurd none
+no_frame w number n r (event.Hang session) l none g h = absurd (⊎_elim (λ e. absurd cc) (λ e. absurd cc) h.event_is)
+no_frame w number n r event.OpenTunnel l none g h = absurd (⊎_elim (λ e. absurd cc) (λ e. absurd cc) h.event_is)
+no_frame w number n r (event.DropCall session) l none g h = absurd (⊎_elim (λ e. absurd cc) (λ e. absurd cc) h.event_is)
+no_frame w number n r (event.CloseTunnel i) l none g h = absurd (⊎_elim (λ e. absurd cc) (λ e. absurd cc) h.event_is)
+no_frame w number n r event.Tick l none g h = absurd (⊎_elim (λ e. absurd cc) (λ e. absurd cc) h.event_is)
 
-from_sub : (number n : ℕ) (r : Role) (session : ℕ) (frame : List ℕ) → r ≡ role.Lac → (g : Passage)
-    → EventGives number n r (event.Payload session frame) g → LineGives number (FromSub n session frame) g
-from_sub number n r session frame lac g h = ⊎_elim
+from_sub : (w : World) (number n : ℕ) (r : Role) (session : ℕ) (frame : List ℕ) → r ≡ role.Lac → (g : Passage)
+    → EventGives number n r (event.Payload session frame) g → LineGives number w (FromSub n session frame) g
+from_sub w number n r session frame lac g h = ⊎_elim
     (λ (e : event.Payload session frame ≡ event.Payload g.session g.frame).
     let a : session ≡ g.session = cc in
     let b : frame ≡ g.frame = cc in
-    record { number_is = h.number_is; line_is = rw (h.role_is, lac, h.node_is, a, b) refl })
+    ByLine h.number_is (rw (h.role_is, lac, h.node_is, a, b) refl))
     (λ (e : event.Payload session frame ≡ event.Lower g.session g.frame). absurd cc)
     h.event_is
 
-down_to : (number n : ℕ) (r : Role) (session : ℕ) (frame : List ℕ) → r ≡ role.Lns → (g : Passage)
-    → EventGives number n r (event.Lower session frame) g → LineGives number (Down n session frame) g
-down_to number n r session frame lns g h = ⊎_elim
+down_to : (w : World) (number n : ℕ) (r : Role) (session : ℕ) (frame : List ℕ) → r ≡ role.Lns → (g : Passage)
+    → EventGives number n r (event.Lower session frame) g → LineGives number w (Down n session frame) g
+down_to w number n r session frame lns g h = ⊎_elim
     (λ (e : event.Lower session frame ≡ event.Payload g.session g.frame). absurd cc)
     (λ (e : event.Lower session frame ≡ event.Lower g.session g.frame).
     let a : session ≡ g.session = cc in
     let b : frame ≡ g.frame = cc in
-    record { number_is = h.number_is; line_is = rw (h.role_is, lns, h.node_is, a, b) refl })
+    ByLine h.number_is (rw (h.role_is, lns, h.node_is, a, b) refl))
     h.event_is
 
 -- a node of the world, at some moment
 record IsAt (w : World) (n : ℕ) (node : Node) : Type 0 where
   before : Node
   there : at w.nodes n ≡ Some before
-  same : node ≡ record before { clock = node.clock }
+  same : node ≡ record before { clock = node.clock; access = node.access }
 
 is_there : (w : World) (n : ℕ) (node : Node) → at w.nodes n ≡ Some node → IsAt w n node
 is_there w n node h = record { before = node; there = h; same = refl }
@@ -232,13 +241,15 @@ module _ (codecs : Codecs) (laws : StepLaws) (number : ℕ) (w : World) (gs : Li
       → StepOk number w gs n node.end.role ev (after_step w number n node sender (plain_step node.end node.clock (block_of n number) ev))
   timed_ok n ev sender node is real = subst
       (λ (q : Node). StepOk number w gs n q.end.role ev (after_step w number n q sender (plain_step q.end q.clock (block_of n number) ev))) (sym is.same)
-      (step_ok codecs laws number w gs holds below n is.before is.there node.clock ev real node.clock (block_of n number) sender)
+      (step_ok codecs laws number w gs holds below n is.before is.there node.clock node.access ev real node.clock (block_of n number) sender)
 
   -- a frame is given as it is
   gives_as_read : (n : ℕ) (r : Role) (secret : Option (List ℕ)) (ev : Event) (g : Passage) → EventGives number n r (uncovered_event secret ev) g
       → EventGives number n r ev g
   gives_as_read n r secret (event.Datagram peer bytes) g h = absurd (⊎_elim (λ p. cc) (λ p. cc) h.event_is)
   gives_as_read n r secret (event.Ring port) g h = h
+  gives_as_read n r secret (event.Frame bytes) g h = h
+  gives_as_read n r secret (event.Admitted mac) g h = h
   gives_as_read n r secret (event.Payload session frame) g h = h
   gives_as_read n r secret (event.Lower session frame) g h = h
   gives_as_read n r secret (event.Hang session) g h = h
@@ -248,7 +259,7 @@ module _ (codecs : Codecs) (laws : StepLaws) (number : ℕ) (w : World) (gs : Li
   gives_as_read n r secret event.Tick g h = h
 
   stepped_ok : (x : Lined) (n : ℕ) (ev : Event) (sender : Option Sender) (o : Result Node Why)
-      → ((node : Node) → o ≡ Ok node → IsAt w n node × ((g : Passage) → EventGives number n node.end.role ev g → LineGives number l g))
+      → ((node : Node) → o ≡ Ok node → IsAt w n node × ((g : Passage) → EventGives number n node.end.role ev g → LineGives number w l g))
       → ((secret : Option (List ℕ)) → IsReal w gs n (uncovered_event secret ev)) → stepped w number n ev sender o ≡ Ok x → LineOk number w gs l x
   unfolding stepped
   stepped_ok x n ev sender (Err q) is real h = absurd (cc)
@@ -259,7 +270,7 @@ module _ (codecs : Codecs) (laws : StepLaws) (number : ℕ) (w : World) (gs : Li
       let k = timed_ok n (uncovered_event secret ev) sender node was.0 (real secret) in
       subst (LineOk number w gs l) e (record {
         goes = k.goes;
-        given = all_map (EventGives number n node.end.role (uncovered_event secret ev)) (LineGives number l)
+        given = all_map (EventGives number n node.end.role (uncovered_event secret ev)) (LineGives number w l)
             (λ g h. was.1 g (gives_as_read n node.end.role secret ev g h)) (sent_in (after_step w number n node sender (step node.end node.clock (block_of n number) ev)).done) k.given;
         told = k.told;
       })
@@ -273,7 +284,7 @@ module _ (codecs : Codecs) (laws : StepLaws) (number : ℕ) (w : World) (gs : Li
   arrives_ok l x p node there sent None h =
       let ev = event.Datagram (address_of p.from) p.bytes in
       stepped_ok codecs laws number w gs holds below l x p.to ev (sender_of p.from p.origin) (Ok node)
-      (λ q e. (let same : node ≡ q = cc in rw (← same) (is_there w p.to node there, no_frame number p.to node.end.role ev l tt)))
+      (λ q e. (let same : node ≡ q = cc in rw (← same) (is_there w p.to node there, no_frame w number p.to node.end.role ev l tt)))
       (λ secret. record { from = p.from; number = sent.from; address = refl; bytes_ok = sent.bytes secret }) h
 
   -- what may be delivered is a packet that was sent, and its node is declared
@@ -287,6 +298,81 @@ module _ (codecs : Codecs) (laws : StepLaws) (number : ℕ) (w : World) (gs : Li
       by None is h = absurd (cc)
       by (Some node) is h = arrives_ok l x p node is (sent p refl) (refused_by p node p.origin) h
 
+  -- what a host of a call does
+  host_gives : (n : ℕ) (bytes : List ℕ) (l : LacAt w n) (ev : Event) → HostDoes l.access l.node.end bytes ev → (g : Passage)
+      → EventGives number n l.node.end.role ev g → LineGives number w (Frame n bytes) g
+  host_gives n bytes l ev (HostLeaves src session is of) g h = no_frame w number n l.node.end.role (event.Hang session) (Frame n bytes) tt g h
+  host_gives n bytes l ev (HostSends src session start stop is of) g h =
+      let frame = take (stop - start) (drop start bytes) in
+      ⊎_elim
+      (λ (e : event.Payload session frame ≡ event.Payload g.session g.frame).
+      let a : session ≡ g.session = cc in
+      let b : frame ≡ g.frame = cc in
+      ByHost h.number_is (h.role_is ∙ l.lac) bytes (rw h.node_is refl) (record {
+        node = l.node;
+        there = rw h.node_is l.there;
+        access = l.access;
+        keeps = l.keeps;
+        src = src;
+        start = start;
+        stop = stop;
+        found = rw (← a) is;
+        of_host = rw (← a) of;
+        frame = sym b;
+      }))
+      (λ (e : event.Payload session frame ≡ event.Lower g.session g.frame). absurd cc)
+      h.event_is
+
+  host_real : (n : ℕ) (a : Access) (e : End) (bytes : List ℕ) (ev : Event) → HostDoes a e bytes ev → (secret : Option (List ℕ)) → IsReal w gs n (uncovered_event secret ev)
+  host_real n a e bytes ev (HostSends src session start stop is of) secret = tt
+  host_real n a e bytes ev (HostLeaves src session is of) secret = tt
+
+  entering : (n : ℕ) (l : LacAt w n) (src : List ℕ) (uniq : Option (List ℕ)) (node : Node) → with_host w number n l src uniq ≡ node → IsAt w n node
+  entering n l src uniq node e = subst (IsAt w n) e (record { before = l.node; there = l.there; same = refl })
+
+  no_ups : (n : ℕ) (because : Option Cause) (frame : List ℕ) → ups_in (answer_entries number n because frame) ≡ []
+  unfolding ups_in
+  no_ups n None frame = refl
+  no_ups n (Some c) frame = refl
+
+  -- a frame that an end doesn't see
+  done_of : (n : ℕ) (bytes : List ℕ) (l : LacAt w n) (x : Lined) → stepped w number n (event.Frame bytes) None (Ok l.node) ≡ Ok x → x.done ≡ []
+  unfolding stepped after_step given plain_step step_in gives_only
+  done_of n bytes l x h = let e : after_step w number n l.node None (step l.node.end l.node.clock (block_of n number) (event.Frame bytes)) ≡ x = cc in ap (λ (y : Lined). y.done) (sym e)
+
+  only_told : (n : ℕ) (bytes : List ℕ) (l : LacAt w n) (es : List Entry) → ups_in es ≡ [] → (x : Lined) → stepped w number n (event.Frame bytes) None (Ok l.node) ≡ Ok x
+      → LineOk number w gs (Frame n bytes) (record x { entries = es })
+  unfolding told_of
+  only_told n bytes l es none x h =
+      let k =
+      stepped_ok codecs laws number w gs holds below (Frame n bytes) x n (event.Frame bytes) None (Ok l.node)
+      (λ node e. (let same : l.node ≡ node = cc in
+      rw (← same) (is_there w n l.node l.there, no_frame w number n l.node.end.role (event.Frame bytes) (Frame n bytes) tt)))
+      (λ secret. tt) h in
+      record { goes = k.goes; given = k.given; told = none ∙ sym (ap told_of (done_of n bytes l x h)) }
+
+  of_frame : (n : ℕ) (bytes : List ℕ) → OfFrame (LineOk number w gs (Frame n bytes)) w number n bytes
+  unfolding ups_in
+  of_frame n bytes = record {
+    ignored = λ l word is x h. only_told n bytes l (Drops number n word ∷ []) refl x h;
+    answered = λ l because frame is x h. only_told n bytes l (answer_entries number n because frame) (no_ups n because frame) x h;
+    done = λ l ev is does x h.
+        stepped_ok codecs laws number w gs holds below (Frame n bytes) x n ev None (Ok l.node)
+        (λ node e. (let same : l.node ≡ node = cc in rw (← same) (is_there w n l.node l.there, host_gives n bytes l ev does)))
+        (host_real n l.access l.node.end bytes ev does) h;
+    entered = λ l src uniq asked is x h.
+        let k =
+        stepped_ok codecs laws number w gs holds below (Frame n bytes) x n (event.Admitted src) None (Ok (with_host w number n l src uniq))
+        (λ node e. (let same : with_host w number n l src uniq ≡ node = cc in
+        (entering n l src uniq node same, no_frame w number n node.end.role (event.Admitted src) (Frame n bytes) tt)))
+        (λ secret. tt) h in
+        record {
+          goes = k.goes;
+          given = k.given;
+          told = ups_in-append x.entries (Frames number n (reply_to w number n l src asked) ∷ []) ∙ append-nil (ups_in x.entries) ∙ k.told;
+        };
+  }
+
   pub line_ok : (x : Lined) (l : Line) → FitsLine l → line w number l ≡ Ok x → LineOk number w gs l x
   unfolding line
   line_ok x (Remark text) fits h =
@@ -296,46 +382,47 @@ module _ (codecs : Codecs) (laws : StepLaws) (number : ℕ) (w : World) (gs : Li
   line_ok x (Lns n secret) fits h = added_ok number w gs holds (Lns n secret) n role.Lns 0 secret false (omega (arith, fits.0.1)) x h
   line_ok x (OpenUp n) fits h =
       stepped_ok codecs laws number w gs holds below (OpenUp n) x n event.OpenTunnel None (lac_at (at w.nodes n))
-      (λ node e. (is_there w n node (is_lac_at (at w.nodes n) node e).0, no_frame number n node.end.role event.OpenTunnel (OpenUp n) tt)) (λ secret. tt) h
+      (λ node e. (is_there w n node (is_lac_at (at w.nodes n) node e).0, no_frame w number n node.end.role event.OpenTunnel (OpenUp n) tt)) (λ secret. tt) h
   line_ok x (Close n i) fits h =
       stepped_ok codecs laws number w gs holds below (Close n i) x n (event.CloseTunnel i) None (with_tunnel i (declared (at w.nodes n)))
       (λ node e. (
         is_there w n node (is_declared (at w.nodes n) node (has_tunnel i (declared (at w.nodes n)) node e)),
-        no_frame number n node.end.role (event.CloseTunnel i) (Close n i) tt,
+        no_frame w number n node.end.role (event.CloseTunnel i) (Close n i) tt,
       ))
       (λ secret. tt) h
   line_ok x (Ring n port) fits h =
       stepped_ok codecs laws number w gs holds below (Ring n port) x n (event.Ring port) None (lac_at (at w.nodes n))
-      (λ node e. (is_there w n node (is_lac_at (at w.nodes n) node e).0, no_frame number n node.end.role (event.Ring port) (Ring n port) tt)) (λ secret. tt) h
+      (λ node e. (is_there w n node (is_lac_at (at w.nodes n) node e).0, no_frame w number n node.end.role (event.Ring port) (Ring n port) tt)) (λ secret. tt) h
+  line_ok x (Frame n bytes) fits h = frame_line (LineOk number w gs (Frame n bytes)) w number n bytes (of_frame n bytes) x h
   line_ok x (FromSub n session frame) fits h =
       stepped_ok codecs laws number w gs holds below (FromSub n session frame) x n (event.Payload session frame) None
       (with_call session (lac_at (at w.nodes n)))
       (λ node e.
       let is = is_lac_at (at w.nodes n) node (has_call session (lac_at (at w.nodes n)) node e) in
-      (is_there w n node is.0, from_sub number n node.end.role session frame is.1))
+      (is_there w n node is.0, from_sub w number n node.end.role session frame is.1))
       (λ secret. tt) h
   line_ok x (Down n session frame) fits h =
       stepped_ok codecs laws number w gs holds below (Down n session frame) x n (event.Lower session frame) None (with_call session (lns_at (at w.nodes n)))
       (λ node e.
       let is = is_lns_at (at w.nodes n) node (has_call session (lns_at (at w.nodes n)) node e) in
-      (is_there w n node is.0, down_to number n node.end.role session frame is.1))
+      (is_there w n node is.0, down_to w number n node.end.role session frame is.1))
       (λ secret. tt) h
   line_ok x (Hang n session) fits h =
       stepped_ok codecs laws number w gs holds below (Hang n session) x n (event.Hang session) None (with_call session (lac_at (at w.nodes n)))
       (λ node e.
       let is = is_lac_at (at w.nodes n) node (has_call session (lac_at (at w.nodes n)) node e) in
-      (is_there w n node is.0, no_frame number n node.end.role (event.Hang session) (Hang n session) tt))
+      (is_there w n node is.0, no_frame w number n node.end.role (event.Hang session) (Hang n session) tt))
       (λ secret. tt) h
   line_ok x (DropCall n session) fits h =
       stepped_ok codecs laws number w gs holds below (DropCall n session) x n (event.DropCall session) None
       (with_call session (declared (at w.nodes n)))
       (λ node e. (
         is_there w n node (is_declared (at w.nodes n) node (has_call session (declared (at w.nodes n)) node e)),
-        no_frame number n node.end.role (event.DropCall session) (DropCall n session) tt,
+        no_frame w number n node.end.role (event.DropCall session) (DropCall n session) tt,
       ))
       (λ secret. tt) h
   line_ok x (Deliver k) fits h =
       delivers_ok (Deliver k) x (slice_get w.packets (k - 1)) (λ p e. all_at (PacketOk w.nodes gs) w.packets (k - 1) p e holds.packets) h
   line_ok x (Tick n milliseconds) fits h =
       stepped_ok codecs laws number w gs holds below (Tick n milliseconds) x n event.Tick None (later milliseconds (declared (at w.nodes n)))
-      (λ node e. (is_later w n milliseconds (at w.nodes n) node refl e, no_frame number n node.end.role event.Tick (Tick n milliseconds) tt)) (λ secret. tt) h
+      (λ node e. (is_later w n milliseconds (at w.nodes n) node refl e, no_frame w number n node.end.role event.Tick (Tick n milliseconds) tt)) (λ secret. tt) h

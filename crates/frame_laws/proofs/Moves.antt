@@ -100,16 +100,16 @@ opening_written r c challenge response local lt some fits short sized =
       recovery = refl;
     }
 
-request_written : ((port : ℕ) → length (calling_number port) ≡ 12) → (s port : ℕ) → s < 65536 → IsWritten (request_of s port)
-request_written digits s port fits = (omega arith, omega arith, (let d = digits port in omega arith))
+request_written : ((who : List ℕ) → length (calling_number who) ≡ 12) → (s : ℕ) (who : List ℕ) → s < 65536 → IsWritten (request_of s who)
+request_written digits s who fits = (omega arith, omega arith, (let d = digits who in omega arith))
 
 asked_remote : (r : Role) (remote moment : ℕ) → (asked_for r remote moment).remote ≡ remote
 unfolding asked_for advanced
 asked_remote r remote moment = refl
 
-rung_remote : (r : Role) (port moment : ℕ) → (rung r port moment).remote ≡ 0
+rung_remote : (r : Role) (who : List ℕ) (moment : ℕ) → (rung r who moment).remote ≡ 0
 unfolding rung advanced
-rung_remote r port moment = refl
+rung_remote r who moment = refl
 
 no_calls : (ns : Nodes) (n : ℕ) (r : Role) (bound peer : ℕ) → CallsOk ns n r bound peer []
 no_calls ns n r bound peer s c f = absurd (none-some c (sym (at-none s) ∙ f))
@@ -141,7 +141,7 @@ one_more : (ns : Nodes) (n peer : ℕ) (ls : List Letter) → LettersOk ns n pee
 one_more ns n peer ls olds session m fits written names =
     all_push (LetterOk ns n peer) ls (letter_of session m) olds (letter_ok ns n peer session m None tt fits written names)
 
-module _ (digits : (port : ℕ) → length (calling_number port) ≡ 12) (n : ℕ) (z : End) (v : World) (x : End)
+module _ (digits : (who : List ℕ) → length (calling_number who) ≡ 12) (n : ℕ) (z : End) (v : World) (x : End)
     (here : At n z v x) (ev : Event) (heard : Heard v.nodes n ev) where
   -- what a move leads to
   pub record Led (w : World) (y : End) : Type 0 where
@@ -361,14 +361,14 @@ module _ (digits : (port : ℕ) → length (calling_number port) ≡ 12) (n : �
   requested_led moment m y h =
       let row = request_row x.role h.call.state h.row in
       let o = (here.end.tunnels m.tunnel h.tunnel h.there).calls m.session h.call h.waits in
-      let names : NamesItsCall v.nodes n (node_of h.tunnel.control.peer) 0 (request_of m.session m.port) = ((o.birth, o.some, o.born), plays Lac row.0) in
+      let names : NamesItsCall v.nodes n (node_of h.tunnel.control.peer) 0 (request_of m.session m.subscriber) = ((o.birth, o.some, o.born), plays Lac row.0) in
       rw h.after
       (call_led _ m.tunnel h.tunnel (counts_given h.tunnel.control) _ m.session (advanced x.role call_event.TunnelOpen moment h.call) h.there
       (sets_tunnel _ m.tunnel _)
       refl refl refl refl
       (all_push (LetterOk v.nodes n h.tunnel.control.peer) h.tunnel.letters _ (here.end.tunnels m.tunnel h.tunnel h.there).letters
-      (letter_ok v.nodes n h.tunnel.control.peer 0 (request_of m.session m.port) m.hidden
-      (number_hides x.config m.session m.port m.hidden h.session (digits m.port) h.hides) (omega arith) (request_written digits m.session m.port h.session) names))
+      (letter_ok v.nodes n h.tunnel.control.peer 0 (request_of m.session m.subscriber) m.hidden
+      (number_hides x.config m.session m.subscriber m.hidden h.session (digits m.subscriber) h.hides) (omega arith) (request_written digits m.session m.subscriber h.session) names))
       (record {
         drawn = o.drawn;
         birth = o.birth;
@@ -632,7 +632,7 @@ module _ (digits : (port : ℕ) → length (calling_number port) ≡ 12) (n : �
       let last = here.end.last_session in
       let le = d.1 in
       let t = h.tunnel in
-      let u : Tunnel = record t { calls = put t.calls m.session (rung x.role m.port moment) } in
+      let u : Tunnel = record t { calls = put t.calls m.session (rung x.role m.subscriber moment) } in
       let w : End = with_drawn (record x.session_ids { next = m.session + 1 }) m.tunnel u m.session in
       let same : y ≡ w = h.after ∙ ap (λ s. with_drawn s m.tunnel u m.session) (next_is x.session_ids m.session h.drawn) in
       let count = born_count v n m.session here.node here.is in
@@ -645,14 +645,14 @@ module _ (digits : (port : ℕ) → length (calling_number port) ≡ 12) (n : �
         few = omega (arith, count);
       } in
       subst (λ e. Led (is_born v n m.session) e) (sym same)
-      (made_led (is_born v n m.session) m.session (next_birth v) bears w m.tunnel t t.control t.letters (rung x.role m.port moment) h.there
+      (made_led (is_born v n m.session) m.session (next_birth v) bears w m.tunnel t t.control t.letters (rung x.role m.subscriber moment) h.there
       (sets_drawn m.session m.tunnel u h.drawn)
       refl refl refl refl
       (old_letters (is_born v n m.session) m.session (next_birth v) bears m.tunnel t h.there)
-      (rw (rung_remote x.role m.port moment) (omega arith)) (inl (rung_remote x.role m.port moment))
+      (rw (rung_remote x.role m.subscriber moment) (omega arith)) (inl (rung_remote x.role m.subscriber moment))
       (λ k. ⊎_elim
       (λ a. absurd (not_lns x.role h.role a))
-      (λ (a : is_up (rung x.role m.port moment).state ≡ true). absurd (true≢false (sym (rw h.role at a) ∙ rung_row m.port moment)))
+      (λ (a : is_up (rung x.role m.subscriber moment).state ≡ true). absurd (true≢false (sym (rw h.role at a) ∙ rung_row m.subscriber moment)))
       k))
 
   replied_led : (moment : ℕ) (m : Replied) (y : End) → Replies x moment ev m y → Led (with_birth v n m.session (birth_of v (node_of m.peer) m.remote)) y

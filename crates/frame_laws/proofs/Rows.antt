@@ -1,5 +1,5 @@
 -- What the rows of calls' tables tell of the end that they are for.
-use Rattle.std.proofs.Common.{◌≡◌, ℕ, true, false, refl, sym}
+use Rattle.std.proofs.Common.{◌≡◌, ℕ, true, false, refl, sym, List}
 use Rattle.std.proofs.lemmas.Bool.{true≢false}
 use Rattle.call_fsm.specs.declared.table.CallState.{CallState}
 use Rattle.call_fsm.specs.declared.table.CallState.TheVariants.{Idle, WaitTunnel, WaitReply, WaitConnect, Established}
@@ -42,6 +42,6 @@ second_row Lac Established h = never h
 second_row Lns s h = refl
 
 -- a call that rings isn't up
-pub rung_row : (port moment : ℕ) → is_up (rung Lac port moment).state ≡ false
+pub rung_row : (who : List ℕ) (moment : ℕ) → is_up (rung Lac who moment).state ≡ false
 unfolding rung advanced call_row
-rung_row port moment = refl
+rung_row who moment = refl

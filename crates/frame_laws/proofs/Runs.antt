@@ -1,5 +1,5 @@
 -- A run of lines.
-use Rattle.std.proofs.Common.{◌≡◌, ℕ, suc, ◌+◌, ◌-◌, ◌*◌, ◌^◌, ◌<◌, List, [], ◌∷◌, ◌++◌, length, refl, sym, ap, ◌∙◌, append_assoc, Option, Some, None, Result, Ok, Err, arith}
+use Rattle.std.proofs.Common.{◌≡◌, ℕ, suc, ◌+◌, ◌-◌, ◌*◌, ◌^◌, ◌<◌, List, [], ◌∷◌, ◌++◌, length, refl, sym, ap, ◌∙◌, append_assoc, subst, Option, Some, None, Result, Ok, Err, arith}
 use Rattle.std.proofs.lemmas.Option.{none-some}
 use Rattle.std.specs.Prelude.{slice_get}
 use Rattle.std.specs.List.{AllByRecursion}
@@ -13,14 +13,15 @@ use Rattle.protocol_model.specs.Run.{Run, empty_run, after_line, goes_on, run_fr
 use Rattle.frame_laws.specs.Codecs.{Codecs}
 use Rattle.frame_laws.specs.Births.{BirthsOfRuns}
 use Rattle.frame_laws.specs.Past.{Passage, sent_by, handed_by, sent_in, handed_in}
-use Rattle.frame_laws.specs.Frames.{WasSent, IsCarried, IsGiven, FramesOfRuns, PacketsOfRuns, GivenInRuns}
+use Rattle.std.proofs.lemmas.List.{append-nil, length-append}
+use Rattle.frame_laws.specs.Frames.{WasSent, IsCarried, IsGiven, ByItsLine, ByItsHost, GivesByFrame, FramesOfRuns, PacketsOfRuns, GivenInRuns}
 use Rattle.frame_laws.specs.Reports.{ups_in, told_of, ReportsOfRuns}
 use Rattle.frame_laws.proofs.Ups.{ups_in-append, told_of-append}
 use Rattle.frame_laws.proofs.Facts.{StepLaws, LooksOfRuns, FactsOfRuns, Born, birth_in_node, Holds, among_left, all_map}
 use Rattle.frame_laws.proofs.Births.{Counted}
 use Rattle.frame_laws.proofs.Changes.{born_at, plays_at}
 use Rattle.frame_laws.proofs.Deeds.{all_append}
-use Rattle.frame_laws.proofs.Worlds.{Below, LineGives, Goes, carried_later}
+use Rattle.frame_laws.proofs.Worlds.{Below, LineGives, ByLine, ByHost, Goes, carried_later}
 use Rattle.frame_laws.proofs.Lines.{LineOk, line_ok}
 
 -- a run goes on where a line fits, and stays where it doesn't
@@ -119,20 +120,40 @@ module _ (codecs : Codecs) (laws : StepLaws) where
       let more = g.counts.few in
       counted_from (number + 1) ls (after_line r x) fits.1 (run_goes_on number r x ok g) (omega (arith, few)) (g.counts.counted (omega (arith, few)) had))
 
+  -- where a line fits, the run goes on behind it
+  goes_ok : (number : ℕ) (r : Run) (l : Line) (x : Lined) (rest : List Line) → line r.world number l ≡ Ok x
+      → run_from number (l ∷ rest) r ≡ run_from (number + 1) rest (after_line r x)
+  unfolding run_from goes_on
+  goes_ok number r l x rest h = rw h refl
+
+  one_given : (all : List Line) (number : ℕ) (l : Line) (ls : List Line) (r : Run) → 0 < number → StandsAt all number (l ∷ ls)
+      → (before : List Line) → all ≡ before ++ l ∷ ls → number ≡ length before + 1 → run_from 1 (before ++ []) empty_run ≡ run_from number [] r
+      → (g : Passage) → LineGives number r.world l g → IsGiven all g
+  unfolding run_from
+  one_given all number l ls r some at_line before parts counted run_is g (ByLine number_is line_is) =
+      ByItsLine (let e : number - 1 + 0 ≡ number - 1 = omega arith in rw (number_is, ← line_is, ← e) (at_line 0))
+  one_given all number l ls r some at_line before parts counted run_is g (ByHost number_is lac bytes line_is gives) =
+      let same : run_from 1 before empty_run ≡ r = sym (ap (λ ls. run_from 1 ls empty_run) (append-nil before)) ∙ run_is in
+      ByItsHost before ls bytes (subst (λ k. all ≡ before ++ k ∷ ls) line_is parts) (number_is ∙ counted) lac
+      (subst (λ (q : Run). GivesByFrame q.world g bytes) (sym same) gives)
+
   -- each frame that was sent is given by its line
   given_from : (all : List Line) (number : ℕ) (lines : List Line) (r : Run) → AreLines lines → RunOk number r → 0 < number → StandsAt all number lines
+      → (before : List Line) → all ≡ before ++ lines → number ≡ length before + 1 → ((rest : List Line) → run_from 1 (before ++ rest) empty_run ≡ run_from number rest r)
       → AllByRecursion (IsGiven all) (sent_in r.done) → AllByRecursion (IsGiven all) (sent_in (run_from number lines r).done)
   unfolding run_from
-  given_from all number [] r fits ok some at_line had = had
-  given_from all number (l ∷ ls) r fits ok some at_line had =
+  given_from all number [] r fits ok some at_line before parts counted follows had = had
+  given_from all number (l ∷ ls) r fits ok some at_line before parts counted follows had =
       where_it_fits (λ v. AllByRecursion (IsGiven all) (sent_in v.done)) _ r number (line r.world number l) (λ fault. had)
       (λ x h.
       let k = line_of_run number r ok l x fits.0 h in
       given_from all (number + 1) ls (after_line r x) fits.1 (run_goes_on number r x ok k.goes) (omega arith)
       (λ j. (let e : number + 1 - 1 + j ≡ number - 1 + (suc j) = omega arith in rw e (at_line (suc j))))
+      (before ++ l ∷ []) (parts ∙ sym (append_assoc before (l ∷ []) ls))
+      (let longer = length-append before (l ∷ []) in omega (arith, longer, counted))
+      (λ rest. ap (λ ls. run_from 1 ls empty_run) (append_assoc before (l ∷ []) rest) ∙ (follows (l ∷ rest) ∙ goes_ok number r l x rest h))
       (rw (sent_in-append r.done x.done) (all_append (IsGiven all) (sent_in r.done) (sent_in x.done) had
-      (all_map (LineGives number l) (IsGiven all)
-      (λ g b. (let e : number - 1 + 0 ≡ number - 1 = omega arith in rw (b.number_is, ← b.line_is, ← e) (at_line 0)))
+      (all_map (LineGives number r.world l) (IsGiven all) (λ g b. one_given all number l ls r some at_line before parts counted (follows []) g b)
       (sent_in x.done) k.given))))
 
   -- the report hands up what the moves do
@@ -170,7 +191,8 @@ module _ (codecs : Codecs) (laws : StepLaws) where
 
   pub given_in_runs : GivenInRuns
   unfolding sent_in
-  given_in_runs lines fits = given_from lines 1 lines empty_run fits begins (omega arith) (λ k. (let e : 1 - 1 + k ≡ k = omega arith in rw e refl)) tt
+  given_in_runs lines fits =
+      given_from lines 1 lines empty_run fits begins (omega arith) (λ k. (let e : 1 - 1 + k ≡ k = omega arith in rw e refl)) [] refl refl (λ rest. refl) tt
 
   pub looks_of_runs : LooksOfRuns
   looks_of_runs lines fits n node f = ((ended_from 1 lines empty_run fits begins).1.holds.nodes n node f).looks

@@ -8,7 +8,7 @@ use Rattle.protocol_model.specs.declared.out.Out.{Out}
 use Rattle.protocol_model.specs.declared.out.Out.TheVariants.{Send, Up, Gone, Drop, Cause}
 use Rattle.protocol_model.specs.declared.tunnel.Role.{Role}
 use Rattle.protocol_model.specs.Names.{node_of}
-use Rattle.protocol_model.specs.Texts.{Entry, Sends, HandsUp, Ends, Drops, Causes}
+use Rattle.protocol_model.specs.Texts.{Entry, Sends, HandsUp, Ends, Frames, Drops, Causes}
 use Rattle.protocol_model.specs.End.{Stepped}
 use Rattle.protocol_model.specs.World.{World, Sender, Deed, birth_in, birth_of, sent, shown, entry_of, entries_of}
 use Rattle.step_laws.specs.Ups.{ups_of_output, ups_of_move}
@@ -21,8 +21,9 @@ unfolding ups_in
 ups_in-append [] fs = refl
 ups_in-append (HandsUp line node session birth side frame ∷ es) fs = ap (λ ps. HandsUp line node session birth side frame ∷ ps) (ups_in-append es fs)
 ups_in-append (Sends line packet from to bytes ∷ es) fs = ups_in-append es fs
-ups_in-append (Ends line node session ∷ es) fs = ups_in-append es fs
+ups_in-append (Ends line node session padt ∷ es) fs = ups_in-append es fs
 ups_in-append (Drops line node why ∷ es) fs = ups_in-append es fs
+ups_in-append (Frames line node bytes ∷ es) fs = ups_in-append es fs
 ups_in-append (Causes line node cause ∷ es) fs = ups_in-append es fs
 
 pub told_of-append : (ds es : List Deed) → told_of (ds ++ es) ≡ told_of ds ++ told_of es

@@ -1,4 +1,5 @@
 -- What a step of a node leaves of the world.
+use Rattle.protocol_model.specs.declared.tunnel.Role.TheVariants.{Lac}
 use Rattle.std.proofs.Common.{◌≡◌, ◌⊎◌, inl, inr, ⊎_elim, ℕ, ◌+◌, ◌-◌, ◌^◌, ◌<◌, ◌≤◌, List, [], ◌∷◌, ◌++◌, refl, sym, ap, ◌∙◌, subst, Option, Some, None, arith, append_assoc}
 use Rattle.std.proofs.lemmas.List.{append-nil}
 use Rattle.std.specs.Prelude.{unwrap_or}
@@ -9,8 +10,10 @@ use Rattle.l2tp_header.specs.Spelling.{data_bytes}
 use Rattle.control_channel.specs.Numbers.{place_of}
 use Rattle.control_message.specs.declared.message.Message.TheVariants.{StopCcn}
 use Rattle.schedule_text.specs.declared.line.Line.{Line}
+use Rattle.schedule_text.specs.declared.line.Line.TheVariants as line_of
+use Rattle.protocol_model.specs.Access.{Access}
 use Rattle.protocol_model.specs.declared.event.Event.{Event}
-use Rattle.protocol_model.specs.declared.event.Event.TheVariants.{Datagram, Ring, Payload, Lower, Hang, OpenTunnel, DropCall, CloseTunnel, Tick}
+use Rattle.protocol_model.specs.declared.event.Event.TheVariants.{Datagram, Ring, Payload, Lower, Hang, OpenTunnel, DropCall, CloseTunnel, Tick, Frame, Admitted}
 use Rattle.protocol_model.specs.declared.moves.FrameSent.{FrameSent}
 use Rattle.protocol_model.specs.declared.moves.FrameUp.{FrameUp}
 use Rattle.protocol_model.specs.declared.moves.Move.TheVariants as move
@@ -30,7 +33,7 @@ use Rattle.step_laws.specs.Steps.{IsOfMoves, IsDecline, IsChain}
 use Rattle.step_laws.specs.Codes.{decline_codes_fit}
 use Rattle.frame_laws.specs.Codecs.{Codecs}
 use Rattle.frame_laws.specs.Past.{Passage, sent_in, handed_in}
-use Rattle.frame_laws.specs.Frames.{WasSent, IsCarried, other_end, gives_frame}
+use Rattle.frame_laws.specs.Frames.{WasSent, IsCarried, other_end, gives_frame, GivesByFrame}
 use Rattle.frame_laws.proofs.Facts.{StepLaws, Nodes, Plays, Grows, Mates, WasSentInCall, ReadOk, BytesOk, PacketOk, LetterOk, NodeOk, Holds, among_left, among_right, packets_later, node_later, end_later, all_map, all_push, all_at, grows_on}
 use Rattle.frame_laws.proofs.Changes.{birth_is, role_there, Changed, grows, NoBirth}
 use Rattle.frame_laws.proofs.Births.{Counted, counted_after}
@@ -167,9 +170,9 @@ abbrev pub Below : ℕ → List Passage → Type 0
 Below number gs = AllByRecursion (λ g. g.line < number) gs
 
 -- a line gave the frame to its end
-pub record LineGives (number : ℕ) (l : Line) (g : Passage) : Type 0 where
-  pub number_is : g.line ≡ number
-  pub line_is : l ≡ gives_frame g.role g.node g.session g.frame
+pub data LineGives (number : ℕ) (w : World) (l : Line) (g : Passage) : Type 0 where
+  ByLine : g.line ≡ number → l ≡ gives_frame g.role g.node g.session g.frame → LineGives number w l g
+  ByHost : g.line ≡ number → g.role ≡ Lac → (bytes : List ℕ) → l ≡ line_of.Frame g.node bytes → GivesByFrame w g bytes → LineGives number w l g
 
 -- an event gave the frame to its end
 pub record EventGives (number n : ℕ) (r : Role) (ev : Event) (g : Passage) : Type 0 where
@@ -206,6 +209,8 @@ pub record IsFrom (w : World) (gs : List Passage) (n peer : ℕ) (bytes : List �
 abbrev pub IsReal : World → List Passage → ℕ → Event → Type 0
 IsReal w gs n (Datagram peer bytes) = IsFrom w gs n peer bytes
 IsReal w gs n (Ring port) = Unit {0}
+IsReal w gs n (Frame bytes) = Unit {0}
+IsReal w gs n (Admitted mac) = Unit {0}
 IsReal w gs n (Payload s frame) = Unit {0}
 IsReal w gs n (Lower s frame) = Unit {0}
 IsReal w gs n (Hang s) = Unit {0}
@@ -224,6 +229,8 @@ heard_of w gs n (Datagram peer bytes) h = record {
   told = h.bytes_ok.told;
 }
 heard_of w gs n (Ring port) h = tt
+heard_of w gs n (Frame bytes) h = tt
+heard_of w gs n (Admitted mac) h = tt
 heard_of w gs n (Payload s frame) h = tt
 heard_of w gs n (Lower s frame) h = tt
 heard_of w gs n (Hang s) h = tt
@@ -239,14 +246,14 @@ pub record StepOk (number : ℕ) (w : World) (gs : List Passage) (n : ℕ) (r : 
   pub told : ups_in x.entries ≡ told_of x.done
 
 module _ (codecs : Codecs) (laws : StepLaws) (number : ℕ) (w : World) (gs : List Passage) (holds : Holds w gs) (below : Below number gs)
-    (n : ℕ) (old : Node) (was : at w.nodes n ≡ Some old) (clock : ℕ) (ev : Event) (real : IsReal w gs n ev)
+    (n : ℕ) (old : Node) (was : at w.nodes n ≡ Some old) (clock : ℕ) (access : Option Access) (ev : Event) (real : IsReal w gs n ev)
     (moment : ℕ) (block : List ℕ) (sender : Option Sender) where
   ok : NodeOk w.nodes n old
   ok = holds.nodes n old was
 
   -- the node at the moment of the step
   abbrev timed : Node
-  timed = record old { clock = clock }
+  timed = record old { clock = clock; access = access }
 
   abbrev s : Stepped
   s = plain_step old.end moment block ev

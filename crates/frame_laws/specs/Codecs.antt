@@ -23,4 +23,4 @@ pub record Codecs : Type 0 where
   pub pairs : (v : List Avp) → AreAvps v → avps_of (spelling v) ≡ Ok v
   pub room : (m : Message) → IsWritten m → length (spelling (pairs_of m)) ≤ 65523
   pub hidden : HiddenRequestsAreRead
-  pub digits : (port : ℕ) → length (calling_number port) ≡ 12
+  pub digits : (who : List ℕ) → length (calling_number who) ≡ 12

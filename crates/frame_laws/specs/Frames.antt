@@ -1,9 +1,14 @@
 -- Each frame that is handed up in a call was sent in that call by its other end.
-use Rattle.std.specs.Prelude.{◌≡◌, ◌-◌, ◌<◌, List, None, Some, ℕ, slice_get}
+use Rattle.std.specs.Prelude.{◌≡◌, ◌+◌, ◌-◌, ◌<◌, List, ◌∷◌, ◌++◌, length, take, drop, None, Some, ℕ, slice_get}
+use Rattle.id_table.specs.Ids.{at}
+use Rattle.pppoe_discovery.specs.declared.outcome.Discovered.TheVariants.{Carried}
+use Rattle.protocol_model.specs.Access.{Access}
+use Rattle.protocol_model.specs.World.{World, Node}
+use Rattle.step_laws.specs.Hosts.{discovered_at, IsOfHost}
 use Rattle.std.specs.List.{AllByRecursion}
 use Rattle.l2tp_header.specs.Spelling.{data_bytes}
 use Rattle.schedule_text.specs.declared.line.Line.{Line}
-use Rattle.schedule_text.specs.declared.line.Line.TheVariants.{FromSub, Down}
+use Rattle.schedule_text.specs.declared.line.Line.TheVariants.{FromSub, Down, Frame}
 use Rattle.schedule_text.specs.Grammar.{AreLines}
 use Rattle.protocol_model.specs.declared.tunnel.Role.{Role}
 use Rattle.protocol_model.specs.declared.tunnel.Role.TheVariants.{Lac, Lns}
@@ -56,9 +61,25 @@ abbrev pub gives_frame : Role → ℕ → ℕ → List ℕ → Line
 gives_frame Lac n session frame = FromSub n session frame
 gives_frame Lns n session frame = Down n session frame
 
--- a frame that counts as sent is one that its line gave to its end in its call
-abbrev pub IsGiven : List Line → Passage → Type 0
-IsGiven lines g = slice_get lines (g.line - 1) ≡ Some (gives_frame g.role g.node g.session g.frame)
+-- the session frame in an Ethernet frame that comes to a LAC: its session is that of a live call, whose host is the source
+pub record GivesByFrame (w : World) (g : Passage) (bytes : List ℕ) : Type 0 where
+  pub node : Node
+  pub there : at w.nodes g.node ≡ Some node
+  pub access : Access
+  pub keeps : node.access ≡ Some access
+  pub src : List ℕ
+  pub start : ℕ
+  pub stop : ℕ
+  pub found : discovered_at access node.end bytes ≡ Carried src g.session start stop
+  pub of_host : IsOfHost access node.end src g.session
+  pub frame : g.frame ≡ take (stop - start) (drop start bytes)
+
+-- a frame that counts as sent is one that its line gave to its end in its call, or at a LAC one that the host of that call sent in an
+-- Ethernet frame which its line brings, as the world was before the line
+pub data IsGiven (lines : List Line) (g : Passage) : Type 0 where
+  ByItsLine : slice_get lines (g.line - 1) ≡ Some (gives_frame g.role g.node g.session g.frame) → IsGiven lines g
+  ByItsHost : (before after : List Line) (bytes : List ℕ) → lines ≡ before ++ Frame g.node bytes ∷ after → g.line ≡ length before + 1 → g.role ≡ Lac
+      → GivesByFrame (run before).world g bytes → IsGiven lines g
 
 -- in the run of each list of lines of the grammar, whether each of them fits or one ends the run
 abbrev pub FramesOfRuns : Type 0

@@ -108,13 +108,13 @@ pub data IsReadAs (m : Message) (body : List ℕ) : Type 0 where
       → message_of avps ≡ Err (BadValue 22) → kind_of_pairs avps ≡ Some kind.Icrq → plain_short 14 avps ≡ Some own → IsReadAs m body
 
 -- a request that an end makes
-pub number_hides : (c : Config) (session port : ℕ) (hidden : Option (List ℕ)) → session < 65536 → length (calling_number port) ≡ 12
-    → HidesNumber c session port hidden → HidesOk (request_of session port) hidden
-number_hides c session port hidden fits digits (InPlain why none) = rw none tt
-number_hides c session port hidden fits digits (ByVector secret vector hides has sized is) = rw is (record {
+pub number_hides : (c : Config) (session : ℕ) (who : List ℕ) (hidden : Option (List ℕ)) → session < 65536 → length (calling_number who) ≡ 12
+    → HidesNumber c session who hidden → HidesOk (request_of session who) hidden
+number_hides c session who hidden fits digits (InPlain why none) = rw none tt
+number_hides c session who hidden fits digits (ByVector secret vector hides has sized is) = rw is (record {
   own = session;
   serial = session;
-  number = calling_number port;
+  number = calling_number who;
   secret = secret;
   vector = vector;
   is = refl;

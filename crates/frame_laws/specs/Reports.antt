@@ -4,7 +4,7 @@ use Rattle.schedule_text.specs.declared.line.Line.{Line}
 use Rattle.schedule_text.specs.Grammar.{AreLines}
 use Rattle.protocol_model.specs.declared.moves.Move.{Move}
 use Rattle.protocol_model.specs.declared.moves.Move.TheVariants as move
-use Rattle.protocol_model.specs.Texts.{Entry, Sends, HandsUp, Ends, Drops, Causes}
+use Rattle.protocol_model.specs.Texts.{Entry, Sends, HandsUp, Ends, Frames, Drops, Causes}
 use Rattle.protocol_model.specs.World.{Deed}
 use Rattle.protocol_model.specs.Run.{run}
 
@@ -13,7 +13,8 @@ unfoldable pub ups_in : List Entry → List Entry
 ups_in [] = []
 ups_in (HandsUp line node session birth side frame ∷ es) = HandsUp line node session birth side frame ∷ ups_in es
 ups_in (Sends line packet from to bytes ∷ es) = ups_in es
-ups_in (Ends line node session ∷ es) = ups_in es
+ups_in (Ends line node session padt ∷ es) = ups_in es
+ups_in (Frames line node bytes ∷ es) = ups_in es
 ups_in (Drops line node why ∷ es) = ups_in es
 ups_in (Causes line node cause ∷ es) = ups_in es
 

@@ -30,6 +30,7 @@ help_text =
     codes "  open N                node N, a LAC, opens a tunnel to its LNS\n" ++
     codes "  close N T             an operator closes tunnel T of node N, with its calls\n" ++
     codes "  ring N K              a subscriber calls at port K of node N, a LAC\n" ++
+    codes "  frame N HEX           an Ethernet frame of a PPPoE host comes to node N, a LAC\n" ++
     codes "  data N S HEX          the subscriber of call S of node N, a LAC, sends a PPP frame\n" ++
     codes "  down N S HEX          the network sends a PPP frame down call S of node N, an LNS\n" ++
     codes "  hang N S              the subscriber of call S of node N, a LAC, leaves\n" ++
@@ -37,9 +38,10 @@ help_text =
     codes "  deliver P             packet P of the report reaches the node that it was sent to\n" ++
     codes "  tick N MS             the clock of node N goes on by MS milliseconds, and what is due is done\n" ++
     codes "N and M are 1 to 255, K, S and T 1 to 65535, P is 1 to 4294967295, MS 0 to 86400000, without leading zeros. HEX is a frame\n" ++
-    codes "from its protocol field on, 2 to 1494 bytes as hex digits in lower case. SECRET is the secret that both ends of a tunnel\n" ++
-    codes "share, 1 to 64 bytes as hex digits, or - where there is none. MODE is plain, or hide where there is a secret: then the\n" ++
-    codes "numbers of the callers are hidden by it. A schedule has at most 1048576 lines and 67108864 bytes.\n" ++
+    codes "from its protocol field on, 2 to 1494 bytes as hex digits in lower case, and in a frame line an Ethernet frame from its\n" ++
+    codes "destination address on, 1 to 2048 bytes. SECRET is the secret that both ends of a tunnel share, 1 to 64 bytes as hex\n" ++
+    codes "digits, or - where there is none. MODE is plain, or hide where there is a secret: then the numbers of the callers are\n" ++
+    codes "hidden by it. A schedule has at most 1048576 lines and 67108864 bytes.\n" ++
     codes "M of a lac line may be declared later, or never: then what is sent to it can't be delivered.\n" ++
     codes "\n" ++
     codes "A line that doesn't fit ends the run, which says why:\n" ++
@@ -57,6 +59,7 @@ help_text =
     codes "  L up N S B SIDE HEX                 node N hands up a frame in its call S, the B-th of all calls, to the\n" ++
     codes "                                      subscriber (sub) or to the network (net)\n" ++
     codes "  L gone N S                          call S of node N ended\n" ++
+    codes "  L frame N HEX                       node N sends an Ethernet frame to a PPPoE host\n" ++
     codes "  L drop N WHY                        node N ignores what came\n" ++
     codes "  L cause N WHY                       node N refuses what was asked for, or ends a call, or closes a tunnel\n" ++
     codes "  end N tunnel T M R STATE 0 current complete\n" ++

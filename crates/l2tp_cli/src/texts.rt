@@ -23,6 +23,7 @@ A schedule is a list of lines, with one space between words:
   open N                node N, a LAC, opens a tunnel to its LNS
   close N T             an operator closes tunnel T of node N, with its calls
   ring N K              a subscriber calls at port K of node N, a LAC
+  frame N HEX           an Ethernet frame of a PPPoE host comes to node N, a LAC
   data N S HEX          the subscriber of call S of node N, a LAC, sends a PPP frame
   down N S HEX          the network sends a PPP frame down call S of node N, an LNS
   hang N S              the subscriber of call S of node N, a LAC, leaves
@@ -30,9 +31,10 @@ A schedule is a list of lines, with one space between words:
   deliver P             packet P of the report reaches the node that it was sent to
   tick N MS             the clock of node N goes on by MS milliseconds, and what is due is done
 N and M are 1 to 255, K, S and T 1 to 65535, P is 1 to 4294967295, MS 0 to 86400000, without leading zeros. HEX is a frame
-from its protocol field on, 2 to 1494 bytes as hex digits in lower case. SECRET is the secret that both ends of a tunnel
-share, 1 to 64 bytes as hex digits, or - where there is none. MODE is plain, or hide where there is a secret: then the
-numbers of the callers are hidden by it. A schedule has at most 1048576 lines and 67108864 bytes.
+from its protocol field on, 2 to 1494 bytes as hex digits in lower case, and in a frame line an Ethernet frame from its
+destination address on, 1 to 2048 bytes. SECRET is the secret that both ends of a tunnel share, 1 to 64 bytes as hex
+digits, or - where there is none. MODE is plain, or hide where there is a secret: then the numbers of the callers are
+hidden by it. A schedule has at most 1048576 lines and 67108864 bytes.
 M of a lac line may be declared later, or never: then what is sent to it can't be delivered.
 
 A line that doesn't fit ends the run, which says why:
@@ -50,6 +52,7 @@ A report has lines for what is done in line L of the schedule, and ends with wha
   L up N S B SIDE HEX                 node N hands up a frame in its call S, the B-th of all calls, to the
                                       subscriber (sub) or to the network (net)
   L gone N S                          call S of node N ended
+  L frame N HEX                       node N sends an Ethernet frame to a PPPoE host
   L drop N WHY                        node N ignores what came
   L cause N WHY                       node N refuses what was asked for, or ends a call, or closes a tunnel
   end N tunnel T M R STATE 0 current complete

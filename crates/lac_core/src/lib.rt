@@ -1,142 +1,198 @@
-//! A LAC: an end whose ports ring, and which opens tunnels to its LNS (RFC 2661 sections 5 and 6).
+//! A LAC: an end whose ports ring and which PPPoE hosts come to, and which opens tunnels to its LNS (RFC 2661 sections 5
+//! and 6, RFC 2516 section 5).
+//!
+//! A frame is read, answered or handed to the end as an event. All that takes memory comes before the end's step, or is taken
+//! back without memory, so that a LAC is as before where memory is wanting.
 #![tactic(auto)]
 
-ghost use Rattle.std.specs.Prelude.{◌≡◌, IfOk};
+ghost use Rattle.std.specs.Prelude.{◌≡◌, ◌∷◌, [], Some, None, IfOk};
 ghost use Rattle.id_table.specs.Ids.{at};
-ghost use Rattle.wire_base.specs.declared.cause.Cause.TheVariants as causes;
 ghost use Rattle.protocol_model.specs.declared.out.Out.TheVariants as outs;
 ghost use Rattle.protocol_model.specs.declared.tunnel.Role.TheVariants as roles;
-ghost use Rattle.protocol_model.specs.End.{env_of, rings_at, new_end, plain_step, step, look_in};
+ghost use Rattle.protocol_model.specs.Access.{new_access, as_it_was, told_because, of_step, serves, farewell};
+ghost use Rattle.protocol_model.specs.End.{new_end, step, look_in};
 ghost use Rattle.end_core.specs.Fits.{fits};
-ghost use Rattle.end_core.specs.Gives.{GivesStep};
 ghost use Rattle.end_core.specs.Rows.{tunnel_rows};
+ghost use Rattle.end_core.specs.Sessions.{subscriber_at};
+ghost use Rattle.lac_core.specs.Gives.{GivesServed};
 
-use end_core::{End, EndRows, Given};
-use protocol_model::{Config, Event, Look, Out, Role};
+mod answers;
+mod ends;
+mod hosts;
+
+use end_core::{End, EndRows};
+use pppoe_discovery::write_padt;
+use pppoe_session::Table;
+use protocol_model::{Config, Event, Look, Out, Role, mac_of};
 use std::alloc::Global;
 use std::marker::Model;
-use tunnel_fsm::TunnelState;
-use wire_base::{Cause, NoMemory, Why};
+use tunnel_core::{Moves, Outputs};
+use wire_base::{Bytes, Cause, NoMemory, Why};
 
-/// The cause of an opening or a ring that is refused where the LAC has as many tunnels as it may.
-fn too_many_tunnels() -> Out
-    ensures { result ≡ outs.Cause causes.Tunnels }
-{
-    Out::Cause {
-        cause: Cause::Tunnels,
-    }
-}
-
-/// A port rings: over the least tunnel to the LNS that is open, else over the least that is to open, else over a new one.
-#[tactic(auto, unfolding(protocol_model::specs::End::rings_at, protocol_model::specs::End::rings_in))]
-fn ring(end: &mut End, moment: u64, block: [u8; 16], event: &Event) -> Result<Given, NoMemory>
-    ensures given { GivesStep result (rings_at end.old (env_of end.old moment block) event.now) end.old end.new }
-    ensures role { end.new.role ≡ end.old.role }
-{
-    let lns = end.lns();
-    if let Some(id) = end.least_in(TunnelState::Established, lns)? {
-        return end.run_main(moment, block, event, id);
-    }
-    if let Some(id) = end.least_in(TunnelState::WaitCtlReply, lns)? {
-        return end.run_main(moment, block, event, id);
-    }
-    end.run_one_more(moment, block, event, lns, too_many_tunnels())
+/// What a step of a LAC gave.
+#[derive(Drop)]
+pub struct LacGiven {
+    /// What goes to the outside, in order.
+    pub outputs: Outputs,
+    /// What the step did, in order.
+    pub moves: Moves,
+    /// The Ethernet frame that answers a host, from its destination address on and without padding. It is sent behind all
+    /// outputs.
+    pub reply: Option<Bytes>,
 }
 
 /// A LAC.
 #[derive(Drop)]
 pub struct Lac {
+    alloc: Global,
     end: End,
+    /// The key of the cookies.
+    key: [u8; 16],
+    /// The hosts that were admitted, by the sessions of their calls.
+    hosts: Table,
 }
 
 impl Model for Lac {
     ghost use Rattle.std.specs.Prelude.{◌≡◌};
-    ghost use Rattle.protocol_model.specs.End.{End as Known};
+    ghost use Rattle.protocol_model.specs.Access.{Concentrator};
     ghost use Rattle.protocol_model.specs.declared.tunnel.Role.TheVariants as roles;
 
-    ghost Value = { Known };
+    ghost Value = { Concentrator };
 
-    ghost view = { λ l. l.end };
+    ghost view = { λ l. record { end = l.end; access = record { key = l.key; held = l.hosts } } };
 
     ghost invariant = { λ l. l.end.role ≡ roles.Lac };
 }
 
 impl Lac {
-    /// A LAC without a tunnel. It takes no memory.
-    pub fn new(alloc: Global, config: Config) -> Lac
-        ensures { result ≡ new_end roles.Lac config }
+    /// A LAC without a tunnel and without a host, whose cookies are made with this key of 16 bytes (RFC 2516 section 5.2). It
+    /// takes no memory.
+    pub fn new(alloc: Global, config: Config, key: [u8; 16]) -> Lac
+        ensures { result ≡ record { end = new_end roles.Lac config; access = new_access key } }
     {
         Lac {
+            alloc,
             end: End::new(alloc, Role::Lac, config),
+            key,
+            hosts: Table::new(alloc),
         }
     }
 
     /// The LAC as an end, with its tunnels.
     pub fn end(&self) -> &End
-        ensures { result.now ≡ self.now }
+        ensures { result.now ≡ self.now.end }
     {
         &self.end
     }
 
     /// Why an event doesn't fit, where it names a call that isn't live, or a tunnel that isn't, or is closed.
     pub fn fits(&self, event: &Event) -> Option<Why>
-        ensures { result ≡ fits self.now event.now }
+        ensures { result ≡ fits self.now.end event.now }
     {
         self.end.fits(event)
     }
 
     /// What the data plane sees of a session: nothing, where no call is live under its id.
     pub fn look(&self, session: u16) -> Look
-        ensures { result ≡ look_in (at self.now.calls session) }
+        ensures { result ≡ look_in (at self.now.end.calls session) }
     {
         self.end.look(session)
     }
 
     /// The tunnels with their calls, by local ids, for printing.
     pub fn tunnel_rows(&self, alloc: Global) -> Result<EndRows, NoMemory>
-        ensures { IfOk result (λ rows. rows ≡ tunnel_rows self.now) }
+        ensures { IfOk result (λ rows. rows ≡ tunnel_rows self.now.end) }
     {
         self.end.tunnel_rows(alloc)
     }
 
-    /// A step on an event of which nothing is hidden.
-    #[tactic(auto, unfolding(protocol_model::specs::End::plain_step, protocol_model::specs::End::step_in, protocol_model::specs::End::only_by))]
-    fn plain_step(&mut self, moment: u64, block: [u8; 16], event: &Event) -> Result<Given, NoMemory>
-        ensures { GivesStep result (plain_step self.old moment block event.now) self.old self.new }
+    /// The six bytes of the subscriber of a session: the Ethernet address of a host, in the order of the wire, or what stands in
+    /// its place for a port. None where no call is live under the id.
+    pub fn subscriber(&self, session: u16) -> Option<[u8; 6]>
+        ensures { result ≡ subscriber_at self.now.end session }
     {
-        match event {
-            Event::Datagram { peer, bytes } => {
-                self.end
-                    .receive(moment, block, event, *peer, bytes.as_slice())
+        self.end.subscriber(session)
+    }
+
+    /// The PADT that tells a host that its call ended (RFC 2516 section 5.5), a whole Ethernet frame of 20 bytes. None where no
+    /// host had the call. A session id has 16 bits, and of a larger number the lower ones count.
+    #[tactic(auto, unfolding(protocol_model::specs::Access::farewell))]
+    pub fn padt(&self, alloc: Global, session: u32) -> Result<Option<Bytes>, NoMemory>
+        ensures { IfOk result (λ p. p ≡ farewell self.now.end.config.number self.now.access session) }
+    {
+        let session = (session % 65_536) as u16;
+        match self.hosts.holder(session) {
+            None => Ok(None),
+            Some(host) => {
+                let mac = mac_of(self.end.number());
+                Ok(Some(write_padt(alloc, &mac, &host, session)?))
             }
-            Event::Ring { .. } => ring(&mut self.end, moment, block, event),
-            Event::Payload { session, .. }
-            | Event::Hang { session }
-            | Event::DropCall { session } => {
-                self.end.run_for_call(moment, block, event, *session)
-            }
-            Event::OpenTunnel => {
-                let lns = self.end.lns();
-                self.end
-                    .run_one_more(moment, block, event, lns, too_many_tunnels())
-            }
-            Event::CloseTunnel { tunnel } => {
-                self.end.run_main(moment, block, event, u32::from(*tunnel))
-            }
-            Event::Tick => self.end.tick_all(moment, block),
-            Event::Lower { .. } => self.end.drop_with(Why::Node),
         }
     }
 
-    /// A step of the LAC on an event, at a moment in milliseconds, with a block of random bytes. What a datagram hides by the
-    /// LAC's secret is uncovered first (RFC 2661 section 4.3). An event of an LNS is dropped with `node`, and one of a call or a
-    /// tunnel that isn't live with `call` or `tunnel`. Where memory is wanting, the LAC is as before.
-    pub fn step(&mut self, moment: u64, block: [u8; 16], event: &Event) -> Result<Given, NoMemory>
-        ensures { GivesStep result (step self.old moment block event.now) self.old self.new }
+    /// What comes is ignored.
+    fn ignore(&self, why: Why) -> Result<LacGiven, NoMemory>
+        ensures { GivesServed result (as_it_was self.now (outs.Drop why ∷ []) None) self.now self.now }
     {
-        match self.end.plain_event(event)? {
-            None => self.plain_step(moment, block, event),
-            Some(plain) => self.plain_step(moment, block, &plain),
+        let mut outputs = Outputs::new(self.alloc);
+        outputs.push(Out::Drop { why })?;
+        Ok(LacGiven {
+            outputs,
+            moves: Moves::new(self.alloc),
+            reply: None,
+        })
+    }
+
+    /// A host is answered, and the cause told where there is one.
+    fn answer(&self, because: Option<Cause>, frame: Bytes) -> Result<LacGiven, NoMemory>
+        ensures { GivesServed result (as_it_was self.now (told_because because) (Some frame)) self.now self.now }
+    {
+        let mut outputs = Outputs::new(self.alloc);
+        if let Some(cause) = because {
+            outputs.push(Out::Cause { cause })?;
+        }
+        Ok(LacGiven {
+            outputs,
+            moves: Moves::new(self.alloc),
+            reply: Some(frame),
+        })
+    }
+
+    /// A step of the end, which answers no host.
+    fn run(&mut self, moment: u64, block: [u8; 16], event: &Event) -> Result<LacGiven, NoMemory>
+        ensures { GivesServed result (of_step self.old.access None (step self.old.end moment block event.now)) self.old self.new }
+    {
+        let given = ends::step(&mut self.end, moment, block, event)?;
+        Ok(LacGiven {
+            outputs: given.outputs,
+            moves: given.moves,
+            reply: None,
+        })
+    }
+
+    /// A step of the LAC on an event, at a moment in milliseconds, with a block of random bytes.
+    ///
+    /// A frame has an Ethernet header and no check sequence, and at most 2,048 bytes. A PADI is answered by a PADO, and a PADR by
+    /// a PADS (RFC 2516 sections 5.1 to 5.4): one with a cookie of the LAC's rings as a port does, and one that repeats the PADR
+    /// of a live call gets the session of that call again. A frame of a session is for its call, and a PADT ends it, where the
+    /// source is the host that got it; else it is dropped with `call` or `address`.
+    ///
+    /// What a datagram hides by the LAC's secret is uncovered first (RFC 2661 section 4.3). An event of an LNS is dropped with
+    /// `node`, as is that a host was admitted, and one of a call or a tunnel that isn't live with `call` or `tunnel`. Where
+    /// memory is wanting, the LAC is as before.
+    #[tactic(auto, unfolding(protocol_model::specs::Access::serves))]
+    pub fn step(
+        &mut self,
+        moment: u64,
+        block: [u8; 16],
+        event: &Event,
+    ) -> Result<LacGiven, NoMemory>
+        ensures { GivesServed result (serves self.old moment block event.now) self.old self.new }
+    {
+        match event {
+            Event::Frame { bytes } => self.take_frame(moment, block, bytes.as_slice()),
+            Event::Admitted { .. } => self.ignore(Why::Node),
+            _ => self.run(moment, block, event),
         }
     }
 }

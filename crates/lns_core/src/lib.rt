@@ -88,9 +88,12 @@ impl Lns {
                 self.end.run_main(moment, block, event, u32::from(*tunnel))
             }
             Event::Tick => self.end.tick_all(moment, block),
-            Event::Ring { .. } | Event::Payload { .. } | Event::Hang { .. } | Event::OpenTunnel => {
-                self.end.drop_with(Why::Node)
-            }
+            Event::Ring { .. }
+            | Event::Frame { .. }
+            | Event::Admitted { .. }
+            | Event::Payload { .. }
+            | Event::Hang { .. }
+            | Event::OpenTunnel => self.end.drop_with(Why::Node),
         }
     }
 

@@ -1,19 +1,23 @@
 -- What is read of a frame's tags is no longer than the frame, and what is written fits into a frame.
 use Rattle.std.proofs.Common.{rules, ◌≡◌, ℕ, ◌+◌, ◌≤◌, Bool, true, false, cond, eqb, List, [], ◌∷◌, ◌++◌, length, Option, Some, None, ap, ◌∙◌, arith}
-use Rattle.std.specs.Prelude.{IfSome, find}
+use Rattle.std.specs.Prelude.{IfSome, IfOk, find, Result, Ok, Err}
 use Rattle.std.specs.Option.{option_map}
 use Rattle.std.proofs.lemmas.Grind.{flat_map-append}
 use Rattle.std.proofs.lemmas.List.{length-append}
 use Rattle.std.proofs.lemmas.List.Concat.{flat_map-cons}
+use Rattle.wire_base.specs.declared.bytes.NoMemory.{NoMemory}
 use Rattle.wire_base.specs.declared.cause.Cause.{Cause}
 use Rattle.wire_base.specs.Words.{cause_word}
 use Rattle.wire_base.specs.Numbers.{u16_bytes}
 use Rattle.wire_base.specs.NumberLaws.{length-u16_bytes}
 use Rattle.pppoe_wire.specs.declared.frame.Pppoe.{Pppoe}
 use Rattle.pppoe_wire.specs.declared.frame.Tag.{Tag}
-use Rattle.pppoe_wire.specs.Spelling.{head_bytes, head_of, tag_bytes, spelling_of, spelling}
+use Rattle.pppoe_wire.specs.Spelling.{Head, head_bytes, head_of, tag_bytes, spelling_of, spelling}
 use Rattle.pppoe_wire.specs.Grammar.{HasFrame, HasTags}
 use Rattle.pppoe_discovery.specs.Asking.{is_of, value_of, is_served, served, names_in, service_of, asked_by, IsShort, AreShort}
+use Rattle.pppoe_discovery.specs.declared.outcome.Discovered.{Discovered}
+use Rattle.pppoe_discovery.specs.declared.outcome.Discovered.TheVariants.{Ignored, Reply, Admit, Left, Carried}
+use Rattle.pppoe_discovery.specs.Told.{IsPayloadOf, IsWithin}
 use Rattle.pppoe_discovery.specs.Replies.{tag, echo, echoes, error_kind, pado_tags, pads_tags, refusal_tags}
 
 -- ---- one tag
@@ -122,3 +126,38 @@ refusal_fits because uniq relay u r =
     let w = word_fits because in
     let a = length-longer (tag (error_kind because) (cause_word because)) (echoes uniq relay) in
     omega arith
+
+-- ---- what is carried
+
+length-head_bytes : (h : Head) → length h.dst ≡ 6 → length h.src ≡ 6 → length (head_bytes h) ≡ 20
+unfolding head_bytes
+length-head_bytes h dst src =
+    let p = h.dst ++ h.src ++ u16_bytes h.ethertype in
+    let q = p ++ (h.version ∷ h.code ∷ []) in
+    let a : length (head_bytes h) ≡ length (q ++ u16_bytes h.session) + length (u16_bytes h.said) = length-append (q ++ u16_bytes h.session) (u16_bytes h.said) in
+    let b : length (q ++ u16_bytes h.session) ≡ length q + length (u16_bytes h.session) = length-append q (u16_bytes h.session) in
+    let c : length q ≡ length p + 2 = length-append p (h.version ∷ h.code ∷ []) in
+    let d : length p ≡ length (h.dst ++ h.src) + length (u16_bytes h.ethertype) = length-append (h.dst ++ h.src) (u16_bytes h.ethertype) in
+    let e = length-append h.dst h.src in
+    let f = length-u16_bytes h.ethertype in
+    let g = length-u16_bytes h.session in
+    let i = length-u16_bytes h.said in
+    omega (arith, dst, src)
+
+pub payload_within : (bytes : List ℕ) (f : Pppoe) (found : Discovered) → HasFrame bytes f → IsPayloadOf f found → IsWithin bytes found
+payload_within bytes f (Ignored why) h is = tt
+payload_within bytes f (Reply because frame) h is = tt
+payload_within bytes f (Admit src service uniq relay) h is = tt
+payload_within bytes f (Left src session) h is = tt
+payload_within bytes f (Carried src session start stop) h is =
+    let a = ap length h.parts in
+    let b = length-append (head_bytes (head_of f) ++ f.payload) h.padding in
+    let c = length-append (head_bytes (head_of f)) f.payload in
+    let d = length-head_bytes (head_of f) h.fits.dst h.fits.src in
+    let s = h.fits.starts in
+    let e = h.fits.ends in
+    (omega (arith, is.0, is.1), omega (arith, is.1))
+
+pub answer_within : (bytes : List ℕ) (f : Pppoe) (r : Result Discovered NoMemory) → HasFrame bytes f → IfOk r (λ found. IsPayloadOf f found) → IfOk r (λ found. IsWithin bytes found)
+answer_within bytes f (Ok found) h is = payload_within bytes f found h is
+answer_within bytes f (Err e) h is = tt

@@ -5,6 +5,7 @@ ghost use Rattle.pppoe_wire.specs.Reading.{tags_of};
 ghost use Rattle.pppoe_discovery.specs.Asking.{IsShort, AreShort};
 ghost use Rattle.pppoe_discovery.specs.Discovery.{is_for, offer, admission, requested, taken, discovered};
 ghost use Rattle.pppoe_discovery.specs.Replies.{refusal};
+ghost use Rattle.pppoe_discovery.specs.Told.{MayBeTold, IsPayloadOf, IsWithin};
 ghost use Rattle.pppoe_discovery.specs.declared.outcome.Discovered.TheVariants.{Reply};
 ghost use Rattle.pppoe_wire.specs.Spelling.{frame_bytes};
 
@@ -37,7 +38,8 @@ fn on_padi(
 ) -> Result<Discovered, NoMemory>
     requires name { length name.now ≤ 255 }
     requires short { AreShort asked.now }
-    ensures { IfOk result (λ found. found ≡ offer key.now mac.now name.now src.now asked.now asked.now.service) }
+    ensures found { IfOk result (λ found. found ≡ offer key.now mac.now name.now src.now asked.now asked.now.service) }
+    ensures told { IfOk result (λ found. MayBeTold found) }
 {
     let Some(service) = &asked.service else {
         return Ok(Discovered::Ignored { why: Why::Service });
@@ -84,7 +86,8 @@ fn on_padr(
     asked: Asked,
 ) -> Result<Discovered, NoMemory>
     requires { AreShort asked }
-    ensures { IfOk result (λ found. found ≡ admission key.now mac.now src.now asked asked.service) }
+    ensures found { IfOk result (λ found. found ≡ admission key.now mac.now src.now asked asked.service) }
+    ensures told { IfOk result (λ found. MayBeTold found) }
 {
     let Asked {
         service,
@@ -116,7 +119,8 @@ fn on_request(
 ) -> Result<Discovered, NoMemory>
     requires name { length name.now ≤ 255 }
     requires short { length frame.now.payload ≤ 2048 }
-    ensures { IfOk result (λ found. found ≡ requested key.now mac.now name.now frame.now (tags_of frame.now.payload)) }
+    ensures found { IfOk result (λ found. found ≡ requested key.now mac.now name.now frame.now (tags_of frame.now.payload)) }
+    ensures told { IfOk result (λ found. MayBeTold found) }
 {
     let tags = match read_tags(alloc, frame.payload.as_slice()) {
         Ok(tags) => tags,
@@ -142,7 +146,9 @@ fn on_whole(
 ) -> Result<Discovered, NoMemory>
     requires name { length name.now ≤ 255 }
     requires short { length frame.now.payload ≤ 2048 }
-    ensures { IfOk result (λ found. found ≡ taken key.now mac.now name.now frame.now) }
+    ensures found { IfOk result (λ found. found ≡ taken key.now mac.now name.now frame.now) }
+    ensures told { IfOk result (λ found. MayBeTold found) }
+    ensures payload { IfOk result (λ found. IsPayloadOf frame.now found) }
 {
     if !is_for(mac, frame) {
         return Ok(Discovered::Ignored { why: Why::Address });
@@ -181,7 +187,9 @@ pub fn on_frame(
 ) -> Result<Discovered, NoMemory>
     requires name { length name.now ≤ 255 }
     requires frame { length frame.now ≤ 2048 }
-    ensures { IfOk result (λ found. found ≡ discovered key.now mac.now name.now frame.now) }
+    ensures found { IfOk result (λ found. found ≡ discovered key.now mac.now name.now frame.now) }
+    ensures told { IfOk result (λ found. MayBeTold found) }
+    ensures within { IfOk result (λ found. IsWithin frame.now found) }
 {
     let why = match read_frame(alloc, frame) {
         Ok(frame) => return on_whole(alloc, key, mac, name, &frame),

@@ -3,10 +3,11 @@
 use Rattle.std.specs.Prelude.{ℕ, Bool, ◌&&◌, List, Option, Some, None, Result, Ok, Err, ⊤, ◌≡◌, ◌<◌, ◌^◌, ◌≤◌, true, false}
 use Rattle.std.specs.declared.cmp.Ordering.{Ordering}
 use Rattle.std.specs.Ordering.{nat_cmp, ordering_then, is_gt}
-use Rattle.std.specs.List.{list_any}
+use Rattle.std.specs.List.{list_any, find, All}
+use Rattle.std.specs.List.Sorted.{IsStrictlySortedBy}
 use Rattle.std.specs.Option.{option_eq, option_map}
 use Rattle.std.specs.Cmp.Lexicographic.{pointwise, slice_cmp}
-use Rattle.std.specs.Map.{lookup, remove_entry}
+use Rattle.std.specs.Map.{lookup, remove_entry, keys_of}
 use Rattle.std.specs.BTreeMap.{is_at, insert_entry}
 use Rattle.std.specs.Bool.{nat_eq}
 use Rattle.pppoe_session.specs.declared.Subscriber.{Subscriber}
@@ -44,6 +45,10 @@ abbrev pub is_repeat_of : List ℕ → Option (List ℕ) → Option Subscriber �
 is_repeat_of mac uniq None = false
 is_repeat_of mac uniq (Some who) = is_repeat mac uniq who
 
+-- the least session whose subscriber came by a PADR that this one repeats
+unfoldable pub repeat_in : List (ℕ × Subscriber) → List ℕ → Option (List ℕ) → Option ℕ
+repeat_in es mac uniq = option_map (λ e. e.0) (find (λ e. is_repeat mac uniq e.1) es)
+
 -- no session from one on and below another has the property
 abbrev pub NoneBetween : ℕ → ℕ → (ℕ → Bool) → Type 0
 NoneBetween low high property = (session : ℕ) → low ≤ session → session < high → property session ≡ false
@@ -60,6 +65,10 @@ pair_cmp p q = ordering_then (slice_cmp nat_cmp p.0 q.0) (nat_cmp p.1 q.1)
 -- the pairs are those of the entries
 abbrev pub IsIndexOf : List (ℕ × Subscriber) → List (List ℕ × ℕ) → Type 0
 IsIndexOf es pairs = (mac : List ℕ) (session : ℕ) → list_any (is_at (pair_cmp (mac, session))) pairs ≡ is_from mac (lookup (is_at (nat_cmp session)) es)
+
+-- the sessions ascend, and each fits its 16 bits
+abbrev pub IsInOrder : List (ℕ × Subscriber) → Type 0
+IsInOrder es = IsStrictlySortedBy nat_cmp (keys_of es) × All (λ session. session < 2 ^ 16) (keys_of es)
 
 -- the address of a pair holds its session
 abbrev pub IsHeld : List (ℕ × Subscriber) → List ℕ × ℕ → Type 0

@@ -2,7 +2,7 @@
 #![tactic(auto)]
 
 ghost use Rattle.std.specs.Prelude.{◌≡◌, [], OnOk, OnErr, is_some, IfSome, IfNone, ◌≤◌, ◌-◌, ◌^◌};
-ghost use Rattle.pppoe_session.specs.Subscribers.{subscriber_of, holder_of, admitted, dropped, is_repeat, is_from, is_repeat_of, NoneBetween, IsLeast, IsNextPair, HasNoPair, subscriber, AnswersTaken};
+ghost use Rattle.pppoe_session.specs.Subscribers.{subscriber_of, holder_of, admitted, dropped, is_repeat, is_from, is_repeat_of, repeat_in, NoneBetween, IsLeast, IsNextPair, HasNoPair, subscriber, AnswersTaken};
 
 use std::alloc::Global;
 use std::collections::{BTreeMap, BTreeSet};
@@ -57,13 +57,13 @@ pub struct Table {
 impl Model for Table {
     ghost use Rattle.std.specs.Prelude.{List, ℕ};
     ghost use Rattle.pppoe_session.specs.declared.Subscriber.{Subscriber};
-    ghost use Rattle.pppoe_session.specs.Subscribers.{IsIndexOf};
+    ghost use Rattle.pppoe_session.specs.Subscribers.{IsIndexOf, IsInOrder};
 
     ghost Value = { List (ℕ × Subscriber) };
 
     ghost view = { λ t. t.kept.entries };
 
-    ghost invariant = { λ t. IsIndexOf t.kept.entries t.by_mac.keys };
+    ghost invariant = { λ t. IsIndexOf t.kept.entries t.by_mac.keys × IsInOrder t.kept.entries };
 }
 
 impl Table {
@@ -78,8 +78,9 @@ impl Table {
     }
 
     /// Gives this session to the subscriber that a PADR from this address, and with this Host-Uniq where it has one,
-    /// comes from. A session that someone holds is `Taken`. After an error the table is as before.
-    #[tactic(auto, unfolding(crate::specs::Subscribers::admitted, crate::specs::Subscribers::subscriber_of))]
+    /// comes from. A session that someone holds is `Taken`. After an error the table is as before. Where the subscriber is taken off
+    /// again by `drop_one`, it is too.
+    #[tactic(auto, unfolding(crate::specs::Subscribers::admitted, crate::specs::Subscribers::dropped, crate::specs::Subscribers::subscriber_of))]
     pub fn admit(
         &mut self,
         mac: [u8; 6],
@@ -89,6 +90,7 @@ impl Table {
         ensures ok { OnOk result (self.new ≡ admitted self.old session (subscriber mac uniq)) }
         ensures err { OnErr result (self.new ≡ self.old) }
         ensures taken { AnswersTaken session (subscriber_of self.old session) result }
+        ensures undone { OnOk result (dropped self.new session ≡ self.old) }
     {
         if self.kept.contains_key(&session) {
             return Err(AdmitError::Taken { session });
@@ -144,8 +146,11 @@ impl Table {
     /// The least session whose subscriber came by a PADR with this address and this Host-Uniq, or with this address and
     /// no Host-Uniq where none is given.
     pub fn repeat_of(&self, mac: [u8; 6], uniq: &Option<Bytes>) -> Option<u16>
-        ensures { IsLeast (λ s. is_repeat_of mac uniq.now (subscriber_of self.now s)) result }
+        ensures least { IsLeast (λ s. is_repeat_of mac uniq.now (subscriber_of self.now s)) result }
+        ensures exact { result ≡ repeat_in self.now mac uniq.now }
     {
+        // A look at the field tells the proof the table's invariant.
+        let _ = &self.kept;
         let mut first = 0u16;
         while let Some(session) = self.next_from(mac, first) {
             if self.is_repeat_at(session, &mac, uniq) {

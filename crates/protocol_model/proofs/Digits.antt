@@ -1,14 +1,15 @@
 -- How long a Calling Number is.
-use Rattle.std.proofs.Common.{◌≡◌, ℕ, length, arith}
+use Rattle.std.proofs.Common.{◌≡◌, ℕ, ◌++◌, List, length, replicate, arith}
+use Rattle.std.proofs.lemmas.List.{length-take-le, length-append, length-replicate}
 use Rattle.hex.specs.Hex.{lower_digits}
 use Rattle.hex.proofs.HexLemmas.{length-encode_with}
-use Rattle.wire_base.specs.Numbers.{u16_bytes}
-use Rattle.protocol_model.specs.Names.{subscriber, calling_number}
+use Rattle.protocol_model.specs.Names.{six, calling_number}
 
-six_bytes : (port : ℕ) → length (subscriber port) ≡ 6
-unfolding u16_bytes
-six_bytes port = omega arith
+six_bytes : (who : List ℕ) → length (six who) ≡ 6
+six_bytes who =
+    length-take-le 6 (who ++ replicate 6 0)
+    (let added = length-append who (replicate 6 0) in let zeros = length-replicate {A = ℕ} 6 0 in omega (arith, added, zeros))
 
-pub length-calling_number : (port : ℕ) → length (calling_number port) ≡ 12
+pub length-calling_number : (who : List ℕ) → length (calling_number who) ≡ 12
 unfolding calling_number
-length-calling_number port = let e = length-encode_with lower_digits (subscriber port) in let s = six_bytes port in omega arith
+length-calling_number who = let e = length-encode_with lower_digits (six who) in let s = six_bytes who in omega (arith, e, s)

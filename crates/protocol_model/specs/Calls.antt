@@ -1,5 +1,5 @@
 -- Calls, and what the data plane sees of them.
-use Rattle.std.specs.Prelude.{ℕ, ◌+◌, List, [], ◌∷◌, ◌++◌, Bool, true, false, ◌==◌, not, nat_le, nat_lt, bytes_eq, length, take, drop, ◌&&◌, if◌then◌else◌}
+use Rattle.std.specs.Prelude.{ℕ, ◌+◌, List, [], ◌∷◌, ◌++◌, replicate, Bool, true, false, ◌==◌, not, nat_le, nat_lt, bytes_eq, length, take, drop, ◌&&◌, if◌then◌else◌}
 use Rattle.wire_base.specs.declared.why.Why.{Why}
 use Rattle.wire_base.specs.declared.why.Why.TheVariants as why
 use Rattle.wire_base.specs.declared.letter.Side.{Side}
@@ -39,15 +39,15 @@ unfoldable pub advanced : Role → CallEvent → ℕ → Call → Call
 advanced role e moment c = gone_to (call_row role c.state e).0 e moment c
 
 -- a call that nothing came to yet
-abbrev pub idle_call : ℕ → ℕ → Call
-idle_call remote port = record { remote = remote; state = Idle; since = 0; port = port; steps = [] }
+abbrev pub idle_call : ℕ → List ℕ → Call
+idle_call remote who = record { remote = remote; state = Idle; since = 0; subscriber = who; steps = [] }
 
--- a call that a port rings for, and one that the peer asks for
-unfoldable pub rung : Role → ℕ → ℕ → Call
-rung role port moment = advanced role Ring moment (idle_call 0 port)
+-- a call that a subscriber rings for, and one that the peer asks for
+unfoldable pub rung : Role → List ℕ → ℕ → Call
+rung role who moment = advanced role Ring moment (idle_call 0 who)
 
 unfoldable pub asked_for : Role → ℕ → ℕ → Call
-asked_for role remote moment = advanced role IcrqAcc moment (idle_call remote 0)
+asked_for role remote moment = advanced role IcrqAcc moment (idle_call remote (replicate 6 0))
 
 abbrev pub is_request : CallAction → Bool
 is_request SendIcrq = true

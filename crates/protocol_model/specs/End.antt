@@ -24,7 +24,7 @@ use Rattle.protocol_model.specs.declared.tunnel.Control.{Control}
 use Rattle.protocol_model.specs.declared.tunnel.Role.{Role}
 use Rattle.protocol_model.specs.declared.tunnel.Role.TheVariants.{Lac, Lns}
 use Rattle.protocol_model.specs.declared.event.Event.{Event}
-use Rattle.protocol_model.specs.declared.event.Event.TheVariants.{Datagram, Ring, Payload, Lower, Hang, OpenTunnel, DropCall, CloseTunnel, Tick}
+use Rattle.protocol_model.specs.declared.event.Event.TheVariants.{Datagram, Ring, Frame, Admitted, Payload, Lower, Hang, OpenTunnel, DropCall, CloseTunnel, Tick}
 use Rattle.protocol_model.specs.declared.out.Out.{Out}
 use Rattle.protocol_model.specs.declared.out.Out.TheVariants.{Send, Up, Drop, Cause}
 use Rattle.protocol_model.specs.declared.moves.Move.{Move}
@@ -362,6 +362,8 @@ only_by Lns e s = if is_lac e.role then gives_only e (Drop why.Node) else s
 unfoldable pub step_in : End → Env → Event → Stepped
 step_in e env (Datagram peer bytes) = receives e env peer bytes (header_of bytes)
 step_in e env (Ring port) = only_by Lac e (rings_at e env (Ring port))
+step_in e env (Admitted mac) = only_by Lac e (rings_at e env (Admitted mac))
+step_in e env (Frame bytes) = gives_only e (Drop why.Node)
 step_in e env (Payload session frame) = only_by Lac e (for_call e env (Payload session frame) (at e.calls session))
 step_in e env (Lower session frame) = only_by Lns e (for_call e env (Lower session frame) (at e.calls session))
 step_in e env (Hang session) = only_by Lac e (for_call e env (Hang session) (at e.calls session))

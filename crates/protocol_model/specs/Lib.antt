@@ -9,6 +9,7 @@ pub mod Moments
 pub mod Channels
 pub mod Turn
 pub mod End
+pub mod Access
 pub mod Texts
 pub mod World
 pub mod Run

@@ -29,8 +29,8 @@ opening_of role c challenge response local = record {
 }
 
 -- the request for a call of a LAC: its session id is its serial number too
-abbrev pub request_of : ℕ → ℕ → Message
-request_of s port = Icrq s s (Some (calling_number port))
+abbrev pub request_of : ℕ → List ℕ → Message
+request_of s who = Icrq s s (Some (calling_number who))
 
 -- its pairs where the end hides the calling number: behind a Random Vector, by the secret (RFC 2661 section 4.3)
 abbrev pub hidden_by : Bool → Option (List ℕ) → List ℕ → Message → Option (List ℕ)
@@ -38,8 +38,8 @@ hidden_by true (Some secret) vector m = Some (spelling (pairs_with (Some secret)
 hidden_by hide secret vector m = None
 
 -- the vector is the step's block
-abbrev pub hidden_request : Config → List ℕ → ℕ → ℕ → Option (List ℕ)
-hidden_request c block s port = hidden_by c.hide c.secret (sixteen block) (request_of s port)
+abbrev pub hidden_request : Config → List ℕ → ℕ → List ℕ → Option (List ℕ)
+hidden_request c block s who = hidden_by c.hide c.secret (sixteen block) (request_of s who)
 
 -- the connection of a call: 100 Mbit a second, synchronous framing
 abbrev pub connection : Message

@@ -1,5 +1,5 @@
 -- The lines of the report.
-use Rattle.std.specs.Prelude.{ℕ, List, ◌++◌, codes}
+use Rattle.std.specs.Prelude.{ℕ, List, [], ◌++◌, codes, Option, Some, None}
 use Rattle.std.specs.List.{flat_map}
 use Rattle.std.specs.Fmt.{decimal}
 use Rattle.hex.specs.Hex.{encode_lower}
@@ -42,22 +42,35 @@ up_text line node session birth side frame =
 unfoldable pub gone_text : ℕ → ℕ → ℕ → List ℕ
 gone_text line node session = ended (decimal line & codes "gone" & decimal node & decimal session)
 
+-- an Ethernet frame that a LAC sends to a host: line, node, and its bytes in hex
+unfoldable pub frame_text : ℕ → ℕ → List ℕ → List ℕ
+frame_text line node bytes = ended (decimal line & codes "frame" & decimal node & encode_lower bytes)
+
+-- the PADT to the host of a call that ended, where a host had it
+abbrev pub farewell_text : ℕ → ℕ → Option (List ℕ) → List ℕ
+farewell_text line node None = []
+farewell_text line node (Some padt) = frame_text line node padt
+
 -- ---- entries
 
--- a line of the report, before the tables at its end
+-- lines of the report, before the tables at its end
 pub data Entry : Type 0 where
   -- of a packet with its number, from a node, to a node
   Sends : (line packet from to : ℕ) (bytes : List ℕ) → Entry
   -- of a frame that a node hands up in a call, by its session and its birth
   HandsUp : (line node session birth : ℕ) (side : Side) (frame : List ℕ) → Entry
-  Ends : (line node session : ℕ) → Entry
+  -- of a call that ended, with the PADT to its host, where a host had it
+  Ends : (line node session : ℕ) (padt : Option (List ℕ)) → Entry
+  -- of an Ethernet frame that a LAC sends to a host
+  Frames : (line node : ℕ) (bytes : List ℕ) → Entry
   Drops : (line node : ℕ) (why : Why) → Entry
   Causes : (line node : ℕ) (cause : Cause) → Entry
 
 abbrev pub entry_text : Entry → List ℕ
 entry_text (Sends line packet from to bytes) = send_text line packet from to bytes
 entry_text (HandsUp line node session birth side frame) = up_text line node session birth side frame
-entry_text (Ends line node session) = gone_text line node session
+entry_text (Ends line node session padt) = gone_text line node session ++ farewell_text line node padt
+entry_text (Frames line node bytes) = frame_text line node bytes
 entry_text (Drops line node why) = drop_text line node why
 entry_text (Causes line node cause) = cause_text line node cause
 

@@ -40,7 +40,7 @@ use Rattle.protocol_model.specs.declared.tunnel.Config.{Config}
 use Rattle.protocol_model.specs.declared.tunnel.Control.{Control}
 use Rattle.protocol_model.specs.declared.tunnel.Role.{Role}
 use Rattle.protocol_model.specs.declared.event.Event.{Event}
-use Rattle.protocol_model.specs.declared.event.Event.TheVariants.{Datagram, Ring, Payload, Lower, Hang, OpenTunnel, DropCall, CloseTunnel}
+use Rattle.protocol_model.specs.declared.event.Event.TheVariants.{Datagram, Ring, Frame, Admitted, Payload, Lower, Hang, OpenTunnel, DropCall, CloseTunnel}
 use Rattle.protocol_model.specs.declared.event.Event.TheVariants as event_of
 use Rattle.protocol_model.specs.declared.out.Out.{Out}
 use Rattle.protocol_model.specs.declared.out.Out.TheVariants.{Send, Gone, Drop, Cause}
@@ -52,6 +52,7 @@ pub use Rattle.protocol_model.specs.Messages.{opening_of, request_of, hidden_req
 pub use Rattle.protocol_model.specs.Secrets.{challenge_by, response_by}
 pub use Rattle.protocol_model.specs.Moments.{is_over, patience, is_closed, kept_closed, is_being_set_up, is_at_its_end}
 pub use Rattle.protocol_model.specs.Reasons.{Reason, reason, out_of_state, out_of_order, other_version, no_recovery, no_secret, fault_error, fault_reason}
+use Rattle.protocol_model.specs.Names.{subscriber}
 use Rattle.protocol_model.specs.Reading.{header_why, body_of, message_in, CallFault, call_fault_in, TunnelFault, tunnel_fault_in}
 pub use Rattle.protocol_model.specs.Calls.{call_row, advanced, rung, asked_for, is_request, is_reply, is_connection, is_up, is_set_up, owed_by, are_too_many, is_clean_up}
 
@@ -293,9 +294,9 @@ accepts role c asked remote window t = accepts_by role c asked remote window (dr
 -- a waiting call is asked for, and the peer comes to know it
 unfoldable pub requested : Role → Config → ℕ → Call → Turn → Turn
 requested role config s c t =
-    gives_as 0 (request_of s c.port) (hidden_request config t.block s c.port)
+    gives_as 0 (request_of s c.subscriber) (hidden_request config t.block s c.subscriber)
     (with_change (cell.Bind s t.control.local t.control.peer)
-    (with_move (move.Requested (record { tunnel = t.control.local; session = s; port = c.port; hidden = hidden_request config t.block s c.port; given = next_place t.control }))
+    (with_move (move.Requested (record { tunnel = t.control.local; session = s; subscriber = c.subscriber; hidden = hidden_request config t.block s c.subscriber; given = next_place t.control }))
     (with_call s (advanced role call_event.TunnelOpen t.moment c) t)))
 
 unfoldable pub requests : Role → Config → ℕ → Call → Turn → Turn
@@ -317,39 +318,39 @@ requests_all role config (s ∷ ss) calls t = requests_all role config ss calls 
 -- ---- rings
 
 -- a call is born, and added to the tunnel
-unfoldable pub adds : Role → ℕ → ℕ → Turn → Turn
-adds role port s t =
-    with_move (move.Added (record { tunnel = t.control.local; session = s; port = port }))
-    (with_new s (rung role port t.moment) t)
+unfoldable pub adds : Role → List ℕ → ℕ → Turn → Turn
+adds role who s t =
+    with_move (move.Added (record { tunnel = t.control.local; session = s; subscriber = who }))
+    (with_new s (rung role who t.moment) t)
 
 -- over a tunnel that is open the call is asked for at once; over another it waits
-unfoldable pub rings_over : Role → Config → ℕ → ℕ → Turn → Turn
-rings_over role config port s t =
-    if state_number t.control.state == 3 then requests role config s (rung role port t.moment) (adds role port s t) else adds role port s t
+unfoldable pub rings_over : Role → Config → List ℕ → ℕ → Turn → Turn
+rings_over role config who s t =
+    if state_number t.control.state == 3 then requests role config s (rung role who t.moment) (adds role who s t) else adds role who s t
 
-unfoldable pub rings_by : Role → Config → ℕ → Result ℕ IdError → Turn → Turn
-rings_by role config port (Err e) t = with_output (Cause cause.Ids) t
-rings_by role config port (Ok s) t = rings_over role config port s t
+unfoldable pub rings_by : Role → Config → List ℕ → Result ℕ IdError → Turn → Turn
+rings_by role config who (Err e) t = with_output (Cause cause.Ids) t
+rings_by role config who (Ok s) t = rings_over role config who s t
 
 -- over a tunnel that has these calls
-unfoldable pub rings_within : Role → Config → List (ℕ × Call) → ℕ → Turn → Turn
-rings_within role config calls port t =
+unfoldable pub rings_within : Role → Config → List (ℕ × Call) → List ℕ → Turn → Turn
+rings_within role config calls who t =
     if are_too_many calls then with_output (Cause cause.Calls) t
-    else if may_take t.control calls then rings_by role config port (draws t.sessions) t
+    else if may_take t.control calls then rings_by role config who (draws t.sessions) t
     else with_output (Cause cause.Queue) t
 
 -- a new tunnel is opened for the call
-unfoldable pub rings_new : Role → Config → ℕ → Result ℕ IdError → Result ℕ IdError → Turn → Turn
-rings_new role c port (Err e) local t = with_output (Cause cause.Ids) t
-rings_new role c port (Ok s) (Err e) t = with_output (Cause cause.Ids) t
-rings_new role c port (Ok s) (Ok local) t =
-    if has_room t.control then adds role port s (opened role c local t) else with_output (Cause cause.Queue) t
+unfoldable pub rings_new : Role → Config → List ℕ → Result ℕ IdError → Result ℕ IdError → Turn → Turn
+rings_new role c who (Err e) local t = with_output (Cause cause.Ids) t
+rings_new role c who (Ok s) (Err e) t = with_output (Cause cause.Ids) t
+rings_new role c who (Ok s) (Ok local) t =
+    if has_room t.control then adds role who s (opened role c local t) else with_output (Cause cause.Queue) t
 
-unfoldable pub rings : Role → Config → List (ℕ × Call) → ℕ → Turn → Turn
-rings role c calls port t =
+unfoldable pub rings : Role → Config → List (ℕ × Call) → List ℕ → Turn → Turn
+rings role c calls who t =
     if state_number t.control.state == 0
-    then rings_new role c port (draws t.sessions) (draws t.tunnels) t
-    else rings_within role c calls port t
+    then rings_new role c who (draws t.sessions) (draws t.tunnels) t
+    else rings_within role c calls who t
 
 -- ---- letters about the tunnel
 
@@ -679,6 +680,13 @@ hears_control role c letters calls h body t =
 
 -- ---- frames that are given
 
+-- a PPP frame has 2 to 1,494 bytes, with its protocol field
+abbrev pub is_short : List ℕ → Bool
+is_short frame = nat_lt (length frame) 2
+
+abbrev pub is_long : List ℕ → Bool
+is_long frame = nat_lt 1494 (length frame)
+
 -- the frame goes to the tunnel's peer
 unfoldable pub carried : ℕ → List ℕ → Call → Turn → Turn
 carried s frame c t =
@@ -687,7 +695,10 @@ carried s frame c t =
 
 unfoldable pub carries : ℕ → List ℕ → Option Call → Turn → Turn
 carries s frame None t = drops why.Call t
-carries s frame (Some c) t = if is_up c.state then carried s frame c t else drops why.Closed t
+carries s frame (Some c) t =
+    if is_up c.state
+    then (if is_short frame then drops why.Short t else if is_long frame then drops why.Long t else carried s frame c t)
+    else drops why.Closed t
 
 -- ---- time
 
@@ -742,7 +753,9 @@ hears_datagram role c letters calls bytes (Ok h) t =
 -- an event of the tunnel, which has these letters and calls
 unfoldable pub turns : Role → Config → List Letter → List (ℕ × Call) → Event → Turn → Turn
 turns role c letters calls (Datagram peer bytes) t = hears_datagram role c letters calls bytes (header_of bytes) t
-turns role c letters calls (Ring port) t = settles false letters (rings role c calls port t)
+turns role c letters calls (Ring port) t = settles false letters (rings role c calls (subscriber port) t)
+turns role c letters calls (Admitted mac) t = settles false letters (rings role c calls mac t)
+turns role c letters calls (Frame bytes) t = drops why.Node t
 turns role c letters calls (Payload s frame) t = carries s frame (at calls s) t
 turns role c letters calls (Lower s frame) t = carries s frame (at calls s) t
 turns role c letters calls (Hang s) t = settles false letters (closes role cause.Line call_event.LineDrop 1 s (at calls s) t)

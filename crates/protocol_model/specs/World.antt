@@ -5,7 +5,7 @@ use Rattle.id_table.specs.Ids.{at, put}
 use Rattle.wire_base.specs.declared.why.Why.{Why}
 use Rattle.wire_base.specs.declared.why.Why.TheVariants as why
 use Rattle.schedule_text.specs.declared.line.Line.{Line}
-use Rattle.schedule_text.specs.declared.line.Line.TheVariants.{Remark, Lac, Lns, OpenUp, Close, Ring, FromSub, Down, Hang, DropCall, Deliver, Tick}
+use Rattle.schedule_text.specs.declared.line.Line.TheVariants.{Remark, Lac, Lns, OpenUp, Close, Ring, Frame, FromSub, Down, Hang, DropCall, Deliver, Tick}
 use Rattle.protocol_model.specs.declared.tunnel.Config.{Config}
 use Rattle.protocol_model.specs.declared.tunnel.Control.{Control}
 use Rattle.protocol_model.specs.declared.tunnel.Role.{Role}
@@ -26,13 +26,17 @@ use Rattle.protocol_model.specs.Names.{address_of, node_of}
 use Rattle.protocol_model.specs.Calls.{is_lac}
 use Rattle.protocol_model.specs.Turn.{Tunnel, is_closed}
 use Rattle.protocol_model.specs.End.{End, Stepped, reached, step, new_end}
-use Rattle.protocol_model.specs.Texts.{Entry, Sends, HandsUp, Ends, Drops, Causes}
+use Rattle.protocol_model.specs.Texts.{Entry, Sends, HandsUp, Ends, Frames, Drops, Causes}
+use Rattle.protocol_model.specs.Access.{Access, access_with, Coming, Ignores, Answers, Runs, Enters, coming, pads_of, entered, farewell}
+use Rattle.wire_base.specs.declared.cause.Cause.{Cause as Because}
+use Rattle.pppoe_discovery.specs.declared.outcome.Discovered.{Discovered}
 
--- an end, with its clock, in milliseconds, and the births of its calls by local session id
+-- an end, with its clock, in milliseconds, the births of its calls by local session id, and where it is a LAC what it keeps of hosts
 pub record Node : Type 0 where
   pub end : End
   pub clock : ℕ
   pub births : List (ℕ × ℕ)
+  pub access : Option Access
 
 pub record World : Type 0 where
   -- by node number
@@ -142,10 +146,19 @@ shown n w (Gone session) = w
 shown n w (Drop x) = w
 shown n w (Cause x) = w
 
+-- the PADT to the host of a node's call, where a host had it
+abbrev pub farewell_by : ℕ → ℕ → Option Access → Option (List ℕ)
+farewell_by n session None = None
+farewell_by n session (Some a) = farewell n a session
+
+abbrev pub farewell_in : ℕ → Option Node → Option (List ℕ)
+farewell_in session None = None
+farewell_in session (Some node) = farewell_by node.end.config.number session node.access
+
 unfoldable pub entry_of : ℕ → ℕ → World → Out → Entry
 entry_of line n w (Send peer bytes origin) = Sends line (length w.packets + 1) n (node_of peer) bytes
 entry_of line n w (Up session side frame) = HandsUp line n session (birth_of w n session) side frame
-entry_of line n w (Gone session) = Ends line n session
+entry_of line n w (Gone session) = Ends line n session (farewell_in session (at w.nodes n))
 entry_of line n w (Drop x) = Drops line n x
 entry_of line n w (Cause x) = Causes line n x
 
@@ -204,17 +217,66 @@ with_tunnel i (Ok node) = if is_not_closed (at node.end.tunnels i) then Ok node 
 abbrev pub config_of : ℕ → ℕ → Option (List ℕ) → Bool → Config
 config_of n lns secret hide = record { number = n; address = address_of n; lns = lns; secret = secret; hide = hide }
 
-unfoldable pub added : World → ℕ → Role → ℕ → Option (List ℕ) → Bool → Result Lined Refusal
-added w n r lns secret hide = if is_some (at w.nodes n) then Err (Unfit why.Twice) else Ok (quiet_line (with_node w n (record { end = new_end r (config_of n lns secret hide); clock = 0; births = [] })))
-
 -- the random bytes of a step: the node, and the line, in 8 bytes each
 unfoldable pub block_of : ℕ → ℕ → List ℕ
 block_of n line = big_bytes 8 n ++ big_bytes 8 line
+
+-- the key of a LAC's cookies is the block of the line that makes it
+abbrev pub new_node : ℕ → ℕ → Role → ℕ → Option (List ℕ) → Bool → Node
+new_node line n r lns secret hide = record { end = new_end r (config_of n lns secret hide); clock = 0; births = []; access = access_with r (block_of n line) }
+
+unfoldable pub added : World → ℕ → ℕ → Role → ℕ → Option (List ℕ) → Bool → Result Lined Refusal
+added w line n r lns secret hide =
+    if is_some (at w.nodes n) then Err (Unfit why.Twice) else Ok (quiet_line (with_node w n (new_node line n r lns secret hide)))
 
 -- a step at the node's moment
 unfoldable pub stepped : World → ℕ → ℕ → Event → Option Sender → Result Node Why → Result Lined Refusal
 stepped w line n e sender (Err x) = Err (Unfit x)
 stepped w line n e sender (Ok node) = Ok (after_step w line n node sender (step node.end node.clock (block_of n line) e))
+
+-- ---- Ethernet frames
+
+-- a line in which nothing is done, with these entries
+abbrev pub told_line : World → List Entry → Lined
+told_line w es = record { world = w; entries = es; done = [] }
+
+-- the entries of a line are these
+abbrev pub retold : List Entry → Result Lined Refusal → Result Lined Refusal
+retold es (Err x) = Err x
+retold es (Ok l) = Ok (record l { entries = es })
+
+abbrev pub answer_entries : ℕ → ℕ → Option Because → List ℕ → List Entry
+answer_entries line n None bytes = Frames line n bytes ∷ []
+answer_entries line n (Some c) bytes = Causes line n c ∷ Frames line n bytes ∷ []
+
+-- a frame is sent behind what a line did
+abbrev pub replies : ℕ → ℕ → List ℕ → Result Lined Refusal → Result Lined Refusal
+replies line n bytes (Err x) = Err x
+replies line n bytes (Ok l) = Ok (record l { entries = l.entries ++ Frames line n bytes ∷ [] })
+
+-- a host that was admitted wants a call: the PADS comes behind what the ring does
+unfoldable pub enters : World → ℕ → ℕ → Node → Access → List ℕ → Option (List ℕ) → Discovered → Result Lined Refusal
+enters w line n node a src uniq asked =
+    let s = step node.end node.clock (block_of n line) (event.Admitted src) in
+    replies line n (pads_of node.end asked s) (stepped w line n (event.Admitted src) None (Ok (record node { access = Some (entered a node.end src uniq s) })))
+
+-- to the end itself a frame is nothing; the line tells what it is to the LAC
+unfoldable pub comes : World → ℕ → ℕ → List ℕ → Node → Access → Coming → Result Lined Refusal
+comes w line n bytes node a (Ignores word) = retold (Drops line n word ∷ []) (stepped w line n (event.Frame bytes) None (Ok node))
+comes w line n bytes node a (Answers because frame) = retold (answer_entries line n because frame) (stepped w line n (event.Frame bytes) None (Ok node))
+comes w line n bytes node a (Runs e) = stepped w line n e None (Ok node)
+comes w line n bytes node a (Enters src uniq asked) = enters w line n node a src uniq asked
+
+unfoldable pub comes_by : World → ℕ → ℕ → List ℕ → Node → Option Access → Result Lined Refusal
+comes_by w line n bytes node None = Err (Unfit why.Node)
+comes_by w line n bytes node (Some a) = comes w line n bytes node a (coming a node.end bytes)
+
+-- an Ethernet frame comes to a LAC
+unfoldable pub framed : World → ℕ → ℕ → List ℕ → Result Node Why → Result Lined Refusal
+framed w line n bytes (Err x) = Err (Unfit x)
+framed w line n bytes (Ok node) = comes_by w line n bytes node node.access
+
+-- ---- packets
 
 -- the packet and the node that it is for, or why it can't be delivered
 unfoldable pub addressee_of : Packet → Option Node → Result (Packet × Node) Why
@@ -265,11 +327,12 @@ later milliseconds (Ok node) = Ok (record node { clock = min (node.clock + milli
 -- what a line with its number leads to, or why it is refused
 unfoldable pub line : World → ℕ → Line → Result Lined Refusal
 line w number (Remark text) = Ok (quiet_line w)
-line w number (Lac n m secret hide) = added w n role.Lac (address_of m) secret hide
-line w number (Lns n secret) = added w n role.Lns 0 secret false
+line w number (Lac n m secret hide) = added w number n role.Lac (address_of m) secret hide
+line w number (Lns n secret) = added w number n role.Lns 0 secret false
 line w number (OpenUp n) = stepped w number n event.OpenTunnel None (lac_at (at w.nodes n))
 line w number (Close n i) = stepped w number n (event.CloseTunnel i) None (with_tunnel i (declared (at w.nodes n)))
 line w number (Ring n port) = stepped w number n (event.Ring port) None (lac_at (at w.nodes n))
+line w number (Frame n bytes) = framed w number n bytes (lac_at (at w.nodes n))
 line w number (FromSub n session frame) = stepped w number n (event.Payload session frame) None (with_call session (lac_at (at w.nodes n)))
 line w number (Down n session frame) = stepped w number n (event.Lower session frame) None (with_call session (lns_at (at w.nodes n)))
 line w number (Deliver p) = delivers w number (slice_get w.packets (p - 1))

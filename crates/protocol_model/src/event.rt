@@ -9,6 +9,10 @@ pub enum Event {
     Datagram { peer: u32, bytes: Bytes },
     /// A port of a LAC rings.
     Ring { port: u16 },
+    /// An Ethernet frame comes to a LAC, from its destination address on.
+    Frame { bytes: Bytes },
+    /// A PPPoE host at this Ethernet address was admitted, and wants a call. A LAC gives it to itself.
+    Admitted { mac: [u8; 6] },
     /// The subscriber of a LAC's call sends a PPP frame, from its protocol field on.
     Payload { session: u16, frame: Bytes },
     /// The network sends a PPP frame down an LNS's call, from its protocol field on.

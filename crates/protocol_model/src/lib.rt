@@ -20,7 +20,9 @@ pub use moves::{
     EndTold, FirstUp, FrameSent, FrameUp, Greeted, LetGo, Move, NrRead, Opened, Place, Refused,
     Rejected, Repeated, Replied, Requested, SecondUp, TookPlain,
 };
-pub use names::{address_of, calling_number, host_name, node_of, twelve_digits};
+pub use names::{
+    address_of, calling_number, host_name, mac_of, node_of, subscriber, twelve_digits,
+};
 pub use out::{ControlOrigin, Origin, Out};
 pub use packet::Packet;
 pub use refusal::Refusal;

@@ -52,12 +52,12 @@ pub struct Confirmed {
     pub taken: Place,
 }
 
-/// A call that rings was added to a tunnel: it is born.
+/// A call of a subscriber was added to a tunnel: it is born.
 #[derive(Clone, Copy, Debug, PartialEq, Eq)]
 pub struct Added {
     pub tunnel: u16,
     pub session: u16,
-    pub port: u16,
+    pub subscriber: [u8; 6],
 }
 
 /// A call that waited was asked for by an ICRQ. Where the end hides its Calling Number, `hidden` has the message's pairs as they
@@ -66,7 +66,7 @@ pub struct Added {
 pub struct Requested {
     pub tunnel: u16,
     pub session: u16,
-    pub port: u16,
+    pub subscriber: [u8; 6],
     pub hidden: Option<Bytes>,
     pub given: Place,
 }

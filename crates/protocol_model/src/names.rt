@@ -1,11 +1,11 @@
 //! Host names and addresses of nodes.
 
-ghost use Rattle.std.specs.Prelude.{ℕ, ◌≡◌, ◌≤◌, length, IfOk};
-ghost use Rattle.protocol_model.specs.Names.{host_name, role_name, address_of, node_of, subscriber, calling_number};
+ghost use Rattle.std.specs.Prelude.{ℕ, ◌≡◌, ◌≤◌, List, length, IfOk};
+ghost use Rattle.protocol_model.specs.Names.{host_name, role_name, address_of, node_of, subscriber, mac_of, calling_number};
 
 use crate::tunnel::Role;
 use std::alloc::Global;
-use wire_base::{Bytes, NoMemory, put_u16};
+use wire_base::{Bytes, NoMemory};
 
 /// The address 10.0.0.0, as a number.
 const NETWORK: u32 = 0x0a00_0000;
@@ -48,25 +48,33 @@ pub fn node_of(address: u32) -> u8
 }
 
 /// The six bytes of a subscriber that rings at a port, in place of an Ethernet address: ffff0000, and the port.
-fn subscriber(alloc: Global, port: u16) -> Result<Bytes, NoMemory>
-    ensures { IfOk result (λ bytes. bytes ≡ subscriber port) }
+#[tactic(auto, unfolding(crate::specs::Names::subscriber, wire_base::specs::Numbers::u16_bytes))]
+pub fn subscriber(port: u16) -> [u8; 6]
+    ensures { result ≡ subscriber port }
 {
-    let mut bytes = Bytes::from_slice(alloc, &[0xff, 0xff, 0, 0])?;
-    put_u16(&mut bytes, port)?;
-    Ok(bytes)
+    let high = (port / 256) as u8;
+    let low = (port % 256) as u8;
+    [0xff, 0xff, 0, 0, high, low]
+}
+
+/// The Ethernet address of a node: 020000000000, and the node's number.
+#[tactic(auto, unfolding(crate::specs::Names::mac_of))]
+pub fn mac_of(node: u8) -> [u8; 6]
+    ensures { result ≡ mac_of node }
+{
+    [2, 0, 0, 0, 0, node]
 }
 
 /// The Calling Number of a call (RFC 2661 section 4.4.3): the subscriber's six bytes as hex digits.
-#[tactic(auto, unfolding(crate::specs::Names::calling_number))]
-pub fn calling_number(alloc: Global, port: u16) -> Result<Bytes, NoMemory>
-    ensures { IfOk result (λ number. number ≡ calling_number port) }
+#[tactic(auto, using(crate::specs::Names::six_is), unfolding(crate::specs::Names::calling_number))]
+pub fn calling_number(alloc: Global, subscriber: &[u8; 6]) -> Result<Bytes, NoMemory>
+    ensures { IfOk result (λ number. number ≡ calling_number subscriber.now) }
 {
-    let bytes = subscriber(alloc, port)?;
-    let digits = hex::encode(alloc, bytes.as_slice())?;
+    let digits = hex::encode(alloc, subscriber)?;
     Bytes::from_slice(alloc, digits.as_bytes())
 }
 
 /// A law: a Calling Number has twelve digits.
 pub fn twelve_digits()
-    ensures { (port : ℕ) → length (calling_number port) ≡ 12 }
+    ensures { (subscriber : List ℕ) → length (calling_number subscriber) ≡ 12 }
 {}

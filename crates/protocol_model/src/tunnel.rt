@@ -71,8 +71,9 @@ pub struct Call {
     pub state: CallState,
     /// The moment at which it entered its state, in milliseconds.
     pub since: u64,
-    /// The port that rings, at a LAC; 0 at an LNS.
-    pub port: u16,
+    /// Who it is for, at a LAC: the subscriber's Ethernet address, or for a port that rings ffff0000 and the port. Zeros at an
+    /// LNS.
+    pub subscriber: [u8; 6],
     /// The rows that it went through since it was idle.
     pub steps: CallSteps,
 }

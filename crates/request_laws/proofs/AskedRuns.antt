@@ -6,13 +6,15 @@ use Rattle.id_table.specs.Ids.{at, put, at-none}
 use Rattle.id_table.specs.Order.{ascends-empty, at_new, at_other, same_or_not}
 use Rattle.schedule_text.specs.declared.line.Line.{Line}
 use Rattle.schedule_text.specs.Grammar.{AreLines}
+use Rattle.protocol_model.specs.Access.{Access}
+use Rattle.protocol_model.specs.Texts.{Entry}
 use Rattle.protocol_model.specs.declared.event.Event.{Event}
 use Rattle.protocol_model.specs.declared.moves.Move.{Move}
 use Rattle.protocol_model.specs.declared.tunnel.Call.{Call}
 use Rattle.protocol_model.specs.declared.tunnel.Role.{Role}
 use Rattle.protocol_model.specs.Secrets.{uncovered_event}
 use Rattle.protocol_model.specs.End.{End, Stepped, step}
-use Rattle.protocol_model.specs.World.{World, Node, Sender, Deed, Lined, quiet_line, with_node, block_of}
+use Rattle.protocol_model.specs.World.{World, Node, Sender, Deed, Lined, told_line, new_node, with_node, block_of}
 use Rattle.protocol_model.specs.Run.{Run, after_line, run}
 use Rattle.step_laws.specs.Steps.{AreKept, StepsAreChains}
 use Rattle.frame_laws.specs.Facts.{FactsOfRuns}
@@ -21,7 +23,7 @@ use Rattle.request_laws.specs.Requests.{IsAskedAt, AskedInRuns, IsDrawnAtLac, Dr
 use Rattle.request_laws.proofs.Asked.{Asking, IsCall, Known, Ordered, AskOk}
 use Rattle.request_laws.proofs.Deeds.{KeepsLetters, deeds, deeds_elsewhere, account_from-append}
 use Rattle.request_laws.proofs.Chains.{asks_on}
-use Rattle.request_laws.proofs.Lines.{LineDoes, Nothing, Declares, Steps, fresh_node, step_of, line_does}
+use Rattle.request_laws.proofs.Lines.{LineDoes, Nothing, Declares, Steps, step_of, line_does}
 use Rattle.request_laws.proofs.Worlds.{step_done, step_follows, after_moves}
 use Rattle.request_laws.proofs.Runs.{Reached, reached_is, holds_in_runs}
 
@@ -80,10 +82,10 @@ nothing_asks : (known : Known) → ((i : ℕ) → (known i).given ≡ []) → (i
 nothing_asks known none i k s a = no_asking k s (subst (λ ls. Asking ls k s) (none i) a)
 
 -- a node that is new
-fresh_asks : (known : Known) → ((i : ℕ) → (known i).given ≡ []) → (n : ℕ) (r : Role) (lns : ℕ) (secret : Option (List ℕ)) (hide : Bool)
-    → AskOk known (fresh_node n r lns secret hide).end
-fresh_asks known none n r lns secret hide =
-    let no_call = λ (i s : ℕ) (c : Call) (h : IsCall (fresh_node n r lns secret hide).end i s c). none-some h.tunnel (sym (at-none i) ∙ h.there) in
+fresh_asks : (known : Known) → ((i : ℕ) → (known i).given ≡ []) → (number n : ℕ) (r : Role) (lns : ℕ) (secret : Option (List ℕ)) (hide : Bool)
+    → AskOk known (new_node number n r lns secret hide).end
+fresh_asks known none number n r lns secret hide =
+    let no_call = λ (i s : ℕ) (c : Call) (h : IsCall (new_node number n r lns secret hide).end i s c). none-some h.tunnel (sym (at-none i) ∙ h.there) in
     record {
       order = record {
         tunnels = ascends-empty [] refl;
@@ -110,30 +112,30 @@ nothing_done ds es none n =
     (ap (λ (fs : List Deed). account_of fs n) (ap (λ (fs : List Deed). ds ++ fs) none ∙ append-nil ds))
 
 module _ (r : Run) (ok : RunAsks r) where
-  quiet_asks : (x : Lined) → x ≡ quiet_line r.world → RunAsks (after_line r x)
-  quiet_asks x e n =
+  quiet_asks : (x : Lined) (es : List Entry) → x ≡ told_line r.world es → RunAsks (after_line r x)
+  quiet_asks x es e n =
       let done = ap (λ (y : Lined). y.done) e in
       let world = ap (λ (y : Lined). y.world) e in
       subst (λ (w : World). NodeAsks (r.done ++ x.done) n (at w.nodes n)) (sym world)
       (nodes_ask r.done (r.done ++ x.done) n (at r.world.nodes n) (nothing_done r.done x.done done n) (ok n))
 
-  declared_asks : (x : Lined) (n : ℕ) (role : Role) (lns : ℕ) (secret : Option (List ℕ)) (hide : Bool) → at r.world.nodes n ≡ None
-      → x ≡ quiet_line (with_node r.world n (fresh_node n role lns secret hide)) → RunAsks (after_line r x)
-  declared_asks x n role lns secret hide none e q =
+  declared_asks : (x : Lined) (number n : ℕ) (role : Role) (lns : ℕ) (secret : Option (List ℕ)) (hide : Bool) → at r.world.nodes n ≡ None
+      → (es : List Entry) → x ≡ told_line (with_node r.world n (new_node number n role lns secret hide)) es → RunAsks (after_line r x)
+  declared_asks x number n role lns secret hide none es e q =
       let done = ap (λ (y : Lined). y.done) e in
       let world = ap (λ (y : Lined). y.world) e in
-      let new = fresh_node n role lns secret hide in
+      let new = new_node number n role lns secret hide in
       let unknown : (i : ℕ) → (account_of r.done n i).given ≡ [] = subst (λ o. NodeAsks r.done n o) none (ok n) in
       subst (λ (w : World). NodeAsks (r.done ++ x.done) q (at w.nodes q)) (sym world)
       (nodes_ask r.done (r.done ++ x.done) q (at (put r.world.nodes n new) q) (nothing_done r.done x.done done q)
       (⊎_elim
       (λ (a : q ≡ n). subst (λ k. NodeAsks r.done k (at (put r.world.nodes n new) k)) (sym a)
-      (rw (at_new r.world.nodes n new) (fresh_asks (account_of r.done n) unknown n role lns secret hide)))
+      (rw (at_new r.world.nodes n new) (fresh_asks (account_of r.done n) unknown number n role lns secret hide)))
       (λ other. rw (at_other r.world.nodes n new q other) (ok q))
       (same_or_not q n)))
 
   module _ (chains : StepsAreChains) (kept : (n : ℕ) (node : Node) → at r.world.nodes n ≡ Some node → AreKept node.end)
-      (number n : ℕ) (old : Node) (clock : ℕ) (ev : Event) (sender : Option Sender) (there : at r.world.nodes n ≡ Some old) where
+      (number n : ℕ) (old : Node) (clock : ℕ) (access : Option Access) (ev : Event) (sender : Option Sender) (there : at r.world.nodes n ≡ Some old) where
     -- what came, as it is read
     abbrev came : Event
     came = uncovered_event old.end.config.secret ev
@@ -142,7 +144,7 @@ module _ (r : Run) (ok : RunAsks r) where
     s = step old.end clock (block_of n number) ev
 
     abbrev timed : Node
-    timed = record old { clock = clock }
+    timed = record old { clock = clock; access = access }
 
     abbrev x : Lined
     x = step_of r.world number n timed ev sender
@@ -180,10 +182,10 @@ module _ (chains : StepsAreChains) (facts : FactsOfRuns) where
 
   line_asks : (number : ℕ) (before : List Line) (r : Run) → Reached number before r → RunAsks r → (x : Lined) → LineDoes r.world number x
       → RunAsks (after_line r x)
-  line_asks number before r h ok x (Nothing e) = quiet_asks r ok x e
-  line_asks number before r h ok x (Declares n role lns secret hide none e) = declared_asks r ok x n role lns secret hide none e
-  line_asks number before r h ok x (Steps n old clock ev sender there from e) =
-      subst (λ y. RunAsks (after_line r y)) (sym e) (step_asks r ok chains (kept_now number before r h) number n old clock ev sender there)
+  line_asks number before r h ok x (Nothing es e) = quiet_asks r ok x es e
+  line_asks number before r h ok x (Declares n role lns secret hide none es e) = declared_asks r ok x number n role lns secret hide none es e
+  line_asks number before r h ok x (Steps n old clock access ev sender es there from e) =
+      subst (λ y. RunAsks (after_line r y)) (sym e) (step_asks r ok chains (kept_now number before r h) number n old clock access ev sender there)
 
   pub asks_in_runs : (lines : List Line) → AreLines lines → RunAsks (run lines)
   unfolding account_from

@@ -5,6 +5,8 @@ use Rattle.id_table.specs.Ids.{at, put, at-none}
 use Rattle.id_table.specs.Order.{at_new, found_put, same_or_not}
 use Rattle.schedule_text.specs.declared.line.Line.{Line}
 use Rattle.schedule_text.specs.Grammar.{AreLines}
+use Rattle.protocol_model.specs.Access.{Access}
+use Rattle.protocol_model.specs.Texts.{Entry}
 use Rattle.protocol_model.specs.declared.event.Event.{Event}
 use Rattle.protocol_model.specs.declared.event.Event.TheVariants.{Datagram}
 use Rattle.protocol_model.specs.declared.out.Origin.{Origin}
@@ -17,7 +19,7 @@ use Rattle.protocol_model.specs.declared.tunnel.Role.TheVariants.{Lns}
 use Rattle.protocol_model.specs.Names.{address_of, node_of}
 use Rattle.protocol_model.specs.Secrets.{uncovered_event}
 use Rattle.protocol_model.specs.End.{End, Stepped, step}
-use Rattle.protocol_model.specs.World.{World, Node, Sender, Deed, Lined, quiet_line, with_node, block_of, sender_of}
+use Rattle.protocol_model.specs.World.{World, Node, Sender, Deed, Lined, told_line, new_node, with_node, block_of, sender_of}
 use Rattle.protocol_model.specs.Run.{Run, after_line, run}
 use Rattle.step_laws.specs.Steps.{StepsAreChains}
 use Rattle.frame_laws.specs.Facts.{Nodes, birth_in_node, PacketOk, NodeOk, Holds, FactsOfRuns}
@@ -31,7 +33,7 @@ use Rattle.request_laws.proofs.Lists.{all_at}
 use Rattle.request_laws.proofs.Asked.{Known}
 use Rattle.request_laws.proofs.Deeds.{deeds}
 use Rattle.request_laws.proofs.Chains.{known_then}
-use Rattle.request_laws.proofs.Lines.{IsFrom, OfNobody, OfPacket, uncovered_from, LineDoes, Nothing, Declares, Steps, fresh_node, step_of, line_does}
+use Rattle.request_laws.proofs.Lines.{IsFrom, OfNobody, OfPacket, uncovered_from, LineDoes, Nothing, Declares, Steps, step_of, line_does}
 use Rattle.request_laws.proofs.Worlds.{step_nodes, step_done, step_follows, before_moves, after_moves}
 use Rattle.request_laws.proofs.Runs.{Reached, reached_is, holds_in_runs}
 use Rattle.request_laws.proofs.AskedRuns.{StillKnown, known_more, known_elsewhere, kept_order, nothing_done, asked_in_runs, drawn_at_lacs_in_runs}
@@ -53,8 +55,8 @@ node_tells_later ns ms births known later same node h lns =
     tells_later ns ms births known later (λ i k t g. rw (same i).taken g) node.end.session_ids.next node.births (h lns)
 
 -- a node that is new has drawn no session id
-fresh_tells : (ns : Nodes) (known : Known) (n : ℕ) (r : Role) (lns : ℕ) (secret : Option (List ℕ)) (hide : Bool) → NodeTells ns known (fresh_node n r lns secret hide)
-fresh_tells ns known n r lns secret hide is_lns = record {
+fresh_tells : (ns : Nodes) (known : Known) (number n : ℕ) (r : Role) (lns : ℕ) (secret : Option (List ℕ)) (hide : Bool) → NodeTells ns known (new_node number n r lns secret hide)
+fresh_tells ns known number n r lns secret hide is_lns = record {
   drawn = λ s some lt. absurd (omega (arith, some, lt));
   told = λ s b f some. absurd (none-some b (sym (at-none s) ∙ f));
 }
@@ -79,8 +81,8 @@ comes_from w sender ev few (OfPacket k p there sent had came) peer bytes e from 
 -- ---- lines
 
 module _ (r : Run) (ok : RunTells r) where
-  quiet_tells : (x : Lined) → x ≡ quiet_line r.world → RunTells (after_line r x)
-  quiet_tells x e n node f =
+  quiet_tells : (x : Lined) (es : List Entry) → x ≡ told_line r.world es → RunTells (after_line r x)
+  quiet_tells x es e n node f =
       let done = nothing_done r.done x.done (ap (λ (y : Lined). y.done) e) n in
       let nodes : x.world.nodes ≡ r.world.nodes = ap (λ (y : Lined). y.world.nodes) e in
       let was : at r.world.nodes n ≡ Some node = rw (← nodes) f in
@@ -92,22 +94,22 @@ module _ (r : Run) (ok : RunTells r) where
   fresh_stay n new none =
       put_stays r.world.nodes n new (λ q c h. absurd (none-some c (subst (λ (o : Option Node). birth_in_node o q ≡ Some c) none h)))
 
-  declared_tells : (x : Lined) (n : ℕ) (role : Role) (lns : ℕ) (secret : Option (List ℕ)) (hide : Bool) → at r.world.nodes n ≡ None
-      → x ≡ quiet_line (with_node r.world n (fresh_node n role lns secret hide)) → RunTells (after_line r x)
-  declared_tells x n role lns secret hide none e q node f =
+  declared_tells : (x : Lined) (number n : ℕ) (role : Role) (lns : ℕ) (secret : Option (List ℕ)) (hide : Bool) → at r.world.nodes n ≡ None
+      → (es : List Entry) → x ≡ told_line (with_node r.world n (new_node number n role lns secret hide)) es → RunTells (after_line r x)
+  declared_tells x number n role lns secret hide none es e q node f =
       let done = nothing_done r.done x.done (ap (λ (y : Lined). y.done) e) q in
-      let new = fresh_node n role lns secret hide in
+      let new = new_node number n role lns secret hide in
       let ns = put r.world.nodes n new in
       let nodes : x.world.nodes ≡ ns = ap (λ (y : Lined). y.world.nodes) e in
       let later = account_of (r.done ++ x.done) q in
       subst (λ ms. NodeTells ms later node) (sym nodes)
       (⊎_elim
-      (λ (a : (q ≡ n) × (new ≡ node)). subst (λ y. NodeTells ns later y) a.1 (fresh_tells ns later n role lns secret hide))
+      (λ (a : (q ≡ n) × (new ≡ node)). subst (λ y. NodeTells ns later y) a.1 (fresh_tells ns later number n role lns secret hide))
       (λ a. node_tells_later r.world.nodes ns (fresh_stay n new none) (account_of r.done q) later done node (ok q node a.1))
       (found_put r.world.nodes n new q node (rw (← nodes) f)))
 
   module _ (chains : StepsAreChains) (gs : List Passage) (facts : Holds r.world gs)
-      (number n : ℕ) (old : Node) (clock : ℕ) (ev : Event) (sender : Option Sender) (there : at r.world.nodes n ≡ Some old)
+      (number n : ℕ) (old : Node) (clock : ℕ) (access : Option Access) (ev : Event) (sender : Option Sender) (there : at r.world.nodes n ≡ Some old)
       (from : IsFrom r.world sender ev) where
     -- what came, as it is read
     abbrev came : Event
@@ -117,10 +119,10 @@ module _ (r : Run) (ok : RunTells r) where
     s = step old.end clock (block_of n number) ev
 
     abbrev timed : Node
-    timed = record old { clock = clock }
+    timed = record old { clock = clock; access = access }
 
     abbrev ended : Node
-    ended = record old { clock = clock; end = s.end }
+    ended = record old { clock = clock; access = access; end = s.end }
 
     abbrev x : Lined
     x = step_of r.world number n timed ev sender
@@ -196,12 +198,12 @@ module _ (r : Run) (ok : RunTells r) where
 module _ (chains : StepsAreChains) (facts : FactsOfRuns) where
   line_tells : (number : ℕ) (before : List Line) (r : Run) → Reached number before r → RunTells r → (x : Lined) → LineDoes r.world number x
       → RunTells (after_line r x)
-  line_tells number before r h ok x (Nothing e) = quiet_tells r ok x e
-  line_tells number before r h ok x (Declares n role lns secret hide none e) = declared_tells r ok x n role lns secret hide none e
-  line_tells number before r h ok x (Steps n old clock ev sender there from e) =
+  line_tells number before r h ok x (Nothing es e) = quiet_tells r ok x es e
+  line_tells number before r h ok x (Declares n role lns secret hide none es e) = declared_tells r ok x number n role lns secret hide none es e
+  line_tells number before r h ok x (Steps n old clock access ev sender es there from e) =
       let gs = (past_of before).sent in
       let now : Holds r.world gs = subst (λ (q : Run). Holds q.world gs) (reached_is number before r h) (facts before h.fit) in
-      subst (λ y. RunTells (after_line r y)) (sym e) (step_tells r ok chains gs now number n old clock ev sender there from)
+      subst (λ y. RunTells (after_line r y)) (sym e) (step_tells r ok chains gs now number n old clock access ev sender there from)
 
   pub tells_in_runs : (lines : List Line) → AreLines lines → RunTells (run lines)
   tells_in_runs lines fits =

@@ -89,7 +89,7 @@ module _ (v : World) (number n : ℕ) (r : Role) (sender : Option Sender) where
   entered_asks (move.Added m) a k s h = inl h
   entered_asks (move.Requested m) a k s h = ⊎_elim
       (λ b. inl b)
-      (λ (b : (k ≡ length a.given) × ((serial : ℕ) × (calling : Option (List ℕ)) × (request_of m.session m.port ≡ Icrq s serial calling))).
+      (λ (b : (k ≡ length a.given) × ((serial : ℕ) × (calling : Option (List ℕ)) × (request_of m.session m.subscriber ≡ Icrq s serial calling))).
       let e = b.1.2 in let same : s ≡ m.session = cc in inr (b.0, same))
       (pushed a.given _ k s h)
   entered_asks (move.Replied m) a k s h = plain (move.Replied m) a _ k s (λ serial calling e. absurd (cc)) h

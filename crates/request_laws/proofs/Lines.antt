@@ -1,12 +1,12 @@
 -- What a line does: nothing, or a node is declared, or a node makes a step.
-use Rattle.std.proofs.Common.{◌≡◌, ℕ, ◌+◌, ◌-◌, ◌^◌, false, List, [], refl, sym, ap, ◌∙◌, subst, Option, Some, None, Result, Ok, Err, Bool}
+use Rattle.std.proofs.Common.{◌≡◌, ℕ, ◌+◌, ◌-◌, ◌^◌, false, List, [], refl, sym, ap, ◌∙◌, subst, Option, Some, None, Result, Ok, Err, Bool, ◌∷◌, ◌++◌}
 use Rattle.std.proofs.lemmas.Bool.{true≢false}
 use Rattle.std.specs.Prelude.{is_some, min, slice_get}
 use Rattle.id_table.specs.Ids.{at}
 use Rattle.wire_base.specs.declared.why.Why.{Why}
 use Rattle.wire_base.specs.declared.why.Why.TheVariants as why
 use Rattle.schedule_text.specs.declared.line.Line.{Line}
-use Rattle.schedule_text.specs.declared.line.Line.TheVariants.{Remark, Lac, Lns, OpenUp, Close, Ring, FromSub, Down, Hang, DropCall, Deliver, Tick}
+use Rattle.schedule_text.specs.declared.line.Line.TheVariants.{Remark, Lac, Lns, OpenUp, Close, Ring, Frame, FromSub, Down, Hang, DropCall, Deliver, Tick}
 use Rattle.protocol_model.specs.declared.event.Event.{Event}
 use Rattle.protocol_model.specs.declared.event.Event.TheVariants as event
 use Rattle.protocol_model.specs.declared.packet.Packet.{Packet}
@@ -17,8 +17,11 @@ use Rattle.protocol_model.specs.declared.tunnel.Role.TheVariants as role
 use Rattle.protocol_model.specs.Names.{address_of}
 use Rattle.protocol_model.specs.Secrets.{uncovered_datagram, uncovered_event}
 use Rattle.protocol_model.specs.End.{new_end, step}
+use Rattle.protocol_model.specs.Access.{Access}
+use Rattle.protocol_model.specs.Texts.{Entry, Drops, Frames}
+use Rattle.step_laws.specs.Hosts.{LacAt, with_host, reply_to, OfFrame, frame_line}
 use Rattle.step_laws.specs.Lines.{tested_not, is_lac_at, is_lns_at, is_declared, has_call, has_tunnel}
-use Rattle.protocol_model.specs.World.{World, Node, Sender, Lined, quiet_line, with_node, after_step, declared, lac_at, lns_at, with_call, with_tunnel, later, config_of, added, block_of, stepped, addressee_of, arrival, refused_by, sender_of, arrives, delivers_it, delivers, line}
+use Rattle.protocol_model.specs.World.{World, Node, Sender, Lined, quiet_line, with_node, after_step, declared, lac_at, lns_at, with_call, with_tunnel, later, new_node, told_line, answer_entries, added, block_of, stepped, addressee_of, arrival, refused_by, sender_of, arrives, delivers_it, delivers, line}
 
 -- ---- what a line does
 
@@ -35,19 +38,16 @@ uncovered_from w sender ev secret (OfNobody none) = OfNobody none
 uncovered_from w sender ev secret (OfPacket k p there sent bytes is) =
     OfPacket k p there sent (uncovered_datagram secret bytes) (ap (uncovered_event secret) is)
 
-abbrev pub fresh_node : ℕ → Role → ℕ → Option (List ℕ) → Bool → Node
-fresh_node n r lns secret hide = record { end = new_end r (config_of n lns secret hide); clock = 0; births = [] }
-
 -- a step of a node, at the clock's moment
 abbrev pub step_of : World → ℕ → ℕ → Node → Event → Option Sender → Lined
 step_of w number n node ev sender = after_step w number n node sender (step node.end node.clock (block_of n number) ev)
 
 pub data LineDoes (w : World) (number : ℕ) (x : Lined) : Type 0 where
-  Nothing : x ≡ quiet_line w → LineDoes w number x
+  Nothing : (es : List Entry) → x ≡ told_line w es → LineDoes w number x
   Declares : (n : ℕ) (r : Role) (lns : ℕ) (secret : Option (List ℕ)) (hide : Bool) → at w.nodes n ≡ None
-      → x ≡ quiet_line (with_node w n (fresh_node n r lns secret hide)) → LineDoes w number x
-  Steps : (n : ℕ) (old : Node) (clock : ℕ) (ev : Event) (sender : Option Sender) → at w.nodes n ≡ Some old → IsFrom w sender ev
-      → x ≡ step_of w number n (record old { clock = clock }) ev sender → LineDoes w number x
+      → (es : List Entry) → x ≡ told_line (with_node w n (new_node number n r lns secret hide)) es → LineDoes w number x
+  Steps : (n : ℕ) (old : Node) (clock : ℕ) (access : Option Access) (ev : Event) (sender : Option Sender) (es : List Entry) → at w.nodes n ≡ Some old
+      → IsFrom w sender ev → x ≡ record (step_of w number n (record old { clock = clock; access = access }) ev sender) { entries = es } → LineDoes w number x
 
 -- ---- which node it is
 
@@ -60,7 +60,7 @@ none_there (Some x) h = absurd (true≢false h)
 record IsAt (w : World) (n : ℕ) (node : Node) : Type 0 where
   before : Node
   there : at w.nodes n ≡ Some before
-  same : node ≡ record before { clock = node.clock }
+  same : node ≡ record before { clock = node.clock; access = node.access }
 
 is_there : (w : World) (n : ℕ) (node : Node) → at w.nodes n ≡ Some node → IsAt w n node
 is_there w n node h = record { before = node; there = h; same = refl }
@@ -74,12 +74,19 @@ is_later w n milliseconds (Some x) node is h =
 
 -- ---- lines
 
+-- more entries change nothing of what a line does
+more_told : (w : World) (number : ℕ) (x : Lined) (es : List Entry) → LineDoes w number x → LineDoes w number (record x { entries = es })
+more_told w number x es (Nothing fs e) = Nothing es (ap (λ (y : Lined). record y { entries = es }) e)
+more_told w number x es (Declares n r lns secret hide none fs e) = Declares n r lns secret hide none es (ap (λ (y : Lined). record y { entries = es }) e)
+more_told w number x es (Steps n old clock access ev sender fs there from e) =
+    Steps n old clock access ev sender es there from (ap (λ (y : Lined). record y { entries = es }) e)
+
 module _ (w : World) (number : ℕ) (x : Lined) where
-  added_does : (n : ℕ) (r : Role) (lns : ℕ) (secret : Option (List ℕ)) (hide : Bool) → added w n r lns secret hide ≡ Ok x → LineDoes w number x
+  added_does : (n : ℕ) (r : Role) (lns : ℕ) (secret : Option (List ℕ)) (hide : Bool) → added w number n r lns secret hide ≡ Ok x → LineDoes w number x
   unfolding added
   added_does n r lns secret hide h =
-      let t = tested_not (is_some (at w.nodes n)) (quiet_line (with_node w n (fresh_node n r lns secret hide))) (Unfit why.Twice) x h in
-      Declares n r lns secret hide (none_there (at w.nodes n) t.0) (sym t.1)
+      let t = tested_not (is_some (at w.nodes n)) (quiet_line (with_node w n (new_node number n r lns secret hide))) (Unfit why.Twice) x h in
+      Declares n r lns secret hide (none_there (at w.nodes n) t.0) [] (sym t.1)
 
   stepped_does : (n : ℕ) (ev : Event) (sender : Option Sender) (o : Result Node Why) → ((node : Node) → o ≡ Ok node → IsAt w n node)
       → IsFrom w sender ev → stepped w number n ev sender o ≡ Ok x → LineDoes w number x
@@ -88,14 +95,41 @@ module _ (w : World) (number : ℕ) (x : Lined) where
   stepped_does n ev sender (Ok node) is from h =
       let was = is node refl in
       let e : step_of w number n node ev sender ≡ x = cc in
-      Steps n was.before node.clock ev sender was.there from (sym e ∙ ap (λ (q : Node). step_of w number n q ev sender) was.same)
+      Steps n was.before node.clock node.access ev sender x.entries was.there from
+      (ap (λ (y : Lined). record y { entries = x.entries }) (sym e ∙ ap (λ (q : Node). step_of w number n q ev sender) was.same))
 
+-- an Ethernet frame
+module _ (w : World) (number : ℕ) where
+  entering : (n : ℕ) (l : LacAt w n) (src : List ℕ) (uniq : Option (List ℕ)) (node : Node) → with_host w number n l src uniq ≡ node → IsAt w n node
+  entering n l src uniq node e = subst (IsAt w n) e (record { before = l.node; there = l.there; same = refl })
+
+  -- a frame that an end doesn't see
+  only_told : (n : ℕ) (bytes : List ℕ) (l : LacAt w n) (es : List Entry) (x : Lined) → stepped w number n (event.Frame bytes) None (Ok l.node) ≡ Ok x
+      → LineDoes w number (record x { entries = es })
+  only_told n bytes l es x h =
+      more_told w number x es
+      (stepped_does w number x n (event.Frame bytes) None (Ok l.node) (λ node e. (let same : l.node ≡ node = cc in rw (← same) (is_there w n l.node l.there)))
+      (OfNobody refl) h)
+
+  of_frame : (n : ℕ) (bytes : List ℕ) → OfFrame (LineDoes w number) w number n bytes
+  of_frame n bytes = record {
+    ignored = λ l word is x h. only_told n bytes l (Drops number n word ∷ []) x h;
+    answered = λ l because frame is x h. only_told n bytes l (answer_entries number n because frame) x h;
+    done = λ l ev is does x h.
+        stepped_does w number x n ev None (Ok l.node) (λ node e. (let same : l.node ≡ node = cc in rw (← same) (is_there w n l.node l.there))) (OfNobody refl) h;
+    entered = λ l src uniq asked is x h.
+        more_told w number x (x.entries ++ Frames number n (reply_to w number n l src asked) ∷ [])
+        (stepped_does w number x n (event.Admitted src) None (Ok (with_host w number n l src uniq))
+        (λ node e. (let same : with_host w number n l src uniq ≡ node = cc in entering n l src uniq node same)) (OfNobody refl) h);
+  }
+
+module _ (w : World) (number : ℕ) (x : Lined) where
   arrives_does : (k : ℕ) (p : Packet) → slice_get w.packets k ≡ Some p → (node : Node) → at w.nodes p.to ≡ Some node → (o : Option Refusal)
       → arrives w number p node o ≡ Ok x → LineDoes w number x
   unfolding arrives
   arrives_does k p sent node there (Some f) h = absurd (cc)
   arrives_does k p sent node there None h =
-      stepped_does p.to (event.Datagram (address_of p.from) p.bytes) (sender_of p.from p.origin) (Ok node)
+      stepped_does w number x p.to (event.Datagram (address_of p.from) p.bytes) (sender_of p.from p.origin) (Ok node)
       (λ q e. (let same : node ≡ q = cc in rw (← same) (is_there w p.to node there)))
       (OfPacket k p sent refl p.bytes refl) h
 
@@ -110,29 +144,30 @@ module _ (w : World) (number : ℕ) (x : Lined) where
 
   pub line_does : (l : Line) → line w number l ≡ Ok x → LineDoes w number x
   unfolding line
-  line_does (Remark text) h = let e : quiet_line w ≡ x = cc in Nothing (sym e)
-  line_does (Lac n m secret hide) h = added_does n role.Lac (address_of m) secret hide h
-  line_does (Lns n secret) h = added_does n role.Lns 0 secret false h
+  line_does (Remark text) h = let e : quiet_line w ≡ x = cc in Nothing [] (sym e)
+  line_does (Lac n m secret hide) h = added_does w number x n role.Lac (address_of m) secret hide h
+  line_does (Lns n secret) h = added_does w number x n role.Lns 0 secret false h
   line_does (OpenUp n) h =
-      stepped_does n event.OpenTunnel None (lac_at (at w.nodes n)) (λ node e. is_there w n node ((is_lac_at (at w.nodes n) node e).0)) (OfNobody refl) h
+      stepped_does w number x n event.OpenTunnel None (lac_at (at w.nodes n)) (λ node e. is_there w n node ((is_lac_at (at w.nodes n) node e).0)) (OfNobody refl) h
   line_does (Close n i) h =
-      stepped_does n (event.CloseTunnel i) None (with_tunnel i (declared (at w.nodes n)))
+      stepped_does w number x n (event.CloseTunnel i) None (with_tunnel i (declared (at w.nodes n)))
       (λ node e. is_there w n node (is_declared (at w.nodes n) node (has_tunnel i (declared (at w.nodes n)) node e))) (OfNobody refl) h
   line_does (Ring n port) h =
-      stepped_does n (event.Ring port) None (lac_at (at w.nodes n)) (λ node e. is_there w n node ((is_lac_at (at w.nodes n) node e).0)) (OfNobody refl) h
+      stepped_does w number x n (event.Ring port) None (lac_at (at w.nodes n)) (λ node e. is_there w n node ((is_lac_at (at w.nodes n) node e).0)) (OfNobody refl) h
+  line_does (Frame n bytes) h = frame_line (LineDoes w number) w number n bytes (of_frame w number n bytes) x h
   line_does (FromSub n session frame) h =
-      stepped_does n (event.Payload session frame) None (with_call session (lac_at (at w.nodes n)))
+      stepped_does w number x n (event.Payload session frame) None (with_call session (lac_at (at w.nodes n)))
       (λ node e. is_there w n node ((is_lac_at (at w.nodes n) node (has_call session (lac_at (at w.nodes n)) node e)).0)) (OfNobody refl) h
   line_does (Down n session frame) h =
-      stepped_does n (event.Lower session frame) None (with_call session (lns_at (at w.nodes n)))
+      stepped_does w number x n (event.Lower session frame) None (with_call session (lns_at (at w.nodes n)))
       (λ node e. is_there w n node ((is_lns_at (at w.nodes n) node (has_call session (lns_at (at w.nodes n)) node e)).0)) (OfNobody refl) h
   line_does (Hang n session) h =
-      stepped_does n (event.Hang session) None (with_call session (lac_at (at w.nodes n)))
+      stepped_does w number x n (event.Hang session) None (with_call session (lac_at (at w.nodes n)))
       (λ node e. is_there w n node ((is_lac_at (at w.nodes n) node (has_call session (lac_at (at w.nodes n)) node e)).0)) (OfNobody refl) h
   line_does (DropCall n session) h =
-      stepped_does n (event.DropCall session) None (with_call session (declared (at w.nodes n)))
+      stepped_does w number x n (event.DropCall session) None (with_call session (declared (at w.nodes n)))
       (λ node e. is_there w n node (is_declared (at w.nodes n) node (has_call session (declared (at w.nodes n)) node e))) (OfNobody refl) h
   line_does (Deliver k) h = delivers_does (k - 1) (slice_get w.packets (k - 1)) refl h
   line_does (Tick n milliseconds) h =
-      stepped_does n event.Tick None (later milliseconds (declared (at w.nodes n)))
+      stepped_does w number x n event.Tick None (later milliseconds (declared (at w.nodes n)))
       (λ node e. is_later w n milliseconds (at w.nodes n) node refl e) (OfNobody refl) h

@@ -154,8 +154,8 @@ module _ (x y : End) (o : Ordered x) where
       let n = ap (λ (e : End). e.session_ids.next) h.after ∙ next_is x.session_ids m.session h.drawn in
       let role : y.role ≡ x.role = ap (λ (e : End). e.role) h.after in
       let tunnels = ap (λ (e : End). e.tunnels) h.after in
-      puts_new x y m.tunnel h.tunnel (record h.tunnel { calls = put h.tunnel.calls m.session (rung x.role m.port moment) }) m.session
-      (rung x.role m.port moment) (record { role = role; tunnels = tunnels; rises = omega (arith, n, d) }) o h.there refl d (omega (arith, n, d))
+      puts_new x y m.tunnel h.tunnel (record h.tunnel { calls = put h.tunnel.calls m.session (rung x.role m.subscriber moment) }) m.session
+      (rung x.role m.subscriber moment) (record { role = role; tunnels = tunnels; rises = omega (arith, n, d) }) o h.there refl d (omega (arith, n, d))
 
   replied_calls : (moment : ℕ) (ev : Event) (m : Replied) → Replies x moment ev m y → CallsGo x y m.tunnel
   replied_calls moment ev m h =

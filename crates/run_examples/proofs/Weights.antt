@@ -4,7 +4,7 @@ use Rattle.l2tp_header.specs.declared.header.Header.{Header}
 use Rattle.l2tp_header.specs.declared.header.HeaderError.{HeaderError}
 use Rattle.l2tp_header.specs.Reading.{header_of}
 use Rattle.protocol_model.specs.declared.event.Event.{Event}
-use Rattle.protocol_model.specs.declared.event.Event.TheVariants.{Datagram, Ring, Payload, Lower, Hang, OpenTunnel, DropCall, CloseTunnel, Tick}
+use Rattle.protocol_model.specs.declared.event.Event.TheVariants.{Datagram, Ring, Frame, Admitted, Payload, Lower, Hang, OpenTunnel, DropCall, CloseTunnel, Tick}
 use Rattle.step_laws.specs.Steps.{IsChain}
 use Rattle.protocol_model.specs.declared.tunnel.CallPlace.{CallPlace}
 use Rattle.protocol_model.specs.declared.tunnel.Look.{Look}
@@ -15,6 +15,8 @@ use Rattle.run_examples.proofs.Computing.{computing}
 peer_of : Event → ℕ
 peer_of (Datagram peer bytes) = peer
 peer_of (Ring port) = 0
+peer_of (Frame bytes) = 0
+peer_of (Admitted mac) = 0
 peer_of (Payload session frame) = 0
 peer_of (Lower session frame) = 0
 peer_of (Hang session) = 0
@@ -26,6 +28,8 @@ peer_of Tick = 0
 bytes_of : Event → List ℕ
 bytes_of (Datagram peer bytes) = bytes
 bytes_of (Ring port) = []
+bytes_of (Frame bytes) = bytes
+bytes_of (Admitted mac) = mac
 bytes_of (Payload session frame) = frame
 bytes_of (Lower session frame) = frame
 bytes_of (Hang session) = []

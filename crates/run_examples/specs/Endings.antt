@@ -35,11 +35,11 @@ places w n = option_map (λ node. node.end.calls) (at w.nodes n)
 -- Each call is gone once at each end that had it. The peer of the call that waited never heard of it, and isn't told.
 pub record CallsEndOnce : Type 0 where
   pub entries : entries_since 13 (run lines).entries ≡
-      Causes 13 4 cause.Operator ∷ Ends 13 4 1 ∷ message 13 10 4 9 2 2 2 4 (Cdn 1 3 None)
-      ∷ Causes 14 9 cause.Line ∷ Ends 14 9 2 ∷ message 14 11 9 4 1 1 4 2 (Cdn 2 1 None)
+      Causes 13 4 cause.Operator ∷ Ends 13 4 1 None ∷ message 13 10 4 9 2 2 2 4 (Cdn 1 3 None)
+      ∷ Causes 14 9 cause.Line ∷ Ends 14 9 2 None ∷ message 14 11 9 4 1 1 4 2 (Cdn 2 1 None)
       ∷ Drops 15 9 why.Session ∷ acknowledgement 15 12 9 4 1 5 3
       ∷ Drops 16 4 why.Session ∷ acknowledgement 16 13 4 9 2 3 5
-      ∷ Ends 17 9 1
+      ∷ Ends 17 9 1 None
       ∷ acknowledgement 18 14 9 4 1 5 3
       ∷ acknowledgement 19 15 4 9 2 3 5
       ∷ []

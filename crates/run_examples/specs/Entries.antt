@@ -4,12 +4,13 @@ use Rattle.l2tp_header.specs.Spelling.{control_bytes}
 use Rattle.avp_codec.specs.Spelling.{spelling}
 use Rattle.control_message.specs.declared.message.Message.{Message}
 use Rattle.control_message.specs.Pairs.{pairs_of}
-use Rattle.protocol_model.specs.Texts.{Entry, Sends, HandsUp, Ends, Drops, Causes}
+use Rattle.protocol_model.specs.Texts.{Entry, Frames, Sends, HandsUp, Ends, Drops, Causes}
 
 abbrev pub line_in : Entry → ℕ
 line_in (Sends line packet from to bytes) = line
 line_in (HandsUp line node session birth side frame) = line
-line_in (Ends line node session) = line
+line_in (Ends line node session padt) = line
+line_in (Frames line node bytes) = line
 line_in (Drops line node why) = line
 line_in (Causes line node cause) = line
 

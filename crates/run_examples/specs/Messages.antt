@@ -23,7 +23,7 @@ use Rattle.protocol_model.specs.declared.tunnel.Call.{Call}
 use Rattle.protocol_model.specs.declared.tunnel.Look.{Look}
 use Rattle.protocol_model.specs.declared.tunnel.Look.TheVariants as look
 use Rattle.protocol_model.specs.declared.tunnel.Role.TheVariants as role
-use Rattle.protocol_model.specs.Names.{address_of, calling_number}
+use Rattle.protocol_model.specs.Names.{subscriber, address_of, calling_number}
 use Rattle.protocol_model.specs.Turn.{opening_of}
 use Rattle.protocol_model.specs.End.{End, new_end, step}
 use Rattle.protocol_model.specs.World.{config_of}
@@ -47,13 +47,13 @@ lac_with c l n letters = record (new_end role.Lac (config_of 9 (address_of 4) No
 
 -- its call is asked for
 abbrev pub lac : Numbers → List Letter → End
-lac n letters = lac_with (record { remote = 0; state = WaitReply; since = 0; port = 70; steps = [] }) (look.Bound 1 (address_of 4)) n letters
+lac n letters = lac_with (record { remote = 0; state = WaitReply; since = 0; subscriber = subscriber 70; steps = [] }) (look.Bound 1 (address_of 4)) n letters
 
 -- its call is up, session 8 of the LNS
 abbrev pub lac_up : Numbers → List Letter → End
 lac_up n letters =
     lac_with
-    (record { remote = 8; state = Established; since = 0; port = 70; steps = record { state = WaitReply; event = IcrpAcc; next = Established } ∷ [] })
+    (record { remote = 8; state = Established; since = 0; subscriber = subscriber 70; steps = record { state = WaitReply; event = IcrpAcc; next = Established } ∷ [] })
     (look.Established 1 (address_of 4)) n letters
 
 abbrev pub letter_of : ℕ → Message → Letter
@@ -159,7 +159,7 @@ opening_lac = record (new_end role.Lac (config_of 9 (address_of 4) None false)) 
     record {
       control = record { local = 1; peer = address_of 4; remote = 0; state = states.WaitCtlReply; channel = channel 0 1 1 0; made = 0; heard = 0; closed = 0; challenge = None };
       letters = letter_of 0 (Sccrq (opening_of role.Lac (config_of 9 (address_of 4) None false) None None 1)) ∷ [];
-      calls = (3, record { remote = 0; state = WaitTunnel; since = 0; port = 70; steps = [] }) ∷ [];
+      calls = (3, record { remote = 0; state = WaitTunnel; since = 0; subscriber = subscriber 70; steps = [] }) ∷ [];
     },
   ) ∷ [];
   calls = (3, record { tunnel = 1; look = look.Unborn }) ∷ [];
@@ -171,7 +171,7 @@ sccrp window = Datagram (address_of 4) (control_bytes 1 0 0 1 (spelling (pairs_o
 
 -- the SCCRQ that it acknowledges makes the congestion window two letters wide; a window of one letter lets one go
 pub record WindowsAreKept : Type 0 where
-  pub eight : answer opening_lac (sccrp 8) ≡ message 0 1 1 (Scccn None) ∷ message 0 2 1 (Icrq 3 3 (Some (calling_number 70))) ∷ []
+  pub eight : answer opening_lac (sccrp 8) ≡ message 0 1 1 (Scccn None) ∷ message 0 2 1 (Icrq 3 3 (Some (calling_number (subscriber 70)))) ∷ []
   pub one : answer opening_lac (sccrp 1) ≡ message 0 1 1 (Scccn None) ∷ []
 
 -- ---- openings that come again

@@ -46,7 +46,7 @@ packet ns nr = record {
 }
 
 abbrev pub world : ℕ → ℕ → ℕ → World
-world taken ns nr = record empty_world { nodes = (4, record { end = lns taken; clock = 0; births = [] }) ∷ []; packets = packet ns nr ∷ [] }
+world taken ns nr = record empty_world { nodes = (4, record { end = lns taken; clock = 0; births = []; access = None }) ∷ []; packets = packet ns nr ∷ [] }
 
 -- what its delivery in line 12 leads to, at an LNS that took so many messages
 abbrev pub delivery : ℕ → ℕ → ℕ → Result Lined Refusal

@@ -15,7 +15,7 @@ use Rattle.protocol_model.specs.declared.tunnel.CallPlace.{CallPlace}
 use Rattle.protocol_model.specs.declared.tunnel.Control.{Control}
 use Rattle.protocol_model.specs.declared.tunnel.Look.TheVariants as look
 use Rattle.protocol_model.specs.declared.tunnel.Role.TheVariants as role
-use Rattle.protocol_model.specs.Names.{address_of}
+use Rattle.protocol_model.specs.Names.{subscriber, address_of}
 use Rattle.protocol_model.specs.Turn.{rings_by, settles, turn_of}
 use Rattle.protocol_model.specs.End.{End, new_end, whole_space, env_of, after_turn, step}
 use Rattle.protocol_model.specs.World.{config_of}
@@ -23,7 +23,7 @@ use Rattle.run_examples.specs.Channels.{channel}
 
 -- a call that is up, by the LNS's session
 abbrev pub up : ℕ → Call
-up remote = record { remote = remote; state = Established; since = 0; port = 70; steps = [] }
+up remote = record { remote = remote; state = Established; since = 0; subscriber = subscriber 70; steps = [] }
 
 abbrev pub place : CallPlace
 place = record { tunnel = 1; look = look.Established 1 (address_of 4) }
@@ -55,7 +55,7 @@ has_room_held c = nat_le (c.channel.window.queued + 4) 8192
 abbrev pub careless : End
 careless =
     if has_room_held control
-    then (after_turn lac 1 [] calls (settles false [] (rings_by role.Lac lac.config 75 (draws lac.session_ids) (turn_of control (env_of lac 0 []))))).end
+    then (after_turn lac 1 [] calls (settles false [] (rings_by role.Lac lac.config (subscriber 75) (draws lac.session_ids) (turn_of control (env_of lac 0 []))))).end
     else lac
 
 -- the operator drops a call

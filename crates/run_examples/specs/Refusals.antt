@@ -4,7 +4,7 @@ use Rattle.wire_base.specs.declared.cause.Cause.TheVariants.{State}
 use Rattle.schedule_text.specs.declared.line.Line.{Line}
 use Rattle.schedule_text.specs.declared.line.Line.TheVariants.{Lac, OpenUp, Ring, Deliver}
 use Rattle.control_message.specs.declared.message.Message.TheVariants.{Icrq, Cdn}
-use Rattle.protocol_model.specs.Names.{calling_number}
+use Rattle.protocol_model.specs.Names.{subscriber, calling_number}
 use Rattle.protocol_model.specs.Texts.{Ends, Causes}
 use Rattle.protocol_model.specs.Run.{run, tables}
 use Rattle.run_examples.specs.Entries.{entries_since, message, acknowledgement}
@@ -27,15 +27,15 @@ lines = openings ++ calls
 -- error: 2, and 5 for a value that fits no state. That end's call is gone.
 pub record CallsAreRefused : Type 0 where
   pub entries : entries_since 9 (run lines).entries ≡
-      message 9 6 9 6 2 0 2 1 (Icrq 1 1 (Some (calling_number 70)))
-      ∷ message 10 7 9 6 2 0 3 1 (Icrq 2 2 (Some (calling_number 71)))
+      message 9 6 9 6 2 0 2 1 (Icrq 1 1 (Some (calling_number (subscriber 70))))
+      ∷ message 10 7 9 6 2 0 3 1 (Icrq 2 2 (Some (calling_number (subscriber 71))))
       ∷ Causes 11 6 State ∷ message 11 8 6 9 1 1 1 3 (Cdn 0 2 (Some 5))
       ∷ Causes 12 6 State ∷ message 12 9 6 9 1 2 2 4 (Cdn 0 2 (Some 5))
-      ∷ Ends 13 9 1 ∷ acknowledgement 13 10 9 6 2 4 2
-      ∷ Ends 14 9 2 ∷ acknowledgement 14 11 9 6 2 4 3
-      ∷ message 16 12 6 9 1 0 3 4 (Icrq 2 2 (Some (calling_number 81)))
+      ∷ Ends 13 9 1 None ∷ acknowledgement 13 10 9 6 2 4 2
+      ∷ Ends 14 9 2 None ∷ acknowledgement 14 11 9 6 2 4 3
+      ∷ message 16 12 6 9 1 0 3 4 (Icrq 2 2 (Some (calling_number (subscriber 81))))
       ∷ Causes 17 9 State ∷ message 17 13 9 6 2 2 4 4 (Cdn 0 2 (Some 5))
-      ∷ Ends 18 6 2 ∷ acknowledgement 18 14 6 9 1 4 5
+      ∷ Ends 18 6 2 None ∷ acknowledgement 18 14 6 9 1 4 5
       ∷ []
   pub tables : tables (run lines).world ≡
       codes "end 6 tunnel 1 9 0 wait-ctl-reply 0 current complete\n"

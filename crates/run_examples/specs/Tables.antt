@@ -1,9 +1,9 @@
 -- The tables at the end of a report, where a call isn't up yet, and where a letter wasn't taken.
-use Rattle.std.specs.Prelude.{◌≡◌, ℕ, List, [], ◌∷◌, ◌++◌, codes, None, false}
+use Rattle.std.specs.Prelude.{◌≡◌, ℕ, List, [], ◌∷◌, ◌++◌, codes, None, false, replicate}
 use Rattle.tunnel_fsm.specs.declared.table.TunnelState.TheVariants as states
 use Rattle.call_fsm.specs.declared.table.CallState.TheVariants.{Established, WaitReply}
 use Rattle.protocol_model.specs.declared.tunnel.Role.TheVariants as role
-use Rattle.protocol_model.specs.Names.{address_of}
+use Rattle.protocol_model.specs.Names.{subscriber, address_of}
 use Rattle.protocol_model.specs.Turn.{Tunnel}
 use Rattle.protocol_model.specs.End.{new_end}
 use Rattle.protocol_model.specs.World.{World, Node, config_of, empty_world}
@@ -16,8 +16,8 @@ lac queued = record {
   control = record { local = 1; peer = address_of 4; remote = 7; state = states.Established; channel = channel 2 queued 1 2; made = 0; heard = 0; closed = 0; challenge = None };
   letters = [];
   calls =
-      (1, record { remote = 5; state = Established; since = 0; port = 70; steps = [] })
-      ∷ (2, record { remote = 0; state = WaitReply; since = 0; port = 71; steps = [] })
+      (1, record { remote = 5; state = Established; since = 0; subscriber = subscriber 70; steps = [] })
+      ∷ (2, record { remote = 0; state = WaitReply; since = 0; subscriber = subscriber 71; steps = [] })
       ∷ [];
 }
 
@@ -26,7 +26,7 @@ abbrev pub lns : ℕ → Tunnel
 lns queued = record {
   control = record { local = 7; peer = address_of 9; remote = 1; state = states.Established; channel = channel 1 queued 1 3; made = 0; heard = 0; closed = 0; challenge = None };
   letters = [];
-  calls = (5, record { remote = 1; state = Established; since = 0; port = 0; steps = [] }) ∷ [];
+  calls = (5, record { remote = 1; state = Established; since = 0; subscriber = replicate 6 0; steps = [] }) ∷ [];
 }
 
 abbrev pub lac_node : ℕ → Node
@@ -34,10 +34,11 @@ lac_node queued = record {
   end = record (new_end role.Lac (config_of 9 (address_of 4) None false)) { tunnels = (1, lac queued) ∷ [] };
   clock = 0;
   births = (1, 2) ∷ (2, 1) ∷ [];
+  access = None;
 }
 
 abbrev pub lns_node : ℕ → Node
-lns_node queued = record { end = record (new_end role.Lns (config_of 4 0 None false)) { tunnels = (7, lns queued) ∷ [] }; clock = 0; births = (5, 2) ∷ [] }
+lns_node queued = record { end = record (new_end role.Lns (config_of 4 0 None false)) { tunnels = (7, lns queued) ∷ [] }; clock = 0; births = (5, 2) ∷ []; access = None }
 
 -- where the LAC and the LNS keep so many letters, of which the first was acknowledged by none yet
 abbrev pub world : ℕ → ℕ → World

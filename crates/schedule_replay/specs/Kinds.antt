@@ -8,15 +8,24 @@ use Rattle.protocol_model.specs.declared.tunnel.Role.{Role}
 use Rattle.protocol_model.specs.declared.tunnel.Role.TheVariants as role
 use Rattle.protocol_model.specs.declared.event.Event.{Event}
 use Rattle.protocol_model.specs.declared.event.Event.TheVariants as event
+use Rattle.protocol_model.specs.Access.{Access}
 use Rattle.protocol_model.specs.End.{End}
 use Rattle.protocol_model.specs.World.{Node, lac_at, lns_at, with_call, with_tunnel, is_not_closed}
 use Rattle.end_core.specs.Fits.{fits, unless}
 use Rattle.schedule_replay.specs.declared.kinds.Kind.{Kind}
 use Rattle.schedule_replay.specs.declared.kinds.Kind.TheVariants.{Lac, Lns}
 
-abbrev pub end_in : Kind → End
-end_in (Lac e) = e
-end_in (Lns e) = e
+-- the end of a node, and where it is a LAC what it keeps of hosts
+pub record Site : Type 0 where
+  pub end : End
+  pub access : Option Access
+
+abbrev pub site_of : Kind → Site
+site_of (Lac l) = record { end = l.end; access = Some l.access }
+site_of (Lns e) = record { end = e; access = None }
+
+abbrev pub site_in : Node → Site
+site_in node = record { end = node.end; access = node.access }
 
 -- a node of this kind
 abbrev pub of_role : Role → Option Node → Result Node Why

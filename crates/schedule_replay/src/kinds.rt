@@ -1,17 +1,31 @@
 //! The end of a node, which is a LAC or an LNS.
 
-ghost use Rattle.std.specs.Prelude.{◌≡◌, IfOk};
-ghost use Rattle.protocol_model.specs.End.{new_end, step};
+ghost use Rattle.std.specs.Prelude.{◌≡◌, IfOk, is_some};
+ghost use Rattle.protocol_model.specs.Access.{access_with};
+ghost use Rattle.protocol_model.specs.End.{new_end};
+ghost use Rattle.protocol_model.specs.World.{farewell_by};
 ghost use Rattle.end_core.specs.Fits.{fits};
-ghost use Rattle.end_core.specs.Gives.{GivesStep};
+ghost use Rattle.schedule_replay.specs.Serving.{site_step, GivesSite};
 
-use end_core::{End, Given};
+use end_core::End;
 use lac_core::Lac;
 use lns_core::Lns;
 use protocol_model::{Config, Event, Role};
 use std::alloc::Global;
 use std::marker::Model;
-use wire_base::{NoMemory, Why};
+use tunnel_core::{Moves, Outputs};
+use wire_base::{Bytes, NoMemory, Why};
+
+/// What a step of a node's end gave.
+#[derive(Drop)]
+pub(crate) struct Moved {
+    /// What goes to the outside, in order.
+    pub(crate) outputs: Outputs,
+    /// What the step did, in order.
+    pub(crate) moves: Moves,
+    /// The Ethernet frame that answers a host, behind all outputs.
+    pub(crate) reply: Option<Bytes>,
+}
 
 /// A LAC or an LNS.
 #[derive(Drop)]
@@ -27,21 +41,20 @@ pub(crate) struct NodeEnd {
 }
 
 impl Model for NodeEnd {
-    ghost use Rattle.protocol_model.specs.End.{End as Known};
-    ghost use Rattle.schedule_replay.specs.Kinds.{end_in};
+    ghost use Rattle.schedule_replay.specs.Kinds.{Site, site_of};
 
-    ghost Value = { Known };
+    ghost Value = { Site };
 
-    ghost view = { λ n. end_in n.kind };
+    ghost view = { λ n. site_of n.kind };
 }
 
 impl NodeEnd {
-    /// An end without a tunnel. It takes no memory.
-    pub(crate) fn new(alloc: Global, role: Role, config: Config) -> NodeEnd
-        ensures { result ≡ new_end role config }
+    /// An end without a tunnel, and where it is a LAC without a host; it makes its cookies with this key. It takes no memory.
+    pub(crate) fn new(alloc: Global, role: Role, config: Config, key: [u8; 16]) -> NodeEnd
+        ensures { result ≡ record { end = new_end role config; access = access_with role key } }
     {
         let kind = match role {
-            Role::Lac => Kind::Lac(Lac::new(alloc, config)),
+            Role::Lac => Kind::Lac(Lac::new(alloc, config, key)),
             Role::Lns => Kind::Lns(Lns::new(alloc, config)),
         };
         NodeEnd { kind }
@@ -49,7 +62,7 @@ impl NodeEnd {
 
     /// The end, with its tunnels.
     pub(crate) fn end(&self) -> &End
-        ensures { result.now ≡ self.now }
+        ensures { result.now ≡ self.now.end }
     {
         match &self.kind {
             Kind::Lac(lac) => lac.end(),
@@ -59,7 +72,7 @@ impl NodeEnd {
 
     /// Why an event doesn't fit, where it names a call that isn't live, or a tunnel that isn't, or is closed.
     pub(crate) fn fits(&self, event: &Event) -> Option<Why>
-        ensures { result ≡ fits self.now event.now }
+        ensures { result ≡ fits self.now.end event.now }
     {
         match &self.kind {
             Kind::Lac(lac) => lac.fits(event),
@@ -68,17 +81,49 @@ impl NodeEnd {
     }
 
     /// A step of the end on an event, at a moment in milliseconds, with a block of random bytes.
+    #[tactic(auto, unfolding(crate::specs::Serving::site_step))]
     pub(crate) fn step(
         &mut self,
         moment: u64,
         block: [u8; 16],
         event: &Event,
-    ) -> Result<Given, NoMemory>
-        ensures { GivesStep result (step self.old moment block event.now) self.old self.new }
+    ) -> Result<Moved, NoMemory>
+        ensures { GivesSite result (site_step self.old moment block event.now) self.old self.new }
     {
         match &mut self.kind {
-            Kind::Lac(lac) => lac.step(moment, block, event),
-            Kind::Lns(lns) => lns.step(moment, block, event),
+            Kind::Lac(lac) => {
+                let given = lac.step(moment, block, event)?;
+                Ok(Moved {
+                    outputs: given.outputs,
+                    moves: given.moves,
+                    reply: given.reply,
+                })
+            }
+            Kind::Lns(lns) => {
+                let given = lns.step(moment, block, event)?;
+                Ok(Moved {
+                    outputs: given.outputs,
+                    moves: given.moves,
+                    reply: None,
+                })
+            }
+        }
+    }
+
+    /// Whether it is a LAC, which hosts come to.
+    pub(crate) fn has_hosts(&self) -> bool
+        ensures { result ≡ is_some self.now.access }
+    {
+        matches!(&self.kind, Kind::Lac(_))
+    }
+
+    /// The PADT to the host of a call that ended, where a host had it.
+    pub(crate) fn farewell(&self, alloc: Global, session: u32) -> Result<Option<Bytes>, NoMemory>
+        ensures { IfOk result (λ p. p ≡ farewell_by self.now.end.config.number session self.now.access) }
+    {
+        match &self.kind {
+            Kind::Lac(lac) => lac.padt(alloc, session),
+            Kind::Lns(_) => Ok(None),
         }
     }
 }

@@ -3,6 +3,7 @@
 ghost use Rattle.std.specs.Prelude.{◌≡◌, [], OnOk, IfOk, Ok};
 ghost use Rattle.id_table.specs.Ids.{put};
 ghost use Rattle.protocol_model.specs.Calls.{is_lac};
+ghost use Rattle.protocol_model.specs.Access.{access_with};
 ghost use Rattle.protocol_model.specs.End.{new_end};
 ghost use Rattle.protocol_model.specs.World.{config_of, count_at, later};
 
@@ -26,7 +27,7 @@ impl Model for Node {
 
     ghost Value = { Known };
 
-    ghost view = { λ n. record { end = n.end; clock = n.clock; births = n.births.entries } };
+    ghost view = { λ n. record { end = n.end.end; clock = n.clock; births = n.births.entries; access = n.end.access } };
 }
 
 /// A copy of a tunnel secret.
@@ -60,11 +61,12 @@ pub(crate) fn count_at(counts: &Table<u64>, id: u32) -> u64
 }
 
 impl Node {
-    pub(crate) fn new(alloc: Global, role: Role, config: Config) -> Node
-        ensures { result ≡ record { end = new_end role config; clock = 0; births = [] } }
+    /// A new node, whose LAC makes its cookies with this key.
+    pub(crate) fn new(alloc: Global, role: Role, config: Config, key: [u8; 16]) -> Node
+        ensures { result ≡ record { end = new_end role config; clock = 0; births = []; access = access_with role key } }
     {
         Node {
-            end: NodeEnd::new(alloc, role, config),
+            end: NodeEnd::new(alloc, role, config, key),
             clock: 0,
             births: Table::new(alloc),
         }

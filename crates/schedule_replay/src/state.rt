@@ -3,16 +3,19 @@
 ghost use Rattle.std.specs.Prelude.{◌≡◌, [], ◌∷◌, ◌++◌, ◌+◌, length, OnOk, IfOk, MatchResult, IsSome, slice_get, Ok, Err, None, Some, Option};
 ghost use Rattle.id_table.specs.Ids.{at};
 ghost use Rattle.protocol_model.specs.Texts.{send_text, entry_text, entries_text};
-ghost use Rattle.protocol_model.specs.World.{sent, birth_of, with_birth, is_born, moved, moved_all, shown, shown_all, entry_of, entries_of, declared, lac_at, lns_at, with_call, with_tunnel, later, added, block_of, stepped, arrival, refused_by, delivers, line as line_of};
+ghost use Rattle.protocol_model.specs.World.{sent, birth_of, with_birth, is_born, moved, moved_all, shown, shown_all, entry_of, entries_of, declared, lac_at, lns_at, with_call, with_tunnel, later, added, block_of, stepped, arrival, refused_by, delivers, farewell_in, framed, line as line_of};
 ghost use Rattle.protocol_model.specs.Run.{tables};
-ghost use Rattle.schedule_replay.specs.Fault.{new_told, Leads, Says};
+ghost use Rattle.schedule_replay.specs.Fault.{new_told, Leads, LeadsTo, Says};
+ghost use Rattle.schedule_replay.specs.Serving.{served_at, reply_entries, IsPlain};
 ghost use Rattle.schedule_replay.specs.Kinds.{of_role, fitting};
 
 use crate::age::too_old;
 use crate::fault::LineFault;
 use crate::node::{Node, config_of, copy_secret, count_at};
 use crate::tables::{push_agreement_table, push_end_table};
-use crate::texts::{push_cause, push_drop, push_gone, push_send, push_up};
+use crate::texts::{
+    push_cause, push_drop, push_farewell, push_frame, push_gone, push_send, push_up,
+};
 use byteorder::{BigEndian, ByteOrder};
 use id_table::Table;
 use protocol_model::{Event, Move, Origin, Out, Packet, Refusal, Role, address_of, node_of};
@@ -90,6 +93,16 @@ impl State {
         })
     }
 
+    /// The PADT to the host of a node's call that ended, where a host had it.
+    fn farewell(&self, node: u8, session: u32) -> Result<Option<Bytes>, NoMemory>
+        ensures { IfOk result (λ p. p ≡ farewell_in session (at self.now.world.nodes node)) }
+    {
+        match self.nodes.get(u32::from(node)) {
+            Some(node) => node.end.farewell(self.alloc, session),
+            None => Ok(None),
+        }
+    }
+
     /// An output of a node's step, in a line.
     #[tactic(auto, unfolding(protocol_model::specs::World::shown, protocol_model::specs::World::entry_of))]
     fn show(&mut self, line: u64, node: u8, out: Out) -> Result<(), NoMemory>
@@ -118,7 +131,11 @@ impl State {
                     frame.as_slice(),
                 )
             }
-            Out::Gone { session } => push_gone(&mut self.report, line, node, session),
+            Out::Gone { session } => {
+                let padt = self.farewell(node, session)?;
+                push_gone(&mut self.report, line, node, session)?;
+                push_farewell(&mut self.report, line, node, &padt)
+            }
             Out::Drop { why } => push_drop(&mut self.report, line, node, why),
             Out::Cause { cause } => push_cause(&mut self.report, line, node, cause),
         }
@@ -195,37 +212,75 @@ impl State {
         Ok(())
     }
 
-    /// A node's step on an event, in a line, at the moment of its clock.
-    #[tactic(auto, unfolding(protocol_model::specs::World::stepped, protocol_model::specs::World::after_step, protocol_model::specs::World::given))]
-    fn step(&mut self, line: u64, node: u8, event: &Event) -> Result<(), NoMemory>
+    /// The answer to a host, in a line, where there is one.
+    fn reply(&mut self, line: u64, node: u8, reply: &Option<Bytes>) -> Result<(), NoMemory>
+        ensures world { self.new.world ≡ self.old.world }
+        ensures report { OnOk result (self.new.report ≡ self.old.report ++ entries_text (reply_entries line node reply.now)) }
+    {
+        match reply {
+            Some(frame) => push_frame(&mut self.report, line, node, frame.as_slice()),
+            None => Ok(()),
+        }
+    }
+
+    /// What a node's step on an event does, in a line, at the moment of its clock.
+    #[tactic(auto, using(crate::proofs::Serving::both_text), unfolding(crate::specs::Serving::served_at, crate::specs::Serving::served_line, crate::specs::Serving::moved_to))]
+    fn serve(&mut self, line: u64, node: u8, event: &Event) -> Result<(), NoMemory>
         requires { IsSome (at self.old.world.nodes node) }
-        ensures { OnOk result (Leads (stepped self.old.world line node event.now None (declared (at self.old.world.nodes node))) self.old self.new) }
+        ensures { OnOk result (LeadsTo (served_at self.old.world line node event.now (at self.old.world.nodes node)) self.old self.new) }
     {
         let Some(at) = self.nodes.get_mut(u32::from(node)) else {
             unreachable!()
         };
-        let given = at.end.step(at.clock, block_of(node, line), event)?;
-        self.follow_all(node, given.moves.as_slice())?;
-        self.show_all(line, node, given.outputs)
+        let moved = at.end.step(at.clock, block_of(node, line), event)?;
+        self.follow_all(node, moved.moves.as_slice())?;
+        self.show_all(line, node, moved.outputs)?;
+        self.reply(line, node, &moved.reply)
+    }
+
+    /// A node's step on an event that isn't of its access, in a line, at the moment of its clock.
+    #[tactic(auto, using(crate::proofs::Serving::plain_leads))]
+    fn step(&mut self, line: u64, node: u8, event: &Event) -> Result<(), NoMemory>
+        requires there { IsSome (at self.old.world.nodes node) }
+        requires plain { IsPlain event.now }
+        ensures { OnOk result (Leads (stepped self.old.world line node event.now None (declared (at self.old.world.nodes node))) self.old self.new) }
+    {
+        self.serve(line, node, event)
+    }
+
+    /// An Ethernet frame comes to a node, in a line.
+    #[tactic(auto, using(crate::proofs::Serving::frame_leads, crate::proofs::Serving::frame_unfit, crate::proofs::Serving::frame_nowhere))]
+    fn take_frame(&mut self, line: u64, node: u8, bytes: &Bytes) -> Result<(), LineFault>
+        ensures { Says result (framed self.old.world line node bytes.now (lac_at (at self.old.world.nodes node))) self.old self.new }
+    {
+        match self.nodes.get(u32::from(node)) {
+            Some(at) if at.is_lac() && at.end.has_hosts() => {}
+            _ => return Err(LineFault::unfit(Why::Node)),
+        }
+        let bytes = Bytes::from_slice(self.alloc, bytes.as_slice())?;
+        self.serve(line, node, &Event::Frame { bytes })?;
+        Ok(())
     }
 
     /// A new node, with this tunnel secret, which hides its calling numbers by it where `hide` is set.
     #[tactic(auto, unfolding(protocol_model::specs::World::added))]
     fn add(
         &mut self,
+        line: u64,
         node: u8,
         role: Role,
         lns: u32,
         secret: &Option<Bytes>,
         hide: bool,
     ) -> Result<(), LineFault>
-        ensures { Says result (added self.old.world node role lns secret.now hide) self.old self.new }
+        ensures { Says result (added self.old.world line node role lns secret.now hide) self.old self.new }
     {
         if self.nodes.contains(u32::from(node)) {
             return Err(LineFault::unfit(Why::Twice));
         }
         let secret = copy_secret(self.alloc, secret)?;
-        let new = Node::new(self.alloc, role, config_of(node, lns, secret, hide));
+        let config = config_of(node, lns, secret, hide);
+        let new = Node::new(self.alloc, role, config, block_of(node, line));
         self.nodes.insert(u32::from(node), new)?;
         Ok(())
     }
@@ -233,6 +288,7 @@ impl State {
     /// An event of a node, in a line.
     #[tactic(auto, unfolding(protocol_model::specs::World::stepped))]
     fn step_fitting(&mut self, line: u64, node: u8, event: &Event) -> Result<(), LineFault>
+        requires { IsPlain event.now }
         ensures { Says result (stepped self.old.world line node event.now None (fitting event.now (declared (at self.old.world.nodes node)))) self.old self.new }
     {
         match self.nodes.get(u32::from(node)) {
@@ -250,6 +306,7 @@ impl State {
     /// An event of a node of this kind, in a line.
     #[tactic(auto, unfolding(protocol_model::specs::World::stepped))]
     fn step_of(&mut self, line: u64, node: u8, role: Role, event: &Event) -> Result<(), LineFault>
+        requires { IsPlain event.now }
         ensures { Says result (stepped self.old.world line node event.now None (fitting event.now (of_role role (at self.old.world.nodes node)))) self.old self.new }
     {
         match self.nodes.get(u32::from(node)) {
@@ -341,8 +398,8 @@ impl State {
                 lns,
                 secret,
                 hide,
-            } => self.add(*node, Role::Lac, address_of(*lns), secret, *hide),
-            Line::Lns { node, secret } => self.add(*node, Role::Lns, 0, secret, false),
+            } => self.add(number, *node, Role::Lac, address_of(*lns), secret, *hide),
+            Line::Lns { node, secret } => self.add(number, *node, Role::Lns, 0, secret, false),
             Line::OpenUp { node } => self.step_of(number, *node, Role::Lac, &Event::OpenTunnel),
             Line::Close { node, tunnel } => {
                 let tunnel = *tunnel;
@@ -352,6 +409,7 @@ impl State {
                 let port = *port;
                 self.step_of(number, *node, Role::Lac, &Event::Ring { port })
             }
+            Line::Frame { node, bytes } => self.take_frame(number, *node, bytes),
             Line::FromSub {
                 node,
                 session,

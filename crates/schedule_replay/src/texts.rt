@@ -4,7 +4,7 @@ ghost use Rattle.std.specs.Prelude.{◌≡◌, ◌≤◌, ◌++◌, codes, lengt
 ghost use Rattle.std.specs.Fmt.{decimal};
 ghost use Rattle.hex.specs.Hex.{encode_lower};
 ghost use Rattle.protocol_model.specs.Names.{node_of};
-ghost use Rattle.protocol_model.specs.Texts.{◌&◌, send_text, side_word, up_text, gone_text, drop_text, cause_text};
+ghost use Rattle.protocol_model.specs.Texts.{◌&◌, send_text, side_word, up_text, gone_text, frame_text, farewell_text, drop_text, cause_text};
 ghost use Rattle.protocol_model.specs.Run.{tunnel_text, call_text, agree_text, unfit_text, half_space_text, refusal_text};
 
 use itoa::Buffer;
@@ -135,6 +135,33 @@ pub(crate) fn push_gone(out: &mut Bytes, line: u64, node: u8, session: u32) -> R
     push_count(out, u64::from(node))?;
     push_count(out, u64::from(session))?;
     out.push_slice(b"\n")
+}
+
+/// An Ethernet frame that a LAC sends to a host: the line, the node, and its bytes.
+#[tactic(auto, unfolding(protocol_model::specs::Texts::frame_text))]
+pub(crate) fn push_frame(out: &mut Bytes, line: u64, node: u8, bytes: &[u8]) -> Result<(), NoMemory>
+    ensures { OnOk result (out.new ≡ out.old ++ frame_text line node bytes.now) }
+{
+    push_number(out, line)?;
+    push_word(out, b"frame")?;
+    push_count(out, u64::from(node))?;
+    push_hex(out, bytes)?;
+    out.push_slice(b"\n")
+}
+
+/// The PADT to the host of a call that ended, where a host had it: the line, the node, and its bytes.
+pub(crate) fn push_farewell(
+    out: &mut Bytes,
+    line: u64,
+    node: u8,
+    padt: &Option<Bytes>,
+) -> Result<(), NoMemory>
+    ensures { OnOk result (out.new ≡ out.old ++ farewell_text line node padt.now) }
+{
+    match padt {
+        Some(padt) => push_frame(out, line, node, padt.as_slice()),
+        None => Ok(()),
+    }
 }
 
 /// An input that was ignored: the line, the node, and why.

@@ -13,9 +13,9 @@ use Rattle.hex.specs.Hex.{decode_of, encode_lower, encode_with, lower_digits, Is
 use Rattle.hex.specs.declared.error.FromHexError.{FromHexError}
 use Rattle.hex.proofs.HexLemmas.{decode_of-encode_lower, decode_of-ok}
 use Rattle.schedule_text.specs.declared.line.Line.{Line}
-use Rattle.schedule_text.specs.declared.line.Line.TheVariants.{Remark, Lac, Lns, OpenUp, Close, Ring, FromSub, Down, Hang, DropCall, Deliver, Tick}
-use Rattle.schedule_text.specs.Grammar.{call_text, line_text, IsPrintable, IsNode, IsPort, IsSession, IsTunnel, IsFrame, IsPacket, IsMilliseconds, IsSecret, HasSecret, secret_text, mode_text, FitsLine}
-use Rattle.schedule_text.specs.Reading.{◌>>=◌, cut, node_of, port_of, session_of, packet_of, milliseconds_of, bytes_from, bytes_of, frame_of, secret_of, mode_of, mode_words_of, lac_by, lac_of, lns_of, open_of, ring_of, call_of, from_sub_of, down_of, node_session_of, hang_of, drop_of, close_of, deliver_of, tick_of, plain_of, words_of, is_printable, remark_of, line_of}
+use Rattle.schedule_text.specs.declared.line.Line.TheVariants.{Remark, Lac, Lns, OpenUp, Close, Ring, FromSub, Down, Hang, DropCall, Frame, Deliver, Tick}
+use Rattle.schedule_text.specs.Grammar.{call_text, line_text, IsPrintable, IsNode, IsPort, IsSession, IsTunnel, IsFrame, IsEthernet, IsPacket, IsMilliseconds, IsSecret, HasSecret, secret_text, mode_text, FitsLine}
+use Rattle.schedule_text.specs.Reading.{◌>>=◌, cut, node_of, port_of, session_of, packet_of, milliseconds_of, bytes_from, bytes_of, frame_of, ethernet_of, secret_of, mode_of, mode_words_of, lac_by, lac_of, lns_of, open_of, ring_of, call_of, from_sub_of, down_of, node_session_of, hang_of, drop_of, close_of, frame_line_of, deliver_of, tick_of, plain_of, words_of, is_printable, remark_of, line_of}
 use Rattle.schedule_text.proofs.Numbers.{own, number_found, number_again}
 
 -- ---- parts
@@ -330,6 +330,29 @@ close_found words l e =
     let spelled : IsSpelled (Close call.0 call.1) (codes "close " ++ words) = ((k.node, k.session), rw k.spelled (simp append_assoc)) in
     subst (λ x. IsSpelled x (codes "close " ++ words)) (same_Some (Close call.0 call.1) l hc) spelled)
 
+-- ---- an Ethernet frame that was read
+
+ethernet_found : (word bytes : List ℕ) → ethernet_of word ≡ Some bytes → (word ≡ encode_lower bytes) × IsEthernet bytes
+ethernet_found word bytes e = bytes_found 1 2048 word bytes e
+
+-- the same bytes, as words that are cut in turn
+regroup_frame_line : (node : ℕ) (bytes : List ℕ) → decimal node ++ codes " " ++ encode_lower bytes ≡ decimal node ++ 32 ∷ encode_lower bytes
+regroup_frame_line node bytes = simp append_assoc
+
+frame_line_found : (words : List ℕ) (l : Line) → frame_line_of words ≡ Some l → IsSpelled l (codes "frame " ++ words)
+unfolding frame_line_of
+frame_line_found words l e =
+    bound (cut 32 words) _ l e (λ a ea ha.
+    bound (node_of a.0) _ l ha (λ node en hn.
+    bound (ethernet_of a.1) _ l hn (λ bytes eb hb.
+    let n = node_found node a.0 en in
+    let b = ethernet_found a.1 bytes eb in
+    let text : words ≡ decimal node ++ codes " " ++ encode_lower bytes = cut_words words a.0 a.1 node ea n.0 ∙ ap (λ t. decimal node ++ 32 ∷ t) b.0 ∙ sym (regroup_frame_line node bytes) in
+    let spelled : IsSpelled (Frame node bytes) (codes "frame " ++ words) = ((n.1, b.1), ap (λ t. codes "frame " ++ t) text) in
+    subst (λ x. IsSpelled x (codes "frame " ++ words)) (same_Some (Frame node bytes) l hb) spelled)))
+
+-- ---- other lines that were read
+
 deliver_found : (words : List ℕ) (l : Line) → deliver_of words ≡ Some l → IsSpelled l (codes "deliver " ++ words)
 unfolding deliver_of
 deliver_found words l e =
@@ -391,7 +414,10 @@ words_found kind words l e =
           | inl a ↦ kind_spelled kind (codes "data") words l a.0 (from_sub_found words l a.1)
           | inr e3 ↦ elim (either (bytes_eq kind (codes "down")) (down_of words) _ l e3) [
             | inl a ↦ kind_spelled kind (codes "down") words l a.0 (down_found words l a.1)
-            | inr e4 ↦ plain_found kind words l e4
+            | inr e4 ↦ elim (either (bytes_eq kind (codes "frame")) (frame_line_of words) _ l e4) [
+              | inl a ↦ kind_spelled kind (codes "frame") words l a.0 (frame_line_found words l a.1)
+              | inr e5 ↦ plain_found kind words l e5
+            ]
           ]
         ]
       ]
@@ -562,6 +588,11 @@ down_again : (node session : ℕ) (frame : List ℕ) → IsNode node → IsSessi
 unfolding down_of
 down_again node session frame n s f = rw (regroup_call node session frame, call_again node session (encode_lower frame) n s, frame_again frame f) refl
 
+frame_line_again : (node : ℕ) (bytes : List ℕ) → IsNode node → IsEthernet bytes → frame_line_of (decimal node ++ 32 ∷ encode_lower bytes) ≡ Some (Frame node bytes)
+unfolding frame_line_of
+frame_line_again node bytes n h =
+    rw (node_cut node (encode_lower bytes) n, node_again node n, bytes_again 1 2048 bytes h.0 h.1 h.2) refl
+
 -- what is printable passes the test
 printable_again : (text : List ℕ) → AllByRecursion IsPrintable text → list_all is_printable text ≡ true
 printable_again [] h = refl
@@ -588,6 +619,7 @@ line_again (DropCall node session) h =
 line_again (Close node tunnel) h =
     let regrouped : decimal node ++ codes " " ++ decimal tunnel ≡ decimal node ++ 32 ∷ decimal tunnel = simp append_assoc in
     ap close_of regrouped ∙ close_again node tunnel h.0 h.1
+line_again (Frame node bytes) h = ap frame_line_of (regroup_frame_line node bytes) ∙ frame_line_again node bytes h.0 h.1
 line_again (Deliver packet) h = rw (number_again 1 4294967295 packet (omega arith) h.0 h.1) refl
 line_again (Tick node milliseconds) h =
     let regrouped : decimal node ++ codes " " ++ decimal milliseconds ≡ decimal node ++ 32 ∷ decimal milliseconds = simp append_assoc in

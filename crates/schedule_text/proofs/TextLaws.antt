@@ -7,7 +7,7 @@ use Rattle.std.proofs.lemmas.Bool.{cases_Bool, eqb-true, ne_eqb}
 use Rattle.std.proofs.lemmas.List.{append-nil, length-append}
 use Rattle.hex.specs.Hex.{encode_lower, lower_digits}
 use Rattle.schedule_text.specs.declared.line.Line.{Line}
-use Rattle.schedule_text.specs.declared.line.Line.TheVariants.{Remark, Lac, Lns, OpenUp, Close, Ring, FromSub, Down, Hang, DropCall, Deliver, Tick}
+use Rattle.schedule_text.specs.declared.line.Line.TheVariants.{Remark, Lac, Lns, OpenUp, Close, Ring, FromSub, Down, Hang, DropCall, Frame, Deliver, Tick}
 use Rattle.schedule_text.specs.Grammar.{call_text, secret_text, mode_text, line_text, IsPrintable, IsNode, IsSession, FitsLine, AreLines, spelling, IsText}
 use Rattle.schedule_text.specs.Reading.{put_first, text_lines}
 use Rattle.schedule_text.proofs.LineLaws.{Lacks, number_lacks, hex_lacks, digits_lack_feed, secret_lacks}
@@ -129,6 +129,9 @@ lacks_feed (Down node session frame) h = (refl, (refl, (refl, (refl, (refl, call
 lacks_feed (Hang node session) h = (refl, (refl, (refl, (refl, (refl, node_session_lacks node session h.0 h.1)))))
 lacks_feed (DropCall node session) h = (refl, (refl, (refl, (refl, (refl, node_session_lacks node session h.0 h.1)))))
 lacks_feed (Close node tunnel) h = (refl, (refl, (refl, (refl, (refl, (refl, node_session_lacks node tunnel h.0 h.1))))))
+lacks_feed (Frame node bytes) h =
+    let front = lacks_append 10 (decimal node) (codes " ") (node_lacks node h.0) (refl, tt) in
+    (refl, (refl, (refl, (refl, (refl, (refl, lacks_append 10 _ (encode_lower bytes) front (hex_lacks 10 lower_digits bytes refl digits_lack_feed)))))))
 lacks_feed (Deliver packet) h = (refl, (refl, (refl, (refl, (refl, (refl, (refl, (refl, number_lacks 10 packet (omega arith) (omega arith)))))))))
 lacks_feed (Tick node milliseconds) h =
     let front = lacks_append 10 (decimal node) (codes " ") (node_lacks node h.0) (refl, tt) in
@@ -145,6 +148,7 @@ some_byte (Down node session frame) = omega arith
 some_byte (Hang node session) = omega arith
 some_byte (DropCall node session) = omega arith
 some_byte (Close node tunnel) = omega arith
+some_byte (Frame node bytes) = omega arith
 some_byte (Deliver packet) = omega arith
 some_byte (Tick node milliseconds) = omega arith
 

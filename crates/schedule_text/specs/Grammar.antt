@@ -4,7 +4,7 @@ use Rattle.std.specs.List.{flat_map, AllByRecursion}
 use Rattle.std.specs.Fmt.{decimal}
 use Rattle.hex.specs.Hex.{encode_lower, IsBytes}
 use Rattle.schedule_text.specs.declared.line.Line.{Line}
-use Rattle.schedule_text.specs.declared.line.Line.TheVariants.{Remark, Lac, Lns, OpenUp, Close, Ring, FromSub, Down, Hang, DropCall, Deliver, Tick}
+use Rattle.schedule_text.specs.declared.line.Line.TheVariants.{Remark, Lac, Lns, OpenUp, Close, Ring, FromSub, Down, Hang, DropCall, Frame, Deliver, Tick}
 use Rattle.schedule_text.specs.declared.error.ScheduleError.{ScheduleError}
 use Rattle.schedule_text.specs.declared.error.ScheduleError.TheVariants.{BadLine, NoMemory}
 
@@ -34,6 +34,7 @@ line_text (FromSub node session frame) = codes "data " ++ call_text node session
 line_text (Down node session frame) = codes "down " ++ call_text node session frame
 line_text (Hang node session) = codes "hang " ++ decimal node ++ codes " " ++ decimal session
 line_text (DropCall node session) = codes "drop " ++ decimal node ++ codes " " ++ decimal session
+line_text (Frame node bytes) = codes "frame " ++ decimal node ++ codes " " ++ encode_lower bytes
 line_text (Deliver packet) = codes "deliver " ++ decimal packet
 line_text (Tick node milliseconds) = codes "tick " ++ decimal node ++ codes " " ++ decimal milliseconds
 
@@ -65,6 +66,10 @@ HasSecret hide secret = hide ≡ true → IsSome secret
 abbrev pub IsFrame : List ℕ → Type 0
 IsFrame frame = (2 ≤ length frame) × (length frame ≤ 1494) × IsBytes frame
 
+-- an Ethernet frame from its destination address on; one that is too short for its header may come, or one longer than Ethernet's own
+abbrev pub IsEthernet : List ℕ → Type 0
+IsEthernet bytes = (1 ≤ length bytes) × (length bytes ≤ 2048) × IsBytes bytes
+
 abbrev pub IsPacket : ℕ → Type 0
 IsPacket n = (1 ≤ n) × (n ≤ 4294967295)
 
@@ -84,6 +89,7 @@ FitsLine (FromSub node session frame) = IsNode node × IsSession session × IsFr
 FitsLine (Down node session frame) = IsNode node × IsSession session × IsFrame frame
 FitsLine (Hang node session) = IsNode node × IsSession session
 FitsLine (DropCall node session) = IsNode node × IsSession session
+FitsLine (Frame node bytes) = IsNode node × IsEthernet bytes
 FitsLine (Deliver packet) = IsPacket packet
 FitsLine (Tick node milliseconds) = IsNode node × IsMilliseconds milliseconds
 

@@ -6,7 +6,7 @@ use Rattle.std.specs.Str.Parse.{digits_value}
 use Rattle.hex.specs.Hex.{decode_of, encode_lower}
 use Rattle.hex.specs.declared.error.FromHexError.{FromHexError}
 use Rattle.schedule_text.specs.declared.line.Line.{Line}
-use Rattle.schedule_text.specs.declared.line.Line.TheVariants.{Remark, Lac, Lns, OpenUp, Close, Ring, FromSub, Down, Hang, DropCall, Deliver, Tick}
+use Rattle.schedule_text.specs.declared.line.Line.TheVariants.{Remark, Lac, Lns, OpenUp, Close, Ring, FromSub, Down, Hang, DropCall, Frame, Deliver, Tick}
 use Rattle.schedule_text.specs.declared.error.ScheduleError.{ScheduleError}
 use Rattle.schedule_text.specs.declared.error.ScheduleError.TheVariants.{BadLine, NoMemory}
 
@@ -81,6 +81,9 @@ bytes_of least most word = bytes_from least most word (decode_of word)
 abbrev pub frame_of : List ℕ → Option (List ℕ)
 frame_of word = bytes_of 2 1494 word
 
+abbrev pub ethernet_of : List ℕ → Option (List ℕ)
+ethernet_of word = bytes_of 1 2048 word
+
 -- the secret that a word spells, or that there is none
 unfoldable pub secret_of : List ℕ → Option (Option (List ℕ))
 secret_of word = if bytes_eq word (codes "-") then Some None else (bytes_of 1 64 word >>= λ secret. Some (Some secret))
@@ -141,6 +144,10 @@ drop_of words = node_session_of words >>= λ call. Some (DropCall call.0 call.1)
 unfoldable pub close_of : List ℕ → Option Line
 close_of words = node_session_of words >>= λ tunnel. Some (Close tunnel.0 tunnel.1)
 
+unfoldable pub frame_line_of : List ℕ → Option Line
+frame_line_of words =
+    cut 32 words >>= λ first. node_of first.0 >>= λ node. ethernet_of first.1 >>= λ bytes. Some (Frame node bytes)
+
 unfoldable pub deliver_of : List ℕ → Option Line
 deliver_of words = packet_of words >>= λ packet. Some (Deliver packet)
 
@@ -166,6 +173,7 @@ words_of kind words =
     else if bytes_eq kind (codes "lns") then lns_of words
     else if bytes_eq kind (codes "data") then from_sub_of words
     else if bytes_eq kind (codes "down") then down_of words
+    else if bytes_eq kind (codes "frame") then frame_line_of words
     else plain_of kind words
 
 abbrev pub is_printable : ℕ → Bool

@@ -61,6 +61,11 @@ pub enum Line {
         node: u8,
         session: u16,
     },
+    /// An Ethernet frame of 1 to 2048 bytes comes to a LAC, from its destination address on.
+    Frame {
+        node: u8,
+        bytes: Bytes,
+    },
     /// A packet that was sent reaches its addressee.
     Deliver {
         packet: u32,

@@ -2,7 +2,7 @@
 
 ghost use Rattle.std.specs.Prelude.{◌≡◌, MatchOption, IfOk, Ok, Some, None};
 ghost use Rattle.std.specs.List.{list_all};
-ghost use Rattle.schedule_text.specs.Reading.{mode_of, mode_words_of, lac_by, lac_of, lns_of, open_of, ring_of, call_of, from_sub_of, down_of, node_session_of, hang_of, drop_of, close_of, deliver_of, tick_of, plain_of, words_of, is_printable, line_of, node_of, port_of, session_of, packet_of, bytes_from, bytes_of, frame_of, secret_of};
+ghost use Rattle.schedule_text.specs.Reading.{mode_of, mode_words_of, lac_by, lac_of, lns_of, open_of, ring_of, call_of, from_sub_of, down_of, node_session_of, hang_of, drop_of, close_of, frame_line_of, deliver_of, tick_of, plain_of, words_of, is_printable, line_of, node_of, port_of, session_of, packet_of, bytes_from, bytes_of, frame_of, ethernet_of, secret_of};
 
 use crate::line::Line;
 use crate::parts::{read_number, split_once};
@@ -65,11 +65,18 @@ fn read_bytes(
     }
 }
 
-/// The frame that a word spells.
+/// The frame of a call that a word spells.
 fn read_frame(alloc: Global, word: &[u8]) -> Result<Option<Bytes>, NoMemory>
     ensures { IfOk result (λ f. f ≡ frame_of word.now) }
 {
     read_bytes(alloc, word, 2, 1494)
+}
+
+/// The Ethernet frame that a word spells.
+fn read_ethernet(alloc: Global, word: &[u8]) -> Result<Option<Bytes>, NoMemory>
+    ensures { IfOk result (λ f. f ≡ ethernet_of word.now) }
+{
+    read_bytes(alloc, word, 1, 2048)
 }
 
 /// The secret that a word spells, or that there is none.
@@ -265,6 +272,23 @@ fn read_close(words: &[u8]) -> Option<Line>
     Some(Line::Close { node, tunnel })
 }
 
+/// `N HEX`, behind `frame `.
+#[tactic(auto, unfolding(crate::specs::Reading::frame_line_of))]
+fn read_frame_line(alloc: Global, words: &[u8]) -> Result<Option<Line>, NoMemory>
+    ensures { IfOk result (λ l. l ≡ frame_line_of words.now) }
+{
+    let Some((node, word)) = split_once(words, b' ') else {
+        return Ok(None);
+    };
+    let Some(node) = read_node(node) else {
+        return Ok(None);
+    };
+    let Some(bytes) = read_ethernet(alloc, word)? else {
+        return Ok(None);
+    };
+    Ok(Some(Line::Frame { node, bytes }))
+}
+
 /// `P`, behind `deliver `.
 #[tactic(auto, unfolding(crate::specs::Reading::deliver_of))]
 fn read_deliver(words: &[u8]) -> Option<Line>
@@ -322,6 +346,8 @@ fn read_words(alloc: Global, kind: &[u8], words: &[u8]) -> Result<Option<Line>, 
         read_from_sub(alloc, words)
     } else if kind == b"down".as_slice() {
         read_down(alloc, words)
+    } else if kind == b"frame".as_slice() {
+        read_frame_line(alloc, words)
     } else {
         Ok(read_plain(kind, words))
     }

@@ -47,9 +47,10 @@ fn read_all(alloc: Global, text: &[u8]) -> Result<Lines, ScheduleError>
 /// The lines of a schedule, in time and memory that grow with the text alone.
 ///
 /// The text is a list of lines in ASCII, each ended by a line feed, which the last may lack; the empty text has none.
-/// Words are parted by one space, numbers are decimal without sign or leading zero, and frames are pairs of hex digits in
-/// lower case. So are secrets, of 1 to 64 bytes; `-` says that there is none. The mode of a `lac` line is `plain` or `hide`:
-/// what is hidden is hidden by the secret (RFC 2661 section 4.3), so a line with the mode `hide` and no secret is a bad one.
+/// Words are parted by one space, numbers are decimal without sign or leading zero, and frames, of calls and of
+/// Ethernet, are pairs of hex digits in lower case. So are secrets, of 1 to 64 bytes; `-` says that there is none. The
+/// mode of a `lac` line is `plain` or `hide`: what is hidden is hidden by the secret (RFC 2661 section 4.3), so a line
+/// with the mode `hide` and no secret is a bad one.
 /// The error tells the first line that isn't in the grammar, counted from 1, and nothing of its text.
 pub fn read_schedule(alloc: Global, text: &[u8]) -> Result<Lines, ScheduleError>
     // What is read is a schedule.

@@ -117,7 +117,7 @@ module _ (laws : Laws) (accs : Accounts) (ends : Ends) (w : World) (n : ℕ) (e 
   t = h.moved.does.tunnel
 
   abbrev c : Call
-  c = rung e.role m.port moment
+  c = rung e.role m.subscriber moment
 
   abbrev u : Tunnel
   u = record t { calls = put t.calls s c }
@@ -155,7 +155,7 @@ module _ (laws : Laws) (accs : Accounts) (ends : Ends) (w : World) (n : ℕ) (e 
   unknown = ((world_holds laws.births w h.joined.moves h.joined.run).calls.nameless Z new).remote
 
   waits : c.state ≡ WaitTunnel
-  waits = rw h.moved.does.role (rung_row m.port moment)
+  waits = rw h.moved.does.role (rung_row m.subscriber moment)
 
   does : step all_rules w (AddsCall X Z) ≡ v
   does = adds_is w X Z (rw here.phase (goes_phase t.control.state h.moved.does.goes)) (name_some n s some) new
@@ -191,7 +191,7 @@ module _ (laws : Laws) (accs : Accounts) (ends : Ends) (w : World) (n : ℕ) (e 
     mine = inl (let is = session.0 in omega arith);
     calls = λ k q kfits qfits apart. added_other w X Z (name k q) (other_name k q n s qfits fits apart);
     here = rw (at_new t.calls s c) (
-      added_here w n i (after accs d n i).peer s c some (ap state_of waits) (rung_remote e.role m.port moment) unknown,
+      added_here w n i (after accs d n i).peer s c some (ap state_of waits) (rung_remote e.role m.subscriber moment) unknown,
       rw role fits_role,
       λ first. waits,
     );

@@ -1,5 +1,5 @@
 -- What the rows of calls' tables say of the machine's calls.
-use Rattle.std.proofs.Common.{◌≡◌, ℕ, Bool, true, false, refl, sym, ap, ◌∙◌}
+use Rattle.std.proofs.Common.{◌≡◌, ℕ, Bool, true, false, refl, sym, ap, ◌∙◌, List}
 use Rattle.std.proofs.lemmas.Bool.{true≢false}
 use Rattle.call_fsm.specs.declared.table.CallState.{CallState}
 use Rattle.call_fsm.specs.declared.table.CallState.TheVariants.{Idle, WaitTunnel, WaitReply, WaitConnect, Established}
@@ -266,13 +266,13 @@ else_waits r s on is (OnCdn it) same other = never (sym (ap is_else (sym same �
 
 -- ---- calls that are made
 
-pub rung_row : (port moment : ℕ) → (rung Lac port moment).state ≡ WaitTunnel
+pub rung_row : (who : List ℕ) (moment : ℕ) → (rung Lac who moment).state ≡ WaitTunnel
 unfolding rung advanced call_row
-rung_row port moment = refl
+rung_row who moment = refl
 
-pub rung_remote : (r : Role) (port moment : ℕ) → (rung r port moment).remote ≡ 0
+pub rung_remote : (r : Role) (who : List ℕ) (moment : ℕ) → (rung r who moment).remote ≡ 0
 unfolding rung advanced
-rung_remote r port moment = refl
+rung_remote r who moment = refl
 
 pub asked_state : (r : Role) (remote moment : ℕ) → (asked_for r remote moment).state ≡ (call_row r Idle IcrqAcc).0
 unfolding asked_for advanced

@@ -92,7 +92,7 @@ module _ (laws : Laws) (accs : Accounts) (ends : Ends) (w : World) (n : ℕ) (e 
   with_call = record t { calls = put t.calls s b }
 
   abbrev u : Tunnel
-  u = with_letter_as 0 (request_of s m.port) m.hidden with_call
+  u = with_letter_as 0 (request_of s m.subscriber) m.hidden with_call
 
   abbrev X : ℕ
   X = name n i

@@ -14,7 +14,7 @@ use Rattle.protocol_model.specs.declared.refusal.Refusal.{Refusal}
 use Rattle.protocol_model.specs.declared.tunnel.Role.{Role}
 use Rattle.protocol_model.specs.declared.tunnel.Role.TheVariants.{Lac, Lns}
 use Rattle.protocol_model.specs.End.{End, new_end, plain_step}
-use Rattle.protocol_model.specs.World.{World, Node, Sender, Deed, Lined, birth_in, birth_of, moved, moved_all, config_of, line}
+use Rattle.protocol_model.specs.World.{World, Node, Sender, Deed, Lined, birth_in, birth_of, moved, moved_all, config_of, line, new_node}
 use Rattle.protocol_model.specs.Run.{Run, empty_run, after_line, goes_on, run_from}
 use Rattle.epoch_machine.specs.Worlds as machine
 use Rattle.epoch_machine.specs.Moves as moves
@@ -245,7 +245,7 @@ module _ (keep : MovesKeep) (follow : MovesFollow) where
         count = rw born.count (omega arith);
       }
   line_follows w accs holds number x mw joined births room ds replies (ANode n role lns secret hide lt free none same born) =
-      let new : Node = record { end = new_end role (config_of n lns secret hide); clock = 0; births = [] } in
+      let new : Node = new_node number n role lns secret hide in
       let there : (m : ℕ) → with_end (ends_of w.nodes) n new.end m ≡ ends_of x.world.nodes m = λ m. ⊎_elim
       (λ (s : m ≡ n). subst (λ q. with_end (ends_of w.nodes) n new.end q ≡ ends_of x.world.nodes q) (sym s)
       (here_end (ends_of w.nodes) n new.end

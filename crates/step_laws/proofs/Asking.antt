@@ -41,7 +41,7 @@ use Rattle.protocol_model.specs.declared.tunnel.Role.TheVariants.{Lac, Lns}
 use Rattle.protocol_model.specs.declared.out.Out.TheVariants.{Cause}
 use Rattle.protocol_model.specs.Reading.{header_why, body_of, message_in, CallFault, call_fault_in, TunnelFault, tunnel_fault_in}
 use Rattle.protocol_model.specs.Calls.{call_row, advanced, rung, asked_for, is_request, is_connection, is_up, are_too_many}
-use Rattle.protocol_model.specs.Turn.{rejects, rejected, connected_reason, connected_event, Turn, with_output, with_move, with_change, with_call, with_new, with_local, with_calls, opened, opens_by, opens, accepted, accepts_by, accepts, rings_new, first_said, drops, gives, gives_as, has_room, settles, takes_one, reads_nr, requested, requests, requests_at, requests_all, adds, rings_over, rings_by, rings_within, rings, may_take, Reason, reason, out_of_state, refused, refuses, of_no_call, end_silent, end_told, ends_by, closes, answers_by, granted, asked_by, fault_reason, faulty_at, faulty, in_faulty_call, ends_all, is_closed, event_by, opening_reason, out_of_order, counts_taken, shut, shuts, closed_told, closes_tunnel, closed_by, shuts_by, connected, connects, confirms, takes_plain, ignores, takes_by, takes, replied, replies, first_up, first_up_by, second_up, second_up_by, ends_call, is_clean_up, end_heard, end_heard_by, session_named, ends_named, about_call, in_call, hears, hears_faulty, hears_said, hears_next, hears_letter, is_duplicate, in_tunnel, hears_control, carried, carries, hears_datagram}
+use Rattle.protocol_model.specs.Turn.{rejects, rejected, connected_reason, connected_event, Turn, with_output, with_move, with_change, with_call, with_new, with_local, with_calls, opened, opens_by, opens, accepted, accepts_by, accepts, rings_new, first_said, drops, gives, gives_as, has_room, settles, takes_one, reads_nr, requested, requests, requests_at, requests_all, adds, rings_over, rings_by, rings_within, rings, may_take, Reason, reason, out_of_state, refused, refuses, of_no_call, end_silent, end_told, ends_by, closes, answers_by, granted, asked_by, fault_reason, faulty_at, faulty, in_faulty_call, ends_all, is_closed, event_by, opening_reason, out_of_order, counts_taken, shut, shuts, closed_told, closes_tunnel, closed_by, shuts_by, connected, connects, confirms, takes_plain, ignores, takes_by, takes, replied, replies, first_up, first_up_by, second_up, second_up_by, ends_call, is_clean_up, end_heard, end_heard_by, session_named, ends_named, about_call, in_call, hears, hears_faulty, hears_said, hears_next, hears_letter, is_duplicate, in_tunnel, hears_control, carried, carries, hears_datagram, is_short, is_long}
 use Rattle.step_laws.specs.Letters.{Among}
 use Rattle.step_laws.proofs.Lists.{branch, found_among, with_calls-more}
 use Rattle.step_laws.proofs.States.{requested_state, connected_state, up_state}
@@ -598,22 +598,22 @@ module _ (role : Role) (calls : List (ℕ × Call)) where
 
   -- ---- rings
 
-  adds_changed : (port s : ℕ) (t : Turn) → (adds role port s t).changed ≡ t.changed ++ (s, Some (rung role port t.moment)) ∷ []
+  adds_changed : (who : List ℕ) (s : ℕ) (t : Turn) → (adds role who s t).changed ≡ t.changed ++ (s, Some (rung role who t.moment)) ∷ []
   unfolding adds with_move with_new
-  adds_changed port s t = refl
+  adds_changed who s t = refl
 
-  adds_state : (port s : ℕ) (t : Turn) → (adds role port s t).control.state ≡ t.control.state
+  adds_state : (who : List ℕ) (s : ℕ) (t : Turn) → (adds role who s t).control.state ≡ t.control.state
   unfolding adds with_move with_new
-  adds_state port s t = refl
+  adds_state who s t = refl
 
   -- the calls with the new one
-  with_added : (port s : ℕ) (t : Turn) → with_calls (adds role port s t).changed calls ≡ put (with_calls t.changed calls) s (rung role port t.moment)
-  with_added port s t = ap (λ xs. with_calls xs calls) (adds_changed port s t) ∙ with_calls-more t.changed s (Some (rung role port t.moment)) calls
+  with_added : (who : List ℕ) (s : ℕ) (t : Turn) → with_calls (adds role who s t).changed calls ≡ put (with_calls t.changed calls) s (rung role who t.moment)
+  with_added who s t = ap (λ xs. with_calls xs calls) (adds_changed who s t) ∙ with_calls-more t.changed s (Some (rung role who t.moment)) calls
 
   -- one that rings in an open tunnel is asked for
-  rung_asked : (k : Config) (port s : ℕ) (t : Turn) → state_number t.control.state ≡ 3 → Begins t
-      → Asked (requests role k s (rung role port t.moment) (adds role port s t))
-  rung_asked k port s t three b is_open q d there waits = ⊎_elim
+  rung_asked : (k : Config) (who : List ℕ) (s : ℕ) (t : Turn) → state_number t.control.state ≡ 3 → Begins t
+      → Asked (requests role k s (rung role who t.moment) (adds role who s t))
+  rung_asked k who s t three b is_open q d there waits = ⊎_elim
       (λ (is : q ≡ s). r.past d (subst (λ j. There v j d) is there) (subst (λ j. Waits role j d) is waits))
       (λ other. ⊎_elim
       (λ (a : (q ≡ s) × (c ≡ d)). absurd (other a.0))
@@ -622,16 +622,16 @@ module _ (role : Role) (calls : List (ℕ × Call)) where
       (same_or_not q s)
     where
       u : Turn
-      u = adds role port s t
+      u = adds role who s t
 
       c : Call
-      c = rung role port t.moment
+      c = rung role who t.moment
 
       v : Turn
       v = requests role k s c u
 
       found : (q : ℕ) (d : Call) → There u q d → ((q ≡ s) × (c ≡ d)) ⊎ ((q ≡ s → ⊥) × There t q d)
-      found q d there = found_put (with_calls t.changed calls) s c q d (subst (λ xs. at xs q ≡ Some d) (with_added port s t) there)
+      found q d there = found_put (with_calls t.changed calls) s c q d (subst (λ xs. at xs q ≡ Some d) (with_added who s t) there)
 
       was_open : IsOpening t → ⊥
       was_open opening = omega (arith, three, opening)
@@ -642,35 +642,35 @@ module _ (role : Role) (calls : List (ℕ × Call)) where
       r : Requested s u v
       r = requests_ok k s c u only
 
-  rings_over_asked : (k : Config) (port s : ℕ) (t : Turn) → (state_number t.control.state ≡ 3) ⊎ (state_number t.control.state ≡ 1) → Begins t
-      → Asked (rings_over role k port s t)
+  rings_over_asked : (k : Config) (who : List ℕ) (s : ℕ) (t : Turn) → (state_number t.control.state ≡ 3) ⊎ (state_number t.control.state ≡ 1) → Begins t
+      → Asked (rings_over role k who s t)
   unfolding rings_over
-  rings_over_asked k port s t goes b =
+  rings_over_asked k who s t goes b =
       branch Asked (state_number t.control.state == 3) _ _
-      (λ three. rung_asked k port s t (eqb-true (state_number t.control.state) 3 three) b)
+      (λ three. rung_asked k who s t (eqb-true (state_number t.control.state) 3 three) b)
       (λ other. λ is_open q d there waits.
-      absurd (⊎_elim (λ three. eqb-false (state_number t.control.state) 3 other three) (λ opening. is_open (ap state_number (adds_state port s t) ∙ opening)) goes))
+      absurd (⊎_elim (λ three. eqb-false (state_number t.control.state) 3 other three) (λ opening. is_open (ap state_number (adds_state who s t) ∙ opening)) goes))
 
   caused : (c : CauseOf) (t : Turn) → Begins t → Asked (with_output (Cause c) t)
   unfolding with_output
   caused c t b = same t (with_output (Cause c) t) refl refl b
 
-  rings_by_asked : (k : Config) (port : ℕ) (x : Result ℕ IdError) (t : Turn) → (state_number t.control.state ≡ 3) ⊎ (state_number t.control.state ≡ 1) → Begins t
-      → Asked (rings_by role k port x t)
+  rings_by_asked : (k : Config) (who : List ℕ) (x : Result ℕ IdError) (t : Turn) → (state_number t.control.state ≡ 3) ⊎ (state_number t.control.state ≡ 1) → Begins t
+      → Asked (rings_by role k who x t)
   unfolding rings_by
-  rings_by_asked k port (Err x) t goes b = caused cause.Ids t b
-  rings_by_asked k port (Ok s) t goes b = rings_over_asked k port s t goes b
+  rings_by_asked k who (Err x) t goes b = caused cause.Ids t b
+  rings_by_asked k who (Ok s) t goes b = rings_over_asked k who s t goes b
 
-  pub rings_asked : (c : Config) (letters : List Letter) (port : ℕ) (t : Turn) → Busy t → (state_number t.control.state ≡ 3) ⊎ (state_number t.control.state ≡ 1)
-      → Begins t → Asked (settles false letters (rings role c calls port t))
+  pub rings_asked : (c : Config) (letters : List Letter) (who : List ℕ) (t : Turn) → Busy t → (state_number t.control.state ≡ 3) ⊎ (state_number t.control.state ≡ 1)
+      → Begins t → Asked (settles false letters (rings role c calls who t))
   unfolding rings rings_within
-  rings_asked c letters port t busy goes b =
-      settled false letters (rings role c calls port t)
+  rings_asked c letters who t busy goes b =
+      settled false letters (rings role c calls who t)
       (branch Asked (state_number t.control.state == 0) _ _
       (λ idle. absurd (busy (eqb-true (state_number t.control.state) 0 idle)))
       (λ other. branch Asked (are_too_many calls) _ _
       (λ many. caused cause.Calls t b)
-      (λ few. branch Asked (may_take t.control calls) _ _ (λ may. rings_by_asked c port (draws t.sessions) t goes b) (λ full. caused cause.Queue t b))))
+      (λ few. branch Asked (may_take t.control calls) _ _ (λ may. rings_by_asked c who (draws t.sessions) t goes b) (λ full. caused cause.Queue t b))))
 
   -- ---- frames that are given
 
@@ -681,7 +681,11 @@ module _ (role : Role) (calls : List (ℕ × Call)) where
   pub carries_asked : (s : ℕ) (frame : List ℕ) (o : Option Call) (t : Turn) → Begins t → Asked (carries s frame o t)
   unfolding carries
   carries_asked s frame None t b = dropped why.Call t b
-  carries_asked s frame (Some c) t b = branch Asked (is_up c.state) _ _ (λ up. carried_asked s frame c t b) (λ down. dropped why.Closed t b)
+  carries_asked s frame (Some c) t b =
+      branch Asked (is_up c.state) _ _
+      (λ up. branch Asked (is_short frame) _ _ (λ short. dropped why.Short t b)
+      (λ short. branch Asked (is_long frame) _ _ (λ long. dropped why.Long t b) (λ long. carried_asked s frame c t b)))
+      (λ down. dropped why.Closed t b)
 
 -- ---- new tunnels: they have no calls, or their SCCRQ isn't answered yet
 
@@ -757,23 +761,23 @@ heard_new role c bytes (Ok k) t idle none =
     (λ busy. absurd (eqb-false (state_number t.control.state) 0 busy idle)))
     (λ data_is. drops_new why.Session t none)
 
-rung_new : (role : Role) (c : Config) (port s local : ℕ) (t : Turn) → t.control.state ≡ state.Idle → IsNew (adds role port s (opened role c local t))
+rung_new : (role : Role) (c : Config) (who : List ℕ) (s local : ℕ) (t : Turn) → t.control.state ≡ state.Idle → IsNew (adds role who s (opened role c local t))
 unfolding adds opened gives with_move with_local with_new
-rung_new role c port s local t idle = inl (rw idle refl)
+rung_new role c who s local t idle = inl (rw idle refl)
 
-rings_new_new : (role : Role) (c : Config) (port : ℕ) (x y : Result ℕ IdError) (t : Turn) → t.control.state ≡ state.Idle → t.changed ≡ []
-    → IsNew (rings_new role c port x y t)
+rings_new_new : (role : Role) (c : Config) (who : List ℕ) (x y : Result ℕ IdError) (t : Turn) → t.control.state ≡ state.Idle → t.changed ≡ []
+    → IsNew (rings_new role c who x y t)
 unfolding rings_new
-rings_new_new role c port (Err x) y t idle none = caused_new cause.Ids t none
-rings_new_new role c port (Ok s) (Err y) t idle none = caused_new cause.Ids t none
-rings_new_new role c port (Ok s) (Ok local) t idle none =
-    branch IsNew (has_room t.control) _ _ (λ may. rung_new role c port s local t idle) (λ full. caused_new cause.Queue t none)
+rings_new_new role c who (Err x) y t idle none = caused_new cause.Ids t none
+rings_new_new role c who (Ok s) (Err y) t idle none = caused_new cause.Ids t none
+rings_new_new role c who (Ok s) (Ok local) t idle none =
+    branch IsNew (has_room t.control) _ _ (λ may. rung_new role c who s local t idle) (λ full. caused_new cause.Queue t none)
 
-pub rings_is_new : (role : Role) (c : Config) (letters : List Letter) (port : ℕ) (t : Turn) → t.control.state ≡ state.Idle → t.changed ≡ []
-    → IsNew (settles false letters (rings role c [] port t))
+pub rings_is_new : (role : Role) (c : Config) (letters : List Letter) (who : List ℕ) (t : Turn) → t.control.state ≡ state.Idle → t.changed ≡ []
+    → IsNew (settles false letters (rings role c [] who t))
 unfolding rings
-rings_is_new role c letters port t idle none =
-    new_settled letters (rings role c [] port t)
+rings_is_new role c letters who t idle none =
+    new_settled letters (rings role c [] who t)
     (branch IsNew (state_number t.control.state == 0) _ _
-    (λ is. rings_new_new role c port (draws t.sessions) (draws t.tunnels) t idle none)
+    (λ is. rings_new_new role c who (draws t.sessions) (draws t.tunnels) t idle none)
     (λ busy. absurd (eqb-false (state_number t.control.state) 0 busy (ap state_number idle))))

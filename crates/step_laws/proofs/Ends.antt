@@ -1,4 +1,6 @@
 -- A turn of a tunnel is a chain of moves of its end.
+use Rattle.step_laws.proofs.Callers.{turns_ring}
+use Rattle.step_laws.specs.Callers.{IsRing}
 use Rattle.std.proofs.Common.{◌≡◌, ◌⊎◌, inl, inr, ⊎_elim, ℕ, ◌<◌, ◌≤◌, length, Bool, true, false, List, [], refl, sym, ap, ◌∙◌, subst, Option, Some, None, Result, Ok, Err, arith, rules}
 use Rattle.std.proofs.lemmas.Bool.{eqb-true, eq-eqb, ltb-true, true≢false}
 use Rattle.std.proofs.lemmas.List.{append-nil}
@@ -37,7 +39,7 @@ use Rattle.protocol_model.specs.declared.moves.Move.{Move}
 use Rattle.protocol_model.specs.declared.moves.Move.TheVariants as move
 use Rattle.protocol_model.specs.Reading.{body_of, message_in}
 use Rattle.protocol_model.specs.Calls.{call_row, is_up, is_told, owes}
-use Rattle.protocol_model.specs.Turn.{Tunnel, Env, Turn, turn_of, reason, is_closed, shuts_by, closes_tunnel, with_output, with_move, with_calls, closes, with_local, letter_of, opening_of, letters_after, has_room, learns_window, gives, takes_one, drops, lets_all_go, acknowledged_after, settles, fresh, opened, opens_by, opens, accepted, accepts_by, accepts, adds, rings_new, rings, first_said, hears_control, hears_datagram, carried, carries, turns, tunnel_after}
+use Rattle.protocol_model.specs.Turn.{Tunnel, Env, Turn, turn_of, reason, is_closed, shuts_by, closes_tunnel, with_output, with_move, with_calls, closes, with_local, letter_of, opening_of, letters_after, has_room, learns_window, gives, takes_one, drops, lets_all_go, acknowledged_after, settles, fresh, opened, opens_by, opens, accepted, accepts_by, accepts, adds, rings_new, rings, first_said, hears_control, hears_datagram, carried, carries, turns, tunnel_after, is_short, is_long}
 use Rattle.protocol_model.specs.End.{End, Stepped, env_of, gives_only, placed, with_looks, after_turn, after_new}
 use Rattle.step_laws.specs.Room.{IsChosen, RingsNew}
 use Rattle.step_laws.specs.Causes.{IsTold, ForNew, ForOpening, Stands}
@@ -273,12 +275,13 @@ module _ (e : End) (kept : AreKept e) (moment : ℕ) (ev : Event) where
           (hears_control_ok e moment ev t.letters t.calls i k.calls bytes h read control start begins refl same (is_for h bytes to) refl refl))
           (λ c. absurd (true≢false (sym control ∙ c))))
 
-      pub rung_chain : (port : ℕ) → (state_number t.control.state ≡ 3) ⊎ (state_number t.control.state ≡ 1) → IsChosen e i → t.control.peer ≡ e.config.lns → ev ≡ Ring port
-          → e.role ≡ Lac → leads (turns e.role e.config t.letters t.calls (Ring port) start)
-      unfolding turns begins
-      rung_chain port goes chosen lns same lac =
-          settled_leads _ (settles_ok e moment ev t.letters t.calls i false _
-          (rings_ok e moment ev t.letters t.calls i k.calls port start begins refl chosen lns same goes lac))
+      pub rung_chain : (who : List ℕ) → (state_number t.control.state ≡ 3) ⊎ (state_number t.control.state ≡ 1) → IsChosen e i → t.control.peer ≡ e.config.lns → IsRing ev who
+          → e.role ≡ Lac → leads (turns e.role e.config t.letters t.calls ev start)
+      unfolding begins
+      rung_chain who goes chosen lns same lac =
+          subst leads (sym (turns_ring e.role e.config t.letters t.calls ev who start same))
+          (settled_leads _ (settles_ok e moment ev t.letters t.calls i false _
+          (rings_ok e moment ev t.letters t.calls i k.calls who start begins refl chosen lns same goes lac)))
 
       -- a call is closed by an event of its table
       closed_chain : (for : Cause) (on : CallEvent) (result s : ℕ) → ((c : Call) → WhyEnds (at_turn e moment ev t.letters t.calls i start) (tunnel_after start t.letters t.calls) ev moment s c on result None)
@@ -365,7 +368,10 @@ module _ (e : End) (kept : AreKept e) (moment : ℕ) (ev : Event) where
       unfolding carries
       carries_chain s frame None found given = dropped_leads why.Call (λ q. absurd cc)
       carries_chain s frame (Some c) found given =
-          branch leads (is_up c.state) _ _ (λ up. carried_chain s frame c found up given) (λ down. dropped_leads why.Closed (λ q. absurd cc))
+          branch leads (is_up c.state) _ _
+          (λ up. branch leads (is_short frame) _ _ (λ short. dropped_leads why.Short (λ q. absurd cc))
+          (λ short. branch leads (is_long frame) _ _ (λ long. dropped_leads why.Long (λ q. absurd cc)) (λ long. carried_chain s frame c found up given)))
+          (λ down. dropped_leads why.Closed (λ q. absurd cc))
 
     -- ---- a tunnel that is new
 
@@ -442,24 +448,25 @@ module _ (e : End) (kept : AreKept e) (moment : ℕ) (ev : Event) where
               (λ may. made_leads _ (record { id = local; some = drawn_some local is; good = opened_good local (not_all e fewer) lac lns is }))
               (λ full. absurd (true≢false full))
 
-      rung_good : (port s local : ℕ) → length e.tunnels < 1024 → e.role ≡ Lac → peer ≡ e.config.lns → ev ≡ Ring port → draws e.session_ids ≡ Ok s
-          → draws e.tunnel_ids ≡ Ok local → TurnOk e moment ev [] [] local (adds e.role port s (opened e.role e.config local blank))
+      rung_good : (who : List ℕ) (s local : ℕ) → length e.tunnels < 1024 → e.role ≡ Lac → peer ≡ e.config.lns → IsRing ev who → draws e.session_ids ≡ Ok s
+          → draws e.tunnel_ids ≡ Ok local → TurnOk e moment ev [] [] local (adds e.role who s (opened e.role e.config local blank))
       unfolding opened gives with_move with_local with_calls
-      rung_good port s local fewer lac lns rings session drawn =
-          adds_ok e moment ev [] [] local port s (opened e.role e.config local blank) refl refl refl refl rings lac session (opened_good local fewer lac lns drawn)
+      rung_good who s local fewer lac lns rings session drawn =
+          adds_ok e moment ev [] [] local who s (opened e.role e.config local blank) refl refl refl refl rings lac session (opened_good local fewer lac lns drawn)
 
-      pub rings_chain : (port : ℕ) → e.role ≡ Lac → peer ≡ e.config.lns → ev ≡ Ring port → RingsNew e ev → has_all_tunnels e ≡ false
-          → leads_new (turns e.role e.config [] [] (Ring port) blank)
-      unfolding turns rings rings_new
-      rings_chain port lac lns rings new fewer = by (draws e.session_ids) (draws e.tunnel_ids) refl refl
+      pub rings_chain : (who : List ℕ) → e.role ≡ Lac → peer ≡ e.config.lns → IsRing ev who → RingsNew e ev → has_all_tunnels e ≡ false
+          → leads_new (turns e.role e.config [] [] ev blank)
+      unfolding rings rings_new
+      rings_chain who lac lns rings new fewer =
+          subst leads_new (sym (turns_ring e.role e.config [] [] ev who blank rings)) (by (draws e.session_ids) (draws e.tunnel_ids) refl refl)
         where
           by : (x y : Result ℕ IdError) → draws e.session_ids ≡ x → draws e.tunnel_ids ≡ y
-              → leads_new (settles false [] (rings_new e.role e.config port x y blank))
+              → leads_new (settles false [] (rings_new e.role e.config who x y blank))
           by (Err x) y is drawn = refused_new cause.Ids (ForNew new fewer (inl (x, is)))
           by (Ok s) (Err y) is drawn = refused_new cause.Ids (ForNew new fewer (inr (y, drawn)))
           by (Ok s) (Ok local) is drawn =
-              branch (λ u. leads_new (settles false [] u)) (has_room (fresh peer moment)) (adds e.role port s (opened e.role e.config local blank)) (with_output (Refused cause.Queue) blank)
-              (λ may. made_leads _ (record { id = local; some = drawn_some local drawn; good = rung_good port s local (not_all e fewer) lac lns rings is drawn }))
+              branch (λ u. leads_new (settles false [] u)) (has_room (fresh peer moment)) (adds e.role who s (opened e.role e.config local blank)) (with_output (Refused cause.Queue) blank)
+              (λ may. made_leads _ (record { id = local; some = drawn_some local drawn; good = rung_good who s local (not_all e fewer) lac lns rings is drawn }))
               (λ full. absurd (true≢false full))
 
       -- a window that is learned before the id is that of the tunnel with the id

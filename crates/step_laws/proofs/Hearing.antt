@@ -1,4 +1,5 @@
 -- What a tunnel hears is a chain of moves.
+use Rattle.step_laws.specs.Callers.{IsRing}
 use Rattle.std.proofs.Common.{◌≡◌, ◌⊎◌, inl, ⊎_elim, ℕ, Bool, true, false, cond, List, [], length, refl, sym, ap, ◌∙◌, subst, Option, Some, None, Result, Ok, Err, arith}
 use Rattle.std.proofs.lemmas.Bool.{eqb-true, eqb-false, true≢false}
 use Rattle.std.specs.Prelude.{◌==◌, unwrap_or}
@@ -274,38 +275,38 @@ module _ (e : End) (moment : ℕ) (ev : Event) (letters : List Letter) (calls : 
     goes_live : (t : Turn) → Goes t → is_closed t.control.state ≡ false
     goes_live t goes = ⊎_elim (λ is. live_open t.control is) (λ waits. live_in t.control 1 (λ f. omega (arith, f)) waits) goes
 
-    rings_over_ok : (port s : ℕ) (t : Turn) → Takes t → are_too_many calls ≡ false → Goes t → ev ≡ Ring port → e.role ≡ Lac → draws t.sessions ≡ Ok s
-        → TurnOk e moment ev letters calls i (rings_over e.role e.config port s t)
+    rings_over_ok : (who : List ℕ) (s : ℕ) (t : Turn) → Takes t → are_too_many calls ≡ false → Goes t → IsRing ev who → e.role ≡ Lac → draws t.sessions ≡ Ok s
+        → TurnOk e moment ev letters calls i (rings_over e.role e.config who s t)
     unfolding rings_over
-    rings_over_ok port s t f few goes rings lac drawn =
+    rings_over_ok who s t f few goes rings lac drawn =
         let few_now : are_too_many (with_calls t.changed calls) ≡ false = ap are_too_many (calls_first e moment ev letters calls i t f.fresh) ∙ few in
         let may = spare_first e moment ev letters calls i t f in
         branch (TurnOk e moment ev letters calls i) (state_number t.control.state == 3) _ _
-        (λ is. adds_asked_ok e moment ev letters calls i port s t f.fresh.changes (eqb-true (state_number t.control.state) 3 is) few_now may rings lac drawn
+        (λ is. adds_asked_ok e moment ev letters calls i who s t f.fresh.changes (eqb-true (state_number t.control.state) 3 is) few_now may rings lac drawn
         (small_draw t.sessions s drawn f.fresh.good.stays.2) f.fresh.good)
         (λ other. ⊎_elim
         (λ is_open. absurd (eqb-false (state_number t.control.state) 3 other is_open))
-        (λ waits. adds_ok e moment ev letters calls i port s t f.fresh.changes waits few_now may rings lac drawn f.fresh.good)
+        (λ waits. adds_ok e moment ev letters calls i who s t f.fresh.changes waits few_now may rings lac drawn f.fresh.good)
         goes)
 
     abbrev Rung : Turn → Type 0
     Rung u = TurnOk e moment ev letters calls i u
 
     -- over the tunnel that is there
-    module _ (port : ℕ) (t : Turn) (f : Fresh e moment ev letters calls i t) (same : f.first ≡ t.control) (chosen : IsChosen e i) (lns : t.control.peer ≡ e.config.lns) (rings_is : ev ≡ Ring port) where
+    module _ (who : List ℕ) (t : Turn) (f : Fresh e moment ev letters calls i t) (same : f.first ≡ t.control) (chosen : IsChosen e i) (lns : t.control.peer ≡ e.config.lns) (rings_is : IsRing ev who) where
       rings_there : RingsOver e ev (begun e moment ev letters calls i t f)
-      rings_there = record { port = port; rings = rings_is; id = i; chosen = chosen; there = f.there; peer = f.peer ∙ lns }
+      rings_there = record { subscriber = who; rings = rings_is; id = i; chosen = chosen; there = f.there; peer = f.peer ∙ lns }
 
       rings_by_ok : are_too_many calls ≡ false → may_take t.control calls ≡ true → Goes t → e.role ≡ Lac → (r : Result ℕ IdError) → draws t.sessions ≡ r
-          → Rung (rings_by e.role e.config port r t)
+          → Rung (rings_by e.role e.config who r t)
       unfolding rings_by
       rings_by_ok few may goes lac (Err x) is =
           caused_ok e moment ev letters calls i cause.Ids
           (ForRing (begun e moment ev letters calls i t f) x rings_there few (ap (λ c. may_take c calls) same ∙ may) (ap draws (sym f.sessions) ∙ is)) t f.good
       rings_by_ok few may goes lac (Ok s) is =
-          rings_over_ok port s t (record { fresh = f; live = goes_live t goes; may = may }) few goes rings_is lac is
+          rings_over_ok who s t (record { fresh = f; live = goes_live t goes; may = may }) few goes rings_is lac is
 
-      pub rings_ok : Goes t → e.role ≡ Lac → Rung (rings e.role e.config calls port t)
+      pub rings_ok : Goes t → e.role ≡ Lac → Rung (rings e.role e.config calls who t)
       unfolding rings rings_within
       rings_ok goes lac =
           branch Rung (state_number t.control.state == 0) _ _

@@ -1,4 +1,5 @@
 mod Lists
+mod Callers
 mod States
 mod Owing
 mod Tells

@@ -326,12 +326,12 @@ module _ (x : End) (ok : LooksAreTrue x) where
   does_looks order moment ev (move.Added m) y h =
       let fresh = draw_is x.session_ids m.session h.drawn in
       let next : y.session_ids.next ≡ m.session + 1 = ap (λ (e : End). e.session_ids.next) h.after ∙ drawn_next x.session_ids m.session h.drawn in
-      call_put y m.tunnel h.tunnel _ _ m.session (rung x.role m.port moment) (record {
+      call_put y m.tunnel h.tunnel _ _ m.session (rung x.role m.subscriber moment) (record {
         tunnels = ap (λ (e : End). e.tunnels) h.after;
         there = h.there;
         peer = refl;
         only = λ j u f o d g. no_tunnel m.session fresh j u f d g;
-        calls = same_places y.calls _ (ap (λ (e : End). e.calls) h.after ∙ rw (rung_state x.role m.port moment h.role) refl);
+        calls = same_places y.calls _ (ap (λ (e : End). e.calls) h.after ∙ rw (rung_state x.role m.subscriber moment h.role) refl);
         ids = ap (λ (e : End). e.tunnel_ids) h.after;
         drawn = omega (arith, next);
         rises = omega (arith, next, fresh);

@@ -99,8 +99,8 @@ up_owes s h = ap owes (up_state s h)
 pub replied_owes : (r : Role) (remote moment : ℕ) → is_reply (call_row r Idle call_event.IcrqAcc).1 ≡ true → owes (asked_for r remote moment).state ≡ 1
 replied_owes r remote moment h = ap owes (replied_state r remote moment h)
 
-pub rung_owes : (r : Role) (port moment : ℕ) → r ≡ Lac → owes (rung r port moment).state ≡ 3
-rung_owes r port moment h = ap owes (rung_state r port moment h)
+pub rung_owes : (r : Role) (who : List ℕ) (moment : ℕ) → r ≡ Lac → owes (rung r who moment).state ≡ 3
+rung_owes r who moment h = ap owes (rung_state r who moment h)
 
 -- one that isn't idle owes a letter
 pub some_owed : (s : CallState) → is_set_up s ≡ true → 1 ≤ owes s

@@ -1,4 +1,5 @@
 -- A turn hands nothing up, one call at most is born in it, and Nr is read once at most.
+use Rattle.protocol_model.specs.Names.{subscriber}
 use Rattle.std.proofs.Common.{◌≡◌, ℕ, ◌+◌, ◌≤◌, Bool, false, zero, suc, List, [], ◌∷◌, ◌++◌, length, refl, ap, ◌∙◌, Option, Some, None, Result, Ok, Err, arith}
 use Rattle.std.proofs.lemmas.Grind.{flat_map-append}
 use Rattle.std.proofs.lemmas.List.{append-nil, length-append}
@@ -39,14 +40,14 @@ use Rattle.protocol_model.specs.declared.tunnel.Call.{Call}
 use Rattle.protocol_model.specs.declared.tunnel.Config.{Config}
 use Rattle.protocol_model.specs.declared.tunnel.Role.{Role}
 use Rattle.protocol_model.specs.declared.event.Event.{Event}
-use Rattle.protocol_model.specs.declared.event.Event.TheVariants.{Datagram, Ring, Payload, Lower, Hang, OpenTunnel, DropCall, CloseTunnel, Tick}
+use Rattle.protocol_model.specs.declared.event.Event.TheVariants.{Datagram, Ring, Payload, Lower, Hang, OpenTunnel, DropCall, CloseTunnel, Tick, Admitted, Frame}
 use Rattle.protocol_model.specs.declared.out.Out.{Out}
 use Rattle.protocol_model.specs.declared.out.Out.TheVariants.{Gone, Drop, Cause as Refused}
 use Rattle.protocol_model.specs.declared.moves.Move.{Move}
 use Rattle.protocol_model.specs.declared.moves.Move.TheVariants as move
 use Rattle.protocol_model.specs.Reading.{header_why, body_of, message_in, CallFault, call_fault_in, TunnelFault, tunnel_fault_in}
 use Rattle.protocol_model.specs.Calls.{call_row, rung, is_set_up, is_request, is_connection, is_up, are_too_many}
-use Rattle.protocol_model.specs.Turn.{rejects, rejected, connected_reason, connected_event, Turn, with_output, with_move, with_change, with_call, with_new, with_local, drops, gives, gives_as, has_room, sends_letter, sends_now, lets_go, goes_by, lets_all_go, acknowledges, outstanding, acknowledged_after, settles, takes_one, reads_nr, opened, opens_by, opens, accepted, accepts_by, accepts, requested, requests, requests_at, requests_all, adds, rings_over, rings_by, rings_new, rings, is_closed, event_by, opening_reason, out_of_order, shuts, closed_told, closes_tunnel, closed_by, shuts_by, connected, connects, confirms, takes_plain, ignores, takes_by, takes, Reason, reason, out_of_state, may_take, granted, replied, replies, refused, refuses, of_no_call, answers_by, asked_by, faulty_at, fault_reason, faulty, in_faulty_call, closes, ends_by, rings_within, first_up, first_up_by, second_up, second_up_by, ends_call, ends_all, is_clean_up, end_heard, end_heard_by, session_named, ends_named, repeats, greeted, greets, end_silent, end_told, limits_at, limits_all, goes_quietly, clears, is_over, patience, is_at_its_end, ticks_by, ticks, about_call, in_call, hears, hears_faulty, hears_said, hears_next, hears_letter, is_duplicate, in_tunnel, first_said, hears_control, carried, carries, hears_datagram, turns}
+use Rattle.protocol_model.specs.Turn.{rejects, rejected, connected_reason, connected_event, Turn, with_output, with_move, with_change, with_call, with_new, with_local, drops, gives, gives_as, has_room, sends_letter, sends_now, lets_go, goes_by, lets_all_go, acknowledges, outstanding, acknowledged_after, settles, takes_one, reads_nr, opened, opens_by, opens, accepted, accepts_by, accepts, requested, requests, requests_at, requests_all, adds, rings_over, rings_by, rings_new, rings, is_closed, event_by, opening_reason, out_of_order, shuts, closed_told, closes_tunnel, closed_by, shuts_by, connected, connects, confirms, takes_plain, ignores, takes_by, takes, Reason, reason, out_of_state, may_take, granted, replied, replies, refused, refuses, of_no_call, answers_by, asked_by, faulty_at, fault_reason, faulty, in_faulty_call, closes, ends_by, rings_within, first_up, first_up_by, second_up, second_up_by, ends_call, ends_all, is_clean_up, end_heard, end_heard_by, session_named, ends_named, repeats, greeted, greets, end_silent, end_told, limits_at, limits_all, goes_quietly, clears, is_over, patience, is_at_its_end, ticks_by, ticks, about_call, in_call, hears, hears_faulty, hears_said, hears_next, hears_letter, is_duplicate, in_tunnel, first_said, hears_control, carried, carries, hears_datagram, turns, is_short, is_long}
 use Rattle.step_laws.specs.Ups.{ups_of_output, ups_of_move, births_of_move, reads_of_move, most_births, most_reads}
 use Rattle.step_laws.proofs.Lists.{branch}
 
@@ -581,7 +582,11 @@ module _ (most reads : ℕ) where
   carries_quiet : (s : ℕ) (frame : List ℕ) (o : Option Call) (t : Turn) → Quiet t → Quiet (carries s frame o t)
   unfolding carries
   carries_quiet s frame None t h = dropped why.Call t h
-  carries_quiet s frame (Some c) t h = branch Quiet (is_up c.state) _ _ (λ up. carried_quiet s frame c t h) (λ down. dropped why.Closed t h)
+  carries_quiet s frame (Some c) t h =
+      branch Quiet (is_up c.state) _ _
+      (λ up. branch Quiet (is_short frame) _ _ (λ short. dropped why.Short t h)
+      (λ short. branch Quiet (is_long frame) _ _ (λ long. dropped why.Long t h) (λ long. carried_quiet s frame c t h)))
+      (λ down. dropped why.Closed t h)
 
   -- ---- time
 
@@ -665,47 +670,47 @@ datagram_quiet role c letters calls bytes (Ok k) t h =
 
 -- ---- rings
 
-adds_quiet : (role : Role) (port s : ℕ) (t : Turn) → IsQuiet 0 0 t → IsQuiet 1 0 (adds role port s t)
+adds_quiet : (role : Role) (who : List ℕ) (s : ℕ) (t : Turn) → IsQuiet 0 0 t → IsQuiet 1 0 (adds role who s t)
 unfolding adds with_move with_new
-adds_quiet role port s t h = with_birth _ s refl refl refl h
+adds_quiet role who s t h = with_birth _ s refl refl refl h
 
-rings_over_quiet : (role : Role) (k : Config) (port s : ℕ) (t : Turn) → IsQuiet 0 0 t → IsQuiet 1 0 (rings_over role k port s t)
+rings_over_quiet : (role : Role) (k : Config) (who : List ℕ) (s : ℕ) (t : Turn) → IsQuiet 0 0 t → IsQuiet 1 0 (rings_over role k who s t)
 unfolding rings_over
-rings_over_quiet role k port s t h =
-    let added = adds_quiet role port s t h in
+rings_over_quiet role k who s t h =
+    let added = adds_quiet role who s t h in
     branch (IsQuiet 1 0) (state_number t.control.state == 3) _ _
-    (λ is. requests_quiet 1 0 role k s (rung role port t.moment) (adds role port s t) added)
+    (λ is. requests_quiet 1 0 role k s (rung role who t.moment) (adds role who s t) added)
     (λ other. added)
 
-rings_by_quiet : (role : Role) (k : Config) (port : ℕ) (x : Result ℕ IdError) (t : Turn) → IsQuiet 0 0 t → IsQuiet 1 0 (rings_by role k port x t)
+rings_by_quiet : (role : Role) (k : Config) (who : List ℕ) (x : Result ℕ IdError) (t : Turn) → IsQuiet 0 0 t → IsQuiet 1 0 (rings_by role k who x t)
 unfolding rings_by
-rings_by_quiet role k port (Err x) t h = caused 1 0 cause.Ids t (spared h)
-rings_by_quiet role k port (Ok s) t h = rings_over_quiet role k port s t h
+rings_by_quiet role k who (Err x) t h = caused 1 0 cause.Ids t (spared h)
+rings_by_quiet role k who (Ok s) t h = rings_over_quiet role k who s t h
 
-rings_new_quiet : (role : Role) (c : Config) (port : ℕ) (x y : Result ℕ IdError) (t : Turn) → IsQuiet 0 0 t → IsQuiet 1 0 (rings_new role c port x y t)
+rings_new_quiet : (role : Role) (c : Config) (who : List ℕ) (x y : Result ℕ IdError) (t : Turn) → IsQuiet 0 0 t → IsQuiet 1 0 (rings_new role c who x y t)
 unfolding rings_new
-rings_new_quiet role c port (Err x) y t h = caused 1 0 cause.Ids t (spared h)
-rings_new_quiet role c port (Ok s) (Err y) t h = caused 1 0 cause.Ids t (spared h)
-rings_new_quiet role c port (Ok s) (Ok local) t h =
+rings_new_quiet role c who (Err x) y t h = caused 1 0 cause.Ids t (spared h)
+rings_new_quiet role c who (Ok s) (Err y) t h = caused 1 0 cause.Ids t (spared h)
+rings_new_quiet role c who (Ok s) (Ok local) t h =
     branch (IsQuiet 1 0) (has_room t.control) _ _
-    (λ may. adds_quiet role port s (opened role c local t) (opened_quiet 0 0 role c local t h))
+    (λ may. adds_quiet role who s (opened role c local t) (opened_quiet 0 0 role c local t h))
     (λ full. caused 1 0 cause.Queue t (spared h))
 
-rings_within_quiet : (role : Role) (k : Config) (calls : List (ℕ × Call)) (port : ℕ) (t : Turn) → IsQuiet 0 0 t → IsQuiet 1 0 (rings_within role k calls port t)
+rings_within_quiet : (role : Role) (k : Config) (calls : List (ℕ × Call)) (who : List ℕ) (t : Turn) → IsQuiet 0 0 t → IsQuiet 1 0 (rings_within role k calls who t)
 unfolding rings_within
-rings_within_quiet role k calls port t h =
+rings_within_quiet role k calls who t h =
     branch (IsQuiet 1 0) (are_too_many calls) _ _
     (λ many. caused 1 0 cause.Calls t (spared h))
     (λ few. branch (IsQuiet 1 0) (may_take t.control calls) _ _
-    (λ may. rings_by_quiet role k port (draws t.sessions) t h)
+    (λ may. rings_by_quiet role k who (draws t.sessions) t h)
     (λ full. caused 1 0 cause.Queue t (spared h)))
 
-rings_quiet : (role : Role) (c : Config) (calls : List (ℕ × Call)) (port : ℕ) (t : Turn) → IsQuiet 0 0 t → IsQuiet 1 0 (rings role c calls port t)
+rings_quiet : (role : Role) (c : Config) (calls : List (ℕ × Call)) (who : List ℕ) (t : Turn) → IsQuiet 0 0 t → IsQuiet 1 0 (rings role c calls who t)
 unfolding rings
-rings_quiet role c calls port t h =
+rings_quiet role c calls who t h =
     branch (IsQuiet 1 0) (state_number t.control.state == 0) _ _
-    (λ idle. rings_new_quiet role c port (draws t.sessions) (draws t.tunnels) t h)
-    (λ busy. rings_within_quiet role c calls port t h)
+    (λ idle. rings_new_quiet role c who (draws t.sessions) (draws t.tunnels) t h)
+    (λ busy. rings_within_quiet role c calls who t h)
 
 -- ---- events
 
@@ -713,7 +718,9 @@ pub turns_quiet : (role : Role) (c : Config) (letters : List Letter) (calls : Li
     → IsQuiet (most_births ev) (most_reads ev) (turns role c letters calls ev t)
 unfolding turns
 turns_quiet role c letters calls (Datagram peer bytes) t h = datagram_quiet role c letters calls bytes (header_of bytes) t h
-turns_quiet role c letters calls (Ring port) t h = settled 1 0 false letters _ (rings_quiet role c calls port t h)
+turns_quiet role c letters calls (Ring port) t h = settled 1 0 false letters _ (rings_quiet role c calls (subscriber port) t h)
+turns_quiet role c letters calls (Admitted mac) t h = settled 1 0 false letters _ (rings_quiet role c calls mac t h)
+turns_quiet role c letters calls (Frame bytes) t h = dropped 0 0 why.Node t h
 turns_quiet role c letters calls (Payload s frame) t h = carries_quiet 0 0 s frame (at calls s) t h
 turns_quiet role c letters calls (Lower s frame) t h = carries_quiet 0 0 s frame (at calls s) t h
 turns_quiet role c letters calls (Hang s) t h =

@@ -1,4 +1,5 @@
 -- Each step answers the request that it takes, and the ring that comes.
+use Rattle.step_laws.specs.Callers.{IsRing}
 use Rattle.std.proofs.Common.{◌≡◌, inl, inr, ℕ, true, false, List, [], ◌∷◌, length, refl, sym, ap, ◌∙◌, subst, Option, Some, None, Ok, Err, arith, ◌⊎◌, ◌<◌, ◌≤◌}
 use Rattle.std.proofs.lemmas.Bool.{true≢false, eqb-true, eqb-false}
 use Rattle.std.proofs.lemmas.Bool.Decides.{nat_tests}
@@ -17,7 +18,7 @@ use Rattle.tunnel_fsm.specs.Rows.{state_number}
 use Rattle.protocol_model.specs.declared.tunnel.Call.{Call}
 use Rattle.protocol_model.specs.declared.tunnel.Role.TheVariants.{Lac, Lns}
 use Rattle.protocol_model.specs.declared.event.Event.{Event}
-use Rattle.protocol_model.specs.declared.event.Event.TheVariants.{Datagram, Ring}
+use Rattle.protocol_model.specs.declared.event.Event.TheVariants.{Datagram, Ring, Frame, Admitted, Payload, Lower, Hang, OpenTunnel, DropCall, CloseTunnel, Tick}
 use Rattle.protocol_model.specs.declared.event.Addressee.TheVariants.{Main}
 use Rattle.protocol_model.specs.declared.moves.Move.{Move}
 use Rattle.protocol_model.specs.Reading.{body_of, message_in, at_tunnel}
@@ -230,35 +231,49 @@ module _ (e : End) (kept : AreKept e) (sound : AreSound e) (asked : AreAsked e) 
   judged : NewAreJudged e moment ev stepped
   judged r remote serial calling said none = new_judged r remote serial calling said none
 
-module _ (e : End) (kept : AreKept e) (moment : ℕ) (block : List ℕ) (port : ℕ) (lac : e.role ≡ Lac) where
+module _ (e : End) (kept : AreKept e) (moment : ℕ) (block : List ℕ) (who : List ℕ) (lac : e.role ≡ Lac) where
   abbrev Rung : Stepped → Type 0
-  Rung s = RingIsAnswered e port s
+  Rung s = RingIsAnswered e who s
 
-  rung_in : (open_one opening : Option ℕ) → least_in Established e.config.lns e.tunnels ≡ open_one
-      → least_in WaitCtlReply e.config.lns e.tunnels ≡ opening → Rung (rings_in e (env_of e moment block) (Ring port) open_one opening)
+  rung_in : (ev : Event) → IsRing ev who → (open_one opening : Option ℕ) → least_in Established e.config.lns e.tunnels ≡ open_one
+      → least_in WaitCtlReply e.config.lns e.tunnels ≡ opening → Rung (rings_in e (env_of e moment block) ev open_one opening)
   unfolding rings_in
-  rung_in (Some i) opening is next =
+  rung_in ev ring (Some i) opening is next =
       let least = least_open e kept i is in
-      subst (λ o. Rung (in_main e (env_of e moment block) (Ring port) i o)) (sym least.there)
-      (main_ring e kept lac moment block port i least.tunnel least.there (inl ((least_is e Established i least least.tunnel least.there).0, least)))
-  rung_in None (Some i) is next =
+      subst (λ o. Rung (in_main e (env_of e moment block) ev i o)) (sym least.there)
+      (main_ring e kept lac moment block who ev ring i least.tunnel least.there (inl ((least_is e Established i least least.tunnel least.there).0, least)))
+  rung_in ev ring None (Some i) is next =
       let least = least_opening e kept i next in
-      subst (λ o. Rung (in_main e (env_of e moment block) (Ring port) i o)) (sym least.there)
-      (main_ring e kept lac moment block port i least.tunnel least.there
+      subst (λ o. Rung (in_main e (env_of e moment block) ev i o)) (sym least.there)
+      (main_ring e kept lac moment block who ev ring i least.tunnel least.there
       (inr ((least_is e WaitCtlReply i least least.tunnel least.there).0, none_open e kept is, least)))
-  rung_in None None is next = one_more_ring e kept lac moment block port (port, refl, none_open e kept is, none_opening e kept next)
+  rung_in ev ring None None is next = one_more_ring e kept lac moment block who ev ring (none_open e kept is) (none_opening e kept next)
 
-  rung_step : Rung (plain_step e moment block (Ring port))
-  unfolding plain_step step_in only_by rings_at
-  rung_step =
+  rung_lac : (ev : Event) → IsRing ev who → Rung (only_by Lac e (rings_at e (env_of e moment block) ev))
+  unfolding only_by rings_at
+  rung_lac ev ring =
       branch Rung (is_lac e.role) _ _
-      (λ yes. rung_in (least_in Established e.config.lns e.tunnels) (least_in WaitCtlReply e.config.lns e.tunnels) refl refl)
+      (λ yes. rung_in ev ring (least_in Established e.config.lns e.tunnels) (least_in WaitCtlReply e.config.lns e.tunnels) refl refl)
       (λ no. absurd (true≢false (sym (rw lac refl) ∙ no)))
+
+  rung_step : (ev : Event) → IsRing ev who → Rung (plain_step e moment block ev)
+  unfolding plain_step step_in
+  rung_step (Ring port) ring = rung_lac (Ring port) ring
+  rung_step (Admitted mac) ring = rung_lac (Admitted mac) ring
+  rung_step (Datagram peer bytes) ring = absurd cc
+  rung_step (Frame bytes) ring = absurd cc
+  rung_step (Payload s frame) ring = absurd cc
+  rung_step (Lower s frame) ring = absurd cc
+  rung_step (Hang s) ring = absurd cc
+  rung_step OpenTunnel ring = absurd cc
+  rung_step (DropCall s) ring = absurd cc
+  rung_step (CloseTunnel i) ring = absurd cc
+  rung_step Tick ring = absurd cc
 
 pub requests_are_answered : RequestsAreAnswered
 requests_are_answered e kept sound asked moment block ev = record {
   requests = request_answered e kept sound asked moment block ev;
   granted = granted_answered e kept sound asked moment block ev;
   judged = judged e kept sound asked moment block ev;
-  rings = λ port is lac. subst (λ x. RingIsAnswered e port (plain_step e moment block x)) (sym is) (rung_step e kept moment block port lac);
+  rings = λ who is lac. rung_step e kept moment block who lac ev is;
 }

@@ -1,4 +1,6 @@
 -- What comes of a ring: a call is born, or nothing is done and a cause is told.
+use Rattle.step_laws.proofs.Callers.{turns_ring}
+use Rattle.step_laws.specs.Callers.{IsRing}
 use Rattle.std.proofs.Common.{◌≡◌, ◌⊎◌, ⊎_elim, ℕ, true, false, List, [], refl, sym, ◌∙◌, subst, arith, Some, Result, Ok, Err}
 use Rattle.std.proofs.lemmas.Bool.{true≢false, eq-eqb, eqb-true}
 use Rattle.std.specs.Prelude.{◌==◌}
@@ -13,6 +15,7 @@ use Rattle.tunnel_fsm.specs.declared.table.TunnelState.{TunnelState}
 use Rattle.tunnel_fsm.specs.declared.table.TunnelState.TheVariants.{WaitCtlReply, Established}
 use Rattle.tunnel_fsm.specs.Rows.{state_number}
 use Rattle.call_fsm.specs.declared.table.CallEvent.TheVariants as call_event
+use Rattle.protocol_model.specs.declared.event.Event.{Event}
 use Rattle.protocol_model.specs.declared.tunnel.Role.TheVariants.{Lac}
 use Rattle.protocol_model.specs.declared.event.Event.TheVariants.{Ring}
 use Rattle.protocol_model.specs.declared.out.Out.TheVariants.{Cause}
@@ -27,7 +30,7 @@ use Rattle.step_laws.proofs.Owing.{spare_room}
 use Rattle.step_laws.proofs.States.{rung_asks}
 use Rattle.step_laws.proofs.Still.{settled_done, settled_told}
 
-module _ (e : End) (kept : AreKept e) (lac : e.role ≡ Lac) (moment : ℕ) (block : List ℕ) (port : ℕ) where
+module _ (e : End) (kept : AreKept e) (lac : e.role ≡ Lac) (moment : ℕ) (block : List ℕ) (who : List ℕ) (ev : Event) (ring : IsRing ev who) where
   abbrev env : Env
   env = env_of e moment block
 
@@ -36,14 +39,14 @@ module _ (e : End) (kept : AreKept e) (lac : e.role ≡ Lac) (moment : ℕ) (blo
   of_turn u = record { end = e; outputs = u.outputs; moves = u.moves }
 
   abbrev Answers : Turn → Type 0
-  Answers u = RingIsAnswered e port (of_turn u)
+  Answers u = RingIsAnswered e who (of_turn u)
 
   -- it is the same of a step that made the same moves of a ring, and told the same causes
   same_ring : (s z : Stepped) → flat_map ring_of_move z.moves ≡ flat_map ring_of_move s.moves
-      → flat_map cause_of_output z.outputs ≡ flat_map cause_of_output s.outputs → RingIsAnswered e port s → RingIsAnswered e port z
+      → flat_map cause_of_output z.outputs ≡ flat_map cause_of_output s.outputs → RingIsAnswered e who s → RingIsAnswered e who z
   same_ring s z done told (IsAsked a q is born least tunnel session at_port) = IsAsked a q (done ∙ is) born least tunnel session at_port
   same_ring s z done told (Waits a is born none least) = Waits a (done ∙ is) born none least
-  same_ring s z done told (Opens o a is born drawn peer tunnel new) = Opens o a (done ∙ is) born drawn peer tunnel new
+  same_ring s z done told (Opens o a is born drawn peer tunnel no_open no_opening) = Opens o a (done ∙ is) born drawn peer tunnel no_open no_opening
   same_ring s z done told (IsRefused c is one) = IsRefused c (done ∙ is) (told ∙ one)
 
   settled_ring : (letters : List Letter) (u : Turn) → Answers u → Answers (settles false letters u)
@@ -74,24 +77,24 @@ module _ (e : End) (kept : AreKept e) (lac : e.role ≡ Lac) (moment : ℕ) (blo
         goes
 
     asked_ring : (s : ℕ) → draws e.session_ids ≡ Ok s → may_take t.control t.calls ≡ true → state_number t.control.state ≡ 3
-        → Answers (requests e.role e.config s (rung e.role port moment) (adds e.role port s start))
+        → Answers (requests e.role e.config s (rung e.role who moment) (adds e.role who s start))
     unfolding requests requested gives_as with_change with_move with_call adds with_new rung advanced
     asked_ring s drawn may is =
-        branch Answers (is_request (call_row e.role (rung e.role port moment).state call_event.TunnelOpen).1) _ _
+        branch Answers (is_request (call_row e.role (rung e.role who moment).state call_event.TunnelOpen).1) _ _
         (λ row. branch Answers (has_room t.control) _ _
-        (λ room. IsAsked _ _ refl (record { drawn = drawn; port_is = refl }) (here Established (open_least is)) refl refl refl)
+        (λ room. IsAsked _ _ refl (record { drawn = drawn; subscriber_is = refl }) (here Established (open_least is)) refl refl refl)
         (λ full. absurd (true≢false (sym (spare_room t.control t.calls may) ∙ full))))
-        (λ none. absurd (true≢false (sym (rung_asks e.role port moment lac) ∙ none)))
+        (λ none. absurd (true≢false (sym (rung_asks e.role who moment lac) ∙ none)))
 
-    waits_ring : (s : ℕ) → draws e.session_ids ≡ Ok s → (state_number t.control.state ≡ 3 → ⊥) → Answers (adds e.role port s start)
+    waits_ring : (s : ℕ) → draws e.session_ids ≡ Ok s → (state_number t.control.state ≡ 3 → ⊥) → Answers (adds e.role who s start)
     unfolding adds with_move with_new
     waits_ring s drawn other =
         ⊎_elim
         (λ (both : (state_number t.control.state ≡ 3) × IsLeast e Established i). absurd (other both.0))
-        (λ waits. Waits _ refl (record { drawn = drawn; port_is = refl }) waits.1 (here WaitCtlReply waits.2))
+        (λ waits. Waits _ refl (record { drawn = drawn; subscriber_is = refl }) waits.1 (here WaitCtlReply waits.2))
         goes
 
-    drawn_ring : may_take t.control t.calls ≡ true → (r : Result ℕ IdError) → draws e.session_ids ≡ r → Answers (rings_by e.role e.config port r start)
+    drawn_ring : may_take t.control t.calls ≡ true → (r : Result ℕ IdError) → draws e.session_ids ≡ r → Answers (rings_by e.role e.config who r start)
     unfolding rings_by rings_over
     drawn_ring may (Err x) drawn = refused_ring cause.Ids
     drawn_ring may (Ok s) drawn =
@@ -102,21 +105,22 @@ module _ (e : End) (kept : AreKept e) (lac : e.role ≡ Lac) (moment : ℕ) (blo
     busy : state_number t.control.state ≡ 0 → ⊥
     busy zero = (kept.tunnels i t there).busy zero
 
-    rung_ring : Answers (turns e.role e.config t.letters t.calls (Ring port) start)
-    unfolding turns rings rings_within
+    rung_ring : Answers (turns e.role e.config t.letters t.calls ev start)
+    unfolding rings rings_within
     rung_ring =
-        settled_ring t.letters _
+        subst Answers (sym (turns_ring e.role e.config t.letters t.calls ev who start ring))
+        (settled_ring t.letters _
         (branch Answers (state_number t.control.state == 0) _ _
         (λ zero. absurd (busy (eqb-true (state_number t.control.state) 0 zero)))
         (λ some. branch Answers (are_too_many t.calls) _ _
         (λ many. refused_ring cause.Calls)
         (λ few. branch Answers (may_take t.control t.calls) _ _
         (λ may. drawn_ring may (draws e.session_ids) refl)
-        (λ full. refused_ring cause.Queue))))
+        (λ full. refused_ring cause.Queue)))))
 
-    pub main_ring : RingIsAnswered e port (in_main e env (Ring port) i (Some t))
+    pub main_ring : RingIsAnswered e who (in_main e env ev i (Some t))
     unfolding in_main after_turn
-    main_ring = same_ring (of_turn (turns e.role e.config t.letters t.calls (Ring port) start)) _ refl refl rung_ring
+    main_ring = same_ring (of_turn (turns e.role e.config t.letters t.calls ev start)) _ refl refl rung_ring
 
   -- ---- over a tunnel that is opened for it
 
@@ -127,33 +131,35 @@ module _ (e : End) (kept : AreKept e) (lac : e.role ≡ Lac) (moment : ℕ) (blo
   unfolding with_output
   refused_new c = IsRefused c refl refl
 
-  opened_ring : RingsNew e (Ring port) → (s i : ℕ) → draws e.session_ids ≡ Ok s → draws e.tunnel_ids ≡ Ok i
-      → Answers (adds e.role port s (opened e.role e.config i blank))
+  opened_ring : HasNone e Established → HasNone e WaitCtlReply → (s i : ℕ) → draws e.session_ids ≡ Ok s → draws e.tunnel_ids ≡ Ok i
+      → Answers (adds e.role who s (opened e.role e.config i blank))
   unfolding adds with_new opened gives with_move with_local
-  opened_ring new s i drawn got = Opens _ _ refl (record { drawn = drawn; port_is = refl }) got refl refl new
+  opened_ring no_open no_opening s i drawn got = Opens _ _ refl (record { drawn = drawn; subscriber_is = refl }) got refl refl no_open no_opening
 
-  new_ring : RingsNew e (Ring port) → (r q : Result ℕ IdError) → draws e.session_ids ≡ r → draws e.tunnel_ids ≡ q
-      → Answers (rings_new e.role e.config port r q blank)
+  new_ring : HasNone e Established → HasNone e WaitCtlReply → (r q : Result ℕ IdError) → draws e.session_ids ≡ r → draws e.tunnel_ids ≡ q
+      → Answers (rings_new e.role e.config who r q blank)
   unfolding rings_new
-  new_ring new (Err x) q drawn got = refused_new cause.Ids
-  new_ring new (Ok s) (Err x) drawn got = refused_new cause.Ids
-  new_ring new (Ok s) (Ok i) drawn got =
-      branch Answers (has_room blank.control) (adds e.role port s (opened e.role e.config i blank)) (with_output (Cause cause.Queue) blank)
-      (λ may. opened_ring new s i drawn got)
+  new_ring no_open no_opening (Err x) q drawn got = refused_new cause.Ids
+  new_ring no_open no_opening (Ok s) (Err x) drawn got = refused_new cause.Ids
+  new_ring no_open no_opening (Ok s) (Ok i) drawn got =
+      branch Answers (has_room blank.control) (adds e.role who s (opened e.role e.config i blank)) (with_output (Cause cause.Queue) blank)
+      (λ may. opened_ring no_open no_opening s i drawn got)
       (λ full. refused_new cause.Queue)
 
-  made_ring : RingsNew e (Ring port) → Answers (turns e.role e.config [] [] (Ring port) blank)
-  unfolding turns rings
-  made_ring new = settled_ring [] _ (new_ring new (draws e.session_ids) (draws e.tunnel_ids) refl refl)
+  made_ring : HasNone e Established → HasNone e WaitCtlReply → Answers (turns e.role e.config [] [] ev blank)
+  unfolding rings
+  made_ring no_open no_opening =
+      subst Answers (sym (turns_ring e.role e.config [] [] ev who blank ring))
+      (settled_ring [] _ (new_ring no_open no_opening (draws e.session_ids) (draws e.tunnel_ids) refl refl))
 
   abbrev IsRung : Stepped → Type 0
-  IsRung s = RingIsAnswered e port s
+  IsRung s = RingIsAnswered e who s
 
-  pub one_more_ring : RingsNew e (Ring port) → IsRung (in_one_more e env (Ring port) e.config.lns (Cause cause.Tunnels))
+  pub one_more_ring : HasNone e Established → HasNone e WaitCtlReply → IsRung (in_one_more e env ev e.config.lns (Cause cause.Tunnels))
   unfolding in_one_more gives_only in_new after_new after_turn
-  one_more_ring new =
-      let u = turns e.role e.config [] [] (Ring port) blank in
-      let made = made_ring new in
+  one_more_ring no_open no_opening =
+      let u = turns e.role e.config [] [] ev blank in
+      let made = made_ring no_open no_opening in
       branch IsRung (has_all_tunnels e.tunnels) _ _
       (λ all. IsRefused cause.Tunnels refl refl)
       (λ fewer. branch IsRung (u.control.local == 0) _ _

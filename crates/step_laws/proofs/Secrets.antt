@@ -41,11 +41,11 @@ lacks_not None None is lacks = true≢false (sym lacks.0)
 lacks_not (Some s) asked is lacks = let none : Some s ≡ None = lacks.1 in absurd cc
 
 -- a request is hidden where the end hides its numbers and has a secret
-pub hides_number : (c : Config) (block : List ℕ) (session port : ℕ) → HidesNumber c session port (hidden_request c block session port)
-hides_number c block session port = by c.hide c.secret refl refl
+pub hides_number : (c : Config) (block : List ℕ) (session : ℕ) (who : List ℕ) → HidesNumber c session who (hidden_request c block session who)
+hides_number c block session who = by c.hide c.secret refl refl
   where
     by : (hide : Bool) (secret : Option (List ℕ)) → c.hide ≡ hide → c.secret ≡ secret
-        → HidesNumber c session port (hidden_by hide secret (sixteen block) (request_of session port))
+        → HidesNumber c session who (hidden_by hide secret (sixteen block) (request_of session who))
     by false secret plain has = InPlain (λ hides. absurd (true≢false (sym hides ∙ plain))) refl
     by true None hides none = InPlain (λ h. none) refl
     by true (Some s) hides some = ByVector s (sixteen block) hides some (sixteen_bytes block) refl

@@ -40,8 +40,8 @@ can_be_up : (r : Role) (s : CallState) → s ≡ Established → CanBe r s
 can_be_up Lac s h = rw h tt
 can_be_up Lns s h = rw h tt
 
-can_ring : (port moment : ℕ) → CanBe Lac (rung Lac port moment).state
-can_ring port moment = rw (rung_state Lac port moment refl) tt
+can_ring : (who : List ℕ) (moment : ℕ) → CanBe Lac (rung Lac who moment).state
+can_ring who moment = rw (rung_state Lac who moment refl) tt
 
 can_be_asked : (r : Role) (remote moment : ℕ) → is_reply (call_row r Idle IcrqAcc).1 ≡ true → CanBe r (asked_for r remote moment).state
 unfolding asked_for advanced call_row
@@ -106,7 +106,7 @@ module _ (e : End) (whole : AreWhole e) where
   does_whole moment ev (move.Added m) x h =
       puts x _ m.tunnel _ h.after refl (last_after e.session_ids) refl
       (whole_put e.role h.tunnel.calls m.session _ (small_draw e.session_ids m.session h.drawn whole.last)
-      (rw h.role (can_ring m.port moment)) (whole.calls m.tunnel h.tunnel h.there))
+      (rw h.role (can_ring m.subscriber moment)) (whole.calls m.tunnel h.tunnel h.there))
   does_whole moment ev (move.Requested m) x h =
       puts x _ m.tunnel _ h.after refl refl refl
       (whole_put e.role h.tunnel.calls m.session _ h.session (can_request e.role h.call.state h.row) (whole.calls m.tunnel h.tunnel h.there))

@@ -1,5 +1,5 @@
 -- The states that the rows of calls lead from and to.
-use Rattle.std.proofs.Common.{◌≡◌, ℕ, true, false, refl, sym}
+use Rattle.std.proofs.Common.{◌≡◌, ℕ, true, false, refl, sym, List}
 use Rattle.std.proofs.lemmas.Bool.{true≢false}
 use Rattle.call_fsm.specs.declared.table.CallState.{CallState}
 use Rattle.call_fsm.specs.declared.table.CallState.TheVariants.{Idle, WaitTunnel, WaitReply, WaitConnect, Established}
@@ -42,10 +42,10 @@ unfolding call_row asked_for advanced
 replied_state Lac remote moment h = never h
 replied_state Lns remote moment h = refl
 
-pub rung_state : (r : Role) (port moment : ℕ) → r ≡ Lac → (rung r port moment).state ≡ WaitTunnel
+pub rung_state : (r : Role) (who : List ℕ) (moment : ℕ) → r ≡ Lac → (rung r who moment).state ≡ WaitTunnel
 unfolding call_row rung advanced
-rung_state Lac port moment h = refl
-rung_state Lns port moment h = absurd cc
+rung_state Lac who moment h = refl
+rung_state Lns who moment h = absurd cc
 
 pub connected_state : (r : Role) (s : CallState) → is_connection (call_row r s call_event.IcrpAcc).1 ≡ true
     → (s ≡ WaitReply) × ((call_row r s call_event.IcrpAcc).0 ≡ Established)
@@ -69,7 +69,7 @@ up_state WaitConnect h = never h
 up_state Established h = refl
 
 -- one that rings is asked for where its tunnel is open
-pub rung_asks : (r : Role) (port moment : ℕ) → r ≡ Lac → is_request (call_row r (rung r port moment).state call_event.TunnelOpen).1 ≡ true
+pub rung_asks : (r : Role) (who : List ℕ) (moment : ℕ) → r ≡ Lac → is_request (call_row r (rung r who moment).state call_event.TunnelOpen).1 ≡ true
 unfolding call_row rung advanced
-rung_asks Lac port moment h = refl
-rung_asks Lns port moment h = absurd cc
+rung_asks Lac who moment h = refl
+rung_asks Lns who moment h = absurd cc

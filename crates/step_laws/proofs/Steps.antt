@@ -1,4 +1,6 @@
 -- Each step of an end is a chain of moves.
+use Rattle.protocol_model.specs.Names.{subscriber}
+use Rattle.step_laws.specs.Callers.{IsRing}
 use Rattle.std.proofs.Common.{◌≡◌, ◌⊎◌, inl, inr, ℕ, Bool, true, false, List, length, refl, sym, ap, ◌∙◌, subst, Option, Some, None, Result, Ok, Err}
 use Rattle.std.proofs.lemmas.Bool.{eqb-true, true≢false}
 use Rattle.std.specs.Prelude.{◌==◌, nat_lt, not, option_map}
@@ -20,7 +22,7 @@ use Rattle.protocol_model.specs.declared.tunnel.Role.TheVariants.{Lac, Lns}
 use Rattle.protocol_model.specs.declared.event.Addressee.{Addressee}
 use Rattle.protocol_model.specs.declared.event.Addressee.TheVariants.{Opens, Stops, Answers, Main, Nobody}
 use Rattle.protocol_model.specs.declared.event.Event.{Event}
-use Rattle.protocol_model.specs.declared.event.Event.TheVariants.{Datagram, Ring, Payload, Lower, Hang, OpenTunnel, DropCall, CloseTunnel, Tick}
+use Rattle.protocol_model.specs.declared.event.Event.TheVariants.{Datagram, Ring, Payload, Lower, Hang, OpenTunnel, DropCall, CloseTunnel, Tick, Admitted, Frame}
 use Rattle.protocol_model.specs.declared.out.Out.TheVariants.{Drop, Cause}
 use Rattle.protocol_model.specs.Reading.{header_why, body_of, at_zero, at_tunnel}
 use Rattle.protocol_model.specs.Calls.{is_lac, frame_of, side_of, Carried, Upward, Dropped, carry_known, carry_look}
@@ -157,12 +159,12 @@ module _ (e : End) (kept : AreKept e) (moment : ℕ) (block : List ℕ) where
       subst (λ p. IsStep e moment (Datagram p bytes) (in_main e env (Datagram p bytes) i (Some t))) (goes t refl)
       (heard_chain e kept moment (Datagram t.control.peer bytes) block i t is bytes h read control refl (to t refl))
 
-  main_rung : (port i : ℕ) → e.role ≡ Lac → IsChosen e i → (o : Option Tunnel) → at e.tunnels i ≡ o
+  main_rung : (ev : Event) (who : List ℕ) → IsRing ev who → (i : ℕ) → e.role ≡ Lac → IsChosen e i → (o : Option Tunnel) → at e.tunnels i ≡ o
       → ((t : Tunnel) → o ≡ Some t → ((state_number t.control.state ≡ 3) ⊎ (state_number t.control.state ≡ 1)) × (t.control.peer ≡ e.config.lns))
-      → IsStep e moment (Ring port) (in_main e env (Ring port) i o)
+      → IsStep e moment ev (in_main e env ev i o)
   unfolding in_main
-  main_rung port i lac chosen None is goes = drop_chain e kept moment (Ring port) why.Tunnel (λ q. absurd cc)
-  main_rung port i lac chosen (Some t) is goes = rung_chain e kept moment (Ring port) block i t is port (goes t refl).0 chosen (goes t refl).1 refl lac
+  main_rung ev who ring i lac chosen None is goes = drop_chain e kept moment ev why.Tunnel (λ q. absurd cc)
+  main_rung ev who ring i lac chosen (Some t) is goes = rung_chain e kept moment ev block i t is who (goes t refl).0 chosen (goes t refl).1 ring lac
 
   main_payload : (s : ℕ) (frame : List ℕ) (i : ℕ) (o : Option Tunnel) → at e.tunnels i ≡ o → IsStep e moment (Payload s frame) (in_main e env (Payload s frame) i o)
   unfolding in_main turns
@@ -260,20 +262,20 @@ module _ (e : End) (kept : AreKept e) (moment : ℕ) (block : List ℕ) where
 
   -- ---- rings, opens and frames
 
-  rung : (port : ℕ) → e.role ≡ Lac → (open_one opening : Option ℕ) → least_in Established e.config.lns e.tunnels ≡ open_one
-      → least_in WaitCtlReply e.config.lns e.tunnels ≡ opening → IsStep e moment (Ring port) (rings_in e env (Ring port) open_one opening)
+  rung : (ev : Event) (who : List ℕ) → IsRing ev who → e.role ≡ Lac → (open_one opening : Option ℕ) → least_in Established e.config.lns e.tunnels ≡ open_one
+      → least_in WaitCtlReply e.config.lns e.tunnels ≡ opening → IsStep e moment ev (rings_in e env ev open_one opening)
   unfolding rings_in in_one_more in_new
-  rung port lac (Some i) opening is next =
+  rung ev who ring lac (Some i) opening is next =
       let least = least_open e kept i is in
-      main_rung port i lac (inl least) (at e.tunnels i) refl (λ t there. let l = least_is e Established i least t there in (inl l.0, l.1))
-  rung port lac None (Some i) is next =
+      main_rung ev who ring i lac (inl least) (at e.tunnels i) refl (λ t there. let l = least_is e Established i least t there in (inl l.0, l.1))
+  rung ev who ring lac None (Some i) is next =
       let least = least_opening e kept i next in
-      main_rung port i lac (inr (none_open e kept is, least)) (at e.tunnels i) refl
+      main_rung ev who ring i lac (inr (none_open e kept is, least)) (at e.tunnels i) refl
       (λ t there. let l = least_is e WaitCtlReply i least t there in (inr l.0, l.1))
-  rung port lac None None is next =
-      branch (IsStep e moment (Ring port)) (has_all_tunnels e) _ _
-      (λ all. cause_chain e kept moment (Ring port) cause.Tunnels (inl (port, refl, none_open e kept is, none_opening e kept next), all))
-      (λ fewer. rings_chain e kept moment (Ring port) block e.config.lns port lac refl refl (port, refl, none_open e kept is, none_opening e kept next) fewer)
+  rung ev who ring lac None None is next =
+      branch (IsStep e moment ev) (has_all_tunnels e) _ _
+      (λ all. cause_chain e kept moment ev cause.Tunnels (inl (who, ring, none_open e kept is, none_opening e kept next), all))
+      (λ fewer. rings_chain e kept moment ev block e.config.lns who lac refl ring (who, ring, none_open e kept is, none_opening e kept next) fewer)
 
   gives_payload : (s : ℕ) (frame : List ℕ) (o : Option CallPlace) → IsStep e moment (Payload s frame) (for_call e env (Payload s frame) o)
   unfolding for_call
@@ -307,7 +309,12 @@ module _ (e : End) (kept : AreKept e) (moment : ℕ) (block : List ℕ) where
   unfolding plain_step step_in rings_at in_one_more in_new
   step_chain (Datagram peer bytes) = received peer bytes (header_of bytes) refl
   step_chain (Ring port) =
-      by_lac (Ring port) _ (λ lac. rung port lac (least_in Established e.config.lns e.tunnels) (least_in WaitCtlReply e.config.lns e.tunnels) refl refl)
+      by_lac (Ring port) _ (λ lac. rung (Ring port) (subscriber port) refl lac (least_in Established e.config.lns e.tunnels)
+      (least_in WaitCtlReply e.config.lns e.tunnels) refl refl)
+  step_chain (Admitted mac) =
+      by_lac (Admitted mac) _ (λ lac. rung (Admitted mac) mac refl lac (least_in Established e.config.lns e.tunnels)
+      (least_in WaitCtlReply e.config.lns e.tunnels) refl refl)
+  step_chain (Frame bytes) = drop_chain e kept moment (Frame bytes) why.Node (λ q. absurd cc)
   step_chain (Payload s frame) = by_lac (Payload s frame) _ (λ lac. gives_payload s frame (at e.calls s))
   step_chain (Lower s frame) = by_lns (Lower s frame) _ (gives_lower s frame (at e.calls s))
   step_chain (Hang s) = by_lac (Hang s) _ (λ lac. hung s (at e.calls s))

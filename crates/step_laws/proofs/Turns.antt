@@ -1,4 +1,5 @@
 -- Each part of a turn is a move, from the end as the turn has it so far.
+use Rattle.step_laws.specs.Callers.{IsRing}
 use Rattle.std.proofs.Common.{◌≡◌, ◌⊎◌, inl, inr, ℕ, ◌+◌, ◌-◌, ◌%◌, ◌^◌, ◌<◌, ◌≤◌, Bool, true, false, List, [], ◌∷◌, ◌++◌, length, refl, sym, ap, ◌∙◌, subst, Option, Some, None, Result, Ok, Err, arith, rules}
 use Rattle.std.proofs.lemmas.List.{append-nil, append_assoc, length-append, length-drop}
 use Rattle.std.specs.List.{AllByRecursion}
@@ -197,7 +198,7 @@ module _ (e : End) (moment : ℕ) (ev : Event) (letters : List Letter) (calls : 
       → Chain moment ev e t.moves (at_turn t) → Chain moment ev e (requested e.role e.config s c t).moves (at_turn (requested e.role e.config s c t))
   unfolding requested gives_as with_change with_move with_call
   requested_chain s c t is_open found small row room now_is h =
-      let m = move.Requested (record { tunnel = t.control.local; session = s; port = c.port; hidden = hidden_request e.config t.block s c.port; given = next_place t.control }) in
+      let m = move.Requested (record { tunnel = t.control.local; session = s; subscriber = c.subscriber; hidden = hidden_request e.config t.block s c.subscriber; given = next_place t.control }) in
       chain_more moment ev e (at_turn t) _ t.moves m h (record {
         tunnel = tunnel_after t letters calls;
         there = there t;
@@ -206,14 +207,14 @@ module _ (e : End) (moment : ℕ) (ev : Event) (letters : List Letter) (calls : 
         waits = found;
         row = row;
         session = small;
-        port = refl;
-        hides = hides_number e.config t.block s c.port;
+        subscriber = refl;
+        hides = hides_number e.config t.block s c.subscriber;
         room = room;
         given = refl;
         after =
             let changed = with_calls-more t.changed s (Some (advanced e.role call_event.TunnelOpen t.moment c)) calls in
             let looked = with_looks-more t.changes (cell.Bind s t.control.local t.control.peer) (placed t.control.local t.added e.calls) in
-            rw (changed, looked, one_given t (letter_as 0 (request_of s c.port) (hidden_request e.config t.block s c.port)), put-put e.tunnels t.control.local (tunnel_after t letters calls) _, now_is) refl;
+            rw (changed, looked, one_given t (letter_as 0 (request_of s c.subscriber) (hidden_request e.config t.block s c.subscriber)), put-put e.tunnels t.control.local (tunnel_after t letters calls) _, now_is) refl;
       })
 
   -- it gives one of the letters that it owes
@@ -236,7 +237,7 @@ module _ (e : End) (moment : ℕ) (ev : Event) (letters : List Letter) (calls : 
     tells = h.tells;
     frames = all_push NoFrame t.moves _ h.frames tt;
     stays = h.stays;
-    held = given_held t (letter_as 0 (request_of s c.port) (hidden_request e.config t.block s c.port)) h.held;
+    held = given_held t (letter_as 0 (request_of s c.subscriber) (hidden_request e.config t.block s c.subscriber)) h.held;
     fits =
         let live = live_open t.control is_open in
         requested_fits s c t live found row (holds_live t.control (with_calls t.changed calls) live h.fits);
@@ -316,13 +317,13 @@ module _ (e : End) (moment : ℕ) (ev : Event) (letters : List Letter) (calls : 
 
   -- ---- moves of calls
 
-  adds_chain : (port s : ℕ) (t : Turn) → t.changes ≡ [] → (state_number t.control.state ≡ 3) ⊎ (state_number t.control.state ≡ 1)
-      → are_too_many (with_calls t.changed calls) ≡ false → may_take t.control (with_calls t.changed calls) ≡ true → ev ≡ Ring port → e.role ≡ Lac
+  adds_chain : (who : List ℕ) (s : ℕ) (t : Turn) → t.changes ≡ [] → (state_number t.control.state ≡ 3) ⊎ (state_number t.control.state ≡ 1)
+      → are_too_many (with_calls t.changed calls) ≡ false → may_take t.control (with_calls t.changed calls) ≡ true → IsRing ev who → e.role ≡ Lac
       → draws t.sessions ≡ Ok s → t.moment ≡ moment → Chain moment ev e t.moves (at_turn t)
-      → Chain moment ev e (adds e.role port s t).moves (at_turn (adds e.role port s t))
+      → Chain moment ev e (adds e.role who s t).moves (at_turn (adds e.role who s t))
   unfolding adds with_move with_new with_looks
-  adds_chain port s t none goes few spare rings lac drawn now_is h =
-      let m = move.Added (record { tunnel = t.control.local; session = s; port = port }) in
+  adds_chain who s t none goes few spare rings lac drawn now_is h =
+      let m = move.Added (record { tunnel = t.control.local; session = s; subscriber = who }) in
       chain_more moment ev e (at_turn t) _ t.moves m h (record {
         tunnel = tunnel_after t letters calls;
         there = there t;
@@ -333,76 +334,76 @@ module _ (e : End) (moment : ℕ) (ev : Event) (letters : List Letter) (calls : 
         role = lac;
         drawn = drawn;
         after =
-            let changed = with_calls-more t.changed s (Some (rung e.role port t.moment)) calls in
+            let changed = with_calls-more t.changed s (Some (rung e.role who t.moment)) calls in
             let added = placed-more t.control.local t.added s e.calls in
             rw (none, changed, added, put-put e.tunnels t.control.local (tunnel_after t letters calls) _, now_is) refl;
       })
 
-  adds_fit : (port s : ℕ) (t : Turn) → are_too_many (with_calls t.changed calls) ≡ false → may_take t.control (with_calls t.changed calls) ≡ true
-      → e.role ≡ Lac → TurnOk t → Holds (adds e.role port s t).control (with_calls (adds e.role port s t).changed calls)
+  adds_fit : (who : List ℕ) (s : ℕ) (t : Turn) → are_too_many (with_calls t.changed calls) ≡ false → may_take t.control (with_calls t.changed calls) ≡ true
+      → e.role ≡ Lac → TurnOk t → Holds (adds e.role who s t).control (with_calls (adds e.role who s t).changed calls)
   unfolding adds with_move with_new
-  adds_fit port s t few spare lac h =
-      let d = rung e.role port t.moment in
+  adds_fit who s t few spare lac h =
+      let d = rung e.role who t.moment in
       subst (Holds t.control) (sym (with_calls-more t.changed s (Some d) calls))
-      (holds_new t.control (with_calls t.changed calls) s d (rung_owes e.role port t.moment lac) few spare h.fits)
+      (holds_new t.control (with_calls t.changed calls) s d (rung_owes e.role who t.moment lac) few spare h.fits)
 
   small_last : (t : Turn) → t.sessions.last < 65536 → (after_draw t.sessions).last < 65536
   small_last t small = let l = last_after t.sessions in omega (arith, l, small)
 
   -- over a tunnel that isn't open the call waits
-  pub adds_ok : (port s : ℕ) (t : Turn) → t.changes ≡ [] → state_number t.control.state ≡ 1
-      → are_too_many (with_calls t.changed calls) ≡ false → may_take t.control (with_calls t.changed calls) ≡ true → ev ≡ Ring port → e.role ≡ Lac
-      → draws t.sessions ≡ Ok s → TurnOk t → TurnOk (adds e.role port s t)
+  pub adds_ok : (who : List ℕ) (s : ℕ) (t : Turn) → t.changes ≡ [] → state_number t.control.state ≡ 1
+      → are_too_many (with_calls t.changed calls) ≡ false → may_take t.control (with_calls t.changed calls) ≡ true → IsRing ev who → e.role ≡ Lac
+      → draws t.sessions ≡ Ok s → TurnOk t → TurnOk (adds e.role who s t)
   unfolding adds with_move with_new
-  adds_ok port s t none waits few spare rings lac drawn h =
-      let fit = adds_fit port s t few spare lac h in
+  adds_ok who s t none waits few spare rings lac drawn h =
+      let fit = adds_fit who s t few spare lac h in
       record {
-        chain = adds_chain port s t none (inr waits) few spare rings lac drawn h.stays.4 h.chain;
+        chain = adds_chain who s t none (inr waits) few spare rings lac drawn h.stays.4 h.chain;
         words = h.words;
         tells = h.tells;
         frames = all_push NoFrame t.moves _ h.frames tt;
         stays = (h.stays.0, h.stays.1, small_last t h.stays.2, h.stays.3, h.stays.4, h.stays.5);
         held = h.held;
-        fits = fits_live (adds e.role port s t).control (with_calls (adds e.role port s t).changed calls)
+        fits = fits_live (adds e.role who s t).control (with_calls (adds e.role who s t).changed calls)
             (live_in t.control 1 (λ f. omega (arith, f)) waits) fit (λ o. absurd (omega (arith, waits, o)));
       }
 
-  adds_found : (port s : ℕ) (t : Turn) → at (with_calls (adds e.role port s t).changed calls) s ≡ Some (rung e.role port t.moment)
+  adds_found : (who : List ℕ) (s : ℕ) (t : Turn) → at (with_calls (adds e.role who s t).changed calls) s ≡ Some (rung e.role who t.moment)
   unfolding adds with_move with_new
-  adds_found port s t =
-      let c = rung e.role port t.moment in
+  adds_found who s t =
+      let c = rung e.role who t.moment in
       rw (with_calls-more t.changed s (Some c) calls) (at_new (with_calls t.changed calls) s c)
 
-  adds_requested_ok : (port s : ℕ) (t : Turn) → t.changes ≡ [] → state_number t.control.state ≡ 3
-      → are_too_many (with_calls t.changed calls) ≡ false → may_take t.control (with_calls t.changed calls) ≡ true → ev ≡ Ring port → e.role ≡ Lac
-      → draws t.sessions ≡ Ok s → s < 65536 → is_request (call_row e.role (rung e.role port t.moment).state call_event.TunnelOpen).1 ≡ true
-      → has_room t.control ≡ true → TurnOk t → TurnOk (requested e.role e.config s (rung e.role port t.moment) (adds e.role port s t))
+  adds_requested_ok : (who : List ℕ) (s : ℕ) (t : Turn) → t.changes ≡ [] → state_number t.control.state ≡ 3
+      → are_too_many (with_calls t.changed calls) ≡ false → may_take t.control (with_calls t.changed calls) ≡ true → IsRing ev who → e.role ≡ Lac
+      → draws t.sessions ≡ Ok s → s < 65536 → is_request (call_row e.role (rung e.role who t.moment).state call_event.TunnelOpen).1 ≡ true
+      → has_room t.control ≡ true → TurnOk t → TurnOk (requested e.role e.config s (rung e.role who t.moment) (adds e.role who s t))
   unfolding requested gives_as with_change with_move with_call adds with_new
-  adds_requested_ok port s t none is_open few spare rings lac drawn small row room h =
-      let u = adds e.role port s t in
-      let c = rung e.role port t.moment in
-      let found = adds_found port s t in
+  adds_requested_ok who s t none is_open few spare rings lac drawn small row room h =
+      let u = adds e.role who s t in
+      let c = rung e.role who t.moment in
+      let found = adds_found who s t in
       record {
-        chain = requested_chain s c u is_open found small row room h.stays.4 (adds_chain port s t none (inl is_open) few spare rings lac drawn h.stays.4 h.chain);
+        chain = requested_chain s c u is_open found small row room h.stays.4 (adds_chain who s t none (inl is_open) few spare rings lac drawn h.stays.4 h.chain);
         words = h.words;
         tells = h.tells;
         frames = all_push NoFrame _ _ (all_push NoFrame t.moves _ h.frames tt) tt;
         stays = (h.stays.0, h.stays.1, small_last t h.stays.2, h.stays.3, h.stays.4, h.stays.5);
-        held = given_held t (letter_as 0 (request_of s c.port) (hidden_request e.config t.block s c.port)) h.held;
-        fits = requested_fits s c u (live_open t.control is_open) found row (adds_fit port s t few spare lac h);
+        held = given_held t (letter_as 0 (request_of s c.subscriber) (hidden_request e.config t.block s c.subscriber)) h.held;
+        fits = requested_fits s c u (live_open t.control is_open) found row (adds_fit who s t few spare lac h);
       }
 
   -- over an open one it is asked for at once, so that it owes two letters, and not three
-  pub adds_asked_ok : (port s : ℕ) (t : Turn) → t.changes ≡ [] → state_number t.control.state ≡ 3
-      → are_too_many (with_calls t.changed calls) ≡ false → may_take t.control (with_calls t.changed calls) ≡ true → ev ≡ Ring port → e.role ≡ Lac
-      → draws t.sessions ≡ Ok s → s < 65536 → TurnOk t → TurnOk (requests e.role e.config s (rung e.role port t.moment) (adds e.role port s t))
+  pub adds_asked_ok : (who : List ℕ) (s : ℕ) (t : Turn) → t.changes ≡ [] → state_number t.control.state ≡ 3
+      → are_too_many (with_calls t.changed calls) ≡ false → may_take t.control (with_calls t.changed calls) ≡ true → IsRing ev who → e.role ≡ Lac
+      → draws t.sessions ≡ Ok s → s < 65536 → TurnOk t → TurnOk (requests e.role e.config s (rung e.role who t.moment) (adds e.role who s t))
   unfolding requests adds with_move with_new
-  adds_asked_ok port s t none is_open few spare rings lac drawn small h =
-      branch TurnOk (is_request (call_row e.role (rung e.role port t.moment).state call_event.TunnelOpen).1) _ _
+  adds_asked_ok who s t none is_open few spare rings lac drawn small h =
+      branch TurnOk (is_request (call_row e.role (rung e.role who t.moment).state call_event.TunnelOpen).1) _ _
       (λ row. branch TurnOk (has_room t.control) _ _
-      (λ may. adds_requested_ok port s t none is_open few spare rings lac drawn small row may h)
+      (λ may. adds_requested_ok who s t none is_open few spare rings lac drawn small row may h)
       (λ full. absurd (is_roomy t (live_open t.control is_open) h full)))
-      (λ no. absurd (true≢false (sym (rung_asks e.role port t.moment lac) ∙ no)))
+      (λ no. absurd (true≢false (sym (rung_asks e.role who t.moment lac) ∙ no)))
 
   pub replied_ok : (remote s session serial : ℕ) (calling : Option (List ℕ)) (t : Turn) → t.changes ≡ [] → state_number t.control.state ≡ 3
       → HearsNext ev t.control session (Icrq remote serial calling) → at (with_calls t.changed calls) session ≡ None

@@ -16,7 +16,7 @@ use Rattle.protocol_model.specs.declared.tunnel.Role.TheVariants.{Lac, Lns}
 use Rattle.protocol_model.specs.declared.event.Addressee.{Addressee}
 use Rattle.protocol_model.specs.declared.event.Addressee.TheVariants.{Opens, Stops, Answers, Main, Nobody}
 use Rattle.protocol_model.specs.declared.event.Event.{Event}
-use Rattle.protocol_model.specs.declared.event.Event.TheVariants.{Datagram, Ring, Payload, Lower, Hang, OpenTunnel, DropCall, CloseTunnel, Tick}
+use Rattle.protocol_model.specs.declared.event.Event.TheVariants.{Datagram, Ring, Payload, Lower, Hang, OpenTunnel, DropCall, CloseTunnel, Tick, Admitted, Frame}
 use Rattle.protocol_model.specs.declared.out.Out.{Out}
 use Rattle.protocol_model.specs.declared.out.Out.TheVariants.{Drop, Cause}
 use Rattle.protocol_model.specs.Reading.{header_why, body_of}
@@ -144,6 +144,9 @@ module _ (e : End) (moment : ℕ) (block : List ℕ) where
   step_told (Datagram peer bytes) = received_told peer bytes (header_of bytes)
   step_told (Ring port) =
       by_lac (Ring port) _ (rings_told (Ring port) (least_in Established e.config.lns e.tunnels) (least_in WaitCtlReply e.config.lns e.tunnels))
+  step_told (Admitted mac) =
+      by_lac (Admitted mac) _ (rings_told (Admitted mac) (least_in Established e.config.lns e.tunnels) (least_in WaitCtlReply e.config.lns e.tunnels))
+  step_told (Frame bytes) = dropped_told (Frame bytes) e why.Node
   step_told (Payload s frame) = by_lac (Payload s frame) _ (call_told (Payload s frame) (at e.calls s))
   step_told (Lower s frame) = by_lns (Lower s frame) _ (call_told (Lower s frame) (at e.calls s))
   step_told (Hang s) = by_lac (Hang s) _ (call_told (Hang s) (at e.calls s))

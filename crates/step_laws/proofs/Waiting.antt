@@ -1,4 +1,7 @@
 -- After a step no call waits in an open tunnel, since there is room for its request.
+use Rattle.step_laws.proofs.Callers.{turns_ring}
+use Rattle.protocol_model.specs.Names.{subscriber}
+use Rattle.step_laws.specs.Callers.{IsRing}
 use Rattle.std.proofs.Common.{◌≡◌, ◌⊎◌, inl, inr, ⊎_elim, ℕ, ◌<◌, false, List, [], refl, sym, ap, ◌∙◌, subst, Option, Some, None, Result, Ok, Err}
 use Rattle.std.proofs.lemmas.Bool.{true≢false}
 use Rattle.std.proofs.lemmas.Option.{none-some}
@@ -21,7 +24,7 @@ use Rattle.call_fsm.specs.declared.table.CallEvent.TheVariants as call_event
 use Rattle.protocol_model.specs.declared.event.Addressee.{Addressee}
 use Rattle.protocol_model.specs.declared.event.Addressee.TheVariants.{Opens, Stops, Answers, Main, Nobody}
 use Rattle.protocol_model.specs.declared.event.Event.{Event}
-use Rattle.protocol_model.specs.declared.event.Event.TheVariants.{Datagram, Ring, Payload, Lower, Hang, OpenTunnel, DropCall, CloseTunnel, Tick}
+use Rattle.protocol_model.specs.declared.event.Event.TheVariants.{Datagram, Ring, Payload, Lower, Hang, OpenTunnel, DropCall, CloseTunnel, Tick, Admitted, Frame}
 use Rattle.protocol_model.specs.declared.out.Out.{Out}
 use Rattle.protocol_model.specs.declared.out.Out.TheVariants.{Cause as Refused}
 use Rattle.protocol_model.specs.Reading.{body_of}
@@ -145,19 +148,21 @@ module _ (e : End) (kept : AreKept e) (none : NoneWaits e) (moment : ℕ) (block
 
   -- ---- rings and frames
 
-  rung : (port i : ℕ) → ((t : Tunnel) → at e.tunnels i ≡ Some t → (state_number t.control.state ≡ 3) ⊎ (state_number t.control.state ≡ 1)) → (t : Tunnel)
-      → at e.tunnels i ≡ Some t → Asked e.role t.calls (turn (Ring port) t)
-  unfolding turns
-  rung port i goes t is = rings_asked e.role t.calls e.config t.letters port (turn_of t.control env) (busy i t is) (goes t is) (begins i t is)
+  rung : (ev : Event) (who : List ℕ) → IsRing ev who → (i : ℕ) → ((t : Tunnel) → at e.tunnels i ≡ Some t → (state_number t.control.state ≡ 3) ⊎ (state_number t.control.state ≡ 1)) → (t : Tunnel)
+      → at e.tunnels i ≡ Some t → Asked e.role t.calls (turn ev t)
+  rung ev who ring i goes t is =
+      subst (Asked e.role t.calls) (sym (turns_ring e.role e.config t.letters t.calls ev who (turn_of t.control env) ring))
+      (rings_asked e.role t.calls e.config t.letters who (turn_of t.control env) (busy i t is) (goes t is) (begins i t is))
 
-  rings_asked_in : (port : ℕ) (open_one opening : Option ℕ) → least_in Established e.config.lns e.tunnels ≡ open_one
-      → least_in WaitCtlReply e.config.lns e.tunnels ≡ opening → AllAsked (rings_in e env (Ring port) open_one opening)
-  unfolding rings_in in_new turns
-  rings_asked_in port (Some i) opening is next = main_asked (Ring port) i (rung port i (λ t there. inl (least_is e Established i (least_open e kept i is) t there).0))
-  rings_asked_in port None (Some i) is next = main_asked (Ring port) i (rung port i (λ t there. inr (least_is e WaitCtlReply i (least_opening e kept i next) t there).0))
-  rings_asked_in port None None is next =
-      more_asked (Ring port) e.config.lns (Refused cause.Tunnels)
-      (new_asked _ (rings_is_new e.role e.config [] port (turn_of (fresh e.config.lns moment) env) refl refl))
+  rings_asked_in : (ev : Event) (who : List ℕ) → IsRing ev who → (open_one opening : Option ℕ) → least_in Established e.config.lns e.tunnels ≡ open_one
+      → least_in WaitCtlReply e.config.lns e.tunnels ≡ opening → AllAsked (rings_in e env ev open_one opening)
+  unfolding rings_in in_new
+  rings_asked_in ev who ring (Some i) opening is next = main_asked ev i (rung ev who ring i (λ t there. inl (least_is e Established i (least_open e kept i is) t there).0))
+  rings_asked_in ev who ring None (Some i) is next = main_asked ev i (rung ev who ring i (λ t there. inr (least_is e WaitCtlReply i (least_opening e kept i next) t there).0))
+  rings_asked_in ev who ring None None is next =
+      let blank = turn_of (fresh e.config.lns moment) env in
+      more_asked ev e.config.lns (Refused cause.Tunnels)
+      (new_asked _ (subst IsNew (sym (turns_ring e.role e.config [] [] ev who blank ring)) (rings_is_new e.role e.config [] who blank refl refl)))
 
   payload : (s : ℕ) (frame : List ℕ) (i : ℕ) (t : Tunnel) → at e.tunnels i ≡ Some t → Asked e.role t.calls (turn (Payload s frame) t)
   unfolding turns
@@ -229,7 +234,10 @@ module _ (e : End) (kept : AreKept e) (none : NoneWaits e) (moment : ℕ) (block
   unfolding plain_step step_in rings_at
   step_asked (Datagram peer bytes) = received_asked peer bytes (header_of bytes)
   step_asked (Ring port) =
-      by_lac _ (rings_asked_in port (least_in Established e.config.lns e.tunnels) (least_in WaitCtlReply e.config.lns e.tunnels) refl refl)
+      by_lac _ (rings_asked_in (Ring port) (subscriber port) refl (least_in Established e.config.lns e.tunnels) (least_in WaitCtlReply e.config.lns e.tunnels) refl refl)
+  step_asked (Admitted mac) =
+      by_lac _ (rings_asked_in (Admitted mac) mac refl (least_in Established e.config.lns e.tunnels) (least_in WaitCtlReply e.config.lns e.tunnels) refl refl)
+  step_asked (Frame bytes) = only_asked _
   step_asked (Payload s frame) = by_lac _ (payload_asked s frame (at e.calls s))
   step_asked (Lower s frame) = by_lns _ (lower_asked s frame (at e.calls s))
   step_asked (Hang s) = by_lac _ (hung_asked s (at e.calls s))

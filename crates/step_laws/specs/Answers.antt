@@ -1,4 +1,5 @@
 -- How each request for a call is answered, and what comes of each ring.
+use Rattle.step_laws.specs.Callers.{IsRing}
 use Rattle.std.specs.Prelude.{◌≡◌, ◌⊎◌, ℕ, true, List, [], ◌∷◌, Option, Some, None, unwrap_or, Ok}
 use Rattle.std.specs.List.{flat_map}
 use Rattle.id_table.specs.Ids.{at}
@@ -181,20 +182,20 @@ cause_of_output (Cause c) = c ∷ []
 cause_of_output o = []
 
 -- a call of the session that is drawn is born in a tunnel, for the port that rings
-pub record IsBorn (e : End) (port : ℕ) (m : Added) : Type 0 where
+pub record IsBorn (e : End) (who : List ℕ) (m : Added) : Type 0 where
   pub drawn : draws e.session_ids ≡ Ok m.session
-  pub port_is : m.port ≡ port
+  pub subscriber_is : m.subscriber ≡ who
 
 -- over the least tunnel to the LNS that is open the call is asked for; where none is, it waits over the least whose SCCRQ isn't
 -- answered yet, and over one that is opened for it where there is neither; or nothing is done, and one cause is told (of that see Causes)
-pub data RingIsAnswered (e : End) (port : ℕ) (s : Stepped) : Type 0 where
-  IsAsked : (a : Added) (q : Requested) → flat_map ring_of_move s.moves ≡ move.Added a ∷ move.Requested q ∷ [] → IsBorn e port a
-      → IsLeast e Established a.tunnel → q.tunnel ≡ a.tunnel → q.session ≡ a.session → q.port ≡ port → RingIsAnswered e port s
-  Waits : (a : Added) → flat_map ring_of_move s.moves ≡ move.Added a ∷ [] → IsBorn e port a → HasNone e Established
-      → IsLeast e WaitCtlReply a.tunnel → RingIsAnswered e port s
-  Opens : (o : Opened) (a : Added) → flat_map ring_of_move s.moves ≡ move.Opened o ∷ move.Added a ∷ [] → IsBorn e port a
-      → draws e.tunnel_ids ≡ Ok o.tunnel → o.peer ≡ e.config.lns → a.tunnel ≡ o.tunnel → RingsNew e (Ring port) → RingIsAnswered e port s
-  IsRefused : (c : CauseOf) → flat_map ring_of_move s.moves ≡ [] → flat_map cause_of_output s.outputs ≡ c ∷ [] → RingIsAnswered e port s
+pub data RingIsAnswered (e : End) (who : List ℕ) (s : Stepped) : Type 0 where
+  IsAsked : (a : Added) (q : Requested) → flat_map ring_of_move s.moves ≡ move.Added a ∷ move.Requested q ∷ [] → IsBorn e who a
+      → IsLeast e Established a.tunnel → q.tunnel ≡ a.tunnel → q.session ≡ a.session → q.subscriber ≡ who → RingIsAnswered e who s
+  Waits : (a : Added) → flat_map ring_of_move s.moves ≡ move.Added a ∷ [] → IsBorn e who a → HasNone e Established
+      → IsLeast e WaitCtlReply a.tunnel → RingIsAnswered e who s
+  Opens : (o : Opened) (a : Added) → flat_map ring_of_move s.moves ≡ move.Opened o ∷ move.Added a ∷ [] → IsBorn e who a
+      → draws e.tunnel_ids ≡ Ok o.tunnel → o.peer ≡ e.config.lns → a.tunnel ≡ o.tunnel → HasNone e Established → HasNone e WaitCtlReply → RingIsAnswered e who s
+  IsRefused : (c : CauseOf) → flat_map ring_of_move s.moves ≡ [] → flat_map cause_of_output s.outputs ≡ c ∷ [] → RingIsAnswered e who s
 
 -- ---- each step
 
@@ -202,7 +203,7 @@ pub record StepAnswers (e : End) (moment : ℕ) (ev : Event) (s : Stepped) : Typ
   pub requests : (r : TakesRequest e moment ev) → IsAnswered e moment ev r s
   pub granted : GrantedAreRepliedTo e moment ev s
   pub judged : NewAreJudged e moment ev s
-  pub rings : (port : ℕ) → ev ≡ Ring port → e.role ≡ Lac → RingIsAnswered e port s
+  pub rings : (who : List ℕ) → IsRing ev who → e.role ≡ Lac → RingIsAnswered e who s
 
 -- of an end whose tunnels are kept, and whose calls are those that an end can have
 abbrev pub RequestsAreAnswered : Type 0

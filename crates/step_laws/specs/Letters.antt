@@ -44,7 +44,7 @@ letters_of role c (move.Opened m) = letter m.tunnel m.given 0 (Sccrq (opening_of
 letters_of role c (move.Accepted m) = letter m.tunnel m.given 0 (Sccrp (opening_of role c m.challenge m.response m.tunnel))
 letters_of role c (move.Connected m) = letter m.tunnel m.given 0 (Scccn m.response)
 letters_of role c (move.Requested m) =
-    record { tunnel = m.tunnel; place = m.given; session = 0; message = request_of m.session m.port; hidden = m.hidden } ∷ []
+    record { tunnel = m.tunnel; place = m.given; session = 0; message = request_of m.session m.subscriber; hidden = m.hidden } ∷ []
 letters_of role c (move.Replied m) = letter m.tunnel m.given m.remote (Icrp m.session)
 letters_of role c (move.FirstUp m) = letter m.tunnel m.given m.remote connection
 letters_of role c (move.Refused m) = letter m.tunnel m.given m.remote (Cdn 0 m.result m.error)

@@ -1,3 +1,4 @@
+pub mod Callers
 pub mod Letters
 pub mod Failing
 pub mod Hides
@@ -10,5 +11,6 @@ pub mod Room
 pub mod Causes
 pub mod Codes
 pub mod Lines
+pub mod Hosts
 pub mod Opens
 pub mod Answers

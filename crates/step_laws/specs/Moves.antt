@@ -1,4 +1,5 @@
 -- What each move needs before it, and what it changes.
+use Rattle.step_laws.specs.Callers.{IsRing}
 use Rattle.std.specs.Prelude.{◌≡◌, ℕ, ◌+◌, ◌%◌, ◌<◌, ◌≤◌, ◌⊎◌, Bool, true, false, ◌==◌, if◌then◌else◌, nat_le, nat_lt, List, [], ◌∷◌, ◌++◌, drop, map, length, Option, None, Some, is_some, unwrap_or, Result, Ok, Err}
 use Rattle.wire_base.specs.declared.why.Why.{Why}
 use Rattle.id_table.specs.Ids.{at, put, without, ids_of}
@@ -316,10 +317,10 @@ pub record Adds (e : End) (moment : ℕ) (ev : Event) (m : Added) (x : End) : Ty
   -- it has fewer than 4,096 calls, and room for the letters that one more owes
   pub few : has_all_calls tunnel.calls ≡ false
   pub spare : may_take tunnel.control tunnel.calls ≡ true
-  pub rings : ev ≡ Ring m.port
+  pub rings : IsRing ev m.subscriber
   pub role : e.role ≡ Lac
   pub drawn : draws e.session_ids ≡ Ok m.session
-  pub after : x ≡ record (with_tunnel e m.tunnel (record tunnel { calls = put tunnel.calls m.session (rung e.role m.port moment) })) {
+  pub after : x ≡ record (with_tunnel e m.tunnel (record tunnel { calls = put tunnel.calls m.session (rung e.role m.subscriber moment) })) {
     session_ids = after_draw e.session_ids;
     calls = put e.calls m.session (new_place m.tunnel);
   }
@@ -332,11 +333,11 @@ pub record Requests (e : End) (moment : ℕ) (m : Requested) (x : End) : Type 0 
   pub waits : at tunnel.calls m.session ≡ Some call
   pub row : is_request (call_row e.role call.state call_event.TunnelOpen).1 ≡ true
   pub session : m.session < 65536
-  pub port : m.port ≡ call.port
-  pub hides : HidesNumber e.config m.session m.port m.hidden
+  pub subscriber : m.subscriber ≡ call.subscriber
+  pub hides : HidesNumber e.config m.session m.subscriber m.hidden
   pub room : has_room tunnel.control ≡ true
   pub given : m.given ≡ next_place tunnel.control
-  pub after : x ≡ record (with_tunnel e m.tunnel (with_letter_as 0 (request_of m.session m.port) m.hidden (record tunnel {
+  pub after : x ≡ record (with_tunnel e m.tunnel (with_letter_as 0 (request_of m.session m.subscriber) m.hidden (record tunnel {
     calls = put tunnel.calls m.session (advanced e.role call_event.TunnelOpen moment call);
   }))) { calls = with_look (cell.Bind m.session m.tunnel tunnel.control.peer) e.calls }
 

@@ -1,4 +1,5 @@
 -- Where a step tells that there is no room for letters.
+use Rattle.step_laws.specs.Callers.{IsRing}
 use Rattle.std.specs.Prelude.{◌≡◌, ◌⊎◌, ◌≤◌, ℕ, false, List, Some}
 use Rattle.id_table.specs.Ids.{at}
 use Rattle.tunnel_fsm.specs.declared.table.TunnelState.{TunnelState}
@@ -42,12 +43,12 @@ IsChosen e i = IsLeast e Established i ⊎ (HasNone e Established × IsLeast e W
 
 -- else over a new one
 abbrev pub RingsNew : End → Event → Type 0
-RingsNew e ev = (port : ℕ) × (ev ≡ Ring port) × HasNone e Established × HasNone e WaitCtlReply
+RingsNew e ev = (who : List ℕ) × (IsRing ev who) × HasNone e Established × HasNone e WaitCtlReply
 
 -- the tunnel over which a call is to go that rings
 pub record RingsOver (e : End) (ev : Event) (t : Tunnel) : Type 0 where
-  pub port : ℕ
-  pub rings : ev ≡ Ring port
+  pub subscriber : List ℕ
+  pub rings : IsRing ev subscriber
   pub id : ℕ
   pub chosen : IsChosen e id
   pub there : at e.tunnels id ≡ Some t

@@ -3,7 +3,7 @@
 use Rattle.std.specs.Prelude.{◌≡◌, ℕ, ◌≤◌, List, [], ◌∷◌, length}
 use Rattle.std.specs.List.{flat_map}
 use Rattle.protocol_model.specs.declared.event.Event.{Event}
-use Rattle.protocol_model.specs.declared.event.Event.TheVariants.{Datagram, Ring}
+use Rattle.protocol_model.specs.declared.event.Event.TheVariants.{Datagram, Ring, Admitted}
 use Rattle.protocol_model.specs.declared.out.Out.{Out}
 use Rattle.protocol_model.specs.declared.out.Out.TheVariants.{Up}
 use Rattle.protocol_model.specs.declared.moves.Move.{Move}
@@ -37,6 +37,7 @@ most_ups ev = 0
 
 abbrev pub most_births : Event → ℕ
 most_births (Ring port) = 1
+most_births (Admitted mac) = 1
 most_births ev = 0
 
 abbrev pub most_reads : Event → ℕ

@@ -15,6 +15,11 @@ use protocol_model::{
 };
 use wire_base::{Bytes, NoMemory, Why};
 
+/// How many bytes a PPP frame has at least and at most, with its protocol field.
+const SHORTEST_FRAME: usize = 2;
+
+const LONGEST_FRAME: usize = 1494;
+
 fn is_connection(action: CallAction) -> bool
     ensures { result ≡ is_connection action }
 {
@@ -212,7 +217,7 @@ impl Turn {
         })
     }
 
-    /// A frame is given for a call.
+    /// A frame is given for a call, from its protocol field on.
     #[tactic(auto, unfolding(protocol_model::specs::Turn::carries))]
     pub(crate) fn carry(
         &mut self,
@@ -227,6 +232,12 @@ impl Turn {
         };
         if !is_up(call.state) {
             return self.drop_with(Why::Closed);
+        }
+        if frame.len() < SHORTEST_FRAME {
+            return self.drop_with(Why::Short);
+        }
+        if frame.len() > LONGEST_FRAME {
+            return self.drop_with(Why::Long);
         }
         self.send_frame(session, frame, call)
     }

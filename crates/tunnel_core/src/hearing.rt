@@ -13,7 +13,7 @@ use message_reading::{
     Reason, Said, connected_event, connected_reason, event_by, header_why, no_outgoing,
     opening_reason, out_of_order, read_body,
 };
-use protocol_model::{Config, Event, Role};
+use protocol_model::{Config, Event, Role, subscriber};
 use recv_window::Class;
 use send_window::Letters;
 use tunnel_calls::TunnelCalls;
@@ -401,9 +401,14 @@ impl Turn {
                 self.hear_datagram(role, config, letters, calls, bytes.as_slice())
             }
             Event::Ring { port } => {
-                self.ring(role, config, calls, *port)?;
+                self.ring(role, config, calls, subscriber(*port))?;
                 self.settle(false, letters)
             }
+            Event::Admitted { mac } => {
+                self.ring(role, config, calls, *mac)?;
+                self.settle(false, letters)
+            }
+            Event::Frame { .. } => self.drop_with(Why::Node),
             Event::Payload { session, frame } | Event::Lower { session, frame } => {
                 self.carry(*session, frame.as_slice(), calls.get(u32::from(*session)))
             }

@@ -35,7 +35,7 @@ impl Turn {
         let given = self.next_place();
         let tunnel = self.control.local;
         let peer = self.control.peer;
-        let port = call.port;
+        let subscriber = call.subscriber;
         let asked = advanced(
             self.alloc,
             role,
@@ -44,14 +44,14 @@ impl Turn {
             call,
             call.remote,
         )?;
-        let request = request_of(self.alloc, session, port)?;
+        let request = request_of(self.alloc, session, &subscriber)?;
         let hidden = hidden_pairs(self.alloc, config, &self.block, &request)?;
         let letter = copy_pairs(self.alloc, &hidden)?;
         self.change(session, asked)?;
         self.did(Move::Requested(Requested {
             tunnel,
             session,
-            port,
+            subscriber,
             hidden,
             given,
         }))?;
@@ -107,16 +107,16 @@ impl Turn {
 
     /// A call is born, and added to the tunnel.
     #[tactic(auto, unfolding(protocol_model::specs::Turn::adds))]
-    fn add(&mut self, role: Role, port: u16, session: u16) -> Result<(), NoMemory>
-        ensures { OnOk result (self.new ≡ adds role port session self.old) }
+    fn add(&mut self, role: Role, subscriber: [u8; 6], session: u16) -> Result<(), NoMemory>
+        ensures { OnOk result (self.new ≡ adds role subscriber session self.old) }
     {
         let tunnel = self.control.local;
-        let call = rung(self.alloc, role, port, self.moment)?;
+        let call = rung(self.alloc, role, subscriber, self.moment)?;
         self.make(session, call)?;
         self.did(Move::Added(Added {
             tunnel,
             session,
-            port,
+            subscriber,
         }))
     }
 
@@ -126,23 +126,23 @@ impl Turn {
         &mut self,
         role: Role,
         config: &Config,
-        port: u16,
+        subscriber: [u8; 6],
         session: u16,
     ) -> Result<(), NoMemory>
-        ensures { OnOk result (self.new ≡ rings_over role config.now port session self.old) }
+        ensures { OnOk result (self.new ≡ rings_over role config.now subscriber session self.old) }
     {
         if self.control.state != TunnelState::Established {
-            return self.add(role, port, session);
+            return self.add(role, subscriber, session);
         }
-        let call = rung(self.alloc, role, port, self.moment)?;
-        self.add(role, port, session)?;
+        let call = rung(self.alloc, role, subscriber, self.moment)?;
+        self.add(role, subscriber, session)?;
         self.request(role, config, session, &call)
     }
 
     /// A ring over a new tunnel, which is opened for it.
     #[tactic(auto, unfolding(protocol_model::specs::Turn::rings_new))]
-    fn ring_new(&mut self, role: Role, config: &Config, port: u16) -> Result<(), NoMemory>
-        ensures { OnOk result (self.new ≡ rings_new role config.now port (draws self.old.sessions) (draws self.old.tunnels) self.old) }
+    fn ring_new(&mut self, role: Role, config: &Config, subscriber: [u8; 6]) -> Result<(), NoMemory>
+        ensures { OnOk result (self.new ≡ rings_new role config.now subscriber (draws self.old.sessions) (draws self.old.tunnels) self.old) }
     {
         match (self.next_session(), self.next_tunnel()) {
             (Ok(session), Ok(local)) => {
@@ -152,7 +152,7 @@ impl Turn {
                     });
                 }
                 self.open_as(role, config, local as u16)?;
-                self.add(role, port, session as u16)
+                self.add(role, subscriber, session as u16)
             }
             _ => self.output(Out::Cause { cause: Cause::Ids }),
         }
@@ -165,9 +165,9 @@ impl Turn {
         role: Role,
         config: &Config,
         calls: &TunnelCalls,
-        port: u16,
+        subscriber: [u8; 6],
     ) -> Result<(), NoMemory>
-        ensures { OnOk result (self.new ≡ rings_within role config.now calls.now.entries port self.old) }
+        ensures { OnOk result (self.new ≡ rings_within role config.now calls.now.entries subscriber self.old) }
     {
         if calls.are_too_many() {
             return self.output(Out::Cause {
@@ -181,24 +181,24 @@ impl Turn {
         }
         match self.next_session() {
             Err(_) => self.output(Out::Cause { cause: Cause::Ids }),
-            Ok(session) => self.ring_over(role, config, port, session as u16),
+            Ok(session) => self.ring_over(role, config, subscriber, session as u16),
         }
     }
 
-    /// A port rings.
+    /// A subscriber rings.
     #[tactic(auto, unfolding(protocol_model::specs::Turn::rings))]
     pub(crate) fn ring(
         &mut self,
         role: Role,
         config: &Config,
         calls: &TunnelCalls,
-        port: u16,
+        subscriber: [u8; 6],
     ) -> Result<(), NoMemory>
-        ensures { OnOk result (self.new ≡ rings role config.now calls.now.entries port self.old) }
+        ensures { OnOk result (self.new ≡ rings role config.now calls.now.entries subscriber self.old) }
     {
         if self.control.state == TunnelState::Idle {
-            return self.ring_new(role, config, port);
+            return self.ring_new(role, config, subscriber);
         }
-        self.ring_within(role, config, calls, port)
+        self.ring_within(role, config, calls, subscriber)
     }
 }

@@ -213,30 +213,35 @@ pub(crate) fn advanced(
         remote,
         state: next,
         since: moment,
-        port: call.port,
+        subscriber: call.subscriber,
         steps,
     })
 }
 
 /// A call that nothing came to yet.
-fn idle_call(alloc: Global, port: u16) -> Call
-    ensures { result ≡ idle_call 0 port }
+fn idle_call(alloc: Global, subscriber: [u8; 6]) -> Call
+    ensures { result ≡ idle_call 0 subscriber }
 {
     Call {
         remote: 0,
         state: CallState::Idle,
         since: 0,
-        port,
+        subscriber,
         steps: CallSteps::new(alloc),
     }
 }
 
-/// A call that a port rings for.
+/// A call that a subscriber rings for.
 #[tactic(auto, unfolding(protocol_model::specs::Calls::rung))]
-pub(crate) fn rung(alloc: Global, role: Role, port: u16, moment: u64) -> Result<Call, NoMemory>
-    ensures { IfOk result (λ c. c ≡ rung role port moment) }
+pub(crate) fn rung(
+    alloc: Global,
+    role: Role,
+    subscriber: [u8; 6],
+    moment: u64,
+) -> Result<Call, NoMemory>
+    ensures { IfOk result (λ c. c ≡ rung role subscriber moment) }
 {
-    let idle = idle_call(alloc, port);
+    let idle = idle_call(alloc, subscriber);
     advanced(alloc, role, CallEvent::Ring, moment, &idle, 0)
 }
 
@@ -250,7 +255,7 @@ pub(crate) fn asked_for(
 ) -> Result<Call, NoMemory>
     ensures { IfOk result (λ c. c ≡ asked_for role remote moment) }
 {
-    let idle = idle_call(alloc, 0);
+    let idle = idle_call(alloc, [0; 6]);
     advanced(alloc, role, CallEvent::IcrqAcc, moment, &idle, remote)
 }
 
@@ -306,8 +311,12 @@ pub(crate) fn opening_of(
 }
 
 /// The request for a call of a LAC.
-pub(crate) fn request_of(alloc: Global, session: u16, port: u16) -> Result<Message, NoMemory>
-    ensures value { IfOk result (λ m. m ≡ request_of session port) }
+pub(crate) fn request_of(
+    alloc: Global,
+    session: u16,
+    subscriber: &[u8; 6],
+) -> Result<Message, NoMemory>
+    ensures value { IfOk result (λ m. m ≡ request_of session subscriber.now) }
     ensures written { IfOk result IsWritten }
     ensures short { IfOk result (λ m. IfSome (hidden_of m) (λ number. length number ≤ 990)) }
 {
@@ -315,6 +324,6 @@ pub(crate) fn request_of(alloc: Global, session: u16, port: u16) -> Result<Messa
     Ok(Message::Icrq {
         session,
         serial: u32::from(session),
-        calling: Some(calling_number(alloc, port)?),
+        calling: Some(calling_number(alloc, subscriber)?),
     })
 }

@@ -1,0 +1,75 @@
+//! The steps of a LAC's end.
+
+ghost use Rattle.std.specs.Prelude.{◌≡◌};
+ghost use Rattle.wire_base.specs.declared.cause.Cause.TheVariants as causes;
+ghost use Rattle.protocol_model.specs.declared.out.Out.TheVariants as outs;
+ghost use Rattle.protocol_model.specs.declared.tunnel.Role.TheVariants as roles;
+ghost use Rattle.protocol_model.specs.End.{env_of, rings_at, plain_step, step};
+ghost use Rattle.end_core.specs.Gives.{GivesStep};
+
+use end_core::{End, Given};
+use protocol_model::{Event, Out};
+use tunnel_fsm::TunnelState;
+use wire_base::{Cause, NoMemory, Why};
+
+/// The cause of an opening or a ring that is refused where the LAC has as many tunnels as it may.
+fn too_many_tunnels() -> Out
+    ensures { result ≡ outs.Cause causes.Tunnels }
+{
+    Out::Cause {
+        cause: Cause::Tunnels,
+    }
+}
+
+/// A port rings, or a host was admitted: over the least tunnel to the LNS that is open, else over the least that is to open,
+/// else over a new one.
+#[tactic(auto, unfolding(protocol_model::specs::End::rings_at, protocol_model::specs::End::rings_in))]
+fn ring(end: &mut End, moment: u64, block: [u8; 16], event: &Event) -> Result<Given, NoMemory>
+    ensures given { GivesStep result (rings_at end.old (env_of end.old moment block) event.now) end.old end.new }
+    ensures role { end.new.role ≡ end.old.role }
+{
+    let lns = end.lns();
+    if let Some(id) = end.least_in(TunnelState::Established, lns)? {
+        return end.run_main(moment, block, event, id);
+    }
+    if let Some(id) = end.least_in(TunnelState::WaitCtlReply, lns)? {
+        return end.run_main(moment, block, event, id);
+    }
+    end.run_one_more(moment, block, event, lns, too_many_tunnels())
+}
+
+/// A step on an event of which nothing is hidden.
+#[tactic(auto, unfolding(protocol_model::specs::End::plain_step, protocol_model::specs::End::step_in, protocol_model::specs::End::only_by))]
+fn plain_step(end: &mut End, moment: u64, block: [u8; 16], event: &Event) -> Result<Given, NoMemory>
+    requires { end.old.role ≡ roles.Lac }
+    ensures given { GivesStep result (plain_step end.old moment block event.now) end.old end.new }
+    ensures role { end.new.role ≡ end.old.role }
+{
+    match event {
+        Event::Datagram { peer, bytes } => {
+            end.receive(moment, block, event, *peer, bytes.as_slice())
+        }
+        Event::Ring { .. } | Event::Admitted { .. } => ring(end, moment, block, event),
+        Event::Payload { session, .. } | Event::Hang { session } | Event::DropCall { session } =>
+            end.run_for_call(moment, block, event, *session),
+        Event::OpenTunnel => {
+            let lns = end.lns();
+            end.run_one_more(moment, block, event, lns, too_many_tunnels())
+        }
+        Event::CloseTunnel { tunnel } => end.run_main(moment, block, event, u32::from(*tunnel)),
+        Event::Tick => end.tick_all(moment, block),
+        Event::Lower { .. } | Event::Frame { .. } => end.drop_with(Why::Node),
+    }
+}
+
+/// A step on what comes: what is hidden by the end's secret is uncovered first.
+pub fn step(end: &mut End, moment: u64, block: [u8; 16], event: &Event) -> Result<Given, NoMemory>
+    requires { end.old.role ≡ roles.Lac }
+    ensures given { GivesStep result (step end.old moment block event.now) end.old end.new }
+    ensures role { end.new.role ≡ end.old.role }
+{
+    match end.plain_event(event)? {
+        None => plain_step(end, moment, block, event),
+        Some(plain) => plain_step(end, moment, block, &plain),
+    }
+}

@@ -1,0 +1,29 @@
+-- A subscriber that wants a call rings, whether by a port or as a host that was admitted.
+use Rattle.std.proofs.Common.{◌≡◌, ℕ, List, false, refl, ap, Option, Some, None}
+use Rattle.wire_base.specs.declared.letter.Letter.{Letter}
+use Rattle.protocol_model.specs.declared.event.Event.{Event}
+use Rattle.protocol_model.specs.declared.event.Event.TheVariants.{Datagram, Ring, Frame, Admitted, Payload, Lower, Hang, OpenTunnel, DropCall, CloseTunnel, Tick}
+use Rattle.protocol_model.specs.declared.tunnel.Call.{Call}
+use Rattle.protocol_model.specs.declared.tunnel.Config.{Config}
+use Rattle.protocol_model.specs.declared.tunnel.Role.{Role}
+use Rattle.protocol_model.specs.Names.{subscriber}
+use Rattle.protocol_model.specs.Turn.{Turn, turns, rings, settles}
+use Rattle.step_laws.specs.Callers.{IsRing}
+
+some_is : (a b : List ℕ) → Some a ≡ Some b → a ≡ b
+some_is a b h = cc
+
+pub turns_ring : (role : Role) (c : Config) (letters : List Letter) (calls : List (ℕ × Call)) (ev : Event) (who : List ℕ) (t : Turn) → IsRing ev who
+    → turns role c letters calls ev t ≡ settles false letters (rings role c calls who t)
+unfolding turns
+turns_ring role c letters calls (Ring port) who t h = ap (λ w. settles false letters (rings role c calls w t)) (some_is (subscriber port) who h)
+turns_ring role c letters calls (Admitted mac) who t h = ap (λ w. settles false letters (rings role c calls w t)) (some_is mac who h)
+turns_ring role c letters calls (Datagram peer bytes) who t h = absurd cc
+turns_ring role c letters calls (Frame bytes) who t h = absurd cc
+turns_ring role c letters calls (Payload s frame) who t h = absurd cc
+turns_ring role c letters calls (Lower s frame) who t h = absurd cc
+turns_ring role c letters calls (Hang s) who t h = absurd cc
+turns_ring role c letters calls OpenTunnel who t h = absurd cc
+turns_ring role c letters calls (DropCall s) who t h = absurd cc
+turns_ring role c letters calls (CloseTunnel i) who t h = absurd cc
+turns_ring role c letters calls Tick who t h = absurd cc
