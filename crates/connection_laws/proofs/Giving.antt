@@ -20,6 +20,7 @@ use Rattle.protocol_model.specs.declared.moves.Added.{Added}
 use Rattle.protocol_model.specs.declared.moves.EndSilent.{EndSilent}
 use Rattle.protocol_model.specs.declared.moves.LetGo.{LetGo}
 use Rattle.protocol_model.specs.declared.moves.Repeated.{Repeated}
+use Rattle.protocol_model.specs.declared.moves.Negotiated.{Negotiated}
 use Rattle.protocol_model.specs.declared.moves.FrameSent.{FrameSent}
 use Rattle.protocol_model.specs.declared.moves.FrameUp.{FrameUp}
 use Rattle.protocol_model.specs.declared.moves.Move.{Move}
@@ -29,10 +30,11 @@ use Rattle.protocol_model.specs.declared.tunnel.CallPlace.{CallPlace}
 use Rattle.protocol_model.specs.declared.tunnel.Role.{Role}
 use Rattle.protocol_model.specs.Names.{calling_number}
 use Rattle.protocol_model.specs.Calls.{call_row, is_told, advanced, rung}
-use Rattle.protocol_model.specs.Turn.{Tunnel, has_room, request_of}
+use Rattle.protocol_model.specs.Turn.{Tunnel, has_room, request_of, with_link, link_after}
 use Rattle.protocol_model.specs.End.{End, new_place}
 use Rattle.protocol_model.specs.World.{Sender, Deed, config_of}
 use Rattle.step_laws.specs.Letters.{Letter, letters_of}
+use Rattle.lcp_end.specs.Laws.{after as lcp_after}
 use Rattle.step_laws.specs.Codes.{codes_fit}
 use Rattle.step_laws.specs.Moves.{with_tunnel, with_letter_as}
 use Rattle.connection_laws.specs.Accounts.{Part, Unmade, Opener, Acceptor, Account, about, entered_by, gives, gives_also}
@@ -380,6 +382,31 @@ added_keeps accs n e x sender moment ev m d h =
       sessions = omega (arith, next);
       last_session = refl;
     })))
+
+-- a call that waited waits on, where its link alone changed
+waits_linked : (calls : List (ℕ × Call)) (s : ℕ) (c k : Call) → at calls s ≡ Some c → k.state ≡ c.state → AllWait calls → AllWait (put calls s k)
+waits_linked calls s c k there same wait = waits_put calls s k (same ∙ wait s c there) wait
+
+-- the LCP end of a call made a step
+pub negotiated_keeps : (accs : Accounts) (n : ℕ) (e x : End) (sender : Option Sender) (moment : ℕ) (ev : Event) (m : Negotiated) (d : Deed)
+    → IsMoved accs n e x sender moment ev (move.Negotiated m) d → Within (after accs d) n x sender ev
+negotiated_keeps accs n e x sender moment ev m d h =
+    let o = h.does in
+    let t = o.tunnel in
+    let live = h.within.end.live m.tunnel t o.there in
+    let call = with_link (link_after o.calls.link (lcp_after o.calls.by o.calls.link.lcp)) o.call in
+    let u : Tunnel = record t { calls = put t.calls m.session call } in
+    still accs n e x sender moment ev (move.Negotiated m) d h tt refl
+    (subst (λ y. Within accs n y sender ev) (sym o.after)
+    (stays_keeps accs n e _ sender ev h.within m.tunnel t u o.there
+    (calls_stay t (put t.calls m.session call) live.outstanding
+    (calls_put t.calls m.session call live.calls (live.calls m.session o.call o.live))
+    (ascends-put m.session call t.calls live.order)
+    (inr (
+      waits_linked t.calls m.session o.call call o.live refl,
+      (λ one none. absurd (no_call t.calls m.session o.call o.live none)),
+    )))
+    (put_places e m.tunnel u _)))
 
 -- ---- its window changes
 

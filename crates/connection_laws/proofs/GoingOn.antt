@@ -10,7 +10,7 @@ use Rattle.control_message.specs.declared.message.Message.TheVariants.{Sccrq, Sc
 use Rattle.control_message.specs.declared.message.Opening.{Opening}
 use Rattle.tunnel_fsm.specs.Rows.{state_number}
 use Rattle.protocol_model.specs.declared.event.Event.{Event}
-use Rattle.protocol_model.specs.declared.event.Event.TheVariants.{Datagram, Ring, Frame, Admitted, Payload, Lower, Hang, OpenTunnel, DropCall, CloseTunnel, Tick}
+use Rattle.protocol_model.specs.declared.event.Event.TheVariants.{Datagram, Ring, Frame, Admitted, Payload, Lower, Lcp, Hang, OpenTunnel, DropCall, CloseTunnel, Tick}
 use Rattle.protocol_model.specs.declared.event.Addressee.TheVariants.{Opens, Stops}
 use Rattle.protocol_model.specs.declared.out.Origin.{Origin}
 use Rattle.protocol_model.specs.declared.out.Origin.TheVariants as origin
@@ -349,6 +349,7 @@ module _ (accs ms : Accounts) (n : ℕ) (e x : End) (sender : Option Sender) (ev
   near (Admitted mac) c = tt
   near (Payload s frame) c = tt
   near (Lower s frame) c = tt
+  near (Lcp s packet) c = tt
   near (Hang s) c = tt
   near OpenTunnel c = tt
   near (DropCall s) c = tt

@@ -16,7 +16,7 @@ use Rattle.control_message.specs.Pairs.{pairs_of, IsWritten}
 use Rattle.control_message.specs.Reading.{message_of}
 use Rattle.recv_window.specs.Window.{on_wire}
 use Rattle.protocol_model.specs.declared.event.Event.{Event}
-use Rattle.protocol_model.specs.declared.event.Event.TheVariants.{Datagram, Ring, Frame, Admitted, Payload, Lower, Hang, OpenTunnel, DropCall, CloseTunnel, Tick}
+use Rattle.protocol_model.specs.declared.event.Event.TheVariants.{Datagram, Ring, Frame, Admitted, Payload, Lower, Lcp, Hang, OpenTunnel, DropCall, CloseTunnel, Tick}
 use Rattle.protocol_model.specs.declared.out.Origin.{Origin}
 use Rattle.protocol_model.specs.declared.out.Origin.TheVariants as origin
 use Rattle.protocol_model.specs.declared.out.ControlOrigin.{ControlOrigin}
@@ -78,6 +78,7 @@ packet_at accs n e sender (Frame frame) comes peer bytes is = absurd cc
 packet_at accs n e sender (Admitted mac) comes peer bytes is = absurd cc
 packet_at accs n e sender (Payload s frame) comes peer bytes is = absurd cc
 packet_at accs n e sender (Lower s frame) comes peer bytes is = absurd cc
+packet_at accs n e sender (Lcp s packet) comes peer bytes is = absurd cc
 packet_at accs n e sender (Hang s) comes peer bytes is = absurd cc
 packet_at accs n e sender OpenTunnel comes peer bytes is = absurd cc
 packet_at accs n e sender (DropCall s) comes peer bytes is = absurd cc

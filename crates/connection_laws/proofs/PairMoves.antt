@@ -27,10 +27,11 @@ use Rattle.protocol_model.specs.declared.tunnel.Call.{Call}
 use Rattle.protocol_model.specs.declared.tunnel.CallPlace.{CallPlace}
 use Rattle.protocol_model.specs.declared.tunnel.Role.{Role}
 use Rattle.protocol_model.specs.Calls.{advanced, asked_for}
-use Rattle.protocol_model.specs.Turn.{Tunnel, has_room, taken_place, in_state, counts_taken, connection, session_named}
+use Rattle.protocol_model.specs.Turn.{Tunnel, has_room, taken_place, in_state, counts_taken, connection, session_named, with_link}
 use Rattle.protocol_model.specs.End.{End}
 use Rattle.protocol_model.specs.World.{Sender, Deed}
 use Rattle.step_laws.specs.Letters.{Letter}
+use Rattle.step_laws.specs.Links.{begun_link}
 use Rattle.step_laws.specs.Moves.{HearsNext, with_tunnel, with_letter_as}
 use Rattle.l2tp_header.specs.declared.header.Header.{Header}
 use Rattle.protocol_model.specs.Reading.{body_of}
@@ -252,7 +253,7 @@ module _ (codecs : Codecs) (classes : ClassIsTrue) (accs : Accounts) (n : ℕ) (
       let t = o.tunnel in
       let mv = move.SecondUp m in
       let live = h.within.end.live m.tunnel t o.there in
-      let call = advanced e.role call_event.IccnAcc moment o.call in
+      let call = with_link (begun_link o.magic) (advanced e.role call_event.IccnAcc moment o.call) in
       let u = took t t.control.state (put t.calls m.session call) in
       said_takes codecs classes accs n e sender ev h.within m.tunnel t o.there m.session (Iccn o.speed o.framing o.sequenced) o.hears
       (open_so t o.open_is) (unclosed_so t o.open_is) tt

@@ -3,7 +3,7 @@ use Rattle.std.proofs.Common.{◌≡◌, ◌⊎◌, inl, inr, ⊎_elim, ℕ, ◌
 use Rattle.id_table.specs.Ids.{at}
 use Rattle.id_table.specs.Order.{ascends-put, found_put, same_or_not}
 use Rattle.protocol_model.specs.declared.event.Event.{Event}
-use Rattle.protocol_model.specs.declared.event.Event.TheVariants.{Datagram, Ring, Frame, Admitted, Payload, Lower, Hang, OpenTunnel, DropCall, CloseTunnel, Tick}
+use Rattle.protocol_model.specs.declared.event.Event.TheVariants.{Datagram, Ring, Frame, Admitted, Payload, Lower, Lcp, Hang, OpenTunnel, DropCall, CloseTunnel, Tick}
 use Rattle.protocol_model.specs.declared.out.Origin.{Origin}
 use Rattle.protocol_model.specs.declared.out.Origin.TheVariants as origin
 use Rattle.protocol_model.specs.declared.packet.Packet.{Packet}
@@ -113,6 +113,7 @@ module _ (accs ms : Accounts) (n : ℕ) (e x : End) (sender : Option Sender) (ev
   comes (Admitted mac) c here = tt
   comes (Payload s frame) c here = tt
   comes (Lower s frame) c here = tt
+  comes (Lcp s packet) c here = tt
   comes (Hang s) c here = tt
   comes OpenTunnel c here = tt
   comes (DropCall s) c here = tt

@@ -4,7 +4,7 @@ use Rattle.id_table.specs.Ids.{at, put}
 use Rattle.l2tp_header.specs.declared.header.Header.{Header}
 use Rattle.l2tp_header.specs.Reading.{header_of}
 use Rattle.protocol_model.specs.declared.event.Event.{Event}
-use Rattle.protocol_model.specs.declared.event.Event.TheVariants.{Datagram, Ring, Frame, Admitted, Payload, Lower, Hang, OpenTunnel, DropCall, CloseTunnel, Tick}
+use Rattle.protocol_model.specs.declared.event.Event.TheVariants.{Datagram, Ring, Frame, Admitted, Payload, Lower, Lcp, Hang, OpenTunnel, DropCall, CloseTunnel, Tick}
 use Rattle.protocol_model.specs.declared.out.Origin.{Origin}
 use Rattle.protocol_model.specs.declared.out.Origin.TheVariants as origin
 use Rattle.protocol_model.specs.declared.packet.Packet.{Packet}
@@ -52,6 +52,7 @@ ComesNear accs n e sender (Frame bytes) c ms i t = Unit {0}
 ComesNear accs n e sender (Admitted mac) c ms i t = Unit {0}
 ComesNear accs n e sender (Payload s frame) c ms i t = Unit {0}
 ComesNear accs n e sender (Lower s frame) c ms i t = Unit {0}
+ComesNear accs n e sender (Lcp s packet) c ms i t = Unit {0}
 ComesNear accs n e sender (Hang s) c ms i t = Unit {0}
 ComesNear accs n e sender OpenTunnel c ms i t = Unit {0}
 ComesNear accs n e sender (DropCall s) c ms i t = Unit {0}

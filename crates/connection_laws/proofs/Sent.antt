@@ -26,6 +26,7 @@ use Rattle.connection_laws.specs.Facts.{Accounts, IsMade, IsLost, IsPart, Accoun
 use Rattle.connection_laws.proofs.Written.{node_again}
 use Rattle.connection_laws.proofs.Later.{live_made}
 use Rattle.connection_laws.proofs.Budget.{GivenBelow}
+use Rattle.connection_laws.proofs.Steps.{FramesFit}
 
 -- what is behind the first ones
 pub got_dropped : {X : Type 0} (k : ℕ) (xs : List X) (p : ℕ) → slice_get (drop k xs) p ≡ slice_get xs (k + p)
@@ -134,8 +135,8 @@ module _ (ms : Accounts) (n : ℕ) (x : End) (sender : Option Sender) (ev : Even
           (inl (subst (λ j. IsCopy (ms n j) (packet o) c) (sym (from ∙ live.local)) is_copy));
     }
 
-    pub carries_ok : (moves : List Move) (o : Origin) → Carries t moves bytes o → PacketOk ms (packet o)
-    carries_ok moves o (carries.ALetter l number lt is origin_is are) =
+    pub carries_ok : (moves : List Move) → FramesFit moves → (o : Origin) → Carries t moves bytes o → PacketOk ms (packet o)
+    carries_ok moves fit o (carries.ALetter l number lt is origin_is are) =
         let k = is_letter number l lt is in
         let c : ControlOrigin = record { tunnel = t.control.local; epoch = 0; ns = number; nr = t.control.channel.inbox.taken; empty = false } in
         let nr = on_wire t.control.channel.inbox.taken in
@@ -143,16 +144,16 @@ module _ (ms : Accounts) (n : ℕ) (x : End) (sender : Option Sender) (ev : Even
         ∙ ap (λ (q : wire.Letter). control_bytes t.control.remote q.session (on_wire number) nr q.avps) k.same
         ∙ ap (λ (q : ℕ). control_bytes t.control.remote q (on_wire number) nr (kept_letter k.letter).avps)
         (kept_session k.letter.session k.letter.message k.letter.hidden))))
-    carries_ok moves o (carries.Nothing number origin_is are) =
+    carries_ok moves fit o (carries.Nothing number origin_is are) =
         let c : ControlOrigin = record { tunnel = t.control.local; epoch = 0; ns = number; nr = t.control.channel.inbox.taken; empty = true } in
         packet_of o c refl origin_is (copy o c refl (Nothing refl are))
-    carries_ok moves o (carries.AFrame f call among tunnel_is same at_call up origin_is are) = record {
+    carries_ok moves fit o (carries.AFrame f among tunnel_is same origin_is are) = record {
       from = within.end.node;
       sent = subst (λ q. OriginOk ms (packet o) q) (sym origin_is) (record {
         tunnel = t.control.remote;
         tunnel_fits = rw live.remote ok.remote;
-        session = call.remote;
-        session_fits = live.calls f.session call at_call;
+        session = f.remote;
+        session_fits = fit f among;
         frame = f.frame;
         are = are;
       });

@@ -4,7 +4,7 @@ use Rattle.std.proofs.lemmas.Bool.{eqb-true}
 use Rattle.std.specs.Prelude.{◌==◌, ◌&&◌}
 use Rattle.id_table.specs.Ids.{at}
 use Rattle.protocol_model.specs.declared.event.Event.{Event}
-use Rattle.protocol_model.specs.declared.event.Event.TheVariants.{Datagram, Ring, Frame, Admitted, Payload, Lower, Hang, OpenTunnel, DropCall, CloseTunnel, Tick}
+use Rattle.protocol_model.specs.declared.event.Event.TheVariants.{Datagram, Ring, Frame, Admitted, Payload, Lower, Lcp, Hang, OpenTunnel, DropCall, CloseTunnel, Tick}
 use Rattle.protocol_model.specs.declared.moves.Declined.{Declined}
 use Rattle.protocol_model.specs.declared.moves.Move.{Move}
 use Rattle.protocol_model.specs.declared.moves.Move.TheVariants as move
@@ -233,6 +233,7 @@ comes_stays accs ms all n e sender (Frame bytes) c = tt
 comes_stays accs ms all n e sender (Admitted mac) c = tt
 comes_stays accs ms all n e sender (Payload s frame) c = tt
 comes_stays accs ms all n e sender (Lower s frame) c = tt
+comes_stays accs ms all n e sender (Lcp s packet) c = tt
 comes_stays accs ms all n e sender (Hang s) c = tt
 comes_stays accs ms all n e sender OpenTunnel c = tt
 comes_stays accs ms all n e sender (DropCall s) c = tt
@@ -283,6 +284,7 @@ declines_or_not (move.NrRead m) = inl tt
 declines_or_not (move.LetGo m) = inl tt
 declines_or_not (move.Repeated m) = inl tt
 declines_or_not (move.Quiet k) = inl tt
+declines_or_not (move.Negotiated m) = inl tt
 declines_or_not (move.FrameSent m) = inl tt
 declines_or_not (move.FrameUp m) = inl tt
 

@@ -6,6 +6,7 @@ use Rattle.id_source.specs.Spaces.{draws}
 use Rattle.tunnel_fsm.specs.Rows.{state_number}
 use Rattle.protocol_model.specs.declared.event.Event.{Event}
 use Rattle.protocol_model.specs.declared.moves.Declined.{Declined}
+use Rattle.protocol_model.specs.declared.moves.FrameSent.{FrameSent}
 use Rattle.protocol_model.specs.declared.moves.Move.{Move}
 use Rattle.protocol_model.specs.declared.moves.Move.TheVariants as move
 use Rattle.protocol_model.specs.declared.tunnel.Role.{Role}
@@ -14,7 +15,7 @@ use Rattle.protocol_model.specs.Turn.{Tunnel}
 use Rattle.protocol_model.specs.End.{End}
 use Rattle.protocol_model.specs.World.{World, Sender, Deed, deed_of}
 use Rattle.step_laws.specs.Letters.{Among}
-use Rattle.step_laws.specs.Moves.{Does, Chain, Declines}
+use Rattle.step_laws.specs.Moves.{Does, Chain, Declines, SendsFrame}
 use Rattle.step_laws.specs.Codes.{decline_codes_fit}
 use Rattle.step_laws.specs.Ups.{reads_of_move}
 use Rattle.connection_laws.specs.Accounts.{Account, no_account, about, account_from}
@@ -55,6 +56,7 @@ does_role moment ev x (move.NrRead m) y h = ap (λ (e : End). e.role) h.after
 does_role moment ev x (move.LetGo m) y h = ap (λ (e : End). e.role) h.after
 does_role moment ev x (move.Repeated m) y h = ap (λ (e : End). e.role) h.after
 does_role moment ev x (move.Quiet i) y h = ap (λ (e : End). e.role) h.after
+does_role moment ev x (move.Negotiated m) y h = ap (λ (e : End). e.role) h.after
 does_role moment ev x (move.FrameSent m) y h = ap (λ (e : End). e.role) h.after
 does_role moment ev x (move.FrameUp m) y h = ap (λ (e : End). e.role) h.after
 
@@ -105,8 +107,20 @@ module _ (closings : ClosingsAreKnown) (accs : Accounts) (n : ℕ) (e : End) (se
   may_enter (move.LetGo m) x h = tt
   may_enter (move.Repeated m) x h = tt
   may_enter (move.Quiet i) x h = tt
+  may_enter (move.Negotiated m) x h = tt
   may_enter (move.FrameSent m) x h = tt
   may_enter (move.FrameUp m) x h = tt
+
+-- ---- the frames that moves send
+
+-- they name calls by ids of 16 bits
+abbrev pub FramesFit : List Move → Type 0
+FramesFit moves = (f : FrameSent) → Among (move.FrameSent f) moves → f.remote < 65536
+
+-- a frame names its call by the id that the peer gave it
+frame_fits : (accs : Accounts) (n : ℕ) (e x : End) (sender : Option Sender) (moment : ℕ) (ev : Event) (f : FrameSent) → Within accs n e sender ev
+    → SendsFrame e moment ev f x → f.remote < 65536
+frame_fits accs n e x sender moment ev f within h = rw h.remote ((within.end.live f.tunnel h.tunnel h.there).calls f.session h.call h.calls)
 
 -- ---- a chain of moves
 
@@ -128,6 +142,7 @@ pub record Ran (accs ms : Accounts) (n : ℕ) (e x : End) (sender : Option Sende
   pub kept : Kept accs ms n x sender ev most
   pub moves : MovesWithin accs n e sender moment ev deed made x
   pub openings : (q : Declined) → Among (move.Declined q) made → WasOpening ms n q
+  pub frames : FramesFit made
 
 -- what one move leaves of the accounts
 record MoveLeaves (accs ms : Accounts) (n most : ℕ) (m : Move) : Type 0 where
@@ -185,6 +200,7 @@ module _ (moves_keep : MovesKeep) (closings : ClosingsAreKnown) (declines : Decl
     };
     moves = h;
     openings = λ q among. absurd among;
+    frames = λ f among. absurd among;
   }
   chain_keeps (m ∷ ms) accs e x top most h role within below had room last =
       let d = deed_of v line n r sender m in
@@ -215,5 +231,10 @@ module _ (moves_keep : MovesKeep) (closings : ClosingsAreKnown) (declines : Decl
         openings = λ q among. ⊎_elim
             (λ (same : m ≡ move.Declined q). opening_later (after accs d) left k.kept.grown n q (leaves.openings q same))
             (λ (later : Among (move.Declined q) ms). k.openings q later)
+            among;
+        frames = λ f among. ⊎_elim
+            (λ (same : m ≡ move.FrameSent f).
+            frame_fits accs n e y sender moment ev f within (subst (λ (q : Move). Does e moment ev q y) same h.1))
+            (λ (later : Among (move.FrameSent f) ms). k.frames f later)
             among;
       }

@@ -6,7 +6,7 @@ use Rattle.id_table.specs.Ids.{at, put, at-none}
 use Rattle.id_table.specs.Order.{at_new, at_other, same_or_not}
 use Rattle.protocol_model.specs.Access.{Access}
 use Rattle.protocol_model.specs.declared.event.Event.{Event}
-use Rattle.protocol_model.specs.declared.event.Event.TheVariants.{Datagram, Ring, Frame, Admitted, Payload, Lower, Hang, OpenTunnel, DropCall, CloseTunnel, Tick}
+use Rattle.protocol_model.specs.declared.event.Event.TheVariants.{Datagram, Ring, Frame, Admitted, Payload, Lower, Lcp, Hang, OpenTunnel, DropCall, CloseTunnel, Tick}
 use Rattle.protocol_model.specs.declared.moves.Move.{Move}
 use Rattle.protocol_model.specs.declared.moves.Move.TheVariants as move
 use Rattle.protocol_model.specs.declared.out.Out.{Out}
@@ -91,6 +91,7 @@ move_same n w (move.NrRead m) = same_ends w
 move_same n w (move.LetGo m) = same_ends w
 move_same n w (move.Repeated m) = same_ends w
 move_same n w (move.Quiet i) = same_ends w
+move_same n w (move.Negotiated m) = same_ends w
 move_same n w (move.FrameSent m) = same_ends w
 move_same n w (move.FrameUp m) = same_ends w
 
@@ -210,6 +211,7 @@ few_reads (Frame bytes) = omega arith
 few_reads (Admitted mac) = omega arith
 few_reads (Payload s frame) = omega arith
 few_reads (Lower s frame) = omega arith
+few_reads (Lcp s packet) = omega arith
 few_reads (Hang s) = omega arith
 few_reads OpenTunnel = omega arith
 few_reads (DropCall s) = omega arith
@@ -277,8 +279,8 @@ module _ (laws : Laws) (number : ℕ) (w : World) (accs : Accounts) (holds : Hol
   send_ok : (o : Out) → IsOfMoves s.end s.moves o → SendOk (PacketOk ms) n o
   send_ok (Send peer bytes o) h = ⊎_elim
       (λ (k : IsSent s.end s.moves peer bytes o).
-      carries_ok ms n s.end sender ev (most + 16384) kept.within kept.given (omega (arith, room)) k.id k.tunnel k.there peer k.peer_is bytes s.moves o
-      k.carries)
+      carries_ok ms n s.end sender ev (most + 16384) kept.within kept.given (omega (arith, room)) k.id k.tunnel k.there peer k.peer_is bytes s.moves
+      ran.frames o k.carries)
       (λ (k : IsDecline s.moves peer bytes o).
       declined_ok ms n kept.within.end.node k.declined (ran.openings k.declined k.there) peer bytes o k.peer_is k.bytes_are k.origin_is)
       h

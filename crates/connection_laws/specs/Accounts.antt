@@ -69,6 +69,7 @@ about (move.NrRead m) = m.tunnel
 about (move.LetGo m) = m.tunnel
 about (move.Repeated m) = m.tunnel
 about (move.Quiet i) = i
+about (move.Negotiated m) = m.tunnel
 about (move.FrameSent m) = m.tunnel
 about (move.FrameUp m) = m.tunnel
 
@@ -108,6 +109,7 @@ entered_by d (move.NrRead m) a = a
 entered_by d (move.LetGo m) a = a
 entered_by d (move.Repeated m) a = a
 entered_by d (move.Quiet i) a = a
+entered_by d (move.Negotiated m) a = a
 entered_by d (move.FrameSent m) a = a
 entered_by d (move.FrameUp m) a = a
 

@@ -15,7 +15,7 @@ use Rattle.control_message.specs.Pairs.{pairs_of, IsWritten}
 use Rattle.recv_window.specs.Window.{on_wire}
 use Rattle.tunnel_fsm.specs.Rows.{state_number}
 use Rattle.protocol_model.specs.declared.event.Event.{Event}
-use Rattle.protocol_model.specs.declared.event.Event.TheVariants.{Datagram, Ring, Frame, Admitted, Payload, Lower, Hang, OpenTunnel, DropCall, CloseTunnel, Tick}
+use Rattle.protocol_model.specs.declared.event.Event.TheVariants.{Datagram, Ring, Frame, Admitted, Payload, Lower, Lcp, Hang, OpenTunnel, DropCall, CloseTunnel, Tick}
 use Rattle.protocol_model.specs.declared.moves.Move.{Move}
 use Rattle.protocol_model.specs.declared.moves.Move.TheVariants as move
 use Rattle.protocol_model.specs.declared.out.Origin.{Origin}
@@ -412,6 +412,7 @@ Comes accs n e sender (Frame bytes) = Unit {0}
 Comes accs n e sender (Admitted mac) = Unit {0}
 Comes accs n e sender (Payload s frame) = Unit {0}
 Comes accs n e sender (Lower s frame) = Unit {0}
+Comes accs n e sender (Lcp s packet) = Unit {0}
 Comes accs n e sender (Hang s) = Unit {0}
 Comes accs n e sender OpenTunnel = Unit {0}
 Comes accs n e sender (DropCall s) = Unit {0}

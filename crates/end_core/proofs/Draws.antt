@@ -10,9 +10,12 @@ use Rattle.send_window.specs.declared.window.Tick.{Tick as Due}
 use Rattle.send_window.specs.declared.window.Tick.TheVariants as tick
 use Rattle.call_fsm.specs.declared.table.CallAction.{CallAction}
 use Rattle.call_fsm.specs.declared.table.CallAction.TheVariants as call_action
+use Rattle.lcp_end.specs.Steps.{Turn as LcpTurn}
 use Rattle.protocol_model.specs.declared.tunnel.Call.{Call}
+use Rattle.protocol_model.specs.declared.tunnel.Link.{Link}
 use Rattle.protocol_model.specs.declared.tunnel.Role.{Role}
-use Rattle.protocol_model.specs.Turn.{Turn, with_output, with_move, with_change, drops, ends_call, ends_all, clears, gives, sends_letter, sends_now, lets_go, goes_by, lets_all_go, repeats, acknowledges, acknowledged_after, settles, greeted, greets, end_silent, end_told, ends_by, limits_at, limits_all, goes_quietly, ticks_by, ticks}
+use Rattle.protocol_model.specs.Links.{lcp_frame}
+use Rattle.protocol_model.specs.Turn.{Turn, with_output, with_move, with_change, drops, ends_call, ends_all, clears, gives, sends_letter, sends_now, lets_go, goes_by, lets_all_go, repeats, acknowledges, acknowledged_after, settles, greeted, greets, end_silent, end_told, ends_by, with_looks_of, with_call, carried, sends_packets, negotiated, links, ticks_link, limits_at, limits_all, goes_quietly, ticks_by, ticks}
 
 -- what a turn drew
 abbrev pub drawn : Turn → List ℕ × Space × Space
@@ -28,6 +31,15 @@ unfolding ends_by end_silent end_told gives drops ends_call with_output with_mov
 ended_drawn for result error s c call_action.CleanUp t = refl
 ended_drawn for result error s c call_action.SendCdn t = either _ _ _ t refl refl
 ended_drawn for result error s c a t = refl
+
+packets_drawn : (s : ℕ) (ps : List (List ℕ)) (c : Call) (t : Turn) → drawn (sends_packets s ps c t) ≡ drawn t
+unfolding sends_packets carried with_output with_move
+packets_drawn s [] c t = refl
+packets_drawn s (p ∷ ps) c t = packets_drawn s ps c (carried s (lcp_frame p) c t)
+
+negotiated_drawn : (s : ℕ) (c : Call) (l : Link) (v : LcpTurn) (t : Turn) → drawn (negotiated s c l v t) ≡ drawn t
+unfolding negotiated with_looks_of with_move with_call
+negotiated_drawn s c l v t = packets_drawn s v.out.packets c t
 
 module _ (letters : List Letter) where
   letter_drawn : (number : ℕ) (o : Option Letter) (t : Turn) → drawn (sends_letter number o t) ≡ drawn t
@@ -65,10 +77,20 @@ module _ (letters : List Letter) where
   unfolding greets greeted gives with_move
   greets_drawn t = either _ _ _ t (settles_drawn false _) refl
 
+  links_drawn : (role : Role) (s : ℕ) (c : Call) (l : Link) (v : LcpTurn) (t : Turn) → drawn (links role letters s c l v t) ≡ drawn t
+  unfolding links
+  links_drawn role s c l v t =
+      either v.out.finished _ _ t (settles_drawn false _ ∙ ended_drawn cause.Lcp 3 None s c _ t) (negotiated_drawn s c l v t)
+
+  link_drawn : (role : Role) (s : ℕ) (c : Call) (o : Option Link) (t : Turn) → drawn (ticks_link role letters s c o t) ≡ drawn t
+  unfolding ticks_link
+  link_drawn role s c None t = refl
+  link_drawn role s c (Some l) t = either _ _ _ t (links_drawn role s c l _ t) refl
+
   limit_drawn : (role : Role) (s : ℕ) (o : Option Call) (t : Turn) → drawn (limits_at role letters s o t) ≡ drawn t
   unfolding limits_at
   limit_drawn role s None t = refl
-  limit_drawn role s (Some c) t = either _ _ _ t (settles_drawn false _ ∙ ended_drawn cause.Setup 10 None s c _ t) refl
+  limit_drawn role s (Some c) t = either _ _ _ t (settles_drawn false _ ∙ ended_drawn cause.Setup 10 None s c _ t) (link_drawn role s c c.link t)
 
   limits_drawn : (role : Role) (ss : List ℕ) (calls : List (ℕ × Call)) (t : Turn) → drawn (limits_all role letters ss calls t) ≡ drawn t
   unfolding limits_all

@@ -12,6 +12,8 @@ use Rattle.protocol_model.specs.declared.moves.Move.{Move}
 use Rattle.protocol_model.specs.Turn.{Tunnel, Env, Turn, turn_of, with_turn, turns, fresh}
 use Rattle.protocol_model.specs.End.{End, Stepped, placed, with_looks, tunnels_after, after_turn, after_new, in_main, in_new}
 use Rattle.tunnel_core.specs.Cores.{Plan, made_of, IsTurn}
+use Rattle.end_core.specs.declared.end.Given.{Given}
+use Rattle.end_core.specs.Gives.{behind_given}
 use Rattle.tunnel_table.specs.Plans.{IsPlanned, IsGiven, after_plan}
 
 abbrev pub turned : End → Env → Event → Tunnel → Turn
@@ -26,18 +28,25 @@ pub record IsSettled (v : End) (i : ℕ) (t : Tunnel) (p : Plan) (env : Env) (s 
   pub outputs : s.outputs ≡ env.outputs
   pub moves : s.moves ≡ env.moves
 
-module _ (v : End) (start : Env) (none : (start.outputs ≡ []) × (start.changes ≡ []) × (start.moves ≡ [])) (ev : Event) (i : ℕ) (t : Tunnel) (p : Plan) (env : Env) (s : Stepped) (r : Turn) (is : r ≡ turned v start ev t) (plan : IsTurn p r) (given : env ≡ with_turn r start) (settled : IsSettled v i t p env s) where
-  outputs_are : env.outputs ≡ r.outputs
+-- a step behind what its environment began with
+abbrev pub behind_env : Env → Stepped → Stepped
+behind_env start s = record s { outputs = start.outputs ++ s.outputs; moves = start.moves ++ s.moves }
+
+behind_none : (start : Env) (s : Stepped) → (start.outputs ≡ []) × (start.moves ≡ []) → behind_env start s ≡ s
+behind_none start s none = rw (none.0, none.1) refl
+
+module _ (v : End) (start : Env) (none : start.changes ≡ []) (ev : Event) (i : ℕ) (t : Tunnel) (p : Plan) (env : Env) (s : Stepped) (r : Turn) (is : r ≡ turned v start ev t) (plan : IsTurn p r) (given : env ≡ with_turn r start) (settled : IsSettled v i t p env s) where
+  outputs_are : env.outputs ≡ start.outputs ++ r.outputs
   unfolding with_turn
-  outputs_are = ap (λ (x : Env). x.outputs) given ∙ ap (λ xs. xs ++ r.outputs) none.0
+  outputs_are = ap (λ (x : Env). x.outputs) given
 
   changes_are : env.changes ≡ r.changes
   unfolding with_turn
-  changes_are = ap (λ (x : Env). x.changes) given ∙ ap (λ xs. xs ++ r.changes) none.1
+  changes_are = ap (λ (x : Env). x.changes) given ∙ ap (λ xs. xs ++ r.changes) none
 
-  moves_are : env.moves ≡ r.moves
+  moves_are : env.moves ≡ start.moves ++ r.moves
   unfolding with_turn
-  moves_are = ap (λ (x : Env). x.moves) given ∙ ap (λ xs. xs ++ r.moves) none.2
+  moves_are = ap (λ (x : Env). x.moves) given
 
   tunnels_are : env.tunnels ≡ r.tunnels
   unfolding with_turn
@@ -51,11 +60,11 @@ module _ (v : End) (start : Env) (none : (start.outputs ≡ []) × (start.change
   unfolding after_turn
   end_is = settled.end ∙ rw (tunnels_are, sessions_are, changes_are, plan.control, plan.acked, plan.given, plan.cleared, plan.changed, plan.added) refl
 
-  pub turn_is : after_turn v i t.letters t.calls (turned v start ev t) ≡ s
+  pub turn_is : behind_env start (after_turn v i t.letters t.calls (turned v start ev t)) ≡ s
   unfolding after_turn
-  turn_is = rw (← is) (same_parts (after_turn v i t.letters t.calls r) s (sym end_is) (sym (settled.outputs ∙ outputs_are)) (sym (settled.moves ∙ moves_are)))
+  turn_is = rw (← is) (same_parts (behind_env start (after_turn v i t.letters t.calls r)) s (sym end_is) (sym (settled.outputs ∙ outputs_are)) (sym (settled.moves ∙ moves_are)))
 
-  main_is : at v.tunnels i ≡ Some t → in_main v start ev i (at v.tunnels i) ≡ s
+  main_is : at v.tunnels i ≡ Some t → behind_env start (in_main v start ev i (at v.tunnels i)) ≡ s
   unfolding in_main
   main_is there = rw there turn_is
 
@@ -63,26 +72,34 @@ module _ (v : End) (start : Env) (none : (start.outputs ≡ []) × (start.change
   unfolding after_new
   kept some at = rw (ne_eqb r.control.local 0 (λ e. some (sym at ∙ e))) refl
 
-  same_turn : after_turn v i t.letters t.calls r ≡ s
-  same_turn = ap (λ (x : Turn). after_turn v i t.letters t.calls x) is ∙ turn_is
+  same_turn : (start.outputs ≡ []) × (start.moves ≡ []) → after_turn v i t.letters t.calls r ≡ s
+  same_turn silent = ap (λ (x : Turn). after_turn v i t.letters t.calls x) is ∙ sym (behind_none start _ silent) ∙ turn_is
 
-  pub new_is : (peer : ℕ) → t ≡ record { control = fresh peer start.moment; letters = []; calls = [] } → p.control.local ≡ i → (i ≡ 0 → ⊥) → in_new v start ev peer ≡ s
+  pub new_is : (start.outputs ≡ []) × (start.moves ≡ []) → (peer : ℕ) → t ≡ record { control = fresh peer start.moment; letters = []; calls = [] } → p.control.local ≡ i → (i ≡ 0 → ⊥) → in_new v start ev peer ≡ s
   unfolding in_new
-  new_is peer idle local some =
+  new_is begun peer idle local some =
       let same : r ≡ turns v.role v.config [] [] ev (turn_of (fresh peer start.moment) start) = is ∙ ap (λ (u : Tunnel). turned v start ev u) idle in
       let at : r.control.local ≡ i = ap (λ (c : Control). c.local) (sym plan.control) ∙ local in
       let none : t.calls ≡ [] = ap (λ (u : Tunnel). u.calls) idle in
       let silent : t.letters ≡ [] = ap (λ (u : Tunnel). u.letters) idle in
-      ap (after_new v) (sym same) ∙ kept some at ∙ ap (λ k. after_turn v k [] [] r) at ∙ ap (λ (cs : List (ℕ × Call)). after_turn v i [] cs r) (sym none) ∙ ap (λ (ls : List Letter). after_turn v i ls t.calls r) (sym silent) ∙ same_turn
+      ap (after_new v) (sym same) ∙ kept some at ∙ ap (λ k. after_turn v k [] [] r) at ∙ ap (λ (cs : List (ℕ × Call)). after_turn v i [] cs r) (sym none) ∙ ap (λ (ls : List Letter). after_turn v i ls t.calls r) (sym silent) ∙ same_turn begun
 
 -- a step of a tunnel that is there
-pub main_made : (v : End) (start : Env) → (start.outputs ≡ []) × (start.changes ≡ []) × (start.moves ≡ []) → (ev : Event) (i : ℕ) (o : Option Tunnel) (p : Plan)
+pub main_made : (v : End) (start : Env) → start.changes ≡ [] → (ev : Event) (i : ℕ) (o : Option Tunnel) (p : Plan)
     (env : Env) (s : Stepped) → at v.tunnels i ≡ o → IsSome o → IsPlanned v.role v.config ev start o p → IsGiven v.role v.config ev start o env
     → s.end ≡ record v { tunnel_ids = env.tunnels; session_ids = env.sessions; tunnels = after_plan v.tunnels (i, p) o; calls = with_looks env.changes (placed p.control.local p.added v.calls) }
-    → s.outputs ≡ env.outputs → s.moves ≡ env.moves → in_main v start ev i (at v.tunnels i) ≡ s
+    → s.outputs ≡ env.outputs → s.moves ≡ env.moves → behind_env start (in_main v start ev i (at v.tunnels i)) ≡ s
 main_made v start none ev i None p env s there some planned given end outputs moves = absurd (true≢false (sym some))
 main_made v start none ev i (Some t) p env s there some planned given end outputs moves =
     main_is v start none ev i t p env s (turned v start ev t) refl planned given (record { end = end; outputs = outputs; moves = moves }) there
+
+-- what the environment began with stands before what the step gives, and changes nothing else
+pub same_behind : (v : End) (env : Env) (g : Given) (ev : Event) (i : ℕ) (o : Option Tunnel)
+    → behind_env (record env { outputs = g.outputs; moves = g.moves }) (in_main v (record env { outputs = g.outputs; moves = g.moves }) ev i o)
+    ≡ behind_given g (in_main v env ev i o)
+unfolding in_main
+same_behind v env g ev i None = refl
+same_behind v env g ev i (Some t) = refl
 
 -- a new tunnel that drew no id
 pub not_made : (v : End) (start env : Env) (ev : Event) (peer : ℕ) (r : Turn) (os : List Out) (ms : List Move) → (start.outputs ≡ []) × (start.moves ≡ []) → r ≡ turns v.role v.config [] [] ev (turn_of (fresh peer start.moment) start) → env ≡ with_turn r start → r.control.local ≡ 0 → os ≡ env.outputs → ms ≡ env.moves → in_new v start ev peer ≡ record { end = v; outputs = os; moves = ms }

@@ -4,7 +4,7 @@ use Rattle.id_table.specs.Ids.{at}
 use Rattle.wire_base.specs.declared.why.Why.{Why}
 use Rattle.wire_base.specs.declared.why.Why.TheVariants as why
 use Rattle.protocol_model.specs.declared.event.Event.{Event}
-use Rattle.protocol_model.specs.declared.event.Event.TheVariants.{Payload, Lower, Hang, DropCall, CloseTunnel}
+use Rattle.protocol_model.specs.declared.event.Event.TheVariants.{Payload, Lower, Lcp, Hang, DropCall, CloseTunnel}
 use Rattle.protocol_model.specs.End.{End}
 use Rattle.protocol_model.specs.World.{is_not_closed}
 
@@ -18,6 +18,7 @@ unless false w = Some w
 unfoldable pub fits : End → Event → Option Why
 fits e (Payload session frame) = unless (is_some (at e.calls session)) why.Call
 fits e (Lower session frame) = unless (is_some (at e.calls session)) why.Call
+fits e (Lcp session packet) = unless (is_some (at e.calls session)) why.Call
 fits e (Hang session) = unless (is_some (at e.calls session)) why.Call
 fits e (DropCall session) = unless (is_some (at e.calls session)) why.Call
 fits e (CloseTunnel i) = unless (is_not_closed (at e.tunnels i)) why.Tunnel

@@ -4,7 +4,7 @@ ghost use Rattle.std.specs.Prelude.{◌≡◌, ◌≤◌, [], ◌∷◌, option_
 ghost use Rattle.std.specs.Option.{option_copied};
 ghost use Rattle.id_table.specs.Ids.{at, ids_of};
 ghost use Rattle.l2tp_header.specs.Reading.{header_of};
-ghost use Rattle.protocol_model.specs.End.{env_of, whole_space, gives_only, after_turn, after_new, in_new, has_all_tunnels, in_one_more, in_main, known_as, opens_once, addressed, reached_plain, reached, for_addressee, least_in, for_call, look_in, handed, hands_up, receives, new_end};
+ghost use Rattle.protocol_model.specs.End.{env_of, whole_space, gives_only, after_turn, after_new, in_new, has_all_tunnels, in_one_more, in_main, known_as, opens_once, addressed, reached_plain, reached, for_addressee, least_in, for_call, look_in, receives, new_end};
 ghost use Rattle.protocol_model.specs.Reading.{at_tunnel};
 ghost use Rattle.protocol_model.specs.Secrets.{uncovered_datagram, uncovered_event};
 ghost use Rattle.protocol_model.specs.World.{is_not_closed};
@@ -13,17 +13,15 @@ ghost use Rattle.end_core.specs.Sessions.{next_session, subscriber_at};
 ghost use Rattle.tunnel_core.specs.Cores.{tunnel_of, IsTurn, HasRoomFor};
 ghost use Rattle.end_core.specs.Ends.{HaveRoom};
 ghost use Rattle.protocol_model.specs.Turn.{turn_of, turns, with_turn};
-ghost use Rattle.end_core.specs.Gives.{GivesStep};
+ghost use Rattle.end_core.specs.Gives.{GivesStep, behind_given};
 
 use crate::declining::next_of_peer;
-use crate::places::{carry_look, change_looks, frame_of, look_at, make_places, place_all};
+use crate::places::{change_looks, look_at, make_places, place_all};
 use id_source::Ids;
 use id_table::Table;
 use l2tp_header::{Header, read_header};
 use message_reading::{at_zero, header_why, out_of_order, uncover_datagram};
-use protocol_model::{
-    Addressee, CallPlace, CellChanges, Config, Control, Event, FrameUp, Look, Move, Out, Role,
-};
+use protocol_model::{Addressee, CallPlace, CellChanges, Config, Control, Event, Look, Out, Role};
 use std::alloc::Global;
 use std::marker::Model;
 use tunnel_core::{Env, Moves, Outputs, Planned, TunnelCore};
@@ -183,6 +181,7 @@ impl End {
         match event {
             Event::Payload { session, .. }
             | Event::Lower { session, .. }
+            | Event::Lcp { session, .. }
             | Event::Hang { session }
             | Event::DropCall { session } => {
                 if self.has_call(*session) {
@@ -300,9 +299,41 @@ fn plan_step(
     Ok(planned)
 }
 
+impl Given {
+    /// Nothing yet. It takes no memory.
+    fn nothing(alloc: Global) -> Given
+        ensures { result ≡ record { outputs = []; moves = [] } }
+    {
+        Given {
+            outputs: Outputs::new(alloc),
+            moves: Moves::new(alloc),
+        }
+    }
+}
+
 impl End {
+    /// What a step works in that follows on what was given. It takes no memory.
+    fn env_behind(&self, moment: u64, block: [u8; 16], first: Given) -> Env
+        ensures { result ≡ record (env_of self.now moment block) { outputs = first.outputs; moves = first.moves } }
+    {
+        let mut env = self.env(moment, block);
+        env.outputs = first.outputs;
+        env.moves = first.moves;
+        env
+    }
+
+    /// What comes is dropped, behind what was given before.
+    #[tactic(auto, unfolding(protocol_model::specs::End::gives_only))]
+    fn drop_behind(&mut self, first: Given, why: Why) -> Result<Given, NoMemory>
+        ensures given { GivesStep result (behind_given first (gives_only self.old (Out.Drop why))) self.old self.new }
+        ensures role { self.new.role ≡ self.old.role }
+    {
+        let mut given = first;
+        given.outputs.push(Out::Drop { why })?;
+        Ok(given)
+    }
+
     /// Makes a step of the tunnel with this id, if there is one.
-    #[tactic(auto, using(tunnel_table::specs::Tunnels::at_tunnels), unfolding(protocol_model::specs::End::in_main))]
     pub fn run_main(
         &mut self,
         moment: u64,
@@ -313,10 +344,27 @@ impl End {
         ensures given { GivesStep result (in_main self.old (env_of self.old moment block) event.now id (at self.old.tunnels id)) self.old self.new }
         ensures role { self.new.role ≡ self.old.role }
     {
+        self.run_behind(moment, block, event, id, Given::nothing(self.alloc))
+    }
+
+    /// Makes a step of the tunnel with this id, if there is one, behind what was given before. Where memory is wanting, nothing
+    /// is given at all.
+    #[tactic(auto, using(tunnel_table::specs::Tunnels::at_tunnels), unfolding(protocol_model::specs::End::in_main))]
+    pub(crate) fn run_behind(
+        &mut self,
+        moment: u64,
+        block: [u8; 16],
+        event: &Event,
+        id: u32,
+        first: Given,
+    ) -> Result<Given, NoMemory>
+        ensures given { GivesStep result (behind_given first (in_main self.old (env_of self.old moment block) event.now id (at self.old.tunnels id))) self.old self.new }
+        ensures role { self.new.role ≡ self.old.role }
+    {
         if !self.tunnels.contains(id) {
-            return self.drop_with(Why::Tunnel);
+            return self.drop_behind(first, Why::Tunnel);
         }
-        let mut env = self.env(moment, block);
+        let mut env = self.env_behind(moment, block, first);
         let planned = self
             .tunnels
             .plan(self.role, &self.config, &mut env, id, event)?;
@@ -551,37 +599,6 @@ impl End {
         }
     }
 
-    /// A data message: its frame is handed up, or dropped, by what is seen of its session.
-    #[tactic(auto, unfolding(protocol_model::specs::End::hands_up, protocol_model::specs::End::handed))]
-    fn hand_up(&mut self, peer: u32, header: &Header, body: &[u8]) -> Result<Given, NoMemory>
-        ensures given { GivesStep result (hands_up self.old peer header.now body.now) self.old self.new }
-        ensures role { self.new.role ≡ self.old.role }
-    {
-        let session = header.session;
-        let frame = frame_of(body);
-        let look = look_at(&self.calls, session);
-        match carry_look(self.role, look, peer, header, frame) {
-            Err(why) => self.drop_with(why),
-            Ok(way) => {
-                let mut outputs = Outputs::new(self.alloc);
-                outputs.push(Out::Up {
-                    session,
-                    side: way.side,
-                    frame: Bytes::from_slice(self.alloc, frame)?,
-                })?;
-                let mut moves = Moves::new(self.alloc);
-                moves.push(Move::FrameUp(FrameUp {
-                    tunnel: way.tunnel,
-                    peer: way.peer,
-                    session,
-                    side: way.side,
-                    frame: Bytes::from_slice(self.alloc, frame)?,
-                }))?;
-                Ok(Given { outputs, moves })
-            }
-        }
-    }
-
     /// A datagram from a peer.
     #[tactic(auto, unfolding(protocol_model::specs::End::receives))]
     pub fn receive(
@@ -601,7 +618,7 @@ impl End {
             Ok(header) => {
                 let body = &bytes[header.start..header.end];
                 if !header.control {
-                    return self.hand_up(peer, &header, body);
+                    return self.hand_up(moment, block, peer, &header, body);
                 }
                 let to = self.addressed(peer, &header, body)?;
                 self.run_addressed(moment, block, event, peer, &header, body, to)

@@ -6,6 +6,7 @@
 
 mod declining;
 mod end;
+mod frames;
 mod places;
 mod rows;
 mod ticks;

@@ -2,7 +2,7 @@
 
 ghost use Rattle.std.specs.Prelude.{◌≡◌, OnOk, MatchResult};
 ghost use Rattle.id_table.specs.Ids.{at, put};
-ghost use Rattle.protocol_model.specs.Calls.{side_of, frame_of, carry_known, carry_look, Upward, Dropped};
+ghost use Rattle.protocol_model.specs.Calls.{is_lcp, is_for_lcp, side_of, frame_of, carry_known, carry_look, Upward, Dropped};
 ghost use Rattle.protocol_model.specs.End.{placed, with_look, with_looks, look_in, established};
 ghost use Rattle.end_core.specs.Ends.{HaveRoom};
 
@@ -104,12 +104,31 @@ pub(crate) fn look_at(places: &Table<CallPlace>, session: u16) -> Look
     }
 }
 
-fn side_of(role: Role) -> Side
-    ensures { result ≡ side_of role }
+/// Whether a frame is one of LCP, by its protocol field (RFC 1661 section 2).
+fn is_lcp(frame: &[u8]) -> bool
+    ensures { result ≡ is_lcp frame.now }
+{
+    matches!(frame, [0xc0, 0x21, ..])
+}
+
+/// Where a frame goes that is handed up: an LNS ends LCP itself.
+fn side_of(role: Role, frame: &[u8]) -> Side
+    ensures { result ≡ side_of role frame.now }
 {
     match role {
         Role::Lac => Side::Sub,
+        Role::Lns if is_lcp(frame) => Side::Lcp,
         Role::Lns => Side::Net,
+    }
+}
+
+/// Whether a frame is for the LCP end of a call, which an LNS's has.
+fn is_for_lcp(role: Role, frame: &[u8]) -> bool
+    ensures { result ≡ is_for_lcp role frame.now }
+{
+    match role {
+        Role::Lac => false,
+        Role::Lns => is_lcp(frame),
     }
 }
 
@@ -141,7 +160,7 @@ fn carry_known(
     from: u32,
     frame: &[u8],
 ) -> Result<Way, Why>
-    requires { known.side ≡ side_of role }
+    requires { known.side ≡ side_of role frame.now }
     ensures { MatchResult result (λ w. carry_known role up known.tunnel header.now.tunnel known.peer from frame.now ≡ Upward w.tunnel w.peer w.side frame.now) (λ e. carry_known role up known.tunnel header.now.tunnel known.peer from frame.now ≡ Dropped e) }
 {
     if known.tunnel != header.tunnel {
@@ -153,7 +172,7 @@ fn carry_known(
     if frame.len() < 2 {
         return Err(Why::Short);
     }
-    if !up {
+    if !up && !is_for_lcp(role, frame) {
         return Err(Why::Closed);
     }
     Ok(known)
@@ -171,7 +190,7 @@ pub(crate) fn carry_look(
 ) -> Result<Way, Why>
     ensures { MatchResult result (λ w. carry_look role look from header.now frame.now ≡ Upward w.tunnel w.peer w.side frame.now) (λ e. carry_look role look from header.now frame.now ≡ Dropped e) }
 {
-    let side = side_of(role);
+    let side = side_of(role, frame);
     match look {
         Look::Unborn | Look::Dead => Err(Why::Session),
         Look::Bound { tunnel, peer } => {

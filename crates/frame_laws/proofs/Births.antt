@@ -1,5 +1,5 @@
 -- Births of LACs' calls stay apart.
-use Rattle.std.proofs.Common.{◌≡◌, ◌⊎◌, inl, inr, ⊎_elim, ℕ, ◌+◌, ◌-◌, ◌^◌, ◌<◌, ◌≤◌, sym, ◌∙◌, subst, Option, Some, arith}
+use Rattle.std.proofs.Common.{◌≡◌, ◌⊎◌, inl, inr, ⊎_elim, ℕ, ◌+◌, ◌-◌, ◌^◌, ◌<◌, ◌≤◌, refl, sym, ◌∙◌, subst, Option, Some, arith}
 use Rattle.id_table.specs.Ids.{at, put}
 use Rattle.protocol_model.specs.declared.tunnel.Role.{Role}
 use Rattle.protocol_model.specs.declared.tunnel.Role.TheVariants.{Lac, Lns}
@@ -11,6 +11,10 @@ use Rattle.frame_laws.proofs.Changes.{Changed, Adds, NoBirth, NextBirth, SameBir
 pub not_lns : (r : Role) → r ≡ Lac → r ≡ Lns → ⊥
 not_lns Lac a b = absurd (cc)
 not_lns Lns a b = absurd (cc)
+
+pub is_lns : (r : Role) → (r ≡ Lac → ⊥) → r ≡ Lns
+is_lns Lac h = absurd (h refl)
+is_lns Lns h = refl
 
 -- births are at most as many as were counted, and those of LACs are apart
 pub record Counted (ns : Nodes) (born : ℕ) : Type 0 where

@@ -1,13 +1,16 @@
 -- What the moves of a step leave.
-use Rattle.std.proofs.Common.{◌≡◌, ℕ, List, [], ◌∷◌, length, refl, ap, ◌∙◌, subst, sym, arith}
+use Rattle.std.proofs.Common.{◌≡◌, inr, ⊎_elim, ℕ, ◌<◌, List, [], ◌∷◌, ◌++◌, length, refl, ap, ◌∙◌, subst, sym, None, arith}
 use Rattle.protocol_model.specs.declared.event.Event.{Event}
+use Rattle.protocol_model.specs.declared.moves.FrameSent.{FrameSent}
 use Rattle.protocol_model.specs.declared.moves.Move.{Move}
 use Rattle.protocol_model.specs.declared.moves.Move.TheVariants as move
-use Rattle.protocol_model.specs.Names.{calling_number}
+use Rattle.protocol_model.specs.declared.tunnel.Role.TheVariants.{Lac}
+use Rattle.protocol_model.specs.Names.{node_of, calling_number}
 use Rattle.protocol_model.specs.End.{End}
 use Rattle.protocol_model.specs.World.{World, moved, moved_all}
-use Rattle.step_laws.specs.Moves.{Does, Chain}
-use Rattle.frame_laws.proofs.Facts.{grows_on, same_nodes}
+use Rattle.step_laws.specs.Letters.{Among}
+use Rattle.step_laws.specs.Moves.{SendsFrame, Does, Chain}
+use Rattle.frame_laws.proofs.Facts.{Nodes, Grows, Mates, grows_on, mates_later, same_nodes}
 use Rattle.frame_laws.proofs.Leads.{Heard, heard_later, At, Leads}
 use Rattle.frame_laws.proofs.Moves.{does_led}
 
@@ -37,6 +40,7 @@ does_role moment ev x (move.NrRead m) y h = ap (λ (e : End). e.role) h.after
 does_role moment ev x (move.LetGo m) y h = ap (λ (e : End). e.role) h.after
 does_role moment ev x (move.Repeated m) y h = ap (λ (e : End). e.role) h.after
 does_role moment ev x (move.Quiet i) y h = ap (λ (e : End). e.role) h.after
+does_role moment ev x (move.Negotiated m) y h = ap (λ (e : End). e.role) h.after
 does_role moment ev x (move.FrameSent m) y h = ap (λ (e : End). e.role) h.after
 does_role moment ev x (move.FrameUp m) y h = ap (λ (e : End). e.role) h.after
 
@@ -76,3 +80,65 @@ module _ (digits : (who : List ℕ) → length (calling_number who) ≡ 12) (n :
       let led = does_led digits n z v x here ev heard moment m h.0 h.1 in
       let r = ran (moved n v m) h.0 y led.at_end (heard_later v.nodes (moved n v m).nodes led.leads.grows n ev heard) ms h.2 in
       record { at_end = r.at_end; grows = leads_on v (moved n v m) (moved_all n ms (moved n v m)) x h.0 y led.leads r.grows }
+
+  -- a frame that moves send: the end as it stands then, and the two sessions, which are mates in the nodes that all the moves lead to
+  pub record SentThen (ns : Nodes) (x : End) (ms : List Move) (f : FrameSent) : Type 0 where
+    pub first : List Move
+    pub rest : List Move
+    pub moves : ms ≡ first ++ move.FrameSent f ∷ rest
+    pub end : End
+    pub leads : Chain moment ev x first end
+    pub next : End
+    pub does : SendsFrame end moment ev f next
+    pub mates : Mates ns n f.session (node_of f.peer) f.remote
+    pub fits : f.remote < 65536
+    -- a LAC's call has no LCP end
+    pub link : end.role ≡ Lac → does.call.link ≡ None
+
+  sent_first : (v : World) (x y : End) → At n z v x → (ns : Nodes) → Grows v.nodes ns → (f : FrameSent) (ms : List Move) → SendsFrame x moment ev f y
+      → SentThen ns x (move.FrameSent f ∷ ms) f
+  sent_first v x y here ns grows f ms h =
+      let k = (here.end.tunnels f.tunnel h.tunnel h.there).calls f.session h.call h.calls in
+      let mates : Mates v.nodes n f.session (node_of f.peer) f.remote = rw (h.peer, h.remote) (k.mate (inr h.up)) in
+      record {
+        first = [];
+        rest = ms;
+        moves = refl;
+        end = x;
+        leads = refl;
+        next = y;
+        does = h;
+        mates = mates_later v.nodes ns grows n f.session (node_of f.peer) f.remote mates;
+        fits = rw h.remote k.remote;
+        link = k.link;
+      }
+
+  sent_later : (ns : Nodes) (x y : End) (m : Move) (ms : List Move) (f : FrameSent) → Does x moment ev m y → SentThen ns y ms f → SentThen ns x (m ∷ ms) f
+  sent_later ns x y m ms f does h = record {
+    first = m ∷ h.first;
+    rest = h.rest;
+    moves = ap (λ qs. m ∷ qs) h.moves;
+    end = h.end;
+    leads = (y, does, h.leads);
+    next = h.next;
+    does = h.does;
+    mates = h.mates;
+    fits = h.fits;
+    link = h.link;
+  }
+
+  pub sent_then : (v : World) (x y : End) → At n z v x → Heard v.nodes n ev → (ms : List Move) → Chain moment ev x ms y → (f : FrameSent)
+      → Among (move.FrameSent f) ms → SentThen (moved_all n ms v).nodes x ms f
+  unfolding moved_all
+  sent_then v x y here heard [] h f a = absurd a
+  sent_then v x y here heard (m ∷ ms) h f a =
+      let led = does_led digits n z v x here ev heard moment m h.0 h.1 in
+      let next = moved n v m in
+      let then_heard = heard_later v.nodes next.nodes led.leads.grows n ev heard in
+      let r = ran next h.0 y led.at_end then_heard ms h.2 in
+      let ns = (moved_all n ms next).nodes in
+      ⊎_elim
+      (λ (e : m ≡ move.FrameSent f). subst (λ q. SentThen ns x (q ∷ ms) f) (sym e)
+      (sent_first v x h.0 here ns (grows_on v.nodes next.nodes ns led.leads.grows r.grows.grows) f ms (subst (λ q. Does x moment ev q h.0) e h.1)))
+      (λ b. sent_later ns x h.0 m ms f h.1 (sent_then next h.0 y led.at_end then_heard ms h.2 f b))
+      a

@@ -145,6 +145,7 @@ call_later ns ms g n role bound more peer s c le h =
       remote = h.remote;
       known = ⊎_elim (λ a. inl a) (λ a. inr (mates_later ns ms g n s (node_of peer) c.remote a)) h.known;
       mate = λ k. mates_later ns ms g n s (node_of peer) c.remote (h.mate k);
+      link = h.link;
     }
 
 pub letter_later : (ns ms : Nodes) → Grows ns ms → (n peer : ℕ) (l : Letter) → LetterOk ns n peer l → LetterOk ms n peer l

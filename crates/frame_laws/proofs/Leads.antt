@@ -11,7 +11,7 @@ use Rattle.l2tp_header.specs.Reading.{header_of}
 use Rattle.control_message.specs.declared.message.Message.{Message}
 use Rattle.control_message.specs.Pairs.{IsWritten}
 use Rattle.protocol_model.specs.declared.event.Event.{Event}
-use Rattle.protocol_model.specs.declared.event.Event.TheVariants.{Datagram, Ring, Frame, Admitted, Payload, Lower, Hang, OpenTunnel, DropCall, CloseTunnel, Tick}
+use Rattle.protocol_model.specs.declared.event.Event.TheVariants.{Datagram, Ring, Frame, Admitted, Payload, Lower, Lcp, Hang, OpenTunnel, DropCall, CloseTunnel, Tick}
 use Rattle.protocol_model.specs.declared.tunnel.Call.{Call}
 use Rattle.protocol_model.specs.declared.tunnel.Role.{Role}
 use Rattle.protocol_model.specs.Names.{address_of, node_of}
@@ -63,6 +63,7 @@ Heard ns n (Frame bytes) = Unit {0}
 Heard ns n (Admitted mac) = Unit {0}
 Heard ns n (Payload s frame) = Unit {0}
 Heard ns n (Lower s frame) = Unit {0}
+Heard ns n (Lcp s packet) = Unit {0}
 Heard ns n (Hang s) = Unit {0}
 Heard ns n OpenTunnel = Unit {0}
 Heard ns n (DropCall s) = Unit {0}
@@ -83,6 +84,7 @@ heard_later ns ms g n (Frame bytes) h = tt
 heard_later ns ms g n (Admitted mac) h = tt
 heard_later ns ms g n (Payload s frame) h = tt
 heard_later ns ms g n (Lower s frame) h = tt
+heard_later ns ms g n (Lcp s packet) h = tt
 heard_later ns ms g n (Hang s) h = tt
 heard_later ns ms g n OpenTunnel h = tt
 heard_later ns ms g n (DropCall s) h = tt

@@ -1,5 +1,5 @@
 -- Each line of a schedule.
-use Rattle.std.proofs.Common.{◌≡◌, ⊎_elim, ℕ, ◌+◌, ◌-◌, ◌^◌, ◌<◌, Bool, false, List, [], ◌∷◌, take, drop, refl, sym, ◌∙◌, subst, Option, Some, None, Result, Ok, Err, arith, ap}
+use Rattle.std.proofs.Common.{◌≡◌, ◌⊎◌, ⊎_elim, ℕ, ◌+◌, ◌-◌, ◌^◌, ◌<◌, Bool, false, List, [], ◌∷◌, take, drop, refl, sym, ◌∙◌, subst, Option, Some, None, Result, Ok, Err, arith, ap}
 use Rattle.std.proofs.lemmas.Bool.{true≢false}
 use Rattle.std.proofs.lemmas.Option.{none-some}
 use Rattle.std.proofs.lemmas.List.{append-nil}
@@ -26,16 +26,17 @@ use Rattle.step_laws.specs.Lines.{tested_not, is_lac_at, is_lns_at, is_declared,
 use Rattle.protocol_model.specs.World.{World, Node, Sender, Lined, quiet_line, with_node, after_step, given, declared, lac_at, lns_at, with_call, with_tunnel, later, new_node, answer_entries, added, block_of, stepped, addressee_of, arrival, refused_by, sender_of, arrives, delivers_it, delivers, line}
 use Rattle.frame_laws.specs.Codecs.{Codecs}
 use Rattle.frame_laws.specs.Past.{Passage, sent_in, handed_in}
+use Rattle.frame_laws.specs.Frames.{GivesInStep}
 use Rattle.frame_laws.specs.Reports.{ups_in, told_of}
 use Rattle.frame_laws.proofs.Facts.{StepLaws, Born, Plays, Nodes, Grows, PacketOk, NodeOk, Holds, packets_later, node_later, birth_in_node, role_in_node, all_map, all_at}
 use Rattle.frame_laws.proofs.Changes.{birth_there}
-use Rattle.frame_laws.proofs.Births.{Counted}
+use Rattle.frame_laws.proofs.Births.{not_lns, Counted}
 use Rattle.wire_base.specs.declared.cause.Cause.{Cause}
 use Rattle.protocol_model.specs.Access.{Access}
 use Rattle.protocol_model.specs.Texts.{Entry, Drops, Frames}
 use Rattle.step_laws.specs.Hosts.{LacAt, with_host, reply_to, HostDoes, HostSends, HostLeaves, OfFrame, frame_line}
 use Rattle.frame_laws.proofs.Ups.{ups_in-append}
-use Rattle.frame_laws.proofs.Worlds.{Below, LineGives, ByLine, ByHost, EventGives, Counts, Goes, IsReal, StepOk, step_ok}
+use Rattle.frame_laws.proofs.Worlds.{Below, LineGives, ByLine, ByHost, ByLcp, WhyGiven, ByEvent, ByLcpEnd, StepGives, Counts, Goes, IsReal, StepOk, step_ok}
 
 -- ---- lines
 
@@ -97,6 +98,7 @@ module _ (ns : Nodes) (number n : ℕ) (r : Role) (lns : ℕ) (secret : Option (
         looks = record {
           live = λ s p h. absurd (none-some p (sym (at-none s) ∙ h));
           seen = λ i t h s d g. absurd (none-some t (sym (at-none i) ∙ h));
+          links = λ i t h s d g. absurd (none-some t (sym (at-none i) ∙ h));
           tunnels = λ i t h. absurd (none-some t (sym (at-none i) ∙ h));
           sessions = λ s p h. absurd (none-some p (sym (at-none s) ∙ h));
         };
@@ -170,6 +172,33 @@ added_ok number w gs holds l n r lns secret hide lt x h =
     let t = tested_not (is_some (at w.nodes n)) (quiet_line (with_node w n (new_node number n r lns secret hide))) (Unfit why.Twice) x h in
     subst (LineOk number w gs l) t.1 (more_ok number w gs holds l n r lns secret hide lt (none_there (at w.nodes n) t.0))
 
+-- ---- nodes that make a step
+
+-- a node of the world, at some moment
+record IsTimed (w : World) (n : ℕ) (node : Node) : Type 0 where
+  before : Node
+  there : at w.nodes n ≡ Some before
+  same : node ≡ record before { clock = node.clock }
+
+is_there : (w : World) (n : ℕ) (node : Node) → at w.nodes n ≡ Some node → IsTimed w n node
+is_there w n node h = record { before = node; there = h; same = refl }
+
+is_later : (w : World) (n milliseconds : ℕ) (o : Option Node) (node : Node) → at w.nodes n ≡ o → later milliseconds (declared o) ≡ Ok node → IsTimed w n node
+is_later w n milliseconds None node is h = absurd (cc)
+is_later w n milliseconds (Some x) node is h =
+    let now = min (x.clock + milliseconds) (2 ^ 64 - 1) in
+    let e : record x { clock = now } ≡ node = cc in
+    subst (IsTimed w n) e (record { before = x; there = is; same = refl })
+
+-- a LAC may keep more of its hosts, too
+record IsAt (w : World) (n : ℕ) (node : Node) : Type 0 where
+  before : Node
+  there : at w.nodes n ≡ Some before
+  same : node ≡ record before { clock = node.clock; access = node.access }
+
+at_moment : (w : World) (n : ℕ) (node : Node) → IsTimed w n node → IsAt w n node
+at_moment w n node t = subst (IsAt w n) (sym t.same) (record { before = t.before; there = t.there; same = refl })
+
 -- ---- frames that lines give
 
 -- an event that gives no frame
@@ -180,86 +209,115 @@ HasNoFrame (event.Frame bytes) = Unit {0}
 HasNoFrame (event.Admitted mac) = Unit {0}
 HasNoFrame (event.Payload session frame) = ⊥
 HasNoFrame (event.Lower session frame) = ⊥
+HasNoFrame (event.Lcp session packet) = Unit {0}
 HasNoFrame (event.Hang session) = Unit {0}
 HasNoFrame event.OpenTunnel = Unit {0}
 HasNoFrame (event.DropCall session) = Unit {0}
 HasNoFrame (event.CloseTunnel i) = Unit {0}
 HasNoFrame event.Tick = Unit {0}
 
-no_frame : (w : World) (number n : ℕ) (r : Role) (ev : Event) (l : Line) → HasNoFrame ev → (g : Passage) → EventGives number n r ev g → LineGives number w l g
-no_frame w number n r (event.Datagram peer bytes) l none g h = absurd (⊎_elim (λ e. absurd cc) (λ e. absurd cc) h.event_is)
-no_frame w number n r (event.Ring port) l none g h = absurd (⊎_elim (λ e. absurd cc) (λ e. absurd cc) h.event_is)
-no_frame w number n r (event.Frame bytes) l none g h = absurd (⊎_elim (λ e. absurd cc) (λ e. absurd cc) h.event_is)
-no_frame w number n r (event.Admitted mac) l none g h = absurd (⊎_elim (λ e. absurd cc) (λ e. absurd cc) h.event_is)
-no_frame w number n r (event.Payload session frame) l none g h = absurd none
-no_frame w number n r (event.Lower session frame) l none g h = absurd none
-no_frame w number n r (event.Hang session) l none g h = absurd (⊎_elim (λ e. absurd cc) (λ e. absurd cc) h.event_is)
-no_frame w number n r event.OpenTunnel l none g h = absurd (⊎_elim (λ e. absurd cc) (λ e. absurd cc) h.event_is)
-no_frame w number n r (event.DropCall session) l none g h = absurd (⊎_elim (λ e. absurd cc) (λ e. absurd cc) h.event_is)
-no_frame w number n r (event.CloseTunnel i) l none g h = absurd (⊎_elim (λ e. absurd cc) (λ e. absurd cc) h.event_is)
-no_frame w number n r event.Tick l none g h = absurd (⊎_elim (λ e. absurd cc) (λ e. absurd cc) h.event_is)
+-- what a line brings a node, as the node reads it, gave the frame to its end
+abbrev NodeGives : ℕ → ℕ → Node → Event → Passage → Type 0
+NodeGives number n node ev g =
+    StepGives number n node.end node.clock (block_of n number) (uncovered_event node.end.config.secret ev) g
 
-from_sub : (w : World) (number n : ℕ) (r : Role) (session : ℕ) (frame : List ℕ) → r ≡ role.Lac → (g : Passage)
-    → EventGives number n r (event.Payload session frame) g → LineGives number w (FromSub n session frame) g
-from_sub w number n r session frame lac g h = ⊎_elim
+-- an LNS makes the step of a line on such an event
+abbrev IfLns : World → ℕ → Line → ℕ → Event → Option Sender → Node → Type 0
+IfLns w number l n ev sender node = node.end.role ≡ role.Lns → IsTimed w n node × (line w number l ≡ stepped w number n ev sender (Ok node))
+
+module _ (w : World) (number n : ℕ) (l : Line) (ev : Event) (sender : Option Sender) (node : Node) where
+  no_lns : node.end.role ≡ role.Lac → IfLns w number l n ev sender node
+  no_lns lac lns = absurd (not_lns node.end.role lac lns)
+
+  -- what the LCP end of a call gave
+  by_lcp : IfLns w number l n ev sender node → (g : Passage) → NodeGives number n node ev g → node.end.role ≡ role.Lns
+      → GivesInStep node.end node.clock (block_of n number) (uncovered_event node.end.config.secret ev) g → LineGives number w l g
+  by_lcp if_lns g h lns gives =
+      let s = if_lns lns in
+      let block_is : block_of n number ≡ block_of g.node g.line = rw (h.number_is, h.node_is) refl in
+      ByLcp h.number_is (h.role_is ∙ lns) (record {
+        before = s.0.before;
+        there = rw h.node_is s.0.there;
+        node = node;
+        same = s.0.same;
+        event = ev;
+        sender = sender;
+        steps = rw (h.number_is, h.node_is) s.1;
+        in_step = subst (λ b. GivesInStep node.end node.clock b (uncovered_event node.end.config.secret ev) g) block_is gives;
+      })
+
+  -- the event gives none
+  abbrev GivesNone : Event → Type 0
+  GivesNone q = (session : ℕ) (frame : List ℕ) → (q ≡ event.Payload session frame) ⊎ (q ≡ event.Lower session frame) → ⊥
+
+  none_given : HasNoFrame ev → GivesNone (uncovered_event node.end.config.secret ev)
+  none_given none session frame h = by ev none h
+    where
+      by : (q : Event) → HasNoFrame q → (uncovered_event node.end.config.secret q ≡ event.Payload session frame)
+          ⊎ (uncovered_event node.end.config.secret q ≡ event.Lower session frame) → ⊥
+      by (event.Datagram peer bytes) none h = ⊎_elim (λ e. absurd cc) (λ e. absurd cc) h
+      by (event.Ring port) none h = ⊎_elim (λ e. absurd cc) (λ e. absurd cc) h
+      by (event.Frame bytes) none h = ⊎_elim (λ e. absurd cc) (λ e. absurd cc) h
+      by (event.Admitted mac) none h = ⊎_elim (λ e. absurd cc) (λ e. absurd cc) h
+      by (event.Payload s f) none h = none
+      by (event.Lower s f) none h = none
+      by (event.Lcp s packet) none h = ⊎_elim (λ e. absurd cc) (λ e. absurd cc) h
+      by (event.Hang s) none h = ⊎_elim (λ e. absurd cc) (λ e. absurd cc) h
+      by event.OpenTunnel none h = ⊎_elim (λ e. absurd cc) (λ e. absurd cc) h
+      by (event.DropCall s) none h = ⊎_elim (λ e. absurd cc) (λ e. absurd cc) h
+      by (event.CloseTunnel i) none h = ⊎_elim (λ e. absurd cc) (λ e. absurd cc) h
+      by event.Tick none h = ⊎_elim (λ e. absurd cc) (λ e. absurd cc) h
+
+  -- the line gives what the event gave, and what an LCP end gave
+  each_gives : IfLns w number l n ev sender node → (g : Passage) → NodeGives number n node ev g
+      → ((uncovered_event node.end.config.secret ev ≡ event.Payload g.session g.frame)
+      ⊎ (uncovered_event node.end.config.secret ev ≡ event.Lower g.session g.frame) → LineGives number w l g) → LineGives number w l g
+  each_gives if_lns g h given = by h.why
+    where
+      by : WhyGiven node.end node.clock (block_of n number) (uncovered_event node.end.config.secret ev) g → LineGives number w l g
+      by (ByEvent e) = given e
+      by (ByLcpEnd lns gives) = by_lcp if_lns g h lns gives
+
+  no_frame : HasNoFrame ev → IfLns w number l n ev sender node → (g : Passage) → NodeGives number n node ev g → LineGives number w l g
+  no_frame none if_lns g h = each_gives if_lns g h (λ e. absurd (none_given none g.session g.frame e))
+
+from_sub : (w : World) (number n session : ℕ) (frame : List ℕ) (node : Node) → node.end.role ≡ role.Lac → (g : Passage)
+    → NodeGives number n node (event.Payload session frame) g → LineGives number w (FromSub n session frame) g
+from_sub w number n session frame node lac g h =
+    let l = FromSub n session frame in
+    let ev = event.Payload session frame in
+    each_gives w number n l ev None node (no_lns w number n l ev None node lac) g h (λ k. ⊎_elim
     (λ (e : event.Payload session frame ≡ event.Payload g.session g.frame).
     let a : session ≡ g.session = cc in
     let b : frame ≡ g.frame = cc in
     ByLine h.number_is (rw (h.role_is, lac, h.node_is, a, b) refl))
     (λ (e : event.Payload session frame ≡ event.Lower g.session g.frame). absurd cc)
-    h.event_is
+    k)
 
-down_to : (w : World) (number n : ℕ) (r : Role) (session : ℕ) (frame : List ℕ) → r ≡ role.Lns → (g : Passage)
-    → EventGives number n r (event.Lower session frame) g → LineGives number w (Down n session frame) g
-down_to w number n r session frame lns g h = ⊎_elim
+down_to : (w : World) (number n session : ℕ) (frame : List ℕ) (node : Node) → node.end.role ≡ role.Lns
+    → IfLns w number (Down n session frame) n (event.Lower session frame) None node → (g : Passage)
+    → NodeGives number n node (event.Lower session frame) g → LineGives number w (Down n session frame) g
+down_to w number n session frame node lns if_lns g h =
+    each_gives w number n (Down n session frame) (event.Lower session frame) None node if_lns g h (λ k. ⊎_elim
     (λ (e : event.Lower session frame ≡ event.Payload g.session g.frame). absurd cc)
     (λ (e : event.Lower session frame ≡ event.Lower g.session g.frame).
     let a : session ≡ g.session = cc in
     let b : frame ≡ g.frame = cc in
     ByLine h.number_is (rw (h.role_is, lns, h.node_is, a, b) refl))
-    h.event_is
-
--- a node of the world, at some moment
-record IsAt (w : World) (n : ℕ) (node : Node) : Type 0 where
-  before : Node
-  there : at w.nodes n ≡ Some before
-  same : node ≡ record before { clock = node.clock; access = node.access }
-
-is_there : (w : World) (n : ℕ) (node : Node) → at w.nodes n ≡ Some node → IsAt w n node
-is_there w n node h = record { before = node; there = h; same = refl }
-
-is_later : (w : World) (n milliseconds : ℕ) (o : Option Node) (node : Node) → at w.nodes n ≡ o → later milliseconds (declared o) ≡ Ok node → IsAt w n node
-is_later w n milliseconds None node is h = absurd (cc)
-is_later w n milliseconds (Some x) node is h =
-    let now = min (x.clock + milliseconds) (2 ^ 64 - 1) in
-    let e : record x { clock = now } ≡ node = cc in
-    subst (IsAt w n) e (record { before = x; there = is; same = refl })
+    k)
 
 module _ (codecs : Codecs) (laws : StepLaws) (number : ℕ) (w : World) (gs : List Passage) (holds : Holds w gs) (below : Below number gs) (l : Line) where
   -- on an event as the node reads it
   timed_ok : (n : ℕ) (ev : Event) (sender : Option Sender) (node : Node) → IsAt w n node → IsReal w gs n ev
-      → StepOk number w gs n node.end.role ev (after_step w number n node sender (plain_step node.end node.clock (block_of n number) ev))
+      → StepOk number w gs n node.end node.clock (block_of n number) ev
+      (after_step w number n node sender (plain_step node.end node.clock (block_of n number) ev))
   timed_ok n ev sender node is real = subst
-      (λ (q : Node). StepOk number w gs n q.end.role ev (after_step w number n q sender (plain_step q.end q.clock (block_of n number) ev))) (sym is.same)
+      (λ (q : Node). StepOk number w gs n q.end q.clock (block_of n number) ev
+      (after_step w number n q sender (plain_step q.end q.clock (block_of n number) ev))) (sym is.same)
       (step_ok codecs laws number w gs holds below n is.before is.there node.clock node.access ev real node.clock (block_of n number) sender)
 
-  -- a frame is given as it is
-  gives_as_read : (n : ℕ) (r : Role) (secret : Option (List ℕ)) (ev : Event) (g : Passage) → EventGives number n r (uncovered_event secret ev) g
-      → EventGives number n r ev g
-  gives_as_read n r secret (event.Datagram peer bytes) g h = absurd (⊎_elim (λ p. cc) (λ p. cc) h.event_is)
-  gives_as_read n r secret (event.Ring port) g h = h
-  gives_as_read n r secret (event.Frame bytes) g h = h
-  gives_as_read n r secret (event.Admitted mac) g h = h
-  gives_as_read n r secret (event.Payload session frame) g h = h
-  gives_as_read n r secret (event.Lower session frame) g h = h
-  gives_as_read n r secret (event.Hang session) g h = h
-  gives_as_read n r secret event.OpenTunnel g h = h
-  gives_as_read n r secret (event.DropCall session) g h = h
-  gives_as_read n r secret (event.CloseTunnel i) g h = h
-  gives_as_read n r secret event.Tick g h = h
-
   stepped_ok : (x : Lined) (n : ℕ) (ev : Event) (sender : Option Sender) (o : Result Node Why)
-      → ((node : Node) → o ≡ Ok node → IsAt w n node × ((g : Passage) → EventGives number n node.end.role ev g → LineGives number w l g))
+      → ((node : Node) → o ≡ Ok node → IsAt w n node × ((g : Passage) → NodeGives number n node ev g → LineGives number w l g))
       → ((secret : Option (List ℕ)) → IsReal w gs n (uncovered_event secret ev)) → stepped w number n ev sender o ≡ Ok x → LineOk number w gs l x
   unfolding stepped
   stepped_ok x n ev sender (Err q) is real h = absurd (cc)
@@ -270,41 +328,52 @@ module _ (codecs : Codecs) (laws : StepLaws) (number : ℕ) (w : World) (gs : Li
       let k = timed_ok n (uncovered_event secret ev) sender node was.0 (real secret) in
       subst (LineOk number w gs l) e (record {
         goes = k.goes;
-        given = all_map (EventGives number n node.end.role (uncovered_event secret ev)) (LineGives number w l)
-            (λ g h. was.1 g (gives_as_read n node.end.role secret ev g h)) (sent_in (after_step w number n node sender (step node.end node.clock (block_of n number) ev)).done) k.given;
+        given = all_map (NodeGives number n node ev) (LineGives number w l) was.1
+            (sent_in (after_step w number n node sender (step node.end node.clock (block_of n number) ev)).done) k.given;
         told = k.told;
       })
 
 module _ (codecs : Codecs) (laws : StepLaws) (number : ℕ) (w : World) (gs : List Passage) (holds : Holds w gs) (below : Below number gs) where
   -- a packet that was sent comes to its node
   arrives_ok : (l : Line) (x : Lined) (p : Packet) (node : Node) → at w.nodes p.to ≡ Some node → PacketOk w.nodes gs p → (o : Option Refusal)
-      → arrives w number p node o ≡ Ok x → LineOk number w gs l x
+      → line w number l ≡ arrives w number p node o → arrives w number p node o ≡ Ok x → LineOk number w gs l x
   unfolding arrives
-  arrives_ok l x p node there sent (Some f) h = absurd (cc)
-  arrives_ok l x p node there sent None h =
+  arrives_ok l x p node there sent (Some f) is h = absurd (cc)
+  arrives_ok l x p node there sent None is h =
       let ev = event.Datagram (address_of p.from) p.bytes in
-      stepped_ok codecs laws number w gs holds below l x p.to ev (sender_of p.from p.origin) (Ok node)
-      (λ q e. (let same : node ≡ q = cc in rw (← same) (is_there w p.to node there, no_frame w number p.to node.end.role ev l tt)))
+      let from = sender_of p.from p.origin in
+      stepped_ok codecs laws number w gs holds below l x p.to ev from (Ok node)
+      (λ q e. (let same : node ≡ q = cc in
+      let here = is_there w p.to node there in
+      rw (← same) (at_moment w p.to node here, no_frame w number p.to l ev from node tt (λ lns. (here, is)))))
       (λ secret. record { from = p.from; number = sent.from; address = refl; bytes_ok = sent.bytes secret }) h
 
   -- what may be delivered is a packet that was sent, and its node is declared
-  delivers_ok : (l : Line) (x : Lined) (o : Option Packet) → ((p : Packet) → o ≡ Some p → PacketOk w.nodes gs p) → delivers w number o ≡ Ok x
-      → LineOk number w gs l x
+  delivers_ok : (l : Line) (x : Lined) (o : Option Packet) → ((p : Packet) → o ≡ Some p → PacketOk w.nodes gs p)
+      → line w number l ≡ delivers w number o → delivers w number o ≡ Ok x → LineOk number w gs l x
   unfolding delivers delivers_it arrival addressee_of
-  delivers_ok l x None sent h = absurd (cc)
-  delivers_ok l x (Some p) sent h = by (at w.nodes p.to) refl h
+  delivers_ok l x None sent is h = absurd (cc)
+  delivers_ok l x (Some p) sent is h = by (at w.nodes p.to) refl is h
     where
-      by : (o : Option Node) → at w.nodes p.to ≡ o → delivers_it w number (addressee_of p o) ≡ Ok x → LineOk number w gs l x
-      by None is h = absurd (cc)
-      by (Some node) is h = arrives_ok l x p node is (sent p refl) (refused_by p node p.origin) h
+      by : (o : Option Node) → at w.nodes p.to ≡ o → line w number l ≡ delivers_it w number (addressee_of p o)
+          → delivers_it w number (addressee_of p o) ≡ Ok x → LineOk number w gs l x
+      by None there is h = absurd (cc)
+      by (Some node) there is h = arrives_ok l x p node there (sent p refl) (refused_by p node p.origin) is h
+
+  -- no frame of a LAC on an event that gives none
+  of_lac : (n : ℕ) (bytes : List ℕ) (ev : Event) (node : Node) → node.end.role ≡ role.Lac → HasNoFrame ev → (g : Passage) → NodeGives number n node ev g
+      → LineGives number w (Frame n bytes) g
+  of_lac n bytes ev node lac none =
+      no_frame w number n (Frame n bytes) ev None node none (no_lns w number n (Frame n bytes) ev None node lac)
 
   -- what a host of a call does
   host_gives : (n : ℕ) (bytes : List ℕ) (l : LacAt w n) (ev : Event) → HostDoes l.access l.node.end bytes ev → (g : Passage)
-      → EventGives number n l.node.end.role ev g → LineGives number w (Frame n bytes) g
-  host_gives n bytes l ev (HostLeaves src session is of) g h = no_frame w number n l.node.end.role (event.Hang session) (Frame n bytes) tt g h
+      → NodeGives number n l.node ev g → LineGives number w (Frame n bytes) g
+  host_gives n bytes l ev (HostLeaves src session is of) g h = of_lac n bytes (event.Hang session) l.node l.lac tt g h
   host_gives n bytes l ev (HostSends src session start stop is of) g h =
       let frame = take (stop - start) (drop start bytes) in
-      ⊎_elim
+      let ev = event.Payload session frame in
+      each_gives w number n (Frame n bytes) ev None l.node (no_lns w number n (Frame n bytes) ev None l.node l.lac) g h (λ k. ⊎_elim
       (λ (e : event.Payload session frame ≡ event.Payload g.session g.frame).
       let a : session ≡ g.session = cc in
       let b : frame ≡ g.frame = cc in
@@ -321,7 +390,7 @@ module _ (codecs : Codecs) (laws : StepLaws) (number : ℕ) (w : World) (gs : Li
         frame = sym b;
       }))
       (λ (e : event.Payload session frame ≡ event.Lower g.session g.frame). absurd cc)
-      h.event_is
+      k)
 
   host_real : (n : ℕ) (a : Access) (e : End) (bytes : List ℕ) (ev : Event) → HostDoes a e bytes ev → (secret : Option (List ℕ)) → IsReal w gs n (uncovered_event secret ev)
   host_real n a e bytes ev (HostSends src session start stop is of) secret = tt
@@ -347,7 +416,7 @@ module _ (codecs : Codecs) (laws : StepLaws) (number : ℕ) (w : World) (gs : Li
       let k =
       stepped_ok codecs laws number w gs holds below (Frame n bytes) x n (event.Frame bytes) None (Ok l.node)
       (λ node e. (let same : l.node ≡ node = cc in
-      rw (← same) (is_there w n l.node l.there, no_frame w number n l.node.end.role (event.Frame bytes) (Frame n bytes) tt)))
+      rw (← same) (at_moment w n l.node (is_there w n l.node l.there), of_lac n bytes (event.Frame bytes) l.node l.lac tt)))
       (λ secret. tt) h in
       record { goes = k.goes; given = k.given; told = none ∙ sym (ap told_of (done_of n bytes l x h)) }
 
@@ -358,13 +427,14 @@ module _ (codecs : Codecs) (laws : StepLaws) (number : ℕ) (w : World) (gs : Li
     answered = λ l because frame is x h. only_told n bytes l (answer_entries number n because frame) (no_ups n because frame) x h;
     done = λ l ev is does x h.
         stepped_ok codecs laws number w gs holds below (Frame n bytes) x n ev None (Ok l.node)
-        (λ node e. (let same : l.node ≡ node = cc in rw (← same) (is_there w n l.node l.there, host_gives n bytes l ev does)))
+        (λ node e. (let same : l.node ≡ node = cc in
+        rw (← same) (at_moment w n l.node (is_there w n l.node l.there), host_gives n bytes l ev does)))
         (host_real n l.access l.node.end bytes ev does) h;
     entered = λ l src uniq asked is x h.
         let k =
         stepped_ok codecs laws number w gs holds below (Frame n bytes) x n (event.Admitted src) None (Ok (with_host w number n l src uniq))
         (λ node e. (let same : with_host w number n l src uniq ≡ node = cc in
-        (entering n l src uniq node same, no_frame w number n node.end.role (event.Admitted src) (Frame n bytes) tt)))
+        (entering n l src uniq node same, of_lac n bytes (event.Admitted src) node (let e = ap (λ (q : Node). q.end.role) same in sym e ∙ l.lac) tt)))
         (λ secret. tt) h in
         record {
           goes = k.goes;
@@ -372,6 +442,17 @@ module _ (codecs : Codecs) (laws : StepLaws) (number : ℕ) (w : World) (gs : Li
           told = ups_in-append x.entries (Frames number n (reply_to w number n l src asked) ∷ []) ∙ append-nil (ups_in x.entries) ∙ k.told;
         };
   }
+
+  -- a line that has a node make a step on an event which gives no frame
+  without_frame : (l : Line) (x : Lined) (n : ℕ) (ev : Event) (o : Result Node Why) → ((node : Node) → o ≡ Ok node → IsTimed w n node) → HasNoFrame ev
+      → ((secret : Option (List ℕ)) → IsReal w gs n (uncovered_event secret ev)) → line w number l ≡ stepped w number n ev None o
+      → stepped w number n ev None o ≡ Ok x → LineOk number w gs l x
+  without_frame l x n ev o timed none real is h =
+      stepped_ok codecs laws number w gs holds below l x n ev None o
+      (λ node e.
+      let here = timed node e in
+      (at_moment w n node here, no_frame w number n l ev None node none (λ lns. (here, is ∙ ap (stepped w number n ev None) e))))
+      real h
 
   pub line_ok : (x : Lined) (l : Line) → FitsLine l → line w number l ≡ Ok x → LineOk number w gs l x
   unfolding line
@@ -381,48 +462,37 @@ module _ (codecs : Codecs) (laws : StepLaws) (number : ℕ) (w : World) (gs : Li
       added_ok number w gs holds (Lac n m secret hide) n role.Lac (address_of m) secret hide (omega (arith, fits.0.1)) x h
   line_ok x (Lns n secret) fits h = added_ok number w gs holds (Lns n secret) n role.Lns 0 secret false (omega (arith, fits.0.1)) x h
   line_ok x (OpenUp n) fits h =
-      stepped_ok codecs laws number w gs holds below (OpenUp n) x n event.OpenTunnel None (lac_at (at w.nodes n))
-      (λ node e. (is_there w n node (is_lac_at (at w.nodes n) node e).0, no_frame w number n node.end.role event.OpenTunnel (OpenUp n) tt)) (λ secret. tt) h
+      without_frame (OpenUp n) x n event.OpenTunnel (lac_at (at w.nodes n)) (λ node e. is_there w n node (is_lac_at (at w.nodes n) node e).0) tt
+      (λ secret. tt) refl h
   line_ok x (Close n i) fits h =
-      stepped_ok codecs laws number w gs holds below (Close n i) x n (event.CloseTunnel i) None (with_tunnel i (declared (at w.nodes n)))
-      (λ node e. (
-        is_there w n node (is_declared (at w.nodes n) node (has_tunnel i (declared (at w.nodes n)) node e)),
-        no_frame w number n node.end.role (event.CloseTunnel i) (Close n i) tt,
-      ))
-      (λ secret. tt) h
+      without_frame (Close n i) x n (event.CloseTunnel i) (with_tunnel i (declared (at w.nodes n)))
+      (λ node e. is_there w n node (is_declared (at w.nodes n) node (has_tunnel i (declared (at w.nodes n)) node e))) tt (λ secret. tt) refl h
   line_ok x (Ring n port) fits h =
-      stepped_ok codecs laws number w gs holds below (Ring n port) x n (event.Ring port) None (lac_at (at w.nodes n))
-      (λ node e. (is_there w n node (is_lac_at (at w.nodes n) node e).0, no_frame w number n node.end.role (event.Ring port) (Ring n port) tt)) (λ secret. tt) h
+      without_frame (Ring n port) x n (event.Ring port) (lac_at (at w.nodes n)) (λ node e. is_there w n node (is_lac_at (at w.nodes n) node e).0) tt
+      (λ secret. tt) refl h
   line_ok x (Frame n bytes) fits h = frame_line (LineOk number w gs (Frame n bytes)) w number n bytes (of_frame n bytes) x h
   line_ok x (FromSub n session frame) fits h =
       stepped_ok codecs laws number w gs holds below (FromSub n session frame) x n (event.Payload session frame) None
       (with_call session (lac_at (at w.nodes n)))
       (λ node e.
       let is = is_lac_at (at w.nodes n) node (has_call session (lac_at (at w.nodes n)) node e) in
-      (is_there w n node is.0, from_sub w number n node.end.role session frame is.1))
+      (at_moment w n node (is_there w n node is.0), from_sub w number n session frame node is.1))
       (λ secret. tt) h
   line_ok x (Down n session frame) fits h =
       stepped_ok codecs laws number w gs holds below (Down n session frame) x n (event.Lower session frame) None (with_call session (lns_at (at w.nodes n)))
       (λ node e.
       let is = is_lns_at (at w.nodes n) node (has_call session (lns_at (at w.nodes n)) node e) in
-      (is_there w n node is.0, down_to w number n node.end.role session frame is.1))
+      let here = is_there w n node is.0 in
+      (at_moment w n node here, down_to w number n session frame node is.1 (λ lns. (here, ap (stepped w number n (event.Lower session frame) None) e))))
       (λ secret. tt) h
   line_ok x (Hang n session) fits h =
-      stepped_ok codecs laws number w gs holds below (Hang n session) x n (event.Hang session) None (with_call session (lac_at (at w.nodes n)))
-      (λ node e.
-      let is = is_lac_at (at w.nodes n) node (has_call session (lac_at (at w.nodes n)) node e) in
-      (is_there w n node is.0, no_frame w number n node.end.role (event.Hang session) (Hang n session) tt))
-      (λ secret. tt) h
+      without_frame (Hang n session) x n (event.Hang session) (with_call session (lac_at (at w.nodes n)))
+      (λ node e. is_there w n node (is_lac_at (at w.nodes n) node (has_call session (lac_at (at w.nodes n)) node e)).0) tt (λ secret. tt) refl h
   line_ok x (DropCall n session) fits h =
-      stepped_ok codecs laws number w gs holds below (DropCall n session) x n (event.DropCall session) None
-      (with_call session (declared (at w.nodes n)))
-      (λ node e. (
-        is_there w n node (is_declared (at w.nodes n) node (has_call session (declared (at w.nodes n)) node e)),
-        no_frame w number n node.end.role (event.DropCall session) (DropCall n session) tt,
-      ))
-      (λ secret. tt) h
+      without_frame (DropCall n session) x n (event.DropCall session) (with_call session (declared (at w.nodes n)))
+      (λ node e. is_there w n node (is_declared (at w.nodes n) node (has_call session (declared (at w.nodes n)) node e))) tt (λ secret. tt) refl h
   line_ok x (Deliver k) fits h =
-      delivers_ok (Deliver k) x (slice_get w.packets (k - 1)) (λ p e. all_at (PacketOk w.nodes gs) w.packets (k - 1) p e holds.packets) h
+      delivers_ok (Deliver k) x (slice_get w.packets (k - 1)) (λ p e. all_at (PacketOk w.nodes gs) w.packets (k - 1) p e holds.packets) refl h
   line_ok x (Tick n milliseconds) fits h =
-      stepped_ok codecs laws number w gs holds below (Tick n milliseconds) x n event.Tick None (later milliseconds (declared (at w.nodes n)))
-      (λ node e. (is_later w n milliseconds (at w.nodes n) node refl e, no_frame w number n node.end.role event.Tick (Tick n milliseconds) tt)) (λ secret. tt) h
+      without_frame (Tick n milliseconds) x n event.Tick (later milliseconds (declared (at w.nodes n)))
+      (λ node e. is_later w n milliseconds (at w.nodes n) node refl e) tt (λ secret. tt) refl h

@@ -40,6 +40,7 @@ use Rattle.protocol_model.specs.declared.moves.Closed.{Closed}
 use Rattle.protocol_model.specs.declared.moves.ClosedBy.{ClosedBy}
 use Rattle.protocol_model.specs.declared.moves.Greeted.{Greeted}
 use Rattle.protocol_model.specs.declared.moves.Repeated.{Repeated}
+use Rattle.protocol_model.specs.declared.moves.Negotiated.{Negotiated}
 use Rattle.protocol_model.specs.declared.moves.Move.{Move}
 use Rattle.protocol_model.specs.declared.moves.Move.TheVariants as move
 use Rattle.protocol_model.specs.declared.tunnel.Call.{Call}
@@ -49,10 +50,12 @@ use Rattle.protocol_model.specs.declared.tunnel.Role.{Role}
 use Rattle.protocol_model.specs.declared.tunnel.Role.TheVariants.{Lac, Lns}
 use Rattle.protocol_model.specs.Names.{node_of, host_name, calling_number}
 use Rattle.protocol_model.specs.Calls.{advanced, rung, asked_for, is_up}
-use Rattle.protocol_model.specs.Turn.{Tunnel, letter_of, letter_as, counts_given, counts_taken, learns_window, opening_of, request_of, connection}
+use Rattle.protocol_model.specs.Turn.{Tunnel, letter_of, letter_as, counts_given, counts_taken, learns_window, opening_of, request_of, connection, with_link, link_after}
 use Rattle.protocol_model.specs.End.{End, new_place}
 use Rattle.protocol_model.specs.World.{World, Node, with_birth, is_born, birth_of, moved}
-use Rattle.step_laws.specs.Moves.{Rejects, Asks, Responds, with_tunnel, with_letter, new_tunnel, begun, Opens, Accepts, Connects, Confirms, Adds as AddsCall, Requests, Replies, ComesUpFirst, ComesUpSecond, Refuses, TellsEnd, HearsEnd, EndsSilently, Closes, ClosesBy, Clears, Greets, TakesPlain, Reads, LetsGo, Repeats, without_call, without_calls, Does}
+use Rattle.step_laws.specs.Moves.{Rejects, Asks, Responds, with_tunnel, with_letter, new_tunnel, begun, Opens, Accepts, Connects, Confirms, Adds as AddsCall, Requests, Replies, ComesUpFirst, ComesUpSecond, Refuses, TellsEnd, HearsEnd, EndsSilently, Closes, ClosesBy, Clears, Greets, TakesPlain, Reads, LetsGo, Repeats, Negotiates, without_call, without_calls, Does}
+use Rattle.step_laws.specs.Links.{begun_link}
+use Rattle.lcp_end.specs.Laws.{after as lcp_after}
 use Rattle.frame_laws.specs.Plain.{HidesOk, number_hides}
 use Rattle.frame_laws.proofs.Facts.{Nodes, Born, Plays, Grows, same_nodes, Mates, swapped, NamesItsCall, KnowsItsMate, CallOk, call_later, CallsOk, LetterOk, LettersOk, letters_later, TunnelOk, tunnel_later, all_push, all_drop}
 use Rattle.frame_laws.proofs.Changes.{next_birth, some_birth, with_one, born_nodes, born_packets, born_count, made_count, made_nodes, made_packets, Changed, birth_is, plays_at, grows, Adds, NextBirth, SameBirth}
@@ -110,6 +113,15 @@ asked_remote r remote moment = refl
 rung_remote : (r : Role) (who : List ℕ) (moment : ℕ) → (rung r who moment).remote ≡ 0
 unfolding rung advanced
 rung_remote r who moment = refl
+
+-- a call that is made has no LCP end yet
+asked_link : (r : Role) (remote moment : ℕ) → (asked_for r remote moment).link ≡ None
+unfolding asked_for advanced
+asked_link r remote moment = refl
+
+rung_link : (r : Role) (who : List ℕ) (moment : ℕ) → (rung r who moment).link ≡ None
+unfolding rung advanced
+rung_link r who moment = refl
 
 no_calls : (ns : Nodes) (n : ℕ) (r : Role) (bound peer : ℕ) → CallsOk ns n r bound peer []
 no_calls ns n r bound peer s c f = absurd (none-some c (sym (at-none s) ∙ f))
@@ -356,6 +368,21 @@ module _ (digits : (who : List ℕ) → length (calling_number who) ≡ 12) (n :
       calls_led y i t c ls (put t.calls s k) there sets next local peer remote letters
       (calls_put v.nodes n x.role x.session_ids.next t.control.peer s k t.calls o.calls call) (ascends-put s k t.calls o.order)
 
+  -- so it is where it knows the same session of the other end
+  goes_on : (peer s : ℕ) (c k : Call) → CallOk v.nodes n x.role x.session_ids.next peer s c → k.remote ≡ c.remote
+      → (KnowsItsMate x.role k → Mates v.nodes n s (node_of peer) c.remote) → (x.role ≡ Lac → k.link ≡ None)
+      → CallOk v.nodes n x.role x.session_ids.next peer s k
+  goes_on peer s c k o same mate link = record {
+    drawn = o.drawn;
+    birth = o.birth;
+    some = o.some;
+    born = o.born;
+    remote = rw same o.remote;
+    known = rw same o.known;
+    mate = rw same mate;
+    link = link;
+  }
+
   requested_led : (moment : ℕ) (m : Requested) (y : End) → Requests x moment m y → Led v y
   unfolding advanced
   requested_led moment m y h =
@@ -369,15 +396,8 @@ module _ (digits : (who : List ℕ) → length (calling_number who) ≡ 12) (n :
       (all_push (LetterOk v.nodes n h.tunnel.control.peer) h.tunnel.letters _ (here.end.tunnels m.tunnel h.tunnel h.there).letters
       (letter_ok v.nodes n h.tunnel.control.peer 0 (request_of m.session m.subscriber) m.hidden
       (number_hides x.config m.session m.subscriber m.hidden h.session (digits m.subscriber) h.hides) (omega arith) (request_written digits m.session m.subscriber h.session) names))
-      (record {
-        drawn = o.drawn;
-        birth = o.birth;
-        some = o.some;
-        born = o.born;
-        remote = o.remote;
-        known = o.known;
-        mate = λ k. ⊎_elim (λ a. absurd (not_lns x.role row.0 a)) (λ a. absurd (true≢false (sym a ∙ row.1))) k;
-      }))
+      (goes_on h.tunnel.control.peer m.session h.call (advanced x.role call_event.TunnelOpen moment h.call) o refl
+      (λ k. ⊎_elim (λ a. absurd (not_lns x.role row.0 a)) (λ a. absurd (true≢false (sym a ∙ row.1))) k) o.link))
 
   first_led : (moment : ℕ) (m : FirstUp) (y : End) → ComesUpFirst x moment ev m y → Led v y
   unfolding advanced
@@ -391,7 +411,16 @@ module _ (digits : (who : List ℕ) → length (calling_number who) ≡ 12) (n :
       (sets_tunnel _ m.tunnel _)
       refl refl refl refl
       (more_letters m.tunnel h.tunnel h.there m.remote connection s.0.0 (omega arith, omega arith, refl) tt)
-      (record { drawn = o.drawn; birth = o.birth; some = o.some; born = o.born; remote = s.0.0; known = inr mates; mate = λ k. mates }))
+      (record {
+        drawn = o.drawn;
+        birth = o.birth;
+        some = o.some;
+        born = o.born;
+        remote = s.0.0;
+        known = inr mates;
+        mate = λ k. mates;
+        link = o.link;
+      }))
 
   second_led : (moment : ℕ) (m : SecondUp) (y : End) → ComesUpSecond x moment ev m y → Led v y
   unfolding advanced
@@ -399,11 +428,25 @@ module _ (digits : (who : List ℕ) → length (calling_number who) ≡ 12) (n :
       let t = here.end.tunnels m.tunnel h.tunnel h.there in
       let o = t.calls m.session h.call h.made in
       let lns = second_row x.role h.call.state h.row in
+      let call = with_link (begun_link h.magic) (advanced x.role call_event.IccnAcc moment h.call) in
       rw h.after
-      (call_led _ m.tunnel h.tunnel (counts_taken h.tunnel.control) h.tunnel.letters m.session (advanced x.role call_event.IccnAcc moment h.call) h.there
+      (call_led _ m.tunnel h.tunnel (counts_taken h.tunnel.control) h.tunnel.letters m.session call h.there
       (sets_tunnel _ m.tunnel _)
       refl refl refl refl t.letters
-      (record { drawn = o.drawn; birth = o.birth; some = o.some; born = o.born; remote = o.remote; known = o.known; mate = λ k. o.mate (inl lns) }))
+      (goes_on h.tunnel.control.peer m.session h.call call o refl (λ k. o.mate (inl lns)) (λ lac. absurd (not_lns x.role lac lns))))
+
+  -- the LCP end of a call goes on; so the end is no LAC
+  negotiated_led : (moment : ℕ) (m : Negotiated) (y : End) → Negotiates x moment ev m y → Led v y
+  negotiated_led moment m y h =
+      let t = here.end.tunnels m.tunnel h.tunnel h.there in
+      let o = t.calls m.session h.call h.live in
+      let call = with_link (link_after h.calls.link (lcp_after h.calls.by h.calls.link.lcp)) h.call in
+      rw h.after
+      (call_led _ m.tunnel h.tunnel h.tunnel.control h.tunnel.letters m.session call h.there
+      (sets_tunnel _ m.tunnel _)
+      refl refl refl refl t.letters
+      (goes_on h.tunnel.control.peer m.session h.call call o refl o.mate
+      (λ lac. absurd (none-some h.calls.link (sym (o.link lac) ∙ h.calls.has)))))
 
   -- ---- a call ends
 
@@ -582,12 +625,12 @@ module _ (digits : (who : List ℕ) → length (calling_number who) ≡ 12) (n :
         → Sets x y i (record { control = c; letters = ls; calls = put t.calls s k }) → y.session_ids.next ≡ s + 1 → c.local ≡ t.control.local
         → c.peer ≡ t.control.peer → c.remote ≡ t.control.remote → LettersOk w.nodes n t.control.peer ls
         → k.remote < 65536 → (k.remote ≡ 0) ⊎ Mates w.nodes n s (node_of t.control.peer) k.remote
-        → (KnowsItsMate x.role k → Mates w.nodes n s (node_of t.control.peer) k.remote) → Led w y
-    made_led y i t c ls k there sets next local peer remote letters fits known mate =
+        → (KnowsItsMate x.role k → Mates w.nodes n s (node_of t.control.peer) k.remote) → k.link ≡ None → Led w y
+    made_led y i t c ls k there sets next local peer remote letters fits known mate link =
         let u : Tunnel = record { control = c; letters = ls; calls = put t.calls s k } in
         let o = here.end.tunnels i t there in
         let call : CallOk w.nodes n x.role (s + 1) t.control.peer s k =
-        record { drawn = omega arith; birth = b; some = bears.some; born = born_now; remote = fits; known = known; mate = mate } in
+        record { drawn = omega arith; birth = b; some = bears.some; born = born_now; remote = fits; known = known; mate = mate; link = λ lac. link } in
         let olds : CallsOk w.nodes n x.role (s + 1) t.control.peer t.calls =
         λ q d f. call_later v.nodes w.nodes grown n x.role x.session_ids.next (s + 1) t.control.peer q d (omega (arith, fresh)) (o.calls q d f) in
         let calls = calls_put w.nodes n x.role (s + 1) t.control.peer s k t.calls olds call in
@@ -653,7 +696,8 @@ module _ (digits : (who : List ℕ) → length (calling_number who) ≡ 12) (n :
       (λ k. ⊎_elim
       (λ a. absurd (not_lns x.role h.role a))
       (λ (a : is_up (rung x.role m.subscriber moment).state ≡ true). absurd (true≢false (sym (rw h.role at a) ∙ rung_row m.subscriber moment)))
-      k))
+      k)
+      (rung_link x.role m.subscriber moment))
 
   replied_led : (moment : ℕ) (m : Replied) (y : End) → Replies x moment ev m y → Led (with_birth v n m.session (birth_of v (node_of m.peer) m.remote)) y
   replied_led moment m y h =
@@ -699,7 +743,8 @@ module _ (digits : (who : List ℕ) → length (calling_number who) ≡ 12) (n :
       (made_led v' m.session b bears w m.tunnel t c ls (asked_for x.role m.remote moment) h.there
       (sets_drawn m.session m.tunnel u h.drawn)
       refl refl refl refl letters
-      (rw (asked_remote x.role m.remote moment) s.0.0) (rw (asked_remote x.role m.remote moment) (inr mates)) (λ k. rw (asked_remote x.role m.remote moment) mates)))
+      (rw (asked_remote x.role m.remote moment) s.0.0) (rw (asked_remote x.role m.remote moment) (inr mates)) (λ k. rw (asked_remote x.role m.remote moment) mates)
+      (asked_link x.role m.remote moment)))
 
   -- each move
   pub does_led : (moment : ℕ) (m : Move) (y : End) → Does x moment ev m y → Led (moved n v m) y
@@ -728,5 +773,6 @@ module _ (digits : (who : List ℕ) → length (calling_number who) ≡ 12) (n :
   does_led moment (move.LetGo m) y h = let_go_led moment m y h
   does_led moment (move.Repeated m) y h = repeated_led moment m y h
   does_led moment (move.Quiet i) y h = led_same y h.after
+  does_led moment (move.Negotiated m) y h = negotiated_led moment m y h
   does_led moment (move.FrameSent m) y h = led_same y h.after
   does_led moment (move.FrameUp m) y h = led_same y h.after

@@ -1,7 +1,8 @@
 -- What a step of a node leaves of the world.
-use Rattle.protocol_model.specs.declared.tunnel.Role.TheVariants.{Lac}
-use Rattle.std.proofs.Common.{◌≡◌, ◌⊎◌, inl, inr, ⊎_elim, ℕ, ◌+◌, ◌-◌, ◌^◌, ◌<◌, ◌≤◌, List, [], ◌∷◌, ◌++◌, refl, sym, ap, ◌∙◌, subst, Option, Some, None, arith, append_assoc}
+use Rattle.protocol_model.specs.declared.tunnel.Role.TheVariants.{Lac, Lns}
+use Rattle.std.proofs.Common.{◌≡◌, ◌⊎◌, inl, ⊎_elim, ℕ, ◌+◌, ◌-◌, ◌^◌, ◌<◌, ◌≤◌, List, [], ◌∷◌, ◌++◌, refl, sym, ap, ◌∙◌, subst, Option, Some, None, arith, append_assoc}
 use Rattle.std.proofs.lemmas.List.{append-nil}
+use Rattle.std.proofs.lemmas.Option.{none-some}
 use Rattle.std.specs.Prelude.{unwrap_or}
 use Rattle.std.specs.List.{AllByRecursion}
 use Rattle.id_table.specs.Ids.{at}
@@ -13,7 +14,7 @@ use Rattle.schedule_text.specs.declared.line.Line.{Line}
 use Rattle.schedule_text.specs.declared.line.Line.TheVariants as line_of
 use Rattle.protocol_model.specs.Access.{Access}
 use Rattle.protocol_model.specs.declared.event.Event.{Event}
-use Rattle.protocol_model.specs.declared.event.Event.TheVariants.{Datagram, Ring, Payload, Lower, Hang, OpenTunnel, DropCall, CloseTunnel, Tick, Frame, Admitted}
+use Rattle.protocol_model.specs.declared.event.Event.TheVariants.{Datagram, Ring, Payload, Lower, Lcp, Hang, OpenTunnel, DropCall, CloseTunnel, Tick, Frame, Admitted}
 use Rattle.protocol_model.specs.declared.moves.FrameSent.{FrameSent}
 use Rattle.protocol_model.specs.declared.moves.FrameUp.{FrameUp}
 use Rattle.protocol_model.specs.declared.moves.Move.TheVariants as move
@@ -29,16 +30,17 @@ use Rattle.protocol_model.specs.Turn.{Tunnel}
 use Rattle.protocol_model.specs.End.{plain_step, End, Stepped}
 use Rattle.protocol_model.specs.World.{World, Node, Sender, Deed, Lined, with_node, moved_all, sent, shown, shown_all, given, after_step}
 use Rattle.step_laws.specs.Letters.{Among, Carries, ALetter, Nothing, AFrame, HasOutput}
+use Rattle.step_laws.specs.Links.{WhySent, IsGiven, IsOfLcp}
 use Rattle.step_laws.specs.Steps.{IsOfMoves, IsDecline, IsChain}
 use Rattle.step_laws.specs.Codes.{decline_codes_fit}
 use Rattle.frame_laws.specs.Codecs.{Codecs}
 use Rattle.frame_laws.specs.Past.{Passage, sent_in, handed_in}
-use Rattle.frame_laws.specs.Frames.{WasSent, IsCarried, other_end, gives_frame, GivesByFrame}
+use Rattle.frame_laws.specs.Frames.{WasSent, IsCarried, other_end, gives_frame, GivesByFrame, GivesInStep, GivesByLcp}
 use Rattle.frame_laws.proofs.Facts.{StepLaws, Nodes, Plays, Grows, Mates, WasSentInCall, ReadOk, BytesOk, PacketOk, LetterOk, NodeOk, Holds, among_left, among_right, packets_later, node_later, end_later, all_map, all_push, all_at, grows_on}
 use Rattle.frame_laws.proofs.Changes.{birth_is, role_there, Changed, grows, NoBirth}
-use Rattle.frame_laws.proofs.Births.{Counted, counted_after}
+use Rattle.frame_laws.proofs.Births.{is_lns, Counted, counted_after}
 use Rattle.frame_laws.proofs.Leads.{Heard, heard_later, At, node_again}
-use Rattle.frame_laws.proofs.Chains.{Ran, ran, same_role}
+use Rattle.frame_laws.proofs.Chains.{Ran, ran, SentThen, sent_then, same_role}
 use Rattle.frame_laws.proofs.Declining.{declined_fits}
 use Rattle.frame_laws.proofs.Datagrams.{letter_ok, alone_ok, frame_ok}
 use Rattle.frame_laws.specs.Reports.{ups_in, told_of}
@@ -173,13 +175,18 @@ Below number gs = AllByRecursion (λ g. g.line < number) gs
 pub data LineGives (number : ℕ) (w : World) (l : Line) (g : Passage) : Type 0 where
   ByLine : g.line ≡ number → l ≡ gives_frame g.role g.node g.session g.frame → LineGives number w l g
   ByHost : g.line ≡ number → g.role ≡ Lac → (bytes : List ℕ) → l ≡ line_of.Frame g.node bytes → GivesByFrame w g bytes → LineGives number w l g
+  ByLcp : g.line ≡ number → g.role ≡ Lns → GivesByLcp w l g → LineGives number w l g
 
--- an event gave the frame to its end
-pub record EventGives (number n : ℕ) (r : Role) (ev : Event) (g : Passage) : Type 0 where
+-- an event gave the frame to its end, or the LCP end of the call did in the step of an LNS
+pub data WhyGiven (e : End) (moment : ℕ) (block : List ℕ) (ev : Event) (g : Passage) : Type 0 where
+  ByEvent : (ev ≡ Payload g.session g.frame) ⊎ (ev ≡ Lower g.session g.frame) → WhyGiven e moment block ev g
+  ByLcpEnd : e.role ≡ Lns → GivesInStep e moment block ev g → WhyGiven e moment block ev g
+
+pub record StepGives (number n : ℕ) (e : End) (moment : ℕ) (block : List ℕ) (ev : Event) (g : Passage) : Type 0 where
   pub number_is : g.line ≡ number
   pub node_is : g.node ≡ n
-  pub role_is : g.role ≡ r
-  pub event_is : (ev ≡ Payload g.session g.frame) ⊎ (ev ≡ Lower g.session g.frame)
+  pub role_is : g.role ≡ e.role
+  pub why : WhyGiven e moment block ev g
 
 -- what a line does to the count of births
 pub record Counts (ns : Nodes) (born : ℕ) (after : World) : Type 0 where
@@ -213,6 +220,7 @@ IsReal w gs n (Frame bytes) = Unit {0}
 IsReal w gs n (Admitted mac) = Unit {0}
 IsReal w gs n (Payload s frame) = Unit {0}
 IsReal w gs n (Lower s frame) = Unit {0}
+IsReal w gs n (Lcp s packet) = Unit {0}
 IsReal w gs n (Hang s) = Unit {0}
 IsReal w gs n OpenTunnel = Unit {0}
 IsReal w gs n (DropCall s) = Unit {0}
@@ -233,6 +241,7 @@ heard_of w gs n (Frame bytes) h = tt
 heard_of w gs n (Admitted mac) h = tt
 heard_of w gs n (Payload s frame) h = tt
 heard_of w gs n (Lower s frame) h = tt
+heard_of w gs n (Lcp s packet) h = tt
 heard_of w gs n (Hang s) h = tt
 heard_of w gs n OpenTunnel h = tt
 heard_of w gs n (DropCall s) h = tt
@@ -240,9 +249,9 @@ heard_of w gs n (CloseTunnel i) h = tt
 heard_of w gs n Tick h = tt
 
 -- what a step of a node leads to, in a line
-pub record StepOk (number : ℕ) (w : World) (gs : List Passage) (n : ℕ) (r : Role) (ev : Event) (x : Lined) : Type 0 where
+pub record StepOk (number : ℕ) (w : World) (gs : List Passage) (n : ℕ) (e : End) (moment : ℕ) (block : List ℕ) (ev : Event) (x : Lined) : Type 0 where
   pub goes : Goes number w gs x.world x.done
-  pub given : AllByRecursion (EventGives number n r ev) (sent_in x.done)
+  pub given : AllByRecursion (StepGives number n e moment block ev) (sent_in x.done)
   pub told : ups_in x.entries ≡ told_of x.done
 
 module _ (codecs : Codecs) (laws : StepLaws) (number : ℕ) (w : World) (gs : List Passage) (holds : Holds w gs) (below : Below number gs)
@@ -310,8 +319,15 @@ module _ (codecs : Codecs) (laws : StepLaws) (number : ℕ) (w : World) (gs : Li
         births = ok.births;
       }
 
+  heard : Heard base.nodes n ev
+  heard = heard_later w.nodes base.nodes begun n ev (heard_of w gs n ev real)
+
   r : Ran codecs.digits n s.end moment ev base v old.end s.end
-  r = ran codecs.digits n s.end moment ev base old.end s.end here (heard_later w.nodes base.nodes begun n ev (heard_of w gs n ev real)) s.moves chain.chain
+  r = ran codecs.digits n s.end moment ev base old.end s.end here heard s.moves chain.chain
+
+  -- a frame that it sends
+  sent_here : (f : FrameSent) → Among (move.FrameSent f) s.moves → SentThen codecs.digits n s.end moment ev v.nodes old.end s.moves f
+  sent_here f a = sent_then codecs.digits n s.end moment ev base old.end s.end here heard s.moves chain.chain f a
 
   grown : Grows w.nodes v.nodes
   grown = grows_on w.nodes base.nodes v.nodes begun r.grows.grows
@@ -376,12 +392,13 @@ module _ (codecs : Codecs) (laws : StepLaws) (number : ℕ) (w : World) (gs : Li
         let to = r.at_end.end.tunnels id tunnel there in
         rw are
         (alone_ok codecs tunnel.control.remote 0 number tunnel.control.channel.inbox.taken to.remote (omega arith) v.nodes (gs ++ more) n (node_of peer))
-    carries_ok bytes o (AFrame f call a tunnel_is same at_call up origin_is are) =
+    carries_ok bytes o (AFrame f a tunnel_is same origin_is are) =
         let to = r.at_end.end.tunnels id tunnel there in
-        let k = to.calls f.session call at_call in
-        let mates : Mates v.nodes n f.session (node_of peer) call.remote = rw peer_is (k.mate (inr up)) in
-        let was_sent = sent_in_call f a (node_of peer) call.remote (ap node_of (same ∙ sym peer_is)) mates in
-        rw are (frame_ok codecs v.nodes (gs ++ more) n (node_of peer) tunnel.control.remote call.remote f.frame to.remote k.remote was_sent)
+        let k = sent_here f a in
+        let to_peer : f.peer ≡ peer = same ∙ sym peer_is in
+        let mates : Mates v.nodes n f.session (node_of peer) f.remote = subst (λ q. Mates v.nodes n f.session (node_of q) f.remote) to_peer k.mates in
+        let was_sent = sent_in_call f a (node_of peer) f.remote (ap node_of to_peer) mates in
+        rw are (frame_ok codecs v.nodes (gs ++ more) n (node_of peer) tunnel.control.remote f.remote f.frame to.remote k.fits was_sent)
 
   -- a StopCCN of no tunnel names no call
   declined_ok : (peer : ℕ) (bytes : List ℕ) (o : Origin) → IsDecline s.moves peer bytes o → BytesOk v.nodes (gs ++ more) n (node_of peer) bytes
@@ -433,7 +450,7 @@ module _ (codecs : Codecs) (laws : StepLaws) (number : ℕ) (w : World) (gs : Li
   carried_ok : (f : FrameSent) → Among (move.FrameSent f) s.moves → IsCarried (shown_all n s.outputs v).packets (sends v number n old.end.role sender f)
   carried_ok f a =
       let h = all_among (HasOutput s.outputs) s.moves (move.FrameSent f) chain.frames a in
-      let p = shown_there n s.outputs v f.peer (data_bytes h.0 h.1 None f.frame) (origin.Data f.session) h.2 in
+      let p = shown_there n s.outputs v f.peer (data_bytes h.0 f.remote None f.frame) (origin.Data f.session) h.1 in
       record {
         packet = p.packet;
         there = p.there;
@@ -441,14 +458,38 @@ module _ (codecs : Codecs) (laws : StepLaws) (number : ℕ) (w : World) (gs : Li
         to = p.to_is;
         origin = p.origin_is;
         tunnel = h.0;
-        session = h.1;
+        session = f.remote;
         bytes = p.bytes_are;
       }
 
-  given_ok : (f : FrameSent) → Among (move.FrameSent f) s.moves → EventGives number n old.end.role ev (sends v number n old.end.role sender f)
+  abbrev GivesIt : Passage → Type 0
+  GivesIt g = StepGives number n old.end moment block ev g
+
+  given_ok : (f : FrameSent) → Among (move.FrameSent f) s.moves → GivesIt (sends v number n old.end.role sender f)
   given_ok f a =
-      let d = done_among moment ev old.end s.end s.moves chain.chain (move.FrameSent f) a in
-      record { number_is = refl; node_is = refl; role_is = refl; event_is = d.does.given }
+      let k = sent_here f a in
+      record { number_is = refl; node_is = refl; role_is = refl; why = by k k.does.given }
+    where
+      by : (k : SentThen codecs.digits n s.end moment ev v.nodes old.end s.moves f)
+          → WhySent ev moment k.does.tunnel.control f.session k.does.call f.frame
+          → WhyGiven old.end moment block ev (sends v number n old.end.role sender f)
+      by k (IsGiven is passes) = ByEvent is
+      by k (IsOfLcp gives) = ByLcpEnd
+          (is_lns old.end.role (λ lac. none-some gives.calls.link (sym (k.link (same_role moment ev old.end k.end k.first k.leads ∙ lac)) ∙ gives.calls.has)))
+          (record {
+            first = k.first;
+            end = k.end;
+            leads = k.leads;
+            id = f.tunnel;
+            tunnel = k.does.tunnel;
+            in_end = k.does.there;
+            peer = ap node_of k.does.peer;
+            call = k.does.call;
+            live = k.does.calls;
+            gives = gives;
+            rest = k.rest;
+            moves = rw (← k.does.peer, ← k.does.remote) k.moves;
+          })
 
   -- ---- births
 
@@ -490,10 +531,10 @@ module _ (codecs : Codecs) (laws : StepLaws) (number : ℕ) (w : World) (gs : Li
     grown = grown_packets;
   }
 
-  pub step_ok : StepOk number w gs n old.end.role ev (after_step w number n timed sender s)
+  pub step_ok : StepOk number w gs n old.end moment block ev (after_step w number n timed sender s)
   unfolding after_step given
   step_ok = record {
     goes = goes;
-    given = each_sent v number n old.end.role sender (EventGives number n old.end.role ev) s.moves given_ok;
+    given = each_sent v number n old.end.role sender GivesIt s.moves given_ok;
     told = ups_told number n old.end.role sender v s (laws.ups old.end moment block ev);
   }

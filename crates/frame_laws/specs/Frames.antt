@@ -1,21 +1,31 @@
 -- Each frame that is handed up in a call was sent in that call by its other end.
-use Rattle.std.specs.Prelude.{◌≡◌, ◌+◌, ◌-◌, ◌<◌, List, ◌∷◌, ◌++◌, length, take, drop, None, Some, ℕ, slice_get}
+use Rattle.std.specs.Prelude.{◌≡◌, ◌+◌, ◌-◌, ◌<◌, List, ◌∷◌, ◌++◌, length, take, drop, Option, None, Some, Ok, ℕ, slice_get}
 use Rattle.id_table.specs.Ids.{at}
 use Rattle.pppoe_discovery.specs.declared.outcome.Discovered.TheVariants.{Carried}
 use Rattle.protocol_model.specs.Access.{Access}
-use Rattle.protocol_model.specs.World.{World, Node}
+use Rattle.protocol_model.specs.World.{World, Node, Sender, block_of, stepped, line}
 use Rattle.step_laws.specs.Hosts.{discovered_at, IsOfHost}
 use Rattle.std.specs.List.{AllByRecursion}
 use Rattle.l2tp_header.specs.Spelling.{data_bytes}
 use Rattle.schedule_text.specs.declared.line.Line.{Line}
 use Rattle.schedule_text.specs.declared.line.Line.TheVariants.{FromSub, Down, Frame}
 use Rattle.schedule_text.specs.Grammar.{AreLines}
+use Rattle.protocol_model.specs.declared.event.Event.{Event}
+use Rattle.protocol_model.specs.declared.moves.Move.{Move}
+use Rattle.protocol_model.specs.declared.moves.Move.TheVariants.{FrameSent}
+use Rattle.protocol_model.specs.declared.tunnel.Call.{Call}
 use Rattle.protocol_model.specs.declared.tunnel.Role.{Role}
 use Rattle.protocol_model.specs.declared.tunnel.Role.TheVariants.{Lac, Lns}
 use Rattle.protocol_model.specs.declared.out.Origin.TheVariants.{Data}
 use Rattle.protocol_model.specs.declared.packet.Packet.{Packet}
+use Rattle.protocol_model.specs.Names.{node_of}
+use Rattle.protocol_model.specs.Secrets.{uncovered_event}
+use Rattle.protocol_model.specs.Turn.{Tunnel}
+use Rattle.protocol_model.specs.End.{End, plain_step}
 use Rattle.protocol_model.specs.Run.{run}
 use Rattle.step_laws.specs.Letters.{Among}
+use Rattle.step_laws.specs.Links.{GivesFrame}
+use Rattle.step_laws.specs.Moves.{Chain}
 use Rattle.frame_laws.specs.Past.{Passage, Past, past_of}
 
 abbrev pub other_end : Role → Role
@@ -74,12 +84,52 @@ pub record GivesByFrame (w : World) (g : Passage) (bytes : List ℕ) : Type 0 wh
   pub of_host : IsOfHost access node.end src g.session
   pub frame : g.frame ≡ take (stop - start) (drop start bytes)
 
--- a frame that counts as sent is one that its line gave to its end in its call, or at a LAC one that the host of that call sent in an
--- Ethernet frame which its line brings, as the world was before the line
+-- in the step of an end on an event, as it reads it, the frame is an LCP packet that the LCP end of its call gives: the first moves of the
+-- step lead to an end in which the call has an LCP end that, as it is called then, gives the packet, and the next move sends it
+pub record GivesInStep (e : End) (moment : ℕ) (block : List ℕ) (ev : Event) (g : Passage) : Type 0 where
+  pub first : List Move
+  pub end : End
+  pub leads : Chain moment ev e first end
+  -- the tunnel, to the node that the frame goes to, and its call
+  pub id : ℕ
+  pub tunnel : Tunnel
+  pub in_end : at end.tunnels id ≡ Some tunnel
+  pub peer : g.peer ≡ node_of tunnel.control.peer
+  pub call : Call
+  pub live : at tunnel.calls g.session ≡ Some call
+  pub gives : GivesFrame ev moment tunnel.control g.session call g.frame
+  -- the move that sends the frame, and those behind it
+  pub rest : List Move
+  pub moves : (plain_step e moment block ev).moves ≡ first ++ FrameSent (record {
+    tunnel = id;
+    peer = tunnel.control.peer;
+    session = g.session;
+    remote = call.remote;
+    frame = g.frame;
+  }) ∷ rest
+
+-- so it is in the step that the passage's node makes of a line
+pub record GivesByLcp (w : World) (l : Line) (g : Passage) : Type 0 where
+  -- the node in the world, and as the line has it: its clock may have gone on
+  pub before : Node
+  pub there : at w.nodes g.node ≡ Some before
+  pub node : Node
+  pub same : node ≡ record before { clock = node.clock }
+  -- what the line brings it, and the tunnel that sent that
+  pub event : Event
+  pub sender : Option Sender
+  pub steps : line w g.line l ≡ stepped w g.line g.node event sender (Ok node)
+  pub in_step : GivesInStep node.end node.clock (block_of g.node g.line) (uncovered_event node.end.config.secret event) g
+
+-- a frame that counts as sent is one that its line gave to its end in its call; or at a LAC one that the host of that call sent in an
+-- Ethernet frame which its line brings; or at an LNS an LCP packet that the LCP end of that call gave on what its line brings, which no
+-- line spells. The world is as it was before the line
 pub data IsGiven (lines : List Line) (g : Passage) : Type 0 where
   ByItsLine : slice_get lines (g.line - 1) ≡ Some (gives_frame g.role g.node g.session g.frame) → IsGiven lines g
   ByItsHost : (before after : List Line) (bytes : List ℕ) → lines ≡ before ++ Frame g.node bytes ∷ after → g.line ≡ length before + 1 → g.role ≡ Lac
       → GivesByFrame (run before).world g bytes → IsGiven lines g
+  ByItsLcp : (before after : List Line) (l : Line) → lines ≡ before ++ l ∷ after → g.line ≡ length before + 1 → g.role ≡ Lns
+      → GivesByLcp (run before).world l g → IsGiven lines g
 
 -- in the run of each list of lines of the grammar, whether each of them fits or one ends the run
 abbrev pub FramesOfRuns : Type 0

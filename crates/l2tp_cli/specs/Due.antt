@@ -44,6 +44,10 @@ help_text =
     codes "hidden by it. A schedule has at most 1048576 lines and 67108864 bytes.\n" ++
     codes "M of a lac line may be declared later, or never: then what is sent to it can't be delivered.\n" ++
     codes "\n" ++
+    codes "An LNS ends LCP (RFC 1661) in each call: as the call is connected it asks for an MRU and a magic number. LCP's packets are\n" ++
+    codes "frames with protocol c021. Until LCP was open once in a call, other frames of it are dropped; an LCP end that is finished\n" ++
+    codes "ends its call.\n" ++
+    codes "\n" ++
     codes "A line that doesn't fit ends the run, which says why:\n" ++
     codes "  node     that node isn't declared, or is of the other kind\n" ++
     codes "  twice    that node was declared before\n" ++
@@ -57,7 +61,7 @@ help_text =
     codes "A report has lines for what is done in line L of the schedule, and ends with what each node holds:\n" ++
     codes "  L send P N M HEX                    packet P goes from node N to node M\n" ++
     codes "  L up N S B SIDE HEX                 node N hands up a frame in its call S, the B-th of all calls, to the\n" ++
-    codes "                                      subscriber (sub) or to the network (net)\n" ++
+    codes "                                      subscriber (sub), to the network (net), or to the call's LCP end (lcp)\n" ++
     codes "  L gone N S                          call S of node N ended\n" ++
     codes "  L frame N HEX                       node N sends an Ethernet frame to a PPPoE host\n" ++
     codes "  L drop N WHY                        node N ignores what came\n" ++

@@ -22,7 +22,7 @@ pub record FramesOf (lines : List Line) : Type 0 where
   pub told : ups_in (run lines).entries ≡ told_of (run lines).done
   -- each of them was sent at an earlier line, in a call of the same birth, by its other end
   pub sent : AreSent (past_of lines)
-  -- what was sent is what its line gave to the end, for the call
+  -- what was sent is what its line gave to the end, for the call, or what the call's LCP end gave in the line
   pub given : AllByRecursion (IsGiven lines) (past_of lines).sent
   -- and it is in packets of the world, from its node to the call's other node
   pub carried : AllByRecursion (IsCarried (run lines).world.packets) (past_of lines).sent
@@ -76,6 +76,19 @@ AnswersOfTexts = (text : List ℕ) (lines : List Line) → limit_passed text ≡
 -- ends that agree hold the same established sessions
 abbrev pub SessionsOfTexts : Type 0
 SessionsOfTexts = (text : List ℕ) (lines : List Line) → limit_passed text ≡ None → lines_of text ≡ Ok lines → SessionsAgree (run lines)
+
+-- What a run comes to. The frames: each that is handed up was sent at an earlier line, in a call of the same birth, by its other end. The
+-- sessions: partners that are established, with nothing outstanding, hold the same ones, with the same births. The answers: each call
+-- request is answered by the tables, and each cause that is told stands.
+pub record HeadlineOf (lines : List Line) : Type 0 where
+  pub frames : FramesOf lines
+  pub births : BirthsOf lines
+  pub sessions : SessionsAgree (run lines)
+  pub answers : AnswerThroughout lines
+  pub causes : TellTrulyThroughout lines
+
+abbrev pub HeadlineOfTexts : Type 0
+HeadlineOfTexts = (text : List ℕ) (lines : List Line) → limit_passed text ≡ None → lines_of text ≡ Ok lines → HeadlineOf lines
 
 -- the frames of the run of each list of lines of the grammar
 abbrev pub FramesOfLines : Type 0

@@ -37,6 +37,10 @@ digits, or - where there is none. MODE is plain, or hide where there is a secret
 hidden by it. A schedule has at most 1048576 lines and 67108864 bytes.
 M of a lac line may be declared later, or never: then what is sent to it can't be delivered.
 
+An LNS ends LCP (RFC 1661) in each call: as the call is connected it asks for an MRU and a magic number. LCP's packets are
+frames with protocol c021. Until LCP was open once in a call, other frames of it are dropped; an LCP end that is finished
+ends its call.
+
 A line that doesn't fit ends the run, which says why:
   node     that node isn't declared, or is of the other kind
   twice    that node was declared before
@@ -50,7 +54,7 @@ ends the run with status 4: its number is more than 32767 below what the address
 A report has lines for what is done in line L of the schedule, and ends with what each node holds:
   L send P N M HEX                    packet P goes from node N to node M
   L up N S B SIDE HEX                 node N hands up a frame in its call S, the B-th of all calls, to the
-                                      subscriber (sub) or to the network (net)
+                                      subscriber (sub), to the network (net), or to the call's LCP end (lcp)
   L gone N S                          call S of node N ended
   L frame N HEX                       node N sends an Ethernet frame to a PPPoE host
   L drop N WHY                        node N ignores what came

@@ -6,7 +6,7 @@ ghost use Rattle.l2tp_cli.specs.Words.{asked_of};
 ghost use Rattle.l2tp_cli.specs.Ends.{Ends, Tells};
 ghost use Rattle.cause_laws.specs.Answers.{AnswersOfRuns};
 ghost use Rattle.cause_laws.specs.Causes.{CausesOfRuns};
-ghost use Rattle.l2tp_cli.specs.Runs.{AnswersOfTexts, BirthsOfLines, BirthsOfTexts, CausesOfTexts, ChannelsOfLines, ChannelsOfTexts, FramesOfLines, FramesOfTexts, SessionsOfTexts};
+ghost use Rattle.l2tp_cli.specs.Runs.{AnswersOfTexts, BirthsOfLines, BirthsOfTexts, CausesOfTexts, ChannelsOfLines, ChannelsOfTexts, FramesOfLines, FramesOfTexts, HeadlineOfTexts, SessionsOfTexts};
 ghost use Rattle.session_laws.specs.Sessions.{SessionsOfRuns};
 
 use crate::answer::answer_to;
@@ -89,7 +89,7 @@ fn command<S: Source, K: Sink>(
 ///
 /// In the run of every schedule, this one or another, each frame that an end hands up in a call was sent at an earlier
 /// line, in a call of the same birth, by an end of the other kind, at the node that the call's tunnel goes to, and was given
-/// to that end for the call by that line; and a birth is that of one call, at one LAC and one LNS. Each control message is a
+/// to that end for the call by that line, or by the LCP end of the call; and a birth is that of one call, at one LAC and one LNS. Each control message is a
 /// copy of the letter with its number in the list of its sender, or a StopCCN of no tunnel that declines an opening; what a tunnel
 /// took as long as it wasn't closed are the first letters of the list of its partner, in order and each once; what counts as
 /// acknowledged was taken, or ignored by a tunnel that had been closed, or declined; the 16 bits of a number have one reading; and
@@ -116,6 +116,7 @@ pub fn replay_top<S: Source, K: Sink>(
       taken_before = K.taken sink.old;
       taken_after = K.taken sink.new;
     }) }
+    ensures headline { HeadlineOfTexts }
     ensures frames { FramesOfTexts }
     ensures births { BirthsOfTexts }
     ensures channels { ChannelsOfTexts }

@@ -58,7 +58,7 @@ fn plain_step(end: &mut End, moment: u64, block: [u8; 16], event: &Event) -> Res
         }
         Event::CloseTunnel { tunnel } => end.run_main(moment, block, event, u32::from(*tunnel)),
         Event::Tick => end.tick_all(moment, block),
-        Event::Lower { .. } | Event::Frame { .. } => end.drop_with(Why::Node),
+        Event::Lower { .. } | Event::Lcp { .. } | Event::Frame { .. } => end.drop_with(Why::Node),
     }
 }
 

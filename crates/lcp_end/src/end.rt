@@ -68,6 +68,13 @@ impl LcpEnd {
         self.kept.state.number() == 9
     }
 
+    /// Whether an answer was waited for long enough, so that a tick does something.
+    pub fn is_due(&self, now: u64) -> bool
+        ensures { result ≡ is_due now self.now }
+    {
+        is_due(&self.kept, now)
+    }
+
     // What a step gave is given on, and the end is as after it.
     fn finish(&mut self, mut turn: Turn, out: &mut LcpOut) -> Result<(), NoMemory>
         ensures ok { OnOk result (self.new ≡ turn.kept) }

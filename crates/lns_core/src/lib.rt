@@ -1,4 +1,5 @@
-//! An LNS: an end to which LACs open tunnels, and down whose calls a network sends frames (RFC 2661 sections 5 and 6).
+//! An LNS: an end to which LACs open tunnels, which ends LCP in their calls, and down whose calls a network sends frames (RFC
+//! 2661 sections 5 and 6, RFC 1661).
 #![tactic(auto)]
 
 ghost use Rattle.std.specs.Prelude.{◌≡◌, IfOk};
@@ -81,7 +82,9 @@ impl Lns {
                 self.end
                     .receive(moment, block, event, *peer, bytes.as_slice())
             }
-            Event::Lower { session, .. } | Event::DropCall { session } => {
+            Event::Lower { session, .. }
+            | Event::Lcp { session, .. }
+            | Event::DropCall { session } => {
                 self.end.run_for_call(moment, block, event, *session)
             }
             Event::CloseTunnel { tunnel } => {

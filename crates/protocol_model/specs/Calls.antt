@@ -1,5 +1,5 @@
 -- Calls, and what the data plane sees of them.
-use Rattle.std.specs.Prelude.{ℕ, ◌+◌, List, [], ◌∷◌, ◌++◌, replicate, Bool, true, false, ◌==◌, not, nat_le, nat_lt, bytes_eq, length, take, drop, ◌&&◌, if◌then◌else◌}
+use Rattle.std.specs.Prelude.{ℕ, ◌+◌, List, [], ◌∷◌, ◌++◌, replicate, Bool, true, false, ◌==◌, not, nat_le, nat_lt, bytes_eq, length, take, drop, ◌&&◌, ◌||◌, if◌then◌else◌, None}
 use Rattle.wire_base.specs.declared.why.Why.{Why}
 use Rattle.wire_base.specs.declared.why.Why.TheVariants as why
 use Rattle.wire_base.specs.declared.letter.Side.{Side}
@@ -40,7 +40,7 @@ advanced role e moment c = gone_to (call_row role c.state e).0 e moment c
 
 -- a call that nothing came to yet
 abbrev pub idle_call : ℕ → List ℕ → Call
-idle_call remote who = record { remote = remote; state = Idle; since = 0; subscriber = who; steps = [] }
+idle_call remote who = record { remote = remote; state = Idle; since = 0; subscriber = who; steps = []; link = None }
 
 -- a call that a subscriber rings for, and one that the peer asks for
 unfoldable pub rung : Role → List ℕ → ℕ → Call
@@ -95,6 +95,15 @@ owed_by (c ∷ cs) = owes c.1.state + owed_by cs
 abbrev pub are_too_many : List (ℕ × Call) → Bool
 are_too_many calls = nat_le 4096 (length calls)
 
+-- ---- frames
+
+-- a PPP frame has 2 to 1,494 bytes, with its protocol field
+abbrev pub is_short : List ℕ → Bool
+is_short frame = nat_lt (length frame) 2
+
+abbrev pub is_long : List ℕ → Bool
+is_long frame = nat_lt 1494 (length frame)
+
 -- ---- frames that come
 
 -- a frame that is handed up, and where, or why it is dropped
@@ -106,17 +115,30 @@ pub data Carried : Type 0 where
 abbrev pub frame_of : List ℕ → List ℕ
 frame_of body = if bytes_eq (take 2 body) (255 ∷ 3 ∷ []) then drop 2 body else body
 
-abbrev pub side_of : Role → Side
-side_of Lac = side.Sub
-side_of Lns = side.Net
+-- a PPP frame of LCP has the protocol c021 (RFC 1661 section 2)
+abbrev pub is_lcp : List ℕ → Bool
+is_lcp frame = bytes_eq (take 2 frame) (192 ∷ 33 ∷ [])
 
--- a frame of a call that the other end knows, in this tunnel to this peer
+-- an LNS ends LCP itself; the other frames go to the network
+abbrev pub lns_side : Bool → Side
+lns_side lcp = if lcp then side.Lcp else side.Net
+
+abbrev pub side_of : Role → List ℕ → Side
+side_of Lac frame = side.Sub
+side_of Lns frame = lns_side (is_lcp frame)
+
+-- a frame for the LCP end of an LNS's call passes as soon as the call has one
+abbrev pub is_for_lcp : Role → List ℕ → Bool
+is_for_lcp Lac frame = false
+is_for_lcp Lns frame = is_lcp frame
+
+-- a frame of a call that the other end knows, in this tunnel to this peer; whether frames of the network pass
 unfoldable pub carry_known : Role → Bool → ℕ → ℕ → ℕ → ℕ → List ℕ → Carried
 carry_known role up tunnel of peer from frame =
     if not (tunnel == of) then Dropped why.Tunnel
     else if not (peer == from) then Dropped why.Peer
     else if nat_lt (length frame) 2 then Dropped why.Short
-    else if up then Upward tunnel peer (side_of role) frame
+    else if up || is_for_lcp role frame then Upward tunnel peer (side_of role frame) frame
     else Dropped why.Closed
 
 -- what becomes of a data message from an address, by what is seen of the session that its header names

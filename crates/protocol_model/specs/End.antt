@@ -6,6 +6,8 @@ use Rattle.id_source.specs.Spaces.{Space, draws}
 use Rattle.id_source.specs.declared.IdError.{IdError}
 use Rattle.wire_base.specs.declared.letter.Letter.{Letter}
 use Rattle.wire_base.specs.declared.why.Why.TheVariants as why
+use Rattle.wire_base.specs.declared.letter.Side.{Side}
+use Rattle.wire_base.specs.declared.letter.Side.TheVariants as side
 use Rattle.wire_base.specs.declared.cause.Cause.TheVariants as cause
 use Rattle.l2tp_header.specs.declared.header.Header.{Header}
 use Rattle.l2tp_header.specs.declared.header.HeaderError.{HeaderError}
@@ -24,7 +26,7 @@ use Rattle.protocol_model.specs.declared.tunnel.Control.{Control}
 use Rattle.protocol_model.specs.declared.tunnel.Role.{Role}
 use Rattle.protocol_model.specs.declared.tunnel.Role.TheVariants.{Lac, Lns}
 use Rattle.protocol_model.specs.declared.event.Event.{Event}
-use Rattle.protocol_model.specs.declared.event.Event.TheVariants.{Datagram, Ring, Frame, Admitted, Payload, Lower, Hang, OpenTunnel, DropCall, CloseTunnel, Tick}
+use Rattle.protocol_model.specs.declared.event.Event.TheVariants.{Datagram, Ring, Frame, Admitted, Payload, Lower, Lcp, Hang, OpenTunnel, DropCall, CloseTunnel, Tick}
 use Rattle.protocol_model.specs.declared.out.Out.{Out}
 use Rattle.protocol_model.specs.declared.out.Out.TheVariants.{Send, Up, Drop, Cause}
 use Rattle.protocol_model.specs.declared.moves.Move.{Move}
@@ -335,16 +337,24 @@ abbrev pub look_in : Option CallPlace → Look
 look_in None = look.Unborn
 look_in (Some p) = p.look
 
-unfoldable pub handed : End → ℕ → Carried → Stepped
-handed e session (Upward tunnel peer side frame) = record {
-  end = e;
-  outputs = Up session side frame ∷ [];
-  moves = move.FrameUp (record { tunnel = tunnel; peer = peer; session = session; side = side; frame = frame }) ∷ [];
-}
-handed e session (Dropped w) = gives_only e (Drop w)
+-- what follows on a frame of a call in a tunnel that is handed up: one of LCP is heard by the LCP end of its call, in the same step
+unfoldable pub then_heard : End → Env → ℕ → ℕ → List ℕ → Side → Stepped
+then_heard e env tunnel session frame side.Sub = record { end = e; outputs = []; moves = [] }
+then_heard e env tunnel session frame side.Net = record { end = e; outputs = []; moves = [] }
+then_heard e env tunnel session frame side.Lcp = in_main e env (Lcp session frame) tunnel (at e.tunnels tunnel)
 
-unfoldable pub hands_up : End → ℕ → Header → List ℕ → Stepped
-hands_up e peer h body = handed e h.session (carry_look e.role (look_in (at e.calls h.session)) peer h (frame_of body))
+abbrev pub behind : Out → Move → Stepped → Stepped
+behind o m s = record s { outputs = o ∷ s.outputs; moves = m ∷ s.moves }
+
+unfoldable pub handed : End → Env → ℕ → Carried → Stepped
+handed e env session (Upward tunnel peer side frame) =
+    behind (Up session side frame)
+    (move.FrameUp (record { tunnel = tunnel; peer = peer; session = session; side = side; frame = frame }))
+    (then_heard e env tunnel session frame side)
+handed e env session (Dropped w) = gives_only e (Drop w)
+
+unfoldable pub hands_up : End → Env → ℕ → Header → List ℕ → Stepped
+hands_up e env peer h body = handed e env h.session (carry_look e.role (look_in (at e.calls h.session)) peer h (frame_of body))
 
 -- ---- the step
 
@@ -352,7 +362,7 @@ unfoldable pub receives : End → Env → ℕ → List ℕ → Result Header Hea
 receives e env peer bytes (Err x) = gives_only e (Drop (header_why x))
 receives e env peer bytes (Ok h) =
     if h.control then for_addressee e env (Datagram peer bytes) peer h (body_of h bytes) (addressed e peer h (body_of h bytes))
-    else hands_up e peer h (body_of h bytes)
+    else hands_up e env peer h (body_of h bytes)
 
 -- an event of the other kind of end is ignored
 unfoldable pub only_by : Role → End → Stepped → Stepped
@@ -366,6 +376,7 @@ step_in e env (Admitted mac) = only_by Lac e (rings_at e env (Admitted mac))
 step_in e env (Frame bytes) = gives_only e (Drop why.Node)
 step_in e env (Payload session frame) = only_by Lac e (for_call e env (Payload session frame) (at e.calls session))
 step_in e env (Lower session frame) = only_by Lns e (for_call e env (Lower session frame) (at e.calls session))
+step_in e env (Lcp session packet) = only_by Lns e (for_call e env (Lcp session packet) (at e.calls session))
 step_in e env (Hang session) = only_by Lac e (for_call e env (Hang session) (at e.calls session))
 step_in e env OpenTunnel = only_by Lac e (in_one_more e env OpenTunnel e.config.lns (Cause cause.Tunnels))
 step_in e env (CloseTunnel i) = in_main e env (CloseTunnel i) i (at e.tunnels i)

@@ -2,11 +2,13 @@ pub mod Names
 pub mod Reading
 pub mod Secrets
 pub mod Calls
+pub mod Links
 pub mod Owing
 pub mod Reasons
 pub mod Messages
 pub mod Moments
 pub mod Channels
+pub mod Tunnels
 pub mod Turn
 pub mod End
 pub mod Access

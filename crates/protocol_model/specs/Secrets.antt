@@ -13,7 +13,7 @@ use Rattle.l2tp_header.specs.Spelling.{control_bytes}
 use Rattle.tunnel_secret.specs.Response.{response_of, is_response}
 use Rattle.control_message.specs.Uncovering.{uncovered}
 use Rattle.protocol_model.specs.declared.event.Event.{Event}
-use Rattle.protocol_model.specs.declared.event.Event.TheVariants.{Datagram, Ring, Frame, Admitted, Payload, Lower, Hang, OpenTunnel, DropCall, CloseTunnel, Tick}
+use Rattle.protocol_model.specs.declared.event.Event.TheVariants.{Datagram, Ring, Frame, Admitted, Payload, Lower, Lcp, Hang, OpenTunnel, DropCall, CloseTunnel, Tick}
 use Rattle.protocol_model.specs.Reading.{body_of}
 
 -- ---- challenges and responses
@@ -77,6 +77,7 @@ uncovered_event secret (Frame bytes) = Frame bytes
 uncovered_event secret (Admitted mac) = Admitted mac
 uncovered_event secret (Payload session frame) = Payload session frame
 uncovered_event secret (Lower session frame) = Lower session frame
+uncovered_event secret (Lcp session packet) = Lcp session packet
 uncovered_event secret (Hang session) = Hang session
 uncovered_event secret OpenTunnel = OpenTunnel
 uncovered_event secret (DropCall session) = DropCall session

@@ -12,6 +12,7 @@ use Rattle.l2tp_header.specs.declared.header.Header.{Header}
 use Rattle.l2tp_header.specs.declared.header.HeaderError.{HeaderError}
 use Rattle.l2tp_header.specs.Reading.{header_of}
 use Rattle.l2tp_header.specs.Spelling.{data_bytes}
+use Rattle.lcp_end.specs.Steps.{Turn as LcpTurn, is_due, opened as link_opened, ticked, after_packet}
 use Rattle.control_message.specs.declared.message.Message.{Message}
 use Rattle.control_message.specs.declared.message.Message.TheVariants.{Sccrq, Sccrp, Scccn, StopCcn, Hello, Ocrq, Ocrp, Occn, Icrq, Icrp, Iccn, Cdn, Wen, Sli}
 use Rattle.control_message.specs.declared.kind.Kind.{Kind}
@@ -37,16 +38,18 @@ use Rattle.protocol_model.specs.declared.tunnel.Call.{Call}
 use Rattle.protocol_model.specs.declared.tunnel.CellChange.{CellChange}
 use Rattle.protocol_model.specs.declared.tunnel.CellChange.TheVariants as cell
 use Rattle.protocol_model.specs.declared.tunnel.Config.{Config}
+use Rattle.protocol_model.specs.declared.tunnel.Link.{Link}
 use Rattle.protocol_model.specs.declared.tunnel.Control.{Control}
 use Rattle.protocol_model.specs.declared.tunnel.Role.{Role}
 use Rattle.protocol_model.specs.declared.event.Event.{Event}
-use Rattle.protocol_model.specs.declared.event.Event.TheVariants.{Datagram, Ring, Frame, Admitted, Payload, Lower, Hang, OpenTunnel, DropCall, CloseTunnel}
+use Rattle.protocol_model.specs.declared.event.Event.TheVariants.{Datagram, Ring, Frame, Admitted, Payload, Lower, Lcp, Hang, OpenTunnel, DropCall, CloseTunnel}
 use Rattle.protocol_model.specs.declared.event.Event.TheVariants as event_of
 use Rattle.protocol_model.specs.declared.out.Out.{Out}
 use Rattle.protocol_model.specs.declared.out.Out.TheVariants.{Send, Gone, Drop, Cause}
 use Rattle.protocol_model.specs.declared.out.Origin.TheVariants as origin
 use Rattle.protocol_model.specs.declared.moves.Move.{Move}
 use Rattle.protocol_model.specs.declared.moves.Move.TheVariants as move
+pub use Rattle.protocol_model.specs.Tunnels.{Tunnel, Env, Turn, turn_of}
 pub use Rattle.protocol_model.specs.Channels.{place, next_place, taken_place, has_room, may_take, letter_of, letter_as, counts_given, counts_taken, learns_window, counts_acked, datagram, origin_of, sends, counts_sent, counts_repeated}
 pub use Rattle.protocol_model.specs.Messages.{opening_of, request_of, hidden_request, connection, against, is_acceptable, event_by, opening_reason, connected_event, connected_reason}
 pub use Rattle.protocol_model.specs.Secrets.{challenge_by, response_by}
@@ -54,71 +57,8 @@ pub use Rattle.protocol_model.specs.Moments.{is_over, patience, is_closed, kept_
 pub use Rattle.protocol_model.specs.Reasons.{Reason, reason, out_of_state, out_of_order, other_version, no_recovery, no_secret, fault_error, fault_reason}
 use Rattle.protocol_model.specs.Names.{subscriber}
 use Rattle.protocol_model.specs.Reading.{header_why, body_of, message_in, CallFault, call_fault_in, TunnelFault, tunnel_fault_in}
-pub use Rattle.protocol_model.specs.Calls.{call_row, advanced, rung, asked_for, is_request, is_reply, is_connection, is_up, is_set_up, owed_by, are_too_many, is_clean_up}
-
-pub record Tunnel : Type 0 where
-  pub control : Control
-  -- the letters that it gave to its channel, from the first that isn't acknowledged on
-  pub letters : List Letter
-  -- its calls, by session id
-  pub calls : List (ℕ × Call)
-
--- what a step works in
-pub record Env : Type 0 where
-  -- the moment of the step, in milliseconds, and its 16 random bytes
-  pub moment : ℕ
-  pub block : List ℕ
-  -- where tunnel ids, session ids and the numbers of recoveries are drawn from
-  pub tunnels : Space
-  pub sessions : Space
-  pub recoveries : Space
-  -- what is to be committed before any output is given
-  pub contents : List (List ℕ)
-  pub outputs : List Out
-  -- what changes in the looks
-  pub changes : List CellChange
-  pub moves : List Move
-
--- a tunnel in a step, with what the step gave so far
-pub record Turn : Type 0 where
-  -- the moment of the step, in milliseconds, and its 16 random bytes
-  pub moment : ℕ
-  pub block : List ℕ
-  pub control : Control
-  -- the letters that the step gave to the channel, in order
-  pub given : List Letter
-  -- how many of the tunnel's letters the step's Nr acknowledged
-  pub acked : ℕ
-  -- whether the step took a letter of the peer, and whether it removed the tunnel
-  pub took : Bool
-  pub cleared : Bool
-  -- the calls that the step made, changed or ended, with their sessions, in order; one that it ended isn't there any more
-  pub changed : List (ℕ × Option Call)
-  -- the sessions of the calls that it made
-  pub added : List ℕ
-  pub tunnels : Space
-  pub sessions : Space
-  pub outputs : List Out
-  pub changes : List CellChange
-  pub moves : List Move
-
-abbrev pub turn_of : Control → Env → Turn
-turn_of c e = record {
-  moment = e.moment;
-  block = e.block;
-  control = c;
-  given = [];
-  acked = 0;
-  took = false;
-  cleared = false;
-  changed = [];
-  added = [];
-  tunnels = e.tunnels;
-  sessions = e.sessions;
-  outputs = [];
-  changes = [];
-  moves = [];
-}
+pub use Rattle.protocol_model.specs.Calls.{call_row, advanced, rung, asked_for, is_request, is_reply, is_connection, is_up, is_set_up, owed_by, are_too_many, is_clean_up, is_short, is_long}
+pub use Rattle.protocol_model.specs.Links.{lcp_frame, new_link, with_link, link_after, is_first_open, looks_of, is_passing}
 
 -- what a turn gave, behind what was there
 unfoldable pub with_turn : Turn → Env → Env
@@ -138,6 +78,9 @@ with_move m t = record t { moves = t.moves ++ m ∷ [] }
 
 unfoldable pub with_change : CellChange → Turn → Turn
 with_change c t = record t { changes = t.changes ++ c ∷ [] }
+
+unfoldable pub with_looks_of : List CellChange → Turn → Turn
+with_looks_of cs t = record t { changes = t.changes ++ cs }
 
 unfoldable pub with_call : ℕ → Call → Turn → Turn
 with_call s c t = record t { changed = t.changed ++ (s, Some c) ∷ [] }
@@ -463,6 +406,49 @@ closes role for e result s None t = drops why.Call t
 closes role for e result s (Some c) t =
     if nat_lt s 65536 then ends_by for result None s c (call_row role c.state e).1 t else t
 
+-- ---- frames of calls, and LCP (RFC 1661)
+
+-- the frame goes to the tunnel's peer
+unfoldable pub carried : ℕ → List ℕ → Call → Turn → Turn
+carried s frame c t =
+    with_output (Send t.control.peer (data_bytes t.control.remote c.remote None frame) (origin.Data s))
+    (with_move (move.FrameSent (record { tunnel = t.control.local; peer = t.control.peer; session = s; remote = c.remote; frame = frame })) t)
+
+-- so do these LCP packets of the call, in order
+unfoldable pub sends_packets : ℕ → List (List ℕ) → Call → Turn → Turn
+sends_packets s [] c t = t
+sends_packets s (p ∷ ps) c t = sends_packets s ps c (carried s (lcp_frame p) c t)
+
+-- what the LCP end of a call gave in a step that doesn't finish it: its packets are sent, and the call keeps it
+unfoldable pub negotiated : ℕ → Call → Link → LcpTurn → Turn → Turn
+negotiated s c l v t =
+    with_looks_of (looks_of (is_first_open l v.out) s)
+    (with_move (move.Negotiated (record { tunnel = t.control.local; session = s }))
+    (with_call s (with_link (link_after l v) c)
+    (sends_packets s v.out.packets c t)))
+
+-- where it is finished the call ends; no entry of LCP's table finishes a link and sends a packet
+unfoldable pub links : Role → List Letter → ℕ → Call → Link → LcpTurn → Turn → Turn
+links role letters s c l v t =
+    if v.out.finished then settles false letters (ends_by cause.Lcp 3 None s c (call_row role c.state call_event.Close).1 t)
+    else negotiated s c l v t
+
+-- an LCP packet, in a frame from its protocol field on, came up a call
+unfoldable pub hears_link : Role → List Letter → ℕ → List ℕ → Call → Option Link → Turn → Turn
+hears_link role letters s frame c None t = drops why.Closed t
+hears_link role letters s frame c (Some l) t = links role letters s c l (after_packet (drop 2 frame) t.block t.moment l.lcp) t
+
+unfoldable pub hears_lcp : Role → List Letter → ℕ → List ℕ → Option Call → Turn → Turn
+hears_lcp role letters s frame None t = drops why.Call t
+hears_lcp role letters s frame (Some c) t =
+    if nat_lt s 65536 && is_up c.state then hears_link role letters s frame c c.link t else drops why.Closed t
+
+-- the timer of LCP; session ids have 16 bits
+unfoldable pub ticks_link : Role → List Letter → ℕ → Call → Option Link → Turn → Turn
+ticks_link role letters s c None t = t
+ticks_link role letters s c (Some l) t =
+    if nat_lt s 65536 && is_up c.state && is_due t.moment l.lcp then links role letters s c l (ticked t.moment l.lcp) t else t
+
 -- ---- letters about a call
 
 -- the call does what its table says on a letter, which is taken
@@ -543,19 +529,26 @@ first_up_by role s remote (Some c) t =
     then (if has_room t.control then first_up role s remote c t else drops why.Queue t)
     else answers_by out_of_state s c (call_row role c.state call_event.IcrpAcc).1 t
 
--- the call is connected: as long as no LCP end opens its network, it is known to the peer and established at once
-unfoldable pub second_up : Role → ℕ → Call → Turn → Turn
-second_up role s c t =
-    with_change (cell.Establish s)
-    (with_change (cell.Bind s t.control.local t.control.peer)
+-- the call is connected, and has its link
+unfoldable pub second_up : ℕ → Call → Turn → Turn
+second_up s c t =
+    with_change (cell.Bind s t.control.local t.control.peer)
     (with_move (move.SecondUp (record { tunnel = t.control.local; session = s; taken = taken_place t.control }))
-    (with_call s (advanced role call_event.IccnAcc t.moment c)
-    (takes_one t))))
+    (with_call s c
+    (takes_one t)))
+
+-- whose LCP is opened
+unfoldable pub connects_call : ℕ → Call → Link → Turn → Turn
+connects_call s c l t = negotiated s c l (link_opened t.moment l.lcp) (second_up s c t)
+
+unfoldable pub linked_up : Role → ℕ → Call → Turn → Turn
+linked_up role s c t =
+    connects_call s (with_link (new_link t.block) (advanced role call_event.IccnAcc t.moment c)) (new_link t.block) t
 
 unfoldable pub second_up_by : Role → ℕ → Option Call → Turn → Turn
 second_up_by role s None t = of_no_call out_of_state 0 (call_row role call.Idle call_event.IccnAcc).1 t
 second_up_by role s (Some c) t =
-    if is_up (call_row role c.state call_event.IccnAcc).0 then second_up role s c t
+    if is_up (call_row role c.state call_event.IccnAcc).0 then linked_up role s c t
     else answers_by out_of_state s c (call_row role c.state call_event.IccnAcc).1 t
 
 -- the peer says that the call ended
@@ -680,23 +673,10 @@ hears_control role c letters calls h body t =
 
 -- ---- frames that are given
 
--- a PPP frame has 2 to 1,494 bytes, with its protocol field
-abbrev pub is_short : List ℕ → Bool
-is_short frame = nat_lt (length frame) 2
-
-abbrev pub is_long : List ℕ → Bool
-is_long frame = nat_lt 1494 (length frame)
-
--- the frame goes to the tunnel's peer
-unfoldable pub carried : ℕ → List ℕ → Call → Turn → Turn
-carried s frame c t =
-    with_output (Send t.control.peer (data_bytes t.control.remote c.remote None frame) (origin.Data s))
-    (with_move (move.FrameSent (record { tunnel = t.control.local; peer = t.control.peer; session = s; frame = frame })) t)
-
 unfoldable pub carries : ℕ → List ℕ → Option Call → Turn → Turn
 carries s frame None t = drops why.Call t
 carries s frame (Some c) t =
-    if is_up c.state
+    if is_up c.state && is_passing c.link
     then (if is_short frame then drops why.Short t else if is_long frame then drops why.Long t else carried s frame c t)
     else drops why.Closed t
 
@@ -717,12 +697,13 @@ greets letters t =
     if state_number t.control.state == 3 && t.control.channel.window.queued == 0 && is_over patience t.moment t.control.heard
     then greeted letters t else t
 
--- a call that took too long to be set up ends
+-- a call that took too long to be set up ends; the LCP end of another has its timer
 unfoldable pub limits_at : Role → List Letter → ℕ → Option Call → Turn → Turn
 limits_at role letters s None t = t
 limits_at role letters s (Some c) t =
     if nat_lt s 65536 && is_set_up c.state && is_over patience t.moment c.since
-    then settles false letters (ends_by cause.Setup 10 None s c (call_row role c.state call_event.Close).1 t) else t
+    then settles false letters (ends_by cause.Setup 10 None s c (call_row role c.state call_event.Close).1 t)
+    else ticks_link role letters s c c.link t
 
 unfoldable pub limits_all : Role → List Letter → List ℕ → List (ℕ × Call) → Turn → Turn
 limits_all role letters [] calls t = t
@@ -758,6 +739,7 @@ turns role c letters calls (Admitted mac) t = settles false letters (rings role 
 turns role c letters calls (Frame bytes) t = drops why.Node t
 turns role c letters calls (Payload s frame) t = carries s frame (at calls s) t
 turns role c letters calls (Lower s frame) t = carries s frame (at calls s) t
+turns role c letters calls (Lcp s packet) t = hears_lcp role letters s packet (at calls s) t
 turns role c letters calls (Hang s) t = settles false letters (closes role cause.Line call_event.LineDrop 1 s (at calls s) t)
 turns role c letters calls OpenTunnel t = settles false letters (opens role c t)
 turns role c letters calls (DropCall s) t = settles false letters (closes role cause.Operator call_event.Close 3 s (at calls s) t)

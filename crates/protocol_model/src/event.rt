@@ -17,6 +17,8 @@ pub enum Event {
     Payload { session: u16, frame: Bytes },
     /// The network sends a PPP frame down an LNS's call, from its protocol field on.
     Lower { session: u16, frame: Bytes },
+    /// An LCP packet came up an LNS's call, from its PPP protocol field on. A datagram with such a packet makes it too.
+    Lcp { session: u16, packet: Bytes },
     /// The subscriber of a LAC's call leaves.
     Hang { session: u16 },
     /// An administrative open of a tunnel.

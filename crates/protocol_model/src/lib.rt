@@ -17,8 +17,8 @@ mod tunnel;
 pub use event::{Addressee, Event};
 pub use moves::{
     Accepted, Added, Closed, ClosedBy, Confirmed, Connected, Declined, EndHeard, EndSilent,
-    EndTold, FirstUp, FrameSent, FrameUp, Greeted, LetGo, Move, NrRead, Opened, Place, Refused,
-    Rejected, Repeated, Replied, Requested, SecondUp, TookPlain,
+    EndTold, FirstUp, FrameSent, FrameUp, Greeted, LetGo, Move, Negotiated, NrRead, Opened, Place,
+    Refused, Rejected, Repeated, Replied, Requested, SecondUp, TookPlain,
 };
 pub use names::{
     address_of, calling_number, host_name, mac_of, node_of, subscriber, twelve_digits,
@@ -27,5 +27,6 @@ pub use out::{ControlOrigin, Origin, Out};
 pub use packet::Packet;
 pub use refusal::Refusal;
 pub use tunnel::{
-    Call, CallPlace, CallStep, CallSteps, CellChange, CellChanges, Config, Control, Look, Role,
+    Call, CallPlace, CallStep, CallSteps, CellChange, CellChanges, Config, Control, Link, Look,
+    Role,
 };

@@ -215,12 +215,21 @@ pub struct Repeated {
     pub sent: Place,
 }
 
-/// A PPP frame that was given for a call was sent to the peer of its tunnel.
+/// The LCP end of a call made a step: it was opened, a packet came to it, or its timer ran out. What it sent is told before.
+#[derive(Clone, Copy, Debug, PartialEq, Eq)]
+pub struct Negotiated {
+    pub tunnel: u16,
+    pub session: u16,
+}
+
+/// A PPP frame that was given for a call, or that its LCP end gave, was sent to the peer of its tunnel.
 #[derive(Debug, Drop)]
 pub struct FrameSent {
     pub tunnel: u16,
     pub peer: u32,
     pub session: u16,
+    /// The session id that the peer assigned.
+    pub remote: u16,
     pub frame: Bytes,
 }
 
@@ -263,6 +272,7 @@ pub enum Move {
     Repeated(Repeated),
     /// An acknowledgement alone was sent in the tunnel.
     Quiet { tunnel: u16 },
+    Negotiated(Negotiated),
     FrameSent(FrameSent),
     FrameUp(FrameUp),
 }

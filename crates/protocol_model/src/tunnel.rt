@@ -2,6 +2,7 @@
 
 use call_fsm::{CallEvent, CallState};
 use control_channel::ChannelNumbers;
+use lcp_end::LcpEnd;
 use tunnel_fsm::TunnelState;
 use wire_base::{Bytes, Sequence};
 
@@ -63,6 +64,14 @@ pub struct CallStep {
 /// The rows that a call went through, in order.
 pub type CallSteps = Sequence<CallStep>;
 
+/// The PPP link of an LNS's call, which ends there (RFC 1661).
+#[derive(Clone, Copy, Debug)]
+pub struct Link {
+    pub lcp: LcpEnd,
+    /// Whether LCP was opened in the call before: frames of the network pass.
+    pub network: bool,
+}
+
 /// A call of an end (RFC 2661 section 1.2).
 #[derive(Debug, Drop)]
 pub struct Call {
@@ -76,6 +85,8 @@ pub struct Call {
     pub subscriber: [u8; 6],
     /// The rows that it went through since it was idle.
     pub steps: CallSteps,
+    /// Its PPP link, at an LNS from its connection on.
+    pub link: Option<Link>,
 }
 
 /// What the data plane sees of a session id.
@@ -83,9 +94,10 @@ pub struct Call {
 pub enum Look {
     /// No call that the other end knows has it.
     Unborn,
-    /// The other end knows the call, which isn't established yet.
+    /// The other end knows the call, and frames of the network don't pass yet: at a LAC it isn't established, at an LNS LCP was
+    /// never open in it.
     Bound { tunnel: u16, peer: u32 },
-    /// The call is established.
+    /// The call is established, at an LNS by LCP: all frames pass.
     Established { tunnel: u16, peer: u32 },
     /// The call ended.
     Dead,
@@ -100,7 +112,7 @@ pub enum CellChange {
         tunnel: u16,
         peer: u32,
     },
-    /// The call is established.
+    /// Frames of the network pass from now on.
     Establish {
         session: u16,
     },

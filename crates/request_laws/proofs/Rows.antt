@@ -59,7 +59,7 @@ first_row Lac WaitConnect h k = never h
 first_row Lac Established h k = never h
 first_row Lns s h k = not_both Lns (request_row Lns (call_row Lns s IcrpAcc).0 k) refl
 
-up_row : (r : Role) (s : CallState) → is_up s ≡ true → StateAsks r s → ⊥
+pub up_row : (r : Role) (s : CallState) → is_up s ≡ true → StateAsks r s → ⊥
 unfolding call_row
 up_row r Idle h k = never h
 up_row r WaitTunnel h k = never h

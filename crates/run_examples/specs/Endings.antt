@@ -23,7 +23,7 @@ connected =
 
 -- each end tells that the call ends before it hears so, and hears it twice; the call that waits is hung up too
 abbrev pub ending : List Line
-ending = DropCall 4 1 ∷ Hang 9 2 ∷ Deliver 10 ∷ Deliver 11 ∷ Hang 9 1 ∷ Deliver 10 ∷ Deliver 11 ∷ []
+ending = DropCall 4 1 ∷ Hang 9 2 ∷ Deliver 11 ∷ Deliver 12 ∷ Hang 9 1 ∷ Deliver 11 ∷ Deliver 12 ∷ []
 
 abbrev pub lines : List Line
 lines = connected ++ ending
@@ -35,13 +35,13 @@ places w n = option_map (λ node. node.end.calls) (at w.nodes n)
 -- Each call is gone once at each end that had it. The peer of the call that waited never heard of it, and isn't told.
 pub record CallsEndOnce : Type 0 where
   pub entries : entries_since 13 (run lines).entries ≡
-      Causes 13 4 cause.Operator ∷ Ends 13 4 1 None ∷ message 13 10 4 9 2 2 2 4 (Cdn 1 3 None)
-      ∷ Causes 14 9 cause.Line ∷ Ends 14 9 2 None ∷ message 14 11 9 4 1 1 4 2 (Cdn 2 1 None)
-      ∷ Drops 15 9 why.Session ∷ acknowledgement 15 12 9 4 1 5 3
-      ∷ Drops 16 4 why.Session ∷ acknowledgement 16 13 4 9 2 3 5
+      Causes 13 4 cause.Operator ∷ Ends 13 4 1 None ∷ message 13 11 4 9 2 2 2 4 (Cdn 1 3 None)
+      ∷ Causes 14 9 cause.Line ∷ Ends 14 9 2 None ∷ message 14 12 9 4 1 1 4 2 (Cdn 2 1 None)
+      ∷ Drops 15 9 why.Session ∷ acknowledgement 15 13 9 4 1 5 3
+      ∷ Drops 16 4 why.Session ∷ acknowledgement 16 14 4 9 2 3 5
       ∷ Ends 17 9 1 None
-      ∷ acknowledgement 18 14 9 4 1 5 3
-      ∷ acknowledgement 19 15 4 9 2 3 5
+      ∷ acknowledgement 18 15 9 4 1 5 3
+      ∷ acknowledgement 19 16 4 9 2 3 5
       ∷ []
   pub of_lns : places (run lines).world 4 ≡ Some []
   pub of_lac : places (run lines).world 9 ≡ Some []

@@ -1,69 +1,122 @@
 -- Rules of the data plane that carry weight: without one of them a step isn't a chain of its moves. And what comes where no id
 -- is left.
-use Rattle.std.specs.Prelude.{◌≡◌, ℕ, ◌+◌, List, [], ◌∷◌, false, Some, None}
+use Rattle.std.specs.Prelude.{◌≡◌, ℕ, ◌+◌, List, [], ◌∷◌, false, replicate, Some, None}
 use Rattle.wire_base.specs.declared.why.Why.TheVariants as why
 use Rattle.wire_base.specs.declared.cause.Cause.TheVariants as cause
-use Rattle.wire_base.specs.declared.letter.Side.TheVariants.{Net}
+use Rattle.wire_base.specs.declared.letter.Side.TheVariants.{Sub, Net, Lcp}
 use Rattle.id_source.specs.Spaces.{Space}
 use Rattle.l2tp_header.specs.Spelling.{control_bytes, data_bytes}
 use Rattle.avp_codec.specs.Spelling.{spelling}
 use Rattle.control_message.specs.declared.message.Message.TheVariants.{StopCcn}
 use Rattle.control_message.specs.Pairs.{pairs_of}
+use Rattle.lcp_end.specs.Steps.{fresh, opened}
+use Rattle.call_fsm.specs.declared.table.CallState.TheVariants as call_states
 use Rattle.tunnel_fsm.specs.declared.table.TunnelState.TheVariants as states
 use Rattle.protocol_model.specs.declared.event.Event.{Event}
 use Rattle.protocol_model.specs.declared.event.Event.TheVariants.{Datagram, Ring, OpenTunnel}
-use Rattle.protocol_model.specs.declared.out.Out.{Out}
 use Rattle.protocol_model.specs.declared.out.Out.TheVariants.{Send, Up, Drop, Cause}
 use Rattle.protocol_model.specs.declared.out.Origin.TheVariants as origin
 use Rattle.protocol_model.specs.declared.tunnel.Look.{Look}
-use Rattle.protocol_model.specs.declared.tunnel.Look.TheVariants.{Established}
+use Rattle.protocol_model.specs.declared.tunnel.Look.TheVariants.{Bound, Established}
 use Rattle.protocol_model.specs.declared.tunnel.Role.{Role}
 use Rattle.protocol_model.specs.declared.tunnel.Role.TheVariants as role
 use Rattle.protocol_model.specs.Names.{address_of}
 use Rattle.protocol_model.specs.Calls.{Carried, Upward, Dropped, side_of}
-use Rattle.protocol_model.specs.End.{End, Stepped, new_end, handed, step}
+use Rattle.protocol_model.specs.End.{End, Stepped, new_end, env_of, handed, step}
 use Rattle.protocol_model.specs.World.{config_of}
 use Rattle.step_laws.specs.Steps.{IsChain}
 use Rattle.run_examples.specs.Channels.{channel}
-use Rattle.run_examples.specs.Messages.{sccrq}
+use Rattle.run_examples.specs.Crossing.{wished, conceded}
+use Rattle.run_examples.specs.Messages.{settled, answer, sccrq}
 
 -- the LNS, node 4, with one established call: session 3, in tunnel 2 to node 6
 abbrev pub lns : End
 lns = record (new_end role.Lns (config_of 4 0 None false)) { calls = (3, record { tunnel = 2; look = Established 2 (address_of 6) }) ∷ [] }
 
+-- the call as it was just connected, session 8 of node 6, whose tunnel is 5 there: its LCP end asked for its options
+abbrev pub waiting : End
+waiting = record (new_end role.Lns (config_of 4 0 None false)) {
+  tunnels = (
+    2,
+    record {
+      control = record { local = 2; peer = address_of 6; remote = 5; state = states.Established; channel = channel 2 0 0 4; made = 0; heard = 0; closed = 0; challenge = None };
+      letters = [];
+      calls = (
+        3,
+        record {
+          remote = 8;
+          state = call_states.Established;
+          since = 0;
+          subscriber = replicate 6 0;
+          steps = [];
+          link = Some (record { lcp = (opened 0 (fresh 17)).kept; network = false });
+        },
+      ) ∷ [];
+    },
+  ) ∷ [];
+  calls = (3, record { tunnel = 2; look = Bound 2 (address_of 6) }) ∷ [];
+}
+
 abbrev pub frame : List ℕ
 frame = 0 ∷ 33 ∷ 170 ∷ []
 
--- a frame for that call, in a tunnel, from a node
+-- a frame for session 3, in a tunnel, from a node
+abbrev pub brought : ℕ → ℕ → List ℕ → Event
+brought node tunnel f = Datagram (address_of node) (data_bytes tunnel 3 None f)
+
 abbrev pub from_node : ℕ → ℕ → Event
-from_node node tunnel = Datagram (address_of node) (data_bytes tunnel 3 None frame)
+from_node node tunnel = brought node tunnel frame
+
+-- a frame of LCP
+abbrev pub request : List ℕ
+request = wished 6 194
 
 -- handed up for what is seen of the session alone, wherever it comes from
 abbrev pub from_anywhere : Role → Look → Carried
-from_anywhere r (Established tunnel peer) = Upward tunnel peer (side_of r) frame
+from_anywhere r (Established tunnel peer) = Upward tunnel peer (side_of r frame) frame
 from_anywhere r l = Dropped why.Session
 
--- a step that neither looks at the address that the frame came from, nor at the tunnel of its header
+-- a step that hands up
+abbrev pub hands : End → Carried → Stepped
+hands e c = handed e (env_of e 0 []) 3 c
+
+-- one that neither looks at the address that the frame came from, nor at the tunnel of its header
 abbrev pub careless : Stepped
-careless = handed lns 3 (from_anywhere role.Lns (Established 2 (address_of 6)))
+careless = hands lns (from_anywhere role.Lns (Established 2 (address_of 6)))
 
--- a step that looks at the header's tunnel, and takes the sender for the call's peer
+-- one that looks at the header's tunnel, and takes the sender for the call's peer
 abbrev pub trusting : Stepped
-trusting = handed lns 3 (Upward 2 (address_of 9) (side_of role.Lns) frame)
+trusting = hands lns (Upward 2 (address_of 9) (side_of role.Lns frame) frame)
 
--- the outputs of the step that the end makes
-abbrev pub answer : Event → List Out
-answer ev = (step lns 0 [] ev).outputs
+-- one that doesn't wait until LCP is open
+abbrev pub early : Stepped
+early = hands waiting (Upward 2 (address_of 6) Net frame)
+
+-- one that takes a frame of LCP for one of the network, which its LCP end doesn't hear
+abbrev pub deaf : Stepped
+deaf = hands waiting (Upward 2 (address_of 6) Net request)
+
+-- one of a LAC that hands a frame of LCP up before its call is established
+abbrev pub hasty : Stepped
+hasty = hands settled (Upward 1 (address_of 4) Sub request)
 
 pub record FramesAreLookedAt : Type 0 where
   -- a frame of the call's own peer, in its tunnel, is handed up, and no other one
-  pub own : answer (from_node 6 2) ≡ Up 3 Net frame ∷ []
-  pub peer : answer (from_node 9 2) ≡ Drop why.Peer ∷ []
-  pub tunnel : answer (from_node 6 1) ≡ Drop why.Tunnel ∷ []
+  pub own : answer lns (from_node 6 2) ≡ Up 3 Net frame ∷ []
+  pub peer : answer lns (from_node 9 2) ≡ Drop why.Peer ∷ []
+  pub tunnel : answer lns (from_node 6 1) ≡ Drop why.Tunnel ∷ []
+  -- before LCP is open in the LNS's call, a frame of LCP alone is, and its LCP end answers
+  pub closed : answer waiting (from_node 6 2) ≡ Drop why.Closed ∷ []
+  pub lcp : answer waiting (brought 6 2 request) ≡ Up 3 Lcp request ∷ Send (address_of 6) (data_bytes 5 8 None (conceded 6 194)) (origin.Data 3) ∷ []
+  -- a LAC hands up none before its call is established
+  pub of_lac : answer settled (brought 4 1 request) ≡ Drop why.Closed ∷ []
   -- a step that hands such a frame up is no chain of its moves
   pub without_peer : IsChain lns 0 (from_node 9 2) careless → ⊥
   pub without_tunnel : IsChain lns 0 (from_node 6 1) careless → ⊥
   pub with_sender : IsChain lns 0 (from_node 9 2) trusting → ⊥
+  pub without_lcp : IsChain waiting 0 (from_node 6 2) early → ⊥
+  pub without_side : IsChain waiting 0 (brought 6 2 request) deaf → ⊥
+  pub without_call : IsChain settled 0 (brought 4 1 request) hasty → ⊥
 
 -- ---- ids
 

@@ -1,5 +1,6 @@
 -- The tables at the end of a report, where a call isn't up yet, and where a letter wasn't taken.
-use Rattle.std.specs.Prelude.{◌≡◌, ℕ, List, [], ◌∷◌, ◌++◌, codes, None, false, replicate}
+use Rattle.std.specs.Prelude.{◌≡◌, ℕ, List, [], ◌∷◌, ◌++◌, codes, None, Some, false, replicate}
+use Rattle.lcp_end.specs.Steps.{fresh}
 use Rattle.tunnel_fsm.specs.declared.table.TunnelState.TheVariants as states
 use Rattle.call_fsm.specs.declared.table.CallState.TheVariants.{Established, WaitReply}
 use Rattle.protocol_model.specs.declared.tunnel.Role.TheVariants as role
@@ -16,17 +17,17 @@ lac queued = record {
   control = record { local = 1; peer = address_of 4; remote = 7; state = states.Established; channel = channel 2 queued 1 2; made = 0; heard = 0; closed = 0; challenge = None };
   letters = [];
   calls =
-      (1, record { remote = 5; state = Established; since = 0; subscriber = subscriber 70; steps = [] })
-      ∷ (2, record { remote = 0; state = WaitReply; since = 0; subscriber = subscriber 71; steps = [] })
+      (1, record { remote = 5; state = Established; since = 0; subscriber = subscriber 70; steps = []; link = None })
+      ∷ (2, record { remote = 0; state = WaitReply; since = 0; subscriber = subscriber 71; steps = []; link = None })
       ∷ [];
 }
 
--- the LNS, node 4, took three letters
+-- the LNS, node 4, took three letters; LCP isn't open in its call, which is a session nevertheless
 abbrev pub lns : ℕ → Tunnel
 lns queued = record {
   control = record { local = 7; peer = address_of 9; remote = 1; state = states.Established; channel = channel 1 queued 1 3; made = 0; heard = 0; closed = 0; challenge = None };
   letters = [];
-  calls = (5, record { remote = 1; state = Established; since = 0; subscriber = replicate 6 0; steps = [] }) ∷ [];
+  calls = (5, record { remote = 1; state = Established; since = 0; subscriber = replicate 6 0; steps = []; link = Some (record { lcp = fresh 17; network = false }) }) ∷ [];
 }
 
 abbrev pub lac_node : ℕ → Node

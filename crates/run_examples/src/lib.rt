@@ -39,7 +39,8 @@ pub fn letters_owed_are_counted()
 {}
 
 /// A frame is handed up for the call that it was sent in: without a look at the address that it came from, or at the tunnel
-/// that its header names, a step isn't a chain of its moves.
+/// that its header names, a step isn't a chain of its moves. Nor is one that hands up a frame of the network before LCP is open
+/// in its call, or one of LCP to another than the LNS's LCP end.
 pub fn frames_are_looked_at()
     ensures { FramesAreLookedAt }
 {}

@@ -34,7 +34,7 @@ fn is_all(report: &[u8], texts: &[&[u8]]) -> bool {
 }
 
 /// Two tunnels and four calls, of two LACs to one LNS. In line 11, and in line 19, a letter waits: two are outstanding, and so
-/// many the congestion window has. Packets 23, 27, 28 and 29 are frames.
+/// many the congestion window has. Packets 12, 15, 26, 28 and 31 to 36 are LCP's, and 25, 37, 38 and 39 frames of the network.
 const CALLED: &[u8] = b"\
 4 send 1 9 4 c802004c000000000000000080080000000000018008000000020100800a0000000300000003800a000000076c6163398\
 00800000009000180080000000a0008000c0000004c000300007530
@@ -53,35 +53,53 @@ const CALLED: &[u8] = b"\
 3030303030303437
 14 send 10 9 4 c80200280001000100040002800800000000000c800a0000001805f5e100800a0000001300000001
 15 send 11 4 9 c802001c0001000200020004800800000000000b80080000000e0002
-16 send 12 4 9 c802000c0001000000030005
-17 send 13 9 4 c80200280001000200050003800800000000000c800a0000001805f5e100800a0000001300000001
-18 send 14 4 9 c802000c0001000000030006
-19 send 15 6 4 c802001400020000000100018008000000000003
-19 send 16 6 4 c80200380002000000020001800800000000000a80080000000e0001800a0000000f000000018012000000166666666\
+16 send 12 4 9 000200010001ff03c0210101000e010405d4050600000010
+16 send 13 4 9 c802000c0001000000030005
+17 send 14 9 4 c80200280001000200050003800800000000000c800a0000001805f5e100800a0000001300000001
+18 send 15 4 9 000200010002ff03c0210101000e010405d4050600000012
+18 send 16 4 9 c802000c0001000000030006
+19 send 17 6 4 c802001400020000000100018008000000000003
+19 send 18 6 4 c80200380002000000020001800800000000000a80080000000e0001800a0000000f000000018012000000166666666\
 63030303030303530
-20 send 17 4 6 c802000c0001000000010002
-21 send 18 4 6 c802001c0001000100010003800800000000000b80080000000e0003
-22 send 19 6 4 c80200380002000000030002800800000000000a80080000000e0002800a0000000f000000028012000000166666666\
+20 send 19 4 6 c802000c0001000000010002
+21 send 20 4 6 c802001c0001000100010003800800000000000b80080000000e0003
+22 send 21 6 4 c80200380002000000030002800800000000000a80080000000e0002800a0000000f000000028012000000166666666\
 63030303030303531
-22 send 20 6 4 c80200280002000300040002800800000000000c800a0000001805f5e100800a0000001300000001
-23 send 21 4 6 c802001c0001000200020004800800000000000b80080000000e0004
-24 send 22 6 4 c80200280002000400050003800800000000000c800a0000001805f5e100800a0000001300000001
+22 send 22 6 4 c80200280002000300040002800800000000000c800a0000001805f5e100800a0000001300000001
+23 send 23 4 6 c802001c0001000200020004800800000000000b80080000000e0004
+24 send 24 6 4 c80200280002000400050003800800000000000c800a0000001805f5e100800a0000001300000001
 ";
 
 const CARRIED: &[u8] = b"\
-25 send 23 6 4 000200020004ff030021c2
+25 send 25 6 4 000200020004ff030021c2
 26 drop 4 session
 27 drop 4 ahead
-28 send 24 4 6 c802000c0001000000030005
-29 send 25 4 6 c802000c0001000000030006
-30 send 26 4 6 c802000c0001000000030006
-31 up 4 4 2 net 0021c2
-32 send 27 4 6 000200010002ff030021d2
-33 up 6 2 2 sub 0021d2
-34 send 28 4 9 000200010002ff030021d9
-35 up 9 2 4 sub 0021d9
-36 send 29 9 4 000200010002ff030021c9
-37 up 4 2 4 net 0021c9
+28 send 26 4 6 000200010001ff03c0210101000e010405d405060000001c
+28 send 27 4 6 c802000c0001000000030005
+29 send 28 4 6 000200010002ff03c0210101000e010405d405060000001d
+29 send 29 4 6 c802000c0001000000030006
+30 send 30 4 6 c802000c0001000000030006
+31 drop 4 closed
+32 up 9 2 4 sub c0210101000e010405d4050600000012
+33 up 6 2 2 sub c0210101000e010405d405060000001d
+34 send 31 9 4 000200010002ff03c0210201000e010405d4050600000012
+35 send 32 6 4 000200020004ff03c0210201000e010405d405060000001d
+36 up 4 2 4 lcp c0210201000e010405d4050600000012
+37 up 4 4 2 lcp c0210201000e010405d405060000001d
+38 drop 4 closed
+39 send 33 6 4 000200020004ff03c0210106000a0506000000c2
+40 send 34 9 4 000200010002ff03c0210107000a0506000000c9
+41 up 4 4 2 lcp c0210106000a0506000000c2
+41 send 35 4 6 000200010002ff03c0210206000a0506000000c2
+42 up 4 2 4 lcp c0210107000a0506000000c9
+42 send 36 4 9 000200010002ff03c0210207000a0506000000c9
+43 up 4 4 2 net 0021c2
+44 send 37 4 6 000200010002ff030021d2
+45 up 6 2 2 sub 0021d2
+46 send 38 4 9 000200010002ff030021d9
+47 up 9 2 4 sub 0021d9
+48 send 39 9 4 000200010002ff030021c9
+49 up 4 2 4 net 0021c9
 ";
 
 const STANDS: &[u8] = b"\
@@ -137,27 +155,71 @@ fn two_lacs_cross_at_one_lns(rt: HostRuntime) -> Result<(), Fail> {
         Line::Deliver { packet: 9 },
         Line::Deliver { packet: 10 },
         Line::Deliver { packet: 11 },
-        Line::Deliver { packet: 13 },
+        Line::Deliver { packet: 14 },
         Line::Deliver { packet: 7 },
-        Line::Deliver { packet: 15 },
-        Line::Deliver { packet: 16 },
+        Line::Deliver { packet: 17 },
         Line::Deliver { packet: 18 },
-        Line::Deliver { packet: 19 },
+        Line::Deliver { packet: 20 },
         Line::Deliver { packet: 21 },
+        Line::Deliver { packet: 23 },
         data(alloc, 6, 2, &[0x00, 0x21, 0xc2])?,
         // The frame overtakes both ICCNs, and the second ICCN the first; then it comes twice.
-        Line::Deliver { packet: 23 },
+        Line::Deliver { packet: 25 },
+        Line::Deliver { packet: 24 },
         Line::Deliver { packet: 22 },
-        Line::Deliver { packet: 20 },
-        Line::Deliver { packet: 22 },
-        Line::Deliver { packet: 22 },
-        Line::Deliver { packet: 23 },
-        down(alloc, 4, 4, &[0x00, 0x21, 0xd2])?,
-        Line::Deliver { packet: 27 },
-        down(alloc, 4, 2, &[0x00, 0x21, 0xd9])?,
+        Line::Deliver { packet: 24 },
+        Line::Deliver { packet: 24 },
+        Line::Deliver { packet: 25 },
+        // LCP opens in a call of each LAC; what the network sends down before is dropped.
+        Line::Deliver { packet: 15 },
         Line::Deliver { packet: 28 },
+        data(
+            alloc,
+            9,
+            2,
+            &[
+                0xc0, 0x21, 0x02, 0x01, 0x00, 0x0e, 0x01, 0x04, 0x05, 0xd4, 0x05, 0x06, 0x00, 0x00,
+                0x00, 0x12,
+            ],
+        )?,
+        data(
+            alloc,
+            6,
+            2,
+            &[
+                0xc0, 0x21, 0x02, 0x01, 0x00, 0x0e, 0x01, 0x04, 0x05, 0xd4, 0x05, 0x06, 0x00, 0x00,
+                0x00, 0x1d,
+            ],
+        )?,
+        Line::Deliver { packet: 31 },
+        Line::Deliver { packet: 32 },
+        down(alloc, 4, 4, &[0x00, 0x21, 0xd2])?,
+        data(
+            alloc,
+            6,
+            2,
+            &[
+                0xc0, 0x21, 0x01, 0x06, 0x00, 0x0a, 0x05, 0x06, 0x00, 0x00, 0x00, 0xc2,
+            ],
+        )?,
+        data(
+            alloc,
+            9,
+            2,
+            &[
+                0xc0, 0x21, 0x01, 0x07, 0x00, 0x0a, 0x05, 0x06, 0x00, 0x00, 0x00, 0xc9,
+            ],
+        )?,
+        Line::Deliver { packet: 33 },
+        Line::Deliver { packet: 34 },
+        // The frame comes a third time, and one goes each other way.
+        Line::Deliver { packet: 25 },
+        down(alloc, 4, 4, &[0x00, 0x21, 0xd2])?,
+        Line::Deliver { packet: 37 },
+        down(alloc, 4, 2, &[0x00, 0x21, 0xd9])?,
+        Line::Deliver { packet: 38 },
         data(alloc, 9, 2, &[0x00, 0x21, 0xc9])?,
-        Line::Deliver { packet: 29 },
+        Line::Deliver { packet: 39 },
     ];
     let replayed = replay(alloc, &lines)?;
     assert_eq!(rt; replayed.fault, None);
@@ -251,27 +313,28 @@ const ONE_UP: &[u8] = b"\
 00800000009000180080000000a0008000c0000004c000300007530
 6 send 4 9 4 c802001400010000000100018008000000000003
 7 send 5 4 9 c802000c0002000000010002
-9 send 6 9 4 c80200380001000000020001800800000000000a80080000000e0002800a0000000f0000000280120000001666666666\
-3030303030303437
+9 send 6 9 4 c80200380001000000020001800800000000000a80080000000e0002800a0000000f00000002801200000016666666663\
+030303030303437
 10 send 7 4 9 c802001c0002000200010003800800000000000b80080000000e0001
 11 send 8 9 4 c80200280001000100030002800800000000000c800a0000001805f5e100800a0000001300000001
-12 send 9 4 9 c802000c0002000000020004
+12 send 9 4 9 000200020002ff03c0210101000e010405d405060000000c
+12 send 10 4 9 c802000c0002000000020004
 ";
 
 const ENDED: &[u8] = b"\
 13 cause 4 operator
 13 gone 4 1
-13 send 10 4 9 c80200240002000200020004800800000000000e800800000001000380080000000e0001
+13 send 11 4 9 c80200240002000200020004800800000000000e800800000001000380080000000e0001
 14 cause 9 line
 14 gone 9 2
-14 send 11 9 4 c80200240001000100040002800800000000000e800800000001000180080000000e0002
+14 send 12 9 4 c80200240001000100040002800800000000000e800800000001000180080000000e0002
 15 drop 9 session
-15 send 12 9 4 c802000c0001000000050003
+15 send 13 9 4 c802000c0001000000050003
 16 drop 4 session
-16 send 13 4 9 c802000c0002000000030005
+16 send 14 4 9 c802000c0002000000030005
 17 gone 9 1
-18 send 14 9 4 c802000c0001000000050003
-19 send 15 4 9 c802000c0002000000030005
+18 send 15 9 4 c802000c0001000000050003
+19 send 16 4 9 c802000c0002000000030005
 end 4 tunnel 1 9 2 established 0 current complete
 end 9 tunnel 1 4 0 wait-ctl-reply 0 current complete
 end 9 tunnel 2 4 1 established 0 current complete
@@ -311,14 +374,14 @@ fn two_endings_of_a_call_cross(rt: HostRuntime) -> Result<(), Fail> {
             node: 9,
             session: 2,
         },
-        Line::Deliver { packet: 10 },
         Line::Deliver { packet: 11 },
+        Line::Deliver { packet: 12 },
         Line::Hang {
             node: 9,
             session: 1,
         },
-        Line::Deliver { packet: 10 },
         Line::Deliver { packet: 11 },
+        Line::Deliver { packet: 12 },
     ];
     let replayed = replay(rt.alloc(), &lines)?;
     assert_eq!(rt; replayed.fault, None);
@@ -498,6 +561,13 @@ fn a_ring_is_refused_where_calls_owe_too_much(rt: HostRuntime) -> Result<(), Fai
     Ok(())
 }
 
+/// The connection of the last call is acknowledged, what LCP asks for in it is handed up, and then a ring is refused.
+const LAST_CONNECTED: &[u8] = b"\
+20482 send 20484 4 9 c802000c0001000010012002
+20483 up 9 4096 4096 sub c0210101000e010405d4050600005002
+20485 cause 9 calls
+";
+
 /// A tunnel has 4,096 calls at most. Once one of them has ended there is room for another.
 #[test]
 fn a_ring_is_refused_over_a_tunnel_that_is_full(rt: HostRuntime) -> Result<(), Fail> {
@@ -506,9 +576,10 @@ fn a_ring_is_refused_over_a_tunnel_that_is_full(rt: HostRuntime) -> Result<(), F
     run(&mut world, 4, &Line::Deliver { packet: 1 })?;
     run(&mut world, 5, &Line::Deliver { packet: 2 })?;
     run(&mut world, 6, &Line::Deliver { packet: 3 })?;
-    // The four messages of a call: it is asked for, replied to, connected, and that is acknowledged.
-    for packet in 5..16389u32 {
-        if packet % 4 == 1 {
+    // The five packets of a call: it is asked for, replied to and connected, LCP asks for its options, and the connection is
+    // acknowledged.
+    for packet in 5..20485u32 {
+        if packet % 5 == 0 {
             run(
                 &mut world,
                 u64::from(packet),
@@ -517,21 +588,17 @@ fn a_ring_is_refused_over_a_tunnel_that_is_full(rt: HostRuntime) -> Result<(), F
         }
         run(&mut world, u64::from(packet), &Line::Deliver { packet })?;
     }
-    run(&mut world, 16389, &Line::Ring { node: 9, port: 7 })?;
-    assert!(rt;
-        world
-            .report()
-            .ends_with(b"c802000c0001000010012002\n16389 cause 9 calls\n")
-    );
+    run(&mut world, 20485, &Line::Ring { node: 9, port: 7 })?;
+    assert!(rt; world.report().ends_with(LAST_CONNECTED));
     run(
         &mut world,
-        16390,
+        20486,
         &Line::Hang {
             node: 9,
             session: 5,
         },
     )?;
-    run(&mut world, 16391, &Line::Ring { node: 9, port: 7 })?;
+    run(&mut world, 20487, &Line::Ring { node: 9, port: 7 })?;
     assert!(rt; world.report().ends_with(b"666666663030303030303037\n"));
     Ok(())
 }

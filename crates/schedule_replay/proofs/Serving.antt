@@ -1,22 +1,21 @@
 -- The line that a step of a node's end makes is the line of the world.
-use Rattle.std.proofs.Common.{◌≡◌, ℕ, Bool, true, false, List, [], ◌∷◌, ◌++◌, refl, sym, ap, ◌∙◌, subst, Option, Some, None, Result, Ok, Err}
+use Rattle.std.proofs.Common.{◌≡◌, ℕ, Bool, true, false, List, ◌++◌, refl, sym, ap, ◌∙◌, Option, Some, None, Err}
 use Rattle.std.proofs.lemmas.Grind.{flat_map-append}
 use Rattle.std.proofs.lemmas.List.{append-nil}
 use Rattle.std.specs.Prelude.{is_some, IsSome, ◌&&◌}
 use Rattle.std.proofs.lemmas.Bool.{true≢false}
 use Rattle.wire_base.specs.declared.why.Why.TheVariants as why
-use Rattle.wire_base.specs.declared.cause.Cause.{Cause}
 use Rattle.protocol_model.specs.declared.event.Event.{Event}
-use Rattle.protocol_model.specs.declared.event.Event.TheVariants.{Datagram, Ring, Frame, Admitted, Payload, Lower, Hang, OpenTunnel, DropCall, CloseTunnel, Tick}
+use Rattle.protocol_model.specs.declared.event.Event.TheVariants.{Datagram, Ring, Frame, Admitted, Payload, Lower, Lcp, Hang, OpenTunnel, DropCall, CloseTunnel, Tick}
 use Rattle.protocol_model.specs.declared.refusal.Refusal.TheVariants.{Unfit}
 use Rattle.protocol_model.specs.Calls.{is_lac}
-use Rattle.protocol_model.specs.Access.{Access, Coming, Ignores, Answers, Runs, Enters, coming, serves, does, admits, of_step, pads_of, entered}
+use Rattle.protocol_model.specs.Access.{Access, Coming, Ignores, Answers, Runs, Enters, coming, serves, does, admits}
 use Rattle.protocol_model.specs.End.{plain_step, step, step_in, gives_only}
 use Rattle.protocol_model.specs.Texts.{Entry, entry_text, entries_text}
-use Rattle.protocol_model.specs.World.{World, Node, Lined, declared, lac_at, with_node, moved_all, shown, shown_all, entry_of, entries_of, given, after_step, stepped, block_of, retold, replies, enters, comes, comes_by, framed, answer_entries}
+use Rattle.protocol_model.specs.World.{World, Node, Lined, declared, lac_at, moved_all, shown, shown_all, entry_of, entries_of, given, after_step, stepped, block_of, enters, comes, comes_by, framed}
 use Rattle.schedule_replay.specs.Fault.{Told, LeadsTo, Leads}
-use Rattle.schedule_replay.specs.Kinds.{Site, site_in}
-use Rattle.schedule_replay.specs.Serving.{SiteStep, by_served, step_with, site_step, moved_to, served_line, served_at, reply_entries, IsPlain}
+use Rattle.schedule_replay.specs.Kinds.{site_in}
+use Rattle.schedule_replay.specs.Serving.{SiteStep, by_served, step_with, site_step, moved_to, served_line, served_at, IsPlain}
 
 -- two lines with one world and one list of entries lead to the same
 same_leads : (l k : Lined) (old new : Told) → l.world ≡ k.world → l.entries ≡ k.entries → LeadsTo l old new → LeadsTo k old new
@@ -40,6 +39,7 @@ module _ (w : World) (line n : ℕ) (x : Node) where
   by_access (Ring port) plain (Some a) is = (rw is refl, append-nil _ ∙ rw is refl)
   by_access (Payload s frame) plain (Some a) is = (rw is refl, append-nil _ ∙ rw is refl)
   by_access (Lower s frame) plain (Some a) is = (rw is refl, append-nil _ ∙ rw is refl)
+  by_access (Lcp s packet) plain (Some a) is = (rw is refl, append-nil _ ∙ rw is refl)
   by_access (Hang s) plain (Some a) is = (rw is refl, append-nil _ ∙ rw is refl)
   by_access OpenTunnel plain (Some a) is = (rw is refl, append-nil _ ∙ rw is refl)
   by_access (DropCall s) plain (Some a) is = (rw is refl, append-nil _ ∙ rw is refl)

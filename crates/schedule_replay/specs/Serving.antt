@@ -2,7 +2,7 @@
 use Rattle.std.specs.Prelude.{◌≡◌, ℕ, List, [], ◌∷◌, ◌++◌, Option, Some, None, Result, Ok, Err}
 use Rattle.wire_base.specs.declared.bytes.NoMemory.{NoMemory}
 use Rattle.protocol_model.specs.declared.event.Event.{Event}
-use Rattle.protocol_model.specs.declared.event.Event.TheVariants.{Datagram, Ring, Frame, Admitted, Payload, Lower, Hang, OpenTunnel, DropCall, CloseTunnel, Tick}
+use Rattle.protocol_model.specs.declared.event.Event.TheVariants.{Datagram, Ring, Frame, Admitted, Payload, Lower, Lcp, Hang, OpenTunnel, DropCall, CloseTunnel, Tick}
 use Rattle.protocol_model.specs.declared.moves.Move.{Move}
 use Rattle.protocol_model.specs.declared.out.Out.{Out}
 use Rattle.protocol_model.specs.Access.{Access, Served, serves}
@@ -66,6 +66,7 @@ IsPlain (Datagram peer bytes) = Unit {0}
 IsPlain (Ring port) = Unit {0}
 IsPlain (Payload s frame) = Unit {0}
 IsPlain (Lower s frame) = Unit {0}
+IsPlain (Lcp s packet) = Unit {0}
 IsPlain (Hang s) = Unit {0}
 IsPlain OpenTunnel = Unit {0}
 IsPlain (DropCall s) = Unit {0}

@@ -31,6 +31,7 @@ pub mod Replying
 pub mod Refusing
 pub mod FirstUp
 pub mod SecondUp
+pub mod Negotiated
 pub mod EndingTold
 pub mod EndHeard
 pub mod EndingSilent

@@ -9,9 +9,10 @@ use Rattle.protocol_model.specs.declared.moves.SecondUp.{SecondUp}
 use Rattle.protocol_model.specs.declared.moves.Move.TheVariants as move
 use Rattle.protocol_model.specs.declared.tunnel.Call.{Call}
 use Rattle.protocol_model.specs.Calls.{call_row, advanced}
-use Rattle.protocol_model.specs.Turn.{Tunnel, counts_taken}
+use Rattle.protocol_model.specs.Turn.{Tunnel, counts_taken, with_link}
 use Rattle.protocol_model.specs.End.{End}
 use Rattle.protocol_model.specs.World.{Sender, Deed}
+use Rattle.step_laws.specs.Links.{begun_link}
 use Rattle.epoch_machine.specs.Letters.{Connect}
 use Rattle.epoch_machine.specs.Tunnels.{Open}
 use Rattle.epoch_machine.specs.Calls.{WaitsConnect, Up, is_second_up}
@@ -79,7 +80,7 @@ module _ (laws : Laws) (accs : Accounts) (ends : Ends) (w : World) (n : ℕ) (e 
   was = h.moved.does.call
 
   abbrev call : Call
-  call = advanced e.role call_event.IccnAcc moment was
+  call = with_link (begun_link h.moved.does.magic) (advanced e.role call_event.IccnAcc moment was)
 
   abbrev u : Tunnel
   u = record t { control = counts_taken t.control; calls = put t.calls s call }

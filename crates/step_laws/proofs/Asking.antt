@@ -2,7 +2,7 @@
 use Rattle.std.proofs.Common.{◌≡◌, ◌⊎◌, inl, inr, ⊎_elim, ℕ, ◌<◌, Bool, true, false, List, [], ◌∷◌, ◌++◌, length, refl, sym, ap, ◌∙◌, subst, Option, Some, None, Result, Ok, Err, arith}
 use Rattle.std.proofs.lemmas.Bool.{eqb-true, eqb-false, true≢false, ltb-false}
 use Rattle.std.proofs.lemmas.Option.{none-some}
-use Rattle.std.specs.Prelude.{◌==◌, nat_lt, unwrap_or}
+use Rattle.std.specs.Prelude.{◌&&◌, ◌==◌, nat_lt, unwrap_or}
 use Rattle.id_table.specs.Ids.{at, put, without, ids_of, at-none}
 use Rattle.id_table.specs.Order.{Ascends, found_put, found_without, same_or_not}
 use Rattle.id_source.specs.Spaces.{draws}
@@ -36,16 +36,20 @@ use Rattle.call_fsm.specs.declared.table.CallState.{CallState}
 use Rattle.call_fsm.specs.declared.table.CallState.TheVariants as call
 use Rattle.protocol_model.specs.declared.tunnel.Call.{Call}
 use Rattle.protocol_model.specs.declared.tunnel.Config.{Config}
+use Rattle.protocol_model.specs.declared.tunnel.Control.{Control}
+use Rattle.protocol_model.specs.declared.tunnel.Link.{Link}
 use Rattle.protocol_model.specs.declared.tunnel.Role.{Role}
+use Rattle.lcp_end.specs.Laws.{Call as LcpCall, OpenLink, after as lcp_after}
+use Rattle.step_laws.proofs.Linking.{negotiated_is}
 use Rattle.protocol_model.specs.declared.tunnel.Role.TheVariants.{Lac, Lns}
 use Rattle.protocol_model.specs.declared.out.Out.TheVariants.{Cause}
 use Rattle.protocol_model.specs.Reading.{header_why, body_of, message_in, CallFault, call_fault_in, TunnelFault, tunnel_fault_in}
 use Rattle.protocol_model.specs.Calls.{call_row, advanced, rung, asked_for, is_request, is_connection, is_up, are_too_many}
-use Rattle.protocol_model.specs.Turn.{rejects, rejected, connected_reason, connected_event, Turn, with_output, with_move, with_change, with_call, with_new, with_local, with_calls, opened, opens_by, opens, accepted, accepts_by, accepts, rings_new, first_said, drops, gives, gives_as, has_room, settles, takes_one, reads_nr, requested, requests, requests_at, requests_all, adds, rings_over, rings_by, rings_within, rings, may_take, Reason, reason, out_of_state, refused, refuses, of_no_call, end_silent, end_told, ends_by, closes, answers_by, granted, asked_by, fault_reason, faulty_at, faulty, in_faulty_call, ends_all, is_closed, event_by, opening_reason, out_of_order, counts_taken, shut, shuts, closed_told, closes_tunnel, closed_by, shuts_by, connected, connects, confirms, takes_plain, ignores, takes_by, takes, replied, replies, first_up, first_up_by, second_up, second_up_by, ends_call, is_clean_up, end_heard, end_heard_by, session_named, ends_named, about_call, in_call, hears, hears_faulty, hears_said, hears_next, hears_letter, is_duplicate, in_tunnel, hears_control, carried, carries, hears_datagram, is_short, is_long}
+use Rattle.protocol_model.specs.Turn.{rejects, rejected, connected_reason, connected_event, Turn, with_output, with_move, with_change, with_call, with_new, with_local, with_calls, opened, opens_by, opens, accepted, accepts_by, accepts, rings_new, first_said, drops, gives, gives_as, has_room, settles, takes_one, reads_nr, requested, requests, requests_at, requests_all, adds, rings_over, rings_by, rings_within, rings, may_take, Reason, reason, out_of_state, refused, refuses, of_no_call, end_silent, end_told, ends_by, closes, answers_by, granted, asked_by, fault_reason, faulty_at, faulty, in_faulty_call, ends_all, is_closed, event_by, opening_reason, out_of_order, counts_taken, shut, shuts, closed_told, closes_tunnel, closed_by, shuts_by, connected, connects, confirms, takes_plain, ignores, takes_by, takes, replied, replies, first_up, first_up_by, second_up, with_link, new_link, link_after, negotiated, connects_call, linked_up, is_passing, second_up_by, ends_call, is_clean_up, end_heard, end_heard_by, session_named, ends_named, about_call, in_call, hears, hears_faulty, hears_said, hears_next, hears_letter, is_duplicate, in_tunnel, hears_control, carried, carries, hears_datagram, is_short, is_long}
 use Rattle.step_laws.specs.Letters.{Among}
 use Rattle.step_laws.proofs.Lists.{branch, found_among, with_calls-more}
 use Rattle.step_laws.proofs.States.{requested_state, connected_state, up_state}
-use Rattle.step_laws.proofs.Ticking.{settled_keeps, more_full}
+use Rattle.step_laws.proofs.Keeping.{settled_keeps, more_full}
 use Rattle.step_laws.proofs.Shutting.{all_ended_is, none_left}
 
 -- ---- which calls wait
@@ -86,7 +90,7 @@ opening_row state.WaitCtlReply h event.StopCcnCame k = absurd cc
 abbrev pub Busy : Turn → Type 0
 Busy t = state_number t.control.state ≡ 0 → ⊥
 
-abbrev Idle : Turn → Type 0
+abbrev pub Idle : Turn → Type 0
 Idle t = state_number t.control.state ≡ 0
 
 module _ (role : Role) (calls : List (ℕ × Call)) where
@@ -111,7 +115,7 @@ module _ (role : Role) (calls : List (ℕ × Call)) where
   at_first t b s c there = let found = rw b.none at there in found
 
   -- the calls and the state stay
-  same : (t u : Turn) → u.changed ≡ t.changed → u.control.state ≡ t.control.state → Begins t → Asked u
+  pub same : (t u : Turn) → u.changed ≡ t.changed → u.control.state ≡ t.control.state → Begins t → Asked u
   same t u calls_are state b is_open s c there waits =
       absurd (b.asked (λ opening. is_open (ap state_number state ∙ opening)) s c
       (at_first t b s c (subst (λ xs. at (with_calls xs calls) s ≡ Some c) calls_are there)) waits)
@@ -126,12 +130,30 @@ module _ (role : Role) (calls : List (ℕ × Call)) where
       (λ (a : (s ≡ k → ⊥) × (There t s c)). b.asked (λ opening. is_open (ap state_number state ∙ opening)) s c (at_first t b s c a.1) waits)
       (found_put (with_calls t.changed calls) k d s c (subst (λ xs. at xs s ≡ Some c) is there)))
 
-  settled : (again : Bool) (letters : List Letter) (t : Turn) → Asked t → Asked (settles again letters t)
+  -- one more, where none waits but in a tunnel without room
+  put_more : (t u : Turn) (k : ℕ) (d : Call) → u.changed ≡ t.changed ++ (k, Some d) ∷ [] → u.control ≡ t.control → (d.state ≡ call.WaitTunnel → ⊥) → Asked t
+      → Asked u
+  put_more t u k d more same other h is_open s c there waits =
+      let is : with_calls u.changed calls ≡ put (with_calls t.changed calls) k d = ap (λ xs. with_calls xs calls) more ∙ with_calls-more t.changed k (Some d) calls in
+      ap has_room same ∙ ⊎_elim
+      (λ (a : (s ≡ k) × (d ≡ c)). absurd (other (ap (λ (x : Call). x.state) a.1 ∙ (requested_state role c.state waits.row).0)))
+      (λ (a : (s ≡ k → ⊥) × (There t s c)). h (λ opening. is_open (ap (λ (x : Control). state_number x.state) same ∙ opening)) s c a.1 waits)
+      (found_put (with_calls t.changed calls) k d s c (subst (λ xs. at xs s ≡ Some c) is there))
+
+  pub negotiated_asked : (s : ℕ) (c : Call) (l : Link) (by : LcpCall) (t : Turn) → is_up c.state ≡ true → Asked t
+      → Asked (negotiated s c l (lcp_after by l.lcp) t)
+  negotiated_asked s c l by t up h =
+      let is = negotiated_is s c l by t in
+      put_more t (negotiated s c l (lcp_after by l.lcp) t) s (with_link (link_after l (lcp_after by l.lcp)) c)
+      (ap (λ (x : Turn). x.changed) is) (ap (λ (x : Turn). x.control) is)
+      (other_state c.state call.Established (up_state c.state up) (λ k. absurd cc)) h
+
+  pub settled : (again : Bool) (letters : List Letter) (t : Turn) → Asked t → Asked (settles again letters t)
   settled again letters t h is_open s c there waits =
       let g = settled_keeps again letters t in
       g.6 ∙ h (λ opening. is_open (ap state_number g.5 ∙ opening)) s c (subst (λ xs. at (with_calls xs calls) s ≡ Some c) g.0 there) waits
 
-  dropped : (w : Why) (t : Turn) → Begins t → Asked (drops w t)
+  pub dropped : (w : Why) (t : Turn) → Begins t → Asked (drops w t)
   unfolding drops with_output
   dropped w t b = same t (drops w t) refl refl b
 
@@ -351,11 +373,16 @@ module _ (role : Role) (calls : List (ℕ × Call)) where
       puts t (first_up role s remote c t) s (advanced role call_event.IcrpAcc t.moment (record c { remote = remote })) refl refl
       (other_state _ call.Established (connected_state role c.state row).1 (λ k. absurd cc)) b
 
-  second_up_asked : (s : ℕ) (c : Call) (t : Turn) → is_up (call_row role c.state call_event.IccnAcc).0 ≡ true → Begins t → Asked (second_up role s c t)
-  unfolding second_up with_change with_move with_call takes_one advanced
-  second_up_asked s c t row b =
-      puts t (second_up role s c t) s (advanced role call_event.IccnAcc t.moment c) refl refl
-      (other_state _ call.Established (up_state (call_row role c.state call_event.IccnAcc).0 row) (λ k. absurd cc)) b
+  second_up_asked : (s : ℕ) (d : Call) (t : Turn) → is_up d.state ≡ true → Begins t → Asked (second_up s d t)
+  unfolding second_up with_change with_move with_call takes_one
+  second_up_asked s d t up b =
+      puts t (second_up s d t) s d refl refl (other_state d.state call.Established (up_state d.state up) (λ k. absurd cc)) b
+
+  linked_up_asked : (s : ℕ) (c : Call) (t : Turn) → is_up (call_row role c.state call_event.IccnAcc).0 ≡ true → Begins t → Asked (linked_up role s c t)
+  unfolding linked_up connects_call advanced
+  linked_up_asked s c t row b =
+      let d = with_link (new_link t.block) (advanced role call_event.IccnAcc t.moment c) in
+      negotiated_asked s d (new_link t.block) (OpenLink t.moment) (second_up s d t) row (second_up_asked s d t row b)
 
   refused_asked : (r : Reason) (remote : ℕ) (t : Turn) → Begins t → Asked (refused r remote t)
   unfolding refused gives with_output with_move takes_one
@@ -398,7 +425,7 @@ module _ (role : Role) (calls : List (ℕ × Call)) where
     unfolding end_told gives ends_call with_output with_change with_move
     told_asked for k c result error t b = takes_out t (end_told k c result error (with_output (Cause for) t)) k refl refl b
 
-    ends_by_asked : (for : CauseOf) (result : ℕ) (error : Option ℕ) (k : ℕ) (c : Call) (a : CallAction) (t : Turn) → Begins t
+    pub ends_by_asked : (for : CauseOf) (result : ℕ) (error : Option ℕ) (k : ℕ) (c : Call) (a : CallAction) (t : Turn) → Begins t
         → Asked (ends_by for result error k c a t)
     unfolding ends_by
     ends_by_asked for result error k c call_action.CleanUp t b = silent_asked k t b
@@ -447,7 +474,7 @@ module _ (role : Role) (calls : List (ℕ × Call)) where
     second_up_by_asked s None t b = no_call_asked out_of_state 0 (call_row role call.Idle call_event.IccnAcc).1 t b
     second_up_by_asked s (Some c) t b =
         branch Asked (is_up (call_row role c.state call_event.IccnAcc).0) _ _
-        (λ row. second_up_asked s c t row b)
+        (λ row. linked_up_asked s c t row b)
         (λ none. answers_asked out_of_state s c (call_row role c.state call_event.IccnAcc).1 t b)
 
     end_heard_asked : (k : ℕ) (t : Turn) → Begins t → Asked (end_heard k t)
@@ -682,102 +709,7 @@ module _ (role : Role) (calls : List (ℕ × Call)) where
   unfolding carries
   carries_asked s frame None t b = dropped why.Call t b
   carries_asked s frame (Some c) t b =
-      branch Asked (is_up c.state) _ _
+      branch Asked (is_up c.state && is_passing c.link) _ _
       (λ up. branch Asked (is_short frame) _ _ (λ short. dropped why.Short t b)
       (λ short. branch Asked (is_long frame) _ _ (λ long. dropped why.Long t b) (λ long. carried_asked s frame c t b)))
       (λ down. dropped why.Closed t b)
-
--- ---- new tunnels: they have no calls, or their SCCRQ isn't answered yet
-
-abbrev pub IsNew : Turn → Type 0
-IsNew r = (state_number r.control.state ≡ 1) ⊎ (r.changed ≡ [])
-
-new_settled : (letters : List Letter) (t : Turn) → IsNew t → IsNew (settles false letters t)
-new_settled letters t h =
-    let g = settled_keeps false letters t in
-    ⊎_elim (λ opening. inl (ap state_number g.5 ∙ opening)) (λ none. inr (g.0 ∙ none)) h
-
-drops_new : (w : Why) (t : Turn) → t.changed ≡ [] → IsNew (drops w t)
-unfolding drops with_output
-drops_new w t none = inr none
-
-caused_new : (c : CauseOf) (t : Turn) → t.changed ≡ [] → IsNew (with_output (Cause c) t)
-unfolding with_output
-caused_new c t none = inr none
-
-opened_new : (role : Role) (c : Config) (local : ℕ) (t : Turn) → t.changed ≡ [] → IsNew (opened role c local t)
-unfolding opened gives with_move with_local
-opened_new role c local t none = inr none
-
-pub opens_new : (role : Role) (c : Config) (letters : List Letter) (t : Turn) → t.changed ≡ [] → IsNew (settles false letters (opens role c t))
-unfolding opens opens_by
-opens_new role c letters t none = new_settled letters (opens role c t) (by (draws t.tunnels))
-  where
-    by : (x : Result ℕ IdError) → IsNew (opens_by role c x t)
-    by (Err x) = caused_new cause.Ids t none
-    by (Ok local) = branch IsNew (has_room t.control) _ _ (λ may. opened_new role c local t none) (λ full. caused_new cause.Queue t none)
-
-accepted_new : (role : Role) (c : Config) (asked : Option (List ℕ)) (remote window local : ℕ) (t : Turn) → t.changed ≡ []
-    → IsNew (accepted role c asked remote window local t)
-unfolding accepted gives with_move takes_one with_local
-accepted_new role c asked remote window local t none = inr none
-
-accepts_new : (role : Role) (c : Config) (asked : Option (List ℕ)) (remote window : ℕ) (t : Turn) → t.changed ≡ []
-    → IsNew (accepts role c asked remote window t)
-unfolding accepts accepts_by
-accepts_new role c asked remote window t none = by (draws t.tunnels)
-  where
-    by : (x : Result ℕ IdError) → IsNew (accepts_by role c asked remote window x t)
-    by (Err x) = drops_new why.Tunnel t none
-    by (Ok local) =
-        branch IsNew (has_room t.control) _ _ (λ may. accepted_new role c asked remote window local t none) (λ full. drops_new why.Queue t none)
-
-first_said_new : (role : Role) (c : Config) (r : Result Message Why) (t : Turn) → t.changed ≡ [] → IsNew (first_said role c r t)
-unfolding first_said
-first_said_new role c (Ok (Sccrq o)) t none = accepts_new role c o.challenge o.tunnel o.window t none
-first_said_new role c (Ok (Sccrp o)) t none = drops_new why.Tunnel t none
-first_said_new role c (Ok (Scccn response)) t none = drops_new why.Tunnel t none
-first_said_new role c (Ok Hello) t none = drops_new why.Tunnel t none
-first_said_new role c (Ok (Cdn remote code error)) t none = drops_new why.Tunnel t none
-first_said_new role c (Ok (Icrq remote serial calling)) t none = drops_new why.Tunnel t none
-first_said_new role c (Ok (Icrp remote)) t none = drops_new why.Tunnel t none
-first_said_new role c (Ok (Iccn speed framing sequenced)) t none = drops_new why.Tunnel t none
-first_said_new role c (Ok (StopCcn tunnel code error)) t none = drops_new why.Tunnel t none
-first_said_new role c (Ok (Ocrq remote)) t none = drops_new why.Tunnel t none
-first_said_new role c (Ok Ocrp) t none = drops_new why.Tunnel t none
-first_said_new role c (Ok Occn) t none = drops_new why.Tunnel t none
-first_said_new role c (Ok Wen) t none = drops_new why.Tunnel t none
-first_said_new role c (Ok Sli) t none = drops_new why.Tunnel t none
-first_said_new role c (Err w) t none = drops_new why.Tunnel t none
-
-pub heard_new : (role : Role) (c : Config) (bytes : List ℕ) (r : Result Header HeaderError) (t : Turn) → Idle t → t.changed ≡ []
-    → IsNew (hears_datagram role c [] [] bytes r t)
-unfolding hears_datagram hears_control
-heard_new role c bytes (Err x) t idle none = drops_new (header_why x) t none
-heard_new role c bytes (Ok k) t idle none =
-    branch IsNew k.control _ _
-    (λ control. branch IsNew (state_number t.control.state == 0) _ _
-    (λ is. let u = first_said role c (message_in (body_of k bytes)) t in new_settled [] u (first_said_new role c (message_in (body_of k bytes)) t none))
-    (λ busy. absurd (eqb-false (state_number t.control.state) 0 busy idle)))
-    (λ data_is. drops_new why.Session t none)
-
-rung_new : (role : Role) (c : Config) (who : List ℕ) (s local : ℕ) (t : Turn) → t.control.state ≡ state.Idle → IsNew (adds role who s (opened role c local t))
-unfolding adds opened gives with_move with_local with_new
-rung_new role c who s local t idle = inl (rw idle refl)
-
-rings_new_new : (role : Role) (c : Config) (who : List ℕ) (x y : Result ℕ IdError) (t : Turn) → t.control.state ≡ state.Idle → t.changed ≡ []
-    → IsNew (rings_new role c who x y t)
-unfolding rings_new
-rings_new_new role c who (Err x) y t idle none = caused_new cause.Ids t none
-rings_new_new role c who (Ok s) (Err y) t idle none = caused_new cause.Ids t none
-rings_new_new role c who (Ok s) (Ok local) t idle none =
-    branch IsNew (has_room t.control) _ _ (λ may. rung_new role c who s local t idle) (λ full. caused_new cause.Queue t none)
-
-pub rings_is_new : (role : Role) (c : Config) (letters : List Letter) (who : List ℕ) (t : Turn) → t.control.state ≡ state.Idle → t.changed ≡ []
-    → IsNew (settles false letters (rings role c [] who t))
-unfolding rings
-rings_is_new role c letters who t idle none =
-    new_settled letters (rings role c [] who t)
-    (branch IsNew (state_number t.control.state == 0) _ _
-    (λ is. rings_new_new role c who (draws t.sessions) (draws t.tunnels) t idle none)
-    (λ busy. absurd (eqb-false (state_number t.control.state) 0 busy (ap state_number idle))))

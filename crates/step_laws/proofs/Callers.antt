@@ -2,7 +2,7 @@
 use Rattle.std.proofs.Common.{◌≡◌, ℕ, List, false, refl, ap, Option, Some, None}
 use Rattle.wire_base.specs.declared.letter.Letter.{Letter}
 use Rattle.protocol_model.specs.declared.event.Event.{Event}
-use Rattle.protocol_model.specs.declared.event.Event.TheVariants.{Datagram, Ring, Frame, Admitted, Payload, Lower, Hang, OpenTunnel, DropCall, CloseTunnel, Tick}
+use Rattle.protocol_model.specs.declared.event.Event.TheVariants.{Datagram, Ring, Frame, Admitted, Payload, Lower, Lcp, Hang, OpenTunnel, DropCall, CloseTunnel, Tick}
 use Rattle.protocol_model.specs.declared.tunnel.Call.{Call}
 use Rattle.protocol_model.specs.declared.tunnel.Config.{Config}
 use Rattle.protocol_model.specs.declared.tunnel.Role.{Role}
@@ -22,6 +22,7 @@ turns_ring role c letters calls (Datagram peer bytes) who t h = absurd cc
 turns_ring role c letters calls (Frame bytes) who t h = absurd cc
 turns_ring role c letters calls (Payload s frame) who t h = absurd cc
 turns_ring role c letters calls (Lower s frame) who t h = absurd cc
+turns_ring role c letters calls (Lcp s packet) who t h = absurd cc
 turns_ring role c letters calls (Hang s) who t h = absurd cc
 turns_ring role c letters calls OpenTunnel who t h = absurd cc
 turns_ring role c letters calls (DropCall s) who t h = absurd cc

@@ -34,6 +34,8 @@ use Rattle.step_laws.proofs.Tells.{granted_stands, granted_may}
 use Rattle.step_laws.proofs.Turns.{TurnOk, PlainAt, at_turn, is_roomy, IsGranted, replied_ok, first_up_ok, second_up_ok, end_heard_ok, plain_ok, ignores_ok, refused_ok}
 use Rattle.step_laws.proofs.Settling.{Settled, unsent}
 use Rattle.step_laws.proofs.Comes.{Taking, next_of_heard, heard_in, comes_at, begun, came_at, told_at, calls_first, spare_first, at_first, that_call, no_call}
+use Rattle.protocol_model.specs.Links.{magic_of}
+use Rattle.step_laws.proofs.Linking.{linked_up_ok}
 use Rattle.step_laws.proofs.Closing.{Ends, ends_leave}
 
 -- a message about a call
@@ -265,8 +267,9 @@ module _ (e : End) (moment : ℕ) (ev : Event) (letters : List Letter) (calls : 
       (λ told. absurd (untold_of_connection e.role told))
   second_up_by_ok session speed framing sequenced t f is_open hears (Some c) is =
       branch Good (is_up (call_row e.role c.state call_event.IccnAcc).0) _ _
-      (λ row. sent_none _ (second_up_ok e moment ev letters calls i session speed framing sequenced c t is_open
-      (at_first e moment ev letters calls i t f.fresh session (Some c) is) hears row (spare_first e moment ev letters calls i t f) f.fresh.good))
+      (λ row. linked_up_ok e moment ev letters calls i session c t row f.fresh.good.stays.4
+      (sent_none _ (second_up_ok e moment ev letters calls i session speed framing (magic_of t.block) sequenced c t is_open
+      (at_first e moment ev letters calls i t f.fresh session (Some c) is) hears row (spare_first e moment ev letters calls i t f) f.fresh.good)))
       (λ none. answers_ok out_of_state session c call_event.IccnAcc t f is
       (comes_at e moment ev letters calls i t session (Iccn speed framing sequenced)
       (λ o. that_call e moment ev letters calls i (λ (k : Call). is_up (call_row e.role k.state call_event.IccnAcc).0 ≡ false) t f.fresh session c is none) hears)

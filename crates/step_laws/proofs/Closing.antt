@@ -23,7 +23,8 @@ use Rattle.step_laws.specs.Causes.{Stands}
 use Rattle.step_laws.specs.Moves.{WhyEnds}
 use Rattle.step_laws.proofs.Lists.{all_push, branch, with_calls-more, with_looks-more, chain_more}
 use Rattle.step_laws.proofs.Owing.{live_with, holds_live, has_room_for, MayTell, fits_without, fits_told}
-use Rattle.step_laws.proofs.Turns.{NoFrame, given_held, fits_changed, at_turn, there, one_given, Others}
+use Rattle.step_laws.proofs.Outputs.{frames_more}
+use Rattle.step_laws.proofs.Turns.{given_held, fits_changed, at_turn, there, one_given, Others}
 use Rattle.step_laws.proofs.Settling.{GoesOn, Settled, outs_on}
 
 module _ (e : End) (moment : ℕ) (ev : Event) (letters : List Letter) (calls : List (ℕ × Call)) (i : ℕ) where
@@ -44,7 +45,7 @@ module _ (e : End) (moment : ℕ) (ev : Event) (letters : List Letter) (calls : 
     chain = h.chain;
     outs = all_push _ t.outputs (Cause for) h.outs tt;
     tells = all_push _ t.outputs (Cause for) h.tells so;
-    frames = h.frames;
+    frames = frames_more t.outputs _ t.moves h.frames;
     stays = h.stays;
     held = h.held;
     fits = h.fits;
@@ -93,9 +94,9 @@ module _ (e : End) (moment : ℕ) (ev : Event) (letters : List Letter) (calls : 
           inbox = refl;
           more = [];
           letters = sym (append-nil (tunnel t).letters);
-        }) h) tt;
+        }) (m ∷ []) refl h) tt;
         tells = all_push _ t.outputs (Gone s) h.tells tt;
-        frames = all_push NoFrame t.moves m h.frames tt;
+        frames = all_push _ t.moves m (frames_more t.outputs _ t.moves h.frames) tt;
         stays = h.stays;
         held = h.held;
         fits = fits_changed e moment ev letters calls i t.control t s None (fits_without t.control (now t) s h.fits);
@@ -134,9 +135,9 @@ module _ (e : End) (moment : ℕ) (ev : Event) (letters : List Letter) (calls : 
               rw (changed, looked, one_given e moment ev letters calls i t l, put-put e.tunnels t.control.local (tunnel t) _) refl;
         });
         outs = all_push _ t.outputs (Gone s)
-            (outs_on e moment ev letters calls i t (end_told s c result error t) (given_on t (end_told s c result error t) l refl refl refl refl refl refl) h) tt;
+            (outs_on e moment ev letters calls i t (end_told s c result error t) (given_on t (end_told s c result error t) l refl refl refl refl refl refl) (m ∷ []) refl h) tt;
         tells = all_push _ t.outputs (Gone s) h.tells tt;
-        frames = all_push NoFrame t.moves m h.frames tt;
+        frames = all_push _ t.moves m (frames_more t.outputs _ t.moves h.frames) tt;
         stays = h.stays;
         held = given_held e moment ev letters calls i t l h.held;
         fits = fits_changed e moment ev letters calls i (counts_given t.control) t s None (fits_told t.control (now t) s c found may h.fits);

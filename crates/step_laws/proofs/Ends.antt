@@ -4,7 +4,7 @@ use Rattle.step_laws.specs.Callers.{IsRing}
 use Rattle.std.proofs.Common.{◌≡◌, ◌⊎◌, inl, inr, ⊎_elim, ℕ, ◌<◌, ◌≤◌, length, Bool, true, false, List, [], refl, sym, ap, ◌∙◌, subst, Option, Some, None, Result, Ok, Err, arith, rules}
 use Rattle.std.proofs.lemmas.Bool.{eqb-true, eq-eqb, ltb-true, true≢false}
 use Rattle.std.proofs.lemmas.List.{append-nil}
-use Rattle.std.specs.Prelude.{◌==◌, nat_lt}
+use Rattle.std.specs.Prelude.{◌==◌, ◌&&◌, nat_lt, drop}
 use Rattle.std.specs.List.{AllByRecursion}
 use Rattle.id_table.specs.Ids.{at, put}
 use Rattle.id_table.specs.Order.{ascends-put, ascends-empty, put-again, at_new, found_put}
@@ -30,27 +30,30 @@ use Rattle.control_message.specs.declared.message.Message.TheVariants.{Sccrq, Sc
 use Rattle.control_message.specs.declared.message.Opening.{Opening}
 use Rattle.protocol_model.specs.declared.tunnel.Call.{Call}
 use Rattle.protocol_model.specs.declared.tunnel.Control.{Control}
+use Rattle.protocol_model.specs.declared.tunnel.Link.{Link}
+use Rattle.lcp_end.specs.Laws.{OnPacket}
 use Rattle.protocol_model.specs.declared.tunnel.Role.TheVariants.{Lac}
 use Rattle.protocol_model.specs.declared.event.Event.{Event}
-use Rattle.protocol_model.specs.declared.event.Event.TheVariants.{Datagram, Ring, Payload, Lower, Hang, OpenTunnel, DropCall, CloseTunnel}
+use Rattle.protocol_model.specs.declared.event.Event.TheVariants.{Datagram, Ring, Payload, Lower, Lcp, Hang, OpenTunnel, DropCall, CloseTunnel}
 use Rattle.protocol_model.specs.declared.out.Out.{Out}
 use Rattle.protocol_model.specs.declared.out.Out.TheVariants.{Send, Up, Gone, Drop, Cause as Refused}
 use Rattle.protocol_model.specs.declared.moves.Move.{Move}
 use Rattle.protocol_model.specs.declared.moves.Move.TheVariants as move
 use Rattle.protocol_model.specs.Reading.{body_of, message_in}
 use Rattle.protocol_model.specs.Calls.{call_row, is_up, is_told, owes}
-use Rattle.protocol_model.specs.Turn.{Tunnel, Env, Turn, turn_of, reason, is_closed, shuts_by, closes_tunnel, with_output, with_move, with_calls, closes, with_local, letter_of, opening_of, letters_after, has_room, learns_window, gives, takes_one, drops, lets_all_go, acknowledged_after, settles, fresh, opened, opens_by, opens, accepted, accepts_by, accepts, adds, rings_new, rings, first_said, hears_control, hears_datagram, carried, carries, turns, tunnel_after, is_short, is_long}
+use Rattle.protocol_model.specs.Turn.{Tunnel, Env, Turn, turn_of, reason, is_closed, shuts_by, closes_tunnel, with_output, with_move, with_calls, closes, with_local, letter_of, opening_of, letters_after, has_room, learns_window, gives, takes_one, drops, lets_all_go, acknowledged_after, settles, fresh, opened, opens_by, opens, accepted, accepts_by, accepts, adds, rings_new, rings, first_said, hears_control, hears_datagram, carries, hears_link, hears_lcp, is_passing, turns, tunnel_after, is_short, is_long}
 use Rattle.protocol_model.specs.End.{End, Stepped, env_of, gives_only, placed, with_looks, after_turn, after_new}
 use Rattle.step_laws.specs.Room.{IsChosen, RingsNew}
 use Rattle.step_laws.specs.Causes.{IsTold, ForNew, ForOpening, Stands}
-use Rattle.step_laws.specs.Letters.{AFrame, HasOutput}
+use Rattle.step_laws.specs.Links.{HearsLcp, IsCalled, ForPacket, IsGiven}
 use Rattle.step_laws.specs.Moves.{LacksSecret, has_all_tunnels, IsUnknown, IsAgain, IsStop, IsFor, Hears, Chain, begun, WhyEnds, IsDropped, IsHungUp, ByOperator}
 use Rattle.step_laws.specs.Steps.{IsKept, AreKept, IsOfMoves, IsChain}
-use Rattle.step_laws.proofs.Lists.{all_map, branch, ascends_placed, ascends_looks}
+use Rattle.step_laws.proofs.Lists.{all_map, and_left, and_right, branch, ascends_placed, ascends_looks}
 use Rattle.step_laws.proofs.Owing.{Fits, closed_owes, dropped_owes, fits_given, owes_told}
 use Rattle.step_laws.proofs.Openings.{not_all}
 use Rattle.step_laws.proofs.Tells.{Tells}
-use Rattle.step_laws.proofs.Turns.{IsWord, NoFrame, Stays, Held, held_given, held_learnt, next_after, at_turn, TurnOk, learnt_state, learnt_queued, drops_ok, adds_ok}
+use Rattle.step_laws.proofs.Turns.{IsWord, Stays, Held, held_given, held_learnt, next_after, at_turn, TurnOk, learnt_state, learnt_queued, drops_ok, adds_ok}
+use Rattle.step_laws.proofs.Linking.{carried_ok, links_leave}
 use Rattle.step_laws.proofs.Settling.{OutOk, Settled, unsent, settled_ok, settles_ok}
 use Rattle.step_laws.proofs.Comes.{Fresh}
 use Rattle.step_laws.proofs.Closing.{ends_leave}
@@ -59,34 +62,6 @@ use Rattle.step_laws.proofs.Stopping.{row_shut, row_shut_closed}
 use Rattle.protocol_model.specs.Secrets.{challenge_by, response_by}
 use Rattle.step_laws.proofs.Secrets.{asks_so, responds_so}
 use Rattle.step_laws.proofs.Hearing.{hears_control_ok, rings_ok}
-
-pub no_frame_out : (outs : List Out) (m : Move) → NoFrame m → HasOutput outs m
-no_frame_out outs (move.FrameSent f) h = absurd h
-no_frame_out outs (move.Opened m) h = tt
-no_frame_out outs (move.Accepted m) h = tt
-no_frame_out outs (move.Connected m) h = tt
-no_frame_out outs (move.Confirmed m) h = tt
-no_frame_out outs (move.Added m) h = tt
-no_frame_out outs (move.Requested m) h = tt
-no_frame_out outs (move.Replied m) h = tt
-no_frame_out outs (move.FirstUp m) h = tt
-no_frame_out outs (move.SecondUp m) h = tt
-no_frame_out outs (move.Refused m) h = tt
-no_frame_out outs (move.EndTold m) h = tt
-no_frame_out outs (move.EndHeard m) h = tt
-no_frame_out outs (move.EndSilent m) h = tt
-no_frame_out outs (move.Declined m) h = tt
-no_frame_out outs (move.Closed m) h = tt
-no_frame_out outs (move.Rejected m) h = tt
-no_frame_out outs (move.ClosedBy m) h = tt
-no_frame_out outs (move.Cleared i) h = tt
-no_frame_out outs (move.Greeted m) h = tt
-no_frame_out outs (move.Repeated m) h = tt
-no_frame_out outs (move.TookPlain m) h = tt
-no_frame_out outs (move.NrRead m) h = tt
-no_frame_out outs (move.LetGo m) h = tt
-no_frame_out outs (move.Quiet i) h = tt
-no_frame_out outs (move.FrameUp m) h = tt
 
 pub word_is : (e : End) (ms : List Move) (x : Out) → IsWord x → IsOfMoves e ms x
 word_is e ms (Gone session) h = tt
@@ -189,7 +164,7 @@ module _ (e : End) (kept : AreKept e) (moment : ℕ) (ev : Event) where
       chain = record {
         chain = chain_after h.stays h.chain;
         outputs = all_map _ _ (ok_is left i tunnel (there_after h.stays.5) r.moves) r.outputs h.outs;
-        frames = all_map _ _ (no_frame_out r.outputs) r.moves h.frames;
+        frames = h.frames;
         kept = kept_after h.stays h.held h.fits;
       };
       tells = h.tells;
@@ -336,42 +311,51 @@ module _ (e : End) (kept : AreKept e) (moment : ℕ) (ev : Event) where
           by true closed =
               subst Shut (sym (row_shut_closed t.control.state closed)) (unsent e moment ev t.letters t.calls i start begins.good)
 
-      -- a frame leaves the tunnel as it was
-      carried_chain : (s : ℕ) (frame : List ℕ) (c : Call) → at t.calls s ≡ Some c → is_up c.state ≡ true
-          → (ev ≡ Payload s frame) ⊎ (ev ≡ Lower s frame) → leads (carried s frame c start)
-      unfolding carried with_output with_move after_turn with_calls with_looks placed
-      carried_chain s frame c found up given = record {
-        chain = record {
-          chain = (
-            e,
-            record { tunnel = t; there = there; peer = refl; call = c; calls = found; up = up; given = given; after = refl },
-            ap (λ ts. record e { tunnels = ts }) (sym (rw same (put-again i t e.tunnels kept.order is))),
-          );
-          outputs = (
-            inl (record {
-              id = i;
-              tunnel = tunnel_after start t.letters t.calls;
-              there = at_new e.tunnels i (tunnel_after start t.letters t.calls);
-              peer_is = refl;
-              carries = AFrame _ c (inl refl) refl refl found up refl refl;
-            }),
-            tt,
-          );
-          frames = ((t.control.remote, c.remote, inl refl), tt);
-          kept = kept_after t.letters t.calls i k.some (carried s frame c start) (k.local, k.busy, kept.sessions, kept.first, refl, refl) held_first fits_first;
-        };
-        tells = (tt, tt);
-      }
-
       pub carries_chain : (s : ℕ) (frame : List ℕ) (o : Option Call) → at t.calls s ≡ o → (ev ≡ Payload s frame) ⊎ (ev ≡ Lower s frame)
           → leads (carries s frame o start)
-      unfolding carries
+      unfolding carries with_calls
       carries_chain s frame None found given = dropped_leads why.Call (λ q. absurd cc)
       carries_chain s frame (Some c) found given =
-          branch leads (is_up c.state) _ _
+          branch leads (is_up c.state && is_passing c.link) _ _
           (λ up. branch leads (is_short frame) _ _ (λ short. dropped_leads why.Short (λ q. absurd cc))
-          (λ short. branch leads (is_long frame) _ _ (λ long. dropped_leads why.Long (λ q. absurd cc)) (λ long. carried_chain s frame c found up given)))
+          (λ short. branch leads (is_long frame) _ _ (λ long. dropped_leads why.Long (λ q. absurd cc))
+          (λ long. settled_leads _ (carried_ok e moment ev t.letters t.calls i s frame c start found (and_left (is_up c.state) _ up)
+          (IsGiven given (and_right (is_up c.state) _ up)) (unsent e moment ev t.letters t.calls i start begins.good)))))
           (λ down. dropped_leads why.Closed (λ q. absurd cc))
+
+      -- an LCP packet came up a call
+      packet_chain : (s peer : ℕ) (frame : List ℕ) (c : Call) → at t.calls s ≡ Some c → is_up c.state ≡ true → s < 65536
+          → HearsLcp ev peer t.control.local s frame → (o : Option Link) → c.link ≡ o → leads (hears_link e.role t.letters s frame c o start)
+      unfolding hears_link with_calls
+      packet_chain s peer frame c found up small hears None has = dropped_leads why.Closed (λ q. absurd cc)
+      packet_chain s peer frame c found up small hears (Some l) has =
+          let by = OnPacket (drop 2 frame) block moment in
+          let called : IsCalled ev moment t.control s l by = ForPacket peer frame block hears refl in
+          settled_leads _ (links_leave e moment ev t.letters t.calls i s c l by start
+          (record { found = found; has = has; up = up; called = called }) small
+          (λ done told. record {
+            id = i;
+            tunnel = t;
+            there = is;
+            session = s;
+            call = c;
+            live = found;
+            finishes = record { calls = record { link = l; has = has; by = by; called = called }; finished = done };
+            row = told;
+          })
+          (unsent e moment ev t.letters t.calls i start begins.good)).ok
+
+      pub lcp_chain : (s peer : ℕ) (frame : List ℕ) → HearsLcp ev peer t.control.local s frame
+          → leads (turns e.role e.config t.letters t.calls (Lcp s frame) start)
+      unfolding turns hears_lcp
+      lcp_chain s peer frame hears = by (at t.calls s) refl
+        where
+          by : (o : Option Call) → at t.calls s ≡ o → leads (hears_lcp e.role t.letters s frame o start)
+          by None found = dropped_leads why.Call (λ q. absurd cc)
+          by (Some c) found =
+              branch leads (nat_lt s 65536 && is_up c.state) _ _
+              (λ up. packet_chain s peer frame c found (and_right (nat_lt s 65536) _ up) (ltb-true s 65536 (and_left (nat_lt s 65536) _ up)) hears c.link refl)
+              (λ down. dropped_leads why.Closed (λ q. absurd cc))
 
     -- ---- a tunnel that is new
 

@@ -3,6 +3,7 @@ use Rattle.std.proofs.Common.{◌≡◌, ◌⊎◌, inl, inr, ⊎_elim, ℕ, ◌
 use Rattle.std.proofs.lemmas.Bool.{true≢false}
 use Rattle.std.specs.Prelude.{◌==◌, ◌&&◌, ◌||◌, nat_le, nat_lt, length}
 use Rattle.id_table.specs.Ids.{at, ids_of}
+use Rattle.wire_base.specs.declared.cause.Cause.{Cause as CauseOf}
 use Rattle.wire_base.specs.declared.cause.Cause.TheVariants as cause
 use Rattle.wire_base.specs.declared.letter.Letter.{Letter}
 use Rattle.control_message.specs.declared.message.Message.{Message}
@@ -18,14 +19,18 @@ use Rattle.call_fsm.specs.declared.table.CallAction.TheVariants as call_action
 use Rattle.call_fsm.specs.declared.table.CallEvent.TheVariants as call_event
 use Rattle.protocol_model.specs.declared.tunnel.Call.{Call}
 use Rattle.protocol_model.specs.declared.tunnel.Control.{Control}
+use Rattle.protocol_model.specs.declared.tunnel.Link.{Link}
 use Rattle.protocol_model.specs.declared.tunnel.Role.{Role}
+use Rattle.lcp_end.specs.Laws.{Call as LcpCall, OnTick, after as lcp_after}
+use Rattle.lcp_end.specs.Steps.{is_due}
 use Rattle.protocol_model.specs.declared.event.Event.TheVariants.{Tick}
-use Rattle.protocol_model.specs.Calls.{call_row, is_set_up}
-use Rattle.protocol_model.specs.Turn.{Tunnel, Turn, turn_of, with_output, with_move, with_change, gives, has_room, counts_sent, counts_repeated, sends_letter, sends_now, lets_go, goes_by, lets_all_go, repeats, acknowledges, outstanding, acknowledged_after, settles, ends_call, end_silent, end_told, ends_by, drops, greeted, greets, limits_at, limits_all, goes_quietly, clears, is_over, patience, is_at_its_end, ticks_by, ticks, turns}
+use Rattle.protocol_model.specs.Calls.{call_row, is_set_up, is_up}
+use Rattle.protocol_model.specs.Turn.{Tunnel, Turn, turn_of, with_output, with_move, with_change, gives, has_room, counts_sent, counts_repeated, sends_letter, sends_now, lets_go, goes_by, lets_all_go, repeats, acknowledges, outstanding, acknowledged_after, settles, ends_call, end_silent, end_told, ends_by, drops, greeted, greets, links, ticks_link, limits_at, limits_all, goes_quietly, clears, is_over, patience, is_at_its_end, ticks_by, ticks, turns}
 use Rattle.protocol_model.specs.End.{End, env_of}
 use Rattle.step_laws.specs.Left.{FailedTunnelsGo}
 use Rattle.step_laws.specs.Failing.{IsGivenUp, HasFailed, IsNotSetUp, WasClosed, IsUnanswered}
 use Rattle.step_laws.proofs.Lists.{branch}
+use Rattle.step_laws.proofs.Linking.{negotiated_is}
 use Rattle.step_laws.proofs.Moments.{failed_ends}
 use Rattle.step_laws.proofs.Late.{ticks_leave}
 
@@ -132,23 +137,38 @@ module _ (moment : ℕ) where
         (λ due. settled_good false letters _ (given_good 0 Hello _ h))
         (λ early. h)
 
-    ends_good : (s : ℕ) (c : Call) (a : CallAction) (t : Turn) → Good t → Good (ends_by cause.Setup 10 None s c a t)
+    ends_good : (for : CauseOf) (result s : ℕ) (c : Call) (a : CallAction) (t : Turn) → Good t → Good (ends_by for result None s c a t)
     unfolding ends_by end_silent end_told ends_call drops with_output with_change with_move
-    ends_good s c call_action.CleanUp t h = h
-    ends_good s c call_action.SendCdn t h = branch Good (has_room t.control) _ _ (λ may. given_good c.remote (Cdn s 10 None) _ h) (λ full. h)
-    ends_good s c call_action.Nothing t h = h
-    ends_good s c call_action.SendIcrq t h = h
-    ends_good s c call_action.SendIcrp t h = h
-    ends_good s c call_action.SendIccn t h = h
-    ends_good s c call_action.DropSession t h = h
+    ends_good for result s c call_action.CleanUp t h = h
+    ends_good for result s c call_action.SendCdn t h =
+        branch Good (has_room t.control) _ _ (λ may. given_good c.remote (Cdn s result None) _ h) (λ full. h)
+    ends_good for result s c call_action.Nothing t h = h
+    ends_good for result s c call_action.SendIcrq t h = h
+    ends_good for result s c call_action.SendIcrp t h = h
+    ends_good for result s c call_action.SendIccn t h = h
+    ends_good for result s c call_action.DropSession t h = h
+
+    -- what an LCP end gives is no letter
+    links_good : (s : ℕ) (c : Call) (l : Link) (by : LcpCall) (t : Turn) → Good t → Good (links role letters s c l (lcp_after by l.lcp) t)
+    unfolding links
+    links_good s c l by t h =
+        branch Good (lcp_after by l.lcp).out.finished _ _
+        (λ done. settled_good false letters _ (ends_good cause.Lcp 3 s c (call_row role c.state call_event.Close).1 t h))
+        (λ no. subst Good (sym (negotiated_is s c l by t)) h)
+
+    ticks_link_good : (s : ℕ) (c : Call) (o : Option Link) (t : Turn) → Good t → Good (ticks_link role letters s c o t)
+    unfolding ticks_link
+    ticks_link_good s c None t h = h
+    ticks_link_good s c (Some l) t h =
+        branch Good (nat_lt s 65536 && is_up c.state && is_due t.moment l.lcp) _ _ (λ due. links_good s c l (OnTick t.moment) t h) (λ no. h)
 
     limits_at_good : (s : ℕ) (o : Option Call) (t : Turn) → Good t → Good (limits_at role letters s o t)
     unfolding limits_at
     limits_at_good s None t h = h
     limits_at_good s (Some c) t h =
         branch Good (nat_lt s 65536 && is_set_up c.state && is_over patience t.moment c.since) _ _
-        (λ due. settled_good false letters _ (ends_good s c (call_row role c.state call_event.Close).1 t h))
-        (λ early. h)
+        (λ due. settled_good false letters _ (ends_good cause.Setup 10 s c (call_row role c.state call_event.Close).1 t h))
+        (λ early. ticks_link_good s c c.link t h)
 
     limits_all_good : (ss : List ℕ) (t : Turn) → Good t → Good (limits_all role letters ss calls t)
     unfolding limits_all

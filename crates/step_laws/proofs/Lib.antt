@@ -12,10 +12,13 @@ mod Chosen
 mod Granting
 mod Openings
 mod Turns
+mod Outputs
 mod Settling
 mod Comes
 mod Shutting
 mod Closing
+mod Keeping
+mod Linking
 mod Calls
 mod Faulty
 mod Stopping
@@ -33,6 +36,8 @@ mod Patience
 mod Late
 mod Lasting
 mod Asking
+mod LcpAsked
+mod NewTunnels
 mod Waiting
 pub mod Looks
 mod Few

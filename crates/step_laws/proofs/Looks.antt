@@ -1,7 +1,7 @@
 -- What the data plane sees of each session stays so.
 use Rattle.std.proofs.Common.{◌≡◌, ⊎_elim, ℕ, ◌+◌, ◌<◌, ◌≤◌, Bool, true, false, cond, List, [], ◌∷◌, refl, sym, ap, ◌∙◌, subst, Option, Some, None, Ok, Err, arith}
 use Rattle.std.proofs.lemmas.Option.{none-some}
-use Rattle.std.specs.Prelude.{nat_lt, ◌-◌, map}
+use Rattle.std.specs.Prelude.{nat_lt, ◌-◌, ◌&&◌, ◌||◌, not, map}
 use Rattle.id_source.specs.declared.IdError.TheVariants.{NoIds, NeedCeiling}
 use Rattle.id_source.specs.Spaces.{Space, draws, after_draw}
 use Rattle.wire_base.specs.declared.letter.Letter.{Letter}
@@ -9,6 +9,11 @@ use Rattle.tunnel_fsm.specs.declared.table.TunnelState.TheVariants as tunnel
 use Rattle.id_table.specs.Ids.{at, put, without, at-none, ids_of}
 use Rattle.id_table.specs.Order.{Ascends, ascends-put, ascends-empty, at_new, at_other, found_put, same_or_not, at_without_other, ascends-without, found_without}
 use Rattle.call_fsm.specs.declared.table.CallEvent.TheVariants as call_event
+use Rattle.call_fsm.specs.declared.table.CallState.{CallState}
+use Rattle.call_fsm.specs.declared.table.CallState.TheVariants.{Established}
+use Rattle.protocol_model.specs.declared.tunnel.Link.{Link}
+use Rattle.protocol_model.specs.declared.tunnel.Role.{Role}
+use Rattle.protocol_model.specs.declared.tunnel.Role.TheVariants.{Lac, Lns}
 use Rattle.protocol_model.specs.declared.event.Event.{Event}
 use Rattle.protocol_model.specs.declared.moves.Move.{Move}
 use Rattle.protocol_model.specs.declared.moves.Move.TheVariants as move
@@ -17,15 +22,17 @@ use Rattle.protocol_model.specs.declared.tunnel.CallPlace.{CallPlace}
 use Rattle.protocol_model.specs.declared.tunnel.CellChange.TheVariants as cell
 use Rattle.protocol_model.specs.declared.tunnel.Control.{Control}
 use Rattle.protocol_model.specs.declared.tunnel.Look.TheVariants as look
-use Rattle.protocol_model.specs.Calls.{advanced, rung, asked_for}
-use Rattle.protocol_model.specs.Turn.{Tunnel}
+use Rattle.protocol_model.specs.Calls.{call_row, advanced, rung, asked_for}
+use Rattle.protocol_model.specs.Turn.{Tunnel, with_link, link_after, is_first_open, looks_of}
+use Rattle.lcp_end.specs.Laws.{after as lcp_after}
+use Rattle.step_laws.specs.Links.{begun_link}
 use Rattle.protocol_model.specs.End.{End, with_look, with_looks}
 use Rattle.step_laws.specs.Moves.{with_tunnel, Does, Chain}
 use Rattle.step_laws.specs.Steps.{AreKept, StepsAreChains}
-use Rattle.step_laws.proofs.States.{requested_state, replied_state, rung_state, connected_state, up_state}
+use Rattle.step_laws.proofs.States.{requested_state, replied_state, rung_state, connected_state, up_state, request_is_lac, connection_is_lac, reply_is_lns, connected_is_lns}
 use Rattle.step_laws.proofs.Lists.{found_among, none_not_among, ascends_look, ascends_looks, killed_same, killed_other}
 use Rattle.step_laws.proofs.Turns.{learnt_peer}
-use Rattle.step_laws.specs.Looks.{look_of, IsLive, LooksAreTrue, LooksBeginTrue, LooksStayTrue}
+use Rattle.step_laws.specs.Looks.{look_by, look_in_state, look_of, LinkFits, IsLive, LooksAreTrue, LooksBeginTrue, LooksStayTrue}
 
 -- ---- draws
 
@@ -51,12 +58,67 @@ pub record AreOrdered (e : End) : Type 0 where
   pub calls : (i : ℕ) (t : Tunnel) → at e.tunnels i ≡ Some t → Ascends t.calls
   pub places : Ascends e.calls
 
+-- ---- links
+
+-- a LAC's call has no link, whatever its state
+lac_has_none : (r : Role) (s : CallState) (link : Option Link) → r ≡ Lac → LinkFits r s link → link ≡ None
+lac_has_none Lac s link lac h = h
+lac_has_none Lns s link lac h = absurd cc
+
+lac_fits : (r : Role) (s q : CallState) (link : Option Link) → r ≡ Lac → LinkFits r s link → LinkFits r q link
+lac_fits Lac s q link lac h = h
+lac_fits Lns s q link lac h = absurd cc
+
+rung_fits : (r : Role) (who : List ℕ) (moment : ℕ) → r ≡ Lac → LinkFits r (rung r who moment).state (rung r who moment).link
+unfolding rung advanced
+rung_fits Lac who moment lac = refl
+rung_fits Lns who moment lac = absurd cc
+
+asked_fits : (remote moment : ℕ) → LinkFits Lns (asked_for Lns remote moment).state (asked_for Lns remote moment).link
+unfolding asked_for advanced call_row
+asked_fits remote moment = refl
+
+-- one that has a link has another
+linked_fits : (r : Role) (s : CallState) (link : Option Link) (l m : Link) → link ≡ Some l → s ≡ Established → LinkFits r s link → LinkFits r s (Some m)
+linked_fits Lac s link l m is state h = absurd (none-some l (sym h ∙ is))
+linked_fits Lns s link l m is state h = rw state refl
+
+connected_fits : (r : Role) (s : CallState) (m : Link) → r ≡ Lns → s ≡ Established → LinkFits r s (Some m)
+connected_fits Lac s m lns state = absurd cc
+connected_fits Lns s m lns state = rw state refl
+
+-- a place that is put where it is
+same_place : (places : List (ℕ × CallPlace)) (s : ℕ) (p : CallPlace) → at places s ≡ Some p → (q : ℕ) → at places q ≡ at (put places s p) q
+same_place places s p is q = ⊎_elim
+    (λ e. rw e (is ∙ sym (at_new places s p)))
+    (λ o. sym (at_other places s p q o))
+    (same_or_not q s)
+
+-- what is seen of a call once LCP was open in it, or is as before
+opened_place : (places : List (ℕ × CallPlace)) (s i peer : ℕ) (network up : Bool)
+    → at places s ≡ Some (record { tunnel = i; look = look_by network i peer }) → (q : ℕ)
+    → at (with_looks (looks_of (up && not network) s) places) q ≡ at (put places s (record { tunnel = i; look = look_by (network || up) i peer })) q
+unfolding with_looks with_look
+opened_place places s i peer true true is q = same_place places s _ is q
+opened_place places s i peer true false is q = same_place places s _ is q
+opened_place places s i peer false false is q = same_place places s _ is q
+opened_place places s i peer false true is q = rw is refl
+
 -- ---- one tunnel is put, and one place
 
 module _ (x : End) (ok : LooksAreTrue x) where
   -- under one id there is one tunnel
   same_tunnel : (j i : ℕ) (u t : Tunnel) → j ≡ i → at x.tunnels j ≡ Some u → at x.tunnels i ≡ Some t → u ≡ t
   same_tunnel j i u t e a b = let g : Some u ≡ Some t = sym a ∙ subst (λ q. at x.tunnels q ≡ Some t) (sym e) b in cc
+
+  -- the links of calls, where a tunnel is put whose calls have such links
+  links_put : (y : End) (i : ℕ) (u : Tunnel) → y.tunnels ≡ put x.tunnels i u → y.role ≡ x.role
+      → ((s : ℕ) (d : Call) → at u.calls s ≡ Some d → LinkFits x.role d.state d.link) → (j : ℕ) (v : Tunnel) → at y.tunnels j ≡ Some v
+      → (s : ℕ) (d : Call) → at v.calls s ≡ Some d → LinkFits y.role d.state d.link
+  links_put y i u tunnels role own j v f s d g = subst (λ r. LinkFits r d.state d.link) (sym role) (⊎_elim
+      (λ (a : (j ≡ i) × (u ≡ v)). own s d (rw (← a.1) at g))
+      (λ a. ok.links j v a.1 s d g)
+      (found_put x.tunnels i u j v (rw (← tunnels) f)))
 
   -- a tunnel goes on with the calls that it has
   calls_stay : (i : ℕ) (t : Tunnel) (c : Control) (ls : List Letter) → at x.tunnels i ≡ Some t → c.peer ≡ t.control.peer
@@ -71,6 +133,8 @@ module _ (x : End) (ok : LooksAreTrue x) where
         (λ (a : (j ≡ i) × (record t { control = c; letters = ls } ≡ u)). rw (a.0, ← a.1, peer) (ok.seen i t there s d (rw (← a.1) at g)))
         (λ a. ok.seen j u a.1 s d g)
         (found_put x.tunnels i (record t { control = c; letters = ls }) j u f);
+    links = links_put (with_tunnel x i (record t { control = c; letters = ls })) i (record t { control = c; letters = ls }) refl refl
+        (λ s d g. ok.links i t there s d g);
     tunnels = λ j u f. ⊎_elim
         (λ (a : (j ≡ i) × (record t { control = c; letters = ls } ≡ u)). rw a.0 (ok.tunnels i t there))
         (λ a. ok.tunnels j u a.1)
@@ -80,8 +144,8 @@ module _ (x : End) (ok : LooksAreTrue x) where
 
   -- a tunnel that is new has no calls
   tunnel_born : (y : End) (i : ℕ) (c : Control) (ls : List Letter) → i ≡ x.tunnel_ids.next → y.tunnels ≡ put x.tunnels i (record { control = c; letters = ls; calls = [] })
-      → y.calls ≡ x.calls → y.tunnel_ids.next ≡ i + 1 → y.session_ids ≡ x.session_ids → LooksAreTrue y
-  tunnel_born y i c ls fresh tunnels calls next sessions = record {
+      → y.calls ≡ x.calls → y.tunnel_ids.next ≡ i + 1 → y.session_ids ≡ x.session_ids → y.role ≡ x.role → LooksAreTrue y
+  tunnel_born y i c ls fresh tunnels calls next sessions role = record {
     live = λ s p f.
         let l = ok.live s p (rw (← calls) f) in
         let lt = ok.tunnels p.tunnel l.tunnel l.there in
@@ -95,6 +159,7 @@ module _ (x : End) (ok : LooksAreTrue x) where
         (λ (a : (j ≡ i) × (record { control = c; letters = ls; calls = [] } ≡ u)). absurd (let h : at [] s ≡ Some d = rw (← a.1) at g in none-some d (sym (at-none s) ∙ h)))
         (λ a. rw calls (ok.seen j u a.1 s d g))
         (found_put x.tunnels i (record { control = c; letters = ls; calls = [] }) j u (rw (← tunnels) f));
+    links = links_put y i (record { control = c; letters = ls; calls = [] }) tunnels role (λ s d g. absurd (none-some d (sym (at-none s) ∙ g)));
     tunnels = λ j u f. ⊎_elim
         (λ (a : (j ≡ i) × (record { control = c; letters = ls; calls = [] } ≡ u)). (let e = a.0 in omega (arith, next, e)))
         (λ a. let lt = ok.tunnels j u a.1 in omega (arith, next, fresh))
@@ -108,8 +173,10 @@ module _ (x : End) (ok : LooksAreTrue x) where
     there : at x.tunnels i ≡ Some t
     peer : c.peer ≡ t.control.peer
     only : (j : ℕ) (u : Tunnel) → at x.tunnels j ≡ Some u → (j ≡ i → ⊥) → (d : Call) → at u.calls s ≡ Some d → ⊥
-    calls : (q : ℕ) → at y.calls q ≡ at (put x.calls s (record { tunnel = i; look = look_of k.state i t.control.peer })) q
+    calls : (q : ℕ) → at y.calls q ≡ at (put x.calls s (record { tunnel = i; look = look_of k i t.control.peer })) q
     ids : y.tunnel_ids ≡ x.tunnel_ids
+    role : y.role ≡ x.role
+    fits : LinkFits x.role k.state k.link
     drawn : s < y.session_ids.next
     rises : x.session_ids.next ≤ y.session_ids.next
 
@@ -118,7 +185,7 @@ module _ (x : End) (ok : LooksAreTrue x) where
     u = record { control = c; letters = ls; calls = put t.calls s k }
 
     abbrev place : CallPlace
-    place = record { tunnel = i; look = look_of k.state i t.control.peer }
+    place = record { tunnel = i; look = look_of k i t.control.peer }
 
     there_now : at y.tunnels i ≡ Some u
     there_now = rw sets.tunnels (at_new x.tunnels i u)
@@ -138,14 +205,14 @@ module _ (x : End) (ok : LooksAreTrue x) where
         (λ a. live_other q p a.0 a.1)
         (found_put x.calls s place q p (sym (sets.calls q) ∙ f))
 
-    seen_here : (q : ℕ) (d : Call) → at (put t.calls s k) q ≡ Some d → at y.calls q ≡ Some (record { tunnel = i; look = look_of d.state i c.peer })
+    seen_here : (q : ℕ) (d : Call) → at (put t.calls s k) q ≡ Some d → at y.calls q ≡ Some (record { tunnel = i; look = look_of d i c.peer })
     seen_here q d g = ⊎_elim
         (λ (a : (q ≡ s) × (k ≡ d)). rw (← a.1, a.0, sets.peer) (sets.calls s ∙ at_new x.calls s place))
         (λ a. rw sets.peer (sets.calls q ∙ at_other x.calls s place q a.0 ∙ ok.seen i t sets.there q d a.1))
         (found_put t.calls s k q d g)
 
     seen_there : (j : ℕ) (v : Tunnel) → at x.tunnels j ≡ Some v → (j ≡ i → ⊥) → (q : ℕ) (d : Call) → at v.calls q ≡ Some d
-        → at y.calls q ≡ Some (record { tunnel = j; look = look_of d.state j v.control.peer })
+        → at y.calls q ≡ Some (record { tunnel = j; look = look_of d j v.control.peer })
     seen_there j v f o q d g =
         let other : q ≡ s → ⊥ = λ e. sets.only j v f o d (subst (λ n. at v.calls n ≡ Some d) e g) in
         sets.calls q ∙ at_other x.calls s place q other ∙ ok.seen j v f q d g
@@ -157,6 +224,10 @@ module _ (x : End) (ok : LooksAreTrue x) where
           (λ (a : (j ≡ i) × (u ≡ v)). rw (a.0, ← a.1) (seen_here q d (rw (← a.1) at g)))
           (λ a. seen_there j v a.1 a.0 q d g)
           (found_put x.tunnels i u j v (rw (← sets.tunnels) f));
+      links = links_put y i u sets.tunnels sets.role (λ q d g. ⊎_elim
+          (λ (a : (q ≡ s) × (k ≡ d)). subst (λ (w : Call). LinkFits x.role w.state w.link) a.1 sets.fits)
+          (λ a. ok.links i t sets.there q d a.1)
+          (found_put t.calls s k q d g));
       tunnels = λ j v f. rw sets.ids (⊎_elim
           (λ (a : (j ≡ i) × (u ≡ v)). rw a.0 (ok.tunnels i t sets.there))
           (λ a. ok.tunnels j v a.1)
@@ -168,7 +239,7 @@ module _ (x : End) (ok : LooksAreTrue x) where
 
   -- the place of a call in a tunnel
   abbrev seen_in : ℕ → Tunnel → Call → CallPlace
-  seen_in j u d = record { tunnel = j; look = look_of d.state j u.control.peer }
+  seen_in j u d = record { tunnel = j; look = look_of d j u.control.peer }
 
   -- no other tunnel has a call that is in this one
   one_tunnel : (i : ℕ) (t : Tunnel) → at x.tunnels i ≡ Some t → (s : ℕ) (c : Call) → at t.calls s ≡ Some c → (j : ℕ) (u : Tunnel)
@@ -183,13 +254,6 @@ module _ (x : End) (ok : LooksAreTrue x) where
   no_tunnel : (s : ℕ) → s ≡ x.session_ids.next → (j : ℕ) (u : Tunnel) → at x.tunnels j ≡ Some u → (d : Call) → at u.calls s ≡ Some d → ⊥
   no_tunnel s fresh j u f d g = let lt = ok.sessions s _ (ok.seen j u f s d g) in omega (arith, fresh)
 
-  -- what is put twice is the last
-  put_twice : (s : ℕ) (a b : CallPlace) (q : ℕ) → at (put (put x.calls s a) s b) q ≡ at (put x.calls s b) q
-  put_twice s a b q = ⊎_elim
-      (λ e. rw e (at_new (put x.calls s a) s b ∙ sym (at_new x.calls s b)))
-      (λ o. at_other (put x.calls s a) s b q o ∙ at_other x.calls s a q o ∙ sym (at_other x.calls s b q o))
-      (same_or_not q s)
-
   same_places : (es fs : List (ℕ × CallPlace)) → es ≡ fs → (q : ℕ) → at es q ≡ at fs q
   same_places es fs e q = ap (λ (l : List (ℕ × CallPlace)). at l q) e
 
@@ -201,6 +265,7 @@ module _ (x : End) (ok : LooksAreTrue x) where
     live : at t.calls s ≡ Some k
     calls : y.calls ≡ without x.calls s
     ids : y.tunnel_ids ≡ x.tunnel_ids
+    role : y.role ≡ x.role
     drawn : y.session_ids ≡ x.session_ids
 
   module _ (order : AreOrdered x) (y : End) (i : ℕ) (t : Tunnel) (c : Control) (ls : List Letter) (s : ℕ) (k : Call) (ends : EndsCall y i t c ls s k) where
@@ -222,7 +287,7 @@ module _ (x : End) (ok : LooksAreTrue x) where
     place_still : (q : ℕ) (p : CallPlace) → (q ≡ s → ⊥) → at x.calls q ≡ Some p → at y.calls q ≡ Some p
     place_still q p o f = rw ends.calls (at_without_other x.calls s q o ∙ f)
 
-    seen_rest : (q : ℕ) (d : Call) → (q ≡ s → ⊥) × (at t.calls q ≡ Some d) → at y.calls q ≡ Some (record { tunnel = i; look = look_of d.state i c.peer })
+    seen_rest : (q : ℕ) (d : Call) → (q ≡ s → ⊥) × (at t.calls q ≡ Some d) → at y.calls q ≡ Some (record { tunnel = i; look = look_of d i c.peer })
     seen_rest q d f = rw ends.peer (place_still q _ f.0 (ok.seen i t ends.there q d f.1))
 
     seen_apart : (j : ℕ) (v : Tunnel) → at x.tunnels j ≡ Some v → (j ≡ i → ⊥) → (q : ℕ) (d : Call) → at v.calls q ≡ Some d
@@ -237,6 +302,8 @@ module _ (x : End) (ok : LooksAreTrue x) where
           (λ (a : (j ≡ i) × (rest ≡ v)). rw (a.0, ← a.1) (seen_rest q d (found_without t.calls s q d (order.calls i t ends.there) (rw (← a.1) at g))))
           (λ a. seen_apart j v a.1 a.0 q d g)
           (found_put x.tunnels i rest j v (rw (← ends.tunnels) f));
+      links = links_put y i rest ends.tunnels ends.role
+          (λ q d g. ok.links i t ends.there q d (found_without t.calls s q d (order.calls i t ends.there) g).1);
       tunnels = λ j v f. rw ends.ids (⊎_elim
           (λ (a : (j ≡ i) × (rest ≡ v)). rw a.0 (ok.tunnels i t ends.there))
           (λ a. ok.tunnels j v a.1)
@@ -273,6 +340,7 @@ module _ (x : End) (ok : LooksAreTrue x) where
     tunnel_gone = record {
       live = λ q p f. live_left q p (left_place q p f (at t.calls q) refl);
       seen = λ j v f q d g. seen_left j v (found_without x.tunnels i j v order.tunnels f) q d g (at t.calls q) refl;
+      links = λ j v f. ok.links j v (found_without x.tunnels i j v order.tunnels f).1;
       tunnels = λ j v f. ok.tunnels j v (found_without x.tunnels i j v order.tunnels f).1;
       sessions = λ q p f. ok.sessions q p (left_place q p f (at t.calls q) refl).1;
     }
@@ -301,6 +369,7 @@ module _ (x : End) (ok : LooksAreTrue x) where
           (λ (a : (j ≡ i) × (bare ≡ v)). absurd (let none : at [] q ≡ Some d = rw (← a.1) at g in none-some d (sym (at-none q) ∙ none)))
           (λ a. seen_left order i t there j v a q d g (at t.calls q) refl)
           (found_put x.tunnels i bare j v f);
+      links = links_put closed i bare refl refl (λ q d g. absurd (none-some d (sym (at-none q) ∙ g)));
       tunnels = λ j v f. ⊎_elim
           (λ (a : (j ≡ i) × (bare ≡ v)). rw a.0 (ok.tunnels i t there))
           (λ a. ok.tunnels j v a.1)
@@ -315,10 +384,10 @@ module _ (x : End) (ok : LooksAreTrue x) where
   unfolding with_look advanced
   does_looks order moment ev (move.Opened m) y h =
       tunnel_born y m.tunnel _ _ (draw_is x.tunnel_ids m.tunnel h.drawn) (ap (λ (e : End). e.tunnels) h.after) (ap (λ (e : End). e.calls) h.after)
-      (ap (λ (e : End). e.tunnel_ids.next) h.after ∙ drawn_next x.tunnel_ids m.tunnel h.drawn) (ap (λ (e : End). e.session_ids) h.after)
+      (ap (λ (e : End). e.tunnel_ids.next) h.after ∙ drawn_next x.tunnel_ids m.tunnel h.drawn) (ap (λ (e : End). e.session_ids) h.after) (ap (λ (e : End). e.role) h.after)
   does_looks order moment ev (move.Accepted m) y h =
       tunnel_born y m.tunnel _ _ (draw_is x.tunnel_ids m.tunnel h.drawn) (ap (λ (e : End). e.tunnels) h.after) (ap (λ (e : End). e.calls) h.after)
-      (ap (λ (e : End). e.tunnel_ids.next) h.after ∙ drawn_next x.tunnel_ids m.tunnel h.drawn) (ap (λ (e : End). e.session_ids) h.after)
+      (ap (λ (e : End). e.tunnel_ids.next) h.after ∙ drawn_next x.tunnel_ids m.tunnel h.drawn) (ap (λ (e : End). e.session_ids) h.after) (ap (λ (e : End). e.role) h.after)
   does_looks order moment ev (move.Connected m) y h =
       subst LooksAreTrue (sym h.after) (calls_stay m.tunnel h.tunnel _ _ h.there (learnt_peer m.window (record h.tunnel.control { remote = m.remote; state = tunnel.Established })))
   does_looks order moment ev (move.Confirmed m) y h = subst LooksAreTrue (sym h.after) (calls_stay m.tunnel h.tunnel _ _ h.there refl)
@@ -333,6 +402,8 @@ module _ (x : End) (ok : LooksAreTrue x) where
         only = λ j u f o d g. no_tunnel m.session fresh j u f d g;
         calls = same_places y.calls _ (ap (λ (e : End). e.calls) h.after ∙ rw (rung_state x.role m.subscriber moment h.role) refl);
         ids = ap (λ (e : End). e.tunnel_ids) h.after;
+        role = ap (λ (e : End). e.role) h.after;
+        fits = rung_fits x.role m.subscriber moment h.role;
         drawn = omega (arith, next);
         rises = omega (arith, next, fresh);
       })
@@ -346,6 +417,8 @@ module _ (x : End) (ok : LooksAreTrue x) where
         only = λ j u f o d g. no_tunnel m.session fresh j u f d g;
         calls = same_places y.calls _ (ap (λ (e : End). e.calls) h.after ∙ rw (replied_state x.role m.remote moment h.row) refl);
         ids = ap (λ (e : End). e.tunnel_ids) h.after;
+        role = ap (λ (e : End). e.role) h.after;
+        fits = rw (reply_is_lns x.role h.row) (asked_fits m.remote moment);
         drawn = omega (arith, next);
         rises = omega (arith, next, fresh);
       })
@@ -360,6 +433,8 @@ module _ (x : End) (ok : LooksAreTrue x) where
         only = one_tunnel m.tunnel h.tunnel h.there m.session h.call h.waits;
         calls = same_places y.calls _ (ap (λ (e : End). e.calls) h.after ∙ rw (seen, (requested_state x.role h.call.state h.row).1) refl);
         ids = ap (λ (e : End). e.tunnel_ids) h.after;
+        role = ap (λ (e : End). e.role) h.after;
+        fits = lac_fits x.role h.call.state _ h.call.link (request_is_lac x.role h.call.state h.row) (ok.links m.tunnel h.tunnel h.there m.session h.call h.waits);
         drawn = rw ids lt;
         rises = rw ids (omega arith);
       })
@@ -368,15 +443,19 @@ module _ (x : End) (ok : LooksAreTrue x) where
       let lt = ok.sessions m.session _ seen in
       let ids : y.session_ids ≡ x.session_ids = ap (λ (e : End). e.session_ids) h.after in
       let state = connected_state x.role h.call.state h.row in
+      let lac = connection_is_lac x.role h.call.state h.row in
+      let none = lac_has_none x.role h.call.state h.call.link lac (ok.links m.tunnel h.tunnel h.there m.session h.call h.asked) in
       let bound : at x.calls m.session ≡ Some (record { tunnel = m.tunnel; look = look.Bound m.tunnel h.tunnel.control.peer }) =
-      seen ∙ ap (λ q. Some (record { tunnel = m.tunnel; look = look_of q m.tunnel h.tunnel.control.peer })) state.0 in
+      seen ∙ ap (λ q. Some (record { tunnel = m.tunnel; look = look_in_state q h.call.link m.tunnel h.tunnel.control.peer })) state.0 in
       call_put y m.tunnel h.tunnel _ _ m.session (advanced x.role call_event.IcrpAcc moment (record h.call { remote = m.remote })) (record {
         tunnels = ap (λ (e : End). e.tunnels) h.after;
         there = h.there;
         peer = refl;
         only = one_tunnel m.tunnel h.tunnel h.there m.session h.call h.asked;
-        calls = same_places y.calls _ (ap (λ (e : End). e.calls) h.after ∙ rw (bound, state.1) refl);
+        calls = same_places y.calls _ (ap (λ (e : End). e.calls) h.after ∙ rw (bound, state.1, none) refl);
         ids = ap (λ (e : End). e.tunnel_ids) h.after;
+        role = ap (λ (e : End). e.role) h.after;
+        fits = lac_fits x.role h.call.state _ h.call.link lac (ok.links m.tunnel h.tunnel h.there m.session h.call h.asked);
         drawn = rw ids lt;
         rises = rw ids (omega arith);
       })
@@ -385,17 +464,15 @@ module _ (x : End) (ok : LooksAreTrue x) where
       let lt = ok.sessions m.session _ seen in
       let ids : y.session_ids ≡ x.session_ids = ap (λ (e : End). e.session_ids) h.after in
       let state = up_state _ h.row in
-      let bound : CallPlace = record { tunnel = m.tunnel; look = look.Bound m.tunnel h.tunnel.control.peer } in
-      let up : CallPlace = record { tunnel = m.tunnel; look = look.Established m.tunnel h.tunnel.control.peer } in
-      let places : y.calls ≡ put (put x.calls m.session bound) m.session up =
-      ap (λ (e : End). e.calls) h.after ∙ rw (seen, at_new x.calls m.session bound) refl in
-      call_put y m.tunnel h.tunnel _ _ m.session (advanced x.role call_event.IccnAcc moment h.call) (record {
+      call_put y m.tunnel h.tunnel _ _ m.session (with_link (begun_link h.magic) (advanced x.role call_event.IccnAcc moment h.call)) (record {
         tunnels = ap (λ (e : End). e.tunnels) h.after;
         there = h.there;
         peer = refl;
         only = one_tunnel m.tunnel h.tunnel h.there m.session h.call h.made;
-        calls = λ q. same_places y.calls _ places q ∙ put_twice m.session bound up q ∙ rw state refl;
+        calls = same_places y.calls _ (ap (λ (e : End). e.calls) h.after ∙ rw (seen, state) refl);
         ids = ap (λ (e : End). e.tunnel_ids) h.after;
+        role = ap (λ (e : End). e.role) h.after;
+        fits = connected_fits x.role _ _ (connected_is_lns x.role h.call.state h.row) state;
         drawn = rw ids lt;
         rises = rw ids (omega arith);
       })
@@ -407,6 +484,7 @@ module _ (x : End) (ok : LooksAreTrue x) where
         live = h.live;
         calls = ap (λ (e : End). e.calls) h.after;
         ids = ap (λ (e : End). e.tunnel_ids) h.after;
+        role = ap (λ (e : End). e.role) h.after;
         drawn = ap (λ (e : End). e.session_ids) h.after;
       })
   does_looks order moment ev (move.EndHeard m) y h =
@@ -417,6 +495,7 @@ module _ (x : End) (ok : LooksAreTrue x) where
         live = h.live;
         calls = ap (λ (e : End). e.calls) h.after;
         ids = ap (λ (e : End). e.tunnel_ids) h.after;
+        role = ap (λ (e : End). e.role) h.after;
         drawn = ap (λ (e : End). e.session_ids) h.after;
       })
   does_looks order moment ev (move.EndSilent m) y h =
@@ -427,6 +506,7 @@ module _ (x : End) (ok : LooksAreTrue x) where
         live = h.live;
         calls = ap (λ (e : End). e.calls) h.after;
         ids = ap (λ (e : End). e.tunnel_ids) h.after;
+        role = ap (λ (e : End). e.role) h.after;
         drawn = ap (λ (e : End). e.session_ids) h.after;
       })
   does_looks order moment ev (move.Closed m) y h = subst LooksAreTrue (sym h.after) (tunnel_shut order m.tunnel h.tunnel h.there _ _)
@@ -440,6 +520,29 @@ module _ (x : End) (ok : LooksAreTrue x) where
   does_looks order moment ev (move.LetGo m) y h = subst LooksAreTrue (sym h.after) (calls_stay m.tunnel h.tunnel _ _ h.there refl)
   does_looks order moment ev (move.Declined m) y h = stays y h.after
   does_looks order moment ev (move.Quiet i) y h = stays y h.after
+  does_looks order moment ev (move.Negotiated m) y h =
+      let seen = ok.seen m.tunnel h.tunnel h.there m.session h.call h.live in
+      let lt = ok.sessions m.session _ seen in
+      let ids : y.session_ids ≡ x.session_ids = ap (λ (e : End). e.session_ids) h.after in
+      let state = up_state h.call.state h.up in
+      let v = lcp_after h.calls.by h.calls.link.lcp in
+      let seen_so : at x.calls m.session ≡ Some (record { tunnel = m.tunnel; look = look_by h.calls.link.network m.tunnel h.tunnel.control.peer }) =
+      seen ∙ rw (state, h.calls.has) refl in
+      let places = ap (λ (e : End). e.calls) h.after in
+      call_put y m.tunnel h.tunnel _ _ m.session (with_link (link_after h.calls.link v) h.call) (record {
+        tunnels = ap (λ (e : End). e.tunnels) h.after;
+        there = h.there;
+        peer = refl;
+        only = one_tunnel m.tunnel h.tunnel h.there m.session h.call h.live;
+        calls = λ q. same_places y.calls _ places q
+            ∙ (opened_place x.calls m.session m.tunnel h.tunnel.control.peer h.calls.link.network v.out.up seen_so q ∙ rw state refl);
+        ids = ap (λ (e : End). e.tunnel_ids) h.after;
+        role = ap (λ (e : End). e.role) h.after;
+        fits = linked_fits x.role h.call.state h.call.link h.calls.link (link_after h.calls.link v) h.calls.has state
+            (ok.links m.tunnel h.tunnel h.there m.session h.call h.live);
+        drawn = rw ids lt;
+        rises = rw ids (omega arith);
+      })
   does_looks order moment ev (move.FrameSent m) y h = stays y h.after
   does_looks order moment ev (move.FrameUp m) y h = stays y h.after
 
@@ -494,7 +597,7 @@ module _ (x : End) (ok : AreOrdered x) where
       (subst (λ (e : End). Ascends e.calls) (sym h.after) (ascends_look _ x.calls ok.places))
   does_order moment ev (move.SecondUp m) y h =
       tunnel_put y m.tunnel _ (ascends-put m.session _ h.tunnel.calls (ok.calls m.tunnel h.tunnel h.there)) (ap (λ (e : End). e.tunnels) h.after)
-      (subst (λ (e : End). Ascends e.calls) (sym h.after) (ascends_look _ _ (ascends_look _ x.calls ok.places)))
+      (subst (λ (e : End). Ascends e.calls) (sym h.after) (ascends_look _ x.calls ok.places))
   does_order moment ev (move.EndTold m) y h =
       tunnel_put y m.tunnel _ (ascends-without m.session h.tunnel.calls (ok.calls m.tunnel h.tunnel h.there)) (ap (λ (e : End). e.tunnels) h.after)
       (subst (λ (e : End). Ascends e.calls) (sym h.after) (ascends_look (cell.Kill m.session) x.calls ok.places))
@@ -521,6 +624,10 @@ module _ (x : End) (ok : AreOrdered x) where
       })
   does_order moment ev (move.Declined m) y h = subst AreOrdered (sym h.after) ok
   does_order moment ev (move.Quiet i) y h = subst AreOrdered (sym h.after) ok
+  does_order moment ev (move.Negotiated m) y h =
+      tunnel_put y m.tunnel _ (ascends-put m.session _ h.tunnel.calls (ok.calls m.tunnel h.tunnel h.there)) (ap (λ (e : End). e.tunnels) h.after)
+      (subst (λ (e : End). Ascends e.calls) (sym h.after)
+      (ascends_looks (looks_of (is_first_open h.calls.link (lcp_after h.calls.by h.calls.link.lcp).out) m.session) x.calls ok.places))
   does_order moment ev (move.FrameSent m) y h = subst AreOrdered (sym h.after) ok
   does_order moment ev (move.FrameUp m) y h = subst AreOrdered (sym h.after) ok
 
@@ -536,6 +643,7 @@ pub looks_begin : LooksBeginTrue
 looks_begin r c = record {
   live = λ s p f. absurd (none-some p (sym (at-none s) ∙ f));
   seen = λ i t f s d g. absurd (none-some t (sym (at-none i) ∙ f));
+  links = λ i t f s d g. absurd (none-some t (sym (at-none i) ∙ f));
   tunnels = λ i t f. absurd (none-some t (sym (at-none i) ∙ f));
   sessions = λ s p f. absurd (none-some p (sym (at-none s) ∙ f));
 }

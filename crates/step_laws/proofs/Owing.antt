@@ -213,6 +213,18 @@ module _ (c : Control) (calls : List (ℕ × Call)) (s : ℕ) (d : Call) where
       let few = h.2 in
       fits_given c (put calls s d) live (ascends-put s d calls h.0) (many_instead k h.0 found h.1) (omega (arith, owed, less, few))
 
+  -- a call that owes as much is put in place of one
+  pub fits_same : (k : Call) → at calls s ≡ Some k → owes d.state ≡ owes k.state → Fits c calls → Fits c (put calls s d)
+  fits_same k found same h =
+      let owed = owed_instead k h.0 found in (
+        ascends-put s d calls h.0,
+        many_instead k h.0 found h.1,
+        (λ live. let few = h.2 live in omega (arith, owed, same, few)),
+        (λ o. let least = h.3 o in omega (arith, owed, same, least)),
+        h.4,
+        (λ closed. absurd (true≢false (sym closed ∙ live_with c calls s k found h))),
+      )
+
   -- a call that owes one letter is put in place of one, where the tunnel may take
   pub fits_up : (k : Call) → at calls s ≡ Some k → owes d.state ≡ 1 → may_take c calls ≡ true → Fits c calls → Fits c (put calls s d)
   fits_up k found one may h =

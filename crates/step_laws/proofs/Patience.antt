@@ -3,9 +3,10 @@ use Rattle.std.proofs.Common.{◌≡◌, ◌⊎◌, inl, inr, ⊎_elim, ℕ, ◌
 use Rattle.std.proofs.lemmas.Bool.{true≢false, lt-ltb}
 use Rattle.std.proofs.lemmas.Option.{none-some}
 use Rattle.std.specs.Prelude.{◌==◌, ◌&&◌, nat_lt}
-use Rattle.id_table.specs.Ids.{at, without, ids_of}
-use Rattle.id_table.specs.Order.{Ascends, ascends-without, found_without}
+use Rattle.id_table.specs.Ids.{at, put, without, ids_of}
+use Rattle.id_table.specs.Order.{Ascends, ascends-put, ascends-without, found_put, found_without}
 use Rattle.wire_base.specs.declared.why.Why.TheVariants as why
+use Rattle.wire_base.specs.declared.cause.Cause.{Cause as CauseOf}
 use Rattle.wire_base.specs.declared.cause.Cause.TheVariants as cause
 use Rattle.wire_base.specs.declared.letter.Letter.{Letter}
 use Rattle.control_message.specs.declared.message.Message.TheVariants.{Hello}
@@ -16,16 +17,23 @@ use Rattle.tunnel_fsm.specs.Rows.{state_number}
 use Rattle.call_fsm.specs.declared.table.CallAction.{CallAction}
 use Rattle.call_fsm.specs.declared.table.CallAction.TheVariants as call_action
 use Rattle.call_fsm.specs.declared.table.CallEvent.TheVariants as call_event
+use Rattle.call_fsm.specs.declared.table.CallState.{CallState}
+use Rattle.call_fsm.specs.declared.table.CallState.TheVariants as call_state
+use Rattle.lcp_end.specs.Laws.{Call as LcpCall, OnTick, after as lcp_after}
+use Rattle.lcp_end.specs.Steps.{is_due as lcp_is_due}
 use Rattle.protocol_model.specs.declared.tunnel.Call.{Call}
+use Rattle.protocol_model.specs.declared.tunnel.Control.{Control}
+use Rattle.protocol_model.specs.declared.tunnel.Link.{Link}
 use Rattle.protocol_model.specs.declared.tunnel.Role.{Role}
 use Rattle.protocol_model.specs.declared.moves.Move.TheVariants as move
 use Rattle.protocol_model.specs.declared.out.Out.TheVariants.{Cause}
-use Rattle.protocol_model.specs.Calls.{call_row, is_set_up, is_told}
-use Rattle.protocol_model.specs.Turn.{Turn, with_output, with_move, with_change, with_calls, gives, has_room, place, next_place, letter_in, counts_repeated, sends_now, settles, ends_call, is_clean_up, repeats, greeted, greets, end_silent, end_told, ends_by, drops, sends_letter, limits_at, limits_all, goes_quietly, clears, is_over, patience, is_at_its_end, ticks_by, ticks}
+use Rattle.protocol_model.specs.Calls.{call_row, is_set_up, is_up, is_told}
+use Rattle.protocol_model.specs.Turn.{Turn, with_output, with_move, with_change, with_calls, gives, has_room, place, next_place, letter_in, counts_repeated, sends_now, settles, ends_call, is_clean_up, repeats, greeted, greets, end_silent, end_told, ends_by, drops, sends_letter, with_link, link_after, negotiated, links, ticks_link, limits_at, limits_all, goes_quietly, clears, is_over, patience, is_at_its_end, ticks_by, ticks}
 use Rattle.step_laws.specs.Letters.{Among}
-use Rattle.step_laws.proofs.Lists.{branch, found_among, with_calls-more}
+use Rattle.step_laws.proofs.Lists.{branch, and_left, and_right, found_among, with_calls-more}
+use Rattle.step_laws.proofs.Linking.{negotiated_is}
 use Rattle.step_laws.proofs.States.{never}
-use Rattle.step_laws.proofs.Ticking.{Keeps, repeated_room, sent_keeps, settled_keeps, more_full}
+use Rattle.step_laws.proofs.Keeping.{Keeps, repeated_room, sent_keeps, settled_keeps, more_full}
 
 -- a call took as long as a call may to be set up, and ends by its table
 pub record IsDue (role : Role) (moment s : ℕ) (c : Call) : Type 0 where
@@ -42,23 +50,24 @@ module _ (role : Role) (moment : ℕ) (calls : List (ℕ × Call)) where
   record Ticked (t : Turn) : Type 0 where
     order : Ascends (with_calls t.changed calls)
     same_moment : t.moment ≡ moment
-    few : (s : ℕ) (c : Call) → There t s c → at calls s ≡ Some c
+    -- those that are being set up are as they were
+    few : (s : ℕ) (c : Call) → There t s c → is_set_up c.state ≡ true → at calls s ≡ Some c
 
   -- what a part of it leaves
   record Leads (t u : Turn) : Type 0 where
     ok : Ticked u
     room : has_room t.control ≡ false → has_room u.control ≡ false
-    fewer : (s : ℕ) (c : Call) → There u s c → There t s c
+    fewer : (s : ℕ) (c : Call) → There u s c → is_set_up c.state ≡ true → There t s c
     state : u.control.state ≡ t.control.state
 
   leads_nowhere : (t : Turn) → Ticked t → Leads t t
-  leads_nowhere t h = record { ok = h; room = λ f. f; fewer = λ s c there. there; state = refl }
+  leads_nowhere t h = record { ok = h; room = λ f. f; fewer = λ s c there up. there; state = refl }
 
   leads_on : (t u v : Turn) → Leads t u → Leads u v → Leads t v
   leads_on t u v h k = record {
     ok = k.ok;
     room = λ f. k.room (h.room f);
-    fewer = λ s c there. h.fewer s c (k.fewer s c there);
+    fewer = λ s c there up. h.fewer s c (k.fewer s c there up) up;
     state = k.state ∙ h.state;
   }
 
@@ -71,10 +80,10 @@ module _ (role : Role) (moment : ℕ) (calls : List (ℕ × Call)) where
         ok = record {
           order = subst (λ xs. Ascends (with_calls xs calls)) (sym same) h.order;
           same_moment = now ∙ h.same_moment;
-          few = λ s c there. h.few s c (back s c there);
+          few = λ s c there up. h.few s c (back s c there) up;
         };
         room = room;
-        fewer = back;
+        fewer = λ s c there up. back s c there;
         state = state;
       }
 
@@ -97,10 +106,10 @@ module _ (role : Role) (moment : ℕ) (calls : List (ℕ × Call)) where
           ok = record {
             order = subst Ascends (sym less) (ascends-without s (with_calls t.changed calls) h.order);
             same_moment = now ∙ h.same_moment;
-            few = λ q c there. h.few q c (found q c there).1;
+            few = λ q c there up. h.few q c (found q c there).1 up;
           };
           room = room;
-          fewer = λ q c there. (found q c there).1;
+          fewer = λ q c there up. (found q c there).1;
           state = state;
         };
         gone = λ c there. (found s c there).0 refl;
@@ -111,7 +120,7 @@ module _ (role : Role) (moment : ℕ) (calls : List (ℕ × Call)) where
   Past s t = (c : Call) → There t s c → IsDue role moment s c → has_room t.control ≡ false
 
   past_on : (s : ℕ) (t u : Turn) → Leads t u → Past s t → Past s u
-  past_on s t u l past = λ c there late. l.room (past c (l.fewer s c there) late)
+  past_on s t u l past = λ c there late. l.room (past c (l.fewer s c there late.set_up) late)
 
   record Limited (s : ℕ) (t u : Turn) : Type 0 where
     leads : Leads t u
@@ -124,13 +133,13 @@ module _ (role : Role) (moment : ℕ) (calls : List (ℕ × Call)) where
   unfolding end_silent ends_call with_output with_change with_move
   silent s t h = ends s t (end_silent s t) (λ f. f) refl refl refl h
 
-  told : (s : ℕ) (c : Call) (t : Turn) → Ticked t → Ends s t (end_told s c 10 None (with_output (Cause cause.Setup) t))
+  told : (for : CauseOf) (result s : ℕ) (c : Call) (t : Turn) → Ticked t → Ends s t (end_told s c result None (with_output (Cause for) t))
   unfolding end_told gives ends_call with_output with_change with_move
-  told s c t h = ends s t (end_told s c 10 None (with_output (Cause cause.Setup) t)) (λ f. more_full t.control f) refl refl refl h
+  told for result s c t h = ends s t (end_told s c result None (with_output (Cause for) t)) (λ f. more_full t.control f) refl refl refl h
 
   -- that call, where it is there still
-  the_call : (s : ℕ) (c : Call) (t : Turn) → Ticked t → at calls s ≡ Some c → (d : Call) → There t s d → d ≡ c
-  the_call s c t h is d there = let both : Some d ≡ Some c = sym (h.few s d there) ∙ is in cc
+  the_call : (s : ℕ) (c : Call) (t : Turn) → Ticked t → at calls s ≡ Some c → (d : Call) → There t s d → is_set_up d.state ≡ true → d ≡ c
+  the_call s c t h is d there up = let both : Some d ≡ Some c = sym (h.few s d there up) ∙ is in cc
 
   module _ (letters : List Letter) where
     -- it doesn't end by its table
@@ -139,7 +148,7 @@ module _ (role : Role) (moment : ℕ) (calls : List (ℕ × Call)) where
     kept s c t a h is row clean told = record {
       leads = leads_nowhere t h;
       past = λ d there late.
-          let same : IsDue role moment s c = subst (IsDue role moment s) (the_call s c t h is d there) late in
+          let same : IsDue role moment s c = subst (IsDue role moment s) (the_call s c t h is d there late.set_up) late in
           absurd (⊎_elim (λ e. clean (ap is_clean_up (sym row) ∙ e)) (λ e. told (ap is_told (sym row) ∙ e)) same.ends);
     }
 
@@ -149,7 +158,7 @@ module _ (role : Role) (moment : ℕ) (calls : List (ℕ × Call)) where
     limited_by s c t h is call_action.CleanUp row = ended s t (end_silent s t) (silent s t h)
     limited_by s c t h is call_action.SendCdn row =
         branch (Limited s t) (has_room t.control) _ _
-        (λ may. ended s t (end_told s c 10 None (with_output (Cause cause.Setup) t)) (told s c t h))
+        (λ may. ended s t (end_told s c 10 None (with_output (Cause cause.Setup) t)) (told cause.Setup 10 s c t h))
         (λ full. record { leads = same_leads t (drops why.Queue t) (λ f. f) refl refl refl h; past = λ d there late. full })
     limited_by s c t h is call_action.Nothing row = kept s c t call_action.Nothing h is row never never
     limited_by s c t h is call_action.SendIcrq row = kept s c t call_action.SendIcrq h is row never never
@@ -167,6 +176,77 @@ module _ (role : Role) (moment : ℕ) (calls : List (ℕ × Call)) where
         let g = keeps_leads u v (settled_keeps false letters u) l.leads.ok in
         record { leads = leads_on t u v l.leads g; past = past_on s u v g l.past }
 
+    -- ---- the LCP end of a call
+
+    -- one that is up isn't being set up
+    not_both : (s : CallState) → is_set_up s ≡ true → is_up s ≡ true → ⊥
+    not_both call_state.Idle set_up up = never up
+    not_both call_state.WaitTunnel set_up up = never up
+    not_both call_state.WaitReply set_up up = never up
+    not_both call_state.WaitConnect set_up up = never up
+    not_both call_state.Established set_up up = never set_up
+
+    -- so a call that is up isn't late, whatever the turn leaves of it
+    up_limited : (s : ℕ) (c : Call) (t u : Turn) → at calls s ≡ Some c → is_up c.state ≡ true → Leads t u → Limited s t u
+    up_limited s c t u is up l = record {
+      leads = l;
+      past = λ d there late.
+          let same = the_call s c u l.ok is d there late.set_up in
+          absurd (not_both c.state (ap (λ (x : Call). is_set_up x.state) (sym same) ∙ late.set_up) up);
+    }
+
+    finished_by : (s : ℕ) (c : Call) (t : Turn) → Ticked t → (a : CallAction) → Leads t (ends_by cause.Lcp 3 None s c a t)
+    unfolding ends_by drops with_output
+    finished_by s c t h call_action.CleanUp = (silent s t h).leads
+    finished_by s c t h call_action.SendCdn =
+        branch (Leads t) (has_room t.control) _ _
+        (λ may. (told cause.Lcp 3 s c t h).leads)
+        (λ full. same_leads t (drops why.Queue t) (λ f. f) refl refl refl h)
+    finished_by s c t h call_action.Nothing = leads_nowhere t h
+    finished_by s c t h call_action.SendIcrq = leads_nowhere t h
+    finished_by s c t h call_action.SendIcrp = leads_nowhere t h
+    finished_by s c t h call_action.SendIccn = leads_nowhere t h
+    finished_by s c t h call_action.DropSession = leads_nowhere t h
+
+    finished : (s : ℕ) (c : Call) (t : Turn) → Ticked t
+        → Leads t (settles false letters (ends_by cause.Lcp 3 None s c (call_row role c.state call_event.Close).1 t))
+    finished s c t h =
+        let u = ends_by cause.Lcp 3 None s c (call_row role c.state call_event.Close).1 t in
+        let l = finished_by s c t h (call_row role c.state call_event.Close).1 in
+        leads_on t u _ l (keeps_leads u _ (settled_keeps false letters u) l.ok)
+
+    -- a call that is up is put, in the same state
+    puts : (s : ℕ) (d : Call) (t u : Turn) → is_up d.state ≡ true → u.changed ≡ t.changed ++ (s, Some d) ∷ [] → u.moment ≡ t.moment
+        → u.control ≡ t.control → Ticked t → Leads t u
+    puts s d t u up more now same h =
+        let is : with_calls u.changed calls ≡ put (with_calls t.changed calls) s d =
+        ap (λ xs. with_calls xs calls) more ∙ with_calls-more t.changed s (Some d) calls in
+        let found : (q : ℕ) (c : Call) → There u q c → is_set_up c.state ≡ true → There t q c = λ q c there set_up. ⊎_elim
+        (λ (a : (q ≡ s) × (d ≡ c)). absurd (not_both c.state set_up (subst (λ (x : Call). is_up x.state ≡ true) a.1 up)))
+        (λ (a : (q ≡ s → ⊥) × There t q c). a.1)
+        (found_put (with_calls t.changed calls) s d q c (subst (λ xs. at xs q ≡ Some c) is there)) in
+        record {
+          ok = record {
+            order = subst Ascends (sym is) (ascends-put s d (with_calls t.changed calls) h.order);
+            same_moment = now ∙ h.same_moment;
+            few = λ q c there set_up. h.few q c (found q c there set_up) set_up;
+          };
+          room = λ f. ap has_room same ∙ f;
+          fewer = found;
+          state = ap (λ (x : Control). x.state) same;
+        }
+
+    links_lead : (s : ℕ) (c : Call) (l : Link) (by : LcpCall) (t : Turn) → is_up c.state ≡ true → Ticked t
+        → Leads t (links role letters s c l (lcp_after by l.lcp) t)
+    unfolding links
+    links_lead s c l by t up h =
+        branch (Leads t) (lcp_after by l.lcp).out.finished _ _
+        (λ done. finished s c t h)
+        (λ no.
+        let is = negotiated_is s c l by t in
+        puts s (with_link (link_after l (lcp_after by l.lcp)) c) t (negotiated s c l (lcp_after by l.lcp) t) up
+        (ap (λ (x : Turn). x.changed) is) (ap (λ (x : Turn). x.moment) is) (ap (λ (x : Turn). x.control) is) h)
+
     -- a call that is late is due
     is_due : (s : ℕ) (c : Call) (t : Turn) → Ticked t → IsDue role moment s c
         → (nat_lt s 65536 && is_set_up c.state && is_over patience t.moment c.since) ≡ true
@@ -176,17 +256,34 @@ module _ (role : Role) (moment : ℕ) (calls : List (ℕ × Call)) where
         let over : is_over patience t.moment c.since ≡ true = ap (λ m. is_over patience m c.since) h.same_moment ∙ late.over in
         rw (small, set_up, over) refl
 
+    -- one that isn't late
+    early_ok : (s : ℕ) (c : Call) (t : Turn) → Ticked t → at calls s ≡ Some c
+        → (nat_lt s 65536 && is_set_up c.state && is_over patience t.moment c.since) ≡ false → Limited s t t
+    early_ok s c t h is early = record {
+      leads = leads_nowhere t h;
+      past = λ d there late.
+          absurd (true≢false (sym (is_due s c t h (subst (IsDue role moment s) (the_call s c t h is d there late.set_up) late)) ∙ early));
+    }
+
+    linked : (s : ℕ) (c : Call) (t : Turn) → Ticked t → at calls s ≡ Some c
+        → (nat_lt s 65536 && is_set_up c.state && is_over patience t.moment c.since) ≡ false → (o : Option Link) → c.link ≡ o
+        → Limited s t (ticks_link role letters s c o t)
+    unfolding ticks_link
+    linked s c t h is early None has = early_ok s c t h is early
+    linked s c t h is early (Some l) has =
+        branch (Limited s t) (nat_lt s 65536 && is_up c.state && lcp_is_due t.moment l.lcp) _ _
+        (λ due.
+        let up = and_right (nat_lt s 65536) (is_up c.state) (and_left (nat_lt s 65536 && is_up c.state) _ due) in
+        up_limited s c t _ is up (links_lead s c l (OnTick t.moment) t up h))
+        (λ no. early_ok s c t h is early)
+
     limits_at_ok : (s : ℕ) (o : Option Call) (t : Turn) → at calls s ≡ o → Ticked t → Limited s t (limits_at role letters s o t)
     unfolding limits_at
-    limits_at_ok s None t is h = record { leads = leads_nowhere t h; past = λ d there late. absurd (none-some d (sym is ∙ h.few s d there)) }
+    limits_at_ok s None t is h = record { leads = leads_nowhere t h; past = λ d there late. absurd (none-some d (sym is ∙ h.few s d there late.set_up)) }
     limits_at_ok s (Some c) t is h =
         branch (Limited s t) (nat_lt s 65536 && is_set_up c.state && is_over patience t.moment c.since) _ _
         (λ due. limited s c t h is)
-        (λ early. record {
-          leads = leads_nowhere t h;
-          past = λ d there late.
-              absurd (true≢false (sym (is_due s c t h (subst (IsDue role moment s) (the_call s c t h is d there) late)) ∙ early));
-        })
+        (λ early. linked s c t h is early c.link refl)
 
     record AllLimited (ss : List ℕ) (t u : Turn) : Type 0 where
       leads : Leads t u
@@ -231,7 +328,7 @@ module _ (role : Role) (moment : ℕ) (calls : List (ℕ × Call)) where
     -- the tunnel's state and those of its calls that are there still are as they were
     pub record Stays (t r : Turn) : Type 0 where
       pub state : r.control.state ≡ t.control.state
-      pub few : (s : ℕ) (c : Call) → There r s c → at calls s ≡ Some c
+      pub few : (s : ℕ) (c : Call) → There r s c → is_set_up c.state ≡ true → at calls s ≡ Some c
       pub late : (s : ℕ) (c : Call) → There r s c → IsDue role moment s c → has_room r.control ≡ false
 
     abbrev pub Ticks : Turn → Turn → Type 0
@@ -250,7 +347,7 @@ module _ (role : Role) (moment : ℕ) (calls : List (ℕ × Call)) where
         inr (record {
           state = a.leads.state ∙ g.state ∙ h.state;
           few = a.leads.ok.few;
-          late = λ s c there late. a.past s (found_among calls s c (a.leads.ok.few s c there)) c there late;
+          late = λ s c there late. a.past s (found_among calls s c (a.leads.ok.few s c there late.set_up)) c there late;
         })
 
     ticks_by_ok : (a : Due) (t : Turn) → Ticked t → Ticks t (ticks_by role letters calls a t)
@@ -267,5 +364,5 @@ module _ (role : Role) (moment : ℕ) (calls : List (ℕ × Call)) where
         (λ early. ticks_by_ok (answer_to_tick t.control.channel t.moment) t (record {
           order = rw none order;
           same_moment = now;
-          few = λ s c there. (let found = rw none at there in found);
+          few = λ s c there up. (let found = rw none at there in found);
         }))

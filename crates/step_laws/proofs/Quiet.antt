@@ -38,16 +38,18 @@ use Rattle.call_fsm.specs.declared.table.CallAction.{CallAction}
 use Rattle.call_fsm.specs.declared.table.CallAction.TheVariants as call_action
 use Rattle.protocol_model.specs.declared.tunnel.Call.{Call}
 use Rattle.protocol_model.specs.declared.tunnel.Config.{Config}
+use Rattle.protocol_model.specs.declared.tunnel.Link.{Link}
 use Rattle.protocol_model.specs.declared.tunnel.Role.{Role}
+use Rattle.lcp_end.specs.Steps.{Turn as LcpTurn, is_due}
 use Rattle.protocol_model.specs.declared.event.Event.{Event}
-use Rattle.protocol_model.specs.declared.event.Event.TheVariants.{Datagram, Ring, Payload, Lower, Hang, OpenTunnel, DropCall, CloseTunnel, Tick, Admitted, Frame}
+use Rattle.protocol_model.specs.declared.event.Event.TheVariants.{Datagram, Ring, Payload, Lower, Lcp, Hang, OpenTunnel, DropCall, CloseTunnel, Tick, Admitted, Frame}
 use Rattle.protocol_model.specs.declared.out.Out.{Out}
 use Rattle.protocol_model.specs.declared.out.Out.TheVariants.{Gone, Drop, Cause as Refused}
 use Rattle.protocol_model.specs.declared.moves.Move.{Move}
 use Rattle.protocol_model.specs.declared.moves.Move.TheVariants as move
 use Rattle.protocol_model.specs.Reading.{header_why, body_of, message_in, CallFault, call_fault_in, TunnelFault, tunnel_fault_in}
 use Rattle.protocol_model.specs.Calls.{call_row, rung, is_set_up, is_request, is_connection, is_up, are_too_many}
-use Rattle.protocol_model.specs.Turn.{rejects, rejected, connected_reason, connected_event, Turn, with_output, with_move, with_change, with_call, with_new, with_local, drops, gives, gives_as, has_room, sends_letter, sends_now, lets_go, goes_by, lets_all_go, acknowledges, outstanding, acknowledged_after, settles, takes_one, reads_nr, opened, opens_by, opens, accepted, accepts_by, accepts, requested, requests, requests_at, requests_all, adds, rings_over, rings_by, rings_new, rings, is_closed, event_by, opening_reason, out_of_order, shuts, closed_told, closes_tunnel, closed_by, shuts_by, connected, connects, confirms, takes_plain, ignores, takes_by, takes, Reason, reason, out_of_state, may_take, granted, replied, replies, refused, refuses, of_no_call, answers_by, asked_by, faulty_at, fault_reason, faulty, in_faulty_call, closes, ends_by, rings_within, first_up, first_up_by, second_up, second_up_by, ends_call, ends_all, is_clean_up, end_heard, end_heard_by, session_named, ends_named, repeats, greeted, greets, end_silent, end_told, limits_at, limits_all, goes_quietly, clears, is_over, patience, is_at_its_end, ticks_by, ticks, about_call, in_call, hears, hears_faulty, hears_said, hears_next, hears_letter, is_duplicate, in_tunnel, first_said, hears_control, carried, carries, hears_datagram, turns, is_short, is_long}
+use Rattle.protocol_model.specs.Turn.{rejects, rejected, connected_reason, connected_event, Turn, with_output, with_move, with_change, with_call, with_new, with_local, drops, gives, gives_as, has_room, sends_letter, sends_now, lets_go, goes_by, lets_all_go, acknowledges, outstanding, acknowledged_after, settles, takes_one, reads_nr, opened, opens_by, opens, accepted, accepts_by, accepts, requested, requests, requests_at, requests_all, adds, rings_over, rings_by, rings_new, rings, is_closed, event_by, opening_reason, out_of_order, shuts, closed_told, closes_tunnel, closed_by, shuts_by, connected, connects, confirms, takes_plain, ignores, takes_by, takes, Reason, reason, out_of_state, may_take, granted, replied, replies, refused, refuses, of_no_call, answers_by, asked_by, faulty_at, fault_reason, faulty, in_faulty_call, closes, ends_by, rings_within, first_up, first_up_by, second_up, second_up_by, ends_call, ends_all, is_clean_up, end_heard, end_heard_by, session_named, ends_named, repeats, greeted, greets, end_silent, end_told, limits_at, limits_all, goes_quietly, clears, is_over, patience, is_at_its_end, ticks_by, ticks, about_call, in_call, hears, hears_faulty, hears_said, hears_next, hears_letter, is_duplicate, in_tunnel, first_said, hears_control, carried, sends_packets, negotiated, links, hears_link, hears_lcp, ticks_link, with_looks_of, lcp_frame, is_passing, connects_call, linked_up, carries, hears_datagram, turns, is_short, is_long}
 use Rattle.step_laws.specs.Ups.{ups_of_output, ups_of_move, births_of_move, reads_of_move, most_births, most_reads}
 use Rattle.step_laws.proofs.Lists.{branch}
 
@@ -422,16 +424,64 @@ module _ (most reads : ℕ) where
       (λ row. branch Quiet (has_room t.control) _ _ (λ may. first_up_quiet role s remote c t h) (λ full. dropped why.Queue t h))
       (λ none. answers_quiet out_of_state s c (call_row role c.state call_event.IcrpAcc).1 t h)
 
-  second_up_quiet : (role : Role) (s : ℕ) (c : Call) (t : Turn) → Quiet t → Quiet (second_up role s c t)
+  -- ---- LCP
+
+  carried_quiet : (s : ℕ) (frame : List ℕ) (c : Call) (t : Turn) → Quiet t → Quiet (carried s frame c t)
+  unfolding carried with_output with_move
+  carried_quiet s frame c t h = told _ refl (did _ refl refl refl h)
+
+  packets_quiet : (s : ℕ) (ps : List (List ℕ)) (c : Call) (t : Turn) → Quiet t → Quiet (sends_packets s ps c t)
+  unfolding sends_packets
+  packets_quiet s [] c t h = h
+  packets_quiet s (p ∷ ps) c t h = packets_quiet s ps c (carried s (lcp_frame p) c t) (carried_quiet s (lcp_frame p) c t h)
+
+  negotiated_quiet : (s : ℕ) (c : Call) (l : Link) (v : LcpTurn) (t : Turn) → Quiet t → Quiet (negotiated s c l v t)
+  unfolding negotiated with_looks_of with_move with_call
+  negotiated_quiet s c l v t h = did _ refl refl refl (packets_quiet s v.out.packets c t h)
+
+  links_quiet : (role : Role) (letters : List Letter) (s : ℕ) (c : Call) (l : Link) (v : LcpTurn) (t : Turn) → Quiet t → Quiet (links role letters s c l v t)
+  unfolding links
+  links_quiet role letters s c l v t h =
+      branch Quiet v.out.finished _ _
+      (λ done. settled false letters _ (ends_quiet cause.Lcp 3 None s c (call_row role c.state call_event.Close).1 t h))
+      (λ no. negotiated_quiet s c l v t h)
+
+  hears_link_quiet : (role : Role) (letters : List Letter) (s : ℕ) (frame : List ℕ) (c : Call) (o : Option Link) (t : Turn) → Quiet t
+      → Quiet (hears_link role letters s frame c o t)
+  unfolding hears_link
+  hears_link_quiet role letters s frame c None t h = dropped why.Closed t h
+  hears_link_quiet role letters s frame c (Some l) t h = links_quiet role letters s c l _ t h
+
+  hears_lcp_quiet : (role : Role) (letters : List Letter) (s : ℕ) (frame : List ℕ) (o : Option Call) (t : Turn) → Quiet t
+      → Quiet (hears_lcp role letters s frame o t)
+  unfolding hears_lcp
+  hears_lcp_quiet role letters s frame None t h = dropped why.Call t h
+  hears_lcp_quiet role letters s frame (Some c) t h =
+      branch Quiet (nat_lt s 65536 && is_up c.state) _ _ (λ up. hears_link_quiet role letters s frame c c.link t h) (λ down. dropped why.Closed t h)
+
+  ticks_link_quiet : (role : Role) (letters : List Letter) (s : ℕ) (c : Call) (o : Option Link) (t : Turn) → Quiet t
+      → Quiet (ticks_link role letters s c o t)
+  unfolding ticks_link
+  ticks_link_quiet role letters s c None t h = h
+  ticks_link_quiet role letters s c (Some l) t h =
+      branch Quiet (nat_lt s 65536 && is_up c.state && is_due t.moment l.lcp) _ _ (λ due. links_quiet role letters s c l _ t h) (λ no. h)
+
+  -- ---- calls that are connected and end
+
+  second_up_quiet : (s : ℕ) (d : Call) (t : Turn) → Quiet t → Quiet (second_up s d t)
   unfolding second_up with_change with_move with_call takes_one
-  second_up_quiet role s c t h = did _ refl refl refl h
+  second_up_quiet s d t h = did _ refl refl refl h
+
+  linked_up_quiet : (role : Role) (s : ℕ) (c : Call) (t : Turn) → Quiet t → Quiet (linked_up role s c t)
+  unfolding linked_up connects_call
+  linked_up_quiet role s c t h = negotiated_quiet s _ _ _ _ (second_up_quiet s _ t h)
 
   second_up_by_quiet : (role : Role) (s : ℕ) (o : Option Call) (t : Turn) → Quiet t → Quiet (second_up_by role s o t)
   unfolding second_up_by
   second_up_by_quiet role s None t h = no_call_quiet out_of_state 0 (call_row role call.Idle call_event.IccnAcc).1 t h
   second_up_by_quiet role s (Some c) t h =
       branch Quiet (is_up (call_row role c.state call_event.IccnAcc).0) _ _
-      (λ row. second_up_quiet role s c t h)
+      (λ row. linked_up_quiet role s c t h)
       (λ none. answers_quiet out_of_state s c (call_row role c.state call_event.IccnAcc).1 t h)
 
   end_heard_by_quiet : (role : Role) (s : ℕ) (o : Option Call) (t : Turn) → Quiet t → Quiet (end_heard_by role s o t)
@@ -575,15 +625,11 @@ module _ (most reads : ℕ) where
 
   -- ---- frames that are given
 
-  carried_quiet : (s : ℕ) (frame : List ℕ) (c : Call) (t : Turn) → Quiet t → Quiet (carried s frame c t)
-  unfolding carried with_output with_move
-  carried_quiet s frame c t h = told _ refl (did _ refl refl refl h)
-
   carries_quiet : (s : ℕ) (frame : List ℕ) (o : Option Call) (t : Turn) → Quiet t → Quiet (carries s frame o t)
   unfolding carries
   carries_quiet s frame None t h = dropped why.Call t h
   carries_quiet s frame (Some c) t h =
-      branch Quiet (is_up c.state) _ _
+      branch Quiet (is_up c.state && is_passing c.link) _ _
       (λ up. branch Quiet (is_short frame) _ _ (λ short. dropped why.Short t h)
       (λ short. branch Quiet (is_long frame) _ _ (λ long. dropped why.Long t h) (λ long. carried_quiet s frame c t h)))
       (λ down. dropped why.Closed t h)
@@ -617,7 +663,7 @@ module _ (most reads : ℕ) where
   limits_at_quiet role letters s (Some c) t h =
       branch Quiet (nat_lt s 65536 && is_set_up c.state && is_over patience t.moment c.since) _ _
       (λ due. settled false letters _ (ends_quiet cause.Setup 10 None s c (call_row role c.state call_event.Close).1 t h))
-      (λ no. h)
+      (λ no. ticks_link_quiet role letters s c c.link t h)
 
   limits_all_quiet : (role : Role) (letters : List Letter) (ss : List ℕ) (calls : List (ℕ × Call)) (t : Turn) → Quiet t
       → Quiet (limits_all role letters ss calls t)
@@ -723,6 +769,7 @@ turns_quiet role c letters calls (Admitted mac) t h = settled 1 0 false letters 
 turns_quiet role c letters calls (Frame bytes) t h = dropped 0 0 why.Node t h
 turns_quiet role c letters calls (Payload s frame) t h = carries_quiet 0 0 s frame (at calls s) t h
 turns_quiet role c letters calls (Lower s frame) t h = carries_quiet 0 0 s frame (at calls s) t h
+turns_quiet role c letters calls (Lcp s packet) t h = hears_lcp_quiet 0 0 role letters s packet (at calls s) t h
 turns_quiet role c letters calls (Hang s) t h =
     settled 0 0 false letters _ (closes_quiet 0 0 role cause.Line call_event.LineDrop 1 s (at calls s) t h)
 turns_quiet role c letters calls (DropCall s) t h =

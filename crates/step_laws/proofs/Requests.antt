@@ -18,7 +18,7 @@ use Rattle.tunnel_fsm.specs.Rows.{state_number}
 use Rattle.protocol_model.specs.declared.tunnel.Call.{Call}
 use Rattle.protocol_model.specs.declared.tunnel.Role.TheVariants.{Lac, Lns}
 use Rattle.protocol_model.specs.declared.event.Event.{Event}
-use Rattle.protocol_model.specs.declared.event.Event.TheVariants.{Datagram, Ring, Frame, Admitted, Payload, Lower, Hang, OpenTunnel, DropCall, CloseTunnel, Tick}
+use Rattle.protocol_model.specs.declared.event.Event.TheVariants.{Datagram, Ring, Frame, Admitted, Payload, Lower, Lcp, Hang, OpenTunnel, DropCall, CloseTunnel, Tick}
 use Rattle.protocol_model.specs.declared.event.Addressee.TheVariants.{Main}
 use Rattle.protocol_model.specs.declared.moves.Move.{Move}
 use Rattle.protocol_model.specs.Reading.{body_of, message_in, at_tunnel}
@@ -264,6 +264,7 @@ module _ (e : End) (kept : AreKept e) (moment : ℕ) (block : List ℕ) (who : L
   rung_step (Frame bytes) ring = absurd cc
   rung_step (Payload s frame) ring = absurd cc
   rung_step (Lower s frame) ring = absurd cc
+  rung_step (Lcp s packet) ring = absurd cc
   rung_step (Hang s) ring = absurd cc
   rung_step OpenTunnel ring = absurd cc
   rung_step (DropCall s) ring = absurd cc

@@ -20,9 +20,10 @@ use Rattle.protocol_model.specs.declared.moves.Move.{Move}
 use Rattle.protocol_model.specs.declared.moves.Move.TheVariants as move
 use Rattle.protocol_model.specs.Turn.{Tunnel, Turn, with_calls, with_output, with_move, place, counts_sent, letter_in, sends_letter, sends_now, lets_go, goes_by, lets_all_go, acknowledges, outstanding, acknowledged_after, settles, letters_after, tunnel_after}
 use Rattle.protocol_model.specs.End.{End}
-use Rattle.step_laws.specs.Letters.{Among, Carries, ALetter, Nothing, AFrame}
+use Rattle.step_laws.specs.Letters.{Among, Carries, ALetter, Nothing, AFrame, HasOutput}
 use Rattle.step_laws.specs.Moves.{Chain}
-use Rattle.step_laws.proofs.Lists.{all_push, all_map, got_still, and_left, branch, chain_more}
+use Rattle.step_laws.proofs.Lists.{all_push, all_map, among_left, got_still, and_left, branch, chain_more}
+use Rattle.step_laws.proofs.Outputs.{no_frame_out, frames_more}
 use Rattle.step_laws.proofs.Tells.{Tells}
 use Rattle.step_laws.proofs.Owing.{Fits}
 use Rattle.step_laws.proofs.Turns.{IsWord, NoFrame, Stays, Held, has_64_bits, at_turn, TurnOk, there}
@@ -80,20 +81,20 @@ pub record GoesOn (t u : Tunnel) : Type 0 where
 pub goes_nowhere : (t : Tunnel) → GoesOn t t
 goes_nowhere t = record { local = refl; peer = refl; remote = refl; acked = refl; inbox = refl; more = []; letters = sym (append-nil t.letters) }
 
-no_frame_among : (f : FrameSent) (ms : List Move) → AllByRecursion NoFrame ms → Among (move.FrameSent f) ms → ⊥
-no_frame_among f [] h a = a
-no_frame_among f (m ∷ ms) h a = ⊎_elim (λ s. subst NoFrame s h.0) (λ l. no_frame_among f ms h.1 l) a
+-- each of these moves is one of those
+abbrev pub AreWithin : List Move → List Move → Type 0
+AreWithin ms ns = (m : Move) → Among m ms → Among m ns
 
--- among moves that send no frame
-pub carries_on : (t u : Tunnel) → GoesOn t u → (ms ns : List Move) → AllByRecursion NoFrame ms → (bytes : List ℕ) (o : Origin) → Carries t ms bytes o
+pub carries_on : (t u : Tunnel) → GoesOn t u → (ms ns : List Move) → AreWithin ms ns → (bytes : List ℕ) (o : Origin) → Carries t ms bytes o
     → Carries u ns bytes o
-carries_on t u g ms ns none bytes o (ALetter l number small kept is said) =
+carries_on t u g ms ns within bytes o (ALetter l number small kept is said) =
     ALetter l number small
     (rw (g.letters, g.acked) (got_still t.letters g.more _ l kept))
     (rw (g.local, g.inbox) is)
     (rw (g.remote, g.inbox) said)
-carries_on t u g ms ns none bytes o (Nothing number is said) = Nothing number (rw (g.local, g.inbox) is) (rw (g.remote, g.inbox) said)
-carries_on t u g ms ns none bytes o (AFrame f call sent tunnel peer there up is said) = absurd (no_frame_among f ms none sent)
+carries_on t u g ms ns within bytes o (Nothing number is said) = Nothing number (rw (g.local, g.inbox) is) (rw (g.remote, g.inbox) said)
+carries_on t u g ms ns within bytes o (AFrame f sent tunnel peer is said) =
+    AFrame f (within _ sent) (tunnel ∙ sym g.local) (peer ∙ sym g.peer) is (rw g.remote said)
 
 -- what is sent goes to the tunnel's peer
 abbrev pub OutOk : Tunnel → List Move → Out → Type 0
@@ -103,12 +104,12 @@ OutOk t ms (Gone session) = Unit {0}
 OutOk t ms (Drop w) = Unit {0}
 OutOk t ms (Cause w) = Unit {0}
 
-pub out_on : (t u : Tunnel) → GoesOn t u → (ms ns : List Move) → AllByRecursion NoFrame ms → (x : Out) → OutOk t ms x → OutOk u ns x
-out_on t u g ms ns none (Send p bytes o) h = (h.0 ∙ sym g.peer, carries_on t u g ms ns none bytes o h.1)
-out_on t u g ms ns none (Up session side frame) h = h
-out_on t u g ms ns none (Gone session) h = h
-out_on t u g ms ns none (Drop w) h = h
-out_on t u g ms ns none (Cause w) h = h
+pub out_on : (t u : Tunnel) → GoesOn t u → (ms ns : List Move) → AreWithin ms ns → (x : Out) → OutOk t ms x → OutOk u ns x
+out_on t u g ms ns within (Send p bytes o) h = (h.0 ∙ sym g.peer, carries_on t u g ms ns within bytes o h.1)
+out_on t u g ms ns within (Up session side frame) h = h
+out_on t u g ms ns within (Gone session) h = h
+out_on t u g ms ns within (Drop w) h = h
+out_on t u g ms ns within (Cause w) h = h
 
 pub word_ok : (t : Tunnel) (ms : List Move) (x : Out) → IsWord x → OutOk t ms x
 word_ok t ms (Gone session) h = tt
@@ -126,7 +127,7 @@ module _ (e : End) (moment : ℕ) (ev : Event) (letters : List Letter) (calls : 
     pub chain : Chain moment ev e t.moves (at_turn e moment ev letters calls i t)
     pub outs : AllByRecursion (OutOk (tunnel t) t.moves) t.outputs
     pub tells : AllByRecursion (Tells e moment ev) t.outputs
-    pub frames : AllByRecursion NoFrame t.moves
+    pub frames : AllByRecursion (HasOutput t.outputs) t.moves
     pub stays : Stays i moment t
     pub held : Held t.control.channel.window (letters_after t letters)
     pub fits : Fits t.control (with_calls t.changed calls)
@@ -136,15 +137,17 @@ module _ (e : End) (moment : ℕ) (ev : Event) (letters : List Letter) (calls : 
     chain = h.chain;
     outs = all_map IsWord _ (word_ok (tunnel t) t.moves) t.outputs h.words;
     tells = h.tells;
-    frames = h.frames;
+    frames = all_map _ _ (no_frame_out t.outputs) t.moves h.frames;
     stays = h.stays;
     held = h.held;
     fits = h.fits;
   }
 
-  -- what was sent stays so
-  pub outs_on : (t u : Turn) → GoesOn (tunnel t) (tunnel u) → Settled t → AllByRecursion (OutOk (tunnel u) u.moves) t.outputs
-  outs_on t u g h = all_map _ _ (out_on (tunnel t) (tunnel u) g t.moves u.moves h.frames) t.outputs h.outs
+  -- what was sent stays so as more moves are made
+  pub outs_on : (t u : Turn) → GoesOn (tunnel t) (tunnel u) → (more : List Move) → u.moves ≡ t.moves ++ more → Settled t
+      → AllByRecursion (OutOk (tunnel u) u.moves) t.outputs
+  outs_on t u g more is h =
+      all_map _ _ (out_on (tunnel t) (tunnel u) g t.moves u.moves (λ m a. rw is (among_left m t.moves more a))) t.outputs h.outs
 
   -- ---- letters that go
 
@@ -173,9 +176,9 @@ module _ (e : End) (moment : ℕ) (ev : Event) (letters : List Letter) (calls : 
           inbox = inbox_stays t.control.channel t.moment;
           more = [];
           letters = sym (append-nil (tunnel t).letters);
-        }) h;
+        }) (m ∷ []) refl h;
         tells = h.tells;
-        frames = all_push NoFrame t.moves m h.frames tt;
+        frames = all_push (HasOutput t.outputs) t.moves m h.frames tt;
         stays = h.stays;
         held = held_gone t.control.channel t.moment (letters_after t letters) h.held;
         fits = fits_gone t.control t.moment (with_calls t.changed calls) h.fits;
@@ -191,7 +194,7 @@ module _ (e : End) (moment : ℕ) (ev : Event) (letters : List Letter) (calls : 
         chain = h.chain;
         outs = all_push _ t.outputs _ h.outs (refl, ALetter l number small is refl refl);
         tells = all_push _ t.outputs _ h.tells tt;
-        frames = h.frames;
+        frames = frames_more t.outputs _ t.moves h.frames;
         stays = h.stays;
         held = h.held;
         fits = h.fits;
@@ -227,9 +230,10 @@ module _ (e : End) (moment : ℕ) (ev : Event) (letters : List Letter) (calls : 
           there = there e moment ev letters calls i t;
           after = refl;
         });
-        outs = all_push _ t.outputs _ (outs_on t (with_move m t) (goes_nowhere (tunnel t)) h) (refl, Nothing (next_unsent t.control.channel) refl refl);
+        outs = all_push _ t.outputs _ (outs_on t (with_move m t) (goes_nowhere (tunnel t)) (m ∷ []) refl h)
+            (refl, Nothing (next_unsent t.control.channel) refl refl);
         tells = all_push _ t.outputs _ h.tells tt;
-        frames = all_push NoFrame t.moves m h.frames tt;
+        frames = all_push _ t.moves m (frames_more t.outputs _ t.moves h.frames) tt;
         stays = h.stays;
         held = h.held;
         fits = h.fits;

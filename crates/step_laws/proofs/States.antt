@@ -73,3 +73,38 @@ pub rung_asks : (r : Role) (who : List ℕ) (moment : ℕ) → r ≡ Lac → is_
 unfolding call_row rung advanced
 rung_asks Lac who moment h = refl
 rung_asks Lns who moment h = absurd cc
+
+-- an end that asks for a call is a LAC
+pub request_is_lac : (r : Role) (s : CallState) → is_request (call_row r s call_event.TunnelOpen).1 ≡ true → r ≡ Lac
+unfolding call_row
+request_is_lac Lac s h = refl
+request_is_lac Lns Idle h = never h
+request_is_lac Lns WaitTunnel h = never h
+request_is_lac Lns WaitReply h = never h
+request_is_lac Lns WaitConnect h = never h
+request_is_lac Lns Established h = never h
+
+-- so is one that connects it
+pub connection_is_lac : (r : Role) (s : CallState) → is_connection (call_row r s call_event.IcrpAcc).1 ≡ true → r ≡ Lac
+unfolding call_row
+connection_is_lac Lac s h = refl
+connection_is_lac Lns Idle h = never h
+connection_is_lac Lns WaitTunnel h = never h
+connection_is_lac Lns WaitReply h = never h
+connection_is_lac Lns WaitConnect h = never h
+connection_is_lac Lns Established h = never h
+
+-- one that is asked, or connected, is an LNS
+pub reply_is_lns : (r : Role) → is_reply (call_row r Idle call_event.IcrqAcc).1 ≡ true → r ≡ Lns
+unfolding call_row
+reply_is_lns Lac h = never h
+reply_is_lns Lns h = refl
+
+pub connected_is_lns : (r : Role) (s : CallState) → is_up (call_row r s call_event.IccnAcc).0 ≡ true → r ≡ Lns
+unfolding call_row
+connected_is_lns Lns s h = refl
+connected_is_lns Lac Idle h = never h
+connected_is_lns Lac WaitTunnel h = never h
+connected_is_lns Lac WaitReply h = never h
+connected_is_lns Lac WaitConnect h = never h
+connected_is_lns Lac Established h = never h

@@ -1,14 +1,15 @@
 -- Each step of an end is a chain of moves.
 use Rattle.protocol_model.specs.Names.{subscriber}
 use Rattle.step_laws.specs.Callers.{IsRing}
-use Rattle.std.proofs.Common.{◌≡◌, ◌⊎◌, inl, inr, ℕ, Bool, true, false, List, length, refl, sym, ap, ◌∙◌, subst, Option, Some, None, Result, Ok, Err}
+use Rattle.std.proofs.Common.{◌≡◌, ◌⊎◌, inl, inr, ℕ, Bool, true, false, List, [], ◌∷◌, length, refl, sym, ap, ◌∙◌, subst, Option, Some, None, Result, Ok, Err}
 use Rattle.std.proofs.lemmas.Bool.{eqb-true, true≢false}
-use Rattle.std.specs.Prelude.{◌==◌, nat_lt, not, option_map}
+use Rattle.std.specs.Prelude.{◌==◌, ◌||◌, nat_lt, not, option_map}
 use Rattle.id_table.specs.Ids.{at, ids_of}
 use Rattle.wire_base.specs.declared.why.Why.{Why}
 use Rattle.wire_base.specs.declared.why.Why.TheVariants as why
 use Rattle.wire_base.specs.declared.cause.Cause.TheVariants as cause
 use Rattle.wire_base.specs.declared.letter.Side.{Side}
+use Rattle.wire_base.specs.declared.letter.Side.TheVariants as side
 use Rattle.l2tp_header.specs.declared.header.Header.{Header}
 use Rattle.l2tp_header.specs.declared.header.HeaderError.{HeaderError}
 use Rattle.l2tp_header.specs.Reading.{header_of}
@@ -22,24 +23,30 @@ use Rattle.protocol_model.specs.declared.tunnel.Role.TheVariants.{Lac, Lns}
 use Rattle.protocol_model.specs.declared.event.Addressee.{Addressee}
 use Rattle.protocol_model.specs.declared.event.Addressee.TheVariants.{Opens, Stops, Answers, Main, Nobody}
 use Rattle.protocol_model.specs.declared.event.Event.{Event}
-use Rattle.protocol_model.specs.declared.event.Event.TheVariants.{Datagram, Ring, Payload, Lower, Hang, OpenTunnel, DropCall, CloseTunnel, Tick, Admitted, Frame}
-use Rattle.protocol_model.specs.declared.out.Out.TheVariants.{Drop, Cause}
+use Rattle.protocol_model.specs.declared.event.Event.TheVariants.{Datagram, Ring, Payload, Lower, Lcp, Hang, OpenTunnel, DropCall, CloseTunnel, Tick, Admitted, Frame}
+use Rattle.protocol_model.specs.declared.out.Out.{Out}
+use Rattle.protocol_model.specs.declared.out.Out.TheVariants.{Up, Drop, Cause}
+use Rattle.protocol_model.specs.declared.moves.Move.{Move}
+use Rattle.protocol_model.specs.declared.moves.Move.TheVariants as move
 use Rattle.protocol_model.specs.Reading.{header_why, body_of, at_zero, at_tunnel}
-use Rattle.protocol_model.specs.Calls.{is_lac, frame_of, side_of, Carried, Upward, Dropped, carry_known, carry_look}
+use Rattle.protocol_model.specs.Calls.{is_lac, frame_of, is_lcp, is_for_lcp, lns_side, side_of, Carried, Upward, Dropped, carry_known, carry_look}
 use Rattle.protocol_model.specs.Turn.{Tunnel, Env, turns}
-use Rattle.protocol_model.specs.End.{End, Stepped, env_of, in_new, in_one_more, in_main, is_known, known_as, opened_before, stopped_at, opens_once, addressed, for_addressee, least_in, rings_in, rings_at, for_call, look_in, handed, hands_up, receives, only_by, step_in, plain_step}
-use Rattle.step_laws.specs.Moves.{has_all_tunnels}
+use Rattle.protocol_model.specs.End.{End, Stepped, env_of, in_new, in_one_more, in_main, is_known, known_as, opened_before, stopped_at, opens_once, addressed, for_addressee, least_in, rings_in, rings_at, for_call, look_in, behind, then_heard, handed, hands_up, receives, only_by, step_in, plain_step}
+use Rattle.step_laws.specs.Links.{HearsFrame, HearsLcp, Passes, AsAll, AsLcp}
+use Rattle.step_laws.specs.Letters.{HasOutput}
+use Rattle.step_laws.specs.Moves.{has_all_tunnels, Does}
 use Rattle.step_laws.specs.Room.{IsChosen, StepsRefuseTruly}
 use Rattle.step_laws.specs.Causes.{CausesStand}
-use Rattle.step_laws.specs.Steps.{AreKept, StepsAreChains}
-use Rattle.step_laws.proofs.Lists.{branch, found_passes}
-use Rattle.step_laws.proofs.Tells.{of_all, header_other}
+use Rattle.step_laws.specs.Steps.{AreKept, IsOfMoves, StepsAreChains}
+use Rattle.step_laws.proofs.Lists.{all_map, branch, found_passes}
+use Rattle.step_laws.proofs.Outputs.{output_within}
+use Rattle.step_laws.proofs.Tells.{Tells, of_all, header_other}
 use Rattle.step_laws.proofs.Zero.{SaysOpening, ZeroSays, zero_says}
 use Rattle.step_laws.proofs.Known.{known_peer, known_remote}
 use Rattle.step_laws.proofs.Chosen.{least_is, least_open, least_opening, none_open, none_opening}
 use Rattle.step_laws.proofs.Declining.{answer_chain, asks_chain}
-use Rattle.step_laws.proofs.Ticks.{ticks_chain}
-use Rattle.step_laws.proofs.Ends.{IsTo, IsStep, drop_chain, cause_chain, heard_chain, rung_chain, hung_chain, closes_chain, shut_chain, carries_chain, opens_chain, rings_chain}
+use Rattle.step_laws.proofs.Ticks.{of_more, ticks_chain}
+use Rattle.step_laws.proofs.Ends.{IsTo, IsStep, drop_chain, cause_chain, heard_chain, rung_chain, hung_chain, closes_chain, shut_chain, carries_chain, lcp_chain, opens_chain, rings_chain}
 
 not_true : (a : Bool) → not a ≡ true → a ≡ false
 not_true true h = absurd (true≢false (sym h))
@@ -58,20 +65,27 @@ is_lac_role Lns h = absurd (true≢false (sym h))
 -- what is handed up is of the tunnel that the header names and of the peer that it is from, as is seen of the call
 record IsOf (role : Role) (l : Look) (of from : ℕ) (frame : List ℕ) (c : Carried) : Type 0 where
   up : (tunnel peer : ℕ) (side : Side) (f : List ℕ) → c ≡ Upward tunnel peer side f
-      → (tunnel ≡ of) × (peer ≡ from) × (f ≡ frame) × (side ≡ side_of role) × (l ≡ look.Established tunnel peer)
+      → (tunnel ≡ of) × (peer ≡ from) × (f ≡ frame) × (side ≡ side_of role f) × Passes role l tunnel peer f
   down : (w : Why) → c ≡ Dropped w → w ≡ why.Queue → ⊥
 
 dropped_is : (role : Role) (l : Look) (of from : ℕ) (frame : List ℕ) (w : Why) → (w ≡ why.Queue → ⊥) → IsOf role l of from frame (Dropped w)
 dropped_is role l of from frame w other = record { up = λ t p s f e. absurd cc; down = λ v e q. let same : w ≡ v = cc in other (same ∙ q) }
 
+-- where it passes
+known_passes : (role : Role) (l : Look) (up : Bool) (tunnel peer : ℕ) (frame : List ℕ) → (up ≡ true → l ≡ look.Established tunnel peer)
+    → (up ≡ false → l ≡ look.Bound tunnel peer) → (up || is_for_lcp role frame) ≡ true → Passes role l tunnel peer frame
+known_passes role l true tunnel peer frame seen bound may = AsAll (seen refl)
+known_passes Lac l false tunnel peer frame seen bound may = absurd (true≢false (sym may))
+known_passes Lns l false tunnel peer frame seen bound may = AsLcp (bound refl) refl may
+
 known_is : (role : Role) (l : Look) (up : Bool) (tunnel of peer from : ℕ) (frame : List ℕ) → (up ≡ true → l ≡ look.Established tunnel peer)
-    → IsOf role l of from frame (carry_known role up tunnel of peer from frame)
+    → (up ≡ false → l ≡ look.Bound tunnel peer) → IsOf role l of from frame (carry_known role up tunnel of peer from frame)
 unfolding carry_known
-known_is role l up tunnel of peer from frame seen =
+known_is role l up tunnel of peer from frame seen bound =
     branch (IsOf role l of from frame) (not (tunnel == of)) _ _ (λ h. dropped_is role l of from frame why.Tunnel (λ q. absurd cc))
     (λ same. branch (IsOf role l of from frame) (not (peer == from)) _ _ (λ h. dropped_is role l of from frame why.Peer (λ q. absurd cc))
     (λ met. branch (IsOf role l of from frame) (nat_lt (length frame) 2) _ _ (λ h. dropped_is role l of from frame why.Short (λ q. absurd cc))
-    (λ long. branch (IsOf role l of from frame) up _ _
+    (λ long. branch (IsOf role l of from frame) (up || is_for_lcp role frame) _ _
     (λ u. record {
       up = λ t p s f e.
           let a = eqb-true tunnel of (not_false _ same) in
@@ -79,8 +93,14 @@ known_is role l up tunnel of peer from frame seen =
           let c : tunnel ≡ t = cc in
           let d : peer ≡ p = cc in
           let g : frame ≡ f = cc in
-          let i : side_of role ≡ s = cc in
-          (sym c ∙ a, sym d ∙ b, sym g, sym i, seen u ∙ ap (λ x. look.Established x peer) c ∙ ap (λ y. look.Established t y) d);
+          let i : side_of role frame ≡ s = cc in
+          let passes = known_passes role l up tunnel peer frame seen bound u in (
+            sym c ∙ a,
+            sym d ∙ b,
+            sym g,
+            sym i ∙ ap (side_of role) g,
+            subst (Passes role l t p) g (subst (λ x. Passes role l x p frame) c (subst (λ y. Passes role l tunnel y frame) d passes)),
+          );
       down = λ w e. absurd cc;
     })
     (λ d. dropped_is role l of from frame why.Closed (λ q. absurd cc)))))
@@ -90,62 +110,92 @@ unfolding carry_look
 look_is role look.Unborn from h frame = dropped_is role look.Unborn h.tunnel from frame why.Session (λ q. absurd cc)
 look_is role look.Dead from h frame = dropped_is role look.Dead h.tunnel from frame why.Session (λ q. absurd cc)
 look_is role (look.Bound tunnel peer) from h frame =
-    known_is role (look.Bound tunnel peer) false tunnel h.tunnel peer from frame (λ no. absurd cc)
+    known_is role (look.Bound tunnel peer) false tunnel h.tunnel peer from frame (λ no. absurd cc) (λ yes. refl)
 look_is role (look.Established tunnel peer) from h frame =
-    known_is role (look.Established tunnel peer) true tunnel h.tunnel peer from frame (λ yes. refl)
+    known_is role (look.Established tunnel peer) true tunnel h.tunnel peer from frame (λ yes. refl) (λ no. absurd cc)
 
--- a session that is seen as established has its place
-record IsSeen (places : List (ℕ × CallPlace)) (s tunnel peer : ℕ) : Type 0 where
+-- a session of which something is seen has its place
+record IsSeen (role : Role) (places : List (ℕ × CallPlace)) (s tunnel peer : ℕ) (frame : List ℕ) : Type 0 where
   place : CallPlace
   there : at places s ≡ Some place
-  seen : place.look ≡ look.Established tunnel peer
+  seen : Passes role place.look tunnel peer frame
 
-place_seen : (places : List (ℕ × CallPlace)) (s tunnel peer : ℕ) (o : Option CallPlace) → at places s ≡ o
-    → look_in o ≡ look.Established tunnel peer → IsSeen places s tunnel peer
-place_seen places s tunnel peer None is e = absurd cc
-place_seen places s tunnel peer (Some p) is e = record { place = p; there = is; seen = e }
+-- what nothing is seen of passes nothing
+none_passes : (role : Role) (tunnel peer : ℕ) (frame : List ℕ) → Passes role look.Unborn tunnel peer frame → ⊥
+none_passes role tunnel peer frame (AsAll is) = absurd cc
+none_passes role tunnel peer frame (AsLcp is lns lcp) = absurd cc
+
+place_seen : (role : Role) (places : List (ℕ × CallPlace)) (s tunnel peer : ℕ) (frame : List ℕ) (o : Option CallPlace) → at places s ≡ o
+    → Passes role (look_in o) tunnel peer frame → IsSeen role places s tunnel peer frame
+place_seen role places s tunnel peer frame None is e = absurd (none_passes role tunnel peer frame e)
+place_seen role places s tunnel peer frame (Some p) is e = record { place = p; there = is; seen = e }
+
+lns_side_lcp : (b : Bool) → lns_side b ≡ side.Lcp → b ≡ true
+lns_side_lcp true e = refl
+lns_side_lcp false e = absurd cc
+
+-- what goes to the LCP end is a packet of LCP
+side_lcp : (role : Role) (frame : List ℕ) → side_of role frame ≡ side.Lcp → is_lcp frame ≡ true
+side_lcp Lac frame e = absurd cc
+side_lcp Lns frame e = lns_side_lcp (is_lcp frame) e
 
 module _ (e : End) (kept : AreKept e) (moment : ℕ) (block : List ℕ) where
   abbrev env : Env
   env = env_of e moment block
 
+  -- a move that changes nothing, before the others
+  behind_chain : (ev : Event) (o : Out) (m : Move) (s : Stepped) → Does e moment ev m e → IsOfMoves s.end (m ∷ s.moves) o → HasOutput (o ∷ s.outputs) m
+      → Tells e moment ev o → IsStep e moment ev s → IsStep e moment ev (behind o m s)
+  behind_chain ev o m s does of has tells h = record {
+    chain = record {
+      chain = (e, does, h.chain.chain);
+      outputs = (of, all_map _ _ (of_more s.end (m ∷ []) s.moves) s.outputs h.chain.outputs);
+      frames = (has, all_map _ _ (output_within s.outputs (o ∷ s.outputs) (λ x a. inr a)) s.moves h.chain.frames);
+      kept = h.chain.kept;
+    };
+    tells = (tells, h.tells);
+  }
+
+  -- a packet of LCP is heard in its call
+  lcp_heard : (ev : Event) (s peer i : ℕ) (frame : List ℕ) (o : Option Tunnel) → at e.tunnels i ≡ o
+      → HearsLcp ev peer i s frame → IsStep e moment ev (in_main e env (Lcp s frame) i o)
+  unfolding in_main
+  lcp_heard ev s peer i frame None is hears = drop_chain e kept moment ev why.Tunnel (λ q. absurd cc)
+  lcp_heard ev s peer i frame (Some t) is hears =
+      lcp_chain e kept moment ev block i t is s peer frame (subst (λ j. HearsLcp ev peer j s frame) (sym (kept.tunnels i t is).local) hears)
+
+  then_chain : (ev : Event) (s peer tunnel : ℕ) (frame : List ℕ) (x : Side) → (x ≡ side.Lcp → HearsLcp ev peer tunnel s frame)
+      → IsStep e moment ev (then_heard e env tunnel s frame x)
+  unfolding then_heard
+  then_chain ev s peer tunnel frame side.Sub hears = record { chain = record { chain = refl; outputs = tt; frames = tt; kept = kept }; tells = tt }
+  then_chain ev s peer tunnel frame side.Net hears = record { chain = record { chain = refl; outputs = tt; frames = tt; kept = kept }; tells = tt }
+  then_chain ev s peer tunnel frame side.Lcp hears = lcp_heard ev s peer tunnel frame (at e.tunnels tunnel) refl (hears refl)
+
   handed_chain : (from : ℕ) (bytes : List ℕ) (h : Header) → header_of bytes ≡ Ok h → h.control ≡ false → (c : Carried)
       → IsOf e.role (look_in (at e.calls h.session)) h.tunnel from (frame_of (body_of h bytes)) c
-      → IsStep e moment (Datagram from bytes) (handed e h.session c)
+      → IsStep e moment (Datagram from bytes) (handed e env h.session c)
   unfolding handed
   handed_chain from bytes h read data_is (Dropped w) is = drop_chain e kept moment (Datagram from bytes) w (is.down w refl)
-  handed_chain from bytes h read data_is (Upward tunnel peer side frame) is =
-      let of = is.up tunnel peer side frame refl in
-      let known = place_seen e.calls h.session tunnel peer (at e.calls h.session) refl of.4 in
-      record {
-        chain = record {
-          chain = (
-            e,
-            record {
-              hears = record {
-                bytes = bytes;
-                is = ap (λ p. Datagram p bytes) (sym of.1);
-                header = h;
-                read = read;
-                data_is = data_is;
-                tunnel_is = sym of.0;
-                session_is = refl;
-                frame_is = of.2;
-              };
-              place = known.place;
-              there = known.there;
-              seen = known.seen;
-              side = of.3;
-              after = refl;
-            },
-            refl,
-          );
-          outputs = (record { tunnel = tunnel; peer = peer; there = inl refl }, tt);
-          frames = (tt, tt);
-          kept = kept;
-        };
-        tells = (tt, tt);
-      }
+  handed_chain from bytes h read data_is (Upward tunnel peer x frame) is =
+      let of = is.up tunnel peer x frame refl in
+      let known = place_seen e.role e.calls h.session tunnel peer frame (at e.calls h.session) refl of.4 in
+      let ev = Datagram from bytes in
+      let hears : HearsFrame ev peer tunnel h.session frame = record {
+        bytes = bytes;
+        is = ap (λ p. Datagram p bytes) (sym of.1);
+        header = h;
+        read = read;
+        data_is = data_is;
+        tunnel_is = sym of.0;
+        session_is = refl;
+        frame_is = of.2;
+      } in
+      behind_chain ev (Up h.session x frame)
+      (move.FrameUp (record { tunnel = tunnel; peer = peer; session = h.session; side = x; frame = frame }))
+      (then_heard e env tunnel h.session frame x)
+      (record { hears = hears; place = known.place; there = known.there; seen = known.seen; side = of.3; after = refl })
+      (record { tunnel = tunnel; peer = peer; there = inl refl }) tt tt
+      (then_chain ev h.session peer tunnel frame x (λ lcp. inr (hears, side_lcp e.role frame (sym of.3 ∙ lcp))))
 
   -- ---- tunnels that are there, or not
 
@@ -287,6 +337,11 @@ module _ (e : End) (kept : AreKept e) (moment : ℕ) (block : List ℕ) where
   gives_lower s frame None = drop_chain e kept moment (Lower s frame) why.Call (λ q. absurd cc)
   gives_lower s frame (Some p) = main_lower s frame p.tunnel (at e.tunnels p.tunnel) refl
 
+  gives_lcp : (s : ℕ) (packet : List ℕ) (o : Option CallPlace) → IsStep e moment (Lcp s packet) (for_call e env (Lcp s packet) o)
+  unfolding for_call
+  gives_lcp s packet None = drop_chain e kept moment (Lcp s packet) why.Call (λ q. absurd cc)
+  gives_lcp s packet (Some p) = lcp_heard (Lcp s packet) s 0 p.tunnel packet (at e.tunnels p.tunnel) refl (inl refl)
+
   hung : (s : ℕ) (o : Option CallPlace) → IsStep e moment (Hang s) (for_call e env (Hang s) o)
   unfolding for_call
   hung s None = drop_chain e kept moment (Hang s) why.Call (λ q. absurd cc)
@@ -317,6 +372,7 @@ module _ (e : End) (kept : AreKept e) (moment : ℕ) (block : List ℕ) where
   step_chain (Frame bytes) = drop_chain e kept moment (Frame bytes) why.Node (λ q. absurd cc)
   step_chain (Payload s frame) = by_lac (Payload s frame) _ (λ lac. gives_payload s frame (at e.calls s))
   step_chain (Lower s frame) = by_lns (Lower s frame) _ (gives_lower s frame (at e.calls s))
+  step_chain (Lcp s packet) = by_lns (Lcp s packet) _ (gives_lcp s packet (at e.calls s))
   step_chain (Hang s) = by_lac (Hang s) _ (λ lac. hung s (at e.calls s))
   step_chain (DropCall s) = closed s (at e.calls s)
   step_chain (CloseTunnel i) = main_shut i (at e.tunnels i) refl

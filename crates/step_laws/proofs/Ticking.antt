@@ -18,18 +18,25 @@ use Rattle.tunnel_fsm.specs.Rows.{state_number}
 use Rattle.call_fsm.specs.declared.table.CallEvent.TheVariants as call_event
 use Rattle.protocol_model.specs.declared.tunnel.Call.{Call}
 use Rattle.protocol_model.specs.declared.tunnel.Control.{Control}
+use Rattle.protocol_model.specs.declared.tunnel.Link.{Link}
 use Rattle.protocol_model.specs.declared.event.Event.TheVariants.{Tick}
 use Rattle.protocol_model.specs.declared.moves.Move.TheVariants as move
-use Rattle.protocol_model.specs.Calls.{call_row, is_set_up}
-use Rattle.protocol_model.specs.Turn.{Tunnel, Turn, with_output, with_move, with_calls, has_room, gives, place, next_place, letter_of, letter_in, letters_after, counts_given, counts_sent, counts_repeated, sends_letter, sends_now, lets_go, goes_by, lets_all_go, repeats, acknowledges, outstanding, acknowledged_after, settles, tunnel_after, is_over, patience, greeted, greets, ends_by, limits_at, limits_all, goes_quietly}
+use Rattle.protocol_model.specs.Calls.{call_row, is_set_up, is_up}
+use Rattle.protocol_model.specs.Turn.{Tunnel, Turn, with_output, with_move, with_calls, has_room, gives, place, next_place, letter_of, letter_in, letters_after, counts_given, counts_sent, counts_repeated, sends_letter, sends_now, lets_go, goes_by, lets_all_go, repeats, acknowledges, outstanding, acknowledged_after, settles, tunnel_after, is_over, patience, greeted, greets, ends_by, links, ticks_link, limits_at, limits_all, goes_quietly}
 use Rattle.protocol_model.specs.End.{End}
 use Rattle.step_laws.specs.Moves.{TookTooLong, IsLate}
 use Rattle.step_laws.proofs.Lists.{all_push, and_left, and_right, branch, chain_more}
 use Rattle.step_laws.proofs.Moments.{passed, not_up}
 use Rattle.step_laws.proofs.Owing.{Fits, live_open, some_owed, fits_given, owes_told}
-use Rattle.step_laws.proofs.Turns.{NoFrame, Held, given_held, at_turn, there, one_given, Others, Same, same_still, same_first}
+use Rattle.step_laws.specs.Letters.{HasOutput}
+use Rattle.step_laws.proofs.Turns.{Held, given_held, at_turn, there, one_given, Others, Same, same_still, same_first}
 use Rattle.step_laws.proofs.Settling.{Settled, outs_on, sent_ok, settled_ok}
 use Rattle.step_laws.proofs.Closing.{given_on, ends_leave}
+use Rattle.step_laws.proofs.Keeping.{sent_keeps, settled_keeps}
+use Rattle.step_laws.proofs.Linking.{IsLinked, links_leave}
+use Rattle.step_laws.specs.Links.{ForTime}
+use Rattle.lcp_end.specs.Laws.{OnTick}
+use Rattle.lcp_end.specs.Steps.{is_due, ticked}
 
 -- ---- a letter that is repeated
 
@@ -68,74 +75,6 @@ small_due n moment number small h = by n.frozen (sending.due_at n.window moment)
     by false true true e = let same : n.window.acked ≡ number = cc in subst (λ (k : ℕ). k < 2 ^ 64) same small
     by false true false e = absurd cc
     by false false c e = absurd cc
-
--- one more letter makes no room
-pub more_full : (c : Control) → has_room c ≡ false → has_room (counts_given c) ≡ false
-more_full c full = still c.channel.window.queued full
-  where
-    still : (n : ℕ) → nat_lt n 8192 ≡ false → nat_lt (n + 1) 8192 ≡ false
-    still n full = grind (arith, nat_tests)
-
--- nor does one that goes, or is repeated
-gone_room : (moment : ℕ) (c : Control) → has_room (counts_sent moment c) ≡ has_room c
-gone_room moment c =
-    branch (λ (n : Numbers). nat_lt n.window.queued 8192 ≡ has_room c) c.channel.frozen _ _
-    (λ frozen. refl)
-    (λ free. branch (λ (w : Window). nat_lt w.queued 8192 ≡ has_room c) (sending.may_go c.channel.window) _ _ (λ may. refl) (λ no. refl))
-
-pub repeated_room : (moment : ℕ) (c : Control) → has_room (counts_repeated moment c) ≡ has_room c
-repeated_room moment c =
-    branch (λ (n : Numbers). nat_lt n.window.queued 8192 ≡ has_room c) c.channel.frozen _ _
-    (λ frozen. refl)
-    (λ free. branch (λ (w : Window). nat_lt w.queued 8192 ≡ has_room c) (sending.due_at c.channel.window moment && nat_lt c.channel.window.repetitions 5) _ _
-    (λ due. refl)
-    (λ no. refl))
-
--- ---- what the end of each part leaves: the calls, where ids are drawn from, the moment, the tunnel's state, and whether there is
--- room
-
-abbrev pub Keeps : Turn → Turn → Type 0
-Keeps t u =
-    (u.changed ≡ t.changed) × (u.added ≡ t.added) × (u.tunnels ≡ t.tunnels) × (u.sessions ≡ t.sessions) × (u.moment ≡ t.moment)
-    × (u.control.state ≡ t.control.state) × (has_room u.control ≡ has_room t.control)
-
-keeps_all : (t : Turn) → Keeps t t
-keeps_all t = (refl, refl, refl, refl, refl, refl, refl)
-
-keeps_on : (t u v : Turn) → Keeps t u → Keeps u v → Keeps t v
-keeps_on t u v h k = (k.0 ∙ h.0, k.1 ∙ h.1, k.2 ∙ h.2, k.3 ∙ h.3, k.4 ∙ h.4, k.5 ∙ h.5, k.6 ∙ h.6)
-
-pub sent_keeps : (number : ℕ) (o : Option Letter) (t : Turn) → Keeps t (sends_letter number o t)
-unfolding sends_letter with_output
-sent_keeps number None t = keeps_all t
-sent_keeps number (Some l) t = branch (Keeps t) (nat_le (length l.avps) 65523) _ _ (λ fits. keeps_all t) (λ long. keeps_all t)
-
-gone_keeps : (letters : List Letter) (number : ℕ) (t : Turn) → Keeps t (lets_go letters number t)
-unfolding lets_go sends_now with_move
-gone_keeps letters number t =
-    let u = with_move (move.LetGo (record { tunnel = t.control.local; sent = place number })) (record t { control = counts_sent t.moment t.control }) in
-    keeps_on t u (sends_letter number (letter_in letters u number) u) (refl, refl, refl, refl, refl, refl, gone_room t.moment t.control)
-    (sent_keeps number (letter_in letters u number) u)
-
-all_gone_keeps : (most : ℕ) (letters : List Letter) (t : Turn) → Keeps t (lets_all_go most letters t)
-unfolding lets_all_go goes_by
-all_gone_keeps zero letters t = keeps_all t
-all_gone_keeps (suc most) letters t = by (next_to_go t.control.channel) (all_gone_keeps most letters)
-  where
-    by : (o : Option ℕ) → ((u : Turn) → Keeps u (lets_all_go most letters u)) → Keeps t (goes_by (lets_all_go most letters) letters o t)
-    by None rest = keeps_all t
-    by (Some number) rest = let u = lets_go letters number t in keeps_on t u (lets_all_go most letters u) (gone_keeps letters number t) (rest u)
-
-acknowledged_keeps : (again : Bool) (before : ℕ) (t : Turn) → Keeps t (acknowledged_after again before t)
-unfolding acknowledged_after acknowledges with_output with_move
-acknowledged_keeps again before t =
-    branch (Keeps t) (again || (t.took && (outstanding t == before))) _ _ (λ yes. keeps_all t) (λ no. keeps_all t)
-
-pub settled_keeps : (again : Bool) (letters : List Letter) (t : Turn) → Keeps t (settles again letters t)
-unfolding settles
-settled_keeps again letters t =
-    let u = lets_all_go t.control.channel.window.queued letters t in
-    keeps_on t u (acknowledged_after again (outstanding t) u) (all_gone_keeps t.control.channel.window.queued letters t) (acknowledged_keeps again (outstanding t) u)
 
 module _ (e : End) (moment : ℕ) (letters : List Letter) (calls : List (ℕ × Call)) (i : ℕ) where
   abbrev tunnel : Turn → Tunnel
@@ -190,9 +129,9 @@ module _ (e : End) (moment : ℕ) (letters : List Letter) (calls : List (ℕ × 
           inbox = inbox_stays t.control.channel t.moment;
           more = [];
           letters = sym (append-nil (tunnel t).letters);
-        }) h;
+        }) (m ∷ []) refl h;
         tells = h.tells;
-        frames = all_push NoFrame t.moves m h.frames tt;
+        frames = all_push (HasOutput t.outputs) t.moves m h.frames tt;
         stays = h.stays;
         held = held_repeated t.control.channel t.moment (letters_after t letters) h.held;
         fits = fits_repeated t.control t.moment (with_calls t.changed calls) h.fits;
@@ -237,9 +176,9 @@ module _ (e : End) (moment : ℕ) (letters : List Letter) (calls : List (ℕ × 
             given = refl;
             after = rw (one_given e moment Tick letters calls i t l, put-put e.tunnels t.control.local (tunnel t) _) refl;
           });
-          outs = outs_on e moment Tick letters calls i t (hello t) (given_on e moment Tick letters calls i t (hello t) l refl refl refl refl refl refl) h;
+          outs = outs_on e moment Tick letters calls i t (hello t) (given_on e moment Tick letters calls i t (hello t) l refl refl refl refl refl refl) (m ∷ []) refl h;
           tells = h.tells;
-          frames = all_push NoFrame t.moves m h.frames tt;
+          frames = all_push (HasOutput t.outputs) t.moves m h.frames tt;
           stays = h.stays;
           held = given_held e moment Tick letters calls i t l h.held;
           fits =
@@ -304,6 +243,40 @@ module _ (e : End) (moment : ℕ) (letters : List Letter) (calls : List (ℕ × 
           others = λ q o. ap (λ xs. at (with_calls xs calls) q) (settled_keeps false letters u).0 ∙ l.others q o;
         }
 
+    -- the LCP end of a call has its timer
+    timed : (s : ℕ) (c : Call) (l : Link) (t : Turn) → at calls s ≡ Some c → at (with_calls t.changed calls) s ≡ Some c → c.link ≡ Some l
+        → is_up c.state ≡ true → s < 65536 → Ticking t → Limited s t (links e.role letters s c l (ticked t.moment l.lcp) t)
+    timed s c l t live found has up small h =
+        let by = OnTick t.moment in
+        let k : IsLinked e moment Tick letters calls i s c l by t =
+        record { found = found; has = has; up = up; called = ForTime refl (ap OnTick h.settled.stays.4) } in
+        let left = links_leave e moment Tick letters calls i s c l by t k small
+        (λ done told. record {
+          id = i;
+          tunnel = begun;
+          there = is_there;
+          session = s;
+          call = c;
+          live = live;
+          finishes = record { calls = record { link = l; has = has; by = by; called = ForTime refl (ap OnTick h.settled.stays.4) }; finished = done };
+          row = told;
+        }) h.settled in
+        record {
+          ok = record { settled = left.ok; none = (left.tunnels ∙ h.none.0, left.sessions ∙ h.none.1, left.added ∙ h.none.2) };
+          others = left.others;
+        }
+
+    linked : (s : ℕ) (c : Call) (t : Turn) → at calls s ≡ Some c → at (with_calls t.changed calls) s ≡ Some c → (o : Option Link) → c.link ≡ o
+        → Ticking t → Limited s t (ticks_link e.role letters s c o t)
+    unfolding ticks_link
+    linked s c t live found None has h = record { ok = h; others = λ q o. refl }
+    linked s c t live found (Some l) has h =
+        branch (Limited s t) (nat_lt s 65536 && is_up c.state && is_due t.moment l.lcp) _ _
+        (λ due.
+        let both = and_left (nat_lt s 65536 && is_up c.state) _ due in
+        timed s c l t live found has (and_right (nat_lt s 65536) (is_up c.state) both) (ltb-true s 65536 (and_left (nat_lt s 65536) (is_up c.state) both)) h)
+        (λ no. record { ok = h; others = λ q o. refl })
+
     limits_at_ok : (s : ℕ) (o : Option Call) (t : Turn) → at calls s ≡ o → at (with_calls t.changed calls) s ≡ o → Ticking t
         → Limited s t (limits_at e.role letters s o t)
     unfolding limits_at
@@ -317,7 +290,7 @@ module _ (e : End) (moment : ℕ) (letters : List Letter) (calls : List (ℕ × 
           not_up = not_up c.state (and_right (nat_lt s 65536) (is_set_up c.state) both);
           over = over_at c.since t h (and_right (nat_lt s 65536 && is_set_up c.state) _ due);
         }) (and_right (nat_lt s 65536) (is_set_up c.state) both) (ltb-true s 65536 (and_left (nat_lt s 65536) (is_set_up c.state) both)) h)
-        (λ no. record { ok = h; others = λ q o. refl })
+        (λ no. linked s c t live found c.link refl h)
 
     limits_all_ok : (es : List (ℕ × Call)) → Ascends es → (t : Turn) → AllByRecursion (Same e moment Tick letters calls i t) es → Ticking t
         → Ticking (limits_all e.role letters (ids_of es) calls t)

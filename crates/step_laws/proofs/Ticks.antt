@@ -19,13 +19,15 @@ use Rattle.protocol_model.specs.End.{End, env_of, placed, with_looks, after_turn
 use Rattle.step_laws.specs.Failing.{HasFailed, IsUnanswered}
 use Rattle.step_laws.specs.Moves.{Chain}
 use Rattle.step_laws.specs.Steps.{IsKept, AreKept, IsOfMoves}
-use Rattle.step_laws.proofs.Lists.{all_append, all_map, all_push, among_right, chain_append, branch, ascends_looks}
+use Rattle.step_laws.proofs.Lists.{all_append, all_map, all_push, among_left, among_right, chain_append, branch, ascends_looks}
 use Rattle.step_laws.proofs.Tells.{Tells}
-use Rattle.step_laws.proofs.Turns.{IsWord, NoFrame}
-use Rattle.step_laws.proofs.Settling.{OutOk, goes_nowhere, out_on, carries_on, unsent}
+use Rattle.step_laws.specs.Letters.{HasOutput}
+use Rattle.step_laws.proofs.Turns.{IsWord}
+use Rattle.step_laws.proofs.Outputs.{output_within, frames_more}
+use Rattle.step_laws.proofs.Settling.{OutOk, AreWithin, goes_nowhere, out_on, carries_on, unsent}
 use Rattle.step_laws.proofs.Moments.{ended_failed, given_up}
 use Rattle.step_laws.proofs.Ticking.{Ticking, quietly_ok, repeats_ok, repeated_changed}
-use Rattle.step_laws.proofs.Ends.{IsStep, no_frame_out, word_is, ok_is, left_is, kept_after, chain_after, there_after, begins}
+use Rattle.step_laws.proofs.Ends.{IsStep, word_is, ok_is, left_is, kept_after, chain_after, there_after, begins}
 
 -- ---- a tunnel is removed with its calls
 
@@ -61,21 +63,21 @@ abbrev OutAt : List (ℕ × Tunnel) → ℕ → List Move → Out → Type 0
 OutAt tunnels i ms x = ((t : Tunnel) × (at tunnels i ≡ Some t) × OutOk t ms x) ⊎ IsWord x
 
 -- as another end has it, among other moves
-out_of : (x : End) (tunnels : List (ℕ × Tunnel)) (i : ℕ) → at x.tunnels i ≡ at tunnels i → (ms ns : List Move) → AllByRecursion NoFrame ms → (o : Out)
+out_of : (x : End) (tunnels : List (ℕ × Tunnel)) (i : ℕ) → at x.tunnels i ≡ at tunnels i → (ms ns : List Move) → AreWithin ms ns → (o : Out)
     → OutAt tunnels i ms o → IsOfMoves x ns o
-out_of x tunnels i same ms ns none o h = ⊎_elim
-    (λ a. ok_is x i a.0 (same ∙ a.1) ns o (out_on a.0 a.0 (goes_nowhere a.0) ms ns none o a.2))
+out_of x tunnels i same ms ns within o h = ⊎_elim
+    (λ a. ok_is x i a.0 (same ∙ a.1) ns o (out_on a.0 a.0 (goes_nowhere a.0) ms ns within o a.2))
     (λ w. word_is x ns o w)
     h
 
-of_more : (x : End) (ms ns : List Move) → AllByRecursion NoFrame ns → (o : Out) → IsOfMoves x ns o → IsOfMoves x (ms ++ ns) o
-of_more x ms ns none (Send p bytes o) h = ⊎_elim
+pub of_more : (x : End) (ms ns : List Move) (o : Out) → IsOfMoves x ns o → IsOfMoves x (ms ++ ns) o
+of_more x ms ns (Send p bytes o) h = ⊎_elim
     (λ s. inl (record {
       id = s.id;
       tunnel = s.tunnel;
       there = s.there;
       peer_is = s.peer_is;
-      carries = carries_on s.tunnel s.tunnel (goes_nowhere s.tunnel) ns (ms ++ ns) none bytes o s.carries;
+      carries = carries_on s.tunnel s.tunnel (goes_nowhere s.tunnel) ns (ms ++ ns) (λ m a. among_right m ms ns a) bytes o s.carries;
     }))
     (λ d. inr (record {
       declined = d.declined;
@@ -85,10 +87,10 @@ of_more x ms ns none (Send p bytes o) h = ⊎_elim
       origin_is = d.origin_is;
     }))
     h
-of_more x ms ns none (Up session side frame) h = record { tunnel = h.tunnel; peer = h.peer; there = among_right _ ms ns h.there }
-of_more x ms ns none (Gone session) h = tt
-of_more x ms ns none (Drop w) h = tt
-of_more x ms ns none (Cause w) h = tt
+of_more x ms ns (Up session side frame) h = record { tunnel = h.tunnel; peer = h.peer; there = among_right _ ms ns h.there }
+of_more x ms ns (Gone session) h = tt
+of_more x ms ns (Drop w) h = tt
+of_more x ms ns (Cause w) h = tt
 
 -- ---- one tunnel
 
@@ -107,7 +109,7 @@ record Ticked (e : End) (moment i : ℕ) (r : Turn) (y : End) : Type 0 where
   chain : Chain moment Tick e r.moves y
   outs : AllByRecursion (OutAt y.tunnels i r.moves) r.outputs
   tells : AllByRecursion (Tells e moment Tick) r.outputs
-  frames : AllByRecursion NoFrame r.moves
+  frames : AllByRecursion (HasOutput r.outputs) r.moves
   kept : AreKept y
   like : Like e y
   others : (j : ℕ) → (j ≡ i → ⊥) → at y.tunnels j ≡ at e.tunnels j
@@ -188,7 +190,7 @@ module _ (e : End) (kept : AreKept e) (moment : ℕ) (block : List ℕ) (i : ℕ
     );
     outs = all_map _ _ (λ x w. inr w) removed.outputs removed_ok.words;
     tells = removed_ok.tells;
-    frames = subst (AllByRecursion NoFrame) (sym removed_moves) (tt, tt);
+    frames = subst (AllByRecursion (HasOutput removed.outputs)) (sym removed_moves) (tt, tt);
     kept = kept_gone;
     like = record { role = refl; config = refl; tunnels = refl; sessions = refl };
     others = λ j o. at_without_other e.tunnels i j o;
@@ -226,7 +228,7 @@ module _ (moment : ℕ) where
   record AllTicked (es : List (ℕ × Tunnel)) (x : End) (ts : List Turned) : Type 0 where
     chain : Chain moment Tick x (flat_map (λ t. t.turn.moves) ts) (end_after_all ts x)
     outs : AllByRecursion (IsOfMoves (end_after_all ts x) (flat_map (λ t. t.turn.moves) ts)) (flat_map (λ t. t.turn.outputs) ts)
-    frames : AllByRecursion NoFrame (flat_map (λ t. t.turn.moves) ts)
+    frames : AllByRecursion (HasOutput (flat_map (λ t. t.turn.outputs) ts)) (flat_map (λ t. t.turn.moves) ts)
     kept : AreKept (end_after_all ts x)
     others : (j : ℕ) → IsAbove j es → at (end_after_all ts x).tunnels j ≡ at x.tunnels j
 
@@ -243,13 +245,16 @@ module _ (moment : ℕ) where
       let z = end_after_all ts y in
       let same : end_after_all (first ∷ ts) x ≡ z = ap (end_after_all ts) (sym is) in
       let ms = flat_map (λ (t : Turned). t.turn.moves) ts in
+      let outs = flat_map (λ (t : Turned). t.turn.outputs) ts in
       record {
         chain = subst (Chain moment Tick x (first.turn.moves ++ ms)) (sym same) (chain_append moment Tick x y z first.turn.moves ms h.chain rest.chain);
         outs = subst (λ w. AllByRecursion (IsOfMoves w (first.turn.moves ++ ms)) (first.turn.outputs ++ flat_map (λ (t : Turned). t.turn.outputs) ts)) (sym same)
             (all_append _ first.turn.outputs _
-            (all_map _ _ (out_of z y.tunnels q.0 (rest.others q.0 above) first.turn.moves (first.turn.moves ++ ms) h.frames) first.turn.outputs h.outs)
-            (all_map _ _ (of_more z first.turn.moves ms rest.frames) _ rest.outs));
-        frames = all_append NoFrame first.turn.moves ms h.frames rest.frames;
+            (all_map _ _ (out_of z y.tunnels q.0 (rest.others q.0 above) first.turn.moves (first.turn.moves ++ ms) (λ m a. among_left m first.turn.moves ms a))
+            first.turn.outputs h.outs)
+            (all_map _ _ (of_more z first.turn.moves ms) _ rest.outs));
+        frames = all_append _ first.turn.moves ms (frames_more first.turn.outputs outs first.turn.moves h.frames)
+            (all_map _ _ (output_within outs (first.turn.outputs ++ outs) (λ o a. among_right o first.turn.outputs outs a)) ms rest.frames);
         kept = subst AreKept (sym same) rest.kept;
         others = λ j below.
             ap (λ (w : End). at w.tunnels j) same ∙ rest.others j below.1 ∙ h.others j (λ s. let lt = below.0 in absurd (omega (arith, s)));
@@ -319,6 +324,6 @@ module _ (moment : ℕ) where
       ticks_chain =
           let h = all_ticked e.tunnels kept.order e (record { role = refl; config = refl; tunnels = refl; sessions = refl }) kept (same_all e.tunnels) in
           record {
-            chain = record { chain = h.chain; outputs = h.outs; frames = all_map _ _ (no_frame_out _) _ h.frames; kept = h.kept };
+            chain = record { chain = h.chain; outputs = h.outs; frames = h.frames; kept = h.kept };
             tells = ticks_tell (ids_of e.tunnels);
           }

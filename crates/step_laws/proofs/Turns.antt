@@ -38,9 +38,10 @@ use Rattle.protocol_model.specs.Reading.{body_of, message_in, call_fault_in}
 use Rattle.protocol_model.specs.Calls.{call_row, advanced, rung, asked_for, is_request, is_reply, is_connection, is_up, are_too_many}
 use Rattle.protocol_model.specs.Secrets.{response_by}
 use Rattle.step_laws.proofs.Secrets.{acceptable_proven, responds_so, hides_number}
-use Rattle.protocol_model.specs.Turn.{is_acceptable, Tunnel, Turn, Reason, is_closed, granted, refused, may_take, counts_given, in_state, changed_at, with_output, with_move, with_change, with_call, with_new, drops, gives, gives_as, takes_one, next_place, taken_place, has_room, learns_window, reads_nr, ends_call, end_heard, is_clean_up, session_named, requested, requests, requests_at, requests_all, adds, replied, first_up, second_up, connected, confirms, takes_plain, ignores, letter_of, letter_as, request_of, hidden_request, connection, letters_after, tunnel_after, with_calls}
+use Rattle.protocol_model.specs.Turn.{is_acceptable, Tunnel, Turn, Reason, is_closed, granted, refused, may_take, counts_given, in_state, changed_at, with_output, with_move, with_change, with_call, with_new, drops, gives, gives_as, takes_one, next_place, taken_place, has_room, learns_window, reads_nr, ends_call, end_heard, is_clean_up, session_named, requested, requests, requests_at, requests_all, adds, replied, first_up, second_up, with_link, connected, confirms, takes_plain, ignores, letter_of, letter_as, request_of, hidden_request, connection, letters_after, tunnel_after, with_calls}
 use Rattle.protocol_model.specs.End.{End, placed, with_looks}
 use Rattle.step_laws.specs.Causes.{Stands}
+use Rattle.step_laws.specs.Links.{begun_link}
 use Rattle.step_laws.specs.Moves.{IsRight, Chain, ComesNext, HearsNext, IsPlain, TellsNr, WhyRefused}
 use Rattle.step_laws.proofs.Granting.{grants_is}
 use Rattle.step_laws.proofs.States.{rung_asks}
@@ -497,12 +498,16 @@ module _ (e : End) (moment : ℕ) (ev : Event) (letters : List Letter) (calls : 
             (holds_live t.control (with_calls t.changed calls) (live_open t.control is_open) h.fits));
       }
 
-  pub second_up_ok : (s speed framing : ℕ) (sequenced : Bool) (c : Call) (t : Turn) → state_number t.control.state ≡ 3
+  -- the call as it is connected, with its link
+  abbrev pub connected_call : ℕ → Call → Turn → Call
+  connected_call magic c t = with_link (begun_link magic) (advanced e.role call_event.IccnAcc t.moment c)
+
+  pub second_up_ok : (s speed framing magic : ℕ) (sequenced : Bool) (c : Call) (t : Turn) → state_number t.control.state ≡ 3
       → at (with_calls t.changed calls) s ≡ Some c → HearsNext ev t.control s (Iccn speed framing sequenced)
       → is_up (call_row e.role c.state call_event.IccnAcc).0 ≡ true → may_take t.control (with_calls t.changed calls) ≡ true → TurnOk t
-      → TurnOk (second_up e.role s c t)
+      → TurnOk (second_up s (connected_call magic c t) t)
   unfolding second_up with_change with_move with_call takes_one advanced
-  second_up_ok s speed framing sequenced c t is_open found hears row spare h =
+  second_up_ok s speed framing magic sequenced c t is_open found hears row spare h =
       let m = move.SecondUp (record { tunnel = t.control.local; session = s; taken = taken_place t.control }) in
       let bind = cell.Bind s t.control.local t.control.peer in
       let places = placed t.control.local t.added e.calls in
@@ -519,11 +524,11 @@ module _ (e : End) (moment : ℕ) (ev : Event) (letters : List Letter) (calls : 
           hears = hears;
           row = row;
           taken = refl;
+          magic = magic;
           after =
-              let changed = with_calls-more t.changed s (Some (advanced e.role call_event.IccnAcc t.moment c)) calls in
+              let changed = with_calls-more t.changed s (Some (connected_call magic c t)) calls in
               let bound = with_looks-more t.changes bind places in
-              let established = with_looks-more (t.changes ++ bind ∷ []) (cell.Establish s) places in
-              rw (changed, established, bound, put-put e.tunnels t.control.local (tunnel_after t letters calls) _, h.stays.4) refl;
+              rw (changed, bound, put-put e.tunnels t.control.local (tunnel_after t letters calls) _, h.stays.4) refl;
         });
         words = h.words;
         tells = h.tells;
@@ -531,7 +536,7 @@ module _ (e : End) (moment : ℕ) (ev : Event) (letters : List Letter) (calls : 
         stays = h.stays;
         held = h.held;
         fits =
-            let d = advanced e.role call_event.IccnAcc t.moment c in
+            let d = connected_call magic c t in
             fits_changed t.control t s (Some d) (fits_up t.control (with_calls t.changed calls) s d c found (up_owes _ row) spare h.fits);
       }
 

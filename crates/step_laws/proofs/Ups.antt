@@ -1,5 +1,5 @@
 -- A step hands up what its moves hand up: a frame that comes, and no other.
-use Rattle.std.proofs.Common.{◌≡◌, ℕ, ◌≤◌, List, [], ◌∷◌, ◌++◌, length, refl, sym, ◌∙◌, Option, Some, None, Result, Ok, Err, arith}
+use Rattle.std.proofs.Common.{◌≡◌, ℕ, ◌≤◌, List, [], ◌∷◌, ◌++◌, length, refl, ap, sym, ◌∙◌, Option, Some, None, Result, Ok, Err, arith}
 use Rattle.std.specs.Prelude.{◌==◌}
 use Rattle.std.specs.List.{flat_map}
 use Rattle.id_table.specs.Ids.{at, ids_of}
@@ -16,13 +16,15 @@ use Rattle.protocol_model.specs.declared.tunnel.Role.TheVariants.{Lac, Lns}
 use Rattle.protocol_model.specs.declared.event.Addressee.{Addressee}
 use Rattle.protocol_model.specs.declared.event.Addressee.TheVariants.{Opens, Stops, Answers, Main, Nobody}
 use Rattle.protocol_model.specs.declared.event.Event.{Event}
-use Rattle.protocol_model.specs.declared.event.Event.TheVariants.{Datagram, Ring, Payload, Lower, Hang, OpenTunnel, DropCall, CloseTunnel, Tick, Admitted, Frame}
+use Rattle.wire_base.specs.declared.letter.Side.{Side}
+use Rattle.wire_base.specs.declared.letter.Side.TheVariants as side
+use Rattle.protocol_model.specs.declared.event.Event.TheVariants.{Datagram, Ring, Payload, Lower, Lcp, Hang, OpenTunnel, DropCall, CloseTunnel, Tick, Admitted, Frame}
 use Rattle.protocol_model.specs.declared.out.Out.{Out}
-use Rattle.protocol_model.specs.declared.out.Out.TheVariants.{Drop, Cause}
+use Rattle.protocol_model.specs.declared.out.Out.TheVariants.{Up, Drop, Cause}
 use Rattle.protocol_model.specs.Reading.{header_why, body_of}
 use Rattle.protocol_model.specs.Calls.{is_lac, Carried, Upward, Dropped}
 use Rattle.protocol_model.specs.Turn.{Tunnel, Env, Reason, out_of_order, turn_of, fresh, turns}
-use Rattle.protocol_model.specs.End.{End, Stepped, env_of, gives_only, after_turn, after_new, in_new, has_all_tunnels, in_one_more, in_main, addressed, against_body, next_of_peer, declined, opens_or_declines, for_addressee, least_in, rings_in, rings_at, for_call, handed, hands_up, receives, Turned, tick_of, ticks_of, after_all, ticks_all, only_by, step_in, plain_step}
+use Rattle.protocol_model.specs.End.{End, Stepped, env_of, gives_only, after_turn, after_new, in_new, has_all_tunnels, in_one_more, in_main, addressed, against_body, next_of_peer, declined, opens_or_declines, for_addressee, least_in, rings_in, rings_at, for_call, then_heard, handed, hands_up, receives, Turned, tick_of, ticks_of, after_all, ticks_all, only_by, step_in, plain_step}
 use Rattle.step_laws.specs.Ups.{ups_of_output, ups_of_move, births_of_move, reads_of_move, most_ups, most_births, most_reads, UpsAreMoves, UpsAreFew, BirthsAreFew, ReadsAreFew}
 use Rattle.step_laws.proofs.Lists.{branch}
 use Rattle.step_laws.proofs.Quiet.{AreQuiet, nothing, turns_quiet, both_quiet}
@@ -87,9 +89,30 @@ module _ (e : End) (moment : ℕ) (block : List ℕ) where
   addressee_told ev peer h body (Main i) = main_told ev i (at e.tunnels i)
   addressee_told ev peer h body (Nobody w) = dropped_told ev e w
 
-  handed_told : (peer : ℕ) (bytes : List ℕ) (session : ℕ) (c : Carried) → IsTold (Datagram peer bytes) (handed e session c)
+  -- what is heard by an LCP end hands nothing up
+  then_told : (tunnel session : ℕ) (frame : List ℕ) (x : Side)
+      → AreQuiet 0 0 (then_heard e env tunnel session frame x).outputs (then_heard e env tunnel session frame x).moves
+  unfolding then_heard in_main after_turn gives_only
+  then_told tunnel session frame side.Sub = nothing 0 0
+  then_told tunnel session frame side.Net = nothing 0 0
+  then_told tunnel session frame side.Lcp = by (at e.tunnels tunnel)
+    where
+      by : (o : Option Tunnel) → AreQuiet 0 0 (in_main e env (Lcp session frame) tunnel o).outputs (in_main e env (Lcp session frame) tunnel o).moves
+      by None = record { no_output = refl; no_move = refl; births = omega arith; read = omega arith }
+      by (Some t) = turns_quiet e.role e.config t.letters t.calls (Lcp session frame) (turn_of t.control env) (nothing 0 0)
+
+  handed_told : (peer : ℕ) (bytes : List ℕ) (session : ℕ) (c : Carried) → IsTold (Datagram peer bytes) (handed e env session c)
   unfolding handed
-  handed_told peer bytes session (Upward tunnel of side frame) = record { same = refl; ups = omega arith; births = omega arith; reads = omega arith }
+  handed_told peer bytes session (Upward tunnel of x frame) =
+      let quiet = then_told tunnel session frame x in
+      let few = quiet.births in
+      let read = quiet.read in
+      record {
+        same = ap (λ os. Up session x frame ∷ os) (quiet.no_output ∙ sym quiet.no_move);
+        ups = rw quiet.no_output (omega arith);
+        births = quiet.births;
+        reads = omega (arith, read);
+      }
   handed_told peer bytes session (Dropped w) = dropped_told (Datagram peer bytes) e w
 
   received_told : (peer : ℕ) (bytes : List ℕ) (r : Result Header HeaderError) → IsTold (Datagram peer bytes) (receives e env peer bytes r)
@@ -149,6 +172,7 @@ module _ (e : End) (moment : ℕ) (block : List ℕ) where
   step_told (Frame bytes) = dropped_told (Frame bytes) e why.Node
   step_told (Payload s frame) = by_lac (Payload s frame) _ (call_told (Payload s frame) (at e.calls s))
   step_told (Lower s frame) = by_lns (Lower s frame) _ (call_told (Lower s frame) (at e.calls s))
+  step_told (Lcp s packet) = by_lns (Lcp s packet) _ (call_told (Lcp s packet) (at e.calls s))
   step_told (Hang s) = by_lac (Hang s) _ (call_told (Hang s) (at e.calls s))
   step_told (DropCall s) = call_told (DropCall s) (at e.calls s)
   step_told (CloseTunnel i) = main_told (CloseTunnel i) i (at e.tunnels i)

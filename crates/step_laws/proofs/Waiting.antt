@@ -24,20 +24,24 @@ use Rattle.call_fsm.specs.declared.table.CallEvent.TheVariants as call_event
 use Rattle.protocol_model.specs.declared.event.Addressee.{Addressee}
 use Rattle.protocol_model.specs.declared.event.Addressee.TheVariants.{Opens, Stops, Answers, Main, Nobody}
 use Rattle.protocol_model.specs.declared.event.Event.{Event}
-use Rattle.protocol_model.specs.declared.event.Event.TheVariants.{Datagram, Ring, Payload, Lower, Hang, OpenTunnel, DropCall, CloseTunnel, Tick, Admitted, Frame}
+use Rattle.wire_base.specs.declared.letter.Side.{Side}
+use Rattle.wire_base.specs.declared.letter.Side.TheVariants as side
+use Rattle.protocol_model.specs.declared.event.Event.TheVariants.{Datagram, Ring, Payload, Lower, Lcp, Hang, OpenTunnel, DropCall, CloseTunnel, Tick, Admitted, Frame}
 use Rattle.protocol_model.specs.declared.out.Out.{Out}
 use Rattle.protocol_model.specs.declared.out.Out.TheVariants.{Cause as Refused}
 use Rattle.protocol_model.specs.Reading.{body_of}
 use Rattle.protocol_model.specs.Calls.{call_row, is_lac, Carried, Upward, Dropped}
 use Rattle.protocol_model.specs.Turn.{Tunnel, Env, Turn, Reason, out_of_order, turn_of, with_calls, fresh, has_room, turns, tunnel_after}
-use Rattle.protocol_model.specs.End.{End, Stepped, env_of, gives_only, after_turn, after_new, in_new, has_all_tunnels, in_one_more, in_main, addressed, against_body, next_of_peer, declined, opens_or_declines, for_addressee, least_in, rings_in, rings_at, for_call, handed, hands_up, receives, only_by, step_in, plain_step}
+use Rattle.protocol_model.specs.End.{End, Stepped, env_of, gives_only, after_turn, after_new, in_new, has_all_tunnels, in_one_more, in_main, addressed, against_body, next_of_peer, declined, opens_or_declines, for_addressee, least_in, rings_in, rings_at, for_call, then_heard, handed, hands_up, receives, only_by, step_in, plain_step}
 use Rattle.step_laws.specs.Left.{CanBe, CallsAreAsked}
 use Rattle.step_laws.specs.Steps.{AreKept, StepsAreChains}
 use Rattle.step_laws.proofs.Lists.{branch}
 use Rattle.step_laws.proofs.States.{requested_state}
 use Rattle.step_laws.proofs.Sound.{role_stays, stays_sound}
 use Rattle.step_laws.proofs.Late.{holds_after, ticks_leave, roomy, ticked}
-use Rattle.step_laws.proofs.Asking.{Waits, Busy, Begins, Asked, closes_asked, shuts_by_asked, IsNew, datagram_asked, rings_asked, carries_asked, heard_new, rings_is_new, opens_new}
+use Rattle.step_laws.proofs.Asking.{Waits, Busy, Begins, Asked, closes_asked, shuts_by_asked, datagram_asked, rings_asked, carries_asked}
+use Rattle.step_laws.proofs.LcpAsked.{lcp_asked}
+use Rattle.step_laws.proofs.NewTunnels.{IsNew, heard_new, rings_is_new, opens_new}
 use Rattle.step_laws.proofs.Chosen.{least_is, least_open, least_opening}
 
 -- no call waits but where the SCCRQ isn't answered yet
@@ -133,10 +137,22 @@ module _ (e : End) (kept : AreKept e) (none : NoneWaits e) (moment : ℕ) (block
   addressee_asked peer bytes h body (Main i) = main_asked (Datagram peer bytes) i (heard peer bytes i)
   addressee_asked peer bytes h body (Nobody w) = only_asked _
 
-  handed_asked : (session : ℕ) (c : Carried) → AllAsked (handed e session c)
+  -- an LCP packet is heard in its call
+  packet : (s : ℕ) (frame : List ℕ) (i : ℕ) (t : Tunnel) → at e.tunnels i ≡ Some t
+      → Asked e.role t.calls (turns e.role e.config t.letters t.calls (Lcp s frame) (turn_of t.control env))
+  unfolding turns
+  packet s frame i t is = lcp_asked e.role t.calls (kept.tunnels i t is).calls t.letters s frame (at t.calls s) (turn_of t.control env) (begins i t is)
+
+  then_asked : (tunnel session : ℕ) (frame : List ℕ) (x : Side) → AllAsked (then_heard e env tunnel session frame x)
+  unfolding then_heard
+  then_asked tunnel session frame side.Sub = as_it_was
+  then_asked tunnel session frame side.Net = as_it_was
+  then_asked tunnel session frame side.Lcp = main_asked (Lcp session frame) tunnel (packet session frame tunnel)
+
+  handed_asked : (session : ℕ) (c : Carried) → AllAsked (handed e env session c)
   unfolding handed
   handed_asked session (Dropped w) = only_asked _
-  handed_asked session (Upward tunnel peer side frame) = as_it_was
+  handed_asked session (Upward tunnel peer x frame) = then_asked tunnel session frame x
 
   received_asked : (peer : ℕ) (bytes : List ℕ) (r : Result Header HeaderError) → AllAsked (receives e env peer bytes r)
   unfolding receives hands_up
@@ -182,6 +198,11 @@ module _ (e : End) (kept : AreKept e) (none : NoneWaits e) (moment : ℕ) (block
   lower_asked s frame None = only_asked _
   lower_asked s frame (Some p) = main_asked (Lower s frame) p.tunnel (lower s frame p.tunnel)
 
+  lcp_heard_asked : (s : ℕ) (frame : List ℕ) (o : Option CallPlace) → AllAsked (for_call e env (Lcp s frame) o)
+  unfolding for_call
+  lcp_heard_asked s frame None = only_asked _
+  lcp_heard_asked s frame (Some p) = main_asked (Lcp s frame) p.tunnel (packet s frame p.tunnel)
+
   hung : (s i : ℕ) (t : Tunnel) → at e.tunnels i ≡ Some t → Asked e.role t.calls (turn (Hang s) t)
   unfolding turns
   hung s i t is =
@@ -219,7 +240,7 @@ module _ (e : End) (kept : AreKept e) (none : NoneWaits e) (moment : ℕ) (block
   ticks_asked = ticks_leave IsAsked e kept.order moment block (λ j u is. ⊎_elim
       (λ cleared. inl cleared)
       (λ stays. inr (λ is_open s c live waits.
-      absurd (none j u is (λ opening. is_open (ap state_number stays.state ∙ opening)) s c (stays.few s c live) waits)))
+      absurd (none j u is (λ opening. is_open (ap state_number stays.state ∙ opening)) s c (stays.few s c live (rw (requested_state e.role c.state waits.row).0 refl)) waits)))
       (ticked e kept moment block j u is))
 
   by_lac : (x : Stepped) → AllAsked x → AllAsked (only_by Lac e x)
@@ -240,6 +261,7 @@ module _ (e : End) (kept : AreKept e) (none : NoneWaits e) (moment : ℕ) (block
   step_asked (Frame bytes) = only_asked _
   step_asked (Payload s frame) = by_lac _ (payload_asked s frame (at e.calls s))
   step_asked (Lower s frame) = by_lns _ (lower_asked s frame (at e.calls s))
+  step_asked (Lcp s frame) = by_lns _ (lcp_heard_asked s frame (at e.calls s))
   step_asked (Hang s) = by_lac _ (hung_asked s (at e.calls s))
   step_asked (DropCall s) = closed_asked s (at e.calls s)
   step_asked (CloseTunnel i) = main_asked (CloseTunnel i) i (shut i)

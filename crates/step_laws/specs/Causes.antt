@@ -29,6 +29,7 @@ use Rattle.l2tp_header.specs.Reading.{header_of}
 use Rattle.protocol_model.specs.End.{End, plain_step}
 use Rattle.step_laws.specs.Letters.{Among}
 use Rattle.step_laws.specs.Moves.{has_all_tunnels, has_all_calls, may_take, IsIdInUse, IsRight, LacksSecret, IsUnknown, TookTooLong, InTunnel, IsFaulty, IsFaultyInTunnel}
+use Rattle.step_laws.specs.Links.{Finishes}
 use Rattle.step_laws.specs.Steps.{AreKept}
 use Rattle.step_laws.specs.Room.{RingsOver, RingsNew}
 
@@ -97,6 +98,19 @@ pub data IsOutOfState (e : End) (ev : Event) (t : Tunnel) : Type 0 where
       → IsOutOfState e ev t
   ConnectedInVain : (speed framing s : ℕ) (sequenced : Bool) → Came e ev t s (Iccn speed framing sequenced) → IsTold e t s call_event.IccnAcc
       → IsOutOfState e ev t
+
+-- ---- LCP (RFC 1661)
+
+-- the LCP end of a live call is finished, and its table has the peer told by a CDN
+pub record IsFinishedCall (e : End) (moment : ℕ) (ev : Event) : Type 0 where
+  pub id : ℕ
+  pub tunnel : Tunnel
+  pub there : at e.tunnels id ≡ Some tunnel
+  pub session : ℕ
+  pub call : Call
+  pub live : at tunnel.calls session ≡ Some call
+  pub finishes : Finishes ev moment tunnel.control session call
+  pub row : is_told (call_row e.role call.state call_event.Close).1 ≡ true
 
 -- ---- tunnels that close
 
@@ -215,6 +229,7 @@ Stands e moment ev cause.Operator =
     ⊎ ((i : ℕ) × (t : Tunnel) × (ev ≡ CloseTunnel i) × (at e.tunnels i ≡ Some t) × IsClosedOn e t event.AdminClose)
 Stands e moment ev cause.Line = (s : ℕ) × (t : Tunnel) × (ev ≡ Hang s) × IsTold e t s call_event.LineDrop
 Stands e moment ev cause.Setup = IsLate e moment ev
+Stands e moment ev cause.Lcp = IsFinishedCall e moment ev
 Stands e moment ev cause.Avp = CameClosing e ev cause.Avp
 Stands e moment ev cause.Value =
     ((t : Tunnel) × (header : ℕ) × (f : CallFault) × CameFaulty e ev t header f × (f.cause ≡ cause.Value))

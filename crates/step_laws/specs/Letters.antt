@@ -1,13 +1,11 @@
 -- The letters that moves give, and what a step's outputs are of its moves.
 use Rattle.std.specs.Prelude.{◌≡◌, ℕ, ◌^◌, ◌<◌, ◌⊎◌, true, false, List, [], ◌∷◌, slice_get, Option, None, Some}
-use Rattle.id_table.specs.Ids.{at}
 use Rattle.l2tp_header.specs.Spelling.{control_bytes, data_bytes}
 use Rattle.wire_base.specs.declared.letter.Letter as wire
 use Rattle.control_message.specs.declared.message.Message.{Message}
 use Rattle.control_message.specs.declared.message.Message.TheVariants.{Sccrq, Sccrp, Scccn, StopCcn, Hello, Icrp, Cdn}
 use Rattle.recv_window.specs.Window.{on_wire}
 use Rattle.control_channel.specs.Numbers.{place_of}
-use Rattle.protocol_model.specs.declared.tunnel.Call.{Call}
 use Rattle.protocol_model.specs.declared.tunnel.Config.{Config}
 use Rattle.protocol_model.specs.declared.tunnel.Role.{Role}
 use Rattle.protocol_model.specs.declared.out.Out.{Out}
@@ -18,7 +16,6 @@ use Rattle.protocol_model.specs.declared.moves.FrameSent.{FrameSent}
 use Rattle.protocol_model.specs.declared.moves.Place.{Place}
 use Rattle.protocol_model.specs.declared.moves.Move.{Move}
 use Rattle.protocol_model.specs.declared.moves.Move.TheVariants as move
-use Rattle.protocol_model.specs.Calls.{is_up}
 use Rattle.protocol_model.specs.Turn.{Tunnel, opening_of, request_of, connection}
 
 -- one of them is this one
@@ -68,11 +65,10 @@ pub data Carries (t : Tunnel) (moves : List Move) (bytes : List ℕ) (o : Origin
   Nothing : (number : ℕ)
       → o ≡ origin.Control (record { tunnel = t.control.local; epoch = 0; ns = number; nr = t.control.channel.inbox.taken; empty = true })
       → bytes ≡ control_bytes t.control.remote 0 (on_wire number) (on_wire t.control.channel.inbox.taken) [] → Carries t moves bytes o
-  AFrame : (f : FrameSent) (call : Call) → Among (move.FrameSent f) moves → f.tunnel ≡ t.control.local → f.peer ≡ t.control.peer
-      → at t.calls f.session ≡ Some call → is_up call.state ≡ true → o ≡ origin.Data f.session
-      → bytes ≡ data_bytes t.control.remote call.remote None f.frame → Carries t moves bytes o
+  AFrame : (f : FrameSent) → Among (move.FrameSent f) moves → f.tunnel ≡ t.control.local → f.peer ≡ t.control.peer
+      → o ≡ origin.Data f.session → bytes ≡ data_bytes t.control.remote f.remote None f.frame → Carries t moves bytes o
 
 -- a frame that a move sends is in an output
 abbrev pub HasOutput : List Out → Move → Type 0
-HasOutput outs (move.FrameSent f) = (tunnel : ℕ) × (call : ℕ) × Among (Send f.peer (data_bytes tunnel call None f.frame) (origin.Data f.session)) outs
+HasOutput outs (move.FrameSent f) = (tunnel : ℕ) × Among (Send f.peer (data_bytes tunnel f.remote None f.frame) (origin.Data f.session)) outs
 HasOutput outs m = Unit {0}

@@ -1,5 +1,6 @@
 pub mod Callers
 pub mod Letters
+pub mod Links
 pub mod Failing
 pub mod Hides
 pub mod Moves

@@ -6,7 +6,6 @@ use Rattle.id_table.specs.Ids.{at, put, without, ids_of}
 use Rattle.id_source.specs.declared.IdError.{IdError}
 use Rattle.id_source.specs.Spaces.{draws, after_draw}
 use Rattle.l2tp_header.specs.declared.header.Header.{Header}
-use Rattle.md5.specs.Md5.{md5}
 use Rattle.l2tp_header.specs.Reading.{header_of}
 use Rattle.control_message.specs.declared.message.Message.{Message}
 use Rattle.control_message.specs.declared.message.Message.TheVariants.{Sccrq, Sccrp, Scccn, StopCcn, Hello, Ocrq, Ocrp, Occn, Icrq, Icrp, Iccn, Cdn, Wen, Sli}
@@ -27,16 +26,15 @@ use Rattle.tunnel_fsm.specs.Rows.{rows, row_of, state_number}
 use Rattle.call_fsm.specs.declared.table.CallState.TheVariants as call
 use Rattle.call_fsm.specs.declared.table.CallEvent.{CallEvent}
 use Rattle.call_fsm.specs.declared.table.CallEvent.TheVariants as call_event
+pub use Rattle.step_laws.specs.Hides.{Asks, right_answer, Responds, IsRight, LacksSecret}
 use Rattle.step_laws.specs.Hides.{HidesNumber}
 use Rattle.protocol_model.specs.declared.tunnel.Call.{Call}
 use Rattle.protocol_model.specs.declared.tunnel.CallPlace.{CallPlace}
-use Rattle.protocol_model.specs.declared.tunnel.Look.TheVariants as look
 use Rattle.protocol_model.specs.declared.tunnel.CellChange.TheVariants as cell
-use Rattle.protocol_model.specs.declared.tunnel.Config.{Config}
 use Rattle.protocol_model.specs.declared.tunnel.Control.{Control}
 use Rattle.protocol_model.specs.declared.tunnel.Role.TheVariants.{Lac, Lns}
 use Rattle.protocol_model.specs.declared.event.Event.{Event}
-use Rattle.protocol_model.specs.declared.event.Event.TheVariants.{Datagram, Ring, Payload, Lower, Hang, DropCall, CloseTunnel, Tick}
+use Rattle.protocol_model.specs.declared.event.Event.TheVariants.{Datagram, Hang, DropCall, CloseTunnel, Tick}
 use Rattle.protocol_model.specs.declared.moves.Opened.{Opened}
 use Rattle.protocol_model.specs.declared.moves.Accepted.{Accepted}
 use Rattle.protocol_model.specs.declared.moves.Connected.{Connected}
@@ -59,6 +57,7 @@ use Rattle.protocol_model.specs.declared.moves.ClosedBy.{ClosedBy}
 use Rattle.protocol_model.specs.declared.moves.Rejected.{Rejected}
 use Rattle.protocol_model.specs.declared.moves.Declined.{Declined}
 use Rattle.protocol_model.specs.declared.moves.Repeated.{Repeated}
+use Rattle.protocol_model.specs.declared.moves.Negotiated.{Negotiated}
 use Rattle.protocol_model.specs.declared.moves.FrameSent.{FrameSent}
 use Rattle.protocol_model.specs.declared.moves.FrameUp.{FrameUp}
 use Rattle.protocol_model.specs.declared.moves.Move.{Move}
@@ -66,9 +65,12 @@ use Rattle.protocol_model.specs.declared.moves.Move.TheVariants as move
 use Rattle.protocol_model.specs.declared.event.Addressee.TheVariants.{Stops, Answers}
 use Rattle.protocol_model.specs.declared.event.Addressee.TheVariants as addressee
 use Rattle.protocol_model.specs.Reading.{body_of, message_in, CallFault, call_fault_in, TunnelFault, tunnel_fault_in, at_zero}
-use Rattle.protocol_model.specs.Calls.{call_row, advanced, rung, asked_for, is_request, is_reply, is_connection, is_told, is_up, owed_by, frame_of, side_of}
-use Rattle.protocol_model.specs.Turn.{Tunnel, place, next_place, taken_place, letter_of, letter_as, counts_given, counts_taken, counts_acked, counts_sent, counts_repeated, in_state, opening_of, request_of, connection, is_clean_up, session_named, fault_error, event_by, is_closed}
+use Rattle.protocol_model.specs.Calls.{call_row, advanced, rung, asked_for, is_request, is_reply, is_connection, is_told, is_up, owed_by, side_of}
+use Rattle.protocol_model.specs.Turn.{Tunnel, place, next_place, taken_place, letter_of, letter_as, counts_given, counts_taken, counts_acked, counts_sent, counts_repeated, in_state, opening_of, request_of, connection, is_clean_up, session_named, fault_error, event_by, is_closed, with_link, link_after, is_first_open, looks_of}
 use Rattle.step_laws.specs.Failing.{HasFailed}
+pub use Rattle.step_laws.specs.Links.{HearsFrame}
+use Rattle.step_laws.specs.Links.{begun_link, Calls, Finishes, WhySent, Passes}
+use Rattle.lcp_end.specs.Laws.{after as lcp_after}
 use Rattle.protocol_model.specs.End.{End, new_place, with_look, with_looks}
 
 -- ---- what came
@@ -152,44 +154,6 @@ pub record IsFaultyInTunnel (ev : Event) (c : Control) (g : TunnelFault) : Type 
   pub some : length (body_of header bytes) ≡ 0 → ⊥
   pub tunnel : IsFor header bytes c
   pub fault : tunnel_fault_in (body_of header bytes) ≡ Some g
-
--- a frame that a peer sent
-pub record HearsFrame (ev : Event) (peer tunnel session : ℕ) (frame : List ℕ) : Type 0 where
-  pub bytes : List ℕ
-  pub is : ev ≡ Datagram peer bytes
-  pub header : Header
-  pub read : header_of bytes ≡ Ok header
-  pub data_is : header.control ≡ false
-  pub tunnel_is : header.tunnel ≡ tunnel
-  pub session_is : header.session ≡ session
-  pub frame_is : frame ≡ frame_of (body_of header bytes)
-
--- ---- secrets (RFC 2661 sections 4.4.3 and 5.1.1)
-
--- what an end asks its peer to answer: 16 bytes where it has a secret, and nothing where it has none
-abbrev pub Asks : Option (List ℕ) → Option (List ℕ) → Type 0
-Asks None challenge = challenge ≡ None
-Asks (Some secret) challenge = (bytes : List ℕ) × (challenge ≡ Some bytes) × (length bytes ≡ 16)
-
--- the right answer in a message of this type, which is 2 for an SCCRP and 3 for an SCCCN: MD5 over the type, the secret and what was asked
-abbrev pub right_answer : ℕ → List ℕ → List ℕ → List ℕ
-right_answer kind secret asked = md5 (kind ∷ secret ++ asked)
-
--- an end that has a secret answers what it was asked
-abbrev pub Responds : ℕ → Option (List ℕ) → Option (List ℕ) → Option (List ℕ) → Type 0
-Responds kind None asked response = response ≡ None
-Responds kind (Some secret) None response = response ≡ None
-Responds kind (Some secret) (Some asked) response = response ≡ Some (right_answer kind secret asked)
-
--- an end that has a secret, and asked, wants the right answer
-abbrev pub IsRight : ℕ → Option (List ℕ) → Option (List ℕ) → Option (List ℕ) → Type 0
-IsRight kind None asked given = Unit {0}
-IsRight kind (Some secret) None given = Unit {0}
-IsRight kind (Some secret) (Some asked) given = given ≡ Some (right_answer kind secret asked)
-
--- one that has none can't answer
-abbrev pub LacksSecret : Option (List ℕ) → Option (List ℕ) → Type 0
-LacksSecret secret asked = (is_some asked ≡ true) × (secret ≡ None)
 
 -- ---- how much there may be
 
@@ -415,10 +379,12 @@ pub record ComesUpSecond (e : End) (moment : ℕ) (ev : Event) (m : SecondUp) (x
   pub hears : HearsNext ev tunnel.control m.session (Iccn speed framing sequenced)
   pub row : is_up (call_row e.role call.state call_event.IccnAcc).0 ≡ true
   pub taken : m.taken ≡ taken_place tunnel.control
+  -- its LCP end asks for some magic number
+  pub magic : ℕ
   pub after : x ≡ record (with_tunnel e m.tunnel (record tunnel {
     control = counts_taken tunnel.control;
-    calls = put tunnel.calls m.session (advanced e.role call_event.IccnAcc moment call);
-  })) { calls = with_look (cell.Establish m.session) (with_look (cell.Bind m.session m.tunnel tunnel.control.peer) e.calls) }
+    calls = put tunnel.calls m.session (with_link (begun_link magic) (advanced e.role call_event.IccnAcc moment call));
+  })) { calls = with_look (cell.Bind m.session m.tunnel tunnel.control.peer) e.calls }
 
 -- the call isn't there any more, and its look is dead
 abbrev pub without_call : End → ℕ → Tunnel → ℕ → End
@@ -452,6 +418,8 @@ pub data WhyEnds (e : End) (t : Tunnel) (ev : Event) (moment session : ℕ) (c :
       → WhyEnds e t ev moment session c on result error
   IsConnected : (speed framing : ℕ) (sequenced : Bool) → InTunnel ev t.control session (Iccn speed framing sequenced)
       → on ≡ call_event.IccnAcc → result ≡ 2 → error ≡ Some 5 → WhyEnds e t ev moment session c on result error
+  -- its LCP end is finished
+  IsFinished : Finishes ev moment t.control session c → on ≡ call_event.Close → result ≡ 3 → error ≡ None → WhyEnds e t ev moment session c on result error
   -- a message about it has a fault
   HasFault : (header : ℕ) (f : CallFault) → IsFaulty ev t.control header f → on ≡ fault_event f.kind → result ≡ 2 → error ≡ Some (fault_error f.cause)
       → WhyEnds e t ev moment session c on result error
@@ -742,24 +710,37 @@ pub record IsQuiet (e : End) (i : ℕ) (x : End) : Type 0 where
   pub there : at e.tunnels i ≡ Some tunnel
   pub after : x ≡ e
 
--- a frame that the event gives goes to the tunnel's peer
-pub record SendsFrame (e : End) (ev : Event) (m : FrameSent) (x : End) : Type 0 where
+-- the LCP end of a call makes a step that doesn't finish it; where it was open for the first time in the call, all frames pass
+pub record Negotiates (e : End) (moment : ℕ) (ev : Event) (m : Negotiated) (x : End) : Type 0 where
+  pub tunnel : Tunnel
+  pub there : at e.tunnels m.tunnel ≡ Some tunnel
+  pub call : Call
+  pub live : at tunnel.calls m.session ≡ Some call
+  pub up : is_up call.state ≡ true
+  pub calls : Calls ev moment tunnel.control m.session call
+  pub after : x ≡ record (with_tunnel e m.tunnel (record tunnel {
+    calls = put tunnel.calls m.session (with_link (link_after calls.link (lcp_after calls.by calls.link.lcp)) call);
+  })) { calls = with_looks (looks_of (is_first_open calls.link (lcp_after calls.by calls.link.lcp).out) m.session) e.calls }
+
+-- a frame goes to the tunnel's peer
+pub record SendsFrame (e : End) (moment : ℕ) (ev : Event) (m : FrameSent) (x : End) : Type 0 where
   pub tunnel : Tunnel
   pub there : at e.tunnels m.tunnel ≡ Some tunnel
   pub peer : m.peer ≡ tunnel.control.peer
   pub call : Call
   pub calls : at tunnel.calls m.session ≡ Some call
   pub up : is_up call.state ≡ true
-  pub given : (ev ≡ Payload m.session m.frame) ⊎ (ev ≡ Lower m.session m.frame)
+  pub remote : m.remote ≡ call.remote
+  pub given : WhySent ev moment tunnel.control m.session call m.frame
   pub after : x ≡ e
 
--- a frame that the call's peer sent in the call's tunnel is handed up, where the call is seen as established
+-- a frame that the call's peer sent in the call's tunnel is handed up, where what is seen of the call lets it pass
 pub record HandsUp (e : End) (ev : Event) (m : FrameUp) (x : End) : Type 0 where
   pub hears : HearsFrame ev m.peer m.tunnel m.session m.frame
   pub place : CallPlace
   pub there : at e.calls m.session ≡ Some place
-  pub seen : place.look ≡ look.Established m.tunnel m.peer
-  pub side : m.side ≡ side_of e.role
+  pub seen : Passes e.role place.look m.tunnel m.peer m.frame
+  pub side : m.side ≡ side_of e.role m.frame
   pub after : x ≡ e
 
 -- ---- a move at a moment, and a chain of moves
@@ -789,7 +770,8 @@ Does e moment ev (move.NrRead m) x = Reads e moment ev m x
 Does e moment ev (move.LetGo m) x = LetsGo e moment m x
 Does e moment ev (move.Repeated m) x = Repeats e moment m x
 Does e moment ev (move.Quiet i) x = IsQuiet e i x
-Does e moment ev (move.FrameSent m) x = SendsFrame e ev m x
+Does e moment ev (move.Negotiated m) x = Negotiates e moment ev m x
+Does e moment ev (move.FrameSent m) x = SendsFrame e moment ev m x
 Does e moment ev (move.FrameUp m) x = HandsUp e ev m x
 
 abbrev pub Chain : ℕ → Event → End → List Move → End → Type 0

@@ -3,7 +3,7 @@
 ghost use Rattle.std.specs.Prelude.{◌≡◌, OnOk, IsTrue};
 ghost use Rattle.std.specs.Option.{option_copied};
 ghost use Rattle.protocol_model.specs.Calls.{is_connection, is_up};
-ghost use Rattle.protocol_model.specs.Turn.{has_room, first_up, first_up_by, second_up, second_up_by, is_clean_up, end_heard, end_heard_by, carried, carries};
+ghost use Rattle.protocol_model.specs.Turn.{has_room, first_up, first_up_by, second_up_by, is_clean_up, end_heard, end_heard_by, is_passing, carried, carries};
 
 use crate::turn::{Turn, advanced, call_row};
 use call_fsm::{CallAction, CallEvent, CallState};
@@ -11,7 +11,7 @@ use control_message::Message;
 use l2tp_header::write_data;
 use message_reading::out_of_state;
 use protocol_model::{
-    Call, CellChange, EndHeard, FirstUp, FrameSent, Move, Origin, Out, Role, SecondUp,
+    Call, CellChange, EndHeard, FirstUp, FrameSent, Link, Move, Origin, Out, Role,
 };
 use wire_base::{Bytes, NoMemory, Why};
 
@@ -32,10 +32,20 @@ pub(crate) fn is_clean_up(action: CallAction) -> bool
     matches!(action, CallAction::CleanUp)
 }
 
-fn is_up(state: CallState) -> bool
+pub(crate) fn is_up(state: CallState) -> bool
     ensures { result ≡ is_up state }
 {
     matches!(state, CallState::Established)
+}
+
+/// Whether frames of the network pass in a call that is established: at a LAC all of them, at an LNS once LCP was open.
+fn is_passing(link: &Option<Link>) -> bool
+    ensures { result ≡ is_passing link.now }
+{
+    match link {
+        None => true,
+        Some(link) => link.network,
+    }
 }
 
 impl Turn {
@@ -107,37 +117,6 @@ impl Turn {
         self.first_up(role, session, remote, call)
     }
 
-    /// The call is connected. As long as no LCP end opens its network, it is known to the peer and established at once.
-    #[tactic(auto, unfolding(protocol_model::specs::Turn::second_up))]
-    fn second_up(&mut self, role: Role, session: u16, call: &Call) -> Result<(), NoMemory>
-        ensures { OnOk result (self.new ≡ second_up role session call.now self.old) }
-    {
-        let taken = self.taken_place();
-        let tunnel = self.control.local;
-        let peer = self.control.peer;
-        let up = advanced(
-            self.alloc,
-            role,
-            CallEvent::IccnAcc,
-            self.moment,
-            call,
-            call.remote,
-        )?;
-        self.take();
-        self.change(session, up)?;
-        self.did(Move::SecondUp(SecondUp {
-            tunnel,
-            session,
-            taken,
-        }))?;
-        self.look(CellChange::Bind {
-            session,
-            tunnel,
-            peer,
-        })?;
-        self.look(CellChange::Establish { session })
-    }
-
     /// Takes the connection of a call.
     #[tactic(auto, unfolding(protocol_model::specs::Turn::second_up_by))]
     pub(crate) fn take_connection(
@@ -156,7 +135,7 @@ impl Turn {
         if !is_up(next) {
             return self.answer(&out_of_state(), u32::from(session), call, action);
         }
-        self.second_up(role, session, call)
+        self.link_up(role, session, call)
     }
 
     /// The call ends by the peer's CDN.
@@ -198,7 +177,12 @@ impl Turn {
 
     /// Sends a frame of a call to the tunnel's peer.
     #[tactic(auto, unfolding(protocol_model::specs::Turn::carried))]
-    fn send_frame(&mut self, session: u16, frame: &[u8], call: &Call) -> Result<(), NoMemory>
+    pub(crate) fn send_frame(
+        &mut self,
+        session: u16,
+        frame: &[u8],
+        call: &Call,
+    ) -> Result<(), NoMemory>
         ensures { OnOk result (self.new ≡ carried session frame.now call.now self.old) }
     {
         let peer = self.control.peer;
@@ -208,6 +192,7 @@ impl Turn {
             tunnel: self.control.local,
             peer,
             session,
+            remote: call.remote,
             frame: Bytes::from_slice(self.alloc, frame)?,
         }))?;
         self.output(Out::Send {
@@ -230,7 +215,7 @@ impl Turn {
         let Some(call) = call else {
             return self.drop_with(Why::Call);
         };
-        if !is_up(call.state) {
+        if !is_up(call.state) || !is_passing(&call.link) {
             return self.drop_with(Why::Closed);
         }
         if frame.len() < SHORTEST_FRAME {

@@ -20,7 +20,7 @@ use wire_base::{Cause, NoMemory, Why};
 const LOST_CARRIER: u16 = 1;
 
 /// The result code of a CDN for a call that is disconnected for administrative reasons.
-const ADMINISTRATIVE: u16 = 3;
+pub(crate) const ADMINISTRATIVE: u16 = 3;
 
 impl Turn {
     /// A call ends of which the peer knows nothing.

@@ -412,6 +412,10 @@ impl Turn {
             Event::Payload { session, frame } | Event::Lower { session, frame } => {
                 self.carry(*session, frame.as_slice(), calls.get(u32::from(*session)))
             }
+            Event::Lcp { session, packet } => {
+                let call = calls.get(u32::from(*session));
+                self.hear_lcp(role, letters, *session, packet.as_slice(), call)
+            }
             Event::Hang { session } => self.hang(role, letters, calls, *session),
             Event::OpenTunnel => {
                 self.open(role, config)?;

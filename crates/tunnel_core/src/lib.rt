@@ -10,6 +10,7 @@ mod closing;
 mod env;
 mod faulty;
 mod hearing;
+mod links;
 mod openings;
 mod planning;
 mod refusing;

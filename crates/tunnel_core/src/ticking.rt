@@ -111,7 +111,7 @@ impl Turn {
         Ok(())
     }
 
-    /// A call ends where it took too long to be set up.
+    /// A call ends where it took too long to be set up; the LCP end of another has its timer.
     #[tactic(auto, unfolding(protocol_model::specs::Turn::limits_at))]
     fn limit_at(
         &mut self,
@@ -129,14 +129,14 @@ impl Turn {
             return Ok(());
         };
         if !is_set_up(call.state) || !is_over(PATIENCE, self.moment, call.since) {
-            return Ok(());
+            return self.tick_link(role, letters, session, call);
         }
         let (_, action) = call_row(role, call.state, CallEvent::Close);
         self.end_by(Cause::Setup, TOO_LONG, None, session, call, action)?;
         self.settle(false, letters)
     }
 
-    /// Each of these calls ends where it took too long to be set up.
+    /// Each of these calls ends where it took too long to be set up; in the others time passes for their LCP ends.
     #[tactic(auto, unfolding(protocol_model::specs::Turn::limits_all))]
     fn limit_all(
         &mut self,

@@ -215,6 +215,7 @@ pub(crate) fn advanced(
         since: moment,
         subscriber: call.subscriber,
         steps,
+        link: call.link,
     })
 }
 
@@ -228,6 +229,7 @@ fn idle_call(alloc: Global, subscriber: [u8; 6]) -> Call
         since: 0,
         subscriber,
         steps: CallSteps::new(alloc),
+        link: None,
     }
 }
 

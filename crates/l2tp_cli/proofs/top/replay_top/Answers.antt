@@ -22,6 +22,23 @@ returns-clause-frames g c = λ text lines h.
       carried = c.sent_frames_are_packets.ensures.packets lines fits;
     }
 
+pub returns-clause-headline : goal.returns-clause-headline
+returns-clause-headline g c = λ text lines within h.
+    let is = c.lines_are_a_schedule.ensures text lines h in
+    let few = few_lines text lines within is in
+    record {
+      frames = record {
+        told = c.reports_tell_the_past.ensures lines is.fits;
+        sent = c.frames_were_sent.ensures lines is.fits;
+        given = c.sent_frames_are_packets.ensures.given lines is.fits;
+        carried = c.sent_frames_are_packets.ensures.packets lines is.fits;
+      };
+      births = record { of_lacs = c.births_are_apart.ensures lines is.fits few; of_lnss = c.births_are_taken_once.ensures lines is.fits few };
+      sessions = c.ends_that_agree_hold_the_same.ensures lines is.fits few;
+      answers = c.requests_are_answered_in_runs.ensures lines is.fits few;
+      causes = c.reports_tell_true_causes.ensures lines is.fits few;
+    }
+
 pub returns-clause-births_of_lines : goal.returns-clause-births_of_lines
 returns-clause-births_of_lines g c = λ lines fits few. record {
   of_lacs = c.births_are_apart.ensures lines fits few;

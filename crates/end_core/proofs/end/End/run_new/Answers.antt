@@ -32,11 +32,12 @@ returns-clause-given c =
     let local = c.local-local.result in
     let moment : c.args.moment ≡ start.moment = sym (ap (λ (x : Env). x.moment) c.env-env.ensures) in
     let idle = c.idle-core.ensures ∙ ap (λ m. record { control = fresh c.args.peer m; letters = []; calls = [] }) moment in
-    let empty : (start.outputs ≡ []) × (start.changes ≡ []) × (start.moves ≡ []) = (ap (λ (x : Env). x.outputs) c.env-env.ensures, ap (λ (x : Env). x.changes) c.env-env.ensures, ap (λ (x : Env). x.moves) c.env-env.ensures) in
+    let empty : start.changes ≡ [] = ap (λ (x : Env). x.changes) c.env-env.ensures in
+    let begun : (start.outputs ≡ []) × (start.moves ≡ []) = (ap (λ (x : Env). x.outputs) c.env-env.ensures, ap (λ (x : Env). x.moves) c.env-env.ensures) in
     let roomy = ap (λ (xs : List (ℕ × Core)). tunnels_after (tunnels_of xs) c.from-2.result c.in_ok-planned.planned.cleared (made_of c.in_ok-planned.planned (tunnel_of c.plan_step.new.core))) c.make_room.ensures.entries in
     let tunnels = c.make_new.ensures ∙ roomy ∙ ap (λ (t : Tunnel). tunnels_after v.tunnels c.from-2.result c.in_ok-planned.planned.cleared (made_of c.in_ok-planned.planned t)) c.in_ok-planned.ensures.same ∙ ap (λ k. tunnels_after v.tunnels k c.in_ok-planned.planned.cleared (made_of c.in_ok-planned.planned (tunnel_of core))) c.from-2.ensures in
     let places : c.change_looks.new.places.entries ≡ with_looks c.env.inside.changes (placed c.in_ok-planned.planned.control.local c.in_ok-planned.planned.added c.self.inside.calls.entries) = c.change_looks.ensures ∙ rw (c.as_slice.ensures, c.place_all.ensures, c.added.ensures, c.local-local.ensures, c.in_ok-planned.ensures.places) refl in
     let s : Stepped = record { end = view_of (record { alloc = c.self.inside.alloc; role = c.self.inside.role; config = c.self.inside.config; tunnel_ids = c.env.inside.tunnels; session_ids = c.env.inside.sessions; recovery_ids = c.self.inside.recovery_ids; tunnels = c.make_new.new.self; calls = c.change_looks.new.places }); outputs = c.env.inside.outputs; moves = c.env.inside.moves } in
-    let one : in_new v start c.args.event.now c.args.peer ≡ s = new_is v start empty c.args.event.now local (tunnel_of core) c.in_ok-planned.planned (env_view_of c.env.inside) s _ refl c.in_ok-planned.ensures.planned (c.env.view_is ∙ c.in_ok-planned.ensures.given) (record { end = rw (tunnels, places) refl; outputs = refl; moves = refl }) c.args.peer idle (sym c.local-local.ensures) c.if-local-eq0.false in
+    let one : in_new v start c.args.event.now c.args.peer ≡ s = new_is v start empty c.args.event.now local (tunnel_of core) c.in_ok-planned.planned (env_view_of c.env.inside) s _ refl c.in_ok-planned.ensures.planned (c.env.view_is ∙ c.in_ok-planned.ensures.given) (record { end = rw (tunnels, places) refl; outputs = refl; moves = refl }) begun c.args.peer idle (sym c.local-local.ensures) c.if-local-eq0.false in
     let two = subst (λ (x : Env). in_new v x c.args.event.now c.args.peer ≡ s) c.env-env.ensures one in
     subst (λ (x : End). in_new x (env_of c.args.self.now c.args.moment c.args.block) c.args.event.now c.args.peer ≡ s) c.self.view_is two

@@ -3,25 +3,28 @@ use Rattle.std.specs.Prelude.{IsSome}
 use Rattle.id_table.specs.Ids.{at}
 use Rattle.protocol_model.specs.Turn.{Env}
 use Rattle.protocol_model.specs.End.{End, Stepped, env_of, in_main, with_looks, placed}
+use Rattle.end_core.specs.Gives.{behind_given}
 use Rattle.end_core.specs.contracts.end.End.{the_view as view_of}
 use Rattle.tunnel_core.specs.contracts.env.Env.{the_view as env_view_of}
 use Rattle.tunnel_table.specs.Plans.{IsGiven}
 use Rattle.end_core.proofs.Plans.{tunnel_some}
-use Rattle.end_core.proofs.Steps.{main_made}
-use Rattle.end_core.proofs.end.End.run_main.Goals as goal
+use Rattle.end_core.proofs.Steps.{main_made, behind_env, same_behind}
+use Rattle.end_core.proofs.end.End.run_behind.Goals as goal
 
 pub returns-clause-given : goal.returns-clause-given
 returns-clause-given c =
     let v = view_of c.self.inside in
-    let start = c.env-env.result in
+    let start = c.env_behind-env.result in
     let p = c.in_ok-planned.planned in
     let o = at v.tunnels c.args.id in
-    let empty : (start.outputs ≡ []) × (start.changes ≡ []) × (start.moves ≡ []) = (ap (λ (x : Env). x.outputs) c.env-env.ensures, ap (λ (x : Env). x.changes) c.env-env.ensures, ap (λ (x : Env). x.moves) c.env-env.ensures) in
+    let empty : start.changes ≡ [] = ap (λ (x : Env). x.changes) c.env_behind-env.ensures in
     let some : IsSome o = tunnel_some c.self.inside.tunnels.entries c.args.id (sym c.contains.ensures ∙ c.if-not-contains.false) in
     let given = subst (λ (x : Env). IsGiven v.role v.config c.args.event.now start o x) (sym c.env.view_is) c.in_ok-planned.ensures.given in
     let places : c.change_looks.new.places.entries ≡ with_looks c.env.inside.changes (placed p.control.local p.added c.self.inside.calls.entries) = c.change_looks.ensures ∙ rw (c.as_slice.ensures, c.place_all.ensures, c.added-2.ensures, c.local.ensures, c.make_places.ensures.same) refl in
     let s : Stepped = record { end = view_of (record { alloc = c.self.inside.alloc; role = c.self.inside.role; config = c.self.inside.config; tunnel_ids = c.env.inside.tunnels; session_ids = c.env.inside.sessions; recovery_ids = c.self.inside.recovery_ids; tunnels = c.make.new.self; calls = c.change_looks.new.places }); outputs = c.env.inside.outputs; moves = c.env.inside.moves } in
-    let one : in_main v start c.args.event.now c.args.id (at v.tunnels c.args.id) ≡ s =
+    let one : behind_env start (in_main v start c.args.event.now c.args.id (at v.tunnels c.args.id)) ≡ s =
     main_made v start empty c.args.event.now c.args.id o p (env_view_of c.env.inside) s refl some c.in_ok-planned.ensures.planned given (rw (c.make.ensures.made, places, c.in_ok-planned.ensures.same) refl) refl refl in
-    let two = subst (λ (x : Env). in_main v x c.args.event.now c.args.id (at v.tunnels c.args.id) ≡ s) c.env-env.ensures one in
-    subst (λ (x : End). in_main x (env_of c.args.self.now c.args.moment c.args.block) c.args.event.now c.args.id (at x.tunnels c.args.id) ≡ s) c.self.view_is two
+    let two = subst (λ (x : Env). behind_env x (in_main v x c.args.event.now c.args.id (at v.tunnels c.args.id)) ≡ s) c.env_behind-env.ensures one in
+    let three : behind_given c.args.first (in_main v (env_of c.args.self.now c.args.moment c.args.block) c.args.event.now c.args.id o) ≡ s =
+    sym (same_behind v (env_of c.args.self.now c.args.moment c.args.block) c.args.first c.args.event.now c.args.id o) ∙ two in
+    subst (λ (x : End). behind_given c.args.first (in_main x (env_of c.args.self.now c.args.moment c.args.block) c.args.event.now c.args.id (at x.tunnels c.args.id)) ≡ s) c.self.view_is three

@@ -1,0 +1,73 @@
+-- A tunnel, what a step works in, and a tunnel in a step.
+use Rattle.std.specs.Prelude.{ℕ, List, [], Bool, false, Option}
+use Rattle.id_source.specs.Spaces.{Space}
+use Rattle.wire_base.specs.declared.letter.Letter.{Letter}
+use Rattle.protocol_model.specs.declared.tunnel.Call.{Call}
+use Rattle.protocol_model.specs.declared.tunnel.CellChange.{CellChange}
+use Rattle.protocol_model.specs.declared.tunnel.Control.{Control}
+use Rattle.protocol_model.specs.declared.out.Out.{Out}
+use Rattle.protocol_model.specs.declared.moves.Move.{Move}
+
+pub record Tunnel : Type 0 where
+  pub control : Control
+  -- the letters that it gave to its channel, from the first that isn't acknowledged on
+  pub letters : List Letter
+  -- its calls, by session id
+  pub calls : List (ℕ × Call)
+
+-- what a step works in
+pub record Env : Type 0 where
+  -- the moment of the step, in milliseconds, and its 16 random bytes
+  pub moment : ℕ
+  pub block : List ℕ
+  -- where tunnel ids, session ids and the numbers of recoveries are drawn from
+  pub tunnels : Space
+  pub sessions : Space
+  pub recoveries : Space
+  -- what is to be committed before any output is given
+  pub contents : List (List ℕ)
+  pub outputs : List Out
+  -- what changes in the looks
+  pub changes : List CellChange
+  pub moves : List Move
+
+-- a tunnel in a step, with what the step gave so far
+pub record Turn : Type 0 where
+  -- the moment of the step, in milliseconds, and its 16 random bytes
+  pub moment : ℕ
+  pub block : List ℕ
+  pub control : Control
+  -- the letters that the step gave to the channel, in order
+  pub given : List Letter
+  -- how many of the tunnel's letters the step's Nr acknowledged
+  pub acked : ℕ
+  -- whether the step took a letter of the peer, and whether it removed the tunnel
+  pub took : Bool
+  pub cleared : Bool
+  -- the calls that the step made, changed or ended, with their sessions, in order; one that it ended isn't there any more
+  pub changed : List (ℕ × Option Call)
+  -- the sessions of the calls that it made
+  pub added : List ℕ
+  pub tunnels : Space
+  pub sessions : Space
+  pub outputs : List Out
+  pub changes : List CellChange
+  pub moves : List Move
+
+abbrev pub turn_of : Control → Env → Turn
+turn_of c e = record {
+  moment = e.moment;
+  block = e.block;
+  control = c;
+  given = [];
+  acked = 0;
+  took = false;
+  cleared = false;
+  changed = [];
+  added = [];
+  tunnels = e.tunnels;
+  sessions = e.sessions;
+  outputs = [];
+  changes = [];
+  moves = [];
+}

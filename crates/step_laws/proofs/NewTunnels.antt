@@ -1,0 +1,143 @@
+-- A tunnel that is new has no calls, or its SCCRQ isn't answered yet.
+use Rattle.std.proofs.Common.{◌≡◌, ◌⊎◌, inl, inr, ⊎_elim, ℕ, ◌<◌, Bool, true, false, List, [], ◌∷◌, ◌++◌, length, refl, sym, ap, ◌∙◌, subst, Option, Some, None, Result, Ok, Err, arith}
+use Rattle.std.proofs.lemmas.Bool.{eqb-true, eqb-false, true≢false, ltb-false}
+use Rattle.std.proofs.lemmas.Option.{none-some}
+use Rattle.std.specs.Prelude.{◌==◌, nat_lt, unwrap_or}
+use Rattle.id_table.specs.Ids.{at, put, without, ids_of, at-none}
+use Rattle.id_table.specs.Order.{Ascends, found_put, found_without, same_or_not}
+use Rattle.id_source.specs.Spaces.{draws}
+use Rattle.id_source.specs.declared.IdError.{IdError}
+use Rattle.wire_base.specs.declared.why.Why.{Why}
+use Rattle.wire_base.specs.declared.why.Why.TheVariants as why
+use Rattle.wire_base.specs.declared.cause.Cause.{Cause as CauseOf}
+use Rattle.wire_base.specs.declared.cause.Cause.TheVariants as cause
+use Rattle.wire_base.specs.declared.letter.Letter.{Letter}
+use Rattle.l2tp_header.specs.declared.header.Header.{Header}
+use Rattle.l2tp_header.specs.declared.header.HeaderError.{HeaderError}
+use Rattle.control_message.specs.declared.message.Message.{Message}
+use Rattle.control_message.specs.declared.message.Message.TheVariants.{Sccrq, Sccrp, Scccn, StopCcn, Hello, Ocrq, Ocrp, Occn, Icrq, Icrp, Iccn, Cdn, Wen, Sli}
+use Rattle.control_message.specs.declared.kind.Kind.{Kind}
+use Rattle.control_message.specs.declared.kind.Kind.TheVariants as kind
+use Rattle.recv_window.specs.declared.Class.{Class}
+use Rattle.recv_window.specs.declared.Class.TheVariants.{Next, Duplicate, Ahead}
+use Rattle.control_channel.specs.Numbers.{class_told}
+use Rattle.tunnel_fsm.specs.declared.table.TunnelState.{TunnelState}
+use Rattle.tunnel_fsm.specs.declared.table.TunnelState.TheVariants as state
+use Rattle.tunnel_fsm.specs.declared.table.TunnelAction.{TunnelAction}
+use Rattle.tunnel_fsm.specs.declared.table.TunnelAction.TheVariants as action
+use Rattle.tunnel_fsm.specs.declared.table.TunnelEvent.{TunnelEvent}
+use Rattle.tunnel_fsm.specs.declared.table.TunnelEvent.TheVariants as event
+use Rattle.tunnel_fsm.specs.Rows.{rows, row_of, state_number}
+use Rattle.call_fsm.specs.declared.table.CallAction.{CallAction}
+use Rattle.call_fsm.specs.declared.table.CallAction.TheVariants as call_action
+use Rattle.call_fsm.specs.declared.table.CallEvent.{CallEvent}
+use Rattle.call_fsm.specs.declared.table.CallEvent.TheVariants as call_event
+use Rattle.call_fsm.specs.declared.table.CallState.{CallState}
+use Rattle.call_fsm.specs.declared.table.CallState.TheVariants as call
+use Rattle.protocol_model.specs.declared.tunnel.Call.{Call}
+use Rattle.protocol_model.specs.declared.tunnel.Config.{Config}
+use Rattle.protocol_model.specs.declared.tunnel.Role.{Role}
+use Rattle.protocol_model.specs.declared.tunnel.Role.TheVariants.{Lac, Lns}
+use Rattle.protocol_model.specs.declared.out.Out.TheVariants.{Cause}
+use Rattle.protocol_model.specs.Reading.{header_why, body_of, message_in, CallFault, call_fault_in, TunnelFault, tunnel_fault_in}
+use Rattle.protocol_model.specs.Calls.{call_row, advanced, rung, asked_for, is_request, is_connection, is_up, are_too_many}
+use Rattle.protocol_model.specs.Turn.{rejects, rejected, connected_reason, connected_event, Turn, with_output, with_move, with_change, with_call, with_new, with_local, with_calls, opened, opens_by, opens, accepted, accepts_by, accepts, rings_new, first_said, drops, gives, gives_as, has_room, settles, takes_one, reads_nr, requested, requests, requests_at, requests_all, adds, rings_over, rings_by, rings_within, rings, may_take, Reason, reason, out_of_state, refused, refuses, of_no_call, end_silent, end_told, ends_by, closes, answers_by, granted, asked_by, fault_reason, faulty_at, faulty, in_faulty_call, ends_all, is_closed, event_by, opening_reason, out_of_order, counts_taken, shut, shuts, closed_told, closes_tunnel, closed_by, shuts_by, connected, connects, confirms, takes_plain, ignores, takes_by, takes, replied, replies, first_up, first_up_by, second_up, second_up_by, ends_call, is_clean_up, end_heard, end_heard_by, session_named, ends_named, about_call, in_call, hears, hears_faulty, hears_said, hears_next, hears_letter, is_duplicate, in_tunnel, hears_control, carried, carries, hears_datagram, is_short, is_long}
+use Rattle.step_laws.specs.Letters.{Among}
+use Rattle.step_laws.proofs.Lists.{branch, found_among, with_calls-more}
+use Rattle.step_laws.proofs.States.{requested_state, connected_state, up_state}
+use Rattle.step_laws.proofs.Keeping.{settled_keeps, more_full}
+use Rattle.step_laws.proofs.Shutting.{all_ended_is, none_left}
+use Rattle.step_laws.proofs.Asking.{Idle}
+
+abbrev pub IsNew : Turn → Type 0
+IsNew r = (state_number r.control.state ≡ 1) ⊎ (r.changed ≡ [])
+
+new_settled : (letters : List Letter) (t : Turn) → IsNew t → IsNew (settles false letters t)
+new_settled letters t h =
+    let g = settled_keeps false letters t in
+    ⊎_elim (λ opening. inl (ap state_number g.5 ∙ opening)) (λ none. inr (g.0 ∙ none)) h
+
+drops_new : (w : Why) (t : Turn) → t.changed ≡ [] → IsNew (drops w t)
+unfolding drops with_output
+drops_new w t none = inr none
+
+caused_new : (c : CauseOf) (t : Turn) → t.changed ≡ [] → IsNew (with_output (Cause c) t)
+unfolding with_output
+caused_new c t none = inr none
+
+opened_new : (role : Role) (c : Config) (local : ℕ) (t : Turn) → t.changed ≡ [] → IsNew (opened role c local t)
+unfolding opened gives with_move with_local
+opened_new role c local t none = inr none
+
+pub opens_new : (role : Role) (c : Config) (letters : List Letter) (t : Turn) → t.changed ≡ [] → IsNew (settles false letters (opens role c t))
+unfolding opens opens_by
+opens_new role c letters t none = new_settled letters (opens role c t) (by (draws t.tunnels))
+  where
+    by : (x : Result ℕ IdError) → IsNew (opens_by role c x t)
+    by (Err x) = caused_new cause.Ids t none
+    by (Ok local) = branch IsNew (has_room t.control) _ _ (λ may. opened_new role c local t none) (λ full. caused_new cause.Queue t none)
+
+accepted_new : (role : Role) (c : Config) (asked : Option (List ℕ)) (remote window local : ℕ) (t : Turn) → t.changed ≡ []
+    → IsNew (accepted role c asked remote window local t)
+unfolding accepted gives with_move takes_one with_local
+accepted_new role c asked remote window local t none = inr none
+
+accepts_new : (role : Role) (c : Config) (asked : Option (List ℕ)) (remote window : ℕ) (t : Turn) → t.changed ≡ []
+    → IsNew (accepts role c asked remote window t)
+unfolding accepts accepts_by
+accepts_new role c asked remote window t none = by (draws t.tunnels)
+  where
+    by : (x : Result ℕ IdError) → IsNew (accepts_by role c asked remote window x t)
+    by (Err x) = drops_new why.Tunnel t none
+    by (Ok local) =
+        branch IsNew (has_room t.control) _ _ (λ may. accepted_new role c asked remote window local t none) (λ full. drops_new why.Queue t none)
+
+first_said_new : (role : Role) (c : Config) (r : Result Message Why) (t : Turn) → t.changed ≡ [] → IsNew (first_said role c r t)
+unfolding first_said
+first_said_new role c (Ok (Sccrq o)) t none = accepts_new role c o.challenge o.tunnel o.window t none
+first_said_new role c (Ok (Sccrp o)) t none = drops_new why.Tunnel t none
+first_said_new role c (Ok (Scccn response)) t none = drops_new why.Tunnel t none
+first_said_new role c (Ok Hello) t none = drops_new why.Tunnel t none
+first_said_new role c (Ok (Cdn remote code error)) t none = drops_new why.Tunnel t none
+first_said_new role c (Ok (Icrq remote serial calling)) t none = drops_new why.Tunnel t none
+first_said_new role c (Ok (Icrp remote)) t none = drops_new why.Tunnel t none
+first_said_new role c (Ok (Iccn speed framing sequenced)) t none = drops_new why.Tunnel t none
+first_said_new role c (Ok (StopCcn tunnel code error)) t none = drops_new why.Tunnel t none
+first_said_new role c (Ok (Ocrq remote)) t none = drops_new why.Tunnel t none
+first_said_new role c (Ok Ocrp) t none = drops_new why.Tunnel t none
+first_said_new role c (Ok Occn) t none = drops_new why.Tunnel t none
+first_said_new role c (Ok Wen) t none = drops_new why.Tunnel t none
+first_said_new role c (Ok Sli) t none = drops_new why.Tunnel t none
+first_said_new role c (Err w) t none = drops_new why.Tunnel t none
+
+pub heard_new : (role : Role) (c : Config) (bytes : List ℕ) (r : Result Header HeaderError) (t : Turn) → Idle t → t.changed ≡ []
+    → IsNew (hears_datagram role c [] [] bytes r t)
+unfolding hears_datagram hears_control
+heard_new role c bytes (Err x) t idle none = drops_new (header_why x) t none
+heard_new role c bytes (Ok k) t idle none =
+    branch IsNew k.control _ _
+    (λ control. branch IsNew (state_number t.control.state == 0) _ _
+    (λ is. let u = first_said role c (message_in (body_of k bytes)) t in new_settled [] u (first_said_new role c (message_in (body_of k bytes)) t none))
+    (λ busy. absurd (eqb-false (state_number t.control.state) 0 busy idle)))
+    (λ data_is. drops_new why.Session t none)
+
+rung_new : (role : Role) (c : Config) (who : List ℕ) (s local : ℕ) (t : Turn) → t.control.state ≡ state.Idle → IsNew (adds role who s (opened role c local t))
+unfolding adds opened gives with_move with_local with_new
+rung_new role c who s local t idle = inl (rw idle refl)
+
+rings_new_new : (role : Role) (c : Config) (who : List ℕ) (x y : Result ℕ IdError) (t : Turn) → t.control.state ≡ state.Idle → t.changed ≡ []
+    → IsNew (rings_new role c who x y t)
+unfolding rings_new
+rings_new_new role c who (Err x) y t idle none = caused_new cause.Ids t none
+rings_new_new role c who (Ok s) (Err y) t idle none = caused_new cause.Ids t none
+rings_new_new role c who (Ok s) (Ok local) t idle none =
+    branch IsNew (has_room t.control) _ _ (λ may. rung_new role c who s local t idle) (λ full. caused_new cause.Queue t none)
+
+pub rings_is_new : (role : Role) (c : Config) (letters : List Letter) (who : List ℕ) (t : Turn) → t.control.state ≡ state.Idle → t.changed ≡ []
+    → IsNew (settles false letters (rings role c [] who t))
+unfolding rings
+rings_is_new role c letters who t idle none =
+    new_settled letters (rings role c [] who t)
+    (branch IsNew (state_number t.control.state == 0) _ _
+    (λ is. rings_new_new role c who (draws t.sessions) (draws t.tunnels) t idle none)
+    (λ busy. absurd (eqb-false (state_number t.control.state) 0 busy (ap state_number idle))))
