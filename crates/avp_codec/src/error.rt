@@ -6,7 +6,7 @@ ghost use Rattle.avp_codec.specs.declared.error.AvpError.TheVariants as errors;
 use wire_base::NoMemory as OutOfMemory;
 
 /// The first fault from the front. A place counts bytes from 0, and is where the pair with the fault begins.
-#[derive(Clone, Copy, Debug, PartialEq, Eq)]
+#[derive(Clone, Copy, Debug)]
 pub enum AvpError {
     /// Some bytes are left, and fewer than the six of a head.
     Short { at: usize },

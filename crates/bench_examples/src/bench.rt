@@ -31,11 +31,11 @@ struct Answered {
     reply: Option<Bytes>,
 }
 
-/// An end of either kind.
+/// An end of either kind, in a box, since it is large: a function that owns it inline, with ways out, is dear to prove.
 #[derive(Drop)]
 enum Side {
-    Lac(Lac),
-    Lns(Lns),
+    Lac(Box<Lac>),
+    Lns(Box<Lns>),
 }
 
 impl Side {
@@ -109,31 +109,33 @@ pub struct Bench {
 
 impl Bench {
     /// The LNS of this number, to which the LAC of the other number speaks.
-    fn lns_of(alloc: Global, number: u8, lac: u8, secret: Bytes) -> Bench {
-        Bench {
-            end: Side::Lns(Lns::new(alloc, config(number, 0, secret))),
+    fn lns_of(alloc: Global, number: u8, lac: u8, secret: Bytes) -> Result<Bench, NoMemory> {
+        let end = Box::new(alloc, Lns::new(alloc, config(number, 0, secret)))?;
+        Ok(Bench {
+            end: Side::Lns(end),
             peer: address_of(lac),
             moment: 1000,
-        }
+        })
     }
 
     /// The LAC of this number, to which the LNS of the other number speaks.
-    fn lac_of(alloc: Global, number: u8, lns: u8, secret: Bytes) -> Bench {
+    fn lac_of(alloc: Global, number: u8, lns: u8, secret: Bytes) -> Result<Bench, NoMemory> {
         let lns = address_of(lns);
-        Bench {
-            end: Side::Lac(Lac::new(alloc, config(number, lns, secret), [0; 16])),
+        let end = Box::new(alloc, Lac::new(alloc, config(number, lns, secret), [0; 16]))?;
+        Ok(Bench {
+            end: Side::Lac(end),
             peer: lns,
             moment: 1000,
-        }
+        })
     }
 
     /// The LNS 7, to which the LAC 9 speaks, without a secret.
-    pub fn lns(alloc: Global) -> Bench {
+    pub fn lns(alloc: Global) -> Result<Bench, NoMemory> {
         Bench::lns_of(alloc, 7, 9, Bytes::new(alloc))
     }
 
     /// The LAC 9, to which the LNS 7 speaks, without a secret.
-    pub fn lac(alloc: Global) -> Bench {
+    pub fn lac(alloc: Global) -> Result<Bench, NoMemory> {
         Bench::lac_of(alloc, 9, 7, Bytes::new(alloc))
     }
 
@@ -145,8 +147,8 @@ impl Bench {
         let peer = node_number(peer)?;
         let secret = bytes_of(alloc, digits)?;
         match kind {
-            "lns" => Ok(Bench::lns_of(alloc, number, peer, secret)),
-            "lac" => Ok(Bench::lac_of(alloc, number, peer, secret)),
+            "lns" => Ok(Bench::lns_of(alloc, number, peer, secret)?),
+            "lac" => Ok(Bench::lac_of(alloc, number, peer, secret)?),
             _ => Err(Fault::NotARow),
         }
     }
@@ -154,8 +156,8 @@ impl Bench {
     /// The new end that words tell.
     fn told(alloc: Global, words: &str) -> Result<Bench, Fault> {
         match (words, words.split_once(' ')) {
-            ("lns", _) => Ok(Bench::lns(alloc)),
-            ("lac", _) => Ok(Bench::lac(alloc)),
+            ("lns", _) => Ok(Bench::lns(alloc)?),
+            ("lac", _) => Ok(Bench::lac(alloc)?),
             (_, Some((kind, about))) => Bench::numbered(alloc, kind, about),
             (_, None) => Err(Fault::NotARow),
         }

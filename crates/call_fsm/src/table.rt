@@ -7,7 +7,7 @@ ghost use Rattle.call_fsm.specs.declared.table.CallState.{CallState};
 ghost use Rattle.call_fsm.specs.declared.table.CallEvent.{CallEvent};
 
 /// How far a call is.
-#[derive(Clone, Copy, Debug, PartialEq, Eq)]
+#[derive(Clone, Copy)]
 pub enum CallState {
     Idle,
     WaitTunnel,
@@ -32,7 +32,7 @@ impl CallState {
 }
 
 /// What comes to a call. A message is acceptable, where no cause but its state stands against it, or not.
-#[derive(Clone, Copy, Debug, PartialEq, Eq)]
+#[derive(Clone, Copy, Debug)]
 pub enum CallEvent {
     Ring,
     TunnelOpen,
@@ -48,7 +48,7 @@ pub enum CallEvent {
 }
 
 /// What the call then does.
-#[derive(Clone, Copy, Debug, PartialEq, Eq)]
+#[derive(Clone, Copy)]
 pub enum CallAction {
     Nothing,
     SendIcrq,

@@ -12,7 +12,7 @@ use Rattle.protocol_model.specs.declared.event.Event.TheVariants as event
 use Rattle.protocol_model.specs.declared.moves.Move.{Move}
 use Rattle.protocol_model.specs.declared.packet.Packet.{Packet}
 use Rattle.protocol_model.specs.declared.refusal.Refusal.{Refusal}
-use Rattle.protocol_model.specs.Names.{address_of}
+use Rattle.end_names.specs.Names.{address_of}
 use Rattle.protocol_model.specs.Secrets.{uncovered_event}
 use Rattle.protocol_model.specs.End.{Stepped, step}
 use Rattle.step_laws.specs.Lines.{is_lac_at, is_lns_at, is_declared, has_call, has_tunnel}

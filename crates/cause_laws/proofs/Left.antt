@@ -11,7 +11,7 @@ use Rattle.schedule_text.specs.Grammar.{FitsLine, AreLines}
 use Rattle.protocol_model.specs.declared.event.Event.TheVariants as event
 use Rattle.protocol_model.specs.declared.refusal.Refusal.{Refusal}
 use Rattle.protocol_model.specs.declared.tunnel.Config.{Config}
-use Rattle.protocol_model.specs.declared.tunnel.Role.{Role}
+use Rattle.end_names.specs.declared.role.Role.{Role}
 use Rattle.protocol_model.specs.End.{End, new_end, plain_step, step}
 use Rattle.protocol_model.specs.World.{World, Node, Lined, empty_world, declared, later, config_of, block_of, stepped, after_step, line, new_node}
 use Rattle.protocol_model.specs.Run.{Run, empty_run, after_line, goes_on, run_from, run}

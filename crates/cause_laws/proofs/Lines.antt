@@ -14,9 +14,9 @@ use Rattle.protocol_model.specs.declared.out.Out.TheVariants.{Send, Up, Gone, Dr
 use Rattle.protocol_model.specs.declared.packet.Packet.{Packet}
 use Rattle.protocol_model.specs.declared.refusal.Refusal.{Refusal}
 use Rattle.protocol_model.specs.declared.refusal.Refusal.TheVariants.{Unfit}
-use Rattle.protocol_model.specs.declared.tunnel.Role.{Role}
-use Rattle.protocol_model.specs.declared.tunnel.Role.TheVariants as role
-use Rattle.protocol_model.specs.Names.{address_of}
+use Rattle.end_names.specs.declared.role.Role.{Role}
+use Rattle.end_names.specs.declared.role.Role.TheVariants as role
+use Rattle.end_names.specs.Names.{address_of}
 use Rattle.protocol_model.specs.Secrets.{uncovered_event}
 use Rattle.protocol_model.specs.End.{new_end, step}
 use Rattle.step_laws.specs.Lines.{tested_not, is_lac_at, is_lns_at, is_declared, has_call, has_tunnel}

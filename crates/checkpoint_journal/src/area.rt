@@ -23,7 +23,7 @@ pub const SECOND_AREA: u64 = 33_554_496;
 pub const MOST_RECORDS: u32 = 1_048_576;
 
 /// What stands at the place of a gate.
-#[derive(Clone, Copy, Debug, PartialEq, Eq)]
+#[derive(Clone, Copy)]
 pub enum Found {
     /// No byte.
     Nothing,

@@ -13,7 +13,7 @@ use std::marker::Model;
 use wire_base::NoMemory as OutOfMemory;
 
 /// Why no room was made.
-#[derive(Clone, Copy, Debug, PartialEq, Eq)]
+#[derive(Clone, Copy, PartialEq, Eq)]
 pub enum JournalRoom {
     /// The disk failed at an earlier commit to this journal.
     Halted,
@@ -34,7 +34,7 @@ impl From<OutOfMemory> for JournalRoom {
 }
 
 /// Why a content wasn't committed.
-#[derive(Clone, Copy, Debug, PartialEq, Eq)]
+#[derive(Clone, Copy, PartialEq, Eq)]
 pub enum JournalStop {
     /// The disk failed at an earlier commit to this journal.
     Halted,
@@ -43,7 +43,7 @@ pub enum JournalStop {
 }
 
 /// The journal of one node on a disk that is handed to each call. Between two calls the disk is as the last one left it.
-#[derive(Debug, Drop)]
+#[derive(Drop)]
 pub struct Journal {
     kind: u8,
     number: u8,

@@ -15,7 +15,7 @@ use std::alloc::Global;
 use wire_base::{Contents, Failed, NoMemory as OutOfMemory};
 
 /// Why a journal isn't opened.
-#[derive(Clone, Copy, Debug, PartialEq, Eq)]
+#[derive(Clone, Copy, PartialEq, Eq)]
 pub enum JournalOpen {
     /// The file isn't a journal of this kind at this node: the first place, in bytes, that tells.
     NotJournal { at: u64 },

@@ -14,7 +14,7 @@ use Rattle.protocol_model.specs.declared.moves.Place.{Place}
 use Rattle.protocol_model.specs.declared.moves.Move.TheVariants as move
 use Rattle.protocol_model.specs.declared.out.ControlOrigin.{ControlOrigin}
 use Rattle.protocol_model.specs.declared.tunnel.Control.{Control}
-use Rattle.protocol_model.specs.Names.{address_of, node_of}
+use Rattle.end_names.specs.Names.{address_of, node_of}
 use Rattle.protocol_model.specs.Turn.{Tunnel, letter_of, opening_of, counts_taken, learns_window}
 use Rattle.protocol_model.specs.End.{End}
 use Rattle.protocol_model.specs.World.{Sender, Deed, config_of}

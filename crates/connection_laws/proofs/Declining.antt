@@ -21,7 +21,7 @@ use Rattle.protocol_model.specs.declared.event.Event.{Event}
 use Rattle.protocol_model.specs.declared.moves.Declined.{Declined}
 use Rattle.protocol_model.specs.declared.moves.Move.TheVariants as move
 use Rattle.protocol_model.specs.declared.out.Origin.{Origin}
-use Rattle.protocol_model.specs.Names.{node_of}
+use Rattle.end_names.specs.Names.{node_of}
 use Rattle.protocol_model.specs.Reading.{body_of, message_in, pairs_read, message_read, at_zero, zero_pairs, zero_read}
 use Rattle.protocol_model.specs.End.{End, decline_origin}
 use Rattle.protocol_model.specs.World.{Sender, Deed}

@@ -27,8 +27,8 @@ use Rattle.protocol_model.specs.declared.moves.Move.{Move}
 use Rattle.protocol_model.specs.declared.moves.Move.TheVariants as move
 use Rattle.protocol_model.specs.declared.tunnel.Call.{Call}
 use Rattle.protocol_model.specs.declared.tunnel.CallPlace.{CallPlace}
-use Rattle.protocol_model.specs.declared.tunnel.Role.{Role}
-use Rattle.protocol_model.specs.Names.{calling_number}
+use Rattle.end_names.specs.declared.role.Role.{Role}
+use Rattle.end_names.specs.Names.{calling_number}
 use Rattle.protocol_model.specs.Calls.{call_row, is_told, advanced, rung}
 use Rattle.protocol_model.specs.Turn.{Tunnel, has_room, request_of, with_link, link_after}
 use Rattle.protocol_model.specs.End.{End, new_place}

@@ -25,7 +25,7 @@ use Rattle.protocol_model.specs.declared.moves.Move.{Move}
 use Rattle.protocol_model.specs.declared.moves.Move.TheVariants as move
 use Rattle.protocol_model.specs.declared.tunnel.Call.{Call}
 use Rattle.protocol_model.specs.declared.tunnel.CallPlace.{CallPlace}
-use Rattle.protocol_model.specs.declared.tunnel.Role.{Role}
+use Rattle.end_names.specs.declared.role.Role.{Role}
 use Rattle.protocol_model.specs.Calls.{advanced, asked_for}
 use Rattle.protocol_model.specs.Turn.{Tunnel, has_room, taken_place, in_state, counts_taken, connection, session_named, with_link}
 use Rattle.protocol_model.specs.End.{End}

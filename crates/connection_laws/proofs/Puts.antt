@@ -8,7 +8,7 @@ use Rattle.protocol_model.specs.declared.event.Event.TheVariants.{Datagram, Ring
 use Rattle.protocol_model.specs.declared.out.Origin.{Origin}
 use Rattle.protocol_model.specs.declared.out.Origin.TheVariants as origin
 use Rattle.protocol_model.specs.declared.packet.Packet.{Packet}
-use Rattle.protocol_model.specs.Names.{address_of}
+use Rattle.end_names.specs.Names.{address_of}
 use Rattle.protocol_model.specs.Turn.{Tunnel}
 use Rattle.protocol_model.specs.End.{End}
 use Rattle.protocol_model.specs.World.{Sender}

@@ -17,7 +17,7 @@ use Rattle.protocol_model.specs.declared.out.Origin.{Origin}
 use Rattle.protocol_model.specs.declared.out.Origin.TheVariants as origin
 use Rattle.protocol_model.specs.declared.out.ControlOrigin.{ControlOrigin}
 use Rattle.protocol_model.specs.declared.packet.Packet.{Packet}
-use Rattle.protocol_model.specs.Names.{address_of}
+use Rattle.end_names.specs.Names.{address_of}
 use Rattle.protocol_model.specs.Reading.{body_of, at_zero, at_tunnel}
 use Rattle.protocol_model.specs.Turn.{Tunnel}
 use Rattle.protocol_model.specs.End.{reached, End, opens_once, addressed, main_of, reached_by, reached_plain}

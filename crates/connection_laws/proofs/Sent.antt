@@ -14,7 +14,7 @@ use Rattle.protocol_model.specs.declared.out.Origin.{Origin}
 use Rattle.protocol_model.specs.declared.out.Origin.TheVariants as origin
 use Rattle.protocol_model.specs.declared.out.ControlOrigin.{ControlOrigin}
 use Rattle.protocol_model.specs.declared.packet.Packet.{Packet}
-use Rattle.protocol_model.specs.Names.{node_of}
+use Rattle.end_names.specs.Names.{node_of}
 use Rattle.control_message.specs.declared.message.Message.{Message}
 use Rattle.protocol_model.specs.Turn.{Tunnel, letter_as}
 use Rattle.protocol_model.specs.End.{End}

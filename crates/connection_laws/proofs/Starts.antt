@@ -14,7 +14,7 @@ use Rattle.protocol_model.specs.declared.out.ControlOrigin.{ControlOrigin}
 use Rattle.protocol_model.specs.declared.packet.Packet.{Packet}
 use Rattle.protocol_model.specs.declared.refusal.Refusal.TheVariants.{HalfSpace}
 use Rattle.protocol_model.specs.declared.tunnel.Control.{Control}
-use Rattle.protocol_model.specs.Names.{address_of}
+use Rattle.end_names.specs.Names.{address_of}
 use Rattle.protocol_model.specs.declared.event.Addressee.TheVariants.{Opens, Stops}
 use Rattle.protocol_model.specs.Reading.{body_of, at_zero}
 use Rattle.protocol_model.specs.Secrets.{uncovered_datagram}

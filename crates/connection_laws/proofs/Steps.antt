@@ -9,7 +9,7 @@ use Rattle.protocol_model.specs.declared.moves.Declined.{Declined}
 use Rattle.protocol_model.specs.declared.moves.FrameSent.{FrameSent}
 use Rattle.protocol_model.specs.declared.moves.Move.{Move}
 use Rattle.protocol_model.specs.declared.moves.Move.TheVariants as move
-use Rattle.protocol_model.specs.declared.tunnel.Role.{Role}
+use Rattle.end_names.specs.declared.role.Role.{Role}
 use Rattle.protocol_model.specs.Reading.{body_of}
 use Rattle.protocol_model.specs.Turn.{Tunnel}
 use Rattle.protocol_model.specs.End.{End}

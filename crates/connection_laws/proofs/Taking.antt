@@ -17,7 +17,7 @@ use Rattle.protocol_model.specs.declared.moves.Place.{Place}
 use Rattle.protocol_model.specs.declared.moves.Move.{Move}
 use Rattle.protocol_model.specs.declared.out.ControlOrigin.{ControlOrigin}
 use Rattle.protocol_model.specs.declared.tunnel.Call.{Call}
-use Rattle.protocol_model.specs.declared.tunnel.Role.{Role}
+use Rattle.end_names.specs.declared.role.Role.{Role}
 use Rattle.protocol_model.specs.Turn.{Tunnel}
 use Rattle.protocol_model.specs.End.{End}
 use Rattle.protocol_model.specs.World.{Sender, Deed, config_of}

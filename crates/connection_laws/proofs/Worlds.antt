@@ -12,7 +12,7 @@ use Rattle.protocol_model.specs.declared.moves.Move.TheVariants as move
 use Rattle.protocol_model.specs.declared.out.Out.{Out}
 use Rattle.protocol_model.specs.declared.out.Out.TheVariants.{Send, Up, Gone, Drop, Cause}
 use Rattle.protocol_model.specs.declared.packet.Packet.{Packet}
-use Rattle.protocol_model.specs.Names.{node_of}
+use Rattle.end_names.specs.Names.{node_of}
 use Rattle.protocol_model.specs.End.{End, Stepped, plain_step}
 use Rattle.protocol_model.specs.World.{World, Node, Sender, Deed, birth_in, birth_of, deed_of, with_node, with_birth_at, with_birth, is_born, moved, moved_all, sent, shown, shown_all, given, after_step}
 use Rattle.step_laws.specs.Steps.{AreKept, IsSent, IsDecline, IsOfMoves, IsChain, StepsAreChains}

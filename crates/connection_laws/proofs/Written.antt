@@ -11,9 +11,9 @@ use Rattle.control_message.specs.Pairs.{IsWritten, IsWrittenOpening}
 use Rattle.md5.proofs.StandardFacts.{length-md5}
 use Rattle.step_laws.specs.Moves.{Asks, Responds}
 use Rattle.protocol_model.specs.declared.tunnel.Config.{Config}
-use Rattle.protocol_model.specs.declared.tunnel.Role.{Role}
-use Rattle.protocol_model.specs.declared.tunnel.Role.TheVariants.{Lac, Lns}
-use Rattle.protocol_model.specs.Names.{address_of, node_of, host_name, calling_number}
+use Rattle.end_names.specs.declared.role.Role.{Role}
+use Rattle.end_names.specs.declared.role.Role.TheVariants.{Lac, Lns}
+use Rattle.end_names.specs.Names.{address_of, node_of, host_name, calling_number}
 use Rattle.protocol_model.specs.Turn.{opening_of, request_of}
 
 -- ---- messages

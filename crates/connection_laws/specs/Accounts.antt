@@ -3,7 +3,7 @@ use Rattle.std.specs.Prelude.{ℕ, List, [], ◌∷◌, ◌++◌, length, Bool, 
 use Rattle.protocol_model.specs.declared.moves.Place.{Place}
 use Rattle.protocol_model.specs.declared.moves.Move.{Move}
 use Rattle.protocol_model.specs.declared.moves.Move.TheVariants as move
-use Rattle.protocol_model.specs.Names.{node_of}
+use Rattle.end_names.specs.Names.{node_of}
 use Rattle.protocol_model.specs.World.{Sender, Deed, config_of}
 use Rattle.step_laws.specs.Letters.{Letter, letters_of}
 

@@ -11,7 +11,7 @@ use std::marker::Model;
 /// expected of the other end. It is a `Channel` without its letters, on a copy of which a step can be planned. The numbers
 /// count on without end, modulo 2^64; on the wire they stand modulo 65536. Moments are in milliseconds; where a given one
 /// is below a kept one, no time has passed.
-#[derive(Clone, Copy, Debug)]
+#[derive(Clone, Copy)]
 pub struct ChannelNumbers {
     pub(crate) window: SendWindow,
     pub(crate) inbox: Inbox,

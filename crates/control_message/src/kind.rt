@@ -40,7 +40,7 @@ pub const WEN: u16 = 15;
 pub const SLI: u16 = 16;
 
 /// The kind of a control message, as its Message Type names it (RFC 2661 section 3.2).
-#[derive(Clone, Copy, Debug, PartialEq, Eq)]
+#[derive(Clone, Copy, Debug)]
 pub enum Kind {
     /// Start-Control-Connection-Request.
     Sccrq,
@@ -73,7 +73,7 @@ pub enum Kind {
 }
 
 /// The shape of an attribute's value.
-#[derive(Clone, Copy, Debug, PartialEq, Eq)]
+#[derive(Clone, Copy)]
 pub enum Shape {
     /// Any bytes, none too.
     Text,

@@ -93,7 +93,7 @@ pub struct Opening {
 
 /// Failover Capability, the attribute 76 of RFC 4951 section 5.1. Its layout, two bytes of flags and four of milliseconds,
 /// is this project's profile of it.
-#[derive(Clone, Copy, Debug, PartialEq, Eq)]
+#[derive(Clone, Copy, Debug)]
 pub struct Failover {
     /// A set of bits: 1 for the control channel, 2 for data channels.
     pub flags: u16,
@@ -103,7 +103,7 @@ pub struct Failover {
 
 /// Tunnel Recovery, the attribute 77 of RFC 4951 section 5.2, by which a request names a tunnel that is to be recovered. Its
 /// layout, two reserved bytes and two ids of four, is this project's profile of it.
-#[derive(Clone, Copy, Debug, PartialEq, Eq)]
+#[derive(Clone, Copy, Debug)]
 pub struct Recovery {
     /// The sender's id of the tunnel.
     pub sender: u32,
@@ -121,7 +121,7 @@ pub enum Read {
 }
 
 /// The first fault of a list of pairs.
-#[derive(Clone, Copy, Debug, PartialEq, Eq)]
+#[derive(Clone, Copy, Debug)]
 pub enum MessageError {
     /// There is no Message Type, or the first one is hidden or hasn't two bytes.
     NoType,

@@ -13,7 +13,7 @@ use Rattle.call_fsm.specs.declared.table.CallAction.TheVariants as call_action
 use Rattle.lcp_end.specs.Steps.{Turn as LcpTurn}
 use Rattle.protocol_model.specs.declared.tunnel.Call.{Call}
 use Rattle.protocol_model.specs.declared.tunnel.Link.{Link}
-use Rattle.protocol_model.specs.declared.tunnel.Role.{Role}
+use Rattle.end_names.specs.declared.role.Role.{Role}
 use Rattle.protocol_model.specs.Links.{lcp_frame}
 use Rattle.protocol_model.specs.Turn.{Turn, with_output, with_move, with_change, drops, ends_call, ends_all, clears, gives, sends_letter, sends_now, lets_go, goes_by, lets_all_go, repeats, acknowledges, acknowledged_after, settles, greeted, greets, end_silent, end_told, ends_by, with_looks_of, with_call, carried, sends_packets, negotiated, links, ticks_link, limits_at, limits_all, goes_quietly, ticks_by, ticks}
 

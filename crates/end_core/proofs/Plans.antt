@@ -16,7 +16,7 @@ use Rattle.id_table.specs.Tables.{Kept}
 use Rattle.protocol_model.specs.declared.tunnel.CallPlace.{CallPlace}
 use Rattle.protocol_model.specs.declared.tunnel.CellChange.{CellChange}
 use Rattle.protocol_model.specs.declared.tunnel.Config.{Config}
-use Rattle.protocol_model.specs.declared.tunnel.Role.{Role}
+use Rattle.end_names.specs.declared.role.Role.{Role}
 use Rattle.protocol_model.specs.declared.event.Event.TheVariants.{Tick}
 use Rattle.protocol_model.specs.declared.out.Out.{Out}
 use Rattle.protocol_model.specs.declared.moves.Move.{Move}

@@ -143,7 +143,7 @@ pub(crate) fn frame_of(body: &[u8]) -> &[u8]
 }
 
 /// Where a frame that is handed up goes, and from which tunnel and peer.
-#[derive(Clone, Copy, Debug)]
+#[derive(Clone, Copy)]
 pub(crate) struct Way {
     pub(crate) tunnel: u16,
     pub(crate) peer: u32,

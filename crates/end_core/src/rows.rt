@@ -16,7 +16,7 @@ use wire_base::{NoMemory, Sequence};
 
 /// Whether a tunnel works, answers a recovery, or was kept over a start and isn't recovered yet (RFC 4951). As long as nothing is
 /// kept over a start, each tunnel is current.
-#[derive(Clone, Copy, Debug, PartialEq, Eq)]
+#[derive(Clone, Copy)]
 pub enum Mode {
     Current,
     Frozen,
@@ -24,7 +24,7 @@ pub enum Mode {
 }
 
 /// A call of a tunnel.
-#[derive(Clone, Copy, Debug, PartialEq, Eq)]
+#[derive(Clone, Copy)]
 pub struct CallRow {
     /// Its local session id.
     pub local: u16,
@@ -37,7 +37,7 @@ pub struct CallRow {
 pub type CallTable = Sequence<CallRow>;
 
 /// A tunnel of an end.
-#[derive(Debug, Drop)]
+#[derive(Drop)]
 pub struct TunnelRow {
     /// Its local tunnel id.
     pub local: u16,

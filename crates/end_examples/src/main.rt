@@ -60,7 +60,7 @@ fn tell_line(rt: &HostRuntime, bench: &mut Bench, line: &str) -> io::Result<()> 
 }
 
 fn main(rt: HostRuntime) -> io::Result<()> {
-    let mut bench = Bench::lns(rt.alloc());
+    let mut bench = Bench::lns(rt.alloc()).map_err(|_| io::Error::from(ErrorKind::OutOfMemory))?;
     for line in rt.lines(rt.alloc()) {
         tell_line(&rt, &mut bench, line?.as_str())?;
     }

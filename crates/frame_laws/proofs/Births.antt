@@ -1,8 +1,8 @@
 -- Births of LACs' calls stay apart.
 use Rattle.std.proofs.Common.{◌≡◌, ◌⊎◌, inl, inr, ⊎_elim, ℕ, ◌+◌, ◌-◌, ◌^◌, ◌<◌, ◌≤◌, refl, sym, ◌∙◌, subst, Option, Some, arith}
 use Rattle.id_table.specs.Ids.{at, put}
-use Rattle.protocol_model.specs.declared.tunnel.Role.{Role}
-use Rattle.protocol_model.specs.declared.tunnel.Role.TheVariants.{Lac, Lns}
+use Rattle.end_names.specs.declared.role.Role.{Role}
+use Rattle.end_names.specs.declared.role.Role.TheVariants.{Lac, Lns}
 use Rattle.protocol_model.specs.World.{World, Node}
 use Rattle.frame_laws.proofs.Facts.{Nodes, Born, Plays, birth_in_node, role_in_node}
 use Rattle.id_table.specs.Order.{found_put, same_or_not}

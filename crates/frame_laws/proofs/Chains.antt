@@ -4,8 +4,8 @@ use Rattle.protocol_model.specs.declared.event.Event.{Event}
 use Rattle.protocol_model.specs.declared.moves.FrameSent.{FrameSent}
 use Rattle.protocol_model.specs.declared.moves.Move.{Move}
 use Rattle.protocol_model.specs.declared.moves.Move.TheVariants as move
-use Rattle.protocol_model.specs.declared.tunnel.Role.TheVariants.{Lac}
-use Rattle.protocol_model.specs.Names.{node_of, calling_number}
+use Rattle.end_names.specs.declared.role.Role.TheVariants.{Lac}
+use Rattle.end_names.specs.Names.{node_of, calling_number}
 use Rattle.protocol_model.specs.End.{End}
 use Rattle.protocol_model.specs.World.{World, moved, moved_all}
 use Rattle.step_laws.specs.Letters.{Among}

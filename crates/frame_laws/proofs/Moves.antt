@@ -46,9 +46,9 @@ use Rattle.protocol_model.specs.declared.moves.Move.TheVariants as move
 use Rattle.protocol_model.specs.declared.tunnel.Call.{Call}
 use Rattle.protocol_model.specs.declared.tunnel.Config.{Config}
 use Rattle.protocol_model.specs.declared.tunnel.Control.{Control}
-use Rattle.protocol_model.specs.declared.tunnel.Role.{Role}
-use Rattle.protocol_model.specs.declared.tunnel.Role.TheVariants.{Lac, Lns}
-use Rattle.protocol_model.specs.Names.{node_of, host_name, calling_number}
+use Rattle.end_names.specs.declared.role.Role.{Role}
+use Rattle.end_names.specs.declared.role.Role.TheVariants.{Lac, Lns}
+use Rattle.end_names.specs.Names.{node_of, host_name, calling_number}
 use Rattle.protocol_model.specs.Calls.{advanced, rung, asked_for, is_up}
 use Rattle.protocol_model.specs.Turn.{Tunnel, letter_of, letter_as, counts_given, counts_taken, learns_window, opening_of, request_of, connection, with_link, link_after}
 use Rattle.protocol_model.specs.End.{End, new_place}

@@ -6,8 +6,8 @@ use Rattle.protocol_model.specs.declared.moves.Move.{Move}
 use Rattle.protocol_model.specs.declared.moves.Move.TheVariants as move
 use Rattle.protocol_model.specs.declared.out.Out.{Out}
 use Rattle.protocol_model.specs.declared.out.Out.TheVariants.{Send, Up, Gone, Drop, Cause}
-use Rattle.protocol_model.specs.declared.tunnel.Role.{Role}
-use Rattle.protocol_model.specs.Names.{node_of}
+use Rattle.end_names.specs.declared.role.Role.{Role}
+use Rattle.end_names.specs.Names.{node_of}
 use Rattle.protocol_model.specs.Texts.{Entry, Sends, HandsUp, Ends, Frames, Drops, Causes}
 use Rattle.protocol_model.specs.End.{Stepped}
 use Rattle.protocol_model.specs.World.{World, Sender, Deed, birth_in, birth_of, sent, shown, entry_of, entries_of}

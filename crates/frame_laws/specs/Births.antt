@@ -3,7 +3,7 @@ use Rattle.std.specs.Prelude.{◌≡◌, ℕ, ◌<◌, ◌^◌, List, length, So
 use Rattle.id_table.specs.Ids.{at}
 use Rattle.schedule_text.specs.declared.line.Line.{Line}
 use Rattle.schedule_text.specs.Grammar.{AreLines}
-use Rattle.protocol_model.specs.declared.tunnel.Role.TheVariants.{Lac}
+use Rattle.end_names.specs.declared.role.Role.TheVariants.{Lac}
 use Rattle.protocol_model.specs.World.{World, Node}
 use Rattle.protocol_model.specs.Run.{run}
 

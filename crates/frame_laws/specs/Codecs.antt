@@ -11,7 +11,7 @@ use Rattle.control_message.specs.declared.message.Read.TheVariants.{Known}
 use Rattle.control_message.specs.HiddenRequests.{HiddenRequestsAreRead}
 use Rattle.control_message.specs.Pairs.{pairs_of, IsWritten}
 use Rattle.control_message.specs.Reading.{message_of}
-use Rattle.protocol_model.specs.Names.{calling_number}
+use Rattle.end_names.specs.Names.{calling_number}
 
 -- what the codecs promise of what they write
 pub record Codecs : Type 0 where

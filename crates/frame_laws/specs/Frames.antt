@@ -14,11 +14,11 @@ use Rattle.protocol_model.specs.declared.event.Event.{Event}
 use Rattle.protocol_model.specs.declared.moves.Move.{Move}
 use Rattle.protocol_model.specs.declared.moves.Move.TheVariants.{FrameSent}
 use Rattle.protocol_model.specs.declared.tunnel.Call.{Call}
-use Rattle.protocol_model.specs.declared.tunnel.Role.{Role}
-use Rattle.protocol_model.specs.declared.tunnel.Role.TheVariants.{Lac, Lns}
+use Rattle.end_names.specs.declared.role.Role.{Role}
+use Rattle.end_names.specs.declared.role.Role.TheVariants.{Lac, Lns}
 use Rattle.protocol_model.specs.declared.out.Origin.TheVariants.{Data}
 use Rattle.protocol_model.specs.declared.packet.Packet.{Packet}
-use Rattle.protocol_model.specs.Names.{node_of}
+use Rattle.end_names.specs.Names.{node_of}
 use Rattle.protocol_model.specs.Secrets.{uncovered_event}
 use Rattle.protocol_model.specs.Turn.{Tunnel}
 use Rattle.protocol_model.specs.End.{End, plain_step}

@@ -1,10 +1,10 @@
 -- What a run did with the frames of calls, of what its lines did. No end keeps it, and the run doesn't depend on it.
 use Rattle.std.specs.Prelude.{ℕ, List, [], ◌∷◌, ◌++◌}
 use Rattle.schedule_text.specs.declared.line.Line.{Line}
-use Rattle.protocol_model.specs.declared.tunnel.Role.{Role}
+use Rattle.end_names.specs.declared.role.Role.{Role}
 use Rattle.protocol_model.specs.declared.moves.Move.{Move}
 use Rattle.protocol_model.specs.declared.moves.Move.TheVariants as move
-use Rattle.protocol_model.specs.Names.{node_of}
+use Rattle.end_names.specs.Names.{node_of}
 use Rattle.protocol_model.specs.World.{Deed}
 use Rattle.protocol_model.specs.Run.{run}
 

@@ -26,7 +26,7 @@ use Rattle.protocol_model.specs.declared.event.Addressee.TheVariants.{Nobody}
 use Rattle.protocol_model.specs.declared.tunnel.Config.{Config}
 use Rattle.protocol_model.specs.Channels.{letter_as}
 use Rattle.protocol_model.specs.Messages.{request_of}
-use Rattle.protocol_model.specs.Names.{calling_number}
+use Rattle.end_names.specs.Names.{calling_number}
 use Rattle.protocol_model.specs.Reading.{message_in, pairs_read, message_read, CallFault, call_fault_in, fault_of_pairs, tunnel_fault_in, tunnel_fault_of_pairs, at_zero, zero_pairs, zero_read}
 use Rattle.step_laws.specs.Hides.{HidesNumber, InPlain, ByVector}
 use Rattle.frame_laws.specs.Codecs.{Codecs}

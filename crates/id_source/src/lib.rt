@@ -17,7 +17,7 @@ pub enum IdError {
 }
 
 /// A space of numbers from 1 to a last one, of which those up to the ceiling may be drawn.
-#[derive(Clone, Copy, Debug)]
+#[derive(Clone, Copy)]
 pub struct Ids {
     last: u32,
     ceiling: u32,

@@ -14,7 +14,7 @@ use std::alloc::Global;
 use wire_base::{Bytes, NoMemory};
 
 /// How a command ends, and the text that it writes before.
-#[derive(Debug, Drop)]
+#[derive(Drop)]
 pub struct Answer {
     pub exit: Exit,
     pub text: Bytes,

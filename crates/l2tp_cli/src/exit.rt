@@ -6,7 +6,7 @@ ghost use Rattle.l2tp_cli.specs.Exits.{status_of};
 use wire_base::Why;
 
 /// How a command ends.
-#[derive(Clone, Copy, Debug, PartialEq, Eq)]
+#[derive(Clone, Copy, PartialEq, Eq)]
 pub enum Exit {
     Ok,
     /// The words are no command.

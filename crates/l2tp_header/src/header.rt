@@ -1,7 +1,7 @@
 //! Headers, and why bytes have none.
 
 /// The header of a datagram (RFC 2661 section 3.1). Numbers on the wire have their highest byte first.
-#[derive(Clone, Copy, Debug, PartialEq, Eq)]
+#[derive(Clone, Copy, Debug)]
 pub struct Header {
     /// Whether the body is a control message, and not a frame.
     pub control: bool,
@@ -20,7 +20,7 @@ pub struct Header {
 }
 
 /// The first fault of a datagram's header.
-#[derive(Clone, Copy, Debug, PartialEq, Eq)]
+#[derive(Clone, Copy, Debug)]
 pub enum HeaderError {
     /// Fewer bytes than the first word, or than the fields that its flags name, the offset's bytes included.
     Short,

@@ -11,7 +11,7 @@ use Rattle.protocol_model.specs.declared.out.Out.{Out}
 use Rattle.protocol_model.specs.declared.out.Out.TheVariants.{Send, Up, Gone, Drop, Cause as Refused}
 use Rattle.protocol_model.specs.Access.{Concentrator, Served, refusal_in, ring_cause, live_in, session_got, pads_for, pads_of, with_host, entered, of_step, admits}
 use Rattle.protocol_model.specs.End.{End, Stepped}
-use Rattle.protocol_model.specs.Names.{mac_of}
+use Rattle.end_names.specs.Names.{mac_of}
 use Rattle.end_core.specs.Sessions.{drawn, next_session}
 use Rattle.lac_core.specs.declared.answers.Refusals.{Refusals}
 use Rattle.lac_core.specs.Entering.{AreRefusals, answer_by, frame_for, is_refused, live_at, refusal_by}

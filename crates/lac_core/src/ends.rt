@@ -3,7 +3,7 @@
 ghost use Rattle.std.specs.Prelude.{◌≡◌};
 ghost use Rattle.wire_base.specs.declared.cause.Cause.TheVariants as causes;
 ghost use Rattle.protocol_model.specs.declared.out.Out.TheVariants as outs;
-ghost use Rattle.protocol_model.specs.declared.tunnel.Role.TheVariants as roles;
+ghost use Rattle.end_names.specs.declared.role.Role.TheVariants as roles;
 ghost use Rattle.protocol_model.specs.End.{env_of, rings_at, plain_step, step};
 ghost use Rattle.end_core.specs.Gives.{GivesStep};
 

@@ -6,7 +6,7 @@ ghost use Rattle.pppoe_discovery.specs.Told.{IsAdmission, MayBeTold, IsWithin, p
 ghost use Rattle.protocol_model.specs.declared.event.Event.TheVariants as events;
 ghost use Rattle.protocol_model.specs.Access.{about_call, admits, coming, does, led_to, of_step, wants_call, with_host};
 ghost use Rattle.protocol_model.specs.End.{step};
-ghost use Rattle.protocol_model.specs.Names.{mac_of};
+ghost use Rattle.end_names.specs.Names.{mac_of};
 ghost use Rattle.end_core.specs.Sessions.{next_session};
 ghost use Rattle.lac_core.specs.Entering.{AreRefusals, answer_by, live_at};
 ghost use Rattle.lac_core.specs.Gives.{GivesServed};

@@ -8,7 +8,7 @@
 ghost use Rattle.std.specs.Prelude.{◌≡◌, ◌∷◌, [], Some, None, IfOk};
 ghost use Rattle.id_table.specs.Ids.{at};
 ghost use Rattle.protocol_model.specs.declared.out.Out.TheVariants as outs;
-ghost use Rattle.protocol_model.specs.declared.tunnel.Role.TheVariants as roles;
+ghost use Rattle.end_names.specs.declared.role.Role.TheVariants as roles;
 ghost use Rattle.protocol_model.specs.Access.{new_access, as_it_was, told_because, of_step, serves, farewell};
 ghost use Rattle.protocol_model.specs.End.{new_end, step, look_in};
 ghost use Rattle.end_core.specs.Fits.{fits};
@@ -55,7 +55,7 @@ pub struct Lac {
 impl Model for Lac {
     ghost use Rattle.std.specs.Prelude.{◌≡◌};
     ghost use Rattle.protocol_model.specs.Access.{Concentrator};
-    ghost use Rattle.protocol_model.specs.declared.tunnel.Role.TheVariants as roles;
+    ghost use Rattle.end_names.specs.declared.role.Role.TheVariants as roles;
 
     ghost Value = { Concentrator };
 

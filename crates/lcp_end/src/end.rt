@@ -27,7 +27,7 @@ const LONGEST: usize = 2048;
 /// 1,492 bytes and a magic number. Packets are given and taken from their code on, without the protocol number. Moments
 /// are in milliseconds; where a given one is below a kept one, no time has passed. Where memory is wanting, a call
 /// changes nothing.
-#[derive(Clone, Copy, Debug)]
+#[derive(Clone, Copy)]
 pub struct LcpEnd {
     kept: EndState,
 }

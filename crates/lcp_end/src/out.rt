@@ -8,7 +8,7 @@ use std::alloc::Global;
 use wire_base::NoMemory;
 
 /// What an end gives to the layers around it.
-#[derive(Debug, Drop)]
+#[derive(Drop)]
 pub struct LcpOut {
     /// The LCP packets that are to be sent, in order, each from its code on.
     pub packets: Packets,

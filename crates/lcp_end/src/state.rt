@@ -3,7 +3,7 @@
 use crate::table::LcpState;
 
 /// What an end keeps of its link.
-#[derive(Clone, Copy, Debug)]
+#[derive(Clone, Copy)]
 pub struct EndState {
     pub state: LcpState,
     /// Whether it asks for an MRU, of 1,492 bytes.

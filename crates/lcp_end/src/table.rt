@@ -7,7 +7,7 @@ ghost use Rattle.lcp_end.specs.declared.table.LcpEvent.{LcpEvent};
 use crate::entries as rows;
 
 /// How far the negotiation of a link is (RFC 1661 section 4.2). The states stand in the order of their numbers.
-#[derive(Clone, Copy, Debug, PartialEq, Eq)]
+#[derive(Clone, Copy)]
 pub enum LcpState {
     Initial,
     Starting,
@@ -61,7 +61,7 @@ impl LcpState {
 }
 
 /// What comes to the automaton, in the order of the table's rows (RFC 1661 section 4.3).
-#[derive(Clone, Copy, Debug, PartialEq, Eq)]
+#[derive(Clone, Copy, Debug)]
 pub enum LcpEvent {
     /// The lower layer is up.
     Up,
@@ -98,7 +98,7 @@ pub enum LcpEvent {
 }
 
 /// What the automaton then does (RFC 1661 section 4.4).
-#[derive(Clone, Copy, Debug, PartialEq, Eq)]
+#[derive(Clone, Copy)]
 pub struct LcpActions {
     /// This-Layer-Up.
     pub tlu: bool,

@@ -7,7 +7,7 @@ ghost use Rattle.lcp_wire.specs.declared.error.OptionError.TheVariants as option
 use wire_base::NoMemory as OutOfMemory;
 
 /// Why bytes are no packet: the first fault that is met.
-#[derive(Clone, Copy, Debug, PartialEq, Eq)]
+#[derive(Clone, Copy, Debug)]
 pub enum LcpError {
     /// Fewer than the four bytes of a head.
     Short,
@@ -26,7 +26,7 @@ impl From<OutOfMemory> for LcpError {
 }
 
 /// Why bytes are no list of options: the first fault from the front.
-#[derive(Clone, Copy, Debug, PartialEq, Eq)]
+#[derive(Clone, Copy, Debug)]
 pub enum OptionError {
     /// No option stands at this place, counted in bytes from 0: a single byte is left, or the length is under two, so
     /// that it doesn't count its own two bytes, or it passes the end.

@@ -65,7 +65,7 @@ fn hear(alloc: Global, bench: &mut Bench, datagram: &Bytes) -> Result<Bytes, NoM
 
 /// An LNS with an open tunnel 1.
 fn open_lns(alloc: Global) -> Result<(Bench, Peer), Fail> {
-    let mut bench = Bench::lns(alloc);
+    let mut bench = Bench::lns(alloc)?;
     let mut peer = Peer {
         tunnel: 0,
         ns: 0,
@@ -135,7 +135,7 @@ fn tunnel_ids_end(alloc: Global, bench: &mut Bench) -> Result<bool, Fail> {
 
 #[test]
 fn tunnel_ids_come_to_their_end(rt: HostRuntime) -> Result<(), Fail> {
-    let mut bench = Bench::lns(rt.alloc());
+    let mut bench = Bench::lns(rt.alloc())?;
     assert!(rt; tunnel_ids_end(rt.alloc(), &mut bench)?);
     Ok(())
 }
@@ -150,7 +150,7 @@ fn ids_of_an_opener_end(alloc: Global, bench: &mut Bench) -> Result<bool, Fail> 
 
 #[test]
 fn ids_of_an_opener_come_to_their_end(rt: HostRuntime) -> Result<(), Fail> {
-    let mut bench = Bench::lac(rt.alloc());
+    let mut bench = Bench::lac(rt.alloc())?;
     assert!(rt; ids_of_an_opener_end(rt.alloc(), &mut bench)?);
     Ok(())
 }
@@ -286,7 +286,7 @@ fn tunnels_are_few(alloc: Global, bench: &mut Bench) -> Result<bool, Fail> {
 
 #[test]
 fn an_opener_has_as_many_tunnels_as_it_may(rt: HostRuntime) -> Result<(), Fail> {
-    let mut bench = Bench::lac(rt.alloc());
+    let mut bench = Bench::lac(rt.alloc())?;
     assert!(rt; tunnels_are_few(rt.alloc(), &mut bench)?);
     // the closed ones are removed
     bench.run(rt.alloc(), "tick 31000")?;

@@ -4,7 +4,7 @@
 
 ghost use Rattle.std.specs.Prelude.{◌≡◌, IfOk};
 ghost use Rattle.id_table.specs.Ids.{at};
-ghost use Rattle.protocol_model.specs.declared.tunnel.Role.TheVariants as roles;
+ghost use Rattle.end_names.specs.declared.role.Role.TheVariants as roles;
 ghost use Rattle.protocol_model.specs.End.{new_end, plain_step, step, look_in};
 ghost use Rattle.end_core.specs.Fits.{fits};
 ghost use Rattle.end_core.specs.Gives.{GivesStep};
@@ -25,7 +25,7 @@ pub struct Lns {
 impl Model for Lns {
     ghost use Rattle.std.specs.Prelude.{◌≡◌};
     ghost use Rattle.protocol_model.specs.End.{End as Known};
-    ghost use Rattle.protocol_model.specs.declared.tunnel.Role.TheVariants as roles;
+    ghost use Rattle.end_names.specs.declared.role.Role.TheVariants as roles;
 
     ghost Value = { Known };
 

@@ -29,7 +29,7 @@ pub fn header_why(error: HeaderError) -> Why
 }
 
 /// A message about a call that has a fault, and the session id that it tells, where that can be read.
-#[derive(Debug, Drop)]
+#[derive(Drop)]
 pub struct CallFault {
     pub kind: Kind,
     pub cause: Cause,
@@ -46,7 +46,7 @@ impl Model for CallFault {
 
 /// What a faulty message is to the tunnel's table, why the tunnel is closed where its row says so, and the tunnel id that an SCCRP
 /// tells, where that can be read, else 0.
-#[derive(Debug, Drop)]
+#[derive(Drop)]
 pub struct TunnelFault {
     pub event: TunnelEvent,
     pub cause: Cause,
@@ -63,7 +63,7 @@ impl Model for TunnelFault {
 
 /// What the body of a control message says: a message, or why it is ignored; and its fault, where it is about a call, or to the
 /// tunnel's table.
-#[derive(Debug, Drop)]
+#[derive(Drop)]
 pub struct Said {
     pub message: Result<Message, Why>,
     pub fault: Option<CallFault>,

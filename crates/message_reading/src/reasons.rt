@@ -9,7 +9,7 @@ use wire_base::Cause;
 
 /// Why a call is ended or refused, or a tunnel closed, and the result code and error code of the CDN, or of the StopCCN, that says so
 /// (RFC 2661 section 4.4.2).
-#[derive(Debug, Drop)]
+#[derive(Drop)]
 pub struct Reason {
     pub cause: Cause,
     pub code: u16,

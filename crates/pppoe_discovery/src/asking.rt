@@ -10,7 +10,7 @@ use std::alloc::Global;
 use wire_base::{Bytes, NoMemory};
 
 /// What a PADI or a PADR asks for, by its tags.
-#[derive(Debug, Drop)]
+#[derive(Drop)]
 pub struct Asked {
     /// The one Service-Name, where there is exactly one and its service is served.
     pub service: Option<Bytes>,

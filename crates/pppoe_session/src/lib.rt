@@ -10,7 +10,7 @@ use std::marker::Model;
 use wire_base::{Bytes, NoMemory};
 
 /// Who came by a PADR: the Ethernet address that it came from, and its Host-Uniq where it had one.
-#[derive(Debug, Drop)]
+#[derive(Drop)]
 pub struct Subscriber {
     pub mac: [u8; 6],
     pub uniq: Option<Bytes>,
@@ -32,7 +32,7 @@ impl Subscriber {
 }
 
 /// Why a subscriber isn't admitted.
-#[derive(Clone, Copy, Debug, PartialEq, Eq)]
+#[derive(Clone, Copy, PartialEq, Eq)]
 pub enum AdmitError {
     /// Someone holds this session.
     Taken { session: u16 },

@@ -7,7 +7,7 @@ ghost use Rattle.pppoe_wire.specs.declared.error.TagError.TheVariants as tag_err
 use wire_base::NoMemory as OutOfMemory;
 
 /// Why bytes are no PPPoE frame: the first fault that is met.
-#[derive(Clone, Copy, Debug, PartialEq, Eq)]
+#[derive(Clone, Copy, Debug)]
 pub enum PppoeError {
     /// Fewer than the twenty bytes of a head.
     Short,
@@ -28,7 +28,7 @@ impl From<OutOfMemory> for PppoeError {
 }
 
 /// Why bytes are no list of tags: the first fault from the front.
-#[derive(Clone, Copy, Debug, PartialEq, Eq)]
+#[derive(Clone, Copy, Debug)]
 pub enum TagError {
     /// No tag stands at this place, counted in bytes from 0: fewer than the four bytes of a head are left, or the length
     /// passes the end.

@@ -13,8 +13,8 @@ use Rattle.call_fsm.specs.declared.table.CallEvent.TheVariants.{Ring, IcrqAcc}
 use Rattle.call_fsm.specs.declared.table.CallAction.{CallAction}
 use Rattle.call_fsm.specs.declared.table.CallAction.TheVariants.{SendIcrq, SendIcrp, SendIccn, SendCdn, CleanUp}
 use Rattle.call_fsm.specs.Rows.{lac_rows, lns_rows, row_of, state_number}
-use Rattle.protocol_model.specs.declared.tunnel.Role.{Role}
-use Rattle.protocol_model.specs.declared.tunnel.Role.TheVariants.{Lac, Lns}
+use Rattle.end_names.specs.declared.role.Role.{Role}
+use Rattle.end_names.specs.declared.role.Role.TheVariants.{Lac, Lns}
 use Rattle.protocol_model.specs.declared.tunnel.Call.{Call}
 use Rattle.protocol_model.specs.declared.tunnel.Look.{Look}
 use Rattle.protocol_model.specs.declared.tunnel.Look.TheVariants.{Unborn, Bound, Established, Dead}

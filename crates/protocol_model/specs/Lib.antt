@@ -1,4 +1,3 @@
-pub mod Names
 pub mod Reading
 pub mod Secrets
 pub mod Calls

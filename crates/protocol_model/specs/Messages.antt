@@ -8,8 +8,8 @@ use Rattle.control_message.specs.declared.message.Opening.{Opening}
 use Rattle.tunnel_fsm.specs.declared.table.TunnelEvent.{TunnelEvent}
 use Rattle.tunnel_fsm.specs.declared.table.TunnelEvent.TheVariants.{ScccnAcc, ScccnNotAcc}
 use Rattle.protocol_model.specs.declared.tunnel.Config.{Config}
-use Rattle.protocol_model.specs.declared.tunnel.Role.{Role}
-use Rattle.protocol_model.specs.Names.{host_name, calling_number}
+use Rattle.end_names.specs.declared.role.Role.{Role}
+use Rattle.end_names.specs.Names.{host_name, calling_number}
 use Rattle.protocol_model.specs.Secrets.{sixteen, lacks_secret, is_wrong}
 use Rattle.protocol_model.specs.Reasons.{Reason, out_of_order, other_version, no_recovery, no_secret}
 

@@ -40,7 +40,7 @@ use Rattle.protocol_model.specs.declared.tunnel.CellChange.TheVariants as cell
 use Rattle.protocol_model.specs.declared.tunnel.Config.{Config}
 use Rattle.protocol_model.specs.declared.tunnel.Link.{Link}
 use Rattle.protocol_model.specs.declared.tunnel.Control.{Control}
-use Rattle.protocol_model.specs.declared.tunnel.Role.{Role}
+use Rattle.end_names.specs.declared.role.Role.{Role}
 use Rattle.protocol_model.specs.declared.event.Event.{Event}
 use Rattle.protocol_model.specs.declared.event.Event.TheVariants.{Datagram, Ring, Frame, Admitted, Payload, Lower, Lcp, Hang, OpenTunnel, DropCall, CloseTunnel}
 use Rattle.protocol_model.specs.declared.event.Event.TheVariants as event_of
@@ -55,7 +55,7 @@ pub use Rattle.protocol_model.specs.Messages.{opening_of, request_of, hidden_req
 pub use Rattle.protocol_model.specs.Secrets.{challenge_by, response_by}
 pub use Rattle.protocol_model.specs.Moments.{is_over, patience, is_closed, kept_closed, is_being_set_up, is_at_its_end}
 pub use Rattle.protocol_model.specs.Reasons.{Reason, reason, out_of_state, out_of_order, other_version, no_recovery, no_secret, fault_error, fault_reason}
-use Rattle.protocol_model.specs.Names.{subscriber}
+use Rattle.end_names.specs.Names.{subscriber}
 use Rattle.protocol_model.specs.Reading.{header_why, body_of, message_in, CallFault, call_fault_in, TunnelFault, tunnel_fault_in}
 pub use Rattle.protocol_model.specs.Calls.{call_row, advanced, rung, asked_for, is_request, is_reply, is_connection, is_up, is_set_up, owed_by, are_too_many, is_clean_up, is_short, is_long}
 pub use Rattle.protocol_model.specs.Links.{lcp_frame, new_link, with_link, link_after, is_first_open, looks_of, is_passing}

@@ -3,7 +3,7 @@
 use wire_base::{Bytes, Why};
 
 /// What comes to an end.
-#[derive(Debug, Drop)]
+#[derive(Drop)]
 pub enum Event {
     /// A datagram from a peer, an IPv4 address as a number.
     Datagram { peer: u32, bytes: Bytes },
@@ -32,7 +32,7 @@ pub enum Event {
 }
 
 /// What a control message that comes is for.
-#[derive(Clone, Copy, Debug, PartialEq, Eq)]
+#[derive(Clone, Copy)]
 pub enum Addressee {
     /// A tunnel that is to be made, to which the peer assigned this id.
     Opens { remote: u16 },

@@ -8,25 +8,23 @@
 
 mod event;
 mod moves;
-mod names;
 mod out;
 mod packet;
 mod refusal;
 mod tunnel;
 
+pub use end_names::{
+    Role, address_of, calling_number, host_name, mac_of, node_of, subscriber, twelve_digits,
+};
 pub use event::{Addressee, Event};
 pub use moves::{
     Accepted, Added, Closed, ClosedBy, Confirmed, Connected, Declined, EndHeard, EndSilent,
     EndTold, FirstUp, FrameSent, FrameUp, Greeted, LetGo, Move, Negotiated, NrRead, Opened, Place,
     Refused, Rejected, Repeated, Replied, Requested, SecondUp, TookPlain,
 };
-pub use names::{
-    address_of, calling_number, host_name, mac_of, node_of, subscriber, twelve_digits,
-};
 pub use out::{ControlOrigin, Origin, Out};
 pub use packet::Packet;
 pub use refusal::Refusal;
 pub use tunnel::{
     Call, CallPlace, CallStep, CallSteps, CellChange, CellChanges, Config, Control, Link, Look,
-    Role,
 };

@@ -3,7 +3,7 @@
 use wire_base::{Bytes, Side};
 
 /// The place of a letter in the list of letters that a tunnel was given in an epoch, counted from 0.
-#[derive(Clone, Copy, Debug, PartialEq, Eq)]
+#[derive(Clone, Copy)]
 pub struct Place {
     /// How often the tunnel was recovered: 0, as long as none is.
     pub epoch: u64,
@@ -11,7 +11,7 @@ pub struct Place {
 }
 
 /// A tunnel was opened to a peer, by an SCCRQ with this challenge.
-#[derive(Clone, Copy, Debug, PartialEq, Eq)]
+#[derive(Clone, Copy)]
 pub struct Opened {
     pub tunnel: u16,
     pub peer: u32,
@@ -21,7 +21,7 @@ pub struct Opened {
 
 /// A tunnel was made by the SCCRQ of a peer that assigned an id and told its receive window, and answered by an SCCRP with
 /// this challenge and this response.
-#[derive(Clone, Copy, Debug, PartialEq, Eq)]
+#[derive(Clone, Copy)]
 pub struct Accepted {
     pub tunnel: u16,
     pub peer: u32,
@@ -35,7 +35,7 @@ pub struct Accepted {
 
 /// A tunnel learned by an SCCRP which id its peer assigned and which receive window it has, and was connected by an SCCCN
 /// with this response.
-#[derive(Clone, Copy, Debug, PartialEq, Eq)]
+#[derive(Clone, Copy)]
 pub struct Connected {
     pub tunnel: u16,
     pub remote: u16,
@@ -46,14 +46,14 @@ pub struct Connected {
 }
 
 /// A tunnel took its SCCCN.
-#[derive(Clone, Copy, Debug, PartialEq, Eq)]
+#[derive(Clone, Copy)]
 pub struct Confirmed {
     pub tunnel: u16,
     pub taken: Place,
 }
 
 /// A call of a subscriber was added to a tunnel: it is born.
-#[derive(Clone, Copy, Debug, PartialEq, Eq)]
+#[derive(Clone, Copy)]
 pub struct Added {
     pub tunnel: u16,
     pub session: u16,
@@ -62,7 +62,7 @@ pub struct Added {
 
 /// A call that waited was asked for by an ICRQ. Where the end hides its Calling Number, `hidden` has the message's pairs as they
 /// are spelled (RFC 2661 section 4.3).
-#[derive(Debug, Drop)]
+#[derive(Drop)]
 pub struct Requested {
     pub tunnel: u16,
     pub session: u16,
@@ -72,7 +72,7 @@ pub struct Requested {
 }
 
 /// A call was made by the ICRQ for the peer's session, and answered by an ICRP.
-#[derive(Clone, Copy, Debug, PartialEq, Eq)]
+#[derive(Clone, Copy)]
 pub struct Replied {
     pub tunnel: u16,
     pub peer: u32,
@@ -83,7 +83,7 @@ pub struct Replied {
 }
 
 /// The end that asked for a call learned by an ICRP which session its peer assigned, and connected the call by an ICCN.
-#[derive(Clone, Copy, Debug, PartialEq, Eq)]
+#[derive(Clone, Copy)]
 pub struct FirstUp {
     pub tunnel: u16,
     pub session: u16,
@@ -93,7 +93,7 @@ pub struct FirstUp {
 }
 
 /// The end that was asked for a call took its ICCN.
-#[derive(Clone, Copy, Debug, PartialEq, Eq)]
+#[derive(Clone, Copy)]
 pub struct SecondUp {
     pub tunnel: u16,
     pub session: u16,
@@ -102,7 +102,7 @@ pub struct SecondUp {
 
 /// A call ended, and the peer was told by a CDN with this result code and error code (RFC 2661 section 4.4.2). `remote` is the
 /// peer's session id, 0 where it isn't known.
-#[derive(Clone, Copy, Debug, PartialEq, Eq)]
+#[derive(Clone, Copy)]
 pub struct EndTold {
     pub tunnel: u16,
     pub session: u16,
@@ -114,7 +114,7 @@ pub struct EndTold {
 
 /// A tunnel took a letter about a call that there isn't, and answered by a CDN with this result code and error code, which
 /// names no call of this end (RFC 2661 section 4.4.3). `remote` is the session id that the letter told, 0 where it told none.
-#[derive(Clone, Copy, Debug, PartialEq, Eq)]
+#[derive(Clone, Copy)]
 pub struct Refused {
     pub tunnel: u16,
     pub remote: u16,
@@ -125,7 +125,7 @@ pub struct Refused {
 }
 
 /// A call ended by a CDN of the peer. Its id is one of a table's.
-#[derive(Clone, Copy, Debug, PartialEq, Eq)]
+#[derive(Clone, Copy)]
 pub struct EndHeard {
     pub tunnel: u16,
     pub session: u32,
@@ -133,7 +133,7 @@ pub struct EndHeard {
 }
 
 /// A call ended of which the peer knows nothing.
-#[derive(Clone, Copy, Debug, PartialEq, Eq)]
+#[derive(Clone, Copy)]
 pub struct EndSilent {
     pub tunnel: u16,
     pub session: u16,
@@ -141,7 +141,7 @@ pub struct EndSilent {
 
 /// An SCCRQ, or an SCCRP that names no tunnel, was answered by a StopCCN of none of this end's (RFC 2661 section 7.2.1), with this
 /// result code and error code, to the tunnel id that it told, and with this Nr.
-#[derive(Clone, Copy, Debug, PartialEq, Eq)]
+#[derive(Clone, Copy)]
 pub struct Declined {
     pub peer: u32,
     pub remote: u16,
@@ -152,7 +152,7 @@ pub struct Declined {
 
 /// A tunnel was closed with its calls, and the peer was told by a StopCCN with this result code and error code (RFC 2661 section
 /// 4.4.2). `remote` is the peer's tunnel id, 0 where it isn't known.
-#[derive(Clone, Copy, Debug, PartialEq, Eq)]
+#[derive(Clone, Copy)]
 pub struct Closed {
     pub tunnel: u16,
     pub remote: u16,
@@ -163,7 +163,7 @@ pub struct Closed {
 
 /// A tunnel that waited for its SCCRP took a letter that closes it with its calls, and the peer was told by a StopCCN with this
 /// result code and error code. `remote` is the peer's tunnel id, as the letter tells it; 0 where it doesn't.
-#[derive(Clone, Copy, Debug, PartialEq, Eq)]
+#[derive(Clone, Copy)]
 pub struct Rejected {
     pub tunnel: u16,
     pub remote: u16,
@@ -174,56 +174,56 @@ pub struct Rejected {
 }
 
 /// A tunnel took a StopCCN of its peer, and was closed with its calls.
-#[derive(Clone, Copy, Debug, PartialEq, Eq)]
+#[derive(Clone, Copy)]
 pub struct ClosedBy {
     pub tunnel: u16,
     pub taken: Place,
 }
 
 /// A HELLO was given to a tunnel's channel.
-#[derive(Clone, Copy, Debug, PartialEq, Eq)]
+#[derive(Clone, Copy)]
 pub struct Greeted {
     pub tunnel: u16,
     pub given: Place,
 }
 
 /// A tunnel took a letter that changes nothing else.
-#[derive(Clone, Copy, Debug, PartialEq, Eq)]
+#[derive(Clone, Copy)]
 pub struct TookPlain {
     pub tunnel: u16,
     pub taken: Place,
 }
 
 /// A tunnel read which number its peer expects next, modulo 65536: the letters before it are acknowledged.
-#[derive(Clone, Copy, Debug, PartialEq, Eq)]
+#[derive(Clone, Copy)]
 pub struct NrRead {
     pub tunnel: u16,
     pub nr: u16,
 }
 
 /// A letter that was never on the wire went out.
-#[derive(Clone, Copy, Debug, PartialEq, Eq)]
+#[derive(Clone, Copy)]
 pub struct LetGo {
     pub tunnel: u16,
     pub sent: Place,
 }
 
 /// The oldest letter that isn't acknowledged went out again.
-#[derive(Clone, Copy, Debug, PartialEq, Eq)]
+#[derive(Clone, Copy)]
 pub struct Repeated {
     pub tunnel: u16,
     pub sent: Place,
 }
 
 /// The LCP end of a call made a step: it was opened, a packet came to it, or its timer ran out. What it sent is told before.
-#[derive(Clone, Copy, Debug, PartialEq, Eq)]
+#[derive(Clone, Copy)]
 pub struct Negotiated {
     pub tunnel: u16,
     pub session: u16,
 }
 
 /// A PPP frame that was given for a call, or that its LCP end gave, was sent to the peer of its tunnel.
-#[derive(Debug, Drop)]
+#[derive(Drop)]
 pub struct FrameSent {
     pub tunnel: u16,
     pub peer: u32,
@@ -234,7 +234,7 @@ pub struct FrameSent {
 }
 
 /// A PPP frame that came from the peer of a call's tunnel was handed up.
-#[derive(Debug, Drop)]
+#[derive(Drop)]
 pub struct FrameUp {
     pub tunnel: u16,
     pub peer: u32,
@@ -244,7 +244,7 @@ pub struct FrameUp {
 }
 
 /// What a step does to a tunnel or a call. Tunnels and sessions are those that the end itself assigned, but for `remote`.
-#[derive(Debug, Drop)]
+#[derive(Drop)]
 pub enum Move {
     Opened(Opened),
     Accepted(Accepted),

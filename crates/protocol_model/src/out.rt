@@ -4,7 +4,7 @@ use wire_base::{Bytes, Cause, Side, Why};
 
 /// The tunnel that sent a control message, and its numbers, which have no end, where those on the wire stand modulo
 /// 65536.
-#[derive(Clone, Copy, Debug, PartialEq, Eq)]
+#[derive(Clone, Copy)]
 pub struct ControlOrigin {
     /// The local id of the tunnel that sent it, 0 where the end sent it for none.
     pub tunnel: u16,
@@ -17,7 +17,7 @@ pub struct ControlOrigin {
 }
 
 /// Which of its objects an end sent a datagram for. It isn't on the wire: the world keeps it beside the packet.
-#[derive(Clone, Copy, Debug, PartialEq, Eq)]
+#[derive(Clone, Copy)]
 pub enum Origin {
     /// A control message, or an acknowledgement alone.
     Control(ControlOrigin),
@@ -26,7 +26,7 @@ pub enum Origin {
 }
 
 /// What a step gives to the outside, in order.
-#[derive(Debug, Drop)]
+#[derive(Drop)]
 pub enum Out {
     /// A datagram to a peer, an IPv4 address as a number.
     Send {

@@ -4,7 +4,7 @@ use crate::out::Origin;
 use wire_base::Bytes;
 
 /// A datagram that was sent, with what the world keeps beside it.
-#[derive(Debug, Drop)]
+#[derive(Drop)]
 pub struct Packet {
     /// The number of the node that sent it.
     pub from: u8,

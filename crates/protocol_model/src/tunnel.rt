@@ -6,15 +6,6 @@ use lcp_end::LcpEnd;
 use tunnel_fsm::TunnelState;
 use wire_base::{Bytes, Sequence};
 
-/// Which end of a tunnel a node is (RFC 2661 section 1.2).
-#[derive(Clone, Copy, Debug, PartialEq, Eq)]
-pub enum Role {
-    /// The access concentrator, which opens tunnels.
-    Lac,
-    /// The network server.
-    Lns,
-}
-
 /// What an end is told when it is made. Where `hide` is set there is a secret. It has no text for debugging, which would
 /// show the secret.
 #[derive(Drop)]
@@ -32,7 +23,7 @@ pub struct Config {
 }
 
 /// The control part of a tunnel, apart from its calls and its letters.
-#[derive(Clone, Copy, Debug)]
+#[derive(Clone, Copy)]
 pub struct Control {
     /// The id that this end assigned, 0 before it is drawn.
     pub local: u16,
@@ -54,7 +45,7 @@ pub struct Control {
 }
 
 /// A row of a call's table that a call went through.
-#[derive(Clone, Copy, Debug, PartialEq, Eq)]
+#[derive(Clone, Copy)]
 pub struct CallStep {
     pub state: CallState,
     pub event: CallEvent,
@@ -65,7 +56,7 @@ pub struct CallStep {
 pub type CallSteps = Sequence<CallStep>;
 
 /// The PPP link of an LNS's call, which ends there (RFC 1661).
-#[derive(Clone, Copy, Debug)]
+#[derive(Clone, Copy)]
 pub struct Link {
     pub lcp: LcpEnd,
     /// Whether LCP was opened in the call before: frames of the network pass.
@@ -73,7 +64,7 @@ pub struct Link {
 }
 
 /// A call of an end (RFC 2661 section 1.2).
-#[derive(Debug, Drop)]
+#[derive(Drop)]
 pub struct Call {
     /// The session id that the other end assigned, 0 while it isn't known.
     pub remote: u16,
@@ -90,7 +81,7 @@ pub struct Call {
 }
 
 /// What the data plane sees of a session id.
-#[derive(Clone, Copy, Debug, PartialEq, Eq)]
+#[derive(Clone, Copy)]
 pub enum Look {
     /// No call that the other end knows has it.
     Unborn,
@@ -104,7 +95,7 @@ pub enum Look {
 }
 
 /// What a step changes in the looks.
-#[derive(Clone, Copy, Debug, PartialEq, Eq)]
+#[derive(Clone, Copy)]
 pub enum CellChange {
     /// The other end comes to know the call: it goes to this peer, in the tunnel with this local id.
     Bind {
@@ -126,7 +117,7 @@ pub enum CellChange {
 pub type CellChanges = Sequence<CellChange>;
 
 /// Where a live call is, and what the data plane sees of it.
-#[derive(Clone, Copy, Debug, PartialEq, Eq)]
+#[derive(Clone, Copy)]
 pub struct CallPlace {
     /// The local id of its tunnel.
     pub tunnel: u16,

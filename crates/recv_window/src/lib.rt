@@ -20,7 +20,7 @@ pub enum Class {
 
 /// The number of the message that is expected next. It counts on without end, modulo 2^64; on the wire it stands modulo
 /// 65536.
-#[derive(Clone, Copy, Debug)]
+#[derive(Clone, Copy)]
 pub struct Inbox {
     taken: u64,
 }

@@ -11,7 +11,7 @@ use Rattle.protocol_model.specs.Texts.{Entry}
 use Rattle.protocol_model.specs.declared.event.Event.{Event}
 use Rattle.protocol_model.specs.declared.moves.Move.{Move}
 use Rattle.protocol_model.specs.declared.tunnel.Call.{Call}
-use Rattle.protocol_model.specs.declared.tunnel.Role.{Role}
+use Rattle.end_names.specs.declared.role.Role.{Role}
 use Rattle.protocol_model.specs.Secrets.{uncovered_event}
 use Rattle.protocol_model.specs.End.{End, Stepped, step}
 use Rattle.protocol_model.specs.World.{World, Node, Sender, Deed, Lined, told_line, new_node, with_node, block_of}

@@ -10,9 +10,9 @@ use Rattle.protocol_model.specs.declared.moves.Added.{Added}
 use Rattle.protocol_model.specs.declared.moves.Replied.{Replied}
 use Rattle.protocol_model.specs.declared.moves.Move.{Move}
 use Rattle.protocol_model.specs.declared.moves.Move.TheVariants as move
-use Rattle.protocol_model.specs.declared.tunnel.Role.{Role}
-use Rattle.protocol_model.specs.declared.tunnel.Role.TheVariants.{Lns}
-use Rattle.protocol_model.specs.Names.{node_of}
+use Rattle.end_names.specs.declared.role.Role.{Role}
+use Rattle.end_names.specs.declared.role.Role.TheVariants.{Lns}
+use Rattle.end_names.specs.Names.{node_of}
 use Rattle.protocol_model.specs.End.{End}
 use Rattle.protocol_model.specs.World.{World, Node, Sender, birth_in, birth_of, is_born, with_birth, moved, moved_all}
 use Rattle.step_laws.specs.Moves.{Adds, Replies, Does, Chain}

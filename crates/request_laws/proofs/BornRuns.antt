@@ -14,9 +14,9 @@ use Rattle.protocol_model.specs.declared.out.Origin.TheVariants as origin
 use Rattle.protocol_model.specs.declared.packet.Packet.{Packet}
 use Rattle.protocol_model.specs.declared.moves.Replied.{Replied}
 use Rattle.protocol_model.specs.declared.moves.Move.TheVariants as move
-use Rattle.protocol_model.specs.declared.tunnel.Role.{Role}
-use Rattle.protocol_model.specs.declared.tunnel.Role.TheVariants.{Lns}
-use Rattle.protocol_model.specs.Names.{address_of, node_of}
+use Rattle.end_names.specs.declared.role.Role.{Role}
+use Rattle.end_names.specs.declared.role.Role.TheVariants.{Lns}
+use Rattle.end_names.specs.Names.{address_of, node_of}
 use Rattle.protocol_model.specs.Secrets.{uncovered_event}
 use Rattle.protocol_model.specs.End.{End, Stepped, step}
 use Rattle.protocol_model.specs.World.{World, Node, Sender, Deed, Lined, told_line, new_node, with_node, block_of, sender_of}

@@ -12,9 +12,9 @@ use Rattle.protocol_model.specs.declared.event.Event.TheVariants as event
 use Rattle.protocol_model.specs.declared.packet.Packet.{Packet}
 use Rattle.protocol_model.specs.declared.refusal.Refusal.{Refusal}
 use Rattle.protocol_model.specs.declared.refusal.Refusal.TheVariants.{Unfit}
-use Rattle.protocol_model.specs.declared.tunnel.Role.{Role}
-use Rattle.protocol_model.specs.declared.tunnel.Role.TheVariants as role
-use Rattle.protocol_model.specs.Names.{address_of}
+use Rattle.end_names.specs.declared.role.Role.{Role}
+use Rattle.end_names.specs.declared.role.Role.TheVariants as role
+use Rattle.end_names.specs.Names.{address_of}
 use Rattle.protocol_model.specs.Secrets.{uncovered_datagram, uncovered_event}
 use Rattle.protocol_model.specs.End.{new_end, step}
 use Rattle.protocol_model.specs.Access.{Access}

@@ -7,7 +7,7 @@ use Rattle.protocol_model.specs.declared.moves.Move.{Move}
 use Rattle.protocol_model.specs.declared.moves.Move.TheVariants as move
 use Rattle.protocol_model.specs.declared.out.Out.{Out}
 use Rattle.protocol_model.specs.declared.out.Out.TheVariants.{Send, Up, Gone, Drop, Cause}
-use Rattle.protocol_model.specs.Names.{node_of}
+use Rattle.end_names.specs.Names.{node_of}
 use Rattle.protocol_model.specs.End.{End, Stepped}
 use Rattle.protocol_model.specs.World.{World, Node, Sender, with_node, is_born, with_birth, birth_of, moved, moved_all, sent, shown, shown_all, given, after_step}
 use Rattle.request_laws.proofs.Deeds.{deeds}

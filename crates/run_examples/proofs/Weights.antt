@@ -9,10 +9,10 @@ use Rattle.protocol_model.specs.declared.event.Event.TheVariants.{Datagram, Ring
 use Rattle.protocol_model.specs.declared.tunnel.CallPlace.{CallPlace}
 use Rattle.protocol_model.specs.declared.tunnel.Look.{Look}
 use Rattle.protocol_model.specs.declared.tunnel.Look.TheVariants as look
-use Rattle.protocol_model.specs.declared.tunnel.Role.{Role}
-use Rattle.protocol_model.specs.declared.tunnel.Role.TheVariants as role
+use Rattle.end_names.specs.declared.role.Role.{Role}
+use Rattle.end_names.specs.declared.role.Role.TheVariants as role
 use Rattle.protocol_model.specs.Calls.{is_lcp}
-use Rattle.protocol_model.specs.Names.{address_of}
+use Rattle.end_names.specs.Names.{address_of}
 use Rattle.step_laws.specs.Links.{Passes, AsAll, AsLcp}
 use Rattle.step_laws.specs.Steps.{IsChain}
 use Rattle.run_examples.specs.Messages.{settled}

@@ -22,8 +22,8 @@ use Rattle.protocol_model.specs.declared.out.Origin.TheVariants as origin
 use Rattle.protocol_model.specs.declared.tunnel.Call.{Call}
 use Rattle.protocol_model.specs.declared.tunnel.Look.{Look}
 use Rattle.protocol_model.specs.declared.tunnel.Look.TheVariants as look
-use Rattle.protocol_model.specs.declared.tunnel.Role.TheVariants as role
-use Rattle.protocol_model.specs.Names.{subscriber, address_of, calling_number}
+use Rattle.end_names.specs.declared.role.Role.TheVariants as role
+use Rattle.end_names.specs.Names.{subscriber, address_of, calling_number}
 use Rattle.protocol_model.specs.Turn.{opening_of}
 use Rattle.protocol_model.specs.End.{End, new_end, step}
 use Rattle.protocol_model.specs.World.{config_of}

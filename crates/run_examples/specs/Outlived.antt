@@ -13,8 +13,8 @@ use Rattle.protocol_model.specs.declared.out.Origin.TheVariants as origin
 use Rattle.protocol_model.specs.declared.packet.Packet.{Packet}
 use Rattle.protocol_model.specs.declared.refusal.Refusal.{Refusal}
 use Rattle.protocol_model.specs.declared.refusal.Refusal.TheVariants.{HalfSpace}
-use Rattle.protocol_model.specs.declared.tunnel.Role.TheVariants as role
-use Rattle.protocol_model.specs.Names.{address_of}
+use Rattle.end_names.specs.declared.role.Role.TheVariants as role
+use Rattle.end_names.specs.Names.{address_of}
 use Rattle.protocol_model.specs.End.{End, new_end, step}
 use Rattle.protocol_model.specs.Texts.{Entry, Sends}
 use Rattle.protocol_model.specs.World.{World, Lined, config_of, empty_world, line}

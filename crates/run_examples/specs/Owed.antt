@@ -14,8 +14,8 @@ use Rattle.protocol_model.specs.declared.tunnel.Call.{Call}
 use Rattle.protocol_model.specs.declared.tunnel.CallPlace.{CallPlace}
 use Rattle.protocol_model.specs.declared.tunnel.Control.{Control}
 use Rattle.protocol_model.specs.declared.tunnel.Look.TheVariants as look
-use Rattle.protocol_model.specs.declared.tunnel.Role.TheVariants as role
-use Rattle.protocol_model.specs.Names.{subscriber, address_of}
+use Rattle.end_names.specs.declared.role.Role.TheVariants as role
+use Rattle.end_names.specs.Names.{subscriber, address_of}
 use Rattle.protocol_model.specs.Turn.{rings_by, settles, turn_of}
 use Rattle.protocol_model.specs.End.{End, new_end, whole_space, env_of, after_turn, step}
 use Rattle.protocol_model.specs.World.{config_of}

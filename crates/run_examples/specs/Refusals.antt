@@ -4,7 +4,7 @@ use Rattle.wire_base.specs.declared.cause.Cause.TheVariants.{State}
 use Rattle.schedule_text.specs.declared.line.Line.{Line}
 use Rattle.schedule_text.specs.declared.line.Line.TheVariants.{Lac, OpenUp, Ring, Deliver}
 use Rattle.control_message.specs.declared.message.Message.TheVariants.{Icrq, Cdn}
-use Rattle.protocol_model.specs.Names.{subscriber, calling_number}
+use Rattle.end_names.specs.Names.{subscriber, calling_number}
 use Rattle.protocol_model.specs.Texts.{Ends, Causes}
 use Rattle.protocol_model.specs.Run.{run, tables}
 use Rattle.run_examples.specs.Entries.{entries_since, message, acknowledgement}

@@ -18,9 +18,9 @@ use Rattle.protocol_model.specs.declared.out.Out.TheVariants.{Send, Up, Drop, Ca
 use Rattle.protocol_model.specs.declared.out.Origin.TheVariants as origin
 use Rattle.protocol_model.specs.declared.tunnel.Look.{Look}
 use Rattle.protocol_model.specs.declared.tunnel.Look.TheVariants.{Bound, Established}
-use Rattle.protocol_model.specs.declared.tunnel.Role.{Role}
-use Rattle.protocol_model.specs.declared.tunnel.Role.TheVariants as role
-use Rattle.protocol_model.specs.Names.{address_of}
+use Rattle.end_names.specs.declared.role.Role.{Role}
+use Rattle.end_names.specs.declared.role.Role.TheVariants as role
+use Rattle.end_names.specs.Names.{address_of}
 use Rattle.protocol_model.specs.Calls.{Carried, Upward, Dropped, side_of}
 use Rattle.protocol_model.specs.End.{End, Stepped, new_end, env_of, handed, step}
 use Rattle.protocol_model.specs.World.{config_of}

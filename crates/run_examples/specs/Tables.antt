@@ -3,8 +3,8 @@ use Rattle.std.specs.Prelude.{◌≡◌, ℕ, List, [], ◌∷◌, ◌++◌, cod
 use Rattle.lcp_end.specs.Steps.{fresh}
 use Rattle.tunnel_fsm.specs.declared.table.TunnelState.TheVariants as states
 use Rattle.call_fsm.specs.declared.table.CallState.TheVariants.{Established, WaitReply}
-use Rattle.protocol_model.specs.declared.tunnel.Role.TheVariants as role
-use Rattle.protocol_model.specs.Names.{subscriber, address_of}
+use Rattle.end_names.specs.declared.role.Role.TheVariants as role
+use Rattle.end_names.specs.Names.{subscriber, address_of}
 use Rattle.protocol_model.specs.Turn.{Tunnel}
 use Rattle.protocol_model.specs.End.{new_end}
 use Rattle.protocol_model.specs.World.{World, Node, config_of, empty_world}

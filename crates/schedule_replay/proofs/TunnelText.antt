@@ -3,7 +3,7 @@ use Rattle.std.proofs.Common.{◌≡◌, ℕ, List, ◌++◌, codes, append_asso
 use Rattle.std.specs.Fmt.{decimal}
 use Rattle.tunnel_fsm.specs.Words.{state_word}
 use Rattle.protocol_model.specs.declared.tunnel.Control.{Control}
-use Rattle.protocol_model.specs.Names.{node_of}
+use Rattle.end_names.specs.Names.{node_of}
 use Rattle.protocol_model.specs.Texts.{◌&◌, ended}
 use Rattle.protocol_model.specs.Run.{tunnel_text}
 

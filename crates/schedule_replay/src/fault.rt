@@ -4,7 +4,7 @@ use protocol_model::Refusal;
 use wire_base::{NoMemory as OutOfMemory, Why};
 
 /// Why a line isn't run.
-#[derive(Clone, Copy, Debug, PartialEq, Eq)]
+#[derive(Clone, Copy)]
 pub enum LineFault {
     /// The line is refused. The world is as before.
     Refused { refusal: Refusal },

@@ -12,7 +12,7 @@ use std::alloc::Global;
 use wire_base::{Bytes, NoMemory};
 
 /// What a run leaves.
-#[derive(Debug, Drop)]
+#[derive(Drop)]
 pub struct Replayed {
     /// The report: of all lines and the tables at the end; or of the lines before one that is refused, and the text that
     /// tells it.

@@ -3,7 +3,7 @@
 ghost use Rattle.std.specs.Prelude.{◌≡◌, ◌≤◌, ◌++◌, codes, length, OnOk};
 ghost use Rattle.std.specs.Fmt.{decimal};
 ghost use Rattle.hex.specs.Hex.{encode_lower};
-ghost use Rattle.protocol_model.specs.Names.{node_of};
+ghost use Rattle.end_names.specs.Names.{node_of};
 ghost use Rattle.protocol_model.specs.Texts.{◌&◌, send_text, side_word, up_text, gone_text, frame_text, farewell_text, drop_text, cause_text};
 ghost use Rattle.protocol_model.specs.Run.{tunnel_text, call_text, agree_text, unfit_text, half_space_text, refusal_text};
 

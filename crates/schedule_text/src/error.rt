@@ -6,7 +6,7 @@ ghost use Rattle.schedule_text.specs.declared.error.ScheduleError.TheVariants as
 use wire_base::NoMemory as OutOfMemory;
 
 /// Why no schedule was read.
-#[derive(Clone, Copy, Debug, PartialEq, Eq)]
+#[derive(Clone, Copy, Debug)]
 pub enum ScheduleError {
     /// The first line that isn't in the grammar. Lines count from 1.
     BadLine { line: u64 },

@@ -4,7 +4,7 @@ ghost use Rattle.std.specs.Prelude.{◌≡◌, ◌<◌, ◌≤◌};
 ghost use Rattle.send_window.specs.Congestion.{grown, wider, times_grown, halved, learnt, opened, IsOpen};
 
 /// The congestion window of a channel, in letters, with what moves it.
-#[derive(Clone, Copy, Debug)]
+#[derive(Clone, Copy)]
 pub struct Congestion {
     /// The receive window that the peer advertised. It isn't 0.
     pub peer_window: u16,

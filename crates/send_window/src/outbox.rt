@@ -11,7 +11,7 @@ use std::marker::Model;
 use wire_base::{Letter, NoMemory};
 
 /// Why a letter isn't taken.
-#[derive(Clone, Copy, Debug, PartialEq, Eq)]
+#[derive(Clone, Copy, Debug)]
 pub enum PutError {
     /// As many letters as a channel may hold are unacknowledged or unsent.
     QueueFull { limit: usize },

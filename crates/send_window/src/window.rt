@@ -13,7 +13,7 @@ pub const LIMIT: usize = 8192;
 const REPETITIONS: u8 = 5;
 
 /// What the timer asks for.
-#[derive(Clone, Copy, Debug, PartialEq, Eq)]
+#[derive(Clone, Copy, Debug)]
 pub enum Tick {
     /// Nothing is due.
     Quiet,
@@ -26,7 +26,7 @@ pub enum Tick {
 /// The numbers of a channel's letters, with the window and the timer. It is an `Outbox` without its letters, on a copy of
 /// which a step can be tried out. Numbers count on without end, modulo 2^64; on the wire they stand modulo 65536. Moments
 /// are in milliseconds; where a given one is below a kept one, no time has passed.
-#[derive(Clone, Copy, Debug)]
+#[derive(Clone, Copy)]
 pub struct SendWindow {
     acked: u64,
     queued: usize,

@@ -18,7 +18,7 @@ const TUNNELS: usize = 1024;
 const CALLS: usize = 4096;
 
 /// Why contents make no book.
-#[derive(Clone, Copy, Debug, PartialEq, Eq)]
+#[derive(Clone, Copy)]
 pub enum BookError {
     /// The first content, counted from 0, that isn't in place after those before it.
     BadRecord { at: usize },

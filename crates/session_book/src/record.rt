@@ -6,7 +6,7 @@ ghost use Rattle.session_book.specs.Records.{number, is_zero_from, ceiling_of, t
 use byteorder::{BigEndian, ByteOrder};
 
 /// An established tunnel, as its end's book has it.
-#[derive(Clone, Copy, Debug, PartialEq, Eq)]
+#[derive(Clone, Copy, PartialEq, Eq)]
 pub struct BookTunnel {
     /// The tunnel id that this end assigned, and the one that the other end assigned (RFC 2661 section 3.1).
     pub local: u16,
@@ -22,7 +22,7 @@ pub struct BookTunnel {
 }
 
 /// An established call, as its end's book has it.
-#[derive(Clone, Copy, Debug, PartialEq, Eq)]
+#[derive(Clone, Copy, PartialEq, Eq)]
 pub struct BookCall {
     /// The session id that this end assigned.
     pub local: u16,
@@ -43,7 +43,7 @@ pub type KeptTunnels = Vec<BookTunnel>;
 pub type KeptCalls = Vec<BookCall>;
 
 /// A record of a checkpoint.
-#[derive(Clone, Copy, Debug, PartialEq, Eq)]
+#[derive(Clone, Copy)]
 pub enum Record {
     /// A space of ids may draw up to this number: space 1 has the tunnel ids, 2 the session ids, 3 the draw numbers.
     Ceiling { space: u8, number: u32 },

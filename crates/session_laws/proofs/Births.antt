@@ -3,9 +3,9 @@ use Rattle.std.proofs.Common.{◌≡◌, ℕ, ◌+◌, ◌<◌, ◌≤◌, refl,
 use Rattle.protocol_model.specs.declared.moves.Replied.{Replied}
 use Rattle.protocol_model.specs.declared.moves.Move.{Move}
 use Rattle.protocol_model.specs.declared.moves.Move.TheVariants as move
-use Rattle.protocol_model.specs.declared.tunnel.Role.{Role}
-use Rattle.protocol_model.specs.declared.tunnel.Role.TheVariants.{Lac, Lns}
-use Rattle.protocol_model.specs.Names.{node_of}
+use Rattle.end_names.specs.declared.role.Role.{Role}
+use Rattle.end_names.specs.declared.role.Role.TheVariants.{Lac, Lns}
+use Rattle.end_names.specs.Names.{node_of}
 use Rattle.protocol_model.specs.End.{End}
 use Rattle.epoch_machine.specs.Calls as calls
 use Rattle.epoch_machine.specs.Worlds as machine

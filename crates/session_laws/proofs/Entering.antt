@@ -4,7 +4,7 @@ use Rattle.id_table.specs.Order.{same_or_not}
 use Rattle.protocol_model.specs.declared.moves.Place.{Place}
 use Rattle.protocol_model.specs.declared.moves.Move.{Move}
 use Rattle.protocol_model.specs.declared.moves.Move.TheVariants as move
-use Rattle.protocol_model.specs.declared.tunnel.Role.{Role}
+use Rattle.end_names.specs.declared.role.Role.{Role}
 use Rattle.protocol_model.specs.End.{End}
 use Rattle.protocol_model.specs.World.{Sender, Deed, config_of}
 use Rattle.step_laws.specs.Letters as step

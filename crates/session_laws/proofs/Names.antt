@@ -1,6 +1,6 @@
 -- Names of tunnels and calls are one to one, and what is assigned at a name.
 use Rattle.std.proofs.Common.{◌≡◌, ℕ, ◌<◌, refl, arith, eq-eqb, ne_eqb}
-use Rattle.protocol_model.specs.Names.{address_of, node_of}
+use Rattle.end_names.specs.Names.{address_of, node_of}
 use Rattle.epoch_machine.specs.Names.{assign}
 use Rattle.session_laws.specs.Names.{name, name_of}
 

@@ -7,7 +7,7 @@ use Rattle.control_message.specs.declared.message.Message.TheVariants.{Icrq, Icr
 use Rattle.protocol_model.specs.declared.event.Event.{Event}
 use Rattle.protocol_model.specs.declared.moves.Refused.{Refused}
 use Rattle.protocol_model.specs.declared.moves.Move.TheVariants as move
-use Rattle.protocol_model.specs.declared.tunnel.Role.TheVariants.{Lns}
+use Rattle.end_names.specs.declared.role.Role.TheVariants.{Lns}
 use Rattle.protocol_model.specs.Reading.{body_of, message_in, CallFault, call_fault_in}
 use Rattle.protocol_model.specs.Turn.{Tunnel, counts_taken, is_closed}
 use Rattle.protocol_model.specs.End.{End}

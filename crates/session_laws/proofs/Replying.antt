@@ -11,7 +11,7 @@ use Rattle.protocol_model.specs.declared.event.Event.{Event}
 use Rattle.protocol_model.specs.declared.moves.Replied.{Replied}
 use Rattle.protocol_model.specs.declared.moves.Move.TheVariants as move
 use Rattle.protocol_model.specs.declared.tunnel.Call.{Call}
-use Rattle.protocol_model.specs.Names.{node_of}
+use Rattle.end_names.specs.Names.{node_of}
 use Rattle.protocol_model.specs.Calls.{call_row, asked_for}
 use Rattle.protocol_model.specs.Turn.{Tunnel, counts_taken}
 use Rattle.protocol_model.specs.End.{End}

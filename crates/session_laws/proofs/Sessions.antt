@@ -8,10 +8,10 @@ use Rattle.tunnel_fsm.specs.Rows.{state_number}
 use Rattle.control_channel.specs.Numbers.{next_given}
 use Rattle.schedule_text.specs.declared.line.Line.{Line}
 use Rattle.schedule_text.specs.Grammar.{AreLines}
-use Rattle.protocol_model.specs.declared.tunnel.Role.{Role}
-use Rattle.protocol_model.specs.declared.tunnel.Role.TheVariants.{Lac, Lns}
+use Rattle.end_names.specs.declared.role.Role.{Role}
+use Rattle.end_names.specs.declared.role.Role.TheVariants.{Lac, Lns}
 use Rattle.protocol_model.specs.Calls.{is_lac}
-use Rattle.protocol_model.specs.Names.{node_of}
+use Rattle.end_names.specs.Names.{node_of}
 use Rattle.protocol_model.specs.Turn.{Tunnel}
 use Rattle.protocol_model.specs.World.{World, Node, birth_of}
 use Rattle.protocol_model.specs.Run.{Run, run, empty_run, partner_of, lns_tunnel, agree}

@@ -5,8 +5,8 @@ use Rattle.protocol_model.specs.declared.event.Event.{Event}
 use Rattle.protocol_model.specs.declared.event.Event.TheVariants.{Datagram, Ring, Frame, Admitted, Payload, Lower, Lcp, Hang, OpenTunnel, DropCall, CloseTunnel, Tick}
 use Rattle.protocol_model.specs.declared.tunnel.Call.{Call}
 use Rattle.protocol_model.specs.declared.tunnel.Config.{Config}
-use Rattle.protocol_model.specs.declared.tunnel.Role.{Role}
-use Rattle.protocol_model.specs.Names.{subscriber}
+use Rattle.end_names.specs.declared.role.Role.{Role}
+use Rattle.end_names.specs.Names.{subscriber}
 use Rattle.protocol_model.specs.Turn.{Turn, turns, rings, settles}
 use Rattle.step_laws.specs.Callers.{IsRing}
 

@@ -17,8 +17,8 @@ use Rattle.call_fsm.specs.declared.table.CallState.TheVariants as call
 use Rattle.call_fsm.specs.declared.table.CallAction.{CallAction}
 use Rattle.call_fsm.specs.declared.table.CallAction.TheVariants as call_action
 use Rattle.protocol_model.specs.declared.tunnel.Call.{Call}
-use Rattle.protocol_model.specs.declared.tunnel.Role.{Role}
-use Rattle.protocol_model.specs.declared.tunnel.Role.TheVariants.{Lac, Lns}
+use Rattle.end_names.specs.declared.role.Role.{Role}
+use Rattle.end_names.specs.declared.role.Role.TheVariants.{Lac, Lns}
 use Rattle.protocol_model.specs.declared.event.Event.{Event}
 use Rattle.protocol_model.specs.declared.moves.Refused.{Refused}
 use Rattle.protocol_model.specs.Reading.{body_of, message_in, call_fault_in}

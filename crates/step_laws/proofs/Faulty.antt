@@ -15,8 +15,8 @@ use Rattle.call_fsm.specs.declared.table.CallEvent.{CallEvent}
 use Rattle.call_fsm.specs.declared.table.CallEvent.TheVariants as call_event
 use Rattle.call_fsm.specs.declared.table.CallState.TheVariants as call
 use Rattle.protocol_model.specs.declared.tunnel.Call.{Call}
-use Rattle.protocol_model.specs.declared.tunnel.Role.{Role}
-use Rattle.protocol_model.specs.declared.tunnel.Role.TheVariants.{Lac, Lns}
+use Rattle.end_names.specs.declared.role.Role.{Role}
+use Rattle.end_names.specs.declared.role.Role.TheVariants.{Lac, Lns}
 use Rattle.protocol_model.specs.declared.event.Event.{Event}
 use Rattle.protocol_model.specs.Reading.{body_of, message_in, CallFault, call_fault_in}
 use Rattle.protocol_model.specs.Calls.{call_row}

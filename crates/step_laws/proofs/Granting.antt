@@ -9,8 +9,8 @@ use Rattle.wire_base.specs.declared.cause.Cause.TheVariants as cause
 use Rattle.call_fsm.specs.declared.table.CallEvent.TheVariants as call_event
 use Rattle.call_fsm.specs.declared.table.CallState.TheVariants as call
 use Rattle.protocol_model.specs.declared.event.Event.TheVariants.{Tick}
-use Rattle.protocol_model.specs.declared.tunnel.Role.{Role}
-use Rattle.protocol_model.specs.declared.tunnel.Role.TheVariants.{Lac, Lns}
+use Rattle.end_names.specs.declared.role.Role.{Role}
+use Rattle.end_names.specs.declared.role.Role.TheVariants.{Lac, Lns}
 use Rattle.protocol_model.specs.Calls.{call_row, is_reply, are_too_many}
 use Rattle.protocol_model.specs.Turn.{Tunnel, Reason, reason, out_of_state, call_of, left_of, granted}
 use Rattle.protocol_model.specs.End.{End}

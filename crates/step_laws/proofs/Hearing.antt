@@ -27,7 +27,7 @@ use Rattle.tunnel_fsm.specs.declared.table.TunnelAction.TheVariants as action
 use Rattle.tunnel_fsm.specs.Rows.{rows, row_of, state_number}
 use Rattle.protocol_model.specs.declared.tunnel.Call.{Call}
 use Rattle.protocol_model.specs.declared.tunnel.Config.{Config}
-use Rattle.protocol_model.specs.declared.tunnel.Role.TheVariants.{Lac}
+use Rattle.end_names.specs.declared.role.Role.TheVariants.{Lac}
 use Rattle.protocol_model.specs.declared.event.Event.{Event}
 use Rattle.protocol_model.specs.declared.event.Event.TheVariants.{Datagram, Ring}
 use Rattle.protocol_model.specs.Reading.{body_of, message_in, call_fault_in, tunnel_fault_in}

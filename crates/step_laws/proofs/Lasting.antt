@@ -20,7 +20,7 @@ use Rattle.call_fsm.specs.declared.table.CallEvent.TheVariants as call_event
 use Rattle.protocol_model.specs.declared.tunnel.Call.{Call}
 use Rattle.protocol_model.specs.declared.tunnel.Control.{Control}
 use Rattle.protocol_model.specs.declared.tunnel.Link.{Link}
-use Rattle.protocol_model.specs.declared.tunnel.Role.{Role}
+use Rattle.end_names.specs.declared.role.Role.{Role}
 use Rattle.lcp_end.specs.Laws.{Call as LcpCall, OnTick, after as lcp_after}
 use Rattle.lcp_end.specs.Steps.{is_due}
 use Rattle.protocol_model.specs.declared.event.Event.TheVariants.{Tick}

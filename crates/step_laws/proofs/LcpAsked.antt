@@ -9,7 +9,7 @@ use Rattle.call_fsm.specs.declared.table.CallEvent.TheVariants as call_event
 use Rattle.lcp_end.specs.Laws.{Call as LcpCall, OnPacket, after as lcp_after}
 use Rattle.protocol_model.specs.declared.tunnel.Call.{Call}
 use Rattle.protocol_model.specs.declared.tunnel.Link.{Link}
-use Rattle.protocol_model.specs.declared.tunnel.Role.{Role}
+use Rattle.end_names.specs.declared.role.Role.{Role}
 use Rattle.protocol_model.specs.Calls.{call_row, is_up}
 use Rattle.protocol_model.specs.Turn.{Turn, ends_by, links, hears_link, hears_lcp}
 use Rattle.step_laws.proofs.Lists.{and_right, branch}

@@ -16,7 +16,7 @@ use Rattle.tunnel_fsm.specs.declared.table.TunnelState.TheVariants.{WaitCtlReply
 use Rattle.tunnel_fsm.specs.Rows.{state_number}
 use Rattle.call_fsm.specs.declared.table.CallEvent.TheVariants as call_event
 use Rattle.protocol_model.specs.declared.event.Event.{Event}
-use Rattle.protocol_model.specs.declared.tunnel.Role.TheVariants.{Lac}
+use Rattle.end_names.specs.declared.role.Role.TheVariants.{Lac}
 use Rattle.protocol_model.specs.declared.event.Event.TheVariants.{Ring}
 use Rattle.protocol_model.specs.declared.out.Out.TheVariants.{Cause}
 use Rattle.protocol_model.specs.Calls.{call_row, advanced, rung, is_request, are_too_many}

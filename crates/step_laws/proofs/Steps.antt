@@ -1,5 +1,5 @@
 -- Each step of an end is a chain of moves.
-use Rattle.protocol_model.specs.Names.{subscriber}
+use Rattle.end_names.specs.Names.{subscriber}
 use Rattle.step_laws.specs.Callers.{IsRing}
 use Rattle.std.proofs.Common.{◌≡◌, ◌⊎◌, inl, inr, ℕ, Bool, true, false, List, [], ◌∷◌, length, refl, sym, ap, ◌∙◌, subst, Option, Some, None, Result, Ok, Err}
 use Rattle.std.proofs.lemmas.Bool.{eqb-true, true≢false}
@@ -18,8 +18,8 @@ use Rattle.tunnel_fsm.specs.Rows.{state_number}
 use Rattle.protocol_model.specs.declared.tunnel.CallPlace.{CallPlace}
 use Rattle.protocol_model.specs.declared.tunnel.Look.{Look}
 use Rattle.protocol_model.specs.declared.tunnel.Look.TheVariants as look
-use Rattle.protocol_model.specs.declared.tunnel.Role.{Role}
-use Rattle.protocol_model.specs.declared.tunnel.Role.TheVariants.{Lac, Lns}
+use Rattle.end_names.specs.declared.role.Role.{Role}
+use Rattle.end_names.specs.declared.role.Role.TheVariants.{Lac, Lns}
 use Rattle.protocol_model.specs.declared.event.Addressee.{Addressee}
 use Rattle.protocol_model.specs.declared.event.Addressee.TheVariants.{Opens, Stops, Answers, Main, Nobody}
 use Rattle.protocol_model.specs.declared.event.Event.{Event}

@@ -1,6 +1,6 @@
 -- After a step no call waits in an open tunnel, since there is room for its request.
 use Rattle.step_laws.proofs.Callers.{turns_ring}
-use Rattle.protocol_model.specs.Names.{subscriber}
+use Rattle.end_names.specs.Names.{subscriber}
 use Rattle.step_laws.specs.Callers.{IsRing}
 use Rattle.std.proofs.Common.{◌≡◌, ◌⊎◌, inl, inr, ⊎_elim, ℕ, ◌<◌, false, List, [], refl, sym, ap, ◌∙◌, subst, Option, Some, None, Result, Ok, Err}
 use Rattle.std.proofs.lemmas.Bool.{true≢false}
@@ -16,8 +16,8 @@ use Rattle.tunnel_fsm.specs.declared.table.TunnelEvent.TheVariants as tunnel_eve
 use Rattle.tunnel_fsm.specs.Rows.{rows, row_of, state_number}
 use Rattle.protocol_model.specs.declared.tunnel.Call.{Call}
 use Rattle.protocol_model.specs.declared.tunnel.CallPlace.{CallPlace}
-use Rattle.protocol_model.specs.declared.tunnel.Role.{Role}
-use Rattle.protocol_model.specs.declared.tunnel.Role.TheVariants.{Lac, Lns}
+use Rattle.end_names.specs.declared.role.Role.{Role}
+use Rattle.end_names.specs.declared.role.Role.TheVariants.{Lac, Lns}
 use Rattle.wire_base.specs.declared.cause.Cause.TheVariants as cause
 use Rattle.call_fsm.specs.declared.table.CallState.TheVariants.{WaitTunnel}
 use Rattle.call_fsm.specs.declared.table.CallEvent.TheVariants as call_event

@@ -14,7 +14,7 @@ use Rattle.control_message.specs.Reading.{kind_of_pairs}
 use Rattle.tunnel_fsm.specs.declared.table.TunnelState.TheVariants.{WaitCtlReply, Established}
 use Rattle.tunnel_fsm.specs.Rows.{state_number}
 use Rattle.protocol_model.specs.declared.tunnel.Call.{Call}
-use Rattle.protocol_model.specs.declared.tunnel.Role.TheVariants.{Lac}
+use Rattle.end_names.specs.declared.role.Role.TheVariants.{Lac}
 use Rattle.protocol_model.specs.declared.event.Event.{Event}
 use Rattle.protocol_model.specs.declared.event.Event.TheVariants.{Ring}
 use Rattle.protocol_model.specs.declared.out.Out.{Out}

@@ -2,7 +2,7 @@
 use Rattle.std.specs.Prelude.{◌≡◌, ℕ, List, Option, Some, None}
 use Rattle.protocol_model.specs.declared.event.Event.{Event}
 use Rattle.protocol_model.specs.declared.event.Event.TheVariants.{Ring, Admitted}
-use Rattle.protocol_model.specs.Names.{subscriber}
+use Rattle.end_names.specs.Names.{subscriber}
 
 -- the subscriber of a port that rings, and a host that was admitted
 abbrev pub caller_of : Event → Option (List ℕ)

@@ -23,9 +23,9 @@ use Rattle.pppoe_discovery.specs.Told.{pads_to}
 use Rattle.protocol_model.specs.declared.event.Event.{Event}
 use Rattle.protocol_model.specs.declared.event.Event.TheVariants.{Payload, Hang, Admitted}
 use Rattle.protocol_model.specs.declared.event.Event.TheVariants as event
-use Rattle.protocol_model.specs.declared.tunnel.Role.TheVariants.{Lac}
+use Rattle.end_names.specs.declared.role.Role.TheVariants.{Lac}
 use Rattle.protocol_model.specs.declared.refusal.Refusal.{Refusal}
-use Rattle.protocol_model.specs.Names.{host_name, mac_of}
+use Rattle.end_names.specs.Names.{host_name, mac_of}
 use Rattle.protocol_model.specs.End.{End, step}
 use Rattle.protocol_model.specs.Texts.{Entry, Drops, Frames}
 use Rattle.protocol_model.specs.Access.{Access, Coming, Ignores, Answers, Runs, Enters, coming, led_to, about_call, of_call, wants_call, pads_of, entered}

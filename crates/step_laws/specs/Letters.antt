@@ -7,7 +7,7 @@ use Rattle.control_message.specs.declared.message.Message.TheVariants.{Sccrq, Sc
 use Rattle.recv_window.specs.Window.{on_wire}
 use Rattle.control_channel.specs.Numbers.{place_of}
 use Rattle.protocol_model.specs.declared.tunnel.Config.{Config}
-use Rattle.protocol_model.specs.declared.tunnel.Role.{Role}
+use Rattle.end_names.specs.declared.role.Role.{Role}
 use Rattle.protocol_model.specs.declared.out.Out.{Out}
 use Rattle.protocol_model.specs.declared.out.Out.TheVariants.{Send}
 use Rattle.protocol_model.specs.declared.out.Origin.{Origin}

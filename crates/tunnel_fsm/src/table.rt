@@ -8,7 +8,7 @@ ghost use Rattle.tunnel_fsm.specs.declared.table.TunnelEvent.{TunnelEvent};
 ghost use Rattle.tunnel_fsm.specs.declared.table.TunnelState.TheVariants as states;
 
 /// How far a tunnel is.
-#[derive(Clone, Copy, Debug, PartialEq, Eq)]
+#[derive(Clone, Copy)]
 pub enum TunnelState {
     Idle,
     WaitCtlReply,
@@ -33,7 +33,7 @@ impl TunnelState {
 }
 
 /// What comes to a tunnel. A message is acceptable, where no cause but its state stands against it, or not.
-#[derive(Clone, Copy, Debug, PartialEq, Eq)]
+#[derive(Clone, Copy, Debug)]
 pub enum TunnelEvent {
     LocalOpen,
     SccrqAcc,
@@ -47,7 +47,7 @@ pub enum TunnelEvent {
 }
 
 /// What the tunnel then does.
-#[derive(Clone, Copy, Debug, PartialEq, Eq)]
+#[derive(Clone, Copy)]
 pub enum TunnelAction {
     Nothing,
     SendSccrq,

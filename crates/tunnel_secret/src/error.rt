@@ -3,7 +3,7 @@
 use wire_base::NoMemory as OutOfMemory;
 
 /// Why a hidden value isn't revealed. It tells lengths alone, and nothing of the secret.
-#[derive(Clone, Copy, Debug, PartialEq, Eq)]
+#[derive(Clone, Copy, Debug)]
 pub enum UnhideError {
     /// The original length says so many bytes, and fewer stand behind it. Both are 0 where there are fewer than the two
     /// bytes of the length.

@@ -1,7 +1,7 @@
 use Rattle.std.proofs.Common.{◌≡◌, ℕ, ◌<◌, List, Option, Some, None, refl, arith, sym}
 use Rattle.std.specs.Option.{option_copied}
 use Rattle.wire_base.specs.declared.letter.Letter.{Letter}
-use Rattle.protocol_model.specs.declared.tunnel.Role.{Role}
+use Rattle.end_names.specs.declared.role.Role.{Role}
 use Rattle.protocol_model.specs.declared.tunnel.Call.{Call}
 use Rattle.protocol_model.specs.declared.tunnel.Link.{Link}
 use Rattle.protocol_model.specs.Turn.{Turn, limits_at, ticks_link}

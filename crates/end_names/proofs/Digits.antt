@@ -3,7 +3,7 @@ use Rattle.std.proofs.Common.{◌≡◌, ℕ, ◌++◌, List, length, replicate,
 use Rattle.std.proofs.lemmas.List.{length-take-le, length-append, length-replicate}
 use Rattle.hex.specs.Hex.{lower_digits}
 use Rattle.hex.proofs.HexLemmas.{length-encode_with}
-use Rattle.protocol_model.specs.Names.{six, calling_number}
+use Rattle.end_names.specs.Names.{six, calling_number}
 
 six_bytes : (who : List ℕ) → length (six who) ≡ 6
 six_bytes who =

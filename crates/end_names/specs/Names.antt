@@ -4,8 +4,8 @@ use Rattle.hex.specs.Hex.{encode_lower}
 use Rattle.wire_base.specs.Numbers.{u16_bytes}
 use Rattle.std.specs.Fmt.{decimal}
 use Rattle.std.proofs.lemmas.List.{take_at}
-use Rattle.protocol_model.specs.declared.tunnel.Role.{Role}
-use Rattle.protocol_model.specs.declared.tunnel.Role.TheVariants.{Lac, Lns}
+use Rattle.end_names.specs.declared.role.Role.{Role}
+use Rattle.end_names.specs.declared.role.Role.TheVariants.{Lac, Lns}
 
 abbrev pub role_name : Role → List ℕ
 role_name Lac = codes "lac"

@@ -1,9 +1,9 @@
 //! Host names and addresses of nodes.
 
 ghost use Rattle.std.specs.Prelude.{ℕ, ◌≡◌, ◌≤◌, List, length, IfOk};
-ghost use Rattle.protocol_model.specs.Names.{host_name, role_name, address_of, node_of, subscriber, mac_of, calling_number};
+ghost use Rattle.end_names.specs.Names.{host_name, role_name, address_of, node_of, subscriber, mac_of, calling_number};
 
-use crate::tunnel::Role;
+use crate::role::Role;
 use std::alloc::Global;
 use wire_base::{Bytes, NoMemory};
 
