@@ -1,14 +1,12 @@
 //! The world of a schedule: nodes over a network that may lose, repeat and reorder, and the report of a run.
 #![tactic(auto)]
 
-mod age;
 mod fault;
 mod kinds;
 mod node;
 mod replaying;
 mod state;
 mod tables;
-mod texts;
 mod world;
 
 pub use fault::LineFault;

@@ -4,9 +4,9 @@ ghost use Rattle.std.specs.Prelude.{◌≡◌, ◌++◌, IfOk, Some};
 ghost use Rattle.protocol_model.specs.Run.{run, report_of, refusal_text};
 
 use crate::fault::LineFault;
-use crate::texts::push_refusal;
 use crate::world::World;
 use protocol_model::Refusal;
+use report_text::push_refusal;
 use schedule_text::Line;
 use std::alloc::Global;
 use wire_base::{Bytes, NoMemory};

@@ -9,16 +9,15 @@ ghost use Rattle.schedule_replay.specs.Fault.{new_told, Leads, LeadsTo, Says};
 ghost use Rattle.schedule_replay.specs.Serving.{served_at, reply_entries, IsPlain};
 ghost use Rattle.schedule_replay.specs.Kinds.{of_role, fitting};
 
-use crate::age::too_old;
 use crate::fault::LineFault;
 use crate::node::{Node, config_of, copy_secret, count_at};
 use crate::tables::{push_agreement_table, push_end_table};
-use crate::texts::{
-    push_cause, push_drop, push_farewell, push_frame, push_gone, push_send, push_up,
-};
 use byteorder::{BigEndian, ByteOrder};
 use id_table::Table;
 use protocol_model::{Event, Move, Origin, Out, Packet, Refusal, Role, address_of, node_of};
+use report_text::{
+    push_cause, push_drop, push_farewell, push_frame, push_gone, push_send, push_up, too_old,
+};
 use schedule_text::Line;
 use std::alloc::Global;
 use std::marker::Model;

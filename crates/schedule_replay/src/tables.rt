@@ -7,13 +7,11 @@ ghost use Rattle.protocol_model.specs.Run.{call_table, tunnel_line, node_table, 
 ghost use Rattle.tunnel_core.specs.Cores.{tunnel_of};
 
 use crate::node::{Node, count_at};
-use crate::texts::{push_agree, push_call, push_tunnel};
-use call_fsm::CallState;
 use id_table::Table;
 use protocol_model::{Call, Control, node_of};
+use report_text::{agree, push_agree, push_call, push_tunnel, session_count};
 use std::alloc::Global;
 use tunnel_core::TunnelCore;
-use tunnel_fsm::TunnelState;
 use wire_base::{Bytes, NoMemory};
 
 /// The calls of a tunnel, by local id.
@@ -96,44 +94,6 @@ fn partner<'a>(nodes: &'a Table<Node>, tunnel: &Control) -> Option<&'a TunnelCor
         return None;
     }
     node.end.end().tunnel(u32::from(tunnel.remote))
-}
-
-/// Whether two tunnels have learned each other, are established, and each took all that the other was given to send.
-#[tactic(auto, unfolding(protocol_model::specs::Run::agree))]
-fn agree(node: u32, tunnel: &Control, partner: &Control) -> bool
-    ensures { result ≡ agree node tunnel.now partner.now }
-{
-    tunnel.state == TunnelState::Established
-        && partner.state == TunnelState::Established
-        && partner.remote == tunnel.local
-        && u32::from(node_of(partner.peer)) == node
-        && partner.channel.taken_count() == tunnel.channel.sent_count()
-        && tunnel.channel.taken_count() == partner.channel.sent_count()
-}
-
-/// Whether a call is there and is up.
-fn is_session(calls: &Table<Call>, session: u32) -> bool
-    ensures { result ≡ is_session (at calls.now.entries session) }
-{
-    match calls.get(session) {
-        Some(call) => call.state == CallState::Established,
-        None => false,
-    }
-}
-
-/// How many sessions a tunnel has.
-#[tactic(auto, unfolding(protocol_model::specs::Run::session_count))]
-fn session_count(alloc: Global, calls: &Table<Call>) -> Result<usize, NoMemory>
-    ensures { IfOk result (λ n. n ≡ session_count calls.now.entries) }
-{
-    let sessions = calls.ids(alloc)?;
-    Ok(
-        sessions
-            .as_slice()
-            .iter()
-            .filter(|session| is_session(calls, **session))
-            .count(),
-    )
 }
 
 /// The line of a LAC's tunnel that agrees with its partner.

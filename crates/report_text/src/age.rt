@@ -17,7 +17,7 @@ fn outlives(number: u64, count: u64) -> bool
 
 /// Why a control message is refused by the tunnel that it is for, if it is.
 #[tactic(auto, unfolding(protocol_model::specs::World::too_old))]
-pub(crate) fn too_old(origin: &ControlOrigin, tunnel: Option<Control>) -> Option<Refusal>
+pub fn too_old(origin: &ControlOrigin, tunnel: Option<Control>) -> Option<Refusal>
     ensures { result ≡ too_old origin.now tunnel }
 {
     let channel = tunnel?.channel;

@@ -1,8 +1,8 @@
 use Rattle.std.proofs.Common.{◌∙◌, ap, List, ℕ}
 use Rattle.std.proofs.lemmas.Result.{on_ok_weaker}
 use Rattle.protocol_model.specs.Texts.{◌&◌}
-use Rattle.schedule_replay.proofs.TunnelText.{tunnel_is}
-use Rattle.schedule_replay.proofs.texts.push_tunnel.Goals as goal
+use Rattle.report_text.proofs.TunnelText.{tunnel_is}
+use Rattle.report_text.proofs.texts.push_tunnel.Goals as goal
 
 pub returns : goal.returns
 returns c =

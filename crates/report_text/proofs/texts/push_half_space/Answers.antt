@@ -1,6 +1,6 @@
 use Rattle.std.proofs.lemmas.Result.{on_ok_weaker}
-use Rattle.schedule_replay.proofs.HalfSpaceText.{half_space_is}
-use Rattle.schedule_replay.proofs.texts.push_half_space.Goals as goal
+use Rattle.report_text.proofs.HalfSpaceText.{half_space_is}
+use Rattle.report_text.proofs.texts.push_half_space.Goals as goal
 
 pub returns : goal.returns
 returns c =

@@ -1,6 +1,6 @@
 use Rattle.std.proofs.Common.{rules, sym, ◌∙◌, ◌≡◌, length}
-use Rattle.schedule_replay.proofs.HexText.{goes_on, ends}
-use Rattle.schedule_replay.proofs.texts.push_hex.Goals as goal
+use Rattle.report_text.proofs.HexText.{goes_on, ends}
+use Rattle.report_text.proofs.texts.push_hex.Goals as goal
 
 pub loop-left-preserved : goal.loop-left-preserved
 loop-left-preserved c =

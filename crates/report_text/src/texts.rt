@@ -72,7 +72,7 @@ fn push_hex(out: &mut Bytes, bytes: &[u8]) -> Result<(), NoMemory>
 
 /// A datagram that was sent: the line, the packet's number, the two nodes, and its bytes.
 #[tactic(auto, unfolding(protocol_model::specs::Texts::send_text))]
-pub(crate) fn push_send(
+pub fn push_send(
     out: &mut Bytes,
     line: u64,
     packet: u64,
@@ -104,7 +104,7 @@ fn side_word(side: Side) -> &'static [u8]
 
 /// A PPP frame that is handed up: the line, the node, the call's local session and birth, where it goes, and its bytes.
 #[tactic(auto, unfolding(protocol_model::specs::Texts::up_text))]
-pub(crate) fn push_up(
+pub fn push_up(
     out: &mut Bytes,
     line: u64,
     node: u8,
@@ -127,7 +127,7 @@ pub(crate) fn push_up(
 
 /// A call that ended: the line, the node, and the call's local session.
 #[tactic(auto, unfolding(protocol_model::specs::Texts::gone_text))]
-pub(crate) fn push_gone(out: &mut Bytes, line: u64, node: u8, session: u32) -> Result<(), NoMemory>
+pub fn push_gone(out: &mut Bytes, line: u64, node: u8, session: u32) -> Result<(), NoMemory>
     ensures { OnOk result (out.new ≡ out.old ++ gone_text line node session) }
 {
     push_number(out, line)?;
@@ -139,7 +139,7 @@ pub(crate) fn push_gone(out: &mut Bytes, line: u64, node: u8, session: u32) -> R
 
 /// An Ethernet frame that a LAC sends to a host: the line, the node, and its bytes.
 #[tactic(auto, unfolding(protocol_model::specs::Texts::frame_text))]
-pub(crate) fn push_frame(out: &mut Bytes, line: u64, node: u8, bytes: &[u8]) -> Result<(), NoMemory>
+pub fn push_frame(out: &mut Bytes, line: u64, node: u8, bytes: &[u8]) -> Result<(), NoMemory>
     ensures { OnOk result (out.new ≡ out.old ++ frame_text line node bytes.now) }
 {
     push_number(out, line)?;
@@ -150,7 +150,7 @@ pub(crate) fn push_frame(out: &mut Bytes, line: u64, node: u8, bytes: &[u8]) -> 
 }
 
 /// The PADT to the host of a call that ended, where a host had it: the line, the node, and its bytes.
-pub(crate) fn push_farewell(
+pub fn push_farewell(
     out: &mut Bytes,
     line: u64,
     node: u8,
@@ -166,7 +166,7 @@ pub(crate) fn push_farewell(
 
 /// An input that was ignored: the line, the node, and why.
 #[tactic(auto, unfolding(protocol_model::specs::Texts::drop_text))]
-pub(crate) fn push_drop(out: &mut Bytes, line: u64, node: u8, why: Why) -> Result<(), NoMemory>
+pub fn push_drop(out: &mut Bytes, line: u64, node: u8, why: Why) -> Result<(), NoMemory>
     ensures { OnOk result (out.new ≡ out.old ++ drop_text line node why) }
 {
     push_number(out, line)?;
@@ -178,7 +178,7 @@ pub(crate) fn push_drop(out: &mut Bytes, line: u64, node: u8, why: Why) -> Resul
 
 /// The cause of a refusal: the line, the node, and the cause.
 #[tactic(auto, unfolding(protocol_model::specs::Texts::cause_text))]
-pub(crate) fn push_cause(out: &mut Bytes, line: u64, node: u8, cause: Cause) -> Result<(), NoMemory>
+pub fn push_cause(out: &mut Bytes, line: u64, node: u8, cause: Cause) -> Result<(), NoMemory>
     ensures { OnOk result (out.new ≡ out.old ++ cause_text line node cause) }
 {
     push_number(out, line)?;
@@ -202,7 +202,7 @@ fn push_tunnel_ids(out: &mut Bytes, node: u32, tunnel: &Control) -> Result<(), N
 
 /// A tunnel at the end of a run. No line crashes a node, so each tunnel is in epoch 0, current, and complete.
 #[tactic(auto, unfolding(protocol_model::specs::Run::tunnel_text))]
-pub(crate) fn push_tunnel(out: &mut Bytes, node: u32, tunnel: &Control) -> Result<(), NoMemory>
+pub fn push_tunnel(out: &mut Bytes, node: u32, tunnel: &Control) -> Result<(), NoMemory>
     ensures { OnOk result (out.new ≡ out.old ++ tunnel_text node tunnel.now) }
 {
     push_tunnel_ids(out, node, tunnel)?;
@@ -213,7 +213,7 @@ pub(crate) fn push_tunnel(out: &mut Bytes, node: u32, tunnel: &Control) -> Resul
 
 /// A call at the end of a run, with its local session and its birth.
 #[tactic(auto, unfolding(protocol_model::specs::Run::call_text))]
-pub(crate) fn push_call(
+pub fn push_call(
     out: &mut Bytes,
     node: u32,
     tunnel: u32,
@@ -236,7 +236,7 @@ pub(crate) fn push_call(
 
 /// A LAC's tunnel and its partner, which agree, with the number of sessions.
 #[tactic(auto, unfolding(protocol_model::specs::Run::agree_text))]
-pub(crate) fn push_agree(
+pub fn push_agree(
     out: &mut Bytes,
     node: u32,
     tunnel: &Control,
@@ -278,7 +278,7 @@ fn push_half_space(out: &mut Bytes, line: u64, number: u64, count: u64) -> Resul
 
 /// A line that is refused, and why.
 #[tactic(auto, unfolding(protocol_model::specs::Run::refusal_text))]
-pub(crate) fn push_refusal(out: &mut Bytes, line: u64, refusal: Refusal) -> Result<(), NoMemory>
+pub fn push_refusal(out: &mut Bytes, line: u64, refusal: Refusal) -> Result<(), NoMemory>
     ensures { OnOk result (out.new ≡ out.old ++ refusal_text line refusal) }
 {
     match refusal {

@@ -1,0 +1,3 @@
+mod HexText
+mod HalfSpaceText
+mod TunnelText

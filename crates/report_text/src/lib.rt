@@ -1,0 +1,14 @@
+//! What a report tells, line by line: the text of each line, which tunnels agree and with how many sessions, and which
+//! refusal a packet gets that has outlived half of the numbers of its control channel.
+#![tactic(auto)]
+
+mod age;
+mod agreeing;
+mod texts;
+
+pub use age::too_old;
+pub use agreeing::{agree, session_count};
+pub use texts::{
+    push_agree, push_call, push_cause, push_drop, push_farewell, push_frame, push_gone,
+    push_refusal, push_send, push_tunnel, push_up,
+};
