@@ -1,4 +1,3 @@
-pub mod Rooms
 pub mod Steps
 pub mod Draws
 pub mod Plans

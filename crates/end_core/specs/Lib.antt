@@ -1,4 +1,3 @@
-pub mod Ends
 pub mod Fits
 pub mod Gives
 pub mod Rows

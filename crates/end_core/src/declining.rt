@@ -1,30 +1,19 @@
 //! Openings that are declined (RFC 2661 section 7.2.1), by a StopCCN of no tunnel of this end's.
 
-ghost use Rattle.std.specs.Prelude.{◌≡◌, ◌≤◌, length, IfOk};
-ghost use Rattle.avp_codec.specs.Spelling.{spelling};
-ghost use Rattle.control_message.specs.Pairs.{pairs_of};
-ghost use Rattle.control_message.specs.declared.message.Message.TheVariants as message;
-ghost use Rattle.protocol_model.specs.End.{against_opening, against_said, against_body, decline_bytes, declined, next_of_peer};
+ghost use Rattle.std.specs.Prelude.{◌≡◌, IfOk};
+ghost use Rattle.protocol_model.specs.End.{against_opening, against_said, against_body, declined};
 ghost use Rattle.end_core.specs.Gives.{GivesStep};
 
 use crate::end::{End, Given};
-use control_message::{Message, Opening, has_room, hides_nothing_without_a_vector, write_message};
-use l2tp_header::{Header, write_control};
+use control_message::{Message, Opening};
 use message_reading::{
-    Reason, Said, fault_reason, is_of_version, lacks_secret, no_id, no_recovery, no_secret,
-    no_tunnel, other_version, read_body,
+    Reason, Said, decline_bytes, fault_reason, is_of_version, lacks_secret, no_id, no_recovery,
+    no_secret, no_tunnel, other_version, read_body,
 };
 use protocol_model::{ControlOrigin, Declined, Move, Origin, Out};
 use std::alloc::Global;
 use tunnel_core::{Moves, Outputs};
-use wire_base::{Bytes, NoMemory};
-
-/// The number that the peer is to send next, by the message that it sent.
-pub(crate) fn next_of_peer(header: &Header) -> u16
-    ensures { result ≡ next_of_peer header.now }
-{
-    header.ns.unwrap_or(0).wrapping_add(1)
-}
+use wire_base::NoMemory;
 
 impl End {
     /// What stands against an SCCRQ that would open a tunnel, the first that counts.
@@ -111,35 +100,4 @@ impl End {
         }))?;
         Ok(Given { outputs, moves })
     }
-}
-
-/// The pairs of a StopCCN of no tunnel, with a result code and an error code.
-fn stop_pairs(alloc: Global, code: u16, error: Option<u16>) -> Result<Bytes, NoMemory>
-    ensures value { IfOk result (λ pairs. pairs ≡ spelling (pairs_of (message.StopCcn 0 code error))) }
-    ensures room { IfOk result (λ pairs. length pairs ≤ 65523) }
-{
-    has_room();
-    hides_nothing_without_a_vector();
-    let mut pairs = Bytes::new(alloc);
-    write_message(
-        &mut pairs,
-        &Message::StopCcn {
-            tunnel: 0,
-            result: code,
-            error,
-        },
-        None,
-        None,
-    )?;
-    Ok(pairs)
-}
-
-/// A StopCCN of no tunnel, to a tunnel id of the peer's.
-fn decline_bytes(alloc: Global, remote: u16, nr: u16, reason: &Reason) -> Result<Bytes, NoMemory>
-    ensures { IfOk result (λ bytes. bytes ≡ decline_bytes remote nr reason.now) }
-{
-    let pairs = stop_pairs(alloc, reason.code, reason.error)?;
-    let mut bytes = Bytes::new(alloc);
-    write_control(&mut bytes, remote, 0, 0, nr, pairs.as_slice())?;
-    Ok(bytes)
 }

@@ -9,7 +9,7 @@ ghost use Rattle.protocol_model.specs.End.{env_of, then_heard, handed, hands_up}
 ghost use Rattle.end_core.specs.Gives.{GivesStep, behind_given};
 
 use crate::end::{End, Given};
-use crate::places::{Way, carry_look, frame_of, look_at};
+use call_places::{Way, carry_look, frame_of, look_at};
 use l2tp_header::Header;
 use protocol_model::{Event, FrameUp, Move, Out};
 use std::alloc::Global;

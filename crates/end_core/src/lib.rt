@@ -7,7 +7,6 @@
 mod declining;
 mod end;
 mod frames;
-mod places;
 mod rows;
 mod ticks;
 

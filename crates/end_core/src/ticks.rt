@@ -11,7 +11,7 @@ ghost use Rattle.tunnel_table.specs.Plans.{HasPlace};
 ghost use Rattle.tunnel_table.specs.Tunnels.{tunnels_of};
 
 use crate::end::{End, Given};
-use crate::places::change_looks;
+use call_places::change_looks;
 use protocol_model::{Config, Event, Role};
 use std::alloc::Global;
 use tunnel_core::{Env, Planned};

@@ -2,12 +2,14 @@
 //! and why calls end and tunnels close, with the codes that say so.
 #![tactic(auto)]
 
+mod declining;
 mod openings;
 mod reading;
 mod reasons;
 mod uncovering;
 mod zero;
 
+pub use declining::{decline_bytes, next_of_peer};
 pub use openings::{
     against, connected_event, connected_reason, connection_by, event_by, is_of_version,
     lacks_secret, no_recovery, no_secret, opening_reason, other_version, reply_by,

@@ -1,7 +1,7 @@
 use Rattle.std.proofs.Common.{◌≡◌, drop}
 use Rattle.protocol_model.specs.End.{placed}
-use Rattle.end_core.specs.Ends.{HaveRoom}
-use Rattle.end_core.proofs.places.place_all.Given as goal
+use Rattle.call_places.specs.Rooms.{HaveRoom}
+use Rattle.call_places.proofs.places.place_all.Given as goal
 
 abbrev pub invariant-loop-session : goal.invariant-loop-session
 invariant-loop-session l =

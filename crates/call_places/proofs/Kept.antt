@@ -4,7 +4,7 @@ use Rattle.id_table.specs.Tables.{Kept, HasRoom, KeepsRoom}
 use Rattle.protocol_model.specs.declared.tunnel.CallPlace.{CallPlace}
 use Rattle.id_table.specs.Ids.{put}
 use Rattle.protocol_model.specs.End.{placed, new_place}
-use Rattle.end_core.specs.Ends.{HaveRoom}
+use Rattle.call_places.specs.Rooms.{HaveRoom}
 
 cons_drop : (ss : List ℕ) (i : ℕ) → i < length ss → drop i ss ≡ get_or ss i 0 ∷ drop (i + 1) ss
 cons_drop ss i lt = rw add-one (drop-cons ss i 0 lt)

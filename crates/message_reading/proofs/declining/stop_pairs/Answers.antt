@@ -1,7 +1,7 @@
 use Rattle.std.proofs.Common.{arith, rules}
 use Rattle.control_message.specs.Pairs.{IsWritten}
 use Rattle.control_message.specs.declared.message.Message.TheVariants.{StopCcn}
-use Rattle.end_core.proofs.declining.stop_pairs.Goals as goal
+use Rattle.message_reading.proofs.declining.stop_pairs.Goals as goal
 
 pub returns-clause-room : goal.returns-clause-room
 returns-clause-room c =

@@ -4,7 +4,7 @@ ghost use Rattle.std.specs.Prelude.{◌≡◌, OnOk, MatchResult};
 ghost use Rattle.id_table.specs.Ids.{at, put};
 ghost use Rattle.protocol_model.specs.Calls.{is_lcp, is_for_lcp, side_of, frame_of, carry_known, carry_look, Upward, Dropped};
 ghost use Rattle.protocol_model.specs.End.{placed, with_look, with_looks, look_in, established};
-ghost use Rattle.end_core.specs.Ends.{HaveRoom};
+ghost use Rattle.call_places.specs.Rooms.{HaveRoom};
 
 use id_table::Table;
 use l2tp_header::Header;
@@ -12,7 +12,7 @@ use protocol_model::{CallPlace, CellChange, Look, Role};
 use wire_base::{NoMemory, Side, Why};
 
 /// Makes room for the places of these calls. Where memory is wanting, the places are as before.
-pub(crate) fn make_places(places: &mut Table<CallPlace>, sessions: &[u16]) -> Result<(), NoMemory>
+pub fn make_places(places: &mut Table<CallPlace>, sessions: &[u16]) -> Result<(), NoMemory>
     ensures same { places.new.entries ≡ places.old.entries }
     ensures room { OnOk result (HaveRoom places.new sessions.now) }
 {
@@ -24,7 +24,7 @@ pub(crate) fn make_places(places: &mut Table<CallPlace>, sessions: &[u16]) -> Re
 
 /// Puts the calls that a tunnel made where they are; nothing is seen of them yet. It takes no memory.
 #[tactic(auto, unfolding(protocol_model::specs::End::placed))]
-pub(crate) fn place_all(places: &mut Table<CallPlace>, tunnel: u16, sessions: &[u16])
+pub fn place_all(places: &mut Table<CallPlace>, tunnel: u16, sessions: &[u16])
     requires { HaveRoom places.old sessions.now }
     ensures { places.new.entries ≡ placed tunnel sessions.now places.old.entries }
 {
@@ -86,7 +86,7 @@ fn change_look(places: &mut Table<CallPlace>, change: &CellChange)
 
 /// Changes what is seen of calls, in order. It takes no memory.
 #[tactic(auto, unfolding(protocol_model::specs::End::with_looks))]
-pub(crate) fn change_looks(places: &mut Table<CallPlace>, changes: &[CellChange])
+pub fn change_looks(places: &mut Table<CallPlace>, changes: &[CellChange])
     ensures { places.new.entries ≡ with_looks changes.now places.old.entries }
 {
     for change in changes {
@@ -95,7 +95,7 @@ pub(crate) fn change_looks(places: &mut Table<CallPlace>, changes: &[CellChange]
 }
 
 /// What is seen of a session.
-pub(crate) fn look_at(places: &Table<CallPlace>, session: u16) -> Look
+pub fn look_at(places: &Table<CallPlace>, session: u16) -> Look
     ensures { result ≡ look_in (at places.now.entries session) }
 {
     match places.get(u32::from(session)) {
@@ -133,7 +133,7 @@ fn is_for_lcp(role: Role, frame: &[u8]) -> bool
 }
 
 /// The frame behind the address and control bytes of HDLC, which may be left out.
-pub(crate) fn frame_of(body: &[u8]) -> &[u8]
+pub fn frame_of(body: &[u8]) -> &[u8]
     ensures { result.now ≡ frame_of body.now }
 {
     match body {
@@ -144,10 +144,10 @@ pub(crate) fn frame_of(body: &[u8]) -> &[u8]
 
 /// Where a frame that is handed up goes, and from which tunnel and peer.
 #[derive(Clone, Copy)]
-pub(crate) struct Way {
-    pub(crate) tunnel: u16,
-    pub(crate) peer: u32,
-    pub(crate) side: Side,
+pub struct Way {
+    pub tunnel: u16,
+    pub peer: u32,
+    pub side: Side,
 }
 
 /// The way of a frame of a call that the peer knows, or why it is dropped.
@@ -181,7 +181,7 @@ fn carry_known(
 /// What becomes of a data message from an address, by what is seen of the session that its header names: the way of its
 /// frame, or why it is dropped.
 #[tactic(auto, unfolding(protocol_model::specs::Calls::carry_look))]
-pub(crate) fn carry_look(
+pub fn carry_look(
     role: Role,
     look: Look,
     from: u32,

@@ -1,8 +1,8 @@
 use Rattle.std.proofs.Common.{◌∙◌, ap}
 use Rattle.id_table.specs.Ids.{put}
 use Rattle.protocol_model.specs.End.{new_place}
-use Rattle.end_core.proofs.Rooms.{place_next, rest_have_room}
-use Rattle.end_core.proofs.places.place_all.Goals as goal
+use Rattle.call_places.proofs.Kept.{place_next, rest_have_room}
+use Rattle.call_places.proofs.places.place_all.Goals as goal
 
 pub loop-session-preserved : goal.loop-session-preserved
 loop-session-preserved c =

@@ -1,6 +1,6 @@
 use Rattle.std.proofs.Common.{◌≡◌, drop}
 use Rattle.protocol_model.specs.End.{with_looks}
-use Rattle.end_core.proofs.places.change_looks.Given as goal
+use Rattle.call_places.proofs.places.change_looks.Given as goal
 
 abbrev pub invariant-loop-change : goal.invariant-loop-change
 invariant-loop-change l = with_looks (drop l.change-index l.changes) l.places.entries ≡ with_looks l.changes l.fn.places.entries

@@ -1,7 +1,7 @@
 use Rattle.std.proofs.Common.{◌∙◌, subst}
 use Rattle.id_table.specs.Tables.{HasRoom}
-use Rattle.end_core.proofs.Rooms.{room_for_one_more}
-use Rattle.end_core.proofs.places.make_places.Goals as goal
+use Rattle.call_places.proofs.Kept.{room_for_one_more}
+use Rattle.call_places.proofs.places.make_places.Goals as goal
 
 pub loop-session-preserved : goal.loop-session-preserved
 loop-session-preserved c =
