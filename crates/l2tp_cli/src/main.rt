@@ -5,8 +5,6 @@
 
 mod answer;
 mod exit;
-#[cfg(test)]
-mod tests;
 mod texts;
 mod top;
 mod words;

@@ -1,12 +1,8 @@
-//! Runs over several nodes and single steps, computed over the definitions; and runs of the program's own replay, told byte
-//! for byte.
+//! Runs over several nodes and single steps, computed over the definitions.
 //!
 //! A definition and the code that follows it can be wrong together. Here each id, birth and node differs from those that it
 //! could be taken for.
 #![tactic(auto)]
-
-#[cfg(test)]
-mod tests;
 
 ghost use Rattle.run_examples.specs.Crossing.{FramesCross};
 ghost use Rattle.run_examples.specs.Endings.{CallsEndOnce};
