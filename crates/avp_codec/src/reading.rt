@@ -1,6 +1,6 @@
 //! Reading pairs from the front.
 
-ghost use Rattle.std.specs.Prelude.{◌≡◌, ◌≤◌, List, length, Ok, Err, IfOk, IfErr};
+ghost use Rattle.std.specs.Prelude.{◌≡◌, ◌≤◌, ◌==◌, ◌/◌, ◌%◌, nat_lt, List, length, Ok, Err, IfOk, IfErr};
 ghost use Rattle.avp_codec.specs.declared.avp.Avp.{Avp};
 ghost use Rattle.avp_codec.specs.declared.error.AvpError.{AvpError};
 ghost use Rattle.avp_codec.specs.Spelling.{AreAvps, spelling};
@@ -12,6 +12,20 @@ use crate::avp::{Avp, Avps};
 use crate::error::AvpError;
 use std::alloc::Global;
 use wire_base::{Bytes, take_u16};
+
+/// Whether a length is too small to count the six bytes of a pair's head.
+fn is_under_six(len: usize) -> bool
+    ensures { result ≡ nat_lt len 6 }
+{
+    len < 6
+}
+
+/// Whether the first word of a pair says that its value is hidden (RFC 2661 section 4.1).
+fn is_hidden(word: u16) -> bool
+    ensures { result ≡ (word / 16384 % 2 == 1) }
+{
+    word / 0x4000 % 2 == 1
+}
 
 /// The pair at the front, and how many bytes it takes. Its place is told in a fault.
 #[tactic(auto, unfolding(crate::specs::Reading::avp_at))]
@@ -29,7 +43,7 @@ fn read_avp(alloc: Global, rest: &[u8], at: usize) -> Result<(Avp, usize), AvpEr
         return Err(AvpError::Short { at });
     };
     let len = usize::from(word % 0x400);
-    if len < 6 {
+    if is_under_six(len) {
         return Err(AvpError::LengthUnderSix { at });
     }
     if rest.len() < len {
@@ -38,7 +52,7 @@ fn read_avp(alloc: Global, rest: &[u8], at: usize) -> Result<(Avp, usize), AvpEr
     let value = Bytes::from_slice(alloc, &rest[6..len])?;
     let avp = Avp {
         mandatory: word / 0x8000 == 1,
-        hidden: word / 0x4000 % 2 == 1,
+        hidden: is_hidden(word),
         reserved: (word / 0x400 % 16) as u8,
         vendor,
         attribute,

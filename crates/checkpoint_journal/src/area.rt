@@ -8,7 +8,7 @@ ghost use Rattle.checkpoint_journal.specs.Found.{found_at};
 ghost use Rattle.checkpoint_journal.specs.Answers.{Opens, OpenHasCause, EndsEarly, FaultHasCause};
 
 use crate::open::JournalOpen;
-use crate::record::OPEN;
+use crate::record::is_open;
 use disk_core::Disk;
 use std::alloc::Global;
 use wire_base::{Contents, Failed};
@@ -42,7 +42,7 @@ fn found_in(piece: &[u8]) -> Found
     let [gate, rest @ ..] = piece else {
         return Found::Nothing;
     };
-    if *gate != OPEN {
+    if !is_open(*gate) {
         return Found::Shut;
     }
     if rest.len() < 31 {

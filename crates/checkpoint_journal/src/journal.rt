@@ -1,9 +1,10 @@
 //! The journal: contents in order, each on the disk before its gate is opened.
 
-ghost use Rattle.std.specs.Prelude.{◌≡◌, ◌≤◌, ◌<◌, ◌+◌, ◌-◌, ◌++◌, ◌∷◌, [], ℕ, List, length, max, OnOk, OnErr, option_map, is_some, true, false};
+ghost use Rattle.std.specs.Prelude.{◌≡◌, ◌≤◌, ◌<◌, ◌+◌, ◌-◌, ◌++◌, ◌∷◌, [], ℕ, List, length, max, OnOk, OnErr, Err, option_map, is_some, true, false};
 ghost use Rattle.checkpoint_journal.specs.Format.{most_records, second_area};
 ghost use Rattle.checkpoint_journal.specs.Commit.{commit_after, IsStopped};
 ghost use Rattle.checkpoint_journal.specs.State.{opened_at, next_gate, HasContents, HasRoom, FindsBeforeOrAfter, FindsBeforeAndFirst};
+ghost use Rattle.checkpoint_journal.specs.declared.journal.JournalStop.TheVariants as stop;
 ghost use Rattle.checkpoint_journal.specs.Answers.{RoomHasCause, StopHasCause, SomeHaveCause};
 
 use crate::area::MOST_RECORDS;
@@ -172,11 +173,17 @@ impl Journal {
                 self.spare -= 1;
                 Ok(())
             }
-            Err(_) => {
-                self.halted = true;
-                Err(JournalStop::StoreFault)
-            }
+            Err(_) => self.halt(),
         }
+    }
+
+    /// What a commit answers at which the disk failed: the journal is halted.
+    fn halt(&mut self) -> Result<(), JournalStop>
+        ensures state { self.new ≡ record self.old { halted = true } }
+        ensures told { result ≡ Err stop.StoreFault }
+    {
+        self.halted = true;
+        Err(JournalStop::StoreFault)
     }
 
     /// Puts contents behind the others, one after the other; its condition is that the spare is enough for all of them. It

@@ -1,13 +1,13 @@
 //! Reading a header.
 
-ghost use Rattle.std.specs.Prelude.{◌≡◌, ℕ, ◌+◌, ◌^◌, ◌<◌, ◌≤◌, List, length, Option, Some, Ok, Err, IfOk, IfErr, IsTrue};
+ghost use Rattle.std.specs.Prelude.{◌≡◌, ℕ, ◌+◌, ◌^◌, ◌<◌, ◌≤◌, ◌||◌, nat_lt, List, length, Option, Some, Ok, Err, IfOk, IfErr, IsTrue};
 ghost use Rattle.l2tp_header.specs.declared.header.Header.{Header};
 ghost use Rattle.l2tp_header.specs.declared.header.HeaderError.{HeaderError};
 ghost use Rattle.l2tp_header.specs.Flags.{has_numbers, are_control_flags};
 ghost use Rattle.l2tp_header.specs.Spelling.{control_bytes, data_bytes, hdlc_bytes};
 ghost use Rattle.l2tp_header.specs.Grammar.{FitsWord, IsHeader};
 ghost use Rattle.l2tp_header.specs.Faults.{IsFault};
-ghost use Rattle.l2tp_header.specs.Reading.{word_at, word_of, tunnel_at, offset_at, start_of, end_of, number_at, header_of};
+ghost use Rattle.l2tp_header.specs.Reading.{word_at, word_of, tunnel_at, numbers_at, offset_at, start_of, end_of, number_at, header_of};
 ghost use Rattle.l2tp_header.specs.Again.{Carries, control_header, data_header};
 
 use crate::header::{Header, HeaderError};
@@ -99,6 +99,13 @@ fn body_start(bytes: &[u8], word: u16) -> Result<usize, HeaderError>
     Ok(start)
 }
 
+/// Whether a message of a length ends before its body starts, or past the end of the bytes.
+fn ends_outside(said: usize, start: usize, have: usize) -> bool
+    ensures { result ≡ nat_lt said start || nat_lt have said }
+{
+    said < start || have < said
+}
+
 /// Where the body ends that starts at a place.
 #[tactic(auto, unfolding(crate::specs::Reading::end_of, crate::specs::Flags::has_length))]
 fn body_end(bytes: &[u8], word: u16, start: usize) -> Result<usize, HeaderError>
@@ -113,7 +120,7 @@ fn body_end(bytes: &[u8], word: u16, start: usize) -> Result<usize, HeaderError>
         return Ok(have);
     }
     let said = usize::from(word_in(bytes, 2));
-    if said < start || have < said {
+    if ends_outside(said, start, have) {
         return Err(HeaderError::Length { said, have });
     }
     Ok(said)
@@ -140,6 +147,14 @@ fn number_in(bytes: &[u8], word: u16, at: usize) -> Option<u16>
     }
 }
 
+/// Ns, which is there only where S is set.
+fn ns_in(bytes: &[u8], word: u16) -> Option<u16>
+    requires { offset_at word ≤ length bytes.now }
+    ensures { result ≡ number_at word (numbers_at word) bytes.now }
+{
+    number_in(bytes, word, tunnel_place(word) + 4)
+}
+
 #[tactic(auto, unfolding(crate::specs::Reading::header_of, crate::specs::Reading::header_with, crate::specs::Flags::is_control))]
 fn read_fields(bytes: &[u8]) -> Result<Header, HeaderError>
     ensures exact { result ≡ header_of bytes.now }
@@ -154,7 +169,7 @@ fn read_fields(bytes: &[u8]) -> Result<Header, HeaderError>
         control: word & CONTROL != 0,
         tunnel: word_in(bytes, tunnel),
         session: word_in(bytes, tunnel + 2),
-        ns: number_in(bytes, word, tunnel + 4),
+        ns: ns_in(bytes, word),
         nr: number_in(bytes, word, tunnel + 6),
         start,
         end,

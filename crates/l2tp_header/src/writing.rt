@@ -1,6 +1,7 @@
 //! Writing messages.
 
 ghost use Rattle.std.specs.Prelude.{◌≡◌, ◌≤◌, ◌++◌, length, OnOk, OnErr};
+ghost use Rattle.wire_base.specs.Numbers.{u16_bytes};
 ghost use Rattle.l2tp_header.specs.Spelling.{control_bytes, data_bytes};
 
 use wire_base::{Bytes, NoMemory, put_u16};
@@ -31,6 +32,14 @@ pub fn write_control(
     out.push_slice(piece.as_slice())
 }
 
+/// Appends the numbers of a data message: Ns, and 0 for Nr.
+fn put_numbers(piece: &mut Bytes, ns: u16) -> Result<(), NoMemory>
+    ensures { OnOk result (piece.new ≡ piece.old ++ u16_bytes ns ++ u16_bytes 0) }
+{
+    put_u16(piece, ns)?;
+    put_u16(piece, 0)
+}
+
 /// Appends the one spelling of a data message (RFC 2661 section 3.1) with a PPP frame from its protocol field on; with a
 /// sequence number Ns, where one is given. Where memory is wanting, nothing is appended.
 #[tactic(auto, unfolding(crate::specs::Spelling::data_bytes))]
@@ -55,8 +64,7 @@ pub fn write_data(
             put_u16(&mut piece, 0x0802)?;
             put_u16(&mut piece, tunnel)?;
             put_u16(&mut piece, session)?;
-            put_u16(&mut piece, ns)?;
-            put_u16(&mut piece, 0)?;
+            put_numbers(&mut piece, ns)?;
         }
     }
     piece.push_slice(&[0xff, 0x03])?;

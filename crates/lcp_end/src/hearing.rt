@@ -1,6 +1,6 @@
 //! What a packet that came is to the automaton (RFC 1661 sections 4.3 and 5).
 
-ghost use Rattle.std.specs.Prelude.{◌≡◌, ◌≤◌, ◌+◌, ◌++◌, length, drop, take, IfOk, IfSome};
+ghost use Rattle.std.specs.Prelude.{◌≡◌, ◌≤◌, ◌+◌, ◌++◌, ◌==◌, length, drop, take, IfOk, IfSome};
 ghost use Rattle.wire_base.specs.Numbers.{u32_bytes};
 ghost use Rattle.std.specs.Result.{result_ok};
 ghost use Rattle.lcp_wire.specs.Spelling.{packet_bytes, spelling, AreOptions};
@@ -185,6 +185,13 @@ fn hear_reject(alloc: Global, kept: EndState, reject: &Lcp) -> Result<Option<Hea
     Ok(plain(alloc, learnt, LcpEvent::Rcn, reject.id))
 }
 
+/// Whether an answer is one to the last request of this end's.
+fn is_to_last(id: u8, request: u8) -> bool
+    ensures { result ≡ (id == request) }
+{
+    id == request
+}
+
 /// An answer to a request of this end's is ignored where its identifier isn't the last request's.
 #[tactic(auto, unfolding(crate::specs::Hearing::answer_heard, crate::specs::Hearing::answers_last))]
 fn hear_answer(
@@ -196,7 +203,7 @@ fn hear_answer(
     ensures value { IfOk result (λ h. h ≡ answers_last kept answer.now.id (answer_heard block.now kept answer.now)) }
     ensures short { IfOk result (λ h. IfSome h IsShort) }
 {
-    if answer.id != kept.request {
+    if !is_to_last(answer.id, kept.request) {
         return Ok(None);
     }
     match answer.code {
@@ -285,6 +292,14 @@ fn hear_unknown(alloc: Global, kept: EndState, packet: &Lcp) -> Result<Option<He
     }))
 }
 
+/// A Terminate-Request.
+fn hear_terminate(alloc: Global, kept: EndState, id: u8) -> Option<Heard>
+    ensures value { result ≡ plain kept events.Rtr id }
+    ensures short { IfSome result IsShort }
+{
+    plain(alloc, kept, LcpEvent::Rtr, id)
+}
+
 /// What a packet is to the automaton; None where it is ignored.
 #[tactic(auto, unfolding(crate::specs::Hearing::heard_as))]
 pub(crate) fn hear(
@@ -303,7 +318,7 @@ pub(crate) fn hear(
         | codes::CONFIGURE_NAK
         | codes::CONFIGURE_REJECT
         | codes::TERMINATE_ACK => hear_answer(alloc, block, kept, packet),
-        codes::TERMINATE_REQUEST => Ok(plain(alloc, kept, LcpEvent::Rtr, packet.id)),
+        codes::TERMINATE_REQUEST => Ok(hear_terminate(alloc, kept, packet.id)),
         codes::CODE_REJECT => {
             let event = reject_event(is_needed_code(packet.body.as_slice()));
             Ok(plain(alloc, kept, event, packet.id))

@@ -1,6 +1,6 @@
 //! Which options are fine, what a Configure-Request draws, and what this end asks for (RFC 1661 sections 5 and 6).
 
-ghost use Rattle.std.specs.Prelude.{◌≡◌, ◌≤◌, ◌*◌, ◌++◌, length, OnOk, IfOk};
+ghost use Rattle.std.specs.Prelude.{◌≡◌, ◌≤◌, ◌*◌, ◌++◌, nat_lt, length, OnOk, IfOk};
 ghost use Rattle.std.specs.List.{list_all};
 ghost use Rattle.wire_base.specs.Numbers.{u16_bytes, u32_bytes};
 ghost use Rattle.lcp_wire.specs.Spelling.{option_bytes, spelling, AreOptions};
@@ -112,6 +112,13 @@ fn all_good(options: &[LcpOption], own: u32) -> bool
     options.iter().all(|option| is_good(option, own))
 }
 
+/// Whether another Nak may be sent after so many.
+fn may_nak(naks: u8) -> bool
+    ensures { result ≡ nat_lt naks 5 }
+{
+    naks < MAX_FAILURE
+}
+
 /// What a Configure-Request draws at an end with this magic number, 0 where it has none, that sent so many Naks since
 /// its last Ack.
 pub(crate) fn verdict_on(options: &[LcpOption], own: u32, naks: u8) -> Verdict
@@ -123,7 +130,7 @@ pub(crate) fn verdict_on(options: &[LcpOption], own: u32, naks: u8) -> Verdict
     if all_good(options, own) {
         return Verdict::Ack;
     }
-    if naks < MAX_FAILURE {
+    if may_nak(naks) {
         Verdict::Nak
     } else {
         Verdict::RejectBad

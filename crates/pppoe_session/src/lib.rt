@@ -7,7 +7,7 @@ ghost use Rattle.pppoe_session.specs.Subscribers.{subscriber_of, holder_of, admi
 use std::alloc::Global;
 use std::collections::{BTreeMap, BTreeSet};
 use std::marker::Model;
-use wire_base::{Bytes, NoMemory};
+use wire_base::Bytes;
 
 /// Who came by a PADR: the Ethernet address that it came from, and its Host-Uniq where it had one.
 #[derive(Drop)]
@@ -38,12 +38,6 @@ pub enum AdmitError {
     Taken { session: u16 },
     /// Memory was wanting.
     NoMemory,
-}
-
-impl From<NoMemory> for AdmitError {
-    fn from(_e: NoMemory) -> AdmitError {
-        AdmitError::NoMemory
-    }
 }
 
 /// The subscribers by session, seen as the list of entries in the order of the sessions.

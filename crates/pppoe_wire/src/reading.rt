@@ -1,6 +1,6 @@
 //! Reading a frame, and reading tags from the front.
 
-ghost use Rattle.std.specs.Prelude.{◌≡◌, ℕ, ◌+◌, ◌≤◌, ◌++◌, List, length, take, drop, Ok, Err, IfOk, IfErr};
+ghost use Rattle.std.specs.Prelude.{◌≡◌, ℕ, ◌+◌, ◌≤◌, ◌++◌, nat_lt, List, length, take, drop, Ok, Err, IfOk, IfErr};
 ghost use Rattle.wire_base.specs.Answers.{Gives};
 ghost use Rattle.pppoe_wire.specs.declared.frame.Pppoe.{Pppoe};
 ghost use Rattle.pppoe_wire.specs.declared.frame.Tag.{Tag};
@@ -14,7 +14,7 @@ use crate::error::{PppoeError, TagError};
 use crate::frame::{Pppoe, Tag, Tags};
 use byteorder::{BigEndian, ByteOrder};
 use std::alloc::Global;
-use wire_base::Bytes;
+use wire_base::{Bytes, NoMemory};
 
 /// The six bytes of an Ethernet address from a place.
 fn address_at(bytes: &[u8], at: usize) -> [u8; 6]
@@ -24,6 +24,14 @@ fn address_at(bytes: &[u8], at: usize) -> [u8; 6]
     let mut address = [0; 6];
     address.copy_from_slice(&bytes[at..at + 6]);
     address
+}
+
+/// The payload of the length that the head tells. What stands behind it is padding.
+fn payload_of(alloc: Global, bytes: &[u8], said: usize) -> Result<Bytes, NoMemory>
+    requires { 20 + said ≤ length bytes.now }
+    ensures { IfOk result (λ payload. payload ≡ take said (drop 20 bytes.now)) }
+{
+    Bytes::from_slice(alloc, &bytes[20..20 + said])
 }
 
 /// The whole reading, with the answer as a function of the bytes.
@@ -48,7 +56,7 @@ fn read_whole(alloc: Global, bytes: &[u8]) -> Result<Pppoe, PppoeError>
     if have < said {
         return Err(PppoeError::Length { said, have });
     }
-    let payload = Bytes::from_slice(alloc, &bytes[20..20 + said])?;
+    let payload = payload_of(alloc, bytes, said)?;
     Ok(Pppoe {
         dst: address_at(bytes, 0),
         src: address_at(bytes, 6),
@@ -78,6 +86,13 @@ pub fn read_frame(alloc: Global, bytes: &[u8]) -> Result<Pppoe, PppoeError>
     read_whole(alloc, bytes)
 }
 
+/// Whether a tag of a length ends past the end of the bytes.
+fn is_past_end(len: usize, have: usize) -> bool
+    ensures { result ≡ nat_lt have len }
+{
+    have < len
+}
+
 /// The tag at the front, and how many bytes it takes; none at the end of the bytes and at End-Of-List. Its place is told
 /// in a fault.
 fn read_tag(alloc: Global, rest: &[u8], at: usize) -> Result<Option<(Tag, usize)>, TagError>
@@ -95,7 +110,7 @@ fn read_tag(alloc: Global, rest: &[u8], at: usize) -> Result<Option<(Tag, usize)
         return Ok(None);
     }
     let len = 4 + usize::from(BigEndian::read_u16(&rest[2..]));
-    if rest.len() < len {
+    if is_past_end(len, rest.len()) {
         return Err(TagError::TagPastEnd { at });
     }
     let value = Bytes::from_slice(alloc, &rest[4..len])?;

@@ -7,6 +7,14 @@ use crate::frame::Pppoe;
 use std::alloc::Global;
 use wire_base::{Bytes, NoMemory, put_u16};
 
+/// Appends both addresses, the destination's first.
+fn put_addresses(bytes: &mut Bytes, frame: &Pppoe) -> Result<(), NoMemory>
+    ensures { OnOk result (bytes.new ≡ bytes.old ++ frame.now.dst ++ frame.now.src) }
+{
+    bytes.push_slice(&frame.dst)?;
+    bytes.push_slice(&frame.src)
+}
+
 /// The one spelling of a frame (RFC 2516 section 4), without padding. Its start and its end aren't looked at: the payload
 /// stands behind the twenty bytes of the head.
 #[tactic(auto, unfolding(crate::specs::Spelling::head_bytes))]
@@ -16,8 +24,7 @@ pub fn write_frame(alloc: Global, frame: &Pppoe) -> Result<Bytes, NoMemory>
 {
     let payload = frame.payload.as_slice();
     let mut bytes = Bytes::new(alloc);
-    bytes.push_slice(&frame.dst)?;
-    bytes.push_slice(&frame.src)?;
+    put_addresses(&mut bytes, frame)?;
     put_u16(
         &mut bytes,
         if frame.session_stage { 0x8864 } else { 0x8863 },

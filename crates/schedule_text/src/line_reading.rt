@@ -2,6 +2,8 @@
 
 ghost use Rattle.std.specs.Prelude.{◌≡◌, MatchOption, IfOk, Ok, Some, None};
 ghost use Rattle.std.specs.List.{list_all};
+ghost use Rattle.std.specs.Str.{bytes_eq};
+ghost use Rattle.hex.specs.Hex.{encode_lower};
 ghost use Rattle.schedule_text.specs.Reading.{mode_of, mode_words_of, lac_by, lac_of, lns_of, open_of, ring_of, call_of, from_sub_of, down_of, node_session_of, hang_of, drop_of, close_of, frame_line_of, deliver_of, tick_of, plain_of, words_of, is_printable, line_of, node_of, port_of, session_of, packet_of, bytes_from, bytes_of, frame_of, ethernet_of, secret_of};
 
 use crate::line::Line;
@@ -26,8 +28,15 @@ fn read_u16(word: &[u8]) -> Option<u16>
     Some(number as u16)
 }
 
-/// The bytes, where their length is between two bounds and the word is their spelling. A decoder takes upper case too, so
-/// the bytes are spelled again.
+/// Whether a word is the spelling of bytes. A decoder takes upper case too, so the bytes are spelled again.
+fn is_spelling(alloc: Global, word: &[u8], bytes: &[u8]) -> Result<bool, NoMemory>
+    ensures { IfOk result (λ is. is ≡ bytes_eq (encode_lower bytes.now) word.now) }
+{
+    let spelling = hex::encode(alloc, bytes)?;
+    Ok(spelling.as_bytes() == word)
+}
+
+/// The bytes, where their length is between two bounds and the word is their spelling.
 fn keep_bytes(
     alloc: Global,
     word: &[u8],
@@ -40,8 +49,7 @@ fn keep_bytes(
     if bytes.len() < least || most < bytes.len() {
         return Ok(None);
     }
-    let spelling = hex::encode(alloc, bytes)?;
-    if spelling.as_bytes() != word {
+    if !is_spelling(alloc, word, bytes)? {
         return Ok(None);
     }
     let kept = Bytes::from_slice(alloc, bytes)?;

@@ -1,7 +1,7 @@
 //! Parts of a text, and the numbers that words spell.
 
 ghost use Rattle.std.specs.Prelude.{◌≡◌, ◌≤◌, ◌==◌, position, MatchOption, IfSome, Some, None};
-ghost use Rattle.schedule_text.specs.Reading.{cut, digits_of, number_of};
+ghost use Rattle.schedule_text.specs.Reading.{cut, digits_of, begins_well, number_of};
 
 fn place_of(text: &[u8], separator: u8) -> Option<usize>
     ensures { result ≡ position (λ b. b == separator) text.now }
@@ -37,14 +37,25 @@ fn read_digits(word: &[u8], most: u32) -> Option<u32>
     Some(number as u32)
 }
 
+/// Whether a word has a byte, and no leading zero.
+fn begins_well(word: &[u8]) -> bool
+    ensures { result ≡ begins_well word.now }
+{
+    match word {
+        [] | [b'0', _, ..] => false,
+        _ => true,
+    }
+}
+
 /// The number that a word spells in decimal, without sign or leading zero, where it is between two bounds.
 #[tactic(auto, unfolding(crate::specs::Reading::number_of))]
 pub(crate) fn read_number(word: &[u8], least: u32, most: u32) -> Option<u32>
     ensures exact { result ≡ number_of least most word.now }
     ensures within { IfSome result (λ n. n ≤ most) }
 {
-    match word {
-        [] | [b'0', _, ..] => None,
-        _ => read_digits(word, most).filter(|number| least <= *number),
+    if begins_well(word) {
+        read_digits(word, most).filter(|number| least <= *number)
+    } else {
+        None
     }
 }

@@ -1,6 +1,6 @@
 //! The book of an end, kept up record by record.
 
-ghost use Rattle.std.specs.Prelude.{◌≡◌, ◌+◌, ◌<◌, ◌≤◌, ltb, true, false, max, length, OnOk, OnErr};
+ghost use Rattle.std.specs.Prelude.{◌≡◌, ◌+◌, ◌<◌, ◌≤◌, nat_lt, ltb, true, false, is_some, max, length, OnOk, OnErr};
 ghost use Rattle.std.specs.Vec.{vec_capacity, vec_len};
 ghost use Rattle.std.specs.List.Sorted.{IsNonDecreasingBy, IsPartitionPoint};
 ghost use Rattle.wire_base.specs.Answers.{Gives};
@@ -172,10 +172,10 @@ impl Book {
     {
         match *next {
             Record::Ceiling { space, number } => {
-                self.ceiling(space) < number && number <= last(space)
+                may_rise(self.ceiling(space), number) && number <= last(space)
             }
             Record::TunnelUp(tunnel) => self.tunnel_fits(&tunnel),
-            Record::TunnelDown { local } => self.tunnel(local).is_some(),
+            Record::TunnelDown { local } => self.has_tunnel(local),
             Record::CallUp(call) => self.call_fits(&call),
             Record::CallDown { local } => self.call(local).is_some(),
             Record::Mark { tunnel, mark } => match self.tunnel(tunnel) {
@@ -191,7 +191,7 @@ impl Book {
         is_free(
             tunnel.local,
             self.tunnel_ceiling,
-            self.tunnel(tunnel.local).is_some(),
+            self.has_tunnel(tunnel.local),
         ) && self.tunnels.len() < TUNNELS
             && tunnel.remote > 0
             && tunnel.window > 0
@@ -204,8 +204,15 @@ impl Book {
             call.local,
             self.session_ceiling,
             self.call(call.local).is_some(),
-        ) && self.tunnel(call.tunnel).is_some()
+        ) && self.has_tunnel(call.tunnel)
             && count_calls(self.calls.as_slice(), call.tunnel) < CALLS
+    }
+
+    // Whether a tunnel has this id.
+    fn has_tunnel(&self, local: u16) -> bool
+        ensures { result ≡ is_some (tunnel_at self.now.kept local) }
+    {
+        self.tunnel(local).is_some()
     }
 
     // The tunnel with this id.
@@ -274,6 +281,13 @@ fn last(space: u8) -> u32
         3 => u32::MAX,
         _ => 0,
     }
+}
+
+// Whether a ceiling may be raised to a number.
+fn may_rise(ceiling: u32, number: u32) -> bool
+    ensures { result ≡ nat_lt ceiling number }
+{
+    ceiling < number
 }
 
 // Whether an id was drawn, and no one has it.

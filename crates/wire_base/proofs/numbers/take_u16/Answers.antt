@@ -1,0 +1,6 @@
+-- the goal is answered here so that a wrong body is refused without a second search
+use Rattle.std.proofs.Common.{rules}
+use Rattle.wire_base.proofs.numbers.take_u16.Goals as goal
+
+pub returns : goal.returns
+returns c = search rules
