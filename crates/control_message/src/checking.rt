@@ -1,8 +1,8 @@
 //! The first fault along a list of pairs.
 
-ghost use Rattle.std.specs.Prelude.{◌≡◌, ◌<◌, ◌++◌, [], ◌∷◌, List, true, is_some, slice_set};
+ghost use Rattle.std.specs.Prelude.{◌≡◌, ◌<◌, ◌&&◌, not, ◌++◌, [], ◌∷◌, List, true, is_some, slice_set};
 ghost use Rattle.avp_codec.specs.declared.avp.Avp.{Avp};
-ghost use Rattle.control_message.specs.Reading.{first, has_vector, checked_value, checked, checked_all};
+ghost use Rattle.control_message.specs.Reading.{is_recognised, first, has_vector, checked_value, checked, checked_all};
 ghost use Rattle.control_message.specs.Walk.{HasSeen};
 
 use crate::finding::{is_at, is_recognised, is_vector};
@@ -83,21 +83,25 @@ fn check_value(shape: Shape, vector: bool, avp: &Avp) -> Result<(), MessageError
     }
 }
 
+/// Whether a pair had to be understood, and isn't recognised.
+fn is_misunderstood(avp: &Avp) -> bool
+    ensures { result ≡ not (is_recognised avp.now) && avp.now.mandatory }
+{
+    !is_recognised(avp) && avp.mandatory
+}
+
 /// The fault of a pair behind others, if it has one. Only the first pair of an attribute counts.
 #[tactic(auto, unfolding(crate::specs::Reading::checked))]
 fn check_avp(kind: Kind, seen: &Seen, avp: &Avp) -> Result<(), MessageError>
     ensures { (before : List Avp) → HasSeen seen.now before → result ≡ checked kind before avp.now }
 {
-    if !is_recognised(avp) {
-        if avp.mandatory {
-            return Err(MessageError::UnknownMandatory {
-                vendor: avp.vendor,
-                attribute: avp.attribute,
-            });
-        }
-        return Ok(());
+    if is_misunderstood(avp) {
+        return Err(MessageError::UnknownMandatory {
+            vendor: avp.vendor,
+            attribute: avp.attribute,
+        });
     }
-    if avp.vendor != 0 {
+    if !is_recognised(avp) || avp.vendor != 0 {
         return Ok(());
     }
     match kind.shape(avp.attribute) {

@@ -1,6 +1,6 @@
 //! Writing control messages.
 
-ghost use Rattle.std.specs.Prelude.{◌≡◌, ℕ, ◌+◌, ◌≤◌, List, ◌++◌, length, Option, Some, None, OnOk, OnErr};
+ghost use Rattle.std.specs.Prelude.{◌≡◌, ℕ, ◌+◌, ◌≤◌, List, ◌++◌, length, Option, Some, None, IfOk, OnOk, OnErr};
 ghost use Rattle.std.specs.Option.{ForSome, option_copied};
 ghost use Rattle.wire_base.specs.Numbers.{u16_bytes, u32_bytes};
 ghost use Rattle.avp_codec.specs.Spelling.{spelling, spelling_of};
@@ -17,6 +17,7 @@ use crate::attribute::{
 use crate::kind::{CDN, HELLO, ICCN, ICRP, ICRQ, SCCCN, SCCRP, SCCRQ, STOP_CCN};
 use crate::message::{Failover, Message, Opening};
 use avp_codec::{Avp, write_avp};
+use std::alloc::Global;
 use tunnel_secret::hide;
 use wire_base::{Bytes, NoMemory, put_u16, put_u32};
 
@@ -185,6 +186,21 @@ fn padding_of(value: &[u8]) -> usize
     15 - (value.len() + 1) % 16
 }
 
+/// A value that is hidden, with zeros that fill it to blocks of 16.
+fn hide_filled(
+    alloc: Global,
+    attribute: u16,
+    secret: &[u8],
+    vector: &[u8; 16],
+    value: &[u8],
+) -> Result<Bytes, NoMemory>
+    requires { length value.now ≤ 990 }
+    ensures exact { IfOk result (λ cipher. cipher ≡ hidden attribute secret.now vector.now value.now (padding_of value.now)) }
+    ensures fits { IfOk result (λ cipher. length cipher ≤ 1017) }
+{
+    hide(alloc, attribute, secret, vector, value, padding_of(value))
+}
+
 /// Appends a mandatory pair whose value is hidden, behind the Random Vector that it is hidden by (RFC 2661 section 4.3).
 fn put_hidden(
     out: &mut Bytes,
@@ -198,8 +214,7 @@ fn put_hidden(
         spelling_of (hidden_pair attribute (hidden attribute secret.now vector.now value.now (padding_of value.now))))) }
 {
     put_text(out, RANDOM_VECTOR, vector)?;
-    let padding = padding_of(value);
-    let cipher = hide(out.allocator(), attribute, secret, vector, value, padding)?;
+    let cipher = hide_filled(out.allocator(), attribute, secret, vector, value)?;
     let avp = Avp {
         mandatory: true,
         hidden: true,

@@ -1,0 +1,6 @@
+-- the goal is answered here so that a wrong body is refused without a second search
+use Rattle.std.proofs.Common.{rules}
+use Rattle.l2tp_header.proofs.writing.put_numbers.Goals as goal
+
+pub returns : goal.returns
+returns c = search rules
