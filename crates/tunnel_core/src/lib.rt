@@ -4,22 +4,9 @@
 //! changes takes no memory. So where memory is wanting, the tunnel is as before.
 #![tactic(auto)]
 
-mod asking;
-mod calls;
-mod closing;
-mod env;
-mod faulty;
-mod hearing;
-mod links;
-mod openings;
+mod events;
 mod planning;
-mod refusing;
-mod ringing;
-mod sending;
-mod stopping;
-mod ticking;
-mod turn;
 
-pub use env::{Env, Moves, Outputs};
-pub use hearing::same_state;
 pub use planning::{Planned, TunnelCore};
+pub use tunnel_rules::same_state;
+pub use tunnel_turn::{Env, Moves, Outputs};

@@ -1,13 +1,10 @@
 //! A tunnel with its calls: an event is planned, and then made.
 
 ghost use Rattle.std.specs.Prelude.{◌≡◌, ◌≤◌, ◌++◌, [], length, OnOk, OnErr, IfOk};
-ghost use Rattle.id_table.specs.Ids.{put};
-ghost use Rattle.id_table.specs.Tables.{KeepsRoom};
 ghost use Rattle.protocol_model.specs.Turn.{fresh, turn_of, with_turn, turns, with_calls, tunnel_after};
 ghost use Rattle.tunnel_core.specs.Cores.{tunnel_of, made_of, AllHaveRoom, HasRoomFor, IsTurn};
 
-use crate::env::Env;
-use crate::turn::{Changed, Given, Turn};
+use crate::events::run;
 use control_channel::ChannelNumbers;
 use id_table::Table;
 use protocol_model::{Call, Config, Control, Event, Role};
@@ -16,6 +13,7 @@ use std::alloc::Global;
 use std::marker::Model;
 use tunnel_calls::TunnelCalls;
 use tunnel_fsm::TunnelState;
+use tunnel_turn::{Changed, Env, Given, Turn};
 use wire_base::{NoMemory, Sequence};
 
 /// What counts as the peer's receive window, in letters, as long as it isn't known (RFC 2661 section 4.4.3).
@@ -155,7 +153,7 @@ impl TunnelCore {
         ensures kept { OnErr result (env.new ≡ env.old) }
     {
         let mut turn = Turn::new(self.alloc, self.control, env);
-        turn.run(role, config, &self.letters, &self.calls, event)?;
+        run(&mut turn, role, config, &self.letters, &self.calls, event)?;
         make_room(&mut self.calls, turn.changed.as_slice())?;
         self.letters.reserve(turn.given.len())?;
         env.take_in(&mut turn)?;

@@ -5,7 +5,7 @@ use Rattle.protocol_model.specs.Turn.{Env}
 use Rattle.protocol_model.specs.End.{End, Stepped, env_of, in_main, with_looks, placed}
 use Rattle.end_core.specs.Gives.{behind_given}
 use Rattle.end_core.specs.contracts.end.End.{the_view as view_of}
-use Rattle.tunnel_core.specs.contracts.env.Env.{the_view as env_view_of}
+use Rattle.tunnel_turn.specs.contracts.env.Env.{the_view as env_view_of}
 use Rattle.tunnel_table.specs.Plans.{IsGiven}
 use Rattle.end_core.proofs.Plans.{tunnel_some}
 use Rattle.end_core.proofs.Steps.{main_made, behind_env, same_behind}

@@ -5,7 +5,7 @@ use Rattle.protocol_model.specs.End.{End, Stepped, env_of, in_new, with_looks, p
 use Rattle.tunnel_core.specs.Cores.{Core, tunnel_of, made_of}
 use Rattle.tunnel_table.specs.Tunnels.{tunnels_of}
 use Rattle.end_core.specs.contracts.end.End.{the_view as view_of}
-use Rattle.tunnel_core.specs.contracts.env.Env.{the_view as env_view_of}
+use Rattle.tunnel_turn.specs.contracts.env.Env.{the_view as env_view_of}
 use Rattle.end_core.proofs.Steps.{new_is, not_made, turned}
 use Rattle.end_core.proofs.end.End.run_new.Goals as goal
 

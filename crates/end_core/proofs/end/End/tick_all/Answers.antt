@@ -4,7 +4,7 @@ use Rattle.protocol_model.specs.Turn.{Env}
 use Rattle.protocol_model.specs.End.{End, Stepped, env_of, with_looks, ticks_all}
 use Rattle.end_core.specs.Ticking.{ticks_at, ArePlanned, with_ticks, after_plans}
 use Rattle.end_core.specs.contracts.end.End.{the_view as view_of}
-use Rattle.tunnel_core.specs.contracts.env.Env.{the_view as env_view_of}
+use Rattle.tunnel_turn.specs.contracts.env.Env.{the_view as env_view_of}
 use Rattle.end_core.proofs.Plans.{all_is}
 use Rattle.end_core.proofs.end.End.tick_all.Goals as goal
 

@@ -1,0 +1,164 @@
+//! Tunnels that are opened, accepted, connected and confirmed (RFC 2661 section 7.2).
+
+ghost use Rattle.std.specs.Prelude.{◌≡◌, ◌<◌, OnOk, IsTrue};
+ghost use Rattle.protocol_model.specs.Turn.{has_room, opened, opens, accepted, accepts, connected, confirms};
+
+use control_message::Message;
+use message_reading::{connection_by, reply_by};
+use protocol_model::{Accepted, Config, Confirmed, Connected, Move, Opened, Out, Role};
+use tunnel_fsm::{TunnelEvent, TunnelState, advance};
+use tunnel_rules::{challenge_by, opening_of};
+use tunnel_turn::Turn;
+use wire_base::{Bytes, Cause, NoMemory, Why};
+
+/// Opens a new tunnel, with this id, by an SCCRQ.
+#[tactic(auto, unfolding(protocol_model::specs::Turn::opened))]
+pub(crate) fn open_as(
+    turn: &mut Turn,
+    role: Role,
+    config: &Config,
+    local: u16,
+) -> Result<(), NoMemory>
+    requires some { 0 < local }
+    requires room { IsTrue (has_room turn.old.control) }
+    ensures { OnOk result (turn.new ≡ opened role config.now local turn.old) }
+{
+    let challenge = challenge_by(config, &turn.block);
+    let opening = opening_of(turn.alloc, role, config, challenge, None, local)?;
+    let given = turn.next_place();
+    let peer = turn.control.peer;
+    let (next, _) = advance(turn.control.state, TunnelEvent::LocalOpen);
+    turn.control.state = next;
+    turn.control.challenge = challenge;
+    turn.draw_tunnel(local);
+    turn.did(Move::Opened(Opened {
+        tunnel: local,
+        peer,
+        challenge,
+        given,
+    }))?;
+    turn.give(0, &Message::Sccrq(opening))
+}
+
+/// Opens a new tunnel.
+#[tactic(auto, unfolding(protocol_model::specs::Turn::opens, protocol_model::specs::Turn::opens_by))]
+pub fn open_tunnel(turn: &mut Turn, role: Role, config: &Config) -> Result<(), NoMemory>
+    ensures { OnOk result (turn.new ≡ opens role config.now turn.old) }
+{
+    match turn.next_tunnel() {
+        Err(_) => turn.output(Out::Cause { cause: Cause::Ids }),
+        Ok(_) if !turn.has_room() => turn.output(Out::Cause {
+            cause: Cause::Queue,
+        }),
+        Ok(local) => open_as(turn, role, config, local as u16),
+    }
+}
+
+/// Makes a new tunnel, with this id, by the SCCRQ of a peer that assigned the other one, and answers by an SCCRP.
+#[tactic(auto, unfolding(protocol_model::specs::Turn::accepted))]
+fn accept_as(
+    turn: &mut Turn,
+    role: Role,
+    config: &Config,
+    asked: &Option<Bytes>,
+    remote: u16,
+    window: u16,
+    local: u16,
+) -> Result<(), NoMemory>
+    requires some { 0 < local }
+    requires room { IsTrue (has_room turn.old.control) }
+    ensures { OnOk result (turn.new ≡ accepted role config.now asked.now remote window local turn.old) }
+{
+    let challenge = challenge_by(config, &turn.block);
+    let response = reply_by(&config.secret, asked);
+    let opening = opening_of(turn.alloc, role, config, challenge, response, local)?;
+    let given = turn.next_place();
+    let taken = turn.taken_place();
+    let peer = turn.control.peer;
+    let (next, _) = advance(turn.control.state, TunnelEvent::SccrqAcc);
+    turn.control.remote = remote;
+    turn.control.state = next;
+    turn.control.challenge = challenge;
+    turn.learn_window(window);
+    turn.draw_tunnel(local);
+    turn.take();
+    turn.did(Move::Accepted(Accepted {
+        tunnel: local,
+        peer,
+        remote,
+        window,
+        challenge,
+        response,
+        taken,
+        given,
+    }))?;
+    turn.give(0, &Message::Sccrp(opening))
+}
+
+/// Makes a new tunnel by the SCCRQ of a peer that asks this, assigned this id and has this receive window.
+#[tactic(auto, unfolding(protocol_model::specs::Turn::accepts, protocol_model::specs::Turn::accepts_by))]
+pub fn accept(
+    turn: &mut Turn,
+    role: Role,
+    config: &Config,
+    asked: &Option<Bytes>,
+    remote: u16,
+    window: u16,
+) -> Result<(), NoMemory>
+    ensures { OnOk result (turn.new ≡ accepts role config.now asked.now remote window turn.old) }
+{
+    match turn.next_tunnel() {
+        Err(_) => turn.drop_with(Why::Tunnel),
+        Ok(local) => {
+            if !turn.has_room() {
+                return turn.drop_with(Why::Queue);
+            }
+            accept_as(turn, role, config, asked, remote, window, local as u16)
+        }
+    }
+}
+
+/// Takes the SCCRP of the peer, learns the id that it assigned and its receive window, and connects the tunnel by an
+/// SCCCN, which answers what the peer asks.
+#[tactic(auto, unfolding(protocol_model::specs::Turn::connected))]
+pub fn connect(
+    turn: &mut Turn,
+    config: &Config,
+    asked: &Option<Bytes>,
+    remote: u16,
+    window: u16,
+    next: TunnelState,
+) -> Result<(), NoMemory>
+    requires room { IsTrue (has_room turn.old.control) }
+    ensures { OnOk result (turn.new ≡ connected config.now asked.now remote window next turn.old) }
+{
+    let response = connection_by(&config.secret, asked);
+    let given = turn.next_place();
+    let taken = turn.taken_place();
+    let tunnel = turn.control.local;
+    turn.control.remote = remote;
+    turn.control.state = next;
+    turn.learn_window(window);
+    turn.take();
+    turn.did(Move::Connected(Connected {
+        tunnel,
+        remote,
+        window,
+        response,
+        taken,
+        given,
+    }))?;
+    turn.give(0, &Message::Scccn { response })
+}
+
+/// Takes the SCCCN of the peer.
+#[tactic(auto, unfolding(protocol_model::specs::Turn::confirms))]
+pub fn confirm(turn: &mut Turn, next: TunnelState) -> Result<(), NoMemory>
+    ensures { OnOk result (turn.new ≡ confirms next turn.old) }
+{
+    let taken = turn.taken_place();
+    let tunnel = turn.control.local;
+    turn.control.state = next;
+    turn.take();
+    turn.did(Move::Confirmed(Confirmed { tunnel, taken }))
+}

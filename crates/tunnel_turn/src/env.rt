@@ -1,0 +1,77 @@
+//! What a step works in.
+
+ghost use Rattle.std.specs.Prelude.{◌≡◌, OnOk, OnErr};
+ghost use Rattle.protocol_model.specs.Turn.{with_turn};
+
+use crate::turn::Turn;
+use id_source::Ids;
+use protocol_model::{CellChanges, Move, Out};
+use std::marker::Model;
+use wire_base::{Contents, NoMemory, Sequence};
+
+/// What a step gives to the outside, in order.
+pub type Outputs = Sequence<Out>;
+
+/// What a step does, in order.
+pub type Moves = Sequence<Move>;
+
+/// What a step of a tunnel works in. Tunnel ids and session ids have 16 bits.
+#[derive(Drop)]
+pub struct Env {
+    /// The moment, in milliseconds.
+    pub moment: u64,
+    /// The step's random block.
+    pub block: [u8; 16],
+    pub tunnels: Ids,
+    pub sessions: Ids,
+    /// Where the numbers of recoveries are drawn from.
+    pub recoveries: Ids,
+    /// What is to be committed before any output is given.
+    pub contents: Contents,
+    pub outputs: Outputs,
+    /// What changes in the looks.
+    pub changes: CellChanges,
+    pub moves: Moves,
+}
+
+impl Model for Env {
+    ghost use Rattle.std.specs.Prelude.{◌≤◌};
+    ghost use Rattle.protocol_model.specs.Turn.{Env as Known};
+
+    ghost Value = { Known };
+
+    ghost view = { λ e. record { moment = e.moment; block = e.block; tunnels = e.tunnels; sessions = e.sessions; recoveries = e.recoveries; contents = e.contents; outputs = e.outputs; changes = e.changes; moves = e.moves } };
+
+    ghost invariant = { λ e. (e.tunnels.last ≤ 65535) × (e.sessions.last ≤ 65535) };
+}
+
+impl Env {
+    /// Takes in what a turn gave. Where memory is wanting, the environment is as before.
+    #[tactic(auto, unfolding(protocol_model::specs::Turn::with_turn))]
+    pub fn take_in(&mut self, turn: &mut Turn) -> Result<(), NoMemory>
+        ensures ok { OnOk result (self.new ≡ with_turn turn.old self.old) }
+        ensures err { OnErr result (self.new ≡ self.old) }
+        ensures control { turn.new.control ≡ turn.old.control }
+        ensures acked { turn.new.acked ≡ turn.old.acked }
+        ensures given { turn.new.given ≡ turn.old.given }
+        ensures cleared { turn.new.cleared ≡ turn.old.cleared }
+        ensures changed { turn.new.changed ≡ turn.old.changed }
+        ensures added { turn.new.added ≡ turn.old.added }
+    {
+        let outputs = self.outputs.len();
+        let changes = self.changes.len();
+        self.outputs.append(&mut turn.outputs)?;
+        if self.changes.append(&mut turn.changes).is_err() {
+            self.outputs.truncate(outputs);
+            return Err(NoMemory);
+        }
+        if self.moves.append(&mut turn.moves).is_err() {
+            self.changes.truncate(changes);
+            self.outputs.truncate(outputs);
+            return Err(NoMemory);
+        }
+        self.tunnels = turn.tunnels;
+        self.sessions = turn.sessions;
+        Ok(())
+    }
+}
