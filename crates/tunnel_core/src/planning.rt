@@ -152,11 +152,12 @@ impl TunnelCore {
         ensures given { OnOk result (env.new ≡ with_turn (turns role config.now self.old.letters.letters self.old.calls.entries event.now (turn_of self.old.control env.old)) env.old) }
         ensures kept { OnErr result (env.new ≡ env.old) }
     {
-        let mut turn = Turn::new(self.alloc, self.control, env);
+        let mut turn = Box::new(self.alloc, Turn::new(self.alloc, self.control, env))?;
         run(&mut turn, role, config, &self.letters, &self.calls, event)?;
         make_room(&mut self.calls, turn.changed.as_slice())?;
         self.letters.reserve(turn.given.len())?;
         env.take_in(&mut turn)?;
+        let turn = Box::into_inner(turn);
         Ok(Planned {
             control: turn.control,
             acked: turn.acked,
