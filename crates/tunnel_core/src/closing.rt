@@ -8,12 +8,13 @@ ghost use Rattle.wire_base.specs.declared.cause.Cause.TheVariants as cause;
 ghost use Rattle.call_fsm.specs.declared.table.CallEvent.TheVariants as event;
 ghost use Rattle.protocol_model.specs.Turn.{has_room, settles, end_silent, end_told, ends_by, closes};
 
-use crate::turn::{Turn, call_row};
+use crate::turn::Turn;
 use call_fsm::{CallAction, CallEvent};
 use control_message::Message;
 use protocol_model::{Call, EndSilent, EndTold, Move, Out, Role};
 use send_window::Letters;
 use tunnel_calls::TunnelCalls;
+use tunnel_rules::call_row;
 use wire_base::{Cause, NoMemory, Why};
 
 /// The result code of a CDN for a call whose carrier was lost (RFC 2661 section 4.4.2).
@@ -22,124 +23,130 @@ const LOST_CARRIER: u16 = 1;
 /// The result code of a CDN for a call that is disconnected for administrative reasons.
 pub(crate) const ADMINISTRATIVE: u16 = 3;
 
-impl Turn {
-    /// A call ends of which the peer knows nothing.
-    #[tactic(auto, unfolding(protocol_model::specs::Turn::end_silent))]
-    fn end_silently(&mut self, session: u16) -> Result<(), NoMemory>
-        ensures { OnOk result (self.new ≡ end_silent session self.old) }
-    {
-        let tunnel = self.control.local;
-        self.end_call(u32::from(session))?;
-        self.did(Move::EndSilent(EndSilent { tunnel, session }))
-    }
+/// A call ends of which the peer knows nothing.
+#[tactic(auto, unfolding(protocol_model::specs::Turn::end_silent))]
+fn end_silently(turn: &mut Turn, session: u16) -> Result<(), NoMemory>
+    ensures { OnOk result (turn.new ≡ end_silent session turn.old) }
+{
+    let tunnel = turn.control.local;
+    turn.end_call(u32::from(session))?;
+    turn.did(Move::EndSilent(EndSilent { tunnel, session }))
+}
 
-    /// A call ends, and the peer is told by a CDN with this result code and error code.
-    #[tactic(auto, unfolding(protocol_model::specs::Turn::end_told))]
-    fn end_and_tell(
-        &mut self,
-        session: u16,
-        call: &Call,
-        code: u16,
-        error: Option<u16>,
-    ) -> Result<(), NoMemory>
-        requires { IsTrue (has_room self.old.control) }
-        ensures { OnOk result (self.new ≡ end_told session call.now code error self.old) }
-    {
-        let given = self.next_place();
-        let tunnel = self.control.local;
-        let remote = call.remote;
-        self.end_call(u32::from(session))?;
-        self.did(Move::EndTold(EndTold {
-            tunnel,
+/// A call ends, and the peer is told by a CDN with this result code and error code.
+#[tactic(auto, unfolding(protocol_model::specs::Turn::end_told))]
+fn end_and_tell(
+    turn: &mut Turn,
+    session: u16,
+    call: &Call,
+    code: u16,
+    error: Option<u16>,
+) -> Result<(), NoMemory>
+    requires { IsTrue (has_room turn.old.control) }
+    ensures { OnOk result (turn.new ≡ end_told session call.now code error turn.old) }
+{
+    let given = turn.next_place();
+    let tunnel = turn.control.local;
+    let remote = call.remote;
+    turn.end_call(u32::from(session))?;
+    turn.did(Move::EndTold(EndTold {
+        tunnel,
+        session,
+        remote,
+        result: code,
+        error,
+        given,
+    }))?;
+    turn.give(
+        remote,
+        &Message::Cdn {
             session,
-            remote,
             result: code,
             error,
-            given,
-        }))?;
-        self.give(
-            remote,
-            &Message::Cdn {
-                session,
-                result: code,
-                error,
-            },
-        )
-    }
+        },
+    )
+}
 
-    /// A call ends as its table has it: the cause is told where the peer is.
-    #[tactic(auto, unfolding(protocol_model::specs::Turn::ends_by))]
-    pub(crate) fn end_by(
-        &mut self,
-        cause: Cause,
-        code: u16,
-        error: Option<u16>,
-        session: u16,
-        call: &Call,
-        action: CallAction,
-    ) -> Result<(), NoMemory>
-        ensures { OnOk result (self.new ≡ ends_by cause code error session call.now action self.old) }
-    {
-        match action {
-            CallAction::CleanUp => self.end_silently(session),
-            CallAction::SendCdn if self.has_room() => {
-                self.output(Out::Cause { cause })?;
-                self.end_and_tell(session, call, code, error)
-            }
-            CallAction::SendCdn => self.drop_with(Why::Queue),
-            _ => Ok(()),
+/// A call ends as its table has it: the cause is told where the peer is.
+#[tactic(auto, unfolding(protocol_model::specs::Turn::ends_by))]
+pub(crate) fn end_by(
+    turn: &mut Turn,
+    cause: Cause,
+    code: u16,
+    error: Option<u16>,
+    session: u16,
+    call: &Call,
+    action: CallAction,
+) -> Result<(), NoMemory>
+    ensures { OnOk result (turn.new ≡ ends_by cause code error session call.now action turn.old) }
+{
+    match action {
+        CallAction::CleanUp => end_silently(turn, session),
+        CallAction::SendCdn if turn.has_room() => {
+            turn.output(Out::Cause { cause })?;
+            end_and_tell(turn, session, call, code, error)
         }
+        CallAction::SendCdn => turn.drop_with(Why::Queue),
+        _ => Ok(()),
     }
+}
 
-    /// Closes a call of this end's, by an event of its table.
-    #[tactic(auto, unfolding(protocol_model::specs::Turn::closes))]
-    fn close(
-        &mut self,
-        role: Role,
-        cause: Cause,
-        event: CallEvent,
-        code: u16,
-        session: u16,
-        call: Option<&Call>,
-    ) -> Result<(), NoMemory>
-        ensures { OnOk result (self.new ≡ closes role cause event code session (option_copied call.entry) self.old) }
-    {
-        let Some(call) = call else {
-            return self.drop_with(Why::Call);
-        };
-        let (_, action) = call_row(role, call.state, event);
-        self.end_by(cause, code, None, session, call, action)
-    }
+/// Closes a call of this end's, by an event of its table.
+#[tactic(auto, unfolding(protocol_model::specs::Turn::closes))]
+fn close(
+    turn: &mut Turn,
+    role: Role,
+    cause: Cause,
+    event: CallEvent,
+    code: u16,
+    session: u16,
+    call: Option<&Call>,
+) -> Result<(), NoMemory>
+    ensures { OnOk result (turn.new ≡ closes role cause event code session (option_copied call.entry) turn.old) }
+{
+    let Some(call) = call else {
+        return turn.drop_with(Why::Call);
+    };
+    let (_, action) = call_row(role, call.state, event);
+    end_by(turn, cause, code, None, session, call, action)
+}
 
-    /// The subscriber of a call leaves.
-    pub(crate) fn hang(
-        &mut self,
-        role: Role,
-        letters: &Letters,
-        calls: &TunnelCalls,
-        session: u16,
-    ) -> Result<(), NoMemory>
-        ensures { OnOk result (self.new ≡ settles false letters.now.letters (closes role cause.Line event.LineDrop 1 session (at calls.now.entries session) self.old)) }
-    {
-        let call = calls.get(u32::from(session));
-        let event = CallEvent::LineDrop;
-        self.close(role, Cause::Line, event, LOST_CARRIER, session, call)?;
-        self.settle(false, letters)
-    }
+/// The subscriber of a call leaves.
+pub(crate) fn hang(
+    turn: &mut Turn,
+    role: Role,
+    letters: &Letters,
+    calls: &TunnelCalls,
+    session: u16,
+) -> Result<(), NoMemory>
+    ensures { OnOk result (turn.new ≡ settles false letters.now.letters (closes role cause.Line event.LineDrop 1 session (at calls.now.entries session) turn.old)) }
+{
+    let call = calls.get(u32::from(session));
+    let event = CallEvent::LineDrop;
+    close(turn, role, Cause::Line, event, LOST_CARRIER, session, call)?;
+    turn.settle(false, letters)
+}
 
-    /// A call is closed for administrative reasons.
-    pub(crate) fn drop_call(
-        &mut self,
-        role: Role,
-        letters: &Letters,
-        calls: &TunnelCalls,
-        session: u16,
-    ) -> Result<(), NoMemory>
-        ensures { OnOk result (self.new ≡ settles false letters.now.letters (closes role cause.Operator event.Close 3 session (at calls.now.entries session) self.old)) }
-    {
-        let call = calls.get(u32::from(session));
-        let event = CallEvent::Close;
-        self.close(role, Cause::Operator, event, ADMINISTRATIVE, session, call)?;
-        self.settle(false, letters)
-    }
+/// A call is closed for administrative reasons.
+pub(crate) fn drop_call(
+    turn: &mut Turn,
+    role: Role,
+    letters: &Letters,
+    calls: &TunnelCalls,
+    session: u16,
+) -> Result<(), NoMemory>
+    ensures { OnOk result (turn.new ≡ settles false letters.now.letters (closes role cause.Operator event.Close 3 session (at calls.now.entries session) turn.old)) }
+{
+    let call = calls.get(u32::from(session));
+    let event = CallEvent::Close;
+    close(
+        turn,
+        role,
+        Cause::Operator,
+        event,
+        ADMINISTRATIVE,
+        session,
+        call,
+    )?;
+    turn.settle(false, letters)
 }

@@ -5,195 +5,208 @@ ghost use Rattle.std.specs.Option.{option_copied};
 ghost use Rattle.control_message.specs.declared.kind.Kind.TheVariants as kind;
 ghost use Rattle.protocol_model.specs.Turn.{faulty_at, faulty, in_faulty_call, hears_faulty};
 
-use crate::turn::{Turn, call_row};
+use crate::hearing::take_letter;
+use crate::refusing::{answer, answer_no_call, refuse};
+use crate::turn::Turn;
 use call_fsm::{CallAction, CallEvent, CallState};
 use control_message::Kind;
 use message_reading::{CallFault, Reason, Said, fault_reason};
 use protocol_model::{Call, Config, Role};
 use tunnel_calls::TunnelCalls;
 use tunnel_fsm::TunnelState;
+use tunnel_rules::call_row;
 use wire_base::{Cause, NoMemory, Why};
 
-impl Turn {
-    /// What is done for a faulty letter by the table's row for this event, or, where there is no such call, by the action `none`.
-    #[tactic(auto, unfolding(protocol_model::specs::Turn::faulty_at))]
-    fn answer_fault(
-        &mut self,
-        role: Role,
-        reason: &Reason,
-        remote: u16,
-        event: CallEvent,
-        none: CallAction,
-        id: u32,
-        call: Option<&Call>,
-    ) -> Result<(), NoMemory>
-        ensures { OnOk result (self.new ≡ faulty_at role reason.now id remote event none (option_copied call.entry) self.old) }
-    {
-        let Some(call) = call else {
-            return self.answer_no_call(reason, remote, none);
-        };
-        let (_, action) = call_row(role, call.state, event);
-        self.answer(reason, id, call, action)
-    }
+/// What is done for a faulty letter by the table's row for this event, or, where there is no such call, by the action `none`.
+#[tactic(auto, unfolding(protocol_model::specs::Turn::faulty_at))]
+fn answer_fault(
+    turn: &mut Turn,
+    role: Role,
+    reason: &Reason,
+    remote: u16,
+    event: CallEvent,
+    none: CallAction,
+    id: u32,
+    call: Option<&Call>,
+) -> Result<(), NoMemory>
+    ensures { OnOk result (turn.new ≡ faulty_at role reason.now id remote event none (option_copied call.entry) turn.old) }
+{
+    let Some(call) = call else {
+        return answer_no_call(turn, reason, remote, none);
+    };
+    let (_, action) = call_row(role, call.state, event);
+    answer(turn, reason, id, call, action)
+}
 
-    /// A faulty request for a call.
-    #[tactic(auto, unfolding(protocol_model::specs::Turn::faulty))]
-    fn take_faulty_request(
-        &mut self,
-        role: Role,
-        calls: &TunnelCalls,
-        session: u16,
-        cause: Cause,
-        told: Option<u16>,
-    ) -> Result<(), NoMemory>
-        ensures { OnOk result (self.new ≡ faulty role calls.now.entries session kind.Icrq cause told self.old) }
-    {
-        let id = u32::from(session);
-        let event = CallEvent::IcrqNotAcc;
-        let none = CallAction::SendCdn;
-        let remote = told.unwrap_or(0);
-        self.answer_fault(
-            role,
-            &fault_reason(cause),
-            remote,
-            event,
-            none,
-            id,
-            calls.get(id),
-        )
-    }
+/// A faulty request for a call.
+#[tactic(auto, unfolding(protocol_model::specs::Turn::faulty))]
+fn take_faulty_request(
+    turn: &mut Turn,
+    role: Role,
+    calls: &TunnelCalls,
+    session: u16,
+    cause: Cause,
+    told: Option<u16>,
+) -> Result<(), NoMemory>
+    ensures { OnOk result (turn.new ≡ faulty role calls.now.entries session kind.Icrq cause told turn.old) }
+{
+    let id = u32::from(session);
+    let event = CallEvent::IcrqNotAcc;
+    let none = CallAction::SendCdn;
+    let remote = told.unwrap_or(0);
+    answer_fault(
+        turn,
+        role,
+        &fault_reason(cause),
+        remote,
+        event,
+        none,
+        id,
+        calls.get(id),
+    )
+}
 
-    /// A faulty request for an outgoing call.
-    #[tactic(auto, unfolding(protocol_model::specs::Turn::faulty))]
-    fn refuse_faulty(
-        &mut self,
-        role: Role,
-        calls: &TunnelCalls,
-        session: u16,
-        cause: Cause,
-        told: Option<u16>,
-    ) -> Result<(), NoMemory>
-        ensures { OnOk result (self.new ≡ faulty role calls.now.entries session kind.Ocrq cause told self.old) }
-    {
-        self.refuse(&fault_reason(cause), told.unwrap_or(0))
-    }
+/// A faulty request for an outgoing call.
+#[tactic(auto, unfolding(protocol_model::specs::Turn::faulty))]
+fn refuse_faulty(
+    turn: &mut Turn,
+    role: Role,
+    calls: &TunnelCalls,
+    session: u16,
+    cause: Cause,
+    told: Option<u16>,
+) -> Result<(), NoMemory>
+    ensures { OnOk result (turn.new ≡ faulty role calls.now.entries session kind.Ocrq cause told turn.old) }
+{
+    refuse(turn, &fault_reason(cause), told.unwrap_or(0))
+}
 
-    /// A faulty CDN, for a call that the header names by its session, or, where that is 0, by the one that the peer assigned.
-    #[tactic(auto, unfolding(protocol_model::specs::Turn::faulty))]
-    fn take_faulty_end(
-        &mut self,
-        role: Role,
-        calls: &TunnelCalls,
-        session: u16,
-        cause: Cause,
-        told: Option<u16>,
-    ) -> Result<(), NoMemory>
-        ensures { OnOk result (self.new ≡ faulty role calls.now.entries session kind.Cdn cause told self.old) }
-    {
-        let named = calls.session_named(self.alloc, session, told.unwrap_or(0))?;
-        let (_, none) = call_row(role, CallState::Idle, CallEvent::CdnCame);
-        let event = CallEvent::Close;
-        self.answer_fault(
-            role,
-            &fault_reason(cause),
-            0,
-            event,
-            none,
-            named,
-            calls.get(named),
-        )
-    }
+/// A faulty CDN, for a call that the header names by its session, or, where that is 0, by the one that the peer assigned.
+#[tactic(auto, unfolding(protocol_model::specs::Turn::faulty))]
+fn take_faulty_end(
+    turn: &mut Turn,
+    role: Role,
+    calls: &TunnelCalls,
+    session: u16,
+    cause: Cause,
+    told: Option<u16>,
+) -> Result<(), NoMemory>
+    ensures { OnOk result (turn.new ≡ faulty role calls.now.entries session kind.Cdn cause told turn.old) }
+{
+    let named = calls.session_named(turn.alloc, session, told.unwrap_or(0))?;
+    let (_, none) = call_row(role, CallState::Idle, CallEvent::CdnCame);
+    let event = CallEvent::Close;
+    answer_fault(
+        turn,
+        role,
+        &fault_reason(cause),
+        0,
+        event,
+        none,
+        named,
+        calls.get(named),
+    )
+}
 
-    /// A faulty letter of this kind about a call.
-    #[tactic(auto, unfolding(protocol_model::specs::Turn::faulty))]
-    fn take_faulty(
-        &mut self,
-        role: Role,
-        calls: &TunnelCalls,
-        session: u16,
-        kind: Kind,
-        cause: Cause,
-        told: Option<u16>,
-    ) -> Result<(), NoMemory>
-        ensures { OnOk result (self.new ≡ faulty role calls.now.entries session kind cause told self.old) }
-    {
-        let id = u32::from(session);
-        let (remote, event, none) = match kind {
-            Kind::Icrq => return self.take_faulty_request(role, calls, session, cause, told),
-            Kind::Ocrq => return self.refuse_faulty(role, calls, session, cause, told),
-            Kind::Cdn => return self.take_faulty_end(role, calls, session, cause, told),
-            Kind::Icrp => {
-                let event = CallEvent::IcrpNotAcc;
-                (
-                    told.unwrap_or(0),
-                    event,
-                    call_row(role, CallState::Idle, event).1,
-                )
-            }
-            Kind::Iccn => {
-                let event = CallEvent::IccnNotAcc;
-                (0, event, call_row(role, CallState::Idle, event).1)
-            }
-            _ => (0, CallEvent::Close, CallAction::Nothing),
-        };
-        self.answer_fault(
-            role,
-            &fault_reason(cause),
-            remote,
-            event,
-            none,
-            id,
-            calls.get(id),
-        )
-    }
-
-    /// A faulty letter about a call: only an open tunnel carries calls.
-    #[tactic(auto, unfolding(protocol_model::specs::Turn::in_faulty_call))]
-    fn hear_call_fault(
-        &mut self,
-        role: Role,
-        calls: &TunnelCalls,
-        session: u16,
-        fault: &CallFault,
-    ) -> Result<(), NoMemory>
-        ensures { OnOk result (self.new ≡ in_faulty_call role calls.now.entries session fault.now self.old) }
-    {
-        if self.control.state != TunnelState::Established {
-            return self.ignore(Why::Session);
+/// A faulty letter of this kind about a call.
+#[tactic(auto, unfolding(protocol_model::specs::Turn::faulty))]
+fn take_faulty(
+    turn: &mut Turn,
+    role: Role,
+    calls: &TunnelCalls,
+    session: u16,
+    kind: Kind,
+    cause: Cause,
+    told: Option<u16>,
+) -> Result<(), NoMemory>
+    ensures { OnOk result (turn.new ≡ faulty role calls.now.entries session kind cause told turn.old) }
+{
+    let id = u32::from(session);
+    let (remote, event, none) = match kind {
+        Kind::Icrq => return take_faulty_request(turn, role, calls, session, cause, told),
+        Kind::Ocrq => return refuse_faulty(turn, role, calls, session, cause, told),
+        Kind::Cdn => return take_faulty_end(turn, role, calls, session, cause, told),
+        Kind::Icrp => {
+            let event = CallEvent::IcrpNotAcc;
+            (
+                told.unwrap_or(0),
+                event,
+                call_row(role, CallState::Idle, event).1,
+            )
         }
-        self.take_faulty(role, calls, session, fault.kind, fault.cause, fault.session)
-    }
-
-    /// A faulty letter: one about a call, or one that is an event of the tunnel's table; one of an unknown type that need not be
-    /// understood is neither.
-    #[tactic(auto, unfolding(protocol_model::specs::Turn::hears_faulty))]
-    pub(crate) fn hear_fault(
-        &mut self,
-        role: Role,
-        config: &Config,
-        calls: &TunnelCalls,
-        session: u16,
-        said: &Said,
-        why: Why,
-    ) -> Result<(), NoMemory>
-        ensures { OnOk result (self.new ≡ hears_faulty role config.now calls.now.entries session said.now.fault said.now.closing why self.old) }
-    {
-        match (&said.fault, &said.closing) {
-            (Some(fault), _) => self.hear_call_fault(role, calls, session, fault),
-            (None, Some(fault)) => {
-                let reason = fault_reason(fault.cause);
-                self.take_letter(
-                    role,
-                    config,
-                    calls,
-                    &reason,
-                    fault.event,
-                    &None,
-                    fault.remote,
-                    0,
-                )
-            }
-            (None, None) => self.ignore(why),
+        Kind::Iccn => {
+            let event = CallEvent::IccnNotAcc;
+            (0, event, call_row(role, CallState::Idle, event).1)
         }
+        _ => (0, CallEvent::Close, CallAction::Nothing),
+    };
+    answer_fault(
+        turn,
+        role,
+        &fault_reason(cause),
+        remote,
+        event,
+        none,
+        id,
+        calls.get(id),
+    )
+}
+
+/// A faulty letter about a call: only an open tunnel carries calls.
+#[tactic(auto, unfolding(protocol_model::specs::Turn::in_faulty_call))]
+fn hear_call_fault(
+    turn: &mut Turn,
+    role: Role,
+    calls: &TunnelCalls,
+    session: u16,
+    fault: &CallFault,
+) -> Result<(), NoMemory>
+    ensures { OnOk result (turn.new ≡ in_faulty_call role calls.now.entries session fault.now turn.old) }
+{
+    if turn.control.state != TunnelState::Established {
+        return turn.ignore(Why::Session);
+    }
+    take_faulty(
+        turn,
+        role,
+        calls,
+        session,
+        fault.kind,
+        fault.cause,
+        fault.session,
+    )
+}
+
+/// A faulty letter: one about a call, or one that is an event of the tunnel's table; one of an unknown type that need not be
+/// understood is neither.
+#[tactic(auto, unfolding(protocol_model::specs::Turn::hears_faulty))]
+pub(crate) fn hear_fault(
+    turn: &mut Turn,
+    role: Role,
+    config: &Config,
+    calls: &TunnelCalls,
+    session: u16,
+    said: &Said,
+    why: Why,
+) -> Result<(), NoMemory>
+    ensures { OnOk result (turn.new ≡ hears_faulty role config.now calls.now.entries session said.now.fault said.now.closing why turn.old) }
+{
+    match (&said.fault, &said.closing) {
+        (Some(fault), _) => hear_call_fault(turn, role, calls, session, fault),
+        (None, Some(fault)) => {
+            let reason = fault_reason(fault.cause);
+            take_letter(
+                turn,
+                role,
+                config,
+                calls,
+                &reason,
+                fault.event,
+                &None,
+                fault.remote,
+                0,
+            )
+        }
+        (None, None) => turn.ignore(why),
     }
 }

@@ -8,7 +8,9 @@ mod asking;
 mod calls;
 mod closing;
 mod env;
+mod events;
 mod faulty;
+mod frames;
 mod hearing;
 mod links;
 mod openings;
@@ -21,5 +23,5 @@ mod ticking;
 mod turn;
 
 pub use env::{Env, Moves, Outputs};
-pub use hearing::same_state;
 pub use planning::{Planned, TunnelCore};
+pub use tunnel_rules::same_state;

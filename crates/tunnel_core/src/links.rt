@@ -7,9 +7,9 @@ ghost use Rattle.lcp_end.specs.Steps.{opened, ticked, after_packet};
 ghost use Rattle.protocol_model.specs.Links.{magic_of};
 ghost use Rattle.protocol_model.specs.Turn.{lcp_frame, new_link, with_link, link_after, is_first_open, looks_of, with_looks_of, sends_packets, negotiated, links, hears_link, hears_lcp, ticks_link, connects_call, linked_up, second_up};
 
-use crate::calls::is_up;
-use crate::closing::ADMINISTRATIVE;
-use crate::turn::{Turn, advanced, call_row};
+use crate::closing::{ADMINISTRATIVE, end_by};
+use crate::frames::send_frame;
+use crate::turn::Turn;
 use byteorder::{BigEndian, ByteOrder};
 use call_fsm::CallEvent;
 use lcp_end::{LcpEnd, LcpOut};
@@ -17,6 +17,7 @@ use protocol_model::{Call, CallSteps, CellChange, Link, Move, Negotiated, Role, 
 use send_window::Letters;
 use std::alloc::Global;
 use std::marker::Model;
+use tunnel_rules::{advanced, call_row, is_up};
 use wire_base::{Bytes, Cause, NoMemory, Why};
 
 /// What stands before an LCP packet in a PPP frame: the number of its protocol (RFC 1661 section 2).
@@ -137,187 +138,203 @@ fn packet_in(frame: &[u8]) -> &[u8]
     &frame[frame.len().min(LCP.len())..]
 }
 
-impl Turn {
-    /// Sends these LCP packets of a call to the tunnel's peer, in order.
-    #[tactic(auto, unfolding(protocol_model::specs::Turn::sends_packets))]
-    fn send_packets(&mut self, session: u16, packets: &[Bytes], call: &Call) -> Result<(), NoMemory>
-        ensures { OnOk result (self.new ≡ sends_packets session packets.now call.now self.old) }
-    {
-        for packet in packets {
-            let frame = lcp_frame(self.alloc, packet.as_slice())?;
-            self.send_frame(session, frame.as_slice(), call)?;
-        }
-        Ok(())
+/// Sends these LCP packets of a call to the tunnel's peer, in order.
+#[tactic(auto, unfolding(protocol_model::specs::Turn::sends_packets))]
+fn send_packets(
+    turn: &mut Turn,
+    session: u16,
+    packets: &[Bytes],
+    call: &Call,
+) -> Result<(), NoMemory>
+    ensures { OnOk result (turn.new ≡ sends_packets session packets.now call.now turn.old) }
+{
+    for packet in packets {
+        let frame = lcp_frame(turn.alloc, packet.as_slice())?;
+        send_frame(turn, session, frame.as_slice(), call)?;
     }
+    Ok(())
+}
 
-    /// Where LCP is open for the first time in a call, all frames pass from now on.
-    #[tactic(auto, unfolding(protocol_model::specs::Turn::with_looks_of))]
-    fn look_by(&mut self, session: u16, first: bool) -> Result<(), NoMemory>
-        ensures { OnOk result (self.new ≡ with_looks_of (looks_of first session) self.old) }
-    {
-        if first {
-            self.changes.push(CellChange::Establish { session })?;
-        }
-        Ok(())
+/// Where LCP is open for the first time in a call, all frames pass from now on.
+#[tactic(auto, unfolding(protocol_model::specs::Turn::with_looks_of))]
+fn look_by(turn: &mut Turn, session: u16, first: bool) -> Result<(), NoMemory>
+    ensures { OnOk result (turn.new ≡ with_looks_of (looks_of first session) turn.old) }
+{
+    if first {
+        turn.changes.push(CellChange::Establish { session })?;
     }
+    Ok(())
+}
 
-    /// The call goes on with its LCP end as a step of it leaves it, and what the step gave is sent.
-    #[tactic(auto, unfolding(protocol_model::specs::Turn::negotiated))]
-    fn negotiate(
-        &mut self,
-        session: u16,
-        call: &Call,
-        link: &Link,
-        step: &LinkStep,
-    ) -> Result<(), NoMemory>
-        ensures { OnOk result (self.new ≡ negotiated session call.now link.now step.now self.old) }
-    {
-        let tunnel = self.control.local;
-        let after = with_link(self.alloc, link_after(link, step), call)?;
-        self.send_packets(session, step.out.packets.as_slice(), call)?;
-        self.change(session, after)?;
-        self.did(Move::Negotiated(Negotiated { tunnel, session }))?;
-        self.look_by(session, is_first_open(link, &step.out))
-    }
+/// The call goes on with its LCP end as a step of it leaves it, and what the step gave is sent.
+#[tactic(auto, unfolding(protocol_model::specs::Turn::negotiated))]
+fn negotiate(
+    turn: &mut Turn,
+    session: u16,
+    call: &Call,
+    link: &Link,
+    step: &LinkStep,
+) -> Result<(), NoMemory>
+    ensures { OnOk result (turn.new ≡ negotiated session call.now link.now step.now turn.old) }
+{
+    let tunnel = turn.control.local;
+    let after = with_link(turn.alloc, link_after(link, step), call)?;
+    send_packets(turn, session, step.out.packets.as_slice(), call)?;
+    turn.change(session, after)?;
+    turn.did(Move::Negotiated(Negotiated { tunnel, session }))?;
+    look_by(turn, session, is_first_open(link, &step.out))
+}
 
-    /// The LCP end of a call made a step: where it is finished, the call ends.
-    #[tactic(auto, unfolding(protocol_model::specs::Turn::links))]
-    fn follow_link(
-        &mut self,
-        role: Role,
-        letters: &Letters,
-        session: u16,
-        call: &Call,
-        link: &Link,
-        step: &LinkStep,
-    ) -> Result<(), NoMemory>
-        ensures { OnOk result (self.new ≡ links role letters.now.letters session call.now link.now step.now self.old) }
-    {
-        if !step.out.finished {
-            return self.negotiate(session, call, link, step);
-        }
-        let (_, action) = call_row(role, call.state, CallEvent::Close);
-        self.end_by(Cause::Lcp, ADMINISTRATIVE, None, session, call, action)?;
-        self.settle(false, letters)
+/// The LCP end of a call made a step: where it is finished, the call ends.
+#[tactic(auto, unfolding(protocol_model::specs::Turn::links))]
+fn follow_link(
+    turn: &mut Turn,
+    role: Role,
+    letters: &Letters,
+    session: u16,
+    call: &Call,
+    link: &Link,
+    step: &LinkStep,
+) -> Result<(), NoMemory>
+    ensures { OnOk result (turn.new ≡ links role letters.now.letters session call.now link.now step.now turn.old) }
+{
+    if !step.out.finished {
+        return negotiate(turn, session, call, link, step);
     }
+    let (_, action) = call_row(role, call.state, CallEvent::Close);
+    end_by(
+        turn,
+        Cause::Lcp,
+        ADMINISTRATIVE,
+        None,
+        session,
+        call,
+        action,
+    )?;
+    turn.settle(false, letters)
+}
 
-    /// An LCP packet came up a call.
-    #[tactic(auto, unfolding(protocol_model::specs::Turn::hears_link))]
-    fn hear_link(
-        &mut self,
-        role: Role,
-        letters: &Letters,
-        session: u16,
-        frame: &[u8],
-        call: &Call,
-    ) -> Result<(), NoMemory>
-        ensures { OnOk result (self.new ≡ hears_link role letters.now.letters session frame.now call.now call.now.link self.old) }
-    {
-        let Some(link) = &call.link else {
-            return self.drop_with(Why::Closed);
-        };
-        let packet = packet_in(frame);
-        let step = step_on_packet(self.alloc, packet, &self.block, self.moment, link)?;
-        self.follow_link(role, letters, session, call, link, &step)
-    }
+/// An LCP packet came up a call.
+#[tactic(auto, unfolding(protocol_model::specs::Turn::hears_link))]
+fn hear_link(
+    turn: &mut Turn,
+    role: Role,
+    letters: &Letters,
+    session: u16,
+    frame: &[u8],
+    call: &Call,
+) -> Result<(), NoMemory>
+    ensures { OnOk result (turn.new ≡ hears_link role letters.now.letters session frame.now call.now call.now.link turn.old) }
+{
+    let Some(link) = &call.link else {
+        return turn.drop_with(Why::Closed);
+    };
+    let packet = packet_in(frame);
+    let step = step_on_packet(turn.alloc, packet, &turn.block, turn.moment, link)?;
+    follow_link(turn, role, letters, session, call, link, &step)
+}
 
-    /// An LCP packet came up a call, in a frame from its protocol field on.
-    #[tactic(auto, unfolding(protocol_model::specs::Turn::hears_lcp))]
-    pub(crate) fn hear_lcp(
-        &mut self,
-        role: Role,
-        letters: &Letters,
-        session: u16,
-        frame: &[u8],
-        call: Option<&Call>,
-    ) -> Result<(), NoMemory>
-        ensures { OnOk result (self.new ≡ hears_lcp role letters.now.letters session frame.now (option_copied call.entry) self.old) }
-    {
-        let Some(call) = call else {
-            return self.drop_with(Why::Call);
-        };
-        if !is_up(call.state) {
-            return self.drop_with(Why::Closed);
-        }
-        self.hear_link(role, letters, session, frame, call)
+/// An LCP packet came up a call, in a frame from its protocol field on.
+#[tactic(auto, unfolding(protocol_model::specs::Turn::hears_lcp))]
+pub(crate) fn hear_lcp(
+    turn: &mut Turn,
+    role: Role,
+    letters: &Letters,
+    session: u16,
+    frame: &[u8],
+    call: Option<&Call>,
+) -> Result<(), NoMemory>
+    ensures { OnOk result (turn.new ≡ hears_lcp role letters.now.letters session frame.now (option_copied call.entry) turn.old) }
+{
+    let Some(call) = call else {
+        return turn.drop_with(Why::Call);
+    };
+    if !is_up(call.state) {
+        return turn.drop_with(Why::Closed);
     }
+    hear_link(turn, role, letters, session, frame, call)
+}
 
-    /// The timer of the LCP end of a call runs out.
-    fn run_out(
-        &mut self,
-        role: Role,
-        letters: &Letters,
-        session: u16,
-        call: &Call,
-        link: &Link,
-    ) -> Result<(), NoMemory>
-        ensures { OnOk result (self.new ≡ links role letters.now.letters session call.now link.now (ticked self.old.moment link.now.lcp) self.old) }
-    {
-        let step = step_on_tick(self.alloc, self.moment, link)?;
-        self.follow_link(role, letters, session, call, link, &step)
-    }
+/// The timer of the LCP end of a call runs out.
+fn run_out(
+    turn: &mut Turn,
+    role: Role,
+    letters: &Letters,
+    session: u16,
+    call: &Call,
+    link: &Link,
+) -> Result<(), NoMemory>
+    ensures { OnOk result (turn.new ≡ links role letters.now.letters session call.now link.now (ticked turn.old.moment link.now.lcp) turn.old) }
+{
+    let step = step_on_tick(turn.alloc, turn.moment, link)?;
+    follow_link(turn, role, letters, session, call, link, &step)
+}
 
-    /// Time passes for the LCP end of a call, where it has one. One that isn't due takes no memory.
-    #[tactic(auto, unfolding(protocol_model::specs::Turn::ticks_link))]
-    pub(crate) fn tick_link(
-        &mut self,
-        role: Role,
-        letters: &Letters,
-        session: u16,
-        call: &Call,
-    ) -> Result<(), NoMemory>
-        ensures { OnOk result (self.new ≡ ticks_link role letters.now.letters session call.now call.now.link self.old) }
-    {
-        let Some(link) = &call.link else {
-            return Ok(());
-        };
-        if !is_up(call.state) || !link.lcp.is_due(self.moment) {
-            return Ok(());
-        }
-        self.run_out(role, letters, session, call, link)
+/// Time passes for the LCP end of a call, where it has one. One that isn't due takes no memory.
+#[tactic(auto, unfolding(protocol_model::specs::Turn::ticks_link))]
+pub(crate) fn tick_link(
+    turn: &mut Turn,
+    role: Role,
+    letters: &Letters,
+    session: u16,
+    call: &Call,
+) -> Result<(), NoMemory>
+    ensures { OnOk result (turn.new ≡ ticks_link role letters.now.letters session call.now call.now.link turn.old) }
+{
+    let Some(link) = &call.link else {
+        return Ok(());
+    };
+    if !is_up(call.state) || !link.lcp.is_due(turn.moment) {
+        return Ok(());
     }
+    run_out(turn, role, letters, session, call, link)
+}
 
-    /// The call is connected, and has its link.
-    #[tactic(auto, unfolding(protocol_model::specs::Turn::second_up))]
-    fn second_up(&mut self, session: u16, call: Call) -> Result<(), NoMemory>
-        ensures { OnOk result (self.new ≡ second_up session call self.old) }
-    {
-        let taken = self.taken_place();
-        let tunnel = self.control.local;
-        let peer = self.control.peer;
-        self.take();
-        self.change(session, call)?;
-        self.did(Move::SecondUp(SecondUp {
-            tunnel,
-            session,
-            taken,
-        }))?;
-        self.look(CellChange::Bind {
-            session,
-            tunnel,
-            peer,
-        })
-    }
+/// The call is connected, and has its link.
+#[tactic(auto, unfolding(protocol_model::specs::Turn::second_up))]
+fn second_up(turn: &mut Turn, session: u16, call: Call) -> Result<(), NoMemory>
+    ensures { OnOk result (turn.new ≡ second_up session call turn.old) }
+{
+    let taken = turn.taken_place();
+    let tunnel = turn.control.local;
+    let peer = turn.control.peer;
+    turn.take();
+    turn.change(session, call)?;
+    turn.did(Move::SecondUp(SecondUp {
+        tunnel,
+        session,
+        taken,
+    }))?;
+    turn.look(CellChange::Bind {
+        session,
+        tunnel,
+        peer,
+    })
+}
 
-    /// The call is connected, and LCP is opened in it.
-    #[tactic(auto, unfolding(protocol_model::specs::Turn::connects_call))]
-    fn open_link(&mut self, session: u16, call: &Call, link: Link) -> Result<(), NoMemory>
-        ensures { OnOk result (self.new ≡ connects_call session (with_link link call.now) link self.old) }
-    {
-        let linked = with_link(self.alloc, link, call)?;
-        let step = step_on_open(self.alloc, self.moment, &link)?;
-        self.second_up(session, with_link(self.alloc, link, call)?)?;
-        self.negotiate(session, &linked, &link, &step)
-    }
+/// The call is connected, and LCP is opened in it.
+#[tactic(auto, unfolding(protocol_model::specs::Turn::connects_call))]
+fn open_link(turn: &mut Turn, session: u16, call: &Call, link: Link) -> Result<(), NoMemory>
+    ensures { OnOk result (turn.new ≡ connects_call session (with_link link call.now) link turn.old) }
+{
+    let linked = with_link(turn.alloc, link, call)?;
+    let step = step_on_open(turn.alloc, turn.moment, &link)?;
+    second_up(turn, session, with_link(turn.alloc, link, call)?)?;
+    negotiate(turn, session, &linked, &link, &step)
+}
 
-    /// The call is connected: it has a link from now on, in which LCP is opened.
-    #[tactic(auto, unfolding(protocol_model::specs::Turn::linked_up))]
-    pub(crate) fn link_up(&mut self, role: Role, session: u16, call: &Call) -> Result<(), NoMemory>
-        ensures { OnOk result (self.new ≡ linked_up role session call.now self.old) }
-    {
-        let event = CallEvent::IccnAcc;
-        let up = advanced(self.alloc, role, event, self.moment, call, call.remote)?;
-        let link = new_link(&self.block);
-        self.open_link(session, &up, link)
-    }
+/// The call is connected: it has a link from now on, in which LCP is opened.
+#[tactic(auto, unfolding(protocol_model::specs::Turn::linked_up))]
+pub(crate) fn link_up(
+    turn: &mut Turn,
+    role: Role,
+    session: u16,
+    call: &Call,
+) -> Result<(), NoMemory>
+    ensures { OnOk result (turn.new ≡ linked_up role session call.now turn.old) }
+{
+    let event = CallEvent::IccnAcc;
+    let up = advanced(turn.alloc, role, event, turn.moment, call, call.remote)?;
+    let link = new_link(&turn.block);
+    open_link(turn, session, &up, link)
 }

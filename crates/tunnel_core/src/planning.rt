@@ -1,12 +1,11 @@
 //! A tunnel with its calls: an event is planned, and then made.
 
 ghost use Rattle.std.specs.Prelude.{◌≡◌, ◌≤◌, ◌++◌, [], length, OnOk, OnErr, IfOk};
-ghost use Rattle.id_table.specs.Ids.{put};
-ghost use Rattle.id_table.specs.Tables.{KeepsRoom};
 ghost use Rattle.protocol_model.specs.Turn.{fresh, turn_of, with_turn, turns, with_calls, tunnel_after};
 ghost use Rattle.tunnel_core.specs.Cores.{tunnel_of, made_of, AllHaveRoom, HasRoomFor, IsTurn};
 
 use crate::env::Env;
+use crate::events::run;
 use crate::turn::{Changed, Given, Turn};
 use control_channel::ChannelNumbers;
 use id_table::Table;
@@ -154,11 +153,12 @@ impl TunnelCore {
         ensures given { OnOk result (env.new ≡ with_turn (turns role config.now self.old.letters.letters self.old.calls.entries event.now (turn_of self.old.control env.old)) env.old) }
         ensures kept { OnErr result (env.new ≡ env.old) }
     {
-        let mut turn = Turn::new(self.alloc, self.control, env);
-        turn.run(role, config, &self.letters, &self.calls, event)?;
+        let mut turn = Box::new(self.alloc, Turn::new(self.alloc, self.control, env))?;
+        run(&mut turn, role, config, &self.letters, &self.calls, event)?;
         make_room(&mut self.calls, turn.changed.as_slice())?;
         self.letters.reserve(turn.given.len())?;
         env.take_in(&mut turn)?;
+        let turn = Box::into_inner(turn);
         Ok(Planned {
             control: turn.control,
             acked: turn.acked,

@@ -1,22 +1,18 @@
 //! A tunnel's control channel in a step (RFC 2661 section 5.8): letters that are given, acknowledged and sent.
 
-ghost use Rattle.std.specs.Prelude.{◌≡◌, ◌≤◌, length, OnOk, IfOk, IfSome, IsTrue, option_copied};
-ghost use Rattle.control_message.specs.Pairs.{IsWritten, hidden_of};
+ghost use Rattle.std.specs.Prelude.{◌≡◌, ◌≤◌, length, OnOk, IfOk, IsTrue, option_copied};
+ghost use Rattle.control_message.specs.Pairs.{IsWritten};
 ghost use Rattle.control_channel.specs.Numbers.{next_to_go, ticked_at};
-ghost use Rattle.protocol_model.specs.Turn.{has_room as room_in, may_take, next_place, taken_place, gives, gives_as, takes_one, learns_window, reads_nr, letter_in, origin_of, datagram, sends_now, repeats, lets_all_go, acknowledges, settles};
-ghost use Rattle.protocol_model.specs.Messages.{hidden_by};
-ghost use Rattle.protocol_model.specs.Secrets.{sixteen};
+ghost use Rattle.protocol_model.specs.Turn.{has_room as room_in, next_place, taken_place, gives, gives_as, takes_one, learns_window, reads_nr, letter_in, origin_of, datagram, sends_now, repeats, lets_all_go, acknowledges, settles, takes_plain, ignores};
 ghost use Rattle.tunnel_core.specs.Gives.{WentBy};
 
 use crate::turn::Turn;
 use control_channel::ChannelNumbers;
-use control_message::{Message, has_room, hides_nothing_without_a_vector, write_message};
+use control_message::{Message, hides_nothing_without_a_vector, write_message};
 use l2tp_header::write_control;
-use protocol_model::{Config, ControlOrigin, LetGo, Move, NrRead, Origin, Out, Place, Repeated};
+use protocol_model::{ControlOrigin, LetGo, Move, NrRead, Origin, Out, Place, Repeated, TookPlain};
 use send_window::Letters;
-use std::alloc::Global;
-use tunnel_calls::TunnelCalls;
-use wire_base::{Bytes, Letter, NoMemory};
+use wire_base::{Bytes, Letter, NoMemory, Why};
 
 /// How many letters of a channel may be unacknowledged or unsent.
 const LIMIT: usize = 8192;
@@ -31,54 +27,12 @@ fn place(number: u64) -> Place
     Place { epoch: 0, number }
 }
 
-/// The pairs of a message of which an end hides the Calling Number, by its secret and behind a Random Vector, which is the
-/// step's random block (RFC 2661 section 4.3). An end that hides nothing has none.
-#[tactic(auto, using(protocol_model::specs::Secrets::sixteen_is))]
-pub(crate) fn hidden_pairs(
-    alloc: Global,
-    config: &Config,
-    block: &[u8; 16],
-    message: &Message,
-) -> Result<Option<Bytes>, NoMemory>
-    requires written { IsWritten message.now }
-    requires short { IfSome (hidden_of message.now) (λ number. length number ≤ 990) }
-    ensures { IfOk result (λ h. h ≡ hidden_by config.now.hide config.now.secret (sixteen block.now) message.now) }
-{
-    if !config.hide {
-        return Ok(None);
-    }
-    let Some(secret) = &config.secret else {
-        return Ok(None);
-    };
-    let mut pairs = Bytes::new(alloc);
-    write_message(&mut pairs, message, Some(secret.as_slice()), Some(block))?;
-    Ok(Some(pairs))
-}
-
-/// A copy of the pairs of a message that hides a value, where it does.
-pub(crate) fn copy_pairs(alloc: Global, pairs: &Option<Bytes>) -> Result<Option<Bytes>, NoMemory>
-    ensures { IfOk result (λ p. p ≡ pairs.now) }
-{
-    match pairs {
-        None => Ok(None),
-        Some(pairs) => Ok(Some(Bytes::from_slice(alloc, pairs.as_slice())?)),
-    }
-}
-
 impl Turn {
     /// Whether there is room for one more letter.
     pub(crate) fn has_room(&self) -> bool
         ensures { result ≡ room_in self.now.control }
     {
         self.control.channel.queued() < LIMIT
-    }
-
-    /// Whether the next message of the peer, or a call that rings, may be taken: there is room for the letters that the calls owe,
-    /// and for four more.
-    pub(crate) fn may_take(&self, calls: &TunnelCalls) -> bool
-        ensures { result ≡ may_take self.now.control calls.now.entries }
-    {
-        self.control.channel.queued() as u128 + calls.owed() + 4 <= LIMIT as u128
     }
 
     /// The place of the next letter to be given.
@@ -138,6 +92,26 @@ impl Turn {
     {
         self.control.channel.take();
         self.took = true;
+    }
+
+    /// Takes a letter that changes nothing else.
+    #[tactic(auto, unfolding(protocol_model::specs::Turn::takes_plain))]
+    pub(crate) fn take_plain(&mut self) -> Result<(), NoMemory>
+        ensures { OnOk result (self.new ≡ takes_plain self.old) }
+    {
+        let taken = self.taken_place();
+        let tunnel = self.control.local;
+        self.take();
+        self.did(Move::TookPlain(TookPlain { tunnel, taken }))
+    }
+
+    /// Takes a letter that is ignored.
+    #[tactic(auto, unfolding(protocol_model::specs::Turn::ignores))]
+    pub(crate) fn ignore(&mut self, why: Why) -> Result<(), NoMemory>
+        ensures { OnOk result (self.new ≡ ignores why self.old) }
+    {
+        self.take_plain()?;
+        self.drop_with(why)
     }
 
     /// The peer's receive window becomes known, in letters; one of 0 letters is none.

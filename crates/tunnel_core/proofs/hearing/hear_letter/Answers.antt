@@ -1,4 +1,4 @@
-use Rattle.tunnel_core.proofs.turn.Turn.hear_letter.Goals as goal
+use Rattle.tunnel_core.proofs.hearing.hear_letter.Goals as goal
 
 pub returns-in-Sccrq : goal.returns-in-Sccrq
 returns-in-Sccrq c = rw c.in-Sccrq.is (c.hear_sccrq.ensures c.args.session)

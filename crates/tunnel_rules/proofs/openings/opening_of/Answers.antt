@@ -1,5 +1,5 @@
 use Rattle.std.proofs.Common.{refl, arith, rules}
-use Rattle.tunnel_core.proofs.turn.opening_of.Goals as goal
+use Rattle.tunnel_rules.proofs.openings.opening_of.Goals as goal
 
 pub returns-clause-written : goal.returns-clause-written
 returns-clause-written c = record {

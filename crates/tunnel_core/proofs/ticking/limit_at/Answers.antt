@@ -5,7 +5,7 @@ use Rattle.end_names.specs.declared.role.Role.{Role}
 use Rattle.protocol_model.specs.declared.tunnel.Call.{Call}
 use Rattle.protocol_model.specs.declared.tunnel.Link.{Link}
 use Rattle.protocol_model.specs.Turn.{Turn, limits_at, ticks_link}
-use Rattle.tunnel_core.proofs.turn.Turn.limit_at.Goals as goal
+use Rattle.tunnel_core.proofs.ticking.limit_at.Goals as goal
 
 -- an id of more than 16 bits is no session: nothing is done for it
 no_timer : (role : Role) (letters : List Letter) (s : ℕ) (c : Call) (l : Option Link) (t : Turn) → (s < 65536 → ⊥) → ticks_link role letters s c l t ≡ t
@@ -21,4 +21,4 @@ no_limit role letters s (Some c) t far =
 
 pub returns-in_default-try_from : goal.returns-in_default-try_from
 returns-in_default-try_from c =
-    sym (no_limit c.args.role c.args.letters.now.letters c.args.id (option_copied c.args.call) c.args.self.now c.in_default-try_from.ensures)
+    sym (no_limit c.args.role c.args.letters.now.letters c.args.id (option_copied c.args.call) c.args.turn.now c.in_default-try_from.ensures)

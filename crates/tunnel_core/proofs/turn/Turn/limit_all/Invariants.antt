@@ -1,6 +1,0 @@
-use Rattle.std.proofs.Common.{◌≡◌, drop}
-use Rattle.protocol_model.specs.Turn.{limits_all}
-use Rattle.tunnel_core.proofs.turn.Turn.limit_all.Given as goal
-
-abbrev pub invariant-loop-session : goal.invariant-loop-session
-invariant-loop-session l = limits_all l.role l.letters.letters (drop l.session-index l.sessions) l.calls.entries l.self ≡ limits_all l.role l.letters.letters l.sessions l.calls.entries l.fn.self

@@ -1,6 +1,0 @@
-use Rattle.std.proofs.Common.{◌≡◌, drop}
-use Rattle.protocol_model.specs.Turn.{sends_packets}
-use Rattle.tunnel_core.proofs.turn.Turn.send_packets.Given as goal
-
-abbrev pub invariant-loop-packet : goal.invariant-loop-packet
-invariant-loop-packet l = sends_packets l.session (drop l.packet-index l.packets) l.call l.self ≡ sends_packets l.session l.packets l.call l.fn.self

@@ -1,0 +1,147 @@
+//! The calls of a tunnel: what their tables say of an event (RFC 2661 section 7.4), and how they are made.
+
+ghost use Rattle.std.specs.Prelude.{◌≡◌, ◌≤◌, length, IfSome, IfOk};
+ghost use Rattle.control_message.specs.Pairs.{IsWritten, hidden_of};
+ghost use Rattle.protocol_model.specs.Calls.{call_row, rung, advanced, idle_call, asked_for, is_request, is_reply, is_connection, is_up, is_set_up};
+ghost use Rattle.protocol_model.specs.Turn.{request_of, is_clean_up, is_passing};
+
+use call_fsm::{CallAction, CallEvent, CallState, lac_advance, lns_advance};
+use control_message::Message;
+use protocol_model::{Call, CallStep, CallSteps, Link, Role, calling_number, twelve_digits};
+use std::alloc::Global;
+use wire_base::NoMemory;
+
+/// What a call's table says (RFC 2661 section 7.4).
+#[tactic(auto, unfolding(protocol_model::specs::Calls::call_row))]
+pub fn call_row(role: Role, state: CallState, event: CallEvent) -> (CallState, CallAction)
+    ensures { result ≡ call_row role state event }
+{
+    match role {
+        Role::Lac => lac_advance(state, event),
+        Role::Lns => lns_advance(state, event),
+    }
+}
+
+/// The call as its table has it after an event, at a moment.
+#[tactic(auto, unfolding(protocol_model::specs::Calls::advanced))]
+pub fn advanced(
+    alloc: Global,
+    role: Role,
+    event: CallEvent,
+    moment: u64,
+    call: &Call,
+    remote: u16,
+) -> Result<Call, NoMemory>
+    ensures { IfOk result (λ c. c ≡ advanced role event moment (record call.now { remote = remote })) }
+{
+    let (next, _) = call_row(role, call.state, event);
+    let mut steps = CallSteps::from_slice(alloc, call.steps.as_slice())?;
+    steps.push(CallStep {
+        state: call.state,
+        event,
+        next,
+    })?;
+    Ok(Call {
+        remote,
+        state: next,
+        since: moment,
+        subscriber: call.subscriber,
+        steps,
+        link: call.link,
+    })
+}
+
+/// A call that nothing came to yet.
+fn idle_call(alloc: Global, subscriber: [u8; 6]) -> Call
+    ensures { result ≡ idle_call 0 subscriber }
+{
+    Call {
+        remote: 0,
+        state: CallState::Idle,
+        since: 0,
+        subscriber,
+        steps: CallSteps::new(alloc),
+        link: None,
+    }
+}
+
+/// A call that a subscriber rings for.
+#[tactic(auto, unfolding(protocol_model::specs::Calls::rung))]
+pub fn rung(alloc: Global, role: Role, subscriber: [u8; 6], moment: u64) -> Result<Call, NoMemory>
+    ensures { IfOk result (λ c. c ≡ rung role subscriber moment) }
+{
+    let idle = idle_call(alloc, subscriber);
+    advanced(alloc, role, CallEvent::Ring, moment, &idle, 0)
+}
+
+/// A call that the peer asks for.
+#[tactic(auto, unfolding(protocol_model::specs::Calls::asked_for))]
+pub fn asked_for(alloc: Global, role: Role, remote: u16, moment: u64) -> Result<Call, NoMemory>
+    ensures { IfOk result (λ c. c ≡ asked_for role remote moment) }
+{
+    let idle = idle_call(alloc, [0; 6]);
+    advanced(alloc, role, CallEvent::IcrqAcc, moment, &idle, remote)
+}
+
+pub fn is_request(action: CallAction) -> bool
+    ensures { result ≡ is_request action }
+{
+    matches!(action, CallAction::SendIcrq)
+}
+
+pub fn is_reply(action: CallAction) -> bool
+    ensures { result ≡ is_reply action }
+{
+    matches!(action, CallAction::SendIcrp)
+}
+
+pub fn is_connection(action: CallAction) -> bool
+    ensures { result ≡ is_connection action }
+{
+    matches!(action, CallAction::SendIccn)
+}
+
+pub fn is_clean_up(action: CallAction) -> bool
+    ensures { result ≡ is_clean_up action }
+{
+    matches!(action, CallAction::CleanUp)
+}
+
+pub fn is_up(state: CallState) -> bool
+    ensures { result ≡ is_up state }
+{
+    matches!(state, CallState::Established)
+}
+
+pub fn is_set_up(state: CallState) -> bool
+    ensures { result ≡ is_set_up state }
+{
+    matches!(
+        state,
+        CallState::WaitTunnel | CallState::WaitReply | CallState::WaitConnect
+    )
+}
+
+/// Whether frames of the network pass in a call that is established: at a LAC all of them, at an LNS once LCP was open.
+pub fn is_passing(link: &Option<Link>) -> bool
+    ensures { result ≡ is_passing link.now }
+{
+    match link {
+        None => true,
+        Some(link) => link.network,
+    }
+}
+
+/// The request for a call of a LAC.
+pub fn request_of(alloc: Global, session: u16, subscriber: &[u8; 6]) -> Result<Message, NoMemory>
+    ensures value { IfOk result (λ m. m ≡ request_of session subscriber.now) }
+    ensures written { IfOk result IsWritten }
+    ensures short { IfOk result (λ m. IfSome (hidden_of m) (λ number. length number ≤ 990)) }
+{
+    twelve_digits();
+    Ok(Message::Icrq {
+        session,
+        serial: u32::from(session),
+        calling: Some(calling_number(alloc, subscriber)?),
+    })
+}

@@ -1,0 +1,15 @@
+//! What a tunnel's step goes by, as values: the rows of its calls' tables, times and room, and what an end says and hides.
+#![tactic(auto)]
+
+mod calls;
+mod hiding;
+mod openings;
+mod tunnels;
+
+pub use calls::{
+    advanced, asked_for, call_row, is_clean_up, is_connection, is_passing, is_reply, is_request,
+    is_set_up, is_up, request_of, rung,
+};
+pub use hiding::{copy_pairs, hidden_pairs};
+pub use openings::{challenge_by, opening_of};
+pub use tunnels::{PATIENCE, is_at_its_end, is_closed, is_over, is_quiet, may_take, same_state};
