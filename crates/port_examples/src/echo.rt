@@ -1,6 +1,6 @@
 //! The end that sends back.
 
-use port_turn::{EndStep, Event, Out, Outputs};
+use port_events::{EndStep, Event, Out, Outputs};
 use std::alloc::Global;
 use wire_base::{Bytes, NoMemory};
 

@@ -1,5 +1,4 @@
 use port_traits::{Ether, Lowered, Uplink};
-use real_ports::{UnixEther, UnixUplink};
 use std::alloc::Global;
 use std::io::{Read, Write};
 use std::net::Net;
@@ -8,6 +7,7 @@ use std::rt::Files;
 use std::test::Fail;
 use std::time::Duration;
 use std::{fs, io};
+use stream_ports::{UnixEther, UnixUplink};
 use wire_base::{Failed, NoMemory};
 
 /// A path where somebody listens, and nobody else did.

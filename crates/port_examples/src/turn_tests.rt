@@ -1,8 +1,9 @@
 use crate::echo::Echo;
 use block_source::seeded;
 use memory_ports::{ManualClock, MemoryEther, MemoryLink, MemoryUplink, Moments};
+use port_events::NodeFault;
 use port_traits::{Datagram, Datagrams, Fails, Frames, LowerFrames};
-use port_turn::{NodeFault, serve};
+use port_turn::serve;
 use std::alloc::Global;
 use std::test::Fail;
 use wire_base::{Bytes, NoMemory};

@@ -1,7 +1,7 @@
 -- One turn more.
 use Rattle.std.proofs.Common.{◌≡◌, ℕ, ◌+◌, List, [], ◌∷◌, ◌++◌, length, subst, sym, ap, ◌∙◌, refl, arith, length-append}
-use Rattle.port_turn.specs.declared.end.Event.{Event}
-use Rattle.port_turn.specs.declared.end.Out.{Out}
+use Rattle.port_events.specs.declared.end.Event.{Event}
+use Rattle.port_events.specs.declared.end.Out.{Out}
 use Rattle.port_turn.specs.Turns.{Turn}
 use Rattle.port_turn.specs.Runs.{Node, MakesTurn, Runs}
 

@@ -2,10 +2,11 @@
 use Rattle.std.specs.Prelude.{ℕ, ◌≡◌, List, [], ◌∷◌, Option, option_map, IfSome}
 use Rattle.rand_core.specs.Stream.{Stream}
 use Rattle.port_traits.specs.Packets.{Moments, moment, passed}
-use Rattle.port_turn.specs.declared.end.Event.{Event}
-use Rattle.port_turn.specs.declared.end.Out.{Out}
-use Rattle.port_turn.specs.declared.giving.NodeFault.{NodeFault}
-use Rattle.port_turn.specs.Turns.{Given, Waits, Turn, Turned, Broke}
+use Rattle.port_events.specs.declared.end.Event.{Event}
+use Rattle.port_events.specs.declared.end.Out.{Out}
+use Rattle.port_events.specs.declared.giving.NodeFault.{NodeFault}
+use Rattle.port_events.specs.Feeding.{Given}
+use Rattle.port_turn.specs.Turns.{Waits, Turn, Turned, Broke}
 
 -- an end with all that its outside tells
 pub record Node (S : Type 0) : Type 0 where

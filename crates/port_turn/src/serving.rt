@@ -1,13 +1,13 @@
 //! Turn after turn.
 
 ghost use Rattle.std.specs.Prelude.{List, ◌≡◌, length, OnOk, IfErr};
-ghost use Rattle.port_turn.specs.Giving.{Blames};
-ghost use Rattle.port_turn.specs.Turns.{Turn, given, waits};
+ghost use Rattle.port_events.specs.Giving.{Blames};
+ghost use Rattle.port_events.specs.Feeding.{given};
+ghost use Rattle.port_turn.specs.Turns.{Turn, waits};
 ghost use Rattle.port_turn.specs.Runs.{node, Runs, BreaksOff};
 
-use crate::end::EndStep;
-use crate::giving::NodeFault;
 use crate::turns::turn;
+use port_events::{EndStep, NodeFault};
 use port_traits::{Clock, Ether, Link, Uplink};
 use rand_core::Rng;
 use std::alloc::Global;

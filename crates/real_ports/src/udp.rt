@@ -2,13 +2,13 @@
 
 ghost use Rattle.std.specs.Prelude.{◌≡◌, ◌≤◌, IfOk, IfSome, None};
 
-use crate::faults::counted;
 use crate::watch::Descriptor;
 use port_traits::{Arrived, Link};
 use std::io;
 use std::io::ErrorKind;
 use std::net::{Ipv4Addr, Net, SocketAddr, SocketAddrV4, UdpSocket};
 use std::os::fd::AsRawFd;
+use stream_ports::counted;
 use wire_base::Failed;
 
 /// How many datagrams from another port are passed over in one call.

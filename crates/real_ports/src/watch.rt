@@ -5,12 +5,26 @@ use libc::net::{POLLIN, poll};
 use libc::types::pollfd;
 use port_traits::{Arrived, Clock, Ether, Link, Lowered, Uplink};
 use std::cell::Cell;
+use std::net::Net;
+use stream_ports::{UnixEther, UnixUplink};
 use wire_base::Failed;
 
 /// What a port stands on.
 pub trait Descriptor {
     /// The system's descriptor, or -1 where the port isn't open yet.
     fn descriptor(&self) -> i32;
+}
+
+impl<R: Net + Drop> Descriptor for UnixEther<R> {
+    fn descriptor(&self) -> i32 {
+        UnixEther::descriptor(self)
+    }
+}
+
+impl<R: Net + Drop> Descriptor for UnixUplink<R> {
+    fn descriptor(&self) -> i32 {
+        UnixUplink::descriptor(self)
+    }
 }
 
 /// The descriptors of a node's ports, -1 where one isn't open, and whether a port gave something since the clock was read.

@@ -1,5 +1,6 @@
 use Rattle.std.proofs.Common.{List, ◌≡◌, length}
-use Rattle.port_turn.specs.Turns.{Turn, given, waits}
+use Rattle.port_events.specs.Feeding.{given}
+use Rattle.port_turn.specs.Turns.{Turn, waits}
 use Rattle.port_turn.specs.Runs.{node, Runs}
 use Rattle.port_turn.proofs.serving.serve.Given as goal
 

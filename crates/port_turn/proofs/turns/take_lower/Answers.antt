@@ -1,8 +1,9 @@
 use Rattle.std.proofs.Common.{rules, ◌≡◌, ap}
 use Rattle.std.specs.Prelude.{Option, None}
-use Rattle.port_turn.specs.declared.end.Event.{Event}
-use Rattle.port_turn.specs.Turns.{given, Given, MayTell, Stopped, some_of, lower_event}
-use Rattle.port_turn.proofs.Feeding.{stopped_same}
+use Rattle.port_events.specs.declared.end.Event.{Event}
+use Rattle.port_events.specs.Feeding.{given, Given, Stopped, some_of}
+use Rattle.port_events.specs.Taking.{MayTell, lower_event}
+use Rattle.port_events.proofs.EventLaws.{stopped_same}
 use Rattle.port_turn.proofs.turns.take_lower.Goals as goal
 
 pub returns-in_err-event-clause-err : goal.returns-in_err-event-clause-err

@@ -1,7 +1,9 @@
 use Rattle.std.proofs.Common.{rules, ◌≡◌, ◌∙◌, ap, refl, sym, drop}
 use Rattle.std.specs.Prelude.{option_map}
-use Rattle.port_turn.specs.Turns.{given, waits, some_of, datagram_event, frame_event, lower_event}
-use Rattle.port_turn.specs.declared.end.Event.TheVariants as event
+use Rattle.port_events.specs.Feeding.{given, some_of}
+use Rattle.port_events.specs.Taking.{datagram_event, frame_event, lower_event}
+use Rattle.port_turn.specs.Turns.{waits}
+use Rattle.port_events.specs.declared.end.Event.TheVariants as event
 use Rattle.std.proofs.Common.{[], ◌∷◌}
 use Rattle.port_turn.proofs.Turning.{tells_of, may_of, may_still, four, first_broke, second_broke, third_broke, tick_broke}
 use Rattle.port_turn.proofs.turns.turn.Goals as goal

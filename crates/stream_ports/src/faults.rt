@@ -7,7 +7,7 @@ use std::io;
 use wire_base::Failed;
 
 /// Passes on what the system answered; an error is counted.
-pub(crate) fn counted<T: Drop>(faults: &mut u64, answer: io::Result<T>) -> Result<T, Failed>
+pub fn counted<T: Drop>(faults: &mut u64, answer: io::Result<T>) -> Result<T, Failed>
     ensures value { IfOk result (λ x. answer ≡ Ok x) }
     ensures cause { HasCause faults.old faults.new result }
 {

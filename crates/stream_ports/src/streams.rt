@@ -4,7 +4,6 @@ ghost use Rattle.std.specs.Prelude.{◌≡◌, ◌≤◌, IfOk, IfSome};
 
 use crate::faults::counted;
 use crate::messages::Messages;
-use crate::watch::Descriptor;
 use port_traits::{Ether, Lowered, Uplink, copy_front};
 use std::alloc::Global;
 use std::net::Net;
@@ -93,14 +92,16 @@ impl<R: Net + Drop> Uplink for UnixUplink<R> {
     }
 }
 
-impl<R: Net + Drop> Descriptor for UnixEther<R> {
-    fn descriptor(&self) -> i32 {
+impl<R: Net + Drop> UnixEther<R> {
+    /// The system's descriptor, or -1 where the stream isn't connected yet.
+    pub fn descriptor(&self) -> i32 {
         self.messages.descriptor()
     }
 }
 
-impl<R: Net + Drop> Descriptor for UnixUplink<R> {
-    fn descriptor(&self) -> i32 {
+impl<R: Net + Drop> UnixUplink<R> {
+    /// The system's descriptor, or -1 where the stream isn't connected yet.
+    pub fn descriptor(&self) -> i32 {
         self.messages.descriptor()
     }
 }

@@ -5,10 +5,10 @@ use Rattle.wire_base.specs.Causes.{Rose}
 use Rattle.port_traits.specs.declared.packets.Datagram.{Datagram}
 use Rattle.port_traits.specs.declared.packets.LowerFrame.{LowerFrame}
 use Rattle.port_traits.specs.Packets.{Gains}
-use Rattle.port_turn.specs.declared.end.Out.{Out}
-use Rattle.port_turn.specs.declared.end.Out.TheVariants.{Send, Ether, Up, Drop}
-use Rattle.port_turn.specs.declared.giving.NodeFault.{NodeFault}
-use Rattle.port_turn.specs.declared.giving.NodeFault.TheVariants.{LinkFault, EtherFault, UplinkFault, NoMemory}
+use Rattle.port_events.specs.declared.end.Out.{Out}
+use Rattle.port_events.specs.declared.end.Out.TheVariants.{Send, Ether, Up, Drop}
+use Rattle.port_events.specs.declared.giving.NodeFault.{NodeFault}
+use Rattle.port_events.specs.declared.giving.NodeFault.TheVariants.{LinkFault, EtherFault, UplinkFault, NoMemory}
 
 -- the part of an output that goes to each port
 abbrev pub to_link : Out → List Datagram

@@ -1,6 +1,6 @@
 use Rattle.std.proofs.Common.{◌≡◌, take}
-use Rattle.port_turn.specs.Giving.{Gave}
-use Rattle.port_turn.proofs.giving.give_all.Given as goal
+use Rattle.port_events.specs.Giving.{Gave}
+use Rattle.port_events.proofs.giving.give_all.Given as goal
 
 abbrev pub invariant-loop-out : goal.invariant-loop-out
 invariant-loop-out g l = record {

@@ -5,7 +5,7 @@ ghost use Rattle.std.specs.Prelude.{ℕ, List, ◌≡◌, IfOk, OnOk, OnErr};
 use wire_base::{Bytes, NoMemory, Sequence};
 
 /// What is given to an end.
-#[derive(Debug, Drop)]
+#[derive(Drop)]
 pub enum Event {
     /// A datagram from a peer.
     Datagram { peer: u32, bytes: Bytes },
@@ -18,7 +18,7 @@ pub enum Event {
 }
 
 /// What an end gives.
-#[derive(Debug, Drop)]
+#[derive(Drop)]
 pub enum Out {
     /// A datagram for a peer.
     Send { peer: u32, bytes: Bytes },
@@ -34,8 +34,8 @@ pub type Outputs = Sequence<Out>;
 
 /// An end, which makes a step on each event.
 pub trait EndStep {
-    ghost use Rattle.port_turn.specs.declared.end.Event.{Event};
-    ghost use Rattle.port_turn.specs.declared.end.Out.{Out};
+    ghost use Rattle.port_events.specs.declared.end.Event.{Event};
+    ghost use Rattle.port_events.specs.declared.end.Out.{Out};
 
     /// The end after a step on an event, at a moment, with a random block.
     ghost after: { Self → ℕ → List ℕ → Event → Self };

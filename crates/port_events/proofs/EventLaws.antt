@@ -5,11 +5,11 @@ use Rattle.std.proofs.lemmas.List.{append-nil}
 use Rattle.rand_core.specs.Stream.{Stream, fill_bytes}
 use Rattle.port_traits.specs.declared.packets.Datagram.{Datagram}
 use Rattle.port_traits.specs.declared.packets.LowerFrame.{LowerFrame}
-use Rattle.port_turn.specs.declared.end.Event.{Event}
-use Rattle.port_turn.specs.declared.end.Out.{Out}
-use Rattle.port_turn.specs.Giving.{Gave}
-use Rattle.port_turn.specs.Turns.{run, Ran, Given, Goes, Fed, Stopped, some_of}
-use Rattle.port_turn.proofs.Gives.{Gave-none, Gave-then}
+use Rattle.port_events.specs.declared.end.Event.{Event}
+use Rattle.port_events.specs.declared.end.Out.{Out}
+use Rattle.port_events.specs.Giving.{Gave}
+use Rattle.port_events.specs.Feeding.{run, Ran, Given, Goes, Fed, Stopped, some_of}
+use Rattle.port_events.proofs.Gives.{Gave-none, Gave-then}
 
 Goes-then : (p q r : Given) (xs ys : List Out) → Goes p q xs → Goes q r ys → Goes p r (xs ++ ys)
 Goes-then p q r xs ys a b = Gave-then p.link q.link r.link p.ether q.ether r.ether p.up q.up r.up xs ys a b

@@ -1,7 +1,7 @@
 use Rattle.std.proofs.Common.{rules, ℕ, List, ◌≡◌}
-use Rattle.port_turn.specs.Turns.{given}
-use Rattle.port_turn.proofs.Feeding.{stopped_before, stopped_inside}
-use Rattle.port_turn.proofs.turns.feed.Goals as goal
+use Rattle.port_events.specs.Feeding.{given}
+use Rattle.port_events.proofs.EventLaws.{stopped_before, stopped_inside}
+use Rattle.port_events.proofs.feeding.feed.Goals as goal
 
 pub returns-in_err-give_all-in-Ok-clause-err : goal.returns-in_err-give_all-in-Ok-clause-err
 returns-in_err-give_all-in-Ok-clause-err g c =

@@ -7,8 +7,8 @@ use Rattle.std.proofs.lemmas.Grind.{flat_map-append}
 use Rattle.port_traits.specs.declared.packets.Datagram.{Datagram}
 use Rattle.port_traits.specs.declared.packets.LowerFrame.{LowerFrame}
 use Rattle.port_traits.specs.Packets.{Gains}
-use Rattle.port_turn.specs.declared.end.Out.{Out}
-use Rattle.port_turn.specs.Giving.{Gave, to_link, to_ether, to_up}
+use Rattle.port_events.specs.declared.end.Out.{Out}
+use Rattle.port_events.specs.Giving.{Gave, to_link, to_ether, to_up}
 
 pub Gains-none : {T : Type 0} (a : Option (List T)) → Gains a a []
 Gains-none None = tt

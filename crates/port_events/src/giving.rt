@@ -1,13 +1,13 @@
 //! What an end gives goes out by the ports.
 
 ghost use Rattle.std.specs.Prelude.{ℕ, ◌≡◌, [], ◌∷◌, take, OnOk, OnErr};
-ghost use Rattle.port_turn.specs.Giving.{Gave, Blames};
+ghost use Rattle.port_events.specs.Giving.{Gave, Blames};
 
 use crate::end::{Out, Outputs};
 use port_traits::{Ether, Link, Uplink};
 
 /// Why a turn ends early.
-#[derive(Clone, Copy, Debug, PartialEq, Eq)]
+#[derive(Clone, Copy, PartialEq, Eq)]
 pub enum NodeFault {
     LinkFault,
     EtherFault,
