@@ -3,7 +3,6 @@ use port_traits::{
     Datagram, Datagrams, Ether, Fails, Frames, Link, LowerFrame, LowerFrames, Uplink,
 };
 use std::alloc::Global;
-use std::test::Fail;
 use wire_base::{Bytes, NoMemory};
 
 /// One datagram of 3,000 bytes.
@@ -60,50 +59,68 @@ fn calls_of_uplink<U: Uplink>(up: &mut U) -> [bool; 3] {
     ]
 }
 
-/// Which calls of each port fail where the call of this number does.
-fn failing(alloc: Global, call: u64) -> Result<[[bool; 3]; 3], NoMemory> {
-    let fails = [call];
-    let mut link = MemoryLink::new(alloc, datagrams(alloc)?, Fails::from_slice(alloc, &fails)?);
-    let mut ether = MemoryEther::new(alloc, frames(alloc)?, Fails::from_slice(alloc, &fails)?);
-    let mut up = MemoryUplink::new(
-        alloc,
-        lower_frames(alloc)?,
-        Fails::from_slice(alloc, &fails)?,
-    );
-    Ok([
-        calls_of_link(&mut link),
-        calls_of_ether(&mut ether),
-        calls_of_uplink(&mut up),
-    ])
+/// Which calls of a link fail where the call of this number does.
+fn link_failing(alloc: Global, call: u64) -> Result<[bool; 3], NoMemory> {
+    let waiting = datagrams(alloc)?;
+    let fails = Fails::from_slice(alloc, &[call])?;
+    Ok(calls_of_link(&mut MemoryLink::new(alloc, waiting, fails)))
+}
+
+fn ether_failing(alloc: Global, call: u64) -> Result<[bool; 3], NoMemory> {
+    let waiting = frames(alloc)?;
+    let fails = Fails::from_slice(alloc, &[call])?;
+    Ok(calls_of_ether(&mut MemoryEther::new(alloc, waiting, fails)))
+}
+
+fn uplink_failing(alloc: Global, call: u64) -> Result<[bool; 3], NoMemory> {
+    let waiting = lower_frames(alloc)?;
+    let fails = Fails::from_slice(alloc, &[call])?;
+    Ok(calls_of_uplink(&mut MemoryUplink::new(alloc, waiting, fails)))
+}
+
+/// Which of three calls are to fail where the call of this number is.
+fn expected(call: u64) -> [bool; 3] {
+    [call == 1, call == 2, call == 3]
 }
 
 #[test]
-fn each_call_fails_in_turn(rt: HostRuntime) -> Result<(), Fail> {
+fn each_call_fails_in_turn(rt: HostRuntime) {
     let alloc = rt.alloc();
-    let none = failing(alloc, 4).ok().ok_or("memory")?;
-    assert!(rt; none == [[false; 3]; 3]);
-    let first = failing(alloc, 1).ok().ok_or("memory")?;
-    assert!(rt; first == [[true, false, false]; 3]);
-    let second = failing(alloc, 2).ok().ok_or("memory")?;
-    assert!(rt; second == [[false, true, false]; 3]);
-    let third = failing(alloc, 3).ok().ok_or("memory")?;
-    assert!(rt; third == [[false, false, true]; 3]);
-    Ok(())
+    for call in 1..5u64 {
+        assert!(rt; link_failing(alloc, call) == Ok(expected(call)));
+        assert!(rt; ether_failing(alloc, call) == Ok(expected(call)));
+        assert!(rt; uplink_failing(alloc, call) == Ok(expected(call)));
+    }
+}
+
+/// How many datagrams a steady link was given.
+fn given_to_link(alloc: Global) -> Result<Option<usize>, NoMemory> {
+    let waiting = datagrams(alloc)?;
+    let mut link = SteadyLink::new(alloc, waiting);
+    let _ = calls_of_link(&mut link);
+    Ok(link.given().map(|given| given.len()))
+}
+
+fn given_to_ether(alloc: Global) -> Result<Option<usize>, NoMemory> {
+    let waiting = frames(alloc)?;
+    let mut ether = SteadyEther::new(alloc, waiting);
+    let _ = calls_of_ether(&mut ether);
+    Ok(ether.given().map(|given| given.len()))
+}
+
+fn given_to_uplink(alloc: Global) -> Result<Option<usize>, NoMemory> {
+    let waiting = lower_frames(alloc)?;
+    let mut up = SteadyUplink::new(alloc, waiting);
+    let _ = calls_of_uplink(&mut up);
+    Ok(up.given().map(|given| given.len()))
 }
 
 #[test]
-fn steady_ports_keep_what_they_are_given(rt: HostRuntime) -> Result<(), Fail> {
+fn steady_ports_keep_what_they_are_given(rt: HostRuntime) {
     let alloc = rt.alloc();
-    let mut link = SteadyLink::new(alloc, datagrams(alloc).ok().ok_or("memory")?);
-    let mut ether = SteadyEther::new(alloc, frames(alloc).ok().ok_or("memory")?);
-    let mut up = SteadyUplink::new(alloc, lower_frames(alloc).ok().ok_or("memory")?);
-    assert!(rt; calls_of_link(&mut link) == [false; 3]);
-    assert!(rt; calls_of_ether(&mut ether) == [false; 3]);
-    assert!(rt; calls_of_uplink(&mut up) == [false; 3]);
-    assert!(rt; link.given().map_or(0, |given| given.len()) == 1);
-    assert!(rt; ether.given().map_or(0, |given| given.len()) == 1);
-    assert!(rt; up.given().map_or(0, |given| given.len()) == 1);
-    Ok(())
+    assert!(rt; given_to_link(alloc) == Ok(Some(1)));
+    assert!(rt; given_to_ether(alloc) == Ok(Some(1)));
+    assert!(rt; given_to_uplink(alloc) == Ok(Some(1)));
 }
 
 #[test]
