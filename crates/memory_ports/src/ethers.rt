@@ -1,6 +1,6 @@
 //! Ethernet ports in memory: one whose given calls fail, and one that never fails.
 
-ghost use Rattle.std.specs.Prelude.{◌≡◌, ◌≤◌, ◌++◌, ◌∷◌, [], take, drop, length, slice_get, option_map, IfOk, IfSome, OnOk, OnErr};
+ghost use Rattle.std.specs.Prelude.{◌≡◌, ◌≤◌, ◌++◌, ◌∷◌, [], drop, slice_get, option_map, IfSome, OnOk, OnErr};
 ghost use Rattle.port_traits.specs.Packets.{came, cut_frame};
 
 use crate::counting::Calls;

@@ -1,14 +1,10 @@
 -- What events lead to, one after another.
-use Rattle.std.proofs.Common.{◌≡◌, ℕ, ◌+◌, ◌≤◌, ◌⊎◌, inl, inr, List, [], ◌∷◌, ◌++◌, length, take, refl, sym, ap, subst, ◌∙◌, append_assoc, arith}
-use Rattle.std.specs.Prelude.{Option, Some, None}
+use Rattle.std.proofs.Common.{◌≡◌, ℕ, ◌⊎◌, inl, inr, List, [], ◌∷◌, ◌++◌, take, refl, sym, ap, subst, ◌∙◌, append_assoc, arith}
 use Rattle.std.proofs.lemmas.List.{append-nil}
 use Rattle.rand_core.specs.Stream.{Stream, fill_bytes}
-use Rattle.port_traits.specs.declared.packets.Datagram.{Datagram}
-use Rattle.port_traits.specs.declared.packets.LowerFrame.{LowerFrame}
 use Rattle.port_events.specs.declared.end.Event.{Event}
 use Rattle.port_events.specs.declared.end.Out.{Out}
-use Rattle.port_events.specs.Giving.{Gave}
-use Rattle.port_events.specs.Feeding.{run, Ran, Given, Goes, Fed, Stopped, some_of}
+use Rattle.port_events.specs.Feeding.{run, Ran, Given, Goes, Fed, Stopped}
 use Rattle.port_events.proofs.Gives.{Gave-none, Gave-then}
 
 Goes-then : (p q r : Given) (xs ys : List Out) → Goes p q xs → Goes q r ys → Goes p r (xs ++ ys)

@@ -6,7 +6,7 @@ use Rattle.port_traits.specs.declared.packets.Datagram.{Datagram}
 use Rattle.port_traits.specs.declared.packets.LowerFrame.{LowerFrame}
 use Rattle.port_traits.specs.Packets.{Gains}
 use Rattle.port_events.specs.declared.end.Out.{Out}
-use Rattle.port_events.specs.declared.end.Out.TheVariants.{Send, Ether, Up, Drop}
+use Rattle.port_events.specs.declared.end.Out.TheVariants.{Send, Ether, Up}
 use Rattle.port_events.specs.declared.giving.NodeFault.{NodeFault}
 use Rattle.port_events.specs.declared.giving.NodeFault.TheVariants.{LinkFault, EtherFault, UplinkFault, NoMemory}
 

@@ -9,9 +9,13 @@ use port_traits::{Ether, Link, Uplink};
 /// Why a turn ends early.
 #[derive(Clone, Copy, PartialEq, Eq)]
 pub enum NodeFault {
+    /// The link failed.
     LinkFault,
+    /// The Ethernet port failed.
     EtherFault,
+    /// The uplink failed.
     UplinkFault,
+    /// Memory was wanting.
     NoMemory,
 }
 

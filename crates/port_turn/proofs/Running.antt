@@ -1,5 +1,5 @@
 -- One turn more.
-use Rattle.std.proofs.Common.{◌≡◌, ℕ, ◌+◌, List, [], ◌∷◌, ◌++◌, length, subst, sym, ap, ◌∙◌, refl, arith, length-append}
+use Rattle.std.proofs.Common.{◌≡◌, ℕ, ◌+◌, List, [], ◌∷◌, ◌++◌, length, subst, refl, arith, length-append}
 use Rattle.port_events.specs.declared.end.Event.{Event}
 use Rattle.port_events.specs.declared.end.Out.{Out}
 use Rattle.port_turn.specs.Turns.{Turn}

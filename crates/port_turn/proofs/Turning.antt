@@ -1,17 +1,15 @@
 -- A turn, put together of its four parts.
-use Rattle.std.proofs.Common.{◌≡◌, ℕ, ◌⊎◌, inl, inr, List, [], ◌∷◌, ◌++◌, drop, refl, sym, ap, subst, ◌∙◌}
+use Rattle.std.proofs.Common.{◌≡◌, ℕ, inl, inr, List, [], ◌∷◌, ◌++◌, drop, refl, sym, ap, subst, ◌∙◌}
 use Rattle.std.specs.Prelude.{Option, Some, None, option_map}
 use Rattle.std.proofs.lemmas.List.{append-nil}
 use Rattle.rand_core.specs.Stream.{Stream}
-use Rattle.port_traits.specs.declared.packets.Datagram.{Datagram}
-use Rattle.port_traits.specs.declared.packets.LowerFrame.{LowerFrame}
 use Rattle.port_events.specs.declared.end.Event.{Event}
 use Rattle.port_events.specs.declared.end.Event.TheVariants as event
 use Rattle.port_events.specs.declared.end.Out.{Out}
 use Rattle.port_events.specs.declared.giving.NodeFault.{NodeFault}
 use Rattle.port_events.specs.Feeding.{Given, Fed, Stopped, some_of}
 use Rattle.port_events.specs.Taking.{TellsEvent, MayTell, datagram_event, frame_event, lower_event}
-use Rattle.port_turn.specs.Turns.{Turned, Broke, Turn, TakesOne, MayTake, Waits, waits}
+use Rattle.port_turn.specs.Turns.{Broke, Waits}
 use Rattle.port_events.proofs.EventLaws.{fed_then, stopped_later}
 
 pub tells_of : {T : Type 0} (make : T → Event) (old mid : Option (List T)) (got : Option Event) → mid ≡ old → TellsEvent make mid got → TellsEvent make old got

@@ -1,6 +1,6 @@
 //! The turn.
 
-ghost use Rattle.std.specs.Prelude.{ℕ, List, ◌≡◌, ◌≤◌, [], ◌∷◌, ◌++◌, drop, option_map, OnOk, OnErr, IfOk, IfErr, IfSome, None};
+ghost use Rattle.std.specs.Prelude.{◌≡◌, drop, option_map, OnOk, IfOk, IfErr, IfSome};
 ghost use Rattle.std.specs.declared.option.Option.{Option};
 ghost use Rattle.port_events.specs.declared.end.Event.{Event};
 ghost use Rattle.port_events.specs.Giving.{Blames};

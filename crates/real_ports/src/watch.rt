@@ -1,6 +1,8 @@
 //! A clock that lets an idle node rest: before it gives a moment it waits until a port can be read, for some milliseconds
 //! at most. It doesn't wait where a port gave something since the moment before.
 
+ghost use Rattle.std.specs.Prelude.{◌≡◌};
+
 use libc::net::{POLLIN, poll};
 use libc::types::pollfd;
 use port_traits::{Arrived, Clock, Ether, Link, Lowered, Uplink};
@@ -48,7 +50,9 @@ impl Watch {
     }
 
     /// Watches the link.
-    pub fn link<P: Descriptor>(&self, port: P) -> Watched<'_, P> {
+    pub fn link<P: Descriptor>(&self, port: P) -> Watched<'_, P>
+        ensures { result.port ≡ port }
+    {
         Watched {
             port,
             descriptor: &self.link,
@@ -57,7 +61,9 @@ impl Watch {
     }
 
     /// Watches the Ethernet port.
-    pub fn ether<P: Descriptor>(&self, port: P) -> Watched<'_, P> {
+    pub fn ether<P: Descriptor>(&self, port: P) -> Watched<'_, P>
+        ensures { result.port ≡ port }
+    {
         Watched {
             port,
             descriptor: &self.ether,
@@ -66,7 +72,9 @@ impl Watch {
     }
 
     /// Watches the uplink.
-    pub fn uplink<P: Descriptor>(&self, port: P) -> Watched<'_, P> {
+    pub fn uplink<P: Descriptor>(&self, port: P) -> Watched<'_, P>
+        ensures { result.port ≡ port }
+    {
         Watched {
             port,
             descriptor: &self.uplink,
@@ -179,7 +187,9 @@ pub struct RestingClock<'a, C: Clock> {
 
 impl<'a, C: Clock> RestingClock<'a, C> {
     /// A clock that rests for so many milliseconds at most.
-    pub fn new(clock: C, watch: &'a Watch, most: i32) -> RestingClock<'a, C> {
+    pub fn new(clock: C, watch: &'a Watch, most: i32) -> RestingClock<'a, C>
+        ensures { result.clock ≡ clock }
+    {
         RestingClock { clock, watch, most }
     }
 }

@@ -1,6 +1,5 @@
-use Rattle.std.proofs.Common.{rules, ◌≡◌, ◌≢◌, ap, subst, ◌∙◌, sym, map, inl, inr, string_bytes, [], true}
-use Rattle.clap.specs.Words.{App, app_of, fault_of, matches_of, is_simple, is_simple_and_free, FailsBy, HasKind}
-use Rattle.node_words.specs.Options.{plan_app}
+use Rattle.std.proofs.Common.{rules, ◌≡◌, ap, subst, ◌∙◌, sym, map, inl, inr, string_bytes, []}
+use Rattle.clap.specs.Words.{App, app_of, fault_of, matches_of, is_simple, is_simple_and_free, HasKind}
 use Rattle.node_words.proofs.Simple.{plan_is_simple, plan_is_free}
 use Rattle.node_words.proofs.command.parse.Goals as goal
 

@@ -1,4 +1,4 @@
-use Rattle.std.proofs.Common.{rules, ℕ, List, ◌≡◌}
+use Rattle.std.proofs.Common.{rules}
 use Rattle.port_events.specs.Feeding.{given}
 use Rattle.port_events.proofs.EventLaws.{stopped_before, stopped_inside}
 use Rattle.port_events.proofs.feeding.feed.Goals as goal

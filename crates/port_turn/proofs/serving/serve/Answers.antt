@@ -1,8 +1,8 @@
-use Rattle.std.proofs.Common.{rules, List, [], ◌∷◌, ◌++◌, ◌≡◌, length, ◌∙◌}
+use Rattle.std.proofs.Common.{rules, [], ◌∷◌, ◌++◌, ◌∙◌}
 use Rattle.port_events.specs.Feeding.{given}
 use Rattle.port_turn.specs.Turns.{Turn, waits}
 use Rattle.port_turn.specs.Takings.{turn_of}
-use Rattle.port_turn.specs.Runs.{node, Runs, BreaksOff, MakesTurn}
+use Rattle.port_turn.specs.Runs.{node, BreaksOff, MakesTurn}
 use Rattle.port_turn.proofs.Running.{one_more, so_many}
 use Rattle.port_turn.proofs.serving.serve.Goals as goal
 

@@ -1,4 +1,4 @@
-use Rattle.std.proofs.Common.{rules, ◌≡◌, ◌∙◌, ap, refl, sym, drop}
+use Rattle.std.proofs.Common.{rules, ◌∙◌, ap, refl, drop}
 use Rattle.std.specs.Prelude.{option_map}
 use Rattle.port_events.specs.Feeding.{given, some_of}
 use Rattle.port_events.specs.Taking.{datagram_event, frame_event, lower_event}
