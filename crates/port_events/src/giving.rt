@@ -1,0 +1,71 @@
+//! What an end gives goes out by the ports.
+
+ghost use Rattle.std.specs.Prelude.{ℕ, ◌≡◌, [], ◌∷◌, take, OnOk, OnErr};
+ghost use Rattle.port_events.specs.Giving.{Gave, Blames};
+
+use crate::end::{Out, Outputs};
+use port_traits::{Ether, Link, Uplink};
+
+/// Why a turn ends early.
+#[derive(Clone, Copy, PartialEq, Eq)]
+pub enum NodeFault {
+    /// The link failed.
+    LinkFault,
+    /// The Ethernet port failed.
+    EtherFault,
+    /// The uplink failed.
+    UplinkFault,
+    /// Memory was wanting.
+    NoMemory,
+}
+
+/// An output goes out by its port.
+fn give<L: Link, E: Ether, U: Uplink>(
+    out: &Out,
+    link: &mut L,
+    ether: &mut E,
+    up: &mut U,
+) -> Result<(), NodeFault>
+    ensures ok { OnOk result (Gave (L.given link.old) (L.given link.new) (E.given ether.old) (E.given ether.new) (U.given up.old) (U.given up.new) (out.now ∷ [])) }
+    ensures err { OnErr result (Gave (L.given link.old) (L.given link.new) (E.given ether.old) (E.given ether.new) (U.given up.old) (U.given up.new) []) }
+    ensures link_waits { L.waiting link.new ≡ L.waiting link.old }
+    ensures ether_waits { E.waiting ether.new ≡ E.waiting ether.old }
+    ensures up_waits { U.waiting up.new ≡ U.waiting up.old }
+    ensures cause { Blames (L.faults link.old) (L.faults link.new) (E.faults ether.old) (E.faults ether.new) (U.faults up.old) (U.faults up.new) result }
+{
+    match out {
+        Out::Send { peer, bytes } => match link.send(*peer, bytes.as_slice()) {
+            Ok(()) => Ok(()),
+            Err(_) => Err(NodeFault::LinkFault),
+        },
+        Out::Ether { bytes } => match ether.send(bytes.as_slice()) {
+            Ok(()) => Ok(()),
+            Err(_) => Err(NodeFault::EtherFault),
+        },
+        Out::Up { session, frame } => match up.send(*session, frame.as_slice()) {
+            Ok(()) => Ok(()),
+            Err(_) => Err(NodeFault::UplinkFault),
+        },
+        Out::Drop => Ok(()),
+    }
+}
+
+/// Outputs go out in order, all of them, or the first few where a port fails.
+pub fn give_all<L: Link, E: Ether, U: Uplink>(
+    outs: &Outputs,
+    link: &mut L,
+    ether: &mut E,
+    up: &mut U,
+) -> Result<(), NodeFault>
+    ensures ok { OnOk result (Gave (L.given link.old) (L.given link.new) (E.given ether.old) (E.given ether.new) (U.given up.old) (U.given up.new) outs.now) }
+    ensures err { OnErr result ((n : ℕ) × Gave (L.given link.old) (L.given link.new) (E.given ether.old) (E.given ether.new) (U.given up.old) (U.given up.new) (take n outs.now)) }
+    ensures link_waits { L.waiting link.new ≡ L.waiting link.old }
+    ensures ether_waits { E.waiting ether.new ≡ E.waiting ether.old }
+    ensures up_waits { U.waiting up.new ≡ U.waiting up.old }
+    ensures cause { Blames (L.faults link.old) (L.faults link.new) (E.faults ether.old) (E.faults ether.new) (U.faults up.old) (U.faults up.new) result }
+{
+    for out in outs.as_slice() {
+        give(out, link, ether, up)?;
+    }
+    Ok(())
+}

@@ -1,0 +1,12 @@
+//! An end between its ports: what waits on a port becomes an event, and what the end gives goes out.
+#![tactic(auto)]
+
+mod end;
+mod feeding;
+mod giving;
+mod taking;
+
+pub use end::{EndStep, Event, Out, Outputs};
+pub use feeding::{feed, feed_some};
+pub use giving::{NodeFault, give_all};
+pub use taking::{next_datagram, next_frame, next_lower};

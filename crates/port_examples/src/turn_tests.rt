@@ -1,0 +1,67 @@
+use crate::echo::Echo;
+use block_source::seeded;
+use memory_ports::{ManualClock, MemoryEther, MemoryLink, MemoryUplink, Moments};
+use port_events::NodeFault;
+use port_traits::{Datagram, Datagrams, Fails, Frames};
+use port_turn::serve;
+use std::alloc::Global;
+use wire_base::{Bytes, NoMemory};
+
+/// Three datagrams, from peers 1 to 3.
+fn datagrams(alloc: Global) -> Result<Datagrams, NoMemory> {
+    let mut waiting = Datagrams::new(alloc);
+    for peer in 1..4u32 {
+        let bytes = Bytes::from_slice(alloc, &[7])?;
+        waiting.push(Datagram { peer, bytes })?;
+    }
+    Ok(waiting)
+}
+
+/// Two turns: the fault, and how many datagrams were given.
+fn two_turns(
+    alloc: Global,
+    mut link: MemoryLink,
+    mut ether: MemoryEther,
+    mut clock: ManualClock,
+) -> (Option<NodeFault>, usize) {
+    let mut up: Option<MemoryUplink> = None;
+    let mut rng = seeded([1u8; 32]);
+    let mut end = Echo::new(alloc);
+    let served = serve(
+        alloc, &mut end, &mut link, &mut ether, &mut up, &mut clock, &mut rng, 2,
+    );
+    (served.err(), link.given().len())
+}
+
+/// Two turns over a link with three datagrams, where these calls of the link and of the Ethernet port fail.
+fn run(
+    alloc: Global,
+    link_fails: &[u64],
+    ether_fails: &[u64],
+) -> Result<(Option<NodeFault>, usize), NoMemory> {
+    let waiting = datagrams(alloc)?;
+    let link_fails = Fails::from_slice(alloc, link_fails)?;
+    let ether_fails = Fails::from_slice(alloc, ether_fails)?;
+    let moments = Moments::from_slice(alloc, &[5])?;
+    Ok(two_turns(
+        alloc,
+        MemoryLink::new(alloc, waiting, link_fails),
+        MemoryEther::new(alloc, Frames::new(alloc), ether_fails),
+        ManualClock::new(moments),
+    ))
+}
+
+#[test]
+fn what_came_goes_out_before_the_next(rt: HostRuntime) {
+    let alloc = rt.alloc();
+    // two of three are answered in two turns
+    assert!(rt; run(alloc, &[], &[]) == Ok((None, 2)));
+    // the link's calls are recv, send, recv, send
+    assert!(rt; run(alloc, &[1], &[]) == Ok((Some(NodeFault::LinkFault), 0)));
+    assert!(rt; run(alloc, &[2], &[]) == Ok((Some(NodeFault::LinkFault), 0)));
+    assert!(rt; run(alloc, &[3], &[]) == Ok((Some(NodeFault::LinkFault), 1)));
+    assert!(rt; run(alloc, &[4], &[]) == Ok((Some(NodeFault::LinkFault), 1)));
+    // where the Ethernet port fails, the datagram before it was answered
+    assert!(rt; run(alloc, &[], &[1]) == Ok((Some(NodeFault::EtherFault), 1)));
+    assert!(rt; run(alloc, &[], &[2]) == Ok((Some(NodeFault::EtherFault), 2)));
+}

@@ -1,0 +1,38 @@
+-- Turn after turn.
+use Rattle.std.specs.Prelude.{ℕ, ◌≡◌, List, [], ◌∷◌, Option, option_map, IfSome}
+use Rattle.rand_core.specs.Stream.{Stream}
+use Rattle.port_traits.specs.Packets.{Moments, moment, passed}
+use Rattle.port_events.specs.declared.end.Event.{Event}
+use Rattle.port_events.specs.declared.end.Out.{Out}
+use Rattle.port_events.specs.declared.giving.NodeFault.{NodeFault}
+use Rattle.port_events.specs.Feeding.{Given}
+use Rattle.port_turn.specs.Turns.{Waits, Turn, Turned, Broke}
+
+-- an end with all that its outside tells
+pub record Node (S : Type 0) : Type 0 where
+  pub stream : Stream
+  pub clock : Option Moments
+  pub end : S
+  pub given : Given
+  pub waits : Waits
+
+abbrev pub node : {S : Type 0} → Stream → Option Moments → S → Given → Waits → Node S
+node stream clock end given waits = record { stream = stream; clock = clock; end = end; given = given; waits = waits }
+
+module _ {S : Type 0} (after : S → ℕ → List ℕ → Event → S) (outputs : S → ℕ → List ℕ → Event → List Out) where
+  -- a turn, at the next moment of the clock
+  pub record MakesTurn (t : Turn) (old new : Node S) : Type 0 where
+    pub turned : Turned after outputs old.stream new.stream old.end new.end old.given new.given old.waits new.waits t
+    pub moment_is : IfSome old.clock (λ moments. t.now ≡ moment moments)
+    pub clock_is : new.clock ≡ option_map passed old.clock
+
+  abbrev pub Runs : List Turn → Node S → Node S → Type 0
+  Runs [] old new = new ≡ old
+  Runs (t ∷ ts) old new = (mid : Node S) × MakesTurn t old mid × Runs ts mid new
+
+  -- whole turns, and then one that ended early
+  pub record BreaksOff (fault : NodeFault) (old : Node S) (end' : S) (given' : Given) (waits' : Waits) : Type 0 where
+    pub turns : List Turn
+    pub mid : Node S
+    pub runs : Runs turns old mid
+    pub broke : Broke after outputs fault mid.stream mid.end end' mid.given given' mid.waits waits'
