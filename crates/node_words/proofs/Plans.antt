@@ -2,7 +2,7 @@
 use Rattle.std.proofs.Common.{◌≡◌, ◌≢◌, ℕ, Bool, List, [], ◌∷◌, Option, Some, None, refl}
 use Rattle.clap.specs.Words.{fault_of, matches_of}
 use Rattle.node_words.specs.Options.{plan_app}
-use Rattle.node_words.specs.Values.{◌>>=◌}
+use Rattle.option_values.specs.Values.{◌>>=◌}
 use Rattle.node_words.specs.Plans.{unless_faulty, plan_by, command_of, plan_of}
 
 faulty : {A K : Type 0} (faults : List K) (plan : Option A) → faults ≢ [] → unless_faulty faults plan ≡ None

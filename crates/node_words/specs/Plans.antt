@@ -8,7 +8,7 @@ use Rattle.node_words.specs.declared.reading.Identity.{Identity}
 use Rattle.node_words.specs.declared.reading.Numbers.{Numbers}
 use Rattle.node_words.specs.declared.reading.Texts.{Texts}
 use Rattle.node_words.specs.Options.{plan_app}
-use Rattle.node_words.specs.Values.{◌>>=◌, number_of, number_or, address_of, role_of, peer_of, secret_of, workers_of}
+use Rattle.option_values.specs.Values.{◌>>=◌, number_of, number_or, address_of, role_of, peer_of, secret_of, workers_of}
 
 -- whether a flag is given
 abbrev pub is_given : Option (List ℕ) → Bool

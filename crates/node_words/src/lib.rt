@@ -5,7 +5,6 @@ mod asking;
 mod command;
 mod plan;
 mod reading;
-mod values;
 
 pub use asking::{NODE_HELP, POOL_HELP, asks_for_help, asks_for_version};
 pub use plan::{Plan, PlanError};

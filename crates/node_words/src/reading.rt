@@ -8,10 +8,10 @@ ghost use Rattle.node_words.specs.Plans.{is_given, identity_of, numbers_of, said
 
 use crate::command::parse;
 use crate::plan::{Plan, PlanError};
-use crate::values::{
+use clap::ArgMatches;
+use option_values::{
     read_address, read_number, read_number_or, read_peer, read_role, read_secret, read_workers,
 };
-use clap::ArgMatches;
 use std::alloc::{AllocError, Global};
 use wire_base::{Bytes, NoMemory};
 

@@ -7,7 +7,7 @@ use Rattle.std.specs.List.{list_all}
 use Rattle.std.specs.Str.Parse.{IsNumeral, digits_value, ParsesUnsigned, without_leading_plus}
 use Rattle.std.proofs.lemmas.Bool.{lt-ltb, le-ltb, leb-true, le-leb, and_parts}
 use Rattle.std.proofs.lemmas.Str.Parse.{IsDigitsTest, IsNumeralModel, numerals_by_value, without_leading_plus_none}
-use Rattle.node_words.specs.Values.{is_plain, numeral_of}
+use Rattle.option_values.specs.Values.{is_plain, numeral_of}
 
 tells_plain : IsDigitsTest (λ ds. list_all is_ascii_digit ds ≡ true)
 tells_plain = record {

@@ -3,7 +3,7 @@
 ghost use Rattle.std.specs.Prelude.{◌≡◌, ◌≤◌, IfSome, option_map};
 ghost use Rattle.std.specs.Char.{is_ascii_digit};
 ghost use Rattle.std.specs.List.{list_all};
-ghost use Rattle.node_words.specs.Values.{begins_well, is_plain, numeral_of, number_of, number_or, address_of, role_of, peer_of, secret_of, workers_of};
+ghost use Rattle.option_values.specs.Values.{begins_well, is_plain, numeral_of, number_of, number_or, address_of, role_of, peer_of, secret_of, workers_of};
 
 use std::net::Ipv4Addr;
 
@@ -44,7 +44,7 @@ fn read_numeral(word: &str) -> Option<u64>
 
 /// The number that a word spells, where it is between two bounds.
 #[tactic(auto, unfolding(crate::specs::Values::number_of))]
-pub(crate) fn read_number(word: &str, least: u64, most: u64) -> Option<u64>
+pub fn read_number(word: &str, least: u64, most: u64) -> Option<u64>
     ensures exact { result ≡ number_of least most word.now }
     ensures within { IfSome result (λ n. n ≤ most) }
 {
@@ -56,12 +56,7 @@ pub(crate) fn read_number(word: &str, least: u64, most: u64) -> Option<u64>
 }
 
 /// The number that a word spells, where it is between two bounds; without a word another one.
-pub(crate) fn read_number_or(
-    word: Option<&str>,
-    otherwise: u64,
-    least: u64,
-    most: u64,
-) -> Option<u64>
+pub fn read_number_or(word: Option<&str>, otherwise: u64, least: u64, most: u64) -> Option<u64>
     requires { otherwise ≤ most }
     ensures exact { result ≡ number_or otherwise least most (option_map (λ w. w.now) word.entry) }
     ensures within { IfSome result (λ n. n ≤ most) }
@@ -74,7 +69,7 @@ pub(crate) fn read_number_or(
 
 /// The IPv4 address that a word spells: four decimal numbers below 256 without leading zeros, and dots between them.
 #[tactic(auto, using(crate::proofs::Addresses::parsed_address, crate::proofs::Addresses::no_address))]
-pub(crate) fn read_address(word: &str) -> Option<u32>
+pub fn read_address(word: &str) -> Option<u32>
     ensures { result ≡ address_of word.now }
 {
     match word.parse::<Ipv4Addr>() {
@@ -84,7 +79,7 @@ pub(crate) fn read_address(word: &str) -> Option<u32>
 }
 
 /// Whether a role is that of a LAC.
-pub(crate) fn read_role(word: &str) -> Option<bool>
+pub fn read_role(word: &str) -> Option<bool>
     ensures { result ≡ role_of word.now }
 {
     if word == "lac" {
@@ -97,7 +92,7 @@ pub(crate) fn read_role(word: &str) -> Option<bool>
 }
 
 /// The address of the peer, which a LAC must have.
-pub(crate) fn read_peer(lac: bool, word: Option<&str>) -> Option<Option<u32>>
+pub fn read_peer(lac: bool, word: Option<&str>) -> Option<Option<u32>>
     ensures { result ≡ peer_of lac (option_map (λ w. w.now) word.entry) }
 {
     match word {
@@ -111,7 +106,7 @@ pub(crate) fn read_peer(lac: bool, word: Option<&str>) -> Option<Option<u32>>
 }
 
 /// The number of workers, which only a pool is asked for.
-pub(crate) fn read_workers(pool: bool, word: Option<&str>) -> Option<u64>
+pub fn read_workers(pool: bool, word: Option<&str>) -> Option<u64>
     ensures exact { result ≡ workers_of pool (option_map (λ w. w.now) word.entry) }
     ensures within { IfSome result (λ n. n ≤ 64) }
 {
@@ -122,7 +117,7 @@ pub(crate) fn read_workers(pool: bool, word: Option<&str>) -> Option<u64>
 }
 
 /// A secret of 1 to 64 bytes.
-pub(crate) fn read_secret<'a>(word: Option<&'a str>) -> Option<Option<&'a str>>
+pub fn read_secret<'a>(word: Option<&'a str>) -> Option<Option<&'a str>>
     ensures { option_map (option_map (λ w. w.now)) result ≡ secret_of (option_map (λ w. w.now) word.entry) }
 {
     match word {

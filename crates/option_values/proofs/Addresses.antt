@@ -6,7 +6,7 @@ use Rattle.std.specs.Net.Addr.{ipv4_octets, ipv4_bits}
 use Rattle.std.specs.Net.Grammar.{IsDotted, IsIpv4Text}
 use Rattle.std.specs.Net.Reader.{read_ipv4}
 use Rattle.std.proofs.NetLemmas.Ipv4.{read_ipv4_complete, read_ipv4_sound}
-use Rattle.node_words.specs.Values.{◌>>=◌, address_of, alone}
+use Rattle.option_values.specs.Values.{◌>>=◌, address_of, alone}
 
 whole_word : (word octets : List ℕ) → IsDotted word octets → read_ipv4 word ≡ Some (octets, [])
 whole_word word octets dotted = subst (λ w. read_ipv4 w ≡ Some (octets, [])) (append-nil word) (read_ipv4_complete word octets [] dotted (lit≤ tt))

@@ -1,5 +1,0 @@
-use Rattle.node_words.proofs.Addresses.{no_address}
-use Rattle.node_words.proofs.values.read_address.Goals as goal
-
-pub returns-in-Err : goal.returns-in-Err
-returns-in-Err c = no_address c.args.word.now c.in-Err.ensures.value
