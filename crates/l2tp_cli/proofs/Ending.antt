@@ -18,7 +18,8 @@ use Rattle.l2tp_cli.specs.declared.words.Asked.TheVariants as asked
 use Rattle.l2tp_cli.specs.declared.exit.Exit.{Exit}
 use Rattle.l2tp_cli.specs.declared.exit.Exit.TheVariants as exits
 use Rattle.l2tp_cli.specs.Texts.{too_long_text}
-use Rattle.l2tp_cli.specs.Due.{Due, due, refused, exit_of, due_of_run, due_of_lines, due_within, due_of, read_fault_text}
+use Rattle.l2tp_cli.specs.Due.{Due, due, refused, exit_of, due_of_run, due_of_lines, due_within, due_of}
+use Rattle.l2tp_cli.specs.Texts.{read_fault_text}
 use Rattle.l2tp_cli.proofs.Counts.{bytes_within}
 use Rattle.l2tp_cli.specs.Ends.{IsDue, IsRead, Ports, IsWhole, FailedAtRead, FailedWriting, Ends, Tells}
 

@@ -8,7 +8,8 @@ use Rattle.l2tp_cli.specs.declared.words.Asked.{Asked}
 use Rattle.l2tp_cli.specs.declared.words.Asked.TheVariants as asked
 use Rattle.l2tp_cli.specs.declared.exit.Exit.{Exit}
 use Rattle.l2tp_cli.specs.declared.exit.Exit.TheVariants as exits
-use Rattle.l2tp_cli.specs.Due.{Due, due, due_of, help_text, version_text, usage_text, read_fault_text}
+use Rattle.l2tp_cli.specs.Due.{Due, due, due_of}
+use Rattle.l2tp_cli.specs.Texts.{help_text, version_text, usage_text, read_fault_text}
 
 -- what the words ask for comes to this; for a run it is what a text comes to, the one that was left in the source, where
 -- the source tells it

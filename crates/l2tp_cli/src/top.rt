@@ -4,10 +4,7 @@ ghost use Rattle.std.specs.Prelude.{◌≡◌, map, string_bytes};
 ghost use Rattle.l2tp_cli.specs.declared.words.Asked.TheVariants as asked;
 ghost use Rattle.l2tp_cli.specs.Words.{asked_of};
 ghost use Rattle.l2tp_cli.specs.Ends.{Ends, Tells};
-ghost use Rattle.cause_laws.specs.Answers.{AnswersOfRuns};
-ghost use Rattle.cause_laws.specs.Causes.{CausesOfRuns};
-ghost use Rattle.l2tp_cli.specs.Runs.{AnswersOfTexts, BirthsOfLines, BirthsOfTexts, CausesOfTexts, ChannelsOfLines, ChannelsOfTexts, FramesOfLines, FramesOfTexts, HeadlineOfTexts, SessionsOfTexts};
-ghost use Rattle.session_laws.specs.Sessions.{SessionsOfRuns};
+ghost use Rattle.l2tp_cli.specs.Runs.{Headline, Origins};
 
 use crate::answer::answer_to;
 use crate::exit::Exit;
@@ -87,20 +84,9 @@ fn command<S: Source, K: Sink>(
 /// For `replay` it reads a schedule to its end, or to where it passes a limit, runs it, and writes the report of the run.
 /// `--help` and `--version` write their texts; other words write how the program is used.
 ///
-/// In the run of every schedule, this one or another, each frame that an end hands up in a call was sent at an earlier
-/// line, in a call of the same birth, by an end of the other kind, at the node that the call's tunnel goes to, and was
-/// given to that end for the call by that line, or by the LCP end of the call; and a birth is that of one call, at one
-/// LAC and one LNS. Each control message is a copy of the letter with its number in the list of its sender, or a
-/// StopCCN of no tunnel that declines an opening; what a tunnel took as long as it wasn't closed are the first letters
-/// of the list of its partner, in order and each once; what counts as acknowledged was taken, or ignored by a tunnel
-/// that had been closed, or declined; the 16 bits of a number have one reading; and there is room for each letter that
-/// a tunnel has to give. No end has more than 1,024 tunnels. In an open tunnel each call is asked for, and a tick of a
-/// node leaves none of its calls that took 60 seconds or more to be set up, and no tunnel that did, that was closed 31
-/// seconds ago or more, or that repeated a letter in vain. Each cause that the report tells stands in the world before
-/// its line. Each call request that comes to an open tunnel and is taken is answered once, as the tables and the causes
-/// say, and each ring makes a call or tells a cause. Two partners that are established, each of which took all that was
-/// given to the other, hold the same established sessions, with the same births. All of it holds too of the run of
-/// every list of fewer than 2^47 lines of the grammar, whether a text within the limits has room for it or not.
+/// What the clause `ends` says is of this call. The others speak of the run of every list of lines of the grammar, whether
+/// this text spells it or another, or none has room for it: `headline` of those with fewer than 2^47 lines, as those of each
+/// text within the limits are, and `origins` of all.
 pub fn replay_top<S: Source, K: Sink>(
     alloc: Global,
     words: &[String],
@@ -117,19 +103,8 @@ pub fn replay_top<S: Source, K: Sink>(
       taken_before = K.taken sink.old;
       taken_after = K.taken sink.new;
     }) }
-    ensures headline { HeadlineOfTexts }
-    ensures frames { FramesOfTexts }
-    ensures births { BirthsOfTexts }
-    ensures channels { ChannelsOfTexts }
-    ensures sessions { SessionsOfTexts }
-    ensures causes { CausesOfTexts }
-    ensures answers { AnswersOfTexts }
-    ensures frames_of_lines { FramesOfLines }
-    ensures births_of_lines { BirthsOfLines }
-    ensures channels_of_lines { ChannelsOfLines }
-    ensures sessions_of_lines { SessionsOfRuns }
-    ensures causes_of_lines { CausesOfRuns }
-    ensures answers_of_lines { AnswersOfRuns }
+    ensures headline { Headline }
+    ensures origins { Origins }
 {
     schedule_text::lines_are_a_schedule();
     frame_laws::reports_tell_the_past();

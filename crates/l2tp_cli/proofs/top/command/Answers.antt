@@ -1,6 +1,6 @@
 use Rattle.std.proofs.Common.{◌∙◌, sym, refl}
 use Rattle.l2tp_cli.specs.declared.words.Asked.TheVariants as asked
-use Rattle.l2tp_cli.specs.Due.{help_text, version_text, usage_text}
+use Rattle.l2tp_cli.specs.Texts.{help_text, version_text, usage_text}
 use Rattle.l2tp_cli.proofs.Ending.{told_own, told_usage, none_read}
 use Rattle.l2tp_cli.proofs.top.command.Goals as goal
 
