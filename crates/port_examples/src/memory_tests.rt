@@ -3,6 +3,7 @@ use port_traits::{
     Datagram, Datagrams, Ether, Fails, Frames, Link, LowerFrame, LowerFrames, Uplink,
 };
 use std::alloc::Global;
+use std::test::Fail;
 use wire_base::{Bytes, NoMemory};
 
 /// One datagram of 3,000 bytes.
@@ -84,13 +85,14 @@ fn expected(call: u64) -> [bool; 3] {
 }
 
 #[test]
-fn each_call_fails_in_turn(rt: HostRuntime) {
+fn each_call_fails_in_turn(rt: HostRuntime) -> Result<(), Fail> {
     let alloc = rt.alloc();
     for call in 1..5u64 {
-        assert!(rt; link_failing(alloc, call) == Ok(expected(call)));
-        assert!(rt; ether_failing(alloc, call) == Ok(expected(call)));
-        assert!(rt; uplink_failing(alloc, call) == Ok(expected(call)));
+        assert!(rt; link_failing(alloc, call)? == expected(call));
+        assert!(rt; ether_failing(alloc, call)? == expected(call));
+        assert!(rt; uplink_failing(alloc, call)? == expected(call));
     }
+    Ok(())
 }
 
 /// How many datagrams a steady link was given.
@@ -116,11 +118,12 @@ fn given_to_uplink(alloc: Global) -> Result<Option<usize>, NoMemory> {
 }
 
 #[test]
-fn steady_ports_keep_what_they_are_given(rt: HostRuntime) {
+fn steady_ports_keep_what_they_are_given(rt: HostRuntime) -> Result<(), Fail> {
     let alloc = rt.alloc();
-    assert!(rt; given_to_link(alloc) == Ok(Some(1)));
-    assert!(rt; given_to_ether(alloc) == Ok(Some(1)));
-    assert!(rt; given_to_uplink(alloc) == Ok(Some(1)));
+    assert!(rt; given_to_link(alloc)? == Some(1));
+    assert!(rt; given_to_ether(alloc)? == Some(1));
+    assert!(rt; given_to_uplink(alloc)? == Some(1));
+    Ok(())
 }
 
 #[test]

@@ -5,6 +5,7 @@ use port_events::NodeFault;
 use port_traits::{Datagram, Datagrams, Fails, Frames};
 use port_turn::serve;
 use std::alloc::Global;
+use std::test::Fail;
 use wire_base::{Bytes, NoMemory};
 
 /// Three datagrams, from peers 1 to 3.
@@ -52,16 +53,17 @@ fn run(
 }
 
 #[test]
-fn what_came_goes_out_before_the_next(rt: HostRuntime) {
+fn what_came_goes_out_before_the_next(rt: HostRuntime) -> Result<(), Fail> {
     let alloc = rt.alloc();
     // two of three are answered in two turns
-    assert!(rt; run(alloc, &[], &[]) == Ok((None, 2)));
+    assert!(rt; run(alloc, &[], &[])? == (None, 2));
     // the link's calls are recv, send, recv, send
-    assert!(rt; run(alloc, &[1], &[]) == Ok((Some(NodeFault::LinkFault), 0)));
-    assert!(rt; run(alloc, &[2], &[]) == Ok((Some(NodeFault::LinkFault), 0)));
-    assert!(rt; run(alloc, &[3], &[]) == Ok((Some(NodeFault::LinkFault), 1)));
-    assert!(rt; run(alloc, &[4], &[]) == Ok((Some(NodeFault::LinkFault), 1)));
+    assert!(rt; run(alloc, &[1], &[])? == (Some(NodeFault::LinkFault), 0));
+    assert!(rt; run(alloc, &[2], &[])? == (Some(NodeFault::LinkFault), 0));
+    assert!(rt; run(alloc, &[3], &[])? == (Some(NodeFault::LinkFault), 1));
+    assert!(rt; run(alloc, &[4], &[])? == (Some(NodeFault::LinkFault), 1));
     // where the Ethernet port fails, the datagram before it was answered
-    assert!(rt; run(alloc, &[], &[1]) == Ok((Some(NodeFault::EtherFault), 1)));
-    assert!(rt; run(alloc, &[], &[2]) == Ok((Some(NodeFault::EtherFault), 2)));
+    assert!(rt; run(alloc, &[], &[1])? == (Some(NodeFault::EtherFault), 1));
+    assert!(rt; run(alloc, &[], &[2])? == (Some(NodeFault::EtherFault), 2));
+    Ok(())
 }

@@ -28,8 +28,8 @@ returns-clause-headline g c = record {
     };
   };
   of_texts = λ text lines within h.
-    let is = c.lines_are_a_schedule.ensures text lines h in
-    (is.fits, few_lines text lines within is);
+      let is = c.lines_are_a_schedule.ensures text lines h in
+      (is.fits, few_lines text lines within is);
 }
 
 pub returns-clause-origins : goal.returns-clause-origins
