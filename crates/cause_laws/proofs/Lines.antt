@@ -1,8 +1,11 @@
 -- What a line makes is of a step of one node, which the line brings.
-use Rattle.std.proofs.Common.{◌≡◌, inl, inr, ℕ, ◌+◌, ◌-◌, ◌^◌, List, [], ◌∷◌, refl, subst, Option, Some, None, Result, Ok, Err, Bool, false, ◌++◌, ap, sym, ◌∙◌}
-use Rattle.std.specs.Prelude.{is_some, min, slice_get}
+use Rattle.std.proofs.Common.{◌≡◌, inl, inr, ⊎_elim, ℕ, ◌+◌, ◌-◌, ◌^◌, List, [], ◌∷◌, refl, subst, Option, Some, None, Result, Ok, Err, Bool, true, false, ◌++◌, ap, sym, ◌∙◌}
+use Rattle.std.specs.Prelude.{is_some, if◌then◌else◌, min, slice_get}
 use Rattle.std.specs.List.{AllByRecursion}
 use Rattle.id_table.specs.Ids.{at}
+use Rattle.id_source.specs.Spaces.{draws}
+use Rattle.id_source.specs.declared.IdError.{IdError}
+use Rattle.pppoe_discovery.specs.declared.outcome.Discovered.{Discovered}
 use Rattle.wire_base.specs.declared.why.Why.{Why}
 use Rattle.wire_base.specs.declared.why.Why.TheVariants as why
 use Rattle.schedule_text.specs.declared.line.Line.{Line}
@@ -18,18 +21,18 @@ use Rattle.end_names.specs.declared.role.Role.{Role}
 use Rattle.end_names.specs.declared.role.Role.TheVariants as role
 use Rattle.end_names.specs.Names.{address_of}
 use Rattle.protocol_model.specs.Secrets.{uncovered_event}
-use Rattle.protocol_model.specs.End.{new_end, step}
+use Rattle.protocol_model.specs.End.{End, Stepped, new_end, step}
 use Rattle.step_laws.specs.Lines.{tested_not, is_lac_at, is_lns_at, is_declared, has_call, has_tunnel}
 use Rattle.protocol_model.specs.World.{World, Node, Sender, Lined, quiet_line, with_node, after_step, given, entries_of, entry_of, shown, moved_all, sent, declared, lac_at, lns_at, with_call, with_tunnel, later, new_node, answer_entries, added, block_of, stepped, addressee_of, arrival, refused_by, sender_of, arrives, delivers_it, delivers, line}
 use Rattle.step_laws.specs.Letters.{Among}
 use Rattle.step_laws.specs.Steps.{AreKept}
 use Rattle.step_laws.specs.Room.{StepsRefuseTruly}
 use Rattle.step_laws.specs.Causes.{CausesStand}
-use Rattle.protocol_model.specs.Access.{coming, Ignores, Answers}
+use Rattle.protocol_model.specs.Access.{coming, Ignores, Answers, live_in, pads_for, pads_of}
 use Rattle.wire_base.specs.declared.cause.Cause.{Cause as BecauseOf}
 use Rattle.protocol_model.specs.Texts.{Entry, Frames}
-use Rattle.step_laws.specs.Hosts.{LacAt, with_host, reply_to, OfFrame, frame_line, never_full, discovery_refuses}
-use Rattle.cause_laws.specs.Causes.{Brings, ByItsHost, ByAPadr, CauseStandsIn, AtTheEnd, InDiscovery, moment_of, CauseIsTrue, IsFullAt, IsTrue, TellsTruly}
+use Rattle.step_laws.specs.Hosts.{LacAt, with_host, reply_to, OfFrame, frame_line, never_full, discovery_refuses, frame_answered, host_enters}
+use Rattle.cause_laws.specs.Causes.{Brings, ByItsHost, ByAPadr, CauseStandsIn, AtTheEnd, InDiscovery, moment_of, CauseIsTrue, IsFullAt, AnswersEntry, WithSession, WithCause, OfDiscovery, OfLiveCall, OfEntry, IsTrue, TellsTruly}
 
 -- ---- the outputs of a step, and the entries that they make
 
@@ -41,16 +44,16 @@ OutIsTrue w l n (Send peer bytes origin) = Unit {0}
 OutIsTrue w l n (Up session side frame) = Unit {0}
 OutIsTrue w l n (Gone session) = Unit {0}
 
-entry_true : (w v : World) (l : Line) (number n : ℕ) (o : Out) → OutIsTrue w l n o → IsTrue w l (entry_of number n v o)
+entry_true : (w v : World) (l : Line) (number n : ℕ) (o : Out) → OutIsTrue w l n o → IsTrue w number l (entry_of number n v o)
 unfolding entry_of
-entry_true w v l number n (Cause c) h = h
-entry_true w v l number n (Drop x) h = h
-entry_true w v l number n (Send peer bytes origin) h = tt
-entry_true w v l number n (Up session side frame) h = tt
-entry_true w v l number n (Gone session) h = tt
+entry_true w v l number n (Cause c) h = (refl, h)
+entry_true w v l number n (Drop x) h = (refl, h)
+entry_true w v l number n (Send peer bytes origin) h = refl
+entry_true w v l number n (Up session side frame) h = refl
+entry_true w v l number n (Gone session) h = refl
 
 entries_true : (w v : World) (l : Line) (number n : ℕ) (os : List Out) → ((o : Out) → Among o os → OutIsTrue w l n o)
-    → AllByRecursion (IsTrue w l) (entries_of number n os v)
+    → AllByRecursion (IsTrue w number l) (entries_of number n os v)
 unfolding entries_of
 entries_true w v l number n [] h = tt
 entries_true w v l number n (o ∷ os) h =
@@ -66,7 +69,7 @@ EndsAreKept w = (n : ℕ) (node : Node) → at w.nodes n ≡ Some node → AreKe
 
 module _ (causes : CausesStand) (room : StepsRefuseTruly) (w : World) (kept : EndsAreKept w) (number : ℕ) (l : Line) (x : Lined) where
   abbrev Told : Type 0
-  Told = AllByRecursion (IsTrue w l) x.entries
+  Told = AllByRecursion (IsTrue w number l) x.entries
 
   -- a step that the line brings, of a node at the moment of the line
   of_step : (n : ℕ) (old node : Node) (ev : Event) (sender : Option Sender) → at w.nodes n ≡ Some old → node.end ≡ old.end
@@ -77,7 +80,7 @@ module _ (causes : CausesStand) (room : StepsRefuseTruly) (w : World) (kept : En
       let s = step node.end node.clock (block_of n number) ev in
       let alike : s ≡ step old.end (moment_of l old) (block_of n number) ev = rw (same, clock) refl in
       let v = moved_all n s.moves (with_node w n (record node { end = s.end })) in
-      subst (λ (q : Lined). AllByRecursion (IsTrue w l) q.entries) is (entries_true w v l number n s.outputs (λ o a.
+      subst (λ (q : Lined). AllByRecursion (IsTrue w number l) q.entries) is (entries_true w v l number n s.outputs (λ o a.
       by o (subst (λ q. Among o q.outputs) alike a)))
     where
       by : (o : Out) → Among o (step old.end (moment_of l old) (block_of n number) ev).outputs → OutIsTrue w l n o
@@ -118,7 +121,7 @@ module _ (causes : CausesStand) (room : StepsRefuseTruly) (w : World) (kept : En
       of_step n old node ev None was same clock brings is
 
   quiet_true : (v : World) → quiet_line v ≡ x → Told
-  quiet_true v is = subst (λ (q : Lined). AllByRecursion (IsTrue w l) q.entries) is tt
+  quiet_true v is = subst (λ (q : Lined). AllByRecursion (IsTrue w number l) q.entries) is tt
 
   added_true : (n : ℕ) (r : Role) (lns : ℕ) (secret : Option (List ℕ)) (hide : Bool) → added w number n r lns secret hide ≡ Ok x → Told
   unfolding added
@@ -129,30 +132,51 @@ module _ (causes : CausesStand) (room : StepsRefuseTruly) (w : World) (kept : En
 -- what is answered to an Ethernet frame, with a cause where discovery has one
 module _ (w : World) (number n : ℕ) (bytes : List ℕ) (l : LacAt w n) where
   answers_true : (because : Option BecauseOf) (frame : List ℕ) → coming l.access l.node.end bytes ≡ Answers because frame
-      → AllByRecursion (IsTrue w (Frame n bytes)) (answer_entries number n because frame)
-  answers_true None frame is = (tt, tt)
-  answers_true (Some c) frame is = (
-    InDiscovery (record { lac = l; bytes = bytes; line_is = refl; frame = frame; found = discovery_refuses l.access l.node.end bytes c frame is }),
-    (tt, tt),
-  )
+      → AllByRecursion (IsTrue w number (Frame n bytes)) (answer_entries number n because frame)
+  answers_true None frame is =
+      let so = ⊎_elim
+      (λ found. OfDiscovery l bytes None refl found)
+      (λ again. OfLiveCall l bytes refl again)
+      (frame_answered l.access l.node.end bytes frame is) in
+      ((refl, so), tt)
+  answers_true (Some c) frame is =
+      let found = discovery_refuses l.access l.node.end bytes c frame is in
+      (
+        (refl, InDiscovery (record { lac = l; bytes = bytes; line_is = refl; frame = frame; found = found })),
+        ((refl, OfDiscovery l bytes (Some c) refl found), tt),
+      )
 
-both_true : (w : World) (l : Line) (es fs : List Entry) → AllByRecursion (IsTrue w l) es → AllByRecursion (IsTrue w l) fs → AllByRecursion (IsTrue w l) (es ++ fs)
-both_true w l [] fs one two = two
-both_true w l (e ∷ es) fs one two = (one.0, both_true w l es fs one.1 two)
+-- what the PADS of a host that entered says
+entry_answered : (before : End) (asked : Discovered) (s : Stepped) → AnswersEntry before asked s (pads_of before asked s)
+unfolding pads_of
+entry_answered before asked s = by (draws before.session_ids) refl
+  where
+    by : (r : Result ℕ IdError) → draws before.session_ids ≡ r → AnswersEntry before asked s (pads_for before asked s.outputs (live_in s.end r))
+    by (Err x) is = WithCause (λ session drawn. absurd cc) refl
+    by (Ok q) is = of (is_some (at s.end.calls q)) refl
+      where
+        of : (b : Bool) → is_some (at s.end.calls q) ≡ b → AnswersEntry before asked s (pads_for before asked s.outputs (if b then Some q else None))
+        of true live = WithSession q is live refl
+        of false dead = WithCause (λ session drawn. let same : q ≡ session = cc in subst (λ r. is_some (at s.end.calls r) ≡ false) same dead) refl
+
+both_true : (w : World) (number : ℕ) (l : Line) (es fs : List Entry) → AllByRecursion (IsTrue w number l) es → AllByRecursion (IsTrue w number l) fs → AllByRecursion (IsTrue w number l) (es ++ fs)
+both_true w number l [] fs one two = two
+both_true w number l (e ∷ es) fs one two = (one.0, both_true w number l es fs one.1 two)
 
 frame_true : CausesStand → StepsRefuseTruly → (w : World) → EndsAreKept w → (number n : ℕ) (bytes : List ℕ)
-    → OfFrame (λ y. AllByRecursion (IsTrue w (Frame n bytes)) y.entries) w number n bytes
+    → OfFrame (λ y. AllByRecursion (IsTrue w number (Frame n bytes)) y.entries) w number n bytes
 frame_true causes room w kept number n bytes = record {
-  ignored = λ l word is x h. ((λ queue. absurd (never_full l.access l.node.end bytes (is ∙ ap Ignores queue))), tt);
+  ignored = λ l word is x h. ((refl, (λ queue. absurd (never_full l.access l.node.end bytes (is ∙ ap Ignores queue)))), tt);
   answered = λ l because frame is x h. answers_true w number n bytes l because frame is;
   done = λ l ev is does x h.
       stepped_true causes room w kept number (Frame n bytes) x n ev None (Ok l.node) (λ node e. (let same : l.node ≡ node = cc in rw (← same) l.there)) (λ node. refl)
       (refl, ByItsHost l is) h;
   entered = λ l src uniq asked is x h.
-      both_true w (Frame n bytes) x.entries (Frames number n (reply_to w number n l src asked) ∷ [])
+      both_true w number (Frame n bytes) x.entries (Frames number n (reply_to w number n l src asked) ∷ [])
       (entered_true causes room w kept number (Frame n bytes) x n (event.Admitted src) l.node (with_host w number n l src uniq) l.there refl refl
       (refl, ByAPadr l src uniq asked is refl) h)
-      (tt, tt);
+      ((refl, OfEntry l bytes src asked refl (host_enters l.access l.node.end bytes src uniq asked is)
+      (entry_answered l.node.end asked (step l.node.end l.node.clock (block_of n number) (event.Admitted src)))), tt);
 }
 
 -- of each kind
@@ -174,7 +198,7 @@ line_true causes room w kept number (Ring n port) x h =
     stepped_true causes room w kept number (Ring n port) x n (event.Ring port) None (lac_at (at w.nodes n))
     (λ node e. (is_lac_at (at w.nodes n) node e).0) (λ node. refl) (refl, refl) h
 line_true causes room w kept number (Frame n bytes) x h =
-    frame_line (λ y. AllByRecursion (IsTrue w (Frame n bytes)) y.entries) w number n bytes (frame_true causes room w kept number n bytes) x h
+    frame_line (λ y. AllByRecursion (IsTrue w number (Frame n bytes)) y.entries) w number n bytes (frame_true causes room w kept number n bytes) x h
 line_true causes room w kept number (FromSub n session frame) x h =
     stepped_true causes room w kept number (FromSub n session frame) x n (event.Payload session frame) None (with_call session (lac_at (at w.nodes n)))
     (λ node e. (is_lac_at (at w.nodes n) node (has_call session (lac_at (at w.nodes n)) node e)).0) (λ node. refl) (refl, refl) h
@@ -190,25 +214,25 @@ line_true causes room w kept number (DropCall n session) x h =
 line_true causes room w kept number (Deliver k) x h = delivered (slice_get w.packets (k - 1)) refl h
   where
     arrived : (p : Packet) → slice_get w.packets (k - 1) ≡ Some p → (node : Node) → at w.nodes p.to ≡ Some node → (o : Option Refusal)
-        → arrives w number p node o ≡ Ok x → AllByRecursion (IsTrue w (Deliver k)) x.entries
+        → arrives w number p node o ≡ Ok x → AllByRecursion (IsTrue w number (Deliver k)) x.entries
     arrived p sent node there (Some f) e = absurd (cc)
     arrived p sent node there None e =
         stepped_true causes room w kept number (Deliver k) x p.to (event.Datagram (address_of p.from) p.bytes) (sender_of p.from p.origin) (Ok node)
         (λ q same. (let is : node ≡ q = cc in rw (← is) there)) (λ q. refl) (p, sent, refl, refl) e
 
     addressed : (p : Packet) → slice_get w.packets (k - 1) ≡ Some p → (o : Option Node) → at w.nodes p.to ≡ o
-        → delivers_it w number (addressee_of p o) ≡ Ok x → AllByRecursion (IsTrue w (Deliver k)) x.entries
+        → delivers_it w number (addressee_of p o) ≡ Ok x → AllByRecursion (IsTrue w number (Deliver k)) x.entries
     addressed p sent None is e = absurd (cc)
     addressed p sent (Some node) is e = arrived p sent node is (refused_by p node p.origin) e
 
     delivered : (o : Option Packet) → slice_get w.packets (k - 1) ≡ o → delivers w number o ≡ Ok x
-        → AllByRecursion (IsTrue w (Deliver k)) x.entries
+        → AllByRecursion (IsTrue w number (Deliver k)) x.entries
     delivered None sent e = absurd (cc)
     delivered (Some p) sent e = addressed p sent (at w.nodes p.to) refl e
 line_true causes room w kept number (Tick n milliseconds) x h = ticked (at w.nodes n) refl h
   where
     ticked : (o : Option Node) → at w.nodes n ≡ o → stepped w number n event.Tick None (later milliseconds (declared o)) ≡ Ok x
-        → AllByRecursion (IsTrue w (Tick n milliseconds)) x.entries
+        → AllByRecursion (IsTrue w number (Tick n milliseconds)) x.entries
     ticked None is e = absurd (cc)
     ticked (Some old) is e =
         let node = record old { clock = min (old.clock + milliseconds) (2 ^ 64 - 1) } in

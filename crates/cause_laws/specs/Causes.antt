@@ -1,6 +1,6 @@
 -- The causes that the report tells stand, nothing is refused for want of room but where a tunnel holds too many letters, no end has more
 -- tunnels than it may, and no call and no tunnel is left.
-use Rattle.std.specs.Prelude.{◌≡◌, ℕ, ◌+◌, ◌-◌, ◌^◌, ◌<◌, ◌≤◌, min, List, [], ◌∷◌, ◌++◌, length, true, false, slice_get, Some, None, Ok, Option}
+use Rattle.std.specs.Prelude.{◌≡◌, ℕ, ◌+◌, ◌-◌, ◌^◌, ◌<◌, ◌≤◌, min, List, [], ◌∷◌, ◌++◌, length, true, false, slice_get, Some, None, is_some, Ok, Option}
 use Rattle.std.specs.List.{AllByRecursion}
 use Rattle.id_table.specs.Ids.{at}
 use Rattle.wire_base.specs.declared.why.Why.TheVariants as why
@@ -11,16 +11,19 @@ use Rattle.schedule_text.specs.Grammar.{AreLines}
 use Rattle.protocol_model.specs.declared.event.Event.{Event}
 use Rattle.protocol_model.specs.declared.event.Event.TheVariants as event
 use Rattle.protocol_model.specs.declared.packet.Packet.{Packet}
-use Rattle.end_names.specs.Names.{address_of}
+use Rattle.end_names.specs.Names.{address_of, mac_of}
 use Rattle.protocol_model.specs.Secrets.{uncovered_event}
 use Rattle.protocol_model.specs.Calls.{owed_by}
 use Rattle.protocol_model.specs.Turn.{Tunnel, is_closed}
-use Rattle.protocol_model.specs.World.{World, Node, Lined, line}
+use Rattle.id_source.specs.Spaces.{draws}
+use Rattle.pppoe_discovery.specs.Told.{pads_to}
+use Rattle.protocol_model.specs.End.{End, Stepped, step}
+use Rattle.protocol_model.specs.World.{World, Node, Lined, block_of, line}
 use Rattle.pppoe_discovery.specs.declared.outcome.Discovered.{Discovered}
 use Rattle.pppoe_discovery.specs.declared.outcome.Discovered.TheVariants.{Reply}
-use Rattle.protocol_model.specs.Access.{coming, Runs, Enters}
+use Rattle.protocol_model.specs.Access.{coming, Runs, Enters, refusal_in}
 use Rattle.protocol_model.specs.Texts.{Entry, Sends, HandsUp, Ends, Frames, Drops, Causes}
-use Rattle.step_laws.specs.Hosts.{LacAt, discovered_at}
+use Rattle.step_laws.specs.Hosts.{LacAt, IsRepeated, discovered_at}
 use Rattle.protocol_model.specs.Run.{run}
 use Rattle.step_laws.specs.Room.{IsFull}
 use Rattle.step_laws.specs.Causes.{Stands}
@@ -87,17 +90,34 @@ pub record IsFullAt (w : World) (l : Line) (n : ℕ) : Type 0 where
   pub brings : Brings w l n event
   pub full : IsFull node.end (moment_of l node) (uncovered_event node.end.config.secret event)
 
-abbrev pub IsTrue : World → Line → Entry → Type 0
-IsTrue w l (Causes number n c) = CauseStandsIn w l n c
-IsTrue w l (Drops number n x) = x ≡ why.Queue → IsFullAt w l n
-IsTrue w l (Sends number packet from to bytes) = Unit {0}
-IsTrue w l (HandsUp number n session birth side frame) = Unit {0}
-IsTrue w l (Ends number n session padt) = Unit {0}
-IsTrue w l (Frames number n bytes) = Unit {0}
+-- a host that entered gets the PADS of the session that was drawn for it, where its call lives after the step; else one with a cause
+pub data AnswersEntry (before : End) (asked : Discovered) (s : Stepped) (frame : List ℕ) : Type 0 where
+  WithSession : (session : ℕ) → draws before.session_ids ≡ Ok session → is_some (at s.end.calls session) ≡ true
+      → frame ≡ pads_to (mac_of before.config.number) asked session None → AnswersEntry before asked s frame
+  WithCause : ((session : ℕ) → draws before.session_ids ≡ Ok session → is_some (at s.end.calls session) ≡ false)
+      → frame ≡ pads_to (mac_of before.config.number) asked 0 (Some (refusal_in s.outputs)) → AnswersEntry before asked s frame
+
+-- a frame that a line tells answers a host: as discovery does, a PADI by a PADO and a PADR by a refusal; a PADR that repeats that of a live
+-- call by the PADS of that call; and one whose host enters by what its ring came to
+pub data FrameIsTrue (w : World) (line : ℕ) (l : Line) (n : ℕ) (frame : List ℕ) : Type 0 where
+  OfDiscovery : (lac : LacAt w n) (bytes : List ℕ) (because : Option Cause) → l ≡ Frame n bytes
+      → discovered_at lac.access lac.node.end bytes ≡ Reply because frame → FrameIsTrue w line l n frame
+  OfLiveCall : (lac : LacAt w n) (bytes : List ℕ) → l ≡ Frame n bytes → IsRepeated lac.access lac.node.end bytes frame → FrameIsTrue w line l n frame
+  OfEntry : (lac : LacAt w n) (bytes src : List ℕ) (asked : Discovered) → l ≡ Frame n bytes → discovered_at lac.access lac.node.end bytes ≡ asked
+      → AnswersEntry lac.node.end asked (step lac.node.end lac.node.clock (block_of n line) (event.Admitted src)) frame → FrameIsTrue w line l n frame
+
+-- it has the number of its line
+abbrev pub IsTrue : World → ℕ → Line → Entry → Type 0
+IsTrue w line l (Causes number n c) = (number ≡ line) × CauseStandsIn w l n c
+IsTrue w line l (Drops number n x) = (number ≡ line) × (x ≡ why.Queue → IsFullAt w l n)
+IsTrue w line l (Sends number packet from to bytes) = number ≡ line
+IsTrue w line l (HandsUp number n session birth side frame) = number ≡ line
+IsTrue w line l (Ends number n session padt) = number ≡ line
+IsTrue w line l (Frames number n bytes) = (number ≡ line) × FrameIsTrue w line l n bytes
 
 -- so are all entries that a line makes in a world
 abbrev pub TellsTruly : World → ℕ → Line → Type 0
-TellsTruly w number l = (x : Lined) → line w number l ≡ Ok x → AllByRecursion (IsTrue w l) x.entries
+TellsTruly w number l = (x : Lined) → line w number l ≡ Ok x → AllByRecursion (IsTrue w number l) x.entries
 
 -- ---- room
 

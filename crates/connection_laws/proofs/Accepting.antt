@@ -1,5 +1,5 @@
 -- A tunnel is accepted: its first letter, and the first that it takes, are known, and its opener knows it by no id yet.
-use Rattle.std.proofs.Common.{◌≡◌, inl, ⊎_elim, ℕ, ◌+◌, ◌<◌, ◌≤◌, false, [], ◌∷◌, map, drop, refl, sym, ap, ap₂, ◌∙◌, subst, Option, Some, None, arith, ne_eqb}
+use Rattle.std.proofs.Common.{Ok, ◌≡◌, inl, ⊎_elim, ℕ, ◌+◌, ◌<◌, ◌≤◌, false, [], ◌∷◌, map, drop, refl, sym, ap, ap₂, ◌∙◌, subst, Option, Some, None, arith, ne_eqb}
 use Rattle.std.proofs.lemmas.Option.{none-some, slice_get_within}
 use Rattle.std.specs.Prelude.{slice_get}
 use Rattle.id_table.specs.Ids.{at-none}
@@ -9,6 +9,7 @@ use Rattle.control_message.specs.declared.message.Message.TheVariants.{Sccrq, Sc
 use Rattle.tunnel_fsm.specs.declared.table.TunnelState.TheVariants.{WaitCtlConn}
 use Rattle.tunnel_fsm.specs.Rows.{state_number}
 use Rattle.protocol_model.specs.declared.event.Event.{Event}
+use Rattle.protocol_model.specs.declared.event.Event.TheVariants.{Datagram}
 use Rattle.protocol_model.specs.declared.moves.Accepted.{Accepted}
 use Rattle.protocol_model.specs.declared.moves.Place.{Place}
 use Rattle.protocol_model.specs.declared.moves.Move.TheVariants as move
@@ -29,9 +30,9 @@ use Rattle.connection_laws.proofs.Later.{after_move, only_after}
 use Rattle.connection_laws.proofs.Put.{puts_keep}
 use Rattle.connection_laws.proofs.Written.{asks_short, responds_sized, opening_written, same_opening, draw_is, next_is, node_again, node_fits}
 use Rattle.connection_laws.proofs.Beginning.{undrawn}
-use Rattle.protocol_model.specs.Reading.{body_of}
+use Rattle.protocol_model.specs.Reading.{body_of, message_in}
 use Rattle.connection_laws.proofs.Alike.{read_same}
-use Rattle.connection_laws.proofs.Hearing.{opener_of, sccrq_of, IsLetterRead, FromPeer, letter_said, from_peer_said}
+use Rattle.connection_laws.proofs.Hearing.{opener_of, sccrq_of, IsLetterRead, FromPeer, letter_said, said_in, from_peer_said}
 use Rattle.connection_laws.proofs.Taking.{got_push, with_taken, taken_as, takes_and_gives}
 use Rattle.connection_laws.proofs.Connecting.{IsLearnt, learnt}
 
@@ -45,10 +46,14 @@ module _ (codecs : Codecs) (accs : Accounts) (n : ℕ) (e x : End) (sender : Opt
 
   -- ---- the SCCRQ
 
-  f : FromPeer accs n e sender ev h.within.comes m.peer h.does.hears.1.header h.does.hears.1.bytes
+  said : message_in (body_of h.does.hears.1.letter.header h.does.hears.1.came.bytes) ≡ Ok (Sccrq h.does.opening)
+  said = let k = h.does.hears.1 in said_in ev k.letter k.came (Sccrq h.does.opening) k.says.said
+
+  f : FromPeer accs n e sender ev h.within.comes m.peer h.does.hears.1.letter.header h.does.hears.1.came.bytes
   f =
       let k = h.does.hears.1 in
-      from_peer_said codecs accs n e sender ev h.within m.peer k.header k.bytes k.is k.read k.control (Sccrq h.does.opening) tt k.said
+      from_peer_said codecs accs n e sender ev h.within m.peer k.letter.header k.came.bytes (k.came.is ∙ ap (λ p. Datagram p k.came.bytes) k.peer_is)
+      k.came.read k.came.control (Sccrq h.does.opening) tt said
 
   abbrev o : ControlOrigin
   o = f.o
@@ -60,11 +65,11 @@ module _ (codecs : Codecs) (accs : Accounts) (n : ℕ) (e x : End) (sender : Opt
   abbrev p : Account
   p = accs from o.tunnel
 
-  letter : IsLetterRead p o h.does.hears.1.header h.does.hears.1.bytes
-  letter = letter_said codecs p o h.does.hears.1.header h.does.hears.1.bytes (Sccrq h.does.opening) f.read h.does.hears.1.said
+  letter : IsLetterRead p o h.does.hears.1.letter.header h.does.hears.1.came.bytes
+  letter = letter_said codecs p o h.does.hears.1.letter.header h.does.hears.1.came.bytes (Sccrq h.does.opening) f.read said
 
   message : letter.letter.message ≡ Sccrq h.does.opening
-  message = read_same letter.letter.message (body_of h.does.hears.1.header h.does.hears.1.bytes) letter.reads (Sccrq h.does.opening) h.does.hears.1.said tt
+  message = read_same letter.letter.message (body_of h.does.hears.1.letter.header h.does.hears.1.came.bytes) letter.reads (Sccrq h.does.opening) said tt
 
   asks : (p.part ≡ Opener) × (o.ns ≡ 0) × (h.does.opening.tunnel ≡ o.tunnel)
   asks = sccrq_of accs from o.tunnel (h.within.accounts from o.tunnel) f.copy.made o.ns letter.letter h.does.opening letter.there message

@@ -26,7 +26,7 @@ use Rattle.connection_laws.proofs.Puts.{ComesNear, EndPut, IsPut}
 use Rattle.connection_laws.proofs.Later.{live_made, extends_same, same_after, joined_now}
 use Rattle.connection_laws.proofs.Put.{puts_keep}
 use Rattle.connection_laws.proofs.Numbers.{IsCount, is_count, IsWithout, without_count}
-use Rattle.connection_laws.proofs.Hearing.{opener_of, acceptor_of, IsHeard, heard_nr, Heard, HeardRefusal, heard}
+use Rattle.connection_laws.proofs.Hearing.{opener_of, acceptor_of, IsHeard, heard_to, Heard, HeardRefusal, heard}
 use Rattle.connection_laws.proofs.NextHeard.{nr_few, nr_taken}
 
 -- ---- an end that differs in one tunnel
@@ -130,10 +130,10 @@ module _ (codecs : Codecs) (classes : ClassIsTrue) (accs : Accounts) (n : ℕ) (
     live : LiveOk accs n m.tunnel a t
     live = h.within.end.live m.tunnel t h.does.there
 
-    k : TellsTaken accs n e sender ev h.within.comes m.tunnel t h.does.tells.header
+    k : TellsTaken accs n e sender ev h.within.comes m.tunnel t h.does.tells.letter.header
     k =
         let came = h.does.tells in
-        tells_taken codecs classes accs n e sender ev h.within m.tunnel t h.does.there came.header came.bytes (heard_nr ev t.control m.nr came)
+        tells_taken codecs classes accs n e sender ev h.within m.tunnel t h.does.there came.letter.header came.comes.came.bytes (heard_to ev t.control came.letter came.comes)
 
     counted : IsCount w k.o.nr count
     counted =

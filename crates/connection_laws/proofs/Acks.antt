@@ -13,7 +13,7 @@ use Rattle.protocol_model.specs.Run.{Run}
 use Rattle.step_laws.specs.Steps.{AreKept}
 use Rattle.connection_laws.specs.Accounts.{Part, Unmade, Opener, Acceptor, Taken, Account, heeded, account_of, partner_of}
 use Rattle.connection_laws.specs.Facts.{Accounts, AreTaken, IsLost, partner_in, IsOpener, IsAcceptor, IsPart, AccountOk, IsAnswered, AreAcked, EndOk, OriginOk, PacketOk, NodeOk, Holds}
-use Rattle.connection_laws.specs.Channels.{IsCopied, LettersAreCarried, WasTaken, WasIgnored, WasDeclined, AcksAreTrue}
+use Rattle.connection_laws.specs.Channels.{IsOtherEnd, IsLearned, HasLearned, IsCopied, LettersAreCarried, WasTaken, WasIgnored, WasDeclined, AcksAreTrue}
 use Rattle.connection_laws.proofs.Later.{live_made}
 use Rattle.connection_laws.proofs.States.{heeded_open, heeded_closed}
 use Rattle.connection_laws.proofs.Worlds.{all_map}
@@ -35,36 +35,37 @@ partner_is a some = rw (ne_eqb a.remote 0 some) refl
 
 -- a letter was taken, or ignored, or is the SCCRQ of a tunnel that was declined
 abbrev WasHeard : List Deed → ℕ → ℕ → ℕ → Type 0
-WasHeard ds n i number = WasTaken ds (record { node = n; tunnel = i }) number ⊎ (WasIgnored ds n number ⊎ WasDeclined ds n i number)
+WasHeard ds n i number = WasTaken ds n i number ⊎ (WasIgnored ds n i number ⊎ WasDeclined ds n i number)
 
--- once a tunnel is closed it ignores what it takes
-was_ignored : (ds : List Deed) (m j n number : ℕ) → (account_of ds m j).peer ≡ n → number < length (account_of ds m j).taken
-    → heeded (account_of ds m j) ≤ number → WasIgnored ds n number
-was_ignored ds m j n number peer lt le = by (account_of ds m j).closed refl
-  where
-    by : (c : Option ℕ) → (account_of ds m j).closed ≡ c → WasIgnored ds n number
-    by None is = let all = heeded_open (account_of ds m j) is in absurd (omega (arith, lt, le, all))
-    by (Some count) is =
-        let few = heeded_closed (account_of ds m j) count is in
-        record { node = m; tunnel = j; goes = peer; count = count; closed = is; before = omega (arith, le, few) }
+-- what another end of a tunnel took is of the tunnel that it has learned
+module _ (ds : List Deed) (n i j number : ℕ) (is_other : IsOtherEnd ds n i j) where
+  abbrev b : Account
+  b = account_of ds (account_of ds n i).peer j
 
--- what a tunnel took is of the tunnel that it has learned
-taken_of : (ds : List Deed) (m j n i number : ℕ) → AreTaken (account_of ds) (account_of ds m j) → (account_of ds m j).peer ≡ n → (account_of ds m j).remote ≡ i
-    → (i ≡ 0 → ⊥) → number < length (account_of ds m j).taken → WasHeard ds n i number
-taken_of ds m j n i number taken peer remote some lt =
-    let a = account_of ds m j in
-    ⊎_elim
-    (λ (heeds : number < heeded a).
-    ⊎_elim
-    (λ (x : (t : Taken) × (number < length a.taken) × (slice_get a.taken number ≡ Some t) × (get_or a.taken number t ≡ t)).
-    let h = taken number x.0 x.2 heeds in
-    let is : partner_of a ≡ Some (record { node = n; tunnel = i }) =
-    partner_is a (λ z. some (sym remote ∙ z)) ∙ ap₂ (λ p q. Some (record { node = p; tunnel = q })) peer remote in
-    inl (record { node = m; tunnel = j; letter = x.0; there = x.2; from = h.sender ∙ (sym h.learned ∙ is) }))
-    (λ (x : (length a.taken ≤ number) × (slice_get a.taken number ≡ None)). (let le = x.0 in absurd (omega arith)))
-    (slice_get_cases a.taken number).1)
-    (λ (le : heeded a ≤ number). inr (inl (was_ignored ds m j n number peer lt le)))
-    (cases_lt number (heeded a))
+  -- once it is closed it ignores what it takes
+  was_ignored : b.peer ≡ n → number < length b.taken → heeded b ≤ number → WasIgnored ds n i number
+  was_ignored peer lt le = by b.closed refl
+    where
+      by : (c : Option ℕ) → b.closed ≡ c → WasIgnored ds n i number
+      by None is = let all = heeded_open b is in absurd (omega (arith, lt, le, all))
+      by (Some count) is =
+          let few = heeded_closed b count is in
+          record { other = j; is_other = is_other; goes = peer; count = count; closed = is; before = omega (arith, le, few) }
+
+  taken_of : AreTaken (account_of ds) b → b.peer ≡ n → b.remote ≡ i → (i ≡ 0 → ⊥) → number < length b.taken → WasHeard ds n i number
+  taken_of taken peer remote some lt =
+      ⊎_elim
+      (λ (heeds : number < heeded b).
+      ⊎_elim
+      (λ (x : (t : Taken) × (number < length b.taken) × (slice_get b.taken number ≡ Some t) × (get_or b.taken number t ≡ t)).
+      let h = taken number x.0 x.2 heeds in
+      let is : partner_of b ≡ Some (record { node = n; tunnel = i }) =
+      partner_is b (λ z. some (sym remote ∙ z)) ∙ ap₂ (λ p q. Some (record { node = p; tunnel = q })) peer remote in
+      inl (record { other = j; is_other = is_other; goes = peer; letter = x.0; there = x.2; from = h.sender ∙ (sym h.learned ∙ is) }))
+      (λ (x : (length b.taken ≤ number) × (slice_get b.taken number ≡ None)). (let le = x.0 in absurd (omega arith)))
+      (slice_get_cases b.taken number).1)
+      (λ (le : heeded b ≤ number). inr (inl (was_ignored peer lt le)))
+      (cases_lt number (heeded b))
 
 module _ (ds : List Deed) (accounts : (m j : ℕ) → AccountOk (account_of ds) m j (account_of ds m j)) (n i : ℕ) (some : 0 < i) (acked number : ℕ)
     (lt : number < acked) where
@@ -78,18 +79,21 @@ module _ (ds : List Deed) (accounts : (m j : ℕ) → AccountOk (account_of ds) 
   not_zero z = absurd (omega arith)
 
   -- by its partner
-  by_partner : (partner_in accs a).peer ≡ n → (partner_in accs a).remote ≡ i → acked ≤ length (partner_in accs a).taken → WasHeard ds n i number
-  by_partner peer remote le = taken_of ds a.peer a.remote n i number (accounts a.peer a.remote).taken peer remote not_zero (omega arith)
+  by_partner : (a.remote ≡ 0 → ⊥) → (partner_in accs a).peer ≡ n → (partner_in accs a).remote ≡ i → acked ≤ length (partner_in accs a).taken
+      → WasHeard ds n i number
+  by_partner known peer remote le =
+      taken_of ds n i a.remote number (IsLearned known refl) (accounts a.peer a.remote).taken peer remote not_zero (omega arith)
 
   -- by an acceptor that it hasn't learned
   by_answer : IsAnswered accs n i a acked → WasHeard ds n i number
   by_answer x =
       let le = x.enough in
-      taken_of ds a.peer x.acceptor n i number (accounts a.peer x.acceptor).taken x.peer x.remote not_zero (omega arith)
+      taken_of ds n i x.acceptor number (HasLearned x.remote) (accounts a.peer x.acceptor).taken x.peer x.remote not_zero (omega arith)
 
   -- by its opener, which was closed before it took anything
-  by_lost : (partner_in accs a).peer ≡ n → IsLost (partner_in accs a) → WasHeard ds n i number
-  by_lost peer lost = inr (inl (record { node = a.peer; tunnel = a.remote; goes = peer; count = 0; closed = lost.0; before = omega arith }))
+  by_lost : (a.remote ≡ 0 → ⊥) → (partner_in accs a).peer ≡ n → IsLost (partner_in accs a) → WasHeard ds n i number
+  by_lost known peer lost =
+      inr (inl (record { other = a.remote; is_other = IsLearned known refl; goes = peer; count = 0; closed = lost.0; before = omega arith }))
 
   opener_acked : IsOpener accs n i a → AreAcked accs n i a acked Opener → WasHeard ds n i number
   opener_acked k h = ⊎_elim
@@ -101,13 +105,13 @@ module _ (ds : List Deed) (accounts : (m j : ℕ) → AccountOk (account_of ds) 
       (λ (x : (acked ≡ 1) × (a.declined ≡ true)). let one = x.0 in inr (inr (omega arith, x.1)))
       rest)
       (h.0 z))
-      (λ known. by_partner (k.peer known) (k.remote known) (h.1 known))
+      (λ known. by_partner known (k.peer known) (k.remote known) (h.1 known))
       (same_or_not a.remote 0)
 
   acceptor_acked : IsAcceptor accs n i a → AreAcked accs n i a acked Acceptor → WasHeard ds n i number
   acceptor_acked k h = ⊎_elim
-      (λ (named : (partner_in accs a).remote ≡ i). by_partner k.peer named (h.1 named))
-      (λ no. ⊎_elim (λ (none : acked ≡ 0). absurd (omega arith)) (λ (lost : IsLost (partner_in accs a)). by_lost k.peer lost) (h.0 no))
+      (λ (named : (partner_in accs a).remote ≡ i). by_partner k.known k.peer named (h.1 named))
+      (λ no. ⊎_elim (λ (none : acked ≡ 0). absurd (omega arith)) (λ (lost : IsLost (partner_in accs a)). by_lost k.known k.peer lost) (h.0 no))
       (same_or_not (partner_in accs a).remote i)
 
   acked_by : (q : Part) → IsPart accs n i a q → AreAcked accs n i a acked q → WasHeard ds n i number

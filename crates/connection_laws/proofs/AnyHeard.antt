@@ -17,20 +17,17 @@ use Rattle.protocol_model.specs.Reading.{body_of, message_in, pairs_read, messag
 use Rattle.protocol_model.specs.End.{End}
 use Rattle.protocol_model.specs.World.{Sender}
 use Rattle.step_laws.specs.Letters.{Letter}
-use Rattle.step_laws.specs.Moves.{Hears, InTunnel}
+use Rattle.step_laws.specs.Moves.{Hears}
 use Rattle.frame_laws.specs.Codecs.{Codecs}
 use Rattle.connection_laws.specs.Accounts.{Account}
 use Rattle.connection_laws.specs.Facts.{Accounts, IsNoOpening, IsNoStop, AccountOk, Within}
 use Rattle.connection_laws.specs.Steps.{LettersAreHeard, OpeningsAreAcceptable, FaultsAreOfRequests, NoneIsFaultyInTunnel}
-use Rattle.connection_laws.proofs.Hearing.{sender_in, Sends, Chosen, Asks, Leaves, Linked, FromOpener, FromAcceptor, opener_of, no_message, IsHeard, PeerSays, letter_said, peer_says, heard_said}
+use Rattle.connection_laws.proofs.Hearing.{sender_in, Sends, Chosen, Asks, Leaves, Linked, FromOpener, FromAcceptor, opener_of, no_message, PeerSays, letter_said, peer_says, heard_to, said_in, heard_said}
 use Rattle.connection_laws.proofs.NextHeard.{first_is}
 use Rattle.connection_laws.proofs.Said.{Learned, opener_goes, plain_no_stop}
 use Rattle.connection_laws.proofs.Alike.{no_stop_alike, no_opening_alike, read_alike, read_written, read_faulty, read_sound}
 
 -- ---- letters
-
-heard_in : (ev : Event) (c : Control) (session : ℕ) (m : Message) (k : InTunnel ev c session m) → IsHeard ev c k.hears.header k.hears.bytes
-heard_in ev c session m k = record { is = k.hears.is; read = k.hears.read; control = k.hears.control; tunnel = k.tunnel }
 
 -- only its SCCRQ comes of an opener that hasn't learned the tunnel
 learned_unless : (accs : Accounts) (n i : ℕ) (o : ControlOrigin) → ((m j : ℕ) → AccountOk accs m j (accs m j)) → (l : Letter)
@@ -51,11 +48,12 @@ learned_unless accs n i o all l there opens_none no_stop (FromAcceptor here part
 
 pub letters_are_heard : Codecs → LettersAreHeard
 letters_are_heard codecs accs n e sender ev within i t there session m opens_none no_stop k =
-    let h = k.hears.header in
-    let bytes = k.hears.bytes in
-    let from = heard_said codecs accs n e sender ev within i t there h bytes (heard_in ev t.control session m k) m no_stop k.hears.said in
-    let q = letter_said codecs (sender_in accs n i from.o) from.o h bytes m from.read k.hears.said in
-    let same = read_alike q.letter.message (body_of h bytes) q.reads m k.hears.said in
+    let h = k.letter.header in
+    let bytes = k.comes.came.bytes in
+    let said = said_in ev k.letter k.comes.came m k.says.said in
+    let from = heard_said codecs accs n e sender ev within i t there h bytes (heard_to ev t.control k.letter k.comes) m no_stop said in
+    let q = letter_said codecs (sender_in accs n i from.o) from.o h bytes m from.read said in
+    let same = read_alike q.letter.message (body_of h bytes) q.reads m said in
     let learned = learned_unless accs n i from.o within.accounts q.letter q.there (no_opening_alike q.letter.message m same opens_none)
     (no_stop_alike q.letter.message m same no_stop) from.linked in
     record {
@@ -67,7 +65,7 @@ letters_are_heard codecs accs n e sender ev within i t there session m opens_non
       number = from.o.ns;
       letter = q.letter;
       there = q.there;
-      session_is = sym q.session ∙ k.hears.session_is;
+      session_is = sym q.session ∙ k.says.session_is;
       message_is = same;
     }
 
@@ -77,10 +75,13 @@ letters_are_heard codecs accs n e sender ev within i t there session m opens_non
 pub hears_written : Codecs → (accs : Accounts) (n : ℕ) (e : End) (sender : Option Sender) (ev : Event) → Within accs n e sender ev
     → (peer session : ℕ) (m : Message) → Hears ev peer session m → IsWritten m
 hears_written codecs accs n e sender ev within peer session m k =
+    let h = k.letter.header in
+    let bytes = k.came.bytes in
+    let said = said_in ev k.letter k.came m k.says.said in
     ⊎_elim
-    (λ (q : PeerSays k.header k.bytes). read_written q.message (body_of k.header k.bytes) q.reads m k.said)
-    (λ (none : body_of k.header k.bytes ≡ []). absurd (no_message codecs m (let is = k.said in rw none at is)))
-    (peer_says codecs accs n e sender ev within peer k.header k.bytes k.is k.read k.control)
+    (λ (q : PeerSays h bytes). read_written q.message (body_of h bytes) q.reads m said)
+    (λ (none : body_of h bytes ≡ []). absurd (no_message codecs m (let is = said in rw none at is)))
+    (peer_says codecs accs n e sender ev within k.letter.peer h bytes k.came.is k.came.read k.came.control)
 
 pub openings_are_acceptable : Codecs → OpeningsAreAcceptable
 openings_are_acceptable codecs accs n e sender ev within peer session o which =
@@ -99,20 +100,24 @@ no_fault_in_none codecs = rw (codecs.pairs [] tt) refl
 
 pub faults_are_of_requests : Codecs → FaultsAreOfRequests
 faults_are_of_requests codecs accs n e sender ev within c session f k =
+    let h = k.letter.header in
+    let came = k.comes.came in
+    let fault : call_fault_in (body_of h came.bytes) ≡ Some f = ap call_fault_in (sym came.body_is) ∙ k.says.fault in
     ⊎_elim
-    (λ (q : PeerSays k.header k.bytes). let r = read_faulty q.message (body_of k.header k.bytes) q.reads f k.fault in (r.0, r.4))
-    (λ (nothing : body_of k.header k.bytes ≡ []).
+    (λ (q : PeerSays h came.bytes). let r = read_faulty q.message (body_of h came.bytes) q.reads f fault in (r.0, r.4))
+    (λ (nothing : body_of h came.bytes ≡ []).
     let none = no_fault_in_none codecs in
-    let fault : call_fault_in [] ≡ Some f = (let found = k.fault in rw nothing at found) in
+    let found : call_fault_in [] ≡ Some f = (let had = fault in rw nothing at had) in
     absurd cc)
-    (peer_says codecs accs n e sender ev within c.peer k.header k.bytes k.is k.read k.control)
+    (peer_says codecs accs n e sender ev within k.letter.peer h came.bytes came.is came.read came.control)
 
 pub none_is_faulty_in_tunnel : Codecs → NoneIsFaultyInTunnel
-none_is_faulty_in_tunnel codecs accs n e sender ev within c g k =
+none_is_faulty_in_tunnel codecs accs n e sender ev within k g came some has =
+    let h = k.header in
+    let fault : tunnel_fault_in (body_of h came.bytes) ≡ Some g = ap tunnel_fault_in (sym came.body_is) ∙ has in
     ⊎_elim
-    (λ (q : PeerSays k.header k.bytes).
-    let none = read_sound q.message (body_of k.header k.bytes) q.reads in
-    let fault = k.fault in
+    (λ (q : PeerSays h came.bytes).
+    let none = read_sound q.message (body_of h came.bytes) q.reads in
     let no : ⊥ = cc in no)
-    (λ (none : body_of k.header k.bytes ≡ []). k.some (ap (λ (ls : List ℕ). length ls) none))
-    (peer_says codecs accs n e sender ev within c.peer k.header k.bytes k.is k.read k.control)
+    (λ (none : body_of h came.bytes ≡ []). some (ap length (came.body_is ∙ none)))
+    (peer_says codecs accs n e sender ev within k.peer h came.bytes came.is came.read came.control)

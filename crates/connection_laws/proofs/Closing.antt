@@ -53,7 +53,7 @@ module _ (codecs : Codecs) (accs : Accounts) (n : ℕ) (e x : End) (sender : Opt
 
   by_why : WhyCloses e.config.secret was ev c.on m → m.remote ≡ was.control.remote
   by_why (ByOperator is on known result error) = known
-  by_why (ByLetter told why other known) = known
+  by_why (ByLetter told k next spare why other known) = known
 
   pub closes_known : m.remote ≡ (accs n m.tunnel).remote
   closes_known = by_why c.why ∙ lives.remote

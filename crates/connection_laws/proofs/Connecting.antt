@@ -23,7 +23,7 @@ use Rattle.protocol_model.specs.Turn.{Tunnel, counts_taken, learns_window}
 use Rattle.protocol_model.specs.End.{End}
 use Rattle.protocol_model.specs.World.{Sender, Deed}
 use Rattle.step_laws.specs.Letters.{Letter}
-use Rattle.step_laws.specs.Moves.{with_letter}
+use Rattle.step_laws.specs.Moves.{heard_so, with_letter}
 use Rattle.frame_laws.specs.Codecs.{Codecs}
 use Rattle.connection_laws.specs.Accounts.{Opener, Acceptor, Taken, Account}
 use Rattle.connection_laws.specs.Facts.{Accounts, IsMade, TellsOwn, IsTaken, AreTaken, AreIgnored, IsOpen, IsLost, AreJoined, partner_in, IsPart, IsOpener, AccountOk, IsSpelled, kept_letter, IsInState, IsAnswered, AreAcked, LiveOk, IsNear, Within}
@@ -136,8 +136,10 @@ module _ (codecs : Codecs) (classes : ClassIsTrue) (accs : Accounts) (n : ℕ) (
   made : IsMade a
   made = live_made accs n i a t live
 
-  said : Said accs n e sender ev h.within.comes i t h.does.hears.1.hears.header h.does.hears.1.hears.bytes h.does.hears.0 (Sccrp h.does.opening)
-  said = said_so codecs classes accs n e sender ev h.within i t h.does.there h.does.hears.0 (Sccrp h.does.opening) tt h.does.hears.1
+  said : Said accs n e sender ev h.within.comes i t h.does.letter.header h.does.takes.next.comes.came.bytes h.does.letter.header.session
+      (Sccrp h.does.opening)
+  said = said_so codecs classes accs n e sender ev h.within i t h.does.there h.does.letter.header.session (Sccrp h.does.opening) tt
+      (heard_so ev t h.does.letter (Sccrp h.does.opening) h.does.takes.next h.does.said)
 
   message_is : said.next.letter.message ≡ Sccrp h.does.opening
   message_is = same_alike said.next.letter.message (Sccrp h.does.opening) said.message tt
@@ -262,7 +264,7 @@ module _ (codecs : Codecs) (classes : ClassIsTrue) (accs : Accounts) (n : ℕ) (
   -- the SCCRP that was taken
   newly_taken : IsTaken ms b (length a.taken) tk
   newly_taken = record {
-    numbered = ap (λ (q : Place). q.number) h.does.taken ∙ live.taken;
+    numbered = ap (λ (q : Place). q.number) h.does.takes.taken_is ∙ live.taken;
     partner = record { node = a.peer; tunnel = m.remote };
     learned = rw (ne_eqb m.remote 0 known) refl;
     sender = said.heard.sender_is ∙ ap (λ (r : ℕ). Some (record { node = a.peer; tunnel = r })) (sym told);

@@ -28,7 +28,7 @@ use Rattle.protocol_model.specs.Turn.{Tunnel}
 use Rattle.protocol_model.specs.End.{End}
 use Rattle.protocol_model.specs.World.{Sender, sender_of}
 use Rattle.step_laws.specs.Letters.{Letter}
-use Rattle.step_laws.specs.Moves.{IsFor, IsAgain, IsStop, HearsNext, ComesNext, TellsNr}
+use Rattle.step_laws.specs.Moves.{Came, CameIn, IsFor, IsAgain, IsStop, ComesTo}
 use Rattle.step_laws.specs.Opens.{empty_opens_none}
 use Rattle.protocol_model.specs.Secrets.{uncovered_datagram}
 use Rattle.frame_laws.specs.Codecs.{Codecs}
@@ -479,16 +479,23 @@ pub record IsHeard (ev : Event) (c : Control) (h : Header) (bytes : List ℕ) : 
   pub is : ev ≡ Datagram c.peer bytes
   pub read : header_of bytes ≡ Ok h
   pub control : h.control ≡ true
-  pub tunnel : IsFor h bytes c
+  pub tunnel : IsFor h (body_of h bytes) c
 
-pub heard_of : (ev : Event) (c : Control) (session : ℕ) (m : Message) (k : HearsNext ev c session m) → IsHeard ev c k.hears.header k.hears.bytes
-heard_of ev c session m k = record { is = k.hears.is; read = k.hears.read; control = k.hears.control; tunnel = k.tunnel }
+pub heard_to : (ev : Event) (c : Control) (k : Came) (to : ComesTo ev c k) → IsHeard ev c k.header to.came.bytes
+heard_to ev c k to = record {
+  is = to.came.is ∙ ap (λ p. Datagram p to.came.bytes) to.peer;
+  read = to.came.read;
+  control = to.came.control;
+  tunnel = subst (λ (body : List ℕ). IsFor k.header body c) to.came.body_is to.tunnel;
+}
 
-pub heard_next : (ev : Event) (c : Control) (k : ComesNext ev c) → IsHeard ev c k.header k.bytes
-heard_next ev c k = record { is = k.is; read = k.read; control = k.control; tunnel = k.tunnel }
+-- what it says is said in the datagram
+pub said_in : (ev : Event) (k : Came) (came : CameIn ev k) (m : Message) → message_in k.body ≡ Ok m → message_in (body_of k.header came.bytes) ≡ Ok m
+said_in ev k came m said = ap message_in (sym came.body_is) ∙ said
 
-pub heard_nr : (ev : Event) (c : Control) (nr : ℕ) (k : TellsNr ev c nr) → IsHeard ev c k.header k.bytes
-heard_nr ev c nr k = record { is = k.is; read = k.read; control = k.control; tunnel = k.tunnel }
+-- and where it says something there, it does here
+pub some_in : (ev : Event) (k : Came) (came : CameIn ev k) → (length k.body ≡ 0 → ⊥) → length (body_of k.header came.bytes) ≡ 0 → ⊥
+some_in ev k came some none = some (ap length came.body_is ∙ none)
 
 -- it is a control message of a tunnel of the peer's
 pub record Heard (accs : Accounts) (n : ℕ) (e : End) (sender : Option Sender) (ev : Event) (comes : Comes accs n e sender ev) (i : ℕ) (t : Tunnel)
@@ -520,7 +527,7 @@ module _ (codecs : Codecs) where
   -- how the tunnel and the packet's sender are linked
   link_of : (accs : Accounts) (n i : ℕ) (t : Tunnel) (o : ControlOrigin) (h : Header) (bytes : List ℕ) → ((m j : ℕ) → AccountOk accs m j (accs m j))
       → LiveOk accs n i (accs n i) t → IsMade (sender_in accs n i o) → (sender_in accs n i o).peer ≡ n → CopyRead (sender_in accs n i o) o h bytes
-      → IsFor h bytes t.control → Linked accs n i o
+      → IsFor h (body_of h bytes) t.control → Linked accs n i o
   link_of accs n i t o h bytes all live made peer read is_for =
       let here = live_made accs n i (accs n i) t live in
       let some = (all n i).some here in
@@ -533,7 +540,7 @@ module _ (codecs : Codecs) where
       (λ (q : (h.tunnel ≡ 0 → ⊥) × (h.tunnel ≡ b.remote)). link_named accs n i o all some made (sym q.1 ∙ k ∙ local) peer)
       read.tunnel)
       (λ other. ⊎_elim
-      (λ (k : IsAgain h bytes t.control).
+      (λ (k : IsAgain h (body_of h bytes) t.control).
       let how : IsLost b ⊎ (o.nr ≡ 0) = ⊎_elim (λ (lost : IsLost b). inl lost) (λ (q : (o.nr ≡ 0) × (o.empty ≡ false → o.ns ≡ 0)). inr q.0)
       (unnamed b o h.tunnel read.tunnel k.none) in
       ⊎_elim
@@ -542,7 +549,7 @@ module _ (codecs : Codecs) where
       link_again accs n i o all here made q.letter asks.0 q.there asks.1 (sym live.remote ∙ asks.2) how)
       (λ (q : IsNoneRead o h bytes). absurd (empty_opens_none t.control.remote (let s = k.opens in rw q.body at s)))
       read.says)
-      (λ (k : IsStop h bytes t.control).
+      (λ (k : IsStop h (body_of h bytes) t.control).
       ⊎_elim
       (λ (q : IsLetterRead b o h bytes).
       let tells = read_stops q.letter.message (body_of h bytes) q.reads t.control.remote k.stops in
@@ -592,8 +599,8 @@ module _ (codecs : Codecs) where
       let named : r.tunnel ≡ i = ⊎_elim
       (λ (k : h.tunnel ≡ t.control.local). sym tells ∙ k ∙ live.local)
       (λ other. ⊎_elim
-      (λ (k : IsAgain h bytes t.control). let z = k.none in absurd (omega arith))
-      (λ (k : IsStop h bytes t.control). let z = k.none in absurd (omega arith))
+      (λ (k : IsAgain h (body_of h bytes) t.control). let z = k.none in absurd (omega arith))
+      (λ (k : IsStop h (body_of h bytes) t.control). let z = k.none in absurd (omega arith))
       other)
       hears.tunnel in
       let it : accs p.to r.tunnel ≡ accs n i = ap₂ accs f.to named in

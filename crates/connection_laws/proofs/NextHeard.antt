@@ -25,7 +25,7 @@ use Rattle.connection_laws.specs.Accounts.{Opener, Acceptor, Account}
 use Rattle.connection_laws.specs.Facts.{Accounts, IsMade, IsSpelled, IsNoStop, IsStopCcn, IsClosed, IsLost, HasStopped, BeginsWith, IsOpener, IsAcceptor, AreJoined, partner_in, IsAnswered, AreAcked, AccountOk, Comes, Within}
 use Rattle.connection_laws.proofs.Numbers.{next_is_expected}
 use Rattle.connection_laws.proofs.Alike.{read_alike}
-use Rattle.connection_laws.proofs.Hearing.{all_at, opener_of, acceptor_of, sender_in, Sends, Chosen, Asks, Leaves, Linked, FromOpener, FromAcceptor, IsLetterRead, letter_said, Heard, heard_of, heard_said}
+use Rattle.connection_laws.proofs.Hearing.{all_at, opener_of, acceptor_of, sender_in, Sends, Chosen, Asks, Leaves, Linked, FromOpener, FromAcceptor, IsLetterRead, letter_said, Heard, heard_to, said_in, heard_said}
 
 -- ---- two tunnels that have learned each other
 
@@ -378,17 +378,18 @@ pub record Said (accs : Accounts) (n : ℕ) (e : End) (sender : Option Sender) (
   pub session_is : next.letter.session ≡ session
 
 pub said_so : Codecs → ClassIsTrue → (accs : Accounts) (n : ℕ) (e : End) (sender : Option Sender) (ev : Event) (within : Within accs n e sender ev) (i : ℕ)
-    (t : Tunnel) → at e.tunnels i ≡ Some t → (session : ℕ) (m : Message) → IsNoStop m → (k : HearsNext ev t.control session m)
-    → Said accs n e sender ev within.comes i t k.hears.header k.hears.bytes session m
+    (t : Tunnel) → at e.tunnels i ≡ Some t → (session : ℕ) (m : Message) → IsNoStop m → (k : HearsNext ev t session m)
+    → Said accs n e sender ev within.comes i t k.letter.header k.next.comes.came.bytes session m
 said_so codecs classes accs n e sender ev within i t there session m plain k =
-    let h = k.hears.header in
-    let bytes = k.hears.bytes in
-    let from = heard_said codecs accs n e sender ev within i t there h bytes (heard_of ev t.control session m k) m plain k.hears.said in
+    let h = k.letter.header in
+    let bytes = k.next.comes.came.bytes in
+    let said = said_in ev k.letter k.next.comes.came m k.says.said in
+    let from = heard_said codecs accs n e sender ev within i t there h bytes (heard_to ev t.control k.letter k.next.comes) m plain said in
     let next = next_heard classes accs n e sender ev within i t there h bytes from
-    (letter_said codecs (sender_in accs n i from.o) from.o h bytes m from.read k.hears.said) k.next in
+    (letter_said codecs (sender_in accs n i from.o) from.o h bytes m from.read said) k.next.next in
     record {
       heard = from;
       next = next;
-      message = read_alike next.letter.message (body_of h bytes) next.reads m k.hears.said;
-      session_is = sym next.session ∙ k.hears.session_is;
+      message = read_alike next.letter.message (body_of h bytes) next.reads m said;
+      session_is = sym next.session ∙ k.says.session_is;
     }

@@ -32,7 +32,7 @@ use Rattle.protocol_model.specs.End.{End}
 use Rattle.protocol_model.specs.World.{Sender, Deed}
 use Rattle.step_laws.specs.Letters.{Letter}
 use Rattle.step_laws.specs.Links.{begun_link}
-use Rattle.step_laws.specs.Moves.{HearsNext, with_tunnel, with_letter_as}
+use Rattle.step_laws.specs.Moves.{HearsNext, heard_so, with_tunnel, with_letter_as}
 use Rattle.l2tp_header.specs.declared.header.Header.{Header}
 use Rattle.protocol_model.specs.Reading.{body_of}
 use Rattle.frame_laws.specs.Codecs.{Codecs}
@@ -44,7 +44,7 @@ use Rattle.connection_laws.proofs.Later.{after_move, only_after}
 use Rattle.connection_laws.proofs.Written.{draw_is, next_is}
 use Rattle.connection_laws.proofs.Said.{no_stop_is}
 use Rattle.connection_laws.proofs.Alike.{stop_alike, alike_back, same_alike, request_alike, read_written}
-use Rattle.connection_laws.proofs.Hearing.{Heard}
+use Rattle.connection_laws.proofs.Hearing.{said_in, Heard}
 use Rattle.connection_laws.proofs.NextHeard.{HeardNext, said_so}
 use Rattle.connection_laws.proofs.Acknowledging.{put_of}
 use Rattle.connection_laws.proofs.Taking.{with_taken, taken_as, takes_only, takes_and_gives, TakesOn, paired_if, pair_takes}
@@ -155,11 +155,12 @@ module _ (accs : Accounts) (n : ℕ) (e : End) (sender : Option Sender) (ev : Ev
 
 module _ (codecs : Codecs) (classes : ClassIsTrue) (accs : Accounts) (n : ℕ) (e : End) (sender : Option Sender) (ev : Event)
     (within : Within accs n e sender ev) (i : ℕ) (t : Tunnel) (there : at e.tunnels i ≡ Some t) (session : ℕ) (m : Message)
-    (k : HearsNext ev t.control session m) where
+    (k : HearsNext ev t session m) where
   pub said_written : IsNoStop m → IsWritten m
   said_written no_stop =
       let s = said_so codecs classes accs n e sender ev within i t there session m no_stop k in
-      read_written s.next.letter.message (body_of k.hears.header k.hears.bytes) s.next.reads m k.hears.said
+      read_written s.next.letter.message (body_of k.letter.header k.next.comes.came.bytes) s.next.reads m
+      (said_in ev k.letter k.next.comes.came m k.says.said)
 
   -- it is a letter of the partner that was learned
   pub said_takes : (state_number t.control.state ≡ 1 → ⊥) → (state_number t.control.state ≡ 4 → ⊥) → IsNoStop m
@@ -170,7 +171,7 @@ module _ (codecs : Codecs) (classes : ClassIsTrue) (accs : Accounts) (n : ℕ) (
       → Within ms n x sender ev
   said_takes other unclosed no_stop ms x u mv place more taken tells goes only is spelled plain own put_is =
       let s = said_so codecs classes accs n e sender ev within i t there session m no_stop k in
-      letter_takes accs n e sender ev within i t there k.hears.header k.hears.bytes s.heard s.next other unclosed
+      letter_takes accs n e sender ev within i t there k.letter.header k.next.comes.came.bytes s.heard s.next other unclosed
       (λ stops. no_stop_is m no_stop (stop_alike m s.next.letter.message (alike_back s.next.letter.message m s.message) stops))
       ms x u mv place more taken (tells s.next.letter s.session_is s.message) goes only is spelled plain own put_is
 
@@ -217,10 +218,10 @@ module _ (codecs : Codecs) (classes : ClassIsTrue) (accs : Accounts) (n : ℕ) (
       let mv = move.Confirmed m in
       let live = h.within.end.live m.tunnel t o.there in
       let u = took t Established t.calls in
-      said_takes codecs classes accs n e sender ev h.within m.tunnel t o.there o.hears.0 (Scccn o.response) o.hears.1
+      said_takes codecs classes accs n e sender ev h.within m.tunnel t o.there o.letter.header.session (Scccn o.response) (heard_so ev t o.letter (Scccn o.response) o.takes.next o.said)
       (λ s. let is = o.state in let two = ap state_number is in let no : ⊥ = omega arith in no)
       (λ s. let is = o.state in let two = ap state_number is in let no : ⊥ = omega arith in no) tt
-      (after accs d) x u mv m.taken [] o.taken (λ l s says. (o.response, same_alike l.message (Scccn o.response) says tt))
+      (after accs d) x u mv m.taken [] o.takes.taken_is (λ l s says. (o.response, same_alike l.message (Scccn o.response) says tt))
       (took_on accs n m.tunnel t live (h.counts m.tunnel t o.there) Established t.calls (record { remotes = live.calls; order = live.order }) (inl refl))
       (only_after accs d n mv tt h.deed.node_is h.deed.move_is tt)
       (after_move accs d n mv tt h.deed.node_is h.deed.move_is ∙ takes_only d n e.role sender mv m.taken (accs n m.tunnel) h.deed)
@@ -233,12 +234,12 @@ module _ (codecs : Codecs) (classes : ClassIsTrue) (accs : Accounts) (n : ℕ) (
       let mv = move.EndHeard m in
       let live = h.within.end.live m.tunnel t o.there in
       let u = took t t.control.state (without t.calls m.session) in
-      said_takes codecs classes accs n e sender ev h.within m.tunnel t o.there o.hears.0 (Cdn o.remote o.code o.error) o.hears.1
+      said_takes codecs classes accs n e sender ev h.within m.tunnel t o.there o.letter.header.session (Cdn o.remote o.code o.error) (heard_so ev t o.letter (Cdn o.remote o.code o.error) o.takes.next o.said)
       (open_so t o.open_is) (unclosed_so t o.open_is) tt
-      (after accs d) x u mv m.taken [] o.taken
+      (after accs d) x u mv m.taken [] o.takes.taken_is
       (λ l s says. (
-        ⊎_elim (λ (is : o.hears.0 ≡ m.session). inl (s ∙ is)) (λ (none : o.hears.0 ≡ 0). inr (s ∙ none))
-            (header_names t.calls o.hears.0 o.remote m.session o.hears.2),
+        ⊎_elim (λ (is : o.letter.header.session ≡ m.session). inl (s ∙ is)) (λ (none : o.letter.header.session ≡ 0). inr (s ∙ none))
+            (header_names t.calls o.letter.header.session o.remote m.session o.session_is),
         (o.remote, o.code, o.error, same_alike l.message (Cdn o.remote o.code o.error) says tt),
       ))
       (took_on accs n m.tunnel t live (h.counts m.tunnel t o.there) t.control.state (without t.calls m.session)
@@ -255,9 +256,10 @@ module _ (codecs : Codecs) (classes : ClassIsTrue) (accs : Accounts) (n : ℕ) (
       let live = h.within.end.live m.tunnel t o.there in
       let call = with_link (begun_link o.magic) (advanced e.role call_event.IccnAcc moment o.call) in
       let u = took t t.control.state (put t.calls m.session call) in
-      said_takes codecs classes accs n e sender ev h.within m.tunnel t o.there m.session (Iccn o.speed o.framing o.sequenced) o.hears
+      said_takes codecs classes accs n e sender ev h.within m.tunnel t o.there m.session (Iccn o.speed o.framing o.sequenced)
+      (record { letter = o.letter; next = o.takes.next; says = o.says })
       (open_so t o.open_is) (unclosed_so t o.open_is) tt
-      (after accs d) x u mv m.taken [] o.taken (λ l s says. (s, (o.speed, o.framing, o.sequenced, same_alike l.message (Iccn o.speed o.framing o.sequenced) says tt)))
+      (after accs d) x u mv m.taken [] o.takes.taken_is (λ l s says. (s, (o.speed, o.framing, o.sequenced, same_alike l.message (Iccn o.speed o.framing o.sequenced) says tt)))
       (took_on accs n m.tunnel t live (h.counts m.tunnel t o.there) t.control.state (put t.calls m.session call)
       (calls_put t.calls m.session call (record { remotes = live.calls; order = live.order })
       (rw (advanced_remote e.role call_event.IccnAcc moment o.call) (live.calls m.session o.call o.made)))
@@ -272,14 +274,16 @@ module _ (codecs : Codecs) (classes : ClassIsTrue) (accs : Accounts) (n : ℕ) (
       let t = o.tunnel in
       let mv = move.FirstUp m in
       let live = h.within.end.live m.tunnel t o.there in
-      let fits = (said_written codecs classes accs n e sender ev h.within m.tunnel t o.there m.session (Icrp m.remote) o.hears tt).0 in
+      let fits = (said_written codecs classes accs n e sender ev h.within m.tunnel t o.there m.session (Icrp m.remote)
+      (record { letter = o.letter; next = o.takes.next; says = o.says }) tt).0 in
       let call = advanced e.role call_event.IcrpAcc moment (record o.call { remote = m.remote }) in
       let calls = put t.calls m.session call in
       let l : Letter = record { tunnel = m.tunnel; place = m.given; session = m.remote; message = connection; hidden = None } in
       let u = with_letter_as l.session l.message l.hidden (took t t.control.state calls) in
-      said_takes codecs classes accs n e sender ev h.within m.tunnel t o.there m.session (Icrp m.remote) o.hears
+      said_takes codecs classes accs n e sender ev h.within m.tunnel t o.there m.session (Icrp m.remote)
+      (record { letter = o.letter; next = o.takes.next; says = o.says })
       (open_so t o.open_is) (unclosed_so t o.open_is) tt
-      (after accs d) x u mv m.taken (l ∷ []) o.taken (λ l s says. (s, same_alike l.message (Icrp m.remote) says tt))
+      (after accs d) x u mv m.taken (l ∷ []) o.takes.taken_is (λ l s says. (s, same_alike l.message (Icrp m.remote) says tt))
       (took_and_given accs n m.tunnel t live (h.counts m.tunnel t o.there) t.control.state calls
       (calls_put t.calls m.session call (record { remotes = live.calls; order = live.order })
       (rw (advanced_remote e.role call_event.IcrpAcc moment (record o.call { remote = m.remote })) (omega arith)))
@@ -294,7 +298,8 @@ module _ (codecs : Codecs) (classes : ClassIsTrue) (accs : Accounts) (n : ℕ) (
       let t = o.tunnel in
       let mv = move.Replied m in
       let live = h.within.end.live m.tunnel t o.there in
-      let fits = (said_written codecs classes accs n e sender ev h.within m.tunnel t o.there o.hears.0 (Icrq m.remote o.serial o.calling) o.hears.1 tt).0 in
+      let fits = (said_written codecs classes accs n e sender ev h.within m.tunnel t o.there o.letter.header.session (Icrq m.remote o.serial o.calling)
+      (heard_so ev t o.letter (Icrq m.remote o.serial o.calling) o.takes.next o.said) tt).0 in
       let drawn = draw_is e.session_ids m.session o.drawn in
       let id = drawn.0 in
       let le = drawn.1 in
@@ -304,9 +309,10 @@ module _ (codecs : Codecs) (classes : ClassIsTrue) (accs : Accounts) (n : ℕ) (
       let calls = put t.calls m.session call in
       let l : Letter = record { tunnel = m.tunnel; place = m.given; session = m.remote; message = Icrp m.session; hidden = None } in
       let u = with_letter_as l.session l.message l.hidden (took t t.control.state calls) in
-      said_takes codecs classes accs n e sender ev h.within m.tunnel t o.there o.hears.0 (Icrq m.remote o.serial o.calling) o.hears.1
+      said_takes codecs classes accs n e sender ev h.within m.tunnel t o.there o.letter.header.session (Icrq m.remote o.serial o.calling)
+      (heard_so ev t o.letter (Icrq m.remote o.serial o.calling) o.takes.next o.said)
       (open_so t o.open_is) (unclosed_so t o.open_is) tt
-      (after accs d) x u mv m.taken (l ∷ []) o.taken (λ l s says. let r = request_alike l.message m.remote o.serial o.calling says in (o.serial, r.calling, r.is))
+      (after accs d) x u mv m.taken (l ∷ []) o.takes.taken_is (λ l s says. let r = request_alike l.message m.remote o.serial o.calling says in (o.serial, r.calling, r.is))
       (took_and_given accs n m.tunnel t live (h.counts m.tunnel t o.there) t.control.state calls
       (calls_put t.calls m.session call (record { remotes = live.calls; order = live.order }) (rw (asked_remote e.role m.remote moment) (omega arith)))
       (inl o.open_is) l o.room)

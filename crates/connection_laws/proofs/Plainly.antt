@@ -21,7 +21,7 @@ use Rattle.protocol_model.specs.Reading.{body_of, message_in, TunnelFault, tunne
 use Rattle.protocol_model.specs.Turn.{Tunnel, counts_taken}
 use Rattle.protocol_model.specs.End.{End}
 use Rattle.protocol_model.specs.World.{Sender, Deed}
-use Rattle.step_laws.specs.Moves.{ComesNext, SaysStop}
+use Rattle.step_laws.specs.Moves.{Came, IsNext, SaysStop}
 use Rattle.frame_laws.specs.Codecs.{Codecs}
 use Rattle.frame_laws.specs.Plain.{IsReadAs}
 use Rattle.connection_laws.specs.Accounts.{Acceptor, Account}
@@ -30,7 +30,7 @@ use Rattle.connection_laws.specs.Steps.{StopLetter, StopOfNone, StopIsHeard}
 use Rattle.connection_laws.proofs.Keeps.{after, IsMoved}
 use Rattle.connection_laws.proofs.Later.{after_move, only_after}
 use Rattle.connection_laws.proofs.States.{lost_unless, not_closed, closed_so, is_open_so, is_shut_so}
-use Rattle.connection_laws.proofs.Hearing.{sender_in, Sends, Chosen, Asks, Leaves, Linked, FromOpener, FromAcceptor, opener_of, acceptor_of, heard_next, letter_some, Heard, HeardRefusal, heard}
+use Rattle.connection_laws.proofs.Hearing.{sender_in, Sends, Chosen, Asks, Leaves, Linked, FromOpener, FromAcceptor, opener_of, acceptor_of, heard_to, some_in, letter_some, Heard, HeardRefusal, heard}
 use Rattle.connection_laws.proofs.Numbers.{next_is_expected}
 use Rattle.connection_laws.proofs.NextHeard.{HeardNext, next_heard}
 use Rattle.connection_laws.proofs.Said.{opener_goes}
@@ -77,7 +77,7 @@ says_stop body m reads says = ⊎_elim
 
 -- ---- the next letter, whatever it says
 
-pub record Came (accs : Accounts) (n : ℕ) (e : End) (sender : Option Sender) (ev : Event) (comes : Comes accs n e sender ev) (i : ℕ) (t : Tunnel) (h : Header)
+pub record CameCopy (accs : Accounts) (n : ℕ) (e : End) (sender : Option Sender) (ev : Event) (comes : Comes accs n e sender ev) (i : ℕ) (t : Tunnel) (h : Header)
     (bytes : List ℕ) : Type 0 where
   pub heard : Heard accs n e sender ev comes i t h bytes
   pub next : HeardNext accs n i heard.o h bytes
@@ -98,27 +98,32 @@ refusal_number classes accs n e sender ev within i t there h bytes k next =
     next_is_expected classes k.o.ns t.control.channel.inbox (omega arith) (omega arith) (let r = k.read.ns in rw r at next) ∙ taken
 
 pub came : Codecs → ClassIsTrue → (accs : Accounts) (n : ℕ) (e : End) (sender : Option Sender) (ev : Event) (within : Within accs n e sender ev) (i : ℕ)
-    (t : Tunnel) → at e.tunnels i ≡ Some t → (k : ComesNext ev t.control)
-    → Came accs n e sender ev within.comes i t k.header k.bytes ⊎ CameRefusal accs n e sender ev within.comes i t k.header k.bytes
-came codecs classes accs n e sender ev within i t there k = ⊎_elim
-    (λ (hears : Heard accs n e sender ev within.comes i t k.header k.bytes).
+    (t : Tunnel) → at e.tunnels i ≡ Some t → (k : Came) (next : IsNext ev t k)
+    → CameCopy accs n e sender ev within.comes i t k.header next.comes.came.bytes
+    ⊎ CameRefusal accs n e sender ev within.comes i t k.header next.comes.came.bytes
+came codecs classes accs n e sender ev within i t there k next =
+    let bytes = next.comes.came.bytes in
+    ⊎_elim
+    (λ (hears : Heard accs n e sender ev within.comes i t k.header bytes).
     inl (record {
       heard = hears;
-      next = next_heard classes accs n e sender ev within i t there k.header k.bytes hears
-          (letter_some (sender_in accs n i hears.o) hears.o k.header k.bytes hears.read k.some) k.next;
+      next = next_heard classes accs n e sender ev within i t there k.header bytes hears
+          (letter_some (sender_in accs n i hears.o) hears.o k.header bytes hears.read (some_in ev k next.comes.came next.some)) next.next;
     }))
-    (λ (hears : HeardRefusal accs n e sender ev within.comes i t k.header k.bytes).
-    inr (record { heard = hears; number = refusal_number classes accs n e sender ev within i t there k.header k.bytes hears k.next }))
-    (heard codecs accs n e sender ev within i t there k.header k.bytes (heard_next ev t.control k))
+    (λ (hears : HeardRefusal accs n e sender ev within.comes i t k.header bytes).
+    inr (record { heard = hears; number = refusal_number classes accs n e sender ev within i t there k.header bytes hears next.next }))
+    (heard codecs accs n e sender ev within i t there k.header bytes (heard_to ev t.control k next.comes))
 
 -- a tunnel that ignores it takes it
 came_due : Codecs → ClassIsTrue → (accs : Accounts) (n : ℕ) (e : End) (sender : Option Sender) (ev : Event) (within : Within accs n e sender ev) (i : ℕ)
-    (t : Tunnel) → at e.tunnels i ≡ Some t → ComesNext ev t.control → IsDue accs n e sender ev within.comes i t
-came_due codecs classes accs n e sender ev within i t there k = ⊎_elim
-    (λ (c : Came accs n e sender ev within.comes i t k.header k.bytes). copy_due accs n e sender ev within.comes i t k.header k.bytes c.heard c.next)
-    (λ (c : CameRefusal accs n e sender ev within.comes i t k.header k.bytes).
-    refusal_due accs n e sender ev within.comes i t k.header k.bytes c.heard c.number)
-    (came codecs classes accs n e sender ev within i t there k)
+    (t : Tunnel) → at e.tunnels i ≡ Some t → (k : Came) → IsNext ev t k → IsDue accs n e sender ev within.comes i t
+came_due codecs classes accs n e sender ev within i t there k next =
+    let bytes = next.comes.came.bytes in
+    ⊎_elim
+    (λ (c : CameCopy accs n e sender ev within.comes i t k.header bytes). copy_due accs n e sender ev within.comes i t k.header bytes c.heard c.next)
+    (λ (c : CameRefusal accs n e sender ev within.comes i t k.header bytes).
+    refusal_due accs n e sender ev within.comes i t k.header bytes c.heard c.number)
+    (came codecs classes accs n e sender ev within i t there k next)
 
 -- ---- the moves
 
@@ -136,28 +141,42 @@ module _ (codecs : Codecs) (classes : ClassIsTrue) (accs : Accounts) (n : ℕ) (
     abbrev u : Tunnel
     u = took t t.control.state t.calls
 
+    abbrev header : Header
+    header = h.does.letter.header
+
+    abbrev bytes : List ℕ
+    bytes = h.does.next.comes.came.bytes
+
+    said_there : (q : Message) → message_in (body_of header bytes) ≡ Ok q → message_in h.does.letter.body ≡ Ok q
+    said_there q said = ap message_in h.does.next.comes.came.body_is ∙ said
+
     -- it is a letter of a list
-    module _ (k : Came accs n e sender ev h.within.comes i t h.does.comes.header h.does.comes.bytes) where
+    module _ (k : CameCopy accs n e sender ev h.within.comes i t header bytes) where
       -- what is no request is read as it is
-      read_as : (q : Message) → k.next.letter.message ≡ q → IsNoRequest q → message_in (body_of h.does.comes.header h.does.comes.bytes) ≡ Ok q
+      read_as : (q : Message) → k.next.letter.message ≡ q → IsNoRequest q → message_in (body_of header bytes) ≡ Ok q
       read_as q is plain =
-          read_plainly q (body_of h.does.comes.header h.does.comes.bytes)
-          (subst (λ (y : Message). IsReadAs y (body_of h.does.comes.header h.does.comes.bytes)) is k.next.reads) plain
+          read_plainly q (body_of header bytes)
+          (subst (λ (y : Message). IsReadAs y (body_of header bytes)) is k.next.reads) plain
 
       -- an open tunnel takes neither an SCCRP for which it waits so, nor a StopCCN
       no_reply : state_number t.control.state ≡ 1 → (opening : Opening) → k.next.letter.message ≡ Sccrp opening → ⊥
-      no_reply one opening says = h.does.why (Sccrp opening) (read_as (Sccrp opening) says tt) one
+      no_reply one opening says =
+          let closed = h.does.why (Sccrp opening) (said_there (Sccrp opening) (read_as (Sccrp opening) says tt)) in
+          let four = closed_so t.control.state closed in
+          let no : ⊥ = omega arith in
+          no
 
       no_stop : (state_number t.control.state ≡ 4 → ⊥) → IsStopCcn k.next.letter.message → ⊥
       no_stop unclosed stops =
           let s = stop_said k.next.letter.message stops in
-          unclosed (closed_so t.control.state (h.does.why (StopCcn s.tunnel s.code s.error) (read_as (StopCcn s.tunnel s.code s.error) s.is tt)))
+          unclosed (closed_so t.control.state (h.does.why (StopCcn s.tunnel s.code s.error)
+          (said_there (StopCcn s.tunnel s.code s.error) (read_as (StopCcn s.tunnel s.code s.error) s.is tt))))
 
       takes : (state_number t.control.state ≡ 4 → ⊥) → Within (after accs d) n x sender ev
       takes unclosed =
           let mv = move.TookPlain m in
           let pair = paired_if accs n i k.heard.o t k.next.letter live unclosed no_reply (no_stop unclosed) k.next.of in
-          pair_takes accs (after accs d) n e x sender ev i t u (taken_as sender m.taken mv) [] h.does.comes.header h.does.comes.bytes (record {
+          pair_takes accs (after accs d) n e x sender ev i t u (taken_as sender m.taken mv) [] header bytes (record {
             within = h.within;
             there = h.does.there;
             unclosed = unclosed;
@@ -179,10 +198,10 @@ module _ (codecs : Codecs) (classes : ClassIsTrue) (accs : Accounts) (n : ℕ) (
           })
 
     -- or a StopCCN of no tunnel, which an open tunnel doesn't take so
-    no_refusal : (state_number t.control.state ≡ 4 → ⊥) → CameRefusal accs n e sender ev h.within.comes i t h.does.comes.header h.does.comes.bytes → ⊥
+    no_refusal : (state_number t.control.state ≡ 4 → ⊥) → CameRefusal accs n e sender ev h.within.comes i t header bytes → ⊥
     no_refusal unclosed k =
         let r = k.heard.read in
-        unclosed (closed_so t.control.state (h.does.why (StopCcn 0 r.result r.error) r.said))
+        unclosed (closed_so t.control.state (h.does.why (StopCcn 0 r.result r.error) (said_there (StopCcn 0 r.result r.error) r.said)))
 
     leaves : state_number t.control.state ≡ 4 → Within (after accs d) n x sender ev
     leaves four =
@@ -192,7 +211,7 @@ module _ (codecs : Codecs) (classes : ClassIsTrue) (accs : Accounts) (n : ℕ) (
         ignores accs (after accs d) n e x sender ev i t u (taken_as sender m.taken mv) (accs n i).closed (record {
           within = h.within;
           there = h.does.there;
-          due = came_due codecs classes accs n e sender ev h.within i t h.does.there h.does.comes;
+          due = came_due codecs classes accs n e sender ev h.within i t h.does.there h.does.letter h.does.next;
           ignored = tt;
           goes = record {
             local = refl;
@@ -219,9 +238,9 @@ module _ (codecs : Codecs) (classes : ClassIsTrue) (accs : Accounts) (n : ℕ) (
         (λ (four : state_number t.control.state ≡ 4). leaves four)
         (λ (unclosed : state_number t.control.state ≡ 4 → ⊥).
         ⊎_elim
-        (λ (k : Came accs n e sender ev h.within.comes i t h.does.comes.header h.does.comes.bytes). takes k unclosed)
-        (λ (k : CameRefusal accs n e sender ev h.within.comes i t h.does.comes.header h.does.comes.bytes). absurd (no_refusal unclosed k))
-        (came codecs classes accs n e sender ev h.within i t h.does.there h.does.comes))
+        (λ (k : CameCopy accs n e sender ev h.within.comes i t header bytes). takes k unclosed)
+        (λ (k : CameRefusal accs n e sender ev h.within.comes i t header bytes). absurd (no_refusal unclosed k))
+        (came codecs classes accs n e sender ev h.within i t h.does.there h.does.letter h.does.next))
         (same_or_not (state_number t.control.state) 4)
 
   pub closed_by_keeps : (m : ClosedBy) → IsMoved accs n e x sender moment ev (move.ClosedBy m) d → Within (after accs d) n x sender ev
@@ -238,7 +257,7 @@ module _ (codecs : Codecs) (classes : ClassIsTrue) (accs : Accounts) (n : ℕ) (
       ignores accs (after accs d) n e x sender ev i t u (taken_as sender m.taken mv) (Some (length a.taken)) (record {
         within = h.within;
         there = o.there;
-        due = came_due codecs classes accs n e sender ev h.within i t o.there o.comes;
+        due = came_due codecs classes accs n e sender ev h.within i t o.there o.letter o.takes.next;
         ignored = tt;
         goes = record {
           local = refl;
@@ -262,15 +281,15 @@ module _ (codecs : Codecs) (classes : ClassIsTrue) (accs : Accounts) (n : ℕ) (
 
 pub stop_is_heard : Codecs → ClassIsTrue → StopIsHeard
 stop_is_heard codecs classes accs n e x sender moment ev within m c = ⊎_elim
-    (λ (k : Came accs n e sender ev within.comes m.tunnel c.tunnel c.comes.header c.comes.bytes). inl (of_copy k))
-    (λ (k : CameRefusal accs n e sender ev within.comes m.tunnel c.tunnel c.comes.header c.comes.bytes). inr (of_none k))
-    (came codecs classes accs n e sender ev within m.tunnel c.tunnel c.there c.comes)
+    (λ (k : CameCopy accs n e sender ev within.comes m.tunnel c.tunnel c.letter.header c.takes.next.comes.came.bytes). inl (of_copy k))
+    (λ (k : CameRefusal accs n e sender ev within.comes m.tunnel c.tunnel c.letter.header c.takes.next.comes.came.bytes). inr (of_none k))
+    (came codecs classes accs n e sender ev within m.tunnel c.tunnel c.there c.letter c.takes.next)
   where
     a : Account
     a = accs n m.tunnel
 
     -- a letter of a list
-    of_copy : Came accs n e sender ev within.comes m.tunnel c.tunnel c.comes.header c.comes.bytes → StopLetter accs n m.tunnel sender
+    of_copy : CameCopy accs n e sender ev within.comes m.tunnel c.tunnel c.letter.header c.takes.next.comes.came.bytes → StopLetter accs n m.tunnel sender
     of_copy k = by k.heard.linked
       where
         b : Account
@@ -285,7 +304,8 @@ stop_is_heard codecs classes accs n e x sender moment ev within m c = ⊎_elim
           reaches = reaches;
           letter = k.next.letter;
           there = k.next.there;
-          stops = says_stop (body_of c.comes.header c.comes.bytes) k.next.letter.message k.next.reads c.says;
+          stops = says_stop (body_of c.letter.header c.takes.next.comes.came.bytes) k.next.letter.message k.next.reads
+              (subst SaysStop c.takes.next.comes.came.body_is c.says);
         }
 
         of_opener : a.part ≡ Acceptor → a.remote ≡ k.heard.o.tunnel → Sends b m.tunnel k.heard.o → StopLetter accs n m.tunnel sender
@@ -301,7 +321,7 @@ stop_is_heard codecs classes accs n e x sender moment ev within m c = ⊎_elim
         by (FromAcceptor here part remote peer) = tells peer (inl remote)
 
     -- or of no tunnel: an opener that has learned one, or was closed, has taken something
-    of_none : CameRefusal accs n e sender ev within.comes m.tunnel c.tunnel c.comes.header c.comes.bytes → StopOfNone accs n m.tunnel sender
+    of_none : CameRefusal accs n e sender ev within.comes m.tunnel c.tunnel c.letter.header c.takes.next.comes.came.bytes → StopOfNone accs n m.tunnel sender
     of_none k =
         let opener = opener_of accs n m.tunnel a (within.accounts n m.tunnel) k.heard.opener in
         let number = k.number in

@@ -126,17 +126,17 @@ main_reached e peer bytes h i t there read control main = rw read
 pub is_reached : (accs : Accounts) (n : ℕ) (e : End) → EndOk accs n e → (i : ℕ) (t : Tunnel) → at e.tunnels i ≡ Some t → (i ≡ 0 → ⊥)
     → (bytes : List ℕ) (h : Header) → header_of bytes ≡ Ok h → h.control ≡ true
     → ((r : ℕ) → at_zero (body_of h bytes) ≡ Opens r → r ≡ 0 → ⊥) → ((r : ℕ) → at_zero (body_of h bytes) ≡ Stops r → r ≡ 0 → ⊥)
-    → IsFor h bytes t.control → reached_plain e t.control.peer bytes ≡ Some t.control
+    → IsFor h (body_of h bytes) t.control → reached_plain e t.control.peer bytes ≡ Some t.control
 is_reached accs n e ok i t there some bytes h read control opens stops is = ⊎_elim
     (λ (named : h.tunnel ≡ t.control.local).
     main_reached e t.control.peer bytes h i t there read control
     (named_main e h (body_of h bytes) i t (named ∙ (ok.live i t there).local) some there))
     (λ other. ⊎_elim
-    (λ (again : IsAgain h bytes t.control).
+    (λ (again : IsAgain h (body_of h bytes) t.control).
     main_reached e t.control.peer bytes h i t there read control
     (again_main e t.control.peer h (body_of h bytes) i t.control.remote again.none again.opens
     (known_here accs n e ok i t there (opens t.control.remote again.opens))))
-    (λ (stop : IsStop h bytes t.control).
+    (λ (stop : IsStop h (body_of h bytes) t.control).
     main_reached e t.control.peer bytes h i t there read control
     (stop_main e t.control.peer h (body_of h bytes) i t.control.remote stop.none stop.stops
     (known_here accs n e ok i t there (stops t.control.remote stop.stops))))

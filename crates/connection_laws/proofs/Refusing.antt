@@ -1,6 +1,7 @@
 -- A tunnel that takes a letter about a call that there isn't, and refuses it by a CDN, keeps what holds.
 use Rattle.std.proofs.Common.{◌≡◌, inl, inr, ⊎_elim, ℕ, ◌<◌, List, [], ◌∷◌, refl, sym, ap, ◌∙◌, subst, Option, Some, None, Ok, arith}
 use Rattle.std.specs.Prelude.{unwrap_or}
+use Rattle.l2tp_header.specs.declared.header.Header.{Header}
 use Rattle.control_message.specs.declared.message.Message.{Message}
 use Rattle.control_message.specs.declared.message.Message.TheVariants.{StopCcn, Ocrq, Icrq, Icrp, Cdn}
 use Rattle.recv_window.specs.Window.{ClassIsTrue}
@@ -13,7 +14,7 @@ use Rattle.protocol_model.specs.Turn.{Tunnel}
 use Rattle.protocol_model.specs.End.{End}
 use Rattle.protocol_model.specs.World.{Sender, Deed}
 use Rattle.step_laws.specs.Letters.{Letter}
-use Rattle.step_laws.specs.Moves.{HearsNext, with_letter_as, Refuses, WhyRefused, IsNotGranted, IsOutgoing, IsReplyToNone, IsWrong}
+use Rattle.step_laws.specs.Moves.{HearsNext, heard_so, with_letter_as, Refuses, WhyRefused, IsNotGranted, IsOutgoing, IsReplyToNone, IsWrong}
 use Rattle.step_laws.specs.Codes.{refusal_codes_fit}
 use Rattle.frame_laws.specs.Codecs.{Codecs}
 use Rattle.frame_laws.specs.Plain.{AreAlike}
@@ -22,7 +23,7 @@ use Rattle.connection_laws.proofs.Keeps.{after, IsMoved}
 use Rattle.connection_laws.proofs.Later.{after_move, only_after}
 use Rattle.connection_laws.proofs.Puts.{IsOnly}
 use Rattle.connection_laws.proofs.Alike.{same_alike, request_alike, read_faulty}
-use Rattle.connection_laws.proofs.Hearing.{sender_in, Heard, HeardRefusal, heard, heard_next, letter_some}
+use Rattle.connection_laws.proofs.Hearing.{sender_in, Heard, HeardRefusal, heard, heard_to, some_in, letter_some}
 use Rattle.connection_laws.proofs.NextHeard.{next_heard}
 use Rattle.connection_laws.proofs.Acknowledging.{put_of}
 use Rattle.connection_laws.proofs.Taking.{TakesOn, with_taken, taken_as, takes_and_gives}
@@ -37,23 +38,21 @@ module _ (codecs : Codecs) (classes : ClassIsTrue) (accs : Accounts) (n : ℕ) (
   t = o.tunnel
 
   abbrev body : List ℕ
-  body = body_of o.comes.header o.comes.bytes
+  body = o.letter.body
+
+  abbrev header : Header
+  header = o.letter.header
+
+  abbrev bytes : List ℕ
+  bytes = o.takes.next.comes.came.bytes
+
+  -- as the datagram has it
+  body_is : body ≡ body_of header bytes
+  body_is = o.takes.next.comes.came.body_is
 
   -- the letter that came
-  came : (said : Message) → message_in body ≡ Ok said → HearsNext ev t.control o.comes.header.session said
-  came said is = record {
-    hears = record {
-      bytes = o.comes.bytes;
-      is = o.comes.is;
-      header = o.comes.header;
-      read = o.comes.read;
-      control = o.comes.control;
-      session_is = refl;
-      said = is;
-    };
-    tunnel = o.comes.tunnel;
-    next = o.comes.next;
-  }
+  came : (said : Message) → message_in body ≡ Ok said → HearsNext ev t header.session said
+  came said is = heard_so ev t o.letter said o.takes.next is
 
   -- the CDN that is given, and the tunnel with it
   abbrev l : Letter
@@ -77,28 +76,28 @@ module _ (codecs : Codecs) (classes : ClassIsTrue) (accs : Accounts) (n : ℕ) (
 
   spelled : m.remote < 65536 → IsSpelled l
   spelled fits =
-      let codes = refusal_codes_fit e t o.comes.header.session (message_in body) (call_fault_in body) m o.why in
+      let codes = refusal_codes_fit e t header.session (message_in body) (call_fault_in body) m o.why in
       record { written = (omega arith, codes.0, codes.1); hides = tt; session = fits }
 
   -- a message that can be read
   refuses : (said : Message) → IsNoStop said → message_in body ≡ Ok said → m.remote < 65536
-      → ((l : Letter) → l.session ≡ o.comes.header.session → AreAlike l.message said → Tells l (move.Refused m)) → Within (after accs d) n x sender ev
+      → ((l : Letter) → l.session ≡ header.session → AreAlike l.message said → Tells l (move.Refused m)) → Within (after accs d) n x sender ev
   refuses said no_stop reads fits tells =
-      said_takes codecs classes accs n e sender ev h.within m.tunnel t o.there o.comes.header.session said (came said reads)
-      (open_so t o.open_is) (unclosed_so t o.open_is) no_stop (after accs d) x u (move.Refused m) m.taken (l ∷ []) o.taken tells goes only is
+      said_takes codecs classes accs n e sender ev h.within m.tunnel t o.there header.session said (came said reads)
+      (open_so t o.open_is) (unclosed_so t o.open_is) no_stop (after accs d) x u (move.Refused m) m.taken (l ∷ []) o.takes.taken_is tells goes only is
       (spelled fits, tt) (tt, tt) (tt, tt) (put_of e x e.calls m.tunnel u o.after)
 
   -- a request whose number can't be had
-  refuses_faulty : (k : Heard accs n e sender ev h.within.comes m.tunnel t o.comes.header o.comes.bytes) (f : CallFault) → call_fault_in body ≡ Some f
+  refuses_faulty : (k : Heard accs n e sender ev h.within.comes m.tunnel t header bytes) (f : CallFault) → call_fault_in body ≡ Some f
       → m.remote ≡ unwrap_or f.session 0 → Within (after accs d) n x sender ev
   refuses_faulty k f fault same =
-      let q = letter_some (sender_in accs n m.tunnel k.o) k.o o.comes.header o.comes.bytes k.read o.comes.some in
-      let next = next_heard classes accs n e sender ev h.within m.tunnel t o.there o.comes.header o.comes.bytes k q o.comes.next in
-      let r = read_faulty next.letter.message body next.reads f fault in
+      let q = letter_some (sender_in accs n m.tunnel k.o) k.o header bytes k.read (some_in ev o.letter o.takes.next.comes.came o.takes.next.some) in
+      let next = next_heard classes accs n e sender ev h.within m.tunnel t o.there header bytes k q o.takes.next.next in
+      let r = read_faulty next.letter.message (body_of header bytes) next.reads f (ap call_fault_in (sym body_is) ∙ fault) in
       let own : m.remote ≡ r.0 = same ∙ ap (λ (y : CallFault). unwrap_or y.session 0) r.4 in
       let fits = (subst IsWritten r.3 next.spelled.written).0 in
-      letter_takes accs n e sender ev h.within m.tunnel t o.there o.comes.header o.comes.bytes k next
-      (open_so t o.open_is) (unclosed_so t o.open_is) (λ stops. subst IsStopCcn r.3 stops) (after accs d) x u (move.Refused m) m.taken (l ∷ []) o.taken
+      letter_takes accs n e sender ev h.within m.tunnel t o.there header bytes k next
+      (open_so t o.open_is) (unclosed_so t o.open_is) (λ stops. subst IsStopCcn r.3 stops) (after accs d) x u (move.Refused m) m.taken (l ∷ []) o.takes.taken_is
       (inl (r.1, Some r.2, r.3 ∙ ap (λ (y : ℕ). Icrq y r.1 (Some r.2)) (sym own))) goes only is
       (spelled (rw own fits), tt) (tt, tt) (tt, tt) (put_of e x e.calls m.tunnel u o.after)
 
@@ -106,9 +105,9 @@ module _ (codecs : Codecs) (classes : ClassIsTrue) (accs : Accounts) (n : ℕ) (
   told session same small = rw same small
 
   written : (said : Message) → IsNoStop said → message_in body ≡ Ok said → IsWritten said
-  written said plain is = said_written codecs classes accs n e sender ev h.within m.tunnel t o.there o.comes.header.session said (came said is) plain
+  written said plain is = said_written codecs classes accs n e sender ev h.within m.tunnel t o.there header.session said (came said is) plain
 
-  by_why : WhyRefused e t o.comes.header.session (message_in body) (call_fault_in body) m → Within (after accs d) n x sender ev
+  by_why : WhyRefused e t header.session (message_in body) (call_fault_in body) m → Within (after accs d) n x sender ev
   by_why (IsNotGranted remote serial calling said none same denied) =
       refuses (Icrq remote serial calling) tt said (told remote same (written (Icrq remote serial calling) tt said).0)
       (λ l session says.
@@ -119,12 +118,12 @@ module _ (codecs : Codecs) (classes : ClassIsTrue) (accs : Accounts) (n : ℕ) (
       refuses (Icrp remote) tt said (told remote same (written (Icrp remote) tt said).0)
       (λ l session says. inr (same_alike l.message (Icrp remote) says tt ∙ ap (λ q. Icrp q) (sym same)))
   by_why (IsWrong f fault same result error) = ⊎_elim
-      (λ (k : Heard accs n e sender ev h.within.comes m.tunnel t o.comes.header o.comes.bytes). refuses_faulty k f fault same)
-      (λ (k : HeardRefusal accs n e sender ev h.within.comes m.tunnel t o.comes.header o.comes.bytes).
-      let r = read_faulty (StopCcn 0 k.read.result k.read.error) body k.read.reads f fault in
+      (λ (k : Heard accs n e sender ev h.within.comes m.tunnel t header bytes). refuses_faulty k f fault same)
+      (λ (k : HeardRefusal accs n e sender ev h.within.comes m.tunnel t header bytes).
+      let r = read_faulty (StopCcn 0 k.read.result k.read.error) (body_of header bytes) k.read.reads f (ap call_fault_in (sym body_is) ∙ fault) in
       let no : StopCcn 0 k.read.result k.read.error ≡ Icrq r.0 r.1 (Some r.2) = r.3 in
       absurd cc)
-      (heard codecs accs n e sender ev h.within m.tunnel t o.there o.comes.header o.comes.bytes (heard_next ev t.control o.comes))
+      (heard codecs accs n e sender ev h.within m.tunnel t o.there header bytes (heard_to ev t.control o.letter o.takes.next.comes))
 
   pub refused_keeps : Within (after accs d) n x sender ev
   refused_keeps = by_why o.why

@@ -18,7 +18,7 @@ use Rattle.protocol_model.specs.Turn.{Tunnel, counts_taken}
 use Rattle.protocol_model.specs.End.{End}
 use Rattle.protocol_model.specs.World.{Sender, Deed}
 use Rattle.step_laws.specs.Letters.{Letter}
-use Rattle.step_laws.specs.Moves.{InTunnel, LetterCloses, BySccrq, BySccrp, ByScccn, ByFault, with_letter}
+use Rattle.step_laws.specs.Moves.{LetterCloses, BySccrq, BySccrp, ByScccn, ByFault, with_letter}
 use Rattle.frame_laws.specs.Codecs.{Codecs}
 use Rattle.connection_laws.specs.Accounts.{Opener, Acceptor, Taken, Account}
 use Rattle.connection_laws.specs.Facts.{IsClosed, IsIgnored, Accounts, IsMade, TellsOwn, AreTaken, AreIgnored, IsLost, AreJoined, partner_in, IsPart, IsOpener, AccountOk, IsSpelled, kept_letter, IsAnswered, AreAcked, LiveOk, IsNear, Within}
@@ -27,20 +27,19 @@ use Rattle.connection_laws.proofs.Puts.{IsOnly, IsPut}
 use Rattle.connection_laws.proofs.Later.{live_made, after_move, only_after}
 use Rattle.connection_laws.proofs.Put.{puts_keep}
 use Rattle.connection_laws.proofs.States.{heeded_closed, shut_stands, is_waiting, lost_unless}
-use Rattle.connection_laws.proofs.Hearing.{same_address, part_cases, opener_of, acceptor_of, sender_in}
+use Rattle.connection_laws.proofs.Hearing.{same_address, part_cases, opener_of, acceptor_of, sender_in, said_in}
 use Rattle.connection_laws.proofs.NextHeard.{IsAlone, alone_small, alone_one, acceptor_alone}
 use Rattle.connection_laws.proofs.Acknowledging.{put_of}
 use Rattle.connection_laws.proofs.Taking.{all_append, got_push, begins_on, with_taken, taken_as, takes_and_gives}
 use Rattle.id_table.specs.Order.{ascends-empty}
 use Rattle.control_message.specs.declared.message.Message.{Message}
 use Rattle.l2tp_header.specs.declared.header.Header.{Header}
-use Rattle.l2tp_header.specs.Reading.{header_of}
 use Rattle.protocol_model.specs.Reading.{body_of, message_in}
 use Rattle.protocol_model.specs.declared.moves.Rejected.{Rejected}
 use Rattle.step_laws.specs.Codes.{CodesFit, letter_codes_fit}
 use Rattle.connection_laws.proofs.Connecting.{IsFirst, first_if}
 use Rattle.connection_laws.proofs.Closing.{stop_behind}
-use Rattle.connection_laws.proofs.Plainly.{Came, CameRefusal, came}
+use Rattle.connection_laws.proofs.Plainly.{CameCopy, CameRefusal, came}
 use Rattle.connection_laws.proofs.AnyHeard.{none_is_faulty_in_tunnel}
 use Rattle.connection_laws.proofs.Alike.{IsNoRequest, read_same}
 
@@ -83,22 +82,14 @@ module _ (codecs : Codecs) (classes : ClassIsTrue) (accs : Accounts) (n : ℕ) (
   made = live_made accs n i a t live
 
   abbrev bytes : List ℕ
-  bytes = h.does.comes.bytes
+  bytes = h.does.takes.next.comes.came.bytes
 
   abbrev header : Header
-  header = h.does.comes.header
+  header = h.does.letter.header
 
   -- the letter that it takes says what closes it
-  module _ (c : Control) (peer : c.peer ≡ t.control.peer) where
-    same_said : (session : ℕ) (q : Message) → InTunnel ev c session q → message_in (body_of header bytes) ≡ Ok q
-    same_said session q came =
-        let one = h.does.comes.is in
-        let two = came.hears.is in
-        let same : bytes ≡ came.hears.bytes = cc in
-        let read = h.does.comes.read in
-        let again : header_of bytes ≡ Ok came.hears.header = rw same came.hears.read in
-        let heads : header ≡ came.hears.header = cc in
-        ap₂ (λ (g : Header) (y : List ℕ). message_in (body_of g y)) heads same ∙ came.hears.said
+  there : (q : Message) → message_in h.does.letter.body ≡ Ok q → message_in (body_of header bytes) ≡ Ok q
+  there q said = said_in ev h.does.letter h.does.takes.next.comes.came q said
 
   -- it is an SCCRP, an SCCRQ or an SCCCN
   abbrev IsOpeningLetter : Message → Type 0
@@ -109,12 +100,14 @@ module _ (codecs : Codecs) (classes : ClassIsTrue) (accs : Accounts) (n : ℕ) (
   says_so : (q : Message) × IsOpeningLetter q × (message_in (body_of header bytes) ≡ Ok q)
   says_so = by h.does.why
     where
-      by : LetterCloses e.config.secret t.control ev h.does.on m.remote m.result m.error
+      by : LetterCloses e.config.secret t.control h.does.letter h.does.on m.remote m.result m.error
           → (q : Message) × IsOpeningLetter q × (message_in (body_of header bytes) ≡ Ok q)
-      by (BySccrq session opening came on none why) = (Sccrq opening, inr (inl (opening, refl)), same_said t.control refl session (Sccrq opening) came)
-      by (BySccrp session opening came on tells why) = (Sccrp opening, inl (opening, refl, tells), same_said t.control refl session (Sccrp opening) came)
-      by (ByScccn session response came none why) = (Scccn response, inr (inr (response, refl)), same_said t.control refl session (Scccn response) came)
-      by (ByFault g came on tells result error) = absurd (none_is_faulty_in_tunnel codecs accs n e sender ev h.within t.control g came)
+      by (BySccrq opening said on none why) = (Sccrq opening, inr (inl (opening, refl)), there (Sccrq opening) said)
+      by (BySccrp opening said on tells why) = (Sccrp opening, inl (opening, refl, tells), there (Sccrp opening) said)
+      by (ByScccn response said none why) = (Scccn response, inr (inr (response, refl)), there (Scccn response) said)
+      by (ByFault g has on tells result error) =
+          let next = h.does.takes.next in
+          absurd (none_is_faulty_in_tunnel codecs accs n e sender ev h.within h.does.letter g next.comes.came next.some has)
 
   -- so it is no StopCCN of no tunnel
   no_refusal : CameRefusal accs n e sender ev h.within.comes i t header bytes → ⊥
@@ -131,11 +124,11 @@ module _ (codecs : Codecs) (classes : ClassIsTrue) (accs : Accounts) (n : ℕ) (
       rest)
       says_so.1
 
-  said : Came accs n e sender ev h.within.comes i t header bytes
+  said : CameCopy accs n e sender ev h.within.comes i t header bytes
   said = ⊎_elim
-      (λ (k : Came accs n e sender ev h.within.comes i t header bytes). k)
+      (λ (k : CameCopy accs n e sender ev h.within.comes i t header bytes). k)
       (λ (k : CameRefusal accs n e sender ev h.within.comes i t header bytes). absurd (no_refusal k))
-      (came codecs classes accs n e sender ev h.within i t h.does.there h.does.comes)
+      (came codecs classes accs n e sender ev h.within i t h.does.there h.does.letter h.does.takes.next)
 
   abbrev o : ControlOrigin
   o = said.heard.o
@@ -293,7 +286,7 @@ module _ (codecs : Codecs) (classes : ClassIsTrue) (accs : Accounts) (n : ℕ) (
       (got_push a.taken tk number y got)
 
   codes : CodesFit m.result m.error
-  codes = letter_codes_fit e.config.secret t.control ev h.does.on m.remote m.result m.error h.does.why
+  codes = letter_codes_fit e.config.secret t.control h.does.letter h.does.on m.remote m.result m.error h.does.why
 
   account : AccountOk ms n i b
   account = record {

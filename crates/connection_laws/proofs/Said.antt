@@ -12,11 +12,11 @@ use Rattle.protocol_model.specs.End.{End}
 use Rattle.protocol_model.specs.World.{Sender}
 use Rattle.step_laws.specs.Letters.{Letter}
 use Rattle.frame_laws.specs.Codecs.{Codecs}
-use Rattle.frame_laws.specs.Plain.{AreAlike}
+use Rattle.frame_laws.specs.Plain.{IsReadAs, AreAlike}
 use Rattle.connection_laws.specs.Accounts.{Acceptor, Account}
 use Rattle.connection_laws.specs.Facts.{Accounts, IsNoStop, IsStopCcn, AccountOk, Within}
 use Rattle.connection_laws.specs.Steps.{NextLetter, NextIsHeard, PlainIsHeard}
-use Rattle.connection_laws.proofs.Hearing.{sender_in, Sends, Chosen, Asks, Leaves, Linked, FromOpener, FromAcceptor, acceptor_of, Heard, HeardRefusal, heard, heard_next, letter_some}
+use Rattle.connection_laws.proofs.Hearing.{sender_in, Sends, Chosen, Asks, Leaves, Linked, FromOpener, FromAcceptor, acceptor_of, Heard, HeardRefusal, heard, heard_to, some_in, letter_some}
 use Rattle.connection_laws.proofs.Alike.{no_stop_alike}
 use Rattle.connection_laws.proofs.NextHeard.{HeardNext, next_heard, said_so}
 
@@ -86,20 +86,25 @@ next_letter accs n e sender ev within i t h bytes from next session m same says 
 pub next_is_heard : Codecs → ClassIsTrue → NextIsHeard
 next_is_heard codecs classes accs n e sender ev within i t there live session m plain k =
     let s = said_so codecs classes accs n e sender ev within i t there session m plain k in
-    next_letter accs n e sender ev within i t k.hears.header k.hears.bytes s.heard s.next session m s.session_is s.message plain
+    next_letter accs n e sender ev within i t k.letter.header k.next.comes.came.bytes s.heard s.next session m s.session_is s.message plain
 
 pub plain_is_heard : Codecs → ClassIsTrue → PlainIsHeard
-plain_is_heard codecs classes accs n e sender ev within i t there live k =
+plain_is_heard codecs classes accs n e sender ev within i t there live k came_next =
+    let bytes = came_next.comes.came.bytes in
     ⊎_elim
-    (λ (from : Heard accs n e sender ev within.comes i t k.header k.bytes).
-    let read = letter_some (sender_in accs n i from.o) from.o k.header k.bytes from.read k.some in
-    let next = next_heard classes accs n e sender ev within i t there k.header k.bytes from read k.next in
+    (λ (from : Heard accs n e sender ev within.comes i t k.header bytes).
+    let read = letter_some (sender_in accs n i from.o) from.o k.header bytes from.read (some_in ev k came_next.comes.came came_next.some) in
+    let next = next_heard classes accs n e sender ev within i t there k.header bytes from read came_next.next in
     record {
       message = next.letter.message;
-      reads = next.reads;
-      next = λ plain. next_letter accs n e sender ev within i t k.header k.bytes from next k.header.session next.letter.message (sym next.session) refl plain;
+      reads = subst (IsReadAs next.letter.message) (sym came_next.comes.came.body_is) next.reads;
+      next = λ plain. next_letter accs n e sender ev within i t k.header bytes from next k.header.session next.letter.message (sym next.session) refl plain;
     })
     -- one of no tunnel stops this one
-    (λ (from : HeardRefusal accs n e sender ev within.comes i t k.header k.bytes).
-    record { message = StopCcn 0 from.read.result from.read.error; reads = from.read.reads; next = λ plain. absurd plain })
-    (heard codecs accs n e sender ev within i t there k.header k.bytes (heard_next ev t.control k))
+    (λ (from : HeardRefusal accs n e sender ev within.comes i t k.header bytes).
+    record {
+      message = StopCcn 0 from.read.result from.read.error;
+      reads = subst (IsReadAs (StopCcn 0 from.read.result from.read.error)) (sym came_next.comes.came.body_is) from.read.reads;
+      next = λ plain. absurd plain;
+    })
+    (heard codecs accs n e sender ev within i t there k.header bytes (heard_to ev t.control k came_next.comes))

@@ -97,7 +97,7 @@ module _ (codecs : Codecs) (accs : Accounts) (accounts : (m j : ℕ) → Account
 
   -- the tunnel that a copy is for is the one that it reaches
   pub copy_reaches : (o : ControlOrigin) → IsCopy (accs p.from o.tunnel) p o → (i : ℕ) (t : Tunnel) (h : Header) → at e.tunnels i ≡ Some t
-      → t.control.peer ≡ address_of p.from → header_of bytes ≡ Ok h → IsFor h bytes t.control → reached_plain e (address_of p.from) bytes ≡ Some t.control
+      → t.control.peer ≡ address_of p.from → header_of bytes ≡ Ok h → IsFor h (body_of h bytes) t.control → reached_plain e (address_of p.from) bytes ≡ Some t.control
   copy_reaches o c i t h there peer read is =
       let tells = copy_tells codecs accs p.from o.tunnel (accs p.from o.tunnel) p o (accounts p.from o.tunnel) c secret h read in
       subst (λ q. reached_plain e q bytes ≡ Some t.control) peer
@@ -106,7 +106,7 @@ module _ (codecs : Codecs) (accs : Accounts) (accounts : (m j : ℕ) → Account
 
   -- so is the one that a StopCCN of no tunnel is for
   refusal_reaches : (o : ControlOrigin) → IsRefusal accs p o → (i : ℕ) (t : Tunnel) (h : Header) → at e.tunnels i ≡ Some t
-      → t.control.peer ≡ address_of p.from → header_of bytes ≡ Ok h → IsFor h bytes t.control → reached_plain e (address_of p.from) bytes ≡ Some t.control
+      → t.control.peer ≡ address_of p.from → header_of bytes ≡ Ok h → IsFor h (body_of h bytes) t.control → reached_plain e (address_of p.from) bytes ≡ Some t.control
   refusal_reaches o r i t h there peer read is =
       let k = refusal_read codecs accs accounts p o r secret h read in
       subst (λ q. reached_plain e q bytes ≡ Some t.control) peer
@@ -116,7 +116,7 @@ module _ (codecs : Codecs) (accs : Accounts) (accounts : (m j : ℕ) → Account
 
   near_of : (o : ControlOrigin)
       → ((i : ℕ) (t : Tunnel) (h : Header) → at e.tunnels i ≡ Some t → t.control.peer ≡ address_of p.from → header_of bytes ≡ Ok h
-      → IsFor h bytes t.control → reached_plain e (address_of p.from) bytes ≡ Some t.control)
+      → IsFor h (body_of h bytes) t.control → reached_plain e (address_of p.from) bytes ≡ Some t.control)
       → too_old o (reached_plain e (address_of p.from) bytes) ≡ None → AreNear accs n e p bytes (origin.Control o)
   near_of o reaches young i t h there peer read is =
       let y = is_young o t.control (rw (reaches i t h there peer read is) at young) in

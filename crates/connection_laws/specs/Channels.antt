@@ -33,21 +33,29 @@ pub record LettersAreCarried (r : Run) : Type 0 where
 
 -- ---- what is acknowledged
 
--- a tunnel took the letter with this number of the sender's
-pub record WasTaken (ds : List Deed) (sender : Sender) (number : ℕ) : Type 0 where
-  pub node : ℕ
-  pub tunnel : ℕ
-  pub letter : Taken
-  pub there : slice_get (account_of ds node tunnel).taken number ≡ Some letter
-  pub from : letter.sender ≡ Some sender
+-- a tunnel of the node to which this one goes is its other end: this one has learned its id, or it has learned this one's, as an acceptor
+-- of this one's SCCRQ does before its SCCRP is taken
+pub data IsOtherEnd (ds : List Deed) (n i other : ℕ) : Type 0 where
+  IsLearned : ((account_of ds n i).remote ≡ 0 → ⊥) → (account_of ds n i).remote ≡ other → IsOtherEnd ds n i other
+  HasLearned : (account_of ds (account_of ds n i).peer other).remote ≡ i → IsOtherEnd ds n i other
 
--- a tunnel that goes to this node had taken no more than so many letters when it was closed, and has acknowledged since what it ignored
-pub record WasIgnored (ds : List Deed) (n number : ℕ) : Type 0 where
-  pub node : ℕ
-  pub tunnel : ℕ
-  pub goes : (account_of ds node tunnel).peer ≡ n
+-- another end of the tunnel goes to this node, and took the tunnel's letter with this number
+pub record WasTaken (ds : List Deed) (n i number : ℕ) : Type 0 where
+  pub other : ℕ
+  pub is_other : IsOtherEnd ds n i other
+  pub goes : (account_of ds (account_of ds n i).peer other).peer ≡ n
+  pub letter : Taken
+  pub there : slice_get (account_of ds (account_of ds n i).peer other).taken number ≡ Some letter
+  pub from : letter.sender ≡ Some (record { node = n; tunnel = i })
+
+-- another end of the tunnel, which goes to this node, had taken no more than so many letters when it was closed, and has acknowledged
+-- since what it ignored
+pub record WasIgnored (ds : List Deed) (n i number : ℕ) : Type 0 where
+  pub other : ℕ
+  pub is_other : IsOtherEnd ds n i other
+  pub goes : (account_of ds (account_of ds n i).peer other).peer ≡ n
   pub count : ℕ
-  pub closed : (account_of ds node tunnel).closed ≡ Some count
+  pub closed : (account_of ds (account_of ds n i).peer other).closed ≡ Some count
   pub before : count ≤ number
 
 -- it is the SCCRQ of a tunnel, which its peer declined
@@ -58,7 +66,7 @@ WasDeclined ds n i number = (number ≡ 0) × ((account_of ds n i).declined ≡ 
 abbrev pub AcksAreTrue : Run → Type 0
 AcksAreTrue r = (n : ℕ) (node : Node) → at r.world.nodes n ≡ Some node → (i : ℕ) (t : Tunnel) → at node.end.tunnels i ≡ Some t
     → (number : ℕ) → number < t.control.channel.window.acked
-    → WasTaken r.done (record { node = n; tunnel = i }) number ⊎ (WasIgnored r.done n number ⊎ WasDeclined r.done n i number)
+    → WasTaken r.done n i number ⊎ (WasIgnored r.done n i number ⊎ WasDeclined r.done n i number)
 
 -- ---- how numbers on the wire are read
 

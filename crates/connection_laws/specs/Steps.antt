@@ -14,13 +14,13 @@ use Rattle.protocol_model.specs.declared.moves.Declined.{Declined}
 use Rattle.end_names.specs.Names.{node_of}
 use Rattle.protocol_model.specs.declared.tunnel.Control.{Control}
 use Rattle.end_names.specs.declared.role.Role.{Role}
-use Rattle.protocol_model.specs.Reading.{body_of, message_in, CallFault, TunnelFault}
+use Rattle.protocol_model.specs.Reading.{tunnel_fault_in, message_in, CallFault, TunnelFault}
 use Rattle.protocol_model.specs.Turn.{Tunnel, is_closed}
 use Rattle.protocol_model.specs.End.{End, plain_step}
 use Rattle.protocol_model.specs.World.{World, Node, Sender, Deed, Lined, birth_of, moved_all, new_node, deed_of, line}
 use Rattle.protocol_model.specs.Run.{Run, empty_run, after_line}
 use Rattle.step_laws.specs.Letters.{Letter}
-use Rattle.step_laws.specs.Moves.{Does, Hears, HearsNext, ComesNext, InTunnel, IsFaulty, IsFaultyInTunnel, Closes, ClosesBy, Declines}
+use Rattle.step_laws.specs.Moves.{Does, Came, CameIn, Hears, IsNext, HearsNext, InTunnel, IsFaulty, Closes, ClosesBy, Declines}
 use Rattle.frame_laws.specs.Plain.{AreAlike, IsReadAs, number_fault}
 use Rattle.connection_laws.specs.Accounts.{Opener, account_of, after_deed}
 use Rattle.connection_laws.specs.Facts.{Accounts, IsNoOpening, IsNoStop, IsStopCcn, Within, Holds}
@@ -81,18 +81,18 @@ pub record NextLetter (accs : Accounts) (n i : ℕ) (sender : Option Sender) (se
 abbrev pub NextIsHeard : Type 0
 NextIsHeard = (accs : Accounts) (n : ℕ) (e : End) (sender : Option Sender) (ev : Event) → Within accs n e sender ev
     → (i : ℕ) (t : Tunnel) → at e.tunnels i ≡ Some t → is_closed t.control.state ≡ false → (session : ℕ) (m : Message) → IsNoStop m
-    → HearsNext ev t.control session m → NextLetter accs n i sender session m
+    → HearsNext ev t session m → NextLetter accs n i sender session m
 
 -- one that comes next, and as what it is read
-pub record PlainLetter (accs : Accounts) (n i : ℕ) (sender : Option Sender) (ev : Event) (t : Tunnel) (k : ComesNext ev t.control) : Type 0 where
+pub record PlainLetter (accs : Accounts) (n i : ℕ) (sender : Option Sender) (k : Came) : Type 0 where
   pub message : Message
-  pub reads : IsReadAs message (body_of k.header k.bytes)
+  pub reads : IsReadAs message k.body
   pub next : IsNoStop message → NextLetter accs n i sender k.header.session message
 
 abbrev pub PlainIsHeard : Type 0
 PlainIsHeard = (accs : Accounts) (n : ℕ) (e : End) (sender : Option Sender) (ev : Event) → Within accs n e sender ev
-    → (i : ℕ) (t : Tunnel) → at e.tunnels i ≡ Some t → is_closed t.control.state ≡ false → (k : ComesNext ev t.control)
-    → PlainLetter accs n i sender ev t k
+    → (i : ℕ) (t : Tunnel) → at e.tunnels i ≡ Some t → is_closed t.control.state ≡ false → (k : Came) → IsNext ev t k
+    → PlainLetter accs n i sender k
 
 -- a StopCCN: its sender has learned this tunnel, or is lost and was accepted by it
 pub record StopLetter (accs : Accounts) (n i : ℕ) (sender : Option Sender) : Type 0 where
@@ -167,7 +167,7 @@ FaultsAreOfRequests = (accs : Accounts) (n : ℕ) (e : End) (sender : Option Sen
 
 abbrev pub NoneIsFaultyInTunnel : Type 0
 NoneIsFaultyInTunnel = (accs : Accounts) (n : ℕ) (e : End) (sender : Option Sender) (ev : Event) → Within accs n e sender ev
-    → (c : Control) (g : TunnelFault) → IsFaultyInTunnel ev c g → ⊥
+    → (k : Came) (g : TunnelFault) → CameIn ev k → (length k.body ≡ 0 → ⊥) → tunnel_fault_in k.body ≡ Some g → ⊥
 
 -- ---- lines
 

@@ -65,8 +65,8 @@ pub fn letters_are_carried()
     laws_below();
 }
 
-/// Each letter that a live tunnel counts as acknowledged was taken by a tunnel of its peer, or ignored by one that had been
-/// closed by then, or is an SCCRQ that was declined.
+/// Each letter that a live tunnel counts as acknowledged was taken by its other end, the tunnel that it has learned, or one that
+/// accepted its SCCRQ; or ignored by that end, which had been closed by then; or is an SCCRQ that was declined.
 pub fn acks_are_true()
     ensures { AcksOfRuns }
 {

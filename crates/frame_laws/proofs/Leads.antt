@@ -94,10 +94,10 @@ heard_later ns ms g n Tick h = tt
 pub heard_letter : (ns : Nodes) (n : ℕ) (ev : Event) → Heard ns n ev → (peer session : ℕ) (m : Message) → Hears ev peer session m
     → IsWritten m × NamesItsCall ns (node_of peer) n session m
 heard_letter ns n ev heard peer session m h =
-    let k : HeardFrom ns n peer h.bytes = subst (Heard ns n) h.is heard in
-    let l = k.letters h.header h.read h.control m h.said in
-    let from : node_of peer ≡ k.from = ap node_of k.address ∙ node_again k.from k.number in
-    (l.0, rw (from, ← h.session_is) l.1)
+    let k : HeardFrom ns n h.letter.peer h.came.bytes = subst (Heard ns n) h.came.is heard in
+    let l = k.letters h.letter.header h.came.read h.came.control m (ap message_in (sym h.came.body_is) ∙ h.says.said) in
+    let from : node_of peer ≡ k.from = ap node_of (sym h.peer_is ∙ k.address) ∙ node_again k.from k.number in
+    (l.0, rw (from, ← h.says.session_is) l.1)
 
 -- the session that a faulty message tells has 16 bits
 pub heard_faulty : (ns : Nodes) (n : ℕ) (ev : Event) → Heard ns n ev → (peer : ℕ) (bytes : List ℕ) (h : Header) → ev ≡ Datagram peer bytes

@@ -53,7 +53,7 @@ use Rattle.protocol_model.specs.Calls.{advanced, rung, asked_for, is_up}
 use Rattle.protocol_model.specs.Turn.{Tunnel, letter_of, letter_as, counts_given, counts_taken, learns_window, opening_of, request_of, connection, with_link, link_after}
 use Rattle.protocol_model.specs.End.{End, new_place}
 use Rattle.protocol_model.specs.World.{World, Node, with_birth, is_born, birth_of, moved}
-use Rattle.step_laws.specs.Moves.{Rejects, Asks, Responds, with_tunnel, with_letter, new_tunnel, begun, Opens, Accepts, Connects, Confirms, Adds as AddsCall, Requests, Replies, ComesUpFirst, ComesUpSecond, Refuses, TellsEnd, HearsEnd, EndsSilently, Closes, ClosesBy, Clears, Greets, TakesPlain, Reads, LetsGo, Repeats, Negotiates, without_call, without_calls, Does}
+use Rattle.step_laws.specs.Moves.{heard_from, Rejects, Asks, Responds, with_tunnel, with_letter, new_tunnel, begun, Opens, Accepts, Connects, Confirms, Adds as AddsCall, Requests, Replies, ComesUpFirst, ComesUpSecond, Refuses, TellsEnd, HearsEnd, EndsSilently, Closes, ClosesBy, Clears, Greets, TakesPlain, Reads, LetsGo, Repeats, Negotiates, without_call, without_calls, Does}
 use Rattle.step_laws.specs.Links.{begun_link}
 use Rattle.lcp_end.specs.Laws.{after as lcp_after}
 use Rattle.frame_laws.specs.Plain.{HidesOk, number_hides}
@@ -304,7 +304,8 @@ module _ (digits : (who : List ℕ) → length (calling_number who) ≡ 12) (n :
 
   connected_led : (m : Connected) (y : End) → Connects x ev m y → Led v y
   connected_led m y h =
-      let fits = (heard_letter v.nodes n ev heard h.tunnel.control.peer h.hears.0 (Sccrp h.opening) h.hears.1.hears).0.tunnel in
+      let fits = (heard_letter v.nodes n ev heard h.tunnel.control.peer h.letter.header.session (Sccrp h.opening)
+      (heard_from ev h.tunnel h.letter (Sccrp h.opening) h.takes.next h.said)).0.tunnel in
       let ids = learnt m.window (record h.tunnel.control { remote = m.remote; state = Established }) in
       control_led y m.tunnel h.tunnel _ _ h.there h.after ids.local ids.peer (rw (ids.remote, h.remote) fits)
       (more_letters m.tunnel h.tunnel h.there 0 (Scccn m.response) (omega arith)
@@ -402,7 +403,8 @@ module _ (digits : (who : List ℕ) → length (calling_number who) ≡ 12) (n :
   first_led : (moment : ℕ) (m : FirstUp) (y : End) → ComesUpFirst x moment ev m y → Led v y
   unfolding advanced
   first_led moment m y h =
-      let s = heard_letter v.nodes n ev heard h.tunnel.control.peer m.session (Icrp m.remote) h.hears.hears in
+      let s = heard_letter v.nodes n ev heard h.tunnel.control.peer m.session (Icrp m.remote)
+      (record { letter = h.letter; came = h.takes.next.comes.came; peer_is = h.takes.next.comes.peer; says = h.says }) in
       let o = (here.end.tunnels m.tunnel h.tunnel h.there).calls m.session h.call h.asked in
       let mates = swapped v.nodes (node_of h.tunnel.control.peer) m.remote n m.session s.1 in
       let call = advanced x.role call_event.IcrpAcc moment (record h.call { remote = m.remote }) in
@@ -518,9 +520,9 @@ module _ (digits : (who : List ℕ) → length (calling_number who) ≡ 12) (n :
   rejected_led : (moment : ℕ) (m : Rejected) (y : End) → Rejects x moment ev m y → Led v y
   rejected_led moment m y h =
       let o = here.end.tunnels m.tunnel h.tunnel h.there in
-      let k = letter_codes_fit x.config.secret h.tunnel.control ev h.on m.remote m.result m.error h.why in
+      let k = letter_codes_fit x.config.secret h.tunnel.control h.letter h.on m.remote m.result m.error h.why in
       let id : m.tunnel < 65536 = (let d = o.drawn in let most = here.end.most_tunnels in omega arith) in
-      let told = told_fits v.nodes n ev heard x.config.secret h.tunnel.control h.on m.remote m.result m.error h.why in
+      let told = told_fits v.nodes n ev heard x.config.secret h.tunnel h.letter h.takes.next h.on m.remote m.result m.error h.why in
       shut_led y m.tunnel h.tunnel _ _ h.there h.after refl refl told
       (more_letters m.tunnel h.tunnel h.there 0 (StopCcn m.tunnel m.result m.error) (omega arith) (id, k.0, k.1) tt)
 
@@ -706,7 +708,8 @@ module _ (digits : (who : List ℕ) → length (calling_number who) ≡ 12) (n :
       let first = here.end.first_session in
       let le = d.1 in
       let t = h.tunnel in
-      let s = heard_letter v.nodes n ev heard t.control.peer h.hears.0 (Icrq m.remote h.serial h.calling) h.hears.1.hears in
+      let s = heard_letter v.nodes n ev heard t.control.peer h.letter.header.session (Icrq m.remote h.serial h.calling)
+      (heard_from ev t h.letter (Icrq m.remote h.serial h.calling) h.takes.next h.said) in
       let b = s.1.0.0 in
       let told : birth_of v (node_of m.peer) m.remote ≡ b = rw h.peer (birth_is v (node_of t.control.peer) m.remote b s.1.0.2) in
       let lns = reply_row x.role h.row in

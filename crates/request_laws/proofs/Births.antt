@@ -243,7 +243,8 @@ module _ (v : World) (number n : ℕ) (r : Role) (sender : Option Sender) (momen
         drawn,
         λ some. record {
           drawn = drawn;
-          sender = λ from is. comes m.peer h.hears.1.hears.bytes (rw h.peer h.hears.1.hears.is) from is;
+          sender = λ from is. comes m.peer h.takes.next.comes.came.bytes
+              (h.takes.next.comes.came.is ∙ ap (λ p. Datagram p h.takes.next.comes.came.bytes) (h.takes.next.comes.peer ∙ sym h.peer)) from is;
           birth = births (node_of m.peer) m.remote b (birth_found u (node_of m.peer) m.remote some);
         },
       ))

@@ -14,6 +14,7 @@ use Rattle.epoch_machine.specs.Tunnels.{WaitConnect, Open, established}
 use Rattle.epoch_machine.specs.Channels.{counts}
 use Rattle.epoch_machine.specs.Worlds.{World, all_rules, took_one, is_connected, takes}
 use Rattle.epoch_machine.specs.Moves.{Delivers}
+use Rattle.step_laws.specs.Moves.{heard_so}
 use Rattle.connection_laws.specs.Accounts.{Taken, Account}
 use Rattle.connection_laws.specs.Facts.{Accounts}
 use Rattle.connection_laws.specs.Steps.{after}
@@ -106,9 +107,10 @@ module _ (laws : Laws) (accs : Accounts) (ends : Ends) (w : World) (n : ℕ) (e 
   abbrev u : Tunnel
   u = record t { control = counts_taken (in_state Established t.control) }
 
-  del : Delivered accs w n i sender h.moved.does.hears.0 (Scccn h.moved.does.response)
+  del : Delivered accs w n i sender h.moved.does.letter.header.session (Scccn h.moved.does.response)
   del = delivered laws.heard accs ends w n e x sender moment ev (move.Confirmed m) d h i t h.moved.does.there
-      (not_closed t.control.state 2 (ap state_number h.moved.does.state) (omega arith)) h.moved.does.hears.0 (Scccn h.moved.does.response) tt h.moved.does.hears.1
+      (not_closed t.control.state 2 (ap state_number h.moved.does.state) (omega arith)) h.moved.does.letter.header.session (Scccn h.moved.does.response) tt
+      (heard_so ev t h.moved.does.letter (Scccn h.moved.does.response) h.moved.does.takes.next h.moved.does.said)
 
   old : TunnelJoined w n i a (Some t)
   old = here_joined accs ends w n e x sender moment ev (move.Confirmed m) d h i t h.moved.does.there

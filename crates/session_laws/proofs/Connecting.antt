@@ -13,7 +13,7 @@ use Rattle.protocol_model.specs.Turn.{Tunnel, counts_taken, learns_window}
 use Rattle.protocol_model.specs.End.{End}
 use Rattle.protocol_model.specs.World.{Sender, Deed}
 use Rattle.step_laws.specs.Letters as step_laws
-use Rattle.step_laws.specs.Moves.{with_letter}
+use Rattle.step_laws.specs.Moves.{heard_so, with_letter}
 use Rattle.epoch_machine.specs.Letters as letter
 use Rattle.epoch_machine.specs.Tunnels.{WaitReply, Open, established_with}
 use Rattle.epoch_machine.specs.Worlds.{World, all_rules, gives, took_one, connects, takes}
@@ -137,10 +137,11 @@ module _ (laws : Laws) (accs : Accounts) (ends : Ends) (w : World) (n : ℕ) (e 
   abbrev u : Tunnel
   u = with_letter 0 (Scccn m.response) (record t { control = counts_taken (learns_window m.window (record t.control { remote = m.remote; state = Established })) })
 
-  del : Delivered accs w n i sender h.moved.does.hears.0 (Sccrp h.moved.does.opening)
+  del : Delivered accs w n i sender h.moved.does.letter.header.session (Sccrp h.moved.does.opening)
   del = delivered laws.heard accs ends w n e x sender moment ev (move.Connected m) d h i t h.moved.does.there
-      (not_closed t.control.state 1 (ap state_number h.moved.does.state) (omega arith)) h.moved.does.hears.0
-      (Sccrp h.moved.does.opening) tt h.moved.does.hears.1
+      (not_closed t.control.state 1 (ap state_number h.moved.does.state) (omega arith)) h.moved.does.letter.header.session
+      (Sccrp h.moved.does.opening) tt
+      (heard_so ev t h.moved.does.letter (Sccrp h.moved.does.opening) h.moved.does.takes.next h.moved.does.said)
 
   old : TunnelJoined w n i a (Some t)
   old = here_joined accs ends w n e x sender moment ev (move.Connected m) d h i t h.moved.does.there

@@ -15,6 +15,7 @@ use Rattle.epoch_machine.specs.Tunnels.{Open}
 use Rattle.epoch_machine.specs.Calls.{Calls, CallState, NoCall, ends, is_named}
 use Rattle.epoch_machine.specs.Worlds.{World, all_rules, took_one, takes, takes_open, takes_cdn}
 use Rattle.epoch_machine.specs.Moves.{Delivers}
+use Rattle.step_laws.specs.Moves.{heard_so}
 use Rattle.connection_laws.specs.Facts.{Accounts}
 use Rattle.connection_laws.specs.Steps.{after}
 use Rattle.session_laws.specs.Names.{name, name_of}
@@ -88,7 +89,7 @@ module _ (laws : Laws) (accs : Accounts) (ends : Ends) (w : World) (n : ℕ) (e 
 
   -- the session of the header
   abbrev session : ℕ
-  session = h.moved.does.hears.0
+  session = h.moved.does.letter.header.session
 
   abbrev remote : ℕ
   remote = h.moved.does.remote
@@ -99,10 +100,11 @@ module _ (laws : Laws) (accs : Accounts) (ends : Ends) (w : World) (n : ℕ) (e 
   del : Delivered accs w n i sender session (message.Cdn remote h.moved.does.code h.moved.does.error)
   del = delivered laws.heard accs ends w n e x sender moment ev (move.EndHeard m) d h i t h.moved.does.there
       (not_closed t.control.state 3 h.moved.does.open_is (omega arith)) session
-      (message.Cdn remote h.moved.does.code h.moved.does.error) tt h.moved.does.hears.1
+      (message.Cdn remote h.moved.does.code h.moved.does.error) tt
+      (heard_so ev t h.moved.does.letter (message.Cdn remote h.moved.does.code h.moved.does.error) h.moved.does.takes.next h.moved.does.said)
 
   named_is : s ≡ session_named t.calls session remote
-  named_is = h.moved.does.hears.2
+  named_is = h.moved.does.session_is
 
   old : TunnelJoined w n i (accs n i) (Some t)
   old = here_joined accs ends w n e x sender moment ev (move.EndHeard m) d h i t h.moved.does.there

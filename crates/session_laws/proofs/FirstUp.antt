@@ -98,7 +98,8 @@ module _ (laws : Laws) (accs : Accounts) (ends : Ends) (w : World) (n : ℕ) (e 
 
   del : Delivered accs w n i sender s (Icrp m.remote)
   del = delivered laws.heard accs ends w n e x sender moment ev (move.FirstUp m) d h i t h.moved.does.there
-      (not_closed t.control.state 3 h.moved.does.open_is (omega arith)) s (Icrp m.remote) tt h.moved.does.hears
+      (not_closed t.control.state 3 h.moved.does.open_is (omega arith)) s (Icrp m.remote) tt
+      (record { letter = h.moved.does.letter; next = h.moved.does.takes.next; says = h.moved.does.says })
 
   old : TunnelJoined w n i (accs n i) (Some t)
   old = here_joined accs ends w n e x sender moment ev (move.FirstUp m) d h i t h.moved.does.there

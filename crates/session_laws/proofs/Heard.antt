@@ -250,7 +250,7 @@ module _ (accs : Accounts) (ends : Ends) (w : World) (n : ℕ) (e x : End) (send
 -- a letter that a tunnel hears is delivered
 pub delivered : NextIsHeard → (accs : Accounts) (ends : Ends) (w : World) (n : ℕ) (e x : End) (sender : Option Sender) (moment : ℕ) (ev : Event) (mv : Move)
     (d : Deed) → IsMade accs ends w n e x sender moment ev mv d → (i : ℕ) (t : Tunnel) → at e.tunnels i ≡ Some t → is_closed t.control.state ≡ false
-    → (session : ℕ) (m : Message) → IsNoStop m → HearsNext ev t.control session m → Delivered accs w n i sender session m
+    → (session : ℕ) (m : Message) → IsNoStop m → HearsNext ev t session m → Delivered accs w n i sender session m
 delivered heard accs ends w n e x sender moment ev mv d h i t there works session m no_stop k =
     next_delivered accs ends w n e x sender moment ev mv d h i t there works session m no_stop
     (heard accs n e sender ev h.moved.within i t there works session m no_stop k)

@@ -24,7 +24,6 @@ use Rattle.epoch_machine.specs.Tunnels.{is_open, is_wait_reply, is_wait_connect}
 use Rattle.epoch_machine.specs.Calls.{Calls, CallState, NoCall, Waits, waits_reply, waits_connect, ends, is_named}
 use Rattle.epoch_machine.specs.Worlds.{World, all_rules, took_one, takes, takes_open, answers_request, takes_reply, takes_connect, takes_cdn}
 use Rattle.epoch_machine.specs.Moves.{Delivers}
-use Rattle.protocol_model.specs.Reading.{body_of}
 use Rattle.connection_laws.proofs.Alike.{IsNoRequest, read_plainly}
 use Rattle.session_laws.proofs.Alike.{IsSized}
 use Rattle.connection_laws.specs.Accounts.{Taken, Account}
@@ -187,6 +186,10 @@ record Comes (w : World) (accs : Accounts) (n : ℕ) (e : End) (i : ℕ) (t : Tu
   header : session < 65536
   remotes : (q : ℕ) (c : Call) → at t.calls q ≡ Some c → c.remote < 65536
 
+-- a closed tunnel is in no other state
+shut_not : (s : TunnelState) (n : ℕ) → is_closed s ≡ true → state_number s ≡ n → (n ≡ 4 → ⊥) → ⊥
+shut_not s n closed is other = other (sym is ∙ eqb-true (state_number s) 4 closed)
+
 module _ (w : World) (accs : Accounts) (n : ℕ) (e : End) (i : ℕ) (t : Tunnel) (from s k session : ℕ) (h : Comes w accs n e i t from s k session) where
   abbrev X : ℕ
   X = name n i
@@ -288,9 +291,9 @@ module _ (w : World) (accs : Accounts) (n : ℕ) (e : End) (i : ℕ) (t : Tunnel
       → PlainTakes w X s (spoken from n session m)
   plain_by role b (message.Sccrq o) no_stop says why written stands = ignored w X s Sccrq (plain_sccrq (took_one w X) X s)
   plain_by role b (message.Sccrp o) no_stop says why written stands =
-      ignored w X s Sccrp (plain_sccrp w X s (rw h.phase (no_wait_reply t.control.state (why tt))))
+      ignored w X s Sccrp (plain_sccrp w X s (rw h.phase (no_wait_reply t.control.state (λ one. shut_not t.control.state 1 (why tt) one (λ z. absurd (omega (arith, z)))))))
   plain_by role b (message.Scccn response) no_stop says why written stands =
-      ignored w X s Scccn (plain_scccn w X s (rw h.phase (no_wait_connect t.control.state (why tt))))
+      ignored w X s Scccn (plain_scccn w X s (rw h.phase (no_wait_connect t.control.state (λ two. shut_not t.control.state 2 (why tt) two (λ z. absurd (omega (arith, z)))))))
   plain_by role b (message.StopCcn tunnel result error) no_stop says why written stands = absurd no_stop
   plain_by role b message.Hello no_stop says why written stands = ignored w X s Hello (plain_hello (took_one w X) X s)
   plain_by role b (message.Ocrq remote) no_stop says why written stands = absurd says
@@ -347,7 +350,7 @@ module _ (laws : Laws) (accs : Accounts) (ends : Ends) (w : World) (n : ℕ) (e 
   u = record t { control = counts_taken t.control }
 
   abbrev header : ℕ
-  header = h.moved.does.comes.header.session
+  header = h.moved.does.letter.header.session
 
   old : TunnelJoined w n m.tunnel (accs n m.tunnel) (Some t)
   old = here_joined accs ends w n e x sender moment ev (move.TookPlain m) d h m.tunnel t h.moved.does.there
@@ -361,13 +364,13 @@ module _ (laws : Laws) (accs : Accounts) (ends : Ends) (w : World) (n : ℕ) (e 
   -- ---- in a tunnel that isn't closed
 
   module _ (works : is_closed t.control.state ≡ false) where
-    letter : PlainLetter accs n m.tunnel sender ev t h.moved.does.comes
-    letter = laws.plain accs n e sender ev h.moved.within m.tunnel t h.moved.does.there works h.moved.does.comes
+    letter : PlainLetter accs n m.tunnel sender h.moved.does.letter
+    letter = laws.plain accs n e sender ev h.moved.within m.tunnel t h.moved.does.there works h.moved.does.letter h.moved.does.next
 
     -- what is no request is read as it is, and nothing is done on it
     why : IsNoRequest letter.message → IsPlain e t header letter.message
     why plain = h.moved.does.why letter.message
-        (read_plainly letter.message (body_of h.moved.does.comes.header h.moved.does.comes.bytes) letter.reads plain)
+        (read_plainly letter.message h.moved.does.letter.body letter.reads plain)
 
     no_stop : IsNoStop letter.message
     no_stop = plain_no_stop e t header letter.message works why

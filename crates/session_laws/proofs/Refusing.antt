@@ -8,7 +8,7 @@ use Rattle.protocol_model.specs.declared.event.Event.{Event}
 use Rattle.protocol_model.specs.declared.moves.Refused.{Refused}
 use Rattle.protocol_model.specs.declared.moves.Move.TheVariants as move
 use Rattle.end_names.specs.declared.role.Role.TheVariants.{Lns}
-use Rattle.protocol_model.specs.Reading.{body_of, message_in, CallFault, call_fault_in}
+use Rattle.protocol_model.specs.Reading.{message_in, CallFault, call_fault_in}
 use Rattle.protocol_model.specs.Turn.{Tunnel, counts_taken, is_closed}
 use Rattle.protocol_model.specs.End.{End}
 use Rattle.protocol_model.specs.World.{Sender, Deed, config_of}
@@ -70,16 +70,16 @@ module _ (laws : Laws) (accs : Accounts) (ends : Ends) (w : World) (n : ℕ) (e 
   u = with_letter m.remote (Cdn 0 m.result m.error) (record t { control = counts_taken t.control })
 
   abbrev header : ℕ
-  header = h.moved.does.comes.header.session
+  header = h.moved.does.letter.header.session
 
   abbrev body : List ℕ
-  body = body_of h.moved.does.comes.header h.moved.does.comes.bytes
+  body = h.moved.does.letter.body
 
   not_shut : is_closed t.control.state ≡ false
   not_shut = not_closed t.control.state 3 h.moved.does.open_is (omega arith)
 
-  heard : PlainLetter accs n i sender ev t h.moved.does.comes
-  heard = laws.plain accs n e sender ev h.moved.within i t h.moved.does.there not_shut h.moved.does.comes
+  heard : PlainLetter accs n i sender h.moved.does.letter
+  heard = laws.plain accs n e sender ev h.moved.within i t h.moved.does.there not_shut h.moved.does.letter h.moved.does.takes.next
 
   said : (q : Message) → message_in body ≡ Ok q → AreAlike heard.message q
   said q is = read_alike heard.message body heard.reads q is

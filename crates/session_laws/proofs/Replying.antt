@@ -17,7 +17,7 @@ use Rattle.protocol_model.specs.Turn.{Tunnel, counts_taken}
 use Rattle.protocol_model.specs.End.{End}
 use Rattle.protocol_model.specs.World.{Sender, Deed, config_of}
 use Rattle.step_laws.specs.Letters.{letters_of}
-use Rattle.step_laws.specs.Moves.{with_letter}
+use Rattle.step_laws.specs.Moves.{heard_so, with_letter}
 use Rattle.epoch_machine.specs.Letters.{Request, Reply}
 use Rattle.epoch_machine.specs.Tunnels.{Open}
 use Rattle.epoch_machine.specs.Calls.{Calls, WaitsConnect, replies}
@@ -108,10 +108,11 @@ module _ (laws : Laws) (accs : Accounts) (ends : Ends) (w : World) (n : ℕ) (e 
   abbrev u : Tunnel
   u = with_letter m.remote (Icrp s) (record t { control = counts_taken t.control; calls = put t.calls s call })
 
-  del : Delivered accs w n i sender h.moved.does.hears.0 (Icrq m.remote h.moved.does.serial h.moved.does.calling)
+  del : Delivered accs w n i sender h.moved.does.letter.header.session (Icrq m.remote h.moved.does.serial h.moved.does.calling)
   del = delivered laws.heard accs ends w n e x sender moment ev (move.Replied m) d h i t h.moved.does.there
-      (not_closed t.control.state 3 h.moved.does.open_is (omega arith)) h.moved.does.hears.0
-      (Icrq m.remote h.moved.does.serial h.moved.does.calling) tt h.moved.does.hears.1
+      (not_closed t.control.state 3 h.moved.does.open_is (omega arith)) h.moved.does.letter.header.session
+      (Icrq m.remote h.moved.does.serial h.moved.does.calling) tt
+      (heard_so ev t h.moved.does.letter (Icrq m.remote h.moved.does.serial h.moved.does.calling) h.moved.does.takes.next h.moved.does.said)
 
   old : TunnelJoined w n i (accs n i) (Some t)
   old = here_joined accs ends w n e x sender moment ev (move.Replied m) d h i t h.moved.does.there

@@ -88,7 +88,8 @@ module _ (laws : Laws) (accs : Accounts) (ends : Ends) (w : World) (n : ℕ) (e 
   del : Delivered accs w n i sender s (Iccn h.moved.does.speed h.moved.does.framing h.moved.does.sequenced)
   del = delivered laws.heard accs ends w n e x sender moment ev (move.SecondUp m) d h i t h.moved.does.there
       (not_closed t.control.state 3 h.moved.does.open_is (omega arith)) s
-      (Iccn h.moved.does.speed h.moved.does.framing h.moved.does.sequenced) tt h.moved.does.hears
+      (Iccn h.moved.does.speed h.moved.does.framing h.moved.does.sequenced) tt
+      (record { letter = h.moved.does.letter; next = h.moved.does.takes.next; says = h.moved.does.says })
 
   old : TunnelJoined w n i (accs n i) (Some t)
   old = here_joined accs ends w n e x sender moment ev (move.SecondUp m) d h i t h.moved.does.there

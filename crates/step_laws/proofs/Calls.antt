@@ -21,19 +21,19 @@ use Rattle.end_names.specs.declared.role.Role.{Role}
 use Rattle.end_names.specs.declared.role.Role.TheVariants.{Lac, Lns}
 use Rattle.protocol_model.specs.declared.event.Event.{Event}
 use Rattle.protocol_model.specs.declared.moves.Refused.{Refused}
-use Rattle.protocol_model.specs.Reading.{body_of, message_in, call_fault_in}
+use Rattle.protocol_model.specs.Reading.{message_in, call_fault_in}
 use Rattle.protocol_model.specs.Calls.{call_row, is_reply, is_connection, is_up, is_told, are_too_many}
 use Rattle.protocol_model.specs.Turn.{Tunnel, Turn, Reason, reason, out_of_state, tunnel_after, with_move, with_calls, takes_one, has_room, takes_plain, refuses, of_no_call, answers_by, call_of, left_of, granted, replies, asked_by, first_up_by, second_up_by, is_clean_up, end_heard_by, session_named, ends_named, about_call, in_call}
 use Rattle.protocol_model.specs.End.{End}
-use Rattle.step_laws.specs.Causes.{Came, MayBeGranted, AskedAgain, RepliedInVain, ConnectedInVain, Stands}
-use Rattle.step_laws.specs.Moves.{DeniesCall, HearsNext, ComesNext, IsPlain, IsAsked, IsReplied, IsConnected, WhyRefused, IsNotGranted, IsOutgoing, IsReplyToNone}
+use Rattle.step_laws.specs.Causes.{CameAbout, MayBeGranted, AskedAgain, RepliedInVain, ConnectedInVain, Stands}
+use Rattle.step_laws.specs.Moves.{DeniesCall, Came, IsNext, HearsNext, IsPlain, IsAsked, IsReplied, IsConnected, WhyRefused, IsNotGranted, IsOutgoing, IsReplyToNone}
 use Rattle.step_laws.proofs.Granting.{grants_is, denies_is}
 use Rattle.step_laws.proofs.Lists.{branch}
 use Rattle.step_laws.proofs.Owing.{spare_told}
 use Rattle.step_laws.proofs.Tells.{granted_stands, granted_may}
 use Rattle.step_laws.proofs.Turns.{TurnOk, PlainAt, at_turn, is_roomy, IsGranted, replied_ok, first_up_ok, second_up_ok, end_heard_ok, plain_ok, ignores_ok, refused_ok}
 use Rattle.step_laws.proofs.Settling.{Settled, unsent}
-use Rattle.step_laws.proofs.Comes.{Taking, next_of_heard, heard_in, comes_at, begun, came_at, told_at, calls_first, spare_first, at_first, that_call, no_call}
+use Rattle.step_laws.proofs.Comes.{Taking, heard_in, comes_at, now, begun, came_at, told_at, calls_first, spare_first, at_first, that_call, no_call}
 use Rattle.protocol_model.specs.Links.{magic_of}
 use Rattle.step_laws.proofs.Linking.{linked_up_ok}
 use Rattle.step_laws.proofs.Closing.{Ends, ends_leave}
@@ -129,18 +129,18 @@ module _ (e : End) (moment : ℕ) (ev : Event) (letters : List Letter) (calls : 
       (λ big. plainly t f comes)
 
   -- why there is no call, of each move that says so
-  abbrev pub Refusing : Reason → ℕ → (t : Turn) → ComesNext ev t.control → Type 0
-  Refusing r remote t next =
+  abbrev pub Refusing : Reason → ℕ → Turn → Came → Type 0
+  Refusing r remote t k =
       (m : Refused) → m.remote ≡ remote → m.result ≡ r.result → m.error ≡ r.error
-      → WhyRefused (at_turn e moment ev letters calls i t) (tunnel_after t letters calls) next.header.session (message_in (body_of next.header next.bytes))
-      (call_fault_in (body_of next.header next.bytes)) m
+      → WhyRefused (at_turn e moment ev letters calls i t) (tunnel_after t letters calls) k.header.session (message_in k.body)
+      (call_fault_in k.body) m
 
   pub refuses_ok : (r : Reason) → Stands e moment ev r.cause → (remote : ℕ) (t : Turn) → Taking e moment ev letters calls i t → state_number t.control.state ≡ 3
-      → (next : ComesNext ev t.control) → Refusing r remote t next → Good (refuses r remote t)
+      → (k : Came) → IsNext ev (now e moment ev letters calls i t) k → Refusing r remote t k → Good (refuses r remote t)
   unfolding refuses
-  refuses_ok r so remote t f is_open next why =
+  refuses_ok r so remote t f is_open k next why =
       branch Good (has_room t.control) _ _
-      (λ room. sent_none _ (refused_ok e moment ev letters calls i r so remote t is_open next why (spare_first e moment ev letters calls i t f) room f.fresh.good))
+      (λ room. sent_none _ (refused_ok e moment ev letters calls i r so remote t is_open k next why (spare_first e moment ev letters calls i t f) room f.fresh.good))
       (λ full. absurd (full_not t f full))
 
   -- what the table says of a call that there isn't
@@ -158,12 +158,12 @@ module _ (e : End) (moment : ℕ) (ev : Event) (letters : List Letter) (calls : 
   -- ---- requests
 
   module _ (session remote serial : ℕ) (calling : Option (List ℕ)) (t : Turn) (f : Taking e moment ev letters calls i t) (is_open : state_number t.control.state ≡ 3)
-      (hears : HearsNext ev t.control session (Icrq remote serial calling)) where
+      (hears : HearsNext ev (now e moment ev letters calls i t) session (Icrq remote serial calling)) where
     asks_plain : (c : Call) → at calls session ≡ Some c → PlainAt e moment ev letters calls i t
     asks_plain c found =
-        comes_at e moment ev letters calls i t session (Icrq remote serial calling) (λ o. (c, at_first e moment ev letters calls i t f.fresh session (Some c) found)) hears
+        comes_at e moment ev letters calls i t f session (Icrq remote serial calling) (λ o. (c, at_first e moment ev letters calls i t f.fresh session (Some c) found)) hears
 
-    came : Came e ev (begun e moment ev letters calls i t f.fresh) session (Icrq remote serial calling)
+    came : CameAbout e ev (begun e moment ev letters calls i t f.fresh) session (Icrq remote serial calling)
     came = came_at e moment ev letters calls i t f.fresh is_open session (Icrq remote serial calling) hears
 
     -- why it isn't granted
@@ -185,10 +185,10 @@ module _ (e : End) (moment : ℕ) (ev : Event) (letters : List Letter) (calls : 
     denied_now r is = denies_is (at_turn e moment ev letters calls i t) (tunnel_after t letters calls) remote r (granted_now (Err r) is)
 
     refusing : (r : Reason) → granted e.role calls remote t.sessions ≡ Err r → at calls session ≡ None
-        → Refusing r remote t (next_of_heard ev t.control session (Icrq remote serial calling) hears)
+        → Refusing r remote t hears.letter
     refusing r is none m to result error =
-        IsNotGranted remote serial calling hears.hears.said
-        (ap (λ q. at (with_calls t.changed calls) q) hears.hears.session_is ∙ at_first e moment ev letters calls i t f.fresh session None none)
+        IsNotGranted remote serial calling hears.says.said
+        (ap (λ q. at (with_calls t.changed calls) q) hears.says.session_is ∙ at_first e moment ev letters calls i t f.fresh session None none)
         to (rw (result, error) (denied_now r is))
 
     -- once the request is taken
@@ -209,10 +209,10 @@ module _ (e : End) (moment : ℕ) (ev : Event) (letters : List Letter) (calls : 
         (spare_first e moment ev letters calls i t f) room f.fresh.good))
         (λ full. absurd (full_not t f full))
     asked_by_ok (Err r) is None found =
-        refuses_ok r (ungranted r is) remote t f is_open (next_of_heard ev t.control session (Icrq remote serial calling) hears) (refusing r is found)
+        refuses_ok r (ungranted r is) remote t f is_open hears.letter hears.next (refusing r is found)
     asked_by_ok (Ok s) is (Some c) found =
         answers_ok out_of_state session c call_event.IcrqAcc t f found (asks_plain c found)
-        (IsAsked remote serial calling (heard_in ev t.control _ session (Icrq remote serial calling) refl refl refl hears)
+        (IsAsked remote serial calling (heard_in ev (now e moment ev letters calls i t) _ session (Icrq remote serial calling) refl refl refl hears)
         (inl (refl, (s, grants_is (taken_end t) (taken_tunnel t) remote s (granted_now (Ok s) is)), refl, refl)))
         (λ told. inl (
           begun e moment ev letters calls i t f.fresh,
@@ -221,35 +221,36 @@ module _ (e : End) (moment : ℕ) (ev : Event) (letters : List Letter) (calls : 
         ))
     asked_by_ok (Err r) is (Some c) found =
         answers_ok r session c call_event.IcrqNotAcc t f found (asks_plain c found)
-        (IsAsked remote serial calling (heard_in ev t.control _ session (Icrq remote serial calling) refl refl refl hears)
+        (IsAsked remote serial calling (heard_in ev (now e moment ev letters calls i t) _ session (Icrq remote serial calling) refl refl refl hears)
         (inr (refl, denies_is (taken_end t) (taken_tunnel t) remote r (granted_now (Err r) is))))
         (λ told. ungranted r is)
 
   -- ---- replies, connections and ends
 
-  first_up_by_ok : (session remote : ℕ) (t : Turn) → Taking e moment ev letters calls i t → state_number t.control.state ≡ 3 → HearsNext ev t.control session (Icrp remote)
+  first_up_by_ok : (session remote : ℕ) (t : Turn) → Taking e moment ev letters calls i t → state_number t.control.state ≡ 3 → HearsNext ev (now e moment ev letters calls i t) session (Icrp remote)
       → (o : Option Call) → at calls session ≡ o → Good (first_up_by e.role session remote o t)
   unfolding first_up_by takes_plain with_move takes_one
   first_up_by_ok session remote t f is_open hears None is =
       let none = no_call e moment ev letters calls i t f.fresh session is in
       none_ok out_of_state remote (call_row e.role call.Idle call_event.IcrpAcc).1 t f
-      (comes_at e moment ev letters calls i t session (Icrp remote) (λ o d found. absurd (none d found)) hears)
+      (comes_at e moment ev letters calls i t f session (Icrp remote) (λ o d found. absurd (none d found)) hears)
       (λ told. refuses_ok out_of_state (inl (
         begun e moment ev letters calls i t f.fresh,
         RepliedInVain remote session (came_at e moment ev letters calls i t f.fresh is_open session (Icrp remote) hears) (inl (is, told_of_reply e.role told)),
-      )) remote t f is_open (next_of_heard ev t.control session (Icrp remote) hears) (λ m to result error.
-      IsReplyToNone remote hears.hears.said
-      (ap (λ q. at (with_calls t.changed calls) q) hears.hears.session_is ∙ at_first e moment ev letters calls i t f.fresh session None is)
+      )) remote t f is_open hears.letter hears.next (λ m to result error.
+      IsReplyToNone remote hears.says.said
+      (ap (λ q. at (with_calls t.changed calls) q) hears.says.session_is ∙ at_first e moment ev letters calls i t f.fresh session None is)
       (told_of_reply e.role told) to result error))
   first_up_by_ok session remote t f is_open hears (Some c) is =
       branch Good (is_connection (call_row e.role c.state call_event.IcrpAcc).1) _ _
       (λ row. branch Good (has_room t.control) _ _
-      (λ room. sent_none _ (first_up_ok e moment ev letters calls i session remote c t is_open (at_first e moment ev letters calls i t f.fresh session (Some c) is) hears row room f.fresh.good))
+      (λ room. sent_none _ (first_up_ok e moment ev letters calls i session remote c t is_open (at_first e moment ev letters calls i t f.fresh session (Some c) is) hears row
+      (spare_first e moment ev letters calls i t f) room f.fresh.good))
       (λ full. absurd (full_not t f full)))
       (λ none. answers_ok out_of_state session c call_event.IcrpAcc t f is
-      (comes_at e moment ev letters calls i t session (Icrp remote)
+      (comes_at e moment ev letters calls i t f session (Icrp remote)
       (λ o. that_call e moment ev letters calls i (λ (k : Call). is_connection (call_row e.role k.state call_event.IcrpAcc).1 ≡ false) t f.fresh session c is none) hears)
-      (IsReplied remote (heard_in ev t.control _ session (Icrp remote) refl refl refl hears) refl refl refl)
+      (IsReplied remote (heard_in ev (now e moment ev letters calls i t) _ session (Icrp remote) refl refl refl hears) refl refl refl)
       (λ told. inl (
         begun e moment ev letters calls i t f.fresh,
         RepliedInVain remote session (came_at e moment ev letters calls i t f.fresh is_open session (Icrp remote) hears)
@@ -257,13 +258,13 @@ module _ (e : End) (moment : ℕ) (ev : Event) (letters : List Letter) (calls : 
       )))
 
   second_up_by_ok : (session speed framing : ℕ) (sequenced : Bool) (t : Turn) → Taking e moment ev letters calls i t → state_number t.control.state ≡ 3
-      → HearsNext ev t.control session (Iccn speed framing sequenced) → (o : Option Call) → at calls session ≡ o
+      → HearsNext ev (now e moment ev letters calls i t) session (Iccn speed framing sequenced) → (o : Option Call) → at calls session ≡ o
       → Good (second_up_by e.role session o t)
   unfolding second_up_by takes_plain with_move takes_one
   second_up_by_ok session speed framing sequenced t f is_open hears None is =
       let none = no_call e moment ev letters calls i t f.fresh session is in
       none_ok out_of_state 0 (call_row e.role call.Idle call_event.IccnAcc).1 t f
-      (comes_at e moment ev letters calls i t session (Iccn speed framing sequenced) (λ o d found. absurd (none d found)) hears)
+      (comes_at e moment ev letters calls i t f session (Iccn speed framing sequenced) (λ o d found. absurd (none d found)) hears)
       (λ told. absurd (untold_of_connection e.role told))
   second_up_by_ok session speed framing sequenced t f is_open hears (Some c) is =
       branch Good (is_up (call_row e.role c.state call_event.IccnAcc).0) _ _
@@ -271,9 +272,9 @@ module _ (e : End) (moment : ℕ) (ev : Event) (letters : List Letter) (calls : 
       (sent_none _ (second_up_ok e moment ev letters calls i session speed framing (magic_of t.block) sequenced c t is_open
       (at_first e moment ev letters calls i t f.fresh session (Some c) is) hears row (spare_first e moment ev letters calls i t f) f.fresh.good)))
       (λ none. answers_ok out_of_state session c call_event.IccnAcc t f is
-      (comes_at e moment ev letters calls i t session (Iccn speed framing sequenced)
+      (comes_at e moment ev letters calls i t f session (Iccn speed framing sequenced)
       (λ o. that_call e moment ev letters calls i (λ (k : Call). is_up (call_row e.role k.state call_event.IccnAcc).0 ≡ false) t f.fresh session c is none) hears)
-      (IsConnected speed framing sequenced (heard_in ev t.control _ session (Iccn speed framing sequenced) refl refl refl hears) refl refl refl)
+      (IsConnected speed framing sequenced (heard_in ev (now e moment ev letters calls i t) _ session (Iccn speed framing sequenced) refl refl refl hears) refl refl refl)
       (λ told. inl (
         begun e moment ev letters calls i t f.fresh,
         ConnectedInVain speed framing session sequenced (came_at e moment ev letters calls i t f.fresh is_open session (Iccn speed framing sequenced) hears)
@@ -285,13 +286,13 @@ module _ (e : End) (moment : ℕ) (ev : Event) (letters : List Letter) (calls : 
   EndsNone t s = (d : Call) → at (with_calls t.changed calls) s ≡ Some d → is_clean_up (call_row e.role d.state call_event.CdnCame).1 ≡ false
 
   end_heard_by_ok : (session remote code : ℕ) (error : Option ℕ) (s : ℕ) (t : Turn) → Taking e moment ev letters calls i t
-      → s ≡ session_named calls session remote → state_number t.control.state ≡ 3 → HearsNext ev t.control session (Cdn remote code error)
+      → s ≡ session_named calls session remote → state_number t.control.state ≡ 3 → HearsNext ev (now e moment ev letters calls i t) session (Cdn remote code error)
       → (o : Option Call) → at calls s ≡ o → Good (end_heard_by e.role s o t)
   unfolding end_heard_by
   end_heard_by_ok session remote code error s t f named is_open hears o is =
       let named_now : s ≡ session_named (with_calls t.changed calls) session remote =
       named ∙ ap (λ cs. session_named cs session remote) (sym (calls_first e moment ev letters calls i t f.fresh)) in
-      by named_now (λ none. comes_at e moment ev letters calls i t session (Cdn remote code error) (λ q. subst (EndsNone t) named_now none) hears) o is
+      by named_now (λ none. comes_at e moment ev letters calls i t f session (Cdn remote code error) (λ q. subst (EndsNone t) named_now none) hears) o is
     where
       by : s ≡ session_named (with_calls t.changed calls) session remote → (EndsNone t s → PlainAt e moment ev letters calls i t) → (o : Option Call)
           → at calls s ≡ o → Good (end_heard_by e.role s o t)
@@ -302,14 +303,14 @@ module _ (e : End) (moment : ℕ) (ev : Event) (letters : List Letter) (calls : 
       by named_now plain (Some c) is =
           branch Good (is_clean_up (call_row e.role c.state call_event.CdnCame).1) _ _
           (λ row. sent_none _ (end_heard_ok e moment ev letters calls i s session remote code error c t is_open
-          (at_first e moment ev letters calls i t f.fresh s (Some c) is) hears named_now row f.fresh.good))
+          (at_first e moment ev letters calls i t f.fresh s (Some c) is) hears named_now row (spare_first e moment ev letters calls i t f) f.fresh.good))
           (λ none. plainly t f (plain
           (that_call e moment ev letters calls i (λ (k : Call). is_clean_up (call_row e.role k.state call_event.CdnCame).1 ≡ false) t f.fresh s c is none)))
 
   -- ---- all of them
 
   about_call_ok : (session : ℕ) (m : Message) (t : Turn) → Taking e moment ev letters calls i t → OfCall m → state_number t.control.state ≡ 3
-      → HearsNext ev t.control session m → Good (about_call e.role calls session m t)
+      → HearsNext ev (now e moment ev letters calls i t) session m → Good (about_call e.role calls session m t)
   unfolding about_call ends_named
   about_call_ok session (Icrq remote serial calling) t f other is_open hears =
       asked_by_ok session remote serial calling t f is_open hears (granted e.role calls remote t.sessions) refl (at calls session) refl
@@ -320,8 +321,8 @@ module _ (e : End) (moment : ℕ) (ev : Event) (letters : List Letter) (calls : 
       end_heard_by_ok session remote code error (session_named calls session remote) t f refl is_open hears (at calls (session_named calls session remote)) refl
   about_call_ok session (Ocrq remote) t f other is_open hears =
       refuses_ok (reason cause.Outgoing 5 None)
-      (begun e moment ev letters calls i t f.fresh, session, remote, came_at e moment ev letters calls i t f.fresh is_open session (Ocrq remote) hears) remote t f is_open (next_of_heard ev t.control session (Ocrq remote) hears)
-      (λ m to result error. IsOutgoing remote hears.hears.said to result error)
+      (begun e moment ev letters calls i t f.fresh, session, remote, came_at e moment ev letters calls i t f.fresh is_open session (Ocrq remote) hears) remote t f is_open hears.letter hears.next
+      (λ m to result error. IsOutgoing remote hears.says.said to result error)
   about_call_ok session (StopCcn tunnel code error) t f other is_open hears = absurd other
   about_call_ok session Hello t f other is_open hears = absurd other
   about_call_ok session (Sccrq o) t f other is_open hears = absurd other
@@ -332,11 +333,11 @@ module _ (e : End) (moment : ℕ) (ev : Event) (letters : List Letter) (calls : 
   about_call_ok session Wen t f other is_open hears = absurd other
   about_call_ok session Sli t f other is_open hears = absurd other
 
-  pub in_call_ok : (session : ℕ) (m : Message) (t : Turn) → Taking e moment ev letters calls i t → OfCall m → HearsNext ev t.control session m
+  pub in_call_ok : (session : ℕ) (m : Message) (t : Turn) → Taking e moment ev letters calls i t → OfCall m → HearsNext ev (now e moment ev letters calls i t) session m
       → Good (in_call e.role calls session m t)
   unfolding in_call
   in_call_ok session m t f other hears =
       branch Good (state_number t.control.state == 3) _ _
       (λ is. about_call_ok session m t f other (eqb-true (state_number t.control.state) 3 is) hears)
-      (λ closed. sent_none _ (ignores_ok e moment ev letters calls i why.Session (λ q. absurd cc) t (comes_at e moment ev letters calls i t session m
+      (λ closed. sent_none _ (ignores_ok e moment ev letters calls i why.Session (λ q. absurd cc) t (comes_at e moment ev letters calls i t f session m
       (not_open (at_turn e moment ev letters calls i t) (tunnel_after t letters calls) session m other (eqb-false (state_number t.control.state) 3 closed)) hears) f.fresh.good))

@@ -14,12 +14,12 @@ use Rattle.protocol_model.specs.declared.tunnel.Call.{Call}
 use Rattle.protocol_model.specs.declared.tunnel.Control.{Control}
 use Rattle.protocol_model.specs.declared.event.Event.{Event}
 use Rattle.protocol_model.specs.declared.event.Addressee.TheVariants.{Opens, Stops}
-use Rattle.protocol_model.specs.Reading.{body_of, message_read, pairs_read, message_in}
+use Rattle.protocol_model.specs.Reading.{message_read, pairs_read, message_in}
 use Rattle.protocol_model.specs.Calls.{call_row, is_told}
 use Rattle.protocol_model.specs.Turn.{Tunnel, Turn, is_closed, may_take, tunnel_after, with_calls}
 use Rattle.protocol_model.specs.End.{End}
-use Rattle.step_laws.specs.Causes.{IsTold, Came}
-use Rattle.step_laws.specs.Moves.{IsFor, HearsNext, ComesNext, IsPlain, InTunnel}
+use Rattle.step_laws.specs.Causes.{IsTold, CameAbout}
+use Rattle.step_laws.specs.Moves.{Came, Says, IsFor, ComesTo, IsNext, HearsNext, IsPlain, InTunnel}
 use Rattle.step_laws.proofs.Turns.{ComesPlain, TurnOk, PlainAt, at_turn}
 
 -- an empty body is no message
@@ -28,32 +28,22 @@ unfolding message_in pairs_read message_read avps_at message_of
 empty_said [] m said none = absurd cc
 empty_said (b ∷ body) m said none = absurd (omega (arith, none))
 
--- what is heard comes
-abbrev pub next_of_heard : (ev : Event) (c : Control) (session : ℕ) (m : Message) → HearsNext ev c session m → ComesNext ev c
-next_of_heard ev c session m h = record {
-  bytes = h.hears.bytes;
-  is = h.hears.is;
-  header = h.hears.header;
-  read = h.hears.read;
-  control = h.hears.control;
-  some = empty_said (body_of h.hears.header h.hears.bytes) m h.hears.said;
-  tunnel = h.tunnel;
+-- what is heard is taken plainly where nothing is done on it
+comes : (ev : Event) (x : End) (u : Tunnel) (session : ℕ) (m : Message) → IsPlain x u session m
+    → (is_closed u.control.state ≡ false → may_take u.control u.calls ≡ true) → HearsNext ev u session m → ComesPlain ev x u
+comes ev x u session m plain spare h = record {
+  letter = h.letter;
   next = h.next;
-}
-
--- and is taken plainly where nothing is done on it
-comes : (ev : Event) (x : End) (u : Tunnel) (session : ℕ) (m : Message) → IsPlain x u session m → HearsNext ev u.control session m → ComesPlain ev x u
-comes ev x u session m plain h = record {
-  comes = next_of_heard ev u.control session m h;
   why = λ n said.
-      let both : Ok m ≡ Ok n = sym h.hears.said ∙ said in
+      let both : Ok m ≡ Ok n = sym h.says.said ∙ said in
       let same : m ≡ n = cc in
-      subst (λ s. IsPlain x u s n) (sym h.hears.session_is) (subst (IsPlain x u session) same plain);
+      subst (λ s. IsPlain x u s n) (sym h.says.session_is) (subst (IsPlain x u session) same plain);
+  spare = spare;
 }
 
 -- a message is for the tunnel as it goes on
-pub for_still : (h : Header) (bytes : List ℕ) (c d : Control) → d.local ≡ c.local → d.remote ≡ c.remote → IsFor h bytes c → IsFor h bytes d
-for_still h bytes c d local remote to = ⊎_elim
+for_still : (h : Header) (body : List ℕ) (c d : Control) → d.local ≡ c.local → d.remote ≡ c.remote → IsFor h body c → IsFor h body d
+for_still h body c d local remote to = ⊎_elim
     (λ named. inl (named ∙ sym local))
     (λ unnamed. inr (⊎_elim
     (λ again. inl (record { none = again.none; opens = again.opens ∙ ap Opens (sym remote) }))
@@ -61,20 +51,25 @@ for_still h bytes c d local remote to = ⊎_elim
     unnamed))
     to
 
+pub to_still : (ev : Event) (k : Came) (c d : Control) → d.local ≡ c.local → d.remote ≡ c.remote → d.peer ≡ c.peer → ComesTo ev c k → ComesTo ev d k
+to_still ev k c d local remote peer h = record { came = h.came; peer = h.peer ∙ sym peer; tunnel = for_still k.header k.body c d local remote h.tunnel }
+
+-- and so is the next letter, as long as none is taken
+pub next_still : (ev : Event) (k : Came) (t u : Tunnel) → u.control.local ≡ t.control.local → u.control.remote ≡ t.control.remote
+    → u.control.peer ≡ t.control.peer → u.control.channel.inbox ≡ t.control.channel.inbox → IsNext ev t k → IsNext ev u k
+next_still ev k t u local remote peer inbox h = record {
+  comes = to_still ev k t.control u.control local remote peer h.comes;
+  some = h.some;
+  next = rw inbox h.next;
+}
+
 -- what is heard is in the tunnel, also as it goes on
-pub heard_in : (ev : Event) (c d : Control) (session : ℕ) (m : Message) → d.local ≡ c.local → d.remote ≡ c.remote → d.peer ≡ c.peer → HearsNext ev c session m
-    → InTunnel ev d session m
-heard_in ev c d session m local remote peer h = record {
-  hears = record {
-    bytes = h.hears.bytes;
-    is = rw peer h.hears.is;
-    header = h.hears.header;
-    read = h.hears.read;
-    control = h.hears.control;
-    session_is = h.hears.session_is;
-    said = h.hears.said;
-  };
-  tunnel = for_still h.hears.header h.hears.bytes c d local remote h.tunnel;
+pub heard_in : (ev : Event) (t : Tunnel) (d : Control) (session : ℕ) (m : Message) → d.local ≡ t.control.local → d.remote ≡ t.control.remote
+    → d.peer ≡ t.control.peer → HearsNext ev t session m → InTunnel ev d session m
+heard_in ev t d session m local remote peer h = record {
+  letter = h.letter;
+  comes = to_still ev h.letter t.control d local remote peer h.next.comes;
+  says = h.says;
 }
 
 -- a state with another number
@@ -95,6 +90,7 @@ module _ (e : End) (moment : ℕ) (ev : Event) (letters : List Letter) (calls : 
     pub peer : first.peer ≡ t.control.peer
     pub state : first.state ≡ t.control.state
     pub challenge : first.challenge ≡ t.control.challenge
+    pub inbox : first.channel.inbox ≡ t.control.channel.inbox
     pub sessions : t.sessions ≡ e.session_ids
     -- and its id is one
     pub some : i ≡ 0 → ⊥
@@ -108,8 +104,9 @@ module _ (e : End) (moment : ℕ) (ev : Event) (letters : List Letter) (calls : 
   abbrev pub Plain : Turn → ℕ → Message → Type 0
   Plain t session m = IsPlain (at_turn e moment ev letters calls i t) (tunnel_after t letters calls) session m
 
-  pub comes_at : (t : Turn) (session : ℕ) (m : Message) → Plain t session m → HearsNext ev t.control session m → PlainAt e moment ev letters calls i t
-  comes_at t session m plain h = comes ev (at_turn e moment ev letters calls i t) (tunnel_after t letters calls) session m plain h
+  -- the tunnel as the turn has it
+  abbrev pub now : Turn → Tunnel
+  now t = tunnel_after t letters calls
 
   pub calls_first : (t : Turn) → Fresh t → with_calls t.changed calls ≡ calls
   unfolding with_calls
@@ -117,6 +114,9 @@ module _ (e : End) (moment : ℕ) (ev : Event) (letters : List Letter) (calls : 
 
   pub spare_first : (t : Turn) → Taking t → may_take t.control (with_calls t.changed calls) ≡ true
   spare_first t f = ap (may_take t.control) (calls_first t f.fresh) ∙ f.may
+
+  pub comes_at : (t : Turn) → Taking t → (session : ℕ) (m : Message) → Plain t session m → HearsNext ev (now t) session m → PlainAt e moment ev letters calls i t
+  comes_at t f session m plain h = comes ev (at_turn e moment ev letters calls i t) (now t) session m plain (λ live. spare_first t f) h
 
   pub at_first : (t : Turn) → Fresh t → (s : ℕ) (o : Option Call) → at calls s ≡ o → at (with_calls t.changed calls) s ≡ o
   at_first t f s o h = ap (λ cs. at cs s) (calls_first t f) ∙ h
@@ -136,13 +136,20 @@ module _ (e : End) (moment : ℕ) (ev : Event) (letters : List Letter) (calls : 
   abbrev pub begun : (t : Turn) → Fresh t → Tunnel
   begun t f = record { control = f.first; letters = letters; calls = calls }
 
-  pub came_at : (t : Turn) (f : Fresh t) → state_number t.control.state ≡ 3 → (session : ℕ) (m : Message) → HearsNext ev t.control session m
-      → Came e ev (begun t f) session m
+  -- the next letter was the next one then
+  pub next_first : (t : Turn) (f : Fresh t) (k : Came) → IsNext ev (now t) k → IsNext ev (begun t f) k
+  next_first t f k next = next_still ev k (now t) (begun t f) f.local f.remote f.peer f.inbox next
+
+  pub hears_first : (t : Turn) (f : Fresh t) (session : ℕ) (m : Message) → HearsNext ev (now t) session m → HearsNext ev (begun t f) session m
+  hears_first t f session m h = record { letter = h.letter; next = next_first t f h.letter h.next; says = h.says }
+
+  pub came_at : (t : Turn) (f : Fresh t) → state_number t.control.state ≡ 3 → (session : ℕ) (m : Message) → HearsNext ev (now t) session m
+      → CameAbout e ev (begun t f) session m
   came_at t f is_open session m hears = record {
     id = i;
     there = f.there;
     open_is = ap state_number f.state ∙ is_open;
-    came = heard_in ev t.control f.first session m f.local f.remote f.peer hears;
+    came = hears_first t f session m hears;
   }
 
   pub told_at : (t : Turn) (f : Fresh t) (s : ℕ) (c : Call) (on : CallEvent) → at calls s ≡ Some c → is_told (call_row e.role c.state on).1 ≡ true

@@ -46,7 +46,7 @@ use Rattle.protocol_model.specs.End.{End, Stepped, env_of, gives_only, placed, w
 use Rattle.step_laws.specs.Room.{IsChosen, RingsNew}
 use Rattle.step_laws.specs.Causes.{IsTold, ForNew, ForOpening, Stands}
 use Rattle.step_laws.specs.Links.{HearsLcp, IsCalled, ForPacket, IsGiven}
-use Rattle.step_laws.specs.Moves.{LacksSecret, has_all_tunnels, IsUnknown, IsAgain, IsStop, IsFor, Hears, Chain, begun, WhyEnds, IsDropped, IsHungUp, ByOperator}
+use Rattle.step_laws.specs.Moves.{LacksSecret, has_all_tunnels, IsUnknown, Came, IsAgain, IsStop, IsFor, Hears, Chain, begun, WhyEnds, IsDropped, IsHungUp, ByOperator}
 use Rattle.step_laws.specs.Steps.{IsKept, AreKept, IsOfMoves, IsChain}
 use Rattle.step_laws.proofs.Lists.{all_map, and_left, and_right, branch, ascends_placed, ascends_looks}
 use Rattle.step_laws.proofs.Owing.{Fits, closed_owes, dropped_owes, fits_given, owes_told}
@@ -80,7 +80,7 @@ ok_is x i t is ms (Refused c) h = tt
 
 -- a message that names the tunnel with an id, or names none and is for it
 abbrev pub IsTo : Header → List ℕ → ℕ → Control → Type 0
-IsTo h bytes i c = (h.tunnel ≡ i) ⊎ (IsAgain h bytes c ⊎ IsStop h bytes c)
+IsTo h bytes i c = (h.tunnel ≡ i) ⊎ (IsAgain h (body_of h bytes) c ⊎ IsStop h (body_of h bytes) c)
 
 -- a step that leads there, and what it tells is so
 pub record IsStep (e : End) (moment : ℕ) (ev : Event) (s : Stepped) : Type 0 where
@@ -221,6 +221,7 @@ module _ (e : End) (kept : AreKept e) (moment : ℕ) (ev : Event) where
         peer = refl;
         state = refl;
         challenge = refl;
+        inbox = refl;
         sessions = refl;
         some = k.some;
       }
@@ -237,17 +238,24 @@ module _ (e : End) (kept : AreKept e) (moment : ℕ) (ev : Event) where
           (unsent e moment ev t.letters t.calls i _ (drops_ok e moment ev t.letters t.calls i w (λ q. absurd (other q)) start begins.good))
 
       -- the message names the tunnel, or names none and is for it
-      is_for : (h : Header) (bytes : List ℕ) → IsTo h bytes i t.control → IsFor h bytes t.control
+      came : Header → List ℕ → Came
+      came h bytes = record { peer = t.control.peer; header = h; body = body_of h bytes }
+
+      is_for : (h : Header) (bytes : List ℕ) → IsTo h bytes i t.control → IsFor h (body_of h bytes) t.control
       is_for h bytes to = ⊎_elim (λ named. inl (named ∙ sym k.local)) (λ unnamed. inr unnamed) to
 
       pub heard_chain : (bytes : List ℕ) (h : Header) → header_of bytes ≡ Ok h → h.control ≡ true → ev ≡ Datagram t.control.peer bytes
           → IsTo h bytes i t.control → leads (turns e.role e.config t.letters t.calls (Datagram t.control.peer bytes) start)
-      unfolding turns hears_datagram begins
+      unfolding turns hears_datagram begins came
       heard_chain bytes h read control same to =
           subst (λ r. leads (hears_datagram e.role e.config t.letters t.calls bytes r start)) (sym read)
           (branch leads h.control _ _
           (λ c. settled_leads _
-          (hears_control_ok e moment ev t.letters t.calls i k.calls bytes h read control start begins refl same (is_for h bytes to) refl refl))
+          (hears_control_ok e moment ev t.letters t.calls i k.calls (came h bytes) start begins refl (record {
+            came = record { bytes = bytes; is = same; read = read; control = control; body_is = refl };
+            peer = refl;
+            tunnel = is_for h bytes to;
+          }) refl refl))
           (λ c. absurd (true≢false (sym control ∙ c))))
 
       pub rung_chain : (who : List ℕ) → (state_number t.control.state ≡ 3) ⊎ (state_number t.control.state ≡ 1) → IsChosen e i → t.control.peer ≡ e.config.lns → IsRing ev who
@@ -548,12 +556,9 @@ module _ (e : End) (kept : AreKept e) (moment : ℕ) (ev : Event) where
           subst (λ x. leads_new (hears_datagram e.role e.config [] [] bytes x blank)) (sym read)
           (branch leads_new h.control _ _
           (λ c. first_chain h.session (message_in (body_of h bytes)) (λ m said. record {
-            bytes = bytes;
-            is = same;
-            header = h;
-            read = read;
-            control = control;
-            session_is = refl;
-            said = said;
+            letter = record { peer = peer; header = h; body = body_of h bytes };
+            came = record { bytes = bytes; is = same; read = read; control = control; body_is = refl };
+            peer_is = refl;
+            says = record { session_is = refl; said = said };
           }) alone)
           (λ c. absurd (true≢false (sym control ∙ c))))

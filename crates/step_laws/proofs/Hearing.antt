@@ -10,8 +10,6 @@ use Rattle.wire_base.specs.declared.why.Why.{Why}
 use Rattle.wire_base.specs.declared.why.Why.TheVariants as why
 use Rattle.wire_base.specs.declared.cause.Cause.TheVariants as cause
 use Rattle.wire_base.specs.declared.letter.Letter.{Letter}
-use Rattle.l2tp_header.specs.declared.header.Header.{Header}
-use Rattle.l2tp_header.specs.Reading.{header_of}
 use Rattle.control_message.specs.declared.message.Message.{Message}
 use Rattle.control_message.specs.declared.message.Message.TheVariants.{Sccrq, Sccrp, Scccn, StopCcn, Hello, Ocrq, Ocrp, Occn, Icrq, Icrp, Iccn, Cdn, Wen, Sli}
 use Rattle.control_message.specs.declared.message.Opening.{Opening}
@@ -28,23 +26,24 @@ use Rattle.tunnel_fsm.specs.Rows.{rows, row_of, state_number}
 use Rattle.protocol_model.specs.declared.tunnel.Call.{Call}
 use Rattle.protocol_model.specs.declared.tunnel.Config.{Config}
 use Rattle.end_names.specs.declared.role.Role.TheVariants.{Lac}
+use Rattle.protocol_model.specs.declared.tunnel.Control.{Control}
 use Rattle.protocol_model.specs.declared.event.Event.{Event}
-use Rattle.protocol_model.specs.declared.event.Event.TheVariants.{Datagram, Ring}
-use Rattle.protocol_model.specs.Reading.{body_of, message_in, call_fault_in, tunnel_fault_in}
+use Rattle.protocol_model.specs.declared.event.Event.TheVariants.{Ring}
+use Rattle.protocol_model.specs.Reading.{message_in, call_fault_in, tunnel_fault_in}
 use Rattle.protocol_model.specs.Calls.{are_too_many}
-use Rattle.protocol_model.specs.Turn.{Turn, is_closed, is_acceptable, event_by, opening_reason, out_of_order, tunnel_after, with_move, with_calls, gives, takes_one, has_room, may_take, counts_acked, reads_nr, connected, connects, takes_by, takes, takes_plain, confirms, hears, hears_said, hears_next, hears_letter, is_duplicate, in_tunnel, hears_control, rings_over, rings_by, rings_within, rings}
+use Rattle.protocol_model.specs.Turn.{Tunnel, Turn, is_closed, is_acceptable, event_by, opening_reason, out_of_order, tunnel_after, with_move, with_calls, gives, takes_one, has_room, may_take, counts_acked, reads_nr, connected, connects, takes_by, takes, takes_plain, confirms, hears, hears_said, hears_next, hears_letter, is_duplicate, in_tunnel, hears_control, rings_over, rings_by, rings_within, rings}
 use Rattle.protocol_model.specs.End.{End}
 use Rattle.step_laws.specs.Room.{IsFull, IsChosen, RingsOver}
 use Rattle.step_laws.specs.Causes.{ForRing}
 use Rattle.protocol_model.specs.Secrets.{is_wrong}
 use Rattle.protocol_model.specs.Reasons.{no_secret}
 use Rattle.step_laws.proofs.Secrets.{right_of}
-use Rattle.step_laws.specs.Moves.{IsRight, IsFor, HearsNext, ComesNext, TellsNr}
+use Rattle.step_laws.specs.Moves.{Came, IsRight, ComesTo, IsNext, HearsNext, TellsNr}
 use Rattle.step_laws.proofs.Lists.{branch}
 use Rattle.step_laws.proofs.Owing.{live_in, live_open}
 use Rattle.step_laws.proofs.Turns.{small_draw, TurnOk, at_turn, is_roomy, same_first, learnt_state, drops_ok, caused_ok, requests_all_ok, adds_ok, adds_asked_ok, connected_ok, confirms_ok, plain_ok, reads_ok}
 use Rattle.step_laws.proofs.Settling.{Settled, unsent, settled_ok}
-use Rattle.step_laws.proofs.Comes.{Fresh, Taking, Plain, for_still, in_other, comes_at, begun, calls_first, spare_first}
+use Rattle.step_laws.proofs.Comes.{Fresh, Taking, Plain, now, to_still, in_other, comes_at, begun, calls_first, spare_first}
 use Rattle.step_laws.proofs.Calls.{plainly, in_call_ok}
 use Rattle.step_laws.proofs.Stopping.{busy, sccrq_ok, sccrp_shut_ok, scccn_shut_ok, scccn_wrong_ok, stop_ok, faulty_heard_ok, closed_plain}
 
@@ -55,13 +54,16 @@ module _ (e : End) (moment : ℕ) (ev : Event) (letters : List Letter) (calls : 
   abbrev Takes : Turn → Type 0
   Takes t = Taking e moment ev letters calls i t
 
+  abbrev now_at : Turn → Tunnel
+  now_at t = now e moment ev letters calls i t
+
   sent_none : (t : Turn) → TurnOk e moment ev letters calls i t → Good t
   sent_none t h = unsent e moment ev letters calls i t h
 
   module _ (sorted : Ascends calls) where
     -- ---- letters about the tunnel
 
-    connects_ok : (session : ℕ) (o : Opening) (t : Turn) → Takes t → t.control.state ≡ state.WaitCtlReply → HearsNext ev t.control session (Sccrp o)
+    connects_ok : (session : ℕ) (o : Opening) (t : Turn) → Takes t → t.control.state ≡ state.WaitCtlReply → HearsNext ev (now_at t) session (Sccrp o)
         → is_acceptable e.config.secret t.control.challenge o ≡ true
         → Good (connects e.role e.config calls o.challenge o.tunnel o.window state.Established t)
     unfolding connects connected gives with_move takes_one
@@ -75,9 +77,9 @@ module _ (e : End) (moment : ℕ) (ev : Event) (letters : List Letter) (calls : 
         (connected_ok e moment ev letters calls i o.tunnel o.window session o t is hears good refl refl (spare_first e moment ev letters calls i t f) room f.fresh.good)))
         (λ full. absurd (is_roomy e moment ev letters calls i t f.live f.fresh.good full))
 
-    plain_at : (session : ℕ) (m : Message) (t : Turn) → Takes t → Plain e moment ev letters calls i t session m → HearsNext ev t.control session m
+    plain_at : (session : ℕ) (m : Message) (t : Turn) → Takes t → Plain e moment ev letters calls i t session m → HearsNext ev (now_at t) session m
         → Good (takes_plain t)
-    plain_at session m t f plain hears = plainly e moment ev letters calls i t f (comes_at e moment ev letters calls i t session m plain hears)
+    plain_at session m t f plain hears = plainly e moment ev letters calls i t f (comes_at e moment ev letters calls i t f session m plain hears)
 
     abbrev HeardSccrp : Opening → Turn → Type 0
     HeardSccrp o t =
@@ -85,7 +87,7 @@ module _ (e : End) (moment : ℕ) (ev : Event) (letters : List Letter) (calls : 
         (row_of rows t.control.state (event_by event.SccrpAcc event.SccrpNotAcc e.config.secret t.control.challenge o)) t)
 
     -- one that is acceptable connects a tunnel that waits for it; another tunnel is closed
-    sccrp_ok : (session : ℕ) (o : Opening) (t : Turn) → Takes t → HearsNext ev t.control session (Sccrp o) → HeardSccrp o t
+    sccrp_ok : (session : ℕ) (o : Opening) (t : Turn) → Takes t → HearsNext ev (now_at t) session (Sccrp o) → HeardSccrp o t
     unfolding takes_by
     sccrp_ok session o t f hears = by t.control.state (is_acceptable e.config.secret t.control.challenge o) refl refl
       where
@@ -106,7 +108,7 @@ module _ (e : End) (moment : ℕ) (ev : Event) (letters : List Letter) (calls : 
         by state.Closed true is good = absurd (true≢false (sym (ap is_closed is) ∙ f.live))
 
     confirmed_ok : (session : ℕ) (response : Option (List ℕ)) (t : Turn) → Takes t → t.control.state ≡ state.WaitCtlConn
-        → HearsNext ev t.control session (Scccn response) → IsRight 3 e.config.secret t.control.challenge response
+        → HearsNext ev (now_at t) session (Scccn response) → IsRight 3 e.config.secret t.control.challenge response
         → Good (cond (state_number state.Established == state_number t.control.state) (takes_plain t) (confirms state.Established t))
     confirmed_ok session response t f is hears right =
         subst (λ (s : TunnelState). Good (cond (state_number state.Established == state_number s) (takes_plain t) (confirms state.Established t))) (sym is)
@@ -118,7 +120,7 @@ module _ (e : End) (moment : ℕ) (ev : Event) (letters : List Letter) (calls : 
         Good (takes_by e.role e.config calls (cond wrong no_secret out_of_order) None 0 0 (row_of rows s (cond wrong event.ScccnNotAcc event.ScccnAcc)) t)
 
     -- an SCCCN that answers rightly confirms a tunnel that waits for it; else the tunnel is closed
-    scccn_ok : (session : ℕ) (response : Option (List ℕ)) (t : Turn) → Takes t → HearsNext ev t.control session (Scccn response)
+    scccn_ok : (session : ℕ) (response : Option (List ℕ)) (t : Turn) → Takes t → HearsNext ev (now_at t) session (Scccn response)
         → HeardScccn t (is_wrong 3 e.config.secret t.control.challenge response) t.control.state
     unfolding takes_by
     scccn_ok session response t f hears = by (is_wrong 3 e.config.secret t.control.challenge response) t.control.state refl refl
@@ -138,7 +140,7 @@ module _ (e : End) (moment : ℕ) (ev : Event) (letters : List Letter) (calls : 
 
     -- ---- what is heard
 
-    hears_ok : (session : ℕ) (m : Message) (t : Turn) → Takes t → HearsNext ev t.control session m → Good (hears e.role e.config calls session m t)
+    hears_ok : (session : ℕ) (m : Message) (t : Turn) → Takes t → HearsNext ev (now_at t) session m → Good (hears e.role e.config calls session m t)
     unfolding hears takes
     hears_ok session (Sccrq o) t f h = sccrq_ok e moment ev letters calls i session o t f h
     hears_ok session (Sccrp o) t f h = sccrp_ok session o t f h
@@ -155,88 +157,82 @@ module _ (e : End) (moment : ℕ) (ev : Event) (letters : List Letter) (calls : 
     hears_ok session Wen t f h = plain_at session Wen t f tt h
     hears_ok session Sli t f h = plain_at session Sli t f tt h
 
-    hears_said_ok : (r : Result Message Why) (t : Turn) → Takes t → (next : ComesNext ev t.control) → message_in (body_of next.header next.bytes) ≡ r
-        → ((m : Message) → r ≡ Ok m → HearsNext ev t.control next.header.session m)
-        → Good (hears_said e.role e.config calls next.header.session (call_fault_in (body_of next.header next.bytes))
-        (tunnel_fault_in (body_of next.header next.bytes)) r t)
+    hears_said_ok : (r : Result Message Why) (t : Turn) → Takes t → (k : Came) → IsNext ev (now_at t) k → message_in k.body ≡ r
+        → Good (hears_said e.role e.config calls k.header.session (call_fault_in k.body) (tunnel_fault_in k.body) r t)
     unfolding hears_said
-    hears_said_ok (Err w) t f next is said =
-        faulty_heard_ok e moment ev letters calls i t f next w is (call_fault_in (body_of next.header next.bytes)) refl
-        (tunnel_fault_in (body_of next.header next.bytes)) refl
-    hears_said_ok (Ok m) t f next is said = hears_ok next.header.session m t f (said m refl)
+    hears_said_ok (Err w) t f k next is =
+        faulty_heard_ok e moment ev letters calls i t f k next w is (call_fault_in k.body) refl (tunnel_fault_in k.body) refl
+    hears_said_ok (Ok m) t f k next is =
+        hears_ok k.header.session m t f (record { letter = k; next = next; says = record { session_is = refl; said = is } })
 
     -- a closed tunnel takes what comes, and does nothing
-    hears_next_ok : (t : Turn) → Fresh e moment ev letters calls i t → may_take t.control calls ≡ true → (next : ComesNext ev t.control)
-        → ((m : Message) → message_in (body_of next.header next.bytes) ≡ Ok m → HearsNext ev t.control next.header.session m)
-        → Good (hears_next e.role e.config calls next.header.session (body_of next.header next.bytes) t)
+    hears_next_ok : (t : Turn) → Fresh e moment ev letters calls i t → may_take t.control calls ≡ true → (k : Came) → IsNext ev (now_at t) k
+        → Good (hears_next e.role e.config calls k.header.session k.body t)
     unfolding hears_next
-    hears_next_ok t f may next said =
+    hears_next_ok t f may k next =
         branch Good (is_closed t.control.state) _ _
         (λ closed. sent_none _ (plain_ok e moment ev letters calls i t (record {
-          comes = next;
-          why = λ m reads. closed_plain (at_turn e moment ev letters calls i t) (tunnel_after t letters calls) next.header.session m closed;
+          letter = k;
+          next = next;
+          why = λ m reads. closed_plain (at_turn e moment ev letters calls i t) (now_at t) k.header.session m closed;
+          spare = λ live. absurd (true≢false (sym closed ∙ live));
         }) f.good))
-        (λ live. hears_said_ok (message_in (body_of next.header next.bytes)) t (record { fresh = f; live = live; may = may }) next refl said)
+        (λ live. hears_said_ok (message_in k.body) t (record { fresh = f; live = live; may = may }) k next refl)
 
     -- a control message of the tunnel's peer, for the tunnel
-    module _ (bytes : List ℕ) (h : Header) (read : header_of bytes ≡ Ok h) (control : h.control ≡ true) where
+    module _ (k : Came) where
       -- where it isn't taken, there is no room
       abbrev FullAt : Turn → Type 0
       FullAt t =
-          (length (body_of h bytes) ≡ 0 → ⊥) → class_of (unwrap_or h.ns 0) t.control.channel.inbox ≡ Next → may_take t.control calls ≡ false
+          (length k.body ≡ 0 → ⊥) → class_of (unwrap_or k.header.ns 0) t.control.channel.inbox ≡ Next → may_take t.control calls ≡ false
           → IsFull e moment ev
 
-      letter_ok : (t : Turn) → Fresh e moment ev letters calls i t → FullAt t → ev ≡ Datagram t.control.peer bytes → IsFor h bytes t.control
-          → (length (body_of h bytes) ≡ 0 → ⊥) → (c : Class) → class_of (unwrap_or h.ns 0) t.control.channel.inbox ≡ c → Good (hears_letter e.role e.config calls h.session (body_of h bytes) (Some c) t)
+      letter_ok : (t : Turn) → Fresh e moment ev letters calls i t → FullAt t → ComesTo ev t.control k → (length k.body ≡ 0 → ⊥) → (c : Class)
+          → class_of (unwrap_or k.header.ns 0) t.control.channel.inbox ≡ c → Good (hears_letter e.role e.config calls k.header.session k.body (Some c) t)
       unfolding hears_letter
-      letter_ok t f no_room is to some Duplicate class = sent_none t f.good
-      letter_ok t f no_room is to some (Ahead by) class = sent_none _ (drops_ok e moment ev letters calls i why.Ahead (λ q. absurd cc) t f.good)
-      letter_ok t f no_room is to some Next class =
+      letter_ok t f no_room to some Duplicate class = sent_none t f.good
+      letter_ok t f no_room to some (Ahead by) class = sent_none _ (drops_ok e moment ev letters calls i why.Ahead (λ q. absurd cc) t f.good)
+      letter_ok t f no_room to some Next class =
           branch Good (may_take t.control calls) _ _
-          (λ may. hears_next_ok t f may
-          (record { bytes = bytes; is = is; header = h; read = read; control = control; some = some; tunnel = to; next = class })
-          (λ m said. record {
-            hears = record { bytes = bytes; is = is; header = h; read = read; control = control; session_is = refl; said = said };
-            tunnel = to;
-            next = class;
-          }))
+          (λ may. hears_next_ok t f may k (record { comes = to; some = some; next = class }))
           (λ full. sent_none _ (drops_ok e moment ev letters calls i why.Queue (λ q. no_room some class full) t f.good))
 
-      told_ok : (t : Turn) → Fresh e moment ev letters calls i t → FullAt t → ev ≡ Datagram t.control.peer bytes → IsFor h bytes t.control
-          → Good (hears_letter e.role e.config calls h.session (body_of h bytes) (class_told t.control.channel (unwrap_or h.ns 0) (length (body_of h bytes) == 0)) t)
+      told_ok : (t : Turn) → Fresh e moment ev letters calls i t → FullAt t → ComesTo ev t.control k
+          → Good (hears_letter e.role e.config calls k.header.session k.body (class_told t.control.channel (unwrap_or k.header.ns 0) (length k.body == 0)) t)
       unfolding hears_letter
-      told_ok t f no_room is to =
-          branch (λ c. Good (hears_letter e.role e.config calls h.session (body_of h bytes) c t)) (length (body_of h bytes) == 0) _ _
+      told_ok t f no_room to =
+          branch (λ c. Good (hears_letter e.role e.config calls k.header.session k.body c t)) (length k.body == 0) _ _
           (λ none. sent_none t f.good)
-          (λ some. letter_ok t f no_room is to (eqb-false (length (body_of h bytes)) 0 some) (class_of (unwrap_or h.ns 0) t.control.channel.inbox) refl)
+          (λ some. letter_ok t f no_room to (eqb-false (length k.body) 0 some) (class_of (unwrap_or k.header.ns 0) t.control.channel.inbox) refl)
 
-      in_tunnel_ok : (t : Turn) (c : Option Class) → Good (hears_letter e.role e.config calls h.session (body_of h bytes) c t)
-          → Settled e moment ev letters calls i (in_tunnel e.role e.config letters calls h.session (body_of h bytes) c t)
+      in_tunnel_ok : (t : Turn) (c : Option Class) → Good (hears_letter e.role e.config calls k.header.session k.body c t)
+          → Settled e moment ev letters calls i (in_tunnel e.role e.config letters calls k.header.session k.body c t)
       unfolding in_tunnel
       in_tunnel_ok t c good = settled_ok e moment ev letters calls i (is_duplicate c) _ good
 
       -- nothing was given or acknowledged before
-      module _ (t : Turn) (f : Fresh e moment ev letters calls i t) (same : f.first ≡ t.control) (is : ev ≡ Datagram t.control.peer bytes) (to : IsFor h bytes t.control) where
+      module _ (t : Turn) (f : Fresh e moment ev letters calls i t) (same : f.first ≡ t.control) (to : ComesTo ev t.control k) where
         abbrev nr : ℕ
-        nr = unwrap_or h.nr 0
+        nr = unwrap_or k.header.nr 0
 
         tells_nr : TellsNr ev t.control nr
-        tells_nr = record { bytes = bytes; is = is; header = h; read = read; control = control; tunnel = to; tells = refl }
+        tells_nr = record { letter = k; comes = to; tells = refl }
 
         full_read : FullAt (reads_nr nr t)
         unfolding reads_nr with_move
         full_read some class full =
-            let comes : ComesNext ev t.control =
-            record { bytes = bytes; is = is; header = h; read = read; control = control; some = some; tunnel = to; next = class } in
+            let first = begun e moment ev letters calls i t f in
             let now_full : may_take (counts_acked nr moment t.control) calls ≡ false =
             ap (λ m. may_take (counts_acked nr m t.control) calls) (sym f.good.stays.4) ∙ full in
+            let there : ComesTo ev f.first k = subst (λ c. ComesTo ev c k) (sym same) to in
             record {
               id = i;
-              tunnel = begun e moment ev letters calls i t f;
+              tunnel = first;
               there = f.there;
-              next = subst (ComesNext ev) (sym same) comes;
+              letter = k;
+              next = record { comes = there; some = some; next = ap (λ (c : Control). class_of (unwrap_or k.header.ns 0) c.channel.inbox) same ∙ class };
               nr = nr;
-              tells = subst (λ c. TellsNr ev c nr) (sym same) tells_nr;
+              tells = record { letter = k; comes = there; tells = refl };
               full = ap (λ c. may_take (counts_acked nr moment c) calls) same ∙ now_full;
             }
 
@@ -253,18 +249,23 @@ module _ (e : End) (moment : ℕ) (ev : Event) (letters : List Letter) (calls : 
           peer = f.peer;
           state = f.state;
           challenge = f.challenge;
+          inbox = f.inbox;
           sessions = f.sessions;
           some = f.some;
         }
 
+        read_to : ComesTo ev (reads_nr nr t).control k
+        unfolding reads_nr with_move
+        read_to = to_still ev k t.control (reads_nr nr t).control refl refl refl to
+
         pub hears_control_ok : t.given ≡ [] → t.acked ≡ 0
-            → Settled e moment ev letters calls i (hears_control e.role e.config letters calls h (body_of h bytes) t)
+            → Settled e moment ev letters calls i (hears_control e.role e.config letters calls k.header k.body t)
         unfolding hears_control reads_nr with_move
         hears_control_ok none whole =
             branch (Settled e moment ev letters calls i) (state_number t.control.state == 0) _ _
             (λ idle. absurd (f.good.stays.1 (eqb-true (state_number t.control.state) 0 idle)))
-            (λ busy. in_tunnel_ok (reads_nr nr t) (class_told t.control.channel (unwrap_or h.ns 0) (length (body_of h bytes) == 0))
-            (told_ok (reads_nr nr t) (fresh_read none whole) full_read is (for_still h bytes t.control (reads_nr nr t).control refl refl to)))
+            (λ busy. in_tunnel_ok (reads_nr nr t) (class_told t.control.channel (unwrap_or k.header.ns 0) (length k.body == 0))
+            (told_ok (reads_nr nr t) (fresh_read none whole) full_read read_to))
 
     -- ---- rings
 

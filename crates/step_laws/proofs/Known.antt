@@ -15,7 +15,7 @@ use Rattle.protocol_model.specs.Turn.{Tunnel}
 use Rattle.protocol_model.specs.End.{End, is_known, known_as}
 use Rattle.step_laws.specs.Causes.{WouldOpen}
 use Rattle.step_laws.specs.Opens.{opens_said}
-use Rattle.step_laws.specs.Moves.{IsAgain, IsStop, InTunnel}
+use Rattle.step_laws.specs.Moves.{IsAgain, IsStop, HearsNext}
 use Rattle.step_laws.proofs.Lists.{and_left, and_right, none_passes, found_among}
 use Rattle.step_laws.proofs.Zero.{ZeroSays, zero_says}
 
@@ -77,27 +77,27 @@ stop_opens_none body remote o is said = subst (ZeroSays body) is (zero_says body
 
 module _ (e : End) (ev : Event) (i : ℕ) (t : Tunnel) (there : at e.tunnels i ≡ Some t) (some : t.control.local ≡ 0 → ⊥)
     (session : ℕ) (o : Opening) where
-  pub sccrq_opens_none : InTunnel ev t.control session (Sccrq o) → WouldOpen e ev o → ⊥
-  sccrq_opens_none came would =
-      let once = came_once ev t.control.peer would.peer came.hears.bytes would.came.bytes came.hears.header would.came.header
-      came.hears.is would.came.is came.hears.read would.came.read in
+  pub sccrq_opens_none : HearsNext ev t session (Sccrq o) → WouldOpen e ev o → ⊥
+  sccrq_opens_none heard would =
+      let k = heard.letter in
+      let came = heard.next.comes.came in
+      let once = came_once ev k.peer would.peer came.bytes would.came.bytes k.header would.came.header came.is would.came.is came.read would.came.read in
       ⊎_elim
-      (λ (named : came.hears.header.tunnel ≡ t.control.local).
+      (λ (named : k.header.tunnel ≡ t.control.local).
       some (sym named ∙ ap (λ (x : Header). x.tunnel) once.one_header ∙ would.came.none))
       (λ unnamed. ⊎_elim
-      (λ (again : IsAgain came.hears.header came.hears.bytes t.control).
-      would.alone i t there once.one_peer
-      (sccrq_opens (body_of came.hears.header came.hears.bytes) t.control.remote o again.opens came.hears.said))
-      (λ (stop : IsStop came.hears.header came.hears.bytes t.control).
-      stop_opens_none (body_of came.hears.header came.hears.bytes) t.control.remote o stop.stops came.hears.said)
+      (λ (again : IsAgain k.header k.body t.control).
+      would.alone i t there (sym heard.next.comes.peer ∙ once.one_peer) (sccrq_opens k.body t.control.remote o again.opens heard.says.said))
+      (λ (stop : IsStop k.header k.body t.control). stop_opens_none k.body t.control.remote o stop.stops heard.says.said)
       unnamed)
-      came.tunnel
+      heard.next.comes.tunnel
 
-  pub sccrp_opens_none : InTunnel ev t.control session (Sccrp o) → (p : Opening) → WouldOpen e ev p → ⊥
-  sccrp_opens_none came p would =
-      let once = came_once ev t.control.peer would.peer came.hears.bytes would.came.bytes came.hears.header would.came.header
-      came.hears.is would.came.is came.hears.read would.came.read in
-      let bodies : body_of came.hears.header came.hears.bytes ≡ would.body =
-      ap (λ (x : Header). body_of x came.hears.bytes) once.one_header ∙ ap (body_of would.came.header) once.one_packet ∙ sym would.came.body_is in
-      let both : Ok (Sccrp o) ≡ Ok (Sccrq p) = sym came.hears.said ∙ ap message_in bodies ∙ would.said in
+  pub sccrp_opens_none : HearsNext ev t session (Sccrp o) → (p : Opening) → WouldOpen e ev p → ⊥
+  sccrp_opens_none heard p would =
+      let k = heard.letter in
+      let came = heard.next.comes.came in
+      let once = came_once ev k.peer would.peer came.bytes would.came.bytes k.header would.came.header came.is would.came.is came.read would.came.read in
+      let bodies : k.body ≡ would.body =
+      came.body_is ∙ ap (λ (x : Header). body_of x came.bytes) once.one_header ∙ ap (body_of would.came.header) once.one_packet ∙ sym would.came.body_is in
+      let both : Ok (Sccrp o) ≡ Ok (Sccrq p) = sym heard.says.said ∙ ap message_in bodies ∙ would.said in
       absurd cc

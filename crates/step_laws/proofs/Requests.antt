@@ -47,10 +47,16 @@ module _ (e : End) (kept : AreKept e) (sound : AreSound e) (asked : AreAsked e) 
     t = r.tunnel
 
     abbrev header : Header
-    header = r.comes.header
+    header = r.letter.header
 
     abbrev body : List ℕ
-    body = body_of header r.comes.bytes
+    body = r.letter.body
+
+    abbrev bytes : List ℕ
+    bytes = r.next.comes.came.bytes
+
+    body_is : body ≡ body_of header bytes
+    body_is = r.next.comes.came.body_is
 
     abbrev nr : ℕ
     nr = unwrap_or header.nr 0
@@ -81,8 +87,8 @@ module _ (e : End) (kept : AreKept e) (sound : AreSound e) (asked : AreAsked e) 
     class_is : class_told t.control.channel (unwrap_or header.ns 0) (length body == 0) ≡ Some Next
     class_is =
         branch (λ (o : Option Class). o ≡ Some Next) (length body == 0) _ _
-        (λ none. absurd (r.comes.some (eqb-true (length body) 0 none)))
-        (λ some. ap (λ c. Some c) r.comes.next)
+        (λ none. absurd (r.next.some (eqb-true (length body) 0 none)))
+        (λ some. ap (λ c. Some c) r.next.next)
 
     heard_right : Right (hears_control e.role e.config t.letters t.calls header body (turn_of t.control env))
     unfolding hears_control in_tunnel
@@ -92,11 +98,13 @@ module _ (e : End) (kept : AreKept e) (sound : AreSound e) (asked : AreAsked e) 
         (λ some. subst (λ o. Right (in_tunnel e.role e.config t.letters t.calls header.session body o read_turn)) (sym class_is)
         (settled_answer _ false t.letters (hears_letter e.role e.config t.calls header.session body (Some Next) read_turn) taken_right))
 
-    turn_right : Right (turns e.role e.config t.letters t.calls (Datagram t.control.peer r.comes.bytes) (turn_of t.control env))
+    turn_right : Right (turns e.role e.config t.letters t.calls (Datagram t.control.peer bytes) (turn_of t.control env))
     unfolding turns hears_datagram
     turn_right =
-        subst (λ q. Right (hears_datagram e.role e.config t.letters t.calls r.comes.bytes q (turn_of t.control env))) (sym r.comes.read)
-        (branch Right header.control _ _ (λ c. heard_right) (λ c. absurd (true≢false (sym r.comes.control ∙ c))))
+        subst (λ q. Right (hears_datagram e.role e.config t.letters t.calls bytes q (turn_of t.control env))) (sym r.next.comes.came.read)
+        (branch Right header.control _ _
+        (λ c. subst (λ (b : List ℕ). Right (hears_control e.role e.config t.letters t.calls header b (turn_of t.control env))) body_is heard_right)
+        (λ c. absurd (true≢false (sym r.next.comes.came.control ∙ c))))
 
     -- the message is for the tunnel
     abbrev RightIn : Stepped → Type 0
@@ -113,20 +121,25 @@ module _ (e : End) (kept : AreKept e) (sound : AreSound e) (asked : AreAsked e) 
         (λ same. refl)
         (λ other. absurd (eqb-false t.control.peer t.control.peer other refl))))
 
-    main_right : RightIn (for_addressee e env (Datagram t.control.peer r.comes.bytes) t.control.peer header body (addressed e t.control.peer header body))
+    main_right : RightIn (for_addressee e env (Datagram t.control.peer bytes) t.control.peer header body (addressed e t.control.peer header body))
     unfolding for_addressee in_main after_turn
     main_right =
-        subst (λ a. RightIn (for_addressee e env (Datagram t.control.peer r.comes.bytes) t.control.peer header body a)) (sym for_tunnel)
-        (subst (λ o. RightIn (in_main e env (Datagram t.control.peer r.comes.bytes) r.id o)) (sym r.there) turn_right)
+        subst (λ a. RightIn (for_addressee e env (Datagram t.control.peer bytes) t.control.peer header body a)) (sym for_tunnel)
+        (subst (λ o. RightIn (in_main e env (Datagram t.control.peer bytes) r.id o)) (sym r.there) turn_right)
 
-    received_right : RightIn (plain_step e moment block (Datagram t.control.peer r.comes.bytes))
+    received_right : RightIn (plain_step e moment block (Datagram t.control.peer bytes))
     unfolding plain_step step_in receives
     received_right =
-        subst (λ q. RightIn (receives e env t.control.peer r.comes.bytes q)) (sym r.comes.read)
-        (branch RightIn header.control _ _ (λ c. main_right) (λ c. absurd (true≢false (sym r.comes.control ∙ c))))
+        subst (λ q. RightIn (receives e env t.control.peer bytes q)) (sym r.next.comes.came.read)
+        (branch RightIn header.control _ _
+        (λ c. subst (λ (b : List ℕ). RightIn (for_addressee e env (Datagram t.control.peer bytes) t.control.peer header b
+        (addressed e t.control.peer header b))) body_is main_right)
+        (λ c. absurd (true≢false (sym r.next.comes.came.control ∙ c))))
 
     step_right : RightIn (plain_step e moment block ev)
-    step_right = subst (λ x. RightIn (plain_step e moment block x)) (sym r.comes.is) received_right
+    step_right =
+        let is : ev ≡ Datagram t.control.peer bytes = r.next.comes.came.is ∙ ap (λ p. Datagram p bytes) r.next.comes.peer in
+        subst (λ x. RightIn (plain_step e moment block x)) (sym is) received_right
 
   pub request_answered : (ev : Event) (r : TakesRequest e moment ev) → IsAnswered e moment ev r (plain_step e moment block ev)
   request_answered ev r = let h = step_right ev r in record { answer = h.answer; only = h.only; right = h.right }
@@ -176,10 +189,10 @@ module _ (e : End) (kept : AreKept e) (sound : AreSound e) (asked : AreAsked e) 
 
   -- what an ICRQ that names no call is answered by
   module _ (r : TakesRequest e moment ev) (remote serial : ℕ) (calling : Option (List ℕ))
-      (said : message_in (body_of r.comes.header r.comes.bytes) ≡ Ok (Icrq remote serial calling))
-      (none : at r.tunnel.calls r.comes.header.session ≡ None) where
+      (said : message_in r.letter.body ≡ Ok (Icrq remote serial calling))
+      (none : at r.tunnel.calls r.letter.header.session ≡ None) where
     abbrev Answer : Move → Type 0
-    Answer m = AnswersIcrq e r.id r.tunnel r.comes.header.session remote m
+    Answer m = AnswersIcrq e r.id r.tunnel r.letter.header.session remote m
 
     new_answered : OneAnswer Answer stepped.moves
     new_answered =
@@ -188,7 +201,8 @@ module _ (e : End) (kept : AreKept e) (sound : AreSound e) (asked : AreAsked e) 
           tunnel = r.tunnel;
           there = r.there;
           open_is = r.open_is;
-          comes = r.comes;
+          letter = r.letter;
+          next = r.next;
           named = r.named;
           spare = r.spare;
           request = Incoming remote serial calling said;
@@ -197,7 +211,7 @@ module _ (e : End) (kept : AreKept e) (sound : AreSound e) (asked : AreAsked e) 
         record { answer = h.answer; only = h.only; right = h.right }
 
     -- no call is named
-    named_none : (c : Call) → at r.tunnel.calls r.comes.header.session ≡ Some c → ⊥
+    named_none : (c : Call) → at r.tunnel.calls r.letter.header.session ≡ Some c → ⊥
     named_none c named = none-some c (sym none ∙ named)
 
     new_replied : MayBeGranted e r.tunnel remote → IsRepliedTo e r.id remote stepped

@@ -21,11 +21,10 @@ use Rattle.protocol_model.specs.declared.event.Event.{Event}
 use Rattle.protocol_model.specs.declared.out.Out.TheVariants.{Gone, Cause}
 use Rattle.protocol_model.specs.declared.moves.Closed.{Closed}
 use Rattle.protocol_model.specs.declared.moves.Move.TheVariants as move
-use Rattle.protocol_model.specs.Reading.{body_of}
-use Rattle.protocol_model.specs.Turn.{rejected, rejects, Tunnel, Turn, Reason, is_closed, with_output, with_move, with_change, with_calls, ends_call, ends_all, gives, takes_one, next_place, taken_place, has_room, letter_of, tunnel_after, counts_taken, shut, shuts, closed_told, closes_tunnel, closed_by}
+use Rattle.protocol_model.specs.Turn.{may_take, rejected, rejects, Tunnel, Turn, Reason, is_closed, with_output, with_move, with_change, with_calls, ends_call, ends_all, gives, takes_one, next_place, taken_place, has_room, letter_of, tunnel_after, counts_taken, shut, shuts, closed_told, closes_tunnel, closed_by}
 use Rattle.protocol_model.specs.End.{End, placed, with_looks, with_look}
 use Rattle.step_laws.specs.Causes.{Stands}
-use Rattle.step_laws.specs.Moves.{LetterCloses, ComesNext, WhyCloses, SaysStop}
+use Rattle.step_laws.specs.Moves.{Came, IsNext, LetterCloses, WhyCloses, SaysStop}
 use Rattle.step_laws.proofs.Lists.{all_push, all_append, branch, chain_more}
 use Rattle.step_laws.proofs.Owing.{fits_shut, fits_last}
 use Rattle.step_laws.proofs.Tells.{Tells}
@@ -125,11 +124,12 @@ module _ (e : End) (moment : ℕ) (ev : Event) (letters : List Letter) (calls : 
 
   -- a letter is taken, and the peer told
   rejected_ok : (r : Reason) → Stands e moment ev r.cause → (on : TunnelEvent) (remote : ℕ) (t : Turn) → t.changed ≡ []
-      → row_of rows t.control.state on ≡ (state.Closed, action.SendStopCcn) → state_number t.control.state ≡ 1 → ComesNext ev t.control
-      → LetterCloses e.config.secret t.control ev on remote r.result r.error → has_room t.control ≡ true
+      → row_of rows t.control.state on ≡ (state.Closed, action.SendStopCcn) → state_number t.control.state ≡ 1 → (k : Came)
+      → IsNext ev (tunnel t) k → may_take t.control (with_calls t.changed calls) ≡ true
+      → LetterCloses e.config.secret t.control k on remote r.result r.error → has_room t.control ≡ true
       → TurnOk e moment ev letters calls i t → TurnOk e moment ev letters calls i (rejected r calls remote state.Closed t)
   unfolding rejected shuts gives with_output with_move with_calls takes_one
-  rejected_ok r so on remote t none row waits next why room h =
+  rejected_ok r so on remote t none row waits k next spare why room h =
       let m = move.Rejected (record {
         tunnel = t.control.local;
         remote = remote;
@@ -147,10 +147,10 @@ module _ (e : End) (moment : ℕ) (ev : Event) (letters : List Letter) (calls : 
           there = there e moment ev letters calls i t;
           waits = waits;
           on = on;
-          comes = next;
+          letter = k;
+          takes = record { next = next; taken_is = refl; spare = spare };
           why = why;
           row = row;
-          taken = refl;
           room = room;
           given = refl;
           after =
@@ -169,12 +169,13 @@ module _ (e : End) (moment : ℕ) (ev : Event) (letters : List Letter) (calls : 
   -- there is room for that too
   pub rejects_ok : (r : Reason) → Stands e moment ev r.cause → (on : TunnelEvent) (remote : ℕ) (t : Turn) → t.changed ≡ []
       → is_closed t.control.state ≡ false → row_of rows t.control.state on ≡ (state.Closed, action.SendStopCcn) → state_number t.control.state ≡ 1
-      → ComesNext ev t.control → LetterCloses e.config.secret t.control ev on remote r.result r.error
+      → (k : Came) → IsNext ev (tunnel t) k → may_take t.control (with_calls t.changed calls) ≡ true
+      → LetterCloses e.config.secret t.control k on remote r.result r.error
       → TurnOk e moment ev letters calls i t → TurnOk e moment ev letters calls i (rejects r calls remote state.Closed t)
   unfolding rejects
-  rejects_ok r so on remote t none live row waits next why h =
+  rejects_ok r so on remote t none live row waits k next spare why h =
       branch (TurnOk e moment ev letters calls i) (has_room t.control) _ _
-      (λ room. rejected_ok r so on remote t none row waits next why room h)
+      (λ room. rejected_ok r so on remote t none row waits k next spare why room h)
       (λ full. absurd (is_roomy e moment ev letters calls i t live h full))
 
   -- there is room for that, as long as it isn't closed
@@ -189,11 +190,11 @@ module _ (e : End) (moment : ℕ) (ev : Event) (letters : List Letter) (calls : 
 
   -- ---- the peer's StopCCN is taken
 
-  pub heard_shut_ok : (t : Turn) → t.changed ≡ [] → is_closed t.control.state ≡ false → (next : ComesNext ev t.control)
-      → SaysStop (body_of next.header next.bytes) → TurnOk e moment ev letters calls i t
+  pub heard_shut_ok : (t : Turn) → t.changed ≡ [] → is_closed t.control.state ≡ false → (k : Came) → IsNext ev (tunnel t) k
+      → may_take t.control (with_calls t.changed calls) ≡ true → SaysStop k.body → TurnOk e moment ev letters calls i t
       → TurnOk e moment ev letters calls i (closed_by calls state.Closed t)
   unfolding closed_by shuts takes_one with_move with_calls
-  heard_shut_ok t none live next says h =
+  heard_shut_ok t none live k next spare says h =
       let m = move.ClosedBy (record { tunnel = t.control.local; taken = taken_place t.control }) in
       let u : Turn = record t { control = shut t.control.remote state.Closed t.moment (counts_taken t.control); took = true } in
       rw (all_ended_is (ids_of calls) u) (record {
@@ -201,9 +202,9 @@ module _ (e : End) (moment : ℕ) (ev : Event) (letters : List Letter) (calls : 
           tunnel = tunnel t;
           there = there e moment ev letters calls i t;
           live = live;
-          comes = next;
+          letter = k;
+          takes = record { next = next; taken_is = refl; spare = spare };
           says = says;
-          taken = refl;
           after =
               let looked = with_looks-append t.changes (map cell.Kill (ids_of calls)) (placed t.control.local t.added e.calls) in
               rw (h.stays.4, none, none_left calls, looked, put-put e.tunnels t.control.local _ _) refl;

@@ -18,21 +18,21 @@ use Rattle.tunnel_fsm.specs.Rows.{rows, row_of, state_number}
 use Rattle.protocol_model.specs.declared.tunnel.Call.{Call}
 use Rattle.protocol_model.specs.declared.tunnel.Control.{Control}
 use Rattle.protocol_model.specs.declared.event.Event.{Event}
-use Rattle.protocol_model.specs.Reading.{body_of, message_in, CallFault, call_fault_in, TunnelFault, tunnel_fault_in}
+use Rattle.protocol_model.specs.Reading.{message_in, CallFault, call_fault_in, TunnelFault, tunnel_fault_in}
 use Rattle.protocol_model.specs.Turn.{Tunnel, Turn, Reason, is_closed, is_acceptable, event_by, opening_reason, out_of_order, fault_reason, with_output, with_move, gives, shuts, has_room, tunnel_after, closed_told, takes_plain, closes_tunnel, takes_by, takes, hears_faulty}
 use Rattle.protocol_model.specs.End.{End}
 use Rattle.protocol_model.specs.Secrets.{is_wrong}
 use Rattle.protocol_model.specs.Reasons.{no_secret}
 use Rattle.step_laws.specs.Causes.{IsClosedOn, InSccrq, InSccrp, AnSccrq, AnSccrp, AnScccn, AsksInVain, AnswersWrongly, Stands}
 use Rattle.step_laws.proofs.Secrets.{right_of, wrong_of, right_if_unasked}
-use Rattle.step_laws.specs.Moves.{LetterCloses, ByLetter, HearsNext, ComesNext, IsPlain, InTunnel, SaysStop, BySccrq, BySccrp, ByScccn, ByFault, WronglyConnected, ComesUnawaited}
+use Rattle.step_laws.specs.Moves.{Came, IsNext, LetterCloses, ByLetter, HearsNext, IsPlain, SaysStop, BySccrq, BySccrp, ByScccn, ByFault, WronglyConnected, ComesUnawaited}
 use Rattle.step_laws.proofs.Faults.{IsEventOfFault, of_tunnel, closing_stands}
 use Rattle.step_laws.proofs.Turns.{TurnOk, PlainAt, at_turn, is_roomy, plain_ok}
 use Rattle.step_laws.proofs.Lists.{branch}
 use Rattle.step_laws.proofs.Settling.{Settled, unsent}
 use Rattle.step_laws.proofs.Known.{sccrq_opens_none, sccrp_opens_none}
 use Rattle.step_laws.proofs.Openings.{closes_in, opening_stands}
-use Rattle.step_laws.proofs.Comes.{Taking, next_of_heard, heard_in, for_still, begun}
+use Rattle.step_laws.proofs.Comes.{Taking, now, begun, next_still, next_first, hears_first, spare_first}
 use Rattle.step_laws.proofs.Shutting.{all_ended_is, rejects_ok, Why, told_ok, heard_shut_ok}
 use Rattle.step_laws.proofs.Faulty.{unknown_ok, in_faulty_call_ok}
 
@@ -137,9 +137,9 @@ pub closed_plain : (x : End) (u : Tunnel) (session : ℕ) (m : Message) → is_c
 closed_plain x u session m closed = by (eqb-true (state_number u.control.state) 4 closed) m
   where
     by : state_number u.control.state ≡ 4 → (m : Message) → IsPlain x u session m
-    by four (Sccrq o) = tt
-    by four (Sccrp o) = λ n. omega (arith, four, n)
-    by four (Scccn response) = λ n. omega (arith, four, n)
+    by four (Sccrq o) = closed
+    by four (Sccrp o) = closed
+    by four (Scccn response) = closed
     by four (StopCcn tunnel code error) = closed
     by four Hello = tt
     by four (Ocrq remote) = λ n. omega (arith, four, n)
@@ -169,74 +169,65 @@ module _ (e : End) (moment : ℕ) (ev : Event) (letters : List Letter) (calls : 
   shut_on : (t : Turn) (f : Takes t) (on : TunnelEvent) → row_of rows t.control.state on ≡ shut_row → IsClosedOn e (begun_at t f) on
   shut_on t f on row = record { id = i; there = f.fresh.there; row = ap (λ s. row_of rows s on) f.fresh.state ∙ row }
 
-  came_in : (t : Turn) (f : Takes t) (session : ℕ) (m : Message) → HearsNext ev t.control session m → InTunnel ev (begun_at t f).control session m
-  came_in t f session m hears = heard_in ev t.control f.fresh.first session m f.fresh.local f.fresh.remote f.fresh.peer hears
+  abbrev pub now_at : Turn → Tunnel
+  now_at t = now e moment ev letters calls i t
+
+  came_in : (t : Turn) (f : Takes t) (session : ℕ) (m : Message) → HearsNext ev (now_at t) session m → HearsNext ev (begun_at t f) session m
+  came_in t f session m hears = hears_first e moment ev letters calls i t f.fresh session m hears
 
   -- ---- the tunnel is closed, and then the letter is taken, as a closed tunnel takes each
 
   abbrev told : Reason → Turn → Turn
   told r t = closed_told r calls t.control.remote state.Closed t
 
-  comes_still : (r : Reason) (t : Turn) → ComesNext ev t.control → ComesNext ev (told r t).control
+  comes_still : (r : Reason) (t : Turn) (k : Came) → IsNext ev (now_at t) k → IsNext ev (now_at (told r t)) k
   unfolding closed_told shuts gives with_output with_move
-  comes_still r t next =
-      rw (all_ended_is (ids_of calls) _) (record {
-        bytes = next.bytes;
-        is = next.is;
-        header = next.header;
-        read = next.read;
-        control = next.control;
-        some = next.some;
-        tunnel = for_still next.header next.bytes t.control _ refl refl next.tunnel;
-        next = next.next;
-      })
+  comes_still r t k next =
+      rw (all_ended_is (ids_of calls) _) (next_still ev k (now_at t) _ refl refl refl refl next)
 
   told_closed : (r : Reason) (t : Turn) → is_closed (told r t).control.state ≡ true
   unfolding closed_told shuts gives with_output with_move
   told_closed r t = rw (all_ended_is (ids_of calls) _) refl
 
-  shut_plain : (r : Reason) (t : Turn) → ComesNext ev t.control → PlainAt e moment ev letters calls i (told r t)
-  shut_plain r t next =
-      let came = comes_still r t next in
-      record {
-        comes = came;
-        why = λ m reads. closed_plain (at_turn e moment ev letters calls i (told r t)) (tunnel_after (told r t) letters calls) came.header.session m
-            (told_closed r t);
-      }
+  shut_plain : (r : Reason) (t : Turn) (k : Came) → IsNext ev (now_at t) k → PlainAt e moment ev letters calls i (told r t)
+  shut_plain r t k next = record {
+    letter = k;
+    next = comes_still r t k next;
+    why = λ m reads. closed_plain (at_turn e moment ev letters calls i (told r t)) (tunnel_after (told r t) letters calls) k.header.session m (told_closed r t);
+    spare = λ live. absurd (true≢false (sym (told_closed r t) ∙ live));
+  }
 
-  taken_shut_ok : (r : Reason) → Stands e moment ev r.cause → (on : TunnelEvent) (t : Turn) → Takes t → ComesNext ev t.control
+  taken_shut_ok : (r : Reason) → Stands e moment ev r.cause → (on : TunnelEvent) (t : Turn) → Takes t → (k : Came) → IsNext ev (now_at t) k
       → row_of rows t.control.state on ≡ shut_row → Why e moment ev letters calls i t on r t.control.remote
       → TurnOk e moment ev letters calls i (takes_plain (closes_tunnel r calls t.control.remote state.Closed t))
   unfolding closes_tunnel
-  taken_shut_ok r so on t f next row why =
+  taken_shut_ok r so on t f k next row why =
       branch (λ (u : Turn). TurnOk e moment ev letters calls i (takes_plain u)) (has_room t.control) _ _
-      (λ room. plain_ok e moment ev letters calls i (told r t) (shut_plain r t next)
+      (λ room. plain_ok e moment ev letters calls i (told r t) (shut_plain r t k next)
       (told_ok e moment ev letters calls i r so on t.control.remote t f.fresh.changed row why room f.fresh.good))
       (λ full. absurd (is_roomy e moment ev letters calls i t f.live f.fresh.good full))
 
-  -- why a letter closes it, of a tunnel with the same ids that asked the same
-  abbrev WhyLetter : Turn → TunnelEvent → Reason → ℕ → Type 0
-  WhyLetter t on r told =
-      (c : Control) → c.local ≡ t.control.local → c.remote ≡ t.control.remote → c.peer ≡ t.control.peer → c.challenge ≡ t.control.challenge
-      → LetterCloses e.config.secret c ev on told r.result r.error
+  -- why a letter closes it
+  abbrev WhyLetter : Turn → Came → TunnelEvent → Reason → ℕ → Type 0
+  WhyLetter t k on r told = LetterCloses e.config.secret t.control k on told r.result r.error
 
   -- where it waits for its SCCRP the id that is told is learned; else the tunnel is closed, and then the letter is taken
   shuts_ok : (r : Reason) → Stands e moment ev r.cause → (on : TunnelEvent) (asked : Option (List ℕ)) (remote window : ℕ) (t : Turn) → Takes t
-      → ComesNext ev t.control
-      → row_of rows t.control.state on ≡ shut_row → WhyLetter t on r remote
+      → (k : Came) → IsNext ev (now_at t) k
+      → row_of rows t.control.state on ≡ shut_row → WhyLetter t k on r remote
       → Good (takes_by e.role e.config calls r asked remote window (row_of rows t.control.state on) t)
   unfolding takes_by
-  shuts_ok r so on asked remote window t f next row why =
+  shuts_ok r so on asked remote window t f k next row why =
       subst (λ (x : TunnelState × TunnelAction). Good (takes_by e.role e.config calls r asked remote window x t)) (sym row)
       (branch Good (state_number t.control.state == 1) _ _
       (λ one. unsent e moment ev letters calls i _
-      (rejects_ok e moment ev letters calls i r so on remote t f.fresh.changed f.live row (eqb-true (state_number t.control.state) 1 one) next
-      (why t.control refl refl refl refl) f.fresh.good))
+      (rejects_ok e moment ev letters calls i r so on remote t f.fresh.changed f.live row (eqb-true (state_number t.control.state) 1 one) k next
+      (spare_first e moment ev letters calls i t f) why f.fresh.good))
       (λ two.
       let other = eqb-false (state_number t.control.state) 1 two in
       unsent e moment ev letters calls i _
-      (taken_shut_ok r so on t f next row
-      (λ m to known result error. ByLetter remote (rw (result, error) (why t.control refl refl refl refl)) other known))))
+      (taken_shut_ok r so on t f k next row
+      (λ m to known result error. ByLetter remote k next (spare_first e moment ev letters calls i t f) (rw (result, error) why) other known))))
 
   -- ---- messages that the table has no good use for
 
@@ -247,7 +238,7 @@ module _ (e : End) (moment : ℕ) (ev : Event) (letters : List Letter) (calls : 
     some_at : (begun_at t f).control.local ≡ 0 → ⊥
     some_at zero = f.fresh.some (sym none_of ∙ sym f.fresh.local ∙ zero)
 
-    sccrq_stands : HearsNext ev t.control session (Sccrq o)
+    sccrq_stands : HearsNext ev (now_at t) session (Sccrq o)
         → IsClosedOn e (begun_at t f) (event_by event.SccrqAcc event.SccrqNotAcc e.config.secret None o)
         → Stands e moment ev (opening_reason e.config.secret None o).cause
     sccrq_stands hears =
@@ -258,18 +249,16 @@ module _ (e : End) (moment : ℕ) (ev : Event) (letters : List Letter) (calls : 
         (λ failed. ⊎_elim (λ lacks. AsksInVain lacks) (λ wrong. absurd (wrong (right_if_unasked 2 e.config.secret o.response))) failed)
         (λ would. absurd (sccrq_opens_none e ev i (begun_at t f) f.fresh.there some_at session o came would))
 
-    pub sccrq_ok : HearsNext ev t.control session (Sccrq o)
+    pub sccrq_ok : HearsNext ev (now_at t) session (Sccrq o)
         → Good (takes_by e.role e.config calls (opening_reason e.config.secret None o) None 0 o.window
         (row_of rows t.control.state (event_by event.SccrqAcc event.SccrqNotAcc e.config.secret None o)) t)
     sccrq_ok hears =
         let on = event_by event.SccrqAcc event.SccrqNotAcc e.config.secret None o in
         let row = row_sccrq e.config.secret t.control.state o (busy t f) f.live in
         shuts_ok (opening_reason e.config.secret None o) (sccrq_stands hears (shut_on t f on row)) on None 0 o.window t f
-        (next_of_heard ev t.control session (Sccrq o) hears) row
-        (λ c local remote peer challenge. BySccrq session o (heard_in ev t.control c session (Sccrq o) local remote peer hears) refl refl
-        (closes_in e.config.secret None o _ _ refl refl))
+        hears.letter hears.next row (BySccrq o hears.says.said refl refl (closes_in e.config.secret None o _ _ refl refl))
 
-    sccrp_stands : HearsNext ev t.control session (Sccrp o)
+    sccrp_stands : HearsNext ev (now_at t) session (Sccrp o)
         → IsClosedOn e (begun_at t f) (event_by event.SccrpAcc event.SccrpNotAcc e.config.secret t.control.challenge o)
         → Stands e moment ev (opening_reason e.config.secret t.control.challenge o).cause
     sccrp_stands hears =
@@ -282,21 +271,19 @@ module _ (e : End) (moment : ℕ) (ev : Event) (letters : List Letter) (calls : 
 
     -- one that is acceptable closes no tunnel that waits for it
     pub sccrp_shut_ok : (state_number t.control.state ≡ 1 → is_acceptable e.config.secret t.control.challenge o ≡ false)
-        → HearsNext ev t.control session (Sccrp o)
+        → HearsNext ev (now_at t) session (Sccrp o)
         → Good (takes_by e.role e.config calls (opening_reason e.config.secret t.control.challenge o) o.challenge o.tunnel o.window
         (row_of rows t.control.state (event_by event.SccrpAcc event.SccrpNotAcc e.config.secret t.control.challenge o)) t)
     sccrp_shut_ok plain hears =
         let on = event_by event.SccrpAcc event.SccrpNotAcc e.config.secret t.control.challenge o in
         let row = row_sccrp e.config.secret t.control.challenge t.control.state o (busy t f) f.live plain in
         shuts_ok (opening_reason e.config.secret t.control.challenge o) (sccrp_stands hears (shut_on t f on row)) on o.challenge o.tunnel o.window t f
-        (next_of_heard ev t.control session (Sccrp o) hears) row
-        (λ c local remote peer challenge. BySccrp session o (heard_in ev t.control c session (Sccrp o) local remote peer hears) (rw challenge refl) refl
-        (rw challenge (closes_in e.config.secret t.control.challenge o _ _ refl refl)))
+        hears.letter hears.next row (BySccrp o hears.says.said refl refl (closes_in e.config.secret t.control.challenge o _ _ refl refl))
 
   module _ (session : ℕ) (response : Option (List ℕ)) (t : Turn) (f : Takes t) where
     -- one that answers rightly closes a tunnel that doesn't wait for it
     pub scccn_shut_ok : (state_number t.control.state ≡ 2 → ⊥) → is_wrong 3 e.config.secret t.control.challenge response ≡ false
-        → HearsNext ev t.control session (Scccn response)
+        → HearsNext ev (now_at t) session (Scccn response)
         → Good (takes_by e.role e.config calls out_of_order None 0 0 (row_of rows t.control.state event.ScccnAcc) t)
     scccn_shut_ok other is hears =
         let right = right_of 3 e.config.secret t.control.challenge response is in
@@ -304,12 +291,10 @@ module _ (e : End) (moment : ℕ) (ev : Event) (letters : List Letter) (calls : 
         let so = inr (inl (AnScccn (begun_at t f) session response (came_in t f session (Scccn response) hears) (rw f.fresh.challenge right)
         (shut_on t f event.ScccnAcc row))) in
         shuts_ok out_of_order so event.ScccnAcc None 0 0 t f
-        (next_of_heard ev t.control session (Scccn response) hears) row
-        (λ c local remote peer challenge. ByScccn session response (heard_in ev t.control c session (Scccn response) local remote peer hears) refl
-        (rw challenge (ComesUnawaited right refl refl refl)))
+        hears.letter hears.next row (ByScccn response hears.says.said refl (ComesUnawaited right refl refl refl))
 
     -- one that doesn't closes each tunnel
-    pub scccn_wrong_ok : is_wrong 3 e.config.secret t.control.challenge response ≡ true → HearsNext ev t.control session (Scccn response)
+    pub scccn_wrong_ok : is_wrong 3 e.config.secret t.control.challenge response ≡ true → HearsNext ev (now_at t) session (Scccn response)
         → Good (takes_by e.role e.config calls no_secret None 0 0 (row_of rows t.control.state event.ScccnNotAcc) t)
     scccn_wrong_ok is hears =
         let wrong = wrong_of 3 e.config.secret t.control.challenge response is in
@@ -323,42 +308,33 @@ module _ (e : End) (moment : ℕ) (ev : Event) (letters : List Letter) (calls : 
           closed = shut_on t f event.ScccnNotAcc row;
         }) in
         shuts_ok no_secret so event.ScccnNotAcc None 0 0 t f
-        (next_of_heard ev t.control session (Scccn response) hears) row
-        (λ c local remote peer challenge. ByScccn session response (heard_in ev t.control c session (Scccn response) local remote peer hears) refl
-        (rw challenge (WronglyConnected wrong refl refl refl)))
+        hears.letter hears.next row (ByScccn response hears.says.said refl (WronglyConnected wrong refl refl refl))
 
   -- ---- StopCCNs
 
-  says_stop_ok : (r : Reason) (remote : ℕ) (t : Turn) → Takes t → (next : ComesNext ev t.control) → SaysStop (body_of next.header next.bytes)
+  says_stop_ok : (r : Reason) (remote : ℕ) (t : Turn) → Takes t → (k : Came) → IsNext ev (now_at t) k → SaysStop k.body
       → Good (takes_by e.role e.config calls r None remote 0 (row_of rows t.control.state event.StopCcnCame) t)
   unfolding takes_by
-  says_stop_ok r remote t f next says =
+  says_stop_ok r remote t f k next says =
       subst (λ (x : TunnelState × TunnelAction). Good (takes_by e.role e.config calls r None remote 0 x t)) (sym (row_stop t.control.state))
-      (unsent e moment ev letters calls i _ (heard_shut_ok e moment ev letters calls i t f.fresh.changed f.live next says f.fresh.good))
+      (unsent e moment ev letters calls i _ (heard_shut_ok e moment ev letters calls i t f.fresh.changed f.live k next (spare_first e moment ev letters calls i t f) says f.fresh.good))
 
-  pub stop_ok : (session id code : ℕ) (error : Option ℕ) (t : Turn) → Takes t → HearsNext ev t.control session (StopCcn id code error)
+  pub stop_ok : (session id code : ℕ) (error : Option ℕ) (t : Turn) → Takes t → HearsNext ev (now_at t) session (StopCcn id code error)
       → Good (takes_by e.role e.config calls out_of_order None 0 0 (row_of rows t.control.state event.StopCcnCame) t)
   stop_ok session id code error t f hears =
-      says_stop_ok out_of_order 0 t f (next_of_heard ev t.control session (StopCcn id code error) hears) (inl (id, code, error, hears.hears.said))
+      says_stop_ok out_of_order 0 t f hears.letter hears.next (inl (id, code, error, hears.says.said))
 
   -- ---- messages that have a fault
 
-  module _ (t : Turn) (f : Takes t) (next : ComesNext ev t.control) (w : WhyOf) (unread : message_in (body_of next.header next.bytes) ≡ Err w) where
-    module _ (g : TunnelFault) (has : tunnel_fault_in (body_of next.header next.bytes) ≡ Some g) where
+  module _ (t : Turn) (f : Takes t) (k : Came) (next : IsNext ev (now_at t) k) (w : WhyOf) (unread : message_in k.body ≡ Err w) where
+    module _ (g : TunnelFault) (has : tunnel_fault_in k.body ≡ Some g) where
       fault_stands : row_of rows t.control.state g.event ≡ shut_row → Stands e moment ev g.cause
-      fault_stands row = closing_stands e moment ev g (of_tunnel (body_of next.header next.bytes) g has) (record {
+      fault_stands row = closing_stands e moment ev g (of_tunnel k.body g has) (record {
         tunnel = begun_at t f;
         fault = g;
-        came = record {
-          bytes = next.bytes;
-          is = rw f.fresh.peer next.is;
-          header = next.header;
-          read = next.read;
-          control = next.control;
-          some = next.some;
-          tunnel = for_still next.header next.bytes t.control f.fresh.first f.fresh.local f.fresh.remote next.tunnel;
-          fault = has;
-        };
+        letter = k;
+        next = next_first e moment ev letters calls i t f.fresh k next;
+        has = has;
         closed = shut_on t f g.event row;
         is = refl;
       })
@@ -366,24 +342,14 @@ module _ (e : End) (moment : ℕ) (ev : Event) (letters : List Letter) (calls : 
       fault_shuts_ok : row_of rows t.control.state g.event ≡ shut_row
           → Good (takes_by e.role e.config calls (fault_reason g.cause) None g.remote 0 (row_of rows t.control.state g.event) t)
       fault_shuts_ok row =
-          shuts_ok (fault_reason g.cause) (fault_stands row) g.event None g.remote 0 t f next row
-          (λ c local remote peer challenge. ByFault g (record {
-            bytes = next.bytes;
-            is = rw peer next.is;
-            header = next.header;
-            read = next.read;
-            control = next.control;
-            some = next.some;
-            tunnel = for_still next.header next.bytes t.control c local remote next.tunnel;
-            fault = has;
-          }) refl refl refl refl)
+          shuts_ok (fault_reason g.cause) (fault_stands row) g.event None g.remote 0 t f k next row (ByFault g has refl refl refl refl)
 
       -- by the event that it is to the table
       fault_ok : (on : TunnelEvent) → g.event ≡ on → IsEventOfFault on
           → Good (takes_by e.role e.config calls (fault_reason g.cause) None g.remote 0 (row_of rows t.control.state g.event) t)
       fault_ok event.StopCcnCame is so =
           subst (λ x. Good (takes_by e.role e.config calls (fault_reason g.cause) None g.remote 0 (row_of rows t.control.state x) t)) (sym is)
-          (says_stop_ok (fault_reason g.cause) g.remote t f next (inr (g, has, is)))
+          (says_stop_ok (fault_reason g.cause) g.remote t f k next (inr (g, has, is)))
       fault_ok event.SccrqNotAcc is so = fault_shuts_ok (rw is (row_shut t.control.state event.SccrqNotAcc (busy t f) f.live tt))
       fault_ok event.SccrpNotAcc is so = fault_shuts_ok (rw is (row_shut t.control.state event.SccrpNotAcc (busy t f) f.live tt))
       fault_ok event.ScccnNotAcc is so = fault_shuts_ok (rw is (row_shut t.control.state event.ScccnNotAcc (busy t f) f.live tt))
@@ -393,10 +359,10 @@ module _ (e : End) (moment : ℕ) (ev : Event) (letters : List Letter) (calls : 
       fault_ok event.SccrpAcc is so = absurd so
       fault_ok event.ScccnAcc is so = absurd so
 
-    pub faulty_heard_ok : (o : Option CallFault) → call_fault_in (body_of next.header next.bytes) ≡ o
-        → (q : Option TunnelFault) → tunnel_fault_in (body_of next.header next.bytes) ≡ q
-        → Good (hears_faulty e.role e.config calls next.header.session o q w t)
+    pub faulty_heard_ok : (o : Option CallFault) → call_fault_in k.body ≡ o
+        → (q : Option TunnelFault) → tunnel_fault_in k.body ≡ q
+        → Good (hears_faulty e.role e.config calls k.header.session o q w t)
     unfolding hears_faulty takes
-    faulty_heard_ok (Some k) has q is = in_faulty_call_ok e moment ev letters calls i t f next w unread k has
-    faulty_heard_ok None has (Some g) is = fault_ok g is g.event refl (of_tunnel (body_of next.header next.bytes) g is).event
-    faulty_heard_ok None has None is = unknown_ok e moment ev letters calls i t f next w unread
+    faulty_heard_ok (Some c) has q is = in_faulty_call_ok e moment ev letters calls i t f k next w unread c has
+    faulty_heard_ok None has (Some g) is = fault_ok g is g.event refl (of_tunnel k.body g is).event
+    faulty_heard_ok None has None is = unknown_ok e moment ev letters calls i t f k next w unread

@@ -34,7 +34,7 @@ use Rattle.protocol_model.specs.declared.out.Out.{Out}
 use Rattle.protocol_model.specs.declared.out.Out.TheVariants.{Send, Up, Gone, Drop, Cause}
 use Rattle.protocol_model.specs.declared.moves.Move.{Move}
 use Rattle.protocol_model.specs.declared.moves.Move.TheVariants as move
-use Rattle.protocol_model.specs.Reading.{body_of, message_in, call_fault_in}
+use Rattle.protocol_model.specs.Reading.{message_in, call_fault_in}
 use Rattle.protocol_model.specs.Calls.{call_row, advanced, rung, asked_for, is_request, is_reply, is_connection, is_up, are_too_many}
 use Rattle.protocol_model.specs.Secrets.{response_by}
 use Rattle.step_laws.proofs.Secrets.{acceptable_proven, responds_so, hides_number}
@@ -42,7 +42,7 @@ use Rattle.protocol_model.specs.Turn.{is_acceptable, Tunnel, Turn, Reason, is_cl
 use Rattle.protocol_model.specs.End.{End, placed, with_looks}
 use Rattle.step_laws.specs.Causes.{Stands}
 use Rattle.step_laws.specs.Links.{begun_link}
-use Rattle.step_laws.specs.Moves.{IsRight, Chain, ComesNext, HearsNext, IsPlain, TellsNr, WhyRefused}
+use Rattle.step_laws.specs.Moves.{IsRight, Chain, Came, IsNext, HearsNext, IsPlain, TellsNr, WhyRefused}
 use Rattle.step_laws.proofs.Granting.{grants_is}
 use Rattle.step_laws.proofs.States.{rung_asks}
 use Rattle.step_laws.proofs.Lists.{all_push, branch, with_calls-more, with_looks-more, placed-more, chain_more}
@@ -133,8 +133,10 @@ next_after s some = by (draws s)
 
 -- what comes next is taken plainly: by its tables the end does nothing on it in the tunnel
 pub record ComesPlain (ev : Event) (x : End) (u : Tunnel) : Type 0 where
-  pub comes : ComesNext ev u.control
-  pub why : (m : Message) → message_in (body_of comes.header comes.bytes) ≡ Ok m → IsPlain x u comes.header.session m
+  pub letter : Came
+  pub next : IsNext ev u letter
+  pub why : (m : Message) → message_in letter.body ≡ Ok m → IsPlain x u letter.header.session m
+  pub spare : is_closed u.control.state ≡ false → may_take u.control u.calls ≡ true
 
 -- what a request that is granted needs
 pub record IsGranted (r : Role) (cs : List (ℕ × Call)) (sessions : Space) (s : ℕ) : Type 0 where
@@ -407,7 +409,7 @@ module _ (e : End) (moment : ℕ) (ev : Event) (letters : List Letter) (calls : 
       (λ no. absurd (true≢false (sym (rung_asks e.role who t.moment lac) ∙ no)))
 
   pub replied_ok : (remote s session serial : ℕ) (calling : Option (List ℕ)) (t : Turn) → t.changes ≡ [] → state_number t.control.state ≡ 3
-      → HearsNext ev t.control session (Icrq remote serial calling) → at (with_calls t.changed calls) session ≡ None
+      → HearsNext ev (tunnel_after t letters calls) session (Icrq remote serial calling) → at (with_calls t.changed calls) session ≡ None
       → granted e.role (with_calls t.changed calls) remote t.sessions ≡ Ok s → IsGranted e.role (with_calls t.changed calls) t.sessions s
       → may_take t.control (with_calls t.changed calls) ≡ true → has_room t.control ≡ true → TurnOk t → TurnOk (replied e.role remote s t)
   unfolding replied gives with_output with_move with_new takes_one with_looks
@@ -428,14 +430,14 @@ module _ (e : End) (moment : ℕ) (ev : Event) (letters : List Letter) (calls : 
           peer = refl;
           serial = serial;
           calling = calling;
-          hears = (session, hears);
-          none = unnamed;
+          letter = hears.letter;
+          takes = record { next = hears.next; taken_is = refl; spare = spare };
+          said = hears.says.said;
+          none = ap (at (with_calls t.changed calls)) hears.says.session_is ∙ unnamed;
           granted = grants_is (at_turn t) (tunnel_after t letters calls) remote s is;
           row = so.row;
           few = so.few;
           drawn = so.drawn;
-          taken = refl;
-          spare = spare;
           room = room;
           given = refl;
           after =
@@ -456,10 +458,11 @@ module _ (e : End) (moment : ℕ) (ev : Event) (letters : List Letter) (calls : 
       }
 
   pub first_up_ok : (s remote : ℕ) (c : Call) (t : Turn) → state_number t.control.state ≡ 3 → at (with_calls t.changed calls) s ≡ Some c
-      → HearsNext ev t.control s (Icrp remote) → is_connection (call_row e.role c.state call_event.IcrpAcc).1 ≡ true → has_room t.control ≡ true → TurnOk t
+      → HearsNext ev (tunnel_after t letters calls) s (Icrp remote) → is_connection (call_row e.role c.state call_event.IcrpAcc).1 ≡ true
+      → may_take t.control (with_calls t.changed calls) ≡ true → has_room t.control ≡ true → TurnOk t
       → TurnOk (first_up e.role s remote c t)
   unfolding first_up gives with_output with_change with_move with_call takes_one advanced
-  first_up_ok s remote c t is_open found hears row room h =
+  first_up_ok s remote c t is_open found hears row spare room h =
       let m = move.FirstUp (record {
         tunnel = t.control.local;
         session = s;
@@ -474,9 +477,10 @@ module _ (e : End) (moment : ℕ) (ev : Event) (letters : List Letter) (calls : 
           open_is = is_open;
           call = c;
           asked = found;
-          hears = hears;
+          letter = hears.letter;
+          takes = record { next = hears.next; taken_is = refl; spare = spare };
+          says = hears.says;
           row = row;
-          taken = refl;
           room = room;
           given = refl;
           after =
@@ -503,7 +507,7 @@ module _ (e : End) (moment : ℕ) (ev : Event) (letters : List Letter) (calls : 
   connected_call magic c t = with_link (begun_link magic) (advanced e.role call_event.IccnAcc t.moment c)
 
   pub second_up_ok : (s speed framing magic : ℕ) (sequenced : Bool) (c : Call) (t : Turn) → state_number t.control.state ≡ 3
-      → at (with_calls t.changed calls) s ≡ Some c → HearsNext ev t.control s (Iccn speed framing sequenced)
+      → at (with_calls t.changed calls) s ≡ Some c → HearsNext ev (tunnel_after t letters calls) s (Iccn speed framing sequenced)
       → is_up (call_row e.role c.state call_event.IccnAcc).0 ≡ true → may_take t.control (with_calls t.changed calls) ≡ true → TurnOk t
       → TurnOk (second_up s (connected_call magic c t) t)
   unfolding second_up with_change with_move with_call takes_one advanced
@@ -521,9 +525,10 @@ module _ (e : End) (moment : ℕ) (ev : Event) (letters : List Letter) (calls : 
           speed = speed;
           framing = framing;
           sequenced = sequenced;
-          hears = hears;
+          letter = hears.letter;
+          takes = record { next = hears.next; taken_is = refl; spare = spare };
+          says = hears.says;
           row = row;
-          taken = refl;
           magic = magic;
           after =
               let changed = with_calls-more t.changed s (Some (connected_call magic c t)) calls in
@@ -541,12 +546,14 @@ module _ (e : End) (moment : ℕ) (ev : Event) (letters : List Letter) (calls : 
       }
 
   pub end_heard_ok : (s session remote code : ℕ) (error : Option ℕ) (c : Call) (t : Turn) → state_number t.control.state ≡ 3
-      → at (with_calls t.changed calls) s ≡ Some c → HearsNext ev t.control session (Cdn remote code error)
-      → s ≡ session_named (with_calls t.changed calls) session remote → is_clean_up (call_row e.role c.state call_event.CdnCame).1 ≡ true → TurnOk t
-      → TurnOk (end_heard s t)
+      → at (with_calls t.changed calls) s ≡ Some c → HearsNext ev (tunnel_after t letters calls) session (Cdn remote code error)
+      → s ≡ session_named (with_calls t.changed calls) session remote → is_clean_up (call_row e.role c.state call_event.CdnCame).1 ≡ true
+      → may_take t.control (with_calls t.changed calls) ≡ true → TurnOk t → TurnOk (end_heard s t)
   unfolding end_heard ends_call with_output with_change with_move takes_one
-  end_heard_ok s session remote code error c t is_open found hears named row h =
+  end_heard_ok s session remote code error c t is_open found hears named row spare h =
       let m = move.EndHeard (record { tunnel = t.control.local; session = s; taken = taken_place t.control }) in
+      let named_here : s ≡ session_named (with_calls t.changed calls) hears.letter.header.session remote =
+      named ∙ ap (λ q. session_named (with_calls t.changed calls) q remote) (sym hears.says.session_is) in
       record {
         chain = chain_more moment ev e (at_turn t) _ t.moves m h.chain (record {
           tunnel = tunnel_after t letters calls;
@@ -557,10 +564,12 @@ module _ (e : End) (moment : ℕ) (ev : Event) (letters : List Letter) (calls : 
           remote = remote;
           code = code;
           error = error;
-          hears = (session, hears, named);
-          named = named_so (with_calls t.changed calls) session remote s c named found;
+          letter = hears.letter;
+          takes = record { next = hears.next; taken_is = refl; spare = spare };
+          said = hears.says.said;
+          session_is = named_here;
+          named = named_so (with_calls t.changed calls) hears.letter.header.session remote s c named_here found;
           row = row;
-          taken = refl;
           after =
               let changed = with_calls-more t.changed s None calls in
               let looked = with_looks-more t.changes (cell.Kill s) (placed t.control.local t.added e.calls) in
@@ -576,7 +585,7 @@ module _ (e : End) (moment : ℕ) (ev : Event) (letters : List Letter) (calls : 
 
   -- ---- moves of the tunnel
 
-  pub connected_ok : (remote window session : ℕ) (o : Opening) (t : Turn) → t.control.state ≡ WaitCtlReply → HearsNext ev t.control session (Sccrp o)
+  pub connected_ok : (remote window session : ℕ) (o : Opening) (t : Turn) → t.control.state ≡ WaitCtlReply → HearsNext ev (tunnel_after t letters calls) session (Sccrp o)
       → is_acceptable e.config.secret t.control.challenge o ≡ true
       → remote ≡ o.tunnel → window ≡ o.window → may_take t.control (with_calls t.changed calls) ≡ true → has_room t.control ≡ true → TurnOk t
       → TurnOk (connected e.config o.challenge remote window Established t)
@@ -600,14 +609,14 @@ module _ (e : End) (moment : ℕ) (ev : Event) (letters : List Letter) (calls : 
           there = there t;
           state = state;
           opening = o;
-          hears = (session, hears);
+          letter = hears.letter;
+          takes = record { next = hears.next; taken_is = refl; spare = spare };
+          said = hears.says.said;
           remote = is;
           window = is_window;
           right = proven.right;
           able = proven.able;
           responds = responds_so 3 e.config.secret o.challenge;
-          taken = refl;
-          spare = spare;
           room = room;
           given = refl;
           after = rw (learnt_local window c, one_given t l, put-put e.tunnels t.control.local (tunnel_after t letters calls) _) refl;
@@ -627,7 +636,7 @@ module _ (e : End) (moment : ℕ) (ev : Event) (letters : List Letter) (calls : 
       }
 
   pub confirms_ok : (session : ℕ) (response : Option (List ℕ)) (t : Turn) → t.control.state ≡ WaitCtlConn
-      → HearsNext ev t.control session (Scccn response) → IsRight 3 e.config.secret t.control.challenge response
+      → HearsNext ev (tunnel_after t letters calls) session (Scccn response) → IsRight 3 e.config.secret t.control.challenge response
       → may_take t.control (with_calls t.changed calls) ≡ true → TurnOk t → TurnOk (confirms Established t)
   unfolding confirms with_move takes_one
   confirms_ok session response t state hears right spare h =
@@ -638,9 +647,10 @@ module _ (e : End) (moment : ℕ) (ev : Event) (letters : List Letter) (calls : 
           there = there t;
           state = state;
           response = response;
-          hears = (session, hears);
+          letter = hears.letter;
+          takes = record { next = hears.next; taken_is = refl; spare = spare };
+          said = hears.says.said;
           right = right;
-          taken = refl;
           after = rw (put-put e.tunnels t.control.local (tunnel_after t letters calls) _) refl;
         });
         words = h.words;
@@ -663,9 +673,11 @@ module _ (e : End) (moment : ℕ) (ev : Event) (letters : List Letter) (calls : 
         chain = chain_more moment ev e (at_turn t) _ t.moves m h.chain (record {
           tunnel = tunnel_after t letters calls;
           there = there t;
-          comes = comes.comes;
+          letter = comes.letter;
+          next = comes.next;
           why = comes.why;
           taken = refl;
+          spare = comes.spare;
           after = rw (put-put e.tunnels t.control.local (tunnel_after t letters calls) _) refl;
         });
         words = h.words;
@@ -681,13 +693,14 @@ module _ (e : End) (moment : ℕ) (ev : Event) (letters : List Letter) (calls : 
   ignores_ok w so t comes h = drops_ok w so (takes_plain t) (plain_ok t comes h)
 
   -- a letter about a call that there isn't
-  pub refused_ok : (r : Reason) → Stands e moment ev r.cause → (remote : ℕ) (t : Turn) → state_number t.control.state ≡ 3 → (next : ComesNext ev t.control)
+  pub refused_ok : (r : Reason) → Stands e moment ev r.cause → (remote : ℕ) (t : Turn) → state_number t.control.state ≡ 3 → (k : Came)
+      → IsNext ev (tunnel_after t letters calls) k
       → ((m : Refused) → m.remote ≡ remote → m.result ≡ r.result → m.error ≡ r.error
-      → WhyRefused (at_turn t) (tunnel_after t letters calls) next.header.session (message_in (body_of next.header next.bytes))
-      (call_fault_in (body_of next.header next.bytes)) m)
+      → WhyRefused (at_turn t) (tunnel_after t letters calls) k.header.session (message_in k.body)
+      (call_fault_in k.body) m)
       → may_take t.control (with_calls t.changed calls) ≡ true → has_room t.control ≡ true → TurnOk t → TurnOk (refused r remote t)
   unfolding refused gives with_output with_move takes_one
-  refused_ok r so remote t is_open next why spare room h =
+  refused_ok r so remote t is_open k next why spare room h =
       let m = move.Refused (record {
         tunnel = t.control.local;
         remote = remote;
@@ -702,10 +715,9 @@ module _ (e : End) (moment : ℕ) (ev : Event) (letters : List Letter) (calls : 
           tunnel = tunnel_after t letters calls;
           there = there t;
           open_is = is_open;
-          comes = next;
+          letter = k;
+          takes = record { next = next; taken_is = refl; spare = spare };
           why = why _ refl refl refl;
-          taken = refl;
-          spare = spare;
           room = room;
           given = refl;
           after = rw (one_given t l, put-put e.tunnels t.control.local (tunnel_after t letters calls) _) refl;

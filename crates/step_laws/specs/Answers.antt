@@ -31,7 +31,7 @@ use Rattle.protocol_model.specs.declared.moves.Move.TheVariants as move
 use Rattle.protocol_model.specs.Reading.{body_of, message_in, CallFault, call_fault_in, TunnelFault, tunnel_fault_in}
 use Rattle.protocol_model.specs.Turn.{Tunnel, counts_acked, fault_error}
 use Rattle.protocol_model.specs.End.{End, Stepped, plain_step}
-use Rattle.step_laws.specs.Moves.{may_take, ComesNext, GrantsCall, DeniesCall}
+use Rattle.step_laws.specs.Moves.{may_take, Came, IsNext, GrantsCall, DeniesCall}
 use Rattle.step_laws.specs.Causes.{MayBeGranted}
 use Rattle.step_laws.specs.Room.{IsLeast, HasNone, RingsNew}
 use Rattle.step_laws.specs.Left.{AreSound, AreAsked}
@@ -59,10 +59,11 @@ pub record TakesRequest (e : End) (moment : ℕ) (ev : Event) : Type 0 where
   pub tunnel : Tunnel
   pub there : at e.tunnels id ≡ Some tunnel
   pub open_is : state_number tunnel.control.state ≡ 3
-  pub comes : ComesNext ev tunnel.control
-  pub named : comes.header.tunnel ≡ id
-  pub spare : may_take (counts_acked (unwrap_or comes.header.nr 0) moment tunnel.control) tunnel.calls ≡ true
-  pub request : IsRequest (body_of comes.header comes.bytes)
+  pub letter : Came
+  pub next : IsNext ev tunnel letter
+  pub named : letter.header.tunnel ≡ id
+  pub spare : may_take (counts_acked (unwrap_or letter.header.nr 0) moment tunnel.control) tunnel.calls ≡ true
+  pub request : IsRequest letter.body
 
 -- ---- answers
 
@@ -140,7 +141,7 @@ IsAnswer e id t session body (TooFaulty avps g read is has) m = IsClose id 2 (So
 pub record IsAnswered (e : End) (moment : ℕ) (ev : Event) (r : TakesRequest e moment ev) (s : Stepped) : Type 0 where
   pub answer : Move
   pub only : answers_of s.moves ≡ answer ∷ []
-  pub right : IsAnswer e r.id r.tunnel r.comes.header.session (body_of r.comes.header r.comes.bytes) r.request answer
+  pub right : IsAnswer e r.id r.tunnel r.letter.header.session r.letter.body r.request answer
 
 -- an ICRQ that names no call, against which no cause stands, is replied to with the session that is drawn, and by nothing else
 pub record IsRepliedTo (e : End) (id remote : ℕ) (s : Stepped) : Type 0 where
@@ -152,7 +153,7 @@ pub record IsRepliedTo (e : End) (id remote : ℕ) (s : Stepped) : Type 0 where
 
 abbrev pub GrantedAreRepliedTo : End → ℕ → Event → Stepped → Type 0
 GrantedAreRepliedTo e moment ev s = (r : TakesRequest e moment ev) (remote serial : ℕ) (calling : Option (List ℕ))
-    → message_in (body_of r.comes.header r.comes.bytes) ≡ Ok (Icrq remote serial calling) → at r.tunnel.calls r.comes.header.session ≡ None
+    → message_in r.letter.body ≡ Ok (Icrq remote serial calling) → at r.tunnel.calls r.letter.header.session ≡ None
     → MayBeGranted e r.tunnel remote → IsRepliedTo e r.id remote s
 
 pub record IsRefusedTo (e : End) (t : Tunnel) (id remote : ℕ) (s : Stepped) : Type 0 where
@@ -165,7 +166,7 @@ pub record IsRefusedTo (e : End) (t : Tunnel) (id remote : ℕ) (s : Stepped) : 
 -- one that names no call is replied to where no cause stands, and else refused by the first that does
 abbrev pub NewAreJudged : End → ℕ → Event → Stepped → Type 0
 NewAreJudged e moment ev s = (r : TakesRequest e moment ev) (remote serial : ℕ) (calling : Option (List ℕ))
-    → message_in (body_of r.comes.header r.comes.bytes) ≡ Ok (Icrq remote serial calling) → at r.tunnel.calls r.comes.header.session ≡ None
+    → message_in r.letter.body ≡ Ok (Icrq remote serial calling) → at r.tunnel.calls r.letter.header.session ≡ None
     → (MayBeGranted e r.tunnel remote × IsRepliedTo e r.id remote s) ⊎ IsRefusedTo e r.tunnel r.id remote s
 
 -- ---- rings

@@ -28,7 +28,7 @@ use Rattle.l2tp_header.specs.declared.header.Header.{Header}
 use Rattle.l2tp_header.specs.Reading.{header_of}
 use Rattle.protocol_model.specs.End.{End, plain_step}
 use Rattle.step_laws.specs.Letters.{Among}
-use Rattle.step_laws.specs.Moves.{has_all_tunnels, has_all_calls, may_take, IsIdInUse, IsRight, LacksSecret, IsUnknown, TookTooLong, InTunnel, IsFaulty, IsFaultyInTunnel}
+use Rattle.step_laws.specs.Moves.{has_all_tunnels, has_all_calls, may_take, IsIdInUse, IsRight, LacksSecret, IsUnknown, TookTooLong, Came, SaysFaulty, IsNext, HearsNext}
 use Rattle.step_laws.specs.Links.{Finishes}
 use Rattle.step_laws.specs.Steps.{AreKept}
 use Rattle.step_laws.specs.Room.{RingsOver, RingsNew}
@@ -56,25 +56,27 @@ pub record IsLate (e : End) (moment : ℕ) (ev : Event) : Type 0 where
 
 -- ---- messages about calls
 
--- a message came to an open tunnel, with the session id of its header
-pub record Came (e : End) (ev : Event) (t : Tunnel) (header : ℕ) (m : Message) : Type 0 where
+-- the next letter came of an open tunnel, with the session id of its header
+pub record CameAbout (e : End) (ev : Event) (t : Tunnel) (header : ℕ) (m : Message) : Type 0 where
   pub id : ℕ
   pub there : at e.tunnels id ≡ Some t
   pub open_is : state_number t.control.state ≡ 3
-  pub came : InTunnel ev t.control header m
+  pub came : HearsNext ev t header m
 
 pub record CameFaulty (e : End) (ev : Event) (t : Tunnel) (header : ℕ) (f : CallFault) : Type 0 where
   pub id : ℕ
   pub there : at e.tunnels id ≡ Some t
   pub open_is : state_number t.control.state ≡ 3
-  pub came : IsFaulty ev t.control header f
+  pub letter : Came
+  pub next : IsNext ev t letter
+  pub says : SaysFaulty letter header f
 
 -- a request came for a call of this id of the peer's
 pub record Asks (e : End) (ev : Event) (t : Tunnel) (remote : ℕ) : Type 0 where
   pub header : ℕ
   pub serial : ℕ
   pub calling : Option (List ℕ)
-  pub came : Came e ev t header (Icrq remote serial calling)
+  pub came : CameAbout e ev t header (Icrq remote serial calling)
 
 -- this end replies to no request: it asks for calls itself
 abbrev pub TakesNoCalls : End → Type 0
@@ -91,12 +93,12 @@ pub record MayBeGranted (e : End) (t : Tunnel) (remote : ℕ) : Type 0 where
 -- asks for none; a reply or a connection that comes to a call that doesn't wait for it
 pub data IsOutOfState (e : End) (ev : Event) (t : Tunnel) : Type 0 where
   AskedInVain : (remote : ℕ) → Asks e ev t remote → TakesNoCalls e → IsOutOfState e ev t
-  AskedAgain : (remote serial s : ℕ) (calling : Option (List ℕ)) → Came e ev t s (Icrq remote serial calling) → IsTold e t s call_event.IcrqAcc
+  AskedAgain : (remote serial s : ℕ) (calling : Option (List ℕ)) → CameAbout e ev t s (Icrq remote serial calling) → IsTold e t s call_event.IcrqAcc
       → MayBeGranted e t remote
       → IsOutOfState e ev t
-  RepliedInVain : (remote s : ℕ) → Came e ev t s (Icrp remote) → ((at t.calls s ≡ None) × (e.role ≡ Lns)) ⊎ IsTold e t s call_event.IcrpAcc
+  RepliedInVain : (remote s : ℕ) → CameAbout e ev t s (Icrp remote) → ((at t.calls s ≡ None) × (e.role ≡ Lns)) ⊎ IsTold e t s call_event.IcrpAcc
       → IsOutOfState e ev t
-  ConnectedInVain : (speed framing s : ℕ) (sequenced : Bool) → Came e ev t s (Iccn speed framing sequenced) → IsTold e t s call_event.IccnAcc
+  ConnectedInVain : (speed framing s : ℕ) (sequenced : Bool) → CameAbout e ev t s (Iccn speed framing sequenced) → IsTold e t s call_event.IccnAcc
       → IsOutOfState e ev t
 
 -- ---- LCP (RFC 1661)
@@ -120,11 +122,13 @@ pub record IsClosedOn (e : End) (t : Tunnel) (on : TunnelEvent) : Type 0 where
   pub there : at e.tunnels id ≡ Some t
   pub row : row_of rows t.control.state on ≡ (state.Closed, action.SendStopCcn)
 
--- a message came in a tunnel, and has this fault
+-- the next letter of a tunnel came, and has this fault
 pub record CameClosing (e : End) (ev : Event) (c : CauseOf) : Type 0 where
   pub tunnel : Tunnel
   pub fault : TunnelFault
-  pub came : IsFaultyInTunnel ev tunnel.control fault
+  pub letter : Came
+  pub next : IsNext ev tunnel letter
+  pub has : tunnel_fault_in letter.body ≡ Some fault
   pub closed : IsClosedOn e tunnel fault.event
   pub is : fault.cause ≡ c
 
@@ -148,8 +152,8 @@ pub record WouldOpen (e : End) (ev : Event) (o : Opening) : Type 0 where
 
 -- an opening that isn't acceptable: it came in a tunnel, which is closed, or would open one
 pub data IsNotAccepted (e : End) (ev : Event) (o : Opening) : Type 0 where
-  InSccrq : (t : Tunnel) (session : ℕ) → InTunnel ev t.control session (Sccrq o) → IsClosedOn e t event.SccrqNotAcc → IsNotAccepted e ev o
-  InSccrp : (t : Tunnel) (session : ℕ) → InTunnel ev t.control session (Sccrp o) → IsClosedOn e t event.SccrpNotAcc → IsNotAccepted e ev o
+  InSccrq : (t : Tunnel) (session : ℕ) → HearsNext ev t session (Sccrq o) → IsClosedOn e t event.SccrqNotAcc → IsNotAccepted e ev o
+  InSccrp : (t : Tunnel) (session : ℕ) → HearsNext ev t session (Sccrp o) → IsClosedOn e t event.SccrpNotAcc → IsNotAccepted e ev o
   AtZero : WouldOpen e ev o → IsNotAccepted e ev o
 
 -- it wants to recover a tunnel, of version 1.0
@@ -168,7 +172,7 @@ MayOpen e ev o = WouldOpen e ev o → has_all_tunnels e ≡ false
 -- tunnel asked
 pub data FailsBySecret (e : End) (ev : Event) (o : Opening) : Type 0 where
   AsksInVain : LacksSecret e.config.secret o.challenge → FailsBySecret e ev o
-  AnswersWrongly : (t : Tunnel) (session : ℕ) → InTunnel ev t.control session (Sccrp o)
+  AnswersWrongly : (t : Tunnel) (session : ℕ) → HearsNext ev t session (Sccrp o)
       → (IsRight 2 e.config.secret t.control.challenge o.response → ⊥) → FailsBySecret e ev o
 
 -- an SCCCN that doesn't answer rightly what the tunnel asked, and closes it
@@ -176,7 +180,7 @@ pub record IsWronglyConnected (e : End) (ev : Event) : Type 0 where
   pub tunnel : Tunnel
   pub session : ℕ
   pub response : Option (List ℕ)
-  pub came : InTunnel ev tunnel.control session (Scccn response)
+  pub came : HearsNext ev tunnel session (Scccn response)
   pub wrong : IsRight 3 e.config.secret tunnel.control.challenge response → ⊥
   pub closed : IsClosedOn e tunnel event.ScccnNotAcc
 
@@ -201,11 +205,11 @@ pub record CameAnswer (ev : Event) : Type 0 where
 
 -- one that is acceptable, or an SCCCN, came in a tunnel that doesn't wait for it
 pub data IsOutOfOrder (e : End) (ev : Event) : Type 0 where
-  AnSccrq : (t : Tunnel) (session : ℕ) (o : Opening) → InTunnel ev t.control session (Sccrq o) → is_acceptable e.config.secret None o ≡ true → IsClosedOn e t event.SccrqAcc
+  AnSccrq : (t : Tunnel) (session : ℕ) (o : Opening) → HearsNext ev t session (Sccrq o) → is_acceptable e.config.secret None o ≡ true → IsClosedOn e t event.SccrqAcc
       → IsOutOfOrder e ev
-  AnSccrp : (t : Tunnel) (session : ℕ) (o : Opening) → InTunnel ev t.control session (Sccrp o) → is_acceptable e.config.secret t.control.challenge o ≡ true → IsClosedOn e t event.SccrpAcc
+  AnSccrp : (t : Tunnel) (session : ℕ) (o : Opening) → HearsNext ev t session (Sccrp o) → is_acceptable e.config.secret t.control.challenge o ≡ true → IsClosedOn e t event.SccrpAcc
       → IsOutOfOrder e ev
-  AnScccn : (t : Tunnel) (session : ℕ) (response : Option (List ℕ)) → InTunnel ev t.control session (Scccn response)
+  AnScccn : (t : Tunnel) (session : ℕ) (response : Option (List ℕ)) → HearsNext ev t session (Scccn response)
       → IsRight 3 e.config.secret t.control.challenge response → IsClosedOn e t event.ScccnAcc → IsOutOfOrder e ev
 
 -- ---- the causes
@@ -250,7 +254,7 @@ Stands e moment ev cause.Queue = (t : Tunnel) × RingsOver e ev t × (has_all_ca
 Stands e moment ev cause.Ids = LackIds e ev
 Stands e moment ev cause.Tunnels =
     (RingsNew e ev ⊎ ((ev ≡ OpenTunnel) ⊎ ((o : Opening) × WouldOpen e ev o × IsOrdinary o))) × (has_all_tunnels e ≡ true)
-Stands e moment ev cause.Outgoing = (t : Tunnel) × (header : ℕ) × (remote : ℕ) × Came e ev t header (Ocrq remote)
+Stands e moment ev cause.Outgoing = (t : Tunnel) × (header : ℕ) × (remote : ℕ) × CameAbout e ev t header (Ocrq remote)
 Stands e moment ev c = ⊥
 
 -- in each step of an end whose tunnels are kept, each cause that is told stands

@@ -17,7 +17,7 @@ use Rattle.control_message.specs.declared.message.Opening.{Opening}
 use Rattle.tunnel_fsm.specs.declared.table.TunnelEvent.{TunnelEvent}
 use Rattle.protocol_model.specs.declared.moves.Closed.{Closed}
 use Rattle.protocol_model.specs.declared.moves.Declined.{Declined}
-use Rattle.step_laws.specs.Moves.{DeniesCall, AsksItself, HasUsedId, HasAllCalls, HasNoSession, StandsAgainst, OtherVersion, Recovers, NoTunnel, Challenges, NoId, ClosesIn, HasOtherVersion, HasRecovery, HasOtherSecret, ClosesConnected, WronglyConnected, ComesUnawaited, IsUnawaited, WhyDeclined, AnOpening, AFaultyOpening, AnAnswer, LetterCloses, WhyCloses, ByOperator, ByLetter, BySccrq, BySccrp, ByScccn, ByFault, WhyEnds, IsLate, IsDropped, IsHungUp, IsFinished, IsAsked, IsReplied, IsConnected, HasFault, WhyRefused, IsNotGranted, IsOutgoing, IsReplyToNone, IsWrong}
+use Rattle.step_laws.specs.Moves.{Came, DeniesCall, AsksItself, HasUsedId, HasAllCalls, HasNoSession, StandsAgainst, OtherVersion, Recovers, NoTunnel, Challenges, NoId, ClosesIn, HasOtherVersion, HasRecovery, HasOtherSecret, ClosesConnected, WronglyConnected, ComesUnawaited, IsUnawaited, WhyDeclined, AnOpening, AFaultyOpening, AnAnswer, LetterCloses, WhyCloses, ByOperator, ByLetter, BySccrq, BySccrp, ByScccn, ByFault, WhyEnds, IsLate, IsDropped, IsHungUp, IsFinished, IsAsked, IsReplied, IsConnected, HasFault, WhyRefused, IsNotGranted, IsOutgoing, IsReplyToNone, IsWrong}
 
 -- 16 bits each
 abbrev pub CodesFit : ℕ → Option ℕ → Type 0
@@ -111,17 +111,17 @@ connected_fits secret asked response on result error (WronglyConnected wrong at_
 connected_fits secret asked response on result error (ComesUnawaited right at_ r x) = fits result error 7 None (omega arith, tt) r x
 
 -- and those of a StopCCN
-pub letter_codes_fit : (secret : Option (List ℕ)) (c : Control) (ev : Event) (on : TunnelEvent) (told result : ℕ) (error : Option ℕ)
-    → LetterCloses secret c ev on told result error → CodesFit result error
-letter_codes_fit secret c ev on told result error (BySccrq session o came at_ known why) = closing_fits secret None o result error why
-letter_codes_fit secret c ev on told result error (BySccrp session o came at_ known why) = closing_fits secret c.challenge o result error why
-letter_codes_fit secret c ev on told result error (ByScccn session response came known why) = connected_fits secret c.challenge response on result error why
-letter_codes_fit secret c ev on told result error (ByFault g came at_ known r x) =
+pub letter_codes_fit : (secret : Option (List ℕ)) (c : Control) (k : Came) (on : TunnelEvent) (told result : ℕ) (error : Option ℕ)
+    → LetterCloses secret c k on told result error → CodesFit result error
+letter_codes_fit secret c k on told result error (BySccrq o said at_ known why) = closing_fits secret None o result error why
+letter_codes_fit secret c k on told result error (BySccrp o said at_ known why) = closing_fits secret c.challenge o result error why
+letter_codes_fit secret c k on told result error (ByScccn response said known why) = connected_fits secret c.challenge response on result error why
+letter_codes_fit secret c k on told result error (ByFault g has at_ known r x) =
     fits result error 2 (Some (fault_error g.cause)) (omega arith, fault_fits g.cause) r x
 
 pub stop_codes_fit : (secret : Option (List ℕ)) (t : Tunnel) (ev : Event) (on : TunnelEvent) (m : Closed) → WhyCloses secret t ev on m → CodesFit m.result m.error
 stop_codes_fit secret t ev on m (ByOperator is at_ known r x) = fits m.result m.error 1 None (omega arith, tt) r x
-stop_codes_fit secret t ev on m (ByLetter told why other known) = letter_codes_fit secret t.control ev on told m.result m.error why
+stop_codes_fit secret t ev on m (ByLetter told k next spare why other known) = letter_codes_fit secret t.control k on told m.result m.error why
 
 -- and those of one that declines an opening
 pub decline_codes_fit : (e : End) (body : List ℕ) (m : Declined) → WhyDeclined e body m → CodesFit m.result m.error

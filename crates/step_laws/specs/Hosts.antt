@@ -1,11 +1,11 @@
 -- What a line that brings an Ethernet frame does: nothing but answer, or what a host of a call does, or what a host does that enters.
-use Rattle.std.proofs.Common.{◌≡◌, ℕ, ◌-◌, Bool, true, false, List, [], ◌∷◌, ◌++◌, length, take, drop, refl, sym, ap, ◌∙◌, subst, Option, Some, None, Result, Ok, Err}
-use Rattle.std.specs.Prelude.{nat_lt, is_some, not, ◌||◌, ◌==◌, if◌then◌else◌}
+use Rattle.std.proofs.Common.{◌≡◌, ◌⊎◌, inl, inr, ℕ, ◌-◌, Bool, true, false, List, [], ◌∷◌, ◌++◌, length, take, drop, refl, sym, ap, ◌∙◌, subst, Option, Some, None, Result, Ok, Err}
+use Rattle.std.specs.Prelude.{nat_lt, find, option_map, is_some, not, ◌||◌, ◌==◌, if◌then◌else◌}
 use Rattle.id_table.specs.Ids.{at}
 use Rattle.wire_base.specs.declared.why.Why.{Why}
 use Rattle.wire_base.specs.declared.why.Why.TheVariants as why
 use Rattle.wire_base.specs.declared.cause.Cause.{Cause}
-use Rattle.pppoe_session.specs.Subscribers.{subscriber_of, is_from, repeat_in}
+use Rattle.pppoe_session.specs.Subscribers.{subscriber_of, is_from, is_repeat, repeat_in}
 use Rattle.pppoe_discovery.specs.declared.outcome.Discovered.{Discovered}
 use Rattle.pppoe_discovery.specs.declared.outcome.Discovered.TheVariants as outcome
 use Rattle.wire_base.specs.declared.cause.Cause.TheVariants as cause
@@ -20,6 +20,10 @@ use Rattle.pppoe_discovery.specs.Asking.{asked_by}
 use Rattle.pppoe_discovery.specs.Cookie.{is_cookie}
 use Rattle.pppoe_discovery.specs.Discovery.{discovered, discovered_by, refused, requested, is_for, offer, admission, fault_word, taken}
 use Rattle.pppoe_discovery.specs.Told.{pads_to}
+use Rattle.pppoe_discovery.specs.Replies.{pads}
+use Rattle.pppoe_wire.specs.Spelling.{frame_bytes}
+use Rattle.pppoe_session.specs.declared.Subscriber.{Subscriber}
+use Rattle.step_laws.specs.Letters.{Among}
 use Rattle.protocol_model.specs.declared.event.Event.{Event}
 use Rattle.protocol_model.specs.declared.event.Event.TheVariants.{Payload, Hang, Admitted}
 use Rattle.protocol_model.specs.declared.event.Event.TheVariants as event
@@ -46,6 +50,37 @@ pub data HostDoes (a : Access) (e : End) (bytes : List ℕ) : Event → Type 0 w
   HostSends : (src : List ℕ) (session start stop : ℕ) → discovered_at a e bytes ≡ outcome.Carried src session start stop → IsOfHost a e src session
       → HostDoes a e bytes (Payload session (take (stop - start) (drop start bytes)))
   HostLeaves : (src : List ℕ) (session : ℕ) → discovered_at a e bytes ≡ outcome.Left src session → IsOfHost a e src session → HostDoes a e bytes (Hang session)
+
+-- ---- what is answered
+
+-- a PADR that may be admitted repeats that of a live call, by the source's address and its Host-Uniq: it is answered by the PADS of that
+-- call's session again
+pub record IsRepeated (a : Access) (e : End) (bytes frame : List ℕ) : Type 0 where
+  pub src : List ℕ
+  pub service : List ℕ
+  pub uniq : Option (List ℕ)
+  pub relay : Option (List ℕ)
+  pub found : discovered_at a e bytes ≡ outcome.Admit src service uniq relay
+  pub session : ℕ
+  pub live : is_some (at e.calls session) ≡ true
+  pub who : Subscriber
+  pub held : Among (session, who) a.held
+  pub repeats : is_repeat src uniq who ≡ true
+  pub is : frame ≡ frame_bytes (pads (mac_of e.config.number) src session service uniq relay)
+
+-- what is found stands in the list
+found_held : (es : List (ℕ × Subscriber)) (src : List ℕ) (uniq : Option (List ℕ)) (session : ℕ) → repeat_in es src uniq ≡ Some session
+    → (who : Subscriber) × Among (session, who) es × (is_repeat src uniq who ≡ true)
+unfolding repeat_in
+found_held [] src uniq session h = absurd cc
+found_held (x ∷ xs) src uniq session h = by (found_held xs src uniq session) (is_repeat src uniq x.1) refl h
+  where
+    by : (repeat_in xs src uniq ≡ Some session → (who : Subscriber) × Among (session, who) xs × (is_repeat src uniq who ≡ true)) → (b : Bool)
+        → is_repeat src uniq x.1 ≡ b
+        → option_map (λ (e : ℕ × Subscriber). e.0) (if b then Some x else find (λ (e : ℕ × Subscriber). is_repeat src uniq e.1) xs) ≡ Some session
+        → (who : Subscriber) × Among (session, who) (x ∷ xs) × (is_repeat src uniq who ≡ true)
+    by rest true is h = let same : x.0 ≡ session = cc in (x.1, inl (ap (λ (s : ℕ). (s, x.1)) same), is)
+    by rest false is h = let k = rest h in (k.0, inr k.1, k.2)
 
 module _ (a : Access) (e : End) (bytes : List ℕ) where
   of_host : (src : List ℕ) (session : ℕ) (ev ev' : Event) (live is : Bool) → is_some (at e.calls session) ≡ live
@@ -98,6 +133,16 @@ module _ (a : Access) (e : End) (bytes : List ℕ) where
   of_call_none true false ev c frame h = cc
   of_call_none true true ev c frame h = cc
 
+  of_call_silent : (live is : Bool) (ev : Event) (frame : List ℕ) → of_call live is ev ≡ Answers None frame → ⊥
+  of_call_silent false is ev frame h = cc
+  of_call_silent true false ev frame h = cc
+  of_call_silent true true ev frame h = cc
+
+  of_call_old : (live is : Bool) (ev : Event) (src : List ℕ) (uniq : Option (List ℕ)) (asked : Discovered) → of_call live is ev ≡ Enters src uniq asked → ⊥
+  of_call_old false is ev src uniq asked h = cc
+  of_call_old true false ev src uniq asked h = cc
+  of_call_old true true ev src uniq asked h = cc
+
   led_refused : (d : Discovered) (c : Cause) (frame : List ℕ) → led_to a e bytes d ≡ Answers (Some c) frame → d ≡ outcome.Reply (Some c) frame
   unfolding led_to
   led_refused (outcome.Ignored w) c frame h = absurd cc
@@ -118,6 +163,88 @@ module _ (a : Access) (e : End) (bytes : List ℕ) where
           → discovered_at a e bytes ≡ outcome.Reply (Some c) frame
       by true h = absurd cc
       by false h = led_refused (discovered_at a e bytes) c frame h
+
+  wants_again : (src service : List ℕ) (uniq relay : Option (List ℕ)) (o : Option ℕ) (frame : List ℕ)
+      → discovered_at a e bytes ≡ outcome.Admit src service uniq relay → repeat_in a.held src uniq ≡ o
+      → wants_call a e src uniq (outcome.Admit src service uniq relay) o ≡ Answers None frame → IsRepeated a e bytes frame
+  wants_again src service uniq relay None frame found is h = absurd cc
+  wants_again src service uniq relay (Some s) frame found is h = by (is_some (at e.calls s)) refl h
+    where
+      by : (b : Bool) → is_some (at e.calls s) ≡ b
+          → (if b then Answers None (frame_bytes (pads (mac_of e.config.number) src s service uniq relay)) else Enters src uniq (outcome.Admit src service uniq relay))
+          ≡ Answers None frame → IsRepeated a e bytes frame
+      by true live h =
+          let k = found_held a.held src uniq s is in
+          let same : frame_bytes (pads (mac_of e.config.number) src s service uniq relay) ≡ frame = cc in
+          record {
+            src = src;
+            service = service;
+            uniq = uniq;
+            relay = relay;
+            found = found;
+            session = s;
+            live = live;
+            who = k.0;
+            held = k.1;
+            repeats = k.2;
+            is = sym same;
+          }
+      by false live h = absurd cc
+
+  led_answered : (d : Discovered) → discovered_at a e bytes ≡ d → (frame : List ℕ) → led_to a e bytes d ≡ Answers None frame
+      → (discovered_at a e bytes ≡ outcome.Reply None frame) ⊎ IsRepeated a e bytes frame
+  unfolding led_to
+  led_answered (outcome.Ignored w) is frame h = absurd cc
+  led_answered (outcome.Reply because given) is frame h = inl (is ∙ (let same : outcome.Reply because given ≡ outcome.Reply None frame = cc in same))
+  led_answered (outcome.Admit src service uniq relay) is frame h =
+      inr (wants_again src service uniq relay (repeat_in a.held src uniq) frame is refl h)
+  led_answered (outcome.Left src session) is frame h =
+      absurd (of_call_silent (is_some (at e.calls session)) (is_from src (subscriber_of a.held session)) (Hang session) frame h)
+  led_answered (outcome.Carried src session start stop) is frame h =
+      absurd (of_call_silent (is_some (at e.calls session)) (is_from src (subscriber_of a.held session)) (Payload session (take (stop - start) (drop start bytes)))
+      frame h)
+
+  -- a frame that is answered without a cause is a PADI, which gets the PADO of discovery, or such a PADR
+  pub frame_answered : (frame : List ℕ) → coming a e bytes ≡ Answers None frame
+      → (discovered_at a e bytes ≡ outcome.Reply None frame) ⊎ IsRepeated a e bytes frame
+  unfolding coming
+  frame_answered frame h = by (nat_lt 2048 (length bytes)) h
+    where
+      by : (b : Bool) → (if b then Ignores why.Long else led_to a e bytes (discovered_at a e bytes)) ≡ Answers None frame
+          → (discovered_at a e bytes ≡ outcome.Reply None frame) ⊎ IsRepeated a e bytes frame
+      by true h = absurd cc
+      by false h = led_answered (discovered_at a e bytes) refl frame h
+
+  -- a host is entered whose PADR discovery admits
+  wants_new : (src service : List ℕ) (uniq relay : Option (List ℕ)) (o : Option ℕ) (from : List ℕ) (tag : Option (List ℕ)) (asked : Discovered)
+      → wants_call a e src uniq (outcome.Admit src service uniq relay) o ≡ Enters from tag asked → asked ≡ outcome.Admit src service uniq relay
+  wants_new src service uniq relay None from tag asked h = cc
+  wants_new src service uniq relay (Some s) from tag asked h = by (is_some (at e.calls s)) h
+    where
+      by : (b : Bool)
+          → (if b then Answers None (pads_to (mac_of e.config.number) (outcome.Admit src service uniq relay) s None) else Enters src uniq (outcome.Admit src service uniq relay))
+          ≡ Enters from tag asked → asked ≡ outcome.Admit src service uniq relay
+      by true h = absurd cc
+      by false h = cc
+
+  led_new : (d : Discovered) (src : List ℕ) (uniq : Option (List ℕ)) (asked : Discovered) → led_to a e bytes d ≡ Enters src uniq asked → d ≡ asked
+  unfolding led_to
+  led_new (outcome.Ignored w) src uniq asked h = absurd cc
+  led_new (outcome.Reply because given) src uniq asked h = absurd cc
+  led_new (outcome.Admit from service tag relay) src uniq asked h = sym (wants_new from service tag relay (repeat_in a.held from tag) src uniq asked h)
+  led_new (outcome.Left from session) src uniq asked h =
+      absurd (of_call_old (is_some (at e.calls session)) (is_from from (subscriber_of a.held session)) (Hang session) src uniq asked h)
+  led_new (outcome.Carried from session start stop) src uniq asked h =
+      absurd (of_call_old (is_some (at e.calls session)) (is_from from (subscriber_of a.held session)) (Payload session (take (stop - start) (drop start bytes)))
+      src uniq asked h)
+
+  pub host_enters : (src : List ℕ) (uniq : Option (List ℕ)) (asked : Discovered) → coming a e bytes ≡ Enters src uniq asked → discovered_at a e bytes ≡ asked
+  unfolding coming
+  host_enters src uniq asked h = by (nat_lt 2048 (length bytes)) h
+    where
+      by : (b : Bool) → (if b then Ignores why.Long else led_to a e bytes (discovered_at a e bytes)) ≡ Enters src uniq asked → discovered_at a e bytes ≡ asked
+      by true h = absurd cc
+      by false h = led_new (discovered_at a e bytes) src uniq asked h
 
 -- ---- what is ignored
 

@@ -1,6 +1,6 @@
 -- What each move needs before it, and what it changes.
 use Rattle.step_laws.specs.Callers.{IsRing}
-use Rattle.std.specs.Prelude.{◌≡◌, ℕ, ◌+◌, ◌%◌, ◌<◌, ◌≤◌, ◌⊎◌, Bool, true, false, ◌==◌, if◌then◌else◌, nat_le, nat_lt, List, [], ◌∷◌, ◌++◌, drop, map, length, Option, None, Some, is_some, unwrap_or, Result, Ok, Err}
+use Rattle.std.specs.Prelude.{◌≡◌, refl, ℕ, ◌+◌, ◌%◌, ◌<◌, ◌≤◌, ◌⊎◌, Bool, true, false, ◌==◌, if◌then◌else◌, nat_le, nat_lt, List, [], ◌∷◌, ◌++◌, drop, map, length, Option, None, Some, is_some, unwrap_or, Result, Ok, Err}
 use Rattle.wire_base.specs.declared.why.Why.{Why}
 use Rattle.id_table.specs.Ids.{at, put, without, ids_of}
 use Rattle.id_source.specs.declared.IdError.{IdError}
@@ -35,6 +35,7 @@ use Rattle.protocol_model.specs.declared.tunnel.Control.{Control}
 use Rattle.end_names.specs.declared.role.Role.TheVariants.{Lac, Lns}
 use Rattle.protocol_model.specs.declared.event.Event.{Event}
 use Rattle.protocol_model.specs.declared.event.Event.TheVariants.{Datagram, Hang, DropCall, CloseTunnel, Tick}
+use Rattle.protocol_model.specs.declared.moves.Place.{Place}
 use Rattle.protocol_model.specs.declared.moves.Opened.{Opened}
 use Rattle.protocol_model.specs.declared.moves.Accepted.{Accepted}
 use Rattle.protocol_model.specs.declared.moves.Connected.{Connected}
@@ -75,85 +76,100 @@ use Rattle.protocol_model.specs.End.{End, new_place, with_look, with_looks}
 
 -- ---- what came
 
--- a control message that a peer sent, with the session id of its header: it says this
-pub record Hears (ev : Event) (peer session : ℕ) (m : Message) : Type 0 where
-  pub bytes : List ℕ
-  pub is : ev ≡ Datagram peer bytes
+-- a control message as an end has it: who sent it, its header, and what follows the header
+pub record Came : Type 0 where
+  pub peer : ℕ
   pub header : Header
-  pub read : header_of bytes ≡ Ok header
-  pub control : header.control ≡ true
-  pub session_is : header.session ≡ session
-  pub said : message_in (body_of header bytes) ≡ Ok m
+  pub body : List ℕ
+
+-- it is the datagram of an event
+pub record CameIn (ev : Event) (k : Came) : Type 0 where
+  pub bytes : List ℕ
+  pub is : ev ≡ Datagram k.peer bytes
+  pub read : header_of bytes ≡ Ok k.header
+  pub control : k.header.control ≡ true
+  pub body_is : k.body ≡ body_of k.header bytes
+
+-- it says this, with the session id of its header
+pub record Says (k : Came) (session : ℕ) (m : Message) : Type 0 where
+  pub session_is : k.header.session ≡ session
+  pub said : message_in k.body ≡ Ok m
+
+-- it has this fault, and is about a call
+pub record SaysFaulty (k : Came) (session : ℕ) (f : CallFault) : Type 0 where
+  pub session_is : k.header.session ≡ session
+  pub fault : call_fault_in k.body ≡ Some f
 
 -- it names no tunnel, as an SCCRQ doesn't, faulty or not, and is for the one whose peer assigned the id that it tells
-pub record IsAgain (h : Header) (bytes : List ℕ) (c : Control) : Type 0 where
+pub record IsAgain (h : Header) (body : List ℕ) (c : Control) : Type 0 where
   pub none : h.tunnel ≡ 0
-  pub opens : at_zero (body_of h bytes) ≡ addressee.Opens c.remote
+  pub opens : at_zero body ≡ addressee.Opens c.remote
 
 -- it names no tunnel, as a StopCCN may, and is for the one whose peer assigned the id that it tells
-pub record IsStop (h : Header) (bytes : List ℕ) (c : Control) : Type 0 where
+pub record IsStop (h : Header) (body : List ℕ) (c : Control) : Type 0 where
   pub none : h.tunnel ≡ 0
-  pub stops : at_zero (body_of h bytes) ≡ Stops c.remote
+  pub stops : at_zero body ≡ Stops c.remote
 
 -- it names the tunnel, or is an SCCRQ that comes again, or a StopCCN
 abbrev pub IsFor : Header → List ℕ → Control → Type 0
-IsFor h bytes c = (h.tunnel ≡ c.local) ⊎ (IsAgain h bytes c ⊎ IsStop h bytes c)
+IsFor h body c = (h.tunnel ≡ c.local) ⊎ (IsAgain h body c ⊎ IsStop h body c)
 
--- the next letter of a tunnel's peer, in the tunnel
-pub record HearsNext (ev : Event) (c : Control) (session : ℕ) (m : Message) : Type 0 where
-  pub hears : Hears ev c.peer session m
-  pub tunnel : IsFor hears.header hears.bytes c
-  pub next : class_of (unwrap_or hears.header.ns 0) c.channel.inbox ≡ Next
+-- what came is a message of the tunnel's peer, for the tunnel
+pub record ComesTo (ev : Event) (c : Control) (k : Came) : Type 0 where
+  pub came : CameIn ev k
+  pub peer : k.peer ≡ c.peer
+  pub tunnel : IsFor k.header k.body c
 
--- the next letter of a tunnel's peer, whatever it says
-pub record ComesNext (ev : Event) (c : Control) : Type 0 where
-  pub bytes : List ℕ
-  pub is : ev ≡ Datagram c.peer bytes
-  pub header : Header
-  pub read : header_of bytes ≡ Ok header
-  pub control : header.control ≡ true
-  -- it is no acknowledgement alone
-  pub some : length (body_of header bytes) ≡ 0 → ⊥
-  pub tunnel : IsFor header bytes c
-  pub next : class_of (unwrap_or header.ns 0) c.channel.inbox ≡ Next
+-- it is the next letter of the tunnel's peer, and no acknowledgement alone
+pub record IsNext (ev : Event) (t : Tunnel) (k : Came) : Type 0 where
+  pub comes : ComesTo ev t.control k
+  pub some : length k.body ≡ 0 → ⊥
+  pub next : class_of (unwrap_or k.header.ns 0) t.control.channel.inbox ≡ Next
 
--- a control message of a tunnel's peer, in the tunnel, with this Nr
-pub record TellsNr (ev : Event) (c : Control) (nr : ℕ) : Type 0 where
-  pub bytes : List ℕ
-  pub is : ev ≡ Datagram c.peer bytes
-  pub header : Header
-  pub read : header_of bytes ≡ Ok header
-  pub control : header.control ≡ true
-  pub tunnel : IsFor header bytes c
-  pub tells : nr ≡ unwrap_or header.nr 0
+-- the next letter, and what it says
+pub record HearsNext (ev : Event) (t : Tunnel) (session : ℕ) (m : Message) : Type 0 where
+  pub letter : Came
+  pub next : IsNext ev t letter
+  pub says : Says letter session m
 
--- a control message of a tunnel's peer, for the tunnel, with the session id of its header
+-- the next letter, with what its body says
+abbrev pub heard_so : (ev : Event) (t : Tunnel) (k : Came) (m : Message) → IsNext ev t k → message_in k.body ≡ Ok m → HearsNext ev t k.header.session m
+heard_so ev t k m next said = record { letter = k; next = next; says = record { session_is = refl; said = said } }
+
+-- a message for the tunnel, the next one or not, and what it says
 pub record InTunnel (ev : Event) (c : Control) (session : ℕ) (m : Message) : Type 0 where
-  pub hears : Hears ev c.peer session m
-  pub tunnel : IsFor hears.header hears.bytes c
+  pub letter : Came
+  pub comes : ComesTo ev c letter
+  pub says : Says letter session m
 
 -- one about a call that has a fault
 pub record IsFaulty (ev : Event) (c : Control) (session : ℕ) (f : CallFault) : Type 0 where
-  pub bytes : List ℕ
-  pub is : ev ≡ Datagram c.peer bytes
-  pub header : Header
-  pub read : header_of bytes ≡ Ok header
-  pub control : header.control ≡ true
-  pub session_is : header.session ≡ session
-  pub tunnel : IsFor header bytes c
-  pub fault : call_fault_in (body_of header bytes) ≡ Some f
+  pub letter : Came
+  pub comes : ComesTo ev c letter
+  pub says : SaysFaulty letter session f
 
--- one that has another fault
-pub record IsFaultyInTunnel (ev : Event) (c : Control) (g : TunnelFault) : Type 0 where
-  pub bytes : List ℕ
-  pub is : ev ≡ Datagram c.peer bytes
-  pub header : Header
-  pub read : header_of bytes ≡ Ok header
-  pub control : header.control ≡ true
-  -- it is no acknowledgement alone
-  pub some : length (body_of header bytes) ≡ 0 → ⊥
-  pub tunnel : IsFor header bytes c
-  pub fault : tunnel_fault_in (body_of header bytes) ≡ Some g
+-- a message of a peer, and what it says
+pub record Hears (ev : Event) (peer session : ℕ) (m : Message) : Type 0 where
+  pub letter : Came
+  pub came : CameIn ev letter
+  pub peer_is : letter.peer ≡ peer
+  pub says : Says letter session m
+
+-- such is the next letter of a tunnel's peer
+abbrev pub heard_from : (ev : Event) (t : Tunnel) (k : Came) (m : Message) → IsNext ev t k → message_in k.body ≡ Ok m
+    → Hears ev t.control.peer k.header.session m
+heard_from ev t k m next said = record {
+  letter = k;
+  came = next.comes.came;
+  peer_is = next.comes.peer;
+  says = record { session_is = refl; said = said };
+}
+
+-- a message for the tunnel, with this Nr
+pub record TellsNr (ev : Event) (c : Control) (nr : ℕ) : Type 0 where
+  pub letter : Came
+  pub comes : ComesTo ev c letter
+  pub tells : nr ≡ unwrap_or letter.header.nr 0
 
 -- ---- how much there may be
 
@@ -173,6 +189,12 @@ has_room c = nat_lt c.channel.window.queued 8192
 -- at most so many
 abbrev pub may_take : Control → List (ℕ × Call) → Bool
 may_take c calls = nat_le (c.channel.window.queued + owed_by calls + 4) 8192
+
+-- what a move takes is the next letter, of a tunnel that may take one: its place among those that the tunnel took
+pub record Taking (ev : Event) (t : Tunnel) (k : Came) (taken : Place) : Type 0 where
+  pub next : IsNext ev t k
+  pub taken_is : taken ≡ taken_place t.control
+  pub spare : may_take t.control t.calls ≡ true
 
 -- ---- what it changes
 
@@ -246,15 +268,15 @@ pub record Connects (e : End) (ev : Event) (m : Connected) (x : End) : Type 0 wh
   pub there : at e.tunnels m.tunnel ≡ Some tunnel
   pub state : tunnel.control.state ≡ WaitCtlReply
   pub opening : Opening
-  pub hears : (session : ℕ) × HearsNext ev tunnel.control session (Sccrp opening)
+  pub letter : Came
+  pub takes : Taking ev tunnel letter m.taken
+  pub said : message_in letter.body ≡ Ok (Sccrp opening)
   pub remote : m.remote ≡ opening.tunnel
   pub window : m.window ≡ opening.window
   -- the peer answered rightly what it was asked, and is answered what it asks
   pub right : IsRight 2 e.config.secret tunnel.control.challenge opening.response
   pub able : LacksSecret e.config.secret opening.challenge → ⊥
   pub responds : Responds 3 e.config.secret opening.challenge m.response
-  pub taken : m.taken ≡ taken_place tunnel.control
-  pub spare : may_take tunnel.control tunnel.calls ≡ true
   pub room : has_room tunnel.control ≡ true
   pub given : m.given ≡ next_place tunnel.control
   pub after : x ≡ with_tunnel e m.tunnel (with_letter 0 (Scccn m.response) (record tunnel {
@@ -267,9 +289,10 @@ pub record Confirms (e : End) (ev : Event) (m : Confirmed) (x : End) : Type 0 wh
   pub state : tunnel.control.state ≡ WaitCtlConn
   -- the peer answered rightly what it was asked
   pub response : Option (List ℕ)
-  pub hears : (session : ℕ) × HearsNext ev tunnel.control session (Scccn response)
+  pub letter : Came
+  pub takes : Taking ev tunnel letter m.taken
+  pub said : message_in letter.body ≡ Ok (Scccn response)
   pub right : IsRight 3 e.config.secret tunnel.control.challenge response
-  pub taken : m.taken ≡ taken_place tunnel.control
   pub after : x ≡ with_tunnel e m.tunnel (record tunnel { control = counts_taken (in_state Established tunnel.control) })
 
 -- a call is born: it has its place, and nothing is seen of it yet
@@ -335,15 +358,15 @@ pub record Replies (e : End) (moment : ℕ) (ev : Event) (m : Replied) (x : End)
   pub peer : m.peer ≡ tunnel.control.peer
   pub serial : ℕ
   pub calling : Option (List ℕ)
-  pub hears : (session : ℕ) × HearsNext ev tunnel.control session (Icrq m.remote serial calling)
+  pub letter : Came
+  pub takes : Taking ev tunnel letter m.taken
+  pub said : message_in letter.body ≡ Ok (Icrq m.remote serial calling)
   -- it names no call, and none of the causes stands for which there can be no call
-  pub none : at tunnel.calls hears.0 ≡ None
+  pub none : at tunnel.calls letter.header.session ≡ None
   pub granted : GrantsCall e tunnel m.remote m.session
   pub row : is_reply (call_row e.role call.Idle call_event.IcrqAcc).1 ≡ true
   pub few : has_all_calls tunnel.calls ≡ false
   pub drawn : draws e.session_ids ≡ Ok m.session
-  pub taken : m.taken ≡ taken_place tunnel.control
-  pub spare : may_take tunnel.control tunnel.calls ≡ true
   pub room : has_room tunnel.control ≡ true
   pub given : m.given ≡ next_place tunnel.control
   pub after : x ≡ record (with_tunnel e m.tunnel (with_letter m.remote (Icrp m.session) (record tunnel {
@@ -357,9 +380,10 @@ pub record ComesUpFirst (e : End) (moment : ℕ) (ev : Event) (m : FirstUp) (x :
   pub open_is : state_number tunnel.control.state ≡ 3
   pub call : Call
   pub asked : at tunnel.calls m.session ≡ Some call
-  pub hears : HearsNext ev tunnel.control m.session (Icrp m.remote)
+  pub letter : Came
+  pub takes : Taking ev tunnel letter m.taken
+  pub says : Says letter m.session (Icrp m.remote)
   pub row : is_connection (call_row e.role call.state call_event.IcrpAcc).1 ≡ true
-  pub taken : m.taken ≡ taken_place tunnel.control
   pub room : has_room tunnel.control ≡ true
   pub given : m.given ≡ next_place tunnel.control
   pub after : x ≡ record (with_tunnel e m.tunnel (with_letter m.remote connection (record tunnel {
@@ -376,9 +400,10 @@ pub record ComesUpSecond (e : End) (moment : ℕ) (ev : Event) (m : SecondUp) (x
   pub speed : ℕ
   pub framing : ℕ
   pub sequenced : Bool
-  pub hears : HearsNext ev tunnel.control m.session (Iccn speed framing sequenced)
+  pub letter : Came
+  pub takes : Taking ev tunnel letter m.taken
+  pub says : Says letter m.session (Iccn speed framing sequenced)
   pub row : is_up (call_row e.role call.state call_event.IccnAcc).0 ≡ true
-  pub taken : m.taken ≡ taken_place tunnel.control
   -- its LCP end asks for some magic number
   pub magic : ℕ
   pub after : x ≡ record (with_tunnel e m.tunnel (record tunnel {
@@ -458,10 +483,9 @@ pub record Refuses (e : End) (ev : Event) (m : Refused) (x : End) : Type 0 where
   pub tunnel : Tunnel
   pub there : at e.tunnels m.tunnel ≡ Some tunnel
   pub open_is : state_number tunnel.control.state ≡ 3
-  pub comes : ComesNext ev tunnel.control
-  pub why : WhyRefused e tunnel comes.header.session (message_in (body_of comes.header comes.bytes)) (call_fault_in (body_of comes.header comes.bytes)) m
-  pub taken : m.taken ≡ taken_place tunnel.control
-  pub spare : may_take tunnel.control tunnel.calls ≡ true
+  pub letter : Came
+  pub takes : Taking ev tunnel letter m.taken
+  pub why : WhyRefused e tunnel letter.header.session (message_in letter.body) (call_fault_in letter.body) m
   pub room : has_room tunnel.control ≡ true
   pub given : m.given ≡ next_place tunnel.control
   pub after : x ≡ with_tunnel e m.tunnel (with_letter m.remote (Cdn 0 m.result m.error) (record tunnel { control = counts_taken tunnel.control }))
@@ -476,10 +500,12 @@ pub record HearsEnd (e : End) (ev : Event) (m : EndHeard) (x : End) : Type 0 whe
   pub remote : ℕ
   pub code : ℕ
   pub error : Option ℕ
-  pub hears : (session : ℕ) × HearsNext ev tunnel.control session (Cdn remote code error) × (m.session ≡ session_named tunnel.calls session remote)
-  pub named : (hears.0 ≡ m.session) ⊎ ((hears.0 ≡ 0) × (call.remote ≡ remote))
+  pub letter : Came
+  pub takes : Taking ev tunnel letter m.taken
+  pub said : message_in letter.body ≡ Ok (Cdn remote code error)
+  pub session_is : m.session ≡ session_named tunnel.calls letter.header.session remote
+  pub named : (letter.header.session ≡ m.session) ⊎ ((letter.header.session ≡ 0) × (call.remote ≡ remote))
   pub row : is_clean_up (call_row e.role call.state call_event.CdnCame).1 ≡ true
-  pub taken : m.taken ≡ taken_place tunnel.control
   pub after : x ≡ without_call e m.tunnel (record tunnel { control = counts_taken tunnel.control }) m.session
 
 pub record EndsSilently (e : End) (moment : ℕ) (ev : Event) (m : EndSilent) (x : End) : Type 0 where
@@ -555,24 +581,25 @@ pub data ClosesConnected (secret asked response : Option (List ℕ)) (on : Tunne
 
 -- why a letter closes the tunnel in which it comes: the event of the tunnel's table, the id of the peer's tunnel that it tells, where it is
 -- an SCCRP, and the codes of the StopCCN that says so (RFC 2661 section 4.4.2); of an end with this secret
-pub data LetterCloses (secret : Option (List ℕ)) (c : Control) (ev : Event) (on : TunnelEvent) (told result : ℕ) (error : Option ℕ) : Type 0 where
+pub data LetterCloses (secret : Option (List ℕ)) (c : Control) (k : Came) (on : TunnelEvent) (told result : ℕ) (error : Option ℕ) : Type 0 where
   -- an opening came again, or isn't acceptable
-  BySccrq : (session : ℕ) (o : Opening) → InTunnel ev c session (Sccrq o) → on ≡ event_by event.SccrqAcc event.SccrqNotAcc secret None o
-      → told ≡ 0 → ClosesIn secret None o result error → LetterCloses secret c ev on told result error
-  BySccrp : (session : ℕ) (o : Opening) → InTunnel ev c session (Sccrp o) → on ≡ event_by event.SccrpAcc event.SccrpNotAcc secret c.challenge o
-      → told ≡ o.tunnel → ClosesIn secret c.challenge o result error → LetterCloses secret c ev on told result error
-  ByScccn : (session : ℕ) (response : Option (List ℕ)) → InTunnel ev c session (Scccn response) → told ≡ 0
-      → ClosesConnected secret c.challenge response on result error → LetterCloses secret c ev on told result error
+  BySccrq : (o : Opening) → message_in k.body ≡ Ok (Sccrq o) → on ≡ event_by event.SccrqAcc event.SccrqNotAcc secret None o
+      → told ≡ 0 → ClosesIn secret None o result error → LetterCloses secret c k on told result error
+  BySccrp : (o : Opening) → message_in k.body ≡ Ok (Sccrp o) → on ≡ event_by event.SccrpAcc event.SccrpNotAcc secret c.challenge o
+      → told ≡ o.tunnel → ClosesIn secret c.challenge o result error → LetterCloses secret c k on told result error
+  ByScccn : (response : Option (List ℕ)) → message_in k.body ≡ Ok (Scccn response) → told ≡ 0
+      → ClosesConnected secret c.challenge response on result error → LetterCloses secret c k on told result error
   -- it has a fault
-  ByFault : (g : TunnelFault) → IsFaultyInTunnel ev c g → on ≡ g.event → told ≡ g.remote → result ≡ 2 → error ≡ Some (fault_error g.cause)
-      → LetterCloses secret c ev on told result error
+  ByFault : (g : TunnelFault) → tunnel_fault_in k.body ≡ Some g → on ≡ g.event → told ≡ g.remote → result ≡ 2 → error ≡ Some (fault_error g.cause)
+      → LetterCloses secret c k on told result error
 
--- why a tunnel is closed with a StopCCN to the peer's tunnel that it knows: by an administrator, or by a letter that it took before
+-- why a tunnel is closed with a StopCCN to the peer's tunnel that it knows: by an administrator, or by the next letter, which the closed
+-- tunnel then takes
 pub data WhyCloses (secret : Option (List ℕ)) (t : Tunnel) (ev : Event) (on : TunnelEvent) (m : Closed) : Type 0 where
   ByOperator : ev ≡ CloseTunnel m.tunnel → on ≡ event.AdminClose → m.remote ≡ t.control.remote → m.result ≡ 1 → m.error ≡ None
       → WhyCloses secret t ev on m
-  ByLetter : (told : ℕ) → LetterCloses secret t.control ev on told m.result m.error → (state_number t.control.state ≡ 1 → ⊥)
-      → m.remote ≡ t.control.remote → WhyCloses secret t ev on m
+  ByLetter : (told : ℕ) (k : Came) → IsNext ev t k → may_take t.control t.calls ≡ true → LetterCloses secret t.control k on told m.result m.error
+      → (state_number t.control.state ≡ 1 → ⊥) → m.remote ≡ t.control.remote → WhyCloses secret t ev on m
 
 -- its calls aren't there any more
 abbrev pub without_calls : End → ℕ → Tunnel → List (ℕ × Call) → End
@@ -597,10 +624,10 @@ pub record Rejects (e : End) (moment : ℕ) (ev : Event) (m : Rejected) (x : End
   pub there : at e.tunnels m.tunnel ≡ Some tunnel
   pub waits : state_number tunnel.control.state ≡ 1
   pub on : TunnelEvent
-  pub comes : ComesNext ev tunnel.control
-  pub why : LetterCloses e.config.secret tunnel.control ev on m.remote m.result m.error
+  pub letter : Came
+  pub takes : Taking ev tunnel letter m.taken
+  pub why : LetterCloses e.config.secret tunnel.control letter on m.remote m.result m.error
   pub row : row_of rows tunnel.control.state on ≡ (state.Closed, action.SendStopCcn)
-  pub taken : m.taken ≡ taken_place tunnel.control
   pub room : has_room tunnel.control ≡ true
   pub given : m.given ≡ next_place tunnel.control
   pub after : x ≡ without_calls e m.tunnel (with_letter 0 (StopCcn m.tunnel m.result m.error) (record tunnel {
@@ -618,9 +645,9 @@ pub record ClosesBy (e : End) (moment : ℕ) (ev : Event) (m : ClosedBy) (x : En
   pub tunnel : Tunnel
   pub there : at e.tunnels m.tunnel ≡ Some tunnel
   pub live : is_closed tunnel.control.state ≡ false
-  pub comes : ComesNext ev tunnel.control
-  pub says : SaysStop (body_of comes.header comes.bytes)
-  pub taken : m.taken ≡ taken_place tunnel.control
+  pub letter : Came
+  pub takes : Taking ev tunnel letter m.taken
+  pub says : SaysStop letter.body
   pub after : x ≡ without_calls e m.tunnel (record tunnel {
     control = record (counts_taken tunnel.control) { state = state.Closed; closed = moment };
   }) tunnel.calls
@@ -647,10 +674,10 @@ pub record Greets (e : End) (moment : ℕ) (ev : Event) (m : Greeted) (x : End) 
 
 -- by its tables the end does nothing on such a message in the tunnel
 abbrev pub IsPlain : End → Tunnel → ℕ → Message → Type 0
-IsPlain e t session (Sccrq o) = Unit {0}
--- it connects or closes a tunnel that waits for it
-IsPlain e t session (Sccrp o) = state_number t.control.state ≡ 1 → ⊥
-IsPlain e t session (Scccn response) = state_number t.control.state ≡ 2 → ⊥
+-- an opening connects the tunnel, or closes it
+IsPlain e t session (Sccrq o) = is_closed t.control.state ≡ true
+IsPlain e t session (Sccrp o) = is_closed t.control.state ≡ true
+IsPlain e t session (Scccn response) = is_closed t.control.state ≡ true
 IsPlain e t session Hello = Unit {0}
 IsPlain e t session (StopCcn tunnel code error) = is_closed t.control.state ≡ true
 IsPlain e t session (Ocrq remote) = state_number t.control.state ≡ 3 → ⊥
@@ -667,13 +694,15 @@ IsPlain e t session (Iccn speed framing sequenced) = state_number t.control.stat
 IsPlain e t session (Cdn remote code error) = state_number t.control.state ≡ 3
     → (c : Call) → at t.calls (session_named t.calls session remote) ≡ Some c → is_clean_up (call_row e.role c.state call_event.CdnCame).1 ≡ false
 
--- a letter that can't be read, or on which nothing is done
+-- a letter that can't be read, or on which nothing is done; one that closes a tunnel is taken once it is closed
 pub record TakesPlain (e : End) (ev : Event) (m : TookPlain) (x : End) : Type 0 where
   pub tunnel : Tunnel
   pub there : at e.tunnels m.tunnel ≡ Some tunnel
-  pub comes : ComesNext ev tunnel.control
-  pub why : (m : Message) → message_in (body_of comes.header comes.bytes) ≡ Ok m → IsPlain e tunnel comes.header.session m
+  pub letter : Came
+  pub next : IsNext ev tunnel letter
+  pub why : (m : Message) → message_in letter.body ≡ Ok m → IsPlain e tunnel letter.header.session m
   pub taken : m.taken ≡ taken_place tunnel.control
+  pub spare : is_closed tunnel.control.state ≡ false → may_take tunnel.control tunnel.calls ≡ true
   pub after : x ≡ with_tunnel e m.tunnel (record tunnel { control = counts_taken tunnel.control })
 
 -- the letters before Nr go, and the timer of the next one starts

@@ -11,7 +11,7 @@ use Rattle.protocol_model.specs.declared.out.Out.TheVariants.{Drop}
 use Rattle.protocol_model.specs.Turn.{Tunnel, counts_acked}
 use Rattle.protocol_model.specs.End.{End, plain_step}
 use Rattle.step_laws.specs.Letters.{Among}
-use Rattle.step_laws.specs.Moves.{may_take, ComesNext, TellsNr}
+use Rattle.step_laws.specs.Moves.{may_take, Came, IsNext, TellsNr}
 use Rattle.step_laws.specs.Steps.{AreKept}
 
 -- the next message of a tunnel came, which holds so many letters, once Nr is read, and whose calls owe so many, that it may not
@@ -20,7 +20,8 @@ pub record IsFull (e : End) (moment : ℕ) (ev : Event) : Type 0 where
   pub id : ℕ
   pub tunnel : Tunnel
   pub there : at e.tunnels id ≡ Some tunnel
-  pub next : ComesNext ev tunnel.control
+  pub letter : Came
+  pub next : IsNext ev tunnel letter
   pub nr : ℕ
   pub tells : TellsNr ev tunnel.control nr
   pub full : may_take (counts_acked nr moment tunnel.control) tunnel.calls ≡ false
