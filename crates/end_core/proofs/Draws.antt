@@ -2,7 +2,6 @@
 use Rattle.std.proofs.Common.{◌≡◌, ℕ, zero, suc, Bool, true, false, List, [], ◌∷◌, Option, Some, None, refl, ◌∙◌}
 use Rattle.std.specs.Prelude.{if◌then◌else◌}
 use Rattle.id_table.specs.Ids.{at}
-use Rattle.id_source.specs.Spaces.{Space}
 use Rattle.wire_base.specs.declared.letter.Letter.{Letter}
 use Rattle.wire_base.specs.declared.cause.Cause.TheVariants as cause
 use Rattle.wire_base.specs.declared.cause.Cause.{Cause as CauseOf}
@@ -15,11 +14,11 @@ use Rattle.protocol_model.specs.declared.tunnel.Call.{Call}
 use Rattle.protocol_model.specs.declared.tunnel.Link.{Link}
 use Rattle.end_names.specs.declared.role.Role.{Role}
 use Rattle.protocol_model.specs.Links.{lcp_frame}
-use Rattle.protocol_model.specs.Turn.{Turn, with_output, with_move, with_change, drops, ends_call, ends_all, clears, gives, sends_letter, sends_now, lets_go, goes_by, lets_all_go, repeats, acknowledges, acknowledged_after, settles, greeted, greets, end_silent, end_told, ends_by, with_looks_of, with_call, carried, sends_packets, negotiated, links, ticks_link, limits_at, limits_all, goes_quietly, ticks_by, ticks}
+use Rattle.protocol_model.specs.Turn.{Drawing, Turn, with_output, with_move, with_change, drops, ends_call, ends_all, clears, gives, sends_letter, sends_now, lets_go, goes_by, lets_all_go, repeats, acknowledges, acknowledged_after, settles, greeted, greets, end_silent, end_told, ends_by, with_looks_of, with_call, carried, sends_packets, negotiated, links, ticks_link, limits_at, limits_all, goes_quietly, ticks_by, ticks}
 
 -- what a turn drew
-abbrev pub drawn : Turn → List ℕ × Space × Space
-drawn t = (t.added, t.tunnels, t.sessions)
+abbrev pub drawn : Turn → List ℕ × Drawing
+drawn t = (t.added, t.ids)
 
 either : (b : Bool) (x y t : Turn) → drawn x ≡ drawn t → drawn y ≡ drawn t → drawn (if b then x else y) ≡ drawn t
 either true x y t one other = one

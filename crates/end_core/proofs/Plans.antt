@@ -227,13 +227,13 @@ other_stays ts p (Some t) q apart = other_left ts p.0 p.1.cleared (made_of p.1 t
 
 -- an end after plans and changes of looks, with where ids are drawn from
 abbrev left : End → Env → List (ℕ × Tunnel) → List (ℕ × CallPlace) → End
-left x start tunnels calls = record x { tunnel_ids = start.tunnels; session_ids = start.sessions; tunnels = tunnels; calls = calls }
+left x start tunnels calls = record x { tunnel_ids = start.ids.tunnels; session_ids = start.ids.sessions; tunnels = tunnels; calls = calls }
 
-one_made : (x : End) (start : Env) (i : ℕ) (t : Tunnel) (r : Turn) (p : ℕ × Plan) → p.0 ≡ i → IsTurn p.1 r → at x.tunnels i ≡ Some t → r.added ≡ [] → r.tunnels ≡ start.tunnels → r.sessions ≡ start.sessions
+one_made : (x : End) (start : Env) (i : ℕ) (t : Tunnel) (r : Turn) (p : ℕ × Plan) → p.0 ≡ i → IsTurn p.1 r → at x.tunnels i ≡ Some t → r.added ≡ [] → r.ids ≡ start.ids
     → (after_turn x i t.letters t.calls r).end ≡ left x start (after_plan x.tunnels p (at x.tunnels p.0)) (with_looks r.changes x.calls)
 unfolding after_turn placed
-one_made x start i t r p id plan there added tunnels sessions =
-    rw (id, there, tunnels, sessions, added, plan.control, plan.acked, plan.given, plan.cleared, plan.changed) refl
+one_made x start i t r p id plan there added ids =
+    rw (id, there, ids, added, plan.control, plan.acked, plan.given, plan.cleared, plan.changed) refl
 
 -- the tunnels of these plans are as before
 abbrev Untouched : End → End → List (ℕ × Plan) → Type 0
@@ -245,7 +245,7 @@ still_untouched v x start p calls (q ∷ ps) apart h = (other_stays x.tunnels p 
 
 module _ (v : End) (start : Env) where
   abbrev Leaves : List Turned → Type 0
-  Leaves ts = (ps : List (ℕ × Plan)) → ArePlanned ps ts → IsStrictlySortedBy nat_cmp (ids_of ps) → (x : End) → x.tunnel_ids ≡ start.tunnels → x.session_ids ≡ start.sessions → Untouched v x ps
+  Leaves ts = (ps : List (ℕ × Plan)) → ArePlanned ps ts → IsStrictlySortedBy nat_cmp (ids_of ps) → (x : End) → x.tunnel_ids ≡ start.ids.tunnels → x.session_ids ≡ start.ids.sessions → Untouched v x ps
       → end_after_all ts x ≡ left x start (after_plans ps x.tunnels) (with_looks (flat_map (λ t. t.turn.changes) ts) x.calls)
 
   none_left : Leaves []
@@ -261,7 +261,7 @@ module _ (v : End) (start : Env) where
       let d = ticks_drawn v.role t.letters t.calls (turn_of t.control start) in
       let is : at x.tunnels i ≡ Some t = subst (λ q. at x.tunnels q ≡ at v.tunnels q) planned.0 same.0 ∙ there in
       let y = left x start (after_plan x.tunnels p (at x.tunnels p.0)) (with_looks r.changes x.calls) in
-      let one = one_made x start i t r p planned.0 planned.1 is (ap (λ k. k.0) d) (ap (λ k. k.1) d) (ap (λ k. k.2) d) in
+      let one = one_made x start i t r p planned.0 planned.1 is (ap (λ k. k.0) d) (ap (λ k. k.1) d) in
       let sorted = after_apart p.0 (ids_of ps) ascend in
       ap (end_after_all ts) one
       ∙ later ps planned.2 sorted.1 y refl refl (still_untouched v x start p (with_looks r.changes x.calls) ps sorted.0 same.1)

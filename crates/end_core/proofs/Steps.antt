@@ -24,7 +24,7 @@ same_parts s u a b c = ap (λ (x : End). record { end = x; outputs = s.outputs; 
 
 -- what is planned of a turn, and the environment that took in what it gave
 pub record IsSettled (v : End) (i : ℕ) (t : Tunnel) (p : Plan) (env : Env) (s : Stepped) : Type 0 where
-  pub end : s.end ≡ record v { tunnel_ids = env.tunnels; session_ids = env.sessions; tunnels = tunnels_after v.tunnels i p.cleared (made_of p t); calls = with_looks env.changes (placed p.control.local p.added v.calls) }
+  pub end : s.end ≡ record v { tunnel_ids = env.ids.tunnels; session_ids = env.ids.sessions; tunnels = tunnels_after v.tunnels i p.cleared (made_of p t); calls = with_looks env.changes (placed p.control.local p.added v.calls) }
   pub outputs : s.outputs ≡ env.outputs
   pub moves : s.moves ≡ env.moves
 
@@ -48,17 +48,13 @@ module _ (v : End) (start : Env) (none : start.changes ≡ []) (ev : Event) (i :
   unfolding with_turn
   moves_are = ap (λ (x : Env). x.moves) given
 
-  tunnels_are : env.tunnels ≡ r.tunnels
+  ids_are : env.ids ≡ r.ids
   unfolding with_turn
-  tunnels_are = ap (λ (x : Env). x.tunnels) given
-
-  sessions_are : env.sessions ≡ r.sessions
-  unfolding with_turn
-  sessions_are = ap (λ (x : Env). x.sessions) given
+  ids_are = ap (λ (x : Env). x.ids) given
 
   pub end_is : s.end ≡ (after_turn v i t.letters t.calls r).end
   unfolding after_turn
-  end_is = settled.end ∙ rw (tunnels_are, sessions_are, changes_are, plan.control, plan.acked, plan.given, plan.cleared, plan.changed, plan.added) refl
+  end_is = settled.end ∙ rw (ids_are, changes_are, plan.control, plan.acked, plan.given, plan.cleared, plan.changed, plan.added) refl
 
   pub turn_is : behind_env start (after_turn v i t.letters t.calls (turned v start ev t)) ≡ s
   unfolding after_turn
@@ -75,10 +71,10 @@ module _ (v : End) (start : Env) (none : start.changes ≡ []) (ev : Event) (i :
   same_turn : (start.outputs ≡ []) × (start.moves ≡ []) → after_turn v i t.letters t.calls r ≡ s
   same_turn silent = ap (λ (x : Turn). after_turn v i t.letters t.calls x) is ∙ sym (behind_none start _ silent) ∙ turn_is
 
-  pub new_is : (start.outputs ≡ []) × (start.moves ≡ []) → (peer : ℕ) → t ≡ record { control = fresh peer start.moment; letters = []; calls = [] } → p.control.local ≡ i → (i ≡ 0 → ⊥) → in_new v start ev peer ≡ s
+  pub new_is : (start.outputs ≡ []) × (start.moves ≡ []) → (peer : ℕ) → t ≡ record { control = fresh peer start.on.moment; letters = []; calls = [] } → p.control.local ≡ i → (i ≡ 0 → ⊥) → in_new v start ev peer ≡ s
   unfolding in_new
   new_is begun peer idle local some =
-      let same : r ≡ turns v.role v.config [] [] ev (turn_of (fresh peer start.moment) start) = is ∙ ap (λ (u : Tunnel). turned v start ev u) idle in
+      let same : r ≡ turns v.role v.config [] [] ev (turn_of (fresh peer start.on.moment) start) = is ∙ ap (λ (u : Tunnel). turned v start ev u) idle in
       let at : r.control.local ≡ i = ap (λ (c : Control). c.local) (sym plan.control) ∙ local in
       let none : t.calls ≡ [] = ap (λ (u : Tunnel). u.calls) idle in
       let silent : t.letters ≡ [] = ap (λ (u : Tunnel). u.letters) idle in
@@ -87,7 +83,7 @@ module _ (v : End) (start : Env) (none : start.changes ≡ []) (ev : Event) (i :
 -- a step of a tunnel that is there
 pub main_made : (v : End) (start : Env) → start.changes ≡ [] → (ev : Event) (i : ℕ) (o : Option Tunnel) (p : Plan)
     (env : Env) (s : Stepped) → at v.tunnels i ≡ o → IsSome o → IsPlanned v.role v.config ev start o p → IsGiven v.role v.config ev start o env
-    → s.end ≡ record v { tunnel_ids = env.tunnels; session_ids = env.sessions; tunnels = after_plan v.tunnels (i, p) o; calls = with_looks env.changes (placed p.control.local p.added v.calls) }
+    → s.end ≡ record v { tunnel_ids = env.ids.tunnels; session_ids = env.ids.sessions; tunnels = after_plan v.tunnels (i, p) o; calls = with_looks env.changes (placed p.control.local p.added v.calls) }
     → s.outputs ≡ env.outputs → s.moves ≡ env.moves → behind_env start (in_main v start ev i (at v.tunnels i)) ≡ s
 main_made v start none ev i None p env s there some planned given end outputs moves = absurd (true≢false (sym some))
 main_made v start none ev i (Some t) p env s there some planned given end outputs moves =
@@ -102,7 +98,7 @@ same_behind v env g ev i None = refl
 same_behind v env g ev i (Some t) = refl
 
 -- a new tunnel that drew no id
-pub not_made : (v : End) (start env : Env) (ev : Event) (peer : ℕ) (r : Turn) (os : List Out) (ms : List Move) → (start.outputs ≡ []) × (start.moves ≡ []) → r ≡ turns v.role v.config [] [] ev (turn_of (fresh peer start.moment) start) → env ≡ with_turn r start → r.control.local ≡ 0 → os ≡ env.outputs → ms ≡ env.moves → in_new v start ev peer ≡ record { end = v; outputs = os; moves = ms }
+pub not_made : (v : End) (start env : Env) (ev : Event) (peer : ℕ) (r : Turn) (os : List Out) (ms : List Move) → (start.outputs ≡ []) × (start.moves ≡ []) → r ≡ turns v.role v.config [] [] ev (turn_of (fresh peer start.on.moment) start) → env ≡ with_turn r start → r.control.local ≡ 0 → os ≡ env.outputs → ms ≡ env.moves → in_new v start ev peer ≡ record { end = v; outputs = os; moves = ms }
 unfolding in_new after_new with_turn
 not_made v start env ev peer r os ms none is given zero a b =
     rw (← is, eq-eqb r.control.local 0 zero, a, b, given, none.0, none.1) refl

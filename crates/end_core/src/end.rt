@@ -26,7 +26,7 @@ use std::marker::Model;
 use tunnel_core::{Env, Moves, Outputs, Planned, TunnelCore};
 use tunnel_fsm::TunnelState;
 use tunnel_table::TunnelTable;
-use wire_base::{Bytes, Contents, NoMemory, Sequence, Why};
+use wire_base::{Bytes, NoMemory, Sequence, Why};
 
 /// The last tunnel id, the last session id, and the last number of a recovery.
 const LAST_TUNNEL: u32 = 65_535;
@@ -268,7 +268,6 @@ impl End {
             tunnels: self.tunnel_ids,
             sessions: self.session_ids,
             recoveries: self.recovery_ids,
-            contents: Contents::new(self.alloc),
             outputs: Outputs::new(self.alloc),
             changes: CellChanges::new(self.alloc),
             moves: Moves::new(self.alloc),

@@ -36,7 +36,7 @@ use Rattle.protocol_model.specs.declared.event.Addressee.{Addressee}
 use Rattle.protocol_model.specs.declared.event.Addressee.TheVariants.{Opens, Stops, Answers, Main, Nobody}
 use Rattle.protocol_model.specs.Reading.{header_why, body_of, message_in, TunnelFault, tunnel_fault_in, at_zero, at_tunnel}
 use Rattle.protocol_model.specs.Secrets.{lacks_secret, uncovered_datagram, uncovered_event}
-use Rattle.protocol_model.specs.Turn.{Tunnel, Env, Turn, Reason, out_of_order, other_version, no_recovery, no_secret, fault_reason, turn_of, tunnel_after, fresh, turns}
+use Rattle.protocol_model.specs.Turn.{Tunnel, Drawing, Env, Turn, Reason, out_of_order, other_version, no_recovery, no_secret, fault_reason, turn_of, tunnel_after, fresh, turns}
 use Rattle.protocol_model.specs.Reasons.{no_tunnel, no_id}
 use Rattle.protocol_model.specs.declared.out.Origin.{Origin}
 use Rattle.protocol_model.specs.declared.out.Origin.TheVariants as origin
@@ -82,14 +82,14 @@ pub record Stepped : Type 0 where
   pub outputs : List Out
   pub moves : List Move
 
+-- where it draws from
+abbrev pub drawing_of : End → Drawing
+drawing_of e = record { tunnels = e.tunnel_ids; sessions = e.session_ids; recoveries = e.recovery_ids }
+
 abbrev pub env_of : End → ℕ → List ℕ → Env
 env_of e moment block = record {
-  moment = moment;
-  block = block;
-  tunnels = e.tunnel_ids;
-  sessions = e.session_ids;
-  recoveries = e.recovery_ids;
-  contents = [];
+  on = record { moment = moment; block = block };
+  ids = drawing_of e;
   outputs = [];
   changes = [];
   moves = [];
@@ -143,8 +143,8 @@ tunnels_after tunnels i false t = put tunnels i t
 unfoldable pub after_turn : End → ℕ → List Letter → List (ℕ × Call) → Turn → Stepped
 after_turn e i letters calls t = record {
   end = record e {
-    tunnel_ids = t.tunnels;
-    session_ids = t.sessions;
+    tunnel_ids = t.ids.tunnels;
+    session_ids = t.ids.sessions;
     tunnels = tunnels_after e.tunnels i t.cleared (tunnel_after t letters calls);
     calls = with_looks t.changes (placed t.control.local t.added e.calls);
   };
@@ -160,7 +160,7 @@ after_new e t =
 
 -- an event for a tunnel that is to be made to this peer
 unfoldable pub in_new : End → Env → Event → ℕ → Stepped
-in_new e env ev peer = after_new e (turns e.role e.config [] [] ev (turn_of (fresh peer env.moment) env))
+in_new e env ev peer = after_new e (turns e.role e.config [] [] ev (turn_of (fresh peer env.on.moment) env))
 
 -- an end has 1,024 live tunnels at most
 abbrev pub has_all_tunnels : List (ℕ × Tunnel) → Bool

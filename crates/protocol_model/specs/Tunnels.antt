@@ -15,17 +15,21 @@ pub record Tunnel : Type 0 where
   -- its calls, by session id
   pub calls : List (ℕ × Call)
 
--- what a step works in
-pub record Env : Type 0 where
-  -- the moment of the step, in milliseconds, and its 16 random bytes
+-- what a step stands on, which nothing in it changes: its moment, in milliseconds, and its 16 random bytes
+pub record Ground : Type 0 where
   pub moment : ℕ
   pub block : List ℕ
-  -- where tunnel ids, session ids and the numbers of recoveries are drawn from
+
+-- where a step draws tunnel ids, session ids and the numbers of recoveries from
+pub record Drawing : Type 0 where
   pub tunnels : Space
   pub sessions : Space
   pub recoveries : Space
-  -- what is to be committed before any output is given
-  pub contents : List (List ℕ)
+
+-- what a step works in
+pub record Env : Type 0 where
+  pub on : Ground
+  pub ids : Drawing
   pub outputs : List Out
   -- what changes in the looks
   pub changes : List CellChange
@@ -33,9 +37,8 @@ pub record Env : Type 0 where
 
 -- a tunnel in a step, with what the step gave so far
 pub record Turn : Type 0 where
-  -- the moment of the step, in milliseconds, and its 16 random bytes
-  pub moment : ℕ
-  pub block : List ℕ
+  pub on : Ground
+  pub ids : Drawing
   pub control : Control
   -- the letters that the step gave to the channel, in order
   pub given : List Letter
@@ -48,16 +51,14 @@ pub record Turn : Type 0 where
   pub changed : List (ℕ × Option Call)
   -- the sessions of the calls that it made
   pub added : List ℕ
-  pub tunnels : Space
-  pub sessions : Space
   pub outputs : List Out
   pub changes : List CellChange
   pub moves : List Move
 
 abbrev pub turn_of : Control → Env → Turn
 turn_of c e = record {
-  moment = e.moment;
-  block = e.block;
+  on = e.on;
+  ids = e.ids;
   control = c;
   given = [];
   acked = 0;
@@ -65,8 +66,6 @@ turn_of c e = record {
   cleared = false;
   changed = [];
   added = [];
-  tunnels = e.tunnels;
-  sessions = e.sessions;
   outputs = [];
   changes = [];
   moves = [];

@@ -49,7 +49,7 @@ use Rattle.protocol_model.specs.declared.out.Out.TheVariants.{Send, Gone, Drop, 
 use Rattle.protocol_model.specs.declared.out.Origin.TheVariants as origin
 use Rattle.protocol_model.specs.declared.moves.Move.{Move}
 use Rattle.protocol_model.specs.declared.moves.Move.TheVariants as move
-pub use Rattle.protocol_model.specs.Tunnels.{Tunnel, Env, Turn, turn_of}
+pub use Rattle.protocol_model.specs.Tunnels.{Tunnel, Ground, Drawing, Env, Turn, turn_of}
 pub use Rattle.protocol_model.specs.Channels.{place, next_place, taken_place, has_room, may_take, letter_of, letter_as, counts_given, counts_taken, learns_window, counts_acked, datagram, origin_of, sends, counts_sent, counts_repeated}
 pub use Rattle.protocol_model.specs.Messages.{opening_of, request_of, hidden_request, connection, against, is_acceptable, event_by, opening_reason, connected_event, connected_reason}
 pub use Rattle.protocol_model.specs.Secrets.{challenge_by, response_by}
@@ -63,8 +63,7 @@ pub use Rattle.protocol_model.specs.Links.{lcp_frame, new_link, with_link, link_
 -- what a turn gave, behind what was there
 unfoldable pub with_turn : Turn → Env → Env
 with_turn t e = record e {
-  tunnels = t.tunnels;
-  sessions = t.sessions;
+  ids = t.ids;
   outputs = e.outputs ++ t.outputs;
   changes = e.changes ++ t.changes;
   moves = e.moves ++ t.moves;
@@ -87,7 +86,7 @@ with_call s c t = record t { changed = t.changed ++ (s, Some c) ∷ [] }
 
 -- a call that is made
 unfoldable pub with_new : ℕ → Call → Turn → Turn
-with_new s c t = record t { changed = t.changed ++ (s, Some c) ∷ []; added = t.added ++ s ∷ []; sessions = after_draw t.sessions }
+with_new s c t = record t { changed = t.changed ++ (s, Some c) ∷ []; added = t.added ++ s ∷ []; ids = record t.ids { sessions = after_draw t.ids.sessions } }
 
 unfoldable pub drops : Why → Turn → Turn
 drops w t = with_output (Drop w) t
@@ -119,7 +118,7 @@ takes_one t = record t { control = counts_taken t.control; took = true }
 unfoldable pub reads_nr : ℕ → Turn → Turn
 reads_nr nr t =
     with_move (move.NrRead (record { tunnel = t.control.local; nr = nr }))
-    (record t { control = record (counts_acked nr t.moment t.control) { heard = t.moment }; acked = count_acked t.control.channel nr })
+    (record t { control = record (counts_acked nr t.on.moment t.control) { heard = t.on.moment }; acked = count_acked t.control.channel nr })
 
 -- ---- what is sent
 
@@ -146,7 +145,7 @@ unfoldable pub lets_go : List Letter → ℕ → Turn → Turn
 lets_go letters number t =
     sends_now letters number
     (with_move (move.LetGo (record { tunnel = t.control.local; sent = place number }))
-    (record t { control = counts_sent t.moment t.control }))
+    (record t { control = counts_sent t.on.moment t.control }))
 
 unfoldable pub goes_by : (Turn → Turn) → List Letter → Option ℕ → Turn → Turn
 goes_by rest letters None t = t
@@ -157,7 +156,7 @@ unfoldable pub repeats : List Letter → ℕ → Turn → Turn
 repeats letters number t =
     sends_now letters number
     (with_move (move.Repeated (record { tunnel = t.control.local; sent = place number }))
-    (record t { control = counts_repeated t.moment t.control }))
+    (record t { control = counts_repeated t.on.moment t.control }))
 
 -- as many as the windows allow, and so many at most
 unfoldable pub lets_all_go : ℕ → List Letter → Turn → Turn
@@ -200,29 +199,29 @@ next_of s e = (row_of rows s e).0
 
 -- a tunnel gets the id that was drawn
 unfoldable pub with_local : ℕ → Turn → Turn
-with_local local t = record t { control = record t.control { local = local }; tunnels = after_draw t.tunnels }
+with_local local t = record t { control = record t.control { local = local }; ids = record t.ids { tunnels = after_draw t.ids.tunnels } }
 
 -- a new tunnel is opened by an SCCRQ
 unfoldable pub opened : Role → Config → ℕ → Turn → Turn
 opened role c local t =
-    gives 0 (Sccrq (opening_of role c (challenge_by c.secret t.block) None local))
-    (with_move (move.Opened (record { tunnel = local; peer = t.control.peer; challenge = challenge_by c.secret t.block; given = next_place t.control }))
-    (with_local local (record t { control = asking (challenge_by c.secret t.block) (in_state (next_of t.control.state event.LocalOpen) t.control) })))
+    gives 0 (Sccrq (opening_of role c (challenge_by c.secret t.on.block) None local))
+    (with_move (move.Opened (record { tunnel = local; peer = t.control.peer; challenge = challenge_by c.secret t.on.block; given = next_place t.control }))
+    (with_local local (record t { control = asking (challenge_by c.secret t.on.block) (in_state (next_of t.control.state event.LocalOpen) t.control) })))
 
 unfoldable pub opens_by : Role → Config → Result ℕ IdError → Turn → Turn
 opens_by role c (Err e) t = with_output (Cause cause.Ids) t
 opens_by role c (Ok local) t = if has_room t.control then opened role c local t else with_output (Cause cause.Queue) t
 
 unfoldable pub opens : Role → Config → Turn → Turn
-opens role c t = opens_by role c (draws t.tunnels) t
+opens role c t = opens_by role c (draws t.ids.tunnels) t
 
 -- a new tunnel is made by an SCCRQ that asks this, assigns this id and tells this window, and answered by an SCCRP
 unfoldable pub accepted : Role → Config → Option (List ℕ) → ℕ → ℕ → ℕ → Turn → Turn
 accepted role c asked remote window local t =
-    gives 0 (Sccrp (opening_of role c (challenge_by c.secret t.block) (response_by 2 c.secret asked) local))
-    (with_move (move.Accepted (record { tunnel = local; peer = t.control.peer; remote = remote; window = window; challenge = challenge_by c.secret t.block; response = response_by 2 c.secret asked; taken = taken_place t.control; given = next_place t.control }))
+    gives 0 (Sccrp (opening_of role c (challenge_by c.secret t.on.block) (response_by 2 c.secret asked) local))
+    (with_move (move.Accepted (record { tunnel = local; peer = t.control.peer; remote = remote; window = window; challenge = challenge_by c.secret t.on.block; response = response_by 2 c.secret asked; taken = taken_place t.control; given = next_place t.control }))
     (takes_one
-    (with_local local (record t { control = learns_window window (asking (challenge_by c.secret t.block) (record t.control { remote = remote; state = next_of t.control.state event.SccrqAcc })) }))))
+    (with_local local (record t { control = learns_window window (asking (challenge_by c.secret t.on.block) (record t.control { remote = remote; state = next_of t.control.state event.SccrqAcc })) }))))
 
 unfoldable pub accepts_by : Role → Config → Option (List ℕ) → ℕ → ℕ → Result ℕ IdError → Turn → Turn
 accepts_by role c asked remote window (Err e) t = drops why.Tunnel t
@@ -230,17 +229,17 @@ accepts_by role c asked remote window (Ok local) t =
     if has_room t.control then accepted role c asked remote window local t else drops why.Queue t
 
 unfoldable pub accepts : Role → Config → Option (List ℕ) → ℕ → ℕ → Turn → Turn
-accepts role c asked remote window t = accepts_by role c asked remote window (draws t.tunnels) t
+accepts role c asked remote window t = accepts_by role c asked remote window (draws t.ids.tunnels) t
 
 -- ---- calls that are asked for
 
 -- a waiting call is asked for, and the peer comes to know it
 unfoldable pub requested : Role → Config → ℕ → Call → Turn → Turn
 requested role config s c t =
-    gives_as 0 (request_of s c.subscriber) (hidden_request config t.block s c.subscriber)
+    gives_as 0 (request_of s c.subscriber) (hidden_request config t.on.block s c.subscriber)
     (with_change (cell.Bind s t.control.local t.control.peer)
-    (with_move (move.Requested (record { tunnel = t.control.local; session = s; subscriber = c.subscriber; hidden = hidden_request config t.block s c.subscriber; given = next_place t.control }))
-    (with_call s (advanced role call_event.TunnelOpen t.moment c) t)))
+    (with_move (move.Requested (record { tunnel = t.control.local; session = s; subscriber = c.subscriber; hidden = hidden_request config t.on.block s c.subscriber; given = next_place t.control }))
+    (with_call s (advanced role call_event.TunnelOpen t.on.moment c) t)))
 
 unfoldable pub requests : Role → Config → ℕ → Call → Turn → Turn
 requests role config s c t =
@@ -264,12 +263,12 @@ requests_all role config (s ∷ ss) calls t = requests_all role config ss calls 
 unfoldable pub adds : Role → List ℕ → ℕ → Turn → Turn
 adds role who s t =
     with_move (move.Added (record { tunnel = t.control.local; session = s; subscriber = who }))
-    (with_new s (rung role who t.moment) t)
+    (with_new s (rung role who t.on.moment) t)
 
 -- over a tunnel that is open the call is asked for at once; over another it waits
 unfoldable pub rings_over : Role → Config → List ℕ → ℕ → Turn → Turn
 rings_over role config who s t =
-    if state_number t.control.state == 3 then requests role config s (rung role who t.moment) (adds role who s t) else adds role who s t
+    if state_number t.control.state == 3 then requests role config s (rung role who t.on.moment) (adds role who s t) else adds role who s t
 
 unfoldable pub rings_by : Role → Config → List ℕ → Result ℕ IdError → Turn → Turn
 rings_by role config who (Err e) t = with_output (Cause cause.Ids) t
@@ -279,7 +278,7 @@ rings_by role config who (Ok s) t = rings_over role config who s t
 unfoldable pub rings_within : Role → Config → List (ℕ × Call) → List ℕ → Turn → Turn
 rings_within role config calls who t =
     if are_too_many calls then with_output (Cause cause.Calls) t
-    else if may_take t.control calls then rings_by role config who (draws t.sessions) t
+    else if may_take t.control calls then rings_by role config who (draws t.ids.sessions) t
     else with_output (Cause cause.Queue) t
 
 -- a new tunnel is opened for the call
@@ -292,7 +291,7 @@ rings_new role c who (Ok s) (Ok local) t =
 unfoldable pub rings : Role → Config → List (ℕ × Call) → List ℕ → Turn → Turn
 rings role c calls who t =
     if state_number t.control.state == 0
-    then rings_new role c who (draws t.sessions) (draws t.tunnels) t
+    then rings_new role c who (draws t.ids.sessions) (draws t.ids.tunnels) t
     else rings_within role c calls who t
 
 -- ---- letters about the tunnel
@@ -332,7 +331,7 @@ shut remote next moment c = record c { state = next; remote = remote; closed = m
 
 -- and its calls end with it
 unfoldable pub shuts : List (ℕ × Call) → ℕ → TunnelState → Turn → Turn
-shuts calls remote next t = ends_all (ids_of calls) (record t { control = shut remote next t.moment t.control })
+shuts calls remote next t = ends_all (ids_of calls) (record t { control = shut remote next t.on.moment t.control })
 
 -- the peer is told by a StopCCN with a result code (RFC 2661 sections 4.4.2 and 5.7), which names its tunnel where that is known
 unfoldable pub closed_told : Reason → List (ℕ × Call) → ℕ → TunnelState → Turn → Turn
@@ -436,7 +435,7 @@ links role letters s c l v t =
 -- an LCP packet, in a frame from its protocol field on, came up a call
 unfoldable pub hears_link : Role → List Letter → ℕ → List ℕ → Call → Option Link → Turn → Turn
 hears_link role letters s frame c None t = drops why.Closed t
-hears_link role letters s frame c (Some l) t = links role letters s c l (after_packet (drop 2 frame) t.block t.moment l.lcp) t
+hears_link role letters s frame c (Some l) t = links role letters s c l (after_packet (drop 2 frame) t.on.block t.on.moment l.lcp) t
 
 unfoldable pub hears_lcp : Role → List Letter → ℕ → List ℕ → Option Call → Turn → Turn
 hears_lcp role letters s frame None t = drops why.Call t
@@ -447,7 +446,7 @@ hears_lcp role letters s frame (Some c) t =
 unfoldable pub ticks_link : Role → List Letter → ℕ → Call → Option Link → Turn → Turn
 ticks_link role letters s c None t = t
 ticks_link role letters s c (Some l) t =
-    if nat_lt s 65536 && is_up c.state && is_due t.moment l.lcp then links role letters s c l (ticked t.moment l.lcp) t else t
+    if nat_lt s 65536 && is_up c.state && is_due t.on.moment l.lcp then links role letters s c l (ticked t.on.moment l.lcp) t else t
 
 -- ---- letters about a call
 
@@ -501,17 +500,16 @@ unfoldable pub replied : Role → ℕ → ℕ → Turn → Turn
 replied role remote s t =
     gives remote (Icrp s)
     (with_move (move.Replied (record { tunnel = t.control.local; peer = t.control.peer; session = s; remote = remote; taken = taken_place t.control; given = next_place t.control }))
-    (with_new s (asked_for role remote t.moment) (takes_one t)))
+    (with_new s (asked_for role remote t.on.moment) (takes_one t)))
 
 unfoldable pub replies : Role → ℕ → ℕ → Turn → Turn
 replies role remote s t = if has_room t.control then replied role remote s t else drops why.Queue t
 
--- the request for a call, or one that names a call
+-- the request for a call; one that names a call is out of state, whatever else would stand against it
 unfoldable pub asked_by : Role → ℕ → ℕ → Result ℕ Reason → Option Call → Turn → Turn
+asked_by role s remote g (Some c) t = answers_by out_of_state s c (call_row role c.state call_event.IcrqAcc).1 t
 asked_by role s remote (Ok drawn) None t = replies role remote drawn t
 asked_by role s remote (Err r) None t = refuses r remote t
-asked_by role s remote (Ok drawn) (Some c) t = answers_by out_of_state s c (call_row role c.state call_event.IcrqAcc).1 t
-asked_by role s remote (Err r) (Some c) t = answers_by r s c (call_row role c.state call_event.IcrqNotAcc).1 t
 
 -- the peer's session is learned, and the call is connected and up
 unfoldable pub first_up : Role → ℕ → ℕ → Call → Turn → Turn
@@ -519,7 +517,7 @@ first_up role s remote c t =
     gives remote connection
     (with_change (cell.Establish s)
     (with_move (move.FirstUp (record { tunnel = t.control.local; session = s; remote = remote; taken = taken_place t.control; given = next_place t.control }))
-    (with_call s (advanced role call_event.IcrpAcc t.moment (record c { remote = remote }))
+    (with_call s (advanced role call_event.IcrpAcc t.on.moment (record c { remote = remote }))
     (takes_one t))))
 
 unfoldable pub first_up_by : Role → ℕ → ℕ → Option Call → Turn → Turn
@@ -539,11 +537,11 @@ second_up s c t =
 
 -- whose LCP is opened
 unfoldable pub connects_call : ℕ → Call → Link → Turn → Turn
-connects_call s c l t = negotiated s c l (link_opened t.moment l.lcp) (second_up s c t)
+connects_call s c l t = negotiated s c l (link_opened t.on.moment l.lcp) (second_up s c t)
 
 unfoldable pub linked_up : Role → ℕ → Call → Turn → Turn
 linked_up role s c t =
-    connects_call s (with_link (new_link t.block) (advanced role call_event.IccnAcc t.moment c)) (new_link t.block) t
+    connects_call s (with_link (new_link t.on.block) (advanced role call_event.IccnAcc t.on.moment c)) (new_link t.on.block) t
 
 unfoldable pub second_up_by : Role → ℕ → Option Call → Turn → Turn
 second_up_by role s None t = of_no_call out_of_state 0 (call_row role call.Idle call_event.IccnAcc).1 t
@@ -567,7 +565,7 @@ ends_named role calls s t = end_heard_by role s (at calls s) t
 
 unfoldable pub about_call : Role → List (ℕ × Call) → ℕ → Message → Turn → Turn
 about_call role calls session (Icrq remote serial calling) t =
-    asked_by role session remote (granted role calls remote t.sessions) (at calls session) t
+    asked_by role session remote (granted role calls remote t.ids.sessions) (at calls session) t
 about_call role calls session (Icrp remote) t = first_up_by role session remote (at calls session) t
 about_call role calls session (Iccn speed framing sequenced) t = second_up_by role session (at calls session) t
 about_call role calls session (Cdn remote code error) t = ends_named role calls (session_named calls session remote) t
@@ -694,14 +692,14 @@ greeted letters t =
 
 unfoldable pub greets : List Letter → Turn → Turn
 greets letters t =
-    if state_number t.control.state == 3 && t.control.channel.window.queued == 0 && is_over patience t.moment t.control.heard
+    if state_number t.control.state == 3 && t.control.channel.window.queued == 0 && is_over patience t.on.moment t.control.heard
     then greeted letters t else t
 
 -- a call that took too long to be set up ends; the LCP end of another has its timer
 unfoldable pub limits_at : Role → List Letter → ℕ → Option Call → Turn → Turn
 limits_at role letters s None t = t
 limits_at role letters s (Some c) t =
-    if nat_lt s 65536 && is_set_up c.state && is_over patience t.moment c.since
+    if nat_lt s 65536 && is_set_up c.state && is_over patience t.on.moment c.since
     then settles false letters (ends_by cause.Setup 10 None s c (call_row role c.state call_event.Close).1 t)
     else ticks_link role letters s c c.link t
 
@@ -721,8 +719,8 @@ ticks_by role letters calls (tick.Failed first) t = clears calls t
 -- each part prints and sends its own before the next
 unfoldable pub ticks : Role → List Letter → List (ℕ × Call) → Turn → Turn
 ticks role letters calls t =
-    if is_at_its_end t.moment t.control then clears calls t
-    else ticks_by role letters calls (answer_to_tick t.control.channel t.moment) t
+    if is_at_its_end t.on.moment t.control then clears calls t
+    else ticks_by role letters calls (answer_to_tick t.control.channel t.on.moment) t
 
 -- ---- events
 

@@ -130,10 +130,7 @@ module _ (laws : Laws) (accs : Accounts) (ends : Ends) (w : World) (n : ℕ) (e 
   waits_by silent (IsFinished done is result error) = else_waits e.role c.state h.moved.does.on call_event.Close silent is refl
   waits_by silent (IsDropped dropped is result error) = else_waits e.role c.state h.moved.does.on call_event.Close silent is refl
   waits_by silent (IsHungUp hung is result error) = else_waits e.role c.state h.moved.does.on call_event.LineDrop silent is refl
-  waits_by silent (IsAsked remote serial calling hears codes) = ⊎_elim
-      (λ q. else_waits e.role c.state h.moved.does.on call_event.IcrqAcc silent q.0 refl)
-      (λ q. else_waits e.role c.state h.moved.does.on call_event.IcrqNotAcc silent q.0 refl)
-      codes
+  waits_by silent (IsAsked remote serial calling hears is result error) = else_waits e.role c.state h.moved.does.on call_event.IcrqAcc silent is refl
   waits_by silent (IsReplied remote hears is result error) = else_waits e.role c.state h.moved.does.on call_event.IcrpAcc silent is refl
   waits_by (AsWaiting waits) (IsConnected speed framing sequenced hears is result error) = waits
   waits_by (OnConnection lac on) (IsConnected speed framing sequenced hears is result error) = absurd (no_connection lac speed framing sequenced hears)

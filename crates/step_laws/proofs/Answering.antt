@@ -28,7 +28,7 @@ use Rattle.protocol_model.specs.Calls.{call_row}
 use Rattle.protocol_model.specs.Turn.{Turn, Tunnel, Reason, with_output, with_move, with_change, with_new, gives, takes_one, takes_plain, has_room, out_of_state, fault_reason, shuts, ends_call, closed_told, closes_tunnel, takes_by, takes, ends_by, end_told, answers_by, refused, refuses, of_no_call, replied, replies, granted, asked_by, about_call, in_call, faulty_at, faulty, in_faulty_call, hears, hears_faulty, hears_said, hears_next, is_closed, settles}
 use Rattle.protocol_model.specs.End.{End}
 use Rattle.step_laws.specs.Left.{CanBe}
-use Rattle.step_laws.specs.Answers.{IsRequest, Incoming, Outgoing, FaultyIncoming, FaultyOutgoing, TooFaulty, answer_of_move, IsReply, IsRefusal, IsEnd, IsClose, AnswersIcrq, WithReply, WithRefusal, WithEnd, WithDeniedEnd, AnswersFaulty, IsAnswer}
+use Rattle.step_laws.specs.Answers.{IsRequest, Incoming, Outgoing, FaultyIncoming, FaultyOutgoing, TooFaulty, answer_of_move, IsReply, IsRefusal, IsEnd, IsClose, AnswersIcrq, WithReply, WithRefusal, WithEnd, AnswersFaulty, IsAnswer}
 use Rattle.step_laws.proofs.Granting.{grants_is, denies_is}
 use Rattle.step_laws.proofs.Lists.{branch}
 use Rattle.step_laws.proofs.Owing.{live_open}
@@ -157,7 +157,7 @@ module _ (A : Move → Type 0) (id : ℕ) where
 
 -- ---- the request is heard
 
-module _ (e : End) (id : ℕ) (tunnel : Tunnel) (session : ℕ) (t : Turn) (h : IsOpen id t) (ids : t.sessions ≡ e.session_ids)
+module _ (e : End) (id : ℕ) (tunnel : Tunnel) (session : ℕ) (t : Turn) (h : IsOpen id t) (ids : t.ids.sessions ≡ e.session_ids)
     (sound : (s : ℕ) (c : Call) → at tunnel.calls s ≡ Some c → (s < 65536) × CanBe e.role c.state)
     (asked : (s : ℕ) (c : Call) → at tunnel.calls s ≡ Some c → c.state ≡ call.WaitTunnel → ⊥) where
   abbrev calls : List (ℕ × Call)
@@ -172,14 +172,10 @@ module _ (e : End) (id : ℕ) (tunnel : Tunnel) (session : ℕ) (t : Turn) (h : 
   icrq_once remote (Err r) judged None is =
       refuses_once (AnswersIcrq e id tunnel session remote) id r remote t h
       (λ m right. WithRefusal r.result r.error is (denies_is e tunnel remote r judged) right)
-  icrq_once remote (Ok drawn) judged (Some c) is =
+  icrq_once remote g judged (Some c) is =
       let call = sound session c is in
       ends_once (AnswersIcrq e id tunnel session remote) id out_of_state session c _ t h call.0 (told_again e.role c.state call.1 (asked session c is))
-      (λ m right. WithEnd c drawn is (grants_is e tunnel remote drawn judged) right)
-  icrq_once remote (Err r) judged (Some c) is =
-      let call = sound session c is in
-      ends_once (AnswersIcrq e id tunnel session remote) id r session c _ t h call.0 (told_faulty e.role c.state call.1 (asked session c is))
-      (λ m right. WithDeniedEnd c r.result r.error is (denies_is e tunnel remote r judged) right)
+      (λ m right. WithEnd c is right)
 
   faulty_once : (f : CallFault) (o : Option Call) → at calls session ≡ o
       → OneAnswer (AnswersFaulty id session f o)

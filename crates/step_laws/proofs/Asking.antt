@@ -151,7 +151,7 @@ module _ (role : Role) (calls : List (ℕ × Call)) where
   pub settled : (again : Bool) (letters : List Letter) (t : Turn) → Asked t → Asked (settles again letters t)
   settled again letters t h is_open s c there waits =
       let g = settled_keeps again letters t in
-      g.6 ∙ h (λ opening. is_open (ap state_number g.5 ∙ opening)) s c (subst (λ xs. at (with_calls xs calls) s ≡ Some c) g.0 there) waits
+      g.room ∙ h (λ opening. is_open (ap state_number g.state ∙ opening)) s c (subst (λ xs. at (with_calls xs calls) s ≡ Some c) g.changed there) waits
 
   pub dropped : (w : Why) (t : Turn) → Begins t → Asked (drops w t)
   unfolding drops with_output
@@ -210,7 +210,7 @@ module _ (role : Role) (calls : List (ℕ × Call)) where
   requested_ok : (k : Config) (s : ℕ) (c : Call) (t : Turn) → is_request (call_row role c.state call_event.TunnelOpen).1 ≡ true
       → Requested s t (requested role k s c t)
   unfolding requested gives_as with_change with_move with_call advanced
-  requested_ok k s c t row = put_leads t (requested role k s c t) s (advanced role call_event.TunnelOpen t.moment c) refl (λ f. more_full t.control f)
+  requested_ok k s c t row = put_leads t (requested role k s c t) s (advanced role call_event.TunnelOpen t.on.moment c) refl (λ f. more_full t.control f)
       (other_state _ call.WaitReply (requested_state role c.state row).1 (λ k. absurd cc))
 
   full_ok : (s : ℕ) (t : Turn) → has_room t.control ≡ false → Requested s t (drops why.Queue t)
@@ -294,7 +294,7 @@ module _ (role : Role) (calls : List (ℕ × Call)) where
   shuts_asked r remote next t b =
       branch Asked (has_room t.control) _ _
       (λ may. none_there (closed_told r calls remote next t)
-      (ended_calls (record t { control = shut remote next t.moment t.control; outputs = t.outputs ++ Cause r.cause ∷ [] }) b.none))
+      (ended_calls (record t { control = shut remote next t.on.moment t.control; outputs = t.outputs ++ Cause r.cause ∷ [] }) b.none))
       (λ full. dropped why.Queue t b)
 
   -- and the letter is taken
@@ -308,14 +308,14 @@ module _ (role : Role) (calls : List (ℕ × Call)) where
   rejects_asked r remote next t b =
       branch Asked (has_room t.control) _ _
       (λ may. none_there (rejected r calls remote next t)
-      (ended_calls (record t { control = shut remote next t.moment (counts_taken t.control); took = true; outputs = t.outputs ++ Cause r.cause ∷ [] }) b.none))
+      (ended_calls (record t { control = shut remote next t.on.moment (counts_taken t.control); took = true; outputs = t.outputs ++ Cause r.cause ∷ [] }) b.none))
       (λ full. dropped why.Queue t b)
 
   shut_heard_asked : (next : TunnelState) (t : Turn) → Begins t → Asked (closed_by calls next t)
   unfolding closed_by shuts with_move takes_one
   shut_heard_asked next t b =
       none_there (closed_by calls next t)
-      (ended_calls (record t { control = shut t.control.remote next t.moment (counts_taken t.control); took = true }) b.none)
+      (ended_calls (record t { control = shut t.control.remote next t.on.moment (counts_taken t.control); took = true }) b.none)
 
   pub shuts_by_asked : (letters : List Letter) (next : TunnelState) (a : TunnelAction) (t : Turn) → Begins t
       → Asked (settles false letters (shuts_by calls (next, a) t))
@@ -360,7 +360,7 @@ module _ (role : Role) (calls : List (ℕ × Call)) where
 
   replied_asked : (remote s : ℕ) (t : Turn) → Begins t → Asked (replied role remote s t)
   unfolding replied gives with_move with_new takes_one
-  replied_asked remote s t b = puts t (replied role remote s t) s (asked_for role remote t.moment) refl refl (replied_state role remote t.moment) b
+  replied_asked remote s t b = puts t (replied role remote s t) s (asked_for role remote t.on.moment) refl refl (replied_state role remote t.on.moment) b
 
   replies_asked : (remote s : ℕ) (t : Turn) → Begins t → Asked (replies role remote s t)
   unfolding replies
@@ -370,7 +370,7 @@ module _ (role : Role) (calls : List (ℕ × Call)) where
       → Asked (first_up role s remote c t)
   unfolding first_up gives with_change with_move with_call takes_one advanced
   first_up_asked s remote c t row b =
-      puts t (first_up role s remote c t) s (advanced role call_event.IcrpAcc t.moment (record c { remote = remote })) refl refl
+      puts t (first_up role s remote c t) s (advanced role call_event.IcrpAcc t.on.moment (record c { remote = remote })) refl refl
       (other_state _ call.Established (connected_state role c.state row).1 (λ k. absurd cc)) b
 
   second_up_asked : (s : ℕ) (d : Call) (t : Turn) → is_up d.state ≡ true → Begins t → Asked (second_up s d t)
@@ -381,8 +381,8 @@ module _ (role : Role) (calls : List (ℕ × Call)) where
   linked_up_asked : (s : ℕ) (c : Call) (t : Turn) → is_up (call_row role c.state call_event.IccnAcc).0 ≡ true → Begins t → Asked (linked_up role s c t)
   unfolding linked_up connects_call advanced
   linked_up_asked s c t row b =
-      let d = with_link (new_link t.block) (advanced role call_event.IccnAcc t.moment c) in
-      negotiated_asked s d (new_link t.block) (OpenLink t.moment) (second_up s d t) row (second_up_asked s d t row b)
+      let d = with_link (new_link t.on.block) (advanced role call_event.IccnAcc t.on.moment c) in
+      negotiated_asked s d (new_link t.on.block) (OpenLink t.on.moment) (second_up s d t) row (second_up_asked s d t row b)
 
   refused_asked : (r : Reason) (remote : ℕ) (t : Turn) → Begins t → Asked (refused r remote t)
   unfolding refused gives with_output with_move takes_one
@@ -456,10 +456,9 @@ module _ (role : Role) (calls : List (ℕ × Call)) where
 
     asked_by_asked : (s remote : ℕ) (g : Result ℕ Reason) (o : Option Call) (t : Turn) → Begins t → Asked (asked_by role s remote g o t)
     unfolding asked_by
+    asked_by_asked s remote g (Some c) t b = answers_asked out_of_state s c (call_row role c.state call_event.IcrqAcc).1 t b
     asked_by_asked s remote (Ok drawn) None t b = replies_asked remote drawn t b
     asked_by_asked s remote (Err r) None t b = refuses_asked r remote t b
-    asked_by_asked s remote (Ok drawn) (Some c) t b = answers_asked out_of_state s c (call_row role c.state call_event.IcrqAcc).1 t b
-    asked_by_asked s remote (Err r) (Some c) t b = answers_asked r s c (call_row role c.state call_event.IcrqNotAcc).1 t b
 
     first_up_by_asked : (s remote : ℕ) (o : Option Call) (t : Turn) → Begins t → Asked (first_up_by role s remote o t)
     unfolding first_up_by
@@ -490,7 +489,7 @@ module _ (role : Role) (calls : List (ℕ × Call)) where
     about_asked : (session : ℕ) (m : Message) (t : Turn) → Begins t → Asked (about_call role calls session m t)
     unfolding about_call ends_named
     about_asked session (Icrq remote serial calling) t b =
-        asked_by_asked session remote (granted role calls remote t.sessions) (at calls session) t b
+        asked_by_asked session remote (granted role calls remote t.ids.sessions) (at calls session) t b
     about_asked session (Icrp remote) t b = first_up_by_asked session remote (at calls session) t b
     about_asked session (Iccn speed framing sequenced) t b = second_up_by_asked session (at calls session) t b
     about_asked session (Cdn remote code error) t b =
@@ -625,7 +624,7 @@ module _ (role : Role) (calls : List (ℕ × Call)) where
 
   -- ---- rings
 
-  adds_changed : (who : List ℕ) (s : ℕ) (t : Turn) → (adds role who s t).changed ≡ t.changed ++ (s, Some (rung role who t.moment)) ∷ []
+  adds_changed : (who : List ℕ) (s : ℕ) (t : Turn) → (adds role who s t).changed ≡ t.changed ++ (s, Some (rung role who t.on.moment)) ∷ []
   unfolding adds with_move with_new
   adds_changed who s t = refl
 
@@ -634,12 +633,12 @@ module _ (role : Role) (calls : List (ℕ × Call)) where
   adds_state who s t = refl
 
   -- the calls with the new one
-  with_added : (who : List ℕ) (s : ℕ) (t : Turn) → with_calls (adds role who s t).changed calls ≡ put (with_calls t.changed calls) s (rung role who t.moment)
-  with_added who s t = ap (λ xs. with_calls xs calls) (adds_changed who s t) ∙ with_calls-more t.changed s (Some (rung role who t.moment)) calls
+  with_added : (who : List ℕ) (s : ℕ) (t : Turn) → with_calls (adds role who s t).changed calls ≡ put (with_calls t.changed calls) s (rung role who t.on.moment)
+  with_added who s t = ap (λ xs. with_calls xs calls) (adds_changed who s t) ∙ with_calls-more t.changed s (Some (rung role who t.on.moment)) calls
 
   -- one that rings in an open tunnel is asked for
   rung_asked : (k : Config) (who : List ℕ) (s : ℕ) (t : Turn) → state_number t.control.state ≡ 3 → Begins t
-      → Asked (requests role k s (rung role who t.moment) (adds role who s t))
+      → Asked (requests role k s (rung role who t.on.moment) (adds role who s t))
   rung_asked k who s t three b is_open q d there waits = ⊎_elim
       (λ (is : q ≡ s). r.past d (subst (λ j. There v j d) is there) (subst (λ j. Waits role j d) is waits))
       (λ other. ⊎_elim
@@ -652,7 +651,7 @@ module _ (role : Role) (calls : List (ℕ × Call)) where
       u = adds role who s t
 
       c : Call
-      c = rung role who t.moment
+      c = rung role who t.on.moment
 
       v : Turn
       v = requests role k s c u
@@ -697,7 +696,7 @@ module _ (role : Role) (calls : List (ℕ × Call)) where
       (λ idle. absurd (busy (eqb-true (state_number t.control.state) 0 idle)))
       (λ other. branch Asked (are_too_many calls) _ _
       (λ many. caused cause.Calls t b)
-      (λ few. branch Asked (may_take t.control calls) _ _ (λ may. rings_by_asked c who (draws t.sessions) t goes b) (λ full. caused cause.Queue t b))))
+      (λ few. branch Asked (may_take t.control calls) _ _ (λ may. rings_by_asked c who (draws t.ids.sessions) t goes b) (λ full. caused cause.Queue t b))))
 
   -- ---- frames that are given
 

@@ -167,63 +167,50 @@ module _ (e : End) (moment : ℕ) (ev : Event) (letters : List Letter) (calls : 
     came = came_at e moment ev letters calls i t f.fresh is_open session (Icrq remote serial calling) hears
 
     -- why it isn't granted
-    ungranted : (r : Reason) → granted e.role calls remote t.sessions ≡ Err r → Stands e moment ev r.cause
-    ungranted r is =
-        granted_stands e moment ev (begun e moment ev letters calls i t f.fresh) remote (record { header = session; serial = serial; calling = calling; came = came }) r
-        (ap (granted e.role calls remote) (sym f.fresh.sessions) ∙ is)
+    ungranted : at calls session ≡ None → (r : Reason) → granted e.role calls remote t.ids.sessions ≡ Err r → Stands e moment ev r.cause
+    ungranted new r is =
+        granted_stands e moment ev (begun e moment ev letters calls i t f.fresh) remote (record {
+          header = session;
+          new = new;
+          serial = serial;
+          calling = calling;
+          came = came;
+        }) r (ap (granted e.role calls remote) (sym f.fresh.sessions) ∙ is)
 
-    -- or that it could be
-    grantable : (s : ℕ) → granted e.role calls remote t.sessions ≡ Ok s → MayBeGranted e (begun e moment ev letters calls i t f.fresh) remote
-    grantable s is =
-        granted_may e moment ev (begun e moment ev letters calls i t f.fresh) remote s (ap (granted e.role calls remote) (sym f.fresh.sessions) ∙ is)
+    granted_now : (g : Result ℕ Reason) → granted e.role calls remote t.ids.sessions ≡ g → granted e.role (with_calls t.changed calls) remote t.ids.sessions ≡ g
+    granted_now g is = ap (λ cs. granted e.role cs remote t.ids.sessions) (calls_first e moment ev letters calls i t f.fresh) ∙ is
 
-    granted_now : (g : Result ℕ Reason) → granted e.role calls remote t.sessions ≡ g → granted e.role (with_calls t.changed calls) remote t.sessions ≡ g
-    granted_now g is = ap (λ cs. granted e.role cs remote t.sessions) (calls_first e moment ev letters calls i t f.fresh) ∙ is
-
-    denied_now : (r : Reason) → granted e.role calls remote t.sessions ≡ Err r
+    denied_now : (r : Reason) → granted e.role calls remote t.ids.sessions ≡ Err r
         → DeniesCall (at_turn e moment ev letters calls i t) (tunnel_after t letters calls) remote r.result r.error
     denied_now r is = denies_is (at_turn e moment ev letters calls i t) (tunnel_after t letters calls) remote r (granted_now (Err r) is)
 
-    refusing : (r : Reason) → granted e.role calls remote t.sessions ≡ Err r → at calls session ≡ None
+    refusing : (r : Reason) → granted e.role calls remote t.ids.sessions ≡ Err r → at calls session ≡ None
         → Refusing r remote t hears.letter
     refusing r is none m to result error =
         IsNotGranted remote serial calling hears.says.said
         (ap (λ q. at (with_calls t.changed calls) q) hears.says.session_is ∙ at_first e moment ev letters calls i t f.fresh session None none)
         to (rw (result, error) (denied_now r is))
 
-    -- once the request is taken
-    abbrev taken_end : Turn → End
-    taken_end u = at_turn e moment ev letters calls i (takes_plain u)
-
-    abbrev taken_tunnel : Turn → Tunnel
-    taken_tunnel u = tunnel_after (takes_plain u) letters calls
-
-    asked_by_ok : (g : Result ℕ Reason) → granted e.role calls remote t.sessions ≡ g → (o : Option Call) → at calls session ≡ o
+    asked_by_ok : (g : Result ℕ Reason) → granted e.role calls remote t.ids.sessions ≡ g → (o : Option Call) → at calls session ≡ o
         → Good (asked_by e.role session remote g o t)
     unfolding asked_by replies takes_plain with_move takes_one
     asked_by_ok (Ok s) is None found =
         branch Good (has_room t.control) _ _
         (λ room. sent_none _ (replied_ok e moment ev letters calls i remote s session serial calling t f.fresh.changes is_open hears
         (at_first e moment ev letters calls i t f.fresh session None found) (granted_now (Ok s) is)
-        (granted_is e.role (with_calls t.changed calls) remote t.sessions s (granted_now (Ok s) is))
+        (granted_is e.role (with_calls t.changed calls) remote t.ids.sessions s (granted_now (Ok s) is))
         (spare_first e moment ev letters calls i t f) room f.fresh.good))
         (λ full. absurd (full_not t f full))
     asked_by_ok (Err r) is None found =
-        refuses_ok r (ungranted r is) remote t f is_open hears.letter hears.next (refusing r is found)
-    asked_by_ok (Ok s) is (Some c) found =
+        refuses_ok r (ungranted found r is) remote t f is_open hears.letter hears.next (refusing r is found)
+    asked_by_ok g is (Some c) found =
         answers_ok out_of_state session c call_event.IcrqAcc t f found (asks_plain c found)
         (IsAsked remote serial calling (heard_in ev (now e moment ev letters calls i t) _ session (Icrq remote serial calling) refl refl refl hears)
-        (inl (refl, (s, grants_is (taken_end t) (taken_tunnel t) remote s (granted_now (Ok s) is)), refl, refl)))
+        refl refl refl)
         (λ told. inl (
           begun e moment ev letters calls i t f.fresh,
-          AskedAgain remote serial session calling came (told_at e moment ev letters calls i t f.fresh session c call_event.IcrqAcc found told)
-              (grantable s is),
+          AskedAgain remote serial session calling came (told_at e moment ev letters calls i t f.fresh session c call_event.IcrqAcc found told),
         ))
-    asked_by_ok (Err r) is (Some c) found =
-        answers_ok r session c call_event.IcrqNotAcc t f found (asks_plain c found)
-        (IsAsked remote serial calling (heard_in ev (now e moment ev letters calls i t) _ session (Icrq remote serial calling) refl refl refl hears)
-        (inr (refl, denies_is (taken_end t) (taken_tunnel t) remote r (granted_now (Err r) is))))
-        (λ told. ungranted r is)
 
   -- ---- replies, connections and ends
 
@@ -269,7 +256,7 @@ module _ (e : End) (moment : ℕ) (ev : Event) (letters : List Letter) (calls : 
   second_up_by_ok session speed framing sequenced t f is_open hears (Some c) is =
       branch Good (is_up (call_row e.role c.state call_event.IccnAcc).0) _ _
       (λ row. linked_up_ok e moment ev letters calls i session c t row f.fresh.good.stays.4
-      (sent_none _ (second_up_ok e moment ev letters calls i session speed framing (magic_of t.block) sequenced c t is_open
+      (sent_none _ (second_up_ok e moment ev letters calls i session speed framing (magic_of t.on.block) sequenced c t is_open
       (at_first e moment ev letters calls i t f.fresh session (Some c) is) hears row (spare_first e moment ev letters calls i t f) f.fresh.good)))
       (λ none. answers_ok out_of_state session c call_event.IccnAcc t f is
       (comes_at e moment ev letters calls i t f session (Iccn speed framing sequenced)
@@ -313,7 +300,7 @@ module _ (e : End) (moment : ℕ) (ev : Event) (letters : List Letter) (calls : 
       → HearsNext ev (now e moment ev letters calls i t) session m → Good (about_call e.role calls session m t)
   unfolding about_call ends_named
   about_call_ok session (Icrq remote serial calling) t f other is_open hears =
-      asked_by_ok session remote serial calling t f is_open hears (granted e.role calls remote t.sessions) refl (at calls session) refl
+      asked_by_ok session remote serial calling t f is_open hears (granted e.role calls remote t.ids.sessions) refl (at calls session) refl
   about_call_ok session (Icrp remote) t f other is_open hears = first_up_by_ok session remote t f is_open hears (at calls session) refl
   about_call_ok session (Iccn speed framing sequenced) t f other is_open hears =
       second_up_by_ok session speed framing sequenced t f is_open hears (at calls session) refl

@@ -148,11 +148,10 @@ module _ (e : End) (moment : ℕ) (ev : Event) (letters : List Letter) (calls : 
     pub ok : Settled e moment ev letters calls i u
     pub others : Others e moment ev letters calls i s t u
     pub added : u.added ≡ t.added
-    pub tunnels : u.tunnels ≡ t.tunnels
-    pub sessions : u.sessions ≡ t.sessions
+    pub ids : u.ids ≡ t.ids
 
   pub leaves_all : (s : ℕ) (t : Turn) → Settled e moment ev letters calls i t → Leaves s t t
-  leaves_all s t h = record { ok = h; others = λ q o. refl; added = refl; tunnels = refl; sessions = refl }
+  leaves_all s t h = record { ok = h; others = λ q o. refl; added = refl; ids = refl }
 
   -- a turn that takes a call out
   one_taken : (s : ℕ) (t u : Turn) → u.changed ≡ t.changed ++ (s, None) ∷ [] → Others e moment ev letters calls i s t u
@@ -160,7 +159,7 @@ module _ (e : End) (moment : ℕ) (ev : Event) (letters : List Letter) (calls : 
 
   silent_leaves : (s : ℕ) (t : Turn) → Settled e moment ev letters calls i (end_silent s t) → Leaves s t (end_silent s t)
   unfolding end_silent ends_call with_output with_change with_move
-  silent_leaves s t ok = record { ok = ok; others = one_taken s t (end_silent s t) refl; added = refl; tunnels = refl; sessions = refl }
+  silent_leaves s t ok = record { ok = ok; others = one_taken s t (end_silent s t) refl; added = refl; ids = refl }
 
   told_leaves : (for : CauseOf) (s : ℕ) (c : Call) (on : CallEvent) (result : ℕ) (error : Option ℕ) (t : Turn) → at (now t) s ≡ Some c
       → Ends t s c on result error → is_told (call_row e.role c.state on).1 ≡ true → s < 65536 → MayTell t.control (now t) s c → has_room t.control ≡ true
@@ -172,8 +171,7 @@ module _ (e : End) (moment : ℕ) (ev : Event) (letters : List Letter) (calls : 
         ok = told_ok s c on result error u found why row small may room (caused_ok for so t h);
         others = one_taken s t (end_told s c result error u) refl;
         added = refl;
-        tunnels = refl;
-        sessions = refl;
+        ids = refl;
       }
 
   -- by the action of the call's row

@@ -91,7 +91,7 @@ module _ (e : End) (moment : ℕ) (ev : Event) (letters : List Letter) (calls : 
     pub state : first.state ≡ t.control.state
     pub challenge : first.challenge ≡ t.control.challenge
     pub inbox : first.channel.inbox ≡ t.control.channel.inbox
-    pub sessions : t.sessions ≡ e.session_ids
+    pub sessions : t.ids.sessions ≡ e.session_ids
     -- and its id is one
     pub some : i ≡ 0 → ⊥
 

@@ -109,8 +109,8 @@ module _ (e : End) (kept : AreKept e) (moment : ℕ) (ev : Event) where
     -- the end with these tunnels
     abbrev left_with : List (ℕ × Tunnel) → End
     left_with tunnels = record e {
-      tunnel_ids = r.tunnels;
-      session_ids = r.sessions;
+      tunnel_ids = r.ids.tunnels;
+      session_ids = r.ids.sessions;
       tunnels = tunnels;
       calls = with_looks r.changes (placed r.control.local r.added e.calls);
     }

@@ -276,7 +276,7 @@ module _ (e : End) (moment : ℕ) (ev : Event) (letters : List Letter) (calls : 
     goes_live : (t : Turn) → Goes t → is_closed t.control.state ≡ false
     goes_live t goes = ⊎_elim (λ is. live_open t.control is) (λ waits. live_in t.control 1 (λ f. omega (arith, f)) waits) goes
 
-    rings_over_ok : (who : List ℕ) (s : ℕ) (t : Turn) → Takes t → are_too_many calls ≡ false → Goes t → IsRing ev who → e.role ≡ Lac → draws t.sessions ≡ Ok s
+    rings_over_ok : (who : List ℕ) (s : ℕ) (t : Turn) → Takes t → are_too_many calls ≡ false → Goes t → IsRing ev who → e.role ≡ Lac → draws t.ids.sessions ≡ Ok s
         → TurnOk e moment ev letters calls i (rings_over e.role e.config who s t)
     unfolding rings_over
     rings_over_ok who s t f few goes rings lac drawn =
@@ -284,7 +284,7 @@ module _ (e : End) (moment : ℕ) (ev : Event) (letters : List Letter) (calls : 
         let may = spare_first e moment ev letters calls i t f in
         branch (TurnOk e moment ev letters calls i) (state_number t.control.state == 3) _ _
         (λ is. adds_asked_ok e moment ev letters calls i who s t f.fresh.changes (eqb-true (state_number t.control.state) 3 is) few_now may rings lac drawn
-        (small_draw t.sessions s drawn f.fresh.good.stays.2) f.fresh.good)
+        (small_draw t.ids.sessions s drawn f.fresh.good.stays.2) f.fresh.good)
         (λ other. ⊎_elim
         (λ is_open. absurd (eqb-false (state_number t.control.state) 3 other is_open))
         (λ waits. adds_ok e moment ev letters calls i who s t f.fresh.changes waits few_now may rings lac drawn f.fresh.good)
@@ -298,7 +298,7 @@ module _ (e : End) (moment : ℕ) (ev : Event) (letters : List Letter) (calls : 
       rings_there : RingsOver e ev (begun e moment ev letters calls i t f)
       rings_there = record { subscriber = who; rings = rings_is; id = i; chosen = chosen; there = f.there; peer = f.peer ∙ lns }
 
-      rings_by_ok : are_too_many calls ≡ false → may_take t.control calls ≡ true → Goes t → e.role ≡ Lac → (r : Result ℕ IdError) → draws t.sessions ≡ r
+      rings_by_ok : are_too_many calls ≡ false → may_take t.control calls ≡ true → Goes t → e.role ≡ Lac → (r : Result ℕ IdError) → draws t.ids.sessions ≡ r
           → Rung (rings_by e.role e.config who r t)
       unfolding rings_by
       rings_by_ok few may goes lac (Err x) is =
@@ -315,6 +315,6 @@ module _ (e : End) (moment : ℕ) (ev : Event) (letters : List Letter) (calls : 
           (λ busy. branch Rung (are_too_many calls) _ _
           (λ many. caused_ok e moment ev letters calls i cause.Calls (inl (begun e moment ev letters calls i t f, rings_there, many)) t f.good)
           (λ few. branch Rung (may_take t.control calls) _ _
-          (λ may. rings_by_ok few may goes lac (draws t.sessions) refl)
+          (λ may. rings_by_ok few may goes lac (draws t.ids.sessions) refl)
           (λ full. caused_ok e moment ev letters calls i cause.Queue
           (begun e moment ev letters calls i t f, rings_there, few, ap (λ c. may_take c calls) same ∙ full) t f.good)))

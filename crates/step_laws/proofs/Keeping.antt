@@ -33,30 +33,42 @@ repeated_room moment c =
     (λ due. refl)
     (λ no. refl))
 
--- ---- what the end of each part leaves: the calls, where ids are drawn from, the moment, the tunnel's state, and whether there is
--- room
+-- ---- what the end of each part leaves: what the turn stands on, where ids are drawn from, the calls, the tunnel's state, and whether
+-- there is room
 
-abbrev pub Keeps : Turn → Turn → Type 0
-Keeps t u =
-    (u.changed ≡ t.changed) × (u.added ≡ t.added) × (u.tunnels ≡ t.tunnels) × (u.sessions ≡ t.sessions) × (u.moment ≡ t.moment)
-    × (u.control.state ≡ t.control.state) × (has_room u.control ≡ has_room t.control)
+pub record Keeps (t u : Turn) : Type 0 where
+  pub on : u.on ≡ t.on
+  pub ids : u.ids ≡ t.ids
+  pub changed : u.changed ≡ t.changed
+  pub added : u.added ≡ t.added
+  pub state : u.control.state ≡ t.control.state
+  pub room : has_room u.control ≡ has_room t.control
 
 keeps_all : (t : Turn) → Keeps t t
-keeps_all t = (refl, refl, refl, refl, refl, refl, refl)
+keeps_all t = record { on = refl; ids = refl; changed = refl; added = refl; state = refl; room = refl }
 
 keeps_on : (t u v : Turn) → Keeps t u → Keeps u v → Keeps t v
-keeps_on t u v h k = (k.0 ∙ h.0, k.1 ∙ h.1, k.2 ∙ h.2, k.3 ∙ h.3, k.4 ∙ h.4, k.5 ∙ h.5, k.6 ∙ h.6)
+keeps_on t u v h k = record {
+  on = k.on ∙ h.on;
+  ids = k.ids ∙ h.ids;
+  changed = k.changed ∙ h.changed;
+  added = k.added ∙ h.added;
+  state = k.state ∙ h.state;
+  room = k.room ∙ h.room;
+}
 
 pub sent_keeps : (number : ℕ) (o : Option Letter) (t : Turn) → Keeps t (sends_letter number o t)
 unfolding sends_letter with_output
 sent_keeps number None t = keeps_all t
-sent_keeps number (Some l) t = branch (Keeps t) (nat_le (length l.avps) 65523) _ _ (λ fits. keeps_all t) (λ long. keeps_all t)
+sent_keeps number (Some l) t = branch (Keeps t) (nat_le (length l.avps) 65523) _ _
+    (λ fits. record { on = refl; ids = refl; changed = refl; added = refl; state = refl; room = refl })
+    (λ long. keeps_all t)
 
 gone_keeps : (letters : List Letter) (number : ℕ) (t : Turn) → Keeps t (lets_go letters number t)
 unfolding lets_go sends_now with_move
 gone_keeps letters number t =
-    let u = with_move (move.LetGo (record { tunnel = t.control.local; sent = place number })) (record t { control = counts_sent t.moment t.control }) in
-    keeps_on t u (sends_letter number (letter_in letters u number) u) (refl, refl, refl, refl, refl, refl, gone_room t.moment t.control)
+    let u = with_move (move.LetGo (record { tunnel = t.control.local; sent = place number })) (record t { control = counts_sent t.on.moment t.control }) in
+    keeps_on t u (sends_letter number (letter_in letters u number) u) (record { on = refl; ids = refl; changed = refl; added = refl; state = refl; room = gone_room t.on.moment t.control })
     (sent_keeps number (letter_in letters u number) u)
 
 all_gone_keeps : (most : ℕ) (letters : List Letter) (t : Turn) → Keeps t (lets_all_go most letters t)
@@ -71,7 +83,9 @@ all_gone_keeps (suc most) letters t = by (next_to_go t.control.channel) (all_gon
 acknowledged_keeps : (again : Bool) (before : ℕ) (t : Turn) → Keeps t (acknowledged_after again before t)
 unfolding acknowledged_after acknowledges with_output with_move
 acknowledged_keeps again before t =
-    branch (Keeps t) (again || (t.took && (outstanding t == before))) _ _ (λ yes. keeps_all t) (λ no. keeps_all t)
+    branch (Keeps t) (again || (t.took && (outstanding t == before))) _ _
+    (λ yes. record { on = refl; ids = refl; changed = refl; added = refl; state = refl; room = refl })
+    (λ no. keeps_all t)
 
 pub settled_keeps : (again : Bool) (letters : List Letter) (t : Turn) → Keeps t (settles again letters t)
 unfolding settles

@@ -82,14 +82,14 @@ module _ (moment : ℕ) where
   -- ---- turns
 
   abbrev Good : Turn → Type 0
-  Good t = (t.moment ≡ moment) × Lasts t.control
+  Good t = (t.on.moment ≡ moment) × Lasts t.control
 
   -- the moment of the turn is the step's
-  sent_lasts : (t : Turn) → Good t → Lasts (counts_sent t.moment t.control)
+  sent_lasts : (t : Turn) → Good t → Lasts (counts_sent t.on.moment t.control)
   sent_lasts t h =
       subst (λ (m : ℕ). Lasts (counts_sent m t.control)) (sym h.0) (channel_lasts t.control (let_go_at t.control.channel moment) (sent_back t.control.channel) h.1)
 
-  repeated_lasts : (t : Turn) → Good t → Lasts (counts_repeated t.moment t.control)
+  repeated_lasts : (t : Turn) → Good t → Lasts (counts_repeated t.on.moment t.control)
   repeated_lasts t h =
       subst (λ (m : ℕ). Lasts (counts_repeated m t.control)) (sym h.0) (channel_lasts t.control (ticked_at t.control.channel moment) (repeated_back t.control.channel) h.1)
 
@@ -133,7 +133,7 @@ module _ (moment : ℕ) where
     greets_good : (t : Turn) → Good t → Good (greets letters t)
     unfolding greets greeted with_move
     greets_good t h =
-        branch Good (state_number t.control.state == 3 && t.control.channel.window.queued == 0 && is_over patience t.moment t.control.heard) _ _
+        branch Good (state_number t.control.state == 3 && t.control.channel.window.queued == 0 && is_over patience t.on.moment t.control.heard) _ _
         (λ due. settled_good false letters _ (given_good 0 Hello _ h))
         (λ early. h)
 
@@ -160,13 +160,13 @@ module _ (moment : ℕ) where
     unfolding ticks_link
     ticks_link_good s c None t h = h
     ticks_link_good s c (Some l) t h =
-        branch Good (nat_lt s 65536 && is_up c.state && is_due t.moment l.lcp) _ _ (λ due. links_good s c l (OnTick t.moment) t h) (λ no. h)
+        branch Good (nat_lt s 65536 && is_up c.state && is_due t.on.moment l.lcp) _ _ (λ due. links_good s c l (OnTick t.on.moment) t h) (λ no. h)
 
     limits_at_good : (s : ℕ) (o : Option Call) (t : Turn) → Good t → Good (limits_at role letters s o t)
     unfolding limits_at
     limits_at_good s None t h = h
     limits_at_good s (Some c) t h =
-        branch Good (nat_lt s 65536 && is_set_up c.state && is_over patience t.moment c.since) _ _
+        branch Good (nat_lt s 65536 && is_set_up c.state && is_over patience t.on.moment c.since) _ _
         (λ due. settled_good false letters _ (ends_good cause.Setup 10 s c (call_row role c.state call_event.Close).1 t h))
         (λ early. ticks_link_good s c c.link t h)
 
@@ -185,7 +185,7 @@ module _ (moment : ℕ) where
     quietly_good t h = inr (limits_all_good (ids_of calls) (greets letters t) (greets_good t h)).1
 
     -- where the timer doesn't tell that it has failed
-    good_by : (a : Due) (t : Turn) → t.moment ≡ moment → is_at_its_end moment t.control ≡ false → answer_to_tick t.control.channel moment ≡ a
+    good_by : (a : Due) (t : Turn) → t.on.moment ≡ moment → is_at_its_end moment t.control ≡ false → answer_to_tick t.control.channel moment ≡ a
         → ((first : ℕ) → a ≡ tick.Failed first → ⊥) → Good t
     good_by a t same early due other = (
       same,
@@ -195,7 +195,7 @@ module _ (moment : ℕ) where
           (failed_ends moment t.control failed)),
     )
 
-    ticks_by_good : (a : Due) (t : Turn) → t.moment ≡ moment → is_at_its_end moment t.control ≡ false → answer_to_tick t.control.channel moment ≡ a
+    ticks_by_good : (a : Due) (t : Turn) → t.on.moment ≡ moment → is_at_its_end moment t.control ≡ false → answer_to_tick t.control.channel moment ≡ a
         → Ends (ticks_by role letters calls a t)
     unfolding ticks_by clears
     ticks_by_good tick.Quiet t same early due = quietly_good t (good_by tick.Quiet t same early due (λ first e. absurd cc))
@@ -203,12 +203,12 @@ module _ (moment : ℕ) where
         quietly_good (repeats letters number t) (repeats_good number t (good_by (tick.Again number) t same early due (λ first e. absurd cc)))
     ticks_by_good (tick.Failed first) t same early due = inl refl
 
-    pub ticks_good : (t : Turn) → t.moment ≡ moment → Ends (ticks role letters calls t)
+    pub ticks_good : (t : Turn) → t.on.moment ≡ moment → Ends (ticks role letters calls t)
     unfolding ticks clears
     ticks_good t same =
-        branch Ends (is_at_its_end t.moment t.control) _ _
+        branch Ends (is_at_its_end t.on.moment t.control) _ _
         (λ late. inl refl)
-        (λ early. ticks_by_good (answer_to_tick t.control.channel t.moment) t same
+        (λ early. ticks_by_good (answer_to_tick t.control.channel t.on.moment) t same
         (subst (λ (m : ℕ). is_at_its_end m t.control ≡ false) same early)
         (ap (λ (m : ℕ). answer_to_tick t.control.channel m) (sym same)))
 

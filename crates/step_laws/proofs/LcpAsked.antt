@@ -28,7 +28,7 @@ module _ (role : Role) (calls : List (ℕ × Call)) (order : Ascends calls) (let
       → Asked role calls (hears_link role letters s frame c o t)
   unfolding hears_link
   link_asked s frame c None t up b = dropped role calls why.Closed t b
-  link_asked s frame c (Some l) t up b = links_asked s c l (OnPacket (drop 2 frame) t.block t.moment) t up b
+  link_asked s frame c (Some l) t up b = links_asked s c l (OnPacket (drop 2 frame) t.on.block t.on.moment) t up b
 
   pub lcp_asked : (s : ℕ) (frame : List ℕ) (o : Option Call) (t : Turn) → Begins role calls t → Asked role calls (hears_lcp role letters s frame o t)
   unfolding hears_lcp

@@ -41,6 +41,7 @@ mod NewTunnels
 mod Waiting
 pub mod Looks
 mod Few
+mod Full
 pub mod Ups
 mod Bodies
 mod Still

@@ -201,8 +201,7 @@ module _ (e : End) (moment : ℕ) (ev : Event) (letters : List Letter) (calls : 
         ok = negotiated_ok s c l by t k h;
         others = one_changed s (with_link (link_after l (after by l.lcp)) c) t (negotiated s c l (after by l.lcp) t) (ap (λ (x : Turn). x.changed) is);
         added = ap (λ (x : Turn). x.added) is;
-        tunnels = ap (λ (x : Turn). x.tunnels) is;
-        sessions = ap (λ (x : Turn). x.sessions) is;
+        ids = ap (λ (x : Turn). x.ids) is;
       }
 
   -- where its LCP end is finished a call ends
@@ -220,10 +219,9 @@ module _ (e : End) (moment : ℕ) (ev : Event) (letters : List Letter) (calls : 
       let keeps = settled_keeps false letters u in
       record {
         ok = settled_ok e moment ev letters calls i false u left.ok;
-        others = λ q o. ap (λ xs. at (with_calls xs calls) q) keeps.0 ∙ left.others q o;
-        added = keeps.1 ∙ left.added;
-        tunnels = keeps.2 ∙ left.tunnels;
-        sessions = keeps.3 ∙ left.sessions;
+        others = λ q o. ap (λ xs. at (with_calls xs calls) q) keeps.changed ∙ left.others q o;
+        added = keeps.added ∙ left.added;
+        ids = keeps.ids ∙ left.ids;
       }
 
   pub links_leave : (s : ℕ) (c : Call) (l : Link) (by : LcpCall) (t : Turn) → IsLinked s c l by t → s < 65536
@@ -242,12 +240,12 @@ module _ (e : End) (moment : ℕ) (ev : Event) (letters : List Letter) (calls : 
   unfolding second_up with_change with_move with_call takes_one
   connected_found s d t = ap (λ xs. at xs s) (with_calls-more t.changed s (Some d) calls) ∙ at_new (now t) s d
 
-  pub linked_up_ok : (s : ℕ) (c : Call) (t : Turn) → is_up (call_row e.role c.state call_event.IccnAcc).0 ≡ true → t.moment ≡ moment
-      → Settled e moment ev letters calls i (second_up s (connected_call e moment ev letters calls i (magic_of t.block) c t) t)
+  pub linked_up_ok : (s : ℕ) (c : Call) (t : Turn) → is_up (call_row e.role c.state call_event.IccnAcc).0 ≡ true → t.on.moment ≡ moment
+      → Settled e moment ev letters calls i (second_up s (connected_call e moment ev letters calls i (magic_of t.on.block) c t) t)
       → Settled e moment ev letters calls i (linked_up e.role s c t)
   unfolding linked_up connects_call advanced
   linked_up_ok s c t row same h =
-      let d = connected_call e moment ev letters calls i (magic_of t.block) c t in
-      let l = new_link t.block in
-      negotiated_ok s d l (OpenLink t.moment) (second_up s d t)
-      (record { found = connected_found s d t; has = refl; up = row; called = ToOpen (magic_of t.block) refl (ap OpenLink same) }) h
+      let d = connected_call e moment ev letters calls i (magic_of t.on.block) c t in
+      let l = new_link t.on.block in
+      negotiated_ok s d l (OpenLink t.on.moment) (second_up s d t)
+      (record { found = connected_found s d t; has = refl; up = row; called = ToOpen (magic_of t.on.block) refl (ap OpenLink same) }) h

@@ -55,7 +55,7 @@ IsNew r = (state_number r.control.state ≡ 1) ⊎ (r.changed ≡ [])
 new_settled : (letters : List Letter) (t : Turn) → IsNew t → IsNew (settles false letters t)
 new_settled letters t h =
     let g = settled_keeps false letters t in
-    ⊎_elim (λ opening. inl (ap state_number g.5 ∙ opening)) (λ none. inr (g.0 ∙ none)) h
+    ⊎_elim (λ opening. inl (ap state_number g.state ∙ opening)) (λ none. inr (g.changed ∙ none)) h
 
 drops_new : (w : Why) (t : Turn) → t.changed ≡ [] → IsNew (drops w t)
 unfolding drops with_output
@@ -71,7 +71,7 @@ opened_new role c local t none = inr none
 
 pub opens_new : (role : Role) (c : Config) (letters : List Letter) (t : Turn) → t.changed ≡ [] → IsNew (settles false letters (opens role c t))
 unfolding opens opens_by
-opens_new role c letters t none = new_settled letters (opens role c t) (by (draws t.tunnels))
+opens_new role c letters t none = new_settled letters (opens role c t) (by (draws t.ids.tunnels))
   where
     by : (x : Result ℕ IdError) → IsNew (opens_by role c x t)
     by (Err x) = caused_new cause.Ids t none
@@ -85,7 +85,7 @@ accepted_new role c asked remote window local t none = inr none
 accepts_new : (role : Role) (c : Config) (asked : Option (List ℕ)) (remote window : ℕ) (t : Turn) → t.changed ≡ []
     → IsNew (accepts role c asked remote window t)
 unfolding accepts accepts_by
-accepts_new role c asked remote window t none = by (draws t.tunnels)
+accepts_new role c asked remote window t none = by (draws t.ids.tunnels)
   where
     by : (x : Result ℕ IdError) → IsNew (accepts_by role c asked remote window x t)
     by (Err x) = drops_new why.Tunnel t none
@@ -139,5 +139,5 @@ unfolding rings
 rings_is_new role c letters who t idle none =
     new_settled letters (rings role c [] who t)
     (branch IsNew (state_number t.control.state == 0) _ _
-    (λ is. rings_new_new role c who (draws t.sessions) (draws t.tunnels) t idle none)
+    (λ is. rings_new_new role c who (draws t.ids.sessions) (draws t.ids.tunnels) t idle none)
     (λ busy. absurd (eqb-false (state_number t.control.state) 0 busy (ap state_number idle))))

@@ -28,7 +28,7 @@ use Rattle.end_names.specs.declared.role.Role.{Role}
 use Rattle.protocol_model.specs.declared.moves.Move.TheVariants as move
 use Rattle.protocol_model.specs.declared.out.Out.TheVariants.{Cause}
 use Rattle.protocol_model.specs.Calls.{call_row, is_set_up, is_up, is_told}
-use Rattle.protocol_model.specs.Turn.{Turn, with_output, with_move, with_change, with_calls, gives, has_room, place, next_place, letter_in, counts_repeated, sends_now, settles, ends_call, is_clean_up, repeats, greeted, greets, end_silent, end_told, ends_by, drops, sends_letter, with_link, link_after, negotiated, links, ticks_link, limits_at, limits_all, goes_quietly, clears, is_over, patience, is_at_its_end, ticks_by, ticks}
+use Rattle.protocol_model.specs.Turn.{Ground, Turn, with_output, with_move, with_change, with_calls, gives, has_room, place, next_place, letter_in, counts_repeated, sends_now, settles, ends_call, is_clean_up, repeats, greeted, greets, end_silent, end_told, ends_by, drops, sends_letter, with_link, link_after, negotiated, links, ticks_link, limits_at, limits_all, goes_quietly, clears, is_over, patience, is_at_its_end, ticks_by, ticks}
 use Rattle.step_laws.specs.Letters.{Among}
 use Rattle.step_laws.proofs.Lists.{branch, and_left, and_right, found_among, with_calls-more}
 use Rattle.step_laws.proofs.Linking.{negotiated_is}
@@ -49,7 +49,7 @@ module _ (role : Role) (moment : ℕ) (calls : List (ℕ × Call)) where
   -- a turn in which calls end
   record Ticked (t : Turn) : Type 0 where
     order : Ascends (with_calls t.changed calls)
-    same_moment : t.moment ≡ moment
+    same_moment : t.on.moment ≡ moment
     -- those that are being set up are as they were
     few : (s : ℕ) (c : Call) → There t s c → is_set_up c.state ≡ true → at calls s ≡ Some c
 
@@ -72,7 +72,7 @@ module _ (role : Role) (moment : ℕ) (calls : List (ℕ × Call)) where
   }
 
   -- no call ends
-  same_leads : (t u : Turn) → (has_room t.control ≡ false → has_room u.control ≡ false) → u.changed ≡ t.changed → u.moment ≡ t.moment
+  same_leads : (t u : Turn) → (has_room t.control ≡ false → has_room u.control ≡ false) → u.changed ≡ t.changed → u.on.moment ≡ t.on.moment
       → u.control.state ≡ t.control.state → Ticked t → Leads t u
   same_leads t u room same now state h =
       let back : (s : ℕ) (c : Call) → There u s c → There t s c = λ s c there. subst (λ xs. at (with_calls xs calls) s ≡ Some c) same there in
@@ -88,7 +88,7 @@ module _ (role : Role) (moment : ℕ) (calls : List (ℕ × Call)) where
       }
 
   keeps_leads : (t u : Turn) → Keeps t u → Ticked t → Leads t u
-  keeps_leads t u k h = same_leads t u (λ f. k.6 ∙ f) k.0 k.4 k.5 h
+  keeps_leads t u k h = same_leads t u (λ f. k.room ∙ f) k.changed (ap (λ (g : Ground). g.moment) k.on) k.state h
 
   -- one ends
   record Ends (s : ℕ) (t u : Turn) : Type 0 where
@@ -96,7 +96,7 @@ module _ (role : Role) (moment : ℕ) (calls : List (ℕ × Call)) where
     gone : (c : Call) → There u s c → ⊥
 
   ends : (s : ℕ) (t u : Turn) → (has_room t.control ≡ false → has_room u.control ≡ false) → u.changed ≡ t.changed ++ (s, None) ∷ []
-      → u.moment ≡ t.moment → u.control.state ≡ t.control.state → Ticked t → Ends s t u
+      → u.on.moment ≡ t.on.moment → u.control.state ≡ t.control.state → Ticked t → Ends s t u
   ends s t u room more now state h =
       let less : with_calls u.changed calls ≡ without (with_calls t.changed calls) s = ap (λ xs. with_calls xs calls) more ∙ with_calls-more t.changed s None calls in
       let found : (q : ℕ) (c : Call) → There u q c → (q ≡ s → ⊥) × There t q c =
@@ -216,7 +216,7 @@ module _ (role : Role) (moment : ℕ) (calls : List (ℕ × Call)) where
         leads_on t u _ l (keeps_leads u _ (settled_keeps false letters u) l.ok)
 
     -- a call that is up is put, in the same state
-    puts : (s : ℕ) (d : Call) (t u : Turn) → is_up d.state ≡ true → u.changed ≡ t.changed ++ (s, Some d) ∷ [] → u.moment ≡ t.moment
+    puts : (s : ℕ) (d : Call) (t u : Turn) → is_up d.state ≡ true → u.changed ≡ t.changed ++ (s, Some d) ∷ [] → u.on.moment ≡ t.on.moment
         → u.control ≡ t.control → Ticked t → Leads t u
     puts s d t u up more now same h =
         let is : with_calls u.changed calls ≡ put (with_calls t.changed calls) s d =
@@ -245,20 +245,20 @@ module _ (role : Role) (moment : ℕ) (calls : List (ℕ × Call)) where
         (λ no.
         let is = negotiated_is s c l by t in
         puts s (with_link (link_after l (lcp_after by l.lcp)) c) t (negotiated s c l (lcp_after by l.lcp) t) up
-        (ap (λ (x : Turn). x.changed) is) (ap (λ (x : Turn). x.moment) is) (ap (λ (x : Turn). x.control) is) h)
+        (ap (λ (x : Turn). x.changed) is) (ap (λ (x : Turn). x.on.moment) is) (ap (λ (x : Turn). x.control) is) h)
 
     -- a call that is late is due
     is_due : (s : ℕ) (c : Call) (t : Turn) → Ticked t → IsDue role moment s c
-        → (nat_lt s 65536 && is_set_up c.state && is_over patience t.moment c.since) ≡ true
+        → (nat_lt s 65536 && is_set_up c.state && is_over patience t.on.moment c.since) ≡ true
     is_due s c t h late =
         let small = lt-ltb s 65536 late.small in
         let set_up = late.set_up in
-        let over : is_over patience t.moment c.since ≡ true = ap (λ m. is_over patience m c.since) h.same_moment ∙ late.over in
+        let over : is_over patience t.on.moment c.since ≡ true = ap (λ m. is_over patience m c.since) h.same_moment ∙ late.over in
         rw (small, set_up, over) refl
 
     -- one that isn't late
     early_ok : (s : ℕ) (c : Call) (t : Turn) → Ticked t → at calls s ≡ Some c
-        → (nat_lt s 65536 && is_set_up c.state && is_over patience t.moment c.since) ≡ false → Limited s t t
+        → (nat_lt s 65536 && is_set_up c.state && is_over patience t.on.moment c.since) ≡ false → Limited s t t
     early_ok s c t h is early = record {
       leads = leads_nowhere t h;
       past = λ d there late.
@@ -266,22 +266,22 @@ module _ (role : Role) (moment : ℕ) (calls : List (ℕ × Call)) where
     }
 
     linked : (s : ℕ) (c : Call) (t : Turn) → Ticked t → at calls s ≡ Some c
-        → (nat_lt s 65536 && is_set_up c.state && is_over patience t.moment c.since) ≡ false → (o : Option Link) → c.link ≡ o
+        → (nat_lt s 65536 && is_set_up c.state && is_over patience t.on.moment c.since) ≡ false → (o : Option Link) → c.link ≡ o
         → Limited s t (ticks_link role letters s c o t)
     unfolding ticks_link
     linked s c t h is early None has = early_ok s c t h is early
     linked s c t h is early (Some l) has =
-        branch (Limited s t) (nat_lt s 65536 && is_up c.state && lcp_is_due t.moment l.lcp) _ _
+        branch (Limited s t) (nat_lt s 65536 && is_up c.state && lcp_is_due t.on.moment l.lcp) _ _
         (λ due.
         let up = and_right (nat_lt s 65536) (is_up c.state) (and_left (nat_lt s 65536 && is_up c.state) _ due) in
-        up_limited s c t _ is up (links_lead s c l (OnTick t.moment) t up h))
+        up_limited s c t _ is up (links_lead s c l (OnTick t.on.moment) t up h))
         (λ no. early_ok s c t h is early)
 
     limits_at_ok : (s : ℕ) (o : Option Call) (t : Turn) → at calls s ≡ o → Ticked t → Limited s t (limits_at role letters s o t)
     unfolding limits_at
     limits_at_ok s None t is h = record { leads = leads_nowhere t h; past = λ d there late. absurd (none-some d (sym is ∙ h.few s d there late.set_up)) }
     limits_at_ok s (Some c) t is h =
-        branch (Limited s t) (nat_lt s 65536 && is_set_up c.state && is_over patience t.moment c.since) _ _
+        branch (Limited s t) (nat_lt s 65536 && is_set_up c.state && is_over patience t.on.moment c.since) _ _
         (λ due. limited s c t h is)
         (λ early. linked s c t h is early c.link refl)
 
@@ -309,7 +309,7 @@ module _ (role : Role) (moment : ℕ) (calls : List (ℕ × Call)) where
     greets_ok : (t : Turn) → Ticked t → Leads t (greets letters t)
     unfolding greets greeted
     greets_ok t h =
-        branch (Leads t) (state_number t.control.state == 3 && t.control.channel.window.queued == 0 && is_over patience t.moment t.control.heard) _ _
+        branch (Leads t) (state_number t.control.state == 3 && t.control.channel.window.queued == 0 && is_over patience t.on.moment t.control.heard) _ _
         (λ due.
         let v = gives 0 Hello (with_move (move.Greeted (record { tunnel = t.control.local; given = next_place t.control })) t) in
         let l = hello_ok t h in
@@ -319,8 +319,8 @@ module _ (role : Role) (moment : ℕ) (calls : List (ℕ × Call)) where
     repeats_ok : (number : ℕ) (t : Turn) → Ticked t → Leads t (repeats letters number t)
     unfolding repeats sends_now with_move
     repeats_ok number t h =
-        let u = with_move (move.Repeated (record { tunnel = t.control.local; sent = place number })) (record t { control = counts_repeated t.moment t.control }) in
-        let l = same_leads t u (λ f. repeated_room t.moment t.control ∙ f) refl refl refl h in
+        let u = with_move (move.Repeated (record { tunnel = t.control.local; sent = place number })) (record t { control = counts_repeated t.on.moment t.control }) in
+        let l = same_leads t u (λ f. repeated_room t.on.moment t.control ∙ f) refl refl refl h in
         leads_on t u _ l (keeps_leads u (sends_letter number (letter_in letters u number) u) (sent_keeps number (letter_in letters u number) u) l.ok)
 
     -- ---- what it leaves
@@ -356,12 +356,12 @@ module _ (role : Role) (moment : ℕ) (calls : List (ℕ × Call)) where
     ticks_by_ok (tick.Again number) t h = quietly_ok t (repeats letters number t) (repeats_ok number t h)
     ticks_by_ok (tick.Failed first) t h = clears_ok t
 
-    pub ticks_ok : (t : Turn) → Ascends calls → t.changed ≡ [] → t.moment ≡ moment → Ticks t (ticks role letters calls t)
+    pub ticks_ok : (t : Turn) → Ascends calls → t.changed ≡ [] → t.on.moment ≡ moment → Ticks t (ticks role letters calls t)
     unfolding ticks with_calls
     ticks_ok t order none now =
-        branch (Ticks t) (is_at_its_end t.moment t.control) _ _
+        branch (Ticks t) (is_at_its_end t.on.moment t.control) _ _
         (λ late. clears_ok t)
-        (λ early. ticks_by_ok (answer_to_tick t.control.channel t.moment) t (record {
+        (λ early. ticks_by_ok (answer_to_tick t.control.channel t.on.moment) t (record {
           order = rw none order;
           same_moment = now;
           few = λ s c there up. (let found = rw none at there in found);

@@ -179,7 +179,7 @@ module _ (most reads : ℕ) where
 
   opens_quiet : (role : Role) (c : Config) (t : Turn) → Quiet t → Quiet (opens role c t)
   unfolding opens opens_by
-  opens_quiet role c t h = by (draws t.tunnels)
+  opens_quiet role c t h = by (draws t.ids.tunnels)
     where
       by : (x : Result ℕ IdError) → Quiet (opens_by role c x t)
       by (Err x) = caused cause.Ids t h
@@ -193,7 +193,7 @@ module _ (most reads : ℕ) where
   accepts_quiet : (role : Role) (c : Config) (asked : Option (List ℕ)) (remote window : ℕ) (t : Turn) → Quiet t
       → Quiet (accepts role c asked remote window t)
   unfolding accepts accepts_by
-  accepts_quiet role c asked remote window t h = by (draws t.tunnels)
+  accepts_quiet role c asked remote window t h = by (draws t.ids.tunnels)
     where
       by : (x : Result ℕ IdError) → Quiet (accepts_by role c asked remote window x t)
       by (Err x) = dropped why.Tunnel t h
@@ -406,11 +406,10 @@ module _ (most reads : ℕ) where
 
   asked_quiet : (role : Role) (s remote : ℕ) (g : Result ℕ Reason) (o : Option Call) (t : Turn) → Quiet t → Quiet (asked_by role s remote g o t)
   unfolding asked_by replies
+  asked_quiet role s remote g (Some c) t h = answers_quiet out_of_state s c (call_row role c.state call_event.IcrqAcc).1 t h
   asked_quiet role s remote (Ok drawn) None t h =
       branch Quiet (has_room t.control) _ _ (λ may. replied_quiet role remote drawn t h) (λ full. dropped why.Queue t h)
   asked_quiet role s remote (Err r) None t h = refuses_quiet r remote t h
-  asked_quiet role s remote (Ok drawn) (Some c) t h = answers_quiet out_of_state s c (call_row role c.state call_event.IcrqAcc).1 t h
-  asked_quiet role s remote (Err r) (Some c) t h = answers_quiet r s c (call_row role c.state call_event.IcrqNotAcc).1 t h
 
   first_up_quiet : (role : Role) (s remote : ℕ) (c : Call) (t : Turn) → Quiet t → Quiet (first_up role s remote c t)
   unfolding first_up gives with_change with_move with_call takes_one
@@ -464,7 +463,7 @@ module _ (most reads : ℕ) where
   unfolding ticks_link
   ticks_link_quiet role letters s c None t h = h
   ticks_link_quiet role letters s c (Some l) t h =
-      branch Quiet (nat_lt s 65536 && is_up c.state && is_due t.moment l.lcp) _ _ (λ due. links_quiet role letters s c l _ t h) (λ no. h)
+      branch Quiet (nat_lt s 65536 && is_up c.state && is_due t.on.moment l.lcp) _ _ (λ due. links_quiet role letters s c l _ t h) (λ no. h)
 
   -- ---- calls that are connected and end
 
@@ -495,7 +494,7 @@ module _ (most reads : ℕ) where
   about_quiet : (role : Role) (calls : List (ℕ × Call)) (session : ℕ) (m : Message) (t : Turn) → Quiet t → Quiet (about_call role calls session m t)
   unfolding about_call ends_named
   about_quiet role calls session (Icrq remote serial calling) t h =
-      asked_quiet role session remote (granted role calls remote t.sessions) (at calls session) t h
+      asked_quiet role session remote (granted role calls remote t.ids.sessions) (at calls session) t h
   about_quiet role calls session (Icrp remote) t h = first_up_by_quiet role session remote (at calls session) t h
   about_quiet role calls session (Iccn speed framing sequenced) t h = second_up_by_quiet role session (at calls session) t h
   about_quiet role calls session (Cdn remote code error) t h =
@@ -653,7 +652,7 @@ module _ (most reads : ℕ) where
   greets_quiet : (letters : List Letter) (t : Turn) → Quiet t → Quiet (greets letters t)
   unfolding greets
   greets_quiet letters t h =
-      branch Quiet (state_number t.control.state == 3 && t.control.channel.window.queued == 0 && is_over patience t.moment t.control.heard) _ _
+      branch Quiet (state_number t.control.state == 3 && t.control.channel.window.queued == 0 && is_over patience t.on.moment t.control.heard) _ _
       (λ due. greeted_quiet letters t h)
       (λ no. h)
 
@@ -661,7 +660,7 @@ module _ (most reads : ℕ) where
   unfolding limits_at
   limits_at_quiet role letters s None t h = h
   limits_at_quiet role letters s (Some c) t h =
-      branch Quiet (nat_lt s 65536 && is_set_up c.state && is_over patience t.moment c.since) _ _
+      branch Quiet (nat_lt s 65536 && is_set_up c.state && is_over patience t.on.moment c.since) _ _
       (λ due. settled false letters _ (ends_quiet cause.Setup 10 None s c (call_row role c.state call_event.Close).1 t h))
       (λ no. ticks_link_quiet role letters s c c.link t h)
 
@@ -685,9 +684,9 @@ module _ (most reads : ℕ) where
   ticks_quiet : (role : Role) (letters : List Letter) (calls : List (ℕ × Call)) (t : Turn) → Quiet t → Quiet (ticks role letters calls t)
   unfolding ticks
   ticks_quiet role letters calls t h =
-      branch Quiet (is_at_its_end t.moment t.control) _ _
+      branch Quiet (is_at_its_end t.on.moment t.control) _ _
       (λ due. cleared_quiet calls t h)
-      (λ no. ticks_by_quiet role letters calls (answer_to_tick t.control.channel t.moment) t h)
+      (λ no. ticks_by_quiet role letters calls (answer_to_tick t.control.channel t.on.moment) t h)
 
 -- ---- datagrams: Nr is read before the letter is heard
 
@@ -725,7 +724,7 @@ unfolding rings_over
 rings_over_quiet role k who s t h =
     let added = adds_quiet role who s t h in
     branch (IsQuiet 1 0) (state_number t.control.state == 3) _ _
-    (λ is. requests_quiet 1 0 role k s (rung role who t.moment) (adds role who s t) added)
+    (λ is. requests_quiet 1 0 role k s (rung role who t.on.moment) (adds role who s t) added)
     (λ other. added)
 
 rings_by_quiet : (role : Role) (k : Config) (who : List ℕ) (x : Result ℕ IdError) (t : Turn) → IsQuiet 0 0 t → IsQuiet 1 0 (rings_by role k who x t)
@@ -748,14 +747,14 @@ rings_within_quiet role k calls who t h =
     branch (IsQuiet 1 0) (are_too_many calls) _ _
     (λ many. caused 1 0 cause.Calls t (spared h))
     (λ few. branch (IsQuiet 1 0) (may_take t.control calls) _ _
-    (λ may. rings_by_quiet role k who (draws t.sessions) t h)
+    (λ may. rings_by_quiet role k who (draws t.ids.sessions) t h)
     (λ full. caused 1 0 cause.Queue t (spared h)))
 
 rings_quiet : (role : Role) (c : Config) (calls : List (ℕ × Call)) (who : List ℕ) (t : Turn) → IsQuiet 0 0 t → IsQuiet 1 0 (rings role c calls who t)
 unfolding rings
 rings_quiet role c calls who t h =
     branch (IsQuiet 1 0) (state_number t.control.state == 0) _ _
-    (λ idle. rings_new_quiet role c who (draws t.sessions) (draws t.tunnels) t h)
+    (λ idle. rings_new_quiet role c who (draws t.ids.sessions) (draws t.ids.tunnels) t h)
     (λ busy. rings_within_quiet role c calls who t h)
 
 -- ---- events

@@ -29,7 +29,7 @@ use Rattle.step_laws.specs.Moves.{GrantsCall, DeniesCall, AsksItself, HasUsedId,
 use Rattle.step_laws.specs.Causes.{MayBeGranted}
 use Rattle.step_laws.specs.Left.{AreSound, AreAsked}
 use Rattle.step_laws.specs.Steps.{AreKept}
-use Rattle.step_laws.specs.Answers.{Incoming, TakesRequest, IsReply, AnswersIcrq, WithReply, WithRefusal, WithEnd, WithDeniedEnd, IsAnswer, IsAnswered, IsRepliedTo, GrantedAreRepliedTo, RingIsAnswered, RequestsAreAnswered, IsRefusedTo, NewAreJudged}
+use Rattle.step_laws.specs.Answers.{Incoming, TakesRequest, IsReply, AnswersIcrq, WithReply, WithRefusal, WithEnd, IsAnswer, IsAnswered, IsRepliedTo, GrantedAreRepliedTo, RingIsAnswered, RequestsAreAnswered, IsRefusedTo, NewAreJudged}
 use Rattle.step_laws.proofs.Lists.{branch}
 use Rattle.step_laws.proofs.Owing.{spare_room}
 use Rattle.step_laws.proofs.Answering.{open_not, OneAnswer, settled_answer, next_once}
@@ -221,8 +221,7 @@ module _ (e : End) (kept : AreKept e) (sound : AreSound e) (asked : AreAsked e) 
         by (WithReply drawn unnamed grants reply) =
             replied_to r.id remote (record { answer = new_answered.answer; only = new_answered.only; right = (drawn, grants.drawn, reply) })
         by (WithRefusal result error unnamed denies refusal) = absurd (not_denied e r.tunnel remote result error may denies)
-        by (WithEnd c drawn named grants end) = absurd (named_none c named)
-        by (WithDeniedEnd c result error named denies end) = absurd (named_none c named)
+        by (WithEnd c named end) = absurd (named_none c named)
 
     new_judged : (MayBeGranted e r.tunnel remote × IsRepliedTo e r.id remote stepped) ⊎ IsRefusedTo e r.tunnel r.id remote stepped
     new_judged = by new_answered.right
@@ -236,8 +235,7 @@ module _ (e : End) (kept : AreKept e) (sound : AreSound e) (asked : AreAsked e) 
           remote_is = a.remote_is;
           denied = rw (a.result_is, a.error_is) denies;
         })
-        by (WithEnd c drawn named grants end) = absurd (named_none c named)
-        by (WithDeniedEnd c result error named denies end) = absurd (named_none c named)
+        by (WithEnd c named end) = absurd (named_none c named)
 
   granted_answered : GrantedAreRepliedTo e moment ev stepped
   granted_answered r remote serial calling said none may = new_replied r remote serial calling said none may

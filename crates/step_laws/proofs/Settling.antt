@@ -153,7 +153,7 @@ module _ (e : End) (moment : ℕ) (ev : Event) (letters : List Letter) (calls : 
 
   abbrev counted : ℕ → Turn → Turn
   counted number t =
-      with_move (move.LetGo (record { tunnel = t.control.local; sent = place number })) (record t { control = counts_sent t.moment t.control })
+      with_move (move.LetGo (record { tunnel = t.control.local; sent = place number })) (record t { control = counts_sent t.on.moment t.control })
 
   counted_ok : (number : ℕ) (t : Turn) → next_to_go t.control.channel ≡ Some number → Settled t → Settled (counted number t)
   unfolding with_move
@@ -172,16 +172,16 @@ module _ (e : End) (moment : ℕ) (ev : Event) (letters : List Letter) (calls : 
           local = refl;
           peer = refl;
           remote = refl;
-          acked = acked_stays t.control.channel t.moment;
-          inbox = inbox_stays t.control.channel t.moment;
+          acked = acked_stays t.control.channel t.on.moment;
+          inbox = inbox_stays t.control.channel t.on.moment;
           more = [];
           letters = sym (append-nil (tunnel t).letters);
         }) (m ∷ []) refl h;
         tells = h.tells;
         frames = all_push (HasOutput t.outputs) t.moves m h.frames tt;
         stays = h.stays;
-        held = held_gone t.control.channel t.moment (letters_after t letters) h.held;
-        fits = fits_gone t.control t.moment (with_calls t.changed calls) h.fits;
+        held = held_gone t.control.channel t.on.moment (letters_after t letters) h.held;
+        fits = fits_gone t.control t.on.moment (with_calls t.changed calls) h.fits;
       }
 
   pub sent_ok : (number : ℕ) (t : Turn) (o : Option Letter) → number < 2 ^ 64 → letter_in letters t number ≡ o → Settled t

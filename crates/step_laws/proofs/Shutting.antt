@@ -98,7 +98,7 @@ module _ (e : End) (moment : ℕ) (ev : Event) (letters : List Letter) (calls : 
   told_ok r so on remote t none row why room h =
       let m = move.Closed (record { tunnel = t.control.local; remote = remote; result = r.result; error = r.error; given = next_place t.control }) in
       let l = letter_of 0 (StopCcn t.control.local r.result r.error) in
-      let u : Turn = record t { control = shut remote state.Closed t.moment t.control; outputs = t.outputs ++ Cause r.cause ∷ [] } in
+      let u : Turn = record t { control = shut remote state.Closed t.on.moment t.control; outputs = t.outputs ++ Cause r.cause ∷ [] } in
       let outs = t.outputs ++ Cause r.cause ∷ [] in
       rw (all_ended_is (ids_of calls) u) (record {
         chain = chain_more moment ev e (at_turn e moment ev letters calls i t) _ t.moves m h.chain (record {
@@ -119,7 +119,7 @@ module _ (e : End) (moment : ℕ) (ev : Event) (letters : List Letter) (calls : 
         frames = all_push NoFrame t.moves m h.frames tt;
         stays = (h.stays.0, (λ z. absurd (omega (arith, z))), h.stays.2, h.stays.3, h.stays.4, h.stays.5);
         held = given_held e moment ev letters calls i t l h.held;
-        fits = rw (none, none_left calls) (fits_last t.control remote t.moment room);
+        fits = rw (none, none_left calls) (fits_last t.control remote t.on.moment room);
       })
 
   -- a letter is taken, and the peer told
@@ -140,7 +140,7 @@ module _ (e : End) (moment : ℕ) (ev : Event) (letters : List Letter) (calls : 
       }) in
       let l = letter_of 0 (StopCcn t.control.local r.result r.error) in
       let outs = t.outputs ++ Cause r.cause ∷ [] in
-      let u : Turn = record t { control = shut remote state.Closed t.moment (counts_taken t.control); took = true; outputs = outs } in
+      let u : Turn = record t { control = shut remote state.Closed t.on.moment (counts_taken t.control); took = true; outputs = outs } in
       rw (all_ended_is (ids_of calls) u) (record {
         chain = chain_more moment ev e (at_turn e moment ev letters calls i t) _ t.moves m h.chain (record {
           tunnel = tunnel t;
@@ -163,7 +163,7 @@ module _ (e : End) (moment : ℕ) (ev : Event) (letters : List Letter) (calls : 
         frames = all_push NoFrame t.moves m h.frames tt;
         stays = (h.stays.0, (λ z. absurd (omega (arith, z))), h.stays.2, h.stays.3, h.stays.4, h.stays.5);
         held = given_held e moment ev letters calls i t l h.held;
-        fits = rw (none, none_left calls) (fits_last (counts_taken t.control) remote t.moment room);
+        fits = rw (none, none_left calls) (fits_last (counts_taken t.control) remote t.on.moment room);
       })
 
   -- there is room for that too
@@ -196,7 +196,7 @@ module _ (e : End) (moment : ℕ) (ev : Event) (letters : List Letter) (calls : 
   unfolding closed_by shuts takes_one with_move with_calls
   heard_shut_ok t none live k next spare says h =
       let m = move.ClosedBy (record { tunnel = t.control.local; taken = taken_place t.control }) in
-      let u : Turn = record t { control = shut t.control.remote state.Closed t.moment (counts_taken t.control); took = true } in
+      let u : Turn = record t { control = shut t.control.remote state.Closed t.on.moment (counts_taken t.control); took = true } in
       rw (all_ended_is (ids_of calls) u) (record {
         chain = chain_more moment ev e (at_turn e moment ev letters calls i t) _ t.moves m h.chain (record {
           tunnel = tunnel t;
@@ -214,5 +214,5 @@ module _ (e : End) (moment : ℕ) (ev : Event) (letters : List Letter) (calls : 
         frames = all_push NoFrame t.moves m h.frames tt;
         stays = (h.stays.0, (λ z. absurd (omega (arith, z))), h.stays.2, h.stays.3, h.stays.4, h.stays.5);
         held = h.held;
-        fits = rw (none, none_left calls) (fits_shut (counts_taken t.control) t.control.remote t.moment (with_calls t.changed calls) h.fits);
+        fits = rw (none, none_left calls) (fits_shut (counts_taken t.control) t.control.remote t.on.moment (with_calls t.changed calls) h.fits);
       })

@@ -23,7 +23,7 @@ use Rattle.protocol_model.specs.declared.event.Event.TheVariants.{Tick}
 use Rattle.protocol_model.specs.declared.moves.Move.TheVariants as move
 use Rattle.protocol_model.specs.Calls.{call_row, is_set_up, is_up}
 use Rattle.protocol_model.specs.Turn.{Tunnel, Turn, with_output, with_move, with_calls, has_room, gives, place, next_place, letter_of, letter_in, letters_after, counts_given, counts_sent, counts_repeated, sends_letter, sends_now, lets_go, goes_by, lets_all_go, repeats, acknowledges, outstanding, acknowledged_after, settles, tunnel_after, is_over, patience, greeted, greets, ends_by, links, ticks_link, limits_at, limits_all, goes_quietly}
-use Rattle.protocol_model.specs.End.{End}
+use Rattle.protocol_model.specs.End.{drawing_of, End}
 use Rattle.step_laws.specs.Moves.{TookTooLong, IsLate}
 use Rattle.step_laws.proofs.Lists.{all_push, and_left, and_right, branch, chain_more}
 use Rattle.step_laws.proofs.Moments.{passed, not_up}
@@ -81,8 +81,9 @@ module _ (e : End) (moment : ℕ) (letters : List Letter) (calls : List (ℕ × 
   tunnel t = tunnel_after t letters calls
 
   -- a turn that drew no id and made no call
-  abbrev pub DrawsNone : Turn → Type 0
-  DrawsNone t = (t.tunnels ≡ e.tunnel_ids) × (t.sessions ≡ e.session_ids) × (t.added ≡ [])
+  pub record DrawsNone (t : Turn) : Type 0 where
+    pub ids : t.ids ≡ drawing_of e
+    pub added : t.added ≡ []
 
   pub record Ticking (t : Turn) : Type 0 where
     pub settled : Settled e moment Tick letters calls i t
@@ -94,18 +95,18 @@ module _ (e : End) (moment : ℕ) (letters : List Letter) (calls : List (ℕ × 
       let k = settled_keeps false letters t in
       record {
         settled = settled_ok e moment Tick letters calls i false t h.settled;
-        none = (k.2 ∙ h.none.0, k.3 ∙ h.none.1, k.1 ∙ h.none.2);
+        none = record { ids = k.ids ∙ h.none.ids; added = k.added ∙ h.none.added };
       }
 
   -- the turn's moment is the step's
-  over_at : (since : ℕ) (t : Turn) → Ticking t → is_over patience t.moment since ≡ true → since + 60000 ≤ moment
+  over_at : (since : ℕ) (t : Turn) → Ticking t → is_over patience t.on.moment since ≡ true → since + 60000 ≤ moment
   over_at since t h over = passed moment since (ap (λ m. is_over patience m since) (sym h.settled.stays.4) ∙ over)
 
   -- ---- repetitions and greetings
 
   abbrev repeated : ℕ → Turn → Turn
   repeated number t =
-      with_move (move.Repeated (record { tunnel = t.control.local; sent = place number })) (record t { control = counts_repeated t.moment t.control })
+      with_move (move.Repeated (record { tunnel = t.control.local; sent = place number })) (record t { control = counts_repeated t.on.moment t.control })
 
   repeated_ok : (number : ℕ) (t : Turn) → answer_to_tick t.control.channel moment ≡ tick.Again number → Settled e moment Tick letters calls i t
       → Settled e moment Tick letters calls i (repeated number t)
@@ -125,16 +126,16 @@ module _ (e : End) (moment : ℕ) (letters : List Letter) (calls : List (ℕ × 
           local = refl;
           peer = refl;
           remote = refl;
-          acked = acked_stays t.control.channel t.moment;
-          inbox = inbox_stays t.control.channel t.moment;
+          acked = acked_stays t.control.channel t.on.moment;
+          inbox = inbox_stays t.control.channel t.on.moment;
           more = [];
           letters = sym (append-nil (tunnel t).letters);
         }) (m ∷ []) refl h;
         tells = h.tells;
         frames = all_push (HasOutput t.outputs) t.moves m h.frames tt;
         stays = h.stays;
-        held = held_repeated t.control.channel t.moment (letters_after t letters) h.held;
-        fits = fits_repeated t.control t.moment (with_calls t.changed calls) h.fits;
+        held = held_repeated t.control.channel t.on.moment (letters_after t letters) h.held;
+        fits = fits_repeated t.control t.on.moment (with_calls t.changed calls) h.fits;
       }
 
   pub repeats_ok : (number : ℕ) (t : Turn) → answer_to_tick t.control.channel moment ≡ tick.Again number → Ticking t → Ticking (repeats letters number t)
@@ -145,7 +146,7 @@ module _ (e : End) (moment : ℕ) (letters : List Letter) (calls : List (ℕ × 
       record {
         settled = sent_ok e moment Tick letters calls i number u (letter_in letters u number)
             (small_due t.control.channel moment number h.settled.held.2 due) refl (repeated_ok number t due h.settled);
-        none = (k.2 ∙ h.none.0, k.3 ∙ h.none.1, k.1 ∙ h.none.2);
+        none = record { ids = k.ids ∙ h.none.ids; added = k.added ∙ h.none.added };
       }
 
   abbrev hello : Turn → Turn
@@ -185,7 +186,7 @@ module _ (e : End) (moment : ℕ) (letters : List Letter) (calls : List (ℕ × 
               let least = h.fits.3 is_open in
               fits_given t.control (with_calls t.changed calls) (live_open t.control is_open) h.fits.0 h.fits.1 (omega (arith, quiet, least));
         };
-        none = k.none;
+        none = record { ids = k.none.ids; added = k.none.added };
       }
 
   -- what the end of one call leaves
@@ -206,7 +207,7 @@ module _ (e : End) (moment : ℕ) (letters : List Letter) (calls : List (ℕ × 
   greets_ok : (t : Turn) → t.changed ≡ [] → Ticking t → Greeting (greets letters t)
   unfolding greets greeted
   greets_ok t none h =
-      branch Greeting (state_number t.control.state == 3 && t.control.channel.window.queued == 0 && is_over patience t.moment t.control.heard) _ _
+      branch Greeting (state_number t.control.state == 3 && t.control.channel.window.queued == 0 && is_over patience t.on.moment t.control.heard) _ _
       (λ due.
       let open_is = state_number t.control.state == 3 in
       let empty = t.control.channel.window.queued == 0 in
@@ -214,13 +215,13 @@ module _ (e : End) (moment : ℕ) (letters : List Letter) (calls : List (ℕ × 
       record {
         ok = settling_ok (hello t) (hello_ok t (eqb-true (state_number t.control.state) 3 (and_left open_is empty both))
             (eqb-true t.control.channel.window.queued 0 (and_right open_is empty both)) (over_at t.control.heard t h (and_right (open_is && empty) _ due)) h);
-        changed = (settled_keeps false letters (hello t)).0 ∙ hello_changed t ∙ none;
+        changed = (settled_keeps false letters (hello t)).changed ∙ hello_changed t ∙ none;
       })
       (λ no. record { ok = h; changed = none })
 
   pub repeated_changed : (number : ℕ) (t : Turn) → t.changed ≡ [] → (repeats letters number t).changed ≡ []
   unfolding repeats sends_now with_move
-  repeated_changed number t none = let u = repeated number t in (sent_keeps number (letter_in letters u number) u).0 ∙ none
+  repeated_changed number t none = let u = repeated number t in (sent_keeps number (letter_in letters u number) u).changed ∙ none
 
   -- ---- calls that take too long, of the tunnel that is there
 
@@ -239,15 +240,15 @@ module _ (e : End) (moment : ℕ) (letters : List Letter) (calls : List (ℕ × 
         ))
         (call_row e.role c.state call_event.Close).1 refl h.settled in
         record {
-          ok = settling_ok u (record { settled = l.ok; none = (l.tunnels ∙ h.none.0, l.sessions ∙ h.none.1, l.added ∙ h.none.2) });
-          others = λ q o. ap (λ xs. at (with_calls xs calls) q) (settled_keeps false letters u).0 ∙ l.others q o;
+          ok = settling_ok u (record { settled = l.ok; none = record { ids = l.ids ∙ h.none.ids; added = l.added ∙ h.none.added } });
+          others = λ q o. ap (λ xs. at (with_calls xs calls) q) (settled_keeps false letters u).changed ∙ l.others q o;
         }
 
     -- the LCP end of a call has its timer
     timed : (s : ℕ) (c : Call) (l : Link) (t : Turn) → at calls s ≡ Some c → at (with_calls t.changed calls) s ≡ Some c → c.link ≡ Some l
-        → is_up c.state ≡ true → s < 65536 → Ticking t → Limited s t (links e.role letters s c l (ticked t.moment l.lcp) t)
+        → is_up c.state ≡ true → s < 65536 → Ticking t → Limited s t (links e.role letters s c l (ticked t.on.moment l.lcp) t)
     timed s c l t live found has up small h =
-        let by = OnTick t.moment in
+        let by = OnTick t.on.moment in
         let k : IsLinked e moment Tick letters calls i s c l by t =
         record { found = found; has = has; up = up; called = ForTime refl (ap OnTick h.settled.stays.4) } in
         let left = links_leave e moment Tick letters calls i s c l by t k small
@@ -262,7 +263,7 @@ module _ (e : End) (moment : ℕ) (letters : List Letter) (calls : List (ℕ × 
           row = told;
         }) h.settled in
         record {
-          ok = record { settled = left.ok; none = (left.tunnels ∙ h.none.0, left.sessions ∙ h.none.1, left.added ∙ h.none.2) };
+          ok = record { settled = left.ok; none = record { ids = left.ids ∙ h.none.ids; added = left.added ∙ h.none.added } };
           others = left.others;
         }
 
@@ -271,7 +272,7 @@ module _ (e : End) (moment : ℕ) (letters : List Letter) (calls : List (ℕ × 
     unfolding ticks_link
     linked s c t live found None has h = record { ok = h; others = λ q o. refl }
     linked s c t live found (Some l) has h =
-        branch (Limited s t) (nat_lt s 65536 && is_up c.state && is_due t.moment l.lcp) _ _
+        branch (Limited s t) (nat_lt s 65536 && is_up c.state && is_due t.on.moment l.lcp) _ _
         (λ due.
         let both = and_left (nat_lt s 65536 && is_up c.state) _ due in
         timed s c l t live found has (and_right (nat_lt s 65536) (is_up c.state) both) (ltb-true s 65536 (and_left (nat_lt s 65536) (is_up c.state) both)) h)
@@ -282,7 +283,7 @@ module _ (e : End) (moment : ℕ) (letters : List Letter) (calls : List (ℕ × 
     unfolding limits_at
     limits_at_ok s None t live found h = record { ok = h; others = λ q o. refl }
     limits_at_ok s (Some c) t live found h =
-        branch (Limited s t) (nat_lt s 65536 && is_set_up c.state && is_over patience t.moment c.since) _ _
+        branch (Limited s t) (nat_lt s 65536 && is_set_up c.state && is_over patience t.on.moment c.since) _ _
         (λ due.
         let both = and_left (nat_lt s 65536 && is_set_up c.state) _ due in
         limited s c t live found (record {

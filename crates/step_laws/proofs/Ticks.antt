@@ -14,8 +14,8 @@ use Rattle.protocol_model.specs.declared.out.Out.{Out}
 use Rattle.protocol_model.specs.declared.out.Out.TheVariants.{Send, Up, Gone, Drop, Cause}
 use Rattle.protocol_model.specs.declared.moves.Move.{Move}
 use Rattle.protocol_model.specs.declared.moves.Move.TheVariants as move
-use Rattle.protocol_model.specs.Turn.{Tunnel, Env, Turn, turn_of, with_output, with_move, with_change, ends_call, ends_all, clears, repeats, is_at_its_end, ticks_by, ticks, turns, tunnel_after}
-use Rattle.protocol_model.specs.End.{End, env_of, placed, with_looks, after_turn, Turned, tick_of, ticks_of, end_after_all, after_all, ticks_all}
+use Rattle.protocol_model.specs.Turn.{Drawing, Tunnel, Env, Turn, turn_of, with_output, with_move, with_change, ends_call, ends_all, clears, repeats, is_at_its_end, ticks_by, ticks, turns, tunnel_after}
+use Rattle.protocol_model.specs.End.{drawing_of, End, env_of, placed, with_looks, after_turn, Turned, tick_of, ticks_of, end_after_all, after_all, ticks_all}
 use Rattle.step_laws.specs.Failing.{HasFailed, IsUnanswered}
 use Rattle.step_laws.specs.Moves.{Chain}
 use Rattle.step_laws.specs.Steps.{IsKept, AreKept, IsOfMoves}
@@ -32,8 +32,7 @@ use Rattle.step_laws.proofs.Ends.{IsStep, word_is, ok_is, left_is, kept_after, c
 -- ---- a tunnel is removed with its calls
 
 record Ended (e : End) (moment : ℕ) (ss : List ℕ) (t u : Turn) : Type 0 where
-  tunnels : u.tunnels ≡ t.tunnels
-  sessions : u.sessions ≡ t.sessions
+  ids : u.ids ≡ t.ids
   added : u.added ≡ t.added
   moves : u.moves ≡ t.moves
   changes : u.changes ≡ t.changes ++ map cell.Kill ss
@@ -44,12 +43,11 @@ ended_ok : (e : End) (moment : ℕ) (ss : List ℕ) (t : Turn) → AllByRecursio
     → Ended e moment ss t (ends_all ss t)
 unfolding ends_all ends_call with_output with_change
 ended_ok e moment [] t h so =
-    record { tunnels = refl; sessions = refl; added = refl; moves = refl; changes = sym (append-nil t.changes); words = h; tells = so }
+    record { ids = refl; added = refl; moves = refl; changes = sym (append-nil t.changes); words = h; tells = so }
 ended_ok e moment (s ∷ ss) t h so =
     let k = ended_ok e moment ss (ends_call s t) (all_push IsWord t.outputs (Gone s) h tt) (all_push _ t.outputs (Gone s) so tt) in
     record {
-      tunnels = k.tunnels;
-      sessions = k.sessions;
+      ids = k.ids;
       added = k.added;
       moves = k.moves;
       changes = k.changes ∙ append_assoc t.changes (cell.Kill s ∷ []) (map cell.Kill ss);
@@ -100,9 +98,10 @@ record Like (e x : End) : Type 0 where
   config : x.config ≡ e.config
   tunnels : x.tunnel_ids ≡ e.tunnel_ids
   sessions : x.session_ids ≡ e.session_ids
+  recoveries : x.recovery_ids ≡ e.recovery_ids
 
 like_on : (e x y : End) → Like e x → Like x y → Like e y
-like_on e x y a b = record { role = b.role ∙ a.role; config = b.config ∙ a.config; tunnels = b.tunnels ∙ a.tunnels; sessions = b.sessions ∙ a.sessions }
+like_on e x y a b = record { role = b.role ∙ a.role; config = b.config ∙ a.config; tunnels = b.tunnels ∙ a.tunnels; sessions = b.sessions ∙ a.sessions; recoveries = b.recoveries ∙ a.recoveries }
 
 -- a turn of the tunnel with an id leads from an end to another
 record Ticked (e : End) (moment i : ℕ) (r : Turn) (y : End) : Type 0 where
@@ -127,9 +126,15 @@ module _ (e : End) (kept : AreKept e) (moment : ℕ) (block : List ℕ) (i : ℕ
   abbrev leads : Turn → Type 0
   leads r = Ticked e moment i r (left r)
 
-  like_left : (r : Turn) → r.tunnels ≡ e.tunnel_ids → r.sessions ≡ e.session_ids → Like e (left r)
+  like_left : (r : Turn) → r.ids ≡ drawing_of e → Like e (left r)
   unfolding after_turn
-  like_left r tunnels sessions = record { role = refl; config = refl; tunnels = tunnels; sessions = sessions }
+  like_left r ids = record {
+    role = refl;
+    config = refl;
+    tunnels = ap (λ (d : Drawing). d.tunnels) ids;
+    sessions = ap (λ (d : Drawing). d.sessions) ids;
+    recoveries = refl;
+  }
 
   ticking_leads : (r : Turn) → Ticking e moment t.letters t.calls i r → leads r
   ticking_leads r h =
@@ -141,7 +146,7 @@ module _ (e : End) (kept : AreKept e) (moment : ℕ) (block : List ℕ) (i : ℕ
         tells = s.tells;
         frames = s.frames;
         kept = kept_after e kept moment Tick t.letters t.calls i k.some r s.stays s.held s.fits;
-        like = like_left r h.none.0 h.none.1;
+        like = like_left r h.none.ids;
         others = λ j o.
             ap (λ (x : End). at x.tunnels j) (left_is e kept moment Tick t.letters t.calls i k.some r s.stays.5) ∙ at_other e.tunnels i after j o;
       }
@@ -163,7 +168,7 @@ module _ (e : End) (kept : AreKept e) (moment : ℕ) (block : List ℕ) (i : ℕ
 
   gone_is : left (clears t.calls start) ≡ gone
   unfolding after_turn clears with_move placed
-  gone_is = rw (removed_ok.tunnels, removed_ok.sessions, removed_ok.added, removed_ok.changes) refl
+  gone_is = rw (removed_ok.ids, removed_ok.added, removed_ok.changes) refl
 
   kept_gone : AreKept gone
   kept_gone = record {
@@ -192,7 +197,7 @@ module _ (e : End) (kept : AreKept e) (moment : ℕ) (block : List ℕ) (i : ℕ
     tells = removed_ok.tells;
     frames = subst (AllByRecursion (HasOutput removed.outputs)) (sym removed_moves) (tt, tt);
     kept = kept_gone;
-    like = record { role = refl; config = refl; tunnels = refl; sessions = refl };
+    like = record { role = refl; config = refl; tunnels = refl; sessions = refl; recoveries = refl };
     others = λ j o. at_without_other e.tunnels i j o;
   }
 
@@ -202,7 +207,7 @@ module _ (e : End) (kept : AreKept e) (moment : ℕ) (block : List ℕ) (i : ℕ
   begun : Ticking e moment t.letters t.calls i start
   begun = record {
     settled = unsent e moment Tick t.letters t.calls i start (begins e kept moment Tick block i t is).good;
-    none = (refl, refl, refl);
+    none = record { ids = refl; added = refl };
   }
 
   ticks_by_lead : (a : Due) → answer_to_tick t.control.channel moment ≡ a → leads (ticks_by e.role t.letters t.calls a start)
@@ -270,7 +275,7 @@ module _ (moment : ℕ) where
     -- the turn of a tunnel that is as it was
     as_it_was : (x : End) → Like e x → (t : Tunnel)
         → turns x.role x.config t.letters t.calls Tick (turn_of t.control (env_of x moment block)) ≡ turns e.role e.config t.letters t.calls Tick (turn_of t.control env)
-    as_it_was x like t = rw (like.role, like.config, like.tunnels, like.sessions) refl
+    as_it_was x like t = rw (like.role, like.config, like.tunnels, like.sessions, like.recoveries) refl
 
     untouched_on : (q : ℕ × Tunnel) (x y : End) → ((j : ℕ) → (j ≡ q.0 → ⊥) → at y.tunnels j ≡ at x.tunnels j) → (es : List (ℕ × Tunnel))
         → IsAbove q.0 es → AllByRecursion (Untouched x) es → AllByRecursion (Untouched y) es
@@ -322,7 +327,7 @@ module _ (moment : ℕ) where
       pub ticks_chain : IsStep e moment Tick (ticks_all e env)
       unfolding ticks_all after_all
       ticks_chain =
-          let h = all_ticked e.tunnels kept.order e (record { role = refl; config = refl; tunnels = refl; sessions = refl }) kept (same_all e.tunnels) in
+          let h = all_ticked e.tunnels kept.order e (record { role = refl; config = refl; tunnels = refl; sessions = refl; recoveries = refl }) kept (same_all e.tunnels) in
           record {
             chain = record { chain = h.chain; outputs = h.outs; frames = h.frames; kept = h.kept };
             tells = ticks_tell (ids_of e.tunnels);

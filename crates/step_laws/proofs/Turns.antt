@@ -80,8 +80,8 @@ module _ (window : ℕ) (c : Control) where
 -- what a turn of the tunnel with an id keeps, until it is removed
 abbrev pub Stays : ℕ → ℕ → Turn → Type 0
 Stays i moment t =
-    (t.control.local ≡ i) × (state_number t.control.state ≡ 0 → ⊥) × (t.sessions.last < 65536) × (0 < t.tunnels.next)
-    × (t.moment ≡ moment) × (t.cleared ≡ false)
+    (t.control.local ≡ i) × (state_number t.control.state ≡ 0 → ⊥) × (t.ids.sessions.last < 65536) × (0 < t.ids.tunnels.next)
+    × (t.on.moment ≡ moment) × (t.cleared ≡ false)
 
 -- the letters that a tunnel keeps are those that its window counts, and their numbers have 64 bits
 abbrev pub Held : Window → List Letter → Type 0
@@ -148,8 +148,8 @@ module _ (e : End) (moment : ℕ) (ev : Event) (letters : List Letter) (calls : 
   -- the end as the turn has it
   abbrev pub at_turn : Turn → End
   at_turn t = record e {
-    tunnel_ids = t.tunnels;
-    session_ids = t.sessions;
+    tunnel_ids = t.ids.tunnels;
+    session_ids = t.ids.sessions;
     tunnels = put e.tunnels t.control.local (tunnel_after t letters calls);
     calls = with_looks t.changes (placed t.control.local t.added e.calls);
   }
@@ -197,11 +197,11 @@ module _ (e : End) (moment : ℕ) (ev : Event) (letters : List Letter) (calls : 
   -- ---- calls that are asked for
 
   requested_chain : (s : ℕ) (c : Call) (t : Turn) → state_number t.control.state ≡ 3 → at (with_calls t.changed calls) s ≡ Some c → s < 65536
-      → is_request (call_row e.role c.state call_event.TunnelOpen).1 ≡ true → has_room t.control ≡ true → t.moment ≡ moment
+      → is_request (call_row e.role c.state call_event.TunnelOpen).1 ≡ true → has_room t.control ≡ true → t.on.moment ≡ moment
       → Chain moment ev e t.moves (at_turn t) → Chain moment ev e (requested e.role e.config s c t).moves (at_turn (requested e.role e.config s c t))
   unfolding requested gives_as with_change with_move with_call
   requested_chain s c t is_open found small row room now_is h =
-      let m = move.Requested (record { tunnel = t.control.local; session = s; subscriber = c.subscriber; hidden = hidden_request e.config t.block s c.subscriber; given = next_place t.control }) in
+      let m = move.Requested (record { tunnel = t.control.local; session = s; subscriber = c.subscriber; hidden = hidden_request e.config t.on.block s c.subscriber; given = next_place t.control }) in
       chain_more moment ev e (at_turn t) _ t.moves m h (record {
         tunnel = tunnel_after t letters calls;
         there = there t;
@@ -211,13 +211,13 @@ module _ (e : End) (moment : ℕ) (ev : Event) (letters : List Letter) (calls : 
         row = row;
         session = small;
         subscriber = refl;
-        hides = hides_number e.config t.block s c.subscriber;
+        hides = hides_number e.config t.on.block s c.subscriber;
         room = room;
         given = refl;
         after =
-            let changed = with_calls-more t.changed s (Some (advanced e.role call_event.TunnelOpen t.moment c)) calls in
+            let changed = with_calls-more t.changed s (Some (advanced e.role call_event.TunnelOpen t.on.moment c)) calls in
             let looked = with_looks-more t.changes (cell.Bind s t.control.local t.control.peer) (placed t.control.local t.added e.calls) in
-            rw (changed, looked, one_given t (letter_as 0 (request_of s c.subscriber) (hidden_request e.config t.block s c.subscriber)), put-put e.tunnels t.control.local (tunnel_after t letters calls) _, now_is) refl;
+            rw (changed, looked, one_given t (letter_as 0 (request_of s c.subscriber) (hidden_request e.config t.on.block s c.subscriber)), put-put e.tunnels t.control.local (tunnel_after t letters calls) _, now_is) refl;
       })
 
   -- it gives one of the letters that it owes
@@ -227,7 +227,7 @@ module _ (e : End) (moment : ℕ) (ev : Event) (letters : List Letter) (calls : 
   unfolding requested gives_as with_change with_move with_call advanced
   requested_fits s c t live found row h =
       let less = requested_owes e.role c.state row in
-      let d = advanced e.role call_event.TunnelOpen t.moment c in
+      let d = advanced e.role call_event.TunnelOpen t.on.moment c in
       fits_changed (counts_given t.control) t s (Some d)
       (fits_instead t.control (with_calls t.changed calls) s d c live found (let before = less.0 in let now = less.1 in omega (arith, before, now)) h)
 
@@ -240,7 +240,7 @@ module _ (e : End) (moment : ℕ) (ev : Event) (letters : List Letter) (calls : 
     tells = h.tells;
     frames = all_push NoFrame t.moves _ h.frames tt;
     stays = h.stays;
-    held = given_held t (letter_as 0 (request_of s c.subscriber) (hidden_request e.config t.block s c.subscriber)) h.held;
+    held = given_held t (letter_as 0 (request_of s c.subscriber) (hidden_request e.config t.on.block s c.subscriber)) h.held;
     fits =
         let live = live_open t.control is_open in
         requested_fits s c t live found row (holds_live t.control (with_calls t.changed calls) live h.fits);
@@ -277,8 +277,8 @@ module _ (e : End) (moment : ℕ) (ev : Event) (letters : List Letter) (calls : 
       (λ row. branch (Leaves s t) (has_room t.control) _ _
       (λ may. record {
         state = refl;
-        others = λ q o. ap (λ xs. at xs q) (with_calls-more t.changed s (Some (advanced e.role call_event.TunnelOpen t.moment c)) calls)
-            ∙ at_other (with_calls t.changed calls) s (advanced e.role call_event.TunnelOpen t.moment c) q o;
+        others = λ q o. ap (λ xs. at xs q) (with_calls-more t.changed s (Some (advanced e.role call_event.TunnelOpen t.on.moment c)) calls)
+            ∙ at_other (with_calls t.changed calls) s (advanced e.role call_event.TunnelOpen t.on.moment c) q o;
       })
       (λ full. record { state = refl; others = λ q o. refl }))
       (λ none. leaves_all s t)
@@ -322,7 +322,7 @@ module _ (e : End) (moment : ℕ) (ev : Event) (letters : List Letter) (calls : 
 
   adds_chain : (who : List ℕ) (s : ℕ) (t : Turn) → t.changes ≡ [] → (state_number t.control.state ≡ 3) ⊎ (state_number t.control.state ≡ 1)
       → are_too_many (with_calls t.changed calls) ≡ false → may_take t.control (with_calls t.changed calls) ≡ true → IsRing ev who → e.role ≡ Lac
-      → draws t.sessions ≡ Ok s → t.moment ≡ moment → Chain moment ev e t.moves (at_turn t)
+      → draws t.ids.sessions ≡ Ok s → t.on.moment ≡ moment → Chain moment ev e t.moves (at_turn t)
       → Chain moment ev e (adds e.role who s t).moves (at_turn (adds e.role who s t))
   unfolding adds with_move with_new with_looks
   adds_chain who s t none goes few spare rings lac drawn now_is h =
@@ -337,7 +337,7 @@ module _ (e : End) (moment : ℕ) (ev : Event) (letters : List Letter) (calls : 
         role = lac;
         drawn = drawn;
         after =
-            let changed = with_calls-more t.changed s (Some (rung e.role who t.moment)) calls in
+            let changed = with_calls-more t.changed s (Some (rung e.role who t.on.moment)) calls in
             let added = placed-more t.control.local t.added s e.calls in
             rw (none, changed, added, put-put e.tunnels t.control.local (tunnel_after t letters calls) _, now_is) refl;
       })
@@ -346,17 +346,17 @@ module _ (e : End) (moment : ℕ) (ev : Event) (letters : List Letter) (calls : 
       → e.role ≡ Lac → TurnOk t → Holds (adds e.role who s t).control (with_calls (adds e.role who s t).changed calls)
   unfolding adds with_move with_new
   adds_fit who s t few spare lac h =
-      let d = rung e.role who t.moment in
+      let d = rung e.role who t.on.moment in
       subst (Holds t.control) (sym (with_calls-more t.changed s (Some d) calls))
-      (holds_new t.control (with_calls t.changed calls) s d (rung_owes e.role who t.moment lac) few spare h.fits)
+      (holds_new t.control (with_calls t.changed calls) s d (rung_owes e.role who t.on.moment lac) few spare h.fits)
 
-  small_last : (t : Turn) → t.sessions.last < 65536 → (after_draw t.sessions).last < 65536
-  small_last t small = let l = last_after t.sessions in omega (arith, l, small)
+  small_last : (t : Turn) → t.ids.sessions.last < 65536 → (after_draw t.ids.sessions).last < 65536
+  small_last t small = let l = last_after t.ids.sessions in omega (arith, l, small)
 
   -- over a tunnel that isn't open the call waits
   pub adds_ok : (who : List ℕ) (s : ℕ) (t : Turn) → t.changes ≡ [] → state_number t.control.state ≡ 1
       → are_too_many (with_calls t.changed calls) ≡ false → may_take t.control (with_calls t.changed calls) ≡ true → IsRing ev who → e.role ≡ Lac
-      → draws t.sessions ≡ Ok s → TurnOk t → TurnOk (adds e.role who s t)
+      → draws t.ids.sessions ≡ Ok s → TurnOk t → TurnOk (adds e.role who s t)
   unfolding adds with_move with_new
   adds_ok who s t none waits few spare rings lac drawn h =
       let fit = adds_fit who s t few spare lac h in
@@ -371,20 +371,20 @@ module _ (e : End) (moment : ℕ) (ev : Event) (letters : List Letter) (calls : 
             (live_in t.control 1 (λ f. omega (arith, f)) waits) fit (λ o. absurd (omega (arith, waits, o)));
       }
 
-  adds_found : (who : List ℕ) (s : ℕ) (t : Turn) → at (with_calls (adds e.role who s t).changed calls) s ≡ Some (rung e.role who t.moment)
+  adds_found : (who : List ℕ) (s : ℕ) (t : Turn) → at (with_calls (adds e.role who s t).changed calls) s ≡ Some (rung e.role who t.on.moment)
   unfolding adds with_move with_new
   adds_found who s t =
-      let c = rung e.role who t.moment in
+      let c = rung e.role who t.on.moment in
       rw (with_calls-more t.changed s (Some c) calls) (at_new (with_calls t.changed calls) s c)
 
   adds_requested_ok : (who : List ℕ) (s : ℕ) (t : Turn) → t.changes ≡ [] → state_number t.control.state ≡ 3
       → are_too_many (with_calls t.changed calls) ≡ false → may_take t.control (with_calls t.changed calls) ≡ true → IsRing ev who → e.role ≡ Lac
-      → draws t.sessions ≡ Ok s → s < 65536 → is_request (call_row e.role (rung e.role who t.moment).state call_event.TunnelOpen).1 ≡ true
-      → has_room t.control ≡ true → TurnOk t → TurnOk (requested e.role e.config s (rung e.role who t.moment) (adds e.role who s t))
+      → draws t.ids.sessions ≡ Ok s → s < 65536 → is_request (call_row e.role (rung e.role who t.on.moment).state call_event.TunnelOpen).1 ≡ true
+      → has_room t.control ≡ true → TurnOk t → TurnOk (requested e.role e.config s (rung e.role who t.on.moment) (adds e.role who s t))
   unfolding requested gives_as with_change with_move with_call adds with_new
   adds_requested_ok who s t none is_open few spare rings lac drawn small row room h =
       let u = adds e.role who s t in
-      let c = rung e.role who t.moment in
+      let c = rung e.role who t.on.moment in
       let found = adds_found who s t in
       record {
         chain = requested_chain s c u is_open found small row room h.stays.4 (adds_chain who s t none (inl is_open) few spare rings lac drawn h.stays.4 h.chain);
@@ -392,25 +392,25 @@ module _ (e : End) (moment : ℕ) (ev : Event) (letters : List Letter) (calls : 
         tells = h.tells;
         frames = all_push NoFrame _ _ (all_push NoFrame t.moves _ h.frames tt) tt;
         stays = (h.stays.0, h.stays.1, small_last t h.stays.2, h.stays.3, h.stays.4, h.stays.5);
-        held = given_held t (letter_as 0 (request_of s c.subscriber) (hidden_request e.config t.block s c.subscriber)) h.held;
+        held = given_held t (letter_as 0 (request_of s c.subscriber) (hidden_request e.config t.on.block s c.subscriber)) h.held;
         fits = requested_fits s c u (live_open t.control is_open) found row (adds_fit who s t few spare lac h);
       }
 
   -- over an open one it is asked for at once, so that it owes two letters, and not three
   pub adds_asked_ok : (who : List ℕ) (s : ℕ) (t : Turn) → t.changes ≡ [] → state_number t.control.state ≡ 3
       → are_too_many (with_calls t.changed calls) ≡ false → may_take t.control (with_calls t.changed calls) ≡ true → IsRing ev who → e.role ≡ Lac
-      → draws t.sessions ≡ Ok s → s < 65536 → TurnOk t → TurnOk (requests e.role e.config s (rung e.role who t.moment) (adds e.role who s t))
+      → draws t.ids.sessions ≡ Ok s → s < 65536 → TurnOk t → TurnOk (requests e.role e.config s (rung e.role who t.on.moment) (adds e.role who s t))
   unfolding requests adds with_move with_new
   adds_asked_ok who s t none is_open few spare rings lac drawn small h =
-      branch TurnOk (is_request (call_row e.role (rung e.role who t.moment).state call_event.TunnelOpen).1) _ _
+      branch TurnOk (is_request (call_row e.role (rung e.role who t.on.moment).state call_event.TunnelOpen).1) _ _
       (λ row. branch TurnOk (has_room t.control) _ _
       (λ may. adds_requested_ok who s t none is_open few spare rings lac drawn small row may h)
       (λ full. absurd (is_roomy t (live_open t.control is_open) h full)))
-      (λ no. absurd (true≢false (sym (rung_asks e.role who t.moment lac) ∙ no)))
+      (λ no. absurd (true≢false (sym (rung_asks e.role who t.on.moment lac) ∙ no)))
 
   pub replied_ok : (remote s session serial : ℕ) (calling : Option (List ℕ)) (t : Turn) → t.changes ≡ [] → state_number t.control.state ≡ 3
       → HearsNext ev (tunnel_after t letters calls) session (Icrq remote serial calling) → at (with_calls t.changed calls) session ≡ None
-      → granted e.role (with_calls t.changed calls) remote t.sessions ≡ Ok s → IsGranted e.role (with_calls t.changed calls) t.sessions s
+      → granted e.role (with_calls t.changed calls) remote t.ids.sessions ≡ Ok s → IsGranted e.role (with_calls t.changed calls) t.ids.sessions s
       → may_take t.control (with_calls t.changed calls) ≡ true → has_room t.control ≡ true → TurnOk t → TurnOk (replied e.role remote s t)
   unfolding replied gives with_output with_move with_new takes_one with_looks
   replied_ok remote s session serial calling t none is_open hears unnamed is so spare room h =
@@ -441,7 +441,7 @@ module _ (e : End) (moment : ℕ) (ev : Event) (letters : List Letter) (calls : 
           room = room;
           given = refl;
           after =
-              let changed = with_calls-more t.changed s (Some (asked_for e.role remote t.moment)) calls in
+              let changed = with_calls-more t.changed s (Some (asked_for e.role remote t.on.moment)) calls in
               let added = placed-more t.control.local t.added s e.calls in
               rw (none, changed, added, one_given t (letter_of remote (Icrp s)), put-put e.tunnels t.control.local (tunnel_after t letters calls) _, h.stays.4) refl;
         });
@@ -451,10 +451,10 @@ module _ (e : End) (moment : ℕ) (ev : Event) (letters : List Letter) (calls : 
         stays = (h.stays.0, h.stays.1, small_last t h.stays.2, h.stays.3, h.stays.4, h.stays.5);
         held = given_held t (letter_of remote (Icrp s)) h.held;
         fits =
-            let d = asked_for e.role remote t.moment in
+            let d = asked_for e.role remote t.on.moment in
             fits_changed (counts_given t.control) t s (Some d)
             (fits_new t.control (with_calls t.changed calls) s d (live_open t.control is_open)
-            (replied_owes e.role remote t.moment so.row) so.few spare h.fits);
+            (replied_owes e.role remote t.on.moment so.row) so.few spare h.fits);
       }
 
   pub first_up_ok : (s remote : ℕ) (c : Call) (t : Turn) → state_number t.control.state ≡ 3 → at (with_calls t.changed calls) s ≡ Some c
@@ -484,7 +484,7 @@ module _ (e : End) (moment : ℕ) (ev : Event) (letters : List Letter) (calls : 
           room = room;
           given = refl;
           after =
-              let changed = with_calls-more t.changed s (Some (advanced e.role call_event.IcrpAcc t.moment (record c { remote = remote }))) calls in
+              let changed = with_calls-more t.changed s (Some (advanced e.role call_event.IcrpAcc t.on.moment (record c { remote = remote }))) calls in
               let looked = with_looks-more t.changes (cell.Establish s) (placed t.control.local t.added e.calls) in
               rw (changed, looked, one_given t (letter_of remote connection), put-put e.tunnels t.control.local (tunnel_after t letters calls) _, h.stays.4) refl;
         });
@@ -495,7 +495,7 @@ module _ (e : End) (moment : ℕ) (ev : Event) (letters : List Letter) (calls : 
         held = given_held t (letter_of remote connection) h.held;
         fits =
             let less = connected_owes e.role c.state row in
-            let d = advanced e.role call_event.IcrpAcc t.moment (record c { remote = remote }) in
+            let d = advanced e.role call_event.IcrpAcc t.on.moment (record c { remote = remote }) in
             fits_changed (counts_given t.control) t s (Some d)
             (fits_instead t.control (with_calls t.changed calls) s d c (live_open t.control is_open) found
             (let before = less.0 in let now = less.1 in omega (arith, before, now))
@@ -504,7 +504,7 @@ module _ (e : End) (moment : ℕ) (ev : Event) (letters : List Letter) (calls : 
 
   -- the call as it is connected, with its link
   abbrev pub connected_call : ℕ → Call → Turn → Call
-  connected_call magic c t = with_link (begun_link magic) (advanced e.role call_event.IccnAcc t.moment c)
+  connected_call magic c t = with_link (begun_link magic) (advanced e.role call_event.IccnAcc t.on.moment c)
 
   pub second_up_ok : (s speed framing magic : ℕ) (sequenced : Bool) (c : Call) (t : Turn) → state_number t.control.state ≡ 3
       → at (with_calls t.changed calls) s ≡ Some c → HearsNext ev (tunnel_after t letters calls) s (Iccn speed framing sequenced)
@@ -749,7 +749,7 @@ module _ (e : End) (moment : ℕ) (ev : Event) (letters : List Letter) (calls : 
         tells = h.tells;
         frames = all_push NoFrame t.moves m h.frames tt;
         stays = h.stays;
-        held = subst (Held (sending.acked_at t.control.channel.window nr t.moment)) (sym left)
-            (held_read t.control.channel.window letters nr t.moment (subst (Held t.control.channel.window) all h.held));
-        fits = fits_acked t.control nr t.moment (with_calls t.changed calls) h.fits;
+        held = subst (Held (sending.acked_at t.control.channel.window nr t.on.moment)) (sym left)
+            (held_read t.control.channel.window letters nr t.on.moment (subst (Held t.control.channel.window) all h.held));
+        fits = fits_acked t.control nr t.on.moment (with_calls t.changed calls) h.fits;
       }

@@ -114,15 +114,12 @@ pub record IsClose (id result : ℕ) (error : Option ℕ) (m : Move) : Type 0 wh
   pub error_is : closed.error ≡ error
 
 -- An ICRQ, by the call that its header names, and by whether it is granted. One that names no call is replied to, or refused with the codes
--- of the first cause that stands against it. One that names a call ends it, by an error of 5, or with the codes of that cause.
+-- of the first cause that stands against it. One that names a call ends it, by an error of 5.
 pub data AnswersIcrq (e : End) (id : ℕ) (t : Tunnel) (session remote : ℕ) (m : Move) : Type 0 where
   WithReply : (drawn : ℕ) → at t.calls session ≡ None → GrantsCall e t remote drawn → IsReply id remote drawn m → AnswersIcrq e id t session remote m
   WithRefusal : (result : ℕ) (error : Option ℕ) → at t.calls session ≡ None → DeniesCall e t remote result error → IsRefusal id remote result error m
       → AnswersIcrq e id t session remote m
-  WithEnd : (c : Call) (drawn : ℕ) → at t.calls session ≡ Some c → GrantsCall e t remote drawn → IsEnd id session c 2 (Some 5) m
-      → AnswersIcrq e id t session remote m
-  WithDeniedEnd : (c : Call) (result : ℕ) (error : Option ℕ) → at t.calls session ≡ Some c → DeniesCall e t remote result error
-      → IsEnd id session c result error m → AnswersIcrq e id t session remote m
+  WithEnd : (c : Call) → at t.calls session ≡ Some c → IsEnd id session c 2 (Some 5) m → AnswersIcrq e id t session remote m
 
 -- a faulty ICRQ, by the call that its header names: it ends the call, or there is none
 abbrev pub AnswersFaulty : ℕ → ℕ → CallFault → Option Call → Move → Type 0

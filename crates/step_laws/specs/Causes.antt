@@ -71,9 +71,10 @@ pub record CameFaulty (e : End) (ev : Event) (t : Tunnel) (header : ℕ) (f : Ca
   pub next : IsNext ev t letter
   pub says : SaysFaulty letter header f
 
--- a request came for a call of this id of the peer's
+-- a request came for a call of this id of the peer's, and names none
 pub record Asks (e : End) (ev : Event) (t : Tunnel) (remote : ℕ) : Type 0 where
   pub header : ℕ
+  pub new : at t.calls header ≡ None
   pub serial : ℕ
   pub calling : Option (List ℕ)
   pub came : CameAbout e ev t header (Icrq remote serial calling)
@@ -94,7 +95,6 @@ pub record MayBeGranted (e : End) (t : Tunnel) (remote : ℕ) : Type 0 where
 pub data IsOutOfState (e : End) (ev : Event) (t : Tunnel) : Type 0 where
   AskedInVain : (remote : ℕ) → Asks e ev t remote → TakesNoCalls e → IsOutOfState e ev t
   AskedAgain : (remote serial s : ℕ) (calling : Option (List ℕ)) → CameAbout e ev t s (Icrq remote serial calling) → IsTold e t s call_event.IcrqAcc
-      → MayBeGranted e t remote
       → IsOutOfState e ev t
   RepliedInVain : (remote s : ℕ) → CameAbout e ev t s (Icrp remote) → ((at t.calls s ≡ None) × (e.role ≡ Lns)) ⊎ IsTold e t s call_event.IcrpAcc
       → IsOutOfState e ev t

@@ -69,11 +69,8 @@ codes_fit e t ev moment session c on result error (IsLate late at_ r x) = fits r
 codes_fit e t ev moment session c on result error (IsFinished done at_ r x) = fits result error 3 None (omega arith, tt) r x
 codes_fit e t ev moment session c on result error (IsDropped is at_ r x) = fits result error 3 None (omega arith, tt) r x
 codes_fit e t ev moment session c on result error (IsHungUp is at_ r x) = fits result error 1 None (omega arith, tt) r x
-codes_fit e t ev moment session c on result error (IsAsked remote serial calling came either) =
-    ⊎_elim
-    (λ k. fits result error 2 (Some 5) (omega arith, omega arith) k.2 k.3)
-    (λ k. denied_fits e t remote result error k.1)
-    either
+codes_fit e t ev moment session c on result error (IsAsked remote serial calling came at_ r x) =
+    fits result error 2 (Some 5) (omega arith, omega arith) r x
 codes_fit e t ev moment session c on result error (IsReplied remote came at_ r x) = fits result error 2 (Some 5) (omega arith, omega arith) r x
 codes_fit e t ev moment session c on result error (IsConnected speed framing sequenced came at_ r x) =
     fits result error 2 (Some 5) (omega arith, omega arith) r x

@@ -433,11 +433,9 @@ pub data WhyEnds (e : End) (t : Tunnel) (ev : Event) (moment session : ℕ) (c :
   IsLate : TookTooLong ev moment c → on ≡ call_event.Close → result ≡ 10 → error ≡ None → WhyEnds e t ev moment session c on result error
   IsDropped : ev ≡ DropCall session → on ≡ call_event.Close → result ≡ 3 → error ≡ None → WhyEnds e t ev moment session c on result error
   IsHungUp : ev ≡ Hang session → on ≡ call_event.LineDrop → result ≡ 1 → error ≡ None → WhyEnds e t ev moment session c on result error
-  -- it was asked for once more, or by an end that asks for calls itself
+  -- a request named it
   IsAsked : (remote serial : ℕ) (calling : Option (List ℕ)) → InTunnel ev t.control session (Icrq remote serial calling)
-      → ((on ≡ call_event.IcrqAcc) × ((s : ℕ) × GrantsCall e t remote s) × (result ≡ 2) × (error ≡ Some 5))
-      ⊎ ((on ≡ call_event.IcrqNotAcc) × DeniesCall e t remote result error)
-      → WhyEnds e t ev moment session c on result error
+      → on ≡ call_event.IcrqAcc → result ≡ 2 → error ≡ Some 5 → WhyEnds e t ev moment session c on result error
   -- its reply, or its connection, came out of state
   IsReplied : (remote : ℕ) → InTunnel ev t.control session (Icrp remote) → on ≡ call_event.IcrpAcc → result ≡ 2 → error ≡ Some 5
       → WhyEnds e t ev moment session c on result error

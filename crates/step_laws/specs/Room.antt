@@ -1,6 +1,6 @@
 -- Where a step tells that there is no room for letters.
 use Rattle.step_laws.specs.Callers.{IsRing}
-use Rattle.std.specs.Prelude.{◌≡◌, ◌⊎◌, ◌≤◌, ℕ, false, List, Some}
+use Rattle.std.specs.Prelude.{◌≡◌, ◌⊎◌, ◌≤◌, ℕ, false, List, Some, unwrap_or}
 use Rattle.id_table.specs.Ids.{at}
 use Rattle.tunnel_fsm.specs.declared.table.TunnelState.{TunnelState}
 use Rattle.tunnel_fsm.specs.declared.table.TunnelState.TheVariants.{WaitCtlReply, Established}
@@ -60,3 +60,8 @@ pub record RingsOver (e : End) (ev : Event) (t : Tunnel) : Type 0 where
 abbrev pub StepsRefuseTruly : Type 0
 StepsRefuseTruly = (e : End) → AreKept e → (moment : ℕ) (block : List ℕ) (ev : Event)
     → Among (Drop why.Queue) (plain_step e moment block ev).outputs → IsFull e moment ev
+
+-- and each such message that names its tunnel is dropped for it
+abbrev pub FullAreRefused : Type 0
+FullAreRefused = (e : End) → AreKept e → (moment : ℕ) (block : List ℕ) (ev : Event) (f : IsFull e moment ev) → f.letter.header.tunnel ≡ f.id
+    → f.nr ≡ unwrap_or f.letter.header.nr 0 → Among (Drop why.Queue) (plain_step e moment block ev).outputs

@@ -6,7 +6,7 @@ ghost use Rattle.step_laws.specs.Causes.{CausesStand};
 ghost use Rattle.step_laws.specs.Codes.{FaultsHaveCodes};
 ghost use Rattle.step_laws.specs.Left.{CallsAreAsked, CallsStaySound, FailedTunnelsGo, LateCallsEnd, TunnelsBeginFew, TunnelsStayFew};
 ghost use Rattle.step_laws.specs.Looks.{LooksBeginTrue, LooksStayTrue};
-ghost use Rattle.step_laws.specs.Room.{StepsRefuseTruly};
+ghost use Rattle.step_laws.specs.Room.{StepsRefuseTruly, FullAreRefused};
 ghost use Rattle.step_laws.specs.Steps.{StepsAreChains};
 ghost use Rattle.step_laws.specs.Ups.{BirthsAreFew, ReadsAreFew, UpsAreFew, UpsAreMoves};
 
@@ -51,9 +51,10 @@ pub fn reads_are_few()
 
 /// A step of an end whose tunnels are kept drops an event for want of room only where it is the next message of a tunnel, and the
 /// letters that the tunnel holds, once Nr is read, those that its calls owe and four more are over 8,192. So there is room for
-/// each letter that a tunnel has to give.
+/// each letter that a tunnel has to give. And each such message that names its tunnel is dropped for it.
 pub fn steps_refuse_truly()
-    ensures { StepsRefuseTruly }
+    ensures only { StepsRefuseTruly }
+    ensures full { FullAreRefused }
 {}
 
 /// Each cause that a step of an end whose tunnels are kept tells is so, of the end before the step and of what came. Where a

@@ -22,7 +22,7 @@ fn grant(
     calls: &TunnelCalls,
     remote: u16,
 ) -> Result<Result<u16, Reason>, NoMemory>
-    ensures value { IfOk result (λ g. g ≡ granted role calls.now.entries remote turn.now.sessions) }
+    ensures value { IfOk result (λ g. g ≡ granted role calls.now.entries remote turn.now.ids.sessions) }
     ensures some { IfOk result (λ g. IfOk g (λ session. 0 < session)) }
 {
     let (_, action) = call_row(role, CallState::Idle, CallEvent::IcrqAcc);
@@ -90,7 +90,7 @@ fn reply(turn: &mut Turn, role: Role, remote: u16, session: u16) -> Result<(), N
     reply_now(turn, role, remote, session)
 }
 
-/// Takes the request for a call of the peer, or one that names a call.
+/// Takes the request for a call of the peer. One that names a call is out of state.
 #[tactic(auto, unfolding(protocol_model::specs::Turn::asked_by))]
 pub(crate) fn take_request(
     turn: &mut Turn,
@@ -99,20 +99,15 @@ pub(crate) fn take_request(
     session: u16,
     remote: u16,
 ) -> Result<(), NoMemory>
-    ensures { OnOk result (turn.new ≡ asked_by role session remote (granted role calls.now.entries remote turn.old.sessions) (at calls.now.entries session) turn.old) }
+    ensures { OnOk result (turn.new ≡ asked_by role session remote (granted role calls.now.entries remote turn.old.ids.sessions) (at calls.now.entries session) turn.old) }
 {
     let id = u32::from(session);
-    let granted = grant(turn, role, calls, remote)?;
-    match (granted, calls.get(id)) {
-        (Ok(drawn), None) => reply(turn, role, remote, drawn),
-        (Err(reason), None) => refuse(turn, &reason, remote),
-        (Ok(_), Some(call)) => {
-            let (_, action) = call_row(role, call.state, CallEvent::IcrqAcc);
-            answer(turn, &out_of_state(), id, call, action)
-        }
-        (Err(reason), Some(call)) => {
-            let (_, action) = call_row(role, call.state, CallEvent::IcrqNotAcc);
-            answer(turn, &reason, id, call, action)
-        }
+    if let Some(call) = calls.get(id) {
+        let (_, action) = call_row(role, call.state, CallEvent::IcrqAcc);
+        return answer(turn, &out_of_state(), id, call, action);
+    }
+    match grant(turn, role, calls, remote)? {
+        Ok(drawn) => reply(turn, role, remote, drawn),
+        Err(reason) => refuse(turn, &reason, remote),
     }
 }

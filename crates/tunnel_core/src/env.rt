@@ -7,7 +7,7 @@ use crate::turn::Turn;
 use id_source::Ids;
 use protocol_model::{CellChanges, Move, Out};
 use std::marker::Model;
-use wire_base::{Contents, NoMemory, Sequence};
+use wire_base::{NoMemory, Sequence};
 
 /// What a step gives to the outside, in order.
 pub type Outputs = Sequence<Out>;
@@ -22,12 +22,10 @@ pub struct Env {
     pub moment: u64,
     /// The step's random block.
     pub block: [u8; 16],
+    /// Where tunnel ids, session ids and the numbers of recoveries are drawn from.
     pub tunnels: Ids,
     pub sessions: Ids,
-    /// Where the numbers of recoveries are drawn from.
     pub recoveries: Ids,
-    /// What is to be committed before any output is given.
-    pub contents: Contents,
     pub outputs: Outputs,
     /// What changes in the looks.
     pub changes: CellChanges,
@@ -40,7 +38,7 @@ impl Model for Env {
 
     ghost Value = { Known };
 
-    ghost view = { λ e. record { moment = e.moment; block = e.block; tunnels = e.tunnels; sessions = e.sessions; recoveries = e.recoveries; contents = e.contents; outputs = e.outputs; changes = e.changes; moves = e.moves } };
+    ghost view = { λ e. record { on = record { moment = e.moment; block = e.block }; ids = record { tunnels = e.tunnels; sessions = e.sessions; recoveries = e.recoveries }; outputs = e.outputs; changes = e.changes; moves = e.moves } };
 
     ghost invariant = { λ e. (e.tunnels.last ≤ 65535) × (e.sessions.last ≤ 65535) };
 }
@@ -72,6 +70,7 @@ impl Env {
         }
         self.tunnels = turn.tunnels;
         self.sessions = turn.sessions;
+        self.recoveries = turn.recoveries;
         Ok(())
     }
 }

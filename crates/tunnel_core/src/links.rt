@@ -264,7 +264,7 @@ fn run_out(
     call: &Call,
     link: &Link,
 ) -> Result<(), NoMemory>
-    ensures { OnOk result (turn.new ≡ links role letters.now.letters session call.now link.now (ticked turn.old.moment link.now.lcp) turn.old) }
+    ensures { OnOk result (turn.new ≡ links role letters.now.letters session call.now link.now (ticked turn.old.on.moment link.now.lcp) turn.old) }
 {
     let step = step_on_tick(turn.alloc, turn.moment, link)?;
     follow_link(turn, role, letters, session, call, link, &step)

@@ -142,7 +142,7 @@ fn ring_new(
     config: &Config,
     subscriber: [u8; 6],
 ) -> Result<(), NoMemory>
-    ensures { OnOk result (turn.new ≡ rings_new role config.now subscriber (draws turn.old.sessions) (draws turn.old.tunnels) turn.old) }
+    ensures { OnOk result (turn.new ≡ rings_new role config.now subscriber (draws turn.old.ids.sessions) (draws turn.old.ids.tunnels) turn.old) }
 {
     match (turn.next_session(), turn.next_tunnel()) {
         (Ok(session), Ok(local)) => {

@@ -232,7 +232,7 @@ impl Turn {
         channel: ChannelNumbers,
         number: u64,
     ) -> Result<(), NoMemory>
-        requires { channel ≡ ticked_at self.old.control.channel self.old.moment }
+        requires { channel ≡ ticked_at self.old.control.channel self.old.on.moment }
         ensures { OnOk result (self.new ≡ repeats letters.now.letters number self.old) }
     {
         self.control.channel = channel;

@@ -40,6 +40,7 @@ pub(crate) struct Turn {
     pub(crate) ended: Sequence<u32>,
     pub(crate) tunnels: Ids,
     pub(crate) sessions: Ids,
+    pub(crate) recoveries: Ids,
     pub(crate) outputs: Outputs,
     pub(crate) changes: CellChanges,
     pub(crate) moves: Moves,
@@ -51,7 +52,7 @@ impl Model for Turn {
 
     ghost Value = { Known };
 
-    ghost view = { λ t. record { moment = t.moment; block = t.block; control = t.control; given = t.given; acked = t.acked; took = t.took; cleared = t.cleared; changed = t.changed; added = t.added; tunnels = t.tunnels; sessions = t.sessions; outputs = t.outputs; changes = t.changes; moves = t.moves } };
+    ghost view = { λ t. record { on = record { moment = t.moment; block = t.block }; ids = record { tunnels = t.tunnels; sessions = t.sessions; recoveries = t.recoveries }; control = t.control; given = t.given; acked = t.acked; took = t.took; cleared = t.cleared; changed = t.changed; added = t.added; outputs = t.outputs; changes = t.changes; moves = t.moves } };
 
     ghost invariant = { λ t. (t.tunnels.last ≤ 65535) × (t.sessions.last ≤ 65535) };
 }
@@ -74,6 +75,7 @@ impl Turn {
             ended: Sequence::new(alloc),
             tunnels: env.tunnels,
             sessions: env.sessions,
+            recoveries: env.recoveries,
             outputs: Outputs::new(alloc),
             changes: CellChanges::new(alloc),
             moves: Moves::new(alloc),
@@ -156,7 +158,7 @@ impl Turn {
 
     /// The next tunnel id, which isn't drawn yet.
     pub(crate) fn next_tunnel(&self) -> Result<u32, IdError>
-        ensures value { result ≡ draws self.now.tunnels }
+        ensures value { result ≡ draws self.now.ids.tunnels }
         ensures fits { IfOk result (λ id. (0 < id) × (id ≤ 65535)) }
     {
         let mut ids = self.tunnels;
@@ -165,7 +167,7 @@ impl Turn {
 
     /// The next session id, which isn't drawn yet.
     pub(crate) fn next_session(&self) -> Result<u32, IdError>
-        ensures value { result ≡ draws self.now.sessions }
+        ensures value { result ≡ draws self.now.ids.sessions }
         ensures fits { IfOk result (λ id. (0 < id) × (id ≤ 65535)) }
     {
         let mut ids = self.sessions;

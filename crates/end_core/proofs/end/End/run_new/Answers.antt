@@ -14,7 +14,7 @@ returns-then-local-eq0-clause-given c =
     let v = view_of c.self.inside in
     let start = c.env-env.result in
     let none : (start.outputs ≡ []) × (start.moves ≡ []) = (ap (λ (x : Env). x.outputs) c.env-env.ensures, ap (λ (x : Env). x.moves) c.env-env.ensures) in
-    let moment : c.args.moment ≡ start.moment = sym (ap (λ (x : Env). x.moment) c.env-env.ensures) in
+    let moment : c.args.moment ≡ start.on.moment = sym (ap (λ (x : Env). x.on.moment) c.env-env.ensures) in
     let idle = c.idle-core.ensures ∙ ap (λ m. record { control = fresh c.args.peer m; letters = []; calls = [] }) moment in
     let is = ap (λ (t : Tunnel). turned v start c.args.event.now t) idle in
     let zero = ap (λ (x : Control). x.local) (sym c.in_ok-planned.ensures.planned.control) ∙ sym c.local-local.ensures ∙ c.if-local-eq0.true in
@@ -30,7 +30,7 @@ returns-clause-given c =
     let start = c.env-env.result in
     let core = c.idle-core.result in
     let local = c.local-local.result in
-    let moment : c.args.moment ≡ start.moment = sym (ap (λ (x : Env). x.moment) c.env-env.ensures) in
+    let moment : c.args.moment ≡ start.on.moment = sym (ap (λ (x : Env). x.on.moment) c.env-env.ensures) in
     let idle = c.idle-core.ensures ∙ ap (λ m. record { control = fresh c.args.peer m; letters = []; calls = [] }) moment in
     let empty : start.changes ≡ [] = ap (λ (x : Env). x.changes) c.env-env.ensures in
     let begun : (start.outputs ≡ []) × (start.moves ≡ []) = (ap (λ (x : Env). x.outputs) c.env-env.ensures, ap (λ (x : Env). x.moves) c.env-env.ensures) in
