@@ -52,6 +52,9 @@ fault_fits cause.Recovering = omega arith
 fault_fits cause.Queue = omega arith
 fault_fits cause.Service = omega arith
 fault_fits cause.Cookie = omega arith
+fault_fits cause.Auth = omega arith
+fault_fits cause.Address = omega arith
+fault_fits cause.Busy = omega arith
 
 fits : (result : ℕ) (error : Option ℕ) (x : ℕ) (y : Option ℕ) → CodesFit x y → result ≡ x → error ≡ y → CodesFit result error
 fits result error x y h a b = rw (a, b) h
