@@ -1,6 +1,6 @@
 //! Rows of control messages.
 
-ghost use Rattle.std.specs.Prelude.{◌≡◌, ◌<◌, IfOk};
+ghost use Rattle.std.specs.Prelude.{◌≡◌, ◌<◌, None, IfOk};
 ghost use Rattle.control_message.specs.Pairs.{IsWritten, IsWrittenOpening};
 
 use crate::row::{Fault, Row};
@@ -28,17 +28,30 @@ pub fn pairs_row(row: &Row<'_>) -> Result<String, Fault> {
     }
 }
 
-/// An opening of version 1.0, with a failover capability and a response.
-fn opening(
-    row: &Row<'_>,
-    tunnel: u16,
-    window: u16,
-    response: Option<[u8; 16]>,
-) -> Result<Opening, NoMemory>
+/// The two ids of a recovery, where both are spelled.
+fn recovery(row: &Row<'_>) -> Option<Recovery> {
+    match (row.some_long(10), row.some_long(11)) {
+        (Some(sender), Some(receiver)) => Some(Recovery { sender, receiver }),
+        _ => None,
+    }
+}
+
+/// Suggested numbers, where both are spelled.
+fn suggested(row: &Row<'_>) -> Option<Suggested> {
+    match (row.some_short(11), row.some_short(12)) {
+        (Some(ns), Some(nr)) => Some(Suggested { ns, nr }),
+        _ => None,
+    }
+}
+
+/// An opening of version 1.0, with a failover capability, and neither a response nor what a recovery tells.
+fn opening(row: &Row<'_>, tunnel: u16, window: u16) -> Result<Opening, NoMemory>
     requires tunnel { 0 < tunnel }
     requires window { 0 < window }
     ensures written { IfOk result IsWrittenOpening }
-    ensures response { IfOk result (λ o. o.response ≡ response) }
+    ensures response { IfOk result (λ o. o.response ≡ None) }
+    ensures recovery { IfOk result (λ o. o.recovery ≡ None) }
+    ensures suggested { IfOk result (λ o. o.suggested ≡ None) }
 {
     Ok(Opening {
         version: 0x0100,
@@ -51,9 +64,36 @@ fn opening(
             time: row.long(8),
         }),
         challenge: row.some_owned(9, 1017)?,
-        response,
+        response: None,
         recovery: None,
+        suggested: None,
+        attempt: None,
     })
+}
+
+/// An Sccrq: the fields of an opening, a challenge, the ids of a recovery, a draw number.
+fn request(row: &Row<'_>, tunnel: u16, window: u16) -> Result<Message, NoMemory>
+    requires tunnel { 0 < tunnel }
+    requires window { 0 < window }
+    ensures { IfOk result IsWritten }
+{
+    let mut opening = opening(row, tunnel, window)?;
+    opening.recovery = recovery(row);
+    opening.attempt = row.some_long(12);
+    Ok(Message::Sccrq(opening))
+}
+
+/// An Sccrp: the fields of an opening, a challenge, a response, suggested numbers, a draw number.
+fn reply(row: &Row<'_>, tunnel: u16, window: u16) -> Result<Message, NoMemory>
+    requires tunnel { 0 < tunnel }
+    requires window { 0 < window }
+    ensures { IfOk result IsWritten }
+{
+    let mut opening = opening(row, tunnel, window)?;
+    opening.response = row.some_array(10);
+    opening.suggested = suggested(row);
+    opening.attempt = row.some_long(13);
+    Ok(Message::Sccrp(opening))
 }
 
 fn message(row: &Row<'_>) -> Result<Message, Fault>
@@ -62,14 +102,11 @@ fn message(row: &Row<'_>) -> Result<Message, Fault>
     match row.word(2) {
         "Sccrq" => match (row.short(5), row.short(6)) {
             (0, _) | (_, 0) => Err(Fault::NotARow),
-            (tunnel, window) => Ok(Message::Sccrq(opening(row, tunnel, window, None)?)),
+            (tunnel, window) => Ok(request(row, tunnel, window)?),
         },
         "Sccrp" => match (row.short(5), row.short(6)) {
             (0, _) | (_, 0) => Err(Fault::NotARow),
-            (tunnel, window) => {
-                let response = row.some_array(10);
-                Ok(Message::Sccrp(opening(row, tunnel, window, response)?))
-            }
+            (tunnel, window) => Ok(reply(row, tunnel, window)?),
         },
         "Scccn" => Ok(Message::Scccn {
             response: row.some_array(3),

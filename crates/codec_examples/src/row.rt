@@ -83,6 +83,11 @@ impl<'a> Row<'a> {
         self.word(place).parse::<u32>().unwrap_or(0)
     }
 
+    /// A number of 32 bits in decimal, where one is spelled.
+    pub fn some_long(&self, place: usize) -> Option<u32> {
+        self.word(place).parse::<u32>().ok()
+    }
+
     /// Bytes in hex, which are no more than so many.
     pub fn bytes(&self, place: usize, most: usize) -> &[u8]
         ensures { length result.now ≤ most }

@@ -5,7 +5,6 @@ use Rattle.control_message.specs.declared.message.Message.{Message}
 use Rattle.control_message.specs.declared.message.Message.TheVariants.{Sccrq, Sccrp}
 use Rattle.control_message.specs.declared.message.MessageError.{MessageError}
 use Rattle.control_message.specs.declared.message.Read.{Read}
-use Rattle.control_message.specs.Pairs.{IsWritten, IsWrittenOpening}
 use Rattle.control_message.specs.Reading.{message_of, kind_of_pairs}
 use Rattle.avp_codec.specs.declared.avp.Avp.{Avp}
 use Rattle.avp_codec.specs.declared.error.AvpError.{AvpError}
@@ -19,6 +18,7 @@ use Rattle.protocol_model.specs.World.{Sender}
 use Rattle.step_laws.specs.Letters.{Letter}
 use Rattle.step_laws.specs.Moves.{Hears}
 use Rattle.frame_laws.specs.Codecs.{Codecs}
+use Rattle.frame_laws.specs.Written.{IsWritten, IsWrittenOpening}
 use Rattle.connection_laws.specs.Accounts.{Account}
 use Rattle.connection_laws.specs.Facts.{Accounts, IsNoOpening, IsNoStop, AccountOk, Within}
 use Rattle.connection_laws.specs.Steps.{LettersAreHeard, OpeningsAreAcceptable, FaultsAreOfRequests, NoneIsFaultyInTunnel}

@@ -7,7 +7,6 @@ use Rattle.id_table.specs.Order.{Ascends, ascends-put, found_put, ascends-withou
 use Rattle.id_source.specs.Spaces.{Space, draws, after_draw}
 use Rattle.control_message.specs.declared.message.Message.{Message}
 use Rattle.control_message.specs.declared.message.Message.TheVariants.{Scccn, Icrq, Icrp, Iccn, Cdn}
-use Rattle.control_message.specs.Pairs.{IsWritten}
 use Rattle.recv_window.specs.Window.{ClassIsTrue}
 use Rattle.tunnel_fsm.specs.declared.table.TunnelState.{TunnelState}
 use Rattle.tunnel_fsm.specs.declared.table.TunnelState.TheVariants.{Established}
@@ -37,6 +36,7 @@ use Rattle.l2tp_header.specs.declared.header.Header.{Header}
 use Rattle.protocol_model.specs.Reading.{body_of}
 use Rattle.frame_laws.specs.Codecs.{Codecs}
 use Rattle.frame_laws.specs.Plain.{AreAlike}
+use Rattle.frame_laws.specs.Written.{IsWritten}
 use Rattle.connection_laws.specs.Facts.{Accounts, IsNoOpening, IsNoStop, IsStopCcn, IsSpelled, TellsOwn, Tells, LiveOk, Within}
 use Rattle.connection_laws.proofs.Keeps.{after, IsMoved}
 use Rattle.connection_laws.proofs.Puts.{IsOnly, EndPut}

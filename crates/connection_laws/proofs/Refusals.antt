@@ -8,7 +8,7 @@ use Rattle.l2tp_header.specs.Reading.{header_of}
 use Rattle.avp_codec.specs.Spelling.{spelling}
 use Rattle.control_message.specs.declared.message.Message.{Message}
 use Rattle.control_message.specs.declared.message.Message.TheVariants.{StopCcn}
-use Rattle.control_message.specs.Pairs.{pairs_of, IsWritten}
+use Rattle.control_message.specs.Pairs.{pairs_of}
 use Rattle.recv_window.specs.Window.{on_wire}
 use Rattle.protocol_model.specs.declared.out.ControlOrigin.{ControlOrigin}
 use Rattle.protocol_model.specs.declared.packet.Packet.{Packet}
@@ -16,6 +16,7 @@ use Rattle.protocol_model.specs.Reading.{body_of, message_in, pairs_read, messag
 use Rattle.protocol_model.specs.Secrets.{uncovered_datagram}
 use Rattle.frame_laws.specs.Codecs.{Codecs}
 use Rattle.frame_laws.specs.Plain.{IsReadAs, AsAMessage, letter_stays}
+use Rattle.frame_laws.specs.Written.{IsWritten}
 use Rattle.connection_laws.specs.Facts.{Accounts, AccountOk, IsRefusal}
 use Rattle.connection_laws.proofs.Later.{opener_made}
 

@@ -8,7 +8,6 @@ use Rattle.recv_window.specs.Window.{ClassIsTrue}
 use Rattle.protocol_model.specs.declared.event.Event.{Event}
 use Rattle.protocol_model.specs.declared.moves.Refused.{Refused}
 use Rattle.protocol_model.specs.declared.moves.Move.TheVariants as move
-use Rattle.control_message.specs.Pairs.{IsWritten}
 use Rattle.protocol_model.specs.Reading.{body_of, message_in, CallFault, call_fault_in}
 use Rattle.protocol_model.specs.Turn.{Tunnel}
 use Rattle.protocol_model.specs.End.{End}
@@ -18,6 +17,7 @@ use Rattle.step_laws.specs.Moves.{HearsNext, heard_so, with_letter_as, Refuses, 
 use Rattle.step_laws.specs.Codes.{refusal_codes_fit}
 use Rattle.frame_laws.specs.Codecs.{Codecs}
 use Rattle.frame_laws.specs.Plain.{AreAlike}
+use Rattle.frame_laws.specs.Written.{IsWritten}
 use Rattle.connection_laws.specs.Facts.{Accounts, IsNoStop, IsStopCcn, IsSpelled, Tells, Within}
 use Rattle.connection_laws.proofs.Keeps.{after, IsMoved}
 use Rattle.connection_laws.proofs.Later.{after_move, only_after}

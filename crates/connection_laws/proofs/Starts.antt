@@ -7,7 +7,6 @@ use Rattle.l2tp_header.specs.Reading.{header_of}
 use Rattle.control_message.specs.declared.message.Message.{Message}
 use Rattle.control_message.specs.declared.message.Message.TheVariants.{Sccrq, StopCcn}
 use Rattle.control_message.specs.declared.message.Opening.{Opening}
-use Rattle.control_message.specs.Pairs.{IsWritten}
 use Rattle.protocol_model.specs.declared.out.Origin.{Origin}
 use Rattle.protocol_model.specs.declared.out.Origin.TheVariants as origin
 use Rattle.protocol_model.specs.declared.out.ControlOrigin.{ControlOrigin}
@@ -24,6 +23,7 @@ use Rattle.protocol_model.specs.World.{Node, outlives, too_old, refused_by, send
 use Rattle.step_laws.specs.Moves.{IsFor}
 use Rattle.step_laws.specs.Opens.{opens_said, empty_opens_none}
 use Rattle.frame_laws.specs.Codecs.{Codecs}
+use Rattle.frame_laws.specs.Written.{IsWritten}
 use Rattle.connection_laws.specs.Accounts.{Account}
 use Rattle.connection_laws.specs.Facts.{Accounts, AccountOk, LiveOk, EndOk, IsCopy, IsRefusal, OriginOk, PacketOk, AreNear, IsPacket}
 use Rattle.connection_laws.proofs.Later.{live_made}

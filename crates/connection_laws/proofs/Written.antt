@@ -7,9 +7,9 @@ use Rattle.std.specs.Fmt.{decimal}
 use Rattle.std.specs.Prelude.{nat_lt}
 use Rattle.id_source.specs.declared.IdError.TheVariants.{NoIds, NeedCeiling}
 use Rattle.id_source.specs.Spaces.{Space, draws, after_draw}
-use Rattle.control_message.specs.Pairs.{IsWritten, IsWrittenOpening}
 use Rattle.md5.proofs.StandardFacts.{length-md5}
 use Rattle.step_laws.specs.Moves.{Asks, Responds}
+use Rattle.frame_laws.specs.Written.{IsWritten, IsWrittenOpening}
 use Rattle.protocol_model.specs.declared.tunnel.Config.{Config}
 use Rattle.end_names.specs.declared.role.Role.{Role}
 use Rattle.end_names.specs.declared.role.Role.TheVariants.{Lac, Lns}
@@ -50,6 +50,8 @@ opening_written r c challenge response local lt some fits short sized = record {
   challenge = short;
   response = sized;
   recovery = refl;
+  suggested = refl;
+  attempt = refl;
 }
 
 -- only the number of the end is told

@@ -11,7 +11,7 @@ use Rattle.avp_codec.specs.Spelling.{spelling}
 use Rattle.control_message.specs.declared.message.Message.{Message}
 use Rattle.control_message.specs.declared.message.Message.TheVariants.{Sccrq, Sccrp, Scccn, StopCcn, Hello, Ocrq, Ocrp, Occn, Icrq, Icrp, Iccn, Cdn, Wen, Sli}
 use Rattle.control_message.specs.declared.message.Opening.{Opening}
-use Rattle.control_message.specs.Pairs.{pairs_of, IsWritten}
+use Rattle.control_message.specs.Pairs.{pairs_of}
 use Rattle.recv_window.specs.Window.{on_wire}
 use Rattle.tunnel_fsm.specs.Rows.{state_number}
 use Rattle.protocol_model.specs.Reading.{body_of}
@@ -36,6 +36,7 @@ use Rattle.step_laws.specs.Moves.{IsFor}
 use Rattle.step_laws.specs.Steps.{AreKept}
 use Rattle.step_laws.specs.Codes.{CodesFit}
 use Rattle.frame_laws.specs.Plain.{HidesOk}
+use Rattle.frame_laws.specs.Written.{IsWritten}
 use Rattle.connection_laws.specs.Accounts.{Part, Unmade, Opener, Acceptor, Taken, Account, no_account, heeded, partner_of}
 
 -- what is known of each tunnel of each node, by the node and the local id

@@ -1,5 +1,5 @@
 -- Faults along the list, as the relation has them and as the reading finds them.
-use Rattle.std.proofs.Common.{◌≡◌, ℕ, ◌≤◌, ◌&&◌, ◌||◌, true, false, List, [], ◌∷◌, ◌++◌, length, Option, Some, None, is_some, Result, Ok, Err, Decides, refl, sym, ap, subst, ◌∙◌, append_assoc, append-nil, inl, inr, ◌⊎◌, arith}
+use Rattle.std.proofs.Common.{◌≡◌, ℕ, ◌≤◌, ◌&&◌, ◌||◌, Bool, true, false, List, [], ◌∷◌, ◌++◌, length, Option, Some, None, is_some, Result, Ok, Err, Decides, refl, sym, ap, subst, ◌∙◌, append_assoc, append-nil, inl, inr, ◌⊎◌, arith}
 use Rattle.std.specs.Prelude.{◌==◌, nat_le, not}
 use Rattle.std.specs.List.{AllByRecursion}
 use Rattle.std.proofs.lemmas.Bool.{cases_Bool, cases_eq, false_from_ne_true, both_ways, eq-eqb, ne_eqb, eqb-true, leb-true, le-leb}
@@ -10,14 +10,14 @@ use Rattle.avp_codec.specs.declared.avp.Avp.{Avp}
 use Rattle.control_message.specs.declared.kind.Kind.{Kind}
 use Rattle.control_message.specs.declared.kind.Kind.TheVariants as kind
 use Rattle.control_message.specs.declared.kind.Shape.{Shape}
-use Rattle.control_message.specs.declared.kind.Shape.TheVariants.{Text, Short, Nonzero, Long, ShortLong, ShortLongLong, Sixteen, ResultCode, CallErrors, Accm}
+use Rattle.control_message.specs.declared.kind.Shape.TheVariants.{Text, Short, Nonzero, Long, ShortLong, ShortShortShort, ShortLongLong, Sixteen, ResultCode}
 use Rattle.control_message.specs.declared.message.MessageError.{MessageError}
 use Rattle.control_message.specs.declared.message.MessageError.TheVariants.{NoType, UnknownType, UnknownMandatory, HiddenWithoutVector, BadValue, Missing, NoMemory}
-use Rattle.control_message.specs.Table.{look_up, shape_of, uses_of, fits}
-use Rattle.control_message.specs.Reading.{is_listed, is_recognised, first, has_vector, checked_value, checked_use, checked, checked_all}
-use Rattle.control_message.specs.Grammar.{IsOfIetf, IsListed, IsRecognised}
-use Rattle.control_message.specs.Faults.{HasShape, IsUsed, HasFault, IsSound, IsFirstAlong}
-use Rattle.control_message.proofs.Firsts.{absent_first, first_absent, vector_or_none, vector_there, vector_none}
+use Rattle.control_message.specs.Table.{look_up, shape_of, uses_of, uses_draw, fits}
+use Rattle.control_message.specs.Reading.{is_listed, is_recognised, first, first_draw, has_vector, checked_value, checked_use, checked_draw, checked, checked_all}
+use Rattle.control_message.specs.Grammar.{IsOfIetf, IsListed, IsRecognised, IsDraw}
+use Rattle.control_message.specs.Faults.{HasShape, IsUsed, IsUsedDraw, IsValued, HasFault, IsSound, IsFirstAlong}
+use Rattle.control_message.proofs.Firsts.{absent_first, first_absent, no_draw_first, first_no_draw, vector_or_none, vector_there, vector_none}
 
 -- ---- tests
 
@@ -56,11 +56,10 @@ decides_shape Short value = Decides-eqb (length value) 2
 decides_shape Nonzero value = Decides-and (length value == 2) (not (big_number 2 value == 0)) (Decides-eqb (length value) 2) (Decides-not (big_number 2 value == 0) (Decides-eqb (big_number 2 value) 0))
 decides_shape Long value = Decides-eqb (length value) 4
 decides_shape ShortLong value = Decides-eqb (length value) 6
+decides_shape ShortShortShort value = Decides-eqb (length value) 6
 decides_shape ShortLongLong value = Decides-eqb (length value) 10
 decides_shape Sixteen value = Decides-eqb (length value) 16
 decides_shape ResultCode value = Decides-or (length value == 2) (nat_le 4 (length value)) (Decides-eqb (length value) 2) (decides_le 4 (length value))
-decides_shape CallErrors value = Decides-eqb (length value) 26
-decides_shape Accm value = Decides-eqb (length value) 10
 
 -- ---- a pair that is used
 
@@ -78,7 +77,7 @@ row_holds {V} P n v (u ∷ rows) all h =
 
 all_listed : (k : Kind) → AllByRecursion (λ (u : ℕ × Shape). is_listed 0 u.0 ≡ true) (uses_of k)
 all_listed kind.Sccrq = (refl, (refl, (refl, (refl, (refl, (refl, (refl, (refl, tt))))))))
-all_listed kind.Sccrp = (refl, (refl, (refl, (refl, (refl, (refl, (refl, (refl, tt))))))))
+all_listed kind.Sccrp = (refl, (refl, (refl, (refl, (refl, (refl, (refl, (refl, (refl, tt)))))))))
 all_listed kind.Scccn = (refl, tt)
 all_listed kind.StopCcn = (refl, (refl, tt))
 all_listed kind.Hello = tt
@@ -103,29 +102,46 @@ checked_used k n s before a u =
     let none : first a.attribute before ≡ None = ap (λ (m : ℕ). first m before) u.is.1 ∙ absent_first n before u.none in
     rw (eq-eqb a.reserved 0 u.is.2, listed, eq-eqb a.vendor 0 u.is.0, shape, none) refl
 
+-- so is a Draw Number
+checked_used_draw : (k : Kind) (before : List Avp) (a : Avp) → IsUsedDraw k before a → checked k before a ≡ checked_value Long (has_vector before) a
+unfolding checked
+checked_used_draw k before a u =
+    let listed : is_listed a.vendor a.attribute ≡ true = ap (λ (v : ℕ). is_listed v a.attribute) u.is.0 ∙ ap (is_listed 65535) u.is.1 in
+    let other : (a.vendor == 0) ≡ false = ap (λ (v : ℕ). v == 0) u.is.0 in
+    rw (eq-eqb a.reserved 0 u.is.2, listed, other, u.used, no_draw_first before u.none) refl
+
+pub checked_valued : (k : Kind) (n : ℕ) (s : Shape) (before : List Avp) (a : Avp) → IsValued k n s before a → checked k before a ≡ checked_value s (has_vector before) a
+checked_valued k n s before a (inl u) = checked_used k n s before a u
+checked_valued k n s before a (inr d) = checked_used_draw k before a d.2 ∙ ap (λ (x : Shape). checked_value x (has_vector before) a) (sym d.1)
+
+valued_at : (k : Kind) (n : ℕ) (s : Shape) (before : List Avp) (a : Avp) → IsValued k n s before a → a.attribute ≡ n
+valued_at k n s before a (inl u) = u.is.1
+valued_at k n s before a (inr d) = d.2.is.1 ∙ sym d.0
+
 -- ---- the fault of one pair
 
 no_some : (o : Option Avp) → is_some o ≡ false → o ≡ None
 no_some None e = refl
 no_some (Some a) e = absurd cc
 
-value_fault : (k : Kind) (n : ℕ) (s : Shape) (before : List Avp) (a : Avp) (e : MessageError) → IsUsed k n s before a → checked_value s (has_vector before) a ≡ Err e → HasFault k before a e
+value_fault : (k : Kind) (n : ℕ) (s : Shape) (before : List Avp) (a : Avp) (e : MessageError) → IsValued k n s before a → checked_value s (has_vector before) a ≡ Err e → HasFault k before a e
 value_fault k n s before a e u h =
+    let i = valued_at k n s before a u in
     elim (cases_Bool a.hidden) [
       | inl hid ↦
           elim (vector_or_none before) [
             | inl v ↦
-                let told : BadValue n ≡ e = let h' : Err (BadValue a.attribute) ≡ Err e = rw (hid, v.0) at h in let i = u.is.1 in cc in
+                let told : BadValue n ≡ e = let h' : Err (BadValue a.attribute) ≡ Err e = rw (hid, v.0) at h in let j = i in cc in
                 subst (HasFault k before a) told (s, u, inl (hid, v.1))
             | inr v ↦
-                let told : HiddenWithoutVector n ≡ e = let h' : Err (HiddenWithoutVector a.attribute) ≡ Err e = rw (hid, v.0) at h in let i = u.is.1 in cc in
+                let told : HiddenWithoutVector n ≡ e = let h' : Err (HiddenWithoutVector a.attribute) ≡ Err e = rw (hid, v.0) at h in let j = i in cc in
                 subst (HasFault k before a) told (s, u, hid, v.1)
           ]
       | inr plain ↦
           elim (cases_Bool (fits s a.value)) [
             | inl t ↦ absurd (let h' : Ok tt ≡ Err e = rw (plain, t) at h in cc)
             | inr f ↦
-                let told : BadValue n ≡ e = let h' : Err (BadValue a.attribute) ≡ Err e = rw (plain, f) at h in let i = u.is.1 in cc in
+                let told : BadValue n ≡ e = let h' : Err (BadValue a.attribute) ≡ Err e = rw (plain, f) at h in let j = i in cc in
                 subst (HasFault k before a) told (s, u, inr (plain, λ sh. both_ways (fits s a.value) f ((decides_shape s a.value).1 sh)))
           ]
     ]
@@ -137,8 +153,22 @@ use_fault k before a e (Some s) v r q h =
       | inl t ↦ absurd (let h' : Ok tt ≡ Err e = rw t at h in cc)
       | inr f ↦
           let u : IsUsed k a.attribute s before a = record { shape = q; is = (v, refl, r); none = first_absent a.attribute before (no_some (first a.attribute before) f) } in
-          value_fault k a.attribute s before a e u (rw f at h)
+          value_fault k a.attribute s before a e (inl u) (rw f at h)
     ]
+
+draw_fault : (k : Kind) (before : List Avp) (a : Avp) (e : MessageError) (used : Bool) → IsDraw a → uses_draw k ≡ used → checked_draw used before a ≡ Err e → HasFault k before a e
+draw_fault k before a e false is q h = absurd cc
+draw_fault k before a e true is q h =
+    elim (cases_Bool (is_some (first_draw before))) [
+      | inl t ↦ absurd (let h' : Ok tt ≡ Err e = rw t at h in cc)
+      | inr f ↦
+          let u : IsUsedDraw k before a = record { used = q; is = is; none = first_no_draw before (no_some (first_draw before) f) } in
+          value_fault k 1 Long before a e (inr (refl, refl, u)) (rw f at h)
+    ]
+
+-- of another vendor, no other pair is recognised
+other_draw : (a : Avp) → IsRecognised a → (a.vendor == 0) ≡ false → IsDraw a
+other_draw a r v = elim r.1 [ inl i ↦ absurd (both_ways (a.vendor == 0) v (eq-eqb a.vendor 0 i.0)) | inr d ↦ (d.0, d.1, r.0) ]
 
 pub fault_there : (k : Kind) (before : List Avp) (a : Avp) (e : MessageError) → checked k before a ≡ Err e → HasFault k before a e
 unfolding checked
@@ -147,7 +177,7 @@ fault_there k before a e h =
       | inl r ↦
           elim (cases_Bool (a.vendor == 0)) [
             | inl v ↦ use_fault k before a e (shape_of k a.attribute) (eqb-true a.vendor 0 v) ((decides_recognised a).0 r).0 refl (rw (r, v) at h)
-            | inr v ↦ absurd (let h' : Ok tt ≡ Err e = rw (r, v) at h in cc)
+            | inr v ↦ draw_fault k before a e (uses_draw k) (other_draw a ((decides_recognised a).0 r) v) refl (rw (r, v) at h)
           ]
       | inr r ↦
           elim (cases_Bool a.mandatory) [
@@ -164,14 +194,14 @@ there_fault k before a (UnknownMandatory v n) h =
     let r : is_recognised a ≡ false = false_from_ne_true (is_recognised a) (λ t. h.0 ((decides_recognised a).0 t)) in
     rw (r, h.1, h.2, h.3) refl
 there_fault k before a (HiddenWithoutVector n) h =
-    checked_used k n h.0 before a h.1 ∙ rw (h.2, vector_none before h.3, h.1.is.1) refl
+    checked_valued k n h.0 before a h.1 ∙ rw (h.2, vector_none before h.3, valued_at k n h.0 before a h.1) refl
 there_fault k before a (BadValue n) h =
-    checked_used k n h.0 before a h.1
+    checked_valued k n h.0 before a h.1
     ∙ elim h.2 [
-      | inl hid ↦ rw (hid.0, vector_there before hid.1, h.1.is.1) refl
+      | inl hid ↦ rw (hid.0, vector_there before hid.1, valued_at k n h.0 before a h.1) refl
       | inr wrong ↦
           let f : fits h.0 a.value ≡ false = false_from_ne_true (fits h.0 a.value) (λ t. wrong.1 ((decides_shape h.0 a.value).0 t)) in
-          rw (wrong.0, f, h.1.is.1) refl
+          rw (wrong.0, f, valued_at k n h.0 before a h.1) refl
     ]
 there_fault k before a NoType h = absurd h
 there_fault k before a (UnknownType n) h = absurd h

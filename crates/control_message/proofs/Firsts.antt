@@ -5,8 +5,8 @@ use Rattle.std.specs.List.{AllByRecursion, find}
 use Rattle.std.proofs.lemmas.Bool.{cases_Bool, false_from_ne_true, both_ways, eq-eqb, not_from_false, not-true}
 use Rattle.std.proofs.lemmas.Bool.Decides.{Decides-and, Decides-eqb}
 use Rattle.avp_codec.specs.declared.avp.Avp.{Avp}
-use Rattle.control_message.specs.Reading.{is_at, first, is_vector, has_vector, is_plain_short, short_in, plain_short}
-use Rattle.control_message.specs.Grammar.{IsAt, IsFirstWith, StandsFirst, IsAbsent, IsPlainShort, HasPlainShort, HasNoPlainShort}
+use Rattle.control_message.specs.Reading.{is_at, first, is_draw, first_draw, is_vector, has_vector, is_plain_short, short_in, plain_short}
+use Rattle.control_message.specs.Grammar.{IsAt, IsFirstWith, StandsFirst, IsAbsent, IsDraw, HasNoDraw, IsPlainShort, HasPlainShort, HasNoPlainShort}
 use Rattle.control_message.specs.Faults.{IsVector, HasVector, HasNoVector}
 
 -- ---- a sort, with the test for it
@@ -64,6 +64,25 @@ first_stands n a avps h = first_found (λ a. is_at n a) (λ a. IsAt n a) (decide
 
 pub stands_first : (n : ℕ) (a : Avp) (avps : List Avp) → first n avps ≡ Some a → StandsFirst n a avps
 stands_first n a avps h = found_first (λ a. is_at n a) (λ a. IsAt n a) (decides_at n) a avps h
+
+-- ---- Draw Numbers
+
+pub decides_draw : (a : Avp) → Decides (is_draw a) (IsDraw a)
+decides_draw a =
+    let both : Decides (is_draw a) (((a.vendor ≡ 65535) × (a.attribute ≡ 1)) × (a.reserved ≡ 0)) = Decides-and (a.vendor == 65535 && a.attribute == 1) (a.reserved == 0) (Decides-and (a.vendor == 65535) (a.attribute == 1) (Decides-eqb a.vendor 65535) (Decides-eqb a.attribute 1)) (Decides-eqb a.reserved 0) in
+    (λ e. let h = both.0 e in (h.0.0, h.0.1, h.1), λ h. both.1 ((h.0, h.1), h.2))
+
+pub no_draw_first : (avps : List Avp) → HasNoDraw avps → first_draw avps ≡ None
+no_draw_first avps h = none_found (λ a. is_draw a) (λ a. IsDraw a) decides_draw avps h
+
+pub first_no_draw : (avps : List Avp) → first_draw avps ≡ None → HasNoDraw avps
+first_no_draw avps h = found_none (λ a. is_draw a) (λ a. IsDraw a) decides_draw avps h
+
+pub draw_first : (a : Avp) (avps : List Avp) → IsFirstWith (λ b. IsDraw b) a avps → first_draw avps ≡ Some a
+draw_first a avps h = first_found (λ a. is_draw a) (λ a. IsDraw a) decides_draw a avps h
+
+pub first_draws : (a : Avp) (avps : List Avp) → first_draw avps ≡ Some a → IsFirstWith (λ b. IsDraw b) a avps
+first_draws a avps h = found_first (λ a. is_draw a) (λ a. IsDraw a) decides_draw a avps h
 
 -- ---- Random Vectors
 

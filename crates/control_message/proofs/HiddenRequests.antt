@@ -11,7 +11,7 @@ use Rattle.control_message.specs.Pairs.{pair, hidden_pair, IsWrittenWith}
 use Rattle.control_message.specs.Reading.{message_of, kind_of_pairs, plain_short, checked, checked_all}
 use Rattle.control_message.specs.Uncovering.{uncovered_by, uncovered_pair, uncovered}
 use Rattle.control_message.specs.HiddenRequests.{IsReadAnyway, WithANumber, WithoutANumber, hidden_pairs, ReadsAnyway}
-use Rattle.control_message.proofs.Again.{short_again}
+use Rattle.control_message.proofs.Numbers.{short_again}
 use Rattle.control_message.proofs.Plain.{within, shorter, uncovered_fit}
 use Rattle.control_message.proofs.WithVector.{UnhidesHidden, cipher_of, with_vector, icrq_again}
 

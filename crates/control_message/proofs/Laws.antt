@@ -8,26 +8,29 @@ use Rattle.wire_base.specs.Answers.{◌>>=◌, Gives}
 use Rattle.avp_codec.specs.declared.avp.Avp.{Avp}
 use Rattle.control_message.specs.declared.kind.Kind.{Kind}
 use Rattle.control_message.specs.declared.kind.Kind.TheVariants as kind
-use Rattle.control_message.specs.declared.kind.Shape.TheVariants.{ShortLongLong, Sixteen}
+use Rattle.control_message.specs.declared.kind.Shape.TheVariants.{ShortShortShort, ShortLongLong, Sixteen}
 use Rattle.control_message.specs.declared.message.Message.{Message}
 use Rattle.control_message.specs.declared.message.Message.TheVariants.{Sccrq, Sccrp, Scccn, StopCcn, Hello, Ocrq, Ocrp, Occn, Icrq, Icrp, Iccn, Cdn, Wen, Sli}
 use Rattle.control_message.specs.declared.message.Recovery.{Recovery}
+use Rattle.control_message.specs.declared.message.Suggested.{Suggested}
 use Rattle.control_message.specs.declared.message.Read.{Read}
 use Rattle.control_message.specs.declared.message.Read.TheVariants.{Known, Ignored}
 use Rattle.control_message.specs.declared.message.MessageError.{MessageError}
 use Rattle.control_message.specs.declared.message.MessageError.TheVariants.{NoType, UnknownType, UnknownMandatory, HiddenWithoutVector, BadValue, Missing, NoMemory}
-use Rattle.control_message.specs.Table.{kinds, kind_of, uses_of}
-use Rattle.control_message.specs.Reading.{Told, first, checked_all, recovery_at, response_at, opening_at, of_kind, type_number, kind_named, kind_told, kind_of_pairs, of_type, with_type, message_of}
-use Rattle.control_message.specs.Grammar.{StandsFirst, HasNumber, SaysRecovery, SaysResponse, SaysMessage, number_of, Says}
+use Rattle.control_message.specs.Table.{kinds, kind_of, uses_of, uses_draw}
+use Rattle.control_message.specs.Reading.{Told, first, checked_all, recovery_at, suggested_at, draw_at, response_at, opening_at, of_kind, type_number, kind_named, kind_told, kind_of_pairs, of_type, with_type, message_of}
+use Rattle.control_message.specs.Grammar.{StandsFirst, HasNumber, SaysRecovery, SaysSuggested, SaysDraw, SaysResponse, SaysMessage, number_of, Says}
 use Rattle.control_message.specs.Faults.{IsOfKind, IsSound, IsFirstAlong, IsFault, IsToldFault}
 use Rattle.control_message.proofs.Firsts.{absent_first, first_absent, first_stands, stands_first}
 use Rattle.control_message.proofs.Along.{row_holds, is_sound, sound_is, is_first, first_is}
-use Rattle.control_message.proofs.Values.{bind_ok, ok_same, IsGood, sound_known, known_sound}
+use Rattle.control_message.proofs.Values.{bind_ok, ok_same, IsGood, IsDrawGood, sound_known, known_sound}
 use Rattle.control_message.proofs.Calls.{icrq_says, says_icrq, icrq_good, icrq_made, icrp_says, says_icrp, icrp_good, icrp_made, iccn_says, says_iccn, iccn_good, iccn_made, cdn_says, says_cdn, cdn_good, cdn_made}
 use Rattle.control_message.proofs.Stops.{stop_ccn_says, says_stop_ccn, stop_ccn_good, stop_ccn_made}
 use Rattle.control_message.proofs.OnlyRead.{ocrq_says, says_ocrq, ocrq_good, ocrq_made, ocrp_says, ocrp_good, wen_says, says_wen, wen_good, wen_made, sli_says, says_sli, sli_good, sli_made}
 use Rattle.control_message.proofs.Needs.{Made, made_of, made_missing}
 use Rattle.control_message.proofs.Recoveries.{recovery_says, says_recovery, recovery_good, some_recovery}
+use Rattle.control_message.proofs.Suggestions.{suggested_says, says_suggested, suggested_good, some_suggested}
+use Rattle.control_message.proofs.Draws.{draw_says, says_draw, draw_good, some_draw}
 use Rattle.control_message.proofs.Responses.{response_says, says_response, response_good, some_response}
 use Rattle.control_message.proofs.Openings.{IsOpening, opening_says, says_opening, opening_good, opening_made}
 
@@ -95,16 +98,22 @@ sccrp_opens = record { version = refl; framing = refl; name = refl; tunnel = ref
 message_says : (k : Kind) (avps : List Avp) (m : Message) → IsSound k avps → of_kind k avps ≡ Ok m → (number_of m ≡ kind_number k) × SaysMessage avps m
 message_says kind.Sccrq avps m sound h =
     let r = bind_ok (recovery_at avps) _ m h in
-    let b = bind_ok (opening_at avps None r.0) _ m r.2 in
-    let says = opening_says kind.Sccrq avps None r.0 b.0 sccrq_opens sound b.1 in
-    let recovers = subst (SaysRecovery avps) (sym says.2) (recovery_says kind.Sccrq avps r.0 sound refl r.1) in
-    subst (λ (x : Message). (number_of x ≡ 1) × SaysMessage avps x) (ok_same b.2) (refl, (says.0, recovers, says.1))
+    let d = bind_ok (draw_at avps) _ m r.2 in
+    let b = bind_ok (opening_at avps None r.0 None d.0) _ m d.2 in
+    let s = opening_says kind.Sccrq avps None r.0 None d.0 b.0 sccrq_opens sound b.1 in
+    let recovers = subst (SaysRecovery avps) (sym s.recovery) (recovery_says kind.Sccrq avps r.0 sound refl r.1) in
+    let draws = subst (SaysDraw avps) (sym s.attempt) (draw_says kind.Sccrq avps d.0 sound refl d.1) in
+    subst (λ (x : Message). (number_of x ≡ 1) × SaysMessage avps x) (ok_same b.2) (refl, (s.says, recovers, draws, s.response, s.suggested))
 message_says kind.Sccrp avps m sound h =
     let r = bind_ok (response_at avps) _ m h in
-    let b = bind_ok (opening_at avps r.0 None) _ m r.2 in
-    let says = opening_says kind.Sccrp avps r.0 None b.0 sccrp_opens sound b.1 in
-    let responds = subst (SaysResponse avps) (sym says.1) (response_says kind.Sccrp avps r.0 sound refl r.1) in
-    subst (λ (x : Message). (number_of x ≡ 2) × SaysMessage avps x) (ok_same b.2) (refl, (says.0, says.2, responds))
+    let n = bind_ok (suggested_at avps) _ m r.2 in
+    let d = bind_ok (draw_at avps) _ m n.2 in
+    let b = bind_ok (opening_at avps r.0 None n.0 d.0) _ m d.2 in
+    let s = opening_says kind.Sccrp avps r.0 None n.0 d.0 b.0 sccrp_opens sound b.1 in
+    let responds = subst (SaysResponse avps) (sym s.response) (response_says kind.Sccrp avps r.0 sound refl r.1) in
+    let suggests = subst (SaysSuggested avps) (sym s.suggested) (suggested_says kind.Sccrp avps n.0 sound refl n.1) in
+    let draws = subst (SaysDraw avps) (sym s.attempt) (draw_says kind.Sccrp avps d.0 sound refl d.1) in
+    subst (λ (x : Message). (number_of x ≡ 2) × SaysMessage avps x) (ok_same b.2) (refl, (s.says, responds, suggests, draws, s.recovery))
 message_says kind.Scccn avps m sound h =
     let r = bind_ok (response_at avps) _ m h in
     subst (λ (x : Message). (number_of x ≡ 3) × SaysMessage avps x) (ok_same r.2) (refl, response_says kind.Scccn avps r.0 sound refl r.1)
@@ -122,11 +131,15 @@ message_says kind.Sli avps m sound h = sli_says avps m sound h
 
 says_message : (avps : List Avp) (m : Message) → SaysMessage avps m → of_kind (message_kind m) avps ≡ Ok m
 says_message avps (Sccrq o) h =
-    let read : opening_at avps None o.recovery ≡ Ok o = subst (λ (r : Option (List ℕ)). opening_at avps r o.recovery ≡ Ok o) h.2 (says_opening avps o h.0) in
-    rw (says_recovery avps o.recovery h.1, read) refl
+    let alone : opening_at avps None o.recovery o.suggested o.attempt ≡ Ok o =
+    subst (λ (r : Option (List ℕ)). opening_at avps r o.recovery o.suggested o.attempt ≡ Ok o) h.3 (says_opening avps o h.0) in
+    let read : opening_at avps None o.recovery None o.attempt ≡ Ok o =
+    subst (λ (s : Option Suggested). opening_at avps None o.recovery s o.attempt ≡ Ok o) h.4 alone in
+    rw (says_recovery avps o.recovery h.1, says_draw avps o.attempt h.2, read) refl
 says_message avps (Sccrp o) h =
-    let read : opening_at avps o.response None ≡ Ok o = subst (λ (r : Option Recovery). opening_at avps o.response r ≡ Ok o) h.1 (says_opening avps o h.0) in
-    rw (says_response avps o.response h.2, read) refl
+    let read : opening_at avps o.response None o.suggested o.attempt ≡ Ok o =
+    subst (λ (r : Option Recovery). opening_at avps o.response r o.suggested o.attempt ≡ Ok o) h.4 (says_opening avps o h.0) in
+    rw (says_response avps o.response h.1, says_suggested avps o.suggested h.2, says_draw avps o.attempt h.3, read) refl
 says_message avps (Scccn response) h = rw (says_response avps response h) refl
 says_message avps (StopCcn tunnel result error) h = says_stop_ccn avps tunnel result error h
 says_message avps Hello h = refl
@@ -142,7 +155,8 @@ says_message avps Sli h = says_sli avps h
 
 message_good : (avps : List Avp) (m : Message) → SaysMessage avps m → AllByRecursion (IsGood avps) (uses_of (message_kind m))
 message_good avps (Sccrq o) h = opening_good avps o ((77, ShortLongLong) ∷ []) h.0 (recovery_good avps o.recovery h.1, tt)
-message_good avps (Sccrp o) h = opening_good avps o ((13, Sixteen) ∷ []) h.0 (response_good avps o.response h.2, tt)
+message_good avps (Sccrp o) h =
+    opening_good avps o ((13, Sixteen) ∷ (78, ShortShortShort) ∷ []) h.0 (response_good avps o.response h.1, (suggested_good avps o.suggested h.2, tt))
 message_good avps (Scccn response) h = (response_good avps response h, tt)
 message_good avps (StopCcn tunnel result error) h = stop_ccn_good avps tunnel result error h
 message_good avps Hello h = tt
@@ -156,13 +170,22 @@ message_good avps (Cdn session result error) h = cdn_good avps session result er
 message_good avps Wen h = wen_good avps h
 message_good avps Sli h = sli_good avps h
 
+-- a message that uses a Draw Number says it
+message_draw : (avps : List Avp) (m : Message) → SaysMessage avps m → uses_draw (message_kind m) ≡ true → IsDrawGood avps
+message_draw avps (Sccrq o) h used = draw_good avps o.attempt h.2
+message_draw avps (Sccrp o) h used = draw_good avps o.attempt h.3
+message_draw avps m h used = absurd cc
+
 message_made : (k : Kind) (avps : List Avp) → IsSound k avps → Made k avps (of_kind k avps)
 message_made kind.Sccrq avps sound =
     let r = some_recovery kind.Sccrq avps sound refl in
-    rw r.1 (made_of kind.Sccrq avps (opening_at avps None r.0) Sccrq (opening_made kind.Sccrq avps None r.0 sccrq_opens sound))
+    let d = some_draw kind.Sccrq avps sound refl in
+    rw (r.1, d.1) (made_of kind.Sccrq avps (opening_at avps None r.0 None d.0) Sccrq (opening_made kind.Sccrq avps None r.0 None d.0 sccrq_opens sound))
 message_made kind.Sccrp avps sound =
     let r = some_response kind.Sccrp avps sound refl in
-    rw r.1 (made_of kind.Sccrp avps (opening_at avps r.0 None) Sccrp (opening_made kind.Sccrp avps r.0 None sccrp_opens sound))
+    let s = some_suggested kind.Sccrp avps sound refl in
+    let d = some_draw kind.Sccrp avps sound refl in
+    rw (r.1, s.1, d.1) (made_of kind.Sccrp avps (opening_at avps r.0 None s.0 d.0) Sccrp (opening_made kind.Sccrp avps r.0 None s.0 d.0 sccrp_opens sound))
 message_made kind.Scccn avps sound = let r = some_response kind.Scccn avps sound refl in inl (Scccn r.0, rw r.1 refl, tt)
 message_made kind.StopCcn avps sound = stop_ccn_made avps sound
 message_made kind.Hello avps sound = inl (Hello, refl, tt)
@@ -275,7 +298,7 @@ found avps r h = found_first avps r (first 0 avps) refl h
 pub only : (avps : List Avp) (r : Read) → Says avps r → message_of avps ≡ Ok r
 only avps (Known m) h =
     let t = type_of_number avps (number_of m) h.number in
-    let sound = known_sound (message_kind m) avps h.known (message_good avps m h.says) in
+    let sound = known_sound (message_kind m) avps h.known (message_good avps m h.says) (message_draw avps m h.says) in
     is_type avps h.number.has.pair (number_of m) t ∙ rw (kind_is m, sound_is (message_kind m) avps sound, says_message avps m h.says) refl
 only avps (Ignored n) h =
     let t : IsType avps h.pair n = record { first = h.first; plain = h.plain; wide = h.wide; number = h.number } in

@@ -5,6 +5,8 @@ pub mod Values
 pub mod Needs
 pub mod Texts
 pub mod Recoveries
+pub mod Suggestions
+pub mod Draws
 pub mod Responses
 pub mod Openings
 pub mod ResultCodes
@@ -12,8 +14,11 @@ pub mod Calls
 pub mod Stops
 pub mod OnlyRead
 pub mod Laws
+pub mod Numbers
+pub mod Written
 pub mod Again
 pub mod Room
+pub mod Spelled
 pub mod Vectors
 pub mod Plain
 pub mod WithVector

@@ -7,14 +7,14 @@ use Rattle.avp_codec.specs.declared.avp.Avp.{Avp}
 use Rattle.control_message.specs.declared.kind.Kind.{Kind}
 use Rattle.control_message.specs.declared.kind.Kind.TheVariants as kind
 use Rattle.control_message.specs.declared.kind.Shape.{Shape}
-use Rattle.control_message.specs.declared.kind.Shape.TheVariants.{Short, Nonzero, CallErrors, Accm}
+use Rattle.control_message.specs.declared.kind.Shape.TheVariants.{Text, Short, Nonzero}
 use Rattle.control_message.specs.declared.message.Message.{Message}
 use Rattle.control_message.specs.declared.message.Message.TheVariants.{Ocrq, Wen, Sli}
 use Rattle.control_message.specs.declared.message.MessageError.{MessageError}
 use Rattle.control_message.specs.Table.{shape_of, uses_of, needs_of}
 use Rattle.control_message.specs.Reading.{first, value_at, u16_at, ocrq_at, wen_at, sli_at}
-use Rattle.control_message.specs.Grammar.{IsAbsent, HasValue, HasNumber, HasWidth, SaysOcrp, SaysMessage, number_of}
-use Rattle.control_message.specs.Faults.{HasShape, IsSound}
+use Rattle.control_message.specs.Grammar.{IsAbsent, HasValue, HasNumber, HasSome, SaysOcrp, SaysMessage, number_of}
+use Rattle.control_message.specs.Faults.{IsSound}
 use Rattle.control_message.proofs.Firsts.{first_absent, stands_first}
 use Rattle.control_message.proofs.Values.{bind_ok, ok_same, IsGood, good, value_has, has_value, value_good, absent_good, number_has, has_number, value_or_missing, number_or_missing}
 use Rattle.control_message.proofs.Needs.{Made, least_of}
@@ -62,19 +62,17 @@ ocrp_good avps (inr none) = (absent_good avps 14 Nonzero none, tt)
 
 -- ---- a value that has to be there, and of which nothing is kept
 
-width_has : (k : Kind) (avps : List Avp) (n width : ℕ) (s : Shape) (m x : Message) → IsSound k avps → shape_of k n ≡ Some s
-    → ((v : List ℕ) → HasShape s v → length v ≡ width) → ◌≡◌ {A = Result Message MessageError} (value_at n avps >>= λ v. Ok m) (Ok x) → HasWidth n width avps × (m ≡ x)
-width_has k avps n width s m x sound shape wide h =
+some_has : (k : Kind) (avps : List Avp) (n : ℕ) (m x : Message) → IsSound k avps → shape_of k n ≡ Some Text
+    → ◌≡◌ {A = Result Message MessageError} (value_at n avps >>= λ v. Ok m) (Ok x) → HasSome n avps × (m ≡ x)
+some_has k avps n m x sound shape h =
     let b = bind_ok (value_at n avps) _ x h in
-    let v = value_has k avps n s b.0 sound shape b.1 in
-    (record { value = b.0; has = v.0; wide = wide b.0 v.1 }, ok_same b.2)
+    ((b.0, (value_has k avps n Text b.0 sound shape b.1).0), ok_same b.2)
 
-has_width : (avps : List Avp) (n width : ℕ) (m : Message) → HasWidth n width avps
-    → ◌≡◌ {A = Result Message MessageError} (value_at n avps >>= λ v. Ok m) (Ok m)
-has_width avps n width m h = rw (has_value avps n h.value h.has) refl
+has_some : (avps : List Avp) (n : ℕ) (m : Message) → HasSome n avps → ◌≡◌ {A = Result Message MessageError} (value_at n avps >>= λ v. Ok m) (Ok m)
+has_some avps n m h = rw (has_value avps n h.0 h.1) refl
 
-width_made : (k : Kind) (avps : List Avp) (n : ℕ) (m : Message) → needs_of k ≡ n ∷ [] → Made k avps (value_at n avps >>= λ v. Ok m)
-width_made k avps n m needs =
+some_made : (k : Kind) (avps : List Avp) (n : ℕ) (m : Message) → needs_of k ≡ n ∷ [] → Made k avps (value_at n avps >>= λ v. Ok m)
+some_made k avps n m needs =
     elim (value_or_missing avps n) [
       | inr none ↦ inr (n, rw none.0 refl, least_of k avps n [] [] needs tt tt none.1)
       | inl value ↦ inl (m, rw value.1 refl, subst (AllByRecursion (λ x. ¬ IsAbsent x avps)) (sym needs) (value.2, tt))
@@ -85,35 +83,35 @@ width_made k avps n m needs =
 pub wen_says : (avps : List Avp) (m : Message) → IsSound kind.Wen avps → wen_at avps ≡ Ok m → (number_of m ≡ 15) × SaysMessage avps m
 unfolding wen_at
 wen_says avps m sound h =
-    let w = width_has kind.Wen avps 34 26 CallErrors Wen m sound refl (λ v e. e) h in
+    let w = some_has kind.Wen avps 34 Wen m sound refl h in
     subst (λ (x : Message). (number_of x ≡ 15) × SaysMessage avps x) w.1 (refl, w.0)
 
-pub says_wen : (avps : List Avp) → HasWidth 34 26 avps → wen_at avps ≡ Ok Wen
+pub says_wen : (avps : List Avp) → HasSome 34 avps → wen_at avps ≡ Ok Wen
 unfolding wen_at
-says_wen avps h = has_width avps 34 26 Wen h
+says_wen avps h = has_some avps 34 Wen h
 
-pub wen_good : (avps : List Avp) → HasWidth 34 26 avps → AllByRecursion (IsGood avps) (uses_of kind.Wen)
-wen_good avps h = (value_good avps 34 h.value CallErrors h.has h.wide, tt)
+pub wen_good : (avps : List Avp) → HasSome 34 avps → AllByRecursion (IsGood avps) (uses_of kind.Wen)
+wen_good avps h = (value_good avps 34 h.0 Text h.1 tt, tt)
 
 pub wen_made : (avps : List Avp) → Made kind.Wen avps (wen_at avps)
 unfolding wen_at
-wen_made avps = width_made kind.Wen avps 34 Wen refl
+wen_made avps = some_made kind.Wen avps 34 Wen refl
 
 -- ---- Set-Link-Info
 
 pub sli_says : (avps : List Avp) (m : Message) → IsSound kind.Sli avps → sli_at avps ≡ Ok m → (number_of m ≡ 16) × SaysMessage avps m
 unfolding sli_at
 sli_says avps m sound h =
-    let w = width_has kind.Sli avps 35 10 Accm Sli m sound refl (λ v e. e) h in
+    let w = some_has kind.Sli avps 35 Sli m sound refl h in
     subst (λ (x : Message). (number_of x ≡ 16) × SaysMessage avps x) w.1 (refl, w.0)
 
-pub says_sli : (avps : List Avp) → HasWidth 35 10 avps → sli_at avps ≡ Ok Sli
+pub says_sli : (avps : List Avp) → HasSome 35 avps → sli_at avps ≡ Ok Sli
 unfolding sli_at
-says_sli avps h = has_width avps 35 10 Sli h
+says_sli avps h = has_some avps 35 Sli h
 
-pub sli_good : (avps : List Avp) → HasWidth 35 10 avps → AllByRecursion (IsGood avps) (uses_of kind.Sli)
-sli_good avps h = (value_good avps 35 h.value Accm h.has h.wide, tt)
+pub sli_good : (avps : List Avp) → HasSome 35 avps → AllByRecursion (IsGood avps) (uses_of kind.Sli)
+sli_good avps h = (value_good avps 35 h.0 Text h.1 tt, tt)
 
 pub sli_made : (avps : List Avp) → Made kind.Sli avps (sli_at avps)
 unfolding sli_at
-sli_made avps = width_made kind.Sli avps 35 Sli refl
+sli_made avps = some_made kind.Sli avps 35 Sli refl

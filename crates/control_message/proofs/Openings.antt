@@ -10,6 +10,7 @@ use Rattle.control_message.specs.declared.kind.Shape.TheVariants.{Text, Short, N
 use Rattle.control_message.specs.declared.message.Opening.{Opening}
 use Rattle.control_message.specs.declared.message.Failover.{Failover}
 use Rattle.control_message.specs.declared.message.Recovery.{Recovery}
+use Rattle.control_message.specs.declared.message.Suggested.{Suggested}
 use Rattle.control_message.specs.Table.{shape_of, needs_of, opening_uses}
 use Rattle.control_message.specs.Reading.{first, text_at, u16_at, u32_at, window_in, window_at, failover_value, failover_in, failover_at, opening_at}
 use Rattle.control_message.specs.Grammar.{IsAbsent, SaysWindow, SaysFailover, SaysOpening}
@@ -86,14 +87,18 @@ pub record IsOpening (k : Kind) : Type 0 where
   pub failover : shape_of k 76 ≡ Some ShortLong
   pub needs : needs_of k ≡ 2 ∷ 3 ∷ 7 ∷ 9 ∷ []
 
--- what an opening says, with a response and a recovery
-abbrev pub SaysWith : List Avp → Option (List ℕ) → Option Recovery → Opening → Type 0
-SaysWith avps response recovery o = SaysOpening avps o × (o.response ≡ response) × (o.recovery ≡ recovery)
+-- what an opening says, with what only a request or only a reply tells
+pub record SaysWith (avps : List Avp) (told_response : Option (List ℕ)) (told_recovery : Option Recovery) (told_suggested : Option Suggested) (told_attempt : Option ℕ) (o : Opening) : Type 0 where
+  pub says : SaysOpening avps o
+  pub response : o.response ≡ told_response
+  pub recovery : o.recovery ≡ told_recovery
+  pub suggested : o.suggested ≡ told_suggested
+  pub attempt : o.attempt ≡ told_attempt
 
-pub opening_says : (k : Kind) (avps : List Avp) (response : Option (List ℕ)) (recovery : Option Recovery) (o : Opening) → IsOpening k → IsSound k avps
-    → opening_at avps response recovery ≡ Ok o → SaysWith avps response recovery o
+pub opening_says : (k : Kind) (avps : List Avp) (response : Option (List ℕ)) (recovery : Option Recovery) (suggested : Option Suggested) (attempt : Option ℕ) (o : Opening)
+    → IsOpening k → IsSound k avps → opening_at avps response recovery suggested attempt ≡ Ok o → SaysWith avps response recovery suggested attempt o
 unfolding opening_at u16_at u32_at window_at failover_at
-opening_says k avps response recovery o is sound h =
+opening_says k avps response recovery suggested attempt o is sound h =
     let version = bind_ok _ _ o h in
     let framing = bind_ok _ _ o version.2 in
     let name = bind_ok _ _ o framing.2 in
@@ -112,6 +117,8 @@ opening_says k avps response recovery o is sound h =
       challenge = text_at 11 avps;
       response = response;
       recovery = recovery;
+      suggested = suggested;
+      attempt = attempt;
     } in
     let says : SaysOpening avps opening =
     record {
@@ -124,9 +131,10 @@ opening_says k avps response recovery o is sound h =
       failover = failover_is avps failover.0 (first 76 avps) refl (good k avps 76 ShortLong sound is.failover) failover.1;
       challenge = text_says k avps 11 sound is.challenge;
     } in
-    subst (SaysWith avps response recovery) (ok_same failover.2) (says, refl, refl)
+    let whole : SaysWith avps response recovery suggested attempt opening = record { says = says; response = refl; recovery = refl; suggested = refl; attempt = refl } in
+    subst (SaysWith avps response recovery suggested attempt) (ok_same failover.2) whole
 
-pub says_opening : (avps : List Avp) (o : Opening) → SaysOpening avps o → opening_at avps o.response o.recovery ≡ Ok o
+pub says_opening : (avps : List Avp) (o : Opening) → SaysOpening avps o → opening_at avps o.response o.recovery o.suggested o.attempt ≡ Ok o
 unfolding opening_at u16_at u32_at
 says_opening avps o h =
     rw (
@@ -161,10 +169,10 @@ opening_good avps o more h others = (
 
 -- ---- what is missing
 
-pub opening_made : (k : Kind) (avps : List Avp) (response : Option (List ℕ)) (recovery : Option Recovery) → IsOpening k → IsSound k avps
-    → Made k avps (opening_at avps response recovery)
+pub opening_made : (k : Kind) (avps : List Avp) (response : Option (List ℕ)) (recovery : Option Recovery) (suggested : Option Suggested) (attempt : Option ℕ)
+    → IsOpening k → IsSound k avps → Made k avps (opening_at avps response recovery suggested attempt)
 unfolding opening_at u16_at u32_at window_at failover_at
-opening_made k avps response recovery is sound =
+opening_made k avps response recovery suggested attempt is sound =
     let window = some_window avps (first 10 avps) refl (good k avps 10 Nonzero sound is.window) in
     let failover = some_failover avps (first 76 avps) refl (good k avps 76 ShortLong sound is.failover) in
     elim (number_or_missing k avps 2 2 Short sound is.version (λ v s. s)) [
@@ -187,6 +195,8 @@ opening_made k avps response recovery is sound =
                   challenge = text_at 11 avps;
                   response = response;
                   recovery = recovery;
+                  suggested = suggested;
+                  attempt = attempt;
                 } in
                 inl (
                   opening,

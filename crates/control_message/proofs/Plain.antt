@@ -16,7 +16,9 @@ use Rattle.control_message.specs.declared.message.Message.{Message}
 use Rattle.control_message.specs.declared.message.Message.TheVariants.{Sccrq, Sccrp, Scccn, StopCcn, Hello, Ocrq, Ocrp, Occn, Icrq, Icrp, Iccn, Cdn, Wen, Sli}
 use Rattle.control_message.specs.declared.message.Opening.{Opening}
 use Rattle.control_message.specs.declared.message.Failover.{Failover}
-use Rattle.control_message.specs.Pairs.{failover_pairs, challenge_pairs, response_pairs, opening_pairs, calling_pairs, pairs_of}
+use Rattle.control_message.specs.declared.message.Recovery.{Recovery}
+use Rattle.control_message.specs.declared.message.Suggested.{Suggested}
+use Rattle.control_message.specs.Pairs.{failover_pairs, recovery_pairs, suggested_pairs, draw_pairs, recovering_pairs, challenge_pairs, response_pairs, secret_pairs, opening_pairs, calling_pairs, pairs_of}
 use Rattle.control_message.specs.Uncovering.{may_be_uncovered, uncovered_by, uncovered_pair, vector_after, uncovered_all, uncovered, NoneIsHidden}
 use Rattle.control_message.proofs.Room.{one_spelled}
 
@@ -61,6 +63,18 @@ failover_plain : (f : Option Failover) → NoneIsHidden (failover_pairs f)
 failover_plain None = tt
 failover_plain (Some f) = (refl, tt)
 
+recovery_plain : (r : Option Recovery) → NoneIsHidden (recovery_pairs r)
+recovery_plain None = tt
+recovery_plain (Some r) = (refl, tt)
+
+suggested_plain : (s : Option Suggested) → NoneIsHidden (suggested_pairs s)
+suggested_plain None = tt
+suggested_plain (Some s) = (refl, tt)
+
+draw_plain : (d : Option ℕ) → NoneIsHidden (draw_pairs d)
+draw_plain None = tt
+draw_plain (Some x) = (refl, tt)
+
 challenge_plain : (c : Option (List ℕ)) → NoneIsHidden (challenge_pairs c)
 challenge_plain None = tt
 challenge_plain (Some v) = (refl, tt)
@@ -75,9 +89,12 @@ calling_plain (Some v) = (refl, tt)
 
 opening_plain : (number : ℕ) (o : Opening) → NoneIsHidden (opening_pairs number o)
 opening_plain number o =
-    let both = both_plain (failover_pairs o.failover) (challenge_pairs o.challenge) (failover_plain o.failover) (challenge_plain o.challenge) in
-    let more = both_plain (failover_pairs o.failover ++ challenge_pairs o.challenge) (response_pairs o.response) both (response_plain o.response) in
-    (refl, (refl, (refl, (refl, (refl, (refl, more))))))
+    let two = both_plain (recovery_pairs o.recovery) (suggested_pairs o.suggested) (recovery_plain o.recovery) (suggested_plain o.suggested) in
+    let recovering = both_plain (recovery_pairs o.recovery ++ suggested_pairs o.suggested) (draw_pairs o.attempt) two (draw_plain o.attempt) in
+    let secrets = both_plain (challenge_pairs o.challenge) (response_pairs o.response) (challenge_plain o.challenge) (response_plain o.response) in
+    let both = both_plain (failover_pairs o.failover) (recovering_pairs o) (failover_plain o.failover) recovering in
+    let told = both_plain (failover_pairs o.failover ++ recovering_pairs o) (secret_pairs o) both secrets in
+    (refl, (refl, (refl, (refl, (refl, (refl, told))))))
 
 pub pairs_plain : (m : Message) → NoneIsHidden (pairs_of m)
 pairs_plain (Sccrq o) = opening_plain 1 o

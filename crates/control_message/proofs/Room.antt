@@ -9,8 +9,10 @@ use Rattle.control_message.specs.declared.message.Message.{Message}
 use Rattle.control_message.specs.declared.message.Message.TheVariants.{Sccrq, Sccrp, Scccn, StopCcn, Hello, Ocrq, Ocrp, Occn, Icrq, Icrp, Iccn, Cdn, Wen, Sli}
 use Rattle.control_message.specs.declared.message.Opening.{Opening}
 use Rattle.control_message.specs.declared.message.Failover.{Failover}
-use Rattle.control_message.specs.Pairs.{failover_pairs, challenge_pairs, response_pairs, opening_pairs, calling_pairs, pairs_of, IsWritten, IsWrittenOpening}
-use Rattle.control_message.proofs.Again.{told_value}
+use Rattle.control_message.specs.declared.message.Recovery.{Recovery}
+use Rattle.control_message.specs.declared.message.Suggested.{Suggested}
+use Rattle.control_message.specs.Pairs.{failover_pairs, recovery_pairs, suggested_pairs, draw_pairs, recovering_pairs, challenge_pairs, response_pairs, secret_pairs, told_pairs, opening_pairs, calling_pairs, pairs_of, IsWritten, IsWrittenOpening}
+use Rattle.control_message.proofs.Numbers.{told_value}
 
 -- one pair more
 pub one_spelled : (a : Avp) (avps : List Avp) → length (spelling (a ∷ avps)) ≡ 6 + length a.value + length (spelling avps)
@@ -21,6 +23,21 @@ failover_room : (f : Option Failover) → length (spelling (failover_pairs f)) �
 unfolding u16_bytes u32_bytes
 failover_room None = omega arith
 failover_room (Some f) = omega arith
+
+recovery_room : (r : Option Recovery) → length (spelling (recovery_pairs r)) ≤ 16
+unfolding u16_bytes u32_bytes
+recovery_room None = omega arith
+recovery_room (Some r) = omega arith
+
+suggested_room : (s : Option Suggested) → length (spelling (suggested_pairs s)) ≤ 12
+unfolding u16_bytes
+suggested_room None = omega arith
+suggested_room (Some s) = omega arith
+
+draw_room : (d : Option ℕ) → length (spelling (draw_pairs d)) ≤ 10
+unfolding u16_bytes u32_bytes
+draw_room None = omega arith
+draw_room (Some x) = omega arith
 
 challenge_room : (c : Option (List ℕ)) → IfSome c (λ v. length v ≤ 1017) → length (spelling (challenge_pairs c)) ≤ 1023
 unfolding u16_bytes
@@ -40,15 +57,26 @@ both_spelled (a ∷ v) w =
     let r = one_spelled a v in
     omega arith
 
+told_room : (o : Opening) → IsWrittenOpening o → length (spelling (told_pairs o)) ≤ 1095
+told_room o w =
+    let failover = failover_room o.failover in
+    let recovery = recovery_room o.recovery in
+    let suggested = suggested_room o.suggested in
+    let draw = draw_room o.attempt in
+    let challenge = challenge_room o.challenge w.challenge in
+    let response = response_room o.response w.response in
+    let two = both_spelled (recovery_pairs o.recovery) (suggested_pairs o.suggested) in
+    let recovering = both_spelled (recovery_pairs o.recovery ++ suggested_pairs o.suggested) (draw_pairs o.attempt) in
+    let secrets = both_spelled (challenge_pairs o.challenge) (response_pairs o.response) in
+    let both = both_spelled (failover_pairs o.failover) (recovering_pairs o) in
+    let all = both_spelled (failover_pairs o.failover ++ recovering_pairs o) (secret_pairs o) in
+    omega arith
+
 opening_room : (number : ℕ) (o : Opening) → IsWrittenOpening o → length (spelling (opening_pairs number o)) ≤ 65523
 unfolding u16_bytes u32_bytes
 opening_room number o w =
     let name = w.name in
-    let failover = failover_room o.failover in
-    let challenge = challenge_room o.challenge w.challenge in
-    let response = response_room o.response w.response in
-    let both = both_spelled (failover_pairs o.failover) (challenge_pairs o.challenge) in
-    let more = both_spelled (failover_pairs o.failover ++ challenge_pairs o.challenge) (response_pairs o.response) in
+    let told = told_room o w in
     simp length-append (omega arith)
 
 calling_room : (number : List ℕ) → length number ≤ 1017 → length (spelling (calling_pairs (Some number))) ≤ 1023
@@ -58,7 +86,7 @@ calling_room number le = simp length-append (omega arith)
 pub room : (m : Message) → IsWritten m → length (spelling (pairs_of m)) ≤ 65523
 unfolding u16_bytes u32_bytes
 room (Sccrq o) w = opening_room 1 o w.0
-room (Sccrp o) w = opening_room 2 o w
+room (Sccrp o) w = opening_room 2 o w.0
 room (Scccn response) w = let more = response_room response w in simp length-append (omega arith)
 room (StopCcn tunnel result None) w = omega arith
 room (StopCcn tunnel result (Some error)) w = omega arith

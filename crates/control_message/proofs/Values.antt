@@ -1,5 +1,5 @@
 -- Values, as the relation has them and as the reading finds them.
-use Rattle.std.proofs.Common.{◌≡◌, ℕ, false, List, [], ◌∷◌, ◌++◌, length, Option, Some, None, Result, Ok, Err, refl, sym, ap, subst, ◌∙◌, inl, inr, ◌⊎◌}
+use Rattle.std.proofs.Common.{◌≡◌, ℕ, true, false, List, [], ◌∷◌, ◌++◌, length, Option, Some, None, Result, Ok, Err, refl, sym, ap, subst, ◌∙◌, inl, inr, ◌⊎◌}
 use Rattle.std.specs.Prelude.{◌==◌}
 use Rattle.std.specs.List.{AllByRecursion}
 use Rattle.std.proofs.lemmas.Bool.{cases_Bool, both_ways, eq-eqb, eqb-true}
@@ -8,11 +8,12 @@ use Rattle.wire_base.specs.Answers.{◌>>=◌}
 use Rattle.avp_codec.specs.declared.avp.Avp.{Avp}
 use Rattle.control_message.specs.declared.kind.Kind.{Kind}
 use Rattle.control_message.specs.declared.kind.Shape.{Shape}
+use Rattle.control_message.specs.declared.kind.Shape.TheVariants.{Long}
 use Rattle.control_message.specs.declared.message.MessageError.TheVariants.{UnknownMandatory, HiddenWithoutVector, BadValue, Missing}
-use Rattle.control_message.specs.Table.{shape_of, uses_of, fits}
+use Rattle.control_message.specs.Table.{shape_of, uses_of, uses_draw, fits}
 use Rattle.control_message.specs.Reading.{is_recognised, first, value_in, value_at, number_in}
-use Rattle.control_message.specs.Grammar.{IsRecognised, StandsFirst, IsAbsent, NoneIsUnknown, HasValue, HasNumber}
-use Rattle.control_message.specs.Faults.{HasShape, IsUsed, IsSound}
+use Rattle.control_message.specs.Grammar.{IsRecognised, IsFirstWith, StandsFirst, IsAbsent, IsDraw, NoneIsUnknown, HasValue, HasNumber}
+use Rattle.control_message.specs.Faults.{HasShape, IsUsed, IsUsedDraw, IsValued, IsSound}
 use Rattle.control_message.proofs.Firsts.{absent_first, first_absent, first_stands, stands_first, vector_or_none}
 use Rattle.control_message.proofs.Along.{decides_recognised, decides_shape, row_holds}
 
@@ -31,21 +32,36 @@ ok_same h = cc
 abbrev pub IsGood : List Avp → ℕ × Shape → Type 0
 IsGood avps u = (a : Avp) → StandsFirst u.0 a avps → (a.hidden ≡ false) × HasShape u.1 a.value
 
-pub good : (k : Kind) (avps : List Avp) (n : ℕ) (s : Shape) → IsSound k avps → shape_of k n ≡ Some s → IsGood avps (n, s)
-good k avps n s sound shape a h =
-    let u : IsUsed k n s h.before a = record { shape = shape; is = h.is; none = h.none } in
+-- so is the first Draw Number
+abbrev pub IsDrawGood : List Avp → Type 0
+IsDrawGood avps = (a : Avp) → IsFirstWith (λ b. IsDraw b) a avps → (a.hidden ≡ false) × HasShape Long a.value
+
+-- of a pair whose value counts
+valued : (k : Kind) (avps before after : List Avp) (n : ℕ) (s : Shape) (a : Avp) → IsSound k avps → avps ≡ before ++ a ∷ after → IsValued k n s before a
+    → (a.hidden ≡ false) × HasShape s a.value
+valued k avps before after n s a sound parts u =
     elim (cases_Bool a.hidden) [
       | inl hid ↦
-          absurd (elim (vector_or_none h.before) [
-            | inl v ↦ sound h.before h.after a (BadValue n) h.parts (s, u, inl (hid, v.1))
-            | inr v ↦ sound h.before h.after a (HiddenWithoutVector n) h.parts (s, u, hid, v.1)
+          absurd (elim (vector_or_none before) [
+            | inl v ↦ sound before after a (BadValue n) parts (s, u, inl (hid, v.1))
+            | inr v ↦ sound before after a (HiddenWithoutVector n) parts (s, u, hid, v.1)
           ])
       | inr plain ↦
           elim (cases_Bool (fits s a.value)) [
             | inl t ↦ (plain, (decides_shape s a.value).0 t)
-            | inr f ↦ absurd (sound h.before h.after a (BadValue n) h.parts (s, u, inr (plain, λ sh. both_ways (fits s a.value) f ((decides_shape s a.value).1 sh))))
+            | inr f ↦ absurd (sound before after a (BadValue n) parts (s, u, inr (plain, λ sh. both_ways (fits s a.value) f ((decides_shape s a.value).1 sh))))
           ]
     ]
+
+pub good : (k : Kind) (avps : List Avp) (n : ℕ) (s : Shape) → IsSound k avps → shape_of k n ≡ Some s → IsGood avps (n, s)
+good k avps n s sound shape a h =
+    let u : IsUsed k n s h.before a = record { shape = shape; is = h.is; none = h.none } in
+    valued k avps h.before h.after n s a sound h.parts (inl u)
+
+pub good_draw : (k : Kind) (avps : List Avp) → IsSound k avps → uses_draw k ≡ true → IsDrawGood avps
+good_draw k avps sound used a h =
+    let u : IsUsedDraw k h.before a = record { used = used; is = h.is; none = h.none } in
+    valued k avps h.before h.after 1 Long a sound h.parts (inr (refl, refl, u))
 
 -- what holds at each place holds of each pair, and the other way round
 each_of : (P : Avp → Type 0) (avps : List Avp) → ((before after : List Avp) (a : Avp) → avps ≡ before ++ a ∷ after → P a) → AllByRecursion P avps
@@ -67,21 +83,29 @@ sound_known k avps sound =
       ]
     ])
 
-pub known_sound : (k : Kind) (avps : List Avp) → NoneIsUnknown avps → AllByRecursion (IsGood avps) (uses_of k) → IsSound k avps
-known_sound k avps known uses before after a (UnknownMandatory v n) e w =
+-- a pair whose value counts is plain, and has its shape, where the first of each attribute is and has
+good_valued : (k : Kind) (avps before after : List Avp) (n : ℕ) (s : Shape) (a : Avp) → AllByRecursion (IsGood avps) (uses_of k) → (uses_draw k ≡ true → IsDrawGood avps)
+    → avps ≡ before ++ a ∷ after → IsValued k n s before a → (a.hidden ≡ false) × HasShape s a.value
+good_valued k avps before after n s a uses draw parts (inl u) =
+    let first : StandsFirst n a avps = record { before = before; after = after; parts = parts; is = u.is; none = u.none } in
+    row_holds (IsGood avps) n s (uses_of k) uses u.shape a first
+good_valued k avps before after n s a uses draw parts (inr d) =
+    let first : IsFirstWith (λ b. IsDraw b) a avps = record { before = before; after = after; parts = parts; is = d.2.is; none = d.2.none } in
+    subst (λ (x : Shape). (a.hidden ≡ false) × HasShape x a.value) (sym d.1) (draw d.2.used a first)
+
+pub known_sound : (k : Kind) (avps : List Avp) → NoneIsUnknown avps → AllByRecursion (IsGood avps) (uses_of k) → (uses_draw k ≡ true → IsDrawGood avps) → IsSound k avps
+known_sound k avps known uses draw before after a (UnknownMandatory v n) e w =
     elim (each_at (λ (x : Avp). IsRecognised x ⊎ (x.mandatory ≡ false)) before after a (subst (AllByRecursion (λ (x : Avp). IsRecognised x ⊎ (x.mandatory ≡ false))) e known)) [
       | inl r ↦ w.0 r
       | inr f ↦ both_ways a.mandatory f w.1
     ]
-known_sound k avps known uses before after a (HiddenWithoutVector n) e w =
-    let first : StandsFirst n a avps = record { before = before; after = after; parts = e; is = w.1.is; none = w.1.none } in
-    let g = row_holds (IsGood avps) n w.0 (uses_of k) uses w.1.shape a first in
+known_sound k avps known uses draw before after a (HiddenWithoutVector n) e w =
+    let g = good_valued k avps before after n w.0 a uses draw e w.1 in
     both_ways a.hidden g.0 w.2
-known_sound k avps known uses before after a (BadValue n) e w =
-    let first : StandsFirst n a avps = record { before = before; after = after; parts = e; is = w.1.is; none = w.1.none } in
-    let g = row_holds (IsGood avps) n w.0 (uses_of k) uses w.1.shape a first in
+known_sound k avps known uses draw before after a (BadValue n) e w =
+    let g = good_valued k avps before after n w.0 a uses draw e w.1 in
     elim w.2 [ inl hid ↦ both_ways a.hidden g.0 hid.0 | inr wrong ↦ wrong.1 g.1 ]
-known_sound k avps known uses before after a x e w = absurd w
+known_sound k avps known uses draw before after a x e w = absurd w
 
 -- ---- the value of one attribute
 

@@ -12,7 +12,7 @@ use Rattle.control_message.specs.declared.kind.Kind.{Kind}
 use Rattle.control_message.specs.declared.kind.Kind.TheVariants as kind
 use Rattle.control_message.specs.declared.kind.Shape.{Shape}
 use Rattle.control_message.specs.Table.{shape_of, uses_of}
-use Rattle.control_message.specs.Reading.{is_at, first, is_vector, has_vector}
+use Rattle.control_message.specs.Reading.{is_at, first, is_draw, first_draw, is_vector, has_vector}
 use Rattle.control_message.specs.Walk.{HasSeen}
 use Rattle.control_message.proofs.Firsts.{decides_at}
 use Rattle.control_message.proofs.Along.{row_holds}
@@ -79,35 +79,45 @@ flags_kept flags avps a is h n lt =
 
 -- ---- what was seen
 
-pub none_seen : HasSeen (record { attributes = replicate 80 false; vector = false }) []
-none_seen = record { attributes = no_flags; vector = refl }
+pub none_seen : HasSeen (record { attributes = replicate 80 false; draw = false; vector = false }) []
+none_seen = record { attributes = no_flags; draw = refl; vector = refl }
 
 -- what was seen, with the attribute of one more pair
 pub record HasMarked (s : Seen) (avps : List Avp) (a : Avp) : Type 0 where
   pub attributes : HasFlags s.attributes (avps ++ a ∷ [])
+  pub draw : s.draw ≡ is_some (first_draw avps)
   pub vector : s.vector ≡ has_vector avps
 
 pub marked : (s t : Seen) (avps : List Avp) (a : Avp) → HasSeen s avps → is_at a.attribute a ≡ true
     → t ≡ record s { attributes = set s.attributes a.attribute true } → HasMarked t avps a
 marked s t avps a h is e =
     let flags = flags_set s.attributes avps a is h.attributes in
-    subst (λ (x : Seen). HasMarked x avps a) (sym e) (record { attributes = flags; vector = h.vector })
+    subst (λ (x : Seen). HasMarked x avps a) (sym e) (record { attributes = flags; draw = h.draw; vector = h.vector })
 
 pub kept : (s t : Seen) (avps : List Avp) (a : Avp) → HasSeen s avps → is_at a.attribute a ≡ false → t ≡ s → HasMarked t avps a
 kept s t avps a h is e =
     let flags = flags_kept s.attributes avps a is h.attributes in
-    subst (λ (x : Seen). HasMarked x avps a) (sym e) (record { attributes = flags; vector = h.vector })
+    subst (λ (x : Seen). HasMarked x avps a) (sym e) (record { attributes = flags; draw = h.draw; vector = h.vector })
 
-pub added : (s : Seen) (avps : List Avp) (a : Avp) (is : Bool) → is ≡ is_vector a → HasMarked s avps a → HasSeen (record s { vector = s.vector || is }) (avps ++ a ∷ [])
-added s avps a is e h =
-    let more : (has_vector avps || is_vector a) ≡ has_vector (avps ++ a ∷ []) = sym (found_more (λ x. is_vector x) avps a) in
-    record { attributes = h.attributes; vector = ap (λ (b : Bool). b || is) h.vector ∙ ap (λ (b : Bool). has_vector avps || b) e ∙ more }
+-- whether one of a sort was seen, with one more pair
+seen_more : (test : Avp → Bool) (avps : List Avp) (a : Avp) (seen is : Bool) → seen ≡ is_some (find test avps) → is ≡ test a → (seen || is) ≡ is_some (find test (avps ++ a ∷ []))
+seen_more test avps a seen is old new =
+    ap (λ (b : Bool). b || is) old ∙ ap (λ (b : Bool). is_some (find test avps) || b) new ∙ sym (found_more test avps a)
+
+pub added : (s : Seen) (avps : List Avp) (a : Avp) (draw vector : Bool) → draw ≡ is_draw a → vector ≡ is_vector a → HasMarked s avps a
+    → HasSeen (record s { draw = s.draw || draw; vector = s.vector || vector }) (avps ++ a ∷ [])
+added s avps a draw vector d v h =
+    record {
+      attributes = h.attributes;
+      draw = seen_more (λ x. is_draw x) avps a s.draw draw h.draw d;
+      vector = seen_more (λ x. is_vector x) avps a s.vector vector h.vector v;
+    }
 
 -- ---- a used attribute is below 80
 
 all_below : (k : Kind) → AllByRecursion (λ (u : ℕ × Shape). u.0 < 80) (uses_of k)
 all_below kind.Sccrq = (omega arith, (omega arith, (omega arith, (omega arith, (omega arith, (omega arith, (omega arith, (omega arith, tt))))))))
-all_below kind.Sccrp = (omega arith, (omega arith, (omega arith, (omega arith, (omega arith, (omega arith, (omega arith, (omega arith, tt))))))))
+all_below kind.Sccrp = (omega arith, (omega arith, (omega arith, (omega arith, (omega arith, (omega arith, (omega arith, (omega arith, (omega arith, tt)))))))))
 all_below kind.Scccn = (omega arith, tt)
 all_below kind.StopCcn = (omega arith, (omega arith, tt))
 all_below kind.Hello = tt

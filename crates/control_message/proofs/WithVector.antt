@@ -14,7 +14,8 @@ use Rattle.control_message.specs.declared.message.Read.TheVariants.{Known}
 use Rattle.control_message.specs.Pairs.{pair, hidden_pair, padding_of, pairs_of, pairs_with, plain_pairs_with, IsWritten, IsWrittenWith}
 use Rattle.control_message.specs.Reading.{message_of, checked, checked_all, u16_at, u32_at, icrq_at}
 use Rattle.control_message.specs.Uncovering.{uncovered_pair, uncovered}
-use Rattle.control_message.proofs.Again.{fits, fits_short, fits_long, short_again, long_again, pairs_fit, message_again}
+use Rattle.control_message.proofs.Numbers.{short_again, long_again}
+use Rattle.control_message.proofs.Again.{fits, fits_short, fits_long, pairs_fit, message_again}
 use Rattle.control_message.proofs.Plain.{messages_stay}
 use Rattle.control_message.proofs.Room.{room, one_spelled}
 

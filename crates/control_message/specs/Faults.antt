@@ -5,11 +5,11 @@ use Rattle.byteorder.specs.Endian.{big_number}
 use Rattle.avp_codec.specs.declared.avp.Avp.{Avp}
 use Rattle.control_message.specs.declared.kind.Kind.{Kind}
 use Rattle.control_message.specs.declared.kind.Shape.{Shape}
-use Rattle.control_message.specs.declared.kind.Shape.TheVariants.{Text, Short, Nonzero, Long, ShortLong, ShortLongLong, Sixteen, ResultCode, CallErrors, Accm}
+use Rattle.control_message.specs.declared.kind.Shape.TheVariants.{Text, Short, Nonzero, Long, ShortLong, ShortShortShort, ShortLongLong, Sixteen, ResultCode}
 use Rattle.control_message.specs.declared.message.MessageError.{MessageError}
 use Rattle.control_message.specs.declared.message.MessageError.TheVariants.{NoType, UnknownType, UnknownMandatory, HiddenWithoutVector, BadValue, Missing, NoMemory}
-use Rattle.control_message.specs.Table.{kind_of, shape_of, needs_of}
-use Rattle.control_message.specs.Grammar.{IsAt, IsRecognised, IsFirstWith, StandsFirst, IsAbsent, HasNumber}
+use Rattle.control_message.specs.Table.{kind_of, shape_of, uses_draw, needs_of}
+use Rattle.control_message.specs.Grammar.{IsAt, IsRecognised, IsFirstWith, StandsFirst, IsAbsent, IsDraw, HasNoDraw, HasNumber}
 
 -- ---- the type
 
@@ -41,17 +41,26 @@ HasShape Short value = length value ≡ 2
 HasShape Nonzero value = (length value ≡ 2) × (big_number 2 value ≢ 0)
 HasShape Long value = length value ≡ 4
 HasShape ShortLong value = length value ≡ 6
+HasShape ShortShortShort value = length value ≡ 6
 HasShape ShortLongLong value = length value ≡ 10
 HasShape Sixteen value = length value ≡ 16
 HasShape ResultCode value = (length value ≡ 2) ⊎ (4 ≤ length value)
-HasShape CallErrors value = length value ≡ 26
-HasShape Accm value = length value ≡ 10
 
--- a pair whose value counts: the message uses its attribute, and it is the first of it
+-- the first pair of an attribute that the message uses
 pub record IsUsed (k : Kind) (n : ℕ) (s : Shape) (before : List Avp) (a : Avp) : Type 0 where
   pub shape : shape_of k n ≡ Some s
   pub is : IsAt n a
   pub none : IsAbsent n before
+
+-- the first Draw Number, where the message uses it
+pub record IsUsedDraw (k : Kind) (before : List Avp) (a : Avp) : Type 0 where
+  pub used : uses_draw k ≡ true
+  pub is : IsDraw a
+  pub none : HasNoDraw before
+
+-- a pair whose value counts, with its attribute and the shape that is wanted
+abbrev pub IsValued : Kind → ℕ → Shape → List Avp → Avp → Type 0
+IsValued k n s before a = IsUsed k n s before a ⊎ ((n ≡ 1) × (s ≡ Long) × IsUsedDraw k before a)
 
 -- a Random Vector, which is never hidden (RFC 2661 section 4.3)
 abbrev pub IsVector : Avp → Type 0
@@ -76,8 +85,8 @@ IsWrongValue s a = (a.hidden ≡ false) × (¬ HasShape s a.value)
 -- the fault of a pair behind others
 abbrev pub HasFault : Kind → List Avp → Avp → MessageError → Type 0
 HasFault k before a (UnknownMandatory v n) = (¬ IsRecognised a) × (a.mandatory ≡ true) × (a.vendor ≡ v) × (a.attribute ≡ n)
-HasFault k before a (HiddenWithoutVector n) = (s : Shape) × IsUsed k n s before a × (a.hidden ≡ true) × HasNoVector before
-HasFault k before a (BadValue n) = (s : Shape) × IsUsed k n s before a × (IsHiddenValue before a ⊎ IsWrongValue s a)
+HasFault k before a (HiddenWithoutVector n) = (s : Shape) × IsValued k n s before a × (a.hidden ≡ true) × HasNoVector before
+HasFault k before a (BadValue n) = (s : Shape) × IsValued k n s before a × (IsHiddenValue before a ⊎ IsWrongValue s a)
 HasFault k before a e = ⊥
 
 -- no pair has a fault

@@ -1,4 +1,4 @@
--- What a list of pairs says: a relation apart from the reader (RFC 2661 sections 4.1, 4.4 and 6, RFC 4951 sections 5.1 and 5.2).
+-- What a list of pairs says: a relation apart from the reader (RFC 2661 sections 4.1, 4.4 and 6, RFC 4951 sections 5.1 to 5.3).
 use Rattle.std.specs.Prelude.{◌≡◌, ◌≢◌, ℕ, ◌≤◌, ◌⊎◌, Bool, true, false, List, ◌∷◌, ◌++◌, length, drop, Option, Some, None, ⊤}
 use Rattle.std.specs.List.{AllByRecursion}
 use Rattle.byteorder.specs.Endian.{big_number}
@@ -8,6 +8,7 @@ use Rattle.control_message.specs.declared.message.Message.TheVariants.{Sccrq, Sc
 use Rattle.control_message.specs.declared.message.Opening.{Opening}
 use Rattle.control_message.specs.declared.message.Failover.{Failover}
 use Rattle.control_message.specs.declared.message.Recovery.{Recovery}
+use Rattle.control_message.specs.declared.message.Suggested.{Suggested}
 use Rattle.control_message.specs.declared.message.Read.{Read}
 use Rattle.control_message.specs.declared.message.Read.TheVariants.{Known, Ignored}
 use Rattle.control_message.specs.Table.{kind_of}
@@ -45,6 +46,14 @@ StandsFirst n a avps = IsFirstWith (λ b. IsAt n b) a avps
 abbrev pub IsAbsent : ℕ → List Avp → Type 0
 IsAbsent n avps = AllByRecursion (λ a. ¬ IsAt n a) avps
 
+-- this project's Draw Number
+abbrev pub IsDraw : Avp → Type 0
+IsDraw a = (a.vendor ≡ 65535) × (a.attribute ≡ 1) × (a.reserved ≡ 0)
+
+-- none is there
+abbrev pub HasNoDraw : List Avp → Type 0
+HasNoDraw avps = AllByRecursion (λ a. ¬ IsDraw a) avps
+
 -- each pair that isn't recognised may be passed over
 abbrev pub NoneIsUnknown : List Avp → Type 0
 NoneIsUnknown avps = AllByRecursion (λ a. IsRecognised a ⊎ (a.mandatory ≡ false)) avps
@@ -65,11 +74,9 @@ pub record HasNumber (n width x : ℕ) (avps : List Avp) : Type 0 where
   pub wide : length value ≡ width
   pub number : big_number width value ≡ x
 
--- the first pair of an attribute is plain, and its value has so many bytes
-pub record HasWidth (n width : ℕ) (avps : List Avp) : Type 0 where
-  pub value : List ℕ
-  pub has : HasValue n value avps
-  pub wide : length value ≡ width
+-- the first pair of an attribute is plain, whatever its value
+abbrev pub HasSome : ℕ → List Avp → Type 0
+HasSome n avps = (value : List ℕ) × HasValue n value avps
 
 -- Failover Capability: two bytes of flags, then four of milliseconds
 pub record HasFailover (f : Failover) (avps : List Avp) : Type 0 where
@@ -86,6 +93,22 @@ pub record HasRecovery (r : Recovery) (avps : List Avp) : Type 0 where
   pub wide : length value ≡ 10
   pub sender : big_number 4 (drop 2 value) ≡ r.sender
   pub receiver : big_number 4 (drop 6 value) ≡ r.receiver
+
+-- Suggested Control Sequence: two reserved bytes, which aren't looked at, then Ns and Nr, in two each
+pub record HasSuggested (s : Suggested) (avps : List Avp) : Type 0 where
+  pub value : List ℕ
+  pub has : HasValue 78 value avps
+  pub wide : length value ≡ 6
+  pub ns : big_number 2 (drop 2 value) ≡ s.ns
+  pub nr : big_number 2 (drop 4 value) ≡ s.nr
+
+-- the first Draw Number is plain, and that number in four bytes
+pub record HasDraw (x : ℕ) (avps : List Avp) : Type 0 where
+  pub pair : Avp
+  pub first : IsFirstWith (λ b. IsDraw b) pair avps
+  pub plain : pair.hidden ≡ false
+  pub wide : length pair.value ≡ 4
+  pub number : big_number 4 pair.value ≡ x
 
 -- Error Code: two bytes behind the result, then any text; there is none where the result is all
 abbrev pub HasErrorCode : List ℕ → Option ℕ → Type 0
@@ -118,13 +141,21 @@ abbrev pub SaysRecovery : List Avp → Option Recovery → Type 0
 SaysRecovery avps None = IsAbsent 77 avps
 SaysRecovery avps (Some r) = HasRecovery r avps
 
+abbrev pub SaysSuggested : List Avp → Option Suggested → Type 0
+SaysSuggested avps None = IsAbsent 78 avps
+SaysSuggested avps (Some s) = HasSuggested s avps
+
+abbrev pub SaysDraw : List Avp → Option ℕ → Type 0
+SaysDraw avps None = HasNoDraw avps
+SaysDraw avps (Some x) = HasDraw x avps
+
 -- Challenge Response, in sixteen bytes
 abbrev pub SaysResponse : List Avp → Option (List ℕ) → Type 0
 SaysResponse avps None = IsAbsent 13 avps
 SaysResponse avps (Some r) = HasValue 13 r avps × (length r ≡ 16)
 
--- What a request and a reply say alike. Tunnel Recovery, which only a request tells, and Challenge Response, which only a reply
--- tells, aren't among it.
+-- What a request and a reply say alike, but for the Draw Number. Tunnel Recovery, which only a request tells, and Challenge Response
+-- and Suggested Control Sequence, which only a reply tells, aren't among it.
 pub record SaysOpening (avps : List Avp) (o : Opening) : Type 0 where
   pub version : HasNumber 2 2 o.version avps
   pub framing : HasNumber 3 4 o.framing avps
@@ -138,7 +169,7 @@ pub record SaysOpening (avps : List Avp) (o : Opening) : Type 0 where
 -- Sequencing Required stands for itself, whatever its value
 abbrev pub SaysSequenced : List Avp → Bool → Type 0
 SaysSequenced avps false = IsAbsent 39 avps
-SaysSequenced avps true = (value : List ℕ) × HasValue 39 value avps
+SaysSequenced avps true = HasSome 39 avps
 
 -- An Assigned Tunnel ID of 0 is good here: an opening may be refused by an end that has assigned none.
 pub record SaysStopCcn (avps : List Avp) (id code : ℕ) (error : Option ℕ) : Type 0 where
@@ -169,8 +200,8 @@ pub record SaysCdn (avps : List Avp) (id code : ℕ) (error : Option ℕ) : Type
   pub session : HasNumber 14 2 id avps
 
 abbrev pub SaysMessage : List Avp → Message → Type 0
-SaysMessage avps (Sccrq o) = SaysOpening avps o × SaysRecovery avps o.recovery × (o.response ≡ None)
-SaysMessage avps (Sccrp o) = SaysOpening avps o × (o.recovery ≡ None) × SaysResponse avps o.response
+SaysMessage avps (Sccrq o) = SaysOpening avps o × SaysRecovery avps o.recovery × SaysDraw avps o.attempt × (o.response ≡ None) × (o.suggested ≡ None)
+SaysMessage avps (Sccrp o) = SaysOpening avps o × SaysResponse avps o.response × SaysSuggested avps o.suggested × SaysDraw avps o.attempt × (o.recovery ≡ None)
 SaysMessage avps (Scccn response) = SaysResponse avps response
 SaysMessage avps (StopCcn tunnel result error) = SaysStopCcn avps tunnel result error
 SaysMessage avps Hello = ⊤
@@ -181,9 +212,9 @@ SaysMessage avps (Icrq session serial calling) = SaysIcrq avps session serial ca
 SaysMessage avps (Icrp session) = SaysIcrp avps session
 SaysMessage avps (Iccn speed framing sequenced) = SaysIccn avps speed framing sequenced
 SaysMessage avps (Cdn session result error) = SaysCdn avps session result error
--- Call Errors: two reserved bytes, six counters of four; ACCM: two reserved bytes, two maps of four (RFC 2661 section 4.4.6)
-SaysMessage avps Wen = HasWidth 34 26 avps
-SaysMessage avps Sli = HasWidth 35 10 avps
+-- Call Errors and ACCM have to be there, whatever their values
+SaysMessage avps Wen = HasSome 34 avps
+SaysMessage avps Sli = HasSome 35 avps
 
 -- the Message Type of each message
 abbrev pub number_of : Message → ℕ

@@ -7,6 +7,8 @@ use Rattle.control_message.specs.declared.message.Message.{Message}
 use Rattle.control_message.specs.declared.message.Message.TheVariants.{Sccrq, Sccrp, Scccn, StopCcn, Hello, Ocrq, Ocrp, Occn, Icrq, Icrp, Iccn, Cdn, Wen, Sli}
 use Rattle.control_message.specs.declared.message.Opening.{Opening}
 use Rattle.control_message.specs.declared.message.Failover.{Failover}
+use Rattle.control_message.specs.declared.message.Recovery.{Recovery}
+use Rattle.control_message.specs.declared.message.Suggested.{Suggested}
 
 -- a mandatory pair, and one that may be passed over
 abbrev pub pair : ℕ → List ℕ → Avp
@@ -19,6 +21,24 @@ optional_pair n v = record { mandatory = false; hidden = false; reserved = 0; ve
 abbrev pub failover_pairs : Option Failover → List Avp
 failover_pairs None = []
 failover_pairs (Some f) = optional_pair 76 (u16_bytes f.flags ++ u32_bytes f.time) ∷ []
+
+-- Tunnel Recovery: two zeros, the sender's id, the receiver's
+abbrev pub recovery_pairs : Option Recovery → List Avp
+recovery_pairs None = []
+recovery_pairs (Some r) = pair 77 (u16_bytes 0 ++ u32_bytes r.sender ++ u32_bytes r.receiver) ∷ []
+
+-- Suggested Control Sequence: two zeros, Ns, Nr
+abbrev pub suggested_pairs : Option Suggested → List Avp
+suggested_pairs None = []
+suggested_pairs (Some s) = pair 78 (u16_bytes 0 ++ u16_bytes s.ns ++ u16_bytes s.nr) ∷ []
+
+-- this project's Draw Number, which may be passed over
+abbrev pub draw_pair : List ℕ → Avp
+draw_pair v = record { mandatory = false; hidden = false; reserved = 0; vendor = 65535; attribute = 1; value = v }
+
+abbrev pub draw_pairs : Option ℕ → List Avp
+draw_pairs None = []
+draw_pairs (Some x) = draw_pair (u32_bytes x) ∷ []
 
 -- Challenge
 abbrev pub challenge_pairs : Option (List ℕ) → List Avp
@@ -41,9 +61,20 @@ opening_front number o =
     ∷ pair 10 (u16_bytes o.window)
     ∷ []
 
--- those, then what is told
+-- what a recovery tells
+abbrev pub recovering_pairs : Opening → List Avp
+recovering_pairs o = recovery_pairs o.recovery ++ suggested_pairs o.suggested ++ draw_pairs o.attempt
+
+-- what is told of secrets
+abbrev pub secret_pairs : Opening → List Avp
+secret_pairs o = challenge_pairs o.challenge ++ response_pairs o.response
+
+-- what is told beside the numbers and the name
+abbrev pub told_pairs : Opening → List Avp
+told_pairs o = failover_pairs o.failover ++ recovering_pairs o ++ secret_pairs o
+
 abbrev pub opening_pairs : ℕ → Opening → List Avp
-opening_pairs number o = opening_front number o ++ (failover_pairs o.failover ++ challenge_pairs o.challenge ++ response_pairs o.response)
+opening_pairs number o = opening_front number o ++ told_pairs o
 
 -- Calling Number
 abbrev pub calling_pairs : Option (List ℕ) → List Avp
@@ -77,8 +108,7 @@ pairs_of Occn = []
 pairs_of Wen = []
 pairs_of Sli = []
 
--- version 1.0, no id or window that is 0, a name and a challenge that fit into a pair, the failover capability told, and no
--- recovery
+-- version 1.0, no id or window that is 0, a name and a challenge that fit into a pair, and the failover capability told
 pub record IsWrittenOpening (o : Opening) : Type 0 where
   pub version : o.version ≡ 256
   pub framing : o.framing < 2 ^ 32
@@ -90,13 +120,16 @@ pub record IsWrittenOpening (o : Opening) : Type 0 where
   pub failover : IsSomeAnd o.failover (λ f. (f.flags < 2 ^ 16) × (f.time < 2 ^ 32))
   pub challenge : IfSome o.challenge (λ v. length v ≤ 1017)
   pub response : IfSome o.response (λ r. length r ≡ 16)
-  pub recovery : o.recovery ≡ None
+  pub recovery : IfSome o.recovery (λ r. (r.sender < 2 ^ 32) × (r.receiver < 2 ^ 32))
+  pub suggested : IfSome o.suggested (λ s. (s.ns < 2 ^ 16) × (s.nr < 2 ^ 16))
+  pub attempt : IfSome o.attempt (λ x. x < 2 ^ 32)
 
 -- the messages that are written
 abbrev pub IsWritten : Message → Type 0
--- a request answers no challenge
-IsWritten (Sccrq o) = IsWrittenOpening o × (o.response ≡ None)
-IsWritten (Sccrp o) = IsWrittenOpening o
+-- a request answers no challenge and suggests no numbers
+IsWritten (Sccrq o) = IsWrittenOpening o × (o.response ≡ None) × (o.suggested ≡ None)
+-- a reply asks for no recovery
+IsWritten (Sccrp o) = IsWrittenOpening o × (o.recovery ≡ None)
 IsWritten (Scccn response) = IfSome response (λ r. length r ≡ 16)
 IsWritten (StopCcn tunnel result error) = (tunnel < 2 ^ 16) × (result < 2 ^ 16) × IfSome error (λ x. x < 2 ^ 16)
 IsWritten Hello = ⊤

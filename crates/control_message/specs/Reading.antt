@@ -1,21 +1,23 @@
 -- What a list of pairs says, or the first fault.
-use Rattle.std.specs.Prelude.{◌≡◌, ℕ, ◌==◌, ◌&&◌, ◌||◌, nat_le, not, Bool, List, [], ◌∷◌, ◌++◌, length, drop, find, Option, Some, None, is_some, option_map, Result, Ok, Err, if◌then◌else◌}
+use Rattle.std.specs.Prelude.{◌≡◌, ℕ, ◌==◌, ◌&&◌, ◌||◌, nat_le, not, Bool, true, false, List, [], ◌∷◌, ◌++◌, length, drop, find, Option, Some, None, is_some, option_map, Result, Ok, Err, if◌then◌else◌}
 use Rattle.byteorder.specs.Endian.{big_number}
 use Rattle.wire_base.specs.Answers.{◌>>=◌}
 use Rattle.avp_codec.specs.declared.avp.Avp.{Avp}
 use Rattle.control_message.specs.declared.kind.Kind.{Kind}
 use Rattle.control_message.specs.declared.kind.Kind.TheVariants as kind
 use Rattle.control_message.specs.declared.kind.Shape.{Shape}
+use Rattle.control_message.specs.declared.kind.Shape.TheVariants.{Long}
 use Rattle.control_message.specs.declared.message.Message.{Message}
 use Rattle.control_message.specs.declared.message.Message.TheVariants.{Sccrq, Sccrp, Scccn, StopCcn, Hello, Ocrq, Ocrp, Occn, Icrq, Icrp, Iccn, Cdn, Wen, Sli}
 use Rattle.control_message.specs.declared.message.Opening.{Opening}
 use Rattle.control_message.specs.declared.message.Failover.{Failover}
 use Rattle.control_message.specs.declared.message.Recovery.{Recovery}
+use Rattle.control_message.specs.declared.message.Suggested.{Suggested}
 use Rattle.control_message.specs.declared.message.Read.{Read}
 use Rattle.control_message.specs.declared.message.Read.TheVariants.{Known, Ignored}
 use Rattle.control_message.specs.declared.message.MessageError.{MessageError}
 use Rattle.control_message.specs.declared.message.MessageError.TheVariants.{NoType, UnknownType, UnknownMandatory, HiddenWithoutVector, BadValue, Missing, NoMemory}
-use Rattle.control_message.specs.Table.{kind_of, shape_of, fits}
+use Rattle.control_message.specs.Table.{kind_of, shape_of, uses_draw, fits}
 
 -- what a call that failed tells of the reading: nothing where memory was wanting
 abbrev pub Told : {Y : Type 0} → MessageError → Result Y MessageError → Type 0
@@ -42,6 +44,14 @@ is_at n a = (a.vendor == 0 && a.attribute == n) && a.reserved == 0
 abbrev pub first : ℕ → List Avp → Option Avp
 first n avps = find (λ a. is_at n a) avps
 
+-- whether a pair is this project's Draw Number
+abbrev pub is_draw : Avp → Bool
+is_draw a = (a.vendor == 65535 && a.attribute == 1) && a.reserved == 0
+
+-- the first one
+abbrev pub first_draw : List Avp → Option Avp
+first_draw avps = find (λ a. is_draw a) avps
+
 -- whether a pair is a Random Vector, which is never hidden (RFC 2661 section 4.3)
 abbrev pub is_vector : Avp → Bool
 is_vector a = is_at 36 a && not a.hidden
@@ -65,10 +75,16 @@ checked_use None before a = Ok tt
 checked_use (Some s) before a =
     if is_some (first a.attribute before) then Ok tt else checked_value s (has_vector before) a
 
+-- a Draw Number, where the message uses it; only its first place counts
+abbrev pub checked_draw : Bool → List Avp → Avp → Result (Unit {0}) MessageError
+checked_draw false before a = Ok tt
+checked_draw true before a =
+    if is_some (first_draw before) then Ok tt else checked_value Long (has_vector before) a
+
 -- a pair behind others
 unfoldable pub checked : Kind → List Avp → Avp → Result (Unit {0}) MessageError
 checked k before a =
-    if is_recognised a then (if a.vendor == 0 then checked_use (shape_of k a.attribute) before a else Ok tt)
+    if is_recognised a then (if a.vendor == 0 then checked_use (shape_of k a.attribute) before a else checked_draw (uses_draw k) before a)
     else if a.mandatory then Err (UnknownMandatory a.vendor a.attribute)
     else Ok tt
 
@@ -140,6 +156,37 @@ recovery_in (Some a) = recovery_read (recovery_value a.value)
 unfoldable pub recovery_at : List Avp → Result (Option Recovery) MessageError
 recovery_at avps = recovery_in (first 77 avps)
 
+-- Suggested Control Sequence: two reserved bytes, which aren't looked at, then Ns and Nr
+abbrev pub suggested_value : List ℕ → Option Suggested
+suggested_value value =
+    if length value == 6 then Some (record { ns = big_number 2 (drop 2 value); nr = big_number 2 (drop 4 value) }) else None
+
+abbrev pub suggested_read : Option Suggested → Result (Option Suggested) MessageError
+suggested_read None = Err (BadValue 78)
+suggested_read (Some s) = Ok (Some s)
+
+abbrev pub suggested_in : Option Avp → Result (Option Suggested) MessageError
+suggested_in None = Ok None
+suggested_in (Some a) = suggested_read (suggested_value a.value)
+
+unfoldable pub suggested_at : List Avp → Result (Option Suggested) MessageError
+suggested_at avps = suggested_in (first 78 avps)
+
+-- Draw Number: four bytes
+abbrev pub draw_value : List ℕ → Option ℕ
+draw_value value = if length value == 4 then Some (big_number 4 value) else None
+
+abbrev pub draw_read : Option ℕ → Result (Option ℕ) MessageError
+draw_read None = Err (BadValue 1)
+draw_read (Some x) = Ok (Some x)
+
+abbrev pub draw_in : Option Avp → Result (Option ℕ) MessageError
+draw_in None = Ok None
+draw_in (Some a) = draw_read (draw_value a.value)
+
+unfoldable pub draw_at : List Avp → Result (Option ℕ) MessageError
+draw_at avps = draw_in (first_draw avps)
+
 -- Challenge Response: sixteen bytes
 abbrev pub response_value : List ℕ → Option (List ℕ)
 response_value value = if length value == 16 then Some value else None
@@ -155,9 +202,9 @@ response_in (Some a) = response_read (response_value a.value)
 unfoldable pub response_at : List Avp → Result (Option (List ℕ)) MessageError
 response_at avps = response_in (first 13 avps)
 
--- an opening, with the response that it gives and the recovery that it asks for
-unfoldable pub opening_at : List Avp → Option (List ℕ) → Option Recovery → Result Opening MessageError
-opening_at avps response recovery = do
+-- an opening, with the response that it gives, the recovery that it asks for, the numbers that it suggests, and its draw number
+unfoldable pub opening_at : List Avp → Option (List ℕ) → Option Recovery → Option Suggested → Option ℕ → Result Opening MessageError
+opening_at avps response recovery suggested attempt = do
   version ← u16_at 2 avps
   framing ← u32_at 3 avps
   name ← value_at 7 avps
@@ -174,6 +221,8 @@ opening_at avps response recovery = do
     challenge = text_at 11 avps;
     response = response;
     recovery = recovery;
+    suggested = suggested;
+    attempt = attempt;
   })
 
 unfoldable pub icrq_at : List Avp → Result Message MessageError
@@ -232,8 +281,8 @@ sli_at avps = value_at 35 avps >>= λ v. Ok Sli
 
 -- a message of a kind
 abbrev pub of_kind : Kind → List Avp → Result Message MessageError
-of_kind kind.Sccrq avps = recovery_at avps >>= λ r. opening_at avps None r >>= λ o. Ok (Sccrq o)
-of_kind kind.Sccrp avps = response_at avps >>= λ r. opening_at avps r None >>= λ o. Ok (Sccrp o)
+of_kind kind.Sccrq avps = recovery_at avps >>= λ r. draw_at avps >>= λ d. opening_at avps None r None d >>= λ o. Ok (Sccrq o)
+of_kind kind.Sccrp avps = response_at avps >>= λ r. suggested_at avps >>= λ s. draw_at avps >>= λ d. opening_at avps r None s d >>= λ o. Ok (Sccrp o)
 of_kind kind.Scccn avps = response_at avps >>= λ r. Ok (Scccn r)
 of_kind kind.StopCcn avps = stop_ccn_at avps
 of_kind kind.Hello avps = Ok Hello

@@ -1,10 +1,10 @@
 -- The table of messages and attributes (RFC 2661 sections 3.2, 4.4 and 6, RFC 4951 section 5).
-use Rattle.std.specs.Prelude.{ℕ, ◌==◌, ◌&&◌, ◌||◌, nat_le, not, Bool, true, List, [], ◌∷◌, ◌++◌, length, find, Option, option_map}
+use Rattle.std.specs.Prelude.{ℕ, ◌==◌, ◌&&◌, ◌||◌, nat_le, not, Bool, true, false, List, [], ◌∷◌, ◌++◌, length, find, Option, option_map}
 use Rattle.byteorder.specs.Endian.{big_number}
 use Rattle.control_message.specs.declared.kind.Kind.{Kind}
 use Rattle.control_message.specs.declared.kind.Kind.TheVariants.{Sccrq, Sccrp, Scccn, StopCcn, Hello, Ocrq, Ocrp, Occn, Icrq, Icrp, Iccn, Cdn, Wen, Sli}
 use Rattle.control_message.specs.declared.kind.Shape.{Shape}
-use Rattle.control_message.specs.declared.kind.Shape.TheVariants.{Text, Short, Nonzero, Long, ShortLong, ShortLongLong, Sixteen, ResultCode, CallErrors, Accm}
+use Rattle.control_message.specs.declared.kind.Shape.TheVariants.{Text, Short, Nonzero, Long, ShortLong, ShortShortShort, ShortLongLong, Sixteen, ResultCode}
 
 -- what stands beside a number in a table
 abbrev pub look_up : {V : Type 0} → ℕ → List (ℕ × V) → Option V
@@ -41,8 +41,8 @@ opening_uses = (2, Short) ∷ (3, Long) ∷ (7, Text) ∷ (9, Nonzero) ∷ (10, 
 abbrev pub uses_of : Kind → List (ℕ × Shape)
 -- Tunnel Recovery too
 uses_of Sccrq = opening_uses ++ (77, ShortLongLong) ∷ []
--- Challenge Response too
-uses_of Sccrp = opening_uses ++ (13, Sixteen) ∷ []
+-- Challenge Response and Suggested Control Sequence too
+uses_of Sccrp = opening_uses ++ (13, Sixteen) ∷ (78, ShortShortShort) ∷ []
 -- Challenge Response
 uses_of Scccn = (13, Sixteen) ∷ []
 -- Result Code, Assigned Tunnel ID
@@ -61,9 +61,15 @@ uses_of Iccn = (19, Long) ∷ (24, Long) ∷ (39, Text) ∷ []
 -- Result Code, Assigned Session ID
 uses_of Cdn = (1, ResultCode) ∷ (14, Short) ∷ []
 -- Call Errors
-uses_of Wen = (34, CallErrors) ∷ []
+uses_of Wen = (34, Text) ∷ []
 -- ACCM
-uses_of Sli = (35, Accm) ∷ []
+uses_of Sli = (35, Text) ∷ []
+
+-- the messages that use this project's Draw Number too, an attribute of vendor 65535
+abbrev pub uses_draw : Kind → Bool
+uses_draw Sccrq = true
+uses_draw Sccrp = true
+uses_draw k = false
 
 -- those that it needs, in order
 abbrev pub needs_of : Kind → List ℕ
@@ -93,8 +99,7 @@ fits Short value = length value == 2
 fits Nonzero value = length value == 2 && not (big_number 2 value == 0)
 fits Long value = length value == 4
 fits ShortLong value = length value == 6
+fits ShortShortShort value = length value == 6
 fits ShortLongLong value = length value == 10
 fits Sixteen value = length value == 16
 fits ResultCode value = length value == 2 || nat_le 4 (length value)
-fits CallErrors value = length value == 26
-fits Accm value = length value == 10

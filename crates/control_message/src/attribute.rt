@@ -1,4 +1,5 @@
-//! The attributes that are read and written (RFC 2661 section 4.4, RFC 4951 sections 5.1 and 5.2).
+//! The attributes that are read and written (RFC 2661 section 4.4, RFC 4951 sections 5.1 to 5.3, and one of this
+//! project's own).
 
 pub const MESSAGE_TYPE: u16 = 0;
 
@@ -39,3 +40,10 @@ pub const SEQUENCING_REQUIRED: u16 = 39;
 pub const FAILOVER: u16 = 76;
 
 pub const RECOVERY: u16 = 77;
+
+pub const SUGGESTED_SEQUENCE: u16 = 78;
+
+/// The vendor of this project's own attribute.
+pub const DRAW_VENDOR: u16 = 0xffff;
+
+pub const DRAW_NUMBER: u16 = 1;

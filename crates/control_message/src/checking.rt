@@ -2,10 +2,11 @@
 
 ghost use Rattle.std.specs.Prelude.{◌≡◌, ◌<◌, ◌&&◌, not, ◌++◌, [], ◌∷◌, List, true, is_some, slice_set};
 ghost use Rattle.avp_codec.specs.declared.avp.Avp.{Avp};
-ghost use Rattle.control_message.specs.Reading.{is_recognised, first, has_vector, checked_value, checked, checked_all};
+ghost use Rattle.control_message.specs.Reading.{is_recognised, first, first_draw, has_vector, checked_value, checked_use, checked_draw, checked, checked_all};
 ghost use Rattle.control_message.specs.Walk.{HasSeen};
+ghost use Rattle.control_message.specs.Table.{shape_of, uses_draw};
 
-use crate::finding::{is_at, is_recognised, is_vector};
+use crate::finding::{is_at, is_draw, is_recognised, is_vector};
 use crate::kind::{Kind, Shape};
 use crate::message::MessageError;
 use avp_codec::Avp;
@@ -18,6 +19,8 @@ const ATTRIBUTES: usize = 80;
 struct Seen {
     /// Whether an attribute of the IETF was there, for those below 80.
     attributes: [bool; ATTRIBUTES],
+    /// Whether a Draw Number was there.
+    draw: bool,
     /// Whether a Random Vector was there.
     vector: bool,
 }
@@ -29,6 +32,7 @@ impl Seen {
     {
         Seen {
             attributes: [false; ATTRIBUTES],
+            draw: false,
             vector: false,
         }
     }
@@ -60,6 +64,7 @@ impl Seen {
         if is_at(avp, avp.attribute) {
             self.mark(avp.attribute);
         }
+        self.draw |= is_draw(avp);
         self.vector |= is_vector(avp);
     }
 }
@@ -90,7 +95,28 @@ fn is_misunderstood(avp: &Avp) -> bool
     !is_recognised(avp) && avp.mandatory
 }
 
-/// The fault of a pair behind others, if it has one. Only the first pair of an attribute counts.
+/// The fault of a pair of an attribute of the IETF behind others. Only the first pair of an attribute counts.
+fn check_use(kind: Kind, seen: &Seen, avp: &Avp) -> Result<(), MessageError>
+    ensures { (before : List Avp) → HasSeen seen.now before → result ≡ checked_use (shape_of kind avp.now.attribute) before avp.now }
+{
+    match kind.shape(avp.attribute) {
+        None => Ok(()),
+        Some(_) if seen.has(avp.attribute) => Ok(()),
+        Some(shape) => check_value(shape, seen.vector, avp),
+    }
+}
+
+/// The fault of a Draw Number behind others. Only the first one counts.
+fn check_draw(kind: Kind, seen: &Seen, avp: &Avp) -> Result<(), MessageError>
+    ensures { (before : List Avp) → HasSeen seen.now before → result ≡ checked_draw (uses_draw kind) before avp.now }
+{
+    if !kind.uses_draw() || seen.draw {
+        return Ok(());
+    }
+    check_value(Shape::Long, seen.vector, avp)
+}
+
+/// The fault of a pair behind others, if it has one.
 #[tactic(auto, unfolding(crate::specs::Reading::checked))]
 fn check_avp(kind: Kind, seen: &Seen, avp: &Avp) -> Result<(), MessageError>
     ensures { (before : List Avp) → HasSeen seen.now before → result ≡ checked kind before avp.now }
@@ -101,13 +127,13 @@ fn check_avp(kind: Kind, seen: &Seen, avp: &Avp) -> Result<(), MessageError>
             attribute: avp.attribute,
         });
     }
-    if !is_recognised(avp) || avp.vendor != 0 {
+    if !is_recognised(avp) {
         return Ok(());
     }
-    match kind.shape(avp.attribute) {
-        None => Ok(()),
-        Some(_) if seen.has(avp.attribute) => Ok(()),
-        Some(shape) => check_value(shape, seen.vector, avp),
+    if avp.vendor == 0 {
+        check_use(kind, seen, avp)
+    } else {
+        check_draw(kind, seen, avp)
     }
 }
 

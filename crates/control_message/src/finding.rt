@@ -3,9 +3,11 @@
 ghost use Rattle.std.specs.Prelude.{◌≡◌, ◌↔◌, find, is_some, IsNone, IfSome};
 ghost use Rattle.std.specs.Option.{option_copied};
 ghost use Rattle.control_message.specs.Grammar.{HasPlainShort, HasNoPlainShort};
-ghost use Rattle.control_message.specs.Reading.{is_listed, is_recognised, is_at, is_vector, first, number_in, is_plain_short, plain_short};
+ghost use Rattle.control_message.specs.Reading.{is_listed, is_recognised, is_at, is_draw, is_vector, first, first_draw, number_in, is_plain_short, plain_short};
 
-use crate::attribute::{ASSIGNED_SESSION, ASSIGNED_TUNNEL, RANDOM_VECTOR};
+use crate::attribute::{
+    ASSIGNED_SESSION, ASSIGNED_TUNNEL, DRAW_NUMBER, DRAW_VENDOR, RANDOM_VECTOR,
+};
 use crate::message::MessageError;
 use avp_codec::{Avp, Avps};
 use wire_base::take_u16;
@@ -18,7 +20,7 @@ pub fn is_listed(vendor: u16, attribute: u16) -> bool
         0 => attribute <= 19
             || 21 <= attribute && attribute <= 39
             || 76 <= attribute && attribute <= 79,
-        _ => vendor == 0xffff && attribute == 1,
+        _ => vendor == DRAW_VENDOR && attribute == DRAW_NUMBER,
     }
 }
 
@@ -36,6 +38,13 @@ pub fn is_at(avp: &Avp, attribute: u16) -> bool
     avp.vendor == 0 && avp.attribute == attribute && avp.reserved == 0
 }
 
+/// Whether a pair is this project's Draw Number.
+pub fn is_draw(avp: &Avp) -> bool
+    ensures { result ≡ is_draw avp.now }
+{
+    avp.vendor == DRAW_VENDOR && avp.attribute == DRAW_NUMBER && avp.reserved == 0
+}
+
 /// Whether a pair is a Random Vector, which is never hidden (RFC 2661 section 4.3).
 pub fn is_vector(avp: &Avp) -> bool
     ensures { result ≡ is_vector avp.now }
@@ -48,6 +57,13 @@ pub fn find_avp(avps: &[Avp], attribute: u16) -> Option<&Avp>
     ensures { option_copied result ≡ first attribute avps.now }
 {
     avps.iter().find(|a| is_at(a, attribute))
+}
+
+/// The first Draw Number.
+pub fn find_draw(avps: &[Avp]) -> Option<&Avp>
+    ensures { option_copied result ≡ first_draw avps.now }
+{
+    avps.iter().find(|a| is_draw(a))
 }
 
 /// Whether a pair of an attribute is there.

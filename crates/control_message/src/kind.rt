@@ -1,12 +1,13 @@
 //! Which attributes each message uses, and the shapes of their values.
 
 ghost use Rattle.std.specs.Prelude.{◌≡◌};
-ghost use Rattle.control_message.specs.Table.{kind_of, shape_of, fits};
+ghost use Rattle.control_message.specs.Table.{kind_of, shape_of, uses_draw, fits};
 
 use crate::attribute::{
     ACCM, ASSIGNED_SESSION, ASSIGNED_TUNNEL, CALL_ERRORS, CALL_SERIAL_NUMBER, CALLING_NUMBER,
     CHALLENGE, CHALLENGE_RESPONSE, CONNECT_SPEED, FAILOVER, FRAMING_CAPABILITIES, FRAMING_TYPE,
-    HOST_NAME, PROTOCOL_VERSION, RECOVERY, RESULT_CODE, SEQUENCING_REQUIRED, WINDOW,
+    HOST_NAME, PROTOCOL_VERSION, RECOVERY, RESULT_CODE, SEQUENCING_REQUIRED, SUGGESTED_SEQUENCE,
+    WINDOW,
 };
 use wire_base::take_u16;
 
@@ -85,16 +86,14 @@ pub enum Shape {
     Long,
     /// A number in two bytes, then a number in four.
     ShortLong,
+    /// Two reserved bytes, then two numbers in two.
+    ShortShortShort,
     /// Two reserved bytes, then two numbers in four.
     ShortLongLong,
     /// Sixteen bytes.
     Sixteen,
     /// A number in two bytes, then nothing, or another in two and any bytes behind it (RFC 2661 section 4.4.2).
     ResultCode,
-    /// Two reserved bytes and six counters of four (RFC 2661 section 4.4.6).
-    CallErrors,
-    /// Two reserved bytes and two maps of four (RFC 2661 section 4.4.6).
-    Accm,
 }
 
 impl Kind {
@@ -121,6 +120,13 @@ impl Kind {
         }
     }
 
+    /// Whether a message of the kind uses this project's Draw Number.
+    pub(crate) fn uses_draw(&self) -> bool
+        ensures { result ≡ uses_draw self.now }
+    {
+        matches!(self, Kind::Sccrq | Kind::Sccrp)
+    }
+
     /// The shape of an attribute's value in a message of the kind; None where such a message doesn't use it.
     pub(crate) fn shape(&self, attribute: u16) -> Option<Shape>
         ensures { result ≡ shape_of self.now attribute }
@@ -136,6 +142,7 @@ impl Kind {
                 FAILOVER => Some(Shape::ShortLong),
                 RECOVERY if matches!(self, Kind::Sccrq) => Some(Shape::ShortLongLong),
                 CHALLENGE_RESPONSE if matches!(self, Kind::Sccrp) => Some(Shape::Sixteen),
+                SUGGESTED_SEQUENCE if matches!(self, Kind::Sccrp) => Some(Shape::ShortShortShort),
                 _ => None,
             },
             Kind::Scccn => match attribute {
@@ -174,11 +181,11 @@ impl Kind {
                 _ => None,
             },
             Kind::Wen => match attribute {
-                CALL_ERRORS => Some(Shape::CallErrors),
+                CALL_ERRORS => Some(Shape::Text),
                 _ => None,
             },
             Kind::Sli => match attribute {
-                ACCM => Some(Shape::Accm),
+                ACCM => Some(Shape::Text),
                 _ => None,
             },
         }
@@ -196,11 +203,10 @@ impl Shape {
             Shape::Nonzero => value.len() == 2 && !matches!(take_u16(value, 0), Ok(0)),
             Shape::Long => value.len() == 4,
             Shape::ShortLong => value.len() == 6,
+            Shape::ShortShortShort => value.len() == 6,
             Shape::ShortLongLong => value.len() == 10,
             Shape::Sixteen => value.len() == 16,
             Shape::ResultCode => value.len() == 2 || 4 <= value.len(),
-            Shape::CallErrors => value.len() == 26,
-            Shape::Accm => value.len() == 10,
         }
     }
 }

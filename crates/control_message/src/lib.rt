@@ -12,7 +12,7 @@ mod writing;
 
 pub use finding::{assigned_session, assigned_tunnel};
 pub use kind::Kind;
-pub use message::{Failover, Message, MessageError, Opening, Read, Recovery};
+pub use message::{Failover, Message, MessageError, Opening, Read, Recovery, Suggested};
 pub use reading::{kind_of_pairs, read_message, reads_what_was_written};
 pub use uncovering::{
     hidden_requests_are_read, leaves_plain_pairs, plain_messages_stay, reads_what_was_hidden,

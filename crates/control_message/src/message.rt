@@ -62,9 +62,11 @@ pub enum Message {
         result: u16,
         error: Option<u16>,
     },
-    /// WAN-Error-Notify, which counts errors on a line: Call Errors has to be there, and isn't kept. It is only read.
+    /// WAN-Error-Notify, which counts errors on a line: Call Errors has to be there, whatever its value, and isn't kept.
+    /// It is only read.
     Wen,
-    /// Set-Link-Info, which tells what PPP has agreed on: ACCM has to be there, and isn't kept. It is only read.
+    /// Set-Link-Info, which tells what PPP has agreed on: ACCM has to be there, whatever its value, and isn't kept. It is
+    /// only read.
     Sli,
 }
 
@@ -87,8 +89,14 @@ pub struct Opening {
     pub challenge: Option<Bytes>,
     /// Challenge Response to the challenge of the request, where a reply tells it (RFC 2661 section 4.4.3).
     pub response: Option<[u8; 16]>,
-    /// Tunnel Recovery, where a request tells it. It is only read.
+    /// Tunnel Recovery, where a request tells it: the tunnel that is to be recovered.
     pub recovery: Option<Recovery>,
+    /// Suggested Control Sequence, where a reply to such a request tells it: the numbers with which the channel of the
+    /// recovered tunnel is to begin.
+    pub suggested: Option<Suggested>,
+    /// This project's Draw Number, where it is told: the number that its maker drew for this attempt at a recovery, or
+    /// for this answer to one. Of two attempts the one with the larger number is the later.
+    pub attempt: Option<u32>,
 }
 
 /// Failover Capability, the attribute 76 of RFC 4951 section 5.1. Its layout, two bytes of flags and four of milliseconds,
@@ -109,6 +117,17 @@ pub struct Recovery {
     pub sender: u32,
     /// The receiver's id of the tunnel.
     pub receiver: u32,
+}
+
+/// Suggested Control Sequence, the attribute 78 of RFC 4951 section 5.3, by which a reply tells the numbers with which
+/// the control channel of a recovered tunnel begins. Its layout, two reserved bytes and two numbers of two, is this
+/// project's profile of it.
+#[derive(Clone, Copy, Debug)]
+pub struct Suggested {
+    /// The Ns that the receiver of the reply is to send first.
+    pub ns: u16,
+    /// The Ns that it is to expect first.
+    pub nr: u16,
 }
 
 /// What a list of pairs says.

@@ -15,17 +15,18 @@ ghost use Rattle.control_message.specs.Grammar.{Says};
 ghost use Rattle.control_message.specs.Faults.{IsOfKind, IsFault, IsToldFault};
 ghost use Rattle.control_message.specs.Pairs.{pairs_of, IsWritten};
 ghost use Rattle.control_message.specs.Uncovering.{uncovered_all, uncovered, Uncovers};
-ghost use Rattle.control_message.specs.Reading.{Told, value_at, u16_at, u32_at, window_at, text_at, failover_value, failover_at, recovery_value, recovery_at, response_value, response_at, opening_at, icrq_at, icrp_at, iccn_at, result_code_in, result_code_at, stop_ccn_at, ocrq_at, cdn_at, wen_at, sli_at, of_kind, type_number, kind_of_pairs, message_of};
+ghost use Rattle.control_message.specs.Reading.{Told, value_at, u16_at, u32_at, window_at, text_at, failover_value, failover_at, recovery_value, recovery_at, suggested_value, suggested_at, draw_value, draw_at, response_value, response_at, opening_at, icrq_at, icrp_at, iccn_at, result_code_in, result_code_at, stop_ccn_at, ocrq_at, cdn_at, wen_at, sli_at, of_kind, type_number, kind_of_pairs, message_of};
 
 use crate::attribute::{
     ACCM, ASSIGNED_SESSION, ASSIGNED_TUNNEL, CALL_ERRORS, CALL_SERIAL_NUMBER, CALLING_NUMBER,
-    CHALLENGE, CHALLENGE_RESPONSE, CONNECT_SPEED, FAILOVER, FRAMING_CAPABILITIES, FRAMING_TYPE,
-    HOST_NAME, MESSAGE_TYPE, PROTOCOL_VERSION, RECOVERY, RESULT_CODE, SEQUENCING_REQUIRED, WINDOW,
+    CHALLENGE, CHALLENGE_RESPONSE, CONNECT_SPEED, DRAW_NUMBER, FAILOVER, FRAMING_CAPABILITIES,
+    FRAMING_TYPE, HOST_NAME, MESSAGE_TYPE, PROTOCOL_VERSION, RECOVERY, RESULT_CODE,
+    SEQUENCING_REQUIRED, SUGGESTED_SEQUENCE, WINDOW,
 };
 use crate::checking::check_all;
-use crate::finding::{find_avp, has_avp, u16_in};
+use crate::finding::{find_avp, find_draw, has_avp, u16_in};
 use crate::kind::Kind;
-use crate::message::{Failover, Message, MessageError, Opening, Read, Recovery};
+use crate::message::{Failover, Message, MessageError, Opening, Read, Recovery, Suggested};
 use crate::uncovering::{copy_uncovered, find_hidden};
 use avp_codec::{Avp, Avps};
 use std::alloc::Global;
@@ -144,6 +145,61 @@ fn recovery_of(avps: &[Avp]) -> Result<Option<Recovery>, MessageError>
     }
 }
 
+/// The Suggested Control Sequence that a value is. Its first two bytes are reserved, and aren't looked at.
+fn suggested_in(value: &[u8]) -> Option<Suggested>
+    ensures { result ≡ suggested_value value.now }
+{
+    if value.len() != 6 {
+        return None;
+    }
+    match (take_u16(value, 2), take_u16(value, 4)) {
+        (Ok(ns), Ok(nr)) => Some(Suggested { ns, nr }),
+        _ => None,
+    }
+}
+
+/// Suggested Control Sequence.
+#[tactic(auto, unfolding(crate::specs::Reading::suggested_at))]
+fn suggested_of(avps: &[Avp]) -> Result<Option<Suggested>, MessageError>
+    ensures { result ≡ suggested_at avps.now }
+{
+    let Some(avp) = find_avp(avps, SUGGESTED_SEQUENCE) else {
+        return Ok(None);
+    };
+    match suggested_in(avp.value.as_slice()) {
+        None => Err(MessageError::BadValue {
+            attribute: SUGGESTED_SEQUENCE,
+        }),
+        suggested => Ok(suggested),
+    }
+}
+
+/// The Draw Number that a value is.
+fn draw_in(value: &[u8]) -> Option<u32>
+    ensures { result ≡ draw_value value.now }
+{
+    if value.len() != 4 {
+        return None;
+    }
+    take_u32(value, 0).ok()
+}
+
+/// Draw Number.
+#[tactic(auto, unfolding(crate::specs::Reading::draw_at))]
+fn draw_of(avps: &[Avp]) -> Result<Option<u32>, MessageError>
+    ensures { result ≡ draw_at avps.now }
+{
+    let Some(avp) = find_draw(avps) else {
+        return Ok(None);
+    };
+    match draw_in(avp.value.as_slice()) {
+        None => Err(MessageError::BadValue {
+            attribute: DRAW_NUMBER,
+        }),
+        draw => Ok(draw),
+    }
+}
+
 /// The Challenge Response that a value is.
 fn response_in(value: &[u8]) -> Option<[u8; 16]>
     ensures { result ≡ response_value value.now }
@@ -172,16 +228,18 @@ fn response_of(avps: &[Avp]) -> Result<Option<[u8; 16]>, MessageError>
     }
 }
 
-/// What the two ends tell each other as a tunnel is opened, with the response that is given and the recovery that is
-/// asked for.
+/// What the two ends tell each other as a tunnel is opened, with the response that is given, the recovery that is asked
+/// for, the numbers that are suggested, and the draw number.
 #[tactic(auto, unfolding(crate::specs::Reading::opening_at))]
 fn opening_of(
     alloc: Global,
     avps: &[Avp],
     response: Option<[u8; 16]>,
     recovery: Option<Recovery>,
+    suggested: Option<Suggested>,
+    attempt: Option<u32>,
 ) -> Result<Opening, MessageError>
-    ensures { Gives Told (λ o. o) result (opening_at avps.now response recovery) }
+    ensures { Gives Told (λ o. o) result (opening_at avps.now response recovery suggested attempt) }
 {
     let version = u16_of(avps, PROTOCOL_VERSION)?;
     let framing = u32_of(avps, FRAMING_CAPABILITIES)?;
@@ -201,6 +259,8 @@ fn opening_of(
         challenge,
         response,
         recovery,
+        suggested,
+        attempt,
     })
 }
 
@@ -333,12 +393,15 @@ fn message_of_kind(alloc: Global, kind: Kind, avps: &[Avp]) -> Result<Message, M
     match kind {
         Kind::Sccrq => {
             let recovery = recovery_of(avps)?;
-            let opening = opening_of(alloc, avps, None, recovery)?;
+            let attempt = draw_of(avps)?;
+            let opening = opening_of(alloc, avps, None, recovery, None, attempt)?;
             Ok(Message::Sccrq(opening))
         }
         Kind::Sccrp => {
             let response = response_of(avps)?;
-            let opening = opening_of(alloc, avps, response, None)?;
+            let suggested = suggested_of(avps)?;
+            let attempt = draw_of(avps)?;
+            let opening = opening_of(alloc, avps, response, None, suggested, attempt)?;
             Ok(Message::Sccrp(opening))
         }
         Kind::Scccn => {

@@ -7,15 +7,16 @@ ghost use Rattle.avp_codec.specs.Spelling.{spelling, spelling_of};
 ghost use Rattle.control_message.specs.declared.message.Message.{Message};
 ghost use Rattle.control_message.specs.declared.message.Message.TheVariants.{Scccn, StopCcn, Icrq, Cdn};
 ghost use Rattle.tunnel_secret.specs.Hiding.{hidden};
-ghost use Rattle.control_message.specs.Pairs.{pair, hidden_pair, pairs_of, opening_front, opening_pairs, failover_pairs, challenge_pairs, response_pairs, calling_pairs, result_code_bytes, IsWritten, padding_of, calling_pairs_with, pairs_with, IsWrittenWith};
+ghost use Rattle.control_message.specs.Pairs.{pair, hidden_pair, pairs_of, opening_front, opening_pairs, failover_pairs, recovery_pairs, suggested_pairs, draw_pairs, recovering_pairs, challenge_pairs, response_pairs, secret_pairs, told_pairs, calling_pairs, result_code_bytes, IsWritten, padding_of, calling_pairs_with, pairs_with, IsWrittenWith};
 
 use crate::attribute::{
     ASSIGNED_SESSION, ASSIGNED_TUNNEL, CALL_SERIAL_NUMBER, CALLING_NUMBER, CHALLENGE,
-    CHALLENGE_RESPONSE, CONNECT_SPEED, FAILOVER, FRAMING_CAPABILITIES, FRAMING_TYPE, HOST_NAME,
-    MESSAGE_TYPE, PROTOCOL_VERSION, RANDOM_VECTOR, RESULT_CODE, WINDOW,
+    CHALLENGE_RESPONSE, CONNECT_SPEED, DRAW_NUMBER, DRAW_VENDOR, FAILOVER, FRAMING_CAPABILITIES,
+    FRAMING_TYPE, HOST_NAME, MESSAGE_TYPE, PROTOCOL_VERSION, RANDOM_VECTOR, RECOVERY, RESULT_CODE,
+    SUGGESTED_SEQUENCE, WINDOW,
 };
 use crate::kind::{CDN, HELLO, ICCN, ICRP, ICRQ, SCCCN, SCCRP, SCCRQ, STOP_CCN};
-use crate::message::{Failover, Message, Opening};
+use crate::message::{Failover, Message, Opening, Recovery, Suggested};
 use avp_codec::{Avp, write_avp};
 use std::alloc::Global;
 use tunnel_secret::hide;
@@ -85,6 +86,64 @@ fn put_failover(out: &mut Bytes, failover: &Option<Failover>) -> Result<(), NoMe
     write_avp(out, &avp)
 }
 
+/// Appends Tunnel Recovery, where it is told.
+fn put_recovery(out: &mut Bytes, recovery: &Option<Recovery>) -> Result<(), NoMemory>
+    ensures { OnOk result (out.new ≡ out.old ++ spelling (recovery_pairs recovery.now)) }
+{
+    let Some(recovery) = recovery else {
+        return Ok(());
+    };
+    let mut value = Bytes::new(out.allocator());
+    put_u16(&mut value, 0)?;
+    put_u32(&mut value, recovery.sender)?;
+    put_u32(&mut value, recovery.receiver)?;
+    put_pair(out, RECOVERY, value)
+}
+
+/// Appends Suggested Control Sequence, where it is told.
+fn put_suggested(out: &mut Bytes, suggested: &Option<Suggested>) -> Result<(), NoMemory>
+    ensures { OnOk result (out.new ≡ out.old ++ spelling (suggested_pairs suggested.now)) }
+{
+    let Some(suggested) = suggested else {
+        return Ok(());
+    };
+    let mut value = Bytes::new(out.allocator());
+    put_u16(&mut value, 0)?;
+    put_u16(&mut value, suggested.ns)?;
+    put_u16(&mut value, suggested.nr)?;
+    put_pair(out, SUGGESTED_SEQUENCE, value)
+}
+
+/// Appends Draw Number, where it is told.
+fn put_draw(out: &mut Bytes, attempt: Option<u32>) -> Result<(), NoMemory>
+    ensures { OnOk result (out.new ≡ out.old ++ spelling (draw_pairs attempt)) }
+{
+    let Some(attempt) = attempt else {
+        return Ok(());
+    };
+    let mut value = Bytes::new(out.allocator());
+    put_u32(&mut value, attempt)?;
+    let avp = Avp {
+        mandatory: false,
+        hidden: false,
+        reserved: 0,
+        vendor: DRAW_VENDOR,
+        attribute: DRAW_NUMBER,
+        value,
+    };
+    write_avp(out, &avp)
+}
+
+/// Appends what a recovery tells.
+fn put_recovering(out: &mut Bytes, opening: &Opening) -> Result<(), NoMemory>
+    ensures { OnOk result (out.new ≡ out.old ++ spelling (recovering_pairs opening.now)) }
+{
+    put_recovery(out, &opening.recovery)?;
+    put_suggested(out, &opening.suggested)?;
+    put_draw(out, opening.attempt)?;
+    Ok(())
+}
+
 /// Appends Challenge, where it is told.
 fn put_challenge(out: &mut Bytes, challenge: &Option<Bytes>) -> Result<(), NoMemory>
     requires { ForSome challenge.now (λ v. length v ≤ 1017) }
@@ -106,15 +165,24 @@ fn put_response(out: &mut Bytes, response: &Option<[u8; 16]>) -> Result<(), NoMe
     }
 }
 
+/// Appends what an opening tells of secrets.
+fn put_secrets(out: &mut Bytes, opening: &Opening) -> Result<(), NoMemory>
+    requires { ForSome opening.now.challenge (λ v. length v ≤ 1017) }
+    ensures { OnOk result (out.new ≡ out.old ++ spelling (secret_pairs opening.now)) }
+{
+    put_challenge(out, &opening.challenge)?;
+    put_response(out, &opening.response)?;
+    Ok(())
+}
+
 /// Appends what an opening tells beside its numbers and its name.
 fn put_told(out: &mut Bytes, opening: &Opening) -> Result<(), NoMemory>
     requires { ForSome opening.now.challenge (λ v. length v ≤ 1017) }
-    ensures { OnOk result (out.new ≡ out.old ++ spelling (failover_pairs opening.now.failover ++
-        challenge_pairs opening.now.challenge ++ response_pairs opening.now.response)) }
+    ensures { OnOk result (out.new ≡ out.old ++ spelling (told_pairs opening.now)) }
 {
     put_failover(out, &opening.failover)?;
-    put_challenge(out, &opening.challenge)?;
-    put_response(out, &opening.response)?;
+    put_recovering(out, opening)?;
+    put_secrets(out, opening)?;
     Ok(())
 }
 
@@ -363,7 +431,7 @@ fn put_message_with(
 }
 
 /// Appends the one spelling of a message in written form: its pairs in the order of the table, each mandatory but for
-/// Failover Capability, and none padded. Where a vector of 16 random bytes is given, a secret is given too, and Calling
+/// Failover Capability and Draw Number, and none padded. Where a vector of 16 random bytes is given, a secret is given too, and Calling
 /// Number is hidden by both (RFC 2661 section 4.3): a Random Vector stands directly before it, and zeros fill its text to
 /// blocks of 16 bytes. Nothing else is hidden. Where memory is wanting, nothing is appended.
 pub fn write_message(

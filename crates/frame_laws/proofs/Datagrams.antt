@@ -13,7 +13,7 @@ use Rattle.avp_codec.specs.Spelling.{spelling}
 use Rattle.control_message.specs.declared.message.Message.{Message}
 use Rattle.control_message.specs.declared.message.Message.TheVariants.{Sccrq, Sccrp, Scccn, StopCcn, Hello, Ocrq, Ocrp, Occn, Icrq, Icrp, Iccn, Cdn, Wen, Sli}
 use Rattle.control_message.specs.declared.message.Read.TheVariants.{Known}
-use Rattle.control_message.specs.Pairs.{pairs_of, IsWritten}
+use Rattle.control_message.specs.Pairs.{pairs_of}
 use Rattle.control_message.specs.Reading.{message_of, kind_of_pairs}
 use Rattle.recv_window.specs.Window.{on_wire}
 use Rattle.tunnel_fsm.specs.declared.table.TunnelEvent.TheVariants as event
@@ -24,6 +24,7 @@ use Rattle.protocol_model.specs.Reading.{body_of, message_in, pairs_read, messag
 use Rattle.frame_laws.specs.Codecs.{Codecs}
 use Rattle.frame_laws.specs.Plain.{HidesOk, without_number, AreAlike, IsReadAs, AsAMessage, AsAFault, message_there, no_fault_there, no_tunnel_fault_there, zero_there, number_fault, no_message_there, fault_there, for_its_call, for_no_tunnel, stays_plain, letter_uncovered, frame_stays}
 use Rattle.frame_laws.specs.Past.{Passage}
+use Rattle.frame_laws.specs.Written.{IsWritten}
 use Rattle.frame_laws.proofs.Facts.{Nodes, ReadOk, BytesOk, WasSentInCall, NamesItsCall}
 
 -- a request with another number names the same call

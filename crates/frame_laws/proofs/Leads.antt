@@ -9,7 +9,6 @@ use Rattle.id_table.specs.Order.{ascends-put, found_put}
 use Rattle.l2tp_header.specs.declared.header.Header.{Header}
 use Rattle.l2tp_header.specs.Reading.{header_of}
 use Rattle.control_message.specs.declared.message.Message.{Message}
-use Rattle.control_message.specs.Pairs.{IsWritten}
 use Rattle.protocol_model.specs.declared.event.Event.{Event}
 use Rattle.protocol_model.specs.declared.event.Event.TheVariants.{Datagram, Ring, Frame, Admitted, Payload, Lower, Lcp, Hang, OpenTunnel, DropCall, CloseTunnel, Tick}
 use Rattle.protocol_model.specs.declared.tunnel.Call.{Call}
@@ -20,6 +19,7 @@ use Rattle.protocol_model.specs.Turn.{Tunnel}
 use Rattle.protocol_model.specs.End.{End}
 use Rattle.protocol_model.specs.World.{World, Node}
 use Rattle.step_laws.specs.Moves.{Hears}
+use Rattle.frame_laws.specs.Written.{IsWritten}
 use Rattle.frame_laws.proofs.Facts.{Nodes, Grows, NamesItsCall, names_later, CallOk, CallsOk, TunnelOk, tunnel_later, EndOk}
 use Rattle.frame_laws.proofs.Births.{Counted}
 

@@ -1,3 +1,4 @@
+pub mod Whole
 pub mod Facts
 pub mod Changes
 pub mod Births

@@ -15,7 +15,6 @@ use Rattle.id_table.specs.Order.{Ascends, ascends-empty, ascends-put, ascends-wi
 use Rattle.wire_base.specs.declared.letter.Letter.{Letter}
 use Rattle.control_message.specs.declared.message.Message.{Message}
 use Rattle.control_message.specs.declared.message.Message.TheVariants.{Sccrq, Sccrp, Scccn, StopCcn, Hello, Icrq, Icrp, Cdn}
-use Rattle.control_message.specs.Pairs.{IsWritten, IsWrittenOpening}
 use Rattle.call_fsm.specs.declared.table.CallEvent.TheVariants as call_event
 use Rattle.tunnel_fsm.specs.declared.table.TunnelState.TheVariants.{WaitCtlReply, WaitCtlConn, Established}
 use Rattle.control_channel.specs.Numbers.{count_acked, learnt_by}
@@ -57,6 +56,7 @@ use Rattle.step_laws.specs.Moves.{heard_from, Rejects, Asks, Responds, with_tunn
 use Rattle.step_laws.specs.Links.{begun_link}
 use Rattle.lcp_end.specs.Laws.{after as lcp_after}
 use Rattle.frame_laws.specs.Plain.{HidesOk, number_hides}
+use Rattle.frame_laws.specs.Written.{IsWritten, IsWrittenOpening}
 use Rattle.frame_laws.proofs.Facts.{Nodes, Born, Plays, Grows, same_nodes, Mates, swapped, NamesItsCall, KnowsItsMate, CallOk, call_later, CallsOk, LetterOk, LettersOk, letters_later, TunnelOk, tunnel_later, all_push, all_drop}
 use Rattle.frame_laws.proofs.Changes.{next_birth, some_birth, with_one, born_nodes, born_packets, born_count, made_count, made_nodes, made_packets, Changed, birth_is, plays_at, grows, Adds, NextBirth, SameBirth}
 use Rattle.frame_laws.proofs.Births.{not_lns, counted_after}
@@ -101,6 +101,8 @@ opening_written r c challenge response local lt some fits short sized =
       challenge = short;
       response = sized;
       recovery = refl;
+      suggested = refl;
+      attempt = refl;
     }
 
 request_written : ((who : List ℕ) → length (calling_number who) ≡ 12) → (s : ℕ) (who : List ℕ) → s < 65536 → IsWritten (request_of s who)

@@ -9,9 +9,10 @@ use Rattle.avp_codec.specs.Reading.{avps_of}
 use Rattle.control_message.specs.declared.message.Message.{Message}
 use Rattle.control_message.specs.declared.message.Read.TheVariants.{Known}
 use Rattle.control_message.specs.HiddenRequests.{HiddenRequestsAreRead}
-use Rattle.control_message.specs.Pairs.{pairs_of, IsWritten}
+use Rattle.control_message.specs.Pairs.{pairs_of}
 use Rattle.control_message.specs.Reading.{message_of}
 use Rattle.end_names.specs.Names.{calling_number}
+use Rattle.frame_laws.specs.Written.{IsWritten}
 
 -- what the codecs promise of what they write
 pub record Codecs : Type 0 where

@@ -8,7 +8,6 @@ use Rattle.l2tp_header.specs.declared.header.Header.{Header}
 use Rattle.l2tp_header.specs.Reading.{header_of}
 use Rattle.control_message.specs.declared.message.Message.{Message}
 use Rattle.control_message.specs.declared.message.Message.TheVariants.{Sccrq, Sccrp, Scccn, StopCcn, Hello, Ocrq, Ocrp, Occn, Icrq, Icrp, Iccn, Cdn, Wen, Sli}
-use Rattle.control_message.specs.Pairs.{IsWritten}
 use Rattle.protocol_model.specs.declared.tunnel.Call.{Call}
 use Rattle.end_names.specs.declared.role.Role.{Role}
 use Rattle.end_names.specs.declared.role.Role.TheVariants.{Lac, Lns}
@@ -32,6 +31,7 @@ use Rattle.protocol_model.specs.Run.{run}
 use Rattle.frame_laws.specs.Past.{Passage, past_of}
 use Rattle.frame_laws.specs.Plain.{HidesOk}
 use Rattle.frame_laws.specs.Frames.{other_end}
+use Rattle.frame_laws.specs.Written.{IsWritten}
 
 abbrev pub Nodes : Type 0
 Nodes = List (ℕ × Node)

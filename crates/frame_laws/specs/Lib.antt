@@ -1,3 +1,4 @@
+pub mod Written
 pub mod Codecs
 pub mod Plain
 pub mod Past

@@ -1,7 +1,7 @@
 -- What an end reads of what another one sends, whatever secret it reads it with: what isn't hidden is the same, and a request whose number
 -- is hidden is that request, with some number, or with one that can't be had.
-use Rattle.std.proofs.Common.{◌≡◌, ℕ, ◌^◌, ◌<◌, ◌≤◌, Bool, true, false, List, ◌++◌, length, refl, ap, ◌∙◌, Option, Some, None, Result, Ok, Err, arith}
-use Rattle.std.proofs.lemmas.Bool.{le-leb}
+use Rattle.std.proofs.Common.{◌≡◌, ℕ, ◌^◌, ◌<◌, ◌≤◌, Bool, true, false, List, [], ◌∷◌, ◌++◌, length, refl, ap, ◌∙◌, Option, Some, None, Result, Ok, Err, inl, inr, arith}
+use Rattle.std.proofs.lemmas.Bool.{cases_Bool, le-leb}
 use Rattle.wire_base.specs.declared.cause.Cause.TheVariants as cause
 use Rattle.wire_base.specs.declared.why.Why.TheVariants as why
 use Rattle.l2tp_header.specs.declared.header.Header.{Header}
@@ -14,11 +14,13 @@ use Rattle.control_message.specs.declared.message.Message.{Message}
 use Rattle.control_message.specs.declared.message.Message.TheVariants.{Sccrq, Sccrp, Scccn, StopCcn, Hello, Ocrq, Ocrp, Occn, Icrq, Icrp, Iccn, Cdn, Wen, Sli}
 use Rattle.control_message.specs.declared.message.Opening.{Opening}
 use Rattle.control_message.specs.declared.message.Failover.{Failover}
+use Rattle.control_message.specs.declared.message.Recovery.{Recovery}
+use Rattle.control_message.specs.declared.message.Suggested.{Suggested}
 use Rattle.control_message.specs.declared.message.MessageError.TheVariants.{BadValue}
 use Rattle.control_message.specs.declared.message.Read.TheVariants.{Known}
 use Rattle.control_message.specs.declared.kind.Kind.TheVariants as kind
 use Rattle.control_message.specs.HiddenRequests.{IsReadAnyway, WithANumber, WithoutANumber, hidden_pairs, ReadsAnyway}
-use Rattle.control_message.specs.Pairs.{pairs_of, opening_front, failover_pairs, challenge_pairs, response_pairs, IsWritten, IsWrittenWith}
+use Rattle.control_message.specs.Pairs.{pairs_of, failover_pairs, recovery_pairs, suggested_pairs, draw_pairs, recovering_pairs, challenge_pairs, response_pairs, secret_pairs, opening_pairs, IsWrittenWith}
 use Rattle.control_message.specs.Reading.{message_of, kind_of_pairs, plain_short}
 use Rattle.control_message.specs.Uncovering.{uncovered}
 use Rattle.protocol_model.specs.Secrets.{has_hidden, uncovered_pairs, uncovered_by, uncovered_datagram}
@@ -30,23 +32,54 @@ use Rattle.end_names.specs.Names.{calling_number}
 use Rattle.protocol_model.specs.Reading.{message_in, pairs_read, message_read, CallFault, call_fault_in, fault_of_pairs, tunnel_fault_in, tunnel_fault_of_pairs, at_zero, zero_pairs, zero_read}
 use Rattle.step_laws.specs.Hides.{HidesNumber, InPlain, ByVector}
 use Rattle.frame_laws.specs.Codecs.{Codecs}
+use Rattle.frame_laws.specs.Written.{IsWritten}
+
+-- two lists of which neither hides a value hide none
+both_plain : (v w : List Avp) → has_hidden v ≡ false → has_hidden w ≡ false → has_hidden (v ++ w) ≡ false
+both_plain [] w h k = k
+both_plain (a ∷ v) w h k =
+    elim (cases_Bool a.hidden) [
+      | inl t ↦ absurd (let h' : true ≡ false = rw t at h in cc)
+      | inr f ↦ rw f (both_plain v w (rw f at h) k)
+    ]
 
 -- what an opening tells, where it tells it, is plain
-opening_plain : (n : ℕ) (o : Opening) (f : Option Failover) (c r : Option (List ℕ))
-    → has_hidden (opening_front n o ++ failover_pairs f ++ challenge_pairs c ++ response_pairs r) ≡ false
-opening_plain n o None None None = refl
-opening_plain n o None None (Some r) = refl
-opening_plain n o None (Some c) None = refl
-opening_plain n o None (Some c) (Some r) = refl
-opening_plain n o (Some f) None None = refl
-opening_plain n o (Some f) None (Some r) = refl
-opening_plain n o (Some f) (Some c) None = refl
-opening_plain n o (Some f) (Some c) (Some r) = refl
+failover_plain : (f : Option Failover) → has_hidden (failover_pairs f) ≡ false
+failover_plain None = refl
+failover_plain (Some f) = refl
+
+recovery_plain : (r : Option Recovery) → has_hidden (recovery_pairs r) ≡ false
+recovery_plain None = refl
+recovery_plain (Some r) = refl
+
+suggested_plain : (s : Option Suggested) → has_hidden (suggested_pairs s) ≡ false
+suggested_plain None = refl
+suggested_plain (Some s) = refl
+
+draw_plain : (d : Option ℕ) → has_hidden (draw_pairs d) ≡ false
+draw_plain None = refl
+draw_plain (Some x) = refl
+
+challenge_plain : (c : Option (List ℕ)) → has_hidden (challenge_pairs c) ≡ false
+challenge_plain None = refl
+challenge_plain (Some v) = refl
+
+response_plain : (r : Option (List ℕ)) → has_hidden (response_pairs r) ≡ false
+response_plain None = refl
+response_plain (Some v) = refl
+
+opening_plain : (number : ℕ) (o : Opening) → has_hidden (opening_pairs number o) ≡ false
+opening_plain number o =
+    let two = both_plain (recovery_pairs o.recovery) (suggested_pairs o.suggested) (recovery_plain o.recovery) (suggested_plain o.suggested) in
+    let recovering = both_plain (recovery_pairs o.recovery ++ suggested_pairs o.suggested) (draw_pairs o.attempt) two (draw_plain o.attempt) in
+    let secrets = both_plain (challenge_pairs o.challenge) (response_pairs o.response) (challenge_plain o.challenge) (response_plain o.response) in
+    let both = both_plain (failover_pairs o.failover) (recovering_pairs o) (failover_plain o.failover) recovering in
+    both_plain (failover_pairs o.failover ++ recovering_pairs o) (secret_pairs o) both secrets
 
 -- no pair of a message that is written without a vector is hidden
 pub hides_nothing : (m : Message) → has_hidden (pairs_of m) ≡ false
-hides_nothing (Sccrq o) = opening_plain 1 o o.failover o.challenge o.response
-hides_nothing (Sccrp o) = opening_plain 2 o o.failover o.challenge o.response
+hides_nothing (Sccrq o) = opening_plain 1 o
+hides_nothing (Sccrp o) = opening_plain 2 o
 hides_nothing (Scccn None) = refl
 hides_nothing (Scccn (Some r)) = refl
 hides_nothing (StopCcn tunnel code error) = refl

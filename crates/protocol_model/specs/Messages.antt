@@ -26,6 +26,8 @@ opening_of role c challenge response local = record {
   challenge = challenge;
   response = response;
   recovery = None;
+  suggested = None;
+  attempt = None;
 }
 
 -- the request for a call of a LAC: its session id is its serial number too

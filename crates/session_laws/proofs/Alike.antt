@@ -2,8 +2,8 @@
 use Rattle.std.proofs.Common.{◌≡◌, ℕ, ◌^◌, ◌<◌, refl, sym, ap, ◌∙◌}
 use Rattle.control_message.specs.declared.message.Message.{Message}
 use Rattle.control_message.specs.declared.message.Message.TheVariants.{Sccrq, Sccrp, Scccn, StopCcn, Hello, Ocrq, Ocrp, Occn, Icrq, Icrp, Iccn, Cdn, Wen, Sli}
-use Rattle.control_message.specs.Pairs.{IsWritten}
 use Rattle.frame_laws.specs.Plain.{without_number, AreAlike}
+use Rattle.frame_laws.specs.Written.{IsWritten}
 use Rattle.connection_laws.specs.Accounts.{Account}
 use Rattle.connection_laws.proofs.Alike.{of_all, carried, alike_back}
 use Rattle.session_laws.specs.Names.{spoken}

@@ -6,7 +6,6 @@ use Rattle.id_table.specs.Ids.{at}
 use Rattle.id_table.specs.Order.{same_or_not}
 use Rattle.control_message.specs.declared.message.Message.{Message}
 use Rattle.control_message.specs.declared.message.Message.TheVariants as message
-use Rattle.control_message.specs.Pairs.{IsWritten}
 use Rattle.tunnel_fsm.specs.declared.table.TunnelState.{TunnelState}
 use Rattle.tunnel_fsm.specs.declared.table.TunnelState.TheVariants as tunnel
 use Rattle.tunnel_fsm.specs.Rows.{state_number}
@@ -19,6 +18,7 @@ use Rattle.protocol_model.specs.Turn.{Tunnel, counts_taken, session_named, is_cl
 use Rattle.protocol_model.specs.End.{End}
 use Rattle.protocol_model.specs.World.{Sender, Deed}
 use Rattle.step_laws.specs.Moves.{IsPlain}
+use Rattle.frame_laws.specs.Written.{IsWritten}
 use Rattle.epoch_machine.specs.Letters.{Letter, Sccrq, Sccrp, Scccn, Hello, Request, Reply, Connect, Cdn}
 use Rattle.epoch_machine.specs.Tunnels.{is_open, is_wait_reply, is_wait_connect}
 use Rattle.epoch_machine.specs.Calls.{Calls, CallState, NoCall, Waits, waits_reply, waits_connect, ends, is_named}

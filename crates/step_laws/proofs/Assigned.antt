@@ -8,18 +8,19 @@ use Rattle.avp_codec.specs.declared.avp.Avp.{Avp}
 use Rattle.control_message.specs.declared.kind.Kind.{Kind}
 use Rattle.control_message.specs.declared.kind.Kind.TheVariants as kind
 use Rattle.control_message.specs.declared.kind.Shape.{Shape}
-use Rattle.control_message.specs.declared.kind.Shape.TheVariants.{Nonzero}
+use Rattle.control_message.specs.declared.kind.Shape.TheVariants.{Nonzero, Long}
 use Rattle.control_message.specs.declared.message.Message.{Message}
 use Rattle.control_message.specs.declared.message.Message.TheVariants.{Sccrq, Sccrp}
 use Rattle.control_message.specs.declared.message.Opening.{Opening}
 use Rattle.control_message.specs.declared.message.Recovery.{Recovery}
+use Rattle.control_message.specs.declared.message.Suggested.{Suggested}
 use Rattle.control_message.specs.declared.message.Failover.{Failover}
 use Rattle.control_message.specs.declared.message.Read.{Read}
 use Rattle.control_message.specs.declared.message.Read.TheVariants.{Known, Ignored}
 use Rattle.control_message.specs.declared.message.MessageError.{MessageError}
 use Rattle.control_message.specs.declared.message.MessageError.TheVariants.{NoType, UnknownType, HiddenWithoutVector, BadValue}
-use Rattle.control_message.specs.Table.{kind_of, shape_of, fits}
-use Rattle.control_message.specs.Reading.{response_at, is_listed, is_recognised, is_at, first, has_vector, checked_value, checked_use, checked, checked_all, value_in, value_at, number_in, u16_at, u32_at, window_in, window_at, failover_value, failover_read, failover_in, failover_at, recovery_value, recovery_read, recovery_in, recovery_at, opening_at, icrq_at, icrp_at, iccn_at, result_code_at, stop_ccn_at, ocrq_at, cdn_at, wen_at, sli_at, of_kind, type_number, kind_told, kind_of_pairs, of_type, with_type, message_of}
+use Rattle.control_message.specs.Table.{kind_of, shape_of, uses_draw, fits}
+use Rattle.control_message.specs.Reading.{response_at, suggested_at, draw_value, draw_read, draw_in, draw_at, is_listed, is_recognised, is_at, first, first_draw, has_vector, checked_value, checked_use, checked_draw, checked, checked_all, value_in, value_at, number_in, u16_at, u32_at, window_in, window_at, failover_value, failover_read, failover_in, failover_at, recovery_value, recovery_read, recovery_in, recovery_at, opening_at, icrq_at, icrp_at, iccn_at, result_code_at, stop_ccn_at, ocrq_at, cdn_at, wen_at, sli_at, of_kind, type_number, kind_told, kind_of_pairs, of_type, with_type, message_of}
 use Rattle.step_laws.proofs.Lists.{branch, and_left, and_right}
 
 -- ---- a reading in steps
@@ -130,9 +131,10 @@ module _ (k : Kind) (shape : shape_of k 9 ≡ Some Nonzero) where
             let fit = subst (λ (x : List ℕ). fits Nonzero x ≡ true) same (first_fits [] avps u refl checks a is) in
             not_zero (length value == 2) _ n number fit zero
 
-    opening_some : (response : Option (List ℕ)) (recovery : Option Recovery) (o : Opening) → opening_at avps response recovery ≡ Ok o → o.tunnel ≡ 0 → ⊥
+    opening_some : (response : Option (List ℕ)) (recovery : Option Recovery) (suggested : Option Suggested) (attempt : Option ℕ) (o : Opening)
+        → opening_at avps response recovery suggested attempt ≡ Ok o → o.tunnel ≡ 0 → ⊥
     unfolding opening_at
-    opening_some response recovery o h zero =
+    opening_some response recovery suggested attempt o h zero =
         let a = bound (u16_at 2 avps) _ o h in
         let b = bound (u32_at 3 avps) _ o a.then in
         let c = bound (value_at 7 avps) _ o b.then in
@@ -158,10 +160,13 @@ module _ (avps : List Avp) where
   unfolding response_at stop_ccn_at icrq_at icrp_at iccn_at ocrq_at cdn_at wen_at sli_at
   kind_assigns kind.Sccrq u checks =
       gives_after AssignsSome (recovery_at avps) _
-      (λ r is. gives_after AssignsSome (opening_at avps None r) _ (λ o made. opening_some kind.Sccrq refl avps u checks None r o made))
+      (λ r is. gives_after AssignsSome (draw_at avps) _
+      (λ d drawn. gives_after AssignsSome (opening_at avps None r None d) _ (λ o made. opening_some kind.Sccrq refl avps u checks None r None d o made)))
   kind_assigns kind.Sccrp u checks =
       gives_after AssignsSome (response_at avps) _
-      (λ r is. gives_after AssignsSome (opening_at avps r None) _ (λ o made. opening_some kind.Sccrp refl avps u checks r None o made))
+      (λ r is. gives_after AssignsSome (suggested_at avps) _
+      (λ s told. gives_after AssignsSome (draw_at avps) _
+      (λ d drawn. gives_after AssignsSome (opening_at avps r None s d) _ (λ o made. opening_some kind.Sccrp refl avps u checks r None s d o made))))
   kind_assigns kind.Scccn u checks = gives_after AssignsSome (response_at avps) _ (λ r is. tt)
   kind_assigns kind.StopCcn u checks =
       gives_after AssignsSome (result_code_at avps) _ (λ code is. gives_after AssignsSome (u16_at 9 avps) _ (λ tunnel at_. tt))
@@ -221,11 +226,15 @@ use_fails : (o : Option Shape) (before : List Avp) (a : Avp) → FailsInside (ch
 use_fails None before a = tt
 use_fails (Some s) before a = branch FailsInside (is_some (first a.attribute before)) _ _ (λ again. tt) (λ alone. value_fails s (has_vector before) a)
 
+draw_fails : (used : Bool) (before : List Avp) (a : Avp) → FailsInside (checked_draw used before a)
+draw_fails false before a = tt
+draw_fails true before a = branch FailsInside (is_some (first_draw before)) _ _ (λ again. tt) (λ alone. value_fails Long (has_vector before) a)
+
 pair_fails : (k : Kind) (before : List Avp) (a : Avp) → FailsInside (checked k before a)
 unfolding checked
 pair_fails k before a =
     branch FailsInside (is_recognised a) _ _
-    (λ known. branch FailsInside (a.vendor == 0) _ _ (λ ietf. use_fails (shape_of k a.attribute) before a) (λ other. tt))
+    (λ known. branch FailsInside (a.vendor == 0) _ _ (λ ietf. use_fails (shape_of k a.attribute) before a) (λ other. draw_fails (uses_draw k) before a))
     (λ unknown. branch FailsInside a.mandatory _ _ (λ must. tt) (λ may. tt))
 
 all_fail : (k : Kind) (before rest : List Avp) → FailsInside (checked_all k before rest)
@@ -259,6 +268,14 @@ recovery_fails : (o : Option Avp) → FailsInside (recovery_in o)
 recovery_fails None = tt
 recovery_fails (Some a) = recovery_read_fails (recovery_value a.value)
 
+draw_read_fails : (o : Option ℕ) → FailsInside (draw_read o)
+draw_read_fails None = tt
+draw_read_fails (Some x) = tt
+
+drawn_fails : (o : Option Avp) → FailsInside (draw_in o)
+drawn_fails None = tt
+drawn_fails (Some a) = draw_read_fails (draw_value a.value)
+
 module _ (avps : List Avp) where
   short_fails : (n : ℕ) → FailsInside (u16_at n avps)
   unfolding u16_at
@@ -268,9 +285,9 @@ module _ (avps : List Avp) where
   unfolding u32_at
   long_fails n = fails_after IsInner (value_at n avps) _ (value_at_fails n (first n avps)) (λ v. number_fails 4 n v)
 
-  opening_fails : (response : Option (List ℕ)) (r : Option Recovery) → FailsInside (opening_at avps response r)
+  opening_fails : (response : Option (List ℕ)) (r : Option Recovery) (s : Option Suggested) (d : Option ℕ) → FailsInside (opening_at avps response r s d)
   unfolding opening_at window_at failover_at
-  opening_fails response r =
+  opening_fails response r s d =
       fails_after IsInner (u16_at 2 avps) _ (short_fails 2)
       (λ version. fails_after IsInner (u32_at 3 avps) _ (long_fails 3)
       (λ framing. fails_after IsInner (value_at 7 avps) _ (value_at_fails 7 (first 7 avps))
@@ -280,10 +297,11 @@ module _ (avps : List Avp) where
 
   -- an SCCRQ
   sccrq_fails : FailsInside (of_kind kind.Sccrq avps)
-  unfolding recovery_at
+  unfolding recovery_at draw_at
   sccrq_fails =
       fails_after IsInner (recovery_at avps) _ (recovery_fails (first 77 avps))
-      (λ r. fails_after IsInner (opening_at avps None r) _ (opening_fails None r) (λ o. tt))
+      (λ r. fails_after IsInner (draw_at avps) _ (drawn_fails (first_draw avps))
+      (λ d. fails_after IsInner (opening_at avps None r None d) _ (opening_fails None r None d) (λ o. tt)))
 
   known_fails : (n : ℕ) (mandatory : Bool) → FailsInside (of_type n mandatory (Some kind.Sccrq) avps)
   known_fails n mandatory =

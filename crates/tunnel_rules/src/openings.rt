@@ -58,5 +58,7 @@ pub fn opening_of(
         challenge: bytes_of(alloc, challenge)?,
         response,
         recovery: None,
+        suggested: None,
+        attempt: None,
     })
 }

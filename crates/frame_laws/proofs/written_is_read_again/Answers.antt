@@ -1,3 +1,4 @@
+use Rattle.frame_laws.proofs.Whole.{whole}
 use Rattle.frame_laws.proofs.written_is_read_again.Goals as goal
 
 pub returns : goal.returns
@@ -6,8 +7,8 @@ returns c =
       control = c.reads_what_was_written.ensures.control;
       frame = c.reads_what_was_written.ensures.data_message;
       pairs = c.reads_what_was_written-2.ensures;
-      message = c.reads_what_was_written-3.ensures;
-      room = c.has_room.ensures;
+      message = λ m w. c.reads_what_was_written-3.ensures m (whole m w);
+      room = λ m w. c.has_room.ensures m (whole m w);
       hidden = c.hidden_requests_are_read.ensures;
       digits = c.twelve_digits.ensures;
     }

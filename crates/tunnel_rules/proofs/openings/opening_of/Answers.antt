@@ -13,5 +13,7 @@ returns-clause-written c = record {
   failover = (omega arith, omega arith);
   challenge = c.in_ok-bytes_of.ensures.sized;
   response = search rules;
-  recovery = refl;
+  recovery = tt;
+  suggested = tt;
+  attempt = tt;
 }

@@ -10,4 +10,4 @@ returns c = λ before h.
       | then-is_at w ↦ marked c.args.self.now c.if-is_at.self before pair h (sym c.is_at.ensures ∙ w.if-is_at.true) (w.self-is ∙ w.mark.ensures)
       | else-is_at w ↦ kept c.args.self.now c.if-is_at.self before pair h (sym c.is_at.ensures ∙ w.if-is_at.false) w.self-is
     ] in
-    added c.if-is_at.self before pair c.is_vector.result c.is_vector.ensures seen
+    added c.if-is_at.self before pair c.is_draw.result c.is_vector.result c.is_draw.ensures c.is_vector.ensures seen

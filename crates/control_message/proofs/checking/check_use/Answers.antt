@@ -1,11 +1,10 @@
 use Rattle.std.proofs.Common.{◌≡◌, true, false, Some, is_some, rules, sym, ◌∙◌}
 use Rattle.control_message.specs.Table.{shape_of}
-use Rattle.control_message.specs.Reading.{first, checked}
+use Rattle.control_message.specs.Reading.{first}
 use Rattle.control_message.proofs.Walk.{used_below}
-use Rattle.control_message.proofs.checking.check_avp.Goals as goal
+use Rattle.control_message.proofs.checking.check_use.Goals as goal
 
 pub returns-in-Some : goal.returns-in-Some
-unfolding checked
 returns-in-Some c = λ before h.
     let shape : shape_of c.args.kind c.args.avp.now.attribute ≡ Some c.in-Some.field-0 = sym c.shape.ensures ∙ c.in-Some.is in
     let below = used_below c.args.kind c.args.avp.now.attribute c.in-Some.field-0 shape in
@@ -13,7 +12,6 @@ returns-in-Some c = λ before h.
     search rules
 
 pub returns-in-Some-2 : goal.returns-in-Some-2
-unfolding checked
 returns-in-Some-2 c = λ before h.
     let shape : shape_of c.args.kind c.args.avp.now.attribute ≡ Some c.in-Some.field-0 = sym c.shape.ensures ∙ c.in-Some.is in
     let below = used_below c.args.kind c.args.avp.now.attribute c.in-Some.field-0 shape in

@@ -1,0 +1,29 @@
+-- What ends write is written by the codec's rules.
+use Rattle.control_message.specs.declared.message.Message.{Message}
+use Rattle.control_message.specs.declared.message.Message.TheVariants.{Sccrq, Sccrp}
+use Rattle.control_message.specs.declared.message.Opening.{Opening}
+use Rattle.control_message.specs.Pairs as codec
+use Rattle.frame_laws.specs.Written.{IsWrittenOpening, IsWritten}
+
+whole_opening : (o : Opening) → IsWrittenOpening o → codec.IsWrittenOpening o
+whole_opening o w =
+    record {
+      version = w.version;
+      framing = w.framing;
+      name = w.name;
+      tunnel = w.tunnel;
+      tunnel_not_zero = w.tunnel_not_zero;
+      window = w.window;
+      window_not_zero = w.window_not_zero;
+      failover = w.failover;
+      challenge = w.challenge;
+      response = w.response;
+      recovery = rw w.recovery tt;
+      suggested = rw w.suggested tt;
+      attempt = rw w.attempt tt;
+    }
+
+pub whole : (m : Message) → IsWritten m → codec.IsWritten m
+whole (Sccrq o) w = (whole_opening o w.0, w.1, w.0.suggested)
+whole (Sccrp o) w = (whole_opening o w, w.recovery)
+whole m w = w
