@@ -1,0 +1,4 @@
+pub mod Link
+pub mod Frames
+pub mod Turns
+pub mod Laws
