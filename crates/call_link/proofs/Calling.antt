@@ -1,5 +1,5 @@
 -- A call of a link, by cases: it is something to its LCP end, or nothing comes of it.
-use Rattle.std.proofs.Common.{◌≡◌, Bool, true, false, not, ◌&&◌, ◌||◌, if◌then◌else◌, List, refl}
+use Rattle.std.proofs.Common.{◌≡◌, Bool, true, false, not, ◌&&◌, ◌||◌, if◌then◌else◌, refl}
 use Rattle.call_link.specs.declared.env.LinkEnv.{LinkEnv}
 use Rattle.call_link.specs.declared.turn.LinkTurn.{LinkTurn}
 use Rattle.call_link.specs.Link.{Link}

@@ -1,13 +1,12 @@
 -- How a link ends, and what is left of it then.
-use Rattle.std.proofs.Common.{◌≡◌, Bool, true, false, not, ◌&&◌, ◌||◌, List, [], ◌∷◌, map, Option, Some, None, is_some, unwrap_or, refl, sym, ◌∙◌, ap}
+use Rattle.std.proofs.Common.{◌≡◌, Bool, true, false, not, ◌&&◌, ◌||◌, List, [], ◌∷◌, map, Some, is_some, unwrap_or, refl, sym, ap}
 use Rattle.wire_base.specs.declared.cause.Cause.{Cause}
 use Rattle.wire_base.specs.declared.cause.Cause.TheVariants as cause
 use Rattle.call_link.specs.declared.env.LinkEnv.{LinkEnv}
-use Rattle.call_link.specs.declared.turn.LinkTurn.{LinkTurn}
 use Rattle.call_link.specs.Link.{Link}
 use Rattle.call_link.specs.Frames.{lcp_frame}
 use Rattle.call_link.specs.Turns.{LinkCall, Opens, Ticks, Hears, is_called, lcp_turn, end_by, still, linked}
-use Rattle.call_link.specs.Laws.{LinkStep, turn_at, AreStill, EndsForGood, EachEndsForGood, EndsByLcp, EachEndsByLcp, EachEndIsTold}
+use Rattle.call_link.specs.Laws.{LinkStep, turn_at, AreStill, EachEndsForGood, EndsByLcp, EachEndsByLcp, EachEndIsTold}
 use Rattle.call_link.proofs.Calling.{by_called, not_over, or_false}
 use Rattle.call_link.proofs.Silence.{turn_end}
 

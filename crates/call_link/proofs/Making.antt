@@ -1,10 +1,8 @@
 -- The frames of a link are packets of its LCP end.
-use Rattle.std.proofs.Common.{◌≡◌, ℕ, zero, suc, ◌<◌, Bool, true, List, [], ◌∷◌, length, map, slice_index_or, Contains, refl, sym, ◌∙◌, ap, subst, arith}
+use Rattle.std.proofs.Common.{◌≡◌, ℕ, zero, suc, ◌<◌, true, List, [], ◌∷◌, length, map, slice_index_or, Contains, refl, sym, ◌∙◌, ap, subst, arith}
 use Rattle.std.specs.List.{AllByRecursion}
-use Rattle.lcp_wire.specs.declared.packet.Lcp.{Lcp}
 use Rattle.lcp_wire.specs.Spelling.{packet_bytes}
 use Rattle.call_link.specs.declared.env.LinkEnv.{LinkEnv}
-use Rattle.call_link.specs.declared.turn.LinkTurn.{LinkTurn}
 use Rattle.call_link.specs.Link.{Link}
 use Rattle.call_link.specs.Frames.{is_for_link, lcp_frame}
 use Rattle.call_link.specs.Turns.{LinkCall, lcp_turn}

@@ -1,9 +1,7 @@
 -- The network opens once.
-use Rattle.std.proofs.Common.{◌≡◌, ℕ, ◌+◌, Bool, true, false, not, ◌&&◌, ◌||◌, if◌then◌else◌, List, [], ◌∷◌, refl}
-use Rattle.call_link.specs.declared.env.LinkEnv.{LinkEnv}
-use Rattle.call_link.specs.Link.{Link}
-use Rattle.call_link.specs.Turns.{LinkCall, lcp_turn, linked}
-use Rattle.call_link.specs.Laws.{LinkStep, turn_at, openings, last, TellsOpening, EachTellsOpening, OpensOnce, EachOpensOnce}
+use Rattle.std.proofs.Common.{◌≡◌, ℕ, ◌+◌, Bool, true, false, not, ◌&&◌, ◌||◌, if◌then◌else◌, [], ◌∷◌, refl}
+use Rattle.call_link.specs.Turns.{lcp_turn}
+use Rattle.call_link.specs.Laws.{turn_at, openings, last, TellsOpening, EachTellsOpening, EachOpensOnce}
 use Rattle.call_link.proofs.Calling.{by_called}
 
 -- frames of the network pass or don't, and LCP comes up or doesn't

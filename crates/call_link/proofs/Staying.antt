@@ -1,13 +1,13 @@
 -- What changes nothing of a link.
-use Rattle.std.proofs.Common.{◌≡◌, ℕ, Bool, true, false, not, ◌&&◌, ◌||◌, if◌then◌else◌, List, [], None, refl, sym, ◌∙◌, ap}
+use Rattle.std.proofs.Common.{◌≡◌, ℕ, Bool, true, false, not, ◌&&◌, List, refl, sym, ◌∙◌, ap}
 use Rattle.lcp_end.specs.declared.state.EndState.{EndState}
 use Rattle.lcp_end.specs.Steps.{begun, ticked, is_due as is_lcp_due}
 use Rattle.call_link.specs.declared.env.LinkEnv.{LinkEnv}
 use Rattle.call_link.specs.declared.turn.LinkTurn.{LinkTurn}
 use Rattle.call_link.specs.Link.{Link, is_due}
 use Rattle.call_link.specs.Frames.{is_for_link}
-use Rattle.call_link.specs.Turns.{Opens, Ticks, Hears, turned, still, linked}
-use Rattle.call_link.specs.Laws.{StaysAsItWas, EachStaysAsItWas}
+use Rattle.call_link.specs.Turns.{Ticks, Hears, turned, still, linked}
+use Rattle.call_link.specs.Laws.{EachStaysAsItWas}
 use Rattle.call_link.proofs.Calling.{by_called, not_over, or_false, and_false}
 
 foreign : (e : LinkEnv) (l : Link) (frame : List ℕ) → is_for_link frame ≡ false → linked e (Hears frame) l ≡ still l

@@ -1,10 +1,9 @@
 -- What a link gives tells whether LCP is open.
-use Rattle.std.proofs.Common.{◌≡◌, Bool, true, false, not, ◌&&◌, ◌||◌, drop, sym}
+use Rattle.std.proofs.Common.{drop, sym}
 use Rattle.lcp_end.specs.declared.state.EndState.{EndState}
 use Rattle.lcp_end.specs.Steps.{is_opened}
 use Rattle.lcp_end.specs.Laws.{OpenLink, OnTick, OnPacket, TellsOpen, EachTellsOpen}
 use Rattle.call_link.specs.declared.env.LinkEnv.{LinkEnv}
-use Rattle.call_link.specs.Link.{Link}
 use Rattle.call_link.specs.Turns.{LinkCall, Opens, Ticks, Hears, lcp_turn}
 use Rattle.call_link.specs.Laws.{TellsLcp, EachTellsLcp}
 use Rattle.call_link.proofs.Calling.{by_called, and_true}
