@@ -1,7 +1,6 @@
 -- The book of an end: the fold of its checkpoint's records, in order.
-use Rattle.std.specs.Prelude.{◌≡◌, ℕ, ◌+◌, ◌≤◌, ◌==◌, nat_lt, nat_le, ◌&&◌, not, Bool, false, List, [], ◌∷◌, ◌++◌, length, map, filter, insert, slice_get, Option, Some, None, is_some, Result, Ok, Err, if◌then◌else◌}
+use Rattle.std.specs.Prelude.{◌≡◌, ℕ, ◌+◌, ◌<◌, ◌≤◌, ◌==◌, nat_lt, nat_le, ◌&&◌, not, Bool, false, List, [], ◌∷◌, ◌++◌, length, map, filter, insert, AllPairs, slice_get, Option, Some, None, is_some, Result, Ok, Err, if◌then◌else◌}
 use Rattle.std.specs.List.{prefix_len}
-use Rattle.std.specs.List.Sorted.{IsNonDecreasingBy}
 use Rattle.session_book.specs.declared.record.BookTunnel.{BookTunnel}
 use Rattle.session_book.specs.declared.record.BookCall.{BookCall}
 use Rattle.session_book.specs.declared.record.Record.{Record}
@@ -30,6 +29,10 @@ pub record Held : Type 0 where
 -- ---- lists in the order of their ids
 
 module _ {X : Type 0} (id_of : X → ℕ) where
+  -- each id is below those after it, so none stands twice
+  abbrev pub AreRising : List X → Type 0
+  AreRising entries = AllPairs (λ x y. id_of x < id_of y) entries
+
   -- how many come before an id
   abbrev pub place : ℕ → List X → ℕ
   place id entries = prefix_len (λ e. nat_lt (id_of e) id) entries
@@ -157,8 +160,8 @@ book_of contents = folded nothing_kept 0 contents
 pub record IsSound (tunnels : List BookTunnel) (calls : List BookCall) (spare tunnel_capacity call_capacity : ℕ) : Type 0 where
   pub for_tunnels : length tunnels + spare ≤ tunnel_capacity
   pub for_calls : length calls + spare ≤ call_capacity
-  pub tunnels_in_order : IsNonDecreasingBy (λ t. t.local) tunnels
-  pub calls_in_order : IsNonDecreasingBy (λ c. c.local) calls
+  pub tunnels_in_order : AreRising (λ t. t.local) tunnels
+  pub calls_in_order : AreRising (λ c. c.local) calls
 
 -- the answer for one content more, where those before it make a book
 abbrev pub one_more : Kept → ℕ → List ℕ → Result Kept BookError

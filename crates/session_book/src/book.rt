@@ -2,9 +2,9 @@
 
 ghost use Rattle.std.specs.Prelude.{◌≡◌, ◌+◌, ◌<◌, ◌≤◌, nat_lt, ltb, true, false, is_some, max, length, OnOk, OnErr};
 ghost use Rattle.std.specs.Vec.{vec_capacity, vec_len};
-ghost use Rattle.std.specs.List.Sorted.{IsNonDecreasingBy, IsPartitionPoint};
+ghost use Rattle.std.specs.List.Sorted.{IsPartitionPoint};
 ghost use Rattle.wire_base.specs.Answers.{Gives};
-ghost use Rattle.session_book.specs.Books.{nothing_kept, place, put, calls_of, ceiling, last, is_free, tunnel_at, call_at, tunnel_fits, call_fits, fits, raised, stepped, mark_on, marked, tunnels_without, calls_without, calls_not_of, is_in_place, after_content, book_of};
+ghost use Rattle.session_book.specs.Books.{AreRising, nothing_kept, place, entry, put, calls_of, ceiling, last, is_free, tunnel_at, call_at, tunnel_fits, call_fits, fits, raised, stepped, mark_on, marked, tunnels_without, calls_without, calls_not_of, is_in_place, after_content, book_of};
 ghost use Rattle.session_book.specs.Told.{Told};
 
 use crate::record::{BookCall, BookTunnel, KeptCalls, KeptTunnels, Record, read_record};
@@ -118,18 +118,18 @@ impl Book {
         self.spare
     }
 
-    /// The tunnels that are established.
+    /// The tunnels that are established, by rising ids.
     pub fn tunnels(&self) -> &KeptTunnels
         ensures tunnels { result.now.items ≡ self.now.kept.tunnels }
-        ensures in_order { IsNonDecreasingBy (λ t. t.local) result.now.items }
+        ensures in_order { AreRising (λ t. t.local) result.now.items }
     {
         &self.tunnels
     }
 
-    /// The calls that are established.
+    /// The calls that are established, by rising ids.
     pub fn calls(&self) -> &KeptCalls
         ensures calls { result.now.items ≡ self.now.kept.calls }
-        ensures in_order { IsNonDecreasingBy (λ c. c.local) result.now.items }
+        ensures in_order { AreRising (λ c. c.local) result.now.items }
     {
         &self.calls
     }
@@ -237,9 +237,10 @@ impl Book {
         }
     }
 
-    // Takes a record in.
+    // Takes a record in that is in place.
     fn take(&mut self, next: Record)
-        requires { 0 < self.old.spare }
+        requires spare { 0 < self.old.spare }
+        requires fits { fits self.old.kept next ≡ true }
         ensures kept { self.new.kept ≡ stepped self.old.kept next }
         ensures spare { self.new.spare + 1 ≡ self.old.spare }
     {
@@ -299,7 +300,7 @@ fn is_free(id: u16, ceiling: u32, taken: bool) -> bool
 
 // How many tunnels come before an id.
 fn tunnel_place(tunnels: &[BookTunnel], local: u16) -> usize
-    requires { IsNonDecreasingBy (λ t. t.local) tunnels.now }
+    requires { AreRising (λ t. t.local) tunnels.now }
     ensures place { result ≡ place (λ t. t.local) local tunnels.now }
     ensures within { result ≤ length tunnels.now }
     ensures parted { IsPartitionPoint (λ t. ltb t.local local ≡ true) (λ t. ltb t.local local ≡ false) tunnels.now result }
@@ -309,7 +310,7 @@ fn tunnel_place(tunnels: &[BookTunnel], local: u16) -> usize
 
 // How many calls come before an id.
 fn call_place(calls: &[BookCall], local: u16) -> usize
-    requires { IsNonDecreasingBy (λ c. c.local) calls.now }
+    requires { AreRising (λ c. c.local) calls.now }
     ensures place { result ≡ place (λ c. c.local) local calls.now }
     ensures within { result ≤ length calls.now }
     ensures parted { IsPartitionPoint (λ c. ltb c.local local ≡ true) (λ c. ltb c.local local ≡ false) calls.now result }
@@ -326,9 +327,10 @@ fn count_calls(calls: &[BookCall], tunnel: u16) -> usize
 
 fn put_tunnel(tunnels: &mut Vec<BookTunnel>, tunnel: BookTunnel)
     requires room { vec_len tunnels.old < vec_capacity tunnels.old }
-    requires in_order { IsNonDecreasingBy (λ t. t.local) tunnels.old.items }
+    requires in_order { AreRising (λ t. t.local) tunnels.old.items }
+    requires fresh { is_some (entry (λ t. t.local) tunnel.local tunnels.old.items) ≡ false }
     ensures items { tunnels.new.items ≡ put (λ t. t.local) tunnel tunnels.old.items }
-    ensures in_order { IsNonDecreasingBy (λ t. t.local) tunnels.new.items }
+    ensures in_order { AreRising (λ t. t.local) tunnels.new.items }
     ensures len { vec_len tunnels.new ≡ vec_len tunnels.old + 1 }
     ensures capacity { vec_capacity tunnels.old ≤ vec_capacity tunnels.new }
 {
@@ -341,9 +343,10 @@ fn put_tunnel(tunnels: &mut Vec<BookTunnel>, tunnel: BookTunnel)
 
 fn put_call(calls: &mut Vec<BookCall>, call: BookCall)
     requires room { vec_len calls.old < vec_capacity calls.old }
-    requires in_order { IsNonDecreasingBy (λ c. c.local) calls.old.items }
+    requires in_order { AreRising (λ c. c.local) calls.old.items }
+    requires fresh { is_some (entry (λ c. c.local) call.local calls.old.items) ≡ false }
     ensures items { calls.new.items ≡ put (λ c. c.local) call calls.old.items }
-    ensures in_order { IsNonDecreasingBy (λ c. c.local) calls.new.items }
+    ensures in_order { AreRising (λ c. c.local) calls.new.items }
     ensures len { vec_len calls.new ≡ vec_len calls.old + 1 }
     ensures capacity { vec_capacity calls.old ≤ vec_capacity calls.new }
 {
@@ -355,8 +358,8 @@ fn put_call(calls: &mut Vec<BookCall>, call: BookCall)
 }
 
 fn remove_tunnel(tunnels: &mut Vec<BookTunnel>, local: u16)
-    requires { IsNonDecreasingBy (λ t. t.local) tunnels.old.items }
-    ensures in_order { IsNonDecreasingBy (λ t. t.local) tunnels.new.items }
+    requires { AreRising (λ t. t.local) tunnels.old.items }
+    ensures in_order { AreRising (λ t. t.local) tunnels.new.items }
     ensures items { tunnels.new.items ≡ tunnels_without local tunnels.old.items }
     ensures len { vec_len tunnels.new ≤ vec_len tunnels.old }
     ensures capacity { vec_capacity tunnels.new ≡ vec_capacity tunnels.old }
@@ -365,8 +368,8 @@ fn remove_tunnel(tunnels: &mut Vec<BookTunnel>, local: u16)
 }
 
 fn remove_call(calls: &mut Vec<BookCall>, local: u16)
-    requires { IsNonDecreasingBy (λ c. c.local) calls.old.items }
-    ensures in_order { IsNonDecreasingBy (λ c. c.local) calls.new.items }
+    requires { AreRising (λ c. c.local) calls.old.items }
+    ensures in_order { AreRising (λ c. c.local) calls.new.items }
     ensures items { calls.new.items ≡ calls_without local calls.old.items }
     ensures len { vec_len calls.new ≤ vec_len calls.old }
     ensures capacity { vec_capacity calls.new ≡ vec_capacity calls.old }
@@ -375,8 +378,8 @@ fn remove_call(calls: &mut Vec<BookCall>, local: u16)
 }
 
 fn remove_calls_of(calls: &mut Vec<BookCall>, tunnel: u16)
-    requires { IsNonDecreasingBy (λ c. c.local) calls.old.items }
-    ensures in_order { IsNonDecreasingBy (λ c. c.local) calls.new.items }
+    requires { AreRising (λ c. c.local) calls.old.items }
+    ensures in_order { AreRising (λ c. c.local) calls.new.items }
     ensures items { calls.new.items ≡ calls_not_of tunnel calls.old.items }
     ensures len { vec_len calls.new ≤ vec_len calls.old }
     ensures capacity { vec_capacity calls.new ≡ vec_capacity calls.old }
@@ -385,8 +388,8 @@ fn remove_calls_of(calls: &mut Vec<BookCall>, tunnel: u16)
 }
 
 fn set_mark(tunnels: &mut [BookTunnel], local: u16, mark: u32)
-    requires { IsNonDecreasingBy (λ t. t.local) tunnels.old }
-    ensures in_order { IsNonDecreasingBy (λ t. t.local) tunnels.new }
+    requires { AreRising (λ t. t.local) tunnels.old }
+    ensures in_order { AreRising (λ t. t.local) tunnels.new }
     ensures items { tunnels.new ≡ marked local mark tunnels.old }
     ensures len { length tunnels.new ≡ length tunnels.old }
 {

@@ -1,11 +1,11 @@
 use Rattle.std.proofs.Common.{rules, ltb}
 use Rattle.std.proofs.lemmas.List.Sorted.{IsPartitionPoint-from_clause, IsPartitionedBy-ltb}
-use Rattle.session_book.proofs.Orders.{prefix_at}
+use Rattle.session_book.proofs.Orders.{prefix_at, non_decreasing}
 use Rattle.session_book.proofs.book.call_place.Goals as goal
 
 pub returns-clause-parted : goal.returns-clause-parted
 returns-clause-parted c =
-    let parted = IsPartitionedBy-ltb (λ p. p.local) _ c.args.local c.requires in
+    let parted = IsPartitionedBy-ltb (λ p. p.local) _ c.args.local (non_decreasing (λ p. p.local) _ c.requires) in
     IsPartitionPoint-from_clause (λ p. ltb p.local c.args.local) _ _ c.partition_point.ensures.partitioned parted (λ a r q k. search rules)
 
 pub returns-clause-place : goal.returns-clause-place

@@ -1,5 +1,5 @@
-use Rattle.std.proofs.Common.{rules, not, ◌==◌}
-use Rattle.std.proofs.lemmas.List.Kept.{IsNonDecreasingBy-filter}
+use Rattle.std.proofs.Common.{rules, not, ◌==◌, ◌<◌}
+use Rattle.std.proofs.lemmas.List.Kept.{AllPairs-filter}
 use Rattle.std.proofs.lemmas.Fn.{filter_same}
 use Rattle.session_book.proofs.book.remove_call.Goals as goal
 
@@ -8,4 +8,4 @@ returns-clause-items c = filter_same _ _ _ (λ x b f' k. search rules) _ _ c.ret
 
 pub returns-clause-in_order : goal.returns-clause-in_order
 returns-clause-in_order x =
-    rw (returns-clause-items x) (IsNonDecreasingBy-filter (λ c. c.local) (λ c. not (c.local == x.args.local)) _ x.requires)
+    rw (returns-clause-items x) (AllPairs-filter (λ x y. x.local < y.local) (λ c. not (c.local == x.args.local)) _ x.requires)

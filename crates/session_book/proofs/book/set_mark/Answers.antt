@@ -4,7 +4,7 @@ use Rattle.std.proofs.lemmas.List.{get_or_default}
 use Rattle.std.proofs.lemmas.List.Edits.{map_over_more}
 use Rattle.session_book.specs.declared.record.BookTunnel.{BookTunnel}
 use Rattle.session_book.specs.Books.{mark_on, marked}
-use Rattle.session_book.proofs.Orders.{marked_in_order}
+use Rattle.session_book.proofs.Orders.{marked_rises}
 use Rattle.session_book.proofs.book.set_mark.Goals as goal
 
 pub loop-tunnel-preserved : goal.loop-tunnel-preserved
@@ -18,4 +18,4 @@ loop-tunnel-preserved c =
 pub returns-clause-in_order : goal.returns-clause-in_order
 returns-clause-in_order c =
     let items : c.loop-tunnel.tunnel-items ≡ marked c.args.local c.args.mark c.args.tunnels.now = grind (arith, common_steps, c.loop-tunnel.invariant, c.loop-tunnel-test.false) in
-    rw items (marked_in_order c.args.local c.args.mark _ c.requires)
+    rw items (marked_rises c.args.local c.args.mark _ c.requires)
