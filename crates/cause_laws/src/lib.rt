@@ -1,5 +1,5 @@
 //! The causes that reports tell, the room for letters, how many tunnels there are, the calls and tunnels that are left, and the answers to
-//! requests, in every run of a schedule's lines.
+//! requests, in the run of every list of fewer than 2^47 lines of the grammar.
 #![tactic(auto)]
 
 ghost use Rattle.cause_laws.specs.Answers.{AnswersOfRuns};
@@ -36,8 +36,8 @@ fn laws_below()
     connection_laws::steps_keep();
 }
 
-/// Over every list of lines of the grammar, each cause that an entry of the report tells stands in the world before the entry's
-/// line, and none does that counts before it; and a message is dropped for want of room only where it is the next one of a
+/// Over every list of fewer than 2^47 lines of the grammar, each cause that an entry of the report tells stands in the world before
+/// the entry's line, and none does that counts before it; and a message is dropped for want of room only where it is the next one of a
 /// tunnel that holds so many letters, with those that its calls owe, that four more would be too many.
 pub fn reports_tell_true_causes()
     ensures { CausesOfRuns }
@@ -45,8 +45,8 @@ pub fn reports_tell_true_causes()
     laws_below();
 }
 
-/// Over every list of lines of the grammar, the letters that a live tunnel holds and those that its calls owe are fewer than a
-/// channel holds, as long as the tunnel isn't closed, so that no letter which it has to give is refused; a closed one has no calls, and
+/// Over every list of fewer than 2^47 lines of the grammar, the letters that a live tunnel holds and those that its calls owe are fewer
+/// than a channel holds, as long as the tunnel isn't closed, so that no letter which it has to give is refused; a closed one has no calls, and
 /// holds no more letters than a channel may; and each has 4,096 calls at most.
 pub fn tunnels_have_room()
     ensures { RoomInRuns }
@@ -54,15 +54,15 @@ pub fn tunnels_have_room()
     laws_below();
 }
 
-/// Over every list of lines of the grammar, each end has 1,024 tunnels at most, the closed ones among them.
+/// Over every list of fewer than 2^47 lines of the grammar, each end has 1,024 tunnels at most, the closed ones among them.
 pub fn no_end_has_too_many_tunnels()
     ensures { TunnelsAreFewInRuns }
 {
     laws_below();
 }
 
-/// Over every list of lines of the grammar, a call waits for its tunnel only where the tunnel's SCCRQ isn't answered yet: in an open
-/// tunnel each is asked for. And where the last line is a tick of a node, none of that node's calls that are still being set up
+/// Over every list of fewer than 2^47 lines of the grammar, a call waits for its tunnel only where the tunnel's SCCRQ isn't answered
+/// yet: in an open tunnel each is asked for. And where the last line is a tick of a node, none of that node's calls that are still being set up
 /// has taken 60 seconds or more; nor is one of its tunnels left that isn't set up and was made 60 seconds ago or more, that was closed 31
 /// seconds ago or more, or whose oldest unacknowledged letter was repeated five times, the last time 8 seconds ago or more.
 pub fn no_call_is_left()
@@ -71,8 +71,8 @@ pub fn no_call_is_left()
     laws_below();
 }
 
-/// Over every list of lines of the grammar, each call request that a line brings to a node is answered, by one move of what the line
-/// does and no more than one, as the tables and the causes say; and so is each ring: by a call that is asked for or waits for its
+/// Over every list of fewer than 2^47 lines of the grammar, each call request that a line brings to a node is answered, by one move of
+/// what the line does and no more than one, as the tables and the causes say; and so is each ring: by a call that is asked for or waits for its
 /// tunnel, or by a cause.
 pub fn requests_are_answered_in_runs()
     ensures { AnswersOfRuns }

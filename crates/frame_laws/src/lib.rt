@@ -38,8 +38,9 @@ pub fn frames_were_sent()
 }
 
 /// Over every list of lines of the grammar, each frame that counts as sent is one that its line gave to its end in its
-/// call, or at an LNS an LCP packet that the LCP end of the call gave in its line; and it is carried by a packet, from the
-/// node that sent it to the one that the call's tunnel goes to.
+/// call, or at a LAC one that the host of the call sent in the Ethernet frame of its line, or at an LNS an LCP packet that
+/// the LCP end of the call gave in its line; and it is carried by a packet, from the node that sent it to the one that the
+/// call's tunnel goes to.
 pub fn sent_frames_are_packets()
     ensures packets { PacketsOfRuns }
     ensures given { GivenInRuns }

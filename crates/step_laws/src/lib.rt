@@ -39,7 +39,7 @@ pub fn ups_are_few()
     ensures { UpsAreFew }
 {}
 
-/// One call at most is born in a step, and none on an event that is no ring.
+/// One call at most is born in a step, and none on an event that is neither a ring nor the admission of a host.
 pub fn births_are_few()
     ensures { BirthsAreFew }
 {}
