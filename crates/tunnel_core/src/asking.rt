@@ -11,7 +11,7 @@ use control_message::Message;
 use message_reading::{Reason, out_of_state};
 use protocol_model::{Move, Replied, Role};
 use tunnel_calls::TunnelCalls;
-use tunnel_rules::{asked_for, call_row, is_reply};
+use tunnel_rules::{asked_for, call_row, is_reply, session_left};
 use wire_base::{Cause, NoMemory, Why};
 
 /// The session of a call that the peer asks for by this id, or the first cause for which there can be none.
@@ -36,21 +36,7 @@ fn grant(
             error: Some(5),
         }));
     }
-    if calls.are_too_many() {
-        return Ok(Err(Reason {
-            cause: Cause::Calls,
-            code: 4,
-            error: None,
-        }));
-    }
-    match turn.next_session() {
-        Ok(session) => Ok(Ok(session as u16)),
-        Err(_) => Ok(Err(Reason {
-            cause: Cause::Ids,
-            code: 4,
-            error: None,
-        })),
-    }
+    Ok(session_left(calls.are_too_many(), turn.next_session()))
 }
 
 /// Makes a call by the request for the peer's session, and replies.

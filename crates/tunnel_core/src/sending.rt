@@ -11,11 +11,8 @@ use control_channel::ChannelNumbers;
 use control_message::{Message, hides_nothing_without_a_vector, write_message};
 use l2tp_header::write_control;
 use protocol_model::{ControlOrigin, LetGo, Move, NrRead, Origin, Out, Place, Repeated, TookPlain};
-use send_window::Letters;
+use send_window::{LIMIT, Letters};
 use wire_base::{Bytes, Letter, NoMemory, Why};
-
-/// How many letters of a channel may be unacknowledged or unsent.
-const LIMIT: usize = 8192;
 
 /// How many bytes of pairs a message has room for.
 const ROOM: usize = 65_523;

@@ -1,15 +1,19 @@
 //! The calls of a tunnel: what their tables say of an event (RFC 2661 section 7.4), and how they are made.
 
-ghost use Rattle.std.specs.Prelude.{◌≡◌, ◌≤◌, length, IfSome, IfOk};
+ghost use Rattle.std.specs.Prelude.{◌≡◌, ◌<◌, ◌≤◌, if◌then◌else◌, length, None, Err, IfSome, IfOk};
+ghost use Rattle.wire_base.specs.declared.cause.Cause.TheVariants as causes;
 ghost use Rattle.control_message.specs.Pairs.{IsWritten, hidden_of};
 ghost use Rattle.protocol_model.specs.Calls.{call_row, rung, advanced, idle_call, asked_for, is_request, is_reply, is_connection, is_up, is_set_up};
-ghost use Rattle.protocol_model.specs.Turn.{request_of, is_clean_up, is_passing};
+ghost use Rattle.protocol_model.specs.Reasons.{reason};
+ghost use Rattle.protocol_model.specs.Turn.{left_of, request_of, is_clean_up, is_passing};
 
 use call_fsm::{CallAction, CallEvent, CallState, lac_advance, lns_advance};
 use control_message::Message;
+use id_source::IdError;
+use message_reading::Reason;
 use protocol_model::{Call, CallStep, CallSteps, Link, Role, calling_number, twelve_digits};
 use std::alloc::Global;
-use wire_base::NoMemory;
+use wire_base::{Cause, NoMemory};
 
 /// What a call's table says (RFC 2661 section 7.4).
 #[tactic(auto, unfolding(protocol_model::specs::Calls::call_row))]
@@ -81,6 +85,33 @@ pub fn asked_for(alloc: Global, role: Role, remote: u16, moment: u64) -> Result<
 {
     let idle = idle_call(alloc, [0; 6]);
     advanced(alloc, role, CallEvent::IcrqAcc, moment, &idle, remote)
+}
+
+/// There are no facilities for a call, for this cause: result code 4 (RFC 2661 section 4.4.2).
+fn no_facilities(cause: Cause) -> Reason
+    ensures { result ≡ reason cause 4 None }
+{
+    Reason {
+        cause,
+        code: 4,
+        error: None,
+    }
+}
+
+/// The session of one more call that the peer asks for: the next id, where the tunnel has room for a call and an id is left, else
+/// the cause.
+pub fn session_left(are_too_many: bool, next: Result<u32, IdError>) -> Result<u16, Reason>
+    requires { IfOk next (λ id. (0 < id) × (id ≤ 65535)) }
+    ensures value { result ≡ (if are_too_many then Err (reason causes.Calls 4 None) else left_of next) }
+    ensures some { IfOk result (λ session. 0 < session) }
+{
+    if are_too_many {
+        return Err(no_facilities(Cause::Calls));
+    }
+    match next {
+        Ok(id) => Ok(id as u16),
+        Err(_) => Err(no_facilities(Cause::Ids)),
+    }
 }
 
 pub fn is_request(action: CallAction) -> bool

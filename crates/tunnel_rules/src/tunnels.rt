@@ -5,11 +5,9 @@ ghost use Rattle.protocol_model.specs.Turn.{may_take, patience, is_over, is_clos
 ghost use Rattle.tunnel_fsm.specs.Rows.{state_number};
 
 use protocol_model::Control;
+use send_window::LIMIT;
 use tunnel_calls::TunnelCalls;
 use tunnel_fsm::TunnelState;
-
-/// How many letters of a channel may be unacknowledged or unsent.
-const LIMIT: usize = 8192;
 
 /// How long a tunnel or a call may take to be set up, and how long a tunnel may be quiet, in milliseconds.
 pub const PATIENCE: u64 = 60_000;
