@@ -1,5 +1,6 @@
 -- A space of numbers: its last one, the ceiling up to which numbers may be drawn, and the next one.
-use Rattle.std.specs.Prelude.{◌≡◌, ℕ, zero, suc, ◌+◌, ◌-◌, nat_lt, if◌then◌else◌, List, [], ◌∷◌, length, Result, Ok, Err}
+use Rattle.std.specs.Prelude.{◌≡◌, ℕ, zero, suc, ◌+◌, ◌-◌, ◌<◌, ◌≤◌, nat_lt, if◌then◌else◌, Bool, true, false, List, [], ◌∷◌, length, AllPairs, Result, Ok, Err, ⊤}
+use Rattle.std.specs.List.{list_any}
 use Rattle.id_source.specs.declared.IdError.{IdError}
 use Rattle.id_source.specs.declared.IdError.TheVariants.{NoIds, NeedCeiling}
 
@@ -29,11 +30,12 @@ drawn (Err e) s = s
 abbrev pub after_draw : Space → Space
 after_draw s = drawn (draws s) s
 
--- ---- what is drawn in a list of draws and raises
+-- ---- what is drawn in a list of draws, raised ceilings, and starts from the ceiling
 
 pub data Use : Type 0 where
   Draws : Use
   Raises : ℕ → Use
+  Starts : Use
 
 abbrev pub with_drawn : Result ℕ IdError → List ℕ → List ℕ
 with_drawn (Ok n) ns = n ∷ ns
@@ -43,12 +45,29 @@ unfoldable pub numbers_drawn : Space → List Use → List ℕ
 numbers_drawn s [] = []
 numbers_drawn s (Draws ∷ us) = with_drawn (draws s) (numbers_drawn (after_draw s) us)
 numbers_drawn s (Raises ceiling ∷ us) = numbers_drawn (record s { ceiling = ceiling }) us
+numbers_drawn s (Starts ∷ us) = numbers_drawn (space_from s.last s.ceiling) us
+
+-- no ceiling is below the one before it, as `raise` has it
+abbrev pub CeilingsRise : ℕ → List Use → Type 0
+CeilingsRise ceiling [] = ⊤
+CeilingsRise ceiling (Draws ∷ us) = CeilingsRise ceiling us
+CeilingsRise ceiling (Raises above ∷ us) = (ceiling ≤ above) × CeilingsRise above us
+CeilingsRise ceiling (Starts ∷ us) = CeilingsRise ceiling us
+
+-- no number is drawn twice: each is below those that are drawn after it. Of a space only numbers up to its ceiling were drawn
+abbrev pub EachIsDrawnOnce : Type 0
+EachIsDrawnOnce =
+    (s : Space) (us : List Use) → s.next ≤ s.ceiling + 1 → CeilingsRise s.ceiling us → AllPairs (λ before after. before < after) (numbers_drawn s us)
+
+abbrev pub is_start : Use → Bool
+is_start Starts = true
+is_start u = false
 
 -- so many numbers, from one on
 unfoldable pub counting_from : ℕ → ℕ → List ℕ
 counting_from n zero = []
 counting_from n (suc k) = n ∷ counting_from (n + 1) k
 
--- the numbers that are drawn count on from the next one
+-- without a start the numbers that are drawn count on from the next one
 abbrev pub CountsOn : Type 0
-CountsOn = (s : Space) (us : List Use) → numbers_drawn s us ≡ counting_from s.next (length (numbers_drawn s us))
+CountsOn = (s : Space) (us : List Use) → list_any is_start us ≡ false → numbers_drawn s us ≡ counting_from s.next (length (numbers_drawn s us))

@@ -3,7 +3,7 @@
 #![tactic(auto)]
 
 ghost use Rattle.std.specs.Prelude.{◌≡◌, ◌≤◌, IfOk, IfErr};
-ghost use Rattle.id_source.specs.Spaces.{new_space, space_from, draws, after_draw, CountsOn};
+ghost use Rattle.id_source.specs.Spaces.{new_space, space_from, draws, after_draw, CountsOn, EachIsDrawnOnce};
 
 use std::marker::Model;
 
@@ -97,7 +97,9 @@ impl Ids {
     }
 }
 
-/// A law: whatever is drawn and raised, the numbers that are drawn count on from the next one, so none is drawn twice.
+/// Laws: over every list of draws, raised ceilings and starts from the ceiling no number is drawn twice, as each is above those before
+/// it; and as long as there is no start, they count on from the next one.
 pub fn each_number_is_drawn_once()
-    ensures { CountsOn }
+    ensures once { EachIsDrawnOnce }
+    ensures counted { CountsOn }
 {}
