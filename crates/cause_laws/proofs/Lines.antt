@@ -140,8 +140,7 @@ module _ (w : World) (number n : ℕ) (bytes : List ℕ) (l : LacAt w n) where
       (frame_answered l.access l.node.end bytes frame is) in
       ((refl, so), tt)
   answers_true (Some c) frame is =
-      let found = discovery_refuses l.access l.node.end bytes c frame is in
-      (
+      let found = discovery_refuses l.access l.node.end bytes c frame is in (
         (refl, InDiscovery (record { lac = l; bytes = bytes; line_is = refl; frame = frame; found = found })),
         ((refl, OfDiscovery l bytes (Some c) refl found), tt),
       )
@@ -174,9 +173,14 @@ frame_true causes room w kept number n bytes = record {
   entered = λ l src uniq asked is x h.
       both_true w number (Frame n bytes) x.entries (Frames number n (reply_to w number n l src asked) ∷ [])
       (entered_true causes room w kept number (Frame n bytes) x n (event.Admitted src) l.node (with_host w number n l src uniq) l.there refl refl
-      (refl, ByAPadr l src uniq asked is refl) h)
-      ((refl, OfEntry l bytes src asked refl (host_enters l.access l.node.end bytes src uniq asked is)
-      (entry_answered l.node.end asked (step l.node.end l.node.clock (block_of n number) (event.Admitted src)))), tt);
+      (refl, ByAPadr l src uniq asked is refl) h) (
+        (
+          refl,
+          OfEntry l bytes src asked refl (host_enters l.access l.node.end bytes src uniq asked is)
+              (entry_answered l.node.end asked (step l.node.end l.node.clock (block_of n number) (event.Admitted src))),
+        ),
+        tt,
+      );
 }
 
 -- of each kind

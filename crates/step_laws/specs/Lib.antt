@@ -3,6 +3,7 @@ pub mod Letters
 pub mod Links
 pub mod Failing
 pub mod Hides
+pub mod Arrivals
 pub mod Moves
 pub mod Steps
 pub mod Left
