@@ -38,9 +38,8 @@ one_given role c es env now id None some given = absurd (true≢false (sym some)
 one_given role c es env now id (Some u) some given =
     let t = ticks role u.letters u.calls (turn_of u.control env) in
     let d = ticks_drawn role u.letters u.calls (turn_of u.control env) in
-    let space = ap (λ x. x.1) d in
-    let sessions = ap (λ x. x.2) d in
-    given ∙ rw (space, sessions, append-nil t.outputs, append-nil t.changes, append-nil t.moves) refl
+    let ids = ap (λ x. x.1) d in
+    given ∙ rw (ids, append-nil t.outputs, append-nil t.changes, append-nil t.moves) refl
 
 pub one_planned : (role : Role) (c : Config) (es : List (ℕ × Core)) (env : Env) (id : ℕ) (o : Option Tunnel) → IsSome o → (p : Plan) → IsPlanned role c Tick env o p
     → ArePlanned ((id, p) ∷ []) (tick_of (with_tunnels role c es) env id o)
