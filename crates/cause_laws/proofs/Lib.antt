@@ -1,4 +1,5 @@
 pub mod Lines
+mod Room
 pub mod Runs
 mod Seen
 mod Left

@@ -1,6 +1,6 @@
 -- The causes that the report tells stand, nothing is refused for want of room but where a tunnel holds too many letters, no end has more
 -- tunnels than it may, and no call and no tunnel is left.
-use Rattle.std.specs.Prelude.{◌≡◌, ℕ, ◌+◌, ◌-◌, ◌^◌, ◌<◌, ◌≤◌, min, List, [], ◌∷◌, ◌++◌, length, true, false, slice_get, Some, None, is_some, Ok, Option}
+use Rattle.std.specs.Prelude.{◌≡◌, ℕ, ◌+◌, ◌-◌, ◌^◌, ◌<◌, ◌≤◌, min, List, [], ◌∷◌, ◌++◌, length, true, false, slice_get, Some, None, is_some, Ok, Option, unwrap_or}
 use Rattle.std.specs.List.{AllByRecursion}
 use Rattle.id_table.specs.Ids.{at}
 use Rattle.wire_base.specs.declared.why.Why.TheVariants as why
@@ -25,6 +25,7 @@ use Rattle.protocol_model.specs.Access.{coming, Runs, Enters, refusal_in}
 use Rattle.protocol_model.specs.Texts.{Entry, Sends, HandsUp, Ends, Frames, Drops, Causes}
 use Rattle.step_laws.specs.Hosts.{LacAt, IsRepeated, discovered_at}
 use Rattle.protocol_model.specs.Run.{run}
+use Rattle.step_laws.specs.Letters.{Among}
 use Rattle.step_laws.specs.Room.{IsFull}
 use Rattle.step_laws.specs.Causes.{Stands}
 use Rattle.step_laws.specs.Left.{AreAsked, AreFew, NoneHasFailed, NoneIsLate}
@@ -119,6 +120,20 @@ IsTrue w line l (Frames number n bytes) = (number ≡ line) × FrameIsTrue w lin
 abbrev pub TellsTruly : World → ℕ → Line → Type 0
 TellsTruly w number l = (x : Lined) → line w number l ≡ Ok x → AllByRecursion (IsTrue w number l) x.entries
 
+-- a line brings the next message of a tunnel, which names it, and which the tunnel may not take, once Nr is read
+pub record FindsNoRoom (w : World) (l : Line) (n : ℕ) : Type 0 where
+  pub node : Node
+  pub is : at w.nodes n ≡ Some node
+  pub event : Event
+  pub brings : Brings w l n event
+  pub full : IsFull node.end (moment_of l node) (uncovered_event node.end.config.secret event)
+  pub named : full.letter.header.tunnel ≡ full.id
+  pub nr : full.nr ≡ unwrap_or full.letter.header.nr 0
+
+-- then the line tells that it is dropped for that
+abbrev pub TellsOfRoom : World → ℕ → Line → Type 0
+TellsOfRoom w number l = (x : Lined) → line w number l ≡ Ok x → (n : ℕ) → FindsNoRoom w l n → Among (Drops number n why.Queue) x.entries
+
 -- ---- room
 
 -- the letters that a tunnel holds, and those that its calls owe, are fewer than a channel holds, so that there is room for each, as
@@ -154,7 +169,8 @@ pub record NoneIsLeft (lines : List Line) : Type 0 where
 -- at each of its lines
 abbrev pub TellTrulyThroughout : List Line → Type 0
 TellTrulyThroughout lines =
-    (before after : List Line) (l : Line) → lines ≡ before ++ l ∷ after → TellsTruly (run before).world (length before + 1) l
+    (before after : List Line) (l : Line) → lines ≡ before ++ l ∷ after
+    → TellsTruly (run before).world (length before + 1) l × TellsOfRoom (run before).world (length before + 1) l
 
 abbrev pub CausesOfRuns : Type 0
 CausesOfRuns = (lines : List Line) → AreLines lines → length lines < 2 ^ 47 → TellTrulyThroughout lines

@@ -9,12 +9,13 @@ ghost use Rattle.connection_laws.specs.Steps.{LinesGoOn, RunsBegin};
 ghost use Rattle.step_laws.specs.Answers.{RequestsAreAnswered};
 ghost use Rattle.step_laws.specs.Causes.{CausesStand};
 ghost use Rattle.step_laws.specs.Left.{CallsAreAsked, CallsStaySound, FailedTunnelsGo, LateCallsEnd, TunnelsBeginFew, TunnelsStayFew};
-ghost use Rattle.step_laws.specs.Room.{StepsRefuseTruly};
+ghost use Rattle.step_laws.specs.Room.{StepsRefuseTruly, FullAreRefused};
 
 /// The laws that are used.
 fn laws_below()
     ensures causes { CausesStand }
     ensures room { StepsRefuseTruly }
+    ensures full { FullAreRefused }
     ensures sound { CallsStaySound }
     ensures late { LateCallsEnd }
     ensures asked { CallsAreAsked }
@@ -38,7 +39,8 @@ fn laws_below()
 
 /// Over every list of fewer than 2^47 lines of the grammar, each cause that an entry of the report tells stands in the world before
 /// the entry's line, and none does that counts before it; and a message is dropped for want of room only where it is the next one of a
-/// tunnel that holds so many letters, with those that its calls owe, that four more would be too many.
+/// tunnel that holds so many letters, with those that its calls owe, that four more would be too many. And each such message that
+/// names its tunnel is told so.
 pub fn reports_tell_true_causes()
     ensures { CausesOfRuns }
 {
