@@ -176,7 +176,7 @@ frame_true causes room w kept number n bytes = record {
       (refl, ByAPadr l src uniq asked is refl) h) (
         (
           refl,
-          OfEntry l bytes src asked refl (host_enters l.access l.node.end bytes src uniq asked is)
+          OfEntry l bytes src uniq asked refl is (host_enters l.access l.node.end bytes src uniq asked is)
               (entry_answered l.node.end asked (step l.node.end l.node.clock (block_of n number) (event.Admitted src))),
         ),
         tt,

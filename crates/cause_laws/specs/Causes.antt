@@ -104,7 +104,8 @@ pub data FrameIsTrue (w : World) (line : ℕ) (l : Line) (n : ℕ) (frame : List
   OfDiscovery : (lac : LacAt w n) (bytes : List ℕ) (because : Option Cause) → l ≡ Frame n bytes
       → discovered_at lac.access lac.node.end bytes ≡ Reply because frame → FrameIsTrue w line l n frame
   OfLiveCall : (lac : LacAt w n) (bytes : List ℕ) → l ≡ Frame n bytes → IsRepeated lac.access lac.node.end bytes frame → FrameIsTrue w line l n frame
-  OfEntry : (lac : LacAt w n) (bytes src : List ℕ) (asked : Discovered) → l ≡ Frame n bytes → discovered_at lac.access lac.node.end bytes ≡ asked
+  OfEntry : (lac : LacAt w n) (bytes src : List ℕ) (uniq : Option (List ℕ)) (asked : Discovered) → l ≡ Frame n bytes
+      → coming lac.access lac.node.end bytes ≡ Enters src uniq asked → discovered_at lac.access lac.node.end bytes ≡ asked
       → AnswersEntry lac.node.end asked (step lac.node.end lac.node.clock (block_of n line) (event.Admitted src)) frame → FrameIsTrue w line l n frame
 
 -- it has the number of its line
