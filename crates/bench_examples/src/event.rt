@@ -1,6 +1,6 @@
 //! The events that words tell.
 
-use protocol_model::{Event, address_of};
+use end_model::{Event, address_of};
 use std::alloc::{AllocError, Global};
 use wire_base::{Bytes, NoMemory};
 

@@ -1,9 +1,9 @@
 -- Room that is made for the places of one call after another.
 use Rattle.std.proofs.Common.{◌≡◌, ℕ, zero, suc, ◌+◌, ◌<◌, List, [], ◌∷◌, length, get_or, take, drop, add-one, subst, sym, ap, ◌∙◌, drop-cons, arith}
 use Rattle.id_table.specs.Tables.{Kept, HasRoom, KeepsRoom}
-use Rattle.protocol_model.specs.declared.tunnel.CallPlace.{CallPlace}
+use Rattle.end_model.specs.declared.tunnel.CallPlace.{CallPlace}
 use Rattle.id_table.specs.Ids.{put}
-use Rattle.protocol_model.specs.End.{placed, new_place}
+use Rattle.end_model.specs.End.{placed, new_place}
 use Rattle.call_places.specs.Rooms.{HaveRoom}
 
 cons_drop : (ss : List ℕ) (i : ℕ) → i < length ss → drop i ss ≡ get_or ss i 0 ∷ drop (i + 1) ss

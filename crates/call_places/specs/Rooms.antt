@@ -2,7 +2,7 @@
 use Rattle.std.specs.Prelude.{ℕ, List}
 use Rattle.std.specs.List.{AllByRecursion}
 use Rattle.id_table.specs.Tables.{Kept, HasRoom}
-use Rattle.protocol_model.specs.declared.tunnel.CallPlace.{CallPlace}
+use Rattle.end_model.specs.declared.tunnel.CallPlace.{CallPlace}
 
 -- there is room for the place of each of these calls
 abbrev pub HaveRoom : Kept CallPlace → List ℕ → Type 0

@@ -3,7 +3,7 @@ use Rattle.std.proofs.Common.{◌≡◌, ℕ, ◌+◌, List, [], ◌∷◌, ◌+
 use Rattle.std.specs.Fmt.{decimal}
 use Rattle.hex.specs.Hex.{encode_lower}
 use Rattle.schedule_text.specs.Reading.{text_lines}
-use Rattle.protocol_model.specs.Texts.{◌&◌, ended, send_text, frame_text}
+use Rattle.world_model.specs.Texts.{◌&◌, ended, send_text, frame_text}
 use Rattle.report_reading.specs.declared.entry.Entry.TheVariants.{Datagram, Frame}
 use Rattle.report_reading.specs.Grammar.{sent_text, FitsSent}
 use Rattle.report_reading.specs.Reading.{put_front, entries_from}

@@ -1,7 +1,7 @@
 -- What the report of a run writes of what was sent, and what reading it gives.
 use Rattle.std.specs.Prelude.{◌≡◌, ℕ, ◌+◌, List, ◌++◌}
 use Rattle.schedule_text.specs.Reading.{text_lines}
-use Rattle.protocol_model.specs.Texts.{send_text, frame_text}
+use Rattle.world_model.specs.Texts.{send_text, frame_text}
 use Rattle.report_reading.specs.declared.entry.Entry.TheVariants.{Datagram, Frame}
 use Rattle.report_reading.specs.Grammar.{FitsSent}
 use Rattle.report_reading.specs.Reading.{put_front, entries_from}

@@ -7,22 +7,22 @@ use Rattle.wire_base.specs.declared.why.Why.{Why}
 use Rattle.schedule_text.specs.declared.line.Line.{Line}
 use Rattle.schedule_text.specs.declared.line.Line.TheVariants.{Remark, Lac, Lns, OpenUp, Close, Ring, Frame, FromSub, Down, Hang, DropCall, Deliver, Tick}
 use Rattle.schedule_text.specs.Grammar.{FitsLine, AreLines}
-use Rattle.protocol_model.specs.declared.event.Event.{Event}
-use Rattle.protocol_model.specs.declared.event.Event.TheVariants as event
-use Rattle.protocol_model.specs.declared.moves.Move.{Move}
-use Rattle.protocol_model.specs.declared.packet.Packet.{Packet}
-use Rattle.protocol_model.specs.declared.refusal.Refusal.{Refusal}
+use Rattle.end_model.specs.declared.event.Event.{Event}
+use Rattle.end_model.specs.declared.event.Event.TheVariants as event
+use Rattle.end_model.specs.declared.moves.Move.{Move}
+use Rattle.world_model.specs.declared.packet.Packet.{Packet}
+use Rattle.world_model.specs.declared.refusal.Refusal.{Refusal}
 use Rattle.end_names.specs.Names.{address_of}
-use Rattle.protocol_model.specs.Secrets.{uncovered_event}
-use Rattle.protocol_model.specs.End.{Stepped, step}
+use Rattle.end_model.specs.Secrets.{uncovered_event}
+use Rattle.end_model.specs.End.{Stepped, step}
 use Rattle.step_laws.specs.Lines.{is_lac_at, is_lns_at, is_declared, has_call, has_tunnel}
-use Rattle.protocol_model.specs.World.{World, Node, Sender, Deed, Lined, after_step, given, declared, lac_at, lns_at, with_call, with_tunnel, later, block_of, stepped, addressee_of, arrival, refused_by, sender_of, arrives, delivers_it, delivers, line}
-use Rattle.protocol_model.specs.Run.{run}
+use Rattle.world_model.specs.World.{World, Node, Sender, Deed, Lined, after_step, given, declared, lac_at, lns_at, with_call, with_tunnel, later, block_of, stepped, addressee_of, arrival, refused_by, sender_of, arrives, delivers_it, delivers, line}
+use Rattle.world_model.specs.Run.{run}
 use Rattle.step_laws.specs.Answers.{RequestsAreAnswered}
 use Rattle.connection_laws.specs.Accounts.{account_of}
 use Rattle.connection_laws.specs.Steps.{LinesGoOn, RunsBegin}
 use Rattle.pppoe_discovery.specs.declared.outcome.Discovered.{Discovered}
-use Rattle.protocol_model.specs.Access.{Coming, coming, Runs, Enters, Ignores, Answers}
+use Rattle.end_model.specs.Access.{Coming, coming, Runs, Enters, Ignores, Answers}
 use Rattle.step_laws.specs.Hosts.{LacAt, with_host, OfFrame, frame_line}
 use Rattle.cause_laws.specs.Causes.{Brings, FrameBrings, ByItsHost, ByAPadr, moment_of}
 use Rattle.cause_laws.specs.Answers.{step_at, AnswersOfRuns}

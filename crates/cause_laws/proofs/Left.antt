@@ -8,13 +8,13 @@ use Rattle.id_table.specs.Order.{at_new, at_other, same_or_not}
 use Rattle.schedule_text.specs.declared.line.Line.{Line}
 use Rattle.schedule_text.specs.declared.line.Line.TheVariants.{Tick}
 use Rattle.schedule_text.specs.Grammar.{FitsLine, AreLines}
-use Rattle.protocol_model.specs.declared.event.Event.TheVariants as event
-use Rattle.protocol_model.specs.declared.refusal.Refusal.{Refusal}
-use Rattle.protocol_model.specs.declared.tunnel.Config.{Config}
+use Rattle.end_model.specs.declared.event.Event.TheVariants as event
+use Rattle.world_model.specs.declared.refusal.Refusal.{Refusal}
+use Rattle.end_model.specs.declared.tunnel.Config.{Config}
 use Rattle.end_names.specs.declared.role.Role.{Role}
-use Rattle.protocol_model.specs.End.{End, new_end, plain_step, step}
-use Rattle.protocol_model.specs.World.{World, Node, Lined, empty_world, declared, later, config_of, block_of, stepped, after_step, line, new_node}
-use Rattle.protocol_model.specs.Run.{Run, empty_run, after_line, goes_on, run_from, run}
+use Rattle.end_model.specs.End.{End, new_end, plain_step, step}
+use Rattle.world_model.specs.World.{World, Node, Lined, empty_world, declared, later, config_of, block_of, stepped, after_step, line, new_node}
+use Rattle.world_model.specs.Run.{Run, empty_run, after_line, goes_on, run_from, run}
 use Rattle.step_laws.specs.Steps.{AreKept}
 use Rattle.step_laws.specs.Left.{AreSound, AreAsked, AreFew, NoneIsLate, NoneHasFailed, CallsStaySound, CallsAreAsked, LateCallsEnd, FailedTunnelsGo, TunnelsBeginFew, TunnelsStayFew}
 use Rattle.connection_laws.specs.Accounts.{account_of}

@@ -6,17 +6,17 @@ use Rattle.wire_base.specs.declared.why.Why.{Why}
 use Rattle.wire_base.specs.declared.why.Why.TheVariants as why
 use Rattle.schedule_text.specs.declared.line.Line.{Line}
 use Rattle.schedule_text.specs.declared.line.Line.TheVariants.{Remark, Lac, Lns, OpenUp, Close, Ring, Frame, FromSub, Down, Hang, DropCall, Deliver, Tick}
-use Rattle.protocol_model.specs.declared.event.Event.{Event}
-use Rattle.protocol_model.specs.declared.event.Event.TheVariants as event
-use Rattle.protocol_model.specs.declared.out.Out.{Out}
-use Rattle.protocol_model.specs.declared.out.Out.TheVariants.{Drop}
-use Rattle.protocol_model.specs.declared.packet.Packet.{Packet}
-use Rattle.protocol_model.specs.declared.refusal.Refusal.{Refusal}
+use Rattle.end_model.specs.declared.event.Event.{Event}
+use Rattle.end_model.specs.declared.event.Event.TheVariants as event
+use Rattle.end_model.specs.declared.out.Out.{Out}
+use Rattle.end_model.specs.declared.out.Out.TheVariants.{Drop}
+use Rattle.world_model.specs.declared.packet.Packet.{Packet}
+use Rattle.world_model.specs.declared.refusal.Refusal.{Refusal}
 use Rattle.end_names.specs.Names.{address_of}
-use Rattle.protocol_model.specs.Secrets.{uncovered_event}
-use Rattle.protocol_model.specs.End.{End, step}
-use Rattle.protocol_model.specs.Texts.{Drops}
-use Rattle.protocol_model.specs.World.{World, Node, Sender, Lined, after_step, given, entries_of, entry_of, shown, moved_all, with_node, block_of, stepped, addressee_of, arrival, refused_by, sender_of, arrives, delivers_it, delivers, line}
+use Rattle.end_model.specs.Secrets.{uncovered_event}
+use Rattle.end_model.specs.End.{End, step}
+use Rattle.world_model.specs.Texts.{Drops}
+use Rattle.world_model.specs.World.{World, Node, Sender, Lined, after_step, given, entries_of, entry_of, shown, moved_all, with_node, block_of, stepped, addressee_of, arrival, refused_by, sender_of, arrives, delivers_it, delivers, line}
 use Rattle.step_laws.specs.Letters.{Among}
 use Rattle.step_laws.specs.Hosts.{HostDoes, HostSends, HostLeaves, host_does}
 use Rattle.step_laws.specs.Room.{IsFull, FullAreRefused}

@@ -4,7 +4,7 @@ use Rattle.std.proofs.lemmas.List.{length-append}
 use Rattle.std.specs.List.{AllByRecursion}
 use Rattle.schedule_text.specs.declared.line.Line.{Line}
 use Rattle.schedule_text.specs.Grammar.{FitsLine, AreLines}
-use Rattle.protocol_model.specs.Run.{run}
+use Rattle.world_model.specs.Run.{run}
 use Rattle.step_laws.specs.Room.{StepsRefuseTruly, FullAreRefused}
 use Rattle.step_laws.specs.Causes.{CausesStand}
 use Rattle.connection_laws.specs.Facts.{NodeOk}

@@ -3,10 +3,10 @@ use Rattle.std.proofs.Common.{◌≡◌, ⊎_elim, ℕ, List, [], ◌∷◌, ref
 use Rattle.std.specs.Prelude.{option_map}
 use Rattle.id_table.specs.Ids.{at, put}
 use Rattle.id_table.specs.Order.{at_new, at_other, same_or_not}
-use Rattle.protocol_model.specs.declared.moves.Move.{Move}
-use Rattle.protocol_model.specs.declared.moves.Move.TheVariants as move
-use Rattle.protocol_model.specs.End.{Stepped}
-use Rattle.protocol_model.specs.World.{World, Node, Sender, with_node, with_birth_at, with_birth, is_born, moved, moved_all, given, after_step}
+use Rattle.end_model.specs.declared.moves.Move.{Move}
+use Rattle.end_model.specs.declared.moves.Move.TheVariants as move
+use Rattle.end_model.specs.End.{Stepped}
+use Rattle.world_model.specs.World.{World, Node, Sender, with_node, with_birth_at, with_birth, is_born, moved, moved_all, given, after_step}
 use Rattle.frame_laws.proofs.Worlds.{shown_nodes}
 
 module _ {X : Type 0} (see : Node → X) (still : (node : Node) (births : List (ℕ × ℕ)) → see (record node { births = births }) ≡ see node) where

@@ -3,11 +3,11 @@ use Rattle.std.specs.Prelude.{◌≡◌, ℕ, ◌+◌, ◌^◌, ◌<◌, List, �
 use Rattle.id_table.specs.Ids.{at}
 use Rattle.schedule_text.specs.declared.line.Line.{Line}
 use Rattle.schedule_text.specs.Grammar.{AreLines}
-use Rattle.protocol_model.specs.declared.event.Event.{Event}
-use Rattle.protocol_model.specs.Secrets.{uncovered_event}
-use Rattle.protocol_model.specs.End.{Stepped, step}
-use Rattle.protocol_model.specs.World.{World, Node, Deed, Lined, block_of, line}
-use Rattle.protocol_model.specs.Run.{run}
+use Rattle.end_model.specs.declared.event.Event.{Event}
+use Rattle.end_model.specs.Secrets.{uncovered_event}
+use Rattle.end_model.specs.End.{Stepped, step}
+use Rattle.world_model.specs.World.{World, Node, Deed, Lined, block_of, line}
+use Rattle.world_model.specs.Run.{run}
 use Rattle.step_laws.specs.Answers.{StepAnswers}
 use Rattle.cause_laws.specs.Causes.{Brings, moment_of}
 

@@ -8,23 +8,23 @@ use Rattle.wire_base.specs.declared.cause.Cause.{Cause}
 use Rattle.schedule_text.specs.declared.line.Line.{Line}
 use Rattle.schedule_text.specs.declared.line.Line.TheVariants.{Remark, Lac, Lns, OpenUp, Close, Ring, Frame, FromSub, Down, Hang, DropCall, Deliver, Tick}
 use Rattle.schedule_text.specs.Grammar.{AreLines}
-use Rattle.protocol_model.specs.declared.event.Event.{Event}
-use Rattle.protocol_model.specs.declared.event.Event.TheVariants as event
-use Rattle.protocol_model.specs.declared.packet.Packet.{Packet}
+use Rattle.end_model.specs.declared.event.Event.{Event}
+use Rattle.end_model.specs.declared.event.Event.TheVariants as event
+use Rattle.world_model.specs.declared.packet.Packet.{Packet}
 use Rattle.end_names.specs.Names.{address_of, mac_of}
-use Rattle.protocol_model.specs.Secrets.{uncovered_event}
-use Rattle.protocol_model.specs.Calls.{owed_by}
-use Rattle.protocol_model.specs.Turn.{Tunnel, is_closed}
+use Rattle.end_model.specs.Secrets.{uncovered_event}
+use Rattle.end_model.specs.Calls.{owed_by}
+use Rattle.end_model.specs.Turn.{Tunnel, is_closed}
 use Rattle.id_source.specs.Spaces.{draws}
 use Rattle.pppoe_discovery.specs.Told.{pads_to}
-use Rattle.protocol_model.specs.End.{End, Stepped, step}
-use Rattle.protocol_model.specs.World.{World, Node, Lined, block_of, line}
+use Rattle.end_model.specs.End.{End, Stepped, step}
+use Rattle.world_model.specs.World.{World, Node, Lined, block_of, line}
 use Rattle.pppoe_discovery.specs.declared.outcome.Discovered.{Discovered}
 use Rattle.pppoe_discovery.specs.declared.outcome.Discovered.TheVariants.{Reply}
-use Rattle.protocol_model.specs.Access.{coming, Runs, Enters, refusal_in}
-use Rattle.protocol_model.specs.Texts.{Entry, Sends, HandsUp, Ends, Frames, Drops, Causes}
+use Rattle.end_model.specs.Access.{coming, Runs, Enters, refusal_in}
+use Rattle.world_model.specs.Texts.{Entry, Sends, HandsUp, Ends, Frames, Drops, Causes}
 use Rattle.step_laws.specs.Hosts.{LacAt, IsRepeated, discovered_at}
-use Rattle.protocol_model.specs.Run.{run}
+use Rattle.world_model.specs.Run.{run}
 use Rattle.step_laws.specs.Letters.{Among}
 use Rattle.step_laws.specs.Room.{IsFull}
 use Rattle.step_laws.specs.Causes.{Stands}

@@ -8,17 +8,17 @@ use Rattle.id_source.specs.Spaces.{Space}
 use Rattle.control_message.specs.declared.message.Message.TheVariants.{Sccrq, Sccrp}
 use Rattle.tunnel_fsm.specs.declared.table.TunnelState.TheVariants.{WaitCtlConn}
 use Rattle.tunnel_fsm.specs.Rows.{state_number}
-use Rattle.protocol_model.specs.declared.event.Event.{Event}
-use Rattle.protocol_model.specs.declared.event.Event.TheVariants.{Datagram}
-use Rattle.protocol_model.specs.declared.moves.Accepted.{Accepted}
-use Rattle.protocol_model.specs.declared.moves.Place.{Place}
-use Rattle.protocol_model.specs.declared.moves.Move.TheVariants as move
-use Rattle.protocol_model.specs.declared.out.ControlOrigin.{ControlOrigin}
-use Rattle.protocol_model.specs.declared.tunnel.Control.{Control}
+use Rattle.end_model.specs.declared.event.Event.{Event}
+use Rattle.end_model.specs.declared.event.Event.TheVariants.{Datagram}
+use Rattle.end_model.specs.declared.moves.Accepted.{Accepted}
+use Rattle.end_model.specs.declared.moves.Place.{Place}
+use Rattle.end_model.specs.declared.moves.Move.TheVariants as move
+use Rattle.end_model.specs.declared.out.ControlOrigin.{ControlOrigin}
+use Rattle.end_model.specs.declared.tunnel.Control.{Control}
 use Rattle.end_names.specs.Names.{address_of, node_of}
-use Rattle.protocol_model.specs.Turn.{Tunnel, letter_of, opening_of, counts_taken, learns_window}
-use Rattle.protocol_model.specs.End.{End}
-use Rattle.protocol_model.specs.World.{Sender, Deed, config_of}
+use Rattle.end_model.specs.Turn.{Tunnel, letter_of, opening_of, counts_taken, learns_window}
+use Rattle.end_model.specs.End.{End}
+use Rattle.world_model.specs.World.{Sender, Deed, config_of}
 use Rattle.step_laws.specs.Letters.{Letter}
 use Rattle.step_laws.specs.Moves.{with_tunnel, with_letter, new_tunnel, begun}
 use Rattle.frame_laws.specs.Codecs.{Codecs}
@@ -30,7 +30,7 @@ use Rattle.connection_laws.proofs.Later.{after_move, only_after}
 use Rattle.connection_laws.proofs.Put.{puts_keep}
 use Rattle.connection_laws.proofs.Written.{asks_short, responds_sized, opening_written, same_opening, draw_is, next_is, node_again, node_fits}
 use Rattle.connection_laws.proofs.Beginning.{undrawn}
-use Rattle.protocol_model.specs.Reading.{body_of, message_in}
+use Rattle.end_model.specs.Reading.{body_of, message_in}
 use Rattle.connection_laws.proofs.Alike.{read_same}
 use Rattle.connection_laws.proofs.Hearing.{opener_of, sccrq_of, IsLetterRead, FromPeer, letter_said, said_in, from_peer_said}
 use Rattle.connection_laws.proofs.Taking.{got_push, with_taken, taken_as, takes_and_gives}

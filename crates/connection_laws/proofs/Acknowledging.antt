@@ -7,15 +7,15 @@ use Rattle.send_window.specs.Window.{count_acked, without_first}
 use Rattle.std.specs.Prelude.{unwrap_or}
 use Rattle.l2tp_header.specs.declared.header.Header.{Header}
 use Rattle.recv_window.specs.Window.{on_wire, ClassIsTrue}
-use Rattle.protocol_model.specs.declared.out.ControlOrigin.{ControlOrigin}
+use Rattle.end_model.specs.declared.out.ControlOrigin.{ControlOrigin}
 use Rattle.wire_base.specs.declared.letter.Letter as wire
-use Rattle.protocol_model.specs.declared.event.Event.{Event}
-use Rattle.protocol_model.specs.declared.moves.NrRead.{NrRead}
-use Rattle.protocol_model.specs.declared.moves.Move.TheVariants as move
-use Rattle.protocol_model.specs.declared.tunnel.CallPlace.{CallPlace}
-use Rattle.protocol_model.specs.Turn.{Tunnel, counts_acked}
-use Rattle.protocol_model.specs.End.{End}
-use Rattle.protocol_model.specs.World.{Sender, Deed}
+use Rattle.end_model.specs.declared.event.Event.{Event}
+use Rattle.end_model.specs.declared.moves.NrRead.{NrRead}
+use Rattle.end_model.specs.declared.moves.Move.TheVariants as move
+use Rattle.end_model.specs.declared.tunnel.CallPlace.{CallPlace}
+use Rattle.end_model.specs.Turn.{Tunnel, counts_acked}
+use Rattle.end_model.specs.End.{End}
+use Rattle.world_model.specs.World.{Sender, Deed}
 use Rattle.step_laws.specs.Letters.{Letter}
 use Rattle.step_laws.specs.Moves.{with_tunnel}
 use Rattle.frame_laws.specs.Codecs.{Codecs}

@@ -4,12 +4,12 @@ use Rattle.std.proofs.lemmas.Bool.{cases_lt}
 use Rattle.std.specs.Prelude.{slice_get}
 use Rattle.std.proofs.lemmas.Option.{slice_get_cases}
 use Rattle.id_table.specs.Order.{same_or_not}
-use Rattle.protocol_model.specs.declared.out.Origin.{Origin}
-use Rattle.protocol_model.specs.declared.out.Origin.TheVariants as origin
-use Rattle.protocol_model.specs.declared.out.ControlOrigin.{ControlOrigin}
-use Rattle.protocol_model.specs.declared.packet.Packet.{Packet}
-use Rattle.protocol_model.specs.World.{Deed}
-use Rattle.protocol_model.specs.Run.{Run}
+use Rattle.end_model.specs.declared.out.Origin.{Origin}
+use Rattle.end_model.specs.declared.out.Origin.TheVariants as origin
+use Rattle.end_model.specs.declared.out.ControlOrigin.{ControlOrigin}
+use Rattle.world_model.specs.declared.packet.Packet.{Packet}
+use Rattle.world_model.specs.World.{Deed}
+use Rattle.world_model.specs.Run.{Run}
 use Rattle.step_laws.specs.Steps.{AreKept}
 use Rattle.connection_laws.specs.Accounts.{Part, Unmade, Opener, Acceptor, Taken, Account, heeded, account_of, partner_of}
 use Rattle.connection_laws.specs.Facts.{Accounts, AreTaken, IsLost, partner_in, IsOpener, IsAcceptor, IsPart, AccountOk, IsAnswered, AreAcked, EndOk, OriginOk, PacketOk, NodeOk, Holds}

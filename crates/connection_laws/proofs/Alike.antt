@@ -3,8 +3,8 @@ use Rattle.std.proofs.Common.{◌≡◌, ℕ, List, [], refl, sym, ap, ◌∙◌
 use Rattle.control_message.specs.declared.message.Message.{Message}
 use Rattle.control_message.specs.declared.message.Message.TheVariants.{Sccrq, Sccrp, Scccn, StopCcn, Hello, Ocrq, Ocrp, Occn, Icrq, Icrp, Iccn, Cdn, Wen, Sli}
 use Rattle.control_message.specs.declared.message.Opening.{Opening}
-use Rattle.protocol_model.specs.declared.event.Addressee.TheVariants.{Opens, Stops}
-use Rattle.protocol_model.specs.Reading.{message_in, CallFault, call_fault_in, TunnelFault, tunnel_fault_in, at_zero}
+use Rattle.end_model.specs.declared.event.Addressee.TheVariants.{Opens, Stops}
+use Rattle.end_model.specs.Reading.{message_in, CallFault, call_fault_in, TunnelFault, tunnel_fault_in, at_zero}
 use Rattle.step_laws.specs.Opens.{Assigns, opens_said}
 use Rattle.frame_laws.specs.Plain.{without_number, AreAlike, IsReadAs, AsAMessage, AsAFault, message_there, no_fault_there, no_tunnel_fault_there, number_fault, no_message_there, fault_there, for_its_call, for_no_tunnel}
 use Rattle.frame_laws.specs.Written.{IsWritten}

@@ -9,12 +9,12 @@ use Rattle.control_message.specs.Reading.{message_of, kind_of_pairs}
 use Rattle.avp_codec.specs.declared.avp.Avp.{Avp}
 use Rattle.avp_codec.specs.declared.error.AvpError.{AvpError}
 use Rattle.avp_codec.specs.Reading.{avps_of}
-use Rattle.protocol_model.specs.declared.event.Event.{Event}
-use Rattle.protocol_model.specs.declared.out.ControlOrigin.{ControlOrigin}
-use Rattle.protocol_model.specs.declared.tunnel.Control.{Control}
-use Rattle.protocol_model.specs.Reading.{body_of, message_in, pairs_read, message_read, call_fault_in, fault_of_pairs, tunnel_fault_in, tunnel_fault_of_pairs, tunnel_fault_read}
-use Rattle.protocol_model.specs.End.{End}
-use Rattle.protocol_model.specs.World.{Sender}
+use Rattle.end_model.specs.declared.event.Event.{Event}
+use Rattle.end_model.specs.declared.out.ControlOrigin.{ControlOrigin}
+use Rattle.end_model.specs.declared.tunnel.Control.{Control}
+use Rattle.end_model.specs.Reading.{body_of, message_in, pairs_read, message_read, call_fault_in, fault_of_pairs, tunnel_fault_in, tunnel_fault_of_pairs, tunnel_fault_read}
+use Rattle.end_model.specs.End.{End}
+use Rattle.world_model.specs.World.{Sender}
 use Rattle.step_laws.specs.Letters.{Letter}
 use Rattle.step_laws.specs.Moves.{Hears}
 use Rattle.frame_laws.specs.Codecs.{Codecs}

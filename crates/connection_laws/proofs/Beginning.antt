@@ -5,17 +5,17 @@ use Rattle.id_table.specs.Ids.{at-none}
 use Rattle.id_table.specs.Order.{ascends-empty}
 use Rattle.control_message.specs.declared.message.Message.TheVariants.{Sccrq}
 use Rattle.tunnel_fsm.specs.declared.table.TunnelState.TheVariants.{WaitCtlReply}
-use Rattle.protocol_model.specs.declared.event.Event.{Event}
-use Rattle.protocol_model.specs.declared.event.Event.TheVariants.{Datagram, Ring, Frame, Admitted, Payload, Lower, Lcp, Hang, OpenTunnel, DropCall, CloseTunnel, Tick}
-use Rattle.protocol_model.specs.declared.moves.Opened.{Opened}
-use Rattle.protocol_model.specs.declared.moves.Move.TheVariants as move
-use Rattle.protocol_model.specs.declared.out.Origin.{Origin}
-use Rattle.protocol_model.specs.declared.out.Origin.TheVariants as origin
-use Rattle.protocol_model.specs.declared.packet.Packet.{Packet}
+use Rattle.end_model.specs.declared.event.Event.{Event}
+use Rattle.end_model.specs.declared.event.Event.TheVariants.{Datagram, Ring, Frame, Admitted, Payload, Lower, Lcp, Hang, OpenTunnel, DropCall, CloseTunnel, Tick}
+use Rattle.end_model.specs.declared.moves.Opened.{Opened}
+use Rattle.end_model.specs.declared.moves.Move.TheVariants as move
+use Rattle.end_model.specs.declared.out.Origin.{Origin}
+use Rattle.end_model.specs.declared.out.Origin.TheVariants as origin
+use Rattle.world_model.specs.declared.packet.Packet.{Packet}
 use Rattle.end_names.specs.Names.{address_of, node_of}
-use Rattle.protocol_model.specs.Turn.{Tunnel, letter_of, opening_of}
-use Rattle.protocol_model.specs.End.{End}
-use Rattle.protocol_model.specs.World.{Sender, Deed, config_of}
+use Rattle.end_model.specs.Turn.{Tunnel, letter_of, opening_of}
+use Rattle.end_model.specs.End.{End}
+use Rattle.world_model.specs.World.{Sender, Deed, config_of}
 use Rattle.step_laws.specs.Letters.{Letter}
 use Rattle.step_laws.specs.Moves.{Asks, with_tunnel, with_letter, new_tunnel, begun}
 use Rattle.connection_laws.specs.Accounts.{Part, Unmade, Opener, Acceptor, Account, no_account, gives}

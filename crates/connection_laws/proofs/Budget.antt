@@ -7,13 +7,13 @@ use Rattle.id_table.specs.Order.{Ascends, at_new, found_put, found_without, same
 use Rattle.send_window.specs.Kept.{Window}
 use Rattle.send_window.specs.Window as window
 use Rattle.control_channel.specs.Numbers.{Numbers, acked_at, let_go_at, ticked_at}
-use Rattle.protocol_model.specs.declared.event.Event.{Event}
-use Rattle.protocol_model.specs.declared.moves.Move.{Move}
-use Rattle.protocol_model.specs.declared.moves.Move.TheVariants as move
-use Rattle.protocol_model.specs.declared.tunnel.Control.{Control}
-use Rattle.protocol_model.specs.Turn.{Tunnel, learns_window}
-use Rattle.protocol_model.specs.End.{End}
-use Rattle.protocol_model.specs.World.{Sender, Deed}
+use Rattle.end_model.specs.declared.event.Event.{Event}
+use Rattle.end_model.specs.declared.moves.Move.{Move}
+use Rattle.end_model.specs.declared.moves.Move.TheVariants as move
+use Rattle.end_model.specs.declared.tunnel.Control.{Control}
+use Rattle.end_model.specs.Turn.{Tunnel, learns_window}
+use Rattle.end_model.specs.End.{End}
+use Rattle.world_model.specs.World.{Sender, Deed}
 use Rattle.step_laws.specs.Moves.{Does}
 use Rattle.step_laws.specs.Ups.{reads_of_move}
 use Rattle.connection_laws.specs.Accounts.{Part, Unmade, Opener, Acceptor, Account, no_account, about, entered_by}

@@ -13,15 +13,15 @@ use Rattle.recv_window.specs.Window.{ClassIsTrue}
 use Rattle.tunnel_fsm.specs.declared.table.TunnelState.TheVariants.{Established}
 use Rattle.tunnel_fsm.specs.Rows.{state_number}
 use Rattle.connection_laws.proofs.Written.{responds_sized}
-use Rattle.protocol_model.specs.declared.event.Event.{Event}
-use Rattle.protocol_model.specs.declared.moves.Connected.{Connected}
-use Rattle.protocol_model.specs.declared.moves.Place.{Place}
-use Rattle.protocol_model.specs.declared.moves.Move.TheVariants as move
-use Rattle.protocol_model.specs.declared.out.ControlOrigin.{ControlOrigin}
-use Rattle.protocol_model.specs.declared.tunnel.Control.{Control}
-use Rattle.protocol_model.specs.Turn.{Tunnel, counts_taken, learns_window}
-use Rattle.protocol_model.specs.End.{End}
-use Rattle.protocol_model.specs.World.{Sender, Deed}
+use Rattle.end_model.specs.declared.event.Event.{Event}
+use Rattle.end_model.specs.declared.moves.Connected.{Connected}
+use Rattle.end_model.specs.declared.moves.Place.{Place}
+use Rattle.end_model.specs.declared.moves.Move.TheVariants as move
+use Rattle.end_model.specs.declared.out.ControlOrigin.{ControlOrigin}
+use Rattle.end_model.specs.declared.tunnel.Control.{Control}
+use Rattle.end_model.specs.Turn.{Tunnel, counts_taken, learns_window}
+use Rattle.end_model.specs.End.{End}
+use Rattle.world_model.specs.World.{Sender, Deed}
 use Rattle.step_laws.specs.Letters.{Letter}
 use Rattle.step_laws.specs.Moves.{heard_so, with_letter}
 use Rattle.frame_laws.specs.Codecs.{Codecs}

@@ -16,15 +16,15 @@ use Rattle.control_message.specs.declared.message.Read.TheVariants.{Known, Ignor
 use Rattle.control_message.specs.Pairs.{pairs_of}
 use Rattle.control_message.specs.Reading.{message_of, kind_of_pairs}
 use Rattle.recv_window.specs.Window.{on_wire}
-use Rattle.protocol_model.specs.declared.event.Addressee.TheVariants.{Stops, Answers, Nobody}
-use Rattle.protocol_model.specs.declared.event.Event.{Event}
-use Rattle.protocol_model.specs.declared.moves.Declined.{Declined}
-use Rattle.protocol_model.specs.declared.moves.Move.TheVariants as move
-use Rattle.protocol_model.specs.declared.out.Origin.{Origin}
+use Rattle.end_model.specs.declared.event.Addressee.TheVariants.{Stops, Answers, Nobody}
+use Rattle.end_model.specs.declared.event.Event.{Event}
+use Rattle.end_model.specs.declared.moves.Declined.{Declined}
+use Rattle.end_model.specs.declared.moves.Move.TheVariants as move
+use Rattle.end_model.specs.declared.out.Origin.{Origin}
 use Rattle.end_names.specs.Names.{node_of}
-use Rattle.protocol_model.specs.Reading.{body_of, message_in, pairs_read, message_read, at_zero, zero_pairs, zero_read}
-use Rattle.protocol_model.specs.End.{End, decline_origin}
-use Rattle.protocol_model.specs.World.{Sender, Deed}
+use Rattle.end_model.specs.Reading.{body_of, message_in, pairs_read, message_read, at_zero, zero_pairs, zero_read}
+use Rattle.end_model.specs.End.{End, decline_origin}
+use Rattle.world_model.specs.World.{Sender, Deed}
 use Rattle.step_laws.specs.Moves.{WhyDeclined, AnOpening, AFaultyOpening, AnAnswer, Declines}
 use Rattle.step_laws.specs.Opens.{empty_opens_none}
 use Rattle.frame_laws.specs.Codecs.{Codecs}

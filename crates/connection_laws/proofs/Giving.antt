@@ -12,27 +12,27 @@ use Rattle.tunnel_fsm.specs.Rows.{state_number}
 use Rattle.call_fsm.specs.declared.table.CallState.TheVariants.{WaitTunnel}
 use Rattle.call_fsm.specs.declared.table.CallEvent.{CallEvent}
 use Rattle.call_fsm.specs.declared.table.CallEvent.TheVariants as call_event
-use Rattle.protocol_model.specs.declared.event.Event.{Event}
-use Rattle.protocol_model.specs.declared.moves.EndTold.{EndTold}
-use Rattle.protocol_model.specs.declared.moves.Greeted.{Greeted}
-use Rattle.protocol_model.specs.declared.moves.Requested.{Requested}
-use Rattle.protocol_model.specs.declared.moves.Added.{Added}
-use Rattle.protocol_model.specs.declared.moves.EndSilent.{EndSilent}
-use Rattle.protocol_model.specs.declared.moves.LetGo.{LetGo}
-use Rattle.protocol_model.specs.declared.moves.Repeated.{Repeated}
-use Rattle.protocol_model.specs.declared.moves.Negotiated.{Negotiated}
-use Rattle.protocol_model.specs.declared.moves.FrameSent.{FrameSent}
-use Rattle.protocol_model.specs.declared.moves.FrameUp.{FrameUp}
-use Rattle.protocol_model.specs.declared.moves.Move.{Move}
-use Rattle.protocol_model.specs.declared.moves.Move.TheVariants as move
-use Rattle.protocol_model.specs.declared.tunnel.Call.{Call}
-use Rattle.protocol_model.specs.declared.tunnel.CallPlace.{CallPlace}
+use Rattle.end_model.specs.declared.event.Event.{Event}
+use Rattle.end_model.specs.declared.moves.EndTold.{EndTold}
+use Rattle.end_model.specs.declared.moves.Greeted.{Greeted}
+use Rattle.end_model.specs.declared.moves.Requested.{Requested}
+use Rattle.end_model.specs.declared.moves.Added.{Added}
+use Rattle.end_model.specs.declared.moves.EndSilent.{EndSilent}
+use Rattle.end_model.specs.declared.moves.LetGo.{LetGo}
+use Rattle.end_model.specs.declared.moves.Repeated.{Repeated}
+use Rattle.end_model.specs.declared.moves.Negotiated.{Negotiated}
+use Rattle.end_model.specs.declared.moves.FrameSent.{FrameSent}
+use Rattle.end_model.specs.declared.moves.FrameUp.{FrameUp}
+use Rattle.end_model.specs.declared.moves.Move.{Move}
+use Rattle.end_model.specs.declared.moves.Move.TheVariants as move
+use Rattle.end_model.specs.declared.tunnel.Call.{Call}
+use Rattle.end_model.specs.declared.tunnel.CallPlace.{CallPlace}
 use Rattle.end_names.specs.declared.role.Role.{Role}
 use Rattle.end_names.specs.Names.{calling_number}
-use Rattle.protocol_model.specs.Calls.{call_row, is_told, advanced, rung}
-use Rattle.protocol_model.specs.Turn.{Tunnel, has_room, request_of, with_link, link_after}
-use Rattle.protocol_model.specs.End.{End, new_place}
-use Rattle.protocol_model.specs.World.{Sender, Deed, config_of}
+use Rattle.end_model.specs.Calls.{call_row, is_told, advanced, rung}
+use Rattle.end_model.specs.Turn.{Tunnel, has_room, request_of, with_link, link_after}
+use Rattle.end_model.specs.End.{End, new_place}
+use Rattle.world_model.specs.World.{Sender, Deed, config_of}
 use Rattle.step_laws.specs.Letters.{Letter, letters_of}
 use Rattle.lcp_end.specs.Laws.{after as lcp_after}
 use Rattle.step_laws.specs.Codes.{codes_fit}

@@ -15,22 +15,22 @@ use Rattle.control_message.specs.declared.message.Opening.{Opening}
 use Rattle.control_message.specs.Pairs.{pairs_of}
 use Rattle.control_message.specs.Reading.{message_of}
 use Rattle.recv_window.specs.Window.{on_wire}
-use Rattle.protocol_model.specs.declared.event.Event.{Event}
-use Rattle.protocol_model.specs.declared.event.Event.TheVariants.{Datagram, Ring, Frame, Admitted, Payload, Lower, Lcp, Hang, OpenTunnel, DropCall, CloseTunnel, Tick}
-use Rattle.protocol_model.specs.declared.out.Origin.{Origin}
-use Rattle.protocol_model.specs.declared.out.Origin.TheVariants as origin
-use Rattle.protocol_model.specs.declared.out.ControlOrigin.{ControlOrigin}
-use Rattle.protocol_model.specs.declared.packet.Packet.{Packet}
-use Rattle.protocol_model.specs.declared.tunnel.Control.{Control}
+use Rattle.end_model.specs.declared.event.Event.{Event}
+use Rattle.end_model.specs.declared.event.Event.TheVariants.{Datagram, Ring, Frame, Admitted, Payload, Lower, Lcp, Hang, OpenTunnel, DropCall, CloseTunnel, Tick}
+use Rattle.end_model.specs.declared.out.Origin.{Origin}
+use Rattle.end_model.specs.declared.out.Origin.TheVariants as origin
+use Rattle.end_model.specs.declared.out.ControlOrigin.{ControlOrigin}
+use Rattle.world_model.specs.declared.packet.Packet.{Packet}
+use Rattle.end_model.specs.declared.tunnel.Control.{Control}
 use Rattle.end_names.specs.Names.{address_of}
-use Rattle.protocol_model.specs.Reading.{body_of, message_in, pairs_read, message_read}
-use Rattle.protocol_model.specs.Turn.{Tunnel}
-use Rattle.protocol_model.specs.End.{End}
-use Rattle.protocol_model.specs.World.{Sender, sender_of}
+use Rattle.end_model.specs.Reading.{body_of, message_in, pairs_read, message_read}
+use Rattle.end_model.specs.Turn.{Tunnel}
+use Rattle.end_model.specs.End.{End}
+use Rattle.world_model.specs.World.{Sender, sender_of}
 use Rattle.step_laws.specs.Letters.{Letter}
 use Rattle.step_laws.specs.Moves.{Came, CameIn, IsFor, IsAgain, IsStop, ComesTo}
 use Rattle.step_laws.specs.Opens.{empty_opens_none}
-use Rattle.protocol_model.specs.Secrets.{uncovered_datagram}
+use Rattle.end_model.specs.Secrets.{uncovered_datagram}
 use Rattle.frame_laws.specs.Codecs.{Codecs}
 use Rattle.frame_laws.specs.Plain.{IsReadAs}
 use Rattle.frame_laws.specs.Written.{IsWritten}

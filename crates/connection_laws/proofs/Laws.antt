@@ -1,6 +1,6 @@
 -- What holds over every list of lines.
 use Rattle.recv_window.specs.Window.{ClassIsTrue}
-use Rattle.protocol_model.specs.Run.{run}
+use Rattle.world_model.specs.Run.{run}
 use Rattle.step_laws.specs.Steps.{StepsAreChains}
 use Rattle.step_laws.specs.Ups.{ReadsAreFew}
 use Rattle.frame_laws.specs.Codecs.{Codecs}

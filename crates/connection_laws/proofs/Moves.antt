@@ -1,6 +1,6 @@
 -- Each move of a step keeps what holds between two of them.
 use Rattle.recv_window.specs.Window.{ClassIsTrue}
-use Rattle.protocol_model.specs.declared.moves.Move.TheVariants as move
+use Rattle.end_model.specs.declared.moves.Move.TheVariants as move
 use Rattle.frame_laws.specs.Codecs.{Codecs}
 use Rattle.connection_laws.proofs.Keeps.{MovesKeep}
 use Rattle.connection_laws.proofs.Beginning.{opened_keeps}

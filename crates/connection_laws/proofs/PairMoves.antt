@@ -13,27 +13,27 @@ use Rattle.tunnel_fsm.specs.declared.table.TunnelState.TheVariants.{Established}
 use Rattle.tunnel_fsm.specs.Rows.{state_number}
 use Rattle.call_fsm.specs.declared.table.CallEvent.{CallEvent}
 use Rattle.call_fsm.specs.declared.table.CallEvent.TheVariants as call_event
-use Rattle.protocol_model.specs.declared.event.Event.{Event}
-use Rattle.protocol_model.specs.declared.moves.Confirmed.{Confirmed}
-use Rattle.protocol_model.specs.declared.moves.EndHeard.{EndHeard}
-use Rattle.protocol_model.specs.declared.moves.FirstUp.{FirstUp}
-use Rattle.protocol_model.specs.declared.moves.Replied.{Replied}
-use Rattle.protocol_model.specs.declared.moves.SecondUp.{SecondUp}
-use Rattle.protocol_model.specs.declared.moves.Place.{Place}
-use Rattle.protocol_model.specs.declared.moves.Move.{Move}
-use Rattle.protocol_model.specs.declared.moves.Move.TheVariants as move
-use Rattle.protocol_model.specs.declared.tunnel.Call.{Call}
-use Rattle.protocol_model.specs.declared.tunnel.CallPlace.{CallPlace}
+use Rattle.end_model.specs.declared.event.Event.{Event}
+use Rattle.end_model.specs.declared.moves.Confirmed.{Confirmed}
+use Rattle.end_model.specs.declared.moves.EndHeard.{EndHeard}
+use Rattle.end_model.specs.declared.moves.FirstUp.{FirstUp}
+use Rattle.end_model.specs.declared.moves.Replied.{Replied}
+use Rattle.end_model.specs.declared.moves.SecondUp.{SecondUp}
+use Rattle.end_model.specs.declared.moves.Place.{Place}
+use Rattle.end_model.specs.declared.moves.Move.{Move}
+use Rattle.end_model.specs.declared.moves.Move.TheVariants as move
+use Rattle.end_model.specs.declared.tunnel.Call.{Call}
+use Rattle.end_model.specs.declared.tunnel.CallPlace.{CallPlace}
 use Rattle.end_names.specs.declared.role.Role.{Role}
-use Rattle.protocol_model.specs.Calls.{advanced, asked_for}
-use Rattle.protocol_model.specs.Turn.{Tunnel, has_room, taken_place, in_state, counts_taken, connection, session_named, with_link}
-use Rattle.protocol_model.specs.End.{End}
-use Rattle.protocol_model.specs.World.{Sender, Deed}
+use Rattle.end_model.specs.Calls.{advanced, asked_for}
+use Rattle.end_model.specs.Turn.{Tunnel, has_room, taken_place, in_state, counts_taken, connection, session_named, with_link}
+use Rattle.end_model.specs.End.{End}
+use Rattle.world_model.specs.World.{Sender, Deed}
 use Rattle.step_laws.specs.Letters.{Letter}
 use Rattle.step_laws.specs.Links.{begun_link}
 use Rattle.step_laws.specs.Moves.{HearsNext, heard_so, with_tunnel, with_letter_as}
 use Rattle.l2tp_header.specs.declared.header.Header.{Header}
-use Rattle.protocol_model.specs.Reading.{body_of}
+use Rattle.end_model.specs.Reading.{body_of}
 use Rattle.frame_laws.specs.Codecs.{Codecs}
 use Rattle.frame_laws.specs.Plain.{AreAlike}
 use Rattle.frame_laws.specs.Written.{IsWritten}

@@ -2,7 +2,7 @@
 use Rattle.std.proofs.Common.{◌≡◌, ℕ, ◌<◌, ◌≤◌, List, [], length, refl, ap, ◌∙◌, Option, arith}
 use Rattle.l2tp_header.specs.Spelling.{control_bytes}
 use Rattle.recv_window.specs.Window.{on_wire}
-use Rattle.protocol_model.specs.Secrets.{uncovered_datagram}
+use Rattle.end_model.specs.Secrets.{uncovered_datagram}
 use Rattle.step_laws.specs.Letters.{Letter}
 use Rattle.frame_laws.specs.Codecs.{Codecs}
 use Rattle.frame_laws.specs.Plain.{IsReadAs, IsUncovered, stays_plain, letter_uncovered, frame_stays}

@@ -9,20 +9,20 @@ use Rattle.wire_base.specs.declared.why.Why.TheVariants as why
 use Rattle.l2tp_header.specs.declared.header.Header.{Header}
 use Rattle.l2tp_header.specs.declared.header.HeaderError.{HeaderError}
 use Rattle.l2tp_header.specs.Reading.{header_of}
-use Rattle.protocol_model.specs.Secrets.{uncovered_datagram}
-use Rattle.protocol_model.specs.declared.event.Addressee.{Addressee}
-use Rattle.protocol_model.specs.declared.event.Addressee.TheVariants.{Opens, Stops, Answers, Main, Nobody}
-use Rattle.protocol_model.specs.declared.tunnel.Control.{Control}
-use Rattle.protocol_model.specs.declared.out.Origin.{Origin}
-use Rattle.protocol_model.specs.declared.out.Origin.TheVariants as origin
-use Rattle.protocol_model.specs.declared.out.ControlOrigin.{ControlOrigin}
-use Rattle.protocol_model.specs.declared.packet.Packet.{Packet}
+use Rattle.end_model.specs.Secrets.{uncovered_datagram}
+use Rattle.end_model.specs.declared.event.Addressee.{Addressee}
+use Rattle.end_model.specs.declared.event.Addressee.TheVariants.{Opens, Stops, Answers, Main, Nobody}
+use Rattle.end_model.specs.declared.tunnel.Control.{Control}
+use Rattle.end_model.specs.declared.out.Origin.{Origin}
+use Rattle.end_model.specs.declared.out.Origin.TheVariants as origin
+use Rattle.end_model.specs.declared.out.ControlOrigin.{ControlOrigin}
+use Rattle.world_model.specs.declared.packet.Packet.{Packet}
 use Rattle.end_names.specs.Names.{address_of}
-use Rattle.protocol_model.specs.Reading.{body_of, at_zero, at_tunnel}
-use Rattle.protocol_model.specs.Turn.{Tunnel}
-use Rattle.protocol_model.specs.End.{reached, End, opens_once, addressed, main_of, reached_by, reached_plain}
-use Rattle.protocol_model.specs.World.{Node, too_old}
-use Rattle.protocol_model.specs.Run.{Run}
+use Rattle.end_model.specs.Reading.{body_of, at_zero, at_tunnel}
+use Rattle.end_model.specs.Turn.{Tunnel}
+use Rattle.end_model.specs.End.{reached, End, opens_once, addressed, main_of, reached_by, reached_plain}
+use Rattle.world_model.specs.World.{Node, too_old}
+use Rattle.world_model.specs.Run.{Run}
 use Rattle.step_laws.specs.Steps.{AreKept}
 use Rattle.frame_laws.specs.Codecs.{Codecs}
 use Rattle.connection_laws.specs.Accounts.{Opener, Account, account_of}

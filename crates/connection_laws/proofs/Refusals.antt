@@ -10,10 +10,10 @@ use Rattle.control_message.specs.declared.message.Message.{Message}
 use Rattle.control_message.specs.declared.message.Message.TheVariants.{StopCcn}
 use Rattle.control_message.specs.Pairs.{pairs_of}
 use Rattle.recv_window.specs.Window.{on_wire}
-use Rattle.protocol_model.specs.declared.out.ControlOrigin.{ControlOrigin}
-use Rattle.protocol_model.specs.declared.packet.Packet.{Packet}
-use Rattle.protocol_model.specs.Reading.{body_of, message_in, pairs_read, message_read}
-use Rattle.protocol_model.specs.Secrets.{uncovered_datagram}
+use Rattle.end_model.specs.declared.out.ControlOrigin.{ControlOrigin}
+use Rattle.world_model.specs.declared.packet.Packet.{Packet}
+use Rattle.end_model.specs.Reading.{body_of, message_in, pairs_read, message_read}
+use Rattle.end_model.specs.Secrets.{uncovered_datagram}
 use Rattle.frame_laws.specs.Codecs.{Codecs}
 use Rattle.frame_laws.specs.Plain.{IsReadAs, AsAMessage, letter_stays}
 use Rattle.frame_laws.specs.Written.{IsWritten}

@@ -10,13 +10,13 @@ use Rattle.control_message.specs.declared.message.Message.TheVariants.{Sccrq, St
 use Rattle.control_message.specs.declared.message.Opening.{Opening}
 use Rattle.recv_window.specs.Window.{ClassIsTrue}
 use Rattle.tunnel_fsm.specs.declared.table.TunnelState.TheVariants as state
-use Rattle.protocol_model.specs.declared.event.Event.{Event}
-use Rattle.protocol_model.specs.declared.moves.Move.TheVariants as move
-use Rattle.protocol_model.specs.declared.out.ControlOrigin.{ControlOrigin}
-use Rattle.protocol_model.specs.declared.tunnel.Control.{Control}
-use Rattle.protocol_model.specs.Turn.{Tunnel, counts_taken}
-use Rattle.protocol_model.specs.End.{End}
-use Rattle.protocol_model.specs.World.{Sender, Deed}
+use Rattle.end_model.specs.declared.event.Event.{Event}
+use Rattle.end_model.specs.declared.moves.Move.TheVariants as move
+use Rattle.end_model.specs.declared.out.ControlOrigin.{ControlOrigin}
+use Rattle.end_model.specs.declared.tunnel.Control.{Control}
+use Rattle.end_model.specs.Turn.{Tunnel, counts_taken}
+use Rattle.end_model.specs.End.{End}
+use Rattle.world_model.specs.World.{Sender, Deed}
 use Rattle.step_laws.specs.Letters.{Letter}
 use Rattle.step_laws.specs.Moves.{LetterCloses, BySccrq, BySccrp, ByScccn, ByFault, with_letter}
 use Rattle.frame_laws.specs.Codecs.{Codecs}
@@ -34,8 +34,8 @@ use Rattle.connection_laws.proofs.Taking.{all_append, got_push, begins_on, with_
 use Rattle.id_table.specs.Order.{ascends-empty}
 use Rattle.control_message.specs.declared.message.Message.{Message}
 use Rattle.l2tp_header.specs.declared.header.Header.{Header}
-use Rattle.protocol_model.specs.Reading.{body_of, message_in}
-use Rattle.protocol_model.specs.declared.moves.Rejected.{Rejected}
+use Rattle.end_model.specs.Reading.{body_of, message_in}
+use Rattle.end_model.specs.declared.moves.Rejected.{Rejected}
 use Rattle.step_laws.specs.Codes.{CodesFit, letter_codes_fit}
 use Rattle.connection_laws.proofs.Connecting.{IsFirst, first_if}
 use Rattle.connection_laws.proofs.Closing.{stop_behind}

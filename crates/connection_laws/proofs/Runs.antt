@@ -4,9 +4,9 @@ use mathlib.Core.Path.{fun_ext}
 use Rattle.id_table.specs.Ids.{at-none}
 use Rattle.schedule_text.specs.declared.line.Line.{Line}
 use Rattle.schedule_text.specs.Grammar.{AreLines}
-use Rattle.protocol_model.specs.declared.refusal.Refusal.{Refusal}
-use Rattle.protocol_model.specs.World.{Node, Deed, Lined, line}
-use Rattle.protocol_model.specs.Run.{Run, empty_run, after_line, goes_on, run_from}
+use Rattle.world_model.specs.declared.refusal.Refusal.{Refusal}
+use Rattle.world_model.specs.World.{Node, Deed, Lined, line}
+use Rattle.world_model.specs.Run.{Run, empty_run, after_line, goes_on, run_from}
 use Rattle.frame_laws.specs.Codecs.{Codecs}
 use Rattle.connection_laws.specs.Accounts.{Account, no_account, after_deed, account_from, account_of}
 use Rattle.connection_laws.specs.Facts.{Accounts, AccountOk, NodeOk, Holds}

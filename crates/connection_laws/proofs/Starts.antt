@@ -7,19 +7,19 @@ use Rattle.l2tp_header.specs.Reading.{header_of}
 use Rattle.control_message.specs.declared.message.Message.{Message}
 use Rattle.control_message.specs.declared.message.Message.TheVariants.{Sccrq, StopCcn}
 use Rattle.control_message.specs.declared.message.Opening.{Opening}
-use Rattle.protocol_model.specs.declared.out.Origin.{Origin}
-use Rattle.protocol_model.specs.declared.out.Origin.TheVariants as origin
-use Rattle.protocol_model.specs.declared.out.ControlOrigin.{ControlOrigin}
-use Rattle.protocol_model.specs.declared.packet.Packet.{Packet}
-use Rattle.protocol_model.specs.declared.refusal.Refusal.TheVariants.{HalfSpace}
-use Rattle.protocol_model.specs.declared.tunnel.Control.{Control}
+use Rattle.end_model.specs.declared.out.Origin.{Origin}
+use Rattle.end_model.specs.declared.out.Origin.TheVariants as origin
+use Rattle.end_model.specs.declared.out.ControlOrigin.{ControlOrigin}
+use Rattle.world_model.specs.declared.packet.Packet.{Packet}
+use Rattle.world_model.specs.declared.refusal.Refusal.TheVariants.{HalfSpace}
+use Rattle.end_model.specs.declared.tunnel.Control.{Control}
 use Rattle.end_names.specs.Names.{address_of}
-use Rattle.protocol_model.specs.declared.event.Addressee.TheVariants.{Opens, Stops}
-use Rattle.protocol_model.specs.Reading.{body_of, at_zero}
-use Rattle.protocol_model.specs.Secrets.{uncovered_datagram}
-use Rattle.protocol_model.specs.Turn.{Tunnel}
-use Rattle.protocol_model.specs.End.{End, reached_plain}
-use Rattle.protocol_model.specs.World.{Node, outlives, too_old, refused_by, sender_of}
+use Rattle.end_model.specs.declared.event.Addressee.TheVariants.{Opens, Stops}
+use Rattle.end_model.specs.Reading.{body_of, at_zero}
+use Rattle.end_model.specs.Secrets.{uncovered_datagram}
+use Rattle.end_model.specs.Turn.{Tunnel}
+use Rattle.end_model.specs.End.{End, reached_plain}
+use Rattle.world_model.specs.World.{Node, outlives, too_old, refused_by, sender_of}
 use Rattle.step_laws.specs.Moves.{IsFor}
 use Rattle.step_laws.specs.Opens.{opens_said, empty_opens_none}
 use Rattle.frame_laws.specs.Codecs.{Codecs}

@@ -13,11 +13,11 @@ use Rattle.tunnel_fsm.specs.Rows.{rows, row_of, state_number}
 use Rattle.call_fsm.specs.declared.table.CallState.TheVariants.{WaitTunnel}
 use Rattle.call_fsm.specs.declared.table.CallEvent.{CallEvent}
 use Rattle.call_fsm.specs.declared.table.CallEvent.TheVariants as call_event
-use Rattle.protocol_model.specs.declared.tunnel.Call.{Call}
+use Rattle.end_model.specs.declared.tunnel.Call.{Call}
 use Rattle.end_names.specs.declared.role.Role.{Role}
 use Rattle.end_names.specs.declared.role.Role.TheVariants.{Lac, Lns}
-use Rattle.protocol_model.specs.Calls.{call_row, is_told, rung, advanced}
-use Rattle.protocol_model.specs.Turn.{Tunnel, is_closed}
+use Rattle.end_model.specs.Calls.{call_row, is_told, rung, advanced}
+use Rattle.end_model.specs.Turn.{Tunnel, is_closed}
 use Rattle.connection_laws.specs.Accounts.{Part, Unmade, Opener, Acceptor, Account, heeded}
 use Rattle.connection_laws.specs.Facts.{Accounts, partner_in, IsOpen, IsClosed, IsLost, AllWait, IsShut, IsInState}
 

@@ -11,8 +11,8 @@ use Rattle.control_message.specs.declared.message.MessageError.{MessageError}
 use Rattle.control_message.specs.declared.message.Read.{Read}
 use Rattle.control_message.specs.declared.message.Read.TheVariants.{Known, Ignored}
 use Rattle.control_message.specs.Reading.{message_of, kind_of_pairs}
-use Rattle.protocol_model.specs.declared.event.Addressee.TheVariants.{Stops, Nobody}
-use Rattle.protocol_model.specs.Reading.{message_in, pairs_read, message_read, stopped, at_zero, zero_pairs, zero_read}
+use Rattle.end_model.specs.declared.event.Addressee.TheVariants.{Stops, Nobody}
+use Rattle.end_model.specs.Reading.{message_in, pairs_read, message_read, stopped, at_zero, zero_pairs, zero_read}
 use Rattle.frame_laws.specs.Codecs.{Codecs}
 
 -- it is one that tells this id, which is none that is 0

@@ -12,15 +12,15 @@ use Rattle.control_message.specs.declared.message.Message.{Message}
 use Rattle.control_message.specs.declared.message.Message.TheVariants.{Sccrp}
 use Rattle.control_message.specs.declared.message.Opening.{Opening}
 use Rattle.tunnel_fsm.specs.Rows.{state_number}
-use Rattle.protocol_model.specs.declared.event.Event.{Event}
-use Rattle.protocol_model.specs.declared.moves.Place.{Place}
-use Rattle.protocol_model.specs.declared.moves.Move.{Move}
-use Rattle.protocol_model.specs.declared.out.ControlOrigin.{ControlOrigin}
-use Rattle.protocol_model.specs.declared.tunnel.Call.{Call}
+use Rattle.end_model.specs.declared.event.Event.{Event}
+use Rattle.end_model.specs.declared.moves.Place.{Place}
+use Rattle.end_model.specs.declared.moves.Move.{Move}
+use Rattle.end_model.specs.declared.out.ControlOrigin.{ControlOrigin}
+use Rattle.end_model.specs.declared.tunnel.Call.{Call}
 use Rattle.end_names.specs.declared.role.Role.{Role}
-use Rattle.protocol_model.specs.Turn.{Tunnel}
-use Rattle.protocol_model.specs.End.{End}
-use Rattle.protocol_model.specs.World.{Sender, Deed, config_of}
+use Rattle.end_model.specs.Turn.{Tunnel}
+use Rattle.end_model.specs.End.{End}
+use Rattle.world_model.specs.World.{Sender, Deed, config_of}
 use Rattle.step_laws.specs.Letters.{Letter, letters_of}
 use Rattle.connection_laws.specs.Accounts.{Part, Unmade, Opener, Acceptor, Taken, Account, takes_at, gives_also}
 use Rattle.connection_laws.specs.Facts.{Accounts, IsMade, IsNoOpening, IsStopCcn, IsSpelled, TellsOwn, BeginsWith, Tells, IsTaken, AreTaken, AreIgnored, IsOpen, AllWait, AreJoined, partner_in, IsOpener, IsAcceptor, IsPart, AccountOk, kept_letter, IsInState, AreAcked, LiveOk, IsNear, Within}

@@ -6,10 +6,10 @@ use Rattle.l2tp_header.specs.Again.{control_header}
 use Rattle.l2tp_header.specs.Spelling.{control_bytes}
 use Rattle.l2tp_header.specs.Reading.{header_of}
 use Rattle.recv_window.specs.Window.{on_wire}
-use Rattle.protocol_model.specs.declared.out.ControlOrigin.{ControlOrigin}
-use Rattle.protocol_model.specs.declared.packet.Packet.{Packet}
-use Rattle.protocol_model.specs.Reading.{body_of}
-use Rattle.protocol_model.specs.Secrets.{uncovered_datagram}
+use Rattle.end_model.specs.declared.out.ControlOrigin.{ControlOrigin}
+use Rattle.world_model.specs.declared.packet.Packet.{Packet}
+use Rattle.end_model.specs.Reading.{body_of}
+use Rattle.end_model.specs.Secrets.{uncovered_datagram}
 use Rattle.frame_laws.specs.Codecs.{Codecs}
 use Rattle.connection_laws.specs.Accounts.{Account}
 use Rattle.connection_laws.specs.Facts.{Accounts, IsSpelled, AccountOk, Says, ALetter, Nothing, IsCopy}

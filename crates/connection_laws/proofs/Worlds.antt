@@ -4,17 +4,17 @@ use Rattle.std.specs.Prelude.{option_map}
 use Rattle.std.specs.List.{AllByRecursion}
 use Rattle.id_table.specs.Ids.{at, put, at-none}
 use Rattle.id_table.specs.Order.{at_new, at_other, same_or_not}
-use Rattle.protocol_model.specs.Access.{Access}
-use Rattle.protocol_model.specs.declared.event.Event.{Event}
-use Rattle.protocol_model.specs.declared.event.Event.TheVariants.{Datagram, Ring, Frame, Admitted, Payload, Lower, Lcp, Hang, OpenTunnel, DropCall, CloseTunnel, Tick}
-use Rattle.protocol_model.specs.declared.moves.Move.{Move}
-use Rattle.protocol_model.specs.declared.moves.Move.TheVariants as move
-use Rattle.protocol_model.specs.declared.out.Out.{Out}
-use Rattle.protocol_model.specs.declared.out.Out.TheVariants.{Send, Up, Gone, Drop, Cause}
-use Rattle.protocol_model.specs.declared.packet.Packet.{Packet}
+use Rattle.end_model.specs.Access.{Access}
+use Rattle.end_model.specs.declared.event.Event.{Event}
+use Rattle.end_model.specs.declared.event.Event.TheVariants.{Datagram, Ring, Frame, Admitted, Payload, Lower, Lcp, Hang, OpenTunnel, DropCall, CloseTunnel, Tick}
+use Rattle.end_model.specs.declared.moves.Move.{Move}
+use Rattle.end_model.specs.declared.moves.Move.TheVariants as move
+use Rattle.end_model.specs.declared.out.Out.{Out}
+use Rattle.end_model.specs.declared.out.Out.TheVariants.{Send, Up, Gone, Drop, Cause}
+use Rattle.world_model.specs.declared.packet.Packet.{Packet}
 use Rattle.end_names.specs.Names.{node_of}
-use Rattle.protocol_model.specs.End.{End, Stepped, plain_step}
-use Rattle.protocol_model.specs.World.{World, Node, Sender, Deed, birth_in, birth_of, deed_of, with_node, with_birth_at, with_birth, is_born, moved, moved_all, sent, shown, shown_all, given, after_step}
+use Rattle.end_model.specs.End.{End, Stepped, plain_step}
+use Rattle.world_model.specs.World.{World, Node, Sender, Deed, birth_in, birth_of, deed_of, with_node, with_birth_at, with_birth, is_born, moved, moved_all, sent, shown, shown_all, given, after_step}
 use Rattle.step_laws.specs.Steps.{AreKept, IsSent, IsDecline, IsOfMoves, IsChain, StepsAreChains}
 use Rattle.step_laws.specs.Ups.{most_reads, ReadsAreFew}
 use Rattle.connection_laws.specs.Accounts.{no_account}

@@ -10,11 +10,11 @@ use Rattle.id_source.specs.Spaces.{Space, draws, after_draw}
 use Rattle.md5.proofs.StandardFacts.{length-md5}
 use Rattle.step_laws.specs.Moves.{Asks, Responds}
 use Rattle.frame_laws.specs.Written.{IsWritten, IsWrittenOpening}
-use Rattle.protocol_model.specs.declared.tunnel.Config.{Config}
+use Rattle.end_model.specs.declared.tunnel.Config.{Config}
 use Rattle.end_names.specs.declared.role.Role.{Role}
 use Rattle.end_names.specs.declared.role.Role.TheVariants.{Lac, Lns}
 use Rattle.end_names.specs.Names.{address_of, node_of, host_name, calling_number}
-use Rattle.protocol_model.specs.Turn.{opening_of, request_of}
+use Rattle.end_model.specs.Turn.{opening_of, request_of}
 
 -- ---- messages
 

@@ -1,10 +1,10 @@
 -- What a run did with the letters of each tunnel, of what its lines did. No end keeps it, and the run doesn't depend on it.
 use Rattle.std.specs.Prelude.{ℕ, List, [], ◌∷◌, ◌++◌, length, Bool, true, false, ◌==◌, ◌&&◌, Option, Some, None, unwrap_or, if◌then◌else◌}
-use Rattle.protocol_model.specs.declared.moves.Place.{Place}
-use Rattle.protocol_model.specs.declared.moves.Move.{Move}
-use Rattle.protocol_model.specs.declared.moves.Move.TheVariants as move
+use Rattle.end_model.specs.declared.moves.Place.{Place}
+use Rattle.end_model.specs.declared.moves.Move.{Move}
+use Rattle.end_model.specs.declared.moves.Move.TheVariants as move
 use Rattle.end_names.specs.Names.{node_of}
-use Rattle.protocol_model.specs.World.{Sender, Deed, config_of}
+use Rattle.world_model.specs.World.{Sender, Deed, config_of}
 use Rattle.step_laws.specs.Letters.{Letter, letters_of}
 
 -- how a tunnel was made: not at all, by opening it, or by accepting an SCCRQ

@@ -7,15 +7,15 @@ use Rattle.recv_window.specs.Window.{on_wire, class_of, true_class}
 use Rattle.control_channel.specs.Numbers.{count_acked}
 use Rattle.schedule_text.specs.declared.line.Line.{Line}
 use Rattle.schedule_text.specs.Grammar.{AreLines}
-use Rattle.protocol_model.specs.declared.out.Origin.TheVariants as origin
-use Rattle.protocol_model.specs.declared.out.ControlOrigin.{ControlOrigin}
-use Rattle.protocol_model.specs.declared.packet.Packet.{Packet}
-use Rattle.protocol_model.specs.declared.tunnel.Control.{Control}
+use Rattle.end_model.specs.declared.out.Origin.TheVariants as origin
+use Rattle.end_model.specs.declared.out.ControlOrigin.{ControlOrigin}
+use Rattle.world_model.specs.declared.packet.Packet.{Packet}
+use Rattle.end_model.specs.declared.tunnel.Control.{Control}
 use Rattle.end_names.specs.Names.{address_of}
-use Rattle.protocol_model.specs.Turn.{Tunnel}
-use Rattle.protocol_model.specs.End.{reached}
-use Rattle.protocol_model.specs.World.{Node, Sender, Deed, too_old}
-use Rattle.protocol_model.specs.Run.{Run, run}
+use Rattle.end_model.specs.Turn.{Tunnel}
+use Rattle.end_model.specs.End.{reached}
+use Rattle.world_model.specs.World.{Node, Sender, Deed, too_old}
+use Rattle.world_model.specs.Run.{Run, run}
 use Rattle.connection_laws.specs.Accounts.{Taken, account_of}
 use Rattle.connection_laws.specs.Facts.{IsCopy, IsRefusal, AreTaken, Holds}
 

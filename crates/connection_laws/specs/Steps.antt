@@ -6,19 +6,19 @@ use Rattle.control_message.specs.declared.message.Message.TheVariants.{Sccrq, Sc
 use Rattle.control_message.specs.declared.message.Opening.{Opening}
 use Rattle.schedule_text.specs.declared.line.Line.{Line}
 use Rattle.schedule_text.specs.Grammar.{FitsLine}
-use Rattle.protocol_model.specs.declared.event.Event.{Event}
-use Rattle.protocol_model.specs.declared.moves.Move.{Move}
-use Rattle.protocol_model.specs.declared.moves.Closed.{Closed}
-use Rattle.protocol_model.specs.declared.moves.ClosedBy.{ClosedBy}
-use Rattle.protocol_model.specs.declared.moves.Declined.{Declined}
+use Rattle.end_model.specs.declared.event.Event.{Event}
+use Rattle.end_model.specs.declared.moves.Move.{Move}
+use Rattle.end_model.specs.declared.moves.Closed.{Closed}
+use Rattle.end_model.specs.declared.moves.ClosedBy.{ClosedBy}
+use Rattle.end_model.specs.declared.moves.Declined.{Declined}
 use Rattle.end_names.specs.Names.{node_of}
-use Rattle.protocol_model.specs.declared.tunnel.Control.{Control}
+use Rattle.end_model.specs.declared.tunnel.Control.{Control}
 use Rattle.end_names.specs.declared.role.Role.{Role}
-use Rattle.protocol_model.specs.Reading.{tunnel_fault_in, message_in, CallFault, TunnelFault}
-use Rattle.protocol_model.specs.Turn.{Tunnel, is_closed}
-use Rattle.protocol_model.specs.End.{End, plain_step}
-use Rattle.protocol_model.specs.World.{World, Node, Sender, Deed, Lined, birth_of, moved_all, new_node, deed_of, line}
-use Rattle.protocol_model.specs.Run.{Run, empty_run, after_line}
+use Rattle.end_model.specs.Reading.{tunnel_fault_in, message_in, CallFault, TunnelFault}
+use Rattle.end_model.specs.Turn.{Tunnel, is_closed}
+use Rattle.end_model.specs.End.{End, plain_step}
+use Rattle.world_model.specs.World.{World, Node, Sender, Deed, Lined, birth_of, moved_all, new_node, deed_of, line}
+use Rattle.world_model.specs.Run.{Run, empty_run, after_line}
 use Rattle.step_laws.specs.Letters.{Letter}
 use Rattle.step_laws.specs.Moves.{Does, Came, CameIn, Hears, IsNext, HearsNext, InTunnel, IsFaulty, Closes, ClosesBy, Declines}
 use Rattle.frame_laws.specs.Plain.{AreAlike, IsReadAs, number_fault}

@@ -10,11 +10,11 @@ use Rattle.send_window.specs.declared.window.Tick.TheVariants as tick
 use Rattle.call_fsm.specs.declared.table.CallAction.{CallAction}
 use Rattle.call_fsm.specs.declared.table.CallAction.TheVariants as call_action
 use Rattle.lcp_end.specs.Steps.{Turn as LcpTurn}
-use Rattle.protocol_model.specs.declared.tunnel.Call.{Call}
-use Rattle.protocol_model.specs.declared.tunnel.Link.{Link}
+use Rattle.end_model.specs.declared.tunnel.Call.{Call}
+use Rattle.end_model.specs.declared.tunnel.Link.{Link}
 use Rattle.end_names.specs.declared.role.Role.{Role}
-use Rattle.protocol_model.specs.Links.{lcp_frame}
-use Rattle.protocol_model.specs.Turn.{Drawing, Turn, with_output, with_move, with_change, drops, ends_call, ends_all, clears, gives, sends_letter, sends_now, lets_go, goes_by, lets_all_go, repeats, acknowledges, acknowledged_after, settles, greeted, greets, end_silent, end_told, ends_by, with_looks_of, with_call, carried, sends_packets, negotiated, links, ticks_link, limits_at, limits_all, goes_quietly, ticks_by, ticks}
+use Rattle.end_model.specs.Links.{lcp_frame}
+use Rattle.end_model.specs.Turn.{Drawing, Turn, with_output, with_move, with_change, drops, ends_call, ends_all, clears, gives, sends_letter, sends_now, lets_go, goes_by, lets_all_go, repeats, acknowledges, acknowledged_after, settles, greeted, greets, end_silent, end_told, ends_by, with_looks_of, with_call, carried, sends_packets, negotiated, links, ticks_link, limits_at, limits_all, goes_quietly, ticks_by, ticks}
 
 -- what a turn drew
 abbrev pub drawn : Turn → List ℕ × Drawing

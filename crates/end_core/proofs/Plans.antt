@@ -13,15 +13,15 @@ use Rattle.std.proofs.lemmas.Bool.Decides.{nat_tests}
 use Rattle.id_table.specs.Ids.{at, ids_of, is_at-same}
 use Rattle.id_table.specs.Order.{at_other, at_without_other}
 use Rattle.id_table.specs.Tables.{Kept}
-use Rattle.protocol_model.specs.declared.tunnel.CallPlace.{CallPlace}
-use Rattle.protocol_model.specs.declared.tunnel.CellChange.{CellChange}
-use Rattle.protocol_model.specs.declared.tunnel.Config.{Config}
+use Rattle.end_model.specs.declared.tunnel.CallPlace.{CallPlace}
+use Rattle.session_looks.specs.declared.look.CellChange.{CellChange}
+use Rattle.end_model.specs.declared.tunnel.Config.{Config}
 use Rattle.end_names.specs.declared.role.Role.{Role}
-use Rattle.protocol_model.specs.declared.event.Event.TheVariants.{Tick}
-use Rattle.protocol_model.specs.declared.out.Out.{Out}
-use Rattle.protocol_model.specs.declared.moves.Move.{Move}
-use Rattle.protocol_model.specs.Turn.{Tunnel, Env, Turn, turn_of, with_turn, turns, ticks}
-use Rattle.protocol_model.specs.End.{End, Stepped, env_of, placed, with_look, with_looks, tunnels_after, after_turn, Turned, tick_of, ticks_of, end_after_all, after_all, ticks_all}
+use Rattle.end_model.specs.declared.event.Event.TheVariants.{Tick}
+use Rattle.end_model.specs.declared.out.Out.{Out}
+use Rattle.end_model.specs.declared.moves.Move.{Move}
+use Rattle.end_model.specs.Turn.{Tunnel, Env, Turn, turn_of, with_turn, turns, ticks}
+use Rattle.end_model.specs.End.{End, Stepped, env_of, placed, with_look, with_looks, tunnels_after, after_turn, Turned, tick_of, ticks_of, end_after_all, after_all, ticks_all}
 use Rattle.tunnel_core.specs.Cores.{Core, Plan, IsTurn, tunnel_of, made_of}
 use Rattle.tunnel_table.specs.Plans.{HasPlace, after_plan, IsPlanned, IsGiven}
 use Rattle.tunnel_table.specs.Tunnels.{tunnels_of, at_tunnels, ids_tunnels}

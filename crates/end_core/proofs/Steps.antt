@@ -4,13 +4,13 @@ use Rattle.std.specs.Prelude.{IsSome}
 use Rattle.std.proofs.lemmas.Bool.{ne_eqb, eq-eqb}
 use Rattle.id_table.specs.Ids.{at}
 use Rattle.wire_base.specs.declared.letter.Letter.{Letter}
-use Rattle.protocol_model.specs.declared.tunnel.Call.{Call}
-use Rattle.protocol_model.specs.declared.tunnel.Control.{Control}
-use Rattle.protocol_model.specs.declared.event.Event.{Event}
-use Rattle.protocol_model.specs.declared.out.Out.{Out}
-use Rattle.protocol_model.specs.declared.moves.Move.{Move}
-use Rattle.protocol_model.specs.Turn.{Tunnel, Env, Turn, turn_of, with_turn, turns, fresh}
-use Rattle.protocol_model.specs.End.{End, Stepped, placed, with_looks, tunnels_after, after_turn, after_new, in_main, in_new}
+use Rattle.end_model.specs.declared.tunnel.Call.{Call}
+use Rattle.end_model.specs.declared.tunnel.Control.{Control}
+use Rattle.end_model.specs.declared.event.Event.{Event}
+use Rattle.end_model.specs.declared.out.Out.{Out}
+use Rattle.end_model.specs.declared.moves.Move.{Move}
+use Rattle.end_model.specs.Turn.{Tunnel, Env, Turn, turn_of, with_turn, turns, fresh}
+use Rattle.end_model.specs.End.{End, Stepped, placed, with_looks, tunnels_after, after_turn, after_new, in_main, in_new}
 use Rattle.tunnel_core.specs.Cores.{Plan, made_of, IsTurn}
 use Rattle.end_core.specs.declared.end.Given.{Given}
 use Rattle.end_core.specs.Gives.{behind_given}

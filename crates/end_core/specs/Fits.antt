@@ -3,10 +3,9 @@ use Rattle.std.specs.Prelude.{Bool, true, false, Option, Some, None, is_some}
 use Rattle.id_table.specs.Ids.{at}
 use Rattle.wire_base.specs.declared.why.Why.{Why}
 use Rattle.wire_base.specs.declared.why.Why.TheVariants as why
-use Rattle.protocol_model.specs.declared.event.Event.{Event}
-use Rattle.protocol_model.specs.declared.event.Event.TheVariants.{Payload, Lower, Lcp, Hang, DropCall, CloseTunnel}
-use Rattle.protocol_model.specs.End.{End}
-use Rattle.protocol_model.specs.World.{is_not_closed}
+use Rattle.end_model.specs.declared.event.Event.{Event}
+use Rattle.end_model.specs.declared.event.Event.TheVariants.{Payload, Lower, Lcp, Hang, DropCall, CloseTunnel}
+use Rattle.end_model.specs.End.{End, is_not_closed}
 
 -- what isn't there is told
 abbrev pub unless : Bool → Why → Option Why

@@ -1,7 +1,7 @@
 -- What the answer of a step says.
 use Rattle.std.specs.Prelude.{◌≡◌, ◌++◌, Result, Ok, Err}
 use Rattle.wire_base.specs.declared.bytes.NoMemory.{NoMemory}
-use Rattle.protocol_model.specs.End.{End, Stepped}
+use Rattle.end_model.specs.End.{End, Stepped}
 use Rattle.end_core.specs.declared.end.Given.{Given}
 
 -- the step is this: the next end with what it gave, or the end as before, where memory was wanting

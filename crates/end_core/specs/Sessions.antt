@@ -3,10 +3,10 @@ use Rattle.std.specs.Prelude.{ℕ, List, Result, Ok, Err, Option, Some, None}
 use Rattle.id_source.specs.declared.IdError.{IdError}
 use Rattle.id_source.specs.Spaces.{Space, draws}
 use Rattle.id_table.specs.Ids.{at}
-use Rattle.protocol_model.specs.declared.tunnel.Call.{Call}
-use Rattle.protocol_model.specs.declared.tunnel.CallPlace.{CallPlace}
-use Rattle.protocol_model.specs.Turn.{Tunnel}
-use Rattle.protocol_model.specs.End.{End}
+use Rattle.end_model.specs.declared.tunnel.Call.{Call}
+use Rattle.end_model.specs.declared.tunnel.CallPlace.{CallPlace}
+use Rattle.end_model.specs.Turn.{Tunnel}
+use Rattle.end_model.specs.End.{End}
 
 abbrev pub drawn : Result ℕ IdError → Option ℕ
 drawn (Ok s) = Some s

@@ -3,10 +3,10 @@ use Rattle.std.specs.Prelude.{◌≡◌, ℕ, List, [], ◌∷◌, ◌++◌}
 use Rattle.std.specs.List.{AllByRecursion, flat_map}
 use Rattle.id_table.specs.Ids.{at}
 use Rattle.id_table.specs.Tables.{Kept}
-use Rattle.protocol_model.specs.declared.tunnel.Config.{Config}
+use Rattle.end_model.specs.declared.tunnel.Config.{Config}
 use Rattle.end_names.specs.declared.role.Role.{Role}
-use Rattle.protocol_model.specs.Turn.{Tunnel, Env}
-use Rattle.protocol_model.specs.End.{End, new_end, Turned, tick_of, ticks_of}
+use Rattle.end_model.specs.Turn.{Tunnel, Env}
+use Rattle.end_model.specs.End.{End, new_end, Turned, tick_of, ticks_of}
 use Rattle.tunnel_core.specs.Cores.{Core, Plan, IsTurn}
 use Rattle.tunnel_table.specs.Plans.{HasPlace, after_plan}
 use Rattle.tunnel_table.specs.Tunnels.{tunnels_of}

@@ -1,7 +1,7 @@
 //! Openings that are declined (RFC 2661 section 7.2.1), by a StopCCN of no tunnel of this end's.
 
 ghost use Rattle.std.specs.Prelude.{◌≡◌, IfOk};
-ghost use Rattle.protocol_model.specs.End.{against_opening, against_said, against_body, declined};
+ghost use Rattle.end_model.specs.End.{against_opening, against_said, against_body, declined};
 ghost use Rattle.end_core.specs.Gives.{GivesStep};
 
 use crate::end::{End, Given};
@@ -10,14 +10,14 @@ use message_reading::{
     Reason, Said, decline_bytes, fault_reason, is_of_version, lacks_secret, no_id, no_recovery,
     no_secret, no_tunnel, other_version, read_body,
 };
-use protocol_model::{ControlOrigin, Declined, Move, Origin, Out};
+use end_model::{ControlOrigin, Declined, Move, Origin, Out};
 use std::alloc::Global;
 use tunnel_core::{Moves, Outputs};
 use wire_base::NoMemory;
 
 impl End {
     /// What stands against an SCCRQ that would open a tunnel, the first that counts.
-    #[tactic(auto, unfolding(protocol_model::specs::End::against_opening))]
+    #[tactic(auto, unfolding(end_model::specs::End::against_opening))]
     fn against_opening(&self, opening: &Opening) -> Option<Reason>
         ensures { result ≡ against_opening self.now opening.now }
     {
@@ -54,7 +54,7 @@ impl End {
     }
 
     /// What stands against a message that would open a tunnel, the first that counts.
-    #[tactic(auto, unfolding(protocol_model::specs::End::against_body))]
+    #[tactic(auto, unfolding(end_model::specs::End::against_body))]
     pub(crate) fn against_body(&self, body: &[u8]) -> Result<Option<Reason>, NoMemory>
         ensures { IfOk result (λ r. r ≡ against_body self.now body.now) }
     {
@@ -63,7 +63,7 @@ impl End {
     }
 
     /// Answers an opening by a StopCCN of no tunnel of this end's, to the tunnel id that it told: nothing changes.
-    #[tactic(auto, unfolding(protocol_model::specs::End::declined))]
+    #[tactic(auto, unfolding(end_model::specs::End::declined))]
     pub(crate) fn decline(
         &mut self,
         peer: u32,

@@ -4,15 +4,14 @@ ghost use Rattle.std.specs.Prelude.{◌≡◌, ◌≤◌, [], ◌∷◌, option_
 ghost use Rattle.std.specs.Option.{option_copied};
 ghost use Rattle.id_table.specs.Ids.{at, ids_of};
 ghost use Rattle.l2tp_header.specs.Reading.{header_of};
-ghost use Rattle.protocol_model.specs.End.{env_of, whole_space, gives_only, after_turn, after_new, in_new, has_all_tunnels, in_one_more, in_main, known_as, opens_once, addressed, reached_plain, reached, for_addressee, least_in, for_call, look_in, receives, new_end};
-ghost use Rattle.protocol_model.specs.Reading.{at_tunnel};
-ghost use Rattle.protocol_model.specs.Secrets.{uncovered_datagram, uncovered_event};
-ghost use Rattle.protocol_model.specs.World.{is_not_closed};
+ghost use Rattle.end_model.specs.End.{env_of, whole_space, gives_only, after_turn, after_new, in_new, has_all_tunnels, in_one_more, in_main, known_as, opens_once, addressed, reached_plain, reached, for_addressee, least_in, for_call, look_in, receives, new_end, is_not_closed};
+ghost use Rattle.end_model.specs.Reading.{at_tunnel};
+ghost use Rattle.end_model.specs.Secrets.{uncovered_datagram, uncovered_event};
 ghost use Rattle.end_core.specs.Fits.{fits};
 ghost use Rattle.end_core.specs.Sessions.{next_session, subscriber_at};
 ghost use Rattle.tunnel_core.specs.Cores.{tunnel_of, IsTurn, HasRoomFor};
 ghost use Rattle.call_places.specs.Rooms.{HaveRoom};
-ghost use Rattle.protocol_model.specs.Turn.{turn_of, turns, with_turn};
+ghost use Rattle.end_model.specs.Turn.{turn_of, turns, with_turn};
 ghost use Rattle.end_core.specs.Gives.{GivesStep, behind_given};
 
 use call_places::{change_looks, look_at, make_places, place_all};
@@ -20,7 +19,8 @@ use id_source::Ids;
 use id_table::Table;
 use l2tp_header::{Header, read_header};
 use message_reading::{at_zero, header_why, next_of_peer, out_of_order, uncover_datagram};
-use protocol_model::{Addressee, CallPlace, CellChanges, Config, Control, Event, Look, Out, Role};
+use end_model::{Addressee, CallPlace, Config, Control, Event, Out, Role};
+use session_looks::{CellChanges, Look};
 use std::alloc::Global;
 use std::marker::Model;
 use tunnel_core::{Env, Moves, Outputs, Planned, TunnelCore};
@@ -62,7 +62,7 @@ pub struct End {
 
 impl Model for End {
     ghost use Rattle.std.specs.Prelude.{◌≤◌};
-    ghost use Rattle.protocol_model.specs.End.{End as Known};
+    ghost use Rattle.end_model.specs.End.{End as Known};
     ghost use Rattle.tunnel_table.specs.Tunnels.{tunnels_of};
 
     ghost Value = { Known };
@@ -243,7 +243,7 @@ impl End {
     }
 
     /// The step gives one output and changes nothing.
-    #[tactic(auto, unfolding(protocol_model::specs::End::gives_only))]
+    #[tactic(auto, unfolding(end_model::specs::End::gives_only))]
     fn only(&mut self, out: Out) -> Result<Given, NoMemory>
         ensures given { GivesStep result (gives_only self.old out) self.old self.new }
         ensures role { self.new.role ≡ self.old.role }
@@ -321,7 +321,7 @@ impl End {
     }
 
     /// What comes is dropped, behind what was given before.
-    #[tactic(auto, unfolding(protocol_model::specs::End::gives_only))]
+    #[tactic(auto, unfolding(end_model::specs::End::gives_only))]
     fn drop_behind(&mut self, first: Given, why: Why) -> Result<Given, NoMemory>
         ensures given { GivesStep result (behind_given first (gives_only self.old (Out.Drop why))) self.old self.new }
         ensures role { self.new.role ≡ self.old.role }
@@ -347,7 +347,7 @@ impl End {
 
     /// Makes a step of the tunnel with this id, if there is one, behind what was given before. Where memory is wanting, nothing
     /// is given at all.
-    #[tactic(auto, using(tunnel_table::specs::Tunnels::at_tunnels), unfolding(protocol_model::specs::End::in_main))]
+    #[tactic(auto, using(tunnel_table::specs::Tunnels::at_tunnels), unfolding(end_model::specs::End::in_main))]
     pub(crate) fn run_behind(
         &mut self,
         moment: u64,
@@ -381,7 +381,7 @@ impl End {
 
 impl End {
     /// Makes the first step of a tunnel to a peer that is new. Where it draws no id, it isn't kept.
-    #[tactic(auto, unfolding(protocol_model::specs::End::in_new, protocol_model::specs::End::after_new))]
+    #[tactic(auto, unfolding(end_model::specs::End::in_new, end_model::specs::End::after_new))]
     fn run_new(
         &mut self,
         moment: u64,
@@ -422,7 +422,7 @@ impl End {
     }
 
     /// Makes the first step of a tunnel that is new, where the end may have one more; else it gives the refusal alone.
-    #[tactic(auto, unfolding(protocol_model::specs::End::in_one_more))]
+    #[tactic(auto, unfolding(end_model::specs::End::in_one_more))]
     pub fn run_one_more(
         &mut self,
         moment: u64,
@@ -449,7 +449,7 @@ impl End {
 
     /// An SCCRQ that comes again is for the tunnel that it opened, and a StopCCN that names none for the one whose peer assigned the id
     /// that it tells.
-    #[tactic(auto, unfolding(protocol_model::specs::End::opens_once))]
+    #[tactic(auto, unfolding(end_model::specs::End::opens_once))]
     fn open_once(&self, peer: u32, to: Addressee) -> Result<Addressee, NoMemory>
         ensures { IfOk result (λ a. a ≡ opens_once self.now peer to) }
     {
@@ -467,7 +467,7 @@ impl End {
     }
 
     /// What a control message is for.
-    #[tactic(auto, using(tunnel_table::specs::Tunnels::at_tunnels), unfolding(protocol_model::specs::End::addressed, protocol_model::specs::Reading::at_tunnel))]
+    #[tactic(auto, using(tunnel_table::specs::Tunnels::at_tunnels), unfolding(end_model::specs::End::addressed, end_model::specs::Reading::at_tunnel))]
     fn addressed(&self, peer: u32, header: &Header, body: &[u8]) -> Result<Addressee, NoMemory>
         ensures { IfOk result (λ to. to ≡ addressed self.now peer header.now body.now) }
     {
@@ -489,7 +489,7 @@ impl End {
     }
 
     /// The tunnel that a datagram of which nothing is hidden is for, where it is a control message and there is one.
-    #[tactic(auto, using(tunnel_table::specs::Tunnels::at_tunnels), unfolding(protocol_model::specs::End::reached_plain, protocol_model::specs::End::reached_by, protocol_model::specs::End::main_of))]
+    #[tactic(auto, using(tunnel_table::specs::Tunnels::at_tunnels), unfolding(end_model::specs::End::reached_plain, end_model::specs::End::reached_by, end_model::specs::End::main_of))]
     fn reached_plain(&self, peer: u32, bytes: &[u8]) -> Result<Option<Control>, NoMemory>
         ensures { IfOk result (λ found. found ≡ reached_plain self.now peer bytes.now) }
     {
@@ -542,7 +542,7 @@ impl End {
     }
 
     /// A control message for whom it is for.
-    #[tactic(auto, unfolding(protocol_model::specs::End::for_addressee, protocol_model::specs::End::opens_or_declines))]
+    #[tactic(auto, unfolding(end_model::specs::End::for_addressee, end_model::specs::End::opens_or_declines))]
     fn run_addressed(
         &mut self,
         moment: u64,
@@ -577,7 +577,7 @@ impl End {
     }
 
     /// An event of a call goes to the call's tunnel.
-    #[tactic(auto, unfolding(protocol_model::specs::End::for_call))]
+    #[tactic(auto, unfolding(end_model::specs::End::for_call))]
     pub fn run_for_call(
         &mut self,
         moment: u64,
@@ -598,7 +598,7 @@ impl End {
     }
 
     /// A datagram from a peer.
-    #[tactic(auto, unfolding(protocol_model::specs::End::receives))]
+    #[tactic(auto, unfolding(end_model::specs::End::receives))]
     pub fn receive(
         &mut self,
         moment: u64,

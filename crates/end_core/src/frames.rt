@@ -2,16 +2,17 @@
 
 ghost use Rattle.std.specs.Prelude.{◌≡◌, ◌∷◌, [], IfOk};
 ghost use Rattle.wire_base.specs.declared.letter.Side.TheVariants as side;
-ghost use Rattle.protocol_model.specs.declared.out.Out.TheVariants as outs;
-ghost use Rattle.protocol_model.specs.declared.moves.Move.TheVariants as move;
-ghost use Rattle.protocol_model.specs.Calls.{Upward};
-ghost use Rattle.protocol_model.specs.End.{env_of, then_heard, handed, hands_up};
+ghost use Rattle.end_model.specs.declared.out.Out.TheVariants as outs;
+ghost use Rattle.end_model.specs.declared.moves.Move.TheVariants as move;
+ghost use Rattle.session_looks.specs.Frames.{Upward};
+ghost use Rattle.end_model.specs.End.{env_of, then_heard, handed, hands_up};
 ghost use Rattle.end_core.specs.Gives.{GivesStep, behind_given};
 
 use crate::end::{End, Given};
-use call_places::{Way, carry_look, frame_of, look_at};
+use call_places::look_at;
 use l2tp_header::Header;
-use protocol_model::{Event, FrameUp, Move, Out};
+use session_looks::{Way, carry_look, frame_of};
+use end_model::{Event, FrameUp, Move, Out};
 use std::alloc::Global;
 use tunnel_core::{Moves, Outputs};
 use wire_base::{Bytes, NoMemory, Side};
@@ -39,7 +40,7 @@ fn frame_up(alloc: Global, session: u16, way: &Way, frame: &[u8]) -> Result<Give
 
 impl End {
     /// The LCP end of a call hears a packet, in a frame from its protocol field on, behind what was given before.
-    #[tactic(auto, unfolding(protocol_model::specs::End::then_heard))]
+    #[tactic(auto, unfolding(end_model::specs::End::then_heard))]
     fn hear_lcp(
         &mut self,
         moment: u64,
@@ -58,7 +59,7 @@ impl End {
     }
 
     /// Hands up a frame of a call that goes this way. One of LCP is heard by the call's LCP end in the same step.
-    #[tactic(auto, unfolding(protocol_model::specs::End::handed, protocol_model::specs::End::then_heard))]
+    #[tactic(auto, unfolding(end_model::specs::End::handed, end_model::specs::End::then_heard))]
     fn hand(
         &mut self,
         moment: u64,
@@ -78,7 +79,7 @@ impl End {
     }
 
     /// A data message: its frame is handed up, or dropped, by what is seen of its session.
-    #[tactic(auto, unfolding(protocol_model::specs::End::hands_up, protocol_model::specs::End::handed))]
+    #[tactic(auto, unfolding(end_model::specs::End::hands_up, end_model::specs::End::handed))]
     pub(crate) fn hand_up(
         &mut self,
         moment: u64,

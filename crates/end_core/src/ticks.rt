@@ -4,7 +4,7 @@ ghost use Rattle.std.specs.Prelude.{ℕ, ◌≡◌, ◌∷◌, [], ◌≢◌, If
 ghost use Rattle.std.specs.List.Sorted.{IsStrictlySortedBy};
 ghost use Rattle.std.specs.Ordering.{nat_cmp};
 ghost use Rattle.id_table.specs.Ids.{at, ids_of};
-ghost use Rattle.protocol_model.specs.End.{env_of, ticks_all};
+ghost use Rattle.end_model.specs.End.{env_of, ticks_all};
 ghost use Rattle.end_core.specs.Gives.{GivesStep};
 ghost use Rattle.end_core.specs.Ticking.{tick_at, ticks_at, ArePlanned, HavePlaces, with_ticks, after_plans};
 ghost use Rattle.tunnel_table.specs.Plans.{HasPlace};
@@ -12,7 +12,7 @@ ghost use Rattle.tunnel_table.specs.Tunnels.{tunnels_of};
 
 use crate::end::{End, Given};
 use call_places::change_looks;
-use protocol_model::{Config, Event, Role};
+use end_model::{Config, Event, Role};
 use std::alloc::Global;
 use tunnel_core::{Env, Planned};
 use tunnel_table::TunnelTable;

@@ -2,7 +2,8 @@
 
 use bench_examples::{Bench, Fault, id_of, push_number};
 use end_core::{CallRow, Mode, TunnelRow};
-use protocol_model::{Look, node_of};
+use end_model::node_of;
+use session_looks::Look;
 use std::alloc::Global;
 use wire_base::{Bytes, NoMemory};
 

@@ -3,7 +3,7 @@ use Rattle.std.proofs.Common.{◌≡◌, ◌⊎◌, inl, inr, ⊎_elim, ℕ, ◌
 use Rattle.id_table.specs.Ids.{at, put}
 use Rattle.end_names.specs.declared.role.Role.{Role}
 use Rattle.end_names.specs.declared.role.Role.TheVariants.{Lac, Lns}
-use Rattle.protocol_model.specs.World.{World, Node}
+use Rattle.world_model.specs.World.{World, Node}
 use Rattle.frame_laws.proofs.Facts.{Nodes, Born, Plays, birth_in_node, role_in_node}
 use Rattle.id_table.specs.Order.{found_put, same_or_not}
 use Rattle.frame_laws.proofs.Changes.{Changed, Adds, NoBirth, NextBirth, SameBirth, next_birth, born_at, birth_there, plays_at, role_there}

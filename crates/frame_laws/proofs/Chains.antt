@@ -1,13 +1,13 @@
 -- What the moves of a step leave.
 use Rattle.std.proofs.Common.{◌≡◌, inr, ⊎_elim, ℕ, ◌<◌, List, [], ◌∷◌, ◌++◌, length, refl, ap, ◌∙◌, subst, sym, None, arith}
-use Rattle.protocol_model.specs.declared.event.Event.{Event}
-use Rattle.protocol_model.specs.declared.moves.FrameSent.{FrameSent}
-use Rattle.protocol_model.specs.declared.moves.Move.{Move}
-use Rattle.protocol_model.specs.declared.moves.Move.TheVariants as move
+use Rattle.end_model.specs.declared.event.Event.{Event}
+use Rattle.end_model.specs.declared.moves.FrameSent.{FrameSent}
+use Rattle.end_model.specs.declared.moves.Move.{Move}
+use Rattle.end_model.specs.declared.moves.Move.TheVariants as move
 use Rattle.end_names.specs.declared.role.Role.TheVariants.{Lac}
 use Rattle.end_names.specs.Names.{node_of, calling_number}
-use Rattle.protocol_model.specs.End.{End}
-use Rattle.protocol_model.specs.World.{World, moved, moved_all}
+use Rattle.end_model.specs.End.{End}
+use Rattle.world_model.specs.World.{World, moved, moved_all}
 use Rattle.step_laws.specs.Letters.{Among}
 use Rattle.step_laws.specs.Moves.{SendsFrame, Does, Chain}
 use Rattle.frame_laws.proofs.Facts.{Nodes, Grows, Mates, grows_on, mates_later, same_nodes}

@@ -5,7 +5,7 @@ use Rattle.id_table.specs.Ids.{at, put}
 use Rattle.id_table.specs.Order.{same_or_not}
 use Rattle.end_names.specs.declared.role.Role.{Role}
 use Rattle.end_names.specs.declared.role.Role.TheVariants.{Lns}
-use Rattle.protocol_model.specs.World.{World, Node, birth_in, is_born, with_birth, birth_of}
+use Rattle.world_model.specs.World.{World, Node, birth_in, is_born, with_birth, birth_of}
 use Rattle.frame_laws.proofs.Facts.{Nodes, Born, Plays, Grows, birth_in_node}
 
 -- ---- births

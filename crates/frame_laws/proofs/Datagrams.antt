@@ -17,10 +17,10 @@ use Rattle.control_message.specs.Pairs.{pairs_of}
 use Rattle.control_message.specs.Reading.{message_of, kind_of_pairs}
 use Rattle.recv_window.specs.Window.{on_wire}
 use Rattle.tunnel_fsm.specs.declared.table.TunnelEvent.TheVariants as event
-use Rattle.protocol_model.specs.declared.event.Addressee.{Addressee}
-use Rattle.protocol_model.specs.declared.event.Addressee.TheVariants.{Opens, Stops, Answers, Nobody}
-use Rattle.protocol_model.specs.Channels.{letter_as}
-use Rattle.protocol_model.specs.Reading.{body_of, message_in, pairs_read, message_read, CallFault, call_fault_in, fault_of_pairs, TunnelFault, tunnel_fault_in, tunnel_fault_of_pairs, closing, at_zero, zero_pairs, zero_read}
+use Rattle.end_model.specs.declared.event.Addressee.{Addressee}
+use Rattle.end_model.specs.declared.event.Addressee.TheVariants.{Opens, Stops, Answers, Nobody}
+use Rattle.end_model.specs.Channels.{letter_as}
+use Rattle.end_model.specs.Reading.{body_of, message_in, pairs_read, message_read, CallFault, call_fault_in, fault_of_pairs, TunnelFault, tunnel_fault_in, tunnel_fault_of_pairs, closing, at_zero, zero_pairs, zero_read}
 use Rattle.frame_laws.specs.Codecs.{Codecs}
 use Rattle.frame_laws.specs.Plain.{HidesOk, without_number, AreAlike, IsReadAs, AsAMessage, AsAFault, message_there, no_fault_there, no_tunnel_fault_there, zero_there, number_fault, no_message_there, fault_there, for_its_call, for_no_tunnel, stays_plain, letter_uncovered, frame_stays}
 use Rattle.frame_laws.specs.Past.{Passage}

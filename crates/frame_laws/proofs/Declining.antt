@@ -3,9 +3,9 @@ use Rattle.std.proofs.Common.{◌≡◌, inl, inr, ℕ, ◌<◌, true, List, Ok}
 use Rattle.l2tp_header.specs.declared.header.Header.{Header}
 use Rattle.l2tp_header.specs.Reading.{header_of}
 use Rattle.control_message.specs.declared.message.Message.TheVariants.{Sccrq}
-use Rattle.protocol_model.specs.declared.moves.Declined.{Declined}
-use Rattle.protocol_model.specs.Reading.{body_of}
-use Rattle.protocol_model.specs.End.{End}
+use Rattle.end_model.specs.declared.moves.Declined.{Declined}
+use Rattle.end_model.specs.Reading.{body_of}
+use Rattle.end_model.specs.End.{End}
 use Rattle.step_laws.specs.Moves.{WhyDeclined, AnOpening, AFaultyOpening, AnAnswer}
 use Rattle.frame_laws.specs.Past.{Passage}
 use Rattle.frame_laws.proofs.Facts.{Nodes, ReadOk}

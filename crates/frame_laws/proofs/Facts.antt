@@ -5,18 +5,18 @@ use Rattle.std.specs.List.{AllByRecursion}
 use Rattle.wire_base.specs.declared.letter.Letter.{Letter}
 use Rattle.control_message.specs.declared.message.Message.{Message}
 use Rattle.control_message.specs.declared.message.Message.TheVariants.{Sccrq, Sccrp, Scccn, StopCcn, Hello, Ocrq, Ocrp, Occn, Icrq, Icrp, Iccn, Cdn, Wen, Sli}
-use Rattle.protocol_model.specs.declared.tunnel.Call.{Call}
+use Rattle.end_model.specs.declared.tunnel.Call.{Call}
 use Rattle.end_names.specs.declared.role.Role.{Role}
 use Rattle.end_names.specs.declared.role.Role.TheVariants.{Lac, Lns}
-use Rattle.protocol_model.specs.declared.packet.Packet.{Packet}
+use Rattle.world_model.specs.declared.packet.Packet.{Packet}
 use Rattle.end_names.specs.Names.{node_of}
-use Rattle.protocol_model.specs.Turn.{Tunnel}
-use Rattle.protocol_model.specs.End.{End}
+use Rattle.end_model.specs.Turn.{Tunnel}
+use Rattle.end_model.specs.End.{End}
 use Rattle.step_laws.specs.Letters.{Among}
-use Rattle.protocol_model.specs.World.{Node}
+use Rattle.world_model.specs.World.{Node}
 use Rattle.frame_laws.specs.Past.{Passage}
 use Rattle.frame_laws.specs.Frames.{other_end}
-use Rattle.protocol_model.specs.Secrets.{uncovered_datagram}
+use Rattle.end_model.specs.Secrets.{uncovered_datagram}
 pub use Rattle.frame_laws.specs.Facts.{Nodes, birth_in_node, Born, role_in_node, Plays, Grows, Mates, NamesItsCall, WasSentInCall, ReadOk, BytesOk, PacketOk, KnowsItsMate, CallOk, CallsOk, LetterOk, LettersOk, TunnelOk, EndOk, NodeOk, Holds, StepLaws, LooksOfRuns, FactsOfRuns}
 
 pub all_map : {X : Type 0} (P Q : X → Type 0) → ((x : X) → P x → Q x) → (xs : List X) → AllByRecursion P xs → AllByRecursion Q xs

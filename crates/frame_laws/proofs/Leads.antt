@@ -9,15 +9,15 @@ use Rattle.id_table.specs.Order.{ascends-put, found_put}
 use Rattle.l2tp_header.specs.declared.header.Header.{Header}
 use Rattle.l2tp_header.specs.Reading.{header_of}
 use Rattle.control_message.specs.declared.message.Message.{Message}
-use Rattle.protocol_model.specs.declared.event.Event.{Event}
-use Rattle.protocol_model.specs.declared.event.Event.TheVariants.{Datagram, Ring, Frame, Admitted, Payload, Lower, Lcp, Hang, OpenTunnel, DropCall, CloseTunnel, Tick}
-use Rattle.protocol_model.specs.declared.tunnel.Call.{Call}
+use Rattle.end_model.specs.declared.event.Event.{Event}
+use Rattle.end_model.specs.declared.event.Event.TheVariants.{Datagram, Ring, Frame, Admitted, Payload, Lower, Lcp, Hang, OpenTunnel, DropCall, CloseTunnel, Tick}
+use Rattle.end_model.specs.declared.tunnel.Call.{Call}
 use Rattle.end_names.specs.declared.role.Role.{Role}
 use Rattle.end_names.specs.Names.{address_of, node_of}
-use Rattle.protocol_model.specs.Reading.{body_of, message_in, CallFault, call_fault_in, TunnelFault, tunnel_fault_in}
-use Rattle.protocol_model.specs.Turn.{Tunnel}
-use Rattle.protocol_model.specs.End.{End}
-use Rattle.protocol_model.specs.World.{World, Node}
+use Rattle.end_model.specs.Reading.{body_of, message_in, CallFault, call_fault_in, TunnelFault, tunnel_fault_in}
+use Rattle.end_model.specs.Turn.{Tunnel}
+use Rattle.end_model.specs.End.{End}
+use Rattle.world_model.specs.World.{World, Node}
 use Rattle.step_laws.specs.Moves.{Hears}
 use Rattle.frame_laws.specs.Written.{IsWritten}
 use Rattle.frame_laws.proofs.Facts.{Nodes, Grows, NamesItsCall, names_later, CallOk, CallsOk, TunnelOk, tunnel_later, EndOk}

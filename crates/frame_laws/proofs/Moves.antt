@@ -8,8 +8,8 @@ use Rattle.std.specs.Fmt.{decimal}
 use Rattle.std.specs.Prelude.{◌==◌}
 use Rattle.id_source.specs.Spaces.{Space, draws}
 use Rattle.md5.proofs.StandardFacts.{length-md5}
-use Rattle.protocol_model.specs.declared.moves.Rejected.{Rejected}
-use Rattle.protocol_model.specs.declared.tunnel.CallPlace.{CallPlace}
+use Rattle.end_model.specs.declared.moves.Rejected.{Rejected}
+use Rattle.end_model.specs.declared.tunnel.CallPlace.{CallPlace}
 use Rattle.id_table.specs.Ids.{at, put, without, at-none}
 use Rattle.id_table.specs.Order.{Ascends, ascends-empty, ascends-put, ascends-without, at_new, at_other, found_put, found_without}
 use Rattle.wire_base.specs.declared.letter.Letter.{Letter}
@@ -18,40 +18,40 @@ use Rattle.control_message.specs.declared.message.Message.TheVariants.{Sccrq, Sc
 use Rattle.call_fsm.specs.declared.table.CallEvent.TheVariants as call_event
 use Rattle.tunnel_fsm.specs.declared.table.TunnelState.TheVariants.{WaitCtlReply, WaitCtlConn, Established}
 use Rattle.control_channel.specs.Numbers.{count_acked, learnt_by}
-use Rattle.protocol_model.specs.declared.event.Event.{Event}
-use Rattle.protocol_model.specs.declared.moves.Opened.{Opened}
-use Rattle.protocol_model.specs.declared.moves.Accepted.{Accepted}
-use Rattle.protocol_model.specs.declared.moves.Connected.{Connected}
-use Rattle.protocol_model.specs.declared.moves.Confirmed.{Confirmed}
-use Rattle.protocol_model.specs.declared.moves.Added.{Added}
-use Rattle.protocol_model.specs.declared.moves.Requested.{Requested}
-use Rattle.protocol_model.specs.declared.moves.Replied.{Replied}
-use Rattle.protocol_model.specs.declared.moves.FirstUp.{FirstUp}
-use Rattle.protocol_model.specs.declared.moves.SecondUp.{SecondUp}
-use Rattle.protocol_model.specs.declared.moves.TookPlain.{TookPlain}
-use Rattle.protocol_model.specs.declared.moves.NrRead.{NrRead}
-use Rattle.protocol_model.specs.declared.moves.LetGo.{LetGo}
-use Rattle.protocol_model.specs.declared.moves.EndTold.{EndTold}
-use Rattle.protocol_model.specs.declared.moves.Refused.{Refused}
-use Rattle.protocol_model.specs.declared.moves.EndHeard.{EndHeard}
-use Rattle.protocol_model.specs.declared.moves.EndSilent.{EndSilent}
-use Rattle.protocol_model.specs.declared.moves.Closed.{Closed}
-use Rattle.protocol_model.specs.declared.moves.ClosedBy.{ClosedBy}
-use Rattle.protocol_model.specs.declared.moves.Greeted.{Greeted}
-use Rattle.protocol_model.specs.declared.moves.Repeated.{Repeated}
-use Rattle.protocol_model.specs.declared.moves.Negotiated.{Negotiated}
-use Rattle.protocol_model.specs.declared.moves.Move.{Move}
-use Rattle.protocol_model.specs.declared.moves.Move.TheVariants as move
-use Rattle.protocol_model.specs.declared.tunnel.Call.{Call}
-use Rattle.protocol_model.specs.declared.tunnel.Config.{Config}
-use Rattle.protocol_model.specs.declared.tunnel.Control.{Control}
+use Rattle.end_model.specs.declared.event.Event.{Event}
+use Rattle.end_model.specs.declared.moves.Opened.{Opened}
+use Rattle.end_model.specs.declared.moves.Accepted.{Accepted}
+use Rattle.end_model.specs.declared.moves.Connected.{Connected}
+use Rattle.end_model.specs.declared.moves.Confirmed.{Confirmed}
+use Rattle.end_model.specs.declared.moves.Added.{Added}
+use Rattle.end_model.specs.declared.moves.Requested.{Requested}
+use Rattle.end_model.specs.declared.moves.Replied.{Replied}
+use Rattle.end_model.specs.declared.moves.FirstUp.{FirstUp}
+use Rattle.end_model.specs.declared.moves.SecondUp.{SecondUp}
+use Rattle.end_model.specs.declared.moves.TookPlain.{TookPlain}
+use Rattle.end_model.specs.declared.moves.NrRead.{NrRead}
+use Rattle.end_model.specs.declared.moves.LetGo.{LetGo}
+use Rattle.end_model.specs.declared.moves.EndTold.{EndTold}
+use Rattle.end_model.specs.declared.moves.Refused.{Refused}
+use Rattle.end_model.specs.declared.moves.EndHeard.{EndHeard}
+use Rattle.end_model.specs.declared.moves.EndSilent.{EndSilent}
+use Rattle.end_model.specs.declared.moves.Closed.{Closed}
+use Rattle.end_model.specs.declared.moves.ClosedBy.{ClosedBy}
+use Rattle.end_model.specs.declared.moves.Greeted.{Greeted}
+use Rattle.end_model.specs.declared.moves.Repeated.{Repeated}
+use Rattle.end_model.specs.declared.moves.Negotiated.{Negotiated}
+use Rattle.end_model.specs.declared.moves.Move.{Move}
+use Rattle.end_model.specs.declared.moves.Move.TheVariants as move
+use Rattle.end_model.specs.declared.tunnel.Call.{Call}
+use Rattle.end_model.specs.declared.tunnel.Config.{Config}
+use Rattle.end_model.specs.declared.tunnel.Control.{Control}
 use Rattle.end_names.specs.declared.role.Role.{Role}
 use Rattle.end_names.specs.declared.role.Role.TheVariants.{Lac, Lns}
 use Rattle.end_names.specs.Names.{node_of, host_name, calling_number}
-use Rattle.protocol_model.specs.Calls.{advanced, rung, asked_for, is_up}
-use Rattle.protocol_model.specs.Turn.{Tunnel, letter_of, letter_as, counts_given, counts_taken, learns_window, opening_of, request_of, connection, with_link, link_after}
-use Rattle.protocol_model.specs.End.{End, new_place}
-use Rattle.protocol_model.specs.World.{World, Node, with_birth, is_born, birth_of, moved}
+use Rattle.end_model.specs.Calls.{advanced, rung, asked_for, is_up}
+use Rattle.end_model.specs.Turn.{Tunnel, letter_of, letter_as, counts_given, counts_taken, learns_window, opening_of, request_of, connection, with_link, link_after}
+use Rattle.end_model.specs.End.{End, new_place}
+use Rattle.world_model.specs.World.{World, Node, with_birth, is_born, birth_of, moved}
 use Rattle.step_laws.specs.Moves.{heard_from, Rejects, Asks, Responds, with_tunnel, with_letter, new_tunnel, begun, Opens, Accepts, Connects, Confirms, Adds as AddsCall, Requests, Replies, ComesUpFirst, ComesUpSecond, Refuses, TellsEnd, HearsEnd, EndsSilently, Closes, ClosesBy, Clears, Greets, TakesPlain, Reads, LetsGo, Repeats, Negotiates, without_call, without_calls, Does}
 use Rattle.step_laws.specs.Links.{begun_link}
 use Rattle.lcp_end.specs.Laws.{after as lcp_after}

@@ -3,10 +3,10 @@ use Rattle.std.proofs.Common.{◌≡◌, ℕ, ◌<◌, sym, ap, ◌∙◌, Optio
 use Rattle.std.specs.Prelude.{unwrap_or}
 use Rattle.control_message.specs.declared.message.Message.{Message}
 use Rattle.control_message.specs.declared.message.Message.TheVariants.{Icrq, Icrp, Ocrq}
-use Rattle.protocol_model.specs.declared.event.Event.{Event}
-use Rattle.protocol_model.specs.declared.moves.Refused.{Refused}
-use Rattle.protocol_model.specs.Reading.{message_in, call_fault_in}
-use Rattle.protocol_model.specs.End.{End}
+use Rattle.end_model.specs.declared.event.Event.{Event}
+use Rattle.end_model.specs.declared.moves.Refused.{Refused}
+use Rattle.end_model.specs.Reading.{message_in, call_fault_in}
+use Rattle.end_model.specs.End.{End}
 use Rattle.step_laws.specs.Moves.{Came, IsNext, Hears, heard_from, WhyRefused, IsNotGranted, IsOutgoing, IsReplyToNone, IsWrong, Refuses}
 use Rattle.step_laws.specs.Codes.{CodesFit, refusal_codes_fit}
 use Rattle.frame_laws.proofs.Facts.{Nodes}

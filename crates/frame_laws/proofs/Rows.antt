@@ -6,7 +6,7 @@ use Rattle.call_fsm.specs.declared.table.CallState.TheVariants.{Idle, WaitTunnel
 use Rattle.call_fsm.specs.declared.table.CallEvent.TheVariants.{TunnelOpen, IcrqAcc, IccnAcc}
 use Rattle.end_names.specs.declared.role.Role.{Role}
 use Rattle.end_names.specs.declared.role.Role.TheVariants.{Lac, Lns}
-use Rattle.protocol_model.specs.Calls.{call_row, advanced, rung, is_request, is_reply, is_up}
+use Rattle.end_model.specs.Calls.{call_row, advanced, rung, is_request, is_reply, is_up}
 
 never : {X : Type 0} → false ≡ true → X
 never h = absurd (true≢false (sym h))

@@ -7,9 +7,9 @@ use Rattle.id_table.specs.Ids.{at-none}
 use Rattle.schedule_text.specs.declared.line.Line.{Line}
 use Rattle.schedule_text.specs.Grammar.{FitsLine, AreLines}
 use Rattle.end_names.specs.declared.role.Role.TheVariants.{Lac}
-use Rattle.protocol_model.specs.declared.refusal.Refusal.{Refusal}
-use Rattle.protocol_model.specs.World.{Node, Deed, Lined, empty_world, line}
-use Rattle.protocol_model.specs.Run.{Run, empty_run, after_line, goes_on, run_from}
+use Rattle.world_model.specs.declared.refusal.Refusal.{Refusal}
+use Rattle.world_model.specs.World.{Node, Deed, Lined, empty_world, line}
+use Rattle.world_model.specs.Run.{Run, empty_run, after_line, goes_on, run_from}
 use Rattle.frame_laws.specs.Codecs.{Codecs}
 use Rattle.frame_laws.specs.Births.{BirthsOfRuns}
 use Rattle.frame_laws.specs.Past.{Passage, sent_by, handed_by, sent_in, handed_in}

@@ -2,15 +2,15 @@
 use Rattle.std.proofs.Common.{◌≡◌, ℕ, List, [], ◌∷◌, ◌++◌, refl, sym, ap, ◌∙◌, append_assoc, Option}
 use Rattle.std.specs.List.{flat_map}
 use Rattle.id_table.specs.Ids.{at}
-use Rattle.protocol_model.specs.declared.moves.Move.{Move}
-use Rattle.protocol_model.specs.declared.moves.Move.TheVariants as move
-use Rattle.protocol_model.specs.declared.out.Out.{Out}
-use Rattle.protocol_model.specs.declared.out.Out.TheVariants.{Send, Up, Gone, Drop, Cause}
+use Rattle.end_model.specs.declared.moves.Move.{Move}
+use Rattle.end_model.specs.declared.moves.Move.TheVariants as move
+use Rattle.end_model.specs.declared.out.Out.{Out}
+use Rattle.end_model.specs.declared.out.Out.TheVariants.{Send, Up, Gone, Drop, Cause}
 use Rattle.end_names.specs.declared.role.Role.{Role}
 use Rattle.end_names.specs.Names.{node_of}
-use Rattle.protocol_model.specs.Texts.{Entry, Sends, HandsUp, Ends, Frames, Drops, Causes}
-use Rattle.protocol_model.specs.End.{Stepped}
-use Rattle.protocol_model.specs.World.{World, Sender, Deed, birth_in, birth_of, sent, shown, entry_of, entries_of}
+use Rattle.world_model.specs.Texts.{Entry, Sends, HandsUp, Ends, Frames, Drops, Causes}
+use Rattle.end_model.specs.End.{Stepped}
+use Rattle.world_model.specs.World.{World, Sender, Deed, birth_in, birth_of, sent, shown, entry_of, entries_of}
 use Rattle.step_laws.specs.Ups.{ups_of_output, ups_of_move}
 use Rattle.frame_laws.specs.Reports.{ups_in, told_by, told_of}
 use Rattle.frame_laws.proofs.Facts.{Nodes}

@@ -4,8 +4,8 @@ use Rattle.id_table.specs.Ids.{at}
 use Rattle.schedule_text.specs.declared.line.Line.{Line}
 use Rattle.schedule_text.specs.Grammar.{AreLines}
 use Rattle.end_names.specs.declared.role.Role.TheVariants.{Lac}
-use Rattle.protocol_model.specs.World.{World, Node}
-use Rattle.protocol_model.specs.Run.{run}
+use Rattle.world_model.specs.World.{World, Node}
+use Rattle.world_model.specs.Run.{run}
 
 -- the session of a LAC has this birth
 pub record IsBornAt (w : World) (n session birth : ℕ) : Type 0 where

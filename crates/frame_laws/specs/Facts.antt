@@ -8,26 +8,27 @@ use Rattle.l2tp_header.specs.declared.header.Header.{Header}
 use Rattle.l2tp_header.specs.Reading.{header_of}
 use Rattle.control_message.specs.declared.message.Message.{Message}
 use Rattle.control_message.specs.declared.message.Message.TheVariants.{Sccrq, Sccrp, Scccn, StopCcn, Hello, Ocrq, Ocrp, Occn, Icrq, Icrp, Iccn, Cdn, Wen, Sli}
-use Rattle.protocol_model.specs.declared.tunnel.Call.{Call}
+use Rattle.end_model.specs.declared.tunnel.Call.{Call}
 use Rattle.end_names.specs.declared.role.Role.{Role}
 use Rattle.end_names.specs.declared.role.Role.TheVariants.{Lac, Lns}
-use Rattle.protocol_model.specs.declared.packet.Packet.{Packet}
+use Rattle.world_model.specs.declared.packet.Packet.{Packet}
 use Rattle.end_names.specs.Names.{node_of}
-use Rattle.protocol_model.specs.Turn.{Tunnel}
-use Rattle.protocol_model.specs.declared.event.Addressee.TheVariants.{Opens, Answers}
-use Rattle.protocol_model.specs.Secrets.{uncovered_datagram}
-use Rattle.protocol_model.specs.Channels.{letter_as}
-use Rattle.protocol_model.specs.Reading.{body_of, message_in, CallFault, call_fault_in, TunnelFault, tunnel_fault_in, at_zero}
-use Rattle.protocol_model.specs.Calls.{frame_of, is_up}
-use Rattle.protocol_model.specs.End.{End}
+use Rattle.end_model.specs.Turn.{Tunnel}
+use Rattle.end_model.specs.declared.event.Addressee.TheVariants.{Opens, Answers}
+use Rattle.end_model.specs.Secrets.{uncovered_datagram}
+use Rattle.end_model.specs.Channels.{letter_as}
+use Rattle.end_model.specs.Reading.{body_of, message_in, CallFault, call_fault_in, TunnelFault, tunnel_fault_in, at_zero}
+use Rattle.session_looks.specs.Frames.{frame_of}
+use Rattle.end_model.specs.Calls.{is_up}
+use Rattle.end_model.specs.End.{End}
 use Rattle.step_laws.specs.Letters.{Among}
 use Rattle.step_laws.specs.Looks.{LooksAreTrue, LooksStayTrue}
 use Rattle.step_laws.specs.Steps.{AreKept, StepsAreChains}
 use Rattle.step_laws.specs.Ups.{UpsAreMoves}
 use Rattle.schedule_text.specs.declared.line.Line.{Line}
 use Rattle.schedule_text.specs.Grammar.{AreLines}
-use Rattle.protocol_model.specs.World.{World, Node}
-use Rattle.protocol_model.specs.Run.{run}
+use Rattle.world_model.specs.World.{World, Node}
+use Rattle.world_model.specs.Run.{run}
 use Rattle.frame_laws.specs.Past.{Passage, past_of}
 use Rattle.frame_laws.specs.Plain.{HidesOk}
 use Rattle.frame_laws.specs.Frames.{other_end}

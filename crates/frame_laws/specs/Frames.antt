@@ -2,27 +2,27 @@
 use Rattle.std.specs.Prelude.{◌≡◌, ◌+◌, ◌-◌, ◌<◌, List, ◌∷◌, ◌++◌, length, take, drop, Option, None, Some, Ok, ℕ, slice_get}
 use Rattle.id_table.specs.Ids.{at}
 use Rattle.pppoe_discovery.specs.declared.outcome.Discovered.TheVariants.{Carried}
-use Rattle.protocol_model.specs.Access.{Access}
-use Rattle.protocol_model.specs.World.{World, Node, Sender, block_of, stepped, line}
+use Rattle.end_model.specs.Access.{Access}
+use Rattle.world_model.specs.World.{World, Node, Sender, block_of, stepped, line}
 use Rattle.step_laws.specs.Hosts.{discovered_at, IsOfHost}
 use Rattle.std.specs.List.{AllByRecursion}
 use Rattle.l2tp_header.specs.Spelling.{data_bytes}
 use Rattle.schedule_text.specs.declared.line.Line.{Line}
 use Rattle.schedule_text.specs.declared.line.Line.TheVariants.{FromSub, Down, Frame}
 use Rattle.schedule_text.specs.Grammar.{AreLines}
-use Rattle.protocol_model.specs.declared.event.Event.{Event}
-use Rattle.protocol_model.specs.declared.moves.Move.{Move}
-use Rattle.protocol_model.specs.declared.moves.Move.TheVariants.{FrameSent}
-use Rattle.protocol_model.specs.declared.tunnel.Call.{Call}
+use Rattle.end_model.specs.declared.event.Event.{Event}
+use Rattle.end_model.specs.declared.moves.Move.{Move}
+use Rattle.end_model.specs.declared.moves.Move.TheVariants.{FrameSent}
+use Rattle.end_model.specs.declared.tunnel.Call.{Call}
 use Rattle.end_names.specs.declared.role.Role.{Role}
 use Rattle.end_names.specs.declared.role.Role.TheVariants.{Lac, Lns}
-use Rattle.protocol_model.specs.declared.out.Origin.TheVariants.{Data}
-use Rattle.protocol_model.specs.declared.packet.Packet.{Packet}
+use Rattle.end_model.specs.declared.out.Origin.TheVariants.{Data}
+use Rattle.world_model.specs.declared.packet.Packet.{Packet}
 use Rattle.end_names.specs.Names.{node_of}
-use Rattle.protocol_model.specs.Secrets.{uncovered_event}
-use Rattle.protocol_model.specs.Turn.{Tunnel}
-use Rattle.protocol_model.specs.End.{End, plain_step}
-use Rattle.protocol_model.specs.Run.{run}
+use Rattle.end_model.specs.Secrets.{uncovered_event}
+use Rattle.end_model.specs.Turn.{Tunnel}
+use Rattle.end_model.specs.End.{End, plain_step}
+use Rattle.world_model.specs.Run.{run}
 use Rattle.step_laws.specs.Letters.{Among}
 use Rattle.step_laws.specs.Links.{GivesFrame}
 use Rattle.step_laws.specs.Moves.{Chain}

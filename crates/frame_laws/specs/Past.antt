@@ -2,11 +2,11 @@
 use Rattle.std.specs.Prelude.{ℕ, List, [], ◌∷◌, ◌++◌}
 use Rattle.schedule_text.specs.declared.line.Line.{Line}
 use Rattle.end_names.specs.declared.role.Role.{Role}
-use Rattle.protocol_model.specs.declared.moves.Move.{Move}
-use Rattle.protocol_model.specs.declared.moves.Move.TheVariants as move
+use Rattle.end_model.specs.declared.moves.Move.{Move}
+use Rattle.end_model.specs.declared.moves.Move.TheVariants as move
 use Rattle.end_names.specs.Names.{node_of}
-use Rattle.protocol_model.specs.World.{Deed}
-use Rattle.protocol_model.specs.Run.{run}
+use Rattle.world_model.specs.World.{Deed}
+use Rattle.world_model.specs.Run.{run}
 
 -- a PPP frame that an end sent in a call, or handed up in a call
 pub record Passage : Type 0 where

@@ -23,13 +23,13 @@ use Rattle.control_message.specs.HiddenRequests.{IsReadAnyway, WithANumber, With
 use Rattle.control_message.specs.Pairs.{pairs_of, failover_pairs, recovery_pairs, suggested_pairs, draw_pairs, recovering_pairs, challenge_pairs, response_pairs, secret_pairs, opening_pairs, IsWrittenWith}
 use Rattle.control_message.specs.Reading.{message_of, kind_of_pairs, plain_short}
 use Rattle.control_message.specs.Uncovering.{uncovered}
-use Rattle.protocol_model.specs.Secrets.{has_hidden, uncovered_pairs, uncovered_by, uncovered_datagram}
-use Rattle.protocol_model.specs.declared.event.Addressee.TheVariants.{Nobody}
-use Rattle.protocol_model.specs.declared.tunnel.Config.{Config}
-use Rattle.protocol_model.specs.Channels.{letter_as}
-use Rattle.protocol_model.specs.Messages.{request_of}
+use Rattle.end_model.specs.Secrets.{has_hidden, uncovered_pairs, uncovered_by, uncovered_datagram}
+use Rattle.end_model.specs.declared.event.Addressee.TheVariants.{Nobody}
+use Rattle.end_model.specs.declared.tunnel.Config.{Config}
+use Rattle.end_model.specs.Channels.{letter_as}
+use Rattle.end_model.specs.Messages.{request_of}
 use Rattle.end_names.specs.Names.{calling_number}
-use Rattle.protocol_model.specs.Reading.{message_in, pairs_read, message_read, CallFault, call_fault_in, fault_of_pairs, tunnel_fault_in, tunnel_fault_of_pairs, at_zero, zero_pairs, zero_read}
+use Rattle.end_model.specs.Reading.{message_in, pairs_read, message_read, CallFault, call_fault_in, fault_of_pairs, tunnel_fault_in, tunnel_fault_of_pairs, at_zero, zero_pairs, zero_read}
 use Rattle.step_laws.specs.Hides.{HidesNumber, InPlain, ByVector}
 use Rattle.frame_laws.specs.Codecs.{Codecs}
 use Rattle.frame_laws.specs.Written.{IsWritten}

@@ -2,11 +2,11 @@
 use Rattle.std.specs.Prelude.{◌≡◌, List, [], ◌∷◌, ◌++◌}
 use Rattle.schedule_text.specs.declared.line.Line.{Line}
 use Rattle.schedule_text.specs.Grammar.{AreLines}
-use Rattle.protocol_model.specs.declared.moves.Move.{Move}
-use Rattle.protocol_model.specs.declared.moves.Move.TheVariants as move
-use Rattle.protocol_model.specs.Texts.{Entry, Sends, HandsUp, Ends, Frames, Drops, Causes}
-use Rattle.protocol_model.specs.World.{Deed}
-use Rattle.protocol_model.specs.Run.{run}
+use Rattle.end_model.specs.declared.moves.Move.{Move}
+use Rattle.end_model.specs.declared.moves.Move.TheVariants as move
+use Rattle.world_model.specs.Texts.{Entry, Sends, HandsUp, Ends, Frames, Drops, Causes}
+use Rattle.world_model.specs.World.{Deed}
+use Rattle.world_model.specs.Run.{run}
 
 -- the entries that hand a frame up
 unfoldable pub ups_in : List Entry → List Entry

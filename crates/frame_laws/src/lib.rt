@@ -16,7 +16,7 @@ pub fn written_is_read_again()
     control_message::reads_what_was_written();
     control_message::has_room();
     control_message::hidden_requests_are_read();
-    protocol_model::twelve_digits();
+    end_model::twelve_digits();
 }
 
 /// The laws of steps that are used.

@@ -10,9 +10,9 @@ use Rattle.port_traits.specs.Reads.{ReadsWithin, StopsReading}
 use Rattle.schedule_text.specs.declared.line.Line.{Line}
 use Rattle.schedule_text.specs.declared.error.ScheduleError.{ScheduleError}
 use Rattle.schedule_text.specs.Reading.{lines_of}
-use Rattle.protocol_model.specs.declared.refusal.Refusal.{Refusal}
-use Rattle.protocol_model.specs.declared.refusal.Refusal.TheVariants.{Unfit, HalfSpace}
-use Rattle.protocol_model.specs.Run.{Run, run}
+use Rattle.world_model.specs.declared.refusal.Refusal.{Refusal}
+use Rattle.world_model.specs.declared.refusal.Refusal.TheVariants.{Unfit, HalfSpace}
+use Rattle.world_model.specs.Run.{Run, run}
 use Rattle.l2tp_cli.specs.declared.words.Asked.{Asked}
 use Rattle.l2tp_cli.specs.declared.words.Asked.TheVariants as asked
 use Rattle.l2tp_cli.specs.declared.exit.Exit.{Exit}

@@ -5,9 +5,9 @@ use Rattle.schedule_text.specs.declared.line.Line.{Line}
 use Rattle.schedule_text.specs.declared.error.ScheduleError.{ScheduleError}
 use Rattle.schedule_text.specs.declared.error.ScheduleError.TheVariants.{BadLine, NoMemory}
 use Rattle.schedule_text.specs.Reading.{lines_of}
-use Rattle.protocol_model.specs.declared.refusal.Refusal.{Refusal}
-use Rattle.protocol_model.specs.declared.refusal.Refusal.TheVariants.{Unfit, HalfSpace}
-use Rattle.protocol_model.specs.Run.{Run, run, report_of}
+use Rattle.world_model.specs.declared.refusal.Refusal.{Refusal}
+use Rattle.world_model.specs.declared.refusal.Refusal.TheVariants.{Unfit, HalfSpace}
+use Rattle.world_model.specs.Run.{Run, run, report_of}
 use Rattle.l2tp_cli.specs.declared.exit.Exit.{Exit}
 use Rattle.l2tp_cli.specs.declared.exit.Exit.TheVariants as exits
 use Rattle.l2tp_cli.specs.Texts.{bad_line_text, too_long_text}

@@ -5,7 +5,7 @@ use Rattle.port_traits.specs.Limits.{limit_passed}
 use Rattle.schedule_text.specs.declared.line.Line.{Line}
 use Rattle.schedule_text.specs.Grammar.{AreLines}
 use Rattle.schedule_text.specs.Reading.{lines_of}
-use Rattle.protocol_model.specs.Run.{run}
+use Rattle.world_model.specs.Run.{run}
 use Rattle.frame_laws.specs.Past.{past_of}
 use Rattle.frame_laws.specs.Frames.{AreSent, IsCarried, IsGiven}
 use Rattle.frame_laws.specs.Reports.{ups_in, told_of}

@@ -2,12 +2,12 @@
 
 ghost use Rattle.std.specs.Prelude.{◌≡◌, IfOk};
 ghost use Rattle.schedule_text.specs.Reading.{lines_of};
-ghost use Rattle.protocol_model.specs.Run.{run};
+ghost use Rattle.world_model.specs.Run.{run};
 ghost use Rattle.l2tp_cli.specs.Due.{due, refused, due_of_run, due_of_lines};
 
 use crate::exit::Exit;
 use crate::texts::bad_line_text;
-use protocol_model::Refusal;
+use world_model::Refusal;
 use schedule_replay::replay;
 use schedule_text::{Line, ScheduleError, read_schedule};
 use std::alloc::Global;

@@ -7,10 +7,10 @@ use Rattle.id_source.specs.declared.IdError.{IdError}
 use Rattle.wire_base.specs.declared.cause.Cause.{Cause}
 use Rattle.pppoe_discovery.specs.declared.outcome.Discovered.{Discovered}
 use Rattle.pppoe_discovery.specs.Told.{pads_to}
-use Rattle.protocol_model.specs.declared.out.Out.{Out}
-use Rattle.protocol_model.specs.declared.out.Out.TheVariants.{Send, Up, Gone, Drop, Cause as Refused}
-use Rattle.protocol_model.specs.Access.{Concentrator, Served, refusal_in, ring_cause, live_in, session_got, pads_for, pads_of, with_host, entered, of_step, admits}
-use Rattle.protocol_model.specs.End.{End, Stepped}
+use Rattle.end_model.specs.declared.out.Out.{Out}
+use Rattle.end_model.specs.declared.out.Out.TheVariants.{Send, Up, Gone, Drop, Cause as Refused}
+use Rattle.end_model.specs.Access.{Concentrator, Served, refusal_in, ring_cause, live_in, session_got, pads_for, pads_of, with_host, entered, of_step, admits}
+use Rattle.end_model.specs.End.{End, Stepped}
 use Rattle.end_names.specs.Names.{mac_of}
 use Rattle.end_core.specs.Sessions.{drawn, next_session}
 use Rattle.lac_core.specs.declared.answers.Refusals.{Refusals}

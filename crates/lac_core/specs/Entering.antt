@@ -7,10 +7,10 @@ use Rattle.pppoe_session.specs.declared.Subscriber.{Subscriber}
 use Rattle.pppoe_session.specs.Subscribers.{dropped}
 use Rattle.pppoe_discovery.specs.declared.outcome.Discovered.{Discovered}
 use Rattle.pppoe_discovery.specs.Told.{pads_to}
-use Rattle.protocol_model.specs.declared.out.Out.{Out}
-use Rattle.protocol_model.specs.declared.out.Out.TheVariants.{Cause as Refused}
-use Rattle.protocol_model.specs.Access.{refusal_in, ring_cause}
-use Rattle.protocol_model.specs.End.{End}
+use Rattle.end_model.specs.declared.out.Out.{Out}
+use Rattle.end_model.specs.declared.out.Out.TheVariants.{Cause as Refused}
+use Rattle.end_model.specs.Access.{refusal_in, ring_cause}
+use Rattle.end_model.specs.End.{End}
 use Rattle.lac_core.specs.declared.answers.Refusals.{Refusals}
 
 -- the session that is drawn next, where a call is live under it afterwards

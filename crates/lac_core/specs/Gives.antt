@@ -1,7 +1,7 @@
 -- What the answer of a LAC's step says.
 use Rattle.std.specs.Prelude.{◌≡◌, Result, Ok, Err}
 use Rattle.wire_base.specs.declared.bytes.NoMemory.{NoMemory}
-use Rattle.protocol_model.specs.Access.{Concentrator, Served}
+use Rattle.end_model.specs.Access.{Concentrator, Served}
 use Rattle.lac_core.specs.declared.LacGiven.{LacGiven}
 
 -- the step is this: the next LAC with what it gave, or the LAC as before, where memory was wanting

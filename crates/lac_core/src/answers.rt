@@ -3,12 +3,12 @@
 ghost use Rattle.std.specs.Prelude.{◌≡◌, IfOk, OnOk, OnErr, find, option_copied};
 ghost use Rattle.pppoe_discovery.specs.Told.{IsAdmission};
 ghost use Rattle.pppoe_session.specs.Subscribers.{subscriber};
-ghost use Rattle.protocol_model.specs.Access.{forgets, holds, refusal_in, ring_cause};
+ghost use Rattle.end_model.specs.Access.{forgets, holds, refusal_in, ring_cause};
 ghost use Rattle.lac_core.specs.Entering.{AreRefusals, frame_for, is_refused, let_go};
 
 use pppoe_discovery::{Discovered, write_pads};
 use pppoe_session::{AdmitError, Table};
-use protocol_model::Out;
+use end_model::Out;
 use std::alloc::Global;
 use wire_base::{Bytes, Cause, NoMemory};
 

@@ -2,13 +2,13 @@
 
 ghost use Rattle.std.specs.Prelude.{◌≡◌};
 ghost use Rattle.wire_base.specs.declared.cause.Cause.TheVariants as causes;
-ghost use Rattle.protocol_model.specs.declared.out.Out.TheVariants as outs;
+ghost use Rattle.end_model.specs.declared.out.Out.TheVariants as outs;
 ghost use Rattle.end_names.specs.declared.role.Role.TheVariants as roles;
-ghost use Rattle.protocol_model.specs.End.{env_of, rings_at, plain_step, step};
+ghost use Rattle.end_model.specs.End.{env_of, rings_at, plain_step, step};
 ghost use Rattle.end_core.specs.Gives.{GivesStep};
 
 use end_core::{End, Given};
-use protocol_model::{Event, Out};
+use end_model::{Event, Out};
 use tunnel_fsm::TunnelState;
 use wire_base::{Cause, NoMemory, Why};
 
@@ -23,7 +23,7 @@ fn too_many_tunnels() -> Out
 
 /// A port rings, or a host was admitted: over the least tunnel to the LNS that is open, else over the least that is to open,
 /// else over a new one.
-#[tactic(auto, unfolding(protocol_model::specs::End::rings_at, protocol_model::specs::End::rings_in))]
+#[tactic(auto, unfolding(end_model::specs::End::rings_at, end_model::specs::End::rings_in))]
 fn ring(end: &mut End, moment: u64, block: [u8; 16], event: &Event) -> Result<Given, NoMemory>
     ensures given { GivesStep result (rings_at end.old (env_of end.old moment block) event.now) end.old end.new }
     ensures role { end.new.role ≡ end.old.role }
@@ -39,7 +39,7 @@ fn ring(end: &mut End, moment: u64, block: [u8; 16], event: &Event) -> Result<Gi
 }
 
 /// A step on an event of which nothing is hidden.
-#[tactic(auto, unfolding(protocol_model::specs::End::plain_step, protocol_model::specs::End::step_in, protocol_model::specs::End::only_by))]
+#[tactic(auto, unfolding(end_model::specs::End::plain_step, end_model::specs::End::step_in, end_model::specs::End::only_by))]
 fn plain_step(end: &mut End, moment: u64, block: [u8; 16], event: &Event) -> Result<Given, NoMemory>
     requires { end.old.role ≡ roles.Lac }
     ensures given { GivesStep result (plain_step end.old moment block event.now) end.old end.new }

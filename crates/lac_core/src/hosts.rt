@@ -3,9 +3,9 @@
 ghost use Rattle.std.specs.Prelude.{ℕ, ◌≡◌, List, [], Some, None};
 ghost use Rattle.pppoe_session.specs.Subscribers.{is_from, repeat_in, subscriber_of};
 ghost use Rattle.pppoe_discovery.specs.Told.{IsAdmission, MayBeTold, IsWithin, pads_to};
-ghost use Rattle.protocol_model.specs.declared.event.Event.TheVariants as events;
-ghost use Rattle.protocol_model.specs.Access.{about_call, admits, coming, does, led_to, of_step, wants_call, with_host};
-ghost use Rattle.protocol_model.specs.End.{step};
+ghost use Rattle.end_model.specs.declared.event.Event.TheVariants as events;
+ghost use Rattle.end_model.specs.Access.{about_call, admits, coming, does, led_to, of_step, wants_call, with_host};
+ghost use Rattle.end_model.specs.End.{step};
 ghost use Rattle.end_names.specs.Names.{mac_of};
 ghost use Rattle.end_core.specs.Sessions.{next_session};
 ghost use Rattle.lac_core.specs.Entering.{AreRefusals, answer_by, live_at};
@@ -14,7 +14,7 @@ ghost use Rattle.lac_core.specs.Gives.{GivesServed};
 use crate::answers::{Refusals, forget, hold, take_back, write_refusals};
 use crate::{Lac, LacGiven, ends};
 use pppoe_discovery::{Discovered, on_frame, write_pads};
-use protocol_model::{Event, host_name, mac_of};
+use end_model::{Event, host_name, mac_of};
 use wire_base::{Bytes, NoMemory, Why};
 
 /// How many bytes a frame has at most.
@@ -33,7 +33,7 @@ impl Lac {
     }
 
     /// A step that the host of a live call causes.
-    #[tactic(auto, unfolding(protocol_model::specs::Access::does))]
+    #[tactic(auto, unfolding(end_model::specs::Access::does))]
     fn run_for_host(
         &mut self,
         moment: u64,
@@ -139,7 +139,7 @@ impl Lac {
     }
 
     /// A PADR with this Host-Uniq is good: one that repeats that of a live call gets its session again.
-    #[tactic(auto, unfolding(protocol_model::specs::Access::does))]
+    #[tactic(auto, unfolding(end_model::specs::Access::does))]
     fn want_call(
         &mut self,
         moment: u64,
@@ -163,7 +163,7 @@ impl Lac {
     }
 
     /// A host was admitted.
-    #[tactic(auto, unfolding(protocol_model::specs::Access::led_to))]
+    #[tactic(auto, unfolding(end_model::specs::Access::led_to))]
     fn admit(
         &mut self,
         moment: u64,
@@ -180,7 +180,7 @@ impl Lac {
     }
 
     /// What was found in a frame.
-    #[tactic(auto, unfolding(protocol_model::specs::Access::does, protocol_model::specs::Access::led_to))]
+    #[tactic(auto, unfolding(end_model::specs::Access::does, end_model::specs::Access::led_to))]
     fn take_found(
         &mut self,
         moment: u64,
@@ -213,7 +213,7 @@ impl Lac {
     }
 
     /// An Ethernet frame comes, from its destination address on.
-    #[tactic(auto, unfolding(protocol_model::specs::Access::does, protocol_model::specs::Access::coming))]
+    #[tactic(auto, unfolding(end_model::specs::Access::does, end_model::specs::Access::coming))]
     pub(crate) fn take_frame(
         &mut self,
         moment: u64,

@@ -7,10 +7,10 @@
 
 ghost use Rattle.std.specs.Prelude.{◌≡◌, ◌∷◌, [], Some, None, IfOk};
 ghost use Rattle.id_table.specs.Ids.{at};
-ghost use Rattle.protocol_model.specs.declared.out.Out.TheVariants as outs;
+ghost use Rattle.end_model.specs.declared.out.Out.TheVariants as outs;
 ghost use Rattle.end_names.specs.declared.role.Role.TheVariants as roles;
-ghost use Rattle.protocol_model.specs.Access.{new_access, as_it_was, told_because, of_step, serves, farewell};
-ghost use Rattle.protocol_model.specs.End.{new_end, step, look_in};
+ghost use Rattle.end_model.specs.Access.{new_access, as_it_was, told_because, of_step, serves, farewell};
+ghost use Rattle.end_model.specs.End.{new_end, step, look_in};
 ghost use Rattle.end_core.specs.Fits.{fits};
 ghost use Rattle.end_core.specs.Rows.{tunnel_rows};
 ghost use Rattle.end_core.specs.Sessions.{subscriber_at};
@@ -23,7 +23,8 @@ mod hosts;
 use end_core::{End, EndRows};
 use pppoe_discovery::write_padt;
 use pppoe_session::Table;
-use protocol_model::{Config, Event, Look, Out, Role, mac_of};
+use end_model::{Config, Event, Out, Role, mac_of};
+use session_looks::Look;
 use std::alloc::Global;
 use std::marker::Model;
 use tunnel_core::{Moves, Outputs};
@@ -54,7 +55,7 @@ pub struct Lac {
 
 impl Model for Lac {
     ghost use Rattle.std.specs.Prelude.{◌≡◌};
-    ghost use Rattle.protocol_model.specs.Access.{Concentrator};
+    ghost use Rattle.end_model.specs.Access.{Concentrator};
     ghost use Rattle.end_names.specs.declared.role.Role.TheVariants as roles;
 
     ghost Value = { Concentrator };
@@ -116,7 +117,7 @@ impl Lac {
 
     /// The PADT that tells a host that its call ended (RFC 2516 section 5.5), a whole Ethernet frame of 20 bytes. None where no
     /// host had the call. A session id has 16 bits, and of a larger number the lower ones count.
-    #[tactic(auto, unfolding(protocol_model::specs::Access::farewell))]
+    #[tactic(auto, unfolding(end_model::specs::Access::farewell))]
     pub fn padt(&self, alloc: Global, session: u32) -> Result<Option<Bytes>, NoMemory>
         ensures { IfOk result (λ p. p ≡ farewell self.now.end.config.number self.now.access session) }
     {
@@ -180,7 +181,7 @@ impl Lac {
     /// What a datagram hides by the LAC's secret is uncovered first (RFC 2661 section 4.3). An event of an LNS is dropped with
     /// `node`, as is that a host was admitted, and one of a call or a tunnel that isn't live with `call` or `tunnel`. Where
     /// memory is wanting, the LAC is as before.
-    #[tactic(auto, unfolding(protocol_model::specs::Access::serves))]
+    #[tactic(auto, unfolding(end_model::specs::Access::serves))]
     pub fn step(
         &mut self,
         moment: u64,

@@ -2,7 +2,7 @@
 
 use bench_examples::Bench;
 use l2tp_header::write_control;
-use protocol_model::{Event, address_of};
+use end_model::{Event, address_of};
 use std::alloc::Global;
 use std::test::Fail;
 use wire_base::{Bytes, NoMemory, put_u16};

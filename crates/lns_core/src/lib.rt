@@ -5,13 +5,14 @@
 ghost use Rattle.std.specs.Prelude.{◌≡◌, IfOk};
 ghost use Rattle.id_table.specs.Ids.{at};
 ghost use Rattle.end_names.specs.declared.role.Role.TheVariants as roles;
-ghost use Rattle.protocol_model.specs.End.{new_end, plain_step, step, look_in};
+ghost use Rattle.end_model.specs.End.{new_end, plain_step, step, look_in};
 ghost use Rattle.end_core.specs.Fits.{fits};
 ghost use Rattle.end_core.specs.Gives.{GivesStep};
 ghost use Rattle.end_core.specs.Rows.{tunnel_rows};
 
 use end_core::{End, EndRows, Given};
-use protocol_model::{Config, Event, Look, Role};
+use end_model::{Config, Event, Role};
+use session_looks::Look;
 use std::alloc::Global;
 use std::marker::Model;
 use wire_base::{NoMemory, Why};
@@ -24,7 +25,7 @@ pub struct Lns {
 
 impl Model for Lns {
     ghost use Rattle.std.specs.Prelude.{◌≡◌};
-    ghost use Rattle.protocol_model.specs.End.{End as Known};
+    ghost use Rattle.end_model.specs.End.{End as Known};
     ghost use Rattle.end_names.specs.declared.role.Role.TheVariants as roles;
 
     ghost Value = { Known };
@@ -73,7 +74,7 @@ impl Lns {
     }
 
     /// A step on an event of which nothing is hidden.
-    #[tactic(auto, unfolding(protocol_model::specs::End::plain_step, protocol_model::specs::End::step_in, protocol_model::specs::End::only_by))]
+    #[tactic(auto, unfolding(end_model::specs::End::plain_step, end_model::specs::End::step_in, end_model::specs::End::only_by))]
     fn plain_step(&mut self, moment: u64, block: [u8; 16], event: &Event) -> Result<Given, NoMemory>
         ensures { GivesStep result (plain_step self.old moment block event.now) self.old self.new }
     {

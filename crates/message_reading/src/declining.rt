@@ -4,7 +4,7 @@ ghost use Rattle.std.specs.Prelude.{◌≡◌, ◌≤◌, length, IfOk};
 ghost use Rattle.avp_codec.specs.Spelling.{spelling};
 ghost use Rattle.control_message.specs.Pairs.{pairs_of};
 ghost use Rattle.control_message.specs.declared.message.Message.TheVariants as message;
-ghost use Rattle.protocol_model.specs.End.{decline_bytes, next_of_peer};
+ghost use Rattle.end_model.specs.End.{decline_bytes, next_of_peer};
 
 use crate::reasons::Reason;
 use control_message::{Message, has_room, hides_nothing_without_a_vector, write_message};

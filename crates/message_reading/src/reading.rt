@@ -3,7 +3,7 @@
 ghost use Rattle.std.specs.Prelude.{◌≡◌, Ok, Err, Some, IfOk};
 ghost use Rattle.tunnel_fsm.specs.declared.table.TunnelEvent.TheVariants as event;
 ghost use Rattle.control_message.specs.Reading.{kind_of_pairs};
-ghost use Rattle.protocol_model.specs.Reading.{header_why, message_in, pairs_read, fault_cause, is_about_call, is_request, is_value, is_for_call, fault_of_kind, fault_of_pairs, call_fault_in, event_of_kind, told_by_kind, closing, closing_by, tunnel_fault_of_kind, tunnel_fault_read, tunnel_fault_of_pairs, tunnel_fault_in};
+ghost use Rattle.end_model.specs.Reading.{header_why, message_in, pairs_read, fault_cause, is_about_call, is_request, is_value, is_for_call, fault_of_kind, fault_of_pairs, call_fault_in, event_of_kind, told_by_kind, closing, closing_by, tunnel_fault_of_kind, tunnel_fault_read, tunnel_fault_of_pairs, tunnel_fault_in};
 
 use avp_codec::{AvpError, Avps, read_avps};
 use control_message::{
@@ -37,7 +37,7 @@ pub struct CallFault {
 }
 
 impl Model for CallFault {
-    ghost use Rattle.protocol_model.specs.Reading.{CallFault as Known};
+    ghost use Rattle.end_model.specs.Reading.{CallFault as Known};
 
     ghost Value = { Known };
 
@@ -54,7 +54,7 @@ pub struct TunnelFault {
 }
 
 impl Model for TunnelFault {
-    ghost use Rattle.protocol_model.specs.Reading.{TunnelFault as Known};
+    ghost use Rattle.end_model.specs.Reading.{TunnelFault as Known};
 
     ghost Value = { Known };
 
@@ -184,7 +184,7 @@ fn closing_of(avps: &Avps, error: MessageError) -> Option<TunnelFault>
 }
 
 /// What pairs say.
-#[tactic(auto, unfolding(protocol_model::specs::Reading::message_read, protocol_model::specs::Reading::pairs_read, protocol_model::specs::Reading::fault_of_pairs, protocol_model::specs::Reading::tunnel_fault_of_pairs))]
+#[tactic(auto, unfolding(end_model::specs::Reading::message_read, end_model::specs::Reading::pairs_read, end_model::specs::Reading::fault_of_pairs, end_model::specs::Reading::tunnel_fault_of_pairs))]
 fn said_of(alloc: Global, avps: &Avps) -> Result<Said, NoMemory>
     ensures message { IfOk result (λ said. said.message ≡ pairs_read (Ok avps.now)) }
     ensures fault { IfOk result (λ said. said.fault ≡ fault_of_pairs (Ok avps.now)) }
@@ -211,7 +211,7 @@ fn said_of(alloc: Global, avps: &Avps) -> Result<Said, NoMemory>
 }
 
 /// What the body of a control message says.
-#[tactic(auto, unfolding(protocol_model::specs::Reading::message_in, protocol_model::specs::Reading::pairs_read, protocol_model::specs::Reading::call_fault_in, protocol_model::specs::Reading::fault_of_pairs, protocol_model::specs::Reading::tunnel_fault_in, protocol_model::specs::Reading::tunnel_fault_of_pairs))]
+#[tactic(auto, unfolding(end_model::specs::Reading::message_in, end_model::specs::Reading::pairs_read, end_model::specs::Reading::call_fault_in, end_model::specs::Reading::fault_of_pairs, end_model::specs::Reading::tunnel_fault_in, end_model::specs::Reading::tunnel_fault_of_pairs))]
 pub fn read_body(alloc: Global, body: &[u8]) -> Result<Said, NoMemory>
     ensures message { IfOk result (λ said. said.message ≡ message_in body.now) }
     ensures fault { IfOk result (λ said. said.fault ≡ call_fault_in body.now) }

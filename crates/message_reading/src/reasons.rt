@@ -2,7 +2,7 @@
 
 ghost use Rattle.std.specs.Prelude.{◌≡◌, None};
 ghost use Rattle.wire_base.specs.declared.cause.Cause.TheVariants as cause;
-ghost use Rattle.protocol_model.specs.Reasons.{reason, out_of_state, out_of_order, no_tunnel, no_id, fault_error, fault_reason};
+ghost use Rattle.end_model.specs.Reasons.{reason, out_of_state, out_of_order, no_tunnel, no_id, fault_error, fault_reason};
 
 use std::marker::Model;
 use wire_base::Cause;
@@ -17,7 +17,7 @@ pub struct Reason {
 }
 
 impl Model for Reason {
-    ghost use Rattle.protocol_model.specs.Reasons.{Reason as Known};
+    ghost use Rattle.end_model.specs.Reasons.{Reason as Known};
 
     ghost Value = { Known };
 

@@ -7,7 +7,7 @@ ghost use Rattle.avp_codec.specs.Reading.{avps_of};
 ghost use Rattle.avp_codec.specs.Spelling.{AreAvps, spelling};
 ghost use Rattle.l2tp_header.specs.Spelling.{control_bytes};
 ghost use Rattle.control_message.specs.Uncovering.{uncovered};
-ghost use Rattle.protocol_model.specs.Secrets.{has_hidden, uncovered_pairs, uncovered_datagram};
+ghost use Rattle.end_model.specs.Secrets.{has_hidden, uncovered_pairs, uncovered_datagram};
 
 use avp_codec::{Avp, AvpError, Avps, read_avps, spell_avps};
 use control_message::{spells_what_was_uncovered, uncover};
@@ -96,7 +96,7 @@ fn uncover_body(
 }
 
 /// A datagram as an end with a secret reads it.
-#[tactic(auto, unfolding(protocol_model::specs::Secrets::uncovered_datagram))]
+#[tactic(auto, unfolding(end_model::specs::Secrets::uncovered_datagram))]
 fn uncover_by(alloc: Global, secret: &[u8], bytes: &[u8]) -> Result<Option<Bytes>, NoMemory>
     ensures { IfOk result (λ r. unwrap_or r bytes.now ≡ uncovered_datagram (Some secret.now) bytes.now) }
 {
@@ -119,7 +119,7 @@ fn uncover_by(alloc: Global, secret: &[u8], bytes: &[u8]) -> Result<Option<Bytes
 /// read, where it is a data message, where its pairs can't be read or none is hidden, and where what is uncovered has no
 /// room. Else it is a control message with the same numbers and ids, and with those values in plain that the secret
 /// uncovers (RFC 2661 section 4.3). Nothing is copied where no pair is hidden.
-#[tactic(auto, unfolding(protocol_model::specs::Secrets::uncovered_datagram))]
+#[tactic(auto, unfolding(end_model::specs::Secrets::uncovered_datagram))]
 pub fn uncover_datagram(
     alloc: Global,
     secret: &Option<Bytes>,

@@ -2,13 +2,13 @@
 
 ghost use Rattle.std.specs.Prelude.{◌≡◌, Ok, IfOk};
 ghost use Rattle.control_message.specs.Reading.{kind_of_pairs};
-ghost use Rattle.protocol_model.specs.Reading.{at_zero, zero_pairs, zero_read, zero_faulty, stopped, told_or_none};
+ghost use Rattle.end_model.specs.Reading.{at_zero, zero_pairs, zero_read, zero_faulty, stopped, told_or_none};
 
 use avp_codec::{AvpError, Avps, read_avps};
 use control_message::{
     Kind, Message, MessageError, Read, assigned_tunnel, kind_of_pairs, read_message,
 };
-use protocol_model::Addressee;
+use end_model::Addressee;
 use std::alloc::Global;
 use wire_base::{NoMemory, Why};
 
@@ -41,7 +41,7 @@ fn zero_faulty(avps: &Avps) -> Addressee
 }
 
 /// What a message at tunnel 0 is for, by its pairs.
-#[tactic(auto, unfolding(protocol_model::specs::Reading::zero_pairs, protocol_model::specs::Reading::zero_read))]
+#[tactic(auto, unfolding(end_model::specs::Reading::zero_pairs, end_model::specs::Reading::zero_read))]
 fn zero_pairs(alloc: Global, avps: &Avps) -> Result<Addressee, NoMemory>
     ensures { IfOk result (λ to. to ≡ zero_pairs (Ok avps.now)) }
 {
@@ -60,7 +60,7 @@ fn zero_pairs(alloc: Global, avps: &Avps) -> Result<Addressee, NoMemory>
 }
 
 /// What a control message at tunnel 0 is for (RFC 2661 section 3.1: its sender doesn't know the other end's id yet).
-#[tactic(auto, unfolding(protocol_model::specs::Reading::at_zero, protocol_model::specs::Reading::zero_pairs))]
+#[tactic(auto, unfolding(end_model::specs::Reading::at_zero, end_model::specs::Reading::zero_pairs))]
 pub fn at_zero(alloc: Global, body: &[u8]) -> Result<Addressee, NoMemory>
     ensures { IfOk result (λ to. to ≡ at_zero body.now) }
 {

@@ -1,7 +1,7 @@
 -- The text of a packet that has outlived half of its channel's numbers, piece by piece.
 use Rattle.std.proofs.Common.{◌≡◌, ℕ, List, ◌++◌, codes, append_assoc}
 use Rattle.std.specs.Fmt.{decimal}
-use Rattle.protocol_model.specs.Run.{half_space_text}
+use Rattle.world_model.specs.Run.{half_space_text}
 
 parts : (out a k b l d m e : List ℕ) → out ++ a ++ k ++ b ++ l ++ d ++ m ++ e ≡ out ++ (a ++ k ++ b ++ l ++ d ++ m ++ e)
 parts out a k b l d m e = simp append_assoc

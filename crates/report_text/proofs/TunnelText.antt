@@ -2,10 +2,10 @@
 use Rattle.std.proofs.Common.{◌≡◌, ℕ, List, ◌++◌, codes, append_assoc}
 use Rattle.std.specs.Fmt.{decimal}
 use Rattle.tunnel_fsm.specs.Words.{state_word}
-use Rattle.protocol_model.specs.declared.tunnel.Control.{Control}
+use Rattle.end_model.specs.declared.tunnel.Control.{Control}
 use Rattle.end_names.specs.Names.{node_of}
-use Rattle.protocol_model.specs.Texts.{◌&◌, ended}
-use Rattle.protocol_model.specs.Run.{tunnel_text}
+use Rattle.world_model.specs.Texts.{◌&◌, ended}
+use Rattle.world_model.specs.Run.{tunnel_text}
 
 ends_behind : (out ids word last : List ℕ) → ((out ++ ids) & word & last) ++ codes "\n" ≡ out ++ ended (ids & word & last)
 ends_behind out ids word last = simp append_assoc

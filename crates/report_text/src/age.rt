@@ -1,9 +1,10 @@
 //! Packets that have outlived half of the numbers of their control channel.
 
 ghost use Rattle.std.specs.Prelude.{◌≡◌};
-ghost use Rattle.protocol_model.specs.World.{outlives, too_old};
+ghost use Rattle.world_model.specs.World.{outlives, too_old};
 
-use protocol_model::{Control, ControlOrigin, Refusal};
+use end_model::{Control, ControlOrigin};
+use world_model::Refusal;
 
 /// The half of the numbers of a control channel that are below one of them (RFC 2661 section 5.8).
 const HALF: u64 = 32_767;
@@ -16,7 +17,7 @@ fn outlives(number: u64, count: u64) -> bool
 }
 
 /// Why a control message is refused by the tunnel that it is for, if it is.
-#[tactic(auto, unfolding(protocol_model::specs::World::too_old))]
+#[tactic(auto, unfolding(world_model::specs::World::too_old))]
 pub fn too_old(origin: &ControlOrigin, tunnel: Option<Control>) -> Option<Refusal>
     ensures { result ≡ too_old origin.now tunnel }
 {

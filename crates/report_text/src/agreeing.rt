@@ -2,17 +2,17 @@
 
 ghost use Rattle.std.specs.Prelude.{◌≡◌, count_by, IfOk};
 ghost use Rattle.id_table.specs.Ids.{at, ids_of};
-ghost use Rattle.protocol_model.specs.Run.{agree, is_session, session_count};
+ghost use Rattle.world_model.specs.Run.{agree, is_session, session_count};
 
 use call_fsm::CallState;
 use id_table::Table;
-use protocol_model::{Call, Control, node_of};
+use end_model::{Call, Control, node_of};
 use std::alloc::Global;
 use tunnel_fsm::TunnelState;
 use wire_base::NoMemory;
 
 /// Whether two tunnels have learned each other, are established, and each took all that the other was given to send.
-#[tactic(auto, unfolding(protocol_model::specs::Run::agree))]
+#[tactic(auto, unfolding(world_model::specs::Run::agree))]
 pub fn agree(node: u32, tunnel: &Control, partner: &Control) -> bool
     ensures { result ≡ agree node tunnel.now partner.now }
 {
@@ -35,7 +35,7 @@ fn is_session(calls: &Table<Call>, session: u32) -> bool
 }
 
 /// How many sessions a tunnel has.
-#[tactic(auto, unfolding(protocol_model::specs::Run::session_count))]
+#[tactic(auto, unfolding(world_model::specs::Run::session_count))]
 pub fn session_count(alloc: Global, calls: &Table<Call>) -> Result<usize, NoMemory>
     ensures { IfOk result (λ n. n ≡ session_count calls.now.entries) }
 {

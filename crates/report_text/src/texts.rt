@@ -4,11 +4,12 @@ ghost use Rattle.std.specs.Prelude.{◌≡◌, ◌≤◌, ◌++◌, codes, lengt
 ghost use Rattle.std.specs.Fmt.{decimal};
 ghost use Rattle.hex.specs.Hex.{encode_lower};
 ghost use Rattle.end_names.specs.Names.{node_of};
-ghost use Rattle.protocol_model.specs.Texts.{◌&◌, send_text, side_word, up_text, gone_text, frame_text, farewell_text, drop_text, cause_text};
-ghost use Rattle.protocol_model.specs.Run.{tunnel_text, call_text, agree_text, unfit_text, half_space_text, refusal_text};
+ghost use Rattle.world_model.specs.Texts.{◌&◌, send_text, side_word, up_text, gone_text, frame_text, farewell_text, drop_text, cause_text};
+ghost use Rattle.world_model.specs.Run.{tunnel_text, call_text, agree_text, unfit_text, half_space_text, refusal_text};
 
 use itoa::Buffer;
-use protocol_model::{Call, Control, Refusal, node_of};
+use end_model::{Call, Control, node_of};
+use world_model::Refusal;
 use wire_base::{Bytes, Cause, NoMemory, Side, Why};
 
 /// Appends a number in decimal.
@@ -71,7 +72,7 @@ fn push_hex(out: &mut Bytes, bytes: &[u8]) -> Result<(), NoMemory>
 }
 
 /// A datagram that was sent: the line, the packet's number, the two nodes, and its bytes.
-#[tactic(auto, unfolding(protocol_model::specs::Texts::send_text))]
+#[tactic(auto, unfolding(world_model::specs::Texts::send_text))]
 pub fn push_send(
     out: &mut Bytes,
     line: u64,
@@ -103,7 +104,7 @@ fn side_word(side: Side) -> &'static [u8]
 }
 
 /// A PPP frame that is handed up: the line, the node, the call's local session and birth, where it goes, and its bytes.
-#[tactic(auto, unfolding(protocol_model::specs::Texts::up_text))]
+#[tactic(auto, unfolding(world_model::specs::Texts::up_text))]
 pub fn push_up(
     out: &mut Bytes,
     line: u64,
@@ -126,7 +127,7 @@ pub fn push_up(
 }
 
 /// A call that ended: the line, the node, and the call's local session.
-#[tactic(auto, unfolding(protocol_model::specs::Texts::gone_text))]
+#[tactic(auto, unfolding(world_model::specs::Texts::gone_text))]
 pub fn push_gone(out: &mut Bytes, line: u64, node: u8, session: u32) -> Result<(), NoMemory>
     ensures { OnOk result (out.new ≡ out.old ++ gone_text line node session) }
 {
@@ -138,7 +139,7 @@ pub fn push_gone(out: &mut Bytes, line: u64, node: u8, session: u32) -> Result<(
 }
 
 /// An Ethernet frame that a LAC sends to a host: the line, the node, and its bytes.
-#[tactic(auto, unfolding(protocol_model::specs::Texts::frame_text))]
+#[tactic(auto, unfolding(world_model::specs::Texts::frame_text))]
 pub fn push_frame(out: &mut Bytes, line: u64, node: u8, bytes: &[u8]) -> Result<(), NoMemory>
     ensures { OnOk result (out.new ≡ out.old ++ frame_text line node bytes.now) }
 {
@@ -165,7 +166,7 @@ pub fn push_farewell(
 }
 
 /// An input that was ignored: the line, the node, and why.
-#[tactic(auto, unfolding(protocol_model::specs::Texts::drop_text))]
+#[tactic(auto, unfolding(world_model::specs::Texts::drop_text))]
 pub fn push_drop(out: &mut Bytes, line: u64, node: u8, why: Why) -> Result<(), NoMemory>
     ensures { OnOk result (out.new ≡ out.old ++ drop_text line node why) }
 {
@@ -177,7 +178,7 @@ pub fn push_drop(out: &mut Bytes, line: u64, node: u8, why: Why) -> Result<(), N
 }
 
 /// The cause of a refusal: the line, the node, and the cause.
-#[tactic(auto, unfolding(protocol_model::specs::Texts::cause_text))]
+#[tactic(auto, unfolding(world_model::specs::Texts::cause_text))]
 pub fn push_cause(out: &mut Bytes, line: u64, node: u8, cause: Cause) -> Result<(), NoMemory>
     ensures { OnOk result (out.new ≡ out.old ++ cause_text line node cause) }
 {
@@ -201,7 +202,7 @@ fn push_tunnel_ids(out: &mut Bytes, node: u32, tunnel: &Control) -> Result<(), N
 }
 
 /// A tunnel at the end of a run. No line crashes a node, so each tunnel is in epoch 0, current, and complete.
-#[tactic(auto, unfolding(protocol_model::specs::Run::tunnel_text))]
+#[tactic(auto, unfolding(world_model::specs::Run::tunnel_text))]
 pub fn push_tunnel(out: &mut Bytes, node: u32, tunnel: &Control) -> Result<(), NoMemory>
     ensures { OnOk result (out.new ≡ out.old ++ tunnel_text node tunnel.now) }
 {
@@ -212,7 +213,7 @@ pub fn push_tunnel(out: &mut Bytes, node: u32, tunnel: &Control) -> Result<(), N
 }
 
 /// A call at the end of a run, with its local session and its birth.
-#[tactic(auto, unfolding(protocol_model::specs::Run::call_text))]
+#[tactic(auto, unfolding(world_model::specs::Run::call_text))]
 pub fn push_call(
     out: &mut Bytes,
     node: u32,
@@ -235,7 +236,7 @@ pub fn push_call(
 }
 
 /// A LAC's tunnel and its partner, which agree, with the number of sessions.
-#[tactic(auto, unfolding(protocol_model::specs::Run::agree_text))]
+#[tactic(auto, unfolding(world_model::specs::Run::agree_text))]
 pub fn push_agree(
     out: &mut Bytes,
     node: u32,
@@ -255,7 +256,7 @@ pub fn push_agree(
 }
 
 /// A line that doesn't fit, and why.
-#[tactic(auto, unfolding(protocol_model::specs::Run::unfit_text))]
+#[tactic(auto, unfolding(world_model::specs::Run::unfit_text))]
 fn push_unfit(out: &mut Bytes, line: u64, why: Why) -> Result<(), NoMemory>
     ensures { OnOk result (out.new ≡ out.old ++ unfit_text line why) }
 {
@@ -266,7 +267,7 @@ fn push_unfit(out: &mut Bytes, line: u64, why: Why) -> Result<(), NoMemory>
 }
 
 /// A packet that has outlived half of its channel's numbers: the line, the number that it has, and what its tunnel counts.
-#[tactic(auto, unfolding(protocol_model::specs::Run::half_space_text))]
+#[tactic(auto, unfolding(world_model::specs::Run::half_space_text))]
 fn push_half_space(out: &mut Bytes, line: u64, number: u64, count: u64) -> Result<(), NoMemory>
     ensures { OnOk result (out.new ≡ out.old ++ half_space_text line number count) }
 {
@@ -277,7 +278,7 @@ fn push_half_space(out: &mut Bytes, line: u64, number: u64, count: u64) -> Resul
 }
 
 /// A line that is refused, and why.
-#[tactic(auto, unfolding(protocol_model::specs::Run::refusal_text))]
+#[tactic(auto, unfolding(world_model::specs::Run::refusal_text))]
 pub fn push_refusal(out: &mut Bytes, line: u64, refusal: Refusal) -> Result<(), NoMemory>
     ensures { OnOk result (out.new ≡ out.old ++ refusal_text line refusal) }
 {

@@ -6,16 +6,16 @@ use Rattle.id_table.specs.Ids.{at, put, at-none}
 use Rattle.id_table.specs.Order.{ascends-empty, at_new, at_other, same_or_not}
 use Rattle.schedule_text.specs.declared.line.Line.{Line}
 use Rattle.schedule_text.specs.Grammar.{AreLines}
-use Rattle.protocol_model.specs.Access.{Access}
-use Rattle.protocol_model.specs.Texts.{Entry}
-use Rattle.protocol_model.specs.declared.event.Event.{Event}
-use Rattle.protocol_model.specs.declared.moves.Move.{Move}
-use Rattle.protocol_model.specs.declared.tunnel.Call.{Call}
+use Rattle.end_model.specs.Access.{Access}
+use Rattle.world_model.specs.Texts.{Entry}
+use Rattle.end_model.specs.declared.event.Event.{Event}
+use Rattle.end_model.specs.declared.moves.Move.{Move}
+use Rattle.end_model.specs.declared.tunnel.Call.{Call}
 use Rattle.end_names.specs.declared.role.Role.{Role}
-use Rattle.protocol_model.specs.Secrets.{uncovered_event}
-use Rattle.protocol_model.specs.End.{End, Stepped, step}
-use Rattle.protocol_model.specs.World.{World, Node, Sender, Deed, Lined, told_line, new_node, with_node, block_of}
-use Rattle.protocol_model.specs.Run.{Run, after_line, run}
+use Rattle.end_model.specs.Secrets.{uncovered_event}
+use Rattle.end_model.specs.End.{End, Stepped, step}
+use Rattle.world_model.specs.World.{World, Node, Sender, Deed, Lined, told_line, new_node, with_node, block_of}
+use Rattle.world_model.specs.Run.{Run, after_line, run}
 use Rattle.step_laws.specs.Steps.{AreKept, StepsAreChains}
 use Rattle.frame_laws.specs.Facts.{FactsOfRuns}
 use Rattle.connection_laws.specs.Accounts.{no_account, account_from, account_of}

@@ -4,17 +4,17 @@ use Rattle.std.specs.Prelude.{unwrap_or}
 use Rattle.id_source.specs.Spaces.{Space}
 use Rattle.id_table.specs.Ids.{at, put}
 use Rattle.id_table.specs.Order.{at_new, at_other, found_put, same_or_not}
-use Rattle.protocol_model.specs.declared.event.Event.{Event}
-use Rattle.protocol_model.specs.declared.event.Event.TheVariants.{Datagram}
-use Rattle.protocol_model.specs.declared.moves.Added.{Added}
-use Rattle.protocol_model.specs.declared.moves.Replied.{Replied}
-use Rattle.protocol_model.specs.declared.moves.Move.{Move}
-use Rattle.protocol_model.specs.declared.moves.Move.TheVariants as move
+use Rattle.end_model.specs.declared.event.Event.{Event}
+use Rattle.end_model.specs.declared.event.Event.TheVariants.{Datagram}
+use Rattle.end_model.specs.declared.moves.Added.{Added}
+use Rattle.end_model.specs.declared.moves.Replied.{Replied}
+use Rattle.end_model.specs.declared.moves.Move.{Move}
+use Rattle.end_model.specs.declared.moves.Move.TheVariants as move
 use Rattle.end_names.specs.declared.role.Role.{Role}
 use Rattle.end_names.specs.declared.role.Role.TheVariants.{Lns}
 use Rattle.end_names.specs.Names.{node_of}
-use Rattle.protocol_model.specs.End.{End}
-use Rattle.protocol_model.specs.World.{World, Node, Sender, birth_in, birth_of, is_born, with_birth, moved, moved_all}
+use Rattle.end_model.specs.End.{End}
+use Rattle.world_model.specs.World.{World, Node, Sender, birth_in, birth_of, is_born, with_birth, moved, moved_all}
 use Rattle.step_laws.specs.Moves.{Adds, Replies, Does, Chain}
 use Rattle.frame_laws.specs.Facts.{Nodes, Born, birth_in_node}
 use Rattle.connection_laws.specs.Accounts.{Taken, about, account_from}

@@ -5,22 +5,22 @@ use Rattle.id_table.specs.Ids.{at, put, at-none}
 use Rattle.id_table.specs.Order.{at_new, found_put, same_or_not}
 use Rattle.schedule_text.specs.declared.line.Line.{Line}
 use Rattle.schedule_text.specs.Grammar.{AreLines}
-use Rattle.protocol_model.specs.Access.{Access}
-use Rattle.protocol_model.specs.Texts.{Entry}
-use Rattle.protocol_model.specs.declared.event.Event.{Event}
-use Rattle.protocol_model.specs.declared.event.Event.TheVariants.{Datagram}
-use Rattle.protocol_model.specs.declared.out.Origin.{Origin}
-use Rattle.protocol_model.specs.declared.out.Origin.TheVariants as origin
-use Rattle.protocol_model.specs.declared.packet.Packet.{Packet}
-use Rattle.protocol_model.specs.declared.moves.Replied.{Replied}
-use Rattle.protocol_model.specs.declared.moves.Move.TheVariants as move
+use Rattle.end_model.specs.Access.{Access}
+use Rattle.world_model.specs.Texts.{Entry}
+use Rattle.end_model.specs.declared.event.Event.{Event}
+use Rattle.end_model.specs.declared.event.Event.TheVariants.{Datagram}
+use Rattle.end_model.specs.declared.out.Origin.{Origin}
+use Rattle.end_model.specs.declared.out.Origin.TheVariants as origin
+use Rattle.world_model.specs.declared.packet.Packet.{Packet}
+use Rattle.end_model.specs.declared.moves.Replied.{Replied}
+use Rattle.end_model.specs.declared.moves.Move.TheVariants as move
 use Rattle.end_names.specs.declared.role.Role.{Role}
 use Rattle.end_names.specs.declared.role.Role.TheVariants.{Lns}
 use Rattle.end_names.specs.Names.{address_of, node_of}
-use Rattle.protocol_model.specs.Secrets.{uncovered_event}
-use Rattle.protocol_model.specs.End.{End, Stepped, step}
-use Rattle.protocol_model.specs.World.{World, Node, Sender, Deed, Lined, told_line, new_node, with_node, block_of, sender_of}
-use Rattle.protocol_model.specs.Run.{Run, after_line, run}
+use Rattle.end_model.specs.Secrets.{uncovered_event}
+use Rattle.end_model.specs.End.{End, Stepped, step}
+use Rattle.world_model.specs.World.{World, Node, Sender, Deed, Lined, told_line, new_node, with_node, block_of, sender_of}
+use Rattle.world_model.specs.Run.{Run, after_line, run}
 use Rattle.step_laws.specs.Steps.{StepsAreChains}
 use Rattle.frame_laws.specs.Facts.{Nodes, birth_in_node, PacketOk, NodeOk, Holds, FactsOfRuns}
 use Rattle.frame_laws.specs.Births.{IsBornAt, AreApart, BirthsOfRuns}

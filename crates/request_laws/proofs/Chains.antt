@@ -1,11 +1,11 @@
 -- What holds of calls and of letters that ask for them, along the moves of a step.
 use Rattle.std.proofs.Common.{◌≡◌, inl, inr, ⊎_elim, ℕ, List, [], ◌∷◌, length, sym, subst, Option}
-use Rattle.protocol_model.specs.declared.event.Event.{Event}
-use Rattle.protocol_model.specs.declared.moves.Move.{Move}
-use Rattle.protocol_model.specs.declared.moves.Move.TheVariants as move
+use Rattle.end_model.specs.declared.event.Event.{Event}
+use Rattle.end_model.specs.declared.moves.Move.{Move}
+use Rattle.end_model.specs.declared.moves.Move.TheVariants as move
 use Rattle.end_names.specs.declared.role.Role.{Role}
-use Rattle.protocol_model.specs.End.{End}
-use Rattle.protocol_model.specs.World.{World, Sender}
+use Rattle.end_model.specs.End.{End}
+use Rattle.world_model.specs.World.{World, Sender}
 use Rattle.step_laws.specs.Moves.{Does, Chain}
 use Rattle.connection_laws.specs.Accounts.{about, account_from}
 use Rattle.request_laws.proofs.Asked.{Known, AskOk, IsNow, LettersGo, ask_goes_on}

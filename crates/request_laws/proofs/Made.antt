@@ -2,10 +2,10 @@
 use Rattle.std.proofs.Common.{◌≡◌, ⊎_elim, ℕ, ◌<◌, Bool, true, false, cond, List, refl, sym, ap, ◌∙◌, subst, Some, None, slice_get}
 use Rattle.std.specs.Prelude.{◌==◌}
 use Rattle.id_table.specs.Order.{same_or_not}
-use Rattle.protocol_model.specs.declared.moves.Replied.{Replied}
-use Rattle.protocol_model.specs.declared.moves.Move.TheVariants as move
-use Rattle.protocol_model.specs.World.{Sender, Deed}
-use Rattle.protocol_model.specs.Run.{run}
+use Rattle.end_model.specs.declared.moves.Replied.{Replied}
+use Rattle.end_model.specs.declared.moves.Move.TheVariants as move
+use Rattle.world_model.specs.World.{Sender, Deed}
+use Rattle.world_model.specs.Run.{run}
 use Rattle.step_laws.specs.Steps.{StepsAreChains}
 use Rattle.frame_laws.specs.Facts.{FactsOfRuns}
 use Rattle.connection_laws.specs.Accounts.{Part, Unmade, Opener, Acceptor, Taken, Account, heeded, account_of, partner_of}

@@ -7,27 +7,27 @@ use Rattle.id_source.specs.Spaces.{Space, draws, after_draw}
 use Rattle.id_table.specs.Ids.{at, put, without, at-none}
 use Rattle.id_table.specs.Order.{Ascends, ascends-empty, ascends-put, at_new, found_put, ascends-without, found_without}
 use Rattle.call_fsm.specs.declared.table.CallEvent.TheVariants as call_event
-use Rattle.protocol_model.specs.declared.event.Event.{Event}
-use Rattle.protocol_model.specs.declared.moves.Opened.{Opened}
-use Rattle.protocol_model.specs.declared.moves.Accepted.{Accepted}
-use Rattle.protocol_model.specs.declared.moves.Added.{Added}
-use Rattle.protocol_model.specs.declared.moves.Requested.{Requested}
-use Rattle.protocol_model.specs.declared.moves.Replied.{Replied}
-use Rattle.protocol_model.specs.declared.moves.FirstUp.{FirstUp}
-use Rattle.protocol_model.specs.declared.moves.SecondUp.{SecondUp}
-use Rattle.protocol_model.specs.declared.moves.Negotiated.{Negotiated}
-use Rattle.protocol_model.specs.declared.moves.EndTold.{EndTold}
-use Rattle.protocol_model.specs.declared.moves.EndHeard.{EndHeard}
-use Rattle.protocol_model.specs.declared.moves.EndSilent.{EndSilent}
-use Rattle.protocol_model.specs.declared.moves.Closed.{Closed}
-use Rattle.protocol_model.specs.declared.moves.ClosedBy.{ClosedBy}
-use Rattle.protocol_model.specs.declared.moves.Rejected.{Rejected}
-use Rattle.protocol_model.specs.declared.moves.Move.{Move}
-use Rattle.protocol_model.specs.declared.moves.Move.TheVariants as move
-use Rattle.protocol_model.specs.declared.tunnel.Call.{Call}
-use Rattle.protocol_model.specs.Calls.{advanced, rung, asked_for}
-use Rattle.protocol_model.specs.Turn.{Tunnel, with_link, link_after}
-use Rattle.protocol_model.specs.End.{End}
+use Rattle.end_model.specs.declared.event.Event.{Event}
+use Rattle.end_model.specs.declared.moves.Opened.{Opened}
+use Rattle.end_model.specs.declared.moves.Accepted.{Accepted}
+use Rattle.end_model.specs.declared.moves.Added.{Added}
+use Rattle.end_model.specs.declared.moves.Requested.{Requested}
+use Rattle.end_model.specs.declared.moves.Replied.{Replied}
+use Rattle.end_model.specs.declared.moves.FirstUp.{FirstUp}
+use Rattle.end_model.specs.declared.moves.SecondUp.{SecondUp}
+use Rattle.end_model.specs.declared.moves.Negotiated.{Negotiated}
+use Rattle.end_model.specs.declared.moves.EndTold.{EndTold}
+use Rattle.end_model.specs.declared.moves.EndHeard.{EndHeard}
+use Rattle.end_model.specs.declared.moves.EndSilent.{EndSilent}
+use Rattle.end_model.specs.declared.moves.Closed.{Closed}
+use Rattle.end_model.specs.declared.moves.ClosedBy.{ClosedBy}
+use Rattle.end_model.specs.declared.moves.Rejected.{Rejected}
+use Rattle.end_model.specs.declared.moves.Move.{Move}
+use Rattle.end_model.specs.declared.moves.Move.TheVariants as move
+use Rattle.end_model.specs.declared.tunnel.Call.{Call}
+use Rattle.end_model.specs.Calls.{advanced, rung, asked_for}
+use Rattle.end_model.specs.Turn.{Tunnel, with_link, link_after}
+use Rattle.end_model.specs.End.{End}
 use Rattle.lcp_end.specs.Laws.{after as lcp_after}
 use Rattle.step_laws.specs.Links.{begun_link}
 use Rattle.step_laws.specs.Moves.{with_tunnel, without_call, Opens, Accepts, Adds, Requests, Replies, ComesUpFirst, ComesUpSecond, Negotiates, Does}

@@ -3,10 +3,10 @@ use Rattle.std.proofs.Common.{◌≡◌, ◌⊎◌, ⊎_elim, ℕ, zero, suc, Bo
 use Rattle.std.specs.Prelude.{◌==◌, ◌&&◌, drop}
 use Rattle.std.specs.List.{AllByRecursion}
 use Rattle.control_message.specs.declared.message.Message.TheVariants.{Sccrp, Icrp}
-use Rattle.protocol_model.specs.declared.moves.Replied.{Replied}
-use Rattle.protocol_model.specs.declared.moves.Move.{Move}
-use Rattle.protocol_model.specs.declared.moves.Move.TheVariants as move
-use Rattle.protocol_model.specs.World.{Deed, config_of}
+use Rattle.end_model.specs.declared.moves.Replied.{Replied}
+use Rattle.end_model.specs.declared.moves.Move.{Move}
+use Rattle.end_model.specs.declared.moves.Move.TheVariants as move
+use Rattle.world_model.specs.World.{Deed, config_of}
 use Rattle.step_laws.specs.Letters.{Letter, letters_of}
 use Rattle.connection_laws.specs.Accounts.{Taken, Account, no_account, gives, about, entered, entered_by, declines_of, declined_in, after_deed, account_from, account_of}
 use Rattle.connection_laws.specs.Facts.{BeginsWith, IsStopCcn, HasStopped}

@@ -2,9 +2,9 @@
 use Rattle.std.proofs.Common.{◌≡◌, ℕ, ◌+◌, List, [], ◌∷◌, ◌++◌, refl, sym, ap, ◌∙◌, append_assoc, append-nil, Option, Some, Result, Ok, Err}
 use Rattle.schedule_text.specs.declared.line.Line.{Line}
 use Rattle.schedule_text.specs.Grammar.{FitsLine, AreLines}
-use Rattle.protocol_model.specs.declared.refusal.Refusal.{Refusal}
-use Rattle.protocol_model.specs.World.{Lined, line}
-use Rattle.protocol_model.specs.Run.{Run, empty_run, after_line, goes_on, run_from, run}
+use Rattle.world_model.specs.declared.refusal.Refusal.{Refusal}
+use Rattle.world_model.specs.World.{Lined, line}
+use Rattle.world_model.specs.Run.{Run, empty_run, after_line, goes_on, run_from, run}
 
 -- a run goes on where a line fits, and stays where it doesn't
 where_it_fits : (P : Run → Type 0) (rest : Run → Run) (r : Run) (number : ℕ) (x : Result Lined Refusal)

@@ -3,13 +3,13 @@ use Rattle.std.proofs.Common.{◌≡◌, ℕ, ◌+◌, ◌-◌, ◌^◌, List, [
 use Rattle.std.specs.Prelude.{min}
 use Rattle.id_table.specs.Ids.{at, put}
 use Rattle.id_table.specs.Order.{at_new, at_other}
-use Rattle.protocol_model.specs.declared.moves.Move.{Move}
-use Rattle.protocol_model.specs.declared.moves.Move.TheVariants as move
-use Rattle.protocol_model.specs.declared.out.Out.{Out}
-use Rattle.protocol_model.specs.declared.out.Out.TheVariants.{Send, Up, Gone, Drop, Cause}
+use Rattle.end_model.specs.declared.moves.Move.{Move}
+use Rattle.end_model.specs.declared.moves.Move.TheVariants as move
+use Rattle.end_model.specs.declared.out.Out.{Out}
+use Rattle.end_model.specs.declared.out.Out.TheVariants.{Send, Up, Gone, Drop, Cause}
 use Rattle.end_names.specs.Names.{node_of}
-use Rattle.protocol_model.specs.End.{End, Stepped}
-use Rattle.protocol_model.specs.World.{World, Node, Sender, with_node, is_born, with_birth, birth_of, moved, moved_all, sent, shown, shown_all, given, after_step}
+use Rattle.end_model.specs.End.{End, Stepped}
+use Rattle.world_model.specs.World.{World, Node, Sender, with_node, is_born, with_birth, birth_of, moved, moved_all, sent, shown, shown_all, given, after_step}
 use Rattle.request_laws.proofs.Deeds.{deeds}
 
 -- ---- births

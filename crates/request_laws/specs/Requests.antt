@@ -4,11 +4,11 @@ use Rattle.id_table.specs.Ids.{at}
 use Rattle.control_message.specs.declared.message.Message.TheVariants.{Icrq}
 use Rattle.schedule_text.specs.declared.line.Line.{Line}
 use Rattle.schedule_text.specs.Grammar.{AreLines}
-use Rattle.protocol_model.specs.declared.moves.Replied.{Replied}
-use Rattle.protocol_model.specs.declared.moves.Move.TheVariants as move
+use Rattle.end_model.specs.declared.moves.Replied.{Replied}
+use Rattle.end_model.specs.declared.moves.Move.TheVariants as move
 use Rattle.end_names.specs.declared.role.Role.TheVariants.{Lac, Lns}
-use Rattle.protocol_model.specs.World.{World, Node, Deed}
-use Rattle.protocol_model.specs.Run.{Run, run}
+use Rattle.world_model.specs.World.{World, Node, Deed}
+use Rattle.world_model.specs.Run.{Run, run}
 use Rattle.step_laws.specs.Letters.{Letter}
 use Rattle.connection_laws.specs.Accounts.{Taken, account_of}
 

@@ -12,15 +12,16 @@ use Rattle.lcp_end.specs.Options.{is_good, part, asked}
 use Rattle.lcp_end.specs.Hearing.{request_heard, ack_heard, nak_heard, reject_heard, answer_heard, answers_last, heard_as}
 use Rattle.lcp_end.specs.Steps.{sent as packet_sent, requesting, requested as link_asks, counted, zeroed, configured, terminated, signalled, acted, stepped as link_stepped, acked, naks_after, refused as link_refuses, confirmed as link_confirms, code_rejected, echoed, answered, opened as link_opened, after_heard, after_read, after_packet}
 use Rattle.pppoe_session.specs.Subscribers.{holder_of, subscriber_of}
-use Rattle.protocol_model.specs.Access.{farewell}
+use Rattle.end_model.specs.Access.{farewell}
 use Rattle.end_names.specs.Names.{host_name, address_of, node_of, subscriber, calling_number}
-use Rattle.protocol_model.specs.Reading.{message_read, pairs_read, message_in, zero_read, zero_pairs, at_zero, at_tunnel, fault_of_pairs, call_fault_in, tunnel_fault_of_pairs, tunnel_fault_in}
-use Rattle.protocol_model.specs.Calls.{call_row, advanced, rung, asked_for, carry_known, carry_look}
-use Rattle.protocol_model.specs.Turn.{with_turn, with_output, with_move, with_change, with_looks_of, with_call, with_new, drops, gives, gives_as, takes_one, reads_nr, sends_letter, sends_now, lets_go, goes_by, lets_all_go, acknowledges, acknowledged_after, settles, with_local, opened, opens_by, opens, accepted, accepts_by, accepts, requested, requests, requests_at, requests_all, adds, rings_over, rings_by, rings_new, rings, connected, connects, confirms, takes_plain, ignores, takes_by, takes, replied, replies, first_up, first_up_by, second_up, connects_call, linked_up, second_up_by, about_call, in_call, hears, hears_faulty, hears_said, hears_next, hears_letter, in_tunnel, first_said, hears_control, carried, sends_packets, negotiated, links, hears_link, hears_lcp, carries, hears_datagram, turns, with_calls, ends_call, ends_all, shuts, closed_told, closes_tunnel, rejected, rejects, closed_by, shuts_by, end_silent, end_told, ends_by, closes, rings_within, answers_by, refused, refuses, of_no_call, call_of, session_named, granted, asked_by, end_heard, end_heard_by, ends_named, faulty_at, faulty, in_faulty_call}
-use Rattle.protocol_model.specs.Secrets.{uncovered_datagram}
-use Rattle.protocol_model.specs.End.{gives_only, placed, with_look, with_looks, after_turn, after_new, in_new, in_one_more, in_main, known_as, opens_once, addressed, main_of, reached_by, reached_plain, against_opening, against_body, declined, opens_or_declines, for_addressee, least_in, rings_in, rings_at, for_call, then_heard, handed, hands_up, receives, only_by, step_in, plain_step}
-use Rattle.protocol_model.specs.World.{birth_of, with_birth, is_born, moved, moved_all, sent, shown, entry_of, shown_all, entries_of, given, after_step, added, block_of, stepped, addressee_of, arrival, too_old, refused_by, arrives, delivers_it, delivers, line}
-use Rattle.protocol_model.specs.Run.{goes_on, run_from, tunnel_text, call_text, call_table, tunnel_line, node_table, end_table, lns_tunnel, partner_of, agree, session_count, agree_text, agree_with, agree_line, node_agreements, agreement_table, tables}
+use Rattle.end_model.specs.Reading.{message_read, pairs_read, message_in, zero_read, zero_pairs, at_zero, at_tunnel, fault_of_pairs, call_fault_in, tunnel_fault_of_pairs, tunnel_fault_in}
+use Rattle.session_looks.specs.Frames.{carry_known, carry_look}
+use Rattle.end_model.specs.Calls.{call_row, advanced, rung, asked_for}
+use Rattle.end_model.specs.Turn.{with_turn, with_output, with_move, with_change, with_looks_of, with_call, with_new, drops, gives, gives_as, takes_one, reads_nr, sends_letter, sends_now, lets_go, goes_by, lets_all_go, acknowledges, acknowledged_after, settles, with_local, opened, opens_by, opens, accepted, accepts_by, accepts, requested, requests, requests_at, requests_all, adds, rings_over, rings_by, rings_new, rings, connected, connects, confirms, takes_plain, ignores, takes_by, takes, replied, replies, first_up, first_up_by, second_up, connects_call, linked_up, second_up_by, about_call, in_call, hears, hears_faulty, hears_said, hears_next, hears_letter, in_tunnel, first_said, hears_control, carried, sends_packets, negotiated, links, hears_link, hears_lcp, carries, hears_datagram, turns, with_calls, ends_call, ends_all, shuts, closed_told, closes_tunnel, rejected, rejects, closed_by, shuts_by, end_silent, end_told, ends_by, closes, rings_within, answers_by, refused, refuses, of_no_call, call_of, session_named, granted, asked_by, end_heard, end_heard_by, ends_named, faulty_at, faulty, in_faulty_call}
+use Rattle.end_model.specs.Secrets.{uncovered_datagram}
+use Rattle.end_model.specs.End.{gives_only, placed, with_look, with_looks, after_turn, after_new, in_new, in_one_more, in_main, known_as, opens_once, addressed, main_of, reached_by, reached_plain, against_opening, against_body, declined, opens_or_declines, for_addressee, least_in, rings_in, rings_at, for_call, then_heard, handed, hands_up, receives, only_by, step_in, plain_step}
+use Rattle.world_model.specs.World.{birth_of, with_birth, is_born, moved, moved_all, sent, shown, entry_of, shown_all, entries_of, given, after_step, added, block_of, stepped, addressee_of, arrival, too_old, refused_by, arrives, delivers_it, delivers, line}
+use Rattle.world_model.specs.Run.{goes_on, run_from, tunnel_text, call_text, call_table, tunnel_line, node_table, end_table, lns_tunnel, partner_of, agree, session_count, agree_text, agree_with, agree_line, node_agreements, agreement_table, tables}
 use Rattle.hex.specs.Hex.{encode_with}
 use Rattle.std.specs.Fmt.{digits}
 use Rattle.frame_laws.specs.Past.{sent_in, handed_in}

@@ -6,10 +6,10 @@ use Rattle.wire_base.specs.declared.why.Why.TheVariants as why
 use Rattle.schedule_text.specs.declared.line.Line.{Line}
 use Rattle.schedule_text.specs.declared.line.Line.TheVariants.{Lac, Lns, OpenUp, Ring, Hang, DropCall, Deliver}
 use Rattle.control_message.specs.declared.message.Message.TheVariants.{Cdn}
-use Rattle.protocol_model.specs.declared.tunnel.CallPlace.{CallPlace}
-use Rattle.protocol_model.specs.Texts.{Ends, Drops, Causes}
-use Rattle.protocol_model.specs.World.{World}
-use Rattle.protocol_model.specs.Run.{run, tables}
+use Rattle.end_model.specs.declared.tunnel.CallPlace.{CallPlace}
+use Rattle.world_model.specs.Texts.{Ends, Drops, Causes}
+use Rattle.world_model.specs.World.{World}
+use Rattle.world_model.specs.Run.{run, tables}
 use Rattle.run_examples.specs.Entries.{entries_since, message, acknowledgement}
 
 -- Session 1 of node 9 waits in its tunnel 1, which is never answered. Its session 2 is session 1 of the LNS, node 4, and its

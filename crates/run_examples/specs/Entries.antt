@@ -4,7 +4,7 @@ use Rattle.l2tp_header.specs.Spelling.{control_bytes}
 use Rattle.avp_codec.specs.Spelling.{spelling}
 use Rattle.control_message.specs.declared.message.Message.{Message}
 use Rattle.control_message.specs.Pairs.{pairs_of}
-use Rattle.protocol_model.specs.Texts.{Entry, Frames, Sends, HandsUp, Ends, Drops, Causes}
+use Rattle.world_model.specs.Texts.{Entry, Frames, Sends, HandsUp, Ends, Drops, Causes}
 
 abbrev pub line_in : Entry → ℕ
 line_in (Sends line packet from to bytes) = line

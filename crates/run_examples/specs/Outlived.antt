@@ -8,16 +8,16 @@ use Rattle.control_message.specs.Pairs.{pairs_of}
 use Rattle.recv_window.specs.Window.{on_wire}
 use Rattle.schedule_text.specs.declared.line.Line.TheVariants.{Deliver}
 use Rattle.tunnel_fsm.specs.declared.table.TunnelState.TheVariants as states
-use Rattle.protocol_model.specs.declared.event.Event.TheVariants.{Datagram}
-use Rattle.protocol_model.specs.declared.out.Origin.TheVariants as origin
-use Rattle.protocol_model.specs.declared.packet.Packet.{Packet}
-use Rattle.protocol_model.specs.declared.refusal.Refusal.{Refusal}
-use Rattle.protocol_model.specs.declared.refusal.Refusal.TheVariants.{HalfSpace}
+use Rattle.end_model.specs.declared.event.Event.TheVariants.{Datagram}
+use Rattle.end_model.specs.declared.out.Origin.TheVariants as origin
+use Rattle.world_model.specs.declared.packet.Packet.{Packet}
+use Rattle.world_model.specs.declared.refusal.Refusal.{Refusal}
+use Rattle.world_model.specs.declared.refusal.Refusal.TheVariants.{HalfSpace}
 use Rattle.end_names.specs.declared.role.Role.TheVariants as role
 use Rattle.end_names.specs.Names.{address_of}
-use Rattle.protocol_model.specs.End.{End, new_end, step}
-use Rattle.protocol_model.specs.Texts.{Entry, Sends}
-use Rattle.protocol_model.specs.World.{World, Lined, config_of, empty_world, line}
+use Rattle.end_model.specs.End.{End, new_end, step}
+use Rattle.world_model.specs.Texts.{Entry, Sends}
+use Rattle.world_model.specs.World.{World, Lined, config_of, empty_world, line}
 use Rattle.run_examples.specs.Channels.{channel}
 
 -- the LNS, node 4: in tunnel 7 to node 9 it took so many messages, and 50,000 of its own were acknowledged

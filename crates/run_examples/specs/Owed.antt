@@ -7,18 +7,18 @@ use Rattle.wire_base.specs.declared.why.Why.TheVariants as why
 use Rattle.wire_base.specs.declared.cause.Cause.TheVariants as cause
 use Rattle.tunnel_fsm.specs.declared.table.TunnelState.TheVariants as states
 use Rattle.call_fsm.specs.declared.table.CallState.TheVariants.{Established}
-use Rattle.protocol_model.specs.declared.event.Event.TheVariants.{Ring, DropCall}
-use Rattle.protocol_model.specs.declared.out.Out.{Out}
-use Rattle.protocol_model.specs.declared.out.Out.TheVariants.{Drop, Gone, Cause}
-use Rattle.protocol_model.specs.declared.tunnel.Call.{Call}
-use Rattle.protocol_model.specs.declared.tunnel.CallPlace.{CallPlace}
-use Rattle.protocol_model.specs.declared.tunnel.Control.{Control}
-use Rattle.protocol_model.specs.declared.tunnel.Look.TheVariants as look
+use Rattle.end_model.specs.declared.event.Event.TheVariants.{Ring, DropCall}
+use Rattle.end_model.specs.declared.out.Out.{Out}
+use Rattle.end_model.specs.declared.out.Out.TheVariants.{Drop, Gone, Cause}
+use Rattle.end_model.specs.declared.tunnel.Call.{Call}
+use Rattle.end_model.specs.declared.tunnel.CallPlace.{CallPlace}
+use Rattle.end_model.specs.declared.tunnel.Control.{Control}
+use Rattle.session_looks.specs.declared.look.Look.TheVariants as look
 use Rattle.end_names.specs.declared.role.Role.TheVariants as role
 use Rattle.end_names.specs.Names.{subscriber, address_of}
-use Rattle.protocol_model.specs.Turn.{rings_by, settles, turn_of}
-use Rattle.protocol_model.specs.End.{End, new_end, whole_space, env_of, after_turn, step}
-use Rattle.protocol_model.specs.World.{config_of}
+use Rattle.end_model.specs.Turn.{rings_by, settles, turn_of}
+use Rattle.end_model.specs.End.{End, new_end, whole_space, env_of, after_turn, step}
+use Rattle.world_model.specs.World.{config_of}
 use Rattle.run_examples.specs.Channels.{channel}
 
 -- a call that is up, by the LNS's session

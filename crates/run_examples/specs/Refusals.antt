@@ -5,8 +5,8 @@ use Rattle.schedule_text.specs.declared.line.Line.{Line}
 use Rattle.schedule_text.specs.declared.line.Line.TheVariants.{Lac, OpenUp, Ring, Deliver}
 use Rattle.control_message.specs.declared.message.Message.TheVariants.{Icrq, Cdn}
 use Rattle.end_names.specs.Names.{subscriber, calling_number}
-use Rattle.protocol_model.specs.Texts.{Ends, Causes}
-use Rattle.protocol_model.specs.Run.{run, tables}
+use Rattle.world_model.specs.Texts.{Ends, Causes}
+use Rattle.world_model.specs.Run.{run, tables}
 use Rattle.run_examples.specs.Entries.{entries_since, message, acknowledgement}
 
 -- Session 1 of node 6 waits in a tunnel that is never answered. Node 9's tunnel 1 is tunnel 2 of node 6.

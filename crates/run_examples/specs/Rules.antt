@@ -12,18 +12,18 @@ use Rattle.control_message.specs.Pairs.{pairs_of}
 use Rattle.lcp_end.specs.Steps.{fresh, opened}
 use Rattle.call_fsm.specs.declared.table.CallState.TheVariants as call_states
 use Rattle.tunnel_fsm.specs.declared.table.TunnelState.TheVariants as states
-use Rattle.protocol_model.specs.declared.event.Event.{Event}
-use Rattle.protocol_model.specs.declared.event.Event.TheVariants.{Datagram, Ring, OpenTunnel}
-use Rattle.protocol_model.specs.declared.out.Out.TheVariants.{Send, Up, Drop, Cause}
-use Rattle.protocol_model.specs.declared.out.Origin.TheVariants as origin
-use Rattle.protocol_model.specs.declared.tunnel.Look.{Look}
-use Rattle.protocol_model.specs.declared.tunnel.Look.TheVariants.{Bound, Established}
+use Rattle.end_model.specs.declared.event.Event.{Event}
+use Rattle.end_model.specs.declared.event.Event.TheVariants.{Datagram, Ring, OpenTunnel}
+use Rattle.end_model.specs.declared.out.Out.TheVariants.{Send, Up, Drop, Cause}
+use Rattle.end_model.specs.declared.out.Origin.TheVariants as origin
+use Rattle.session_looks.specs.declared.look.Look.{Look}
+use Rattle.session_looks.specs.declared.look.Look.TheVariants.{Bound, Established}
 use Rattle.end_names.specs.declared.role.Role.{Role}
 use Rattle.end_names.specs.declared.role.Role.TheVariants as role
 use Rattle.end_names.specs.Names.{address_of}
-use Rattle.protocol_model.specs.Calls.{Carried, Upward, Dropped, side_of}
-use Rattle.protocol_model.specs.End.{End, Stepped, new_end, env_of, handed, step}
-use Rattle.protocol_model.specs.World.{config_of}
+use Rattle.session_looks.specs.Frames.{Carried, Upward, Dropped, side_of}
+use Rattle.end_model.specs.End.{End, Stepped, new_end, env_of, handed, step}
+use Rattle.world_model.specs.World.{config_of}
 use Rattle.step_laws.specs.Steps.{IsChain}
 use Rattle.run_examples.specs.Channels.{channel}
 use Rattle.run_examples.specs.Crossing.{wished, conceded}

@@ -3,10 +3,10 @@ use Rattle.std.proofs.Common.{◌≡◌, ℕ, ◌+◌, ◌<◌, ◌≤◌, List,
 use Rattle.std.proofs.lemmas.List.{drop_all}
 use Rattle.std.proofs.lemmas.Grind.{flat_map-append}
 use Rattle.schedule_text.specs.declared.line.Line.{Line}
-use Rattle.protocol_model.specs.declared.refusal.Refusal.{Refusal}
-use Rattle.protocol_model.specs.Texts.{Entry, entry_text, entries_text}
-use Rattle.protocol_model.specs.World.{World, Lined, line}
-use Rattle.protocol_model.specs.Run.{Run, run_from, after_line, goes_on, report_of, refusal_text, tables}
+use Rattle.world_model.specs.declared.refusal.Refusal.{Refusal}
+use Rattle.world_model.specs.Texts.{Entry, entry_text, entries_text}
+use Rattle.world_model.specs.World.{World, Lined, line}
+use Rattle.world_model.specs.Run.{Run, run_from, after_line, goes_on, report_of, refusal_text, tables}
 use Rattle.schedule_replay.specs.Fault.{Told, Leads, LeadsTo}
 
 -- a run that is at a world, with its report so far

@@ -5,14 +5,14 @@ use Rattle.std.proofs.lemmas.List.{append-nil}
 use Rattle.std.specs.Prelude.{is_some, IsSome, ◌&&◌}
 use Rattle.std.proofs.lemmas.Bool.{true≢false}
 use Rattle.wire_base.specs.declared.why.Why.TheVariants as why
-use Rattle.protocol_model.specs.declared.event.Event.{Event}
-use Rattle.protocol_model.specs.declared.event.Event.TheVariants.{Datagram, Ring, Frame, Admitted, Payload, Lower, Lcp, Hang, OpenTunnel, DropCall, CloseTunnel, Tick}
-use Rattle.protocol_model.specs.declared.refusal.Refusal.TheVariants.{Unfit}
-use Rattle.protocol_model.specs.Calls.{is_lac}
-use Rattle.protocol_model.specs.Access.{Access, Coming, Ignores, Answers, Runs, Enters, coming, serves, does, admits}
-use Rattle.protocol_model.specs.End.{plain_step, step, step_in, gives_only}
-use Rattle.protocol_model.specs.Texts.{Entry, entry_text, entries_text}
-use Rattle.protocol_model.specs.World.{World, Node, Lined, declared, lac_at, moved_all, shown, shown_all, entry_of, entries_of, given, after_step, stepped, block_of, enters, comes, comes_by, framed}
+use Rattle.end_model.specs.declared.event.Event.{Event}
+use Rattle.end_model.specs.declared.event.Event.TheVariants.{Datagram, Ring, Frame, Admitted, Payload, Lower, Lcp, Hang, OpenTunnel, DropCall, CloseTunnel, Tick}
+use Rattle.world_model.specs.declared.refusal.Refusal.TheVariants.{Unfit}
+use Rattle.end_model.specs.Calls.{is_lac}
+use Rattle.end_model.specs.Access.{Access, Coming, Ignores, Answers, Runs, Enters, coming, serves, does, admits}
+use Rattle.end_model.specs.End.{plain_step, step, step_in, gives_only}
+use Rattle.world_model.specs.Texts.{Entry, entry_text, entries_text}
+use Rattle.world_model.specs.World.{World, Node, Lined, declared, lac_at, moved_all, shown, shown_all, entry_of, entries_of, given, after_step, stepped, block_of, enters, comes, comes_by, framed}
 use Rattle.schedule_replay.specs.Fault.{Told, LeadsTo, Leads}
 use Rattle.schedule_replay.specs.Kinds.{site_in}
 use Rattle.schedule_replay.specs.Serving.{SiteStep, by_served, step_with, site_step, moved_to, served_line, served_at, IsPlain}

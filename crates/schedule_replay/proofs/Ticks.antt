@@ -1,11 +1,11 @@
 -- A node whose clock has gone on steps as the world says.
 use Rattle.std.proofs.Common.{◌≡◌, ℕ, List, ◌++◌, ap, ◌∙◌, Option, Result, Ok, Err}
 use Rattle.id_table.specs.Ids.{put, put-put}
-use Rattle.protocol_model.specs.declared.event.Event.{Event}
-use Rattle.protocol_model.specs.World.{World, Node, Sender, Lined, stepped, after_step, given, moved_all, block_of}
-use Rattle.protocol_model.specs.End.{Stepped, step}
-use Rattle.protocol_model.specs.declared.refusal.Refusal.{Refusal}
-use Rattle.protocol_model.specs.Texts.{entries_text}
+use Rattle.end_model.specs.declared.event.Event.{Event}
+use Rattle.world_model.specs.World.{World, Node, Sender, Lined, stepped, after_step, given, moved_all, block_of}
+use Rattle.end_model.specs.End.{Stepped, step}
+use Rattle.world_model.specs.declared.refusal.Refusal.{Refusal}
+use Rattle.world_model.specs.Texts.{entries_text}
 use Rattle.schedule_replay.specs.Fault.{Told, Leads}
 
 after_again : (w : World) (line n : ℕ) (x : Node) (sender : Option Sender) (s : Stepped) → after_step (record w { nodes = put w.nodes n x }) line n x sender s ≡ after_step w line n x sender s

@@ -1,10 +1,10 @@
 -- What the answers of the world say.
 use Rattle.std.specs.Prelude.{◌≡◌, ℕ, List, [], ◌++◌, Bool, true, false, Result, Ok, Err}
 use Rattle.wire_base.specs.declared.bytes.NoMemory.{NoMemory as OutOfMemory}
-use Rattle.protocol_model.specs.declared.refusal.Refusal.{Refusal}
-use Rattle.protocol_model.specs.Texts.{entries_text}
-use Rattle.protocol_model.specs.World.{World, Lined, empty_world}
-use Rattle.protocol_model.specs.Run.{tables}
+use Rattle.world_model.specs.declared.refusal.Refusal.{Refusal}
+use Rattle.world_model.specs.Texts.{entries_text}
+use Rattle.world_model.specs.World.{World, Lined, empty_world}
+use Rattle.world_model.specs.Run.{tables}
 use Rattle.schedule_replay.specs.declared.fault.LineFault.{LineFault}
 use Rattle.schedule_replay.specs.declared.fault.LineFault.TheVariants.{Refused, NoMemory}
 

@@ -6,11 +6,11 @@ use Rattle.wire_base.specs.declared.why.Why.{Why}
 use Rattle.wire_base.specs.declared.why.Why.TheVariants as why
 use Rattle.end_names.specs.declared.role.Role.{Role}
 use Rattle.end_names.specs.declared.role.Role.TheVariants as role
-use Rattle.protocol_model.specs.declared.event.Event.{Event}
-use Rattle.protocol_model.specs.declared.event.Event.TheVariants as event
-use Rattle.protocol_model.specs.Access.{Access}
-use Rattle.protocol_model.specs.End.{End}
-use Rattle.protocol_model.specs.World.{Node, lac_at, lns_at, with_call, with_tunnel, is_not_closed}
+use Rattle.end_model.specs.declared.event.Event.{Event}
+use Rattle.end_model.specs.declared.event.Event.TheVariants as event
+use Rattle.end_model.specs.Access.{Access}
+use Rattle.end_model.specs.End.{End, is_not_closed}
+use Rattle.world_model.specs.World.{Node, lac_at, lns_at, with_call, with_tunnel}
 use Rattle.end_core.specs.Fits.{fits, unless}
 use Rattle.schedule_replay.specs.declared.kinds.Kind.{Kind}
 use Rattle.schedule_replay.specs.declared.kinds.Kind.TheVariants.{Lac, Lns}

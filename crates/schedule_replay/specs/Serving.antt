@@ -1,14 +1,14 @@
 -- What a step of a node's end gives, of either kind, and the line that it makes.
 use Rattle.std.specs.Prelude.{◌≡◌, ℕ, List, [], ◌∷◌, ◌++◌, Option, Some, None, Result, Ok, Err}
 use Rattle.wire_base.specs.declared.bytes.NoMemory.{NoMemory}
-use Rattle.protocol_model.specs.declared.event.Event.{Event}
-use Rattle.protocol_model.specs.declared.event.Event.TheVariants.{Datagram, Ring, Frame, Admitted, Payload, Lower, Lcp, Hang, OpenTunnel, DropCall, CloseTunnel, Tick}
-use Rattle.protocol_model.specs.declared.moves.Move.{Move}
-use Rattle.protocol_model.specs.declared.out.Out.{Out}
-use Rattle.protocol_model.specs.Access.{Access, Served, serves}
-use Rattle.protocol_model.specs.End.{Stepped, step}
-use Rattle.protocol_model.specs.Texts.{Entry, Frames}
-use Rattle.protocol_model.specs.World.{World, Node, Lined, quiet_line, with_node, moved_all, shown_all, entries_of, block_of}
+use Rattle.end_model.specs.declared.event.Event.{Event}
+use Rattle.end_model.specs.declared.event.Event.TheVariants.{Datagram, Ring, Frame, Admitted, Payload, Lower, Lcp, Hang, OpenTunnel, DropCall, CloseTunnel, Tick}
+use Rattle.end_model.specs.declared.moves.Move.{Move}
+use Rattle.end_model.specs.declared.out.Out.{Out}
+use Rattle.end_model.specs.Access.{Access, Served, serves}
+use Rattle.end_model.specs.End.{Stepped, step}
+use Rattle.world_model.specs.Texts.{Entry, Frames}
+use Rattle.world_model.specs.World.{World, Node, Lined, quiet_line, with_node, moved_all, shown_all, entries_of, block_of}
 use Rattle.schedule_replay.specs.declared.kinds.Moved.{Moved}
 use Rattle.schedule_replay.specs.Kinds.{Site, site_in}
 

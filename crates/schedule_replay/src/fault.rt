@@ -1,6 +1,6 @@
 //! Why a line isn't run.
 
-use protocol_model::Refusal;
+use world_model::Refusal;
 use wire_base::{NoMemory as OutOfMemory, Why};
 
 /// Why a line isn't run.
@@ -14,7 +14,7 @@ pub enum LineFault {
 
 impl LineFault {
     ghost use Rattle.std.specs.Prelude.{◌≡◌};
-    ghost use Rattle.protocol_model.specs.declared.refusal.Refusal.TheVariants.{Unfit};
+    ghost use Rattle.world_model.specs.declared.refusal.Refusal.TheVariants.{Unfit};
     ghost use Rattle.schedule_replay.specs.declared.fault.LineFault.TheVariants.{Refused};
 
     /// The line doesn't fit.

@@ -1,16 +1,16 @@
 //! The end of a node, which is a LAC or an LNS.
 
 ghost use Rattle.std.specs.Prelude.{◌≡◌, IfOk, is_some};
-ghost use Rattle.protocol_model.specs.Access.{access_with};
-ghost use Rattle.protocol_model.specs.End.{new_end};
-ghost use Rattle.protocol_model.specs.World.{farewell_by};
+ghost use Rattle.end_model.specs.Access.{access_with};
+ghost use Rattle.end_model.specs.End.{new_end};
+ghost use Rattle.world_model.specs.World.{farewell_by};
 ghost use Rattle.end_core.specs.Fits.{fits};
 ghost use Rattle.schedule_replay.specs.Serving.{site_step, GivesSite};
 
 use end_core::End;
 use lac_core::Lac;
 use lns_core::Lns;
-use protocol_model::{Config, Event, Role};
+use end_model::{Config, Event, Role};
 use std::alloc::Global;
 use std::marker::Model;
 use tunnel_core::{Moves, Outputs};

@@ -2,14 +2,14 @@
 
 ghost use Rattle.std.specs.Prelude.{◌≡◌, [], OnOk, IfOk, Ok};
 ghost use Rattle.id_table.specs.Ids.{put};
-ghost use Rattle.protocol_model.specs.Calls.{is_lac};
-ghost use Rattle.protocol_model.specs.Access.{access_with};
-ghost use Rattle.protocol_model.specs.End.{new_end};
-ghost use Rattle.protocol_model.specs.World.{config_of, count_at, later};
+ghost use Rattle.end_model.specs.Calls.{is_lac};
+ghost use Rattle.end_model.specs.Access.{access_with};
+ghost use Rattle.end_model.specs.End.{new_end};
+ghost use Rattle.world_model.specs.World.{config_of, count_at, later};
 
 use crate::kinds::NodeEnd;
 use id_table::Table;
-use protocol_model::{Config, Role, address_of};
+use end_model::{Config, Role, address_of};
 use std::alloc::Global;
 use std::marker::Model;
 use wire_base::{Bytes, NoMemory};
@@ -23,7 +23,7 @@ pub(crate) struct Node {
 }
 
 impl Model for Node {
-    ghost use Rattle.protocol_model.specs.World.{Node as Known};
+    ghost use Rattle.world_model.specs.World.{Node as Known};
 
     ghost Value = { Known };
 

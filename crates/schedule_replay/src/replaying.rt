@@ -1,11 +1,11 @@
 //! A whole run.
 
 ghost use Rattle.std.specs.Prelude.{◌≡◌, ◌++◌, IfOk, Some};
-ghost use Rattle.protocol_model.specs.Run.{run, report_of, refusal_text};
+ghost use Rattle.world_model.specs.Run.{run, report_of, refusal_text};
 
 use crate::fault::LineFault;
 use crate::world::World;
-use protocol_model::Refusal;
+use world_model::Refusal;
 use report_text::push_refusal;
 use schedule_text::Line;
 use std::alloc::Global;
@@ -35,7 +35,7 @@ fn report_refusal(world: World, line: u64, refusal: Refusal) -> Result<Replayed,
 }
 
 /// Runs a schedule from the empty world.
-#[tactic(auto, unfolding(protocol_model::specs::Run::report_of))]
+#[tactic(auto, unfolding(world_model::specs::Run::report_of))]
 pub fn replay(alloc: Global, lines: &[Line]) -> Result<Replayed, NoMemory>
     ensures report { IfOk result (λ r. r.report ≡ report_of (run lines.now)) }
     ensures fault { IfOk result (λ r. r.fault ≡ (run lines.now).fault) }

@@ -2,9 +2,9 @@
 
 ghost use Rattle.std.specs.Prelude.{◌≡◌, [], ◌∷◌, ◌++◌, ◌+◌, length, OnOk, IfOk, MatchResult, IsSome, slice_get, Ok, Err, None, Some, Option};
 ghost use Rattle.id_table.specs.Ids.{at};
-ghost use Rattle.protocol_model.specs.Texts.{send_text, entry_text, entries_text};
-ghost use Rattle.protocol_model.specs.World.{sent, birth_of, with_birth, is_born, moved, moved_all, shown, shown_all, entry_of, entries_of, declared, lac_at, lns_at, with_call, with_tunnel, later, added, block_of, stepped, arrival, refused_by, delivers, farewell_in, framed, line as line_of};
-ghost use Rattle.protocol_model.specs.Run.{tables};
+ghost use Rattle.world_model.specs.Texts.{send_text, entry_text, entries_text};
+ghost use Rattle.world_model.specs.World.{sent, birth_of, with_birth, is_born, moved, moved_all, shown, shown_all, entry_of, entries_of, declared, lac_at, lns_at, with_call, with_tunnel, later, added, block_of, stepped, arrival, refused_by, delivers, farewell_in, framed, line as line_of};
+ghost use Rattle.world_model.specs.Run.{tables};
 ghost use Rattle.schedule_replay.specs.Fault.{new_told, Leads, LeadsTo, Says};
 ghost use Rattle.schedule_replay.specs.Serving.{served_at, reply_entries, IsPlain};
 ghost use Rattle.schedule_replay.specs.Kinds.{of_role, fitting};
@@ -14,7 +14,8 @@ use crate::node::{Node, config_of, copy_secret, count_at};
 use crate::tables::{push_agreement_table, push_end_table};
 use byteorder::{BigEndian, ByteOrder};
 use id_table::Table;
-use protocol_model::{Event, Move, Origin, Out, Packet, Refusal, Role, address_of, node_of};
+use end_model::{Event, Move, Origin, Out, Role, address_of, node_of};
+use world_model::{Packet, Refusal};
 use report_text::{
     push_cause, push_drop, push_farewell, push_frame, push_gone, push_send, push_up, too_old,
 };
@@ -70,7 +71,7 @@ impl State {
     }
 
     /// A datagram that a node sends, in a line.
-    #[tactic(auto, unfolding(protocol_model::specs::World::sent))]
+    #[tactic(auto, unfolding(world_model::specs::World::sent))]
     fn send(
         &mut self,
         line: u64,
@@ -103,7 +104,7 @@ impl State {
     }
 
     /// An output of a node's step, in a line.
-    #[tactic(auto, unfolding(protocol_model::specs::World::shown, protocol_model::specs::World::entry_of))]
+    #[tactic(auto, unfolding(world_model::specs::World::shown, world_model::specs::World::entry_of))]
     fn show(&mut self, line: u64, node: u8, out: Out) -> Result<(), NoMemory>
         ensures world { OnOk result (self.new.world ≡ shown node self.old.world out) }
         ensures report { OnOk result (self.new.report ≡ self.old.report ++ entry_text (entry_of line node self.old.world out)) }
@@ -140,7 +141,7 @@ impl State {
         }
     }
 
-    #[tactic(auto, unfolding(protocol_model::specs::World::shown_all, protocol_model::specs::World::entries_of))]
+    #[tactic(auto, unfolding(world_model::specs::World::shown_all, world_model::specs::World::entries_of))]
     fn show_all(&mut self, line: u64, node: u8, outputs: Outputs) -> Result<(), NoMemory>
         ensures world { OnOk result (self.new.world ≡ shown_all node outputs self.old.world) }
         ensures report { OnOk result (self.new.report ≡ self.old.report ++ entries_text (entries_of line node outputs self.old.world)) }
@@ -152,7 +153,7 @@ impl State {
     }
 
     /// The birth of a node's call, 0 where there is none.
-    #[tactic(auto, unfolding(protocol_model::specs::World::birth_of))]
+    #[tactic(auto, unfolding(world_model::specs::World::birth_of))]
     fn birth_of(&self, node: u8, session: u16) -> u64
         ensures { result ≡ birth_of self.now.world node session }
     {
@@ -163,7 +164,7 @@ impl State {
     }
 
     /// A node's call is of this birth.
-    #[tactic(auto, unfolding(protocol_model::specs::World::with_birth))]
+    #[tactic(auto, unfolding(world_model::specs::World::with_birth))]
     fn set_birth(&mut self, node: u8, session: u16, birth: u64) -> Result<(), NoMemory>
         ensures world { OnOk result (self.new.world ≡ with_birth self.old.world node session birth) }
         ensures report { self.new.report ≡ self.old.report }
@@ -175,7 +176,7 @@ impl State {
     }
 
     /// A call is born at a node.
-    #[tactic(auto, unfolding(protocol_model::specs::World::is_born))]
+    #[tactic(auto, unfolding(world_model::specs::World::is_born))]
     fn bear(&mut self, node: u8, session: u16) -> Result<(), NoMemory>
         ensures world { OnOk result (self.new.world ≡ is_born self.old.world node session) }
         ensures report { self.new.report ≡ self.old.report }
@@ -185,7 +186,7 @@ impl State {
     }
 
     /// A move of a node: it may give a birth to a call.
-    #[tactic(auto, unfolding(protocol_model::specs::World::moved))]
+    #[tactic(auto, unfolding(world_model::specs::World::moved))]
     fn follow(&mut self, node: u8, done: &Move) -> Result<(), NoMemory>
         ensures world { OnOk result (self.new.world ≡ moved node self.old.world done.now) }
         ensures report { self.new.report ≡ self.old.report }
@@ -200,7 +201,7 @@ impl State {
         }
     }
 
-    #[tactic(auto, unfolding(protocol_model::specs::World::moved_all))]
+    #[tactic(auto, unfolding(world_model::specs::World::moved_all))]
     fn follow_all(&mut self, node: u8, moves: &[Move]) -> Result<(), NoMemory>
         ensures world { OnOk result (self.new.world ≡ moved_all node moves.now self.old.world) }
         ensures report { self.new.report ≡ self.old.report }
@@ -262,7 +263,7 @@ impl State {
     }
 
     /// A new node, with this tunnel secret, which hides its calling numbers by it where `hide` is set.
-    #[tactic(auto, unfolding(protocol_model::specs::World::added))]
+    #[tactic(auto, unfolding(world_model::specs::World::added))]
     fn add(
         &mut self,
         line: u64,
@@ -285,7 +286,7 @@ impl State {
     }
 
     /// An event of a node, in a line.
-    #[tactic(auto, unfolding(protocol_model::specs::World::stepped))]
+    #[tactic(auto, unfolding(world_model::specs::World::stepped))]
     fn step_fitting(&mut self, line: u64, node: u8, event: &Event) -> Result<(), LineFault>
         requires { IsPlain event.now }
         ensures { Says result (stepped self.old.world line node event.now None (fitting event.now (declared (at self.old.world.nodes node)))) self.old self.new }
@@ -303,7 +304,7 @@ impl State {
     }
 
     /// An event of a node of this kind, in a line.
-    #[tactic(auto, unfolding(protocol_model::specs::World::stepped))]
+    #[tactic(auto, unfolding(world_model::specs::World::stepped))]
     fn step_of(&mut self, line: u64, node: u8, role: Role, event: &Event) -> Result<(), LineFault>
         requires { IsPlain event.now }
         ensures { Says result (stepped self.old.world line node event.now None (fitting event.now (of_role role (at self.old.world.nodes node)))) self.old self.new }
@@ -339,7 +340,7 @@ impl State {
     }
 
     /// A packet by its place, counted from 0, and the node that it is for, or why it can't be delivered.
-    #[tactic(auto, unfolding(protocol_model::specs::World::arrival, protocol_model::specs::World::addressee_of))]
+    #[tactic(auto, unfolding(world_model::specs::World::arrival, world_model::specs::World::addressee_of))]
     fn arrival(&self, place: usize) -> Result<(&Packet, &Node), Why>
         ensures exact { MatchResult result (λ a. arrival self.now.world (slice_get self.now.world.packets place) ≡ Ok (a.0.now, a.1.now)) (λ e. arrival self.now.world (slice_get self.now.world.packets place) ≡ Err e) }
         ensures there { IfOk result (λ a. at self.now.world.nodes a.0.now.to ≡ Some a.1.now) }
@@ -354,7 +355,7 @@ impl State {
     }
 
     /// A packet reaches its addressee, in a line.
-    #[tactic(auto, unfolding(protocol_model::specs::World::delivers, protocol_model::specs::World::delivers_it, protocol_model::specs::World::arrives, protocol_model::specs::World::stepped, protocol_model::specs::World::after_step, protocol_model::specs::World::given))]
+    #[tactic(auto, unfolding(world_model::specs::World::delivers, world_model::specs::World::delivers_it, world_model::specs::World::arrives, world_model::specs::World::stepped, world_model::specs::World::after_step, world_model::specs::World::given))]
     fn deliver(&mut self, line: u64, place: usize) -> Result<(), LineFault>
         ensures { Says result (delivers self.old.world line (slice_get self.old.world.packets place)) self.old self.new }
     {
@@ -373,7 +374,7 @@ impl State {
     }
 
     /// A node's clock goes on by so many milliseconds, and it ticks.
-    #[tactic(auto, using(id_table::specs::Ids::at_put_there), unfolding(protocol_model::specs::World::stepped))]
+    #[tactic(auto, using(id_table::specs::Ids::at_put_there), unfolding(world_model::specs::World::stepped))]
     fn tick(&mut self, line: u64, node: u8, milliseconds: u32) -> Result<(), LineFault>
         ensures { Says result (stepped self.old.world line node Event.Tick None (later milliseconds (declared (at self.old.world.nodes node)))) self.old self.new }
     {
@@ -386,7 +387,7 @@ impl State {
     }
 
     /// A line with its number, counted from 1.
-    #[tactic(auto, using(crate::specs::Kinds::open_fits, crate::specs::Kinds::ring_fits, crate::specs::Kinds::hang_fits, crate::specs::Kinds::drop_fits, crate::specs::Kinds::close_fits), unfolding(protocol_model::specs::World::line))]
+    #[tactic(auto, using(crate::specs::Kinds::open_fits, crate::specs::Kinds::ring_fits, crate::specs::Kinds::hang_fits, crate::specs::Kinds::drop_fits, crate::specs::Kinds::close_fits), unfolding(world_model::specs::World::line))]
     pub(crate) fn line(&mut self, number: u64, line: &Line) -> Result<(), LineFault>
         ensures { Says result (line_of self.old.world number line.now) self.old self.new }
     {
@@ -433,7 +434,7 @@ impl State {
     }
 
     /// Appends the tables at the end.
-    #[tactic(auto, unfolding(protocol_model::specs::Run::tables))]
+    #[tactic(auto, unfolding(world_model::specs::Run::tables))]
     pub(crate) fn finish(&mut self) -> Result<(), NoMemory>
         ensures { OnOk result (self.new ≡ record self.old { report = self.old.report ++ tables self.old.world }) }
     {
@@ -443,7 +444,7 @@ impl State {
 }
 
 /// Why a packet is refused by the node that it is for, if it is.
-#[tactic(auto, unfolding(protocol_model::specs::World::refused_by))]
+#[tactic(auto, unfolding(world_model::specs::World::refused_by))]
 fn refused_by(packet: &Packet, node: &Node) -> Result<Option<Refusal>, NoMemory>
     ensures { IfOk result (λ r. r ≡ refused_by packet.now node.now packet.now.origin) }
 {
@@ -460,7 +461,7 @@ fn refused_by(packet: &Packet, node: &Node) -> Result<Option<Refusal>, NoMemory>
 }
 
 /// The random bytes of a step: the node, and the line, in 8 bytes each, the highest first.
-#[tactic(auto, unfolding(protocol_model::specs::World::block_of))]
+#[tactic(auto, unfolding(world_model::specs::World::block_of))]
 fn block_of(node: u8, line: u64) -> [u8; 16]
     ensures { result ≡ block_of node line }
 {

@@ -3,19 +3,19 @@
 ghost use Rattle.std.specs.Prelude.{◌≡◌, ◌++◌, count_by, option_map, OnOk, IfOk, Some};
 ghost use Rattle.std.specs.Option.{option_copied};
 ghost use Rattle.id_table.specs.Ids.{at, ids_of};
-ghost use Rattle.protocol_model.specs.Run.{call_table, tunnel_line, node_table, end_table, lns_tunnel, partner_of, agree, is_session, session_count, agree_with, agree_line, node_agreements, agreement_table};
+ghost use Rattle.world_model.specs.Run.{call_table, tunnel_line, node_table, end_table, lns_tunnel, partner_of, agree, is_session, session_count, agree_with, agree_line, node_agreements, agreement_table};
 ghost use Rattle.tunnel_core.specs.Cores.{tunnel_of};
 
 use crate::node::{Node, count_at};
 use id_table::Table;
-use protocol_model::{Call, Control, node_of};
+use end_model::{Call, Control, node_of};
 use report_text::{agree, push_agree, push_call, push_tunnel, session_count};
 use std::alloc::Global;
 use tunnel_core::TunnelCore;
 use wire_base::{Bytes, NoMemory};
 
 /// The calls of a tunnel, by local id.
-#[tactic(auto, unfolding(protocol_model::specs::Run::call_table))]
+#[tactic(auto, unfolding(world_model::specs::Run::call_table))]
 fn push_call_table(
     alloc: Global,
     out: &mut Bytes,
@@ -37,7 +37,7 @@ fn push_call_table(
 }
 
 /// A tunnel with its calls.
-#[tactic(auto, unfolding(protocol_model::specs::Run::tunnel_line))]
+#[tactic(auto, unfolding(world_model::specs::Run::tunnel_line))]
 fn push_tunnel_line(
     alloc: Global,
     out: &mut Bytes,
@@ -53,7 +53,7 @@ fn push_tunnel_line(
 }
 
 /// The tunnels of a node with their calls, by local id.
-#[tactic(auto, unfolding(protocol_model::specs::Run::node_table, protocol_model::specs::Run::tunnel_line))]
+#[tactic(auto, unfolding(world_model::specs::Run::node_table, world_model::specs::Run::tunnel_line))]
 fn push_node_table(alloc: Global, out: &mut Bytes, number: u32, node: &Node) -> Result<(), NoMemory>
     ensures { OnOk result (out.new ≡ out.old ++ node_table number (Some node.now)) }
 {
@@ -67,7 +67,7 @@ fn push_node_table(alloc: Global, out: &mut Bytes, number: u32, node: &Node) -> 
 }
 
 /// The tunnels of each node with their calls, in the order of nodes.
-#[tactic(auto, unfolding(protocol_model::specs::Run::end_table, protocol_model::specs::Run::node_table))]
+#[tactic(auto, unfolding(world_model::specs::Run::end_table, world_model::specs::Run::node_table))]
 pub(crate) fn push_end_table(
     alloc: Global,
     out: &mut Bytes,
@@ -85,7 +85,7 @@ pub(crate) fn push_end_table(
 }
 
 /// The LNS's tunnel that a LAC's tunnel has learned.
-#[tactic(auto, unfolding(protocol_model::specs::Run::partner_of, protocol_model::specs::Run::lns_tunnel))]
+#[tactic(auto, unfolding(world_model::specs::Run::partner_of, world_model::specs::Run::lns_tunnel))]
 fn partner<'a>(nodes: &'a Table<Node>, tunnel: &Control) -> Option<&'a TunnelCore>
     ensures { option_map tunnel_of (option_copied result) ≡ partner_of nodes.now.entries tunnel.now }
 {
@@ -97,7 +97,7 @@ fn partner<'a>(nodes: &'a Table<Node>, tunnel: &Control) -> Option<&'a TunnelCor
 }
 
 /// The line of a LAC's tunnel that agrees with its partner.
-#[tactic(auto, unfolding(protocol_model::specs::Run::agree_line, protocol_model::specs::Run::agree_with))]
+#[tactic(auto, unfolding(world_model::specs::Run::agree_line, world_model::specs::Run::agree_with))]
 fn push_agree_line(
     alloc: Global,
     out: &mut Bytes,
@@ -118,7 +118,7 @@ fn push_agree_line(
 }
 
 /// The tunnels of a node, a LAC, that agree with their partners.
-#[tactic(auto, unfolding(protocol_model::specs::Run::node_agreements, protocol_model::specs::Run::agree_line))]
+#[tactic(auto, unfolding(world_model::specs::Run::node_agreements, world_model::specs::Run::agree_line))]
 fn push_node_agreements(
     alloc: Global,
     out: &mut Bytes,
@@ -141,7 +141,7 @@ fn push_node_agreements(
 }
 
 /// The tunnels of each LAC that agree with their partners at an LNS.
-#[tactic(auto, unfolding(protocol_model::specs::Run::agreement_table, protocol_model::specs::Run::node_agreements))]
+#[tactic(auto, unfolding(world_model::specs::Run::agreement_table, world_model::specs::Run::node_agreements))]
 pub(crate) fn push_agreement_table(
     alloc: Global,
     out: &mut Bytes,

@@ -1,7 +1,7 @@
 //! The world.
 
 ghost use Rattle.std.specs.Prelude.{◌≡◌};
-ghost use Rattle.protocol_model.specs.World.{line as line_of};
+ghost use Rattle.world_model.specs.World.{line as line_of};
 ghost use Rattle.schedule_replay.specs.Fault.{new_known, WorldSays, Finishes};
 
 use crate::fault::LineFault;

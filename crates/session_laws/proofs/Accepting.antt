@@ -4,13 +4,13 @@ use Rattle.std.proofs.lemmas.Bool.{lt-ltb}
 use Rattle.id_table.specs.Ids.{at}
 use Rattle.control_message.specs.declared.message.Message.TheVariants.{Sccrp}
 use Rattle.tunnel_fsm.specs.declared.table.TunnelState.TheVariants.{WaitCtlConn}
-use Rattle.protocol_model.specs.declared.event.Event.{Event}
-use Rattle.protocol_model.specs.declared.moves.Accepted.{Accepted}
-use Rattle.protocol_model.specs.declared.moves.Move.TheVariants as move
+use Rattle.end_model.specs.declared.event.Event.{Event}
+use Rattle.end_model.specs.declared.moves.Accepted.{Accepted}
+use Rattle.end_model.specs.declared.moves.Move.TheVariants as move
 use Rattle.end_names.specs.Names.{node_of}
-use Rattle.protocol_model.specs.Turn.{Tunnel, opening_of, counts_taken, learns_window}
-use Rattle.protocol_model.specs.End.{End}
-use Rattle.protocol_model.specs.World.{Sender, Deed, config_of}
+use Rattle.end_model.specs.Turn.{Tunnel, opening_of, counts_taken, learns_window}
+use Rattle.end_model.specs.End.{End}
+use Rattle.world_model.specs.World.{Sender, Deed, config_of}
 use Rattle.step_laws.specs.Letters as step_laws
 use Rattle.step_laws.specs.Moves.{with_letter, new_tunnel, begun}
 use Rattle.epoch_machine.specs.Letters as letter

@@ -10,15 +10,15 @@ use Rattle.call_fsm.specs.declared.table.CallState.TheVariants.{WaitTunnel}
 use Rattle.tunnel_fsm.specs.declared.table.TunnelState.{TunnelState}
 use Rattle.tunnel_fsm.specs.declared.table.TunnelState.TheVariants as tunnel
 use Rattle.tunnel_fsm.specs.Rows.{state_number}
-use Rattle.protocol_model.specs.declared.event.Event.{Event}
-use Rattle.protocol_model.specs.declared.moves.Added.{Added}
-use Rattle.protocol_model.specs.declared.moves.Move.TheVariants as move
-use Rattle.protocol_model.specs.declared.tunnel.Call.{Call}
+use Rattle.end_model.specs.declared.event.Event.{Event}
+use Rattle.end_model.specs.declared.moves.Added.{Added}
+use Rattle.end_model.specs.declared.moves.Move.TheVariants as move
+use Rattle.end_model.specs.declared.tunnel.Call.{Call}
 use Rattle.end_names.specs.declared.role.Role.{Role}
-use Rattle.protocol_model.specs.Calls.{rung}
-use Rattle.protocol_model.specs.Turn.{Tunnel}
-use Rattle.protocol_model.specs.End.{End}
-use Rattle.protocol_model.specs.World.{Sender, Deed}
+use Rattle.end_model.specs.Calls.{rung}
+use Rattle.end_model.specs.Turn.{Tunnel}
+use Rattle.end_model.specs.End.{End}
+use Rattle.world_model.specs.World.{Sender, Deed}
 use Rattle.epoch_machine.specs.Tunnels.{is_open, is_wait_reply}
 use Rattle.epoch_machine.specs.Calls.{Waits, is_born}
 use Rattle.epoch_machine.specs.Worlds.{World, all_rules}

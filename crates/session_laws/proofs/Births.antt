@@ -1,12 +1,12 @@
 -- What each move does with births and mates of calls in the machine.
 use Rattle.std.proofs.Common.{◌≡◌, ℕ, ◌+◌, ◌<◌, ◌≤◌, refl, ap, arith}
-use Rattle.protocol_model.specs.declared.moves.Replied.{Replied}
-use Rattle.protocol_model.specs.declared.moves.Move.{Move}
-use Rattle.protocol_model.specs.declared.moves.Move.TheVariants as move
+use Rattle.end_model.specs.declared.moves.Replied.{Replied}
+use Rattle.end_model.specs.declared.moves.Move.{Move}
+use Rattle.end_model.specs.declared.moves.Move.TheVariants as move
 use Rattle.end_names.specs.declared.role.Role.{Role}
 use Rattle.end_names.specs.declared.role.Role.TheVariants.{Lac, Lns}
 use Rattle.end_names.specs.Names.{node_of}
-use Rattle.protocol_model.specs.End.{End}
+use Rattle.end_model.specs.End.{End}
 use Rattle.epoch_machine.specs.Calls as calls
 use Rattle.epoch_machine.specs.Worlds as machine
 use Rattle.session_laws.specs.Names.{name}

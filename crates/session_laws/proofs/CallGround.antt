@@ -4,13 +4,13 @@ use Rattle.id_table.specs.Ids.{at, put}
 use Rattle.id_table.specs.Order.{same_or_not, at_new, at_other, found_put}
 use Rattle.call_fsm.specs.declared.table.CallState.TheVariants.{WaitTunnel}
 use Rattle.tunnel_fsm.specs.Rows.{state_number}
-use Rattle.protocol_model.specs.declared.event.Event.{Event}
-use Rattle.protocol_model.specs.declared.moves.Move.{Move}
-use Rattle.protocol_model.specs.declared.tunnel.Call.{Call}
+use Rattle.end_model.specs.declared.event.Event.{Event}
+use Rattle.end_model.specs.declared.moves.Move.{Move}
+use Rattle.end_model.specs.declared.tunnel.Call.{Call}
 use Rattle.end_names.specs.declared.role.Role.{Role}
-use Rattle.protocol_model.specs.Turn.{Tunnel}
-use Rattle.protocol_model.specs.End.{End}
-use Rattle.protocol_model.specs.World.{Sender, Deed}
+use Rattle.end_model.specs.Turn.{Tunnel}
+use Rattle.end_model.specs.End.{End}
+use Rattle.world_model.specs.World.{Sender, Deed}
 use Rattle.epoch_machine.specs.Worlds as machine
 use Rattle.epoch_machine.specs.Worlds.{all_rules}
 use Rattle.epoch_machine.specs.Moves as moves

@@ -1,13 +1,13 @@
 -- A tunnel that stays in its state takes a letter, or none, and gives one, or none, while calls change.
 use Rattle.std.proofs.Common.{◌≡◌, ℕ, ◌+◌, List, [], ◌∷◌, ◌++◌, map, refl, sym, ap, ◌∙◌, append-nil, Option, Some, arith, None, false}
 use Rattle.id_table.specs.Ids.{at}
-use Rattle.protocol_model.specs.declared.event.Event.{Event}
-use Rattle.protocol_model.specs.declared.moves.Place.{Place}
-use Rattle.protocol_model.specs.declared.moves.Move.{Move}
+use Rattle.end_model.specs.declared.event.Event.{Event}
+use Rattle.end_model.specs.declared.moves.Place.{Place}
+use Rattle.end_model.specs.declared.moves.Move.{Move}
 use Rattle.end_names.specs.declared.role.Role.{Role}
-use Rattle.protocol_model.specs.Turn.{Tunnel}
-use Rattle.protocol_model.specs.End.{End}
-use Rattle.protocol_model.specs.World.{Sender, Deed, config_of}
+use Rattle.end_model.specs.Turn.{Tunnel}
+use Rattle.end_model.specs.End.{End}
+use Rattle.world_model.specs.World.{Sender, Deed, config_of}
 use Rattle.step_laws.specs.Letters as step_laws
 use Rattle.step_laws.specs.Letters.{letters_of}
 use Rattle.epoch_machine.specs.Letters.{Letter}

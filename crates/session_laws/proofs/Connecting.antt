@@ -5,13 +5,13 @@ use Rattle.control_message.specs.declared.message.Message.TheVariants.{Sccrp, Sc
 use Rattle.control_channel.specs.Numbers.{learnt_by}
 use Rattle.tunnel_fsm.specs.declared.table.TunnelState.TheVariants.{Established}
 use Rattle.tunnel_fsm.specs.Rows.{state_number}
-use Rattle.protocol_model.specs.declared.event.Event.{Event}
-use Rattle.protocol_model.specs.declared.moves.Connected.{Connected}
-use Rattle.protocol_model.specs.declared.moves.Move.TheVariants as move
-use Rattle.protocol_model.specs.declared.tunnel.Control.{Control}
-use Rattle.protocol_model.specs.Turn.{Tunnel, counts_taken, learns_window}
-use Rattle.protocol_model.specs.End.{End}
-use Rattle.protocol_model.specs.World.{Sender, Deed}
+use Rattle.end_model.specs.declared.event.Event.{Event}
+use Rattle.end_model.specs.declared.moves.Connected.{Connected}
+use Rattle.end_model.specs.declared.moves.Move.TheVariants as move
+use Rattle.end_model.specs.declared.tunnel.Control.{Control}
+use Rattle.end_model.specs.Turn.{Tunnel, counts_taken, learns_window}
+use Rattle.end_model.specs.End.{End}
+use Rattle.world_model.specs.World.{Sender, Deed}
 use Rattle.step_laws.specs.Letters as step_laws
 use Rattle.step_laws.specs.Moves.{heard_so, with_letter}
 use Rattle.epoch_machine.specs.Letters as letter

@@ -6,9 +6,9 @@ use Rattle.std.specs.Prelude.{count_by}
 use Rattle.std.specs.List.{fold}
 use Rattle.id_table.specs.Ids.{at, at-none, at-cons, ids_of}
 use Rattle.id_table.specs.Order.{IsAbove, Ascends}
-use Rattle.protocol_model.specs.declared.tunnel.Call.{Call}
-use Rattle.protocol_model.specs.Turn.{Tunnel}
-use Rattle.protocol_model.specs.Run.{is_session, session_count}
+use Rattle.end_model.specs.declared.tunnel.Call.{Call}
+use Rattle.end_model.specs.Turn.{Tunnel}
+use Rattle.world_model.specs.Run.{is_session, session_count}
 use Rattle.step_laws.specs.Letters.{Among}
 use Rattle.session_laws.specs.Sessions.{HoldsSession}
 

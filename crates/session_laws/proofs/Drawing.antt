@@ -5,10 +5,10 @@ use Rattle.std.specs.Prelude.{nat_lt}
 use Rattle.id_source.specs.declared.IdError.TheVariants.{NoIds, NeedCeiling}
 use Rattle.id_source.specs.Spaces.{Space, draws, after_draw}
 use Rattle.id_table.specs.Ids.{at}
-use Rattle.protocol_model.specs.declared.event.Event.{Event}
-use Rattle.protocol_model.specs.Turn.{Tunnel}
-use Rattle.protocol_model.specs.End.{End}
-use Rattle.protocol_model.specs.World.{Sender}
+use Rattle.end_model.specs.declared.event.Event.{Event}
+use Rattle.end_model.specs.Turn.{Tunnel}
+use Rattle.end_model.specs.End.{End}
+use Rattle.world_model.specs.World.{Sender}
 use Rattle.connection_laws.specs.Accounts.{Part, Unmade, Opener, Acceptor, no_account}
 use Rattle.connection_laws.specs.Facts.{Accounts, IsMade, IsPart, Within}
 use Rattle.session_laws.proofs.Ground.{live_made}

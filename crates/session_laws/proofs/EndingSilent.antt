@@ -5,21 +5,21 @@ use Rattle.id_table.specs.Ids.{without}
 use Rattle.id_table.specs.Order.{at_without_other, at_without_same}
 use Rattle.control_message.specs.declared.message.Message.TheVariants as message
 use Rattle.call_fsm.specs.declared.table.CallEvent.TheVariants as call_event
-use Rattle.protocol_model.specs.declared.event.Event.{Event}
-use Rattle.protocol_model.specs.declared.moves.EndSilent.{EndSilent}
-use Rattle.protocol_model.specs.declared.moves.Move.TheVariants as move
-use Rattle.protocol_model.specs.declared.tunnel.Call.{Call}
+use Rattle.end_model.specs.declared.event.Event.{Event}
+use Rattle.end_model.specs.declared.moves.EndSilent.{EndSilent}
+use Rattle.end_model.specs.declared.moves.Move.TheVariants as move
+use Rattle.end_model.specs.declared.tunnel.Call.{Call}
 use Rattle.end_names.specs.declared.role.Role.TheVariants.{Lac}
-use Rattle.protocol_model.specs.Turn.{Tunnel}
-use Rattle.protocol_model.specs.End.{End}
-use Rattle.protocol_model.specs.World.{Sender, Deed}
+use Rattle.end_model.specs.Turn.{Tunnel}
+use Rattle.end_model.specs.End.{End}
+use Rattle.world_model.specs.World.{Sender, Deed}
 use Rattle.step_laws.specs.Moves.{InTunnel, WhyEnds, IsLate, IsDropped, IsHungUp, IsAsked, IsReplied, IsConnected, IsFinished, HasFault}
 use Rattle.epoch_machine.specs.Tunnels.{is_active}
 use Rattle.epoch_machine.specs.Calls as calls
 use Rattle.epoch_machine.specs.Calls.{NoCall, Waits, is_call}
 use Rattle.epoch_machine.specs.Worlds.{World, all_rules}
 use Rattle.epoch_machine.specs.Moves.{EndsSilent, step, may_end_silent, ends_call}
-use Rattle.protocol_model.specs.Reading.{CallFault}
+use Rattle.end_model.specs.Reading.{CallFault}
 use Rattle.step_laws.specs.Moves.{fault_event}
 use Rattle.session_laws.proofs.Alike.{alike_giver}
 use Rattle.connection_laws.specs.Facts.{Accounts, LiveOk}

@@ -1,12 +1,12 @@
 -- A tunnel gives a HELLO, in the machine too.
 use Rattle.std.proofs.Common.{◌≡◌, ℕ, [], ◌∷◌, refl, sym, ap, ◌∙◌, Option, Some, arith, None}
 use Rattle.control_message.specs.declared.message.Message.TheVariants.{Hello}
-use Rattle.protocol_model.specs.declared.event.Event.{Event}
-use Rattle.protocol_model.specs.declared.moves.Greeted.{Greeted}
-use Rattle.protocol_model.specs.declared.moves.Move.TheVariants as move
-use Rattle.protocol_model.specs.Turn.{Tunnel}
-use Rattle.protocol_model.specs.End.{End}
-use Rattle.protocol_model.specs.World.{Sender, Deed}
+use Rattle.end_model.specs.declared.event.Event.{Event}
+use Rattle.end_model.specs.declared.moves.Greeted.{Greeted}
+use Rattle.end_model.specs.declared.moves.Move.TheVariants as move
+use Rattle.end_model.specs.Turn.{Tunnel}
+use Rattle.end_model.specs.End.{End}
+use Rattle.world_model.specs.World.{Sender, Deed}
 use Rattle.step_laws.specs.Letters as step_laws
 use Rattle.step_laws.specs.Moves.{with_letter}
 use Rattle.epoch_machine.specs.Letters as letter

@@ -9,14 +9,14 @@ use Rattle.control_message.specs.declared.message.Message.TheVariants.{Sccrq, Sc
 use Rattle.tunnel_fsm.specs.declared.table.TunnelState.{TunnelState}
 use Rattle.tunnel_fsm.specs.declared.table.TunnelState.TheVariants as tunnel
 use Rattle.tunnel_fsm.specs.Rows.{state_number}
-use Rattle.protocol_model.specs.declared.event.Event.{Event}
-use Rattle.protocol_model.specs.declared.moves.Move.{Move}
-use Rattle.protocol_model.specs.declared.moves.Move.TheVariants as move
+use Rattle.end_model.specs.declared.event.Event.{Event}
+use Rattle.end_model.specs.declared.moves.Move.{Move}
+use Rattle.end_model.specs.declared.moves.Move.TheVariants as move
 use Rattle.end_names.specs.declared.role.Role.{Role}
 use Rattle.end_names.specs.declared.role.Role.TheVariants.{Lns}
-use Rattle.protocol_model.specs.Turn.{Tunnel, is_closed}
-use Rattle.protocol_model.specs.End.{End}
-use Rattle.protocol_model.specs.World.{Sender, Deed}
+use Rattle.end_model.specs.Turn.{Tunnel, is_closed}
+use Rattle.end_model.specs.End.{End}
+use Rattle.world_model.specs.World.{Sender, Deed}
 use Rattle.step_laws.specs.Letters as step_laws
 use Rattle.step_laws.specs.Moves.{HearsNext}
 use Rattle.epoch_machine.specs.Letters.{Letter}

@@ -1,5 +1,5 @@
 -- Each move of a step is a move of the abstract machine, or none.
-use Rattle.protocol_model.specs.declared.moves.Move.TheVariants as move
+use Rattle.end_model.specs.declared.moves.Move.TheVariants as move
 use Rattle.session_laws.proofs.Keeps.{Laws, MovesFollow}
 use Rattle.session_laws.proofs.Quiet.{quiet_follows, frame_sent_follows, frame_up_follows, nr_read_follows, let_go_follows, repeated_follows}
 use Rattle.session_laws.proofs.Opening.{opened_follows}

@@ -2,14 +2,14 @@
 use Rattle.std.proofs.Common.{◌≡◌, inr, ℕ, [], refl, sym, ap, subst, Option, Some, arith}
 use Rattle.id_table.specs.Ids.{at, put}
 use Rattle.id_table.specs.Order.{at_new, at_other}
-use Rattle.protocol_model.specs.declared.event.Event.{Event}
-use Rattle.protocol_model.specs.declared.moves.Negotiated.{Negotiated}
-use Rattle.protocol_model.specs.declared.moves.Move.{Move}
-use Rattle.protocol_model.specs.declared.moves.Move.TheVariants as move
-use Rattle.protocol_model.specs.declared.tunnel.Call.{Call}
-use Rattle.protocol_model.specs.Turn.{Tunnel, with_link, link_after}
-use Rattle.protocol_model.specs.End.{End}
-use Rattle.protocol_model.specs.World.{Sender, Deed}
+use Rattle.end_model.specs.declared.event.Event.{Event}
+use Rattle.end_model.specs.declared.moves.Negotiated.{Negotiated}
+use Rattle.end_model.specs.declared.moves.Move.{Move}
+use Rattle.end_model.specs.declared.moves.Move.TheVariants as move
+use Rattle.end_model.specs.declared.tunnel.Call.{Call}
+use Rattle.end_model.specs.Turn.{Tunnel, with_link, link_after}
+use Rattle.end_model.specs.End.{End}
+use Rattle.world_model.specs.World.{Sender, Deed}
 use Rattle.lcp_end.specs.Laws.{after as lcp_after}
 use Rattle.epoch_machine.specs.Worlds.{World, all_rules}
 use Rattle.connection_laws.specs.Accounts.{about, entered_by}

@@ -9,14 +9,14 @@ use Rattle.control_message.specs.declared.message.Message.TheVariants as message
 use Rattle.tunnel_fsm.specs.declared.table.TunnelState.{TunnelState}
 use Rattle.tunnel_fsm.specs.declared.table.TunnelState.TheVariants as tunnel
 use Rattle.tunnel_fsm.specs.Rows.{state_number}
-use Rattle.protocol_model.specs.declared.event.Event.{Event}
-use Rattle.protocol_model.specs.declared.moves.TookPlain.{TookPlain}
-use Rattle.protocol_model.specs.declared.moves.Move.TheVariants as move
-use Rattle.protocol_model.specs.declared.tunnel.Call.{Call}
+use Rattle.end_model.specs.declared.event.Event.{Event}
+use Rattle.end_model.specs.declared.moves.TookPlain.{TookPlain}
+use Rattle.end_model.specs.declared.moves.Move.TheVariants as move
+use Rattle.end_model.specs.declared.tunnel.Call.{Call}
 use Rattle.end_names.specs.declared.role.Role.{Role}
-use Rattle.protocol_model.specs.Turn.{Tunnel, counts_taken, session_named, is_closed}
-use Rattle.protocol_model.specs.End.{End}
-use Rattle.protocol_model.specs.World.{Sender, Deed}
+use Rattle.end_model.specs.Turn.{Tunnel, counts_taken, session_named, is_closed}
+use Rattle.end_model.specs.End.{End}
+use Rattle.world_model.specs.World.{Sender, Deed}
 use Rattle.step_laws.specs.Moves.{IsPlain}
 use Rattle.frame_laws.specs.Written.{IsWritten}
 use Rattle.epoch_machine.specs.Letters.{Letter, Sccrq, Sccrp, Scccn, Hello, Request, Reply, Connect, Cdn}

@@ -1,14 +1,14 @@
 -- Moves of a step with which the machine doesn't move: no more than the channel of a tunnel changes.
 use Rattle.std.proofs.Common.{ℕ, refl, ap, Option}
-use Rattle.protocol_model.specs.declared.event.Event.{Event}
-use Rattle.protocol_model.specs.declared.moves.FrameSent.{FrameSent}
-use Rattle.protocol_model.specs.declared.moves.FrameUp.{FrameUp}
-use Rattle.protocol_model.specs.declared.moves.LetGo.{LetGo}
-use Rattle.protocol_model.specs.declared.moves.NrRead.{NrRead}
-use Rattle.protocol_model.specs.declared.moves.Repeated.{Repeated}
-use Rattle.protocol_model.specs.declared.moves.Move.TheVariants as move
-use Rattle.protocol_model.specs.End.{End}
-use Rattle.protocol_model.specs.World.{Sender, Deed}
+use Rattle.end_model.specs.declared.event.Event.{Event}
+use Rattle.end_model.specs.declared.moves.FrameSent.{FrameSent}
+use Rattle.end_model.specs.declared.moves.FrameUp.{FrameUp}
+use Rattle.end_model.specs.declared.moves.LetGo.{LetGo}
+use Rattle.end_model.specs.declared.moves.NrRead.{NrRead}
+use Rattle.end_model.specs.declared.moves.Repeated.{Repeated}
+use Rattle.end_model.specs.declared.moves.Move.TheVariants as move
+use Rattle.end_model.specs.End.{End}
+use Rattle.world_model.specs.World.{Sender, Deed}
 use Rattle.epoch_machine.specs.Worlds.{World}
 use Rattle.connection_laws.specs.Facts.{Accounts}
 use Rattle.connection_laws.specs.Steps.{after}

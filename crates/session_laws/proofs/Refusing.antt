@@ -4,14 +4,14 @@ use Rattle.std.proofs.lemmas.Bool.{true≢false, lt-ltb}
 use Rattle.id_table.specs.Order.{same_or_not}
 use Rattle.control_message.specs.declared.message.Message.{Message}
 use Rattle.control_message.specs.declared.message.Message.TheVariants.{Icrq, Icrp, Ocrq, Cdn}
-use Rattle.protocol_model.specs.declared.event.Event.{Event}
-use Rattle.protocol_model.specs.declared.moves.Refused.{Refused}
-use Rattle.protocol_model.specs.declared.moves.Move.TheVariants as move
+use Rattle.end_model.specs.declared.event.Event.{Event}
+use Rattle.end_model.specs.declared.moves.Refused.{Refused}
+use Rattle.end_model.specs.declared.moves.Move.TheVariants as move
 use Rattle.end_names.specs.declared.role.Role.TheVariants.{Lns}
-use Rattle.protocol_model.specs.Reading.{message_in, CallFault, call_fault_in}
-use Rattle.protocol_model.specs.Turn.{Tunnel, counts_taken, is_closed}
-use Rattle.protocol_model.specs.End.{End}
-use Rattle.protocol_model.specs.World.{Sender, Deed, config_of}
+use Rattle.end_model.specs.Reading.{message_in, CallFault, call_fault_in}
+use Rattle.end_model.specs.Turn.{Tunnel, counts_taken, is_closed}
+use Rattle.end_model.specs.End.{End}
+use Rattle.world_model.specs.World.{Sender, Deed, config_of}
 use Rattle.step_laws.specs.Letters.{letters_of}
 use Rattle.step_laws.specs.Moves.{with_letter, WhyRefused, IsNotGranted, IsOutgoing, IsReplyToNone, IsWrong}
 use Rattle.epoch_machine.specs.Letters as letter

@@ -7,15 +7,15 @@ use Rattle.id_table.specs.Order.{same_or_not, at_new, at_other}
 use Rattle.control_message.specs.declared.message.Message.TheVariants.{Icrq, Icrp}
 use Rattle.call_fsm.specs.declared.table.CallState.TheVariants as call_state
 use Rattle.call_fsm.specs.declared.table.CallEvent.TheVariants as call_event
-use Rattle.protocol_model.specs.declared.event.Event.{Event}
-use Rattle.protocol_model.specs.declared.moves.Replied.{Replied}
-use Rattle.protocol_model.specs.declared.moves.Move.TheVariants as move
-use Rattle.protocol_model.specs.declared.tunnel.Call.{Call}
+use Rattle.end_model.specs.declared.event.Event.{Event}
+use Rattle.end_model.specs.declared.moves.Replied.{Replied}
+use Rattle.end_model.specs.declared.moves.Move.TheVariants as move
+use Rattle.end_model.specs.declared.tunnel.Call.{Call}
 use Rattle.end_names.specs.Names.{node_of}
-use Rattle.protocol_model.specs.Calls.{call_row, asked_for}
-use Rattle.protocol_model.specs.Turn.{Tunnel, counts_taken}
-use Rattle.protocol_model.specs.End.{End}
-use Rattle.protocol_model.specs.World.{Sender, Deed, config_of}
+use Rattle.end_model.specs.Calls.{call_row, asked_for}
+use Rattle.end_model.specs.Turn.{Tunnel, counts_taken}
+use Rattle.end_model.specs.End.{End}
+use Rattle.world_model.specs.World.{Sender, Deed, config_of}
 use Rattle.step_laws.specs.Letters.{letters_of}
 use Rattle.step_laws.specs.Moves.{heard_so, with_letter}
 use Rattle.epoch_machine.specs.Letters.{Request, Reply}

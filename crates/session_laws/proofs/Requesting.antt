@@ -3,15 +3,15 @@ use Rattle.std.proofs.Common.{◌≡◌, inr, ℕ, [], ◌∷◌, refl, sym, ap,
 use Rattle.id_table.specs.Ids.{put}
 use Rattle.id_table.specs.Order.{at_new, at_other}
 use Rattle.call_fsm.specs.declared.table.CallEvent.TheVariants.{TunnelOpen}
-use Rattle.protocol_model.specs.declared.event.Event.{Event}
-use Rattle.protocol_model.specs.declared.moves.Requested.{Requested}
-use Rattle.protocol_model.specs.declared.moves.Move.TheVariants as move
-use Rattle.protocol_model.specs.declared.tunnel.Call.{Call}
+use Rattle.end_model.specs.declared.event.Event.{Event}
+use Rattle.end_model.specs.declared.moves.Requested.{Requested}
+use Rattle.end_model.specs.declared.moves.Move.TheVariants as move
+use Rattle.end_model.specs.declared.tunnel.Call.{Call}
 use Rattle.end_names.specs.declared.role.Role.{Role}
-use Rattle.protocol_model.specs.Calls.{call_row, advanced}
-use Rattle.protocol_model.specs.Turn.{Tunnel, request_of}
-use Rattle.protocol_model.specs.End.{End}
-use Rattle.protocol_model.specs.World.{Sender, Deed, config_of}
+use Rattle.end_model.specs.Calls.{call_row, advanced}
+use Rattle.end_model.specs.Turn.{Tunnel, request_of}
+use Rattle.end_model.specs.End.{End}
+use Rattle.world_model.specs.World.{Sender, Deed, config_of}
 use Rattle.step_laws.specs.Letters.{letters_of}
 use Rattle.step_laws.specs.Moves.{with_letter_as}
 use Rattle.epoch_machine.specs.Letters.{Request}

@@ -8,14 +8,14 @@ use Rattle.id_table.specs.Ids.{at, at-none}
 use Rattle.id_table.specs.Order.{at_new, at_other, same_or_not}
 use Rattle.schedule_text.specs.declared.line.Line.{Line}
 use Rattle.schedule_text.specs.Grammar.{AreLines}
-use Rattle.protocol_model.specs.declared.event.Event.{Event}
-use Rattle.protocol_model.specs.declared.moves.Move.{Move}
-use Rattle.protocol_model.specs.declared.refusal.Refusal.{Refusal}
+use Rattle.end_model.specs.declared.event.Event.{Event}
+use Rattle.end_model.specs.declared.moves.Move.{Move}
+use Rattle.world_model.specs.declared.refusal.Refusal.{Refusal}
 use Rattle.end_names.specs.declared.role.Role.{Role}
 use Rattle.end_names.specs.declared.role.Role.TheVariants.{Lac, Lns}
-use Rattle.protocol_model.specs.End.{End, new_end, plain_step}
-use Rattle.protocol_model.specs.World.{World, Node, Sender, Deed, Lined, birth_in, birth_of, moved, moved_all, config_of, line, new_node}
-use Rattle.protocol_model.specs.Run.{Run, empty_run, after_line, goes_on, run_from}
+use Rattle.end_model.specs.End.{End, new_end, plain_step}
+use Rattle.world_model.specs.World.{World, Node, Sender, Deed, Lined, birth_in, birth_of, moved, moved_all, config_of, line, new_node}
+use Rattle.world_model.specs.Run.{Run, empty_run, after_line, goes_on, run_from}
 use Rattle.epoch_machine.specs.Worlds as machine
 use Rattle.epoch_machine.specs.Moves as moves
 use Rattle.connection_laws.specs.Accounts.{Account, no_account, account_of, account_from, after_deed}

@@ -10,11 +10,11 @@ use Rattle.schedule_text.specs.declared.line.Line.{Line}
 use Rattle.schedule_text.specs.Grammar.{AreLines}
 use Rattle.end_names.specs.declared.role.Role.{Role}
 use Rattle.end_names.specs.declared.role.Role.TheVariants.{Lac, Lns}
-use Rattle.protocol_model.specs.Calls.{is_lac}
+use Rattle.end_model.specs.Calls.{is_lac}
 use Rattle.end_names.specs.Names.{node_of}
-use Rattle.protocol_model.specs.Turn.{Tunnel}
-use Rattle.protocol_model.specs.World.{World, Node, birth_of}
-use Rattle.protocol_model.specs.Run.{Run, run, empty_run, partner_of, lns_tunnel, agree}
+use Rattle.end_model.specs.Turn.{Tunnel}
+use Rattle.world_model.specs.World.{World, Node, birth_of}
+use Rattle.world_model.specs.Run.{Run, run, empty_run, partner_of, lns_tunnel, agree}
 use Rattle.epoch_machine.specs.Worlds as machine
 use Rattle.epoch_machine.specs.Worlds.{all_rules}
 use Rattle.birth_laws.specs.Births as births

@@ -9,12 +9,12 @@ use Rattle.control_message.specs.declared.message.Message.TheVariants as message
 use Rattle.tunnel_fsm.specs.declared.table.TunnelState.{TunnelState}
 use Rattle.tunnel_fsm.specs.declared.table.TunnelState.TheVariants as state
 use Rattle.tunnel_fsm.specs.Rows.{state_number}
-use Rattle.protocol_model.specs.declared.event.Event.{Event}
-use Rattle.protocol_model.specs.declared.moves.ClosedBy.{ClosedBy}
-use Rattle.protocol_model.specs.declared.moves.Move.TheVariants as move
-use Rattle.protocol_model.specs.Turn.{Tunnel, counts_taken, is_closed}
-use Rattle.protocol_model.specs.End.{End}
-use Rattle.protocol_model.specs.World.{Sender, Deed}
+use Rattle.end_model.specs.declared.event.Event.{Event}
+use Rattle.end_model.specs.declared.moves.ClosedBy.{ClosedBy}
+use Rattle.end_model.specs.declared.moves.Move.TheVariants as move
+use Rattle.end_model.specs.Turn.{Tunnel, counts_taken, is_closed}
+use Rattle.end_model.specs.End.{End}
+use Rattle.world_model.specs.World.{Sender, Deed}
 use Rattle.epoch_machine.specs.Letters as letter
 use Rattle.epoch_machine.specs.Tunnels.{WaitReply, Closed, is_active}
 use Rattle.epoch_machine.specs.Worlds.{World, all_rules, leaves}

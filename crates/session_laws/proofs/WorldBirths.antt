@@ -3,16 +3,16 @@ use Rattle.std.proofs.Common.{◌≡◌, ⊎_elim, ℕ, ◌+◌, ◌-◌, ◌^�
 use Rattle.std.specs.Prelude.{min}
 use Rattle.id_table.specs.Ids.{at, put}
 use Rattle.id_table.specs.Order.{same_or_not, at_new, at_other}
-use Rattle.protocol_model.specs.declared.moves.Added.{Added}
-use Rattle.protocol_model.specs.declared.moves.FirstUp.{FirstUp}
-use Rattle.protocol_model.specs.declared.moves.Replied.{Replied}
-use Rattle.protocol_model.specs.declared.moves.Move.{Move}
-use Rattle.protocol_model.specs.declared.moves.Move.TheVariants as move
+use Rattle.end_model.specs.declared.moves.Added.{Added}
+use Rattle.end_model.specs.declared.moves.FirstUp.{FirstUp}
+use Rattle.end_model.specs.declared.moves.Replied.{Replied}
+use Rattle.end_model.specs.declared.moves.Move.{Move}
+use Rattle.end_model.specs.declared.moves.Move.TheVariants as move
 use Rattle.end_names.specs.declared.role.Role.{Role}
 use Rattle.end_names.specs.declared.role.Role.TheVariants.{Lac, Lns}
 use Rattle.end_names.specs.Names.{node_of}
-use Rattle.protocol_model.specs.End.{End}
-use Rattle.protocol_model.specs.World.{World, Node, Deed, birth_in, birth_of, with_birth, is_born, moved}
+use Rattle.end_model.specs.End.{End}
+use Rattle.world_model.specs.World.{World, Node, Deed, birth_in, birth_of, with_birth, is_born, moved}
 use Rattle.epoch_machine.specs.Worlds as machine
 use Rattle.frame_laws.proofs.Facts.{all_map, all_push}
 use Rattle.connection_laws.specs.Steps.{BirthsStay}

@@ -3,12 +3,12 @@ use Rattle.std.specs.Prelude.{◌≡◌, ℕ, ◌^◌, ◌<◌, true, List, leng
 use Rattle.id_table.specs.Ids.{at}
 use Rattle.schedule_text.specs.declared.line.Line.{Line}
 use Rattle.schedule_text.specs.Grammar.{AreLines}
-use Rattle.protocol_model.specs.declared.tunnel.Call.{Call}
+use Rattle.end_model.specs.declared.tunnel.Call.{Call}
 use Rattle.end_names.specs.declared.role.Role.TheVariants.{Lac}
-use Rattle.protocol_model.specs.Calls.{is_up}
-use Rattle.protocol_model.specs.Turn.{Tunnel}
-use Rattle.protocol_model.specs.World.{World, Node, birth_of}
-use Rattle.protocol_model.specs.Run.{Run, run, partner_of, agree, session_count}
+use Rattle.end_model.specs.Calls.{is_up}
+use Rattle.end_model.specs.Turn.{Tunnel}
+use Rattle.world_model.specs.World.{World, Node, birth_of}
+use Rattle.world_model.specs.Run.{Run, run, partner_of, agree, session_count}
 use Rattle.end_names.specs.Names.{node_of}
 use Rattle.epoch_machine.specs.Worlds as machine
 use Rattle.connection_laws.specs.Accounts.{account_of}

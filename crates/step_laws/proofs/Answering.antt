@@ -19,14 +19,14 @@ use Rattle.call_fsm.specs.declared.table.CallState.TheVariants as call
 use Rattle.call_fsm.specs.declared.table.CallEvent.TheVariants as call_event
 use Rattle.call_fsm.specs.declared.table.CallAction.{CallAction}
 use Rattle.call_fsm.specs.declared.table.CallAction.TheVariants as call_action
-use Rattle.protocol_model.specs.declared.tunnel.Call.{Call}
+use Rattle.end_model.specs.declared.tunnel.Call.{Call}
 use Rattle.end_names.specs.declared.role.Role.{Role}
 use Rattle.end_names.specs.declared.role.Role.TheVariants.{Lac, Lns}
-use Rattle.protocol_model.specs.declared.moves.Move.{Move}
-use Rattle.protocol_model.specs.Reading.{message_in, CallFault, call_fault_in, tunnel_fault_in}
-use Rattle.protocol_model.specs.Calls.{call_row}
-use Rattle.protocol_model.specs.Turn.{Turn, Tunnel, Reason, with_output, with_move, with_change, with_new, gives, takes_one, takes_plain, has_room, out_of_state, fault_reason, shuts, ends_call, closed_told, closes_tunnel, takes_by, takes, ends_by, end_told, answers_by, refused, refuses, of_no_call, replied, replies, granted, asked_by, about_call, in_call, faulty_at, faulty, in_faulty_call, hears, hears_faulty, hears_said, hears_next, is_closed, settles}
-use Rattle.protocol_model.specs.End.{End}
+use Rattle.end_model.specs.declared.moves.Move.{Move}
+use Rattle.end_model.specs.Reading.{message_in, CallFault, call_fault_in, tunnel_fault_in}
+use Rattle.end_model.specs.Calls.{call_row}
+use Rattle.end_model.specs.Turn.{Turn, Tunnel, Reason, with_output, with_move, with_change, with_new, gives, takes_one, takes_plain, has_room, out_of_state, fault_reason, shuts, ends_call, closed_told, closes_tunnel, takes_by, takes, ends_by, end_told, answers_by, refused, refuses, of_no_call, replied, replies, granted, asked_by, about_call, in_call, faulty_at, faulty, in_faulty_call, hears, hears_faulty, hears_said, hears_next, is_closed, settles}
+use Rattle.end_model.specs.End.{End}
 use Rattle.step_laws.specs.Left.{CanBe}
 use Rattle.step_laws.specs.Answers.{IsRequest, Incoming, Outgoing, FaultyIncoming, FaultyOutgoing, TooFaulty, answer_of_move, IsReply, IsRefusal, IsEnd, IsClose, AnswersIcrq, WithReply, WithRefusal, WithEnd, AnswersFaulty, IsAnswer}
 use Rattle.step_laws.proofs.Granting.{grants_is, denies_is}

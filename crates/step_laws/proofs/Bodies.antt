@@ -11,7 +11,7 @@ use Rattle.control_message.specs.declared.message.MessageError.{MessageError}
 use Rattle.control_message.specs.declared.message.MessageError.TheVariants.{NoType, UnknownType, UnknownMandatory, HiddenWithoutVector, BadValue, Missing, NoMemory}
 use Rattle.control_message.specs.Reading.{message_of, kind_of_pairs, plain_short}
 use Rattle.tunnel_fsm.specs.declared.table.TunnelEvent.TheVariants as event
-use Rattle.protocol_model.specs.Reading.{message_read, pairs_read, message_in, is_for_call, with_cause, fault_of_kind, fault_read, fault_of_pairs, CallFault, call_fault_in, TunnelFault, closing, closing_by, tunnel_fault_of_kind, tunnel_fault_read, tunnel_fault_of_pairs, tunnel_fault_in}
+use Rattle.end_model.specs.Reading.{message_read, pairs_read, message_in, is_for_call, with_cause, fault_of_kind, fault_read, fault_of_pairs, CallFault, call_fault_in, TunnelFault, closing, closing_by, tunnel_fault_of_kind, tunnel_fault_read, tunnel_fault_of_pairs, tunnel_fault_in}
 use Rattle.step_laws.specs.Answers.{AsksForCall}
 use Rattle.step_laws.proofs.Assigned.{IsInner, inner_icrq, inner_ocrq}
 

@@ -1,13 +1,13 @@
 -- A subscriber that wants a call rings, whether by a port or as a host that was admitted.
 use Rattle.std.proofs.Common.{◌≡◌, ℕ, List, false, refl, ap, Option, Some, None}
 use Rattle.wire_base.specs.declared.letter.Letter.{Letter}
-use Rattle.protocol_model.specs.declared.event.Event.{Event}
-use Rattle.protocol_model.specs.declared.event.Event.TheVariants.{Datagram, Ring, Frame, Admitted, Payload, Lower, Lcp, Hang, OpenTunnel, DropCall, CloseTunnel, Tick}
-use Rattle.protocol_model.specs.declared.tunnel.Call.{Call}
-use Rattle.protocol_model.specs.declared.tunnel.Config.{Config}
+use Rattle.end_model.specs.declared.event.Event.{Event}
+use Rattle.end_model.specs.declared.event.Event.TheVariants.{Datagram, Ring, Frame, Admitted, Payload, Lower, Lcp, Hang, OpenTunnel, DropCall, CloseTunnel, Tick}
+use Rattle.end_model.specs.declared.tunnel.Call.{Call}
+use Rattle.end_model.specs.declared.tunnel.Config.{Config}
 use Rattle.end_names.specs.declared.role.Role.{Role}
 use Rattle.end_names.specs.Names.{subscriber}
-use Rattle.protocol_model.specs.Turn.{Turn, turns, rings, settles}
+use Rattle.end_model.specs.Turn.{Turn, turns, rings, settles}
 use Rattle.step_laws.specs.Callers.{IsRing}
 
 some_is : (a b : List ℕ) → Some a ≡ Some b → a ≡ b

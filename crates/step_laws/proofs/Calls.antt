@@ -16,15 +16,15 @@ use Rattle.call_fsm.specs.declared.table.CallEvent.TheVariants as call_event
 use Rattle.call_fsm.specs.declared.table.CallState.TheVariants as call
 use Rattle.call_fsm.specs.declared.table.CallAction.{CallAction}
 use Rattle.call_fsm.specs.declared.table.CallAction.TheVariants as call_action
-use Rattle.protocol_model.specs.declared.tunnel.Call.{Call}
+use Rattle.end_model.specs.declared.tunnel.Call.{Call}
 use Rattle.end_names.specs.declared.role.Role.{Role}
 use Rattle.end_names.specs.declared.role.Role.TheVariants.{Lac, Lns}
-use Rattle.protocol_model.specs.declared.event.Event.{Event}
-use Rattle.protocol_model.specs.declared.moves.Refused.{Refused}
-use Rattle.protocol_model.specs.Reading.{message_in, call_fault_in}
-use Rattle.protocol_model.specs.Calls.{call_row, is_reply, is_connection, is_up, is_told, are_too_many}
-use Rattle.protocol_model.specs.Turn.{Tunnel, Turn, Reason, reason, out_of_state, tunnel_after, with_move, with_calls, takes_one, has_room, takes_plain, refuses, of_no_call, answers_by, call_of, left_of, granted, replies, asked_by, first_up_by, second_up_by, is_clean_up, end_heard_by, session_named, ends_named, about_call, in_call}
-use Rattle.protocol_model.specs.End.{End}
+use Rattle.end_model.specs.declared.event.Event.{Event}
+use Rattle.end_model.specs.declared.moves.Refused.{Refused}
+use Rattle.end_model.specs.Reading.{message_in, call_fault_in}
+use Rattle.end_model.specs.Calls.{call_row, is_reply, is_connection, is_up, is_told, are_too_many}
+use Rattle.end_model.specs.Turn.{Tunnel, Turn, Reason, reason, out_of_state, tunnel_after, with_move, with_calls, takes_one, has_room, takes_plain, refuses, of_no_call, answers_by, call_of, left_of, granted, replies, asked_by, first_up_by, second_up_by, is_clean_up, end_heard_by, session_named, ends_named, about_call, in_call}
+use Rattle.end_model.specs.End.{End}
 use Rattle.step_laws.specs.Causes.{CameAbout, MayBeGranted, AskedAgain, RepliedInVain, ConnectedInVain, Stands}
 use Rattle.step_laws.specs.Moves.{DeniesCall, Came, IsNext, HearsNext, IsPlain, IsAsked, IsReplied, IsConnected, WhyRefused, IsNotGranted, IsOutgoing, IsReplyToNone}
 use Rattle.step_laws.proofs.Granting.{grants_is, denies_is}
@@ -34,7 +34,7 @@ use Rattle.step_laws.proofs.Tells.{granted_stands, granted_may}
 use Rattle.step_laws.proofs.Turns.{TurnOk, PlainAt, at_turn, is_roomy, IsGranted, replied_ok, first_up_ok, second_up_ok, end_heard_ok, plain_ok, ignores_ok, refused_ok}
 use Rattle.step_laws.proofs.Settling.{Settled, unsent}
 use Rattle.step_laws.proofs.Comes.{Taking, heard_in, comes_at, now, begun, came_at, told_at, calls_first, spare_first, at_first, that_call, no_call}
-use Rattle.protocol_model.specs.Links.{magic_of}
+use Rattle.end_model.specs.Links.{magic_of}
 use Rattle.step_laws.proofs.Linking.{linked_up_ok}
 use Rattle.step_laws.proofs.Closing.{Ends, ends_leave}
 

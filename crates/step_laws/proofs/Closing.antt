@@ -11,14 +11,14 @@ use Rattle.control_message.specs.declared.message.Message.TheVariants.{Cdn}
 use Rattle.call_fsm.specs.declared.table.CallAction.{CallAction}
 use Rattle.call_fsm.specs.declared.table.CallAction.TheVariants as call_action
 use Rattle.call_fsm.specs.declared.table.CallEvent.{CallEvent}
-use Rattle.protocol_model.specs.declared.tunnel.Call.{Call}
-use Rattle.protocol_model.specs.declared.tunnel.CellChange.TheVariants as cell
-use Rattle.protocol_model.specs.declared.event.Event.{Event}
-use Rattle.protocol_model.specs.declared.out.Out.TheVariants.{Gone, Cause}
-use Rattle.protocol_model.specs.declared.moves.Move.TheVariants as move
-use Rattle.protocol_model.specs.Calls.{call_row, is_told}
-use Rattle.protocol_model.specs.Turn.{Tunnel, Turn, with_output, with_move, with_change, with_calls, ends_call, is_clean_up, has_room, counts_given, gives, next_place, letter_of, letters_after, tunnel_after, end_silent, end_told, ends_by}
-use Rattle.protocol_model.specs.End.{End, placed}
+use Rattle.end_model.specs.declared.tunnel.Call.{Call}
+use Rattle.session_looks.specs.declared.look.CellChange.TheVariants as cell
+use Rattle.end_model.specs.declared.event.Event.{Event}
+use Rattle.end_model.specs.declared.out.Out.TheVariants.{Gone, Cause}
+use Rattle.end_model.specs.declared.moves.Move.TheVariants as move
+use Rattle.end_model.specs.Calls.{call_row, is_told}
+use Rattle.end_model.specs.Turn.{Tunnel, Turn, with_output, with_move, with_change, with_calls, ends_call, is_clean_up, has_room, counts_given, gives, next_place, letter_of, letters_after, tunnel_after, end_silent, end_told, ends_by}
+use Rattle.end_model.specs.End.{End, placed}
 use Rattle.step_laws.specs.Causes.{Stands}
 use Rattle.step_laws.specs.Moves.{WhyEnds}
 use Rattle.step_laws.proofs.Lists.{all_push, branch, with_calls-more, with_looks-more, chain_more}

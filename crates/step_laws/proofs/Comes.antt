@@ -10,14 +10,14 @@ use Rattle.control_message.specs.Reading.{message_of}
 use Rattle.tunnel_fsm.specs.declared.table.TunnelState.{TunnelState}
 use Rattle.tunnel_fsm.specs.Rows.{state_number}
 use Rattle.call_fsm.specs.declared.table.CallEvent.{CallEvent}
-use Rattle.protocol_model.specs.declared.tunnel.Call.{Call}
-use Rattle.protocol_model.specs.declared.tunnel.Control.{Control}
-use Rattle.protocol_model.specs.declared.event.Event.{Event}
-use Rattle.protocol_model.specs.declared.event.Addressee.TheVariants.{Opens, Stops}
-use Rattle.protocol_model.specs.Reading.{message_read, pairs_read, message_in}
-use Rattle.protocol_model.specs.Calls.{call_row, is_told}
-use Rattle.protocol_model.specs.Turn.{Tunnel, Turn, is_closed, may_take, tunnel_after, with_calls}
-use Rattle.protocol_model.specs.End.{End}
+use Rattle.end_model.specs.declared.tunnel.Call.{Call}
+use Rattle.end_model.specs.declared.tunnel.Control.{Control}
+use Rattle.end_model.specs.declared.event.Event.{Event}
+use Rattle.end_model.specs.declared.event.Addressee.TheVariants.{Opens, Stops}
+use Rattle.end_model.specs.Reading.{message_read, pairs_read, message_in}
+use Rattle.end_model.specs.Calls.{call_row, is_told}
+use Rattle.end_model.specs.Turn.{Tunnel, Turn, is_closed, may_take, tunnel_after, with_calls}
+use Rattle.end_model.specs.End.{End}
 use Rattle.step_laws.specs.Causes.{IsTold, CameAbout}
 use Rattle.step_laws.specs.Moves.{Came, Says, IsFor, ComesTo, IsNext, HearsNext, IsPlain, InTunnel}
 use Rattle.step_laws.proofs.Turns.{ComesPlain, TurnOk, PlainAt, at_turn}

@@ -28,21 +28,21 @@ use Rattle.l2tp_header.specs.Reading.{header_of}
 use Rattle.control_message.specs.declared.message.Message.{Message}
 use Rattle.control_message.specs.declared.message.Message.TheVariants.{Sccrq, Sccrp, Scccn, StopCcn, Hello, Ocrq, Ocrp, Occn, Icrq, Icrp, Iccn, Cdn, Wen, Sli}
 use Rattle.control_message.specs.declared.message.Opening.{Opening}
-use Rattle.protocol_model.specs.declared.tunnel.Call.{Call}
-use Rattle.protocol_model.specs.declared.tunnel.Control.{Control}
-use Rattle.protocol_model.specs.declared.tunnel.Link.{Link}
+use Rattle.end_model.specs.declared.tunnel.Call.{Call}
+use Rattle.end_model.specs.declared.tunnel.Control.{Control}
+use Rattle.end_model.specs.declared.tunnel.Link.{Link}
 use Rattle.lcp_end.specs.Laws.{OnPacket}
 use Rattle.end_names.specs.declared.role.Role.TheVariants.{Lac}
-use Rattle.protocol_model.specs.declared.event.Event.{Event}
-use Rattle.protocol_model.specs.declared.event.Event.TheVariants.{Datagram, Ring, Payload, Lower, Lcp, Hang, OpenTunnel, DropCall, CloseTunnel}
-use Rattle.protocol_model.specs.declared.out.Out.{Out}
-use Rattle.protocol_model.specs.declared.out.Out.TheVariants.{Send, Up, Gone, Drop, Cause as Refused}
-use Rattle.protocol_model.specs.declared.moves.Move.{Move}
-use Rattle.protocol_model.specs.declared.moves.Move.TheVariants as move
-use Rattle.protocol_model.specs.Reading.{body_of, message_in}
-use Rattle.protocol_model.specs.Calls.{call_row, is_up, is_told, owes}
-use Rattle.protocol_model.specs.Turn.{Tunnel, Env, Turn, turn_of, reason, is_closed, shuts_by, closes_tunnel, with_output, with_move, with_calls, closes, with_local, letter_of, opening_of, letters_after, has_room, learns_window, gives, takes_one, drops, lets_all_go, acknowledged_after, settles, fresh, opened, opens_by, opens, accepted, accepts_by, accepts, adds, rings_new, rings, first_said, hears_control, hears_datagram, carries, hears_link, hears_lcp, is_passing, turns, tunnel_after, is_short, is_long}
-use Rattle.protocol_model.specs.End.{End, Stepped, env_of, gives_only, placed, with_looks, after_turn, after_new}
+use Rattle.end_model.specs.declared.event.Event.{Event}
+use Rattle.end_model.specs.declared.event.Event.TheVariants.{Datagram, Ring, Payload, Lower, Lcp, Hang, OpenTunnel, DropCall, CloseTunnel}
+use Rattle.end_model.specs.declared.out.Out.{Out}
+use Rattle.end_model.specs.declared.out.Out.TheVariants.{Send, Up, Gone, Drop, Cause as Refused}
+use Rattle.end_model.specs.declared.moves.Move.{Move}
+use Rattle.end_model.specs.declared.moves.Move.TheVariants as move
+use Rattle.end_model.specs.Reading.{body_of, message_in}
+use Rattle.end_model.specs.Calls.{call_row, is_up, is_told, owes}
+use Rattle.end_model.specs.Turn.{Tunnel, Env, Turn, turn_of, reason, is_closed, shuts_by, closes_tunnel, with_output, with_move, with_calls, closes, with_local, letter_of, opening_of, letters_after, has_room, learns_window, gives, takes_one, drops, lets_all_go, acknowledged_after, settles, fresh, opened, opens_by, opens, accepted, accepts_by, accepts, adds, rings_new, rings, first_said, hears_control, hears_datagram, carries, hears_link, hears_lcp, is_passing, turns, tunnel_after, is_short, is_long}
+use Rattle.end_model.specs.End.{End, Stepped, env_of, gives_only, placed, with_looks, after_turn, after_new}
 use Rattle.step_laws.specs.Room.{IsChosen, RingsNew}
 use Rattle.step_laws.specs.Causes.{IsTold, ForNew, ForOpening, Stands}
 use Rattle.step_laws.specs.Links.{HearsLcp, IsCalled, ForPacket, IsGiven}
@@ -59,7 +59,7 @@ use Rattle.step_laws.proofs.Comes.{Fresh}
 use Rattle.step_laws.proofs.Closing.{ends_leave}
 use Rattle.step_laws.proofs.Shutting.{told_shut_ok}
 use Rattle.step_laws.proofs.Stopping.{row_shut, row_shut_closed}
-use Rattle.protocol_model.specs.Secrets.{challenge_by, response_by}
+use Rattle.end_model.specs.Secrets.{challenge_by, response_by}
 use Rattle.step_laws.proofs.Secrets.{asks_so, responds_so}
 use Rattle.step_laws.proofs.Hearing.{hears_control_ok, rings_ok}
 

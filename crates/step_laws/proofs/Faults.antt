@@ -13,9 +13,9 @@ use Rattle.control_message.specs.declared.message.MessageError.TheVariants.{NoTy
 use Rattle.control_message.specs.Reading.{message_of, kind_of_pairs, plain_short}
 use Rattle.tunnel_fsm.specs.declared.table.TunnelEvent.{TunnelEvent}
 use Rattle.tunnel_fsm.specs.declared.table.TunnelEvent.TheVariants as event
-use Rattle.protocol_model.specs.declared.event.Event.{Event}
-use Rattle.protocol_model.specs.Reading.{fault_cause, is_for_call, TunnelFault, event_of_kind, told_by_kind, closing, closing_by, tunnel_fault_of_kind, tunnel_fault_read, tunnel_fault_of_pairs, tunnel_fault_in}
-use Rattle.protocol_model.specs.End.{End}
+use Rattle.end_model.specs.declared.event.Event.{Event}
+use Rattle.end_model.specs.Reading.{fault_cause, is_for_call, TunnelFault, event_of_kind, told_by_kind, closing, closing_by, tunnel_fault_of_kind, tunnel_fault_read, tunnel_fault_of_pairs, tunnel_fault_in}
+use Rattle.end_model.specs.End.{End}
 use Rattle.step_laws.specs.Causes.{CameClosing, CameFaultyOpening, Stands}
 use Rattle.step_laws.proofs.Assigned.{IsInner}
 use Rattle.step_laws.proofs.Tells.{IsOfFault, error_cause}

@@ -14,14 +14,14 @@ use Rattle.call_fsm.specs.declared.table.CallAction.TheVariants as call_action
 use Rattle.call_fsm.specs.declared.table.CallEvent.{CallEvent}
 use Rattle.call_fsm.specs.declared.table.CallEvent.TheVariants as call_event
 use Rattle.call_fsm.specs.declared.table.CallState.TheVariants as call
-use Rattle.protocol_model.specs.declared.tunnel.Call.{Call}
+use Rattle.end_model.specs.declared.tunnel.Call.{Call}
 use Rattle.end_names.specs.declared.role.Role.{Role}
 use Rattle.end_names.specs.declared.role.Role.TheVariants.{Lac, Lns}
-use Rattle.protocol_model.specs.declared.event.Event.{Event}
-use Rattle.protocol_model.specs.Reading.{message_in, CallFault, call_fault_in}
-use Rattle.protocol_model.specs.Calls.{call_row}
-use Rattle.protocol_model.specs.Turn.{Turn, fault_reason, takes_plain, takes_one, with_move, ignores, refuses, session_named, faulty_at, faulty, in_faulty_call}
-use Rattle.protocol_model.specs.End.{End}
+use Rattle.end_model.specs.declared.event.Event.{Event}
+use Rattle.end_model.specs.Reading.{message_in, CallFault, call_fault_in}
+use Rattle.end_model.specs.Calls.{call_row}
+use Rattle.end_model.specs.Turn.{Turn, fault_reason, takes_plain, takes_one, with_move, ignores, refuses, session_named, faulty_at, faulty, in_faulty_call}
+use Rattle.end_model.specs.End.{End}
 use Rattle.step_laws.specs.Causes.{CameFaulty, Stands}
 use Rattle.step_laws.specs.Moves.{Came, IsNext, HasFault, IsWrong, fault_event}
 use Rattle.step_laws.proofs.Lists.{branch}

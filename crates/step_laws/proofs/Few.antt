@@ -6,11 +6,11 @@ use Rattle.std.specs.declared.cmp.Ordering.TheVariants.{Less, Equal, Greater}
 use Rattle.std.specs.Ordering.{nat_cmp}
 use Rattle.id_table.specs.Ids.{at, put, without}
 use Rattle.id_table.specs.Order.{IsAbove, Ascends, less_is, lower, at-above}
-use Rattle.protocol_model.specs.declared.event.Event.{Event}
-use Rattle.protocol_model.specs.declared.moves.Move.{Move}
-use Rattle.protocol_model.specs.declared.moves.Move.TheVariants as move
-use Rattle.protocol_model.specs.Turn.{Tunnel}
-use Rattle.protocol_model.specs.End.{End}
+use Rattle.end_model.specs.declared.event.Event.{Event}
+use Rattle.end_model.specs.declared.moves.Move.{Move}
+use Rattle.end_model.specs.declared.moves.Move.TheVariants as move
+use Rattle.end_model.specs.Turn.{Tunnel}
+use Rattle.end_model.specs.End.{End}
 use Rattle.step_laws.specs.Left.{AreFew, TunnelsBeginFew, TunnelsStayFew}
 use Rattle.step_laws.specs.Moves.{Does, Chain}
 use Rattle.step_laws.specs.Steps.{StepsAreChains}

@@ -10,14 +10,14 @@ use Rattle.recv_window.specs.declared.Class.{Class}
 use Rattle.recv_window.specs.declared.Class.TheVariants.{Next}
 use Rattle.control_channel.specs.Numbers.{class_told, next_to_go}
 use Rattle.tunnel_fsm.specs.Rows.{state_number}
-use Rattle.protocol_model.specs.declared.event.Event.{Event}
-use Rattle.protocol_model.specs.declared.event.Event.TheVariants.{Datagram}
-use Rattle.protocol_model.specs.declared.event.Addressee.TheVariants.{Main}
-use Rattle.protocol_model.specs.declared.out.Out.{Out}
-use Rattle.protocol_model.specs.declared.out.Out.TheVariants.{Drop}
-use Rattle.protocol_model.specs.Reading.{body_of, at_tunnel}
-use Rattle.protocol_model.specs.Turn.{Env, Turn, Tunnel, turn_of, with_output, with_move, drops, reads_nr, sends_letter, sends_now, lets_go, goes_by, lets_all_go, acknowledges, acknowledged_after, outstanding, settles, hears_letter, in_tunnel, hears_control, hears_datagram, turns, may_take, counts_acked}
-use Rattle.protocol_model.specs.End.{End, Stepped, env_of, after_turn, in_main, addressed, for_addressee, receives, step_in, plain_step}
+use Rattle.end_model.specs.declared.event.Event.{Event}
+use Rattle.end_model.specs.declared.event.Event.TheVariants.{Datagram}
+use Rattle.end_model.specs.declared.event.Addressee.TheVariants.{Main}
+use Rattle.end_model.specs.declared.out.Out.{Out}
+use Rattle.end_model.specs.declared.out.Out.TheVariants.{Drop}
+use Rattle.end_model.specs.Reading.{body_of, at_tunnel}
+use Rattle.end_model.specs.Turn.{Env, Turn, Tunnel, turn_of, with_output, with_move, drops, reads_nr, sends_letter, sends_now, lets_go, goes_by, lets_all_go, acknowledges, acknowledged_after, outstanding, settles, hears_letter, in_tunnel, hears_control, hears_datagram, turns, may_take, counts_acked}
+use Rattle.end_model.specs.End.{End, Stepped, env_of, after_turn, in_main, addressed, for_addressee, receives, step_in, plain_step}
 use Rattle.step_laws.specs.Letters.{Among}
 use Rattle.step_laws.specs.Steps.{AreKept}
 use Rattle.step_laws.specs.Room.{IsFull, FullAreRefused}

@@ -8,12 +8,12 @@ use Rattle.id_source.specs.declared.IdError.{IdError}
 use Rattle.wire_base.specs.declared.cause.Cause.TheVariants as cause
 use Rattle.call_fsm.specs.declared.table.CallEvent.TheVariants as call_event
 use Rattle.call_fsm.specs.declared.table.CallState.TheVariants as call
-use Rattle.protocol_model.specs.declared.event.Event.TheVariants.{Tick}
+use Rattle.end_model.specs.declared.event.Event.TheVariants.{Tick}
 use Rattle.end_names.specs.declared.role.Role.{Role}
 use Rattle.end_names.specs.declared.role.Role.TheVariants.{Lac, Lns}
-use Rattle.protocol_model.specs.Calls.{call_row, is_reply, are_too_many}
-use Rattle.protocol_model.specs.Turn.{Tunnel, Reason, reason, out_of_state, call_of, left_of, granted}
-use Rattle.protocol_model.specs.End.{End}
+use Rattle.end_model.specs.Calls.{call_row, is_reply, are_too_many}
+use Rattle.end_model.specs.Turn.{Tunnel, Reason, reason, out_of_state, call_of, left_of, granted}
+use Rattle.end_model.specs.End.{End}
 use Rattle.step_laws.specs.Moves.{IsIdInUse, GrantsCall, DeniesCall, AsksItself, HasUsedId, HasAllCalls, HasNoSession}
 use Rattle.step_laws.proofs.States.{takes_none}
 use Rattle.step_laws.proofs.Tells.{in_use, free}

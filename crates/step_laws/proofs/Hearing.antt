@@ -23,20 +23,20 @@ use Rattle.tunnel_fsm.specs.declared.table.TunnelEvent.TheVariants as event
 use Rattle.tunnel_fsm.specs.declared.table.TunnelAction.{TunnelAction}
 use Rattle.tunnel_fsm.specs.declared.table.TunnelAction.TheVariants as action
 use Rattle.tunnel_fsm.specs.Rows.{rows, row_of, state_number}
-use Rattle.protocol_model.specs.declared.tunnel.Call.{Call}
-use Rattle.protocol_model.specs.declared.tunnel.Config.{Config}
+use Rattle.end_model.specs.declared.tunnel.Call.{Call}
+use Rattle.end_model.specs.declared.tunnel.Config.{Config}
 use Rattle.end_names.specs.declared.role.Role.TheVariants.{Lac}
-use Rattle.protocol_model.specs.declared.tunnel.Control.{Control}
-use Rattle.protocol_model.specs.declared.event.Event.{Event}
-use Rattle.protocol_model.specs.declared.event.Event.TheVariants.{Ring}
-use Rattle.protocol_model.specs.Reading.{message_in, call_fault_in, tunnel_fault_in}
-use Rattle.protocol_model.specs.Calls.{are_too_many}
-use Rattle.protocol_model.specs.Turn.{Tunnel, Turn, is_closed, is_acceptable, event_by, opening_reason, out_of_order, tunnel_after, with_move, with_calls, gives, takes_one, has_room, may_take, counts_acked, reads_nr, connected, connects, takes_by, takes, takes_plain, confirms, hears, hears_said, hears_next, hears_letter, is_duplicate, in_tunnel, hears_control, rings_over, rings_by, rings_within, rings}
-use Rattle.protocol_model.specs.End.{End}
+use Rattle.end_model.specs.declared.tunnel.Control.{Control}
+use Rattle.end_model.specs.declared.event.Event.{Event}
+use Rattle.end_model.specs.declared.event.Event.TheVariants.{Ring}
+use Rattle.end_model.specs.Reading.{message_in, call_fault_in, tunnel_fault_in}
+use Rattle.end_model.specs.Calls.{are_too_many}
+use Rattle.end_model.specs.Turn.{Tunnel, Turn, is_closed, is_acceptable, event_by, opening_reason, out_of_order, tunnel_after, with_move, with_calls, gives, takes_one, has_room, may_take, counts_acked, reads_nr, connected, connects, takes_by, takes, takes_plain, confirms, hears, hears_said, hears_next, hears_letter, is_duplicate, in_tunnel, hears_control, rings_over, rings_by, rings_within, rings}
+use Rattle.end_model.specs.End.{End}
 use Rattle.step_laws.specs.Room.{IsFull, IsChosen, RingsOver}
 use Rattle.step_laws.specs.Causes.{ForRing}
-use Rattle.protocol_model.specs.Secrets.{is_wrong}
-use Rattle.protocol_model.specs.Reasons.{no_secret}
+use Rattle.end_model.specs.Secrets.{is_wrong}
+use Rattle.end_model.specs.Reasons.{no_secret}
 use Rattle.step_laws.proofs.Secrets.{right_of}
 use Rattle.step_laws.specs.Moves.{Came, IsRight, ComesTo, IsNext, HearsNext, TellsNr}
 use Rattle.step_laws.proofs.Lists.{branch}

@@ -6,9 +6,9 @@ use Rattle.wire_base.specs.declared.letter.Letter.{Letter}
 use Rattle.send_window.specs.Kept.{Window}
 use Rattle.send_window.specs.Window as sending
 use Rattle.control_channel.specs.Numbers.{Numbers, next_to_go}
-use Rattle.protocol_model.specs.declared.tunnel.Control.{Control}
-use Rattle.protocol_model.specs.declared.moves.Move.TheVariants as move
-use Rattle.protocol_model.specs.Turn.{Turn, with_output, with_move, has_room, place, letter_in, counts_given, counts_sent, counts_repeated, sends_letter, sends_now, lets_go, goes_by, lets_all_go, acknowledges, outstanding, acknowledged_after, settles}
+use Rattle.end_model.specs.declared.tunnel.Control.{Control}
+use Rattle.end_model.specs.declared.moves.Move.TheVariants as move
+use Rattle.end_model.specs.Turn.{Turn, with_output, with_move, has_room, place, letter_in, counts_given, counts_sent, counts_repeated, sends_letter, sends_now, lets_go, goes_by, lets_all_go, acknowledges, outstanding, acknowledged_after, settles}
 use Rattle.step_laws.proofs.Lists.{branch}
 
 -- one more letter makes no room

@@ -7,12 +7,12 @@ use Rattle.l2tp_header.specs.declared.header.Header.{Header}
 use Rattle.l2tp_header.specs.Reading.{header_of}
 use Rattle.control_message.specs.declared.message.Message.TheVariants.{Sccrq, Sccrp}
 use Rattle.control_message.specs.declared.message.Opening.{Opening}
-use Rattle.protocol_model.specs.declared.event.Addressee.TheVariants.{Opens, Stops}
-use Rattle.protocol_model.specs.declared.event.Event.{Event}
-use Rattle.protocol_model.specs.declared.event.Event.TheVariants.{Datagram}
-use Rattle.protocol_model.specs.Reading.{body_of, message_in, at_zero}
-use Rattle.protocol_model.specs.Turn.{Tunnel}
-use Rattle.protocol_model.specs.End.{End, is_known, known_as}
+use Rattle.end_model.specs.declared.event.Addressee.TheVariants.{Opens, Stops}
+use Rattle.end_model.specs.declared.event.Event.{Event}
+use Rattle.end_model.specs.declared.event.Event.TheVariants.{Datagram}
+use Rattle.end_model.specs.Reading.{body_of, message_in, at_zero}
+use Rattle.end_model.specs.Turn.{Tunnel}
+use Rattle.end_model.specs.End.{End, is_known, known_as}
 use Rattle.step_laws.specs.Causes.{WouldOpen}
 use Rattle.step_laws.specs.Opens.{opens_said}
 use Rattle.step_laws.specs.Moves.{IsAgain, IsStop, HearsNext}

@@ -17,16 +17,16 @@ use Rattle.tunnel_fsm.specs.Rows.{state_number}
 use Rattle.call_fsm.specs.declared.table.CallAction.{CallAction}
 use Rattle.call_fsm.specs.declared.table.CallAction.TheVariants as call_action
 use Rattle.call_fsm.specs.declared.table.CallEvent.TheVariants as call_event
-use Rattle.protocol_model.specs.declared.tunnel.Call.{Call}
-use Rattle.protocol_model.specs.declared.tunnel.Control.{Control}
-use Rattle.protocol_model.specs.declared.tunnel.Link.{Link}
+use Rattle.end_model.specs.declared.tunnel.Call.{Call}
+use Rattle.end_model.specs.declared.tunnel.Control.{Control}
+use Rattle.end_model.specs.declared.tunnel.Link.{Link}
 use Rattle.end_names.specs.declared.role.Role.{Role}
 use Rattle.lcp_end.specs.Laws.{Call as LcpCall, OnTick, after as lcp_after}
 use Rattle.lcp_end.specs.Steps.{is_due}
-use Rattle.protocol_model.specs.declared.event.Event.TheVariants.{Tick}
-use Rattle.protocol_model.specs.Calls.{call_row, is_set_up, is_up}
-use Rattle.protocol_model.specs.Turn.{Tunnel, Turn, turn_of, with_output, with_move, with_change, gives, has_room, counts_sent, counts_repeated, sends_letter, sends_now, lets_go, goes_by, lets_all_go, repeats, acknowledges, outstanding, acknowledged_after, settles, ends_call, end_silent, end_told, ends_by, drops, greeted, greets, links, ticks_link, limits_at, limits_all, goes_quietly, clears, is_over, patience, is_at_its_end, ticks_by, ticks, turns}
-use Rattle.protocol_model.specs.End.{End, env_of}
+use Rattle.end_model.specs.declared.event.Event.TheVariants.{Tick}
+use Rattle.end_model.specs.Calls.{call_row, is_set_up, is_up}
+use Rattle.end_model.specs.Turn.{Tunnel, Turn, turn_of, with_output, with_move, with_change, gives, has_room, counts_sent, counts_repeated, sends_letter, sends_now, lets_go, goes_by, lets_all_go, repeats, acknowledges, outstanding, acknowledged_after, settles, ends_call, end_silent, end_told, ends_by, drops, greeted, greets, links, ticks_link, limits_at, limits_all, goes_quietly, clears, is_over, patience, is_at_its_end, ticks_by, ticks, turns}
+use Rattle.end_model.specs.End.{End, env_of}
 use Rattle.step_laws.specs.Left.{FailedTunnelsGo}
 use Rattle.step_laws.specs.Failing.{IsGivenUp, HasFailed, IsNotSetUp, WasClosed, IsUnanswered}
 use Rattle.step_laws.proofs.Lists.{branch}

@@ -5,16 +5,16 @@ use Rattle.std.proofs.lemmas.Option.{none-some}
 use Rattle.std.specs.List.{AllByRecursion}
 use Rattle.id_table.specs.Ids.{at, ids_of}
 use Rattle.id_table.specs.Order.{Ascends, ascends-put, ascends-without, found_put, found_without}
-use Rattle.protocol_model.specs.declared.event.Event.TheVariants.{Tick}
-use Rattle.protocol_model.specs.declared.tunnel.Call.{Call}
+use Rattle.end_model.specs.declared.event.Event.TheVariants.{Tick}
+use Rattle.end_model.specs.declared.tunnel.Call.{Call}
 use Rattle.end_names.specs.declared.role.Role.{Role}
 use Rattle.end_names.specs.declared.role.Role.TheVariants.{Lac, Lns}
 use Rattle.call_fsm.specs.declared.table.CallState.{CallState}
 use Rattle.call_fsm.specs.declared.table.CallState.TheVariants as call
 use Rattle.call_fsm.specs.declared.table.CallEvent.TheVariants.{Close}
-use Rattle.protocol_model.specs.Calls.{call_row, is_set_up, is_told}
-use Rattle.protocol_model.specs.Turn.{Tunnel, Env, Turn, turn_of, has_room, is_clean_up, turns, tunnel_after}
-use Rattle.protocol_model.specs.End.{End, env_of, tunnels_after, after_turn, Turned, tick_of, ticks_of, end_after_all, after_all, ticks_all, step_in, plain_step}
+use Rattle.end_model.specs.Calls.{call_row, is_set_up, is_told}
+use Rattle.end_model.specs.Turn.{Tunnel, Env, Turn, turn_of, has_room, is_clean_up, turns, tunnel_after}
+use Rattle.end_model.specs.End.{End, env_of, tunnels_after, after_turn, Turned, tick_of, ticks_of, end_after_all, after_all, ticks_all, step_in, plain_step}
 use Rattle.step_laws.specs.Letters.{Among}
 use Rattle.step_laws.specs.Left.{CanBe, LateCallsEnd}
 use Rattle.step_laws.specs.Steps.{IsKept, AreKept, StepsAreChains}

@@ -7,11 +7,11 @@ use Rattle.wire_base.specs.declared.why.Why.TheVariants as why
 use Rattle.wire_base.specs.declared.letter.Letter.{Letter}
 use Rattle.call_fsm.specs.declared.table.CallEvent.TheVariants as call_event
 use Rattle.lcp_end.specs.Laws.{Call as LcpCall, OnPacket, after as lcp_after}
-use Rattle.protocol_model.specs.declared.tunnel.Call.{Call}
-use Rattle.protocol_model.specs.declared.tunnel.Link.{Link}
+use Rattle.end_model.specs.declared.tunnel.Call.{Call}
+use Rattle.end_model.specs.declared.tunnel.Link.{Link}
 use Rattle.end_names.specs.declared.role.Role.{Role}
-use Rattle.protocol_model.specs.Calls.{call_row, is_up}
-use Rattle.protocol_model.specs.Turn.{Turn, ends_by, links, hears_link, hears_lcp}
+use Rattle.end_model.specs.Calls.{call_row, is_up}
+use Rattle.end_model.specs.Turn.{Turn, ends_by, links, hears_link, hears_lcp}
 use Rattle.step_laws.proofs.Lists.{and_right, branch}
 use Rattle.step_laws.proofs.Asking.{Begins, Asked, same, settled, dropped, negotiated_asked, ends_by_asked}
 

@@ -7,18 +7,18 @@ use Rattle.wire_base.specs.declared.cause.Cause.TheVariants as cause
 use Rattle.wire_base.specs.declared.letter.Letter.{Letter}
 use Rattle.call_fsm.specs.declared.table.CallEvent.TheVariants as call_event
 use Rattle.lcp_end.specs.Laws.{Call as LcpCall, OpenLink, after}
-use Rattle.protocol_model.specs.declared.tunnel.Call.{Call}
-use Rattle.protocol_model.specs.declared.tunnel.CallPlace.{CallPlace}
-use Rattle.protocol_model.specs.declared.tunnel.CellChange.{CellChange}
-use Rattle.protocol_model.specs.declared.tunnel.Control.{Control}
-use Rattle.protocol_model.specs.declared.tunnel.Link.{Link}
-use Rattle.protocol_model.specs.declared.event.Event.{Event}
-use Rattle.protocol_model.specs.declared.moves.FrameSent.{FrameSent}
-use Rattle.protocol_model.specs.declared.moves.Move.TheVariants as move
-use Rattle.protocol_model.specs.Calls.{call_row, advanced, is_up, is_told}
-use Rattle.protocol_model.specs.Links.{lcp_frame, magic_of, new_link}
-use Rattle.protocol_model.specs.Turn.{Tunnel, Turn, with_output, with_move, with_call, with_looks_of, with_calls, with_link, link_after, is_first_open, looks_of, carried, sends_packets, negotiated, links, ends_by, settles, takes_one, with_change, second_up, connects_call, linked_up, tunnel_after}
-use Rattle.protocol_model.specs.End.{End, placed, with_look, with_looks}
+use Rattle.end_model.specs.declared.tunnel.Call.{Call}
+use Rattle.end_model.specs.declared.tunnel.CallPlace.{CallPlace}
+use Rattle.session_looks.specs.declared.look.CellChange.{CellChange}
+use Rattle.end_model.specs.declared.tunnel.Control.{Control}
+use Rattle.end_model.specs.declared.tunnel.Link.{Link}
+use Rattle.end_model.specs.declared.event.Event.{Event}
+use Rattle.end_model.specs.declared.moves.FrameSent.{FrameSent}
+use Rattle.end_model.specs.declared.moves.Move.TheVariants as move
+use Rattle.end_model.specs.Calls.{call_row, advanced, is_up, is_told}
+use Rattle.end_model.specs.Links.{lcp_frame, magic_of, new_link}
+use Rattle.end_model.specs.Turn.{Tunnel, Turn, with_output, with_move, with_call, with_looks_of, with_calls, with_link, link_after, is_first_open, looks_of, carried, sends_packets, negotiated, links, ends_by, settles, takes_one, with_change, second_up, connects_call, linked_up, tunnel_after}
+use Rattle.end_model.specs.End.{End, placed, with_look, with_looks}
 use Rattle.step_laws.specs.Letters.{Among, AFrame}
 use Rattle.step_laws.specs.Links.{IsCalled, ToOpen, Calls, WhySent, IsOfLcp}
 use Rattle.step_laws.specs.Causes.{Stands}

@@ -6,15 +6,15 @@ use Rattle.std.specs.List.{AllByRecursion, find}
 use Rattle.std.specs.Prelude.{slice_get, ◌&&◌, map}
 use Rattle.id_table.specs.Ids.{at, put, without, at-none, at-cons, ids_of}
 use Rattle.id_table.specs.Order.{Ascends, ascends-put, ascends-without, at_without_same, at_without_other, same_or_not}
-use Rattle.protocol_model.specs.declared.event.Event.{Event}
-use Rattle.protocol_model.specs.declared.tunnel.Call.{Call}
-use Rattle.protocol_model.specs.declared.tunnel.CallPlace.{CallPlace}
-use Rattle.protocol_model.specs.declared.tunnel.CellChange.{CellChange}
-use Rattle.protocol_model.specs.declared.tunnel.CellChange.TheVariants as cell
-use Rattle.protocol_model.specs.declared.tunnel.Look.{Look}
-use Rattle.protocol_model.specs.declared.moves.Move.{Move}
-use Rattle.protocol_model.specs.Turn.{changed_at, with_calls}
-use Rattle.protocol_model.specs.End.{End, new_place, placed, looked, with_look, with_looks}
+use Rattle.end_model.specs.declared.event.Event.{Event}
+use Rattle.end_model.specs.declared.tunnel.Call.{Call}
+use Rattle.end_model.specs.declared.tunnel.CallPlace.{CallPlace}
+use Rattle.session_looks.specs.declared.look.CellChange.{CellChange}
+use Rattle.session_looks.specs.declared.look.CellChange.TheVariants as cell
+use Rattle.session_looks.specs.declared.look.Look.{Look}
+use Rattle.end_model.specs.declared.moves.Move.{Move}
+use Rattle.end_model.specs.Turn.{changed_at, with_calls}
+use Rattle.end_model.specs.End.{End, new_place, placed, looked, with_look, with_looks}
 use Rattle.step_laws.specs.Letters.{Among}
 use Rattle.step_laws.specs.Moves.{Does, Chain}
 

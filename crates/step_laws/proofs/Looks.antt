@@ -11,22 +11,22 @@ use Rattle.id_table.specs.Order.{Ascends, ascends-put, ascends-empty, at_new, at
 use Rattle.call_fsm.specs.declared.table.CallEvent.TheVariants as call_event
 use Rattle.call_fsm.specs.declared.table.CallState.{CallState}
 use Rattle.call_fsm.specs.declared.table.CallState.TheVariants.{Established}
-use Rattle.protocol_model.specs.declared.tunnel.Link.{Link}
+use Rattle.end_model.specs.declared.tunnel.Link.{Link}
 use Rattle.end_names.specs.declared.role.Role.{Role}
 use Rattle.end_names.specs.declared.role.Role.TheVariants.{Lac, Lns}
-use Rattle.protocol_model.specs.declared.event.Event.{Event}
-use Rattle.protocol_model.specs.declared.moves.Move.{Move}
-use Rattle.protocol_model.specs.declared.moves.Move.TheVariants as move
-use Rattle.protocol_model.specs.declared.tunnel.Call.{Call}
-use Rattle.protocol_model.specs.declared.tunnel.CallPlace.{CallPlace}
-use Rattle.protocol_model.specs.declared.tunnel.CellChange.TheVariants as cell
-use Rattle.protocol_model.specs.declared.tunnel.Control.{Control}
-use Rattle.protocol_model.specs.declared.tunnel.Look.TheVariants as look
-use Rattle.protocol_model.specs.Calls.{call_row, advanced, rung, asked_for}
-use Rattle.protocol_model.specs.Turn.{Tunnel, with_link, link_after, is_first_open, looks_of}
+use Rattle.end_model.specs.declared.event.Event.{Event}
+use Rattle.end_model.specs.declared.moves.Move.{Move}
+use Rattle.end_model.specs.declared.moves.Move.TheVariants as move
+use Rattle.end_model.specs.declared.tunnel.Call.{Call}
+use Rattle.end_model.specs.declared.tunnel.CallPlace.{CallPlace}
+use Rattle.session_looks.specs.declared.look.CellChange.TheVariants as cell
+use Rattle.end_model.specs.declared.tunnel.Control.{Control}
+use Rattle.session_looks.specs.declared.look.Look.TheVariants as look
+use Rattle.end_model.specs.Calls.{call_row, advanced, rung, asked_for}
+use Rattle.end_model.specs.Turn.{Tunnel, with_link, link_after, is_first_open, looks_of}
 use Rattle.lcp_end.specs.Laws.{after as lcp_after}
 use Rattle.step_laws.specs.Links.{begun_link}
-use Rattle.protocol_model.specs.End.{End, with_look, with_looks}
+use Rattle.end_model.specs.End.{End, with_look, with_looks}
 use Rattle.step_laws.specs.Moves.{with_tunnel, Does, Chain}
 use Rattle.step_laws.specs.Steps.{AreKept, StepsAreChains}
 use Rattle.step_laws.proofs.States.{requested_state, replied_state, rung_state, connected_state, up_state, request_is_lac, connection_is_lac, reply_is_lns, connected_is_lns}

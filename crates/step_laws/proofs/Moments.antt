@@ -10,11 +10,11 @@ use Rattle.tunnel_fsm.specs.declared.table.TunnelState.{TunnelState}
 use Rattle.tunnel_fsm.specs.declared.table.TunnelState.TheVariants as state
 use Rattle.call_fsm.specs.declared.table.CallState.{CallState}
 use Rattle.call_fsm.specs.declared.table.CallState.TheVariants as call
-use Rattle.protocol_model.specs.declared.tunnel.Control.{Control}
+use Rattle.end_model.specs.declared.tunnel.Control.{Control}
 use Rattle.end_names.specs.declared.role.Role.{Role}
 use Rattle.end_names.specs.declared.role.Role.TheVariants.{Lac, Lns}
-use Rattle.protocol_model.specs.Calls.{is_set_up}
-use Rattle.protocol_model.specs.Turn.{is_over, patience, is_closed, kept_closed, is_being_set_up, is_at_its_end}
+use Rattle.end_model.specs.Calls.{is_set_up}
+use Rattle.end_model.specs.Turn.{is_over, patience, is_closed, kept_closed, is_being_set_up, is_at_its_end}
 use Rattle.step_laws.specs.Left.{CanBe}
 use Rattle.step_laws.specs.Failing.{IsGivenUp, HasFailed, IsNotSetUp, WasClosed, IsUnanswered}
 use Rattle.step_laws.proofs.Lists.{and_left, and_right}

@@ -7,13 +7,13 @@ use Rattle.id_source.specs.Spaces.{draws}
 use Rattle.id_source.specs.declared.IdError.{IdError}
 use Rattle.control_message.specs.declared.message.Opening.{Opening}
 use Rattle.tunnel_fsm.specs.declared.table.TunnelEvent.{TunnelEvent}
-use Rattle.protocol_model.specs.declared.event.Event.{Event}
-use Rattle.protocol_model.specs.Reasons.{no_tunnel, no_id}
-use Rattle.protocol_model.specs.Turn.{Tunnel, Reason, out_of_order, other_version, no_recovery, no_secret, is_acceptable, event_by, opening_reason}
-use Rattle.protocol_model.specs.End.{End, lacks_id, against_opening}
+use Rattle.end_model.specs.declared.event.Event.{Event}
+use Rattle.end_model.specs.Reasons.{no_tunnel, no_id}
+use Rattle.end_model.specs.Turn.{Tunnel, Reason, out_of_order, other_version, no_recovery, no_secret, is_acceptable, event_by, opening_reason}
+use Rattle.end_model.specs.End.{End, lacks_id, against_opening}
 use Rattle.step_laws.specs.Moves.{has_all_tunnels, StandsAgainst, OtherVersion, Recovers, NoTunnel, Challenges, NoId, ClosesIn, HasOtherVersion, HasRecovery, HasOtherSecret, IsUnawaited, LacksSecret, FailsSecret}
 use Rattle.step_laws.specs.Causes.{IsClosedOn, WouldOpen, IsNotAccepted, AtZero, MayOpen, IsOutOfOrder, ForPeer, FailsBySecret, AsksInVain, Stands}
-use Rattle.protocol_model.specs.Secrets.{lacks_secret}
+use Rattle.end_model.specs.Secrets.{lacks_secret}
 use Rattle.step_laws.proofs.Secrets.{lacks_so, lacks_not, fails, fails_so, fails_not, acceptable_at_first}
 
 other_than : (o : Opening) → (o.version == 256) ≡ false → o.version ≡ 256 → ⊥

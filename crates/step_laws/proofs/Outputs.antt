@@ -1,9 +1,9 @@
 -- What a move sends is in an output, and stays so among more outputs.
 use Rattle.std.proofs.Common.{ℕ, List, [], ◌∷◌, ◌++◌}
 use Rattle.std.specs.List.{AllByRecursion}
-use Rattle.protocol_model.specs.declared.out.Out.{Out}
-use Rattle.protocol_model.specs.declared.moves.Move.{Move}
-use Rattle.protocol_model.specs.declared.moves.Move.TheVariants as move
+use Rattle.end_model.specs.declared.out.Out.{Out}
+use Rattle.end_model.specs.declared.moves.Move.{Move}
+use Rattle.end_model.specs.declared.moves.Move.TheVariants as move
 use Rattle.step_laws.specs.Letters.{Among, HasOutput}
 use Rattle.step_laws.proofs.Lists.{all_map, all_push, among_left}
 use Rattle.step_laws.proofs.Turns.{NoFrame}

@@ -15,16 +15,16 @@ use Rattle.recv_window.specs.declared.Class.TheVariants.{Next}
 use Rattle.control_channel.specs.Numbers.{class_told}
 use Rattle.tunnel_fsm.specs.declared.table.TunnelState.TheVariants.{WaitCtlReply, Established}
 use Rattle.tunnel_fsm.specs.Rows.{state_number}
-use Rattle.protocol_model.specs.declared.tunnel.Call.{Call}
+use Rattle.end_model.specs.declared.tunnel.Call.{Call}
 use Rattle.end_names.specs.declared.role.Role.TheVariants.{Lac, Lns}
-use Rattle.protocol_model.specs.declared.event.Event.{Event}
-use Rattle.protocol_model.specs.declared.event.Event.TheVariants.{Datagram, Ring, Frame, Admitted, Payload, Lower, Lcp, Hang, OpenTunnel, DropCall, CloseTunnel, Tick}
-use Rattle.protocol_model.specs.declared.event.Addressee.TheVariants.{Main}
-use Rattle.protocol_model.specs.declared.moves.Move.{Move}
-use Rattle.protocol_model.specs.Reading.{body_of, message_in, at_tunnel}
-use Rattle.protocol_model.specs.Calls.{is_lac}
-use Rattle.protocol_model.specs.Turn.{Env, Turn, Tunnel, turn_of, with_move, reads_nr, hears_letter, in_tunnel, hears_control, hears_datagram, turns, may_take, counts_acked}
-use Rattle.protocol_model.specs.End.{End, Stepped, env_of, after_turn, in_main, addressed, for_addressee, least_in, rings_in, rings_at, receives, only_by, step_in, plain_step}
+use Rattle.end_model.specs.declared.event.Event.{Event}
+use Rattle.end_model.specs.declared.event.Event.TheVariants.{Datagram, Ring, Frame, Admitted, Payload, Lower, Lcp, Hang, OpenTunnel, DropCall, CloseTunnel, Tick}
+use Rattle.end_model.specs.declared.event.Addressee.TheVariants.{Main}
+use Rattle.end_model.specs.declared.moves.Move.{Move}
+use Rattle.end_model.specs.Reading.{body_of, message_in, at_tunnel}
+use Rattle.end_model.specs.Calls.{is_lac}
+use Rattle.end_model.specs.Turn.{Env, Turn, Tunnel, turn_of, with_move, reads_nr, hears_letter, in_tunnel, hears_control, hears_datagram, turns, may_take, counts_acked}
+use Rattle.end_model.specs.End.{End, Stepped, env_of, after_turn, in_main, addressed, for_addressee, least_in, rings_in, rings_at, receives, only_by, step_in, plain_step}
 use Rattle.step_laws.specs.Moves.{GrantsCall, DeniesCall, AsksItself, HasUsedId, HasAllCalls, HasNoSession}
 use Rattle.step_laws.specs.Causes.{MayBeGranted}
 use Rattle.step_laws.specs.Left.{AreSound, AreAsked}

@@ -15,13 +15,13 @@ use Rattle.tunnel_fsm.specs.declared.table.TunnelState.{TunnelState}
 use Rattle.tunnel_fsm.specs.declared.table.TunnelState.TheVariants.{WaitCtlReply, Established}
 use Rattle.tunnel_fsm.specs.Rows.{state_number}
 use Rattle.call_fsm.specs.declared.table.CallEvent.TheVariants as call_event
-use Rattle.protocol_model.specs.declared.event.Event.{Event}
+use Rattle.end_model.specs.declared.event.Event.{Event}
 use Rattle.end_names.specs.declared.role.Role.TheVariants.{Lac}
-use Rattle.protocol_model.specs.declared.event.Event.TheVariants.{Ring}
-use Rattle.protocol_model.specs.declared.out.Out.TheVariants.{Cause}
-use Rattle.protocol_model.specs.Calls.{call_row, advanced, rung, is_request, are_too_many}
-use Rattle.protocol_model.specs.Turn.{Env, Turn, Tunnel, turn_of, with_output, with_move, with_change, with_call, with_new, with_local, gives, gives_as, has_room, may_take, fresh, opened, requested, requests, adds, rings_over, rings_by, rings_within, rings_new, rings, settles, turns}
-use Rattle.protocol_model.specs.End.{End, Stepped, env_of, gives_only, after_turn, after_new, in_new, has_all_tunnels, in_one_more, in_main}
+use Rattle.end_model.specs.declared.event.Event.TheVariants.{Ring}
+use Rattle.end_model.specs.declared.out.Out.TheVariants.{Cause}
+use Rattle.end_model.specs.Calls.{call_row, advanced, rung, is_request, are_too_many}
+use Rattle.end_model.specs.Turn.{Env, Turn, Tunnel, turn_of, with_output, with_move, with_change, with_call, with_new, with_local, gives, gives_as, has_room, may_take, fresh, opened, requested, requests, adds, rings_over, rings_by, rings_within, rings_new, rings, settles, turns}
+use Rattle.end_model.specs.End.{End, Stepped, env_of, gives_only, after_turn, after_new, in_new, has_all_tunnels, in_one_more, in_main}
 use Rattle.step_laws.specs.Room.{IsLeast, HasNone, RingsNew}
 use Rattle.step_laws.specs.Steps.{AreKept}
 use Rattle.step_laws.specs.Answers.{ring_of_move, cause_of_output, RingIsAnswered, IsAsked, Waits, Opens, IsRefused}

@@ -8,10 +8,10 @@ use Rattle.std.specs.Bool.{Decides}
 use Rattle.std.specs.Prelude.{◌==◌, ◌||◌, not, is_none}
 use Rattle.control_message.specs.declared.message.Opening.{Opening}
 use Rattle.tunnel_secret.specs.Response.{response_of, is_response}
-use Rattle.protocol_model.specs.Secrets.{sixteen, challenge_by, response_by, lacks_secret, is_wrong}
-use Rattle.protocol_model.specs.declared.tunnel.Config.{Config}
-use Rattle.protocol_model.specs.Messages.{is_acceptable, request_of, hidden_by, hidden_request}
-use Rattle.protocol_model.specs.Reasons.{other_version, no_recovery, no_secret}
+use Rattle.end_model.specs.Secrets.{sixteen, challenge_by, response_by, lacks_secret, is_wrong}
+use Rattle.end_model.specs.declared.tunnel.Config.{Config}
+use Rattle.end_model.specs.Messages.{is_acceptable, request_of, hidden_by, hidden_request}
+use Rattle.end_model.specs.Reasons.{other_version, no_recovery, no_secret}
 use Rattle.step_laws.specs.Hides.{HidesNumber, InPlain, ByVector}
 use Rattle.step_laws.specs.Moves.{Asks, Responds, IsRight, LacksSecret, FailsSecret}
 

@@ -9,17 +9,17 @@ use Rattle.wire_base.specs.declared.letter.Letter.{Letter}
 use Rattle.send_window.specs.Kept.{Window}
 use Rattle.send_window.specs.Window as window
 use Rattle.control_channel.specs.Numbers.{Numbers, next_to_go, next_unsent, let_go_at}
-use Rattle.protocol_model.specs.declared.tunnel.Call.{Call}
-use Rattle.protocol_model.specs.declared.tunnel.Control.{Control}
-use Rattle.protocol_model.specs.declared.event.Event.{Event}
-use Rattle.protocol_model.specs.declared.out.Out.{Out}
-use Rattle.protocol_model.specs.declared.out.Out.TheVariants.{Send, Up, Gone, Drop, Cause}
-use Rattle.protocol_model.specs.declared.out.Origin.{Origin}
-use Rattle.protocol_model.specs.declared.moves.FrameSent.{FrameSent}
-use Rattle.protocol_model.specs.declared.moves.Move.{Move}
-use Rattle.protocol_model.specs.declared.moves.Move.TheVariants as move
-use Rattle.protocol_model.specs.Turn.{Tunnel, Turn, with_calls, with_output, with_move, place, counts_sent, letter_in, sends_letter, sends_now, lets_go, goes_by, lets_all_go, acknowledges, outstanding, acknowledged_after, settles, letters_after, tunnel_after}
-use Rattle.protocol_model.specs.End.{End}
+use Rattle.end_model.specs.declared.tunnel.Call.{Call}
+use Rattle.end_model.specs.declared.tunnel.Control.{Control}
+use Rattle.end_model.specs.declared.event.Event.{Event}
+use Rattle.end_model.specs.declared.out.Out.{Out}
+use Rattle.end_model.specs.declared.out.Out.TheVariants.{Send, Up, Gone, Drop, Cause}
+use Rattle.end_model.specs.declared.out.Origin.{Origin}
+use Rattle.end_model.specs.declared.moves.FrameSent.{FrameSent}
+use Rattle.end_model.specs.declared.moves.Move.{Move}
+use Rattle.end_model.specs.declared.moves.Move.TheVariants as move
+use Rattle.end_model.specs.Turn.{Tunnel, Turn, with_calls, with_output, with_move, place, counts_sent, letter_in, sends_letter, sends_now, lets_go, goes_by, lets_all_go, acknowledges, outstanding, acknowledged_after, settles, letters_after, tunnel_after}
+use Rattle.end_model.specs.End.{End}
 use Rattle.step_laws.specs.Letters.{Among, Carries, ALetter, Nothing, AFrame, HasOutput}
 use Rattle.step_laws.specs.Moves.{Chain}
 use Rattle.step_laws.proofs.Lists.{all_push, all_map, among_left, got_still, and_left, branch, chain_more}

@@ -13,16 +13,16 @@ use Rattle.tunnel_fsm.specs.declared.table.TunnelState.TheVariants as state
 use Rattle.tunnel_fsm.specs.declared.table.TunnelEvent.{TunnelEvent}
 use Rattle.tunnel_fsm.specs.declared.table.TunnelAction.TheVariants as action
 use Rattle.tunnel_fsm.specs.Rows.{rows, row_of, state_number}
-use Rattle.protocol_model.specs.declared.tunnel.Call.{Call}
-use Rattle.protocol_model.specs.declared.tunnel.CallPlace.{CallPlace}
-use Rattle.protocol_model.specs.declared.tunnel.CellChange.{CellChange}
-use Rattle.protocol_model.specs.declared.tunnel.CellChange.TheVariants as cell
-use Rattle.protocol_model.specs.declared.event.Event.{Event}
-use Rattle.protocol_model.specs.declared.out.Out.TheVariants.{Gone, Cause}
-use Rattle.protocol_model.specs.declared.moves.Closed.{Closed}
-use Rattle.protocol_model.specs.declared.moves.Move.TheVariants as move
-use Rattle.protocol_model.specs.Turn.{may_take, rejected, rejects, Tunnel, Turn, Reason, is_closed, with_output, with_move, with_change, with_calls, ends_call, ends_all, gives, takes_one, next_place, taken_place, has_room, letter_of, tunnel_after, counts_taken, shut, shuts, closed_told, closes_tunnel, closed_by}
-use Rattle.protocol_model.specs.End.{End, placed, with_looks, with_look}
+use Rattle.end_model.specs.declared.tunnel.Call.{Call}
+use Rattle.end_model.specs.declared.tunnel.CallPlace.{CallPlace}
+use Rattle.session_looks.specs.declared.look.CellChange.{CellChange}
+use Rattle.session_looks.specs.declared.look.CellChange.TheVariants as cell
+use Rattle.end_model.specs.declared.event.Event.{Event}
+use Rattle.end_model.specs.declared.out.Out.TheVariants.{Gone, Cause}
+use Rattle.end_model.specs.declared.moves.Closed.{Closed}
+use Rattle.end_model.specs.declared.moves.Move.TheVariants as move
+use Rattle.end_model.specs.Turn.{may_take, rejected, rejects, Tunnel, Turn, Reason, is_closed, with_output, with_move, with_change, with_calls, ends_call, ends_all, gives, takes_one, next_place, taken_place, has_room, letter_of, tunnel_after, counts_taken, shut, shuts, closed_told, closes_tunnel, closed_by}
+use Rattle.end_model.specs.End.{End, placed, with_looks, with_look}
 use Rattle.step_laws.specs.Causes.{Stands}
 use Rattle.step_laws.specs.Moves.{Came, IsNext, LetterCloses, WhyCloses, SaysStop}
 use Rattle.step_laws.proofs.Lists.{all_push, all_append, branch, chain_more}

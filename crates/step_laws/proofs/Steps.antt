@@ -15,23 +15,24 @@ use Rattle.l2tp_header.specs.declared.header.HeaderError.{HeaderError}
 use Rattle.l2tp_header.specs.Reading.{header_of}
 use Rattle.tunnel_fsm.specs.declared.table.TunnelState.TheVariants.{WaitCtlReply, Established}
 use Rattle.tunnel_fsm.specs.Rows.{state_number}
-use Rattle.protocol_model.specs.declared.tunnel.CallPlace.{CallPlace}
-use Rattle.protocol_model.specs.declared.tunnel.Look.{Look}
-use Rattle.protocol_model.specs.declared.tunnel.Look.TheVariants as look
+use Rattle.end_model.specs.declared.tunnel.CallPlace.{CallPlace}
+use Rattle.session_looks.specs.declared.look.Look.{Look}
+use Rattle.session_looks.specs.declared.look.Look.TheVariants as look
 use Rattle.end_names.specs.declared.role.Role.{Role}
 use Rattle.end_names.specs.declared.role.Role.TheVariants.{Lac, Lns}
-use Rattle.protocol_model.specs.declared.event.Addressee.{Addressee}
-use Rattle.protocol_model.specs.declared.event.Addressee.TheVariants.{Opens, Stops, Answers, Main, Nobody}
-use Rattle.protocol_model.specs.declared.event.Event.{Event}
-use Rattle.protocol_model.specs.declared.event.Event.TheVariants.{Datagram, Ring, Payload, Lower, Lcp, Hang, OpenTunnel, DropCall, CloseTunnel, Tick, Admitted, Frame}
-use Rattle.protocol_model.specs.declared.out.Out.{Out}
-use Rattle.protocol_model.specs.declared.out.Out.TheVariants.{Up, Drop, Cause}
-use Rattle.protocol_model.specs.declared.moves.Move.{Move}
-use Rattle.protocol_model.specs.declared.moves.Move.TheVariants as move
-use Rattle.protocol_model.specs.Reading.{header_why, body_of, at_zero, at_tunnel}
-use Rattle.protocol_model.specs.Calls.{is_lac, frame_of, is_lcp, is_for_lcp, lns_side, side_of, Carried, Upward, Dropped, carry_known, carry_look}
-use Rattle.protocol_model.specs.Turn.{Tunnel, Env, turns}
-use Rattle.protocol_model.specs.End.{End, Stepped, env_of, in_new, in_one_more, in_main, is_known, known_as, opened_before, stopped_at, opens_once, addressed, for_addressee, least_in, rings_in, rings_at, for_call, look_in, behind, then_heard, handed, hands_up, receives, only_by, step_in, plain_step}
+use Rattle.end_model.specs.declared.event.Addressee.{Addressee}
+use Rattle.end_model.specs.declared.event.Addressee.TheVariants.{Opens, Stops, Answers, Main, Nobody}
+use Rattle.end_model.specs.declared.event.Event.{Event}
+use Rattle.end_model.specs.declared.event.Event.TheVariants.{Datagram, Ring, Payload, Lower, Lcp, Hang, OpenTunnel, DropCall, CloseTunnel, Tick, Admitted, Frame}
+use Rattle.end_model.specs.declared.out.Out.{Out}
+use Rattle.end_model.specs.declared.out.Out.TheVariants.{Up, Drop, Cause}
+use Rattle.end_model.specs.declared.moves.Move.{Move}
+use Rattle.end_model.specs.declared.moves.Move.TheVariants as move
+use Rattle.end_model.specs.Reading.{header_why, body_of, at_zero, at_tunnel}
+use Rattle.session_looks.specs.Frames.{frame_of, is_lcp, is_for_lcp, lns_side, side_of, Carried, Upward, Dropped, carry_known, carry_look}
+use Rattle.end_model.specs.Calls.{is_lac}
+use Rattle.end_model.specs.Turn.{Tunnel, Env, turns}
+use Rattle.end_model.specs.End.{End, Stepped, env_of, in_new, in_one_more, in_main, is_known, known_as, opened_before, stopped_at, opens_once, addressed, for_addressee, least_in, rings_in, rings_at, for_call, look_in, behind, then_heard, handed, hands_up, receives, only_by, step_in, plain_step}
 use Rattle.step_laws.specs.Links.{HearsFrame, HearsLcp, Passes, AsAll, AsLcp}
 use Rattle.step_laws.specs.Letters.{HasOutput}
 use Rattle.step_laws.specs.Moves.{has_all_tunnels, Does}

@@ -15,14 +15,14 @@ use Rattle.tunnel_fsm.specs.declared.table.TunnelEvent.TheVariants as event
 use Rattle.tunnel_fsm.specs.declared.table.TunnelAction.{TunnelAction}
 use Rattle.tunnel_fsm.specs.declared.table.TunnelAction.TheVariants as action
 use Rattle.tunnel_fsm.specs.Rows.{rows, row_of, state_number}
-use Rattle.protocol_model.specs.declared.tunnel.Call.{Call}
-use Rattle.protocol_model.specs.declared.tunnel.Control.{Control}
-use Rattle.protocol_model.specs.declared.event.Event.{Event}
-use Rattle.protocol_model.specs.Reading.{message_in, CallFault, call_fault_in, TunnelFault, tunnel_fault_in}
-use Rattle.protocol_model.specs.Turn.{Tunnel, Turn, Reason, is_closed, is_acceptable, event_by, opening_reason, out_of_order, fault_reason, with_output, with_move, gives, shuts, has_room, tunnel_after, closed_told, takes_plain, closes_tunnel, takes_by, takes, hears_faulty}
-use Rattle.protocol_model.specs.End.{End}
-use Rattle.protocol_model.specs.Secrets.{is_wrong}
-use Rattle.protocol_model.specs.Reasons.{no_secret}
+use Rattle.end_model.specs.declared.tunnel.Call.{Call}
+use Rattle.end_model.specs.declared.tunnel.Control.{Control}
+use Rattle.end_model.specs.declared.event.Event.{Event}
+use Rattle.end_model.specs.Reading.{message_in, CallFault, call_fault_in, TunnelFault, tunnel_fault_in}
+use Rattle.end_model.specs.Turn.{Tunnel, Turn, Reason, is_closed, is_acceptable, event_by, opening_reason, out_of_order, fault_reason, with_output, with_move, gives, shuts, has_room, tunnel_after, closed_told, takes_plain, closes_tunnel, takes_by, takes, hears_faulty}
+use Rattle.end_model.specs.End.{End}
+use Rattle.end_model.specs.Secrets.{is_wrong}
+use Rattle.end_model.specs.Reasons.{no_secret}
 use Rattle.step_laws.specs.Causes.{IsClosedOn, InSccrq, InSccrp, AnSccrq, AnSccrp, AnScccn, AsksInVain, AnswersWrongly, Stands}
 use Rattle.step_laws.proofs.Secrets.{right_of, wrong_of, right_if_unasked}
 use Rattle.step_laws.specs.Moves.{Came, IsNext, LetterCloses, ByLetter, HearsNext, IsPlain, SaysStop, BySccrq, BySccrp, ByScccn, ByFault, WronglyConnected, ComesUnawaited}

@@ -23,14 +23,14 @@ use Rattle.control_message.specs.declared.message.MessageError.TheVariants.{NoTy
 use Rattle.control_message.specs.Reading.{message_of, kind_of_pairs, plain_short}
 use Rattle.call_fsm.specs.declared.table.CallEvent.TheVariants as call_event
 use Rattle.call_fsm.specs.declared.table.CallState.TheVariants as call
-use Rattle.protocol_model.specs.declared.event.Event.{Event}
-use Rattle.protocol_model.specs.declared.tunnel.Call.{Call}
-use Rattle.protocol_model.specs.declared.out.Out.{Out}
-use Rattle.protocol_model.specs.declared.out.Out.TheVariants.{Send, Up, Gone, Drop, Cause}
-use Rattle.protocol_model.specs.Reading.{header_why, message_read, pairs_read, message_in, CallFault, fault_cause, is_for_call, with_cause, fault_of_kind, fault_read, fault_of_pairs, call_fault_in}
-use Rattle.protocol_model.specs.Calls.{call_row, is_reply, are_too_many}
-use Rattle.protocol_model.specs.Turn.{Tunnel, Reason, reason, out_of_state, call_of, left_of, granted}
-use Rattle.protocol_model.specs.End.{End}
+use Rattle.end_model.specs.declared.event.Event.{Event}
+use Rattle.end_model.specs.declared.tunnel.Call.{Call}
+use Rattle.end_model.specs.declared.out.Out.{Out}
+use Rattle.end_model.specs.declared.out.Out.TheVariants.{Send, Up, Gone, Drop, Cause}
+use Rattle.end_model.specs.Reading.{header_why, message_read, pairs_read, message_in, CallFault, fault_cause, is_for_call, with_cause, fault_of_kind, fault_read, fault_of_pairs, call_fault_in}
+use Rattle.end_model.specs.Calls.{call_row, is_reply, are_too_many}
+use Rattle.end_model.specs.Turn.{Tunnel, Reason, reason, out_of_state, call_of, left_of, granted}
+use Rattle.end_model.specs.End.{End}
 use Rattle.step_laws.specs.Letters.{Among}
 use Rattle.step_laws.specs.Room.{IsFull}
 use Rattle.step_laws.specs.Moves.{IsIdInUse}

@@ -16,14 +16,14 @@ use Rattle.send_window.specs.Window as sending
 use Rattle.control_channel.specs.Numbers.{Numbers, next_to_go, answer_to_tick, ticked_at}
 use Rattle.tunnel_fsm.specs.Rows.{state_number}
 use Rattle.call_fsm.specs.declared.table.CallEvent.TheVariants as call_event
-use Rattle.protocol_model.specs.declared.tunnel.Call.{Call}
-use Rattle.protocol_model.specs.declared.tunnel.Control.{Control}
-use Rattle.protocol_model.specs.declared.tunnel.Link.{Link}
-use Rattle.protocol_model.specs.declared.event.Event.TheVariants.{Tick}
-use Rattle.protocol_model.specs.declared.moves.Move.TheVariants as move
-use Rattle.protocol_model.specs.Calls.{call_row, is_set_up, is_up}
-use Rattle.protocol_model.specs.Turn.{Tunnel, Turn, with_output, with_move, with_calls, has_room, gives, place, next_place, letter_of, letter_in, letters_after, counts_given, counts_sent, counts_repeated, sends_letter, sends_now, lets_go, goes_by, lets_all_go, repeats, acknowledges, outstanding, acknowledged_after, settles, tunnel_after, is_over, patience, greeted, greets, ends_by, links, ticks_link, limits_at, limits_all, goes_quietly}
-use Rattle.protocol_model.specs.End.{drawing_of, End}
+use Rattle.end_model.specs.declared.tunnel.Call.{Call}
+use Rattle.end_model.specs.declared.tunnel.Control.{Control}
+use Rattle.end_model.specs.declared.tunnel.Link.{Link}
+use Rattle.end_model.specs.declared.event.Event.TheVariants.{Tick}
+use Rattle.end_model.specs.declared.moves.Move.TheVariants as move
+use Rattle.end_model.specs.Calls.{call_row, is_set_up, is_up}
+use Rattle.end_model.specs.Turn.{Tunnel, Turn, with_output, with_move, with_calls, has_room, gives, place, next_place, letter_of, letter_in, letters_after, counts_given, counts_sent, counts_repeated, sends_letter, sends_now, lets_go, goes_by, lets_all_go, repeats, acknowledges, outstanding, acknowledged_after, settles, tunnel_after, is_over, patience, greeted, greets, ends_by, links, ticks_link, limits_at, limits_all, goes_quietly}
+use Rattle.end_model.specs.End.{drawing_of, End}
 use Rattle.step_laws.specs.Moves.{TookTooLong, IsLate}
 use Rattle.step_laws.proofs.Lists.{all_push, and_left, and_right, branch, chain_more}
 use Rattle.step_laws.proofs.Moments.{passed, not_up}

@@ -11,20 +11,21 @@ use Rattle.l2tp_header.specs.declared.header.Header.{Header}
 use Rattle.l2tp_header.specs.declared.header.HeaderError.{HeaderError}
 use Rattle.l2tp_header.specs.Reading.{header_of}
 use Rattle.tunnel_fsm.specs.declared.table.TunnelState.TheVariants.{WaitCtlReply, Established}
-use Rattle.protocol_model.specs.declared.tunnel.CallPlace.{CallPlace}
+use Rattle.end_model.specs.declared.tunnel.CallPlace.{CallPlace}
 use Rattle.end_names.specs.declared.role.Role.TheVariants.{Lac, Lns}
-use Rattle.protocol_model.specs.declared.event.Addressee.{Addressee}
-use Rattle.protocol_model.specs.declared.event.Addressee.TheVariants.{Opens, Stops, Answers, Main, Nobody}
-use Rattle.protocol_model.specs.declared.event.Event.{Event}
+use Rattle.end_model.specs.declared.event.Addressee.{Addressee}
+use Rattle.end_model.specs.declared.event.Addressee.TheVariants.{Opens, Stops, Answers, Main, Nobody}
+use Rattle.end_model.specs.declared.event.Event.{Event}
 use Rattle.wire_base.specs.declared.letter.Side.{Side}
 use Rattle.wire_base.specs.declared.letter.Side.TheVariants as side
-use Rattle.protocol_model.specs.declared.event.Event.TheVariants.{Datagram, Ring, Payload, Lower, Lcp, Hang, OpenTunnel, DropCall, CloseTunnel, Tick, Admitted, Frame}
-use Rattle.protocol_model.specs.declared.out.Out.{Out}
-use Rattle.protocol_model.specs.declared.out.Out.TheVariants.{Up, Drop, Cause}
-use Rattle.protocol_model.specs.Reading.{header_why, body_of}
-use Rattle.protocol_model.specs.Calls.{is_lac, Carried, Upward, Dropped}
-use Rattle.protocol_model.specs.Turn.{Tunnel, Env, Reason, out_of_order, turn_of, fresh, turns}
-use Rattle.protocol_model.specs.End.{End, Stepped, env_of, gives_only, after_turn, after_new, in_new, has_all_tunnels, in_one_more, in_main, addressed, against_body, next_of_peer, declined, opens_or_declines, for_addressee, least_in, rings_in, rings_at, for_call, then_heard, handed, hands_up, receives, Turned, tick_of, ticks_of, after_all, ticks_all, only_by, step_in, plain_step}
+use Rattle.end_model.specs.declared.event.Event.TheVariants.{Datagram, Ring, Payload, Lower, Lcp, Hang, OpenTunnel, DropCall, CloseTunnel, Tick, Admitted, Frame}
+use Rattle.end_model.specs.declared.out.Out.{Out}
+use Rattle.end_model.specs.declared.out.Out.TheVariants.{Up, Drop, Cause}
+use Rattle.end_model.specs.Reading.{header_why, body_of}
+use Rattle.session_looks.specs.Frames.{Carried, Upward, Dropped}
+use Rattle.end_model.specs.Calls.{is_lac}
+use Rattle.end_model.specs.Turn.{Tunnel, Env, Reason, out_of_order, turn_of, fresh, turns}
+use Rattle.end_model.specs.End.{End, Stepped, env_of, gives_only, after_turn, after_new, in_new, has_all_tunnels, in_one_more, in_main, addressed, against_body, next_of_peer, declined, opens_or_declines, for_addressee, least_in, rings_in, rings_at, for_call, then_heard, handed, hands_up, receives, Turned, tick_of, ticks_of, after_all, ticks_all, only_by, step_in, plain_step}
 use Rattle.step_laws.specs.Ups.{ups_of_output, ups_of_move, births_of_move, reads_of_move, most_ups, most_births, most_reads, UpsAreMoves, UpsAreFew, BirthsAreFew, ReadsAreFew}
 use Rattle.step_laws.proofs.Lists.{branch}
 use Rattle.step_laws.proofs.Quiet.{AreQuiet, nothing, turns_quiet, both_quiet}

@@ -14,25 +14,26 @@ use Rattle.l2tp_header.specs.Reading.{header_of}
 use Rattle.tunnel_fsm.specs.declared.table.TunnelState.TheVariants.{WaitCtlReply, Established}
 use Rattle.tunnel_fsm.specs.declared.table.TunnelEvent.TheVariants as tunnel_event
 use Rattle.tunnel_fsm.specs.Rows.{rows, row_of, state_number}
-use Rattle.protocol_model.specs.declared.tunnel.Call.{Call}
-use Rattle.protocol_model.specs.declared.tunnel.CallPlace.{CallPlace}
+use Rattle.end_model.specs.declared.tunnel.Call.{Call}
+use Rattle.end_model.specs.declared.tunnel.CallPlace.{CallPlace}
 use Rattle.end_names.specs.declared.role.Role.{Role}
 use Rattle.end_names.specs.declared.role.Role.TheVariants.{Lac, Lns}
 use Rattle.wire_base.specs.declared.cause.Cause.TheVariants as cause
 use Rattle.call_fsm.specs.declared.table.CallState.TheVariants.{WaitTunnel}
 use Rattle.call_fsm.specs.declared.table.CallEvent.TheVariants as call_event
-use Rattle.protocol_model.specs.declared.event.Addressee.{Addressee}
-use Rattle.protocol_model.specs.declared.event.Addressee.TheVariants.{Opens, Stops, Answers, Main, Nobody}
-use Rattle.protocol_model.specs.declared.event.Event.{Event}
+use Rattle.end_model.specs.declared.event.Addressee.{Addressee}
+use Rattle.end_model.specs.declared.event.Addressee.TheVariants.{Opens, Stops, Answers, Main, Nobody}
+use Rattle.end_model.specs.declared.event.Event.{Event}
 use Rattle.wire_base.specs.declared.letter.Side.{Side}
 use Rattle.wire_base.specs.declared.letter.Side.TheVariants as side
-use Rattle.protocol_model.specs.declared.event.Event.TheVariants.{Datagram, Ring, Payload, Lower, Lcp, Hang, OpenTunnel, DropCall, CloseTunnel, Tick, Admitted, Frame}
-use Rattle.protocol_model.specs.declared.out.Out.{Out}
-use Rattle.protocol_model.specs.declared.out.Out.TheVariants.{Cause as Refused}
-use Rattle.protocol_model.specs.Reading.{body_of}
-use Rattle.protocol_model.specs.Calls.{call_row, is_lac, Carried, Upward, Dropped}
-use Rattle.protocol_model.specs.Turn.{Tunnel, Env, Turn, Reason, out_of_order, turn_of, with_calls, fresh, has_room, turns, tunnel_after}
-use Rattle.protocol_model.specs.End.{End, Stepped, env_of, gives_only, after_turn, after_new, in_new, has_all_tunnels, in_one_more, in_main, addressed, against_body, next_of_peer, declined, opens_or_declines, for_addressee, least_in, rings_in, rings_at, for_call, then_heard, handed, hands_up, receives, only_by, step_in, plain_step}
+use Rattle.end_model.specs.declared.event.Event.TheVariants.{Datagram, Ring, Payload, Lower, Lcp, Hang, OpenTunnel, DropCall, CloseTunnel, Tick, Admitted, Frame}
+use Rattle.end_model.specs.declared.out.Out.{Out}
+use Rattle.end_model.specs.declared.out.Out.TheVariants.{Cause as Refused}
+use Rattle.end_model.specs.Reading.{body_of}
+use Rattle.session_looks.specs.Frames.{Carried, Upward, Dropped}
+use Rattle.end_model.specs.Calls.{call_row, is_lac}
+use Rattle.end_model.specs.Turn.{Tunnel, Env, Turn, Reason, out_of_order, turn_of, with_calls, fresh, has_room, turns, tunnel_after}
+use Rattle.end_model.specs.End.{End, Stepped, env_of, gives_only, after_turn, after_new, in_new, has_all_tunnels, in_one_more, in_main, addressed, against_body, next_of_peer, declined, opens_or_declines, for_addressee, least_in, rings_in, rings_at, for_call, then_heard, handed, hands_up, receives, only_by, step_in, plain_step}
 use Rattle.step_laws.specs.Left.{CanBe, CallsAreAsked}
 use Rattle.step_laws.specs.Steps.{AreKept, StepsAreChains}
 use Rattle.step_laws.proofs.Lists.{branch}

@@ -16,9 +16,9 @@ use Rattle.control_message.specs.declared.message.Read.{Read}
 use Rattle.control_message.specs.declared.message.Read.TheVariants.{Known, Ignored}
 use Rattle.control_message.specs.declared.message.MessageError.{MessageError}
 use Rattle.control_message.specs.Reading.{message_of, kind_of_pairs, plain_short}
-use Rattle.protocol_model.specs.declared.event.Addressee.{Addressee}
-use Rattle.protocol_model.specs.declared.event.Addressee.TheVariants.{Opens, Stops, Answers, Main, Nobody}
-use Rattle.protocol_model.specs.Reading.{message_read, pairs_read, message_in, TunnelFault, tunnel_fault_read, tunnel_fault_of_pairs, tunnel_fault_in, stopped, told_or_none, zero_faulty, zero_read, zero_pairs, at_zero}
+use Rattle.end_model.specs.declared.event.Addressee.{Addressee}
+use Rattle.end_model.specs.declared.event.Addressee.TheVariants.{Opens, Stops, Answers, Main, Nobody}
+use Rattle.end_model.specs.Reading.{message_read, pairs_read, message_in, TunnelFault, tunnel_fault_read, tunnel_fault_of_pairs, tunnel_fault_in, stopped, told_or_none, zero_faulty, zero_read, zero_pairs, at_zero}
 use Rattle.step_laws.proofs.Lists.{branch}
 use Rattle.step_laws.proofs.Assigned.{message_assigns, inner_fault}
 use Rattle.step_laws.proofs.Faults.{IsOfOpening, of_opening}

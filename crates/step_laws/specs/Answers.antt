@@ -13,24 +13,24 @@ use Rattle.control_message.specs.declared.kind.Kind.TheVariants as kind
 use Rattle.control_message.specs.Reading.{kind_of_pairs}
 use Rattle.tunnel_fsm.specs.declared.table.TunnelState.TheVariants.{WaitCtlReply, Established}
 use Rattle.tunnel_fsm.specs.Rows.{state_number}
-use Rattle.protocol_model.specs.declared.tunnel.Call.{Call}
+use Rattle.end_model.specs.declared.tunnel.Call.{Call}
 use Rattle.end_names.specs.declared.role.Role.TheVariants.{Lac}
-use Rattle.protocol_model.specs.declared.event.Event.{Event}
-use Rattle.protocol_model.specs.declared.event.Event.TheVariants.{Ring}
-use Rattle.protocol_model.specs.declared.out.Out.{Out}
-use Rattle.protocol_model.specs.declared.out.Out.TheVariants.{Cause}
-use Rattle.protocol_model.specs.declared.moves.Opened.{Opened}
-use Rattle.protocol_model.specs.declared.moves.Added.{Added}
-use Rattle.protocol_model.specs.declared.moves.Requested.{Requested}
-use Rattle.protocol_model.specs.declared.moves.Replied.{Replied}
-use Rattle.protocol_model.specs.declared.moves.Refused.{Refused}
-use Rattle.protocol_model.specs.declared.moves.EndTold.{EndTold}
-use Rattle.protocol_model.specs.declared.moves.Closed.{Closed}
-use Rattle.protocol_model.specs.declared.moves.Move.{Move}
-use Rattle.protocol_model.specs.declared.moves.Move.TheVariants as move
-use Rattle.protocol_model.specs.Reading.{body_of, message_in, CallFault, call_fault_in, TunnelFault, tunnel_fault_in}
-use Rattle.protocol_model.specs.Turn.{Tunnel, counts_acked, fault_error}
-use Rattle.protocol_model.specs.End.{End, Stepped, plain_step}
+use Rattle.end_model.specs.declared.event.Event.{Event}
+use Rattle.end_model.specs.declared.event.Event.TheVariants.{Ring}
+use Rattle.end_model.specs.declared.out.Out.{Out}
+use Rattle.end_model.specs.declared.out.Out.TheVariants.{Cause}
+use Rattle.end_model.specs.declared.moves.Opened.{Opened}
+use Rattle.end_model.specs.declared.moves.Added.{Added}
+use Rattle.end_model.specs.declared.moves.Requested.{Requested}
+use Rattle.end_model.specs.declared.moves.Replied.{Replied}
+use Rattle.end_model.specs.declared.moves.Refused.{Refused}
+use Rattle.end_model.specs.declared.moves.EndTold.{EndTold}
+use Rattle.end_model.specs.declared.moves.Closed.{Closed}
+use Rattle.end_model.specs.declared.moves.Move.{Move}
+use Rattle.end_model.specs.declared.moves.Move.TheVariants as move
+use Rattle.end_model.specs.Reading.{body_of, message_in, CallFault, call_fault_in, TunnelFault, tunnel_fault_in}
+use Rattle.end_model.specs.Turn.{Tunnel, counts_acked, fault_error}
+use Rattle.end_model.specs.End.{End, Stepped, plain_step}
 use Rattle.step_laws.specs.Moves.{may_take, Came, IsNext, GrantsCall, DeniesCall}
 use Rattle.step_laws.specs.Causes.{MayBeGranted}
 use Rattle.step_laws.specs.Room.{IsLeast, HasNone, RingsNew}

@@ -5,13 +5,13 @@ use Rattle.l2tp_header.specs.Reading.{header_of}
 use Rattle.control_message.specs.declared.message.Message.{Message}
 use Rattle.recv_window.specs.declared.Class.TheVariants.{Next}
 use Rattle.recv_window.specs.Window.{class_of}
-use Rattle.protocol_model.specs.declared.tunnel.Control.{Control}
-use Rattle.protocol_model.specs.declared.event.Event.{Event}
-use Rattle.protocol_model.specs.declared.event.Event.TheVariants.{Datagram}
-use Rattle.protocol_model.specs.declared.event.Addressee.TheVariants.{Stops}
-use Rattle.protocol_model.specs.declared.event.Addressee.TheVariants as addressee
-use Rattle.protocol_model.specs.Reading.{body_of, message_in, CallFault, call_fault_in, at_zero}
-use Rattle.protocol_model.specs.Turn.{Tunnel}
+use Rattle.end_model.specs.declared.tunnel.Control.{Control}
+use Rattle.end_model.specs.declared.event.Event.{Event}
+use Rattle.end_model.specs.declared.event.Event.TheVariants.{Datagram}
+use Rattle.end_model.specs.declared.event.Addressee.TheVariants.{Stops}
+use Rattle.end_model.specs.declared.event.Addressee.TheVariants as addressee
+use Rattle.end_model.specs.Reading.{body_of, message_in, CallFault, call_fault_in, at_zero}
+use Rattle.end_model.specs.Turn.{Tunnel}
 
 -- a control message as an end has it: who sent it, its header, and what follows the header
 pub record Came : Type 0 where

@@ -1,7 +1,7 @@
 -- Who wants a call at a LAC.
 use Rattle.std.specs.Prelude.{◌≡◌, ℕ, List, Option, Some, None}
-use Rattle.protocol_model.specs.declared.event.Event.{Event}
-use Rattle.protocol_model.specs.declared.event.Event.TheVariants.{Ring, Admitted}
+use Rattle.end_model.specs.declared.event.Event.{Event}
+use Rattle.end_model.specs.declared.event.Event.TheVariants.{Ring, Admitted}
 use Rattle.end_names.specs.Names.{subscriber}
 
 -- the subscriber of a port that rings, and a host that was admitted

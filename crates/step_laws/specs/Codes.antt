@@ -6,17 +6,17 @@ use Rattle.wire_base.specs.declared.cause.Cause.TheVariants as cause
 use Rattle.wire_base.specs.declared.why.Why.{Why}
 use Rattle.control_message.specs.declared.message.Message.{Message}
 use Rattle.call_fsm.specs.declared.table.CallEvent.{CallEvent}
-use Rattle.protocol_model.specs.declared.event.Event.{Event}
-use Rattle.protocol_model.specs.declared.moves.Refused.{Refused}
-use Rattle.protocol_model.specs.declared.tunnel.Call.{Call}
-use Rattle.protocol_model.specs.Reading.{CallFault}
-use Rattle.protocol_model.specs.declared.tunnel.Control.{Control}
-use Rattle.protocol_model.specs.Turn.{Tunnel, fault_error}
-use Rattle.protocol_model.specs.End.{End}
+use Rattle.end_model.specs.declared.event.Event.{Event}
+use Rattle.end_model.specs.declared.moves.Refused.{Refused}
+use Rattle.end_model.specs.declared.tunnel.Call.{Call}
+use Rattle.end_model.specs.Reading.{CallFault}
+use Rattle.end_model.specs.declared.tunnel.Control.{Control}
+use Rattle.end_model.specs.Turn.{Tunnel, fault_error}
+use Rattle.end_model.specs.End.{End}
 use Rattle.control_message.specs.declared.message.Opening.{Opening}
 use Rattle.tunnel_fsm.specs.declared.table.TunnelEvent.{TunnelEvent}
-use Rattle.protocol_model.specs.declared.moves.Closed.{Closed}
-use Rattle.protocol_model.specs.declared.moves.Declined.{Declined}
+use Rattle.end_model.specs.declared.moves.Closed.{Closed}
+use Rattle.end_model.specs.declared.moves.Declined.{Declined}
 use Rattle.step_laws.specs.Moves.{Came, DeniesCall, AsksItself, HasUsedId, HasAllCalls, HasNoSession, StandsAgainst, OtherVersion, Recovers, NoTunnel, Challenges, NoId, ClosesIn, HasOtherVersion, HasRecovery, HasOtherSecret, ClosesConnected, WronglyConnected, ComesUnawaited, IsUnawaited, WhyDeclined, AnOpening, AFaultyOpening, AnAnswer, LetterCloses, WhyCloses, ByOperator, ByLetter, BySccrq, BySccrp, ByScccn, ByFault, WhyEnds, IsLate, IsDropped, IsHungUp, IsFinished, IsAsked, IsReplied, IsConnected, HasFault, WhyRefused, IsNotGranted, IsOutgoing, IsReplyToNone, IsWrong}
 
 -- 16 bits each

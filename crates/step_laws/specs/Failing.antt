@@ -3,7 +3,7 @@ use Rattle.std.specs.Prelude.{◌≡◌, ◌⊎◌, ℕ, ◌+◌, ◌<◌, ◌�
 use Rattle.control_channel.specs.Numbers.{Numbers}
 use Rattle.tunnel_fsm.specs.declared.table.TunnelState.TheVariants as state
 use Rattle.tunnel_fsm.specs.declared.table.TunnelState.TheVariants.{WaitCtlReply, WaitCtlConn}
-use Rattle.protocol_model.specs.declared.tunnel.Control.{Control}
+use Rattle.end_model.specs.declared.tunnel.Control.{Control}
 
 -- the oldest letter that isn't acknowledged was repeated five times, the last time 8 seconds ago or more
 pub record IsGivenUp (moment : ℕ) (n : Numbers) : Type 0 where

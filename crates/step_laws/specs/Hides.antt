@@ -3,8 +3,8 @@ use Rattle.std.specs.Prelude.{◌≡◌, ℕ, true, List, ◌∷◌, ◌++◌, l
 use Rattle.md5.specs.Md5.{md5}
 use Rattle.avp_codec.specs.Spelling.{spelling}
 use Rattle.control_message.specs.Pairs.{pairs_with}
-use Rattle.protocol_model.specs.declared.tunnel.Config.{Config}
-use Rattle.protocol_model.specs.Messages.{request_of}
+use Rattle.end_model.specs.declared.tunnel.Config.{Config}
+use Rattle.end_model.specs.Messages.{request_of}
 
 -- ---- secrets (RFC 2661 sections 4.4.3 and 5.1.1)
 

@@ -24,16 +24,16 @@ use Rattle.pppoe_discovery.specs.Replies.{pads}
 use Rattle.pppoe_wire.specs.Spelling.{frame_bytes}
 use Rattle.pppoe_session.specs.declared.Subscriber.{Subscriber}
 use Rattle.step_laws.specs.Letters.{Among}
-use Rattle.protocol_model.specs.declared.event.Event.{Event}
-use Rattle.protocol_model.specs.declared.event.Event.TheVariants.{Payload, Hang, Admitted}
-use Rattle.protocol_model.specs.declared.event.Event.TheVariants as event
+use Rattle.end_model.specs.declared.event.Event.{Event}
+use Rattle.end_model.specs.declared.event.Event.TheVariants.{Payload, Hang, Admitted}
+use Rattle.end_model.specs.declared.event.Event.TheVariants as event
 use Rattle.end_names.specs.declared.role.Role.TheVariants.{Lac}
-use Rattle.protocol_model.specs.declared.refusal.Refusal.{Refusal}
+use Rattle.world_model.specs.declared.refusal.Refusal.{Refusal}
 use Rattle.end_names.specs.Names.{host_name, mac_of}
-use Rattle.protocol_model.specs.End.{End, step}
-use Rattle.protocol_model.specs.Texts.{Entry, Drops, Frames}
-use Rattle.protocol_model.specs.Access.{Access, Coming, Ignores, Answers, Runs, Enters, coming, led_to, about_call, of_call, wants_call, pads_of, entered}
-use Rattle.protocol_model.specs.World.{World, Node, Lined, lac_at, retold, answer_entries, replies, enters, comes, comes_by, framed, stepped, block_of}
+use Rattle.end_model.specs.End.{End, step}
+use Rattle.world_model.specs.Texts.{Entry, Drops, Frames}
+use Rattle.end_model.specs.Access.{Access, Coming, Ignores, Answers, Runs, Enters, coming, led_to, about_call, of_call, wants_call, pads_of, entered}
+use Rattle.world_model.specs.World.{World, Node, Lined, lac_at, retold, answer_entries, replies, enters, comes, comes_by, framed, stepped, block_of}
 use Rattle.step_laws.specs.Lines.{is_lac_at}
 
 -- what a frame is to a LAC, as discovery tells it

@@ -6,17 +6,17 @@ use Rattle.control_message.specs.declared.message.Message.{Message}
 use Rattle.control_message.specs.declared.message.Message.TheVariants.{Sccrq, Sccrp, Scccn, StopCcn, Hello, Icrp, Cdn}
 use Rattle.recv_window.specs.Window.{on_wire}
 use Rattle.control_channel.specs.Numbers.{place_of}
-use Rattle.protocol_model.specs.declared.tunnel.Config.{Config}
+use Rattle.end_model.specs.declared.tunnel.Config.{Config}
 use Rattle.end_names.specs.declared.role.Role.{Role}
-use Rattle.protocol_model.specs.declared.out.Out.{Out}
-use Rattle.protocol_model.specs.declared.out.Out.TheVariants.{Send}
-use Rattle.protocol_model.specs.declared.out.Origin.{Origin}
-use Rattle.protocol_model.specs.declared.out.Origin.TheVariants as origin
-use Rattle.protocol_model.specs.declared.moves.FrameSent.{FrameSent}
-use Rattle.protocol_model.specs.declared.moves.Place.{Place}
-use Rattle.protocol_model.specs.declared.moves.Move.{Move}
-use Rattle.protocol_model.specs.declared.moves.Move.TheVariants as move
-use Rattle.protocol_model.specs.Turn.{Tunnel, opening_of, request_of, connection}
+use Rattle.end_model.specs.declared.out.Out.{Out}
+use Rattle.end_model.specs.declared.out.Out.TheVariants.{Send}
+use Rattle.end_model.specs.declared.out.Origin.{Origin}
+use Rattle.end_model.specs.declared.out.Origin.TheVariants as origin
+use Rattle.end_model.specs.declared.moves.FrameSent.{FrameSent}
+use Rattle.end_model.specs.declared.moves.Place.{Place}
+use Rattle.end_model.specs.declared.moves.Move.{Move}
+use Rattle.end_model.specs.declared.moves.Move.TheVariants as move
+use Rattle.end_model.specs.Turn.{Tunnel, opening_of, request_of, connection}
 
 -- one of them is this one
 abbrev pub Among : {X : Type 0} → X → List X → Type 0

@@ -7,8 +7,9 @@ use Rattle.wire_base.specs.declared.why.Why.{Why}
 use Rattle.wire_base.specs.declared.why.Why.TheVariants as why
 use Rattle.end_names.specs.declared.role.Role.{Role}
 use Rattle.end_names.specs.declared.role.Role.TheVariants as role
-use Rattle.protocol_model.specs.Calls.{is_lac}
-use Rattle.protocol_model.specs.World.{Node, declared, lac_at, lns_at, with_call, with_tunnel, is_not_closed}
+use Rattle.end_model.specs.Calls.{is_lac}
+use Rattle.end_model.specs.End.{is_not_closed}
+use Rattle.world_model.specs.World.{Node, declared, lac_at, lns_at, with_call, with_tunnel}
 
 -- ---- tests that end in an answer or a refusal
 

@@ -4,18 +4,18 @@ use Rattle.l2tp_header.specs.declared.header.Header.{Header}
 use Rattle.l2tp_header.specs.Reading.{header_of}
 use Rattle.lcp_end.specs.Laws.{Call as LcpCall, OpenLink, OnTick, OnPacket, after}
 use Rattle.lcp_end.specs.Steps.{fresh}
-use Rattle.protocol_model.specs.declared.event.Event.{Event}
-use Rattle.protocol_model.specs.declared.event.Event.TheVariants.{Datagram, Payload, Lower, Lcp, Tick}
-use Rattle.protocol_model.specs.declared.tunnel.Call.{Call}
-use Rattle.protocol_model.specs.declared.tunnel.Control.{Control}
-use Rattle.protocol_model.specs.declared.tunnel.Link.{Link}
-use Rattle.protocol_model.specs.declared.tunnel.Look.{Look}
-use Rattle.protocol_model.specs.declared.tunnel.Look.TheVariants as look
+use Rattle.end_model.specs.declared.event.Event.{Event}
+use Rattle.end_model.specs.declared.event.Event.TheVariants.{Datagram, Payload, Lower, Lcp, Tick}
+use Rattle.end_model.specs.declared.tunnel.Call.{Call}
+use Rattle.end_model.specs.declared.tunnel.Control.{Control}
+use Rattle.end_model.specs.declared.tunnel.Link.{Link}
+use Rattle.session_looks.specs.declared.look.Look.{Look}
+use Rattle.session_looks.specs.declared.look.Look.TheVariants as look
 use Rattle.end_names.specs.declared.role.Role.{Role}
 use Rattle.end_names.specs.declared.role.Role.TheVariants.{Lns}
-use Rattle.protocol_model.specs.Reading.{body_of}
-use Rattle.protocol_model.specs.Calls.{frame_of, is_lcp}
-use Rattle.protocol_model.specs.Links.{lcp_frame, is_passing}
+use Rattle.end_model.specs.Reading.{body_of}
+use Rattle.session_looks.specs.Frames.{frame_of, is_lcp}
+use Rattle.end_model.specs.Links.{lcp_frame, is_passing}
 use Rattle.step_laws.specs.Letters.{Among}
 
 -- a frame that a peer sent

@@ -27,51 +27,52 @@ use Rattle.call_fsm.specs.declared.table.CallEvent.TheVariants as call_event
 pub use Rattle.step_laws.specs.Arrivals.{Came, CameIn, Says, SaysFaulty, IsAgain, IsStop, IsFor, ComesTo, IsNext, HearsNext, heard_so, InTunnel, IsFaulty, Hears, heard_from, TellsNr}
 pub use Rattle.step_laws.specs.Hides.{Asks, right_answer, Responds, IsRight, LacksSecret}
 use Rattle.step_laws.specs.Hides.{HidesNumber}
-use Rattle.protocol_model.specs.declared.tunnel.Call.{Call}
-use Rattle.protocol_model.specs.declared.tunnel.CallPlace.{CallPlace}
-use Rattle.protocol_model.specs.declared.tunnel.CellChange.TheVariants as cell
-use Rattle.protocol_model.specs.declared.tunnel.Control.{Control}
+use Rattle.end_model.specs.declared.tunnel.Call.{Call}
+use Rattle.end_model.specs.declared.tunnel.CallPlace.{CallPlace}
+use Rattle.session_looks.specs.declared.look.CellChange.TheVariants as cell
+use Rattle.end_model.specs.declared.tunnel.Control.{Control}
 use Rattle.end_names.specs.declared.role.Role.TheVariants.{Lac, Lns}
-use Rattle.protocol_model.specs.declared.event.Event.{Event}
-use Rattle.protocol_model.specs.declared.event.Event.TheVariants.{Datagram, Hang, DropCall, CloseTunnel, Tick}
-use Rattle.protocol_model.specs.declared.moves.Place.{Place}
-use Rattle.protocol_model.specs.declared.moves.Opened.{Opened}
-use Rattle.protocol_model.specs.declared.moves.Accepted.{Accepted}
-use Rattle.protocol_model.specs.declared.moves.Connected.{Connected}
-use Rattle.protocol_model.specs.declared.moves.Confirmed.{Confirmed}
-use Rattle.protocol_model.specs.declared.moves.Added.{Added}
-use Rattle.protocol_model.specs.declared.moves.Requested.{Requested}
-use Rattle.protocol_model.specs.declared.moves.Replied.{Replied}
-use Rattle.protocol_model.specs.declared.moves.Refused.{Refused}
-use Rattle.protocol_model.specs.declared.moves.FirstUp.{FirstUp}
-use Rattle.protocol_model.specs.declared.moves.SecondUp.{SecondUp}
-use Rattle.protocol_model.specs.declared.moves.TookPlain.{TookPlain}
-use Rattle.protocol_model.specs.declared.moves.NrRead.{NrRead}
-use Rattle.protocol_model.specs.declared.moves.LetGo.{LetGo}
-use Rattle.protocol_model.specs.declared.moves.EndTold.{EndTold}
-use Rattle.protocol_model.specs.declared.moves.EndHeard.{EndHeard}
-use Rattle.protocol_model.specs.declared.moves.EndSilent.{EndSilent}
-use Rattle.protocol_model.specs.declared.moves.Greeted.{Greeted}
-use Rattle.protocol_model.specs.declared.moves.Closed.{Closed}
-use Rattle.protocol_model.specs.declared.moves.ClosedBy.{ClosedBy}
-use Rattle.protocol_model.specs.declared.moves.Rejected.{Rejected}
-use Rattle.protocol_model.specs.declared.moves.Declined.{Declined}
-use Rattle.protocol_model.specs.declared.moves.Repeated.{Repeated}
-use Rattle.protocol_model.specs.declared.moves.Negotiated.{Negotiated}
-use Rattle.protocol_model.specs.declared.moves.FrameSent.{FrameSent}
-use Rattle.protocol_model.specs.declared.moves.FrameUp.{FrameUp}
-use Rattle.protocol_model.specs.declared.moves.Move.{Move}
-use Rattle.protocol_model.specs.declared.moves.Move.TheVariants as move
-use Rattle.protocol_model.specs.declared.event.Addressee.TheVariants.{Answers}
-use Rattle.protocol_model.specs.declared.event.Addressee.TheVariants as addressee
-use Rattle.protocol_model.specs.Reading.{body_of, message_in, CallFault, call_fault_in, TunnelFault, tunnel_fault_in, at_zero}
-use Rattle.protocol_model.specs.Calls.{call_row, advanced, rung, asked_for, is_request, is_reply, is_connection, is_told, is_up, owed_by, side_of}
-use Rattle.protocol_model.specs.Turn.{Tunnel, place, next_place, taken_place, letter_of, letter_as, counts_given, counts_taken, counts_acked, counts_sent, counts_repeated, in_state, opening_of, request_of, connection, is_clean_up, session_named, fault_error, event_by, is_closed, with_link, link_after, is_first_open, looks_of}
+use Rattle.end_model.specs.declared.event.Event.{Event}
+use Rattle.end_model.specs.declared.event.Event.TheVariants.{Datagram, Hang, DropCall, CloseTunnel, Tick}
+use Rattle.end_model.specs.declared.moves.Place.{Place}
+use Rattle.end_model.specs.declared.moves.Opened.{Opened}
+use Rattle.end_model.specs.declared.moves.Accepted.{Accepted}
+use Rattle.end_model.specs.declared.moves.Connected.{Connected}
+use Rattle.end_model.specs.declared.moves.Confirmed.{Confirmed}
+use Rattle.end_model.specs.declared.moves.Added.{Added}
+use Rattle.end_model.specs.declared.moves.Requested.{Requested}
+use Rattle.end_model.specs.declared.moves.Replied.{Replied}
+use Rattle.end_model.specs.declared.moves.Refused.{Refused}
+use Rattle.end_model.specs.declared.moves.FirstUp.{FirstUp}
+use Rattle.end_model.specs.declared.moves.SecondUp.{SecondUp}
+use Rattle.end_model.specs.declared.moves.TookPlain.{TookPlain}
+use Rattle.end_model.specs.declared.moves.NrRead.{NrRead}
+use Rattle.end_model.specs.declared.moves.LetGo.{LetGo}
+use Rattle.end_model.specs.declared.moves.EndTold.{EndTold}
+use Rattle.end_model.specs.declared.moves.EndHeard.{EndHeard}
+use Rattle.end_model.specs.declared.moves.EndSilent.{EndSilent}
+use Rattle.end_model.specs.declared.moves.Greeted.{Greeted}
+use Rattle.end_model.specs.declared.moves.Closed.{Closed}
+use Rattle.end_model.specs.declared.moves.ClosedBy.{ClosedBy}
+use Rattle.end_model.specs.declared.moves.Rejected.{Rejected}
+use Rattle.end_model.specs.declared.moves.Declined.{Declined}
+use Rattle.end_model.specs.declared.moves.Repeated.{Repeated}
+use Rattle.end_model.specs.declared.moves.Negotiated.{Negotiated}
+use Rattle.end_model.specs.declared.moves.FrameSent.{FrameSent}
+use Rattle.end_model.specs.declared.moves.FrameUp.{FrameUp}
+use Rattle.end_model.specs.declared.moves.Move.{Move}
+use Rattle.end_model.specs.declared.moves.Move.TheVariants as move
+use Rattle.end_model.specs.declared.event.Addressee.TheVariants.{Answers}
+use Rattle.end_model.specs.declared.event.Addressee.TheVariants as addressee
+use Rattle.end_model.specs.Reading.{body_of, message_in, CallFault, call_fault_in, TunnelFault, tunnel_fault_in, at_zero}
+use Rattle.session_looks.specs.Frames.{side_of}
+use Rattle.end_model.specs.Calls.{call_row, advanced, rung, asked_for, is_request, is_reply, is_connection, is_told, is_up, owed_by}
+use Rattle.end_model.specs.Turn.{Tunnel, place, next_place, taken_place, letter_of, letter_as, counts_given, counts_taken, counts_acked, counts_sent, counts_repeated, in_state, opening_of, request_of, connection, is_clean_up, session_named, fault_error, event_by, is_closed, with_link, link_after, is_first_open, looks_of}
 use Rattle.step_laws.specs.Failing.{HasFailed}
 pub use Rattle.step_laws.specs.Links.{HearsFrame}
 use Rattle.step_laws.specs.Links.{begun_link, Calls, Finishes, WhySent, Passes}
 use Rattle.lcp_end.specs.Laws.{after as lcp_after}
-use Rattle.protocol_model.specs.End.{End, new_place, with_look, with_looks}
+use Rattle.end_model.specs.End.{End, new_place, with_look, with_looks}
 
 -- ---- how much there may be
 

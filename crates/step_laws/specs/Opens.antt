@@ -12,8 +12,8 @@ use Rattle.control_message.specs.declared.message.Read.{Read}
 use Rattle.control_message.specs.declared.message.Read.TheVariants.{Known, Ignored}
 use Rattle.control_message.specs.declared.message.MessageError.{MessageError}
 use Rattle.control_message.specs.Reading.{message_of, kind_of_pairs}
-use Rattle.protocol_model.specs.declared.event.Addressee.TheVariants.{Opens, Stops, Nobody}
-use Rattle.protocol_model.specs.Reading.{message_read, pairs_read, message_in, zero_read, zero_pairs, at_zero}
+use Rattle.end_model.specs.declared.event.Addressee.TheVariants.{Opens, Stops, Nobody}
+use Rattle.end_model.specs.Reading.{message_read, pairs_read, message_in, zero_read, zero_pairs, at_zero}
 
 -- a message is an SCCRQ that assigns the id
 abbrev pub Assigns : Message → ℕ → Type 0

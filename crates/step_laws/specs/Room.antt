@@ -5,11 +5,11 @@ use Rattle.id_table.specs.Ids.{at}
 use Rattle.tunnel_fsm.specs.declared.table.TunnelState.{TunnelState}
 use Rattle.tunnel_fsm.specs.declared.table.TunnelState.TheVariants.{WaitCtlReply, Established}
 use Rattle.wire_base.specs.declared.why.Why.TheVariants as why
-use Rattle.protocol_model.specs.declared.event.Event.{Event}
-use Rattle.protocol_model.specs.declared.event.Event.TheVariants.{Ring}
-use Rattle.protocol_model.specs.declared.out.Out.TheVariants.{Drop}
-use Rattle.protocol_model.specs.Turn.{Tunnel, counts_acked}
-use Rattle.protocol_model.specs.End.{End, plain_step}
+use Rattle.end_model.specs.declared.event.Event.{Event}
+use Rattle.end_model.specs.declared.event.Event.TheVariants.{Ring}
+use Rattle.end_model.specs.declared.out.Out.TheVariants.{Drop}
+use Rattle.end_model.specs.Turn.{Tunnel, counts_acked}
+use Rattle.end_model.specs.End.{End, plain_step}
 use Rattle.step_laws.specs.Letters.{Among}
 use Rattle.step_laws.specs.Moves.{may_take, Came, IsNext, TellsNr}
 use Rattle.step_laws.specs.Steps.{AreKept}

@@ -4,14 +4,14 @@
 ghost use Rattle.std.specs.Prelude.{◌≡◌, ◌<◌, ◌^◌, [], find, OnOk, IfOk, option_copied, option_map};
 ghost use Rattle.id_table.specs.Ids.{at, put, without, ids_of};
 ghost use Rattle.id_table.specs.Tables.{HasRoom, KeepsRoom};
-ghost use Rattle.protocol_model.specs.Calls.{owes, owed_by, are_too_many};
-ghost use Rattle.protocol_model.specs.Owing.{owed_at};
-ghost use Rattle.protocol_model.specs.Turn.{is_call_of, call_of, session_named};
+ghost use Rattle.end_model.specs.Calls.{owes, owed_by, are_too_many};
+ghost use Rattle.end_model.specs.Owing.{owed_at};
+ghost use Rattle.end_model.specs.Turn.{is_call_of, call_of, session_named};
 
 use call_fsm::CallState;
 use id_index::Index;
 use id_table::Table;
-use protocol_model::Call;
+use end_model::Call;
 use std::alloc::Global;
 use std::marker::Model;
 use wire_base::{NoMemory, Sequence};
@@ -64,8 +64,8 @@ impl Model for TunnelCalls {
     ghost use Rattle.std.specs.Prelude.{◌≡◌};
     ghost use Rattle.id_table.specs.Tables.{Kept};
     ghost use Rattle.id_table.specs.Order.{Ascends};
-    ghost use Rattle.protocol_model.specs.declared.tunnel.Call.{Call};
-    ghost use Rattle.protocol_model.specs.Calls.{owed_by};
+    ghost use Rattle.end_model.specs.declared.tunnel.Call.{Call};
+    ghost use Rattle.end_model.specs.Calls.{owed_by};
     ghost use Rattle.id_index.specs.Indexes.{Lists, IsWithin};
     ghost use Rattle.tunnel_calls.specs.Remotes.{remotes_of};
 
@@ -111,7 +111,7 @@ impl TunnelCalls {
     /// The session of the first call to which the peer assigned this id. The index tells it in time in proportion to the
     /// logarithm of the number of calls. They are looked through only where room for this very id was made that no call took,
     /// as when memory was wanting for a step, or where a call was put without room for its id.
-    #[tactic(auto, unfolding(protocol_model::specs::Turn::call_of))]
+    #[tactic(auto, unfolding(end_model::specs::Turn::call_of))]
     pub fn call_of(&self, alloc: Global, remote: u16) -> Result<Option<u32>, NoMemory>
         ensures { IfOk result (λ session. session ≡ call_of self.now.entries remote) }
     {
@@ -123,7 +123,7 @@ impl TunnelCalls {
     }
 
     /// The session that a header names, or, where that is 0, the one of the call to which the peer assigned this id.
-    #[tactic(auto, unfolding(protocol_model::specs::Turn::session_named))]
+    #[tactic(auto, unfolding(end_model::specs::Turn::session_named))]
     pub fn session_named(&self, alloc: Global, session: u16, remote: u16) -> Result<u32, NoMemory>
         ensures { IfOk result (λ named. named ≡ session_named self.now.entries session remote) }
     {

@@ -6,12 +6,12 @@ ghost use Rattle.std.specs.Option.{option_copied};
 ghost use Rattle.id_table.specs.Ids.{at};
 ghost use Rattle.wire_base.specs.declared.cause.Cause.TheVariants as cause;
 ghost use Rattle.call_fsm.specs.declared.table.CallEvent.TheVariants as event;
-ghost use Rattle.protocol_model.specs.Turn.{has_room, settles, end_silent, end_told, ends_by, closes};
+ghost use Rattle.end_model.specs.Turn.{has_room, settles, end_silent, end_told, ends_by, closes};
 
 use crate::turn::Turn;
 use call_fsm::{CallAction, CallEvent};
 use control_message::Message;
-use protocol_model::{Call, EndSilent, EndTold, Move, Out, Role};
+use end_model::{Call, EndSilent, EndTold, Move, Out, Role};
 use send_window::Letters;
 use tunnel_calls::TunnelCalls;
 use tunnel_rules::call_row;
@@ -24,7 +24,7 @@ const LOST_CARRIER: u16 = 1;
 pub(crate) const ADMINISTRATIVE: u16 = 3;
 
 /// A call ends of which the peer knows nothing.
-#[tactic(auto, unfolding(protocol_model::specs::Turn::end_silent))]
+#[tactic(auto, unfolding(end_model::specs::Turn::end_silent))]
 fn end_silently(turn: &mut Turn, session: u16) -> Result<(), NoMemory>
     ensures { OnOk result (turn.new ≡ end_silent session turn.old) }
 {
@@ -34,7 +34,7 @@ fn end_silently(turn: &mut Turn, session: u16) -> Result<(), NoMemory>
 }
 
 /// A call ends, and the peer is told by a CDN with this result code and error code.
-#[tactic(auto, unfolding(protocol_model::specs::Turn::end_told))]
+#[tactic(auto, unfolding(end_model::specs::Turn::end_told))]
 fn end_and_tell(
     turn: &mut Turn,
     session: u16,
@@ -68,7 +68,7 @@ fn end_and_tell(
 }
 
 /// A call ends as its table has it: the cause is told where the peer is.
-#[tactic(auto, unfolding(protocol_model::specs::Turn::ends_by))]
+#[tactic(auto, unfolding(end_model::specs::Turn::ends_by))]
 pub(crate) fn end_by(
     turn: &mut Turn,
     cause: Cause,
@@ -92,7 +92,7 @@ pub(crate) fn end_by(
 }
 
 /// Closes a call of this end's, by an event of its table.
-#[tactic(auto, unfolding(protocol_model::specs::Turn::closes))]
+#[tactic(auto, unfolding(end_model::specs::Turn::closes))]
 fn close(
     turn: &mut Turn,
     role: Role,

@@ -1,11 +1,12 @@
 //! What a step works in.
 
 ghost use Rattle.std.specs.Prelude.{◌≡◌, OnOk, OnErr};
-ghost use Rattle.protocol_model.specs.Turn.{with_turn};
+ghost use Rattle.end_model.specs.Turn.{with_turn};
 
 use crate::turn::Turn;
 use id_source::Ids;
-use protocol_model::{CellChanges, Move, Out};
+use end_model::{Move, Out};
+use session_looks::CellChanges;
 use std::marker::Model;
 use wire_base::{NoMemory, Sequence};
 
@@ -34,7 +35,7 @@ pub struct Env {
 
 impl Model for Env {
     ghost use Rattle.std.specs.Prelude.{◌≤◌};
-    ghost use Rattle.protocol_model.specs.Turn.{Env as Known};
+    ghost use Rattle.end_model.specs.Turn.{Env as Known};
 
     ghost Value = { Known };
 
@@ -45,7 +46,7 @@ impl Model for Env {
 
 impl Env {
     /// Takes in what a turn gave. Where memory is wanting, the environment is as before.
-    #[tactic(auto, unfolding(protocol_model::specs::Turn::with_turn))]
+    #[tactic(auto, unfolding(end_model::specs::Turn::with_turn))]
     pub(crate) fn take_in(&mut self, turn: &mut Turn) -> Result<(), NoMemory>
         ensures ok { OnOk result (self.new ≡ with_turn turn.old self.old) }
         ensures err { OnErr result (self.new ≡ self.old) }

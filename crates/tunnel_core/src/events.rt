@@ -2,7 +2,7 @@
 
 ghost use Rattle.std.specs.Prelude.{◌≡◌, OnOk};
 ghost use Rattle.id_table.specs.Ids.{at};
-ghost use Rattle.protocol_model.specs.Turn.{hears_lcp, turns};
+ghost use Rattle.end_model.specs.Turn.{hears_lcp, turns};
 
 use crate::closing::{drop_call, hang};
 use crate::frames::carry;
@@ -13,7 +13,7 @@ use crate::ringing::ring;
 use crate::stopping::close_now;
 use crate::ticking::tick;
 use crate::turn::Turn;
-use protocol_model::{Config, Event, Role, subscriber};
+use end_model::{Config, Event, Role, subscriber};
 use send_window::Letters;
 use tunnel_calls::TunnelCalls;
 use wire_base::{NoMemory, Why};
@@ -34,7 +34,7 @@ fn hear_lcp_in(
 }
 
 /// An event of the tunnel, which has these letters and calls.
-#[tactic(auto, unfolding(protocol_model::specs::Turn::turns))]
+#[tactic(auto, unfolding(end_model::specs::Turn::turns))]
 pub(crate) fn run(
     turn: &mut Turn,
     role: Role,

@@ -3,7 +3,7 @@
 ghost use Rattle.std.specs.Prelude.{◌≡◌, OnOk};
 ghost use Rattle.std.specs.Option.{option_copied};
 ghost use Rattle.control_message.specs.declared.kind.Kind.TheVariants as kind;
-ghost use Rattle.protocol_model.specs.Turn.{faulty_at, faulty, in_faulty_call, hears_faulty};
+ghost use Rattle.end_model.specs.Turn.{faulty_at, faulty, in_faulty_call, hears_faulty};
 
 use crate::hearing::take_letter;
 use crate::refusing::{answer, answer_no_call, refuse};
@@ -11,14 +11,14 @@ use crate::turn::Turn;
 use call_fsm::{CallAction, CallEvent, CallState};
 use control_message::Kind;
 use message_reading::{CallFault, Reason, Said, fault_reason};
-use protocol_model::{Call, Config, Role};
+use end_model::{Call, Config, Role};
 use tunnel_calls::TunnelCalls;
 use tunnel_fsm::TunnelState;
 use tunnel_rules::call_row;
 use wire_base::{Cause, NoMemory, Why};
 
 /// What is done for a faulty letter by the table's row for this event, or, where there is no such call, by the action `none`.
-#[tactic(auto, unfolding(protocol_model::specs::Turn::faulty_at))]
+#[tactic(auto, unfolding(end_model::specs::Turn::faulty_at))]
 fn answer_fault(
     turn: &mut Turn,
     role: Role,
@@ -39,7 +39,7 @@ fn answer_fault(
 }
 
 /// A faulty request for a call.
-#[tactic(auto, unfolding(protocol_model::specs::Turn::faulty))]
+#[tactic(auto, unfolding(end_model::specs::Turn::faulty))]
 fn take_faulty_request(
     turn: &mut Turn,
     role: Role,
@@ -67,7 +67,7 @@ fn take_faulty_request(
 }
 
 /// A faulty request for an outgoing call.
-#[tactic(auto, unfolding(protocol_model::specs::Turn::faulty))]
+#[tactic(auto, unfolding(end_model::specs::Turn::faulty))]
 fn refuse_faulty(
     turn: &mut Turn,
     role: Role,
@@ -82,7 +82,7 @@ fn refuse_faulty(
 }
 
 /// A faulty CDN, for a call that the header names by its session, or, where that is 0, by the one that the peer assigned.
-#[tactic(auto, unfolding(protocol_model::specs::Turn::faulty))]
+#[tactic(auto, unfolding(end_model::specs::Turn::faulty))]
 fn take_faulty_end(
     turn: &mut Turn,
     role: Role,
@@ -109,7 +109,7 @@ fn take_faulty_end(
 }
 
 /// A faulty letter of this kind about a call.
-#[tactic(auto, unfolding(protocol_model::specs::Turn::faulty))]
+#[tactic(auto, unfolding(end_model::specs::Turn::faulty))]
 fn take_faulty(
     turn: &mut Turn,
     role: Role,
@@ -153,7 +153,7 @@ fn take_faulty(
 }
 
 /// A faulty letter about a call: only an open tunnel carries calls.
-#[tactic(auto, unfolding(protocol_model::specs::Turn::in_faulty_call))]
+#[tactic(auto, unfolding(end_model::specs::Turn::in_faulty_call))]
 fn hear_call_fault(
     turn: &mut Turn,
     role: Role,
@@ -179,7 +179,7 @@ fn hear_call_fault(
 
 /// A faulty letter: one about a call, or one that is an event of the tunnel's table; one of an unknown type that need not be
 /// understood is neither.
-#[tactic(auto, unfolding(protocol_model::specs::Turn::hears_faulty))]
+#[tactic(auto, unfolding(end_model::specs::Turn::hears_faulty))]
 pub(crate) fn hear_fault(
     turn: &mut Turn,
     role: Role,

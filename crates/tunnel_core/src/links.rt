@@ -4,8 +4,8 @@
 ghost use Rattle.std.specs.Prelude.{◌≡◌, OnOk, IfOk, drop};
 ghost use Rattle.std.specs.Option.{option_copied};
 ghost use Rattle.lcp_end.specs.Steps.{opened, ticked, after_packet};
-ghost use Rattle.protocol_model.specs.Links.{magic_of};
-ghost use Rattle.protocol_model.specs.Turn.{lcp_frame, new_link, with_link, link_after, is_first_open, looks_of, with_looks_of, sends_packets, negotiated, links, hears_link, hears_lcp, ticks_link, connects_call, linked_up, second_up};
+ghost use Rattle.end_model.specs.Links.{magic_of};
+ghost use Rattle.end_model.specs.Turn.{lcp_frame, new_link, with_link, link_after, is_first_open, looks_of, with_looks_of, sends_packets, negotiated, links, hears_link, hears_lcp, ticks_link, connects_call, linked_up, second_up};
 
 use crate::closing::{ADMINISTRATIVE, end_by};
 use crate::frames::send_frame;
@@ -13,7 +13,8 @@ use crate::turn::Turn;
 use byteorder::{BigEndian, ByteOrder};
 use call_fsm::CallEvent;
 use lcp_end::{LcpEnd, LcpOut};
-use protocol_model::{Call, CallSteps, CellChange, Link, Move, Negotiated, Role, SecondUp};
+use end_model::{Call, CallSteps, Link, Move, Negotiated, Role, SecondUp};
+use session_looks::CellChange;
 use send_window::Letters;
 use std::alloc::Global;
 use std::marker::Model;
@@ -139,7 +140,7 @@ fn packet_in(frame: &[u8]) -> &[u8]
 }
 
 /// Sends these LCP packets of a call to the tunnel's peer, in order.
-#[tactic(auto, unfolding(protocol_model::specs::Turn::sends_packets))]
+#[tactic(auto, unfolding(end_model::specs::Turn::sends_packets))]
 fn send_packets(
     turn: &mut Turn,
     session: u16,
@@ -156,7 +157,7 @@ fn send_packets(
 }
 
 /// Where LCP is open for the first time in a call, all frames pass from now on.
-#[tactic(auto, unfolding(protocol_model::specs::Turn::with_looks_of))]
+#[tactic(auto, unfolding(end_model::specs::Turn::with_looks_of))]
 fn look_by(turn: &mut Turn, session: u16, first: bool) -> Result<(), NoMemory>
     ensures { OnOk result (turn.new ≡ with_looks_of (looks_of first session) turn.old) }
 {
@@ -167,7 +168,7 @@ fn look_by(turn: &mut Turn, session: u16, first: bool) -> Result<(), NoMemory>
 }
 
 /// The call goes on with its LCP end as a step of it leaves it, and what the step gave is sent.
-#[tactic(auto, unfolding(protocol_model::specs::Turn::negotiated))]
+#[tactic(auto, unfolding(end_model::specs::Turn::negotiated))]
 fn negotiate(
     turn: &mut Turn,
     session: u16,
@@ -186,7 +187,7 @@ fn negotiate(
 }
 
 /// The LCP end of a call made a step: where it is finished, the call ends.
-#[tactic(auto, unfolding(protocol_model::specs::Turn::links))]
+#[tactic(auto, unfolding(end_model::specs::Turn::links))]
 fn follow_link(
     turn: &mut Turn,
     role: Role,
@@ -215,7 +216,7 @@ fn follow_link(
 }
 
 /// An LCP packet came up a call.
-#[tactic(auto, unfolding(protocol_model::specs::Turn::hears_link))]
+#[tactic(auto, unfolding(end_model::specs::Turn::hears_link))]
 fn hear_link(
     turn: &mut Turn,
     role: Role,
@@ -235,7 +236,7 @@ fn hear_link(
 }
 
 /// An LCP packet came up a call, in a frame from its protocol field on.
-#[tactic(auto, unfolding(protocol_model::specs::Turn::hears_lcp))]
+#[tactic(auto, unfolding(end_model::specs::Turn::hears_lcp))]
 pub(crate) fn hear_lcp(
     turn: &mut Turn,
     role: Role,
@@ -271,7 +272,7 @@ fn run_out(
 }
 
 /// Time passes for the LCP end of a call, where it has one. One that isn't due takes no memory.
-#[tactic(auto, unfolding(protocol_model::specs::Turn::ticks_link))]
+#[tactic(auto, unfolding(end_model::specs::Turn::ticks_link))]
 pub(crate) fn tick_link(
     turn: &mut Turn,
     role: Role,
@@ -291,7 +292,7 @@ pub(crate) fn tick_link(
 }
 
 /// The call is connected, and has its link.
-#[tactic(auto, unfolding(protocol_model::specs::Turn::second_up))]
+#[tactic(auto, unfolding(end_model::specs::Turn::second_up))]
 fn second_up(turn: &mut Turn, session: u16, call: Call) -> Result<(), NoMemory>
     ensures { OnOk result (turn.new ≡ second_up session call turn.old) }
 {
@@ -313,7 +314,7 @@ fn second_up(turn: &mut Turn, session: u16, call: Call) -> Result<(), NoMemory>
 }
 
 /// The call is connected, and LCP is opened in it.
-#[tactic(auto, unfolding(protocol_model::specs::Turn::connects_call))]
+#[tactic(auto, unfolding(end_model::specs::Turn::connects_call))]
 fn open_link(turn: &mut Turn, session: u16, call: &Call, link: Link) -> Result<(), NoMemory>
     ensures { OnOk result (turn.new ≡ connects_call session (with_link link call.now) link turn.old) }
 {
@@ -324,7 +325,7 @@ fn open_link(turn: &mut Turn, session: u16, call: &Call, link: Link) -> Result<(
 }
 
 /// The call is connected: it has a link from now on, in which LCP is opened.
-#[tactic(auto, unfolding(protocol_model::specs::Turn::linked_up))]
+#[tactic(auto, unfolding(end_model::specs::Turn::linked_up))]
 pub(crate) fn link_up(
     turn: &mut Turn,
     role: Role,

@@ -1,7 +1,7 @@
 //! A tunnel with its calls: an event is planned, and then made.
 
 ghost use Rattle.std.specs.Prelude.{◌≡◌, ◌≤◌, ◌++◌, [], length, OnOk, OnErr, IfOk};
-ghost use Rattle.protocol_model.specs.Turn.{fresh, turn_of, with_turn, turns, with_calls, tunnel_after};
+ghost use Rattle.end_model.specs.Turn.{fresh, turn_of, with_turn, turns, with_calls, tunnel_after};
 ghost use Rattle.tunnel_core.specs.Cores.{tunnel_of, made_of, AllHaveRoom, HasRoomFor, IsTurn};
 
 use crate::env::Env;
@@ -9,7 +9,7 @@ use crate::events::run;
 use crate::turn::{Changed, Given, Turn};
 use control_channel::ChannelNumbers;
 use id_table::Table;
-use protocol_model::{Call, Config, Control, Event, Role};
+use end_model::{Call, Config, Control, Event, Role};
 use send_window::Letters;
 use std::alloc::Global;
 use std::marker::Model;
@@ -212,7 +212,7 @@ fn give_back(calls: &mut TunnelCalls, ended: &[u32])
 }
 
 /// Puts each of these calls into a table that has room for it, or takes it out where it ended. It takes no memory.
-#[tactic(auto, unfolding(protocol_model::specs::Turn::with_calls))]
+#[tactic(auto, unfolding(end_model::specs::Turn::with_calls))]
 fn put_all(calls: &mut TunnelCalls, changed: Changed)
     requires { AllHaveRoom calls.old changed }
     ensures { calls.new.entries ≡ with_calls changed calls.old.entries }

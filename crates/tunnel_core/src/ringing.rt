@@ -2,12 +2,13 @@
 
 ghost use Rattle.std.specs.Prelude.{◌≡◌, OnOk, IsTrue};
 ghost use Rattle.id_source.specs.Spaces.{draws};
-ghost use Rattle.protocol_model.specs.Turn.{has_room, requested, requests, requests_all, adds, rings_over, rings_within, rings_new, rings};
+ghost use Rattle.end_model.specs.Turn.{has_room, requested, requests, requests_all, adds, rings_over, rings_within, rings_new, rings};
 
 use crate::openings::open_as;
 use crate::turn::Turn;
 use call_fsm::CallEvent;
-use protocol_model::{Added, Call, CellChange, Config, Move, Out, Requested, Role};
+use end_model::{Added, Call, Config, Move, Out, Requested, Role};
+use session_looks::CellChange;
 use tunnel_calls::TunnelCalls;
 use tunnel_fsm::TunnelState;
 use tunnel_rules::{
@@ -16,7 +17,7 @@ use tunnel_rules::{
 use wire_base::{Cause, NoMemory, Why};
 
 /// Asks for a waiting call: the peer comes to know it. An end that hides its calling numbers hides this one.
-#[tactic(auto, unfolding(protocol_model::specs::Turn::requested))]
+#[tactic(auto, unfolding(end_model::specs::Turn::requested))]
 fn request_now(
     turn: &mut Turn,
     role: Role,
@@ -59,7 +60,7 @@ fn request_now(
 }
 
 /// Asks for a call, where its table says so.
-#[tactic(auto, unfolding(protocol_model::specs::Turn::requests))]
+#[tactic(auto, unfolding(end_model::specs::Turn::requests))]
 fn request(
     turn: &mut Turn,
     role: Role,
@@ -80,7 +81,7 @@ fn request(
 }
 
 /// Asks for each of these calls that waits.
-#[tactic(auto, unfolding(protocol_model::specs::Turn::requests_all, protocol_model::specs::Turn::requests_at))]
+#[tactic(auto, unfolding(end_model::specs::Turn::requests_all, end_model::specs::Turn::requests_at))]
 pub(crate) fn request_all(
     turn: &mut Turn,
     role: Role,
@@ -101,7 +102,7 @@ pub(crate) fn request_all(
 }
 
 /// A call is born, and added to the tunnel.
-#[tactic(auto, unfolding(protocol_model::specs::Turn::adds))]
+#[tactic(auto, unfolding(end_model::specs::Turn::adds))]
 fn add(turn: &mut Turn, role: Role, subscriber: [u8; 6], session: u16) -> Result<(), NoMemory>
     ensures { OnOk result (turn.new ≡ adds role subscriber session turn.old) }
 {
@@ -116,7 +117,7 @@ fn add(turn: &mut Turn, role: Role, subscriber: [u8; 6], session: u16) -> Result
 }
 
 /// A ring over a tunnel that is there: an open one asks for the call at once.
-#[tactic(auto, unfolding(protocol_model::specs::Turn::rings_over))]
+#[tactic(auto, unfolding(end_model::specs::Turn::rings_over))]
 fn ring_over(
     turn: &mut Turn,
     role: Role,
@@ -135,7 +136,7 @@ fn ring_over(
 }
 
 /// A ring over a new tunnel, which is opened for it.
-#[tactic(auto, unfolding(protocol_model::specs::Turn::rings_new))]
+#[tactic(auto, unfolding(end_model::specs::Turn::rings_new))]
 fn ring_new(
     turn: &mut Turn,
     role: Role,
@@ -159,7 +160,7 @@ fn ring_new(
 }
 
 /// A ring over a tunnel that has these calls.
-#[tactic(auto, unfolding(protocol_model::specs::Turn::rings_within, protocol_model::specs::Turn::rings_by))]
+#[tactic(auto, unfolding(end_model::specs::Turn::rings_within, end_model::specs::Turn::rings_by))]
 fn ring_within(
     turn: &mut Turn,
     role: Role,
@@ -186,7 +187,7 @@ fn ring_within(
 }
 
 /// A subscriber rings.
-#[tactic(auto, unfolding(protocol_model::specs::Turn::rings))]
+#[tactic(auto, unfolding(end_model::specs::Turn::rings))]
 pub(crate) fn ring(
     turn: &mut Turn,
     role: Role,

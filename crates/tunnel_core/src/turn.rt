@@ -2,11 +2,12 @@
 
 ghost use Rattle.std.specs.Prelude.{◌≡◌, ◌≤◌, ◌<◌, IfOk, OnOk};
 ghost use Rattle.id_source.specs.Spaces.{draws};
-ghost use Rattle.protocol_model.specs.Turn.{turn_of, with_output, with_move, with_change, with_call, with_new, drops, ends_call, with_local, ends_all};
+ghost use Rattle.end_model.specs.Turn.{turn_of, with_output, with_move, with_change, with_call, with_new, drops, ends_call, with_local, ends_all};
 
 use crate::env::{Env, Moves, Outputs};
 use id_source::{IdError, Ids};
-use protocol_model::{Call, CellChange, CellChanges, Control, Move, Out};
+use end_model::{Call, Control, Move, Out};
+use session_looks::{CellChange, CellChanges};
 use std::alloc::Global;
 use std::marker::Model;
 use wire_base::{Letter, NoMemory, Sequence, Why};
@@ -48,7 +49,7 @@ pub(crate) struct Turn {
 
 impl Model for Turn {
     ghost use Rattle.std.specs.Prelude.{◌≤◌};
-    ghost use Rattle.protocol_model.specs.Turn.{Turn as Known};
+    ghost use Rattle.end_model.specs.Turn.{Turn as Known};
 
     ghost Value = { Known };
 
@@ -82,7 +83,7 @@ impl Turn {
         }
     }
 
-    #[tactic(auto, unfolding(protocol_model::specs::Turn::with_output))]
+    #[tactic(auto, unfolding(end_model::specs::Turn::with_output))]
     pub(crate) fn output(&mut self, out: Out) -> Result<(), NoMemory>
         ensures value { OnOk result (self.new ≡ with_output out self.old) }
         ensures same { self.new.control ≡ self.old.control }
@@ -90,7 +91,7 @@ impl Turn {
         self.outputs.push(out)
     }
 
-    #[tactic(auto, unfolding(protocol_model::specs::Turn::with_move))]
+    #[tactic(auto, unfolding(end_model::specs::Turn::with_move))]
     pub(crate) fn did(&mut self, done: Move) -> Result<(), NoMemory>
         ensures value { OnOk result (self.new ≡ with_move done self.old) }
         ensures same { self.new.control ≡ self.old.control }
@@ -98,7 +99,7 @@ impl Turn {
         self.moves.push(done)
     }
 
-    #[tactic(auto, unfolding(protocol_model::specs::Turn::with_change))]
+    #[tactic(auto, unfolding(end_model::specs::Turn::with_change))]
     pub(crate) fn look(&mut self, change: CellChange) -> Result<(), NoMemory>
         ensures value { OnOk result (self.new ≡ with_change change self.old) }
         ensures same { self.new.control ≡ self.old.control }
@@ -106,7 +107,7 @@ impl Turn {
         self.changes.push(change)
     }
 
-    #[tactic(auto, unfolding(protocol_model::specs::Turn::with_call))]
+    #[tactic(auto, unfolding(end_model::specs::Turn::with_call))]
     pub(crate) fn change(&mut self, session: u16, call: Call) -> Result<(), NoMemory>
         ensures value { OnOk result (self.new ≡ with_call session call self.old) }
         ensures same { self.new.control ≡ self.old.control }
@@ -115,7 +116,7 @@ impl Turn {
     }
 
     /// A call is made, whose session is drawn.
-    #[tactic(auto, unfolding(protocol_model::specs::Turn::with_new))]
+    #[tactic(auto, unfolding(end_model::specs::Turn::with_new))]
     pub(crate) fn make(&mut self, session: u16, call: Call) -> Result<(), NoMemory>
         ensures value { OnOk result (self.new ≡ with_new session call self.old) }
         ensures same { self.new.control ≡ self.old.control }
@@ -126,7 +127,7 @@ impl Turn {
     }
 
     /// A call ends: it isn't there any more, and nothing is seen of it.
-    #[tactic(auto, unfolding(protocol_model::specs::Turn::ends_call, protocol_model::specs::Turn::with_change, protocol_model::specs::Turn::with_output))]
+    #[tactic(auto, unfolding(end_model::specs::Turn::ends_call, end_model::specs::Turn::with_change, end_model::specs::Turn::with_output))]
     pub(crate) fn end_call(&mut self, session: u32) -> Result<(), NoMemory>
         ensures value { OnOk result (self.new ≡ ends_call session self.old) }
         ensures same { self.new.control ≡ self.old.control }
@@ -138,7 +139,7 @@ impl Turn {
     }
 
     /// Each of these calls ends.
-    #[tactic(auto, unfolding(protocol_model::specs::Turn::ends_all))]
+    #[tactic(auto, unfolding(end_model::specs::Turn::ends_all))]
     pub(crate) fn end_all(&mut self, sessions: &[u32]) -> Result<(), NoMemory>
         ensures value { OnOk result (self.new ≡ ends_all sessions.now self.old) }
         ensures same { self.new.control ≡ self.old.control }
@@ -149,7 +150,7 @@ impl Turn {
         Ok(())
     }
 
-    #[tactic(auto, unfolding(protocol_model::specs::Turn::drops))]
+    #[tactic(auto, unfolding(end_model::specs::Turn::drops))]
     pub(crate) fn drop_with(&mut self, why: Why) -> Result<(), NoMemory>
         ensures { OnOk result (self.new ≡ drops why self.old) }
     {
@@ -175,7 +176,7 @@ impl Turn {
     }
 
     /// The tunnel gets the id that is drawn.
-    #[tactic(auto, unfolding(protocol_model::specs::Turn::with_local))]
+    #[tactic(auto, unfolding(end_model::specs::Turn::with_local))]
     pub(crate) fn draw_tunnel(&mut self, local: u16)
         ensures value { self.new ≡ with_local local self.old }
         ensures same { self.new.control.channel ≡ self.old.control.channel }

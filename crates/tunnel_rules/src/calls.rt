@@ -3,20 +3,20 @@
 ghost use Rattle.std.specs.Prelude.{◌≡◌, ◌<◌, ◌≤◌, if◌then◌else◌, length, None, Err, IfSome, IfOk};
 ghost use Rattle.wire_base.specs.declared.cause.Cause.TheVariants as causes;
 ghost use Rattle.control_message.specs.Pairs.{IsWritten, hidden_of};
-ghost use Rattle.protocol_model.specs.Calls.{call_row, rung, advanced, idle_call, asked_for, is_request, is_reply, is_connection, is_up, is_set_up};
-ghost use Rattle.protocol_model.specs.Reasons.{reason};
-ghost use Rattle.protocol_model.specs.Turn.{left_of, request_of, is_clean_up, is_passing};
+ghost use Rattle.end_model.specs.Calls.{call_row, rung, advanced, idle_call, asked_for, is_request, is_reply, is_connection, is_up, is_set_up};
+ghost use Rattle.end_model.specs.Reasons.{reason};
+ghost use Rattle.end_model.specs.Turn.{left_of, request_of, is_clean_up, is_passing};
 
 use call_fsm::{CallAction, CallEvent, CallState, lac_advance, lns_advance};
 use control_message::Message;
 use id_source::IdError;
 use message_reading::Reason;
-use protocol_model::{Call, CallStep, CallSteps, Link, Role, calling_number, twelve_digits};
+use end_model::{Call, CallStep, CallSteps, Link, Role, calling_number, twelve_digits};
 use std::alloc::Global;
 use wire_base::{Cause, NoMemory};
 
 /// What a call's table says (RFC 2661 section 7.4).
-#[tactic(auto, unfolding(protocol_model::specs::Calls::call_row))]
+#[tactic(auto, unfolding(end_model::specs::Calls::call_row))]
 pub fn call_row(role: Role, state: CallState, event: CallEvent) -> (CallState, CallAction)
     ensures { result ≡ call_row role state event }
 {
@@ -27,7 +27,7 @@ pub fn call_row(role: Role, state: CallState, event: CallEvent) -> (CallState, C
 }
 
 /// The call as its table has it after an event, at a moment.
-#[tactic(auto, unfolding(protocol_model::specs::Calls::advanced))]
+#[tactic(auto, unfolding(end_model::specs::Calls::advanced))]
 pub fn advanced(
     alloc: Global,
     role: Role,
@@ -70,7 +70,7 @@ fn idle_call(alloc: Global, subscriber: [u8; 6]) -> Call
 }
 
 /// A call that a subscriber rings for.
-#[tactic(auto, unfolding(protocol_model::specs::Calls::rung))]
+#[tactic(auto, unfolding(end_model::specs::Calls::rung))]
 pub fn rung(alloc: Global, role: Role, subscriber: [u8; 6], moment: u64) -> Result<Call, NoMemory>
     ensures { IfOk result (λ c. c ≡ rung role subscriber moment) }
 {
@@ -79,7 +79,7 @@ pub fn rung(alloc: Global, role: Role, subscriber: [u8; 6], moment: u64) -> Resu
 }
 
 /// A call that the peer asks for.
-#[tactic(auto, unfolding(protocol_model::specs::Calls::asked_for))]
+#[tactic(auto, unfolding(end_model::specs::Calls::asked_for))]
 pub fn asked_for(alloc: Global, role: Role, remote: u16, moment: u64) -> Result<Call, NoMemory>
     ensures { IfOk result (λ c. c ≡ asked_for role remote moment) }
 {

@@ -2,17 +2,17 @@
 
 ghost use Rattle.std.specs.Prelude.{◌≡◌, ◌≤◌, length, IfOk, IfSome};
 ghost use Rattle.control_message.specs.Pairs.{IsWritten, hidden_of};
-ghost use Rattle.protocol_model.specs.Messages.{hidden_by};
-ghost use Rattle.protocol_model.specs.Secrets.{sixteen};
+ghost use Rattle.end_model.specs.Messages.{hidden_by};
+ghost use Rattle.end_model.specs.Secrets.{sixteen};
 
 use control_message::{Message, write_message};
-use protocol_model::Config;
+use end_model::Config;
 use std::alloc::Global;
 use wire_base::{Bytes, NoMemory};
 
 /// The pairs of a message of which an end hides the Calling Number, by its secret and behind a Random Vector, which is the
 /// step's random block (RFC 2661 section 4.3). An end that hides nothing has none.
-#[tactic(auto, using(protocol_model::specs::Secrets::sixteen_is))]
+#[tactic(auto, using(end_model::specs::Secrets::sixteen_is))]
 pub fn hidden_pairs(
     alloc: Global,
     config: &Config,

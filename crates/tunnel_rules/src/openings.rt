@@ -2,16 +2,16 @@
 
 ghost use Rattle.std.specs.Prelude.{◌≡◌, ◌≤◌, ◌<◌, length, IfSome, IfOk};
 ghost use Rattle.control_message.specs.Pairs.{IsWrittenOpening};
-ghost use Rattle.protocol_model.specs.Turn.{opening_of};
-ghost use Rattle.protocol_model.specs.Secrets.{challenge_by};
+ghost use Rattle.end_model.specs.Turn.{opening_of};
+ghost use Rattle.end_model.specs.Secrets.{challenge_by};
 
 use control_message::{Failover, Opening};
-use protocol_model::{Config, Role, host_name};
+use end_model::{Config, Role, host_name};
 use std::alloc::Global;
 use wire_base::{Bytes, NoMemory};
 
 /// What an end asks the peer of a tunnel that it opens or accepts, where it has a secret: the step's random block.
-#[tactic(auto, using(protocol_model::specs::Secrets::sixteen_is))]
+#[tactic(auto, using(end_model::specs::Secrets::sixteen_is))]
 pub fn challenge_by(config: &Config, block: &[u8; 16]) -> Option<[u8; 16]>
     ensures { result ≡ challenge_by config.now.secret block.now }
 {

@@ -2,11 +2,11 @@
 use Rattle.std.specs.Prelude.{◌≡◌, ℕ, List, Option, Some, None, IfSome}
 use Rattle.id_table.specs.Ids.{at}
 use Rattle.id_table.specs.Tables.{Kept}
-use Rattle.protocol_model.specs.declared.tunnel.Config.{Config}
+use Rattle.end_model.specs.declared.tunnel.Config.{Config}
 use Rattle.end_names.specs.declared.role.Role.{Role}
-use Rattle.protocol_model.specs.declared.event.Event.{Event}
-use Rattle.protocol_model.specs.Turn.{Tunnel, Turn, Env, turn_of, with_turn, turns}
-use Rattle.protocol_model.specs.End.{tunnels_after}
+use Rattle.end_model.specs.declared.event.Event.{Event}
+use Rattle.end_model.specs.Turn.{Tunnel, Turn, Env, turn_of, with_turn, turns}
+use Rattle.end_model.specs.End.{tunnels_after}
 use Rattle.tunnel_core.specs.Cores.{Core, Plan, IsTurn, HasRoomFor, made_of}
 
 -- the turn of a tunnel on an event

@@ -6,8 +6,8 @@ ghost use Rattle.std.specs.List.Sorted.{IsStrictlySortedBy};
 ghost use Rattle.std.specs.Ordering.{nat_cmp};
 ghost use Rattle.id_table.specs.Ids.{at, ids_of};
 ghost use Rattle.id_table.specs.Tables.{HasRoom};
-ghost use Rattle.protocol_model.specs.Turn.{Tunnel, with_turn};
-ghost use Rattle.protocol_model.specs.End.{tunnels_after, is_known, known_as, is_in, least_in};
+ghost use Rattle.end_model.specs.Turn.{Tunnel, with_turn};
+ghost use Rattle.end_model.specs.End.{tunnels_after, is_known, known_as, is_in, least_in};
 ghost use Rattle.tunnel_core.specs.Cores.{tunnel_of, made_of, IsTurn, HasRoomFor};
 ghost use Rattle.tunnel_table.specs.Labels.{control_in, AreKept};
 ghost use Rattle.tunnel_table.specs.Plans.{turn_at, IsPlanned, IsGiven, HasPlace, after_plan};
@@ -15,7 +15,7 @@ ghost use Rattle.tunnel_table.specs.Tunnels.{tunnels_of};
 
 use crate::indexes::Indexes;
 use id_table::Table;
-use protocol_model::{Config, Control, Event, Role};
+use end_model::{Config, Control, Event, Role};
 use std::alloc::Global;
 use std::marker::Model;
 use tunnel_core::{Env, Planned, TunnelCore, same_state};
@@ -192,7 +192,7 @@ impl TunnelTable {
 
     /// The least tunnel to a peer that has assigned this id. The index tells it in time in proportion to the logarithm of the
     /// number of tunnels. They are looked through only where it doesn't, as where memory was wanting for a step.
-    #[tactic(auto, using(crate::specs::Tunnels::ids_tunnels), unfolding(protocol_model::specs::End::known_as))]
+    #[tactic(auto, using(crate::specs::Tunnels::ids_tunnels), unfolding(end_model::specs::End::known_as))]
     pub fn known_as(&self, alloc: Global, peer: u32, remote: u16) -> Result<Option<u32>, NoMemory>
         ensures { IfOk result (λ found. found ≡ known_as peer remote (tunnels_of self.now.entries)) }
     {
@@ -204,7 +204,7 @@ impl TunnelTable {
     }
 
     /// The least tunnel to a peer that is in a state, as fast.
-    #[tactic(auto, using(crate::specs::Tunnels::ids_tunnels), unfolding(protocol_model::specs::End::least_in))]
+    #[tactic(auto, using(crate::specs::Tunnels::ids_tunnels), unfolding(end_model::specs::End::least_in))]
     pub fn least_in(
         &self,
         alloc: Global,

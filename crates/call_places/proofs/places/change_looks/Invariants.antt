@@ -1,5 +1,5 @@
 use Rattle.std.proofs.Common.{◌≡◌, drop}
-use Rattle.protocol_model.specs.End.{with_looks}
+use Rattle.end_model.specs.End.{with_looks}
 use Rattle.call_places.proofs.places.change_looks.Given as goal
 
 abbrev pub invariant-loop-change : goal.invariant-loop-change

@@ -1,6 +1,6 @@
 use Rattle.std.proofs.Common.{◌∙◌, ap}
 use Rattle.id_table.specs.Ids.{put}
-use Rattle.protocol_model.specs.End.{new_place}
+use Rattle.end_model.specs.End.{new_place}
 use Rattle.call_places.proofs.Kept.{place_next, rest_have_room}
 use Rattle.call_places.proofs.places.place_all.Goals as goal
 

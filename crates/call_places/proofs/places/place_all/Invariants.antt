@@ -1,5 +1,5 @@
 use Rattle.std.proofs.Common.{◌≡◌, drop}
-use Rattle.protocol_model.specs.End.{placed}
+use Rattle.end_model.specs.End.{placed}
 use Rattle.call_places.specs.Rooms.{HaveRoom}
 use Rattle.call_places.proofs.places.place_all.Given as goal
 

@@ -1,6 +1,6 @@
 use Rattle.std.proofs.Common.{rules, ◌≡◌, Some, None, sym, subst}
-use Rattle.protocol_model.specs.declared.event.Event.TheVariants as events
-use Rattle.protocol_model.specs.End.{step}
+use Rattle.end_model.specs.declared.event.Event.TheVariants as events
+use Rattle.end_model.specs.End.{step}
 use Rattle.end_names.specs.Names.{mac_of}
 use Rattle.end_core.specs.Sessions.{next_session}
 use Rattle.lac_core.specs.Gives.{GivesServed}

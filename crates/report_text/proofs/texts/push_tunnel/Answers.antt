@@ -1,6 +1,6 @@
 use Rattle.std.proofs.Common.{◌∙◌, ap, List, ℕ}
 use Rattle.std.proofs.lemmas.Result.{on_ok_weaker}
-use Rattle.protocol_model.specs.Texts.{◌&◌}
+use Rattle.world_model.specs.Texts.{◌&◌}
 use Rattle.report_text.proofs.TunnelText.{tunnel_is}
 use Rattle.report_text.proofs.texts.push_tunnel.Goals as goal
 

@@ -1,7 +1,7 @@
 use Rattle.std.proofs.Common.{◌≡◌, ℕ, ◌+◌, ◌++◌, List, ◌∙◌, ap, sym, subst, Option}
 use Rattle.std.specs.Prelude.{IfOk}
-use Rattle.protocol_model.specs.declared.refusal.Refusal.{Refusal}
-use Rattle.protocol_model.specs.Run.{run, refusal_text}
+use Rattle.world_model.specs.declared.refusal.Refusal.{Refusal}
+use Rattle.world_model.specs.Run.{run, refusal_text}
 use Rattle.schedule_replay.specs.Fault.{Known, Told}
 use Rattle.schedule_replay.proofs.Runs.{run_goes_on, report_stopped, fault_stopped, report_whole, fault_whole}
 use Rattle.schedule_replay.proofs.replaying.replay.Goals as goal

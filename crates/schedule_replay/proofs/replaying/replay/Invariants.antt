@@ -1,4 +1,4 @@
-use Rattle.protocol_model.specs.Run.{run}
+use Rattle.world_model.specs.Run.{run}
 use Rattle.schedule_replay.proofs.Runs.{GoesOn}
 use Rattle.schedule_replay.proofs.replaying.replay.Given as goal
 

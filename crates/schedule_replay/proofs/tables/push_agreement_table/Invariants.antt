@@ -1,7 +1,7 @@
 use Rattle.std.proofs.Common.{◌≡◌, ◌++◌, drop}
 use Rattle.std.specs.List.{flat_map}
 use Rattle.id_table.specs.Ids.{at, ids_of}
-use Rattle.protocol_model.specs.Run.{node_agreements}
+use Rattle.world_model.specs.Run.{node_agreements}
 use Rattle.schedule_replay.proofs.tables.push_agreement_table.Given as goal
 
 abbrev pub invariant-loop-number : goal.invariant-loop-number

@@ -1,7 +1,7 @@
 use Rattle.std.proofs.Common.{◌≡◌, ◌++◌, drop}
 use Rattle.std.specs.List.{flat_map}
 use Rattle.id_table.specs.Ids.{at, ids_of}
-use Rattle.protocol_model.specs.Run.{call_line}
+use Rattle.world_model.specs.Run.{call_line}
 use Rattle.schedule_replay.proofs.tables.push_call_table.Given as goal
 
 abbrev pub invariant-loop-session : goal.invariant-loop-session

@@ -1,7 +1,7 @@
 use Rattle.std.proofs.Common.{Some, option_map, subst, ap, ◌∙◌, arith}
 use Rattle.id_table.specs.Order.{ascends-put}
-use Rattle.protocol_model.specs.declared.tunnel.Call.{Call}
-use Rattle.protocol_model.specs.Owing.{owed_at, owed-most, owed-put}
+use Rattle.end_model.specs.declared.tunnel.Call.{Call}
+use Rattle.end_model.specs.Owing.{owed_at, owed-most, owed-put}
 use Rattle.id_index.specs.Indexes.{IsRelabelled}
 use Rattle.id_index.specs.Firsts.{within_put}
 use Rattle.tunnel_calls.proofs.Listing.{listed_put}

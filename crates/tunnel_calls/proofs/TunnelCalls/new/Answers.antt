@@ -1,7 +1,7 @@
 use Rattle.std.proofs.Common.{sym, ap}
 use Rattle.id_table.specs.Order.{ascends-empty}
 use Rattle.id_index.specs.Firsts.{within_empty}
-use Rattle.protocol_model.specs.Calls.{owed_by}
+use Rattle.end_model.specs.Calls.{owed_by}
 use Rattle.tunnel_calls.specs.Remotes.{remotes_of}
 use Rattle.tunnel_calls.proofs.Listing.{none_assigned}
 use Rattle.tunnel_calls.proofs.TunnelCalls.new.Goals as goal

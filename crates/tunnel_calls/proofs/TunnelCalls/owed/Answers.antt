@@ -1,5 +1,5 @@
 use Rattle.std.proofs.Common.{arith}
-use Rattle.protocol_model.specs.Owing.{owed-most}
+use Rattle.end_model.specs.Owing.{owed-most}
 use Rattle.tunnel_calls.proofs.TunnelCalls.owed.Goals as goal
 
 pub returns-clause-within : goal.returns-clause-within

@@ -1,7 +1,7 @@
 use Rattle.std.proofs.Common.{None, option_map, subst, ◌∙◌, ap, arith}
 use Rattle.id_table.specs.Order.{ascends-without}
-use Rattle.protocol_model.specs.declared.tunnel.Call.{Call}
-use Rattle.protocol_model.specs.Owing.{owed_at, owed-without}
+use Rattle.end_model.specs.declared.tunnel.Call.{Call}
+use Rattle.end_model.specs.Owing.{owed_at, owed-without}
 use Rattle.id_index.specs.Indexes.{IsRelabelled}
 use Rattle.id_index.specs.Firsts.{within_without}
 use Rattle.tunnel_calls.proofs.Listing.{listed_without}

@@ -1,6 +1,6 @@
 use Rattle.std.proofs.Common.{◌≡◌, drop, find}
 use Rattle.id_table.specs.Ids.{at}
-use Rattle.protocol_model.specs.End.{is_in}
+use Rattle.end_model.specs.End.{is_in}
 use Rattle.tunnel_table.specs.Tunnels.{tunnels_of}
 use Rattle.tunnel_table.proofs.table.first_in.Given as goal
 

@@ -1,5 +1,5 @@
 use Rattle.std.proofs.Common.{◌≡◌, drop}
-use Rattle.protocol_model.specs.World.{moved_all}
+use Rattle.world_model.specs.World.{moved_all}
 use Rattle.schedule_replay.proofs.state.State.follow_all.Given as goal
 
 abbrev pub invariant-loop-done : goal.invariant-loop-done

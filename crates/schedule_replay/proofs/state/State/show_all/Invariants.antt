@@ -1,7 +1,7 @@
 use Rattle.std.proofs.Common.{◌≡◌, ◌++◌}
 use Rattle.std.specs.Vec.Iter.{into_iter_items}
-use Rattle.protocol_model.specs.Texts.{entries_text}
-use Rattle.protocol_model.specs.World.{shown_all, entries_of}
+use Rattle.world_model.specs.Texts.{entries_text}
+use Rattle.world_model.specs.World.{shown_all, entries_of}
 use Rattle.schedule_replay.proofs.state.State.show_all.Given as goal
 
 abbrev pub invariant-loop-out : goal.invariant-loop-out

@@ -1,8 +1,8 @@
 use Rattle.std.proofs.Common.{◌≡◌, ℕ, List, refl, ap, sym, subst, ◌∙◌, Some, None, Ok}
 use Rattle.id_table.specs.Ids.{at, put}
 use Rattle.id_table.specs.Order.{at_new}
-use Rattle.protocol_model.specs.declared.event.Event.TheVariants.{Tick}
-use Rattle.protocol_model.specs.World.{World, Node, later, declared, stepped}
+use Rattle.end_model.specs.declared.event.Event.TheVariants.{Tick}
+use Rattle.world_model.specs.World.{World, Node, later, declared, stepped}
 use Rattle.schedule_replay.specs.Fault.{Told, Leads}
 use Rattle.schedule_replay.proofs.Ticks.{stepped_later, leads_from}
 use Rattle.schedule_replay.proofs.state.State.tick.Goals as goal

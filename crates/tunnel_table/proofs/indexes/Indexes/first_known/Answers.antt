@@ -1,8 +1,8 @@
 use Rattle.std.proofs.Common.{◌≡◌, ℕ, List, Option, subst}
 use Rattle.std.specs.Prelude.{None, Some, IfSome}
 use Rattle.id_index.specs.Indexes.{Lists, IsFirst}
-use Rattle.protocol_model.specs.Turn.{Tunnel}
-use Rattle.protocol_model.specs.End.{known_as}
+use Rattle.end_model.specs.Turn.{Tunnel}
+use Rattle.end_model.specs.End.{known_as}
 use Rattle.tunnel_table.specs.Labels.{AreKept}
 use Rattle.tunnel_table.proofs.Listing.{first_known}
 use Rattle.tunnel_table.proofs.indexes.Indexes.first_known.Goals as goal

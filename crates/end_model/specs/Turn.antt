@@ -34,31 +34,31 @@ use Rattle.call_fsm.specs.declared.table.CallEvent.TheVariants as call_event
 use Rattle.call_fsm.specs.declared.table.CallState.TheVariants as call
 use Rattle.call_fsm.specs.declared.table.CallAction.{CallAction}
 use Rattle.call_fsm.specs.declared.table.CallAction.TheVariants as call_action
-use Rattle.protocol_model.specs.declared.tunnel.Call.{Call}
-use Rattle.protocol_model.specs.declared.tunnel.CellChange.{CellChange}
-use Rattle.protocol_model.specs.declared.tunnel.CellChange.TheVariants as cell
-use Rattle.protocol_model.specs.declared.tunnel.Config.{Config}
-use Rattle.protocol_model.specs.declared.tunnel.Link.{Link}
-use Rattle.protocol_model.specs.declared.tunnel.Control.{Control}
+use Rattle.end_model.specs.declared.tunnel.Call.{Call}
+use Rattle.session_looks.specs.declared.look.CellChange.{CellChange}
+use Rattle.session_looks.specs.declared.look.CellChange.TheVariants as cell
+use Rattle.end_model.specs.declared.tunnel.Config.{Config}
+use Rattle.end_model.specs.declared.tunnel.Link.{Link}
+use Rattle.end_model.specs.declared.tunnel.Control.{Control}
 use Rattle.end_names.specs.declared.role.Role.{Role}
-use Rattle.protocol_model.specs.declared.event.Event.{Event}
-use Rattle.protocol_model.specs.declared.event.Event.TheVariants.{Datagram, Ring, Frame, Admitted, Payload, Lower, Lcp, Hang, OpenTunnel, DropCall, CloseTunnel}
-use Rattle.protocol_model.specs.declared.event.Event.TheVariants as event_of
-use Rattle.protocol_model.specs.declared.out.Out.{Out}
-use Rattle.protocol_model.specs.declared.out.Out.TheVariants.{Send, Gone, Drop, Cause}
-use Rattle.protocol_model.specs.declared.out.Origin.TheVariants as origin
-use Rattle.protocol_model.specs.declared.moves.Move.{Move}
-use Rattle.protocol_model.specs.declared.moves.Move.TheVariants as move
-pub use Rattle.protocol_model.specs.Tunnels.{Tunnel, Ground, Drawing, Env, Turn, turn_of}
-pub use Rattle.protocol_model.specs.Channels.{place, next_place, taken_place, has_room, may_take, letter_of, letter_as, counts_given, counts_taken, learns_window, counts_acked, datagram, origin_of, sends, counts_sent, counts_repeated}
-pub use Rattle.protocol_model.specs.Messages.{opening_of, request_of, hidden_request, connection, against, is_acceptable, event_by, opening_reason, connected_event, connected_reason}
-pub use Rattle.protocol_model.specs.Secrets.{challenge_by, response_by}
-pub use Rattle.protocol_model.specs.Moments.{is_over, patience, is_closed, kept_closed, is_being_set_up, is_at_its_end}
-pub use Rattle.protocol_model.specs.Reasons.{Reason, reason, out_of_state, out_of_order, other_version, no_recovery, no_secret, fault_error, fault_reason}
+use Rattle.end_model.specs.declared.event.Event.{Event}
+use Rattle.end_model.specs.declared.event.Event.TheVariants.{Datagram, Ring, Frame, Admitted, Payload, Lower, Lcp, Hang, OpenTunnel, DropCall, CloseTunnel}
+use Rattle.end_model.specs.declared.event.Event.TheVariants as event_of
+use Rattle.end_model.specs.declared.out.Out.{Out}
+use Rattle.end_model.specs.declared.out.Out.TheVariants.{Send, Gone, Drop, Cause}
+use Rattle.end_model.specs.declared.out.Origin.TheVariants as origin
+use Rattle.end_model.specs.declared.moves.Move.{Move}
+use Rattle.end_model.specs.declared.moves.Move.TheVariants as move
+pub use Rattle.end_model.specs.Tunnels.{Tunnel, Ground, Drawing, Env, Turn, turn_of}
+pub use Rattle.end_model.specs.Channels.{place, next_place, taken_place, has_room, may_take, letter_of, letter_as, counts_given, counts_taken, learns_window, counts_acked, datagram, origin_of, sends, counts_sent, counts_repeated}
+pub use Rattle.end_model.specs.Messages.{opening_of, request_of, hidden_request, connection, against, is_acceptable, event_by, opening_reason, connected_event, connected_reason}
+pub use Rattle.end_model.specs.Secrets.{challenge_by, response_by}
+pub use Rattle.end_model.specs.Moments.{is_over, patience, is_closed, kept_closed, is_being_set_up, is_at_its_end}
+pub use Rattle.end_model.specs.Reasons.{Reason, reason, out_of_state, out_of_order, other_version, no_recovery, no_secret, fault_error, fault_reason}
 use Rattle.end_names.specs.Names.{subscriber}
-use Rattle.protocol_model.specs.Reading.{header_why, body_of, message_in, CallFault, call_fault_in, TunnelFault, tunnel_fault_in}
-pub use Rattle.protocol_model.specs.Calls.{call_row, advanced, rung, asked_for, is_request, is_reply, is_connection, is_up, is_set_up, owed_by, are_too_many, is_clean_up, is_short, is_long}
-pub use Rattle.protocol_model.specs.Links.{lcp_frame, new_link, with_link, link_after, is_first_open, looks_of, is_passing}
+use Rattle.end_model.specs.Reading.{header_why, body_of, message_in, CallFault, call_fault_in, TunnelFault, tunnel_fault_in}
+pub use Rattle.end_model.specs.Calls.{call_row, advanced, rung, asked_for, is_request, is_reply, is_connection, is_up, is_set_up, owed_by, are_too_many, is_clean_up, is_short, is_long}
+pub use Rattle.end_model.specs.Links.{lcp_frame, new_link, with_link, link_after, is_first_open, looks_of, is_passing}
 
 -- what a turn gave, behind what was there
 unfoldable pub with_turn : Turn → Env → Env

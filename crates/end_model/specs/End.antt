@@ -15,31 +15,32 @@ use Rattle.l2tp_header.specs.Reading.{header_of}
 use Rattle.tunnel_fsm.specs.declared.table.TunnelState.{TunnelState}
 use Rattle.tunnel_fsm.specs.declared.table.TunnelState.TheVariants.{WaitCtlReply, Established}
 use Rattle.tunnel_fsm.specs.Rows.{state_number}
-use Rattle.protocol_model.specs.declared.tunnel.Call.{Call}
-use Rattle.protocol_model.specs.declared.tunnel.CallPlace.{CallPlace}
-use Rattle.protocol_model.specs.declared.tunnel.Look.{Look}
-use Rattle.protocol_model.specs.declared.tunnel.Look.TheVariants as look
-use Rattle.protocol_model.specs.declared.tunnel.CellChange.{CellChange}
-use Rattle.protocol_model.specs.declared.tunnel.CellChange.TheVariants as cell
-use Rattle.protocol_model.specs.declared.tunnel.Config.{Config}
-use Rattle.protocol_model.specs.declared.tunnel.Control.{Control}
+use Rattle.end_model.specs.declared.tunnel.Call.{Call}
+use Rattle.end_model.specs.declared.tunnel.CallPlace.{CallPlace}
+use Rattle.session_looks.specs.declared.look.Look.{Look}
+use Rattle.session_looks.specs.declared.look.Look.TheVariants as look
+use Rattle.session_looks.specs.declared.look.CellChange.{CellChange}
+use Rattle.session_looks.specs.declared.look.CellChange.TheVariants as cell
+use Rattle.end_model.specs.declared.tunnel.Config.{Config}
+use Rattle.end_model.specs.declared.tunnel.Control.{Control}
 use Rattle.end_names.specs.declared.role.Role.{Role}
 use Rattle.end_names.specs.declared.role.Role.TheVariants.{Lac, Lns}
-use Rattle.protocol_model.specs.declared.event.Event.{Event}
-use Rattle.protocol_model.specs.declared.event.Event.TheVariants.{Datagram, Ring, Frame, Admitted, Payload, Lower, Lcp, Hang, OpenTunnel, DropCall, CloseTunnel, Tick}
-use Rattle.protocol_model.specs.declared.out.Out.{Out}
-use Rattle.protocol_model.specs.declared.out.Out.TheVariants.{Send, Up, Drop, Cause}
-use Rattle.protocol_model.specs.declared.moves.Move.{Move}
-use Rattle.protocol_model.specs.declared.moves.Move.TheVariants as move
-use Rattle.protocol_model.specs.Calls.{is_lac, Carried, Upward, Dropped, carry_look, frame_of}
-use Rattle.protocol_model.specs.declared.event.Addressee.{Addressee}
-use Rattle.protocol_model.specs.declared.event.Addressee.TheVariants.{Opens, Stops, Answers, Main, Nobody}
-use Rattle.protocol_model.specs.Reading.{header_why, body_of, message_in, TunnelFault, tunnel_fault_in, at_zero, at_tunnel}
-use Rattle.protocol_model.specs.Secrets.{lacks_secret, uncovered_datagram, uncovered_event}
-use Rattle.protocol_model.specs.Turn.{Tunnel, Drawing, Env, Turn, Reason, out_of_order, other_version, no_recovery, no_secret, fault_reason, turn_of, tunnel_after, fresh, turns}
-use Rattle.protocol_model.specs.Reasons.{no_tunnel, no_id}
-use Rattle.protocol_model.specs.declared.out.Origin.{Origin}
-use Rattle.protocol_model.specs.declared.out.Origin.TheVariants as origin
+use Rattle.end_model.specs.declared.event.Event.{Event}
+use Rattle.end_model.specs.declared.event.Event.TheVariants.{Datagram, Ring, Frame, Admitted, Payload, Lower, Lcp, Hang, OpenTunnel, DropCall, CloseTunnel, Tick}
+use Rattle.end_model.specs.declared.out.Out.{Out}
+use Rattle.end_model.specs.declared.out.Out.TheVariants.{Send, Up, Drop, Cause}
+use Rattle.end_model.specs.declared.moves.Move.{Move}
+use Rattle.end_model.specs.declared.moves.Move.TheVariants as move
+use Rattle.session_looks.specs.Frames.{Carried, Upward, Dropped, carry_look, frame_of}
+use Rattle.end_model.specs.Calls.{is_lac}
+use Rattle.end_model.specs.declared.event.Addressee.{Addressee}
+use Rattle.end_model.specs.declared.event.Addressee.TheVariants.{Opens, Stops, Answers, Main, Nobody}
+use Rattle.end_model.specs.Reading.{header_why, body_of, message_in, TunnelFault, tunnel_fault_in, at_zero, at_tunnel}
+use Rattle.end_model.specs.Secrets.{lacks_secret, uncovered_datagram, uncovered_event}
+use Rattle.end_model.specs.Turn.{Tunnel, Drawing, Env, Turn, Reason, out_of_order, other_version, no_recovery, no_secret, fault_reason, turn_of, tunnel_after, fresh, turns, is_closed}
+use Rattle.end_model.specs.Reasons.{no_tunnel, no_id}
+use Rattle.end_model.specs.declared.out.Origin.{Origin}
+use Rattle.end_model.specs.declared.out.Origin.TheVariants as origin
 use Rattle.l2tp_header.specs.Spelling.{control_bytes}
 use Rattle.avp_codec.specs.Spelling.{spelling}
 use Rattle.recv_window.specs.Window.{on_wire}
@@ -330,6 +331,11 @@ rings_at e env ev = rings_in e env ev (least_in Established e.config.lns e.tunne
 unfoldable pub for_call : End → Env → Event → Option CallPlace → Stepped
 for_call e env ev None = gives_only e (Drop why.Call)
 for_call e env ev (Some p) = in_main e env ev p.tunnel (at e.tunnels p.tunnel)
+
+-- a live tunnel that isn't closed
+abbrev pub is_not_closed : Option Tunnel → Bool
+is_not_closed None = false
+is_not_closed (Some t) = not (is_closed t.control.state)
 
 -- ---- frames that come
 

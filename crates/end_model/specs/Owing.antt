@@ -8,8 +8,8 @@ use Rattle.id_table.specs.Ids.{at, put, without}
 use Rattle.id_table.specs.Order.{IsAbove, Ascends, less_is, lower, at-above}
 use Rattle.call_fsm.specs.declared.table.CallState.{CallState}
 use Rattle.call_fsm.specs.declared.table.CallState.TheVariants.{Idle, WaitTunnel, WaitReply, WaitConnect, Established}
-use Rattle.protocol_model.specs.declared.tunnel.Call.{Call}
-use Rattle.protocol_model.specs.Calls.{owes, owed_by}
+use Rattle.end_model.specs.declared.tunnel.Call.{Call}
+use Rattle.end_model.specs.Calls.{owes, owed_by}
 
 -- what a call owes that is there
 abbrev pub owed_at : Option Call → ℕ

@@ -15,15 +15,15 @@ use Rattle.pppoe_discovery.specs.declared.outcome.Discovered.TheVariants as outc
 use Rattle.pppoe_discovery.specs.Discovery.{discovered}
 use Rattle.pppoe_discovery.specs.Replies.{padt}
 use Rattle.pppoe_discovery.specs.Told.{pads_to}
-use Rattle.protocol_model.specs.declared.event.Event.{Event}
-use Rattle.protocol_model.specs.declared.event.Event.TheVariants.{Payload, Hang, Frame, Admitted}
-use Rattle.protocol_model.specs.declared.out.Out.{Out}
-use Rattle.protocol_model.specs.declared.out.Out.TheVariants.{Drop, Cause as Refused}
+use Rattle.end_model.specs.declared.event.Event.{Event}
+use Rattle.end_model.specs.declared.event.Event.TheVariants.{Payload, Hang, Frame, Admitted}
+use Rattle.end_model.specs.declared.out.Out.{Out}
+use Rattle.end_model.specs.declared.out.Out.TheVariants.{Drop, Cause as Refused}
 use Rattle.end_names.specs.declared.role.Role.{Role}
 use Rattle.end_names.specs.declared.role.Role.TheVariants.{Lac, Lns}
 use Rattle.end_names.specs.Names.{host_name, mac_of}
-use Rattle.protocol_model.specs.declared.moves.Move.{Move}
-use Rattle.protocol_model.specs.End.{End, Stepped, step}
+use Rattle.end_model.specs.declared.moves.Move.{Move}
+use Rattle.end_model.specs.End.{End, Stepped, step}
 
 -- the key of the cookies, and the hosts that were admitted, by the sessions of their calls. A host whose call ended stays until it
 -- comes again: no session is drawn twice, so it stands in nobody's way.

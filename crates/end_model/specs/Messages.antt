@@ -7,11 +7,11 @@ use Rattle.control_message.specs.declared.message.Message.TheVariants.{Icrq, Icc
 use Rattle.control_message.specs.declared.message.Opening.{Opening}
 use Rattle.tunnel_fsm.specs.declared.table.TunnelEvent.{TunnelEvent}
 use Rattle.tunnel_fsm.specs.declared.table.TunnelEvent.TheVariants.{ScccnAcc, ScccnNotAcc}
-use Rattle.protocol_model.specs.declared.tunnel.Config.{Config}
+use Rattle.end_model.specs.declared.tunnel.Config.{Config}
 use Rattle.end_names.specs.declared.role.Role.{Role}
 use Rattle.end_names.specs.Names.{host_name, calling_number}
-use Rattle.protocol_model.specs.Secrets.{sixteen, lacks_secret, is_wrong}
-use Rattle.protocol_model.specs.Reasons.{Reason, out_of_order, other_version, no_recovery, no_secret}
+use Rattle.end_model.specs.Secrets.{sixteen, lacks_secret, is_wrong}
+use Rattle.end_model.specs.Reasons.{Reason, out_of_order, other_version, no_recovery, no_secret}
 
 -- what an end says of itself when it opens or accepts a tunnel: version 1.0, both kinds of framing, its name, the
 -- tunnel id that it assigns, a window of 8, failover of both kinds within 30 seconds, and what it asks and answers by its secret

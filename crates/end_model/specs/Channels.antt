@@ -7,14 +7,14 @@ use Rattle.control_message.specs.declared.message.Message.{Message}
 use Rattle.control_message.specs.Pairs.{pairs_of}
 use Rattle.recv_window.specs.Window.{on_wire}
 use Rattle.control_channel.specs.Numbers.{one_more, acked_at, taken_by, let_go_at, ticked_at, next_given, learnt_by}
-use Rattle.protocol_model.specs.declared.tunnel.Call.{Call}
-use Rattle.protocol_model.specs.declared.tunnel.Control.{Control}
-use Rattle.protocol_model.specs.declared.out.Out.{Out}
-use Rattle.protocol_model.specs.declared.out.Out.TheVariants.{Send}
-use Rattle.protocol_model.specs.declared.out.Origin.{Origin}
-use Rattle.protocol_model.specs.declared.out.Origin.TheVariants as origin
-use Rattle.protocol_model.specs.declared.moves.Place.{Place}
-use Rattle.protocol_model.specs.Calls.{owed_by}
+use Rattle.end_model.specs.declared.tunnel.Call.{Call}
+use Rattle.end_model.specs.declared.tunnel.Control.{Control}
+use Rattle.end_model.specs.declared.out.Out.{Out}
+use Rattle.end_model.specs.declared.out.Out.TheVariants.{Send}
+use Rattle.end_model.specs.declared.out.Origin.{Origin}
+use Rattle.end_model.specs.declared.out.Origin.TheVariants as origin
+use Rattle.end_model.specs.declared.moves.Place.{Place}
+use Rattle.end_model.specs.Calls.{owed_by}
 
 -- the place of a letter; no tunnel was recovered
 abbrev pub place : ℕ → Place

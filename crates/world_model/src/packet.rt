@@ -1,6 +1,6 @@
 //! What the world keeps of a datagram.
 
-use crate::out::Origin;
+use end_model::Origin;
 use wire_base::Bytes;
 
 /// A datagram that was sent, with what the world keeps beside it.

@@ -3,10 +3,10 @@ use Rattle.std.specs.Prelude.{ℕ, Bool, true, false, not, ◌&&◌, ◌||◌, L
 use Rattle.byteorder.specs.Endian.{big_number}
 use Rattle.lcp_end.specs.declared.out.LcpOut.{LcpOut}
 use Rattle.lcp_end.specs.Steps.{Turn as LcpTurn, fresh}
-use Rattle.protocol_model.specs.declared.tunnel.Call.{Call}
-use Rattle.protocol_model.specs.declared.tunnel.CellChange.{CellChange}
-use Rattle.protocol_model.specs.declared.tunnel.CellChange.TheVariants.{Establish}
-use Rattle.protocol_model.specs.declared.tunnel.Link.{Link}
+use Rattle.end_model.specs.declared.tunnel.Call.{Call}
+use Rattle.session_looks.specs.declared.look.CellChange.{CellChange}
+use Rattle.session_looks.specs.declared.look.CellChange.TheVariants.{Establish}
+use Rattle.end_model.specs.declared.tunnel.Link.{Link}
 
 -- an LCP packet as a PPP frame, from its protocol field on
 abbrev pub lcp_frame : List ℕ → List ℕ

@@ -11,15 +11,15 @@ use Rattle.tunnel_fsm.specs.declared.table.TunnelState.{TunnelState}
 use Rattle.tunnel_fsm.specs.Rows.{state_number}
 use Rattle.call_fsm.specs.Words as call_words
 use Rattle.control_channel.specs.Numbers.{next_given}
-use Rattle.protocol_model.specs.declared.refusal.Refusal.{Refusal}
-use Rattle.protocol_model.specs.declared.refusal.Refusal.TheVariants.{Unfit, HalfSpace}
-use Rattle.protocol_model.specs.declared.tunnel.Call.{Call}
-use Rattle.protocol_model.specs.declared.tunnel.Control.{Control}
+use Rattle.world_model.specs.declared.refusal.Refusal.{Refusal}
+use Rattle.world_model.specs.declared.refusal.Refusal.TheVariants.{Unfit, HalfSpace}
+use Rattle.end_model.specs.declared.tunnel.Call.{Call}
+use Rattle.end_model.specs.declared.tunnel.Control.{Control}
 use Rattle.end_names.specs.Names.{node_of}
-use Rattle.protocol_model.specs.Calls.{is_lac, is_up}
-use Rattle.protocol_model.specs.Turn.{Tunnel}
-use Rattle.protocol_model.specs.Texts.{◌&◌, ended, Entry, entries_text}
-use Rattle.protocol_model.specs.World.{World, Node, Deed, Lined, empty_world, line, count_at}
+use Rattle.end_model.specs.Calls.{is_lac, is_up}
+use Rattle.end_model.specs.Turn.{Tunnel}
+use Rattle.world_model.specs.Texts.{◌&◌, ended, Entry, entries_text}
+use Rattle.world_model.specs.World.{World, Node, Deed, Lined, empty_world, line, count_at}
 
 -- a run, which ends at the first line that is refused
 pub record Run : Type 0 where

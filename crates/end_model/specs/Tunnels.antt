@@ -2,11 +2,11 @@
 use Rattle.std.specs.Prelude.{ℕ, List, [], Bool, false, Option}
 use Rattle.id_source.specs.Spaces.{Space}
 use Rattle.wire_base.specs.declared.letter.Letter.{Letter}
-use Rattle.protocol_model.specs.declared.tunnel.Call.{Call}
-use Rattle.protocol_model.specs.declared.tunnel.CellChange.{CellChange}
-use Rattle.protocol_model.specs.declared.tunnel.Control.{Control}
-use Rattle.protocol_model.specs.declared.out.Out.{Out}
-use Rattle.protocol_model.specs.declared.moves.Move.{Move}
+use Rattle.end_model.specs.declared.tunnel.Call.{Call}
+use Rattle.session_looks.specs.declared.look.CellChange.{CellChange}
+use Rattle.end_model.specs.declared.tunnel.Control.{Control}
+use Rattle.end_model.specs.declared.out.Out.{Out}
+use Rattle.end_model.specs.declared.moves.Move.{Move}
 
 pub record Tunnel : Type 0 where
   pub control : Control

@@ -12,9 +12,9 @@ use Rattle.l2tp_header.specs.Reading.{header_of}
 use Rattle.l2tp_header.specs.Spelling.{control_bytes}
 use Rattle.tunnel_secret.specs.Response.{response_of, is_response}
 use Rattle.control_message.specs.Uncovering.{uncovered}
-use Rattle.protocol_model.specs.declared.event.Event.{Event}
-use Rattle.protocol_model.specs.declared.event.Event.TheVariants.{Datagram, Ring, Frame, Admitted, Payload, Lower, Lcp, Hang, OpenTunnel, DropCall, CloseTunnel, Tick}
-use Rattle.protocol_model.specs.Reading.{body_of}
+use Rattle.end_model.specs.declared.event.Event.{Event}
+use Rattle.end_model.specs.declared.event.Event.TheVariants.{Datagram, Ring, Frame, Admitted, Payload, Lower, Lcp, Hang, OpenTunnel, DropCall, CloseTunnel, Tick}
+use Rattle.end_model.specs.Reading.{body_of}
 
 -- ---- challenges and responses
 

@@ -11,6 +11,3 @@ pub mod Tunnels
 pub mod Turn
 pub mod End
 pub mod Access
-pub mod Texts
-pub mod World
-pub mod Run

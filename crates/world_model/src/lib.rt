@@ -1,0 +1,12 @@
+//! What a world of ends means: the definitions that the contracts of the replay and of the program cite, and the two types
+//! that they share.
+//!
+//! A line of a schedule gives the next world, entries of the report, and what was done; a run goes from line to line, and
+//! its report is the text of the entries, and of the tables at the end.
+#![tactic(auto)]
+
+mod packet;
+mod refusal;
+
+pub use packet::Packet;
+pub use refusal::Refusal;
