@@ -21,3 +21,5 @@ mod pppoe_session_tests;
 mod recv_window_tests;
 #[cfg(test)]
 mod session_book_tests;
+#[cfg(test)]
+mod session_query_tests;

@@ -31,11 +31,11 @@ use Rattle.end_model.specs.declared.out.Out.{Out}
 use Rattle.end_model.specs.declared.out.Out.TheVariants.{Send, Up, Drop, Cause}
 use Rattle.end_model.specs.declared.moves.Move.{Move}
 use Rattle.end_model.specs.declared.moves.Move.TheVariants as move
-use Rattle.session_looks.specs.Frames.{Carried, Upward, Dropped, carry_look, frame_of}
+use Rattle.session_looks.specs.Frames.{Carried, Upward, Dropped, carry_look, frame_of, header_why}
 use Rattle.end_model.specs.Calls.{is_lac}
 use Rattle.end_model.specs.declared.event.Addressee.{Addressee}
 use Rattle.end_model.specs.declared.event.Addressee.TheVariants.{Opens, Stops, Answers, Main, Nobody}
-use Rattle.end_model.specs.Reading.{header_why, body_of, message_in, TunnelFault, tunnel_fault_in, at_zero, at_tunnel}
+use Rattle.end_model.specs.Reading.{body_of, message_in, TunnelFault, tunnel_fault_in, at_zero, at_tunnel}
 use Rattle.end_model.specs.Secrets.{lacks_secret, uncovered_datagram, uncovered_event}
 use Rattle.end_model.specs.Turn.{Tunnel, Drawing, Env, Turn, Reason, out_of_order, other_version, no_recovery, no_secret, fault_reason, turn_of, tunnel_after, fresh, turns, is_closed}
 use Rattle.end_model.specs.Reasons.{no_tunnel, no_id}

@@ -8,8 +8,6 @@ use Rattle.avp_codec.specs.declared.avp.Avp.{Avp}
 use Rattle.avp_codec.specs.declared.error.AvpError.{AvpError}
 use Rattle.avp_codec.specs.Reading.{avps_of}
 use Rattle.l2tp_header.specs.declared.header.Header.{Header}
-use Rattle.l2tp_header.specs.declared.header.HeaderError.{HeaderError}
-use Rattle.l2tp_header.specs.declared.header.HeaderError.TheVariants as header
 use Rattle.control_message.specs.declared.message.Message.{Message}
 use Rattle.control_message.specs.declared.message.Message.TheVariants.{Sccrq, Sccrp, StopCcn}
 use Rattle.control_message.specs.declared.message.Read.{Read}
@@ -23,12 +21,6 @@ use Rattle.tunnel_fsm.specs.declared.table.TunnelEvent.{TunnelEvent}
 use Rattle.tunnel_fsm.specs.declared.table.TunnelEvent.TheVariants as event
 use Rattle.end_model.specs.declared.event.Addressee.{Addressee}
 use Rattle.end_model.specs.declared.event.Addressee.TheVariants.{Opens, Stops, Answers, Main, Nobody}
-
-abbrev pub header_why : HeaderError → Why
-header_why header.Short = why.Short
-header_why (header.Version seen) = why.Version
-header_why (header.ControlFlags word) = why.Flags
-header_why (header.Length said have) = why.Length
 
 -- the bytes between the header and the end that it tells
 abbrev pub body_of : Header → List ℕ → List ℕ

@@ -56,7 +56,8 @@ pub use Rattle.end_model.specs.Secrets.{challenge_by, response_by}
 pub use Rattle.end_model.specs.Moments.{is_over, patience, is_closed, kept_closed, is_being_set_up, is_at_its_end}
 pub use Rattle.end_model.specs.Reasons.{Reason, reason, out_of_state, out_of_order, other_version, no_recovery, no_secret, fault_error, fault_reason}
 use Rattle.end_names.specs.Names.{subscriber}
-use Rattle.end_model.specs.Reading.{header_why, body_of, message_in, CallFault, call_fault_in, TunnelFault, tunnel_fault_in}
+use Rattle.session_looks.specs.Frames.{header_why}
+use Rattle.end_model.specs.Reading.{body_of, message_in, CallFault, call_fault_in, TunnelFault, tunnel_fault_in}
 pub use Rattle.end_model.specs.Calls.{call_row, advanced, rung, asked_for, is_request, is_reply, is_connection, is_up, is_set_up, owed_by, are_too_many, is_clean_up, is_short, is_long}
 pub use Rattle.end_model.specs.Links.{lcp_frame, new_link, with_link, link_after, is_first_open, looks_of, is_passing}
 

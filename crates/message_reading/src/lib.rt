@@ -14,7 +14,7 @@ pub use openings::{
     against, connected_event, connected_reason, connection_by, event_by, is_of_version,
     lacks_secret, no_recovery, no_secret, opening_reason, other_version, reply_by,
 };
-pub use reading::{CallFault, Said, TunnelFault, header_why, read_body};
+pub use reading::{CallFault, Said, TunnelFault, read_body};
 pub use reasons::{
     Reason, fault_reason, no_id, no_outgoing, no_tunnel, out_of_order, out_of_state,
 };

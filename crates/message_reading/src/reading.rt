@@ -3,30 +3,17 @@
 ghost use Rattle.std.specs.Prelude.{◌≡◌, Ok, Err, Some, IfOk};
 ghost use Rattle.tunnel_fsm.specs.declared.table.TunnelEvent.TheVariants as event;
 ghost use Rattle.control_message.specs.Reading.{kind_of_pairs};
-ghost use Rattle.end_model.specs.Reading.{header_why, message_in, pairs_read, fault_cause, is_about_call, is_request, is_value, is_for_call, fault_of_kind, fault_of_pairs, call_fault_in, event_of_kind, told_by_kind, closing, closing_by, tunnel_fault_of_kind, tunnel_fault_read, tunnel_fault_of_pairs, tunnel_fault_in};
+ghost use Rattle.end_model.specs.Reading.{message_in, pairs_read, fault_cause, is_about_call, is_request, is_value, is_for_call, fault_of_kind, fault_of_pairs, call_fault_in, event_of_kind, told_by_kind, closing, closing_by, tunnel_fault_of_kind, tunnel_fault_read, tunnel_fault_of_pairs, tunnel_fault_in};
 
 use avp_codec::{AvpError, Avps, read_avps};
 use control_message::{
     Kind, Message, MessageError, Read, assigned_session, assigned_tunnel, kind_of_pairs,
     read_message,
 };
-use l2tp_header::HeaderError;
 use std::alloc::Global;
 use std::marker::Model;
 use tunnel_fsm::TunnelEvent;
 use wire_base::{Cause, NoMemory, Why};
-
-/// The word of the refusal of a datagram whose header couldn't be read (RFC 2661 section 3.1).
-pub fn header_why(error: HeaderError) -> Why
-    ensures { result ≡ header_why error }
-{
-    match error {
-        HeaderError::Short => Why::Short,
-        HeaderError::Version { .. } => Why::Version,
-        HeaderError::ControlFlags { .. } => Why::Flags,
-        HeaderError::Length { .. } => Why::Length,
-    }
-}
 
 /// A message about a call that has a fault, and the session id that it tells, where that can be read.
 #[derive(Drop)]

@@ -5,10 +5,19 @@ use Rattle.wire_base.specs.declared.why.Why.TheVariants as why
 use Rattle.wire_base.specs.declared.letter.Side.{Side}
 use Rattle.wire_base.specs.declared.letter.Side.TheVariants as side
 use Rattle.l2tp_header.specs.declared.header.Header.{Header}
+use Rattle.l2tp_header.specs.declared.header.HeaderError.{HeaderError}
+use Rattle.l2tp_header.specs.declared.header.HeaderError.TheVariants as header
 use Rattle.end_names.specs.declared.role.Role.{Role}
 use Rattle.end_names.specs.declared.role.Role.TheVariants.{Lac, Lns}
 use Rattle.session_looks.specs.declared.look.Look.{Look}
 use Rattle.session_looks.specs.declared.look.Look.TheVariants.{Unborn, Bound, Established, Dead}
+
+-- a datagram whose header can't be read is dropped
+abbrev pub header_why : HeaderError → Why
+header_why header.Short = why.Short
+header_why (header.Version seen) = why.Version
+header_why (header.ControlFlags word) = why.Flags
+header_why (header.Length said have) = why.Length
 
 -- a frame that is handed up, and where, or why it is dropped
 pub data Carried : Type 0 where

@@ -1,12 +1,24 @@
 //! What becomes of a data message, by what is seen of its session.
 
 ghost use Rattle.std.specs.Prelude.{◌≡◌, MatchResult};
-ghost use Rattle.session_looks.specs.Frames.{is_lcp, is_for_lcp, side_of, frame_of, carry_known, carry_look, Upward, Dropped};
+ghost use Rattle.session_looks.specs.Frames.{header_why, is_lcp, is_for_lcp, side_of, frame_of, carry_known, carry_look, Upward, Dropped};
 
 use crate::look::Look;
 use end_names::Role;
-use l2tp_header::Header;
+use l2tp_header::{Header, HeaderError};
 use wire_base::{Side, Why};
+
+/// The word of the refusal of a datagram whose header couldn't be read (RFC 2661 section 3.1).
+pub fn header_why(error: HeaderError) -> Why
+    ensures { result ≡ header_why error }
+{
+    match error {
+        HeaderError::Short => Why::Short,
+        HeaderError::Version { .. } => Why::Version,
+        HeaderError::ControlFlags { .. } => Why::Flags,
+        HeaderError::Length { .. } => Why::Length,
+    }
+}
 
 /// Whether a frame is one of LCP, by its protocol field (RFC 1661 section 2).
 fn is_lcp(frame: &[u8]) -> bool

@@ -6,5 +6,5 @@
 mod frames;
 mod look;
 
-pub use frames::{Way, carry_look, frame_of};
+pub use frames::{Way, carry_look, frame_of, header_why};
 pub use look::{CellChange, CellChanges, Look};

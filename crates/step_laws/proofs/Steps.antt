@@ -28,8 +28,8 @@ use Rattle.end_model.specs.declared.out.Out.{Out}
 use Rattle.end_model.specs.declared.out.Out.TheVariants.{Up, Drop, Cause}
 use Rattle.end_model.specs.declared.moves.Move.{Move}
 use Rattle.end_model.specs.declared.moves.Move.TheVariants as move
-use Rattle.end_model.specs.Reading.{header_why, body_of, at_zero, at_tunnel}
-use Rattle.session_looks.specs.Frames.{frame_of, is_lcp, is_for_lcp, lns_side, side_of, Carried, Upward, Dropped, carry_known, carry_look}
+use Rattle.session_looks.specs.Frames.{header_why, frame_of, is_lcp, is_for_lcp, lns_side, side_of, Carried, Upward, Dropped, carry_known, carry_look}
+use Rattle.end_model.specs.Reading.{body_of, at_zero, at_tunnel}
 use Rattle.end_model.specs.Calls.{is_lac}
 use Rattle.end_model.specs.Turn.{Tunnel, Env, turns}
 use Rattle.end_model.specs.End.{End, Stepped, env_of, in_new, in_one_more, in_main, is_known, known_as, opened_before, stopped_at, opens_once, addressed, for_addressee, least_in, rings_in, rings_at, for_call, look_in, behind, then_heard, handed, hands_up, receives, only_by, step_in, plain_step}

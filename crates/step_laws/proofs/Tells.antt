@@ -27,7 +27,8 @@ use Rattle.end_model.specs.declared.event.Event.{Event}
 use Rattle.end_model.specs.declared.tunnel.Call.{Call}
 use Rattle.end_model.specs.declared.out.Out.{Out}
 use Rattle.end_model.specs.declared.out.Out.TheVariants.{Send, Up, Gone, Drop, Cause}
-use Rattle.end_model.specs.Reading.{header_why, message_read, pairs_read, message_in, CallFault, fault_cause, is_for_call, with_cause, fault_of_kind, fault_read, fault_of_pairs, call_fault_in}
+use Rattle.session_looks.specs.Frames.{header_why}
+use Rattle.end_model.specs.Reading.{message_read, pairs_read, message_in, CallFault, fault_cause, is_for_call, with_cause, fault_of_kind, fault_read, fault_of_pairs, call_fault_in}
 use Rattle.end_model.specs.Calls.{call_row, is_reply, are_too_many}
 use Rattle.end_model.specs.Turn.{Tunnel, Reason, reason, out_of_state, call_of, left_of, granted}
 use Rattle.end_model.specs.End.{End}

@@ -21,8 +21,8 @@ use Rattle.wire_base.specs.declared.letter.Side.TheVariants as side
 use Rattle.end_model.specs.declared.event.Event.TheVariants.{Datagram, Ring, Payload, Lower, Lcp, Hang, OpenTunnel, DropCall, CloseTunnel, Tick, Admitted, Frame}
 use Rattle.end_model.specs.declared.out.Out.{Out}
 use Rattle.end_model.specs.declared.out.Out.TheVariants.{Up, Drop, Cause}
-use Rattle.end_model.specs.Reading.{header_why, body_of}
-use Rattle.session_looks.specs.Frames.{Carried, Upward, Dropped}
+use Rattle.session_looks.specs.Frames.{header_why, Carried, Upward, Dropped}
+use Rattle.end_model.specs.Reading.{body_of}
 use Rattle.end_model.specs.Calls.{is_lac}
 use Rattle.end_model.specs.Turn.{Tunnel, Env, Reason, out_of_order, turn_of, fresh, turns}
 use Rattle.end_model.specs.End.{End, Stepped, env_of, gives_only, after_turn, after_new, in_new, has_all_tunnels, in_one_more, in_main, addressed, against_body, next_of_peer, declined, opens_or_declines, for_addressee, least_in, rings_in, rings_at, for_call, then_heard, handed, hands_up, receives, Turned, tick_of, ticks_of, after_all, ticks_all, only_by, step_in, plain_step}

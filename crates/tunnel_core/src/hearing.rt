@@ -16,12 +16,13 @@ use crate::turn::Turn;
 use control_message::{Message, Opening};
 use l2tp_header::{Header, read_header};
 use message_reading::{
-    Reason, Said, connected_event, connected_reason, event_by, header_why, no_outgoing,
+    Reason, Said, connected_event, connected_reason, event_by, no_outgoing,
     opening_reason, out_of_order, read_body,
 };
 use end_model::{Config, Role};
 use recv_window::Class;
 use send_window::Letters;
+use session_looks::header_why;
 use tunnel_calls::TunnelCalls;
 use tunnel_fsm::{TunnelAction, TunnelEvent, TunnelState, advance};
 use tunnel_rules::{is_closed, may_take, same_state};

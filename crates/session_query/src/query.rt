@@ -1,0 +1,144 @@
+//! What an end asks.
+
+ghost use Rattle.std.specs.Prelude.{◌≡◌, ◌+◌, ◌≤◌, ◌<◌, List, length, nat_lt, Some, None, Ok, Err, OnOk, OnErr, IfOk, MatchResult};
+ghost use Rattle.session_query.specs.Queries.{Asking, new_query, next_batch, with_batch, agrees, difference, gone_in, told_in, answered, unanswered, is_complete, IsFirst};
+ghost use Rattle.session_query.specs.Says.{SaysGone};
+
+use std::alloc::Global;
+use std::marker::Model;
+use wire_base::{NoMemory, Pair, Pairs};
+
+/// How many pairs a message asks for at most.
+const BATCH: usize = 64;
+
+/// Why an answer isn't taken.
+#[derive(Clone, Copy, PartialEq, Eq, Debug)]
+pub enum FsrError {
+    /// It isn't the answer to what was asked for: this place is the first that differs, counted from 0; 0 where nothing is
+    /// unanswered.
+    NotAsked { at: usize },
+    /// Memory was wanting.
+    NoMemory,
+}
+
+impl From<NoMemory> for FsrError {
+    fn from(_e: NoMemory) -> FsrError {
+        FsrError::NoMemory
+    }
+}
+
+/// The sessions that an end asks for, of how many of them it is known whether they are there, and of how many more it is asked.
+#[derive(Drop)]
+pub struct Query {
+    pairs: Pairs,
+    done: usize,
+    asked: usize,
+}
+
+impl Model for Query {
+    ghost use Rattle.std.specs.Prelude.{◌+◌, ◌≤◌, length};
+    ghost use Rattle.session_query.specs.Queries.{Asking};
+
+    ghost Value = { Asking };
+
+    ghost view = { λ q. record { pairs = q.pairs; done = q.done; asked = q.asked } };
+
+    ghost invariant = { λ q. q.done + q.asked ≤ length q.pairs };
+}
+
+/// Whether an answer is one to a pair.
+fn agrees(asked: &Pair, answer: &Pair) -> bool
+    ensures { result ≡ agrees asked.now answer.now }
+{
+    answer.receiver == asked.sender && (answer.sender == asked.receiver || answer.sender == 0)
+}
+
+/// The first place at which answers aren't those to what was asked for.
+fn first_difference(asked: &[Pair], answers: &[Pair]) -> Option<usize>
+    ensures { result ≡ difference asked.now answers.now 0 }
+{
+    for at in 0..asked.len() {
+        if at >= answers.len() || !agrees(&asked[at], &answers[at]) {
+            return Some(at);
+        }
+    }
+    if answers.len() > asked.len() {
+        Some(asked.len())
+    } else {
+        None
+    }
+}
+
+/// What was asked for and isn't there.
+fn gone_in(alloc: Global, asked: &[Pair], answers: &[Pair]) -> Result<Pairs, NoMemory>
+    requires { length asked.now ≡ length answers.now }
+    ensures { IfOk result (λ gone. gone ≡ gone_in asked.now answers.now) }
+{
+    let mut gone = Pairs::new(alloc);
+    for at in 0..asked.len() {
+        if answers[at].sender == 0 {
+            gone.push(asked[at])?;
+        }
+    }
+    Ok(gone)
+}
+
+impl Query {
+    /// A question for these sessions, the sender's ids being its own. It takes no memory.
+    pub fn start(pairs: Pairs) -> Query
+        ensures { result ≡ new_query pairs }
+    {
+        Query {
+            pairs,
+            done: 0,
+            asked: 0,
+        }
+    }
+
+    /// The next batch to ask for, 64 pairs at most; none exactly where one is unanswered, or no pair is left. Where memory is
+    /// wanting, the query is as before.
+    #[tactic(auto, unfolding(crate::specs::Queries::next_batch))]
+    pub fn next_fsq(&mut self, alloc: Global) -> Result<Option<Pairs>, NoMemory>
+        ensures batch { IfOk result (λ batch. batch ≡ next_batch self.old) }
+        ensures ok { OnOk result (self.new ≡ with_batch self.old (next_batch self.old)) }
+        ensures err { OnErr result (self.new ≡ self.old) }
+    {
+        if self.asked > 0 || self.done == self.pairs.len() {
+            return Ok(None);
+        }
+        let left = &self.pairs.as_slice()[self.done..];
+        let batch = Pairs::from_slice(alloc, &left[..left.len().min(BATCH)])?;
+        self.asked = batch.len();
+        Ok(Some(batch))
+    }
+
+    /// Hears the answer to the batch that is unanswered, and gives the sessions that are gone, as they were asked for: those whose
+    /// answer has 0 for its sender. An answer agrees with a pair that was asked for where its receiver's id is the pair's sender's,
+    /// and its sender's is the pair's receiver's, or 0. Where it is refused, the query is as before.
+    #[tactic(auto, unfolding(crate::specs::Queries::told_in))]
+    pub fn on_fsr(&mut self, alloc: Global, answers: &[Pair]) -> Result<Pairs, FsrError>
+        // For callers: the answer as a function of the query and the pairs.
+        ensures exact { SaysGone result (told_in self.old answers.now) }
+        ensures ok { OnOk result (self.new ≡ answered self.old) }
+        ensures err { OnErr result (self.new ≡ self.old) }
+    {
+        if self.asked == 0 {
+            return Err(FsrError::NotAsked { at: 0 });
+        }
+        let asked = &self.pairs.as_slice()[self.done..self.done + self.asked];
+        if let Some(at) = first_difference(asked, answers) {
+            return Err(FsrError::NotAsked { at });
+        }
+        let gone = gone_in(alloc, asked, answers)?;
+        self.done += self.asked;
+        self.asked = 0;
+        Ok(gone)
+    }
+
+    /// Whether of each session it is known whether it is there.
+    pub fn complete(&self) -> bool
+        ensures { result ≡ is_complete self.now }
+    {
+        self.done >= self.pairs.len()
+    }
+}
