@@ -14,7 +14,8 @@ use Rattle.world_model.specs.declared.packet.Packet.{Packet}
 use Rattle.end_names.specs.Names.{address_of, mac_of}
 use Rattle.end_model.specs.Secrets.{uncovered_event}
 use Rattle.end_model.specs.Calls.{owed_by}
-use Rattle.end_model.specs.Turn.{Tunnel, is_closed}
+use Rattle.end_model.specs.Tunnels.{Tunnel}
+use Rattle.end_model.specs.Moments.{is_closed}
 use Rattle.id_source.specs.Spaces.{draws}
 use Rattle.pppoe_discovery.specs.Told.{pads_to}
 use Rattle.end_model.specs.End.{End, Stepped, step}

@@ -16,7 +16,9 @@ use Rattle.end_model.specs.declared.moves.Move.TheVariants as move
 use Rattle.end_model.specs.declared.out.ControlOrigin.{ControlOrigin}
 use Rattle.end_model.specs.declared.tunnel.Control.{Control}
 use Rattle.end_names.specs.Names.{address_of, node_of}
-use Rattle.end_model.specs.Turn.{Tunnel, letter_of, opening_of, counts_taken, learns_window}
+use Rattle.end_model.specs.Tunnels.{Tunnel}
+use Rattle.end_model.specs.Channels.{letter_of, counts_taken, learns_window}
+use Rattle.end_model.specs.Messages.{opening_of}
 use Rattle.end_model.specs.End.{End}
 use Rattle.world_model.specs.World.{Sender, Deed, config_of}
 use Rattle.step_laws.specs.Letters.{Letter}

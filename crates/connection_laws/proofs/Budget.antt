@@ -11,7 +11,8 @@ use Rattle.end_model.specs.declared.event.Event.{Event}
 use Rattle.end_model.specs.declared.moves.Move.{Move}
 use Rattle.end_model.specs.declared.moves.Move.TheVariants as move
 use Rattle.end_model.specs.declared.tunnel.Control.{Control}
-use Rattle.end_model.specs.Turn.{Tunnel, learns_window}
+use Rattle.end_model.specs.Tunnels.{Tunnel}
+use Rattle.end_model.specs.Channels.{learns_window}
 use Rattle.end_model.specs.End.{End}
 use Rattle.world_model.specs.World.{Sender, Deed}
 use Rattle.step_laws.specs.Moves.{Does}

@@ -30,7 +30,10 @@ use Rattle.end_model.specs.declared.tunnel.CallPlace.{CallPlace}
 use Rattle.end_names.specs.declared.role.Role.{Role}
 use Rattle.end_names.specs.Names.{calling_number}
 use Rattle.end_model.specs.Calls.{call_row, is_told, advanced, rung}
-use Rattle.end_model.specs.Turn.{Tunnel, has_room, request_of, with_link, link_after}
+use Rattle.end_model.specs.Tunnels.{Tunnel}
+use Rattle.end_model.specs.Channels.{has_room}
+use Rattle.end_model.specs.Messages.{request_of}
+use Rattle.end_model.specs.Links.{with_link, link_after}
 use Rattle.end_model.specs.End.{End, new_place}
 use Rattle.world_model.specs.World.{Sender, Deed, config_of}
 use Rattle.step_laws.specs.Letters.{Letter, letters_of}

@@ -18,7 +18,7 @@ use Rattle.end_model.specs.declared.out.Origin.TheVariants as origin
 use Rattle.world_model.specs.declared.packet.Packet.{Packet}
 use Rattle.end_model.specs.declared.tunnel.Call.{Call}
 use Rattle.end_model.specs.declared.tunnel.Control.{Control}
-use Rattle.end_model.specs.Turn.{Tunnel}
+use Rattle.end_model.specs.Tunnels.{Tunnel}
 use Rattle.end_model.specs.End.{End}
 use Rattle.world_model.specs.World.{Sender}
 use Rattle.step_laws.specs.Letters.{Letter}

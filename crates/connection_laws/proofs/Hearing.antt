@@ -24,7 +24,7 @@ use Rattle.world_model.specs.declared.packet.Packet.{Packet}
 use Rattle.end_model.specs.declared.tunnel.Control.{Control}
 use Rattle.end_names.specs.Names.{address_of}
 use Rattle.end_model.specs.Reading.{body_of, message_in, pairs_read, message_read}
-use Rattle.end_model.specs.Turn.{Tunnel}
+use Rattle.end_model.specs.Tunnels.{Tunnel}
 use Rattle.end_model.specs.End.{End}
 use Rattle.world_model.specs.World.{Sender, sender_of}
 use Rattle.step_laws.specs.Letters.{Letter}

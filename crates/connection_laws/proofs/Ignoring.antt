@@ -13,7 +13,7 @@ use Rattle.end_model.specs.declared.out.ControlOrigin.{ControlOrigin}
 use Rattle.end_model.specs.declared.moves.Place.{Place}
 use Rattle.end_model.specs.declared.moves.Move.{Move}
 use Rattle.end_names.specs.declared.role.Role.{Role}
-use Rattle.end_model.specs.Turn.{Tunnel}
+use Rattle.end_model.specs.Tunnels.{Tunnel}
 use Rattle.end_model.specs.End.{End}
 use Rattle.world_model.specs.World.{Sender, Deed}
 use Rattle.step_laws.specs.Letters.{Letter}

@@ -14,7 +14,7 @@ use Rattle.recv_window.specs.Window.{class_of, ClassIsTrue}
 use Rattle.end_model.specs.declared.event.Event.{Event}
 use Rattle.end_model.specs.declared.out.ControlOrigin.{ControlOrigin}
 use Rattle.end_model.specs.Reading.{body_of, message_in}
-use Rattle.end_model.specs.Turn.{Tunnel}
+use Rattle.end_model.specs.Tunnels.{Tunnel}
 use Rattle.end_model.specs.End.{End}
 use Rattle.world_model.specs.World.{Sender}
 use Rattle.step_laws.specs.Letters.{Letter}

@@ -26,7 +26,12 @@ use Rattle.end_model.specs.declared.tunnel.Call.{Call}
 use Rattle.end_model.specs.declared.tunnel.CallPlace.{CallPlace}
 use Rattle.end_names.specs.declared.role.Role.{Role}
 use Rattle.end_model.specs.Calls.{advanced, asked_for}
-use Rattle.end_model.specs.Turn.{Tunnel, has_room, taken_place, in_state, counts_taken, connection, session_named, with_link}
+use Rattle.end_model.specs.Tunnels.{Tunnel}
+use Rattle.end_model.specs.Channels.{has_room, taken_place, counts_taken}
+use Rattle.end_model.specs.Openings.{in_state}
+use Rattle.end_model.specs.Messages.{connection}
+use Rattle.end_model.specs.Asking.{session_named}
+use Rattle.end_model.specs.Links.{with_link}
 use Rattle.end_model.specs.End.{End}
 use Rattle.world_model.specs.World.{Sender, Deed}
 use Rattle.step_laws.specs.Letters.{Letter}

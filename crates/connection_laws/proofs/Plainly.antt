@@ -18,7 +18,8 @@ use Rattle.end_model.specs.declared.moves.TookPlain.{TookPlain}
 use Rattle.end_model.specs.declared.moves.Place.{Place}
 use Rattle.end_model.specs.declared.moves.Move.TheVariants as move
 use Rattle.end_model.specs.Reading.{body_of, message_in, TunnelFault, tunnel_fault_in}
-use Rattle.end_model.specs.Turn.{Tunnel, counts_taken}
+use Rattle.end_model.specs.Tunnels.{Tunnel}
+use Rattle.end_model.specs.Channels.{counts_taken}
 use Rattle.end_model.specs.End.{End}
 use Rattle.world_model.specs.World.{Sender, Deed}
 use Rattle.step_laws.specs.Moves.{Came, IsNext, SaysStop}

@@ -7,7 +7,7 @@ use Rattle.end_model.specs.declared.event.Event.TheVariants.{Datagram, Ring, Fra
 use Rattle.end_model.specs.declared.out.Origin.{Origin}
 use Rattle.end_model.specs.declared.out.Origin.TheVariants as origin
 use Rattle.world_model.specs.declared.packet.Packet.{Packet}
-use Rattle.end_model.specs.Turn.{Tunnel}
+use Rattle.end_model.specs.Tunnels.{Tunnel}
 use Rattle.end_model.specs.End.{End}
 use Rattle.world_model.specs.World.{Sender}
 use Rattle.connection_laws.specs.Facts.{Accounts, IsMade, AccountOk, LiveOk, EndOk, AreNear, Comes}

@@ -9,7 +9,7 @@ use Rattle.l2tp_header.specs.declared.header.Header.{Header}
 use Rattle.l2tp_header.specs.Reading.{header_of}
 use Rattle.end_model.specs.declared.event.Addressee.TheVariants.{Opens, Stops, Main}
 use Rattle.end_model.specs.Reading.{body_of, at_zero, at_tunnel}
-use Rattle.end_model.specs.Turn.{Tunnel}
+use Rattle.end_model.specs.Tunnels.{Tunnel}
 use Rattle.end_model.specs.End.{End, is_known, known_as, opens_once, addressed, main_of, reached_by, reached_plain}
 use Rattle.step_laws.specs.Letters.{Among}
 use Rattle.step_laws.specs.Moves.{IsAgain, IsStop, IsFor}

@@ -19,7 +19,7 @@ use Rattle.end_model.specs.declared.out.ControlOrigin.{ControlOrigin}
 use Rattle.world_model.specs.declared.packet.Packet.{Packet}
 use Rattle.end_names.specs.Names.{address_of}
 use Rattle.end_model.specs.Reading.{body_of, at_zero, at_tunnel}
-use Rattle.end_model.specs.Turn.{Tunnel}
+use Rattle.end_model.specs.Tunnels.{Tunnel}
 use Rattle.end_model.specs.End.{reached, End, opens_once, addressed, main_of, reached_by, reached_plain}
 use Rattle.world_model.specs.World.{Node, too_old}
 use Rattle.world_model.specs.Run.{Run}

@@ -14,7 +14,8 @@ use Rattle.end_model.specs.declared.event.Event.{Event}
 use Rattle.end_model.specs.declared.moves.Move.TheVariants as move
 use Rattle.end_model.specs.declared.out.ControlOrigin.{ControlOrigin}
 use Rattle.end_model.specs.declared.tunnel.Control.{Control}
-use Rattle.end_model.specs.Turn.{Tunnel, counts_taken}
+use Rattle.end_model.specs.Tunnels.{Tunnel}
+use Rattle.end_model.specs.Channels.{counts_taken}
 use Rattle.end_model.specs.End.{End}
 use Rattle.world_model.specs.World.{Sender, Deed}
 use Rattle.step_laws.specs.Letters.{Letter}

@@ -7,7 +7,7 @@ use Rattle.control_message.specs.declared.message.Message.TheVariants.{Sccrq, Sc
 use Rattle.recv_window.specs.Window.{ClassIsTrue}
 use Rattle.end_model.specs.declared.event.Event.{Event}
 use Rattle.end_model.specs.declared.out.ControlOrigin.{ControlOrigin}
-use Rattle.end_model.specs.Turn.{Tunnel}
+use Rattle.end_model.specs.Tunnels.{Tunnel}
 use Rattle.end_model.specs.End.{End}
 use Rattle.world_model.specs.World.{Sender}
 use Rattle.step_laws.specs.Letters.{Letter}

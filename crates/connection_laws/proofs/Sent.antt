@@ -16,7 +16,8 @@ use Rattle.end_model.specs.declared.out.ControlOrigin.{ControlOrigin}
 use Rattle.world_model.specs.declared.packet.Packet.{Packet}
 use Rattle.end_names.specs.Names.{node_of}
 use Rattle.control_message.specs.declared.message.Message.{Message}
-use Rattle.end_model.specs.Turn.{Tunnel, letter_as}
+use Rattle.end_model.specs.Tunnels.{Tunnel}
+use Rattle.end_model.specs.Channels.{letter_as}
 use Rattle.end_model.specs.End.{End}
 use Rattle.world_model.specs.World.{Sender}
 use Rattle.step_laws.specs.Letters.{Letter, letter_at, Carries}

@@ -17,7 +17,7 @@ use Rattle.end_names.specs.Names.{address_of}
 use Rattle.end_model.specs.declared.event.Addressee.TheVariants.{Opens, Stops}
 use Rattle.end_model.specs.Reading.{body_of, at_zero}
 use Rattle.end_model.specs.Secrets.{uncovered_datagram}
-use Rattle.end_model.specs.Turn.{Tunnel}
+use Rattle.end_model.specs.Tunnels.{Tunnel}
 use Rattle.end_model.specs.End.{End, reached_plain}
 use Rattle.world_model.specs.World.{Node, outlives, too_old, refused_by, sender_of}
 use Rattle.step_laws.specs.Moves.{IsFor}

@@ -17,7 +17,8 @@ use Rattle.end_model.specs.declared.tunnel.Call.{Call}
 use Rattle.end_names.specs.declared.role.Role.{Role}
 use Rattle.end_names.specs.declared.role.Role.TheVariants.{Lac, Lns}
 use Rattle.end_model.specs.Calls.{call_row, is_told, rung, advanced}
-use Rattle.end_model.specs.Turn.{Tunnel, is_closed}
+use Rattle.end_model.specs.Tunnels.{Tunnel}
+use Rattle.end_model.specs.Moments.{is_closed}
 use Rattle.connection_laws.specs.Accounts.{Part, Unmade, Opener, Acceptor, Account, heeded}
 use Rattle.connection_laws.specs.Facts.{Accounts, partner_in, IsOpen, IsClosed, IsLost, AllWait, IsShut, IsInState}
 

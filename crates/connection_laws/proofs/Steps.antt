@@ -11,7 +11,7 @@ use Rattle.end_model.specs.declared.moves.Move.{Move}
 use Rattle.end_model.specs.declared.moves.Move.TheVariants as move
 use Rattle.end_names.specs.declared.role.Role.{Role}
 use Rattle.end_model.specs.Reading.{body_of}
-use Rattle.end_model.specs.Turn.{Tunnel}
+use Rattle.end_model.specs.Tunnels.{Tunnel}
 use Rattle.end_model.specs.End.{End}
 use Rattle.world_model.specs.World.{World, Sender, Deed, deed_of}
 use Rattle.step_laws.specs.Letters.{Among}

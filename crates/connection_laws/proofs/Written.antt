@@ -14,7 +14,7 @@ use Rattle.end_model.specs.declared.tunnel.Config.{Config}
 use Rattle.end_names.specs.declared.role.Role.{Role}
 use Rattle.end_names.specs.declared.role.Role.TheVariants.{Lac, Lns}
 use Rattle.end_names.specs.Names.{address_of, node_of, host_name, calling_number}
-use Rattle.end_model.specs.Turn.{opening_of, request_of}
+use Rattle.end_model.specs.Messages.{opening_of, request_of}
 
 -- ---- messages
 

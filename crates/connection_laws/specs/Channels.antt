@@ -12,7 +12,7 @@ use Rattle.end_model.specs.declared.out.ControlOrigin.{ControlOrigin}
 use Rattle.world_model.specs.declared.packet.Packet.{Packet}
 use Rattle.end_model.specs.declared.tunnel.Control.{Control}
 use Rattle.end_names.specs.Names.{address_of}
-use Rattle.end_model.specs.Turn.{Tunnel}
+use Rattle.end_model.specs.Tunnels.{Tunnel}
 use Rattle.end_model.specs.End.{reached}
 use Rattle.world_model.specs.World.{Node, Sender, Deed, too_old}
 use Rattle.world_model.specs.Run.{Run, run}

@@ -28,7 +28,8 @@ use Rattle.end_names.specs.declared.role.Role.TheVariants.{Lac}
 use Rattle.call_fsm.specs.declared.table.CallState.TheVariants.{WaitTunnel}
 use Rattle.end_names.specs.Names.{address_of}
 use Rattle.end_model.specs.Secrets.{uncovered_datagram}
-use Rattle.end_model.specs.Turn.{Tunnel, letter_as}
+use Rattle.end_model.specs.Tunnels.{Tunnel}
+use Rattle.end_model.specs.Channels.{letter_as}
 use Rattle.end_model.specs.End.{End}
 use Rattle.world_model.specs.World.{World, Node, Sender, sender_of}
 use Rattle.step_laws.specs.Letters.{Letter}

@@ -15,7 +15,8 @@ use Rattle.end_names.specs.Names.{node_of}
 use Rattle.end_model.specs.declared.tunnel.Control.{Control}
 use Rattle.end_names.specs.declared.role.Role.{Role}
 use Rattle.end_model.specs.Reading.{tunnel_fault_in, message_in, CallFault, TunnelFault}
-use Rattle.end_model.specs.Turn.{Tunnel, is_closed}
+use Rattle.end_model.specs.Tunnels.{Tunnel}
+use Rattle.end_model.specs.Moments.{is_closed}
 use Rattle.end_model.specs.End.{End, plain_step}
 use Rattle.world_model.specs.World.{World, Node, Sender, Deed, Lined, birth_of, moved_all, new_node, deed_of, line}
 use Rattle.world_model.specs.Run.{Run, empty_run, after_line}

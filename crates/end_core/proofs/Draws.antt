@@ -14,7 +14,13 @@ use Rattle.end_model.specs.declared.tunnel.Call.{Call}
 use Rattle.end_model.specs.declared.tunnel.Link.{Link}
 use Rattle.end_names.specs.declared.role.Role.{Role}
 use Rattle.end_model.specs.Links.{lcp_frame}
-use Rattle.end_model.specs.Turn.{Drawing, Turn, with_output, with_move, with_change, drops, ends_call, ends_all, clears, gives, sends_letter, sends_now, lets_go, goes_by, lets_all_go, repeats, acknowledges, acknowledged_after, settles, greeted, greets, end_silent, end_told, ends_by, with_looks_of, with_call, carried, sends_packets, negotiated, links, ticks_link, limits_at, limits_all, goes_quietly, ticks_by, ticks}
+use Rattle.end_model.specs.Tunnels.{Drawing, Turn}
+use Rattle.end_model.specs.Turn.{with_output, with_move, with_change, drops, ends_call, ends_all, with_looks_of, with_call}
+use Rattle.end_model.specs.Ticking.{clears, greeted, greets, limits_at, limits_all, goes_quietly, ticks_by, ticks}
+use Rattle.end_model.specs.Sending.{gives, sends_letter, sends_now, lets_go, goes_by, lets_all_go, repeats, acknowledges, acknowledged_after, settles}
+use Rattle.end_model.specs.Closing.{end_silent, end_told, ends_by}
+use Rattle.end_model.specs.Frames.{carried}
+use Rattle.end_model.specs.Linking.{sends_packets, negotiated, links, ticks_link}
 
 -- what a turn drew
 abbrev pub drawn : Turn → List ℕ × Drawing

@@ -20,7 +20,10 @@ use Rattle.end_names.specs.declared.role.Role.{Role}
 use Rattle.end_model.specs.declared.event.Event.TheVariants.{Tick}
 use Rattle.end_model.specs.declared.out.Out.{Out}
 use Rattle.end_model.specs.declared.moves.Move.{Move}
-use Rattle.end_model.specs.Turn.{Tunnel, Env, Turn, turn_of, with_turn, turns, ticks}
+use Rattle.end_model.specs.Tunnels.{Tunnel, Env, Turn, turn_of}
+use Rattle.end_model.specs.Turn.{with_turn}
+use Rattle.end_model.specs.Events.{turns}
+use Rattle.end_model.specs.Ticking.{ticks}
 use Rattle.end_model.specs.End.{End, Stepped, env_of, placed, with_look, with_looks, tunnels_after, after_turn, Turned, tick_of, ticks_of, end_after_all, after_all, ticks_all}
 use Rattle.tunnel_core.specs.Cores.{Core, Plan, IsTurn, tunnel_of, made_of}
 use Rattle.tunnel_table.specs.Plans.{HasPlace, after_plan, IsPlanned, IsGiven}

@@ -9,7 +9,10 @@ use Rattle.end_model.specs.declared.tunnel.Control.{Control}
 use Rattle.end_model.specs.declared.event.Event.{Event}
 use Rattle.end_model.specs.declared.out.Out.{Out}
 use Rattle.end_model.specs.declared.moves.Move.{Move}
-use Rattle.end_model.specs.Turn.{Tunnel, Env, Turn, turn_of, with_turn, turns, fresh}
+use Rattle.end_model.specs.Tunnels.{Tunnel, Env, Turn, turn_of}
+use Rattle.end_model.specs.Turn.{with_turn}
+use Rattle.end_model.specs.Events.{turns}
+use Rattle.end_model.specs.Openings.{fresh}
 use Rattle.end_model.specs.End.{End, Stepped, placed, with_looks, tunnels_after, after_turn, after_new, in_main, in_new}
 use Rattle.tunnel_core.specs.Cores.{Plan, made_of, IsTurn}
 use Rattle.end_core.specs.declared.end.Given.{Given}

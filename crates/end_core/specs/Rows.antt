@@ -3,7 +3,7 @@ use Rattle.std.specs.Prelude.{ℕ, ◌%◌, List, [], ◌∷◌, true, Option, S
 use Rattle.std.specs.List.{flat_map}
 use Rattle.id_table.specs.Ids.{at, ids_of}
 use Rattle.end_model.specs.declared.tunnel.Call.{Call}
-use Rattle.end_model.specs.Turn.{Tunnel}
+use Rattle.end_model.specs.Tunnels.{Tunnel}
 use Rattle.end_model.specs.End.{End}
 use Rattle.end_core.specs.declared.rows.Mode.TheVariants.{Current}
 use Rattle.end_core.specs.declared.rows.CallRow.{CallRow}

@@ -5,7 +5,7 @@ use Rattle.id_source.specs.Spaces.{Space, draws}
 use Rattle.id_table.specs.Ids.{at}
 use Rattle.end_model.specs.declared.tunnel.Call.{Call}
 use Rattle.end_model.specs.declared.tunnel.CallPlace.{CallPlace}
-use Rattle.end_model.specs.Turn.{Tunnel}
+use Rattle.end_model.specs.Tunnels.{Tunnel}
 use Rattle.end_model.specs.End.{End}
 
 abbrev pub drawn : Result ℕ IdError → Option ℕ

@@ -5,7 +5,7 @@ use Rattle.id_table.specs.Ids.{at}
 use Rattle.id_table.specs.Tables.{Kept}
 use Rattle.end_model.specs.declared.tunnel.Config.{Config}
 use Rattle.end_names.specs.declared.role.Role.{Role}
-use Rattle.end_model.specs.Turn.{Tunnel, Env}
+use Rattle.end_model.specs.Tunnels.{Tunnel, Env}
 use Rattle.end_model.specs.End.{End, new_end, Turned, tick_of, ticks_of}
 use Rattle.tunnel_core.specs.Cores.{Core, Plan, IsTurn}
 use Rattle.tunnel_table.specs.Plans.{HasPlace, after_plan}

@@ -11,7 +11,9 @@ ghost use Rattle.end_core.specs.Fits.{fits};
 ghost use Rattle.end_core.specs.Sessions.{next_session, subscriber_at};
 ghost use Rattle.tunnel_core.specs.Cores.{tunnel_of, IsTurn, HasRoomFor};
 ghost use Rattle.call_places.specs.Rooms.{HaveRoom};
-ghost use Rattle.end_model.specs.Turn.{turn_of, turns, with_turn};
+ghost use Rattle.end_model.specs.Tunnels.{turn_of};
+ghost use Rattle.end_model.specs.Events.{turns};
+ghost use Rattle.end_model.specs.Turn.{with_turn};
 ghost use Rattle.end_core.specs.Gives.{GivesStep, behind_given};
 
 use call_places::{change_looks, look_at, make_places, place_all};

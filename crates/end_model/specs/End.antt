@@ -37,8 +37,11 @@ use Rattle.end_model.specs.declared.event.Addressee.{Addressee}
 use Rattle.end_model.specs.declared.event.Addressee.TheVariants.{Opens, Stops, Answers, Main, Nobody}
 use Rattle.end_model.specs.Reading.{body_of, message_in, TunnelFault, tunnel_fault_in, at_zero, at_tunnel}
 use Rattle.end_model.specs.Secrets.{lacks_secret, uncovered_datagram, uncovered_event}
-use Rattle.end_model.specs.Turn.{Tunnel, Drawing, Env, Turn, Reason, out_of_order, other_version, no_recovery, no_secret, fault_reason, turn_of, tunnel_after, fresh, turns, is_closed}
-use Rattle.end_model.specs.Reasons.{no_tunnel, no_id}
+use Rattle.end_model.specs.Tunnels.{Tunnel, Drawing, Env, Turn, turn_of}
+use Rattle.end_model.specs.Reasons.{Reason, out_of_order, other_version, no_recovery, no_secret, fault_reason, no_tunnel, no_id}
+use Rattle.end_model.specs.Events.{tunnel_after, turns}
+use Rattle.end_model.specs.Openings.{fresh}
+use Rattle.end_model.specs.Moments.{is_closed}
 use Rattle.end_model.specs.declared.out.Origin.{Origin}
 use Rattle.end_model.specs.declared.out.Origin.TheVariants as origin
 use Rattle.l2tp_header.specs.Spelling.{control_bytes}

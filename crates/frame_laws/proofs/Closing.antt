@@ -5,7 +5,7 @@ use Rattle.tunnel_fsm.specs.declared.table.TunnelEvent.{TunnelEvent}
 use Rattle.end_model.specs.declared.event.Event.{Event}
 use Rattle.end_model.specs.declared.moves.Closed.{Closed}
 use Rattle.end_model.specs.Reading.{tunnel_fault_in}
-use Rattle.end_model.specs.Turn.{Tunnel}
+use Rattle.end_model.specs.Tunnels.{Tunnel}
 use Rattle.step_laws.specs.Moves.{Came, IsNext, heard_from, LetterCloses, WhyCloses, ByOperator, ByLetter, BySccrq, BySccrp, ByScccn, ByFault}
 use Rattle.frame_laws.proofs.Facts.{Nodes}
 use Rattle.frame_laws.proofs.Leads.{Heard, heard_letter, heard_told}

@@ -49,7 +49,10 @@ use Rattle.end_names.specs.declared.role.Role.{Role}
 use Rattle.end_names.specs.declared.role.Role.TheVariants.{Lac, Lns}
 use Rattle.end_names.specs.Names.{node_of, host_name, calling_number}
 use Rattle.end_model.specs.Calls.{advanced, rung, asked_for, is_up}
-use Rattle.end_model.specs.Turn.{Tunnel, letter_of, letter_as, counts_given, counts_taken, learns_window, opening_of, request_of, connection, with_link, link_after}
+use Rattle.end_model.specs.Tunnels.{Tunnel}
+use Rattle.end_model.specs.Channels.{letter_of, letter_as, counts_given, counts_taken, learns_window}
+use Rattle.end_model.specs.Messages.{opening_of, request_of, connection}
+use Rattle.end_model.specs.Links.{with_link, link_after}
 use Rattle.end_model.specs.End.{End, new_place}
 use Rattle.world_model.specs.World.{World, Node, with_birth, is_born, birth_of, moved}
 use Rattle.step_laws.specs.Moves.{heard_from, Rejects, Asks, Responds, with_tunnel, with_letter, new_tunnel, begun, Opens, Accepts, Connects, Confirms, Adds as AddsCall, Requests, Replies, ComesUpFirst, ComesUpSecond, Refuses, TellsEnd, HearsEnd, EndsSilently, Closes, ClosesBy, Clears, Greets, TakesPlain, Reads, LetsGo, Repeats, Negotiates, without_call, without_calls, Does}

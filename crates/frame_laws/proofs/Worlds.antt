@@ -26,7 +26,7 @@ use Rattle.world_model.specs.declared.packet.Packet.{Packet}
 use Rattle.end_names.specs.declared.role.Role.{Role}
 use Rattle.end_names.specs.Names.{address_of, node_of}
 use Rattle.end_model.specs.Reading.{body_of}
-use Rattle.end_model.specs.Turn.{Tunnel}
+use Rattle.end_model.specs.Tunnels.{Tunnel}
 use Rattle.end_model.specs.End.{plain_step, End, Stepped}
 use Rattle.world_model.specs.World.{World, Node, Sender, Deed, Lined, with_node, moved_all, sent, shown, shown_all, given, after_step}
 use Rattle.step_laws.specs.Letters.{Among, Carries, ALetter, Nothing, AFrame, HasOutput}

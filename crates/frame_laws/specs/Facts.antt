@@ -13,7 +13,7 @@ use Rattle.end_names.specs.declared.role.Role.{Role}
 use Rattle.end_names.specs.declared.role.Role.TheVariants.{Lac, Lns}
 use Rattle.world_model.specs.declared.packet.Packet.{Packet}
 use Rattle.end_names.specs.Names.{node_of}
-use Rattle.end_model.specs.Turn.{Tunnel}
+use Rattle.end_model.specs.Tunnels.{Tunnel}
 use Rattle.end_model.specs.declared.event.Addressee.TheVariants.{Opens, Answers}
 use Rattle.end_model.specs.Secrets.{uncovered_datagram}
 use Rattle.end_model.specs.Channels.{letter_as}

@@ -20,7 +20,7 @@ use Rattle.end_model.specs.declared.out.Origin.TheVariants.{Data}
 use Rattle.world_model.specs.declared.packet.Packet.{Packet}
 use Rattle.end_names.specs.Names.{node_of}
 use Rattle.end_model.specs.Secrets.{uncovered_event}
-use Rattle.end_model.specs.Turn.{Tunnel}
+use Rattle.end_model.specs.Tunnels.{Tunnel}
 use Rattle.end_model.specs.End.{End, plain_step}
 use Rattle.world_model.specs.Run.{run}
 use Rattle.step_laws.specs.Letters.{Among}

@@ -3,7 +3,7 @@
 ghost use Rattle.std.specs.Prelude.{◌≡◌, ◌==◌};
 ghost use Rattle.end_model.specs.Reasons.{other_version, no_recovery, no_secret};
 ghost use Rattle.end_model.specs.Secrets.{response_by, lacks_secret, is_wrong};
-ghost use Rattle.end_model.specs.Turn.{against, is_acceptable, event_by, opening_reason, connected_event, connected_reason};
+ghost use Rattle.end_model.specs.Messages.{against, is_acceptable, event_by, opening_reason, connected_event, connected_reason};
 
 use crate::reasons::{Reason, out_of_order};
 use control_message::Opening;

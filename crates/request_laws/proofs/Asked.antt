@@ -5,7 +5,7 @@ use Rattle.id_table.specs.Order.{Ascends}
 use Rattle.control_message.specs.declared.message.Message.TheVariants.{Icrq}
 use Rattle.end_model.specs.declared.tunnel.Call.{Call}
 use Rattle.end_names.specs.declared.role.Role.TheVariants.{Lac}
-use Rattle.end_model.specs.Turn.{Tunnel}
+use Rattle.end_model.specs.Tunnels.{Tunnel}
 use Rattle.end_model.specs.End.{End}
 use Rattle.step_laws.specs.Letters.{Letter}
 use Rattle.connection_laws.specs.Accounts.{Account}

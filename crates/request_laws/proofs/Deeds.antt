@@ -7,7 +7,7 @@ use Rattle.end_model.specs.declared.moves.Replied.{Replied}
 use Rattle.end_model.specs.declared.moves.Move.{Move}
 use Rattle.end_model.specs.declared.moves.Move.TheVariants as move
 use Rattle.end_names.specs.declared.role.Role.{Role}
-use Rattle.end_model.specs.Turn.{request_of}
+use Rattle.end_model.specs.Messages.{request_of}
 use Rattle.world_model.specs.World.{World, Sender, Deed, deed_of}
 use Rattle.step_laws.specs.Letters.{Letter}
 use Rattle.connection_laws.specs.Accounts.{Taken, Account, about, entered, declines_of, declined_in, after_deed, account_from}

@@ -26,7 +26,8 @@ use Rattle.end_model.specs.declared.moves.Move.{Move}
 use Rattle.end_model.specs.declared.moves.Move.TheVariants as move
 use Rattle.end_model.specs.declared.tunnel.Call.{Call}
 use Rattle.end_model.specs.Calls.{advanced, rung, asked_for}
-use Rattle.end_model.specs.Turn.{Tunnel, with_link, link_after}
+use Rattle.end_model.specs.Tunnels.{Tunnel}
+use Rattle.end_model.specs.Links.{with_link, link_after}
 use Rattle.end_model.specs.End.{End}
 use Rattle.lcp_end.specs.Laws.{after as lcp_after}
 use Rattle.step_laws.specs.Links.{begun_link}

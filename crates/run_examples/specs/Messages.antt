@@ -24,7 +24,7 @@ use Rattle.session_looks.specs.declared.look.Look.{Look}
 use Rattle.session_looks.specs.declared.look.Look.TheVariants as look
 use Rattle.end_names.specs.declared.role.Role.TheVariants as role
 use Rattle.end_names.specs.Names.{subscriber, address_of, calling_number}
-use Rattle.end_model.specs.Turn.{opening_of}
+use Rattle.end_model.specs.Messages.{opening_of}
 use Rattle.end_model.specs.End.{End, new_end, step}
 use Rattle.world_model.specs.World.{config_of}
 use Rattle.run_examples.specs.Channels.{channel}

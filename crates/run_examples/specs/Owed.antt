@@ -16,7 +16,9 @@ use Rattle.end_model.specs.declared.tunnel.Control.{Control}
 use Rattle.session_looks.specs.declared.look.Look.TheVariants as look
 use Rattle.end_names.specs.declared.role.Role.TheVariants as role
 use Rattle.end_names.specs.Names.{subscriber, address_of}
-use Rattle.end_model.specs.Turn.{rings_by, settles, turn_of}
+use Rattle.end_model.specs.Ringing.{rings_by}
+use Rattle.end_model.specs.Sending.{settles}
+use Rattle.end_model.specs.Tunnels.{turn_of}
 use Rattle.end_model.specs.End.{End, new_end, whole_space, env_of, after_turn, step}
 use Rattle.world_model.specs.World.{config_of}
 use Rattle.run_examples.specs.Channels.{channel}

@@ -5,7 +5,7 @@ use Rattle.tunnel_fsm.specs.declared.table.TunnelState.TheVariants as states
 use Rattle.call_fsm.specs.declared.table.CallState.TheVariants.{Established, WaitReply}
 use Rattle.end_names.specs.declared.role.Role.TheVariants as role
 use Rattle.end_names.specs.Names.{subscriber, address_of}
-use Rattle.end_model.specs.Turn.{Tunnel}
+use Rattle.end_model.specs.Tunnels.{Tunnel}
 use Rattle.end_model.specs.End.{new_end}
 use Rattle.world_model.specs.World.{World, Node, config_of, empty_world}
 use Rattle.world_model.specs.Run.{tables}

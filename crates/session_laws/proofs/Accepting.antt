@@ -8,7 +8,9 @@ use Rattle.end_model.specs.declared.event.Event.{Event}
 use Rattle.end_model.specs.declared.moves.Accepted.{Accepted}
 use Rattle.end_model.specs.declared.moves.Move.TheVariants as move
 use Rattle.end_names.specs.Names.{node_of}
-use Rattle.end_model.specs.Turn.{Tunnel, opening_of, counts_taken, learns_window}
+use Rattle.end_model.specs.Tunnels.{Tunnel}
+use Rattle.end_model.specs.Messages.{opening_of}
+use Rattle.end_model.specs.Channels.{counts_taken, learns_window}
 use Rattle.end_model.specs.End.{End}
 use Rattle.world_model.specs.World.{Sender, Deed, config_of}
 use Rattle.step_laws.specs.Letters as step_laws

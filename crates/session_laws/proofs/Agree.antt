@@ -13,7 +13,7 @@ use Rattle.call_fsm.specs.declared.table.CallState.TheVariants as call
 use Rattle.control_channel.specs.Numbers.{next_given}
 use Rattle.end_model.specs.declared.tunnel.Call.{Call}
 use Rattle.end_model.specs.Calls.{is_up}
-use Rattle.end_model.specs.Turn.{Tunnel}
+use Rattle.end_model.specs.Tunnels.{Tunnel}
 use Rattle.end_model.specs.End.{End}
 use Rattle.world_model.specs.World.{World, Node}
 use Rattle.epoch_machine.specs.Worlds as machine

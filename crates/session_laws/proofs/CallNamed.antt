@@ -6,7 +6,7 @@ use Rattle.std.specs.Prelude.{find, unwrap_or}
 use Rattle.id_table.specs.Ids.{at, ids_of, at-none, at-cons}
 use Rattle.id_table.specs.Order.{same_or_not}
 use Rattle.end_model.specs.declared.tunnel.Call.{Call}
-use Rattle.end_model.specs.Turn.{is_call_of, call_of, session_named}
+use Rattle.end_model.specs.Asking.{is_call_of, call_of, session_named}
 use Rattle.session_laws.specs.Names.{name_of}
 use Rattle.session_laws.proofs.Names.{name_not_zero, known_name}
 

@@ -8,8 +8,7 @@ use Rattle.call_fsm.specs.declared.table.CallEvent.TheVariants.{Ring, TunnelOpen
 use Rattle.end_model.specs.declared.tunnel.Call.{Call}
 use Rattle.end_names.specs.declared.role.Role.{Role}
 use Rattle.end_names.specs.declared.role.Role.TheVariants.{Lac, Lns}
-use Rattle.end_model.specs.Calls.{call_row, advanced, rung, asked_for, is_request, is_reply, is_connection, is_told, is_up}
-use Rattle.end_model.specs.Turn.{is_clean_up}
+use Rattle.end_model.specs.Calls.{call_row, advanced, rung, asked_for, is_request, is_reply, is_connection, is_told, is_up, is_clean_up}
 use Rattle.epoch_machine.specs.Calls as machine
 use Rattle.session_laws.specs.Names.{state_of}
 use Rattle.session_laws.specs.Joined.{FitsRole}

@@ -5,7 +5,7 @@ use Rattle.id_table.specs.Ids.{at, without}
 use Rattle.id_table.specs.Order.{at_without_other, at_without_same}
 use Rattle.end_model.specs.declared.event.Event.{Event}
 use Rattle.end_model.specs.declared.moves.Move.TheVariants as move
-use Rattle.end_model.specs.Turn.{Tunnel}
+use Rattle.end_model.specs.Tunnels.{Tunnel}
 use Rattle.end_model.specs.End.{End}
 use Rattle.world_model.specs.World.{Sender, Deed}
 use Rattle.epoch_machine.specs.Tunnels.{Gone, is_live, left}

@@ -7,7 +7,7 @@ use Rattle.std.specs.List.{fold}
 use Rattle.id_table.specs.Ids.{at, at-none, at-cons, ids_of}
 use Rattle.id_table.specs.Order.{IsAbove, Ascends}
 use Rattle.end_model.specs.declared.tunnel.Call.{Call}
-use Rattle.end_model.specs.Turn.{Tunnel}
+use Rattle.end_model.specs.Tunnels.{Tunnel}
 use Rattle.world_model.specs.Run.{is_session, session_count}
 use Rattle.step_laws.specs.Letters.{Among}
 use Rattle.session_laws.specs.Sessions.{HoldsSession}

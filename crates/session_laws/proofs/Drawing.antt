@@ -6,7 +6,7 @@ use Rattle.id_source.specs.declared.IdError.TheVariants.{NoIds, NeedCeiling}
 use Rattle.id_source.specs.Spaces.{Space, draws, after_draw}
 use Rattle.id_table.specs.Ids.{at}
 use Rattle.end_model.specs.declared.event.Event.{Event}
-use Rattle.end_model.specs.Turn.{Tunnel}
+use Rattle.end_model.specs.Tunnels.{Tunnel}
 use Rattle.end_model.specs.End.{End}
 use Rattle.world_model.specs.World.{Sender}
 use Rattle.connection_laws.specs.Accounts.{Part, Unmade, Opener, Acceptor, no_account}

@@ -10,17 +10,16 @@ use Rattle.end_model.specs.declared.moves.EndSilent.{EndSilent}
 use Rattle.end_model.specs.declared.moves.Move.TheVariants as move
 use Rattle.end_model.specs.declared.tunnel.Call.{Call}
 use Rattle.end_names.specs.declared.role.Role.TheVariants.{Lac}
-use Rattle.end_model.specs.Turn.{Tunnel}
+use Rattle.end_model.specs.Tunnels.{Tunnel}
 use Rattle.end_model.specs.End.{End}
 use Rattle.world_model.specs.World.{Sender, Deed}
-use Rattle.step_laws.specs.Moves.{InTunnel, WhyEnds, IsLate, IsDropped, IsHungUp, IsAsked, IsReplied, IsConnected, IsFinished, HasFault}
+use Rattle.step_laws.specs.Moves.{InTunnel, WhyEnds, IsLate, IsDropped, IsHungUp, IsAsked, IsReplied, IsConnected, IsFinished, HasFault, fault_event}
 use Rattle.epoch_machine.specs.Tunnels.{is_active}
 use Rattle.epoch_machine.specs.Calls as calls
 use Rattle.epoch_machine.specs.Calls.{NoCall, Waits, is_call}
 use Rattle.epoch_machine.specs.Worlds.{World, all_rules}
 use Rattle.epoch_machine.specs.Moves.{EndsSilent, step, may_end_silent, ends_call}
 use Rattle.end_model.specs.Reading.{CallFault}
-use Rattle.step_laws.specs.Moves.{fault_event}
 use Rattle.session_laws.proofs.Alike.{alike_giver}
 use Rattle.connection_laws.specs.Facts.{Accounts, LiveOk}
 use Rattle.connection_laws.specs.Steps.{after}

@@ -9,7 +9,7 @@ use Rattle.end_model.specs.declared.event.Event.{Event}
 use Rattle.end_model.specs.declared.moves.EndTold.{EndTold}
 use Rattle.end_model.specs.declared.moves.Move.TheVariants as move
 use Rattle.end_model.specs.declared.tunnel.Call.{Call}
-use Rattle.end_model.specs.Turn.{Tunnel}
+use Rattle.end_model.specs.Tunnels.{Tunnel}
 use Rattle.end_model.specs.End.{End}
 use Rattle.world_model.specs.World.{Sender, Deed, config_of}
 use Rattle.step_laws.specs.Letters.{letters_of}

@@ -1,7 +1,7 @@
 -- The letters that a tunnel gives and takes, in the machine and in what is known of the tunnel.
 use Rattle.std.proofs.Common.{◌≡◌, ℕ, suc, ◌+◌, List, [], ◌∷◌, ◌++◌, map, refl, sym, ap, ◌∙◌, append-nil, Option, arith, eq-eqb, ne_eqb}
 use Rattle.std.proofs.lemmas.List.{map-append}
-use Rattle.end_model.specs.Turn.{Tunnel}
+use Rattle.end_model.specs.Tunnels.{Tunnel}
 use Rattle.step_laws.specs.Letters as step
 use Rattle.step_laws.specs.Letters.{letters_of}
 use Rattle.epoch_machine.specs.Letters.{Letter}

@@ -14,7 +14,10 @@ use Rattle.end_model.specs.declared.moves.TookPlain.{TookPlain}
 use Rattle.end_model.specs.declared.moves.Move.TheVariants as move
 use Rattle.end_model.specs.declared.tunnel.Call.{Call}
 use Rattle.end_names.specs.declared.role.Role.{Role}
-use Rattle.end_model.specs.Turn.{Tunnel, counts_taken, session_named, is_closed}
+use Rattle.end_model.specs.Tunnels.{Tunnel}
+use Rattle.end_model.specs.Channels.{counts_taken}
+use Rattle.end_model.specs.Asking.{session_named}
+use Rattle.end_model.specs.Moments.{is_closed}
 use Rattle.end_model.specs.End.{End}
 use Rattle.world_model.specs.World.{Sender, Deed}
 use Rattle.step_laws.specs.Moves.{IsPlain}

@@ -9,7 +9,9 @@ use Rattle.end_model.specs.declared.moves.Refused.{Refused}
 use Rattle.end_model.specs.declared.moves.Move.TheVariants as move
 use Rattle.end_names.specs.declared.role.Role.TheVariants.{Lns}
 use Rattle.end_model.specs.Reading.{message_in, CallFault, call_fault_in}
-use Rattle.end_model.specs.Turn.{Tunnel, counts_taken, is_closed}
+use Rattle.end_model.specs.Tunnels.{Tunnel}
+use Rattle.end_model.specs.Channels.{counts_taken}
+use Rattle.end_model.specs.Moments.{is_closed}
 use Rattle.end_model.specs.End.{End}
 use Rattle.world_model.specs.World.{Sender, Deed, config_of}
 use Rattle.step_laws.specs.Letters.{letters_of}

@@ -6,7 +6,9 @@ use Rattle.tunnel_fsm.specs.declared.table.TunnelState.TheVariants as state
 use Rattle.end_model.specs.declared.event.Event.{Event}
 use Rattle.end_model.specs.declared.moves.Rejected.{Rejected}
 use Rattle.end_model.specs.declared.moves.Move.TheVariants as move
-use Rattle.end_model.specs.Turn.{Tunnel, counts_taken, is_closed}
+use Rattle.end_model.specs.Tunnels.{Tunnel}
+use Rattle.end_model.specs.Channels.{counts_taken}
+use Rattle.end_model.specs.Moments.{is_closed}
 use Rattle.end_model.specs.End.{End}
 use Rattle.world_model.specs.World.{Sender, Deed}
 use Rattle.step_laws.specs.Letters as step_laws

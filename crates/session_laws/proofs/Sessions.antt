@@ -12,7 +12,7 @@ use Rattle.end_names.specs.declared.role.Role.{Role}
 use Rattle.end_names.specs.declared.role.Role.TheVariants.{Lac, Lns}
 use Rattle.end_model.specs.Calls.{is_lac}
 use Rattle.end_names.specs.Names.{node_of}
-use Rattle.end_model.specs.Turn.{Tunnel}
+use Rattle.end_model.specs.Tunnels.{Tunnel}
 use Rattle.world_model.specs.World.{World, Node, birth_of}
 use Rattle.world_model.specs.Run.{Run, run, empty_run, partner_of, lns_tunnel, agree}
 use Rattle.epoch_machine.specs.Worlds as machine

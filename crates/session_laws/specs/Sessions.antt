@@ -6,7 +6,7 @@ use Rattle.schedule_text.specs.Grammar.{AreLines}
 use Rattle.end_model.specs.declared.tunnel.Call.{Call}
 use Rattle.end_names.specs.declared.role.Role.TheVariants.{Lac}
 use Rattle.end_model.specs.Calls.{is_up}
-use Rattle.end_model.specs.Turn.{Tunnel}
+use Rattle.end_model.specs.Tunnels.{Tunnel}
 use Rattle.world_model.specs.World.{World, Node, birth_of}
 use Rattle.world_model.specs.Run.{Run, run, partner_of, agree, session_count}
 use Rattle.end_names.specs.Names.{node_of}

@@ -25,7 +25,18 @@ use Rattle.end_names.specs.declared.role.Role.TheVariants.{Lac, Lns}
 use Rattle.end_model.specs.declared.moves.Move.{Move}
 use Rattle.end_model.specs.Reading.{message_in, CallFault, call_fault_in, tunnel_fault_in}
 use Rattle.end_model.specs.Calls.{call_row}
-use Rattle.end_model.specs.Turn.{Turn, Tunnel, Reason, with_output, with_move, with_change, with_new, gives, takes_one, takes_plain, has_room, out_of_state, fault_reason, shuts, ends_call, closed_told, closes_tunnel, takes_by, takes, ends_by, end_told, answers_by, refused, refuses, of_no_call, replied, replies, granted, asked_by, about_call, in_call, faulty_at, faulty, in_faulty_call, hears, hears_faulty, hears_said, hears_next, is_closed, settles}
+use Rattle.end_model.specs.Tunnels.{Turn, Tunnel}
+use Rattle.end_model.specs.Reasons.{Reason, out_of_state, fault_reason}
+use Rattle.end_model.specs.Turn.{with_output, with_move, with_change, with_new, ends_call}
+use Rattle.end_model.specs.Sending.{gives, takes_one, takes_plain, settles}
+use Rattle.end_model.specs.Channels.{has_room}
+use Rattle.end_model.specs.Stopping.{shuts, closed_told, closes_tunnel}
+use Rattle.end_model.specs.Hearing.{takes_by, takes, about_call, in_call, hears, hears_faulty, hears_said, hears_next}
+use Rattle.end_model.specs.Closing.{ends_by, end_told}
+use Rattle.end_model.specs.Refusing.{answers_by, refused, refuses, of_no_call}
+use Rattle.end_model.specs.Asking.{replied, replies, granted, asked_by}
+use Rattle.end_model.specs.Faulty.{faulty_at, faulty, in_faulty_call}
+use Rattle.end_model.specs.Moments.{is_closed}
 use Rattle.end_model.specs.End.{End}
 use Rattle.step_laws.specs.Left.{CanBe}
 use Rattle.step_laws.specs.Answers.{IsRequest, Incoming, Outgoing, FaultyIncoming, FaultyOutgoing, TooFaulty, answer_of_move, IsReply, IsRefusal, IsEnd, IsClose, AnswersIcrq, WithReply, WithRefusal, WithEnd, AnswersFaulty, IsAnswer}

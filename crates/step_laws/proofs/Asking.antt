@@ -45,8 +45,27 @@ use Rattle.end_names.specs.declared.role.Role.TheVariants.{Lac, Lns}
 use Rattle.end_model.specs.declared.out.Out.TheVariants.{Cause}
 use Rattle.session_looks.specs.Frames.{header_why}
 use Rattle.end_model.specs.Reading.{body_of, message_in, CallFault, call_fault_in, TunnelFault, tunnel_fault_in}
-use Rattle.end_model.specs.Calls.{call_row, advanced, rung, asked_for, is_request, is_connection, is_up, are_too_many}
-use Rattle.end_model.specs.Turn.{rejects, rejected, connected_reason, connected_event, Turn, with_output, with_move, with_change, with_call, with_new, with_local, with_calls, opened, opens_by, opens, accepted, accepts_by, accepts, rings_new, first_said, drops, gives, gives_as, has_room, settles, takes_one, reads_nr, requested, requests, requests_at, requests_all, adds, rings_over, rings_by, rings_within, rings, may_take, Reason, reason, out_of_state, refused, refuses, of_no_call, end_silent, end_told, ends_by, closes, answers_by, granted, asked_by, fault_reason, faulty_at, faulty, in_faulty_call, ends_all, is_closed, event_by, opening_reason, out_of_order, counts_taken, shut, shuts, closed_told, closes_tunnel, closed_by, shuts_by, connected, connects, confirms, takes_plain, ignores, takes_by, takes, replied, replies, first_up, first_up_by, second_up, with_link, new_link, link_after, negotiated, connects_call, linked_up, is_passing, second_up_by, ends_call, is_clean_up, end_heard, end_heard_by, session_named, ends_named, about_call, in_call, hears, hears_faulty, hears_said, hears_next, hears_letter, is_duplicate, in_tunnel, hears_control, carried, carries, hears_datagram, is_short, is_long}
+use Rattle.end_model.specs.Calls.{call_row, advanced, rung, asked_for, is_request, is_connection, is_up, are_too_many, is_clean_up, is_short, is_long}
+use Rattle.end_model.specs.Stopping.{rejects, rejected, shut, shuts, closed_told, closes_tunnel, closed_by, shuts_by}
+use Rattle.end_model.specs.Messages.{connected_reason, connected_event, event_by, opening_reason}
+use Rattle.end_model.specs.Tunnels.{Turn}
+use Rattle.end_model.specs.Turn.{with_output, with_move, with_change, with_call, with_new, drops, ends_all, ends_call}
+use Rattle.end_model.specs.Openings.{with_local, opened, opens_by, opens, accepted, accepts_by, accepts, connected, confirms}
+use Rattle.end_model.specs.Events.{with_calls}
+use Rattle.end_model.specs.Ringing.{rings_new, requested, requests, requests_at, requests_all, adds, rings_over, rings_by, rings_within, rings}
+use Rattle.end_model.specs.Hearing.{first_said, connects, takes_by, takes, about_call, in_call, hears, hears_faulty, hears_said, hears_next, hears_letter, is_duplicate, in_tunnel, hears_control, hears_datagram}
+use Rattle.end_model.specs.Sending.{gives, gives_as, settles, takes_one, reads_nr, takes_plain, ignores}
+use Rattle.end_model.specs.Channels.{has_room, may_take, counts_taken}
+use Rattle.end_model.specs.Reasons.{Reason, reason, out_of_state, fault_reason, out_of_order}
+use Rattle.end_model.specs.Refusing.{refused, refuses, of_no_call, answers_by}
+use Rattle.end_model.specs.Closing.{end_silent, end_told, ends_by, closes}
+use Rattle.end_model.specs.Asking.{granted, asked_by, replied, replies, session_named}
+use Rattle.end_model.specs.Faulty.{faulty_at, faulty, in_faulty_call}
+use Rattle.end_model.specs.Moments.{is_closed}
+use Rattle.end_model.specs.Connecting.{first_up, first_up_by, second_up, connects_call, linked_up, second_up_by, end_heard, end_heard_by, ends_named}
+use Rattle.end_model.specs.Links.{with_link, new_link, link_after, is_passing}
+use Rattle.end_model.specs.Linking.{negotiated}
+use Rattle.end_model.specs.Frames.{carried, carries}
 use Rattle.step_laws.specs.Letters.{Among}
 use Rattle.step_laws.proofs.Lists.{branch, found_among, with_calls-more}
 use Rattle.step_laws.proofs.States.{requested_state, connected_state, up_state}

@@ -7,7 +7,10 @@ use Rattle.end_model.specs.declared.tunnel.Call.{Call}
 use Rattle.end_model.specs.declared.tunnel.Config.{Config}
 use Rattle.end_names.specs.declared.role.Role.{Role}
 use Rattle.end_names.specs.Names.{subscriber}
-use Rattle.end_model.specs.Turn.{Turn, turns, rings, settles}
+use Rattle.end_model.specs.Tunnels.{Turn}
+use Rattle.end_model.specs.Events.{turns}
+use Rattle.end_model.specs.Ringing.{rings}
+use Rattle.end_model.specs.Sending.{settles}
 use Rattle.step_laws.specs.Callers.{IsRing}
 
 some_is : (a b : List ℕ) → Some a ≡ Some b → a ≡ b

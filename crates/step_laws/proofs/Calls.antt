@@ -22,8 +22,17 @@ use Rattle.end_names.specs.declared.role.Role.TheVariants.{Lac, Lns}
 use Rattle.end_model.specs.declared.event.Event.{Event}
 use Rattle.end_model.specs.declared.moves.Refused.{Refused}
 use Rattle.end_model.specs.Reading.{message_in, call_fault_in}
-use Rattle.end_model.specs.Calls.{call_row, is_reply, is_connection, is_up, is_told, are_too_many}
-use Rattle.end_model.specs.Turn.{Tunnel, Turn, Reason, reason, out_of_state, tunnel_after, with_move, with_calls, takes_one, has_room, takes_plain, refuses, of_no_call, answers_by, call_of, left_of, granted, replies, asked_by, first_up_by, second_up_by, is_clean_up, end_heard_by, session_named, ends_named, about_call, in_call}
+use Rattle.end_model.specs.Calls.{call_row, is_reply, is_connection, is_up, is_told, are_too_many, is_clean_up}
+use Rattle.end_model.specs.Tunnels.{Tunnel, Turn}
+use Rattle.end_model.specs.Reasons.{Reason, reason, out_of_state}
+use Rattle.end_model.specs.Events.{tunnel_after, with_calls}
+use Rattle.end_model.specs.Turn.{with_move}
+use Rattle.end_model.specs.Sending.{takes_one, takes_plain}
+use Rattle.end_model.specs.Channels.{has_room}
+use Rattle.end_model.specs.Refusing.{refuses, of_no_call, answers_by}
+use Rattle.end_model.specs.Asking.{call_of, left_of, granted, replies, asked_by, session_named}
+use Rattle.end_model.specs.Connecting.{first_up_by, second_up_by, end_heard_by, ends_named}
+use Rattle.end_model.specs.Hearing.{about_call, in_call}
 use Rattle.end_model.specs.End.{End}
 use Rattle.step_laws.specs.Causes.{CameAbout, MayBeGranted, AskedAgain, RepliedInVain, ConnectedInVain, Stands}
 use Rattle.step_laws.specs.Moves.{DeniesCall, Came, IsNext, HearsNext, IsPlain, IsAsked, IsReplied, IsConnected, WhyRefused, IsNotGranted, IsOutgoing, IsReplyToNone}

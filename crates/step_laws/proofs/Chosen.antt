@@ -9,7 +9,7 @@ use Rattle.id_table.specs.Order.{IsAbove, Ascends, lower, at-above}
 use Rattle.tunnel_fsm.specs.declared.table.TunnelState.{TunnelState}
 use Rattle.tunnel_fsm.specs.declared.table.TunnelState.TheVariants.{Idle, WaitCtlReply, WaitCtlConn, Established, Closed}
 use Rattle.tunnel_fsm.specs.Rows.{state_number}
-use Rattle.end_model.specs.Turn.{Tunnel}
+use Rattle.end_model.specs.Tunnels.{Tunnel}
 use Rattle.end_model.specs.End.{End, is_in, least_in}
 use Rattle.step_laws.specs.Room.{IsLeast, HasNone}
 use Rattle.step_laws.specs.Steps.{AreKept}

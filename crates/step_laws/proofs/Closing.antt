@@ -16,8 +16,13 @@ use Rattle.session_looks.specs.declared.look.CellChange.TheVariants as cell
 use Rattle.end_model.specs.declared.event.Event.{Event}
 use Rattle.end_model.specs.declared.out.Out.TheVariants.{Gone, Cause}
 use Rattle.end_model.specs.declared.moves.Move.TheVariants as move
-use Rattle.end_model.specs.Calls.{call_row, is_told}
-use Rattle.end_model.specs.Turn.{Tunnel, Turn, with_output, with_move, with_change, with_calls, ends_call, is_clean_up, has_room, counts_given, gives, next_place, letter_of, letters_after, tunnel_after, end_silent, end_told, ends_by}
+use Rattle.end_model.specs.Calls.{call_row, is_told, is_clean_up}
+use Rattle.end_model.specs.Tunnels.{Tunnel, Turn}
+use Rattle.end_model.specs.Turn.{with_output, with_move, with_change, ends_call}
+use Rattle.end_model.specs.Events.{with_calls, tunnel_after}
+use Rattle.end_model.specs.Channels.{has_room, counts_given, next_place, letter_of}
+use Rattle.end_model.specs.Sending.{gives, letters_after}
+use Rattle.end_model.specs.Closing.{end_silent, end_told, ends_by}
 use Rattle.end_model.specs.End.{End, placed}
 use Rattle.step_laws.specs.Causes.{Stands}
 use Rattle.step_laws.specs.Moves.{WhyEnds}

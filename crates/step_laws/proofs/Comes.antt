@@ -16,7 +16,10 @@ use Rattle.end_model.specs.declared.event.Event.{Event}
 use Rattle.end_model.specs.declared.event.Addressee.TheVariants.{Opens, Stops}
 use Rattle.end_model.specs.Reading.{message_read, pairs_read, message_in}
 use Rattle.end_model.specs.Calls.{call_row, is_told}
-use Rattle.end_model.specs.Turn.{Tunnel, Turn, is_closed, may_take, tunnel_after, with_calls}
+use Rattle.end_model.specs.Tunnels.{Tunnel, Turn}
+use Rattle.end_model.specs.Moments.{is_closed}
+use Rattle.end_model.specs.Channels.{may_take}
+use Rattle.end_model.specs.Events.{tunnel_after, with_calls}
 use Rattle.end_model.specs.End.{End}
 use Rattle.step_laws.specs.Causes.{IsTold, CameAbout}
 use Rattle.step_laws.specs.Moves.{Came, Says, IsFor, ComesTo, IsNext, HearsNext, IsPlain, InTunnel}

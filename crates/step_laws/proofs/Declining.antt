@@ -9,7 +9,8 @@ use Rattle.end_model.specs.declared.event.Event.{Event}
 use Rattle.end_model.specs.declared.event.Event.TheVariants.{Datagram}
 use Rattle.end_model.specs.declared.moves.Declined.{Declined}
 use Rattle.end_model.specs.Reading.{body_of, message_in, TunnelFault, tunnel_fault_in, at_zero}
-use Rattle.end_model.specs.Turn.{Env, Reason, out_of_order, fault_reason}
+use Rattle.end_model.specs.Tunnels.{Env}
+use Rattle.end_model.specs.Reasons.{Reason, out_of_order, fault_reason}
 use Rattle.end_model.specs.End.{End, env_of, in_new, known_as, against_opening, against_faulty, against_body, next_of_peer, declined, opens_or_declines}
 use Rattle.step_laws.specs.Causes.{NamesNone, Stands}
 use Rattle.step_laws.specs.Moves.{LacksSecret, WhyDeclined, AnOpening, AFaultyOpening, AnAnswer}

@@ -40,8 +40,23 @@ use Rattle.end_model.specs.declared.out.Out.TheVariants.{Send, Up, Gone, Drop, C
 use Rattle.end_model.specs.declared.moves.Move.{Move}
 use Rattle.end_model.specs.declared.moves.Move.TheVariants as move
 use Rattle.end_model.specs.Reading.{body_of, message_in}
-use Rattle.end_model.specs.Calls.{call_row, is_up, is_told, owes}
-use Rattle.end_model.specs.Turn.{Tunnel, Env, Turn, turn_of, reason, is_closed, shuts_by, closes_tunnel, with_output, with_move, with_calls, closes, with_local, letter_of, opening_of, letters_after, has_room, learns_window, gives, takes_one, drops, lets_all_go, acknowledged_after, settles, fresh, opened, opens_by, opens, accepted, accepts_by, accepts, adds, rings_new, rings, first_said, hears_control, hears_datagram, carries, hears_link, hears_lcp, is_passing, turns, tunnel_after, is_short, is_long}
+use Rattle.end_model.specs.Calls.{call_row, is_up, is_told, owes, is_short, is_long}
+use Rattle.end_model.specs.Tunnels.{Tunnel, Env, Turn, turn_of}
+use Rattle.end_model.specs.Reasons.{reason}
+use Rattle.end_model.specs.Moments.{is_closed}
+use Rattle.end_model.specs.Stopping.{shuts_by, closes_tunnel}
+use Rattle.end_model.specs.Turn.{with_output, with_move, drops}
+use Rattle.end_model.specs.Events.{with_calls, turns, tunnel_after}
+use Rattle.end_model.specs.Closing.{closes}
+use Rattle.end_model.specs.Openings.{with_local, fresh, opened, opens_by, opens, accepted, accepts_by, accepts}
+use Rattle.end_model.specs.Channels.{letter_of, has_room, learns_window}
+use Rattle.end_model.specs.Messages.{opening_of}
+use Rattle.end_model.specs.Sending.{letters_after, gives, takes_one, lets_all_go, acknowledged_after, settles}
+use Rattle.end_model.specs.Ringing.{adds, rings_new, rings}
+use Rattle.end_model.specs.Hearing.{first_said, hears_control, hears_datagram}
+use Rattle.end_model.specs.Frames.{carries}
+use Rattle.end_model.specs.Linking.{hears_link, hears_lcp}
+use Rattle.end_model.specs.Links.{is_passing}
 use Rattle.end_model.specs.End.{End, Stepped, env_of, gives_only, placed, with_looks, after_turn, after_new}
 use Rattle.step_laws.specs.Room.{IsChosen, RingsNew}
 use Rattle.step_laws.specs.Causes.{IsTold, ForNew, ForOpening, Stands}

@@ -20,7 +20,13 @@ use Rattle.end_names.specs.declared.role.Role.TheVariants.{Lac, Lns}
 use Rattle.end_model.specs.declared.event.Event.{Event}
 use Rattle.end_model.specs.Reading.{message_in, CallFault, call_fault_in}
 use Rattle.end_model.specs.Calls.{call_row}
-use Rattle.end_model.specs.Turn.{Turn, fault_reason, takes_plain, takes_one, with_move, ignores, refuses, session_named, faulty_at, faulty, in_faulty_call}
+use Rattle.end_model.specs.Tunnels.{Turn}
+use Rattle.end_model.specs.Reasons.{fault_reason}
+use Rattle.end_model.specs.Sending.{takes_plain, takes_one, ignores}
+use Rattle.end_model.specs.Turn.{with_move}
+use Rattle.end_model.specs.Refusing.{refuses}
+use Rattle.end_model.specs.Asking.{session_named}
+use Rattle.end_model.specs.Faulty.{faulty_at, faulty, in_faulty_call}
 use Rattle.end_model.specs.End.{End}
 use Rattle.step_laws.specs.Causes.{CameFaulty, Stands}
 use Rattle.step_laws.specs.Moves.{Came, IsNext, HasFault, IsWrong, fault_event}

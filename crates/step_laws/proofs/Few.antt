@@ -9,7 +9,7 @@ use Rattle.id_table.specs.Order.{IsAbove, Ascends, less_is, lower, at-above}
 use Rattle.end_model.specs.declared.event.Event.{Event}
 use Rattle.end_model.specs.declared.moves.Move.{Move}
 use Rattle.end_model.specs.declared.moves.Move.TheVariants as move
-use Rattle.end_model.specs.Turn.{Tunnel}
+use Rattle.end_model.specs.Tunnels.{Tunnel}
 use Rattle.end_model.specs.End.{End}
 use Rattle.step_laws.specs.Left.{AreFew, TunnelsBeginFew, TunnelsStayFew}
 use Rattle.step_laws.specs.Moves.{Does, Chain}

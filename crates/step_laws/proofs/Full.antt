@@ -16,7 +16,12 @@ use Rattle.end_model.specs.declared.event.Addressee.TheVariants.{Main}
 use Rattle.end_model.specs.declared.out.Out.{Out}
 use Rattle.end_model.specs.declared.out.Out.TheVariants.{Drop}
 use Rattle.end_model.specs.Reading.{body_of, at_tunnel}
-use Rattle.end_model.specs.Turn.{Env, Turn, Tunnel, turn_of, with_output, with_move, drops, reads_nr, sends_letter, sends_now, lets_go, goes_by, lets_all_go, acknowledges, acknowledged_after, outstanding, settles, hears_letter, in_tunnel, hears_control, hears_datagram, turns, may_take, counts_acked}
+use Rattle.end_model.specs.Tunnels.{Env, Turn, Tunnel, turn_of}
+use Rattle.end_model.specs.Turn.{with_output, with_move, drops}
+use Rattle.end_model.specs.Sending.{reads_nr, sends_letter, sends_now, lets_go, goes_by, lets_all_go, acknowledges, acknowledged_after, outstanding, settles}
+use Rattle.end_model.specs.Hearing.{hears_letter, in_tunnel, hears_control, hears_datagram}
+use Rattle.end_model.specs.Events.{turns}
+use Rattle.end_model.specs.Channels.{may_take, counts_acked}
 use Rattle.end_model.specs.End.{End, Stepped, env_of, after_turn, in_main, addressed, for_addressee, receives, step_in, plain_step}
 use Rattle.step_laws.specs.Letters.{Among}
 use Rattle.step_laws.specs.Steps.{AreKept}

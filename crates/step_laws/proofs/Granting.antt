@@ -12,7 +12,9 @@ use Rattle.end_model.specs.declared.event.Event.TheVariants.{Tick}
 use Rattle.end_names.specs.declared.role.Role.{Role}
 use Rattle.end_names.specs.declared.role.Role.TheVariants.{Lac, Lns}
 use Rattle.end_model.specs.Calls.{call_row, is_reply, are_too_many}
-use Rattle.end_model.specs.Turn.{Tunnel, Reason, reason, out_of_state, call_of, left_of, granted}
+use Rattle.end_model.specs.Tunnels.{Tunnel}
+use Rattle.end_model.specs.Reasons.{Reason, reason, out_of_state}
+use Rattle.end_model.specs.Asking.{call_of, left_of, granted}
 use Rattle.end_model.specs.End.{End}
 use Rattle.step_laws.specs.Moves.{IsIdInUse, GrantsCall, DeniesCall, AsksItself, HasUsedId, HasAllCalls, HasNoSession}
 use Rattle.step_laws.proofs.States.{takes_none}

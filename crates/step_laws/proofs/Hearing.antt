@@ -31,12 +31,21 @@ use Rattle.end_model.specs.declared.event.Event.{Event}
 use Rattle.end_model.specs.declared.event.Event.TheVariants.{Ring}
 use Rattle.end_model.specs.Reading.{message_in, call_fault_in, tunnel_fault_in}
 use Rattle.end_model.specs.Calls.{are_too_many}
-use Rattle.end_model.specs.Turn.{Tunnel, Turn, is_closed, is_acceptable, event_by, opening_reason, out_of_order, tunnel_after, with_move, with_calls, gives, takes_one, has_room, may_take, counts_acked, reads_nr, connected, connects, takes_by, takes, takes_plain, confirms, hears, hears_said, hears_next, hears_letter, is_duplicate, in_tunnel, hears_control, rings_over, rings_by, rings_within, rings}
+use Rattle.end_model.specs.Tunnels.{Tunnel, Turn}
+use Rattle.end_model.specs.Moments.{is_closed}
+use Rattle.end_model.specs.Messages.{is_acceptable, event_by, opening_reason}
+use Rattle.end_model.specs.Reasons.{out_of_order, no_secret}
+use Rattle.end_model.specs.Events.{tunnel_after, with_calls}
+use Rattle.end_model.specs.Turn.{with_move}
+use Rattle.end_model.specs.Sending.{gives, takes_one, reads_nr, takes_plain}
+use Rattle.end_model.specs.Channels.{has_room, may_take, counts_acked}
+use Rattle.end_model.specs.Openings.{connected, confirms}
+use Rattle.end_model.specs.Hearing.{connects, takes_by, takes, hears, hears_said, hears_next, hears_letter, is_duplicate, in_tunnel, hears_control}
+use Rattle.end_model.specs.Ringing.{rings_over, rings_by, rings_within, rings}
 use Rattle.end_model.specs.End.{End}
 use Rattle.step_laws.specs.Room.{IsFull, IsChosen, RingsOver}
 use Rattle.step_laws.specs.Causes.{ForRing}
 use Rattle.end_model.specs.Secrets.{is_wrong}
-use Rattle.end_model.specs.Reasons.{no_secret}
 use Rattle.step_laws.proofs.Secrets.{right_of}
 use Rattle.step_laws.specs.Moves.{Came, IsRight, ComesTo, IsNext, HearsNext, TellsNr}
 use Rattle.step_laws.proofs.Lists.{branch}

@@ -8,7 +8,10 @@ use Rattle.send_window.specs.Window as sending
 use Rattle.control_channel.specs.Numbers.{Numbers, next_to_go}
 use Rattle.end_model.specs.declared.tunnel.Control.{Control}
 use Rattle.end_model.specs.declared.moves.Move.TheVariants as move
-use Rattle.end_model.specs.Turn.{Turn, with_output, with_move, has_room, place, letter_in, counts_given, counts_sent, counts_repeated, sends_letter, sends_now, lets_go, goes_by, lets_all_go, acknowledges, outstanding, acknowledged_after, settles}
+use Rattle.end_model.specs.Tunnels.{Turn}
+use Rattle.end_model.specs.Turn.{with_output, with_move}
+use Rattle.end_model.specs.Channels.{has_room, place, counts_given, counts_sent, counts_repeated}
+use Rattle.end_model.specs.Sending.{letter_in, sends_letter, sends_now, lets_go, goes_by, lets_all_go, acknowledges, outstanding, acknowledged_after, settles}
 use Rattle.step_laws.proofs.Lists.{branch}
 
 -- one more letter makes no room

@@ -11,7 +11,7 @@ use Rattle.end_model.specs.declared.event.Addressee.TheVariants.{Opens, Stops}
 use Rattle.end_model.specs.declared.event.Event.{Event}
 use Rattle.end_model.specs.declared.event.Event.TheVariants.{Datagram}
 use Rattle.end_model.specs.Reading.{body_of, message_in, at_zero}
-use Rattle.end_model.specs.Turn.{Tunnel}
+use Rattle.end_model.specs.Tunnels.{Tunnel}
 use Rattle.end_model.specs.End.{End, is_known, known_as}
 use Rattle.step_laws.specs.Causes.{WouldOpen}
 use Rattle.step_laws.specs.Opens.{opens_said}

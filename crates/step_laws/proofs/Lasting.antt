@@ -25,7 +25,15 @@ use Rattle.lcp_end.specs.Laws.{Call as LcpCall, OnTick, after as lcp_after}
 use Rattle.lcp_end.specs.Steps.{is_due}
 use Rattle.end_model.specs.declared.event.Event.TheVariants.{Tick}
 use Rattle.end_model.specs.Calls.{call_row, is_set_up, is_up}
-use Rattle.end_model.specs.Turn.{Tunnel, Turn, turn_of, with_output, with_move, with_change, gives, has_room, counts_sent, counts_repeated, sends_letter, sends_now, lets_go, goes_by, lets_all_go, repeats, acknowledges, outstanding, acknowledged_after, settles, ends_call, end_silent, end_told, ends_by, drops, greeted, greets, links, ticks_link, limits_at, limits_all, goes_quietly, clears, is_over, patience, is_at_its_end, ticks_by, ticks, turns}
+use Rattle.end_model.specs.Tunnels.{Tunnel, Turn, turn_of}
+use Rattle.end_model.specs.Turn.{with_output, with_move, with_change, ends_call, drops}
+use Rattle.end_model.specs.Sending.{gives, sends_letter, sends_now, lets_go, goes_by, lets_all_go, repeats, acknowledges, outstanding, acknowledged_after, settles}
+use Rattle.end_model.specs.Channels.{has_room, counts_sent, counts_repeated}
+use Rattle.end_model.specs.Closing.{end_silent, end_told, ends_by}
+use Rattle.end_model.specs.Ticking.{greeted, greets, limits_at, limits_all, goes_quietly, clears, ticks_by, ticks}
+use Rattle.end_model.specs.Linking.{links, ticks_link}
+use Rattle.end_model.specs.Moments.{is_over, patience, is_at_its_end}
+use Rattle.end_model.specs.Events.{turns}
 use Rattle.end_model.specs.End.{End, env_of}
 use Rattle.step_laws.specs.Left.{FailedTunnelsGo}
 use Rattle.step_laws.specs.Failing.{IsGivenUp, HasFailed, IsNotSetUp, WasClosed, IsUnanswered}

@@ -12,8 +12,10 @@ use Rattle.end_names.specs.declared.role.Role.TheVariants.{Lac, Lns}
 use Rattle.call_fsm.specs.declared.table.CallState.{CallState}
 use Rattle.call_fsm.specs.declared.table.CallState.TheVariants as call
 use Rattle.call_fsm.specs.declared.table.CallEvent.TheVariants.{Close}
-use Rattle.end_model.specs.Calls.{call_row, is_set_up, is_told}
-use Rattle.end_model.specs.Turn.{Tunnel, Env, Turn, turn_of, has_room, is_clean_up, turns, tunnel_after}
+use Rattle.end_model.specs.Calls.{call_row, is_set_up, is_told, is_clean_up}
+use Rattle.end_model.specs.Tunnels.{Tunnel, Env, Turn, turn_of}
+use Rattle.end_model.specs.Channels.{has_room}
+use Rattle.end_model.specs.Events.{turns, tunnel_after}
 use Rattle.end_model.specs.End.{End, env_of, tunnels_after, after_turn, Turned, tick_of, ticks_of, end_after_all, after_all, ticks_all, step_in, plain_step}
 use Rattle.step_laws.specs.Letters.{Among}
 use Rattle.step_laws.specs.Left.{CanBe, LateCallsEnd}

@@ -11,7 +11,9 @@ use Rattle.end_model.specs.declared.tunnel.Call.{Call}
 use Rattle.end_model.specs.declared.tunnel.Link.{Link}
 use Rattle.end_names.specs.declared.role.Role.{Role}
 use Rattle.end_model.specs.Calls.{call_row, is_up}
-use Rattle.end_model.specs.Turn.{Turn, ends_by, links, hears_link, hears_lcp}
+use Rattle.end_model.specs.Tunnels.{Turn}
+use Rattle.end_model.specs.Closing.{ends_by}
+use Rattle.end_model.specs.Linking.{links, hears_link, hears_lcp}
 use Rattle.step_laws.proofs.Lists.{and_right, branch}
 use Rattle.step_laws.proofs.Asking.{Begins, Asked, same, settled, dropped, negotiated_asked, ends_by_asked}
 

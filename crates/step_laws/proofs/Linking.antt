@@ -16,8 +16,15 @@ use Rattle.end_model.specs.declared.event.Event.{Event}
 use Rattle.end_model.specs.declared.moves.FrameSent.{FrameSent}
 use Rattle.end_model.specs.declared.moves.Move.TheVariants as move
 use Rattle.end_model.specs.Calls.{call_row, advanced, is_up, is_told}
-use Rattle.end_model.specs.Links.{lcp_frame, magic_of, new_link}
-use Rattle.end_model.specs.Turn.{Tunnel, Turn, with_output, with_move, with_call, with_looks_of, with_calls, with_link, link_after, is_first_open, looks_of, carried, sends_packets, negotiated, links, ends_by, settles, takes_one, with_change, second_up, connects_call, linked_up, tunnel_after}
+use Rattle.end_model.specs.Links.{lcp_frame, magic_of, new_link, with_link, link_after, is_first_open, looks_of}
+use Rattle.end_model.specs.Tunnels.{Tunnel, Turn}
+use Rattle.end_model.specs.Turn.{with_output, with_move, with_call, with_looks_of, with_change}
+use Rattle.end_model.specs.Events.{with_calls, tunnel_after}
+use Rattle.end_model.specs.Frames.{carried}
+use Rattle.end_model.specs.Linking.{sends_packets, negotiated, links}
+use Rattle.end_model.specs.Closing.{ends_by}
+use Rattle.end_model.specs.Sending.{settles, takes_one}
+use Rattle.end_model.specs.Connecting.{second_up, connects_call, linked_up}
 use Rattle.end_model.specs.End.{End, placed, with_look, with_looks}
 use Rattle.step_laws.specs.Letters.{Among, AFrame}
 use Rattle.step_laws.specs.Links.{IsCalled, ToOpen, Calls, WhySent, IsOfLcp}

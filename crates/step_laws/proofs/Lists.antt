@@ -13,7 +13,7 @@ use Rattle.session_looks.specs.declared.look.CellChange.{CellChange}
 use Rattle.session_looks.specs.declared.look.CellChange.TheVariants as cell
 use Rattle.session_looks.specs.declared.look.Look.{Look}
 use Rattle.end_model.specs.declared.moves.Move.{Move}
-use Rattle.end_model.specs.Turn.{changed_at, with_calls}
+use Rattle.end_model.specs.Events.{changed_at, with_calls}
 use Rattle.end_model.specs.End.{End, new_place, placed, looked, with_look, with_looks}
 use Rattle.step_laws.specs.Letters.{Among}
 use Rattle.step_laws.specs.Moves.{Does, Chain}

@@ -23,7 +23,8 @@ use Rattle.session_looks.specs.declared.look.CellChange.TheVariants as cell
 use Rattle.end_model.specs.declared.tunnel.Control.{Control}
 use Rattle.session_looks.specs.declared.look.Look.TheVariants as look
 use Rattle.end_model.specs.Calls.{call_row, advanced, rung, asked_for}
-use Rattle.end_model.specs.Turn.{Tunnel, with_link, link_after, is_first_open, looks_of}
+use Rattle.end_model.specs.Tunnels.{Tunnel}
+use Rattle.end_model.specs.Links.{with_link, link_after, is_first_open, looks_of}
 use Rattle.lcp_end.specs.Laws.{after as lcp_after}
 use Rattle.step_laws.specs.Links.{begun_link}
 use Rattle.end_model.specs.End.{End, with_look, with_looks}

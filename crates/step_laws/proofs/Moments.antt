@@ -14,7 +14,7 @@ use Rattle.end_model.specs.declared.tunnel.Control.{Control}
 use Rattle.end_names.specs.declared.role.Role.{Role}
 use Rattle.end_names.specs.declared.role.Role.TheVariants.{Lac, Lns}
 use Rattle.end_model.specs.Calls.{is_set_up}
-use Rattle.end_model.specs.Turn.{is_over, patience, is_closed, kept_closed, is_being_set_up, is_at_its_end}
+use Rattle.end_model.specs.Moments.{is_over, patience, is_closed, kept_closed, is_being_set_up, is_at_its_end}
 use Rattle.step_laws.specs.Left.{CanBe}
 use Rattle.step_laws.specs.Failing.{IsGivenUp, HasFailed, IsNotSetUp, WasClosed, IsUnanswered}
 use Rattle.step_laws.proofs.Lists.{and_left, and_right}

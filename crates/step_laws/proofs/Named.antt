@@ -4,7 +4,7 @@ use Rattle.std.proofs.lemmas.Bool.{eqb-true, eq-eqb}
 use Rattle.std.specs.Prelude.{◌==◌, unwrap_or}
 use Rattle.id_table.specs.Ids.{at, ids_of}
 use Rattle.end_model.specs.declared.tunnel.Call.{Call}
-use Rattle.end_model.specs.Turn.{is_call_of, call_of, session_named}
+use Rattle.end_model.specs.Asking.{is_call_of, call_of, session_named}
 use Rattle.step_laws.proofs.Lists.{found_passes, none_passes, found_among}
 use Rattle.step_laws.proofs.States.{never}
 

@@ -8,8 +8,9 @@ use Rattle.id_source.specs.declared.IdError.{IdError}
 use Rattle.control_message.specs.declared.message.Opening.{Opening}
 use Rattle.tunnel_fsm.specs.declared.table.TunnelEvent.{TunnelEvent}
 use Rattle.end_model.specs.declared.event.Event.{Event}
-use Rattle.end_model.specs.Reasons.{no_tunnel, no_id}
-use Rattle.end_model.specs.Turn.{Tunnel, Reason, out_of_order, other_version, no_recovery, no_secret, is_acceptable, event_by, opening_reason}
+use Rattle.end_model.specs.Reasons.{no_tunnel, no_id, Reason, out_of_order, other_version, no_recovery, no_secret}
+use Rattle.end_model.specs.Tunnels.{Tunnel}
+use Rattle.end_model.specs.Messages.{is_acceptable, event_by, opening_reason}
 use Rattle.end_model.specs.End.{End, lacks_id, against_opening}
 use Rattle.step_laws.specs.Moves.{has_all_tunnels, StandsAgainst, OtherVersion, Recovers, NoTunnel, Challenges, NoId, ClosesIn, HasOtherVersion, HasRecovery, HasOtherSecret, IsUnawaited, LacksSecret, FailsSecret}
 use Rattle.step_laws.specs.Causes.{IsClosedOn, WouldOpen, IsNotAccepted, AtZero, MayOpen, IsOutOfOrder, ForPeer, FailsBySecret, AsksInVain, Stands}

@@ -18,7 +18,9 @@ use Rattle.end_names.specs.declared.role.Role.{Role}
 use Rattle.end_names.specs.declared.role.Role.TheVariants.{Lac, Lns}
 use Rattle.end_model.specs.Owing.{owed_at, owed-put, owed-put-most, owed-without, length-put, length-put-most, length-without}
 use Rattle.end_model.specs.Calls.{call_row, rung, asked_for, is_request, is_reply, is_connection, is_up, is_told, is_set_up, owes, owed_by, are_too_many}
-use Rattle.end_model.specs.Turn.{has_room, may_take, counts_given, counts_acked, learns_window, is_closed, shut}
+use Rattle.end_model.specs.Channels.{has_room, may_take, counts_given, counts_acked, learns_window}
+use Rattle.end_model.specs.Moments.{is_closed}
+use Rattle.end_model.specs.Stopping.{shut}
 use Rattle.step_laws.proofs.States.{never, requested_state, replied_state, rung_state, connected_state, up_state}
 use Rattle.step_laws.proofs.Lists.{branch}
 

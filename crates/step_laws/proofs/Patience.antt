@@ -27,8 +27,17 @@ use Rattle.end_model.specs.declared.tunnel.Link.{Link}
 use Rattle.end_names.specs.declared.role.Role.{Role}
 use Rattle.end_model.specs.declared.moves.Move.TheVariants as move
 use Rattle.end_model.specs.declared.out.Out.TheVariants.{Cause}
-use Rattle.end_model.specs.Calls.{call_row, is_set_up, is_up, is_told}
-use Rattle.end_model.specs.Turn.{Ground, Turn, with_output, with_move, with_change, with_calls, gives, has_room, place, next_place, letter_in, counts_repeated, sends_now, settles, ends_call, is_clean_up, repeats, greeted, greets, end_silent, end_told, ends_by, drops, sends_letter, with_link, link_after, negotiated, links, ticks_link, limits_at, limits_all, goes_quietly, clears, is_over, patience, is_at_its_end, ticks_by, ticks}
+use Rattle.end_model.specs.Calls.{call_row, is_set_up, is_up, is_told, is_clean_up}
+use Rattle.end_model.specs.Tunnels.{Ground, Turn}
+use Rattle.end_model.specs.Turn.{with_output, with_move, with_change, ends_call, drops}
+use Rattle.end_model.specs.Events.{with_calls}
+use Rattle.end_model.specs.Sending.{gives, letter_in, sends_now, settles, repeats, sends_letter}
+use Rattle.end_model.specs.Channels.{has_room, place, next_place, counts_repeated}
+use Rattle.end_model.specs.Ticking.{greeted, greets, limits_at, limits_all, goes_quietly, clears, ticks_by, ticks}
+use Rattle.end_model.specs.Closing.{end_silent, end_told, ends_by}
+use Rattle.end_model.specs.Links.{with_link, link_after}
+use Rattle.end_model.specs.Linking.{negotiated, links, ticks_link}
+use Rattle.end_model.specs.Moments.{is_over, patience, is_at_its_end}
 use Rattle.step_laws.specs.Letters.{Among}
 use Rattle.step_laws.proofs.Lists.{branch, and_left, and_right, found_among, with_calls-more}
 use Rattle.step_laws.proofs.Linking.{negotiated_is}

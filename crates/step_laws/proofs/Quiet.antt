@@ -49,8 +49,28 @@ use Rattle.end_model.specs.declared.moves.Move.{Move}
 use Rattle.end_model.specs.declared.moves.Move.TheVariants as move
 use Rattle.session_looks.specs.Frames.{header_why}
 use Rattle.end_model.specs.Reading.{body_of, message_in, CallFault, call_fault_in, TunnelFault, tunnel_fault_in}
-use Rattle.end_model.specs.Calls.{call_row, rung, is_set_up, is_request, is_connection, is_up, are_too_many}
-use Rattle.end_model.specs.Turn.{rejects, rejected, connected_reason, connected_event, Turn, with_output, with_move, with_change, with_call, with_new, with_local, drops, gives, gives_as, has_room, sends_letter, sends_now, lets_go, goes_by, lets_all_go, acknowledges, outstanding, acknowledged_after, settles, takes_one, reads_nr, opened, opens_by, opens, accepted, accepts_by, accepts, requested, requests, requests_at, requests_all, adds, rings_over, rings_by, rings_new, rings, is_closed, event_by, opening_reason, out_of_order, shuts, closed_told, closes_tunnel, closed_by, shuts_by, connected, connects, confirms, takes_plain, ignores, takes_by, takes, Reason, reason, out_of_state, may_take, granted, replied, replies, refused, refuses, of_no_call, answers_by, asked_by, faulty_at, fault_reason, faulty, in_faulty_call, closes, ends_by, rings_within, first_up, first_up_by, second_up, second_up_by, ends_call, ends_all, is_clean_up, end_heard, end_heard_by, session_named, ends_named, repeats, greeted, greets, end_silent, end_told, limits_at, limits_all, goes_quietly, clears, is_over, patience, is_at_its_end, ticks_by, ticks, about_call, in_call, hears, hears_faulty, hears_said, hears_next, hears_letter, is_duplicate, in_tunnel, first_said, hears_control, carried, sends_packets, negotiated, links, hears_link, hears_lcp, ticks_link, with_looks_of, lcp_frame, is_passing, connects_call, linked_up, carries, hears_datagram, turns, is_short, is_long}
+use Rattle.end_model.specs.Calls.{call_row, rung, is_set_up, is_request, is_connection, is_up, are_too_many, is_clean_up, is_short, is_long}
+use Rattle.end_model.specs.Stopping.{rejects, rejected, shuts, closed_told, closes_tunnel, closed_by, shuts_by}
+use Rattle.end_model.specs.Messages.{connected_reason, connected_event, event_by, opening_reason}
+use Rattle.end_model.specs.Tunnels.{Turn}
+use Rattle.end_model.specs.Turn.{with_output, with_move, with_change, with_call, with_new, drops, ends_call, ends_all, with_looks_of}
+use Rattle.end_model.specs.Openings.{with_local, opened, opens_by, opens, accepted, accepts_by, accepts, connected, confirms}
+use Rattle.end_model.specs.Sending.{gives, gives_as, sends_letter, sends_now, lets_go, goes_by, lets_all_go, acknowledges, outstanding, acknowledged_after, settles, takes_one, reads_nr, takes_plain, ignores, repeats}
+use Rattle.end_model.specs.Channels.{has_room, may_take}
+use Rattle.end_model.specs.Ringing.{requested, requests, requests_at, requests_all, adds, rings_over, rings_by, rings_new, rings, rings_within}
+use Rattle.end_model.specs.Moments.{is_closed, is_over, patience, is_at_its_end}
+use Rattle.end_model.specs.Reasons.{out_of_order, Reason, reason, out_of_state, fault_reason}
+use Rattle.end_model.specs.Hearing.{connects, takes_by, takes, about_call, in_call, hears, hears_faulty, hears_said, hears_next, hears_letter, is_duplicate, in_tunnel, first_said, hears_control, hears_datagram}
+use Rattle.end_model.specs.Asking.{granted, replied, replies, asked_by, session_named}
+use Rattle.end_model.specs.Refusing.{refused, refuses, of_no_call, answers_by}
+use Rattle.end_model.specs.Faulty.{faulty_at, faulty, in_faulty_call}
+use Rattle.end_model.specs.Closing.{closes, ends_by, end_silent, end_told}
+use Rattle.end_model.specs.Connecting.{first_up, first_up_by, second_up, second_up_by, end_heard, end_heard_by, ends_named, connects_call, linked_up}
+use Rattle.end_model.specs.Ticking.{greeted, greets, limits_at, limits_all, goes_quietly, clears, ticks_by, ticks}
+use Rattle.end_model.specs.Frames.{carried, carries}
+use Rattle.end_model.specs.Linking.{sends_packets, negotiated, links, hears_link, hears_lcp, ticks_link}
+use Rattle.end_model.specs.Links.{lcp_frame, is_passing}
+use Rattle.end_model.specs.Events.{turns}
 use Rattle.step_laws.specs.Ups.{ups_of_output, ups_of_move, births_of_move, reads_of_move, most_births, most_reads}
 use Rattle.step_laws.proofs.Lists.{branch}
 

@@ -23,7 +23,12 @@ use Rattle.end_model.specs.declared.event.Addressee.TheVariants.{Main}
 use Rattle.end_model.specs.declared.moves.Move.{Move}
 use Rattle.end_model.specs.Reading.{body_of, message_in, at_tunnel}
 use Rattle.end_model.specs.Calls.{is_lac}
-use Rattle.end_model.specs.Turn.{Env, Turn, Tunnel, turn_of, with_move, reads_nr, hears_letter, in_tunnel, hears_control, hears_datagram, turns, may_take, counts_acked}
+use Rattle.end_model.specs.Tunnels.{Env, Turn, Tunnel, turn_of}
+use Rattle.end_model.specs.Turn.{with_move}
+use Rattle.end_model.specs.Sending.{reads_nr}
+use Rattle.end_model.specs.Hearing.{hears_letter, in_tunnel, hears_control, hears_datagram}
+use Rattle.end_model.specs.Events.{turns}
+use Rattle.end_model.specs.Channels.{may_take, counts_acked}
 use Rattle.end_model.specs.End.{End, Stepped, env_of, after_turn, in_main, addressed, for_addressee, least_in, rings_in, rings_at, receives, only_by, step_in, plain_step}
 use Rattle.step_laws.specs.Moves.{GrantsCall, DeniesCall, AsksItself, HasUsedId, HasAllCalls, HasNoSession}
 use Rattle.step_laws.specs.Causes.{MayBeGranted}

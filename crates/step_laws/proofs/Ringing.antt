@@ -20,7 +20,13 @@ use Rattle.end_names.specs.declared.role.Role.TheVariants.{Lac}
 use Rattle.end_model.specs.declared.event.Event.TheVariants.{Ring}
 use Rattle.end_model.specs.declared.out.Out.TheVariants.{Cause}
 use Rattle.end_model.specs.Calls.{call_row, advanced, rung, is_request, are_too_many}
-use Rattle.end_model.specs.Turn.{Env, Turn, Tunnel, turn_of, with_output, with_move, with_change, with_call, with_new, with_local, gives, gives_as, has_room, may_take, fresh, opened, requested, requests, adds, rings_over, rings_by, rings_within, rings_new, rings, settles, turns}
+use Rattle.end_model.specs.Tunnels.{Env, Turn, Tunnel, turn_of}
+use Rattle.end_model.specs.Turn.{with_output, with_move, with_change, with_call, with_new}
+use Rattle.end_model.specs.Openings.{with_local, fresh, opened}
+use Rattle.end_model.specs.Sending.{gives, gives_as, settles}
+use Rattle.end_model.specs.Channels.{has_room, may_take}
+use Rattle.end_model.specs.Ringing.{requested, requests, adds, rings_over, rings_by, rings_within, rings_new, rings}
+use Rattle.end_model.specs.Events.{turns}
 use Rattle.end_model.specs.End.{End, Stepped, env_of, gives_only, after_turn, after_new, in_new, has_all_tunnels, in_one_more, in_main}
 use Rattle.step_laws.specs.Room.{IsLeast, HasNone, RingsNew}
 use Rattle.step_laws.specs.Steps.{AreKept}

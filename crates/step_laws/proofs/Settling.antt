@@ -18,7 +18,11 @@ use Rattle.end_model.specs.declared.out.Origin.{Origin}
 use Rattle.end_model.specs.declared.moves.FrameSent.{FrameSent}
 use Rattle.end_model.specs.declared.moves.Move.{Move}
 use Rattle.end_model.specs.declared.moves.Move.TheVariants as move
-use Rattle.end_model.specs.Turn.{Tunnel, Turn, with_calls, with_output, with_move, place, counts_sent, letter_in, sends_letter, sends_now, lets_go, goes_by, lets_all_go, acknowledges, outstanding, acknowledged_after, settles, letters_after, tunnel_after}
+use Rattle.end_model.specs.Tunnels.{Tunnel, Turn}
+use Rattle.end_model.specs.Events.{with_calls, tunnel_after}
+use Rattle.end_model.specs.Turn.{with_output, with_move}
+use Rattle.end_model.specs.Channels.{place, counts_sent}
+use Rattle.end_model.specs.Sending.{letter_in, sends_letter, sends_now, lets_go, goes_by, lets_all_go, acknowledges, outstanding, acknowledged_after, settles, letters_after}
 use Rattle.end_model.specs.End.{End}
 use Rattle.step_laws.specs.Letters.{Among, Carries, ALetter, Nothing, AFrame, HasOutput}
 use Rattle.step_laws.specs.Moves.{Chain}

@@ -21,7 +21,14 @@ use Rattle.end_model.specs.declared.event.Event.{Event}
 use Rattle.end_model.specs.declared.out.Out.TheVariants.{Gone, Cause}
 use Rattle.end_model.specs.declared.moves.Closed.{Closed}
 use Rattle.end_model.specs.declared.moves.Move.TheVariants as move
-use Rattle.end_model.specs.Turn.{may_take, rejected, rejects, Tunnel, Turn, Reason, is_closed, with_output, with_move, with_change, with_calls, ends_call, ends_all, gives, takes_one, next_place, taken_place, has_room, letter_of, tunnel_after, counts_taken, shut, shuts, closed_told, closes_tunnel, closed_by}
+use Rattle.end_model.specs.Channels.{may_take, next_place, taken_place, has_room, letter_of, counts_taken}
+use Rattle.end_model.specs.Stopping.{rejected, rejects, shut, shuts, closed_told, closes_tunnel, closed_by}
+use Rattle.end_model.specs.Tunnels.{Tunnel, Turn}
+use Rattle.end_model.specs.Reasons.{Reason}
+use Rattle.end_model.specs.Moments.{is_closed}
+use Rattle.end_model.specs.Turn.{with_output, with_move, with_change, ends_call, ends_all}
+use Rattle.end_model.specs.Events.{with_calls, tunnel_after}
+use Rattle.end_model.specs.Sending.{gives, takes_one}
 use Rattle.end_model.specs.End.{End, placed, with_looks, with_look}
 use Rattle.step_laws.specs.Causes.{Stands}
 use Rattle.step_laws.specs.Moves.{Came, IsNext, LetterCloses, WhyCloses, SaysStop}

@@ -31,7 +31,8 @@ use Rattle.end_model.specs.declared.moves.Move.TheVariants as move
 use Rattle.session_looks.specs.Frames.{header_why, frame_of, is_lcp, is_for_lcp, lns_side, side_of, Carried, Upward, Dropped, carry_known, carry_look}
 use Rattle.end_model.specs.Reading.{body_of, at_zero, at_tunnel}
 use Rattle.end_model.specs.Calls.{is_lac}
-use Rattle.end_model.specs.Turn.{Tunnel, Env, turns}
+use Rattle.end_model.specs.Tunnels.{Tunnel, Env}
+use Rattle.end_model.specs.Events.{turns}
 use Rattle.end_model.specs.End.{End, Stepped, env_of, in_new, in_one_more, in_main, is_known, known_as, opened_before, stopped_at, opens_once, addressed, for_addressee, least_in, rings_in, rings_at, for_call, look_in, behind, then_heard, handed, hands_up, receives, only_by, step_in, plain_step}
 use Rattle.step_laws.specs.Links.{HearsFrame, HearsLcp, Passes, AsAll, AsLcp}
 use Rattle.step_laws.specs.Letters.{HasOutput}

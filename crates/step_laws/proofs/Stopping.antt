@@ -19,10 +19,18 @@ use Rattle.end_model.specs.declared.tunnel.Call.{Call}
 use Rattle.end_model.specs.declared.tunnel.Control.{Control}
 use Rattle.end_model.specs.declared.event.Event.{Event}
 use Rattle.end_model.specs.Reading.{message_in, CallFault, call_fault_in, TunnelFault, tunnel_fault_in}
-use Rattle.end_model.specs.Turn.{Tunnel, Turn, Reason, is_closed, is_acceptable, event_by, opening_reason, out_of_order, fault_reason, with_output, with_move, gives, shuts, has_room, tunnel_after, closed_told, takes_plain, closes_tunnel, takes_by, takes, hears_faulty}
+use Rattle.end_model.specs.Tunnels.{Tunnel, Turn}
+use Rattle.end_model.specs.Reasons.{Reason, out_of_order, fault_reason, no_secret}
+use Rattle.end_model.specs.Moments.{is_closed}
+use Rattle.end_model.specs.Messages.{is_acceptable, event_by, opening_reason}
+use Rattle.end_model.specs.Turn.{with_output, with_move}
+use Rattle.end_model.specs.Sending.{gives, takes_plain}
+use Rattle.end_model.specs.Stopping.{shuts, closed_told, closes_tunnel}
+use Rattle.end_model.specs.Channels.{has_room}
+use Rattle.end_model.specs.Events.{tunnel_after}
+use Rattle.end_model.specs.Hearing.{takes_by, takes, hears_faulty}
 use Rattle.end_model.specs.End.{End}
 use Rattle.end_model.specs.Secrets.{is_wrong}
-use Rattle.end_model.specs.Reasons.{no_secret}
 use Rattle.step_laws.specs.Causes.{IsClosedOn, InSccrq, InSccrp, AnSccrq, AnSccrp, AnScccn, AsksInVain, AnswersWrongly, Stands}
 use Rattle.step_laws.proofs.Secrets.{right_of, wrong_of, right_if_unasked}
 use Rattle.step_laws.specs.Moves.{Came, IsNext, LetterCloses, ByLetter, HearsNext, IsPlain, SaysStop, BySccrq, BySccrp, ByScccn, ByFault, WronglyConnected, ComesUnawaited}

@@ -30,7 +30,9 @@ use Rattle.end_model.specs.declared.out.Out.TheVariants.{Send, Up, Gone, Drop, C
 use Rattle.session_looks.specs.Frames.{header_why}
 use Rattle.end_model.specs.Reading.{message_read, pairs_read, message_in, CallFault, fault_cause, is_for_call, with_cause, fault_of_kind, fault_read, fault_of_pairs, call_fault_in}
 use Rattle.end_model.specs.Calls.{call_row, is_reply, are_too_many}
-use Rattle.end_model.specs.Turn.{Tunnel, Reason, reason, out_of_state, call_of, left_of, granted}
+use Rattle.end_model.specs.Tunnels.{Tunnel}
+use Rattle.end_model.specs.Reasons.{Reason, reason, out_of_state}
+use Rattle.end_model.specs.Asking.{call_of, left_of, granted}
 use Rattle.end_model.specs.End.{End}
 use Rattle.step_laws.specs.Letters.{Among}
 use Rattle.step_laws.specs.Room.{IsFull}

@@ -22,7 +22,15 @@ use Rattle.end_model.specs.declared.tunnel.Link.{Link}
 use Rattle.end_model.specs.declared.event.Event.TheVariants.{Tick}
 use Rattle.end_model.specs.declared.moves.Move.TheVariants as move
 use Rattle.end_model.specs.Calls.{call_row, is_set_up, is_up}
-use Rattle.end_model.specs.Turn.{Tunnel, Turn, with_output, with_move, with_calls, has_room, gives, place, next_place, letter_of, letter_in, letters_after, counts_given, counts_sent, counts_repeated, sends_letter, sends_now, lets_go, goes_by, lets_all_go, repeats, acknowledges, outstanding, acknowledged_after, settles, tunnel_after, is_over, patience, greeted, greets, ends_by, links, ticks_link, limits_at, limits_all, goes_quietly}
+use Rattle.end_model.specs.Tunnels.{Tunnel, Turn}
+use Rattle.end_model.specs.Turn.{with_output, with_move}
+use Rattle.end_model.specs.Events.{with_calls, tunnel_after}
+use Rattle.end_model.specs.Channels.{has_room, place, next_place, letter_of, counts_given, counts_sent, counts_repeated}
+use Rattle.end_model.specs.Sending.{gives, letter_in, letters_after, sends_letter, sends_now, lets_go, goes_by, lets_all_go, repeats, acknowledges, outstanding, acknowledged_after, settles}
+use Rattle.end_model.specs.Moments.{is_over, patience}
+use Rattle.end_model.specs.Ticking.{greeted, greets, limits_at, limits_all, goes_quietly}
+use Rattle.end_model.specs.Closing.{ends_by}
+use Rattle.end_model.specs.Linking.{links, ticks_link}
 use Rattle.end_model.specs.End.{drawing_of, End}
 use Rattle.step_laws.specs.Moves.{TookTooLong, IsLate}
 use Rattle.step_laws.proofs.Lists.{all_push, and_left, and_right, branch, chain_more}

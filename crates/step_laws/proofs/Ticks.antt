@@ -14,7 +14,12 @@ use Rattle.end_model.specs.declared.out.Out.{Out}
 use Rattle.end_model.specs.declared.out.Out.TheVariants.{Send, Up, Gone, Drop, Cause}
 use Rattle.end_model.specs.declared.moves.Move.{Move}
 use Rattle.end_model.specs.declared.moves.Move.TheVariants as move
-use Rattle.end_model.specs.Turn.{Drawing, Tunnel, Env, Turn, turn_of, with_output, with_move, with_change, ends_call, ends_all, clears, repeats, is_at_its_end, ticks_by, ticks, turns, tunnel_after}
+use Rattle.end_model.specs.Tunnels.{Drawing, Tunnel, Env, Turn, turn_of}
+use Rattle.end_model.specs.Turn.{with_output, with_move, with_change, ends_call, ends_all}
+use Rattle.end_model.specs.Ticking.{clears, ticks_by, ticks}
+use Rattle.end_model.specs.Sending.{repeats}
+use Rattle.end_model.specs.Moments.{is_at_its_end}
+use Rattle.end_model.specs.Events.{turns, tunnel_after}
 use Rattle.end_model.specs.End.{drawing_of, End, env_of, placed, with_looks, after_turn, Turned, tick_of, ticks_of, end_after_all, after_all, ticks_all}
 use Rattle.step_laws.specs.Failing.{HasFailed, IsUnanswered}
 use Rattle.step_laws.specs.Moves.{Chain}

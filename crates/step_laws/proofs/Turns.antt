@@ -35,10 +35,23 @@ use Rattle.end_model.specs.declared.out.Out.TheVariants.{Send, Up, Gone, Drop, C
 use Rattle.end_model.specs.declared.moves.Move.{Move}
 use Rattle.end_model.specs.declared.moves.Move.TheVariants as move
 use Rattle.end_model.specs.Reading.{message_in, call_fault_in}
-use Rattle.end_model.specs.Calls.{call_row, advanced, rung, asked_for, is_request, is_reply, is_connection, is_up, are_too_many}
+use Rattle.end_model.specs.Calls.{call_row, advanced, rung, asked_for, is_request, is_reply, is_connection, is_up, are_too_many, is_clean_up}
 use Rattle.end_model.specs.Secrets.{response_by}
 use Rattle.step_laws.proofs.Secrets.{acceptable_proven, responds_so, hides_number}
-use Rattle.end_model.specs.Turn.{is_acceptable, Tunnel, Turn, Reason, is_closed, granted, refused, may_take, counts_given, in_state, changed_at, with_output, with_move, with_change, with_call, with_new, drops, gives, gives_as, takes_one, next_place, taken_place, has_room, learns_window, reads_nr, ends_call, end_heard, is_clean_up, session_named, requested, requests, requests_at, requests_all, adds, replied, first_up, second_up, with_link, connected, confirms, takes_plain, ignores, letter_of, letter_as, request_of, hidden_request, connection, letters_after, tunnel_after, with_calls}
+use Rattle.end_model.specs.Messages.{is_acceptable, request_of, hidden_request, connection}
+use Rattle.end_model.specs.Tunnels.{Tunnel, Turn}
+use Rattle.end_model.specs.Reasons.{Reason}
+use Rattle.end_model.specs.Moments.{is_closed}
+use Rattle.end_model.specs.Asking.{granted, session_named, replied}
+use Rattle.end_model.specs.Refusing.{refused}
+use Rattle.end_model.specs.Channels.{may_take, counts_given, next_place, taken_place, has_room, learns_window, letter_of, letter_as}
+use Rattle.end_model.specs.Openings.{in_state, connected, confirms}
+use Rattle.end_model.specs.Events.{changed_at, tunnel_after, with_calls}
+use Rattle.end_model.specs.Turn.{with_output, with_move, with_change, with_call, with_new, drops, ends_call}
+use Rattle.end_model.specs.Sending.{gives, gives_as, takes_one, reads_nr, takes_plain, ignores, letters_after}
+use Rattle.end_model.specs.Connecting.{end_heard, first_up, second_up}
+use Rattle.end_model.specs.Ringing.{requested, requests, requests_at, requests_all, adds}
+use Rattle.end_model.specs.Links.{with_link}
 use Rattle.end_model.specs.End.{End, placed, with_looks}
 use Rattle.step_laws.specs.Causes.{Stands}
 use Rattle.step_laws.specs.Links.{begun_link}

@@ -24,7 +24,10 @@ use Rattle.end_model.specs.declared.out.Out.TheVariants.{Up, Drop, Cause}
 use Rattle.session_looks.specs.Frames.{header_why, Carried, Upward, Dropped}
 use Rattle.end_model.specs.Reading.{body_of}
 use Rattle.end_model.specs.Calls.{is_lac}
-use Rattle.end_model.specs.Turn.{Tunnel, Env, Reason, out_of_order, turn_of, fresh, turns}
+use Rattle.end_model.specs.Tunnels.{Tunnel, Env, turn_of}
+use Rattle.end_model.specs.Reasons.{Reason, out_of_order}
+use Rattle.end_model.specs.Openings.{fresh}
+use Rattle.end_model.specs.Events.{turns}
 use Rattle.end_model.specs.End.{End, Stepped, env_of, gives_only, after_turn, after_new, in_new, has_all_tunnels, in_one_more, in_main, addressed, against_body, next_of_peer, declined, opens_or_declines, for_addressee, least_in, rings_in, rings_at, for_call, then_heard, handed, hands_up, receives, Turned, tick_of, ticks_of, after_all, ticks_all, only_by, step_in, plain_step}
 use Rattle.step_laws.specs.Ups.{ups_of_output, ups_of_move, births_of_move, reads_of_move, most_ups, most_births, most_reads, UpsAreMoves, UpsAreFew, BirthsAreFew, ReadsAreFew}
 use Rattle.step_laws.proofs.Lists.{branch}

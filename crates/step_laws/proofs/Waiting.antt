@@ -32,7 +32,11 @@ use Rattle.end_model.specs.declared.out.Out.TheVariants.{Cause as Refused}
 use Rattle.end_model.specs.Reading.{body_of}
 use Rattle.session_looks.specs.Frames.{Carried, Upward, Dropped}
 use Rattle.end_model.specs.Calls.{call_row, is_lac}
-use Rattle.end_model.specs.Turn.{Tunnel, Env, Turn, Reason, out_of_order, turn_of, with_calls, fresh, has_room, turns, tunnel_after}
+use Rattle.end_model.specs.Tunnels.{Tunnel, Env, Turn, turn_of}
+use Rattle.end_model.specs.Reasons.{Reason, out_of_order}
+use Rattle.end_model.specs.Events.{with_calls, turns, tunnel_after}
+use Rattle.end_model.specs.Openings.{fresh}
+use Rattle.end_model.specs.Channels.{has_room}
 use Rattle.end_model.specs.End.{End, Stepped, env_of, gives_only, after_turn, after_new, in_new, has_all_tunnels, in_one_more, in_main, addressed, against_body, next_of_peer, declined, opens_or_declines, for_addressee, least_in, rings_in, rings_at, for_call, then_heard, handed, hands_up, receives, only_by, step_in, plain_step}
 use Rattle.step_laws.specs.Left.{CanBe, CallsAreAsked}
 use Rattle.step_laws.specs.Steps.{AreKept, StepsAreChains}

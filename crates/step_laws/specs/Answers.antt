@@ -29,7 +29,9 @@ use Rattle.end_model.specs.declared.moves.Closed.{Closed}
 use Rattle.end_model.specs.declared.moves.Move.{Move}
 use Rattle.end_model.specs.declared.moves.Move.TheVariants as move
 use Rattle.end_model.specs.Reading.{body_of, message_in, CallFault, call_fault_in, TunnelFault, tunnel_fault_in}
-use Rattle.end_model.specs.Turn.{Tunnel, counts_acked, fault_error}
+use Rattle.end_model.specs.Tunnels.{Tunnel}
+use Rattle.end_model.specs.Channels.{counts_acked}
+use Rattle.end_model.specs.Reasons.{fault_error}
 use Rattle.end_model.specs.End.{End, Stepped, plain_step}
 use Rattle.step_laws.specs.Moves.{may_take, Came, IsNext, GrantsCall, DeniesCall}
 use Rattle.step_laws.specs.Causes.{MayBeGranted}

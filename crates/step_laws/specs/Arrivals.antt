@@ -11,7 +11,7 @@ use Rattle.end_model.specs.declared.event.Event.TheVariants.{Datagram}
 use Rattle.end_model.specs.declared.event.Addressee.TheVariants.{Stops}
 use Rattle.end_model.specs.declared.event.Addressee.TheVariants as addressee
 use Rattle.end_model.specs.Reading.{body_of, message_in, CallFault, call_fault_in, at_zero}
-use Rattle.end_model.specs.Turn.{Tunnel}
+use Rattle.end_model.specs.Tunnels.{Tunnel}
 
 -- a control message as an end has it: who sent it, its header, and what follows the header
 pub record Came : Type 0 where

@@ -16,7 +16,8 @@ use Rattle.end_model.specs.declared.moves.FrameSent.{FrameSent}
 use Rattle.end_model.specs.declared.moves.Place.{Place}
 use Rattle.end_model.specs.declared.moves.Move.{Move}
 use Rattle.end_model.specs.declared.moves.Move.TheVariants as move
-use Rattle.end_model.specs.Turn.{Tunnel, opening_of, request_of, connection}
+use Rattle.end_model.specs.Tunnels.{Tunnel}
+use Rattle.end_model.specs.Messages.{opening_of, request_of, connection}
 
 -- one of them is this one
 abbrev pub Among : {X : Type 0} → X → List X → Type 0

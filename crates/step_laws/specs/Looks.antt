@@ -13,7 +13,7 @@ use Rattle.session_looks.specs.declared.look.Look.TheVariants as look
 use Rattle.end_names.specs.declared.role.Role.{Role}
 use Rattle.end_names.specs.declared.role.Role.TheVariants.{Lns}
 use Rattle.end_model.specs.Links.{is_passing}
-use Rattle.end_model.specs.Turn.{Tunnel}
+use Rattle.end_model.specs.Tunnels.{Tunnel}
 use Rattle.end_model.specs.End.{End, new_end, plain_step}
 use Rattle.step_laws.specs.Steps.{AreKept}
 

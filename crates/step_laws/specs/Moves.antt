@@ -66,8 +66,15 @@ use Rattle.end_model.specs.declared.event.Addressee.TheVariants.{Answers}
 use Rattle.end_model.specs.declared.event.Addressee.TheVariants as addressee
 use Rattle.end_model.specs.Reading.{body_of, message_in, CallFault, call_fault_in, TunnelFault, tunnel_fault_in, at_zero}
 use Rattle.session_looks.specs.Frames.{side_of}
-use Rattle.end_model.specs.Calls.{call_row, advanced, rung, asked_for, is_request, is_reply, is_connection, is_told, is_up, owed_by}
-use Rattle.end_model.specs.Turn.{Tunnel, place, next_place, taken_place, letter_of, letter_as, counts_given, counts_taken, counts_acked, counts_sent, counts_repeated, in_state, opening_of, request_of, connection, is_clean_up, session_named, fault_error, event_by, is_closed, with_link, link_after, is_first_open, looks_of}
+use Rattle.end_model.specs.Calls.{call_row, advanced, rung, asked_for, is_request, is_reply, is_connection, is_told, is_up, owed_by, is_clean_up}
+use Rattle.end_model.specs.Tunnels.{Tunnel}
+use Rattle.end_model.specs.Channels.{place, next_place, taken_place, letter_of, letter_as, counts_given, counts_taken, counts_acked, counts_sent, counts_repeated}
+use Rattle.end_model.specs.Openings.{in_state}
+use Rattle.end_model.specs.Messages.{opening_of, request_of, connection, event_by}
+use Rattle.end_model.specs.Asking.{session_named}
+use Rattle.end_model.specs.Reasons.{fault_error}
+use Rattle.end_model.specs.Moments.{is_closed}
+use Rattle.end_model.specs.Links.{with_link, link_after, is_first_open, looks_of}
 use Rattle.step_laws.specs.Failing.{HasFailed}
 pub use Rattle.step_laws.specs.Links.{HearsFrame}
 use Rattle.step_laws.specs.Links.{begun_link, Calls, Finishes, WhySent, Passes}

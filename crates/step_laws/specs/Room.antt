@@ -8,7 +8,8 @@ use Rattle.wire_base.specs.declared.why.Why.TheVariants as why
 use Rattle.end_model.specs.declared.event.Event.{Event}
 use Rattle.end_model.specs.declared.event.Event.TheVariants.{Ring}
 use Rattle.end_model.specs.declared.out.Out.TheVariants.{Drop}
-use Rattle.end_model.specs.Turn.{Tunnel, counts_acked}
+use Rattle.end_model.specs.Tunnels.{Tunnel}
+use Rattle.end_model.specs.Channels.{counts_acked}
 use Rattle.end_model.specs.End.{End, plain_step}
 use Rattle.step_laws.specs.Letters.{Among}
 use Rattle.step_laws.specs.Moves.{may_take, Came, IsNext, TellsNr}

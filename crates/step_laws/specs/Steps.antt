@@ -12,7 +12,8 @@ use Rattle.end_model.specs.declared.out.Origin.{Origin}
 use Rattle.end_model.specs.declared.moves.Move.{Move}
 use Rattle.end_model.specs.declared.moves.Move.TheVariants as move
 use Rattle.end_model.specs.Calls.{owed_by}
-use Rattle.end_model.specs.Turn.{Tunnel, is_closed}
+use Rattle.end_model.specs.Tunnels.{Tunnel}
+use Rattle.end_model.specs.Moments.{is_closed}
 use Rattle.end_model.specs.End.{End, Stepped, decline_origin, plain_step}
 use Rattle.end_model.specs.declared.moves.Declined.{Declined}
 use Rattle.l2tp_header.specs.Spelling.{control_bytes}

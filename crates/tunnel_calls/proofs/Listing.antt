@@ -7,7 +7,7 @@ use Rattle.id_index.specs.Keys.{has_label}
 use Rattle.id_index.specs.Indexes.{Listing, Lists, IsRelabelled, IsFirst, IsWithin}
 use Rattle.id_index.specs.Firsts.{first_found}
 use Rattle.end_model.specs.declared.tunnel.Call.{Call}
-use Rattle.end_model.specs.Turn.{is_call_of, call_of}
+use Rattle.end_model.specs.Asking.{is_call_of, call_of}
 use Rattle.tunnel_calls.specs.Remotes.{remotes_of}
 
 pub none_assigned : (calls : List (ℕ × Call)) → calls ≡ [] → (s : ℕ) → remotes_of calls s ≡ None

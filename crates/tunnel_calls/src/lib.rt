@@ -6,7 +6,7 @@ ghost use Rattle.id_table.specs.Ids.{at, put, without, ids_of};
 ghost use Rattle.id_table.specs.Tables.{HasRoom, KeepsRoom};
 ghost use Rattle.end_model.specs.Calls.{owes, owed_by, are_too_many};
 ghost use Rattle.end_model.specs.Owing.{owed_at};
-ghost use Rattle.end_model.specs.Turn.{is_call_of, call_of, session_named};
+ghost use Rattle.end_model.specs.Asking.{is_call_of, call_of, session_named};
 
 use call_fsm::CallState;
 use id_index::Index;
@@ -111,7 +111,7 @@ impl TunnelCalls {
     /// The session of the first call to which the peer assigned this id. The index tells it in time in proportion to the
     /// logarithm of the number of calls. They are looked through only where room for this very id was made that no call took,
     /// as when memory was wanting for a step, or where a call was put without room for its id.
-    #[tactic(auto, unfolding(end_model::specs::Turn::call_of))]
+    #[tactic(auto, unfolding(end_model::specs::Asking::call_of))]
     pub fn call_of(&self, alloc: Global, remote: u16) -> Result<Option<u32>, NoMemory>
         ensures { IfOk result (λ session. session ≡ call_of self.now.entries remote) }
     {
@@ -123,7 +123,7 @@ impl TunnelCalls {
     }
 
     /// The session that a header names, or, where that is 0, the one of the call to which the peer assigned this id.
-    #[tactic(auto, unfolding(end_model::specs::Turn::session_named))]
+    #[tactic(auto, unfolding(end_model::specs::Asking::session_named))]
     pub fn session_named(&self, alloc: Global, session: u16, remote: u16) -> Result<u32, NoMemory>
         ensures { IfOk result (λ named. named ≡ session_named self.now.entries session remote) }
     {

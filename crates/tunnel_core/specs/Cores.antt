@@ -6,7 +6,8 @@ use Rattle.wire_base.specs.declared.letter.Letter.{Letter}
 use Rattle.send_window.specs.Queue.{Queue}
 use Rattle.end_model.specs.declared.tunnel.Call.{Call}
 use Rattle.end_model.specs.declared.tunnel.Control.{Control}
-use Rattle.end_model.specs.Turn.{Tunnel, Turn, with_calls}
+use Rattle.end_model.specs.Tunnels.{Tunnel, Turn}
+use Rattle.end_model.specs.Events.{with_calls}
 
 pub record Core : Type 0 where
   pub control : Control

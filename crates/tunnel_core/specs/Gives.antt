@@ -1,7 +1,8 @@
 -- What the answer of a letter that is let go says.
 use Rattle.std.specs.Prelude.{◌≡◌, ℕ, Bool, true, false, List, Option, Some, None}
 use Rattle.wire_base.specs.declared.letter.Letter.{Letter}
-use Rattle.end_model.specs.Turn.{Turn, lets_go}
+use Rattle.end_model.specs.Tunnels.{Turn}
+use Rattle.end_model.specs.Sending.{lets_go}
 
 -- the letter with the number that the window lets go went out, or none does
 abbrev pub WentBy : Bool → List Letter → Option ℕ → Turn → Turn → Type 0

@@ -2,7 +2,8 @@
 
 ghost use Rattle.std.specs.Prelude.{◌≡◌, ◌<◌, OnOk, IfOk, IsTrue};
 ghost use Rattle.id_table.specs.Ids.{at};
-ghost use Rattle.end_model.specs.Turn.{has_room, granted, replied, replies, asked_by};
+ghost use Rattle.end_model.specs.Channels.{has_room};
+ghost use Rattle.end_model.specs.Asking.{granted, replied, replies, asked_by};
 
 use crate::refusing::{answer, refuse};
 use crate::turn::Turn;
@@ -15,7 +16,7 @@ use tunnel_rules::{asked_for, call_row, is_reply, session_left};
 use wire_base::{Cause, NoMemory, Why};
 
 /// The session of a call that the peer asks for by this id, or the first cause for which there can be none.
-#[tactic(auto, unfolding(end_model::specs::Turn::granted))]
+#[tactic(auto, unfolding(end_model::specs::Asking::granted))]
 fn grant(
     turn: &Turn,
     role: Role,
@@ -40,7 +41,7 @@ fn grant(
 }
 
 /// Makes a call by the request for the peer's session, and replies.
-#[tactic(auto, unfolding(end_model::specs::Turn::replied))]
+#[tactic(auto, unfolding(end_model::specs::Asking::replied))]
 fn reply_now(turn: &mut Turn, role: Role, remote: u16, session: u16) -> Result<(), NoMemory>
     requires some { 0 < session }
     requires room { IsTrue (has_room turn.old.control) }
@@ -65,7 +66,7 @@ fn reply_now(turn: &mut Turn, role: Role, remote: u16, session: u16) -> Result<(
 }
 
 /// Makes a call by the request for the peer's session, where there is room for the reply.
-#[tactic(auto, unfolding(end_model::specs::Turn::replies))]
+#[tactic(auto, unfolding(end_model::specs::Asking::replies))]
 fn reply(turn: &mut Turn, role: Role, remote: u16, session: u16) -> Result<(), NoMemory>
     requires { 0 < session }
     ensures { OnOk result (turn.new ≡ replies role remote session turn.old) }
@@ -77,7 +78,7 @@ fn reply(turn: &mut Turn, role: Role, remote: u16, session: u16) -> Result<(), N
 }
 
 /// Takes the request for a call of the peer. One that names a call is out of state.
-#[tactic(auto, unfolding(end_model::specs::Turn::asked_by))]
+#[tactic(auto, unfolding(end_model::specs::Asking::asked_by))]
 pub(crate) fn take_request(
     turn: &mut Turn,
     role: Role,

@@ -2,7 +2,8 @@
 
 ghost use Rattle.std.specs.Prelude.{◌≡◌, OnOk, IsTrue};
 ghost use Rattle.std.specs.Option.{option_copied};
-ghost use Rattle.end_model.specs.Turn.{has_room, first_up, first_up_by, second_up_by, end_heard, end_heard_by};
+ghost use Rattle.end_model.specs.Channels.{has_room};
+ghost use Rattle.end_model.specs.Connecting.{first_up, first_up_by, second_up_by, end_heard, end_heard_by};
 
 use crate::links::link_up;
 use crate::refusing::{answer, answer_no_call};
@@ -16,7 +17,7 @@ use tunnel_rules::{advanced, call_row, is_clean_up, is_connection, is_up};
 use wire_base::{NoMemory, Why};
 
 /// Learns the peer's session, and connects the call, which is up.
-#[tactic(auto, unfolding(end_model::specs::Turn::first_up))]
+#[tactic(auto, unfolding(end_model::specs::Connecting::first_up))]
 fn first_up(
     turn: &mut Turn,
     role: Role,
@@ -59,7 +60,7 @@ fn first_up(
 }
 
 /// Takes the reply to the request for a call.
-#[tactic(auto, unfolding(end_model::specs::Turn::first_up_by))]
+#[tactic(auto, unfolding(end_model::specs::Connecting::first_up_by))]
 pub(crate) fn take_reply(
     turn: &mut Turn,
     role: Role,
@@ -84,7 +85,7 @@ pub(crate) fn take_reply(
 }
 
 /// Takes the connection of a call.
-#[tactic(auto, unfolding(end_model::specs::Turn::second_up_by))]
+#[tactic(auto, unfolding(end_model::specs::Connecting::second_up_by))]
 pub(crate) fn take_connection(
     turn: &mut Turn,
     role: Role,
@@ -105,7 +106,7 @@ pub(crate) fn take_connection(
 }
 
 /// The call ends by the peer's CDN.
-#[tactic(auto, unfolding(end_model::specs::Turn::end_heard))]
+#[tactic(auto, unfolding(end_model::specs::Connecting::end_heard))]
 fn hear_end(turn: &mut Turn, session: u32) -> Result<(), NoMemory>
     ensures { OnOk result (turn.new ≡ end_heard session turn.old) }
 {
@@ -121,7 +122,7 @@ fn hear_end(turn: &mut Turn, session: u32) -> Result<(), NoMemory>
 }
 
 /// Takes the peer's CDN for a call.
-#[tactic(auto, unfolding(end_model::specs::Turn::end_heard_by))]
+#[tactic(auto, unfolding(end_model::specs::Connecting::end_heard_by))]
 pub(crate) fn take_end(
     turn: &mut Turn,
     role: Role,

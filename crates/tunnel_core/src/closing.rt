@@ -6,7 +6,9 @@ ghost use Rattle.std.specs.Option.{option_copied};
 ghost use Rattle.id_table.specs.Ids.{at};
 ghost use Rattle.wire_base.specs.declared.cause.Cause.TheVariants as cause;
 ghost use Rattle.call_fsm.specs.declared.table.CallEvent.TheVariants as event;
-ghost use Rattle.end_model.specs.Turn.{has_room, settles, end_silent, end_told, ends_by, closes};
+ghost use Rattle.end_model.specs.Channels.{has_room};
+ghost use Rattle.end_model.specs.Sending.{settles};
+ghost use Rattle.end_model.specs.Closing.{end_silent, end_told, ends_by, closes};
 
 use crate::turn::Turn;
 use call_fsm::{CallAction, CallEvent};
@@ -24,7 +26,7 @@ const LOST_CARRIER: u16 = 1;
 pub(crate) const ADMINISTRATIVE: u16 = 3;
 
 /// A call ends of which the peer knows nothing.
-#[tactic(auto, unfolding(end_model::specs::Turn::end_silent))]
+#[tactic(auto, unfolding(end_model::specs::Closing::end_silent))]
 fn end_silently(turn: &mut Turn, session: u16) -> Result<(), NoMemory>
     ensures { OnOk result (turn.new ≡ end_silent session turn.old) }
 {
@@ -34,7 +36,7 @@ fn end_silently(turn: &mut Turn, session: u16) -> Result<(), NoMemory>
 }
 
 /// A call ends, and the peer is told by a CDN with this result code and error code.
-#[tactic(auto, unfolding(end_model::specs::Turn::end_told))]
+#[tactic(auto, unfolding(end_model::specs::Closing::end_told))]
 fn end_and_tell(
     turn: &mut Turn,
     session: u16,
@@ -68,7 +70,7 @@ fn end_and_tell(
 }
 
 /// A call ends as its table has it: the cause is told where the peer is.
-#[tactic(auto, unfolding(end_model::specs::Turn::ends_by))]
+#[tactic(auto, unfolding(end_model::specs::Closing::ends_by))]
 pub(crate) fn end_by(
     turn: &mut Turn,
     cause: Cause,
@@ -92,7 +94,7 @@ pub(crate) fn end_by(
 }
 
 /// Closes a call of this end's, by an event of its table.
-#[tactic(auto, unfolding(end_model::specs::Turn::closes))]
+#[tactic(auto, unfolding(end_model::specs::Closing::closes))]
 fn close(
     turn: &mut Turn,
     role: Role,

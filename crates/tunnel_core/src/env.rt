@@ -35,7 +35,7 @@ pub struct Env {
 
 impl Model for Env {
     ghost use Rattle.std.specs.Prelude.{◌≤◌};
-    ghost use Rattle.end_model.specs.Turn.{Env as Known};
+    ghost use Rattle.end_model.specs.Tunnels.{Env as Known};
 
     ghost Value = { Known };
 

@@ -2,7 +2,8 @@
 
 ghost use Rattle.std.specs.Prelude.{◌≡◌, OnOk};
 ghost use Rattle.id_table.specs.Ids.{at};
-ghost use Rattle.end_model.specs.Turn.{hears_lcp, turns};
+ghost use Rattle.end_model.specs.Linking.{hears_lcp};
+ghost use Rattle.end_model.specs.Events.{turns};
 
 use crate::closing::{drop_call, hang};
 use crate::frames::carry;
@@ -34,7 +35,7 @@ fn hear_lcp_in(
 }
 
 /// An event of the tunnel, which has these letters and calls.
-#[tactic(auto, unfolding(end_model::specs::Turn::turns))]
+#[tactic(auto, unfolding(end_model::specs::Events::turns))]
 pub(crate) fn run(
     turn: &mut Turn,
     role: Role,

@@ -3,7 +3,8 @@
 ghost use Rattle.std.specs.Prelude.{◌≡◌, OnOk};
 ghost use Rattle.std.specs.Option.{option_copied};
 ghost use Rattle.control_message.specs.declared.kind.Kind.TheVariants as kind;
-ghost use Rattle.end_model.specs.Turn.{faulty_at, faulty, in_faulty_call, hears_faulty};
+ghost use Rattle.end_model.specs.Faulty.{faulty_at, faulty, in_faulty_call};
+ghost use Rattle.end_model.specs.Hearing.{hears_faulty};
 
 use crate::hearing::take_letter;
 use crate::refusing::{answer, answer_no_call, refuse};
@@ -18,7 +19,7 @@ use tunnel_rules::call_row;
 use wire_base::{Cause, NoMemory, Why};
 
 /// What is done for a faulty letter by the table's row for this event, or, where there is no such call, by the action `none`.
-#[tactic(auto, unfolding(end_model::specs::Turn::faulty_at))]
+#[tactic(auto, unfolding(end_model::specs::Faulty::faulty_at))]
 fn answer_fault(
     turn: &mut Turn,
     role: Role,
@@ -39,7 +40,7 @@ fn answer_fault(
 }
 
 /// A faulty request for a call.
-#[tactic(auto, unfolding(end_model::specs::Turn::faulty))]
+#[tactic(auto, unfolding(end_model::specs::Faulty::faulty))]
 fn take_faulty_request(
     turn: &mut Turn,
     role: Role,
@@ -67,7 +68,7 @@ fn take_faulty_request(
 }
 
 /// A faulty request for an outgoing call.
-#[tactic(auto, unfolding(end_model::specs::Turn::faulty))]
+#[tactic(auto, unfolding(end_model::specs::Faulty::faulty))]
 fn refuse_faulty(
     turn: &mut Turn,
     role: Role,
@@ -82,7 +83,7 @@ fn refuse_faulty(
 }
 
 /// A faulty CDN, for a call that the header names by its session, or, where that is 0, by the one that the peer assigned.
-#[tactic(auto, unfolding(end_model::specs::Turn::faulty))]
+#[tactic(auto, unfolding(end_model::specs::Faulty::faulty))]
 fn take_faulty_end(
     turn: &mut Turn,
     role: Role,
@@ -109,7 +110,7 @@ fn take_faulty_end(
 }
 
 /// A faulty letter of this kind about a call.
-#[tactic(auto, unfolding(end_model::specs::Turn::faulty))]
+#[tactic(auto, unfolding(end_model::specs::Faulty::faulty))]
 fn take_faulty(
     turn: &mut Turn,
     role: Role,
@@ -153,7 +154,7 @@ fn take_faulty(
 }
 
 /// A faulty letter about a call: only an open tunnel carries calls.
-#[tactic(auto, unfolding(end_model::specs::Turn::in_faulty_call))]
+#[tactic(auto, unfolding(end_model::specs::Faulty::in_faulty_call))]
 fn hear_call_fault(
     turn: &mut Turn,
     role: Role,
@@ -179,7 +180,7 @@ fn hear_call_fault(
 
 /// A faulty letter: one about a call, or one that is an event of the tunnel's table; one of an unknown type that need not be
 /// understood is neither.
-#[tactic(auto, unfolding(end_model::specs::Turn::hears_faulty))]
+#[tactic(auto, unfolding(end_model::specs::Hearing::hears_faulty))]
 pub(crate) fn hear_fault(
     turn: &mut Turn,
     role: Role,

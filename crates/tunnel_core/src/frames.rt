@@ -2,7 +2,7 @@
 
 ghost use Rattle.std.specs.Prelude.{◌≡◌, OnOk};
 ghost use Rattle.std.specs.Option.{option_copied};
-ghost use Rattle.end_model.specs.Turn.{carried, carries};
+ghost use Rattle.end_model.specs.Frames.{carried, carries};
 
 use crate::turn::Turn;
 use l2tp_header::write_data;
@@ -16,7 +16,7 @@ const SHORTEST_FRAME: usize = 2;
 const LONGEST_FRAME: usize = 1494;
 
 /// Sends a frame of a call to the tunnel's peer.
-#[tactic(auto, unfolding(end_model::specs::Turn::carried))]
+#[tactic(auto, unfolding(end_model::specs::Frames::carried))]
 pub(crate) fn send_frame(
     turn: &mut Turn,
     session: u16,
@@ -43,7 +43,7 @@ pub(crate) fn send_frame(
 }
 
 /// A frame is given for a call, from its protocol field on.
-#[tactic(auto, unfolding(end_model::specs::Turn::carries))]
+#[tactic(auto, unfolding(end_model::specs::Frames::carries))]
 pub(crate) fn carry(
     turn: &mut Turn,
     session: u16,

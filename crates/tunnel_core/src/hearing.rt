@@ -3,7 +3,9 @@
 ghost use Rattle.std.specs.Prelude.{◌≡◌, ℕ, OnOk};
 ghost use Rattle.control_message.specs.declared.message.Message.TheVariants.{Sccrq, Sccrp, Scccn};
 ghost use Rattle.l2tp_header.specs.Reading.{header_of};
-ghost use Rattle.end_model.specs.Turn.{connects, takes, session_named, ends_named, about_call, in_call, hears, hears_said, hears_next, hears_letter, is_duplicate, in_tunnel, first_said, hears_control, hears_datagram};
+ghost use Rattle.end_model.specs.Hearing.{connects, takes, about_call, in_call, hears, hears_said, hears_next, hears_letter, is_duplicate, in_tunnel, first_said, hears_control, hears_datagram};
+ghost use Rattle.end_model.specs.Asking.{session_named};
+ghost use Rattle.end_model.specs.Connecting.{ends_named};
 
 use crate::asking::take_request;
 use crate::calls::{take_connection, take_end, take_reply};
@@ -29,7 +31,7 @@ use tunnel_rules::{is_closed, may_take, same_state};
 use wire_base::{Bytes, NoMemory, Why};
 
 /// Takes the SCCRP, and asks for each call that waits for the tunnel.
-#[tactic(auto, unfolding(end_model::specs::Turn::connects))]
+#[tactic(auto, unfolding(end_model::specs::Hearing::connects))]
 fn connect_all(
     turn: &mut Turn,
     role: Role,
@@ -53,7 +55,7 @@ fn connect_all(
 /// Does what the table says on a letter about the tunnel, which asks this, and tells this id and this receive window of the peer;
 /// where its row closes the tunnel, it is for this reason. A tunnel of which the peer's id is known is closed first, and then takes
 /// the letter as a closed one does.
-#[tactic(auto, unfolding(end_model::specs::Turn::takes, end_model::specs::Turn::takes_by))]
+#[tactic(auto, unfolding(end_model::specs::Hearing::takes, end_model::specs::Hearing::takes_by))]
 pub(crate) fn take_letter(
     turn: &mut Turn,
     role: Role,
@@ -93,7 +95,7 @@ pub(crate) fn take_letter(
 }
 
 /// Takes the CDN for a call that the header names by its session, or, where that is 0, by the one that the peer assigned.
-#[tactic(auto, unfolding(end_model::specs::Turn::ends_named))]
+#[tactic(auto, unfolding(end_model::specs::Connecting::ends_named))]
 fn hear_end_of(
     turn: &mut Turn,
     role: Role,
@@ -108,7 +110,7 @@ fn hear_end_of(
 }
 
 /// A letter about a call.
-#[tactic(auto, unfolding(end_model::specs::Turn::about_call))]
+#[tactic(auto, unfolding(end_model::specs::Hearing::about_call))]
 fn hear_about_call(
     turn: &mut Turn,
     role: Role,
@@ -136,7 +138,7 @@ fn hear_about_call(
 }
 
 /// A letter about a call: only an open tunnel carries calls.
-#[tactic(auto, unfolding(end_model::specs::Turn::in_call))]
+#[tactic(auto, unfolding(end_model::specs::Hearing::in_call))]
 fn hear_in_call(
     turn: &mut Turn,
     role: Role,
@@ -153,7 +155,7 @@ fn hear_in_call(
 }
 
 /// An SCCRQ in a tunnel, which asked nothing that it could answer.
-#[tactic(auto, unfolding(end_model::specs::Turn::hears))]
+#[tactic(auto, unfolding(end_model::specs::Hearing::hears))]
 fn hear_sccrq(
     turn: &mut Turn,
     role: Role,
@@ -181,7 +183,7 @@ fn hear_sccrq(
 }
 
 /// An SCCRP, which answers what the tunnel asked.
-#[tactic(auto, unfolding(end_model::specs::Turn::hears))]
+#[tactic(auto, unfolding(end_model::specs::Hearing::hears))]
 fn hear_sccrp(
     turn: &mut Turn,
     role: Role,
@@ -204,7 +206,7 @@ fn hear_sccrp(
 }
 
 /// An SCCCN, which answers what the tunnel asked.
-#[tactic(auto, unfolding(end_model::specs::Turn::hears))]
+#[tactic(auto, unfolding(end_model::specs::Hearing::hears))]
 fn hear_scccn(
     turn: &mut Turn,
     role: Role,
@@ -222,7 +224,7 @@ fn hear_scccn(
 }
 
 /// The next letter of the peer.
-#[tactic(auto, unfolding(end_model::specs::Turn::hears))]
+#[tactic(auto, unfolding(end_model::specs::Hearing::hears))]
 fn hear_letter(
     turn: &mut Turn,
     role: Role,
@@ -249,7 +251,7 @@ fn hear_letter(
     }
 }
 
-#[tactic(auto, unfolding(end_model::specs::Turn::hears_said))]
+#[tactic(auto, unfolding(end_model::specs::Hearing::hears_said))]
 fn hear_said(
     turn: &mut Turn,
     role: Role,
@@ -267,7 +269,7 @@ fn hear_said(
 }
 
 /// The next letter, which a closed tunnel takes without doing anything.
-#[tactic(auto, unfolding(end_model::specs::Turn::hears_next))]
+#[tactic(auto, unfolding(end_model::specs::Hearing::hears_next))]
 fn hear_next(
     turn: &mut Turn,
     role: Role,
@@ -287,7 +289,7 @@ fn hear_next(
 
 /// A message of the class that its Ns has: the next letter is taken, where there is room for what it may cause; one that is
 /// ahead of it isn't, nor one that came before.
-#[tactic(auto, unfolding(end_model::specs::Turn::hears_letter))]
+#[tactic(auto, unfolding(end_model::specs::Hearing::hears_letter))]
 fn hear_class(
     turn: &mut Turn,
     role: Role,
@@ -312,7 +314,7 @@ fn hear_class(
 }
 
 /// A message in the tunnel, of the class that its Ns has; what came before is acknowledged again.
-#[tactic(auto, unfolding(end_model::specs::Turn::in_tunnel))]
+#[tactic(auto, unfolding(end_model::specs::Hearing::in_tunnel))]
 fn hear_in_tunnel(
     turn: &mut Turn,
     role: Role,
@@ -330,7 +332,7 @@ fn hear_in_tunnel(
 }
 
 /// The first message of a tunnel that is new.
-#[tactic(auto, unfolding(end_model::specs::Turn::first_said))]
+#[tactic(auto, unfolding(end_model::specs::Hearing::first_said))]
 fn hear_first(
     turn: &mut Turn,
     role: Role,
@@ -349,7 +351,7 @@ fn hear_first(
 }
 
 /// A control message for the tunnel: its Nr is read first.
-#[tactic(auto, unfolding(end_model::specs::Turn::hears_control))]
+#[tactic(auto, unfolding(end_model::specs::Hearing::hears_control))]
 fn hear_control(
     turn: &mut Turn,
     role: Role,
@@ -381,7 +383,7 @@ fn hear_control(
     )
 }
 
-#[tactic(auto, unfolding(end_model::specs::Turn::hears_datagram))]
+#[tactic(auto, unfolding(end_model::specs::Hearing::hears_datagram))]
 pub(crate) fn hear_datagram(
     turn: &mut Turn,
     role: Role,

@@ -4,8 +4,10 @@
 ghost use Rattle.std.specs.Prelude.{◌≡◌, OnOk, IfOk, drop};
 ghost use Rattle.std.specs.Option.{option_copied};
 ghost use Rattle.lcp_end.specs.Steps.{opened, ticked, after_packet};
-ghost use Rattle.end_model.specs.Links.{magic_of};
-ghost use Rattle.end_model.specs.Turn.{lcp_frame, new_link, with_link, link_after, is_first_open, looks_of, with_looks_of, sends_packets, negotiated, links, hears_link, hears_lcp, ticks_link, connects_call, linked_up, second_up};
+ghost use Rattle.end_model.specs.Links.{magic_of, lcp_frame, new_link, with_link, link_after, is_first_open, looks_of};
+ghost use Rattle.end_model.specs.Turn.{with_looks_of};
+ghost use Rattle.end_model.specs.Linking.{sends_packets, negotiated, links, hears_link, hears_lcp, ticks_link};
+ghost use Rattle.end_model.specs.Connecting.{connects_call, linked_up, second_up};
 
 use crate::closing::{ADMINISTRATIVE, end_by};
 use crate::frames::send_frame;
@@ -140,7 +142,7 @@ fn packet_in(frame: &[u8]) -> &[u8]
 }
 
 /// Sends these LCP packets of a call to the tunnel's peer, in order.
-#[tactic(auto, unfolding(end_model::specs::Turn::sends_packets))]
+#[tactic(auto, unfolding(end_model::specs::Linking::sends_packets))]
 fn send_packets(
     turn: &mut Turn,
     session: u16,
@@ -168,7 +170,7 @@ fn look_by(turn: &mut Turn, session: u16, first: bool) -> Result<(), NoMemory>
 }
 
 /// The call goes on with its LCP end as a step of it leaves it, and what the step gave is sent.
-#[tactic(auto, unfolding(end_model::specs::Turn::negotiated))]
+#[tactic(auto, unfolding(end_model::specs::Linking::negotiated))]
 fn negotiate(
     turn: &mut Turn,
     session: u16,
@@ -187,7 +189,7 @@ fn negotiate(
 }
 
 /// The LCP end of a call made a step: where it is finished, the call ends.
-#[tactic(auto, unfolding(end_model::specs::Turn::links))]
+#[tactic(auto, unfolding(end_model::specs::Linking::links))]
 fn follow_link(
     turn: &mut Turn,
     role: Role,
@@ -216,7 +218,7 @@ fn follow_link(
 }
 
 /// An LCP packet came up a call.
-#[tactic(auto, unfolding(end_model::specs::Turn::hears_link))]
+#[tactic(auto, unfolding(end_model::specs::Linking::hears_link))]
 fn hear_link(
     turn: &mut Turn,
     role: Role,
@@ -236,7 +238,7 @@ fn hear_link(
 }
 
 /// An LCP packet came up a call, in a frame from its protocol field on.
-#[tactic(auto, unfolding(end_model::specs::Turn::hears_lcp))]
+#[tactic(auto, unfolding(end_model::specs::Linking::hears_lcp))]
 pub(crate) fn hear_lcp(
     turn: &mut Turn,
     role: Role,
@@ -272,7 +274,7 @@ fn run_out(
 }
 
 /// Time passes for the LCP end of a call, where it has one. One that isn't due takes no memory.
-#[tactic(auto, unfolding(end_model::specs::Turn::ticks_link))]
+#[tactic(auto, unfolding(end_model::specs::Linking::ticks_link))]
 pub(crate) fn tick_link(
     turn: &mut Turn,
     role: Role,
@@ -292,7 +294,7 @@ pub(crate) fn tick_link(
 }
 
 /// The call is connected, and has its link.
-#[tactic(auto, unfolding(end_model::specs::Turn::second_up))]
+#[tactic(auto, unfolding(end_model::specs::Connecting::second_up))]
 fn second_up(turn: &mut Turn, session: u16, call: Call) -> Result<(), NoMemory>
     ensures { OnOk result (turn.new ≡ second_up session call turn.old) }
 {
@@ -314,7 +316,7 @@ fn second_up(turn: &mut Turn, session: u16, call: Call) -> Result<(), NoMemory>
 }
 
 /// The call is connected, and LCP is opened in it.
-#[tactic(auto, unfolding(end_model::specs::Turn::connects_call))]
+#[tactic(auto, unfolding(end_model::specs::Connecting::connects_call))]
 fn open_link(turn: &mut Turn, session: u16, call: &Call, link: Link) -> Result<(), NoMemory>
     ensures { OnOk result (turn.new ≡ connects_call session (with_link link call.now) link turn.old) }
 {
@@ -325,7 +327,7 @@ fn open_link(turn: &mut Turn, session: u16, call: &Call, link: Link) -> Result<(
 }
 
 /// The call is connected: it has a link from now on, in which LCP is opened.
-#[tactic(auto, unfolding(end_model::specs::Turn::linked_up))]
+#[tactic(auto, unfolding(end_model::specs::Connecting::linked_up))]
 pub(crate) fn link_up(
     turn: &mut Turn,
     role: Role,

@@ -1,7 +1,8 @@
 //! Tunnels that are opened, accepted, connected and confirmed (RFC 2661 section 7.2).
 
 ghost use Rattle.std.specs.Prelude.{◌≡◌, ◌<◌, OnOk, IsTrue};
-ghost use Rattle.end_model.specs.Turn.{has_room, opened, opens, accepted, accepts, connected, confirms};
+ghost use Rattle.end_model.specs.Channels.{has_room};
+ghost use Rattle.end_model.specs.Openings.{opened, opens, accepted, accepts, connected, confirms};
 
 use crate::turn::Turn;
 use control_message::Message;
@@ -12,7 +13,7 @@ use tunnel_rules::{challenge_by, opening_of};
 use wire_base::{Bytes, Cause, NoMemory, Why};
 
 /// Opens a new tunnel, with this id, by an SCCRQ.
-#[tactic(auto, unfolding(end_model::specs::Turn::opened))]
+#[tactic(auto, unfolding(end_model::specs::Openings::opened))]
 pub(crate) fn open_as(
     turn: &mut Turn,
     role: Role,
@@ -41,7 +42,7 @@ pub(crate) fn open_as(
 }
 
 /// Opens a new tunnel.
-#[tactic(auto, unfolding(end_model::specs::Turn::opens, end_model::specs::Turn::opens_by))]
+#[tactic(auto, unfolding(end_model::specs::Openings::opens, end_model::specs::Openings::opens_by))]
 pub(crate) fn open_tunnel(turn: &mut Turn, role: Role, config: &Config) -> Result<(), NoMemory>
     ensures { OnOk result (turn.new ≡ opens role config.now turn.old) }
 {
@@ -55,7 +56,7 @@ pub(crate) fn open_tunnel(turn: &mut Turn, role: Role, config: &Config) -> Resul
 }
 
 /// Makes a new tunnel, with this id, by the SCCRQ of a peer that assigned the other one, and answers by an SCCRP.
-#[tactic(auto, unfolding(end_model::specs::Turn::accepted))]
+#[tactic(auto, unfolding(end_model::specs::Openings::accepted))]
 fn accept_as(
     turn: &mut Turn,
     role: Role,
@@ -96,7 +97,7 @@ fn accept_as(
 }
 
 /// Makes a new tunnel by the SCCRQ of a peer that asks this, assigned this id and has this receive window.
-#[tactic(auto, unfolding(end_model::specs::Turn::accepts, end_model::specs::Turn::accepts_by))]
+#[tactic(auto, unfolding(end_model::specs::Openings::accepts, end_model::specs::Openings::accepts_by))]
 pub(crate) fn accept(
     turn: &mut Turn,
     role: Role,
@@ -120,7 +121,7 @@ pub(crate) fn accept(
 
 /// Takes the SCCRP of the peer, learns the id that it assigned and its receive window, and connects the tunnel by an
 /// SCCCN, which answers what the peer asks.
-#[tactic(auto, unfolding(end_model::specs::Turn::connected))]
+#[tactic(auto, unfolding(end_model::specs::Openings::connected))]
 pub(crate) fn connect(
     turn: &mut Turn,
     config: &Config,
@@ -152,7 +153,7 @@ pub(crate) fn connect(
 }
 
 /// Takes the SCCCN of the peer.
-#[tactic(auto, unfolding(end_model::specs::Turn::confirms))]
+#[tactic(auto, unfolding(end_model::specs::Openings::confirms))]
 pub(crate) fn confirm(turn: &mut Turn, next: TunnelState) -> Result<(), NoMemory>
     ensures { OnOk result (turn.new ≡ confirms next turn.old) }
 {

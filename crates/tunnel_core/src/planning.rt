@@ -1,7 +1,10 @@
 //! A tunnel with its calls: an event is planned, and then made.
 
 ghost use Rattle.std.specs.Prelude.{◌≡◌, ◌≤◌, ◌++◌, [], length, OnOk, OnErr, IfOk};
-ghost use Rattle.end_model.specs.Turn.{fresh, turn_of, with_turn, turns, with_calls, tunnel_after};
+ghost use Rattle.end_model.specs.Openings.{fresh};
+ghost use Rattle.end_model.specs.Tunnels.{turn_of};
+ghost use Rattle.end_model.specs.Turn.{with_turn};
+ghost use Rattle.end_model.specs.Events.{turns, with_calls, tunnel_after};
 ghost use Rattle.tunnel_core.specs.Cores.{tunnel_of, made_of, AllHaveRoom, HasRoomFor, IsTurn};
 
 use crate::env::Env;
@@ -212,7 +215,7 @@ fn give_back(calls: &mut TunnelCalls, ended: &[u32])
 }
 
 /// Puts each of these calls into a table that has room for it, or takes it out where it ended. It takes no memory.
-#[tactic(auto, unfolding(end_model::specs::Turn::with_calls))]
+#[tactic(auto, unfolding(end_model::specs::Events::with_calls))]
 fn put_all(calls: &mut TunnelCalls, changed: Changed)
     requires { AllHaveRoom calls.old changed }
     ensures { calls.new.entries ≡ with_calls changed calls.old.entries }

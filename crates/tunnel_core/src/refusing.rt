@@ -1,7 +1,8 @@
 //! Calls that are ended, and refused, by an answer to the peer's messages (RFC 2661 section 7.4).
 
 ghost use Rattle.std.specs.Prelude.{◌≡◌, OnOk, IsTrue};
-ghost use Rattle.end_model.specs.Turn.{has_room, answers_by, refused, refuses, of_no_call};
+ghost use Rattle.end_model.specs.Channels.{has_room};
+ghost use Rattle.end_model.specs.Refusing.{answers_by, refused, refuses, of_no_call};
 
 use crate::closing::end_by;
 use crate::turn::Turn;
@@ -12,7 +13,7 @@ use end_model::{Call, Move, Out, Refused};
 use wire_base::{NoMemory, Why};
 
 /// Takes a letter to which a call does what its table says.
-#[tactic(auto, unfolding(end_model::specs::Turn::answers_by))]
+#[tactic(auto, unfolding(end_model::specs::Refusing::answers_by))]
 pub(crate) fn answer(
     turn: &mut Turn,
     reason: &Reason,
@@ -38,7 +39,7 @@ pub(crate) fn answer(
 }
 
 /// Takes a letter for which there is no call, as the peer is told by a CDN that names none of this end's.
-#[tactic(auto, unfolding(end_model::specs::Turn::refused))]
+#[tactic(auto, unfolding(end_model::specs::Refusing::refused))]
 fn refuse_now(turn: &mut Turn, reason: &Reason, remote: u16) -> Result<(), NoMemory>
     requires { IsTrue (has_room turn.old.control) }
     ensures { OnOk result (turn.new ≡ refused reason.now remote turn.old) }
@@ -69,7 +70,7 @@ fn refuse_now(turn: &mut Turn, reason: &Reason, remote: u16) -> Result<(), NoMem
 }
 
 /// Refuses a letter for which there is no call, where there is room for the answer.
-#[tactic(auto, unfolding(end_model::specs::Turn::refuses))]
+#[tactic(auto, unfolding(end_model::specs::Refusing::refuses))]
 pub(crate) fn refuse(turn: &mut Turn, reason: &Reason, remote: u16) -> Result<(), NoMemory>
     ensures { OnOk result (turn.new ≡ refuses reason.now remote turn.old) }
 {
@@ -80,7 +81,7 @@ pub(crate) fn refuse(turn: &mut Turn, reason: &Reason, remote: u16) -> Result<()
 }
 
 /// Does what the table says of a call that there isn't.
-#[tactic(auto, unfolding(end_model::specs::Turn::of_no_call))]
+#[tactic(auto, unfolding(end_model::specs::Refusing::of_no_call))]
 pub(crate) fn answer_no_call(
     turn: &mut Turn,
     reason: &Reason,

@@ -2,7 +2,8 @@
 
 ghost use Rattle.std.specs.Prelude.{◌≡◌, OnOk, IsTrue};
 ghost use Rattle.id_source.specs.Spaces.{draws};
-ghost use Rattle.end_model.specs.Turn.{has_room, requested, requests, requests_all, adds, rings_over, rings_within, rings_new, rings};
+ghost use Rattle.end_model.specs.Channels.{has_room};
+ghost use Rattle.end_model.specs.Ringing.{requested, requests, requests_all, adds, rings_over, rings_within, rings_new, rings};
 
 use crate::openings::open_as;
 use crate::turn::Turn;
@@ -17,7 +18,7 @@ use tunnel_rules::{
 use wire_base::{Cause, NoMemory, Why};
 
 /// Asks for a waiting call: the peer comes to know it. An end that hides its calling numbers hides this one.
-#[tactic(auto, unfolding(end_model::specs::Turn::requested))]
+#[tactic(auto, unfolding(end_model::specs::Ringing::requested))]
 fn request_now(
     turn: &mut Turn,
     role: Role,
@@ -60,7 +61,7 @@ fn request_now(
 }
 
 /// Asks for a call, where its table says so.
-#[tactic(auto, unfolding(end_model::specs::Turn::requests))]
+#[tactic(auto, unfolding(end_model::specs::Ringing::requests))]
 fn request(
     turn: &mut Turn,
     role: Role,
@@ -81,7 +82,7 @@ fn request(
 }
 
 /// Asks for each of these calls that waits.
-#[tactic(auto, unfolding(end_model::specs::Turn::requests_all, end_model::specs::Turn::requests_at))]
+#[tactic(auto, unfolding(end_model::specs::Ringing::requests_all, end_model::specs::Ringing::requests_at))]
 pub(crate) fn request_all(
     turn: &mut Turn,
     role: Role,
@@ -102,7 +103,7 @@ pub(crate) fn request_all(
 }
 
 /// A call is born, and added to the tunnel.
-#[tactic(auto, unfolding(end_model::specs::Turn::adds))]
+#[tactic(auto, unfolding(end_model::specs::Ringing::adds))]
 fn add(turn: &mut Turn, role: Role, subscriber: [u8; 6], session: u16) -> Result<(), NoMemory>
     ensures { OnOk result (turn.new ≡ adds role subscriber session turn.old) }
 {
@@ -117,7 +118,7 @@ fn add(turn: &mut Turn, role: Role, subscriber: [u8; 6], session: u16) -> Result
 }
 
 /// A ring over a tunnel that is there: an open one asks for the call at once.
-#[tactic(auto, unfolding(end_model::specs::Turn::rings_over))]
+#[tactic(auto, unfolding(end_model::specs::Ringing::rings_over))]
 fn ring_over(
     turn: &mut Turn,
     role: Role,
@@ -136,7 +137,7 @@ fn ring_over(
 }
 
 /// A ring over a new tunnel, which is opened for it.
-#[tactic(auto, unfolding(end_model::specs::Turn::rings_new))]
+#[tactic(auto, unfolding(end_model::specs::Ringing::rings_new))]
 fn ring_new(
     turn: &mut Turn,
     role: Role,
@@ -160,7 +161,7 @@ fn ring_new(
 }
 
 /// A ring over a tunnel that has these calls.
-#[tactic(auto, unfolding(end_model::specs::Turn::rings_within, end_model::specs::Turn::rings_by))]
+#[tactic(auto, unfolding(end_model::specs::Ringing::rings_within, end_model::specs::Ringing::rings_by))]
 fn ring_within(
     turn: &mut Turn,
     role: Role,
@@ -187,7 +188,7 @@ fn ring_within(
 }
 
 /// A subscriber rings.
-#[tactic(auto, unfolding(end_model::specs::Turn::rings))]
+#[tactic(auto, unfolding(end_model::specs::Ringing::rings))]
 pub(crate) fn ring(
     turn: &mut Turn,
     role: Role,

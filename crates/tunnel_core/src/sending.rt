@@ -3,7 +3,8 @@
 ghost use Rattle.std.specs.Prelude.{◌≡◌, ◌≤◌, length, OnOk, IfOk, IsTrue, option_copied};
 ghost use Rattle.control_message.specs.Pairs.{IsWritten};
 ghost use Rattle.control_channel.specs.Numbers.{next_to_go, ticked_at};
-ghost use Rattle.end_model.specs.Turn.{has_room as room_in, next_place, taken_place, gives, gives_as, takes_one, learns_window, reads_nr, letter_in, origin_of, datagram, sends_now, repeats, lets_all_go, acknowledges, settles, takes_plain, ignores};
+ghost use Rattle.end_model.specs.Channels.{has_room as room_in, next_place, taken_place, learns_window, origin_of, datagram};
+ghost use Rattle.end_model.specs.Sending.{gives, gives_as, takes_one, reads_nr, letter_in, sends_now, repeats, lets_all_go, acknowledges, settles, takes_plain, ignores};
 ghost use Rattle.tunnel_core.specs.Gives.{WentBy};
 
 use crate::turn::Turn;
@@ -47,7 +48,7 @@ impl Turn {
     }
 
     /// Gives a letter to the channel.
-    #[tactic(auto, unfolding(end_model::specs::Turn::gives))]
+    #[tactic(auto, unfolding(end_model::specs::Sending::gives))]
     pub(crate) fn give(&mut self, session: u16, message: &Message) -> Result<(), NoMemory>
         requires written { IsWritten message.now }
         requires room { IsTrue (room_in self.old.control) }
@@ -62,7 +63,7 @@ impl Turn {
     }
 
     /// Gives a letter to the channel, with these pairs where they hide a value.
-    #[tactic(auto, unfolding(end_model::specs::Turn::gives, end_model::specs::Turn::gives_as))]
+    #[tactic(auto, unfolding(end_model::specs::Sending::gives, end_model::specs::Sending::gives_as))]
     pub(crate) fn give_as(
         &mut self,
         session: u16,
@@ -82,7 +83,7 @@ impl Turn {
     }
 
     /// Takes the next letter of the peer.
-    #[tactic(auto, unfolding(end_model::specs::Turn::takes_one))]
+    #[tactic(auto, unfolding(end_model::specs::Sending::takes_one))]
     pub(crate) fn take(&mut self)
         ensures value { self.new ≡ takes_one self.old }
         ensures room { self.new.control.channel.window ≡ self.old.control.channel.window }
@@ -92,7 +93,7 @@ impl Turn {
     }
 
     /// Takes a letter that changes nothing else.
-    #[tactic(auto, unfolding(end_model::specs::Turn::takes_plain))]
+    #[tactic(auto, unfolding(end_model::specs::Sending::takes_plain))]
     pub(crate) fn take_plain(&mut self) -> Result<(), NoMemory>
         ensures { OnOk result (self.new ≡ takes_plain self.old) }
     {
@@ -103,7 +104,7 @@ impl Turn {
     }
 
     /// Takes a letter that is ignored.
-    #[tactic(auto, unfolding(end_model::specs::Turn::ignores))]
+    #[tactic(auto, unfolding(end_model::specs::Sending::ignores))]
     pub(crate) fn ignore(&mut self, why: Why) -> Result<(), NoMemory>
         ensures { OnOk result (self.new ≡ ignores why self.old) }
     {
@@ -122,7 +123,7 @@ impl Turn {
     }
 
     /// Reads what the peer expects next, and that it was heard: letters are acknowledged.
-    #[tactic(auto, unfolding(end_model::specs::Turn::reads_nr, end_model::specs::Turn::with_move))]
+    #[tactic(auto, unfolding(end_model::specs::Sending::reads_nr, end_model::specs::Turn::with_move))]
     pub(crate) fn read_nr(&mut self, nr: u16) -> Result<(), NoMemory>
         ensures { OnOk result (self.new ≡ reads_nr nr self.old) }
     {
@@ -171,7 +172,7 @@ impl Turn {
     }
 
     /// Sends the letter with a number, of those that the tunnel had and the step gave.
-    #[tactic(auto, unfolding(end_model::specs::Turn::sends_now, end_model::specs::Turn::sends_letter))]
+    #[tactic(auto, unfolding(end_model::specs::Sending::sends_now, end_model::specs::Sending::sends_letter))]
     fn send_now(&mut self, letters: &Letters, number: u64) -> Result<(), NoMemory>
         ensures { OnOk result (self.new ≡ sends_now letters.now.letters number self.old) }
     {
@@ -191,7 +192,7 @@ impl Turn {
     }
 
     /// Sends as many letters that were never on the wire as the windows allow.
-    #[tactic(auto, unfolding(end_model::specs::Turn::lets_all_go, end_model::specs::Turn::goes_by))]
+    #[tactic(auto, unfolding(end_model::specs::Sending::lets_all_go, end_model::specs::Sending::goes_by))]
     fn let_all_go(&mut self, letters: &Letters) -> Result<(), NoMemory>
         ensures { OnOk result (self.new ≡ lets_all_go self.old.control.channel.window.queued letters.now.letters self.old) }
     {
@@ -206,7 +207,7 @@ impl Turn {
     }
 
     /// Sends the next letter that was never on the wire, where the windows allow one.
-    #[tactic(auto, unfolding(end_model::specs::Turn::lets_go, end_model::specs::Turn::with_move))]
+    #[tactic(auto, unfolding(end_model::specs::Sending::lets_go, end_model::specs::Turn::with_move))]
     fn let_one_go(&mut self, letters: &Letters) -> Result<bool, NoMemory>
         ensures { IfOk result (λ went. WentBy went letters.now.letters (next_to_go self.old.control.channel) self.old self.new) }
     {
@@ -222,7 +223,7 @@ impl Turn {
     }
 
     /// Sends the letter with this number once more, after which the channel has these numbers.
-    #[tactic(auto, unfolding(end_model::specs::Turn::repeats, end_model::specs::Turn::with_move))]
+    #[tactic(auto, unfolding(end_model::specs::Sending::repeats, end_model::specs::Turn::with_move))]
     pub(crate) fn repeat(
         &mut self,
         letters: &Letters,
@@ -241,7 +242,7 @@ impl Turn {
     }
 
     /// Acknowledges what was taken, by a message without a body.
-    #[tactic(auto, unfolding(end_model::specs::Turn::acknowledges, end_model::specs::Turn::with_output, end_model::specs::Turn::with_move))]
+    #[tactic(auto, unfolding(end_model::specs::Sending::acknowledges, end_model::specs::Turn::with_output, end_model::specs::Turn::with_move))]
     fn acknowledge(&mut self) -> Result<(), NoMemory>
         ensures { OnOk result (self.new ≡ acknowledges self.old) }
     {
@@ -260,7 +261,7 @@ impl Turn {
 
     /// The end of a step of the channel: what the windows allow goes out, and then an acknowledgement alone, where the
     /// message came `again`, or where one was taken and nothing went out that says so.
-    #[tactic(auto, unfolding(end_model::specs::Turn::settles, end_model::specs::Turn::acknowledged_after))]
+    #[tactic(auto, unfolding(end_model::specs::Sending::settles, end_model::specs::Sending::acknowledged_after))]
     pub(crate) fn settle(&mut self, again: bool, letters: &Letters) -> Result<(), NoMemory>
         ensures { OnOk result (self.new ≡ settles again letters.now.letters self.old) }
     {

@@ -1,7 +1,9 @@
 //! Tunnels that are closed (RFC 2661 sections 4.4.2, 5.7 and 7.2): by this end, which tells its peer, and by the peer.
 
 ghost use Rattle.std.specs.Prelude.{◌≡◌, false, OnOk, IsTrue};
-ghost use Rattle.end_model.specs.Turn.{has_room, settles, shuts, closed_told, closes_tunnel, rejected, rejects, closed_by, shuts_by};
+ghost use Rattle.end_model.specs.Channels.{has_room};
+ghost use Rattle.end_model.specs.Sending.{settles};
+ghost use Rattle.end_model.specs.Stopping.{shuts, closed_told, closes_tunnel, rejected, rejects, closed_by, shuts_by};
 ghost use Rattle.tunnel_fsm.specs.Rows.{rows, row_of};
 ghost use Rattle.tunnel_fsm.specs.declared.table.TunnelEvent.TheVariants as event;
 
@@ -18,7 +20,7 @@ use wire_base::{Cause, NoMemory, Why};
 const GENERAL_REQUEST: u16 = 1;
 
 /// The tunnel goes to this state, its peer has this id, and its calls end with it.
-#[tactic(auto, unfolding(end_model::specs::Turn::shuts))]
+#[tactic(auto, unfolding(end_model::specs::Stopping::shuts))]
 fn shut(
     turn: &mut Turn,
     calls: &TunnelCalls,
@@ -36,7 +38,7 @@ fn shut(
 }
 
 /// Closes the tunnel, and tells the peer by a StopCCN, which goes to the id that it assigned.
-#[tactic(auto, unfolding(end_model::specs::Turn::closed_told))]
+#[tactic(auto, unfolding(end_model::specs::Stopping::closed_told))]
 fn close_and_tell(
     turn: &mut Turn,
     reason: &Reason,
@@ -71,7 +73,7 @@ fn close_and_tell(
 }
 
 /// Closes the tunnel, where there is room for the StopCCN that tells the peer.
-#[tactic(auto, unfolding(end_model::specs::Turn::closes_tunnel))]
+#[tactic(auto, unfolding(end_model::specs::Stopping::closes_tunnel))]
 pub(crate) fn close_tunnel(
     turn: &mut Turn,
     reason: &Reason,
@@ -88,7 +90,7 @@ pub(crate) fn close_tunnel(
 }
 
 /// Takes the letter that closes the tunnel, and tells the peer by a StopCCN, which goes to the id that the letter tells.
-#[tactic(auto, unfolding(end_model::specs::Turn::rejected))]
+#[tactic(auto, unfolding(end_model::specs::Stopping::rejected))]
 fn reject_and_tell(
     turn: &mut Turn,
     reason: &Reason,
@@ -125,7 +127,7 @@ fn reject_and_tell(
 }
 
 /// Takes a letter that closes a tunnel which waits for its SCCRP, where there is room for the StopCCN; else it will come again.
-#[tactic(auto, unfolding(end_model::specs::Turn::rejects))]
+#[tactic(auto, unfolding(end_model::specs::Stopping::rejects))]
 pub(crate) fn reject(
     turn: &mut Turn,
     reason: &Reason,
@@ -142,7 +144,7 @@ pub(crate) fn reject(
 }
 
 /// Takes the StopCCN of the peer, which closes the tunnel.
-#[tactic(auto, unfolding(end_model::specs::Turn::closed_by))]
+#[tactic(auto, unfolding(end_model::specs::Stopping::closed_by))]
 pub(crate) fn take_stop(
     turn: &mut Turn,
     calls: &TunnelCalls,
@@ -159,7 +161,7 @@ pub(crate) fn take_stop(
 }
 
 /// Closes the tunnel for administrative reasons, where its table's row says so.
-#[tactic(auto, unfolding(end_model::specs::Turn::shuts_by))]
+#[tactic(auto, unfolding(end_model::specs::Stopping::shuts_by))]
 fn close_by_operator(turn: &mut Turn, calls: &TunnelCalls) -> Result<(), NoMemory>
     ensures { OnOk result (turn.new ≡ shuts_by calls.now.entries (row_of rows turn.old.control.state event.AdminClose) turn.old) }
 {

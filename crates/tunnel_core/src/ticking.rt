@@ -2,7 +2,8 @@
 
 ghost use Rattle.std.specs.Prelude.{◌≡◌, OnOk, IsTrue};
 ghost use Rattle.std.specs.Option.{option_copied};
-ghost use Rattle.end_model.specs.Turn.{has_room, clears, greeted, greets, limits_at, limits_all, goes_quietly, ticks};
+ghost use Rattle.end_model.specs.Channels.{has_room};
+ghost use Rattle.end_model.specs.Ticking.{clears, greeted, greets, limits_at, limits_all, goes_quietly, ticks};
 
 use crate::closing::end_by;
 use crate::links::tick_link;
@@ -20,7 +21,7 @@ use wire_base::{Cause, NoMemory};
 const TOO_LONG: u16 = 10;
 
 /// The tunnel is removed with its calls, without a message.
-#[tactic(auto, unfolding(end_model::specs::Turn::clears))]
+#[tactic(auto, unfolding(end_model::specs::Ticking::clears))]
 fn clear(turn: &mut Turn, calls: &TunnelCalls) -> Result<(), NoMemory>
     ensures { OnOk result (turn.new ≡ clears calls.now.entries turn.old) }
 {
@@ -34,7 +35,7 @@ fn clear(turn: &mut Turn, calls: &TunnelCalls) -> Result<(), NoMemory>
 }
 
 /// A quiet tunnel says that it is there, by a HELLO.
-#[tactic(auto, unfolding(end_model::specs::Turn::greeted))]
+#[tactic(auto, unfolding(end_model::specs::Ticking::greeted))]
 fn greet_now(turn: &mut Turn, letters: &Letters) -> Result<(), NoMemory>
     requires { IsTrue (has_room turn.old.control) }
     ensures { OnOk result (turn.new ≡ greeted letters.now.letters turn.old) }
@@ -47,7 +48,7 @@ fn greet_now(turn: &mut Turn, letters: &Letters) -> Result<(), NoMemory>
 }
 
 /// A tunnel of which nothing waits, and which heard nothing for a while, says that it is there.
-#[tactic(auto, unfolding(end_model::specs::Turn::greets))]
+#[tactic(auto, unfolding(end_model::specs::Ticking::greets))]
 fn greet(turn: &mut Turn, letters: &Letters) -> Result<(), NoMemory>
     ensures { OnOk result (turn.new ≡ greets letters.now.letters turn.old) }
 {
@@ -58,7 +59,7 @@ fn greet(turn: &mut Turn, letters: &Letters) -> Result<(), NoMemory>
 }
 
 /// A call ends where it took too long to be set up; the LCP end of another has its timer.
-#[tactic(auto, unfolding(end_model::specs::Turn::limits_at))]
+#[tactic(auto, unfolding(end_model::specs::Ticking::limits_at))]
 fn limit_at(
     turn: &mut Turn,
     role: Role,
@@ -83,7 +84,7 @@ fn limit_at(
 }
 
 /// Each of these calls ends where it took too long to be set up; in the others time passes for their LCP ends.
-#[tactic(auto, unfolding(end_model::specs::Turn::limits_all))]
+#[tactic(auto, unfolding(end_model::specs::Ticking::limits_all))]
 fn limit_all(
     turn: &mut Turn,
     role: Role,
@@ -100,7 +101,7 @@ fn limit_all(
 }
 
 /// What is due in a tunnel whose channel hasn't failed.
-#[tactic(auto, unfolding(end_model::specs::Turn::goes_quietly))]
+#[tactic(auto, unfolding(end_model::specs::Ticking::goes_quietly))]
 fn go_quietly(
     turn: &mut Turn,
     role: Role,
@@ -115,7 +116,7 @@ fn go_quietly(
 }
 
 /// Time has passed. Each part prints and sends its own before the next.
-#[tactic(auto, unfolding(end_model::specs::Turn::ticks, end_model::specs::Turn::ticks_by))]
+#[tactic(auto, unfolding(end_model::specs::Ticking::ticks, end_model::specs::Ticking::ticks_by))]
 pub(crate) fn tick(
     turn: &mut Turn,
     role: Role,

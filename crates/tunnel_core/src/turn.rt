@@ -2,7 +2,9 @@
 
 ghost use Rattle.std.specs.Prelude.{◌≡◌, ◌≤◌, ◌<◌, IfOk, OnOk};
 ghost use Rattle.id_source.specs.Spaces.{draws};
-ghost use Rattle.end_model.specs.Turn.{turn_of, with_output, with_move, with_change, with_call, with_new, drops, ends_call, with_local, ends_all};
+ghost use Rattle.end_model.specs.Tunnels.{turn_of};
+ghost use Rattle.end_model.specs.Turn.{with_output, with_move, with_change, with_call, with_new, drops, ends_call, ends_all};
+ghost use Rattle.end_model.specs.Openings.{with_local};
 
 use crate::env::{Env, Moves, Outputs};
 use id_source::{IdError, Ids};
@@ -49,7 +51,7 @@ pub(crate) struct Turn {
 
 impl Model for Turn {
     ghost use Rattle.std.specs.Prelude.{◌≤◌};
-    ghost use Rattle.end_model.specs.Turn.{Turn as Known};
+    ghost use Rattle.end_model.specs.Tunnels.{Turn as Known};
 
     ghost Value = { Known };
 
@@ -176,7 +178,7 @@ impl Turn {
     }
 
     /// The tunnel gets the id that is drawn.
-    #[tactic(auto, unfolding(end_model::specs::Turn::with_local))]
+    #[tactic(auto, unfolding(end_model::specs::Openings::with_local))]
     pub(crate) fn draw_tunnel(&mut self, local: u16)
         ensures value { self.new ≡ with_local local self.old }
         ensures same { self.new.control.channel ≡ self.old.control.channel }

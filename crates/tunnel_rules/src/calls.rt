@@ -3,9 +3,11 @@
 ghost use Rattle.std.specs.Prelude.{◌≡◌, ◌<◌, ◌≤◌, if◌then◌else◌, length, None, Err, IfSome, IfOk};
 ghost use Rattle.wire_base.specs.declared.cause.Cause.TheVariants as causes;
 ghost use Rattle.control_message.specs.Pairs.{IsWritten, hidden_of};
-ghost use Rattle.end_model.specs.Calls.{call_row, rung, advanced, idle_call, asked_for, is_request, is_reply, is_connection, is_up, is_set_up};
+ghost use Rattle.end_model.specs.Calls.{call_row, rung, advanced, idle_call, asked_for, is_request, is_reply, is_connection, is_up, is_set_up, is_clean_up};
 ghost use Rattle.end_model.specs.Reasons.{reason};
-ghost use Rattle.end_model.specs.Turn.{left_of, request_of, is_clean_up, is_passing};
+ghost use Rattle.end_model.specs.Asking.{left_of};
+ghost use Rattle.end_model.specs.Messages.{request_of};
+ghost use Rattle.end_model.specs.Links.{is_passing};
 
 use call_fsm::{CallAction, CallEvent, CallState, lac_advance, lns_advance};
 use control_message::Message;

@@ -2,7 +2,7 @@
 
 ghost use Rattle.std.specs.Prelude.{◌≡◌, ◌≤◌, ◌<◌, length, IfSome, IfOk};
 ghost use Rattle.control_message.specs.Pairs.{IsWrittenOpening};
-ghost use Rattle.end_model.specs.Turn.{opening_of};
+ghost use Rattle.end_model.specs.Messages.{opening_of};
 ghost use Rattle.end_model.specs.Secrets.{challenge_by};
 
 use control_message::{Failover, Opening};

@@ -1,7 +1,8 @@
 //! When a tunnel takes a letter, says that it is there, and comes to its end (RFC 2661 sections 5.8 and 6.5).
 
 ghost use Rattle.std.specs.Prelude.{◌≡◌, ◌==◌, ◌&&◌};
-ghost use Rattle.end_model.specs.Turn.{may_take, patience, is_over, is_closed, is_being_set_up, is_at_its_end};
+ghost use Rattle.end_model.specs.Channels.{may_take};
+ghost use Rattle.end_model.specs.Moments.{patience, is_over, is_closed, is_being_set_up, is_at_its_end};
 ghost use Rattle.tunnel_fsm.specs.Rows.{state_number};
 
 use end_model::Control;

@@ -3,7 +3,7 @@ use Rattle.std.specs.Prelude.{◌≡◌, ◌≢◌, ℕ, Bool, true, false, List
 use Rattle.std.proofs.Common.{refl, ap, ◌∙◌}
 use Rattle.id_table.specs.Ids.{at, put, without}
 use Rattle.id_table.specs.Order.{Ascends, at_other, put-again}
-use Rattle.end_model.specs.Turn.{Tunnel}
+use Rattle.end_model.specs.Tunnels.{Tunnel}
 use Rattle.end_model.specs.End.{tunnels_after}
 use Rattle.tunnel_core.specs.Cores.{Core, Plan, tunnel_of, made_of}
 use Rattle.tunnel_table.specs.Plans.{after_plan}

@@ -6,7 +6,7 @@ use Rattle.id_index.specs.Indexes.{Listing, Lists, IsWithin}
 use Rattle.tunnel_fsm.specs.declared.table.TunnelState.{TunnelState}
 use Rattle.tunnel_fsm.specs.Rows.{state_number}
 use Rattle.end_model.specs.declared.tunnel.Control.{Control}
-use Rattle.end_model.specs.Turn.{Tunnel}
+use Rattle.end_model.specs.Tunnels.{Tunnel}
 
 -- an id that a peer assigned has 16 bits
 abbrev pub remote_label : ℕ → ℕ → ℕ

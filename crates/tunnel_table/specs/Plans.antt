@@ -5,7 +5,9 @@ use Rattle.id_table.specs.Tables.{Kept}
 use Rattle.end_model.specs.declared.tunnel.Config.{Config}
 use Rattle.end_names.specs.declared.role.Role.{Role}
 use Rattle.end_model.specs.declared.event.Event.{Event}
-use Rattle.end_model.specs.Turn.{Tunnel, Turn, Env, turn_of, with_turn, turns}
+use Rattle.end_model.specs.Tunnels.{Tunnel, Turn, Env, turn_of}
+use Rattle.end_model.specs.Turn.{with_turn}
+use Rattle.end_model.specs.Events.{turns}
 use Rattle.end_model.specs.End.{tunnels_after}
 use Rattle.tunnel_core.specs.Cores.{Core, Plan, IsTurn, HasRoomFor, made_of}
 

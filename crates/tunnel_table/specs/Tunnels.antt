@@ -6,7 +6,7 @@ use Rattle.std.specs.Ordering.{nat_cmp}
 use Rattle.std.specs.BTreeMap.{is_at}
 use Rattle.std.proofs.Common.{refl, ap}
 use Rattle.id_table.specs.Ids.{at, put, without, ids_of}
-use Rattle.end_model.specs.Turn.{Tunnel}
+use Rattle.end_model.specs.Tunnels.{Tunnel}
 use Rattle.tunnel_core.specs.Cores.{Core, tunnel_of}
 
 -- the tunnels of a table, without the room that was made in them

@@ -2,7 +2,7 @@
 
 ghost use Rattle.std.specs.Prelude.{◌≡◌, ◌<◌, ℕ, List, [], Option, option_copied, option_map, IfSome};
 ghost use Rattle.id_table.specs.Ids.{put, without};
-ghost use Rattle.end_model.specs.Turn.{Tunnel};
+ghost use Rattle.end_model.specs.Tunnels.{Tunnel};
 ghost use Rattle.end_model.specs.End.{known_as, least_in};
 ghost use Rattle.tunnel_fsm.specs.Rows.{state_number};
 ghost use Rattle.tunnel_table.specs.Labels.{remote_label, state_label, remote_label_of, state_label_of, control_in, AreKept};

@@ -17,7 +17,7 @@ use Rattle.end_model.specs.declared.tunnel.Call.{Call}
 use Rattle.end_model.specs.declared.tunnel.Control.{Control}
 use Rattle.end_names.specs.Names.{node_of}
 use Rattle.end_model.specs.Calls.{is_lac, is_up}
-use Rattle.end_model.specs.Turn.{Tunnel}
+use Rattle.end_model.specs.Tunnels.{Tunnel}
 use Rattle.world_model.specs.Texts.{◌&◌, ended, Entry, entries_text}
 use Rattle.world_model.specs.World.{World, Node, Deed, Lined, empty_world, line, count_at}
 

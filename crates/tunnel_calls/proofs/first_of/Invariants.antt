@@ -1,6 +1,6 @@
 use Rattle.std.proofs.Common.{◌≡◌, drop, find}
 use Rattle.id_table.specs.Ids.{at}
-use Rattle.end_model.specs.Turn.{is_call_of}
+use Rattle.end_model.specs.Asking.{is_call_of}
 use Rattle.tunnel_calls.proofs.first_of.Given as goal
 
 abbrev pub invariant-loop-session : goal.invariant-loop-session

@@ -1,6 +1,6 @@
 use Rattle.std.proofs.Common.{sym, ap, subst, ◌∙◌}
 use Rattle.id_index.specs.Indexes.{IsFirst}
-use Rattle.end_model.specs.Turn.{call_of}
+use Rattle.end_model.specs.Asking.{call_of}
 use Rattle.tunnel_calls.specs.Remotes.{remotes_of}
 use Rattle.tunnel_calls.proofs.Listing.{first_listed}
 use Rattle.tunnel_calls.proofs.TunnelCalls.call_of.Goals as goal

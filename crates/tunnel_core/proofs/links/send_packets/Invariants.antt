@@ -1,5 +1,5 @@
 use Rattle.std.proofs.Common.{◌≡◌, drop}
-use Rattle.end_model.specs.Turn.{sends_packets}
+use Rattle.end_model.specs.Linking.{sends_packets}
 use Rattle.tunnel_core.proofs.links.send_packets.Given as goal
 
 abbrev pub invariant-loop-packet : goal.invariant-loop-packet

@@ -1,6 +1,6 @@
 use Rattle.std.proofs.Common.{◌≡◌}
 use Rattle.std.specs.Vec.Iter.{into_iter_items}
-use Rattle.end_model.specs.Turn.{with_calls}
+use Rattle.end_model.specs.Events.{with_calls}
 use Rattle.tunnel_core.specs.Cores.{AllHaveRoom}
 use Rattle.tunnel_core.proofs.planning.put_all.Given as goal
 

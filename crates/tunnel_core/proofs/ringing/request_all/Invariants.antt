@@ -1,5 +1,5 @@
 use Rattle.std.proofs.Common.{◌≡◌, drop}
-use Rattle.end_model.specs.Turn.{requests_all}
+use Rattle.end_model.specs.Ringing.{requests_all}
 use Rattle.tunnel_core.proofs.ringing.request_all.Given as goal
 
 abbrev pub invariant-loop-session : goal.invariant-loop-session

@@ -1,5 +1,5 @@
 use Rattle.std.proofs.Common.{◌≡◌, drop}
-use Rattle.end_model.specs.Turn.{limits_all}
+use Rattle.end_model.specs.Ticking.{limits_all}
 use Rattle.tunnel_core.proofs.ticking.limit_all.Given as goal
 
 abbrev pub invariant-loop-session : goal.invariant-loop-session

@@ -4,7 +4,9 @@ use Rattle.wire_base.specs.declared.letter.Letter.{Letter}
 use Rattle.end_names.specs.declared.role.Role.{Role}
 use Rattle.end_model.specs.declared.tunnel.Call.{Call}
 use Rattle.end_model.specs.declared.tunnel.Link.{Link}
-use Rattle.end_model.specs.Turn.{Turn, limits_at, ticks_link}
+use Rattle.end_model.specs.Tunnels.{Turn}
+use Rattle.end_model.specs.Ticking.{limits_at}
+use Rattle.end_model.specs.Linking.{ticks_link}
 use Rattle.tunnel_core.proofs.ticking.limit_at.Goals as goal
 
 -- an id of more than 16 bits is no session: nothing is done for it

@@ -1,7 +1,7 @@
 use Rattle.std.proofs.Common.{◌≡◌, refl, ap, sym, subst, ◌∙◌, []}
 use Rattle.std.specs.Prelude.{IsSome}
 use Rattle.id_table.specs.Ids.{at}
-use Rattle.end_model.specs.Turn.{Env}
+use Rattle.end_model.specs.Tunnels.{Env}
 use Rattle.end_model.specs.End.{End, Stepped, env_of, in_main, with_looks, placed}
 use Rattle.end_core.specs.Gives.{behind_given}
 use Rattle.end_core.specs.contracts.end.End.{the_view as view_of}

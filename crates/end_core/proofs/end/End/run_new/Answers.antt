@@ -1,6 +1,7 @@
 use Rattle.std.proofs.Common.{◌≡◌, ℕ, refl, ap, sym, subst, ◌∙◌, List, []}
 use Rattle.end_model.specs.declared.tunnel.Control.{Control}
-use Rattle.end_model.specs.Turn.{Tunnel, Env, fresh}
+use Rattle.end_model.specs.Tunnels.{Tunnel, Env}
+use Rattle.end_model.specs.Openings.{fresh}
 use Rattle.end_model.specs.End.{End, Stepped, env_of, in_new, with_looks, placed, tunnels_after}
 use Rattle.tunnel_core.specs.Cores.{Core, tunnel_of, made_of}
 use Rattle.tunnel_table.specs.Tunnels.{tunnels_of}

@@ -1,6 +1,6 @@
 use Rattle.std.proofs.Common.{◌≡◌, ◌∙◌, refl, ap, sym, subst}
 use Rattle.id_table.specs.Ids.{ids_of}
-use Rattle.end_model.specs.Turn.{Env}
+use Rattle.end_model.specs.Tunnels.{Env}
 use Rattle.end_model.specs.End.{End, Stepped, env_of, with_looks, ticks_all}
 use Rattle.end_core.specs.Ticking.{ticks_at, ArePlanned, with_ticks, after_plans}
 use Rattle.end_core.specs.contracts.end.End.{the_view as view_of}

@@ -1,7 +1,8 @@
 use Rattle.std.proofs.Common.{◌≡◌, ℕ, zero, suc, ◌-◌, ◌<◌, true, List, refl, ◌∙◌, arith, rules}
 use Rattle.wire_base.specs.declared.letter.Letter.{Letter}
 use Rattle.control_channel.specs.Numbers.{next_to_go}
-use Rattle.end_model.specs.Turn.{Turn, lets_all_go, goes_by}
+use Rattle.end_model.specs.Tunnels.{Turn}
+use Rattle.end_model.specs.Sending.{lets_all_go, goes_by}
 use Rattle.tunnel_core.specs.Gives.{WentBy}
 use Rattle.tunnel_core.proofs.turn.Turn.let_all_go.Goals as goal
 

@@ -1,5 +1,5 @@
 use Rattle.std.proofs.Common.{◌≡◌}
-use Rattle.end_model.specs.Turn.{lets_all_go}
+use Rattle.end_model.specs.Sending.{lets_all_go}
 use Rattle.tunnel_core.proofs.turn.Turn.let_all_go.Given as goal
 
 abbrev pub invariant-loop-most : goal.invariant-loop-most

@@ -1,7 +1,7 @@
 use Rattle.std.proofs.Common.{◌≡◌, ℕ, List, Option, subst}
 use Rattle.std.specs.Prelude.{None, Some, IfSome}
 use Rattle.id_index.specs.Indexes.{Lists, IsFirst}
-use Rattle.end_model.specs.Turn.{Tunnel}
+use Rattle.end_model.specs.Tunnels.{Tunnel}
 use Rattle.end_model.specs.End.{known_as}
 use Rattle.tunnel_table.specs.Labels.{AreKept}
 use Rattle.tunnel_table.proofs.Listing.{first_known}

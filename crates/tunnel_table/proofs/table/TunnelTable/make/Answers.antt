@@ -2,7 +2,7 @@ use Rattle.std.proofs.Common.{refl, sym, ap, subst, ◌∙◌}
 use Rattle.id_table.specs.Ids.{at, without}
 use Rattle.id_table.specs.Order.{at_without_other}
 use Rattle.id_table.specs.Tables.{Kept}
-use Rattle.end_model.specs.Turn.{Tunnel}
+use Rattle.end_model.specs.Tunnels.{Tunnel}
 use Rattle.tunnel_core.specs.Cores.{Core, tunnel_of}
 use Rattle.tunnel_table.specs.Labels.{AreKept}
 use Rattle.tunnel_table.specs.Plans.{after_plan}

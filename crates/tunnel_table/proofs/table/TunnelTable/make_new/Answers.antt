@@ -1,7 +1,7 @@
 use Rattle.std.proofs.Common.{sym, ap, subst, ◌∙◌}
 use Rattle.id_table.specs.Ids.{put, without}
 use Rattle.id_table.specs.Tables.{Kept}
-use Rattle.end_model.specs.Turn.{Tunnel}
+use Rattle.end_model.specs.Tunnels.{Tunnel}
 use Rattle.tunnel_core.specs.Cores.{Core, tunnel_of, made_of}
 use Rattle.tunnel_table.specs.Labels.{AreKept}
 use Rattle.tunnel_table.specs.Tunnels.{tunnels_of, put_tunnels, without_tunnels}

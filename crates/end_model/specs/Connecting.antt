@@ -1,0 +1,74 @@
+-- Letters that connect a call, and that end it.
+use Rattle.std.specs.Prelude.{ℕ, List, if◌then◌else◌, Option, Some, None}
+use Rattle.id_table.specs.Ids.{at}
+use Rattle.wire_base.specs.declared.why.Why.TheVariants as why
+use Rattle.lcp_end.specs.Steps.{opened as link_opened}
+use Rattle.call_fsm.specs.declared.table.CallEvent.TheVariants as call_event
+use Rattle.call_fsm.specs.declared.table.CallState.TheVariants as call
+use Rattle.end_model.specs.declared.tunnel.Call.{Call}
+use Rattle.session_looks.specs.declared.look.CellChange.TheVariants as cell
+use Rattle.end_model.specs.declared.tunnel.Link.{Link}
+use Rattle.end_names.specs.declared.role.Role.{Role}
+use Rattle.end_model.specs.declared.moves.Move.TheVariants as move
+use Rattle.end_model.specs.Tunnels.{Turn}
+use Rattle.end_model.specs.Channels.{next_place, taken_place, has_room}
+use Rattle.end_model.specs.Messages.{connection}
+use Rattle.end_model.specs.Reasons.{out_of_state}
+use Rattle.end_model.specs.Calls.{call_row, advanced, is_connection, is_up, is_clean_up}
+use Rattle.end_model.specs.Links.{new_link, with_link}
+use Rattle.end_model.specs.Turn.{with_move, with_change, with_call, drops, ends_call}
+use Rattle.end_model.specs.Sending.{gives, takes_one, takes_plain}
+use Rattle.end_model.specs.Refusing.{answers_by, of_no_call}
+use Rattle.end_model.specs.Linking.{negotiated}
+
+-- the peer's session is learned, and the call is connected and up
+unfoldable pub first_up : Role → ℕ → ℕ → Call → Turn → Turn
+first_up role s remote c t =
+    gives remote connection
+    (with_change (cell.Establish s)
+    (with_move (move.FirstUp (record { tunnel = t.control.local; session = s; remote = remote; taken = taken_place t.control; given = next_place t.control }))
+    (with_call s (advanced role call_event.IcrpAcc t.on.moment (record c { remote = remote }))
+    (takes_one t))))
+
+unfoldable pub first_up_by : Role → ℕ → ℕ → Option Call → Turn → Turn
+first_up_by role s remote None t = of_no_call out_of_state remote (call_row role call.Idle call_event.IcrpAcc).1 t
+first_up_by role s remote (Some c) t =
+    if is_connection (call_row role c.state call_event.IcrpAcc).1
+    then (if has_room t.control then first_up role s remote c t else drops why.Queue t)
+    else answers_by out_of_state s c (call_row role c.state call_event.IcrpAcc).1 t
+
+-- the call is connected, and has its link
+unfoldable pub second_up : ℕ → Call → Turn → Turn
+second_up s c t =
+    with_change (cell.Bind s t.control.local t.control.peer)
+    (with_move (move.SecondUp (record { tunnel = t.control.local; session = s; taken = taken_place t.control }))
+    (with_call s c
+    (takes_one t)))
+
+-- whose LCP is opened
+unfoldable pub connects_call : ℕ → Call → Link → Turn → Turn
+connects_call s c l t = negotiated s c l (link_opened t.on.moment l.lcp) (second_up s c t)
+
+unfoldable pub linked_up : Role → ℕ → Call → Turn → Turn
+linked_up role s c t =
+    connects_call s (with_link (new_link t.on.block) (advanced role call_event.IccnAcc t.on.moment c)) (new_link t.on.block) t
+
+unfoldable pub second_up_by : Role → ℕ → Option Call → Turn → Turn
+second_up_by role s None t = of_no_call out_of_state 0 (call_row role call.Idle call_event.IccnAcc).1 t
+second_up_by role s (Some c) t =
+    if is_up (call_row role c.state call_event.IccnAcc).0 then linked_up role s c t
+    else answers_by out_of_state s c (call_row role c.state call_event.IccnAcc).1 t
+
+-- the peer says that the call ended
+unfoldable pub end_heard : ℕ → Turn → Turn
+end_heard s t =
+    with_move (move.EndHeard (record { tunnel = t.control.local; session = s; taken = taken_place t.control }))
+    (ends_call s (takes_one t))
+
+unfoldable pub end_heard_by : Role → ℕ → Option Call → Turn → Turn
+end_heard_by role s None t = of_no_call out_of_state 0 (call_row role call.Idle call_event.CdnCame).1 t
+end_heard_by role s (Some c) t =
+    if is_clean_up (call_row role c.state call_event.CdnCame).1 then end_heard s t else takes_plain t
+
+unfoldable pub ends_named : Role → List (ℕ × Call) → ℕ → Turn → Turn
+ends_named role calls s t = end_heard_by role s (at calls s) t
