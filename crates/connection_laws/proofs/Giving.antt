@@ -29,7 +29,7 @@ use Rattle.end_model.specs.declared.tunnel.Call.{Call}
 use Rattle.end_model.specs.declared.tunnel.CallPlace.{CallPlace}
 use Rattle.end_names.specs.declared.role.Role.{Role}
 use Rattle.end_names.specs.Names.{calling_number}
-use Rattle.end_model.specs.Calls.{call_row, is_told, advanced, rung}
+use Rattle.end_model.specs.Calls.{call_row, row_for, is_told, advanced, rung}
 use Rattle.end_model.specs.Tunnels.{Tunnel}
 use Rattle.end_model.specs.Channels.{has_room}
 use Rattle.end_model.specs.Messages.{request_of}
@@ -124,7 +124,7 @@ module _ (accs : Accounts) (n : ℕ) (e : End) (sender : Option Sender) (ev : Ev
 
 -- the peer is told of the end of a call in an open tunnel alone: in another one its calls wait, or it has none
 told_open : (accs : Accounts) (i : ℕ) (a : Account) (t : Tunnel) (role : Role) (on : CallEvent) (s : ℕ) (c : Call) → at t.calls s ≡ Some c
-    → is_told (call_row role c.state on).1 ≡ true → (r : Part) → IsInState accs i a t r → state_number t.control.state ≡ 3
+    → is_told (row_for role c on).1 ≡ true → (r : Part) → IsInState accs i a t r → state_number t.control.state ≡ 3
 told_open accs i a t role on s c there told Unmade h = absurd h
 told_open accs i a t role on s c there told Opener h = ⊎_elim
     (λ (k : (state_number t.control.state ≡ 1) × (a.remote ≡ 0) × IsOpen a × AllWait t.calls).

@@ -14,7 +14,7 @@ use Rattle.end_model.specs.declared.moves.Move.TheVariants as move
 use Rattle.end_model.specs.Tunnels.{Turn}
 use Rattle.end_model.specs.Channels.{next_place, taken_place, has_room}
 use Rattle.end_model.specs.Reasons.{Reason, reason, out_of_state}
-use Rattle.end_model.specs.Calls.{call_row, asked_for, is_reply, are_too_many}
+use Rattle.end_model.specs.Calls.{row_for, row_of_none, asked_for, is_reply, are_too_many}
 use Rattle.end_model.specs.Turn.{with_move, with_new, drops}
 use Rattle.end_model.specs.Sending.{gives, takes_one}
 use Rattle.end_model.specs.Refusing.{answers_by, refuses}
@@ -39,7 +39,7 @@ left_of (Err e) = Err (reason cause.Ids 4 None)
 
 unfoldable pub granted : Role → List (ℕ × Call) → ℕ → Space → Result ℕ Reason
 granted role calls remote sessions =
-    if not (is_reply (call_row role call.Idle call_event.IcrqAcc).1) then Err out_of_state
+    if not (is_reply (row_of_none role call_event.IcrqAcc).1) then Err out_of_state
     else if remote == 0 || is_some (call_of calls remote) then Err (reason cause.Session 2 (Some 5))
     else if are_too_many calls then Err (reason cause.Calls 4 None)
     else left_of (draws sessions)
@@ -56,6 +56,6 @@ replies role remote s t = if has_room t.control then replied role remote s t els
 
 -- the request for a call; one that names a call is out of state, whatever else would stand against it
 unfoldable pub asked_by : Role → ℕ → ℕ → Result ℕ Reason → Option Call → Turn → Turn
-asked_by role s remote g (Some c) t = answers_by out_of_state s c (call_row role c.state call_event.IcrqAcc).1 t
+asked_by role s remote g (Some c) t = answers_by out_of_state s c (row_for role c call_event.IcrqAcc).1 t
 asked_by role s remote (Ok drawn) None t = replies role remote drawn t
 asked_by role s remote (Err r) None t = refuses r remote t

@@ -23,6 +23,13 @@ unfoldable pub call_row : Role → CallState → CallEvent → CallState × Call
 call_row Lac s e = row_of lac_rows s e
 call_row Lns s e = row_of lns_rows s e
 
+-- the row of a call's table, and that of a call that there isn't
+abbrev pub row_for : Role → Call → CallEvent → CallState × CallAction
+row_for role c e = call_row role c.state e
+
+abbrev pub row_of_none : Role → CallEvent → CallState × CallAction
+row_of_none role e = call_row role Idle e
+
 -- the call goes to a state by an event, at a moment
 abbrev pub gone_to : CallState → CallEvent → ℕ → Call → Call
 gone_to next e moment c = record c { state = next; since = moment; steps = c.steps ++ record { state = c.state; event = e; next = next } ∷ [] }

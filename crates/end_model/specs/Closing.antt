@@ -12,7 +12,7 @@ use Rattle.end_model.specs.declared.out.Out.TheVariants.{Cause}
 use Rattle.end_model.specs.declared.moves.Move.TheVariants as move
 use Rattle.end_model.specs.Tunnels.{Turn}
 use Rattle.end_model.specs.Channels.{next_place, has_room}
-use Rattle.end_model.specs.Calls.{call_row}
+use Rattle.end_model.specs.Calls.{row_for}
 use Rattle.end_model.specs.Turn.{with_output, with_move, drops, ends_call}
 use Rattle.end_model.specs.Sending.{gives}
 
@@ -37,4 +37,4 @@ ends_by for result error s c a t = t
 unfoldable pub closes : Role → CauseOf → CallEvent → ℕ → ℕ → Option Call → Turn → Turn
 closes role for e result s None t = drops why.Call t
 closes role for e result s (Some c) t =
-    if nat_lt s 65536 then ends_by for result None s c (call_row role c.state e).1 t else t
+    if nat_lt s 65536 then ends_by for result None s c (row_for role c e).1 t else t

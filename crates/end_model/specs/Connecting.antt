@@ -14,7 +14,7 @@ use Rattle.end_model.specs.Tunnels.{Turn}
 use Rattle.end_model.specs.Channels.{next_place, taken_place, has_room}
 use Rattle.end_model.specs.Messages.{connection}
 use Rattle.end_model.specs.Reasons.{out_of_state}
-use Rattle.end_model.specs.Calls.{call_row, advanced, is_connection, is_up, is_clean_up}
+use Rattle.end_model.specs.Calls.{row_for, row_of_none, advanced, is_connection, is_up, is_clean_up}
 use Rattle.end_model.specs.Links.{new_link, with_link}
 use Rattle.end_model.specs.Turn.{with_move, with_change, with_call, drops, ends_call}
 use Rattle.end_model.specs.Sending.{gives, takes_one, takes_plain}
@@ -31,11 +31,11 @@ first_up role s remote c t =
     (takes_one t))))
 
 unfoldable pub first_up_by : Role → ℕ → ℕ → Option Call → Turn → Turn
-first_up_by role s remote None t = of_no_call out_of_state remote (call_row role call.Idle call_event.IcrpAcc).1 t
+first_up_by role s remote None t = of_no_call out_of_state remote (row_of_none role call_event.IcrpAcc).1 t
 first_up_by role s remote (Some c) t =
-    if is_connection (call_row role c.state call_event.IcrpAcc).1
+    if is_connection (row_for role c call_event.IcrpAcc).1
     then (if has_room t.control then first_up role s remote c t else drops why.Queue t)
-    else answers_by out_of_state s c (call_row role c.state call_event.IcrpAcc).1 t
+    else answers_by out_of_state s c (row_for role c call_event.IcrpAcc).1 t
 
 -- the call is connected, and has its link
 unfoldable pub second_up : ℕ → Call → Turn → Turn
@@ -54,10 +54,10 @@ linked_up role s c t =
     connects_call s (with_link (new_link t.on.block) (advanced role call_event.IccnAcc t.on.moment c)) (new_link t.on.block) t
 
 unfoldable pub second_up_by : Role → ℕ → Option Call → Turn → Turn
-second_up_by role s None t = of_no_call out_of_state 0 (call_row role call.Idle call_event.IccnAcc).1 t
+second_up_by role s None t = of_no_call out_of_state 0 (row_of_none role call_event.IccnAcc).1 t
 second_up_by role s (Some c) t =
-    if is_up (call_row role c.state call_event.IccnAcc).0 then linked_up role s c t
-    else answers_by out_of_state s c (call_row role c.state call_event.IccnAcc).1 t
+    if is_up (row_for role c call_event.IccnAcc).0 then linked_up role s c t
+    else answers_by out_of_state s c (row_for role c call_event.IccnAcc).1 t
 
 -- the peer says that the call ended
 unfoldable pub end_heard : ℕ → Turn → Turn
@@ -66,9 +66,9 @@ end_heard s t =
     (ends_call s (takes_one t))
 
 unfoldable pub end_heard_by : Role → ℕ → Option Call → Turn → Turn
-end_heard_by role s None t = of_no_call out_of_state 0 (call_row role call.Idle call_event.CdnCame).1 t
+end_heard_by role s None t = of_no_call out_of_state 0 (row_of_none role call_event.CdnCame).1 t
 end_heard_by role s (Some c) t =
-    if is_clean_up (call_row role c.state call_event.CdnCame).1 then end_heard s t else takes_plain t
+    if is_clean_up (row_for role c call_event.CdnCame).1 then end_heard s t else takes_plain t
 
 unfoldable pub ends_named : Role → List (ℕ × Call) → ℕ → Turn → Turn
 ends_named role calls s t = end_heard_by role s (at calls s) t

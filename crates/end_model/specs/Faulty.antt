@@ -16,7 +16,7 @@ use Rattle.end_names.specs.declared.role.Role.{Role}
 use Rattle.end_model.specs.Tunnels.{Turn}
 use Rattle.end_model.specs.Reasons.{Reason, fault_reason}
 use Rattle.end_model.specs.Reading.{CallFault}
-use Rattle.end_model.specs.Calls.{call_row}
+use Rattle.end_model.specs.Calls.{row_for, row_of_none}
 use Rattle.end_model.specs.Sending.{ignores}
 use Rattle.end_model.specs.Refusing.{answers_by, refuses, of_no_call}
 use Rattle.end_model.specs.Asking.{session_named}
@@ -24,19 +24,19 @@ use Rattle.end_model.specs.Asking.{session_named}
 -- of a call that there is, or of one that there isn't, by the table's rows for these events
 unfoldable pub faulty_at : Role → Reason → ℕ → ℕ → CallEvent → CallAction → Option Call → Turn → Turn
 faulty_at role r s remote e none None t = of_no_call r remote none t
-faulty_at role r s remote e none (Some c) t = answers_by r s c (call_row role c.state e).1 t
+faulty_at role r s remote e none (Some c) t = answers_by r s c (row_for role c e).1 t
 
 unfoldable pub faulty : Role → List (ℕ × Call) → ℕ → Kind → CauseOf → Option ℕ → Turn → Turn
 faulty role calls session kind.Icrq c told t =
     faulty_at role (fault_reason c) session (unwrap_or told 0) call_event.IcrqNotAcc call_action.SendCdn (at calls session) t
 faulty role calls session kind.Ocrq c told t = refuses (fault_reason c) (unwrap_or told 0) t
 faulty role calls session kind.Icrp c told t =
-    faulty_at role (fault_reason c) session (unwrap_or told 0) call_event.IcrpNotAcc (call_row role call.Idle call_event.IcrpNotAcc).1 (at calls session) t
+    faulty_at role (fault_reason c) session (unwrap_or told 0) call_event.IcrpNotAcc (row_of_none role call_event.IcrpNotAcc).1 (at calls session) t
 faulty role calls session kind.Iccn c told t =
-    faulty_at role (fault_reason c) session 0 call_event.IccnNotAcc (call_row role call.Idle call_event.IccnNotAcc).1 (at calls session) t
+    faulty_at role (fault_reason c) session 0 call_event.IccnNotAcc (row_of_none role call_event.IccnNotAcc).1 (at calls session) t
 faulty role calls session kind.Cdn c told t =
     faulty_at role (fault_reason c) (session_named calls session (unwrap_or told 0)) 0 call_event.Close
-    (call_row role call.Idle call_event.CdnCame).1 (at calls (session_named calls session (unwrap_or told 0))) t
+    (row_of_none role call_event.CdnCame).1 (at calls (session_named calls session (unwrap_or told 0))) t
 -- a WEN or an SLI
 faulty role calls session k c told t =
     faulty_at role (fault_reason c) session 0 call_event.Close call_action.Nothing (at calls session) t

@@ -10,7 +10,7 @@ use Rattle.end_model.specs.declared.tunnel.Link.{Link}
 use Rattle.end_names.specs.declared.role.Role.{Role}
 use Rattle.end_model.specs.declared.moves.Move.TheVariants as move
 use Rattle.end_model.specs.Tunnels.{Turn}
-use Rattle.end_model.specs.Calls.{call_row, is_up}
+use Rattle.end_model.specs.Calls.{row_for, is_up}
 use Rattle.end_model.specs.Links.{lcp_frame, with_link, link_after, is_first_open, looks_of}
 use Rattle.end_model.specs.Turn.{with_move, with_looks_of, with_call, drops}
 use Rattle.end_model.specs.Sending.{settles}
@@ -33,7 +33,7 @@ negotiated s c l v t =
 -- where it is finished the call ends; no entry of LCP's table finishes a link and sends a packet
 unfoldable pub links : Role → List Letter → ℕ → Call → Link → LcpTurn → Turn → Turn
 links role letters s c l v t =
-    if v.out.finished then settles false letters (ends_by cause.Lcp 3 None s c (call_row role c.state call_event.Close).1 t)
+    if v.out.finished then settles false letters (ends_by cause.Lcp 3 None s c (row_for role c call_event.Close).1 t)
     else negotiated s c l v t
 
 -- an LCP packet, in a frame from its protocol field on, came up a call

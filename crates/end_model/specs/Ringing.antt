@@ -17,7 +17,7 @@ use Rattle.end_model.specs.Tunnels.{Turn}
 use Rattle.end_model.specs.Channels.{next_place, has_room, may_take}
 use Rattle.end_model.specs.Messages.{request_of, hidden_request}
 use Rattle.end_names.specs.Names.{subscriber}
-use Rattle.end_model.specs.Calls.{call_row, advanced, rung, is_request, are_too_many}
+use Rattle.end_model.specs.Calls.{row_for, advanced, rung, is_request, are_too_many}
 use Rattle.end_model.specs.Turn.{with_output, with_move, with_change, with_call, with_new, drops}
 use Rattle.end_model.specs.Sending.{gives_as}
 use Rattle.end_model.specs.Openings.{opened}
@@ -32,7 +32,7 @@ requested role config s c t =
 
 unfoldable pub requests : Role → Config → ℕ → Call → Turn → Turn
 requests role config s c t =
-    if is_request (call_row role c.state call_event.TunnelOpen).1
+    if is_request (row_for role c call_event.TunnelOpen).1
     then (if has_room t.control then requested role config s c t else drops why.Queue t)
     else t
 

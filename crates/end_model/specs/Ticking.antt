@@ -15,7 +15,7 @@ use Rattle.end_model.specs.declared.moves.Move.TheVariants as move
 use Rattle.end_model.specs.Tunnels.{Turn}
 use Rattle.end_model.specs.Channels.{next_place}
 use Rattle.end_model.specs.Moments.{is_over, patience, is_at_its_end}
-use Rattle.end_model.specs.Calls.{call_row, is_set_up}
+use Rattle.end_model.specs.Calls.{row_for, is_set_up}
 use Rattle.end_model.specs.Turn.{with_move, ends_all}
 use Rattle.end_model.specs.Sending.{gives, repeats, settles}
 use Rattle.end_model.specs.Closing.{ends_by}
@@ -41,7 +41,7 @@ unfoldable pub limits_at : Role → List Letter → ℕ → Option Call → Turn
 limits_at role letters s None t = t
 limits_at role letters s (Some c) t =
     if nat_lt s 65536 && is_set_up c.state && is_over patience t.on.moment c.since
-    then settles false letters (ends_by cause.Setup 10 None s c (call_row role c.state call_event.Close).1 t)
+    then settles false letters (ends_by cause.Setup 10 None s c (row_for role c call_event.Close).1 t)
     else ticks_link role letters s c c.link t
 
 unfoldable pub limits_all : Role → List Letter → List ℕ → List (ℕ × Call) → Turn → Turn

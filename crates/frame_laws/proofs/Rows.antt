@@ -6,7 +6,7 @@ use Rattle.call_fsm.specs.declared.table.CallState.TheVariants.{Idle, WaitTunnel
 use Rattle.call_fsm.specs.declared.table.CallEvent.TheVariants.{TunnelOpen, IcrqAcc, IccnAcc}
 use Rattle.end_names.specs.declared.role.Role.{Role}
 use Rattle.end_names.specs.declared.role.Role.TheVariants.{Lac, Lns}
-use Rattle.end_model.specs.Calls.{call_row, advanced, rung, is_request, is_reply, is_up}
+use Rattle.end_model.specs.Calls.{call_row, row_of_none, advanced, rung, is_request, is_reply, is_up}
 
 never : {X : Type 0} → false ≡ true → X
 never h = absurd (true≢false (sym h))
@@ -26,7 +26,7 @@ request_row Lns WaitConnect h = never h
 request_row Lns Established h = never h
 
 -- only an LNS replies
-pub reply_row : (r : Role) → is_reply (call_row r Idle IcrqAcc).1 ≡ true → r ≡ Lns
+pub reply_row : (r : Role) → is_reply (row_of_none r IcrqAcc).1 ≡ true → r ≡ Lns
 unfolding call_row
 reply_row Lac h = never h
 reply_row Lns h = refl

@@ -7,7 +7,7 @@ use Rattle.call_fsm.specs.declared.table.CallEvent.TheVariants.{TunnelOpen, Icrq
 use Rattle.end_model.specs.declared.tunnel.Call.{Call}
 use Rattle.end_names.specs.declared.role.Role.{Role}
 use Rattle.end_names.specs.declared.role.Role.TheVariants.{Lac, Lns}
-use Rattle.end_model.specs.Calls.{call_row, advanced, is_request, is_reply, is_connection, is_up}
+use Rattle.end_model.specs.Calls.{call_row, row_for, row_of_none, advanced, is_request, is_reply, is_connection, is_up}
 
 never : {X : Type 0} → false ≡ true → X
 never h = absurd (true≢false (sym h))
@@ -34,7 +34,7 @@ request_row Lns WaitConnect h = never h
 request_row Lns Established h = never h
 
 -- only an LNS replies
-pub reply_row : (r : Role) → is_reply (call_row r Idle IcrqAcc).1 ≡ true → r ≡ Lns
+pub reply_row : (r : Role) → is_reply (row_of_none r IcrqAcc).1 ≡ true → r ≡ Lns
 unfolding call_row
 reply_row Lac h = never h
 reply_row Lns h = refl
@@ -73,10 +73,10 @@ pub asked_over : (r : Role) (moment : ℕ) (c : Call) → Asks r c → Asks r (a
 unfolding advanced
 asked_over r moment c h k = asked_row r c.state h k
 
-pub first_over : (r : Role) (moment : ℕ) (c : Call) → is_connection (call_row r c.state IcrpAcc).1 ≡ true → Asks r (advanced r IcrpAcc moment c) → ⊥
+pub first_over : (r : Role) (moment : ℕ) (c : Call) → is_connection (row_for r c IcrpAcc).1 ≡ true → Asks r (advanced r IcrpAcc moment c) → ⊥
 unfolding advanced
 first_over r moment c h k = first_row r c.state h k
 
-pub second_over : (r : Role) (moment : ℕ) (c : Call) → is_up (call_row r c.state IccnAcc).0 ≡ true → Asks r (advanced r IccnAcc moment c) → ⊥
+pub second_over : (r : Role) (moment : ℕ) (c : Call) → is_up (row_for r c IccnAcc).0 ≡ true → Asks r (advanced r IccnAcc moment c) → ⊥
 unfolding advanced
-second_over r moment c h k = up_row r (call_row r c.state IccnAcc).0 h k
+second_over r moment c h k = up_row r (row_for r c IccnAcc).0 h k

@@ -8,7 +8,7 @@ use Rattle.call_fsm.specs.declared.table.CallEvent.TheVariants.{Ring, TunnelOpen
 use Rattle.end_model.specs.declared.tunnel.Call.{Call}
 use Rattle.end_names.specs.declared.role.Role.{Role}
 use Rattle.end_names.specs.declared.role.Role.TheVariants.{Lac, Lns}
-use Rattle.end_model.specs.Calls.{call_row, advanced, rung, asked_for, is_request, is_reply, is_connection, is_told, is_up, is_clean_up}
+use Rattle.end_model.specs.Calls.{call_row, row_for, row_of_none, advanced, rung, asked_for, is_request, is_reply, is_connection, is_told, is_up, is_clean_up}
 use Rattle.epoch_machine.specs.Calls as machine
 use Rattle.session_laws.specs.Names.{state_of}
 use Rattle.session_laws.specs.Joined.{FitsRole}
@@ -130,13 +130,13 @@ request_role Lns WaitReply h = never h
 request_role Lns WaitConnect h = never h
 request_role Lns Established h = never h
 
-pub reply_row : (r : Role) → is_reply (call_row r Idle IcrqAcc).1 ≡ true → GoesOn r Idle (call_row r Idle IcrqAcc).0 machine.NoCall machine.WaitsConnect
+pub reply_row : (r : Role) → is_reply (row_of_none r IcrqAcc).1 ≡ true → GoesOn r Idle (row_of_none r IcrqAcc).0 machine.NoCall machine.WaitsConnect
 unfolding call_row
 reply_row Lac h = never h
 reply_row Lns h = record { was = refl; is = refl; fits = tt }
 
 -- and an LNS replies
-pub reply_role : (r : Role) → is_reply (call_row r Idle IcrqAcc).1 ≡ true → r ≡ Lns
+pub reply_role : (r : Role) → is_reply (row_of_none r IcrqAcc).1 ≡ true → r ≡ Lns
 unfolding call_row
 reply_role Lac h = never h
 reply_role Lns h = refl
@@ -273,7 +273,7 @@ pub rung_remote : (r : Role) (who : List ℕ) (moment : ℕ) → (rung r who mom
 unfolding rung advanced
 rung_remote r who moment = refl
 
-pub asked_state : (r : Role) (remote moment : ℕ) → (asked_for r remote moment).state ≡ (call_row r Idle IcrqAcc).0
+pub asked_state : (r : Role) (remote moment : ℕ) → (asked_for r remote moment).state ≡ (row_of_none r IcrqAcc).0
 unfolding asked_for advanced
 asked_state r remote moment = refl
 
@@ -281,7 +281,7 @@ pub asked_remote : (r : Role) (remote moment : ℕ) → (asked_for r remote mome
 unfolding asked_for advanced
 asked_remote r remote moment = refl
 
-pub advanced_state : (r : Role) (ev : CallEvent) (moment : ℕ) (c : Call) → (advanced r ev moment c).state ≡ (call_row r c.state ev).0
+pub advanced_state : (r : Role) (ev : CallEvent) (moment : ℕ) (c : Call) → (advanced r ev moment c).state ≡ (row_for r c ev).0
 unfolding advanced
 advanced_state r ev moment c = refl
 

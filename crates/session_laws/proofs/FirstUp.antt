@@ -8,7 +8,7 @@ use Rattle.end_model.specs.declared.event.Event.{Event}
 use Rattle.end_model.specs.declared.moves.FirstUp.{FirstUp}
 use Rattle.end_model.specs.declared.moves.Move.TheVariants as move
 use Rattle.end_model.specs.declared.tunnel.Call.{Call}
-use Rattle.end_model.specs.Calls.{call_row, advanced}
+use Rattle.end_model.specs.Calls.{row_for, advanced}
 use Rattle.end_model.specs.Tunnels.{Tunnel}
 use Rattle.end_model.specs.Channels.{counts_taken}
 use Rattle.end_model.specs.Messages.{connection}
@@ -112,7 +112,7 @@ module _ (laws : Laws) (accs : Accounts) (ends : Ends) (w : World) (n : ℕ) (e 
   before : CallJoined w n i (accs n i).peer s was
   before = calls.live i t h.moved.does.there s was h.moved.does.asked
 
-  row : GoesOn e.role was.state (call_row e.role was.state call_event.IcrpAcc).0 WaitsReply Up
+  row : GoesOn e.role was.state (row_for e.role was call_event.IcrpAcc).0 WaitsReply Up
   row = first_row e.role was.state h.moved.does.row
 
   abbrev X : ℕ
@@ -177,7 +177,7 @@ module _ (laws : Laws) (accs : Accounts) (ends : Ends) (w : World) (n : ℕ) (e 
         calls = λ k q kfits qfits other. first_same w X Z own (name k q) (other_name k q n s qfits del.header other);
         here = rw (at_new t.calls s call) (
           call_joined,
-          fits_as x.role e.role call.state (call_row e.role was.state call_event.IcrpAcc).0 role_is
+          fits_as x.role e.role call.state (row_for e.role was call_event.IcrpAcc).0 role_is
               (advanced_state e.role call_event.IcrpAcc moment (record was { remote = m.remote })) row.fits,
           λ one. (let three = h.moved.does.open_is in absurd (omega (arith, one, three))),
         );

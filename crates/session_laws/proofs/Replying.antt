@@ -12,7 +12,7 @@ use Rattle.end_model.specs.declared.moves.Replied.{Replied}
 use Rattle.end_model.specs.declared.moves.Move.TheVariants as move
 use Rattle.end_model.specs.declared.tunnel.Call.{Call}
 use Rattle.end_names.specs.Names.{node_of}
-use Rattle.end_model.specs.Calls.{call_row, asked_for}
+use Rattle.end_model.specs.Calls.{row_of_none, asked_for}
 use Rattle.end_model.specs.Tunnels.{Tunnel}
 use Rattle.end_model.specs.Channels.{counts_taken}
 use Rattle.end_model.specs.End.{End}
@@ -222,7 +222,7 @@ module _ (laws : Laws) (accs : Accounts) (ends : Ends) (w : World) (n : ℕ) (e 
         calls = λ k q kfits qfits other. reply_same w X Z own (name k q) (other_name k q n s qfits fits other);
         here = rw (at_new t.calls s call) (
           call_joined,
-          fits_as x.role e.role call.state (call_row e.role call_state.Idle call_event.IcrqAcc).0 role_is (asked_state e.role m.remote moment)
+          fits_as x.role e.role call.state (row_of_none e.role call_event.IcrqAcc).0 role_is (asked_state e.role m.remote moment)
               (reply_row e.role h.moved.does.row).fits,
           λ one. (let three = h.moved.does.open_is in absurd (omega (arith, one, three))),
         );

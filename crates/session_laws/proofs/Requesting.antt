@@ -8,7 +8,7 @@ use Rattle.end_model.specs.declared.moves.Requested.{Requested}
 use Rattle.end_model.specs.declared.moves.Move.TheVariants as move
 use Rattle.end_model.specs.declared.tunnel.Call.{Call}
 use Rattle.end_names.specs.declared.role.Role.{Role}
-use Rattle.end_model.specs.Calls.{call_row, advanced}
+use Rattle.end_model.specs.Calls.{row_for, advanced}
 use Rattle.end_model.specs.Tunnels.{Tunnel}
 use Rattle.end_model.specs.Messages.{request_of}
 use Rattle.end_model.specs.End.{End}
@@ -113,7 +113,7 @@ module _ (laws : Laws) (accs : Accounts) (ends : Ends) (w : World) (n : ℕ) (e 
   call : CallJoined w n i (accs n i).peer s c
   call = old.live i t h.moved.does.there s c h.moved.does.waits
 
-  on : GoesOn e.role c.state (call_row e.role c.state TunnelOpen).0 Waits WaitsReply
+  on : GoesOn e.role c.state (row_for e.role c TunnelOpen).0 Waits WaitsReply
   on = request_row e.role c.state h.moved.does.row
 
   speaks : Speaks w v X (Request Z ∷ []) 0
@@ -136,7 +136,7 @@ module _ (laws : Laws) (accs : Accounts) (ends : Ends) (w : World) (n : ℕ) (e 
   role : x.role ≡ e.role
   role = ap (λ (y : End). y.role) h.moved.does.after
 
-  state : b.state ≡ (call_row e.role c.state TunnelOpen).0
+  state : b.state ≡ (row_for e.role c TunnelOpen).0
   state = advanced_state e.role TunnelOpen moment c
 
   joined : CallJoined v n i (after accs d n i).peer s b

@@ -45,7 +45,7 @@ use Rattle.end_names.specs.declared.role.Role.TheVariants.{Lac, Lns}
 use Rattle.end_model.specs.declared.out.Out.TheVariants.{Cause}
 use Rattle.session_looks.specs.Frames.{header_why}
 use Rattle.end_model.specs.Reading.{body_of, message_in, CallFault, call_fault_in, TunnelFault, tunnel_fault_in}
-use Rattle.end_model.specs.Calls.{call_row, advanced, rung, asked_for, is_request, is_connection, is_up, are_too_many, is_clean_up, is_short, is_long}
+use Rattle.end_model.specs.Calls.{call_row, row_for, row_of_none, advanced, rung, asked_for, is_request, is_connection, is_up, are_too_many, is_clean_up, is_short, is_long}
 use Rattle.end_model.specs.Stopping.{rejects, rejected, shut, shuts, closed_told, closes_tunnel, closed_by, shuts_by}
 use Rattle.end_model.specs.Messages.{connected_reason, connected_event, event_by, opening_reason}
 use Rattle.end_model.specs.Tunnels.{Turn}
@@ -77,7 +77,7 @@ use Rattle.step_laws.proofs.Shutting.{all_ended_is, none_left}
 -- a call isn't asked for yet, and is to be as soon as its tunnel is open
 pub record Waits (role : Role) (s : ℕ) (c : Call) : Type 0 where
   pub small : s < 65536
-  pub row : is_request (call_row role c.state call_event.TunnelOpen).1 ≡ true
+  pub row : is_request (row_for role c call_event.TunnelOpen).1 ≡ true
 
 -- one in another state doesn't
 other_state : (s n : CallState) → s ≡ n → (n ≡ call.WaitTunnel → ⊥) → s ≡ call.WaitTunnel → ⊥
@@ -227,7 +227,7 @@ module _ (role : Role) (calls : List (ℕ × Call)) where
         past = λ c there waits. absurd ((found k c there waits).0 refl);
       }
 
-  requested_ok : (k : Config) (s : ℕ) (c : Call) (t : Turn) → is_request (call_row role c.state call_event.TunnelOpen).1 ≡ true
+  requested_ok : (k : Config) (s : ℕ) (c : Call) (t : Turn) → is_request (row_for role c call_event.TunnelOpen).1 ≡ true
       → Requested s t (requested role k s c t)
   unfolding requested gives_as with_change with_move with_call advanced
   requested_ok k s c t row = put_leads t (requested role k s c t) s (advanced role call_event.TunnelOpen t.on.moment c) refl (λ f. more_full t.control f)
@@ -244,7 +244,7 @@ module _ (role : Role) (calls : List (ℕ × Call)) where
   requests_ok : (k : Config) (s : ℕ) (c : Call) (t : Turn) → OnlyThat s c t → Requested s t (requests role k s c t)
   unfolding requests
   requests_ok k s c t only =
-      branch (Requested s t) (is_request (call_row role c.state call_event.TunnelOpen).1) _ _
+      branch (Requested s t) (is_request (row_for role c call_event.TunnelOpen).1) _ _
       (λ row. branch (Requested s t) (has_room t.control) _ _ (λ may. requested_ok k s c t row) (λ full. full_ok s t full))
       (λ none. record {
         leads = leads_nowhere t;
@@ -386,7 +386,7 @@ module _ (role : Role) (calls : List (ℕ × Call)) where
   unfolding replies
   replies_asked remote s t b = branch Asked (has_room t.control) _ _ (λ may. replied_asked remote s t b) (λ full. dropped why.Queue t b)
 
-  first_up_asked : (s remote : ℕ) (c : Call) (t : Turn) → is_connection (call_row role c.state call_event.IcrpAcc).1 ≡ true → Begins t
+  first_up_asked : (s remote : ℕ) (c : Call) (t : Turn) → is_connection (row_for role c call_event.IcrpAcc).1 ≡ true → Begins t
       → Asked (first_up role s remote c t)
   unfolding first_up gives with_change with_move with_call takes_one advanced
   first_up_asked s remote c t row b =
@@ -398,7 +398,7 @@ module _ (role : Role) (calls : List (ℕ × Call)) where
   second_up_asked s d t up b =
       puts t (second_up s d t) s d refl refl (other_state d.state call.Established (up_state d.state up) (λ k. absurd cc)) b
 
-  linked_up_asked : (s : ℕ) (c : Call) (t : Turn) → is_up (call_row role c.state call_event.IccnAcc).0 ≡ true → Begins t → Asked (linked_up role s c t)
+  linked_up_asked : (s : ℕ) (c : Call) (t : Turn) → is_up (row_for role c call_event.IccnAcc).0 ≡ true → Begins t → Asked (linked_up role s c t)
   unfolding linked_up connects_call advanced
   linked_up_asked s c t row b =
       let d = with_link (new_link t.on.block) (advanced role call_event.IccnAcc t.on.moment c) in
@@ -465,7 +465,7 @@ module _ (role : Role) (calls : List (ℕ × Call)) where
         by : (o : Option Call) → Asked (closes role for on result s o t)
         by None = dropped why.Call t b
         by (Some c) =
-            branch Asked (nat_lt s 65536) _ _ (λ small. ends_by_asked for result None s c (call_row role c.state on).1 t b) (λ big. same t t refl refl b)
+            branch Asked (nat_lt s 65536) _ _ (λ small. ends_by_asked for result None s c (row_for role c on).1 t b) (λ big. same t t refl refl b)
 
     -- ---- letters about a call that there is
 
@@ -476,25 +476,25 @@ module _ (role : Role) (calls : List (ℕ × Call)) where
 
     asked_by_asked : (s remote : ℕ) (g : Result ℕ Reason) (o : Option Call) (t : Turn) → Begins t → Asked (asked_by role s remote g o t)
     unfolding asked_by
-    asked_by_asked s remote g (Some c) t b = answers_asked out_of_state s c (call_row role c.state call_event.IcrqAcc).1 t b
+    asked_by_asked s remote g (Some c) t b = answers_asked out_of_state s c (row_for role c call_event.IcrqAcc).1 t b
     asked_by_asked s remote (Ok drawn) None t b = replies_asked remote drawn t b
     asked_by_asked s remote (Err r) None t b = refuses_asked r remote t b
 
     first_up_by_asked : (s remote : ℕ) (o : Option Call) (t : Turn) → Begins t → Asked (first_up_by role s remote o t)
     unfolding first_up_by
-    first_up_by_asked s remote None t b = no_call_asked out_of_state remote (call_row role call.Idle call_event.IcrpAcc).1 t b
+    first_up_by_asked s remote None t b = no_call_asked out_of_state remote (row_of_none role call_event.IcrpAcc).1 t b
     first_up_by_asked s remote (Some c) t b =
-        branch Asked (is_connection (call_row role c.state call_event.IcrpAcc).1) _ _
+        branch Asked (is_connection (row_for role c call_event.IcrpAcc).1) _ _
         (λ row. branch Asked (has_room t.control) _ _ (λ may. first_up_asked s remote c t row b) (λ full. dropped why.Queue t b))
-        (λ none. answers_asked out_of_state s c (call_row role c.state call_event.IcrpAcc).1 t b)
+        (λ none. answers_asked out_of_state s c (row_for role c call_event.IcrpAcc).1 t b)
 
     second_up_by_asked : (s : ℕ) (o : Option Call) (t : Turn) → Begins t → Asked (second_up_by role s o t)
     unfolding second_up_by
-    second_up_by_asked s None t b = no_call_asked out_of_state 0 (call_row role call.Idle call_event.IccnAcc).1 t b
+    second_up_by_asked s None t b = no_call_asked out_of_state 0 (row_of_none role call_event.IccnAcc).1 t b
     second_up_by_asked s (Some c) t b =
-        branch Asked (is_up (call_row role c.state call_event.IccnAcc).0) _ _
+        branch Asked (is_up (row_for role c call_event.IccnAcc).0) _ _
         (λ row. linked_up_asked s c t row b)
-        (λ none. answers_asked out_of_state s c (call_row role c.state call_event.IccnAcc).1 t b)
+        (λ none. answers_asked out_of_state s c (row_for role c call_event.IccnAcc).1 t b)
 
     end_heard_asked : (k : ℕ) (t : Turn) → Begins t → Asked (end_heard k t)
     unfolding end_heard ends_call with_output with_change with_move takes_one
@@ -502,9 +502,9 @@ module _ (role : Role) (calls : List (ℕ × Call)) where
 
     end_heard_by_asked : (s : ℕ) (o : Option Call) (t : Turn) → Begins t → Asked (end_heard_by role s o t)
     unfolding end_heard_by
-    end_heard_by_asked s None t b = no_call_asked out_of_state 0 (call_row role call.Idle call_event.CdnCame).1 t b
+    end_heard_by_asked s None t b = no_call_asked out_of_state 0 (row_of_none role call_event.CdnCame).1 t b
     end_heard_by_asked s (Some c) t b =
-        branch Asked (is_clean_up (call_row role c.state call_event.CdnCame).1) _ _ (λ row. end_heard_asked s t b) (λ none. plain t b)
+        branch Asked (is_clean_up (row_for role c call_event.CdnCame).1) _ _ (λ row. end_heard_asked s t b) (λ none. plain t b)
 
     about_asked : (session : ℕ) (m : Message) (t : Turn) → Begins t → Asked (about_call role calls session m t)
     unfolding about_call ends_named
@@ -537,7 +537,7 @@ module _ (role : Role) (calls : List (ℕ × Call)) where
         → Asked (faulty_at role r s remote on none o t)
     unfolding faulty_at
     faulty_at_asked r s remote on none None t b = no_call_asked r remote none t b
-    faulty_at_asked r s remote on none (Some c) t b = answers_asked r s c (call_row role c.state on).1 t b
+    faulty_at_asked r s remote on none (Some c) t b = answers_asked r s c (row_for role c on).1 t b
 
     faulty_asked : (session : ℕ) (k : Kind) (c : CauseOf) (told : Option ℕ) (t : Turn) → Begins t → Asked (faulty role calls session k c told t)
     unfolding faulty

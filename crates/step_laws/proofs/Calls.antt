@@ -22,7 +22,7 @@ use Rattle.end_names.specs.declared.role.Role.TheVariants.{Lac, Lns}
 use Rattle.end_model.specs.declared.event.Event.{Event}
 use Rattle.end_model.specs.declared.moves.Refused.{Refused}
 use Rattle.end_model.specs.Reading.{message_in, call_fault_in}
-use Rattle.end_model.specs.Calls.{call_row, is_reply, is_connection, is_up, is_told, are_too_many, is_clean_up}
+use Rattle.end_model.specs.Calls.{call_row, row_for, row_of_none, is_reply, is_connection, is_up, is_told, are_too_many, is_clean_up}
 use Rattle.end_model.specs.Tunnels.{Tunnel, Turn}
 use Rattle.end_model.specs.Reasons.{Reason, reason, out_of_state}
 use Rattle.end_model.specs.Events.{tunnel_after, with_calls}
@@ -76,18 +76,18 @@ not_open x u session Sli about closed = absurd about
 -- ---- rows of a call that there isn't
 
 -- the end that is asked for calls tells of a reply
-told_of_reply : (r : Role) → (call_row r call.Idle call_event.IcrpAcc).1 ≡ call_action.SendCdn → r ≡ Lns
+told_of_reply : (r : Role) → (row_of_none r call_event.IcrpAcc).1 ≡ call_action.SendCdn → r ≡ Lns
 unfolding call_row
 told_of_reply Lac h = absurd cc
 told_of_reply Lns h = refl
 
 -- none tells of a connection, or of an end
-untold_of_connection : (r : Role) → (call_row r call.Idle call_event.IccnAcc).1 ≡ call_action.SendCdn → ⊥
+untold_of_connection : (r : Role) → (row_of_none r call_event.IccnAcc).1 ≡ call_action.SendCdn → ⊥
 unfolding call_row
 untold_of_connection Lac h = absurd cc
 untold_of_connection Lns h = absurd cc
 
-pub untold_of_end : (r : Role) → (call_row r call.Idle call_event.CdnCame).1 ≡ call_action.SendCdn → ⊥
+pub untold_of_end : (r : Role) → (row_of_none r call_event.CdnCame).1 ≡ call_action.SendCdn → ⊥
 unfolding call_row
 untold_of_end Lac h = absurd cc
 untold_of_end Lns h = absurd cc
@@ -97,9 +97,9 @@ untold_of_end Lns h = absurd cc
 granted_is : (r : Role) (cs : List (ℕ × Call)) (remote : ℕ) (sessions : Space) (s : ℕ) → granted r cs remote sessions ≡ Ok s → IsGranted r cs sessions s
 unfolding granted
 granted_is r cs remote sessions s h =
-    by (is_reply (call_row r call.Idle call_event.IcrqAcc).1) (remote == 0 || is_some (call_of cs remote)) (are_too_many cs) (draws sessions) refl refl refl h
+    by (is_reply (row_of_none r call_event.IcrqAcc).1) (remote == 0 || is_some (call_of cs remote)) (are_too_many cs) (draws sessions) refl refl refl h
   where
-    by : (a b c : Bool) (d : Result ℕ IdError) → is_reply (call_row r call.Idle call_event.IcrqAcc).1 ≡ a → are_too_many cs ≡ c → draws sessions ≡ d
+    by : (a b c : Bool) (d : Result ℕ IdError) → is_reply (row_of_none r call_event.IcrqAcc).1 ≡ a → are_too_many cs ≡ c → draws sessions ≡ d
         → cond (not a) (Err out_of_state) (cond b (Err (reason cause.Session 2 (Some 5))) (cond c (Err (reason cause.Calls 4 None)) (left_of d))) ≡ Ok s
         → IsGranted r cs sessions s
     by false b c d row many drawn e = absurd cc
@@ -127,14 +127,14 @@ module _ (e : End) (moment : ℕ) (ev : Event) (letters : List Letter) (calls : 
   -- a call that there is does what its table says
   pub answers_ok : (r : Reason) (s : ℕ) (c : Call) (on : CallEvent) (t : Turn) → Taking e moment ev letters calls i t → at calls s ≡ Some c
       → PlainAt e moment ev letters calls i t → Ends e moment ev letters calls i (takes_plain t) s c on r.result r.error
-      → (is_told (call_row e.role c.state on).1 ≡ true → Stands e moment ev r.cause) → Good (answers_by r s c (call_row e.role c.state on).1 t)
+      → (is_told (row_for e.role c on).1 ≡ true → Stands e moment ev r.cause) → Good (answers_by r s c (row_for e.role c on).1 t)
   unfolding answers_by takes_plain with_move takes_one
   answers_ok r s c on t f found comes why so =
       branch Good (nat_lt s 65536) _ _
       (λ small. (ends_leave e moment ev letters calls i r.cause s c on r.result r.error (takes_plain t)
       (at_first e moment ev letters calls i t f.fresh s (Some c) found) why (ltb-true s 65536 small)
       (λ told. (spare_told t.control (with_calls t.changed calls) s c (spare_first e moment ev letters calls i t f), so told))
-      (call_row e.role c.state on).1 refl (plainly t f comes)).ok)
+      (row_for e.role c on).1 refl (plainly t f comes)).ok)
       (λ big. plainly t f comes)
 
   -- why there is no call, of each move that says so
@@ -228,7 +228,7 @@ module _ (e : End) (moment : ℕ) (ev : Event) (letters : List Letter) (calls : 
   unfolding first_up_by takes_plain with_move takes_one
   first_up_by_ok session remote t f is_open hears None is =
       let none = no_call e moment ev letters calls i t f.fresh session is in
-      none_ok out_of_state remote (call_row e.role call.Idle call_event.IcrpAcc).1 t f
+      none_ok out_of_state remote (row_of_none e.role call_event.IcrpAcc).1 t f
       (comes_at e moment ev letters calls i t f session (Icrp remote) (λ o d found. absurd (none d found)) hears)
       (λ told. refuses_ok out_of_state (inl (
         begun e moment ev letters calls i t f.fresh,
@@ -238,14 +238,14 @@ module _ (e : End) (moment : ℕ) (ev : Event) (letters : List Letter) (calls : 
       (ap (λ q. at (with_calls t.changed calls) q) hears.says.session_is ∙ at_first e moment ev letters calls i t f.fresh session None is)
       (told_of_reply e.role told) to result error))
   first_up_by_ok session remote t f is_open hears (Some c) is =
-      branch Good (is_connection (call_row e.role c.state call_event.IcrpAcc).1) _ _
+      branch Good (is_connection (row_for e.role c call_event.IcrpAcc).1) _ _
       (λ row. branch Good (has_room t.control) _ _
       (λ room. sent_none _ (first_up_ok e moment ev letters calls i session remote c t is_open (at_first e moment ev letters calls i t f.fresh session (Some c) is) hears row
       (spare_first e moment ev letters calls i t f) room f.fresh.good))
       (λ full. absurd (full_not t f full)))
       (λ none. answers_ok out_of_state session c call_event.IcrpAcc t f is
       (comes_at e moment ev letters calls i t f session (Icrp remote)
-      (λ o. that_call e moment ev letters calls i (λ (k : Call). is_connection (call_row e.role k.state call_event.IcrpAcc).1 ≡ false) t f.fresh session c is none) hears)
+      (λ o. that_call e moment ev letters calls i (λ (k : Call). is_connection (row_for e.role k call_event.IcrpAcc).1 ≡ false) t f.fresh session c is none) hears)
       (IsReplied remote (heard_in ev (now e moment ev letters calls i t) _ session (Icrp remote) refl refl refl hears) refl refl refl)
       (λ told. inl (
         begun e moment ev letters calls i t f.fresh,
@@ -259,17 +259,17 @@ module _ (e : End) (moment : ℕ) (ev : Event) (letters : List Letter) (calls : 
   unfolding second_up_by takes_plain with_move takes_one
   second_up_by_ok session speed framing sequenced t f is_open hears None is =
       let none = no_call e moment ev letters calls i t f.fresh session is in
-      none_ok out_of_state 0 (call_row e.role call.Idle call_event.IccnAcc).1 t f
+      none_ok out_of_state 0 (row_of_none e.role call_event.IccnAcc).1 t f
       (comes_at e moment ev letters calls i t f session (Iccn speed framing sequenced) (λ o d found. absurd (none d found)) hears)
       (λ told. absurd (untold_of_connection e.role told))
   second_up_by_ok session speed framing sequenced t f is_open hears (Some c) is =
-      branch Good (is_up (call_row e.role c.state call_event.IccnAcc).0) _ _
+      branch Good (is_up (row_for e.role c call_event.IccnAcc).0) _ _
       (λ row. linked_up_ok e moment ev letters calls i session c t row f.fresh.good.stays.4
       (sent_none _ (second_up_ok e moment ev letters calls i session speed framing (magic_of t.on.block) sequenced c t is_open
       (at_first e moment ev letters calls i t f.fresh session (Some c) is) hears row (spare_first e moment ev letters calls i t f) f.fresh.good)))
       (λ none. answers_ok out_of_state session c call_event.IccnAcc t f is
       (comes_at e moment ev letters calls i t f session (Iccn speed framing sequenced)
-      (λ o. that_call e moment ev letters calls i (λ (k : Call). is_up (call_row e.role k.state call_event.IccnAcc).0 ≡ false) t f.fresh session c is none) hears)
+      (λ o. that_call e moment ev letters calls i (λ (k : Call). is_up (row_for e.role k call_event.IccnAcc).0 ≡ false) t f.fresh session c is none) hears)
       (IsConnected speed framing sequenced (heard_in ev (now e moment ev letters calls i t) _ session (Iccn speed framing sequenced) refl refl refl hears) refl refl refl)
       (λ told. inl (
         begun e moment ev letters calls i t f.fresh,
@@ -279,7 +279,7 @@ module _ (e : End) (moment : ℕ) (ev : Event) (letters : List Letter) (calls : 
 
   -- no call with this session ends because its peer says so
   abbrev EndsNone : Turn → ℕ → Type 0
-  EndsNone t s = (d : Call) → at (with_calls t.changed calls) s ≡ Some d → is_clean_up (call_row e.role d.state call_event.CdnCame).1 ≡ false
+  EndsNone t s = (d : Call) → at (with_calls t.changed calls) s ≡ Some d → is_clean_up (row_for e.role d call_event.CdnCame).1 ≡ false
 
   end_heard_by_ok : (session remote code : ℕ) (error : Option ℕ) (s : ℕ) (t : Turn) → Taking e moment ev letters calls i t
       → s ≡ session_named calls session remote → state_number t.control.state ≡ 3 → HearsNext ev (now e moment ev letters calls i t) session (Cdn remote code error)
@@ -293,15 +293,15 @@ module _ (e : End) (moment : ℕ) (ev : Event) (letters : List Letter) (calls : 
       by : s ≡ session_named (with_calls t.changed calls) session remote → (EndsNone t s → PlainAt e moment ev letters calls i t) → (o : Option Call)
           → at calls s ≡ o → Good (end_heard_by e.role s o t)
       by named_now plain None is =
-          none_ok out_of_state 0 (call_row e.role call.Idle call_event.CdnCame).1 t f
+          none_ok out_of_state 0 (row_of_none e.role call_event.CdnCame).1 t f
           (plain (λ d found. absurd (no_call e moment ev letters calls i t f.fresh s is d found)))
           (λ told. absurd (untold_of_end e.role told))
       by named_now plain (Some c) is =
-          branch Good (is_clean_up (call_row e.role c.state call_event.CdnCame).1) _ _
+          branch Good (is_clean_up (row_for e.role c call_event.CdnCame).1) _ _
           (λ row. sent_none _ (end_heard_ok e moment ev letters calls i s session remote code error c t is_open
           (at_first e moment ev letters calls i t f.fresh s (Some c) is) hears named_now row (spare_first e moment ev letters calls i t f) f.fresh.good))
           (λ none. plainly t f (plain
-          (that_call e moment ev letters calls i (λ (k : Call). is_clean_up (call_row e.role k.state call_event.CdnCame).1 ≡ false) t f.fresh s c is none)))
+          (that_call e moment ev letters calls i (λ (k : Call). is_clean_up (row_for e.role k call_event.CdnCame).1 ≡ false) t f.fresh s c is none)))
 
   -- ---- all of them
 

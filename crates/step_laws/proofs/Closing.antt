@@ -16,7 +16,7 @@ use Rattle.session_looks.specs.declared.look.CellChange.TheVariants as cell
 use Rattle.end_model.specs.declared.event.Event.{Event}
 use Rattle.end_model.specs.declared.out.Out.TheVariants.{Gone, Cause}
 use Rattle.end_model.specs.declared.moves.Move.TheVariants as move
-use Rattle.end_model.specs.Calls.{call_row, is_told, is_clean_up}
+use Rattle.end_model.specs.Calls.{row_for, is_told, is_clean_up}
 use Rattle.end_model.specs.Tunnels.{Tunnel, Turn}
 use Rattle.end_model.specs.Turn.{with_output, with_move, with_change, ends_call}
 use Rattle.end_model.specs.Events.{with_calls, tunnel_after}
@@ -71,7 +71,7 @@ module _ (e : End) (moment : ℕ) (ev : Event) (letters : List Letter) (calls : 
   }
 
   silent_ok : (s : ℕ) (c : Call) (on : CallEvent) (result : ℕ) (error : Option ℕ) (t : Turn) → at (now t) s ≡ Some c → Ends t s c on result error
-      → is_clean_up (call_row e.role c.state on).1 ≡ true → Settled e moment ev letters calls i t → Settled e moment ev letters calls i (end_silent s t)
+      → is_clean_up (row_for e.role c on).1 ≡ true → Settled e moment ev letters calls i t → Settled e moment ev letters calls i (end_silent s t)
   unfolding end_silent ends_call with_output with_change with_move
   silent_ok s c on result error t found why row h =
       let m = move.EndSilent (record { tunnel = t.control.local; session = s }) in
@@ -108,7 +108,7 @@ module _ (e : End) (moment : ℕ) (ev : Event) (letters : List Letter) (calls : 
       }
 
   told_ok : (s : ℕ) (c : Call) (on : CallEvent) (result : ℕ) (error : Option ℕ) (t : Turn) → at (now t) s ≡ Some c → Ends t s c on result error
-      → is_told (call_row e.role c.state on).1 ≡ true → s < 65536 → MayTell t.control (now t) s c → has_room t.control ≡ true
+      → is_told (row_for e.role c on).1 ≡ true → s < 65536 → MayTell t.control (now t) s c → has_room t.control ≡ true
       → Settled e moment ev letters calls i t → Settled e moment ev letters calls i (end_told s c result error t)
   unfolding end_told gives ends_call with_output with_change with_move
   told_ok s c on result error t found why row small may room h =
@@ -167,7 +167,7 @@ module _ (e : End) (moment : ℕ) (ev : Event) (letters : List Letter) (calls : 
   silent_leaves s t ok = record { ok = ok; others = one_taken s t (end_silent s t) refl; added = refl; ids = refl }
 
   told_leaves : (for : CauseOf) (s : ℕ) (c : Call) (on : CallEvent) (result : ℕ) (error : Option ℕ) (t : Turn) → at (now t) s ≡ Some c
-      → Ends t s c on result error → is_told (call_row e.role c.state on).1 ≡ true → s < 65536 → MayTell t.control (now t) s c → has_room t.control ≡ true
+      → Ends t s c on result error → is_told (row_for e.role c on).1 ≡ true → s < 65536 → MayTell t.control (now t) s c → has_room t.control ≡ true
       → Stands e moment ev for → Settled e moment ev letters calls i t → Leaves s t (end_told s c result error (with_output (Cause for) t))
   unfolding end_told gives ends_call with_output with_change with_move
   told_leaves for s c on result error t found why row small may room so h =
@@ -181,8 +181,8 @@ module _ (e : End) (moment : ℕ) (ev : Event) (letters : List Letter) (calls : 
 
   -- by the action of the call's row
   pub ends_leave : (for : CauseOf) (s : ℕ) (c : Call) (on : CallEvent) (result : ℕ) (error : Option ℕ) (t : Turn) → at (now t) s ≡ Some c
-      → Ends t s c on result error → s < 65536 → (is_told (call_row e.role c.state on).1 ≡ true → MayTell t.control (now t) s c × Stands e moment ev for) → (a : CallAction)
-      → (call_row e.role c.state on).1 ≡ a → Settled e moment ev letters calls i t → Leaves s t (ends_by for result error s c a t)
+      → Ends t s c on result error → s < 65536 → (is_told (row_for e.role c on).1 ≡ true → MayTell t.control (now t) s c × Stands e moment ev for) → (a : CallAction)
+      → (row_for e.role c on).1 ≡ a → Settled e moment ev letters calls i t → Leaves s t (ends_by for result error s c a t)
   unfolding ends_by
   ends_leave for s c on result error t found why small may call_action.CleanUp is h =
       silent_leaves s t (silent_ok s c on result error t found why (ap is_clean_up is) h)

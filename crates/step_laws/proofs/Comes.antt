@@ -15,7 +15,7 @@ use Rattle.end_model.specs.declared.tunnel.Control.{Control}
 use Rattle.end_model.specs.declared.event.Event.{Event}
 use Rattle.end_model.specs.declared.event.Addressee.TheVariants.{Opens, Stops}
 use Rattle.end_model.specs.Reading.{message_read, pairs_read, message_in}
-use Rattle.end_model.specs.Calls.{call_row, is_told}
+use Rattle.end_model.specs.Calls.{row_for, is_told}
 use Rattle.end_model.specs.Tunnels.{Tunnel, Turn}
 use Rattle.end_model.specs.Moments.{is_closed}
 use Rattle.end_model.specs.Channels.{may_take}
@@ -155,6 +155,6 @@ module _ (e : End) (moment : ℕ) (ev : Event) (letters : List Letter) (calls : 
     came = hears_first t f session m hears;
   }
 
-  pub told_at : (t : Turn) (f : Fresh t) (s : ℕ) (c : Call) (on : CallEvent) → at calls s ≡ Some c → is_told (call_row e.role c.state on).1 ≡ true
+  pub told_at : (t : Turn) (f : Fresh t) (s : ℕ) (c : Call) (on : CallEvent) → at calls s ≡ Some c → is_told (row_for e.role c on).1 ≡ true
       → IsTold e (begun t f) s on
   told_at t f s c on found row = record { id = i; there = f.there; call = c; live = found; row = row }

@@ -40,7 +40,7 @@ use Rattle.end_model.specs.declared.out.Out.TheVariants.{Send, Up, Gone, Drop, C
 use Rattle.end_model.specs.declared.moves.Move.{Move}
 use Rattle.end_model.specs.declared.moves.Move.TheVariants as move
 use Rattle.end_model.specs.Reading.{body_of, message_in}
-use Rattle.end_model.specs.Calls.{call_row, is_up, is_told, owes, is_short, is_long}
+use Rattle.end_model.specs.Calls.{row_for, is_up, is_told, owes, is_short, is_long}
 use Rattle.end_model.specs.Tunnels.{Tunnel, Env, Turn, turn_of}
 use Rattle.end_model.specs.Reasons.{reason}
 use Rattle.end_model.specs.Moments.{is_closed}
@@ -283,7 +283,7 @@ module _ (e : End) (kept : AreKept e) (moment : ℕ) (ev : Event) where
 
       -- a call is closed by an event of its table
       closed_chain : (for : Cause) (on : CallEvent) (result s : ℕ) → ((c : Call) → WhyEnds (at_turn e moment ev t.letters t.calls i start) (tunnel_after start t.letters t.calls) ev moment s c on result None)
-          → ((c : Call) → is_told (call_row e.role c.state on).1 ≡ true → 1 ≤ owes c.state) → (IsTold e t s on → Stands e moment ev for)
+          → ((c : Call) → is_told (row_for e.role c on).1 ≡ true → 1 ≤ owes c.state) → (IsTold e t s on → Stands e moment ev for)
           → (o : Option Call) → at t.calls s ≡ o
           → leads (settles false t.letters (closes e.role for on result s o start))
       unfolding closes with_calls
@@ -297,7 +297,7 @@ module _ (e : End) (kept : AreKept e) (moment : ℕ) (ev : Event) where
           (λ told. (
             owes_told t.control t.calls s c found (owed c told) fits_first,
             stands (record { id = i; there = is; call = c; live = found; row = told }),
-          )) (call_row e.role c.state on).1 refl
+          )) (row_for e.role c on).1 refl
           (unsent e moment ev t.letters t.calls i start begins.good)).ok))
           (λ big. settled_leads _ (settles_ok e moment ev t.letters t.calls i false start begins.good))
 

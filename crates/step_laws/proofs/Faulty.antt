@@ -19,7 +19,7 @@ use Rattle.end_names.specs.declared.role.Role.{Role}
 use Rattle.end_names.specs.declared.role.Role.TheVariants.{Lac, Lns}
 use Rattle.end_model.specs.declared.event.Event.{Event}
 use Rattle.end_model.specs.Reading.{message_in, CallFault, call_fault_in}
-use Rattle.end_model.specs.Calls.{call_row}
+use Rattle.end_model.specs.Calls.{call_row, row_of_none}
 use Rattle.end_model.specs.Tunnels.{Turn}
 use Rattle.end_model.specs.Reasons.{fault_reason}
 use Rattle.end_model.specs.Sending.{takes_plain, takes_one, ignores}
@@ -39,7 +39,7 @@ use Rattle.step_laws.proofs.Closing.{Ends}
 use Rattle.step_laws.proofs.Calls.{untold_of_end, answers_ok, refuses_ok, none_ok}
 
 -- no end tells of a connection for a call that there isn't
-untold_of_connection : (r : Role) → (call_row r call.Idle call_event.IccnNotAcc).1 ≡ call_action.SendCdn → ⊥
+untold_of_connection : (r : Role) → (row_of_none r call_event.IccnNotAcc).1 ≡ call_action.SendCdn → ⊥
 unfolding call_row
 untold_of_connection Lac h = absurd cc
 untold_of_connection Lns h = absurd cc
@@ -115,14 +115,14 @@ module _ (e : End) (moment : ℕ) (ev : Event) (letters : List Letter) (calls : 
           (λ told. refuses_fault (unwrap_or g.session 0) refl) (at calls k.header.session) refl
       faulty_ok kind.Ocrq is = refuses_fault (unwrap_or g.session 0) refl
       faulty_ok kind.Icrp is =
-          faulty_at_ok k.header.session (unwrap_or g.session 0) call_event.IcrpNotAcc (call_row e.role call.Idle call_event.IcrpNotAcc).1
+          faulty_at_ok k.header.session (unwrap_or g.session 0) call_event.IcrpNotAcc (row_of_none e.role call_event.IcrpNotAcc).1
           (ap fault_event (sym is)) (λ told. refuses_fault (unwrap_or g.session 0) refl) (at calls k.header.session) refl
       faulty_ok kind.Iccn is =
-          faulty_at_ok k.header.session 0 call_event.IccnNotAcc (call_row e.role call.Idle call_event.IccnNotAcc).1
+          faulty_at_ok k.header.session 0 call_event.IccnNotAcc (row_of_none e.role call_event.IccnNotAcc).1
           (ap fault_event (sym is)) (λ told. absurd (untold_of_connection e.role told)) (at calls k.header.session) refl
       faulty_ok kind.Cdn is =
           let s = session_named calls k.header.session (unwrap_or g.session 0) in
-          faulty_at_ok s 0 call_event.Close (call_row e.role call.Idle call_event.CdnCame).1
+          faulty_at_ok s 0 call_event.Close (row_of_none e.role call_event.CdnCame).1
           (ap fault_event (sym is)) (λ told. absurd (untold_of_end e.role told)) (at calls s) refl
       faulty_ok kind.Wen is = closed_ok (ap fault_event (sym is))
       faulty_ok kind.Sli is = closed_ok (ap fault_event (sym is))

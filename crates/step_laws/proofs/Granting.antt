@@ -11,7 +11,7 @@ use Rattle.call_fsm.specs.declared.table.CallState.TheVariants as call
 use Rattle.end_model.specs.declared.event.Event.TheVariants.{Tick}
 use Rattle.end_names.specs.declared.role.Role.{Role}
 use Rattle.end_names.specs.declared.role.Role.TheVariants.{Lac, Lns}
-use Rattle.end_model.specs.Calls.{call_row, is_reply, are_too_many}
+use Rattle.end_model.specs.Calls.{call_row, row_of_none, is_reply, are_too_many}
 use Rattle.end_model.specs.Tunnels.{Tunnel}
 use Rattle.end_model.specs.Reasons.{Reason, reason, out_of_state}
 use Rattle.end_model.specs.Asking.{call_of, left_of, granted}
@@ -21,7 +21,7 @@ use Rattle.step_laws.proofs.States.{takes_none}
 use Rattle.step_laws.proofs.Tells.{in_use, free}
 
 -- an end that replies to requests is an LNS
-replies_as : (r : Role) → is_reply (call_row r call.Idle call_event.IcrqAcc).1 ≡ true → r ≡ Lns
+replies_as : (r : Role) → is_reply (row_of_none r call_event.IcrqAcc).1 ≡ true → r ≡ Lns
 unfolding call_row
 replies_as Lac row = absurd (true≢false (sym row))
 replies_as Lns row = refl
@@ -34,7 +34,7 @@ few_calls n h = grind (arith, nat_tests)
 
 module _ (e : End) (t : Tunnel) (remote : ℕ) where
   abbrev reply_row : Bool
-  reply_row = is_reply (call_row e.role call.Idle call_event.IcrqAcc).1
+  reply_row = is_reply (row_of_none e.role call_event.IcrqAcc).1
 
   abbrev used : Bool
   used = remote == 0 || is_some (call_of t.calls remote)

@@ -24,7 +24,7 @@ use Rattle.end_names.specs.declared.role.Role.{Role}
 use Rattle.lcp_end.specs.Laws.{Call as LcpCall, OnTick, after as lcp_after}
 use Rattle.lcp_end.specs.Steps.{is_due}
 use Rattle.end_model.specs.declared.event.Event.TheVariants.{Tick}
-use Rattle.end_model.specs.Calls.{call_row, is_set_up, is_up}
+use Rattle.end_model.specs.Calls.{row_for, is_set_up, is_up}
 use Rattle.end_model.specs.Tunnels.{Tunnel, Turn, turn_of}
 use Rattle.end_model.specs.Turn.{with_output, with_move, with_change, ends_call, drops}
 use Rattle.end_model.specs.Sending.{gives, sends_letter, sends_now, lets_go, goes_by, lets_all_go, repeats, acknowledges, outstanding, acknowledged_after, settles}
@@ -161,7 +161,7 @@ module _ (moment : ℕ) where
     unfolding links
     links_good s c l by t h =
         branch Good (lcp_after by l.lcp).out.finished _ _
-        (λ done. settled_good false letters _ (ends_good cause.Lcp 3 s c (call_row role c.state call_event.Close).1 t h))
+        (λ done. settled_good false letters _ (ends_good cause.Lcp 3 s c (row_for role c call_event.Close).1 t h))
         (λ no. subst Good (sym (negotiated_is s c l by t)) h)
 
     ticks_link_good : (s : ℕ) (c : Call) (o : Option Link) (t : Turn) → Good t → Good (ticks_link role letters s c o t)
@@ -175,7 +175,7 @@ module _ (moment : ℕ) where
     limits_at_good s None t h = h
     limits_at_good s (Some c) t h =
         branch Good (nat_lt s 65536 && is_set_up c.state && is_over patience t.on.moment c.since) _ _
-        (λ due. settled_good false letters _ (ends_good cause.Setup 10 s c (call_row role c.state call_event.Close).1 t h))
+        (λ due. settled_good false letters _ (ends_good cause.Setup 10 s c (row_for role c call_event.Close).1 t h))
         (λ early. ticks_link_good s c c.link t h)
 
     limits_all_good : (ss : List ℕ) (t : Turn) → Good t → Good (limits_all role letters ss calls t)

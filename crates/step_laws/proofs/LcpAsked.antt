@@ -10,7 +10,7 @@ use Rattle.lcp_end.specs.Laws.{Call as LcpCall, OnPacket, after as lcp_after}
 use Rattle.end_model.specs.declared.tunnel.Call.{Call}
 use Rattle.end_model.specs.declared.tunnel.Link.{Link}
 use Rattle.end_names.specs.declared.role.Role.{Role}
-use Rattle.end_model.specs.Calls.{call_row, is_up}
+use Rattle.end_model.specs.Calls.{row_for, is_up}
 use Rattle.end_model.specs.Tunnels.{Turn}
 use Rattle.end_model.specs.Closing.{ends_by}
 use Rattle.end_model.specs.Linking.{links, hears_link, hears_lcp}
@@ -23,7 +23,7 @@ module _ (role : Role) (calls : List (ℕ × Call)) (order : Ascends calls) (let
   unfolding links
   links_asked s c l by t up b =
       branch (Asked role calls) (lcp_after by l.lcp).out.finished _ _
-      (λ done. settled role calls false letters _ (ends_by_asked role calls order cause.Lcp 3 None s c (call_row role c.state call_event.Close).1 t b))
+      (λ done. settled role calls false letters _ (ends_by_asked role calls order cause.Lcp 3 None s c (row_for role c call_event.Close).1 t b))
       (λ no. negotiated_asked role calls s c l by t up (same role calls t t refl refl b))
 
   link_asked : (s : ℕ) (frame : List ℕ) (c : Call) (o : Option Link) (t : Turn) → is_up c.state ≡ true → Begins role calls t

@@ -15,7 +15,7 @@ use Rattle.end_model.specs.declared.tunnel.Link.{Link}
 use Rattle.end_model.specs.declared.event.Event.{Event}
 use Rattle.end_model.specs.declared.moves.FrameSent.{FrameSent}
 use Rattle.end_model.specs.declared.moves.Move.TheVariants as move
-use Rattle.end_model.specs.Calls.{call_row, advanced, is_up, is_told}
+use Rattle.end_model.specs.Calls.{row_for, advanced, is_up, is_told}
 use Rattle.end_model.specs.Links.{lcp_frame, magic_of, new_link, with_link, link_after, is_first_open, looks_of}
 use Rattle.end_model.specs.Tunnels.{Tunnel, Turn}
 use Rattle.end_model.specs.Turn.{with_output, with_move, with_call, with_looks_of, with_change}
@@ -213,16 +213,16 @@ module _ (e : End) (moment : ℕ) (ev : Event) (letters : List Letter) (calls : 
 
   -- where its LCP end is finished a call ends
   finished_leaves : (s : ℕ) (c : Call) (l : Link) (by : LcpCall) (t : Turn) → IsLinked s c l by t → s < 65536 → (after by l.lcp).out.finished ≡ true
-      → (is_told (call_row e.role c.state call_event.Close).1 ≡ true → Stands e moment ev cause.Lcp) → Settled e moment ev letters calls i t
-      → Leaves e moment ev letters calls i s t (settles false letters (ends_by cause.Lcp 3 None s c (call_row e.role c.state call_event.Close).1 t))
+      → (is_told (row_for e.role c call_event.Close).1 ≡ true → Stands e moment ev cause.Lcp) → Settled e moment ev letters calls i t
+      → Leaves e moment ev letters calls i s t (settles false letters (ends_by cause.Lcp 3 None s c (row_for e.role c call_event.Close).1 t))
   finished_leaves s c l by t k small done so h =
-      let u = ends_by cause.Lcp 3 None s c (call_row e.role c.state call_event.Close).1 t in
+      let u = ends_by cause.Lcp 3 None s c (row_for e.role c call_event.Close).1 t in
       let why : WhyEnds (at_turn e moment ev letters calls i t) (tunnel t) ev moment s c call_event.Close 3 None =
       IsFinished (record { calls = record { link = l; has = k.has; by = by; called = k.called }; finished = done }) refl refl refl in
       let one = up_owes c.state k.up in
       let left = ends_leave e moment ev letters calls i cause.Lcp s c call_event.Close 3 None t k.found why small
       (λ told. (owes_told t.control (now t) s c k.found (omega (arith, one)) h.fits, so told))
-      (call_row e.role c.state call_event.Close).1 refl h in
+      (row_for e.role c call_event.Close).1 refl h in
       let keeps = settled_keeps false letters u in
       record {
         ok = settled_ok e moment ev letters calls i false u left.ok;
@@ -232,7 +232,7 @@ module _ (e : End) (moment : ℕ) (ev : Event) (letters : List Letter) (calls : 
       }
 
   pub links_leave : (s : ℕ) (c : Call) (l : Link) (by : LcpCall) (t : Turn) → IsLinked s c l by t → s < 65536
-      → ((after by l.lcp).out.finished ≡ true → is_told (call_row e.role c.state call_event.Close).1 ≡ true → Stands e moment ev cause.Lcp)
+      → ((after by l.lcp).out.finished ≡ true → is_told (row_for e.role c call_event.Close).1 ≡ true → Stands e moment ev cause.Lcp)
       → Settled e moment ev letters calls i t → Leaves e moment ev letters calls i s t (links e.role letters s c l (after by l.lcp) t)
   unfolding links
   links_leave s c l by t k small so h =
@@ -247,7 +247,7 @@ module _ (e : End) (moment : ℕ) (ev : Event) (letters : List Letter) (calls : 
   unfolding second_up with_change with_move with_call takes_one
   connected_found s d t = ap (λ xs. at xs s) (with_calls-more t.changed s (Some d) calls) ∙ at_new (now t) s d
 
-  pub linked_up_ok : (s : ℕ) (c : Call) (t : Turn) → is_up (call_row e.role c.state call_event.IccnAcc).0 ≡ true → t.on.moment ≡ moment
+  pub linked_up_ok : (s : ℕ) (c : Call) (t : Turn) → is_up (row_for e.role c call_event.IccnAcc).0 ≡ true → t.on.moment ≡ moment
       → Settled e moment ev letters calls i (second_up s (connected_call e moment ev letters calls i (magic_of t.on.block) c t) t)
       → Settled e moment ev letters calls i (linked_up e.role s c t)
   unfolding linked_up connects_call advanced

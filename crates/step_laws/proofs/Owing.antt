@@ -17,7 +17,7 @@ use Rattle.end_model.specs.declared.tunnel.Control.{Control}
 use Rattle.end_names.specs.declared.role.Role.{Role}
 use Rattle.end_names.specs.declared.role.Role.TheVariants.{Lac, Lns}
 use Rattle.end_model.specs.Owing.{owed_at, owed-put, owed-put-most, owed-without, length-put, length-put-most, length-without}
-use Rattle.end_model.specs.Calls.{call_row, rung, asked_for, is_request, is_reply, is_connection, is_up, is_told, is_set_up, owes, owed_by, are_too_many}
+use Rattle.end_model.specs.Calls.{call_row, row_of_none, rung, asked_for, is_request, is_reply, is_connection, is_up, is_told, is_set_up, owes, owed_by, are_too_many}
 use Rattle.end_model.specs.Channels.{has_room, may_take, counts_given, counts_acked, learns_window}
 use Rattle.end_model.specs.Moments.{is_closed}
 use Rattle.end_model.specs.Stopping.{shut}
@@ -98,7 +98,7 @@ connected_owes r s h = let state = connected_state r s h in (ap owes state.0, ap
 pub up_owes : (s : CallState) → is_up s ≡ true → owes s ≡ 1
 up_owes s h = ap owes (up_state s h)
 
-pub replied_owes : (r : Role) (remote moment : ℕ) → is_reply (call_row r Idle call_event.IcrqAcc).1 ≡ true → owes (asked_for r remote moment).state ≡ 1
+pub replied_owes : (r : Role) (remote moment : ℕ) → is_reply (row_of_none r call_event.IcrqAcc).1 ≡ true → owes (asked_for r remote moment).state ≡ 1
 replied_owes r remote moment h = ap owes (replied_state r remote moment h)
 
 pub rung_owes : (r : Role) (who : List ℕ) (moment : ℕ) → r ≡ Lac → owes (rung r who moment).state ≡ 3

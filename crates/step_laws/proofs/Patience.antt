@@ -27,7 +27,7 @@ use Rattle.end_model.specs.declared.tunnel.Link.{Link}
 use Rattle.end_names.specs.declared.role.Role.{Role}
 use Rattle.end_model.specs.declared.moves.Move.TheVariants as move
 use Rattle.end_model.specs.declared.out.Out.TheVariants.{Cause}
-use Rattle.end_model.specs.Calls.{call_row, is_set_up, is_up, is_told, is_clean_up}
+use Rattle.end_model.specs.Calls.{row_for, is_set_up, is_up, is_told, is_clean_up}
 use Rattle.end_model.specs.Tunnels.{Ground, Turn}
 use Rattle.end_model.specs.Turn.{with_output, with_move, with_change, ends_call, drops}
 use Rattle.end_model.specs.Events.{with_calls}
@@ -49,7 +49,7 @@ pub record IsDue (role : Role) (moment s : ℕ) (c : Call) : Type 0 where
   pub small : s < 65536
   pub set_up : is_set_up c.state ≡ true
   pub over : is_over patience moment c.since ≡ true
-  pub ends : (is_clean_up (call_row role c.state call_event.Close).1 ≡ true) ⊎ (is_told (call_row role c.state call_event.Close).1 ≡ true)
+  pub ends : (is_clean_up (row_for role c call_event.Close).1 ≡ true) ⊎ (is_told (row_for role c call_event.Close).1 ≡ true)
 
 module _ (role : Role) (moment : ℕ) (calls : List (ℕ × Call)) where
   abbrev There : Turn → ℕ → Call → Type 0
@@ -152,7 +152,7 @@ module _ (role : Role) (moment : ℕ) (calls : List (ℕ × Call)) where
 
   module _ (letters : List Letter) where
     -- it doesn't end by its table
-    kept : (s : ℕ) (c : Call) (t : Turn) (a : CallAction) → Ticked t → at calls s ≡ Some c → (call_row role c.state call_event.Close).1 ≡ a
+    kept : (s : ℕ) (c : Call) (t : Turn) (a : CallAction) → Ticked t → at calls s ≡ Some c → (row_for role c call_event.Close).1 ≡ a
         → (is_clean_up a ≡ true → ⊥) → (is_told a ≡ true → ⊥) → Limited s t t
     kept s c t a h is row clean told = record {
       leads = leads_nowhere t h;
@@ -161,7 +161,7 @@ module _ (role : Role) (moment : ℕ) (calls : List (ℕ × Call)) where
           absurd (⊎_elim (λ e. clean (ap is_clean_up (sym row) ∙ e)) (λ e. told (ap is_told (sym row) ∙ e)) same.ends);
     }
 
-    limited_by : (s : ℕ) (c : Call) (t : Turn) → Ticked t → at calls s ≡ Some c → (a : CallAction) → (call_row role c.state call_event.Close).1 ≡ a
+    limited_by : (s : ℕ) (c : Call) (t : Turn) → Ticked t → at calls s ≡ Some c → (a : CallAction) → (row_for role c call_event.Close).1 ≡ a
         → Limited s t (ends_by cause.Setup 10 None s c a t)
     unfolding ends_by drops with_output
     limited_by s c t h is call_action.CleanUp row = ended s t (end_silent s t) (silent s t h)
@@ -177,11 +177,11 @@ module _ (role : Role) (moment : ℕ) (calls : List (ℕ × Call)) where
 
     -- then letters go
     limited : (s : ℕ) (c : Call) (t : Turn) → Ticked t → at calls s ≡ Some c
-        → Limited s t (settles false letters (ends_by cause.Setup 10 None s c (call_row role c.state call_event.Close).1 t))
+        → Limited s t (settles false letters (ends_by cause.Setup 10 None s c (row_for role c call_event.Close).1 t))
     limited s c t h is =
-        let u = ends_by cause.Setup 10 None s c (call_row role c.state call_event.Close).1 t in
+        let u = ends_by cause.Setup 10 None s c (row_for role c call_event.Close).1 t in
         let v = settles false letters u in
-        let l = limited_by s c t h is (call_row role c.state call_event.Close).1 refl in
+        let l = limited_by s c t h is (row_for role c call_event.Close).1 refl in
         let g = keeps_leads u v (settled_keeps false letters u) l.leads.ok in
         record { leads = leads_on t u v l.leads g; past = past_on s u v g l.past }
 
@@ -218,10 +218,10 @@ module _ (role : Role) (moment : ℕ) (calls : List (ℕ × Call)) where
     finished_by s c t h call_action.DropSession = leads_nowhere t h
 
     finished : (s : ℕ) (c : Call) (t : Turn) → Ticked t
-        → Leads t (settles false letters (ends_by cause.Lcp 3 None s c (call_row role c.state call_event.Close).1 t))
+        → Leads t (settles false letters (ends_by cause.Lcp 3 None s c (row_for role c call_event.Close).1 t))
     finished s c t h =
-        let u = ends_by cause.Lcp 3 None s c (call_row role c.state call_event.Close).1 t in
-        let l = finished_by s c t h (call_row role c.state call_event.Close).1 in
+        let u = ends_by cause.Lcp 3 None s c (row_for role c call_event.Close).1 t in
+        let l = finished_by s c t h (row_for role c call_event.Close).1 in
         leads_on t u _ l (keeps_leads u _ (settled_keeps false letters u) l.ok)
 
     -- a call that is up is put, in the same state

@@ -49,7 +49,7 @@ use Rattle.end_model.specs.declared.moves.Move.{Move}
 use Rattle.end_model.specs.declared.moves.Move.TheVariants as move
 use Rattle.session_looks.specs.Frames.{header_why}
 use Rattle.end_model.specs.Reading.{body_of, message_in, CallFault, call_fault_in, TunnelFault, tunnel_fault_in}
-use Rattle.end_model.specs.Calls.{call_row, rung, is_set_up, is_request, is_connection, is_up, are_too_many, is_clean_up, is_short, is_long}
+use Rattle.end_model.specs.Calls.{row_for, row_of_none, rung, is_set_up, is_request, is_connection, is_up, are_too_many, is_clean_up, is_short, is_long}
 use Rattle.end_model.specs.Stopping.{rejects, rejected, shuts, closed_told, closes_tunnel, closed_by, shuts_by}
 use Rattle.end_model.specs.Messages.{connected_reason, connected_event, event_by, opening_reason}
 use Rattle.end_model.specs.Tunnels.{Turn}
@@ -250,7 +250,7 @@ module _ (most reads : ℕ) where
   requests_quiet : (role : Role) (k : Config) (s : ℕ) (c : Call) (t : Turn) → Quiet t → Quiet (requests role k s c t)
   unfolding requests
   requests_quiet role k s c t h =
-      branch Quiet (is_request (call_row role c.state call_event.TunnelOpen).1) _ _
+      branch Quiet (is_request (row_for role c call_event.TunnelOpen).1) _ _
       (λ row. branch Quiet (has_room t.control) _ _ (λ may. requested_quiet role k s c t h) (λ full. dropped why.Queue t h))
       (λ none. h)
 
@@ -397,7 +397,7 @@ module _ (most reads : ℕ) where
   unfolding closes
   closes_quiet role for on result s None t h = dropped why.Call t h
   closes_quiet role for on result s (Some c) t h =
-      branch Quiet (nat_lt s 65536) _ _ (λ small. ends_quiet for result None s c (call_row role c.state on).1 t h) (λ big. h)
+      branch Quiet (nat_lt s 65536) _ _ (λ small. ends_quiet for result None s c (row_for role c on).1 t h) (λ big. h)
 
   -- ---- answers
 
@@ -427,7 +427,7 @@ module _ (most reads : ℕ) where
 
   asked_quiet : (role : Role) (s remote : ℕ) (g : Result ℕ Reason) (o : Option Call) (t : Turn) → Quiet t → Quiet (asked_by role s remote g o t)
   unfolding asked_by replies
-  asked_quiet role s remote g (Some c) t h = answers_quiet out_of_state s c (call_row role c.state call_event.IcrqAcc).1 t h
+  asked_quiet role s remote g (Some c) t h = answers_quiet out_of_state s c (row_for role c call_event.IcrqAcc).1 t h
   asked_quiet role s remote (Ok drawn) None t h =
       branch Quiet (has_room t.control) _ _ (λ may. replied_quiet role remote drawn t h) (λ full. dropped why.Queue t h)
   asked_quiet role s remote (Err r) None t h = refuses_quiet r remote t h
@@ -438,11 +438,11 @@ module _ (most reads : ℕ) where
 
   first_up_by_quiet : (role : Role) (s remote : ℕ) (o : Option Call) (t : Turn) → Quiet t → Quiet (first_up_by role s remote o t)
   unfolding first_up_by
-  first_up_by_quiet role s remote None t h = no_call_quiet out_of_state remote (call_row role call.Idle call_event.IcrpAcc).1 t h
+  first_up_by_quiet role s remote None t h = no_call_quiet out_of_state remote (row_of_none role call_event.IcrpAcc).1 t h
   first_up_by_quiet role s remote (Some c) t h =
-      branch Quiet (is_connection (call_row role c.state call_event.IcrpAcc).1) _ _
+      branch Quiet (is_connection (row_for role c call_event.IcrpAcc).1) _ _
       (λ row. branch Quiet (has_room t.control) _ _ (λ may. first_up_quiet role s remote c t h) (λ full. dropped why.Queue t h))
-      (λ none. answers_quiet out_of_state s c (call_row role c.state call_event.IcrpAcc).1 t h)
+      (λ none. answers_quiet out_of_state s c (row_for role c call_event.IcrpAcc).1 t h)
 
   -- ---- LCP
 
@@ -463,7 +463,7 @@ module _ (most reads : ℕ) where
   unfolding links
   links_quiet role letters s c l v t h =
       branch Quiet v.out.finished _ _
-      (λ done. settled false letters _ (ends_quiet cause.Lcp 3 None s c (call_row role c.state call_event.Close).1 t h))
+      (λ done. settled false letters _ (ends_quiet cause.Lcp 3 None s c (row_for role c call_event.Close).1 t h))
       (λ no. negotiated_quiet s c l v t h)
 
   hears_link_quiet : (role : Role) (letters : List Letter) (s : ℕ) (frame : List ℕ) (c : Call) (o : Option Link) (t : Turn) → Quiet t
@@ -498,17 +498,17 @@ module _ (most reads : ℕ) where
 
   second_up_by_quiet : (role : Role) (s : ℕ) (o : Option Call) (t : Turn) → Quiet t → Quiet (second_up_by role s o t)
   unfolding second_up_by
-  second_up_by_quiet role s None t h = no_call_quiet out_of_state 0 (call_row role call.Idle call_event.IccnAcc).1 t h
+  second_up_by_quiet role s None t h = no_call_quiet out_of_state 0 (row_of_none role call_event.IccnAcc).1 t h
   second_up_by_quiet role s (Some c) t h =
-      branch Quiet (is_up (call_row role c.state call_event.IccnAcc).0) _ _
+      branch Quiet (is_up (row_for role c call_event.IccnAcc).0) _ _
       (λ row. linked_up_quiet role s c t h)
-      (λ none. answers_quiet out_of_state s c (call_row role c.state call_event.IccnAcc).1 t h)
+      (λ none. answers_quiet out_of_state s c (row_for role c call_event.IccnAcc).1 t h)
 
   end_heard_by_quiet : (role : Role) (s : ℕ) (o : Option Call) (t : Turn) → Quiet t → Quiet (end_heard_by role s o t)
   unfolding end_heard_by end_heard ends_call with_output with_change with_move takes_one
-  end_heard_by_quiet role s None t h = no_call_quiet out_of_state 0 (call_row role call.Idle call_event.CdnCame).1 t h
+  end_heard_by_quiet role s None t h = no_call_quiet out_of_state 0 (row_of_none role call_event.CdnCame).1 t h
   end_heard_by_quiet role s (Some c) t h =
-      branch Quiet (is_clean_up (call_row role c.state call_event.CdnCame).1) _ _
+      branch Quiet (is_clean_up (row_for role c call_event.CdnCame).1) _ _
       (λ row. did _ refl refl refl (told _ refl h))
       (λ none. plain_quiet t h)
 
@@ -543,7 +543,7 @@ module _ (most reads : ℕ) where
       → Quiet (faulty_at role r s remote on none o t)
   unfolding faulty_at
   faulty_at_quiet role r s remote on none None t h = no_call_quiet r remote none t h
-  faulty_at_quiet role r s remote on none (Some c) t h = answers_quiet r s c (call_row role c.state on).1 t h
+  faulty_at_quiet role r s remote on none (Some c) t h = answers_quiet r s c (row_for role c on).1 t h
 
   -- a WEN, an SLI, or a message that is about no call
   closed_quiet : (role : Role) (calls : List (ℕ × Call)) (session : ℕ) (c : Cause) (t : Turn) → Quiet t
@@ -557,12 +557,12 @@ module _ (most reads : ℕ) where
       faulty_at_quiet role (fault_reason c) session (unwrap_or said 0) call_event.IcrqNotAcc call_action.SendCdn (at calls session) t h
   faulty_quiet role calls session kind.Ocrq c said t h = refuses_quiet (fault_reason c) (unwrap_or said 0) t h
   faulty_quiet role calls session kind.Icrp c said t h =
-      faulty_at_quiet role (fault_reason c) session (unwrap_or said 0) call_event.IcrpNotAcc (call_row role call.Idle call_event.IcrpNotAcc).1 (at calls session) t h
+      faulty_at_quiet role (fault_reason c) session (unwrap_or said 0) call_event.IcrpNotAcc (row_of_none role call_event.IcrpNotAcc).1 (at calls session) t h
   faulty_quiet role calls session kind.Iccn c said t h =
-      faulty_at_quiet role (fault_reason c) session 0 call_event.IccnNotAcc (call_row role call.Idle call_event.IccnNotAcc).1 (at calls session) t h
+      faulty_at_quiet role (fault_reason c) session 0 call_event.IccnNotAcc (row_of_none role call_event.IccnNotAcc).1 (at calls session) t h
   faulty_quiet role calls session kind.Cdn c said t h =
       let s = session_named calls session (unwrap_or said 0) in
-      faulty_at_quiet role (fault_reason c) s 0 call_event.Close (call_row role call.Idle call_event.CdnCame).1 (at calls s) t h
+      faulty_at_quiet role (fault_reason c) s 0 call_event.Close (row_of_none role call_event.CdnCame).1 (at calls s) t h
   faulty_quiet role calls session kind.Wen c said t h = closed_quiet role calls session c t h
   faulty_quiet role calls session kind.Sli c said t h = closed_quiet role calls session c t h
   faulty_quiet role calls session kind.Sccrq c said t h = closed_quiet role calls session c t h
@@ -682,7 +682,7 @@ module _ (most reads : ℕ) where
   limits_at_quiet role letters s None t h = h
   limits_at_quiet role letters s (Some c) t h =
       branch Quiet (nat_lt s 65536 && is_set_up c.state && is_over patience t.on.moment c.since) _ _
-      (λ due. settled false letters _ (ends_quiet cause.Setup 10 None s c (call_row role c.state call_event.Close).1 t h))
+      (λ due. settled false letters _ (ends_quiet cause.Setup 10 None s c (row_for role c call_event.Close).1 t h))
       (λ no. ticks_link_quiet role letters s c c.link t h)
 
   limits_all_quiet : (role : Role) (letters : List Letter) (ss : List ℕ) (calls : List (ℕ × Call)) (t : Turn) → Quiet t

@@ -12,7 +12,7 @@ use Rattle.end_model.specs.declared.moves.Move.TheVariants as move
 use Rattle.end_model.specs.declared.tunnel.Call.{Call}
 use Rattle.end_names.specs.declared.role.Role.{Role}
 use Rattle.end_names.specs.declared.role.Role.TheVariants.{Lac, Lns}
-use Rattle.end_model.specs.Calls.{call_row, advanced, rung, asked_for, is_request, is_reply}
+use Rattle.end_model.specs.Calls.{call_row, row_for, row_of_none, advanced, rung, asked_for, is_request, is_reply}
 use Rattle.end_model.specs.Tunnels.{Tunnel}
 use Rattle.end_model.specs.End.{End, plain_step}
 use Rattle.step_laws.specs.Moves.{Does, Chain}
@@ -43,7 +43,7 @@ can_be_up Lns s h = rw h tt
 can_ring : (who : List ℕ) (moment : ℕ) → CanBe Lac (rung Lac who moment).state
 can_ring who moment = rw (rung_state Lac who moment refl) tt
 
-can_be_asked : (r : Role) (remote moment : ℕ) → is_reply (call_row r Idle IcrqAcc).1 ≡ true → CanBe r (asked_for r remote moment).state
+can_be_asked : (r : Role) (remote moment : ℕ) → is_reply (row_of_none r IcrqAcc).1 ≡ true → CanBe r (asked_for r remote moment).state
 unfolding asked_for advanced call_row
 can_be_asked Lac remote moment h = never h
 can_be_asked Lns remote moment h = tt
@@ -123,7 +123,7 @@ module _ (e : End) (whole : AreWhole e) where
       let calls = whole.calls m.tunnel h.tunnel h.there in
       puts x _ m.tunnel _ h.after refl refl refl
       (whole_put e.role h.tunnel.calls m.session _ (calls.sound m.session h.call h.made).0
-      (can_be_up e.role _ (up_state (call_row e.role h.call.state IccnAcc).0 h.row)) calls)
+      (can_be_up e.role _ (up_state (row_for e.role h.call IccnAcc).0 h.row)) calls)
   does_whole moment ev (move.Refused m) x h = puts x _ m.tunnel _ h.after refl refl refl (whole.calls m.tunnel h.tunnel h.there)
   does_whole moment ev (move.EndTold m) x h =
       puts x _ m.tunnel _ h.after refl refl refl (whole_without e.role h.tunnel.calls m.session (whole.calls m.tunnel h.tunnel h.there))

@@ -6,18 +6,18 @@ use Rattle.call_fsm.specs.declared.table.CallState.TheVariants.{Idle, WaitTunnel
 use Rattle.call_fsm.specs.declared.table.CallEvent.TheVariants as call_event
 use Rattle.end_names.specs.declared.role.Role.{Role}
 use Rattle.end_names.specs.declared.role.Role.TheVariants.{Lac, Lns}
-use Rattle.end_model.specs.Calls.{call_row, advanced, rung, asked_for, is_request, is_reply, is_connection, is_up}
+use Rattle.end_model.specs.Calls.{call_row, row_of_none, advanced, rung, asked_for, is_request, is_reply, is_connection, is_up}
 
 pub never : {X : Type 0} → false ≡ true → X
 never h = absurd (true≢false (sym h))
 
 -- a LAC replies to no request, and an LNS does
-pub takes_none : (r : Role) → is_reply (call_row r Idle call_event.IcrqAcc).1 ≡ false → r ≡ Lac
+pub takes_none : (r : Role) → is_reply (row_of_none r call_event.IcrqAcc).1 ≡ false → r ≡ Lac
 unfolding call_row
 takes_none Lac h = refl
 takes_none Lns h = absurd (true≢false h)
 
-pub none_taken : (r : Role) → r ≡ Lac → is_reply (call_row r Idle call_event.IcrqAcc).1 ≡ false
+pub none_taken : (r : Role) → r ≡ Lac → is_reply (row_of_none r call_event.IcrqAcc).1 ≡ false
 unfolding call_row
 none_taken Lac h = refl
 none_taken Lns h = absurd cc
@@ -37,7 +37,7 @@ requested_state Lns WaitReply h = never h
 requested_state Lns WaitConnect h = never h
 requested_state Lns Established h = never h
 
-pub replied_state : (r : Role) (remote moment : ℕ) → is_reply (call_row r Idle call_event.IcrqAcc).1 ≡ true → (asked_for r remote moment).state ≡ WaitConnect
+pub replied_state : (r : Role) (remote moment : ℕ) → is_reply (row_of_none r call_event.IcrqAcc).1 ≡ true → (asked_for r remote moment).state ≡ WaitConnect
 unfolding call_row asked_for advanced
 replied_state Lac remote moment h = never h
 replied_state Lns remote moment h = refl
@@ -95,7 +95,7 @@ connection_is_lac Lns WaitConnect h = never h
 connection_is_lac Lns Established h = never h
 
 -- one that is asked, or connected, is an LNS
-pub reply_is_lns : (r : Role) → is_reply (call_row r Idle call_event.IcrqAcc).1 ≡ true → r ≡ Lns
+pub reply_is_lns : (r : Role) → is_reply (row_of_none r call_event.IcrqAcc).1 ≡ true → r ≡ Lns
 unfolding call_row
 reply_is_lns Lac h = never h
 reply_is_lns Lns h = refl

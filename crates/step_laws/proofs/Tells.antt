@@ -29,7 +29,7 @@ use Rattle.end_model.specs.declared.out.Out.{Out}
 use Rattle.end_model.specs.declared.out.Out.TheVariants.{Send, Up, Gone, Drop, Cause}
 use Rattle.session_looks.specs.Frames.{header_why}
 use Rattle.end_model.specs.Reading.{message_read, pairs_read, message_in, CallFault, fault_cause, is_for_call, with_cause, fault_of_kind, fault_read, fault_of_pairs, call_fault_in}
-use Rattle.end_model.specs.Calls.{call_row, is_reply, are_too_many}
+use Rattle.end_model.specs.Calls.{row_of_none, is_reply, are_too_many}
 use Rattle.end_model.specs.Tunnels.{Tunnel}
 use Rattle.end_model.specs.Reasons.{Reason, reason, out_of_state}
 use Rattle.end_model.specs.Asking.{call_of, left_of, granted}
@@ -158,13 +158,13 @@ module _ (e : End) (moment : ℕ) (ev : Event) (t : Tunnel) where
   pub granted_stands : (remote : ℕ) → Asks e ev t remote → (r : Reason) → granted e.role t.calls remote e.session_ids ≡ Err r → Stands e moment ev r.cause
   unfolding granted
   granted_stands remote asks r h =
-      by (is_reply (call_row e.role call.Idle call_event.IcrqAcc).1) (remote == 0 || is_some (call_of t.calls remote)) (are_too_many t.calls)
+      by (is_reply (row_of_none e.role call_event.IcrqAcc).1) (remote == 0 || is_some (call_of t.calls remote)) (are_too_many t.calls)
       (draws e.session_ids) refl refl refl refl h
     where
       so : (q : Reason) → refusal q ≡ refusal r → Stands e moment ev q.cause → Stands e moment ev r.cause
       so q is stands = let same : q ≡ r = cc in subst (λ (x : Reason). Stands e moment ev x.cause) same stands
 
-      by : (a b c : Bool) (d : Result ℕ IdError) → is_reply (call_row e.role call.Idle call_event.IcrqAcc).1 ≡ a
+      by : (a b c : Bool) (d : Result ℕ IdError) → is_reply (row_of_none e.role call_event.IcrqAcc).1 ≡ a
           → (remote == 0 || is_some (call_of t.calls remote)) ≡ b → are_too_many t.calls ≡ c → draws e.session_ids ≡ d
           → cond (not a) (Err out_of_state) (cond b (Err (reason cause.Session 2 (Some 5))) (cond c (Err (reason cause.Calls 4 None)) (left_of d))) ≡ Err r
           → Stands e moment ev r.cause
@@ -180,13 +180,13 @@ module _ (e : End) (moment : ℕ) (ev : Event) (t : Tunnel) where
   pub granted_may : (remote s : ℕ) → granted e.role t.calls remote e.session_ids ≡ Ok s → MayBeGranted e t remote
   unfolding granted
   granted_may remote s h =
-      by (is_reply (call_row e.role call.Idle call_event.IcrqAcc).1) (remote == 0 || is_some (call_of t.calls remote)) (are_too_many t.calls)
+      by (is_reply (row_of_none e.role call_event.IcrqAcc).1) (remote == 0 || is_some (call_of t.calls remote)) (are_too_many t.calls)
       (draws e.session_ids) refl refl refl refl h
     where
       no_error : (n : ℕ) → draws e.session_ids ≡ Ok n → (x : IdError) → draws e.session_ids ≡ Err x → ⊥
       no_error n drawn x none = absurd cc
 
-      by : (a b c : Bool) (d : Result ℕ IdError) → is_reply (call_row e.role call.Idle call_event.IcrqAcc).1 ≡ a
+      by : (a b c : Bool) (d : Result ℕ IdError) → is_reply (row_of_none e.role call_event.IcrqAcc).1 ≡ a
           → (remote == 0 || is_some (call_of t.calls remote)) ≡ b → are_too_many t.calls ≡ c → draws e.session_ids ≡ d
           → cond (not a) (Err out_of_state) (cond b (Err (reason cause.Session 2 (Some 5))) (cond c (Err (reason cause.Calls 4 None)) (left_of d))) ≡ Ok s
           → MayBeGranted e t remote

@@ -21,7 +21,7 @@ use Rattle.end_model.specs.declared.tunnel.Control.{Control}
 use Rattle.end_model.specs.declared.tunnel.Link.{Link}
 use Rattle.end_model.specs.declared.event.Event.TheVariants.{Tick}
 use Rattle.end_model.specs.declared.moves.Move.TheVariants as move
-use Rattle.end_model.specs.Calls.{call_row, is_set_up, is_up}
+use Rattle.end_model.specs.Calls.{row_for, is_set_up, is_up}
 use Rattle.end_model.specs.Tunnels.{Tunnel, Turn}
 use Rattle.end_model.specs.Turn.{with_output, with_move}
 use Rattle.end_model.specs.Events.{with_calls, tunnel_after}
@@ -238,15 +238,15 @@ module _ (e : End) (moment : ℕ) (letters : List Letter) (calls : List (ℕ × 
     begun = record { control = first; letters = letters; calls = calls }
 
     limited : (s : ℕ) (c : Call) (t : Turn) → at calls s ≡ Some c → at (with_calls t.changed calls) s ≡ Some c → TookTooLong Tick moment c → is_set_up c.state ≡ true → s < 65536 → Ticking t
-        → Limited s t (settles false letters (ends_by cause.Setup 10 None s c (call_row e.role c.state call_event.Close).1 t))
+        → Limited s t (settles false letters (ends_by cause.Setup 10 None s c (row_for e.role c call_event.Close).1 t))
     limited s c t live found late set_up small h =
-        let u = ends_by cause.Setup 10 None s c (call_row e.role c.state call_event.Close).1 t in
+        let u = ends_by cause.Setup 10 None s c (row_for e.role c call_event.Close).1 t in
         let l = ends_leave e moment Tick letters calls i cause.Setup s c call_event.Close 10 None t found (IsLate late refl refl refl) small
         (λ told. (
           owes_told t.control (with_calls t.changed calls) s c found (some_owed c.state set_up) h.settled.fits,
           record { id = i; tunnel = begun; there = is_there; session = s; call = c; live = live; late = late; row = told },
         ))
-        (call_row e.role c.state call_event.Close).1 refl h.settled in
+        (row_for e.role c call_event.Close).1 refl h.settled in
         record {
           ok = settling_ok u (record { settled = l.ok; none = record { ids = l.ids ∙ h.none.ids; added = l.added ∙ h.none.added } });
           others = λ q o. ap (λ xs. at (with_calls xs calls) q) (settled_keeps false letters u).changed ∙ l.others q o;

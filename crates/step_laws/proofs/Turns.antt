@@ -35,7 +35,7 @@ use Rattle.end_model.specs.declared.out.Out.TheVariants.{Send, Up, Gone, Drop, C
 use Rattle.end_model.specs.declared.moves.Move.{Move}
 use Rattle.end_model.specs.declared.moves.Move.TheVariants as move
 use Rattle.end_model.specs.Reading.{message_in, call_fault_in}
-use Rattle.end_model.specs.Calls.{call_row, advanced, rung, asked_for, is_request, is_reply, is_connection, is_up, are_too_many, is_clean_up}
+use Rattle.end_model.specs.Calls.{call_row, row_for, row_of_none, advanced, rung, asked_for, is_request, is_reply, is_connection, is_up, are_too_many, is_clean_up}
 use Rattle.end_model.specs.Secrets.{response_by}
 use Rattle.step_laws.proofs.Secrets.{acceptable_proven, responds_so, hides_number}
 use Rattle.end_model.specs.Messages.{is_acceptable, request_of, hidden_request, connection}
@@ -153,7 +153,7 @@ pub record ComesPlain (ev : Event) (x : End) (u : Tunnel) : Type 0 where
 
 -- what a request that is granted needs
 pub record IsGranted (r : Role) (cs : List (ℕ × Call)) (sessions : Space) (s : ℕ) : Type 0 where
-  pub row : is_reply (call_row r call.Idle call_event.IcrqAcc).1 ≡ true
+  pub row : is_reply (row_of_none r call_event.IcrqAcc).1 ≡ true
   pub few : are_too_many cs ≡ false
   pub drawn : draws sessions ≡ Ok s
 
@@ -210,7 +210,7 @@ module _ (e : End) (moment : ℕ) (ev : Event) (letters : List Letter) (calls : 
   -- ---- calls that are asked for
 
   requested_chain : (s : ℕ) (c : Call) (t : Turn) → state_number t.control.state ≡ 3 → at (with_calls t.changed calls) s ≡ Some c → s < 65536
-      → is_request (call_row e.role c.state call_event.TunnelOpen).1 ≡ true → has_room t.control ≡ true → t.on.moment ≡ moment
+      → is_request (row_for e.role c call_event.TunnelOpen).1 ≡ true → has_room t.control ≡ true → t.on.moment ≡ moment
       → Chain moment ev e t.moves (at_turn t) → Chain moment ev e (requested e.role e.config s c t).moves (at_turn (requested e.role e.config s c t))
   unfolding requested gives_as with_change with_move with_call
   requested_chain s c t is_open found small row room now_is h =
@@ -235,7 +235,7 @@ module _ (e : End) (moment : ℕ) (ev : Event) (letters : List Letter) (calls : 
 
   -- it gives one of the letters that it owes
   requested_fits : (s : ℕ) (c : Call) (t : Turn) → is_closed t.control.state ≡ false → at (with_calls t.changed calls) s ≡ Some c
-      → is_request (call_row e.role c.state call_event.TunnelOpen).1 ≡ true → Holds t.control (with_calls t.changed calls)
+      → is_request (row_for e.role c call_event.TunnelOpen).1 ≡ true → Holds t.control (with_calls t.changed calls)
       → Fits (requested e.role e.config s c t).control (with_calls (requested e.role e.config s c t).changed calls)
   unfolding requested gives_as with_change with_move with_call advanced
   requested_fits s c t live found row h =
@@ -245,7 +245,7 @@ module _ (e : End) (moment : ℕ) (ev : Event) (letters : List Letter) (calls : 
       (fits_instead t.control (with_calls t.changed calls) s d c live found (let before = less.0 in let now = less.1 in omega (arith, before, now)) h)
 
   requested_ok : (s : ℕ) (c : Call) (t : Turn) → state_number t.control.state ≡ 3 → at (with_calls t.changed calls) s ≡ Some c → s < 65536
-      → is_request (call_row e.role c.state call_event.TunnelOpen).1 ≡ true → has_room t.control ≡ true → TurnOk t → TurnOk (requested e.role e.config s c t)
+      → is_request (row_for e.role c call_event.TunnelOpen).1 ≡ true → has_room t.control ≡ true → TurnOk t → TurnOk (requested e.role e.config s c t)
   unfolding requested gives_as with_change with_move with_call
   requested_ok s c t is_open found small row room h = record {
     chain = requested_chain s c t is_open found small row room h.stays.4 h.chain;
@@ -265,7 +265,7 @@ module _ (e : End) (moment : ℕ) (ev : Event) (letters : List Letter) (calls : 
       → TurnOk t → TurnOk (requests e.role e.config s c t)
   unfolding requests
   requests_ok s c t is_open found small h =
-      branch TurnOk (is_request (call_row e.role c.state call_event.TunnelOpen).1) _ _
+      branch TurnOk (is_request (row_for e.role c call_event.TunnelOpen).1) _ _
       (λ row. branch TurnOk (has_room t.control) _ _
       (λ may. requested_ok s c t is_open found small row may h)
       (λ full. absurd (is_roomy t (live_open t.control is_open) h full)))
@@ -286,7 +286,7 @@ module _ (e : End) (moment : ℕ) (ev : Event) (letters : List Letter) (calls : 
   requests_leaves : (s : ℕ) (c : Call) (t : Turn) → Leaves s t (requests e.role e.config s c t)
   unfolding requests requested gives_as with_output with_change with_move with_call drops
   requests_leaves s c t =
-      branch (Leaves s t) (is_request (call_row e.role c.state call_event.TunnelOpen).1) _ _
+      branch (Leaves s t) (is_request (row_for e.role c call_event.TunnelOpen).1) _ _
       (λ row. branch (Leaves s t) (has_room t.control) _ _
       (λ may. record {
         state = refl;
@@ -471,7 +471,7 @@ module _ (e : End) (moment : ℕ) (ev : Event) (letters : List Letter) (calls : 
       }
 
   pub first_up_ok : (s remote : ℕ) (c : Call) (t : Turn) → state_number t.control.state ≡ 3 → at (with_calls t.changed calls) s ≡ Some c
-      → HearsNext ev (tunnel_after t letters calls) s (Icrp remote) → is_connection (call_row e.role c.state call_event.IcrpAcc).1 ≡ true
+      → HearsNext ev (tunnel_after t letters calls) s (Icrp remote) → is_connection (row_for e.role c call_event.IcrpAcc).1 ≡ true
       → may_take t.control (with_calls t.changed calls) ≡ true → has_room t.control ≡ true → TurnOk t
       → TurnOk (first_up e.role s remote c t)
   unfolding first_up gives with_output with_change with_move with_call takes_one advanced
@@ -521,7 +521,7 @@ module _ (e : End) (moment : ℕ) (ev : Event) (letters : List Letter) (calls : 
 
   pub second_up_ok : (s speed framing magic : ℕ) (sequenced : Bool) (c : Call) (t : Turn) → state_number t.control.state ≡ 3
       → at (with_calls t.changed calls) s ≡ Some c → HearsNext ev (tunnel_after t letters calls) s (Iccn speed framing sequenced)
-      → is_up (call_row e.role c.state call_event.IccnAcc).0 ≡ true → may_take t.control (with_calls t.changed calls) ≡ true → TurnOk t
+      → is_up (row_for e.role c call_event.IccnAcc).0 ≡ true → may_take t.control (with_calls t.changed calls) ≡ true → TurnOk t
       → TurnOk (second_up s (connected_call magic c t) t)
   unfolding second_up with_change with_move with_call takes_one advanced
   second_up_ok s speed framing magic sequenced c t is_open found hears row spare h =
@@ -560,7 +560,7 @@ module _ (e : End) (moment : ℕ) (ev : Event) (letters : List Letter) (calls : 
 
   pub end_heard_ok : (s session remote code : ℕ) (error : Option ℕ) (c : Call) (t : Turn) → state_number t.control.state ≡ 3
       → at (with_calls t.changed calls) s ≡ Some c → HearsNext ev (tunnel_after t letters calls) session (Cdn remote code error)
-      → s ≡ session_named (with_calls t.changed calls) session remote → is_clean_up (call_row e.role c.state call_event.CdnCame).1 ≡ true
+      → s ≡ session_named (with_calls t.changed calls) session remote → is_clean_up (row_for e.role c call_event.CdnCame).1 ≡ true
       → may_take t.control (with_calls t.changed calls) ≡ true → TurnOk t → TurnOk (end_heard s t)
   unfolding end_heard ends_call with_output with_change with_move takes_one
   end_heard_ok s session remote code error c t is_open found hears named row spare h =

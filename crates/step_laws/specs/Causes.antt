@@ -21,7 +21,7 @@ use Rattle.end_model.specs.declared.event.Event.TheVariants.{Datagram, Hang, Ope
 use Rattle.end_model.specs.declared.out.Out.TheVariants.{Cause}
 use Rattle.end_model.specs.declared.tunnel.Call.{Call}
 use Rattle.end_model.specs.Reading.{body_of, message_in, CallFault, TunnelFault, tunnel_fault_in, at_zero}
-use Rattle.end_model.specs.Calls.{call_row, is_told}
+use Rattle.end_model.specs.Calls.{row_for, is_told}
 use Rattle.end_model.specs.Tunnels.{Tunnel}
 use Rattle.end_model.specs.Messages.{is_acceptable}
 use Rattle.end_model.specs.declared.event.Addressee.TheVariants.{Opens, Answers}
@@ -42,7 +42,7 @@ pub record IsTold (e : End) (t : Tunnel) (s : ℕ) (on : CallEvent) : Type 0 whe
   pub there : at e.tunnels id ≡ Some t
   pub call : Call
   pub live : at t.calls s ≡ Some call
-  pub row : is_told (call_row e.role call.state on).1 ≡ true
+  pub row : is_told (row_for e.role call on).1 ≡ true
 
 -- it took too long to be set up
 pub record IsLate (e : End) (moment : ℕ) (ev : Event) : Type 0 where
@@ -53,7 +53,7 @@ pub record IsLate (e : End) (moment : ℕ) (ev : Event) : Type 0 where
   pub call : Call
   pub live : at tunnel.calls session ≡ Some call
   pub late : TookTooLong ev moment call
-  pub row : is_told (call_row e.role call.state call_event.Close).1 ≡ true
+  pub row : is_told (row_for e.role call call_event.Close).1 ≡ true
 
 -- ---- messages about calls
 
@@ -113,7 +113,7 @@ pub record IsFinishedCall (e : End) (moment : ℕ) (ev : Event) : Type 0 where
   pub call : Call
   pub live : at tunnel.calls session ≡ Some call
   pub finishes : Finishes ev moment tunnel.control session call
-  pub row : is_told (call_row e.role call.state call_event.Close).1 ≡ true
+  pub row : is_told (row_for e.role call call_event.Close).1 ≡ true
 
 -- ---- tunnels that close
 

@@ -66,7 +66,7 @@ use Rattle.end_model.specs.declared.event.Addressee.TheVariants.{Answers}
 use Rattle.end_model.specs.declared.event.Addressee.TheVariants as addressee
 use Rattle.end_model.specs.Reading.{body_of, message_in, CallFault, call_fault_in, TunnelFault, tunnel_fault_in, at_zero}
 use Rattle.session_looks.specs.Frames.{side_of}
-use Rattle.end_model.specs.Calls.{call_row, advanced, rung, asked_for, is_request, is_reply, is_connection, is_told, is_up, owed_by, is_clean_up}
+use Rattle.end_model.specs.Calls.{row_for, row_of_none, advanced, rung, asked_for, is_request, is_reply, is_connection, is_told, is_up, owed_by, is_clean_up}
 use Rattle.end_model.specs.Tunnels.{Tunnel}
 use Rattle.end_model.specs.Channels.{place, next_place, taken_place, letter_of, letter_as, counts_given, counts_taken, counts_acked, counts_sent, counts_repeated}
 use Rattle.end_model.specs.Openings.{in_state}
@@ -228,7 +228,7 @@ pub record Requests (e : End) (moment : ℕ) (m : Requested) (x : End) : Type 0 
   pub open_is : state_number tunnel.control.state ≡ 3
   pub call : Call
   pub waits : at tunnel.calls m.session ≡ Some call
-  pub row : is_request (call_row e.role call.state call_event.TunnelOpen).1 ≡ true
+  pub row : is_request (row_for e.role call call_event.TunnelOpen).1 ≡ true
   pub session : m.session < 65536
   pub subscriber : m.subscriber ≡ call.subscriber
   pub hides : HidesNumber e.config m.session m.subscriber m.hidden
@@ -274,7 +274,7 @@ pub record Replies (e : End) (moment : ℕ) (ev : Event) (m : Replied) (x : End)
   -- it names no call, and none of the causes stands for which there can be no call
   pub none : at tunnel.calls letter.header.session ≡ None
   pub granted : GrantsCall e tunnel m.remote m.session
-  pub row : is_reply (call_row e.role call.Idle call_event.IcrqAcc).1 ≡ true
+  pub row : is_reply (row_of_none e.role call_event.IcrqAcc).1 ≡ true
   pub few : has_all_calls tunnel.calls ≡ false
   pub drawn : draws e.session_ids ≡ Ok m.session
   pub room : has_room tunnel.control ≡ true
@@ -293,7 +293,7 @@ pub record ComesUpFirst (e : End) (moment : ℕ) (ev : Event) (m : FirstUp) (x :
   pub letter : Came
   pub takes : Taking ev tunnel letter m.taken
   pub says : Says letter m.session (Icrp m.remote)
-  pub row : is_connection (call_row e.role call.state call_event.IcrpAcc).1 ≡ true
+  pub row : is_connection (row_for e.role call call_event.IcrpAcc).1 ≡ true
   pub room : has_room tunnel.control ≡ true
   pub given : m.given ≡ next_place tunnel.control
   pub after : x ≡ record (with_tunnel e m.tunnel (with_letter m.remote connection (record tunnel {
@@ -313,7 +313,7 @@ pub record ComesUpSecond (e : End) (moment : ℕ) (ev : Event) (m : SecondUp) (x
   pub letter : Came
   pub takes : Taking ev tunnel letter m.taken
   pub says : Says letter m.session (Iccn speed framing sequenced)
-  pub row : is_up (call_row e.role call.state call_event.IccnAcc).0 ≡ true
+  pub row : is_up (row_for e.role call call_event.IccnAcc).0 ≡ true
   -- its LCP end asks for some magic number
   pub magic : ℕ
   pub after : x ≡ record (with_tunnel e m.tunnel (record tunnel {
@@ -365,7 +365,7 @@ pub record TellsEnd (e : End) (moment : ℕ) (ev : Event) (m : EndTold) (x : End
   pub live : at tunnel.calls m.session ≡ Some call
   pub on : CallEvent
   pub why : WhyEnds e tunnel ev moment m.session call on m.result m.error
-  pub row : is_told (call_row e.role call.state on).1 ≡ true
+  pub row : is_told (row_for e.role call on).1 ≡ true
   pub session : m.session < 65536
   pub remote : m.remote ≡ call.remote
   pub room : has_room tunnel.control ≡ true
@@ -413,7 +413,7 @@ pub record HearsEnd (e : End) (ev : Event) (m : EndHeard) (x : End) : Type 0 whe
   pub said : message_in letter.body ≡ Ok (Cdn remote code error)
   pub session_is : m.session ≡ session_named tunnel.calls letter.header.session remote
   pub named : (letter.header.session ≡ m.session) ⊎ ((letter.header.session ≡ 0) × (call.remote ≡ remote))
-  pub row : is_clean_up (call_row e.role call.state call_event.CdnCame).1 ≡ true
+  pub row : is_clean_up (row_for e.role call call_event.CdnCame).1 ≡ true
   pub after : x ≡ without_call e m.tunnel (record tunnel { control = counts_taken tunnel.control }) m.session
 
 pub record EndsSilently (e : End) (moment : ℕ) (ev : Event) (m : EndSilent) (x : End) : Type 0 where
@@ -425,7 +425,7 @@ pub record EndsSilently (e : End) (moment : ℕ) (ev : Event) (m : EndSilent) (x
   pub result : ℕ
   pub error : Option ℕ
   pub why : WhyEnds e tunnel ev moment m.session call on result error
-  pub row : is_clean_up (call_row e.role call.state on).1 ≡ true
+  pub row : is_clean_up (row_for e.role call on).1 ≡ true
   pub after : x ≡ without_call e m.tunnel tunnel m.session
 
 -- ---- openings that are declined
@@ -596,11 +596,11 @@ IsPlain e t session Sli = Unit {0}
 -- a request that names a call makes none
 IsPlain e t session (Icrq remote serial calling) = state_number t.control.state ≡ 3 → (c : Call) × (at t.calls session ≡ Some c)
 IsPlain e t session (Icrp remote) = state_number t.control.state ≡ 3
-    → (c : Call) → at t.calls session ≡ Some c → is_connection (call_row e.role c.state call_event.IcrpAcc).1 ≡ false
+    → (c : Call) → at t.calls session ≡ Some c → is_connection (row_for e.role c call_event.IcrpAcc).1 ≡ false
 IsPlain e t session (Iccn speed framing sequenced) = state_number t.control.state ≡ 3
-    → (c : Call) → at t.calls session ≡ Some c → is_up (call_row e.role c.state call_event.IccnAcc).0 ≡ false
+    → (c : Call) → at t.calls session ≡ Some c → is_up (row_for e.role c call_event.IccnAcc).0 ≡ false
 IsPlain e t session (Cdn remote code error) = state_number t.control.state ≡ 3
-    → (c : Call) → at t.calls (session_named t.calls session remote) ≡ Some c → is_clean_up (call_row e.role c.state call_event.CdnCame).1 ≡ false
+    → (c : Call) → at t.calls (session_named t.calls session remote) ≡ Some c → is_clean_up (row_for e.role c call_event.CdnCame).1 ≡ false
 
 -- a letter that can't be read, or on which nothing is done; one that closes a tunnel is taken once it is closed
 pub record TakesPlain (e : End) (ev : Event) (m : TookPlain) (x : End) : Type 0 where
