@@ -18,6 +18,7 @@ use Rattle.end_model.specs.Calls.{row_for, row_of_none, asked_for, is_reply, are
 use Rattle.end_model.specs.Turn.{with_move, with_new, drops}
 use Rattle.end_model.specs.Sending.{gives, takes_one}
 use Rattle.end_model.specs.Refusing.{answers_by, refuses}
+use Rattle.end_model.specs.Codes.{general_error, facilities_lacking, invalid_session}
 
 -- a header with session 0 comes where the peer knows no session of this end: the call is the one whose other id is told
 abbrev pub is_call_of : ℕ → Option Call → Bool
@@ -35,13 +36,13 @@ session_named calls session remote =
 -- peer's id is no id, or that of a call of the tunnel; the tunnel has as many calls as it may; there is no id left
 abbrev pub left_of : Result ℕ IdError → Result ℕ Reason
 left_of (Ok s) = Ok s
-left_of (Err e) = Err (reason cause.Ids 4 None)
+left_of (Err e) = Err (reason cause.Ids facilities_lacking None)
 
 unfoldable pub granted : Role → List (ℕ × Call) → ℕ → Space → Result ℕ Reason
 granted role calls remote sessions =
     if not (is_reply (row_of_none role call_event.IcrqAcc).1) then Err out_of_state
-    else if remote == 0 || is_some (call_of calls remote) then Err (reason cause.Session 2 (Some 5))
-    else if are_too_many calls then Err (reason cause.Calls 4 None)
+    else if remote == 0 || is_some (call_of calls remote) then Err (reason cause.Session general_error (Some invalid_session))
+    else if are_too_many calls then Err (reason cause.Calls facilities_lacking None)
     else left_of (draws sessions)
 
 -- the peer asks for a call: it is made, and the peer is told its session

@@ -26,6 +26,7 @@ use Rattle.end_model.specs.Frames.{carries}
 use Rattle.end_model.specs.Linking.{hears_lcp}
 use Rattle.end_model.specs.Hearing.{hears_datagram}
 use Rattle.end_model.specs.Ticking.{ticks}
+use Rattle.end_model.specs.Codes.{carrier_lost, administrative}
 
 -- an event of the tunnel, which has these letters and calls
 unfoldable pub turns : Role → Config → List Letter → List (ℕ × Call) → Event → Turn → Turn
@@ -36,9 +37,9 @@ turns role c letters calls (Frame bytes) t = drops why.Node t
 turns role c letters calls (Payload s frame) t = carries s frame (at calls s) t
 turns role c letters calls (Lower s frame) t = carries s frame (at calls s) t
 turns role c letters calls (Lcp s packet) t = hears_lcp role letters s packet (at calls s) t
-turns role c letters calls (Hang s) t = settles false letters (closes role cause.Line call_event.LineDrop 1 s (at calls s) t)
+turns role c letters calls (Hang s) t = settles false letters (closes role cause.Line call_event.LineDrop carrier_lost s (at calls s) t)
 turns role c letters calls OpenTunnel t = settles false letters (opens role c t)
-turns role c letters calls (DropCall s) t = settles false letters (closes role cause.Operator call_event.Close 3 s (at calls s) t)
+turns role c letters calls (DropCall s) t = settles false letters (closes role cause.Operator call_event.Close administrative s (at calls s) t)
 turns role c letters calls (CloseTunnel i) t = settles false letters (shuts_by calls (row_of rows t.control.state event.AdminClose) t)
 turns role c letters calls event_of.Tick t = ticks role letters calls t
 

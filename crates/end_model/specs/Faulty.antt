@@ -1,11 +1,10 @@
 -- Faulty letters about a call.
-use Rattle.std.specs.Prelude.{ℕ, List, ◌==◌, if◌then◌else◌, Option, Some, None, unwrap_or}
+use Rattle.std.specs.Prelude.{ℕ, List, if◌then◌else◌, Option, Some, None, unwrap_or}
 use Rattle.id_table.specs.Ids.{at}
 use Rattle.wire_base.specs.declared.why.Why.TheVariants as why
 use Rattle.wire_base.specs.declared.cause.Cause.{Cause as CauseOf}
 use Rattle.control_message.specs.declared.kind.Kind.{Kind}
 use Rattle.control_message.specs.declared.kind.Kind.TheVariants as kind
-use Rattle.tunnel_fsm.specs.Rows.{state_number}
 use Rattle.call_fsm.specs.declared.table.CallEvent.{CallEvent}
 use Rattle.call_fsm.specs.declared.table.CallEvent.TheVariants as call_event
 use Rattle.call_fsm.specs.declared.table.CallState.TheVariants as call
@@ -20,6 +19,7 @@ use Rattle.end_model.specs.Calls.{row_for, row_of_none}
 use Rattle.end_model.specs.Sending.{ignores}
 use Rattle.end_model.specs.Refusing.{answers_by, refuses, of_no_call}
 use Rattle.end_model.specs.Asking.{session_named}
+use Rattle.end_model.specs.Moments.{is_open}
 
 -- of a call that there is, or of one that there isn't, by the table's rows for these events
 unfoldable pub faulty_at : Role → Reason → ℕ → ℕ → CallEvent → CallAction → Option Call → Turn → Turn
@@ -44,4 +44,4 @@ faulty role calls session k c told t =
 -- only an open tunnel carries calls
 unfoldable pub in_faulty_call : Role → List (ℕ × Call) → ℕ → CallFault → Turn → Turn
 in_faulty_call role calls session f t =
-    if state_number t.control.state == 3 then faulty role calls session f.kind f.cause f.session t else ignores why.Session t
+    if is_open t.control.state then faulty role calls session f.kind f.cause f.session t else ignores why.Session t

@@ -24,7 +24,7 @@ use Rattle.end_names.specs.declared.role.Role.{Role}
 use Rattle.end_model.specs.Tunnels.{Turn}
 use Rattle.end_model.specs.Channels.{has_room, may_take}
 use Rattle.end_model.specs.Messages.{event_by, opening_reason, connected_event, connected_reason}
-use Rattle.end_model.specs.Moments.{is_closed}
+use Rattle.end_model.specs.Moments.{is_closed, is_idle, is_open, is_waiting_reply}
 use Rattle.end_model.specs.Reasons.{Reason, reason, out_of_order, fault_reason}
 use Rattle.session_looks.specs.Frames.{header_why}
 use Rattle.end_model.specs.Reading.{body_of, message_in, CallFault, call_fault_in, TunnelFault, tunnel_fault_in}
@@ -37,6 +37,7 @@ use Rattle.end_model.specs.Refusing.{refuses}
 use Rattle.end_model.specs.Asking.{session_named, granted, asked_by}
 use Rattle.end_model.specs.Connecting.{first_up_by, second_up_by, ends_named}
 use Rattle.end_model.specs.Faulty.{in_faulty_call}
+use Rattle.end_model.specs.Codes.{facilities_never}
 
 -- then each call that waits for it is asked for
 unfoldable pub connects : Role → Config → List (ℕ × Call) → Option (List ℕ) → ℕ → ℕ → TunnelState → Turn → Turn
@@ -47,7 +48,7 @@ connects role c calls asked remote window next t =
 unfoldable pub takes_by : Role → Config → List (ℕ × Call) → Reason → Option (List ℕ) → ℕ → ℕ → TunnelState × TunnelAction → Turn → Turn
 takes_by role c calls r asked remote window (next, action.SendScccn) t = connects role c calls asked remote window next t
 takes_by role c calls r asked remote window (next, action.SendStopCcn) t =
-    if state_number t.control.state == 1 then rejects r calls remote next t else takes_plain (closes_tunnel r calls t.control.remote next t)
+    if is_waiting_reply t.control.state then rejects r calls remote next t else takes_plain (closes_tunnel r calls t.control.remote next t)
 takes_by role c calls r asked remote window (next, action.CleanUp) t = closed_by calls next t
 takes_by role c calls r asked remote window (next, action.Nothing) t =
     if state_number next == state_number t.control.state then takes_plain t else confirms next t
@@ -63,12 +64,12 @@ about_call role calls session (Icrq remote serial calling) t =
 about_call role calls session (Icrp remote) t = first_up_by role session remote (at calls session) t
 about_call role calls session (Iccn speed framing sequenced) t = second_up_by role session (at calls session) t
 about_call role calls session (Cdn remote code error) t = ends_named role calls (session_named calls session remote) t
-about_call role calls session (Ocrq remote) t = refuses (reason cause.Outgoing 5 None) remote t
+about_call role calls session (Ocrq remote) t = refuses (reason cause.Outgoing facilities_never None) remote t
 about_call role calls session m t = takes_plain t
 
 -- only an open tunnel carries calls
 unfoldable pub in_call : Role → List (ℕ × Call) → ℕ → Message → Turn → Turn
-in_call role calls session m t = if state_number t.control.state == 3 then about_call role calls session m t else ignores why.Session t
+in_call role calls session m t = if is_open t.control.state then about_call role calls session m t else ignores why.Session t
 
 unfoldable pub hears : Role → Config → List (ℕ × Call) → ℕ → Message → Turn → Turn
 hears role c calls session (Sccrq o) t =
@@ -131,7 +132,7 @@ first_said role c r t = drops why.Tunnel t
 -- a control message that is for the tunnel: Nr is read first; an acknowledgement alone has no body
 unfoldable pub hears_control : Role → Config → List Letter → List (ℕ × Call) → Header → List ℕ → Turn → Turn
 hears_control role c letters calls h body t =
-    if state_number t.control.state == 0 then settles false letters (first_said role c (message_in body) t)
+    if is_idle t.control.state then settles false letters (first_said role c (message_in body) t)
     else in_tunnel role c letters calls h.session body (class_told t.control.channel (unwrap_or h.ns 0) (length body == 0)) (reads_nr (unwrap_or h.nr 0) t)
 
 unfoldable pub hears_datagram : Role → Config → List Letter → List (ℕ × Call) → List ℕ → Result Header HeaderError → Turn → Turn

@@ -3,6 +3,7 @@ pub mod Secrets
 pub mod Calls
 pub mod Links
 pub mod Owing
+pub mod Codes
 pub mod Reasons
 pub mod Messages
 pub mod Moments

@@ -16,6 +16,7 @@ use Rattle.end_model.specs.Turn.{with_move, with_looks_of, with_call, drops}
 use Rattle.end_model.specs.Sending.{settles}
 use Rattle.end_model.specs.Closing.{ends_by}
 use Rattle.end_model.specs.Frames.{carried}
+use Rattle.end_model.specs.Codes.{administrative}
 
 -- so do these LCP packets of the call, in order
 unfoldable pub sends_packets : ℕ → List (List ℕ) → Call → Turn → Turn
@@ -33,7 +34,7 @@ negotiated s c l v t =
 -- where it is finished the call ends; no entry of LCP's table finishes a link and sends a packet
 unfoldable pub links : Role → List Letter → ℕ → Call → Link → LcpTurn → Turn → Turn
 links role letters s c l v t =
-    if v.out.finished then settles false letters (ends_by cause.Lcp 3 None s c (row_for role c call_event.Close).1 t)
+    if v.out.finished then settles false letters (ends_by cause.Lcp administrative None s c (row_for role c call_event.Close).1 t)
     else negotiated s c l v t
 
 -- an LCP packet, in a frame from its protocol field on, came up a call

@@ -12,6 +12,16 @@ is_over limit moment kept = nat_le limit (moment - kept)
 abbrev pub patience : ℕ
 patience = 60000
 
+-- it is neither opened nor accepted, it waits for its SCCRP, it is open
+abbrev pub is_idle : TunnelState → Bool
+is_idle s = state_number s == 0
+
+abbrev pub is_waiting_reply : TunnelState → Bool
+is_waiting_reply s = state_number s == 1
+
+abbrev pub is_open : TunnelState → Bool
+is_open s = state_number s == 3
+
 -- it is in wait-ctl-reply or wait-ctl-conn
 abbrev pub is_being_set_up : TunnelState → Bool
 is_being_set_up s = state_number s == 1 || state_number s == 2

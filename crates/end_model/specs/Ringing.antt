@@ -1,11 +1,10 @@
 -- Calls that ring, and calls that are asked for.
-use Rattle.std.specs.Prelude.{ℕ, List, [], ◌∷◌, ◌==◌, nat_lt, if◌then◌else◌, Option, Some, None, Result, Ok, Err}
+use Rattle.std.specs.Prelude.{ℕ, List, [], ◌∷◌, nat_lt, if◌then◌else◌, Option, Some, None, Result, Ok, Err}
 use Rattle.id_table.specs.Ids.{at}
 use Rattle.id_source.specs.Spaces.{draws}
 use Rattle.id_source.specs.declared.IdError.{IdError}
 use Rattle.wire_base.specs.declared.why.Why.TheVariants as why
 use Rattle.wire_base.specs.declared.cause.Cause.TheVariants as cause
-use Rattle.tunnel_fsm.specs.Rows.{state_number}
 use Rattle.call_fsm.specs.declared.table.CallEvent.TheVariants as call_event
 use Rattle.end_model.specs.declared.tunnel.Call.{Call}
 use Rattle.session_looks.specs.declared.look.CellChange.TheVariants as cell
@@ -21,6 +20,7 @@ use Rattle.end_model.specs.Calls.{row_for, advanced, rung, is_request, are_too_m
 use Rattle.end_model.specs.Turn.{with_output, with_move, with_change, with_call, with_new, drops}
 use Rattle.end_model.specs.Sending.{gives_as}
 use Rattle.end_model.specs.Openings.{opened}
+use Rattle.end_model.specs.Moments.{is_idle, is_open}
 
 -- a waiting call is asked for, and the peer comes to know it
 unfoldable pub requested : Role → Config → ℕ → Call → Turn → Turn
@@ -55,7 +55,7 @@ adds role who s t =
 -- over a tunnel that is open the call is asked for at once; over another it waits
 unfoldable pub rings_over : Role → Config → List ℕ → ℕ → Turn → Turn
 rings_over role config who s t =
-    if state_number t.control.state == 3 then requests role config s (rung role who t.on.moment) (adds role who s t) else adds role who s t
+    if is_open t.control.state then requests role config s (rung role who t.on.moment) (adds role who s t) else adds role who s t
 
 unfoldable pub rings_by : Role → Config → List ℕ → Result ℕ IdError → Turn → Turn
 rings_by role config who (Err e) t = with_output (Cause cause.Ids) t
@@ -77,6 +77,6 @@ rings_new role c who (Ok s) (Ok local) t =
 
 unfoldable pub rings : Role → Config → List (ℕ × Call) → List ℕ → Turn → Turn
 rings role c calls who t =
-    if state_number t.control.state == 0
+    if is_idle t.control.state
     then rings_new role c who (draws t.ids.sessions) (draws t.ids.tunnels) t
     else rings_within role c calls who t

@@ -16,6 +16,7 @@ use Rattle.end_model.specs.Channels.{next_place, taken_place, has_room}
 use Rattle.end_model.specs.Reasons.{Reason, reason}
 use Rattle.end_model.specs.Turn.{with_output, with_move, drops, ends_all}
 use Rattle.end_model.specs.Sending.{gives, takes_one}
+use Rattle.end_model.specs.Codes.{clear_request}
 
 -- it goes to its state, and where the id that the peer assigned wasn't known, it is learned
 abbrev pub shut : ℕ → TunnelState → ℕ → Control → Control
@@ -53,5 +54,5 @@ closed_by calls next t =
 
 -- an administrative close, by the table's row
 unfoldable pub shuts_by : List (ℕ × Call) → TunnelState × TunnelAction → Turn → Turn
-shuts_by calls (next, action.SendStopCcn) t = closes_tunnel (reason cause.Operator 1 None) calls t.control.remote next t
+shuts_by calls (next, action.SendStopCcn) t = closes_tunnel (reason cause.Operator clear_request None) calls t.control.remote next t
 shuts_by calls (next, a) t = t

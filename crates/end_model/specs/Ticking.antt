@@ -7,19 +7,19 @@ use Rattle.control_message.specs.declared.message.Message.TheVariants.{Hello}
 use Rattle.send_window.specs.declared.window.Tick.{Tick}
 use Rattle.send_window.specs.declared.window.Tick.TheVariants as tick
 use Rattle.control_channel.specs.Numbers.{answer_to_tick}
-use Rattle.tunnel_fsm.specs.Rows.{state_number}
 use Rattle.call_fsm.specs.declared.table.CallEvent.TheVariants as call_event
 use Rattle.end_model.specs.declared.tunnel.Call.{Call}
 use Rattle.end_names.specs.declared.role.Role.{Role}
 use Rattle.end_model.specs.declared.moves.Move.TheVariants as move
 use Rattle.end_model.specs.Tunnels.{Turn}
 use Rattle.end_model.specs.Channels.{next_place}
-use Rattle.end_model.specs.Moments.{is_over, patience, is_at_its_end}
+use Rattle.end_model.specs.Moments.{is_over, patience, is_at_its_end, is_open}
 use Rattle.end_model.specs.Calls.{row_for, is_set_up}
 use Rattle.end_model.specs.Turn.{with_move, ends_all}
 use Rattle.end_model.specs.Sending.{gives, repeats, settles}
 use Rattle.end_model.specs.Closing.{ends_by}
 use Rattle.end_model.specs.Linking.{ticks_link}
+use Rattle.end_model.specs.Codes.{not_in_time}
 
 -- the tunnel is removed with its calls, without a message
 unfoldable pub clears : List (ℕ × Call) → Turn → Turn
@@ -33,7 +33,7 @@ greeted letters t =
 
 unfoldable pub greets : List Letter → Turn → Turn
 greets letters t =
-    if state_number t.control.state == 3 && t.control.channel.window.queued == 0 && is_over patience t.on.moment t.control.heard
+    if is_open t.control.state && t.control.channel.window.queued == 0 && is_over patience t.on.moment t.control.heard
     then greeted letters t else t
 
 -- a call that took too long to be set up ends; the LCP end of another has its timer
@@ -41,7 +41,7 @@ unfoldable pub limits_at : Role → List Letter → ℕ → Option Call → Turn
 limits_at role letters s None t = t
 limits_at role letters s (Some c) t =
     if nat_lt s 65536 && is_set_up c.state && is_over patience t.on.moment c.since
-    then settles false letters (ends_by cause.Setup 10 None s c (row_for role c call_event.Close).1 t)
+    then settles false letters (ends_by cause.Setup not_in_time None s c (row_for role c call_event.Close).1 t)
     else ticks_link role letters s c c.link t
 
 unfoldable pub limits_all : Role → List Letter → List ℕ → List (ℕ × Call) → Turn → Turn
