@@ -2,8 +2,8 @@
 
 use crate::row::{Fault, Row};
 use crate::spelling::told;
-use pppoe_discovery::{Discovered, cookie, on_frame, write_pads, write_padt};
-use wire_base::Cause;
+use pppoe_discovery::{Discovered, cookie, on_frame, padt_frame, write_pads};
+use wire_base::{Bytes, Cause};
 
 /// The cookie of an address, what a frame leads to, or a PADT from an address of one's own to another.
 pub fn discovery_row(row: &Row<'_>) -> Result<String, Fault> {
@@ -23,7 +23,7 @@ pub fn discovery_row(row: &Row<'_>) -> Result<String, Fault> {
         ),
         _ => told(
             row.alloc,
-            &write_padt(row.alloc, &own, &address, row.short(3))?,
+            &Bytes::from_slice(row.alloc, &padt_frame(&own, &address, row.short(3)))?,
         ),
     }
 }

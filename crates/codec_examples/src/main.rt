@@ -44,7 +44,7 @@ fn answer(alloc: Global, line: &str) -> Result<String, Fault> {
         "write_option" => write_option_row(&row),
         "write_frame" => write_frame_row(&row),
         "write_tag" => write_tag_row(&row),
-        "cookie" | "on_frame" | "write_padt" => discovery_row(&row),
+        "cookie" | "on_frame" | "padt_frame" => discovery_row(&row),
         "write_pads" => write_pads_row(&row),
         _ => Err(Fault::NotARow),
     }

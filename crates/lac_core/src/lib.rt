@@ -21,7 +21,7 @@ mod ends;
 mod hosts;
 
 use end_core::{End, EndRows};
-use pppoe_discovery::write_padt;
+use pppoe_discovery::padt_frame;
 use pppoe_session::Table;
 use end_model::{Config, Event, Out, Role, mac_of};
 use session_looks::Look;
@@ -115,20 +115,16 @@ impl Lac {
         self.end.subscriber(session)
     }
 
-    /// The PADT that tells a host that its call ended (RFC 2516 section 5.5), a whole Ethernet frame of 20 bytes. None where no
-    /// host had the call. A session id has 16 bits, and of a larger number the lower ones count.
+    /// The PADT that tells a host that its call ended (RFC 2516 section 5.5), a whole Ethernet frame. None where no host had the
+    /// call. A session id has 16 bits, and of a larger number the lower ones count. It takes no memory, so that a host is told
+    /// of each end that a step made.
     #[tactic(auto, unfolding(end_model::specs::Access::farewell))]
-    pub fn padt(&self, alloc: Global, session: u32) -> Result<Option<Bytes>, NoMemory>
-        ensures { IfOk result (λ p. p ≡ farewell self.now.end.config.number self.now.access session) }
+    pub fn padt(&self, session: u32) -> Option<[u8; 20]>
+        ensures { result ≡ farewell self.now.end.config.number self.now.access session }
     {
         let session = (session % 65_536) as u16;
-        match self.hosts.holder(session) {
-            None => Ok(None),
-            Some(host) => {
-                let mac = mac_of(self.end.number());
-                Ok(Some(write_padt(alloc, &mac, &host, session)?))
-            }
-        }
+        let host = self.hosts.holder(session)?;
+        Some(padt_frame(&mac_of(self.end.number()), &host, session))
     }
 
     /// What comes is ignored.

@@ -183,15 +183,14 @@ pub fn write_pads(
     write_sent(alloc, mac, src, PADS, session, payload)
 }
 
-/// The PADT that ends a host's session (RFC 2516 section 5.5), without tags: 20 bytes.
-pub fn write_padt(
-    alloc: Global,
-    mac: &[u8; 6],
-    dst: &[u8; 6],
-    session: u16,
-) -> Result<Bytes, NoMemory>
-    ensures { IfOk result (λ bytes. bytes ≡ frame_bytes (padt mac.now dst.now session)) }
+/// The PADT that ends a host's session (RFC 2516 section 5.5), a whole Ethernet frame without tags. It takes no memory.
+pub fn padt_frame(mac: &[u8; 6], dst: &[u8; 6], session: u16) -> [u8; 20]
+    ensures { result ≡ frame_bytes (padt mac.now dst.now session) }
 {
-    let payload = Bytes::new(alloc);
-    write_sent(alloc, mac, dst, PADT, session, payload)
+    let [d0, d1, d2, d3, d4, d5] = *dst;
+    let [s0, s1, s2, s3, s4, s5] = *mac;
+    let [high, low] = session.to_be_bytes();
+    [
+        d0, d1, d2, d3, d4, d5, s0, s1, s2, s3, s4, s5, 0x88, 0x63, 0x11, PADT, high, low, 0, 0,
+    ]
 }

@@ -155,12 +155,12 @@ pub fn push_farewell(
     out: &mut Bytes,
     line: u64,
     node: u8,
-    padt: &Option<Bytes>,
+    padt: &Option<[u8; 20]>,
 ) -> Result<(), NoMemory>
     ensures { OnOk result (out.new ≡ out.old ++ farewell_text line node padt.now) }
 {
     match padt {
-        Some(padt) => push_frame(out, line, node, padt.as_slice()),
+        Some(padt) => push_frame(out, line, node, padt),
         None => Ok(()),
     }
 }

@@ -1,6 +1,6 @@
 //! The end of a node, which is a LAC or an LNS.
 
-ghost use Rattle.std.specs.Prelude.{◌≡◌, IfOk, is_some};
+ghost use Rattle.std.specs.Prelude.{◌≡◌, is_some};
 ghost use Rattle.end_model.specs.Access.{access_with};
 ghost use Rattle.end_model.specs.End.{new_end};
 ghost use Rattle.world_model.specs.World.{farewell_by};
@@ -118,12 +118,12 @@ impl NodeEnd {
     }
 
     /// The PADT to the host of a call that ended, where a host had it.
-    pub(crate) fn farewell(&self, alloc: Global, session: u32) -> Result<Option<Bytes>, NoMemory>
-        ensures { IfOk result (λ p. p ≡ farewell_by self.now.end.config.number session self.now.access) }
+    pub(crate) fn farewell(&self, session: u32) -> Option<[u8; 20]>
+        ensures { result ≡ farewell_by self.now.end.config.number session self.now.access }
     {
         match &self.kind {
-            Kind::Lac(lac) => lac.padt(alloc, session),
-            Kind::Lns(_) => Ok(None),
+            Kind::Lac(lac) => lac.padt(session),
+            Kind::Lns(_) => None,
         }
     }
 }

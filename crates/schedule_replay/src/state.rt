@@ -94,13 +94,11 @@ impl State {
     }
 
     /// The PADT to the host of a node's call that ended, where a host had it.
-    fn farewell(&self, node: u8, session: u32) -> Result<Option<Bytes>, NoMemory>
-        ensures { IfOk result (λ p. p ≡ farewell_in session (at self.now.world.nodes node)) }
+    fn farewell(&self, node: u8, session: u32) -> Option<[u8; 20]>
+        ensures { result ≡ farewell_in session (at self.now.world.nodes node) }
     {
-        match self.nodes.get(u32::from(node)) {
-            Some(node) => node.end.farewell(self.alloc, session),
-            None => Ok(None),
-        }
+        let node = self.nodes.get(u32::from(node))?;
+        node.end.farewell(session)
     }
 
     /// An output of a node's step, in a line.
@@ -132,7 +130,7 @@ impl State {
                 )
             }
             Out::Gone { session } => {
-                let padt = self.farewell(node, session)?;
+                let padt = self.farewell(node, session);
                 push_gone(&mut self.report, line, node, session)?;
                 push_farewell(&mut self.report, line, node, &padt)
             }
