@@ -2,9 +2,9 @@
 
 use crate::event::{Fault, bytes_of, event_of, node_number, number_of};
 use end_core::EndRows;
+use end_model::{Config, Event, Out, address_of, node_of};
 use lac_core::Lac;
 use lns_core::Lns;
-use end_model::{Config, Event, Out, address_of, node_of};
 use session_looks::Look;
 use std::alloc::Global;
 use tunnel_core::Outputs;

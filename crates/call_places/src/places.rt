@@ -5,8 +5,8 @@ ghost use Rattle.id_table.specs.Ids.{at, put};
 ghost use Rattle.end_model.specs.End.{placed, with_look, with_looks, look_in, established};
 ghost use Rattle.call_places.specs.Rooms.{HaveRoom};
 
-use id_table::Table;
 use end_model::CallPlace;
+use id_table::Table;
 use session_looks::{CellChange, Look};
 use wire_base::NoMemory;
 

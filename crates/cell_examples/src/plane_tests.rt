@@ -87,7 +87,14 @@ fn what_is_dropped(rt: HostRuntime) {
     assert!(rt; drops(established(4), true, PEER, LCP) == Some(Why::Tunnel));
     assert!(rt; drops(established(3), true, 8, LCP) == Some(Why::Peer));
     assert!(rt; drops(established(4), true, 8, LCP) == Some(Why::Tunnel));
-    assert!(rt; drops(established(3), true, PEER, b"\x00\x02\x00\x03\x00\x07\xff\x03\xc0") == Some(Why::Short));
+    assert!(rt;
+        drops(
+            established(3),
+            true,
+            PEER,
+            b"\x00\x02\x00\x03\x00\x07\xff\x03\xc0"
+        ) == Some(Why::Short)
+    );
     assert!(rt; drops(bound(3), true, PEER, IP) == Some(Why::Closed));
     assert!(rt; drops(bound(3), false, PEER, LCP) == Some(Why::Closed));
 }

@@ -41,7 +41,11 @@ fn answer(alloc: Global, first: u32, count: u32, gone: u32) -> Result<Pairs, NoM
 }
 
 /// What an answer tells: how many are gone, or the place where it differs.
-fn hears(query: &mut Query, alloc: Global, answers: &Pairs) -> Result<Result<usize, usize>, NoMemory> {
+fn hears(
+    query: &mut Query,
+    alloc: Global,
+    answers: &Pairs,
+) -> Result<Result<usize, usize>, NoMemory> {
     match query.on_fsr(alloc, answers.as_slice()) {
         Ok(gone) => Ok(Ok(gone.len())),
         Err(FsrError::NotAsked { at }) => Ok(Err(at)),

@@ -14,5 +14,7 @@ pub enum Carry {
         end: usize,
     },
     /// It is dropped.
-    Dropped { why: Why },
+    Dropped {
+        why: Why,
+    },
 }

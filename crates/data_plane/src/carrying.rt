@@ -72,13 +72,7 @@ fn look_at(cells: &Cells, seen: &mut CellSeen, session: u16) -> Look
 
 /// What becomes of a datagram that isn't a control message and came from an address, at an LNS or at a LAC, by the cell of the
 /// session that its header names. A header that can't be read is dropped before all else. It takes no memory and doesn't wait.
-pub fn carry_in(
-    cells: &Cells,
-    seen: &mut CellSeen,
-    lns: bool,
-    peer: u32,
-    datagram: &[u8],
-) -> Carry
+pub fn carry_in(cells: &Cells, seen: &mut CellSeen, lns: bool, peer: u32, datagram: &[u8]) -> Carry
     requires of { IsOf cells.now seen.old }
     requires data { IsData datagram.now }
     ensures later { Later cells.now seen.old seen.new }

@@ -6,11 +6,11 @@ ghost use Rattle.end_core.specs.Gives.{GivesStep};
 
 use crate::end::{End, Given};
 use control_message::{Message, Opening};
+use end_model::{ControlOrigin, Declined, Move, Origin, Out};
 use message_reading::{
     Reason, Said, decline_bytes, fault_reason, is_of_version, lacks_secret, no_id, no_recovery,
     no_secret, no_tunnel, other_version, read_body,
 };
-use end_model::{ControlOrigin, Declined, Move, Origin, Out};
 use std::alloc::Global;
 use tunnel_core::{Moves, Outputs};
 use wire_base::NoMemory;

@@ -17,11 +17,11 @@ ghost use Rattle.end_model.specs.Turn.{with_turn};
 ghost use Rattle.end_core.specs.Gives.{GivesStep, behind_given};
 
 use call_places::{change_looks, look_at, make_places, place_all};
+use end_model::{Addressee, CallPlace, Config, Control, Event, Out, Role};
 use id_source::Ids;
 use id_table::Table;
 use l2tp_header::{Header, read_header};
 use message_reading::{at_zero, next_of_peer, out_of_order, uncover_datagram};
-use end_model::{Addressee, CallPlace, Config, Control, Event, Out, Role};
 use session_looks::{CellChanges, Look, header_why};
 use std::alloc::Global;
 use std::marker::Model;

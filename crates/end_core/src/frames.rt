@@ -10,9 +10,9 @@ ghost use Rattle.end_core.specs.Gives.{GivesStep, behind_given};
 
 use crate::end::{End, Given};
 use call_places::look_at;
+use end_model::{Event, FrameUp, Move, Out};
 use l2tp_header::Header;
 use session_looks::{Way, carry_look, frame_of};
-use end_model::{Event, FrameUp, Move, Out};
 use std::alloc::Global;
 use tunnel_core::{Moves, Outputs};
 use wire_base::{Bytes, NoMemory, Side};

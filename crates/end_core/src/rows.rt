@@ -7,8 +7,8 @@ ghost use Rattle.end_core.specs.Rows.{rows_at, tunnel_rows, call_rows, calls_at}
 
 use crate::end::End;
 use call_fsm::CallState;
-use id_table::Table;
 use end_model::Call;
+use id_table::Table;
 use std::alloc::Global;
 use tunnel_core::TunnelCore;
 use tunnel_fsm::TunnelState;

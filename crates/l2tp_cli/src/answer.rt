@@ -7,11 +7,11 @@ ghost use Rattle.l2tp_cli.specs.Due.{due, refused, due_of_run, due_of_lines};
 
 use crate::exit::Exit;
 use crate::texts::bad_line_text;
-use world_model::Refusal;
 use schedule_replay::replay;
 use schedule_text::{Line, ScheduleError, read_schedule};
 use std::alloc::Global;
 use wire_base::{Bytes, NoMemory};
+use world_model::Refusal;
 
 /// How a command ends, and the text that it writes before.
 #[derive(Drop)]

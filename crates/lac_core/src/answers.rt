@@ -6,9 +6,9 @@ ghost use Rattle.pppoe_session.specs.Subscribers.{subscriber};
 ghost use Rattle.end_model.specs.Access.{forgets, holds, refusal_in, ring_cause};
 ghost use Rattle.lac_core.specs.Entering.{AreRefusals, frame_for, is_refused, let_go};
 
+use end_model::Out;
 use pppoe_discovery::{Discovered, write_pads};
 use pppoe_session::{AdmitError, Table};
-use end_model::Out;
 use std::alloc::Global;
 use wire_base::{Bytes, Cause, NoMemory};
 

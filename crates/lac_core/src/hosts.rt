@@ -13,8 +13,8 @@ ghost use Rattle.lac_core.specs.Gives.{GivesServed};
 
 use crate::answers::{Refusals, forget, hold, take_back, write_refusals};
 use crate::{Lac, LacGiven, ends};
-use pppoe_discovery::{Discovered, on_frame, write_pads};
 use end_model::{Event, host_name, mac_of};
+use pppoe_discovery::{Discovered, on_frame, write_pads};
 use wire_base::{Bytes, NoMemory, Why};
 
 /// How many bytes a frame has at most.

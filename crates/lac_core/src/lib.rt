@@ -21,9 +21,9 @@ mod ends;
 mod hosts;
 
 use end_core::{End, EndRows};
+use end_model::{Config, Event, Out, Role, mac_of};
 use pppoe_discovery::padt_frame;
 use pppoe_session::Table;
-use end_model::{Config, Event, Out, Role, mac_of};
 use session_looks::Look;
 use std::alloc::Global;
 use std::marker::Model;

@@ -1,8 +1,8 @@
 //! The ends of the spaces of ids, and the limits of a tunnel on calls and on letters.
 
 use bench_examples::Bench;
-use l2tp_header::write_control;
 use end_model::{Event, address_of};
+use l2tp_header::write_control;
 use std::alloc::Global;
 use std::test::Fail;
 use wire_base::{Bytes, NoMemory, put_u16};

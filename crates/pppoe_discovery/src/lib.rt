@@ -14,5 +14,5 @@ mod taking;
 pub use cookies::cookie;
 pub use laws::{cookies_come_back, replies_are_read_again, stages_stay_apart};
 pub use outcome::Discovered;
-pub use replies::{write_pads, padt_frame};
+pub use replies::{padt_frame, write_pads};
 pub use taking::on_frame;

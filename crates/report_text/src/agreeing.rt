@@ -5,8 +5,8 @@ ghost use Rattle.id_table.specs.Ids.{at, ids_of};
 ghost use Rattle.world_model.specs.Run.{agree, is_session, session_count};
 
 use call_fsm::CallState;
-use id_table::Table;
 use end_model::{Call, Control, node_of};
+use id_table::Table;
 use std::alloc::Global;
 use tunnel_fsm::TunnelState;
 use wire_base::NoMemory;

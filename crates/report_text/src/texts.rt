@@ -7,10 +7,10 @@ ghost use Rattle.end_names.specs.Names.{node_of};
 ghost use Rattle.world_model.specs.Texts.{◌&◌, send_text, side_word, up_text, gone_text, frame_text, farewell_text, drop_text, cause_text};
 ghost use Rattle.world_model.specs.Run.{tunnel_text, call_text, agree_text, unfit_text, half_space_text, refusal_text};
 
-use itoa::Buffer;
 use end_model::{Call, Control, node_of};
-use world_model::Refusal;
+use itoa::Buffer;
 use wire_base::{Bytes, Cause, NoMemory, Side, Why};
+use world_model::Refusal;
 
 /// Appends a number in decimal.
 fn push_number(out: &mut Bytes, number: u64) -> Result<(), NoMemory>

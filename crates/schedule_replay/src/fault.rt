@@ -1,7 +1,7 @@
 //! Why a line isn't run.
 
-use world_model::Refusal;
 use wire_base::{NoMemory as OutOfMemory, Why};
+use world_model::Refusal;
 
 /// Why a line isn't run.
 #[derive(Clone, Copy)]

@@ -8,9 +8,9 @@ ghost use Rattle.end_core.specs.Fits.{fits};
 ghost use Rattle.schedule_replay.specs.Serving.{site_step, GivesSite};
 
 use end_core::End;
+use end_model::{Config, Event, Role};
 use lac_core::Lac;
 use lns_core::Lns;
-use end_model::{Config, Event, Role};
 use std::alloc::Global;
 use std::marker::Model;
 use tunnel_core::{Moves, Outputs};

@@ -8,8 +8,8 @@ ghost use Rattle.end_model.specs.End.{new_end};
 ghost use Rattle.world_model.specs.World.{config_of, count_at, later};
 
 use crate::kinds::NodeEnd;
-use id_table::Table;
 use end_model::{Config, Role, address_of};
+use id_table::Table;
 use std::alloc::Global;
 use std::marker::Model;
 use wire_base::{Bytes, NoMemory};

@@ -5,11 +5,11 @@ ghost use Rattle.world_model.specs.Run.{run, report_of, refusal_text};
 
 use crate::fault::LineFault;
 use crate::world::World;
-use world_model::Refusal;
 use report_text::push_refusal;
 use schedule_text::Line;
 use std::alloc::Global;
 use wire_base::{Bytes, NoMemory};
+use world_model::Refusal;
 
 /// What a run leaves.
 #[derive(Drop)]

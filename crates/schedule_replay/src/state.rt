@@ -13,9 +13,8 @@ use crate::fault::LineFault;
 use crate::node::{Node, config_of, copy_secret, count_at};
 use crate::tables::{push_agreement_table, push_end_table};
 use byteorder::{BigEndian, ByteOrder};
-use id_table::Table;
 use end_model::{Event, Move, Origin, Out, Role, address_of, node_of};
-use world_model::{Packet, Refusal};
+use id_table::Table;
 use report_text::{
     push_cause, push_drop, push_farewell, push_frame, push_gone, push_send, push_up, too_old,
 };
@@ -24,6 +23,7 @@ use std::alloc::Global;
 use std::marker::Model;
 use tunnel_core::Outputs;
 use wire_base::{Bytes, NoMemory, Sequence, Why};
+use world_model::{Packet, Refusal};
 
 /// The world's state.
 #[derive(Drop)]

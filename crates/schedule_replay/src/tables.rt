@@ -7,8 +7,8 @@ ghost use Rattle.world_model.specs.Run.{call_table, tunnel_line, node_table, end
 ghost use Rattle.tunnel_core.specs.Cores.{tunnel_of};
 
 use crate::node::{Node, count_at};
-use id_table::Table;
 use end_model::{Call, Control, node_of};
+use id_table::Table;
 use report_text::{agree, push_agree, push_call, push_tunnel, session_count};
 use std::alloc::Global;
 use tunnel_core::TunnelCore;

@@ -41,18 +41,18 @@ agrees asked answer = answer.receiver == asked.sender && (answer.sender == asked
 -- the first place, counted from one, at which answers aren't those to what was asked for
 abbrev pub difference : List Pair → List Pair → ℕ → Option ℕ
 difference [] [] at = None
-difference [] (a ∷ as) at = Some at
+difference [] (a ∷ bs) at = Some at
 difference (q ∷ qs) [] at = Some at
-difference (q ∷ qs) (a ∷ as) at = if agrees q a then difference qs as (at + 1) else Some at
+difference (q ∷ qs) (a ∷ bs) at = if agrees q a then difference qs bs (at + 1) else Some at
 
 -- what was asked for and isn't there
 abbrev pub gone_if : Bool → Pair → List Pair → List Pair
 gone_if gone q qs = if gone then q ∷ qs else qs
 
 abbrev pub gone_in : List Pair → List Pair → List Pair
-gone_in [] as = []
+gone_in [] bs = []
 gone_in (q ∷ qs) [] = []
-gone_in (q ∷ qs) (a ∷ as) = gone_if (a.sender == 0) q (gone_in qs as)
+gone_in (q ∷ qs) (a ∷ bs) = gone_if (a.sender == 0) q (gone_in qs bs)
 
 -- whether places of two lists agree; where both end, they do
 abbrev pub place_agrees : Option Pair → Option Pair → Bool

@@ -9,9 +9,9 @@ ghost use Rattle.end_model.specs.Owing.{owed_at};
 ghost use Rattle.end_model.specs.Asking.{is_call_of, call_of, session_named};
 
 use call_fsm::CallState;
+use end_model::Call;
 use id_index::Index;
 use id_table::Table;
-use end_model::Call;
 use std::alloc::Global;
 use std::marker::Model;
 use wire_base::{NoMemory, Sequence};

@@ -4,8 +4,8 @@ ghost use Rattle.std.specs.Prelude.{◌≡◌, OnOk, OnErr};
 ghost use Rattle.end_model.specs.Turn.{with_turn};
 
 use crate::turn::Turn;
-use id_source::Ids;
 use end_model::{Move, Out};
+use id_source::Ids;
 use session_looks::CellChanges;
 use std::marker::Model;
 use wire_base::{NoMemory, Sequence};

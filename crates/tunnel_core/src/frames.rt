@@ -5,8 +5,8 @@ ghost use Rattle.std.specs.Option.{option_copied};
 ghost use Rattle.end_model.specs.Frames.{carried, carries};
 
 use crate::turn::Turn;
-use l2tp_header::write_data;
 use end_model::{Call, FrameSent, Move, Origin, Out};
+use l2tp_header::write_data;
 use tunnel_rules::{is_passing, is_up};
 use wire_base::{Bytes, NoMemory, Why};
 

@@ -16,12 +16,12 @@ use crate::ringing::request_all;
 use crate::stopping::{close_tunnel, reject, take_stop};
 use crate::turn::Turn;
 use control_message::{Message, Opening};
+use end_model::{Config, Role};
 use l2tp_header::{Header, read_header};
 use message_reading::{
-    Reason, Said, connected_event, connected_reason, event_by, no_outgoing,
-    opening_reason, out_of_order, read_body,
+    Reason, Said, connected_event, connected_reason, event_by, no_outgoing, opening_reason,
+    out_of_order, read_body,
 };
-use end_model::{Config, Role};
 use recv_window::Class;
 use send_window::Letters;
 use session_looks::header_why;

@@ -6,8 +6,8 @@ ghost use Rattle.end_model.specs.Openings.{opened, opens, accepted, accepts, con
 
 use crate::turn::Turn;
 use control_message::Message;
-use message_reading::{connection_by, reply_by};
 use end_model::{Accepted, Config, Confirmed, Connected, Move, Opened, Out, Role};
+use message_reading::{connection_by, reply_by};
 use tunnel_fsm::{TunnelEvent, TunnelState, advance};
 use tunnel_rules::{challenge_by, opening_of};
 use wire_base::{Bytes, Cause, NoMemory, Why};

@@ -8,8 +8,8 @@ use crate::closing::end_by;
 use crate::turn::Turn;
 use call_fsm::CallAction;
 use control_message::Message;
-use message_reading::Reason;
 use end_model::{Call, Move, Out, Refused};
+use message_reading::Reason;
 use wire_base::{NoMemory, Why};
 
 /// Takes a letter to which a call does what its table says.

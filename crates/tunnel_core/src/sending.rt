@@ -10,8 +10,8 @@ ghost use Rattle.tunnel_core.specs.Gives.{WentBy};
 use crate::turn::Turn;
 use control_channel::ChannelNumbers;
 use control_message::{Message, hides_nothing_without_a_vector, write_message};
-use l2tp_header::write_control;
 use end_model::{ControlOrigin, LetGo, Move, NrRead, Origin, Out, Place, Repeated, TookPlain};
+use l2tp_header::write_control;
 use send_window::{LIMIT, Letters};
 use wire_base::{Bytes, Letter, NoMemory, Why};
 

@@ -9,8 +9,8 @@ ghost use Rattle.tunnel_fsm.specs.declared.table.TunnelEvent.TheVariants as even
 
 use crate::turn::Turn;
 use control_message::Message;
-use message_reading::Reason;
 use end_model::{Closed, ClosedBy, Move, Out, Rejected};
+use message_reading::Reason;
 use send_window::Letters;
 use tunnel_calls::TunnelCalls;
 use tunnel_fsm::{TunnelAction, TunnelEvent, TunnelState, advance};

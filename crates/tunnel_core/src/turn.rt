@@ -7,8 +7,8 @@ ghost use Rattle.end_model.specs.Turn.{with_output, with_move, with_change, with
 ghost use Rattle.end_model.specs.Openings.{with_local};
 
 use crate::env::{Env, Moves, Outputs};
-use id_source::{IdError, Ids};
 use end_model::{Call, Control, Move, Out};
+use id_source::{IdError, Ids};
 use session_looks::{CellChange, CellChanges};
 use std::alloc::Global;
 use std::marker::Model;

@@ -11,9 +11,9 @@ ghost use Rattle.end_model.specs.Links.{is_passing};
 
 use call_fsm::{CallAction, CallEvent, CallState, lac_advance, lns_advance};
 use control_message::Message;
+use end_model::{Call, CallStep, CallSteps, Link, Role, calling_number, twelve_digits};
 use id_source::IdError;
 use message_reading::Reason;
-use end_model::{Call, CallStep, CallSteps, Link, Role, calling_number, twelve_digits};
 use std::alloc::Global;
 use wire_base::{Cause, NoMemory};
 

@@ -7,8 +7,8 @@ ghost use Rattle.end_model.specs.End.{known_as, least_in};
 ghost use Rattle.tunnel_fsm.specs.Rows.{state_number};
 ghost use Rattle.tunnel_table.specs.Labels.{remote_label, state_label, remote_label_of, state_label_of, control_in, AreKept};
 
-use id_index::Index;
 use end_model::Control;
+use id_index::Index;
 use std::alloc::Global;
 use tunnel_fsm::TunnelState;
 use wire_base::NoMemory;

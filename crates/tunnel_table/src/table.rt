@@ -15,8 +15,8 @@ ghost use Rattle.tunnel_table.specs.Plans.{turn_at, IsPlanned, IsGiven, HasPlace
 ghost use Rattle.tunnel_table.specs.Tunnels.{tunnels_of};
 
 use crate::indexes::Indexes;
-use id_table::Table;
 use end_model::{Config, Control, Event, Role};
+use id_table::Table;
 use std::alloc::Global;
 use std::marker::Model;
 use tunnel_core::{Env, Planned, TunnelCore, same_state};
