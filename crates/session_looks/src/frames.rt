@@ -67,7 +67,7 @@ pub struct Way {
 }
 
 /// The way of a frame of a call that the peer knows, or why it is dropped.
-#[tactic(auto, unfolding(session_looks::specs::Frames::carry_known))]
+#[tactic(auto, unfolding(crate::specs::Frames::carry_known))]
 fn carry_known(
     role: Role,
     up: bool,
@@ -96,7 +96,7 @@ fn carry_known(
 
 /// What becomes of a data message from an address, by what is seen of the session that its header names: the way of its
 /// frame, or why it is dropped.
-#[tactic(auto, unfolding(session_looks::specs::Frames::carry_look))]
+#[tactic(auto, unfolding(crate::specs::Frames::carry_look))]
 pub fn carry_look(
     role: Role,
     look: Look,
