@@ -1,5 +1,6 @@
 -- What an end asks of its sessions, and what is answered.
 use Rattle.std.specs.Prelude.{ℕ, ◌+◌, ◌≡◌, ◌<◌, ◌==◌, ◌&&◌, ◌||◌, Bool, true, false, nat_le, if◌then◌else◌, List, [], ◌∷◌, ◌++◌, length, take, drop, slice_get, Option, Some, None, Result, Ok, Err}
+use Rattle.std.specs.List.{list_any}
 use Rattle.wire_base.specs.declared.pair.Pair.{Pair}
 
 -- the sessions to ask for, of how many it is known whether they are there, and of how many more it is asked
@@ -86,8 +87,7 @@ abbrev pub is_pair : Pair → Pair → Bool
 is_pair asked p = p.sender == asked.receiver && p.receiver == asked.sender
 
 abbrev pub is_here : List Pair → Pair → Bool
-is_here [] asked = false
-is_here (p ∷ here) asked = is_pair asked p || is_here here asked
+is_here here asked = list_any (λ p. is_pair asked p) here
 
 abbrev pub answer_to : List Pair → Pair → Pair
 answer_to here asked = record { sender = (if is_here here asked then asked.receiver else 0); receiver = asked.sender }

@@ -16,12 +16,7 @@ fn is_pair(asked: &Pair, pair: &Pair) -> bool
 fn is_here(here: &[Pair], asked: &Pair) -> bool
     ensures { result ≡ is_here here.now asked.now }
 {
-    for pair in here {
-        if is_pair(asked, pair) {
-            return true;
-        }
-    }
-    false
+    here.iter().any(|pair| is_pair(asked, pair))
 }
 
 fn answer_to(here: &[Pair], asked: &Pair) -> Pair

@@ -2,7 +2,6 @@
 //! pairs, one unanswered at a time, and what the answers tell. It knows no tunnel.
 #![tactic(auto)]
 
-ghost use Rattle.std.specs.Prelude.{◌≡◌, ◌≤◌, ℕ, List, length, OnOk, OnErr, IfOk, MatchResult, Ok, Err};
 ghost use Rattle.session_query.specs.Queries.{AreAskedInOrder};
 
 mod answering;

@@ -1,7 +1,7 @@
 //! What an end asks.
 
-ghost use Rattle.std.specs.Prelude.{◌≡◌, ◌+◌, ◌≤◌, ◌<◌, List, length, nat_lt, Some, None, Ok, Err, OnOk, OnErr, IfOk, MatchResult};
-ghost use Rattle.session_query.specs.Queries.{Asking, new_query, next_batch, with_batch, agrees, difference, gone_in, told_in, answered, unanswered, is_complete, IsFirst};
+ghost use Rattle.std.specs.Prelude.{◌≡◌, ◌++◌, ◌==◌, [], length, take, option_copied, OnOk, OnErr, IfOk};
+ghost use Rattle.session_query.specs.Queries.{new_query, next_batch, with_batch, agrees, place_agrees, difference, gone_if, gone_in, told_in, answered, is_complete};
 ghost use Rattle.session_query.specs.Says.{SaysGone};
 
 use std::alloc::Global;
@@ -19,12 +19,6 @@ pub enum FsrError {
     NotAsked { at: usize },
     /// Memory was wanting.
     NoMemory,
-}
-
-impl From<NoMemory> for FsrError {
-    fn from(_e: NoMemory) -> FsrError {
-        FsrError::NoMemory
-    }
 }
 
 /// The sessions that an end asks for, of how many of them it is known whether they are there, and of how many more it is asked.
@@ -53,12 +47,24 @@ fn agrees(asked: &Pair, answer: &Pair) -> bool
     answer.receiver == asked.sender && (answer.sender == asked.receiver || answer.sender == 0)
 }
 
+/// Whether what stands at a place of what was asked for and of an answer agrees; where both are at their end, it does.
+fn place_agrees(asked: Option<&Pair>, answer: Option<&Pair>) -> bool
+    ensures { result ≡ place_agrees (option_copied asked.entry) (option_copied answer.entry) }
+{
+    match (asked, answer) {
+        (Some(asked), Some(answer)) => agrees(asked, answer),
+        (None, None) => true,
+        _ => false,
+    }
+}
+
 /// The first place at which answers aren't those to what was asked for.
+#[tactic(auto, using(crate::proofs::Differences::one_agrees, crate::proofs::Differences::one_differs, crate::proofs::Differences::too_many, crate::proofs::Differences::all_agree))]
 fn first_difference(asked: &[Pair], answers: &[Pair]) -> Option<usize>
     ensures { result ≡ difference asked.now answers.now 0 }
 {
     for at in 0..asked.len() {
-        if at >= answers.len() || !agrees(&asked[at], &answers[at]) {
+        if !place_agrees(asked.get(at), answers.get(at)) {
             return Some(at);
         }
     }
@@ -69,6 +75,17 @@ fn first_difference(asked: &[Pair], answers: &[Pair]) -> Option<usize>
     }
 }
 
+/// Appends a pair that was asked for, where it isn't there by its answer.
+fn push_gone(gone: &mut Pairs, asked: Pair, answer: Pair) -> Result<(), NoMemory>
+    ensures { OnOk result (gone.new ≡ gone.old ++ gone_if (answer.sender == 0) asked []) }
+{
+    if answer.sender == 0 {
+        gone.push(asked)
+    } else {
+        Ok(())
+    }
+}
+
 /// What was asked for and isn't there.
 fn gone_in(alloc: Global, asked: &[Pair], answers: &[Pair]) -> Result<Pairs, NoMemory>
     requires { length asked.now ≡ length answers.now }
@@ -76,11 +93,17 @@ fn gone_in(alloc: Global, asked: &[Pair], answers: &[Pair]) -> Result<Pairs, NoM
 {
     let mut gone = Pairs::new(alloc);
     for at in 0..asked.len() {
-        if answers[at].sender == 0 {
-            gone.push(asked[at])?;
-        }
+        push_gone(&mut gone, asked[at], answers[at])?;
     }
     Ok(gone)
+}
+
+/// As many of these as a message asks for at most, from the front.
+#[tactic(auto, using(crate::proofs::Batches::few))]
+fn first_of(pairs: &[Pair]) -> &[Pair]
+    ensures { result.now ≡ take 64 pairs.now }
+{
+    &pairs[..pairs.len().min(BATCH)]
 }
 
 impl Query {
@@ -95,27 +118,38 @@ impl Query {
         }
     }
 
+    /// A copy of the next batch.
+    #[tactic(auto, using(crate::proofs::Batches::batch_is, crate::proofs::Batches::none_is, crate::proofs::Batches::over_is))]
+    fn copy_batch(&self, alloc: Global) -> Result<Option<Pairs>, NoMemory>
+        ensures { IfOk result (λ batch. batch ≡ next_batch self.now) }
+    {
+        if self.asked > 0 || self.done >= self.pairs.len() {
+            return Ok(None);
+        }
+        let left = &self.pairs.as_slice()[self.done..];
+        let batch = Pairs::from_slice(alloc, first_of(left))?;
+        Ok(Some(batch))
+    }
+
     /// The next batch to ask for, 64 pairs at most; none exactly where one is unanswered, or no pair is left. Where memory is
     /// wanting, the query is as before.
-    #[tactic(auto, unfolding(crate::specs::Queries::next_batch))]
+    #[tactic(auto, using(crate::proofs::Batches::batch_fits))]
     pub fn next_fsq(&mut self, alloc: Global) -> Result<Option<Pairs>, NoMemory>
         ensures batch { IfOk result (λ batch. batch ≡ next_batch self.old) }
         ensures ok { OnOk result (self.new ≡ with_batch self.old (next_batch self.old)) }
         ensures err { OnErr result (self.new ≡ self.old) }
     {
-        if self.asked > 0 || self.done == self.pairs.len() {
-            return Ok(None);
+        let batch = self.copy_batch(alloc)?;
+        if let Some(batch) = &batch {
+            self.asked = batch.len();
         }
-        let left = &self.pairs.as_slice()[self.done..];
-        let batch = Pairs::from_slice(alloc, &left[..left.len().min(BATCH)])?;
-        self.asked = batch.len();
-        Ok(Some(batch))
+        Ok(batch)
     }
 
     /// Hears the answer to the batch that is unanswered, and gives the sessions that are gone, as they were asked for: those whose
     /// answer has 0 for its sender. An answer agrees with a pair that was asked for where its receiver's id is the pair's sender's,
     /// and its sender's is the pair's receiver's, or 0. Where it is refused, the query is as before.
-    #[tactic(auto, unfolding(crate::specs::Queries::told_in))]
+    #[tactic(auto, using(crate::proofs::Differences::as_many), unfolding(crate::specs::Queries::told_in))]
     pub fn on_fsr(&mut self, alloc: Global, answers: &[Pair]) -> Result<Pairs, FsrError>
         // For callers: the answer as a function of the query and the pairs.
         ensures exact { SaysGone result (told_in self.old answers.now) }
@@ -129,10 +163,14 @@ impl Query {
         if let Some(at) = first_difference(asked, answers) {
             return Err(FsrError::NotAsked { at });
         }
-        let gone = gone_in(alloc, asked, answers)?;
-        self.done += self.asked;
-        self.asked = 0;
-        Ok(gone)
+        match gone_in(alloc, asked, answers) {
+            Ok(gone) => {
+                self.done += self.asked;
+                self.asked = 0;
+                Ok(gone)
+            }
+            Err(NoMemory) => Err(FsrError::NoMemory),
+        }
     }
 
     /// Whether of each session it is known whether it is there.
