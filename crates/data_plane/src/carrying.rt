@@ -1,6 +1,6 @@
 //! From a datagram to its frame, and from a frame to its datagram.
 
-ghost use Rattle.std.specs.Prelude.{ℕ, ◌≡◌, ◌≤◌, List, length, IfOk, Some};
+ghost use Rattle.std.specs.Prelude.{◌≡◌, ◌+◌, ◌≤◌, length, IfOk, Some};
 ghost use Rattle.l2tp_header.specs.Reading.{body_of};
 ghost use Rattle.l2tp_header.specs.Spelling.{data_bytes};
 ghost use Rattle.session_looks.specs.Frames.{frame_of};
@@ -37,6 +37,7 @@ fn place_of(body: &[u8], start: usize, end: usize) -> usize
 /// a drop are tried in the order `session`, `tunnel`, `peer`, `short`, `closed`; at an LNS a frame of LCP also goes up in a call
 /// in which frames of the network don't pass yet. It takes no memory. Condition: the header's body lies within the datagram, as
 /// that of a header that was read from it does.
+#[tactic(auto, using(crate::proofs::Frames::cut_is), unfolding(crate::specs::Carries::carry_of))]
 pub fn carry_look(look: Look, lns: bool, peer: u32, header: &Header, datagram: &[u8]) -> Carry
     requires ordered { header.now.start ≤ header.now.end }
     requires inside { header.now.end ≤ length datagram.now }
@@ -72,6 +73,7 @@ fn look_at(cells: &Cells, seen: &mut CellSeen, session: u16) -> Look
 
 /// What becomes of a datagram that isn't a control message and came from an address, at an LNS or at a LAC, by the cell of the
 /// session that its header names. A header that can't be read is dropped before all else. It takes no memory and doesn't wait.
+#[tactic(auto, unfolding(crate::specs::Carries::load_by))]
 pub fn carry_in(cells: &Cells, seen: &mut CellSeen, lns: bool, peer: u32, datagram: &[u8]) -> Carry
     requires of { IsOf cells.now seen.old }
     requires data { IsData datagram.now }
