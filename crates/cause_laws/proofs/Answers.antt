@@ -1,7 +1,7 @@
 -- What a line did are the moves of the step of the node to which it brings an event, and that step answers it.
-use Rattle.std.proofs.Common.{◌≡◌, ℕ, ◌+◌, ◌-◌, ◌^◌, List, [], ◌∷◌, ◌++◌, length, map, refl, sym, ap, ◌∙◌, subst, Option, Some, None, Result, Ok, Err, arith}
+use Rattle.std.proofs.Common.{◌≡◌, ℕ, ◌+◌, ◌-◌, List, [], ◌∷◌, ◌++◌, length, map, refl, sym, ap, ◌∙◌, subst, Option, Some, None, Result, Ok, Err, arith}
 use Rattle.std.proofs.lemmas.List.{length-append}
-use Rattle.std.specs.Prelude.{min, slice_get}
+use Rattle.std.specs.Prelude.{slice_get}
 use Rattle.id_table.specs.Ids.{at}
 use Rattle.wire_base.specs.declared.why.Why.{Why}
 use Rattle.schedule_text.specs.declared.line.Line.{Line}
@@ -11,12 +11,11 @@ use Rattle.end_model.specs.declared.event.Event.{Event}
 use Rattle.end_model.specs.declared.event.Event.TheVariants as event
 use Rattle.end_model.specs.declared.moves.Move.{Move}
 use Rattle.world_model.specs.declared.packet.Packet.{Packet}
-use Rattle.world_model.specs.declared.refusal.Refusal.{Refusal}
 use Rattle.end_names.specs.Names.{address_of}
 use Rattle.end_model.specs.Secrets.{uncovered_event}
 use Rattle.end_model.specs.End.{Stepped, step}
-use Rattle.step_laws.specs.Lines.{is_lac_at, is_lns_at, is_declared, has_call, has_tunnel}
-use Rattle.world_model.specs.World.{World, Node, Sender, Deed, Lined, after_step, given, declared, lac_at, lns_at, with_call, with_tunnel, later, block_of, stepped, addressee_of, arrival, refused_by, sender_of, arrives, delivers_it, delivers, line}
+use Rattle.step_laws.specs.Lines.{is_lac_at, is_lns_at, is_declared, has_call, has_tunnel, is_put_on, step_line, deliver_line}
+use Rattle.world_model.specs.World.{World, Node, Sender, Deed, Lined, after_step, given, declared, lac_at, lns_at, with_call, with_tunnel, later, block_of, stepped, sender_of, line}
 use Rattle.world_model.specs.Run.{run}
 use Rattle.step_laws.specs.Answers.{RequestsAreAnswered}
 use Rattle.connection_laws.specs.Accounts.{account_of}
@@ -121,7 +120,7 @@ frame_does w number m bytes n node ev was to brings = record {
 -- of each kind
 line_does : (w : World) (number : ℕ) (l : Line) (x : Lined) → line w number l ≡ Ok x → (n : ℕ) (node : Node) (ev : Event) → at w.nodes n ≡ Some node
     → Brings w l n ev → Does w number l x n node ev
-unfolding line arrives delivers delivers_it arrival addressee_of stepped
+unfolding line
 line_does w number (Remark text) x h n node ev was brings = absurd brings
 line_does w number (Lac m k secret hide) x h n node ev was brings = absurd brings
 line_does w number (Lns m secret) x h n node ev was brings = absurd brings
@@ -148,40 +147,26 @@ line_does w number (Hang m session) x h n node ev was brings =
 line_does w number (DropCall m session) x h n node ev was brings =
     stepped_does w number (DropCall m session) x m (event.DropCall session) None (with_call session (declared (at w.nodes m)))
     (λ q e. is_declared (at w.nodes m) q (has_call session (declared (at w.nodes m)) q e)) (λ q. refl) h n node ev was brings.0 brings.1
-line_does w number (Deliver k) x h n node ev was brings = delivered (slice_get w.packets (k - 1)) refl h
-  where
-    arrived : (p : Packet) → slice_get w.packets (k - 1) ≡ Some p → (q : Node) → at w.nodes p.to ≡ Some q → (o : Option Refusal)
-        → arrives w number p q o ≡ Ok x → Does w number (Deliver k) x n node ev
-    arrived p sent q there (Some f) e = absurd cc
-    arrived p sent q there None e =
-        let both : Some p ≡ Some brings.0 = sym sent ∙ brings.1 in
-        let same : brings.0 ≡ p = cc in
-        stepped_does w number (Deliver k) x p.to (event.Datagram (address_of p.from) p.bytes) (sender_of p.from p.origin) (Ok q)
-        (λ y is. (let here : q ≡ y = cc in rw (← here) there)) (λ y. refl) e
-        n node ev was (brings.2 ∙ ap (λ (y : Packet). y.to) same)
-        (brings.3 ∙ ap (λ (y : Packet). event.Datagram (address_of y.from) y.bytes) same)
-
-    addressed : (p : Packet) → slice_get w.packets (k - 1) ≡ Some p → (o : Option Node) → at w.nodes p.to ≡ o
-        → delivers_it w number (addressee_of p o) ≡ Ok x → Does w number (Deliver k) x n node ev
-    addressed p sent None is e = absurd cc
-    addressed p sent (Some q) is e = arrived p sent q is (refused_by p q p.origin) e
-
-    delivered : (o : Option Packet) → slice_get w.packets (k - 1) ≡ o → delivers w number o ≡ Ok x → Does w number (Deliver k) x n node ev
-    delivered None sent e = absurd cc
-    delivered (Some p) sent e = addressed p sent (at w.nodes p.to) refl e
-line_does w number (Tick m milliseconds) x h n node ev was brings = ticked (at w.nodes m) refl h
-  where
-    ticked : (o : Option Node) → at w.nodes m ≡ o → stepped w number m event.Tick None (later milliseconds (declared o)) ≡ Ok x
-        → Does w number (Tick m milliseconds) x n node ev
-    ticked None is e = absurd cc
-    ticked (Some old) is e =
-        let timed = record old { clock = min (old.clock + milliseconds) (2 ^ 64 - 1) } in
-        let made : after_step w number m timed None (step timed.end timed.clock (block_of m number) event.Tick) ≡ x = cc in
-        let both : Some old ≡ Some node = sym is ∙ (ap (at w.nodes) (sym brings.0) ∙ was) in
-        let same : old ≡ node = cc in
-        let done : Does w number (Tick m milliseconds) x m old event.Tick =
-        of_step w number (Tick m milliseconds) x m old timed event.Tick None refl refl made in
-        rw (brings.0, brings.1, ← same) done
+line_does w number (Deliver k) x h n node ev was brings =
+    deliver_line (Does w number (Deliver k) x n node ev) w number x (line w number (Deliver k)) (slice_get w.packets (k - 1))
+    (λ p q sent there young so leads.
+    let both : Some p ≡ Some brings.0 = sym sent ∙ brings.1 in
+    let same : brings.0 ≡ p = cc in
+    stepped_does w number (Deliver k) x p.to (event.Datagram (address_of p.from) p.bytes) (sender_of p.from p.origin) (Ok q)
+    (λ y is. (let here : q ≡ y = cc in rw (← here) there)) (λ y. refl) leads
+    n node ev was (brings.2 ∙ ap (λ (y : Packet). y.to) same)
+    (brings.3 ∙ ap (λ (y : Packet). event.Datagram (address_of y.from) y.bytes) same))
+    refl h
+line_does w number (Tick m milliseconds) x h n node ev was brings =
+    step_line (Does w number (Tick m milliseconds) x n node ev) w number x m event.Tick None (later milliseconds (declared (at w.nodes m)))
+    (λ timed e made.
+    let k = is_put_on w m milliseconds timed e in
+    let both : Some k.old ≡ Some node = sym k.there ∙ (ap (at w.nodes) (sym brings.0) ∙ was) in
+    let same : k.old ≡ node = cc in
+    let done : Does w number (Tick m milliseconds) x m k.old event.Tick =
+    of_step w number (Tick m milliseconds) x m k.old timed event.Tick None (ap (λ (q : Node). q.end) (sym k.same)) (ap (λ (q : Node). q.clock) (sym k.same)) made in
+    rw (brings.0, brings.1, ← same) done)
+    h
 
 -- ---- runs
 

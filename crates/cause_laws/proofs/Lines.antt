@@ -1,6 +1,6 @@
 -- What a line makes is of a step of one node, which the line brings.
-use Rattle.std.proofs.Common.{◌≡◌, inl, inr, ⊎_elim, ℕ, ◌+◌, ◌-◌, ◌^◌, List, [], ◌∷◌, refl, subst, Option, Some, None, Result, Ok, Err, Bool, true, false, ◌++◌, ap, sym, ◌∙◌}
-use Rattle.std.specs.Prelude.{is_some, if◌then◌else◌, min, slice_get}
+use Rattle.std.proofs.Common.{◌≡◌, inl, inr, ⊎_elim, ℕ, ◌+◌, ◌-◌, List, [], ◌∷◌, refl, subst, Option, Some, None, Result, Ok, Err, Bool, true, false, ◌++◌, ap, sym, ◌∙◌}
+use Rattle.std.specs.Prelude.{is_some, if◌then◌else◌, slice_get}
 use Rattle.std.specs.List.{AllByRecursion}
 use Rattle.id_table.specs.Ids.{at}
 use Rattle.id_source.specs.Spaces.{draws}
@@ -14,16 +14,14 @@ use Rattle.end_model.specs.declared.event.Event.{Event}
 use Rattle.end_model.specs.declared.event.Event.TheVariants as event
 use Rattle.end_model.specs.declared.out.Out.{Out}
 use Rattle.end_model.specs.declared.out.Out.TheVariants.{Send, Up, Gone, Drop, Cause}
-use Rattle.world_model.specs.declared.packet.Packet.{Packet}
-use Rattle.world_model.specs.declared.refusal.Refusal.{Refusal}
 use Rattle.world_model.specs.declared.refusal.Refusal.TheVariants.{Unfit}
 use Rattle.end_names.specs.declared.role.Role.{Role}
 use Rattle.end_names.specs.declared.role.Role.TheVariants as role
 use Rattle.end_names.specs.Names.{address_of}
 use Rattle.end_model.specs.Secrets.{uncovered_event}
-use Rattle.end_model.specs.End.{End, Stepped, new_end, step}
-use Rattle.step_laws.specs.Lines.{tested_not, is_lac_at, is_lns_at, is_declared, has_call, has_tunnel}
-use Rattle.world_model.specs.World.{World, Node, Sender, Lined, quiet_line, with_node, after_step, given, entries_of, entry_of, shown, moved_all, sent, declared, lac_at, lns_at, with_call, with_tunnel, later, new_node, answer_entries, added, block_of, stepped, addressee_of, arrival, refused_by, sender_of, arrives, delivers_it, delivers, line}
+use Rattle.end_model.specs.End.{End, Stepped, step}
+use Rattle.step_laws.specs.Lines.{tested_not, is_lac_at, is_lns_at, is_declared, has_call, has_tunnel, is_put_on, step_line, deliver_line}
+use Rattle.world_model.specs.World.{World, Node, Sender, Lined, quiet_line, with_node, after_step, given, entries_of, entry_of, shown, moved_all, sent, declared, lac_at, lns_at, with_call, with_tunnel, later, new_node, answer_entries, added, block_of, stepped, sender_of, line}
 use Rattle.step_laws.specs.Letters.{Among}
 use Rattle.step_laws.specs.Steps.{AreKept}
 use Rattle.step_laws.specs.Room.{StepsRefuseTruly}
@@ -32,7 +30,7 @@ use Rattle.end_model.specs.Access.{coming, Ignores, Answers, live_in, pads_for, 
 use Rattle.wire_base.specs.declared.cause.Cause.{Cause as BecauseOf}
 use Rattle.world_model.specs.Texts.{Entry, Frames}
 use Rattle.step_laws.specs.Hosts.{LacAt, with_host, reply_to, OfFrame, frame_line, never_full, discovery_refuses, frame_answered, host_enters}
-use Rattle.cause_laws.specs.Causes.{Brings, ByItsHost, ByAPadr, CauseStandsIn, AtTheEnd, InDiscovery, moment_of, CauseIsTrue, IsFullAt, AnswersEntry, WithSession, WithCause, OfDiscovery, OfLiveCall, OfEntry, IsTrue, TellsTruly}
+use Rattle.cause_laws.specs.Causes.{Brings, ByItsHost, ByAPadr, CauseStandsIn, AtTheEnd, InDiscovery, moment_of, IsFullAt, AnswersEntry, WithSession, WithCause, OfDiscovery, OfLiveCall, OfEntry, IsTrue, TellsTruly}
 
 -- ---- the outputs of a step, and the entries that they make
 
@@ -185,7 +183,7 @@ frame_true causes room w kept number n bytes = record {
 
 -- of each kind
 pub line_true : CausesStand → StepsRefuseTruly → (w : World) → EndsAreKept w → (number : ℕ) (l : Line) → TellsTruly w number l
-unfolding line arrives delivers delivers_it arrival addressee_of stepped
+unfolding line
 line_true causes room w kept number (Remark text) x h =
     let is : quiet_line w ≡ x = cc in quiet_true causes room w kept number (Remark text) x w is
 line_true causes room w kept number (Lac n m secret hide) x h =
@@ -215,30 +213,16 @@ line_true causes room w kept number (Hang n session) x h =
 line_true causes room w kept number (DropCall n session) x h =
     stepped_true causes room w kept number (DropCall n session) x n (event.DropCall session) None (with_call session (declared (at w.nodes n)))
     (λ node e. is_declared (at w.nodes n) node (has_call session (declared (at w.nodes n)) node e)) (λ node. refl) (refl, refl) h
-line_true causes room w kept number (Deliver k) x h = delivered (slice_get w.packets (k - 1)) refl h
-  where
-    arrived : (p : Packet) → slice_get w.packets (k - 1) ≡ Some p → (node : Node) → at w.nodes p.to ≡ Some node → (o : Option Refusal)
-        → arrives w number p node o ≡ Ok x → AllByRecursion (IsTrue w number (Deliver k)) x.entries
-    arrived p sent node there (Some f) e = absurd (cc)
-    arrived p sent node there None e =
-        stepped_true causes room w kept number (Deliver k) x p.to (event.Datagram (address_of p.from) p.bytes) (sender_of p.from p.origin) (Ok node)
-        (λ q same. (let is : node ≡ q = cc in rw (← is) there)) (λ q. refl) (p, sent, refl, refl) e
-
-    addressed : (p : Packet) → slice_get w.packets (k - 1) ≡ Some p → (o : Option Node) → at w.nodes p.to ≡ o
-        → delivers_it w number (addressee_of p o) ≡ Ok x → AllByRecursion (IsTrue w number (Deliver k)) x.entries
-    addressed p sent None is e = absurd (cc)
-    addressed p sent (Some node) is e = arrived p sent node is (refused_by p node p.origin) e
-
-    delivered : (o : Option Packet) → slice_get w.packets (k - 1) ≡ o → delivers w number o ≡ Ok x
-        → AllByRecursion (IsTrue w number (Deliver k)) x.entries
-    delivered None sent e = absurd (cc)
-    delivered (Some p) sent e = addressed p sent (at w.nodes p.to) refl e
-line_true causes room w kept number (Tick n milliseconds) x h = ticked (at w.nodes n) refl h
-  where
-    ticked : (o : Option Node) → at w.nodes n ≡ o → stepped w number n event.Tick None (later milliseconds (declared o)) ≡ Ok x
-        → AllByRecursion (IsTrue w number (Tick n milliseconds)) x.entries
-    ticked None is e = absurd (cc)
-    ticked (Some old) is e =
-        let node = record old { clock = min (old.clock + milliseconds) (2 ^ 64 - 1) } in
-        let same : after_step w number n node None (step node.end node.clock (block_of n number) event.Tick) ≡ x = cc in
-        of_step causes room w kept number (Tick n milliseconds) x n old node event.Tick None is refl refl (refl, refl) same
+line_true causes room w kept number (Deliver k) x h =
+    deliver_line (AllByRecursion (IsTrue w number (Deliver k)) x.entries) w number x (line w number (Deliver k)) (slice_get w.packets (k - 1))
+    (λ p node sent there young so leads.
+    stepped_true causes room w kept number (Deliver k) x p.to (event.Datagram (address_of p.from) p.bytes) (sender_of p.from p.origin) (Ok node)
+    (λ q same. (let is : node ≡ q = cc in rw (← is) there)) (λ q. refl) (p, sent, refl, refl) leads)
+    refl h
+line_true causes room w kept number (Tick n milliseconds) x h =
+    step_line (AllByRecursion (IsTrue w number (Tick n milliseconds)) x.entries) w number x n event.Tick None (later milliseconds (declared (at w.nodes n)))
+    (λ node e is.
+    let k = is_put_on w n milliseconds node e in
+    of_step causes room w kept number (Tick n milliseconds) x n k.old node event.Tick None k.there (ap (λ (q : Node). q.end) (sym k.same))
+    (ap (λ (q : Node). q.clock) (sym k.same)) (refl, refl) is)
+    h

@@ -1,8 +1,7 @@
 -- Each line of a schedule.
-use Rattle.std.proofs.Common.{◌≡◌, ⊎_elim, ℕ, ◌+◌, ◌-◌, ◌^◌, ◌<◌, false, List, [], refl, sym, ap, ◌∙◌, subst, Option, Some, None, Result, Ok, Err, arith, Bool, ◌∷◌, ◌++◌, length}
-use Rattle.std.proofs.lemmas.Bool.{true≢false}
+use Rattle.std.proofs.Common.{◌≡◌, ⊎_elim, ℕ, ◌+◌, ◌-◌, ◌^◌, ◌<◌, false, List, [], refl, sym, ap, ◌∙◌, subst, Option, Some, None, Result, Ok, Err, arith, Bool, ◌∷◌, ◌++◌}
 use Rattle.std.proofs.lemmas.Option.{none-some}
-use Rattle.std.specs.Prelude.{is_some, min, slice_get}
+use Rattle.std.specs.Prelude.{is_some, slice_get}
 use Rattle.id_table.specs.Ids.{at, put, at-none}
 use Rattle.id_table.specs.Order.{at_new, at_other, same_or_not, ascends-empty}
 use Rattle.wire_base.specs.declared.why.Why.{Why}
@@ -14,19 +13,18 @@ use Rattle.end_model.specs.Secrets.{uncovered_event}
 use Rattle.end_model.specs.declared.event.Event.{Event}
 use Rattle.end_model.specs.declared.event.Event.TheVariants as event
 use Rattle.world_model.specs.declared.packet.Packet.{Packet}
-use Rattle.world_model.specs.declared.refusal.Refusal.{Refusal}
 use Rattle.world_model.specs.declared.refusal.Refusal.TheVariants.{Unfit}
 use Rattle.end_names.specs.declared.role.Role.{Role}
 use Rattle.end_names.specs.declared.role.Role.TheVariants as role
 use Rattle.end_names.specs.Names.{address_of}
-use Rattle.end_model.specs.End.{End, plain_step, new_end, step, is_not_closed}
-use Rattle.step_laws.specs.Lines.{tested, tested_not, is_lac_at, is_lns_at, is_declared, has_call}
-use Rattle.world_model.specs.World.{World, Node, Sender, Lined, quiet_line, with_node, after_step, declared, lac_at, lns_at, with_call, with_tunnel, later, config_of, new_node, answer_entries, added, block_of, stepped, addressee_of, arrival, refused_by, sender_of, arrives, delivers_it, delivers, line}
+use Rattle.end_model.specs.End.{End, plain_step, new_end, step}
+use Rattle.step_laws.specs.Lines.{tested_not, is_lac_at, is_lns_at, is_declared, has_call, has_tunnel, none_there, IsAt, at_moment, is_at, is_later, deliver_line}
+use Rattle.world_model.specs.World.{World, Node, Sender, Lined, quiet_line, with_node, after_step, declared, lac_at, lns_at, with_call, with_tunnel, later, config_of, new_node, answer_entries, added, block_of, stepped, sender_of, delivers, line}
 use Rattle.step_laws.specs.Steps.{AreKept}
 use Rattle.frame_laws.specs.Codecs.{Codecs}
 use Rattle.end_model.specs.Access.{Access}
 use Rattle.world_model.specs.Texts.{Entry, Drops, Frames}
-use Rattle.step_laws.specs.Hosts.{LacAt, with_host, reply_to, HostDoes, HostSends, HostLeaves, OfFrame, frame_line}
+use Rattle.step_laws.specs.Hosts.{LacAt, with_host, entering, reply_to, HostDoes, HostSends, HostLeaves, OfFrame, frame_line}
 use Rattle.connection_laws.specs.Accounts.{Account, no_account, account_from}
 use Rattle.connection_laws.specs.Facts.{Accounts, IsMade, EndOk, PacketOk, Comes, NodeOk, Holds}
 use Rattle.connection_laws.proofs.Hearing.{all_at}
@@ -34,34 +32,6 @@ use Rattle.connection_laws.proofs.Starts.{is_packet}
 use Rattle.connection_laws.proofs.Budget.{GivenBelow}
 use Rattle.connection_laws.specs.Steps.{LineDoes, Nothing, ANode, AStep}
 use Rattle.connection_laws.proofs.Worlds.{births_same, added_births, Goes, Laws, step_ok, step_does}
-
--- ---- which node it is
-
--- by cases on a test
--- a node of the world, at some moment
-record IsAt (w : World) (n : ℕ) (node : Node) : Type 0 where
-  before : Node
-  there : at w.nodes n ≡ Some before
-  same : node ≡ record before { clock = node.clock; access = node.access }
-
-is_there : (w : World) (n : ℕ) (node : Node) → at w.nodes n ≡ Some node → IsAt w n node
-is_there w n node h = record { before = node; there = h; same = refl }
-
-is_later : (w : World) (n milliseconds : ℕ) (o : Option Node) (node : Node) → at w.nodes n ≡ o → later milliseconds (declared o) ≡ Ok node → IsAt w n node
-is_later w n milliseconds None node is h = absurd (cc)
-is_later w n milliseconds (Some x) node is h =
-    let now = min (x.clock + milliseconds) (2 ^ 64 - 1) in
-    let e : record x { clock = now } ≡ node = cc in
-    subst (IsAt w n) e (record { before = x; there = is; same = refl })
-
--- one that has a live tunnel that isn't closed
-has_tunnel : (i : ℕ) (r : Result Node Why) (node : Node) → with_tunnel i r ≡ Ok node → r ≡ Ok node
-has_tunnel i (Err x) node h = absurd (cc)
-has_tunnel i (Ok x) node h = ap (λ y. Ok y) (tested (is_not_closed (at x.end.tunnels i)) x why.Tunnel node h).1
-
-none_there : {X : Type 0} (o : Option X) → is_some o ≡ false → o ≡ None
-none_there None h = refl
-none_there (Some x) h = absurd (true≢false h)
 
 -- ---- a node that is new
 
@@ -159,39 +129,25 @@ module _ (codecs : Codecs) (laws : Laws) (number : ℕ) (w : World) (accs : Acco
       subst (Does w accs (most + 16384) number) e
       (timed_ok n (uncovered_event node.end.config.secret ev) sender node (is node refl) (comes node refl))
 
-  -- a packet that was sent comes to its node
-  arrives_ok : (x : Lined) (p : Packet) (node : Node) → at w.nodes p.to ≡ Some node → PacketOk accs p → (o : Option Refusal)
-      → refused_by p node p.origin ≡ o → arrives w number p node o ≡ Ok x → Does w accs (most + 16384) number x
-  unfolding arrives
-  arrives_ok x p node there sent (Some f) young h = absurd (cc)
-  arrives_ok x p node there sent None young h =
+  -- what is delivered is a packet that was sent, and may be
+  delivers_ok : (x : Lined) (o : Option Packet) → ((p : Packet) → o ≡ Some p → PacketOk accs p) → delivers w number o ≡ Ok x
+      → Does w accs (most + 16384) number x
+  delivers_ok x o sent h = deliver_line (Does w accs (most + 16384) number x) w number x (delivers w number o) o
+      (λ p node found there young so leads.
       let ok : EndOk accs p.to node.end × AreKept node.end = subst (NodeOk accs p.to) there (holds.nodes p.to) in
       stepped_ok x p.to (event.Datagram (address_of p.from) p.bytes) (sender_of p.from p.origin) (Ok node)
-      (λ q e. (let same : node ≡ q = cc in rw (← same) (is_there w p.to node there)))
+      (λ q e. (let same : node ≡ q = cc in rw (← same) (is_at w p.to node there)))
       (λ q e. (let same : node ≡ q = cc in
       subst
       (λ (y : Node). Comes accs p.to y.end (sender_of p.from p.origin) (uncovered_event y.end.config.secret (event.Datagram (address_of p.from) p.bytes)))
       same
-      (is_packet codecs accs holds.accounts p.to node ok.0 p sent refl young))) h
-
-  -- what may be delivered is a packet that was sent, and its node is declared
-  delivers_ok : (x : Lined) (o : Option Packet) → ((p : Packet) → o ≡ Some p → PacketOk accs p) → delivers w number o ≡ Ok x
-      → Does w accs (most + 16384) number x
-  unfolding delivers delivers_it arrival addressee_of
-  delivers_ok x None sent h = absurd (cc)
-  delivers_ok x (Some p) sent h = by (at w.nodes p.to) refl h
-    where
-      by : (o : Option Node) → at w.nodes p.to ≡ o → delivers_it w number (addressee_of p o) ≡ Ok x → Does w accs (most + 16384) number x
-      by None is h = absurd (cc)
-      by (Some node) is h = arrives_ok x p node is (sent p refl) (refused_by p node p.origin) refl h
+      (is_packet codecs accs holds.accounts p.to node ok.0 p (sent p found) refl young))) leads)
+      refl h
 
   host_comes : (n : ℕ) (a : Access) (e : End) (bytes : List ℕ) (ev : Event) → HostDoes a e bytes ev → (q : End) (secret : Option (List ℕ))
       → Comes accs n q None (uncovered_event secret ev)
   host_comes n a e bytes ev (HostSends src session start stop is of) q secret = tt
   host_comes n a e bytes ev (HostLeaves src session is of) q secret = tt
-
-  entering : (n : ℕ) (l : LacAt w n) (src : List ℕ) (uniq : Option (List ℕ)) (node : Node) → with_host w number n l src uniq ≡ node → IsAt w n node
-  entering n l src uniq node e = subst (IsAt w n) e (record { before = l.node; there = l.there; same = refl })
 
   -- more entries change nothing of what a line does
   more_told : (x : Lined) (es : List Entry) → LineDoes w accs number x → LineDoes w accs number (record x { entries = es })
@@ -222,7 +178,7 @@ module _ (codecs : Codecs) (laws : Laws) (number : ℕ) (w : World) (accs : Acco
       → Does w accs (most + 16384) number (record x { entries = es })
   only_told n bytes l es x h =
       let k =
-      stepped_ok x n (event.Frame bytes) None (Ok l.node) (λ node e. (let same : l.node ≡ node = cc in rw (← same) (is_there w n l.node l.there)))
+      stepped_ok x n (event.Frame bytes) None (Ok l.node) (λ node e. (let same : l.node ≡ node = cc in rw (← same) (is_at w n l.node l.there)))
       (λ node e. tt) h in
       record { goes = k.goes; does = more_told x es k.does }
 
@@ -231,12 +187,12 @@ module _ (codecs : Codecs) (laws : Laws) (number : ℕ) (w : World) (accs : Acco
     ignored = λ l word is x h. only_told n bytes l (Drops number n word ∷ []) x h;
     answered = λ l because frame is x h. only_told n bytes l (answer_entries number n because frame) x h;
     done = λ l ev is does x h.
-        stepped_ok x n ev None (Ok l.node) (λ node e. (let same : l.node ≡ node = cc in rw (← same) (is_there w n l.node l.there)))
+        stepped_ok x n ev None (Ok l.node) (λ node e. (let same : l.node ≡ node = cc in rw (← same) (is_at w n l.node l.there)))
         (λ node e. host_comes n l.access l.node.end bytes ev does node.end node.end.config.secret) h;
     entered = λ l src uniq asked is x h.
         let k =
         stepped_ok x n (event.Admitted src) None (Ok (with_host w number n l src uniq))
-        (λ node e. (let same : with_host w number n l src uniq ≡ node = cc in entering n l src uniq node same)) (λ node e. tt) h in
+        (λ node e. (let same : with_host w number n l src uniq ≡ node = cc in entering w number n l src uniq node same)) (λ node e. tt) h in
         record { goes = k.goes; does = more_told x (x.entries ++ Frames number n (reply_to w number n l src asked) ∷ []) k.does };
   }
 
@@ -248,27 +204,27 @@ module _ (codecs : Codecs) (laws : Laws) (number : ℕ) (w : World) (accs : Acco
       added_ok w accs number holds most had n role.Lac (address_of m) secret hide (omega (arith, fits.0.1)) (λ lac. (m, omega (arith, fits.1.1), refl)) x h
   line_ok x (Lns n secret) fits h = added_ok w accs number holds most had n role.Lns 0 secret false (omega (arith, fits.0.1)) (λ lac. absurd cc) x h
   line_ok x (OpenUp n) fits h =
-      stepped_ok x n event.OpenTunnel None (lac_at (at w.nodes n)) (λ node e. is_there w n node ((is_lac_at (at w.nodes n) node e).0)) (λ node e. tt) h
+      stepped_ok x n event.OpenTunnel None (lac_at (at w.nodes n)) (λ node e. is_at w n node ((is_lac_at (at w.nodes n) node e).0)) (λ node e. tt) h
   line_ok x (Close n i) fits h =
       stepped_ok x n (event.CloseTunnel i) None (with_tunnel i (declared (at w.nodes n)))
-      (λ node e. is_there w n node (is_declared (at w.nodes n) node (has_tunnel i (declared (at w.nodes n)) node e))) (λ node e. tt) h
+      (λ node e. is_at w n node (is_declared (at w.nodes n) node (has_tunnel i (declared (at w.nodes n)) node e))) (λ node e. tt) h
   line_ok x (Ring n port) fits h =
-      stepped_ok x n (event.Ring port) None (lac_at (at w.nodes n)) (λ node e. is_there w n node ((is_lac_at (at w.nodes n) node e).0)) (λ node e. tt) h
+      stepped_ok x n (event.Ring port) None (lac_at (at w.nodes n)) (λ node e. is_at w n node ((is_lac_at (at w.nodes n) node e).0)) (λ node e. tt) h
   line_ok x (Frame n bytes) fits h = frame_line (Does w accs (most + 16384) number) w number n bytes (of_frame n bytes) x h
   line_ok x (FromSub n session frame) fits h =
       stepped_ok x n (event.Payload session frame) None (with_call session (lac_at (at w.nodes n)))
-      (λ node e. is_there w n node ((is_lac_at (at w.nodes n) node (has_call session (lac_at (at w.nodes n)) node e)).0)) (λ node e. tt) h
+      (λ node e. is_at w n node ((is_lac_at (at w.nodes n) node (has_call session (lac_at (at w.nodes n)) node e)).0)) (λ node e. tt) h
   line_ok x (Down n session frame) fits h =
       stepped_ok x n (event.Lower session frame) None (with_call session (lns_at (at w.nodes n)))
-      (λ node e. is_there w n node ((is_lns_at (at w.nodes n) node (has_call session (lns_at (at w.nodes n)) node e)).0)) (λ node e. tt) h
+      (λ node e. is_at w n node ((is_lns_at (at w.nodes n) node (has_call session (lns_at (at w.nodes n)) node e)).0)) (λ node e. tt) h
   line_ok x (Hang n session) fits h =
       stepped_ok x n (event.Hang session) None (with_call session (lac_at (at w.nodes n)))
-      (λ node e. is_there w n node ((is_lac_at (at w.nodes n) node (has_call session (lac_at (at w.nodes n)) node e)).0)) (λ node e. tt) h
+      (λ node e. is_at w n node ((is_lac_at (at w.nodes n) node (has_call session (lac_at (at w.nodes n)) node e)).0)) (λ node e. tt) h
   line_ok x (DropCall n session) fits h =
       stepped_ok x n (event.DropCall session) None (with_call session (declared (at w.nodes n)))
-      (λ node e. is_there w n node (is_declared (at w.nodes n) node (has_call session (declared (at w.nodes n)) node e))) (λ node e. tt) h
+      (λ node e. is_at w n node (is_declared (at w.nodes n) node (has_call session (declared (at w.nodes n)) node e))) (λ node e. tt) h
   line_ok x (Deliver k) fits h =
       delivers_ok x (slice_get w.packets (k - 1)) (λ p e. all_at (PacketOk accs) w.packets (k - 1) p e holds.packets) h
   line_ok x (Tick n milliseconds) fits h =
-      stepped_ok x n event.Tick None (later milliseconds (declared (at w.nodes n))) (λ node e. is_later w n milliseconds (at w.nodes n) node refl e)
+      stepped_ok x n event.Tick None (later milliseconds (declared (at w.nodes n))) (λ node e. at_moment w n node (is_later w n milliseconds node e))
       (λ node e. tt) h

@@ -8,12 +8,12 @@ use Rattle.world_model.specs.declared.refusal.Refusal.{Refusal}
 use Rattle.world_model.specs.World.{Node, Deed, Lined, line}
 use Rattle.world_model.specs.Run.{Run, empty_run, after_line, goes_on, run_from}
 use Rattle.frame_laws.specs.Codecs.{Codecs}
-use Rattle.connection_laws.specs.Accounts.{Account, no_account, after_deed, account_from, account_of}
+use Rattle.connection_laws.specs.Accounts.{no_account, account_from, account_of}
 use Rattle.connection_laws.specs.Facts.{Accounts, AccountOk, NodeOk, Holds}
 use Rattle.connection_laws.specs.Channels.{HoldsInRuns}
 use Rattle.connection_laws.specs.Steps.{HoldsAt, LinesGoOn}
 use Rattle.connection_laws.proofs.Budget.{GivenBelow}
-use Rattle.connection_laws.proofs.Steps.{afterwards}
+use Rattle.connection_laws.proofs.Steps.{afterwards, from-append}
 use Rattle.connection_laws.proofs.Worlds.{Goes, Laws}
 use Rattle.connection_laws.proofs.Lines.{line_ok}
 
@@ -27,12 +27,7 @@ where_it_fits P rest r number (Ok l) stops more = more l refl
 
 -- ---- accounts of a longer history
 
-from-append : (ds es : List Deed) (n i : ℕ) (a : Account) → account_from es n i (account_from ds n i a) ≡ account_from (ds ++ es) n i a
-unfolding account_from
-from-append [] es n i a = refl
-from-append (d ∷ ds) es n i a = from-append ds es n i (after_deed d n i a)
-
-accounts_more : (ds es : List Deed) → afterwards (account_of ds) es ≡ account_of (ds ++ es)
+pub accounts_more : (ds es : List Deed) → afterwards (account_of ds) es ≡ account_of (ds ++ es)
 accounts_more ds es = fun_ext (λ n. fun_ext (λ i. from-append ds es n i no_account))
 
 -- ---- before each line

@@ -1,5 +1,5 @@
 -- What a chain of moves of a step keeps.
-use Rattle.std.proofs.Common.{◌≡◌, ⊎_elim, ℕ, ◌+◌, ◌*◌, ◌^◌, ◌<◌, ◌≤◌, List, [], ◌∷◌, length, map, refl, sym, ap, ◌∙◌, subst, Option, Some, Ok, arith, flat_map}
+use Rattle.std.proofs.Common.{◌≡◌, ⊎_elim, ℕ, ◌+◌, ◌*◌, ◌^◌, ◌<◌, ◌≤◌, List, [], ◌∷◌, ◌++◌, length, map, refl, sym, ap, ◌∙◌, subst, Option, Some, Ok, arith, flat_map}
 use Rattle.std.proofs.lemmas.List.{length-append}
 use Rattle.id_table.specs.Ids.{at}
 use Rattle.id_source.specs.Spaces.{draws}
@@ -18,7 +18,8 @@ use Rattle.step_laws.specs.Letters.{Among}
 use Rattle.step_laws.specs.Moves.{Does, Chain, Declines, SendsFrame}
 use Rattle.step_laws.specs.Codes.{decline_codes_fit}
 use Rattle.step_laws.specs.Ups.{reads_of_move}
-use Rattle.connection_laws.specs.Accounts.{Account, no_account, about, account_from}
+use Rattle.frame_laws.proofs.Chains.{does_role}
+use Rattle.connection_laws.specs.Accounts.{Account, no_account, about, after_deed, account_from}
 use Rattle.connection_laws.specs.Facts.{Accounts, IsOpen, Within}
 use Rattle.connection_laws.proofs.Keeps.{after, IsMoved, MovesKeep}
 use Rattle.connection_laws.specs.Steps.{MovesWithin, ClosingsAreKnown, DeclinesAreOfOpenings}
@@ -28,37 +29,6 @@ use Rattle.connection_laws.proofs.States.{not_closed, is_open_so, is_waiting, cl
 use Rattle.connection_laws.proofs.Written.{draw_is}
 use Rattle.connection_laws.proofs.Beginning.{undrawn}
 use Rattle.connection_laws.proofs.Budget.{AckedBelow, GivenBelow, does_below, given_after, has_numbers, has_counts, few_out}
-
--- ---- a move keeps the end's role
-
-does_role : (moment : ℕ) (ev : Event) (x : End) (m : Move) (y : End) → Does x moment ev m y → y.role ≡ x.role
-does_role moment ev x (move.Opened m) y h = ap (λ (e : End). e.role) h.after
-does_role moment ev x (move.Accepted m) y h = ap (λ (e : End). e.role) h.after
-does_role moment ev x (move.Connected m) y h = ap (λ (e : End). e.role) h.after
-does_role moment ev x (move.Confirmed m) y h = ap (λ (e : End). e.role) h.after
-does_role moment ev x (move.Added m) y h = ap (λ (e : End). e.role) h.after
-does_role moment ev x (move.Requested m) y h = ap (λ (e : End). e.role) h.after
-does_role moment ev x (move.Replied m) y h = ap (λ (e : End). e.role) h.after
-does_role moment ev x (move.FirstUp m) y h = ap (λ (e : End). e.role) h.after
-does_role moment ev x (move.SecondUp m) y h = ap (λ (e : End). e.role) h.after
-does_role moment ev x (move.Refused m) y h = ap (λ (e : End). e.role) h.after
-does_role moment ev x (move.EndTold m) y h = ap (λ (e : End). e.role) h.after
-does_role moment ev x (move.EndHeard m) y h = ap (λ (e : End). e.role) h.after
-does_role moment ev x (move.EndSilent m) y h = ap (λ (e : End). e.role) h.after
-does_role moment ev x (move.Declined m) y h = ap (λ (e : End). e.role) h.after
-does_role moment ev x (move.Closed m) y h = ap (λ (e : End). e.role) h.after
-does_role moment ev x (move.Rejected m) y h = ap (λ (e : End). e.role) h.after
-does_role moment ev x (move.ClosedBy m) y h = ap (λ (e : End). e.role) h.after
-does_role moment ev x (move.Cleared i) y h = ap (λ (e : End). e.role) h.after
-does_role moment ev x (move.Greeted m) y h = ap (λ (e : End). e.role) h.after
-does_role moment ev x (move.TookPlain m) y h = ap (λ (e : End). e.role) h.after
-does_role moment ev x (move.NrRead m) y h = ap (λ (e : End). e.role) h.after
-does_role moment ev x (move.LetGo m) y h = ap (λ (e : End). e.role) h.after
-does_role moment ev x (move.Repeated m) y h = ap (λ (e : End). e.role) h.after
-does_role moment ev x (move.Quiet i) y h = ap (λ (e : End). e.role) h.after
-does_role moment ev x (move.Negotiated m) y h = ap (λ (e : End). e.role) h.after
-does_role moment ev x (move.FrameSent m) y h = ap (λ (e : End). e.role) h.after
-does_role moment ev x (move.FrameUp m) y h = ap (λ (e : End). e.role) h.after
 
 -- ---- what a tunnel is before a move that makes it, that learns its partner, or that closes it
 
@@ -128,18 +98,24 @@ frame_fits accs n e x sender moment ev f within h = rw h.remote ((within.end.liv
 abbrev pub afterwards : Accounts → List Deed → Accounts
 afterwards accs ds k j = account_from ds k j (accs k j)
 
--- what a step of a node leaves
-pub record Kept (accs ms : Accounts) (n : ℕ) (x : End) (sender : Option Sender) (ev : Event) (most : ℕ) : Type 0 where
+pub from-append : (ds es : List Deed) (n i : ℕ) (a : Account) → account_from es n i (account_from ds n i a) ≡ account_from (ds ++ es) n i a
+unfolding account_from
+from-append [] es n i a = refl
+from-append (d ∷ ds) es n i a = from-append ds es n i (after_deed d n i a)
+
+-- what a step of a node leaves: so many letters are acknowledged at most, and so many are given
+pub record Kept (accs ms : Accounts) (n : ℕ) (x : End) (sender : Option Sender) (ev : Event) (acked most : ℕ) : Type 0 where
   pub within : Within ms n x sender ev
+  pub below : AckedBelow x acked
   pub given : GivenBelow ms most
   pub grown : AllExtend accs ms
   -- of the tunnels of other nodes only SCCRQs may be declined
   pub others : (k j : ℕ) → (k ≡ n → ⊥) → Stays (accs k j) (ms k j)
 
 -- and its moves, each made where all of it holds
-pub record Ran (accs ms : Accounts) (n : ℕ) (e x : End) (sender : Option Sender) (moment : ℕ) (ev : Event) (deed : Move → Deed) (made : List Move) (most : ℕ)
-    : Type 0 where
-  pub kept : Kept accs ms n x sender ev most
+pub record Ran (accs ms : Accounts) (n : ℕ) (e x : End) (sender : Option Sender) (moment : ℕ) (ev : Event) (deed : Move → Deed) (made : List Move)
+    (acked most : ℕ) : Type 0 where
+  pub kept : Kept accs ms n x sender ev acked most
   pub moves : MovesWithin accs n e sender moment ev deed made x
   pub openings : (q : Declined) → Among (move.Declined q) made → WasOpening ms n q
   pub frames : FramesFit made
@@ -189,11 +165,13 @@ module _ (moves_keep : MovesKeep) (closings : ClosingsAreKnown) (declines : Decl
 
   pub chain_keeps : (ms : List Move) (accs : Accounts) (e x : End) (top most : ℕ) → Chain moment ev e ms x → e.role ≡ r → Within accs n e sender ev
       → AckedBelow e top → GivenBelow accs most → top + 8192 * length (reads_in ms) + 8192 ≤ most → most + 3 < 2 ^ 64
-      → Ran accs (afterwards accs (deeds v line n r sender ms)) n e x sender moment ev (λ m. deed_of v line n r sender m) ms most
+      → Ran accs (afterwards accs (deeds v line n r sender ms)) n e x sender moment ev (λ m. deed_of v line n r sender m) ms
+      (top + 8192 * length (reads_in ms)) most
   unfolding account_from
   chain_keeps [] accs e x top most h role within below had room last = record {
     kept = record {
       within = subst (λ y. Within accs n y sender ev) h within;
+      below = λ i t there. let le = below i t (subst (λ (y : End). at y.tunnels i ≡ Some t) (sym h) there) in omega arith;
       given = had;
       grown = λ k j. extends_same (accs k j);
       others = λ k j o. stays_same (accs k j) (accs k j) refl;
@@ -223,6 +201,7 @@ module _ (moves_keep : MovesKeep) (closings : ClosingsAreKnown) (declines : Decl
       record {
         kept = record {
           within = k.kept.within;
+          below = λ i t there. let le = k.kept.below i t there in omega (arith, count);
           given = k.kept.given;
           grown = λ i j. extends_on (accs i j) (after accs d i j) (left i j) (leaves.grown i j) (k.kept.grown i j);
           others = λ i j o. stays_on (accs i j) (after accs d i j) (left i j) (leaves.others i j o) (k.kept.others i j o);

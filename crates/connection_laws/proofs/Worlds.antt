@@ -1,5 +1,7 @@
 -- What a step of a node leaves of the world.
-use Rattle.std.proofs.Common.{◌≡◌, ⊎_elim, ℕ, ◌+◌, ◌^◌, ◌<◌, ◌≤◌, List, [], ◌∷◌, ◌++◌, refl, sym, ap, ◌∙◌, subst, Option, Some, None, arith}
+use Rattle.std.proofs.Common.{◌≡◌, ⊎_elim, ℕ, ◌+◌, ◌*◌, ◌^◌, ◌<◌, ◌≤◌, List, [], ◌∷◌, ◌++◌, length, refl, sym, ap, ◌∙◌, subst, Option, Some, None, arith}
+use Rattle.std.proofs.lemmas.List.{length-append, map-append}
+use Rattle.std.proofs.lemmas.Grind.{flat_map-append}
 use Rattle.std.specs.Prelude.{option_map}
 use Rattle.std.specs.List.{AllByRecursion}
 use Rattle.id_table.specs.Ids.{at, put, at-none}
@@ -11,18 +13,24 @@ use Rattle.end_model.specs.declared.moves.Move.{Move}
 use Rattle.end_model.specs.declared.moves.Move.TheVariants as move
 use Rattle.end_model.specs.declared.out.Out.{Out}
 use Rattle.end_model.specs.declared.out.Out.TheVariants.{Send, Up, Gone, Drop, Cause}
+use Rattle.end_model.specs.declared.out.Origin.{Origin}
 use Rattle.world_model.specs.declared.packet.Packet.{Packet}
 use Rattle.end_names.specs.Names.{node_of}
+use Rattle.end_model.specs.Tunnels.{Tunnel}
 use Rattle.end_model.specs.End.{End, Stepped, plain_step}
 use Rattle.world_model.specs.World.{World, Node, Sender, Deed, birth_in, birth_of, deed_of, with_node, with_birth_at, with_birth, is_born, moved, moved_all, sent, shown, shown_all, given, after_step}
-use Rattle.step_laws.specs.Steps.{AreKept, IsSent, IsDecline, IsOfMoves, IsChain, StepsAreChains}
-use Rattle.step_laws.specs.Ups.{most_reads, ReadsAreFew}
-use Rattle.connection_laws.specs.Accounts.{no_account}
+use Rattle.step_laws.specs.Letters.{Carries}
+use Rattle.step_laws.specs.Moves.{Chain}
+use Rattle.step_laws.specs.Steps.{AreKept, InChain, IsSent, IsDecline, IsOfMoves, IsChain, StepsAreChains}
+use Rattle.step_laws.specs.Ups.{reads_of_move, most_reads, ReadsAreFew}
+use Rattle.frame_laws.proofs.Chains.{same_role}
+use Rattle.connection_laws.specs.Accounts.{no_account, account_from}
 use Rattle.connection_laws.specs.Facts.{Accounts, IsMade, EndOk, PacketOk, Comes, Within, NodeOk, Holds}
 use Rattle.connection_laws.proofs.Keeps.{MovesKeep}
+use Rattle.connection_laws.proofs.Puts.{Extends}
 use Rattle.connection_laws.proofs.Later.{AllExtend, packet_later}
 use Rattle.connection_laws.proofs.Budget.{GivenBelow, acked_given}
-use Rattle.connection_laws.proofs.Steps.{afterwards, deeds, Kept, chain_keeps, Ran}
+use Rattle.connection_laws.proofs.Steps.{reads_in, afterwards, from-append, deeds, Kept, chain_keeps, Ran}
 use Rattle.connection_laws.specs.Steps.{ClosingsAreKnown, DeclinesAreOfOpenings}
 pub use Rattle.connection_laws.specs.Steps.{end_at, BirthsStay, LineSteps}
 use Rattle.connection_laws.proofs.Sent.{carries_ok}
@@ -265,22 +273,70 @@ module _ (laws : Laws) (number : ℕ) (w : World) (accs : Accounts) (holds : Hol
   begun : Within accs n old.end sender ev
   begun = record { accounts = holds.accounts; end = ok.0; comes = comes }
 
-  ran : Ran accs ms n old.end s.end sender moment ev (λ m. deed_of v number n old.end.role sender m) s.moves (most + 16384)
-  ran =
-      let reads = laws.reads old.end moment block ev in
-      let few = few_reads ev in
-      chain_keeps laws.moves laws.closings laws.declines v number n old.end.role sender moment ev s.moves accs old.end s.end most (most + 16384)
-      chain.chain refl begun
-      (acked_given accs n old.end most ok.0 had) (λ k j. (let le = had k j in omega arith)) (omega arith) (omega (arith, room))
+  -- the deeds of some of its moves
+  abbrev did : List Move → List Deed
+  did made = deeds v number n old.end.role sender made
 
-  kept : Kept accs ms n s.end sender ev (most + 16384)
+  -- the count of letters that are acknowledged after these moves
+  abbrev acked_by : List Move → ℕ
+  acked_by made = most + 8192 * length (reads_in made)
+
+  one_read : length (reads_in s.moves) ≤ 1
+  one_read = let reads = laws.reads old.end moment block ev in let few = few_reads ev in omega arith
+
+  -- the first moves of the step, up to an end
+  first_ran : (made : List Move) (y : End) → Chain moment ev old.end made y → length (reads_in made) ≤ 1
+      → Ran accs (afterwards accs (did made)) n old.end y sender moment ev (λ m. deed_of v number n old.end.role sender m) made (acked_by made) (most + 16384)
+  first_ran made y leads reads =
+      chain_keeps laws.moves laws.closings laws.declines v number n old.end.role sender moment ev made accs old.end y most (most + 16384)
+      leads refl begun
+      (acked_given accs n old.end most ok.0 had) (λ k j. (let le = had k j in omega arith)) (omega (arith, reads)) (omega (arith, room))
+
+  ran : Ran accs ms n old.end s.end sender moment ev (λ m. deed_of v number n old.end.role sender m) s.moves (acked_by s.moves) (most + 16384)
+  ran = first_ran s.moves s.end chain.chain one_read
+
+  kept : Kept accs ms n s.end sender ev (acked_by s.moves) (most + 16384)
   kept = ran.kept
 
-  send_ok : (o : Out) → IsOfMoves s.end s.moves o → SendOk (PacketOk ms) n o
+  -- what holds at an end of its chain, and what the moves behind it leave of the accounts as they are there
+  module _ (amid : InChain moment ev old.end s.moves s.end) where
+    abbrev so_far : Accounts
+    so_far = afterwards accs (did amid.made)
+
+    reads_add : length (reads_in s.moves) ≡ length (reads_in amid.made) + length (reads_in amid.rest)
+    reads_add = ap (λ qs. length (reads_in qs)) amid.moves_are ∙ ap length (flat_map-append reads_of_move amid.made amid.rest)
+        ∙ length-append (reads_in amid.made) (reads_in amid.rest)
+
+    made_ran : Ran accs so_far n old.end amid.end sender moment ev (λ m. deed_of v number n old.end.role sender m) amid.made (acked_by amid.made) (most + 16384)
+    made_ran = first_ran amid.made amid.end amid.comes (omega (arith, reads_add, one_read))
+
+    rest_ran : Ran so_far (afterwards so_far (did amid.rest)) n amid.end s.end sender moment ev (λ m. deed_of v number n old.end.role sender m) amid.rest
+        (acked_by amid.made + 8192 * length (reads_in amid.rest)) (most + 16384)
+    rest_ran =
+        chain_keeps laws.moves laws.closings laws.declines v number n old.end.role sender moment ev amid.rest so_far amid.end s.end
+        (acked_by amid.made) (most + 16384) amid.goes (same_role moment ev old.end amid.end amid.made amid.comes) made_ran.kept.within
+        made_ran.kept.below made_ran.kept.given (omega (arith, reads_add, one_read)) (omega (arith, room))
+
+    did_all : did s.moves ≡ did amid.made ++ did amid.rest
+    did_all = ap did amid.moves_are ∙ map-append (λ m. deed_of v number n old.end.role sender m) amid.made amid.rest
+
+    whole : (k j : ℕ) → afterwards so_far (did amid.rest) k j ≡ ms k j
+    whole k j = from-append (did amid.made) (did amid.rest) k j (accs k j) ∙ ap (λ ds. account_from ds k j (accs k j)) (sym did_all)
+
+    grown_on : AllExtend so_far ms
+    grown_on k j = subst (λ a. Extends (so_far k j) a) (whole k j) (rest_ran.kept.grown k j)
+
+    -- what is sent there stays so
+    sent_ok : (peer id : ℕ) (tunnel : Tunnel) → at amid.end.tunnels id ≡ Some tunnel → peer ≡ tunnel.control.peer → (bytes : List ℕ) (o : Origin)
+        → Carries tunnel amid.made bytes o → PacketOk ms (record { from = n; to = node_of peer; bytes = bytes; origin = o })
+    sent_ok peer id tunnel there peer_is bytes o carries =
+        packet_later so_far ms grown_on (record { from = n; to = node_of peer; bytes = bytes; origin = o })
+        (carries_ok so_far n amid.end sender ev (most + 16384) made_ran.kept.within made_ran.kept.given (omega (arith, room)) id tunnel there peer peer_is bytes
+        amid.made made_ran.frames o carries)
+
+  send_ok : (o : Out) → IsOfMoves moment ev old.end s.moves s.end o → SendOk (PacketOk ms) n o
   send_ok (Send peer bytes o) h = ⊎_elim
-      (λ (k : IsSent s.end s.moves peer bytes o).
-      carries_ok ms n s.end sender ev (most + 16384) kept.within kept.given (omega (arith, room)) k.id k.tunnel k.there peer k.peer_is bytes s.moves
-      ran.frames o k.carries)
+      (λ (k : IsSent moment ev old.end s.moves s.end peer bytes o). sent_ok k.amid peer k.id k.tunnel k.there k.peer_is bytes o k.carries)
       (λ (k : IsDecline s.moves peer bytes o).
       declined_ok ms n kept.within.end.node k.declined (ran.openings k.declined k.there) peer bytes o k.peer_is k.bytes_are k.origin_is)
       h
@@ -309,7 +365,7 @@ module _ (laws : Laws) (number : ℕ) (w : World) (accs : Accounts) (holds : Hol
     holds = record {
       accounts = kept.within.accounts;
       nodes = λ k. subst (λ ns. NodeOk ms k (at ns k)) (sym (shown_nodes n s.outputs v)) (node_ok k);
-      packets = shown_packets (PacketOk ms) n s.outputs v (all_map (IsOfMoves s.end s.moves) (SendOk (PacketOk ms) n) send_ok s.outputs chain.outputs)
+      packets = shown_packets (PacketOk ms) n s.outputs v (all_map (IsOfMoves moment ev old.end s.moves s.end) (SendOk (PacketOk ms) n) send_ok s.outputs chain.outputs)
           (subst (λ ps. AllByRecursion (PacketOk ms) ps) (sym same.packets)
           (all_map (PacketOk accs) (PacketOk ms) (λ p h. packet_later accs ms kept.grown p h) w.packets holds.packets));
     };

@@ -15,7 +15,7 @@ use Rattle.frame_laws.proofs.Leads.{Heard, heard_later, At, Leads}
 use Rattle.frame_laws.proofs.Moves.{does_led}
 
 -- a move keeps the end's role
-does_role : (moment : ℕ) (ev : Event) (x : End) (m : Move) (y : End) → Does x moment ev m y → y.role ≡ x.role
+pub does_role : (moment : ℕ) (ev : Event) (x : End) (m : Move) (y : End) → Does x moment ev m y → y.role ≡ x.role
 does_role moment ev x (move.Opened m) y h = ap (λ (e : End). e.role) h.after
 does_role moment ev x (move.Accepted m) y h = ap (λ (e : End). e.role) h.after
 does_role moment ev x (move.Connected m) y h = ap (λ (e : End). e.role) h.after
@@ -47,6 +47,12 @@ does_role moment ev x (move.FrameUp m) y h = ap (λ (e : End). e.role) h.after
 pub same_role : (moment : ℕ) (ev : Event) (x y : End) (ms : List Move) → Chain moment ev x ms y → y.role ≡ x.role
 same_role moment ev x y [] h = ap (λ (e : End). e.role) (sym h)
 same_role moment ev x y (m ∷ ms) h = same_role moment ev h.0 y ms h.2 ∙ does_role moment ev x m h.0 h.1
+
+-- the moves of a chain and those behind them
+pub moved_more : (n : ℕ) (ms ns : List Move) (w : World) → moved_all n (ms ++ ns) w ≡ moved_all n ns (moved_all n ms w)
+unfolding moved_all
+moved_more n [] ns w = refl
+moved_more n (m ∷ ms) ns w = moved_more n ms ns (moved n w m)
 
 module _ (digits : (who : List ℕ) → length (calling_number who) ≡ 12) (n : ℕ) (z : End) (moment : ℕ) (ev : Event) where
   pub record Ran (v w : World) (x y : End) : Type 0 where

@@ -1,9 +1,8 @@
 -- Each line of a schedule.
-use Rattle.std.proofs.Common.{◌≡◌, ◌⊎◌, ⊎_elim, ℕ, ◌+◌, ◌-◌, ◌^◌, ◌<◌, Bool, false, List, [], ◌∷◌, take, drop, refl, sym, ◌∙◌, subst, Option, Some, None, Result, Ok, Err, arith, ap}
-use Rattle.std.proofs.lemmas.Bool.{true≢false}
+use Rattle.std.proofs.Common.{◌≡◌, ◌⊎◌, ⊎_elim, ℕ, ◌-◌, ◌<◌, Bool, false, List, [], ◌∷◌, take, drop, refl, sym, ◌∙◌, subst, Option, Some, None, Result, Ok, Err, arith, ap}
 use Rattle.std.proofs.lemmas.Option.{none-some}
 use Rattle.std.proofs.lemmas.List.{append-nil}
-use Rattle.std.specs.Prelude.{is_some, min, slice_get}
+use Rattle.std.specs.Prelude.{is_some, slice_get}
 use Rattle.std.specs.List.{AllByRecursion}
 use Rattle.id_table.specs.Ids.{at, put, at-none}
 use Rattle.id_table.specs.Order.{at_new, at_other, found_put, same_or_not, ascends-empty}
@@ -15,15 +14,14 @@ use Rattle.schedule_text.specs.Grammar.{FitsLine}
 use Rattle.end_model.specs.declared.event.Event.{Event}
 use Rattle.end_model.specs.declared.event.Event.TheVariants as event
 use Rattle.world_model.specs.declared.packet.Packet.{Packet}
-use Rattle.world_model.specs.declared.refusal.Refusal.{Refusal}
 use Rattle.world_model.specs.declared.refusal.Refusal.TheVariants.{Unfit}
 use Rattle.end_names.specs.declared.role.Role.{Role}
 use Rattle.end_names.specs.declared.role.Role.TheVariants as role
 use Rattle.end_names.specs.Names.{address_of}
 use Rattle.end_model.specs.Secrets.{uncovered_event}
 use Rattle.end_model.specs.End.{End, plain_step, step, step_in, gives_only}
-use Rattle.step_laws.specs.Lines.{tested_not, is_lac_at, is_lns_at, is_declared, has_call, has_tunnel}
-use Rattle.world_model.specs.World.{World, Node, Sender, Lined, quiet_line, with_node, after_step, given, declared, lac_at, lns_at, with_call, with_tunnel, later, new_node, answer_entries, added, block_of, stepped, addressee_of, arrival, refused_by, sender_of, arrives, delivers_it, delivers, line}
+use Rattle.step_laws.specs.Lines.{tested_not, is_lac_at, is_lns_at, is_declared, has_call, has_tunnel, none_there, IsTimed, is_there, IsAt, at_moment, is_later, deliver_line}
+use Rattle.world_model.specs.World.{World, Node, Sender, Lined, quiet_line, with_node, after_step, given, declared, lac_at, lns_at, with_call, with_tunnel, later, new_node, answer_entries, added, block_of, stepped, sender_of, delivers, line}
 use Rattle.frame_laws.specs.Codecs.{Codecs}
 use Rattle.frame_laws.specs.Past.{Passage, sent_in, handed_in}
 use Rattle.frame_laws.specs.Frames.{GivesInStep}
@@ -34,7 +32,7 @@ use Rattle.frame_laws.proofs.Births.{not_lns, Counted}
 use Rattle.wire_base.specs.declared.cause.Cause.{Cause}
 use Rattle.end_model.specs.Access.{Access}
 use Rattle.world_model.specs.Texts.{Entry, Drops, Frames}
-use Rattle.step_laws.specs.Hosts.{LacAt, with_host, reply_to, HostDoes, HostSends, HostLeaves, OfFrame, frame_line}
+use Rattle.step_laws.specs.Hosts.{LacAt, with_host, entering, reply_to, HostDoes, HostSends, HostLeaves, OfFrame, frame_line}
 use Rattle.frame_laws.proofs.Ups.{ups_in-append}
 use Rattle.frame_laws.proofs.Worlds.{Below, LineGives, ByLine, ByHost, ByLcp, WhyGiven, ByEvent, ByLcpEnd, StepGives, Counts, Goes, IsReal, StepOk, step_ok}
 
@@ -138,10 +136,6 @@ module _ (ns : Nodes) (number n : ℕ) (r : Role) (lns : ℕ) (secret : Option (
             had.apart i s m q b a.1 c.1 (plays_there i role.Lac a.0 one) (plays_there m role.Lac c.0 two);
       }
 
-none_there : {X : Type 0} (o : Option X) → is_some o ≡ false → o ≡ None
-none_there None h = refl
-none_there (Some x) h = absurd (true≢false h)
-
 module _ (number : ℕ) (w : World) (gs : List Passage) (holds : Holds w gs) (l : Line)
     (n : ℕ) (r : Role) (lns : ℕ) (secret : Option (List ℕ)) (hide : Bool) (lt : n < 256) (none : at w.nodes n ≡ None) where
   abbrev new : Node
@@ -171,33 +165,6 @@ unfolding added
 added_ok number w gs holds l n r lns secret hide lt x h =
     let t = tested_not (is_some (at w.nodes n)) (quiet_line (with_node w n (new_node number n r lns secret hide))) (Unfit why.Twice) x h in
     subst (LineOk number w gs l) t.1 (more_ok number w gs holds l n r lns secret hide lt (none_there (at w.nodes n) t.0))
-
--- ---- nodes that make a step
-
--- a node of the world, at some moment
-record IsTimed (w : World) (n : ℕ) (node : Node) : Type 0 where
-  before : Node
-  there : at w.nodes n ≡ Some before
-  same : node ≡ record before { clock = node.clock }
-
-is_there : (w : World) (n : ℕ) (node : Node) → at w.nodes n ≡ Some node → IsTimed w n node
-is_there w n node h = record { before = node; there = h; same = refl }
-
-is_later : (w : World) (n milliseconds : ℕ) (o : Option Node) (node : Node) → at w.nodes n ≡ o → later milliseconds (declared o) ≡ Ok node → IsTimed w n node
-is_later w n milliseconds None node is h = absurd (cc)
-is_later w n milliseconds (Some x) node is h =
-    let now = min (x.clock + milliseconds) (2 ^ 64 - 1) in
-    let e : record x { clock = now } ≡ node = cc in
-    subst (IsTimed w n) e (record { before = x; there = is; same = refl })
-
--- a LAC may keep more of its hosts, too
-record IsAt (w : World) (n : ℕ) (node : Node) : Type 0 where
-  before : Node
-  there : at w.nodes n ≡ Some before
-  same : node ≡ record before { clock = node.clock; access = node.access }
-
-at_moment : (w : World) (n : ℕ) (node : Node) → IsTimed w n node → IsAt w n node
-at_moment w n node t = subst (IsAt w n) (sym t.same) (record { before = t.before; there = t.there; same = refl })
 
 -- ---- frames that lines give
 
@@ -334,31 +301,19 @@ module _ (codecs : Codecs) (laws : StepLaws) (number : ℕ) (w : World) (gs : Li
       })
 
 module _ (codecs : Codecs) (laws : StepLaws) (number : ℕ) (w : World) (gs : List Passage) (holds : Holds w gs) (below : Below number gs) where
-  -- a packet that was sent comes to its node
-  arrives_ok : (l : Line) (x : Lined) (p : Packet) (node : Node) → at w.nodes p.to ≡ Some node → PacketOk w.nodes gs p → (o : Option Refusal)
-      → line w number l ≡ arrives w number p node o → arrives w number p node o ≡ Ok x → LineOk number w gs l x
-  unfolding arrives
-  arrives_ok l x p node there sent (Some f) is h = absurd (cc)
-  arrives_ok l x p node there sent None is h =
+  -- what is delivered is a packet that was sent
+  delivers_ok : (l : Line) (x : Lined) (o : Option Packet) → ((p : Packet) → o ≡ Some p → PacketOk w.nodes gs p)
+      → line w number l ≡ delivers w number o → line w number l ≡ Ok x → LineOk number w gs l x
+  delivers_ok l x o sent is h = deliver_line (LineOk number w gs l x) w number x (line w number l) o
+      (λ p node found there young so leads.
       let ev = event.Datagram (address_of p.from) p.bytes in
       let from = sender_of p.from p.origin in
-      stepped_ok codecs laws number w gs holds below l x p.to ev from (Ok node)
-      (λ q e. (let same : node ≡ q = cc in
       let here = is_there w p.to node there in
-      rw (← same) (at_moment w p.to node here, no_frame w number p.to l ev from node tt (λ lns. (here, is)))))
-      (λ secret. record { from = p.from; number = sent.from; address = refl; bytes_ok = sent.bytes secret }) h
-
-  -- what may be delivered is a packet that was sent, and its node is declared
-  delivers_ok : (l : Line) (x : Lined) (o : Option Packet) → ((p : Packet) → o ≡ Some p → PacketOk w.nodes gs p)
-      → line w number l ≡ delivers w number o → delivers w number o ≡ Ok x → LineOk number w gs l x
-  unfolding delivers delivers_it arrival addressee_of
-  delivers_ok l x None sent is h = absurd (cc)
-  delivers_ok l x (Some p) sent is h = by (at w.nodes p.to) refl is h
-    where
-      by : (o : Option Node) → at w.nodes p.to ≡ o → line w number l ≡ delivers_it w number (addressee_of p o)
-          → delivers_it w number (addressee_of p o) ≡ Ok x → LineOk number w gs l x
-      by None there is h = absurd (cc)
-      by (Some node) there is h = arrives_ok l x p node there (sent p refl) (refused_by p node p.origin) is h
+      let ok = sent p found in
+      stepped_ok codecs laws number w gs holds below l x p.to ev from (Ok node)
+      (λ q e. (let same : node ≡ q = cc in rw (← same) (at_moment w p.to node here, no_frame w number p.to l ev from node tt (λ lns. (here, so)))))
+      (λ secret. record { from = p.from; number = ok.from; address = refl; bytes_ok = ok.bytes secret }) leads)
+      is h
 
   -- no frame of a LAC on an event that gives none
   of_lac : (n : ℕ) (bytes : List ℕ) (ev : Event) (node : Node) → node.end.role ≡ role.Lac → HasNoFrame ev → (g : Passage) → NodeGives number n node ev g
@@ -396,9 +351,6 @@ module _ (codecs : Codecs) (laws : StepLaws) (number : ℕ) (w : World) (gs : Li
   host_real n a e bytes ev (HostSends src session start stop is of) secret = tt
   host_real n a e bytes ev (HostLeaves src session is of) secret = tt
 
-  entering : (n : ℕ) (l : LacAt w n) (src : List ℕ) (uniq : Option (List ℕ)) (node : Node) → with_host w number n l src uniq ≡ node → IsAt w n node
-  entering n l src uniq node e = subst (IsAt w n) e (record { before = l.node; there = l.there; same = refl })
-
   no_ups : (n : ℕ) (because : Option Cause) (frame : List ℕ) → ups_in (answer_entries number n because frame) ≡ []
   unfolding ups_in
   no_ups n None frame = refl
@@ -434,7 +386,7 @@ module _ (codecs : Codecs) (laws : StepLaws) (number : ℕ) (w : World) (gs : Li
         let k =
         stepped_ok codecs laws number w gs holds below (Frame n bytes) x n (event.Admitted src) None (Ok (with_host w number n l src uniq))
         (λ node e. (let same : with_host w number n l src uniq ≡ node = cc in
-        (entering n l src uniq node same, of_lac n bytes (event.Admitted src) node (let e = ap (λ (q : Node). q.end.role) same in sym e ∙ l.lac) tt)))
+        (entering w number n l src uniq node same, of_lac n bytes (event.Admitted src) node (let e = ap (λ (q : Node). q.end.role) same in sym e ∙ l.lac) tt)))
         (λ secret. tt) h in
         record {
           goes = k.goes;
@@ -495,4 +447,4 @@ module _ (codecs : Codecs) (laws : StepLaws) (number : ℕ) (w : World) (gs : Li
       delivers_ok (Deliver k) x (slice_get w.packets (k - 1)) (λ p e. all_at (PacketOk w.nodes gs) w.packets (k - 1) p e holds.packets) refl h
   line_ok x (Tick n milliseconds) fits h =
       without_frame (Tick n milliseconds) x n event.Tick (later milliseconds (declared (at w.nodes n)))
-      (λ node e. is_later w n milliseconds (at w.nodes n) node refl e) tt (λ secret. tt) refl h
+      (λ node e. is_later w n milliseconds node e) tt (λ secret. tt) refl h

@@ -31,16 +31,16 @@ use Rattle.end_model.specs.End.{plain_step, End, Stepped}
 use Rattle.world_model.specs.World.{World, Node, Sender, Deed, Lined, with_node, moved_all, sent, shown, shown_all, given, after_step}
 use Rattle.step_laws.specs.Letters.{Among, Carries, ALetter, Nothing, AFrame, HasOutput}
 use Rattle.step_laws.specs.Links.{WhySent, IsGiven, IsOfLcp}
-use Rattle.step_laws.specs.Steps.{IsOfMoves, IsDecline, IsChain}
+use Rattle.step_laws.specs.Steps.{InChain, IsOfMoves, IsDecline, IsChain}
 use Rattle.step_laws.specs.Codes.{decline_codes_fit}
 use Rattle.frame_laws.specs.Codecs.{Codecs}
 use Rattle.frame_laws.specs.Past.{Passage, sent_in, handed_in}
 use Rattle.frame_laws.specs.Frames.{WasSent, IsCarried, other_end, gives_frame, GivesByFrame, GivesInStep, GivesByLcp}
-use Rattle.frame_laws.proofs.Facts.{StepLaws, Nodes, Plays, Grows, Mates, WasSentInCall, ReadOk, BytesOk, PacketOk, LetterOk, NodeOk, Holds, among_left, among_right, packets_later, node_later, end_later, all_map, all_push, all_at, grows_on}
+use Rattle.frame_laws.proofs.Facts.{StepLaws, Nodes, Plays, Grows, Mates, WasSentInCall, ReadOk, BytesOk, PacketOk, LetterOk, EndOk, NodeOk, Holds, among_left, among_right, packets_later, node_later, end_later, all_map, all_push, all_at, grows_on}
 use Rattle.frame_laws.proofs.Changes.{birth_is, role_there, Changed, grows, NoBirth}
 use Rattle.frame_laws.proofs.Births.{is_lns, Counted, counted_after}
 use Rattle.frame_laws.proofs.Leads.{Heard, heard_later, At, node_again}
-use Rattle.frame_laws.proofs.Chains.{Ran, ran, SentThen, sent_then, same_role}
+use Rattle.frame_laws.proofs.Chains.{moved_more, Ran, ran, SentThen, sent_then, same_role}
 use Rattle.frame_laws.proofs.Declining.{declined_fits}
 use Rattle.frame_laws.proofs.Datagrams.{letter_ok, alone_ok, frame_ok}
 use Rattle.frame_laws.specs.Reports.{ups_in, told_of}
@@ -376,29 +376,52 @@ module _ (codecs : Codecs) (laws : StepLaws) (number : ℕ) (w : World) (gs : Li
         to_is = same;
       }
 
-  module _ (peer id : ℕ) (tunnel : Tunnel) (there : at s.end.tunnels id ≡ Some tunnel) (peer_is : peer ≡ tunnel.control.peer) where
-    abbrev bytes_ok : List ℕ → Type 0
-    bytes_ok bytes = BytesOk v.nodes (gs ++ more) n (node_of peer) bytes
+  -- an end of the step's chain holds what ends do, in the nodes that the whole step leads to
+  module _ (amid : InChain moment ev old.end s.moves s.end) where
+    abbrev reached : World
+    reached = moved_all n amid.made base
 
-    carries_ok : (bytes : List ℕ) (o : Origin) → Carries tunnel s.moves bytes o → bytes_ok bytes
-    carries_ok bytes o (ALetter l number small among origin_is are) =
-        let to = r.at_end.end.tunnels id tunnel there in
-        let keeps = LetterOk v.nodes n tunnel.control.peer in
-        let lo = all_at keeps tunnel.letters (place_of tunnel.control.channel number) l among to.letters in
-        rw (are, lo.spelt)
-        (letter_ok codecs tunnel.control.remote l.session number tunnel.control.channel.inbox.taken to.remote lo.session
-        v.nodes (gs ++ more) n (node_of peer) lo.message lo.hidden lo.written lo.hides (rw peer_is lo.names))
-    carries_ok bytes o (Nothing number origin_is are) =
-        let to = r.at_end.end.tunnels id tunnel there in
-        rw are
-        (alone_ok codecs tunnel.control.remote 0 number tunnel.control.channel.inbox.taken to.remote (omega arith) v.nodes (gs ++ more) n (node_of peer))
-    carries_ok bytes o (AFrame f a tunnel_is same origin_is are) =
-        let to = r.at_end.end.tunnels id tunnel there in
-        let k = sent_here f a in
-        let to_peer : f.peer ≡ peer = same ∙ sym peer_is in
-        let mates : Mates v.nodes n f.session (node_of peer) f.remote = subst (λ q. Mates v.nodes n f.session (node_of q) f.remote) to_peer k.mates in
-        let was_sent = sent_in_call f a (node_of peer) f.remote (ap node_of to_peer) mates in
-        rw are (frame_ok codecs v.nodes (gs ++ more) n (node_of peer) tunnel.control.remote f.remote f.frame to.remote k.fits was_sent)
+    made_ran : Ran codecs.digits n s.end moment ev base reached old.end amid.end
+    made_ran = ran codecs.digits n s.end moment ev base old.end amid.end here heard amid.made amid.comes
+
+    rest_ran : Ran codecs.digits n s.end moment ev reached (moved_all n amid.rest reached) amid.end s.end
+    rest_ran = ran codecs.digits n s.end moment ev reached amid.end s.end made_ran.at_end
+        (heard_later base.nodes reached.nodes made_ran.grows.grows n ev heard) amid.rest amid.goes
+
+    whole : v ≡ moved_all n amid.rest reached
+    whole = ap (λ ms. moved_all n ms base) amid.moves_are ∙ moved_more n amid.made amid.rest base
+
+    amid_ok : EndOk v.nodes n amid.end
+    amid_ok = end_later reached.nodes v.nodes (subst (λ (w : World). Grows reached.nodes w.nodes) (sym whole) rest_ran.grows.grows) n amid.end made_ran.at_end.end
+
+    -- what was sent up to there was sent in the step
+    in_step : (f : FrameSent) → Among (move.FrameSent f) amid.made → Among (move.FrameSent f) s.moves
+    in_step f a = subst (Among (move.FrameSent f)) (sym amid.moves_are) (among_left (move.FrameSent f) amid.made amid.rest a)
+
+    module _ (peer id : ℕ) (tunnel : Tunnel) (there : at amid.end.tunnels id ≡ Some tunnel) (peer_is : peer ≡ tunnel.control.peer) where
+      abbrev bytes_ok : List ℕ → Type 0
+      bytes_ok bytes = BytesOk v.nodes (gs ++ more) n (node_of peer) bytes
+
+      carries_ok : (bytes : List ℕ) (o : Origin) → Carries tunnel amid.made bytes o → bytes_ok bytes
+      carries_ok bytes o (ALetter l number small among origin_is are) =
+          let to = amid_ok.tunnels id tunnel there in
+          let keeps = LetterOk v.nodes n tunnel.control.peer in
+          let lo = all_at keeps tunnel.letters (place_of tunnel.control.channel number) l among to.letters in
+          rw (are, lo.spelt)
+          (letter_ok codecs tunnel.control.remote l.session number tunnel.control.channel.inbox.taken to.remote lo.session
+          v.nodes (gs ++ more) n (node_of peer) lo.message lo.hidden lo.written lo.hides (rw peer_is lo.names))
+      carries_ok bytes o (Nothing number origin_is are) =
+          let to = amid_ok.tunnels id tunnel there in
+          rw are
+          (alone_ok codecs tunnel.control.remote 0 number tunnel.control.channel.inbox.taken to.remote (omega arith) v.nodes (gs ++ more) n (node_of peer))
+      carries_ok bytes o (AFrame f a tunnel_is same origin_is are) =
+          let to = amid_ok.tunnels id tunnel there in
+          let b = in_step f a in
+          let k = sent_here f b in
+          let to_peer : f.peer ≡ peer = same ∙ sym peer_is in
+          let mates : Mates v.nodes n f.session (node_of peer) f.remote = subst (λ q. Mates v.nodes n f.session (node_of q) f.remote) to_peer k.mates in
+          let was_sent = sent_in_call f b (node_of peer) f.remote (ap node_of to_peer) mates in
+          rw are (frame_ok codecs v.nodes (gs ++ more) n (node_of peer) tunnel.control.remote f.remote f.frame to.remote k.fits was_sent)
 
   -- a StopCCN of no tunnel names no call
   declined_ok : (peer : ℕ) (bytes : List ℕ) (o : Origin) → IsDecline s.moves peer bytes o → BytesOk v.nodes (gs ++ more) n (node_of peer) bytes
@@ -413,9 +436,9 @@ module _ (codecs : Codecs) (laws : StepLaws) (number : ℕ) (w : World) (gs : Li
       (letter_ok codecs m.remote 0 0 (unwrap_or d.does.header.ns 0 + 1) fits (omega arith) v.nodes (gs ++ more) n (node_of peer)
       (StopCcn 0 m.result m.error) None (omega arith, codes.0, codes.1) tt tt)
 
-  send_ok : (o : Out) → IsOfMoves s.end s.moves o → SendOk (λ to bytes. BytesOk v.nodes (gs ++ more) n to bytes) o
+  send_ok : (o : Out) → IsOfMoves moment ev old.end s.moves s.end o → SendOk (λ to bytes. BytesOk v.nodes (gs ++ more) n to bytes) o
   send_ok (Send peer bytes o) h =
-      ⊎_elim (λ k. carries_ok peer k.id k.tunnel k.there k.peer_is bytes o k.carries) (λ k. declined_ok peer bytes o k) h
+      ⊎_elim (λ k. carries_ok k.amid peer k.id k.tunnel k.there k.peer_is bytes o k.carries) (λ k. declined_ok peer bytes o k) h
   send_ok (Up session side frame) h = tt
   send_ok (Gone session) h = tt
   send_ok (Drop x) h = tt
@@ -507,7 +530,7 @@ module _ (codecs : Codecs) (laws : StepLaws) (number : ℕ) (w : World) (gs : Li
     nodes = subst (λ (ns : Nodes). (m : ℕ) (node : Node) → at ns m ≡ Some node → NodeOk ns m node) (sym (shown_nodes n s.outputs v)) node_ok;
     packets = subst (λ (ns : Nodes). AllByRecursion (PacketOk ns (gs ++ more)) (shown_all n s.outputs v).packets) (sym (shown_nodes n s.outputs v))
         (shown_packets v.nodes (gs ++ more) n ok.number s.outputs v
-        (all_map (IsOfMoves s.end s.moves) (SendOk (λ to bytes. BytesOk v.nodes (gs ++ more) n to bytes)) send_ok s.outputs chain.outputs)
+        (all_map (IsOfMoves moment ev old.end s.moves s.end) (SendOk (λ to bytes. BytesOk v.nodes (gs ++ more) n to bytes)) send_ok s.outputs chain.outputs)
         (subst (λ ps. AllByRecursion (PacketOk v.nodes (gs ++ more)) ps) (sym r.grows.packets)
         (packets_later w.nodes v.nodes grown gs more w.packets holds.packets)));
   }

@@ -1,7 +1,6 @@
 -- What a line does: nothing, or a node is declared, or a node makes a step.
-use Rattle.std.proofs.Common.{◌≡◌, ℕ, ◌+◌, ◌-◌, ◌^◌, false, List, [], refl, sym, ap, ◌∙◌, subst, Option, Some, None, Result, Ok, Err, Bool, ◌∷◌, ◌++◌}
-use Rattle.std.proofs.lemmas.Bool.{true≢false}
-use Rattle.std.specs.Prelude.{is_some, min, slice_get}
+use Rattle.std.proofs.Common.{◌≡◌, ℕ, ◌+◌, ◌-◌, false, List, [], refl, sym, ap, ◌∙◌, Option, Some, None, Result, Ok, Err, Bool, ◌∷◌, ◌++◌}
+use Rattle.std.specs.Prelude.{is_some, slice_get}
 use Rattle.id_table.specs.Ids.{at}
 use Rattle.wire_base.specs.declared.why.Why.{Why}
 use Rattle.wire_base.specs.declared.why.Why.TheVariants as why
@@ -10,18 +9,17 @@ use Rattle.schedule_text.specs.declared.line.Line.TheVariants.{Remark, Lac, Lns,
 use Rattle.end_model.specs.declared.event.Event.{Event}
 use Rattle.end_model.specs.declared.event.Event.TheVariants as event
 use Rattle.world_model.specs.declared.packet.Packet.{Packet}
-use Rattle.world_model.specs.declared.refusal.Refusal.{Refusal}
 use Rattle.world_model.specs.declared.refusal.Refusal.TheVariants.{Unfit}
 use Rattle.end_names.specs.declared.role.Role.{Role}
 use Rattle.end_names.specs.declared.role.Role.TheVariants as role
 use Rattle.end_names.specs.Names.{address_of}
 use Rattle.end_model.specs.Secrets.{uncovered_datagram, uncovered_event}
-use Rattle.end_model.specs.End.{new_end, step}
+use Rattle.end_model.specs.End.{step}
 use Rattle.end_model.specs.Access.{Access}
 use Rattle.world_model.specs.Texts.{Entry, Drops, Frames}
-use Rattle.step_laws.specs.Hosts.{LacAt, with_host, reply_to, OfFrame, frame_line}
-use Rattle.step_laws.specs.Lines.{tested_not, is_lac_at, is_lns_at, is_declared, has_call, has_tunnel}
-use Rattle.world_model.specs.World.{World, Node, Sender, Lined, quiet_line, with_node, after_step, declared, lac_at, lns_at, with_call, with_tunnel, later, new_node, told_line, answer_entries, added, block_of, stepped, addressee_of, arrival, refused_by, sender_of, arrives, delivers_it, delivers, line}
+use Rattle.step_laws.specs.Hosts.{LacAt, with_host, entering, reply_to, OfFrame, frame_line}
+use Rattle.step_laws.specs.Lines.{tested_not, is_lac_at, is_lns_at, is_declared, has_call, has_tunnel, none_there, IsAt, at_moment, is_at, is_later, deliver_line}
+use Rattle.world_model.specs.World.{World, Node, Sender, Lined, quiet_line, with_node, after_step, declared, lac_at, lns_at, with_call, with_tunnel, later, new_node, told_line, answer_entries, added, block_of, stepped, sender_of, delivers, line}
 
 -- ---- what a line does
 
@@ -48,29 +46,6 @@ pub data LineDoes (w : World) (number : ℕ) (x : Lined) : Type 0 where
       → (es : List Entry) → x ≡ told_line (with_node w n (new_node number n r lns secret hide)) es → LineDoes w number x
   Steps : (n : ℕ) (old : Node) (clock : ℕ) (access : Option Access) (ev : Event) (sender : Option Sender) (es : List Entry) → at w.nodes n ≡ Some old
       → IsFrom w sender ev → x ≡ record (step_of w number n (record old { clock = clock; access = access }) ev sender) { entries = es } → LineDoes w number x
-
--- ---- which node it is
-
--- none is there
-none_there : {X : Type 0} (o : Option X) → is_some o ≡ false → o ≡ None
-none_there None h = refl
-none_there (Some x) h = absurd (true≢false h)
-
--- a node of the world, at some moment
-record IsAt (w : World) (n : ℕ) (node : Node) : Type 0 where
-  before : Node
-  there : at w.nodes n ≡ Some before
-  same : node ≡ record before { clock = node.clock; access = node.access }
-
-is_there : (w : World) (n : ℕ) (node : Node) → at w.nodes n ≡ Some node → IsAt w n node
-is_there w n node h = record { before = node; there = h; same = refl }
-
-is_later : (w : World) (n milliseconds : ℕ) (o : Option Node) (node : Node) → at w.nodes n ≡ o → later milliseconds (declared o) ≡ Ok node → IsAt w n node
-is_later w n milliseconds None node is h = absurd (cc)
-is_later w n milliseconds (Some x) node is h =
-    let now = min (x.clock + milliseconds) (2 ^ 64 - 1) in
-    let e : record x { clock = now } ≡ node = cc in
-    subst (IsAt w n) e (record { before = x; there = is; same = refl })
 
 -- ---- lines
 
@@ -100,15 +75,12 @@ module _ (w : World) (number : ℕ) (x : Lined) where
 
 -- an Ethernet frame
 module _ (w : World) (number : ℕ) where
-  entering : (n : ℕ) (l : LacAt w n) (src : List ℕ) (uniq : Option (List ℕ)) (node : Node) → with_host w number n l src uniq ≡ node → IsAt w n node
-  entering n l src uniq node e = subst (IsAt w n) e (record { before = l.node; there = l.there; same = refl })
-
   -- a frame that an end doesn't see
   only_told : (n : ℕ) (bytes : List ℕ) (l : LacAt w n) (es : List Entry) (x : Lined) → stepped w number n (event.Frame bytes) None (Ok l.node) ≡ Ok x
       → LineDoes w number (record x { entries = es })
   only_told n bytes l es x h =
       more_told w number x es
-      (stepped_does w number x n (event.Frame bytes) None (Ok l.node) (λ node e. (let same : l.node ≡ node = cc in rw (← same) (is_there w n l.node l.there)))
+      (stepped_does w number x n (event.Frame bytes) None (Ok l.node) (λ node e. (let same : l.node ≡ node = cc in rw (← same) (is_at w n l.node l.there)))
       (OfNobody refl) h)
 
   of_frame : (n : ℕ) (bytes : List ℕ) → OfFrame (LineDoes w number) w number n bytes
@@ -116,31 +88,21 @@ module _ (w : World) (number : ℕ) where
     ignored = λ l word is x h. only_told n bytes l (Drops number n word ∷ []) x h;
     answered = λ l because frame is x h. only_told n bytes l (answer_entries number n because frame) x h;
     done = λ l ev is does x h.
-        stepped_does w number x n ev None (Ok l.node) (λ node e. (let same : l.node ≡ node = cc in rw (← same) (is_there w n l.node l.there))) (OfNobody refl) h;
+        stepped_does w number x n ev None (Ok l.node) (λ node e. (let same : l.node ≡ node = cc in rw (← same) (is_at w n l.node l.there))) (OfNobody refl) h;
     entered = λ l src uniq asked is x h.
         more_told w number x (x.entries ++ Frames number n (reply_to w number n l src asked) ∷ [])
         (stepped_does w number x n (event.Admitted src) None (Ok (with_host w number n l src uniq))
-        (λ node e. (let same : with_host w number n l src uniq ≡ node = cc in entering n l src uniq node same)) (OfNobody refl) h);
+        (λ node e. (let same : with_host w number n l src uniq ≡ node = cc in entering w number n l src uniq node same)) (OfNobody refl) h);
   }
 
 module _ (w : World) (number : ℕ) (x : Lined) where
-  arrives_does : (k : ℕ) (p : Packet) → slice_get w.packets k ≡ Some p → (node : Node) → at w.nodes p.to ≡ Some node → (o : Option Refusal)
-      → arrives w number p node o ≡ Ok x → LineDoes w number x
-  unfolding arrives
-  arrives_does k p sent node there (Some f) h = absurd (cc)
-  arrives_does k p sent node there None h =
-      stepped_does w number x p.to (event.Datagram (address_of p.from) p.bytes) (sender_of p.from p.origin) (Ok node)
-      (λ q e. (let same : node ≡ q = cc in rw (← same) (is_there w p.to node there)))
-      (OfPacket k p sent refl p.bytes refl) h
-
   delivers_does : (k : ℕ) (o : Option Packet) → slice_get w.packets k ≡ o → delivers w number o ≡ Ok x → LineDoes w number x
-  unfolding delivers delivers_it arrival addressee_of
-  delivers_does k None sent h = absurd (cc)
-  delivers_does k (Some p) sent h = by (at w.nodes p.to) refl h
-    where
-      by : (o : Option Node) → at w.nodes p.to ≡ o → delivers_it w number (addressee_of p o) ≡ Ok x → LineDoes w number x
-      by None is h = absurd (cc)
-      by (Some node) is h = arrives_does k p sent node is (refused_by p node p.origin) h
+  delivers_does k o sent h = deliver_line (LineDoes w number x) w number x (delivers w number o) o
+      (λ p node found there young so leads.
+      stepped_does w number x p.to (event.Datagram (address_of p.from) p.bytes) (sender_of p.from p.origin) (Ok node)
+      (λ q e. (let same : node ≡ q = cc in rw (← same) (is_at w p.to node there)))
+      (OfPacket k p (sent ∙ found) refl p.bytes refl) leads)
+      refl h
 
   pub line_does : (l : Line) → line w number l ≡ Ok x → LineDoes w number x
   unfolding line
@@ -148,26 +110,26 @@ module _ (w : World) (number : ℕ) (x : Lined) where
   line_does (Lac n m secret hide) h = added_does w number x n role.Lac (address_of m) secret hide h
   line_does (Lns n secret) h = added_does w number x n role.Lns 0 secret false h
   line_does (OpenUp n) h =
-      stepped_does w number x n event.OpenTunnel None (lac_at (at w.nodes n)) (λ node e. is_there w n node ((is_lac_at (at w.nodes n) node e).0)) (OfNobody refl) h
+      stepped_does w number x n event.OpenTunnel None (lac_at (at w.nodes n)) (λ node e. is_at w n node ((is_lac_at (at w.nodes n) node e).0)) (OfNobody refl) h
   line_does (Close n i) h =
       stepped_does w number x n (event.CloseTunnel i) None (with_tunnel i (declared (at w.nodes n)))
-      (λ node e. is_there w n node (is_declared (at w.nodes n) node (has_tunnel i (declared (at w.nodes n)) node e))) (OfNobody refl) h
+      (λ node e. is_at w n node (is_declared (at w.nodes n) node (has_tunnel i (declared (at w.nodes n)) node e))) (OfNobody refl) h
   line_does (Ring n port) h =
-      stepped_does w number x n (event.Ring port) None (lac_at (at w.nodes n)) (λ node e. is_there w n node ((is_lac_at (at w.nodes n) node e).0)) (OfNobody refl) h
+      stepped_does w number x n (event.Ring port) None (lac_at (at w.nodes n)) (λ node e. is_at w n node ((is_lac_at (at w.nodes n) node e).0)) (OfNobody refl) h
   line_does (Frame n bytes) h = frame_line (LineDoes w number) w number n bytes (of_frame w number n bytes) x h
   line_does (FromSub n session frame) h =
       stepped_does w number x n (event.Payload session frame) None (with_call session (lac_at (at w.nodes n)))
-      (λ node e. is_there w n node ((is_lac_at (at w.nodes n) node (has_call session (lac_at (at w.nodes n)) node e)).0)) (OfNobody refl) h
+      (λ node e. is_at w n node ((is_lac_at (at w.nodes n) node (has_call session (lac_at (at w.nodes n)) node e)).0)) (OfNobody refl) h
   line_does (Down n session frame) h =
       stepped_does w number x n (event.Lower session frame) None (with_call session (lns_at (at w.nodes n)))
-      (λ node e. is_there w n node ((is_lns_at (at w.nodes n) node (has_call session (lns_at (at w.nodes n)) node e)).0)) (OfNobody refl) h
+      (λ node e. is_at w n node ((is_lns_at (at w.nodes n) node (has_call session (lns_at (at w.nodes n)) node e)).0)) (OfNobody refl) h
   line_does (Hang n session) h =
       stepped_does w number x n (event.Hang session) None (with_call session (lac_at (at w.nodes n)))
-      (λ node e. is_there w n node ((is_lac_at (at w.nodes n) node (has_call session (lac_at (at w.nodes n)) node e)).0)) (OfNobody refl) h
+      (λ node e. is_at w n node ((is_lac_at (at w.nodes n) node (has_call session (lac_at (at w.nodes n)) node e)).0)) (OfNobody refl) h
   line_does (DropCall n session) h =
       stepped_does w number x n (event.DropCall session) None (with_call session (declared (at w.nodes n)))
-      (λ node e. is_there w n node (is_declared (at w.nodes n) node (has_call session (declared (at w.nodes n)) node e))) (OfNobody refl) h
+      (λ node e. is_at w n node (is_declared (at w.nodes n) node (has_call session (declared (at w.nodes n)) node e))) (OfNobody refl) h
   line_does (Deliver k) h = delivers_does (k - 1) (slice_get w.packets (k - 1)) refl h
   line_does (Tick n milliseconds) h =
       stepped_does w number x n event.Tick None (later milliseconds (declared (at w.nodes n)))
-      (λ node e. is_later w n milliseconds (at w.nodes n) node refl e) (OfNobody refl) h
+      (λ node e. at_moment w n node (is_later w n milliseconds node e)) (OfNobody refl) h

@@ -1,6 +1,5 @@
 -- From the moves of a step to the lines of a run.
 use Rattle.std.proofs.Common.{◌≡◌, ⊎_elim, ℕ, ◌+◌, ◌-◌, ◌*◌, ◌^◌, ◌<◌, ◌≤◌, List, [], ◌∷◌, ◌++◌, length, refl, sym, ap, ◌∙◌, subst, append_assoc, append-nil, Option, Some, None, Result, Ok, Err, arith, Bool}
-use mathlib.Core.Path.{fun_ext}
 use Rattle.std.proofs.lemmas.Bool.{eq-eqb, ne_eqb}
 use Rattle.std.proofs.lemmas.Option.{none-some}
 use Rattle.std.specs.Prelude.{map, option_map}
@@ -18,9 +17,11 @@ use Rattle.world_model.specs.World.{World, Node, Sender, Deed, Lined, birth_in, 
 use Rattle.world_model.specs.Run.{Run, empty_run, after_line, goes_on, run_from}
 use Rattle.epoch_machine.specs.Worlds as machine
 use Rattle.epoch_machine.specs.Moves as moves
-use Rattle.connection_laws.specs.Accounts.{Account, no_account, account_of, account_from, after_deed}
+use Rattle.connection_laws.specs.Accounts.{Account, no_account, account_of, account_from}
 use Rattle.connection_laws.specs.Facts.{Accounts, EndOk, NodeOk, Holds}
 use Rattle.connection_laws.specs.Steps.{after, MovesKeep, MovesWithin, BirthsStay, LineSteps, LineDoes, Nothing, ANode, AStep, HoldsAt, LinesGoOn}
+use Rattle.connection_laws.proofs.Steps.{afterwards}
+use Rattle.connection_laws.proofs.Runs.{accounts_more}
 use Rattle.session_laws.specs.Names.{name}
 use Rattle.session_laws.specs.Roles.{FitsEnd, IsOfEnd}
 use Rattle.session_laws.specs.Joined.{Ends, tunnel_in, TunnelJoined, NodeJoined, CallsJoined, AreJoined, mate_of, MateJoined, BirthsJoined, RepliesJoined, ends_of}
@@ -76,9 +77,6 @@ end_twice ends n y x m = ⊎_elim
     (same_or_not m n)
 
 -- ---- the moves of a step
-
-abbrev pub afterwards : Accounts → List Deed → Accounts
-afterwards accs ds k j = account_from ds k j (accs k j)
 
 -- after the moves of a step: each birth takes a session id, of which a node has fewer than 65,536
 record ChainJoins (accs : Accounts) (ends : Ends) (before told : World) (ds : List Deed) (e x : End) : Type 0 where
@@ -292,14 +290,6 @@ module _ (keep : MovesKeep) (follow : MovesFollow) where
       }
 
   -- ---- runs
-
-  from-append : (ds es : List Deed) (n i : ℕ) (a : Account) → account_from es n i (account_from ds n i a) ≡ account_from (ds ++ es) n i a
-  unfolding account_from
-  from-append [] es n i a = refl
-  from-append (d ∷ ds) es n i a = from-append ds es n i (after_deed d n i a)
-
-  accounts_more : (ds es : List Deed) → afterwards (account_of ds) es ≡ account_of (ds ++ es)
-  accounts_more ds es = fun_ext (λ n. fun_ext (λ i. from-append ds es n i no_account))
 
   -- a run goes on where a line fits, and stays where it doesn't
   where_it_fits : (P : Run → Type 0) (rest : Run → Run) (r : Run) (number : ℕ) (x : Result Lined Refusal)

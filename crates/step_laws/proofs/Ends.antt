@@ -34,11 +34,8 @@ use Rattle.end_model.specs.declared.tunnel.Link.{Link}
 use Rattle.lcp_end.specs.Laws.{OnPacket}
 use Rattle.end_names.specs.declared.role.Role.TheVariants.{Lac}
 use Rattle.end_model.specs.declared.event.Event.{Event}
-use Rattle.end_model.specs.declared.event.Event.TheVariants.{Datagram, Ring, Payload, Lower, Lcp, Hang, OpenTunnel, DropCall, CloseTunnel}
-use Rattle.end_model.specs.declared.out.Out.{Out}
-use Rattle.end_model.specs.declared.out.Out.TheVariants.{Send, Up, Gone, Drop, Cause as Refused}
-use Rattle.end_model.specs.declared.moves.Move.{Move}
-use Rattle.end_model.specs.declared.moves.Move.TheVariants as move
+use Rattle.end_model.specs.declared.event.Event.TheVariants.{Datagram, Payload, Lower, Lcp, Hang, OpenTunnel, DropCall, CloseTunnel}
+use Rattle.end_model.specs.declared.out.Out.TheVariants.{Drop, Cause as Refused}
 use Rattle.end_model.specs.Reading.{body_of, message_in}
 use Rattle.end_model.specs.Calls.{row_for, is_up, is_told, owes, is_short, is_long}
 use Rattle.end_model.specs.Tunnels.{Tunnel, Env, Turn, turn_of}
@@ -62,14 +59,15 @@ use Rattle.step_laws.specs.Room.{IsChosen, RingsNew}
 use Rattle.step_laws.specs.Causes.{IsTold, ForNew, ForOpening, Stands}
 use Rattle.step_laws.specs.Links.{HearsLcp, IsCalled, ForPacket, IsGiven}
 use Rattle.step_laws.specs.Moves.{LacksSecret, has_all_tunnels, IsUnknown, Came, IsAgain, IsStop, IsFor, Hears, Chain, begun, WhyEnds, IsDropped, IsHungUp, ByOperator}
-use Rattle.step_laws.specs.Steps.{IsKept, AreKept, IsOfMoves, IsChain}
+use Rattle.step_laws.specs.Steps.{IsKept, AreKept, IsChain}
 use Rattle.step_laws.proofs.Lists.{all_map, and_left, and_right, branch, ascends_placed, ascends_looks}
 use Rattle.step_laws.proofs.Owing.{Fits, closed_owes, dropped_owes, fits_given, owes_told}
 use Rattle.step_laws.proofs.Openings.{not_all}
 use Rattle.step_laws.proofs.Tells.{Tells}
 use Rattle.step_laws.proofs.Turns.{IsWord, Stays, Held, held_given, held_learnt, next_after, at_turn, TurnOk, learnt_state, learnt_queued, drops_ok, adds_ok}
 use Rattle.step_laws.proofs.Linking.{carried_ok, links_leave}
-use Rattle.step_laws.proofs.Settling.{OutOk, Settled, unsent, settled_ok, settles_ok}
+use Rattle.step_laws.proofs.Settling.{Settled, unsent, settled_ok, settles_ok}
+use Rattle.step_laws.proofs.Sending.{at_last, word_is, ok_is}
 use Rattle.step_laws.proofs.Comes.{Fresh}
 use Rattle.step_laws.proofs.Closing.{ends_leave}
 use Rattle.step_laws.proofs.Shutting.{told_shut_ok}
@@ -77,21 +75,6 @@ use Rattle.step_laws.proofs.Stopping.{row_shut, row_shut_closed}
 use Rattle.end_model.specs.Secrets.{challenge_by, response_by}
 use Rattle.step_laws.proofs.Secrets.{asks_so, responds_so}
 use Rattle.step_laws.proofs.Hearing.{hears_control_ok, rings_ok}
-
-pub word_is : (e : End) (ms : List Move) (x : Out) → IsWord x → IsOfMoves e ms x
-word_is e ms (Gone session) h = tt
-word_is e ms (Drop w) h = tt
-word_is e ms (Refused c) h = tt
-word_is e ms (Send p bytes o) h = absurd h
-word_is e ms (Up session side frame) h = absurd h
-
--- what is sent in a tunnel of an end
-pub ok_is : (x : End) (i : ℕ) (t : Tunnel) → at x.tunnels i ≡ Some t → (ms : List Move) (o : Out) → OutOk t ms o → IsOfMoves x ms o
-ok_is x i t is ms (Send p bytes o) h = inl (record { id = i; tunnel = t; there = is; peer_is = h.0; carries = h.1 })
-ok_is x i t is ms (Up session side frame) h = absurd h
-ok_is x i t is ms (Gone session) h = tt
-ok_is x i t is ms (Drop w) h = tt
-ok_is x i t is ms (Refused c) h = tt
 
 -- a message that names the tunnel with an id, or names none and is for it
 abbrev pub IsTo : Header → List ℕ → ℕ → Control → Type 0
@@ -163,22 +146,22 @@ module _ (e : End) (kept : AreKept e) (moment : ℕ) (ev : Event) where
       first = s.3;
     }
 
-    pub kept_after : Stays i moment r → Held r.control.channel.window (letters_after r letters) → FitsAfter → AreKept left
+    kept_after : Stays i moment r → Held r.control.channel.window (letters_after r letters) → FitsAfter → AreKept left
     kept_after s held fits = subst AreKept (sym (left_is s.5)) (kept_with s held fits)
 
-    pub chain_after : Stays i moment r → Chain moment ev e r.moves (at_turn e moment ev letters calls i r) → Chain moment ev e r.moves left
+    chain_after : Stays i moment r → Chain moment ev e r.moves (at_turn e moment ev letters calls i r) → Chain moment ev e r.moves left
     chain_after s h =
         subst (Chain moment ev e r.moves) (sym (left_is s.5)) (subst (λ k. Chain moment ev e r.moves (left_with (put e.tunnels k tunnel))) s.0 h)
 
-    pub there_after : r.cleared ≡ false → at left.tunnels i ≡ Some tunnel
+    there_after : r.cleared ≡ false → at left.tunnels i ≡ Some tunnel
     there_after stays = ap (λ (x : End). at x.tunnels i) (left_is stays) ∙ at_new e.tunnels i tunnel
 
     pub turn_chain : Settled e moment ev letters calls i r → IsStep e moment ev (after_turn e i letters calls r)
     unfolding after_turn
-    turn_chain h = record {
+    turn_chain h = let whole = chain_after h.stays h.chain in record {
       chain = record {
-        chain = chain_after h.stays h.chain;
-        outputs = all_map _ _ (ok_is left i tunnel (there_after h.stays.5) r.moves) r.outputs h.outs;
+        chain = whole;
+        outputs = all_map _ _ (ok_is moment ev e r.moves left (at_last moment ev e r.moves left whole) i tunnel (there_after h.stays.5)) r.outputs h.outs;
         frames = h.frames;
         kept = kept_after h.stays h.held h.fits;
       };
@@ -405,7 +388,7 @@ module _ (e : End) (kept : AreKept e) (moment : ℕ) (ev : Event) where
       unfolding after_new
       unmade_leads r h =
           rw (eq-eqb r.control.local 0 h.local, h.moves) (record {
-            chain = record { chain = refl; outputs = all_map _ _ (word_is e []) r.outputs h.outs; frames = tt; kept = kept };
+            chain = record { chain = refl; outputs = all_map _ _ (word_is moment ev e [] e) r.outputs h.outs; frames = tt; kept = kept };
             tells = h.tells;
           })
 

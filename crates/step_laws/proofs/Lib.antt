@@ -14,6 +14,7 @@ mod Openings
 mod Turns
 mod Outputs
 mod Settling
+mod Sending
 mod Comes
 mod Shutting
 mod Closing

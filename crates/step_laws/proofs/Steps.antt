@@ -40,14 +40,14 @@ use Rattle.step_laws.specs.Moves.{has_all_tunnels, Does}
 use Rattle.step_laws.specs.Room.{IsChosen, StepsRefuseTruly}
 use Rattle.step_laws.specs.Causes.{CausesStand}
 use Rattle.step_laws.specs.Steps.{AreKept, IsOfMoves, StepsAreChains}
-use Rattle.step_laws.proofs.Lists.{all_map, branch, found_passes}
-use Rattle.step_laws.proofs.Outputs.{output_within}
+use Rattle.step_laws.proofs.Lists.{branch, found_passes}
 use Rattle.step_laws.proofs.Tells.{Tells, of_all, header_other}
 use Rattle.step_laws.proofs.Zero.{SaysOpening, ZeroSays, zero_says}
 use Rattle.step_laws.proofs.Known.{known_peer, known_remote}
 use Rattle.step_laws.proofs.Chosen.{least_is, least_open, least_opening, none_open, none_opening}
 use Rattle.step_laws.proofs.Declining.{answer_chain, asks_chain}
-use Rattle.step_laws.proofs.Ticks.{of_more, ticks_chain}
+use Rattle.step_laws.proofs.Sending.{both_chain}
+use Rattle.step_laws.proofs.Ticks.{ticks_chain}
 use Rattle.step_laws.proofs.Ends.{IsTo, IsStep, drop_chain, cause_chain, heard_chain, rung_chain, hung_chain, closes_chain, shut_chain, carries_chain, lcp_chain, opens_chain, rings_chain}
 
 not_true : (a : Bool) → not a ≡ true → a ≡ false
@@ -146,15 +146,11 @@ module _ (e : End) (kept : AreKept e) (moment : ℕ) (block : List ℕ) where
   env = env_of e moment block
 
   -- a move that changes nothing, before the others
-  behind_chain : (ev : Event) (o : Out) (m : Move) (s : Stepped) → Does e moment ev m e → IsOfMoves s.end (m ∷ s.moves) o → HasOutput (o ∷ s.outputs) m
+  behind_chain : (ev : Event) (o : Out) (m : Move) (s : Stepped) → Does e moment ev m e → IsOfMoves moment ev e (m ∷ []) e o → HasOutput (o ∷ []) m
       → Tells e moment ev o → IsStep e moment ev s → IsStep e moment ev (behind o m s)
   behind_chain ev o m s does of has tells h = record {
-    chain = record {
-      chain = (e, does, h.chain.chain);
-      outputs = (of, all_map _ _ (of_more s.end (m ∷ []) s.moves) s.outputs h.chain.outputs);
-      frames = (has, all_map _ _ (output_within s.outputs (o ∷ s.outputs) (λ x a. inr a)) s.moves h.chain.frames);
-      kept = h.chain.kept;
-    };
+    chain = both_chain moment ev e (record { end = e; outputs = o ∷ []; moves = m ∷ [] }) s
+        (record { chain = (e, does, refl); outputs = (of, tt); frames = (has, tt); kept = kept }) h.chain;
     tells = (tells, h.tells);
   }
 

@@ -1,5 +1,5 @@
 -- An end's tick is a chain of moves: those of each tunnel by itself, one tunnel after the other.
-use Rattle.std.proofs.Common.{◌≡◌, ◌⊎◌, inl, inr, ⊎_elim, ℕ, List, [], ◌∷◌, ◌++◌, refl, sym, ap, ◌∙◌, subst, Option, Some, None, arith}
+use Rattle.std.proofs.Common.{◌≡◌, ℕ, List, [], ◌∷◌, ◌++◌, refl, sym, ap, ◌∙◌, subst, Option, Some, None, arith}
 use Rattle.std.proofs.lemmas.List.{append-nil, append_assoc}
 use Rattle.std.specs.Prelude.{map}
 use Rattle.std.specs.List.{AllByRecursion, flat_map}
@@ -10,9 +10,7 @@ use Rattle.send_window.specs.declared.window.Tick.TheVariants.{Quiet, Again, Fai
 use Rattle.control_channel.specs.Numbers.{answer_to_tick}
 use Rattle.session_looks.specs.declared.look.CellChange.TheVariants as cell
 use Rattle.end_model.specs.declared.event.Event.TheVariants.{Tick}
-use Rattle.end_model.specs.declared.out.Out.{Out}
-use Rattle.end_model.specs.declared.out.Out.TheVariants.{Send, Up, Gone, Drop, Cause}
-use Rattle.end_model.specs.declared.moves.Move.{Move}
+use Rattle.end_model.specs.declared.out.Out.TheVariants.{Gone}
 use Rattle.end_model.specs.declared.moves.Move.TheVariants as move
 use Rattle.end_model.specs.Tunnels.{Drawing, Tunnel, Env, Turn, turn_of}
 use Rattle.end_model.specs.Turn.{with_output, with_move, with_change, ends_call, ends_all}
@@ -23,16 +21,16 @@ use Rattle.end_model.specs.Events.{turns, tunnel_after}
 use Rattle.end_model.specs.End.{drawing_of, End, env_of, placed, with_looks, after_turn, Turned, tick_of, ticks_of, end_after_all, after_all, ticks_all}
 use Rattle.step_laws.specs.Failing.{HasFailed, IsUnanswered}
 use Rattle.step_laws.specs.Moves.{Chain}
-use Rattle.step_laws.specs.Steps.{IsKept, AreKept, IsOfMoves}
-use Rattle.step_laws.proofs.Lists.{all_append, all_map, all_push, among_left, among_right, chain_append, branch, ascends_looks}
+use Rattle.step_laws.specs.Steps.{IsKept, AreKept, IsChain}
+use Rattle.step_laws.proofs.Lists.{all_append, all_map, all_push, branch, ascends_looks}
 use Rattle.step_laws.proofs.Tells.{Tells}
 use Rattle.step_laws.specs.Letters.{HasOutput}
 use Rattle.step_laws.proofs.Turns.{IsWord}
-use Rattle.step_laws.proofs.Outputs.{output_within, frames_more}
-use Rattle.step_laws.proofs.Settling.{OutOk, AreWithin, goes_nowhere, out_on, carries_on, unsent}
+use Rattle.step_laws.proofs.Settling.{unsent}
+use Rattle.step_laws.proofs.Sending.{word_is, both_chain}
 use Rattle.step_laws.proofs.Moments.{ended_failed, given_up}
 use Rattle.step_laws.proofs.Ticking.{Ticking, quietly_ok, repeats_ok, repeated_changed}
-use Rattle.step_laws.proofs.Ends.{IsStep, word_is, ok_is, left_is, kept_after, chain_after, there_after, begins}
+use Rattle.step_laws.proofs.Ends.{IsStep, left_is, turn_chain, begins}
 
 -- ---- a tunnel is removed with its calls
 
@@ -60,41 +58,6 @@ ended_ok e moment (s ∷ ss) t h so =
       tells = k.tells;
     }
 
--- ---- what is sent in a tunnel, or no datagram
-
-abbrev OutAt : List (ℕ × Tunnel) → ℕ → List Move → Out → Type 0
-OutAt tunnels i ms x = ((t : Tunnel) × (at tunnels i ≡ Some t) × OutOk t ms x) ⊎ IsWord x
-
--- as another end has it, among other moves
-out_of : (x : End) (tunnels : List (ℕ × Tunnel)) (i : ℕ) → at x.tunnels i ≡ at tunnels i → (ms ns : List Move) → AreWithin ms ns → (o : Out)
-    → OutAt tunnels i ms o → IsOfMoves x ns o
-out_of x tunnels i same ms ns within o h = ⊎_elim
-    (λ a. ok_is x i a.0 (same ∙ a.1) ns o (out_on a.0 a.0 (goes_nowhere a.0) ms ns within o a.2))
-    (λ w. word_is x ns o w)
-    h
-
-pub of_more : (x : End) (ms ns : List Move) (o : Out) → IsOfMoves x ns o → IsOfMoves x (ms ++ ns) o
-of_more x ms ns (Send p bytes o) h = ⊎_elim
-    (λ s. inl (record {
-      id = s.id;
-      tunnel = s.tunnel;
-      there = s.there;
-      peer_is = s.peer_is;
-      carries = carries_on s.tunnel s.tunnel (goes_nowhere s.tunnel) ns (ms ++ ns) (λ m a. among_right m ms ns a) bytes o s.carries;
-    }))
-    (λ d. inr (record {
-      declined = d.declined;
-      there = among_right _ ms ns d.there;
-      peer_is = d.peer_is;
-      bytes_are = d.bytes_are;
-      origin_is = d.origin_is;
-    }))
-    h
-of_more x ms ns (Up session side frame) h = record { tunnel = h.tunnel; peer = h.peer; there = among_right _ ms ns h.there }
-of_more x ms ns (Gone session) h = tt
-of_more x ms ns (Drop w) h = tt
-of_more x ms ns (Cause w) h = tt
-
 -- ---- one tunnel
 
 -- role, configuration and ids
@@ -108,13 +71,9 @@ record Like (e x : End) : Type 0 where
 like_on : (e x y : End) → Like e x → Like x y → Like e y
 like_on e x y a b = record { role = b.role ∙ a.role; config = b.config ∙ a.config; tunnels = b.tunnels ∙ a.tunnels; sessions = b.sessions ∙ a.sessions; recoveries = b.recoveries ∙ a.recoveries }
 
--- a turn of the tunnel with an id leads from an end to another
+-- a turn of the tunnel with an id is a step from an end to another
 record Ticked (e : End) (moment i : ℕ) (r : Turn) (y : End) : Type 0 where
-  chain : Chain moment Tick e r.moves y
-  outs : AllByRecursion (OutAt y.tunnels i r.moves) r.outputs
-  tells : AllByRecursion (Tells e moment Tick) r.outputs
-  frames : AllByRecursion (HasOutput r.outputs) r.moves
-  kept : AreKept y
+  step : IsStep e moment Tick (record { end = y; outputs = r.outputs; moves = r.moves })
   like : Like e y
   others : (j : ℕ) → (j ≡ i → ⊥) → at y.tunnels j ≡ at e.tunnels j
 
@@ -142,15 +101,12 @@ module _ (e : End) (kept : AreKept e) (moment : ℕ) (block : List ℕ) (i : ℕ
   }
 
   ticking_leads : (r : Turn) → Ticking e moment t.letters t.calls i r → leads r
+  unfolding after_turn
   ticking_leads r h =
       let s = h.settled in
       let after = tunnel_after r t.letters t.calls in
       record {
-        chain = chain_after e kept moment Tick t.letters t.calls i k.some r s.stays s.chain;
-        outs = all_map _ _ (λ x a. inl (after, there_after e kept moment Tick t.letters t.calls i k.some r s.stays.5, a)) r.outputs s.outs;
-        tells = s.tells;
-        frames = s.frames;
-        kept = kept_after e kept moment Tick t.letters t.calls i k.some r s.stays s.held s.fits;
+        step = turn_chain e kept moment Tick t.letters t.calls i k.some r s;
         like = like_left r h.none.ids;
         others = λ j o.
             ap (λ (x : End). at x.tunnels j) (left_is e kept moment Tick t.letters t.calls i k.some r s.stays.5) ∙ at_other e.tunnels i after j o;
@@ -187,21 +143,25 @@ module _ (e : End) (kept : AreKept e) (moment : ℕ) (block : List ℕ) (i : ℕ
   cleared_to_gone : HasFailed moment t.control → Ticked e moment i (clears t.calls start) gone
   unfolding clears
   cleared_to_gone failed = record {
-    chain = subst (λ ms. Chain moment Tick e ms gone) (sym removed_moves) (
-      gone,
-      record {
-        tunnel = t;
-        there = subst (λ j. at e.tunnels j ≡ Some t) (sym k.local) is;
-        ticks = refl;
-        failed = failed;
-        after = ap (λ j. record e { tunnels = without e.tunnels j; calls = with_looks (map cell.Kill (ids_of t.calls)) e.calls }) (sym k.local);
-      },
-      refl,
-    );
-    outs = all_map _ _ (λ x w. inr w) removed.outputs removed_ok.words;
-    tells = removed_ok.tells;
-    frames = subst (AllByRecursion (HasOutput removed.outputs)) (sym removed_moves) (tt, tt);
-    kept = kept_gone;
+    step = record {
+      chain = record {
+        chain = subst (λ ms. Chain moment Tick e ms gone) (sym removed_moves) (
+          gone,
+          record {
+            tunnel = t;
+            there = subst (λ j. at e.tunnels j ≡ Some t) (sym k.local) is;
+            ticks = refl;
+            failed = failed;
+            after = ap (λ j. record e { tunnels = without e.tunnels j; calls = with_looks (map cell.Kill (ids_of t.calls)) e.calls }) (sym k.local);
+          },
+          refl,
+        );
+        outputs = all_map _ _ (word_is moment Tick e removed.moves gone) removed.outputs removed_ok.words;
+        frames = subst (AllByRecursion (HasOutput removed.outputs)) (sym removed_moves) (tt, tt);
+        kept = kept_gone;
+      };
+      tells = removed_ok.tells;
+    };
     like = record { role = refl; config = refl; tunnels = refl; sessions = refl; recoveries = refl };
     others = λ j o. at_without_other e.tunnels i j o;
   }
@@ -234,41 +194,30 @@ module _ (e : End) (kept : AreKept e) (moment : ℕ) (block : List ℕ) (i : ℕ
 -- ---- all of them
 
 module _ (moment : ℕ) where
-  -- turns of tunnels with these ids lead on from an end
-  record AllTicked (es : List (ℕ × Tunnel)) (x : End) (ts : List Turned) : Type 0 where
-    chain : Chain moment Tick x (flat_map (λ t. t.turn.moves) ts) (end_after_all ts x)
-    outs : AllByRecursion (IsOfMoves (end_after_all ts x) (flat_map (λ t. t.turn.moves) ts)) (flat_map (λ t. t.turn.outputs) ts)
-    frames : AllByRecursion (HasOutput (flat_map (λ t. t.turn.outputs) ts)) (flat_map (λ t. t.turn.moves) ts)
-    kept : AreKept (end_after_all ts x)
-    others : (j : ℕ) → IsAbove j es → at (end_after_all ts x).tunnels j ≡ at x.tunnels j
+  -- turns of tunnels lead on from an end
+  abbrev AllTicked : End → List Turned → Type 0
+  AllTicked x ts = IsChain x moment Tick (record {
+    end = end_after_all ts x;
+    outputs = flat_map (λ t. t.turn.outputs) ts;
+    moves = flat_map (λ t. t.turn.moves) ts;
+  })
 
-  none_ticked : (x : End) → AreKept x → AllTicked [] x []
+  none_ticked : (x : End) → AreKept x → AllTicked x []
   unfolding end_after_all
-  none_ticked x kept = record { chain = refl; outs = tt; frames = tt; kept = kept; others = λ j above. refl }
+  none_ticked x kept = record { chain = refl; outputs = tt; frames = tt; kept = kept }
 
   -- the first, and then the rest
-  one_ticked : (q : ℕ × Tunnel) (es : List (ℕ × Tunnel)) → IsAbove q.0 es → (x : End) (first : Turned) (ts : List Turned)
-      → (y : End) → y ≡ (after_turn x first.id first.tunnel.letters first.tunnel.calls first.turn).end → Ticked x moment q.0 first.turn y → AllTicked es y ts
-      → AllTicked (q ∷ es) x (first ∷ ts)
+  one_ticked : (i : ℕ) (x : End) (first : Turned) (ts : List Turned) (y : End)
+      → y ≡ (after_turn x first.id first.tunnel.letters first.tunnel.calls first.turn).end → Ticked x moment i first.turn y → AllTicked y ts
+      → AllTicked x (first ∷ ts)
   unfolding end_after_all
-  one_ticked q es above x first ts y is h rest =
-      let z = end_after_all ts y in
-      let same : end_after_all (first ∷ ts) x ≡ z = ap (end_after_all ts) (sym is) in
-      let ms = flat_map (λ (t : Turned). t.turn.moves) ts in
+  one_ticked i x first ts y is h rest =
+      let same : end_after_all (first ∷ ts) x ≡ end_after_all ts y = ap (end_after_all ts) (sym is) in
       let outs = flat_map (λ (t : Turned). t.turn.outputs) ts in
-      record {
-        chain = subst (Chain moment Tick x (first.turn.moves ++ ms)) (sym same) (chain_append moment Tick x y z first.turn.moves ms h.chain rest.chain);
-        outs = subst (λ w. AllByRecursion (IsOfMoves w (first.turn.moves ++ ms)) (first.turn.outputs ++ flat_map (λ (t : Turned). t.turn.outputs) ts)) (sym same)
-            (all_append _ first.turn.outputs _
-            (all_map _ _ (out_of z y.tunnels q.0 (rest.others q.0 above) first.turn.moves (first.turn.moves ++ ms) (λ m a. among_left m first.turn.moves ms a))
-            first.turn.outputs h.outs)
-            (all_map _ _ (of_more z first.turn.moves ms) _ rest.outs));
-        frames = all_append _ first.turn.moves ms (frames_more first.turn.outputs outs first.turn.moves h.frames)
-            (all_map _ _ (output_within outs (first.turn.outputs ++ outs) (λ o a. among_right o first.turn.outputs outs a)) ms rest.frames);
-        kept = subst AreKept (sym same) rest.kept;
-        others = λ j below.
-            ap (λ (w : End). at w.tunnels j) same ∙ rest.others j below.1 ∙ h.others j (λ s. let lt = below.0 in absurd (omega (arith, s)));
-      }
+      let ms = flat_map (λ (t : Turned). t.turn.moves) ts in
+      subst (λ z. IsChain x moment Tick (record { end = z; outputs = first.turn.outputs ++ outs; moves = first.turn.moves ++ ms })) (sym same)
+      (both_chain moment Tick x (record { end = y; outputs = first.turn.outputs; moves = first.turn.moves })
+      (record { end = end_after_all ts y; outputs = outs; moves = ms }) h.step.chain rest)
 
   module _ (e : End) (block : List ℕ) where
     abbrev env : Env
@@ -290,21 +239,18 @@ module _ (moment : ℕ) where
 
     -- what the rest leads to, from each end that is like the first and has the rest of the tunnels as they were
     abbrev Rest : List (ℕ × Tunnel) → List Turned → Type 0
-    Rest es ts = (y : End) → Like e y → AreKept y → AllByRecursion (Untouched y) es → AllTicked es y ts
-
-    weaker : (q : ℕ × Tunnel) (es : List (ℕ × Tunnel)) (x : End) (ts : List Turned) → AllTicked es x ts → AllTicked (q ∷ es) x ts
-    weaker q es x ts h = record { chain = h.chain; outs = h.outs; frames = h.frames; kept = h.kept; others = λ j below. h.others j below.1 }
+    Rest es ts = (y : End) → Like e y → AreKept y → AllByRecursion (Untouched y) es → AllTicked y ts
 
     first_ticked : (q : ℕ × Tunnel) (es : List (ℕ × Tunnel)) → IsAbove q.0 es → (ts : List Turned) → Rest es ts → (x : End) → Like e x → AreKept x
-        → AllByRecursion (Untouched x) (q ∷ es) → (o : Option Tunnel) → at e.tunnels q.0 ≡ o → AllTicked (q ∷ es) x (tick_of e env q.0 o ++ ts)
-    first_ticked q es above ts rest x like kept same None is = weaker q es x ts (rest x like kept same.1)
+        → AllByRecursion (Untouched x) (q ∷ es) → (o : Option Tunnel) → at e.tunnels q.0 ≡ o → AllTicked x (tick_of e env q.0 o ++ ts)
+    first_ticked q es above ts rest x like kept same None is = rest x like kept same.1
     first_ticked q es above ts rest x like kept same (Some t) is =
         let r = turns e.role e.config t.letters t.calls Tick (turn_of t.control env) in
         let y = (after_turn x q.0 t.letters t.calls r).end in
         let h : Ticked x moment q.0 r y =
         subst (λ r. Ticked x moment q.0 r (after_turn x q.0 t.letters t.calls r).end) (as_it_was x like t) (tick_leads x kept moment block q.0 t (same.0 ∙ is)) in
-        one_ticked q es above x (record { id = q.0; tunnel = t; turn = r }) ts y refl h
-        (rest y (like_on e x y like h.like) h.kept (untouched_on q x y h.others es above same.1))
+        one_ticked q.0 x (record { id = q.0; tunnel = t; turn = r }) ts y refl h
+        (rest y (like_on e x y like h.like) h.step.chain.kept (untouched_on q x y h.others es above same.1))
 
     all_ticked : (es : List (ℕ × Tunnel)) → Ascends es → Rest es (ticks_of e env (ids_of es))
     unfolding ticks_of Ascends
@@ -322,7 +268,7 @@ module _ (moment : ℕ) where
           → AllByRecursion (Tells e moment Tick) (flat_map (λ (t : Turned). t.turn.outputs) ts)
           → AllByRecursion (Tells e moment Tick) (flat_map (λ (t : Turned). t.turn.outputs) (tick_of e env i o ++ ts))
       tick_tells i None is ts h = h
-      tick_tells i (Some t) is ts h = all_append _ _ _ (tick_leads e kept moment block i t is).tells h
+      tick_tells i (Some t) is ts h = all_append _ _ _ (tick_leads e kept moment block i t is).step.tells h
 
       ticks_tell : (ids : List ℕ) → AllByRecursion (Tells e moment Tick) (flat_map (λ (t : Turned). t.turn.outputs) (ticks_of e env ids))
       unfolding ticks_of
@@ -331,9 +277,7 @@ module _ (moment : ℕ) where
 
       pub ticks_chain : IsStep e moment Tick (ticks_all e env)
       unfolding ticks_all after_all
-      ticks_chain =
-          let h = all_ticked e.tunnels kept.order e (record { role = refl; config = refl; tunnels = refl; sessions = refl; recoveries = refl }) kept (same_all e.tunnels) in
-          record {
-            chain = record { chain = h.chain; outputs = h.outs; frames = h.frames; kept = h.kept };
-            tells = ticks_tell (ids_of e.tunnels);
-          }
+      ticks_chain = record {
+        chain = all_ticked e.tunnels kept.order e (record { role = refl; config = refl; tunnels = refl; sessions = refl; recoveries = refl }) kept (same_all e.tunnels);
+        tells = ticks_tell (ids_of e.tunnels);
+      }

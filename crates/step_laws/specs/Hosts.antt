@@ -34,7 +34,7 @@ use Rattle.end_model.specs.End.{End, step}
 use Rattle.world_model.specs.Texts.{Entry, Drops, Frames}
 use Rattle.end_model.specs.Access.{Access, Coming, Ignores, Answers, Runs, Enters, coming, led_to, about_call, of_call, wants_call, pads_of, entered}
 use Rattle.world_model.specs.World.{World, Node, Lined, lac_at, retold, answer_entries, replies, enters, comes, comes_by, framed, stepped, block_of}
-use Rattle.step_laws.specs.Lines.{is_lac_at}
+use Rattle.step_laws.specs.Lines.{is_lac_at, IsAt}
 
 -- what a frame is to a LAC, as discovery tells it
 abbrev pub discovered_at : Access → End → List ℕ → Discovered
@@ -344,6 +344,9 @@ abbrev pub with_host : (w : World) (number n : ℕ) → LacAt w n → List ℕ �
 with_host w number n l src uniq =
     let s = step l.node.end l.node.clock (block_of n number) (Admitted src) in
     record l.node { access = Some (entered l.access l.node.end src uniq s) }
+
+pub entering : (w : World) (number n : ℕ) (l : LacAt w n) (src : List ℕ) (uniq : Option (List ℕ)) (node : Node) → with_host w number n l src uniq ≡ node → IsAt w n node
+entering w number n l src uniq node e = subst (IsAt w n) e (record { before = l.node; there = l.there; same = refl })
 
 abbrev pub reply_to : (w : World) (number n : ℕ) → LacAt w n → List ℕ → Discovered → List ℕ
 reply_to w number n l src asked = pads_of l.node.end asked (step l.node.end l.node.clock (block_of n number) (Admitted src))

@@ -1,15 +1,21 @@
--- Which node a line is for, where it fits.
-use Rattle.std.proofs.Common.{◌≡◌, Bool, true, false, cond, ℕ, refl, sym, ap, subst, Option, Some, None, Result, Ok, Err}
+-- Which node a line is for, where it fits, and what comes to it.
+use Rattle.std.proofs.Common.{◌≡◌, Bool, true, false, cond, ℕ, ◌+◌, ◌-◌, ◌^◌, refl, sym, ap, ◌∙◌, subst, Option, Some, None, Result, Ok, Err}
 use Rattle.std.proofs.lemmas.Bool.{true≢false}
-use Rattle.std.specs.Prelude.{is_some}
+use Rattle.std.specs.Prelude.{is_some, min}
 use Rattle.id_table.specs.Ids.{at}
 use Rattle.wire_base.specs.declared.why.Why.{Why}
 use Rattle.wire_base.specs.declared.why.Why.TheVariants as why
+use Rattle.end_names.specs.Names.{address_of}
 use Rattle.end_names.specs.declared.role.Role.{Role}
 use Rattle.end_names.specs.declared.role.Role.TheVariants as role
 use Rattle.end_model.specs.Calls.{is_lac}
-use Rattle.end_model.specs.End.{is_not_closed}
-use Rattle.world_model.specs.World.{Node, declared, lac_at, lns_at, with_call, with_tunnel}
+use Rattle.end_model.specs.declared.event.Event.{Event}
+use Rattle.end_model.specs.declared.event.Event.TheVariants.{Datagram}
+use Rattle.world_model.specs.declared.packet.Packet.{Packet}
+use Rattle.world_model.specs.declared.refusal.Refusal.{Refusal}
+use Rattle.world_model.specs.declared.refusal.Refusal.TheVariants.{Unfit}
+use Rattle.end_model.specs.End.{step, is_not_closed}
+use Rattle.world_model.specs.World.{World, Node, Sender, Lined, declared, lac_at, lns_at, with_call, with_tunnel, later, after_step, block_of, stepped, addressee_of, arrival, refused_by, sender_of, arrives, delivers_it, delivers}
 
 -- ---- tests that end in an answer or a refusal
 
@@ -55,3 +61,86 @@ has_call session (Ok x) node h = ap (λ y. Ok y) (tested (is_some (at x.end.call
 pub has_tunnel : (i : ℕ) (r : Result Node Why) (node : Node) → with_tunnel i r ≡ Ok node → r ≡ Ok node
 has_tunnel i (Err x) node h = absurd (cc)
 has_tunnel i (Ok x) node h = ap (λ y. Ok y) (tested (is_not_closed (at x.end.tunnels i)) x why.Tunnel node h).1
+
+-- ---- nodes that make a step
+
+-- none is there
+pub none_there : {X : Type 0} (o : Option X) → is_some o ≡ false → o ≡ None
+none_there None h = refl
+none_there (Some x) h = absurd (true≢false h)
+
+-- a node of the world, at some moment
+pub record IsTimed (w : World) (n : ℕ) (node : Node) : Type 0 where
+  pub before : Node
+  pub there : at w.nodes n ≡ Some before
+  pub same : node ≡ record before { clock = node.clock }
+
+abbrev pub is_there : (w : World) (n : ℕ) (node : Node) → at w.nodes n ≡ Some node → IsTimed w n node
+is_there w n node h = record { before = node; there = h; same = refl }
+
+-- a LAC may keep more of its hosts, too
+pub record IsAt (w : World) (n : ℕ) (node : Node) : Type 0 where
+  pub before : Node
+  pub there : at w.nodes n ≡ Some before
+  pub same : node ≡ record before { clock = node.clock; access = node.access }
+
+pub at_moment : (w : World) (n : ℕ) (node : Node) → IsTimed w n node → IsAt w n node
+at_moment w n node t = subst (IsAt w n) (sym t.same) (record { before = t.before; there = t.there; same = refl })
+
+pub is_at : (w : World) (n : ℕ) (node : Node) → at w.nodes n ≡ Some node → IsAt w n node
+is_at w n node h = record { before = node; there = h; same = refl }
+
+-- a tick puts the clock of its node on
+abbrev pub put_on : ℕ → Node → Node
+put_on milliseconds old = record old { clock = min (old.clock + milliseconds) (2 ^ 64 - 1) }
+
+pub record IsPutOn (w : World) (n milliseconds : ℕ) (node : Node) : Type 0 where
+  pub old : Node
+  pub there : at w.nodes n ≡ Some old
+  pub same : put_on milliseconds old ≡ node
+
+pub is_put_on : (w : World) (n milliseconds : ℕ) (node : Node) → later milliseconds (declared (at w.nodes n)) ≡ Ok node → IsPutOn w n milliseconds node
+is_put_on w n milliseconds node h = by (at w.nodes n) refl h
+  where
+    by : (o : Option Node) → at w.nodes n ≡ o → later milliseconds (declared o) ≡ Ok node → IsPutOn w n milliseconds node
+    by None is e = absurd (cc)
+    by (Some old) is e =
+        let same : record old { clock = min (old.clock + milliseconds) (2 ^ 64 - 1) } ≡ node = cc in record { old = old; there = is; same = same }
+
+pub is_later : (w : World) (n milliseconds : ℕ) (node : Node) → later milliseconds (declared (at w.nodes n)) ≡ Ok node → IsTimed w n node
+is_later w n milliseconds node h =
+    let k = is_put_on w n milliseconds node h in subst (IsTimed w n) k.same (record { before = k.old; there = k.there; same = refl })
+
+-- ---- what lines lead to
+
+-- a step of a node
+pub step_line : (P : Type 0) (w : World) (number : ℕ) (x : Lined) (n : ℕ) (ev : Event) (sender : Option Sender) (o : Result Node Why)
+    → ((node : Node) → o ≡ Ok node → after_step w number n node sender (step node.end node.clock (block_of n number) ev) ≡ x → P)
+    → stepped w number n ev sender o ≡ Ok x → P
+unfolding stepped
+step_line P w number x n ev sender (Err y) f h = absurd (cc)
+step_line P w number x n ev sender (Ok node) f h = f node refl cc
+
+-- a packet that is delivered: it may be, and its node makes a step on it
+module _ (P : Type 0) (w : World) (number : ℕ) (x : Lined) (d : Result Lined Refusal) where
+  abbrev pub comes_to : Packet → Node → Result Lined Refusal
+  comes_to p node = stepped w number p.to (Datagram (address_of p.from) p.bytes) (sender_of p.from p.origin) (Ok node)
+
+  abbrev pub Arrives : Option Packet → Type 0
+  Arrives o = (p : Packet) (node : Node) → o ≡ Some p → at w.nodes p.to ≡ Some node → refused_by p node p.origin ≡ None
+      → d ≡ comes_to p node → comes_to p node ≡ Ok x → P
+
+  arrived : (p : Packet) (node : Node) (r : Option Refusal) → (r ≡ None → d ≡ comes_to p node → comes_to p node ≡ Ok x → P)
+      → d ≡ arrives w number p node r → d ≡ Ok x → P
+  unfolding arrives
+  arrived p node (Some f) on is h = let e : Err f ≡ Ok x = sym is ∙ h in absurd cc
+  arrived p node None on is h = on refl is (sym is ∙ h)
+
+  pub deliver_line : (o : Option Packet) → Arrives o → d ≡ delivers w number o → d ≡ Ok x → P
+  unfolding delivers delivers_it arrival addressee_of
+  deliver_line None on is h = let e : Err (Unfit why.Packet) ≡ Ok x = sym is ∙ h in absurd cc
+  deliver_line (Some p) on is h = by (at w.nodes p.to) refl is
+    where
+      by : (o : Option Node) → at w.nodes p.to ≡ o → d ≡ delivers_it w number (addressee_of p o) → P
+      by None there e = let none : Err (Unfit why.Node) ≡ Ok x = sym e ∙ h in absurd cc
+      by (Some node) there e = arrived p node (refused_by p node p.origin) (λ young so leads. on p node refl there young so leads) e h

@@ -1,5 +1,5 @@
 -- Each step of an end is a chain of its moves; what it sends and hands up is theirs, and what is kept of tunnels stays kept.
-use Rattle.std.specs.Prelude.{◌≡◌, ◌⊎◌, ◌<◌, ◌≤◌, ℕ, ◌+◌, ◌^◌, true, false, List, [], Some, length}
+use Rattle.std.specs.Prelude.{◌≡◌, ◌⊎◌, ◌<◌, ◌≤◌, ℕ, ◌+◌, ◌^◌, true, false, List, [], ◌++◌, Some, length}
 use Rattle.std.specs.List.{AllByRecursion}
 use Rattle.id_table.specs.Ids.{at}
 use Rattle.id_table.specs.Order.{Ascends}
@@ -50,13 +50,24 @@ pub record AreKept (e : End) : Type 0 where
   pub sessions : e.session_ids.last < 65536
   pub first : 0 < e.tunnel_ids.next
 
--- what is sent goes to the peer of a tunnel, as the step leaves it
-pub record IsSent (e : End) (moves : List Move) (peer : ℕ) (bytes : List ℕ) (o : Origin) : Type 0 where
+-- an end of a step's chain of moves: some of the moves lead to it, and the rest of them from it to the end that the step leaves
+pub record InChain (moment : ℕ) (ev : Event) (e : End) (moves : List Move) (x : End) : Type 0 where
+  pub made : List Move
+  pub rest : List Move
+  pub moves_are : moves ≡ made ++ rest
+  pub end : End
+  pub comes : Chain moment ev e made end
+  pub goes : Chain moment ev end rest x
+
+-- what is sent goes to the peer of a tunnel, as it stands at one end of the chain, and is of the moves up to there: the moves behind
+-- it may change the tunnel, or remove it
+pub record IsSent (moment : ℕ) (ev : Event) (e : End) (moves : List Move) (x : End) (peer : ℕ) (bytes : List ℕ) (o : Origin) : Type 0 where
+  pub amid : InChain moment ev e moves x
   pub id : ℕ
   pub tunnel : Tunnel
-  pub there : at e.tunnels id ≡ Some tunnel
+  pub there : at amid.end.tunnels id ≡ Some tunnel
   pub peer_is : peer ≡ tunnel.control.peer
-  pub carries : Carries tunnel moves bytes o
+  pub carries : Carries tunnel amid.made bytes o
 
 -- what is sent for no tunnel is the StopCCN of an opening that a move declines
 pub record IsDecline (moves : List Move) (peer : ℕ) (bytes : List ℕ) (o : Origin) : Type 0 where
@@ -72,17 +83,18 @@ pub record IsHandedUp (moves : List Move) (session : ℕ) (side : Side) (frame :
   pub peer : ℕ
   pub there : Among (move.FrameUp (record { tunnel = tunnel; peer = peer; session = session; side = side; frame = frame })) moves
 
-abbrev pub IsOfMoves : End → List Move → Out → Type 0
-IsOfMoves e moves (Send peer bytes o) = IsSent e moves peer bytes o ⊎ IsDecline moves peer bytes o
-IsOfMoves e moves (Up session side frame) = IsHandedUp moves session side frame
-IsOfMoves e moves (Gone session) = Unit {0}
-IsOfMoves e moves (Drop w) = Unit {0}
-IsOfMoves e moves (Cause w) = Unit {0}
+-- what holds of each output of a step that leads from one end to another
+abbrev pub IsOfMoves : ℕ → Event → End → List Move → End → Out → Type 0
+IsOfMoves moment ev e moves x (Send peer bytes o) = IsSent moment ev e moves x peer bytes o ⊎ IsDecline moves peer bytes o
+IsOfMoves moment ev e moves x (Up session side frame) = IsHandedUp moves session side frame
+IsOfMoves moment ev e moves x (Gone session) = Unit {0}
+IsOfMoves moment ev e moves x (Drop w) = Unit {0}
+IsOfMoves moment ev e moves x (Cause w) = Unit {0}
 
 -- a step that leads there
 pub record IsChain (e : End) (moment : ℕ) (ev : Event) (s : Stepped) : Type 0 where
   pub chain : Chain moment ev e s.moves s.end
-  pub outputs : AllByRecursion (IsOfMoves s.end s.moves) s.outputs
+  pub outputs : AllByRecursion (IsOfMoves moment ev e s.moves s.end) s.outputs
   pub frames : AllByRecursion (HasOutput s.outputs) s.moves
   pub kept : AreKept s.end
 

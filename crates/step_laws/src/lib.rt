@@ -12,8 +12,9 @@ ghost use Rattle.step_laws.specs.Ups.{BirthsAreFew, ReadsAreFew, UpsAreFew, UpsA
 
 /// Each step of an end whose tunnels are kept is a chain of its moves: each move has what it needs in the end that the moves
 /// before it lead to, and the last one leads to the end that is left, whose tunnels are kept. What is sent goes to the peer of
-/// a tunnel, and is of that tunnel as the step leaves it: a letter that it keeps, under its number; an acknowledgement alone;
-/// or a frame that one of the moves sends. Or it is the StopCCN of no tunnel by which a move declines an opening. What is handed up is what one of them hands up.
+/// a tunnel, and is of that tunnel as it stands at one end of the chain, which may be before other moves change or remove it: a
+/// letter that it keeps, under its number; an acknowledgement alone; or a frame that one of the moves up to there sends. Or it is
+/// the StopCCN of no tunnel by which a move declines an opening. What is handed up is what one of the moves hands up.
 pub fn steps_are_chains()
     ensures { StepsAreChains }
 {}
