@@ -1,6 +1,6 @@
 //! The disk.
 
-ghost use Rattle.std.specs.Prelude.{◌≡◌, ◌≤◌, ◌^◌, length, IfOk, OnOk, OnErr, None, false, true};
+ghost use Rattle.std.specs.Prelude.{◌≡◌, ◌≤◌, ◌^◌, length, IfOk, OnOk, OnErr, None, Some, false, true};
 ghost use Rattle.wire_base.specs.Causes.{Rose};
 
 use crate::opening::open;
@@ -129,6 +129,7 @@ impl<R: Files<File = File>> FileDisk<R> {
     fn fail(&mut self) -> Failed
         ensures rose { Rose self.old.faults self.new.faults }
         ensures later { self.old.faults ≤ self.new.faults }
+        ensures refused { self.new.is_refused ≡ self.old.is_refused }
     {
         self.faults = self.faults.saturating_add(1);
         Failed
@@ -141,6 +142,8 @@ impl<R: Files<File = File>> Disk for FileDisk<R> {
     ghost calls_left = { λ _. 2 ^ 64 };
 
     ghost faults = { λ d. d.faults };
+
+    ghost refused = { λ d. Some d.is_refused };
 
     fn len(&mut self) -> Result<u64, Failed> {
         match self.try_len() {

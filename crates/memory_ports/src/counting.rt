@@ -1,10 +1,21 @@
-//! The count of an object's calls, some of which fail.
+//! The count of an object's calls, some of which fail, and of those that ask for what waits.
 
 ghost use Rattle.std.specs.Prelude.{◌≡◌, ◌≤◌};
 ghost use Rattle.wire_base.specs.Causes.{HasCause, Rose};
+ghost use Rattle.port_traits.specs.Packets.{Asks};
 
 use port_traits::Fails;
 use wire_base::Failed;
+
+/// One more, as long as it can be told.
+pub(crate) fn once_more(asked: Option<u64>) -> Option<u64>
+    ensures { Asks asked result }
+{
+    match asked {
+        Some(count) => count.checked_add(1),
+        None => None,
+    }
+}
 
 /// The calls that fail, counted from 1, the calls so far and those that failed.
 #[derive(Drop)]

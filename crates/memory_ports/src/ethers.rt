@@ -3,7 +3,7 @@
 ghost use Rattle.std.specs.Prelude.{◌≡◌, ◌≤◌, ◌++◌, ◌∷◌, [], drop, slice_get, option_map, IfSome, OnOk, OnErr};
 ghost use Rattle.port_traits.specs.Packets.{came, cut_frame};
 
-use crate::counting::Calls;
+use crate::counting::{Calls, once_more};
 use crate::queue::Queue;
 use port_traits::{Ether, Fails, Frames, copy_front};
 use std::alloc::Global;
@@ -39,6 +39,7 @@ fn keep_frame(given: &mut Frames, alloc: Global, frame: &[u8]) -> Result<(), NoM
 pub struct MemoryEther {
     waiting: Queue<Bytes>,
     given: Frames,
+    asked: Option<u64>,
     calls: Calls,
     alloc: Global,
 }
@@ -49,7 +50,7 @@ impl Model for MemoryEther {
 
     ghost Value = { Porting (List ℕ) };
 
-    ghost view = { λ s. record { waiting = s.waiting; given = s.given; fails = s.calls.fails; calls = s.calls.calls; faults = s.calls.faults } };
+    ghost view = { λ s. record { waiting = s.waiting; given = s.given; asked = s.asked; fails = s.calls.fails; calls = s.calls.calls; faults = s.calls.faults } };
 }
 
 impl MemoryEther {
@@ -62,6 +63,7 @@ impl MemoryEther {
         MemoryEther {
             waiting: Queue::new(waiting),
             given: Frames::new(alloc),
+            asked: Some(0),
             calls: Calls::new(fails),
             alloc,
         }
@@ -82,9 +84,12 @@ impl Ether for MemoryEther {
 
     ghost given = { λ s. Some s.given };
 
+    ghost asked = { λ s. s.asked };
+
     ghost faults = { λ s. s.faults };
 
     fn recv(&mut self, buf: &mut [u8; 2048]) -> Result<Option<usize>, Failed> {
+        self.asked = once_more(self.asked);
         self.calls.count()?;
         Ok(take_frame(&mut self.waiting, buf))
     }
@@ -104,6 +109,7 @@ impl Ether for MemoryEther {
 pub struct SteadyEther {
     waiting: Queue<Bytes>,
     given: Frames,
+    asked: Option<u64>,
     tells: bool,
     alloc: Global,
 }
@@ -114,7 +120,7 @@ impl Model for SteadyEther {
 
     ghost Value = { Keeping (List ℕ) };
 
-    ghost view = { λ s. record { waiting = s.waiting; given = told s.tells s.given } };
+    ghost view = { λ s. record { waiting = s.waiting; given = told s.tells s.given; asked = s.asked } };
 }
 
 impl SteadyEther {
@@ -127,6 +133,7 @@ impl SteadyEther {
         SteadyEther {
             waiting: Queue::new(waiting),
             given: Frames::new(alloc),
+            asked: Some(0),
             tells: true,
             alloc,
         }
@@ -152,9 +159,12 @@ impl Ether for SteadyEther {
 
     ghost given = { λ s. s.given };
 
+    ghost asked = { λ s. s.asked };
+
     ghost faults = { λ _. 0 };
 
     fn recv(&mut self, buf: &mut [u8; 2048]) -> Result<Option<usize>, Failed> {
+        self.asked = once_more(self.asked);
         Ok(take_frame(&mut self.waiting, buf))
     }
 

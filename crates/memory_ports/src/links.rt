@@ -3,7 +3,7 @@
 ghost use Rattle.std.specs.Prelude.{◌≡◌, ◌≤◌, ◌++◌, ◌∷◌, [], drop, slice_get, option_map, IfSome, OnOk, OnErr};
 ghost use Rattle.port_traits.specs.Packets.{arrived, cut_datagram};
 
-use crate::counting::Calls;
+use crate::counting::{Calls, once_more};
 use crate::queue::Queue;
 use port_traits::{Arrived, Datagram, Datagrams, Fails, Link, copy_front};
 use std::alloc::Global;
@@ -46,6 +46,7 @@ fn keep_datagram(
 pub struct MemoryLink {
     waiting: Queue<Datagram>,
     given: Datagrams,
+    asked: Option<u64>,
     calls: Calls,
     alloc: Global,
 }
@@ -56,7 +57,7 @@ impl Model for MemoryLink {
 
     ghost Value = { Porting Datagram };
 
-    ghost view = { λ s. record { waiting = s.waiting; given = s.given; fails = s.calls.fails; calls = s.calls.calls; faults = s.calls.faults } };
+    ghost view = { λ s. record { waiting = s.waiting; given = s.given; asked = s.asked; fails = s.calls.fails; calls = s.calls.calls; faults = s.calls.faults } };
 }
 
 impl MemoryLink {
@@ -69,6 +70,7 @@ impl MemoryLink {
         MemoryLink {
             waiting: Queue::new(waiting),
             given: Datagrams::new(alloc),
+            asked: Some(0),
             calls: Calls::new(fails),
             alloc,
         }
@@ -89,9 +91,12 @@ impl Link for MemoryLink {
 
     ghost given = { λ s. Some s.given };
 
+    ghost asked = { λ s. s.asked };
+
     ghost faults = { λ s. s.faults };
 
     fn recv(&mut self, buf: &mut [u8; 2048]) -> Result<Option<Arrived>, Failed> {
+        self.asked = once_more(self.asked);
         self.calls.count()?;
         Ok(take_datagram(&mut self.waiting, buf))
     }
@@ -111,6 +116,7 @@ impl Link for MemoryLink {
 pub struct SteadyLink {
     waiting: Queue<Datagram>,
     given: Datagrams,
+    asked: Option<u64>,
     tells: bool,
     alloc: Global,
 }
@@ -121,7 +127,7 @@ impl Model for SteadyLink {
 
     ghost Value = { Keeping Datagram };
 
-    ghost view = { λ s. record { waiting = s.waiting; given = told s.tells s.given } };
+    ghost view = { λ s. record { waiting = s.waiting; given = told s.tells s.given; asked = s.asked } };
 }
 
 impl SteadyLink {
@@ -134,6 +140,7 @@ impl SteadyLink {
         SteadyLink {
             waiting: Queue::new(waiting),
             given: Datagrams::new(alloc),
+            asked: Some(0),
             tells: true,
             alloc,
         }
@@ -159,9 +166,12 @@ impl Link for SteadyLink {
 
     ghost given = { λ s. s.given };
 
+    ghost asked = { λ s. s.asked };
+
     ghost faults = { λ _. 0 };
 
     fn recv(&mut self, buf: &mut [u8; 2048]) -> Result<Option<Arrived>, Failed> {
+        self.asked = once_more(self.asked);
         Ok(take_datagram(&mut self.waiting, buf))
     }
 

@@ -3,7 +3,7 @@
 ghost use Rattle.std.specs.Prelude.{◌≡◌, ◌≤◌, ◌++◌, ◌∷◌, [], drop, slice_get, option_map, IfSome, OnOk, OnErr};
 ghost use Rattle.port_traits.specs.Packets.{lowered, cut_lower};
 
-use crate::counting::Calls;
+use crate::counting::{Calls, once_more};
 use crate::queue::Queue;
 use port_traits::{Fails, LowerFrame, LowerFrames, Lowered, Uplink, copy_front};
 use std::alloc::Global;
@@ -46,6 +46,7 @@ fn keep_lower(
 pub struct MemoryUplink {
     waiting: Queue<LowerFrame>,
     given: LowerFrames,
+    asked: Option<u64>,
     calls: Calls,
     alloc: Global,
 }
@@ -56,7 +57,7 @@ impl Model for MemoryUplink {
 
     ghost Value = { Porting LowerFrame };
 
-    ghost view = { λ s. record { waiting = s.waiting; given = s.given; fails = s.calls.fails; calls = s.calls.calls; faults = s.calls.faults } };
+    ghost view = { λ s. record { waiting = s.waiting; given = s.given; asked = s.asked; fails = s.calls.fails; calls = s.calls.calls; faults = s.calls.faults } };
 }
 
 impl MemoryUplink {
@@ -69,6 +70,7 @@ impl MemoryUplink {
         MemoryUplink {
             waiting: Queue::new(waiting),
             given: LowerFrames::new(alloc),
+            asked: Some(0),
             calls: Calls::new(fails),
             alloc,
         }
@@ -89,9 +91,12 @@ impl Uplink for MemoryUplink {
 
     ghost given = { λ s. Some s.given };
 
+    ghost asked = { λ s. s.asked };
+
     ghost faults = { λ s. s.faults };
 
     fn recv(&mut self, buf: &mut [u8; 2048]) -> Result<Option<Lowered>, Failed> {
+        self.asked = once_more(self.asked);
         self.calls.count()?;
         Ok(take_lower(&mut self.waiting, buf))
     }
@@ -111,6 +116,7 @@ impl Uplink for MemoryUplink {
 pub struct SteadyUplink {
     waiting: Queue<LowerFrame>,
     given: LowerFrames,
+    asked: Option<u64>,
     tells: bool,
     alloc: Global,
 }
@@ -121,7 +127,7 @@ impl Model for SteadyUplink {
 
     ghost Value = { Keeping LowerFrame };
 
-    ghost view = { λ s. record { waiting = s.waiting; given = told s.tells s.given } };
+    ghost view = { λ s. record { waiting = s.waiting; given = told s.tells s.given; asked = s.asked } };
 }
 
 impl SteadyUplink {
@@ -134,6 +140,7 @@ impl SteadyUplink {
         SteadyUplink {
             waiting: Queue::new(waiting),
             given: LowerFrames::new(alloc),
+            asked: Some(0),
             tells: true,
             alloc,
         }
@@ -159,9 +166,12 @@ impl Uplink for SteadyUplink {
 
     ghost given = { λ s. s.given };
 
+    ghost asked = { λ s. s.asked };
+
     ghost faults = { λ _. 0 };
 
     fn recv(&mut self, buf: &mut [u8; 2048]) -> Result<Option<Lowered>, Failed> {
+        self.asked = once_more(self.asked);
         Ok(take_lower(&mut self.waiting, buf))
     }
 

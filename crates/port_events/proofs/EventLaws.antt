@@ -80,26 +80,33 @@ module _ {S : Type 0} (after : S → ℕ → List ℕ → Event → S) (outputs 
   or_later z u v u' v' e f (inl h) = inl (h ∙ e)
   or_later z u v u' v' e f (inr h) = inr (h ∙ f)
 
+  -- what went out where events stopped early, from a stream and an end on
+  abbrev gone_of : Stream → S → List Event → List Event → ℕ → List Out
+  gone_of stream end made last count = let mid = run after outputs now stream end made in mid.outs ++ take count (run after outputs now mid.stream mid.end last).outs
+
   pub stopped_later : (s t : Stream) (x y z : S) (p q r : Given) (es fs : List Event)
-      → Fed after outputs now s t x y p q es → Stopped after outputs now t y z q r fs → Stopped after outputs now s x z p r (es ++ fs)
-  stopped_later s t x y z p q r es fs a b0 =
+      → Fed after outputs now s t x y p q es → (later : Stopped after outputs now t y z q r fs)
+      → (all : Stopped after outputs now s x z p r (es ++ fs)) × (all.made ≡ es ++ later.made)
+  stopped_later s t x y z p q r es fs a b =
       let first = run after outputs now s x es in
-      let b : Stopped after outputs now first.stream first.end z q r fs =
-      subst (λ (k : S). Stopped after outputs now first.stream k z q r fs) a.end_is (subst (λ (k : Stream). Stopped after outputs now k y z q r fs) a.stream_is b0) in
+      let gave : Goes q r (gone_of first.stream first.end b.made b.last b.count) =
+      subst (λ (k : S). Goes q r (gone_of first.stream k b.made b.last b.count)) a.end_is (subst (λ (k : Stream). Goes q r (gone_of k y b.made b.last b.count)) a.stream_is b.gave) in
+      let ends : (z ≡ (run after outputs now first.stream first.end b.made).end) ⊎ (z ≡ (run after outputs now first.stream first.end fs).end) =
+      subst (λ (k : S). (z ≡ (run after outputs now first.stream k b.made).end) ⊎ (z ≡ (run after outputs now first.stream k fs).end)) a.end_is
+      (subst (λ (k : Stream). (z ≡ (run after outputs now k y b.made).end) ⊎ (z ≡ (run after outputs now k y fs).end)) a.stream_is b.end_is) in
       let mid = run after outputs now first.stream first.end b.made in
       let more = take b.count (run after outputs now mid.stream mid.end b.last).outs in
       let upto = run-then s x es b.made in
-      let all = run-then s x es fs in
-      record {
-        made = es ++ b.made;
-        last = b.last;
-        taken = ap (λ (k : List Event). es ++ k) b.taken ∙ sym (append_assoc es b.made b.last);
-        one = b.one;
-        count = b.count;
-        gave = subst (λ (k : Ran S). Goes p r (k.outs ++ take b.count (run after outputs now k.stream k.end b.last).outs)) (sym upto)
-            (subst (Goes p r) (sym (append_assoc first.outs mid.outs more)) (Goes-then p q r first.outs (mid.outs ++ more) a.gave b.gave));
-        end_is = or_later z _ _ _ _ (ap (λ (k : Ran S). k.end) (sym upto)) (ap (λ (k : Ran S). k.end) (sym all)) b.end_is;
-      }
-
-  pub stopped_same : (stream : Stream) (end : S) (g g' : Given) → g' ≡ g → Stopped after outputs now stream end end g g' []
-  stopped_same stream end g g' same = subst (λ (k : Given). Stopped after outputs now stream end end g k []) (sym same) (stopped_now stream end g)
+      let all = run-then s x es fs in (
+        record {
+          made = es ++ b.made;
+          last = b.last;
+          taken = ap (λ (k : List Event). es ++ k) b.taken ∙ sym (append_assoc es b.made b.last);
+          one = b.one;
+          count = b.count;
+          gave = subst (λ (k : Ran S). Goes p r (k.outs ++ take b.count (run after outputs now k.stream k.end b.last).outs)) (sym upto)
+              (subst (Goes p r) (sym (append_assoc first.outs mid.outs more)) (Goes-then p q r first.outs (mid.outs ++ more) a.gave gave));
+          end_is = or_later z _ _ _ _ (ap (λ (k : Ran S). k.end) (sym upto)) (ap (λ (k : Ran S). k.end) (sym all)) ends;
+        },
+        refl,
+      )

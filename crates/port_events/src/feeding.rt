@@ -25,6 +25,9 @@ pub fn feed<S: EndStep, L: Link, E: Ether, U: Uplink, R: Rng>(
     ensures link_waits { L.waiting link.new ≡ L.waiting link.old }
     ensures ether_waits { E.waiting ether.new ≡ E.waiting ether.old }
     ensures up_waits { U.waiting up.new ≡ U.waiting up.old }
+    ensures link_asked { L.asked link.new ≡ L.asked link.old }
+    ensures ether_asked { E.asked ether.new ≡ E.asked ether.old }
+    ensures up_asked { U.asked up.new ≡ U.asked up.old }
     ensures cause { Blames (L.faults link.old) (L.faults link.new) (E.faults ether.old) (E.faults ether.new) (U.faults up.old) (U.faults up.new) result }
 {
     let block = next_block(rng);
@@ -52,6 +55,9 @@ pub fn feed_some<S: EndStep, L: Link, E: Ether, U: Uplink, R: Rng>(
     ensures link_waits { L.waiting link.new ≡ L.waiting link.old }
     ensures ether_waits { E.waiting ether.new ≡ E.waiting ether.old }
     ensures up_waits { U.waiting up.new ≡ U.waiting up.old }
+    ensures link_asked { L.asked link.new ≡ L.asked link.old }
+    ensures ether_asked { E.asked ether.new ≡ E.asked ether.old }
+    ensures up_asked { U.asked up.new ≡ U.asked up.old }
     ensures cause { Blames (L.faults link.old) (L.faults link.new) (E.faults ether.old) (E.faults ether.new) (U.faults up.old) (U.faults up.new) result }
 {
     match event {

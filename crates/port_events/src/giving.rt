@@ -31,6 +31,9 @@ fn give<L: Link, E: Ether, U: Uplink>(
     ensures link_waits { L.waiting link.new ≡ L.waiting link.old }
     ensures ether_waits { E.waiting ether.new ≡ E.waiting ether.old }
     ensures up_waits { U.waiting up.new ≡ U.waiting up.old }
+    ensures link_asked { L.asked link.new ≡ L.asked link.old }
+    ensures ether_asked { E.asked ether.new ≡ E.asked ether.old }
+    ensures up_asked { U.asked up.new ≡ U.asked up.old }
     ensures cause { Blames (L.faults link.old) (L.faults link.new) (E.faults ether.old) (E.faults ether.new) (U.faults up.old) (U.faults up.new) result }
 {
     match out {
@@ -62,6 +65,9 @@ pub fn give_all<L: Link, E: Ether, U: Uplink>(
     ensures link_waits { L.waiting link.new ≡ L.waiting link.old }
     ensures ether_waits { E.waiting ether.new ≡ E.waiting ether.old }
     ensures up_waits { U.waiting up.new ≡ U.waiting up.old }
+    ensures link_asked { L.asked link.new ≡ L.asked link.old }
+    ensures ether_asked { E.asked ether.new ≡ E.asked ether.old }
+    ensures up_asked { U.asked up.new ≡ U.asked up.old }
     ensures cause { Blames (L.faults link.old) (L.faults link.new) (E.faults ether.old) (E.faults ether.new) (U.faults up.old) (U.faults up.new) result }
 {
     for out in outs.as_slice() {

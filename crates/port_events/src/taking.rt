@@ -1,6 +1,7 @@
 //! What waits on a port, as an event.
 
 ghost use Rattle.std.specs.Prelude.{◌≡◌, ◌≤◌, drop, option_map, OnOk, IfOk, IfErr, None};
+ghost use Rattle.port_traits.specs.Packets.{Asks};
 ghost use Rattle.port_events.specs.Giving.{BlamesOne};
 ghost use Rattle.port_events.specs.declared.giving.NodeFault.TheVariants.{LinkFault, EtherFault, UplinkFault};
 ghost use Rattle.port_events.specs.Taking.{datagram_event, frame_event, lower_event, TellsEvent, MayTell};
@@ -17,6 +18,7 @@ pub fn next_datagram<L: Link>(alloc: Global, link: &mut L) -> Result<Option<Even
     ensures left { OnOk result (L.waiting link.new ≡ option_map (drop 1) (L.waiting link.old)) }
     ensures err { IfErr result (λ fault. MayTell fault datagram_event (L.waiting link.old) (L.waiting link.new) None) }
     ensures kept { L.given link.new ≡ L.given link.old }
+    ensures asked { Asks (L.asked link.old) (L.asked link.new) }
     ensures later { L.faults link.old ≤ L.faults link.new }
     ensures cause { BlamesOne (L.faults link.old) (L.faults link.new) LinkFault result }
 {
@@ -37,6 +39,7 @@ pub fn next_frame<E: Ether>(alloc: Global, ether: &mut E) -> Result<Option<Event
     ensures left { OnOk result (E.waiting ether.new ≡ option_map (drop 1) (E.waiting ether.old)) }
     ensures err { IfErr result (λ fault. MayTell fault frame_event (E.waiting ether.old) (E.waiting ether.new) None) }
     ensures kept { E.given ether.new ≡ E.given ether.old }
+    ensures asked { Asks (E.asked ether.old) (E.asked ether.new) }
     ensures later { E.faults ether.old ≤ E.faults ether.new }
     ensures cause { BlamesOne (E.faults ether.old) (E.faults ether.new) EtherFault result }
 {
@@ -57,6 +60,7 @@ pub fn next_lower<U: Uplink>(alloc: Global, up: &mut U) -> Result<Option<Event>,
     ensures left { OnOk result (U.waiting up.new ≡ option_map (drop 1) (U.waiting up.old)) }
     ensures err { IfErr result (λ fault. MayTell fault lower_event (U.waiting up.old) (U.waiting up.new) None) }
     ensures kept { U.given up.new ≡ U.given up.old }
+    ensures asked { Asks (U.asked up.old) (U.asked up.new) }
     ensures later { U.faults up.old ≤ U.faults up.new }
     ensures cause { BlamesOne (U.faults up.old) (U.faults up.new) UplinkFault result }
 {

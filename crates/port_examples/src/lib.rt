@@ -3,8 +3,6 @@
 #![tactic(auto)]
 
 #[cfg(test)]
-mod echo;
-#[cfg(test)]
 mod file_tests;
 #[cfg(test)]
 mod memory_tests;

@@ -1,7 +1,6 @@
-use crate::echo::Echo;
 use block_source::seeded;
 use memory_ports::{ManualClock, MemoryEther, MemoryLink, MemoryUplink, Moments};
-use port_events::NodeFault;
+use port_events::{Echo, NodeFault};
 use port_traits::{Datagram, Datagrams, Fails, Frames};
 use port_turn::serve;
 use std::alloc::Global;

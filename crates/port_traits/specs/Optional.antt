@@ -9,6 +9,10 @@ abbrev pub given_of : {S T : Type 0} → (S → Option (List T)) → Option S �
 given_of given None = None
 given_of given (Some port) = given port
 
+abbrev pub asked_of : {S : Type 0} → (S → Option ℕ) → Option S → Option ℕ
+asked_of asked None = None
+asked_of asked (Some port) = asked port
+
 abbrev pub faults_of : {S : Type 0} → (S → ℕ) → Option S → ℕ
 faults_of faults None = 0
 faults_of faults (Some port) = faults port

@@ -4,11 +4,13 @@ use crate::packets::{Ether, Lowered, Uplink};
 use wire_base::Failed;
 
 impl<E: Ether> Ether for Option<E> {
-    ghost use Rattle.port_traits.specs.Optional.{waiting_of, given_of, faults_of};
+    ghost use Rattle.port_traits.specs.Optional.{waiting_of, given_of, asked_of, faults_of};
 
     ghost waiting = { waiting_of E.waiting };
 
     ghost given = { given_of E.given };
+
+    ghost asked = { asked_of E.asked };
 
     ghost faults = { faults_of E.faults };
 
@@ -28,11 +30,13 @@ impl<E: Ether> Ether for Option<E> {
 }
 
 impl<U: Uplink> Uplink for Option<U> {
-    ghost use Rattle.port_traits.specs.Optional.{waiting_of, given_of, faults_of};
+    ghost use Rattle.port_traits.specs.Optional.{waiting_of, given_of, asked_of, faults_of};
 
     ghost waiting = { waiting_of U.waiting };
 
     ghost given = { given_of U.given };
+
+    ghost asked = { asked_of U.asked };
 
     ghost faults = { faults_of U.faults };
 

@@ -1,11 +1,11 @@
 //! The ports of a node: datagrams, Ethernet frames, network frames, and the moments of a clock. Each port has, as
-//! meanings, a count of faults that never falls and, where the object tells them, what waits and what it was given. A
-//! call takes no memory but what the object itself keeps.
+//! meanings, a count of faults that never falls and, where the object tells them, what waits, what it was given, and how
+//! often it was asked for what waits. A call takes no memory but what the object itself keeps.
 
 ghost use Rattle.std.specs.Prelude.{ℕ, List, ◌≡◌, ◌≤◌, [], ◌∷◌, drop, option_map, IfOk, OnOk, OnErr, IfSome};
 ghost use Rattle.std.specs.declared.option.Option.{Option};
 ghost use Rattle.wire_base.specs.Causes.{HasCause};
-ghost use Rattle.port_traits.specs.Packets.{Gains, TellsFirst, arrived, cut_datagram, came, cut_frame, lowered, cut_lower, Moments, moment, passed};
+ghost use Rattle.port_traits.specs.Packets.{Gains, Asks, TellsFirst, arrived, cut_datagram, came, cut_frame, lowered, cut_lower, Moments, moment, passed};
 
 use wire_base::{Bytes, Failed, Sequence};
 
@@ -56,6 +56,9 @@ pub trait Link {
     /// The datagrams that it was given, where it tells them.
     ghost given: { Self → Option (List Datagram) } = { λ _. Option.None };
 
+    /// How often `recv` was called, whatever it answered, where the port tells it.
+    ghost asked: { Self → Option ℕ } = { λ _. Option.None };
+
     /// How often it failed.
     ghost faults: { Self → ℕ };
 
@@ -67,6 +70,7 @@ pub trait Link {
         ensures left { OnOk result (waiting self.new ≡ option_map (drop 1) (waiting self.old)) }
         ensures failed { OnErr result (waiting self.new ≡ waiting self.old) }
         ensures kept { given self.new ≡ given self.old }
+        ensures asked { Asks (asked self.old) (asked self.new) }
         ensures cause { HasCause (faults self.old) (faults self.new) result };
 
     /// Sends a datagram to the end of an address.
@@ -74,6 +78,7 @@ pub trait Link {
         ensures sent { OnOk result (Gains (given self.old) (given self.new) (record { peer = peer; bytes = bytes.now } ∷ [])) }
         ensures failed { OnErr result (Gains (given self.old) (given self.new) []) }
         ensures kept { waiting self.new ≡ waiting self.old }
+        ensures asked { asked self.new ≡ asked self.old }
         ensures cause { HasCause (faults self.old) (faults self.new) result };
 }
 
@@ -84,6 +89,9 @@ pub trait Ether {
 
     /// The frames that it was given, where it tells them.
     ghost given: { Self → Option (List (List ℕ)) } = { λ _. Option.None };
+
+    /// How often `recv` was called, whatever it answered, where the port tells it.
+    ghost asked: { Self → Option ℕ } = { λ _. Option.None };
 
     /// How often it failed.
     ghost faults: { Self → ℕ };
@@ -96,6 +104,7 @@ pub trait Ether {
         ensures left { OnOk result (waiting self.new ≡ option_map (drop 1) (waiting self.old)) }
         ensures failed { OnErr result (waiting self.new ≡ waiting self.old) }
         ensures kept { given self.new ≡ given self.old }
+        ensures asked { Asks (asked self.old) (asked self.new) }
         ensures cause { HasCause (faults self.old) (faults self.new) result };
 
     /// Sends a frame.
@@ -103,6 +112,7 @@ pub trait Ether {
         ensures sent { OnOk result (Gains (given self.old) (given self.new) (frame.now ∷ [])) }
         ensures failed { OnErr result (Gains (given self.old) (given self.new) []) }
         ensures kept { waiting self.new ≡ waiting self.old }
+        ensures asked { asked self.new ≡ asked self.old }
         ensures cause { HasCause (faults self.old) (faults self.new) result };
 }
 
@@ -116,6 +126,9 @@ pub trait Uplink {
     /// The frames that it was given, where it tells them.
     ghost given: { Self → Option (List LowerFrame) } = { λ _. Option.None };
 
+    /// How often `recv` was called, whatever it answered, where the port tells it.
+    ghost asked: { Self → Option ℕ } = { λ _. Option.None };
+
     /// How often it failed.
     ghost faults: { Self → ℕ };
 
@@ -127,6 +140,7 @@ pub trait Uplink {
         ensures left { OnOk result (waiting self.new ≡ option_map (drop 1) (waiting self.old)) }
         ensures failed { OnErr result (waiting self.new ≡ waiting self.old) }
         ensures kept { given self.new ≡ given self.old }
+        ensures asked { Asks (asked self.old) (asked self.new) }
         ensures cause { HasCause (faults self.old) (faults self.new) result };
 
     /// Sends a frame of a session.
@@ -134,6 +148,7 @@ pub trait Uplink {
         ensures sent { OnOk result (Gains (given self.old) (given self.new) (record { session = session; frame = frame.now } ∷ [])) }
         ensures failed { OnErr result (Gains (given self.old) (given self.new) []) }
         ensures kept { waiting self.new ≡ waiting self.old }
+        ensures asked { asked self.new ≡ asked self.old }
         ensures cause { HasCause (faults self.old) (faults self.new) result };
 }
 

@@ -6,7 +6,7 @@ use Rattle.port_events.specs.declared.end.Event.{Event}
 use Rattle.port_events.specs.declared.end.Out.{Out}
 use Rattle.port_events.specs.declared.giving.NodeFault.{NodeFault}
 use Rattle.port_events.specs.Feeding.{Given}
-use Rattle.port_turn.specs.Turns.{Waits, Turn, Turned, Broke}
+use Rattle.port_turn.specs.Turns.{Waits, Asked, Turn, Turned, Broke}
 
 -- an end with all that its outside tells
 pub record Node (S : Type 0) : Type 0 where
@@ -15,14 +15,15 @@ pub record Node (S : Type 0) : Type 0 where
   pub end : S
   pub given : Given
   pub waits : Waits
+  pub asked : Asked
 
-abbrev pub node : {S : Type 0} → Stream → Option Moments → S → Given → Waits → Node S
-node stream clock end given waits = record { stream = stream; clock = clock; end = end; given = given; waits = waits }
+abbrev pub node : {S : Type 0} → Stream → Option Moments → S → Given → Waits → Asked → Node S
+node stream clock end given waits asked = record { stream = stream; clock = clock; end = end; given = given; waits = waits; asked = asked }
 
 module _ {S : Type 0} (after : S → ℕ → List ℕ → Event → S) (outputs : S → ℕ → List ℕ → Event → List Out) where
   -- a turn, at the next moment of the clock
   pub record MakesTurn (t : Turn) (old new : Node S) : Type 0 where
-    pub turned : Turned after outputs old.stream new.stream old.end new.end old.given new.given old.waits new.waits t
+    pub turned : Turned after outputs old.stream new.stream old.end new.end old.given new.given old.waits new.waits old.asked new.asked t
     pub moment_is : IfSome old.clock (λ moments. t.now ≡ moment moments)
     pub clock_is : new.clock ≡ option_map passed old.clock
 
@@ -31,8 +32,8 @@ module _ {S : Type 0} (after : S → ℕ → List ℕ → Event → S) (outputs 
   Runs (t ∷ ts) old new = (mid : Node S) × MakesTurn t old mid × Runs ts mid new
 
   -- whole turns, and then one that ended early
-  pub record BreaksOff (fault : NodeFault) (old : Node S) (end' : S) (given' : Given) (waits' : Waits) : Type 0 where
+  pub record BreaksOff (fault : NodeFault) (old : Node S) (end' : S) (given' : Given) (waits' : Waits) (asked' : Asked) : Type 0 where
     pub turns : List Turn
     pub mid : Node S
     pub runs : Runs turns old mid
-    pub broke : Broke after outputs fault mid.stream mid.end end' mid.given given' mid.waits waits'
+    pub broke : Broke after outputs fault mid.stream mid.end end' mid.given given' mid.waits waits' mid.asked asked'

@@ -1,24 +1,23 @@
 //! The turn.
 
-ghost use Rattle.std.specs.Prelude.{◌≡◌, drop, option_map, OnOk, IfOk, IfErr, IfSome};
-ghost use Rattle.std.specs.declared.option.Option.{Option};
-ghost use Rattle.port_events.specs.declared.end.Event.{Event};
+ghost use Rattle.std.specs.Prelude.{◌≡◌, ◌⊎◌, drop, option_map, OnOk, IfOk, IfErr, IfSome};
 ghost use Rattle.port_events.specs.Giving.{Blames};
-ghost use Rattle.port_events.specs.Feeding.{some_of, given, Fed, Stopped};
-ghost use Rattle.port_events.specs.Taking.{datagram_event, frame_event, lower_event, TellsEvent, MayTell};
-ghost use Rattle.port_turn.specs.Turns.{waits, Turned, Broke};
+ghost use Rattle.port_events.specs.Feeding.{some_of, given, Fed};
+ghost use Rattle.port_events.specs.Taking.{frame_event, lower_event, TellsEvent};
+ghost use Rattle.port_turn.specs.Turns.{waits, asked, Turned, Broke, GivingStopped, AskingFailed};
 ghost use Rattle.port_turn.specs.Takings.{turn_of};
-ghost use Rattle.port_traits.specs.Packets.{moment, passed};
+ghost use Rattle.port_traits.specs.Packets.{moment, passed, Asks};
 
 use port_events::{
-    EndStep, Event, NodeFault, feed, feed_some, next_datagram, next_frame, next_lower,
+    EndStep, Event, NodeFault, events_follow, feed, feed_some, next_datagram, next_frame,
+    next_lower,
 };
 use port_traits::{Clock, Ether, Link, Uplink};
 use rand_core::Rng;
 use std::alloc::Global;
 
-/// The first that waits on the link is taken and given to the end, and what comes of it goes out.
-fn take_datagram<S: EndStep, L: Link, E: Ether, U: Uplink, R: Rng>(
+/// What comes of the datagram that was taken, if one was, goes out, and then the Ethernet port is asked for the first frame that waits.
+fn then_frame<S: EndStep, L: Link, E: Ether, U: Uplink, R: Rng>(
     alloc: Global,
     end: &mut S,
     link: &mut L,
@@ -26,45 +25,26 @@ fn take_datagram<S: EndStep, L: Link, E: Ether, U: Uplink, R: Rng>(
     up: &mut U,
     rng: &mut R,
     now: u64,
-) -> Result<Option<Event>, NodeFault>
-    ensures first { IfOk result (λ got. TellsEvent datagram_event (L.waiting link.old) got) }
-    ensures fed { IfOk result (λ got. Fed S.after S.outputs now (R.stream rng.old) (R.stream rng.new) end.old end.new (given (L.given link.old) (E.given ether.old) (U.given up.old)) (given (L.given link.new) (E.given ether.new) (U.given up.new)) (some_of got)) }
-    ensures left { OnOk result (L.waiting link.new ≡ option_map (drop 1) (L.waiting link.old)) }
-    ensures err { IfErr result (λ fault. (got : Option Event) × MayTell fault datagram_event (L.waiting link.old) (L.waiting link.new) got × Stopped S.after S.outputs now (R.stream rng.old) end.old end.new (given (L.given link.old) (E.given ether.old) (U.given up.old)) (given (L.given link.new) (E.given ether.new) (U.given up.new)) (some_of got)) }
-    ensures ether_waits { E.waiting ether.new ≡ E.waiting ether.old }
-    ensures up_waits { U.waiting up.new ≡ U.waiting up.old }
-    ensures cause { Blames (L.faults link.old) (L.faults link.new) (E.faults ether.old) (E.faults ether.new) (U.faults up.old) (U.faults up.new) result }
-{
-    let event = next_datagram(alloc, link)?;
-    feed_some(end, link, ether, up, rng, now, &event)?;
-    Ok(event)
-}
-
-/// The first that waits on the ether is taken and given to the end, and what comes of it goes out.
-fn take_frame<S: EndStep, L: Link, E: Ether, U: Uplink, R: Rng>(
-    alloc: Global,
-    end: &mut S,
-    link: &mut L,
-    ether: &mut E,
-    up: &mut U,
-    rng: &mut R,
-    now: u64,
+    datagram: &Option<Event>,
 ) -> Result<Option<Event>, NodeFault>
     ensures first { IfOk result (λ got. TellsEvent frame_event (E.waiting ether.old) got) }
-    ensures fed { IfOk result (λ got. Fed S.after S.outputs now (R.stream rng.old) (R.stream rng.new) end.old end.new (given (L.given link.old) (E.given ether.old) (U.given up.old)) (given (L.given link.new) (E.given ether.new) (U.given up.new)) (some_of got)) }
+    ensures fed { OnOk result (Fed S.after S.outputs now (R.stream rng.old) (R.stream rng.new) end.old end.new (given (L.given link.old) (E.given ether.old) (U.given up.old)) (given (L.given link.new) (E.given ether.new) (U.given up.new)) (some_of datagram.now)) }
     ensures left { OnOk result (E.waiting ether.new ≡ option_map (drop 1) (E.waiting ether.old)) }
-    ensures err { IfErr result (λ fault. (got : Option Event) × MayTell fault frame_event (E.waiting ether.old) (E.waiting ether.new) got × Stopped S.after S.outputs now (R.stream rng.old) end.old end.new (given (L.given link.old) (E.given ether.old) (U.given up.old)) (given (L.given link.new) (E.given ether.new) (U.given up.new)) (some_of got)) }
+    ensures asks { OnOk result (Asks (E.asked ether.old) (E.asked ether.new)) }
+    ensures err { IfErr result (λ fault. GivingStopped S.after S.outputs now (R.stream rng.old) end.old end.new (given (L.given link.old) (E.given ether.old) (U.given up.old)) (given (L.given link.new) (E.given ether.new) (U.given up.new)) (some_of datagram.now) (E.waiting ether.old) (E.waiting ether.new) (E.asked ether.old) (E.asked ether.new) ⊎ AskingFailed S.after S.outputs fault frame_event now (R.stream rng.old) (R.stream rng.new) end.old end.new (given (L.given link.old) (E.given ether.old) (U.given up.old)) (given (L.given link.new) (E.given ether.new) (U.given up.new)) (some_of datagram.now) (E.waiting ether.old) (E.waiting ether.new) (E.asked ether.old) (E.asked ether.new)) }
     ensures link_waits { L.waiting link.new ≡ L.waiting link.old }
     ensures up_waits { U.waiting up.new ≡ U.waiting up.old }
+    ensures link_asked { L.asked link.new ≡ L.asked link.old }
+    ensures up_asked { U.asked up.new ≡ U.asked up.old }
     ensures cause { Blames (L.faults link.old) (L.faults link.new) (E.faults ether.old) (E.faults ether.new) (U.faults up.old) (U.faults up.new) result }
 {
-    let event = next_frame(alloc, ether)?;
-    feed_some(end, link, ether, up, rng, now, &event)?;
-    Ok(event)
+    feed_some(end, link, ether, up, rng, now, datagram)?;
+    let frame = next_frame(alloc, ether)?;
+    Ok(frame)
 }
 
-/// The first that waits on the uplink is taken and given to the end, and what comes of it goes out.
-fn take_lower<S: EndStep, L: Link, E: Ether, U: Uplink, R: Rng>(
+/// What comes of the Ethernet frame that was taken, if one was, goes out, and then the uplink is asked for the first network frame that waits.
+fn then_lower<S: EndStep, L: Link, E: Ether, U: Uplink, R: Rng>(
     alloc: Global,
     end: &mut S,
     link: &mut L,
@@ -72,18 +52,22 @@ fn take_lower<S: EndStep, L: Link, E: Ether, U: Uplink, R: Rng>(
     up: &mut U,
     rng: &mut R,
     now: u64,
+    frame: &Option<Event>,
 ) -> Result<Option<Event>, NodeFault>
     ensures first { IfOk result (λ got. TellsEvent lower_event (U.waiting up.old) got) }
-    ensures fed { IfOk result (λ got. Fed S.after S.outputs now (R.stream rng.old) (R.stream rng.new) end.old end.new (given (L.given link.old) (E.given ether.old) (U.given up.old)) (given (L.given link.new) (E.given ether.new) (U.given up.new)) (some_of got)) }
+    ensures fed { OnOk result (Fed S.after S.outputs now (R.stream rng.old) (R.stream rng.new) end.old end.new (given (L.given link.old) (E.given ether.old) (U.given up.old)) (given (L.given link.new) (E.given ether.new) (U.given up.new)) (some_of frame.now)) }
     ensures left { OnOk result (U.waiting up.new ≡ option_map (drop 1) (U.waiting up.old)) }
-    ensures err { IfErr result (λ fault. (got : Option Event) × MayTell fault lower_event (U.waiting up.old) (U.waiting up.new) got × Stopped S.after S.outputs now (R.stream rng.old) end.old end.new (given (L.given link.old) (E.given ether.old) (U.given up.old)) (given (L.given link.new) (E.given ether.new) (U.given up.new)) (some_of got)) }
+    ensures asks { OnOk result (Asks (U.asked up.old) (U.asked up.new)) }
+    ensures err { IfErr result (λ fault. GivingStopped S.after S.outputs now (R.stream rng.old) end.old end.new (given (L.given link.old) (E.given ether.old) (U.given up.old)) (given (L.given link.new) (E.given ether.new) (U.given up.new)) (some_of frame.now) (U.waiting up.old) (U.waiting up.new) (U.asked up.old) (U.asked up.new) ⊎ AskingFailed S.after S.outputs fault lower_event now (R.stream rng.old) (R.stream rng.new) end.old end.new (given (L.given link.old) (E.given ether.old) (U.given up.old)) (given (L.given link.new) (E.given ether.new) (U.given up.new)) (some_of frame.now) (U.waiting up.old) (U.waiting up.new) (U.asked up.old) (U.asked up.new)) }
     ensures link_waits { L.waiting link.new ≡ L.waiting link.old }
     ensures ether_waits { E.waiting ether.new ≡ E.waiting ether.old }
+    ensures link_asked { L.asked link.new ≡ L.asked link.old }
+    ensures ether_asked { E.asked ether.new ≡ E.asked ether.old }
     ensures cause { Blames (L.faults link.old) (L.faults link.new) (E.faults ether.old) (E.faults ether.new) (U.faults up.old) (U.faults up.new) result }
 {
-    let event = next_lower(alloc, up)?;
-    feed_some(end, link, ether, up, rng, now, &event)?;
-    Ok(event)
+    feed_some(end, link, ether, up, rng, now, frame)?;
+    let lower = next_lower(alloc, up)?;
+    Ok(lower)
 }
 
 /// What a turn took, at which moment.
@@ -96,7 +80,7 @@ pub struct Taken {
 }
 
 /// A turn: reads the clock, takes a datagram, an Ethernet frame and a network frame, each where one waits, and gives a tick.
-/// What comes of each goes out before the next is taken.
+/// What comes of each goes out before the next port is asked, also where that port fails.
 pub fn turn<S: EndStep, L: Link, E: Ether, U: Uplink, C: Clock, R: Rng>(
     alloc: Global,
     end: &mut S,
@@ -106,16 +90,18 @@ pub fn turn<S: EndStep, L: Link, E: Ether, U: Uplink, C: Clock, R: Rng>(
     clock: &mut C,
     rng: &mut R,
 ) -> Result<Taken, NodeFault>
-    ensures whole { IfOk result (λ t. Turned S.after S.outputs (R.stream rng.old) (R.stream rng.new) end.old end.new (given (L.given link.old) (E.given ether.old) (U.given up.old)) (given (L.given link.new) (E.given ether.new) (U.given up.new)) (waits (L.waiting link.old) (E.waiting ether.old) (U.waiting up.old)) (waits (L.waiting link.new) (E.waiting ether.new) (U.waiting up.new)) (turn_of t)) }
+    ensures whole { IfOk result (λ t. Turned S.after S.outputs (R.stream rng.old) (R.stream rng.new) end.old end.new (given (L.given link.old) (E.given ether.old) (U.given up.old)) (given (L.given link.new) (E.given ether.new) (U.given up.new)) (waits (L.waiting link.old) (E.waiting ether.old) (U.waiting up.old)) (waits (L.waiting link.new) (E.waiting ether.new) (U.waiting up.new)) (asked (L.asked link.old) (E.asked ether.old) (U.asked up.old)) (asked (L.asked link.new) (E.asked ether.new) (U.asked up.new)) (turn_of t)) }
     ensures moment { IfOk result (λ t. IfSome (C.gives clock.old) (λ moments. t.now ≡ moment moments)) }
     ensures clock { C.gives clock.new ≡ option_map passed (C.gives clock.old) }
-    ensures broke { IfErr result (λ fault. Broke S.after S.outputs fault (R.stream rng.old) end.old end.new (given (L.given link.old) (E.given ether.old) (U.given up.old)) (given (L.given link.new) (E.given ether.new) (U.given up.new)) (waits (L.waiting link.old) (E.waiting ether.old) (U.waiting up.old)) (waits (L.waiting link.new) (E.waiting ether.new) (U.waiting up.new))) }
+    ensures broke { IfErr result (λ fault. Broke S.after S.outputs fault (R.stream rng.old) end.old end.new (given (L.given link.old) (E.given ether.old) (U.given up.old)) (given (L.given link.new) (E.given ether.new) (U.given up.new)) (waits (L.waiting link.old) (E.waiting ether.old) (U.waiting up.old)) (waits (L.waiting link.new) (E.waiting ether.new) (U.waiting up.new)) (asked (L.asked link.old) (E.asked ether.old) (U.asked up.old)) (asked (L.asked link.new) (E.asked ether.new) (U.asked up.new))) }
     ensures cause { Blames (L.faults link.old) (L.faults link.new) (E.faults ether.old) (E.faults ether.new) (U.faults up.old) (U.faults up.new) result }
 {
+    events_follow::<S>();
     let now = clock.now();
-    let datagram = take_datagram(alloc, end, link, ether, up, rng, now)?;
-    let frame = take_frame(alloc, end, link, ether, up, rng, now)?;
-    let lower = take_lower(alloc, end, link, ether, up, rng, now)?;
+    let datagram = next_datagram(alloc, link)?;
+    let frame = then_frame(alloc, end, link, ether, up, rng, now, &datagram)?;
+    let lower = then_lower(alloc, end, link, ether, up, rng, now, &frame)?;
+    feed_some(end, link, ether, up, rng, now, &lower)?;
     feed(end, link, ether, up, rng, now, &Event::Tick)?;
     Ok(Taken {
         now,

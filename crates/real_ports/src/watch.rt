@@ -128,6 +128,8 @@ impl<'a, P: Link + Descriptor> Link for Watched<'a, P> {
 
     ghost given = { λ s. P.given s.port };
 
+    ghost asked = { λ s. P.asked s.port };
+
     ghost faults = { λ s. P.faults s.port };
 
     fn recv(&mut self, buf: &mut [u8; 2048]) -> Result<Option<Arrived>, Failed> {
@@ -146,6 +148,8 @@ impl<'a, P: Ether + Descriptor> Ether for Watched<'a, P> {
 
     ghost given = { λ s. P.given s.port };
 
+    ghost asked = { λ s. P.asked s.port };
+
     ghost faults = { λ s. P.faults s.port };
 
     fn recv(&mut self, buf: &mut [u8; 2048]) -> Result<Option<usize>, Failed> {
@@ -163,6 +167,8 @@ impl<'a, P: Uplink + Descriptor> Uplink for Watched<'a, P> {
     ghost waiting = { λ s. P.waiting s.port };
 
     ghost given = { λ s. P.given s.port };
+
+    ghost asked = { λ s. P.asked s.port };
 
     ghost faults = { λ s. P.faults s.port };
 

@@ -8,6 +8,9 @@ invariant-loop-out g l = record {
   link_waits : g.L.Link.waiting l.link ≡ g.L.Link.waiting l.fn.link;
   ether_waits : g.E.Ether.waiting l.ether ≡ g.E.Ether.waiting l.fn.ether;
   up_waits : g.U.Uplink.waiting l.up ≡ g.U.Uplink.waiting l.fn.up;
+  link_asked : g.L.Link.asked l.link ≡ g.L.Link.asked l.fn.link;
+  ether_asked : g.E.Ether.asked l.ether ≡ g.E.Ether.asked l.fn.ether;
+  up_asked : g.U.Uplink.asked l.up ≡ g.U.Uplink.asked l.fn.up;
   link_faults : g.L.Link.faults l.link ≡ g.L.Link.faults l.fn.link;
   ether_faults : g.E.Ether.faults l.ether ≡ g.E.Ether.faults l.fn.ether;
   up_faults : g.U.Uplink.faults l.up ≡ g.U.Uplink.faults l.fn.up;

@@ -1,22 +1,24 @@
-//! The end that sends back.
+//! An end that sends each datagram back, for tests and measurements of what is around an end.
 
-use port_events::{EndStep, Event, Out, Outputs};
+use crate::end::{EndStep, Event, Out, Outputs};
 use std::alloc::Global;
 use wire_base::{Bytes, NoMemory};
 
+/// Sends each datagram back to the peer from which it came, and does nothing else.
 #[derive(Drop)]
 pub struct Echo {
     alloc: Global,
 }
 
 impl Echo {
+    /// An end that holds nothing.
     pub fn new(alloc: Global) -> Echo {
         Echo { alloc }
     }
 }
 
 impl EndStep for Echo {
-    ghost use Rattle.port_examples.specs.Echoes.{echoes};
+    ghost use Rattle.port_events.specs.Echoes.{echoes};
 
     ghost after = { λ s _ _ _. s };
 
