@@ -1,5 +1,5 @@
 -- The world: nodes, and every packet that was ever sent.
-use Rattle.std.specs.Prelude.{ℕ, ◌+◌, ◌-◌, ◌^◌, min, List, [], ◌∷◌, ◌++◌, map, length, Bool, nat_lt, if◌then◌else◌, slice_get, Option, Some, None, is_some, unwrap_or, Result, Ok, Err}
+use Rattle.std.specs.Prelude.{ℕ, ◌+◌, ◌-◌, ◌^◌, min, List, [], ◌∷◌, ◌++◌, map, length, Bool, false, nat_lt, if◌then◌else◌, slice_get, Option, Some, None, is_some, unwrap_or, Result, Ok, Err}
 use Rattle.byteorder.specs.Endian.{big_bytes}
 use Rattle.id_table.specs.Ids.{at, put}
 use Rattle.wire_base.specs.declared.why.Why.{Why}

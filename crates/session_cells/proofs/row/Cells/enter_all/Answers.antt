@@ -22,7 +22,8 @@ loop-change-preserved c =
     let d : CellChange = get_or changes i (cell.Bind 0 0 0) in
     let inv = c.loop-change.invariant in
     let later = c.enter.ensures.later in
-    let more : take (i + 1) changes ≡ take i changes ++ d ∷ [] = take_more changes i (cell.Bind 0 0 0) c.loop-change-test.true in
-    ((later.0, prefix_trans old v w inv.0.1 later.1),
-    subst (λ xs. AllEntered old (entries_of xs) w) (sym more)
-    (change_more d (take i changes) old v w later.1 inv.1 (c.enter.ensures.entered old (entries_of (take i changes)) inv.0.1 (binds_so_far old (entries_of (take i changes)) v inv.1))))
+    let more : take (i + 1) changes ≡ take i changes ++ d ∷ [] = take_more changes i (cell.Bind 0 0 0) c.loop-change-test.true in (
+      (later.0, prefix_trans old v w inv.0.1 later.1),
+      subst (λ xs. AllEntered old (entries_of xs) w) (sym more)
+          (change_more d (take i changes) old v w later.1 inv.1 (c.enter.ensures.entered old (entries_of (take i changes)) inv.0.1 (binds_so_far old (entries_of (take i changes)) v inv.1))),
+    )
