@@ -1,21 +1,26 @@
 -- What a line did are the moves of the step of the node to which it brings an event, and that step answers it.
-use Rattle.std.proofs.Common.{◌≡◌, ℕ, ◌+◌, ◌-◌, List, [], ◌∷◌, ◌++◌, length, map, refl, sym, ap, ◌∙◌, subst, Option, Some, None, Result, Ok, Err, arith}
+use Rattle.std.proofs.Common.{◌≡◌, inl, inr, ⊎_elim, ℕ, ◌+◌, ◌-◌, List, [], ◌∷◌, ◌++◌, length, map, refl, sym, ap, ◌∙◌, subst, Option, Some, None, Result, Ok, Err, arith}
 use Rattle.std.proofs.lemmas.List.{length-append}
 use Rattle.std.specs.Prelude.{slice_get}
 use Rattle.id_table.specs.Ids.{at}
 use Rattle.wire_base.specs.declared.why.Why.{Why}
+use Rattle.wire_base.specs.declared.cause.Cause.{Cause as CauseOf}
 use Rattle.schedule_text.specs.declared.line.Line.{Line}
 use Rattle.schedule_text.specs.declared.line.Line.TheVariants.{Remark, Lac, Lns, OpenUp, Close, Ring, Frame, FromSub, Down, Hang, DropCall, Deliver, Tick}
 use Rattle.schedule_text.specs.Grammar.{FitsLine, AreLines}
 use Rattle.end_model.specs.declared.event.Event.{Event}
 use Rattle.end_model.specs.declared.event.Event.TheVariants as event
 use Rattle.end_model.specs.declared.moves.Move.{Move}
+use Rattle.end_model.specs.declared.out.Out.{Out}
+use Rattle.end_model.specs.declared.out.Out.TheVariants.{Cause}
+use Rattle.world_model.specs.Texts.{Entry, Causes}
+use Rattle.step_laws.specs.Letters.{Among}
 use Rattle.world_model.specs.declared.packet.Packet.{Packet}
 use Rattle.end_names.specs.Names.{address_of}
 use Rattle.end_model.specs.Secrets.{uncovered_event}
 use Rattle.end_model.specs.End.{Stepped, step}
 use Rattle.step_laws.specs.Lines.{is_lac_at, is_lns_at, is_declared, has_call, has_tunnel, is_put_on, step_line, deliver_line}
-use Rattle.world_model.specs.World.{World, Node, Sender, Deed, Lined, after_step, given, declared, lac_at, lns_at, with_call, with_tunnel, later, block_of, stepped, sender_of, line}
+use Rattle.world_model.specs.World.{World, Node, Sender, Deed, Lined, after_step, given, entry_of, entries_of, shown, declared, lac_at, lns_at, with_call, with_tunnel, later, block_of, stepped, sender_of, line}
 use Rattle.world_model.specs.Run.{run}
 use Rattle.step_laws.specs.Answers.{RequestsAreAnswered}
 use Rattle.connection_laws.specs.Accounts.{account_of}
@@ -33,31 +38,53 @@ moves_done : (f : Move → Deed) → ((m : Move) → (f m).move ≡ m) → (ms :
 moves_done f same [] = refl
 moves_done f same (m ∷ ms) = rw (same m, moves_done f same ms) refl
 
-module _ (w : World) (number : ℕ) (l : Line) (x : Lined) where
-  abbrev Does : ℕ → Node → Event → Type 0
-  Does n node ev = map (λ (d : Deed). d.move) x.done ≡ (step_at number l n node ev).moves
+-- and each cause is told
+told_caused : (number n : ℕ) (c : CauseOf) (os : List Out) (v : World) → Among (Cause c) os → Among (Causes number n c) (entries_of number n os v)
+unfolding entries_of entry_of
+told_caused number n c [] v a = absurd a
+told_caused number n c (o ∷ os) v a = ⊎_elim
+    (λ (is : o ≡ Cause c). inl (ap (λ (q : Out). entry_of number n v q) is))
+    (λ rest. inr (told_caused number n c os (shown n v o) rest))
+    a
 
+among_first : (e : Entry) (es fs : List Entry) → Among e es → Among e (es ++ fs)
+among_first e [] fs a = absurd a
+among_first e (x ∷ es) fs a = ⊎_elim (λ is. inl is) (λ rest. inr (among_first e es fs rest)) a
+
+-- what a line did and told of a node are the moves and the causes of the step that it brings
+record Does (w : World) (number : ℕ) (l : Line) (x : Lined) (n : ℕ) (node : Node) (ev : Event) : Type 0 where
+  done : map (λ (d : Deed). d.move) x.done ≡ (step_at number l n node ev).moves
+  told : (c : CauseOf) → Among (Cause c) (step_at number l n node ev).outputs → Among (Causes number n c) x.entries
+
+-- also with more entries behind
+does_more : (w : World) (number : ℕ) (l : Line) (x : Lined) (n : ℕ) (node : Node) (ev : Event) (es : List Entry) → Does w number l x n node ev
+    → Does w number l (record x { entries = x.entries ++ es }) n node ev
+does_more w number l x n node ev es h = record { done = h.done; told = λ c a. among_first (Causes number n c) x.entries es (h.told c a) }
+
+module _ (w : World) (number : ℕ) (l : Line) (x : Lined) where
   -- a step that the line brings, of a node at the moment of the line
   of_step : (n : ℕ) (old node : Node) (ev : Event) (sender : Option Sender) → node.end ≡ old.end → node.clock ≡ moment_of l old
-      → after_step w number n node sender (step node.end node.clock (block_of n number) ev) ≡ x → Does n old ev
+      → after_step w number n node sender (step node.end node.clock (block_of n number) ev) ≡ x → Does w number l x n old ev
   unfolding after_step given
   of_step n old node ev sender same clock is =
       let s = step node.end node.clock (block_of n number) ev in
       let alike : s ≡ step_at number l n old ev = rw (same, clock) refl in
-      subst (λ (q : Lined). map (λ (d : Deed). d.move) q.done ≡ (step_at number l n old ev).moves) is
-      (moves_done _ (λ m. refl) s.moves ∙ ap (λ (q : Stepped). q.moves) alike)
+      subst (λ (q : Lined). Does w number l q n old ev) is (record {
+        done = moves_done _ (λ m. refl) s.moves ∙ ap (λ (q : Stepped). q.moves) alike;
+        told = λ c a. told_caused number n c s.outputs _ (subst (λ (q : Stepped). Among (Cause c) q.outputs) (sym alike) a);
+      })
 
   -- a step of a node that is there, to which it brings this event
   stepped_does : (m : ℕ) (c : Event) (sender : Option Sender) (o : Result Node Why) → ((q : Node) → o ≡ Ok q → at w.nodes m ≡ Some q)
       → ((q : Node) → q.clock ≡ moment_of l q) → stepped w number m c sender o ≡ Ok x → (n : ℕ) (node : Node) (ev : Event)
-      → at w.nodes n ≡ Some node → n ≡ m → ev ≡ c → Does n node ev
+      → at w.nodes n ≡ Some node → n ≡ m → ev ≡ c → Does w number l x n node ev
   unfolding stepped
   stepped_does m c sender (Err y) there clock h n node ev was to is = absurd cc
   stepped_does m c sender (Ok q) there clock h n node ev was to is =
       let both : Some q ≡ Some node = sym (there q refl) ∙ (ap (at w.nodes) (sym to) ∙ was) in
       let same : q ≡ node = cc in
       let made : after_step w number m q sender (step q.end q.clock (block_of m number) c) ≡ x = cc in
-      let done : Does m q c = of_step m q q c sender refl (clock q) made in
+      let done : Does w number l x m q c = of_step m q q c sender refl (clock q) made in
       rw (to, is, ← same) done
 
 -- a step of a LAC whose hosts change with it
@@ -90,7 +117,7 @@ frame_does w number m bytes n node ev was to brings = record {
   done = λ l c is does x h.
       stepped_does w number (Frame m bytes) x m c None (Ok l.node) (λ q e. (let same : l.node ≡ q = cc in rw (← same) l.there)) (λ q. refl) h
       n node ev was to (runs_this l c is brings);
-  entered = λ l src uniq asked is x h. entered_does l src uniq asked is x h brings;
+  entered = λ l src uniq asked is x h. does_more w number (Frame m bytes) x n node ev _ (entered_does l src uniq asked is x h brings);
 }
   where
     not_told : (l : LacAt w m) (k : Coming) → coming l.access l.node.end bytes ≡ k → ((c : Event) → k ≡ Runs c → ⊥)
@@ -177,8 +204,10 @@ answers_of_runs answers laws go_on begins lines fits few before after l split x 
     let r = run before in
     let first = ended laws go_on begins before (all_left FitsLine before (l ∷ after) whole) (omega (arith, count, few)) in
     let fine = first.fine n node.end (seen_end r.world n node was) in
+    let does = line_does r.world (length before + 1) l x made n node ev was brings in
     record {
-      done = line_does r.world (length before + 1) l x made n node ev was brings;
+      done = does.done;
+      told = does.told;
       answers = answers node.end (kept_in r.world (account_of r.done) first.holds n node was) fine.sound fine.asked (moment_of l node)
           (block_of n (length before + 1)) (uncovered_event node.end.config.secret ev);
     }

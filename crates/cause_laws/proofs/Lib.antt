@@ -1,3 +1,4 @@
+mod Refusals
 pub mod Lines
 mod Room
 pub mod Runs

@@ -17,7 +17,7 @@ use Rattle.end_model.specs.declared.out.Out.TheVariants.{Send, Up, Gone, Drop, C
 use Rattle.world_model.specs.declared.refusal.Refusal.TheVariants.{Unfit}
 use Rattle.end_names.specs.declared.role.Role.{Role}
 use Rattle.end_names.specs.declared.role.Role.TheVariants as role
-use Rattle.end_names.specs.Names.{address_of}
+use Rattle.end_names.specs.Names.{address_of, mac_of, host_name}
 use Rattle.end_model.specs.Secrets.{uncovered_event}
 use Rattle.end_model.specs.End.{End, Stepped, step}
 use Rattle.step_laws.specs.Lines.{tested_not, is_lac_at, is_lns_at, is_declared, has_call, has_tunnel, is_put_on, step_line, deliver_line}
@@ -30,6 +30,7 @@ use Rattle.end_model.specs.Access.{coming, Ignores, Answers, live_in, pads_for, 
 use Rattle.wire_base.specs.declared.cause.Cause.{Cause as BecauseOf}
 use Rattle.world_model.specs.Texts.{Entry, Frames}
 use Rattle.step_laws.specs.Hosts.{LacAt, with_host, reply_to, OfFrame, frame_line, never_full, discovery_refuses, frame_answered, host_enters}
+use Rattle.cause_laws.proofs.Refusals.{refused_padr}
 use Rattle.cause_laws.specs.Causes.{Brings, ByItsHost, ByAPadr, CauseStandsIn, AtTheEnd, InDiscovery, moment_of, IsFullAt, AnswersEntry, WithSession, WithCause, OfDiscovery, OfLiveCall, OfEntry, IsTrue, TellsTruly}
 
 -- ---- the outputs of a step, and the entries that they make
@@ -138,8 +139,9 @@ module _ (w : World) (number n : ℕ) (bytes : List ℕ) (l : LacAt w n) where
       (frame_answered l.access l.node.end bytes frame is) in
       ((refl, so), tt)
   answers_true (Some c) frame is =
-      let found = discovery_refuses l.access l.node.end bytes c frame is in (
-        (refl, InDiscovery (record { lac = l; bytes = bytes; line_is = refl; frame = frame; found = found })),
+      let found = discovery_refuses l.access l.node.end bytes c frame is in
+      let r = refused_padr l.access.key (mac_of l.node.end.config.number) (host_name l.node.end.role l.node.end.config.number) bytes c frame found in (
+        (refl, InDiscovery (record { lac = l; bytes = bytes; line_is = refl; src = r.src; tags = r.tags; padr = r.padr; why = r.why })),
         ((refl, OfDiscovery l bytes (Some c) refl found), tt),
       )
 

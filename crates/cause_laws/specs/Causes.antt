@@ -17,6 +17,7 @@ use Rattle.end_model.specs.Calls.{owed_by}
 use Rattle.end_model.specs.Tunnels.{Tunnel}
 use Rattle.end_model.specs.Moments.{is_closed}
 use Rattle.id_source.specs.Spaces.{draws}
+use Rattle.pppoe_wire.specs.declared.frame.Tag.{Tag}
 use Rattle.pppoe_discovery.specs.Told.{pads_to}
 use Rattle.end_model.specs.End.{End, Stepped, step}
 use Rattle.world_model.specs.World.{World, Node, Lined, block_of, line}
@@ -30,6 +31,7 @@ use Rattle.step_laws.specs.Letters.{Among}
 use Rattle.step_laws.specs.Room.{IsFull}
 use Rattle.step_laws.specs.Causes.{Stands}
 use Rattle.step_laws.specs.Left.{AreAsked, AreFew, NoneHasFailed, NoneIsLate}
+use Rattle.cause_laws.specs.Refusals.{IsPadr, IsRefusedFor}
 
 -- ---- what a line brings
 
@@ -71,13 +73,15 @@ pub record CauseIsTrue (w : World) (l : Line) (n : ℕ) (c : Cause) : Type 0 whe
   pub brings : Brings w l n event
   pub stands : Stands node.end (moment_of l node) (uncovered_event node.end.config.secret event) c
 
--- a PADR is refused in discovery, for its service or for its cookie
+-- it brings a LAC a PADR, which is refused for its service or for its cookie, by the key of the LAC's cookies
 pub record DiscoveryRefuses (w : World) (l : Line) (n : ℕ) (c : Cause) : Type 0 where
   pub lac : LacAt w n
   pub bytes : List ℕ
   pub line_is : l ≡ Frame n bytes
-  pub frame : List ℕ
-  pub found : discovered_at lac.access lac.node.end bytes ≡ Reply (Some c) frame
+  pub src : List ℕ
+  pub tags : List Tag
+  pub padr : IsPadr (mac_of lac.node.end.config.number) bytes src tags
+  pub why : IsRefusedFor lac.access.key src tags c
 
 -- one of the two
 pub data CauseStandsIn (w : World) (l : Line) (n : ℕ) (c : Cause) : Type 0 where

@@ -1,7 +1,8 @@
 -- A turn that takes a request for a call answers it once, by its tables.
-use Rattle.std.proofs.Common.{◌≡◌, ℕ, ◌<◌, Bool, true, cond, List, [], ◌∷◌, ◌++◌, refl, sym, ap, ◌∙◌, subst, Option, Some, None, Result, Ok, Err, arith}
+use Rattle.std.proofs.Common.{◌≡◌, ℕ, ◌<◌, Bool, true, cond, List, [], ◌∷◌, ◌++◌, map, refl, sym, ap, ◌∙◌, subst, Option, Some, None, Result, Ok, Err, arith}
 use Rattle.std.proofs.lemmas.Bool.{eqb-true, true≢false, eq-eqb, lt-ltb}
 use Rattle.std.proofs.lemmas.Grind.{flat_map-append}
+use Rattle.std.proofs.lemmas.List.{append-nil}
 use Rattle.std.specs.Prelude.{◌==◌, nat_lt, unwrap_or}
 use Rattle.std.specs.List.{flat_map}
 use Rattle.id_table.specs.Ids.{at, ids_of}
@@ -22,6 +23,8 @@ use Rattle.call_fsm.specs.declared.table.CallAction.TheVariants as call_action
 use Rattle.end_model.specs.declared.tunnel.Call.{Call}
 use Rattle.end_names.specs.declared.role.Role.{Role}
 use Rattle.end_names.specs.declared.role.Role.TheVariants.{Lac, Lns}
+use Rattle.end_model.specs.declared.out.Out.{Out}
+use Rattle.end_model.specs.declared.out.Out.TheVariants.{Cause, Gone}
 use Rattle.end_model.specs.declared.moves.Move.{Move}
 use Rattle.end_model.specs.Reading.{message_in, CallFault, call_fault_in, tunnel_fault_in}
 use Rattle.end_model.specs.Calls.{call_row}
@@ -39,14 +42,14 @@ use Rattle.end_model.specs.Faulty.{faulty_at, faulty, in_faulty_call}
 use Rattle.end_model.specs.Moments.{is_closed}
 use Rattle.end_model.specs.End.{End}
 use Rattle.step_laws.specs.Left.{CanBe}
-use Rattle.step_laws.specs.Answers.{IsRequest, Incoming, Outgoing, FaultyIncoming, FaultyOutgoing, TooFaulty, answer_of_move, IsReply, IsRefusal, IsEnd, IsClose, AnswersIcrq, WithReply, WithRefusal, WithEnd, AnswersFaulty, IsAnswer}
+use Rattle.step_laws.specs.Answers.{IsRequest, Incoming, Outgoing, FaultyIncoming, FaultyOutgoing, TooFaulty, answer_of_move, cause_of_output, causes_of, IsReply, IsRefusal, IsEnd, IsClose, AnswersIcrq, WithReply, WithRefusal, WithEnd, AnswersFaulty, IsAnswer}
 use Rattle.step_laws.proofs.Granting.{grants_is, denies_is}
 use Rattle.step_laws.proofs.Lists.{branch}
 use Rattle.step_laws.proofs.Owing.{live_open}
 use Rattle.step_laws.proofs.Shutting.{all_ended_is}
 use Rattle.step_laws.proofs.Stopping.{row_shut}
 use Rattle.step_laws.proofs.Bodies.{fault_unread, too_faulty}
-use Rattle.step_laws.proofs.Still.{none_more, settled_done}
+use Rattle.step_laws.proofs.Still.{none_more, settled_done, settled_told}
 
 -- ---- rows
 
@@ -83,73 +86,90 @@ open_not s n is other apart = apart (sym other ∙ is)
 
 -- ---- answers
 
--- one move is an answer, of which this holds
-pub record OneAnswer (A : Move → Type 0) (ms : List Move) : Type 0 where
+-- one move is an answer, of which, and of the causes that are told, this holds
+pub record OneAnswer (A : List CauseOf → Move → Type 0) (ms : List Move) (outs : List Out) : Type 0 where
   pub answer : Move
   pub only : flat_map answer_of_move ms ≡ answer ∷ []
-  pub right : A answer
+  pub right : A (causes_of outs) answer
 
-answered : (A : Move → Type 0) (ms : List Move) (m : Move) → flat_map answer_of_move ms ≡ [] → answer_of_move m ≡ m ∷ [] → A m → OneAnswer A (ms ++ m ∷ [])
-answered A ms m none one right = record {
+-- the cause alone that is told now
+one_told : (outs : List Out) (c : CauseOf) → causes_of outs ≡ [] → causes_of (outs ++ Cause c ∷ []) ≡ c ∷ []
+one_told outs c none = flat_map-append cause_of_output outs (Cause c ∷ []) ∙ ap (λ xs. xs ++ c ∷ []) none
+
+-- the sessions that end tell none
+ended_untold : (ss : List ℕ) → causes_of (map Gone ss) ≡ []
+ended_untold [] = refl
+ended_untold (s ∷ ss) = ended_untold ss
+
+all_gone_told : (outs : List Out) (ss : List ℕ) (told : List CauseOf) → causes_of outs ≡ told → causes_of (outs ++ map Gone ss) ≡ told
+all_gone_told outs ss told is =
+    flat_map-append cause_of_output outs (map Gone ss) ∙ (ap (λ xs. causes_of outs ++ xs) (ended_untold ss) ∙ (append-nil (causes_of outs) ∙ is))
+
+answered : (A : List CauseOf → Move → Type 0) (ms : List Move) (outs : List Out) (m : Move) (told : List CauseOf) → flat_map answer_of_move ms ≡ []
+    → answer_of_move m ≡ m ∷ [] → causes_of outs ≡ told → A told m → OneAnswer A (ms ++ m ∷ []) outs
+answered A ms outs m told none one is right = record {
   answer = m;
   only = flat_map-append answer_of_move ms (m ∷ [])
       ∙ (ap (λ xs. xs ++ flat_map answer_of_move (m ∷ [])) none ∙ ap (λ ys. ys ++ []) one);
-  right = right;
+  right = subst (λ cs. A cs m) (sym is) right;
 }
 
 -- and a move after it that answers nothing
-answered_before : (A : Move → Type 0) (ms : List Move) (m : Move) → answer_of_move m ≡ [] → OneAnswer A ms → OneAnswer A (ms ++ m ∷ [])
-answered_before A ms m none h = record { answer = h.answer; only = none_more answer_of_move ms m none ∙ h.only; right = h.right }
+answered_before : (A : List CauseOf → Move → Type 0) (ms : List Move) (outs : List Out) (m : Move) → answer_of_move m ≡ [] → OneAnswer A ms outs
+    → OneAnswer A (ms ++ m ∷ []) outs
+answered_before A ms outs m none h = record { answer = h.answer; only = none_more answer_of_move ms m none ∙ h.only; right = h.right }
 
-pub settled_answer : (A : Move → Type 0) (again : Bool) (letters : List Letter) (t : Turn) → OneAnswer A t.moves
-    → OneAnswer A (settles again letters t).moves
+pub settled_answer : (A : List CauseOf → Move → Type 0) (again : Bool) (letters : List Letter) (t : Turn) → OneAnswer A t.moves t.outputs
+    → OneAnswer A (settles again letters t).moves (settles again letters t).outputs
 settled_answer A again letters t h = record {
   answer = h.answer;
   only = settled_done answer_of_move (λ m. refl) (λ i. refl) again letters t ∙ h.only;
-  right = h.right;
+  right = subst (λ cs. A cs h.answer) (sym (settled_told cause_of_output (λ peer bytes o. refl) again letters t)) h.right;
 }
 
--- a turn in which nothing is answered yet, and which has room for a letter
+-- a turn in which nothing is answered or told yet, and which has room for a letter
 pub record IsOpen (id : ℕ) (t : Turn) : Type 0 where
   pub none : flat_map answer_of_move t.moves ≡ []
+  pub untold : causes_of t.outputs ≡ []
   pub local : t.control.local ≡ id
   pub room : has_room t.control ≡ true
   pub state : state_number t.control.state ≡ 3
 
-module _ (A : Move → Type 0) (id : ℕ) where
+module _ (A : List CauseOf → Move → Type 0) (id : ℕ) where
   abbrev Answered : Turn → Type 0
-  Answered t = OneAnswer A t.moves
+  Answered t = OneAnswer A t.moves t.outputs
 
-  refuses_once : (r : Reason) (remote : ℕ) (t : Turn) → IsOpen id t → ((m : Move) → IsRefusal id remote r.result r.error m → A m)
+  refuses_once : (r : Reason) (remote : ℕ) (t : Turn) → IsOpen id t → ((m : Move) → IsRefusal id remote r.result r.error m → A (r.cause ∷ []) m)
       → Answered (refuses r remote t)
   unfolding refuses refused gives with_move takes_one with_output
   refuses_once r remote t h right =
       branch Answered (has_room t.control) _ _
-      (λ may. answered A t.moves _ h.none refl
+      (λ may. answered A t.moves _ _ (r.cause ∷ []) h.none refl (one_told t.outputs r.cause h.untold)
       (right _ (record { refused = _; is = refl; tunnel = h.local; remote_is = refl; result_is = refl; error_is = refl })))
       (λ full. absurd (true≢false (sym h.room ∙ full)))
 
-  replies_once : (role : Role) (remote drawn : ℕ) (t : Turn) → IsOpen id t → ((m : Move) → IsReply id remote drawn m → A m)
+  replies_once : (role : Role) (remote drawn : ℕ) (t : Turn) → IsOpen id t → ((m : Move) → IsReply id remote drawn m → A [] m)
       → Answered (replies role remote drawn t)
   unfolding replies replied gives with_move with_new takes_one
   replies_once role remote drawn t h right =
       branch Answered (has_room t.control) _ _
-      (λ may. answered A t.moves _ h.none refl
+      (λ may. answered A t.moves _ _ [] h.none refl h.untold
       (right _ (record { replied = _; is = refl; tunnel = h.local; remote_is = refl; session_is = refl })))
       (λ full. absurd (true≢false (sym h.room ∙ full)))
 
   -- a call ends, and the peer is told
-  tells_once : (r : Reason) (s : ℕ) (c : Call) (t : Turn) → IsOpen id t → ((m : Move) → IsEnd id s c r.result r.error m → A m)
+  tells_once : (r : Reason) (s : ℕ) (c : Call) (t : Turn) → IsOpen id t → ((m : Move) → IsEnd id s c r.result r.error m → A (r.cause ∷ []) m)
       → Answered (ends_by r.cause r.result r.error s c call_action.SendCdn (takes_plain t))
   unfolding ends_by end_told gives with_move ends_call with_output with_change takes_plain takes_one
   tells_once r s c t h right =
       branch Answered (has_room t.control) _ _
-      (λ may. answered A _ _ (none_more answer_of_move t.moves _ refl ∙ h.none) refl
+      (λ may. answered A _ _ _ (r.cause ∷ []) (none_more answer_of_move t.moves _ refl ∙ h.none) refl
+      (none_more cause_of_output (t.outputs ++ Cause r.cause ∷ []) (Gone s) refl ∙ one_told t.outputs r.cause h.untold)
       (right _ (record { told = _; is = refl; tunnel = h.local; session_is = refl; remote_is = refl; result_is = refl; error_is = refl })))
       (λ full. absurd (true≢false (sym h.room ∙ full)))
 
   ends_once : (r : Reason) (s : ℕ) (c : Call) (a : CallAction) (t : Turn) → IsOpen id t → s < 65536 → a ≡ call_action.SendCdn
-      → ((m : Move) → IsEnd id s c r.result r.error m → A m) → Answered (answers_by r s c a t)
+      → ((m : Move) → IsEnd id s c r.result r.error m → A (r.cause ∷ []) m) → Answered (answers_by r s c a t)
   unfolding answers_by
   ends_once r s c a t h small row right =
       branch Answered (nat_lt s 65536) _ _
@@ -158,11 +178,12 @@ module _ (A : Move → Type 0) (id : ℕ) where
 
   -- the tunnel closes
   closes_once : (r : Reason) (calls : List (ℕ × Call)) (remote : ℕ) (next : TunnelState) (t : Turn) → IsOpen id t
-      → ((m : Move) → IsClose id r.result r.error m → A m) → Answered (takes_plain (closes_tunnel r calls remote next t))
+      → ((m : Move) → IsClose id r.result r.error m → A (r.cause ∷ []) m) → Answered (takes_plain (closes_tunnel r calls remote next t))
   unfolding closes_tunnel closed_told shuts gives with_move with_output takes_plain takes_one
   closes_once r calls remote next t h right =
       branch (λ (u : Turn). Answered (takes_plain u)) (has_room t.control) _ _
-      (λ may. rw (all_ended_is (ids_of calls) _) (answered_before A _ _ refl (answered A t.moves _ h.none refl
+      (λ may. rw (all_ended_is (ids_of calls) _) (answered_before A _ _ _ refl (answered A t.moves _ _ (r.cause ∷ []) h.none refl
+      (all_gone_told (t.outputs ++ Cause r.cause ∷ []) (ids_of calls) (r.cause ∷ []) (one_told t.outputs r.cause h.untold))
       (right _ (record { closed = _; is = refl; tunnel = h.local; result_is = refl; error_is = refl })))))
       (λ full. absurd (true≢false (sym h.room ∙ full)))
 
@@ -174,35 +195,38 @@ module _ (e : End) (id : ℕ) (tunnel : Tunnel) (session : ℕ) (t : Turn) (h : 
   abbrev calls : List (ℕ × Call)
   calls = tunnel.calls
 
+  abbrev Turned : (List CauseOf → Move → Type 0) → Turn → Type 0
+  Turned A u = OneAnswer A u.moves u.outputs
+
   icrq_once : (remote : ℕ) (q : Result ℕ Reason) → granted e.role calls remote e.session_ids ≡ q → (o : Option Call) → at calls session ≡ o
-      → OneAnswer (AnswersIcrq e id tunnel session remote) (asked_by e.role session remote q o t).moves
+      → Turned (AnswersIcrq e id tunnel session remote) (asked_by e.role session remote q o t)
   unfolding asked_by
   icrq_once remote (Ok drawn) judged None is =
       replies_once (AnswersIcrq e id tunnel session remote) id e.role remote drawn t h
-      (λ m right. WithReply drawn is (grants_is e tunnel remote drawn judged) right)
+      (λ m right. WithReply drawn is (grants_is e tunnel remote drawn judged) refl right)
   icrq_once remote (Err r) judged None is =
       refuses_once (AnswersIcrq e id tunnel session remote) id r remote t h
-      (λ m right. WithRefusal r.result r.error is (denies_is e tunnel remote r judged) right)
+      (λ m right. let d = denies_is e tunnel remote r judged in WithRefusal r.result r.error is d.0 (ap (λ c. c ∷ []) (sym d.1)) right)
   icrq_once remote g judged (Some c) is =
       let call = sound session c is in
       ends_once (AnswersIcrq e id tunnel session remote) id out_of_state session c _ t h call.0 (told_again e.role c.state call.1 (asked session c is))
-      (λ m right. WithEnd c is right)
+      (λ m right. WithEnd c is refl right)
 
   faulty_once : (f : CallFault) (o : Option Call) → at calls session ≡ o
-      → OneAnswer (AnswersFaulty id session f o)
-      (faulty_at e.role (fault_reason f.cause) session (unwrap_or f.session 0) call_event.IcrqNotAcc call_action.SendCdn o t).moves
+      → Turned (AnswersFaulty id session f o)
+      (faulty_at e.role (fault_reason f.cause) session (unwrap_or f.session 0) call_event.IcrqNotAcc call_action.SendCdn o t)
   unfolding faulty_at of_no_call
   faulty_once f None is =
-      refuses_once (AnswersFaulty id session f None) id (fault_reason f.cause) (unwrap_or f.session 0) t h (λ m right. right)
+      refuses_once (AnswersFaulty id session f None) id (fault_reason f.cause) (unwrap_or f.session 0) t h (λ m right. (refl, right))
   faulty_once f (Some c) is =
       let call = sound session c is in
       ends_once (AnswersFaulty id session f (Some c)) id (fault_reason f.cause) session c _ t h call.0
-      (told_faulty e.role c.state call.1 (asked session c is)) (λ m right. right)
+      (told_faulty e.role c.state call.1 (asked session c is)) (λ m right. (refl, right))
 
   -- by what the body says
   module _ (body : List ℕ) where
     abbrev Right : IsRequest body → Turn → Type 0
-    Right r u = OneAnswer (IsAnswer e id tunnel session body r) u.moves
+    Right r u = Turned (IsAnswer e id tunnel session body r) u
 
     -- only an open tunnel carries calls
     is_open : (X : Turn → Type 0) (x y : Turn) → X x → X (cond (state_number t.control.state == 3) x y)
@@ -219,7 +243,7 @@ module _ (e : End) (id : ℕ) (tunnel : Tunnel) (session : ℕ) (t : Turn) (h : 
         (sym ids) (icrq_once remote (granted e.role calls remote e.session_ids) refl (at calls session) refl)))
     said_once (Outgoing remote said) =
         subst (λ q. Right (Outgoing remote said) (hears_said e.role e.config calls session (call_fault_in body) (tunnel_fault_in body) q t)) (sym said)
-        (is_open (λ u. Right (Outgoing remote said) u) _ _ (refuses_once _ id _ remote t h (λ m right. right)))
+        (is_open (λ u. Right (Outgoing remote said) u) _ _ (refuses_once _ id _ remote t h (λ m right. (refl, right))))
     said_once (FaultyIncoming f has is) =
         subst (λ q. Right (FaultyIncoming f has is) (hears_said e.role e.config calls session (call_fault_in body) (tunnel_fault_in body) q t))
         (sym (fault_unread body f has))
@@ -233,7 +257,7 @@ module _ (e : End) (id : ℕ) (tunnel : Tunnel) (session : ℕ) (t : Turn) (h : 
         (subst (λ o. Right (FaultyOutgoing f has is) (hears_faulty e.role e.config calls session o (tunnel_fault_in body) why.Avp t)) (sym has)
         (is_open (λ u. Right (FaultyOutgoing f has is) u) _ _
         (subst (λ k. Right (FaultyOutgoing f has is) (faulty e.role calls session k f.cause f.session t)) (sym is)
-        (refuses_once _ id (fault_reason f.cause) (unwrap_or f.session 0) t h (λ m right. right)))))
+        (refuses_once _ id (fault_reason f.cause) (unwrap_or f.session 0) t h (λ m right. (refl, right))))))
     said_once (TooFaulty avps g read asks has) =
         let u = too_faulty body avps g read asks has in
         subst (λ q. Right (TooFaulty avps g read asks has) (hears_said e.role e.config calls session (call_fault_in body) (tunnel_fault_in body) q t)) (sym u.unread)
@@ -244,7 +268,7 @@ module _ (e : End) (id : ℕ) (tunnel : Tunnel) (session : ℕ) (t : Turn) (h : 
         (sym (row_shut t.control.state event.AdminClose (λ z. open_busy z) (live_open t.control h.state) tt))
         (not_waiting (λ u. Right (TooFaulty avps g read asks has) u) _ _
         (subst (λ (c : CauseOf). Right (TooFaulty avps g read asks has) (takes_plain (closes_tunnel (fault_reason c) calls t.control.remote state.Closed t)))
-        (sym u.closes.cause) (closes_once _ id (fault_reason cause.Value) calls _ _ t h (λ m right. right))))))))
+        (sym u.closes.cause) (closes_once _ id (fault_reason cause.Value) calls _ _ t h (λ m right. (refl, right)))))))))
       where
         -- an open tunnel doesn't wait for its SCCRP
         not_waiting : (X : Turn → Type 0) (x y : Turn) → X y → X (cond (state_number t.control.state == 1) x y)

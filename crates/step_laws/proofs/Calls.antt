@@ -34,12 +34,12 @@ use Rattle.end_model.specs.Asking.{call_of, left_of, granted, replies, asked_by,
 use Rattle.end_model.specs.Connecting.{first_up_by, second_up_by, end_heard_by, ends_named}
 use Rattle.end_model.specs.Hearing.{about_call, in_call}
 use Rattle.end_model.specs.End.{End}
-use Rattle.step_laws.specs.Causes.{CameAbout, MayBeGranted, AskedAgain, RepliedInVain, ConnectedInVain, Stands}
+use Rattle.step_laws.specs.Causes.{CameAbout, AskedAgain, RepliedInVain, ConnectedInVain, Stands}
 use Rattle.step_laws.specs.Moves.{DeniesCall, Came, IsNext, HearsNext, IsPlain, IsAsked, IsReplied, IsConnected, WhyRefused, IsNotGranted, IsOutgoing, IsReplyToNone}
-use Rattle.step_laws.proofs.Granting.{grants_is, denies_is}
+use Rattle.step_laws.proofs.Granting.{denies_is}
 use Rattle.step_laws.proofs.Lists.{branch}
 use Rattle.step_laws.proofs.Owing.{spare_told}
-use Rattle.step_laws.proofs.Tells.{granted_stands, granted_may}
+use Rattle.step_laws.proofs.Tells.{granted_stands}
 use Rattle.step_laws.proofs.Turns.{TurnOk, PlainAt, at_turn, is_roomy, IsGranted, replied_ok, first_up_ok, second_up_ok, end_heard_ok, plain_ok, ignores_ok, refused_ok}
 use Rattle.step_laws.proofs.Settling.{Settled, unsent}
 use Rattle.step_laws.proofs.Comes.{Taking, heard_in, comes_at, now, begun, came_at, told_at, calls_first, spare_first, at_first, that_call, no_call}
@@ -191,7 +191,7 @@ module _ (e : End) (moment : ℕ) (ev : Event) (letters : List Letter) (calls : 
 
     denied_now : (r : Reason) → granted e.role calls remote t.ids.sessions ≡ Err r
         → DeniesCall (at_turn e moment ev letters calls i t) (tunnel_after t letters calls) remote r.result r.error
-    denied_now r is = denies_is (at_turn e moment ev letters calls i t) (tunnel_after t letters calls) remote r (granted_now (Err r) is)
+    denied_now r is = (denies_is (at_turn e moment ev letters calls i t) (tunnel_after t letters calls) remote r (granted_now (Err r) is)).0
 
     refusing : (r : Reason) → granted e.role calls remote t.ids.sessions ≡ Err r → at calls session ≡ None
         → Refusing r remote t hears.letter

@@ -83,19 +83,18 @@ module _ (e : End) (kept : AreKept e) (moment peer : ℕ) (bytes : List ℕ) (h 
         (AnOpening o said is (none_known peer remote e.tunnels alone) (against_is e o r against))
 
     -- or that has a fault
-    faulty_chain : at_zero body ≡ Opens remote → (g : TunnelFault) → tunnel_fault_in body ≡ Some g → IsOfOpening g → Declining (fault_reason g.cause)
+    faulty_chain : at_zero body ≡ Opens remote → (g : TunnelFault) → tunnel_fault_in body ≡ Some g → IsOfOpening body g → Declining (fault_reason g.cause)
     faulty_chain opens g has is =
         declined_chain (fault_reason g.cause)
-        (opening_fault_stands e moment ev g is (record {
+        (opening_fault_stands e moment ev g.cause is.cause (record {
           peer = peer;
           remote = remote;
           body = body;
           came = named;
           opens = opens;
           alone = none_known peer remote e.tunnels alone;
-          fault = g;
-          has = has;
-          is = refl;
+          is_of = is.kind;
+          fault = is.fault;
         }))
         (AFaultyOpening g opens (none_known peer remote e.tunnels alone) has is.event refl refl)
 

@@ -31,7 +31,8 @@ use Rattle.end_model.specs.End.{End}
 use Rattle.step_laws.specs.Causes.{CameFaulty, Stands}
 use Rattle.step_laws.specs.Moves.{Came, IsNext, HasFault, IsWrong, fault_event}
 use Rattle.step_laws.proofs.Lists.{branch}
-use Rattle.step_laws.proofs.Tells.{body_other, cause_of_fault, fault_stands}
+use Rattle.step_laws.proofs.Tells.{body_other}
+use Rattle.step_laws.proofs.Faults.{IsOfCall, call_fault, fault_stands}
 use Rattle.step_laws.proofs.Turns.{PlainAt, ignores_ok}
 use Rattle.step_laws.proofs.Settling.{Settled, unsent}
 use Rattle.step_laws.proofs.Comes.{Taking, to_still, begun, now, next_first, spare_first}
@@ -74,20 +75,26 @@ module _ (e : End) (moment : ℕ) (ev : Event) (letters : List Letter) (calls : 
             says = record { session_is = refl; fault = has };
           }) is refl refl
 
-      fault_came : CameFaulty e ev (begun e moment ev letters calls i t f.fresh) k.header.session g
+      of_call : IsOfCall k.body g
+      of_call = call_fault k.body g has
+
+      fault_came : CameFaulty e ev g.cause
       fault_came = record {
         id = i;
+        tunnel = begun e moment ev letters calls i t f.fresh;
         there = f.fresh.there;
         open_is = ap state_number f.fresh.state ∙ is_open;
         letter = k;
         next = next_first e moment ev letters calls i t f.fresh k next;
-        says = record { session_is = refl; fault = has };
+        kind = g.kind;
+        is_of = of_call.kind;
+        about = of_call.about;
+        fault = of_call.fault;
+        answered = of_call.answered;
       }
 
       stands : Stands e moment ev g.cause
-      stands =
-          fault_stands e moment ev (begun e moment ev letters calls i t f.fresh) k.header.session g fault_came
-          (cause_of_fault k.body g has)
+      stands = fault_stands e moment ev g.cause of_call.cause fault_came
 
       refuses_fault : (remote : ℕ) → remote ≡ unwrap_or g.session 0 → Good (refuses (fault_reason g.cause) remote t)
       refuses_fault remote is =

@@ -17,6 +17,7 @@ use Rattle.end_model.specs.Reasons.{Reason, reason, out_of_state}
 use Rattle.end_model.specs.Asking.{call_of, left_of, granted}
 use Rattle.end_model.specs.End.{End}
 use Rattle.step_laws.specs.Moves.{IsIdInUse, GrantsCall, DeniesCall, AsksItself, HasUsedId, HasAllCalls, HasNoSession}
+use Rattle.step_laws.specs.Answers.{cause_of_denial}
 use Rattle.step_laws.proofs.States.{takes_none}
 use Rattle.step_laws.proofs.Tells.{in_use, free}
 
@@ -64,8 +65,9 @@ module _ (e : End) (t : Tunnel) (remote : ℕ) where
             drawn = subst (λ (k : ℕ). draws e.session_ids ≡ Ok k) same drawn;
           }
 
+  -- with the cause that has those codes
   abbrev Denies : Reason → Type 0
-  Denies r = DeniesCall e t remote r.result r.error
+  Denies r = (d : DeniesCall e t remote r.result r.error) × (cause_of_denial e t remote r.result r.error d ≡ r.cause)
 
   abbrev refusal : Reason → Result ℕ Reason
   refusal q = Err q
@@ -79,12 +81,12 @@ module _ (e : End) (t : Tunnel) (remote : ℕ) where
 
       by : (a b c : Bool) (d : Result ℕ IdError) → reply_row ≡ a → used ≡ b → are_too_many t.calls ≡ c → draws e.session_ids ≡ d
           → judged a b c d ≡ Err r → Denies r
-      by false b c d row id many drawn is = so out_of_state is (AsksItself (takes_none e.role row) refl refl)
+      by false b c d row id many drawn is = so out_of_state is (AsksItself (takes_none e.role row) refl refl, refl)
       by true true c d row id many drawn is =
-          so (reason cause.Session 2 (Some 5)) is (HasUsedId (replies_as e.role row) (in_use e 0 Tick t remote id) refl refl)
+          so (reason cause.Session 2 (Some 5)) is (HasUsedId (replies_as e.role row) (in_use e 0 Tick t remote id) refl refl, refl)
       by true false true d row id many drawn is =
-          so (reason cause.Calls 4 None) is (HasAllCalls (replies_as e.role row) (unused id) (many_calls (length t.calls) many) refl refl)
+          so (reason cause.Calls 4 None) is (HasAllCalls (replies_as e.role row) (unused id) (many_calls (length t.calls) many) refl refl, refl)
       by true false false (Err x) row id many drawn is =
           so (reason cause.Ids 4 None) is
-          (HasNoSession (replies_as e.role row) (unused id) (few_calls (length t.calls) many) x drawn refl refl)
+          (HasNoSession (replies_as e.role row) (unused id) (few_calls (length t.calls) many) x drawn refl refl, refl)
       by true false false (Ok s) row id many drawn is = absurd cc

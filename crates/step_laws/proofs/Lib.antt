@@ -31,6 +31,7 @@ mod Ends
 mod Declining
 mod Ticks
 mod Quiet
+mod Events
 pub mod Steps
 mod Sound
 mod Patience
@@ -47,5 +48,8 @@ pub mod Ups
 mod Bodies
 mod Still
 mod Answering
+mod Reaching
 mod Ringing
 pub mod Requests
+mod Tables
+mod Sent

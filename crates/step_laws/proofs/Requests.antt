@@ -1,43 +1,41 @@
 -- Each step answers the request that it takes, and the ring that comes.
 use Rattle.step_laws.specs.Callers.{IsRing}
 use Rattle.std.proofs.Common.{◌≡◌, inl, inr, ℕ, true, false, List, [], ◌∷◌, length, refl, sym, ap, ◌∙◌, subst, Option, Some, None, Ok, Err, arith, ◌⊎◌, ◌<◌, ◌≤◌}
-use Rattle.std.proofs.lemmas.Bool.{true≢false, eqb-true, eqb-false}
+use Rattle.std.proofs.lemmas.Bool.{true≢false}
 use Rattle.std.proofs.lemmas.Bool.Decides.{nat_tests}
 use Rattle.std.proofs.lemmas.Option.{none-some}
-use Rattle.std.specs.Prelude.{◌==◌, unwrap_or, option_map, nat_le}
+use Rattle.std.specs.Prelude.{unwrap_or, nat_le}
 use Rattle.id_table.specs.Ids.{at}
 use Rattle.id_source.specs.Spaces.{draws}
 use Rattle.id_source.specs.declared.IdError.{IdError}
+use Rattle.wire_base.specs.declared.cause.Cause.{Cause as CauseOf}
 use Rattle.l2tp_header.specs.declared.header.Header.{Header}
 use Rattle.control_message.specs.declared.message.Message.TheVariants.{Icrq}
-use Rattle.recv_window.specs.declared.Class.{Class}
 use Rattle.recv_window.specs.declared.Class.TheVariants.{Next}
-use Rattle.control_channel.specs.Numbers.{class_told}
 use Rattle.tunnel_fsm.specs.declared.table.TunnelState.TheVariants.{WaitCtlReply, Established}
 use Rattle.tunnel_fsm.specs.Rows.{state_number}
 use Rattle.end_model.specs.declared.tunnel.Call.{Call}
 use Rattle.end_names.specs.declared.role.Role.TheVariants.{Lac, Lns}
 use Rattle.end_model.specs.declared.event.Event.{Event}
 use Rattle.end_model.specs.declared.event.Event.TheVariants.{Datagram, Ring, Frame, Admitted, Payload, Lower, Lcp, Hang, OpenTunnel, DropCall, CloseTunnel, Tick}
-use Rattle.end_model.specs.declared.event.Addressee.TheVariants.{Main}
 use Rattle.end_model.specs.declared.moves.Move.{Move}
-use Rattle.end_model.specs.Reading.{body_of, message_in, at_tunnel}
+use Rattle.end_model.specs.Reading.{message_in}
 use Rattle.end_model.specs.Calls.{is_lac}
 use Rattle.end_model.specs.Tunnels.{Env, Turn, Tunnel, turn_of}
 use Rattle.end_model.specs.Turn.{with_move}
 use Rattle.end_model.specs.Sending.{reads_nr}
-use Rattle.end_model.specs.Hearing.{hears_letter, in_tunnel, hears_control, hears_datagram}
-use Rattle.end_model.specs.Events.{turns}
+use Rattle.end_model.specs.Hearing.{hears_letter}
 use Rattle.end_model.specs.Channels.{may_take, counts_acked}
-use Rattle.end_model.specs.End.{End, Stepped, env_of, after_turn, in_main, addressed, for_addressee, least_in, rings_in, rings_at, receives, only_by, step_in, plain_step}
+use Rattle.end_model.specs.End.{End, Stepped, env_of, in_main, least_in, rings_in, rings_at, only_by, step_in, plain_step}
 use Rattle.step_laws.specs.Moves.{GrantsCall, DeniesCall, AsksItself, HasUsedId, HasAllCalls, HasNoSession}
 use Rattle.step_laws.specs.Causes.{MayBeGranted}
 use Rattle.step_laws.specs.Left.{AreSound, AreAsked}
 use Rattle.step_laws.specs.Steps.{AreKept}
-use Rattle.step_laws.specs.Answers.{Incoming, TakesRequest, IsReply, AnswersIcrq, WithReply, WithRefusal, WithEnd, IsAnswer, IsAnswered, IsRepliedTo, GrantedAreRepliedTo, RingIsAnswered, RequestsAreAnswered, IsRefusedTo, NewAreJudged}
+use Rattle.step_laws.specs.Answers.{causes_of, cause_of_denial, Incoming, TakesRequest, IsReply, AnswersIcrq, WithReply, WithRefusal, WithEnd, IsAnswer, IsAnswered, IsRepliedTo, GrantedAreRepliedTo, RingIsAnswered, RequestsAreAnswered, IsRefusedTo, NewAreJudged}
 use Rattle.step_laws.proofs.Lists.{branch}
 use Rattle.step_laws.proofs.Owing.{spare_room}
 use Rattle.step_laws.proofs.Answering.{open_not, OneAnswer, settled_answer, next_once}
+use Rattle.step_laws.proofs.Reaching.{reached}
 use Rattle.step_laws.proofs.Chosen.{least_is, least_open, least_opening, none_open, none_opening}
 use Rattle.step_laws.proofs.Ringing.{main_ring, one_more_ring}
 
@@ -57,31 +55,28 @@ module _ (e : End) (kept : AreKept e) (sound : AreSound e) (asked : AreAsked e) 
     abbrev body : List ℕ
     body = r.letter.body
 
-    abbrev bytes : List ℕ
-    bytes = r.next.comes.came.bytes
-
-    body_is : body ≡ body_of header bytes
-    body_is = r.next.comes.came.body_is
-
-    abbrev nr : ℕ
-    nr = unwrap_or header.nr 0
-
     -- the turn once Nr is read
     abbrev read_turn : Turn
-    read_turn = reads_nr nr (turn_of t.control env)
+    read_turn = reads_nr (unwrap_or header.nr 0) (turn_of t.control env)
 
-    abbrev Right : Turn → Type 0
-    Right u = OneAnswer (IsAnswer e r.id t header.session body r.request) u.moves
+    abbrev Right : List CauseOf → Move → Type 0
+    Right told m = IsAnswer e r.id t header.session body r.request told m
 
-    local_is : t.control.local ≡ r.id
-    local_is = (kept.tunnels r.id t r.there).local
+    abbrev heard : Turn
+    heard = hears_letter e.role e.config t.calls header.session body (Some Next) read_turn
 
-    taken_right : Right (hears_letter e.role e.config t.calls header.session body (Some Next) read_turn)
+    taken_right : OneAnswer Right heard.moves heard.outputs
     unfolding hears_letter reads_nr with_move
     taken_right =
-        branch Right (may_take (counts_acked nr moment t.control) t.calls) _ _
+        branch (λ (u : Turn). OneAnswer Right u.moves u.outputs) (may_take (counts_acked (unwrap_or header.nr 0) moment t.control) t.calls) _ _
         (λ may. next_once e r.id t header.session read_turn
-        (record { none = refl; local = local_is; room = spare_room (counts_acked nr moment t.control) t.calls r.spare; state = r.open_is })
+        (record {
+          none = refl;
+          untold = refl;
+          local = (kept.tunnels r.id t r.there).local;
+          room = spare_room (counts_acked (unwrap_or header.nr 0) moment t.control) t.calls r.spare;
+          state = r.open_is;
+        })
         refl (λ s c live. sound r.id t r.there s c live)
         (λ s c live. asked r.id t r.there (λ one. open_one one) s c live) body r.request)
         (λ full. absurd (true≢false (sym r.spare ∙ full)))
@@ -89,62 +84,10 @@ module _ (e : End) (kept : AreKept e) (sound : AreSound e) (asked : AreAsked e) 
         open_one : state_number t.control.state ≡ 1 → ⊥
         open_one one = open_not (state_number t.control.state) 1 r.open_is one (λ f. omega (arith, f))
 
-    class_is : class_told t.control.channel (unwrap_or header.ns 0) (length body == 0) ≡ Some Next
-    class_is =
-        branch (λ (o : Option Class). o ≡ Some Next) (length body == 0) _ _
-        (λ none. absurd (r.next.some (eqb-true (length body) 0 none)))
-        (λ some. ap (λ c. Some c) r.next.next)
-
-    heard_right : Right (hears_control e.role e.config t.letters t.calls header body (turn_of t.control env))
-    unfolding hears_control in_tunnel
-    heard_right =
-        branch Right (state_number t.control.state == 0) _ _
-        (λ zero. absurd ((kept.tunnels r.id t r.there).busy (eqb-true (state_number t.control.state) 0 zero)))
-        (λ some. subst (λ o. Right (in_tunnel e.role e.config t.letters t.calls header.session body o read_turn)) (sym class_is)
-        (settled_answer _ false t.letters (hears_letter e.role e.config t.calls header.session body (Some Next) read_turn) taken_right))
-
-    turn_right : Right (turns e.role e.config t.letters t.calls (Datagram t.control.peer bytes) (turn_of t.control env))
-    unfolding turns hears_datagram
-    turn_right =
-        subst (λ q. Right (hears_datagram e.role e.config t.letters t.calls bytes q (turn_of t.control env))) (sym r.next.comes.came.read)
-        (branch Right header.control _ _
-        (λ c. subst (λ (b : List ℕ). Right (hears_control e.role e.config t.letters t.calls header b (turn_of t.control env))) body_is heard_right)
-        (λ c. absurd (true≢false (sym r.next.comes.came.control ∙ c))))
-
-    -- the message is for the tunnel
-    abbrev RightIn : Stepped → Type 0
-    RightIn s = OneAnswer (IsAnswer e r.id t header.session body r.request) s.moves
-
-    for_tunnel : addressed e t.control.peer header body ≡ Main r.id
-    unfolding addressed at_tunnel
-    for_tunnel =
-        branch (λ a. a ≡ Main r.id) (header.tunnel == 0) _ _
-        (λ zero. absurd ((kept.tunnels r.id t r.there).some (sym r.named ∙ eqb-true header.tunnel 0 zero)))
-        (λ some. ap (λ i. at_tunnel t.control.peer i (option_map (λ (u : Tunnel). u.control.peer) (at e.tunnels i))) r.named
-        ∙ (ap (λ o. at_tunnel t.control.peer r.id (option_map (λ (u : Tunnel). u.control.peer) o)) r.there
-        ∙ branch (λ a. a ≡ Main r.id) (t.control.peer == t.control.peer) _ _
-        (λ same. refl)
-        (λ other. absurd (eqb-false t.control.peer t.control.peer other refl))))
-
-    main_right : RightIn (for_addressee e env (Datagram t.control.peer bytes) t.control.peer header body (addressed e t.control.peer header body))
-    unfolding for_addressee in_main after_turn
-    main_right =
-        subst (λ a. RightIn (for_addressee e env (Datagram t.control.peer bytes) t.control.peer header body a)) (sym for_tunnel)
-        (subst (λ o. RightIn (in_main e env (Datagram t.control.peer bytes) r.id o)) (sym r.there) turn_right)
-
-    received_right : RightIn (plain_step e moment block (Datagram t.control.peer bytes))
-    unfolding plain_step step_in receives
-    received_right =
-        subst (λ q. RightIn (receives e env t.control.peer bytes q)) (sym r.next.comes.came.read)
-        (branch RightIn header.control _ _
-        (λ c. subst (λ (b : List ℕ). RightIn (for_addressee e env (Datagram t.control.peer bytes) t.control.peer header b
-        (addressed e t.control.peer header b))) body_is main_right)
-        (λ c. absurd (true≢false (sym r.next.comes.came.control ∙ c))))
-
-    step_right : RightIn (plain_step e moment block ev)
+    step_right : OneAnswer Right (plain_step e moment block ev).moves (plain_step e moment block ev).outputs
     step_right =
-        let is : ev ≡ Datagram t.control.peer bytes = r.next.comes.came.is ∙ ap (λ p. Datagram p bytes) r.next.comes.peer in
-        subst (λ x. RightIn (plain_step e moment block x)) (sym is) received_right
+        reached e kept moment block ev r.id t r.there r.letter r.next r.named (OneAnswer Right)
+        (settled_answer Right false t.letters heard taken_right)
 
   pub request_answered : (ev : Event) (r : TakesRequest e moment ev) → IsAnswered e moment ev r (plain_step e moment block ev)
   request_answered ev r = let h = step_right ev r in record { answer = h.answer; only = h.only; right = h.right }
@@ -172,19 +115,29 @@ module _ (e : End) (t : Tunnel) (remote : ℕ) where
   not_denied result error may (HasAllCalls lns free many r x) = true≢false (sym (many_tested (length t.calls) many) ∙ may.few)
   not_denied result error may (HasNoSession lns free few y none r x) = may.ids y none
 
+-- the same codes have the same cause
+same_denial : (e : End) (t : Tunnel) (remote result : ℕ) (error : Option ℕ) (x : ℕ) (y : Option ℕ) → x ≡ result → y ≡ error
+    → (d : DeniesCall e t remote result error)
+    → (f : DeniesCall e t remote x y) × (cause_of_denial e t remote x y f ≡ cause_of_denial e t remote result error d)
+same_denial e t remote result error x y is by (AsksItself lac r z) = (AsksItself lac (is ∙ r) (by ∙ z), refl)
+same_denial e t remote result error x y is by (HasUsedId lns used r z) = (HasUsedId lns used (is ∙ r) (by ∙ z), refl)
+same_denial e t remote result error x y is by (HasAllCalls lns free many r z) = (HasAllCalls lns free many (is ∙ r) (by ∙ z), refl)
+same_denial e t remote result error x y is by (HasNoSession lns free few q none r z) = (HasNoSession lns free few q none (is ∙ r) (by ∙ z), refl)
+
 -- ---- each step
 
 module _ (e : End) (kept : AreKept e) (sound : AreSound e) (asked : AreAsked e) (moment : ℕ) (block : List ℕ) (ev : Event) where
   abbrev stepped : Stepped
   stepped = plain_step e moment block ev
 
-  abbrev RepliedAt : ℕ → ℕ → Move → Type 0
-  RepliedAt id remote m = (s : ℕ) × (draws e.session_ids ≡ Ok s) × IsReply id remote s m
+  abbrev RepliedAt : ℕ → ℕ → List CauseOf → Move → Type 0
+  RepliedAt id remote told m = (s : ℕ) × (draws e.session_ids ≡ Ok s) × IsReply id remote s m × (told ≡ [])
 
-  replied_to : (id remote : ℕ) → (h : OneAnswer (RepliedAt id remote) stepped.moves) → IsRepliedTo e id remote stepped
+  replied_to : (id remote : ℕ) → (h : OneAnswer (RepliedAt id remote) stepped.moves stepped.outputs) → IsRepliedTo e id remote stepped
   replied_to id remote h =
       let a = h.right.2 in
       record {
+        untold = h.right.3;
         replied = a.replied;
         only = h.only ∙ ap (λ (m : Move). m ∷ []) a.is;
         tunnel = a.tunnel;
@@ -196,10 +149,13 @@ module _ (e : End) (kept : AreKept e) (sound : AreSound e) (asked : AreAsked e) 
   module _ (r : TakesRequest e moment ev) (remote serial : ℕ) (calling : Option (List ℕ))
       (said : message_in r.letter.body ≡ Ok (Icrq remote serial calling))
       (none : at r.tunnel.calls r.letter.header.session ≡ None) where
-    abbrev Answer : Move → Type 0
-    Answer m = AnswersIcrq e r.id r.tunnel r.letter.header.session remote m
+    abbrev Answer : List CauseOf → Move → Type 0
+    Answer told m = AnswersIcrq e r.id r.tunnel r.letter.header.session remote told m
 
-    new_answered : OneAnswer Answer stepped.moves
+    abbrev told : List CauseOf
+    told = causes_of stepped.outputs
+
+    new_answered : OneAnswer Answer stepped.moves stepped.outputs
     new_answered =
         let q : TakesRequest e moment ev = record {
           id = r.id;
@@ -222,25 +178,28 @@ module _ (e : End) (kept : AreKept e) (sound : AreSound e) (asked : AreAsked e) 
     new_replied : MayBeGranted e r.tunnel remote → IsRepliedTo e r.id remote stepped
     new_replied may = by new_answered.right
       where
-        by : Answer new_answered.answer → IsRepliedTo e r.id remote stepped
-        by (WithReply drawn unnamed grants reply) =
-            replied_to r.id remote (record { answer = new_answered.answer; only = new_answered.only; right = (drawn, grants.drawn, reply) })
-        by (WithRefusal result error unnamed denies refusal) = absurd (not_denied e r.tunnel remote result error may denies)
-        by (WithEnd c named end) = absurd (named_none c named)
+        by : Answer told new_answered.answer → IsRepliedTo e r.id remote stepped
+        by (WithReply drawn unnamed grants untold reply) =
+            replied_to r.id remote (record { answer = new_answered.answer; only = new_answered.only; right = (drawn, grants.drawn, reply, untold) })
+        by (WithRefusal result error unnamed denies is refusal) = absurd (not_denied e r.tunnel remote result error may denies)
+        by (WithEnd c named is end) = absurd (named_none c named)
 
     new_judged : (MayBeGranted e r.tunnel remote × IsRepliedTo e r.id remote stepped) ⊎ IsRefusedTo e r.tunnel r.id remote stepped
     new_judged = by new_answered.right
       where
-        by : Answer new_answered.answer → (MayBeGranted e r.tunnel remote × IsRepliedTo e r.id remote stepped) ⊎ IsRefusedTo e r.tunnel r.id remote stepped
-        by (WithReply drawn unnamed grants reply) = let may = may_be e r.tunnel remote drawn grants in inl (may, new_replied may)
-        by (WithRefusal result error unnamed denies a) = inr (record {
-          refused = a.refused;
-          only = new_answered.only ∙ ap (λ (m : Move). m ∷ []) a.is;
-          tunnel = a.tunnel;
-          remote_is = a.remote_is;
-          denied = rw (a.result_is, a.error_is) denies;
-        })
-        by (WithEnd c named end) = absurd (named_none c named)
+        by : Answer told new_answered.answer → (MayBeGranted e r.tunnel remote × IsRepliedTo e r.id remote stepped) ⊎ IsRefusedTo e r.tunnel r.id remote stepped
+        by (WithReply drawn unnamed grants untold reply) = let may = may_be e r.tunnel remote drawn grants in inl (may, new_replied may)
+        by (WithRefusal result error unnamed denies is a) =
+            let d = same_denial e r.tunnel remote result error a.refused.result a.refused.error a.result_is a.error_is denies in
+            inr (record {
+              refused = a.refused;
+              only = new_answered.only ∙ ap (λ (m : Move). m ∷ []) a.is;
+              tunnel = a.tunnel;
+              remote_is = a.remote_is;
+              denied = d.0;
+              told = is ∙ ap (λ c. c ∷ []) (sym d.1);
+            })
+        by (WithEnd c named is end) = absurd (named_none c named)
 
   granted_answered : GrantedAreRepliedTo e moment ev stepped
   granted_answered r remote serial calling said none may = new_replied r remote serial calling said none may

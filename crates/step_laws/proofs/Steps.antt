@@ -65,10 +65,10 @@ is_lac_role Lns h = absurd (true≢false (sym h))
 -- ---- frames that come
 
 -- what is handed up is of the tunnel that the header names and of the peer that it is from, as is seen of the call
-record IsOf (role : Role) (l : Look) (of from : ℕ) (frame : List ℕ) (c : Carried) : Type 0 where
-  up : (tunnel peer : ℕ) (side : Side) (f : List ℕ) → c ≡ Upward tunnel peer side f
+pub record IsOf (role : Role) (l : Look) (of from : ℕ) (frame : List ℕ) (c : Carried) : Type 0 where
+  pub up : (tunnel peer : ℕ) (side : Side) (f : List ℕ) → c ≡ Upward tunnel peer side f
       → (tunnel ≡ of) × (peer ≡ from) × (f ≡ frame) × (side ≡ side_of role f) × Passes role l tunnel peer f
-  down : (w : Why) → c ≡ Dropped w → w ≡ why.Queue → ⊥
+  pub down : (w : Why) → c ≡ Dropped w → w ≡ why.Queue → ⊥
 
 dropped_is : (role : Role) (l : Look) (of from : ℕ) (frame : List ℕ) (w : Why) → (w ≡ why.Queue → ⊥) → IsOf role l of from frame (Dropped w)
 dropped_is role l of from frame w other = record { up = λ t p s f e. absurd cc; down = λ v e q. let same : w ≡ v = cc in other (same ∙ q) }
@@ -107,7 +107,7 @@ known_is role l up tunnel of peer from frame seen bound =
     })
     (λ d. dropped_is role l of from frame why.Closed (λ q. absurd cc)))))
 
-look_is : (role : Role) (l : Look) (from : ℕ) (h : Header) (frame : List ℕ) → IsOf role l h.tunnel from frame (carry_look role l from h frame)
+pub look_is : (role : Role) (l : Look) (from : ℕ) (h : Header) (frame : List ℕ) → IsOf role l h.tunnel from frame (carry_look role l from h frame)
 unfolding carry_look
 look_is role look.Unborn from h frame = dropped_is role look.Unborn h.tunnel from frame why.Session (λ q. absurd cc)
 look_is role look.Dead from h frame = dropped_is role look.Dead h.tunnel from frame why.Session (λ q. absurd cc)
@@ -117,17 +117,17 @@ look_is role (look.Established tunnel peer) from h frame =
     known_is role (look.Established tunnel peer) true tunnel h.tunnel peer from frame (λ yes. refl) (λ no. absurd cc)
 
 -- a session of which something is seen has its place
-record IsSeen (role : Role) (places : List (ℕ × CallPlace)) (s tunnel peer : ℕ) (frame : List ℕ) : Type 0 where
-  place : CallPlace
-  there : at places s ≡ Some place
-  seen : Passes role place.look tunnel peer frame
+pub record IsSeen (role : Role) (places : List (ℕ × CallPlace)) (s tunnel peer : ℕ) (frame : List ℕ) : Type 0 where
+  pub place : CallPlace
+  pub there : at places s ≡ Some place
+  pub seen : Passes role place.look tunnel peer frame
 
 -- what nothing is seen of passes nothing
 none_passes : (role : Role) (tunnel peer : ℕ) (frame : List ℕ) → Passes role look.Unborn tunnel peer frame → ⊥
 none_passes role tunnel peer frame (AsAll is) = absurd cc
 none_passes role tunnel peer frame (AsLcp is lns lcp) = absurd cc
 
-place_seen : (role : Role) (places : List (ℕ × CallPlace)) (s tunnel peer : ℕ) (frame : List ℕ) (o : Option CallPlace) → at places s ≡ o
+pub place_seen : (role : Role) (places : List (ℕ × CallPlace)) (s tunnel peer : ℕ) (frame : List ℕ) (o : Option CallPlace) → at places s ≡ o
     → Passes role (look_in o) tunnel peer frame → IsSeen role places s tunnel peer frame
 place_seen role places s tunnel peer frame None is e = absurd (none_passes role tunnel peer frame e)
 place_seen role places s tunnel peer frame (Some p) is e = record { place = p; there = is; seen = e }
@@ -137,7 +137,7 @@ lns_side_lcp true e = refl
 lns_side_lcp false e = absurd cc
 
 -- what goes to the LCP end is a packet of LCP
-side_lcp : (role : Role) (frame : List ℕ) → side_of role frame ≡ side.Lcp → is_lcp frame ≡ true
+pub side_lcp : (role : Role) (frame : List ℕ) → side_of role frame ≡ side.Lcp → is_lcp frame ≡ true
 side_lcp Lac frame e = absurd cc
 side_lcp Lns frame e = lns_side_lcp (is_lcp frame) e
 

@@ -16,7 +16,6 @@ use Rattle.tunnel_fsm.specs.declared.table.TunnelAction.{TunnelAction}
 use Rattle.tunnel_fsm.specs.declared.table.TunnelAction.TheVariants as action
 use Rattle.tunnel_fsm.specs.Rows.{rows, row_of, state_number}
 use Rattle.end_model.specs.declared.tunnel.Call.{Call}
-use Rattle.end_model.specs.declared.tunnel.Control.{Control}
 use Rattle.end_model.specs.declared.event.Event.{Event}
 use Rattle.end_model.specs.Reading.{message_in, CallFault, call_fault_in, TunnelFault, tunnel_fault_in}
 use Rattle.end_model.specs.Tunnels.{Tunnel, Turn}
@@ -337,15 +336,18 @@ module _ (e : End) (moment : ℕ) (ev : Event) (letters : List Letter) (calls : 
   module _ (t : Turn) (f : Takes t) (k : Came) (next : IsNext ev (now_at t) k) (w : WhyOf) (unread : message_in k.body ≡ Err w) where
     module _ (g : TunnelFault) (has : tunnel_fault_in k.body ≡ Some g) where
       fault_stands : row_of rows t.control.state g.event ≡ shut_row → Stands e moment ev g.cause
-      fault_stands row = closing_stands e moment ev g (of_tunnel k.body g has) (record {
-        tunnel = begun_at t f;
-        fault = g;
-        letter = k;
-        next = next_first e moment ev letters calls i t f.fresh k next;
-        has = has;
-        closed = shut_on t f g.event row;
-        is = refl;
-      })
+      fault_stands row =
+          let is = of_tunnel k.body g has in
+          closing_stands e moment ev g.cause is.cause (record {
+            tunnel = begun_at t f;
+            letter = k;
+            next = next_first e moment ev letters calls i t f.fresh k next;
+            fault = is.fault;
+            on = g.event;
+            event_is = is.event_is;
+            closed = shut_on t f g.event row;
+            unanswered = is.unanswered;
+          })
 
       fault_shuts_ok : row_of rows t.control.state g.event ≡ shut_row
           → Good (takes_by e.role e.config calls (fault_reason g.cause) None g.remote 0 (row_of rows t.control.state g.event) t)

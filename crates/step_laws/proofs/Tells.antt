@@ -1,5 +1,5 @@
 -- What a step tells is so: that there is no room, and each cause.
-use Rattle.std.proofs.Common.{◌≡◌, ◌⊎◌, inl, inr, ⊎_elim, ℕ, Bool, true, false, cond, List, [], ◌∷◌, refl, sym, ap, ◌∙◌, subst, Option, Some, None, is_some, Result, Ok, Err}
+use Rattle.std.proofs.Common.{◌≡◌, inl, inr, ⊎_elim, ℕ, Bool, true, false, cond, List, [], ◌∷◌, refl, sym, ◌∙◌, subst, Option, Some, None, is_some, Result, Ok, Err}
 use Rattle.std.proofs.lemmas.Bool.{eqb-true, eq-eqb, true≢false}
 use Rattle.std.specs.Prelude.{◌==◌, ◌||◌, not}
 use Rattle.std.specs.List.{AllByRecursion}
@@ -8,19 +8,16 @@ use Rattle.id_table.specs.Ids.{at}
 use Rattle.id_source.specs.declared.IdError.{IdError}
 use Rattle.wire_base.specs.declared.why.Why.{Why}
 use Rattle.wire_base.specs.declared.why.Why.TheVariants as why
-use Rattle.wire_base.specs.declared.cause.Cause.{Cause as CauseOf}
 use Rattle.wire_base.specs.declared.cause.Cause.TheVariants as cause
 use Rattle.avp_codec.specs.declared.avp.Avp.{Avp}
 use Rattle.avp_codec.specs.declared.error.AvpError.{AvpError}
 use Rattle.avp_codec.specs.Reading.{avps_of}
 use Rattle.l2tp_header.specs.declared.header.HeaderError.{HeaderError}
 use Rattle.l2tp_header.specs.declared.header.HeaderError.TheVariants as header
-use Rattle.control_message.specs.declared.kind.Kind.{Kind}
 use Rattle.control_message.specs.declared.message.Read.{Read}
 use Rattle.control_message.specs.declared.message.Read.TheVariants.{Known, Ignored}
 use Rattle.control_message.specs.declared.message.MessageError.{MessageError}
-use Rattle.control_message.specs.declared.message.MessageError.TheVariants.{NoType, UnknownType, UnknownMandatory, HiddenWithoutVector, BadValue, Missing, NoMemory}
-use Rattle.control_message.specs.Reading.{message_of, kind_of_pairs, plain_short}
+use Rattle.control_message.specs.Reading.{message_of}
 use Rattle.call_fsm.specs.declared.table.CallEvent.TheVariants as call_event
 use Rattle.call_fsm.specs.declared.table.CallState.TheVariants as call
 use Rattle.end_model.specs.declared.event.Event.{Event}
@@ -28,7 +25,7 @@ use Rattle.end_model.specs.declared.tunnel.Call.{Call}
 use Rattle.end_model.specs.declared.out.Out.{Out}
 use Rattle.end_model.specs.declared.out.Out.TheVariants.{Send, Up, Gone, Drop, Cause}
 use Rattle.session_looks.specs.Frames.{header_why}
-use Rattle.end_model.specs.Reading.{message_read, pairs_read, message_in, CallFault, fault_cause, is_for_call, with_cause, fault_of_kind, fault_read, fault_of_pairs, call_fault_in}
+use Rattle.end_model.specs.Reading.{message_read, pairs_read, message_in}
 use Rattle.end_model.specs.Calls.{row_of_none, is_reply, are_too_many}
 use Rattle.end_model.specs.Tunnels.{Tunnel}
 use Rattle.end_model.specs.Reasons.{Reason, reason, out_of_state}
@@ -39,7 +36,7 @@ use Rattle.step_laws.specs.Room.{IsFull}
 use Rattle.step_laws.specs.Moves.{IsIdInUse}
 use Rattle.step_laws.proofs.Named.{found_call, none_found}
 use Rattle.step_laws.proofs.States.{takes_none, none_taken}
-use Rattle.step_laws.specs.Causes.{CameFaulty, Asks, MayBeGranted, AskedInVain, ForRequest, Stands}
+use Rattle.step_laws.specs.Causes.{Asks, MayBeGranted, AskedInVain, ForRequest, Stands}
 
 -- an output that tells why something isn't done
 abbrev pub Founded : End → ℕ → Event → Why → Type 0
@@ -80,57 +77,9 @@ pub body_other : (body : List ℕ) (w : Why) → message_in body ≡ Err w → w
 unfolding message_in
 body_other body w h q = pairs_other (avps_of body) w h q
 
--- ---- the cause of a fault
-
-abbrev pub IsOfFault : CauseOf → Type 0
-IsOfFault c = (c ≡ cause.Value) ⊎ (c ≡ cause.Mandatory)
-
-pub error_cause : (x : MessageError) (c : CauseOf) → fault_cause x ≡ Some c → IsOfFault c
-error_cause (UnknownMandatory v n) c h = inr (let same : cause.Mandatory ≡ c = cc in sym same)
-error_cause (HiddenWithoutVector n) c h = inl (let same : cause.Value ≡ c = cc in sym same)
-error_cause (BadValue n) c h = inl (let same : cause.Value ≡ c = cc in sym same)
-error_cause (Missing n) c h = inl (let same : cause.Value ≡ c = cc in sym same)
-error_cause NoType c h = absurd cc
-error_cause (UnknownType n) c h = absurd cc
-error_cause NoMemory c h = absurd cc
-
-made_cause : (q : Kind) (s : Option ℕ) (o : Option CauseOf) (k : CallFault) → with_cause q s o ≡ Some k → o ≡ Some k.cause
-made_cause q s None k h = absurd cc
-made_cause q s (Some c) k h =
-    let f : CallFault = record { kind = q; cause = c; session = s } in
-    let same : f ≡ k = cc in
-    ap (λ (x : CallFault). Some x.cause) same
-
-kind_cause : (o : Option Kind) (x : MessageError) (avps : List Avp) (k : CallFault) → fault_of_kind o x avps ≡ Some k → IsOfFault k.cause
-kind_cause None x avps k h = absurd cc
-kind_cause (Some q) x avps k h = by (is_for_call q (plain_short 14 avps) (fault_cause x)) h
-  where
-    by : (b : Bool) → cond b (with_cause q (plain_short 14 avps) (fault_cause x)) None ≡ Some k → IsOfFault k.cause
-    by true is = error_cause x k.cause (made_cause q (plain_short 14 avps) (fault_cause x) k is)
-    by false is = absurd cc
-
-read_cause : (avps : List Avp) (r : Result Read MessageError) (k : CallFault) → fault_read avps r ≡ Some k → IsOfFault k.cause
-read_cause avps (Ok r) k h = absurd cc
-read_cause avps (Err x) k h = kind_cause (kind_of_pairs avps) x avps k h
-
-pairs_cause : (r : Result (List Avp) AvpError) (k : CallFault) → fault_of_pairs r ≡ Some k → IsOfFault k.cause
-unfolding fault_of_pairs
-pairs_cause (Ok avps) k h = read_cause avps (message_of avps) k h
-pairs_cause (Err x) k h = absurd cc
-
-pub cause_of_fault : (body : List ℕ) (k : CallFault) → call_fault_in body ≡ Some k → IsOfFault k.cause
-unfolding call_fault_in
-cause_of_fault body k h = pairs_cause (avps_of body) k h
-
 -- ---- causes that stand
 
 module _ (e : End) (moment : ℕ) (ev : Event) (t : Tunnel) where
-  pub fault_stands : (session : ℕ) (k : CallFault) → CameFaulty e ev t session k → IsOfFault k.cause → Stands e moment ev k.cause
-  fault_stands session k came is = ⊎_elim
-      (λ (value : k.cause ≡ cause.Value). subst (Stands e moment ev) (sym value) (inl (t, session, k, came, value)))
-      (λ (mandatory : k.cause ≡ cause.Mandatory). subst (Stands e moment ev) (sym mandatory) (inl (t, session, k, came, mandatory)))
-      is
-
   -- an id that is in use, or not
   pub in_use : (remote : ℕ) → (remote == 0 || is_some (call_of t.calls remote)) ≡ true → IsIdInUse t remote
   in_use remote h = by (remote == 0) (call_of t.calls remote) refl refl h

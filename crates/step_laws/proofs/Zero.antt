@@ -27,7 +27,7 @@ use Rattle.step_laws.proofs.Faults.{IsOfOpening, of_opening}
 pub record IsFaultyOpening (body : List ℕ) : Type 0 where
   pub why : Why
   pub unread : message_in body ≡ Err why
-  pub fault : (g : TunnelFault) → tunnel_fault_in body ≡ Some g → IsOfOpening g
+  pub fault : (g : TunnelFault) → tunnel_fault_in body ≡ Some g → IsOfOpening body g
 
 -- an SCCRQ that assigns the id, or one that can't be read
 abbrev pub SaysOpening : List ℕ → ℕ → Type 0
@@ -81,7 +81,7 @@ module _ (body : List ℕ) where
       faulty_opening named = record {
         why = why.Avp;
         unread = unread;
-        fault = λ g has. of_opening x avps g named (inner_fault avps x named is) (rw (fault_made, is) at has);
+        fault = λ g has. of_opening body avps pairs x is g named (inner_fault avps x named is) (rw (fault_made, is) at has);
       }
 
       says_faulty : (o : Option Kind) → kind_of_pairs avps ≡ o → ZeroSays body (zero_faulty o avps)

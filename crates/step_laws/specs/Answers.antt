@@ -5,6 +5,7 @@ use Rattle.std.specs.List.{flat_map}
 use Rattle.id_table.specs.Ids.{at}
 use Rattle.id_source.specs.Spaces.{draws}
 use Rattle.wire_base.specs.declared.cause.Cause.{Cause as CauseOf}
+use Rattle.wire_base.specs.declared.cause.Cause.TheVariants as cause
 use Rattle.avp_codec.specs.declared.avp.Avp.{Avp}
 use Rattle.avp_codec.specs.Reading.{avps_of}
 use Rattle.control_message.specs.declared.message.Message.TheVariants.{Icrq, Ocrq}
@@ -16,7 +17,6 @@ use Rattle.tunnel_fsm.specs.Rows.{state_number}
 use Rattle.end_model.specs.declared.tunnel.Call.{Call}
 use Rattle.end_names.specs.declared.role.Role.TheVariants.{Lac}
 use Rattle.end_model.specs.declared.event.Event.{Event}
-use Rattle.end_model.specs.declared.event.Event.TheVariants.{Ring}
 use Rattle.end_model.specs.declared.out.Out.{Out}
 use Rattle.end_model.specs.declared.out.Out.TheVariants.{Cause}
 use Rattle.end_model.specs.declared.moves.Opened.{Opened}
@@ -28,14 +28,14 @@ use Rattle.end_model.specs.declared.moves.EndTold.{EndTold}
 use Rattle.end_model.specs.declared.moves.Closed.{Closed}
 use Rattle.end_model.specs.declared.moves.Move.{Move}
 use Rattle.end_model.specs.declared.moves.Move.TheVariants as move
-use Rattle.end_model.specs.Reading.{body_of, message_in, CallFault, call_fault_in, TunnelFault, tunnel_fault_in}
+use Rattle.end_model.specs.Reading.{message_in, CallFault, call_fault_in, TunnelFault, tunnel_fault_in}
 use Rattle.end_model.specs.Tunnels.{Tunnel}
 use Rattle.end_model.specs.Channels.{counts_acked}
 use Rattle.end_model.specs.Reasons.{fault_error}
 use Rattle.end_model.specs.End.{End, Stepped, plain_step}
-use Rattle.step_laws.specs.Moves.{may_take, Came, IsNext, GrantsCall, DeniesCall}
+use Rattle.step_laws.specs.Moves.{may_take, Came, IsNext, GrantsCall, DeniesCall, AsksItself, HasUsedId, HasAllCalls, HasNoSession}
 use Rattle.step_laws.specs.Causes.{MayBeGranted}
-use Rattle.step_laws.specs.Room.{IsLeast, HasNone, RingsNew}
+use Rattle.step_laws.specs.Room.{IsLeast, HasNone}
 use Rattle.step_laws.specs.Left.{AreSound, AreAsked}
 use Rattle.step_laws.specs.Steps.{AreKept}
 
@@ -80,6 +80,21 @@ answer_of_move m = []
 abbrev pub answers_of : List Move → List Move
 answers_of ms = flat_map answer_of_move ms
 
+-- the causes that are told, in order
+abbrev pub cause_of_output : Out → List CauseOf
+cause_of_output (Cause c) = c ∷ []
+cause_of_output o = []
+
+abbrev pub causes_of : List Out → List CauseOf
+causes_of outs = flat_map cause_of_output outs
+
+-- the cause whose codes a denial has
+abbrev pub cause_of_denial : (e : End) (t : Tunnel) (remote result : ℕ) (error : Option ℕ) → DeniesCall e t remote result error → CauseOf
+cause_of_denial e t remote result error (AsksItself lac r x) = cause.State
+cause_of_denial e t remote result error (HasUsedId lns used r x) = cause.Session
+cause_of_denial e t remote result error (HasAllCalls lns free many r x) = cause.Calls
+cause_of_denial e t remote result error (HasNoSession lns free few y none r x) = cause.Ids
+
 -- an ICRP in the tunnel: a call of this session is made for the peer's
 pub record IsReply (id remote session : ℕ) (m : Move) : Type 0 where
   pub replied : Replied
@@ -115,52 +130,61 @@ pub record IsClose (id result : ℕ) (error : Option ℕ) (m : Move) : Type 0 wh
   pub result_is : closed.result ≡ result
   pub error_is : closed.error ≡ error
 
--- An ICRQ, by the call that its header names, and by whether it is granted. One that names no call is replied to, or refused with the codes
--- of the first cause that stands against it. One that names a call ends it, by an error of 5.
-pub data AnswersIcrq (e : End) (id : ℕ) (t : Tunnel) (session remote : ℕ) (m : Move) : Type 0 where
-  WithReply : (drawn : ℕ) → at t.calls session ≡ None → GrantsCall e t remote drawn → IsReply id remote drawn m → AnswersIcrq e id t session remote m
-  WithRefusal : (result : ℕ) (error : Option ℕ) → at t.calls session ≡ None → DeniesCall e t remote result error → IsRefusal id remote result error m
-      → AnswersIcrq e id t session remote m
-  WithEnd : (c : Call) → at t.calls session ≡ Some c → IsEnd id session c 2 (Some 5) m → AnswersIcrq e id t session remote m
+-- An ICRQ, by the call that its header names, and by whether it is granted. One that names no call is replied to, and no cause is told; or it
+-- is refused with the codes of the first cause that stands against it, and that cause is told. One that names a call ends it, by an error
+-- of 5, with the cause that it is out of state.
+pub data AnswersIcrq (e : End) (id : ℕ) (t : Tunnel) (session remote : ℕ) (told : List CauseOf) (m : Move) : Type 0 where
+  WithReply : (drawn : ℕ) → at t.calls session ≡ None → GrantsCall e t remote drawn → told ≡ [] → IsReply id remote drawn m
+      → AnswersIcrq e id t session remote told m
+  WithRefusal : (result : ℕ) (error : Option ℕ) → at t.calls session ≡ None → (denies : DeniesCall e t remote result error)
+      → told ≡ cause_of_denial e t remote result error denies ∷ [] → IsRefusal id remote result error m → AnswersIcrq e id t session remote told m
+  WithEnd : (c : Call) → at t.calls session ≡ Some c → told ≡ cause.State ∷ [] → IsEnd id session c 2 (Some 5) m
+      → AnswersIcrq e id t session remote told m
 
--- a faulty ICRQ, by the call that its header names: it ends the call, or there is none
-abbrev pub AnswersFaulty : ℕ → ℕ → CallFault → Option Call → Move → Type 0
-AnswersFaulty id session f None m = IsRefusal id (unwrap_or f.session 0) 2 (Some (fault_error f.cause)) m
-AnswersFaulty id session f (Some c) m = IsEnd id session c 2 (Some (fault_error f.cause)) m
+-- a faulty ICRQ, by the call that its header names: it ends the call, or there is none; and its fault's cause is told
+abbrev pub AnswersFaulty : ℕ → ℕ → CallFault → Option Call → List CauseOf → Move → Type 0
+AnswersFaulty id session f None told m = (told ≡ f.cause ∷ []) × IsRefusal id (unwrap_or f.session 0) 2 (Some (fault_error f.cause)) m
+AnswersFaulty id session f (Some c) told m = (told ≡ f.cause ∷ []) × IsEnd id session c 2 (Some (fault_error f.cause)) m
 
--- no end places calls, so an OCRQ is refused with a result of 5; one that can't be answered by a CDN closes the tunnel
-abbrev pub IsAnswer : End → ℕ → Tunnel → ℕ → (body : List ℕ) → IsRequest body → Move → Type 0
-IsAnswer e id t session body (Incoming remote serial calling said) m = AnswersIcrq e id t session remote m
-IsAnswer e id t session body (Outgoing remote said) m = IsRefusal id remote 5 None m
-IsAnswer e id t session body (FaultyIncoming f has is) m = AnswersFaulty id session f (at t.calls session) m
-IsAnswer e id t session body (FaultyOutgoing f has is) m = IsRefusal id (unwrap_or f.session 0) 2 (Some (fault_error f.cause)) m
-IsAnswer e id t session body (TooFaulty avps g read is has) m = IsClose id 2 (Some 3) m
+-- No end places calls, so an OCRQ is refused with a result of 5; one that can't be answered by a CDN closes the tunnel. Beside each answer but
+-- a reply its cause is told, and no other.
+abbrev pub IsAnswer : End → ℕ → Tunnel → ℕ → (body : List ℕ) → IsRequest body → List CauseOf → Move → Type 0
+IsAnswer e id t session body (Incoming remote serial calling is) told m = AnswersIcrq e id t session remote told m
+IsAnswer e id t session body (Outgoing remote is) told m = (told ≡ cause.Outgoing ∷ []) × IsRefusal id remote 5 None m
+IsAnswer e id t session body (FaultyIncoming f has is) told m = AnswersFaulty id session f (at t.calls session) told m
+IsAnswer e id t session body (FaultyOutgoing f has is) told m =
+    (told ≡ f.cause ∷ []) × IsRefusal id (unwrap_or f.session 0) 2 (Some (fault_error f.cause)) m
+IsAnswer e id t session body (TooFaulty avps g read is has) told m = (told ≡ cause.Value ∷ []) × IsClose id 2 (Some 3) m
 
--- one move of the step is an answer, and no more than one, and it is the one that the tables and the causes give
+-- one move of the step is an answer, and no more than one, and it is the one that the tables and the causes give; the cause that it has is
+-- told, and no other
 pub record IsAnswered (e : End) (moment : ℕ) (ev : Event) (r : TakesRequest e moment ev) (s : Stepped) : Type 0 where
   pub answer : Move
   pub only : answers_of s.moves ≡ answer ∷ []
-  pub right : IsAnswer e r.id r.tunnel r.letter.header.session r.letter.body r.request answer
+  pub right : IsAnswer e r.id r.tunnel r.letter.header.session r.letter.body r.request (causes_of s.outputs) answer
 
--- an ICRQ that names no call, against which no cause stands, is replied to with the session that is drawn, and by nothing else
+-- an ICRQ that names no call, against which no cause stands, is replied to with the session that is drawn, and by nothing else; no cause is told
 pub record IsRepliedTo (e : End) (id remote : ℕ) (s : Stepped) : Type 0 where
   pub replied : Replied
   pub only : answers_of s.moves ≡ move.Replied replied ∷ []
   pub tunnel : replied.tunnel ≡ id
   pub remote_is : replied.remote ≡ remote
   pub drawn : draws e.session_ids ≡ Ok replied.session
+  pub untold : causes_of s.outputs ≡ []
 
 abbrev pub GrantedAreRepliedTo : End → ℕ → Event → Stepped → Type 0
 GrantedAreRepliedTo e moment ev s = (r : TakesRequest e moment ev) (remote serial : ℕ) (calling : Option (List ℕ))
     → message_in r.letter.body ≡ Ok (Icrq remote serial calling) → at r.tunnel.calls r.letter.header.session ≡ None
     → MayBeGranted e r.tunnel remote → IsRepliedTo e r.id remote s
 
+-- one is refused, and the cause is told whose codes the refusal has, and no other
 pub record IsRefusedTo (e : End) (t : Tunnel) (id remote : ℕ) (s : Stepped) : Type 0 where
   pub refused : Refused
   pub only : answers_of s.moves ≡ move.Refused refused ∷ []
   pub tunnel : refused.tunnel ≡ id
   pub remote_is : refused.remote ≡ remote
   pub denied : DeniesCall e t remote refused.result refused.error
+  pub told : causes_of s.outputs ≡ cause_of_denial e t remote refused.result refused.error denied ∷ []
 
 -- one that names no call is replied to where no cause stands, and else refused by the first that does
 abbrev pub NewAreJudged : End → ℕ → Event → Stepped → Type 0
@@ -176,10 +200,6 @@ ring_of_move (move.Opened m) = move.Opened m ∷ []
 ring_of_move (move.Added m) = move.Added m ∷ []
 ring_of_move (move.Requested m) = move.Requested m ∷ []
 ring_of_move m = []
-
-abbrev pub cause_of_output : Out → List CauseOf
-cause_of_output (Cause c) = c ∷ []
-cause_of_output o = []
 
 -- a call of the session that is drawn is born in a tunnel, for the port that rings
 pub record IsBorn (e : End) (who : List ℕ) (m : Added) : Type 0 where

@@ -5,6 +5,8 @@ use Rattle.id_source.specs.declared.IdError.{IdError}
 use Rattle.id_source.specs.Spaces.{draws}
 use Rattle.wire_base.specs.declared.cause.Cause.{Cause as CauseOf}
 use Rattle.wire_base.specs.declared.cause.Cause.TheVariants as cause
+use Rattle.control_message.specs.declared.kind.Kind.{Kind}
+use Rattle.control_message.specs.declared.kind.Kind.TheVariants as kind
 use Rattle.control_message.specs.declared.message.Message.{Message}
 use Rattle.control_message.specs.declared.message.Message.TheVariants.{Sccrq, Sccrp, Scccn, Ocrq, Icrq, Icrp, Iccn}
 use Rattle.control_message.specs.declared.message.Opening.{Opening}
@@ -20,7 +22,7 @@ use Rattle.end_model.specs.declared.event.Event.{Event}
 use Rattle.end_model.specs.declared.event.Event.TheVariants.{Datagram, Hang, OpenTunnel, DropCall, CloseTunnel}
 use Rattle.end_model.specs.declared.out.Out.TheVariants.{Cause}
 use Rattle.end_model.specs.declared.tunnel.Call.{Call}
-use Rattle.end_model.specs.Reading.{body_of, message_in, CallFault, TunnelFault, tunnel_fault_in, at_zero}
+use Rattle.end_model.specs.Reading.{body_of, message_in, at_zero}
 use Rattle.end_model.specs.Calls.{row_for, is_told}
 use Rattle.end_model.specs.Tunnels.{Tunnel}
 use Rattle.end_model.specs.Messages.{is_acceptable}
@@ -29,8 +31,9 @@ use Rattle.l2tp_header.specs.declared.header.Header.{Header}
 use Rattle.l2tp_header.specs.Reading.{header_of}
 use Rattle.end_model.specs.End.{End, plain_step}
 use Rattle.step_laws.specs.Letters.{Among}
-use Rattle.step_laws.specs.Moves.{has_all_tunnels, has_all_calls, may_take, IsIdInUse, IsRight, LacksSecret, IsUnknown, TookTooLong, Came, SaysFaulty, IsNext, HearsNext}
+use Rattle.step_laws.specs.Moves.{has_all_tunnels, has_all_calls, may_take, IsIdInUse, IsRight, LacksSecret, IsUnknown, TookTooLong, Came, IsNext, HearsNext}
 use Rattle.step_laws.specs.Links.{Finishes}
+use Rattle.step_laws.specs.Faults.{TellsFault, IsOf, IsAboutCall, CantBeAnswered, IsEventOf}
 use Rattle.step_laws.specs.Steps.{AreKept}
 use Rattle.step_laws.specs.Room.{RingsOver, RingsNew}
 
@@ -64,13 +67,19 @@ pub record CameAbout (e : End) (ev : Event) (t : Tunnel) (header : ℕ) (m : Mes
   pub open_is : state_number t.control.state ≡ 3
   pub came : HearsNext ev t header m
 
-pub record CameFaulty (e : End) (ev : Event) (t : Tunnel) (header : ℕ) (f : CallFault) : Type 0 where
+-- one that has a fault of which this cause tells, and that a CDN can answer
+pub record CameFaulty (e : End) (ev : Event) (c : CauseOf) : Type 0 where
   pub id : ℕ
-  pub there : at e.tunnels id ≡ Some t
-  pub open_is : state_number t.control.state ≡ 3
+  pub tunnel : Tunnel
+  pub there : at e.tunnels id ≡ Some tunnel
+  pub open_is : state_number tunnel.control.state ≡ 3
   pub letter : Came
-  pub next : IsNext ev t letter
-  pub says : SaysFaulty letter header f
+  pub next : IsNext ev tunnel letter
+  pub kind : Kind
+  pub is_of : IsOf letter.body kind
+  pub about : IsAboutCall kind
+  pub fault : TellsFault letter.body c
+  pub answered : CantBeAnswered letter.body kind c → ⊥
 
 -- a request came for a call of this id of the peer's, and names none
 pub record Asks (e : End) (ev : Event) (t : Tunnel) (remote : ℕ) : Type 0 where
@@ -123,15 +132,17 @@ pub record IsClosedOn (e : End) (t : Tunnel) (on : TunnelEvent) : Type 0 where
   pub there : at e.tunnels id ≡ Some t
   pub row : row_of rows t.control.state on ≡ (state.Closed, action.SendStopCcn)
 
--- the next letter of a tunnel came, and has this fault
+-- the next letter of a tunnel came, and has a fault of which this cause tells, on which the tunnel's table has it closed; one about a call
+-- is one that no CDN can answer
 pub record CameClosing (e : End) (ev : Event) (c : CauseOf) : Type 0 where
   pub tunnel : Tunnel
-  pub fault : TunnelFault
   pub letter : Came
   pub next : IsNext ev tunnel letter
-  pub has : tunnel_fault_in letter.body ≡ Some fault
-  pub closed : IsClosedOn e tunnel fault.event
-  pub is : fault.cause ≡ c
+  pub fault : TellsFault letter.body c
+  pub on : TunnelEvent
+  pub event_is : IsEventOf letter.body on
+  pub closed : IsClosedOn e tunnel on
+  pub unanswered : (k : Kind) → IsOf letter.body k → IsAboutCall k → CantBeAnswered letter.body k c
 
 -- a control message came that names no tunnel, from a peer
 pub record NamesNone (ev : Event) (peer : ℕ) (body : List ℕ) : Type 0 where
@@ -185,7 +196,7 @@ pub record IsWronglyConnected (e : End) (ev : Event) : Type 0 where
   pub wrong : IsRight 3 e.config.secret tunnel.control.challenge response → ⊥
   pub closed : IsClosedOn e tunnel event.ScccnNotAcc
 
--- an SCCRQ that names no tunnel came, and has this fault; or an SCCRP did
+-- an SCCRQ that names no tunnel came, which would open one, and has a fault of which this cause tells
 pub record CameFaultyOpening (e : End) (ev : Event) (c : CauseOf) : Type 0 where
   pub peer : ℕ
   pub remote : ℕ
@@ -193,10 +204,10 @@ pub record CameFaultyOpening (e : End) (ev : Event) (c : CauseOf) : Type 0 where
   pub came : NamesNone ev peer body
   pub opens : at_zero body ≡ Opens remote
   pub alone : IsUnknown e peer remote
-  pub fault : TunnelFault
-  pub has : tunnel_fault_in body ≡ Some fault
-  pub is : fault.cause ≡ c
+  pub is_of : IsOf body kind.Sccrq
+  pub fault : TellsFault body c
 
+-- an SCCRP that names none
 pub record CameAnswer (ev : Event) : Type 0 where
   pub peer : ℕ
   pub remote : ℕ
@@ -237,11 +248,9 @@ Stands e moment ev cause.Setup = IsLate e moment ev
 Stands e moment ev cause.Lcp = IsFinishedCall e moment ev
 Stands e moment ev cause.Avp = CameClosing e ev cause.Avp
 Stands e moment ev cause.Value =
-    ((t : Tunnel) × (header : ℕ) × (f : CallFault) × CameFaulty e ev t header f × (f.cause ≡ cause.Value))
-    ⊎ (CameClosing e ev cause.Value ⊎ CameFaultyOpening e ev cause.Value)
+    CameFaulty e ev cause.Value ⊎ (CameClosing e ev cause.Value ⊎ CameFaultyOpening e ev cause.Value)
 Stands e moment ev cause.Mandatory =
-    ((t : Tunnel) × (header : ℕ) × (f : CallFault) × CameFaulty e ev t header f × (f.cause ≡ cause.Mandatory))
-    ⊎ (CameClosing e ev cause.Mandatory ⊎ CameFaultyOpening e ev cause.Mandatory)
+    CameFaulty e ev cause.Mandatory ⊎ (CameClosing e ev cause.Mandatory ⊎ CameFaultyOpening e ev cause.Mandatory)
 Stands e moment ev cause.Version = (o : Opening) × IsNotAccepted e ev o × (o.version ≡ 256 → ⊥)
 Stands e moment ev cause.Recover = (o : Opening) × IsNotAccepted e ev o × WantsRecovery o
 Stands e moment ev cause.Secret =

@@ -10,9 +10,12 @@ pub mod Left
 pub mod Looks
 pub mod Ups
 pub mod Room
+pub mod Faults
 pub mod Causes
 pub mod Codes
 pub mod Lines
 pub mod Hosts
 pub mod Opens
 pub mod Answers
+pub mod Tables
+pub mod Sent

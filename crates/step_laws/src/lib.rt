@@ -7,7 +7,9 @@ ghost use Rattle.step_laws.specs.Codes.{FaultsHaveCodes};
 ghost use Rattle.step_laws.specs.Left.{CallsAreAsked, CallsStaySound, FailedTunnelsGo, LateCallsEnd, TunnelsBeginFew, TunnelsStayFew};
 ghost use Rattle.step_laws.specs.Looks.{LooksBeginTrue, LooksStayTrue};
 ghost use Rattle.step_laws.specs.Room.{StepsRefuseTruly, FullAreRefused};
+ghost use Rattle.step_laws.specs.Sent.{FramesAreOfSteps};
 ghost use Rattle.step_laws.specs.Steps.{StepsAreChains};
+ghost use Rattle.step_laws.specs.Tables.{TablesAreDone};
 ghost use Rattle.step_laws.specs.Ups.{BirthsAreFew, ReadsAreFew, UpsAreFew, UpsAreMoves};
 
 /// Each step of an end whose tunnels are kept is a chain of its moves: each move has what it needs in the end that the moves
@@ -17,6 +19,14 @@ ghost use Rattle.step_laws.specs.Ups.{BirthsAreFew, ReadsAreFew, UpsAreFew, UpsA
 /// the StopCCN of no tunnel by which a move declines an opening. What is handed up is what one of the moves hands up.
 pub fn steps_are_chains()
     ensures { StepsAreChains }
+{}
+
+/// Each frame that a step sends down a call is given by its event; or the call's LCP end gives it, as the call is before the step, at the
+/// moment of the step: as it is opened, with the magic number of the step's random block; for its timer; or on a packet that the peer of the
+/// call's tunnel sent in the call, with that block. So no frame of LCP comes of another number, or on the packet of another peer. Of an end whose
+/// tunnels are kept, and whose looks are true.
+pub fn frames_are_of_steps()
+    ensures { FramesAreOfSteps }
 {}
 
 /// What the data plane sees of a session is so of its call, at first and after each step: each session that has a place is
@@ -98,9 +108,18 @@ pub fn tunnels_stay_few()
 /// Each call request is answered. Where the next message of the peer of an open tunnel asks for a call, and is taken, one move of the
 /// step is an answer and no more than one: an ICRQ that names no call, and against which no cause stands, is replied to; one against
 /// which a cause stands is refused with the codes of the first that counts; one that names a call ends it; an OCRQ is refused; and a faulty
-/// one is refused, ends the call that it names, or closes the tunnel where it can't be answered. And each ring of a LAC
+/// one is refused, ends the call that it names, or closes the tunnel where it can't be answered. Beside each of these answers but a reply the
+/// cause is told whose codes it has, and no other; beside a reply none is. And each ring of a LAC
 /// asks for a call in an open tunnel, adds one to a tunnel that waits for its SCCRP or is opened for it, or does nothing and tells
 /// one cause.
 pub fn requests_are_answered()
     ensures { RequestsAreAnswered }
+{}
+
+/// Where the next message of the peer of a tunnel, which isn't closed and which its header names, is taken, the step does what the tables
+/// want on it: an ICRQ, ICRP or ICCN for a live call that has no use for it ends the call, with a CDN or without a word, as the call's row says; a
+/// message about a call that has a fault does the same, or is refused where there is no call or it is an OCRQ; and on any other with a fault the
+/// tunnel closes, as its row says.
+pub fn tables_are_done()
+    ensures { TablesAreDone }
 {}
