@@ -13,9 +13,10 @@ help_text =
     codes "l2tp: both ends of L2TP version 2 tunnels (RFC 2661), a LAC and an LNS\n" ++
     codes "\n" ++
     codes "usage:\n" ++
-    codes "  l2tp replay      runs the schedule on standard input and writes its report to standard output\n" ++
-    codes "  l2tp --help      writes this text\n" ++
-    codes "  l2tp --version   writes the version\n" ++
+    codes "  l2tp replay            runs the schedule on standard input and writes its report to standard output\n" ++
+    codes "  l2tp make SEED COUNT   draws a schedule from a seed, runs it and writes what it comes to\n" ++
+    codes "  l2tp --help            writes this text\n" ++
+    codes "  l2tp --version         writes the version\n" ++
     codes "\n" ++
     codes "A schedule is a list of lines, with one space between words:\n" ++
     codes "  # TEXT                a remark\n" ++
@@ -65,6 +66,10 @@ help_text =
     codes "  end N call T S R STATE B            in tunnel T it has call S, which the other end calls R, the B-th of all calls\n" ++
     codes "  agree N T M U C                     both ends of a tunnel took all that they were sent, and hold C established calls\n" ++
     codes "\n" ++
+    codes "make takes a SEED of 0 to 18446744073709551615 and a COUNT of 1 to 50000, without leading zeros. It draws COUNT lines for an\n" ++
+    codes "LNS and a LAC that has opened a tunnel; what doesn't fit becomes a remark. It writes the seed, and how many lines there are,\n" ++
+    codes "packets were sent, frames were handed up, calls were born, and tunnels agree at the end. The same words give the same six lines.\n" ++
+    codes "\n" ++
     codes "status: 0 done, 1 usage, 2 bad line, 3 line that does not fit, 4 packet that is too old, 5 read fault, 6 write fault,\n" ++
     codes "        7 too long, 20 no memory\n"
 
@@ -73,6 +78,9 @@ version_text = codes "l2tp 0.1.0\n"
 
 abbrev pub usage_text : List ℕ
 usage_text = codes "usage: l2tp replay\n"
+
+abbrev pub make_usage_text : List ℕ
+make_usage_text = codes "usage: l2tp make SEED COUNT\n"
 
 abbrev pub read_fault_text : List ℕ
 read_fault_text = codes "read fault\n"

@@ -1,15 +1,20 @@
-//! The program `l2tp`: `replay` runs a schedule over both ends of L2TP tunnels and writes its report.
+//! The program `l2tp`: `replay` runs a schedule over both ends of L2TP tunnels and writes its report, and `make` draws one from a seed.
 //!
-//! `main` makes the real objects and calls the top call, which carries the theorem.
+//! `main` makes the real objects and calls a top call, which carries the theorem.
 #![tactic(auto)]
 
 mod answer;
 mod exit;
+mod making;
 mod texts;
 mod top;
 mod words;
 
 use crate::exit::Exit;
+use crate::making::make_top;
+use crate::texts::VERSION;
+use crate::top::replay_top;
+use node_command::{Answered, answer_words};
 use port_traits::{StdSink, StdSource};
 use std::env;
 use std::io::ErrorKind;
@@ -28,13 +33,38 @@ fn command_words(rt: &HostRuntime) -> Result<Vec<String>, Exit> {
     }
 }
 
-fn main(rt: HostRuntime) -> ExitCode {
-    let words = match command_words(&rt) {
-        Ok(words) => words,
-        Err(exit) => return ExitCode::from(exit.status()),
-    };
-    let mut source = StdSource::new(rt.stdin());
+/// The exit of `node` or `pool`.
+fn exit_of(answered: Answered) -> Exit {
+    match answered {
+        Answered::Told => Exit::Ok,
+        Answered::Usage => Exit::Usage,
+        Answered::WriteFault => Exit::WriteFault,
+        Answered::NoMemory => Exit::NoMemory,
+    }
+}
+
+/// Does what the words ask for. The first one tells which call is made.
+fn run(rt: &HostRuntime, words: &[String]) -> Exit {
     let mut sink = StdSink::new(rt.stdout());
-    let exit = top::replay_top(rt.alloc(), words.as_slice(), &mut source, &mut sink);
+    let first = match words.first() {
+        Some(word) => word.as_str(),
+        None => "",
+    };
+    if first == "make" {
+        make_top(rt.alloc(), words, &mut sink)
+    } else if first == "node" || first == "pool" {
+        let mut err = StdSink::new(rt.stderr());
+        exit_of(answer_words(rt.alloc(), words, VERSION, &mut sink, &mut err))
+    } else {
+        let mut source = StdSource::new(rt.stdin());
+        replay_top(rt.alloc(), words, &mut source, &mut sink)
+    }
+}
+
+fn main(rt: HostRuntime) -> ExitCode {
+    let exit = match command_words(&rt) {
+        Ok(words) => run(&rt, words.as_slice()),
+        Err(exit) => exit,
+    };
     ExitCode::from(exit.status())
 }

@@ -12,9 +12,10 @@ pub const HELP: &[u8] = b"\
 l2tp: both ends of L2TP version 2 tunnels (RFC 2661), a LAC and an LNS
 
 usage:
-  l2tp replay      runs the schedule on standard input and writes its report to standard output
-  l2tp --help      writes this text
-  l2tp --version   writes the version
+  l2tp replay            runs the schedule on standard input and writes its report to standard output
+  l2tp make SEED COUNT   draws a schedule from a seed, runs it and writes what it comes to
+  l2tp --help            writes this text
+  l2tp --version         writes the version
 
 A schedule is a list of lines, with one space between words:
   # TEXT                a remark
@@ -64,6 +65,10 @@ A report has lines for what is done in line L of the schedule, and ends with wha
   end N call T S R STATE B            in tunnel T it has call S, which the other end calls R, the B-th of all calls
   agree N T M U C                     both ends of a tunnel took all that they were sent, and hold C established calls
 
+make takes a SEED of 0 to 18446744073709551615 and a COUNT of 1 to 50000, without leading zeros. It draws COUNT lines for an
+LNS and a LAC that has opened a tunnel; what doesn't fit becomes a remark. It writes the seed, and how many lines there are,
+packets were sent, frames were handed up, calls were born, and tunnels agree at the end. The same words give the same six lines.
+
 status: 0 done, 1 usage, 2 bad line, 3 line that does not fit, 4 packet that is too old, 5 read fault, 6 write fault,
         7 too long, 20 no memory
 ";
@@ -73,6 +78,9 @@ pub const VERSION: &[u8] = b"l2tp 0.1.0\n";
 
 /// The words are no command.
 pub const USAGE: &[u8] = b"usage: l2tp replay\n";
+
+/// The words aren't those of `make`.
+pub const MAKE_USAGE: &[u8] = b"usage: l2tp make SEED COUNT\n";
 
 /// The source failed.
 pub const READ_FAULT: &[u8] = b"read fault\n";

@@ -14,7 +14,7 @@ use port_traits::{ReadError, Sink, Source, read_text, write_all};
 use std::alloc::Global;
 
 /// Writes a text, and gives the exit that goes with it, or a write fault.
-fn tell<K: Sink>(sink: &mut K, text: &[u8], exit: Exit) -> Exit
+pub(crate) fn tell<K: Sink>(sink: &mut K, text: &[u8], exit: Exit) -> Exit
     ensures { Tells result exit text.now (K.faults sink.old) (K.faults sink.new) (K.taken sink.old) (K.taken sink.new) }
 {
     match write_all(sink, text) {

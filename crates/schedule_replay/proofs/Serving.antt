@@ -1,5 +1,5 @@
 -- The line that a step of a node's end makes is the line of the world.
-use Rattle.std.proofs.Common.{◌≡◌, ℕ, Bool, true, false, List, ◌++◌, refl, sym, ap, ◌∙◌, Option, Some, None, Err}
+use Rattle.std.proofs.Common.{◌≡◌, ℕ, Bool, true, false, List, [], ◌∷◌, ◌++◌, refl, sym, ap, ◌∙◌, Option, Some, None, Err}
 use Rattle.std.proofs.lemmas.Grind.{flat_map-append}
 use Rattle.std.proofs.lemmas.List.{append-nil}
 use Rattle.std.specs.Prelude.{is_some, IsSome, ◌&&◌}
@@ -13,6 +13,7 @@ use Rattle.end_model.specs.Access.{Access, Coming, Ignores, Answers, Runs, Enter
 use Rattle.end_model.specs.End.{plain_step, step, step_in, gives_only}
 use Rattle.world_model.specs.Texts.{Entry, entry_text, entries_text}
 use Rattle.world_model.specs.World.{World, Node, Lined, declared, lac_at, moved_all, shown, shown_all, entry_of, entries_of, given, after_step, stepped, block_of, enters, comes, comes_by, framed}
+use Rattle.schedule_replay.specs.Counting.{ups_with, ups_after}
 use Rattle.schedule_replay.specs.Fault.{Told, LeadsTo, Leads}
 use Rattle.schedule_replay.specs.Kinds.{site_in}
 use Rattle.schedule_replay.specs.Serving.{SiteStep, by_served, step_with, site_step, moved_to, served_line, served_at, IsPlain}
@@ -22,6 +23,7 @@ same_leads : (l k : Lined) (old new : Told) → l.world ≡ k.world → l.entrie
 same_leads l k old new worlds entries h = record {
   world = h.world ∙ worlds;
   report = h.report ∙ ap (λ es. old.report ++ entries_text es) entries;
+  ups = h.ups ∙ ap (λ es. ups_after old.ups es) entries;
 }
 
 module _ (w : World) (line n : ℕ) (x : Node) where
@@ -63,6 +65,11 @@ module _ (w : World) (line n : ℕ) (x : Node) where
 -- entries are appended as texts
 pub both_text : (es fs : List Entry) → entries_text (es ++ fs) ≡ entries_text es ++ entries_text fs
 both_text es fs = flat_map-append entry_text es fs
+
+-- and counted one after the other
+pub both_ups : (n : ℕ) (es fs : List Entry) → ups_after n (es ++ fs) ≡ ups_after (ups_after n es) fs
+both_ups n [] fs = refl
+both_ups n (e ∷ es) fs = both_ups (ups_with n e) es fs
 
 -- a step on an event that isn't of a LAC's access
 pub plain_leads : (w : World) (line n : ℕ) (ev : Event) (o : Option Node) (old new : Told) → IsSome o → IsPlain ev

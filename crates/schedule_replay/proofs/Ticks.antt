@@ -6,6 +6,7 @@ use Rattle.world_model.specs.World.{World, Node, Sender, Lined, stepped, after_s
 use Rattle.end_model.specs.End.{Stepped, step}
 use Rattle.world_model.specs.declared.refusal.Refusal.{Refusal}
 use Rattle.world_model.specs.Texts.{entries_text}
+use Rattle.schedule_replay.specs.Counting.{ups_after}
 use Rattle.schedule_replay.specs.Fault.{Told, Leads}
 
 after_again : (w : World) (line n : ℕ) (x : Node) (sender : Option Sender) (s : Stepped) → after_step (record w { nodes = put w.nodes n x }) line n x sender s ≡ after_step w line n x sender s
@@ -18,7 +19,11 @@ unfolding stepped
 stepped_later w v line n x e sender is =
     ap (λ (u : World). Ok (after_step u line n x sender (step x.end x.clock (block_of n line) e))) is ∙ ap Ok (after_again w line n x sender (step x.end x.clock (block_of n line) e))
 
--- what a line leads to depends on the report before it alone
-pub leads_from : (r : Result Lined Refusal) (a b new : Told) → a.report ≡ b.report → Leads r a new → Leads r b new
-leads_from (Ok l) a b new same h = record { world = h.world; report = h.report ∙ ap (λ text. text ++ entries_text l.entries) same }
-leads_from (Err x) a b new same h = h
+-- what a line leads to depends on the report before it, and on what was counted, alone
+pub leads_from : (r : Result Lined Refusal) (a b new : Told) → a.report ≡ b.report → a.ups ≡ b.ups → Leads r a new → Leads r b new
+leads_from (Ok l) a b new same counted h = record {
+  world = h.world;
+  report = h.report ∙ ap (λ text. text ++ entries_text l.entries) same;
+  ups = h.ups ∙ ap (λ n. ups_after n l.entries) counted;
+}
+leads_from (Err x) a b new same counted h = h

@@ -5,18 +5,21 @@ use Rattle.world_model.specs.declared.refusal.Refusal.{Refusal}
 use Rattle.world_model.specs.Texts.{entries_text}
 use Rattle.world_model.specs.World.{World, Lined, empty_world}
 use Rattle.world_model.specs.Run.{tables}
+use Rattle.schedule_replay.specs.Counting.{ups_after}
 use Rattle.schedule_replay.specs.declared.fault.LineFault.{LineFault}
 use Rattle.schedule_replay.specs.declared.fault.LineFault.TheVariants.{Refused, NoMemory}
 
--- a world, with its report so far
+-- a world, with its report so far, and how many frames were handed up by then
 pub record Told : Type 0 where
   pub world : World
   pub report : List ℕ
+  pub ups : ℕ
 
--- the line leads there: to its world, and the texts of its entries are behind the report
+-- the line leads there: to its world, the texts of its entries are behind the report, and the frames that they tell of are counted
 pub record LeadsTo (l : Lined) (old new : Told) : Type 0 where
   pub world : new.world ≡ l.world
   pub report : new.report ≡ old.report ++ entries_text l.entries
+  pub ups : new.ups ≡ ups_after old.ups l.entries
 
 -- what the line leads to, where it isn't refused
 abbrev pub Leads : Result Lined Refusal → Told → Told → Type 0
@@ -35,7 +38,7 @@ pub record Known : Type 0 where
   pub spent : Bool
 
 abbrev pub new_told : Told
-new_told = record { world = empty_world; report = [] }
+new_told = record { world = empty_world; report = []; ups = 0 }
 
 abbrev pub new_known : Known
 new_known = record { told = new_told; spent = false }

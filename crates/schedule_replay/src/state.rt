@@ -1,15 +1,17 @@
 //! The world's state, and what a line does to it.
 
-ghost use Rattle.std.specs.Prelude.{◌≡◌, [], ◌∷◌, ◌++◌, ◌+◌, length, OnOk, IfOk, MatchResult, IsSome, slice_get, Ok, Err, None, Some, Option};
+ghost use Rattle.std.specs.Prelude.{◌≡◌, ◌==◌, [], ◌∷◌, ◌++◌, ◌+◌, length, count_by, OnOk, IfOk, MatchResult, IsSome, slice_get, Ok, Err, None, Some, Option};
 ghost use Rattle.id_table.specs.Ids.{at};
 ghost use Rattle.world_model.specs.Texts.{send_text, entry_text, entries_text};
 ghost use Rattle.world_model.specs.World.{sent, birth_of, with_birth, is_born, moved, moved_all, shown, shown_all, entry_of, entries_of, declared, lac_at, lns_at, with_call, with_tunnel, later, added, block_of, stepped, arrival, refused_by, delivers, farewell_in, framed, line as line_of};
 ghost use Rattle.world_model.specs.Run.{tables};
+ghost use Rattle.schedule_replay.specs.Counting.{ups_with, ups_after, agreements_of};
 ghost use Rattle.schedule_replay.specs.Fault.{new_told, Leads, LeadsTo, Says};
 ghost use Rattle.schedule_replay.specs.Serving.{served_at, reply_entries, IsPlain};
 ghost use Rattle.schedule_replay.specs.Kinds.{of_role, fitting};
 
 use crate::fault::LineFault;
+use crate::kinds::Moved;
 use crate::node::{Node, config_of, copy_secret, count_at};
 use crate::tables::{push_agreement_table, push_end_table};
 use byteorder::{BigEndian, ByteOrder};
@@ -32,6 +34,8 @@ pub(crate) struct State {
     nodes: Table<Node>,
     packets: Sequence<Packet>,
     born: u64,
+    /// How many frames were handed up.
+    ups: u64,
     report: Bytes,
 }
 
@@ -40,7 +44,7 @@ impl Model for State {
 
     ghost Value = { Told };
 
-    ghost view = { λ w. record { world = record { nodes = w.nodes.entries; packets = w.packets; born = w.born }; report = w.report } };
+    ghost view = { λ w. record { world = record { nodes = w.nodes.entries; packets = w.packets; born = w.born }; report = w.report; ups = w.ups } };
 }
 
 impl State {
@@ -52,6 +56,7 @@ impl State {
             nodes: Table::new(alloc),
             packets: Sequence::new(alloc),
             born: 0,
+            ups: 0,
             report: Bytes::new(alloc),
         }
     }
@@ -61,6 +66,37 @@ impl State {
         ensures { result.now ≡ self.now.report }
     {
         self.report.as_slice()
+    }
+
+    /// How many packets were sent so far.
+    pub(crate) fn packets(&self) -> u64
+        ensures { result ≡ length self.now.world.packets }
+    {
+        self.packets.len() as u64
+    }
+
+    /// How many calls were born so far.
+    pub(crate) fn births(&self) -> u64
+        ensures { result ≡ self.now.world.born }
+    {
+        self.born
+    }
+
+    /// How many frames were handed up so far.
+    pub(crate) fn ups(&self) -> u64
+        ensures { result ≡ self.now.ups }
+    {
+        self.ups
+    }
+
+    /// How many `agree` lines the table at the end would have.
+    #[tactic(auto, unfolding(crate::specs::Counting::agreements_of))]
+    pub(crate) fn agreements(&self) -> Result<u64, NoMemory>
+        ensures { IfOk result (λ count. count ≡ agreements_of self.now.world) }
+    {
+        let mut table = Bytes::new(self.alloc);
+        push_agreement_table(self.alloc, &mut table, &self.nodes)?;
+        Ok(count_lines(table.as_slice()))
     }
 
     /// The report so far, for good.
@@ -82,6 +118,7 @@ impl State {
     ) -> Result<(), NoMemory>
         ensures world { OnOk result (self.new.world ≡ sent self.old.world from to bytes origin) }
         ensures report { OnOk result (self.new.report ≡ self.old.report ++ send_text line (length self.old.world.packets + 1) from to bytes) }
+        ensures ups { self.new.ups ≡ self.old.ups }
     {
         let number = self.packets.as_slice().len() as u64 + 1;
         push_send(&mut self.report, line, number, from, to, bytes.as_slice())?;
@@ -106,6 +143,7 @@ impl State {
     fn show(&mut self, line: u64, node: u8, out: Out) -> Result<(), NoMemory>
         ensures world { OnOk result (self.new.world ≡ shown node self.old.world out) }
         ensures report { OnOk result (self.new.report ≡ self.old.report ++ entry_text (entry_of line node self.old.world out)) }
+        ensures ups { OnOk result (self.new.ups ≡ ups_with self.old.ups (entry_of line node self.old.world out)) }
     {
         match out {
             Out::Send {
@@ -118,6 +156,7 @@ impl State {
                 side,
                 frame,
             } => {
+                self.ups = self.ups.saturating_add(1);
                 let birth = self.birth_of(node, session);
                 push_up(
                     &mut self.report,
@@ -143,6 +182,7 @@ impl State {
     fn show_all(&mut self, line: u64, node: u8, outputs: Outputs) -> Result<(), NoMemory>
         ensures world { OnOk result (self.new.world ≡ shown_all node outputs self.old.world) }
         ensures report { OnOk result (self.new.report ≡ self.old.report ++ entries_text (entries_of line node outputs self.old.world)) }
+        ensures ups { OnOk result (self.new.ups ≡ ups_after self.old.ups (entries_of line node outputs self.old.world)) }
     {
         for out in outputs.into_vec() {
             self.show(line, node, out)?;
@@ -166,6 +206,7 @@ impl State {
     fn set_birth(&mut self, node: u8, session: u16, birth: u64) -> Result<(), NoMemory>
         ensures world { OnOk result (self.new.world ≡ with_birth self.old.world node session birth) }
         ensures report { self.new.report ≡ self.old.report }
+        ensures ups { self.new.ups ≡ self.old.ups }
     {
         let Some(node) = self.nodes.get_mut(u32::from(node)) else {
             return Ok(());
@@ -178,6 +219,7 @@ impl State {
     fn bear(&mut self, node: u8, session: u16) -> Result<(), NoMemory>
         ensures world { OnOk result (self.new.world ≡ is_born self.old.world node session) }
         ensures report { self.new.report ≡ self.old.report }
+        ensures ups { self.new.ups ≡ self.old.ups }
     {
         self.born = self.born.saturating_add(1);
         self.set_birth(node, session, self.born)
@@ -188,6 +230,7 @@ impl State {
     fn follow(&mut self, node: u8, done: &Move) -> Result<(), NoMemory>
         ensures world { OnOk result (self.new.world ≡ moved node self.old.world done.now) }
         ensures report { self.new.report ≡ self.old.report }
+        ensures ups { self.new.ups ≡ self.old.ups }
     {
         match done {
             Move::Added(added) => self.bear(node, added.session),
@@ -203,6 +246,7 @@ impl State {
     fn follow_all(&mut self, node: u8, moves: &[Move]) -> Result<(), NoMemory>
         ensures world { OnOk result (self.new.world ≡ moved_all node moves.now self.old.world) }
         ensures report { self.new.report ≡ self.old.report }
+        ensures ups { self.new.ups ≡ self.old.ups }
     {
         for done in moves {
             self.follow(node, done)?;
@@ -214,6 +258,7 @@ impl State {
     fn reply(&mut self, line: u64, node: u8, reply: &Option<Bytes>) -> Result<(), NoMemory>
         ensures world { self.new.world ≡ self.old.world }
         ensures report { OnOk result (self.new.report ≡ self.old.report ++ entries_text (reply_entries line node reply.now)) }
+        ensures ups { OnOk result (self.new.ups ≡ ups_after self.old.ups (reply_entries line node reply.now)) }
     {
         match reply {
             Some(frame) => push_frame(&mut self.report, line, node, frame.as_slice()),
@@ -221,8 +266,20 @@ impl State {
         }
     }
 
+    /// What a step of a node gave, in a line: its moves are followed, and its outputs and its reply are shown.
+    #[tactic(auto, using(crate::proofs::Serving::both_text, crate::proofs::Serving::both_ups))]
+    fn show_step(&mut self, line: u64, node: u8, moved: Moved) -> Result<(), NoMemory>
+        ensures world { OnOk result (self.new.world ≡ shown_all node moved.outputs (moved_all node moved.moves self.old.world)) }
+        ensures report { OnOk result (self.new.report ≡ self.old.report ++ entries_text (entries_of line node moved.outputs (moved_all node moved.moves self.old.world) ++ reply_entries line node moved.reply)) }
+        ensures ups { OnOk result (self.new.ups ≡ ups_after self.old.ups (entries_of line node moved.outputs (moved_all node moved.moves self.old.world) ++ reply_entries line node moved.reply)) }
+    {
+        self.follow_all(node, moved.moves.as_slice())?;
+        self.show_all(line, node, moved.outputs)?;
+        self.reply(line, node, &moved.reply)
+    }
+
     /// What a node's step on an event does, in a line, at the moment of its clock.
-    #[tactic(auto, using(crate::proofs::Serving::both_text), unfolding(crate::specs::Serving::served_at, crate::specs::Serving::served_line, crate::specs::Serving::moved_to))]
+    #[tactic(auto, unfolding(crate::specs::Serving::served_at, crate::specs::Serving::served_line, crate::specs::Serving::moved_to))]
     fn serve(&mut self, line: u64, node: u8, event: &Event) -> Result<(), NoMemory>
         requires { IsSome (at self.old.world.nodes node) }
         ensures { OnOk result (LeadsTo (served_at self.old.world line node event.now (at self.old.world.nodes node)) self.old self.new) }
@@ -231,9 +288,7 @@ impl State {
             unreachable!()
         };
         let moved = at.end.step(at.clock, block_of(node, line), event)?;
-        self.follow_all(node, moved.moves.as_slice())?;
-        self.show_all(line, node, moved.outputs)?;
-        self.reply(line, node, &moved.reply)
+        self.show_step(line, node, moved)
     }
 
     /// A node's step on an event that isn't of its access, in a line, at the moment of its clock.
@@ -439,6 +494,13 @@ impl State {
         push_end_table(self.alloc, &mut self.report, &self.nodes)?;
         push_agreement_table(self.alloc, &mut self.report, &self.nodes)
     }
+}
+
+/// How many lines a table has.
+fn count_lines(table: &[u8]) -> u64
+    ensures { result ≡ count_by (λ c. c == 10) table.now }
+{
+    table.iter().filter(|byte| **byte == b'\n').count() as u64
 }
 
 /// Why a packet is refused by the node that it is for, if it is.

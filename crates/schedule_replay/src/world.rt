@@ -1,7 +1,8 @@
 //! The world.
 
-ghost use Rattle.std.specs.Prelude.{◌≡◌};
+ghost use Rattle.std.specs.Prelude.{◌≡◌, length, IfOk};
 ghost use Rattle.world_model.specs.World.{line as line_of};
+ghost use Rattle.schedule_replay.specs.Counting.{agreements_of};
 ghost use Rattle.schedule_replay.specs.Fault.{new_known, WorldSays, Finishes};
 
 use crate::fault::LineFault;
@@ -67,6 +68,35 @@ impl World {
     {
         self.state.report()
     }
+
+    /// How many packets were sent so far.
+    pub fn packets(&self) -> u64
+        ensures { result ≡ length self.now.told.world.packets }
+    {
+        self.state.packets()
+    }
+
+    /// How many calls were born so far: those that LACs drew a session id for.
+    pub fn births(&self) -> u64
+        ensures { result ≡ self.now.told.world.born }
+    {
+        self.state.births()
+    }
+
+    /// How many PPP frames ends have handed up so far, as the report tells.
+    pub fn ups(&self) -> u64
+        ensures { result ≡ self.now.told.ups }
+    {
+        self.state.ups()
+    }
+
+    /// How many `agree` lines the report would have if it ended here.
+    pub fn agreements(&self) -> Result<u64, NoMemory>
+        ensures { IfOk result (λ count. count ≡ agreements_of self.now.told.world) }
+    {
+        self.state.agreements()
+    }
+
     /// The report so far, in ASCII, which the world gives away as it ends.
     pub fn into_report(self) -> Bytes
         ensures { result ≡ self.told.report }

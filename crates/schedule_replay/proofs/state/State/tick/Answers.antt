@@ -10,7 +10,7 @@ use Rattle.schedule_replay.proofs.state.State.tick.Goals as goal
 pub returns : goal.returns
 returns c =
     let w : World = record { nodes = c.self.inside.nodes.entries; packets = c.self.inside.packets; born = c.self.inside.born } in
-    let told : Told = record { world = w; report = c.self.inside.report } in
+    let told : Told = record { world = w; report = c.self.inside.report; ups = c.self.inside.ups } in
     let n = c.args.node in
     let x : Node = c.pass.new.self in
     let v : World = record w { nodes = put w.nodes c.from.result x } in
@@ -21,6 +21,6 @@ returns c =
     let again : v ≡ record w { nodes = put w.nodes n x } = ap (λ (ns : List (ℕ × Node)). record w { nodes = ns }) put_is in
     let same : stepped v c.args.line n Tick None (declared (at v.nodes n)) ≡ stepped w c.args.line n Tick None (later c.args.milliseconds (declared (at w.nodes n))) =
     ap (λ r. stepped v c.args.line n Tick None r) here ∙ stepped_later w v c.args.line n x Tick None again ∙ ap (λ r. stepped w c.args.line n Tick None r) (sym there) in
-    let leads = leads_from _ _ told c.step.new.self refl c.in_ok-step.ensures in
+    let leads = leads_from _ _ told c.step.new.self refl refl c.in_ok-step.ensures in
     let one = subst (λ r. Leads r told c.step.new.self) same leads in
     subst (λ (t : Told). Leads (stepped t.world c.args.line n Tick None (later c.args.milliseconds (declared (at t.world.nodes n)))) t c.step.new.self) c.self.view_is one

@@ -1,0 +1,6 @@
+mod States
+mod Runs
+mod Makings
+mod Opening
+mod Fits
+mod Sums

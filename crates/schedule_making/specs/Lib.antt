@@ -1,0 +1,4 @@
+pub mod Drawing
+pub mod Making
+pub mod Summaries
+pub mod Words
