@@ -23,7 +23,7 @@ use row::{Fault, Row};
 use spelling::plain;
 use std::alloc::Global;
 use std::io;
-use text_rows::{schedule_row, secret_row};
+use text_rows::{schedule_row, secret_row, written_row};
 
 /// The answer of the call that a line names.
 fn answer(alloc: Global, line: &str) -> Result<String, Fault> {
@@ -37,6 +37,7 @@ fn answer(alloc: Global, line: &str) -> Result<String, Fault> {
         "write_message" => write_message_row(&row),
         "write_hidden" => write_hidden_row(&row),
         "read_schedule" => schedule_row(alloc, line),
+        "write_schedule" => written_row(alloc, line),
         "hide" | "unhide" | "response" => secret_row(&row),
         "read_lcp" | "read_options" | "read_frame" | "read_tags" => link_row(alloc, &row),
         "write_lcp" => write_lcp_row(&row),

@@ -3,6 +3,7 @@
 use crate::row::{Fault, Row};
 use crate::spelling::{told, unescaped};
 use schedule_text::{Line, read_schedule};
+use schedule_writing::write_schedule;
 use std::alloc::Global;
 use tunnel_secret::{check_response, hide, response, unhide};
 
@@ -60,6 +61,16 @@ pub fn schedule_row(alloc: Global, line: &str) -> Result<String, Fault> {
         }
         Err(fault) => told(alloc, &("Err", fault)),
     }
+}
+
+/// Writes the lines that a text spells.
+pub fn written_row(alloc: Global, line: &str) -> Result<String, Fault> {
+    let (_call, text) = line.split_once(' ').unwrap_or((line, ""));
+    let text = unescaped(alloc, text)?;
+    let Ok(lines) = read_schedule(alloc, text.as_slice()) else {
+        return Err(Fault::NotARow);
+    };
+    told(alloc, &write_schedule(alloc, &lines)?)
 }
 
 /// Reveals a value, or hides it and reveals it again, or tells a response and whether it is the one that is given.
