@@ -6,9 +6,10 @@ use wire_base::{NoMemory, Pair, Pairs};
 // Functions without clauses: a test that calls them is proved at little cost.
 
 /// So many sessions: 101 with the other end's 1001, and so on.
-fn sessions(alloc: Global, count: u32) -> Result<Pairs, NoMemory> {
+fn sessions(alloc: Global, count: u16) -> Result<Pairs, NoMemory> {
     let mut pairs = Pairs::new(alloc);
-    for at in 1..=count {
+    for at in 0..count {
+        let at = u32::from(at) + 1;
         pairs.push(Pair {
             sender: 100 + at,
             receiver: 1000 + at,
@@ -29,9 +30,10 @@ fn asks(query: &mut Query, alloc: Global) -> Result<Option<(u32, usize)>, NoMemo
 }
 
 /// The answer to so many sessions from the first one on, of which one may be gone.
-fn answer(alloc: Global, first: u32, count: u32, gone: u32) -> Result<Pairs, NoMemory> {
+fn answer(alloc: Global, first: u16, count: u16, gone: u32) -> Result<Pairs, NoMemory> {
     let mut pairs = Pairs::new(alloc);
-    for at in first..first + count {
+    for at in 0..count {
+        let at = u32::from(first) + u32::from(at);
         pairs.push(Pair {
             sender: if at == gone { 0 } else { 1000 + at },
             receiver: 100 + at,
