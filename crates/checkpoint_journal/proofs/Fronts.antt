@@ -22,7 +22,7 @@ pub made-append : (front more : List ℕ) → 0 < length front → is_made (fron
 made-append [] more lt = absurd (omega arith)
 made-append (x ∷ front) more lt = refl
 
-same-append : (kind number : ℕ) (front more : List ℕ) → 32 ≤ length front
+pub same-append : (kind number : ℕ) (front more : List ℕ) → 31 ≤ length front
     → differs 1 (header kind number) (drop 1 (front ++ more)) ≡ differs 1 (header kind number) (drop 1 front)
 same-append kind number front more long =
     let back : drop 1 (front ++ more) ≡ drop 1 front ++ more = drop-append-le 1 front more (omega arith) in
@@ -38,7 +38,7 @@ start_by false = omega arith
 pub start_long : (file : List ℕ) → 32 ≤ start_of file
 start_long file = start_by (is_open (get_or file 31 0))
 
-checked_by : (kind number : ℕ) (file : List ℕ) → is_made file ≡ true
+pub checked_by : (kind number : ℕ) (file : List ℕ) → is_made file ≡ true
     → opens kind number file ≡ checked file (differs 1 (header kind number) (drop 1 file))
 unfolding opens
 checked_by kind number file made =
@@ -52,7 +52,7 @@ opens_parts kind number start front more cs is found =
     let file = front ++ more in
     let long : 32 ≤ length front = let s = is.size in let l = is.long in omega arith in
     checked_by kind number file (made-append front more (omega arith) ∙ is.made)
-    ∙ ap (checked file) (same-append kind number front more long ∙ is.same)
+    ∙ ap (checked file) (same-append kind number front more (omega arith) ∙ is.same)
     ∙ ap (λ (n : ℕ). area_of n file) (start-append front more long ∙ is.area)
     ∙ ap (λ (l : List ℕ). told file (records most_records l)) (drop_at front more start is.size)
     ∙ ap (told file) found
@@ -93,7 +93,7 @@ opened_at kind number start cs file begins made same read =
         size = size;
         long = omega arith;
         made = sym (made-append (take start file) (drop start file) (omega arith)) ∙ ap is_made (sym whole) ∙ made;
-        same = sym (same-append kind number (take start file) (drop start file) long)
+        same = sym (same-append kind number (take start file) (drop start file) (omega arith))
             ∙ ap (λ (l : List ℕ). differs 1 (header kind number) (drop 1 l)) (sym whole) ∙ same;
         area = sym (start-append (take start file) (drop start file) long) ∙ ap start_of (sym whole) ∙ begins;
       };

@@ -10,3 +10,5 @@ pub mod Commits
 pub mod Same
 pub mod Several
 pub mod Reopens
+pub mod Compactions
+pub mod Compacts

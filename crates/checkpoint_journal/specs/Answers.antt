@@ -1,13 +1,15 @@
 -- What the calls answer, and when each refusal comes.
-use Rattle.std.specs.Prelude.{◌≡◌, ◌⊎◌, ◌<◌, ◌≤◌, ◌+◌, ◌-◌, ℕ, true, false, List, [], ◌++◌, length, take, Option, Some, Result, Ok, Err}
+use Rattle.std.specs.Prelude.{◌≡◌, ◌⊎◌, ◌<◌, ◌≤◌, ◌+◌, ◌-◌, ℕ, true, false, List, [], ◌++◌, length, take, Option, Some, option_map, Result, Ok, Err}
 use Rattle.wire_base.specs.Causes.{Rose}
 use Rattle.disk_core.specs.Disk.{Held, durable, settled}
-use Rattle.checkpoint_journal.specs.Format.{most_records, is_made, spelling}
-use Rattle.checkpoint_journal.specs.Commit.{IsHalfMade}
+use Rattle.checkpoint_journal.specs.Format.{most_records, is_made, spelling, spelled_area}
+use Rattle.checkpoint_journal.specs.Commit.{IsHalfMade, IsHalfCompacted, compact_after}
 use Rattle.checkpoint_journal.specs.State.{State, FindsNothingNew}
 use Rattle.checkpoint_journal.specs.declared.crash.Reopened.{Reopened}
 use Rattle.checkpoint_journal.specs.declared.open.JournalOpen.{JournalOpen}
 use Rattle.checkpoint_journal.specs.declared.open.JournalOpen.TheVariants.{NotJournal, StoreFault, NoMemory}
+use Rattle.checkpoint_journal.specs.declared.compaction.CompactStop.{CompactStop}
+use Rattle.checkpoint_journal.specs.declared.compaction.CompactStop.TheVariants as compact
 use Rattle.checkpoint_journal.specs.declared.journal.JournalRoom.{JournalRoom}
 use Rattle.checkpoint_journal.specs.declared.journal.JournalRoom.TheVariants as room
 use Rattle.checkpoint_journal.specs.declared.journal.JournalStop.{JournalStop}
@@ -80,6 +82,22 @@ StopHasCause before after faults now (Ok done) = (before.halted ≡ false) × (n
 StopHasCause before after faults now (Err stop.Halted) = (before.halted ≡ true) × (after ≡ before) × (now ≡ faults)
 StopHasCause before after faults now (Err stop.StoreFault) =
     (before.halted ≡ false) × (after ≡ record before { halted = true }) × Rose faults now
+
+-- Why the journal wasn't compacted: after a failure of the disk it is halted, and where memory was wanting it is as before.
+abbrev pub CompactHasCause : {T : Type 0} → State → State → ℕ → ℕ → Result T CompactStop → Type 0
+CompactHasCause before after faults now (Ok done) = (before.halted ≡ false) × (now ≡ faults)
+CompactHasCause before after faults now (Err compact.Halted) = (before.halted ≡ true) × (after ≡ before) × (now ≡ faults)
+CompactHasCause before after faults now (Err compact.StoreFault) =
+    (before.halted ≡ false) × (after ≡ record before { halted = true }) × Rose faults now
+CompactHasCause before after faults now (Err compact.NoMemory) = (before.halted ≡ false) × (after ≡ before) × (now ≡ faults)
+
+-- What the calls of a compaction into an area make of the file: all four, or the first or the first three, the last of which
+-- is pending, where the disk failed. Otherwise there are none.
+abbrev pub CompactLeaves : {T : Type 0} → ℕ → List (List ℕ) → Option Held → Option Held → Result T CompactStop → Type 0
+CompactLeaves area contents before now (Ok done) = now ≡ option_map (compact_after 4 area (spelled_area contents)) before
+CompactLeaves area contents before now (Err compact.Halted) = now ≡ before
+CompactLeaves area contents before now (Err compact.StoreFault) = IsHalfCompacted area (spelled_area contents) before now
+CompactLeaves area contents before now (Err compact.NoMemory) = now ≡ before
 
 -- why not all of so many contents were committed: some of them may be, and after a failure of the disk the journal is halted
 abbrev pub SomeHaveCause : {T : Type 0} → ℕ → State → State → ℕ → ℕ → Result T JournalStop → Type 0

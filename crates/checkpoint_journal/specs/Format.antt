@@ -26,6 +26,17 @@ first_area = 32
 unfoldable pub second_area : ℕ
 second_area = 33554496
 
+-- the area that isn't in use, and the selector that chooses an area
+abbrev pub other_area : ℕ → ℕ
+other_area start = if start == 32 then second_area else first_area
+
+abbrev pub selector : ℕ → ℕ
+selector start = if start == 32 then closed_gate else open_gate
+
+-- where the selector stands
+abbrev pub selector_place : ℕ
+selector_place = 31
+
 -- where the gate behind so many records of an area stands
 abbrev pub gate_place : ℕ → ℕ → ℕ
 gate_place start records = start + 32 * records
@@ -36,6 +47,10 @@ gate_place start records = start + 32 * records
 abbrev pub spelled : List (List ℕ) → List ℕ
 spelled [] = []
 spelled (content ∷ contents) = open_gate ∷ (content ++ spelled contents)
+
+-- an area with these contents alone: its records, and a closed gate behind them
+abbrev pub spelled_area : List (List ℕ) → List ℕ
+spelled_area contents = spelled contents ++ closed_gate ∷ []
 
 -- a journal with these contents in its first area, which is all that was ever done to it
 abbrev pub spelling : ℕ → ℕ → List (List ℕ) → List ℕ
@@ -97,6 +112,10 @@ IsBeforeOrAfter kind number contents content file =
 abbrev pub IsBeforeAndFirst : ℕ → ℕ → List (List ℕ) → List (List ℕ) → ℕ → List ℕ → Type 0
 IsBeforeAndFirst kind number before contents least file =
     (n : ℕ) × (least ≤ n) × (n ≤ length contents) × (opens kind number file ≡ Ok (before ++ take n contents))
+
+-- the file opens with the one list or with the other
+abbrev pub IsOldOrNew : ℕ → ℕ → List (List ℕ) → List (List ℕ) → List ℕ → Type 0
+IsOldOrNew kind number before contents file = (opens kind number file ≡ Ok before) ⊎ (opens kind number file ≡ Ok contents)
 
 -- ---- the first bytes alone
 

@@ -2,7 +2,7 @@
 use Rattle.std.specs.Prelude.{◌≡◌, ◌⊎◌, ◌<◌, ◌≤◌, ◌+◌, ◌*◌, ℕ, Bool, false, List, length, Option, IfSome}
 use Rattle.disk_core.specs.Disk.{Held, MayLeave}
 use Rattle.checkpoint_journal.specs.Commit.{IsFile}
-use Rattle.checkpoint_journal.specs.Format.{gate_place, IsBeforeOrAfter, IsBeforeAndFirst}
+use Rattle.checkpoint_journal.specs.Format.{gate_place, other_area, IsBeforeOrAfter, IsBeforeAndFirst, IsOldOrNew}
 
 pub record State : Type 0 where
   -- 1 at a LAC, 2 at an LNS
@@ -14,7 +14,7 @@ pub record State : Type 0 where
   -- how many records it has, and for how many more room was made
   pub records : ℕ
   pub spare : ℕ
-  -- the disk failed at an earlier commit
+  -- the disk failed at an earlier commit or compaction
   pub halted : Bool
 
 abbrev pub opened_at : ℕ → ℕ → ℕ → ℕ → State
@@ -23,6 +23,10 @@ opened_at kind number start records = record { kind = kind; number = number; sta
 -- where the gate of the next record stands
 abbrev pub next_gate : State → ℕ
 next_gate journal = gate_place journal.start journal.records
+
+-- compacted to so many records: they stand in the other area, and there is room for no more
+abbrev pub compacted : ℕ → State → State
+compacted count journal = record journal { start = other_area journal.start; records = count; spare = 0 }
 
 -- The disk is as the last call on this journal left it: where it tells what it holds, that is the journal with these
 -- contents.
@@ -43,6 +47,11 @@ FindsBeforeOrAfter journal contents content held = IfSome held (λ file. (image 
 abbrev pub FindsBeforeAndFirst : State → List (List ℕ) → List (List ℕ) → ℕ → Option Held → Type 0
 FindsBeforeAndFirst journal before contents least held = IfSome held (λ file. (image : List ℕ) → MayFind file image
     → IsBeforeAndFirst journal.kind journal.number before contents least image)
+
+-- all that may be found opens with the one list or with the other
+abbrev pub FindsOldOrNew : State → List (List ℕ) → List (List ℕ) → Option Held → Type 0
+FindsOldOrNew journal before contents held = IfSome held (λ file. (image : List ℕ) → MayFind file image
+    → IsOldOrNew journal.kind journal.number before contents image)
 
 -- nothing may be found that might not have been found before
 abbrev pub FindsNothingNew : Option Held → Held → Type 0

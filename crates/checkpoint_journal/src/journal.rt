@@ -1,22 +1,24 @@
 //! The journal: contents in order, each on the disk before its gate is opened.
 
 ghost use Rattle.std.specs.Prelude.{◌≡◌, ◌≤◌, ◌<◌, ◌+◌, ◌-◌, ◌++◌, ◌∷◌, [], ℕ, List, length, max, OnOk, OnErr, Err, option_map, is_some, true, false};
-ghost use Rattle.checkpoint_journal.specs.Format.{most_records, second_area};
+ghost use Rattle.checkpoint_journal.specs.Format.{most_records, second_area, other_area};
 ghost use Rattle.checkpoint_journal.specs.Commit.{commit_after, IsStopped};
-ghost use Rattle.checkpoint_journal.specs.State.{opened_at, next_gate, HasContents, HasRoom, FindsBeforeOrAfter, FindsBeforeAndFirst};
+ghost use Rattle.checkpoint_journal.specs.State.{opened_at, next_gate, compacted, HasContents, HasRoom, FindsBeforeOrAfter, FindsBeforeAndFirst, FindsOldOrNew};
 ghost use Rattle.checkpoint_journal.specs.declared.journal.JournalStop.TheVariants as stop;
-ghost use Rattle.checkpoint_journal.specs.Answers.{RoomHasCause, StopHasCause, SomeHaveCause};
+ghost use Rattle.checkpoint_journal.specs.Answers.{RoomHasCause, StopHasCause, SomeHaveCause, CompactHasCause, CompactLeaves};
 
 use crate::area::MOST_RECORDS;
+use crate::compaction::{CompactStop, other_area, spell_area, write_area};
 use crate::record::write_record;
 use disk_core::Disk;
+use std::alloc::Global;
 use std::marker::Model;
-use wire_base::NoMemory as OutOfMemory;
+use wire_base::{Contents, NoMemory as OutOfMemory};
 
 /// Why no room was made.
 #[derive(Clone, Copy, PartialEq, Eq)]
 pub enum JournalRoom {
-    /// The disk failed at an earlier commit to this journal.
+    /// The disk failed at an earlier call to this journal.
     Halted,
     /// The journal has so many records, and with those that are wanted they pass the limit.
     StoreFull { records: u32 },
@@ -37,7 +39,7 @@ impl From<OutOfMemory> for JournalRoom {
 /// Why a content wasn't committed.
 #[derive(Clone, Copy, PartialEq, Eq)]
 pub enum JournalStop {
-    /// The disk failed at an earlier commit to this journal.
+    /// The disk failed at an earlier call to this journal.
     Halted,
     /// The disk failed. The journal is halted until its disk is opened again.
     StoreFault,
@@ -103,7 +105,7 @@ impl Journal {
         self.number
     }
 
-    /// Whether the disk failed at an earlier commit.
+    /// Whether the disk failed at an earlier call.
     fn is_halted(&self) -> bool
         ensures { result ≡ self.now.halted }
     {
@@ -173,17 +175,70 @@ impl Journal {
                 self.spare -= 1;
                 Ok(())
             }
-            Err(_) => self.halt(),
+            Err(_) => self.stop_at_fault(),
         }
     }
 
+    /// Takes nothing more.
+    fn halt(&mut self)
+        ensures { self.new ≡ record self.old { halted = true } }
+    {
+        self.halted = true;
+    }
+
     /// What a commit answers at which the disk failed: the journal is halted.
-    fn halt(&mut self) -> Result<(), JournalStop>
+    fn stop_at_fault(&mut self) -> Result<(), JournalStop>
         ensures state { self.new ≡ record self.old { halted = true } }
         ensures told { result ≡ Err stop.StoreFault }
     {
-        self.halted = true;
+        self.halt();
         Err(JournalStop::StoreFault)
+    }
+
+    /// Makes these contents the journal's records, in place of those that it has; its condition is that there are at most
+    /// 1,048,576 of them. They are written to the area that isn't in use, and only once they are on the disk that area is
+    /// chosen. It makes four calls of the device, or none.
+    pub fn compact<D: Disk>(
+        &mut self,
+        alloc: Global,
+        disk: &mut D,
+        contents: &Contents,
+    ) -> Result<(), CompactStop>
+        requires few { length contents.now ≤ 1048576 }
+        requires room { self.old.halted ≡ false → HasRoom D.reach D.calls_left self.old disk.old }
+        ensures room { self.new.halted ≡ false → HasRoom D.reach D.calls_left self.new disk.new }
+        ensures state { OnOk result (self.new ≡ compacted (length contents.now) self.old) }
+        ensures cause { CompactHasCause self.old self.new (D.faults disk.old) (D.faults disk.new) result }
+        ensures file { CompactLeaves (other_area self.old.start) contents.now (D.holds disk.old) (D.holds disk.new) result }
+        ensures tells { is_some (D.holds disk.new) ≡ is_some (D.holds disk.old) }
+
+        // At `Ok` the journal has these contents.
+        ensures compacted { (before : List (List ℕ)) → HasContents self.old before (D.holds disk.old)
+            → OnOk result (HasContents self.new contents.now (D.holds disk.new)) }
+
+        // Whatever comes of the call, the file opens with the contents from before, or with these: as a read gives it, and in
+        // each image that a crash may leave.
+        ensures crash { (before : List (List ℕ)) → HasContents self.old before (D.holds disk.old)
+            → FindsOldOrNew self.old before contents.now (D.holds disk.new) }
+    {
+        if self.halted {
+            return Err(CompactStop::Halted);
+        }
+        let area = spell_area(alloc, contents.as_slice())?;
+        let start = other_area(self.start);
+        disk.prepare(start + area.len() as u64, 4)?;
+        match write_area(disk, start, area.as_slice()) {
+            Ok(()) => {
+                self.start = start;
+                self.records = contents.len() as u32;
+                self.spare = 0;
+                Ok(())
+            }
+            Err(_) => {
+                self.halt();
+                Err(CompactStop::StoreFault)
+            }
+        }
     }
 
     /// Puts contents behind the others, one after the other; its condition is that the spare is enough for all of them. It

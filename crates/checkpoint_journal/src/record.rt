@@ -32,7 +32,7 @@ fn framed(content: &[u8; 31]) -> [u8; 32]
 }
 
 /// Writes bytes from a place on, and makes them durable. It makes two calls of the device.
-fn write_durably<D: Disk>(disk: &mut D, at: u64, piece: &[u8]) -> Result<(), Failed>
+pub fn write_durably<D: Disk>(disk: &mut D, at: u64, piece: &[u8]) -> Result<(), Failed>
     requires reach { at + length piece.now ≤ D.reach disk.old }
     requires calls { 2 ≤ D.calls_left disk.old }
     ensures done { OnOk result (D.holds disk.new ≡ option_map (λ held. settled (wrote at piece.now held)) (D.holds disk.old)) }

@@ -1,8 +1,8 @@
 use checkpoint_journal::*;
-use disk_core::{Crash, Disk, Fails, MemoryDisk, StopDisk};
+use disk_core::{Crash, Disk, Fails, MemoryDisk, SteadyDisk, StopDisk};
 use std::alloc::Global;
 use std::test::Fail;
-use wire_base::{Bytes, NoMemory};
+use wire_base::{Bytes, Contents, Failed, NoMemory};
 
 /// The first bytes of the journal of the LAC with the number 1, up to its selector.
 const HEAD: &[u8] = b"OL2TPCKP1\x01\x01\0\0\0\0\0\0\0\0\0\0\0\0\0\0\0\0\0\0\0\0";
@@ -10,6 +10,9 @@ const HEAD: &[u8] = b"OL2TPCKP1\x01\x01\0\0\0\0\0\0\0\0\0\0\0\0\0\0\0\0\0\0\0\0"
 const ONE: [u8; 31] = *b"\x01\x01\0\0\0\x40\0\0\0\0\0\0\0\0\0\0\0\0\0\0\0\0\0\0\0\0\0\0\0\0\0";
 
 const TWO: [u8; 31] = *b"\x01\x02\0\0\0\x40\0\0\0\0\0\0\0\0\0\0\0\0\0\0\0\0\0\0\0\0\0\0\0\0\0";
+
+/// The same space again, up to a higher number.
+const HIGHER: [u8; 31] = *b"\x01\x02\0\0\0\x80\0\0\0\0\0\0\0\0\0\0\0\0\0\0\0\0\0\0\0\0\0\0\0\0\0";
 
 const TUNNEL: [u8; 31] =
     *b"\x02\0\x01\0\x01\x0a\0\0\x02\0\x08\0\x03\0\0\0\0\0\0\0\0\0\0\0\0\0\0\0\0\0\0";
@@ -217,6 +220,138 @@ fn has_no_room(alloc: Global, disk: &mut MemoryDisk) -> bool {
         && none.is_ok()
 }
 
+/// What two compactions of a journal with two contents to the second alone are answered.
+type Compactions = (Result<(), CompactStop>, Result<(), CompactStop>);
+
+fn compactions<D: Disk>(alloc: Global, disk: &mut D) -> Option<Compactions> {
+    let (mut journal, _) = open_disk(alloc, disk, 1, 1).ok()?;
+    journal.prepare(disk, 2).ok()?;
+    journal.commit(disk, &TWO).ok()?;
+    journal.commit(disk, &HIGHER).ok()?;
+    let contents = Contents::from_slice(alloc, &[HIGHER]).ok()?;
+    let one = journal.compact(alloc, disk, &contents);
+    if one.is_ok() {
+        return Some((one, one));
+    }
+    let two = journal.compact(alloc, disk, &contents);
+    Some((one, two))
+}
+
+/// A compaction of which the device lets so many calls pass, and what is done to the disk behind it, leave the old list or
+/// the new one. Opening makes six calls of the device, and each commit four.
+fn is_compacted(
+    alloc: Global,
+    passes: u64,
+    crash: Option<bool>,
+    new: bool,
+) -> Result<bool, NoMemory> {
+    let mut disk = StopDisk::new(holding(alloc, b"")?, passes.saturating_add(14));
+    let answers = compactions(alloc, &mut disk);
+    let expected = if passes == 4 {
+        (Ok(()), Ok(()))
+    } else {
+        (Err(CompactStop::StoreFault), Err(CompactStop::Halted))
+    };
+    let mut disk = disk.into_disk();
+    if let Some(kept) = crash {
+        disk.after_crash(kept);
+    }
+    let left: &[[u8; 31]] = if new { &[HIGHER] } else { &[TWO, HIGHER] };
+    Ok(answers == Some(expected) && opens_with(alloc, &mut disk, left))
+}
+
+/// The disk opens and is compacted to these contents.
+fn compacts(alloc: Global, disk: &mut MemoryDisk, contents: &[[u8; 31]]) -> Option<()> {
+    let (mut journal, _) = open_disk(alloc, disk, 1, 1).ok()?;
+    let list = Contents::from_slice(alloc, contents).ok()?;
+    if list.len() > 2 {
+        return None;
+    }
+    journal.compact(alloc, disk, &list).ok()
+}
+
+/// A commit, a compaction and a commit, on one opened journal: how many records it has behind each.
+fn in_turn(alloc: Global, disk: &mut MemoryDisk) -> Option<[u32; 3]> {
+    let (mut journal, _) = open_disk(alloc, disk, 1, 1).ok()?;
+    journal.prepare(disk, 3).ok()?;
+    journal.commit(disk, &TWO).ok()?;
+    let one = journal.records();
+    let contents = Contents::from_slice(alloc, &[ONE]).ok()?;
+    journal.compact(alloc, disk, &contents).ok()?;
+    let two = journal.records();
+    journal.prepare(disk, 1).ok()?;
+    journal.commit(disk, &TUNNEL).ok()?;
+    Some([one, two, journal.records()])
+}
+
+/// The selector that a file has.
+fn selector(disk: &MemoryDisk) -> Option<u8> {
+    disk.bytes().get(31).copied()
+}
+
+/// A disk that can be made to have no memory left.
+#[derive(Drop)]
+struct NarrowDisk {
+    disk: SteadyDisk,
+    is_full: bool,
+}
+
+impl Disk for NarrowDisk {
+    ghost use Rattle.std.specs.Prelude.{Some};
+
+    ghost holds = { λ d. Some d.disk.held };
+
+    ghost reach = { λ d. d.disk.prepared_to };
+
+    ghost calls_left = { λ d. d.disk.prepared_calls };
+
+    ghost faults = { λ _. 0 };
+
+    fn len(&mut self) -> Result<u64, Failed> {
+        self.disk.len()
+    }
+
+    fn prepare(&mut self, to: u64, calls: u64) -> Result<(), NoMemory> {
+        if self.is_full {
+            return Err(NoMemory);
+        }
+        self.disk.prepare(to, calls)
+    }
+
+    fn read(&mut self, at: u64, buf: &mut [u8]) -> Result<usize, Failed> {
+        self.disk.read(at, buf)
+    }
+
+    fn write_at(&mut self, at: u64, piece: &[u8]) -> Result<(), Failed> {
+        self.disk.write_at(at, piece)
+    }
+
+    fn cut(&mut self, len: u64) -> Result<(), Failed> {
+        self.disk.cut(len)
+    }
+
+    fn sync(&mut self) -> Result<(), Failed> {
+        self.disk.sync()
+    }
+}
+
+/// What a compaction without memory is answered, and the commit behind it.
+fn without_memory(
+    alloc: Global,
+    disk: &mut NarrowDisk,
+) -> Option<(Result<(), CompactStop>, Result<(), JournalStop>)> {
+    let (mut journal, _) = open_disk(alloc, disk, 1, 1).ok()?;
+    journal.prepare(disk, 2).ok()?;
+    journal.commit(disk, &TWO).ok()?;
+    let contents = Contents::new(alloc);
+    disk.is_full = true;
+    let compaction = journal.compact(alloc, disk, &contents);
+    if compaction != Err(CompactStop::NoMemory) {
+        return None;
+    }
+    Some((compaction, journal.commit(disk, &HIGHER)))
+}
+
 /// So many pieces behind the bytes.
 fn push_times(bytes: &mut Bytes, piece: &[u8], times: u32) -> Result<(), NoMemory> {
     for _ in 0..times {
@@ -421,5 +556,88 @@ fn the_selector_chooses_the_second_area(rt: HostRuntime) -> Result<(), Fail> {
     assert!(rt; takes(rt.alloc(), &mut disk, &TWO).is_some());
     assert!(rt; disk.bytes().len() == 33_554_496 + 65);
     assert!(rt; opens_with(rt.alloc(), &mut disk, &[ONE, TWO]));
+    Ok(())
+}
+
+#[test]
+fn two_ceilings_are_compacted_to_the_second(rt: HostRuntime) -> Result<(), Fail> {
+    let mut disk = holding(rt.alloc(), b"")?;
+    assert!(rt; compactions(rt.alloc(), &mut disk) == Some((Ok(()), Ok(()))));
+    assert!(rt; disk.bytes().len() == 33_554_529 && selector(&disk) == Some(0x4f));
+    assert!(rt; opens_with(rt.alloc(), &mut disk, &[HIGHER]));
+    Ok(())
+}
+
+#[test]
+fn a_compaction_that_stops_leaves_one_list_of_what_is_synced(rt: HostRuntime) -> Result<(), Fail> {
+    for (passes, new) in [(0, false), (1, false), (2, false), (3, false), (4, true)] {
+        assert!(rt;
+            is_compacted(rt.alloc(), passes, Some(false), new)?,
+            "after {passes}"
+        );
+    }
+    Ok(())
+}
+
+#[test]
+fn a_compaction_that_stops_leaves_one_list_of_what_is_written(rt: HostRuntime) -> Result<(), Fail> {
+    // A write that fails is pending, and this crash keeps it.
+    for (passes, new) in [(0, false), (1, false), (2, true), (3, true), (4, true)] {
+        assert!(rt;
+            is_compacted(rt.alloc(), passes, Some(true), new)?,
+            "after {passes}"
+        );
+    }
+    Ok(())
+}
+
+#[test]
+fn a_compaction_that_stops_is_read_again_at_once(rt: HostRuntime) -> Result<(), Fail> {
+    for (passes, new) in [(0, false), (1, false), (2, true), (3, true)] {
+        assert!(rt;
+            is_compacted(rt.alloc(), passes, None, new)?,
+            "after {passes}"
+        );
+    }
+    Ok(())
+}
+
+#[test]
+fn commits_follow_the_selector(rt: HostRuntime) -> Result<(), Fail> {
+    let mut disk = holding(rt.alloc(), b"")?;
+    assert!(rt; takes(rt.alloc(), &mut disk, &TWO).is_some());
+    assert!(rt; compacts(rt.alloc(), &mut disk, &[ONE]).is_some());
+    assert!(rt; selector(&disk) == Some(0x4f) && opens_with(rt.alloc(), &mut disk, &[ONE]));
+    assert!(rt; takes(rt.alloc(), &mut disk, &TUNNEL).is_some());
+    assert!(rt; opens_with(rt.alloc(), &mut disk, &[ONE, TUNNEL]));
+    assert!(rt; compacts(rt.alloc(), &mut disk, &[CALL, HIGHER]).is_some());
+    assert!(rt;
+        selector(&disk) == Some(0x43) && opens_with(rt.alloc(), &mut disk, &[CALL, HIGHER])
+    );
+    assert!(rt; takes(rt.alloc(), &mut disk, &TWO).is_some());
+    assert!(rt; opens_with(rt.alloc(), &mut disk, &[CALL, HIGHER, TWO]));
+    Ok(())
+}
+
+#[test]
+fn one_journal_goes_on_in_the_other_area(rt: HostRuntime) -> Result<(), Fail> {
+    let mut disk = holding(rt.alloc(), b"")?;
+    assert!(rt; in_turn(rt.alloc(), &mut disk) == Some([1, 1, 2]));
+    assert!(rt; disk.bytes().len() == 33_554_561 && selector(&disk) == Some(0x4f));
+    assert!(rt; opens_with(rt.alloc(), &mut disk, &[ONE, TUNNEL]));
+    Ok(())
+}
+
+#[test]
+fn a_compaction_without_memory_changes_nothing(rt: HostRuntime) -> Result<(), Fail> {
+    let steady = SteadyDisk::new(rt.alloc(), Bytes::new(rt.alloc()))?;
+    let mut disk = NarrowDisk {
+        disk: steady,
+        is_full: false,
+    };
+    let answers = without_memory(rt.alloc(), &mut disk);
+    assert!(rt; answers == Some((Err(CompactStop::NoMemory), Ok(()))));
+    let mut same = holding(rt.alloc(), disk.disk.bytes())?;
+    assert!(rt; opens_with(rt.alloc(), &mut same, &[TWO, HIGHER]));
     Ok(())
 }

@@ -56,6 +56,13 @@ fn is_marked_and_dropped(book: &mut Book) -> Result<bool, NoMemory> {
     Ok(is_marked && book.spare() == 0 && book.tunnels().is_empty() && book.calls().is_empty())
 }
 
+/// The book is compacted to these contents, and so is the book of these.
+fn is_compacted_to(alloc: Global, book: &Book, rows: &[[u8; 31]]) -> Result<bool, BookError> {
+    let contents = book.contents(alloc)?;
+    let again = Book::of_contents(alloc, &contents)?.contents(alloc)?;
+    Ok(contents.as_slice() == rows && again.as_slice() == rows)
+}
+
 /// The contents make no book: the one at this place is the first that isn't in place.
 fn is_refused_at(alloc: Global, rows: &[[u8; 31]], at: usize) -> bool {
     match book_of(alloc, rows) {
@@ -136,5 +143,37 @@ fn a_tunnel_with_a_call(rt: HostRuntime) -> Result<(), Fail> {
     let mut book = book_of(rt.alloc(), &rows).ok().ok_or("they make a book")?;
     assert!(rt; has_both(&book));
     assert!(rt; is_marked_and_dropped(&mut book)?);
+    Ok(())
+}
+
+#[test]
+fn a_book_is_compacted_to_what_it_holds(rt: HostRuntime) -> Result<(), Fail> {
+    let rows = [
+        filled(&[1, 1, 0, 0, 0, 0x40]),
+        filled(&[1, 3, 0, 0, 0, 0x40]),
+        filled(&[1, 1, 0, 0, 0, 0x80]),
+        filled(&[2, 0, 2, 0, 9, 0x0a, 0, 0, 2, 0, 8, 0, 3]),
+        filled(&[2, 0, 1, 0, 7, 0x0a, 0, 0, 3, 0, 4, 0, 0]),
+        filled(&[1, 2, 0, 0, 0, 0x40]),
+        filled(&[4, 0, 7, 0, 2, 0, 5, 0xff, 0xff, 0, 0, 0, 1, 1]),
+        filled(&[4, 0, 2, 0, 1, 0, 6, 0xff, 0xff, 0, 0, 0, 2, 0]),
+        filled(&[6, 0, 2, 0, 0, 0, 1]),
+        filled(&[6, 0, 2, 0, 0, 1, 9]),
+        filled(&[4, 0, 3, 0, 1, 0, 8, 0xff, 0xff, 0, 0, 0, 3, 0]),
+        filled(&[5, 0, 3]),
+    ];
+    let book = book_of(rt.alloc(), &rows).ok().ok_or("they make a book")?;
+    let left = [
+        filled(&[1, 1, 0, 0, 0, 0x80]),
+        filled(&[1, 2, 0, 0, 0, 0x40]),
+        filled(&[1, 3, 0, 0, 0, 0x40]),
+        filled(&[2, 0, 1, 0, 7, 0x0a, 0, 0, 3, 0, 4, 0, 0]),
+        filled(&[2, 0, 2, 0, 9, 0x0a, 0, 0, 2, 0, 8, 0, 3]),
+        filled(&[6, 0, 2, 0, 0, 1, 9]),
+        filled(&[4, 0, 2, 0, 1, 0, 6, 0xff, 0xff, 0, 0, 0, 2, 0]),
+        filled(&[4, 0, 7, 0, 2, 0, 5, 0xff, 0xff, 0, 0, 0, 1, 1]),
+    ];
+    let same = is_compacted_to(rt.alloc(), &book, &left).ok();
+    assert!(rt; same == Some(true));
     Ok(())
 }

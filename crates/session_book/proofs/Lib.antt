@@ -1,3 +1,5 @@
 pub mod Contents
 pub mod Steps
 pub mod Orders
+pub mod Folds
+pub mod Whole

@@ -1,3 +1,4 @@
 pub mod Books
 pub mod Records
 pub mod Told
+pub mod Spelling

@@ -1,13 +1,15 @@
 //! The book of an end, kept up record by record.
 
-ghost use Rattle.std.specs.Prelude.{◌≡◌, ◌+◌, ◌<◌, ◌≤◌, nat_lt, ltb, true, false, is_some, max, length, OnOk, OnErr};
+ghost use Rattle.std.specs.Prelude.{◌≡◌, ◌+◌, ◌<◌, ◌≤◌, ◌++◌, nat_lt, ltb, true, false, is_some, map, max, length, IfOk, OnOk, OnErr, Ok};
 ghost use Rattle.std.specs.Vec.{vec_capacity, vec_len};
 ghost use Rattle.std.specs.List.Sorted.{IsPartitionPoint};
 ghost use Rattle.wire_base.specs.Answers.{Gives};
 ghost use Rattle.session_book.specs.Books.{AreRising, nothing_kept, place, entry, put, calls_of, ceiling, last, is_free, tunnel_at, call_at, tunnel_fits, call_fits, fits, raised, stepped, mark_on, marked, tunnels_without, calls_without, calls_not_of, is_in_place, after_content, book_of};
+ghost use Rattle.session_book.specs.Spelling.{content_of, contents_of, FitsBytes, IsWhole, ceiling_records, tunnel_records, tunnels_records, calls_records};
 ghost use Rattle.session_book.specs.Told.{Told};
 
 use crate::record::{BookCall, BookTunnel, KeptCalls, KeptTunnels, Record, read_record};
+use crate::writing;
 use std::alloc::Global;
 use std::marker::Model;
 use wire_base::{Contents, NoMemory};
@@ -51,12 +53,16 @@ pub struct Book {
 impl Model for Book {
     ghost use Rattle.std.specs.Vec.{vec_capacity};
     ghost use Rattle.session_book.specs.Books.{Kept, Held, IsSound};
+    ghost use Rattle.session_book.specs.Spelling.{IsWhole};
 
     ghost Value = { Held };
 
     ghost view = { λ b. record { kept = record { tunnel_ceiling = b.tunnel_ceiling; session_ceiling = b.session_ceiling; draw_ceiling = b.draw_ceiling; tunnels = b.tunnels.items; calls = b.calls.items }; spare = b.spare } };
 
-    ghost invariant = { λ b. IsSound b.tunnels.items b.calls.items b.spare (vec_capacity b.tunnels) (vec_capacity b.calls) };
+    ghost invariant = { λ b. record {
+      sound : IsSound b.tunnels.items b.calls.items b.spare (vec_capacity b.tunnels) (vec_capacity b.calls);
+      whole : IsWhole (record { tunnel_ceiling = b.tunnel_ceiling; session_ceiling = b.session_ceiling; draw_ceiling = b.draw_ceiling; tunnels = b.tunnels.items; calls = b.calls.items });
+    } };
 }
 
 impl Book {
@@ -145,6 +151,29 @@ impl Book {
             3 => self.draw_ceiling,
             _ => 0,
         }
+    }
+
+    /// The contents that have this book, and nothing of how it came about: the ceilings that aren't 0 by their spaces; then
+    /// each tunnel, by rising ids, and behind it its mark where that isn't 0; then each call, by rising ids.
+    pub fn contents(&self, alloc: Global) -> Result<Contents, NoMemory>
+        ensures contents { IfOk result (λ contents. contents ≡ contents_of self.now.kept) }
+        ensures same { IfOk result (λ contents. book_of contents ≡ Ok self.now.kept) }
+    {
+        self.gather(alloc)
+    }
+
+    // The contents of its ceilings, tunnels and calls.
+    fn gather(&self, alloc: Global) -> Result<Contents, NoMemory>
+        ensures contents { IfOk result (λ contents. contents ≡ contents_of self.now.kept) }
+        ensures whole { IsWhole self.now.kept }
+    {
+        let mut contents = Contents::new(alloc);
+        push_ceiling(&mut contents, 1, self.tunnel_ceiling)?;
+        push_ceiling(&mut contents, 2, self.session_ceiling)?;
+        push_ceiling(&mut contents, 3, self.draw_ceiling)?;
+        push_tunnels(&mut contents, self.tunnels.as_slice())?;
+        push_calls(&mut contents, self.calls.as_slice())?;
+        Ok(contents)
     }
 
     // Takes a content in, and says whether it is in place.
@@ -241,6 +270,7 @@ impl Book {
     fn take(&mut self, next: Record)
         requires spare { 0 < self.old.spare }
         requires fits { fits self.old.kept next ≡ true }
+        requires bytes { FitsBytes next }
         ensures kept { self.new.kept ≡ stepped self.old.kept next }
         ensures spare { self.new.spare + 1 ≡ self.old.spare }
     {
@@ -254,12 +284,14 @@ impl Book {
             }
             Record::CallUp(call) => put_call(&mut self.calls, call),
             Record::CallDown { local } => remove_call(&mut self.calls, local),
-            Record::Mark { tunnel, mark } => set_mark(&mut self.tunnels, tunnel, mark),
+            Record::Mark { tunnel, mark } => mark_tunnel(&mut self.tunnels, tunnel, mark),
         }
     }
 
     // Sets the ceiling of a space.
     fn raise(&mut self, space: u8, number: u32)
+        requires above { ceiling self.old.kept space < number }
+        requires within { number ≤ last space }
         ensures kept { self.new.kept ≡ raised space number self.old.kept }
         ensures spare { self.new.spare ≡ self.old.spare }
     {
@@ -270,6 +302,45 @@ impl Book {
             _ => (),
         }
     }
+}
+
+// The content of a ceiling, behind others, unless it is 0.
+fn push_ceiling(contents: &mut Contents, space: u8, number: u32) -> Result<(), NoMemory>
+    ensures { OnOk result (contents.new ≡ contents.old ++ map (λ r. content_of r) (ceiling_records space number)) }
+{
+    if number > 0 {
+        contents.push(writing::ceiling(space, number))?;
+    }
+    Ok(())
+}
+
+// The contents of a tunnel, behind others.
+fn push_tunnel(contents: &mut Contents, tunnel: BookTunnel) -> Result<(), NoMemory>
+    ensures { OnOk result (contents.new ≡ contents.old ++ map (λ r. content_of r) (tunnel_records tunnel)) }
+{
+    contents.push(writing::tunnel_up(tunnel))?;
+    if tunnel.mark > 0 {
+        contents.push(writing::mark(tunnel.local, tunnel.mark))?;
+    }
+    Ok(())
+}
+
+fn push_tunnels(contents: &mut Contents, tunnels: &[BookTunnel]) -> Result<(), NoMemory>
+    ensures { OnOk result (contents.new ≡ contents.old ++ map (λ r. content_of r) (tunnels_records tunnels.now)) }
+{
+    for tunnel in tunnels {
+        push_tunnel(contents, *tunnel)?;
+    }
+    Ok(())
+}
+
+fn push_calls(contents: &mut Contents, calls: &[BookCall]) -> Result<(), NoMemory>
+    ensures { OnOk result (contents.new ≡ contents.old ++ map (λ r. content_of r) (calls_records calls.now)) }
+{
+    for call in calls {
+        contents.push(writing::call_up(*call))?;
+    }
+    Ok(())
 }
 
 // The last number of a space.
@@ -385,6 +456,16 @@ fn remove_calls_of(calls: &mut Vec<BookCall>, tunnel: u16)
     ensures capacity { vec_capacity calls.new ≡ vec_capacity calls.old }
 {
     calls.retain(|call| call.tunnel != tunnel);
+}
+
+fn mark_tunnel(tunnels: &mut Vec<BookTunnel>, local: u16, mark: u32)
+    requires { AreRising (λ t. t.local) tunnels.old.items }
+    ensures in_order { AreRising (λ t. t.local) tunnels.new.items }
+    ensures items { tunnels.new.items ≡ marked local mark tunnels.old.items }
+    ensures len { vec_len tunnels.new ≡ vec_len tunnels.old }
+    ensures capacity { vec_capacity tunnels.new ≡ vec_capacity tunnels.old }
+{
+    set_mark(tunnels, local, mark);
 }
 
 fn set_mark(tunnels: &mut [BookTunnel], local: u16, mark: u32)

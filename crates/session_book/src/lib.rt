@@ -3,6 +3,7 @@
 #![tactic(auto)]
 
 ghost use Rattle.session_book.specs.Books.{EachContentIsAStep};
+ghost use Rattle.session_book.specs.Spelling.{RecordsAreReadAgain, ContentsKeepTheBook, RecordsKeepItWhole};
 
 mod book;
 mod record;
@@ -17,4 +18,20 @@ pub use writing::{call_down, call_up, ceiling, mark, tunnel_down, tunnel_up};
 /// checkpoint.
 pub fn a_content_is_one_step()
     ensures { EachContentIsAStep }
+{}
+
+/// A law: the content that spells a record is read as that record, where the fields fit their bytes.
+pub fn records_are_read_again()
+    ensures { RecordsAreReadAgain }
+{}
+
+/// A law: the contents that a book is compacted to have that book, where what it holds fits together.
+pub fn contents_keep_the_book()
+    ensures { ContentsKeepTheBook }
+{}
+
+/// A law: what a book of no records holds fits together, and after each record that is in place and fits its bytes it does
+/// so again.
+pub fn records_keep_a_book_whole()
+    ensures { RecordsKeepItWhole }
 {}

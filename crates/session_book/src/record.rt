@@ -1,7 +1,8 @@
 //! The records of a checkpoint as the 31 bytes of their contents.
 
-ghost use Rattle.std.specs.Prelude.{◌≡◌, ◌+◌, ◌≤◌};
+ghost use Rattle.std.specs.Prelude.{◌≡◌, ◌+◌, ◌≤◌, IfSome};
 ghost use Rattle.session_book.specs.Records.{number, is_zero_from, ceiling_of, tunnel_up_of, tunnel_down_of, call_up_of, call_down_of, mark_of, record_of};
+ghost use Rattle.session_book.specs.Spelling.{FitsBytes};
 
 use byteorder::{BigEndian, ByteOrder};
 
@@ -63,7 +64,8 @@ pub enum Record {
 /// byte that says whether a call is sequenced is neither 0 nor 1.
 #[tactic(auto, unfolding(crate::specs::Records::record_of))]
 pub fn read_record(content: &[u8; 31]) -> Option<Record>
-    ensures { result ≡ record_of content.now }
+    ensures read { result ≡ record_of content.now }
+    ensures fits { IfSome result FitsBytes }
 {
     match content[0] {
         1 => read_ceiling(content),
@@ -102,7 +104,8 @@ fn is_zero_from(content: &[u8; 31], at: usize) -> bool
 }
 
 fn read_ceiling(content: &[u8; 31]) -> Option<Record>
-    ensures { result ≡ ceiling_of content.now }
+    ensures read { result ≡ ceiling_of content.now }
+    ensures fits { IfSome result FitsBytes }
 {
     if !is_zero_from(content, 6) {
         return None;
@@ -114,7 +117,8 @@ fn read_ceiling(content: &[u8; 31]) -> Option<Record>
 }
 
 fn read_tunnel_up(content: &[u8; 31]) -> Option<Record>
-    ensures { result ≡ tunnel_up_of content.now }
+    ensures read { result ≡ tunnel_up_of content.now }
+    ensures fits { IfSome result FitsBytes }
 {
     if !is_zero_from(content, 13) {
         return None;
@@ -130,7 +134,8 @@ fn read_tunnel_up(content: &[u8; 31]) -> Option<Record>
 }
 
 fn read_tunnel_down(content: &[u8; 31]) -> Option<Record>
-    ensures { result ≡ tunnel_down_of content.now }
+    ensures read { result ≡ tunnel_down_of content.now }
+    ensures fits { IfSome result FitsBytes }
 {
     if !is_zero_from(content, 3) {
         return None;
@@ -141,7 +146,8 @@ fn read_tunnel_down(content: &[u8; 31]) -> Option<Record>
 }
 
 fn read_call_up(content: &[u8; 31]) -> Option<Record>
-    ensures { result ≡ call_up_of content.now }
+    ensures read { result ≡ call_up_of content.now }
+    ensures fits { IfSome result FitsBytes }
 {
     if !is_zero_from(content, 14) || content[13] > 1 {
         return None;
@@ -158,7 +164,8 @@ fn read_call_up(content: &[u8; 31]) -> Option<Record>
 }
 
 fn read_call_down(content: &[u8; 31]) -> Option<Record>
-    ensures { result ≡ call_down_of content.now }
+    ensures read { result ≡ call_down_of content.now }
+    ensures fits { IfSome result FitsBytes }
 {
     if !is_zero_from(content, 3) {
         return None;
@@ -169,7 +176,8 @@ fn read_call_down(content: &[u8; 31]) -> Option<Record>
 }
 
 fn read_mark(content: &[u8; 31]) -> Option<Record>
-    ensures { result ≡ mark_of content.now }
+    ensures read { result ≡ mark_of content.now }
+    ensures fits { IfSome result FitsBytes }
 {
     if !is_zero_from(content, 7) {
         return None;

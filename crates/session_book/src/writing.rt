@@ -3,6 +3,7 @@
 ghost use Rattle.std.specs.Prelude.{◌≡◌, ◌+◌, ◌^◌, ◌<◌, ◌≤◌, length, Some};
 ghost use Rattle.wire_base.specs.Numbers.{u16_bytes, u32_bytes};
 ghost use Rattle.session_book.specs.Records.{record_of, with_bytes};
+ghost use Rattle.session_book.specs.Spelling.{content_of};
 ghost use Rattle.session_book.specs.declared.record.Record.TheVariants as records;
 
 use crate::record::{BookCall, BookTunnel};
@@ -10,7 +11,8 @@ use byteorder::{BigEndian, ByteOrder};
 
 /// The content that raises the ceiling of a space: 1 has the tunnel ids, 2 the session ids, 3 the draw numbers.
 pub fn ceiling(space: u8, number: u32) -> [u8; 31]
-    ensures { record_of result ≡ Some (records.Ceiling space number) }
+    ensures read { record_of result ≡ Some (records.Ceiling space number) }
+    ensures bytes { result ≡ content_of (records.Ceiling space number) }
 {
     let mut content = [0; 31];
     content[0] = 1;
@@ -21,7 +23,8 @@ pub fn ceiling(space: u8, number: u32) -> [u8; 31]
 
 /// The content of a tunnel that is established. It doesn't speak of the mark.
 pub fn tunnel_up(tunnel: BookTunnel) -> [u8; 31]
-    ensures { record_of result ≡ Some (records.TunnelUp (record tunnel { mark = 0 })) }
+    ensures read { record_of result ≡ Some (records.TunnelUp (record tunnel { mark = 0 })) }
+    ensures bytes { result ≡ content_of (records.TunnelUp (record tunnel { mark = 0 })) }
 {
     let mut content = [0; 31];
     content[0] = 2;
@@ -35,7 +38,8 @@ pub fn tunnel_up(tunnel: BookTunnel) -> [u8; 31]
 
 /// The content of a tunnel that is gone, with its calls.
 pub fn tunnel_down(local: u16) -> [u8; 31]
-    ensures { record_of result ≡ Some (records.TunnelDown local) }
+    ensures read { record_of result ≡ Some (records.TunnelDown local) }
+    ensures bytes { result ≡ content_of (records.TunnelDown local) }
 {
     let mut content = [0; 31];
     content[0] = 3;
@@ -45,7 +49,8 @@ pub fn tunnel_down(local: u16) -> [u8; 31]
 
 /// The content of a call that is established.
 pub fn call_up(call: BookCall) -> [u8; 31]
-    ensures { record_of result ≡ Some (records.CallUp call) }
+    ensures read { record_of result ≡ Some (records.CallUp call) }
+    ensures bytes { result ≡ content_of (records.CallUp call) }
 {
     let mut content = [0; 31];
     content[0] = 4;
@@ -59,7 +64,8 @@ pub fn call_up(call: BookCall) -> [u8; 31]
 
 /// The content of a call that is gone.
 pub fn call_down(local: u16) -> [u8; 31]
-    ensures { record_of result ≡ Some (records.CallDown local) }
+    ensures read { record_of result ≡ Some (records.CallDown local) }
+    ensures bytes { result ≡ content_of (records.CallDown local) }
 {
     let mut content = [0; 31];
     content[0] = 5;
@@ -69,7 +75,8 @@ pub fn call_down(local: u16) -> [u8; 31]
 
 /// The content of a recovery that a tunnel has seen.
 pub fn mark(tunnel: u16, mark: u32) -> [u8; 31]
-    ensures { record_of result ≡ Some (records.Mark tunnel mark) }
+    ensures read { record_of result ≡ Some (records.Mark tunnel mark) }
+    ensures bytes { result ≡ content_of (records.Mark tunnel mark) }
 {
     let mut content = [0; 31];
     content[0] = 6;

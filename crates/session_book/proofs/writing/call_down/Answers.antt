@@ -1,5 +1,8 @@
-use Rattle.session_book.proofs.Contents.{call_down_read}
+use Rattle.session_book.proofs.Contents.{call_down_read, call_down_spelled}
 use Rattle.session_book.proofs.writing.call_down.Goals as goal
 
-pub returns : goal.returns
-returns c = rw c.put_u16.ensures.bytes (call_down_read c.args.local c.put_u16.ensures.fits)
+pub returns-clause-read : goal.returns-clause-read
+returns-clause-read c = rw c.put_u16.ensures.bytes (call_down_read c.args.local c.put_u16.ensures.fits)
+
+pub returns-clause-bytes : goal.returns-clause-bytes
+returns-clause-bytes c = rw c.put_u16.ensures.bytes (call_down_spelled c.args.local c.put_u16.ensures.fits)
