@@ -1,0 +1,6 @@
+pub mod Judging
+pub mod Secrets
+pub mod Connections
+pub mod Attempts
+pub mod Answers
+pub mod History
