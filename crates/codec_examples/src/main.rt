@@ -32,7 +32,7 @@ fn answer(alloc: Global, line: &str) -> Result<String, Fault> {
         "put_u16" | "put_u32" | "take_u16" | "take_u32" => base_row(&row),
         "read_header" | "write_control" | "write_data" => base_row(&row),
         "write_avp" => write_avp_row(&row),
-        "read_avps" | "read_message" | "kind_of_pairs" => pairs_row(&row),
+        "read_avps" | "read_message" | "read_base" | "kind_of_pairs" => pairs_row(&row),
         "assigned_tunnel" | "assigned_session" => pairs_row(&row),
         "write_message" => write_message_row(&row),
         "write_hidden" => write_hidden_row(&row),

@@ -1,13 +1,13 @@
 //! Rows of control messages.
 
 ghost use Rattle.std.specs.Prelude.{◌≡◌, ◌<◌, None, IfOk};
-ghost use Rattle.control_message.specs.Pairs.{IsWritten, IsWrittenOpening};
+ghost use Rattle.control_message.specs.Pairs.{IsWritten, IsWrittenOpening, AreWrittenSessions};
 
 use crate::row::{Fault, Row};
 use crate::spelling::told;
 use avp_codec::read_avps;
 use control_message::*;
-use wire_base::{Bytes, NoMemory};
+use wire_base::{Bytes, NoMemory, Pair, Pairs};
 
 /// The answer of a call that reads pairs.
 pub fn pairs_row(row: &Row<'_>) -> Result<String, Fault> {
@@ -19,9 +19,13 @@ pub fn pairs_row(row: &Row<'_>) -> Result<String, Fault> {
         "read_avps" => told(row.alloc, &Ok::<_, Fault>(avps)),
         "read_message" => told(
             row.alloc,
-            &read_message(row.alloc, &avps, row.some_bytes(2, 99)),
+            &read_message(row.alloc, &avps, row.some_bytes(2, 99), Kinds::Queries),
         ),
-        "kind_of_pairs" => told(row.alloc, &kind_of_pairs(&avps)),
+        "read_base" => told(
+            row.alloc,
+            &read_message(row.alloc, &avps, row.some_bytes(2, 99), Kinds::Base),
+        ),
+        "kind_of_pairs" => told(row.alloc, &kind_of_pairs(&avps, Kinds::Queries)),
         "assigned_tunnel" => told(row.alloc, &assigned_tunnel(&avps)),
         "assigned_session" => told(row.alloc, &assigned_session(&avps)),
         _ => Err(Fault::NotARow),
@@ -96,6 +100,28 @@ fn reply(row: &Row<'_>, tunnel: u16, window: u16) -> Result<Message, NoMemory>
     Ok(Message::Sccrp(opening))
 }
 
+/// A session by its two ids, where both are spelled.
+fn session(row: &Row<'_>, sender: usize, receiver: usize) -> Option<Pair> {
+    match (row.some_long(sender), row.some_long(receiver)) {
+        (Some(sender), Some(receiver)) => Some(Pair { sender, receiver }),
+        _ => None,
+    }
+}
+
+/// Two sessions at most.
+fn sessions(row: &Row<'_>) -> Result<Pairs, NoMemory>
+    ensures { IfOk result AreWrittenSessions }
+{
+    let mut sessions = Pairs::new(row.alloc);
+    if let Some(session) = session(row, 3, 4) {
+        sessions.push(session)?;
+    }
+    if let Some(session) = session(row, 5, 6) {
+        sessions.push(session)?;
+    }
+    Ok(sessions)
+}
+
 fn message(row: &Row<'_>) -> Result<Message, Fault>
     ensures { IfOk result IsWritten }
 {
@@ -112,6 +138,8 @@ fn message(row: &Row<'_>) -> Result<Message, Fault>
             response: row.some_array(3),
         }),
         "Hello" => Ok(Message::Hello),
+        "Fsq" => Ok(Message::Fsq(sessions(row)?)),
+        "Fsr" => Ok(Message::Fsr(sessions(row)?)),
         "StopCcn" => Ok(Message::StopCcn {
             tunnel: row.short(3),
             result: row.short(4),
@@ -148,7 +176,10 @@ fn told_message(
     secret: Option<&[u8]>,
 ) -> Result<String, Fault> {
     match read_avps(row.alloc, alone.as_slice()) {
-        Ok(avps) => told(row.alloc, &(out, read_message(row.alloc, &avps, secret))),
+        Ok(avps) => told(
+            row.alloc,
+            &(out, read_message(row.alloc, &avps, secret, Kinds::Queries)),
+        ),
         Err(_) => Err(Fault::NotARow),
     }
 }

@@ -1,7 +1,7 @@
 -- What a message that was sent is read as: it, but that a request may have another Calling Number, or none that can be had.
 use Rattle.std.proofs.Common.{◌≡◌, ℕ, List, [], refl, sym, ap, ◌∙◌, subst, Option, Some, None, Result, Ok, Err}
 use Rattle.control_message.specs.declared.message.Message.{Message}
-use Rattle.control_message.specs.declared.message.Message.TheVariants.{Sccrq, Sccrp, Scccn, StopCcn, Hello, Ocrq, Ocrp, Occn, Icrq, Icrp, Iccn, Cdn, Wen, Sli}
+use Rattle.control_message.specs.declared.message.Message.TheVariants.{Sccrq, Sccrp, Scccn, StopCcn, Hello, Ocrq, Ocrp, Occn, Icrq, Icrp, Iccn, Cdn, Wen, Sli, Fsq, Fsr}
 use Rattle.control_message.specs.declared.message.Opening.{Opening}
 use Rattle.end_model.specs.declared.event.Addressee.TheVariants.{Opens, Stops}
 use Rattle.end_model.specs.Reading.{message_in, CallFault, call_fault_in, TunnelFault, tunnel_fault_in, at_zero}
@@ -28,6 +28,8 @@ IsNoRequest (Iccn speed framing sequenced) = Unit {0}
 IsNoRequest (Cdn own code error) = Unit {0}
 IsNoRequest Wen = Unit {0}
 IsNoRequest Sli = Unit {0}
+IsNoRequest (Fsq sessions) = Unit {0}
+IsNoRequest (Fsr sessions) = Unit {0}
 
 -- what holds of a message whatever its Calling Number
 pub record IsOfAll (P : Message → Type 0) : Type 0 where
@@ -53,6 +55,8 @@ of_all P to back = record { without = to_all; again = back_all }
     to_all (Cdn own code error) h = h
     to_all Wen h = h
     to_all Sli h = h
+    to_all (Fsq sessions) h = h
+    to_all (Fsr sessions) h = h
 
     back_all : (m : Message) → P (without_number m) → P m
     back_all (Icrq own serial calling) h = back own serial calling h
@@ -69,6 +73,8 @@ of_all P to back = record { without = to_all; again = back_all }
     back_all (Cdn own code error) h = h
     back_all Wen h = h
     back_all Sli h = h
+    back_all (Fsq sessions) h = h
+    back_all (Fsr sessions) h = h
 
 -- then it holds of each that is alike
 pub carried : (P : Message → Type 0) → IsOfAll P → (m x : Message) → AreAlike m x → P x → P m
@@ -102,6 +108,8 @@ itself (Iccn speed framing sequenced) h = refl
 itself (Cdn own code error) h = refl
 itself Wen h = refl
 itself Sli h = refl
+itself (Fsq sessions) h = refl
+itself (Fsr sessions) h = refl
 
 no_request_alike : (m x : Message) → AreAlike m x → IsNoRequest x → IsNoRequest m
 no_request_alike m x alike h =
@@ -133,6 +141,8 @@ request_by (Iccn speed framing sequenced) own serial h = absurd cc
 request_by (Cdn x code error) own serial h = absurd cc
 request_by Wen own serial h = absurd cc
 request_by Sli own serial h = absurd cc
+request_by (Fsq sessions) own serial h = absurd cc
+request_by (Fsr sessions) own serial h = absurd cc
 
 pub request_alike : (m : Message) (own serial : ℕ) (calling : Option (List ℕ)) → AreAlike m (Icrq own serial calling) → IsRequestFor m own serial
 request_alike m own serial calling alike = request_by m own serial alike

@@ -5,7 +5,7 @@ use Rattle.control_message.specs.declared.message.Message.{Message}
 use Rattle.control_message.specs.declared.message.Message.TheVariants.{Sccrq, Sccrp}
 use Rattle.control_message.specs.declared.message.MessageError.{MessageError}
 use Rattle.control_message.specs.declared.message.Read.{Read}
-use Rattle.control_message.specs.Reading.{message_of, kind_of_pairs}
+use Rattle.control_message.specs.Reading.{message_of, kind_of_pairs, message_by, kind_by}
 use Rattle.avp_codec.specs.declared.avp.Avp.{Avp}
 use Rattle.avp_codec.specs.declared.error.AvpError.{AvpError}
 use Rattle.avp_codec.specs.Reading.{avps_of}
@@ -95,7 +95,7 @@ openings_are_acceptable codecs accs n e sender ev within peer session o which =
 
 -- where there are no pairs, there is no message
 no_fault_in_none : Codecs → call_fault_in [] ≡ None
-unfolding call_fault_in fault_of_pairs message_of kind_of_pairs
+unfolding call_fault_in fault_of_pairs message_by kind_by
 no_fault_in_none codecs = rw (codecs.pairs [] tt) refl
 
 pub faults_are_of_requests : Codecs → FaultsAreOfRequests

@@ -8,13 +8,13 @@ use Rattle.avp_codec.specs.Spelling.{spelling}
 use Rattle.wire_base.specs.declared.why.Why.TheVariants as why
 use Rattle.l2tp_header.specs.Spelling.{control_bytes}
 use Rattle.control_message.specs.declared.message.Message.{Message}
-use Rattle.control_message.specs.declared.message.Message.TheVariants.{Sccrq, Sccrp, Scccn, StopCcn, Hello, Ocrq, Ocrp, Occn, Icrq, Icrp, Iccn, Cdn, Wen, Sli}
+use Rattle.control_message.specs.declared.message.Message.TheVariants.{Sccrq, Sccrp, Scccn, StopCcn, Hello, Ocrq, Ocrp, Occn, Icrq, Icrp, Iccn, Cdn, Wen, Sli, Fsq, Fsr}
 use Rattle.control_message.specs.declared.message.MessageError.{MessageError}
 use Rattle.control_message.specs.declared.message.Opening.{Opening}
 use Rattle.control_message.specs.declared.message.Read.{Read}
 use Rattle.control_message.specs.declared.message.Read.TheVariants.{Known, Ignored}
 use Rattle.control_message.specs.Pairs.{pairs_of}
-use Rattle.control_message.specs.Reading.{message_of, kind_of_pairs}
+use Rattle.control_message.specs.Reading.{message_of, kind_of_pairs, message_by, kind_by}
 use Rattle.recv_window.specs.Window.{on_wire}
 use Rattle.end_model.specs.declared.event.Addressee.TheVariants.{Stops, Answers, Nobody}
 use Rattle.end_model.specs.declared.event.Event.{Event}
@@ -64,6 +64,8 @@ known_answers avps (Iccn speed framing sequenced) r h = absurd cc
 known_answers avps (Cdn session code error) r h = absurd cc
 known_answers avps Wen r h = absurd cc
 known_answers avps Sli r h = absurd cc
+known_answers avps (Fsq sessions) r h = absurd cc
+known_answers avps (Fsr sessions) r h = absurd cc
 
 read_answers : (avps : List Avp) (x : Result Read MessageError) (m : Message) (r : ℕ) → message_read x ≡ Ok m → zero_read avps x ≡ Answers r → IsReply m
 unfolding message_read
@@ -91,7 +93,7 @@ read_answers_as m body (AsAFault avps own serial number is small pairs fault kin
 
 -- no pairs are none
 empty_answers_none : (r : ℕ) → at_zero [] ≡ Answers r → ⊥
-unfolding at_zero zero_pairs zero_read avps_at message_of kind_of_pairs
+unfolding at_zero zero_pairs zero_read avps_at message_by kind_by
 empty_answers_none r h = absurd cc
 
 reply_opens : (m : Message) (o : Opening) → m ≡ Sccrp o → IsNoOpening m → ⊥

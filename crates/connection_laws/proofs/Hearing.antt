@@ -13,7 +13,7 @@ use Rattle.control_message.specs.declared.message.Message.{Message}
 use Rattle.control_message.specs.declared.message.Message.TheVariants.{Sccrq, Sccrp, StopCcn}
 use Rattle.control_message.specs.declared.message.Opening.{Opening}
 use Rattle.control_message.specs.Pairs.{pairs_of}
-use Rattle.control_message.specs.Reading.{message_of}
+use Rattle.control_message.specs.Reading.{message_of, message_by}
 use Rattle.recv_window.specs.Window.{on_wire}
 use Rattle.end_model.specs.declared.event.Event.{Event}
 use Rattle.end_model.specs.declared.event.Event.TheVariants.{Datagram, Ring, Frame, Admitted, Payload, Lower, Lcp, Hang, OpenTunnel, DropCall, CloseTunnel, Tick}
@@ -145,7 +145,7 @@ all_at P (y ∷ xs) (suc k) x is h = all_at P xs k x is h.1
 module _ (codecs : Codecs) where
   -- no pairs make no message
   pub no_message : (m : Message) → message_in [] ≡ Ok m → ⊥
-  unfolding message_in pairs_read message_read message_of
+  unfolding message_in pairs_read message_read message_by
   no_message m h = let none = codecs.pairs [] tt in (let g = rw none at h in cc)
 
   -- of a control message the header and the pairs

@@ -5,7 +5,7 @@ use Rattle.id_table.specs.Ids.{at}
 use Rattle.id_table.specs.Order.{same_or_not}
 use Rattle.l2tp_header.specs.declared.header.Header.{Header}
 use Rattle.control_message.specs.declared.message.Message.{Message}
-use Rattle.control_message.specs.declared.message.Message.TheVariants.{Sccrq, Sccrp, Scccn, StopCcn, Hello, Ocrq, Ocrp, Occn, Icrq, Icrp, Iccn, Cdn, Wen, Sli}
+use Rattle.control_message.specs.declared.message.Message.TheVariants.{Sccrq, Sccrp, Scccn, StopCcn, Hello, Ocrq, Ocrp, Occn, Icrq, Icrp, Iccn, Cdn, Wen, Sli, Fsq, Fsr}
 use Rattle.control_message.specs.declared.message.Opening.{Opening}
 use Rattle.recv_window.specs.declared.Class.TheVariants.{Next}
 use Rattle.recv_window.specs.Window.{class_of, ClassIsTrue}
@@ -60,6 +60,8 @@ stop_said Ocrp s = absurd s
 stop_said Occn s = absurd s
 stop_said Wen s = absurd s
 stop_said Sli s = absurd s
+stop_said (Fsq sessions) s = absurd s
+stop_said (Fsr sessions) s = absurd s
 stop_said (Icrq session serial calling) s = absurd s
 stop_said (Icrp session) s = absurd s
 stop_said (Iccn speed framing sequenced) s = absurd s

@@ -3,7 +3,7 @@ use Rattle.std.proofs.Common.{◌≡◌, ⊎_elim, ℕ, List, refl, sym, ap, ◌
 use Rattle.std.specs.Prelude.{length, slice_get}
 use Rattle.l2tp_header.specs.declared.header.Header.{Header}
 use Rattle.control_message.specs.declared.message.Message.{Message}
-use Rattle.control_message.specs.declared.message.Message.TheVariants.{Sccrq, Sccrp, Scccn, StopCcn, Hello, Ocrq, Ocrp, Occn, Icrq, Icrp, Iccn, Cdn, Wen, Sli}
+use Rattle.control_message.specs.declared.message.Message.TheVariants.{Sccrq, Sccrp, Scccn, StopCcn, Hello, Ocrq, Ocrp, Occn, Icrq, Icrp, Iccn, Cdn, Wen, Sli, Fsq, Fsr}
 use Rattle.recv_window.specs.Window.{ClassIsTrue}
 use Rattle.end_model.specs.declared.event.Event.{Event}
 use Rattle.end_model.specs.declared.out.ControlOrigin.{ControlOrigin}
@@ -43,6 +43,8 @@ no_stop_is Ocrp p s = s
 no_stop_is Occn p s = s
 no_stop_is Wen p s = s
 no_stop_is Sli p s = s
+no_stop_is (Fsq sessions) p s = s
+no_stop_is (Fsr sessions) p s = s
 no_stop_is (Icrq session serial calling) p s = s
 no_stop_is (Icrp session) p s = s
 no_stop_is (Iccn speed framing sequenced) p s = s

@@ -6,11 +6,11 @@ use Rattle.avp_codec.specs.declared.error.AvpError.{AvpError}
 use Rattle.avp_codec.specs.Reading.{avps_of}
 use Rattle.wire_base.specs.declared.why.Why.TheVariants as why
 use Rattle.control_message.specs.declared.message.Message.{Message}
-use Rattle.control_message.specs.declared.message.Message.TheVariants.{Sccrq, Sccrp, Scccn, StopCcn, Hello, Ocrq, Ocrp, Occn, Icrq, Icrp, Iccn, Cdn, Wen, Sli}
+use Rattle.control_message.specs.declared.message.Message.TheVariants.{Sccrq, Sccrp, Scccn, StopCcn, Hello, Ocrq, Ocrp, Occn, Icrq, Icrp, Iccn, Cdn, Wen, Sli, Fsq, Fsr}
 use Rattle.control_message.specs.declared.message.MessageError.{MessageError}
 use Rattle.control_message.specs.declared.message.Read.{Read}
 use Rattle.control_message.specs.declared.message.Read.TheVariants.{Known, Ignored}
-use Rattle.control_message.specs.Reading.{message_of, kind_of_pairs}
+use Rattle.control_message.specs.Reading.{message_of, kind_of_pairs, message_by, kind_by}
 use Rattle.end_model.specs.declared.event.Addressee.TheVariants.{Stops, Nobody}
 use Rattle.end_model.specs.Reading.{message_in, pairs_read, message_read, stopped, at_zero, zero_pairs, zero_read}
 use Rattle.frame_laws.specs.Codecs.{Codecs}
@@ -43,6 +43,8 @@ message_tells avps Ocrp r h = absurd cc
 message_tells avps Occn r h = absurd cc
 message_tells avps Wen r h = absurd cc
 message_tells avps Sli r h = absurd cc
+message_tells avps (Fsq sessions) r h = absurd cc
+message_tells avps (Fsr sessions) r h = absurd cc
 message_tells avps (Icrq session serial calling) r h = absurd cc
 message_tells avps (Icrp session) r h = absurd cc
 message_tells avps (Iccn speed framing sequenced) r h = absurd cc
@@ -66,5 +68,5 @@ stops_by body m r said h = pairs_tell (avps_of body) m r said h
 
 -- no pairs are no StopCCN
 pub no_stop : Codecs → (r : ℕ) → at_zero [] ≡ Stops r → ⊥
-unfolding at_zero zero_pairs zero_read message_of kind_of_pairs
+unfolding at_zero zero_pairs zero_read message_by kind_by
 no_stop codecs r h = let none = codecs.pairs [] tt in (let g = rw none at h in cc)

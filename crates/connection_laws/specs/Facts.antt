@@ -9,7 +9,7 @@ use Rattle.l2tp_header.specs.Reading.{header_of}
 use Rattle.l2tp_header.specs.Spelling.{control_bytes, data_bytes}
 use Rattle.avp_codec.specs.Spelling.{spelling}
 use Rattle.control_message.specs.declared.message.Message.{Message}
-use Rattle.control_message.specs.declared.message.Message.TheVariants.{Sccrq, Sccrp, Scccn, StopCcn, Hello, Ocrq, Ocrp, Occn, Icrq, Icrp, Iccn, Cdn, Wen, Sli}
+use Rattle.control_message.specs.declared.message.Message.TheVariants.{Sccrq, Sccrp, Scccn, StopCcn, Hello, Ocrq, Ocrp, Occn, Icrq, Icrp, Iccn, Cdn, Wen, Sli, Fsq, Fsr}
 use Rattle.control_message.specs.declared.message.Opening.{Opening}
 use Rattle.control_message.specs.Pairs.{pairs_of}
 use Rattle.recv_window.specs.Window.{on_wire}
@@ -58,6 +58,8 @@ IsNoOpening Ocrp = Unit {0}
 IsNoOpening Occn = Unit {0}
 IsNoOpening Wen = Unit {0}
 IsNoOpening Sli = Unit {0}
+IsNoOpening (Fsq sessions) = Unit {0}
+IsNoOpening (Fsr sessions) = Unit {0}
 IsNoOpening (Icrq session serial calling) = Unit {0}
 IsNoOpening (Icrp session) = Unit {0}
 IsNoOpening (Iccn speed framing sequenced) = Unit {0}
@@ -75,6 +77,8 @@ IsNoStop Ocrp = Unit {0}
 IsNoStop Occn = Unit {0}
 IsNoStop Wen = Unit {0}
 IsNoStop Sli = Unit {0}
+IsNoStop (Fsq sessions) = Unit {0}
+IsNoStop (Fsr sessions) = Unit {0}
 IsNoStop (Icrq session serial calling) = Unit {0}
 IsNoStop (Icrp session) = Unit {0}
 IsNoStop (Iccn speed framing sequenced) = Unit {0}
@@ -91,6 +95,8 @@ IsStopCcn Ocrp = ⊥
 IsStopCcn Occn = ⊥
 IsStopCcn Wen = ⊥
 IsStopCcn Sli = ⊥
+IsStopCcn (Fsq sessions) = ⊥
+IsStopCcn (Fsr sessions) = ⊥
 IsStopCcn (Icrq session serial calling) = ⊥
 IsStopCcn (Icrp session) = ⊥
 IsStopCcn (Iccn speed framing sequenced) = ⊥
@@ -173,6 +179,8 @@ TellsOwn i Ocrp = Unit {0}
 TellsOwn i Occn = Unit {0}
 TellsOwn i Wen = Unit {0}
 TellsOwn i Sli = Unit {0}
+TellsOwn i (Fsq sessions) = Unit {0}
+TellsOwn i (Fsr sessions) = Unit {0}
 TellsOwn i (Icrq session serial calling) = Unit {0}
 TellsOwn i (Icrp session) = Unit {0}
 TellsOwn i (Iccn speed framing sequenced) = Unit {0}

@@ -7,19 +7,22 @@ use Rattle.wire_base.specs.Numbers.{u16_bytes, u32_bytes}
 use Rattle.wire_base.specs.NumberLaws.{length-u16_bytes, length-u32_bytes}
 use Rattle.avp_codec.specs.declared.avp.Avp.{Avp}
 use Rattle.avp_codec.specs.Spelling.{AreAvps, Fits}
+use Rattle.control_message.specs.declared.kind.Kinds.{Kinds}
 use Rattle.control_message.specs.declared.kind.Kind.TheVariants as kind
 use Rattle.control_message.specs.declared.message.Message.{Message}
-use Rattle.control_message.specs.declared.message.Message.TheVariants.{Sccrq, Sccrp, Scccn, StopCcn, Hello, Ocrq, Ocrp, Occn, Icrq, Icrp, Iccn, Cdn, Wen, Sli}
+use Rattle.control_message.specs.declared.message.Message.TheVariants.{Sccrq, Sccrp, Scccn, StopCcn, Hello, Ocrq, Ocrp, Occn, Icrq, Icrp, Iccn, Cdn, Wen, Sli, Fsq, Fsr}
 use Rattle.control_message.specs.declared.message.Opening.{Opening}
 use Rattle.control_message.specs.declared.message.Failover.{Failover}
 use Rattle.control_message.specs.declared.message.Recovery.{Recovery}
 use Rattle.control_message.specs.declared.message.Suggested.{Suggested}
 use Rattle.control_message.specs.declared.message.Read.TheVariants.{Known}
 use Rattle.control_message.specs.Pairs.{pair, failover_pairs, recovery_pairs, suggested_pairs, draw_pairs, recovering_pairs, challenge_pairs, response_pairs, secret_pairs, told_pairs, opening_pairs, result_code_bytes, pairs_of, IsWritten, IsWrittenOpening}
-use Rattle.control_message.specs.Reading.{message_of, checked, checked_all, u16_at, u32_at, response_at, icrq_at, icrp_at, iccn_at, result_code_in, result_code_at, stop_ccn_at, cdn_at}
+use Rattle.control_message.specs.Grammar.{IsKnownTo}
+use Rattle.control_message.specs.Reading.{message_by, checked, checked_all, u16_at, u32_at, response_at, icrq_at, icrp_at, iccn_at, result_code_in, result_code_at, stop_ccn_at, cdn_at}
 use Rattle.control_message.proofs.Numbers.{short_again, long_again, told_value}
 use Rattle.control_message.proofs.Laws.{only}
-use Rattle.control_message.proofs.Written.{request_says, reply_says}
+use Rattle.control_message.proofs.Written.{request_says, reply_says, query_says, response_says}
+use Rattle.control_message.proofs.Sessions.{sessions_fit}
 
 -- ---- pairs
 
@@ -99,6 +102,8 @@ pairs_fit (Iccn speed framing sequenced) w = (fits_short 0 12 (omega arith), (fi
 pairs_fit (Cdn session result error) w = (fits_short 0 14 (omega arith), (result_code_fits result error, (fits_short 14 session (omega arith), tt)))
 pairs_fit Wen w = absurd w
 pairs_fit Sli w = absurd w
+pairs_fit (Fsq sessions) w = (fits_short 0 21 (omega arith), sessions_fit sessions)
+pairs_fit (Fsr sessions) w = (fits_short 0 22 (omega arith), sessions_fit sessions)
 
 -- ---- messages
 
@@ -106,16 +111,16 @@ is_not_zero : (x : ℕ) → x < 2 ^ 16 → 0 < x → (big_number 2 (u16_bytes x)
 is_not_zero x lt some = rw (short_again x lt) (ne_eqb x 0 (λ e. omega arith))
 
 -- an opening that was written is read again, in either message
-request_again : (o : Opening) → IsWrittenOpening o → o.response ≡ None → o.suggested ≡ None → message_of (opening_pairs 1 o) ≡ Ok (Known (Sccrq o))
-request_again o w unanswered unsuggested = only (opening_pairs 1 o) (Known (Sccrq o)) (request_says o w unanswered unsuggested)
+request_again : (known : Kinds) (o : Opening) → IsWrittenOpening o → o.response ≡ None → o.suggested ≡ None → message_by known (opening_pairs 1 o) ≡ Ok (Known (Sccrq o))
+request_again known o w unanswered unsuggested = only known (opening_pairs 1 o) (Known (Sccrq o)) (request_says known o w unanswered unsuggested)
 
-reply_again : (o : Opening) → IsWrittenOpening o → o.recovery ≡ None → message_of (opening_pairs 2 o) ≡ Ok (Known (Sccrp o))
-reply_again o w none = only (opening_pairs 2 o) (Known (Sccrp o)) (reply_says o w none)
+reply_again : (known : Kinds) (o : Opening) → IsWrittenOpening o → o.recovery ≡ None → message_by known (opening_pairs 2 o) ≡ Ok (Known (Sccrp o))
+reply_again known o w none = only known (opening_pairs 2 o) (Known (Sccrp o)) (reply_says known o w none)
 
-scccn_again : (r : Option (List ℕ)) → IfSome r (λ v. length v ≡ 16) → message_of (pairs_of (Scccn r)) ≡ Ok (Known (Scccn r))
-unfolding message_of checked response_at u16_bytes
-scccn_again None wide = refl
-scccn_again (Some r) wide = rw (eq-eqb (length r) 16 wide) refl
+scccn_again : (known : Kinds) (r : Option (List ℕ)) → IfSome r (λ v. length v ≡ 16) → message_by known (pairs_of (Scccn r)) ≡ Ok (Known (Scccn r))
+unfolding message_by checked response_at u16_bytes
+scccn_again known None wide = refl
+scccn_again known (Some r) wide = rw (eq-eqb (length r) 16 wide) refl
 
 icrq_checked : (session serial : ℕ) (v : List ℕ) → checked_all kind.Icrq [] (pairs_of (Icrq session serial (Some v))) ≡ Ok tt
 unfolding checked u16_bytes u32_bytes
@@ -165,21 +170,23 @@ stop_ccn_again : (tunnel result : ℕ) (error : Option ℕ) → IsWritten (StopC
 unfolding stop_ccn_at result_code_at u16_at u16_bytes
 stop_ccn_again tunnel result error w = rw (result_code_again result error w.1 w.2, short_again tunnel w.0) refl
 
-pub message_again : (m : Message) → IsWritten m → message_of (pairs_of m) ≡ Ok (Known m)
-unfolding message_of checked u16_bytes
-message_again (Sccrq o) w = request_again o w.0 w.1 w.2
-message_again (Sccrp o) w = reply_again o w.0 w.1
-message_again (Scccn response) w = scccn_again response w
-message_again (StopCcn tunnel result error) w = rw (stop_ccn_checked tunnel result error, stop_ccn_again tunnel result error w) refl
-message_again Hello w = refl
-message_again (Ocrq session) w = absurd w
-message_again Ocrp w = absurd w
-message_again Occn w = absurd w
-message_again (Icrq session serial calling) w =
+pub message_again : (known : Kinds) (m : Message) → IsKnownTo m known → IsWritten m → message_by known (pairs_of m) ≡ Ok (Known m)
+unfolding message_by checked u16_bytes
+message_again known (Sccrq o) is w = request_again known o w.0 w.1 w.2
+message_again known (Sccrp o) is w = reply_again known o w.0 w.1
+message_again known (Scccn response) is w = scccn_again known response w
+message_again known (StopCcn tunnel result error) is w = rw (stop_ccn_checked tunnel result error, stop_ccn_again tunnel result error w) refl
+message_again known Hello is w = refl
+message_again known (Ocrq session) is w = absurd w
+message_again known Ocrp is w = absurd w
+message_again known Occn is w = absurd w
+message_again known (Icrq session serial calling) is w =
     let number = told_value calling (λ v. length v ≤ 1017) w.2 in
     rw (number.1, icrq_checked session serial number.0, icrq_again session serial number.0 w.0 w.1) refl
-message_again (Icrp session) w = rw (icrp_checked session (is_not_zero session w.0 w.1), icrp_again session w.0) refl
-message_again (Iccn speed framing sequenced) w = rw (iccn_checked speed framing, iccn_again speed framing w.0 w.1, w.2) refl
-message_again (Cdn session result error) w = rw (cdn_checked session result error, cdn_again session result error w) refl
-message_again Wen w = absurd w
-message_again Sli w = absurd w
+message_again known (Icrp session) is w = rw (icrp_checked session (is_not_zero session w.0 w.1), icrp_again session w.0) refl
+message_again known (Iccn speed framing sequenced) is w = rw (iccn_checked speed framing, iccn_again speed framing w.0 w.1, w.2) refl
+message_again known (Cdn session result error) is w = rw (cdn_checked session result error, cdn_again session result error w) refl
+message_again known Wen is w = absurd w
+message_again known Sli is w = absurd w
+message_again known (Fsq sessions) is w = only known (pairs_of (Fsq sessions)) (Known (Fsq sessions)) (query_says known sessions is w)
+message_again known (Fsr sessions) is w = only known (pairs_of (Fsr sessions)) (Known (Fsr sessions)) (response_says known sessions is w)

@@ -14,8 +14,8 @@ use Rattle.control_message.specs.declared.kind.Shape.TheVariants.{Text, Short, N
 use Rattle.control_message.specs.declared.message.MessageError.{MessageError}
 use Rattle.control_message.specs.declared.message.MessageError.TheVariants.{NoType, UnknownType, UnknownMandatory, HiddenWithoutVector, BadValue, Missing, NoMemory}
 use Rattle.control_message.specs.Table.{look_up, shape_of, uses_of, uses_draw, fits}
-use Rattle.control_message.specs.Reading.{is_listed, is_recognised, first, first_draw, has_vector, checked_value, checked_use, checked_draw, checked, checked_all}
-use Rattle.control_message.specs.Grammar.{IsOfIetf, IsListed, IsRecognised, IsDraw}
+use Rattle.control_message.specs.Reading.{counts_once, is_listed, is_recognised, first, first_draw, has_vector, checked_value, checked_use, checked_draw, checked, checked_all}
+use Rattle.control_message.specs.Grammar.{IsAbsent, IsOfIetf, IsListed, IsRecognised, IsDraw}
 use Rattle.control_message.specs.Faults.{HasShape, IsUsed, IsUsedDraw, IsValued, HasFault, IsSound, IsFirstAlong}
 use Rattle.control_message.proofs.Firsts.{absent_first, first_absent, no_draw_first, first_no_draw, vector_or_none, vector_there, vector_none}
 
@@ -90,17 +90,25 @@ all_listed kind.Iccn = (refl, (refl, (refl, tt)))
 all_listed kind.Cdn = (refl, (refl, tt))
 all_listed kind.Wen = (refl, tt)
 all_listed kind.Sli = (refl, tt)
+all_listed kind.Fsq = (refl, tt)
+all_listed kind.Fsr = (refl, tt)
 
 used_listed : (k : Kind) (n : ℕ) (s : Shape) → shape_of k n ≡ Some s → is_listed 0 n ≡ true
 used_listed k n s h = row_holds (λ (u : ℕ × Shape). is_listed 0 u.0 ≡ true) n s (uses_of k) (all_listed k) h
+
+-- whether it is passed over, as one whose attribute was there
+passed_over : (n : ℕ) (before : List Avp) → (IsAbsent n before ⊎ (n ≡ 79)) → (counts_once n && is_some (first n before)) ≡ false
+passed_over n before (inl none) = rw (absent_first n before none) (elim (cases_Bool (counts_once n)) [ inl t ↦ rw t refl | inr f ↦ rw f refl ])
+passed_over n before (inr state) = rw (eq-eqb n 79 state) refl
 
 pub checked_used : (k : Kind) (n : ℕ) (s : Shape) (before : List Avp) (a : Avp) → IsUsed k n s before a → checked k before a ≡ checked_value s (has_vector before) a
 unfolding checked
 checked_used k n s before a u =
     let listed : is_listed a.vendor a.attribute ≡ true = ap (λ (v : ℕ). is_listed v a.attribute) u.is.0 ∙ ap (is_listed 0) u.is.1 ∙ used_listed k n s u.shape in
     let shape : shape_of k a.attribute ≡ Some s = ap (shape_of k) u.is.1 ∙ u.shape in
-    let none : first a.attribute before ≡ None = ap (λ (m : ℕ). first m before) u.is.1 ∙ absent_first n before u.none in
-    rw (eq-eqb a.reserved 0 u.is.2, listed, eq-eqb a.vendor 0 u.is.0, shape, none) refl
+    let counts : (counts_once a.attribute && is_some (first a.attribute before)) ≡ false =
+    ap (λ (m : ℕ). counts_once m && is_some (first m before)) u.is.1 ∙ passed_over n before u.counts in
+    rw (eq-eqb a.reserved 0 u.is.2, listed, eq-eqb a.vendor 0 u.is.0, shape, counts) refl
 
 -- so is a Draw Number
 checked_used_draw : (k : Kind) (before : List Avp) (a : Avp) → IsUsedDraw k before a → checked k before a ≡ checked_value Long (has_vector before) a
@@ -123,6 +131,13 @@ valued_at k n s before a (inr d) = d.2.is.1 ∙ sym d.0
 no_some : (o : Option Avp) → is_some o ≡ false → o ≡ None
 no_some None e = refl
 no_some (Some a) e = absurd cc
+
+it_counts : (n : ℕ) (before : List Avp) → (counts_once n && is_some (first n before)) ≡ false → IsAbsent n before ⊎ (n ≡ 79)
+it_counts n before h =
+    elim (cases_eq n 79) [
+      | inl state ↦ inr state
+      | inr other ↦ inl (first_absent n before (no_some (first n before) (rw (ne_eqb n 79 other) at h)))
+    ]
 
 value_fault : (k : Kind) (n : ℕ) (s : Shape) (before : List Avp) (a : Avp) (e : MessageError) → IsValued k n s before a → checked_value s (has_vector before) a ≡ Err e → HasFault k before a e
 value_fault k n s before a e u h =
@@ -149,10 +164,10 @@ value_fault k n s before a e u h =
 use_fault : (k : Kind) (before : List Avp) (a : Avp) (e : MessageError) (o : Option Shape) → a.vendor ≡ 0 → a.reserved ≡ 0 → shape_of k a.attribute ≡ o → checked_use o before a ≡ Err e → HasFault k before a e
 use_fault k before a e None v r q h = absurd cc
 use_fault k before a e (Some s) v r q h =
-    elim (cases_Bool (is_some (first a.attribute before))) [
+    elim (cases_Bool (counts_once a.attribute && is_some (first a.attribute before))) [
       | inl t ↦ absurd (let h' : Ok tt ≡ Err e = rw t at h in cc)
       | inr f ↦
-          let u : IsUsed k a.attribute s before a = record { shape = q; is = (v, refl, r); none = first_absent a.attribute before (no_some (first a.attribute before) f) } in
+          let u : IsUsed k a.attribute s before a = record { shape = q; is = (v, refl, r); counts = it_counts a.attribute before f } in
           value_fault k a.attribute s before a e (inl u) (rw f at h)
     ]
 

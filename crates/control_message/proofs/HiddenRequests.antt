@@ -4,11 +4,12 @@ use Rattle.wire_base.specs.Numbers.{u16_bytes, u32_bytes}
 use Rattle.avp_codec.specs.declared.avp.Avp.{Avp}
 use Rattle.tunnel_secret.specs.declared.error.UnhideError.{UnhideError}
 use Rattle.tunnel_secret.specs.Revealing.{unhidden}
+use Rattle.control_message.specs.declared.kind.Kinds.TheVariants.{Base}
 use Rattle.control_message.specs.declared.kind.Kind.TheVariants as kind
 use Rattle.control_message.specs.declared.message.Message.TheVariants.{Icrq}
 use Rattle.control_message.specs.declared.message.MessageError.TheVariants.{BadValue}
 use Rattle.control_message.specs.Pairs.{pair, hidden_pair, IsWrittenWith}
-use Rattle.control_message.specs.Reading.{message_of, kind_of_pairs, plain_short, checked, checked_all}
+use Rattle.control_message.specs.Reading.{message_of, message_by, kind_by, kind_of_pairs, plain_short, checked, checked_all}
 use Rattle.control_message.specs.Uncovering.{uncovered_by, uncovered_pair, uncovered}
 use Rattle.control_message.specs.HiddenRequests.{IsReadAnyway, WithANumber, WithoutANumber, hidden_pairs, ReadsAnyway}
 use Rattle.control_message.proofs.Numbers.{short_again}
@@ -27,12 +28,12 @@ unfolding checked u16_bytes u32_bytes
 stays_bad vector cipher own serial = refl
 
 stays_unread : (vector cipher : List ℕ) (own serial : ℕ) → message_of (request_with vector own serial (hidden_pair 22 cipher)) ≡ Err (BadValue 22)
-unfolding message_of u16_bytes
+unfolding message_by u16_bytes
 stays_unread vector cipher own serial = rw (stays_bad vector cipher own serial) refl
 
 -- the type and the id stand in plain, whatever the last pair is
 kind_told : (vector : List ℕ) (own serial : ℕ) (last : Avp) → kind_of_pairs (request_with vector own serial last) ≡ Some kind.Icrq
-unfolding kind_of_pairs u16_bytes
+unfolding kind_by u16_bytes
 kind_told vector own serial last = refl
 
 own_told : (vector : List ℕ) (own serial : ℕ) (last : Avp) → own < 2 ^ 16 → plain_short 14 (request_with vector own serial last) ≡ Some own
@@ -49,7 +50,7 @@ without_a_number vector cipher own serial lt =
 -- by what the secret makes of the number, which is no longer than the cipher text
 by_outcome : (vector cipher : List ℕ) (own serial : ℕ) (r : Result (List ℕ) UnhideError) → own < 2 ^ 16 → serial < 2 ^ 32
     → ((x : List ℕ) → r ≡ Ok x → length x ≤ 1017) → IsReadAnyway own serial (request_with vector own serial (uncovered_by (hidden_pair 22 cipher) r))
-by_outcome vector cipher own serial (Ok x) lt le fits = WithANumber x (fits x refl) (icrq_again vector x own serial lt le)
+by_outcome vector cipher own serial (Ok x) lt le fits = WithANumber x (fits x refl) (icrq_again Base vector x own serial lt le)
 by_outcome vector cipher own serial (Err e) lt le fits = without_a_number vector cipher own serial lt
 
 -- only the number is uncovered
@@ -63,7 +64,7 @@ only_the_number reader secret vector number own serial = refl
 cipher_fits : (secret vector number : List ℕ) (own serial : ℕ) → UnhidesHidden → IsWrittenWith (Some secret) (Some vector) (Icrq own serial (Some number))
     → length (cipher_of secret vector number) ≤ 1017
 cipher_fits secret vector number own serial law w =
-    (with_vector secret vector (Icrq own serial (Some number)) law w).fit.1.1.1.1.0.value
+    (with_vector Base secret vector (Icrq own serial (Some number)) tt law w).fit.1.1.1.1.0.value
 
 anyway : (reader : Option (List ℕ)) (secret vector number : List ℕ) (own serial : ℕ) → UnhidesHidden
     → IsWrittenWith (Some secret) (Some vector) (Icrq own serial (Some number))
@@ -80,7 +81,7 @@ pub read_by_any : (reader : Option (List ℕ)) (secret vector number : List ℕ)
     → IsWrittenWith (Some secret) (Some vector) (Icrq own serial (Some number)) → ReadsAnyway reader secret vector number own serial
 read_by_any reader secret vector number own serial law w =
     let pairs = hidden_pairs secret vector number own serial in
-    let again = with_vector secret vector (Icrq own serial (Some number)) law w in
+    let again = with_vector Base secret vector (Icrq own serial (Some number)) tt law w in
     record {
       fit = uncovered_fit reader pairs again.fit;
       room = let l = shorter reader pairs in let r = again.short in omega arith;

@@ -8,6 +8,7 @@ pub mod Recoveries
 pub mod Suggestions
 pub mod Draws
 pub mod Responses
+pub mod Sessions
 pub mod Openings
 pub mod ResultCodes
 pub mod Calls

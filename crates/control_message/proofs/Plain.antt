@@ -13,13 +13,14 @@ use Rattle.tunnel_secret.specs.Hiding.{first_mask}
 use Rattle.tunnel_secret.specs.Revealing.{part_of, value_by, value_of, unhidden}
 use Rattle.tunnel_secret.proofs.Blocks.{length-text_of, length-md5}
 use Rattle.control_message.specs.declared.message.Message.{Message}
-use Rattle.control_message.specs.declared.message.Message.TheVariants.{Sccrq, Sccrp, Scccn, StopCcn, Hello, Ocrq, Ocrp, Occn, Icrq, Icrp, Iccn, Cdn, Wen, Sli}
+use Rattle.control_message.specs.declared.message.Message.TheVariants.{Sccrq, Sccrp, Scccn, StopCcn, Hello, Ocrq, Ocrp, Occn, Icrq, Icrp, Iccn, Cdn, Wen, Sli, Fsq, Fsr}
 use Rattle.control_message.specs.declared.message.Opening.{Opening}
 use Rattle.control_message.specs.declared.message.Failover.{Failover}
 use Rattle.control_message.specs.declared.message.Recovery.{Recovery}
 use Rattle.control_message.specs.declared.message.Suggested.{Suggested}
 use Rattle.control_message.specs.Pairs.{failover_pairs, recovery_pairs, suggested_pairs, draw_pairs, recovering_pairs, challenge_pairs, response_pairs, secret_pairs, opening_pairs, calling_pairs, pairs_of}
 use Rattle.control_message.specs.Uncovering.{may_be_uncovered, uncovered_by, uncovered_pair, vector_after, uncovered_all, uncovered, NoneIsHidden}
+use Rattle.control_message.proofs.Sessions.{sessions_plain}
 use Rattle.control_message.proofs.Room.{one_spelled}
 
 -- ---- where no pair is hidden
@@ -111,6 +112,8 @@ pairs_plain (Iccn speed framing sequenced) = (refl, (refl, (refl, tt)))
 pairs_plain (Cdn session result error) = (refl, (refl, (refl, tt)))
 pairs_plain Wen = tt
 pairs_plain Sli = tt
+pairs_plain (Fsq sessions) = (refl, sessions_plain sessions)
+pairs_plain (Fsr sessions) = (refl, sessions_plain sessions)
 
 pub messages_stay : (k : Option (List ℕ)) (m : Message) → uncovered k (pairs_of m) ≡ pairs_of m
 messages_stay k m = leaves_plain k (pairs_of m) (pairs_plain m)

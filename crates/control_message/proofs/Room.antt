@@ -1,17 +1,18 @@
 -- How long a message is that was written.
-use Rattle.std.proofs.Common.{◌≡◌, ℕ, ◌+◌, ◌≤◌, List, [], ◌∷◌, ◌++◌, length, Option, Some, None, IfSome, ap, ◌∙◌, arith}
+use Rattle.std.proofs.Common.{◌≡◌, ℕ, ◌+◌, ◌*◌, ◌≤◌, List, [], ◌∷◌, ◌++◌, length, Option, Some, None, IfSome, refl, ap, ◌∙◌, arith}
 use Rattle.std.proofs.lemmas.List.{length-append}
 use Rattle.std.proofs.lemmas.List.Concat.{flat_map-cons}
 use Rattle.wire_base.specs.Numbers.{u16_bytes, u32_bytes}
+use Rattle.wire_base.specs.declared.pair.Pair.{Pair}
 use Rattle.avp_codec.specs.declared.avp.Avp.{Avp}
 use Rattle.avp_codec.specs.Spelling.{spelling_of, spelling}
 use Rattle.control_message.specs.declared.message.Message.{Message}
-use Rattle.control_message.specs.declared.message.Message.TheVariants.{Sccrq, Sccrp, Scccn, StopCcn, Hello, Ocrq, Ocrp, Occn, Icrq, Icrp, Iccn, Cdn, Wen, Sli}
+use Rattle.control_message.specs.declared.message.Message.TheVariants.{Sccrq, Sccrp, Scccn, StopCcn, Hello, Ocrq, Ocrp, Occn, Icrq, Icrp, Iccn, Cdn, Wen, Sli, Fsq, Fsr}
 use Rattle.control_message.specs.declared.message.Opening.{Opening}
 use Rattle.control_message.specs.declared.message.Failover.{Failover}
 use Rattle.control_message.specs.declared.message.Recovery.{Recovery}
 use Rattle.control_message.specs.declared.message.Suggested.{Suggested}
-use Rattle.control_message.specs.Pairs.{failover_pairs, recovery_pairs, suggested_pairs, draw_pairs, recovering_pairs, challenge_pairs, response_pairs, secret_pairs, told_pairs, opening_pairs, calling_pairs, pairs_of, IsWritten, IsWrittenOpening}
+use Rattle.control_message.specs.Pairs.{pair, failover_pairs, recovery_pairs, suggested_pairs, draw_pairs, recovering_pairs, challenge_pairs, response_pairs, secret_pairs, told_pairs, opening_pairs, calling_pairs, session_pair, session_pairs, pairs_of, IsWritten, IsWrittenOpening}
 use Rattle.control_message.proofs.Numbers.{told_value}
 
 -- one pair more
@@ -83,6 +84,21 @@ calling_room : (number : List ℕ) → length number ≤ 1017 → length (spelli
 unfolding u16_bytes
 calling_room number le = simp length-append (omega arith)
 
+sessions_room : (sessions : List Pair) → length (spelling (session_pairs sessions)) ≡ 16 * length sessions
+unfolding u16_bytes u32_bytes
+sessions_room [] = refl
+sessions_room (p ∷ sessions) =
+    let ih = sessions_room sessions in
+    let one = one_spelled (session_pair p) (session_pairs sessions) in
+    omega arith
+
+query_room : (number : ℕ) (sessions : List Pair) → length sessions ≤ 4094 → length (spelling (pair 0 (u16_bytes number) ∷ session_pairs sessions)) ≤ 65523
+unfolding u16_bytes
+query_room number sessions few =
+    let more = sessions_room sessions in
+    let one = one_spelled (pair 0 (u16_bytes number)) (session_pairs sessions) in
+    omega arith
+
 pub room : (m : Message) → IsWritten m → length (spelling (pairs_of m)) ≤ 65523
 unfolding u16_bytes u32_bytes
 room (Sccrq o) w = opening_room 1 o w.0
@@ -104,3 +120,5 @@ room (Cdn session result None) w = omega arith
 room (Cdn session result (Some error)) w = omega arith
 room Wen w = absurd w
 room Sli w = absurd w
+room (Fsq sessions) w = query_room 21 sessions w.few
+room (Fsr sessions) w = query_room 22 sessions w.few

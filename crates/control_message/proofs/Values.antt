@@ -12,7 +12,7 @@ use Rattle.control_message.specs.declared.kind.Shape.TheVariants.{Long}
 use Rattle.control_message.specs.declared.message.MessageError.TheVariants.{UnknownMandatory, HiddenWithoutVector, BadValue, Missing}
 use Rattle.control_message.specs.Table.{shape_of, uses_of, uses_draw, fits}
 use Rattle.control_message.specs.Reading.{is_recognised, first, value_in, value_at, number_in}
-use Rattle.control_message.specs.Grammar.{IsRecognised, IsFirstWith, StandsFirst, IsAbsent, IsDraw, NoneIsUnknown, HasValue, HasNumber}
+use Rattle.control_message.specs.Grammar.{IsRecognised, IsFirstWith, StandsFirst, IsAt, IsAbsent, IsDraw, NoneIsUnknown, HasValue, HasNumber}
 use Rattle.control_message.specs.Faults.{HasShape, IsUsed, IsUsedDraw, IsValued, IsSound}
 use Rattle.control_message.proofs.Firsts.{absent_first, first_absent, first_stands, stands_first, vector_or_none}
 use Rattle.control_message.proofs.Along.{decides_recognised, decides_shape, row_holds}
@@ -36,6 +36,11 @@ IsGood avps u = (a : Avp) → StandsFirst u.0 a avps → (a.hidden ≡ false) ×
 abbrev pub IsDrawGood : List Avp → Type 0
 IsDrawGood avps = (a : Avp) → IsFirstWith (λ b. IsDraw b) a avps → (a.hidden ≡ false) × HasShape Long a.value
 
+-- so is each Failover Session State, where the message uses it
+abbrev pub AreStatesGood : Kind → List Avp → Type 0
+AreStatesGood k avps = (s : Shape) → shape_of k 79 ≡ Some s → (before after : List Avp) (a : Avp) → avps ≡ before ++ a ∷ after → IsAt 79 a
+    → (a.hidden ≡ false) × HasShape s a.value
+
 -- of a pair whose value counts
 valued : (k : Kind) (avps before after : List Avp) (n : ℕ) (s : Shape) (a : Avp) → IsSound k avps → avps ≡ before ++ a ∷ after → IsValued k n s before a
     → (a.hidden ≡ false) × HasShape s a.value
@@ -55,13 +60,18 @@ valued k avps before after n s a sound parts u =
 
 pub good : (k : Kind) (avps : List Avp) (n : ℕ) (s : Shape) → IsSound k avps → shape_of k n ≡ Some s → IsGood avps (n, s)
 good k avps n s sound shape a h =
-    let u : IsUsed k n s h.before a = record { shape = shape; is = h.is; none = h.none } in
+    let u : IsUsed k n s h.before a = record { shape = shape; is = h.is; counts = inl h.none } in
     valued k avps h.before h.after n s a sound h.parts (inl u)
 
 pub good_draw : (k : Kind) (avps : List Avp) → IsSound k avps → uses_draw k ≡ true → IsDrawGood avps
 good_draw k avps sound used a h =
     let u : IsUsedDraw k h.before a = record { used = used; is = h.is; none = h.none } in
     valued k avps h.before h.after 1 Long a sound h.parts (inr (refl, refl, u))
+
+pub good_states : (k : Kind) (avps : List Avp) → IsSound k avps → AreStatesGood k avps
+good_states k avps sound s shape before after a parts is =
+    let u : IsUsed k 79 s before a = record { shape = shape; is = is; counts = inr refl } in
+    valued k avps before after 79 s a sound parts (inl u)
 
 -- what holds at each place holds of each pair, and the other way round
 each_of : (P : Avp → Type 0) (avps : List Avp) → ((before after : List Avp) (a : Avp) → avps ≡ before ++ a ∷ after → P a) → AllByRecursion P avps
@@ -84,28 +94,33 @@ sound_known k avps sound =
     ])
 
 -- a pair whose value counts is plain, and has its shape, where the first of each attribute is and has
-good_valued : (k : Kind) (avps before after : List Avp) (n : ℕ) (s : Shape) (a : Avp) → AllByRecursion (IsGood avps) (uses_of k) → (uses_draw k ≡ true → IsDrawGood avps)
+good_valued : (k : Kind) (avps before after : List Avp) (n : ℕ) (s : Shape) (a : Avp) → AllByRecursion (IsGood avps) (uses_of k) → AreStatesGood k avps → (uses_draw k ≡ true → IsDrawGood avps)
     → avps ≡ before ++ a ∷ after → IsValued k n s before a → (a.hidden ≡ false) × HasShape s a.value
-good_valued k avps before after n s a uses draw parts (inl u) =
-    let first : StandsFirst n a avps = record { before = before; after = after; parts = parts; is = u.is; none = u.none } in
-    row_holds (IsGood avps) n s (uses_of k) uses u.shape a first
-good_valued k avps before after n s a uses draw parts (inr d) =
+good_valued k avps before after n s a uses states draw parts (inl u) =
+    elim u.counts [
+      | inl none ↦
+          let first : StandsFirst n a avps = record { before = before; after = after; parts = parts; is = u.is; none = none } in
+          row_holds (IsGood avps) n s (uses_of k) uses u.shape a first
+      | inr state ↦
+          states s (ap (shape_of k) (sym state) ∙ u.shape) before after a parts (u.is.0, u.is.1 ∙ state, u.is.2)
+    ]
+good_valued k avps before after n s a uses states draw parts (inr d) =
     let first : IsFirstWith (λ b. IsDraw b) a avps = record { before = before; after = after; parts = parts; is = d.2.is; none = d.2.none } in
     subst (λ (x : Shape). (a.hidden ≡ false) × HasShape x a.value) (sym d.1) (draw d.2.used a first)
 
-pub known_sound : (k : Kind) (avps : List Avp) → NoneIsUnknown avps → AllByRecursion (IsGood avps) (uses_of k) → (uses_draw k ≡ true → IsDrawGood avps) → IsSound k avps
-known_sound k avps known uses draw before after a (UnknownMandatory v n) e w =
+pub known_sound : (k : Kind) (avps : List Avp) → NoneIsUnknown avps → AllByRecursion (IsGood avps) (uses_of k) → AreStatesGood k avps → (uses_draw k ≡ true → IsDrawGood avps) → IsSound k avps
+known_sound k avps known uses states draw before after a (UnknownMandatory v n) e w =
     elim (each_at (λ (x : Avp). IsRecognised x ⊎ (x.mandatory ≡ false)) before after a (subst (AllByRecursion (λ (x : Avp). IsRecognised x ⊎ (x.mandatory ≡ false))) e known)) [
       | inl r ↦ w.0 r
       | inr f ↦ both_ways a.mandatory f w.1
     ]
-known_sound k avps known uses draw before after a (HiddenWithoutVector n) e w =
-    let g = good_valued k avps before after n w.0 a uses draw e w.1 in
+known_sound k avps known uses states draw before after a (HiddenWithoutVector n) e w =
+    let g = good_valued k avps before after n w.0 a uses states draw e w.1 in
     both_ways a.hidden g.0 w.2
-known_sound k avps known uses draw before after a (BadValue n) e w =
-    let g = good_valued k avps before after n w.0 a uses draw e w.1 in
+known_sound k avps known uses states draw before after a (BadValue n) e w =
+    let g = good_valued k avps before after n w.0 a uses states draw e w.1 in
     elim w.2 [ inl hid ↦ both_ways a.hidden g.0 hid.0 | inr wrong ↦ wrong.1 g.1 ]
-known_sound k avps known uses draw before after a x e w = absurd w
+known_sound k avps known uses states draw before after a x e w = absurd w
 
 -- ---- the value of one attribute
 

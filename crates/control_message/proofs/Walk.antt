@@ -130,6 +130,8 @@ all_below kind.Iccn = (omega arith, (omega arith, (omega arith, tt)))
 all_below kind.Cdn = (omega arith, (omega arith, tt))
 all_below kind.Wen = (omega arith, tt)
 all_below kind.Sli = (omega arith, tt)
+all_below kind.Fsq = (omega arith, tt)
+all_below kind.Fsr = (omega arith, tt)
 
 pub used_below : (k : Kind) (n : ℕ) (s : Shape) → shape_of k n ≡ Some s → n < 80
 used_below k n s h = row_holds (λ (u : ℕ × Shape). u.0 < 80) n s (uses_of k) (all_below k) h

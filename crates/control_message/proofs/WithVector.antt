@@ -7,12 +7,15 @@ use Rattle.tunnel_secret.specs.Hiding.{first_mask, plain_text, hidden}
 use Rattle.tunnel_secret.specs.Revealing.{unhidden}
 use Rattle.tunnel_secret.proofs.Blocks.{length-text_of, length-md5}
 use Rattle.tunnel_secret.proofs.Values.{length-plain_text}
+use Rattle.control_message.specs.declared.kind.Kinds.{Kinds}
+use Rattle.control_message.specs.declared.kind.Kinds.TheVariants.{Queries}
 use Rattle.control_message.specs.declared.kind.Kind.TheVariants as kind
 use Rattle.control_message.specs.declared.message.Message.{Message}
-use Rattle.control_message.specs.declared.message.Message.TheVariants.{Sccrq, Sccrp, Scccn, StopCcn, Hello, Ocrq, Ocrp, Occn, Icrq, Icrp, Iccn, Cdn, Wen, Sli}
+use Rattle.control_message.specs.declared.message.Message.TheVariants.{Sccrq, Sccrp, Scccn, StopCcn, Hello, Ocrq, Ocrp, Occn, Icrq, Icrp, Iccn, Cdn, Wen, Sli, Fsq, Fsr}
 use Rattle.control_message.specs.declared.message.Read.TheVariants.{Known}
 use Rattle.control_message.specs.Pairs.{pair, hidden_pair, padding_of, pairs_of, pairs_with, plain_pairs_with, IsWritten, IsWrittenWith}
-use Rattle.control_message.specs.Reading.{message_of, checked, checked_all, u16_at, u32_at, icrq_at}
+use Rattle.control_message.specs.Grammar.{IsKnownTo}
+use Rattle.control_message.specs.Reading.{message_by, checked, checked_all, u16_at, u32_at, icrq_at}
 use Rattle.control_message.specs.Uncovering.{uncovered_pair, uncovered}
 use Rattle.control_message.proofs.Numbers.{short_again, long_again}
 use Rattle.control_message.proofs.Again.{fits, fits_short, fits_long, pairs_fit, message_again}
@@ -38,6 +41,8 @@ nothing_hidden k (Iccn speed framing sequenced) = refl
 nothing_hidden k (Cdn session result error) = refl
 nothing_hidden k Wen = refl
 nothing_hidden k Sli = refl
+nothing_hidden k (Fsq sessions) = refl
+nothing_hidden k (Fsr sessions) = refl
 
 -- the law of hiding
 abbrev pub UnhidesHidden : Type 0
@@ -92,10 +97,10 @@ icrq_read : (v n : List ℕ) (session serial : ℕ) → session < 2 ^ 16 → ser
 unfolding icrq_at u16_at u32_at u16_bytes u32_bytes
 icrq_read v n session serial lt le = rw (short_again session lt, long_again serial le) refl
 
-pub icrq_again : (v n : List ℕ) (session serial : ℕ) → session < 2 ^ 16 → serial < 2 ^ 32
-    → message_of (plain_pairs_with v (Icrq session serial (Some n))) ≡ Ok (Known (Icrq session serial (Some n)))
-unfolding message_of u16_bytes
-icrq_again v n session serial lt le = rw (icrq_checked v n session serial, icrq_read v n session serial lt le) refl
+pub icrq_again : (known : Kinds) (v n : List ℕ) (session serial : ℕ) → session < 2 ^ 16 → serial < 2 ^ 32
+    → message_by known (plain_pairs_with v (Icrq session serial (Some n))) ≡ Ok (Known (Icrq session serial (Some n)))
+unfolding message_by u16_bytes
+icrq_again known v n session serial lt le = rw (icrq_checked v n session serial, icrq_read v n session serial lt le) refl
 
 icrq_room : (s v n : List ℕ) (session serial : ℕ) → IsHiddenNumber s v n → length (spelling (pairs_with (Some s) (Some v) (Icrq session serial (Some n)))) ≤ 65523
 unfolding u16_bytes u32_bytes
@@ -112,51 +117,59 @@ icrq_room s v n session serial h =
 -- ---- each message
 
 -- pairs that are written with a secret, what they are in plain, and the message that is read of them
-pub record IsWrittenAgain (s : List ℕ) (pairs plain : List Avp) (m : Message) : Type 0 where
+pub record IsWrittenAgain (known : Kinds) (s : List ℕ) (pairs plain : List Avp) (m : Message) : Type 0 where
   pub fit : AreAvps pairs
   pub short : length (spelling pairs) ≤ 65523
   pub same : uncovered (Some s) pairs ≡ plain
-  pub read : message_of (uncovered (Some s) pairs) ≡ Ok (Known m)
+  pub read : message_by known (uncovered (Some s) pairs) ≡ Ok (Known m)
 
-plain_again : (s : List ℕ) (m : Message) → IsWritten m → IsWrittenAgain s (pairs_of m) (pairs_of m) m
-plain_again s m w =
+plain_again : (known : Kinds) (s : List ℕ) (m : Message) → IsKnownTo m known → IsWritten m → IsWrittenAgain known s (pairs_of m) (pairs_of m) m
+plain_again known s m is w =
     record {
       fit = pairs_fit m w;
       short = room m w;
       same = messages_stay (Some s) m;
-      read = ap message_of (messages_stay (Some s) m) ∙ message_again m w;
+      read = ap (message_by known) (messages_stay (Some s) m) ∙ message_again known m is w;
     }
 
-hidden_again : (s v n : List ℕ) (session serial : ℕ) → IsHiddenNumber s v n → session < 2 ^ 16 → serial < 2 ^ 32
-    → IsWrittenAgain s (pairs_with (Some s) (Some v) (Icrq session serial (Some n))) (plain_pairs_with v (Icrq session serial (Some n))) (Icrq session serial (Some n))
-hidden_again s v n session serial h lt le =
+hidden_again : (known : Kinds) (s v n : List ℕ) (session serial : ℕ) → IsHiddenNumber s v n → session < 2 ^ 16 → serial < 2 ^ 32
+    → IsWrittenAgain known s (pairs_with (Some s) (Some v) (Icrq session serial (Some n))) (plain_pairs_with v (Icrq session serial (Some n))) (Icrq session serial (Some n))
+hidden_again known s v n session serial h lt le =
     record {
       fit = icrq_fit s v n session serial h;
       short = icrq_room s v n session serial h;
       same = icrq_plain s v n session serial h;
-      read = ap message_of (icrq_plain s v n session serial h) ∙ icrq_again v n session serial lt le;
+      read = ap (message_by known) (icrq_plain s v n session serial h) ∙ icrq_again known v n session serial lt le;
     }
 
-pub with_vector : (s v : List ℕ) (m : Message) → UnhidesHidden → IsWrittenWith (Some s) (Some v) m
-    → IsWrittenAgain s (pairs_with (Some s) (Some v) m) (plain_pairs_with v m) m
-with_vector s v (Sccrq o) law w = plain_again s (Sccrq o) w.0
-with_vector s v (Sccrp o) law w = plain_again s (Sccrp o) w.0
-with_vector s v (Scccn response) law w = plain_again s (Scccn response) w.0
-with_vector s v (StopCcn tunnel result error) law w = plain_again s (StopCcn tunnel result error) w.0
-with_vector s v Hello law w = plain_again s Hello w.0
-with_vector s v (Ocrq session) law w = absurd w.0
-with_vector s v Ocrp law w = absurd w.0
-with_vector s v Occn law w = absurd w.0
-with_vector s v (Icrq session serial None) law w = absurd (w.0.2)
-with_vector s v (Icrq session serial (Some n)) law w =
-    hidden_again s v n session serial (number_hidden s v n law w.1.sized w.1.fits) w.0.0 w.0.1
-with_vector s v (Icrp session) law w = plain_again s (Icrp session) w.0
-with_vector s v (Iccn speed framing sequenced) law w = plain_again s (Iccn speed framing sequenced) w.0
-with_vector s v (Cdn session result error) law w = plain_again s (Cdn session result error) w.0
-with_vector s v Wen law w = absurd w.0
-with_vector s v Sli law w = absurd w.0
+pub with_vector : (known : Kinds) (s v : List ℕ) (m : Message) → IsKnownTo m known → UnhidesHidden → IsWrittenWith (Some s) (Some v) m
+    → IsWrittenAgain known s (pairs_with (Some s) (Some v) m) (plain_pairs_with v m) m
+with_vector known s v (Sccrq o) is law w = plain_again known s (Sccrq o) is w.0
+with_vector known s v (Sccrp o) is law w = plain_again known s (Sccrp o) is w.0
+with_vector known s v (Scccn response) is law w = plain_again known s (Scccn response) is w.0
+with_vector known s v (StopCcn tunnel result error) is law w = plain_again known s (StopCcn tunnel result error) is w.0
+with_vector known s v Hello is law w = plain_again known s Hello is w.0
+with_vector known s v (Ocrq session) is law w = absurd w.0
+with_vector known s v Ocrp is law w = absurd w.0
+with_vector known s v Occn is law w = absurd w.0
+with_vector known s v (Icrq session serial None) is law w = absurd (w.0.2)
+with_vector known s v (Icrq session serial (Some n)) is law w =
+    hidden_again known s v n session serial (number_hidden s v n law w.1.sized w.1.fits) w.0.0 w.0.1
+with_vector known s v (Icrp session) is law w = plain_again known s (Icrp session) is w.0
+with_vector known s v (Iccn speed framing sequenced) is law w = plain_again known s (Iccn speed framing sequenced) is w.0
+with_vector known s v (Cdn session result error) is law w = plain_again known s (Cdn session result error) is w.0
+with_vector known s v Wen is law w = absurd w.0
+with_vector known s v Sli is law w = absurd w.0
+with_vector known s v (Fsq sessions) is law w = plain_again known s (Fsq sessions) is w.0
+with_vector known s v (Fsr sessions) is law w = plain_again known s (Fsr sessions) is w.0
+
+-- who knows queries knows each message
+known_to_all : (m : Message) → IsKnownTo m Queries
+known_to_all (Fsq sessions) = tt
+known_to_all (Fsr sessions) = tt
+known_to_all m = tt
 
 pub room_with : (k v : Option (List ℕ)) (m : Message) → UnhidesHidden → IsWrittenWith k v m → length (spelling (pairs_with k v m)) ≤ 65523
 room_with k None m law w = rw (nothing_hidden k m) (room m w)
 room_with None (Some v) m law w = absurd (let h : false ≡ true = w.1.secret_there in cc)
-room_with (Some s) (Some v) m law w = (with_vector s v m law w).short
+room_with (Some s) (Some v) m law w = (with_vector Queries s v m (known_to_all m) law w).short

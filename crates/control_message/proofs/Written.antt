@@ -4,16 +4,19 @@ use Rattle.std.specs.List.{AllByRecursion, find}
 use Rattle.std.proofs.lemmas.Bool.{cases_Bool}
 use Rattle.wire_base.specs.Numbers.{u16_bytes, u32_bytes}
 use Rattle.wire_base.specs.NumberLaws.{length-u16_bytes, length-u32_bytes, number-u16_bytes}
+use Rattle.wire_base.specs.declared.pair.Pair.{Pair}
 use Rattle.avp_codec.specs.declared.avp.Avp.{Avp}
-use Rattle.control_message.specs.declared.message.Message.TheVariants.{Sccrq, Sccrp}
+use Rattle.control_message.specs.declared.message.Message.TheVariants.{Sccrq, Sccrp, Fsq, Fsr}
+use Rattle.control_message.specs.declared.kind.Kinds.{Kinds}
 use Rattle.control_message.specs.declared.message.Opening.{Opening}
 use Rattle.control_message.specs.declared.message.Failover.{Failover}
 use Rattle.control_message.specs.declared.message.Recovery.{Recovery}
 use Rattle.control_message.specs.declared.message.Suggested.{Suggested}
-use Rattle.control_message.specs.Pairs.{pair, optional_pair, draw_pair, failover_pairs, recovery_pairs, suggested_pairs, draw_pairs, challenge_pairs, response_pairs, recovering_pairs, secret_pairs, told_pairs, opening_front, opening_pairs, IsWrittenOpening}
+use Rattle.control_message.specs.Pairs.{pair, optional_pair, draw_pair, failover_pairs, recovery_pairs, suggested_pairs, draw_pairs, challenge_pairs, response_pairs, recovering_pairs, secret_pairs, told_pairs, opening_front, opening_pairs, pairs_of, IsWrittenOpening, AreWrittenSessions}
 use Rattle.control_message.specs.Reading.{is_at, first, is_draw, first_draw}
-use Rattle.control_message.specs.Grammar.{IsOfIetf, IsRecognised, NoneIsUnknown, HasValue, HasNumber, SaysText, SaysWindow, SaysFailover, SaysRecovery, SaysSuggested, SaysDraw, SaysResponse, SaysOpening, SaysKnown}
+use Rattle.control_message.specs.Grammar.{IsOfIetf, IsRecognised, NoneIsUnknown, HasValue, HasNumber, SaysText, SaysWindow, SaysFailover, SaysRecovery, SaysSuggested, SaysDraw, SaysResponse, SaysOpening, IsKnownTo, SaysKnown}
 use Rattle.control_message.proofs.Firsts.{first_absent, stands_first, first_no_draw, first_draws}
+use Rattle.control_message.proofs.Sessions.{sessions_written, sessions_known}
 use Rattle.control_message.proofs.Numbers.{short_again, long_again, long_before}
 
 -- ---- the first of a sort, in lists one behind the other
@@ -288,10 +291,11 @@ opening_says number o w =
       challenge = challenge_there avps o.challenge (challenge_first number o);
     }
 
-pub request_says : (o : Opening) → IsWrittenOpening o → o.response ≡ None → o.suggested ≡ None → SaysKnown (opening_pairs 1 o) (Sccrq o)
-request_says o w unanswered unsuggested =
+pub request_says : (known : Kinds) (o : Opening) → IsWrittenOpening o → o.response ≡ None → o.suggested ≡ None → SaysKnown known (opening_pairs 1 o) (Sccrq o)
+request_says known o w unanswered unsuggested =
     let avps = opening_pairs 1 o in
     record {
+      kind = tt;
       number = short_there 0 1 avps (omega arith) refl;
       known = opening_known 1 o;
       says = (
@@ -303,10 +307,11 @@ request_says o w unanswered unsuggested =
       );
     }
 
-pub reply_says : (o : Opening) → IsWrittenOpening o → o.recovery ≡ None → SaysKnown (opening_pairs 2 o) (Sccrp o)
-reply_says o w none =
+pub reply_says : (known : Kinds) (o : Opening) → IsWrittenOpening o → o.recovery ≡ None → SaysKnown known (opening_pairs 2 o) (Sccrp o)
+reply_says known o w none =
     let avps = opening_pairs 2 o in
     record {
+      kind = tt;
       number = short_there 0 2 avps (omega arith) refl;
       known = opening_known 2 o;
       says = (
@@ -316,4 +321,26 @@ reply_says o w none =
         draw_there avps o.attempt w.attempt (draw_stands 2 o),
         none,
       );
+    }
+
+-- ---- queries
+
+pub query_says : (known : Kinds) (sessions : List Pair) → IsKnownTo (Fsq sessions) known → AreWrittenSessions sessions
+    → SaysKnown known (pairs_of (Fsq sessions)) (Fsq sessions)
+query_says known sessions is w =
+    record {
+      kind = is;
+      number = short_there 0 21 (pairs_of (Fsq sessions)) (omega arith) refl;
+      known = (inl (refl, inl (refl, inl (omega arith))), sessions_known sessions);
+      says = inl (λ at_. let zero = at_.1 in absurd cc, sessions_written sessions w.ids);
+    }
+
+pub response_says : (known : Kinds) (sessions : List Pair) → IsKnownTo (Fsr sessions) known → AreWrittenSessions sessions
+    → SaysKnown known (pairs_of (Fsr sessions)) (Fsr sessions)
+response_says known sessions is w =
+    record {
+      kind = is;
+      number = short_there 0 22 (pairs_of (Fsr sessions)) (omega arith) refl;
+      known = (inl (refl, inl (refl, inl (omega arith))), sessions_known sessions);
+      says = inl (λ at_. let zero = at_.1 in absurd cc, sessions_written sessions w.ids);
     }

@@ -3,6 +3,7 @@ use Rattle.std.specs.Prelude.{◌≡◌, ◌≢◌, ℕ, ◌≤◌, ◌⊎◌, t
 use Rattle.std.specs.List.{AllByRecursion}
 use Rattle.byteorder.specs.Endian.{big_number}
 use Rattle.avp_codec.specs.declared.avp.Avp.{Avp}
+use Rattle.control_message.specs.declared.kind.Kinds.{Kinds}
 use Rattle.control_message.specs.declared.kind.Kind.{Kind}
 use Rattle.control_message.specs.declared.kind.Shape.{Shape}
 use Rattle.control_message.specs.declared.kind.Shape.TheVariants.{Text, Short, Nonzero, Long, ShortLong, ShortShortShort, ShortLongLong, Sixteen, ResultCode}
@@ -17,21 +18,21 @@ use Rattle.control_message.specs.Grammar.{IsAt, IsRecognised, IsFirstWith, Stand
 abbrev pub HasNoType : List Avp → Type 0
 HasNoType avps = IsAbsent 0 avps ⊎ ((a : Avp) × StandsFirst 0 a avps × ((a.hidden ≡ true) ⊎ (length a.value ≢ 2)))
 
--- the first Message Type is a number that names no kind, and mandatory
-pub record HasUnknownType (avps : List Avp) (n : ℕ) : Type 0 where
+-- the first Message Type is a number that names no kind that the reader knows, and mandatory
+pub record HasUnknownType (kinds : Kinds) (avps : List Avp) (n : ℕ) : Type 0 where
   pub pair : Avp
   pub first : StandsFirst 0 pair avps
   pub plain : pair.hidden ≡ false
   pub wide : length pair.value ≡ 2
   pub number : big_number 2 pair.value ≡ n
-  pub unknown : kind_of n ≡ None
+  pub unknown : kind_of kinds n ≡ None
   pub mandatory : pair.mandatory ≡ true
 
 -- the kind that the Message Type names
-pub record IsOfKind (avps : List Avp) (k : Kind) : Type 0 where
+pub record IsOfKind (kinds : Kinds) (avps : List Avp) (k : Kind) : Type 0 where
   pub number : ℕ
   pub has : HasNumber 0 2 number avps
-  pub names : kind_of number ≡ Some k
+  pub names : kind_of kinds number ≡ Some k
 
 -- ---- along the list
 
@@ -46,11 +47,11 @@ HasShape ShortLongLong value = length value ≡ 10
 HasShape Sixteen value = length value ≡ 16
 HasShape ResultCode value = (length value ≡ 2) ⊎ (4 ≤ length value)
 
--- the first pair of an attribute that the message uses
+-- the first pair of an attribute that the message uses, or any Failover Session State
 pub record IsUsed (k : Kind) (n : ℕ) (s : Shape) (before : List Avp) (a : Avp) : Type 0 where
   pub shape : shape_of k n ≡ Some s
   pub is : IsAt n a
-  pub none : IsAbsent n before
+  pub counts : IsAbsent n before ⊎ (n ≡ 79)
 
 -- the first Draw Number, where the message uses it
 pub record IsUsedDraw (k : Kind) (before : List Avp) (a : Avp) : Type 0 where
@@ -122,13 +123,13 @@ IsFaultOf k avps (Missing n) = IsSound k avps × IsLeastMissing k avps n
 IsFaultOf k avps e = IsFirstAlong k avps e
 
 -- The type comes first, then the list from its front, then what isn't there. Want of memory is no fault of the pairs.
-abbrev pub IsFault : List Avp → MessageError → Type 0
-IsFault avps NoType = HasNoType avps
-IsFault avps (UnknownType n) = HasUnknownType avps n
-IsFault avps NoMemory = ⊥
-IsFault avps e = (k : Kind) × IsOfKind avps k × IsFaultOf k avps e
+abbrev pub IsFault : Kinds → List Avp → MessageError → Type 0
+IsFault kinds avps NoType = HasNoType avps
+IsFault kinds avps (UnknownType n) = HasUnknownType kinds avps n
+IsFault kinds avps NoMemory = ⊥
+IsFault kinds avps e = (k : Kind) × IsOfKind kinds avps k × IsFaultOf k avps e
 
 -- the fault that was told, if one was
-abbrev pub IsToldFault : List Avp → MessageError → Type 0
-IsToldFault avps NoMemory = ⊤
-IsToldFault avps e = IsFault avps e
+abbrev pub IsToldFault : Kinds → List Avp → MessageError → Type 0
+IsToldFault kinds avps NoMemory = ⊤
+IsToldFault kinds avps e = IsFault kinds avps e

@@ -1,10 +1,13 @@
--- What a list of pairs says: a relation apart from the reader (RFC 2661 sections 4.1, 4.4 and 6, RFC 4951 sections 5.1 to 5.3).
-use Rattle.std.specs.Prelude.{◌≡◌, ◌≢◌, ℕ, ◌≤◌, ◌⊎◌, Bool, true, false, List, ◌∷◌, ◌++◌, length, drop, Option, Some, None, ⊤}
+-- What a list of pairs says: a relation apart from the reader (RFC 2661 sections 4.1, 4.4 and 6, RFC 4951 sections 5.1 to 5.4).
+use Rattle.std.specs.Prelude.{◌≡◌, ◌≢◌, ℕ, ◌≤◌, ◌⊎◌, Bool, true, false, List, [], ◌∷◌, ◌++◌, length, drop, Option, Some, None, ⊤}
 use Rattle.std.specs.List.{AllByRecursion}
 use Rattle.byteorder.specs.Endian.{big_number}
+use Rattle.wire_base.specs.declared.pair.Pair.{Pair}
 use Rattle.avp_codec.specs.declared.avp.Avp.{Avp}
+use Rattle.control_message.specs.declared.kind.Kinds.{Kinds}
+use Rattle.control_message.specs.declared.kind.Kinds.TheVariants.{Base}
 use Rattle.control_message.specs.declared.message.Message.{Message}
-use Rattle.control_message.specs.declared.message.Message.TheVariants.{Sccrq, Sccrp, Scccn, StopCcn, Hello, Ocrq, Ocrp, Occn, Icrq, Icrp, Iccn, Cdn, Wen, Sli}
+use Rattle.control_message.specs.declared.message.Message.TheVariants.{Sccrq, Sccrp, Scccn, StopCcn, Hello, Ocrq, Ocrp, Occn, Icrq, Icrp, Iccn, Cdn, Wen, Sli, Fsq, Fsr}
 use Rattle.control_message.specs.declared.message.Opening.{Opening}
 use Rattle.control_message.specs.declared.message.Failover.{Failover}
 use Rattle.control_message.specs.declared.message.Recovery.{Recovery}
@@ -199,6 +202,21 @@ pub record SaysCdn (avps : List Avp) (id code : ℕ) (error : Option ℕ) : Type
   pub result : HasResultCode code error avps
   pub session : HasNumber 14 2 id avps
 
+-- Failover Session State: two reserved bytes, which aren't looked at, then the sender's id of a session and the receiver's, in four each
+pub record TellsSession (a : Avp) (p : Pair) : Type 0 where
+  pub is : IsAt 79 a
+  pub plain : a.hidden ≡ false
+  pub wide : length a.value ≡ 10
+  pub sender : big_number 4 (drop 2 a.value) ≡ p.sender
+  pub receiver : big_number 4 (drop 6 a.value) ≡ p.receiver
+
+-- the sessions that are told, in order: each Failover Session State tells one
+abbrev pub SaysSessions : List Avp → List Pair → Type 0
+SaysSessions [] sessions = sessions ≡ []
+SaysSessions (a ∷ avps) sessions =
+    ((¬ IsAt 79 a) × SaysSessions avps sessions)
+    ⊎ ((p : Pair) × (others : List Pair) × TellsSession a p × (sessions ≡ p ∷ others) × SaysSessions avps others)
+
 abbrev pub SaysMessage : List Avp → Message → Type 0
 SaysMessage avps (Sccrq o) = SaysOpening avps o × SaysRecovery avps o.recovery × SaysDraw avps o.attempt × (o.response ≡ None) × (o.suggested ≡ None)
 SaysMessage avps (Sccrp o) = SaysOpening avps o × SaysResponse avps o.response × SaysSuggested avps o.suggested × SaysDraw avps o.attempt × (o.recovery ≡ None)
@@ -215,6 +233,8 @@ SaysMessage avps (Cdn session result error) = SaysCdn avps session result error
 -- Call Errors and ACCM have to be there, whatever their values
 SaysMessage avps Wen = HasSome 34 avps
 SaysMessage avps Sli = HasSome 35 avps
+SaysMessage avps (Fsq sessions) = SaysSessions avps sessions
+SaysMessage avps (Fsr sessions) = SaysSessions avps sessions
 
 -- the Message Type of each message
 abbrev pub number_of : Message → ℕ
@@ -232,26 +252,35 @@ number_of (Iccn speed framing sequenced) = 12
 number_of (Cdn session result error) = 14
 number_of Wen = 15
 number_of Sli = 16
+number_of (Fsq sessions) = 21
+number_of (Fsr sessions) = 22
 
--- a message: its type, its values, and nothing unknown that is mandatory
-pub record SaysKnown (avps : List Avp) (m : Message) : Type 0 where
+-- the messages that a reader knows
+abbrev pub IsKnownTo : Message → Kinds → Type 0
+IsKnownTo (Fsq sessions) Base = ⊥
+IsKnownTo (Fsr sessions) Base = ⊥
+IsKnownTo m kinds = ⊤
+
+-- a message that the reader knows: its type, its values, and nothing unknown that is mandatory
+pub record SaysKnown (kinds : Kinds) (avps : List Avp) (m : Message) : Type 0 where
+  pub kind : IsKnownTo m kinds
   pub number : HasNumber 0 2 (number_of m) avps
   pub known : NoneIsUnknown avps
   pub says : SaysMessage avps m
 
 -- a message of an unknown type that may be passed over
-pub record SaysIgnored (avps : List Avp) (n : ℕ) : Type 0 where
+pub record SaysIgnored (kinds : Kinds) (avps : List Avp) (n : ℕ) : Type 0 where
   pub pair : Avp
   pub first : StandsFirst 0 pair avps
   pub plain : pair.hidden ≡ false
   pub wide : length pair.value ≡ 2
   pub number : big_number 2 pair.value ≡ n
-  pub unknown : kind_of n ≡ None
+  pub unknown : kind_of kinds n ≡ None
   pub optional : pair.mandatory ≡ false
 
-abbrev pub Says : List Avp → Read → Type 0
-Says avps (Known m) = SaysKnown avps m
-Says avps (Ignored n) = SaysIgnored avps n
+abbrev pub Says : Kinds → List Avp → Read → Type 0
+Says kinds avps (Known m) = SaysKnown kinds avps m
+Says kinds avps (Ignored n) = SaysIgnored kinds avps n
 
 -- ---- ids that are looked for whatever else the pairs say
 

@@ -1,10 +1,12 @@
 -- The pairs of each message as it is written, and which messages have such a form.
 use Rattle.std.specs.Prelude.{◌≡◌, ℕ, ◌+◌, ◌-◌, ◌%◌, ◌<◌, ◌≤◌, ◌^◌, true, false, List, [], ◌∷◌, ◌++◌, length, Option, Some, None, IsSome, IsSomeAnd, IfSome, ⊤}
+use Rattle.std.specs.List.{AllByRecursion}
 use Rattle.wire_base.specs.Numbers.{u16_bytes, u32_bytes}
+use Rattle.wire_base.specs.declared.pair.Pair.{Pair}
 use Rattle.avp_codec.specs.declared.avp.Avp.{Avp}
 use Rattle.tunnel_secret.specs.Hiding.{hidden}
 use Rattle.control_message.specs.declared.message.Message.{Message}
-use Rattle.control_message.specs.declared.message.Message.TheVariants.{Sccrq, Sccrp, Scccn, StopCcn, Hello, Ocrq, Ocrp, Occn, Icrq, Icrp, Iccn, Cdn, Wen, Sli}
+use Rattle.control_message.specs.declared.message.Message.TheVariants.{Sccrq, Sccrp, Scccn, StopCcn, Hello, Ocrq, Ocrp, Occn, Icrq, Icrp, Iccn, Cdn, Wen, Sli, Fsq, Fsr}
 use Rattle.control_message.specs.declared.message.Opening.{Opening}
 use Rattle.control_message.specs.declared.message.Failover.{Failover}
 use Rattle.control_message.specs.declared.message.Recovery.{Recovery}
@@ -86,6 +88,15 @@ abbrev pub result_code_bytes : ℕ → Option ℕ → List ℕ
 result_code_bytes result None = u16_bytes result
 result_code_bytes result (Some error) = u16_bytes result ++ u16_bytes error
 
+-- Failover Session State: two zeros, the sender's id of the session, the receiver's
+abbrev pub session_pair : Pair → Avp
+session_pair p = pair 79 (u16_bytes 0 ++ u32_bytes p.sender ++ u32_bytes p.receiver)
+
+-- one for each session
+abbrev pub session_pairs : List Pair → List Avp
+session_pairs [] = []
+session_pairs (p ∷ sessions) = session_pair p ∷ session_pairs sessions
+
 abbrev pub pairs_of : Message → List Avp
 pairs_of (Sccrq o) = opening_pairs 1 o
 pairs_of (Sccrp o) = opening_pairs 2 o
@@ -101,6 +112,8 @@ pairs_of (Icrp session) = pair 0 (u16_bytes 11) ∷ pair 14 (u16_bytes session) 
 pairs_of (Iccn speed framing sequenced) = pair 0 (u16_bytes 12) ∷ pair 24 (u32_bytes speed) ∷ pair 19 (u32_bytes framing) ∷ []
 -- Result Code, Assigned Session ID
 pairs_of (Cdn session result error) = pair 0 (u16_bytes 14) ∷ pair 1 (result_code_bytes result error) ∷ pair 14 (u16_bytes session) ∷ []
+pairs_of (Fsq sessions) = pair 0 (u16_bytes 21) ∷ session_pairs sessions
+pairs_of (Fsr sessions) = pair 0 (u16_bytes 22) ∷ session_pairs sessions
 -- those that are only read
 pairs_of (Ocrq session) = []
 pairs_of Ocrp = []
@@ -124,6 +137,11 @@ pub record IsWrittenOpening (o : Opening) : Type 0 where
   pub suggested : IfSome o.suggested (λ s. (s.ns < 2 ^ 16) × (s.nr < 2 ^ 16))
   pub attempt : IfSome o.attempt (λ x. x < 2 ^ 32)
 
+-- as many sessions as have room in one message, with ids in four bytes
+pub record AreWrittenSessions (sessions : List Pair) : Type 0 where
+  pub few : length sessions ≤ 4094
+  pub ids : AllByRecursion (λ p. (p.sender < 2 ^ 32) × (p.receiver < 2 ^ 32)) sessions
+
 -- the messages that are written
 abbrev pub IsWritten : Message → Type 0
 -- a request answers no challenge and suggests no numbers
@@ -137,6 +155,8 @@ IsWritten (Icrq session serial calling) = (session < 2 ^ 16) × (serial < 2 ^ 32
 IsWritten (Icrp session) = (session < 2 ^ 16) × (0 < session)
 IsWritten (Iccn speed framing sequenced) = (speed < 2 ^ 32) × (framing < 2 ^ 32) × (sequenced ≡ false)
 IsWritten (Cdn session result error) = (session < 2 ^ 16) × (result < 2 ^ 16) × IfSome error (λ x. x < 2 ^ 16)
+IsWritten (Fsq sessions) = AreWrittenSessions sessions
+IsWritten (Fsr sessions) = AreWrittenSessions sessions
 IsWritten (Ocrq session) = ⊥
 IsWritten Ocrp = ⊥
 IsWritten Occn = ⊥

@@ -2,13 +2,16 @@
 use Rattle.std.specs.Prelude.{◌≡◌, ℕ, ◌==◌, ◌&&◌, ◌||◌, nat_le, not, Bool, true, false, List, [], ◌∷◌, ◌++◌, length, drop, find, Option, Some, None, is_some, option_map, Result, Ok, Err, if◌then◌else◌}
 use Rattle.byteorder.specs.Endian.{big_number}
 use Rattle.wire_base.specs.Answers.{◌>>=◌}
+use Rattle.wire_base.specs.declared.pair.Pair.{Pair}
 use Rattle.avp_codec.specs.declared.avp.Avp.{Avp}
+use Rattle.control_message.specs.declared.kind.Kinds.{Kinds}
+use Rattle.control_message.specs.declared.kind.Kinds.TheVariants.{Base}
 use Rattle.control_message.specs.declared.kind.Kind.{Kind}
 use Rattle.control_message.specs.declared.kind.Kind.TheVariants as kind
 use Rattle.control_message.specs.declared.kind.Shape.{Shape}
 use Rattle.control_message.specs.declared.kind.Shape.TheVariants.{Long}
 use Rattle.control_message.specs.declared.message.Message.{Message}
-use Rattle.control_message.specs.declared.message.Message.TheVariants.{Sccrq, Sccrp, Scccn, StopCcn, Hello, Ocrq, Ocrp, Occn, Icrq, Icrp, Iccn, Cdn, Wen, Sli}
+use Rattle.control_message.specs.declared.message.Message.TheVariants.{Sccrq, Sccrp, Scccn, StopCcn, Hello, Ocrq, Ocrp, Occn, Icrq, Icrp, Iccn, Cdn, Wen, Sli, Fsq, Fsr}
 use Rattle.control_message.specs.declared.message.Opening.{Opening}
 use Rattle.control_message.specs.declared.message.Failover.{Failover}
 use Rattle.control_message.specs.declared.message.Recovery.{Recovery}
@@ -69,11 +72,15 @@ checked_value s vector a =
     else if fits s a.value then Ok tt
     else Err (BadValue a.attribute)
 
--- a pair of an attribute with that shape, where the message uses it; only its first place counts
+-- of a repeated attribute only the first place counts, but each Failover Session State does
+abbrev pub counts_once : ℕ → Bool
+counts_once n = not (n == 79)
+
+-- a pair of an attribute with that shape, where the message uses it
 abbrev pub checked_use : Option Shape → List Avp → Avp → Result (Unit {0}) MessageError
 checked_use None before a = Ok tt
 checked_use (Some s) before a =
-    if is_some (first a.attribute before) then Ok tt else checked_value s (has_vector before) a
+    if counts_once a.attribute && is_some (first a.attribute before) then Ok tt else checked_value s (has_vector before) a
 
 -- a Draw Number, where the message uses it; only its first place counts
 abbrev pub checked_draw : Bool → List Avp → Avp → Result (Unit {0}) MessageError
@@ -277,6 +284,24 @@ wen_at avps = value_at 34 avps >>= λ v. Ok Wen
 unfoldable pub sli_at : List Avp → Result Message MessageError
 sli_at avps = value_at 35 avps >>= λ v. Ok Sli
 
+-- Failover Session State: two reserved bytes, which aren't looked at, then the sender's id of a session and the receiver's
+abbrev pub session_value : List ℕ → Option Pair
+session_value value =
+    if length value == 10 then Some (record { sender = big_number 4 (drop 2 value); receiver = big_number 4 (drop 6 value) }) else None
+
+-- the session that a pair tells, if it tells one
+abbrev pub session_in : Avp → Option Pair
+session_in a = if is_at 79 a then session_value a.value else None
+
+abbrev pub with_session : Option Pair → List Pair → List Pair
+with_session None sessions = sessions
+with_session (Some p) sessions = p ∷ sessions
+
+-- the sessions that pairs tell, in order
+abbrev pub sessions_in : List Avp → List Pair
+sessions_in [] = []
+sessions_in (a ∷ avps) = with_session (session_in a) (sessions_in avps)
+
 -- ---- messages
 
 -- a message of a kind
@@ -295,22 +320,24 @@ of_kind kind.Iccn avps = iccn_at avps
 of_kind kind.Cdn avps = cdn_at avps
 of_kind kind.Wen avps = wen_at avps
 of_kind kind.Sli avps = sli_at avps
+of_kind kind.Fsq avps = Ok (Fsq (sessions_in avps))
+of_kind kind.Fsr avps = Ok (Fsr (sessions_in avps))
 
 -- the number of a Message Type
 abbrev pub type_number : Avp → Result ℕ MessageError
 type_number a = if not a.hidden && length a.value == 2 then Ok (big_number 2 a.value) else Err NoType
 
--- the kind that the first type names, whatever else the pairs say
-abbrev pub kind_named : Result ℕ MessageError → Option Kind
-kind_named (Ok n) = kind_of n
-kind_named (Err e) = None
+-- the kind that the first type names to a reader that knows such messages, whatever else the pairs say
+abbrev pub kind_named : Kinds → Result ℕ MessageError → Option Kind
+kind_named known (Ok n) = kind_of known n
+kind_named known (Err e) = None
 
-abbrev pub kind_told : Option Avp → Option Kind
-kind_told None = None
-kind_told (Some a) = kind_named (type_number a)
+abbrev pub kind_told : Kinds → Option Avp → Option Kind
+kind_told known None = None
+kind_told known (Some a) = kind_named known (type_number a)
 
-unfoldable pub kind_of_pairs : List Avp → Option Kind
-kind_of_pairs avps = kind_told (first 0 avps)
+unfoldable pub kind_by : Kinds → List Avp → Option Kind
+kind_by known avps = kind_told known (first 0 avps)
 
 -- a message whose type has a number, which names a kind or not
 abbrev pub of_type : ℕ → Bool → Option Kind → List Avp → Result Read MessageError
@@ -320,12 +347,20 @@ of_type n mandatory (Some k) avps = do
   m ← of_kind k avps
   Ok (Known m)
 
-abbrev pub with_type : Option Avp → List Avp → Result Read MessageError
-with_type None avps = Err NoType
-with_type (Some a) avps = type_number a >>= λ n. of_type n a.mandatory (kind_of n) avps
+abbrev pub with_type : Kinds → Option Avp → List Avp → Result Read MessageError
+with_type known None avps = Err NoType
+with_type known (Some a) avps = type_number a >>= λ n. of_type n a.mandatory (kind_of known n) avps
 
-unfoldable pub message_of : List Avp → Result Read MessageError
-message_of avps = with_type (first 0 avps) avps
+-- what the pairs say to a reader that knows such messages
+unfoldable pub message_by : Kinds → List Avp → Result Read MessageError
+message_by known avps = with_type known (first 0 avps) avps
+
+-- to one that knows those of RFC 2661 alone
+abbrev pub kind_of_pairs : List Avp → Option Kind
+kind_of_pairs avps = kind_by Base avps
+
+abbrev pub message_of : List Avp → Result Read MessageError
+message_of avps = message_by Base avps
 
 -- ---- ids that are looked for whatever else the pairs say
 

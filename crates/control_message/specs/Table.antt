@@ -1,8 +1,10 @@
 -- The table of messages and attributes (RFC 2661 sections 3.2, 4.4 and 6, RFC 4951 section 5).
-use Rattle.std.specs.Prelude.{ℕ, ◌==◌, ◌&&◌, ◌||◌, nat_le, not, Bool, true, false, List, [], ◌∷◌, ◌++◌, length, find, Option, option_map}
+use Rattle.std.specs.Prelude.{ℕ, ◌==◌, ◌&&◌, ◌||◌, nat_le, not, Bool, true, false, List, [], ◌∷◌, ◌++◌, length, find, Option, Some, None, option_map}
 use Rattle.byteorder.specs.Endian.{big_number}
+use Rattle.control_message.specs.declared.kind.Kinds.{Kinds}
+use Rattle.control_message.specs.declared.kind.Kinds.TheVariants.{Base, Queries}
 use Rattle.control_message.specs.declared.kind.Kind.{Kind}
-use Rattle.control_message.specs.declared.kind.Kind.TheVariants.{Sccrq, Sccrp, Scccn, StopCcn, Hello, Ocrq, Ocrp, Occn, Icrq, Icrp, Iccn, Cdn, Wen, Sli}
+use Rattle.control_message.specs.declared.kind.Kind.TheVariants.{Sccrq, Sccrp, Scccn, StopCcn, Hello, Ocrq, Ocrp, Occn, Icrq, Icrp, Iccn, Cdn, Wen, Sli, Fsq, Fsr}
 use Rattle.control_message.specs.declared.kind.Shape.{Shape}
 use Rattle.control_message.specs.declared.kind.Shape.TheVariants.{Text, Short, Nonzero, Long, ShortLong, ShortShortShort, ShortLongLong, Sixteen, ResultCode}
 
@@ -10,7 +12,7 @@ use Rattle.control_message.specs.declared.kind.Shape.TheVariants.{Text, Short, N
 abbrev pub look_up : {V : Type 0} → ℕ → List (ℕ × V) → Option V
 look_up {V} n rows = option_map (λ (row : ℕ × V). row.1) (find (λ (row : ℕ × V). n == row.0) rows)
 
--- the Message Types that are known
+-- the Message Types of RFC 2661
 abbrev pub kinds : List (ℕ × Kind)
 kinds =
     (1, Sccrq)
@@ -29,9 +31,18 @@ kinds =
     ∷ (16, Sli)
     ∷ []
 
--- the kind that a number names
-abbrev pub kind_of : ℕ → Option Kind
-kind_of n = look_up n kinds
+-- those of the queries of sessions of RFC 4951
+abbrev pub query_kinds : List (ℕ × Kind)
+query_kinds = (21, Fsq) ∷ (22, Fsr) ∷ []
+
+-- the kind that a number names to a reader that knows such messages
+abbrev pub or_query : Option Kind → Kinds → ℕ → Option Kind
+or_query (Some k) known n = Some k
+or_query None Queries n = look_up n query_kinds
+or_query None Base n = None
+
+abbrev pub kind_of : Kinds → ℕ → Option Kind
+kind_of known n = or_query (look_up n kinds) known n
 
 -- Protocol Version, Framing Capabilities, Host Name, Assigned Tunnel ID, Receive Window Size, Challenge, Failover Capability
 abbrev pub opening_uses : List (ℕ × Shape)
@@ -64,6 +75,9 @@ uses_of Cdn = (1, ResultCode) ∷ (14, Short) ∷ []
 uses_of Wen = (34, Text) ∷ []
 -- ACCM
 uses_of Sli = (35, Text) ∷ []
+-- Failover Session State
+uses_of Fsq = (79, ShortLongLong) ∷ []
+uses_of Fsr = (79, ShortLongLong) ∷ []
 
 -- the messages that use this project's Draw Number too, an attribute of vendor 65535
 abbrev pub uses_draw : Kind → Bool
@@ -87,6 +101,8 @@ needs_of Iccn = 19 ∷ 24 ∷ []
 needs_of Cdn = 1 ∷ 14 ∷ []
 needs_of Wen = 34 ∷ []
 needs_of Sli = 35 ∷ []
+needs_of Fsq = []
+needs_of Fsr = []
 
 -- the shape of an attribute's value in a message of a kind, where it uses the attribute
 abbrev pub shape_of : Kind → ℕ → Option Shape

@@ -1,4 +1,4 @@
-//! The attributes that are read and written (RFC 2661 section 4.4, RFC 4951 sections 5.1 to 5.3, and one of this
+//! The attributes that are read and written (RFC 2661 section 4.4, RFC 4951 sections 5.1 to 5.4, and one of this
 //! project's own).
 
 pub const MESSAGE_TYPE: u16 = 0;
@@ -42,6 +42,8 @@ pub const FAILOVER: u16 = 76;
 pub const RECOVERY: u16 = 77;
 
 pub const SUGGESTED_SEQUENCE: u16 = 78;
+
+pub const SESSION_STATE: u16 = 79;
 
 /// The vendor of this project's own attribute.
 pub const DRAW_VENDOR: u16 = 0xffff;

@@ -2,10 +2,11 @@
 
 ghost use Rattle.std.specs.Prelude.{◌≡◌, ◌<◌, ◌&&◌, not, ◌++◌, [], ◌∷◌, List, true, is_some, slice_set};
 ghost use Rattle.avp_codec.specs.declared.avp.Avp.{Avp};
-ghost use Rattle.control_message.specs.Reading.{is_recognised, first, first_draw, has_vector, checked_value, checked_use, checked_draw, checked, checked_all};
+ghost use Rattle.control_message.specs.Reading.{is_recognised, counts_once, first, first_draw, has_vector, checked_value, checked_use, checked_draw, checked, checked_all};
 ghost use Rattle.control_message.specs.Walk.{HasSeen};
 ghost use Rattle.control_message.specs.Table.{shape_of, uses_draw};
 
+use crate::attribute::SESSION_STATE;
 use crate::finding::{is_at, is_draw, is_recognised, is_vector};
 use crate::kind::{Kind, Shape};
 use crate::message::MessageError;
@@ -45,6 +46,14 @@ impl Seen {
             .get(usize::from(attribute))
             .copied()
             .unwrap_or(false)
+    }
+
+    /// Whether a pair of an attribute below 80 is passed over, as one that was seen and of which only the first pair counts.
+    fn passes_over(&self, attribute: u16) -> bool
+        ensures { (before : List Avp) → HasSeen self.now before → attribute < 80 →
+            result ≡ (counts_once attribute && is_some (first attribute before)) }
+    {
+        attribute != SESSION_STATE && self.has(attribute)
     }
 
     /// Marks an attribute as seen, where it is below 80.
@@ -95,13 +104,14 @@ fn is_misunderstood(avp: &Avp) -> bool
     !is_recognised(avp) && avp.mandatory
 }
 
-/// The fault of a pair of an attribute of the IETF behind others. Only the first pair of an attribute counts.
+/// The fault of a pair of an attribute of the IETF behind others. Only the first pair of an attribute counts, but each
+/// Failover Session State does.
 fn check_use(kind: Kind, seen: &Seen, avp: &Avp) -> Result<(), MessageError>
     ensures { (before : List Avp) → HasSeen seen.now before → result ≡ checked_use (shape_of kind avp.now.attribute) before avp.now }
 {
     match kind.shape(avp.attribute) {
         None => Ok(()),
-        Some(_) if seen.has(avp.attribute) => Ok(()),
+        Some(_) if seen.passes_over(avp.attribute) => Ok(()),
         Some(shape) => check_value(shape, seen.vector, avp),
     }
 }

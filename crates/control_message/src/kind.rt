@@ -1,17 +1,17 @@
 //! Which attributes each message uses, and the shapes of their values.
 
 ghost use Rattle.std.specs.Prelude.{◌≡◌};
-ghost use Rattle.control_message.specs.Table.{kind_of, shape_of, uses_draw, fits};
+ghost use Rattle.control_message.specs.Table.{kinds, query_kinds, look_up, kind_of, shape_of, uses_draw, fits};
 
 use crate::attribute::{
     ACCM, ASSIGNED_SESSION, ASSIGNED_TUNNEL, CALL_ERRORS, CALL_SERIAL_NUMBER, CALLING_NUMBER,
     CHALLENGE, CHALLENGE_RESPONSE, CONNECT_SPEED, FAILOVER, FRAMING_CAPABILITIES, FRAMING_TYPE,
-    HOST_NAME, PROTOCOL_VERSION, RECOVERY, RESULT_CODE, SEQUENCING_REQUIRED, SUGGESTED_SEQUENCE,
-    WINDOW,
+    HOST_NAME, PROTOCOL_VERSION, RECOVERY, RESULT_CODE, SEQUENCING_REQUIRED, SESSION_STATE,
+    SUGGESTED_SEQUENCE, WINDOW,
 };
 use wire_base::take_u16;
 
-// The Message Types (RFC 2661 section 3.2).
+// The Message Types (RFC 2661 section 3.2, RFC 4951 section 4.3.3).
 pub const SCCRQ: u16 = 1;
 
 pub const SCCRP: u16 = 2;
@@ -39,6 +39,19 @@ pub const CDN: u16 = 14;
 pub const WEN: u16 = 15;
 
 pub const SLI: u16 = 16;
+
+pub const FSQ: u16 = 21;
+
+pub const FSR: u16 = 22;
+
+/// Which messages a reader knows.
+#[derive(Clone, Copy, Debug)]
+pub enum Kinds {
+    /// Those of RFC 2661 alone.
+    Base,
+    /// The queries of sessions of RFC 4951 too.
+    Queries,
+}
 
 /// The kind of a control message, as its Message Type names it (RFC 2661 section 3.2).
 #[derive(Clone, Copy, Debug)]
@@ -71,6 +84,10 @@ pub enum Kind {
     Wen,
     /// Set-Link-Info.
     Sli,
+    /// Failover-Session-Query (RFC 4951 section 4.3.3).
+    Fsq,
+    /// Failover-Session-Response (RFC 4951 section 4.3.3).
+    Fsr,
 }
 
 /// The shape of an attribute's value.
@@ -97,9 +114,9 @@ pub enum Shape {
 }
 
 impl Kind {
-    /// The kind that a Message Type names (RFC 2661 section 3.2).
-    pub(crate) fn from_number(number: u16) -> Option<Kind>
-        ensures { result ≡ kind_of number }
+    /// The kind that a Message Type of RFC 2661 names (section 3.2).
+    fn base(number: u16) -> Option<Kind>
+        ensures { result ≡ look_up number kinds }
     {
         match number {
             SCCRQ => Some(Kind::Sccrq),
@@ -117,6 +134,27 @@ impl Kind {
             WEN => Some(Kind::Wen),
             SLI => Some(Kind::Sli),
             _ => None,
+        }
+    }
+
+    /// The kind that a Message Type of a query names.
+    fn query(number: u16) -> Option<Kind>
+        ensures { result ≡ look_up number query_kinds }
+    {
+        match number {
+            FSQ => Some(Kind::Fsq),
+            FSR => Some(Kind::Fsr),
+            _ => None,
+        }
+    }
+
+    /// The kind that a Message Type names to a reader that knows such messages.
+    pub(crate) fn from_number(known: Kinds, number: u16) -> Option<Kind>
+        ensures { result ≡ kind_of known number }
+    {
+        match (Kind::base(number), known) {
+            (None, Kinds::Queries) => Kind::query(number),
+            (kind, _) => kind,
         }
     }
 
@@ -186,6 +224,10 @@ impl Kind {
             },
             Kind::Sli => match attribute {
                 ACCM => Some(Shape::Text),
+                _ => None,
+            },
+            Kind::Fsq | Kind::Fsr => match attribute {
+                SESSION_STATE => Some(Shape::ShortLongLong),
                 _ => None,
             },
         }

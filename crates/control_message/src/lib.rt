@@ -11,7 +11,7 @@ mod uncovering;
 mod writing;
 
 pub use finding::{assigned_session, assigned_tunnel};
-pub use kind::Kind;
+pub use kind::{Kind, Kinds};
 pub use message::{Failover, Message, MessageError, Opening, Read, Recovery, Suggested};
 pub use reading::{kind_of_pairs, read_message, reads_what_was_written};
 pub use uncovering::{

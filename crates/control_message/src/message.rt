@@ -3,9 +3,9 @@
 ghost use Rattle.std.specs.Prelude.{◌≡◌};
 ghost use Rattle.control_message.specs.declared.message.MessageError.TheVariants as errors;
 
-use wire_base::{Bytes, NoMemory};
+use wire_base::{Bytes, NoMemory, Pairs};
 
-/// A control message (RFC 2661 section 6).
+/// A control message (RFC 2661 section 6, RFC 4951 section 4.3.3).
 #[derive(Debug, Drop)]
 pub enum Message {
     /// Start-Control-Connection-Request, which opens a tunnel.
@@ -68,6 +68,11 @@ pub enum Message {
     /// Set-Link-Info, which tells what PPP has agreed on: ACCM has to be there, whatever its value, and isn't kept. It is
     /// only read.
     Sli,
+    /// Failover-Session-Query, which asks which sessions the receiver still has: a Failover Session State for each.
+    Fsq(Pairs),
+    /// Failover-Session-Response, which answers it: a Failover Session State for each session that was asked for, whose
+    /// sender's id is 0 where the sender has no such session.
+    Fsr(Pairs),
 }
 
 /// What the two ends of a tunnel tell each other as it is opened (RFC 2661 sections 6.1 and 6.2).

@@ -8,29 +8,30 @@ ghost use Rattle.avp_codec.specs.Reading.{avps_of};
 ghost use Rattle.avp_codec.specs.Spelling.{spelling};
 ghost use Rattle.control_message.specs.declared.kind.Kind.{Kind};
 ghost use Rattle.control_message.specs.declared.message.Message.{Message};
+ghost use Rattle.control_message.specs.declared.kind.Kinds.{Kinds};
 ghost use Rattle.control_message.specs.declared.message.Read.{Read};
 ghost use Rattle.control_message.specs.declared.message.Read.TheVariants.{Known};
 ghost use Rattle.control_message.specs.declared.message.MessageError.{MessageError};
-ghost use Rattle.control_message.specs.Grammar.{Says};
+ghost use Rattle.control_message.specs.Grammar.{Says, IsKnownTo};
 ghost use Rattle.control_message.specs.Faults.{IsOfKind, IsFault, IsToldFault};
 ghost use Rattle.control_message.specs.Pairs.{pairs_of, IsWritten};
 ghost use Rattle.control_message.specs.Uncovering.{uncovered_all, uncovered, Uncovers};
-ghost use Rattle.control_message.specs.Reading.{Told, value_at, u16_at, u32_at, window_at, text_at, failover_value, failover_at, recovery_value, recovery_at, suggested_value, suggested_at, draw_value, draw_at, response_value, response_at, opening_at, icrq_at, icrp_at, iccn_at, result_code_in, result_code_at, stop_ccn_at, ocrq_at, cdn_at, wen_at, sli_at, of_kind, type_number, kind_of_pairs, message_of};
+ghost use Rattle.control_message.specs.Reading.{Told, value_at, u16_at, u32_at, window_at, text_at, failover_value, failover_at, recovery_value, recovery_at, suggested_value, suggested_at, draw_value, draw_at, response_value, response_at, opening_at, icrq_at, icrp_at, iccn_at, result_code_in, result_code_at, stop_ccn_at, ocrq_at, cdn_at, wen_at, sli_at, session_value, session_in, sessions_in, of_kind, type_number, kind_by, message_by};
 
 use crate::attribute::{
     ACCM, ASSIGNED_SESSION, ASSIGNED_TUNNEL, CALL_ERRORS, CALL_SERIAL_NUMBER, CALLING_NUMBER,
     CHALLENGE, CHALLENGE_RESPONSE, CONNECT_SPEED, DRAW_NUMBER, FAILOVER, FRAMING_CAPABILITIES,
     FRAMING_TYPE, HOST_NAME, MESSAGE_TYPE, PROTOCOL_VERSION, RECOVERY, RESULT_CODE,
-    SEQUENCING_REQUIRED, SUGGESTED_SEQUENCE, WINDOW,
+    SEQUENCING_REQUIRED, SESSION_STATE, SUGGESTED_SEQUENCE, WINDOW,
 };
 use crate::checking::check_all;
-use crate::finding::{find_avp, find_draw, has_avp, u16_in};
-use crate::kind::Kind;
+use crate::finding::{find_avp, find_draw, has_avp, is_at, u16_in};
+use crate::kind::{Kind, Kinds};
 use crate::message::{Failover, Message, MessageError, Opening, Read, Recovery, Suggested};
 use crate::uncovering::{copy_uncovered, find_hidden};
 use avp_codec::{Avp, Avps};
 use std::alloc::Global;
-use wire_base::{Bytes, NoMemory, take_u16, take_u32};
+use wire_base::{Bytes, NoMemory, Pair, Pairs, take_u16, take_u32};
 
 /// The value of an attribute that the message needs.
 fn value_of(avps: &[Avp], attribute: u16) -> Result<&[u8], MessageError>
@@ -386,6 +387,43 @@ fn sli_of(avps: &[Avp]) -> Result<Message, MessageError>
     Ok(Message::Sli)
 }
 
+/// The session that the value of a Failover Session State tells. Its first two bytes are reserved, and aren't looked at.
+fn session_value(value: &[u8]) -> Option<Pair>
+    ensures { result ≡ session_value value.now }
+{
+    if value.len() != 10 {
+        return None;
+    }
+    match (take_u32(value, 2), take_u32(value, 6)) {
+        (Ok(sender), Ok(receiver)) => Some(Pair { sender, receiver }),
+        _ => None,
+    }
+}
+
+/// The session that a pair tells, if it tells one.
+fn session_in(avp: &Avp) -> Option<Pair>
+    ensures { result ≡ session_in avp.now }
+{
+    if is_at(avp, SESSION_STATE) {
+        session_value(avp.value.as_slice())
+    } else {
+        None
+    }
+}
+
+/// The sessions that pairs tell, in order.
+fn sessions_in(alloc: Global, avps: &[Avp]) -> Result<Pairs, NoMemory>
+    ensures { IfOk result (λ sessions. sessions ≡ sessions_in avps.now) }
+{
+    let mut sessions = Pairs::new(alloc);
+    for avp in avps {
+        if let Some(session) = session_in(avp) {
+            sessions.push(session)?;
+        }
+    }
+    Ok(sessions)
+}
+
 /// The message of a kind that the pairs make.
 fn message_of_kind(alloc: Global, kind: Kind, avps: &[Avp]) -> Result<Message, MessageError>
     ensures { Gives Told (λ m. m) result (of_kind kind avps.now) }
@@ -419,6 +457,14 @@ fn message_of_kind(alloc: Global, kind: Kind, avps: &[Avp]) -> Result<Message, M
         Kind::Cdn => cdn_of(avps),
         Kind::Wen => wen_of(avps),
         Kind::Sli => sli_of(avps),
+        Kind::Fsq => {
+            let sessions = sessions_in(alloc, avps)?;
+            Ok(Message::Fsq(sessions))
+        }
+        Kind::Fsr => {
+            let sessions = sessions_in(alloc, avps)?;
+            Ok(Message::Fsr(sessions))
+        }
     }
 }
 
@@ -436,40 +482,40 @@ fn number_of_type(avp: &Avp) -> Result<u16, MessageError>
 }
 
 /// The kind of the first Message Type, as a function of the pairs.
-#[tactic(auto, unfolding(crate::specs::Reading::kind_of_pairs))]
-fn type_kind(avps: &Avps) -> Option<Kind>
-    ensures { result ≡ kind_of_pairs avps.now }
+#[tactic(auto, unfolding(crate::specs::Reading::kind_by))]
+fn type_kind(avps: &Avps, known: Kinds) -> Option<Kind>
+    ensures { result ≡ kind_by known avps.now }
 {
     let avp = find_avp(avps.as_slice(), MESSAGE_TYPE)?;
     match number_of_type(avp) {
-        Ok(number) => Kind::from_number(number),
+        Ok(number) => Kind::from_number(known, number),
         Err(_) => None,
     }
 }
 
-/// The kind that the first Message Type names, whatever else the pairs say: a message that has a fault is answered by
-/// its kind. None where there is no type, where it can't be read, and where it is unknown.
-pub fn kind_of_pairs(avps: &Avps) -> Option<Kind>
+/// The kind that the first Message Type names to a reader that knows such messages, whatever else the pairs say: a message
+/// that has a fault is answered by its kind. None where there is no type, where it can't be read, and where it is unknown.
+pub fn kind_of_pairs(avps: &Avps, known: Kinds) -> Option<Kind>
     // A kind that is told is the one that the type names.
-    ensures found { IfSome result (λ k. IsOfKind avps.now k) }
+    ensures found { IfSome result (λ k. IsOfKind known avps.now k) }
     // None is told exactly where the type names none.
-    ensures none { IsNone result ↔ ((k : Kind) → ¬ IsOfKind avps.now k) }
+    ensures none { IsNone result ↔ ((k : Kind) → ¬ IsOfKind known avps.now k) }
     // For callers: the answer as a function of the pairs.
-    ensures exact { result ≡ kind_of_pairs avps.now }
+    ensures exact { result ≡ kind_by known avps.now }
 {
-    type_kind(avps)
+    type_kind(avps, known)
 }
 
 /// The whole reading of plain pairs, with the answer as a function of them.
-#[tactic(auto, unfolding(crate::specs::Reading::message_of))]
-fn read_pairs(alloc: Global, pairs: &[Avp]) -> Result<Read, MessageError>
-    ensures { Gives Told (λ x. x) result (message_of pairs.now) }
+#[tactic(auto, unfolding(crate::specs::Reading::message_by))]
+fn read_pairs(alloc: Global, pairs: &[Avp], known: Kinds) -> Result<Read, MessageError>
+    ensures { Gives Told (λ x. x) result (message_by known pairs.now) }
 {
     let Some(avp) = find_avp(pairs, MESSAGE_TYPE) else {
         return Err(MessageError::NoType);
     };
     let number = number_of_type(avp)?;
-    let Some(kind) = Kind::from_number(number) else {
+    let Some(kind) = Kind::from_number(known, number) else {
         if avp.mandatory {
             return Err(MessageError::UnknownType { number });
         }
@@ -481,53 +527,69 @@ fn read_pairs(alloc: Global, pairs: &[Avp]) -> Result<Read, MessageError>
 }
 
 /// The whole reading by a secret.
-fn read_uncovered(alloc: Global, pairs: &[Avp], secret: &[u8]) -> Result<Read, MessageError>
-    ensures { Gives Told (λ x. x) result (message_of (uncovered_all secret.now None pairs.now)) }
+fn read_uncovered(
+    alloc: Global,
+    pairs: &[Avp],
+    secret: &[u8],
+    known: Kinds,
+) -> Result<Read, MessageError>
+    ensures { Gives Told (λ x. x) result (message_by known (uncovered_all secret.now None pairs.now)) }
 {
     match find_hidden(pairs) {
-        None => read_pairs(alloc, pairs),
+        None => read_pairs(alloc, pairs, known),
         Some(_) => {
             let plain = copy_uncovered(alloc, pairs, secret)?;
-            read_pairs(alloc, plain.as_slice())
+            read_pairs(alloc, plain.as_slice(), known)
         }
     }
 }
 
 /// The whole reading, with the answer as a function of the pairs.
-fn read_with(alloc: Global, avps: &Avps, secret: Option<&[u8]>) -> Result<Read, MessageError>
-    ensures { Gives Told (λ x. x) result (message_of (uncovered (option_copied secret.entry) avps.now)) }
+fn read_with(
+    alloc: Global,
+    avps: &Avps,
+    secret: Option<&[u8]>,
+    known: Kinds,
+) -> Result<Read, MessageError>
+    ensures { Gives Told (λ x. x) result (message_by known (uncovered (option_copied secret.entry) avps.now)) }
 {
     match secret {
-        None => read_pairs(alloc, avps.as_slice()),
-        Some(secret) => read_uncovered(alloc, avps.as_slice(), secret),
+        None => read_pairs(alloc, avps.as_slice(), known),
+        Some(secret) => read_uncovered(alloc, avps.as_slice(), secret, known),
     }
 }
 
-/// What a list of pairs says: a message, or one that is to be passed over. The first fault decides in this order: the
-/// type; then the pairs from the front; then the least attribute that the message needs and that isn't there. Only
-/// pairs that the message uses are valued, and of a repeated attribute only the first. Hidden values are uncovered by
-/// the secret first (RFC 2661 section 4.3); one that is used and stays hidden can't be read. Nothing is copied to
-/// uncover where there is no secret or no pair is hidden.
-pub fn read_message(alloc: Global, avps: &Avps, secret: Option<&[u8]>) -> Result<Read, MessageError>
+/// What a list of pairs says to a reader that knows such messages: a message, or one that is to be passed over. The first
+/// fault decides in this order: the type; then the pairs from the front; then the least attribute that the message needs
+/// and that isn't there. Only pairs that the message uses are valued, and of a repeated attribute only the first, but each
+/// Failover Session State. Hidden values are uncovered by the secret first (RFC 2661 section 4.3); one that is used and
+/// stays hidden can't be read. Nothing is copied to uncover where there is no secret or no pair is hidden.
+pub fn read_message(
+    alloc: Global,
+    avps: &Avps,
+    secret: Option<&[u8]>,
+    known: Kinds,
+) -> Result<Read, MessageError>
     // What is read is what the pairs say, as they are uncovered.
-    ensures found { (plain : List Avp) → Uncovers (option_copied secret.entry) avps.now plain → IfOk result (Says plain) }
+    ensures found { (plain : List Avp) → Uncovers (option_copied secret.entry) avps.now plain → IfOk result (Says known plain) }
     // A fault stands where it is told, and it is the first.
-    ensures fault { (plain : List Avp) → Uncovers (option_copied secret.entry) avps.now plain → IfErr result (IsToldFault plain) }
+    ensures fault { (plain : List Avp) → Uncovers (option_copied secret.entry) avps.now plain → IfErr result (IsToldFault known plain) }
     // What the pairs say is read, unless memory runs out.
     ensures only { (plain : List Avp) → Uncovers (option_copied secret.entry) avps.now plain →
-        (r : Read) → Says plain r → Gives Told (λ x. x) result (Ok r) }
+        (r : Read) → Says known plain r → Gives Told (λ x. x) result (Ok r) }
     // A first fault that stands there is told, unless memory runs out.
     ensures told { (plain : List Avp) → Uncovers (option_copied secret.entry) avps.now plain →
-        (e : MessageError) → IsFault plain e → Gives Told (λ x. x) result (Err e) }
+        (e : MessageError) → IsFault known plain e → Gives Told (λ x. x) result (Err e) }
     // For callers: the answer as a function of the pairs.
-    ensures exact { Gives Told (λ x. x) result (message_of (uncovered (option_copied secret.entry) avps.now)) }
+    ensures exact { Gives Told (λ x. x) result (message_by known (uncovered (option_copied secret.entry) avps.now)) }
 {
-    read_with(alloc, avps, secret)
+    read_with(alloc, avps, secret, known)
 }
 
-/// A law: what was written is read again, first as the same pairs, then as the same message.
+/// A law: what was written is read again, first as the same pairs, then as the same message, by each reader that knows it.
 pub fn reads_what_was_written()
-    ensures { (m : Message) → IsWritten m → (avps_of (spelling (pairs_of m)) ≡ Ok (pairs_of m)) × (message_of (pairs_of m) ≡ Ok (Known m)) }
+    ensures { (known : Kinds) (m : Message) → IsKnownTo m known → IsWritten m →
+        (avps_of (spelling (pairs_of m)) ≡ Ok (pairs_of m)) × (message_by known (pairs_of m) ≡ Ok (Known m)) }
 {
     avp_codec::reads_what_was_written();
 }

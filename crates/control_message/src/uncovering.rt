@@ -10,7 +10,9 @@ ghost use Rattle.avp_codec.specs.Reading.{avps_of};
 ghost use Rattle.avp_codec.specs.Spelling.{AreAvps, spelling};
 ghost use Rattle.control_message.specs.declared.message.Message.{Message};
 ghost use Rattle.control_message.specs.declared.message.Read.TheVariants.{Known};
-ghost use Rattle.control_message.specs.Reading.{message_of};
+ghost use Rattle.control_message.specs.declared.kind.Kinds.{Kinds};
+ghost use Rattle.control_message.specs.Grammar.{IsKnownTo};
+ghost use Rattle.control_message.specs.Reading.{message_by};
 ghost use Rattle.control_message.specs.Pairs.{pairs_of, pairs_with, plain_pairs_with, IsWrittenWith};
 ghost use Rattle.control_message.specs.HiddenRequests.{HiddenRequestsAreRead};
 ghost use Rattle.control_message.specs.Uncovering.{may_be_uncovered, uncovered_pair, vector_after, uncovered_all, uncovered, NoneIsHidden, IsUncovered, UncoversBehind, Uncovers, IsVectorBehind};
@@ -162,12 +164,12 @@ pub fn plain_messages_stay()
 {}
 
 /// A law: what was written with a secret and a vector is read again, as the same pairs, then as those with the value in
-/// plain, then as the same message.
+/// plain, then as the same message, by each reader that knows it.
 pub fn reads_what_was_hidden()
-    ensures { (s v : List ℕ) (m : Message) → IsWrittenWith (Some s) (Some v) m →
+    ensures { (known : Kinds) (s v : List ℕ) (m : Message) → IsKnownTo m known → IsWrittenWith (Some s) (Some v) m →
         (avps_of (spelling (pairs_with (Some s) (Some v) m)) ≡ Ok (pairs_with (Some s) (Some v) m))
         × (uncovered (Some s) (pairs_with (Some s) (Some v) m) ≡ plain_pairs_with v m)
-        × (message_of (uncovered (Some s) (pairs_with (Some s) (Some v) m)) ≡ Ok (Known m)) }
+        × (message_by known (uncovered (Some s) (pairs_with (Some s) (Some v) m)) ≡ Ok (Known m)) }
 {
     avp_codec::reads_what_was_written();
     tunnel_secret::unhides_what_was_hidden();

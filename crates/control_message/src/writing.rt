@@ -7,20 +7,20 @@ ghost use Rattle.avp_codec.specs.Spelling.{spelling, spelling_of};
 ghost use Rattle.control_message.specs.declared.message.Message.{Message};
 ghost use Rattle.control_message.specs.declared.message.Message.TheVariants.{Scccn, StopCcn, Icrq, Cdn};
 ghost use Rattle.tunnel_secret.specs.Hiding.{hidden};
-ghost use Rattle.control_message.specs.Pairs.{pair, hidden_pair, pairs_of, opening_front, opening_pairs, failover_pairs, recovery_pairs, suggested_pairs, draw_pairs, recovering_pairs, challenge_pairs, response_pairs, secret_pairs, told_pairs, calling_pairs, result_code_bytes, IsWritten, padding_of, calling_pairs_with, pairs_with, IsWrittenWith};
+ghost use Rattle.control_message.specs.Pairs.{pair, hidden_pair, pairs_of, opening_front, opening_pairs, failover_pairs, recovery_pairs, suggested_pairs, draw_pairs, recovering_pairs, challenge_pairs, response_pairs, secret_pairs, told_pairs, calling_pairs, result_code_bytes, session_pair, session_pairs, IsWritten, padding_of, calling_pairs_with, pairs_with, IsWrittenWith};
 
 use crate::attribute::{
     ASSIGNED_SESSION, ASSIGNED_TUNNEL, CALL_SERIAL_NUMBER, CALLING_NUMBER, CHALLENGE,
     CHALLENGE_RESPONSE, CONNECT_SPEED, DRAW_NUMBER, DRAW_VENDOR, FAILOVER, FRAMING_CAPABILITIES,
     FRAMING_TYPE, HOST_NAME, MESSAGE_TYPE, PROTOCOL_VERSION, RANDOM_VECTOR, RECOVERY, RESULT_CODE,
-    SUGGESTED_SEQUENCE, WINDOW,
+    SESSION_STATE, SUGGESTED_SEQUENCE, WINDOW,
 };
-use crate::kind::{CDN, HELLO, ICCN, ICRP, ICRQ, SCCCN, SCCRP, SCCRQ, STOP_CCN};
+use crate::kind::{CDN, FSQ, FSR, HELLO, ICCN, ICRP, ICRQ, SCCCN, SCCRP, SCCRQ, STOP_CCN};
 use crate::message::{Failover, Message, Opening, Recovery, Suggested};
 use avp_codec::{Avp, write_avp};
 use std::alloc::Global;
 use tunnel_secret::hide;
-use wire_base::{Bytes, NoMemory, put_u16, put_u32};
+use wire_base::{Bytes, NoMemory, Pair, put_u16, put_u32};
 
 /// Appends a mandatory pair.
 fn put_pair(out: &mut Bytes, attribute: u16, value: Bytes) -> Result<(), NoMemory>
@@ -366,6 +366,27 @@ fn put_cdn(out: &mut Bytes, session: u16, code: u16, error: Option<u16>) -> Resu
     put_short(out, ASSIGNED_SESSION, session)
 }
 
+/// Appends Failover Session State.
+fn put_session(out: &mut Bytes, session: &Pair) -> Result<(), NoMemory>
+    ensures { OnOk result (out.new ≡ out.old ++ spelling_of (session_pair session.now)) }
+{
+    let mut value = Bytes::new(out.allocator());
+    put_u16(&mut value, 0)?;
+    put_u32(&mut value, session.sender)?;
+    put_u32(&mut value, session.receiver)?;
+    put_pair(out, SESSION_STATE, value)
+}
+
+/// Appends Failover Session State for each session.
+fn put_sessions(out: &mut Bytes, sessions: &[Pair]) -> Result<(), NoMemory>
+    ensures { OnOk result (out.new ≡ out.old ++ spelling (session_pairs sessions.now)) }
+{
+    for session in sessions {
+        put_session(out, session)?;
+    }
+    Ok(())
+}
+
 /// Appends the pairs of a message.
 fn put_message(out: &mut Bytes, message: &Message) -> Result<(), NoMemory>
     requires { IsWritten message.now }
@@ -400,6 +421,14 @@ fn put_message(out: &mut Bytes, message: &Message) -> Result<(), NoMemory>
             result,
             error,
         } => put_cdn(out, *session, *result, *error),
+        Message::Fsq(sessions) => {
+            put_short(out, MESSAGE_TYPE, FSQ)?;
+            put_sessions(out, sessions.as_slice())
+        }
+        Message::Fsr(sessions) => {
+            put_short(out, MESSAGE_TYPE, FSR)?;
+            put_sessions(out, sessions.as_slice())
+        }
         Message::Ocrq { .. } | Message::Ocrp | Message::Occn | Message::Wen | Message::Sli => {
             unreachable!()
         }

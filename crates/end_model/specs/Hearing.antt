@@ -8,7 +8,7 @@ use Rattle.wire_base.specs.declared.letter.Letter.{Letter}
 use Rattle.l2tp_header.specs.declared.header.Header.{Header}
 use Rattle.l2tp_header.specs.declared.header.HeaderError.{HeaderError}
 use Rattle.control_message.specs.declared.message.Message.{Message}
-use Rattle.control_message.specs.declared.message.Message.TheVariants.{Sccrq, Sccrp, Scccn, StopCcn, Hello, Ocrq, Ocrp, Occn, Icrq, Icrp, Iccn, Cdn, Wen, Sli}
+use Rattle.control_message.specs.declared.message.Message.TheVariants.{Sccrq, Sccrp, Scccn, StopCcn, Hello, Ocrq, Ocrp, Occn, Icrq, Icrp, Iccn, Cdn, Wen, Sli, Fsq, Fsr}
 use Rattle.recv_window.specs.declared.Class.{Class}
 use Rattle.recv_window.specs.declared.Class.TheVariants.{Next, Duplicate, Ahead}
 use Rattle.control_channel.specs.Numbers.{class_told}
@@ -90,6 +90,9 @@ hears role c calls session Ocrp t = takes_plain t
 hears role c calls session Occn t = takes_plain t
 hears role c calls session Wen t = takes_plain t
 hears role c calls session Sli t = takes_plain t
+-- queries of sessions, which no end reads so far: they are of an unknown type to it
+hears role c calls session (Fsq sessions) t = takes_plain t
+hears role c calls session (Fsr sessions) t = takes_plain t
 
 -- a letter that has a fault is one about a call, or is an event of the tunnel's table; one of an unknown type that need not be
 -- understood has none

@@ -11,10 +11,10 @@ use Rattle.l2tp_header.specs.Reading.{header_of}
 use Rattle.avp_codec.specs.declared.avp.Avp.{Avp}
 use Rattle.avp_codec.specs.Spelling.{spelling}
 use Rattle.control_message.specs.declared.message.Message.{Message}
-use Rattle.control_message.specs.declared.message.Message.TheVariants.{Sccrq, Sccrp, Scccn, StopCcn, Hello, Ocrq, Ocrp, Occn, Icrq, Icrp, Iccn, Cdn, Wen, Sli}
+use Rattle.control_message.specs.declared.message.Message.TheVariants.{Sccrq, Sccrp, Scccn, StopCcn, Hello, Ocrq, Ocrp, Occn, Icrq, Icrp, Iccn, Cdn, Wen, Sli, Fsq, Fsr}
 use Rattle.control_message.specs.declared.message.Read.TheVariants.{Known}
 use Rattle.control_message.specs.Pairs.{pairs_of}
-use Rattle.control_message.specs.Reading.{message_of, kind_of_pairs}
+use Rattle.control_message.specs.Reading.{message_of, kind_of_pairs, message_by, kind_by}
 use Rattle.recv_window.specs.Window.{on_wire}
 use Rattle.tunnel_fsm.specs.declared.table.TunnelEvent.TheVariants as event
 use Rattle.end_model.specs.declared.event.Addressee.{Addressee}
@@ -49,6 +49,8 @@ names_alike nodes from to session m x alike names =
     names_with nodes from to session (Cdn own code error) names = names
     names_with nodes from to session Wen names = names
     names_with nodes from to session Sli names = names
+    names_with nodes from to session (Fsq sessions) names = names
+    names_with nodes from to session (Fsr sessions) names = names
 
     names_without : (nodes : Nodes) (from to session : ℕ) (m : Message) → NamesItsCall nodes from to session (without_number m)
         → NamesItsCall nodes from to session m
@@ -66,16 +68,18 @@ names_alike nodes from to session m x alike names =
     names_without nodes from to session (Cdn own code error) names = names
     names_without nodes from to session Wen names = names
     names_without nodes from to session Sli names = names
+    names_without nodes from to session (Fsq sessions) names = names
+    names_without nodes from to session (Fsr sessions) names = names
 
 module _ (codecs : Codecs) where
   -- no fault is found in no pairs
   no_fault : call_fault_in [] ≡ None
-  unfolding call_fault_in fault_of_pairs message_of kind_of_pairs
+  unfolding call_fault_in fault_of_pairs message_by kind_by
   no_fault = let none = codecs.pairs [] tt in rw none refl
 
   -- but that they make no message, which tells no id
   no_pairs : tunnel_fault_in [] ≡ Some (closing event.AdminClose cause.Avp 0)
-  unfolding tunnel_fault_in tunnel_fault_of_pairs message_of
+  unfolding tunnel_fault_in tunnel_fault_of_pairs message_by
   no_pairs = let none = codecs.pairs [] tt in rw none refl
 
   no_id : (g : TunnelFault) → tunnel_fault_in [] ≡ Some g → g.remote < 65536
@@ -105,10 +109,12 @@ module _ (codecs : Codecs) where
   zero_fits (Cdn own code error) avps w i h = ⊎_elim (λ e. absurd cc) (λ e. absurd cc) h
   zero_fits Wen avps w i h = ⊎_elim (λ e. absurd cc) (λ e. absurd cc) h
   zero_fits Sli avps w i h = ⊎_elim (λ e. absurd cc) (λ e. absurd cc) h
+  zero_fits (Fsq sessions) avps w i h = ⊎_elim (λ e. absurd cc) (λ e. absurd cc) h
+  zero_fits (Fsr sessions) avps w i h = ⊎_elim (λ e. absurd cc) (λ e. absurd cc) h
 
   -- no pairs tell none
   none_at_zero : at_zero [] ≡ Nobody why.Tunnel
-  unfolding at_zero zero_pairs zero_read message_of kind_of_pairs
+  unfolding at_zero zero_pairs zero_read message_by kind_by
   none_at_zero = let none = codecs.pairs [] tt in rw none refl
 
   none_told : (i : ℕ) → TellsId (at_zero []) i → i < 65536
@@ -116,7 +122,7 @@ module _ (codecs : Codecs) where
 
   -- no pairs make no message
   no_message : (m : Message) → message_in [] ≡ Ok m → ⊥
-  unfolding message_in pairs_read message_read message_of
+  unfolding message_in pairs_read message_read message_by
   no_message m h = let none = codecs.pairs [] tt in (let g = rw none at h in cc)
 
   same_header : (bytes : List ℕ) (h k : Header) (body : List ℕ) → Carries bytes k body → header_of bytes ≡ Ok h → h ≡ k

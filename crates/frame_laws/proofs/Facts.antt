@@ -4,7 +4,7 @@ use Rattle.std.specs.Prelude.{drop, slice_get}
 use Rattle.std.specs.List.{AllByRecursion}
 use Rattle.wire_base.specs.declared.letter.Letter.{Letter}
 use Rattle.control_message.specs.declared.message.Message.{Message}
-use Rattle.control_message.specs.declared.message.Message.TheVariants.{Sccrq, Sccrp, Scccn, StopCcn, Hello, Ocrq, Ocrp, Occn, Icrq, Icrp, Iccn, Cdn, Wen, Sli}
+use Rattle.control_message.specs.declared.message.Message.TheVariants.{Sccrq, Sccrp, Scccn, StopCcn, Hello, Ocrq, Ocrp, Occn, Icrq, Icrp, Iccn, Cdn, Wen, Sli, Fsq, Fsr}
 use Rattle.end_model.specs.declared.tunnel.Call.{Call}
 use Rattle.end_names.specs.declared.role.Role.{Role}
 use Rattle.end_names.specs.declared.role.Role.TheVariants.{Lac, Lns}
@@ -84,6 +84,8 @@ names_later ns ms g from to session Ocrp h = tt
 names_later ns ms g from to session Occn h = tt
 names_later ns ms g from to session Wen h = tt
 names_later ns ms g from to session Sli h = tt
+names_later ns ms g from to session (Fsq sessions) h = tt
+names_later ns ms g from to session (Fsr sessions) h = tt
 names_later ns ms g from to session (Sccrq o) h = tt
 names_later ns ms g from to session (Sccrp o) h = tt
 names_later ns ms g from to session (Scccn response) h = tt

@@ -1,8 +1,10 @@
 -- What ends write is written by the codec's rules.
 use Rattle.control_message.specs.declared.message.Message.{Message}
-use Rattle.control_message.specs.declared.message.Message.TheVariants.{Sccrq, Sccrp}
+use Rattle.control_message.specs.declared.message.Message.TheVariants.{Sccrq, Sccrp, Fsq, Fsr}
 use Rattle.control_message.specs.declared.message.Opening.{Opening}
+use Rattle.control_message.specs.declared.kind.Kinds.TheVariants.{Base}
 use Rattle.control_message.specs.Pairs as codec
+use Rattle.control_message.specs.Grammar.{IsKnownTo}
 use Rattle.frame_laws.specs.Written.{IsWrittenOpening, IsWritten}
 
 whole_opening : (o : Opening) → IsWrittenOpening o → codec.IsWrittenOpening o
@@ -26,4 +28,12 @@ whole_opening o w =
 pub whole : (m : Message) → IsWritten m → codec.IsWritten m
 whole (Sccrq o) w = (whole_opening o w.0, w.1, w.0.suggested)
 whole (Sccrp o) w = (whole_opening o w, w.recovery)
+whole (Fsq sessions) w = absurd w
+whole (Fsr sessions) w = absurd w
 whole m w = w
+
+-- each end reads it
+pub is_read : (m : Message) → IsWritten m → IsKnownTo m Base
+is_read (Fsq sessions) w = w
+is_read (Fsr sessions) w = w
+is_read m w = tt

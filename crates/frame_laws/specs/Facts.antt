@@ -7,7 +7,7 @@ use Rattle.wire_base.specs.declared.letter.Letter.{Letter}
 use Rattle.l2tp_header.specs.declared.header.Header.{Header}
 use Rattle.l2tp_header.specs.Reading.{header_of}
 use Rattle.control_message.specs.declared.message.Message.{Message}
-use Rattle.control_message.specs.declared.message.Message.TheVariants.{Sccrq, Sccrp, Scccn, StopCcn, Hello, Ocrq, Ocrp, Occn, Icrq, Icrp, Iccn, Cdn, Wen, Sli}
+use Rattle.control_message.specs.declared.message.Message.TheVariants.{Sccrq, Sccrp, Scccn, StopCcn, Hello, Ocrq, Ocrp, Occn, Icrq, Icrp, Iccn, Cdn, Wen, Sli, Fsq, Fsr}
 use Rattle.end_model.specs.declared.tunnel.Call.{Call}
 use Rattle.end_names.specs.declared.role.Role.{Role}
 use Rattle.end_names.specs.declared.role.Role.TheVariants.{Lac, Lns}
@@ -89,6 +89,8 @@ NamesItsCall ns from to session Ocrp = Unit {0}
 NamesItsCall ns from to session Occn = Unit {0}
 NamesItsCall ns from to session Wen = Unit {0}
 NamesItsCall ns from to session Sli = Unit {0}
+NamesItsCall ns from to session (Fsq sessions) = Unit {0}
+NamesItsCall ns from to session (Fsr sessions) = Unit {0}
 NamesItsCall ns from to session (Iccn speed framing sequenced) = Unit {0}
 
 -- the frame was sent in the birth of the session that it is for, by its other end

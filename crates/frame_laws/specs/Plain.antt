@@ -7,11 +7,12 @@ use Rattle.wire_base.specs.declared.why.Why.TheVariants as why
 use Rattle.l2tp_header.specs.declared.header.Header.{Header}
 use Rattle.l2tp_header.specs.Again.{control_header}
 use Rattle.l2tp_header.specs.Spelling.{control_bytes, data_bytes}
+use Rattle.wire_base.specs.declared.pair.Pair.{Pair}
 use Rattle.avp_codec.specs.declared.avp.Avp.{Avp}
 use Rattle.avp_codec.specs.Spelling.{spelling}
 use Rattle.avp_codec.specs.Reading.{avps_of}
 use Rattle.control_message.specs.declared.message.Message.{Message}
-use Rattle.control_message.specs.declared.message.Message.TheVariants.{Sccrq, Sccrp, Scccn, StopCcn, Hello, Ocrq, Ocrp, Occn, Icrq, Icrp, Iccn, Cdn, Wen, Sli}
+use Rattle.control_message.specs.declared.message.Message.TheVariants.{Sccrq, Sccrp, Scccn, StopCcn, Hello, Ocrq, Ocrp, Occn, Icrq, Icrp, Iccn, Cdn, Wen, Sli, Fsq, Fsr}
 use Rattle.control_message.specs.declared.message.Opening.{Opening}
 use Rattle.control_message.specs.declared.message.Failover.{Failover}
 use Rattle.control_message.specs.declared.message.Recovery.{Recovery}
@@ -20,7 +21,7 @@ use Rattle.control_message.specs.declared.message.MessageError.TheVariants.{BadV
 use Rattle.control_message.specs.declared.message.Read.TheVariants.{Known}
 use Rattle.control_message.specs.declared.kind.Kind.TheVariants as kind
 use Rattle.control_message.specs.HiddenRequests.{IsReadAnyway, WithANumber, WithoutANumber, hidden_pairs, ReadsAnyway}
-use Rattle.control_message.specs.Pairs.{pairs_of, failover_pairs, recovery_pairs, suggested_pairs, draw_pairs, recovering_pairs, challenge_pairs, response_pairs, secret_pairs, opening_pairs, IsWrittenWith}
+use Rattle.control_message.specs.Pairs.{pairs_of, failover_pairs, recovery_pairs, suggested_pairs, draw_pairs, recovering_pairs, challenge_pairs, response_pairs, secret_pairs, opening_pairs, session_pairs, IsWrittenWith}
 use Rattle.control_message.specs.Reading.{message_of, kind_of_pairs, plain_short}
 use Rattle.control_message.specs.Uncovering.{uncovered}
 use Rattle.end_model.specs.Secrets.{has_hidden, uncovered_pairs, uncovered_by, uncovered_datagram}
@@ -76,6 +77,10 @@ opening_plain number o =
     let both = both_plain (failover_pairs o.failover) (recovering_pairs o) (failover_plain o.failover) recovering in
     both_plain (failover_pairs o.failover ++ recovering_pairs o) (secret_pairs o) both secrets
 
+sessions_plain : (sessions : List Pair) → has_hidden (session_pairs sessions) ≡ false
+sessions_plain [] = refl
+sessions_plain (p ∷ sessions) = sessions_plain sessions
+
 -- no pair of a message that is written without a vector is hidden
 pub hides_nothing : (m : Message) → has_hidden (pairs_of m) ≡ false
 hides_nothing (Sccrq o) = opening_plain 1 o
@@ -94,6 +99,8 @@ hides_nothing (Iccn speed framing sequenced) = refl
 hides_nothing (Cdn own code error) = refl
 hides_nothing Wen = refl
 hides_nothing Sli = refl
+hides_nothing (Fsq sessions) = sessions_plain sessions
+hides_nothing (Fsr sessions) = sessions_plain sessions
 
 -- ---- messages that hide a value
 
@@ -129,6 +136,8 @@ without_number (Iccn speed framing sequenced) = Iccn speed framing sequenced
 without_number (Cdn own result error) = Cdn own result error
 without_number Wen = Wen
 without_number Sli = Sli
+without_number (Fsq sessions) = (Fsq sessions)
+without_number (Fsr sessions) = (Fsr sessions)
 
 -- two messages that are the same but for a Calling Number
 abbrev pub AreAlike : Message → Message → Type 0

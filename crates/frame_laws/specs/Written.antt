@@ -1,7 +1,7 @@
--- What ends write so far: the codec's messages, but for what a recovery tells.
+-- What ends write so far: the codec's messages, but for what a recovery tells, and the queries of sessions.
 use Rattle.std.specs.Prelude.{◌≡◌, ℕ, ◌<◌, ◌≤◌, ◌^◌, length, None, IsSomeAnd, IfSome}
 use Rattle.control_message.specs.declared.message.Message.{Message}
-use Rattle.control_message.specs.declared.message.Message.TheVariants.{Sccrq, Sccrp}
+use Rattle.control_message.specs.declared.message.Message.TheVariants.{Sccrq, Sccrp, Fsq, Fsr}
 use Rattle.control_message.specs.declared.message.Opening.{Opening}
 use Rattle.control_message.specs.Pairs as codec
 
@@ -25,4 +25,6 @@ abbrev pub IsWritten : Message → Type 0
 -- a request answers no challenge
 IsWritten (Sccrq o) = IsWrittenOpening o × (o.response ≡ None)
 IsWritten (Sccrp o) = IsWrittenOpening o
+IsWritten (Fsq sessions) = ⊥
+IsWritten (Fsr sessions) = ⊥
 IsWritten m = codec.IsWritten m

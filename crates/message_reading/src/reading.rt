@@ -7,7 +7,7 @@ ghost use Rattle.end_model.specs.Reading.{message_in, pairs_read, fault_cause, i
 
 use avp_codec::{AvpError, Avps, read_avps};
 use control_message::{
-    Kind, Message, MessageError, Read, assigned_session, assigned_tunnel, kind_of_pairs,
+    Kind, Kinds, Message, MessageError, Read, assigned_session, assigned_tunnel, kind_of_pairs,
     read_message,
 };
 use std::alloc::Global;
@@ -94,7 +94,7 @@ fn is_for_call(kind: Kind, session: Option<u16>, cause: Option<Cause>) -> bool
 fn fault_of(avps: &Avps, error: MessageError) -> Option<CallFault>
     ensures { result ≡ fault_of_kind (kind_of_pairs avps.now) error avps.now }
 {
-    let kind = kind_of_pairs(avps)?;
+    let kind = kind_of_pairs(avps, Kinds::Base)?;
     let session = assigned_session(avps);
     let cause = fault_cause(error);
     if !is_for_call(kind, session, cause) {
@@ -146,7 +146,7 @@ fn closing(cause: Cause) -> Option<TunnelFault>
 fn closing_of_kind(avps: &Avps, error: MessageError) -> Option<TunnelFault>
     ensures { result ≡ tunnel_fault_of_kind (kind_of_pairs avps.now) error avps.now }
 {
-    let kind = kind_of_pairs(avps)?;
+    let kind = kind_of_pairs(avps, Kinds::Base)?;
     let cause = fault_cause(error);
     if is_for_call(kind, assigned_session(avps), cause) {
         return None;
@@ -177,7 +177,7 @@ fn said_of(alloc: Global, avps: &Avps) -> Result<Said, NoMemory>
     ensures fault { IfOk result (λ said. said.fault ≡ fault_of_pairs (Ok avps.now)) }
     ensures closing { IfOk result (λ said. said.closing ≡ tunnel_fault_of_pairs (Ok avps.now)) }
 {
-    match read_message(alloc, avps, None) {
+    match read_message(alloc, avps, None, Kinds::Base) {
         Ok(Read::Known(message)) => Ok(Said {
             message: Ok(message),
             fault: None,

@@ -6,7 +6,7 @@ ghost use Rattle.end_model.specs.Reading.{at_zero, zero_pairs, zero_read, zero_f
 
 use avp_codec::{AvpError, Avps, read_avps};
 use control_message::{
-    Kind, Message, MessageError, Read, assigned_tunnel, kind_of_pairs, read_message,
+    Kind, Kinds, Message, MessageError, Read, assigned_tunnel, kind_of_pairs, read_message,
 };
 use end_model::Addressee;
 use std::alloc::Global;
@@ -26,7 +26,7 @@ fn stopped(told: Option<u16>) -> Addressee
 fn zero_faulty(avps: &Avps) -> Addressee
     ensures { result ≡ zero_faulty (kind_of_pairs avps.now) avps.now }
 {
-    match kind_of_pairs(avps) {
+    match kind_of_pairs(avps, Kinds::Base) {
         Some(Kind::Sccrq) => match assigned_tunnel(avps) {
             None | Some(0) => Addressee::Nobody { why: Why::Avp },
             Some(remote) => Addressee::Opens { remote },
@@ -45,7 +45,7 @@ fn zero_faulty(avps: &Avps) -> Addressee
 fn zero_pairs(alloc: Global, avps: &Avps) -> Result<Addressee, NoMemory>
     ensures { IfOk result (λ to. to ≡ zero_pairs (Ok avps.now)) }
 {
-    match read_message(alloc, avps, None) {
+    match read_message(alloc, avps, None, Kinds::Base) {
         Ok(Read::Known(Message::Sccrq(opening))) => Ok(Addressee::Opens {
             remote: opening.tunnel,
         }),

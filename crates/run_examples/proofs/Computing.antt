@@ -6,7 +6,7 @@ use Rattle.l2tp_header.specs.Flags.{is_control, has_length, has_numbers, has_off
 use Rattle.l2tp_header.specs.Reading.{word_of, start_of, end_of, header_with, header_of}
 use Rattle.l2tp_header.specs.Spelling.{control_bytes, data_bytes}
 use Rattle.avp_codec.specs.Reading.{avp_at, avps_at}
-use Rattle.control_message.specs.Reading.{checked, u16_at, u32_at, window_at, failover_at, recovery_at, suggested_at, draw_at, response_at, opening_at, icrq_at, icrp_at, iccn_at, message_of, kind_of_pairs, result_code_at, cdn_at}
+use Rattle.control_message.specs.Reading.{checked, u16_at, u32_at, window_at, failover_at, recovery_at, suggested_at, draw_at, response_at, opening_at, icrq_at, icrp_at, iccn_at, message_by, kind_by, result_code_at, cdn_at}
 use Rattle.lcp_wire.specs.Reading.{packet_of, options_at}
 use Rattle.lcp_end.specs.Options.{is_good, part, asked}
 use Rattle.lcp_end.specs.Hearing.{request_heard, ack_heard, nak_heard, reject_heard, answer_heard, answers_last, heard_as}
@@ -42,7 +42,7 @@ use Rattle.frame_laws.specs.Past.{sent_in, handed_in}
 unfoldable pub computing : Unit {0}
 unfolding draws at put_at without u16_bytes u32_bytes is_control has_length has_numbers has_offset has_priority version_of word_of
     start_of end_of header_with header_of control_bytes data_bytes avp_at avps_at checked u16_at u32_at window_at failover_at recovery_at
-    suggested_at draw_at response_at opening_at icrq_at icrp_at iccn_at message_of kind_of_pairs result_code_at cdn_at host_name address_of node_of
+    suggested_at draw_at response_at opening_at icrq_at icrp_at iccn_at message_by kind_by result_code_at cdn_at host_name address_of node_of
     subscriber calling_number message_read pairs_read message_in zero_read zero_pairs at_zero at_tunnel fault_of_pairs call_fault_in tunnel_fault_of_pairs tunnel_fault_in
     call_row advanced rung asked_for carry_known carry_look with_turn with_output with_move with_change with_looks_of with_call with_new drops
     gives gives_as takes_one reads_nr sends_letter sends_now lets_go goes_by lets_all_go acknowledges acknowledged_after settles

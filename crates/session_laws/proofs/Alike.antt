@@ -1,7 +1,7 @@
 -- What a tunnel hears says the same in the machine, whatever the Calling Number of a request.
 use Rattle.std.proofs.Common.{◌≡◌, ℕ, ◌^◌, ◌<◌, refl, sym, ap, ◌∙◌}
 use Rattle.control_message.specs.declared.message.Message.{Message}
-use Rattle.control_message.specs.declared.message.Message.TheVariants.{Sccrq, Sccrp, Scccn, StopCcn, Hello, Ocrq, Ocrp, Occn, Icrq, Icrp, Iccn, Cdn, Wen, Sli}
+use Rattle.control_message.specs.declared.message.Message.TheVariants.{Sccrq, Sccrp, Scccn, StopCcn, Hello, Ocrq, Ocrp, Occn, Icrq, Icrp, Iccn, Cdn, Wen, Sli, Fsq, Fsr}
 use Rattle.frame_laws.specs.Plain.{without_number, AreAlike}
 use Rattle.frame_laws.specs.Written.{IsWritten}
 use Rattle.connection_laws.specs.Accounts.{Account}
@@ -25,6 +25,8 @@ without_spoken n m header (Iccn speed framing sequenced) = refl
 without_spoken n m header (Cdn own code error) = refl
 without_spoken n m header Wen = refl
 without_spoken n m header Sli = refl
+without_spoken n m header (Fsq sessions) = refl
+without_spoken n m header (Fsr sessions) = refl
 
 pub alike_spoken : (n m header : ℕ) (x y : Message) → AreAlike x y → spoken n m header x ≡ spoken n m header y
 alike_spoken n m header x y alike =
@@ -46,6 +48,8 @@ IsSized (Iccn speed framing sequenced) = IsWritten (Iccn speed framing sequenced
 IsSized (Cdn own code error) = IsWritten (Cdn own code error)
 IsSized Wen = IsWritten Wen
 IsSized Sli = IsWritten Sli
+IsSized (Fsq sessions) = IsWritten (Fsq sessions)
+IsSized (Fsr sessions) = IsWritten (Fsr sessions)
 
 sized : (m : Message) → IsWritten m → IsSized m
 sized (Icrq own serial calling) w = (w.0, w.1)
@@ -62,6 +66,8 @@ sized (Iccn speed framing sequenced) w = w
 sized (Cdn own code error) w = w
 sized Wen w = w
 sized Sli w = w
+sized (Fsq sessions) w = w
+sized (Fsr sessions) w = w
 
 pub alike_sized : (m x : Message) → AreAlike m x → IsWritten m → IsSized x
 alike_sized m x alike w =

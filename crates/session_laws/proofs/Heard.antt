@@ -5,7 +5,7 @@ use Rattle.std.proofs.lemmas.Option.{slice_get-map}
 use Rattle.std.specs.List.{AllByRecursion}
 use Rattle.id_table.specs.Ids.{at}
 use Rattle.control_message.specs.declared.message.Message.{Message}
-use Rattle.control_message.specs.declared.message.Message.TheVariants.{Sccrq, Sccrp, Scccn, StopCcn, Hello, Ocrq, Ocrp, Occn, Icrq, Icrp, Iccn, Cdn, Wen, Sli}
+use Rattle.control_message.specs.declared.message.Message.TheVariants.{Sccrq, Sccrp, Scccn, StopCcn, Hello, Ocrq, Ocrp, Occn, Icrq, Icrp, Iccn, Cdn, Wen, Sli, Fsq, Fsr}
 use Rattle.tunnel_fsm.specs.declared.table.TunnelState.{TunnelState}
 use Rattle.tunnel_fsm.specs.declared.table.TunnelState.TheVariants as tunnel
 use Rattle.tunnel_fsm.specs.Rows.{state_number}
@@ -83,6 +83,8 @@ delivers_spoken r w x s e k z n m header Ocrp no_stop may = rw may refl
 delivers_spoken r w x s e k z n m header Occn no_stop may = rw may refl
 delivers_spoken r w x s e k z n m header Wen no_stop may = rw may refl
 delivers_spoken r w x s e k z n m header Sli no_stop may = rw may refl
+delivers_spoken r w x s e k z n m header (Fsq sessions) no_stop may = rw may refl
+delivers_spoken r w x s e k z n m header (Fsr sessions) no_stop may = rw may refl
 delivers_spoken r w x s e k z n m header (Icrq session serial calling) no_stop may = rw may refl
 delivers_spoken r w x s e k z n m header (Icrp session) no_stop may = rw may refl
 delivers_spoken r w x s e k z n m header (Iccn speed framing sequenced) no_stop may = rw may refl

@@ -304,6 +304,8 @@ module _ (w : World) (accs : Accounts) (n : ℕ) (e : End) (i : ℕ) (t : Tunnel
   plain_by role b message.Occn no_stop says why written stands = absurd says
   plain_by role b message.Wen no_stop says why written stands = absurd says
   plain_by role b message.Sli no_stop says why written stands = absurd says
+  plain_by role b (message.Fsq sessions) no_stop says why written stands = absurd says
+  plain_by role b (message.Fsr sessions) no_stop says why written stands = absurd says
   plain_by role b (message.Icrq remote serial calling) no_stop says why written stands =
       ignored w X s (Request (name from remote)) (plain_request (took_one w X) X s (name from remote))
   plain_by role b (message.Icrp remote) no_stop says why written stands =
@@ -339,6 +341,8 @@ plain_no_stop e t session message.Ocrp works why = tt
 plain_no_stop e t session message.Occn works why = tt
 plain_no_stop e t session message.Wen works why = tt
 plain_no_stop e t session message.Sli works why = tt
+plain_no_stop e t session (message.Fsq sessions) works why = tt
+plain_no_stop e t session (message.Fsr sessions) works why = tt
 plain_no_stop e t session (message.Icrq remote serial calling) works why = tt
 plain_no_stop e t session (message.Icrp remote) works why = tt
 plain_no_stop e t session (message.Iccn speed framing sequenced) works why = tt

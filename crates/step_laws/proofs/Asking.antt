@@ -15,7 +15,7 @@ use Rattle.wire_base.specs.declared.letter.Letter.{Letter}
 use Rattle.l2tp_header.specs.declared.header.Header.{Header}
 use Rattle.l2tp_header.specs.declared.header.HeaderError.{HeaderError}
 use Rattle.control_message.specs.declared.message.Message.{Message}
-use Rattle.control_message.specs.declared.message.Message.TheVariants.{Sccrq, Sccrp, Scccn, StopCcn, Hello, Ocrq, Ocrp, Occn, Icrq, Icrp, Iccn, Cdn, Wen, Sli}
+use Rattle.control_message.specs.declared.message.Message.TheVariants.{Sccrq, Sccrp, Scccn, StopCcn, Hello, Ocrq, Ocrp, Occn, Icrq, Icrp, Iccn, Cdn, Wen, Sli, Fsq, Fsr}
 use Rattle.control_message.specs.declared.kind.Kind.{Kind}
 use Rattle.control_message.specs.declared.kind.Kind.TheVariants as kind
 use Rattle.recv_window.specs.declared.Class.{Class}
@@ -525,6 +525,8 @@ module _ (role : Role) (calls : List (ℕ × Call)) where
     about_asked session Occn t b = plain t b
     about_asked session Wen t b = plain t b
     about_asked session Sli t b = plain t b
+    about_asked session (Fsq sessions) t b = plain t b
+    about_asked session (Fsr sessions) t b = plain t b
 
     in_call_asked : (session : ℕ) (m : Message) (t : Turn) → Begins t → Asked (in_call role calls session m t)
     unfolding in_call
@@ -558,6 +560,8 @@ module _ (role : Role) (calls : List (ℕ × Call)) where
     faulty_asked session kind.Hello c told t b = faulty_at_asked (fault_reason c) session 0 call_event.Close call_action.Nothing (at calls session) t b
     faulty_asked session kind.Ocrp c told t b = faulty_at_asked (fault_reason c) session 0 call_event.Close call_action.Nothing (at calls session) t b
     faulty_asked session kind.Occn c told t b = faulty_at_asked (fault_reason c) session 0 call_event.Close call_action.Nothing (at calls session) t b
+    faulty_asked session kind.Fsq c told t b = faulty_at_asked (fault_reason c) session 0 call_event.Close call_action.Nothing (at calls session) t b
+    faulty_asked session kind.Fsr c told t b = faulty_at_asked (fault_reason c) session 0 call_event.Close call_action.Nothing (at calls session) t b
 
     in_faulty_asked : (session : ℕ) (f : CallFault) (t : Turn) → Begins t → Asked (in_faulty_call role calls session f t)
     unfolding in_faulty_call
@@ -582,6 +586,8 @@ module _ (role : Role) (calls : List (ℕ × Call)) where
     hears_asked c session Occn t b = plain t b
     hears_asked c session Wen t b = plain t b
     hears_asked c session Sli t b = plain t b
+    hears_asked c session (Fsq sessions) t b = plain t b
+    hears_asked c session (Fsr sessions) t b = plain t b
     hears_asked c session (Cdn remote code error) t b = in_call_asked session (Cdn remote code error) t b
     hears_asked c session (Icrq remote serial calling) t b = in_call_asked session (Icrq remote serial calling) t b
     hears_asked c session (Icrp remote) t b = in_call_asked session (Icrp remote) t b

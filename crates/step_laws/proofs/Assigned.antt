@@ -5,6 +5,7 @@ use Rattle.std.proofs.lemmas.Option.{none-some}
 use Rattle.std.specs.Prelude.{◌==◌, ◌&&◌, not}
 use Rattle.wire_base.specs.Answers.{◌>>=◌}
 use Rattle.avp_codec.specs.declared.avp.Avp.{Avp}
+use Rattle.control_message.specs.declared.kind.Kinds.TheVariants.{Base}
 use Rattle.control_message.specs.declared.kind.Kind.{Kind}
 use Rattle.control_message.specs.declared.kind.Kind.TheVariants as kind
 use Rattle.control_message.specs.declared.kind.Shape.{Shape}
@@ -20,7 +21,7 @@ use Rattle.control_message.specs.declared.message.Read.TheVariants.{Known, Ignor
 use Rattle.control_message.specs.declared.message.MessageError.{MessageError}
 use Rattle.control_message.specs.declared.message.MessageError.TheVariants.{NoType, UnknownType, HiddenWithoutVector, BadValue}
 use Rattle.control_message.specs.Table.{kind_of, shape_of, uses_draw, fits}
-use Rattle.control_message.specs.Reading.{response_at, suggested_at, draw_value, draw_read, draw_in, draw_at, is_listed, is_recognised, is_at, first, first_draw, has_vector, checked_value, checked_use, checked_draw, checked, checked_all, value_in, value_at, number_in, u16_at, u32_at, window_in, window_at, failover_value, failover_read, failover_in, failover_at, recovery_value, recovery_read, recovery_in, recovery_at, opening_at, icrq_at, icrp_at, iccn_at, result_code_at, stop_ccn_at, ocrq_at, cdn_at, wen_at, sli_at, of_kind, type_number, kind_told, kind_of_pairs, of_type, with_type, message_of}
+use Rattle.control_message.specs.Reading.{counts_once, response_at, suggested_at, draw_value, draw_read, draw_in, draw_at, is_listed, is_recognised, is_at, first, first_draw, has_vector, checked_value, checked_use, checked_draw, checked, checked_all, value_in, value_at, number_in, u16_at, u32_at, window_in, window_at, failover_value, failover_read, failover_in, failover_at, recovery_value, recovery_read, recovery_in, recovery_at, opening_at, icrq_at, icrp_at, iccn_at, result_code_at, stop_ccn_at, ocrq_at, cdn_at, wen_at, sli_at, of_kind, type_number, kind_told, kind_of_pairs, of_type, with_type, message_of, message_by, kind_by}
 use Rattle.step_laws.proofs.Lists.{branch, and_left, and_right}
 
 -- ---- a reading in steps
@@ -97,7 +98,7 @@ module _ (k : Kind) (shape : shape_of k 9 ≡ Some Nonzero) where
       let listed : is_listed a.vendor a.attribute ≡ true = ap (λ (v : ℕ). is_listed v a.attribute) vendor ∙ ap (is_listed 0) attribute in
       let shaped : shape_of k a.attribute ≡ Some Nonzero = ap (shape_of k) attribute ∙ shape in
       let alone : first a.attribute before ≡ None = ap (λ (m : ℕ). first m before) attribute ∙ none in
-      rw (and_right (a.vendor == 0 && a.attribute == 9) (a.reserved == 0) is, listed, eq-eqb a.vendor 0 vendor, shaped, alone) refl
+      rw (and_right (a.vendor == 0 && a.attribute == 9) (a.reserved == 0) is, listed, eq-eqb a.vendor 0 vendor, shaped, alone, attribute) refl
 
   -- so the first of those that pass has the shape
   first_fits : (before rest : List Avp) (u : Unit {0}) → first 9 before ≡ None → checked_all k before rest ≡ Ok u → (a : Avp) → first 9 rest ≡ Some a
@@ -174,6 +175,8 @@ module _ (avps : List Avp) where
   kind_assigns kind.Ocrq u checks = gives_after AssignsSome (u16_at 14 avps) _ (λ session is. tt)
   kind_assigns kind.Ocrp u checks = tt
   kind_assigns kind.Occn u checks = tt
+  kind_assigns kind.Fsq u checks = tt
+  kind_assigns kind.Fsr u checks = tt
   kind_assigns kind.Icrq u checks =
       gives_after AssignsSome (u16_at 14 avps) _ (λ session is. gives_after AssignsSome (u32_at 15 avps) _ (λ serial at_. tt))
   kind_assigns kind.Icrp u checks = gives_after AssignsSome (u16_at 14 avps) _ (λ session is. tt)
@@ -197,12 +200,12 @@ module _ (avps : List Avp) where
   type_assigns n mandatory (Some k) =
       gives_after ReadAssigns (checked_all k [] avps) _ (λ u checks. known_assigns (of_kind k avps) (kind_assigns k u checks))
 
-  told_assigns : (o : Option Avp) → Gives ReadAssigns (with_type o avps)
+  told_assigns : (o : Option Avp) → Gives ReadAssigns (with_type Base o avps)
   told_assigns None = tt
-  told_assigns (Some a) = gives_after ReadAssigns (type_number a) _ (λ n is. type_assigns n a.mandatory (kind_of n))
+  told_assigns (Some a) = gives_after ReadAssigns (type_number a) _ (λ n is. type_assigns n a.mandatory (kind_of Base n))
 
   pub message_assigns : (m : Message) → message_of avps ≡ Ok (Known m) → AssignsSome m
-  unfolding message_of
+  unfolding message_by
   message_assigns m is = subst (Gives ReadAssigns) is (told_assigns (first 0 avps))
 
 -- ---- faults of a message whose kind is known
@@ -224,7 +227,7 @@ value_fails s vector a =
 
 use_fails : (o : Option Shape) (before : List Avp) (a : Avp) → FailsInside (checked_use o before a)
 use_fails None before a = tt
-use_fails (Some s) before a = branch FailsInside (is_some (first a.attribute before)) _ _ (λ again. tt) (λ alone. value_fails s (has_vector before) a)
+use_fails (Some s) before a = branch FailsInside (counts_once a.attribute && is_some (first a.attribute before)) _ _ (λ again. tt) (λ alone. value_fails s (has_vector before) a)
 
 draw_fails : (used : Bool) (before : List Avp) (a : Avp) → FailsInside (checked_draw used before a)
 draw_fails false before a = tt
@@ -309,18 +312,18 @@ module _ (avps : List Avp) where
       (λ u. fails_after IsInner (of_kind kind.Sccrq avps) _ sccrq_fails (λ m. tt))
 
   pub inner_fault : (x : MessageError) → kind_of_pairs avps ≡ Some kind.Sccrq → message_of avps ≡ Err x → IsInner x
-  unfolding kind_of_pairs message_of
+  unfolding kind_by message_by
   inner_fault x named failed = told (first 0 avps) named failed
     where
       numbered : (a : Avp) (n : ℕ) (o : Option Kind) → o ≡ Some kind.Sccrq → of_type n a.mandatory o avps ≡ Err x → IsInner x
       numbered a n o is e = subst (Fails IsInner) e (rw is (known_fails n a.mandatory))
 
-      typed : (a : Avp) (r : Result ℕ MessageError) → type_number a ≡ r → kind_told (Some a) ≡ Some kind.Sccrq
-          → with_type (Some a) avps ≡ Err x → IsInner x
-      typed a (Ok n) is named e = numbered a n (kind_of n) (rw is at named) (rw is at e)
+      typed : (a : Avp) (r : Result ℕ MessageError) → type_number a ≡ r → kind_told Base (Some a) ≡ Some kind.Sccrq
+          → with_type Base (Some a) avps ≡ Err x → IsInner x
+      typed a (Ok n) is named e = numbered a n (kind_of Base n) (rw is at named) (rw is at e)
       typed a (Err y) is named e = absurd (let f : None ≡ Some kind.Sccrq = rw is at named in cc)
 
-      told : (o : Option Avp) → kind_told o ≡ Some kind.Sccrq → with_type o avps ≡ Err x → IsInner x
+      told : (o : Option Avp) → kind_told Base o ≡ Some kind.Sccrq → with_type Base o avps ≡ Err x → IsInner x
       told None named e = absurd cc
       told (Some a) named e = typed a (type_number a) refl named e
 
@@ -342,18 +345,18 @@ module _ (avps : List Avp) where
         (λ u. fails_after IsInner (of_kind k avps) _ inside (λ m. tt))
 
     inner_of : (x : MessageError) → kind_of_pairs avps ≡ Some k → message_of avps ≡ Err x → IsInner x
-    unfolding kind_of_pairs message_of
+    unfolding kind_by message_by
     inner_of x named failed = told (first 0 avps) named failed
       where
         numbered : (a : Avp) (n : ℕ) (o : Option Kind) → o ≡ Some k → of_type n a.mandatory o avps ≡ Err x → IsInner x
         numbered a n o is e = subst (Fails IsInner) e (rw is (kind_fails n a.mandatory))
 
-        typed : (a : Avp) (r : Result ℕ MessageError) → type_number a ≡ r → kind_told (Some a) ≡ Some k
-            → with_type (Some a) avps ≡ Err x → IsInner x
-        typed a (Ok n) is named e = numbered a n (kind_of n) (rw is at named) (rw is at e)
+        typed : (a : Avp) (r : Result ℕ MessageError) → type_number a ≡ r → kind_told Base (Some a) ≡ Some k
+            → with_type Base (Some a) avps ≡ Err x → IsInner x
+        typed a (Ok n) is named e = numbered a n (kind_of Base n) (rw is at named) (rw is at e)
         typed a (Err y) is named e = absurd (let f : None ≡ Some k = rw is at named in cc)
 
-        told : (o : Option Avp) → kind_told o ≡ Some k → with_type o avps ≡ Err x → IsInner x
+        told : (o : Option Avp) → kind_told Base o ≡ Some k → with_type Base o avps ≡ Err x → IsInner x
         told None named e = absurd cc
         told (Some a) named e = typed a (type_number a) refl named e
 

@@ -9,7 +9,7 @@ use Rattle.wire_base.specs.declared.why.Why.TheVariants as why
 use Rattle.wire_base.specs.declared.cause.Cause.TheVariants as cause
 use Rattle.wire_base.specs.declared.letter.Letter.{Letter}
 use Rattle.control_message.specs.declared.message.Message.{Message}
-use Rattle.control_message.specs.declared.message.Message.TheVariants.{Sccrq, Sccrp, Scccn, StopCcn, Hello, Ocrq, Ocrp, Occn, Icrq, Icrp, Iccn, Cdn, Wen, Sli}
+use Rattle.control_message.specs.declared.message.Message.TheVariants.{Sccrq, Sccrp, Scccn, StopCcn, Hello, Ocrq, Ocrp, Occn, Icrq, Icrp, Iccn, Cdn, Wen, Sli, Fsq, Fsr}
 use Rattle.tunnel_fsm.specs.Rows.{state_number}
 use Rattle.call_fsm.specs.declared.table.CallEvent.{CallEvent}
 use Rattle.call_fsm.specs.declared.table.CallEvent.TheVariants as call_event
@@ -72,6 +72,8 @@ not_open x u session Ocrp about closed = absurd about
 not_open x u session Occn about closed = absurd about
 not_open x u session Wen about closed = absurd about
 not_open x u session Sli about closed = absurd about
+not_open x u session (Fsq sessions) about closed = absurd about
+not_open x u session (Fsr sessions) about closed = absurd about
 
 -- ---- rows of a call that there isn't
 
@@ -328,6 +330,8 @@ module _ (e : End) (moment : ℕ) (ev : Event) (letters : List Letter) (calls : 
   about_call_ok session Occn t f other is_open hears = absurd other
   about_call_ok session Wen t f other is_open hears = absurd other
   about_call_ok session Sli t f other is_open hears = absurd other
+  about_call_ok session (Fsq sessions) t f other is_open hears = absurd other
+  about_call_ok session (Fsr sessions) t f other is_open hears = absurd other
 
   pub in_call_ok : (session : ℕ) (m : Message) (t : Turn) → Taking e moment ev letters calls i t → OfCall m → HearsNext ev (now e moment ev letters calls i t) session m
       → Good (in_call e.role calls session m t)

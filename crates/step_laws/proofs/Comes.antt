@@ -6,7 +6,7 @@ use Rattle.wire_base.specs.declared.letter.Letter.{Letter}
 use Rattle.avp_codec.specs.Reading.{avps_at}
 use Rattle.l2tp_header.specs.declared.header.Header.{Header}
 use Rattle.control_message.specs.declared.message.Message.{Message}
-use Rattle.control_message.specs.Reading.{message_of}
+use Rattle.control_message.specs.Reading.{message_of, message_by}
 use Rattle.tunnel_fsm.specs.declared.table.TunnelState.{TunnelState}
 use Rattle.tunnel_fsm.specs.Rows.{state_number}
 use Rattle.call_fsm.specs.declared.table.CallEvent.{CallEvent}
@@ -27,7 +27,7 @@ use Rattle.step_laws.proofs.Turns.{ComesPlain, TurnOk, PlainAt, at_turn}
 
 -- an empty body is no message
 pub empty_said : (body : List ℕ) (m : Message) → message_in body ≡ Ok m → length body ≡ 0 → ⊥
-unfolding message_in pairs_read message_read avps_at message_of
+unfolding message_in pairs_read message_read avps_at message_by
 empty_said [] m said none = absurd cc
 empty_said (b ∷ body) m said none = absurd (omega (arith, none))
 

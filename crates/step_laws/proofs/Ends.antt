@@ -26,7 +26,7 @@ use Rattle.call_fsm.specs.declared.table.CallEvent.TheVariants as call_event
 use Rattle.l2tp_header.specs.declared.header.Header.{Header}
 use Rattle.l2tp_header.specs.Reading.{header_of}
 use Rattle.control_message.specs.declared.message.Message.{Message}
-use Rattle.control_message.specs.declared.message.Message.TheVariants.{Sccrq, Sccrp, Scccn, StopCcn, Hello, Ocrq, Ocrp, Occn, Icrq, Icrp, Iccn, Cdn, Wen, Sli}
+use Rattle.control_message.specs.declared.message.Message.TheVariants.{Sccrq, Sccrp, Scccn, StopCcn, Hello, Ocrq, Ocrp, Occn, Icrq, Icrp, Iccn, Cdn, Wen, Sli, Fsq, Fsr}
 use Rattle.control_message.specs.declared.message.Opening.{Opening}
 use Rattle.end_model.specs.declared.tunnel.Call.{Call}
 use Rattle.end_model.specs.declared.tunnel.Control.{Control}
@@ -545,6 +545,8 @@ module _ (e : End) (kept : AreKept e) (moment : ℕ) (ev : Event) where
       first_chain session (Ok Occn) said alone = dropped_new why.Tunnel (λ q. absurd cc)
       first_chain session (Ok Wen) said alone = dropped_new why.Tunnel (λ q. absurd cc)
       first_chain session (Ok Sli) said alone = dropped_new why.Tunnel (λ q. absurd cc)
+      first_chain session (Ok (Fsq sessions)) said alone = dropped_new why.Tunnel (λ q. absurd cc)
+      first_chain session (Ok (Fsr sessions)) said alone = dropped_new why.Tunnel (λ q. absurd cc)
       first_chain session (Err w) said alone = dropped_new why.Tunnel (λ q. absurd cc)
 
       pub first_heard : (bytes : List ℕ) (h : Header) → header_of bytes ≡ Ok h → h.control ≡ true → ev ≡ Datagram peer bytes

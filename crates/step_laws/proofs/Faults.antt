@@ -8,6 +8,7 @@ use Rattle.avp_codec.specs.declared.avp.Avp.{Avp}
 use Rattle.avp_codec.specs.declared.error.AvpError.{AvpError}
 use Rattle.avp_codec.specs.Reading.{avps_of}
 use Rattle.avp_codec.proofs.Laws.{spelled_again}
+use Rattle.control_message.specs.declared.kind.Kinds.TheVariants.{Base}
 use Rattle.control_message.specs.declared.kind.Kind.{Kind}
 use Rattle.control_message.specs.declared.kind.Kind.TheVariants as kind
 use Rattle.control_message.specs.declared.message.Read.{Read}
@@ -15,7 +16,7 @@ use Rattle.control_message.specs.declared.message.MessageError.{MessageError}
 use Rattle.control_message.specs.declared.message.MessageError.TheVariants.{NoType, UnknownType, UnknownMandatory, HiddenWithoutVector, BadValue, Missing, NoMemory}
 use Rattle.control_message.specs.Faults.{IsOfKind, HasNoType, HasUnknownType}
 use Rattle.control_message.specs.Grammar.{HasNoPlainShort}
-use Rattle.control_message.specs.Reading.{first, message_of, kind_of_pairs, plain_short}
+use Rattle.control_message.specs.Reading.{first, message_of, kind_of_pairs, plain_short, kind_by}
 use Rattle.control_message.proofs.Firsts.{first_stands, absent_first, plain_none, none_plain}
 use Rattle.control_message.proofs.Laws.{fault, kind_there, there_kind}
 use Rattle.tunnel_fsm.specs.declared.table.TunnelEvent.{TunnelEvent}
@@ -55,7 +56,7 @@ error_tells body NoMemory c has h = absurd cc
 
 -- ---- a message whose type can't be known is of no kind
 
-no_type_no_kind : (avps : List Avp) (k : Kind) → IsOfKind avps k → HasNoType avps → ⊥
+no_type_no_kind : (avps : List Avp) (k : Kind) → IsOfKind Base avps k → HasNoType avps → ⊥
 no_type_no_kind avps k is none =
     let t = is.has.has in
     let here : first 0 avps ≡ Some t.pair = first_stands 0 t.pair avps t.first in
@@ -70,12 +71,12 @@ no_type_no_kind avps k is none =
     other.2)
     none
 
-unknown_no_kind : (avps : List Avp) (n : ℕ) (k : Kind) → IsOfKind avps k → HasUnknownType avps n → ⊥
-unfolding kind_of_pairs
+unknown_no_kind : (avps : List Avp) (n : ℕ) (k : Kind) → IsOfKind Base avps k → HasUnknownType Base avps n → ⊥
+unfolding kind_by
 unknown_no_kind avps n k is u =
     let none : kind_of_pairs avps ≡ None =
     rw (first_stands 0 u.pair avps u.first, u.plain, eq-eqb (length u.pair.value) 2 u.wide, u.number, u.unknown) refl in
-    let both : None ≡ Some k = sym none ∙ there_kind avps k is in
+    let both : None ≡ Some k = sym none ∙ there_kind Base avps k is in
     absurd cc
 
 -- ---- what the body of a message says
@@ -85,10 +86,10 @@ unreadable body x failed avps fits is = let both : Err x ≡ Ok avps = sym faile
 
 module _ (body : List ℕ) (avps : List Avp) (read : avps_of body ≡ Ok avps) where
   has_first : (x : MessageError) → message_of avps ≡ Err x → HasFirst body x
-  has_first x failed = record { pairs = avps; read = read; fault = fault avps x failed }
+  has_first x failed = record { pairs = avps; read = read; fault = fault Base avps x failed }
 
   pub is_of : (k : Kind) → kind_of_pairs avps ≡ Some k → IsOf body k
-  is_of k named = record { pairs = avps; read = read; names = subst (λ (o : Option Kind). IfSome o (λ q. IsOfKind avps q)) named (kind_there avps) }
+  is_of k named = record { pairs = avps; read = read; names = subst (λ (o : Option Kind). IfSome o (λ q. IsOfKind Base avps q)) named (kind_there Base avps) }
 
   -- it has one list of pairs
   same_pairs : (others : List Avp) → avps_of body ≡ Ok others → others ≡ avps
@@ -96,7 +97,7 @@ module _ (body : List ℕ) (avps : List Avp) (read : avps_of body ≡ Ok avps) w
 
   -- and is of one kind
   kind_is : (k : Kind) → IsOf body k → kind_of_pairs avps ≡ Some k
-  kind_is k is = ap kind_of_pairs (sym (same_pairs is.pairs is.read)) ∙ there_kind is.pairs k is.names
+  kind_is k is = ap kind_of_pairs (sym (same_pairs is.pairs is.read)) ∙ there_kind Base is.pairs k is.names
 
   one_kind : (k j : Kind) → kind_of_pairs avps ≡ Some k → IsOf body j → j ≡ k
   one_kind k j named is = let both : Some j ≡ Some k = sym (kind_is j is) ∙ named in cc
@@ -125,6 +126,8 @@ about_call kind.StopCcn h = absurd cc
 about_call kind.Hello h = absurd cc
 about_call kind.Ocrp h = absurd cc
 about_call kind.Occn h = absurd cc
+about_call kind.Fsq h = absurd cc
+about_call kind.Fsr h = absurd cc
 
 -- of its value it is, and it tells no session
 value_alone : (c : CauseOf) (s : Option ℕ) → IsOfFault c → not (is_value (Some c) && is_none s) ≡ false → (c ≡ cause.Value) × IsNone s
@@ -156,6 +159,8 @@ for_none kind.StopCcn s c is about h = absurd about
 for_none kind.Hello s c is about h = absurd about
 for_none kind.Ocrp s c is about h = absurd about
 for_none kind.Occn s c is about h = absurd about
+for_none kind.Fsq s c is about h = absurd about
+for_none kind.Fsr s c is about h = absurd about
 
 -- such a one isn't answered by a CDN
 alone_none : (k : Kind) (s : Option ℕ) (c : CauseOf) → IsAlone k s c → is_for_call k s (Some c) ≡ false
@@ -248,6 +253,8 @@ kind_event kind.Hello = tt
 kind_event kind.Ocrq = tt
 kind_event kind.Ocrp = tt
 kind_event kind.Occn = tt
+kind_event kind.Fsq = tt
+kind_event kind.Fsr = tt
 kind_event kind.Icrq = tt
 kind_event kind.Icrp = tt
 kind_event kind.Iccn = tt
@@ -268,6 +275,8 @@ module _ (body : List ℕ) where
   event_by_kind kind.Ocrq is one = other_event kind.Ocrq one (λ about. about)
   event_by_kind kind.Ocrp is one = other_event kind.Ocrp one (λ about. about)
   event_by_kind kind.Occn is one = other_event kind.Occn one (λ about. about)
+  event_by_kind kind.Fsq is one = other_event kind.Fsq one (λ about. about)
+  event_by_kind kind.Fsr is one = other_event kind.Fsr one (λ about. about)
   event_by_kind kind.Icrq is one = other_event kind.Icrq one (λ about. about)
   event_by_kind kind.Icrp is one = other_event kind.Icrp one (λ about. about)
   event_by_kind kind.Iccn is one = other_event kind.Iccn one (λ about. about)
@@ -323,17 +332,17 @@ module _ (body : List ℕ) where
           by false may is = tunnel_made k g named (fault_cause x) refl may is
 
     -- it can't be of a kind
-    no_kind : ((k : Kind) → IsOfKind avps k → ⊥) → (k : Kind) → IsOf body k → ⊥
-    no_kind none k is = none k (subst (λ v. IsOfKind v k) (same_pairs body avps read is.pairs is.read) is.names)
+    no_kind : ((k : Kind) → IsOfKind Base avps k → ⊥) → (k : Kind) → IsOf body k → ⊥
+    no_kind none k is = none k (subst (λ v. IsOfKind Base v k) (same_pairs body avps read is.pairs is.read) is.names)
 
     tunnel_read : (r : Result Read MessageError) (g : TunnelFault) → message_of avps ≡ r → tunnel_fault_read avps r ≡ Some g → IsOfTunnel body g
     tunnel_read (Ok m) g made h = absurd cc
     tunnel_read (Err NoType) g made h =
         let has = has_first body avps read NoType made in
-        kindless cause.Avp g (no_kind (λ k is. no_type_no_kind avps k is (fault avps NoType made))) (inl refl) (TypeIsWanting has) h
+        kindless cause.Avp g (no_kind (λ k is. no_type_no_kind avps k is (fault Base avps NoType made))) (inl refl) (TypeIsWanting has) h
     tunnel_read (Err (UnknownType n)) g made h =
         let has = has_first body avps read (UnknownType n) made in
-        kindless cause.Mandatory g (no_kind (λ k is. unknown_no_kind avps n k is (fault avps (UnknownType n) made))) (inr (inr refl)) (TypeIsUnknown n has) h
+        kindless cause.Mandatory g (no_kind (λ k is. unknown_no_kind avps n k is (fault Base avps (UnknownType n) made))) (inr (inr refl)) (TypeIsUnknown n has) h
     tunnel_read (Err (UnknownMandatory v n)) g made h = tunnel_of (UnknownMandatory v n) (has_first body avps read _ made) (kind_of_pairs avps) g refl h
     tunnel_read (Err (HiddenWithoutVector n)) g made h = tunnel_of (HiddenWithoutVector n) (has_first body avps read _ made) (kind_of_pairs avps) g refl h
     tunnel_read (Err (BadValue n)) g made h = tunnel_of (BadValue n) (has_first body avps read _ made) (kind_of_pairs avps) g refl h

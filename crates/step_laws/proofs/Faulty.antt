@@ -140,6 +140,8 @@ module _ (e : End) (moment : ℕ) (ev : Event) (letters : List Letter) (calls : 
       faulty_ok kind.Hello is = closed_ok (ap fault_event (sym is))
       faulty_ok kind.Ocrp is = closed_ok (ap fault_event (sym is))
       faulty_ok kind.Occn is = closed_ok (ap fault_event (sym is))
+      faulty_ok kind.Fsq is = closed_ok (ap fault_event (sym is))
+      faulty_ok kind.Fsr is = closed_ok (ap fault_event (sym is))
 
     -- one of an unknown type that need not be understood
     pub unknown_ok : Good (ignores w t)

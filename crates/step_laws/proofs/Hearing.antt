@@ -11,7 +11,7 @@ use Rattle.wire_base.specs.declared.why.Why.TheVariants as why
 use Rattle.wire_base.specs.declared.cause.Cause.TheVariants as cause
 use Rattle.wire_base.specs.declared.letter.Letter.{Letter}
 use Rattle.control_message.specs.declared.message.Message.{Message}
-use Rattle.control_message.specs.declared.message.Message.TheVariants.{Sccrq, Sccrp, Scccn, StopCcn, Hello, Ocrq, Ocrp, Occn, Icrq, Icrp, Iccn, Cdn, Wen, Sli}
+use Rattle.control_message.specs.declared.message.Message.TheVariants.{Sccrq, Sccrp, Scccn, StopCcn, Hello, Ocrq, Ocrp, Occn, Icrq, Icrp, Iccn, Cdn, Wen, Sli, Fsq, Fsr}
 use Rattle.control_message.specs.declared.message.Opening.{Opening}
 use Rattle.recv_window.specs.declared.Class.{Class}
 use Rattle.recv_window.specs.declared.Class.TheVariants.{Next, Duplicate, Ahead}
@@ -165,6 +165,8 @@ module _ (e : End) (moment : ℕ) (ev : Event) (letters : List Letter) (calls : 
     hears_ok session Occn t f h = plain_at session Occn t f tt h
     hears_ok session Wen t f h = plain_at session Wen t f tt h
     hears_ok session Sli t f h = plain_at session Sli t f tt h
+    hears_ok session (Fsq sessions) t f h = plain_at session (Fsq sessions) t f tt h
+    hears_ok session (Fsr sessions) t f h = plain_at session (Fsr sessions) t f tt h
 
     hears_said_ok : (r : Result Message Why) (t : Turn) → Takes t → (k : Came) → IsNext ev (now_at t) k → message_in k.body ≡ r
         → Good (hears_said e.role e.config calls k.header.session (call_fault_in k.body) (tunnel_fault_in k.body) r t)

@@ -15,7 +15,7 @@ use Rattle.wire_base.specs.declared.letter.Letter.{Letter}
 use Rattle.l2tp_header.specs.declared.header.Header.{Header}
 use Rattle.l2tp_header.specs.declared.header.HeaderError.{HeaderError}
 use Rattle.control_message.specs.declared.message.Message.{Message}
-use Rattle.control_message.specs.declared.message.Message.TheVariants.{Sccrq, Sccrp, Scccn, StopCcn, Hello, Ocrq, Ocrp, Occn, Icrq, Icrp, Iccn, Cdn, Wen, Sli}
+use Rattle.control_message.specs.declared.message.Message.TheVariants.{Sccrq, Sccrp, Scccn, StopCcn, Hello, Ocrq, Ocrp, Occn, Icrq, Icrp, Iccn, Cdn, Wen, Sli, Fsq, Fsr}
 use Rattle.control_message.specs.declared.kind.Kind.{Kind}
 use Rattle.control_message.specs.declared.kind.Kind.TheVariants as kind
 use Rattle.recv_window.specs.declared.Class.{Class}
@@ -126,6 +126,8 @@ first_said_new role c (Ok Ocrp) t none = drops_new why.Tunnel t none
 first_said_new role c (Ok Occn) t none = drops_new why.Tunnel t none
 first_said_new role c (Ok Wen) t none = drops_new why.Tunnel t none
 first_said_new role c (Ok Sli) t none = drops_new why.Tunnel t none
+first_said_new role c (Ok (Fsq sessions)) t none = drops_new why.Tunnel t none
+first_said_new role c (Ok (Fsr sessions)) t none = drops_new why.Tunnel t none
 first_said_new role c (Err w) t none = drops_new why.Tunnel t none
 
 pub heard_new : (role : Role) (c : Config) (bytes : List ℕ) (r : Result Header HeaderError) (t : Turn) → Idle t → t.changed ≡ []

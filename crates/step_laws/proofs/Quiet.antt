@@ -13,7 +13,7 @@ use Rattle.wire_base.specs.declared.why.Why.TheVariants as why
 use Rattle.wire_base.specs.declared.cause.Cause.TheVariants as cause
 use Rattle.wire_base.specs.declared.letter.Letter.{Letter}
 use Rattle.control_message.specs.declared.message.Message.{Message}
-use Rattle.control_message.specs.declared.message.Message.TheVariants.{Sccrq, Sccrp, Scccn, StopCcn, Hello, Ocrq, Ocrp, Occn, Icrq, Icrp, Iccn, Cdn, Wen, Sli}
+use Rattle.control_message.specs.declared.message.Message.TheVariants.{Sccrq, Sccrp, Scccn, StopCcn, Hello, Ocrq, Ocrp, Occn, Icrq, Icrp, Iccn, Cdn, Wen, Sli, Fsq, Fsr}
 use Rattle.control_message.specs.declared.kind.Kind.{Kind}
 use Rattle.control_message.specs.declared.kind.Kind.TheVariants as kind
 use Rattle.recv_window.specs.declared.Class.{Class}
@@ -247,6 +247,8 @@ module _ (F : ℕ → List ℕ → Type 0) (on : Ground) where
     first_quiet role c (Ok Occn) t h = dropped why.Tunnel t h
     first_quiet role c (Ok Wen) t h = dropped why.Tunnel t h
     first_quiet role c (Ok Sli) t h = dropped why.Tunnel t h
+    first_quiet role c (Ok (Fsq sessions)) t h = dropped why.Tunnel t h
+    first_quiet role c (Ok (Fsr sessions)) t h = dropped why.Tunnel t h
     first_quiet role c (Err w) t h = dropped why.Tunnel t h
 
     -- ---- calls that are asked for
@@ -565,6 +567,8 @@ module _ (F : ℕ → List ℕ → Type 0) (on : Ground) where
     about_quiet role calls session Occn t so h = plain_quiet t h
     about_quiet role calls session Wen t so h = plain_quiet t h
     about_quiet role calls session Sli t so h = plain_quiet t h
+    about_quiet role calls session (Fsq sessions) t so h = plain_quiet t h
+    about_quiet role calls session (Fsr sessions) t so h = plain_quiet t h
 
     in_call_quiet : (role : Role) (calls : List (ℕ × Call)) (session : ℕ) (m : Message) (t : Turn) → ((s : ℕ) → OpensSo role s (at calls s)) → Quiet t → Quiet (in_call role calls session m t)
     unfolding in_call
@@ -606,6 +610,8 @@ module _ (F : ℕ → List ℕ → Type 0) (on : Ground) where
     faulty_quiet role calls session kind.Hello c said t h = closed_quiet role calls session c t h
     faulty_quiet role calls session kind.Ocrp c said t h = closed_quiet role calls session c t h
     faulty_quiet role calls session kind.Occn c said t h = closed_quiet role calls session c t h
+    faulty_quiet role calls session kind.Fsq c said t h = closed_quiet role calls session c t h
+    faulty_quiet role calls session kind.Fsr c said t h = closed_quiet role calls session c t h
 
     in_faulty_quiet : (role : Role) (calls : List (ℕ × Call)) (session : ℕ) (k : CallFault) (t : Turn) → Quiet t
         → Quiet (in_faulty_call role calls session k t)
@@ -638,6 +644,8 @@ module _ (F : ℕ → List ℕ → Type 0) (on : Ground) where
     hears_quiet role c calls session Occn t so h = plain_quiet t h
     hears_quiet role c calls session Wen t so h = plain_quiet t h
     hears_quiet role c calls session Sli t so h = plain_quiet t h
+    hears_quiet role c calls session (Fsq sessions) t so h = plain_quiet t h
+    hears_quiet role c calls session (Fsr sessions) t so h = plain_quiet t h
 
     faults_quiet : (role : Role) (c : Config) (calls : List (ℕ × Call)) (session : ℕ) (o : Option CallFault) (g : Option TunnelFault) (w : Why) (t : Turn) → Quiet t
         → Quiet (hears_faulty role c calls session o g w t)

@@ -6,7 +6,7 @@ use Rattle.id_table.specs.Ids.{ids_of}
 use Rattle.wire_base.specs.declared.why.Why.{Why as WhyOf}
 use Rattle.wire_base.specs.declared.letter.Letter.{Letter}
 use Rattle.control_message.specs.declared.message.Message.{Message}
-use Rattle.control_message.specs.declared.message.Message.TheVariants.{Sccrq, Sccrp, Scccn, StopCcn, Hello, Ocrq, Ocrp, Occn, Icrq, Icrp, Iccn, Cdn, Wen, Sli}
+use Rattle.control_message.specs.declared.message.Message.TheVariants.{Sccrq, Sccrp, Scccn, StopCcn, Hello, Ocrq, Ocrp, Occn, Icrq, Icrp, Iccn, Cdn, Wen, Sli, Fsq, Fsr}
 use Rattle.control_message.specs.declared.message.Opening.{Opening}
 use Rattle.tunnel_fsm.specs.declared.table.TunnelState.{TunnelState}
 use Rattle.tunnel_fsm.specs.declared.table.TunnelState.TheVariants as state
@@ -158,6 +158,8 @@ closed_plain x u session m closed = by (eqb-true (state_number u.control.state) 
     by four (Cdn remote code error) = λ n. absurd (omega (arith, four, n))
     by four Wen = tt
     by four Sli = tt
+    by four (Fsq sessions) = tt
+    by four (Fsr sessions) = tt
 
 module _ (e : End) (moment : ℕ) (ev : Event) (letters : List Letter) (calls : List (ℕ × Call)) (i : ℕ) where
   abbrev Good : Turn → Type 0

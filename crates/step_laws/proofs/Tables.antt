@@ -9,7 +9,7 @@ use Rattle.wire_base.specs.declared.why.Why.{Why}
 use Rattle.wire_base.specs.declared.cause.Cause.{Cause as CauseOf}
 use Rattle.wire_base.specs.declared.letter.Letter.{Letter}
 use Rattle.control_message.specs.declared.message.Message.{Message}
-use Rattle.control_message.specs.declared.message.Message.TheVariants.{Sccrq, Sccrp, Scccn, StopCcn, Hello, Ocrq, Ocrp, Occn, Icrq, Icrp, Iccn, Cdn, Wen, Sli}
+use Rattle.control_message.specs.declared.message.Message.TheVariants.{Sccrq, Sccrp, Scccn, StopCcn, Hello, Ocrq, Ocrp, Occn, Icrq, Icrp, Iccn, Cdn, Wen, Sli, Fsq, Fsr}
 use Rattle.control_message.specs.declared.kind.Kind.{Kind}
 use Rattle.control_message.specs.declared.kind.Kind.TheVariants as kind
 use Rattle.recv_window.specs.declared.Class.TheVariants.{Next}
@@ -195,6 +195,8 @@ module _ (ms ns : List Move) (more : (m : Move) → picks m ≡ m ∷ [] → Amo
   letter_more e t i session f g (Ok (Cdn remote code error)) h = tt
   letter_more e t i session f g (Ok Wen) h = tt
   letter_more e t i session f g (Ok Sli) h = tt
+  letter_more e t i session f g (Ok (Fsq sessions)) h = tt
+  letter_more e t i session f g (Ok (Fsr sessions)) h = tt
 
 -- ---- a turn that takes the letter
 
@@ -453,6 +455,8 @@ module _ (e : End) (i : ℕ) (tunnel : Tunnel) (session : ℕ) (t : Turn) (h : I
     faulty_done kind.Hello is about = absurd about
     faulty_done kind.Ocrp is about = absurd about
     faulty_done kind.Occn is about = absurd about
+    faulty_done kind.Fsq is about = absurd about
+    faulty_done kind.Fsr is about = absurd about
 
   -- of another letter: by the row of the tunnel's table
   tunnel_done : (g : TunnelFault) → TunnelIsDone tunnel i g (takes e.role e.config calls (fault_reason g.cause) g.event None g.remote 0 t).moves
@@ -504,6 +508,8 @@ module _ (e : End) (i : ℕ) (tunnel : Tunnel) (session : ℕ) (t : Turn) (h : I
     said_done (Ok (Cdn remote code error)) = tt
     said_done (Ok Wen) = tt
     said_done (Ok Sli) = tt
+    said_done (Ok (Fsq sessions)) = tt
+    said_done (Ok (Fsr sessions)) = tt
 
     pub next_done : is_closed tunnel.control.state ≡ false → Said (message_in body) (hears_next e.role e.config calls session body t)
     unfolding hears_next

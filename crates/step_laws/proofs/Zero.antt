@@ -10,7 +10,7 @@ use Rattle.avp_codec.specs.Reading.{avps_of}
 use Rattle.control_message.specs.declared.kind.Kind.{Kind}
 use Rattle.control_message.specs.declared.kind.Kind.TheVariants as kind
 use Rattle.control_message.specs.declared.message.Message.{Message}
-use Rattle.control_message.specs.declared.message.Message.TheVariants.{Sccrq, Sccrp, Scccn, StopCcn, Hello, Ocrq, Ocrp, Occn, Icrq, Icrp, Iccn, Cdn, Wen, Sli}
+use Rattle.control_message.specs.declared.message.Message.TheVariants.{Sccrq, Sccrp, Scccn, StopCcn, Hello, Ocrq, Ocrp, Occn, Icrq, Icrp, Iccn, Cdn, Wen, Sli, Fsq, Fsr}
 use Rattle.control_message.specs.declared.message.Opening.{Opening}
 use Rattle.control_message.specs.declared.message.Read.{Read}
 use Rattle.control_message.specs.declared.message.Read.TheVariants.{Known, Ignored}
@@ -94,6 +94,8 @@ module _ (body : List ℕ) where
       says_faulty (Some kind.Ocrq) named = for_none
       says_faulty (Some kind.Ocrp) named = for_none
       says_faulty (Some kind.Occn) named = for_none
+      says_faulty (Some kind.Fsq) named = for_none
+      says_faulty (Some kind.Fsr) named = for_none
       says_faulty (Some kind.Icrq) named = for_none
       says_faulty (Some kind.Icrp) named = for_none
       says_faulty (Some kind.Iccn) named = for_none
@@ -122,6 +124,8 @@ module _ (body : List ℕ) where
     says_read (Ok (Known Occn)) is = for_none
     says_read (Ok (Known Wen)) is = for_none
     says_read (Ok (Known Sli)) is = for_none
+    says_read (Ok (Known (Fsq sessions))) is = for_none
+    says_read (Ok (Known (Fsr sessions))) is = for_none
     says_read (Ok (Ignored n)) is = for_none
     says_read (Err x) is = says_faulty x is (kind_of_pairs avps) refl
 

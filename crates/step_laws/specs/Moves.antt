@@ -8,7 +8,7 @@ use Rattle.id_source.specs.Spaces.{draws, after_draw}
 use Rattle.l2tp_header.specs.declared.header.Header.{Header}
 use Rattle.l2tp_header.specs.Reading.{header_of}
 use Rattle.control_message.specs.declared.message.Message.{Message}
-use Rattle.control_message.specs.declared.message.Message.TheVariants.{Sccrq, Sccrp, Scccn, StopCcn, Hello, Ocrq, Ocrp, Occn, Icrq, Icrp, Iccn, Cdn, Wen, Sli}
+use Rattle.control_message.specs.declared.message.Message.TheVariants.{Sccrq, Sccrp, Scccn, StopCcn, Hello, Ocrq, Ocrp, Occn, Icrq, Icrp, Iccn, Cdn, Wen, Sli, Fsq, Fsr}
 use Rattle.control_message.specs.declared.kind.Kind.{Kind}
 use Rattle.control_message.specs.declared.kind.Kind.TheVariants as kind
 use Rattle.control_message.specs.declared.message.Opening.{Opening}
@@ -593,6 +593,8 @@ IsPlain e t session Ocrp = Unit {0}
 IsPlain e t session Occn = Unit {0}
 IsPlain e t session Wen = Unit {0}
 IsPlain e t session Sli = Unit {0}
+IsPlain e t session (Fsq sessions) = Unit {0}
+IsPlain e t session (Fsr sessions) = Unit {0}
 -- a request that names a call makes none
 IsPlain e t session (Icrq remote serial calling) = state_number t.control.state ≡ 3 → (c : Call) × (at t.calls session ≡ Some c)
 IsPlain e t session (Icrp remote) = state_number t.control.state ≡ 3

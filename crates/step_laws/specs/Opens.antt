@@ -6,12 +6,12 @@ use Rattle.avp_codec.specs.declared.avp.Avp.{Avp}
 use Rattle.avp_codec.specs.declared.error.AvpError.{AvpError}
 use Rattle.avp_codec.specs.Reading.{avps_at, avps_of}
 use Rattle.control_message.specs.declared.message.Message.{Message}
-use Rattle.control_message.specs.declared.message.Message.TheVariants.{Sccrq, Sccrp, Scccn, StopCcn, Hello, Ocrq, Ocrp, Occn, Icrq, Icrp, Iccn, Cdn, Wen, Sli}
+use Rattle.control_message.specs.declared.message.Message.TheVariants.{Sccrq, Sccrp, Scccn, StopCcn, Hello, Ocrq, Ocrp, Occn, Icrq, Icrp, Iccn, Cdn, Wen, Sli, Fsq, Fsr}
 use Rattle.control_message.specs.declared.message.Opening.{Opening}
 use Rattle.control_message.specs.declared.message.Read.{Read}
 use Rattle.control_message.specs.declared.message.Read.TheVariants.{Known, Ignored}
 use Rattle.control_message.specs.declared.message.MessageError.{MessageError}
-use Rattle.control_message.specs.Reading.{message_of, kind_of_pairs}
+use Rattle.control_message.specs.Reading.{message_of, kind_of_pairs, message_by, kind_by}
 use Rattle.end_model.specs.declared.event.Addressee.TheVariants.{Opens, Stops, Nobody}
 use Rattle.end_model.specs.Reading.{message_read, pairs_read, message_in, zero_read, zero_pairs, at_zero}
 
@@ -39,6 +39,8 @@ known_opens avps (Iccn speed framing sequenced) remote h = absurd cc
 known_opens avps (Cdn session code error) remote h = absurd cc
 known_opens avps Wen remote h = absurd cc
 known_opens avps Sli remote h = absurd cc
+known_opens avps (Fsq sessions) remote h = absurd cc
+known_opens avps (Fsr sessions) remote h = absurd cc
 
 read_opens : (avps : List Avp) (r : Result Read MessageError) (m : Message) (remote : ℕ) → zero_read avps r ≡ Opens remote → message_read r ≡ Ok m
     → Assigns m remote
@@ -59,5 +61,5 @@ unfolding at_zero message_in
 opens_said body m remote h said = pairs_open (avps_of body) m remote h said
 
 pub empty_opens_none : (remote : ℕ) → at_zero [] ≡ Opens remote → ⊥
-unfolding at_zero zero_pairs zero_read avps_at message_of kind_of_pairs
+unfolding at_zero zero_pairs zero_read avps_at message_by kind_by
 empty_opens_none remote h = absurd cc

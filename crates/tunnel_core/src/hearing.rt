@@ -244,9 +244,13 @@ fn hear_letter(
             let event = TunnelEvent::StopCcnCame;
             take_letter(turn, role, config, calls, &reason, event, &None, 0, 0)
         }
-        Message::Hello | Message::Ocrp | Message::Occn | Message::Wen | Message::Sli => {
-            turn.take_plain()
-        }
+        Message::Hello
+        | Message::Ocrp
+        | Message::Occn
+        | Message::Wen
+        | Message::Sli
+        | Message::Fsq(_)
+        | Message::Fsr(_) => turn.take_plain(),
         _ => hear_in_call(turn, role, calls, session, message),
     }
 }

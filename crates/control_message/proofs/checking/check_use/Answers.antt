@@ -1,6 +1,6 @@
-use Rattle.std.proofs.Common.{◌≡◌, true, false, Some, is_some, rules, sym, ◌∙◌}
+use Rattle.std.proofs.Common.{◌≡◌, ◌&&◌, true, false, Some, is_some, rules, sym, ◌∙◌}
 use Rattle.control_message.specs.Table.{shape_of}
-use Rattle.control_message.specs.Reading.{first}
+use Rattle.control_message.specs.Reading.{counts_once, first}
 use Rattle.control_message.proofs.Walk.{used_below}
 use Rattle.control_message.proofs.checking.check_use.Goals as goal
 
@@ -8,13 +8,13 @@ pub returns-in-Some : goal.returns-in-Some
 returns-in-Some c = λ before h.
     let shape : shape_of c.args.kind c.args.avp.now.attribute ≡ Some c.in-Some.field-0 = sym c.shape.ensures ∙ c.in-Some.is in
     let below = used_below c.args.kind c.args.avp.now.attribute c.in-Some.field-0 shape in
-    let seen : is_some (first c.args.avp.now.attribute before) ≡ true = sym (c.has.ensures before h below) ∙ c.if-has.true in
+    let seen : (counts_once c.args.avp.now.attribute && is_some (first c.args.avp.now.attribute before)) ≡ true = sym (c.passes_over.ensures before h below) ∙ c.if-passes_over.true in
     search rules
 
 pub returns-in-Some-2 : goal.returns-in-Some-2
 returns-in-Some-2 c = λ before h.
     let shape : shape_of c.args.kind c.args.avp.now.attribute ≡ Some c.in-Some.field-0 = sym c.shape.ensures ∙ c.in-Some.is in
     let below = used_below c.args.kind c.args.avp.now.attribute c.in-Some.field-0 shape in
-    let seen : is_some (first c.args.avp.now.attribute before) ≡ false = sym (c.has.ensures before h below) ∙ c.if-has.false in
+    let seen : (counts_once c.args.avp.now.attribute && is_some (first c.args.avp.now.attribute before)) ≡ false = sym (c.passes_over.ensures before h below) ∙ c.if-passes_over.false in
     let vector = h.vector in
     search rules
