@@ -3,7 +3,7 @@ use Rattle.std.proofs.Common.{◌≡◌, inl, inr, ⊎_elim, ℕ, ◌+◌, ◌-�
 use Rattle.std.specs.Prelude.{is_some, if◌then◌else◌, slice_get}
 use Rattle.std.specs.List.{AllByRecursion}
 use Rattle.id_table.specs.Ids.{at}
-use Rattle.id_source.specs.Spaces.{draws}
+use Rattle.id_source.specs.Spaces.{takes_id}
 use Rattle.id_source.specs.declared.IdError.{IdError}
 use Rattle.pppoe_discovery.specs.declared.outcome.Discovered.{Discovered}
 use Rattle.wire_base.specs.declared.why.Why.{Why}
@@ -148,9 +148,9 @@ module _ (w : World) (number n : ℕ) (bytes : List ℕ) (l : LacAt w n) where
 -- what the PADS of a host that entered says
 entry_answered : (before : End) (asked : Discovered) (s : Stepped) → AnswersEntry before asked s (pads_of before asked s)
 unfolding pads_of
-entry_answered before asked s = by (draws before.session_ids) refl
+entry_answered before asked s = by (takes_id before.session_ids) refl
   where
-    by : (r : Result ℕ IdError) → draws before.session_ids ≡ r → AnswersEntry before asked s (pads_for before asked s.outputs (live_in s.end r))
+    by : (r : Result ℕ IdError) → takes_id before.session_ids ≡ r → AnswersEntry before asked s (pads_for before asked s.outputs (live_in s.end r))
     by (Err x) is = WithCause (λ session drawn. absurd cc) refl
     by (Ok q) is = of (is_some (at s.end.calls q)) refl
       where

@@ -55,7 +55,7 @@ module _ {X : Type 0} (see : Node → X) (still : (node : Node) (births : List (
   move_same n w (move.Closed m) = λ k. refl
   move_same n w (move.Rejected m) = λ k. refl
   move_same n w (move.ClosedBy m) = λ k. refl
-  move_same n w (move.Cleared i) = λ k. refl
+  move_same n w (move.Cleared i booked) = λ k. refl
   move_same n w (move.Greeted m) = λ k. refl
   move_same n w (move.TookPlain m) = λ k. refl
   move_same n w (move.NrRead m) = λ k. refl

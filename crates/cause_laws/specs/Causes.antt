@@ -16,7 +16,7 @@ use Rattle.end_model.specs.Secrets.{uncovered_event}
 use Rattle.end_model.specs.Calls.{owed_by}
 use Rattle.end_model.specs.Tunnels.{Tunnel}
 use Rattle.end_model.specs.Moments.{is_closed}
-use Rattle.id_source.specs.Spaces.{draws}
+use Rattle.id_source.specs.Spaces.{takes_id}
 use Rattle.pppoe_wire.specs.declared.frame.Tag.{Tag}
 use Rattle.pppoe_discovery.specs.Told.{pads_to}
 use Rattle.end_model.specs.End.{End, Stepped, step}
@@ -98,9 +98,9 @@ pub record IsFullAt (w : World) (l : Line) (n : ℕ) : Type 0 where
 
 -- a host that entered gets the PADS of the session that was drawn for it, where its call lives after the step; else one with a cause
 pub data AnswersEntry (before : End) (asked : Discovered) (s : Stepped) (frame : List ℕ) : Type 0 where
-  WithSession : (session : ℕ) → draws before.session_ids ≡ Ok session → is_some (at s.end.calls session) ≡ true
+  WithSession : (session : ℕ) → takes_id before.session_ids ≡ Ok session → is_some (at s.end.calls session) ≡ true
       → frame ≡ pads_to (mac_of before.config.number) asked session None → AnswersEntry before asked s frame
-  WithCause : ((session : ℕ) → draws before.session_ids ≡ Ok session → is_some (at s.end.calls session) ≡ false)
+  WithCause : ((session : ℕ) → takes_id before.session_ids ≡ Ok session → is_some (at s.end.calls session) ≡ false)
       → frame ≡ pads_to (mac_of before.config.number) asked 0 (Some (refusal_in s.outputs)) → AnswersEntry before asked s frame
 
 -- a frame that a line tells answers a host: as discovery does, a PADI by a PADO and a PADR by a refusal; a PADR that repeats that of a live

@@ -4,7 +4,7 @@ use Rattle.std.proofs.lemmas.Option.{none-some, slice_get_within}
 use Rattle.std.specs.Prelude.{slice_get}
 use Rattle.id_table.specs.Ids.{at-none}
 use Rattle.id_table.specs.Order.{ascends-empty}
-use Rattle.id_source.specs.Spaces.{Space}
+use Rattle.id_source.specs.Spaces.{Space, ceiling_for, draw_is, next_is}
 use Rattle.control_message.specs.declared.message.Message.TheVariants.{Sccrq, Sccrp}
 use Rattle.tunnel_fsm.specs.declared.table.TunnelState.TheVariants.{WaitCtlConn}
 use Rattle.tunnel_fsm.specs.Rows.{state_number}
@@ -18,7 +18,7 @@ use Rattle.end_model.specs.declared.tunnel.Control.{Control}
 use Rattle.end_names.specs.Names.{address_of, node_of}
 use Rattle.end_model.specs.Tunnels.{Tunnel}
 use Rattle.end_model.specs.Channels.{letter_of, counts_taken, learns_window}
-use Rattle.end_model.specs.Messages.{opening_of}
+use Rattle.end_model.specs.Messages.{flags_of, opening_of}
 use Rattle.end_model.specs.End.{End}
 use Rattle.world_model.specs.World.{Sender, Deed, config_of}
 use Rattle.step_laws.specs.Letters.{Letter}
@@ -30,7 +30,7 @@ use Rattle.connection_laws.proofs.Keeps.{after, IsMoved}
 use Rattle.connection_laws.proofs.Puts.{IsOnly, StaysJoined}
 use Rattle.connection_laws.proofs.Later.{after_move, only_after}
 use Rattle.connection_laws.proofs.Put.{puts_keep}
-use Rattle.connection_laws.proofs.Written.{asks_short, responds_sized, opening_written, same_opening, draw_is, next_is, node_again, node_fits}
+use Rattle.connection_laws.proofs.Written.{asks_short, responds_sized, opening_written, same_opening, node_again, node_fits}
 use Rattle.connection_laws.proofs.Beginning.{undrawn}
 use Rattle.end_model.specs.Reading.{body_of, message_in}
 use Rattle.connection_laws.proofs.Alike.{read_same}
@@ -193,14 +193,18 @@ module _ (codecs : Codecs) (accs : Accounts) (n : ℕ) (e x : End) (sender : Opt
 
   -- ---- the tunnel
 
+  -- before the window is learned
+  abbrev first_control : Control
+  first_control = record (begun m.tunnel m.peer m.remote WaitCtlConn moment m.challenge) { flags = flags_of h.does.opening.failover }
+
   abbrev c : Control
-  c = learns_window m.window (begun m.tunnel m.peer m.remote WaitCtlConn moment m.challenge)
+  c = learns_window m.window first_control
 
   abbrev u : Tunnel
   u = with_letter 0 (Sccrp (opening_of e.role e.config m.challenge m.response m.tunnel)) (new_tunnel (counts_taken c))
 
-  learns : IsLearnt (begun m.tunnel m.peer m.remote WaitCtlConn moment m.challenge) c
-  learns = learnt m.window (begun m.tunnel m.peer m.remote WaitCtlConn moment m.challenge)
+  learns : IsLearnt first_control c
+  learns = learnt m.window first_control
 
   live : LiveOk ms n i b u
   live =
@@ -241,7 +245,7 @@ module _ (codecs : Codecs) (accs : Accounts) (n : ℕ) (e x : End) (sender : Opt
       absurd (not_learned (sym (ap (λ (a : Account). a.remote) stays) ∙ subst (λ (a : Account). (partner_in ms a).remote ≡ i) is names))
 
   abbrev after_it : End
-  after_it = record (with_tunnel e i u) { tunnel_ids = record e.tunnel_ids { next = i + 1 } }
+  after_it = record (with_tunnel e i u) { tunnel_ids = record e.tunnel_ids { ceiling = ceiling_for e.tunnel_ids; next = i + 1 } }
 
   accepts : Within ms n after_it sender ev
   accepts =

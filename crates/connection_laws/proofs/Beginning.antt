@@ -1,6 +1,7 @@
 -- A tunnel is opened.
 use Rattle.std.proofs.Common.{◌≡◌, inl, ℕ, ◌+◌, ◌<◌, ◌≤◌, [], ◌∷◌, ◌++◌, false, refl, sym, ap, ◌∙◌, subst, Option, None, arith, List}
 use Rattle.std.proofs.lemmas.Option.{none-some}
+use Rattle.id_source.specs.Spaces.{ceiling_for, draw_is, next_is}
 use Rattle.id_table.specs.Ids.{at-none}
 use Rattle.id_table.specs.Order.{ascends-empty}
 use Rattle.control_message.specs.declared.message.Message.TheVariants.{Sccrq}
@@ -26,7 +27,7 @@ use Rattle.connection_laws.proofs.Keeps.{IsDeed, after, IsMoved}
 use Rattle.connection_laws.proofs.Puts.{IsOnly, NearAt, ComesNear}
 use Rattle.connection_laws.proofs.Later.{after_move, only_after}
 use Rattle.connection_laws.proofs.Put.{puts_keep}
-use Rattle.connection_laws.proofs.Written.{asks_short, opening_written, same_opening, draw_is, next_is, node_again, node_fits}
+use Rattle.connection_laws.proofs.Written.{asks_short, opening_written, same_opening, node_again, node_fits}
 
 -- an id that wasn't drawn is that of no tunnel
 pub undrawn : (accs : Accounts) (n : ℕ) (e : End) (sender : Option Sender) (ev : Event) → Within accs n e sender ev → (i : ℕ) → i ≡ e.tunnel_ids.next
@@ -61,7 +62,7 @@ module _ (accs : Accounts) (n : ℕ) (e : End) (sender : Option Sender) (moment 
   new = with_letter 0 (Sccrq (opening_of e.role e.config m.challenge None m.tunnel)) (new_tunnel (begun m.tunnel m.peer 0 WaitCtlReply moment m.challenge))
 
   abbrev after_it : End
-  after_it = record (with_tunnel e i new) { tunnel_ids = record e.tunnel_ids { next = m.tunnel + 1 } }
+  after_it = record (with_tunnel e i new) { tunnel_ids = record e.tunnel_ids { ceiling = ceiling_for e.tunnel_ids; next = m.tunnel + 1 } }
 
   unmade : accs n i ≡ no_account
   unmade = undrawn accs n e sender ev within i next

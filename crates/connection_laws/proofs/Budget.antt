@@ -132,7 +132,7 @@ does_below e x moment ev (move.Closed m) most order few had h =
     old_below e x (most + 8192 * 0) m.tunnel h.tunnel _ (more_below e most (8192 * 0) had) h.there (tunnels_are x _ h.after) refl
 does_below e x moment ev (move.ClosedBy m) most order few had h =
     old_below e x (most + 8192 * 0) m.tunnel h.tunnel _ (more_below e most (8192 * 0) had) h.there (tunnels_are x _ h.after) refl
-does_below e x moment ev (move.Cleared k) most order few had h =
+does_below e x moment ev (move.Cleared k booked) most order few had h =
     λ i t there. more_below e most (8192 * 0) had i t (found_without e.tunnels k i t order (let g = rw (tunnels_are x _ h.after) at there in g)).1
 does_below e x moment ev (move.Greeted m) most order few had h =
     old_below e x (most + 8192 * 0) m.tunnel h.tunnel _ (more_below e most (8192 * 0) had) h.there (tunnels_are x _ h.after) refl
@@ -184,7 +184,7 @@ does_give e x moment ev (move.Declined m) d a h = inl refl
 does_give e x moment ev (move.Rejected m) d a h = inr (put_live e x m.tunnel _ (tunnels_are x _ h.after))
 does_give e x moment ev (move.Closed m) d a h = inr (put_live e x m.tunnel _ (tunnels_are x _ h.after))
 does_give e x moment ev (move.ClosedBy m) d a h = inl refl
-does_give e x moment ev (move.Cleared k) d a h = inl refl
+does_give e x moment ev (move.Cleared k booked) d a h = inl refl
 does_give e x moment ev (move.Greeted m) d a h = inr (put_live e x m.tunnel _ (tunnels_are x _ h.after))
 does_give e x moment ev (move.TookPlain m) d a h = inl refl
 does_give e x moment ev (move.NrRead m) d a h = inl refl

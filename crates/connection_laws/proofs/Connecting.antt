@@ -120,13 +120,13 @@ module _ (codecs : Codecs) (classes : ClassIsTrue) (accs : Accounts) (n : ℕ) (
 
   -- the control part with what is learned
   abbrev c : Control
-  c = learns_window m.window (record t.control { remote = m.remote; state = Established })
+  c = learns_window m.window (record t.control { remote = m.remote; flags = m.flags; state = Established })
 
   abbrev u : Tunnel
   u = with_letter 0 (Scccn m.response) (record t { control = counts_taken c })
 
-  learns : IsLearnt (record t.control { remote = m.remote; state = Established }) c
-  learns = learnt m.window (record t.control { remote = m.remote; state = Established })
+  learns : IsLearnt (record t.control { remote = m.remote; flags = m.flags; state = Established }) c
+  learns = learnt m.window (record t.control { remote = m.remote; flags = m.flags; state = Established })
 
   live : LiveOk accs n i a t
   live = h.within.end.live i t h.does.there
@@ -211,7 +211,7 @@ module _ (codecs : Codecs) (classes : ClassIsTrue) (accs : Accounts) (n : ℕ) (
       let other = z.part in
       let made_there : IsMade (accs a.peer z.acceptor) = λ none. (let no : ⊥ = cc in no) in
       let some = (h.within.accounts a.peer z.acceptor).some made_there in
-      let it : ControlOrigin = record { tunnel = z.acceptor; epoch = 0; ns = 0; nr = 0; empty = true } in
+      let it : ControlOrigin = record { tunnel = z.acceptor; ns = 0; nr = 0; empty = true } in
       let only_one = alone_one a (accs a.peer z.acceptor)
       (acceptor_alone accs n i it h.within.accounts z.part z.remote z.peer (λ q. let none = first.none in let no : ⊥ = omega arith in no)) found in
       omega arith)

@@ -1,6 +1,7 @@
 -- The moves that take no letter and read no Nr keep what holds.
 use Rattle.std.proofs.Common.{None, ◌≡◌, ◌⊎◌, inl, inr, ⊎_elim, ℕ, ◌+◌, ◌<◌, ◌≤◌, Bool, true, false, cond, List, [], ◌∷◌, length, refl, sym, ap, ◌∙◌, subst, append-nil, Option, Some, arith}
 use Rattle.std.proofs.lemmas.Bool.{ltb-true, true≢false}
+use Rattle.id_source.specs.Spaces.{draw_is, next_is}
 use Rattle.std.specs.Prelude.{◌==◌, ◌&&◌, nat_lt, if◌then◌else◌}
 use Rattle.id_table.specs.Ids.{at, put, without}
 use Rattle.id_table.specs.Order.{Ascends, ascends-put, found_put, ascends-without, found_without}
@@ -49,7 +50,7 @@ use Rattle.connection_laws.proofs.Later.{extends_same, DeclinesNone, MayEnter, a
 use Rattle.connection_laws.proofs.States.{no_call, waits_untold, rung_waits}
 use Rattle.connection_laws.proofs.Removed.{removed_keeps}
 use Rattle.connection_laws.proofs.GoingOn.{GoesOn, with_given, goes_on}
-use Rattle.connection_laws.proofs.Written.{request_written, draw_is, next_is}
+use Rattle.connection_laws.proofs.Written.{request_written}
 
 -- ---- one letter is given
 
@@ -296,10 +297,10 @@ frame_up_keeps accs n e x sender moment ev m d h =
     still accs n e x sender moment ev (move.FrameUp m) d h tt refl (subst (λ y. Within accs n y sender ev) (sym h.does.after) h.within)
 
 -- the tunnel isn't there any more
-pub cleared_keeps : (accs : Accounts) (n : ℕ) (e x : End) (sender : Option Sender) (moment : ℕ) (ev : Event) (i : ℕ) (d : Deed)
-    → IsMoved accs n e x sender moment ev (move.Cleared i) d → Within (after accs d) n x sender ev
-cleared_keeps accs n e x sender moment ev i d h =
-    still accs n e x sender moment ev (move.Cleared i) d h tt refl
+pub cleared_keeps : (accs : Accounts) (n : ℕ) (e x : End) (sender : Option Sender) (moment : ℕ) (ev : Event) (i : ℕ) (booked : Bool) (d : Deed)
+    → IsMoved accs n e x sender moment ev (move.Cleared i booked) d → Within (after accs d) n x sender ev
+cleared_keeps accs n e x sender moment ev i booked d h =
+    still accs n e x sender moment ev (move.Cleared i booked) d h tt refl
     (subst (λ y. Within accs n y sender ev) (sym h.does.after) (removed_keeps accs n e sender ev h.within i _))
 
 -- ---- its calls change

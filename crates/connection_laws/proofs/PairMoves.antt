@@ -4,7 +4,7 @@ use Rattle.std.proofs.lemmas.Bool.{ltb-true}
 use Rattle.std.specs.List.{AllByRecursion}
 use Rattle.id_table.specs.Ids.{at, put, without}
 use Rattle.id_table.specs.Order.{Ascends, ascends-put, found_put, ascends-without, found_without, same_or_not}
-use Rattle.id_source.specs.Spaces.{Space, draws, after_draw}
+use Rattle.id_source.specs.Spaces.{Space, takes_id, after_id, draw_is, next_is}
 use Rattle.control_message.specs.declared.message.Message.{Message}
 use Rattle.control_message.specs.declared.message.Message.TheVariants.{Scccn, Icrq, Icrp, Iccn, Cdn}
 use Rattle.recv_window.specs.Window.{ClassIsTrue}
@@ -46,7 +46,6 @@ use Rattle.connection_laws.specs.Facts.{Accounts, IsNoOpening, IsNoStop, IsStopC
 use Rattle.connection_laws.proofs.Keeps.{after, IsMoved}
 use Rattle.connection_laws.proofs.Puts.{IsOnly, EndPut}
 use Rattle.connection_laws.proofs.Later.{after_move, only_after}
-use Rattle.connection_laws.proofs.Written.{draw_is, next_is}
 use Rattle.connection_laws.proofs.Said.{no_stop_is}
 use Rattle.connection_laws.proofs.Alike.{stop_alike, alike_back, same_alike, request_alike, read_written}
 use Rattle.connection_laws.proofs.Hearing.{said_in, Heard}
@@ -189,8 +188,8 @@ pub unclosed_so : (t : Tunnel) → state_number t.control.state ≡ 3 → state_
 unclosed_so t three four = let no : ⊥ = omega arith in no
 
 -- a session id was drawn too
-replied_put : (e x : End) (places : List (ℕ × CallPlace)) (i : ℕ) (u : Tunnel) (s : ℕ) → draws e.session_ids ≡ Ok s
-    → x ≡ record (with_tunnel e i u) { session_ids = after_draw e.session_ids; calls = places } → EndPut e x i u
+replied_put : (e x : End) (places : List (ℕ × CallPlace)) (i : ℕ) (u : Tunnel) (s : ℕ) → takes_id e.session_ids ≡ Ok s
+    → x ≡ record (with_tunnel e i u) { session_ids = after_id e.session_ids; calls = places } → EndPut e x i u
 replied_put e x places i u s drawn is =
     let id = (draw_is e.session_ids s drawn).0 in
     subst (λ (y : End). EndPut e y i u)

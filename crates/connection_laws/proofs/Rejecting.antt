@@ -215,7 +215,7 @@ module _ (codecs : Codecs) (classes : ClassIsTrue) (accs : Accounts) (n : ℕ) (
       let other = z.part in
       let made_there : IsMade (accs a.peer z.acceptor) = λ none. (let no : ⊥ = cc in no) in
       let some = (h.within.accounts a.peer z.acceptor).some made_there in
-      let it : ControlOrigin = record { tunnel = z.acceptor; epoch = 0; ns = 0; nr = 0; empty = true } in
+      let it : ControlOrigin = record { tunnel = z.acceptor; ns = 0; nr = 0; empty = true } in
       let only_one = alone_one a (accs a.peer z.acceptor)
       (acceptor_alone accs n i it h.within.accounts z.part z.remote z.peer (λ q. let none = first.none in let no : ⊥ = omega arith in no)) found in
       omega arith)

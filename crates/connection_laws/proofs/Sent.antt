@@ -139,14 +139,14 @@ module _ (ms : Accounts) (n : ℕ) (x : End) (sender : Option Sender) (ev : Even
     pub carries_ok : (moves : List Move) → FramesFit moves → (o : Origin) → Carries t moves bytes o → PacketOk ms (packet o)
     carries_ok moves fit o (carries.ALetter l number lt is origin_is are) =
         let k = is_letter number l lt is in
-        let c : ControlOrigin = record { tunnel = t.control.local; epoch = 0; ns = number; nr = t.control.channel.inbox.taken; empty = false } in
+        let c : ControlOrigin = record { tunnel = t.control.local; ns = number; nr = t.control.channel.inbox.taken; empty = false } in
         let nr = on_wire t.control.channel.inbox.taken in
         packet_of o c refl origin_is (copy o c refl (ALetter k.letter refl k.there (are
         ∙ ap (λ (q : wire.Letter). control_bytes t.control.remote q.session (on_wire number) nr q.avps) k.same
         ∙ ap (λ (q : ℕ). control_bytes t.control.remote q (on_wire number) nr (kept_letter k.letter).avps)
         (kept_session k.letter.session k.letter.message k.letter.hidden))))
     carries_ok moves fit o (carries.Nothing number origin_is are) =
-        let c : ControlOrigin = record { tunnel = t.control.local; epoch = 0; ns = number; nr = t.control.channel.inbox.taken; empty = true } in
+        let c : ControlOrigin = record { tunnel = t.control.local; ns = number; nr = t.control.channel.inbox.taken; empty = true } in
         packet_of o c refl origin_is (copy o c refl (Nothing refl are))
     carries_ok moves fit o (carries.AFrame f among tunnel_is same origin_is are) = record {
       from = within.end.node;

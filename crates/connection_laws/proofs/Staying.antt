@@ -277,7 +277,7 @@ declines_or_not (move.Declined m) = inr (record { declined = m; is = refl })
 declines_or_not (move.Closed m) = inl tt
 declines_or_not (move.Rejected m) = inl tt
 declines_or_not (move.ClosedBy m) = inl tt
-declines_or_not (move.Cleared k) = inl tt
+declines_or_not (move.Cleared k booked) = inl tt
 declines_or_not (move.Greeted m) = inl tt
 declines_or_not (move.TookPlain m) = inl tt
 declines_or_not (move.NrRead m) = inl tt

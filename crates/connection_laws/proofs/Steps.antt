@@ -2,7 +2,7 @@
 use Rattle.std.proofs.Common.{◌≡◌, ⊎_elim, ℕ, ◌+◌, ◌*◌, ◌^◌, ◌<◌, ◌≤◌, List, [], ◌∷◌, ◌++◌, length, map, refl, sym, ap, ◌∙◌, subst, Option, Some, Ok, arith, flat_map}
 use Rattle.std.proofs.lemmas.List.{length-append}
 use Rattle.id_table.specs.Ids.{at}
-use Rattle.id_source.specs.Spaces.{draws}
+use Rattle.id_source.specs.Spaces.{takes_id, draw_is}
 use Rattle.tunnel_fsm.specs.Rows.{state_number}
 use Rattle.end_model.specs.declared.event.Event.{Event}
 use Rattle.end_model.specs.declared.moves.Declined.{Declined}
@@ -26,7 +26,6 @@ use Rattle.connection_laws.specs.Steps.{MovesWithin, ClosingsAreKnown, DeclinesA
 use Rattle.connection_laws.proofs.Later.{extends_same, extends_on, AllExtend, all_extend, DeclinesNone, MayEnter, only_after, after_there}
 use Rattle.connection_laws.proofs.Staying.{Stays, stays_same, stays_on, all_stay_extend, given_stays, IsDeclining, declines_or_not, opening_stays, WasOpening, was_opening, opening_later}
 use Rattle.connection_laws.proofs.States.{not_closed, is_open_so, is_waiting, closes_open}
-use Rattle.connection_laws.proofs.Written.{draw_is}
 use Rattle.connection_laws.proofs.Beginning.{undrawn}
 use Rattle.connection_laws.proofs.Budget.{AckedBelow, GivenBelow, does_below, given_after, has_numbers, has_counts, few_out}
 
@@ -34,7 +33,7 @@ use Rattle.connection_laws.proofs.Budget.{AckedBelow, GivenBelow, does_below, gi
 
 module _ (closings : ClosingsAreKnown) (accs : Accounts) (n : ℕ) (e : End) (sender : Option Sender) (moment : ℕ) (ev : Event)
     (within : Within accs n e sender ev) where
-  drawn_unknown : (k : ℕ) → draws e.tunnel_ids ≡ Ok k → accs n k ≡ no_account
+  drawn_unknown : (k : ℕ) → takes_id e.tunnel_ids ≡ Ok k → accs n k ≡ no_account
   drawn_unknown k h = undrawn accs n e sender ev within k (draw_is e.tunnel_ids k h).0
 
   -- a tunnel that isn't closed is open
@@ -70,7 +69,7 @@ module _ (closings : ClosingsAreKnown) (accs : Accounts) (n : ℕ) (e : End) (se
   may_enter (move.EndHeard m) x h = tt
   may_enter (move.EndSilent m) x h = tt
   may_enter (move.Declined m) x h = tt
-  may_enter (move.Cleared i) x h = tt
+  may_enter (move.Cleared i booked) x h = tt
   may_enter (move.Greeted m) x h = tt
   may_enter (move.TookPlain m) x h = tt
   may_enter (move.NrRead m) x h = tt

@@ -5,8 +5,6 @@ use Rattle.std.proofs.lemmas.List.{length-append}
 use Rattle.std.proofs.lemmas.Fmt.{length-decimal-le}
 use Rattle.std.specs.Fmt.{decimal}
 use Rattle.std.specs.Prelude.{nat_lt}
-use Rattle.id_source.specs.declared.IdError.TheVariants.{NoIds, NeedCeiling}
-use Rattle.id_source.specs.Spaces.{Space, draws, after_draw}
 use Rattle.md5.proofs.StandardFacts.{length-md5}
 use Rattle.step_laws.specs.Moves.{Asks, Responds}
 use Rattle.frame_laws.specs.Written.{IsWritten, IsWrittenOpening}
@@ -63,19 +61,6 @@ pub request_written : ((who : List ℕ) → length (calling_number who) ≡ 12) 
 request_written digits s who fits = (omega arith, omega arith, (let d = digits who in omega arith))
 
 -- ---- ids
-
-pub draw_is : (s : Space) (k : ℕ) → draws s ≡ Ok k → (k ≡ s.next) × (k ≤ s.last)
-unfolding draws
-draw_is s k h = by (nat_lt s.last s.next) (nat_lt s.ceiling s.next) refl h
-  where
-    by : (a b : Bool) → nat_lt s.last s.next ≡ a → cond a (Err (NoIds (s.next - 1))) (cond b (Err (NeedCeiling s.next)) (Ok s.next)) ≡ Ok k
-        → (k ≡ s.next) × (k ≤ s.last)
-    by true b e h = absurd cc
-    by false true e h = absurd cc
-    by false false e h = let g : s.next ≡ k = cc in let le = ltb-false s.last s.next e in (sym g, omega (arith, g))
-
-pub next_is : (s : Space) (k : ℕ) → draws s ≡ Ok k → after_draw s ≡ record s { next = k + 1 }
-next_is s k h = rw h refl
 
 -- a node's address is its own
 pub node_again : (from : ℕ) → from < 256 → node_of (address_of from) ≡ from

@@ -62,7 +62,7 @@ about (move.Declined m) = 0
 about (move.Closed m) = m.tunnel
 about (move.Rejected m) = m.tunnel
 about (move.ClosedBy m) = m.tunnel
-about (move.Cleared i) = i
+about (move.Cleared i booked) = i
 about (move.Greeted m) = m.tunnel
 about (move.TookPlain m) = m.tunnel
 about (move.NrRead m) = m.tunnel
@@ -102,7 +102,7 @@ entered_by d (move.Declined m) a = a
 entered_by d (move.Closed m) a = gives_also d (record a { remote = m.remote; closed = Some (length a.taken) })
 entered_by d (move.Rejected m) a = gives_also d (takes_at d m.taken (record a { remote = m.remote; closed = Some (length a.taken) }))
 entered_by d (move.ClosedBy m) a = takes_at d m.taken (record a { closed = Some (length a.taken) })
-entered_by d (move.Cleared i) a = a
+entered_by d (move.Cleared i booked) a = a
 entered_by d (move.Greeted m) a = gives_also d a
 entered_by d (move.TookPlain m) a = takes_at d m.taken a
 entered_by d (move.NrRead m) a = a

@@ -42,6 +42,13 @@ impl ChannelNumbers {
         }
     }
 
+    /// The receive window of the other end, in letters, as far as it is known.
+    pub fn peer_window(&self) -> u16
+        ensures { result ≡ self.now.window.congestion.peer_window }
+    {
+        self.window.peer_window()
+    }
+
     /// Whether as many letters as a channel may hold, 8,192, are unacknowledged or unsent.
     pub fn is_full(&self) -> bool
         ensures { result ≡ is_full self.now }

@@ -1,7 +1,7 @@
 -- The session that is drawn next, and whom a session is for.
 use Rattle.std.specs.Prelude.{ℕ, List, Result, Ok, Err, Option, Some, None}
 use Rattle.id_source.specs.declared.IdError.{IdError}
-use Rattle.id_source.specs.Spaces.{Space, draws}
+use Rattle.id_source.specs.Spaces.{Space, takes_id}
 use Rattle.id_table.specs.Ids.{at}
 use Rattle.end_model.specs.declared.tunnel.Call.{Call}
 use Rattle.end_model.specs.declared.tunnel.CallPlace.{CallPlace}
@@ -14,7 +14,7 @@ drawn (Err e) = None
 
 -- the number that is drawn next, if there is one
 unfoldable pub next_session : Space → Option ℕ
-next_session space = drawn (draws space)
+next_session space = drawn (takes_id space)
 
 abbrev pub subscriber_of : Option Call → Option (List ℕ)
 subscriber_of None = None

@@ -34,7 +34,7 @@ impl End {
             return Some(no_secret());
         }
         let mut ids = self.tunnel_ids;
-        match ids.draw() {
+        match ids.take() {
             Ok(_) => None,
             Err(_) => Some(no_id()),
         }
@@ -84,7 +84,6 @@ impl End {
             bytes,
             origin: Origin::Control(ControlOrigin {
                 tunnel: 0,
-                epoch: 0,
                 ns: 0,
                 nr: u64::from(nr),
                 empty: false,

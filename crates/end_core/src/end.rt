@@ -4,7 +4,7 @@ ghost use Rattle.std.specs.Prelude.{◌≡◌, ◌≤◌, [], ◌∷◌, option_
 ghost use Rattle.std.specs.Option.{option_copied};
 ghost use Rattle.id_table.specs.Ids.{at, ids_of};
 ghost use Rattle.l2tp_header.specs.Reading.{header_of};
-ghost use Rattle.end_model.specs.End.{env_of, whole_space, gives_only, after_turn, after_new, in_new, has_all_tunnels, in_one_more, in_main, known_as, opens_once, addressed, reached_plain, reached, for_addressee, least_in, for_call, look_in, receives, new_end, is_not_closed};
+ghost use Rattle.end_model.specs.End.{env_of, gives_only, after_turn, after_new, in_new, has_all_tunnels, in_one_more, in_main, known_as, opens_once, addressed, reached_plain, reached, for_addressee, least_in, for_call, look_in, receives, new_end, is_not_closed};
 ghost use Rattle.end_model.specs.Reading.{at_tunnel};
 ghost use Rattle.end_model.specs.Secrets.{uncovered_datagram, uncovered_event};
 ghost use Rattle.end_core.specs.Fits.{fits};
@@ -85,15 +85,6 @@ fn give_only(alloc: Global, out: Out) -> Result<Given, NoMemory>
     })
 }
 
-/// A space of which all numbers may be drawn, as long as nothing is committed.
-fn whole_space(last: u32) -> Ids
-    ensures { result ≡ whole_space last }
-{
-    let mut ids = Ids::new(last);
-    ids.raise(last);
-    ids
-}
-
 impl End {
     /// An end without a tunnel. It takes no memory.
     pub fn new(alloc: Global, role: Role, config: Config) -> End
@@ -103,9 +94,9 @@ impl End {
             alloc,
             role,
             config,
-            tunnel_ids: whole_space(LAST_TUNNEL),
-            session_ids: whole_space(LAST_SESSION),
-            recovery_ids: whole_space(LAST_RECOVERY),
+            tunnel_ids: Ids::new(LAST_TUNNEL),
+            session_ids: Ids::new(LAST_SESSION),
+            recovery_ids: Ids::new(LAST_RECOVERY),
             tunnels: TunnelTable::new(alloc),
             calls: Table::new(alloc),
         }
@@ -213,7 +204,7 @@ impl End {
         ensures { result ≡ next_session self.now.session_ids }
     {
         let mut ids = self.session_ids;
-        match ids.draw() {
+        match ids.take() {
             Ok(session) => Some(session as u16),
             Err(_) => None,
         }

@@ -1,7 +1,7 @@
 -- What Ethernet frames are to a LAC, which PPPoE hosts come to (RFC 2516).
 use Rattle.std.specs.Prelude.{ℕ, ◌-◌, ◌%◌, List, [], ◌∷◌, length, take, drop, Bool, true, false, nat_lt, if◌then◌else◌, Option, Some, None, is_some, unwrap_or, Result, Ok, Err}
 use Rattle.id_table.specs.Ids.{at}
-use Rattle.id_source.specs.Spaces.{draws}
+use Rattle.id_source.specs.Spaces.{takes_id}
 use Rattle.id_source.specs.declared.IdError.{IdError}
 use Rattle.wire_base.specs.declared.why.Why.{Why}
 use Rattle.wire_base.specs.declared.why.Why.TheVariants as why
@@ -93,7 +93,7 @@ live_in e (Err x) = None
 live_in e (Ok session) = if is_some (at e.calls session) then Some session else None
 
 abbrev pub session_got : End → Stepped → Option ℕ
-session_got before s = live_in s.end (draws before.session_ids)
+session_got before s = live_in s.end (takes_id before.session_ids)
 
 -- a ring is refused for these alone
 abbrev pub ring_cause : Cause → Cause

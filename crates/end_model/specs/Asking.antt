@@ -1,7 +1,7 @@
 -- Calls that the peer asks for.
 use Rattle.std.specs.Prelude.{ℕ, List, find, Bool, false, ◌==◌, ◌||◌, not, if◌then◌else◌, Option, Some, None, is_some, unwrap_or, Result, Ok, Err}
 use Rattle.id_table.specs.Ids.{at, ids_of}
-use Rattle.id_source.specs.Spaces.{Space, draws}
+use Rattle.id_source.specs.Spaces.{Space, takes_id}
 use Rattle.id_source.specs.declared.IdError.{IdError}
 use Rattle.wire_base.specs.declared.why.Why.TheVariants as why
 use Rattle.wire_base.specs.declared.cause.Cause.TheVariants as cause
@@ -43,7 +43,7 @@ granted role calls remote sessions =
     if not (is_reply (row_of_none role call_event.IcrqAcc).1) then Err out_of_state
     else if remote == 0 || is_some (call_of calls remote) then Err (reason cause.Session general_error (Some invalid_session))
     else if are_too_many calls then Err (reason cause.Calls facilities_lacking None)
-    else left_of (draws sessions)
+    else left_of (takes_id sessions)
 
 -- the peer asks for a call: it is made, and the peer is told its session
 unfoldable pub replied : Role → ℕ → ℕ → Turn → Turn

@@ -16,9 +16,9 @@ use Rattle.end_model.specs.declared.out.Origin.TheVariants as origin
 use Rattle.end_model.specs.declared.moves.Place.{Place}
 use Rattle.end_model.specs.Calls.{owed_by}
 
--- the place of a letter; no tunnel was recovered
+-- the place of a letter
 abbrev pub place : ℕ → Place
-place number = record { epoch = 0; number = number }
+place number = record { number = number }
 
 -- the numbers that the next letter given, and the next letter taken, have
 abbrev pub next_place : Control → Place
@@ -56,6 +56,10 @@ counts_taken c = record c { channel = taken_by c.channel }
 abbrev pub learns_window : ℕ → Control → Control
 learns_window window c = if window == 0 then c else record c { channel = learnt_by c.channel window }
 
+-- the peer's window, as far as it is known
+abbrev pub peer_window : Control → ℕ
+peer_window c = c.channel.window.congestion.peer_window
+
 -- letters are acknowledged by an Nr
 abbrev pub counts_acked : ℕ → ℕ → Control → Control
 counts_acked nr moment c = record c { channel = acked_at c.channel nr moment }
@@ -65,7 +69,7 @@ abbrev pub datagram : Control → ℕ → ℕ → List ℕ → List ℕ
 datagram c session number pairs = control_bytes c.remote session (on_wire number) (on_wire c.channel.inbox.taken) pairs
 
 abbrev pub origin_of : Control → ℕ → Bool → Origin
-origin_of c number empty = origin.Control (record { tunnel = c.local; epoch = 0; ns = number; nr = c.channel.inbox.taken; empty = empty })
+origin_of c number empty = origin.Control (record { tunnel = c.local; ns = number; nr = c.channel.inbox.taken; empty = empty })
 
 abbrev pub sends : Control → ℕ → ℕ → Bool → List ℕ → Out
 sends c session number empty pairs = Send c.peer (datagram c session number pairs) (origin_of c number empty)

@@ -1,5 +1,5 @@
 -- Letters that connect a call, and that end it.
-use Rattle.std.specs.Prelude.{ℕ, List, if◌then◌else◌, Option, Some, None}
+use Rattle.std.specs.Prelude.{ℕ, List, Bool, if◌then◌else◌, Option, Some, None}
 use Rattle.id_table.specs.Ids.{at}
 use Rattle.wire_base.specs.declared.why.Why.TheVariants as why
 use Rattle.lcp_end.specs.Steps.{opened as link_opened}
@@ -26,7 +26,7 @@ unfoldable pub first_up : Role → ℕ → ℕ → Call → Turn → Turn
 first_up role s remote c t =
     gives remote connection
     (with_change (cell.Establish s)
-    (with_move (move.FirstUp (record { tunnel = t.control.local; session = s; remote = remote; taken = taken_place t.control; given = next_place t.control }))
+    (with_move (move.FirstUp (record { tunnel = t.control.local; session = s; remote = remote; subscriber = c.subscriber; taken = taken_place t.control; given = next_place t.control }))
     (with_call s (advanced role call_event.IcrpAcc t.on.moment (record c { remote = remote }))
     (takes_one t))))
 
@@ -60,15 +60,15 @@ second_up_by role s (Some c) t =
     else answers_by out_of_state s c (row_for role c call_event.IccnAcc).1 t
 
 -- the peer says that the call ended
-unfoldable pub end_heard : ℕ → Turn → Turn
-end_heard s t =
-    with_move (move.EndHeard (record { tunnel = t.control.local; session = s; taken = taken_place t.control }))
+unfoldable pub end_heard : ℕ → Bool → Turn → Turn
+end_heard s booked t =
+    with_move (move.EndHeard (record { tunnel = t.control.local; session = s; booked = booked; taken = taken_place t.control }))
     (ends_call s (takes_one t))
 
 unfoldable pub end_heard_by : Role → ℕ → Option Call → Turn → Turn
 end_heard_by role s None t = of_no_call out_of_state 0 (row_of_none role call_event.CdnCame).1 t
 end_heard_by role s (Some c) t =
-    if is_clean_up (row_for role c call_event.CdnCame).1 then end_heard s t else takes_plain t
+    if is_clean_up (row_for role c call_event.CdnCame).1 then end_heard s (is_up c.state) t else takes_plain t
 
 unfoldable pub ends_named : Role → List (ℕ × Call) → ℕ → Turn → Turn
 ends_named role calls s t = end_heard_by role s (at calls s) t

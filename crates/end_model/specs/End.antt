@@ -2,7 +2,7 @@
 use Rattle.std.specs.Prelude.{ℕ, ◌+◌, List, [], ◌∷◌, ◌++◌, find, length, Bool, true, false, not, ◌&&◌, ◌==◌, nat_le, if◌then◌else◌, Option, Some, None, is_some, unwrap_or, option_map, Result, Ok, Err}
 use Rattle.std.specs.List.{flat_map}
 use Rattle.id_table.specs.Ids.{at, put, without, ids_of}
-use Rattle.id_source.specs.Spaces.{Space, draws}
+use Rattle.id_source.specs.Spaces.{Space, new_space, takes_id}
 use Rattle.id_source.specs.declared.IdError.{IdError}
 use Rattle.wire_base.specs.declared.letter.Letter.{Letter}
 use Rattle.wire_base.specs.declared.why.Why.TheVariants as why
@@ -65,17 +65,13 @@ pub record End : Type 0 where
   -- where each live call is and what the data plane sees of it, by session id
   pub calls : List (ℕ × CallPlace)
 
--- as long as nothing is committed, all numbers of a space may be drawn
-abbrev pub whole_space : ℕ → Space
-whole_space last = record { last = last; ceiling = last; next = 1 }
-
 abbrev pub new_end : Role → Config → End
 new_end role c = record {
   role = role;
   config = c;
-  tunnel_ids = whole_space 65535;
-  session_ids = whole_space 65534;
-  recovery_ids = whole_space 4294967295;
+  tunnel_ids = new_space 65535;
+  session_ids = new_space 65534;
+  recovery_ids = new_space 4294967295;
   tunnels = [];
   calls = [];
 }
@@ -86,7 +82,7 @@ pub record Stepped : Type 0 where
   pub outputs : List Out
   pub moves : List Move
 
--- where it draws from
+-- where it takes_id from
 abbrev pub drawing_of : End → Drawing
 drawing_of e = record { tunnels = e.tunnel_ids; sessions = e.session_ids; recoveries = e.recovery_ids }
 
@@ -268,7 +264,7 @@ against_opening e o =
     else if is_some o.recovery then Some no_recovery
     else if has_all_tunnels e.tunnels then Some no_tunnel
     else if lacks_secret e.config.secret o.challenge then Some no_secret
-    else lacks_id (draws e.tunnel_ids)
+    else lacks_id (takes_id e.tunnel_ids)
 
 -- or its fault
 abbrev pub against_faulty : Option TunnelFault → Option Reason
@@ -292,7 +288,7 @@ abbrev pub decline_bytes : ℕ → ℕ → Reason → List ℕ
 decline_bytes remote nr r = control_bytes remote 0 0 nr (spelling (pairs_of (StopCcn 0 r.result r.error)))
 
 abbrev pub decline_origin : ℕ → Origin
-decline_origin nr = origin.Control (record { tunnel = 0; epoch = 0; ns = 0; nr = nr; empty = false })
+decline_origin nr = origin.Control (record { tunnel = 0; ns = 0; nr = nr; empty = false })
 
 unfoldable pub declined : End → ℕ → ℕ → ℕ → Reason → Stepped
 declined e peer remote nr r = record {

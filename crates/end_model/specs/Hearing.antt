@@ -23,7 +23,7 @@ use Rattle.end_model.specs.declared.tunnel.Config.{Config}
 use Rattle.end_names.specs.declared.role.Role.{Role}
 use Rattle.end_model.specs.Tunnels.{Turn}
 use Rattle.end_model.specs.Channels.{has_room, may_take}
-use Rattle.end_model.specs.Messages.{event_by, opening_reason, connected_event, connected_reason}
+use Rattle.end_model.specs.Messages.{Told, tells_id, told_by, event_by, opening_reason, connected_event, connected_reason}
 use Rattle.end_model.specs.Moments.{is_closed, is_idle, is_open, is_waiting_reply}
 use Rattle.end_model.specs.Reasons.{Reason, reason, out_of_order, fault_reason}
 use Rattle.session_looks.specs.Frames.{header_why}
@@ -40,23 +40,23 @@ use Rattle.end_model.specs.Faulty.{in_faulty_call}
 use Rattle.end_model.specs.Codes.{facilities_never}
 
 -- then each call that waits for it is asked for
-unfoldable pub connects : Role → Config → List (ℕ × Call) → Option (List ℕ) → ℕ → ℕ → TunnelState → Turn → Turn
-connects role c calls asked remote window next t =
-    if has_room t.control then requests_all role c (ids_of calls) calls (connected c asked remote window next t) else drops why.Queue t
+unfoldable pub connects : Role → Config → List (ℕ × Call) → Told → TunnelState → Turn → Turn
+connects role c calls told next t =
+    if has_room t.control then requests_all role c (ids_of calls) calls (connected c told next t) else drops why.Queue t
 
 -- by the table's row. A letter that closes a tunnel of which the peer's id is known is one that the closed tunnel takes
-unfoldable pub takes_by : Role → Config → List (ℕ × Call) → Reason → Option (List ℕ) → ℕ → ℕ → TunnelState × TunnelAction → Turn → Turn
-takes_by role c calls r asked remote window (next, action.SendScccn) t = connects role c calls asked remote window next t
-takes_by role c calls r asked remote window (next, action.SendStopCcn) t =
-    if is_waiting_reply t.control.state then rejects r calls remote next t else takes_plain (closes_tunnel r calls t.control.remote next t)
-takes_by role c calls r asked remote window (next, action.CleanUp) t = closed_by calls next t
-takes_by role c calls r asked remote window (next, action.Nothing) t =
+unfoldable pub takes_by : Role → Config → List (ℕ × Call) → Reason → Told → TunnelState × TunnelAction → Turn → Turn
+takes_by role c calls r told (next, action.SendScccn) t = connects role c calls told next t
+takes_by role c calls r told (next, action.SendStopCcn) t =
+    if is_waiting_reply t.control.state then rejects r calls told.remote next t else takes_plain (closes_tunnel r calls t.control.remote next t)
+takes_by role c calls r told (next, action.CleanUp) t = closed_by calls next t
+takes_by role c calls r told (next, action.Nothing) t =
     if state_number next == state_number t.control.state then takes_plain t else confirms next t
-takes_by role c calls r asked remote window (next, a) t = takes_plain t
+takes_by role c calls r told (next, a) t = takes_plain t
 
--- of a letter that asks this, and tells this id and this window of the peer, and why the tunnel is closed where the row says so
-unfoldable pub takes : Role → Config → List (ℕ × Call) → Reason → TunnelEvent → Option (List ℕ) → ℕ → ℕ → Turn → Turn
-takes role c calls r e asked remote window t = takes_by role c calls r asked remote window (row_of rows t.control.state e) t
+-- of a letter that tells this of the peer, and why the tunnel is closed where the row says so
+unfoldable pub takes : Role → Config → List (ℕ × Call) → Reason → TunnelEvent → Told → Turn → Turn
+takes role c calls r e told t = takes_by role c calls r told (row_of rows t.control.state e) t
 
 unfoldable pub about_call : Role → List (ℕ × Call) → ℕ → Message → Turn → Turn
 about_call role calls session (Icrq remote serial calling) t =
@@ -73,13 +73,13 @@ in_call role calls session m t = if is_open t.control.state then about_call role
 
 unfoldable pub hears : Role → Config → List (ℕ × Call) → ℕ → Message → Turn → Turn
 hears role c calls session (Sccrq o) t =
-    takes role c calls (opening_reason c.secret None o) (event_by event.SccrqAcc event.SccrqNotAcc c.secret None o) None 0 o.window t
+    takes role c calls (opening_reason c.secret None o) (event_by event.SccrqAcc event.SccrqNotAcc c.secret None o) (tells_id 0) t
 hears role c calls session (Sccrp o) t =
     takes role c calls (opening_reason c.secret t.control.challenge o)
-    (event_by event.SccrpAcc event.SccrpNotAcc c.secret t.control.challenge o) o.challenge o.tunnel o.window t
+    (event_by event.SccrpAcc event.SccrpNotAcc c.secret t.control.challenge o) (told_by o) t
 hears role c calls session (Scccn response) t =
-    takes role c calls (connected_reason c.secret t.control.challenge response) (connected_event c.secret t.control.challenge response) None 0 0 t
-hears role c calls session (StopCcn tunnel code error) t = takes role c calls out_of_order event.StopCcnCame None 0 0 t
+    takes role c calls (connected_reason c.secret t.control.challenge response) (connected_event c.secret t.control.challenge response) (tells_id 0) t
+hears role c calls session (StopCcn tunnel code error) t = takes role c calls out_of_order event.StopCcnCame (tells_id 0) t
 hears role c calls session Hello t = takes_plain t
 hears role c calls session (Icrq remote serial calling) t = in_call role calls session (Icrq remote serial calling) t
 hears role c calls session (Icrp remote) t = in_call role calls session (Icrp remote) t
@@ -98,7 +98,7 @@ hears role c calls session (Fsr sessions) t = takes_plain t
 -- understood has none
 unfoldable pub hears_faulty : Role → Config → List (ℕ × Call) → ℕ → Option CallFault → Option TunnelFault → Why → Turn → Turn
 hears_faulty role c calls session (Some f) g w t = in_faulty_call role calls session f t
-hears_faulty role c calls session None (Some g) w t = takes role c calls (fault_reason g.cause) g.event None g.remote 0 t
+hears_faulty role c calls session None (Some g) w t = takes role c calls (fault_reason g.cause) g.event (tells_id g.remote) t
 hears_faulty role c calls session None None w t = ignores w t
 
 unfoldable pub hears_said : Role → Config → List (ℕ × Call) → ℕ → Option CallFault → Option TunnelFault → Result Message Why → Turn → Turn
@@ -129,7 +129,7 @@ in_tunnel role c letters calls session body class t = settles (is_duplicate clas
 
 -- a tunnel that is new is made by an SCCRQ
 unfoldable pub first_said : Role → Config → Result Message Why → Turn → Turn
-first_said role c (Ok (Sccrq o)) t = accepts role c o.challenge o.tunnel o.window t
+first_said role c (Ok (Sccrq o)) t = accepts role c (told_by o) t
 first_said role c r t = drops why.Tunnel t
 
 -- a control message that is for the tunnel: Nr is read first; an acknowledgement alone has no body

@@ -4,6 +4,7 @@ use Rattle.avp_codec.specs.Spelling.{spelling}
 use Rattle.control_message.specs.Pairs.{pairs_with}
 use Rattle.control_message.specs.declared.message.Message.{Message}
 use Rattle.control_message.specs.declared.message.Message.TheVariants.{Icrq, Iccn}
+use Rattle.control_message.specs.declared.message.Failover.{Failover}
 use Rattle.control_message.specs.declared.message.Opening.{Opening}
 use Rattle.tunnel_fsm.specs.declared.table.TunnelEvent.{TunnelEvent}
 use Rattle.tunnel_fsm.specs.declared.table.TunnelEvent.TheVariants.{ScccnAcc, ScccnNotAcc}
@@ -29,6 +30,26 @@ opening_of role c challenge response local = record {
   suggested = None;
   attempt = None;
 }
+
+-- what the letter of a peer that opens, accepts or closes a tunnel tells of the peer: the challenge that it asks, the id that it
+-- assigns, its receive window, and what it can recover
+pub record Told : Type 0 where
+  pub asks : Option (List ℕ)
+  pub remote : ℕ
+  pub window : ℕ
+  pub flags : ℕ
+
+-- an id, and nothing else
+abbrev pub tells_id : ℕ → Told
+tells_id remote = record { asks = None; remote = remote; window = 0; flags = 0 }
+
+-- what a peer can recover, a set of bits (RFC 4951 section 5.1)
+abbrev pub flags_of : Option Failover → ℕ
+flags_of None = 0
+flags_of (Some f) = f.flags
+
+abbrev pub told_by : Opening → Told
+told_by o = record { asks = o.challenge; remote = o.tunnel; window = o.window; flags = flags_of o.failover }
 
 -- the request for a call of a LAC: its session id is its serial number too
 abbrev pub request_of : ℕ → List ℕ → Message

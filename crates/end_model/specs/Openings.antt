@@ -1,6 +1,6 @@
 -- Tunnels that are opened, accepted, connected and confirmed.
 use Rattle.std.specs.Prelude.{ℕ, List, if◌then◌else◌, Option, None, Result, Ok, Err}
-use Rattle.id_source.specs.Spaces.{draws, after_draw}
+use Rattle.id_source.specs.Spaces.{takes_id, after_id}
 use Rattle.id_source.specs.declared.IdError.{IdError}
 use Rattle.wire_base.specs.declared.why.Why.TheVariants as why
 use Rattle.wire_base.specs.declared.cause.Cause.TheVariants as cause
@@ -17,8 +17,8 @@ use Rattle.end_names.specs.declared.role.Role.{Role}
 use Rattle.end_model.specs.declared.out.Out.TheVariants.{Cause}
 use Rattle.end_model.specs.declared.moves.Move.TheVariants as move
 use Rattle.end_model.specs.Tunnels.{Turn}
-use Rattle.end_model.specs.Channels.{next_place, taken_place, has_room, learns_window}
-use Rattle.end_model.specs.Messages.{opening_of}
+use Rattle.end_model.specs.Channels.{next_place, taken_place, has_room, learns_window, peer_window}
+use Rattle.end_model.specs.Messages.{opening_of, Told}
 use Rattle.end_model.specs.Secrets.{challenge_by, response_by}
 use Rattle.end_model.specs.Turn.{with_output, with_move, drops}
 use Rattle.end_model.specs.Sending.{gives, takes_one}
@@ -26,7 +26,7 @@ use Rattle.end_model.specs.Sending.{gives, takes_one}
 -- a tunnel to a peer that is neither opened nor accepted yet; as long as it isn't known, the peer's window counts as 4
 -- (RFC 2661 section 4.4.3)
 abbrev pub fresh : ℕ → ℕ → Control
-fresh peer moment = record { local = 0; peer = peer; remote = 0; state = Idle; channel = opened_at 0 0 4; made = moment; heard = moment; closed = 0; challenge = None }
+fresh peer moment = record { local = 0; peer = peer; remote = 0; state = Idle; channel = opened_at 0 0 4; made = moment; heard = moment; closed = 0; flags = 0; challenge = None }
 
 abbrev pub in_state : TunnelState → Control → Control
 in_state s c = record c { state = s }
@@ -41,7 +41,7 @@ next_of s e = (row_of rows s e).0
 
 -- a tunnel gets the id that was drawn
 unfoldable pub with_local : ℕ → Turn → Turn
-with_local local t = record t { control = record t.control { local = local }; ids = record t.ids { tunnels = after_draw t.ids.tunnels } }
+with_local local t = record t { control = record t.control { local = local }; ids = record t.ids { tunnels = after_id t.ids.tunnels } }
 
 -- a new tunnel is opened by an SCCRQ
 unfoldable pub opened : Role → Config → ℕ → Turn → Turn
@@ -55,32 +55,31 @@ opens_by role c (Err e) t = with_output (Cause cause.Ids) t
 opens_by role c (Ok local) t = if has_room t.control then opened role c local t else with_output (Cause cause.Queue) t
 
 unfoldable pub opens : Role → Config → Turn → Turn
-opens role c t = opens_by role c (draws t.ids.tunnels) t
+opens role c t = opens_by role c (takes_id t.ids.tunnels) t
 
--- a new tunnel is made by an SCCRQ that asks this, assigns this id and tells this window, and answered by an SCCRP
-unfoldable pub accepted : Role → Config → Option (List ℕ) → ℕ → ℕ → ℕ → Turn → Turn
-accepted role c asked remote window local t =
-    gives 0 (Sccrp (opening_of role c (challenge_by c.secret t.on.block) (response_by 2 c.secret asked) local))
-    (with_move (move.Accepted (record { tunnel = local; peer = t.control.peer; remote = remote; window = window; challenge = challenge_by c.secret t.on.block; response = response_by 2 c.secret asked; taken = taken_place t.control; given = next_place t.control }))
+-- a new tunnel is made by an SCCRQ that tells this of its peer, and answered by an SCCRP
+unfoldable pub accepted : Role → Config → Told → ℕ → Turn → Turn
+accepted role c told local t =
+    gives 0 (Sccrp (opening_of role c (challenge_by c.secret t.on.block) (response_by 2 c.secret told.asks) local))
+    (with_move (move.Accepted (record { tunnel = local; peer = t.control.peer; remote = told.remote; window = told.window; challenge = challenge_by c.secret t.on.block; response = response_by 2 c.secret told.asks; taken = taken_place t.control; given = next_place t.control }))
     (takes_one
-    (with_local local (record t { control = learns_window window (asking (challenge_by c.secret t.on.block) (record t.control { remote = remote; state = next_of t.control.state event.SccrqAcc })) }))))
+    (with_local local (record t { control = learns_window told.window (asking (challenge_by c.secret t.on.block) (record t.control { remote = told.remote; flags = told.flags; state = next_of t.control.state event.SccrqAcc })) }))))
 
-unfoldable pub accepts_by : Role → Config → Option (List ℕ) → ℕ → ℕ → Result ℕ IdError → Turn → Turn
-accepts_by role c asked remote window (Err e) t = drops why.Tunnel t
-accepts_by role c asked remote window (Ok local) t =
-    if has_room t.control then accepted role c asked remote window local t else drops why.Queue t
+unfoldable pub accepts_by : Role → Config → Told → Result ℕ IdError → Turn → Turn
+accepts_by role c told (Err e) t = drops why.Tunnel t
+accepts_by role c told (Ok local) t = if has_room t.control then accepted role c told local t else drops why.Queue t
 
-unfoldable pub accepts : Role → Config → Option (List ℕ) → ℕ → ℕ → Turn → Turn
-accepts role c asked remote window t = accepts_by role c asked remote window (draws t.ids.tunnels) t
+unfoldable pub accepts : Role → Config → Told → Turn → Turn
+accepts role c told t = accepts_by role c told (takes_id t.ids.tunnels) t
 
--- the peer's id and window are learned, what it asks is answered, and the tunnel is connected
-unfoldable pub connected : Config → Option (List ℕ) → ℕ → ℕ → TunnelState → Turn → Turn
-connected c asked remote window next t =
-    gives 0 (Scccn (response_by 3 c.secret asked))
-    (with_move (move.Connected (record { tunnel = t.control.local; remote = remote; window = window; response = response_by 3 c.secret asked; taken = taken_place t.control; given = next_place t.control }))
-    (takes_one (record t { control = learns_window window (record t.control { remote = remote; state = next }) })))
+-- what the peer tells of itself is learned, what it asks is answered, and the tunnel is connected
+unfoldable pub connected : Config → Told → TunnelState → Turn → Turn
+connected c told next t =
+    gives 0 (Scccn (response_by 3 c.secret told.asks))
+    (with_move (move.Connected (record { tunnel = t.control.local; peer = t.control.peer; remote = told.remote; window = told.window; flags = told.flags; response = response_by 3 c.secret told.asks; taken = taken_place t.control; given = next_place t.control }))
+    (takes_one (record t { control = learns_window told.window (record t.control { remote = told.remote; flags = told.flags; state = next }) })))
 
 unfoldable pub confirms : TunnelState → Turn → Turn
 confirms next t =
-    with_move (move.Confirmed (record { tunnel = t.control.local; taken = taken_place t.control }))
+    with_move (move.Confirmed (record { tunnel = t.control.local; peer = t.control.peer; remote = t.control.remote; window = peer_window t.control; flags = t.control.flags; taken = taken_place t.control }))
     (takes_one (record t { control = in_state next t.control }))

@@ -1,7 +1,7 @@
 -- Calls that ring, and calls that are asked for.
 use Rattle.std.specs.Prelude.{ℕ, List, [], ◌∷◌, nat_lt, if◌then◌else◌, Option, Some, None, Result, Ok, Err}
 use Rattle.id_table.specs.Ids.{at}
-use Rattle.id_source.specs.Spaces.{draws}
+use Rattle.id_source.specs.Spaces.{takes_id}
 use Rattle.id_source.specs.declared.IdError.{IdError}
 use Rattle.wire_base.specs.declared.why.Why.TheVariants as why
 use Rattle.wire_base.specs.declared.cause.Cause.TheVariants as cause
@@ -65,7 +65,7 @@ rings_by role config who (Ok s) t = rings_over role config who s t
 unfoldable pub rings_within : Role → Config → List (ℕ × Call) → List ℕ → Turn → Turn
 rings_within role config calls who t =
     if are_too_many calls then with_output (Cause cause.Calls) t
-    else if may_take t.control calls then rings_by role config who (draws t.ids.sessions) t
+    else if may_take t.control calls then rings_by role config who (takes_id t.ids.sessions) t
     else with_output (Cause cause.Queue) t
 
 -- a new tunnel is opened for the call
@@ -78,5 +78,5 @@ rings_new role c who (Ok s) (Ok local) t =
 unfoldable pub rings : Role → Config → List (ℕ × Call) → List ℕ → Turn → Turn
 rings role c calls who t =
     if is_idle t.control.state
-    then rings_new role c who (draws t.ids.sessions) (draws t.ids.tunnels) t
+    then rings_new role c who (takes_id t.ids.sessions) (takes_id t.ids.tunnels) t
     else rings_within role c calls who t

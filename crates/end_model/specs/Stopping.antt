@@ -13,6 +13,7 @@ use Rattle.end_model.specs.declared.out.Out.TheVariants.{Cause}
 use Rattle.end_model.specs.declared.moves.Move.TheVariants as move
 use Rattle.end_model.specs.Tunnels.{Turn}
 use Rattle.end_model.specs.Channels.{next_place, taken_place, has_room}
+use Rattle.end_model.specs.Moments.{is_open}
 use Rattle.end_model.specs.Reasons.{Reason, reason}
 use Rattle.end_model.specs.Turn.{with_output, with_move, drops, ends_all}
 use Rattle.end_model.specs.Sending.{gives, takes_one}
@@ -30,7 +31,7 @@ shuts calls remote next t = ends_all (ids_of calls) (record t { control = shut r
 unfoldable pub closed_told : Reason → List (ℕ × Call) → ℕ → TunnelState → Turn → Turn
 closed_told r calls remote next t =
     gives 0 (StopCcn t.control.local r.result r.error)
-    (with_move (move.Closed (record { tunnel = t.control.local; remote = remote; result = r.result; error = r.error; given = next_place t.control }))
+    (with_move (move.Closed (record { tunnel = t.control.local; remote = remote; booked = is_open t.control.state; result = r.result; error = r.error; given = next_place t.control }))
     (shuts calls remote next (with_output (Cause r.cause) t)))
 
 unfoldable pub closes_tunnel : Reason → List (ℕ × Call) → ℕ → TunnelState → Turn → Turn
@@ -49,7 +50,7 @@ rejects r calls remote next t = if has_room t.control then rejected r calls remo
 -- the peer's StopCCN is taken
 unfoldable pub closed_by : List (ℕ × Call) → TunnelState → Turn → Turn
 closed_by calls next t =
-    with_move (move.ClosedBy (record { tunnel = t.control.local; taken = taken_place t.control }))
+    with_move (move.ClosedBy (record { tunnel = t.control.local; booked = is_open t.control.state; taken = taken_place t.control }))
     (shuts calls t.control.remote next (takes_one t))
 
 -- an administrative close, by the table's row

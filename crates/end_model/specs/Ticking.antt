@@ -23,7 +23,7 @@ use Rattle.end_model.specs.Codes.{not_in_time}
 
 -- the tunnel is removed with its calls, without a message
 unfoldable pub clears : List (ℕ × Call) → Turn → Turn
-clears calls t = record (ends_all (ids_of calls) (with_move (move.Cleared t.control.local) t)) { cleared = true }
+clears calls t = record (ends_all (ids_of calls) (with_move (move.Cleared t.control.local (is_open t.control.state)) t)) { cleared = true }
 
 -- a quiet tunnel of which nothing waits says that it is there (RFC 2661 section 6.5)
 unfoldable pub greeted : List Letter → Turn → Turn

@@ -20,7 +20,7 @@ pub record Ground : Type 0 where
   pub moment : ℕ
   pub block : List ℕ
 
--- where a step draws tunnel ids, session ids and the numbers of recoveries from
+-- where a step takes_id tunnel ids, session ids and the numbers of recoveries from
 pub record Drawing : Type 0 where
   pub tunnels : Space
   pub sessions : Space

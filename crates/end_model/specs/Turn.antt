@@ -1,6 +1,6 @@
 -- What a turn gives, and how it changes calls.
 use Rattle.std.specs.Prelude.{ℕ, List, [], ◌∷◌, ◌++◌, Some, None}
-use Rattle.id_source.specs.Spaces.{after_draw}
+use Rattle.id_source.specs.Spaces.{after_id}
 use Rattle.wire_base.specs.declared.why.Why.{Why}
 use Rattle.end_model.specs.declared.tunnel.Call.{Call}
 use Rattle.session_looks.specs.declared.look.CellChange.{CellChange}
@@ -36,7 +36,7 @@ with_call s c t = record t { changed = t.changed ++ (s, Some c) ∷ [] }
 
 -- a call that is made
 unfoldable pub with_new : ℕ → Call → Turn → Turn
-with_new s c t = record t { changed = t.changed ++ (s, Some c) ∷ []; added = t.added ++ s ∷ []; ids = record t.ids { sessions = after_draw t.ids.sessions } }
+with_new s c t = record t { changed = t.changed ++ (s, Some c) ∷ []; added = t.added ++ s ∷ []; ids = record t.ids { sessions = after_id t.ids.sessions } }
 
 unfoldable pub drops : Why → Turn → Turn
 drops w t = with_output (Drop w) t

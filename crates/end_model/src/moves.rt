@@ -2,11 +2,9 @@
 
 use wire_base::{Bytes, Side};
 
-/// The place of a letter in the list of letters that a tunnel was given in an epoch, counted from 0.
+/// The place of a letter in the list of letters that a tunnel was given, counted from 0.
 #[derive(Clone, Copy)]
 pub struct Place {
-    /// How often the tunnel was recovered: 0, as long as none is.
-    pub epoch: u64,
     pub number: u64,
 }
 
@@ -33,22 +31,30 @@ pub struct Accepted {
     pub given: Place,
 }
 
-/// A tunnel learned by an SCCRP which id its peer assigned and which receive window it has, and was connected by an SCCCN
-/// with this response.
+/// A tunnel learned by an SCCRP which id its peer assigned, which receive window it has and what it can recover, and was
+/// connected by an SCCCN with this response.
 #[derive(Clone, Copy)]
 pub struct Connected {
     pub tunnel: u16,
+    pub peer: u32,
     pub remote: u16,
     pub window: u16,
+    /// A set of bits (RFC 4951 section 5.1): 1 for the control channel, 2 for data channels; 0 where the peer told none.
+    pub flags: u16,
     pub response: Option<[u8; 16]>,
     pub taken: Place,
     pub given: Place,
 }
 
-/// A tunnel took its SCCCN.
+/// A tunnel took its SCCCN. Its peer, the id that the peer assigned, the peer's receive window and what it can recover were
+/// known before.
 #[derive(Clone, Copy)]
 pub struct Confirmed {
     pub tunnel: u16,
+    pub peer: u32,
+    pub remote: u16,
+    pub window: u16,
+    pub flags: u16,
     pub taken: Place,
 }
 
@@ -88,6 +94,7 @@ pub struct FirstUp {
     pub tunnel: u16,
     pub session: u16,
     pub remote: u16,
+    pub subscriber: [u8; 6],
     pub taken: Place,
     pub given: Place,
 }
@@ -107,6 +114,8 @@ pub struct EndTold {
     pub tunnel: u16,
     pub session: u16,
     pub remote: u16,
+    /// Whether the call was established, so that a checkpoint has it.
+    pub booked: bool,
     pub result: u16,
     pub error: Option<u16>,
     pub given: Place,
@@ -129,6 +138,8 @@ pub struct Refused {
 pub struct EndHeard {
     pub tunnel: u16,
     pub session: u32,
+    /// Whether the call was established.
+    pub booked: bool,
     pub taken: Place,
 }
 
@@ -137,6 +148,8 @@ pub struct EndHeard {
 pub struct EndSilent {
     pub tunnel: u16,
     pub session: u16,
+    /// Whether the call was established.
+    pub booked: bool,
 }
 
 /// An SCCRQ, or an SCCRP that names no tunnel, was answered by a StopCCN of none of this end's (RFC 2661 section 7.2.1), with this
@@ -156,6 +169,8 @@ pub struct Declined {
 pub struct Closed {
     pub tunnel: u16,
     pub remote: u16,
+    /// Whether the tunnel was established, so that a checkpoint has it.
+    pub booked: bool,
     pub result: u16,
     pub error: Option<u16>,
     pub given: Place,
@@ -177,6 +192,8 @@ pub struct Rejected {
 #[derive(Clone, Copy)]
 pub struct ClosedBy {
     pub tunnel: u16,
+    /// Whether the tunnel was established.
+    pub booked: bool,
     pub taken: Place,
 }
 
@@ -263,8 +280,8 @@ pub enum Move {
     Closed(Closed),
     Rejected(Rejected),
     ClosedBy(ClosedBy),
-    /// A tunnel was removed with its calls, and its peer wasn't told.
-    Cleared { tunnel: u16 },
+    /// A tunnel was removed with its calls, and its peer wasn't told; `booked` where it was established.
+    Cleared { tunnel: u16, booked: bool },
     Greeted(Greeted),
     TookPlain(TookPlain),
     NrRead(NrRead),

@@ -8,8 +8,6 @@ use wire_base::{Bytes, Cause, Side, Why};
 pub struct ControlOrigin {
     /// The local id of the tunnel that sent it, 0 where the end sent it for none.
     pub tunnel: u16,
-    /// How often that tunnel was recovered before.
-    pub epoch: u64,
     pub ns: u64,
     pub nr: u64,
     /// Whether it is an acknowledgement alone.

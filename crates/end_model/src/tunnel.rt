@@ -40,6 +40,9 @@ pub struct Control {
     pub heard: u64,
     /// The moment at which it was closed, 0 as long as it isn't.
     pub closed: u64,
+    /// What the other end can recover, a set of bits (RFC 4951 section 5.1): 1 for the control channel, 2 for data channels; 0 as
+    /// long as it isn't known.
+    pub flags: u16,
     /// What this end asked its peer to answer by the secret, when it opened or accepted the tunnel; None where it has no
     /// secret (RFC 2661 section 5.1.1).
     pub challenge: Option<[u8; 16]>,

@@ -6,7 +6,7 @@ use Rattle.std.proofs.lemmas.List.{length-append}
 use Rattle.std.proofs.lemmas.Fmt.{length-decimal-le}
 use Rattle.std.specs.Fmt.{decimal}
 use Rattle.std.specs.Prelude.{◌==◌}
-use Rattle.id_source.specs.Spaces.{Space, draws}
+use Rattle.id_source.specs.Spaces.{Space, takes_id, ceiling_for, draw_is, next_is}
 use Rattle.md5.proofs.StandardFacts.{length-md5}
 use Rattle.end_model.specs.declared.moves.Rejected.{Rejected}
 use Rattle.end_model.specs.declared.tunnel.CallPlace.{CallPlace}
@@ -51,7 +51,7 @@ use Rattle.end_names.specs.Names.{node_of, host_name, calling_number}
 use Rattle.end_model.specs.Calls.{advanced, rung, asked_for, is_up}
 use Rattle.end_model.specs.Tunnels.{Tunnel}
 use Rattle.end_model.specs.Channels.{letter_of, letter_as, counts_given, counts_taken, learns_window}
-use Rattle.end_model.specs.Messages.{opening_of, request_of, connection}
+use Rattle.end_model.specs.Messages.{flags_of, opening_of, request_of, connection}
 use Rattle.end_model.specs.Links.{with_link, link_after}
 use Rattle.end_model.specs.End.{End, new_place}
 use Rattle.world_model.specs.World.{World, Node, with_birth, is_born, birth_of, moved}
@@ -67,7 +67,7 @@ use Rattle.step_laws.specs.Codes.{letter_codes_fit, codes_fit, stop_codes_fit}
 use Rattle.frame_laws.proofs.Refusing.{refusal_fits}
 use Rattle.frame_laws.proofs.Closing.{told_fits, closing_fits}
 use Rattle.frame_laws.proofs.Rows.{request_row, reply_row, second_row, rung_row}
-use Rattle.frame_laws.proofs.Leads.{draw_is, next_is, Heard, heard_letter, At, Leads, Sets, calls_put, end_put}
+use Rattle.frame_laws.proofs.Leads.{Heard, heard_letter, At, Leads, Sets, calls_put, end_put}
 
 -- ---- messages that are written
 
@@ -212,7 +212,7 @@ module _ (digits : (who : List ℕ) → length (calling_number who) ≡ 12) (n :
   abbrev with_new : Space → ℕ → Tunnel → End
   with_new ids i t = record (with_tunnel x i t) { tunnel_ids = ids }
 
-  sets_new : (i : ℕ) (t : Tunnel) → draws x.tunnel_ids ≡ Ok i → Sets x (with_new (record x.tunnel_ids { next = i + 1 }) i t) i t
+  sets_new : (i : ℕ) (t : Tunnel) → takes_id x.tunnel_ids ≡ Ok i → Sets x (with_new (record x.tunnel_ids { ceiling = ceiling_for x.tunnel_ids; next = i + 1 }) i t) i t
   sets_new i t drawn =
       let d = draw_is x.tunnel_ids i drawn in
       record {
@@ -237,7 +237,7 @@ module _ (digits : (who : List ℕ) → length (calling_number who) ≡ 12) (n :
       let written : IsWritten (Sccrq (opening_of x.role x.config m.challenge None m.tunnel)) =
       (opening_written x.role x.config m.challenge None m.tunnel here.end.number (omega (arith, d.0)) (omega arith) asked tt, refl) in
       let t = with_letter 0 (Sccrq (opening_of x.role x.config m.challenge None m.tunnel)) (new_tunnel (begun m.tunnel m.peer 0 WaitCtlReply moment m.challenge)) in
-      let w = with_new (record x.tunnel_ids { next = m.tunnel + 1 }) m.tunnel t in
+      let w = with_new (record x.tunnel_ids { ceiling = ceiling_for x.tunnel_ids; next = m.tunnel + 1 }) m.tunnel t in
       let same : y ≡ w = h.after ∙ ap (λ s. with_new s m.tunnel t) (next_is x.tunnel_ids m.tunnel h.drawn) in
       let sets = sets_new m.tunnel t h.drawn in
       subst (λ e. Led v e) (sym same)
@@ -259,10 +259,10 @@ module _ (digits : (who : List ℕ) → length (calling_number who) ≡ 12) (n :
       let asked = asks_short x.config.secret m.challenge h.asks in
       let answered = responds_sized 2 x.config.secret h.opening.challenge m.response h.responds in
       let written = opening_written x.role x.config m.challenge m.response m.tunnel here.end.number (omega (arith, d.0)) (omega arith) asked answered in
-      let c = counts_taken (learns_window m.window (begun m.tunnel m.peer m.remote WaitCtlConn moment m.challenge)) in
-      let ids = learnt m.window (begun m.tunnel m.peer m.remote WaitCtlConn moment m.challenge) in
+      let c = counts_taken (learns_window m.window (record (begun m.tunnel m.peer m.remote WaitCtlConn moment m.challenge) { flags = flags_of h.opening.failover })) in
+      let ids = learnt m.window (record (begun m.tunnel m.peer m.remote WaitCtlConn moment m.challenge) { flags = flags_of h.opening.failover }) in
       let t = with_letter 0 (Sccrp (opening_of x.role x.config m.challenge m.response m.tunnel)) (new_tunnel c) in
-      let w = with_new (record x.tunnel_ids { next = m.tunnel + 1 }) m.tunnel t in
+      let w = with_new (record x.tunnel_ids { ceiling = ceiling_for x.tunnel_ids; next = m.tunnel + 1 }) m.tunnel t in
       let same : y ≡ w = h.after ∙ ap (λ s. with_new s m.tunnel t) (next_is x.tunnel_ids m.tunnel h.drawn) in
       let sets = sets_new m.tunnel t h.drawn in
       let fits = (heard_letter v.nodes n ev heard m.peer h.hears.0 (Sccrq h.opening) h.hears.1).0.0.tunnel in
@@ -311,7 +311,7 @@ module _ (digits : (who : List ℕ) → length (calling_number who) ≡ 12) (n :
   connected_led m y h =
       let fits = (heard_letter v.nodes n ev heard h.tunnel.control.peer h.letter.header.session (Sccrp h.opening)
       (heard_from ev h.tunnel h.letter (Sccrp h.opening) h.takes.next h.said)).0.tunnel in
-      let ids = learnt m.window (record h.tunnel.control { remote = m.remote; state = Established }) in
+      let ids = learnt m.window (record h.tunnel.control { remote = m.remote; flags = m.flags; state = Established }) in
       control_led y m.tunnel h.tunnel _ _ h.there h.after ids.local ids.peer (rw (ids.remote, h.remote) fits)
       (more_letters m.tunnel h.tunnel h.there 0 (Scccn m.response) (omega arith)
       (responds_sized 3 x.config.secret h.opening.challenge m.response h.responds) tt)
@@ -537,8 +537,8 @@ module _ (digits : (who : List ℕ) → length (calling_number who) ≡ 12) (n :
       shut_led y m.tunnel h.tunnel _ h.tunnel.letters h.there h.after refl refl o.remote o.letters
 
   -- the tunnel isn't there any more
-  cleared_led : (moment i : ℕ) (y : End) → Clears x moment ev i y → Led v y
-  cleared_led moment i y h = subst (λ e. Led v e) (sym h.after) (record {
+  cleared_led : (moment i : ℕ) (booked : Bool) (y : End) → Clears x moment ev i booked y → Led v y
+  cleared_led moment i booked y h = subst (λ e. Led v e) (sym h.after) (record {
     at_end = record {
       node = here.node;
       is = here.is;
@@ -570,7 +570,7 @@ module _ (digits : (who : List ℕ) → length (calling_number who) ≡ 12) (n :
 
   -- ---- a call is made, with its birth
 
-  -- a world with the birth of the session that the end draws next
+  -- a world with the birth of the session that the end takes_id next
   record Bears (w : World) (s b : ℕ) : Type 0 where
     nodes : w.nodes ≡ put v.nodes n (with_one here.node s b)
     packets : w.packets ≡ v.packets
@@ -659,7 +659,7 @@ module _ (digits : (who : List ℕ) → length (calling_number who) ≡ 12) (n :
   abbrev with_drawn : Space → ℕ → Tunnel → ℕ → End
   with_drawn ids i t s = record (with_tunnel x i t) { session_ids = ids; calls = put x.calls s (new_place i) }
 
-  sets_drawn : (s i : ℕ) (t : Tunnel) → draws x.session_ids ≡ Ok s → Sets x (with_drawn (record x.session_ids { next = s + 1 }) i t s) i t
+  sets_drawn : (s i : ℕ) (t : Tunnel) → takes_id x.session_ids ≡ Ok s → Sets x (with_drawn (record x.session_ids { ceiling = ceiling_for x.session_ids; next = s + 1 }) i t s) i t
   sets_drawn s i t drawn =
       let d = draw_is x.session_ids s drawn in
       let last = here.end.last_session in
@@ -683,7 +683,7 @@ module _ (digits : (who : List ℕ) → length (calling_number who) ≡ 12) (n :
       let le = d.1 in
       let t = h.tunnel in
       let u : Tunnel = record t { calls = put t.calls m.session (rung x.role m.subscriber moment) } in
-      let w : End = with_drawn (record x.session_ids { next = m.session + 1 }) m.tunnel u m.session in
+      let w : End = with_drawn (record x.session_ids { ceiling = ceiling_for x.session_ids; next = m.session + 1 }) m.tunnel u m.session in
       let same : y ≡ w = h.after ∙ ap (λ s. with_drawn s m.tunnel u m.session) (next_is x.session_ids m.session h.drawn) in
       let count = born_count v n m.session here.node here.is in
       let bears : Bears (is_born v n m.session) m.session (next_birth v) = record {
@@ -744,7 +744,7 @@ module _ (digits : (who : List ℕ) → length (calling_number who) ≡ 12) (n :
       let olds = old_letters v' m.session b bears m.tunnel t h.there in
       let letters = one_more v'.nodes n t.control.peer t.letters olds m.remote (Icrp m.session) s.0.0 (omega arith, omega (arith, d.0)) mates in
       let u : Tunnel = record { control = c; letters = ls; calls = put t.calls m.session (asked_for x.role m.remote moment) } in
-      let w : End = with_drawn (record x.session_ids { next = m.session + 1 }) m.tunnel u m.session in
+      let w : End = with_drawn (record x.session_ids { ceiling = ceiling_for x.session_ids; next = m.session + 1 }) m.tunnel u m.session in
       let same : y ≡ w = h.after ∙ ap (λ s. with_drawn s m.tunnel u m.session) (next_is x.session_ids m.session h.drawn) in
       subst (λ e. Led (with_birth v n m.session (birth_of v (node_of m.peer) m.remote)) e) (sym same)
       (subst (λ q. Led (with_birth v n m.session q) w) (sym told)
@@ -774,7 +774,7 @@ module _ (digits : (who : List ℕ) → length (calling_number who) ≡ 12) (n :
   does_led moment (move.Closed m) y h = closed_led moment m y h
   does_led moment (move.Rejected m) y h = rejected_led moment m y h
   does_led moment (move.ClosedBy m) y h = closed_by_led moment m y h
-  does_led moment (move.Cleared i) y h = cleared_led moment i y h
+  does_led moment (move.Cleared i booked) y h = cleared_led moment i booked y h
   does_led moment (move.Greeted m) y h = greeted_led moment m y h
   does_led moment (move.TookPlain m) y h = plain_led m y h
   does_led moment (move.NrRead m) y h = read_led moment m y h

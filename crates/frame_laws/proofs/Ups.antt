@@ -70,7 +70,7 @@ module _ (line n : ℕ) (r : Role) (sender : Option Sender) (v : World) where
   deeds_told (move.Closed m ∷ ms) = deeds_told ms
   deeds_told (move.Rejected m ∷ ms) = deeds_told ms
   deeds_told (move.ClosedBy m ∷ ms) = deeds_told ms
-  deeds_told (move.Cleared i ∷ ms) = deeds_told ms
+  deeds_told (move.Cleared i booked ∷ ms) = deeds_told ms
   deeds_told (move.Greeted m ∷ ms) = deeds_told ms
   deeds_told (move.TookPlain m ∷ ms) = deeds_told ms
   deeds_told (move.NrRead m ∷ ms) = deeds_told ms

@@ -1,6 +1,8 @@
 -- A space of numbers: its last one, the ceiling up to which numbers may be drawn, and the next one.
-use Rattle.std.specs.Prelude.{◌≡◌, ℕ, zero, suc, ◌+◌, ◌-◌, ◌<◌, ◌≤◌, nat_lt, if◌then◌else◌, Bool, true, false, List, [], ◌∷◌, length, AllPairs, Result, Ok, Err, ⊤}
+use Rattle.std.specs.Prelude.{◌≡◌, ℕ, zero, suc, ◌+◌, ◌-◌, ◌<◌, ◌≤◌, min, nat_lt, if◌then◌else◌, Bool, true, false, List, [], ◌∷◌, length, AllPairs, cond, Result, Ok, Err, ⊤}
 use Rattle.std.specs.List.{list_any}
+use Rattle.std.proofs.Common.{refl, sym, arith}
+use Rattle.std.proofs.lemmas.Bool.{ltb-false}
 use Rattle.id_source.specs.declared.IdError.{IdError}
 use Rattle.id_source.specs.declared.IdError.TheVariants.{NoIds, NeedCeiling}
 
@@ -29,6 +31,34 @@ drawn (Err e) s = s
 
 abbrev pub after_draw : Space → Space
 after_draw s = drawn (draws s) s
+
+-- ---- what an end draws: it raises the ceiling where the next number is above it, and commits it before anybody sees the number
+
+-- by 64, at most up to the last number
+abbrev pub ceiling_for : Space → ℕ
+ceiling_for s = if nat_lt s.ceiling s.next then min s.last (s.ceiling + 64) else s.ceiling
+
+-- the next number, where it doesn't pass the last one
+unfoldable pub takes_id : Space → Result ℕ IdError
+takes_id s = if nat_lt s.last s.next then Err (NoIds (s.next - 1)) else Ok s.next
+
+abbrev pub with_taken : Result ℕ IdError → Space → Space
+with_taken (Ok n) s = record s { ceiling = ceiling_for s; next = n + 1 }
+with_taken (Err e) s = s
+
+abbrev pub after_id : Space → Space
+after_id s = with_taken (takes_id s) s
+
+pub draw_is : (s : Space) (k : ℕ) → takes_id s ≡ Ok k → (k ≡ s.next) × (k ≤ s.last)
+unfolding takes_id
+draw_is s k h = by (nat_lt s.last s.next) refl h
+  where
+    by : (a : Bool) → nat_lt s.last s.next ≡ a → cond a (Err (NoIds (s.next - 1))) (Ok s.next) ≡ Ok k → (k ≡ s.next) × (k ≤ s.last)
+    by true e h = absurd cc
+    by false e h = let g : s.next ≡ k = cc in let le = ltb-false s.last s.next e in (sym g, omega (arith, g))
+
+pub next_is : (s : Space) (k : ℕ) → takes_id s ≡ Ok k → after_id s ≡ record s { ceiling = ceiling_for s; next = k + 1 }
+next_is s k h = rw h refl
 
 -- ---- what is drawn in a list of draws, raised ceilings, and starts from the ceiling
 

@@ -3,9 +3,13 @@
 #![tactic(auto)]
 
 ghost use Rattle.std.specs.Prelude.{◌≡◌, ◌≤◌, IfOk, IfErr};
-ghost use Rattle.id_source.specs.Spaces.{new_space, space_from, draws, after_draw, CountsOn, EachIsDrawnOnce};
+ghost use Rattle.id_source.specs.Spaces.{new_space, space_from, draws, after_draw, takes_id, after_id, CountsOn, EachIsDrawnOnce};
+ghost use Rattle.id_source.specs.Taking.{TakesAreDraws};
 
 use std::marker::Model;
+
+/// By how much the ceiling of a space is raised.
+const STRIDE: u32 = 64;
 
 /// Why no number is drawn. The space is as before.
 #[derive(Clone, Copy, Debug, PartialEq, Eq)]
@@ -80,6 +84,24 @@ impl Ids {
         Ok(next)
     }
 
+    /// The next number. Where it is above the ceiling, the ceiling is raised by 64, at most up to the last number; it is then to be
+    /// committed before anybody sees the number. It takes no memory.
+    #[tactic(auto, unfolding(crate::specs::Spaces::takes_id))]
+    pub fn take(&mut self) -> Result<u32, IdError>
+        ensures answer { result ≡ takes_id self.old }
+        ensures after { self.new ≡ after_id self.old }
+        ensures within { IfOk result (λ id. (1 ≤ id) × (id ≤ self.old.last)) }
+    {
+        if self.before == self.last {
+            return Err(IdError::NoIds { drawn: self.before });
+        }
+        if self.ceiling == self.before {
+            self.ceiling = self.last.min(self.ceiling.saturating_add(STRIDE));
+        }
+        self.before += 1;
+        Ok(self.before)
+    }
+
     /// Raises the ceiling.
     pub fn raise(&mut self, ceiling: u32)
         requires above { self.old.ceiling ≤ ceiling }
@@ -98,8 +120,10 @@ impl Ids {
 }
 
 /// Laws: over every list of draws, raised ceilings and starts from the ceiling no number is drawn twice, as each is above those before
-/// it; and as long as there is no start, they count on from the next one.
+/// it; as long as there is no start, they count on from the next one; and what an end draws is a raise of the ceiling, which stays
+/// within the space, and a draw.
 pub fn each_number_is_drawn_once()
     ensures once { EachIsDrawnOnce }
     ensures counted { CountsOn }
+    ensures taken { TakesAreDraws }
 {}

@@ -2,7 +2,7 @@
 use Rattle.std.proofs.Common.{rules, refl, ap, sym, ◌∙◌}
 use Rattle.std.specs.Prelude.{ℕ, ◌≡◌, List, [], ◌∷◌, find, Bool, true, false, if◌then◌else◌, Option, Some, None, is_some, Result, Ok, Err}
 use Rattle.id_table.specs.Ids.{at}
-use Rattle.id_source.specs.Spaces.{draws}
+use Rattle.id_source.specs.Spaces.{takes_id}
 use Rattle.id_source.specs.declared.IdError.{IdError}
 use Rattle.wire_base.specs.declared.cause.Cause.{Cause}
 use Rattle.pppoe_discovery.specs.declared.outcome.Discovered.{Discovered}
@@ -46,7 +46,7 @@ live_drawn e (Err x) = refl
 
 got_is : (before : End) (s : Stepped) (next : Option ℕ) → next_session before.session_ids ≡ next → session_got before s ≡ live_at s.end next
 unfolding next_session
-got_is before s next is = live_drawn s.end (draws before.session_ids) ∙ ap (live_at s.end) is
+got_is before s next is = live_drawn s.end (takes_id before.session_ids) ∙ ap (live_at s.end) is
 
 module _ (l : Concentrator) (src : List ℕ) (uniq : Option (List ℕ)) (asked : Discovered) (s : Stepped) (r : Refusals) (mac : List ℕ)
     (own : mac ≡ mac_of l.end.config.number) (are : AreRefusals mac asked r) where

@@ -1,7 +1,7 @@
 -- Where the births of an LNS's sessions come from: each is that of the call that a request named, which a tunnel took.
 use Rattle.std.proofs.Common.{◌≡◌, ⊎_elim, ℕ, ◌+◌, ◌<◌, List, [], ◌∷◌, length, refl, sym, ap, ◌∙◌, subst, Option, Some, None, slice_get, arith}
 use Rattle.std.specs.Prelude.{unwrap_or}
-use Rattle.id_source.specs.Spaces.{Space}
+use Rattle.id_source.specs.Spaces.{Space, draw_is, next_is}
 use Rattle.id_table.specs.Ids.{at, put}
 use Rattle.id_table.specs.Order.{at_new, at_other, found_put, same_or_not}
 use Rattle.end_model.specs.declared.event.Event.{Event}
@@ -21,7 +21,7 @@ use Rattle.connection_laws.specs.Accounts.{Taken, about, account_from}
 use Rattle.request_laws.proofs.Rows.{not_both}
 use Rattle.request_laws.proofs.Asked.{Known, Ordered, CallsGo}
 use Rattle.request_laws.proofs.Deeds.{known_after, taken_for, deed_taken, deed_replied}
-use Rattle.request_laws.proofs.Moves.{draw_is, next_is, does_calls}
+use Rattle.request_laws.proofs.Moves.{does_calls}
 use Rattle.request_laws.proofs.Chains.{known_then}
 use Rattle.request_laws.proofs.Worlds.{with_one, next_birth, born_nodes, made_nodes}
 
@@ -208,8 +208,8 @@ module _ (v : World) (number n : ℕ) (r : Role) (sender : Option Sender) (momen
   added_born : (u : World) (known : Known) (x y : End) → BornOk n u.nodes known x → (m : Added) → Adds x moment ev m y
       → Bears n u.nodes (is_born u n m.session).nodes (next_known (move.Added m) known) y
   added_born u known x y ok m h =
-      let new = draw_is x.session_ids m.session h.drawn in
-      let next = ap (λ (e : End). e.session_ids.next) h.after ∙ next_is x.session_ids m.session h.drawn in
+      let new = (draw_is x.session_ids m.session h.drawn).0 in
+      let next = ap (λ (e : End). e.session_ids.next) h.after ∙ ap (λ (ids : Space). ids.next) (next_is x.session_ids m.session h.drawn) in
       let role : y.role ≡ x.role = ap (λ (e : End). e.role) h.after in
       bears_one n u.nodes known (next_known (move.Added m) known) x y ok (calls_go x y ok.order (move.Added m) h)
       (deed_taken v number n r sender (move.Added m) known)
@@ -220,8 +220,8 @@ module _ (v : World) (number n : ℕ) (r : Role) (sender : Option Sender) (momen
   replied_born : (u : World) (known : Known) (x y : End) → BornOk n u.nodes known x → (m : Replied) → Replies x moment ev m y
       → Bears n u.nodes (with_birth u n m.session (birth_of u (node_of m.peer) m.remote)).nodes (next_known (move.Replied m) known) y
   replied_born u known x y ok m h =
-      let new = draw_is x.session_ids m.session h.drawn in
-      let next = ap (λ (e : End). e.session_ids.next) h.after ∙ next_is x.session_ids m.session h.drawn in
+      let new = (draw_is x.session_ids m.session h.drawn).0 in
+      let next = ap (λ (e : End). e.session_ids.next) h.after ∙ ap (λ (ids : Space). ids.next) (next_is x.session_ids m.session h.drawn) in
       let b = birth_of u (node_of m.peer) m.remote in
       let later = next_known (move.Replied m) known in
       let calls = calls_go x y ok.order (move.Replied m) h in
@@ -269,7 +269,7 @@ module _ (v : World) (number n : ℕ) (r : Role) (sender : Option Sender) (momen
   does_born u known x y ok (move.Closed m) h = still_born u known x y ok (move.Closed m) h (ap (λ (e : End). e.session_ids) h.after)
   does_born u known x y ok (move.Rejected m) h = still_born u known x y ok (move.Rejected m) h (ap (λ (e : End). e.session_ids) h.after)
   does_born u known x y ok (move.ClosedBy m) h = still_born u known x y ok (move.ClosedBy m) h (ap (λ (e : End). e.session_ids) h.after)
-  does_born u known x y ok (move.Cleared i) h = still_born u known x y ok (move.Cleared i) h (ap (λ (e : End). e.session_ids) h.after)
+  does_born u known x y ok (move.Cleared i booked) h = still_born u known x y ok (move.Cleared i booked) h (ap (λ (e : End). e.session_ids) h.after)
   does_born u known x y ok (move.Greeted m) h = still_born u known x y ok (move.Greeted m) h (ap (λ (e : End). e.session_ids) h.after)
   does_born u known x y ok (move.TookPlain m) h = still_born u known x y ok (move.TookPlain m) h (ap (λ (e : End). e.session_ids) h.after)
   does_born u known x y ok (move.NrRead m) h = still_born u known x y ok (move.NrRead m) h (ap (λ (e : End). e.session_ids) h.after)

@@ -32,7 +32,7 @@ module _ (v : World) (number n : ℕ) (r : Role) (sender : Option Sender) (momen
   asks_now known x y ok (move.Closed m) h s q = absurd q
   asks_now known x y ok (move.Rejected m) h s q = absurd q
   asks_now known x y ok (move.ClosedBy m) h s q = absurd q
-  asks_now known x y ok (move.Cleared i) h s q = absurd q
+  asks_now known x y ok (move.Cleared i booked) h s q = absurd q
   asks_now known x y ok (move.Greeted m) h s q = absurd q
   asks_now known x y ok (move.TookPlain m) h s q = absurd q
   asks_now known x y ok (move.NrRead m) h s q = absurd q

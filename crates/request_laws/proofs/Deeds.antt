@@ -51,7 +51,7 @@ IsRequest (move.Declined m) s = ⊥
 IsRequest (move.Closed m) s = ⊥
 IsRequest (move.Rejected m) s = ⊥
 IsRequest (move.ClosedBy m) s = ⊥
-IsRequest (move.Cleared i) s = ⊥
+IsRequest (move.Cleared i booked) s = ⊥
 IsRequest (move.Greeted m) s = ⊥
 IsRequest (move.TookPlain m) s = ⊥
 IsRequest (move.NrRead m) s = ⊥
@@ -104,7 +104,7 @@ module _ (v : World) (number n : ℕ) (r : Role) (sender : Option Sender) where
   entered_asks (move.Closed m) a k s h = plain (move.Closed m) a _ k s (λ serial calling e. absurd (cc)) h
   entered_asks (move.Rejected m) a k s h = plain (move.Rejected m) a _ k s (λ serial calling e. absurd (cc)) h
   entered_asks (move.ClosedBy m) a k s h = inl h
-  entered_asks (move.Cleared i) a k s h = inl h
+  entered_asks (move.Cleared i booked) a k s h = inl h
   entered_asks (move.Greeted m) a k s h = plain (move.Greeted m) a _ k s (λ serial calling e. absurd (cc)) h
   entered_asks (move.TookPlain m) a k s h = inl h
   entered_asks (move.NrRead m) a k s h = inl h
@@ -138,7 +138,7 @@ module _ (v : World) (number n : ℕ) (r : Role) (sender : Option Sender) where
   entered_taken (move.Closed m) a k u h = h
   entered_taken (move.Rejected m) a k u h = takes_more a _ k u h
   entered_taken (move.ClosedBy m) a k u h = takes_more a _ k u h
-  entered_taken (move.Cleared i) a k u h = h
+  entered_taken (move.Cleared i booked) a k u h = h
   entered_taken (move.Greeted m) a k u h = h
   entered_taken (move.TookPlain m) a k u h = takes_more a _ k u h
   entered_taken (move.NrRead m) a k u h = h

@@ -2,8 +2,7 @@
 use Rattle.std.proofs.Common.{◌≡◌, ◌⊎◌, inl, inr, ⊎_elim, ℕ, ◌+◌, ◌-◌, ◌<◌, ◌≤◌, Bool, true, false, cond, [], refl, sym, ap, ◌∙◌, subst, Some, Ok, Err, arith}
 use Rattle.std.proofs.lemmas.Option.{none-some}
 use Rattle.std.specs.Prelude.{nat_lt}
-use Rattle.id_source.specs.declared.IdError.TheVariants.{NoIds, NeedCeiling}
-use Rattle.id_source.specs.Spaces.{Space, draws, after_draw}
+use Rattle.id_source.specs.Spaces.{Space, draw_is, next_is}
 use Rattle.id_table.specs.Ids.{at, put, without, at-none}
 use Rattle.id_table.specs.Order.{Ascends, ascends-empty, ascends-put, at_new, found_put, ascends-without, found_without}
 use Rattle.call_fsm.specs.declared.table.CallEvent.TheVariants as call_event
@@ -35,20 +34,6 @@ use Rattle.step_laws.specs.Moves.{with_tunnel, without_call, Opens, Accepts, Add
 use Rattle.connection_laws.specs.Accounts.{about}
 use Rattle.request_laws.proofs.Rows.{Asks, up_row, asked_over, first_over, second_over}
 use Rattle.request_laws.proofs.Asked.{IsCall, Known, Ordered, AskOk, Was, Went, New, CallsGo, IsNow}
-
--- ---- draws
-
-pub draw_is : (s : Space) (k : ℕ) → draws s ≡ Ok k → k ≡ s.next
-unfolding draws
-draw_is s k h = by (nat_lt s.last s.next) (nat_lt s.ceiling s.next) h
-  where
-    by : (a b : Bool) → cond a (Err (NoIds (s.next - 1))) (cond b (Err (NeedCeiling s.next)) (Ok s.next)) ≡ Ok k → k ≡ s.next
-    by true b h = absurd cc
-    by false true h = absurd cc
-    by false false h = let g : s.next ≡ k = cc in sym g
-
-pub next_is : (s : Space) (k : ℕ) → draws s ≡ Ok k → (after_draw s).next ≡ k + 1
-next_is s k h = rw h refl
 
 -- ---- a tunnel is put
 
@@ -154,8 +139,8 @@ module _ (x y : End) (o : Ordered x) where
 
   added_calls : (moment : ℕ) (ev : Event) (m : Added) → Adds x moment ev m y → CallsGo x y m.tunnel
   added_calls moment ev m h =
-      let d = draw_is x.session_ids m.session h.drawn in
-      let n = ap (λ (e : End). e.session_ids.next) h.after ∙ next_is x.session_ids m.session h.drawn in
+      let d = (draw_is x.session_ids m.session h.drawn).0 in
+      let n = ap (λ (e : End). e.session_ids.next) h.after ∙ ap (λ (ids : Space). ids.next) (next_is x.session_ids m.session h.drawn) in
       let role : y.role ≡ x.role = ap (λ (e : End). e.role) h.after in
       let tunnels = ap (λ (e : End). e.tunnels) h.after in
       puts_new x y m.tunnel h.tunnel (record h.tunnel { calls = put h.tunnel.calls m.session (rung x.role m.subscriber moment) }) m.session
@@ -163,8 +148,8 @@ module _ (x y : End) (o : Ordered x) where
 
   replied_calls : (moment : ℕ) (ev : Event) (m : Replied) → Replies x moment ev m y → CallsGo x y m.tunnel
   replied_calls moment ev m h =
-      let d = draw_is x.session_ids m.session h.drawn in
-      let n = ap (λ (e : End). e.session_ids.next) h.after ∙ next_is x.session_ids m.session h.drawn in
+      let d = (draw_is x.session_ids m.session h.drawn).0 in
+      let n = ap (λ (e : End). e.session_ids.next) h.after ∙ ap (λ (ids : Space). ids.next) (next_is x.session_ids m.session h.drawn) in
       let role : y.role ≡ x.role = ap (λ (e : End). e.role) h.after in
       let tunnels = ap (λ (e : End). e.tunnels) h.after in
       puts_new x y m.tunnel h.tunnel _ m.session (asked_for x.role m.remote moment)
@@ -226,8 +211,8 @@ module _ (x y : End) (o : Ordered x) where
   closed_by_calls : (moment : ℕ) (ev : Event) (m : ClosedBy) → Does x moment ev (move.ClosedBy m) y → CallsGo x y m.tunnel
   closed_by_calls moment ev m h = rw h.after (puts_empty x _ m.tunnel _ (record { role = refl; tunnels = refl; rises = omega arith }) o refl)
 
-  cleared_calls : (moment : ℕ) (ev : Event) (i : ℕ) → Does x moment ev (move.Cleared i) y → CallsGo x y i
-  cleared_calls moment ev i h =
+  cleared_calls : (moment : ℕ) (ev : Event) (i : ℕ) (booked : Bool) → Does x moment ev (move.Cleared i booked) y → CallsGo x y i
+  cleared_calls moment ev i booked h =
       let gone = λ (j : ℕ) (t : Tunnel) (f : at (without x.tunnels i) j ≡ Some t). (found_without x.tunnels i j t o.tunnels f).1 in
       rw h.after (record {
         role = refl;
@@ -258,7 +243,7 @@ module _ (x y : End) (o : Ordered x) where
   does_calls moment ev (move.Closed m) h = closed_calls moment ev m h
   does_calls moment ev (move.Rejected m) h = rejected_calls moment ev m h
   does_calls moment ev (move.ClosedBy m) h = closed_by_calls moment ev m h
-  does_calls moment ev (move.Cleared i) h = cleared_calls moment ev i h
+  does_calls moment ev (move.Cleared i booked) h = cleared_calls moment ev i booked h
   does_calls moment ev (move.Greeted m) h = stays m.tunnel h.tunnel _ h.there h.after refl
   does_calls moment ev (move.TookPlain m) h = stays m.tunnel h.tunnel _ h.there h.after refl
   does_calls moment ev (move.NrRead m) h = stays m.tunnel h.tunnel _ h.there h.after refl

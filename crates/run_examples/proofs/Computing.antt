@@ -1,5 +1,5 @@
 -- All that a run, a step and the tables compute with.
-use Rattle.id_source.specs.Spaces.{draws}
+use Rattle.id_source.specs.Spaces.{takes_id}
 use Rattle.id_table.specs.Ids.{at, put as put_at, without}
 use Rattle.wire_base.specs.Numbers.{u16_bytes, u32_bytes}
 use Rattle.l2tp_header.specs.Flags.{is_control, has_length, has_numbers, has_offset, has_priority, version_of}
@@ -40,7 +40,7 @@ use Rattle.std.specs.Fmt.{digits}
 use Rattle.frame_laws.specs.Past.{sent_in, handed_in}
 
 unfoldable pub computing : Unit {0}
-unfolding draws at put_at without u16_bytes u32_bytes is_control has_length has_numbers has_offset has_priority version_of word_of
+unfolding takes_id at put_at without u16_bytes u32_bytes is_control has_length has_numbers has_offset has_priority version_of word_of
     start_of end_of header_with header_of control_bytes data_bytes avp_at avps_at checked u16_at u32_at window_at failover_at recovery_at
     suggested_at draw_at response_at opening_at icrq_at icrp_at iccn_at message_by kind_by result_code_at cdn_at host_name address_of node_of
     subscriber calling_number message_read pairs_read message_in zero_read zero_pairs at_zero at_tunnel fault_of_pairs call_fault_in tunnel_fault_of_pairs tunnel_fault_in

@@ -37,7 +37,7 @@ lac_with c l n letters = record (new_end role.Lac (config_of 9 (address_of 4) No
   tunnels = (
     1,
     record {
-      control = record { local = 1; peer = address_of 4; remote = 7; state = states.Established; channel = n; made = 0; heard = 0; closed = 0; challenge = None };
+      control = record { local = 1; peer = address_of 4; remote = 7; state = states.Established; channel = n; made = 0; heard = 0; closed = 0; flags = 3; challenge = None };
       letters = letters;
       calls = (3, c) ∷ [];
     },
@@ -92,7 +92,7 @@ abbrev pub alone : ℕ → ℕ → Event
 alone ns nr = Datagram (address_of 4) (control_bytes 1 0 ns nr [])
 
 abbrev pub numbered : ℕ → ℕ → Bool → Origin
-numbered ns nr empty = origin.Control (record { tunnel = 1; epoch = 0; ns = ns; nr = nr; empty = empty })
+numbered ns nr empty = origin.Control (record { tunnel = 1; ns = ns; nr = nr; empty = empty })
 
 abbrev pub message : ℕ → ℕ → ℕ → Message → Out
 message session ns nr m = Send (address_of 4) (control_bytes 7 session ns nr (spelling (pairs_of m))) (numbered ns nr false)
@@ -157,7 +157,7 @@ opening_lac = record (new_end role.Lac (config_of 9 (address_of 4) None false)) 
   tunnels = (
     1,
     record {
-      control = record { local = 1; peer = address_of 4; remote = 0; state = states.WaitCtlReply; channel = channel 0 1 1 0; made = 0; heard = 0; closed = 0; challenge = None };
+      control = record { local = 1; peer = address_of 4; remote = 0; state = states.WaitCtlReply; channel = channel 0 1 1 0; made = 0; heard = 0; closed = 0; flags = 0; challenge = None };
       letters = letter_of 0 (Sccrq (opening_of role.Lac (config_of 9 (address_of 4) None false) None None 1)) ∷ [];
       calls = (3, record { remote = 0; state = WaitTunnel; since = 0; subscriber = subscriber 70; steps = []; link = None }) ∷ [];
     },
@@ -182,7 +182,7 @@ lns = record (new_end role.Lns (config_of 4 0 None false)) {
   tunnels = (
     7,
     record {
-      control = record { local = 7; peer = address_of 9; remote = 1; state = states.WaitCtlConn; channel = channel 0 1 1 1; made = 0; heard = 0; closed = 0; challenge = None };
+      control = record { local = 7; peer = address_of 9; remote = 1; state = states.WaitCtlConn; channel = channel 0 1 1 1; made = 0; heard = 0; closed = 0; flags = 3; challenge = None };
       letters = letter_of 0 (Sccrp (opening_of role.Lns (config_of 4 0 None false) None None 7)) ∷ [];
       calls = [];
     },
@@ -195,7 +195,7 @@ sccrq node local = Datagram (address_of node) (control_bytes 0 0 0 0 (spelling (
 
 pub record OpeningsComeOnce : Type 0 where
   -- it is acknowledged again in the tunnel that it opened, and opens none
-  pub again : answer lns (sccrq 9 1) ≡ Send (address_of 9) (control_bytes 1 0 1 1 []) (origin.Control (record { tunnel = 7; epoch = 0; ns = 1; nr = 1; empty = true })) ∷ []
+  pub again : answer lns (sccrq 9 1) ≡ Send (address_of 9) (control_bytes 1 0 1 1 []) (origin.Control (record { tunnel = 7; ns = 1; nr = 1; empty = true })) ∷ []
   pub kept : left lns (sccrq 9 1) ≡ lns
   -- one of another node, or with another id, opens a tunnel
   pub of_another : ids_of (left lns (sccrq 6 1)).tunnels ≡ 1 ∷ 7 ∷ []

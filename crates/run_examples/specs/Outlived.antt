@@ -26,7 +26,7 @@ lns taken = record (new_end role.Lns (config_of 4 0 None false)) {
   tunnels = (
     7,
     record {
-      control = record { local = 7; peer = address_of 9; remote = 1; state = states.Established; channel = channel 50000 0 0 taken; made = 0; heard = 0; closed = 0; challenge = None };
+      control = record { local = 7; peer = address_of 9; remote = 1; state = states.Established; channel = channel 50000 0 0 taken; made = 0; heard = 0; closed = 0; flags = 3; challenge = None };
       letters = [];
       calls = [];
     },
@@ -42,7 +42,7 @@ packet ns nr = record {
   from = 9;
   to = 4;
   bytes = bytes ns nr;
-  origin = origin.Control (record { tunnel = 1; epoch = 0; ns = ns; nr = nr; empty = false });
+  origin = origin.Control (record { tunnel = 1; ns = ns; nr = nr; empty = false });
 }
 
 abbrev pub world : ℕ → ℕ → ℕ → World

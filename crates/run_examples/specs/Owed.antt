@@ -1,7 +1,7 @@
 -- Letters that calls owe carry weight: a tunnel that takes a call for the letters that it holds alone may have no room to tell
 -- that a call ends.
 use Rattle.std.specs.Prelude.{◌≡◌, ℕ, ◌+◌, List, [], ◌∷◌, Bool, false, nat_le, if◌then◌else◌, None}
-use Rattle.id_source.specs.Spaces.{draws}
+use Rattle.id_source.specs.Spaces.{new_space, takes_id}
 use Rattle.id_table.specs.Ids.{ids_of}
 use Rattle.wire_base.specs.declared.why.Why.TheVariants as why
 use Rattle.wire_base.specs.declared.cause.Cause.TheVariants as cause
@@ -19,7 +19,7 @@ use Rattle.end_names.specs.Names.{subscriber, address_of}
 use Rattle.end_model.specs.Ringing.{rings_by}
 use Rattle.end_model.specs.Sending.{settles}
 use Rattle.end_model.specs.Tunnels.{turn_of}
-use Rattle.end_model.specs.End.{End, new_end, whole_space, env_of, after_turn, step}
+use Rattle.end_model.specs.End.{End, new_end, env_of, after_turn, step}
 use Rattle.world_model.specs.World.{config_of}
 use Rattle.run_examples.specs.Channels.{channel}
 
@@ -36,12 +36,12 @@ calls = (3, up 8) ∷ (4, up 9) ∷ (5, up 10) ∷ (6, up 11) ∷ []
 
 -- the tunnel holds 8,187 letters, of which the first is outstanding; they are left out
 abbrev pub control : Control
-control = record { local = 1; peer = address_of 4; remote = 7; state = states.Established; channel = channel 3 8187 1 2; made = 0; heard = 0; closed = 0; challenge = None }
+control = record { local = 1; peer = address_of 4; remote = 7; state = states.Established; channel = channel 3 8187 1 2; made = 0; heard = 0; closed = 0; flags = 3; challenge = None }
 
 -- the LAC, node 9
 abbrev pub lac : End
 lac = record (new_end role.Lac (config_of 9 (address_of 4) None false)) {
-  session_ids = record (whole_space 65534) { next = 7 };
+  session_ids = record (new_space 65534) { ceiling = 64; next = 7 };
   tunnels = (1, record { control = control; letters = []; calls = calls }) ∷ [];
   calls = (3, place) ∷ (4, place) ∷ (5, place) ∷ (6, place) ∷ [];
 }
@@ -57,7 +57,7 @@ has_room_held c = nat_le (c.channel.window.queued + 4) 8192
 abbrev pub careless : End
 careless =
     if has_room_held control
-    then (after_turn lac 1 [] calls (settles false [] (rings_by role.Lac lac.config (subscriber 75) (draws lac.session_ids) (turn_of control (env_of lac 0 []))))).end
+    then (after_turn lac 1 [] calls (settles false [] (rings_by role.Lac lac.config (subscriber 75) (takes_id lac.session_ids) (turn_of control (env_of lac 0 []))))).end
     else lac
 
 -- the operator drops a call

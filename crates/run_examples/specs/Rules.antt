@@ -39,7 +39,7 @@ waiting = record (new_end role.Lns (config_of 4 0 None false)) {
   tunnels = (
     2,
     record {
-      control = record { local = 2; peer = address_of 6; remote = 5; state = states.Established; channel = channel 2 0 0 4; made = 0; heard = 0; closed = 0; challenge = None };
+      control = record { local = 2; peer = address_of 6; remote = 5; state = states.Established; channel = channel 2 0 0 4; made = 0; heard = 0; closed = 0; flags = 3; challenge = None };
       letters = [];
       calls = (
         3,
@@ -130,7 +130,7 @@ lac = record (new_end role.Lac (config_of 9 (address_of 4) None false)) {
   tunnels = (
     1,
     record {
-      control = record { local = 1; peer = address_of 4; remote = 7; state = states.Established; channel = channel 3 0 0 2; made = 0; heard = 0; closed = 0; challenge = None };
+      control = record { local = 1; peer = address_of 4; remote = 7; state = states.Established; channel = channel 3 0 0 2; made = 0; heard = 0; closed = 0; flags = 3; challenge = None };
       letters = [];
       calls = [];
     },
@@ -145,7 +145,7 @@ pub record IdsRunOut : Type 0 where
   pub opening : (step (record lac { tunnel_ids = spent 65535 }) 0 [] (sccrq 6 2)).outputs ≡
       Cause cause.Ids
       ∷ Send (address_of 6) (control_bytes 2 0 0 1 (spelling (pairs_of (StopCcn 0 2 (Some 4)))))
-      (origin.Control (record { tunnel = 0; epoch = 0; ns = 0; nr = 1; empty = false }))
+      (origin.Control (record { tunnel = 0; ns = 0; nr = 1; empty = false }))
       ∷ []
   pub opening_kept : (step (record lac { tunnel_ids = spent 65535 }) 0 [] (sccrq 6 2)).end ≡ record lac { tunnel_ids = spent 65535 }
   pub sessions : (step (record lac { session_ids = spent 65534 }) 0 [] (Ring 70)).outputs ≡ Cause cause.Ids ∷ []

@@ -14,7 +14,7 @@ use Rattle.run_examples.specs.Channels.{channel}
 -- the LAC, node 9, took two letters: one of two calls is up
 abbrev pub lac : ℕ → Tunnel
 lac queued = record {
-  control = record { local = 1; peer = address_of 4; remote = 7; state = states.Established; channel = channel 2 queued 1 2; made = 0; heard = 0; closed = 0; challenge = None };
+  control = record { local = 1; peer = address_of 4; remote = 7; state = states.Established; channel = channel 2 queued 1 2; made = 0; heard = 0; closed = 0; flags = 3; challenge = None };
   letters = [];
   calls =
       (1, record { remote = 5; state = Established; since = 0; subscriber = subscriber 70; steps = []; link = None })
@@ -25,7 +25,7 @@ lac queued = record {
 -- the LNS, node 4, took three letters; LCP isn't open in its call, which is a session nevertheless
 abbrev pub lns : ℕ → Tunnel
 lns queued = record {
-  control = record { local = 7; peer = address_of 9; remote = 1; state = states.Established; channel = channel 1 queued 1 3; made = 0; heard = 0; closed = 0; challenge = None };
+  control = record { local = 7; peer = address_of 9; remote = 1; state = states.Established; channel = channel 1 queued 1 3; made = 0; heard = 0; closed = 0; flags = 3; challenge = None };
   letters = [];
   calls = (5, record { remote = 1; state = Established; since = 0; subscriber = replicate 6 0; steps = []; link = Some (record { lcp = fresh 17; network = false }) }) ∷ [];
 }

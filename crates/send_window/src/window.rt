@@ -64,6 +64,13 @@ impl SendWindow {
         }
     }
 
+    /// The window of the peer, in letters, as far as it is known.
+    pub fn peer_window(&self) -> u16
+        ensures { result ≡ self.now.congestion.peer_window }
+    {
+        self.congestion.peer_window
+    }
+
     /// Whether as many letters as a channel may hold are unacknowledged or unsent.
     pub fn is_full(&self) -> bool
         ensures { result ≡ nat_le 8192 self.now.queued }

@@ -9,7 +9,7 @@ use Rattle.end_model.specs.declared.moves.Accepted.{Accepted}
 use Rattle.end_model.specs.declared.moves.Move.TheVariants as move
 use Rattle.end_names.specs.Names.{node_of}
 use Rattle.end_model.specs.Tunnels.{Tunnel}
-use Rattle.end_model.specs.Messages.{opening_of}
+use Rattle.end_model.specs.Messages.{flags_of, opening_of}
 use Rattle.end_model.specs.Channels.{counts_taken, learns_window}
 use Rattle.end_model.specs.End.{End}
 use Rattle.world_model.specs.World.{Sender, Deed, config_of}
@@ -150,7 +150,7 @@ module _ (laws : Laws) (accs : Accounts) (ends : Ends) (w : World) (n : ℕ) (e 
 
   abbrev u : Tunnel
   u = with_letter 0 (Sccrp (opening_of e.role e.config m.challenge m.response m.tunnel))
-      (new_tunnel (counts_taken (learns_window m.window (begun m.tunnel m.peer m.remote WaitCtlConn moment m.challenge))))
+      (new_tunnel (counts_taken (learns_window m.window (record (begun m.tunnel m.peer m.remote WaitCtlConn moment m.challenge) { flags = flags_of h.moved.does.opening.failover }))))
 
   fits : i < 65536
   fits = id_fits accs n e sender ev h.moved.within i h.moved.does.drawn
@@ -203,7 +203,7 @@ module _ (laws : Laws) (accs : Accounts) (ends : Ends) (w : World) (n : ℕ) (e 
   old = subst (λ a. TunnelJoined w n i a (at e.tunnels i)) none (tunnel_before accs ends w n e x sender moment ev (move.Accepted m) d h i fits)
 
   state : phase_of u.control.state ≡ WaitConnect
-  state = ap phase_of (learns_state m.window (begun m.tunnel m.peer m.remote WaitCtlConn moment m.challenge))
+  state = ap phase_of (learns_state m.window (record (begun m.tunnel m.peer m.remote WaitCtlConn moment m.challenge) { flags = flags_of h.moved.does.opening.failover }))
 
   pub accepted_follows : Follows w n e x (move.Accepted m) (after accs d) (with_end ends n x)
   accepted_follows =

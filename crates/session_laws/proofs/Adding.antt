@@ -2,8 +2,7 @@
 use Rattle.std.proofs.Common.{◌≡◌, ◌⊎◌, inl, ⊎_elim, ℕ, ◌+◌, ◌<◌, ◌≤◌, Bool, true, false, cond, [], refl, sym, ap, ◌∙◌, subst, Option, Some, Ok, Err, arith, eq-eqb, ne_eqb}
 use Rattle.std.proofs.lemmas.Bool.{lt-ltb, ltb-false}
 use Rattle.std.specs.Prelude.{◌-◌, nat_lt, ◌||◌}
-use Rattle.id_source.specs.declared.IdError.TheVariants.{NoIds, NeedCeiling}
-use Rattle.id_source.specs.Spaces.{Space, draws, after_draw}
+use Rattle.id_source.specs.Spaces.{Space, draw_is, next_is}
 use Rattle.id_table.specs.Ids.{put}
 use Rattle.id_table.specs.Order.{at_new, at_other}
 use Rattle.call_fsm.specs.declared.table.CallState.TheVariants.{WaitTunnel}
@@ -36,21 +35,6 @@ use Rattle.session_laws.proofs.CallRows.{rung_row, rung_remote}
 use Rattle.session_laws.proofs.CallGround.{CallSame, OneCall, TunnelGoes, one_call_follows}
 use Rattle.session_laws.proofs.CallSpeaks.{AccountSpeaks, calls_only, says_nothing, speaks_goes, account_is}
 use Rattle.session_laws.proofs.CallLaws.{world_holds}
-
--- ---- session ids
-
-session_is : (s : Space) (k : ℕ) → draws s ≡ Ok k → (k ≡ s.next) × (k ≤ s.last)
-unfolding draws
-session_is s k h = by (nat_lt s.last s.next) (nat_lt s.ceiling s.next) refl h
-  where
-    by : (a b : Bool) → nat_lt s.last s.next ≡ a → cond a (Err (NoIds (s.next - 1))) (cond b (Err (NeedCeiling s.next)) (Ok s.next)) ≡ Ok k
-        → (k ≡ s.next) × (k ≤ s.last)
-    by true b e h = absurd cc
-    by false true e h = absurd cc
-    by false false e h = let g : s.next ≡ k = cc in let le = ltb-false s.last s.next e in (sym g, omega (arith, g))
-
-next_session : (s : Space) (k : ℕ) → draws s ≡ Ok k → (after_draw s).next ≡ k + 1
-next_session s k h = rw h refl
 
 -- ---- what the machine does
 
@@ -139,7 +123,7 @@ module _ (laws : Laws) (accs : Accounts) (ends : Ends) (w : World) (n : ℕ) (e 
 
   -- the session is the next one, which was never drawn
   session : (s ≡ e.session_ids.next) × (s ≤ e.session_ids.last)
-  session = session_is e.session_ids s h.moved.does.drawn
+  session = draw_is e.session_ids s h.moved.does.drawn
 
   some : 0 < s
   some = let first = h.moved.within.end.first_session in let is = session.0 in omega arith
@@ -169,7 +153,7 @@ module _ (laws : Laws) (accs : Accounts) (ends : Ends) (w : World) (n : ℕ) (e 
       (calls_only w X (is_born w.calls X Z) (added_asks w X Z)) says refl (AddsCall X Z) does
 
   next : x.session_ids.next ≡ s + 1
-  next = ap (λ (y : End). y.session_ids.next) h.moved.does.after ∙ next_session e.session_ids s h.moved.does.drawn
+  next = ap (λ (y : End). y.session_ids.next) h.moved.does.after ∙ ap (λ (ids : Space). ids.next) (next_is e.session_ids s h.moved.does.drawn)
 
   role : x.role ≡ e.role
   role = ap (λ (y : End). y.role) h.moved.does.after

@@ -1,5 +1,5 @@
 -- A tunnel is removed with its calls, and in the machine they end.
-use Rattle.std.proofs.Common.{◌≡◌, ℕ, true, refl, sym, ap, ◌∙◌, Option, Some, None, eq-eqb}
+use Rattle.std.proofs.Common.{◌≡◌, ℕ, true, refl, sym, ap, ◌∙◌, Option, Some, None, eq-eqb, Bool}
 use Rattle.std.proofs.lemmas.Option.{none-some}
 use Rattle.id_table.specs.Ids.{at, without}
 use Rattle.id_table.specs.Order.{at_without_other, at_without_same}
@@ -47,8 +47,8 @@ clears_here w n i a o h = record {
 
 -- ---- a tunnel is cleared
 
-module _ (laws : Laws) (accs : Accounts) (ends : Ends) (w : World) (n : ℕ) (e x : End) (sender : Option Sender) (moment : ℕ) (ev : Event) (i : ℕ) (d : Deed)
-    (h : IsMade accs ends w n e x sender moment ev (move.Cleared i) d) where
+module _ (laws : Laws) (accs : Accounts) (ends : Ends) (w : World) (n : ℕ) (e x : End) (sender : Option Sender) (moment : ℕ) (ev : Event) (i : ℕ) (booked : Bool) (d : Deed)
+    (h : IsMade accs ends w n e x sender moment ev (move.Cleared i booked) d) where
   abbrev t : Tunnel
   t = h.moved.does.tunnel
 
@@ -62,7 +62,7 @@ module _ (laws : Laws) (accs : Accounts) (ends : Ends) (w : World) (n : ℕ) (e 
   live = h.moved.within.end.live i t h.moved.does.there
 
   old : TunnelJoined w n i (accs n i) (Some t)
-  old = here_joined accs ends w n e x sender moment ev (move.Cleared i) d h i t h.moved.does.there
+  old = here_joined accs ends w n e x sender moment ev (move.Cleared i booked) d h i t h.moved.does.there
 
   tunnels_are : x.tunnels ≡ without e.tunnels i
   tunnels_are = ap (λ (y : End). y.tunnels) h.moved.does.after
@@ -80,11 +80,11 @@ module _ (laws : Laws) (accs : Accounts) (ends : Ends) (w : World) (n : ℕ) (e 
   }
 
   account_same : after accs d n i ≡ accs n i
-  account_same = after_here accs d n (move.Cleared i) h.moved.deed.node_is h.moved.deed.move_is (λ k j. refl)
+  account_same = after_here accs d n (move.Cleared i booked) h.moved.deed.node_is h.moved.deed.move_is (λ k j. refl)
 
-  pub cleared_follows : Follows w n e x (move.Cleared i) (after accs d) (with_end ends n x)
+  pub cleared_follows : Follows w n e x (move.Cleared i booked) (after accs d) (with_end ends n x)
   cleared_follows =
-      left_follows accs ends w n e x sender moment ev (move.Cleared i) d h v t tt has_left (leaves_calls w w X Gone refl) (record {
+      left_follows accs ends w n e x sender moment ev (move.Cleared i booked) d h v t tt has_left (leaves_calls w w X Gone refl) (record {
         tunnels = leaves_elsewhere w X Gone;
         tunnel = rw (none_there, account_same) (clears_here w n i (accs n i) (Some t) old);
         up = leaves_up w X Gone;

@@ -136,7 +136,7 @@ module _ (laws : Laws) (accs : Accounts) (ends : Ends) (w : World) (n : ℕ) (e 
       ∙ takes_and_gives d n e.role sender (move.Connected m) m.taken (record a { remote = m.remote }) h.moved.deed
 
   abbrev u : Tunnel
-  u = with_letter 0 (Scccn m.response) (record t { control = counts_taken (learns_window m.window (record t.control { remote = m.remote; state = Established })) })
+  u = with_letter 0 (Scccn m.response) (record t { control = counts_taken (learns_window m.window (record t.control { remote = m.remote; flags = m.flags; state = Established })) })
 
   del : Delivered accs w n i sender h.moved.does.letter.header.session (Sccrp h.moved.does.opening)
   del = delivered laws.heard accs ends w n e x sender moment ev (move.Connected m) d h i t h.moved.does.there
@@ -165,7 +165,7 @@ module _ (laws : Laws) (accs : Accounts) (ends : Ends) (w : World) (n : ℕ) (e 
       ∙ sym (open_learned b del.is_open)
 
   state : u.control.state ≡ Established
-  state = learns_state m.window (record t.control { remote = m.remote; state = Established })
+  state = learns_state m.window (record t.control { remote = m.remote; flags = m.flags; state = Established })
 
   tunnel : TunnelJoined v n i b (Some u)
   tunnel = letters_joined w v n i a b (last ∷ []) 1 (Some t) (Some u) old (connects_here w X S old.entered)

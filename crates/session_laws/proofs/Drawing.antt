@@ -2,8 +2,7 @@
 use Rattle.std.proofs.Common.{◌≡◌, ℕ, ◌+◌, ◌-◌, ◌<◌, ◌≤◌, Bool, true, false, cond, refl, sym, Option, Some, None, Ok, Err, arith}
 use Rattle.std.proofs.lemmas.Bool.{ltb-false}
 use Rattle.std.specs.Prelude.{nat_lt}
-use Rattle.id_source.specs.declared.IdError.TheVariants.{NoIds, NeedCeiling}
-use Rattle.id_source.specs.Spaces.{Space, draws, after_draw}
+use Rattle.id_source.specs.Spaces.{takes_id, draw_is}
 use Rattle.id_table.specs.Ids.{at}
 use Rattle.end_model.specs.declared.event.Event.{Event}
 use Rattle.end_model.specs.Tunnels.{Tunnel}
@@ -13,23 +12,10 @@ use Rattle.connection_laws.specs.Accounts.{Part, Unmade, Opener, Acceptor, no_ac
 use Rattle.connection_laws.specs.Facts.{Accounts, IsMade, IsPart, Within}
 use Rattle.session_laws.proofs.Ground.{live_made}
 
-pub draw_is : (s : Space) (k : ℕ) → draws s ≡ Ok k → (k ≡ s.next) × (k ≤ s.last)
-unfolding draws
-draw_is s k h = by (nat_lt s.last s.next) (nat_lt s.ceiling s.next) refl h
-  where
-    by : (a b : Bool) → nat_lt s.last s.next ≡ a → cond a (Err (NoIds (s.next - 1))) (cond b (Err (NeedCeiling s.next)) (Ok s.next)) ≡ Ok k
-        → (k ≡ s.next) × (k ≤ s.last)
-    by true b e h = absurd cc
-    by false true e h = absurd cc
-    by false false e h = let g : s.next ≡ k = cc in let le = ltb-false s.last s.next e in (sym g, omega (arith, g))
-
-pub next_is : (s : Space) (k : ℕ) → draws s ≡ Ok k → after_draw s ≡ record s { next = k + 1 }
-next_is s k h = rw h refl
-
 -- ---- a tunnel's id
 
 module _ (accs : Accounts) (n : ℕ) (e : End) (sender : Option Sender) (ev : Event) (within : Within accs n e sender ev) (i : ℕ)
-    (drawn : draws e.tunnel_ids ≡ Ok i) where
+    (drawn : takes_id e.tunnel_ids ≡ Ok i) where
   drawn_is : (i ≡ e.tunnel_ids.next) × (i ≤ e.tunnel_ids.last)
   drawn_is = draw_is e.tunnel_ids i drawn
 

@@ -1,7 +1,7 @@
 -- An LNS replies to a request, and so does the machine.
 use Rattle.std.proofs.Common.{◌≡◌, inl, ⊎_elim, ℕ, ◌+◌, ◌<◌, ◌≤◌, false, length, refl, sym, ap, ap₂, ◌∙◌, subst, Option, Some, arith, ne_eqb, eq-eqb, None}
 use Rattle.std.proofs.lemmas.Bool.{true≢false, lt-ltb}
-use Rattle.id_source.specs.Spaces.{Space}
+use Rattle.id_source.specs.Spaces.{Space, draw_is, next_is}
 use Rattle.id_table.specs.Ids.{put}
 use Rattle.id_table.specs.Order.{same_or_not, at_new, at_other}
 use Rattle.control_message.specs.declared.message.Message.TheVariants.{Icrq, Icrp}
@@ -34,7 +34,6 @@ use Rattle.session_laws.proofs.Names.{other_name, name_some, known_name, node_ag
 use Rattle.session_laws.proofs.States.{not_closed}
 use Rattle.session_laws.proofs.Ground.{joined_before}
 use Rattle.session_laws.proofs.Heard.{Delivered, delivered, here_joined, open_phase}
-use Rattle.session_laws.proofs.Drawing.{draw_is, next_is}
 use Rattle.session_laws.proofs.CallRows.{asked_state, asked_remote, reply_row, reply_role, fits_as}
 use Rattle.session_laws.proofs.CallGround.{CallSame, OneCall, one_call_follows}
 use Rattle.session_laws.proofs.CallLaws.{world_holds, request_own}

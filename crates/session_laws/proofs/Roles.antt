@@ -178,7 +178,7 @@ module _ (accs : Accounts) (n : ℕ) (e x : End) (sender : Option Sender) (momen
   entered_fits (move.Closed m) deed does h live = given_fits e.role _ h d n sender (move.Closed m) deed _ refl refl h.opens (tt, tt)
   entered_fits (move.Rejected m) deed does h live = both_fit e.role _ h d n sender (move.Rejected m) deed _ refl refl h.opens m.taken (tt, tt)
   entered_fits (move.ClosedBy m) deed does h live = taken_fits e.role _ h d n sender (move.ClosedBy m) deed _ refl refl h.opens m.taken
-  entered_fits (move.Cleared i) deed does h live = h
+  entered_fits (move.Cleared i booked) deed does h live = h
   entered_fits (move.Greeted m) deed does h live = given_fits e.role _ h d n sender (move.Greeted m) deed _ refl refl h.opens (tt, tt)
   entered_fits (move.TookPlain m) deed does h live = taken_fits e.role _ h d n sender (move.TookPlain m) deed _ refl refl h.opens m.taken
   entered_fits (move.NrRead m) deed does h live = h

@@ -233,7 +233,7 @@ module _ (world : World) (ends : Ends) (w v : machine.World) (n : ℕ) (lt : n <
   births_on (move.Closed m) g = else_on (move.Closed m) g.role refl g.go
   births_on (move.Rejected m) g = else_on (move.Rejected m) g.role refl g.go
   births_on (move.ClosedBy m) g = else_on (move.ClosedBy m) g.role refl g.go
-  births_on (move.Cleared i) g = else_on (move.Cleared i) g.role refl g.go
+  births_on (move.Cleared i booked) g = else_on (move.Cleared i booked) g.role refl g.go
   births_on (move.Greeted m) g = else_on (move.Greeted m) g.role refl g.go
   births_on (move.TookPlain m) g = else_on (move.TookPlain m) g.role refl g.go
   births_on (move.NrRead m) g = else_on (move.NrRead m) g.role refl g.go

@@ -27,6 +27,7 @@ use Rattle.end_model.specs.declared.out.Out.{Out}
 use Rattle.end_model.specs.declared.out.Out.TheVariants.{Cause, Gone}
 use Rattle.end_model.specs.declared.moves.Move.{Move}
 use Rattle.end_model.specs.Reading.{message_in, CallFault, call_fault_in, tunnel_fault_in}
+use Rattle.end_model.specs.Messages.{tells_id}
 use Rattle.end_model.specs.Calls.{call_row}
 use Rattle.end_model.specs.Tunnels.{Turn, Tunnel}
 use Rattle.end_model.specs.Reasons.{Reason, out_of_state, fault_reason}
@@ -263,8 +264,8 @@ module _ (e : End) (id : ℕ) (tunnel : Tunnel) (session : ℕ) (t : Turn) (h : 
         subst (λ q. Right (TooFaulty avps g read asks has) (hears_said e.role e.config calls session (call_fault_in body) (tunnel_fault_in body) q t)) (sym u.unread)
         (subst (λ o. Right (TooFaulty avps g read asks has) (hears_faulty e.role e.config calls session o (tunnel_fault_in body) why.Avp t)) (sym u.no_call)
         (subst (λ o. Right (TooFaulty avps g read asks has) (hears_faulty e.role e.config calls session None o why.Avp t)) (sym has)
-        (subst (λ (on : TunnelEvent). Right (TooFaulty avps g read asks has) (takes e.role e.config calls (fault_reason g.cause) on None g.remote 0 t)) (sym u.closes.event)
-        (subst (λ row. Right (TooFaulty avps g read asks has) (takes_by e.role e.config calls (fault_reason g.cause) None g.remote 0 row t))
+        (subst (λ (on : TunnelEvent). Right (TooFaulty avps g read asks has) (takes e.role e.config calls (fault_reason g.cause) on (tells_id g.remote) t)) (sym u.closes.event)
+        (subst (λ row. Right (TooFaulty avps g read asks has) (takes_by e.role e.config calls (fault_reason g.cause) (tells_id g.remote) row t))
         (sym (row_shut t.control.state event.AdminClose (λ z. open_busy z) (live_open t.control h.state) tt))
         (not_waiting (λ u. Right (TooFaulty avps g read asks has) u) _ _
         (subst (λ (c : CauseOf). Right (TooFaulty avps g read asks has) (takes_plain (closes_tunnel (fault_reason c) calls t.control.remote state.Closed t)))

@@ -5,7 +5,7 @@ use Rattle.std.proofs.lemmas.Option.{none-some}
 use Rattle.std.specs.Prelude.{◌&&◌, ◌==◌, nat_lt, unwrap_or}
 use Rattle.id_table.specs.Ids.{at, put, without, ids_of, at-none}
 use Rattle.id_table.specs.Order.{Ascends, found_put, found_without, same_or_not}
-use Rattle.id_source.specs.Spaces.{draws}
+use Rattle.id_source.specs.Spaces.{takes_id}
 use Rattle.id_source.specs.declared.IdError.{IdError}
 use Rattle.wire_base.specs.declared.why.Why.{Why}
 use Rattle.wire_base.specs.declared.why.Why.TheVariants as why
@@ -47,7 +47,7 @@ use Rattle.session_looks.specs.Frames.{header_why}
 use Rattle.end_model.specs.Reading.{body_of, message_in, CallFault, call_fault_in, TunnelFault, tunnel_fault_in}
 use Rattle.end_model.specs.Calls.{call_row, row_for, row_of_none, advanced, rung, asked_for, is_request, is_connection, is_up, are_too_many, is_clean_up, is_short, is_long}
 use Rattle.end_model.specs.Stopping.{rejects, rejected, shut, shuts, closed_told, closes_tunnel, closed_by, shuts_by}
-use Rattle.end_model.specs.Messages.{connected_reason, connected_event, event_by, opening_reason}
+use Rattle.end_model.specs.Messages.{connected_reason, connected_event, event_by, opening_reason, Told, tells_id, told_by}
 use Rattle.end_model.specs.Tunnels.{Turn}
 use Rattle.end_model.specs.Turn.{with_output, with_move, with_change, with_call, with_new, drops, ends_all, ends_call}
 use Rattle.end_model.specs.Openings.{with_local, opened, opens_by, opens, accepted, accepts_by, accepts, connected, confirms}
@@ -284,13 +284,13 @@ module _ (role : Role) (calls : List (ℕ × Call)) where
 
   -- ---- letters about the tunnel
 
-  connects_asked : (c : Config) (asked : Option (List ℕ)) (remote window : ℕ) (next : TunnelState) (t : Turn) → Begins t
-      → Asked (connects role c calls asked remote window next t)
+  connects_asked : (c : Config) (told : Told) (next : TunnelState) (t : Turn) → Begins t
+      → Asked (connects role c calls told next t)
   unfolding connects connected gives with_move takes_one with_calls
-  connects_asked c asked remote window next t b =
+  connects_asked c told next t b =
       branch Asked (has_room t.control) _ _
       (λ may.
-      let u = connected c asked remote window next t in
+      let u = connected c told next t in
       let first : IsAsking u = λ s c there waits. at_first t b s c there in
       let a = requests_all_ok c (ids_of calls) u first in
       λ is_open s c there waits. a.past s (found_among calls s c (first s c (a.leads.fewer s c there waits) waits)) c there waits)
@@ -352,29 +352,29 @@ module _ (role : Role) (calls : List (ℕ × Call)) where
 
   -- ---- letters by the tunnel's table
 
-  takes_by_asked : (c : Config) (r : Reason) (asked : Option (List ℕ)) (remote window : ℕ) (next : TunnelState) (a : TunnelAction) (t : Turn)
+  takes_by_asked : (c : Config) (r : Reason) (told : Told) (next : TunnelState) (a : TunnelAction) (t : Turn)
       → (IsOpening t → a ≡ action.Nothing → state_number next ≡ state_number t.control.state) → Begins t
-      → Asked (takes_by role c calls r asked remote window (next, a) t)
+      → Asked (takes_by role c calls r told (next, a) t)
   unfolding takes_by
-  takes_by_asked c r asked remote window next action.SendScccn t stays b = connects_asked c asked remote window next t b
-  takes_by_asked c r asked remote window next action.Nothing t stays b =
+  takes_by_asked c r told next action.SendScccn t stays b = connects_asked c told next t b
+  takes_by_asked c r told next action.Nothing t stays b =
       branch Asked (state_number next == state_number t.control.state) _ _
       (λ is. plain t b)
       (λ other. confirms_asked next t (λ opening. eqb-false (state_number next) (state_number t.control.state) other (stays opening refl)) b)
-  takes_by_asked c r asked remote window next action.SendSccrq t stays b = plain t b
-  takes_by_asked c r asked remote window next action.SendSccrp t stays b = plain t b
-  takes_by_asked c r asked remote window next action.SendStopCcn t stays b =
+  takes_by_asked c r told next action.SendSccrq t stays b = plain t b
+  takes_by_asked c r told next action.SendSccrp t stays b = plain t b
+  takes_by_asked c r told next action.SendStopCcn t stays b =
       branch Asked (state_number t.control.state == 1) _ _
-      (λ one. rejects_asked r remote next t b)
+      (λ one. rejects_asked r told.remote next t b)
       (λ other. shut_taken r t.control.remote next t (shuts_asked r t.control.remote next t b))
-  takes_by_asked c r asked remote window next action.CleanUp t stays b = shut_heard_asked next t b
+  takes_by_asked c r told next action.CleanUp t stays b = shut_heard_asked next t b
 
-  takes_asked : (c : Config) (r : Reason) (ev : TunnelEvent) (asked : Option (List ℕ)) (remote window : ℕ) (t : Turn) → Begins t
-      → Asked (takes role c calls r ev asked remote window t)
+  takes_asked : (c : Config) (r : Reason) (ev : TunnelEvent) (told : Told) (t : Turn) → Begins t
+      → Asked (takes role c calls r ev told t)
   unfolding takes
-  takes_asked c r ev asked remote window t b =
+  takes_asked c r ev told t b =
       let row = row_of rows t.control.state ev in
-      takes_by_asked c r asked remote window row.0 row.1 t (λ opening. opening_row t.control.state opening ev) b
+      takes_by_asked c r told row.0 row.1 t (λ opening. opening_row t.control.state opening ev) b
 
   -- ---- letters about a call
 
@@ -436,9 +436,9 @@ module _ (role : Role) (calls : List (ℕ × Call)) where
         let was = (found_without (with_calls t.changed calls) k s c sorted (subst (λ xs. at xs s ≡ Some c) less there)).1 in
         absurd (b.asked (λ opening. is_open (ap state_number state ∙ opening)) s c (at_first t b s c was) waits)
 
-    silent_asked : (k : ℕ) (t : Turn) → Begins t → Asked (end_silent k t)
+    silent_asked : (k : ℕ) (booked : Bool) (t : Turn) → Begins t → Asked (end_silent k booked t)
     unfolding end_silent ends_call with_output with_change with_move
-    silent_asked k t b = takes_out t (end_silent k t) k refl refl b
+    silent_asked k booked t b = takes_out t (end_silent k booked t) k refl refl b
 
     told_asked : (for : CauseOf) (k : ℕ) (c : Call) (result : ℕ) (error : Option ℕ) (t : Turn) → Begins t
         → Asked (end_told k c result error (with_output (Cause for) t))
@@ -448,7 +448,7 @@ module _ (role : Role) (calls : List (ℕ × Call)) where
     pub ends_by_asked : (for : CauseOf) (result : ℕ) (error : Option ℕ) (k : ℕ) (c : Call) (a : CallAction) (t : Turn) → Begins t
         → Asked (ends_by for result error k c a t)
     unfolding ends_by
-    ends_by_asked for result error k c call_action.CleanUp t b = silent_asked k t b
+    ends_by_asked for result error k c call_action.CleanUp t b = silent_asked k (is_up c.state) t b
     ends_by_asked for result error k c call_action.SendCdn t b =
         branch Asked (has_room t.control) _ _ (λ may. told_asked for k c result error t b) (λ full. dropped why.Queue t b)
     ends_by_asked for result error k c call_action.Nothing t b = same t t refl refl b
@@ -496,15 +496,15 @@ module _ (role : Role) (calls : List (ℕ × Call)) where
         (λ row. linked_up_asked s c t row b)
         (λ none. answers_asked out_of_state s c (row_for role c call_event.IccnAcc).1 t b)
 
-    end_heard_asked : (k : ℕ) (t : Turn) → Begins t → Asked (end_heard k t)
+    end_heard_asked : (k : ℕ) (booked : Bool) (t : Turn) → Begins t → Asked (end_heard k booked t)
     unfolding end_heard ends_call with_output with_change with_move takes_one
-    end_heard_asked k t b = takes_out t (end_heard k t) k refl refl b
+    end_heard_asked k booked t b = takes_out t (end_heard k booked t) k refl refl b
 
     end_heard_by_asked : (s : ℕ) (o : Option Call) (t : Turn) → Begins t → Asked (end_heard_by role s o t)
     unfolding end_heard_by
     end_heard_by_asked s None t b = no_call_asked out_of_state 0 (row_of_none role call_event.CdnCame).1 t b
     end_heard_by_asked s (Some c) t b =
-        branch Asked (is_clean_up (row_for role c call_event.CdnCame).1) _ _ (λ row. end_heard_asked s t b) (λ none. plain t b)
+        branch Asked (is_clean_up (row_for role c call_event.CdnCame).1) _ _ (λ row. end_heard_asked s (is_up c.state) t b) (λ none. plain t b)
 
     about_asked : (session : ℕ) (m : Message) (t : Turn) → Begins t → Asked (about_call role calls session m t)
     unfolding about_call ends_named
@@ -573,14 +573,13 @@ module _ (role : Role) (calls : List (ℕ × Call)) where
     hears_asked : (c : Config) (session : ℕ) (m : Message) (t : Turn) → Begins t → Asked (hears role c calls session m t)
     unfolding hears
     hears_asked c session (Sccrq o) t b =
-        takes_asked c (opening_reason c.secret None o) (event_by event.SccrqAcc event.SccrqNotAcc c.secret None o) None 0 o.window t b
+        takes_asked c (opening_reason c.secret None o) (event_by event.SccrqAcc event.SccrqNotAcc c.secret None o) (tells_id 0) t b
     hears_asked c session (Sccrp o) t b =
-        takes_asked c (opening_reason c.secret t.control.challenge o) (event_by event.SccrpAcc event.SccrpNotAcc c.secret t.control.challenge o) o.challenge
-        o.tunnel o.window t b
+        takes_asked c (opening_reason c.secret t.control.challenge o) (event_by event.SccrpAcc event.SccrpNotAcc c.secret t.control.challenge o) (told_by o) t b
     hears_asked c session (Scccn response) t b =
-        takes_asked c (connected_reason c.secret t.control.challenge response) (connected_event c.secret t.control.challenge response) None 0 0 t b
+        takes_asked c (connected_reason c.secret t.control.challenge response) (connected_event c.secret t.control.challenge response) (tells_id 0) t b
     hears_asked c session Hello t b = plain t b
-    hears_asked c session (StopCcn tunnel code error) t b = takes_asked c out_of_order event.StopCcnCame None 0 0 t b
+    hears_asked c session (StopCcn tunnel code error) t b = takes_asked c out_of_order event.StopCcnCame (tells_id 0) t b
     hears_asked c session (Ocrq remote) t b = in_call_asked session (Ocrq remote) t b
     hears_asked c session Ocrp t b = plain t b
     hears_asked c session Occn t b = plain t b
@@ -597,7 +596,7 @@ module _ (role : Role) (calls : List (ℕ × Call)) where
         → Asked (hears_faulty role c calls session f g w t)
     unfolding hears_faulty
     faults_asked c session (Some f) g w t b = in_faulty_asked session f t b
-    faults_asked c session None (Some g) w t b = takes_asked c (fault_reason g.cause) g.event None g.remote 0 t b
+    faults_asked c session None (Some g) w t b = takes_asked c (fault_reason g.cause) g.event (tells_id g.remote) t b
     faults_asked c session None None w t b = ignored w t b
 
     said_asked : (c : Config) (session : ℕ) (f : Option CallFault) (g : Option TunnelFault) (r : Result Message Why) (t : Turn) → Begins t
@@ -722,7 +721,7 @@ module _ (role : Role) (calls : List (ℕ × Call)) where
       (λ idle. absurd (busy (eqb-true (state_number t.control.state) 0 idle)))
       (λ other. branch Asked (are_too_many calls) _ _
       (λ many. caused cause.Calls t b)
-      (λ few. branch Asked (may_take t.control calls) _ _ (λ may. rings_by_asked c who (draws t.ids.sessions) t goes b) (λ full. caused cause.Queue t b))))
+      (λ few. branch Asked (may_take t.control calls) _ _ (λ may. rings_by_asked c who (takes_id t.ids.sessions) t goes b) (λ full. caused cause.Queue t b))))
 
   -- ---- frames that are given
 

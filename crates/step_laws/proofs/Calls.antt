@@ -3,7 +3,7 @@ use Rattle.std.proofs.Common.{◌≡◌, inl, inr, ℕ, Bool, true, false, cond,
 use Rattle.std.proofs.lemmas.Bool.{eqb-true, eqb-false, ltb-true}
 use Rattle.std.specs.Prelude.{◌==◌, ◌||◌, nat_lt, not}
 use Rattle.id_table.specs.Ids.{at}
-use Rattle.id_source.specs.Spaces.{Space, draws}
+use Rattle.id_source.specs.Spaces.{Space, takes_id}
 use Rattle.id_source.specs.declared.IdError.{IdError}
 use Rattle.wire_base.specs.declared.why.Why.TheVariants as why
 use Rattle.wire_base.specs.declared.cause.Cause.TheVariants as cause
@@ -99,9 +99,9 @@ untold_of_end Lns h = absurd cc
 granted_is : (r : Role) (cs : List (ℕ × Call)) (remote : ℕ) (sessions : Space) (s : ℕ) → granted r cs remote sessions ≡ Ok s → IsGranted r cs sessions s
 unfolding granted
 granted_is r cs remote sessions s h =
-    by (is_reply (row_of_none r call_event.IcrqAcc).1) (remote == 0 || is_some (call_of cs remote)) (are_too_many cs) (draws sessions) refl refl refl h
+    by (is_reply (row_of_none r call_event.IcrqAcc).1) (remote == 0 || is_some (call_of cs remote)) (are_too_many cs) (takes_id sessions) refl refl refl h
   where
-    by : (a b c : Bool) (d : Result ℕ IdError) → is_reply (row_of_none r call_event.IcrqAcc).1 ≡ a → are_too_many cs ≡ c → draws sessions ≡ d
+    by : (a b c : Bool) (d : Result ℕ IdError) → is_reply (row_of_none r call_event.IcrqAcc).1 ≡ a → are_too_many cs ≡ c → takes_id sessions ≡ d
         → cond (not a) (Err out_of_state) (cond b (Err (reason cause.Session 2 (Some 5))) (cond c (Err (reason cause.Calls 4 None)) (left_of d))) ≡ Ok s
         → IsGranted r cs sessions s
     by false b c d row many drawn e = absurd cc
@@ -110,7 +110,7 @@ granted_is r cs remote sessions s h =
     by true false false (Err x) row many drawn e = absurd cc
     by true false false (Ok n) row many drawn e =
         let same : n ≡ s = cc in
-        record { row = row; few = many; drawn = subst (λ (k : ℕ). draws sessions ≡ Ok k) same drawn }
+        record { row = row; few = many; drawn = subst (λ (k : ℕ). takes_id sessions ≡ Ok k) same drawn }
 
 module _ (e : End) (moment : ℕ) (ev : Event) (letters : List Letter) (calls : List (ℕ × Call)) (i : ℕ) where
   abbrev Good : Turn → Type 0

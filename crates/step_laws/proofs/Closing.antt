@@ -2,7 +2,7 @@
 use Rattle.std.proofs.Common.{◌≡◌, ℕ, ◌<◌, true, List, [], ◌∷◌, ◌++◌, refl, sym, ap, ◌∙◌, Option, Some, None}
 use Rattle.std.proofs.lemmas.Bool.{true≢false}
 use Rattle.std.proofs.lemmas.List.{append-nil}
-use Rattle.std.specs.Prelude.{drop}
+use Rattle.std.specs.Prelude.{drop, Bool}
 use Rattle.id_table.specs.Ids.{at, put-put}
 use Rattle.id_table.specs.Order.{at_without_other}
 use Rattle.wire_base.specs.declared.cause.Cause.{Cause as CauseOf}
@@ -16,7 +16,7 @@ use Rattle.session_looks.specs.declared.look.CellChange.TheVariants as cell
 use Rattle.end_model.specs.declared.event.Event.{Event}
 use Rattle.end_model.specs.declared.out.Out.TheVariants.{Gone, Cause}
 use Rattle.end_model.specs.declared.moves.Move.TheVariants as move
-use Rattle.end_model.specs.Calls.{row_for, is_told, is_clean_up}
+use Rattle.end_model.specs.Calls.{row_for, is_told, is_clean_up, is_up}
 use Rattle.end_model.specs.Tunnels.{Tunnel, Turn}
 use Rattle.end_model.specs.Turn.{with_output, with_move, with_change, ends_call}
 use Rattle.end_model.specs.Events.{with_calls, tunnel_after}
@@ -71,10 +71,10 @@ module _ (e : End) (moment : ℕ) (ev : Event) (letters : List Letter) (calls : 
   }
 
   silent_ok : (s : ℕ) (c : Call) (on : CallEvent) (result : ℕ) (error : Option ℕ) (t : Turn) → at (now t) s ≡ Some c → Ends t s c on result error
-      → is_clean_up (row_for e.role c on).1 ≡ true → Settled e moment ev letters calls i t → Settled e moment ev letters calls i (end_silent s t)
+      → is_clean_up (row_for e.role c on).1 ≡ true → Settled e moment ev letters calls i t → Settled e moment ev letters calls i (end_silent s (is_up c.state) t)
   unfolding end_silent ends_call with_output with_change with_move
   silent_ok s c on result error t found why row h =
-      let m = move.EndSilent (record { tunnel = t.control.local; session = s }) in
+      let m = move.EndSilent (record { tunnel = t.control.local; session = s; booked = is_up c.state }) in
       record {
         chain = chain_more moment ev e (at_turn e moment ev letters calls i t) _ t.moves m h.chain (record {
           tunnel = tunnel t;
@@ -86,12 +86,13 @@ module _ (e : End) (moment : ℕ) (ev : Event) (letters : List Letter) (calls : 
           error = error;
           why = why;
           row = row;
+          booked = refl;
           after =
               let changed = with_calls-more t.changed s None calls in
               let looked = with_looks-more t.changes (cell.Kill s) (placed t.control.local t.added e.calls) in
               rw (changed, looked, put-put e.tunnels t.control.local (tunnel t) _) refl;
         });
-        outs = all_push _ t.outputs (Gone s) (outs_on e moment ev letters calls i t (end_silent s t) (record {
+        outs = all_push _ t.outputs (Gone s) (outs_on e moment ev letters calls i t (end_silent s (is_up c.state) t) (record {
           local = refl;
           peer = refl;
           remote = refl;
@@ -116,6 +117,7 @@ module _ (e : End) (moment : ℕ) (ev : Event) (letters : List Letter) (calls : 
         tunnel = t.control.local;
         session = s;
         remote = c.remote;
+        booked = is_up c.state;
         result = result;
         error = error;
         given = next_place t.control;
@@ -132,6 +134,7 @@ module _ (e : End) (moment : ℕ) (ev : Event) (letters : List Letter) (calls : 
           row = row;
           session = small;
           remote = refl;
+          booked = refl;
           room = room;
           given = refl;
           after =
@@ -162,9 +165,9 @@ module _ (e : End) (moment : ℕ) (ev : Event) (letters : List Letter) (calls : 
   one_taken : (s : ℕ) (t u : Turn) → u.changed ≡ t.changed ++ (s, None) ∷ [] → Others e moment ev letters calls i s t u
   one_taken s t u is q o = ap (λ xs. at (with_calls xs calls) q) is ∙ ap (λ xs. at xs q) (with_calls-more t.changed s None calls) ∙ at_without_other (now t) s q o
 
-  silent_leaves : (s : ℕ) (t : Turn) → Settled e moment ev letters calls i (end_silent s t) → Leaves s t (end_silent s t)
+  silent_leaves : (s : ℕ) (booked : Bool) (t : Turn) → Settled e moment ev letters calls i (end_silent s booked t) → Leaves s t (end_silent s booked t)
   unfolding end_silent ends_call with_output with_change with_move
-  silent_leaves s t ok = record { ok = ok; others = one_taken s t (end_silent s t) refl; added = refl; ids = refl }
+  silent_leaves s booked t ok = record { ok = ok; others = one_taken s t (end_silent s booked t) refl; added = refl; ids = refl }
 
   told_leaves : (for : CauseOf) (s : ℕ) (c : Call) (on : CallEvent) (result : ℕ) (error : Option ℕ) (t : Turn) → at (now t) s ≡ Some c
       → Ends t s c on result error → is_told (row_for e.role c on).1 ≡ true → s < 65536 → MayTell t.control (now t) s c → has_room t.control ≡ true
@@ -185,7 +188,7 @@ module _ (e : End) (moment : ℕ) (ev : Event) (letters : List Letter) (calls : 
       → (row_for e.role c on).1 ≡ a → Settled e moment ev letters calls i t → Leaves s t (ends_by for result error s c a t)
   unfolding ends_by
   ends_leave for s c on result error t found why small may call_action.CleanUp is h =
-      silent_leaves s t (silent_ok s c on result error t found why (ap is_clean_up is) h)
+      silent_leaves s (is_up c.state) t (silent_ok s c on result error t found why (ap is_clean_up is) h)
   ends_leave for s c on result error t found why small may call_action.SendCdn is h =
       branch (Leaves s t) (has_room t.control) _ _
       (λ room. told_leaves for s c on result error t found why (ap is_told is) small (may (ap is_told is)).0 room (may (ap is_told is)).1 h)

@@ -8,7 +8,7 @@ use Rattle.std.specs.Prelude.{◌==◌, ◌&&◌, nat_lt, drop}
 use Rattle.std.specs.List.{AllByRecursion}
 use Rattle.id_table.specs.Ids.{at, put}
 use Rattle.id_table.specs.Order.{ascends-put, ascends-empty, put-again, at_new, found_put}
-use Rattle.id_source.specs.Spaces.{draws}
+use Rattle.id_source.specs.Spaces.{takes_id}
 use Rattle.id_source.specs.declared.IdError.{IdError}
 use Rattle.wire_base.specs.declared.why.Why.{Why}
 use Rattle.wire_base.specs.declared.why.Why.TheVariants as why
@@ -47,7 +47,7 @@ use Rattle.end_model.specs.Events.{with_calls, turns, tunnel_after}
 use Rattle.end_model.specs.Closing.{closes}
 use Rattle.end_model.specs.Openings.{with_local, fresh, opened, opens_by, opens, accepted, accepts_by, accepts}
 use Rattle.end_model.specs.Channels.{letter_of, has_room, learns_window}
-use Rattle.end_model.specs.Messages.{opening_of}
+use Rattle.end_model.specs.Messages.{opening_of, told_by, flags_of}
 use Rattle.end_model.specs.Sending.{letters_after, gives, takes_one, lets_all_go, acknowledged_after, settles}
 use Rattle.end_model.specs.Ringing.{adds, rings_new, rings}
 use Rattle.end_model.specs.Hearing.{first_said, hears_control, hears_datagram}
@@ -411,11 +411,11 @@ module _ (e : End) (kept : AreKept e) (moment : ℕ) (ev : Event) where
       unfolding drops with_output settles acknowledged_after lets_all_go
       dropped_new w other = unmade_leads _ (record { local = refl; moves = refl; outs = (tt, tt); tells = ((λ q. absurd (other q)), tt) })
 
-      drawn_some : (n : ℕ) → draws e.tunnel_ids ≡ Ok n → n ≡ 0 → ⊥
-      unfolding draws
+      drawn_some : (n : ℕ) → takes_id e.tunnel_ids ≡ Ok n → n ≡ 0 → ⊥
+      unfolding takes_id
       drawn_some n is zero = let first = kept.first in grind (arith, rules)
 
-      opened_good : (local : ℕ) → length e.tunnels < 1024 → e.role ≡ Lac → peer ≡ e.config.lns → draws e.tunnel_ids ≡ Ok local → TurnOk e moment ev [] [] local (opened e.role e.config local blank)
+      opened_good : (local : ℕ) → length e.tunnels < 1024 → e.role ≡ Lac → peer ≡ e.config.lns → takes_id e.tunnel_ids ≡ Ok local → TurnOk e moment ev [] [] local (opened e.role e.config local blank)
       unfolding opened gives with_move with_local with_calls with_looks placed
       opened_good local fewer lac lns drawn = record {
         chain = (_, record { few = fewer; drawn = drawn; given = refl; peer = lns; role = lac; asks = asks_so e.config.secret block; after = refl }, refl);
@@ -429,17 +429,17 @@ module _ (e : End) (kept : AreKept e) (moment : ℕ) (ev : Event) where
 
       pub opens_chain : e.role ≡ Lac → peer ≡ e.config.lns → ev ≡ OpenTunnel → has_all_tunnels e ≡ false → leads_new (turns e.role e.config [] [] OpenTunnel blank)
       unfolding turns opens opens_by
-      opens_chain lac lns opening fewer = by (draws e.tunnel_ids) refl
+      opens_chain lac lns opening fewer = by (takes_id e.tunnel_ids) refl
         where
-          by : (x : Result ℕ IdError) → draws e.tunnel_ids ≡ x → leads_new (settles false [] (opens_by e.role e.config x blank))
+          by : (x : Result ℕ IdError) → takes_id e.tunnel_ids ≡ x → leads_new (settles false [] (opens_by e.role e.config x blank))
           by (Err x) is = refused_new cause.Ids (ForOpening x opening fewer is)
           by (Ok local) is =
               branch (λ u. leads_new (settles false [] u)) (has_room (fresh peer moment)) (opened e.role e.config local blank) (with_output (Refused cause.Queue) blank)
               (λ may. made_leads _ (record { id = local; some = drawn_some local is; good = opened_good local (not_all e fewer) lac lns is }))
               (λ full. absurd (true≢false full))
 
-      rung_good : (who : List ℕ) (s local : ℕ) → length e.tunnels < 1024 → e.role ≡ Lac → peer ≡ e.config.lns → IsRing ev who → draws e.session_ids ≡ Ok s
-          → draws e.tunnel_ids ≡ Ok local → TurnOk e moment ev [] [] local (adds e.role who s (opened e.role e.config local blank))
+      rung_good : (who : List ℕ) (s local : ℕ) → length e.tunnels < 1024 → e.role ≡ Lac → peer ≡ e.config.lns → IsRing ev who → takes_id e.session_ids ≡ Ok s
+          → takes_id e.tunnel_ids ≡ Ok local → TurnOk e moment ev [] [] local (adds e.role who s (opened e.role e.config local blank))
       unfolding opened gives with_move with_local with_calls
       rung_good who s local fewer lac lns rings session drawn =
           adds_ok e moment ev [] [] local who s (opened e.role e.config local blank) refl refl refl refl rings lac session (opened_good local fewer lac lns drawn)
@@ -448,9 +448,9 @@ module _ (e : End) (kept : AreKept e) (moment : ℕ) (ev : Event) where
           → leads_new (turns e.role e.config [] [] ev blank)
       unfolding rings rings_new
       rings_chain who lac lns rings new fewer =
-          subst leads_new (sym (turns_ring e.role e.config [] [] ev who blank rings)) (by (draws e.session_ids) (draws e.tunnel_ids) refl refl)
+          subst leads_new (sym (turns_ring e.role e.config [] [] ev who blank rings)) (by (takes_id e.session_ids) (takes_id e.tunnel_ids) refl refl)
         where
-          by : (x y : Result ℕ IdError) → draws e.session_ids ≡ x → draws e.tunnel_ids ≡ y
+          by : (x y : Result ℕ IdError) → takes_id e.session_ids ≡ x → takes_id e.tunnel_ids ≡ y
               → leads_new (settles false [] (rings_new e.role e.config who x y blank))
           by (Err x) y is drawn = refused_new cause.Ids (ForNew new fewer (inl (x, is)))
           by (Ok s) (Err y) is drawn = refused_new cause.Ids (ForNew new fewer (inr (y, drawn)))
@@ -463,13 +463,13 @@ module _ (e : End) (kept : AreKept e) (moment : ℕ) (ev : Event) where
       abbrev asked : Option (List ℕ)
       asked = challenge_by e.config.secret block
 
-      abbrev accepting : ℕ → ℕ → Control
-      accepting remote local = begun local peer remote WaitCtlConn moment asked
+      abbrev accepting : Opening → ℕ → Control
+      accepting o local = record (begun local peer o.tunnel WaitCtlConn moment asked) { flags = flags_of o.failover }
 
-      learnt_begun : (window remote local : ℕ)
-          → record (learns_window window (accepting remote 0)) { local = local } ≡ learns_window window (accepting remote local)
-      learnt_begun window remote local =
-          branch (λ (c : Control). record c { local = local } ≡ learns_window window (accepting remote local)) (window == 0) _ _
+      learnt_begun : (window : ℕ) (o : Opening) (local : ℕ)
+          → record (learns_window window (accepting o 0)) { local = local } ≡ learns_window window (accepting o local)
+      learnt_begun window o local =
+          branch (λ (c : Control). record c { local = local } ≡ learns_window window (accepting o local)) (window == 0) _ _
           (λ none. rw none refl)
           (λ some. rw some refl)
 
@@ -477,54 +477,54 @@ module _ (e : End) (kept : AreKept e) (moment : ℕ) (ev : Event) where
       abbrev pub MayMake : Opening → Type 0
       MayMake o = IsUnknown e peer o.tunnel × ((length e.tunnels < 1024) × (LacksSecret e.config.secret o.challenge → ⊥))
 
-      accepted_good : (session remote window local : ℕ) (o : Opening) → Hears ev peer session (Sccrq o) → remote ≡ o.tunnel → window ≡ o.window → MayMake o
-          → draws e.tunnel_ids ≡ Ok local → TurnOk e moment ev [] [] local (accepted e.role e.config o.challenge remote window local blank)
+      accepted_good : (session local : ℕ) (o : Opening) → Hears ev peer session (Sccrq o) → MayMake o
+          → takes_id e.tunnel_ids ≡ Ok local → TurnOk e moment ev [] [] local (accepted e.role e.config (told_by o) local blank)
       unfolding accepted gives with_move with_local takes_one with_calls with_looks placed
-      accepted_good session remote window local o hears is told may drawn = record {
+      accepted_good session local o hears may drawn = record {
         chain = (
           _,
           record {
             few = may.1.0;
             opening = o;
             hears = (session, hears);
-            remote = is;
-            window = told;
-            alone = rw is may.0;
+            remote = refl;
+            window = refl;
+            alone = may.0;
             able = may.1.1;
             asks = asks_so e.config.secret block;
             responds = responds_so 2 e.config.secret o.challenge;
             drawn = drawn;
             taken = refl;
             given = refl;
-            after = rw (← learnt_begun window remote local) refl;
+            after = rw (← learnt_begun o.window o local) refl;
           },
           refl,
         );
         words = tt;
         tells = tt;
         frames = (tt, tt);
-        stays = (refl, rw (learnt_state window (accepting remote 0)) (λ z. absurd (omega (arith, z))), kept.sessions, next_after e.tunnel_ids kept.first, refl, refl);
-        held = let c = accepting remote 0 in
-            held_given (learns_window window c).channel.window [] (letter_of 0 (Sccrp (opening_of e.role e.config asked (response_by 2 e.config.secret o.challenge) local)))
-            (held_learnt window c [] (refl, omega arith, omega arith));
-        fits = let c = accepting remote 0 in
-            let none = learnt_queued window c in
-            fits_given (learns_window window c) [] (ap is_closed (learnt_state window c)) (ascends-empty [] refl) (omega arith) (omega (arith, none));
+        stays = (refl, rw (learnt_state o.window (accepting o 0)) (λ z. absurd (omega (arith, z))), kept.sessions, next_after e.tunnel_ids kept.first, refl, refl);
+        held = let c = accepting o 0 in
+            held_given (learns_window o.window c).channel.window [] (letter_of 0 (Sccrp (opening_of e.role e.config asked (response_by 2 e.config.secret o.challenge) local)))
+            (held_learnt o.window c [] (refl, omega arith, omega arith));
+        fits = let c = accepting o 0 in
+            let none = learnt_queued o.window c in
+            fits_given (learns_window o.window c) [] (ap is_closed (learnt_state o.window c)) (ascends-empty [] refl) (omega arith) (omega (arith, none));
       }
 
       accepts_chain : (session : ℕ) (o : Opening) → Hears ev peer session (Sccrq o) → MayMake o
-          → leads_new (settles false [] (accepts e.role e.config o.challenge o.tunnel o.window blank))
+          → leads_new (settles false [] (accepts e.role e.config (told_by o) blank))
       unfolding accepts accepts_by
-      accepts_chain session o hears alone = by (draws e.tunnel_ids) refl
+      accepts_chain session o hears alone = by (takes_id e.tunnel_ids) refl
         where
-          by : (x : Result ℕ IdError) → draws e.tunnel_ids ≡ x → leads_new (settles false [] (accepts_by e.role e.config o.challenge o.tunnel o.window x blank))
+          by : (x : Result ℕ IdError) → takes_id e.tunnel_ids ≡ x → leads_new (settles false [] (accepts_by e.role e.config (told_by o) x blank))
           by (Err x) is = dropped_new why.Tunnel (λ q. absurd cc)
           by (Ok local) is =
-              branch (λ u. leads_new (settles false [] u)) (has_room (fresh peer moment)) (accepted e.role e.config o.challenge o.tunnel o.window local blank) (drops why.Queue blank)
+              branch (λ u. leads_new (settles false [] u)) (has_room (fresh peer moment)) (accepted e.role e.config (told_by o) local blank) (drops why.Queue blank)
               (λ may. made_leads _ (record {
                 id = local;
                 some = drawn_some local is;
-                good = accepted_good session o.tunnel o.window local o hears refl refl alone is;
+                good = accepted_good session local o hears alone is;
               }))
               (λ full. absurd (true≢false full))
 

@@ -7,7 +7,7 @@ use Rattle.std.proofs.lemmas.List.{length-append}
 use Rattle.std.specs.Prelude.{◌==◌, unwrap_or}
 use Rattle.std.specs.List.{flat_map}
 use Rattle.id_table.specs.Ids.{at}
-use Rattle.id_source.specs.Spaces.{draws}
+use Rattle.id_source.specs.Spaces.{takes_id}
 use Rattle.id_source.specs.declared.IdError.{IdError}
 use Rattle.wire_base.specs.declared.why.Why.TheVariants as why
 use Rattle.wire_base.specs.declared.cause.Cause.TheVariants as cause
@@ -104,14 +104,14 @@ module _ (F : ℕ → List ℕ → Type 0) (on : Ground) where
       branch (IsQuiet F on 1 0) (are_too_many calls) _ _
       (λ many. caused F on 1 0 cause.Calls t (spared F on h))
       (λ few. branch (IsQuiet F on 1 0) (may_take t.control calls) _ _
-      (λ may. rings_by_quiet role k who (draws t.ids.sessions) t h)
+      (λ may. rings_by_quiet role k who (takes_id t.ids.sessions) t h)
       (λ full. caused F on 1 0 cause.Queue t (spared F on h)))
 
   rings_quiet : (role : Role) (c : Config) (calls : List (ℕ × Call)) (who : List ℕ) (t : Turn) → IsQuiet F on 0 0 t → IsQuiet F on 1 0 (rings role c calls who t)
   unfolding rings
   rings_quiet role c calls who t h =
       branch (IsQuiet F on 1 0) (state_number t.control.state == 0) _ _
-      (λ idle. rings_new_quiet role c who (draws t.ids.sessions) (draws t.ids.tunnels) t h)
+      (λ idle. rings_new_quiet role c who (takes_id t.ids.sessions) (takes_id t.ids.tunnels) t h)
       (λ busy. rings_within_quiet role c calls who t h)
 
   -- ---- events

@@ -98,7 +98,7 @@ module _ (x y : End) (order : Ascends x.tunnels) (few : AreFew x) where
   does_few moment ev (move.Closed m) h = same_few m.tunnel h.tunnel _ h.there (ap tunnels_of h.after)
   does_few moment ev (move.Rejected m) h = same_few m.tunnel h.tunnel _ h.there (ap tunnels_of h.after)
   does_few moment ev (move.ClosedBy m) h = same_few m.tunnel h.tunnel _ h.there (ap tunnels_of h.after)
-  does_few moment ev (move.Cleared i) h = less_few i (ap tunnels_of h.after)
+  does_few moment ev (move.Cleared i booked) h = less_few i (ap tunnels_of h.after)
   does_few moment ev (move.Greeted m) h = same_few m.tunnel h.tunnel _ h.there (ap tunnels_of h.after)
   does_few moment ev (move.TookPlain m) h = same_few m.tunnel h.tunnel _ h.there (ap tunnels_of h.after)
   does_few moment ev (move.NrRead m) h = same_few m.tunnel h.tunnel _ h.there (ap tunnels_of h.after)

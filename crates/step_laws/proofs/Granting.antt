@@ -3,7 +3,7 @@ use Rattle.std.proofs.Common.{◌≡◌, ◌<◌, ◌≤◌, ℕ, Bool, true, fa
 use Rattle.std.proofs.lemmas.Bool.{true≢false}
 use Rattle.std.proofs.lemmas.Bool.Decides.{nat_tests}
 use Rattle.std.specs.Prelude.{◌==◌, ◌||◌, not, is_some, nat_le}
-use Rattle.id_source.specs.Spaces.{draws}
+use Rattle.id_source.specs.Spaces.{takes_id}
 use Rattle.id_source.specs.declared.IdError.{IdError}
 use Rattle.wire_base.specs.declared.cause.Cause.TheVariants as cause
 use Rattle.call_fsm.specs.declared.table.CallEvent.TheVariants as call_event
@@ -48,9 +48,9 @@ module _ (e : End) (t : Tunnel) (remote : ℕ) where
 
   pub grants_is : (s : ℕ) → granted e.role t.calls remote e.session_ids ≡ Ok s → GrantsCall e t remote s
   unfolding granted
-  grants_is s h = by reply_row used (are_too_many t.calls) (draws e.session_ids) refl refl refl refl h
+  grants_is s h = by reply_row used (are_too_many t.calls) (takes_id e.session_ids) refl refl refl refl h
     where
-      by : (a b c : Bool) (d : Result ℕ IdError) → reply_row ≡ a → used ≡ b → are_too_many t.calls ≡ c → draws e.session_ids ≡ d
+      by : (a b c : Bool) (d : Result ℕ IdError) → reply_row ≡ a → used ≡ b → are_too_many t.calls ≡ c → takes_id e.session_ids ≡ d
           → judged a b c d ≡ Ok s → GrantsCall e t remote s
       by false b c d row id many drawn is = absurd cc
       by true true c d row id many drawn is = absurd cc
@@ -62,7 +62,7 @@ module _ (e : End) (t : Tunnel) (remote : ℕ) where
             lns = replies_as e.role row;
             free = unused id;
             few = few_calls (length t.calls) many;
-            drawn = subst (λ (k : ℕ). draws e.session_ids ≡ Ok k) same drawn;
+            drawn = subst (λ (k : ℕ). takes_id e.session_ids ≡ Ok k) same drawn;
           }
 
   -- with the cause that has those codes
@@ -74,12 +74,12 @@ module _ (e : End) (t : Tunnel) (remote : ℕ) where
 
   pub denies_is : (r : Reason) → granted e.role t.calls remote e.session_ids ≡ Err r → Denies r
   unfolding granted
-  denies_is r h = by reply_row used (are_too_many t.calls) (draws e.session_ids) refl refl refl refl h
+  denies_is r h = by reply_row used (are_too_many t.calls) (takes_id e.session_ids) refl refl refl refl h
     where
       so : (q : Reason) → refusal q ≡ refusal r → Denies q → Denies r
       so q is denies = let same : q ≡ r = cc in subst Denies same denies
 
-      by : (a b c : Bool) (d : Result ℕ IdError) → reply_row ≡ a → used ≡ b → are_too_many t.calls ≡ c → draws e.session_ids ≡ d
+      by : (a b c : Bool) (d : Result ℕ IdError) → reply_row ≡ a → used ≡ b → are_too_many t.calls ≡ c → takes_id e.session_ids ≡ d
           → judged a b c d ≡ Err r → Denies r
       by false b c d row id many drawn is = so out_of_state is (AsksItself (takes_none e.role row) refl refl, refl)
       by true true c d row id many drawn is =

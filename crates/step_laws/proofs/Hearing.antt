@@ -4,7 +4,7 @@ use Rattle.std.proofs.Common.{◌≡◌, ◌⊎◌, inl, ⊎_elim, ℕ, Bool, tr
 use Rattle.std.proofs.lemmas.Bool.{eqb-true, eqb-false, true≢false}
 use Rattle.std.specs.Prelude.{◌==◌, unwrap_or}
 use Rattle.id_table.specs.Order.{Ascends}
-use Rattle.id_source.specs.Spaces.{draws}
+use Rattle.id_source.specs.Spaces.{takes_id}
 use Rattle.id_source.specs.declared.IdError.{IdError}
 use Rattle.wire_base.specs.declared.why.Why.{Why}
 use Rattle.wire_base.specs.declared.why.Why.TheVariants as why
@@ -33,7 +33,7 @@ use Rattle.end_model.specs.Reading.{message_in, call_fault_in, tunnel_fault_in}
 use Rattle.end_model.specs.Calls.{are_too_many}
 use Rattle.end_model.specs.Tunnels.{Tunnel, Turn}
 use Rattle.end_model.specs.Moments.{is_closed}
-use Rattle.end_model.specs.Messages.{is_acceptable, event_by, opening_reason}
+use Rattle.end_model.specs.Messages.{is_acceptable, event_by, opening_reason, tells_id, told_by, flags_of}
 use Rattle.end_model.specs.Reasons.{out_of_order, no_secret}
 use Rattle.end_model.specs.Events.{tunnel_after, with_calls}
 use Rattle.end_model.specs.Turn.{with_move}
@@ -74,16 +74,16 @@ module _ (e : End) (moment : ℕ) (ev : Event) (letters : List Letter) (calls : 
 
     connects_ok : (session : ℕ) (o : Opening) (t : Turn) → Takes t → t.control.state ≡ state.WaitCtlReply → HearsNext ev (now_at t) session (Sccrp o)
         → is_acceptable e.config.secret t.control.challenge o ≡ true
-        → Good (connects e.role e.config calls o.challenge o.tunnel o.window state.Established t)
+        → Good (connects e.role e.config calls (told_by o) state.Established t)
     unfolding connects connected gives with_move takes_one
     connects_ok session o t f is hears good =
         branch Good (has_room t.control) _ _
         (λ room.
-        let u = connected e.config o.challenge o.tunnel o.window state.Established t in
-        let learnt = learnt_state o.window (record t.control { remote = o.tunnel; state = state.Established }) in
+        let u = connected e.config (told_by o) state.Established t in
+        let learnt = learnt_state o.window (record t.control { remote = o.tunnel; flags = flags_of o.failover; state = state.Established }) in
         sent_none _
         (requests_all_ok e moment ev letters calls i calls sorted u (ap state_number learnt) (same_first e moment ev letters calls i u f.fresh.changed calls)
-        (connected_ok e moment ev letters calls i o.tunnel o.window session o t is hears good refl refl (spare_first e moment ev letters calls i t f) room f.fresh.good)))
+        (connected_ok e moment ev letters calls i session o t is hears good (spare_first e moment ev letters calls i t f) room f.fresh.good)))
         (λ full. absurd (is_roomy e moment ev letters calls i t f.live f.fresh.good full))
 
     plain_at : (session : ℕ) (m : Message) (t : Turn) → Takes t → Plain e moment ev letters calls i t session m → HearsNext ev (now_at t) session m
@@ -92,7 +92,7 @@ module _ (e : End) (moment : ℕ) (ev : Event) (letters : List Letter) (calls : 
 
     abbrev HeardSccrp : Opening → Turn → Type 0
     HeardSccrp o t =
-        Good (takes_by e.role e.config calls (opening_reason e.config.secret t.control.challenge o) o.challenge o.tunnel o.window
+        Good (takes_by e.role e.config calls (opening_reason e.config.secret t.control.challenge o) (told_by o)
         (row_of rows t.control.state (event_by event.SccrpAcc event.SccrpNotAcc e.config.secret t.control.challenge o)) t)
 
     -- one that is acceptable connects a tunnel that waits for it; another tunnel is closed
@@ -108,8 +108,7 @@ module _ (e : End) (moment : ℕ) (ev : Event) (letters : List Letter) (calls : 
         by state.WaitCtlReply true is good =
             let row : row_of rows t.control.state (event_by event.SccrpAcc event.SccrpNotAcc e.config.secret t.control.challenge o) ≡ (state.Established, action.SendScccn) =
             rw (is, good) refl in
-            subst (λ (x : TunnelState × TunnelAction). Good (takes_by e.role e.config calls (opening_reason e.config.secret t.control.challenge o) o.challenge
-            o.tunnel o.window x t)) (sym row)
+            subst (λ (x : TunnelState × TunnelAction). Good (takes_by e.role e.config calls (opening_reason e.config.secret t.control.challenge o) (told_by o) x t)) (sym row)
             (connects_ok session o t f is hears good)
         by state.Idle true is good = absurd (busy e moment ev letters calls i t f (ap state_number is))
         by state.WaitCtlConn true is good = shut (λ waits. absurd (in_other t state.WaitCtlConn 1 is (λ w. omega (arith, w)) waits))
@@ -126,7 +125,7 @@ module _ (e : End) (moment : ℕ) (ev : Event) (letters : List Letter) (calls : 
     -- by whether it answers wrongly
     abbrev HeardScccn : Turn → Bool → TunnelState → Type 0
     HeardScccn t wrong s =
-        Good (takes_by e.role e.config calls (cond wrong no_secret out_of_order) None 0 0 (row_of rows s (cond wrong event.ScccnNotAcc event.ScccnAcc)) t)
+        Good (takes_by e.role e.config calls (cond wrong no_secret out_of_order) (tells_id 0) (row_of rows s (cond wrong event.ScccnNotAcc event.ScccnAcc)) t)
 
     -- an SCCCN that answers rightly confirms a tunnel that waits for it; else the tunnel is closed
     scccn_ok : (session : ℕ) (response : Option (List ℕ)) (t : Turn) → Takes t → HearsNext ev (now_at t) session (Scccn response)
@@ -287,7 +286,7 @@ module _ (e : End) (moment : ℕ) (ev : Event) (letters : List Letter) (calls : 
     goes_live : (t : Turn) → Goes t → is_closed t.control.state ≡ false
     goes_live t goes = ⊎_elim (λ is. live_open t.control is) (λ waits. live_in t.control 1 (λ f. omega (arith, f)) waits) goes
 
-    rings_over_ok : (who : List ℕ) (s : ℕ) (t : Turn) → Takes t → are_too_many calls ≡ false → Goes t → IsRing ev who → e.role ≡ Lac → draws t.ids.sessions ≡ Ok s
+    rings_over_ok : (who : List ℕ) (s : ℕ) (t : Turn) → Takes t → are_too_many calls ≡ false → Goes t → IsRing ev who → e.role ≡ Lac → takes_id t.ids.sessions ≡ Ok s
         → TurnOk e moment ev letters calls i (rings_over e.role e.config who s t)
     unfolding rings_over
     rings_over_ok who s t f few goes rings lac drawn =
@@ -309,12 +308,12 @@ module _ (e : End) (moment : ℕ) (ev : Event) (letters : List Letter) (calls : 
       rings_there : RingsOver e ev (begun e moment ev letters calls i t f)
       rings_there = record { subscriber = who; rings = rings_is; id = i; chosen = chosen; there = f.there; peer = f.peer ∙ lns }
 
-      rings_by_ok : are_too_many calls ≡ false → may_take t.control calls ≡ true → Goes t → e.role ≡ Lac → (r : Result ℕ IdError) → draws t.ids.sessions ≡ r
+      rings_by_ok : are_too_many calls ≡ false → may_take t.control calls ≡ true → Goes t → e.role ≡ Lac → (r : Result ℕ IdError) → takes_id t.ids.sessions ≡ r
           → Rung (rings_by e.role e.config who r t)
       unfolding rings_by
       rings_by_ok few may goes lac (Err x) is =
           caused_ok e moment ev letters calls i cause.Ids
-          (ForRing (begun e moment ev letters calls i t f) x rings_there few (ap (λ c. may_take c calls) same ∙ may) (ap draws (sym f.sessions) ∙ is)) t f.good
+          (ForRing (begun e moment ev letters calls i t f) x rings_there few (ap (λ c. may_take c calls) same ∙ may) (ap takes_id (sym f.sessions) ∙ is)) t f.good
       rings_by_ok few may goes lac (Ok s) is =
           rings_over_ok who s t (record { fresh = f; live = goes_live t goes; may = may }) few goes rings_is lac is
 
@@ -326,6 +325,6 @@ module _ (e : End) (moment : ℕ) (ev : Event) (letters : List Letter) (calls : 
           (λ busy. branch Rung (are_too_many calls) _ _
           (λ many. caused_ok e moment ev letters calls i cause.Calls (inl (begun e moment ev letters calls i t f, rings_there, many)) t f.good)
           (λ few. branch Rung (may_take t.control calls) _ _
-          (λ may. rings_by_ok few may goes lac (draws t.ids.sessions) refl)
+          (λ may. rings_by_ok few may goes lac (takes_id t.ids.sessions) refl)
           (λ full. caused_ok e moment ev letters calls i cause.Queue
           (begun e moment ev letters calls i t f, rings_there, few, ap (λ c. may_take c calls) same ∙ full) t f.good)))

@@ -2,8 +2,7 @@
 use Rattle.std.proofs.Common.{◌≡◌, ⊎_elim, ℕ, ◌+◌, ◌<◌, ◌≤◌, Bool, true, false, cond, List, [], ◌∷◌, refl, sym, ap, ◌∙◌, subst, Option, Some, None, Ok, Err, arith}
 use Rattle.std.proofs.lemmas.Option.{none-some}
 use Rattle.std.specs.Prelude.{nat_lt, ◌-◌, ◌&&◌, ◌||◌, not, map}
-use Rattle.id_source.specs.declared.IdError.TheVariants.{NoIds, NeedCeiling}
-use Rattle.id_source.specs.Spaces.{Space, draws, after_draw}
+use Rattle.id_source.specs.Spaces.{Space, draws, takes_id, after_id, draw_is, next_is}
 use Rattle.wire_base.specs.declared.letter.Letter.{Letter}
 use Rattle.tunnel_fsm.specs.declared.table.TunnelState.TheVariants as tunnel
 use Rattle.id_table.specs.Ids.{at, put, without, at-none, ids_of}
@@ -37,19 +36,7 @@ use Rattle.step_laws.specs.Looks.{look_by, look_in_state, look_of, LinkFits, IsL
 
 -- ---- draws
 
-draw_is : (s : Space) (k : ℕ) → draws s ≡ Ok k → k ≡ s.next
-unfolding draws
-draw_is s k h = by (nat_lt s.last s.next) (nat_lt s.ceiling s.next) h
-  where
-    by : (a b : Bool) → cond a (Err (NoIds (s.next - 1))) (cond b (Err (NeedCeiling s.next)) (Ok s.next)) ≡ Ok k → k ≡ s.next
-    by true b h = absurd cc
-    by false true h = absurd cc
-    by false false h = let g : s.next ≡ k = cc in sym g
-
-next_is : (s : Space) (k : ℕ) → draws s ≡ Ok k → after_draw s ≡ record s { next = k + 1 }
-next_is s k h = rw h refl
-
-drawn_next : (s : Space) (k : ℕ) → draws s ≡ Ok k → (after_draw s).next ≡ k + 1
+drawn_next : (s : Space) (k : ℕ) → takes_id s ≡ Ok k → (after_id s).next ≡ k + 1
 drawn_next s k h = ap (λ (d : Space). d.next) (next_is s k h)
 
 -- ---- tables that ascend
@@ -384,17 +371,17 @@ module _ (x : End) (ok : LooksAreTrue x) where
   does_looks : AreOrdered x → (moment : ℕ) (ev : Event) (m : Move) (y : End) → Does x moment ev m y → LooksAreTrue y
   unfolding with_look advanced
   does_looks order moment ev (move.Opened m) y h =
-      tunnel_born y m.tunnel _ _ (draw_is x.tunnel_ids m.tunnel h.drawn) (ap (λ (e : End). e.tunnels) h.after) (ap (λ (e : End). e.calls) h.after)
+      tunnel_born y m.tunnel _ _ (draw_is x.tunnel_ids m.tunnel h.drawn).0 (ap (λ (e : End). e.tunnels) h.after) (ap (λ (e : End). e.calls) h.after)
       (ap (λ (e : End). e.tunnel_ids.next) h.after ∙ drawn_next x.tunnel_ids m.tunnel h.drawn) (ap (λ (e : End). e.session_ids) h.after) (ap (λ (e : End). e.role) h.after)
   does_looks order moment ev (move.Accepted m) y h =
-      tunnel_born y m.tunnel _ _ (draw_is x.tunnel_ids m.tunnel h.drawn) (ap (λ (e : End). e.tunnels) h.after) (ap (λ (e : End). e.calls) h.after)
+      tunnel_born y m.tunnel _ _ (draw_is x.tunnel_ids m.tunnel h.drawn).0 (ap (λ (e : End). e.tunnels) h.after) (ap (λ (e : End). e.calls) h.after)
       (ap (λ (e : End). e.tunnel_ids.next) h.after ∙ drawn_next x.tunnel_ids m.tunnel h.drawn) (ap (λ (e : End). e.session_ids) h.after) (ap (λ (e : End). e.role) h.after)
   does_looks order moment ev (move.Connected m) y h =
-      subst LooksAreTrue (sym h.after) (calls_stay m.tunnel h.tunnel _ _ h.there (learnt_peer m.window (record h.tunnel.control { remote = m.remote; state = tunnel.Established })))
+      subst LooksAreTrue (sym h.after) (calls_stay m.tunnel h.tunnel _ _ h.there (learnt_peer m.window (record h.tunnel.control { remote = m.remote; flags = m.flags; state = tunnel.Established })))
   does_looks order moment ev (move.Confirmed m) y h = subst LooksAreTrue (sym h.after) (calls_stay m.tunnel h.tunnel _ _ h.there refl)
   does_looks order moment ev (move.TookPlain m) y h = subst LooksAreTrue (sym h.after) (calls_stay m.tunnel h.tunnel _ _ h.there refl)
   does_looks order moment ev (move.Added m) y h =
-      let fresh = draw_is x.session_ids m.session h.drawn in
+      let fresh = (draw_is x.session_ids m.session h.drawn).0 in
       let next : y.session_ids.next ≡ m.session + 1 = ap (λ (e : End). e.session_ids.next) h.after ∙ drawn_next x.session_ids m.session h.drawn in
       call_put y m.tunnel h.tunnel _ _ m.session (rung x.role m.subscriber moment) (record {
         tunnels = ap (λ (e : End). e.tunnels) h.after;
@@ -409,7 +396,7 @@ module _ (x : End) (ok : LooksAreTrue x) where
         rises = omega (arith, next, fresh);
       })
   does_looks order moment ev (move.Replied m) y h =
-      let fresh = draw_is x.session_ids m.session h.drawn in
+      let fresh = (draw_is x.session_ids m.session h.drawn).0 in
       let next : y.session_ids.next ≡ m.session + 1 = ap (λ (e : End). e.session_ids.next) h.after ∙ drawn_next x.session_ids m.session h.drawn in
       call_put y m.tunnel h.tunnel _ _ m.session (asked_for x.role m.remote moment) (record {
         tunnels = ap (λ (e : End). e.tunnels) h.after;
@@ -513,7 +500,7 @@ module _ (x : End) (ok : LooksAreTrue x) where
   does_looks order moment ev (move.Closed m) y h = subst LooksAreTrue (sym h.after) (tunnel_shut order m.tunnel h.tunnel h.there _ _)
   does_looks order moment ev (move.Rejected m) y h = subst LooksAreTrue (sym h.after) (tunnel_shut order m.tunnel h.tunnel h.there _ _)
   does_looks order moment ev (move.ClosedBy m) y h = subst LooksAreTrue (sym h.after) (tunnel_shut order m.tunnel h.tunnel h.there _ _)
-  does_looks order moment ev (move.Cleared i) y h = subst LooksAreTrue (sym h.after) (tunnel_gone order i h.tunnel h.there)
+  does_looks order moment ev (move.Cleared i booked) y h = subst LooksAreTrue (sym h.after) (tunnel_gone order i h.tunnel h.there)
   does_looks order moment ev (move.Greeted m) y h = subst LooksAreTrue (sym h.after) (calls_stay m.tunnel h.tunnel _ _ h.there refl)
   does_looks order moment ev (move.Refused m) y h = subst LooksAreTrue (sym h.after) (calls_stay m.tunnel h.tunnel _ _ h.there refl)
   does_looks order moment ev (move.Repeated m) y h = subst LooksAreTrue (sym h.after) (calls_stay m.tunnel h.tunnel _ _ h.there refl)
@@ -617,7 +604,7 @@ module _ (x : End) (ok : AreOrdered x) where
   does_order moment ev (move.ClosedBy m) y h =
       tunnel_put y m.tunnel _ (ascends-empty [] refl) (ap (λ (e : End). e.tunnels) h.after)
       (subst (λ (e : End). Ascends e.calls) (sym h.after) (ascends_looks (map cell.Kill (ids_of h.tunnel.calls)) x.calls ok.places))
-  does_order moment ev (move.Cleared i) y h =
+  does_order moment ev (move.Cleared i booked) y h =
       subst AreOrdered (sym h.after) (record {
         tunnels = ascends-without i x.tunnels ok.tunnels;
         calls = λ j u f. ok.calls j u (found_without x.tunnels i j u ok.tunnels f).1;

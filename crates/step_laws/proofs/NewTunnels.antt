@@ -5,7 +5,7 @@ use Rattle.std.proofs.lemmas.Option.{none-some}
 use Rattle.std.specs.Prelude.{◌==◌, nat_lt, unwrap_or}
 use Rattle.id_table.specs.Ids.{at, put, without, ids_of, at-none}
 use Rattle.id_table.specs.Order.{Ascends, found_put, found_without, same_or_not}
-use Rattle.id_source.specs.Spaces.{draws}
+use Rattle.id_source.specs.Spaces.{takes_id}
 use Rattle.id_source.specs.declared.IdError.{IdError}
 use Rattle.wire_base.specs.declared.why.Why.{Why}
 use Rattle.wire_base.specs.declared.why.Why.TheVariants as why
@@ -43,7 +43,7 @@ use Rattle.session_looks.specs.Frames.{header_why}
 use Rattle.end_model.specs.Reading.{body_of, message_in, CallFault, call_fault_in, TunnelFault, tunnel_fault_in}
 use Rattle.end_model.specs.Calls.{call_row, advanced, rung, asked_for, is_request, is_connection, is_up, are_too_many, is_clean_up, is_short, is_long}
 use Rattle.end_model.specs.Stopping.{rejects, rejected, shut, shuts, closed_told, closes_tunnel, closed_by, shuts_by}
-use Rattle.end_model.specs.Messages.{connected_reason, connected_event, event_by, opening_reason}
+use Rattle.end_model.specs.Messages.{connected_reason, connected_event, event_by, opening_reason, Told, told_by}
 use Rattle.end_model.specs.Tunnels.{Turn}
 use Rattle.end_model.specs.Turn.{with_output, with_move, with_change, with_call, with_new, drops, ends_all, ends_call}
 use Rattle.end_model.specs.Openings.{with_local, opened, opens_by, opens, accepted, accepts_by, accepts, connected, confirms}
@@ -89,30 +89,30 @@ opened_new role c local t none = inr none
 
 pub opens_new : (role : Role) (c : Config) (letters : List Letter) (t : Turn) → t.changed ≡ [] → IsNew (settles false letters (opens role c t))
 unfolding opens opens_by
-opens_new role c letters t none = new_settled letters (opens role c t) (by (draws t.ids.tunnels))
+opens_new role c letters t none = new_settled letters (opens role c t) (by (takes_id t.ids.tunnels))
   where
     by : (x : Result ℕ IdError) → IsNew (opens_by role c x t)
     by (Err x) = caused_new cause.Ids t none
     by (Ok local) = branch IsNew (has_room t.control) _ _ (λ may. opened_new role c local t none) (λ full. caused_new cause.Queue t none)
 
-accepted_new : (role : Role) (c : Config) (asked : Option (List ℕ)) (remote window local : ℕ) (t : Turn) → t.changed ≡ []
-    → IsNew (accepted role c asked remote window local t)
+accepted_new : (role : Role) (c : Config) (told : Told) (local : ℕ) (t : Turn) → t.changed ≡ []
+    → IsNew (accepted role c told local t)
 unfolding accepted gives with_move takes_one with_local
-accepted_new role c asked remote window local t none = inr none
+accepted_new role c told local t none = inr none
 
-accepts_new : (role : Role) (c : Config) (asked : Option (List ℕ)) (remote window : ℕ) (t : Turn) → t.changed ≡ []
-    → IsNew (accepts role c asked remote window t)
+accepts_new : (role : Role) (c : Config) (told : Told) (t : Turn) → t.changed ≡ []
+    → IsNew (accepts role c told t)
 unfolding accepts accepts_by
-accepts_new role c asked remote window t none = by (draws t.ids.tunnels)
+accepts_new role c told t none = by (takes_id t.ids.tunnels)
   where
-    by : (x : Result ℕ IdError) → IsNew (accepts_by role c asked remote window x t)
+    by : (x : Result ℕ IdError) → IsNew (accepts_by role c told x t)
     by (Err x) = drops_new why.Tunnel t none
     by (Ok local) =
-        branch IsNew (has_room t.control) _ _ (λ may. accepted_new role c asked remote window local t none) (λ full. drops_new why.Queue t none)
+        branch IsNew (has_room t.control) _ _ (λ may. accepted_new role c told local t none) (λ full. drops_new why.Queue t none)
 
 first_said_new : (role : Role) (c : Config) (r : Result Message Why) (t : Turn) → t.changed ≡ [] → IsNew (first_said role c r t)
 unfolding first_said
-first_said_new role c (Ok (Sccrq o)) t none = accepts_new role c o.challenge o.tunnel o.window t none
+first_said_new role c (Ok (Sccrq o)) t none = accepts_new role c (told_by o) t none
 first_said_new role c (Ok (Sccrp o)) t none = drops_new why.Tunnel t none
 first_said_new role c (Ok (Scccn response)) t none = drops_new why.Tunnel t none
 first_said_new role c (Ok Hello) t none = drops_new why.Tunnel t none
@@ -159,5 +159,5 @@ unfolding rings
 rings_is_new role c letters who t idle none =
     new_settled letters (rings role c [] who t)
     (branch IsNew (state_number t.control.state == 0) _ _
-    (λ is. rings_new_new role c who (draws t.ids.sessions) (draws t.ids.tunnels) t idle none)
+    (λ is. rings_new_new role c who (takes_id t.ids.sessions) (takes_id t.ids.tunnels) t idle none)
     (λ busy. absurd (eqb-false (state_number t.control.state) 0 busy (ap state_number idle))))

@@ -3,7 +3,7 @@ use Rattle.std.proofs.Common.{◌≡◌, inl, inr, ℕ, ◌<◌, ◌≤◌, leng
 use Rattle.std.proofs.lemmas.Bool.{eqb-true, eq-eqb, true≢false}
 use Rattle.std.proofs.lemmas.Bool.Decides.{nat_tests}
 use Rattle.std.specs.Prelude.{◌==◌, not, is_none, unwrap_or, nat_le}
-use Rattle.id_source.specs.Spaces.{draws}
+use Rattle.id_source.specs.Spaces.{takes_id}
 use Rattle.id_source.specs.declared.IdError.{IdError}
 use Rattle.control_message.specs.declared.message.Opening.{Opening}
 use Rattle.tunnel_fsm.specs.declared.table.TunnelEvent.{TunnelEvent}
@@ -40,18 +40,18 @@ all_made e all = reached (length e.tunnels) all
 module _ (e : End) (o : Opening) where
   pub against_is : (r : Reason) → against_opening e o ≡ Some r → StandsAgainst e o r.result r.error
   unfolding against_opening
-  against_is r h = by (o.version == 256) (is_some o.recovery) (has_all_tunnels e) (lacks_secret e.config.secret o.challenge) (draws e.tunnel_ids) refl refl refl refl refl h
+  against_is r h = by (o.version == 256) (is_some o.recovery) (has_all_tunnels e) (lacks_secret e.config.secret o.challenge) (takes_id e.tunnel_ids) refl refl refl refl refl h
     where
       so : (q : Reason) → Some q ≡ Some r → StandsAgainst e o q.result q.error → StandsAgainst e o r.result r.error
       so q is stands = let same : q ≡ r = cc in subst (λ (x : Reason). StandsAgainst e o x.result x.error) same stands
 
-      last : (d : Result ℕ IdError) → draws e.tunnel_ids ≡ d → lacks_id d ≡ Some r
-          → ((x : IdError) → draws e.tunnel_ids ≡ Err x → StandsAgainst e o no_id.result no_id.error) → StandsAgainst e o r.result r.error
+      last : (d : Result ℕ IdError) → takes_id e.tunnel_ids ≡ d → lacks_id d ≡ Some r
+          → ((x : IdError) → takes_id e.tunnel_ids ≡ Err x → StandsAgainst e o no_id.result no_id.error) → StandsAgainst e o r.result r.error
       last (Ok i) drawn is stands = absurd cc
       last (Err x) drawn is stands = so no_id is (stands x drawn)
 
       by : (a b c d : Bool) (i : Result ℕ IdError) → (o.version == 256) ≡ a → is_some o.recovery ≡ b → has_all_tunnels e ≡ c
-          → lacks_secret e.config.secret o.challenge ≡ d → draws e.tunnel_ids ≡ i
+          → lacks_secret e.config.secret o.challenge ≡ d → takes_id e.tunnel_ids ≡ i
           → cond (not a) (Some other_version)
           (cond b (Some no_recovery) (cond c (Some no_tunnel) (cond d (Some no_secret) (lacks_id i)))) ≡ Some r → StandsAgainst e o r.result r.error
       by false b c d i version recovery all challenge drawn is = so other_version is (OtherVersion (other_than o version) refl refl)
@@ -66,7 +66,7 @@ module _ (e : End) (o : Opening) where
   -- where nothing does there may be one more, and what is asked can be answered
   pub none_against : against_opening e o ≡ None → (length e.tunnels < 1024) × (LacksSecret e.config.secret o.challenge → ⊥)
   unfolding against_opening
-  none_against h = by (o.version == 256) (is_some o.recovery) (has_all_tunnels e) (lacks_secret e.config.secret o.challenge) (lacks_id (draws e.tunnel_ids)) refl refl h
+  none_against h = by (o.version == 256) (is_some o.recovery) (has_all_tunnels e) (lacks_secret e.config.secret o.challenge) (lacks_id (takes_id e.tunnel_ids)) refl refl h
     where
       by : (a b c d : Bool) (i : Option Reason) → has_all_tunnels e ≡ c → lacks_secret e.config.secret o.challenge ≡ d
           → cond (not a) (Some other_version) (cond b (Some no_recovery) (cond c (Some no_tunnel) (cond d (Some no_secret) i))) ≡ None
@@ -121,18 +121,18 @@ module _ (e : End) (moment : ℕ) (ev : Event) (o : Opening) where
   pub against_stands : WouldOpen e ev o → (r : Reason) → against_opening e o ≡ Some r → Stands e moment ev r.cause
   unfolding against_opening
   against_stands would r h =
-      by (o.version == 256) (is_some o.recovery) (has_all_tunnels e) (lacks_secret e.config.secret o.challenge) (draws e.tunnel_ids) refl refl refl refl refl h
+      by (o.version == 256) (is_some o.recovery) (has_all_tunnels e) (lacks_secret e.config.secret o.challenge) (takes_id e.tunnel_ids) refl refl refl refl refl h
     where
       so : (q : Reason) → Some q ≡ Some r → Stands e moment ev q.cause → Stands e moment ev r.cause
       so q is stands = let same : q ≡ r = cc in subst (λ (x : Reason). Stands e moment ev x.cause) same stands
 
-      last : (d : Result ℕ IdError) → draws e.tunnel_ids ≡ d → lacks_id d ≡ Some r → is_acceptable e.config.secret None o ≡ true → has_all_tunnels e ≡ false
+      last : (d : Result ℕ IdError) → takes_id e.tunnel_ids ≡ d → lacks_id d ≡ Some r → is_acceptable e.config.secret None o ≡ true → has_all_tunnels e ≡ false
           → Stands e moment ev r.cause
       last (Ok i) drawn is good fewer = absurd cc
       last (Err x) drawn is good fewer = so _ is (ForPeer o x would good fewer drawn)
 
       by : (a b c d : Bool) (i : Result ℕ IdError) → (o.version == 256) ≡ a → is_some o.recovery ≡ b → has_all_tunnels e ≡ c
-          → lacks_secret e.config.secret o.challenge ≡ d → draws e.tunnel_ids ≡ i
+          → lacks_secret e.config.secret o.challenge ≡ d → takes_id e.tunnel_ids ≡ i
           → cond (not a) (Some other_version)
           (cond b (Some no_recovery) (cond c (Some no_tunnel) (cond d (Some no_secret) (lacks_id i)))) ≡ Some r → Stands e moment ev r.cause
       by false b c d i version recovery all challenge drawn is = so other_version is (o, AtZero would, other_than o version)

@@ -2,7 +2,7 @@
 use Rattle.std.proofs.Common.{◌≡◌, ◌⊎◌, inl, inr, ⊎_elim, ℕ, ◌<◌, true, false, List, [], ◌∷◌, ◌++◌, refl, sym, ap, ◌∙◌, subst, Option, Some, None}
 use Rattle.std.proofs.lemmas.Bool.{true≢false, lt-ltb}
 use Rattle.std.proofs.lemmas.Option.{none-some}
-use Rattle.std.specs.Prelude.{◌==◌, ◌&&◌, nat_lt}
+use Rattle.std.specs.Prelude.{◌==◌, ◌&&◌, nat_lt, Bool}
 use Rattle.id_table.specs.Ids.{at, put, without, ids_of}
 use Rattle.id_table.specs.Order.{Ascends, ascends-put, ascends-without, found_put, found_without}
 use Rattle.wire_base.specs.declared.why.Why.TheVariants as why
@@ -138,9 +138,9 @@ module _ (role : Role) (moment : ℕ) (calls : List (ℕ × Call)) where
   ended : (s : ℕ) (t u : Turn) → Ends s t u → Limited s t u
   ended s t u h = record { leads = h.leads; past = λ c there late. absurd (h.gone c there) }
 
-  silent : (s : ℕ) (t : Turn) → Ticked t → Ends s t (end_silent s t)
+  silent : (s : ℕ) (booked : Bool) (t : Turn) → Ticked t → Ends s t (end_silent s booked t)
   unfolding end_silent ends_call with_output with_change with_move
-  silent s t h = ends s t (end_silent s t) (λ f. f) refl refl refl h
+  silent s booked t h = ends s t (end_silent s booked t) (λ f. f) refl refl refl h
 
   told : (for : CauseOf) (result s : ℕ) (c : Call) (t : Turn) → Ticked t → Ends s t (end_told s c result None (with_output (Cause for) t))
   unfolding end_told gives ends_call with_output with_change with_move
@@ -164,7 +164,7 @@ module _ (role : Role) (moment : ℕ) (calls : List (ℕ × Call)) where
     limited_by : (s : ℕ) (c : Call) (t : Turn) → Ticked t → at calls s ≡ Some c → (a : CallAction) → (row_for role c call_event.Close).1 ≡ a
         → Limited s t (ends_by cause.Setup 10 None s c a t)
     unfolding ends_by drops with_output
-    limited_by s c t h is call_action.CleanUp row = ended s t (end_silent s t) (silent s t h)
+    limited_by s c t h is call_action.CleanUp row = ended s t (end_silent s (is_up c.state) t) (silent s (is_up c.state) t h)
     limited_by s c t h is call_action.SendCdn row =
         branch (Limited s t) (has_room t.control) _ _
         (λ may. ended s t (end_told s c 10 None (with_output (Cause cause.Setup) t)) (told cause.Setup 10 s c t h))
@@ -206,7 +206,7 @@ module _ (role : Role) (moment : ℕ) (calls : List (ℕ × Call)) where
 
     finished_by : (s : ℕ) (c : Call) (t : Turn) → Ticked t → (a : CallAction) → Leads t (ends_by cause.Lcp 3 None s c a t)
     unfolding ends_by drops with_output
-    finished_by s c t h call_action.CleanUp = (silent s t h).leads
+    finished_by s c t h call_action.CleanUp = (silent s (is_up c.state) t h).leads
     finished_by s c t h call_action.SendCdn =
         branch (Leads t) (has_room t.control) _ _
         (λ may. (told cause.Lcp 3 s c t h).leads)

@@ -5,7 +5,7 @@ use Rattle.std.proofs.lemmas.List.{append-nil, length-append}
 use Rattle.std.specs.Prelude.{◌==◌, ◌&&◌, ◌||◌, nat_le, nat_lt, unwrap_or}
 use Rattle.std.specs.List.{AllByRecursion, flat_map}
 use Rattle.id_table.specs.Ids.{at, ids_of}
-use Rattle.id_source.specs.Spaces.{draws}
+use Rattle.id_source.specs.Spaces.{takes_id}
 use Rattle.id_source.specs.declared.IdError.{IdError}
 use Rattle.wire_base.specs.declared.why.Why.{Why}
 use Rattle.wire_base.specs.declared.cause.Cause.{Cause}
@@ -46,13 +46,13 @@ use Rattle.end_model.specs.Calls.{row_for, row_of_none, advanced, is_set_up, is_
 use Rattle.end_model.specs.Tunnels.{Ground, Turn}
 use Rattle.end_model.specs.Links.{new_link, with_link, lcp_frame, is_passing}
 use Rattle.end_model.specs.Stopping.{rejects, rejected, shuts, closed_told, closes_tunnel, closed_by, shuts_by}
-use Rattle.end_model.specs.Messages.{connected_reason, connected_event, event_by, opening_reason}
+use Rattle.end_model.specs.Messages.{connected_reason, connected_event, event_by, opening_reason, Told, tells_id, told_by}
 use Rattle.end_model.specs.Turn.{with_output, with_move, with_change, with_call, with_new, drops, ends_call, ends_all, with_looks_of}
 use Rattle.end_model.specs.Openings.{with_local, opened, opens_by, opens, accepted, accepts_by, accepts, connected, confirms}
 use Rattle.end_model.specs.Sending.{gives, gives_as, sends_letter, sends_now, lets_go, goes_by, lets_all_go, acknowledges, outstanding, acknowledged_after, settles, takes_one, takes_plain, ignores, repeats}
 use Rattle.end_model.specs.Channels.{has_room, may_take}
 use Rattle.end_model.specs.Ringing.{requested, requests, requests_at, requests_all}
-use Rattle.end_model.specs.Moments.{is_closed, is_over, patience, is_at_its_end}
+use Rattle.end_model.specs.Moments.{is_closed, is_over, patience, is_at_its_end, is_open}
 use Rattle.end_model.specs.Reasons.{out_of_order, Reason, reason, out_of_state, fault_reason}
 use Rattle.end_model.specs.Hearing.{connects, takes_by, takes, about_call, in_call, hears, hears_faulty, hears_said, hears_next, hears_letter, is_duplicate, in_tunnel, first_said}
 use Rattle.end_model.specs.Asking.{granted, replied, replies, asked_by, session_named}
@@ -208,32 +208,32 @@ module _ (F : ℕ → List ℕ → Type 0) (on : Ground) where
 
     pub opens_quiet : (role : Role) (c : Config) (t : Turn) → Quiet t → Quiet (opens role c t)
     unfolding opens opens_by
-    opens_quiet role c t h = by (draws t.ids.tunnels)
+    opens_quiet role c t h = by (takes_id t.ids.tunnels)
       where
         by : (x : Result ℕ IdError) → Quiet (opens_by role c x t)
         by (Err x) = caused cause.Ids t h
         by (Ok local) = branch Quiet (has_room t.control) _ _ (λ may. opened_quiet role c local t h) (λ full. caused cause.Queue t h)
 
-    accepted_quiet : (role : Role) (c : Config) (asked : Option (List ℕ)) (remote window local : ℕ) (t : Turn) → Quiet t
-        → Quiet (accepted role c asked remote window local t)
+    accepted_quiet : (role : Role) (c : Config) (says : Told) (local : ℕ) (t : Turn) → Quiet t
+        → Quiet (accepted role c says local t)
     unfolding accepted gives with_move takes_one with_local
-    accepted_quiet role c asked remote window local t h = did _ refl refl refl tt h
+    accepted_quiet role c says local t h = did _ refl refl refl tt h
 
-    accepts_quiet : (role : Role) (c : Config) (asked : Option (List ℕ)) (remote window : ℕ) (t : Turn) → Quiet t
-        → Quiet (accepts role c asked remote window t)
+    accepts_quiet : (role : Role) (c : Config) (says : Told) (t : Turn) → Quiet t
+        → Quiet (accepts role c says t)
     unfolding accepts accepts_by
-    accepts_quiet role c asked remote window t h = by (draws t.ids.tunnels)
+    accepts_quiet role c says t h = by (takes_id t.ids.tunnels)
       where
-        by : (x : Result ℕ IdError) → Quiet (accepts_by role c asked remote window x t)
+        by : (x : Result ℕ IdError) → Quiet (accepts_by role c says x t)
         by (Err x) = dropped why.Tunnel t h
         by (Ok local) =
             branch Quiet (has_room t.control) _ _
-            (λ may. accepted_quiet role c asked remote window local t h)
+            (λ may. accepted_quiet role c says local t h)
             (λ full. dropped why.Queue t h)
 
     pub first_quiet : (role : Role) (c : Config) (r : Result Message Why) (t : Turn) → Quiet t → Quiet (first_said role c r t)
     unfolding first_said
-    first_quiet role c (Ok (Sccrq o)) t h = accepts_quiet role c o.challenge o.tunnel o.window t h
+    first_quiet role c (Ok (Sccrq o)) t h = accepts_quiet role c (told_by o) t h
     first_quiet role c (Ok (Sccrp o)) t h = dropped why.Tunnel t h
     first_quiet role c (Ok (Scccn response)) t h = dropped why.Tunnel t h
     first_quiet role c (Ok Hello) t h = dropped why.Tunnel t h
@@ -277,17 +277,17 @@ module _ (F : ℕ → List ℕ → Type 0) (on : Ground) where
 
     -- ---- letters about the tunnel
 
-    connected_quiet : (c : Config) (asked : Option (List ℕ)) (remote window : ℕ) (next : TunnelState) (t : Turn) → Quiet t
-        → Quiet (connected c asked remote window next t)
+    connected_quiet : (c : Config) (says : Told) (next : TunnelState) (t : Turn) → Quiet t
+        → Quiet (connected c says next t)
     unfolding connected gives with_move takes_one
-    connected_quiet c asked remote window next t h = did _ refl refl refl tt h
+    connected_quiet c says next t h = did _ refl refl refl tt h
 
-    connects_quiet : (role : Role) (c : Config) (calls : List (ℕ × Call)) (asked : Option (List ℕ)) (remote window : ℕ) (next : TunnelState) (t : Turn) → Quiet t
-        → Quiet (connects role c calls asked remote window next t)
+    connects_quiet : (role : Role) (c : Config) (calls : List (ℕ × Call)) (says : Told) (next : TunnelState) (t : Turn) → Quiet t
+        → Quiet (connects role c calls says next t)
     unfolding connects
-    connects_quiet role c calls asked remote window next t h =
+    connects_quiet role c calls says next t h =
         branch Quiet (has_room t.control) _ _
-        (λ may. requests_all_quiet role c (ids_of calls) calls (connected c asked remote window next t) (connected_quiet c asked remote window next t h))
+        (λ may. requests_all_quiet role c (ids_of calls) calls (connected c says next t) (connected_quiet c says next t h))
         (λ full. dropped why.Queue t h)
 
     confirms_quiet : (next : TunnelState) (t : Turn) → Quiet t → Quiet (confirms next t)
@@ -353,26 +353,26 @@ module _ (F : ℕ → List ℕ → Type 0) (on : Ground) where
 
     -- ---- letters by the tunnel's table
 
-    takes_by_quiet : (role : Role) (c : Config) (calls : List (ℕ × Call)) (r : Reason) (asked : Option (List ℕ)) (remote window : ℕ) (next : TunnelState) (a : TunnelAction) (t : Turn)
-        → Quiet t → Quiet (takes_by role c calls r asked remote window (next, a) t)
+    takes_by_quiet : (role : Role) (c : Config) (calls : List (ℕ × Call)) (r : Reason) (says : Told) (next : TunnelState) (a : TunnelAction) (t : Turn)
+        → Quiet t → Quiet (takes_by role c calls r says (next, a) t)
     unfolding takes_by
-    takes_by_quiet role c calls r asked remote window next action.SendScccn t h = connects_quiet role c calls asked remote window next t h
-    takes_by_quiet role c calls r asked remote window next action.Nothing t h =
+    takes_by_quiet role c calls r says next action.SendScccn t h = connects_quiet role c calls says next t h
+    takes_by_quiet role c calls r says next action.Nothing t h =
         branch Quiet (state_number next == state_number t.control.state) _ _ (λ same. plain_quiet t h) (λ other. confirms_quiet next t h)
-    takes_by_quiet role c calls r asked remote window next action.SendSccrq t h = plain_quiet t h
-    takes_by_quiet role c calls r asked remote window next action.SendSccrp t h = plain_quiet t h
-    takes_by_quiet role c calls r asked remote window next action.SendStopCcn t h =
+    takes_by_quiet role c calls r says next action.SendSccrq t h = plain_quiet t h
+    takes_by_quiet role c calls r says next action.SendSccrp t h = plain_quiet t h
+    takes_by_quiet role c calls r says next action.SendStopCcn t h =
         branch Quiet (state_number t.control.state == 1) _ _
-        (λ one. rejects_quiet r calls remote next t h)
+        (λ one. rejects_quiet r calls says.remote next t h)
         (λ other. plain_quiet (closes_tunnel r calls t.control.remote next t) (shut_told_quiet r calls t.control.remote next t h))
-    takes_by_quiet role c calls r asked remote window next action.CleanUp t h = shut_heard_quiet calls next t h
+    takes_by_quiet role c calls r says next action.CleanUp t h = shut_heard_quiet calls next t h
 
-    takes_quiet : (role : Role) (c : Config) (calls : List (ℕ × Call)) (r : Reason) (ev : TunnelEvent) (asked : Option (List ℕ)) (remote window : ℕ)
-        (t : Turn) → Quiet t → Quiet (takes role c calls r ev asked remote window t)
+    takes_quiet : (role : Role) (c : Config) (calls : List (ℕ × Call)) (r : Reason) (ev : TunnelEvent) (says : Told)
+        (t : Turn) → Quiet t → Quiet (takes role c calls r ev says t)
     unfolding takes
-    takes_quiet role c calls r ev asked remote window t h =
+    takes_quiet role c calls r ev says t h =
         let row = row_of rows t.control.state ev in
-        takes_by_quiet role c calls r asked remote window row.0 row.1 t h
+        takes_by_quiet role c calls r says row.0 row.1 t h
 
     -- ---- letters about a call
 
@@ -382,9 +382,9 @@ module _ (F : ℕ → List ℕ → Type 0) (on : Ground) where
 
     -- ---- calls that end
 
-    silent_quiet : (s : ℕ) (t : Turn) → Quiet t → Quiet (end_silent s t)
+    silent_quiet : (s : ℕ) (booked : Bool) (t : Turn) → Quiet t → Quiet (end_silent s booked t)
     unfolding end_silent with_move
-    silent_quiet s t h = did _ refl refl refl tt (ended_quiet s t h)
+    silent_quiet s booked t h = did _ refl refl refl tt (ended_quiet s t h)
 
     told_quiet : (s : ℕ) (c : Call) (result : ℕ) (error : Option ℕ) (t : Turn) → Quiet t → Quiet (end_told s c result error t)
     unfolding end_told gives with_move
@@ -392,7 +392,7 @@ module _ (F : ℕ → List ℕ → Type 0) (on : Ground) where
 
     ends_quiet : (for : Cause) (result : ℕ) (error : Option ℕ) (s : ℕ) (c : Call) (a : CallAction) (t : Turn) → Quiet t → Quiet (ends_by for result error s c a t)
     unfolding ends_by
-    ends_quiet for result error s c call_action.CleanUp t h = silent_quiet s t h
+    ends_quiet for result error s c call_action.CleanUp t h = silent_quiet s (is_up c.state) t h
     ends_quiet for result error s c call_action.SendCdn t h =
         branch Quiet (has_room t.control) _ _
         (λ may. told_quiet s c result error (with_output (Refused for) t) (caused for t h))
@@ -627,19 +627,19 @@ module _ (F : ℕ → List ℕ → Type 0) (on : Ground) where
         → Quiet (hears role c calls session m t)
     unfolding hears
     hears_quiet role c calls session (Sccrq o) t so h =
-        takes_quiet role c calls (opening_reason c.secret None o) (event_by event.SccrqAcc event.SccrqNotAcc c.secret None o) None 0 o.window t h
+        takes_quiet role c calls (opening_reason c.secret None o) (event_by event.SccrqAcc event.SccrqNotAcc c.secret None o) (tells_id 0) t h
     hears_quiet role c calls session (Sccrp o) t so h =
         takes_quiet role c calls (opening_reason c.secret t.control.challenge o)
-        (event_by event.SccrpAcc event.SccrpNotAcc c.secret t.control.challenge o) o.challenge o.tunnel o.window t h
+        (event_by event.SccrpAcc event.SccrpNotAcc c.secret t.control.challenge o) (told_by o) t h
     hears_quiet role c calls session (Scccn response) t so h =
-        takes_quiet role c calls (connected_reason c.secret t.control.challenge response) (connected_event c.secret t.control.challenge response) None 0 0 t h
+        takes_quiet role c calls (connected_reason c.secret t.control.challenge response) (connected_event c.secret t.control.challenge response) (tells_id 0) t h
     hears_quiet role c calls session Hello t so h = plain_quiet t h
     hears_quiet role c calls session (Cdn remote code error) t so h = in_call_quiet role calls session (Cdn remote code error) t so h
     hears_quiet role c calls session (Icrq remote serial calling) t so h = in_call_quiet role calls session (Icrq remote serial calling) t so h
     hears_quiet role c calls session (Icrp remote) t so h = in_call_quiet role calls session (Icrp remote) t so h
     hears_quiet role c calls session (Iccn speed framing sequenced) t so h = in_call_quiet role calls session (Iccn speed framing sequenced) t so h
     hears_quiet role c calls session (Ocrq remote) t so h = in_call_quiet role calls session (Ocrq remote) t so h
-    hears_quiet role c calls session (StopCcn tunnel code error) t so h = takes_quiet role c calls out_of_order event.StopCcnCame None 0 0 t h
+    hears_quiet role c calls session (StopCcn tunnel code error) t so h = takes_quiet role c calls out_of_order event.StopCcnCame (tells_id 0) t h
     hears_quiet role c calls session Ocrp t so h = plain_quiet t h
     hears_quiet role c calls session Occn t so h = plain_quiet t h
     hears_quiet role c calls session Wen t so h = plain_quiet t h
@@ -651,7 +651,7 @@ module _ (F : ℕ → List ℕ → Type 0) (on : Ground) where
         → Quiet (hears_faulty role c calls session o g w t)
     unfolding hears_faulty
     faults_quiet role c calls session (Some k) g w t h = in_faulty_quiet role calls session k t h
-    faults_quiet role c calls session None (Some g) w t h = takes_quiet role c calls (fault_reason g.cause) g.event None g.remote 0 t h
+    faults_quiet role c calls session None (Some g) w t h = takes_quiet role c calls (fault_reason g.cause) g.event (tells_id g.remote) t h
     faults_quiet role c calls session None None w t h = ignored w t h
 
     said_quiet : (role : Role) (c : Config) (calls : List (ℕ × Call)) (session : ℕ) (o : Option CallFault) (g : Option TunnelFault) (r : Result Message Why)
@@ -700,7 +700,7 @@ module _ (F : ℕ → List ℕ → Type 0) (on : Ground) where
     cleared_quiet : (calls : List (ℕ × Call)) (t : Turn) → Quiet t → Quiet (clears calls t)
     unfolding clears with_move
     cleared_quiet calls t h =
-        let cleared = ended_all (ids_of calls) (with_move (move.Cleared t.control.local) t) (did (move.Cleared t.control.local) refl refl refl tt h) in
+        let cleared = ended_all (ids_of calls) (with_move (move.Cleared t.control.local (is_open t.control.state)) t) (did (move.Cleared t.control.local (is_open t.control.state)) refl refl refl tt h) in
         record { no_output = cleared.no_output; no_move = cleared.no_move; births = cleared.births; read = cleared.read; sent = cleared.sent; same = cleared.same }
 
     repeated_quiet : (letters : List Letter) (number : ℕ) (t : Turn) → Quiet t → Quiet (repeats letters number t)

@@ -6,7 +6,7 @@ use Rattle.std.proofs.lemmas.Bool.Decides.{nat_tests}
 use Rattle.std.proofs.lemmas.Option.{none-some}
 use Rattle.std.specs.Prelude.{unwrap_or, nat_le}
 use Rattle.id_table.specs.Ids.{at}
-use Rattle.id_source.specs.Spaces.{draws}
+use Rattle.id_source.specs.Spaces.{takes_id}
 use Rattle.id_source.specs.declared.IdError.{IdError}
 use Rattle.wire_base.specs.declared.cause.Cause.{Cause as CauseOf}
 use Rattle.l2tp_header.specs.declared.header.Header.{Header}
@@ -106,7 +106,7 @@ module _ (e : End) (t : Tunnel) (remote : ℕ) where
     takes = λ (lac : e.role ≡ Lac). (let lns = g.lns in let two : Lac ≡ Lns = sym lac ∙ lns in absurd cc);
     free = g.free;
     few = few_tested (length t.calls) g.few;
-    ids = λ (x : IdError) (none : draws e.session_ids ≡ Err x). (let drawn = g.drawn in absurd cc);
+    ids = λ (x : IdError) (none : takes_id e.session_ids ≡ Err x). (let drawn = g.drawn in absurd cc);
   }
 
   not_denied : (result : ℕ) (error : Option ℕ) → MayBeGranted e t remote → DeniesCall e t remote result error → ⊥
@@ -131,7 +131,7 @@ module _ (e : End) (kept : AreKept e) (sound : AreSound e) (asked : AreAsked e) 
   stepped = plain_step e moment block ev
 
   abbrev RepliedAt : ℕ → ℕ → List CauseOf → Move → Type 0
-  RepliedAt id remote told m = (s : ℕ) × (draws e.session_ids ≡ Ok s) × IsReply id remote s m × (told ≡ [])
+  RepliedAt id remote told m = (s : ℕ) × (takes_id e.session_ids ≡ Ok s) × IsReply id remote s m × (told ≡ [])
 
   replied_to : (id remote : ℕ) → (h : OneAnswer (RepliedAt id remote) stepped.moves stepped.outputs) → IsRepliedTo e id remote stepped
   replied_to id remote h =

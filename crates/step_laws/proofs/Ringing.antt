@@ -6,7 +6,7 @@ use Rattle.std.proofs.lemmas.Bool.{true≢false, eq-eqb, eqb-true}
 use Rattle.std.specs.Prelude.{◌==◌}
 use Rattle.std.specs.List.{flat_map}
 use Rattle.id_table.specs.Ids.{at}
-use Rattle.id_source.specs.Spaces.{draws}
+use Rattle.id_source.specs.Spaces.{takes_id}
 use Rattle.id_source.specs.declared.IdError.{IdError}
 use Rattle.wire_base.specs.declared.cause.Cause.{Cause as CauseOf}
 use Rattle.wire_base.specs.declared.cause.Cause.TheVariants as cause
@@ -82,7 +82,7 @@ module _ (e : End) (kept : AreKept e) (lac : e.role ≡ Lac) (moment : ℕ) (blo
         (λ waits. absurd (let opening = waits.0 in omega arith))
         goes
 
-    asked_ring : (s : ℕ) → draws e.session_ids ≡ Ok s → may_take t.control t.calls ≡ true → state_number t.control.state ≡ 3
+    asked_ring : (s : ℕ) → takes_id e.session_ids ≡ Ok s → may_take t.control t.calls ≡ true → state_number t.control.state ≡ 3
         → Answers (requests e.role e.config s (rung e.role who moment) (adds e.role who s start))
     unfolding requests requested gives_as with_change with_move with_call adds with_new rung advanced
     asked_ring s drawn may is =
@@ -92,7 +92,7 @@ module _ (e : End) (kept : AreKept e) (lac : e.role ≡ Lac) (moment : ℕ) (blo
         (λ full. absurd (true≢false (sym (spare_room t.control t.calls may) ∙ full))))
         (λ none. absurd (true≢false (sym (rung_asks e.role who moment lac) ∙ none)))
 
-    waits_ring : (s : ℕ) → draws e.session_ids ≡ Ok s → (state_number t.control.state ≡ 3 → ⊥) → Answers (adds e.role who s start)
+    waits_ring : (s : ℕ) → takes_id e.session_ids ≡ Ok s → (state_number t.control.state ≡ 3 → ⊥) → Answers (adds e.role who s start)
     unfolding adds with_move with_new
     waits_ring s drawn other =
         ⊎_elim
@@ -100,7 +100,7 @@ module _ (e : End) (kept : AreKept e) (lac : e.role ≡ Lac) (moment : ℕ) (blo
         (λ waits. Waits _ refl (record { drawn = drawn; subscriber_is = refl }) waits.1 (here WaitCtlReply waits.2))
         goes
 
-    drawn_ring : may_take t.control t.calls ≡ true → (r : Result ℕ IdError) → draws e.session_ids ≡ r → Answers (rings_by e.role e.config who r start)
+    drawn_ring : may_take t.control t.calls ≡ true → (r : Result ℕ IdError) → takes_id e.session_ids ≡ r → Answers (rings_by e.role e.config who r start)
     unfolding rings_by rings_over
     drawn_ring may (Err x) drawn = refused_ring cause.Ids
     drawn_ring may (Ok s) drawn =
@@ -121,7 +121,7 @@ module _ (e : End) (kept : AreKept e) (lac : e.role ≡ Lac) (moment : ℕ) (blo
         (λ some. branch Answers (are_too_many t.calls) _ _
         (λ many. refused_ring cause.Calls)
         (λ few. branch Answers (may_take t.control t.calls) _ _
-        (λ may. drawn_ring may (draws e.session_ids) refl)
+        (λ may. drawn_ring may (takes_id e.session_ids) refl)
         (λ full. refused_ring cause.Queue)))))
 
     pub main_ring : RingIsAnswered e who (in_main e env ev i (Some t))
@@ -137,12 +137,12 @@ module _ (e : End) (kept : AreKept e) (lac : e.role ≡ Lac) (moment : ℕ) (blo
   unfolding with_output
   refused_new c = IsRefused c refl refl
 
-  opened_ring : HasNone e Established → HasNone e WaitCtlReply → (s i : ℕ) → draws e.session_ids ≡ Ok s → draws e.tunnel_ids ≡ Ok i
+  opened_ring : HasNone e Established → HasNone e WaitCtlReply → (s i : ℕ) → takes_id e.session_ids ≡ Ok s → takes_id e.tunnel_ids ≡ Ok i
       → Answers (adds e.role who s (opened e.role e.config i blank))
   unfolding adds with_new opened gives with_move with_local
   opened_ring no_open no_opening s i drawn got = Opens _ _ refl (record { drawn = drawn; subscriber_is = refl }) got refl refl no_open no_opening
 
-  new_ring : HasNone e Established → HasNone e WaitCtlReply → (r q : Result ℕ IdError) → draws e.session_ids ≡ r → draws e.tunnel_ids ≡ q
+  new_ring : HasNone e Established → HasNone e WaitCtlReply → (r q : Result ℕ IdError) → takes_id e.session_ids ≡ r → takes_id e.tunnel_ids ≡ q
       → Answers (rings_new e.role e.config who r q blank)
   unfolding rings_new
   new_ring no_open no_opening (Err x) q drawn got = refused_new cause.Ids
@@ -156,7 +156,7 @@ module _ (e : End) (kept : AreKept e) (lac : e.role ≡ Lac) (moment : ℕ) (blo
   unfolding rings
   made_ring no_open no_opening =
       subst Answers (sym (turns_ring e.role e.config [] [] ev who blank ring))
-      (settled_ring [] _ (new_ring no_open no_opening (draws e.session_ids) (draws e.tunnel_ids) refl refl))
+      (settled_ring [] _ (new_ring no_open no_opening (takes_id e.session_ids) (takes_id e.tunnel_ids) refl refl))
 
   abbrev IsRung : Stepped → Type 0
   IsRung s = RingIsAnswered e who s

@@ -25,7 +25,7 @@ use Rattle.end_model.specs.Channels.{may_take, next_place, taken_place, has_room
 use Rattle.end_model.specs.Stopping.{rejected, rejects, shut, shuts, closed_told, closes_tunnel, closed_by}
 use Rattle.end_model.specs.Tunnels.{Tunnel, Turn}
 use Rattle.end_model.specs.Reasons.{Reason}
-use Rattle.end_model.specs.Moments.{is_closed}
+use Rattle.end_model.specs.Moments.{is_closed, is_open}
 use Rattle.end_model.specs.Turn.{with_output, with_move, with_change, ends_call, ends_all}
 use Rattle.end_model.specs.Events.{with_calls, tunnel_after}
 use Rattle.end_model.specs.Sending.{gives, takes_one}
@@ -103,7 +103,14 @@ module _ (e : End) (moment : ℕ) (ev : Event) (letters : List Letter) (calls : 
       → TurnOk e moment ev letters calls i t → TurnOk e moment ev letters calls i (closed_told r calls remote state.Closed t)
   unfolding closed_told shuts gives with_output with_move with_calls
   told_ok r so on remote t none row why room h =
-      let m = move.Closed (record { tunnel = t.control.local; remote = remote; result = r.result; error = r.error; given = next_place t.control }) in
+      let m = move.Closed (record {
+        tunnel = t.control.local;
+        remote = remote;
+        booked = is_open t.control.state;
+        result = r.result;
+        error = r.error;
+        given = next_place t.control;
+      }) in
       let l = letter_of 0 (StopCcn t.control.local r.result r.error) in
       let u : Turn = record t { control = shut remote state.Closed t.on.moment t.control; outputs = t.outputs ++ Cause r.cause ∷ [] } in
       let outs = t.outputs ++ Cause r.cause ∷ [] in
@@ -114,6 +121,7 @@ module _ (e : End) (moment : ℕ) (ev : Event) (letters : List Letter) (calls : 
           on = on;
           why = why _ refl refl refl refl;
           row = row;
+          booked = refl;
           room = room;
           given = refl;
           after =
@@ -202,7 +210,7 @@ module _ (e : End) (moment : ℕ) (ev : Event) (letters : List Letter) (calls : 
       → TurnOk e moment ev letters calls i (closed_by calls state.Closed t)
   unfolding closed_by shuts takes_one with_move with_calls
   heard_shut_ok t none live k next spare says h =
-      let m = move.ClosedBy (record { tunnel = t.control.local; taken = taken_place t.control }) in
+      let m = move.ClosedBy (record { tunnel = t.control.local; booked = is_open t.control.state; taken = taken_place t.control }) in
       let u : Turn = record t { control = shut t.control.remote state.Closed t.on.moment (counts_taken t.control); took = true } in
       rw (all_ended_is (ids_of calls) u) (record {
         chain = chain_more moment ev e (at_turn e moment ev letters calls i t) _ t.moves m h.chain (record {
@@ -212,6 +220,7 @@ module _ (e : End) (moment : ℕ) (ev : Event) (letters : List Letter) (calls : 
           letter = k;
           takes = record { next = next; taken_is = refl; spare = spare };
           says = says;
+          booked = refl;
           after =
               let looked = with_looks-append t.changes (map cell.Kill (ids_of calls)) (placed t.control.local t.added e.calls) in
               rw (h.stays.4, none, none_left calls, looked, put-put e.tunnels t.control.local _ _) refl;

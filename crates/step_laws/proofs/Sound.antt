@@ -135,7 +135,7 @@ module _ (e : End) (whole : AreWhole e) where
   does_whole moment ev (move.Closed m) x h = puts x _ m.tunnel _ h.after refl refl refl (whole_none e.role)
   does_whole moment ev (move.Rejected m) x h = puts x _ m.tunnel _ h.after refl refl refl (whole_none e.role)
   does_whole moment ev (move.ClosedBy m) x h = puts x _ m.tunnel _ h.after refl refl refl (whole_none e.role)
-  does_whole moment ev (move.Cleared i) x h = subst AreWhole (sym h.after) (record {
+  does_whole moment ev (move.Cleared i booked) x h = subst AreWhole (sym h.after) (record {
     last = whole.last;
     order = ascends-without i e.tunnels whole.order;
     calls = λ j t there. whole.calls j t (found_without e.tunnels i j t whole.order there).1;
@@ -172,7 +172,7 @@ does_role moment ev e x (move.Declined m) h = ap (λ (y : End). y.role) h.after
 does_role moment ev e x (move.Closed m) h = ap (λ (y : End). y.role) h.after
 does_role moment ev e x (move.Rejected m) h = ap (λ (y : End). y.role) h.after
 does_role moment ev e x (move.ClosedBy m) h = ap (λ (y : End). y.role) h.after
-does_role moment ev e x (move.Cleared i) h = ap (λ (y : End). y.role) h.after
+does_role moment ev e x (move.Cleared i booked) h = ap (λ (y : End). y.role) h.after
 does_role moment ev e x (move.Greeted m) h = ap (λ (y : End). y.role) h.after
 does_role moment ev e x (move.TookPlain m) h = ap (λ (y : End). y.role) h.after
 does_role moment ev e x (move.NrRead m) h = ap (λ (y : End). y.role) h.after

@@ -21,7 +21,7 @@ use Rattle.end_model.specs.Reading.{message_in, CallFault, call_fault_in, Tunnel
 use Rattle.end_model.specs.Tunnels.{Tunnel, Turn}
 use Rattle.end_model.specs.Reasons.{Reason, out_of_order, fault_reason, no_secret}
 use Rattle.end_model.specs.Moments.{is_closed}
-use Rattle.end_model.specs.Messages.{is_acceptable, event_by, opening_reason}
+use Rattle.end_model.specs.Messages.{is_acceptable, event_by, opening_reason, Told, tells_id, told_by}
 use Rattle.end_model.specs.Turn.{with_output, with_move}
 use Rattle.end_model.specs.Sending.{gives, takes_plain}
 use Rattle.end_model.specs.Stopping.{shuts, closed_told, closes_tunnel}
@@ -221,22 +221,22 @@ module _ (e : End) (moment : ℕ) (ev : Event) (letters : List Letter) (calls : 
   WhyLetter t k on r told = LetterCloses e.config.secret t.control k on told r.result r.error
 
   -- where it waits for its SCCRP the id that is told is learned; else the tunnel is closed, and then the letter is taken
-  shuts_ok : (r : Reason) → Stands e moment ev r.cause → (on : TunnelEvent) (asked : Option (List ℕ)) (remote window : ℕ) (t : Turn) → Takes t
+  shuts_ok : (r : Reason) → Stands e moment ev r.cause → (on : TunnelEvent) (says : Told) (t : Turn) → Takes t
       → (k : Came) → IsNext ev (now_at t) k
-      → row_of rows t.control.state on ≡ shut_row → WhyLetter t k on r remote
-      → Good (takes_by e.role e.config calls r asked remote window (row_of rows t.control.state on) t)
+      → row_of rows t.control.state on ≡ shut_row → WhyLetter t k on r says.remote
+      → Good (takes_by e.role e.config calls r says (row_of rows t.control.state on) t)
   unfolding takes_by
-  shuts_ok r so on asked remote window t f k next row why =
-      subst (λ (x : TunnelState × TunnelAction). Good (takes_by e.role e.config calls r asked remote window x t)) (sym row)
+  shuts_ok r so on says t f k next row why =
+      subst (λ (x : TunnelState × TunnelAction). Good (takes_by e.role e.config calls r says x t)) (sym row)
       (branch Good (state_number t.control.state == 1) _ _
       (λ one. unsent e moment ev letters calls i _
-      (rejects_ok e moment ev letters calls i r so on remote t f.fresh.changed f.live row (eqb-true (state_number t.control.state) 1 one) k next
+      (rejects_ok e moment ev letters calls i r so on says.remote t f.fresh.changed f.live row (eqb-true (state_number t.control.state) 1 one) k next
       (spare_first e moment ev letters calls i t f) why f.fresh.good))
       (λ two.
       let other = eqb-false (state_number t.control.state) 1 two in
       unsent e moment ev letters calls i _
       (taken_shut_ok r so on t f k next row
-      (λ m to known result error. ByLetter remote k next (spare_first e moment ev letters calls i t f) (rw (result, error) why) other known))))
+      (λ m to known result error. ByLetter says.remote k next (spare_first e moment ev letters calls i t f) (rw (result, error) why) other known))))
 
   -- ---- messages that the table has no good use for
 
@@ -259,12 +259,12 @@ module _ (e : End) (moment : ℕ) (ev : Event) (letters : List Letter) (calls : 
         (λ would. absurd (sccrq_opens_none e ev i (begun_at t f) f.fresh.there some_at session o came would))
 
     pub sccrq_ok : HearsNext ev (now_at t) session (Sccrq o)
-        → Good (takes_by e.role e.config calls (opening_reason e.config.secret None o) None 0 o.window
+        → Good (takes_by e.role e.config calls (opening_reason e.config.secret None o) (tells_id 0)
         (row_of rows t.control.state (event_by event.SccrqAcc event.SccrqNotAcc e.config.secret None o)) t)
     sccrq_ok hears =
         let on = event_by event.SccrqAcc event.SccrqNotAcc e.config.secret None o in
         let row = row_sccrq e.config.secret t.control.state o (busy t f) f.live in
-        shuts_ok (opening_reason e.config.secret None o) (sccrq_stands hears (shut_on t f on row)) on None 0 o.window t f
+        shuts_ok (opening_reason e.config.secret None o) (sccrq_stands hears (shut_on t f on row)) on (tells_id 0) t f
         hears.letter hears.next row (BySccrq o hears.says.said refl refl (closes_in e.config.secret None o _ _ refl refl))
 
     sccrp_stands : HearsNext ev (now_at t) session (Sccrp o)
@@ -281,30 +281,30 @@ module _ (e : End) (moment : ℕ) (ev : Event) (letters : List Letter) (calls : 
     -- one that is acceptable closes no tunnel that waits for it
     pub sccrp_shut_ok : (state_number t.control.state ≡ 1 → is_acceptable e.config.secret t.control.challenge o ≡ false)
         → HearsNext ev (now_at t) session (Sccrp o)
-        → Good (takes_by e.role e.config calls (opening_reason e.config.secret t.control.challenge o) o.challenge o.tunnel o.window
+        → Good (takes_by e.role e.config calls (opening_reason e.config.secret t.control.challenge o) (told_by o)
         (row_of rows t.control.state (event_by event.SccrpAcc event.SccrpNotAcc e.config.secret t.control.challenge o)) t)
     sccrp_shut_ok plain hears =
         let on = event_by event.SccrpAcc event.SccrpNotAcc e.config.secret t.control.challenge o in
         let row = row_sccrp e.config.secret t.control.challenge t.control.state o (busy t f) f.live plain in
-        shuts_ok (opening_reason e.config.secret t.control.challenge o) (sccrp_stands hears (shut_on t f on row)) on o.challenge o.tunnel o.window t f
+        shuts_ok (opening_reason e.config.secret t.control.challenge o) (sccrp_stands hears (shut_on t f on row)) on (told_by o) t f
         hears.letter hears.next row (BySccrp o hears.says.said refl refl (closes_in e.config.secret t.control.challenge o _ _ refl refl))
 
   module _ (session : ℕ) (response : Option (List ℕ)) (t : Turn) (f : Takes t) where
     -- one that answers rightly closes a tunnel that doesn't wait for it
     pub scccn_shut_ok : (state_number t.control.state ≡ 2 → ⊥) → is_wrong 3 e.config.secret t.control.challenge response ≡ false
         → HearsNext ev (now_at t) session (Scccn response)
-        → Good (takes_by e.role e.config calls out_of_order None 0 0 (row_of rows t.control.state event.ScccnAcc) t)
+        → Good (takes_by e.role e.config calls out_of_order (tells_id 0) (row_of rows t.control.state event.ScccnAcc) t)
     scccn_shut_ok other is hears =
         let right = right_of 3 e.config.secret t.control.challenge response is in
         let row = row_scccn t.control.state (busy t f) f.live other in
         let so = inr (inl (AnScccn (begun_at t f) session response (came_in t f session (Scccn response) hears) (rw f.fresh.challenge right)
         (shut_on t f event.ScccnAcc row))) in
-        shuts_ok out_of_order so event.ScccnAcc None 0 0 t f
+        shuts_ok out_of_order so event.ScccnAcc (tells_id 0) t f
         hears.letter hears.next row (ByScccn response hears.says.said refl (ComesUnawaited right refl refl refl))
 
     -- one that doesn't closes each tunnel
     pub scccn_wrong_ok : is_wrong 3 e.config.secret t.control.challenge response ≡ true → HearsNext ev (now_at t) session (Scccn response)
-        → Good (takes_by e.role e.config calls no_secret None 0 0 (row_of rows t.control.state event.ScccnNotAcc) t)
+        → Good (takes_by e.role e.config calls no_secret (tells_id 0) (row_of rows t.control.state event.ScccnNotAcc) t)
     scccn_wrong_ok is hears =
         let wrong = wrong_of 3 e.config.secret t.control.challenge response is in
         let row = row_shut t.control.state event.ScccnNotAcc (busy t f) f.live tt in
@@ -316,22 +316,22 @@ module _ (e : End) (moment : ℕ) (ev : Event) (letters : List Letter) (calls : 
           wrong = rw f.fresh.challenge wrong;
           closed = shut_on t f event.ScccnNotAcc row;
         }) in
-        shuts_ok no_secret so event.ScccnNotAcc None 0 0 t f
+        shuts_ok no_secret so event.ScccnNotAcc (tells_id 0) t f
         hears.letter hears.next row (ByScccn response hears.says.said refl (WronglyConnected wrong refl refl refl))
 
   -- ---- StopCCNs
 
-  says_stop_ok : (r : Reason) (remote : ℕ) (t : Turn) → Takes t → (k : Came) → IsNext ev (now_at t) k → SaysStop k.body
-      → Good (takes_by e.role e.config calls r None remote 0 (row_of rows t.control.state event.StopCcnCame) t)
+  says_stop_ok : (r : Reason) (says : Told) (t : Turn) → Takes t → (k : Came) → IsNext ev (now_at t) k → SaysStop k.body
+      → Good (takes_by e.role e.config calls r says (row_of rows t.control.state event.StopCcnCame) t)
   unfolding takes_by
-  says_stop_ok r remote t f k next says =
-      subst (λ (x : TunnelState × TunnelAction). Good (takes_by e.role e.config calls r None remote 0 x t)) (sym (row_stop t.control.state))
-      (unsent e moment ev letters calls i _ (heard_shut_ok e moment ev letters calls i t f.fresh.changed f.live k next (spare_first e moment ev letters calls i t f) says f.fresh.good))
+  says_stop_ok r says t f k next stops =
+      subst (λ (x : TunnelState × TunnelAction). Good (takes_by e.role e.config calls r says x t)) (sym (row_stop t.control.state))
+      (unsent e moment ev letters calls i _ (heard_shut_ok e moment ev letters calls i t f.fresh.changed f.live k next (spare_first e moment ev letters calls i t f) stops f.fresh.good))
 
   pub stop_ok : (session id code : ℕ) (error : Option ℕ) (t : Turn) → Takes t → HearsNext ev (now_at t) session (StopCcn id code error)
-      → Good (takes_by e.role e.config calls out_of_order None 0 0 (row_of rows t.control.state event.StopCcnCame) t)
+      → Good (takes_by e.role e.config calls out_of_order (tells_id 0) (row_of rows t.control.state event.StopCcnCame) t)
   stop_ok session id code error t f hears =
-      says_stop_ok out_of_order 0 t f hears.letter hears.next (inl (id, code, error, hears.says.said))
+      says_stop_ok out_of_order (tells_id 0) t f hears.letter hears.next (inl (id, code, error, hears.says.said))
 
   -- ---- messages that have a fault
 
@@ -352,16 +352,16 @@ module _ (e : End) (moment : ℕ) (ev : Event) (letters : List Letter) (calls : 
           })
 
       fault_shuts_ok : row_of rows t.control.state g.event ≡ shut_row
-          → Good (takes_by e.role e.config calls (fault_reason g.cause) None g.remote 0 (row_of rows t.control.state g.event) t)
+          → Good (takes_by e.role e.config calls (fault_reason g.cause) (tells_id g.remote) (row_of rows t.control.state g.event) t)
       fault_shuts_ok row =
-          shuts_ok (fault_reason g.cause) (fault_stands row) g.event None g.remote 0 t f k next row (ByFault g has refl refl refl refl)
+          shuts_ok (fault_reason g.cause) (fault_stands row) g.event (tells_id g.remote) t f k next row (ByFault g has refl refl refl refl)
 
       -- by the event that it is to the table
       fault_ok : (on : TunnelEvent) → g.event ≡ on → IsEventOfFault on
-          → Good (takes_by e.role e.config calls (fault_reason g.cause) None g.remote 0 (row_of rows t.control.state g.event) t)
+          → Good (takes_by e.role e.config calls (fault_reason g.cause) (tells_id g.remote) (row_of rows t.control.state g.event) t)
       fault_ok event.StopCcnCame is so =
-          subst (λ x. Good (takes_by e.role e.config calls (fault_reason g.cause) None g.remote 0 (row_of rows t.control.state x) t)) (sym is)
-          (says_stop_ok (fault_reason g.cause) g.remote t f k next (inr (g, has, is)))
+          subst (λ x. Good (takes_by e.role e.config calls (fault_reason g.cause) (tells_id g.remote) (row_of rows t.control.state x) t)) (sym is)
+          (says_stop_ok (fault_reason g.cause) (tells_id g.remote) t f k next (inr (g, has, is)))
       fault_ok event.SccrqNotAcc is so = fault_shuts_ok (rw is (row_shut t.control.state event.SccrqNotAcc (busy t f) f.live tt))
       fault_ok event.SccrpNotAcc is so = fault_shuts_ok (rw is (row_shut t.control.state event.SccrpNotAcc (busy t f) f.live tt))
       fault_ok event.ScccnNotAcc is so = fault_shuts_ok (rw is (row_shut t.control.state event.ScccnNotAcc (busy t f) f.live tt))

@@ -31,6 +31,7 @@ use Rattle.end_model.specs.declared.moves.ClosedBy.{ClosedBy}
 use Rattle.end_model.specs.declared.moves.Move.{Move}
 use Rattle.end_model.specs.declared.moves.Move.TheVariants as move
 use Rattle.end_model.specs.Reading.{message_in, CallFault, call_fault_in, TunnelFault, tunnel_fault_in}
+use Rattle.end_model.specs.Messages.{tells_id}
 use Rattle.end_model.specs.Calls.{call_row, row_for, row_of_none, is_connection, is_told, is_up, is_clean_up}
 use Rattle.end_model.specs.Tunnels.{Turn, Tunnel, turn_of}
 use Rattle.end_model.specs.Reasons.{Reason, out_of_state, fault_reason, fault_error}
@@ -105,7 +106,7 @@ pick_is (move.FirstUp y) m a = absurd a
 pick_is (move.SecondUp y) m a = absurd a
 pick_is (move.EndHeard y) m a = absurd a
 pick_is (move.Declined y) m a = absurd a
-pick_is (move.Cleared i) m a = absurd a
+pick_is (move.Cleared i booked) m a = absurd a
 pick_is (move.Greeted y) m a = absurd a
 pick_is (move.NrRead y) m a = absurd a
 pick_is (move.LetGo y) m a = absurd a
@@ -459,17 +460,17 @@ module _ (e : End) (i : ℕ) (tunnel : Tunnel) (session : ℕ) (t : Turn) (h : I
     faulty_done kind.Fsr is about = absurd about
 
   -- of another letter: by the row of the tunnel's table
-  tunnel_done : (g : TunnelFault) → TunnelIsDone tunnel i g (takes e.role e.config calls (fault_reason g.cause) g.event None g.remote 0 t).moves
+  tunnel_done : (g : TunnelFault) → TunnelIsDone tunnel i g (takes e.role e.config calls (fault_reason g.cause) g.event (tells_id g.remote) t).moves
   unfolding takes takes_by
   tunnel_done g = record {
     stopped = λ row.
-        subst (λ x. IsStopped i 2 (Some (fault_error g.cause)) (takes_by e.role e.config calls (fault_reason g.cause) None g.remote 0 x t).moves)
+        subst (λ x. IsStopped i 2 (Some (fault_error g.cause)) (takes_by e.role e.config calls (fault_reason g.cause) (tells_id g.remote) x t).moves)
         (sym (ap (λ s. row_of rows s g.event) same ∙ row))
         (branch (λ (u : Turn). IsStopped i 2 (Some (fault_error g.cause)) u.moves) (state_number t.control.state == 1) _ _
         (λ one. rejects_done i (fault_reason g.cause) calls g.remote state.Closed t h)
         (λ other. closes_done i (fault_reason g.cause) calls t.control.remote state.Closed t h));
     cleaned = λ row.
-        subst (λ x. (m : ClosedBy) × Among (move.ClosedBy m) (takes_by e.role e.config calls (fault_reason g.cause) None g.remote 0 x t).moves × (m.tunnel ≡ i))
+        subst (λ x. (m : ClosedBy) × Among (move.ClosedBy m) (takes_by e.role e.config calls (fault_reason g.cause) (tells_id g.remote) x t).moves × (m.tunnel ≡ i))
         (sym (ap (λ s. row_of rows s g.event) same ∙ row)) (closed_by_done i calls state.Closed t h);
   }
 

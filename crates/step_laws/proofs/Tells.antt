@@ -3,7 +3,7 @@ use Rattle.std.proofs.Common.{◌≡◌, inl, inr, ⊎_elim, ℕ, Bool, true, fa
 use Rattle.std.proofs.lemmas.Bool.{eqb-true, eq-eqb, true≢false}
 use Rattle.std.specs.Prelude.{◌==◌, ◌||◌, not}
 use Rattle.std.specs.List.{AllByRecursion}
-use Rattle.id_source.specs.Spaces.{draws}
+use Rattle.id_source.specs.Spaces.{takes_id}
 use Rattle.id_table.specs.Ids.{at}
 use Rattle.id_source.specs.declared.IdError.{IdError}
 use Rattle.wire_base.specs.declared.why.Why.{Why}
@@ -108,13 +108,13 @@ module _ (e : End) (moment : ℕ) (ev : Event) (t : Tunnel) where
   unfolding granted
   granted_stands remote asks r h =
       by (is_reply (row_of_none e.role call_event.IcrqAcc).1) (remote == 0 || is_some (call_of t.calls remote)) (are_too_many t.calls)
-      (draws e.session_ids) refl refl refl refl h
+      (takes_id e.session_ids) refl refl refl refl h
     where
       so : (q : Reason) → refusal q ≡ refusal r → Stands e moment ev q.cause → Stands e moment ev r.cause
       so q is stands = let same : q ≡ r = cc in subst (λ (x : Reason). Stands e moment ev x.cause) same stands
 
       by : (a b c : Bool) (d : Result ℕ IdError) → is_reply (row_of_none e.role call_event.IcrqAcc).1 ≡ a
-          → (remote == 0 || is_some (call_of t.calls remote)) ≡ b → are_too_many t.calls ≡ c → draws e.session_ids ≡ d
+          → (remote == 0 || is_some (call_of t.calls remote)) ≡ b → are_too_many t.calls ≡ c → takes_id e.session_ids ≡ d
           → cond (not a) (Err out_of_state) (cond b (Err (reason cause.Session 2 (Some 5))) (cond c (Err (reason cause.Calls 4 None)) (left_of d))) ≡ Err r
           → Stands e moment ev r.cause
       by false b c d row used many drawn is = so out_of_state is (inl (t, AskedInVain remote asks (takes_none e.role row)))
@@ -130,13 +130,13 @@ module _ (e : End) (moment : ℕ) (ev : Event) (t : Tunnel) where
   unfolding granted
   granted_may remote s h =
       by (is_reply (row_of_none e.role call_event.IcrqAcc).1) (remote == 0 || is_some (call_of t.calls remote)) (are_too_many t.calls)
-      (draws e.session_ids) refl refl refl refl h
+      (takes_id e.session_ids) refl refl refl refl h
     where
-      no_error : (n : ℕ) → draws e.session_ids ≡ Ok n → (x : IdError) → draws e.session_ids ≡ Err x → ⊥
+      no_error : (n : ℕ) → takes_id e.session_ids ≡ Ok n → (x : IdError) → takes_id e.session_ids ≡ Err x → ⊥
       no_error n drawn x none = absurd cc
 
       by : (a b c : Bool) (d : Result ℕ IdError) → is_reply (row_of_none e.role call_event.IcrqAcc).1 ≡ a
-          → (remote == 0 || is_some (call_of t.calls remote)) ≡ b → are_too_many t.calls ≡ c → draws e.session_ids ≡ d
+          → (remote == 0 || is_some (call_of t.calls remote)) ≡ b → are_too_many t.calls ≡ c → takes_id e.session_ids ≡ d
           → cond (not a) (Err out_of_state) (cond b (Err (reason cause.Session 2 (Some 5))) (cond c (Err (reason cause.Calls 4 None)) (left_of d))) ≡ Ok s
           → MayBeGranted e t remote
       by false b c d row used many drawn is = absurd cc

@@ -16,7 +16,7 @@ use Rattle.end_model.specs.Tunnels.{Drawing, Tunnel, Env, Turn, turn_of}
 use Rattle.end_model.specs.Turn.{with_output, with_move, with_change, ends_call, ends_all}
 use Rattle.end_model.specs.Ticking.{clears, ticks_by, ticks}
 use Rattle.end_model.specs.Sending.{repeats}
-use Rattle.end_model.specs.Moments.{is_at_its_end}
+use Rattle.end_model.specs.Moments.{is_at_its_end, is_open}
 use Rattle.end_model.specs.Events.{turns, tunnel_after}
 use Rattle.end_model.specs.End.{drawing_of, End, env_of, placed, with_looks, after_turn, Turned, tick_of, ticks_of, end_after_all, after_all, ticks_all}
 use Rattle.step_laws.specs.Failing.{HasFailed, IsUnanswered}
@@ -117,13 +117,13 @@ module _ (e : End) (kept : AreKept e) (moment : ℕ) (block : List ℕ) (i : ℕ
 
   -- the turn in which the tunnel is removed
   abbrev removed : Turn
-  removed = ends_all (ids_of t.calls) (with_move (move.Cleared t.control.local) start)
+  removed = ends_all (ids_of t.calls) (with_move (move.Cleared t.control.local (is_open t.control.state)) start)
 
-  removed_ok : Ended e moment (ids_of t.calls) (with_move (move.Cleared t.control.local) start) removed
+  removed_ok : Ended e moment (ids_of t.calls) (with_move (move.Cleared t.control.local (is_open t.control.state)) start) removed
   unfolding with_move
-  removed_ok = ended_ok e moment (ids_of t.calls) (with_move (move.Cleared t.control.local) start) tt tt
+  removed_ok = ended_ok e moment (ids_of t.calls) (with_move (move.Cleared t.control.local (is_open t.control.state)) start) tt tt
 
-  removed_moves : removed.moves ≡ move.Cleared t.control.local ∷ []
+  removed_moves : removed.moves ≡ move.Cleared t.control.local (is_open t.control.state) ∷ []
   unfolding with_move
   removed_moves = removed_ok.moves
 
@@ -152,6 +152,7 @@ module _ (e : End) (kept : AreKept e) (moment : ℕ) (block : List ℕ) (i : ℕ
             there = subst (λ j. at e.tunnels j ≡ Some t) (sym k.local) is;
             ticks = refl;
             failed = failed;
+            established = refl;
             after = ap (λ j. record e { tunnels = without e.tunnels j; calls = with_looks (map cell.Kill (ids_of t.calls)) e.calls }) (sym k.local);
           },
           refl,

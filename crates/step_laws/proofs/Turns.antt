@@ -7,7 +7,7 @@ use Rattle.std.specs.Prelude.{nat_lt, drop, ◌==◌}
 use Rattle.std.proofs.lemmas.Bool.{eqb-true, ltb-true, true≢false}
 use Rattle.id_table.specs.Ids.{at, put, put-put, ids_of}
 use Rattle.id_table.specs.Order.{at_new, at_other, IsAbove, Ascends}
-use Rattle.id_source.specs.Spaces.{Space, draws, drawn, after_draw}
+use Rattle.id_source.specs.Spaces.{Space, takes_id, with_taken, after_id}
 use Rattle.id_source.specs.declared.IdError.{IdError}
 use Rattle.wire_base.specs.declared.why.Why.{Why}
 use Rattle.wire_base.specs.declared.cause.Cause.{Cause as CauseOf}
@@ -38,13 +38,13 @@ use Rattle.end_model.specs.Reading.{message_in, call_fault_in}
 use Rattle.end_model.specs.Calls.{call_row, row_for, row_of_none, advanced, rung, asked_for, is_request, is_reply, is_connection, is_up, are_too_many, is_clean_up}
 use Rattle.end_model.specs.Secrets.{response_by}
 use Rattle.step_laws.proofs.Secrets.{acceptable_proven, responds_so, hides_number}
-use Rattle.end_model.specs.Messages.{is_acceptable, request_of, hidden_request, connection}
+use Rattle.end_model.specs.Messages.{is_acceptable, request_of, hidden_request, connection, told_by, flags_of}
 use Rattle.end_model.specs.Tunnels.{Tunnel, Turn}
 use Rattle.end_model.specs.Reasons.{Reason}
 use Rattle.end_model.specs.Moments.{is_closed}
 use Rattle.end_model.specs.Asking.{granted, session_named, replied}
 use Rattle.end_model.specs.Refusing.{refused}
-use Rattle.end_model.specs.Channels.{may_take, counts_given, next_place, taken_place, has_room, learns_window, letter_of, letter_as}
+use Rattle.end_model.specs.Channels.{may_take, counts_given, next_place, taken_place, has_room, learns_window, letter_of, letter_as, peer_window}
 use Rattle.end_model.specs.Openings.{in_state, connected, confirms}
 use Rattle.end_model.specs.Events.{changed_at, tunnel_after, with_calls}
 use Rattle.end_model.specs.Turn.{with_output, with_move, with_change, with_call, with_new, drops, ends_call}
@@ -126,21 +126,21 @@ held_read w ls nr moment h =
 pub held_learnt : (peer_window : ℕ) (c : Control) (ls : List Letter) → Held c.channel.window ls → Held (learns_window peer_window c).channel.window ls
 held_learnt peer_window c ls h = branch (λ (d : Control). Held d.channel.window ls) (peer_window == 0) _ _ (λ none. h) (λ some. h)
 
-pub last_after : (s : Space) → (after_draw s).last ≡ s.last
-last_after s = by (draws s)
+pub last_after : (s : Space) → (after_id s).last ≡ s.last
+last_after s = by (takes_id s)
   where
-    by : (r : Result ℕ IdError) → (drawn r s).last ≡ s.last
+    by : (r : Result ℕ IdError) → (with_taken r s).last ≡ s.last
     by (Ok n) = refl
     by (Err x) = refl
 
-pub small_draw : (s : Space) (n : ℕ) → draws s ≡ Ok n → s.last < 65536 → n < 65536
-unfolding draws
+pub small_draw : (s : Space) (n : ℕ) → takes_id s ≡ Ok n → s.last < 65536 → n < 65536
+unfolding takes_id
 small_draw s n is small = grind (arith, rules)
 
-pub next_after : (s : Space) → 0 < s.next → 0 < (after_draw s).next
-next_after s some = by (draws s)
+pub next_after : (s : Space) → 0 < s.next → 0 < (after_id s).next
+next_after s some = by (takes_id s)
   where
-    by : (r : Result ℕ IdError) → 0 < (drawn r s).next
+    by : (r : Result ℕ IdError) → 0 < (with_taken r s).next
     by (Ok n) = omega arith
     by (Err x) = some
 
@@ -155,7 +155,7 @@ pub record ComesPlain (ev : Event) (x : End) (u : Tunnel) : Type 0 where
 pub record IsGranted (r : Role) (cs : List (ℕ × Call)) (sessions : Space) (s : ℕ) : Type 0 where
   pub row : is_reply (row_of_none r call_event.IcrqAcc).1 ≡ true
   pub few : are_too_many cs ≡ false
-  pub drawn : draws sessions ≡ Ok s
+  pub drawn : takes_id sessions ≡ Ok s
 
 module _ (e : End) (moment : ℕ) (ev : Event) (letters : List Letter) (calls : List (ℕ × Call)) (i : ℕ) where
   -- the end as the turn has it
@@ -335,7 +335,7 @@ module _ (e : End) (moment : ℕ) (ev : Event) (letters : List Letter) (calls : 
 
   adds_chain : (who : List ℕ) (s : ℕ) (t : Turn) → t.changes ≡ [] → (state_number t.control.state ≡ 3) ⊎ (state_number t.control.state ≡ 1)
       → are_too_many (with_calls t.changed calls) ≡ false → may_take t.control (with_calls t.changed calls) ≡ true → IsRing ev who → e.role ≡ Lac
-      → draws t.ids.sessions ≡ Ok s → t.on.moment ≡ moment → Chain moment ev e t.moves (at_turn t)
+      → takes_id t.ids.sessions ≡ Ok s → t.on.moment ≡ moment → Chain moment ev e t.moves (at_turn t)
       → Chain moment ev e (adds e.role who s t).moves (at_turn (adds e.role who s t))
   unfolding adds with_move with_new with_looks
   adds_chain who s t none goes few spare rings lac drawn now_is h =
@@ -363,13 +363,13 @@ module _ (e : End) (moment : ℕ) (ev : Event) (letters : List Letter) (calls : 
       subst (Holds t.control) (sym (with_calls-more t.changed s (Some d) calls))
       (holds_new t.control (with_calls t.changed calls) s d (rung_owes e.role who t.on.moment lac) few spare h.fits)
 
-  small_last : (t : Turn) → t.ids.sessions.last < 65536 → (after_draw t.ids.sessions).last < 65536
+  small_last : (t : Turn) → t.ids.sessions.last < 65536 → (after_id t.ids.sessions).last < 65536
   small_last t small = let l = last_after t.ids.sessions in omega (arith, l, small)
 
   -- over a tunnel that isn't open the call waits
   pub adds_ok : (who : List ℕ) (s : ℕ) (t : Turn) → t.changes ≡ [] → state_number t.control.state ≡ 1
       → are_too_many (with_calls t.changed calls) ≡ false → may_take t.control (with_calls t.changed calls) ≡ true → IsRing ev who → e.role ≡ Lac
-      → draws t.ids.sessions ≡ Ok s → TurnOk t → TurnOk (adds e.role who s t)
+      → takes_id t.ids.sessions ≡ Ok s → TurnOk t → TurnOk (adds e.role who s t)
   unfolding adds with_move with_new
   adds_ok who s t none waits few spare rings lac drawn h =
       let fit = adds_fit who s t few spare lac h in
@@ -392,7 +392,7 @@ module _ (e : End) (moment : ℕ) (ev : Event) (letters : List Letter) (calls : 
 
   adds_requested_ok : (who : List ℕ) (s : ℕ) (t : Turn) → t.changes ≡ [] → state_number t.control.state ≡ 3
       → are_too_many (with_calls t.changed calls) ≡ false → may_take t.control (with_calls t.changed calls) ≡ true → IsRing ev who → e.role ≡ Lac
-      → draws t.ids.sessions ≡ Ok s → s < 65536 → is_request (call_row e.role (rung e.role who t.on.moment).state call_event.TunnelOpen).1 ≡ true
+      → takes_id t.ids.sessions ≡ Ok s → s < 65536 → is_request (call_row e.role (rung e.role who t.on.moment).state call_event.TunnelOpen).1 ≡ true
       → has_room t.control ≡ true → TurnOk t → TurnOk (requested e.role e.config s (rung e.role who t.on.moment) (adds e.role who s t))
   unfolding requested gives_as with_change with_move with_call adds with_new
   adds_requested_ok who s t none is_open few spare rings lac drawn small row room h =
@@ -412,7 +412,7 @@ module _ (e : End) (moment : ℕ) (ev : Event) (letters : List Letter) (calls : 
   -- over an open one it is asked for at once, so that it owes two letters, and not three
   pub adds_asked_ok : (who : List ℕ) (s : ℕ) (t : Turn) → t.changes ≡ [] → state_number t.control.state ≡ 3
       → are_too_many (with_calls t.changed calls) ≡ false → may_take t.control (with_calls t.changed calls) ≡ true → IsRing ev who → e.role ≡ Lac
-      → draws t.ids.sessions ≡ Ok s → s < 65536 → TurnOk t → TurnOk (requests e.role e.config s (rung e.role who t.on.moment) (adds e.role who s t))
+      → takes_id t.ids.sessions ≡ Ok s → s < 65536 → TurnOk t → TurnOk (requests e.role e.config s (rung e.role who t.on.moment) (adds e.role who s t))
   unfolding requests adds with_move with_new
   adds_asked_ok who s t none is_open few spare rings lac drawn small h =
       branch TurnOk (is_request (call_row e.role (rung e.role who t.on.moment).state call_event.TunnelOpen).1) _ _
@@ -480,6 +480,7 @@ module _ (e : End) (moment : ℕ) (ev : Event) (letters : List Letter) (calls : 
         tunnel = t.control.local;
         session = s;
         remote = remote;
+        subscriber = c.subscriber;
         taken = taken_place t.control;
         given = next_place t.control;
       }) in
@@ -493,6 +494,7 @@ module _ (e : End) (moment : ℕ) (ev : Event) (letters : List Letter) (calls : 
           letter = hears.letter;
           takes = record { next = hears.next; taken_is = refl; spare = spare };
           says = hears.says;
+          subscriber = refl;
           row = row;
           room = room;
           given = refl;
@@ -561,10 +563,10 @@ module _ (e : End) (moment : ℕ) (ev : Event) (letters : List Letter) (calls : 
   pub end_heard_ok : (s session remote code : ℕ) (error : Option ℕ) (c : Call) (t : Turn) → state_number t.control.state ≡ 3
       → at (with_calls t.changed calls) s ≡ Some c → HearsNext ev (tunnel_after t letters calls) session (Cdn remote code error)
       → s ≡ session_named (with_calls t.changed calls) session remote → is_clean_up (row_for e.role c call_event.CdnCame).1 ≡ true
-      → may_take t.control (with_calls t.changed calls) ≡ true → TurnOk t → TurnOk (end_heard s t)
+      → may_take t.control (with_calls t.changed calls) ≡ true → TurnOk t → TurnOk (end_heard s (is_up c.state) t)
   unfolding end_heard ends_call with_output with_change with_move takes_one
   end_heard_ok s session remote code error c t is_open found hears named row spare h =
-      let m = move.EndHeard (record { tunnel = t.control.local; session = s; taken = taken_place t.control }) in
+      let m = move.EndHeard (record { tunnel = t.control.local; session = s; booked = is_up c.state; taken = taken_place t.control }) in
       let named_here : s ≡ session_named (with_calls t.changed calls) hears.letter.header.session remote =
       named ∙ ap (λ q. session_named (with_calls t.changed calls) q remote) (sym hears.says.session_is) in
       record {
@@ -583,6 +585,7 @@ module _ (e : End) (moment : ℕ) (ev : Event) (letters : List Letter) (calls : 
           session_is = named_here;
           named = named_so (with_calls t.changed calls) hears.letter.header.session remote s c named_here found;
           row = row;
+          booked = refl;
           after =
               let changed = with_calls-more t.changed s None calls in
               let looked = with_looks-more t.changes (cell.Kill s) (placed t.control.local t.added e.calls) in
@@ -598,24 +601,27 @@ module _ (e : End) (moment : ℕ) (ev : Event) (letters : List Letter) (calls : 
 
   -- ---- moves of the tunnel
 
-  pub connected_ok : (remote window session : ℕ) (o : Opening) (t : Turn) → t.control.state ≡ WaitCtlReply → HearsNext ev (tunnel_after t letters calls) session (Sccrp o)
+  pub connected_ok : (session : ℕ) (o : Opening) (t : Turn) → t.control.state ≡ WaitCtlReply → HearsNext ev (tunnel_after t letters calls) session (Sccrp o)
       → is_acceptable e.config.secret t.control.challenge o ≡ true
-      → remote ≡ o.tunnel → window ≡ o.window → may_take t.control (with_calls t.changed calls) ≡ true → has_room t.control ≡ true → TurnOk t
-      → TurnOk (connected e.config o.challenge remote window Established t)
+      → may_take t.control (with_calls t.changed calls) ≡ true → has_room t.control ≡ true → TurnOk t
+      → TurnOk (connected e.config (told_by o) Established t)
   unfolding connected gives with_move takes_one
-  connected_ok remote window session o t state hears good is is_window spare room h =
+  connected_ok session o t state hears good spare room h =
+      let window = o.window in
       let proven = acceptable_proven e.config.secret t.control.challenge o good in
       let response = response_by 3 e.config.secret o.challenge in
       let l = letter_of 0 (Scccn response) in
       let m = move.Connected (record {
         tunnel = t.control.local;
-        remote = remote;
+        peer = t.control.peer;
+        remote = o.tunnel;
         window = window;
+        flags = flags_of o.failover;
         response = response;
         taken = taken_place t.control;
         given = next_place t.control;
       }) in
-      let c : Control = record t.control { remote = remote; state = Established } in
+      let c : Control = record t.control { remote = o.tunnel; flags = flags_of o.failover; state = Established } in
       record {
         chain = chain_more moment ev e (at_turn t) _ t.moves m h.chain (record {
           tunnel = tunnel_after t letters calls;
@@ -625,8 +631,10 @@ module _ (e : End) (moment : ℕ) (ev : Event) (letters : List Letter) (calls : 
           letter = hears.letter;
           takes = record { next = hears.next; taken_is = refl; spare = spare };
           said = hears.says.said;
-          remote = is;
-          window = is_window;
+          peer = refl;
+          remote = refl;
+          window = refl;
+          flags = refl;
           right = proven.right;
           able = proven.able;
           responds = responds_so 3 e.config.secret o.challenge;
@@ -653,7 +661,14 @@ module _ (e : End) (moment : ℕ) (ev : Event) (letters : List Letter) (calls : 
       → may_take t.control (with_calls t.changed calls) ≡ true → TurnOk t → TurnOk (confirms Established t)
   unfolding confirms with_move takes_one
   confirms_ok session response t state hears right spare h =
-      let m = move.Confirmed (record { tunnel = t.control.local; taken = taken_place t.control }) in
+      let m = move.Confirmed (record {
+        tunnel = t.control.local;
+        peer = t.control.peer;
+        remote = t.control.remote;
+        window = peer_window t.control;
+        flags = t.control.flags;
+        taken = taken_place t.control;
+      }) in
       record {
         chain = chain_more moment ev e (at_turn t) _ t.moves m h.chain (record {
           tunnel = tunnel_after t letters calls;
@@ -664,6 +679,10 @@ module _ (e : End) (moment : ℕ) (ev : Event) (letters : List Letter) (calls : 
           takes = record { next = hears.next; taken_is = refl; spare = spare };
           said = hears.says.said;
           right = right;
+          peer = refl;
+          remote = refl;
+          window = refl;
+          flags = refl;
           after = rw (put-put e.tunnels t.control.local (tunnel_after t letters calls) _) refl;
         });
         words = h.words;

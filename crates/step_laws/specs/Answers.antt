@@ -3,7 +3,7 @@ use Rattle.step_laws.specs.Callers.{IsRing}
 use Rattle.std.specs.Prelude.{◌≡◌, ◌⊎◌, ℕ, true, List, [], ◌∷◌, Option, Some, None, unwrap_or, Ok}
 use Rattle.std.specs.List.{flat_map}
 use Rattle.id_table.specs.Ids.{at}
-use Rattle.id_source.specs.Spaces.{draws}
+use Rattle.id_source.specs.Spaces.{takes_id}
 use Rattle.wire_base.specs.declared.cause.Cause.{Cause as CauseOf}
 use Rattle.wire_base.specs.declared.cause.Cause.TheVariants as cause
 use Rattle.avp_codec.specs.declared.avp.Avp.{Avp}
@@ -169,7 +169,7 @@ pub record IsRepliedTo (e : End) (id remote : ℕ) (s : Stepped) : Type 0 where
   pub only : answers_of s.moves ≡ move.Replied replied ∷ []
   pub tunnel : replied.tunnel ≡ id
   pub remote_is : replied.remote ≡ remote
-  pub drawn : draws e.session_ids ≡ Ok replied.session
+  pub drawn : takes_id e.session_ids ≡ Ok replied.session
   pub untold : causes_of s.outputs ≡ []
 
 abbrev pub GrantedAreRepliedTo : End → ℕ → Event → Stepped → Type 0
@@ -203,7 +203,7 @@ ring_of_move m = []
 
 -- a call of the session that is drawn is born in a tunnel, for the port that rings
 pub record IsBorn (e : End) (who : List ℕ) (m : Added) : Type 0 where
-  pub drawn : draws e.session_ids ≡ Ok m.session
+  pub drawn : takes_id e.session_ids ≡ Ok m.session
   pub subscriber_is : m.subscriber ≡ who
 
 -- over the least tunnel to the LNS that is open the call is asked for; where none is, it waits over the least whose SCCRQ isn't
@@ -214,7 +214,7 @@ pub data RingIsAnswered (e : End) (who : List ℕ) (s : Stepped) : Type 0 where
   Waits : (a : Added) → flat_map ring_of_move s.moves ≡ move.Added a ∷ [] → IsBorn e who a → HasNone e Established
       → IsLeast e WaitCtlReply a.tunnel → RingIsAnswered e who s
   Opens : (o : Opened) (a : Added) → flat_map ring_of_move s.moves ≡ move.Opened o ∷ move.Added a ∷ [] → IsBorn e who a
-      → draws e.tunnel_ids ≡ Ok o.tunnel → o.peer ≡ e.config.lns → a.tunnel ≡ o.tunnel → HasNone e Established → HasNone e WaitCtlReply → RingIsAnswered e who s
+      → takes_id e.tunnel_ids ≡ Ok o.tunnel → o.peer ≡ e.config.lns → a.tunnel ≡ o.tunnel → HasNone e Established → HasNone e WaitCtlReply → RingIsAnswered e who s
   IsRefused : (c : CauseOf) → flat_map ring_of_move s.moves ≡ [] → flat_map cause_of_output s.outputs ≡ c ∷ [] → RingIsAnswered e who s
 
 -- ---- each step

@@ -2,7 +2,7 @@
 use Rattle.std.specs.Prelude.{◌≡◌, ◌⊎◌, ℕ, Bool, true, false, List, Option, Some, None, is_some, Ok, Err}
 use Rattle.id_table.specs.Ids.{at}
 use Rattle.id_source.specs.declared.IdError.{IdError}
-use Rattle.id_source.specs.Spaces.{draws}
+use Rattle.id_source.specs.Spaces.{takes_id}
 use Rattle.wire_base.specs.declared.cause.Cause.{Cause as CauseOf}
 use Rattle.wire_base.specs.declared.cause.Cause.TheVariants as cause
 use Rattle.control_message.specs.declared.kind.Kind.{Kind}
@@ -98,7 +98,7 @@ pub record MayBeGranted (e : End) (t : Tunnel) (remote : ℕ) : Type 0 where
   pub takes : TakesNoCalls e → ⊥
   pub free : IsIdInUse t remote → ⊥
   pub few : has_all_calls t.calls ≡ false
-  pub ids : (x : IdError) → draws e.session_ids ≡ Err x → ⊥
+  pub ids : (x : IdError) → takes_id e.session_ids ≡ Err x → ⊥
 
 -- a message that the table has no good use for: a request to an end that takes none, or that names a call; a reply to an end that
 -- asks for none; a reply or a connection that comes to a call that doesn't wait for it
@@ -229,14 +229,14 @@ pub data IsOutOfOrder (e : End) (ev : Event) : Type 0 where
 -- a space of ids is at its end, and a ring, the opening of a tunnel or a request wants one of it
 pub data LackIds (e : End) (ev : Event) : Type 0 where
   ForRing : (t : Tunnel) (x : IdError) → RingsOver e ev t → has_all_calls t.calls ≡ false → may_take t.control t.calls ≡ true
-      → draws e.session_ids ≡ Err x → LackIds e ev
-  ForNew : RingsNew e ev → has_all_tunnels e ≡ false → ((x : IdError) × (draws e.session_ids ≡ Err x)) ⊎ ((x : IdError) × (draws e.tunnel_ids ≡ Err x)) → LackIds e ev
-  ForOpening : (x : IdError) → ev ≡ OpenTunnel → has_all_tunnels e ≡ false → draws e.tunnel_ids ≡ Err x → LackIds e ev
+      → takes_id e.session_ids ≡ Err x → LackIds e ev
+  ForNew : RingsNew e ev → has_all_tunnels e ≡ false → ((x : IdError) × (takes_id e.session_ids ≡ Err x)) ⊎ ((x : IdError) × (takes_id e.tunnel_ids ≡ Err x)) → LackIds e ev
+  ForOpening : (x : IdError) → ev ≡ OpenTunnel → has_all_tunnels e ≡ false → takes_id e.tunnel_ids ≡ Err x → LackIds e ev
   ForRequest : (t : Tunnel) (remote : ℕ) (x : IdError) → Asks e ev t remote → (TakesNoCalls e → ⊥) → (IsIdInUse t remote → ⊥)
       → has_all_calls t.calls ≡ false
-      → draws e.session_ids ≡ Err x → LackIds e ev
+      → takes_id e.session_ids ≡ Err x → LackIds e ev
   ForPeer : (o : Opening) (x : IdError) → WouldOpen e ev o → is_acceptable e.config.secret None o ≡ true → has_all_tunnels e ≡ false
-      → draws e.tunnel_ids ≡ Err x → LackIds e ev
+      → takes_id e.tunnel_ids ≡ Err x → LackIds e ev
 
 -- what a cause says; those that aren't told yet say nothing that can be so
 abbrev pub Stands : End → ℕ → Event → CauseOf → Type 0

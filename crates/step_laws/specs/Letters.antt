@@ -60,11 +60,11 @@ letter_at t number = slice_get t.letters (place_of t.control.channel number)
 -- keeps; an acknowledgement alone; or a frame that a move of the step sends. Nr counts what the tunnel has taken
 pub data Carries (t : Tunnel) (moves : List Move) (bytes : List ℕ) (o : Origin) : Type 0 where
   ALetter : (l : wire.Letter) (number : ℕ) → number < 2 ^ 64 → letter_at t number ≡ Some l
-      → o ≡ origin.Control (record { tunnel = t.control.local; epoch = 0; ns = number; nr = t.control.channel.inbox.taken; empty = false })
+      → o ≡ origin.Control (record { tunnel = t.control.local; ns = number; nr = t.control.channel.inbox.taken; empty = false })
       → bytes ≡ control_bytes t.control.remote l.session (on_wire number) (on_wire t.control.channel.inbox.taken) l.avps
       → Carries t moves bytes o
   Nothing : (number : ℕ)
-      → o ≡ origin.Control (record { tunnel = t.control.local; epoch = 0; ns = number; nr = t.control.channel.inbox.taken; empty = true })
+      → o ≡ origin.Control (record { tunnel = t.control.local; ns = number; nr = t.control.channel.inbox.taken; empty = true })
       → bytes ≡ control_bytes t.control.remote 0 (on_wire number) (on_wire t.control.channel.inbox.taken) [] → Carries t moves bytes o
   AFrame : (f : FrameSent) → Among (move.FrameSent f) moves → f.tunnel ≡ t.control.local → f.peer ≡ t.control.peer
       → o ≡ origin.Data f.session → bytes ≡ data_bytes t.control.remote f.remote None f.frame → Carries t moves bytes o

@@ -4,7 +4,7 @@ use Rattle.std.specs.Prelude.{◌≡◌, ℕ, ◌+◌, ◌%◌, ◌<◌, ◌≤�
 use Rattle.wire_base.specs.declared.why.Why.{Why}
 use Rattle.id_table.specs.Ids.{at, put, without, ids_of}
 use Rattle.id_source.specs.declared.IdError.{IdError}
-use Rattle.id_source.specs.Spaces.{draws, after_draw}
+use Rattle.id_source.specs.Spaces.{takes_id, after_id}
 use Rattle.l2tp_header.specs.declared.header.Header.{Header}
 use Rattle.l2tp_header.specs.Reading.{header_of}
 use Rattle.control_message.specs.declared.message.Message.{Message}
@@ -68,12 +68,12 @@ use Rattle.end_model.specs.Reading.{body_of, message_in, CallFault, call_fault_i
 use Rattle.session_looks.specs.Frames.{side_of}
 use Rattle.end_model.specs.Calls.{row_for, row_of_none, advanced, rung, asked_for, is_request, is_reply, is_connection, is_told, is_up, owed_by, is_clean_up}
 use Rattle.end_model.specs.Tunnels.{Tunnel}
-use Rattle.end_model.specs.Channels.{place, next_place, taken_place, letter_of, letter_as, counts_given, counts_taken, counts_acked, counts_sent, counts_repeated}
+use Rattle.end_model.specs.Channels.{place, next_place, taken_place, peer_window, letter_of, letter_as, counts_given, counts_taken, counts_acked, counts_sent, counts_repeated}
 use Rattle.end_model.specs.Openings.{in_state}
-use Rattle.end_model.specs.Messages.{opening_of, request_of, connection, event_by}
+use Rattle.end_model.specs.Messages.{flags_of, opening_of, request_of, connection, event_by}
 use Rattle.end_model.specs.Asking.{session_named}
 use Rattle.end_model.specs.Reasons.{fault_error}
-use Rattle.end_model.specs.Moments.{is_closed}
+use Rattle.end_model.specs.Moments.{is_closed, is_open}
 use Rattle.end_model.specs.Links.{with_link, link_after, is_first_open, looks_of}
 use Rattle.step_laws.specs.Failing.{HasFailed}
 pub use Rattle.step_laws.specs.Links.{HearsFrame}
@@ -134,6 +134,7 @@ begun local peer remote state moment challenge = record {
   made = moment;
   heard = moment;
   closed = 0;
+  flags = 0;
   challenge = challenge;
 }
 
@@ -143,13 +144,13 @@ learns_window window c = if window == 0 then c else record c { channel = learnt_
 
 pub record Opens (e : End) (moment : ℕ) (m : Opened) (x : End) : Type 0 where
   pub few : length e.tunnels < 1024
-  pub drawn : draws e.tunnel_ids ≡ Ok m.tunnel
+  pub drawn : takes_id e.tunnel_ids ≡ Ok m.tunnel
   pub given : m.given ≡ place 0
   pub peer : m.peer ≡ e.config.lns
   pub role : e.role ≡ Lac
   pub asks : Asks e.config.secret m.challenge
   pub after : x ≡ record (with_tunnel e m.tunnel (with_letter 0 (Sccrq (opening_of e.role e.config m.challenge None m.tunnel)) (new_tunnel (begun m.tunnel m.peer 0 WaitCtlReply moment m.challenge)))) {
-    tunnel_ids = after_draw e.tunnel_ids;
+    tunnel_ids = after_id e.tunnel_ids;
   }
 
 -- no tunnel of this end is the other end of the peer's with this id yet
@@ -166,11 +167,11 @@ pub record Accepts (e : End) (moment : ℕ) (ev : Event) (m : Accepted) (x : End
   pub able : LacksSecret e.config.secret opening.challenge → ⊥
   pub asks : Asks e.config.secret m.challenge
   pub responds : Responds 2 e.config.secret opening.challenge m.response
-  pub drawn : draws e.tunnel_ids ≡ Ok m.tunnel
+  pub drawn : takes_id e.tunnel_ids ≡ Ok m.tunnel
   pub taken : m.taken ≡ place 0
   pub given : m.given ≡ place 0
-  pub after : x ≡ record (with_tunnel e m.tunnel (with_letter 0 (Sccrp (opening_of e.role e.config m.challenge m.response m.tunnel)) (new_tunnel (counts_taken (learns_window m.window (begun m.tunnel m.peer m.remote WaitCtlConn moment m.challenge)))))) {
-    tunnel_ids = after_draw e.tunnel_ids;
+  pub after : x ≡ record (with_tunnel e m.tunnel (with_letter 0 (Sccrp (opening_of e.role e.config m.challenge m.response m.tunnel)) (new_tunnel (counts_taken (learns_window m.window (record (begun m.tunnel m.peer m.remote WaitCtlConn moment m.challenge) { flags = flags_of opening.failover })))))) {
+    tunnel_ids = after_id e.tunnel_ids;
   }
 
 pub record Connects (e : End) (ev : Event) (m : Connected) (x : End) : Type 0 where
@@ -181,8 +182,10 @@ pub record Connects (e : End) (ev : Event) (m : Connected) (x : End) : Type 0 wh
   pub letter : Came
   pub takes : Taking ev tunnel letter m.taken
   pub said : message_in letter.body ≡ Ok (Sccrp opening)
+  pub peer : m.peer ≡ tunnel.control.peer
   pub remote : m.remote ≡ opening.tunnel
   pub window : m.window ≡ opening.window
+  pub flags : m.flags ≡ flags_of opening.failover
   -- the peer answered rightly what it was asked, and is answered what it asks
   pub right : IsRight 2 e.config.secret tunnel.control.challenge opening.response
   pub able : LacksSecret e.config.secret opening.challenge → ⊥
@@ -190,7 +193,7 @@ pub record Connects (e : End) (ev : Event) (m : Connected) (x : End) : Type 0 wh
   pub room : has_room tunnel.control ≡ true
   pub given : m.given ≡ next_place tunnel.control
   pub after : x ≡ with_tunnel e m.tunnel (with_letter 0 (Scccn m.response) (record tunnel {
-    control = counts_taken (learns_window m.window (record tunnel.control { remote = m.remote; state = Established }));
+    control = counts_taken (learns_window m.window (record tunnel.control { remote = m.remote; flags = m.flags; state = Established }));
   }))
 
 pub record Confirms (e : End) (ev : Event) (m : Confirmed) (x : End) : Type 0 where
@@ -203,6 +206,11 @@ pub record Confirms (e : End) (ev : Event) (m : Confirmed) (x : End) : Type 0 wh
   pub takes : Taking ev tunnel letter m.taken
   pub said : message_in letter.body ≡ Ok (Scccn response)
   pub right : IsRight 3 e.config.secret tunnel.control.challenge response
+  -- what it told of itself before
+  pub peer : m.peer ≡ tunnel.control.peer
+  pub remote : m.remote ≡ tunnel.control.remote
+  pub window : m.window ≡ peer_window tunnel.control
+  pub flags : m.flags ≡ tunnel.control.flags
   pub after : x ≡ with_tunnel e m.tunnel (record tunnel { control = counts_taken (in_state Established tunnel.control) })
 
 -- a call is born: it has its place, and nothing is seen of it yet
@@ -216,9 +224,9 @@ pub record Adds (e : End) (moment : ℕ) (ev : Event) (m : Added) (x : End) : Ty
   pub spare : may_take tunnel.control tunnel.calls ≡ true
   pub rings : IsRing ev m.subscriber
   pub role : e.role ≡ Lac
-  pub drawn : draws e.session_ids ≡ Ok m.session
+  pub drawn : takes_id e.session_ids ≡ Ok m.session
   pub after : x ≡ record (with_tunnel e m.tunnel (record tunnel { calls = put tunnel.calls m.session (rung e.role m.subscriber moment) })) {
-    session_ids = after_draw e.session_ids;
+    session_ids = after_id e.session_ids;
     calls = put e.calls m.session (new_place m.tunnel);
   }
 
@@ -250,7 +258,7 @@ pub record GrantsCall (e : End) (t : Tunnel) (remote session : ℕ) : Type 0 whe
   pub lns : e.role ≡ Lns
   pub free : IsIdInUse t remote → ⊥
   pub few : length t.calls < 4096
-  pub drawn : draws e.session_ids ≡ Ok session
+  pub drawn : takes_id e.session_ids ≡ Ok session
 
 -- what stands against it, the first that counts, and the codes of the CDN that says so (RFC 2661 section 4.4.2): the end is a LAC, which
 -- asks for calls itself; the id that is told is 0, or that of a live call of the tunnel; the tunnel has 4,096 calls; no session id is left
@@ -258,7 +266,7 @@ pub data DeniesCall (e : End) (t : Tunnel) (remote result : ℕ) (error : Option
   AsksItself : e.role ≡ Lac → result ≡ 2 → error ≡ Some 5 → DeniesCall e t remote result error
   HasUsedId : e.role ≡ Lns → IsIdInUse t remote → result ≡ 2 → error ≡ Some 5 → DeniesCall e t remote result error
   HasAllCalls : e.role ≡ Lns → (IsIdInUse t remote → ⊥) → 4096 ≤ length t.calls → result ≡ 4 → error ≡ None → DeniesCall e t remote result error
-  HasNoSession : e.role ≡ Lns → (IsIdInUse t remote → ⊥) → length t.calls < 4096 → (x : IdError) → draws e.session_ids ≡ Err x
+  HasNoSession : e.role ≡ Lns → (IsIdInUse t remote → ⊥) → length t.calls < 4096 → (x : IdError) → takes_id e.session_ids ≡ Err x
       → result ≡ 4 → error ≡ None → DeniesCall e t remote result error
 
 pub record Replies (e : End) (moment : ℕ) (ev : Event) (m : Replied) (x : End) : Type 0 where
@@ -276,13 +284,13 @@ pub record Replies (e : End) (moment : ℕ) (ev : Event) (m : Replied) (x : End)
   pub granted : GrantsCall e tunnel m.remote m.session
   pub row : is_reply (row_of_none e.role call_event.IcrqAcc).1 ≡ true
   pub few : has_all_calls tunnel.calls ≡ false
-  pub drawn : draws e.session_ids ≡ Ok m.session
+  pub drawn : takes_id e.session_ids ≡ Ok m.session
   pub room : has_room tunnel.control ≡ true
   pub given : m.given ≡ next_place tunnel.control
   pub after : x ≡ record (with_tunnel e m.tunnel (with_letter m.remote (Icrp m.session) (record tunnel {
     control = counts_taken tunnel.control;
     calls = put tunnel.calls m.session (asked_for e.role m.remote moment);
-  }))) { session_ids = after_draw e.session_ids; calls = put e.calls m.session (new_place m.tunnel) }
+  }))) { session_ids = after_id e.session_ids; calls = put e.calls m.session (new_place m.tunnel) }
 
 pub record ComesUpFirst (e : End) (moment : ℕ) (ev : Event) (m : FirstUp) (x : End) : Type 0 where
   pub tunnel : Tunnel
@@ -293,6 +301,7 @@ pub record ComesUpFirst (e : End) (moment : ℕ) (ev : Event) (m : FirstUp) (x :
   pub letter : Came
   pub takes : Taking ev tunnel letter m.taken
   pub says : Says letter m.session (Icrp m.remote)
+  pub subscriber : m.subscriber ≡ call.subscriber
   pub row : is_connection (row_for e.role call call_event.IcrpAcc).1 ≡ true
   pub room : has_room tunnel.control ≡ true
   pub given : m.given ≡ next_place tunnel.control
@@ -368,6 +377,7 @@ pub record TellsEnd (e : End) (moment : ℕ) (ev : Event) (m : EndTold) (x : End
   pub row : is_told (row_for e.role call on).1 ≡ true
   pub session : m.session < 65536
   pub remote : m.remote ≡ call.remote
+  pub booked : m.booked ≡ is_up call.state
   pub room : has_room tunnel.control ≡ true
   pub given : m.given ≡ next_place tunnel.control
   pub after : x ≡ without_call e m.tunnel (with_letter m.remote (Cdn m.session m.result m.error) tunnel) m.session
@@ -414,6 +424,7 @@ pub record HearsEnd (e : End) (ev : Event) (m : EndHeard) (x : End) : Type 0 whe
   pub session_is : m.session ≡ session_named tunnel.calls letter.header.session remote
   pub named : (letter.header.session ≡ m.session) ⊎ ((letter.header.session ≡ 0) × (call.remote ≡ remote))
   pub row : is_clean_up (row_for e.role call call_event.CdnCame).1 ≡ true
+  pub booked : m.booked ≡ is_up call.state
   pub after : x ≡ without_call e m.tunnel (record tunnel { control = counts_taken tunnel.control }) m.session
 
 pub record EndsSilently (e : End) (moment : ℕ) (ev : Event) (m : EndSilent) (x : End) : Type 0 where
@@ -426,6 +437,7 @@ pub record EndsSilently (e : End) (moment : ℕ) (ev : Event) (m : EndSilent) (x
   pub error : Option ℕ
   pub why : WhyEnds e tunnel ev moment m.session call on result error
   pub row : is_clean_up (row_for e.role call on).1 ≡ true
+  pub booked : m.booked ≡ is_up call.state
   pub after : x ≡ without_call e m.tunnel tunnel m.session
 
 -- ---- openings that are declined
@@ -440,7 +452,7 @@ pub data StandsAgainst (e : End) (o : Opening) (result : ℕ) (error : Option �
   Challenges : o.version ≡ 256 → is_some o.recovery ≡ false → length e.tunnels < 1024 → LacksSecret e.config.secret o.challenge → result ≡ 4 → error ≡ None
       → StandsAgainst e o result error
   NoId : o.version ≡ 256 → is_some o.recovery ≡ false → length e.tunnels < 1024 → (LacksSecret e.config.secret o.challenge → ⊥)
-      → (x : IdError) → draws e.tunnel_ids ≡ Err x → result ≡ 2 → error ≡ Some 4 → StandsAgainst e o result error
+      → (x : IdError) → takes_id e.tunnel_ids ≡ Err x → result ≡ 2 → error ≡ Some 4 → StandsAgainst e o result error
 
 -- why an opening is declined, by a StopCCN with these codes: something stands against an SCCRQ, or it has a fault, and none of this end's
 -- tunnels is the one that it comes for again; or it is an SCCRP
@@ -520,6 +532,7 @@ pub record Closes (e : End) (moment : ℕ) (ev : Event) (m : Closed) (x : End) :
   pub on : TunnelEvent
   pub why : WhyCloses e.config.secret tunnel ev on m
   pub row : row_of rows tunnel.control.state on ≡ (state.Closed, action.SendStopCcn)
+  pub booked : m.booked ≡ is_open tunnel.control.state
   pub room : has_room tunnel.control ≡ true
   pub given : m.given ≡ next_place tunnel.control
   pub after : x ≡ without_calls e m.tunnel (with_letter 0 (StopCcn m.tunnel m.result m.error) (record tunnel {
@@ -556,16 +569,18 @@ pub record ClosesBy (e : End) (moment : ℕ) (ev : Event) (m : ClosedBy) (x : En
   pub letter : Came
   pub takes : Taking ev tunnel letter m.taken
   pub says : SaysStop letter.body
+  pub booked : m.booked ≡ is_open tunnel.control.state
   pub after : x ≡ without_calls e m.tunnel (record tunnel {
     control = record (counts_taken tunnel.control) { state = state.Closed; closed = moment };
   }) tunnel.calls
 
 -- the tunnel isn't there any more, nor are its calls
-pub record Clears (e : End) (moment : ℕ) (ev : Event) (i : ℕ) (x : End) : Type 0 where
+pub record Clears (e : End) (moment : ℕ) (ev : Event) (i : ℕ) (booked : Bool) (x : End) : Type 0 where
   pub tunnel : Tunnel
   pub there : at e.tunnels i ≡ Some tunnel
   pub ticks : ev ≡ Tick
   pub failed : HasFailed moment tunnel.control
+  pub established : booked ≡ is_open tunnel.control.state
   pub after : x ≡ record e { tunnels = without e.tunnels i; calls = with_looks (map cell.Kill (ids_of tunnel.calls)) e.calls }
 
 -- nothing was heard in an open tunnel for 60 seconds, and it holds no letter
@@ -702,7 +717,7 @@ Does e moment ev (move.Declined m) x = Declines e ev m x
 Does e moment ev (move.Closed m) x = Closes e moment ev m x
 Does e moment ev (move.Rejected m) x = Rejects e moment ev m x
 Does e moment ev (move.ClosedBy m) x = ClosesBy e moment ev m x
-Does e moment ev (move.Cleared i) x = Clears e moment ev i x
+Does e moment ev (move.Cleared i booked) x = Clears e moment ev i booked x
 Does e moment ev (move.Greeted m) x = Greets e moment ev m x
 Does e moment ev (move.TookPlain m) x = TakesPlain e ev m x
 Does e moment ev (move.NrRead m) x = Reads e moment ev m x

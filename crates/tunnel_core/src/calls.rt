@@ -45,6 +45,7 @@ fn first_up(
         tunnel,
         session,
         remote,
+        subscriber: call.subscriber,
         taken,
         given,
     }))?;
@@ -107,8 +108,8 @@ pub(crate) fn take_connection(
 
 /// The call ends by the peer's CDN.
 #[tactic(auto, unfolding(end_model::specs::Connecting::end_heard))]
-fn hear_end(turn: &mut Turn, session: u32) -> Result<(), NoMemory>
-    ensures { OnOk result (turn.new ≡ end_heard session turn.old) }
+fn hear_end(turn: &mut Turn, session: u32, booked: bool) -> Result<(), NoMemory>
+    ensures { OnOk result (turn.new ≡ end_heard session booked turn.old) }
 {
     let taken = turn.taken_place();
     let tunnel = turn.control.local;
@@ -117,6 +118,7 @@ fn hear_end(turn: &mut Turn, session: u32) -> Result<(), NoMemory>
     turn.did(Move::EndHeard(EndHeard {
         tunnel,
         session,
+        booked,
         taken,
     }))
 }
@@ -139,5 +141,5 @@ pub(crate) fn take_end(
     if !is_clean_up(action) {
         return turn.take_plain();
     }
-    hear_end(turn, session)
+    hear_end(turn, session, is_up(call.state))
 }

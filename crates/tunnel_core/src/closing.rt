@@ -16,7 +16,7 @@ use control_message::Message;
 use end_model::{Call, EndSilent, EndTold, Move, Out, Role};
 use send_window::Letters;
 use tunnel_calls::TunnelCalls;
-use tunnel_rules::call_row;
+use tunnel_rules::{call_row, is_up};
 use wire_base::{Cause, NoMemory, Why};
 
 /// The result code of a CDN for a call whose carrier was lost (RFC 2661 section 4.4.2).
@@ -27,12 +27,16 @@ pub(crate) const ADMINISTRATIVE: u16 = 3;
 
 /// A call ends of which the peer knows nothing.
 #[tactic(auto, unfolding(end_model::specs::Closing::end_silent))]
-fn end_silently(turn: &mut Turn, session: u16) -> Result<(), NoMemory>
-    ensures { OnOk result (turn.new ≡ end_silent session turn.old) }
+fn end_silently(turn: &mut Turn, session: u16, booked: bool) -> Result<(), NoMemory>
+    ensures { OnOk result (turn.new ≡ end_silent session booked turn.old) }
 {
     let tunnel = turn.control.local;
     turn.end_call(u32::from(session))?;
-    turn.did(Move::EndSilent(EndSilent { tunnel, session }))
+    turn.did(Move::EndSilent(EndSilent {
+        tunnel,
+        session,
+        booked,
+    }))
 }
 
 /// A call ends, and the peer is told by a CDN with this result code and error code.
@@ -55,6 +59,7 @@ fn end_and_tell(
         tunnel,
         session,
         remote,
+        booked: is_up(call.state),
         result: code,
         error,
         given,
@@ -83,7 +88,7 @@ pub(crate) fn end_by(
     ensures { OnOk result (turn.new ≡ ends_by cause code error session call.now action turn.old) }
 {
     match action {
-        CallAction::CleanUp => end_silently(turn, session),
+        CallAction::CleanUp => end_silently(turn, session, is_up(call.state)),
         CallAction::SendCdn if turn.has_room() => {
             turn.output(Out::Cause { cause })?;
             end_and_tell(turn, session, call, code, error)

@@ -8,6 +8,7 @@ ghost use Rattle.end_model.specs.Hearing.{hears_faulty};
 
 use crate::hearing::take_letter;
 use crate::refusing::{answer, answer_no_call, refuse};
+use crate::told::Told;
 use crate::turn::Turn;
 use call_fsm::{CallAction, CallEvent, CallState};
 use control_message::Kind;
@@ -196,17 +197,9 @@ pub(crate) fn hear_fault(
         (Some(fault), _) => hear_call_fault(turn, role, calls, session, fault),
         (None, Some(fault)) => {
             let reason = fault_reason(fault.cause);
-            take_letter(
-                turn,
-                role,
-                config,
-                calls,
-                &reason,
-                fault.event,
-                &None,
-                fault.remote,
-                0,
-            )
+            let none = None;
+            let told = Told::id(&none, fault.remote);
+            take_letter(turn, role, config, calls, &reason, fault.event, &told)
         }
         (None, None) => turn.ignore(why),
     }

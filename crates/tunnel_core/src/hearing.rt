@@ -14,6 +14,7 @@ use crate::openings::{accept, confirm, connect};
 use crate::refusing::refuse;
 use crate::ringing::request_all;
 use crate::stopping::{close_tunnel, reject, take_stop};
+use crate::told::Told;
 use crate::turn::Turn;
 use control_message::{Message, Opening};
 use end_model::{Config, Role};
@@ -28,7 +29,7 @@ use session_looks::header_why;
 use tunnel_calls::TunnelCalls;
 use tunnel_fsm::{TunnelAction, TunnelEvent, TunnelState, advance};
 use tunnel_rules::{is_closed, may_take, same_state};
-use wire_base::{Bytes, NoMemory, Why};
+use wire_base::{NoMemory, Why};
 
 /// Takes the SCCRP, and asks for each call that waits for the tunnel.
 #[tactic(auto, unfolding(end_model::specs::Hearing::connects))]
@@ -37,23 +38,20 @@ fn connect_all(
     role: Role,
     config: &Config,
     calls: &TunnelCalls,
-    asked: &Option<Bytes>,
-    remote: u16,
-    window: u16,
+    told: &Told,
     next: TunnelState,
 ) -> Result<(), NoMemory>
-    ensures { OnOk result (turn.new ≡ connects role config.now calls.now.entries asked.now remote window next turn.old) }
+    ensures { OnOk result (turn.new ≡ connects role config.now calls.now.entries told.now next turn.old) }
 {
     if !turn.has_room() {
         return turn.drop_with(Why::Queue);
     }
     let sessions = calls.ids(turn.alloc)?;
-    connect(turn, config, asked, remote, window, next)?;
+    connect(turn, config, told, next)?;
     request_all(turn, role, config, sessions.as_slice(), calls)
 }
 
-/// Does what the table says on a letter about the tunnel, which asks this, and tells this id and this receive window of the peer;
-/// where its row closes the tunnel, it is for this reason. A tunnel of which the peer's id is known is closed first, and then takes
+/// Does what the table says on a letter about the tunnel, which tells this of the peer; where its row closes the tunnel, it is for this reason. A tunnel of which the peer's id is known is closed first, and then takes
 /// the letter as a closed one does.
 #[tactic(auto, unfolding(end_model::specs::Hearing::takes, end_model::specs::Hearing::takes_by))]
 pub(crate) fn take_letter(
@@ -63,20 +61,16 @@ pub(crate) fn take_letter(
     calls: &TunnelCalls,
     reason: &Reason,
     event: TunnelEvent,
-    asked: &Option<Bytes>,
-    remote: u16,
-    window: u16,
+    told: &Told,
 ) -> Result<(), NoMemory>
-    ensures { OnOk result (turn.new ≡ takes role config.now calls.now.entries reason.now event asked.now remote window turn.old) }
+    ensures { OnOk result (turn.new ≡ takes role config.now calls.now.entries reason.now event told.now turn.old) }
 {
     let (next, action) = advance(turn.control.state, event);
     match action {
-        TunnelAction::SendScccn => {
-            connect_all(turn, role, config, calls, asked, remote, window, next)
-        }
+        TunnelAction::SendScccn => connect_all(turn, role, config, calls, told, next),
         TunnelAction::SendStopCcn => {
             if turn.control.state == TunnelState::WaitCtlReply {
-                return reject(turn, reason, calls, remote, next);
+                return reject(turn, reason, calls, told.remote, next);
             }
             let known = turn.control.remote;
             close_tunnel(turn, reason, calls, known, next)?;
@@ -169,17 +163,9 @@ fn hear_sccrq(
     let reason = opening_reason(secret, &None, opening);
     let (good, bad) = (TunnelEvent::SccrqAcc, TunnelEvent::SccrqNotAcc);
     let event = event_by(good, bad, secret, &None, opening);
-    take_letter(
-        turn,
-        role,
-        config,
-        calls,
-        &reason,
-        event,
-        &None,
-        0,
-        opening.window,
-    )
+    let none = None;
+    let told = Told::id(&none, 0);
+    take_letter(turn, role, config, calls, &reason, event, &told)
 }
 
 /// An SCCRP, which answers what the tunnel asked.
@@ -198,11 +184,8 @@ fn hear_sccrp(
     let reason = opening_reason(secret, &asked, opening);
     let (good, bad) = (TunnelEvent::SccrpAcc, TunnelEvent::SccrpNotAcc);
     let event = event_by(good, bad, secret, &asked, opening);
-    let (remote, window) = (opening.tunnel, opening.window);
-    let asks = &opening.challenge;
-    take_letter(
-        turn, role, config, calls, &reason, event, asks, remote, window,
-    )
+    let told = Told::by(opening);
+    take_letter(turn, role, config, calls, &reason, event, &told)
 }
 
 /// An SCCCN, which answers what the tunnel asked.
@@ -220,7 +203,9 @@ fn hear_scccn(
     let asked = turn.control.challenge;
     let reason = connected_reason(secret, &asked, response);
     let event = connected_event(secret, &asked, response);
-    take_letter(turn, role, config, calls, &reason, event, &None, 0, 0)
+    let none = None;
+    let told = Told::id(&none, 0);
+    take_letter(turn, role, config, calls, &reason, event, &told)
 }
 
 /// The next letter of the peer.
@@ -242,7 +227,9 @@ fn hear_letter(
         Message::StopCcn { .. } => {
             let reason = out_of_order();
             let event = TunnelEvent::StopCcnCame;
-            take_letter(turn, role, config, calls, &reason, event, &None, 0, 0)
+            let none = None;
+            let told = Told::id(&none, 0);
+            take_letter(turn, role, config, calls, &reason, event, &told)
         }
         Message::Hello
         | Message::Ocrp
@@ -346,10 +333,7 @@ fn hear_first(
     ensures { OnOk result (turn.new ≡ first_said role config.now said.now turn.old) }
 {
     match said {
-        Ok(Message::Sccrq(opening)) => {
-            let asked = &opening.challenge;
-            accept(turn, role, config, asked, opening.tunnel, opening.window)
-        }
+        Ok(Message::Sccrq(opening)) => accept(turn, role, config, &Told::by(opening)),
         _ => turn.drop_with(Why::Tunnel),
     }
 }

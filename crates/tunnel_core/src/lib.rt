@@ -20,6 +20,7 @@ mod ringing;
 mod sending;
 mod stopping;
 mod ticking;
+mod told;
 mod turn;
 
 pub use env::{Env, Moves, Outputs};

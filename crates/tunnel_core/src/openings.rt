@@ -4,13 +4,14 @@ ghost use Rattle.std.specs.Prelude.{◌≡◌, ◌<◌, OnOk, IsTrue};
 ghost use Rattle.end_model.specs.Channels.{has_room};
 ghost use Rattle.end_model.specs.Openings.{opened, opens, accepted, accepts, connected, confirms};
 
+use crate::told::Told;
 use crate::turn::Turn;
 use control_message::Message;
 use end_model::{Accepted, Config, Confirmed, Connected, Move, Opened, Out, Role};
 use message_reading::{connection_by, reply_by};
 use tunnel_fsm::{TunnelEvent, TunnelState, advance};
 use tunnel_rules::{challenge_by, opening_of};
-use wire_base::{Bytes, Cause, NoMemory, Why};
+use wire_base::{Cause, NoMemory, Why};
 
 /// Opens a new tunnel, with this id, by an SCCRQ.
 #[tactic(auto, unfolding(end_model::specs::Openings::opened))]
@@ -55,39 +56,38 @@ pub(crate) fn open_tunnel(turn: &mut Turn, role: Role, config: &Config) -> Resul
     }
 }
 
-/// Makes a new tunnel, with this id, by the SCCRQ of a peer that assigned the other one, and answers by an SCCRP.
+/// Makes a new tunnel, with this id, by an SCCRQ that tells this of its peer, and answers by an SCCRP.
 #[tactic(auto, unfolding(end_model::specs::Openings::accepted))]
 fn accept_as(
     turn: &mut Turn,
     role: Role,
     config: &Config,
-    asked: &Option<Bytes>,
-    remote: u16,
-    window: u16,
+    told: &Told,
     local: u16,
 ) -> Result<(), NoMemory>
     requires some { 0 < local }
     requires room { IsTrue (has_room turn.old.control) }
-    ensures { OnOk result (turn.new ≡ accepted role config.now asked.now remote window local turn.old) }
+    ensures { OnOk result (turn.new ≡ accepted role config.now told.now local turn.old) }
 {
     let challenge = challenge_by(config, &turn.block);
-    let response = reply_by(&config.secret, asked);
+    let response = reply_by(&config.secret, told.asks);
     let opening = opening_of(turn.alloc, role, config, challenge, response, local)?;
     let given = turn.next_place();
     let taken = turn.taken_place();
     let peer = turn.control.peer;
     let (next, _) = advance(turn.control.state, TunnelEvent::SccrqAcc);
-    turn.control.remote = remote;
+    turn.control.remote = told.remote;
+    turn.control.flags = told.flags;
     turn.control.state = next;
     turn.control.challenge = challenge;
-    turn.learn_window(window);
+    turn.learn_window(told.window);
     turn.draw_tunnel(local);
     turn.take();
     turn.did(Move::Accepted(Accepted {
         tunnel: local,
         peer,
-        remote,
-        window,
+        remote: told.remote,
+        window: told.window,
         challenge,
         response,
         taken,
@@ -96,17 +96,15 @@ fn accept_as(
     turn.give(0, &Message::Sccrp(opening))
 }
 
-/// Makes a new tunnel by the SCCRQ of a peer that asks this, assigned this id and has this receive window.
+/// Makes a new tunnel by an SCCRQ that tells this of its peer.
 #[tactic(auto, unfolding(end_model::specs::Openings::accepts, end_model::specs::Openings::accepts_by))]
 pub(crate) fn accept(
     turn: &mut Turn,
     role: Role,
     config: &Config,
-    asked: &Option<Bytes>,
-    remote: u16,
-    window: u16,
+    told: &Told,
 ) -> Result<(), NoMemory>
-    ensures { OnOk result (turn.new ≡ accepts role config.now asked.now remote window turn.old) }
+    ensures { OnOk result (turn.new ≡ accepts role config.now told.now turn.old) }
 {
     match turn.next_tunnel() {
         Err(_) => turn.drop_with(Why::Tunnel),
@@ -114,37 +112,39 @@ pub(crate) fn accept(
             if !turn.has_room() {
                 return turn.drop_with(Why::Queue);
             }
-            accept_as(turn, role, config, asked, remote, window, local as u16)
+            accept_as(turn, role, config, told, local as u16)
         }
     }
 }
 
-/// Takes the SCCRP of the peer, learns the id that it assigned and its receive window, and connects the tunnel by an
-/// SCCCN, which answers what the peer asks.
+/// Takes the SCCRP of the peer, learns what it tells of itself, and connects the tunnel by an SCCCN, which answers what the
+/// peer asks.
 #[tactic(auto, unfolding(end_model::specs::Openings::connected))]
 pub(crate) fn connect(
     turn: &mut Turn,
     config: &Config,
-    asked: &Option<Bytes>,
-    remote: u16,
-    window: u16,
+    told: &Told,
     next: TunnelState,
 ) -> Result<(), NoMemory>
     requires room { IsTrue (has_room turn.old.control) }
-    ensures { OnOk result (turn.new ≡ connected config.now asked.now remote window next turn.old) }
+    ensures { OnOk result (turn.new ≡ connected config.now told.now next turn.old) }
 {
-    let response = connection_by(&config.secret, asked);
+    let response = connection_by(&config.secret, told.asks);
     let given = turn.next_place();
     let taken = turn.taken_place();
     let tunnel = turn.control.local;
-    turn.control.remote = remote;
+    let peer = turn.control.peer;
+    turn.control.remote = told.remote;
+    turn.control.flags = told.flags;
     turn.control.state = next;
-    turn.learn_window(window);
+    turn.learn_window(told.window);
     turn.take();
     turn.did(Move::Connected(Connected {
         tunnel,
-        remote,
-        window,
+        peer,
+        remote: told.remote,
+        window: told.window,
+        flags: told.flags,
         response,
         taken,
         given,
@@ -158,8 +158,15 @@ pub(crate) fn confirm(turn: &mut Turn, next: TunnelState) -> Result<(), NoMemory
     ensures { OnOk result (turn.new ≡ confirms next turn.old) }
 {
     let taken = turn.taken_place();
-    let tunnel = turn.control.local;
+    let control = turn.control;
     turn.control.state = next;
     turn.take();
-    turn.did(Move::Confirmed(Confirmed { tunnel, taken }))
+    turn.did(Move::Confirmed(Confirmed {
+        tunnel: control.local,
+        peer: control.peer,
+        remote: control.remote,
+        window: control.channel.peer_window(),
+        flags: control.flags,
+        taken,
+    }))
 }

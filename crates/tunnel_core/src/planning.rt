@@ -120,6 +120,7 @@ impl TunnelCore {
                 made: moment,
                 heard: moment,
                 closed: 0,
+                flags: 0,
                 challenge: None,
             },
             letters: Letters::new(alloc),

@@ -1,7 +1,7 @@
 //! Calls that ring, and are asked for (RFC 2661 section 7.4.1).
 
 ghost use Rattle.std.specs.Prelude.{◌≡◌, OnOk, IsTrue};
-ghost use Rattle.id_source.specs.Spaces.{draws};
+ghost use Rattle.id_source.specs.Spaces.{takes_id};
 ghost use Rattle.end_model.specs.Channels.{has_room};
 ghost use Rattle.end_model.specs.Ringing.{requested, requests, requests_all, adds, rings_over, rings_within, rings_new, rings};
 
@@ -144,7 +144,7 @@ fn ring_new(
     config: &Config,
     subscriber: [u8; 6],
 ) -> Result<(), NoMemory>
-    ensures { OnOk result (turn.new ≡ rings_new role config.now subscriber (draws turn.old.ids.sessions) (draws turn.old.ids.tunnels) turn.old) }
+    ensures { OnOk result (turn.new ≡ rings_new role config.now subscriber (takes_id turn.old.ids.sessions) (takes_id turn.old.ids.tunnels) turn.old) }
 {
     match (turn.next_session(), turn.next_tunnel()) {
         (Ok(session), Ok(local)) => {

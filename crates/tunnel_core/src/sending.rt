@@ -18,11 +18,11 @@ use wire_base::{Bytes, Letter, NoMemory, Why};
 /// How many bytes of pairs a message has room for.
 const ROOM: usize = 65_523;
 
-/// The place of a letter: no tunnel was recovered.
+/// The place of a letter.
 fn place(number: u64) -> Place
-    ensures { result ≡ record { epoch = 0; number = number } }
+    ensures { result ≡ record { number = number } }
 {
-    Place { epoch: 0, number }
+    Place { number }
 }
 
 impl Turn {
@@ -140,7 +140,6 @@ impl Turn {
     {
         Origin::Control(ControlOrigin {
             tunnel: self.control.local,
-            epoch: 0,
             ns: number,
             nr: self.control.channel.taken_count(),
             empty,

@@ -14,6 +14,7 @@ use message_reading::Reason;
 use send_window::Letters;
 use tunnel_calls::TunnelCalls;
 use tunnel_fsm::{TunnelAction, TunnelEvent, TunnelState, advance};
+use tunnel_rules::is_open;
 use wire_base::{Cause, NoMemory, Why};
 
 /// The result code of a StopCCN that clears a control connection for no fault (RFC 2661 section 4.4.2).
@@ -51,6 +52,7 @@ fn close_and_tell(
 {
     let given = turn.next_place();
     let tunnel = turn.control.local;
+    let booked = is_open(turn.control.state);
     turn.output(Out::Cause {
         cause: reason.cause,
     })?;
@@ -58,6 +60,7 @@ fn close_and_tell(
     turn.did(Move::Closed(Closed {
         tunnel,
         remote,
+        booked,
         result: reason.code,
         error: reason.error,
         given,
@@ -155,9 +158,14 @@ pub(crate) fn take_stop(
     let taken = turn.taken_place();
     let tunnel = turn.control.local;
     let remote = turn.control.remote;
+    let booked = is_open(turn.control.state);
     turn.take();
     shut(turn, calls, remote, next)?;
-    turn.did(Move::ClosedBy(ClosedBy { tunnel, taken }))
+    turn.did(Move::ClosedBy(ClosedBy {
+        tunnel,
+        booked,
+        taken,
+    }))
 }
 
 /// Closes the tunnel for administrative reasons, where its table's row says so.

@@ -14,7 +14,7 @@ use control_message::Message;
 use end_model::{Call, Greeted, Move, Role};
 use send_window::Letters;
 use tunnel_calls::TunnelCalls;
-use tunnel_rules::{PATIENCE, call_row, is_at_its_end, is_over, is_quiet, is_set_up};
+use tunnel_rules::{PATIENCE, call_row, is_at_its_end, is_open, is_over, is_quiet, is_set_up};
 use wire_base::{Cause, NoMemory};
 
 /// The result code of a CDN for a call that took too long to be set up (RFC 2661 section 4.4.2).
@@ -28,6 +28,7 @@ fn clear(turn: &mut Turn, calls: &TunnelCalls) -> Result<(), NoMemory>
     let sessions = calls.ids(turn.alloc)?;
     turn.did(Move::Cleared {
         tunnel: turn.control.local,
+        booked: is_open(turn.control.state),
     })?;
     turn.end_all(sessions.as_slice())?;
     turn.cleared = true;

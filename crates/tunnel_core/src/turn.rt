@@ -1,7 +1,7 @@
 //! A tunnel in a step, with what the step gives so far. What the tunnel stands for is changed only afterwards.
 
 ghost use Rattle.std.specs.Prelude.{◌≡◌, ◌≤◌, ◌<◌, IfOk, OnOk};
-ghost use Rattle.id_source.specs.Spaces.{draws};
+ghost use Rattle.id_source.specs.Spaces.{takes_id};
 ghost use Rattle.end_model.specs.Tunnels.{turn_of};
 ghost use Rattle.end_model.specs.Turn.{with_output, with_move, with_change, with_call, with_new, drops, ends_call, ends_all};
 ghost use Rattle.end_model.specs.Openings.{with_local};
@@ -123,7 +123,7 @@ impl Turn {
         ensures value { OnOk result (self.new ≡ with_new session call self.old) }
         ensures same { self.new.control ≡ self.old.control }
     {
-        let _drawn = self.sessions.draw();
+        let _drawn = self.sessions.take();
         self.added.push(session)?;
         self.changed.push((u32::from(session), Some(call)))
     }
@@ -161,20 +161,20 @@ impl Turn {
 
     /// The next tunnel id, which isn't drawn yet.
     pub(crate) fn next_tunnel(&self) -> Result<u32, IdError>
-        ensures value { result ≡ draws self.now.ids.tunnels }
+        ensures value { result ≡ takes_id self.now.ids.tunnels }
         ensures fits { IfOk result (λ id. (0 < id) × (id ≤ 65535)) }
     {
         let mut ids = self.tunnels;
-        ids.draw()
+        ids.take()
     }
 
     /// The next session id, which isn't drawn yet.
     pub(crate) fn next_session(&self) -> Result<u32, IdError>
-        ensures value { result ≡ draws self.now.ids.sessions }
+        ensures value { result ≡ takes_id self.now.ids.sessions }
         ensures fits { IfOk result (λ id. (0 < id) × (id ≤ 65535)) }
     {
         let mut ids = self.sessions;
-        ids.draw()
+        ids.take()
     }
 
     /// The tunnel gets the id that is drawn.
@@ -183,7 +183,7 @@ impl Turn {
         ensures value { self.new ≡ with_local local self.old }
         ensures same { self.new.control.channel ≡ self.old.control.channel }
     {
-        let _drawn = self.tunnels.draw();
+        let _drawn = self.tunnels.take();
         self.control.local = local;
     }
 }

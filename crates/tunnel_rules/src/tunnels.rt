@@ -2,7 +2,7 @@
 
 ghost use Rattle.std.specs.Prelude.{◌≡◌, ◌==◌, ◌&&◌};
 ghost use Rattle.end_model.specs.Channels.{may_take};
-ghost use Rattle.end_model.specs.Moments.{patience, is_over, is_closed, is_being_set_up, is_at_its_end};
+ghost use Rattle.end_model.specs.Moments.{patience, is_over, is_open, is_closed, is_being_set_up, is_at_its_end};
 ghost use Rattle.tunnel_fsm.specs.Rows.{state_number};
 
 use end_model::Control;
@@ -35,6 +35,13 @@ fn is_being_set_up(state: TunnelState) -> bool
     ensures { result ≡ is_being_set_up state }
 {
     matches!(state, TunnelState::WaitCtlReply | TunnelState::WaitCtlConn)
+}
+
+/// Whether a tunnel is open: it carries calls, and a checkpoint has it.
+pub fn is_open(state: TunnelState) -> bool
+    ensures { result ≡ is_open state }
+{
+    matches!(state, TunnelState::Established)
 }
 
 /// Whether a tunnel is closed: it takes letters without doing anything.
