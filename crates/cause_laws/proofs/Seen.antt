@@ -63,6 +63,7 @@ module _ {X : Type 0} (see : Node → X) (still : (node : Node) (births : List (
   move_same n w (move.Repeated m) = λ k. refl
   move_same n w (move.Quiet i) = λ k. refl
   move_same n w (move.Negotiated m) = λ k. refl
+  move_same n w (move.Counted m) = λ k. refl
   move_same n w (move.FrameSent m) = λ k. refl
   move_same n w (move.FrameUp m) = λ k. refl
 

@@ -150,6 +150,8 @@ does_below e x moment ev (move.Repeated m) most order few had h =
 does_below e x moment ev (move.Quiet k) most order few had h = same_below e x (most + 8192 * 0) (more_below e most (8192 * 0) had) (tunnels_are x _ h.after)
 does_below e x moment ev (move.Negotiated m) most order few had h =
     old_below e x (most + 8192 * 0) m.tunnel h.tunnel _ (more_below e most (8192 * 0) had) h.there (tunnels_are x _ h.after) refl
+does_below e x moment ev (move.Counted m) most order few had h =
+    old_below e x (most + 8192 * 0) m.tunnel h.tunnel _ (more_below e most (8192 * 0) had) h.there (tunnels_are x _ h.after) refl
 does_below e x moment ev (move.FrameSent m) most order few had h =
     same_below e x (most + 8192 * 0) (more_below e most (8192 * 0) had) (tunnels_are x _ h.after)
 does_below e x moment ev (move.FrameUp m) most order few had h =
@@ -192,6 +194,7 @@ does_give e x moment ev (move.LetGo m) d a h = inl refl
 does_give e x moment ev (move.Repeated m) d a h = inl refl
 does_give e x moment ev (move.Quiet k) d a h = inl refl
 does_give e x moment ev (move.Negotiated m) d a h = inl refl
+does_give e x moment ev (move.Counted m) d a h = inl refl
 does_give e x moment ev (move.FrameSent m) d a h = inl refl
 does_give e x moment ev (move.FrameUp m) d a h = inl refl
 

@@ -22,6 +22,7 @@ use Rattle.end_model.specs.declared.moves.EndSilent.{EndSilent}
 use Rattle.end_model.specs.declared.moves.LetGo.{LetGo}
 use Rattle.end_model.specs.declared.moves.Repeated.{Repeated}
 use Rattle.end_model.specs.declared.moves.Negotiated.{Negotiated}
+use Rattle.end_model.specs.declared.moves.Counted.{Counted}
 use Rattle.end_model.specs.declared.moves.FrameSent.{FrameSent}
 use Rattle.end_model.specs.declared.moves.FrameUp.{FrameUp}
 use Rattle.end_model.specs.declared.moves.Move.{Move}
@@ -30,7 +31,7 @@ use Rattle.end_model.specs.declared.tunnel.Call.{Call}
 use Rattle.end_model.specs.declared.tunnel.CallPlace.{CallPlace}
 use Rattle.end_names.specs.declared.role.Role.{Role}
 use Rattle.end_names.specs.Names.{calling_number}
-use Rattle.end_model.specs.Calls.{call_row, row_for, is_told, advanced, rung}
+use Rattle.end_model.specs.Calls.{call_row, row_for, is_told, advanced, counted, rung}
 use Rattle.end_model.specs.Tunnels.{Tunnel}
 use Rattle.end_model.specs.Channels.{has_room}
 use Rattle.end_model.specs.Messages.{request_of}
@@ -387,7 +388,7 @@ added_keeps accs n e x sender moment ev m d h =
       last_session = refl;
     })))
 
--- a call that waited waits on, where its link alone changed
+-- a call that waited waits on, where it has its state
 waits_linked : (calls : List (ℕ × Call)) (s : ℕ) (c k : Call) → at calls s ≡ Some c → k.state ≡ c.state → AllWait calls → AllWait (put calls s k)
 waits_linked calls s c k there same wait = waits_put calls s k (same ∙ wait s c there) wait
 
@@ -401,6 +402,27 @@ negotiated_keeps accs n e x sender moment ev m d h =
     let call = with_link (link_after o.calls.link (lcp_after o.calls.by o.calls.link.lcp)) o.call in
     let u : Tunnel = record t { calls = put t.calls m.session call } in
     still accs n e x sender moment ev (move.Negotiated m) d h tt refl
+    (subst (λ y. Within accs n y sender ev) (sym o.after)
+    (stays_keeps accs n e _ sender ev h.within m.tunnel t u o.there
+    (calls_stay t (put t.calls m.session call) live.outstanding
+    (calls_put t.calls m.session call live.calls (live.calls m.session o.call o.live))
+    (ascends-put m.session call t.calls live.order)
+    (inr (
+      waits_linked t.calls m.session o.call call o.live refl,
+      (λ one none. absurd (no_call t.calls m.session o.call o.live none)),
+    )))
+    (put_places e m.tunnel u _)))
+
+-- a data message of a call had a number
+pub counted_keeps : (accs : Accounts) (n : ℕ) (e x : End) (sender : Option Sender) (moment : ℕ) (ev : Event) (m : Counted) (d : Deed)
+    → IsMoved accs n e x sender moment ev (move.Counted m) d → Within (after accs d) n x sender ev
+counted_keeps accs n e x sender moment ev m d h =
+    let o = h.does in
+    let t = o.tunnel in
+    let live = h.within.end.live m.tunnel t o.there in
+    let call = counted o.call in
+    let u : Tunnel = record t { calls = put t.calls m.session call } in
+    still accs n e x sender moment ev (move.Counted m) d h tt refl
     (subst (λ y. Within accs n y sender ev) (sym o.after)
     (stays_keeps accs n e _ sender ev h.within m.tunnel t u o.there
     (calls_stay t (put t.calls m.session call) live.outstanding

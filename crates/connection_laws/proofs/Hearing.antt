@@ -1,5 +1,5 @@
 -- What is read of a packet: which tunnel sent it, and what that tunnel and the one that it is for know of each other.
-use Rattle.std.proofs.Common.{◌≡◌, ◌⊎◌, inl, inr, ⊎_elim, ℕ, zero, suc, ◌<◌, ◌≤◌, true, false, List, [], ◌∷◌, length, refl, sym, ap, ap₂, ◌∙◌, subst, Option, Some, None, Ok, arith}
+use Rattle.std.proofs.Common.{◌≡◌, ◌⊎◌, inl, inr, ⊎_elim, ℕ, zero, suc, ◌<◌, ◌≤◌, true, false, List, [], ◌∷◌, length, refl, sym, ap, ap₂, ◌∙◌, subst, Option, Some, Ok, arith}
 use Rattle.std.proofs.lemmas.Bool.{true≢false}
 use Rattle.std.specs.Prelude.{slice_get, unwrap_or}
 use Rattle.std.specs.List.{AllByRecursion}
@@ -168,8 +168,8 @@ module _ (codecs : Codecs) where
   -- a data message is no control message
   frame_read : (bytes : List ℕ) (h : Header) → IsData bytes → header_of bytes ≡ Ok h → h.control ≡ true → ⊥
   frame_read bytes h d e k =
-      let made = data_bytes d.tunnel d.session None d.frame in
-      let c = codecs.frame d.tunnel d.session None d.frame d.tunnel_fits d.session_fits tt in
+      let made = data_bytes d.tunnel d.session d.number d.frame in
+      let c = codecs.frame d.tunnel d.session d.number d.frame d.tunnel_fits d.session_fits d.number_fits in
       true≢false (sym k ∙ ap (λ (x : Header). x.control) (same_header codecs made h _ _ c (let a = d.are in rw a at e)))
 
   data_read : (secret : Option (List ℕ)) (bytes : List ℕ) (h : Header) → IsData bytes → header_of (uncovered_datagram secret bytes) ≡ Ok h → h.control ≡ true → ⊥

@@ -402,6 +402,7 @@ declines_none (move.LetGo m) plain n i = refl
 declines_none (move.Repeated m) plain n i = refl
 declines_none (move.Quiet k) plain n i = refl
 declines_none (move.Negotiated m) plain n i = refl
+declines_none (move.Counted m) plain n i = refl
 declines_none (move.FrameSent m) plain n i = refl
 declines_none (move.FrameUp m) plain n i = refl
 
@@ -533,6 +534,7 @@ entered_extends d (move.LetGo m) a h = extends_same a
 entered_extends d (move.Repeated m) a h = extends_same a
 entered_extends d (move.Quiet i) a h = extends_same a
 entered_extends d (move.Negotiated m) a h = extends_same a
+entered_extends d (move.Counted m) a h = extends_same a
 entered_extends d (move.FrameSent m) a h = extends_same a
 entered_extends d (move.FrameUp m) a h = extends_same a
 

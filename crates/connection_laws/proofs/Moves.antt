@@ -4,7 +4,7 @@ use Rattle.end_model.specs.declared.moves.Move.TheVariants as move
 use Rattle.frame_laws.specs.Codecs.{Codecs}
 use Rattle.connection_laws.proofs.Keeps.{MovesKeep}
 use Rattle.connection_laws.proofs.Beginning.{opened_keeps}
-use Rattle.connection_laws.proofs.Giving.{requested_keeps, end_told_keeps, greeted_keeps, added_keeps, end_silent_keeps, cleared_keeps, let_go_keeps, repeated_keeps, quiet_keeps, negotiated_keeps, frame_sent_keeps, frame_up_keeps}
+use Rattle.connection_laws.proofs.Giving.{requested_keeps, end_told_keeps, greeted_keeps, added_keeps, end_silent_keeps, cleared_keeps, let_go_keeps, repeated_keeps, quiet_keeps, counted_keeps, negotiated_keeps, frame_sent_keeps, frame_up_keeps}
 use Rattle.connection_laws.proofs.Accepting.{accepted_keeps}
 use Rattle.connection_laws.proofs.Connecting.{connected_keeps}
 use Rattle.connection_laws.proofs.PairMoves.{confirmed_keeps, replied_keeps, first_up_keeps, second_up_keeps, end_heard_keeps}
@@ -41,5 +41,6 @@ moves_keep codecs classes accs n e x sender moment ev (move.LetGo m) d h = let_g
 moves_keep codecs classes accs n e x sender moment ev (move.Repeated m) d h = repeated_keeps accs n e x sender moment ev m d h
 moves_keep codecs classes accs n e x sender moment ev (move.Quiet i) d h = quiet_keeps accs n e x sender moment ev i d h
 moves_keep codecs classes accs n e x sender moment ev (move.Negotiated m) d h = negotiated_keeps accs n e x sender moment ev m d h
+moves_keep codecs classes accs n e x sender moment ev (move.Counted m) d h = counted_keeps accs n e x sender moment ev m d h
 moves_keep codecs classes accs n e x sender moment ev (move.FrameSent m) d h = frame_sent_keeps accs n e x sender moment ev m d h
 moves_keep codecs classes accs n e x sender moment ev (move.FrameUp m) d h = frame_up_keeps accs n e x sender moment ev m d h

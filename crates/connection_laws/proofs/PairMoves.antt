@@ -25,7 +25,7 @@ use Rattle.end_model.specs.declared.moves.Move.TheVariants as move
 use Rattle.end_model.specs.declared.tunnel.Call.{Call}
 use Rattle.end_model.specs.declared.tunnel.CallPlace.{CallPlace}
 use Rattle.end_names.specs.declared.role.Role.{Role}
-use Rattle.end_model.specs.Calls.{advanced, asked_for}
+use Rattle.end_model.specs.Calls.{advanced, with_numbers, asked_for}
 use Rattle.end_model.specs.Tunnels.{Tunnel}
 use Rattle.end_model.specs.Channels.{has_room, taken_place, counts_taken}
 use Rattle.end_model.specs.Openings.{in_state}
@@ -258,12 +258,12 @@ module _ (codecs : Codecs) (classes : ClassIsTrue) (accs : Accounts) (n : ℕ) (
       let t = o.tunnel in
       let mv = move.SecondUp m in
       let live = h.within.end.live m.tunnel t o.there in
-      let call = with_link (begun_link o.magic) (advanced e.role call_event.IccnAcc moment o.call) in
+      let call = with_link (begun_link o.magic) (with_numbers m.sequenced (advanced e.role call_event.IccnAcc moment o.call)) in
       let u = took t t.control.state (put t.calls m.session call) in
-      said_takes codecs classes accs n e sender ev h.within m.tunnel t o.there m.session (Iccn o.speed o.framing o.sequenced)
+      said_takes codecs classes accs n e sender ev h.within m.tunnel t o.there m.session (Iccn o.speed o.framing m.sequenced)
       (record { letter = o.letter; next = o.takes.next; says = o.says })
       (open_so t o.open_is) (unclosed_so t o.open_is) tt
-      (after accs d) x u mv m.taken [] o.takes.taken_is (λ l s says. (s, (o.speed, o.framing, o.sequenced, same_alike l.message (Iccn o.speed o.framing o.sequenced) says tt)))
+      (after accs d) x u mv m.taken [] o.takes.taken_is (λ l s says. (s, (o.speed, o.framing, same_alike l.message (Iccn o.speed o.framing m.sequenced) says tt)))
       (took_on accs n m.tunnel t live (h.counts m.tunnel t o.there) t.control.state (put t.calls m.session call)
       (calls_put t.calls m.session call (record { remotes = live.calls; order = live.order })
       (rw (advanced_remote e.role call_event.IccnAcc moment o.call) (live.calls m.session o.call o.made)))

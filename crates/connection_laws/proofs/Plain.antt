@@ -32,4 +32,4 @@ module _ (codecs : Codecs) (secret : Option (List ℕ)) where
       ∙ stays_plain codecs secret tunnel 0 (on_wire ns) (on_wire nr) [] [] fits (omega arith) (on_wire_fits ns) (on_wire_fits nr) (omega arith) (codecs.pairs [] tt) refl
 
   pub data_plain : (bytes : List ℕ) → IsData bytes → uncovered_datagram secret bytes ≡ bytes
-  data_plain bytes d = rw d.are (frame_stays codecs secret d.tunnel d.session d.frame d.tunnel_fits d.session_fits)
+  data_plain bytes d = rw d.are (frame_stays codecs secret d.tunnel d.session d.number d.frame d.tunnel_fits d.session_fits d.number_fits)

@@ -148,13 +148,15 @@ module _ (ms : Accounts) (n : ℕ) (x : End) (sender : Option Sender) (ev : Even
     carries_ok moves fit o (carries.Nothing number origin_is are) =
         let c : ControlOrigin = record { tunnel = t.control.local; ns = number; nr = t.control.channel.inbox.taken; empty = true } in
         packet_of o c refl origin_is (copy o c refl (Nothing refl are))
-    carries_ok moves fit o (carries.AFrame f among tunnel_is same origin_is are) = record {
+    carries_ok moves fit o (carries.AFrame f among tunnel_is same number origin_is are) = record {
       from = within.end.node;
       sent = subst (λ q. OriginOk ms (packet o) q) (sym origin_is) (record {
         tunnel = t.control.remote;
         tunnel_fits = rw live.remote ok.remote;
         session = f.remote;
         session_fits = fit f among;
+        number = f.number;
+        number_fits = number;
         frame = f.frame;
         are = are;
       });

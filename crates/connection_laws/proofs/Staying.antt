@@ -285,6 +285,7 @@ declines_or_not (move.LetGo m) = inl tt
 declines_or_not (move.Repeated m) = inl tt
 declines_or_not (move.Quiet k) = inl tt
 declines_or_not (move.Negotiated m) = inl tt
+declines_or_not (move.Counted m) = inl tt
 declines_or_not (move.FrameSent m) = inl tt
 declines_or_not (move.FrameUp m) = inl tt
 

@@ -77,6 +77,7 @@ module _ (closings : ClosingsAreKnown) (accs : Accounts) (n : ℕ) (e : End) (se
   may_enter (move.Repeated m) x h = tt
   may_enter (move.Quiet i) x h = tt
   may_enter (move.Negotiated m) x h = tt
+  may_enter (move.Counted m) x h = tt
   may_enter (move.FrameSent m) x h = tt
   may_enter (move.FrameUp m) x h = tt
 

@@ -100,6 +100,7 @@ move_same n w (move.LetGo m) = same_ends w
 move_same n w (move.Repeated m) = same_ends w
 move_same n w (move.Quiet i) = same_ends w
 move_same n w (move.Negotiated m) = same_ends w
+move_same n w (move.Counted m) = same_ends w
 move_same n w (move.FrameSent m) = same_ends w
 move_same n w (move.FrameUp m) = same_ends w
 

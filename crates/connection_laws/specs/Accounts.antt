@@ -70,6 +70,7 @@ about (move.LetGo m) = m.tunnel
 about (move.Repeated m) = m.tunnel
 about (move.Quiet i) = i
 about (move.Negotiated m) = m.tunnel
+about (move.Counted m) = m.tunnel
 about (move.FrameSent m) = m.tunnel
 about (move.FrameUp m) = m.tunnel
 
@@ -110,6 +111,7 @@ entered_by d (move.LetGo m) a = a
 entered_by d (move.Repeated m) a = a
 entered_by d (move.Quiet i) a = a
 entered_by d (move.Negotiated m) a = a
+entered_by d (move.Counted m) a = a
 entered_by d (move.FrameSent m) a = a
 entered_by d (move.FrameUp m) a = a
 

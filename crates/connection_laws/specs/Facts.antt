@@ -1,11 +1,12 @@
 -- What holds of the tunnels of a world, of their channels and of the packets between them, after each line and each move.
-use Rattle.std.specs.Prelude.{◌≡◌, ◌⊎◌, ℕ, ◌+◌, ◌<◌, ◌≤◌, Bool, List, [], ◌∷◌, drop, map, length, slice_get, Option, Some, None, Ok, true, false}
+use Rattle.std.specs.Prelude.{◌≡◌, ◌⊎◌, ℕ, ◌+◌, ◌<◌, ◌≤◌, List, [], ◌∷◌, drop, map, length, slice_get, Option, Some, None, Ok, true, false}
 use Rattle.std.specs.List.{AllByRecursion}
 use Rattle.id_table.specs.Ids.{at}
 use Rattle.id_table.specs.Order.{Ascends}
 use Rattle.wire_base.specs.declared.letter.Letter as wire
 use Rattle.l2tp_header.specs.declared.header.Header.{Header}
 use Rattle.l2tp_header.specs.Reading.{header_of}
+use Rattle.l2tp_header.specs.Grammar.{FitsWord}
 use Rattle.l2tp_header.specs.Spelling.{control_bytes, data_bytes}
 use Rattle.avp_codec.specs.Spelling.{spelling}
 use Rattle.control_message.specs.declared.message.Message.{Message}
@@ -128,7 +129,7 @@ Tells l (move.Connected m) = (o : Opening) × (l.message ≡ Sccrp o) × (m.remo
 Tells l (move.Confirmed m) = (response : Option (List ℕ)) × (l.message ≡ Scccn response)
 Tells l (move.Replied m) = (serial : ℕ) × (calling : Option (List ℕ)) × (l.message ≡ Icrq m.remote serial calling)
 Tells l (move.FirstUp m) = (l.session ≡ m.session) × (l.message ≡ Icrp m.remote)
-Tells l (move.SecondUp m) = (l.session ≡ m.session) × ((speed : ℕ) × (framing : ℕ) × (sequenced : Bool) × (l.message ≡ Iccn speed framing sequenced))
+Tells l (move.SecondUp m) = (l.session ≡ m.session) × ((speed : ℕ) × (framing : ℕ) × (l.message ≡ Iccn speed framing m.sequenced))
 Tells l (move.Refused m) =
     ((serial : ℕ) × (calling : Option (List ℕ)) × (l.message ≡ Icrq m.remote serial calling)) ⊎ (l.message ≡ Icrp m.remote)
 Tells l (move.EndHeard m) =
@@ -380,8 +381,10 @@ pub record IsData (bytes : List ℕ) : Type 0 where
   pub tunnel_fits : tunnel < 65536
   pub session : ℕ
   pub session_fits : session < 65536
+  pub number : Option ℕ
+  pub number_fits : FitsWord number
   pub frame : List ℕ
-  pub are : bytes ≡ data_bytes tunnel session None frame
+  pub are : bytes ≡ data_bytes tunnel session number frame
 
 abbrev pub OriginOk : Accounts → Packet → Origin → Type 0
 OriginOk accs p (origin.Control o) = IsCopy (accs p.from o.tunnel) p o ⊎ IsRefusal accs p o

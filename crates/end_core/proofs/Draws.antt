@@ -13,13 +13,14 @@ use Rattle.lcp_end.specs.Steps.{Turn as LcpTurn}
 use Rattle.end_model.specs.declared.tunnel.Call.{Call}
 use Rattle.end_model.specs.declared.tunnel.Link.{Link}
 use Rattle.end_names.specs.declared.role.Role.{Role}
+use Rattle.end_model.specs.Calls.{counted}
 use Rattle.end_model.specs.Links.{lcp_frame}
 use Rattle.end_model.specs.Tunnels.{Drawing, Turn}
 use Rattle.end_model.specs.Turn.{with_output, with_move, with_change, drops, ends_call, ends_all, with_looks_of, with_call}
 use Rattle.end_model.specs.Ticking.{clears, greeted, greets, limits_at, limits_all, goes_quietly, ticks_by, ticks}
 use Rattle.end_model.specs.Sending.{gives, sends_letter, sends_now, lets_go, goes_by, lets_all_go, repeats, acknowledges, acknowledged_after, settles}
 use Rattle.end_model.specs.Closing.{end_silent, end_told, ends_by}
-use Rattle.end_model.specs.Frames.{carried}
+use Rattle.end_model.specs.Frames.{sends_frame, counts, carried}
 use Rattle.end_model.specs.Linking.{sends_packets, negotiated, links, ticks_link}
 
 -- what a turn drew
@@ -37,10 +38,19 @@ ended_drawn for result error s c call_action.CleanUp t = refl
 ended_drawn for result error s c call_action.SendCdn t = either _ _ _ t refl refl
 ended_drawn for result error s c a t = refl
 
+counts_drawn : (s : ℕ) (c : Call) (o : Option ℕ) (t : Turn) → drawn (counts s c o t) ≡ drawn t
+unfolding counts with_move with_call
+counts_drawn s c None t = refl
+counts_drawn s c (Some n) t = refl
+
+carried_drawn : (s : ℕ) (frame : List ℕ) (c : Call) (t : Turn) → drawn (carried s frame c t) ≡ drawn t
+unfolding carried sends_frame with_output with_move
+carried_drawn s frame c t = counts_drawn s c c.sequence (sends_frame s frame c t)
+
 packets_drawn : (s : ℕ) (ps : List (List ℕ)) (c : Call) (t : Turn) → drawn (sends_packets s ps c t) ≡ drawn t
-unfolding sends_packets carried with_output with_move
+unfolding sends_packets
 packets_drawn s [] c t = refl
-packets_drawn s (p ∷ ps) c t = packets_drawn s ps c (carried s (lcp_frame p) c t)
+packets_drawn s (p ∷ ps) c t = packets_drawn s ps (counted c) (carried s (lcp_frame p) c t) ∙ carried_drawn s (lcp_frame p) c t
 
 negotiated_drawn : (s : ℕ) (c : Call) (l : Link) (v : LcpTurn) (t : Turn) → drawn (negotiated s c l v t) ≡ drawn t
 unfolding negotiated with_looks_of with_move with_call

@@ -1,5 +1,5 @@
 -- Calls.
-use Rattle.std.specs.Prelude.{ℕ, ◌+◌, List, [], ◌∷◌, ◌++◌, replicate, Bool, true, false, ◌==◌, nat_le, nat_lt, length, ◌&&◌, None}
+use Rattle.std.specs.Prelude.{ℕ, ◌+◌, List, [], ◌∷◌, ◌++◌, replicate, Bool, true, false, ◌==◌, nat_le, nat_lt, length, ◌&&◌, ◌%◌, Option, Some, None}
 use Rattle.call_fsm.specs.declared.table.CallState.{CallState}
 use Rattle.call_fsm.specs.declared.table.CallState.TheVariants.{Idle}
 use Rattle.call_fsm.specs.declared.table.CallState.TheVariants as call
@@ -40,7 +40,7 @@ advanced role e moment c = gone_to (call_row role c.state e).0 e moment c
 
 -- a call that nothing came to yet
 abbrev pub idle_call : ℕ → List ℕ → Call
-idle_call remote who = record { remote = remote; state = Idle; since = 0; subscriber = who; steps = []; link = None }
+idle_call remote who = record { remote = remote; state = Idle; since = 0; subscriber = who; steps = []; link = None; sequence = None }
 
 -- a call that a subscriber rings for, and one that the peer asks for
 unfoldable pub rung : Role → List ℕ → ℕ → Call
@@ -96,6 +96,36 @@ abbrev pub are_too_many : List (ℕ × Call) → Bool
 are_too_many calls = nat_le 4096 (length calls)
 
 -- ---- frames
+
+-- the number of the first data message of a call, where its ICCN had Sequencing Required (RFC 2661 section 5.4)
+abbrev pub first_number : Bool → Option ℕ
+first_number true = Some 0
+first_number false = None
+
+-- of the one that goes next, in its header
+abbrev pub number_of : Option ℕ → Option ℕ
+number_of None = None
+number_of (Some n) = Some (n % 65536)
+
+-- and of the one behind it, and behind these
+abbrev pub number_after : Option ℕ → Option ℕ
+number_after None = None
+number_after (Some n) = Some ((n + 1) % 65536)
+
+abbrev pub number_behind : List (List ℕ) → Option ℕ → Option ℕ
+number_behind [] n = n
+number_behind (p ∷ ps) n = number_behind ps (number_after n)
+
+-- the call is connected by an ICCN, which may have had Sequencing Required
+abbrev pub with_numbers : Bool → Call → Call
+with_numbers sequenced c = record c { sequence = first_number sequenced }
+
+-- the call after one data message, and after these
+abbrev pub counted : Call → Call
+counted c = record c { sequence = number_after c.sequence }
+
+abbrev pub counted_all : List (List ℕ) → Call → Call
+counted_all ps c = record c { sequence = number_behind ps c.sequence }
 
 -- a PPP frame has 2 to 1,494 bytes, with its protocol field
 abbrev pub is_short : List ℕ → Bool

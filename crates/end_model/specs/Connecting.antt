@@ -4,7 +4,6 @@ use Rattle.id_table.specs.Ids.{at}
 use Rattle.wire_base.specs.declared.why.Why.TheVariants as why
 use Rattle.lcp_end.specs.Steps.{opened as link_opened}
 use Rattle.call_fsm.specs.declared.table.CallEvent.TheVariants as call_event
-use Rattle.call_fsm.specs.declared.table.CallState.TheVariants as call
 use Rattle.end_model.specs.declared.tunnel.Call.{Call}
 use Rattle.session_looks.specs.declared.look.CellChange.TheVariants as cell
 use Rattle.end_model.specs.declared.tunnel.Link.{Link}
@@ -14,7 +13,7 @@ use Rattle.end_model.specs.Tunnels.{Turn}
 use Rattle.end_model.specs.Channels.{next_place, taken_place, has_room}
 use Rattle.end_model.specs.Messages.{connection}
 use Rattle.end_model.specs.Reasons.{out_of_state}
-use Rattle.end_model.specs.Calls.{row_for, row_of_none, advanced, is_connection, is_up, is_clean_up}
+use Rattle.end_model.specs.Calls.{row_for, row_of_none, advanced, with_numbers, is_connection, is_up, is_clean_up}
 use Rattle.end_model.specs.Links.{new_link, with_link}
 use Rattle.end_model.specs.Turn.{with_move, with_change, with_call, drops, ends_call}
 use Rattle.end_model.specs.Sending.{gives, takes_one, takes_plain}
@@ -38,25 +37,26 @@ first_up_by role s remote (Some c) t =
     else answers_by out_of_state s c (row_for role c call_event.IcrpAcc).1 t
 
 -- the call is connected, and has its link
-unfoldable pub second_up : ℕ → Call → Turn → Turn
-second_up s c t =
+unfoldable pub second_up : Bool → ℕ → Call → Turn → Turn
+second_up sequenced s c t =
     with_change (cell.Bind s t.control.local t.control.peer)
-    (with_move (move.SecondUp (record { tunnel = t.control.local; session = s; taken = taken_place t.control }))
+    (with_move (move.SecondUp (record { tunnel = t.control.local; session = s; remote = c.remote; sequenced = sequenced; taken = taken_place t.control }))
     (with_call s c
     (takes_one t)))
 
 -- whose LCP is opened
-unfoldable pub connects_call : ℕ → Call → Link → Turn → Turn
-connects_call s c l t = negotiated s c l (link_opened t.on.moment l.lcp) (second_up s c t)
+unfoldable pub connects_call : Bool → ℕ → Call → Link → Turn → Turn
+connects_call sequenced s c l t = negotiated s c l (link_opened t.on.moment l.lcp) (second_up sequenced s c t)
 
-unfoldable pub linked_up : Role → ℕ → Call → Turn → Turn
-linked_up role s c t =
-    connects_call s (with_link (new_link t.on.block) (advanced role call_event.IccnAcc t.on.moment c)) (new_link t.on.block) t
+unfoldable pub linked_up : Role → Bool → ℕ → Call → Turn → Turn
+linked_up role sequenced s c t =
+    connects_call sequenced s (with_link (new_link t.on.block) (with_numbers sequenced (advanced role call_event.IccnAcc t.on.moment c)))
+    (new_link t.on.block) t
 
-unfoldable pub second_up_by : Role → ℕ → Option Call → Turn → Turn
-second_up_by role s None t = of_no_call out_of_state 0 (row_of_none role call_event.IccnAcc).1 t
-second_up_by role s (Some c) t =
-    if is_up (row_for role c call_event.IccnAcc).0 then linked_up role s c t
+unfoldable pub second_up_by : Role → Bool → ℕ → Option Call → Turn → Turn
+second_up_by role sequenced s None t = of_no_call out_of_state 0 (row_of_none role call_event.IccnAcc).1 t
+second_up_by role sequenced s (Some c) t =
+    if is_up (row_for role c call_event.IccnAcc).0 then linked_up role sequenced s c t
     else answers_by out_of_state s c (row_for role c call_event.IccnAcc).1 t
 
 -- the peer says that the call ended

@@ -62,7 +62,7 @@ unfoldable pub about_call : Role → List (ℕ × Call) → ℕ → Message → 
 about_call role calls session (Icrq remote serial calling) t =
     asked_by role session remote (granted role calls remote t.ids.sessions) (at calls session) t
 about_call role calls session (Icrp remote) t = first_up_by role session remote (at calls session) t
-about_call role calls session (Iccn speed framing sequenced) t = second_up_by role session (at calls session) t
+about_call role calls session (Iccn speed framing sequenced) t = second_up_by role sequenced session (at calls session) t
 about_call role calls session (Cdn remote code error) t = ends_named role calls (session_named calls session remote) t
 about_call role calls session (Ocrq remote) t = refuses (reason cause.Outgoing facilities_never None) remote t
 about_call role calls session m t = takes_plain t

@@ -10,7 +10,7 @@ use Rattle.end_model.specs.declared.tunnel.Link.{Link}
 use Rattle.end_names.specs.declared.role.Role.{Role}
 use Rattle.end_model.specs.declared.moves.Move.TheVariants as move
 use Rattle.end_model.specs.Tunnels.{Turn}
-use Rattle.end_model.specs.Calls.{row_for, is_up}
+use Rattle.end_model.specs.Calls.{counted, counted_all, row_for, is_up}
 use Rattle.end_model.specs.Links.{lcp_frame, with_link, link_after, is_first_open, looks_of}
 use Rattle.end_model.specs.Turn.{with_move, with_looks_of, with_call, drops}
 use Rattle.end_model.specs.Sending.{settles}
@@ -21,14 +21,14 @@ use Rattle.end_model.specs.Codes.{administrative}
 -- so do these LCP packets of the call, in order
 unfoldable pub sends_packets : ℕ → List (List ℕ) → Call → Turn → Turn
 sends_packets s [] c t = t
-sends_packets s (p ∷ ps) c t = sends_packets s ps c (carried s (lcp_frame p) c t)
+sends_packets s (p ∷ ps) c t = sends_packets s ps (counted c) (carried s (lcp_frame p) c t)
 
 -- what the LCP end of a call gave in a step that doesn't finish it: its packets are sent, and the call keeps it
 unfoldable pub negotiated : ℕ → Call → Link → LcpTurn → Turn → Turn
 negotiated s c l v t =
     with_looks_of (looks_of (is_first_open l v.out) s)
     (with_move (move.Negotiated (record { tunnel = t.control.local; session = s }))
-    (with_call s (with_link (link_after l v) c)
+    (with_call s (with_link (link_after l v) (counted_all v.out.packets c))
     (sends_packets s v.out.packets c t)))
 
 -- where it is finished the call ends; no entry of LCP's table finishes a link and sends a packet

@@ -13,9 +13,9 @@ pub use end_names::{
 };
 pub use event::{Addressee, Event};
 pub use moves::{
-    Accepted, Added, Closed, ClosedBy, Confirmed, Connected, Declined, EndHeard, EndSilent,
-    EndTold, FirstUp, FrameSent, FrameUp, Greeted, LetGo, Move, Negotiated, NrRead, Opened, Place,
-    Refused, Rejected, Repeated, Replied, Requested, SecondUp, TookPlain,
+    Accepted, Added, Closed, ClosedBy, Confirmed, Connected, Counted, Declined, EndHeard,
+    EndSilent, EndTold, FirstUp, FrameSent, FrameUp, Greeted, LetGo, Move, Negotiated, NrRead,
+    Opened, Place, Refused, Rejected, Repeated, Replied, Requested, SecondUp, TookPlain,
 };
 pub use out::{ControlOrigin, Origin, Out};
 pub use tunnel::{Call, CallPlace, CallStep, CallSteps, Config, Control, Link};

@@ -104,6 +104,10 @@ pub struct FirstUp {
 pub struct SecondUp {
     pub tunnel: u16,
     pub session: u16,
+    /// The session id that the peer assigned.
+    pub remote: u16,
+    /// Whether the ICCN had Sequencing Required (RFC 2661 section 4.4.6): the end numbers its data messages.
+    pub sequenced: bool,
     pub taken: Place,
 }
 
@@ -239,6 +243,13 @@ pub struct Negotiated {
     pub session: u16,
 }
 
+/// A data message that was sent in a call had a number: the next one has the next.
+#[derive(Clone, Copy)]
+pub struct Counted {
+    pub tunnel: u16,
+    pub session: u16,
+}
+
 /// A PPP frame that was given for a call, or that its LCP end gave, was sent to the peer of its tunnel.
 #[derive(Drop)]
 pub struct FrameSent {
@@ -247,6 +258,8 @@ pub struct FrameSent {
     pub session: u16,
     /// The session id that the peer assigned.
     pub remote: u16,
+    /// The number of the data message, where the call's have one.
+    pub number: Option<u16>,
     pub frame: Bytes,
 }
 
@@ -290,6 +303,7 @@ pub enum Move {
     /// An acknowledgement alone was sent in the tunnel.
     Quiet { tunnel: u16 },
     Negotiated(Negotiated),
+    Counted(Counted),
     FrameSent(FrameSent),
     FrameUp(FrameUp),
 }

@@ -82,6 +82,9 @@ pub struct Call {
     pub steps: CallSteps,
     /// Its PPP link, at an LNS from its connection on.
     pub link: Option<Link>,
+    /// The number of the next data message that goes in it, at an LNS whose peer required sequencing (RFC 2661 section 5.4); None
+    /// where data messages have none.
+    pub sequence: Option<u16>,
 }
 
 /// Where a live call is, and what the data plane sees of it.

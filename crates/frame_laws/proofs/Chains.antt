@@ -41,6 +41,7 @@ does_role moment ev x (move.LetGo m) y h = ap (λ (e : End). e.role) h.after
 does_role moment ev x (move.Repeated m) y h = ap (λ (e : End). e.role) h.after
 does_role moment ev x (move.Quiet i) y h = ap (λ (e : End). e.role) h.after
 does_role moment ev x (move.Negotiated m) y h = ap (λ (e : End). e.role) h.after
+does_role moment ev x (move.Counted m) y h = ap (λ (e : End). e.role) h.after
 does_role moment ev x (move.FrameSent m) y h = ap (λ (e : End). e.role) h.after
 does_role moment ev x (move.FrameUp m) y h = ap (λ (e : End). e.role) h.after
 

@@ -6,6 +6,7 @@ use Rattle.wire_base.specs.declared.why.Why.TheVariants as why
 use Rattle.wire_base.specs.declared.cause.Cause.TheVariants as cause
 use Rattle.l2tp_header.specs.declared.header.Header.{Header}
 use Rattle.l2tp_header.specs.Again.{Carries, control_header}
+use Rattle.l2tp_header.specs.Grammar.{FitsWord}
 use Rattle.l2tp_header.specs.Spelling.{control_bytes, data_bytes}
 use Rattle.l2tp_header.specs.Reading.{header_of}
 use Rattle.avp_codec.specs.declared.avp.Avp.{Avp}
@@ -216,11 +217,11 @@ module _ (codecs : Codecs) where
         (read_alone nodes gs from to)
 
   -- a frame that is for a session
-  read_frame : (ns : Nodes) (gs : List Passage) (from to tunnel session : ℕ) (frame : List ℕ) → tunnel < 65536 → session < 65536
-      → WasSentInCall ns gs from to session frame → ReadOk ns gs from to (data_bytes tunnel session None frame)
-  read_frame ns gs from to tunnel session frame t s sent =
-      let bytes = data_bytes tunnel session None frame in
-      let c = codecs.frame tunnel session None frame t s tt in
+  read_frame : (ns : Nodes) (gs : List Passage) (from to tunnel session : ℕ) (number : Option ℕ) (frame : List ℕ) → tunnel < 65536 → session < 65536
+      → FitsWord number → WasSentInCall ns gs from to session frame → ReadOk ns gs from to (data_bytes tunnel session number frame)
+  read_frame ns gs from to tunnel session number frame t s fits sent =
+      let bytes = data_bytes tunnel session number frame in
+      let c = codecs.frame tunnel session number frame t s fits in
       record {
         frames = λ h e k. rw (same_header bytes h _ _ c e, c.bounds) sent;
         letters = λ h e k m r. absurd (true≢false (sym k ∙ ap (λ (x : Header). x.control) (same_header bytes h _ _ c e)));
@@ -229,7 +230,7 @@ module _ (codecs : Codecs) where
         zero = λ h e k i t. absurd (true≢false (sym k ∙ ap (λ (x : Header). x.control) (same_header bytes h _ _ c e)));
       }
 
-  pub frame_ok : (ns : Nodes) (gs : List Passage) (from to tunnel session : ℕ) (frame : List ℕ) → tunnel < 65536 → session < 65536
-      → WasSentInCall ns gs from to session frame → BytesOk ns gs from to (data_bytes tunnel session None frame)
-  frame_ok ns gs from to tunnel session frame t s sent secret =
-      rw (frame_stays codecs secret tunnel session frame t s) (read_frame ns gs from to tunnel session frame t s sent)
+  pub frame_ok : (ns : Nodes) (gs : List Passage) (from to tunnel session : ℕ) (number : Option ℕ) (frame : List ℕ) → tunnel < 65536 → session < 65536
+      → FitsWord number → WasSentInCall ns gs from to session frame → BytesOk ns gs from to (data_bytes tunnel session number frame)
+  frame_ok ns gs from to tunnel session number frame t s fits sent secret =
+      rw (frame_stays codecs secret tunnel session number frame t s fits) (read_frame ns gs from to tunnel session number frame t s fits sent)

@@ -63,6 +63,7 @@ one_sent P d (move.LetGo m) h = tt
 one_sent P d (move.Repeated m) h = tt
 one_sent P d (move.Quiet i) h = tt
 one_sent P d (move.Negotiated m) h = tt
+one_sent P d (move.Counted m) h = tt
 one_sent P d (move.FrameSent m) h = (h m refl, tt)
 one_sent P d (move.FrameUp m) h = tt
 
@@ -93,6 +94,7 @@ one_handed P d (move.LetGo m) h = tt
 one_handed P d (move.Repeated m) h = tt
 one_handed P d (move.Quiet i) h = tt
 one_handed P d (move.Negotiated m) h = tt
+one_handed P d (move.Counted m) h = tt
 one_handed P d (move.FrameSent m) h = tt
 one_handed P d (move.FrameUp m) h = (h m refl, tt)
 

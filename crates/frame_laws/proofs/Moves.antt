@@ -40,6 +40,7 @@ use Rattle.end_model.specs.declared.moves.ClosedBy.{ClosedBy}
 use Rattle.end_model.specs.declared.moves.Greeted.{Greeted}
 use Rattle.end_model.specs.declared.moves.Repeated.{Repeated}
 use Rattle.end_model.specs.declared.moves.Negotiated.{Negotiated}
+use Rattle.end_model.specs.declared.moves.Counted.{Counted}
 use Rattle.end_model.specs.declared.moves.Move.{Move}
 use Rattle.end_model.specs.declared.moves.Move.TheVariants as move
 use Rattle.end_model.specs.declared.tunnel.Call.{Call}
@@ -48,14 +49,14 @@ use Rattle.end_model.specs.declared.tunnel.Control.{Control}
 use Rattle.end_names.specs.declared.role.Role.{Role}
 use Rattle.end_names.specs.declared.role.Role.TheVariants.{Lac, Lns}
 use Rattle.end_names.specs.Names.{node_of, host_name, calling_number}
-use Rattle.end_model.specs.Calls.{advanced, rung, asked_for, is_up}
+use Rattle.end_model.specs.Calls.{advanced, with_numbers, counted, rung, asked_for, is_up}
 use Rattle.end_model.specs.Tunnels.{Tunnel}
 use Rattle.end_model.specs.Channels.{letter_of, letter_as, counts_given, counts_taken, learns_window}
 use Rattle.end_model.specs.Messages.{flags_of, opening_of, request_of, connection}
 use Rattle.end_model.specs.Links.{with_link, link_after}
 use Rattle.end_model.specs.End.{End, new_place}
 use Rattle.world_model.specs.World.{World, Node, with_birth, is_born, birth_of, moved}
-use Rattle.step_laws.specs.Moves.{heard_from, Rejects, Asks, Responds, with_tunnel, with_letter, new_tunnel, begun, Opens, Accepts, Connects, Confirms, Adds as AddsCall, Requests, Replies, ComesUpFirst, ComesUpSecond, Refuses, TellsEnd, HearsEnd, EndsSilently, Closes, ClosesBy, Clears, Greets, TakesPlain, Reads, LetsGo, Repeats, Negotiates, without_call, without_calls, Does}
+use Rattle.step_laws.specs.Moves.{heard_from, Rejects, Asks, Responds, with_tunnel, with_letter, new_tunnel, begun, Opens, Accepts, Connects, Confirms, Adds as AddsCall, Requests, Replies, ComesUpFirst, ComesUpSecond, Refuses, TellsEnd, HearsEnd, EndsSilently, Closes, ClosesBy, Clears, Greets, TakesPlain, Reads, LetsGo, Repeats, Negotiates, Counts, without_call, without_calls, Does}
 use Rattle.step_laws.specs.Links.{begun_link}
 use Rattle.lcp_end.specs.Laws.{after as lcp_after}
 use Rattle.frame_laws.specs.Plain.{HidesOk, number_hides}
@@ -435,7 +436,7 @@ module _ (digits : (who : List ℕ) → length (calling_number who) ≡ 12) (n :
       let t = here.end.tunnels m.tunnel h.tunnel h.there in
       let o = t.calls m.session h.call h.made in
       let lns = second_row x.role h.call.state h.row in
-      let call = with_link (begun_link h.magic) (advanced x.role call_event.IccnAcc moment h.call) in
+      let call = with_link (begun_link h.magic) (with_numbers m.sequenced (advanced x.role call_event.IccnAcc moment h.call)) in
       rw h.after
       (call_led _ m.tunnel h.tunnel (counts_taken h.tunnel.control) h.tunnel.letters m.session call h.there
       (sets_tunnel _ m.tunnel _)
@@ -454,6 +455,17 @@ module _ (digits : (who : List ℕ) → length (calling_number who) ≡ 12) (n :
       refl refl refl refl t.letters
       (goes_on h.tunnel.control.peer m.session h.call call o refl o.mate
       (λ lac. absurd (none-some h.calls.link (sym (o.link lac) ∙ h.calls.has)))))
+
+  -- a call counts its data messages
+  counted_led : (moment : ℕ) (m : Counted) (y : End) → Counts x m y → Led v y
+  counted_led moment m y h =
+      let t = here.end.tunnels m.tunnel h.tunnel h.there in
+      let o = t.calls m.session h.call h.live in
+      rw h.after
+      (call_led _ m.tunnel h.tunnel h.tunnel.control h.tunnel.letters m.session (counted h.call) h.there
+      (sets_tunnel _ m.tunnel _)
+      refl refl refl refl t.letters
+      (goes_on h.tunnel.control.peer m.session h.call (counted h.call) o refl o.mate o.link))
 
   -- ---- a call ends
 
@@ -782,5 +794,6 @@ module _ (digits : (who : List ℕ) → length (calling_number who) ≡ 12) (n :
   does_led moment (move.Repeated m) y h = repeated_led moment m y h
   does_led moment (move.Quiet i) y h = led_same y h.after
   does_led moment (move.Negotiated m) y h = negotiated_led moment m y h
+  does_led moment (move.Counted m) y h = counted_led moment m y h
   does_led moment (move.FrameSent m) y h = led_same y h.after
   does_led moment (move.FrameUp m) y h = led_same y h.after

@@ -78,6 +78,7 @@ module _ (line n : ℕ) (r : Role) (sender : Option Sender) (v : World) where
   deeds_told (move.Repeated m ∷ ms) = deeds_told ms
   deeds_told (move.Quiet i ∷ ms) = deeds_told ms
   deeds_told (move.Negotiated m ∷ ms) = deeds_told ms
+  deeds_told (move.Counted m ∷ ms) = deeds_told ms
   deeds_told (move.FrameSent m ∷ ms) = deeds_told ms
 
   pub ups_told : (s : Stepped) → flat_map ups_of_output s.outputs ≡ flat_map ups_of_move s.moves

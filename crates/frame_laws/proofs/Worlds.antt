@@ -104,6 +104,8 @@ carried_later before after more g c =
       origin = c.origin;
       tunnel = c.tunnel;
       session = c.session;
+      number = c.number;
+      number_fits = c.number_fits;
       bytes = c.bytes;
     }
 
@@ -414,14 +416,14 @@ module _ (codecs : Codecs) (laws : StepLaws) (number : ℕ) (w : World) (gs : Li
           let to = amid_ok.tunnels id tunnel there in
           rw are
           (alone_ok codecs tunnel.control.remote 0 number tunnel.control.channel.inbox.taken to.remote (omega arith) v.nodes (gs ++ more) n (node_of peer))
-      carries_ok bytes o (AFrame f a tunnel_is same origin_is are) =
+      carries_ok bytes o (AFrame f a tunnel_is same number origin_is are) =
           let to = amid_ok.tunnels id tunnel there in
           let b = in_step f a in
           let k = sent_here f b in
           let to_peer : f.peer ≡ peer = same ∙ sym peer_is in
           let mates : Mates v.nodes n f.session (node_of peer) f.remote = subst (λ q. Mates v.nodes n f.session (node_of q) f.remote) to_peer k.mates in
           let was_sent = sent_in_call f b (node_of peer) f.remote (ap node_of to_peer) mates in
-          rw are (frame_ok codecs v.nodes (gs ++ more) n (node_of peer) tunnel.control.remote f.remote f.frame to.remote k.fits was_sent)
+          rw are (frame_ok codecs v.nodes (gs ++ more) n (node_of peer) tunnel.control.remote f.remote f.number f.frame to.remote k.fits number was_sent)
 
   -- a StopCCN of no tunnel names no call
   declined_ok : (peer : ℕ) (bytes : List ℕ) (o : Origin) → IsDecline s.moves peer bytes o → BytesOk v.nodes (gs ++ more) n (node_of peer) bytes
@@ -473,7 +475,7 @@ module _ (codecs : Codecs) (laws : StepLaws) (number : ℕ) (w : World) (gs : Li
   carried_ok : (f : FrameSent) → Among (move.FrameSent f) s.moves → IsCarried (shown_all n s.outputs v).packets (sends v number n old.end.role sender f)
   carried_ok f a =
       let h = all_among (HasOutput s.outputs) s.moves (move.FrameSent f) chain.frames a in
-      let p = shown_there n s.outputs v f.peer (data_bytes h.0 f.remote None f.frame) (origin.Data f.session) h.1 in
+      let p = shown_there n s.outputs v f.peer (data_bytes h.0 f.remote f.number f.frame) (origin.Data f.session) h.2 in
       record {
         packet = p.packet;
         there = p.there;
@@ -482,6 +484,8 @@ module _ (codecs : Codecs) (laws : StepLaws) (number : ℕ) (w : World) (gs : Li
         origin = p.origin_is;
         tunnel = h.0;
         session = f.remote;
+        number = f.number;
+        number_fits = h.1;
         bytes = p.bytes_are;
       }
 
@@ -511,7 +515,7 @@ module _ (codecs : Codecs) (laws : StepLaws) (number : ℕ) (w : World) (gs : Li
             live = k.does.calls;
             gives = gives;
             rest = k.rest;
-            moves = rw (← k.does.peer, ← k.does.remote) k.moves;
+            moves = rw (← k.does.peer, ← k.does.remote, ← k.does.number) k.moves;
           })
 
   -- ---- births

@@ -1,5 +1,5 @@
 -- Each frame that is handed up in a call was sent in that call by its other end.
-use Rattle.std.specs.Prelude.{◌≡◌, ◌+◌, ◌-◌, ◌<◌, List, ◌∷◌, ◌++◌, length, take, drop, Option, None, Some, Ok, ℕ, slice_get}
+use Rattle.std.specs.Prelude.{◌≡◌, ◌+◌, ◌-◌, ◌<◌, List, ◌∷◌, ◌++◌, length, take, drop, Option, Some, Ok, ℕ, slice_get}
 use Rattle.id_table.specs.Ids.{at}
 use Rattle.pppoe_discovery.specs.declared.outcome.Discovered.TheVariants.{Carried}
 use Rattle.end_model.specs.Access.{Access}
@@ -7,6 +7,7 @@ use Rattle.world_model.specs.World.{World, Node, Sender, block_of, stepped, line
 use Rattle.step_laws.specs.Hosts.{discovered_at, IsOfHost}
 use Rattle.std.specs.List.{AllByRecursion}
 use Rattle.l2tp_header.specs.Spelling.{data_bytes}
+use Rattle.l2tp_header.specs.Grammar.{FitsWord}
 use Rattle.schedule_text.specs.declared.line.Line.{Line}
 use Rattle.schedule_text.specs.declared.line.Line.TheVariants.{FromSub, Down, Frame}
 use Rattle.schedule_text.specs.Grammar.{AreLines}
@@ -20,6 +21,7 @@ use Rattle.end_model.specs.declared.out.Origin.TheVariants.{Data}
 use Rattle.world_model.specs.declared.packet.Packet.{Packet}
 use Rattle.end_names.specs.Names.{node_of}
 use Rattle.end_model.specs.Secrets.{uncovered_event}
+use Rattle.end_model.specs.Calls.{number_of}
 use Rattle.end_model.specs.Tunnels.{Tunnel}
 use Rattle.end_model.specs.End.{End, plain_step}
 use Rattle.world_model.specs.Run.{run}
@@ -64,7 +66,10 @@ pub record IsCarried (packets : List Packet) (g : Passage) : Type 0 where
   -- the ids of the header
   pub tunnel : ℕ
   pub session : ℕ
-  pub bytes : packet.bytes ≡ data_bytes tunnel session None g.frame
+  -- no number, or some Ns of 16 bits with an Nr of 0
+  pub number : Option ℕ
+  pub number_fits : FitsWord number
+  pub bytes : packet.bytes ≡ data_bytes tunnel session number g.frame
 
 -- the line that gives a frame to an end: a subscriber's at a LAC, the network's at an LNS
 abbrev pub gives_frame : Role → ℕ → ℕ → List ℕ → Line
@@ -105,6 +110,7 @@ pub record GivesInStep (e : End) (moment : ℕ) (block : List ℕ) (ev : Event) 
     peer = tunnel.control.peer;
     session = g.session;
     remote = call.remote;
+    number = number_of call.sequence;
     frame = g.frame;
   }) ∷ rest
 

@@ -6,6 +6,7 @@ use Rattle.wire_base.specs.declared.cause.Cause.TheVariants as cause
 use Rattle.wire_base.specs.declared.why.Why.TheVariants as why
 use Rattle.l2tp_header.specs.declared.header.Header.{Header}
 use Rattle.l2tp_header.specs.Again.{control_header}
+use Rattle.l2tp_header.specs.Grammar.{FitsWord}
 use Rattle.l2tp_header.specs.Spelling.{control_bytes, data_bytes}
 use Rattle.wire_base.specs.declared.pair.Pair.{Pair}
 use Rattle.avp_codec.specs.declared.avp.Avp.{Avp}
@@ -295,11 +296,11 @@ module _ (codecs : Codecs) (secret : Option (List ℕ)) where
   letter_uncovered tunnel session ns nr m (Some pairs) t s a b w h = request_uncovered tunnel session ns nr m pairs t s a b h
 
   -- and a data message
-  pub frame_stays : (tunnel session : ℕ) (frame : List ℕ) → tunnel < 65536 → session < 65536
-      → uncovered_datagram secret (data_bytes tunnel session None frame) ≡ data_bytes tunnel session None frame
+  pub frame_stays : (tunnel session : ℕ) (number : Option ℕ) (frame : List ℕ) → tunnel < 65536 → session < 65536 → FitsWord number
+      → uncovered_datagram secret (data_bytes tunnel session number frame) ≡ data_bytes tunnel session number frame
   unfolding uncovered_datagram
-  frame_stays tunnel session frame t s = by secret
+  frame_stays tunnel session number frame t s fits = by secret
     where
-      by : (k : Option (List ℕ)) → uncovered_datagram k (data_bytes tunnel session None frame) ≡ data_bytes tunnel session None frame
+      by : (k : Option (List ℕ)) → uncovered_datagram k (data_bytes tunnel session number frame) ≡ data_bytes tunnel session number frame
       by None = refl
-      by (Some k) = ap (uncovered_by k (data_bytes tunnel session None frame)) (codecs.frame tunnel session None frame t s tt).reads
+      by (Some k) = ap (uncovered_by k (data_bytes tunnel session number frame)) (codecs.frame tunnel session number frame t s fits).reads

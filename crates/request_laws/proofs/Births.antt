@@ -277,6 +277,7 @@ module _ (v : World) (number n : ℕ) (r : Role) (sender : Option Sender) (momen
   does_born u known x y ok (move.Repeated m) h = still_born u known x y ok (move.Repeated m) h (ap (λ (e : End). e.session_ids) h.after)
   does_born u known x y ok (move.Quiet i) h = still_born u known x y ok (move.Quiet i) h (ap (λ (e : End). e.session_ids) h.after)
   does_born u known x y ok (move.Negotiated m) h = still_born u known x y ok (move.Negotiated m) h (ap (λ (e : End). e.session_ids) h.after)
+  does_born u known x y ok (move.Counted m) h = still_born u known x y ok (move.Counted m) h (ap (λ (e : End). e.session_ids) h.after)
   does_born u known x y ok (move.FrameSent m) h = still_born u known x y ok (move.FrameSent m) h (ap (λ (e : End). e.session_ids) h.after)
   does_born u known x y ok (move.FrameUp m) h = still_born u known x y ok (move.FrameUp m) h (ap (λ (e : End). e.session_ids) h.after)
 

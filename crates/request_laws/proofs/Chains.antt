@@ -40,6 +40,7 @@ module _ (v : World) (number n : ℕ) (r : Role) (sender : Option Sender) (momen
   asks_now known x y ok (move.Repeated m) h s q = absurd q
   asks_now known x y ok (move.Quiet i) h s q = absurd q
   asks_now known x y ok (move.Negotiated m) h s q = absurd q
+  asks_now known x y ok (move.Counted m) h s q = absurd q
   asks_now known x y ok (move.FrameSent m) h s q = absurd q
   asks_now known x y ok (move.FrameUp m) h s q = absurd q
 

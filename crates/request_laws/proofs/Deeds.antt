@@ -59,6 +59,7 @@ IsRequest (move.LetGo m) s = ⊥
 IsRequest (move.Repeated m) s = ⊥
 IsRequest (move.Quiet i) s = ⊥
 IsRequest (move.Negotiated m) s = ⊥
+IsRequest (move.Counted m) s = ⊥
 IsRequest (move.FrameSent m) s = ⊥
 IsRequest (move.FrameUp m) s = ⊥
 
@@ -112,6 +113,7 @@ module _ (v : World) (number n : ℕ) (r : Role) (sender : Option Sender) where
   entered_asks (move.Repeated m) a k s h = inl h
   entered_asks (move.Quiet i) a k s h = inl h
   entered_asks (move.Negotiated m) a k s h = inl h
+  entered_asks (move.Counted m) a k s h = inl h
   entered_asks (move.FrameSent m) a k s h = inl h
   entered_asks (move.FrameUp m) a k s h = inl h
 
@@ -146,6 +148,7 @@ module _ (v : World) (number n : ℕ) (r : Role) (sender : Option Sender) where
   entered_taken (move.Repeated m) a k u h = h
   entered_taken (move.Quiet i) a k u h = h
   entered_taken (move.Negotiated m) a k u h = h
+  entered_taken (move.Counted m) a k u h = h
   entered_taken (move.FrameSent m) a k u h = h
   entered_taken (move.FrameUp m) a k u h = h
 

@@ -15,6 +15,7 @@ use Rattle.end_model.specs.declared.moves.Replied.{Replied}
 use Rattle.end_model.specs.declared.moves.FirstUp.{FirstUp}
 use Rattle.end_model.specs.declared.moves.SecondUp.{SecondUp}
 use Rattle.end_model.specs.declared.moves.Negotiated.{Negotiated}
+use Rattle.end_model.specs.declared.moves.Counted.{Counted}
 use Rattle.end_model.specs.declared.moves.EndTold.{EndTold}
 use Rattle.end_model.specs.declared.moves.EndHeard.{EndHeard}
 use Rattle.end_model.specs.declared.moves.EndSilent.{EndSilent}
@@ -24,13 +25,13 @@ use Rattle.end_model.specs.declared.moves.Rejected.{Rejected}
 use Rattle.end_model.specs.declared.moves.Move.{Move}
 use Rattle.end_model.specs.declared.moves.Move.TheVariants as move
 use Rattle.end_model.specs.declared.tunnel.Call.{Call}
-use Rattle.end_model.specs.Calls.{advanced, rung, asked_for}
+use Rattle.end_model.specs.Calls.{advanced, with_numbers, counted, rung, asked_for}
 use Rattle.end_model.specs.Tunnels.{Tunnel}
 use Rattle.end_model.specs.Links.{with_link, link_after}
 use Rattle.end_model.specs.End.{End}
 use Rattle.lcp_end.specs.Laws.{after as lcp_after}
 use Rattle.step_laws.specs.Links.{begun_link}
-use Rattle.step_laws.specs.Moves.{with_tunnel, without_call, Opens, Accepts, Adds, Requests, Replies, ComesUpFirst, ComesUpSecond, Negotiates, Does}
+use Rattle.step_laws.specs.Moves.{with_tunnel, without_call, Opens, Accepts, Adds, Requests, Replies, ComesUpFirst, ComesUpSecond, Negotiates, Counts, Does}
 use Rattle.connection_laws.specs.Accounts.{about}
 use Rattle.request_laws.proofs.Rows.{Asks, up_row, asked_over, first_over, second_over}
 use Rattle.request_laws.proofs.Asked.{IsCall, Known, Ordered, AskOk, Was, Went, New, CallsGo, IsNow}
@@ -173,7 +174,7 @@ module _ (x y : End) (o : Ordered x) where
   second_calls : (moment : ℕ) (ev : Event) (m : SecondUp) → ComesUpSecond x moment ev m y → CallsGo x y m.tunnel
   second_calls moment ev m h =
       rw h.after
-      (puts_changed x _ m.tunnel h.tunnel _ m.session h.call (with_link (begun_link h.magic) (advanced x.role call_event.IccnAcc moment h.call))
+      (puts_changed x _ m.tunnel h.tunnel _ m.session h.call (with_link (begun_link h.magic) (with_numbers m.sequenced (advanced x.role call_event.IccnAcc moment h.call)))
       (record { role = refl; tunnels = refl; rises = omega arith }) o h.there h.made refl (second_over x.role moment h.call h.row))
 
   -- the LCP end of a call that is up made a step
@@ -181,6 +182,13 @@ module _ (x y : End) (o : Ordered x) where
   negotiated_calls moment ev m h =
       rw h.after
       (puts_changed x _ m.tunnel h.tunnel _ m.session h.call (with_link (link_after h.calls.link (lcp_after h.calls.by h.calls.link.lcp)) h.call)
+      (record { role = refl; tunnels = refl; rises = omega arith }) o h.there h.live refl (up_row x.role h.call.state h.up))
+
+  -- a data message of one had a number
+  counted_calls : (moment : ℕ) (ev : Event) (m : Counted) → Counts x m y → CallsGo x y m.tunnel
+  counted_calls moment ev m h =
+      rw h.after
+      (puts_changed x _ m.tunnel h.tunnel _ m.session h.call (counted h.call)
       (record { role = refl; tunnels = refl; rises = omega arith }) o h.there h.live refl (up_row x.role h.call.state h.up))
 
   -- ---- a call ends
@@ -251,6 +259,7 @@ module _ (x y : End) (o : Ordered x) where
   does_calls moment ev (move.Repeated m) h = stays m.tunnel h.tunnel _ h.there h.after refl
   does_calls moment ev (move.Quiet i) h = same i h.after
   does_calls moment ev (move.Negotiated m) h = negotiated_calls moment ev m h
+  does_calls moment ev (move.Counted m) h = counted_calls moment ev m h
   does_calls moment ev (move.FrameSent m) h = same m.tunnel h.after
   does_calls moment ev (move.FrameUp m) h = same m.tunnel h.after
 

@@ -85,6 +85,7 @@ entered_replied d a (move.LetGo m) is h = h
 entered_replied d a (move.Repeated m) is h = h
 entered_replied d a (move.Quiet i) is h = h
 entered_replied d a (move.Negotiated m) is h = h
+entered_replied d a (move.Counted m) is h = h
 entered_replied d a (move.FrameSent m) is h = h
 entered_replied d a (move.FrameUp m) is h = h
 

@@ -80,6 +80,7 @@ moved_follows n v node is (move.LetGo m) = same_follows n v node is
 moved_follows n v node is (move.Repeated m) = same_follows n v node is
 moved_follows n v node is (move.Quiet i) = same_follows n v node is
 moved_follows n v node is (move.Negotiated m) = same_follows n v node is
+moved_follows n v node is (move.Counted m) = same_follows n v node is
 moved_follows n v node is (move.FrameSent m) = same_follows n v node is
 moved_follows n v node is (move.FrameUp m) = same_follows n v node is
 

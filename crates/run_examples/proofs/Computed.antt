@@ -6,7 +6,7 @@ use Rattle.run_examples.specs.Messages.{MessagesAreTakenInOrder, MessagesAreAckn
 use Rattle.run_examples.specs.Outlived.{OldPacketsAreRefused}
 use Rattle.run_examples.specs.Owed.{LettersOwedAreCounted}
 use Rattle.run_examples.specs.Refusals.{CallsAreRefused}
-use Rattle.run_examples.specs.Rules.{IdsRunOut}
+use Rattle.run_examples.specs.Rules.{DataAreNumbered, IdsRunOut}
 use Rattle.run_examples.specs.Tables.{TablesTell}
 use Rattle.run_examples.proofs.Computing.{computing}
 
@@ -85,6 +85,10 @@ old_packets_are_refused = record { near = refl; ns = refl; nr = refl; both = ref
 pub tables_tell : TablesTell
 unfolding computing
 tables_tell = record { agreed = refl; of_lac = refl; of_lns = refl }
+
+pub data_are_numbered : DataAreNumbered
+unfolding computing
+data_are_numbered = record { number = refl; wraps = refl; goes_on = refl; lcp = refl; behind = refl; none = refl; still = refl }
 
 pub ids_run_out : IdsRunOut
 unfolding computing

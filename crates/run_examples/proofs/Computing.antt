@@ -24,7 +24,7 @@ use Rattle.end_model.specs.Ringing.{requested, requests, requests_at, requests_a
 use Rattle.end_model.specs.Hearing.{connects, takes_by, takes, about_call, in_call, hears, hears_faulty, hears_said, hears_next, hears_letter, in_tunnel, first_said, hears_control, hears_datagram}
 use Rattle.end_model.specs.Asking.{replied, replies, call_of, session_named, granted, asked_by}
 use Rattle.end_model.specs.Connecting.{first_up, first_up_by, second_up, connects_call, linked_up, second_up_by, end_heard, end_heard_by, ends_named}
-use Rattle.end_model.specs.Frames.{carried, carries}
+use Rattle.end_model.specs.Frames.{sends_frame, counts, carried, carries}
 use Rattle.end_model.specs.Linking.{sends_packets, negotiated, links, hears_link, hears_lcp}
 use Rattle.end_model.specs.Events.{turns, with_calls}
 use Rattle.end_model.specs.Stopping.{shuts, closed_told, closes_tunnel, rejected, rejects, closed_by, shuts_by}
@@ -48,7 +48,7 @@ unfolding takes_id at put_at without u16_bytes u32_bytes is_control has_length h
     gives gives_as takes_one reads_nr sends_letter sends_now lets_go goes_by lets_all_go acknowledges acknowledged_after settles
     with_local opened opens_by opens accepted accepts_by accepts requested requests requests_at requests_all adds rings_over
     rings_by rings_new rings connected connects confirms takes_plain ignores takes_by takes replied replies first_up first_up_by
-    second_up connects_call linked_up second_up_by about_call in_call hears hears_faulty hears_said hears_next hears_letter in_tunnel first_said hears_control carried
+    second_up connects_call linked_up second_up_by about_call in_call hears hears_faulty hears_said hears_next hears_letter in_tunnel first_said hears_control sends_frame counts carried
     sends_packets negotiated links hears_link hears_lcp carries hears_datagram turns with_calls ends_call ends_all shuts closed_told closes_tunnel rejected rejects closed_by shuts_by end_silent end_told ends_by closes rings_within answers_by refused refuses
     of_no_call call_of session_named granted asked_by end_heard end_heard_by ends_named faulty_at faulty in_faulty_call
     gives_only placed with_look with_looks after_turn after_new in_new in_one_more in_main known_as opens_once addressed main_of reached_by

@@ -47,13 +47,13 @@ lac_with c l n letters = record (new_end role.Lac (config_of 9 (address_of 4) No
 
 -- its call is asked for
 abbrev pub lac : Numbers → List Letter → End
-lac n letters = lac_with (record { remote = 0; state = WaitReply; since = 0; subscriber = subscriber 70; steps = []; link = None }) (look.Bound 1 (address_of 4)) n letters
+lac n letters = lac_with (record { remote = 0; state = WaitReply; since = 0; subscriber = subscriber 70; steps = []; link = None; sequence = None }) (look.Bound 1 (address_of 4)) n letters
 
 -- its call is up, session 8 of the LNS
 abbrev pub lac_up : Numbers → List Letter → End
 lac_up n letters =
     lac_with
-    (record { remote = 8; state = Established; since = 0; subscriber = subscriber 70; steps = record { state = WaitReply; event = IcrpAcc; next = Established } ∷ []; link = None })
+    (record { remote = 8; state = Established; since = 0; subscriber = subscriber 70; steps = record { state = WaitReply; event = IcrpAcc; next = Established } ∷ []; link = None; sequence = None })
     (look.Established 1 (address_of 4)) n letters
 
 abbrev pub letter_of : ℕ → Message → Letter
@@ -159,7 +159,7 @@ opening_lac = record (new_end role.Lac (config_of 9 (address_of 4) None false)) 
     record {
       control = record { local = 1; peer = address_of 4; remote = 0; state = states.WaitCtlReply; channel = channel 0 1 1 0; made = 0; heard = 0; closed = 0; flags = 0; challenge = None };
       letters = letter_of 0 (Sccrq (opening_of role.Lac (config_of 9 (address_of 4) None false) None None 1)) ∷ [];
-      calls = (3, record { remote = 0; state = WaitTunnel; since = 0; subscriber = subscriber 70; steps = []; link = None }) ∷ [];
+      calls = (3, record { remote = 0; state = WaitTunnel; since = 0; subscriber = subscriber 70; steps = []; link = None; sequence = None }) ∷ [];
     },
   ) ∷ [];
   calls = (3, record { tunnel = 1; look = look.Unborn }) ∷ [];

@@ -25,7 +25,7 @@ use Rattle.run_examples.specs.Channels.{channel}
 
 -- a call that is up, by the LNS's session
 abbrev pub up : ℕ → Call
-up remote = record { remote = remote; state = Established; since = 0; subscriber = subscriber 70; steps = []; link = None }
+up remote = record { remote = remote; state = Established; since = 0; subscriber = subscriber 70; steps = []; link = None; sequence = None }
 
 abbrev pub place : CallPlace
 place = record { tunnel = 1; look = look.Established 1 (address_of 4) }

@@ -1,6 +1,6 @@
--- Rules of the data plane that carry weight: without one of them a step isn't a chain of its moves. And what comes where no id
--- is left.
-use Rattle.std.specs.Prelude.{◌≡◌, ℕ, ◌+◌, List, [], ◌∷◌, false, replicate, Some, None}
+-- Rules of the data plane that carry weight: without one of them a step isn't a chain of its moves. The numbers of data messages. And
+-- what comes where no id is left.
+use Rattle.std.specs.Prelude.{◌≡◌, ℕ, ◌+◌, List, [], ◌∷◌, true, false, replicate, Option, Some, None}
 use Rattle.wire_base.specs.declared.why.Why.TheVariants as why
 use Rattle.wire_base.specs.declared.cause.Cause.TheVariants as cause
 use Rattle.wire_base.specs.declared.letter.Side.TheVariants.{Sub, Net, Lcp}
@@ -13,7 +13,8 @@ use Rattle.lcp_end.specs.Steps.{fresh, opened}
 use Rattle.call_fsm.specs.declared.table.CallState.TheVariants as call_states
 use Rattle.tunnel_fsm.specs.declared.table.TunnelState.TheVariants as states
 use Rattle.end_model.specs.declared.event.Event.{Event}
-use Rattle.end_model.specs.declared.event.Event.TheVariants.{Datagram, Ring, OpenTunnel}
+use Rattle.end_model.specs.declared.event.Event.TheVariants.{Datagram, Ring, Lower, OpenTunnel}
+use Rattle.end_model.specs.declared.out.Out.{Out}
 use Rattle.end_model.specs.declared.out.Out.TheVariants.{Send, Up, Drop, Cause}
 use Rattle.end_model.specs.declared.out.Origin.TheVariants as origin
 use Rattle.session_looks.specs.declared.look.Look.{Look}
@@ -50,6 +51,7 @@ waiting = record (new_end role.Lns (config_of 4 0 None false)) {
           subscriber = replicate 6 0;
           steps = [];
           link = Some (record { lcp = (opened 0 (fresh 17)).kept; network = false });
+          sequence = None;
         },
       ) ∷ [];
     },
@@ -117,6 +119,55 @@ pub record FramesAreLookedAt : Type 0 where
   pub without_lcp : IsChain waiting 0 (from_node 6 2) early → ⊥
   pub without_side : IsChain waiting 0 (brought 6 2 request) deaf → ⊥
   pub without_call : IsChain settled 0 (brought 4 1 request) hasty → ⊥
+
+-- ---- the numbers of data messages
+
+-- the same call once LCP was open in it, where the next data message has this number, or none has one
+abbrev pub numbered : Option ℕ → End
+numbered sequence = record waiting {
+  tunnels = (
+    2,
+    record {
+      control = record { local = 2; peer = address_of 6; remote = 5; state = states.Established; channel = channel 2 0 0 4; made = 0; heard = 0; closed = 0; challenge = None };
+      letters = [];
+      calls = (
+        3,
+        record {
+          remote = 8;
+          state = call_states.Established;
+          since = 0;
+          subscriber = replicate 6 0;
+          steps = [];
+          link = Some (record { lcp = (opened 0 (fresh 17)).kept; network = true });
+          sequence = sequence;
+        },
+      ) ∷ [];
+    },
+  ) ∷ [];
+}
+
+-- a frame of the network for the call, and what the LNS sends for it
+abbrev pub given : Event
+given = Lower 3 frame
+
+abbrev pub sent : Option ℕ → List Out
+sent number = Send (address_of 6) (data_bytes 5 8 number frame) (origin.Data 3) ∷ []
+
+-- the end that is left, and the one behind that
+abbrev pub after : End → End
+after e = (step e 0 [] given).end
+
+pub record DataAreNumbered : Type 0 where
+  -- the next number behind 65535 is 0
+  pub number : answer (numbered (Some 65535)) given ≡ sent (Some 65535)
+  pub wraps : answer (after (numbered (Some 65535))) given ≡ sent (Some 0)
+  pub goes_on : answer (after (after (numbered (Some 65535)))) given ≡ sent (Some 1)
+  -- the number counts LCP's packets too: an answer to a request has the first one
+  pub lcp : answer (numbered (Some 0)) (brought 6 2 request) ≡ Up 3 Lcp request ∷ Send (address_of 6) (data_bytes 5 8 (Some 0) (conceded 6 194)) (origin.Data 3) ∷ []
+  pub behind : answer (step (numbered (Some 0)) 0 [] (brought 6 2 request)).end given ≡ sent (Some 1)
+  -- where none has one, none gets one
+  pub none : answer (numbered None) given ≡ sent None
+  pub still : answer (after (numbered None)) given ≡ sent None
 
 -- ---- ids
 

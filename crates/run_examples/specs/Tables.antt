@@ -17,8 +17,8 @@ lac queued = record {
   control = record { local = 1; peer = address_of 4; remote = 7; state = states.Established; channel = channel 2 queued 1 2; made = 0; heard = 0; closed = 0; flags = 3; challenge = None };
   letters = [];
   calls =
-      (1, record { remote = 5; state = Established; since = 0; subscriber = subscriber 70; steps = []; link = None })
-      ∷ (2, record { remote = 0; state = WaitReply; since = 0; subscriber = subscriber 71; steps = []; link = None })
+      (1, record { remote = 5; state = Established; since = 0; subscriber = subscriber 70; steps = []; link = None; sequence = None })
+      ∷ (2, record { remote = 0; state = WaitReply; since = 0; subscriber = subscriber 71; steps = []; link = None; sequence = None })
       ∷ [];
 }
 
@@ -27,7 +27,7 @@ abbrev pub lns : ℕ → Tunnel
 lns queued = record {
   control = record { local = 7; peer = address_of 9; remote = 1; state = states.Established; channel = channel 1 queued 1 3; made = 0; heard = 0; closed = 0; flags = 3; challenge = None };
   letters = [];
-  calls = (5, record { remote = 1; state = Established; since = 0; subscriber = replicate 6 0; steps = []; link = Some (record { lcp = fresh 17; network = false }) }) ∷ [];
+  calls = (5, record { remote = 1; state = Established; since = 0; subscriber = replicate 6 0; steps = []; link = Some (record { lcp = fresh 17; network = false }); sequence = None }) ∷ [];
 }
 
 abbrev pub lac_node : ℕ → Node

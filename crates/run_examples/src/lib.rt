@@ -10,7 +10,7 @@ ghost use Rattle.run_examples.specs.Messages.{MessagesAreTakenInOrder, MessagesA
 ghost use Rattle.run_examples.specs.Outlived.{OldPacketsAreRefused};
 ghost use Rattle.run_examples.specs.Owed.{LettersOwedAreCounted};
 ghost use Rattle.run_examples.specs.Refusals.{CallsAreRefused};
-ghost use Rattle.run_examples.specs.Rules.{FramesAreLookedAt, IdsRunOut};
+ghost use Rattle.run_examples.specs.Rules.{DataAreNumbered, FramesAreLookedAt, IdsRunOut};
 ghost use Rattle.run_examples.specs.Tables.{TablesTell};
 
 /// A run in which two LACs have calls at one LNS: what was sent and what was handed up, with sessions and births.
@@ -66,6 +66,11 @@ pub fn openings_come_once()
 /// A packet that has outlived half of the numbers of its channel isn't delivered: a message could be taken twice.
 pub fn old_packets_are_refused()
     ensures { OldPacketsAreRefused }
+{}
+
+/// The data messages of a call whose ICCN had Sequencing Required are counted modulo 65536, LCP's with them.
+pub fn data_are_numbered()
+    ensures { DataAreNumbered }
 {}
 
 /// Where every id of a kind was drawn, what needs one is refused, and the end is as before.

@@ -126,5 +126,6 @@ else_follow w v n e x m is same role sessions = by m is
     by (move.Repeated m) is = it (move.Repeated m) same refl (λ r no. absurd cc)
     by (move.Quiet i) is = it (move.Quiet i) same refl (λ r no. absurd cc)
     by (move.Negotiated m) is = it (move.Negotiated m) same refl (λ r no. absurd cc)
+    by (move.Counted m) is = it (move.Counted m) same refl (λ r no. absurd cc)
     by (move.FrameSent m) is = it (move.FrameSent m) same refl (λ r no. absurd cc)
     by (move.FrameUp m) is = it (move.FrameUp m) same refl (λ r no. absurd cc)

@@ -59,6 +59,7 @@ else_none (move.LetGo m) is = λ k j. refl
 else_none (move.Repeated m) is = λ k j. refl
 else_none (move.Quiet i) is = λ k j. refl
 else_none (move.Negotiated m) is = λ k j. refl
+else_none (move.Counted m) is = λ k j. refl
 else_none (move.FrameSent m) is = λ k j. refl
 else_none (move.FrameUp m) is = λ k j. refl
 

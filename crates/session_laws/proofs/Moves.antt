@@ -17,7 +17,7 @@ use Rattle.session_laws.proofs.Replying.{replied_follows}
 use Rattle.session_laws.proofs.Refusing.{refused_follows}
 use Rattle.session_laws.proofs.FirstUp.{first_up_follows}
 use Rattle.session_laws.proofs.SecondUp.{second_up_follows}
-use Rattle.session_laws.proofs.Negotiated.{negotiated_follows}
+use Rattle.session_laws.proofs.Negotiated.{counted_follows, negotiated_follows}
 use Rattle.session_laws.proofs.EndHeard.{end_heard_follows}
 use Rattle.session_laws.proofs.Declining.{declined_follows}
 use Rattle.session_laws.proofs.Closing.{closed_follows}
@@ -50,5 +50,6 @@ moves_follow laws accs ends w n e x sender moment ev (move.LetGo m) d h = let_go
 moves_follow laws accs ends w n e x sender moment ev (move.Repeated m) d h = repeated_follows laws accs ends w n e x sender moment ev m d h
 moves_follow laws accs ends w n e x sender moment ev (move.Quiet i) d h = quiet_follows laws accs ends w n e x sender moment ev i d h
 moves_follow laws accs ends w n e x sender moment ev (move.Negotiated m) d h = negotiated_follows accs ends w n e x sender moment ev m d h
+moves_follow laws accs ends w n e x sender moment ev (move.Counted m) d h = counted_follows accs ends w n e x sender moment ev m d h
 moves_follow laws accs ends w n e x sender moment ev (move.FrameSent m) d h = frame_sent_follows laws accs ends w n e x sender moment ev m d h
 moves_follow laws accs ends w n e x sender moment ev (move.FrameUp m) d h = frame_up_follows laws accs ends w n e x sender moment ev m d h

@@ -4,10 +4,12 @@ use Rattle.id_table.specs.Ids.{at, put}
 use Rattle.id_table.specs.Order.{at_new, at_other}
 use Rattle.end_model.specs.declared.event.Event.{Event}
 use Rattle.end_model.specs.declared.moves.Negotiated.{Negotiated}
+use Rattle.end_model.specs.declared.moves.Counted.{Counted}
 use Rattle.end_model.specs.declared.moves.Move.{Move}
 use Rattle.end_model.specs.declared.moves.Move.TheVariants as move
 use Rattle.end_model.specs.declared.tunnel.Call.{Call}
 use Rattle.end_model.specs.Tunnels.{Tunnel}
+use Rattle.end_model.specs.Calls.{counted}
 use Rattle.end_model.specs.Links.{with_link, link_after}
 use Rattle.end_model.specs.End.{End}
 use Rattle.world_model.specs.World.{Sender, Deed}
@@ -102,4 +104,14 @@ module _ (accs : Accounts) (ends : Ends) (w : World) (n : ℕ) (e x : End) (send
       let o = h.moved.does in
       kept_follows accs ends w n e x sender moment ev (move.Negotiated m) d h tt refl o.tunnel o.there m.session o.call
       (with_link (link_after o.calls.link (lcp_after o.calls.by o.calls.link.lcp)) o.call) o.live (record { state = refl; remote = refl })
+      (ap (λ (y : End). y.tunnels) o.after) (ap (λ (y : End). y.session_ids) o.after) (ap (λ (y : End). y.role) o.after)
+
+  -- ---- the number of its data messages
+
+  pub counted_follows : (m : Counted) (d : Deed) → IsMade accs ends w n e x sender moment ev (move.Counted m) d
+      → Follows w n e x (move.Counted m) (after accs d) (with_end ends n x)
+  counted_follows m d h =
+      let o = h.moved.does in
+      kept_follows accs ends w n e x sender moment ev (move.Counted m) d h tt refl o.tunnel o.there m.session o.call
+      (counted o.call) o.live (record { state = refl; remote = refl })
       (ap (λ (y : End). y.tunnels) o.after) (ap (λ (y : End). y.session_ids) o.after) (ap (λ (y : End). y.role) o.after)

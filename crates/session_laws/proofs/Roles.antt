@@ -186,6 +186,7 @@ module _ (accs : Accounts) (n : ℕ) (e x : End) (sender : Option Sender) (momen
   entered_fits (move.Repeated m) deed does h live = h
   entered_fits (move.Quiet i) deed does h live = h
   entered_fits (move.Negotiated m) deed does h live = h
+  entered_fits (move.Counted m) deed does h live = h
   entered_fits (move.FrameSent m) deed does h live = h
   entered_fits (move.FrameUp m) deed does h live = h
 

@@ -8,7 +8,7 @@ use Rattle.end_model.specs.declared.event.Event.{Event}
 use Rattle.end_model.specs.declared.moves.SecondUp.{SecondUp}
 use Rattle.end_model.specs.declared.moves.Move.TheVariants as move
 use Rattle.end_model.specs.declared.tunnel.Call.{Call}
-use Rattle.end_model.specs.Calls.{row_for, advanced}
+use Rattle.end_model.specs.Calls.{row_for, advanced, with_numbers}
 use Rattle.end_model.specs.Tunnels.{Tunnel}
 use Rattle.end_model.specs.Channels.{counts_taken}
 use Rattle.end_model.specs.Links.{with_link}
@@ -82,15 +82,15 @@ module _ (laws : Laws) (accs : Accounts) (ends : Ends) (w : World) (n : ℕ) (e 
   was = h.moved.does.call
 
   abbrev call : Call
-  call = with_link (begun_link h.moved.does.magic) (advanced e.role call_event.IccnAcc moment was)
+  call = with_link (begun_link h.moved.does.magic) (with_numbers m.sequenced (advanced e.role call_event.IccnAcc moment was))
 
   abbrev u : Tunnel
   u = record t { control = counts_taken t.control; calls = put t.calls s call }
 
-  del : Delivered accs w n i sender s (Iccn h.moved.does.speed h.moved.does.framing h.moved.does.sequenced)
+  del : Delivered accs w n i sender s (Iccn h.moved.does.speed h.moved.does.framing m.sequenced)
   del = delivered laws.heard accs ends w n e x sender moment ev (move.SecondUp m) d h i t h.moved.does.there
       (not_closed t.control.state 3 h.moved.does.open_is (omega arith)) s
-      (Iccn h.moved.does.speed h.moved.does.framing h.moved.does.sequenced) tt
+      (Iccn h.moved.does.speed h.moved.does.framing m.sequenced) tt
       (record { letter = h.moved.does.letter; next = h.moved.does.takes.next; says = h.moved.does.says })
 
   old : TunnelJoined w n i (accs n i) (Some t)

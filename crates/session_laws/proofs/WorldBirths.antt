@@ -241,6 +241,7 @@ module _ (world : World) (ends : Ends) (w v : machine.World) (n : ℕ) (lt : n <
   births_on (move.Repeated m) g = else_on (move.Repeated m) g.role refl g.go
   births_on (move.Quiet i) g = else_on (move.Quiet i) g.role refl g.go
   births_on (move.Negotiated m) g = else_on (move.Negotiated m) g.role refl g.go
+  births_on (move.Counted m) g = else_on (move.Counted m) g.role refl g.go
   births_on (move.FrameSent m) g = else_on (move.FrameSent m) g.role refl g.go
   births_on (move.FrameUp m) g = else_on (move.FrameUp m) g.role refl g.go
 

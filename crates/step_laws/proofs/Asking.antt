@@ -40,12 +40,12 @@ use Rattle.end_model.specs.declared.tunnel.Control.{Control}
 use Rattle.end_model.specs.declared.tunnel.Link.{Link}
 use Rattle.end_names.specs.declared.role.Role.{Role}
 use Rattle.lcp_end.specs.Laws.{Call as LcpCall, OpenLink, after as lcp_after}
-use Rattle.step_laws.proofs.Linking.{negotiated_is}
+use Rattle.step_laws.proofs.Linking.{linked_call, negotiated_is, negotiated_put}
 use Rattle.end_names.specs.declared.role.Role.TheVariants.{Lac, Lns}
 use Rattle.end_model.specs.declared.out.Out.TheVariants.{Cause}
 use Rattle.session_looks.specs.Frames.{header_why}
 use Rattle.end_model.specs.Reading.{body_of, message_in, CallFault, call_fault_in, TunnelFault, tunnel_fault_in}
-use Rattle.end_model.specs.Calls.{call_row, row_for, row_of_none, advanced, rung, asked_for, is_request, is_connection, is_up, are_too_many, is_clean_up, is_short, is_long}
+use Rattle.end_model.specs.Calls.{call_row, row_for, row_of_none, advanced, with_numbers, counted, rung, asked_for, is_request, is_connection, is_up, are_too_many, is_clean_up, is_short, is_long}
 use Rattle.end_model.specs.Stopping.{rejects, rejected, shut, shuts, closed_told, closes_tunnel, closed_by, shuts_by}
 use Rattle.end_model.specs.Messages.{connected_reason, connected_event, event_by, opening_reason, Told, tells_id, told_by}
 use Rattle.end_model.specs.Tunnels.{Turn}
@@ -63,11 +63,11 @@ use Rattle.end_model.specs.Asking.{granted, asked_by, replied, replies, session_
 use Rattle.end_model.specs.Faulty.{faulty_at, faulty, in_faulty_call}
 use Rattle.end_model.specs.Moments.{is_closed}
 use Rattle.end_model.specs.Connecting.{first_up, first_up_by, second_up, connects_call, linked_up, second_up_by, end_heard, end_heard_by, ends_named}
-use Rattle.end_model.specs.Links.{with_link, new_link, link_after, is_passing}
+use Rattle.end_model.specs.Links.{with_link, new_link, is_passing}
 use Rattle.end_model.specs.Linking.{negotiated}
-use Rattle.end_model.specs.Frames.{carried, carries}
+use Rattle.end_model.specs.Frames.{sends_frame, counts, carried, carries}
 use Rattle.step_laws.specs.Letters.{Among}
-use Rattle.step_laws.proofs.Lists.{branch, found_among, with_calls-more}
+use Rattle.step_laws.proofs.Lists.{branch, and_left, found_among, with_calls-more}
 use Rattle.step_laws.proofs.States.{requested_state, connected_state, up_state}
 use Rattle.step_laws.proofs.Keeping.{settled_keeps, more_full}
 use Rattle.step_laws.proofs.Shutting.{all_ended_is, none_left}
@@ -141,20 +141,18 @@ module _ (role : Role) (calls : List (ℕ × Call)) where
       (at_first t b s c (subst (λ xs. at (with_calls xs calls) s ≡ Some c) calls_are there)) waits)
 
   -- one call is put that doesn't wait
-  puts : (t u : Turn) (k : ℕ) (d : Call) → u.changed ≡ t.changed ++ (k, Some d) ∷ [] → u.control.state ≡ t.control.state
+  puts : (t u : Turn) (k : ℕ) (d : Call) → with_calls u.changed calls ≡ put (with_calls t.changed calls) k d → u.control.state ≡ t.control.state
       → (d.state ≡ call.WaitTunnel → ⊥) → Begins t → Asked u
-  puts t u k d more state other b is_open s c there waits =
-      let is : with_calls u.changed calls ≡ put (with_calls t.changed calls) k d = ap (λ xs. with_calls xs calls) more ∙ with_calls-more t.changed k (Some d) calls in
+  puts t u k d is state other b is_open s c there waits =
       absurd (⊎_elim
       (λ (a : (s ≡ k) × (d ≡ c)). other (ap (λ (x : Call). x.state) a.1 ∙ (requested_state role c.state waits.row).0))
       (λ (a : (s ≡ k → ⊥) × (There t s c)). b.asked (λ opening. is_open (ap state_number state ∙ opening)) s c (at_first t b s c a.1) waits)
       (found_put (with_calls t.changed calls) k d s c (subst (λ xs. at xs s ≡ Some c) is there)))
 
   -- one more, where none waits but in a tunnel without room
-  put_more : (t u : Turn) (k : ℕ) (d : Call) → u.changed ≡ t.changed ++ (k, Some d) ∷ [] → u.control ≡ t.control → (d.state ≡ call.WaitTunnel → ⊥) → Asked t
+  put_more : (t u : Turn) (k : ℕ) (d : Call) → with_calls u.changed calls ≡ put (with_calls t.changed calls) k d → u.control ≡ t.control → (d.state ≡ call.WaitTunnel → ⊥) → Asked t
       → Asked u
-  put_more t u k d more same other h is_open s c there waits =
-      let is : with_calls u.changed calls ≡ put (with_calls t.changed calls) k d = ap (λ xs. with_calls xs calls) more ∙ with_calls-more t.changed k (Some d) calls in
+  put_more t u k d is same other h is_open s c there waits =
       ap has_room same ∙ ⊎_elim
       (λ (a : (s ≡ k) × (d ≡ c)). absurd (other (ap (λ (x : Call). x.state) a.1 ∙ (requested_state role c.state waits.row).0)))
       (λ (a : (s ≡ k → ⊥) × (There t s c)). h (λ opening. is_open (ap (λ (x : Control). state_number x.state) same ∙ opening)) s c a.1 waits)
@@ -164,8 +162,8 @@ module _ (role : Role) (calls : List (ℕ × Call)) where
       → Asked (negotiated s c l (lcp_after by l.lcp) t)
   negotiated_asked s c l by t up h =
       let is = negotiated_is s c l by t in
-      put_more t (negotiated s c l (lcp_after by l.lcp) t) s (with_link (link_after l (lcp_after by l.lcp)) c)
-      (ap (λ (x : Turn). x.changed) is) (ap (λ (x : Turn). x.control) is)
+      put_more t (negotiated s c l (lcp_after by l.lcp) t) s (linked_call c l by)
+      (negotiated_put calls s c l by t) (ap (λ (x : Turn). x.control) is)
       (other_state c.state call.Established (up_state c.state up) (λ k. absurd cc)) h
 
   pub settled : (again : Bool) (letters : List Letter) (t : Turn) → Asked t → Asked (settles again letters t)
@@ -380,7 +378,8 @@ module _ (role : Role) (calls : List (ℕ × Call)) where
 
   replied_asked : (remote s : ℕ) (t : Turn) → Begins t → Asked (replied role remote s t)
   unfolding replied gives with_move with_new takes_one
-  replied_asked remote s t b = puts t (replied role remote s t) s (asked_for role remote t.on.moment) refl refl (replied_state role remote t.on.moment) b
+  replied_asked remote s t b =
+      puts t (replied role remote s t) s (asked_for role remote t.on.moment) (with_calls-more t.changed s (Some _) calls) refl (replied_state role remote t.on.moment) b
 
   replies_asked : (remote s : ℕ) (t : Turn) → Begins t → Asked (replies role remote s t)
   unfolding replies
@@ -390,19 +389,21 @@ module _ (role : Role) (calls : List (ℕ × Call)) where
       → Asked (first_up role s remote c t)
   unfolding first_up gives with_change with_move with_call takes_one advanced
   first_up_asked s remote c t row b =
-      puts t (first_up role s remote c t) s (advanced role call_event.IcrpAcc t.on.moment (record c { remote = remote })) refl refl
+      puts t (first_up role s remote c t) s (advanced role call_event.IcrpAcc t.on.moment (record c { remote = remote }))
+      (with_calls-more t.changed s (Some _) calls) refl
       (other_state _ call.Established (connected_state role c.state row).1 (λ k. absurd cc)) b
 
-  second_up_asked : (s : ℕ) (d : Call) (t : Turn) → is_up d.state ≡ true → Begins t → Asked (second_up s d t)
+  second_up_asked : (sequenced : Bool) (s : ℕ) (d : Call) (t : Turn) → is_up d.state ≡ true → Begins t → Asked (second_up sequenced s d t)
   unfolding second_up with_change with_move with_call takes_one
-  second_up_asked s d t up b =
-      puts t (second_up s d t) s d refl refl (other_state d.state call.Established (up_state d.state up) (λ k. absurd cc)) b
+  second_up_asked sequenced s d t up b =
+      puts t (second_up sequenced s d t) s d (with_calls-more t.changed s (Some d) calls) refl (other_state d.state call.Established (up_state d.state up) (λ k. absurd cc)) b
 
-  linked_up_asked : (s : ℕ) (c : Call) (t : Turn) → is_up (row_for role c call_event.IccnAcc).0 ≡ true → Begins t → Asked (linked_up role s c t)
+  linked_up_asked : (sequenced : Bool) (s : ℕ) (c : Call) (t : Turn) → is_up (row_for role c call_event.IccnAcc).0 ≡ true → Begins t
+      → Asked (linked_up role sequenced s c t)
   unfolding linked_up connects_call advanced
-  linked_up_asked s c t row b =
-      let d = with_link (new_link t.on.block) (advanced role call_event.IccnAcc t.on.moment c) in
-      negotiated_asked s d (new_link t.on.block) (OpenLink t.on.moment) (second_up s d t) row (second_up_asked s d t row b)
+  linked_up_asked sequenced s c t row b =
+      let d = with_link (new_link t.on.block) (with_numbers sequenced (advanced role call_event.IccnAcc t.on.moment c)) in
+      negotiated_asked s d (new_link t.on.block) (OpenLink t.on.moment) (second_up sequenced s d t) row (second_up_asked sequenced s d t row b)
 
   refused_asked : (r : Reason) (remote : ℕ) (t : Turn) → Begins t → Asked (refused r remote t)
   unfolding refused gives with_output with_move takes_one
@@ -488,12 +489,12 @@ module _ (role : Role) (calls : List (ℕ × Call)) where
         (λ row. branch Asked (has_room t.control) _ _ (λ may. first_up_asked s remote c t row b) (λ full. dropped why.Queue t b))
         (λ none. answers_asked out_of_state s c (row_for role c call_event.IcrpAcc).1 t b)
 
-    second_up_by_asked : (s : ℕ) (o : Option Call) (t : Turn) → Begins t → Asked (second_up_by role s o t)
+    second_up_by_asked : (sequenced : Bool) (s : ℕ) (o : Option Call) (t : Turn) → Begins t → Asked (second_up_by role sequenced s o t)
     unfolding second_up_by
-    second_up_by_asked s None t b = no_call_asked out_of_state 0 (row_of_none role call_event.IccnAcc).1 t b
-    second_up_by_asked s (Some c) t b =
+    second_up_by_asked sequenced s None t b = no_call_asked out_of_state 0 (row_of_none role call_event.IccnAcc).1 t b
+    second_up_by_asked sequenced s (Some c) t b =
         branch Asked (is_up (row_for role c call_event.IccnAcc).0) _ _
-        (λ row. linked_up_asked s c t row b)
+        (λ row. linked_up_asked sequenced s c t row b)
         (λ none. answers_asked out_of_state s c (row_for role c call_event.IccnAcc).1 t b)
 
     end_heard_asked : (k : ℕ) (booked : Bool) (t : Turn) → Begins t → Asked (end_heard k booked t)
@@ -511,7 +512,7 @@ module _ (role : Role) (calls : List (ℕ × Call)) where
     about_asked session (Icrq remote serial calling) t b =
         asked_by_asked session remote (granted role calls remote t.ids.sessions) (at calls session) t b
     about_asked session (Icrp remote) t b = first_up_by_asked session remote (at calls session) t b
-    about_asked session (Iccn speed framing sequenced) t b = second_up_by_asked session (at calls session) t b
+    about_asked session (Iccn speed framing sequenced) t b = second_up_by_asked sequenced session (at calls session) t b
     about_asked session (Cdn remote code error) t b =
         let s = session_named calls session remote in
         end_heard_by_asked s (at calls s) t b
@@ -725,9 +726,17 @@ module _ (role : Role) (calls : List (ℕ × Call)) where
 
   -- ---- frames that are given
 
-  carried_asked : (s : ℕ) (frame : List ℕ) (c : Call) (t : Turn) → Begins t → Asked (carried s frame c t)
-  unfolding carried with_output with_move
-  carried_asked s frame c t b = same t (carried s frame c t) refl refl b
+  counts_asked : (s : ℕ) (frame : List ℕ) (c : Call) (o : Option ℕ) (t : Turn) → is_up c.state ≡ true → Begins t
+      → Asked (counts s c o (sends_frame s frame c t))
+  unfolding counts sends_frame with_output with_move with_call
+  counts_asked s frame c None t up b = same t (counts s c None (sends_frame s frame c t)) refl refl b
+  counts_asked s frame c (Some n) t up b =
+      puts t (counts s c (Some n) (sends_frame s frame c t)) s (counted c) (with_calls-more t.changed s (Some (counted c)) calls) refl
+      (other_state c.state call.Established (up_state c.state up) (λ k. absurd cc)) b
+
+  carried_asked : (s : ℕ) (frame : List ℕ) (c : Call) (t : Turn) → is_up c.state ≡ true → Begins t → Asked (carried s frame c t)
+  unfolding carried
+  carried_asked s frame c t up b = counts_asked s frame c c.sequence t up b
 
   pub carries_asked : (s : ℕ) (frame : List ℕ) (o : Option Call) (t : Turn) → Begins t → Asked (carries s frame o t)
   unfolding carries
@@ -735,5 +744,5 @@ module _ (role : Role) (calls : List (ℕ × Call)) where
   carries_asked s frame (Some c) t b =
       branch Asked (is_up c.state && is_passing c.link) _ _
       (λ up. branch Asked (is_short frame) _ _ (λ short. dropped why.Short t b)
-      (λ short. branch Asked (is_long frame) _ _ (λ long. dropped why.Long t b) (λ long. carried_asked s frame c t b)))
+      (λ short. branch Asked (is_long frame) _ _ (λ long. dropped why.Long t b) (λ long. carried_asked s frame c t (and_left _ _ up) b)))
       (λ down. dropped why.Closed t b)

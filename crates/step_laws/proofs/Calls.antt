@@ -257,7 +257,7 @@ module _ (e : End) (moment : ℕ) (ev : Event) (letters : List Letter) (calls : 
 
   second_up_by_ok : (session speed framing : ℕ) (sequenced : Bool) (t : Turn) → Taking e moment ev letters calls i t → state_number t.control.state ≡ 3
       → HearsNext ev (now e moment ev letters calls i t) session (Iccn speed framing sequenced) → (o : Option Call) → at calls session ≡ o
-      → Good (second_up_by e.role session o t)
+      → Good (second_up_by e.role sequenced session o t)
   unfolding second_up_by takes_plain with_move takes_one
   second_up_by_ok session speed framing sequenced t f is_open hears None is =
       let none = no_call e moment ev letters calls i t f.fresh session is in
@@ -266,7 +266,7 @@ module _ (e : End) (moment : ℕ) (ev : Event) (letters : List Letter) (calls : 
       (λ told. absurd (untold_of_connection e.role told))
   second_up_by_ok session speed framing sequenced t f is_open hears (Some c) is =
       branch Good (is_up (row_for e.role c call_event.IccnAcc).0) _ _
-      (λ row. linked_up_ok e moment ev letters calls i session c t row f.fresh.good.stays.4
+      (λ row. linked_up_ok e moment ev letters calls i sequenced session c t row f.fresh.good.stays.4
       (sent_none _ (second_up_ok e moment ev letters calls i session speed framing (magic_of t.on.block) sequenced c t is_open
       (at_first e moment ev letters calls i t f.fresh session (Some c) is) hears row (spare_first e moment ev letters calls i t f) f.fresh.good)))
       (λ none. answers_ok out_of_state session c call_event.IccnAcc t f is

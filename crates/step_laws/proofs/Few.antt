@@ -106,6 +106,7 @@ module _ (x y : End) (order : Ascends x.tunnels) (few : AreFew x) where
   does_few moment ev (move.Repeated m) h = same_few m.tunnel h.tunnel _ h.there (ap tunnels_of h.after)
   does_few moment ev (move.Quiet i) h = still_few h.after
   does_few moment ev (move.Negotiated m) h = same_few m.tunnel h.tunnel _ h.there (ap tunnels_of h.after)
+  does_few moment ev (move.Counted m) h = same_few m.tunnel h.tunnel _ h.there (ap tunnels_of h.after)
   does_few moment ev (move.FrameSent m) h = still_few h.after
   does_few moment ev (move.FrameUp m) h = still_few h.after
 

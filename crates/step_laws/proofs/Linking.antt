@@ -7,6 +7,7 @@ use Rattle.wire_base.specs.declared.cause.Cause.TheVariants as cause
 use Rattle.wire_base.specs.declared.letter.Letter.{Letter}
 use Rattle.call_fsm.specs.declared.table.CallEvent.TheVariants as call_event
 use Rattle.lcp_end.specs.Laws.{Call as LcpCall, OpenLink, after}
+use Rattle.l2tp_header.specs.Grammar.{FitsWord}
 use Rattle.end_model.specs.declared.tunnel.Call.{Call}
 use Rattle.end_model.specs.declared.tunnel.CallPlace.{CallPlace}
 use Rattle.session_looks.specs.declared.look.CellChange.{CellChange}
@@ -15,19 +16,19 @@ use Rattle.end_model.specs.declared.tunnel.Link.{Link}
 use Rattle.end_model.specs.declared.event.Event.{Event}
 use Rattle.end_model.specs.declared.moves.FrameSent.{FrameSent}
 use Rattle.end_model.specs.declared.moves.Move.TheVariants as move
-use Rattle.end_model.specs.Calls.{row_for, advanced, is_up, is_told}
+use Rattle.end_model.specs.Calls.{row_for, advanced, counted, counted_all, number_of, number_after, is_up, is_told}
 use Rattle.end_model.specs.Links.{lcp_frame, magic_of, new_link, with_link, link_after, is_first_open, looks_of}
 use Rattle.end_model.specs.Tunnels.{Tunnel, Turn}
 use Rattle.end_model.specs.Turn.{with_output, with_move, with_call, with_looks_of, with_change}
 use Rattle.end_model.specs.Events.{with_calls, tunnel_after}
-use Rattle.end_model.specs.Frames.{carried}
+use Rattle.end_model.specs.Frames.{sends_frame, counts, carried}
 use Rattle.end_model.specs.Linking.{sends_packets, negotiated, links}
 use Rattle.end_model.specs.Closing.{ends_by}
 use Rattle.end_model.specs.Sending.{settles, takes_one}
 use Rattle.end_model.specs.Connecting.{second_up, connects_call, linked_up}
 use Rattle.end_model.specs.End.{End, placed, with_look, with_looks}
 use Rattle.step_laws.specs.Letters.{Among, AFrame}
-use Rattle.step_laws.specs.Links.{IsCalled, ToOpen, Calls, WhySent, IsOfLcp}
+use Rattle.step_laws.specs.Links.{IsCalled, ToOpen, Calls, WhySent, IsGiven, IsOfLcp}
 use Rattle.step_laws.specs.Causes.{Stands}
 use Rattle.step_laws.specs.Moves.{WhyEnds, IsFinished}
 use Rattle.step_laws.proofs.Lists.{all_push, among_right, branch, with_calls-more, chain_more}
@@ -44,21 +45,63 @@ unfolding with_looks
 with_looks-append [] ys places = refl
 with_looks-append (x ∷ xs) ys places = with_looks-append xs ys (with_look x places)
 
--- of a turn a frame that is sent changes what is sent alone
-pub packets_same : (s : ℕ) (ps : List (List ℕ)) (c : Call) (t : Turn)
-    → sends_packets s ps c t ≡ record t { outputs = (sends_packets s ps c t).outputs; moves = (sends_packets s ps c t).moves }
-unfolding sends_packets carried with_output with_move
+-- what is sent in a turn, and its calls alone
+abbrev with_sent : Turn → Turn → Turn
+with_sent t u = record t { outputs = u.outputs; moves = u.moves; changed = u.changed }
+
+-- of a turn a frame that is sent changes what is sent alone, and the number of its call
+counts_same : (s : ℕ) (c : Call) (o : Option ℕ) (t : Turn) → counts s c o t ≡ with_sent t (counts s c o t)
+unfolding counts with_move with_call
+counts_same s c None t = refl
+counts_same s c (Some n) t = refl
+
+carried_same : (s : ℕ) (frame : List ℕ) (c : Call) (t : Turn) → carried s frame c t ≡ with_sent t (carried s frame c t)
+unfolding carried sends_frame with_output with_move
+carried_same s frame c t = counts_same s c c.sequence (sends_frame s frame c t)
+
+pub packets_same : (s : ℕ) (ps : List (List ℕ)) (c : Call) (t : Turn) → sends_packets s ps c t ≡ with_sent t (sends_packets s ps c t)
+unfolding sends_packets
 packets_same s [] c t = refl
-packets_same s (p ∷ ps) c t = packets_same s ps c (carried s (lcp_frame p) c t)
+packets_same s (p ∷ ps) c t =
+    let u = carried s (lcp_frame p) c t in
+    let v = sends_packets s ps (counted c) u in
+    packets_same s ps (counted c) u ∙ ap (λ (x : Turn). with_sent x v) (carried_same s (lcp_frame p) c t)
+
+-- where the call is put afterwards, that is all that changed of the calls
+module _ (calls : List (ℕ × Call)) where
+  counts_put : (s : ℕ) (c : Call) (o : Option ℕ) (t : Turn) (d : Call)
+      → put (with_calls (counts s c o t).changed calls) s d ≡ put (with_calls t.changed calls) s d
+  unfolding counts with_move with_call
+  counts_put s c None t d = refl
+  counts_put s c (Some n) t d =
+      ap (λ xs. put xs s d) (with_calls-more t.changed s (Some (counted c)) calls) ∙ put-put (with_calls t.changed calls) s (counted c) d
+
+  carried_put : (s : ℕ) (frame : List ℕ) (c : Call) (t : Turn) (d : Call)
+      → put (with_calls (carried s frame c t).changed calls) s d ≡ put (with_calls t.changed calls) s d
+  unfolding carried sends_frame with_output with_move
+  carried_put s frame c t d = counts_put s c c.sequence (sends_frame s frame c t) d
+
+  packets_put : (s : ℕ) (ps : List (List ℕ)) (c : Call) (t : Turn) (d : Call)
+      → put (with_calls (sends_packets s ps c t).changed calls) s d ≡ put (with_calls t.changed calls) s d
+  unfolding sends_packets
+  packets_put s [] c t d = refl
+  packets_put s (p ∷ ps) c t d = packets_put s ps (counted c) (carried s (lcp_frame p) c t) d ∙ carried_put s (lcp_frame p) c t d
 
 -- what the LCP end of a call gives is sent
 abbrev sent : ℕ → Call → Link → LcpCall → Turn → Turn
 sent s c l by t = sends_packets s (after by l.lcp).out.packets c t
 
+-- the call as it then is, and as its LCP end leaves it
+abbrev sent_call : Call → Link → LcpCall → Call
+sent_call c l by = counted_all (after by l.lcp).out.packets c
+
+abbrev pub linked_call : Call → Link → LcpCall → Call
+linked_call c l by = with_link (link_after l (after by l.lcp)) (sent_call c l by)
+
 -- what that and the link's step change of a turn
 abbrev pub kept_in : ℕ → Call → Link → LcpCall → Turn → Turn → Turn
 kept_in s c l by t u = record t {
-  changed = t.changed ++ (s, Some (with_link (link_after l (after by l.lcp)) c)) ∷ [];
+  changed = u.changed ++ (s, Some (linked_call c l by)) ∷ [];
   changes = t.changes ++ looks_of (is_first_open l (after by l.lcp).out) s;
   outputs = u.outputs;
   moves = u.moves ++ move.Negotiated (record { tunnel = t.control.local; session = s }) ∷ [];
@@ -68,10 +111,18 @@ pub negotiated_is : (s : ℕ) (c : Call) (l : Link) (by : LcpCall) (t : Turn)
     → negotiated s c l (after by l.lcp) t ≡ kept_in s c l by t (sent s c l by t)
 unfolding negotiated with_looks_of with_move with_call
 negotiated_is s c l by t =
-    let d = with_link (link_after l (after by l.lcp)) c in
+    let d = linked_call c l by in
     let cs = looks_of (is_first_open l (after by l.lcp).out) s in
     ap (λ (x : Turn). with_looks_of cs (with_move (move.Negotiated (record { tunnel = t.control.local; session = s })) (with_call s d x)))
     (packets_same s (after by l.lcp).out.packets c t)
+
+-- it leaves the call alone changed
+pub negotiated_put : (calls : List (ℕ × Call)) (s : ℕ) (c : Call) (l : Link) (by : LcpCall) (t : Turn)
+    → with_calls (negotiated s c l (after by l.lcp) t).changed calls ≡ put (with_calls t.changed calls) s (linked_call c l by)
+unfolding negotiated with_looks_of with_move with_call
+negotiated_put calls s c l by t =
+    with_calls-more (sent s c l by t).changed s (Some (linked_call c l by)) calls
+    ∙ packets_put calls s (after by l.lcp).out.packets c t (linked_call c l by)
 
 module _ (e : End) (moment : ℕ) (ev : Event) (letters : List Letter) (calls : List (ℕ × Call)) (i : ℕ) where
   abbrev tunnel : Turn → Tunnel
@@ -80,11 +131,83 @@ module _ (e : End) (moment : ℕ) (ev : Event) (letters : List Letter) (calls : 
   abbrev now : Turn → List (ℕ × Call)
   now t = with_calls t.changed calls
 
-  pub carried_ok : (s : ℕ) (frame : List ℕ) (c : Call) (t : Turn) → at (now t) s ≡ Some c → is_up c.state ≡ true
-      → WhySent ev moment t.control s c frame → Settled e moment ev letters calls i t → Settled e moment ev letters calls i (carried s frame c t)
-  unfolding carried with_output with_move
-  carried_ok s frame c t found up why h =
-      let f : FrameSent = record { tunnel = t.control.local; peer = t.control.peer; session = s; remote = c.remote; frame = frame } in
+  -- what goes in a header has 16 bits
+  number_is : (o : Option ℕ) → FitsWord (number_of o)
+  number_is None = tt
+  number_is (Some n) = omega arith
+
+  -- a frame that is sent leaves the calls
+  still_found : (s : ℕ) (frame : List ℕ) (c : Call) (t : Turn) → at (now t) s ≡ Some c → at (now (sends_frame s frame c t)) s ≡ Some c
+  unfolding sends_frame with_output with_move
+  still_found s frame c t found = found
+
+  -- a number is counted
+  counted_ok : (s : ℕ) (c : Call) (n : ℕ) (t : Turn) → c.sequence ≡ Some n → at (now t) s ≡ Some c → is_up c.state ≡ true
+      → Settled e moment ev letters calls i t
+      → Settled e moment ev letters calls i (with_move (move.Counted (record { tunnel = t.control.local; session = s })) (with_call s (counted c) t))
+  unfolding with_move with_call
+  counted_ok s c n t has found up h =
+      let m = move.Counted (record { tunnel = t.control.local; session = s }) in
+      let d = counted c in
+      record {
+        chain = chain_more moment ev e (at_turn e moment ev letters calls i t) _ t.moves m h.chain (record {
+          tunnel = tunnel t;
+          there = there e moment ev letters calls i t;
+          call = c;
+          live = found;
+          up = up;
+          number = n;
+          has = has;
+          after =
+              let changed = with_calls-more t.changed s (Some d) calls in
+              rw (changed, put-put e.tunnels t.control.local (tunnel t) _) refl;
+        });
+        outs = outs_on e moment ev letters calls i t (with_move m (with_call s d t)) (record {
+          local = refl;
+          peer = refl;
+          remote = refl;
+          acked = refl;
+          inbox = refl;
+          more = [];
+          letters = sym (append-nil (tunnel t).letters);
+        }) (m ∷ []) refl h;
+        tells = h.tells;
+        frames = all_push _ t.moves m h.frames tt;
+        stays = h.stays;
+        held = h.held;
+        fits = fits_changed e moment ev letters calls i t.control t s (Some d) (fits_same t.control (now t) s d c found refl h.fits);
+      }
+
+  counts_ok : (s : ℕ) (c : Call) (o : Option ℕ) (t : Turn) → c.sequence ≡ o → at (now t) s ≡ Some c → is_up c.state ≡ true
+      → Settled e moment ev letters calls i t → Settled e moment ev letters calls i (counts s c o t)
+  unfolding counts
+  counts_ok s c None t is found up h = h
+  counts_ok s c (Some n) t is found up h = counted_ok s c n t is found up h
+
+  -- the call has the next number
+  unnumbered : (c : Call) → c.sequence ≡ None → counted c ≡ c
+  unnumbered c is =
+      ap (λ (o : Option ℕ). record c { sequence = number_after o }) is ∙ ap (λ (o : Option ℕ). record c { sequence = o }) (sym is)
+
+  counts_found : (s : ℕ) (c : Call) (o : Option ℕ) (t : Turn) → c.sequence ≡ o → at (now t) s ≡ Some c → at (now (counts s c o t)) s ≡ Some (counted c)
+  unfolding counts with_move with_call
+  counts_found s c None t is found = found ∙ ap Some (sym (unnumbered c is))
+  counts_found s c (Some n) t is found =
+      ap (λ xs. at xs s) (with_calls-more t.changed s (Some (counted c)) calls) ∙ at_new (now t) s (counted c)
+
+  sends_frame_ok : (s : ℕ) (frame : List ℕ) (c : Call) (t : Turn) → at (now t) s ≡ Some c → is_up c.state ≡ true
+      → WhySent ev moment t.control s c frame → Settled e moment ev letters calls i t → Settled e moment ev letters calls i (sends_frame s frame c t)
+  unfolding sends_frame with_output with_move
+  sends_frame_ok s frame c t found up why h =
+      let f : FrameSent = record {
+        tunnel = t.control.local;
+        peer = t.control.peer;
+        session = s;
+        remote = c.remote;
+        number = number_of c.sequence;
+        frame = frame;
+      } in
+      let small = number_is c.sequence in
       let m = move.FrameSent f in
       record {
         chain = chain_more moment ev e (at_turn e moment ev letters calls i t) _ t.moves m h.chain (record {
@@ -95,27 +218,44 @@ module _ (e : End) (moment : ℕ) (ev : Event) (letters : List Letter) (calls : 
           calls = found;
           up = up;
           remote = refl;
+          number = refl;
           given = why;
           after = refl;
         });
         outs = all_push _ t.outputs _ (outs_on e moment ev letters calls i t (with_move m t) (goes_nowhere (tunnel t)) (m ∷ []) refl h)
-            (refl, AFrame f (among_right m t.moves (m ∷ []) (inl refl)) refl refl refl refl);
+            (refl, AFrame f (among_right m t.moves (m ∷ []) (inl refl)) refl refl small refl refl);
         tells = all_push _ t.outputs _ h.tells tt;
         frames = all_push _ t.moves m (frames_more t.outputs _ t.moves h.frames)
-            (t.control.remote, among_right _ t.outputs _ (inl refl));
+            (t.control.remote, small, among_right _ t.outputs _ (inl refl));
         stays = h.stays;
         held = h.held;
         fits = h.fits;
       }
 
-  found_on : (s : ℕ) (frame : List ℕ) (c : Call) (t : Turn) → at (now t) s ≡ Some c → at (now (carried s frame c t)) s ≡ Some c
-  unfolding carried with_output with_move
-  found_on s frame c t found = found
+  pub carried_ok : (s : ℕ) (frame : List ℕ) (c : Call) (t : Turn) → at (now t) s ≡ Some c → is_up c.state ≡ true
+      → WhySent ev moment t.control s c frame → Settled e moment ev letters calls i t → Settled e moment ev letters calls i (carried s frame c t)
+  unfolding carried
+  carried_ok s frame c t found up why h =
+      counts_ok s c c.sequence (sends_frame s frame c t) refl (still_found s frame c t found) up (sends_frame_ok s frame c t found up why h)
+
+  found_on : (s : ℕ) (frame : List ℕ) (c : Call) (t : Turn) → at (now t) s ≡ Some c → at (now (carried s frame c t)) s ≡ Some (counted c)
+  unfolding carried
+  found_on s frame c t found = counts_found s c c.sequence (sends_frame s frame c t) refl (still_found s frame c t found)
+
+  why_counted : (k : Control) (s : ℕ) (frame : List ℕ) (c : Call) → WhySent ev moment k s c frame → WhySent ev moment k s (counted c) frame
+  why_counted k s frame c (IsGiven given passes) = IsGiven given passes
+  why_counted k s frame c (IsOfLcp g) = IsOfLcp (record {
+    calls = record { link = g.calls.link; has = g.calls.has; by = g.calls.by; called = g.calls.called };
+    packet = g.packet;
+    among = g.among;
+    is = g.is;
+  })
 
   why_on : (s : ℕ) (frame : List ℕ) (c : Call) (t : Turn) (q : List ℕ) → WhySent ev moment t.control s c (lcp_frame q)
-      → WhySent ev moment (carried s frame c t).control s c (lcp_frame q)
-  unfolding carried with_output with_move
-  why_on s frame c t q why = why
+      → WhySent ev moment (carried s frame c t).control s (counted c) (lcp_frame q)
+  why_on s frame c t q why =
+      subst (λ (k : Control). WhySent ev moment k s (counted c) (lcp_frame q)) (sym (ap (λ (x : Turn). x.control) (carried_same s frame c t)))
+      (why_counted t.control s (lcp_frame q) c why)
 
   -- each of these packets
   packets_ok : (s : ℕ) (ps : List (List ℕ)) (c : Call) (t : Turn) → at (now t) s ≡ Some c → is_up c.state ≡ true
@@ -124,8 +264,13 @@ module _ (e : End) (moment : ℕ) (ev : Event) (letters : List Letter) (calls : 
   unfolding sends_packets
   packets_ok s [] c t found up why h = h
   packets_ok s (p ∷ ps) c t found up why h =
-      packets_ok s ps c (carried s (lcp_frame p) c t) (found_on s (lcp_frame p) c t found) up (λ q a. why_on s (lcp_frame p) c t q (why q (inr a)))
+      packets_ok s ps (counted c) (carried s (lcp_frame p) c t) (found_on s (lcp_frame p) c t found) up (λ q a. why_on s (lcp_frame p) c t q (why q (inr a)))
       (carried_ok s (lcp_frame p) c t found up (why p (inl refl)) h)
+
+  packets_found : (s : ℕ) (ps : List (List ℕ)) (c : Call) (t : Turn) → at (now t) s ≡ Some c → at (now (sends_packets s ps c t)) s ≡ Some (counted_all ps c)
+  unfolding sends_packets
+  packets_found s [] c t found = found
+  packets_found s (p ∷ ps) c t found = packets_found s ps (counted c) (carried s (lcp_frame p) c t) (found_on s (lcp_frame p) c t found)
 
   -- a call of which the LCP end is called
   pub record IsLinked (s : ℕ) (c : Call) (l : Link) (by : LcpCall) (t : Turn) : Type 0 where
@@ -184,21 +329,20 @@ module _ (e : End) (moment : ℕ) (ev : Event) (letters : List Letter) (calls : 
   negotiated_ok s c l by t k h =
       let u = sent s c l by t in
       let same = packets_same s (after by l.lcp).out.packets c t in
-      let still : IsLinked s c l by u = record {
-        found = ap (λ (x : Turn). at (now x) s) same ∙ k.found;
+      let still : IsLinked s (sent_call c l by) l by u = record {
+        found = packets_found s (after by l.lcp).out.packets c t k.found;
         has = k.has;
         up = k.up;
         called = subst (λ (x : Control). IsCalled ev moment x s l by) (sym (ap (λ (x : Turn). x.control) same)) k.called;
       } in
       subst (λ (j : ℕ). Settled e moment ev letters calls i (with_looks_of (looks_of (is_first_open l (after by l.lcp).out) s)
-      (with_move (move.Negotiated (record { tunnel = j; session = s })) (with_call s (with_link (link_after l (after by l.lcp)) c) u))))
+      (with_move (move.Negotiated (record { tunnel = j; session = s })) (with_call s (linked_call c l by) u))))
       (ap (λ (x : Turn). x.control.local) same)
-      (kept_ok s c l by u still (sent_ok s c l by t k h))
+      (kept_ok s (sent_call c l by) l by u still (sent_ok s c l by t k h))
 
   -- a turn that changes one call
-  one_changed : (s : ℕ) (d : Call) (t u : Turn) → u.changed ≡ t.changed ++ (s, Some d) ∷ [] → Others e moment ev letters calls i s t u
-  one_changed s d t u is q o =
-      ap (λ xs. at (with_calls xs calls) q) is ∙ ap (λ xs. at xs q) (with_calls-more t.changed s (Some d) calls) ∙ at_other (now t) s d q o
+  one_changed : (s : ℕ) (d : Call) (t u : Turn) → now u ≡ put (now t) s d → Others e moment ev letters calls i s t u
+  one_changed s d t u is q o = ap (λ xs. at xs q) is ∙ at_other (now t) s d q o
 
   negotiated_leaves : (s : ℕ) (c : Call) (l : Link) (by : LcpCall) (t : Turn) → IsLinked s c l by t → Settled e moment ev letters calls i t
       → Leaves e moment ev letters calls i s t (negotiated s c l (after by l.lcp) t)
@@ -206,7 +350,7 @@ module _ (e : End) (moment : ℕ) (ev : Event) (letters : List Letter) (calls : 
       let is = negotiated_is s c l by t in
       record {
         ok = negotiated_ok s c l by t k h;
-        others = one_changed s (with_link (link_after l (after by l.lcp)) c) t (negotiated s c l (after by l.lcp) t) (ap (λ (x : Turn). x.changed) is);
+        others = one_changed s (linked_call c l by) t (negotiated s c l (after by l.lcp) t) (negotiated_put calls s c l by t);
         added = ap (λ (x : Turn). x.added) is;
         ids = ap (λ (x : Turn). x.ids) is;
       }
@@ -243,16 +387,16 @@ module _ (e : End) (moment : ℕ) (ev : Event) (letters : List Letter) (calls : 
   -- ---- a call that is connected
 
   -- a turn in which a call was connected has it, with its link
-  connected_found : (s : ℕ) (d : Call) (t : Turn) → at (now (second_up s d t)) s ≡ Some d
+  connected_found : (sequenced : Bool) (s : ℕ) (d : Call) (t : Turn) → at (now (second_up sequenced s d t)) s ≡ Some d
   unfolding second_up with_change with_move with_call takes_one
-  connected_found s d t = ap (λ xs. at xs s) (with_calls-more t.changed s (Some d) calls) ∙ at_new (now t) s d
+  connected_found sequenced s d t = ap (λ xs. at xs s) (with_calls-more t.changed s (Some d) calls) ∙ at_new (now t) s d
 
-  pub linked_up_ok : (s : ℕ) (c : Call) (t : Turn) → is_up (row_for e.role c call_event.IccnAcc).0 ≡ true → t.on.moment ≡ moment
-      → Settled e moment ev letters calls i (second_up s (connected_call e moment ev letters calls i (magic_of t.on.block) c t) t)
-      → Settled e moment ev letters calls i (linked_up e.role s c t)
+  pub linked_up_ok : (sequenced : Bool) (s : ℕ) (c : Call) (t : Turn) → is_up (row_for e.role c call_event.IccnAcc).0 ≡ true → t.on.moment ≡ moment
+      → Settled e moment ev letters calls i (second_up sequenced s (connected_call e moment ev letters calls i sequenced (magic_of t.on.block) c t) t)
+      → Settled e moment ev letters calls i (linked_up e.role sequenced s c t)
   unfolding linked_up connects_call advanced
-  linked_up_ok s c t row same h =
-      let d = connected_call e moment ev letters calls i (magic_of t.on.block) c t in
+  linked_up_ok sequenced s c t row same h =
+      let d = connected_call e moment ev letters calls i sequenced (magic_of t.on.block) c t in
       let l = new_link t.on.block in
-      negotiated_ok s d l (OpenLink t.on.moment) (second_up s d t)
-      (record { found = connected_found s d t; has = refl; up = row; called = ToOpen (magic_of t.on.block) refl (ap OpenLink same) }) h
+      negotiated_ok s d l (OpenLink t.on.moment) (second_up sequenced s d t)
+      (record { found = connected_found sequenced s d t; has = refl; up = row; called = ToOpen (magic_of t.on.block) refl (ap OpenLink same) }) h

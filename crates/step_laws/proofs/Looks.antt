@@ -21,7 +21,7 @@ use Rattle.end_model.specs.declared.tunnel.CallPlace.{CallPlace}
 use Rattle.session_looks.specs.declared.look.CellChange.TheVariants as cell
 use Rattle.end_model.specs.declared.tunnel.Control.{Control}
 use Rattle.session_looks.specs.declared.look.Look.TheVariants as look
-use Rattle.end_model.specs.Calls.{call_row, advanced, rung, asked_for}
+use Rattle.end_model.specs.Calls.{call_row, advanced, with_numbers, counted, rung, asked_for}
 use Rattle.end_model.specs.Tunnels.{Tunnel}
 use Rattle.end_model.specs.Links.{with_link, link_after, is_first_open, looks_of}
 use Rattle.lcp_end.specs.Laws.{after as lcp_after}
@@ -452,7 +452,7 @@ module _ (x : End) (ok : LooksAreTrue x) where
       let lt = ok.sessions m.session _ seen in
       let ids : y.session_ids ≡ x.session_ids = ap (λ (e : End). e.session_ids) h.after in
       let state = up_state _ h.row in
-      call_put y m.tunnel h.tunnel _ _ m.session (with_link (begun_link h.magic) (advanced x.role call_event.IccnAcc moment h.call)) (record {
+      call_put y m.tunnel h.tunnel _ _ m.session (with_link (begun_link h.magic) (with_numbers m.sequenced (advanced x.role call_event.IccnAcc moment h.call))) (record {
         tunnels = ap (λ (e : End). e.tunnels) h.after;
         there = h.there;
         peer = refl;
@@ -528,6 +528,22 @@ module _ (x : End) (ok : LooksAreTrue x) where
         role = ap (λ (e : End). e.role) h.after;
         fits = linked_fits x.role h.call.state h.call.link h.calls.link (link_after h.calls.link v) h.calls.has state
             (ok.links m.tunnel h.tunnel h.there m.session h.call h.live);
+        drawn = rw ids lt;
+        rises = rw ids (omega arith);
+      })
+  does_looks order moment ev (move.Counted m) y h =
+      let seen = ok.seen m.tunnel h.tunnel h.there m.session h.call h.live in
+      let lt = ok.sessions m.session _ seen in
+      let ids : y.session_ids ≡ x.session_ids = ap (λ (e : End). e.session_ids) h.after in
+      call_put y m.tunnel h.tunnel _ _ m.session (counted h.call) (record {
+        tunnels = ap (λ (e : End). e.tunnels) h.after;
+        there = h.there;
+        peer = refl;
+        only = one_tunnel m.tunnel h.tunnel h.there m.session h.call h.live;
+        calls = λ q. same_places y.calls x.calls (ap (λ (e : End). e.calls) h.after) q ∙ same_place x.calls m.session _ seen q;
+        ids = ap (λ (e : End). e.tunnel_ids) h.after;
+        role = ap (λ (e : End). e.role) h.after;
+        fits = ok.links m.tunnel h.tunnel h.there m.session h.call h.live;
         drawn = rw ids lt;
         rises = rw ids (omega arith);
       })
@@ -616,6 +632,9 @@ module _ (x : End) (ok : AreOrdered x) where
       tunnel_put y m.tunnel _ (ascends-put m.session _ h.tunnel.calls (ok.calls m.tunnel h.tunnel h.there)) (ap (λ (e : End). e.tunnels) h.after)
       (subst (λ (e : End). Ascends e.calls) (sym h.after)
       (ascends_looks (looks_of (is_first_open h.calls.link (lcp_after h.calls.by h.calls.link.lcp).out) m.session) x.calls ok.places))
+  does_order moment ev (move.Counted m) y h =
+      tunnel_put y m.tunnel _ (ascends-put m.session _ h.tunnel.calls (ok.calls m.tunnel h.tunnel h.there)) (ap (λ (e : End). e.tunnels) h.after)
+      (looks_stay_so y (ap (λ (e : End). e.calls) h.after))
   does_order moment ev (move.FrameSent m) y h = subst AreOrdered (sym h.after) ok
   does_order moment ev (move.FrameUp m) y h = subst AreOrdered (sym h.after) ok
 

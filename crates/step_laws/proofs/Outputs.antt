@@ -36,11 +36,12 @@ no_frame_out outs (move.NrRead m) h = tt
 no_frame_out outs (move.LetGo m) h = tt
 no_frame_out outs (move.Quiet i) h = tt
 no_frame_out outs (move.Negotiated m) h = tt
+no_frame_out outs (move.Counted m) h = tt
 no_frame_out outs (move.FrameUp m) h = tt
 
 -- among these outputs and others
 pub output_within : (outs more : List Out) → ((o : Out) → Among o outs → Among o more) → (m : Move) → HasOutput outs m → HasOutput more m
-output_within outs more within (move.FrameSent f) h = (h.0, within _ h.1)
+output_within outs more within (move.FrameSent f) h = (h.0, h.1, within _ h.2)
 output_within outs more within (move.Opened m) h = tt
 output_within outs more within (move.Accepted m) h = tt
 output_within outs more within (move.Connected m) h = tt
@@ -66,6 +67,7 @@ output_within outs more within (move.NrRead m) h = tt
 output_within outs more within (move.LetGo m) h = tt
 output_within outs more within (move.Quiet i) h = tt
 output_within outs more within (move.Negotiated m) h = tt
+output_within outs more within (move.Counted m) h = tt
 output_within outs more within (move.FrameUp m) h = tt
 
 pub frames_more : (outs more : List Out) (ms : List Move) → AllByRecursion (HasOutput outs) ms → AllByRecursion (HasOutput (outs ++ more)) ms

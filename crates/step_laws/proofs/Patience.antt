@@ -35,12 +35,11 @@ use Rattle.end_model.specs.Sending.{gives, letter_in, sends_now, settles, repeat
 use Rattle.end_model.specs.Channels.{has_room, place, next_place, counts_repeated}
 use Rattle.end_model.specs.Ticking.{greeted, greets, limits_at, limits_all, goes_quietly, clears, ticks_by, ticks}
 use Rattle.end_model.specs.Closing.{end_silent, end_told, ends_by}
-use Rattle.end_model.specs.Links.{with_link, link_after}
 use Rattle.end_model.specs.Linking.{negotiated, links, ticks_link}
 use Rattle.end_model.specs.Moments.{is_over, patience, is_at_its_end}
 use Rattle.step_laws.specs.Letters.{Among}
 use Rattle.step_laws.proofs.Lists.{branch, and_left, and_right, found_among, with_calls-more}
-use Rattle.step_laws.proofs.Linking.{negotiated_is}
+use Rattle.step_laws.proofs.Linking.{linked_call, negotiated_is, negotiated_put}
 use Rattle.step_laws.proofs.States.{never}
 use Rattle.step_laws.proofs.Keeping.{Keeps, repeated_room, sent_keeps, settled_keeps, more_full}
 
@@ -225,11 +224,10 @@ module _ (role : Role) (moment : ℕ) (calls : List (ℕ × Call)) where
         leads_on t u _ l (keeps_leads u _ (settled_keeps false letters u) l.ok)
 
     -- a call that is up is put, in the same state
-    puts : (s : ℕ) (d : Call) (t u : Turn) → is_up d.state ≡ true → u.changed ≡ t.changed ++ (s, Some d) ∷ [] → u.on.moment ≡ t.on.moment
+    puts : (s : ℕ) (d : Call) (t u : Turn) → is_up d.state ≡ true
+        → with_calls u.changed calls ≡ put (with_calls t.changed calls) s d → u.on.moment ≡ t.on.moment
         → u.control ≡ t.control → Ticked t → Leads t u
-    puts s d t u up more now same h =
-        let is : with_calls u.changed calls ≡ put (with_calls t.changed calls) s d =
-        ap (λ xs. with_calls xs calls) more ∙ with_calls-more t.changed s (Some d) calls in
+    puts s d t u up is now same h =
         let found : (q : ℕ) (c : Call) → There u q c → is_set_up c.state ≡ true → There t q c = λ q c there set_up. ⊎_elim
         (λ (a : (q ≡ s) × (d ≡ c)). absurd (not_both c.state set_up (subst (λ (x : Call). is_up x.state ≡ true) a.1 up)))
         (λ (a : (q ≡ s → ⊥) × There t q c). a.1)
@@ -253,8 +251,8 @@ module _ (role : Role) (moment : ℕ) (calls : List (ℕ × Call)) where
         (λ done. finished s c t h)
         (λ no.
         let is = negotiated_is s c l by t in
-        puts s (with_link (link_after l (lcp_after by l.lcp)) c) t (negotiated s c l (lcp_after by l.lcp) t) up
-        (ap (λ (x : Turn). x.changed) is) (ap (λ (x : Turn). x.on.moment) is) (ap (λ (x : Turn). x.control) is) h)
+        puts s (linked_call c l by) t (negotiated s c l (lcp_after by l.lcp) t) up
+        (negotiated_put calls s c l by t) (ap (λ (x : Turn). x.on.moment) is) (ap (λ (x : Turn). x.control) is) h)
 
     -- a call that is late is due
     is_due : (s : ℕ) (c : Call) (t : Turn) → Ticked t → IsDue role moment s c

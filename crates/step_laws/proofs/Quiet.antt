@@ -42,7 +42,7 @@ use Rattle.end_model.specs.declared.out.Out.TheVariants.{Gone, Drop, Cause as Re
 use Rattle.end_model.specs.declared.moves.Move.{Move}
 use Rattle.end_model.specs.declared.moves.Move.TheVariants as move
 use Rattle.end_model.specs.Reading.{message_in, CallFault, call_fault_in, TunnelFault, tunnel_fault_in}
-use Rattle.end_model.specs.Calls.{row_for, row_of_none, advanced, is_set_up, is_request, is_connection, is_up, is_clean_up, is_short, is_long}
+use Rattle.end_model.specs.Calls.{row_for, row_of_none, advanced, with_numbers, counted, is_set_up, is_request, is_connection, is_up, is_clean_up, is_short, is_long}
 use Rattle.end_model.specs.Tunnels.{Ground, Turn}
 use Rattle.end_model.specs.Links.{new_link, with_link, lcp_frame, is_passing}
 use Rattle.end_model.specs.Stopping.{rejects, rejected, shuts, closed_told, closes_tunnel, closed_by, shuts_by}
@@ -61,7 +61,7 @@ use Rattle.end_model.specs.Faulty.{faulty_at, faulty, in_faulty_call}
 use Rattle.end_model.specs.Closing.{closes, ends_by, end_silent, end_told}
 use Rattle.end_model.specs.Connecting.{first_up, first_up_by, second_up, second_up_by, end_heard, end_heard_by, ends_named, connects_call, linked_up}
 use Rattle.end_model.specs.Ticking.{greeted, greets, limits_at, limits_all, goes_quietly, clears, ticks_by, ticks}
-use Rattle.end_model.specs.Frames.{carried, carries}
+use Rattle.end_model.specs.Frames.{sends_frame, counts, carried, carries}
 use Rattle.end_model.specs.Linking.{sends_packets, negotiated, links, hears_link, hears_lcp, ticks_link}
 use Rattle.step_laws.specs.Ups.{ups_of_output, ups_of_move, births_of_move, reads_of_move}
 use Rattle.step_laws.specs.Letters.{Among}
@@ -456,9 +456,14 @@ module _ (F : ℕ → List ℕ → Type 0) (on : Ground) where
 
     -- ---- LCP
 
+    counts_quiet : (s : ℕ) (c : Call) (o : Option ℕ) (t : Turn) → Quiet t → Quiet (counts s c o t)
+    unfolding counts with_move with_call
+    counts_quiet s c None t h = h
+    counts_quiet s c (Some n) t h = did _ refl refl refl tt h
+
     carried_quiet : (s : ℕ) (frame : List ℕ) (c : Call) (t : Turn) → F s frame → Quiet t → Quiet (carried s frame c t)
-    unfolding carried with_output with_move
-    carried_quiet s frame c t so h = told _ refl (did _ refl refl refl so h)
+    unfolding carried sends_frame with_output with_move
+    carried_quiet s frame c t so h = counts_quiet s c c.sequence (sends_frame s frame c t) (told _ refl (did _ refl refl refl so h))
 
     -- these packets may be sent
     abbrev pub AreSo : ℕ → List (List ℕ) → Type 0
@@ -468,7 +473,7 @@ module _ (F : ℕ → List ℕ → Type 0) (on : Ground) where
     unfolding sends_packets
     packets_quiet s [] c t so h = h
     packets_quiet s (p ∷ ps) c t so h =
-        packets_quiet s ps c (carried s (lcp_frame p) c t) (λ q a. so q (inr a)) (carried_quiet s (lcp_frame p) c t (so p (inl refl)) h)
+        packets_quiet s ps (counted c) (carried s (lcp_frame p) c t) (λ q a. so q (inr a)) (carried_quiet s (lcp_frame p) c t (so p (inl refl)) h)
 
     negotiated_quiet : (s : ℕ) (c : Call) (l : Link) (v : LcpTurn) (t : Turn) → AreSo s v.out.packets → Quiet t → Quiet (negotiated s c l v t)
     unfolding negotiated with_looks_of with_move with_call
@@ -513,31 +518,32 @@ module _ (F : ℕ → List ℕ → Type 0) (on : Ground) where
 
     -- ---- calls that are connected and end
 
-    second_up_quiet : (s : ℕ) (d : Call) (t : Turn) → Quiet t → Quiet (second_up s d t)
+    second_up_quiet : (sequenced : Bool) (s : ℕ) (d : Call) (t : Turn) → Quiet t → Quiet (second_up sequenced s d t)
     unfolding second_up with_change with_move with_call takes_one
-    second_up_quiet s d t h = did _ refl refl refl tt h
+    second_up_quiet sequenced s d t h = did _ refl refl refl tt h
 
     -- LCP may be opened in a call of these that is connected
     abbrev pub OpensSo : Role → ℕ → Option Call → Type 0
     OpensSo role s o = (c : Call) → o ≡ Some c → is_up (row_for role c call_event.IccnAcc).0 ≡ true
         → AreSo s (link_opened on.moment (new_link on.block).lcp).out.packets
 
-    linked_up_quiet : (role : Role) (s : ℕ) (c : Call) (t : Turn) → AreSo s (link_opened on.moment (new_link on.block).lcp).out.packets → Quiet t
-        → Quiet (linked_up role s c t)
+    linked_up_quiet : (role : Role) (sequenced : Bool) (s : ℕ) (c : Call) (t : Turn) → AreSo s (link_opened on.moment (new_link on.block).lcp).out.packets → Quiet t
+        → Quiet (linked_up role sequenced s c t)
     unfolding linked_up connects_call
-    linked_up_quiet role s c t so h =
+    linked_up_quiet role sequenced s c t so h =
         let l = new_link t.on.block in
-        let d = with_link l (advanced role call_event.IccnAcc t.on.moment c) in
-        negotiated_quiet s d l (link_opened t.on.moment l.lcp) (second_up s d t)
+        let d = with_link l (with_numbers sequenced (advanced role call_event.IccnAcc t.on.moment c)) in
+        negotiated_quiet s d l (link_opened t.on.moment l.lcp) (second_up sequenced s d t)
         (subst (λ (g : Ground). AreSo s (link_opened g.moment (new_link g.block).lcp).out.packets) (sym h.same) so)
-        (second_up_quiet s d t h)
+        (second_up_quiet sequenced s d t h)
 
-    second_up_by_quiet : (role : Role) (s : ℕ) (o : Option Call) (t : Turn) → OpensSo role s o → Quiet t → Quiet (second_up_by role s o t)
+    second_up_by_quiet : (role : Role) (sequenced : Bool) (s : ℕ) (o : Option Call) (t : Turn) → OpensSo role s o → Quiet t
+        → Quiet (second_up_by role sequenced s o t)
     unfolding second_up_by
-    second_up_by_quiet role s None t so h = no_call_quiet out_of_state 0 (row_of_none role call_event.IccnAcc).1 t h
-    second_up_by_quiet role s (Some c) t so h =
+    second_up_by_quiet role sequenced s None t so h = no_call_quiet out_of_state 0 (row_of_none role call_event.IccnAcc).1 t h
+    second_up_by_quiet role sequenced s (Some c) t so h =
         branch Quiet (is_up (row_for role c call_event.IccnAcc).0) _ _
-        (λ row. linked_up_quiet role s c t (so c refl row) h)
+        (λ row. linked_up_quiet role sequenced s c t (so c refl row) h)
         (λ none. answers_quiet out_of_state s c (row_for role c call_event.IccnAcc).1 t h)
 
     end_heard_by_quiet : (role : Role) (s : ℕ) (o : Option Call) (t : Turn) → Quiet t → Quiet (end_heard_by role s o t)
@@ -553,7 +559,7 @@ module _ (F : ℕ → List ℕ → Type 0) (on : Ground) where
     about_quiet role calls session (Icrq remote serial calling) t so h =
         asked_quiet role session remote (granted role calls remote t.ids.sessions) (at calls session) t h
     about_quiet role calls session (Icrp remote) t so h = first_up_by_quiet role session remote (at calls session) t h
-    about_quiet role calls session (Iccn speed framing sequenced) t so h = second_up_by_quiet role session (at calls session) t (so session) h
+    about_quiet role calls session (Iccn speed framing sequenced) t so h = second_up_by_quiet role sequenced session (at calls session) t (so session) h
     about_quiet role calls session (Cdn remote code error) t so h =
         let s = session_named calls session remote in
         end_heard_by_quiet role s (at calls s) t h

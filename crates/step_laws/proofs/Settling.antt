@@ -97,8 +97,8 @@ carries_on t u g ms ns within bytes o (ALetter l number small kept is said) =
     (rw (g.local, g.inbox) is)
     (rw (g.remote, g.inbox) said)
 carries_on t u g ms ns within bytes o (Nothing number is said) = Nothing number (rw (g.local, g.inbox) is) (rw (g.remote, g.inbox) said)
-carries_on t u g ms ns within bytes o (AFrame f sent tunnel peer is said) =
-    AFrame f (within _ sent) (tunnel ∙ sym g.local) (peer ∙ sym g.peer) is (rw g.remote said)
+carries_on t u g ms ns within bytes o (AFrame f sent tunnel peer number is said) =
+    AFrame f (within _ sent) (tunnel ∙ sym g.local) (peer ∙ sym g.peer) number is (rw g.remote said)
 
 -- what is sent goes to the tunnel's peer
 abbrev pub OutOk : Tunnel → List Move → Out → Type 0

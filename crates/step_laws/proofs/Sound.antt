@@ -150,6 +150,10 @@ module _ (e : End) (whole : AreWhole e) where
       let calls = whole.calls m.tunnel h.tunnel h.there in
       puts x _ m.tunnel _ h.after refl refl refl
       (whole_put e.role h.tunnel.calls m.session _ (calls.sound m.session h.call h.live).0 (calls.sound m.session h.call h.live).1 calls)
+  does_whole moment ev (move.Counted m) x h =
+      let calls = whole.calls m.tunnel h.tunnel h.there in
+      puts x _ m.tunnel _ h.after refl refl refl
+      (whole_put e.role h.tunnel.calls m.session _ (calls.sound m.session h.call h.live).0 (calls.sound m.session h.call h.live).1 calls)
   does_whole moment ev (move.FrameSent m) x h = nothing x h.after
   does_whole moment ev (move.FrameUp m) x h = nothing x h.after
 
@@ -180,6 +184,7 @@ does_role moment ev e x (move.LetGo m) h = ap (λ (y : End). y.role) h.after
 does_role moment ev e x (move.Repeated m) h = ap (λ (y : End). y.role) h.after
 does_role moment ev e x (move.Quiet i) h = ap (λ (y : End). y.role) h.after
 does_role moment ev e x (move.Negotiated m) h = ap (λ (y : End). y.role) h.after
+does_role moment ev e x (move.Counted m) h = ap (λ (y : End). y.role) h.after
 does_role moment ev e x (move.FrameSent m) h = ap (λ (y : End). y.role) h.after
 does_role moment ev e x (move.FrameUp m) h = ap (λ (y : End). y.role) h.after
 

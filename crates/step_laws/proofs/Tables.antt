@@ -113,6 +113,7 @@ pick_is (move.LetGo y) m a = absurd a
 pick_is (move.Repeated y) m a = absurd a
 pick_is (move.Quiet i) m a = absurd a
 pick_is (move.Negotiated y) m a = absurd a
+pick_is (move.Counted y) m a = absurd a
 pick_is (move.FrameSent y) m a = absurd a
 pick_is (move.FrameUp y) m a = absurd a
 
@@ -351,10 +352,10 @@ module _ (e : End) (i : ℕ) (tunnel : Tunnel) (session : ℕ) (t : Turn) (h : I
   up_nothing Lns call.WaitConnect up = (refl, refl)
   up_nothing Lns call.Established up = absurd (true≢false (sym up))
 
-  iccn_done : (o : Option Call) → at calls session ≡ o → Row session call_event.IccnAcc out_of_state (second_up_by e.role session o t)
+  iccn_done : (sequenced : Bool) (o : Option Call) → at calls session ≡ o → Row session call_event.IccnAcc out_of_state (second_up_by e.role sequenced session o t)
   unfolding second_up_by
-  iccn_done None is = none_done session call_event.IccnAcc out_of_state _ is
-  iccn_done (Some c) is =
+  iccn_done sequenced None is = none_done session call_event.IccnAcc out_of_state _ is
+  iccn_done sequenced (Some c) is =
       branch (Row session call_event.IccnAcc out_of_state) (is_up (row_for e.role c call_event.IccnAcc).0) _ _
       (λ up d live.
       let both : Some c ≡ Some d = sym is ∙ live in
@@ -497,7 +498,7 @@ module _ (e : End) (i : ℕ) (tunnel : Tunnel) (session : ℕ) (t : Turn) (h : I
     said_done (Ok (Icrp remote)) = λ is_open.
         in_open (Row session call_event.IcrpAcc out_of_state) _ _ is_open (icrp_done remote (at calls session) refl)
     said_done (Ok (Iccn speed framing sequenced)) = λ is_open.
-        in_open (Row session call_event.IccnAcc out_of_state) _ _ is_open (iccn_done (at calls session) refl)
+        in_open (Row session call_event.IccnAcc out_of_state) _ _ is_open (iccn_done sequenced (at calls session) refl)
     said_done (Ok (Sccrq o)) = tt
     said_done (Ok (Sccrp o)) = tt
     said_done (Ok (Scccn response)) = tt

@@ -35,7 +35,7 @@ use Rattle.end_model.specs.declared.out.Out.TheVariants.{Send, Up, Gone, Drop, C
 use Rattle.end_model.specs.declared.moves.Move.{Move}
 use Rattle.end_model.specs.declared.moves.Move.TheVariants as move
 use Rattle.end_model.specs.Reading.{message_in, call_fault_in}
-use Rattle.end_model.specs.Calls.{call_row, row_for, row_of_none, advanced, rung, asked_for, is_request, is_reply, is_connection, is_up, are_too_many, is_clean_up}
+use Rattle.end_model.specs.Calls.{call_row, row_for, row_of_none, advanced, with_numbers, rung, asked_for, is_request, is_reply, is_connection, is_up, are_too_many, is_clean_up}
 use Rattle.end_model.specs.Secrets.{response_by}
 use Rattle.step_laws.proofs.Secrets.{acceptable_proven, responds_so, hides_number}
 use Rattle.end_model.specs.Messages.{is_acceptable, request_of, hidden_request, connection, told_by, flags_of}
@@ -518,16 +518,16 @@ module _ (e : End) (moment : ℕ) (ev : Event) (letters : List Letter) (calls : 
       }
 
   -- the call as it is connected, with its link
-  abbrev pub connected_call : ℕ → Call → Turn → Call
-  connected_call magic c t = with_link (begun_link magic) (advanced e.role call_event.IccnAcc t.on.moment c)
+  abbrev pub connected_call : Bool → ℕ → Call → Turn → Call
+  connected_call sequenced magic c t = with_link (begun_link magic) (with_numbers sequenced (advanced e.role call_event.IccnAcc t.on.moment c))
 
   pub second_up_ok : (s speed framing magic : ℕ) (sequenced : Bool) (c : Call) (t : Turn) → state_number t.control.state ≡ 3
       → at (with_calls t.changed calls) s ≡ Some c → HearsNext ev (tunnel_after t letters calls) s (Iccn speed framing sequenced)
       → is_up (row_for e.role c call_event.IccnAcc).0 ≡ true → may_take t.control (with_calls t.changed calls) ≡ true → TurnOk t
-      → TurnOk (second_up s (connected_call magic c t) t)
+      → TurnOk (second_up sequenced s (connected_call sequenced magic c t) t)
   unfolding second_up with_change with_move with_call takes_one advanced
   second_up_ok s speed framing magic sequenced c t is_open found hears row spare h =
-      let m = move.SecondUp (record { tunnel = t.control.local; session = s; taken = taken_place t.control }) in
+      let m = move.SecondUp (record { tunnel = t.control.local; session = s; remote = c.remote; sequenced = sequenced; taken = taken_place t.control }) in
       let bind = cell.Bind s t.control.local t.control.peer in
       let places = placed t.control.local t.added e.calls in
       record {
@@ -537,16 +537,16 @@ module _ (e : End) (moment : ℕ) (ev : Event) (letters : List Letter) (calls : 
           open_is = is_open;
           call = c;
           made = found;
+          remote = refl;
           speed = speed;
           framing = framing;
-          sequenced = sequenced;
           letter = hears.letter;
           takes = record { next = hears.next; taken_is = refl; spare = spare };
           says = hears.says;
           row = row;
           magic = magic;
           after =
-              let changed = with_calls-more t.changed s (Some (connected_call magic c t)) calls in
+              let changed = with_calls-more t.changed s (Some (connected_call sequenced magic c t)) calls in
               let bound = with_looks-more t.changes bind places in
               rw (changed, bound, put-put e.tunnels t.control.local (tunnel_after t letters calls) _, h.stays.4) refl;
         });
@@ -556,7 +556,7 @@ module _ (e : End) (moment : ℕ) (ev : Event) (letters : List Letter) (calls : 
         stays = h.stays;
         held = h.held;
         fits =
-            let d = connected_call magic c t in
+            let d = connected_call sequenced magic c t in
             fits_changed t.control t s (Some d) (fits_up t.control (with_calls t.changed calls) s d c found (up_owes _ row) spare h.fits);
       }
 

@@ -1,6 +1,7 @@
 -- The letters that moves give, and what a step's outputs are of its moves.
 use Rattle.std.specs.Prelude.{◌≡◌, ℕ, ◌^◌, ◌<◌, ◌⊎◌, true, false, List, [], ◌∷◌, slice_get, Option, None, Some}
 use Rattle.l2tp_header.specs.Spelling.{control_bytes, data_bytes}
+use Rattle.l2tp_header.specs.Grammar.{FitsWord}
 use Rattle.wire_base.specs.declared.letter.Letter as wire
 use Rattle.control_message.specs.declared.message.Message.{Message}
 use Rattle.control_message.specs.declared.message.Message.TheVariants.{Sccrq, Sccrp, Scccn, StopCcn, Hello, Icrp, Cdn}
@@ -66,10 +67,11 @@ pub data Carries (t : Tunnel) (moves : List Move) (bytes : List ℕ) (o : Origin
   Nothing : (number : ℕ)
       → o ≡ origin.Control (record { tunnel = t.control.local; ns = number; nr = t.control.channel.inbox.taken; empty = true })
       → bytes ≡ control_bytes t.control.remote 0 (on_wire number) (on_wire t.control.channel.inbox.taken) [] → Carries t moves bytes o
-  AFrame : (f : FrameSent) → Among (move.FrameSent f) moves → f.tunnel ≡ t.control.local → f.peer ≡ t.control.peer
-      → o ≡ origin.Data f.session → bytes ≡ data_bytes t.control.remote f.remote None f.frame → Carries t moves bytes o
+  AFrame : (f : FrameSent) → Among (move.FrameSent f) moves → f.tunnel ≡ t.control.local → f.peer ≡ t.control.peer → FitsWord f.number
+      → o ≡ origin.Data f.session → bytes ≡ data_bytes t.control.remote f.remote f.number f.frame → Carries t moves bytes o
 
 -- a frame that a move sends is in an output
 abbrev pub HasOutput : List Out → Move → Type 0
-HasOutput outs (move.FrameSent f) = (tunnel : ℕ) × Among (Send f.peer (data_bytes tunnel f.remote None f.frame) (origin.Data f.session)) outs
+HasOutput outs (move.FrameSent f) =
+    (tunnel : ℕ) × FitsWord f.number × Among (Send f.peer (data_bytes tunnel f.remote f.number f.frame) (origin.Data f.session)) outs
 HasOutput outs m = Unit {0}

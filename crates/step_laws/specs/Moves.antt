@@ -58,6 +58,7 @@ use Rattle.end_model.specs.declared.moves.Rejected.{Rejected}
 use Rattle.end_model.specs.declared.moves.Declined.{Declined}
 use Rattle.end_model.specs.declared.moves.Repeated.{Repeated}
 use Rattle.end_model.specs.declared.moves.Negotiated.{Negotiated}
+use Rattle.end_model.specs.declared.moves.Counted.{Counted}
 use Rattle.end_model.specs.declared.moves.FrameSent.{FrameSent}
 use Rattle.end_model.specs.declared.moves.FrameUp.{FrameUp}
 use Rattle.end_model.specs.declared.moves.Move.{Move}
@@ -66,7 +67,7 @@ use Rattle.end_model.specs.declared.event.Addressee.TheVariants.{Answers}
 use Rattle.end_model.specs.declared.event.Addressee.TheVariants as addressee
 use Rattle.end_model.specs.Reading.{body_of, message_in, CallFault, call_fault_in, TunnelFault, tunnel_fault_in, at_zero}
 use Rattle.session_looks.specs.Frames.{side_of}
-use Rattle.end_model.specs.Calls.{row_for, row_of_none, advanced, rung, asked_for, is_request, is_reply, is_connection, is_told, is_up, owed_by, is_clean_up}
+use Rattle.end_model.specs.Calls.{row_for, row_of_none, advanced, with_numbers, number_of, counted, rung, asked_for, is_request, is_reply, is_connection, is_told, is_up, owed_by, is_clean_up}
 use Rattle.end_model.specs.Tunnels.{Tunnel}
 use Rattle.end_model.specs.Channels.{place, next_place, taken_place, peer_window, letter_of, letter_as, counts_given, counts_taken, counts_acked, counts_sent, counts_repeated}
 use Rattle.end_model.specs.Openings.{in_state}
@@ -316,18 +317,18 @@ pub record ComesUpSecond (e : End) (moment : ℕ) (ev : Event) (m : SecondUp) (x
   pub open_is : state_number tunnel.control.state ≡ 3
   pub call : Call
   pub made : at tunnel.calls m.session ≡ Some call
+  pub remote : m.remote ≡ call.remote
   pub speed : ℕ
   pub framing : ℕ
-  pub sequenced : Bool
   pub letter : Came
   pub takes : Taking ev tunnel letter m.taken
-  pub says : Says letter m.session (Iccn speed framing sequenced)
+  pub says : Says letter m.session (Iccn speed framing m.sequenced)
   pub row : is_up (row_for e.role call call_event.IccnAcc).0 ≡ true
-  -- its LCP end asks for some magic number
+  -- its LCP end asks for some magic number; its data messages have numbers where the letter asks for them
   pub magic : ℕ
   pub after : x ≡ record (with_tunnel e m.tunnel (record tunnel {
     control = counts_taken tunnel.control;
-    calls = put tunnel.calls m.session (with_link (begun_link magic) (advanced e.role call_event.IccnAcc moment call));
+    calls = put tunnel.calls m.session (with_link (begun_link magic) (with_numbers m.sequenced (advanced e.role call_event.IccnAcc moment call)));
   })) { calls = with_look (cell.Bind m.session m.tunnel tunnel.control.peer) e.calls }
 
 -- the call isn't there any more, and its look is dead
@@ -676,6 +677,17 @@ pub record Negotiates (e : End) (moment : ℕ) (ev : Event) (m : Negotiated) (x 
     calls = put tunnel.calls m.session (with_link (link_after calls.link (lcp_after calls.by calls.link.lcp)) call);
   })) { calls = with_looks (looks_of (is_first_open calls.link (lcp_after calls.by calls.link.lcp).out) m.session) e.calls }
 
+-- a call whose data messages have numbers has the next one
+pub record Counts (e : End) (m : Counted) (x : End) : Type 0 where
+  pub tunnel : Tunnel
+  pub there : at e.tunnels m.tunnel ≡ Some tunnel
+  pub call : Call
+  pub live : at tunnel.calls m.session ≡ Some call
+  pub up : is_up call.state ≡ true
+  pub number : ℕ
+  pub has : call.sequence ≡ Some number
+  pub after : x ≡ with_tunnel e m.tunnel (record tunnel { calls = put tunnel.calls m.session (counted call) })
+
 -- a frame goes to the tunnel's peer
 pub record SendsFrame (e : End) (moment : ℕ) (ev : Event) (m : FrameSent) (x : End) : Type 0 where
   pub tunnel : Tunnel
@@ -685,6 +697,7 @@ pub record SendsFrame (e : End) (moment : ℕ) (ev : Event) (m : FrameSent) (x :
   pub calls : at tunnel.calls m.session ≡ Some call
   pub up : is_up call.state ≡ true
   pub remote : m.remote ≡ call.remote
+  pub number : m.number ≡ number_of call.sequence
   pub given : WhySent ev moment tunnel.control m.session call m.frame
   pub after : x ≡ e
 
@@ -725,6 +738,7 @@ Does e moment ev (move.LetGo m) x = LetsGo e moment m x
 Does e moment ev (move.Repeated m) x = Repeats e moment m x
 Does e moment ev (move.Quiet i) x = IsQuiet e i x
 Does e moment ev (move.Negotiated m) x = Negotiates e moment ev m x
+Does e moment ev (move.Counted m) x = Counts e m x
 Does e moment ev (move.FrameSent m) x = SendsFrame e moment ev m x
 Does e moment ev (move.FrameUp m) x = HandsUp e ev m x
 

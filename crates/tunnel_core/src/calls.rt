@@ -85,15 +85,16 @@ pub(crate) fn take_reply(
     first_up(turn, role, session, remote, call)
 }
 
-/// Takes the connection of a call.
+/// Takes the connection of a call, which may have had Sequencing Required.
 #[tactic(auto, unfolding(end_model::specs::Connecting::second_up_by))]
 pub(crate) fn take_connection(
     turn: &mut Turn,
     role: Role,
+    sequenced: bool,
     session: u16,
     call: Option<&Call>,
 ) -> Result<(), NoMemory>
-    ensures { OnOk result (turn.new ≡ second_up_by role session (option_copied call.entry) turn.old) }
+    ensures { OnOk result (turn.new ≡ second_up_by role sequenced session (option_copied call.entry) turn.old) }
 {
     let Some(call) = call else {
         let (_, none) = call_row(role, CallState::Idle, CallEvent::IccnAcc);
@@ -103,7 +104,7 @@ pub(crate) fn take_connection(
     if !is_up(next) {
         return answer(turn, &out_of_state(), u32::from(session), call, action);
     }
-    link_up(turn, role, session, call)
+    link_up(turn, role, sequenced, session, call)
 }
 
 /// The call ends by the peer's CDN.

@@ -2,12 +2,12 @@
 
 ghost use Rattle.std.specs.Prelude.{◌≡◌, OnOk};
 ghost use Rattle.std.specs.Option.{option_copied};
-ghost use Rattle.end_model.specs.Frames.{carried, carries};
+ghost use Rattle.end_model.specs.Frames.{sends_frame, counts, carried, carries};
 
 use crate::turn::Turn;
-use end_model::{Call, FrameSent, Move, Origin, Out};
+use end_model::{Call, Counted, FrameSent, Move, Origin, Out};
 use l2tp_header::write_data;
-use tunnel_rules::{is_passing, is_up};
+use tunnel_rules::{counted, is_passing, is_up, number_of};
 use wire_base::{Bytes, NoMemory, Why};
 
 /// How many bytes a PPP frame has at least and at most, with its protocol field.
@@ -15,7 +15,44 @@ const SHORTEST_FRAME: usize = 2;
 
 const LONGEST_FRAME: usize = 1494;
 
-/// Sends a frame of a call to the tunnel's peer.
+/// A frame of a call goes to the tunnel's peer, by its number where the call's data messages have one.
+#[tactic(auto, unfolding(end_model::specs::Frames::sends_frame))]
+fn give_frame(turn: &mut Turn, session: u16, frame: &[u8], call: &Call) -> Result<(), NoMemory>
+    ensures { OnOk result (turn.new ≡ sends_frame session frame.now call.now turn.old) }
+{
+    let peer = turn.control.peer;
+    let number = number_of(call.sequence);
+    let mut bytes = Bytes::new(turn.alloc);
+    write_data(&mut bytes, turn.control.remote, call.remote, number, frame)?;
+    turn.did(Move::FrameSent(FrameSent {
+        tunnel: turn.control.local,
+        peer,
+        session,
+        remote: call.remote,
+        number,
+        frame: Bytes::from_slice(turn.alloc, frame)?,
+    }))?;
+    turn.output(Out::Send {
+        peer,
+        bytes,
+        origin: Origin::Data { session },
+    })
+}
+
+/// The call, of which a data message was sent, has the next number where its data messages have one.
+#[tactic(auto, unfolding(end_model::specs::Frames::counts))]
+fn count(turn: &mut Turn, session: u16, call: &Call) -> Result<(), NoMemory>
+    ensures { OnOk result (turn.new ≡ counts session call.now call.now.sequence turn.old) }
+{
+    if call.sequence.is_none() {
+        return Ok(());
+    }
+    let tunnel = turn.control.local;
+    turn.change(session, counted(turn.alloc, call)?)?;
+    turn.did(Move::Counted(Counted { tunnel, session }))
+}
+
+/// Sends a frame of a call to the tunnel's peer, and counts it.
 #[tactic(auto, unfolding(end_model::specs::Frames::carried))]
 pub(crate) fn send_frame(
     turn: &mut Turn,
@@ -25,21 +62,8 @@ pub(crate) fn send_frame(
 ) -> Result<(), NoMemory>
     ensures { OnOk result (turn.new ≡ carried session frame.now call.now turn.old) }
 {
-    let peer = turn.control.peer;
-    let mut bytes = Bytes::new(turn.alloc);
-    write_data(&mut bytes, turn.control.remote, call.remote, None, frame)?;
-    turn.did(Move::FrameSent(FrameSent {
-        tunnel: turn.control.local,
-        peer,
-        session,
-        remote: call.remote,
-        frame: Bytes::from_slice(turn.alloc, frame)?,
-    }))?;
-    turn.output(Out::Send {
-        peer,
-        bytes,
-        origin: Origin::Data { session },
-    })
+    give_frame(turn, session, frame, call)?;
+    count(turn, session, call)
 }
 
 /// A frame is given for a call, from its protocol field on.

@@ -121,7 +121,7 @@ fn hear_about_call(
             ..
         } => take_request(turn, role, calls, session, *remote),
         Message::Icrp { session: remote } => take_reply(turn, role, session, *remote, call),
-        Message::Iccn { .. } => take_connection(turn, role, session, call),
+        Message::Iccn { sequenced, .. } => take_connection(turn, role, *sequenced, session, call),
         Message::Cdn {
             session: remote,
             ..

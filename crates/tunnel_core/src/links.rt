@@ -4,6 +4,7 @@
 ghost use Rattle.std.specs.Prelude.{◌≡◌, OnOk, IfOk, drop};
 ghost use Rattle.std.specs.Option.{option_copied};
 ghost use Rattle.lcp_end.specs.Steps.{opened, ticked, after_packet};
+ghost use Rattle.end_model.specs.Calls.{with_numbers, counted_all};
 ghost use Rattle.end_model.specs.Links.{magic_of, lcp_frame, new_link, with_link, link_after, is_first_open, looks_of};
 ghost use Rattle.end_model.specs.Turn.{with_looks_of};
 ghost use Rattle.end_model.specs.Linking.{sends_packets, negotiated, links, hears_link, hears_lcp, ticks_link};
@@ -14,13 +15,13 @@ use crate::frames::send_frame;
 use crate::turn::Turn;
 use byteorder::{BigEndian, ByteOrder};
 use call_fsm::CallEvent;
-use end_model::{Call, CallSteps, Link, Move, Negotiated, Role, SecondUp};
+use end_model::{Call, Link, Move, Negotiated, Role, SecondUp};
 use lcp_end::{LcpEnd, LcpOut};
 use send_window::Letters;
 use session_looks::CellChange;
 use std::alloc::Global;
 use std::marker::Model;
-use tunnel_rules::{advanced, call_row, is_up};
+use tunnel_rules::{advanced, call_row, copy_call, first_number, is_up, number_after};
 use wire_base::{Bytes, Cause, NoMemory, Why};
 
 /// What stands before an LCP packet in a PPP frame: the number of its protocol (RFC 1661 section 2).
@@ -115,14 +116,9 @@ fn is_first_open(link: &Link, out: &LcpOut) -> bool
 fn with_link(alloc: Global, link: Link, call: &Call) -> Result<Call, NoMemory>
     ensures { IfOk result (λ c. c ≡ with_link link call.now) }
 {
-    Ok(Call {
-        remote: call.remote,
-        state: call.state,
-        since: call.since,
-        subscriber: call.subscriber,
-        steps: CallSteps::from_slice(alloc, call.steps.as_slice())?,
-        link: Some(link),
-    })
+    let mut linked = copy_call(alloc, call)?;
+    linked.link = Some(link);
+    Ok(linked)
 }
 
 /// An LCP packet as a PPP frame, from its protocol field on.
@@ -141,19 +137,21 @@ fn packet_in(frame: &[u8]) -> &[u8]
     &frame[frame.len().min(LCP.len())..]
 }
 
-/// Sends these LCP packets of a call to the tunnel's peer, in order.
+/// Sends these LCP packets of a call to the tunnel's peer, in order. The call has the numbers behind theirs where its data messages
+/// have one.
 #[tactic(auto, unfolding(end_model::specs::Linking::sends_packets))]
 fn send_packets(
     turn: &mut Turn,
     session: u16,
     packets: &[Bytes],
-    call: &Call,
+    call: &mut Call,
 ) -> Result<(), NoMemory>
-    ensures { OnOk result (turn.new ≡ sends_packets session packets.now call.now turn.old) }
+    ensures { OnOk result ((turn.new ≡ sends_packets session packets.now call.old turn.old) × (call.new ≡ counted_all packets.now call.old)) }
 {
     for packet in packets {
         let frame = lcp_frame(turn.alloc, packet.as_slice())?;
         send_frame(turn, session, frame.as_slice(), call)?;
+        call.sequence = number_after(call.sequence);
     }
     Ok(())
 }
@@ -181,8 +179,9 @@ fn negotiate(
     ensures { OnOk result (turn.new ≡ negotiated session call.now link.now step.now turn.old) }
 {
     let tunnel = turn.control.local;
-    let after = with_link(turn.alloc, link_after(link, step), call)?;
-    send_packets(turn, session, step.out.packets.as_slice(), call)?;
+    let mut after = copy_call(turn.alloc, call)?;
+    send_packets(turn, session, step.out.packets.as_slice(), &mut after)?;
+    after.link = Some(link_after(link, step));
     turn.change(session, after)?;
     turn.did(Move::Negotiated(Negotiated { tunnel, session }))?;
     look_by(turn, session, is_first_open(link, &step.out))
@@ -295,17 +294,20 @@ pub(crate) fn tick_link(
 
 /// The call is connected, and has its link.
 #[tactic(auto, unfolding(end_model::specs::Connecting::second_up))]
-fn second_up(turn: &mut Turn, session: u16, call: Call) -> Result<(), NoMemory>
-    ensures { OnOk result (turn.new ≡ second_up session call turn.old) }
+fn second_up(turn: &mut Turn, sequenced: bool, session: u16, call: Call) -> Result<(), NoMemory>
+    ensures { OnOk result (turn.new ≡ second_up sequenced session call turn.old) }
 {
     let taken = turn.taken_place();
     let tunnel = turn.control.local;
     let peer = turn.control.peer;
+    let remote = call.remote;
     turn.take();
     turn.change(session, call)?;
     turn.did(Move::SecondUp(SecondUp {
         tunnel,
         session,
+        remote,
+        sequenced,
         taken,
     }))?;
     turn.look(CellChange::Bind {
@@ -317,27 +319,36 @@ fn second_up(turn: &mut Turn, session: u16, call: Call) -> Result<(), NoMemory>
 
 /// The call is connected, and LCP is opened in it.
 #[tactic(auto, unfolding(end_model::specs::Connecting::connects_call))]
-fn open_link(turn: &mut Turn, session: u16, call: &Call, link: Link) -> Result<(), NoMemory>
-    ensures { OnOk result (turn.new ≡ connects_call session (with_link link call.now) link turn.old) }
+fn open_link(
+    turn: &mut Turn,
+    sequenced: bool,
+    session: u16,
+    call: &Call,
+    link: Link,
+) -> Result<(), NoMemory>
+    ensures { OnOk result (turn.new ≡ connects_call sequenced session (with_link link call.now) link turn.old) }
 {
     let linked = with_link(turn.alloc, link, call)?;
     let step = step_on_open(turn.alloc, turn.moment, &link)?;
-    second_up(turn, session, with_link(turn.alloc, link, call)?)?;
+    second_up(turn, sequenced, session, with_link(turn.alloc, link, call)?)?;
     negotiate(turn, session, &linked, &link, &step)
 }
 
-/// The call is connected: it has a link from now on, in which LCP is opened.
+/// The call is connected: it has a link from now on, in which LCP is opened, and its data messages have numbers where its ICCN had
+/// Sequencing Required.
 #[tactic(auto, unfolding(end_model::specs::Connecting::linked_up))]
 pub(crate) fn link_up(
     turn: &mut Turn,
     role: Role,
+    sequenced: bool,
     session: u16,
     call: &Call,
 ) -> Result<(), NoMemory>
-    ensures { OnOk result (turn.new ≡ linked_up role session call.now turn.old) }
+    ensures { OnOk result (turn.new ≡ linked_up role sequenced session call.now turn.old) }
 {
     let event = CallEvent::IccnAcc;
-    let up = advanced(turn.alloc, role, event, turn.moment, call, call.remote)?;
+    let mut up = advanced(turn.alloc, role, event, turn.moment, call, call.remote)?;
+    up.sequence = first_number(sequenced);
     let link = new_link(&turn.block);
-    open_link(turn, session, &up, link)
+    open_link(turn, sequenced, session, &up, link)
 }

@@ -3,7 +3,7 @@
 ghost use Rattle.std.specs.Prelude.{◌≡◌, ◌<◌, ◌≤◌, if◌then◌else◌, length, None, Err, IfSome, IfOk};
 ghost use Rattle.wire_base.specs.declared.cause.Cause.TheVariants as causes;
 ghost use Rattle.control_message.specs.Pairs.{IsWritten, hidden_of};
-ghost use Rattle.end_model.specs.Calls.{call_row, rung, advanced, idle_call, asked_for, is_request, is_reply, is_connection, is_up, is_set_up, is_clean_up};
+ghost use Rattle.end_model.specs.Calls.{call_row, rung, advanced, idle_call, asked_for, is_request, is_reply, is_connection, is_up, is_set_up, is_clean_up, first_number, number_of, number_after, counted};
 ghost use Rattle.end_model.specs.Reasons.{reason};
 ghost use Rattle.end_model.specs.Asking.{left_of};
 ghost use Rattle.end_model.specs.Messages.{request_of};
@@ -54,6 +54,7 @@ pub fn advanced(
         subscriber: call.subscriber,
         steps,
         link: call.link,
+        sequence: call.sequence,
     })
 }
 
@@ -68,6 +69,7 @@ fn idle_call(alloc: Global, subscriber: [u8; 6]) -> Call
         subscriber,
         steps: CallSteps::new(alloc),
         link: None,
+        sequence: None,
     }
 }
 
@@ -87,6 +89,57 @@ pub fn asked_for(alloc: Global, role: Role, remote: u16, moment: u64) -> Result<
 {
     let idle = idle_call(alloc, [0; 6]);
     advanced(alloc, role, CallEvent::IcrqAcc, moment, &idle, remote)
+}
+
+/// The same call once more.
+pub fn copy_call(alloc: Global, call: &Call) -> Result<Call, NoMemory>
+    ensures { IfOk result (λ c. c ≡ call.now) }
+{
+    Ok(Call {
+        remote: call.remote,
+        state: call.state,
+        since: call.since,
+        subscriber: call.subscriber,
+        steps: CallSteps::from_slice(alloc, call.steps.as_slice())?,
+        link: call.link,
+        sequence: call.sequence,
+    })
+}
+
+/// The number of the first data message of a call: 0 where its ICCN had Sequencing Required (RFC 2661 section 5.4), else none.
+pub fn first_number(sequenced: bool) -> Option<u16>
+    ensures { result ≡ first_number sequenced }
+{
+    if sequenced { Some(0) } else { None }
+}
+
+/// The number of a call's next data message as the header has it, which has 16 bits for it.
+pub fn number_of(sequence: Option<u16>) -> Option<u16>
+    ensures { result ≡ number_of sequence }
+{
+    match sequence {
+        Some(number) => Some(number),
+        None => None,
+    }
+}
+
+/// The number behind that of a call's next data message: they are counted modulo 65536.
+pub fn number_after(sequence: Option<u16>) -> Option<u16>
+    ensures { result ≡ number_after sequence }
+{
+    match sequence {
+        Some(number) => Some(number.wrapping_add(1)),
+        None => None,
+    }
+}
+
+/// The call after one data message, with the next number where its data messages have one.
+pub fn counted(alloc: Global, call: &Call) -> Result<Call, NoMemory>
+    ensures { IfOk result (λ c. c ≡ counted call.now) }
+{
+    let mut after = copy_call(alloc, call)?;
+    after.sequence = number_after(call.sequence);
+    Ok(after)
 }
 
 /// There are no facilities for a call, for this cause: result code 4 (RFC 2661 section 4.4.2).

@@ -122,6 +122,7 @@ session_of (move.EndTold m) = Some m.session
 session_of (move.EndHeard m) = Some m.session
 session_of (move.EndSilent m) = Some m.session
 session_of (move.Negotiated m) = Some m.session
+session_of (move.Counted m) = Some m.session
 session_of (move.FrameSent m) = Some m.session
 session_of (move.FrameUp m) = Some m.session
 session_of m = None
