@@ -15,7 +15,6 @@ use Rattle.end_model.specs.declared.moves.Move.TheVariants as move
 use Rattle.end_model.specs.Tunnels.{Turn}
 use Rattle.end_model.specs.Channels.{next_place, has_room, may_take}
 use Rattle.end_model.specs.Messages.{request_of, hidden_request}
-use Rattle.end_names.specs.Names.{subscriber}
 use Rattle.end_model.specs.Calls.{row_for, advanced, rung, is_request, are_too_many}
 use Rattle.end_model.specs.Turn.{with_output, with_move, with_change, with_call, with_new, drops}
 use Rattle.end_model.specs.Sending.{gives_as}

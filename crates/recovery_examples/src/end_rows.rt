@@ -3,7 +3,7 @@
 use crate::end::{End, answer as new_answer, attempt as new_attempt};
 use crate::row::{Fault, Row, told};
 use avp_codec::read_avps;
-use control_message::{Message, Read, read_message};
+use control_message::{Kinds, Message, Read, read_message};
 use recovery_tunnel::judge;
 use std::alloc::Global;
 use wire_base::Cause;
@@ -13,7 +13,12 @@ fn message(alloc: Global, digits: &str) -> Result<Message, Fault> {
     let Ok(bytes) = hex::decode(alloc, digits) else {
         return Err(Fault::NotARow);
     };
-    match read_message(alloc, &read_avps(alloc, bytes.as_slice())?, None)? {
+    match read_message(
+        alloc,
+        &read_avps(alloc, bytes.as_slice())?,
+        None,
+        Kinds::Queries,
+    )? {
         Read::Known(message) => Ok(message),
         Read::Ignored { .. } => Err(Fault::NotARow),
     }

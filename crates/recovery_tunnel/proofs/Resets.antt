@@ -5,7 +5,7 @@ use Rattle.std.specs.Prelude.{◌≤◌, ◌&&◌, not, if◌then◌else◌, is_
 use Rattle.wire_base.specs.declared.cause.Cause.{Cause}
 use Rattle.wire_base.specs.declared.cause.Cause.TheVariants as cause
 use Rattle.control_message.specs.declared.message.Message.{Message}
-use Rattle.control_message.specs.declared.message.Message.TheVariants.{Sccrq, Sccrp, Scccn, StopCcn, Hello, Ocrq, Ocrp, Occn, Icrq, Icrp, Iccn, Cdn, Wen, Sli}
+use Rattle.control_message.specs.declared.message.Message.TheVariants.{Sccrq, Sccrp, Scccn, StopCcn, Hello, Ocrq, Ocrp, Occn, Icrq, Icrp, Iccn, Cdn, Wen, Sli, Fsq, Fsr}
 use Rattle.control_message.specs.declared.message.Opening.{Opening}
 use Rattle.control_message.specs.declared.message.Suggested.{Suggested}
 use Rattle.recovery_tunnel.specs.declared.progress.Progress.{Progress}
@@ -96,6 +96,8 @@ attempt_hears secret moment (Iccn speed framing sequenced) c = still c
 attempt_hears secret moment (Cdn session code error) c = still c
 attempt_hears secret moment Wen c = still c
 attempt_hears secret moment Sli c = still c
+attempt_hears secret moment (Fsq sessions) c = still c
+attempt_hears secret moment (Fsr sessions) c = still c
 
 answer_hears : (secret : Option (List ℕ)) (moment : ℕ) (m : Message) (a : Answering)
     → Counts a.connection (told_to_answer secret m a) (answer_after secret moment m a).connection
@@ -114,6 +116,8 @@ answer_hears secret moment (Iccn speed framing sequenced) a = still a.connection
 answer_hears secret moment (Cdn session code error) a = still a.connection
 answer_hears secret moment Wen a = still a.connection
 answer_hears secret moment Sli a = still a.connection
+answer_hears secret moment (Fsq sessions) a = still a.connection
+answer_hears secret moment (Fsr sessions) a = still a.connection
 
 -- ---- calls
 

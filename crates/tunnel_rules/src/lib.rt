@@ -13,4 +13,6 @@ pub use calls::{
 };
 pub use hiding::{copy_pairs, hidden_pairs};
 pub use openings::{challenge_by, opening_of};
-pub use tunnels::{PATIENCE, is_at_its_end, is_closed, is_open, is_over, is_quiet, may_take, same_state};
+pub use tunnels::{
+    PATIENCE, is_at_its_end, is_closed, is_open, is_over, is_quiet, may_take, same_state,
+};
