@@ -26,3 +26,4 @@ pub mod Ticking
 pub mod Events
 pub mod End
 pub mod Access
+pub mod Contents

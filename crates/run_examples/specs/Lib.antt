@@ -8,3 +8,4 @@ pub mod Owed
 pub mod Refusals
 pub mod Rules
 pub mod Tables
+pub mod Leaving

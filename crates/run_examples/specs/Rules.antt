@@ -128,7 +128,7 @@ numbered sequence = record waiting {
   tunnels = (
     2,
     record {
-      control = record { local = 2; peer = address_of 6; remote = 5; state = states.Established; channel = channel 2 0 0 4; made = 0; heard = 0; closed = 0; challenge = None };
+      control = record { local = 2; peer = address_of 6; remote = 5; state = states.Established; channel = channel 2 0 0 4; made = 0; heard = 0; closed = 0; flags = 3; challenge = None };
       letters = [];
       calls = (
         3,

@@ -6,6 +6,7 @@
 
 ghost use Rattle.run_examples.specs.Crossing.{FramesCross};
 ghost use Rattle.run_examples.specs.Endings.{CallsEndOnce};
+ghost use Rattle.run_examples.specs.Leaving.{StepsLeaveRecords};
 ghost use Rattle.run_examples.specs.Messages.{MessagesAreTakenInOrder, MessagesAreAcknowledged, WindowsAreKept, OpeningsComeOnce};
 ghost use Rattle.run_examples.specs.Outlived.{OldPacketsAreRefused};
 ghost use Rattle.run_examples.specs.Owed.{LettersOwedAreCounted};
@@ -16,6 +17,12 @@ ghost use Rattle.run_examples.specs.Tables.{TablesTell};
 /// A run in which two LACs have calls at one LNS: what was sent and what was handed up, with sessions and births.
 pub fn frames_cross()
     ensures { FramesCross }
+{}
+
+/// What the steps of a LAC and of an LNS leave in their checkpoints: ceilings of ids, tunnels and calls that come up, with whom they
+/// are to, and those that go. A call that was never established leaves nothing, and a tunnel goes with its calls.
+pub fn steps_leave_records()
+    ensures { StepsLeaveRecords }
 {}
 
 /// An end that takes no calls refuses one that it is asked for, by a CDN that names none of its own.
