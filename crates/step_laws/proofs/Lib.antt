@@ -53,3 +53,8 @@ mod Ringing
 pub mod Requests
 mod Tables
 mod Sent
+mod Distinct
+mod Untold
+mod Parting
+mod Unborn
+pub mod Gone

@@ -9,6 +9,7 @@ pub mod Steps
 pub mod Left
 pub mod Looks
 pub mod Ups
+pub mod Gone
 pub mod Room
 pub mod Faults
 pub mod Causes

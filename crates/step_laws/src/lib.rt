@@ -4,6 +4,7 @@
 ghost use Rattle.step_laws.specs.Answers.{RequestsAreAnswered};
 ghost use Rattle.step_laws.specs.Causes.{CausesStand};
 ghost use Rattle.step_laws.specs.Codes.{FaultsHaveCodes};
+ghost use Rattle.step_laws.specs.Gone.{CallsGoOnce};
 ghost use Rattle.step_laws.specs.Left.{CallsAreAsked, CallsStaySound, FailedTunnelsGo, LateCallsEnd, TunnelsBeginFew, TunnelsStayFew};
 ghost use Rattle.step_laws.specs.Looks.{LooksBeginTrue, LooksStayTrue};
 ghost use Rattle.step_laws.specs.Room.{StepsRefuseTruly, FullAreRefused};
@@ -38,6 +39,14 @@ pub fn looks_are_true()
 {
     steps_are_chains();
 }
+
+/// What a step of an end tells as gone are the calls that ended in it. No session is told twice; each had its place in the end before the
+/// step and has none after it; and each that had one and has none is told. So the end of a call is told once, in the step that takes its
+/// place away, also where calls end in several tunnels in one tick; none is told that wasn't there, or that was made in the same step. Of
+/// an end whose tunnels are kept, and whose looks are true.
+pub fn calls_go_once()
+    ensures { CallsGoOnce }
+{}
 
 /// In each step of each end, the frames that its outputs hand up are those that its moves hand up: in the same order, each
 /// in the same session, to the same side, with the same bytes.

@@ -1,0 +1,132 @@
+-- A tick makes no call.
+use Rattle.std.proofs.Common.{◌≡◌, ℕ, Bool, ◌==◌, ◌&&◌, false, List, [], ◌∷◌, ap, ◌∙◌, Option, Some, None}
+use Rattle.std.specs.Prelude.{nat_lt}
+use Rattle.id_table.specs.Ids.{at, ids_of}
+use Rattle.wire_base.specs.declared.cause.Cause.{Cause}
+use Rattle.wire_base.specs.declared.cause.Cause.TheVariants as cause
+use Rattle.wire_base.specs.declared.letter.Letter.{Letter}
+use Rattle.send_window.specs.declared.window.Tick.{Tick as Due}
+use Rattle.send_window.specs.declared.window.Tick.TheVariants as tick
+use Rattle.control_channel.specs.Numbers.{answer_to_tick}
+use Rattle.tunnel_fsm.specs.Rows.{state_number}
+use Rattle.call_fsm.specs.declared.table.CallEvent.TheVariants as call_event
+use Rattle.call_fsm.specs.declared.table.CallAction.{CallAction}
+use Rattle.call_fsm.specs.declared.table.CallAction.TheVariants as call_action
+use Rattle.end_model.specs.declared.tunnel.Call.{Call}
+use Rattle.end_model.specs.declared.tunnel.Config.{Config}
+use Rattle.end_model.specs.declared.tunnel.Link.{Link}
+use Rattle.end_names.specs.declared.role.Role.{Role}
+use Rattle.lcp_end.specs.Steps.{Turn as LcpTurn, is_due}
+use Rattle.end_model.specs.declared.event.Event.TheVariants.{Tick}
+use Rattle.end_model.specs.declared.moves.Move.TheVariants as move
+use Rattle.end_model.specs.Calls.{row_for, is_set_up, is_up}
+use Rattle.end_model.specs.Tunnels.{Turn}
+use Rattle.end_model.specs.Turn.{with_output, with_move, with_change, with_call, with_looks_of, drops, ends_call, ends_all}
+use Rattle.end_model.specs.Sending.{gives, letter_in, settles, sends_now, repeats}
+use Rattle.end_model.specs.Channels.{has_room, place, counts_repeated}
+use Rattle.end_model.specs.Moments.{is_over, patience, is_at_its_end, is_open}
+use Rattle.end_model.specs.Closing.{ends_by, end_silent, end_told}
+use Rattle.end_model.specs.Ticking.{greeted, greets, limits_at, limits_all, goes_quietly, clears, ticks_by, ticks}
+use Rattle.end_model.specs.Linking.{negotiated, links, ticks_link}
+use Rattle.end_model.specs.Events.{turns}
+use Rattle.step_laws.proofs.Lists.{branch}
+use Rattle.step_laws.proofs.Keeping.{sent_keeps, settled_keeps}
+use Rattle.step_laws.proofs.Linking.{packets_same}
+
+module _ (ss : List ℕ) where
+  -- these are the calls that a turn made
+  abbrev Made : Turn → Type 0
+  Made t = t.added ≡ ss
+
+  settled_made : (again : Bool) (letters : List Letter) (t : Turn) → Made t → Made (settles again letters t)
+  settled_made again letters t h = (settled_keeps again letters t).added ∙ h
+
+  -- ---- calls that end
+
+  by_made : (for : Cause) (result : ℕ) (error : Option ℕ) (s : ℕ) (c : Call) (a : CallAction) (t : Turn) → Made t → Made (ends_by for result error s c a t)
+  unfolding ends_by end_silent end_told ends_call gives drops with_output with_change with_move
+  by_made for result error s c call_action.CleanUp t h = h
+  by_made for result error s c call_action.SendCdn t h = branch Made (has_room t.control) _ _ (λ may. h) (λ full. h)
+  by_made for result error s c call_action.Nothing t h = h
+  by_made for result error s c call_action.SendIcrq t h = h
+  by_made for result error s c call_action.SendIcrp t h = h
+  by_made for result error s c call_action.SendIccn t h = h
+  by_made for result error s c call_action.DropSession t h = h
+
+  all_made : (qs : List ℕ) (t : Turn) → Made t → Made (ends_all qs t)
+  unfolding ends_all ends_call with_output with_change
+  all_made [] t h = h
+  all_made (q ∷ qs) t h = all_made qs (ends_call q t) h
+
+  cleared_made : (calls : List (ℕ × Call)) (t : Turn) → Made t → Made (clears calls t)
+  unfolding clears with_move
+  cleared_made calls t h = all_made (ids_of calls) (with_move (move.Cleared t.control.local (is_open t.control.state)) t) h
+
+  -- ---- LCP
+
+  negotiated_made : (s : ℕ) (c : Call) (l : Link) (v : LcpTurn) (t : Turn) → Made t → Made (negotiated s c l v t)
+  unfolding negotiated with_looks_of with_move with_call
+  negotiated_made s c l v t h = ap (λ (x : Turn). x.added) (packets_same s v.out.packets c t) ∙ h
+
+  links_made : (role : Role) (letters : List Letter) (s : ℕ) (c : Call) (l : Link) (v : LcpTurn) (t : Turn) → Made t → Made (links role letters s c l v t)
+  unfolding links
+  links_made role letters s c l v t h =
+      branch Made v.out.finished _ _
+      (λ done. settled_made false letters _ (by_made cause.Lcp 3 None s c (row_for role c call_event.Close).1 t h))
+      (λ no. negotiated_made s c l v t h)
+
+  ticks_link_made : (role : Role) (letters : List Letter) (s : ℕ) (c : Call) (o : Option Link) (t : Turn) → Made t → Made (ticks_link role letters s c o t)
+  unfolding ticks_link
+  ticks_link_made role letters s c None t h = h
+  ticks_link_made role letters s c (Some l) t h =
+      branch Made (nat_lt s 65536 && is_up c.state && is_due t.on.moment l.lcp) _ _
+      (λ due. links_made role letters s c l _ t h)
+      (λ no. h)
+
+  -- ---- time
+
+  repeated_made : (letters : List Letter) (number : ℕ) (t : Turn) → Made t → Made (repeats letters number t)
+  unfolding repeats sends_now with_move
+  repeated_made letters number t h =
+      let u = with_move (move.Repeated (record { tunnel = t.control.local; sent = place number })) (record t { control = counts_repeated t.on.moment t.control }) in
+      (sent_keeps number (letter_in letters u number) u).added ∙ h
+
+  greets_made : (letters : List Letter) (t : Turn) → Made t → Made (greets letters t)
+  unfolding greets greeted gives with_move
+  greets_made letters t h =
+      branch Made (state_number t.control.state == 3 && t.control.channel.window.queued == 0 && is_over patience t.on.moment t.control.heard) _ _
+      (λ due. settled_made false letters _ h)
+      (λ no. h)
+
+  limits_made : (role : Role) (letters : List Letter) (s : ℕ) (o : Option Call) (t : Turn) → Made t → Made (limits_at role letters s o t)
+  unfolding limits_at
+  limits_made role letters s None t h = h
+  limits_made role letters s (Some c) t h =
+      branch Made (nat_lt s 65536 && is_set_up c.state && is_over patience t.on.moment c.since) _ _
+      (λ due. settled_made false letters _ (by_made cause.Setup 10 None s c (row_for role c call_event.Close).1 t h))
+      (λ no. ticks_link_made role letters s c c.link t h)
+
+  limits_all_made : (role : Role) (letters : List Letter) (qs : List ℕ) (calls : List (ℕ × Call)) (t : Turn) → Made t
+      → Made (limits_all role letters qs calls t)
+  unfolding limits_all
+  limits_all_made role letters [] calls t h = h
+  limits_all_made role letters (q ∷ qs) calls t h =
+      limits_all_made role letters qs calls (limits_at role letters q (at calls q) t) (limits_made role letters q (at calls q) t h)
+
+  quietly_made : (role : Role) (letters : List Letter) (calls : List (ℕ × Call)) (t : Turn) → Made t → Made (goes_quietly role letters calls t)
+  unfolding goes_quietly
+  quietly_made role letters calls t h = limits_all_made role letters (ids_of calls) calls (greets letters t) (greets_made letters t h)
+
+  ticks_by_made : (role : Role) (letters : List Letter) (calls : List (ℕ × Call)) (a : Due) (t : Turn) → Made t → Made (ticks_by role letters calls a t)
+  unfolding ticks_by
+  ticks_by_made role letters calls tick.Quiet t h = quietly_made role letters calls t h
+  ticks_by_made role letters calls (tick.Again number) t h = quietly_made role letters calls (repeats letters number t) (repeated_made letters number t h)
+  ticks_by_made role letters calls (tick.Failed first) t h = cleared_made calls t h
+
+  pub tick_makes : (role : Role) (c : Config) (letters : List Letter) (calls : List (ℕ × Call)) (t : Turn) → t.added ≡ ss
+      → (turns role c letters calls Tick t).added ≡ ss
+  unfolding turns ticks
+  tick_makes role c letters calls t h =
+      branch Made (is_at_its_end t.on.moment t.control) _ _
+      (λ due. cleared_made calls t h)
+      (λ no. ticks_by_made role letters calls (answer_to_tick t.control.channel t.on.moment) t h)
