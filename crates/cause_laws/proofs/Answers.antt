@@ -28,7 +28,8 @@ use Rattle.connection_laws.specs.Steps.{LinesGoOn, RunsBegin}
 use Rattle.pppoe_discovery.specs.declared.outcome.Discovered.{Discovered}
 use Rattle.end_model.specs.Access.{Coming, coming, Runs, Enters, Ignores, Answers}
 use Rattle.step_laws.specs.Hosts.{LacAt, with_host, OfFrame, frame_line}
-use Rattle.cause_laws.specs.Causes.{Brings, FrameBrings, ByItsHost, ByAPadr, moment_of}
+use Rattle.cause_laws.specs.Hosts.{FrameBrings, ByItsHost, ByAPadr}
+use Rattle.cause_laws.specs.Causes.{Brings, moment_of}
 use Rattle.cause_laws.specs.Answers.{step_at, AnswersOfRuns}
 use Rattle.cause_laws.proofs.Runs.{all_left}
 use Rattle.cause_laws.proofs.Left.{CallLaws, kept_in, seen_end, ended}

@@ -1,5 +1,7 @@
 mod Refusals
+mod Coming
 pub mod Lines
+mod Hosts
 mod Room
 pub mod Runs
 mod Seen

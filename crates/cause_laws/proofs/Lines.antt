@@ -1,5 +1,5 @@
 -- What a line makes is of a step of one node, which the line brings.
-use Rattle.std.proofs.Common.{◌≡◌, inl, inr, ⊎_elim, ℕ, ◌+◌, ◌-◌, List, [], ◌∷◌, refl, subst, Option, Some, None, Result, Ok, Err, Bool, true, false, ◌++◌, ap, sym, ◌∙◌}
+use Rattle.std.proofs.Common.{◌≤◌, length, ◌≡◌, inl, inr, ℕ, ◌-◌, List, [], ◌∷◌, refl, subst, Option, Some, None, Result, Ok, Err, Bool, true, false, ◌++◌, ap, sym, ◌∙◌}
 use Rattle.std.specs.Prelude.{is_some, if◌then◌else◌, slice_get}
 use Rattle.std.specs.List.{AllByRecursion}
 use Rattle.id_table.specs.Ids.{at}
@@ -21,17 +21,23 @@ use Rattle.end_names.specs.Names.{address_of, mac_of, host_name}
 use Rattle.end_model.specs.Secrets.{uncovered_event}
 use Rattle.end_model.specs.End.{End, Stepped, step}
 use Rattle.step_laws.specs.Lines.{tested_not, is_lac_at, is_lns_at, is_declared, has_call, has_tunnel, is_put_on, step_line, deliver_line}
-use Rattle.world_model.specs.World.{World, Node, Sender, Lined, quiet_line, with_node, after_step, given, entries_of, entry_of, shown, moved_all, sent, declared, lac_at, lns_at, with_call, with_tunnel, later, new_node, answer_entries, added, block_of, stepped, sender_of, line}
+use Rattle.world_model.specs.World.{World, Node, Sender, Lined, quiet_line, with_node, after_step, given, entries_of, entry_of, shown, moved_all, declared, lac_at, lns_at, with_call, with_tunnel, later, new_node, answer_entries, added, block_of, stepped, sender_of, line}
 use Rattle.step_laws.specs.Letters.{Among}
 use Rattle.step_laws.specs.Steps.{AreKept}
 use Rattle.step_laws.specs.Room.{StepsRefuseTruly}
+use Rattle.step_laws.specs.Answers.{causes_of}
+use Rattle.step_laws.specs.Rings.{IsRingCause, ForTunnels, ForCalls, ForRoom, ForIds, RingComes, ToCall, ToCause, RingsCome}
 use Rattle.step_laws.specs.Causes.{CausesStand}
-use Rattle.end_model.specs.Access.{coming, Ignores, Answers, live_in, pads_for, pads_of}
+use Rattle.end_model.specs.Access.{coming, Ignores, Answers, Enters, live_in, ring_cause, refusal_in, pads_for, pads_of}
+use Rattle.pppoe_discovery.specs.Told.{pads_to}
+use Rattle.std.proofs.lemmas.Bool.{true≢false}
 use Rattle.wire_base.specs.declared.cause.Cause.{Cause as BecauseOf}
 use Rattle.world_model.specs.Texts.{Entry, Frames}
-use Rattle.step_laws.specs.Hosts.{LacAt, with_host, reply_to, OfFrame, frame_line, never_full, discovery_refuses, frame_answered, host_enters}
+use Rattle.step_laws.specs.Hosts.{LacAt, with_host, reply_to, OfFrame, frame_line, never_full, discovery_refuses}
 use Rattle.cause_laws.proofs.Refusals.{refused_padr}
-use Rattle.cause_laws.specs.Causes.{Brings, ByItsHost, ByAPadr, CauseStandsIn, AtTheEnd, InDiscovery, moment_of, IsFullAt, AnswersEntry, WithSession, WithCause, OfDiscovery, OfLiveCall, OfEntry, IsTrue, TellsTruly}
+use Rattle.cause_laws.proofs.Coming.{Offers, Declines, IsAnswer, AsDiscovery, AsBefore, answered_so, entered_so}
+use Rattle.cause_laws.specs.Hosts.{ByItsHost, ByAPadr, AnswersEntry, WithSession, WithCause}
+use Rattle.cause_laws.specs.Causes.{Brings, CauseStandsIn, AtTheEnd, InDiscovery, moment_of, IsFullAt, FrameIsTrue, OfPadi, OfRefusal, OfLiveCall, OfEntry, IsTrue, TellsTruly}
 
 -- ---- the outputs of a step, and the entries that they make
 
@@ -130,41 +136,84 @@ module _ (causes : CausesStand) (room : StepsRefuseTruly) (w : World) (kept : En
 
 -- what is answered to an Ethernet frame, with a cause where discovery has one
 module _ (w : World) (number n : ℕ) (bytes : List ℕ) (l : LacAt w n) where
+  told_frame : (because : Option BecauseOf) (frame : List ℕ) → length bytes ≤ 2048 → IsAnswer l.access l.node.end bytes because frame
+      → FrameIsTrue w number (Frame n bytes) n frame
+  told_frame because frame short (AsDiscovery (Offers src service tags uniq relay none padi asked is)) =
+      OfPadi l bytes src service tags uniq relay refl short padi asked is
+  told_frame because frame short (AsDiscovery (Declines src tags uniq relay c some padr is_uniq is_relay why is)) =
+      OfRefusal l bytes src tags uniq relay c refl short padr is_uniq is_relay why is
+  told_frame because frame short (AsBefore src service uniq relay session none a held live is) =
+      OfLiveCall l bytes src service a.tags uniq relay session refl short a.padr a.asked a.cookie held live is
+
   answers_true : (because : Option BecauseOf) (frame : List ℕ) → coming l.access l.node.end bytes ≡ Answers because frame
       → AllByRecursion (IsTrue w number (Frame n bytes)) (answer_entries number n because frame)
   answers_true None frame is =
-      let so = ⊎_elim
-      (λ found. OfDiscovery l bytes None refl found)
-      (λ again. OfLiveCall l bytes refl again)
-      (frame_answered l.access l.node.end bytes frame is) in
-      ((refl, so), tt)
+      let so = answered_so l.access l.node.end bytes None frame is in
+      ((refl, told_frame None frame so.1 so.0), tt)
   answers_true (Some c) frame is =
+      let so = answered_so l.access l.node.end bytes (Some c) frame is in
       let found = discovery_refuses l.access l.node.end bytes c frame is in
       let r = refused_padr l.access.key (mac_of l.node.end.config.number) (host_name l.node.end.role l.node.end.config.number) bytes c frame found in (
         (refl, InDiscovery (record { lac = l; bytes = bytes; line_is = refl; src = r.src; tags = r.tags; padr = r.padr; why = r.why })),
-        ((refl, OfDiscovery l bytes (Some c) refl found), tt),
+        ((refl, told_frame (Some c) frame so.1 so.0), tt),
       )
 
--- what the PADS of a host that entered says
-entry_answered : (before : End) (asked : Discovered) (s : Stepped) → AnswersEntry before asked s (pads_of before asked s)
-unfolding pads_of
-entry_answered before asked s = by (takes_id before.session_ids) refl
+-- a cause for which a ring is refused is told as such
+refused_by : (os : List Out) (c : BecauseOf) → IsRingCause c → causes_of os ≡ c ∷ [] → refusal_in os ≡ c
+unfolding refusal_in
+refused_by [] c is one = absurd cc
+refused_by (Cause b ∷ os) c is one = let same : b ≡ c = cc in ap ring_cause same ∙ itself c is
   where
+    itself : (c : BecauseOf) → IsRingCause c → ring_cause c ≡ c
+    itself _ ForTunnels = refl
+    itself _ ForCalls = refl
+    itself _ ForRoom = refl
+    itself _ ForIds = refl
+refused_by (Drop x ∷ os) c is one = refused_by os c is one
+refused_by (Send peer bytes origin ∷ os) c is one = refused_by os c is one
+refused_by (Up session side frame ∷ os) c is one = refused_by os c is one
+refused_by (Gone session ∷ os) c is one = refused_by os c is one
+
+-- what the PADS of a host that entered says
+pub entry_answered : (before : End) (asked : Discovered) (s : Stepped) → RingComes before s → AnswersEntry before asked s (pads_of before asked s)
+unfolding pads_of
+entry_answered before asked s comes = by (takes_id before.session_ids) refl
+  where
+    Dead : Type 0
+    Dead = (session : ℕ) → takes_id before.session_ids ≡ Ok session → is_some (at s.end.calls session) ≡ false
+
+    refused : RingComes before s → Dead → AnswersEntry before asked s (pads_for before asked s.outputs None)
+    refused (ToCall q drawn live none) dead = absurd (true≢false (sym live ∙ dead q drawn))
+    refused (ToCause c is one calls) dead =
+        WithCause c is one calls dead (ap (λ b. pads_to (mac_of before.config.number) asked 0 (Some b)) (refused_by s.outputs c is one))
+
     by : (r : Result ℕ IdError) → takes_id before.session_ids ≡ r → AnswersEntry before asked s (pads_for before asked s.outputs (live_in s.end r))
-    by (Err x) is = WithCause (λ session drawn. absurd cc) refl
+    by (Err x) is = refused comes (λ session drawn. absurd cc)
     by (Ok q) is = of (is_some (at s.end.calls q)) refl
       where
         of : (b : Bool) → is_some (at s.end.calls q) ≡ b → AnswersEntry before asked s (pads_for before asked s.outputs (if b then Some q else None))
         of true live = WithSession q is live refl
-        of false dead = WithCause (λ session drawn. let same : q ≡ session = cc in subst (λ r. is_some (at s.end.calls r) ≡ false) same dead) refl
+        of false dead = refused comes (λ session drawn. let same : q ≡ session = cc in subst (λ r. is_some (at s.end.calls r) ≡ false) same dead)
+
+-- the frame of a host that enters
+entry_true_of : (w : World) (number n : ℕ) (bytes : List ℕ) (l : LacAt w n) (src : List ℕ) (uniq : Option (List ℕ)) (asked : Discovered)
+    → coming l.access l.node.end bytes ≡ Enters src uniq asked
+    → AnswersEntry l.node.end asked (step l.node.end l.node.clock (block_of n number) (event.Admitted src)) (reply_to w number n l src asked)
+    → FrameIsTrue w number (Frame n bytes) n (reply_to w number n l src asked)
+entry_true_of w number n bytes l src uniq asked is answers =
+    let so = entered_so l.access l.node.end bytes src uniq asked is in
+    let h = so.0 in
+    let s = step l.node.end l.node.clock (block_of n number) (event.Admitted src) in
+    OfEntry l bytes src h.service h.admitted.tags uniq h.relay refl so.1 h.admitted.padr h.admitted.asked h.admitted.cookie h.new
+    (subst (λ d. AnswersEntry l.node.end d s (reply_to w number n l src asked)) h.asked_is answers)
 
 both_true : (w : World) (number : ℕ) (l : Line) (es fs : List Entry) → AllByRecursion (IsTrue w number l) es → AllByRecursion (IsTrue w number l) fs → AllByRecursion (IsTrue w number l) (es ++ fs)
 both_true w number l [] fs one two = two
 both_true w number l (e ∷ es) fs one two = (one.0, both_true w number l es fs one.1 two)
 
-frame_true : CausesStand → StepsRefuseTruly → (w : World) → EndsAreKept w → (number n : ℕ) (bytes : List ℕ)
+frame_true : CausesStand → StepsRefuseTruly → RingsCome → (w : World) → EndsAreKept w → (number n : ℕ) (bytes : List ℕ)
     → OfFrame (λ y. AllByRecursion (IsTrue w number (Frame n bytes)) y.entries) w number n bytes
-frame_true causes room w kept number n bytes = record {
+frame_true causes room rings w kept number n bytes = record {
   ignored = λ l word is x h. ((refl, (λ queue. absurd (never_full l.access l.node.end bytes (is ∙ ap Ignores queue)))), tt);
   answered = λ l because frame is x h. answers_true w number n bytes l because frame is;
   done = λ l ev is does x h.
@@ -176,52 +225,53 @@ frame_true causes room w kept number n bytes = record {
       (refl, ByAPadr l src uniq asked is refl) h) (
         (
           refl,
-          OfEntry l bytes src uniq asked refl is (host_enters l.access l.node.end bytes src uniq asked is)
-              (entry_answered l.node.end asked (step l.node.end l.node.clock (block_of n number) (event.Admitted src))),
+          entry_true_of w number n bytes l src uniq asked is
+              (entry_answered l.node.end asked (step l.node.end l.node.clock (block_of n number) (event.Admitted src))
+              (rings l.node.end (kept n l.node l.there) l.lac l.node.clock (block_of n number) (event.Admitted src) src refl)),
         ),
         tt,
       );
 }
 
 -- of each kind
-pub line_true : CausesStand → StepsRefuseTruly → (w : World) → EndsAreKept w → (number : ℕ) (l : Line) → TellsTruly w number l
+pub line_true : CausesStand → StepsRefuseTruly → RingsCome → (w : World) → EndsAreKept w → (number : ℕ) (l : Line) → TellsTruly w number l
 unfolding line
-line_true causes room w kept number (Remark text) x h =
+line_true causes room rings w kept number (Remark text) x h =
     let is : quiet_line w ≡ x = cc in quiet_true causes room w kept number (Remark text) x w is
-line_true causes room w kept number (Lac n m secret hide) x h =
+line_true causes room rings w kept number (Lac n m secret hide) x h =
     added_true causes room w kept number (Lac n m secret hide) x n role.Lac (address_of m) secret hide h
-line_true causes room w kept number (Lns n secret) x h =
+line_true causes room rings w kept number (Lns n secret) x h =
     added_true causes room w kept number (Lns n secret) x n role.Lns 0 secret false h
-line_true causes room w kept number (OpenUp n) x h =
+line_true causes room rings w kept number (OpenUp n) x h =
     stepped_true causes room w kept number (OpenUp n) x n event.OpenTunnel None (lac_at (at w.nodes n)) (λ node e. (is_lac_at (at w.nodes n) node e).0)
     (λ node. refl) (refl, refl) h
-line_true causes room w kept number (Close n i) x h =
+line_true causes room rings w kept number (Close n i) x h =
     stepped_true causes room w kept number (Close n i) x n (event.CloseTunnel i) None (with_tunnel i (declared (at w.nodes n)))
     (λ node e. is_declared (at w.nodes n) node (has_tunnel i (declared (at w.nodes n)) node e)) (λ node. refl) (refl, refl) h
-line_true causes room w kept number (Ring n port) x h =
+line_true causes room rings w kept number (Ring n port) x h =
     stepped_true causes room w kept number (Ring n port) x n (event.Ring port) None (lac_at (at w.nodes n))
     (λ node e. (is_lac_at (at w.nodes n) node e).0) (λ node. refl) (refl, refl) h
-line_true causes room w kept number (Frame n bytes) x h =
-    frame_line (λ y. AllByRecursion (IsTrue w number (Frame n bytes)) y.entries) w number n bytes (frame_true causes room w kept number n bytes) x h
-line_true causes room w kept number (FromSub n session frame) x h =
+line_true causes room rings w kept number (Frame n bytes) x h =
+    frame_line (λ y. AllByRecursion (IsTrue w number (Frame n bytes)) y.entries) w number n bytes (frame_true causes room rings w kept number n bytes) x h
+line_true causes room rings w kept number (FromSub n session frame) x h =
     stepped_true causes room w kept number (FromSub n session frame) x n (event.Payload session frame) None (with_call session (lac_at (at w.nodes n)))
     (λ node e. (is_lac_at (at w.nodes n) node (has_call session (lac_at (at w.nodes n)) node e)).0) (λ node. refl) (refl, refl) h
-line_true causes room w kept number (Down n session frame) x h =
+line_true causes room rings w kept number (Down n session frame) x h =
     stepped_true causes room w kept number (Down n session frame) x n (event.Lower session frame) None (with_call session (lns_at (at w.nodes n)))
     (λ node e. (is_lns_at (at w.nodes n) node (has_call session (lns_at (at w.nodes n)) node e)).0) (λ node. refl) (refl, refl) h
-line_true causes room w kept number (Hang n session) x h =
+line_true causes room rings w kept number (Hang n session) x h =
     stepped_true causes room w kept number (Hang n session) x n (event.Hang session) None (with_call session (lac_at (at w.nodes n)))
     (λ node e. (is_lac_at (at w.nodes n) node (has_call session (lac_at (at w.nodes n)) node e)).0) (λ node. refl) (refl, refl) h
-line_true causes room w kept number (DropCall n session) x h =
+line_true causes room rings w kept number (DropCall n session) x h =
     stepped_true causes room w kept number (DropCall n session) x n (event.DropCall session) None (with_call session (declared (at w.nodes n)))
     (λ node e. is_declared (at w.nodes n) node (has_call session (declared (at w.nodes n)) node e)) (λ node. refl) (refl, refl) h
-line_true causes room w kept number (Deliver k) x h =
+line_true causes room rings w kept number (Deliver k) x h =
     deliver_line (AllByRecursion (IsTrue w number (Deliver k)) x.entries) w number x (line w number (Deliver k)) (slice_get w.packets (k - 1))
     (λ p node sent there young so leads.
     stepped_true causes room w kept number (Deliver k) x p.to (event.Datagram (address_of p.from) p.bytes) (sender_of p.from p.origin) (Ok node)
     (λ q same. (let is : node ≡ q = cc in rw (← is) there)) (λ q. refl) (p, sent, refl, refl) leads)
     refl h
-line_true causes room w kept number (Tick n milliseconds) x h =
+line_true causes room rings w kept number (Tick n milliseconds) x h =
     step_line (AllByRecursion (IsTrue w number (Tick n milliseconds)) x.entries) w number x n event.Tick None (later milliseconds (declared (at w.nodes n)))
     (λ node e is.
     let k = is_put_on w n milliseconds node e in

@@ -34,7 +34,7 @@ module _ (kind : ℕ) where
   first_there t [] after is none = rw (eq-eqb t.kind kind is) refl
   first_there t (b ∷ before) after is none = rw (ne_eqb b.kind kind none.0) (first_there t before after is none.1)
 
-  first_found : (t : Tag) (tags : List Tag) → IsFirst kind t tags → find test tags ≡ Some t
+  pub first_found : (t : Tag) (tags : List Tag) → IsFirst kind t tags → find test tags ≡ Some t
   first_found t tags h = ap (find test) h.parts ∙ first_there t h.before h.after h.is h.none
 
   -- and where it is the only one, it is all that there are
@@ -105,7 +105,7 @@ one_is name h = ⊎_elim
     h
 
 -- what is asked for is served
-asks_service : (tags : List Tag) (name : List ℕ) → IsServed name → AsksFor tags name → service_of tags ≡ Some name
+pub asks_service : (tags : List Tag) (name : List ℕ) → IsServed name → AsksFor tags name → service_of tags ≡ Some name
 unfolding service_of
 asks_service tags name is asks =
     let t = asks.tag in
@@ -118,11 +118,11 @@ asks_service tags name is asks =
     rw (eq-eqb (names_in tags) 1 one, value, one_is name is) refl
 
 -- and so is asked for what is served
-record Served (tags : List Tag) (name : List ℕ) : Type 0 where
-  is : IsServed name
-  asks : AsksFor tags name
+pub record Served (tags : List Tag) (name : List ℕ) : Type 0 where
+  pub is : IsServed name
+  pub asks : AsksFor tags name
 
-service_asks : (tags : List Tag) (name : List ℕ) → service_of tags ≡ Some name → Served tags name
+pub service_asks : (tags : List Tag) (name : List ℕ) → service_of tags ≡ Some name → Served tags name
 unfolding service_of
 service_asks tags name h = by (names_in tags == 1) refl h
   where
@@ -145,7 +145,7 @@ service_asks tags name h = by (names_in tags == 1) refl h
 
 -- ---- cookies
 
-own_cookie : (key src : List ℕ) (tags : List Tag) (t : Tag) → IsFirst 0x0104 t tags → t.value ≡ cookie_of key src
+pub own_cookie : (key src : List ℕ) (tags : List Tag) (t : Tag) → IsFirst 0x0104 t tags → t.value ≡ cookie_of key src
     → is_cookie key src (value_of 0x0104 tags) ≡ true
 own_cookie key src tags t first is =
     let value : value_of 0x0104 tags ≡ Some (cookie_of key src) =

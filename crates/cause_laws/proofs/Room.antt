@@ -1,6 +1,6 @@
 -- A line that brings a message for which its tunnel has no room tells that it is dropped for that.
 use Rattle.std.proofs.Common.{◌≡◌, inl, inr, ⊎_elim, ℕ, ◌-◌, List, [], ◌∷◌, refl, sym, ap, ◌∙◌, subst, Option, Some, None, Ok}
-use Rattle.std.specs.Prelude.{slice_get, unwrap_or}
+use Rattle.std.specs.Prelude.{slice_get}
 use Rattle.id_table.specs.Ids.{at}
 use Rattle.wire_base.specs.declared.why.Why.{Why}
 use Rattle.wire_base.specs.declared.why.Why.TheVariants as why
@@ -20,7 +20,8 @@ use Rattle.world_model.specs.World.{World, Node, Sender, Lined, after_step, give
 use Rattle.step_laws.specs.Letters.{Among}
 use Rattle.step_laws.specs.Hosts.{HostDoes, HostSends, HostLeaves, host_does}
 use Rattle.step_laws.specs.Room.{IsFull, FullAreRefused}
-use Rattle.cause_laws.specs.Causes.{Brings, FrameBrings, ByItsHost, ByAPadr, moment_of, FindsNoRoom, TellsOfRoom}
+use Rattle.cause_laws.specs.Hosts.{FrameBrings, ByItsHost, ByAPadr}
+use Rattle.cause_laws.specs.Causes.{moment_of, FindsNoRoom, TellsOfRoom}
 use Rattle.cause_laws.proofs.Lines.{EndsAreKept}
 
 -- what is dropped is told

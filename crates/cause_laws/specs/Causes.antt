@@ -1,6 +1,6 @@
 -- The causes that the report tells stand, nothing is refused for want of room but where a tunnel holds too many letters, no end has more
 -- tunnels than it may, and no call and no tunnel is left.
-use Rattle.std.specs.Prelude.{◌≡◌, ℕ, ◌+◌, ◌-◌, ◌^◌, ◌<◌, ◌≤◌, min, List, [], ◌∷◌, ◌++◌, length, true, false, slice_get, Some, None, is_some, Ok, Option, unwrap_or}
+use Rattle.std.specs.Prelude.{is_some, ◌≡◌, ℕ, ◌+◌, ◌-◌, ◌^◌, ◌<◌, ◌≤◌, min, List, [], ◌∷◌, ◌++◌, length, true, false, slice_get, Some, None, Ok, Option, unwrap_or}
 use Rattle.std.specs.List.{AllByRecursion}
 use Rattle.id_table.specs.Ids.{at}
 use Rattle.wire_base.specs.declared.why.Why.TheVariants as why
@@ -11,35 +11,29 @@ use Rattle.schedule_text.specs.Grammar.{AreLines}
 use Rattle.end_model.specs.declared.event.Event.{Event}
 use Rattle.end_model.specs.declared.event.Event.TheVariants as event
 use Rattle.world_model.specs.declared.packet.Packet.{Packet}
-use Rattle.end_names.specs.Names.{address_of, mac_of}
+use Rattle.end_names.specs.Names.{address_of, mac_of, host_name}
 use Rattle.end_model.specs.Secrets.{uncovered_event}
 use Rattle.end_model.specs.Calls.{owed_by}
 use Rattle.end_model.specs.Tunnels.{Tunnel}
 use Rattle.end_model.specs.Moments.{is_closed}
-use Rattle.id_source.specs.Spaces.{takes_id}
 use Rattle.pppoe_wire.specs.declared.frame.Tag.{Tag}
-use Rattle.pppoe_discovery.specs.Told.{pads_to}
-use Rattle.end_model.specs.End.{End, Stepped, step}
+use Rattle.end_model.specs.End.{step}
 use Rattle.world_model.specs.World.{World, Node, Lined, block_of, line}
-use Rattle.pppoe_discovery.specs.declared.outcome.Discovered.{Discovered}
-use Rattle.pppoe_discovery.specs.declared.outcome.Discovered.TheVariants.{Reply}
-use Rattle.end_model.specs.Access.{coming, Runs, Enters, refusal_in}
+use Rattle.pppoe_discovery.specs.declared.outcome.Discovered.TheVariants.{Admit}
 use Rattle.world_model.specs.Texts.{Entry, Sends, HandsUp, Ends, Frames, Drops, Causes}
-use Rattle.step_laws.specs.Hosts.{LacAt, IsRepeated, discovered_at}
+use Rattle.step_laws.specs.Hosts.{LacAt}
 use Rattle.world_model.specs.Run.{run}
 use Rattle.step_laws.specs.Letters.{Among}
 use Rattle.step_laws.specs.Room.{IsFull}
 use Rattle.step_laws.specs.Causes.{Stands}
 use Rattle.step_laws.specs.Left.{AreAsked, AreFew, NoneHasFailed, NoneIsLate}
 use Rattle.cause_laws.specs.Refusals.{IsPadr, IsRefusedFor}
+use Rattle.pppoe_wire.specs.Spelling.{frame_bytes}
+use Rattle.pppoe_discovery.specs.Cookie.{cookie_of}
+use Rattle.pppoe_discovery.specs.Replies.{pado, pads, refusal}
+use Rattle.cause_laws.specs.Hosts.{IsPadi, HasValue, IsAsked, HasCookie, IsHeld, IsNew, FrameBrings, AnswersEntry, AnswersHosts}
 
 -- ---- what a line brings
-
--- the event that an Ethernet frame is for the LAC to which it comes: what the host of a call does in it, or that a host wants one
-pub data FrameBrings (w : World) (n : ℕ) (bytes : List ℕ) (ev : Event) : Type 0 where
-  ByItsHost : (l : LacAt w n) → coming l.access l.node.end bytes ≡ Runs ev → FrameBrings w n bytes ev
-  ByAPadr : (l : LacAt w n) (src : List ℕ) (uniq : Option (List ℕ)) (asked : Discovered) → coming l.access l.node.end bytes ≡ Enters src uniq asked
-      → ev ≡ event.Admitted src → FrameBrings w n bytes ev
 
 -- the event that a line is for a node
 abbrev pub Brings : World → Line → ℕ → Event → Type 0
@@ -96,22 +90,27 @@ pub record IsFullAt (w : World) (l : Line) (n : ℕ) : Type 0 where
   pub brings : Brings w l n event
   pub full : IsFull node.end (moment_of l node) (uncovered_event node.end.config.secret event)
 
--- a host that entered gets the PADS of the session that was drawn for it, where its call lives after the step; else one with a cause
-pub data AnswersEntry (before : End) (asked : Discovered) (s : Stepped) (frame : List ℕ) : Type 0 where
-  WithSession : (session : ℕ) → takes_id before.session_ids ≡ Ok session → is_some (at s.end.calls session) ≡ true
-      → frame ≡ pads_to (mac_of before.config.number) asked session None → AnswersEntry before asked s frame
-  WithCause : ((session : ℕ) → takes_id before.session_ids ≡ Ok session → is_some (at s.end.calls session) ≡ false)
-      → frame ≡ pads_to (mac_of before.config.number) asked 0 (Some (refusal_in s.outputs)) → AnswersEntry before asked s frame
-
--- a frame that a line tells answers a host: as discovery does, a PADI by a PADO and a PADR by a refusal; a PADR that repeats that of a live
--- call by the PADS of that call; and one whose host enters by what its ring came to
+-- a frame that a line tells answers a host, which sent one of no more than 2,048 bytes: a PADI for a service that is served by a PADO; a PADR that
+-- discovery refuses by the PADS with its cause; one that repeats that of a live call by the PADS of that call; and one whose host enters by what
+-- its ring came to
 pub data FrameIsTrue (w : World) (line : ℕ) (l : Line) (n : ℕ) (frame : List ℕ) : Type 0 where
-  OfDiscovery : (lac : LacAt w n) (bytes : List ℕ) (because : Option Cause) → l ≡ Frame n bytes
-      → discovered_at lac.access lac.node.end bytes ≡ Reply because frame → FrameIsTrue w line l n frame
-  OfLiveCall : (lac : LacAt w n) (bytes : List ℕ) → l ≡ Frame n bytes → IsRepeated lac.access lac.node.end bytes frame → FrameIsTrue w line l n frame
-  OfEntry : (lac : LacAt w n) (bytes src : List ℕ) (uniq : Option (List ℕ)) (asked : Discovered) → l ≡ Frame n bytes
-      → coming lac.access lac.node.end bytes ≡ Enters src uniq asked → discovered_at lac.access lac.node.end bytes ≡ asked
-      → AnswersEntry lac.node.end asked (step lac.node.end lac.node.clock (block_of n line) (event.Admitted src)) frame → FrameIsTrue w line l n frame
+  OfPadi : (lac : LacAt w n) (bytes src service : List ℕ) (tags : List Tag) (uniq relay : Option (List ℕ)) → l ≡ Frame n bytes → length bytes ≤ 2048
+      → IsPadi (mac_of lac.node.end.config.number) bytes src tags → IsAsked tags service uniq relay
+      → frame ≡ frame_bytes (pado (mac_of lac.node.end.config.number) src service (host_name lac.node.end.role lac.node.end.config.number) (cookie_of lac.access.key src) uniq relay)
+      → FrameIsTrue w line l n frame
+  OfRefusal : (lac : LacAt w n) (bytes src : List ℕ) (tags : List Tag) (uniq relay : Option (List ℕ)) (c : Cause) → l ≡ Frame n bytes → length bytes ≤ 2048
+      → IsPadr (mac_of lac.node.end.config.number) bytes src tags → HasValue 0x0103 tags uniq → HasValue 0x0110 tags relay
+      → IsRefusedFor lac.access.key src tags c → frame ≡ frame_bytes (refusal (mac_of lac.node.end.config.number) src c uniq relay)
+      → FrameIsTrue w line l n frame
+  OfLiveCall : (lac : LacAt w n) (bytes src service : List ℕ) (tags : List Tag) (uniq relay : Option (List ℕ)) (session : ℕ) → l ≡ Frame n bytes
+      → length bytes ≤ 2048 → IsPadr (mac_of lac.node.end.config.number) bytes src tags → IsAsked tags service uniq relay
+      → HasCookie lac.access.key src tags → IsHeld lac.access src uniq session → is_some (at lac.node.end.calls session) ≡ true
+      → frame ≡ frame_bytes (pads (mac_of lac.node.end.config.number) src session service uniq relay) → FrameIsTrue w line l n frame
+  OfEntry : (lac : LacAt w n) (bytes src service : List ℕ) (tags : List Tag) (uniq relay : Option (List ℕ)) → l ≡ Frame n bytes → length bytes ≤ 2048
+      → IsPadr (mac_of lac.node.end.config.number) bytes src tags → IsAsked tags service uniq relay → HasCookie lac.access.key src tags
+      → IsNew lac.access lac.node.end src uniq
+      → AnswersEntry lac.node.end (Admit src service uniq relay) (step lac.node.end lac.node.clock (block_of n line) (event.Admitted src)) frame
+      → FrameIsTrue w line l n frame
 
 -- it has the number of its line
 abbrev pub IsTrue : World → ℕ → Line → Entry → Type 0
@@ -177,6 +176,7 @@ abbrev pub TellTrulyThroughout : List Line → Type 0
 TellTrulyThroughout lines =
     (before after : List Line) (l : Line) → lines ≡ before ++ l ∷ after
     → TellsTruly (run before).world (length before + 1) l × TellsOfRoom (run before).world (length before + 1) l
+    × AnswersHosts (run before).world (length before + 1) l
 
 abbrev pub CausesOfRuns : Type 0
 CausesOfRuns = (lines : List Line) → AreLines lines → length lines < 2 ^ 47 → TellTrulyThroughout lines

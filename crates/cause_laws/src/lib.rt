@@ -1,5 +1,5 @@
 //! The causes that reports tell, the room for letters, how many tunnels there are, the calls and tunnels that are left, and the answers to
-//! requests, in the run of every list of fewer than 2^47 lines of the grammar.
+//! requests and to hosts, in the run of every list of fewer than 2^47 lines of the grammar.
 #![tactic(auto)]
 
 ghost use Rattle.cause_laws.specs.Answers.{AnswersOfRuns};
@@ -9,6 +9,7 @@ ghost use Rattle.connection_laws.specs.Steps.{LinesGoOn, RunsBegin};
 ghost use Rattle.step_laws.specs.Answers.{RequestsAreAnswered};
 ghost use Rattle.step_laws.specs.Causes.{CausesStand};
 ghost use Rattle.step_laws.specs.Left.{CallsAreAsked, CallsStaySound, FailedTunnelsGo, LateCallsEnd, TunnelsBeginFew, TunnelsStayFew};
+ghost use Rattle.step_laws.specs.Rings.{RingsCome};
 ghost use Rattle.step_laws.specs.Room.{StepsRefuseTruly, FullAreRefused};
 
 /// The laws that are used.
@@ -16,6 +17,7 @@ fn laws_below()
     ensures causes { CausesStand }
     ensures room { StepsRefuseTruly }
     ensures full { FullAreRefused }
+    ensures rings { RingsCome }
     ensures sound { CallsStaySound }
     ensures late { LateCallsEnd }
     ensures asked { CallsAreAsked }
@@ -29,6 +31,7 @@ fn laws_below()
 {
     step_laws::causes_stand();
     step_laws::steps_refuse_truly();
+    step_laws::rings_come_to_calls_or_causes();
     step_laws::calls_are_not_left();
     step_laws::failed_tunnels_go();
     step_laws::tunnels_stay_few();
@@ -40,7 +43,9 @@ fn laws_below()
 /// Over every list of fewer than 2^47 lines of the grammar, each cause that an entry of the report tells stands in the world before
 /// the entry's line, and none does that counts before it; and a message is dropped for want of room only where it is the next one of a
 /// tunnel that holds so many letters, with those that its calls owe, that four more would be too many. And each such message that
-/// names its tunnel is told so.
+/// names its tunnel is told so. Each frame that an entry tells answers a host; a host that enters and gets no call gets the one cause that the step
+/// tells. And each host is answered: a PADI for a service that is served by its PADO alone; a PADR by one PADS, which has the cause that is
+/// told where discovery refuses it, and comes alone where it repeats that of a live call; else the host's address rings.
 pub fn reports_tell_true_causes()
     ensures { CausesOfRuns }
 {

@@ -58,3 +58,4 @@ mod Untold
 mod Parting
 mod Unborn
 pub mod Gone
+pub mod Rings

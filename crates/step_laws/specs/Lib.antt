@@ -20,3 +20,4 @@ pub mod Opens
 pub mod Answers
 pub mod Tables
 pub mod Sent
+pub mod Rings

@@ -7,6 +7,7 @@ ghost use Rattle.step_laws.specs.Codes.{FaultsHaveCodes};
 ghost use Rattle.step_laws.specs.Gone.{CallsGoOnce};
 ghost use Rattle.step_laws.specs.Left.{CallsAreAsked, CallsStaySound, FailedTunnelsGo, LateCallsEnd, TunnelsBeginFew, TunnelsStayFew};
 ghost use Rattle.step_laws.specs.Looks.{LooksBeginTrue, LooksStayTrue};
+ghost use Rattle.step_laws.specs.Rings.{RingsCome};
 ghost use Rattle.step_laws.specs.Room.{StepsRefuseTruly, FullAreRefused};
 ghost use Rattle.step_laws.specs.Sent.{FramesAreOfSteps};
 ghost use Rattle.step_laws.specs.Steps.{StepsAreChains};
@@ -131,4 +132,10 @@ pub fn requests_are_answered()
 /// tunnel closes, as its row says.
 pub fn tables_are_done()
     ensures { TablesAreDone }
+{}
+
+/// Each ring of a LAC, by a port or by a host that was admitted, comes to a call of the session that is drawn, which lives after the step, and
+/// beside which no cause is told; or to one cause and no other, of those for which a ring is refused, and then the calls are those that were.
+pub fn rings_come_to_calls_or_causes()
+    ensures { RingsCome }
 {}

@@ -1,0 +1,402 @@
+-- What a frame is to a LAC, said by the tags that it has and by the hosts that the LAC holds.
+use Rattle.std.proofs.Common.{◌≡◌, ℕ, ◌≤◌, Bool, true, false, cond, ◌&&◌, List, [], ◌∷◌, ◌++◌, length, Option, Some, None, Ok, Err, refl, sym, ap, ◌∙◌, subst, eqb, not, ◌||◌, Result}
+use Rattle.std.specs.Prelude.{find, is_some, if◌then◌else◌, ◌-◌, take, drop, nat_lt}
+use Rattle.std.specs.List.{AllByRecursion}
+use Rattle.std.specs.Bool.{nat_eq}
+use Rattle.std.specs.Cmp.Lexicographic.{pointwise}
+use Rattle.std.specs.Option.{option_map, option_eq}
+use Rattle.std.proofs.lemmas.Bool.{eqb-true, eqb-false, ne_eqb, true≢false, ltb-false}
+use Rattle.std.proofs.lemmas.Slice.Eq.{bytes_eq-Decides}
+use Rattle.id_table.specs.Ids.{at}
+use Rattle.wire_base.specs.declared.why.Why.TheVariants as why
+use Rattle.wire_base.specs.declared.cause.Cause.{Cause}
+use Rattle.wire_base.specs.declared.cause.Cause.TheVariants as cause
+use Rattle.pppoe_wire.specs.declared.frame.Tag.{Tag}
+use Rattle.pppoe_wire.specs.Spelling.{frame_bytes}
+use Rattle.pppoe_discovery.specs.declared.outcome.Discovered.{Discovered}
+use Rattle.pppoe_discovery.specs.declared.outcome.Discovered.TheVariants.{Ignored, Reply, Admit, Left, Carried}
+use Rattle.pppoe_discovery.specs.Cookie.{cookie_of, is_same, is_cookie}
+use Rattle.pppoe_discovery.specs.Asking.{is_of, value_of, service_of, asked_by}
+use Rattle.pppoe_discovery.specs.Discovery.{refused, offer, admission, taken, discovered, is_for, requested, discovered_by}
+use Rattle.pppoe_discovery.specs.Replies.{pado, pads, refusal}
+use Rattle.pppoe_discovery.specs.Told.{pads_to}
+use Rattle.pppoe_session.specs.declared.Subscriber.{Subscriber}
+use Rattle.pppoe_session.specs.Subscribers.{subscriber_of, is_from, is_repeat, repeat_in}
+use Rattle.end_names.specs.Names.{host_name, mac_of}
+use Rattle.end_model.specs.declared.event.Event.{Event}
+use Rattle.end_model.specs.declared.event.Event.TheVariants as event
+use Rattle.end_model.specs.End.{End}
+use Rattle.end_model.specs.Access.{Access, Coming, Ignores, Answers, Runs, Enters, coming, led_to, wants_call, of_call}
+use Rattle.step_laws.specs.Hosts.{discovered_at}
+use Rattle.cause_laws.specs.Refusals.{IsPadr, NoneIsOf, IsFirst, AsksFor, IsServed, IsRefusedFor, ForItsService, ForItsCookie}
+use Rattle.cause_laws.specs.Hosts.{IsPadi, HasValue, AtNone, AtFirst, IsAsked, HasCookie, CameBy, IsHeld, IsNew}
+use Rattle.cause_laws.proofs.Refusals.{first_found, asks_service, service_asks, own_cookie}
+use Rattle.pppoe_wire.specs.declared.frame.Pppoe.{Pppoe}
+use Rattle.pppoe_wire.specs.declared.error.PppoeError.{PppoeError}
+use Rattle.pppoe_wire.specs.declared.error.TagError.{TagError}
+use Rattle.pppoe_wire.specs.Reading.{frame_of, tags_of}
+
+-- ---- tags
+
+-- where there is none, none is found
+find_none : (kind : ℕ) (tags : List Tag) → NoneIsOf kind tags → find (λ t. is_of kind t) tags ≡ None
+find_none kind [] h = refl
+find_none kind (t ∷ tags) h = rw (ne_eqb t.kind kind h.0) (find_none kind tags h.1)
+
+value_is : (kind : ℕ) (tags : List Tag) (v : Option (List ℕ)) → HasValue kind tags v → value_of kind tags ≡ v
+value_is kind tags _ (AtNone none) = ap (option_map (λ (t : Tag). t.value)) (find_none kind tags none)
+value_is kind tags _ (AtFirst t first) = ap (option_map (λ (t : Tag). t.value)) (first_found kind t tags first)
+
+-- what is found is the first
+tag_found : (kind : ℕ) (tags : List Tag) (t : Tag) → find (λ t. is_of kind t) tags ≡ Some t → IsFirst kind t tags
+tag_found kind [] t h = absurd cc
+tag_found kind (q ∷ tags) t h = by (is_of kind q) refl h (tag_found kind tags t)
+  where
+    by : (b : Bool) → is_of kind q ≡ b → cond b (Some q) (find (λ t. is_of kind t) tags) ≡ Some t
+        → (find (λ t. is_of kind t) tags ≡ Some t → IsFirst kind t tags) → IsFirst kind t (q ∷ tags)
+    by true is f later =
+        let same : q ≡ t = cc in
+        subst (λ y. IsFirst kind y (q ∷ tags)) same (record { before = []; after = tags; parts = refl; is = eqb-true q.kind kind is; none = tt })
+    by false is f later =
+        let rest = later f in
+        record {
+          before = q ∷ rest.before;
+          after = rest.after;
+          parts = ap (λ ts. q ∷ ts) rest.parts;
+          is = rest.is;
+          none = (eqb-false q.kind kind is, rest.none);
+        }
+
+-- no service that is served is asked for
+unserved : (tags : List Tag) → ((name : List ℕ) → IsServed name → AsksFor tags name → ⊥) → service_of tags ≡ None
+unserved tags none = by (service_of tags) refl
+  where
+    by : (o : Option (List ℕ)) → service_of tags ≡ o → service_of tags ≡ None
+    by None is = is
+    by (Some name) is = let s = service_asks tags name is in absurd (none name s.is s.asks)
+
+-- the cookie isn't that of the host
+other_cookie : (key src : List ℕ) (tags : List Tag) → ((t : Tag) → IsFirst 0x0104 t tags → t.value ≡ cookie_of key src → ⊥)
+    → is_cookie key src (value_of 0x0104 tags) ≡ false
+other_cookie key src tags none = by (find (λ t. is_of 0x0104 t) tags) refl
+  where
+    by : (o : Option Tag) → find (λ t. is_of 0x0104 t) tags ≡ o → is_cookie key src (option_map (λ (t : Tag). t.value) o) ≡ false
+    by None is = refl
+    by (Some t) is = of (is_same t.value (cookie_of key src)) refl
+      where
+        of : (b : Bool) → is_same t.value (cookie_of key src) ≡ b → is_same t.value (cookie_of key src) ≡ false
+        of true same = absurd (none t (tag_found 0x0104 tags t is) ((bytes_eq-Decides t.value (cookie_of key src)).0 same))
+        of false same = same
+
+-- ---- what discovery finds
+
+module _ (key mac name bytes src : List ℕ) (tags : List Tag) where
+  padi_found : IsPadi mac bytes src tags → discovered key mac name bytes ≡ offer key mac name src (asked_by tags) (service_of tags)
+  unfolding taken
+  padi_found p = rw (p.reads, p.to, p.discovery, p.code, p.reads_tags, p.source) refl
+
+  pub padr_found : IsPadr mac bytes src tags → discovered key mac name bytes ≡ admission key mac src (asked_by tags) (service_of tags)
+  unfolding taken
+  padr_found p = rw (p.reads, p.to, p.discovery, p.code, p.reads_tags, p.source) refl
+
+  pub refuses : (uniq relay : Option (List ℕ)) (c : Cause) → IsPadr mac bytes src tags → HasValue 0x0103 tags uniq → HasValue 0x0110 tags relay
+      → IsRefusedFor key src tags c → discovered key mac name bytes ≡ Reply (Some c) (frame_bytes (refusal mac src c uniq relay))
+  refuses uniq relay _ p is_uniq is_relay (ForItsService none) =
+      padr_found p ∙ rw (unserved tags none, value_is 0x0103 tags uniq is_uniq, value_is 0x0110 tags relay is_relay) refl
+  refuses uniq relay _ p is_uniq is_relay (ForItsCookie service served asks none) =
+      padr_found p
+      ∙ rw (asks_service tags service served asks, other_cookie key src tags none, value_is 0x0103 tags uniq is_uniq, value_is 0x0110 tags relay is_relay) refl
+
+  module _ (service : List ℕ) (uniq relay : Option (List ℕ)) (asked : IsAsked tags service uniq relay) where
+    service_is : service_of tags ≡ Some service
+    service_is = asks_service tags service asked.served asked.asks
+
+    pub offered : IsPadi mac bytes src tags
+        → discovered key mac name bytes ≡ Reply None (frame_bytes (pado mac src service name (cookie_of key src) uniq relay))
+    offered p =
+        padi_found p
+        ∙ rw (service_is, value_is 0x0103 tags uniq asked.uniq_is, value_is 0x0110 tags relay asked.relay_is) refl
+
+    pub admits : IsPadr mac bytes src tags → HasCookie key src tags → discovered key mac name bytes ≡ Admit src service uniq relay
+    admits p cookie =
+        padr_found p
+        ∙ rw (service_is, own_cookie key src tags cookie.tag cookie.first cookie.value, value_is 0x0103 tags uniq asked.uniq_is, value_is 0x0110 tags relay asked.relay_is) refl
+
+-- ---- hosts that are held
+
+same_uniq : (a b : Option (List ℕ)) → option_eq (pointwise nat_eq) a b ≡ true → a ≡ b
+same_uniq None None h = refl
+same_uniq None (Some y) h = absurd cc
+same_uniq (Some x) None h = absurd cc
+same_uniq (Some x) (Some y) h = ap (λ (v : List ℕ). Some v) ((bytes_eq-Decides x y).0 h)
+
+uniq_same : (a : Option (List ℕ)) → option_eq (pointwise nat_eq) a a ≡ true
+uniq_same None = refl
+uniq_same (Some x) = (bytes_eq-Decides x x).1 refl
+
+both_true : (a b : Bool) → (a && b) ≡ true → (a ≡ true) × (b ≡ true)
+both_true true b h = (refl, h)
+both_true false b h = absurd cc
+
+module _ (src : List ℕ) (uniq : Option (List ℕ)) where
+  repeats_by : (h : ℕ × Subscriber) → CameBy src uniq h → is_repeat src uniq h.1 ≡ true
+  unfolding is_repeat
+  repeats_by h came = rw (came.0, came.1, (bytes_eq-Decides src src).1 refl, uniq_same uniq) refl
+
+  repeats_not : (h : ℕ × Subscriber) → (CameBy src uniq h → ⊥) → is_repeat src uniq h.1 ≡ false
+  unfolding is_repeat
+  repeats_not h other = by (pointwise nat_eq h.1.mac src && option_eq (pointwise nat_eq) h.1.uniq uniq) refl
+    where
+      by : (b : Bool) → (pointwise nat_eq h.1.mac src && option_eq (pointwise nat_eq) h.1.uniq uniq) ≡ b
+          → (pointwise nat_eq h.1.mac src && option_eq (pointwise nat_eq) h.1.uniq uniq) ≡ false
+      by true is =
+          let both = both_true (pointwise nat_eq h.1.mac src) (option_eq (pointwise nat_eq) h.1.uniq uniq) is in
+          absurd (other ((bytes_eq-Decides h.1.mac src).0 both.0, same_uniq h.1.uniq uniq both.1))
+      by false is = is
+
+  found_behind : (before after : List (ℕ × Subscriber)) (session : ℕ) (who : Subscriber) → CameBy src uniq (session, who)
+      → AllByRecursion (λ (h : ℕ × Subscriber). CameBy src uniq h → ⊥) before → repeat_in (before ++ (session, who) ∷ after) src uniq ≡ Some session
+  unfolding repeat_in
+  found_behind [] after session who came first = rw (repeats_by (session, who) came) refl
+  found_behind (h ∷ before) after session who came first = rw (repeats_not h first.0) (found_behind before after session who came first.1)
+
+  pub held_found : (a : Access) (session : ℕ) → IsHeld a src uniq session → repeat_in a.held src uniq ≡ Some session
+  held_found a session h = ap (λ es. repeat_in es src uniq) h.held ∙ found_behind h.before h.after session h.who h.came h.first
+
+  came_by : (h : ℕ × Subscriber) → is_repeat src uniq h.1 ≡ true → CameBy src uniq h
+  unfolding is_repeat
+  came_by h is =
+      let both = both_true (pointwise nat_eq h.1.mac src) (option_eq (pointwise nat_eq) h.1.uniq uniq) is in
+      ((bytes_eq-Decides h.1.mac src).0 both.0, same_uniq h.1.uniq uniq both.1)
+
+  -- what is found is held
+  pub found_held : (key : List ℕ) (es : List (ℕ × Subscriber)) (session : ℕ) → repeat_in es src uniq ≡ Some session
+      → IsHeld (record { key = key; held = es }) src uniq session
+  unfolding repeat_in
+  found_held key [] session h = absurd cc
+  found_held key (x ∷ es) session h = by (is_repeat src uniq x.1) refl h (found_held key es session)
+    where
+      by : (b : Bool) → is_repeat src uniq x.1 ≡ b
+          → option_map (λ (e : ℕ × Subscriber). e.0) (cond b (Some x) (find (λ (e : ℕ × Subscriber). is_repeat src uniq e.1) es)) ≡ Some session
+          → (repeat_in es src uniq ≡ Some session → IsHeld (record { key = key; held = es }) src uniq session)
+          → IsHeld (record { key = key; held = x ∷ es }) src uniq session
+      by true is f later =
+          let same : x.0 ≡ session = cc in
+          record { before = []; who = x.1; after = es; held = ap (λ (s : ℕ). (s, x.1) ∷ es) same; came = came_by x is; first = tt }
+      by false is f later =
+          let rest = later f in
+          record {
+            before = x ∷ rest.before;
+            who = rest.who;
+            after = rest.after;
+            held = ap (λ hs. x ∷ hs) rest.held;
+            came = rest.came;
+            first = (λ came. true≢false (sym (repeats_by x came) ∙ is), rest.first);
+          }
+
+-- ---- what is found
+
+-- each tag's first value
+none_is : (kind : ℕ) (tags : List Tag) → find (λ t. is_of kind t) tags ≡ None → NoneIsOf kind tags
+none_is kind [] h = tt
+none_is kind (t ∷ tags) h = by (is_of kind t) refl h (none_is kind tags)
+  where
+    by : (b : Bool) → is_of kind t ≡ b → cond b (Some t) (find (λ t. is_of kind t) tags) ≡ None
+        → (find (λ t. is_of kind t) tags ≡ None → NoneIsOf kind tags) → NoneIsOf kind (t ∷ tags)
+    by true is f later = absurd cc
+    by false is f later = (eqb-false t.kind kind is, later f)
+
+has_value : (kind : ℕ) (tags : List Tag) → HasValue kind tags (value_of kind tags)
+has_value kind tags = by (find (λ t. is_of kind t) tags) refl
+  where
+    by : (o : Option Tag) → find (λ t. is_of kind t) tags ≡ o → HasValue kind tags (option_map (λ (t : Tag). t.value) o)
+    by None is = AtNone (none_is kind tags is)
+    by (Some t) is = AtFirst t (tag_found kind tags t is)
+
+own_there : (key src : List ℕ) (tags : List Tag) → is_cookie key src (value_of 0x0104 tags) ≡ true → HasCookie key src tags
+own_there key src tags h = by (find (λ t. is_of 0x0104 t) tags) refl h
+  where
+    by : (o : Option Tag) → find (λ t. is_of 0x0104 t) tags ≡ o → is_cookie key src (option_map (λ (t : Tag). t.value) o) ≡ true → HasCookie key src tags
+    by None is good = absurd cc
+    by (Some t) is good = record { tag = t; first = tag_found 0x0104 tags t is; value = (bytes_eq-Decides t.value (cookie_of key src)).0 good }
+
+module _ (key mac name bytes : List ℕ) where
+  -- a PADO or a refusal
+  pub data IsReply (because : Option Cause) (frame : List ℕ) : Type 0 where
+    Offers : (src service : List ℕ) (tags : List Tag) (uniq relay : Option (List ℕ)) → because ≡ None → IsPadi mac bytes src tags
+        → IsAsked tags service uniq relay → frame ≡ frame_bytes (pado mac src service name (cookie_of key src) uniq relay) → IsReply because frame
+    Declines : (src : List ℕ) (tags : List Tag) (uniq relay : Option (List ℕ)) (c : Cause) → because ≡ Some c → IsPadr mac bytes src tags
+        → HasValue 0x0103 tags uniq → HasValue 0x0110 tags relay → IsRefusedFor key src tags c
+        → frame ≡ frame_bytes (refusal mac src c uniq relay) → IsReply because frame
+
+  -- a PADR that may be admitted
+  pub record IsAdmitted (src service : List ℕ) (uniq relay : Option (List ℕ)) : Type 0 where
+    pub tags : List Tag
+    pub padr : IsPadr mac bytes src tags
+    pub asked : IsAsked tags service uniq relay
+    pub cookie : HasCookie key src tags
+
+  abbrev FoundSo : Discovered → Type 0
+  FoundSo (Ignored word) = Unit {0}
+  FoundSo (Reply because frame) = IsReply because frame
+  FoundSo (Admit src service uniq relay) = IsAdmitted src service uniq relay
+  FoundSo (Left src session) = Unit {0}
+  FoundSo (Carried src session start stop) = Unit {0}
+
+  either : (b : Bool) (x y : Discovered) → (b ≡ true → FoundSo x) → (b ≡ false → FoundSo y) → FoundSo (cond b x y)
+  either true x y f g = f refl
+  either false x y f g = g refl
+
+  padr_code : (n : ℕ) → eqb n 0x09 ≡ false → (eqb n 0x09 || eqb n 0x19) ≡ true → n ≡ 0x19
+  padr_code n other either_one = eqb-true n 0x19 (sym (ap (λ b. b || eqb n 0x19) other) ∙ either_one)
+
+  module _ (f : Pppoe) (reads : frame_of bytes ≡ Ok f) (to : is_for mac f ≡ true) (discovery : f.session_stage ≡ false) (tags : List Tag)
+      (reads_tags : tags_of f.payload ≡ Ok tags) where
+    asked_for : (s : List ℕ) → service_of tags ≡ Some s → IsAsked tags s (value_of 0x0103 tags) (value_of 0x0110 tags)
+    asked_for s named =
+        let k = service_asks tags s named in
+        record { served = k.is; asks = k.asks; uniq_is = has_value 0x0103 tags; relay_is = has_value 0x0110 tags }
+
+    offer_so : f.code ≡ 0x09 → (o : Option (List ℕ)) → service_of tags ≡ o → FoundSo (offer key mac name f.src (asked_by tags) o)
+    offer_so code None named = tt
+    offer_so code (Some s) named =
+        Offers f.src s tags (value_of 0x0103 tags) (value_of 0x0110 tags) refl
+        (record { frame = f; reads = reads; to = to; discovery = discovery; code = code; source = refl; reads_tags = reads_tags }) (asked_for s named) refl
+
+    module _ (code : f.code ≡ 0x19) where
+      padr : IsPadr mac bytes f.src tags
+      padr = record { frame = f; reads = reads; to = to; discovery = discovery; code = code; source = refl; reads_tags = reads_tags }
+
+      declined : (c : Cause) → IsRefusedFor key f.src tags c → FoundSo (refused mac f.src c (asked_by tags))
+      declined c why = Declines f.src tags (value_of 0x0103 tags) (value_of 0x0110 tags) c refl padr (has_value 0x0103 tags) (has_value 0x0110 tags) why refl
+
+      admission_so : (o : Option (List ℕ)) → service_of tags ≡ o → FoundSo (admission key mac f.src (asked_by tags) o)
+      admission_so None none =
+          declined cause.Service (ForItsService (λ s is asks. let both : None ≡ Some s = sym none ∙ asks_service tags s is asks in absurd cc))
+      admission_so (Some s) named =
+          either (is_cookie key f.src (value_of 0x0104 tags)) _ _
+          (λ good. record { tags = tags; padr = padr; asked = asked_for s named; cookie = own_there key f.src tags good })
+          (λ bad. let k = service_asks tags s named in
+          declined cause.Cookie (ForItsCookie s k.is k.asks (λ t first is. true≢false (sym (own_cookie key f.src tags t first is) ∙ bad))))
+
+  requested_so : (f : Pppoe) → frame_of bytes ≡ Ok f → is_for mac f ≡ true → f.session_stage ≡ false → (r : Result (List Tag) TagError)
+      → tags_of f.payload ≡ r → (eqb f.code 0x09 || eqb f.code 0x19) ≡ true → FoundSo (requested key mac name f r)
+  requested_so f reads to discovery (Err e) read code = tt
+  requested_so f reads to discovery (Ok tags) read code =
+      either (eqb f.code 0x09) _ _
+      (λ padi. offer_so f reads to discovery tags read (eqb-true f.code 0x09 padi) (service_of tags) refl)
+      (λ other. admission_so f reads to discovery tags read (padr_code f.code other code) (service_of tags) refl)
+
+  taken_so : (f : Pppoe) → frame_of bytes ≡ Ok f → FoundSo (taken key mac name f)
+  unfolding taken
+  taken_so f reads =
+      either (not (is_for mac f)) _ _ (λ other. tt) (λ for_it.
+      either f.session_stage _ _ (λ stage. either (eqb f.code 0) _ _ (λ zero. tt) (λ other. tt)) (λ stage.
+      either (eqb f.code 0xa7) _ _ (λ left. tt) (λ stays.
+      either (eqb f.code 0x09 || eqb f.code 0x19) _ _
+      (λ code. requested_so f reads (is_so (is_for mac f) for_it) stage (tags_of f.payload) refl code)
+      (λ other. tt))))
+    where
+      is_so : (b : Bool) → not b ≡ false → b ≡ true
+      is_so true h = refl
+      is_so false h = absurd cc
+
+  read_so : (r : Result Pppoe PppoeError) → frame_of bytes ≡ r → FoundSo (discovered_by key mac name r)
+  read_so (Err e) reads = tt
+  read_so (Ok f) reads = taken_so f reads
+
+  found_so : FoundSo (discovered key mac name bytes)
+  found_so = read_so (frame_of bytes) refl
+
+-- ---- what comes
+
+module _ (a : Access) (e : End) (bytes : List ℕ) where
+  abbrev mac_at : List ℕ
+  mac_at = mac_of e.config.number
+
+  abbrev name_at : List ℕ
+  name_at = host_name e.role e.config.number
+
+  -- what answers a frame, and nothing else follows on it
+  pub data IsAnswer (because : Option Cause) (frame : List ℕ) : Type 0 where
+    AsDiscovery : IsReply a.key mac_at name_at bytes because frame → IsAnswer because frame
+    AsBefore : (src service : List ℕ) (uniq relay : Option (List ℕ)) (session : ℕ) → because ≡ None
+        → IsAdmitted a.key mac_at name_at bytes src service uniq relay → IsHeld a src uniq session → is_some (at e.calls session) ≡ true
+        → frame ≡ frame_bytes (pads mac_at src session service uniq relay) → IsAnswer because frame
+
+  -- a host that enters
+  pub record IsEntry (src : List ℕ) (uniq : Option (List ℕ)) (asked : Discovered) : Type 0 where
+    pub service : List ℕ
+    pub relay : Option (List ℕ)
+    pub asked_is : asked ≡ Admit src service uniq relay
+    pub admitted : IsAdmitted a.key mac_at name_at bytes src service uniq relay
+    pub new : IsNew a e src uniq
+
+  abbrev LedSo : Coming → Type 0
+  LedSo (Ignores word) = Unit {0}
+  LedSo (Answers because frame) = IsAnswer because frame
+  LedSo (Runs ev) = Unit {0}
+  LedSo (Enters src uniq asked) = IsEntry src uniq asked
+
+  call_so : (live is : Bool) (ev : Event) → LedSo (of_call live is ev)
+  call_so false is ev = tt
+  call_so true false ev = tt
+  call_so true true ev = tt
+
+  wants_so : (src service : List ℕ) (uniq relay : Option (List ℕ)) → IsAdmitted a.key mac_at name_at bytes src service uniq relay
+      → LedSo (wants_call a e src uniq (Admit src service uniq relay) (repeat_in a.held src uniq))
+  wants_so src service uniq relay h = by (repeat_in a.held src uniq) refl
+    where
+      by : (o : Option ℕ) → repeat_in a.held src uniq ≡ o → LedSo (wants_call a e src uniq (Admit src service uniq relay) o)
+      by None none =
+          record {
+            service = service;
+            relay = relay;
+            asked_is = refl;
+            admitted = h;
+            new = λ s held live. let both : None ≡ Some s = sym none ∙ held_found src uniq a s held in absurd cc;
+          }
+      by (Some q) found = of (is_some (at e.calls q)) refl
+        where
+          of : (b : Bool) → is_some (at e.calls q) ≡ b
+              → LedSo (if b then Answers None (pads_to mac_at (Admit src service uniq relay) q None) else Enters src uniq (Admit src service uniq relay))
+          of true live = AsBefore src service uniq relay q refl h (found_held src uniq a.key a.held q found) live refl
+          of false dead =
+              record {
+                service = service;
+                relay = relay;
+                asked_is = refl;
+                admitted = h;
+                new = λ s held live.
+                    let both : Some q ≡ Some s = sym found ∙ held_found src uniq a s held in
+                    let same : q ≡ s = cc in
+                    true≢false (sym (subst (λ r. is_some (at e.calls r) ≡ true) (sym same) live) ∙ dead);
+              }
+
+  led_so : (d : Discovered) → FoundSo a.key mac_at name_at bytes d → LedSo (led_to a e bytes d)
+  unfolding led_to
+  led_so (Ignored word) h = tt
+  led_so (Reply because frame) h = AsDiscovery h
+  led_so (Admit src service uniq relay) h = wants_so src service uniq relay h
+  led_so (Left src session) h = call_so (is_some (at e.calls session)) (is_from src (subscriber_of a.held session)) (event.Hang session)
+  led_so (Carried src session start stop) h =
+      call_so (is_some (at e.calls session)) (is_from src (subscriber_of a.held session)) (event.Payload session (take (stop - start) (drop start bytes)))
+
+  pub answered_so : (because : Option Cause) (frame : List ℕ) → coming a e bytes ≡ Answers because frame → IsAnswer because frame × (length bytes ≤ 2048)
+  unfolding coming
+  answered_so because frame h = by (nat_lt 2048 (length bytes)) refl h
+    where
+      by : (b : Bool) → nat_lt 2048 (length bytes) ≡ b → (if b then Ignores why.Long else led_to a e bytes (discovered_at a e bytes)) ≡ Answers because frame
+          → IsAnswer because frame × (length bytes ≤ 2048)
+      by true long g = absurd cc
+      by false short g = (subst LedSo g (led_so (discovered_at a e bytes) (found_so a.key mac_at name_at bytes)), ltb-false 2048 (length bytes) short)
+
+  pub entered_so : (src : List ℕ) (uniq : Option (List ℕ)) (asked : Discovered) → coming a e bytes ≡ Enters src uniq asked
+      → IsEntry src uniq asked × (length bytes ≤ 2048)
+  unfolding coming
+  entered_so src uniq asked h = by (nat_lt 2048 (length bytes)) refl h
+    where
+      by : (b : Bool) → nat_lt 2048 (length bytes) ≡ b → (if b then Ignores why.Long else led_to a e bytes (discovered_at a e bytes)) ≡ Enters src uniq asked
+          → IsEntry src uniq asked × (length bytes ≤ 2048)
+      by true long g = absurd cc
+      by false short g = (subst LedSo g (led_so (discovered_at a e bytes) (found_so a.key mac_at name_at bytes)), ltb-false 2048 (length bytes) short)
