@@ -1,0 +1,11 @@
+pub mod Lists
+pub mod Views
+pub mod Told
+pub mod Fitting
+pub mod States
+pub mod Windows
+pub mod Changes
+pub mod Moves
+pub mod Ceilings
+pub mod Steps
+pub mod Places

@@ -1,0 +1,28 @@
+//! What the steps of an end leave in its checkpoint is in place, and the book of it has what the end has.
+#![tactic(auto)]
+
+ghost use Rattle.book_laws.specs.Books.{CallsAreByPlace, MovesAreBooked, NewEndsAreBooked, RunsAreBooked, StepsAreBooked};
+
+/// A book mirrors an end where it has the end's established tunnels with their established calls, and no others. Each record that a move
+/// leaves fits the book that those before it make, and the book after them mirrors the end after the move: of an end whose tables fit, and
+/// of a book that mirrors it and whose ceilings are no lower than the ids that the end has drawn. The tables fit after the move too.
+pub fn moves_are_booked()
+    ensures { MovesAreBooked }
+{}
+
+/// An end has a book where the book mirrors it and has the ceilings of its ids. Each record that a step of such an end leaves, the ceilings
+/// first and then those of its moves, fits the book that the ones before it make, and the book after them all is that of the end after the
+/// step; so it is after a run of steps. What a new end leaves, whatever comes to it and when, has the end's own book.
+pub fn steps_are_booked()
+    ensures each { StepsAreBooked }
+    ensures run { RunsAreBooked }
+    ensures new { NewEndsAreBooked }
+{
+    step_laws::steps_are_chains();
+}
+
+/// What a book that mirrors an end has under a session's id is the established call at the session's place, where the end's looks are true;
+/// and it has nothing there where the session has no place.
+pub fn calls_are_by_place()
+    ensures { CallsAreByPlace }
+{}
