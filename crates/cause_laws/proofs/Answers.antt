@@ -28,7 +28,8 @@ use Rattle.connection_laws.specs.Steps.{LinesGoOn, RunsBegin}
 use Rattle.pppoe_discovery.specs.declared.outcome.Discovered.{Discovered}
 use Rattle.end_model.specs.Access.{Coming, coming, Runs, Enters, Ignores, Answers}
 use Rattle.step_laws.specs.Hosts.{LacAt, with_host, OfFrame, frame_line}
-use Rattle.cause_laws.specs.Hosts.{FrameBrings, ByItsHost, ByAPadr}
+use Rattle.cause_laws.specs.Hosts.{FrameBrings}
+use Rattle.cause_laws.proofs.Coming.{FrameComes, OfItsHost, OfAPadr, frame_comes}
 use Rattle.cause_laws.specs.Causes.{Brings, moment_of}
 use Rattle.cause_laws.specs.Answers.{step_at, AnswersOfRuns}
 use Rattle.cause_laws.proofs.Runs.{all_left}
@@ -113,30 +114,30 @@ module _ (w : World) (m : ℕ) (bytes : List ℕ) where
 frame_does : (w : World) (number m : ℕ) (bytes : List ℕ) (n : ℕ) (node : Node) (ev : Event) → at w.nodes n ≡ Some node → n ≡ m → FrameBrings w m bytes ev
     → OfFrame (λ y. Does w number (Frame m bytes) y n node ev) w number m bytes
 frame_does w number m bytes n node ev was to brings = record {
-  ignored = λ l word is x h. absurd (not_told l (Ignores word) is (λ c e. cc) (λ src uniq asked e. cc) brings);
-  answered = λ l because frame is x h. absurd (not_told l (Answers because frame) is (λ c e. cc) (λ src uniq asked e. cc) brings);
+  ignored = λ l word is x h. absurd (not_told l (Ignores word) is (λ c e. cc) (λ src uniq asked e. cc) (frame_comes w m bytes ev brings));
+  answered = λ l because frame is x h. absurd (not_told l (Answers because frame) is (λ c e. cc) (λ src uniq asked e. cc) (frame_comes w m bytes ev brings));
   done = λ l c is does x h.
       stepped_does w number (Frame m bytes) x m c None (Ok l.node) (λ q e. (let same : l.node ≡ q = cc in rw (← same) l.there)) (λ q. refl) h
-      n node ev was to (runs_this l c is brings);
-  entered = λ l src uniq asked is x h. does_more w number (Frame m bytes) x n node ev _ (entered_does l src uniq asked is x h brings);
+      n node ev was to (runs_this l c is (frame_comes w m bytes ev brings));
+  entered = λ l src uniq asked is x h. does_more w number (Frame m bytes) x n node ev _ (entered_does l src uniq asked is x h (frame_comes w m bytes ev brings));
 }
   where
     not_told : (l : LacAt w m) (k : Coming) → coming l.access l.node.end bytes ≡ k → ((c : Event) → k ≡ Runs c → ⊥)
-        → ((src : List ℕ) (uniq : Option (List ℕ)) (asked : Discovered) → k ≡ Enters src uniq asked → ⊥) → FrameBrings w m bytes ev → ⊥
-    not_told l k is other another (ByItsHost j runs) = other ev (sym is ∙ (same_coming w m bytes l j ∙ runs))
-    not_told l k is other another (ByAPadr j src uniq asked enters same) = another src uniq asked (sym is ∙ (same_coming w m bytes l j ∙ enters))
+        → ((src : List ℕ) (uniq : Option (List ℕ)) (asked : Discovered) → k ≡ Enters src uniq asked → ⊥) → FrameComes w m bytes ev → ⊥
+    not_told l k is other another (OfItsHost j runs) = other ev (sym is ∙ (same_coming w m bytes l j ∙ runs))
+    not_told l k is other another (OfAPadr j src uniq asked enters same) = another src uniq asked (sym is ∙ (same_coming w m bytes l j ∙ enters))
 
-    runs_this : (l : LacAt w m) (c : Event) → coming l.access l.node.end bytes ≡ Runs c → FrameBrings w m bytes ev → ev ≡ c
-    runs_this l c is (ByItsHost k runs) = let e : Runs c ≡ Runs ev = sym is ∙ (same_coming w m bytes l k ∙ runs) in cc
-    runs_this l c is (ByAPadr k src uniq asked enters same) =
+    runs_this : (l : LacAt w m) (c : Event) → coming l.access l.node.end bytes ≡ Runs c → FrameComes w m bytes ev → ev ≡ c
+    runs_this l c is (OfItsHost k runs) = let e : Runs c ≡ Runs ev = sym is ∙ (same_coming w m bytes l k ∙ runs) in cc
+    runs_this l c is (OfAPadr k src uniq asked enters same) =
         let e : Runs c ≡ Enters src uniq asked = sym is ∙ (same_coming w m bytes l k ∙ enters) in absurd cc
 
     entered_does : (l : LacAt w m) (src : List ℕ) (uniq : Option (List ℕ)) (asked : Discovered) → coming l.access l.node.end bytes ≡ Enters src uniq asked
-        → (x : Lined) → stepped w number m (event.Admitted src) None (Ok (with_host w number m l src uniq)) ≡ Ok x → FrameBrings w m bytes ev
+        → (x : Lined) → stepped w number m (event.Admitted src) None (Ok (with_host w number m l src uniq)) ≡ Ok x → FrameComes w m bytes ev
         → Does w number (Frame m bytes) x n node ev
-    entered_does l src uniq asked is x h (ByItsHost k runs) =
+    entered_does l src uniq asked is x h (OfItsHost k runs) =
         let e : Enters src uniq asked ≡ Runs ev = sym is ∙ (same_coming w m bytes l k ∙ runs) in absurd cc
-    entered_does l src uniq asked is x h (ByAPadr k from named wanted enters same) =
+    entered_does l src uniq asked is x h (OfAPadr k from named wanted enters same) =
         let e : Enters src uniq asked ≡ Enters from named wanted = sym is ∙ (same_coming w m bytes l k ∙ enters) in
         let who : src ≡ from = cc in
         let both : Some l.node ≡ Some node = sym l.there ∙ (ap (at w.nodes) (sym to) ∙ was) in

@@ -5,7 +5,7 @@ use Rattle.std.specs.List.{AllByRecursion}
 use Rattle.std.specs.Bool.{nat_eq}
 use Rattle.std.specs.Cmp.Lexicographic.{pointwise}
 use Rattle.std.specs.Option.{option_map, option_eq}
-use Rattle.std.proofs.lemmas.Bool.{eqb-true, eqb-false, ne_eqb, true≢false, ltb-false}
+use Rattle.std.proofs.lemmas.Bool.{eqb-true, eqb-false, ne_eqb, true≢false, ltb-false, le-ltb}
 use Rattle.std.proofs.lemmas.Slice.Eq.{bytes_eq-Decides}
 use Rattle.id_table.specs.Ids.{at}
 use Rattle.wire_base.specs.declared.why.Why.TheVariants as why
@@ -27,9 +27,10 @@ use Rattle.end_model.specs.declared.event.Event.{Event}
 use Rattle.end_model.specs.declared.event.Event.TheVariants as event
 use Rattle.end_model.specs.End.{End}
 use Rattle.end_model.specs.Access.{Access, Coming, Ignores, Answers, Runs, Enters, coming, led_to, wants_call, of_call}
-use Rattle.step_laws.specs.Hosts.{discovered_at}
+use Rattle.world_model.specs.World.{World}
+use Rattle.step_laws.specs.Hosts.{LacAt, discovered_at}
 use Rattle.cause_laws.specs.Refusals.{IsPadr, NoneIsOf, IsFirst, AsksFor, IsServed, IsRefusedFor, ForItsService, ForItsCookie}
-use Rattle.cause_laws.specs.Hosts.{IsPadi, HasValue, AtNone, AtFirst, IsAsked, HasCookie, CameBy, IsHeld, IsNew}
+use Rattle.cause_laws.specs.Hosts.{IsPadi, HasValue, AtNone, AtFirst, IsAsked, HasCookie, CameBy, IsHeld, IsNew, HostActs, HostSends, HostLeaves, FrameBrings, ByItsHost, ByAPadr}
 use Rattle.cause_laws.proofs.Refusals.{first_found, asks_service, service_asks, own_cookie}
 use Rattle.pppoe_wire.specs.declared.frame.Pppoe.{Pppoe}
 use Rattle.pppoe_wire.specs.declared.error.PppoeError.{PppoeError}
@@ -236,12 +237,34 @@ module _ (key mac name bytes : List ℕ) where
     pub asked : IsAsked tags service uniq relay
     pub cookie : HasCookie key src tags
 
+  -- a PADT
+  pub record IsPadt (src : List ℕ) (session : ℕ) : Type 0 where
+    pub frame : Pppoe
+    pub reads : frame_of bytes ≡ Ok frame
+    pub to : is_for mac frame ≡ true
+    pub discovery : frame.session_stage ≡ false
+    pub code : frame.code ≡ 0xa7
+    pub source : frame.src ≡ src
+    pub session_is : frame.session ≡ session
+
+  -- a frame of the session stage
+  pub record IsSessionFrame (src : List ℕ) (session start stop : ℕ) : Type 0 where
+    pub frame : Pppoe
+    pub reads : frame_of bytes ≡ Ok frame
+    pub to : is_for mac frame ≡ true
+    pub stage : frame.session_stage ≡ true
+    pub code : frame.code ≡ 0
+    pub source : frame.src ≡ src
+    pub session_is : frame.session ≡ session
+    pub start_is : frame.start ≡ start
+    pub stop_is : frame.end ≡ stop
+
   abbrev FoundSo : Discovered → Type 0
   FoundSo (Ignored word) = Unit {0}
   FoundSo (Reply because frame) = IsReply because frame
   FoundSo (Admit src service uniq relay) = IsAdmitted src service uniq relay
-  FoundSo (Left src session) = Unit {0}
-  FoundSo (Carried src session start stop) = Unit {0}
+  FoundSo (Left src session) = IsPadt src session
+  FoundSo (Carried src session start stop) = IsSessionFrame src session start stop
 
   either : (b : Bool) (x y : Discovered) → (b ≡ true → FoundSo x) → (b ≡ false → FoundSo y) → FoundSo (cond b x y)
   either true x y f g = f refl
@@ -291,8 +314,32 @@ module _ (key mac name bytes : List ℕ) where
   unfolding taken
   taken_so f reads =
       either (not (is_for mac f)) _ _ (λ other. tt) (λ for_it.
-      either f.session_stage _ _ (λ stage. either (eqb f.code 0) _ _ (λ zero. tt) (λ other. tt)) (λ stage.
-      either (eqb f.code 0xa7) _ _ (λ left. tt) (λ stays.
+      either f.session_stage _ _
+      (λ stage. either (eqb f.code 0) _ _
+      (λ zero. record {
+        frame = f;
+        reads = reads;
+        to = is_so (is_for mac f) for_it;
+        stage = stage;
+        code = eqb-true f.code 0 zero;
+        source = refl;
+        session_is = refl;
+        start_is = refl;
+        stop_is = refl;
+      })
+      (λ other. tt))
+      (λ stage.
+      either (eqb f.code 0xa7) _ _
+      (λ left. record {
+        frame = f;
+        reads = reads;
+        to = is_so (is_for mac f) for_it;
+        discovery = stage;
+        code = eqb-true f.code 0xa7 left;
+        source = refl;
+        session_is = refl;
+      })
+      (λ stays.
       either (eqb f.code 0x09 || eqb f.code 0x19) _ _
       (λ code. requested_so f reads (is_so (is_for mac f) for_it) stage (tags_of f.payload) refl code)
       (λ other. tt))))
@@ -335,13 +382,30 @@ module _ (a : Access) (e : End) (bytes : List ℕ) where
   abbrev LedSo : Coming → Type 0
   LedSo (Ignores word) = Unit {0}
   LedSo (Answers because frame) = IsAnswer because frame
-  LedSo (Runs ev) = Unit {0}
+  LedSo (Runs ev) = HostActs a e bytes ev
   LedSo (Enters src uniq asked) = IsEntry src uniq asked
 
-  call_so : (live is : Bool) (ev : Event) → LedSo (of_call live is ev)
-  call_so false is ev = tt
-  call_so true false ev = tt
-  call_so true true ev = tt
+  call_so : (src : List ℕ) (session : ℕ) (ev : Event)
+      → (is_some (at e.calls session) ≡ true → is_from src (subscriber_of a.held session) ≡ true → HostActs a e bytes ev) → (live is : Bool)
+      → is_some (at e.calls session) ≡ live → is_from src (subscriber_of a.held session) ≡ is → LedSo (of_call live is ev)
+  call_so src session ev acts false is l h = tt
+  call_so src session ev acts true false l h = tt
+  call_so src session ev acts true true l h = acts l h
+
+  padt_acts : (src : List ℕ) (session : ℕ) → IsPadt a.key mac_at name_at bytes src session → is_some (at e.calls session) ≡ true
+      → is_from src (subscriber_of a.held session) ≡ true → HostActs a e bytes (event.Hang session)
+  padt_acts src session p live holds =
+      let same : event.Hang p.frame.session ≡ event.Hang session = rw p.session_is refl in
+      subst (HostActs a e bytes) same
+      (HostLeaves p.frame (record { reads = p.reads; to = p.to; live = rw p.session_is live; holds = rw (p.source, p.session_is) holds }) p.discovery p.code)
+
+  frame_acts : (src : List ℕ) (session start stop : ℕ) → IsSessionFrame a.key mac_at name_at bytes src session start stop → is_some (at e.calls session) ≡ true
+      → is_from src (subscriber_of a.held session) ≡ true → HostActs a e bytes (event.Payload session (take (stop - start) (drop start bytes)))
+  frame_acts src session start stop p live holds =
+      let same : event.Payload p.frame.session (take (p.frame.end - p.frame.start) (drop p.frame.start bytes)) ≡ event.Payload session (take (stop - start) (drop start bytes)) =
+      rw (p.session_is, p.start_is, p.stop_is) refl in
+      subst (HostActs a e bytes) same
+      (HostSends p.frame (record { reads = p.reads; to = p.to; live = rw p.session_is live; holds = rw (p.source, p.session_is) holds }) p.stage p.code)
 
   wants_so : (src service : List ℕ) (uniq relay : Option (List ℕ)) → IsAdmitted a.key mac_at name_at bytes src service uniq relay
       → LedSo (wants_call a e src uniq (Admit src service uniq relay) (repeat_in a.held src uniq))
@@ -378,9 +442,11 @@ module _ (a : Access) (e : End) (bytes : List ℕ) where
   led_so (Ignored word) h = tt
   led_so (Reply because frame) h = AsDiscovery h
   led_so (Admit src service uniq relay) h = wants_so src service uniq relay h
-  led_so (Left src session) h = call_so (is_some (at e.calls session)) (is_from src (subscriber_of a.held session)) (event.Hang session)
+  led_so (Left src session) h =
+      call_so src session (event.Hang session) (padt_acts src session h) (is_some (at e.calls session)) (is_from src (subscriber_of a.held session)) refl refl
   led_so (Carried src session start stop) h =
-      call_so (is_some (at e.calls session)) (is_from src (subscriber_of a.held session)) (event.Payload session (take (stop - start) (drop start bytes)))
+      call_so src session (event.Payload session (take (stop - start) (drop start bytes))) (frame_acts src session start stop h) (is_some (at e.calls session))
+      (is_from src (subscriber_of a.held session)) refl refl
 
   pub answered_so : (because : Option Cause) (frame : List ℕ) → coming a e bytes ≡ Answers because frame → IsAnswer because frame × (length bytes ≤ 2048)
   unfolding coming
@@ -400,3 +466,66 @@ module _ (a : Access) (e : End) (bytes : List ℕ) where
           → IsEntry src uniq asked × (length bytes ≤ 2048)
       by true long g = absurd cc
       by false short g = (subst LedSo g (led_so (discovered_at a e bytes) (found_so a.key mac_at name_at bytes)), ltb-false 2048 (length bytes) short)
+
+  runs_so : (ev : Event) → coming a e bytes ≡ Runs ev → HostActs a e bytes ev × (length bytes ≤ 2048)
+  unfolding coming
+  runs_so ev h = by (nat_lt 2048 (length bytes)) refl h
+    where
+      by : (b : Bool) → nat_lt 2048 (length bytes) ≡ b → (if b then Ignores why.Long else led_to a e bytes (discovered_at a e bytes)) ≡ Runs ev
+          → HostActs a e bytes ev × (length bytes ≤ 2048)
+      by true long g = absurd cc
+      by false short g = (subst LedSo g (led_so (discovered_at a e bytes) (found_so a.key mac_at name_at bytes)), ltb-false 2048 (length bytes) short)
+
+  -- ---- and the other way
+
+  module _ (short : length bytes ≤ 2048) where
+    coming_short : (d : Discovered) → discovered_at a e bytes ≡ d → coming a e bytes ≡ led_to a e bytes d
+    unfolding coming
+    coming_short d is = rw (le-ltb 2048 (length bytes) short, is) refl
+
+    acts_run : (ev : Event) → HostActs a e bytes ev → coming a e bytes ≡ Runs ev
+    unfolding led_to taken
+    acts_run _ (HostSends f of stage code) =
+        coming_short (Carried f.src f.session f.start f.end) (rw (of.reads, of.to, stage, code) refl) ∙ rw (of.live, of.holds) refl
+    acts_run _ (HostLeaves f of stage code) =
+        coming_short (Left f.src f.session) (rw (of.reads, of.to, stage, code) refl) ∙ rw (of.live, of.holds) refl
+
+    admits_enter : (src service : List ℕ) (tags : List Tag) (uniq relay : Option (List ℕ)) → IsPadr mac_at bytes src tags → IsAsked tags service uniq relay
+        → HasCookie a.key src tags → IsNew a e src uniq → coming a e bytes ≡ Enters src uniq (Admit src service uniq relay)
+    unfolding led_to
+    admits_enter src service tags uniq relay padr asked cookie new =
+        coming_short (Admit src service uniq relay) (admits a.key mac_at name_at bytes src tags service uniq relay asked padr cookie)
+        ∙ by (repeat_in a.held src uniq) refl
+      where
+        by : (o : Option ℕ) → repeat_in a.held src uniq ≡ o → wants_call a e src uniq (Admit src service uniq relay) o ≡ Enters src uniq (Admit src service uniq relay)
+        by None found = refl
+        by (Some q) found = of (is_some (at e.calls q)) refl
+          where
+            of : (b : Bool) → is_some (at e.calls q) ≡ b
+                → (if b then Answers None (pads_to mac_at (Admit src service uniq relay) q None) else Enters src uniq (Admit src service uniq relay))
+                ≡ Enters src uniq (Admit src service uniq relay)
+            of true live = absurd (new q (found_held src uniq a.key a.held q found) live)
+            of false dead = refl
+
+-- ---- what a frame brings to a LAC of a world
+
+module _ (w : World) (n : ℕ) (bytes : List ℕ) where
+  pub data FrameComes (ev : Event) : Type 0 where
+    OfItsHost : (l : LacAt w n) → coming l.access l.node.end bytes ≡ Runs ev → FrameComes ev
+    OfAPadr : (l : LacAt w n) (src : List ℕ) (uniq : Option (List ℕ)) (asked : Discovered) → coming l.access l.node.end bytes ≡ Enters src uniq asked
+        → ev ≡ event.Admitted src → FrameComes ev
+
+  pub frame_comes : (ev : Event) → FrameBrings w n bytes ev → FrameComes ev
+  frame_comes ev (ByItsHost l short acts) = OfItsHost l (acts_run l.access l.node.end bytes short ev acts)
+  frame_comes ev (ByAPadr l src service tags uniq relay short padr asked cookie new is) =
+      OfAPadr l src uniq (Admit src service uniq relay) (admits_enter l.access l.node.end bytes short src service tags uniq relay padr asked cookie new) is
+
+  pub host_brings : (ev : Event) (l : LacAt w n) → coming l.access l.node.end bytes ≡ Runs ev → FrameBrings w n bytes ev
+  host_brings ev l is = let h = runs_so l.access l.node.end bytes ev is in ByItsHost l h.1 h.0
+
+  pub padr_brings : (l : LacAt w n) (src : List ℕ) (uniq : Option (List ℕ)) (asked : Discovered) → coming l.access l.node.end bytes ≡ Enters src uniq asked
+      → FrameBrings w n bytes (event.Admitted src)
+  padr_brings l src uniq asked is =
+      let so = entered_so l.access l.node.end bytes src uniq asked is in
+      let h = so.0 in
+      ByAPadr l src h.service h.admitted.tags uniq h.relay so.1 h.admitted.padr h.admitted.asked h.admitted.cookie h.new refl

@@ -36,8 +36,8 @@ use Rattle.step_laws.specs.Steps.{AreKept}
 use Rattle.step_laws.specs.Answers.{causes_of}
 use Rattle.step_laws.specs.Rings.{RingsCome}
 use Rattle.cause_laws.specs.Refusals.{IsPadr, IsRefusedFor}
-use Rattle.cause_laws.specs.Hosts.{IsPadi, HasValue, IsAsked, HasCookie, IsHeld, IsNew, ByAPadr, frame_in, frames_in, cause_in, causes_in, TellsOnly, TellsPads, TellsRefusal, HostEnters, HostIsAnswered, AnswersHosts}
-use Rattle.cause_laws.proofs.Coming.{offered, admits, refuses, padr_found, held_found, found_held}
+use Rattle.cause_laws.specs.Hosts.{IsPadi, HasValue, IsAsked, HasCookie, IsHeld, IsNew, frame_in, frames_in, cause_in, causes_in, TellsOnly, TellsPads, TellsRefusal, HostEnters, HostIsAnswered, AnswersHosts}
+use Rattle.cause_laws.proofs.Coming.{offered, admits, refuses, padr_found, held_found, found_held, padr_brings}
 use Rattle.cause_laws.proofs.Lines.{EndsAreKept, entry_answered}
 
 -- ---- entries
@@ -160,7 +160,7 @@ module _ (w : World) (number n : ℕ) (bytes : List ℕ) (short : length bytes �
         let entries : entries_of number n made_step.outputs v ++ Frames number n (reply_to w number n l src asked) ∷ [] ≡ x.entries = cc in
         let done : map (λ m. deed_of v number n e.role None m) made_step.moves ≡ x.done = cc in
         record {
-          brings = ByAPadr l src uniq asked is refl;
+          brings = padr_brings w n bytes l src uniq asked is;
           done = ap (map (λ (d : Deed). d.move)) (sym done) ∙ moves_done (λ m. deed_of v number n e.role None m) (λ m. refl) made_step.moves;
           causes =
               ap causes_in (sym entries)

@@ -35,8 +35,8 @@ use Rattle.wire_base.specs.declared.cause.Cause.{Cause as BecauseOf}
 use Rattle.world_model.specs.Texts.{Entry, Frames}
 use Rattle.step_laws.specs.Hosts.{LacAt, with_host, reply_to, OfFrame, frame_line, never_full, discovery_refuses}
 use Rattle.cause_laws.proofs.Refusals.{refused_padr}
-use Rattle.cause_laws.proofs.Coming.{Offers, Declines, IsAnswer, AsDiscovery, AsBefore, answered_so, entered_so}
-use Rattle.cause_laws.specs.Hosts.{ByItsHost, ByAPadr, AnswersEntry, WithSession, WithCause}
+use Rattle.cause_laws.proofs.Coming.{Offers, Declines, IsAnswer, AsDiscovery, AsBefore, answered_so, entered_so, host_brings, padr_brings}
+use Rattle.cause_laws.specs.Hosts.{AnswersEntry, WithSession, WithCause}
 use Rattle.cause_laws.specs.Causes.{Brings, CauseStandsIn, AtTheEnd, InDiscovery, moment_of, IsFullAt, FrameIsTrue, OfPadi, OfRefusal, OfLiveCall, OfEntry, IsTrue, TellsTruly}
 
 -- ---- the outputs of a step, and the entries that they make
@@ -218,11 +218,11 @@ frame_true causes room rings w kept number n bytes = record {
   answered = λ l because frame is x h. answers_true w number n bytes l because frame is;
   done = λ l ev is does x h.
       stepped_true causes room w kept number (Frame n bytes) x n ev None (Ok l.node) (λ node e. (let same : l.node ≡ node = cc in rw (← same) l.there)) (λ node. refl)
-      (refl, ByItsHost l is) h;
+      (refl, host_brings w n bytes ev l is) h;
   entered = λ l src uniq asked is x h.
       both_true w number (Frame n bytes) x.entries (Frames number n (reply_to w number n l src asked) ∷ [])
       (entered_true causes room w kept number (Frame n bytes) x n (event.Admitted src) l.node (with_host w number n l src uniq) l.there refl refl
-      (refl, ByAPadr l src uniq asked is refl) h) (
+      (refl, padr_brings w n bytes l src uniq asked is) h) (
         (
           refl,
           entry_true_of w number n bytes l src uniq asked is

@@ -18,9 +18,9 @@ use Rattle.end_model.specs.End.{End, step}
 use Rattle.world_model.specs.Texts.{Drops}
 use Rattle.world_model.specs.World.{World, Node, Sender, Lined, after_step, given, entries_of, entry_of, shown, moved_all, with_node, block_of, stepped, addressee_of, arrival, refused_by, sender_of, arrives, delivers_it, delivers, line}
 use Rattle.step_laws.specs.Letters.{Among}
-use Rattle.step_laws.specs.Hosts.{HostDoes, HostSends, HostLeaves, host_does}
 use Rattle.step_laws.specs.Room.{IsFull, FullAreRefused}
-use Rattle.cause_laws.specs.Hosts.{FrameBrings, ByItsHost, ByAPadr}
+use Rattle.std.specs.Prelude.{take, drop}
+use Rattle.cause_laws.specs.Hosts.{HostActs, HostSends, HostLeaves, FrameBrings, ByItsHost, ByAPadr}
 use Rattle.cause_laws.specs.Causes.{moment_of, FindsNoRoom, TellsOfRoom}
 use Rattle.cause_laws.proofs.Lines.{EndsAreKept}
 
@@ -62,12 +62,14 @@ module _ (full : FullAreRefused) (w : World) (kept : EndsAreKept w) (number : �
 
   -- a frame brings no datagram
   framed : (n : ℕ) (bytes : List ℕ) (f : FindsNoRoom w (Frame n bytes) n) → FrameBrings w n bytes f.event → Among (Drops number n why.Queue) x.entries
-  framed n bytes f (ByItsHost lac runs) = by f.event refl (host_does lac.access lac.node.end bytes f.event runs)
+  framed n bytes f (ByItsHost lac short acts) = by f.event refl acts
     where
-      by : (ev : Event) → f.event ≡ ev → HostDoes lac.access lac.node.end bytes ev → Among (Drops number n why.Queue) x.entries
-      by ev is (HostSends src session start stop found of) = never (Frame n bytes) n f ev is (λ secret peer packet e. cc)
-      by ev is (HostLeaves src session found of) = never (Frame n bytes) n f ev is (λ secret peer packet e. cc)
-  framed n bytes f (ByAPadr lac src uniq asked enters is) = never (Frame n bytes) n f (event.Admitted src) is (λ secret peer packet e. cc)
+      by : (ev : Event) → f.event ≡ ev → HostActs lac.access lac.node.end bytes ev → Among (Drops number n why.Queue) x.entries
+      by _ is (HostSends g of stage code) =
+          never (Frame n bytes) n f (event.Payload g.session (take (g.end - g.start) (drop g.start bytes))) is (λ secret peer packet e. cc)
+      by _ is (HostLeaves g of stage code) = never (Frame n bytes) n f (event.Hang g.session) is (λ secret peer packet e. cc)
+  framed n bytes f (ByAPadr lac src service tags uniq relay short padr asked cookie new is) =
+      never (Frame n bytes) n f (event.Admitted src) is (λ secret peer packet e. cc)
 
   -- a packet that arrives
   arrived : (k : ℕ) (p : Packet) → slice_get w.packets (k - 1) ≡ Some p → (f : FindsNoRoom w (Deliver k) p.to)

@@ -1,6 +1,6 @@
 -- That each host is answered which asks for a service or for a session (RFC 2516 sections 5.1 to 5.4), apart from the functions that read its
 -- frame and choose what is done.
-use Rattle.std.specs.Prelude.{◌≡◌, ℕ, ◌≤◌, true, false, List, [], ◌∷◌, ◌++◌, length, map, is_some, Option, Some, None, Ok}
+use Rattle.std.specs.Prelude.{◌-◌, take, drop, ◌≡◌, ℕ, ◌≤◌, true, false, List, [], ◌∷◌, ◌++◌, length, map, is_some, Option, Some, None, Ok}
 use Rattle.std.specs.List.{AllByRecursion, flat_map}
 use Rattle.id_table.specs.Ids.{at}
 use Rattle.id_source.specs.Spaces.{takes_id}
@@ -18,11 +18,12 @@ use Rattle.pppoe_discovery.specs.Told.{pads_to}
 use Rattle.pppoe_discovery.specs.declared.outcome.Discovered.{Discovered}
 use Rattle.pppoe_discovery.specs.declared.outcome.Discovered.TheVariants.{Admit}
 use Rattle.pppoe_session.specs.declared.Subscriber.{Subscriber}
+use Rattle.pppoe_session.specs.Subscribers.{subscriber_of, is_from}
 use Rattle.end_names.specs.Names.{host_name, mac_of}
 use Rattle.end_model.specs.declared.event.Event.{Event}
 use Rattle.end_model.specs.declared.event.Event.TheVariants as event
 use Rattle.end_model.specs.End.{End, Stepped, step}
-use Rattle.end_model.specs.Access.{Access, coming, Runs, Enters}
+use Rattle.end_model.specs.Access.{Access}
 use Rattle.world_model.specs.Texts.{Entry, Frames, Causes}
 use Rattle.world_model.specs.World.{World, Deed, Lined, block_of, line}
 use Rattle.step_laws.specs.Answers.{causes_of}
@@ -80,11 +81,26 @@ IsNew a e src uniq = (session : ℕ) → IsHeld a src uniq session → is_some (
 
 -- ---- what a frame brings
 
--- the event that an Ethernet frame is for the LAC to which it comes: what the host of a call does in it, or that a host wants one
+-- a frame to this address about a call that is live, from the call's host
+pub record IsOfCall (a : Access) (e : End) (bytes : List ℕ) (f : Pppoe) : Type 0 where
+  pub reads : frame_of bytes ≡ Ok f
+  pub to : is_for (mac_of e.config.number) f ≡ true
+  pub live : is_some (at e.calls f.session) ≡ true
+  pub holds : is_from f.src (subscriber_of a.held f.session) ≡ true
+
+-- what the host of a call does: it sends a session frame (00), whose payload goes into the call, or leaves by a PADT (a7)
+pub data HostActs (a : Access) (e : End) (bytes : List ℕ) : Event → Type 0 where
+  HostSends : (f : Pppoe) → IsOfCall a e bytes f → f.session_stage ≡ true → f.code ≡ 0
+      → HostActs a e bytes (event.Payload f.session (take (f.end - f.start) (drop f.start bytes)))
+  HostLeaves : (f : Pppoe) → IsOfCall a e bytes f → f.session_stage ≡ false → f.code ≡ 0xa7 → HostActs a e bytes (event.Hang f.session)
+
+-- the event that an Ethernet frame of no more than 2,048 bytes is for the LAC to which it comes: what the host of a call does in it, or that a
+-- host wants one, by a PADR with its cookie that doesn't repeat that of a live call
 pub data FrameBrings (w : World) (n : ℕ) (bytes : List ℕ) (ev : Event) : Type 0 where
-  ByItsHost : (l : LacAt w n) → coming l.access l.node.end bytes ≡ Runs ev → FrameBrings w n bytes ev
-  ByAPadr : (l : LacAt w n) (src : List ℕ) (uniq : Option (List ℕ)) (asked : Discovered) → coming l.access l.node.end bytes ≡ Enters src uniq asked
-      → ev ≡ event.Admitted src → FrameBrings w n bytes ev
+  ByItsHost : (l : LacAt w n) → length bytes ≤ 2048 → HostActs l.access l.node.end bytes ev → FrameBrings w n bytes ev
+  ByAPadr : (l : LacAt w n) (src service : List ℕ) (tags : List Tag) (uniq relay : Option (List ℕ)) → length bytes ≤ 2048
+      → IsPadr (mac_of l.node.end.config.number) bytes src tags → IsAsked tags service uniq relay → HasCookie l.access.key src tags
+      → IsNew l.access l.node.end src uniq → ev ≡ event.Admitted src → FrameBrings w n bytes ev
 
 -- ---- answers
 
