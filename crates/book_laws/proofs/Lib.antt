@@ -9,3 +9,4 @@ pub mod Moves
 pub mod Ceilings
 pub mod Steps
 pub mod Places
+pub mod Contents

@@ -1,5 +1,6 @@
 -- The book of an end's checkpoint, and the end whose book it is.
-use Rattle.std.specs.Prelude.{◌≡◌, ℕ, ◌+◌, ◌≤◌, ◌<◌, true, List, [], ◌∷◌, ◌++◌, length, replicate, Option, Some, None, is_some, if◌then◌else◌}
+use Rattle.std.specs.Prelude.{◌≡◌, ℕ, ◌+◌, ◌≤◌, ◌<◌, true, List, [], ◌∷◌, ◌++◌, length, map, replicate, Option, Some, None, is_some, Ok, if◌then◌else◌}
+use Rattle.std.specs.List.{AllByRecursion}
 use Rattle.id_table.specs.Ids.{at}
 use Rattle.id_table.specs.Order.{Ascends}
 use Rattle.id_source.specs.Spaces.{Space}
@@ -9,7 +10,8 @@ use Rattle.end_names.specs.declared.role.Role.TheVariants.{Lac, Lns}
 use Rattle.session_book.specs.declared.record.BookTunnel.{BookTunnel}
 use Rattle.session_book.specs.declared.record.BookCall.{BookCall}
 use Rattle.session_book.specs.declared.record.Record.{Record}
-use Rattle.session_book.specs.Books.{Kept, nothing_kept, AreRising, tunnel_at, call_at, fits, stepped}
+use Rattle.session_book.specs.Books.{Kept, nothing_kept, AreRising, tunnel_at, call_at, fits, stepped, book_of}
+use Rattle.session_book.specs.Spelling.{content_of, FitsBytes}
 use Rattle.end_model.specs.declared.event.Event.{Event}
 use Rattle.end_model.specs.declared.moves.Move.{Move}
 use Rattle.end_model.specs.declared.tunnel.Call.{Call}
@@ -130,6 +132,11 @@ AreInPlace k (r ∷ rs) = (fits k r ≡ true) × AreInPlace (stepped k r) rs
 abbrev pub book_after : Kept → List Record → Kept
 book_after k [] = k
 book_after k (r ∷ rs) = book_after (stepped k r) rs
+
+-- records in place, whose fields fit their bytes, are spelled as contents that make that book
+abbrev pub ContentsHaveTheBook : Type 0
+ContentsHaveTheBook =
+    (rs : List Record) → AllByRecursion FitsBytes rs → AreInPlace nothing_kept rs → book_of (map (λ r. content_of r) rs) ≡ Ok (book_after nothing_kept rs)
 
 -- ---- the laws
 

@@ -1,7 +1,7 @@
 //! What the steps of an end leave in its checkpoint is in place, and the book of it has what the end has.
 #![tactic(auto)]
 
-ghost use Rattle.book_laws.specs.Books.{CallsAreByPlace, MovesAreBooked, NewEndsAreBooked, RunsAreBooked, StepsAreBooked};
+ghost use Rattle.book_laws.specs.Books.{CallsAreByPlace, ContentsHaveTheBook, MovesAreBooked, NewEndsAreBooked, RunsAreBooked, StepsAreBooked};
 
 /// A book mirrors an end where it has the end's established tunnels with their established calls, and no others. Each record that a move
 /// leaves fits the book that those before it make, and the book after them mirrors the end after the move: of an end whose tables fit, and
@@ -26,3 +26,11 @@ pub fn steps_are_booked()
 pub fn calls_are_by_place()
     ensures { CallsAreByPlace }
 {}
+
+/// Records that are in place from an empty checkpoint on, and whose fields fit their bytes, are spelled as contents that make the book
+/// which these records make.
+pub fn contents_have_the_book()
+    ensures { ContentsHaveTheBook }
+{
+    session_book::records_are_read_again();
+}
