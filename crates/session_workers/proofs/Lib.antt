@@ -1,0 +1,4 @@
+pub mod Lists
+pub mod EachView
+pub mod ItemMoves
+pub mod FinishedMoves

@@ -1,0 +1,88 @@
+-- What a clause says of passes.
+use Rattle.std.specs.Prelude.{◌≡◌, ℕ, ◌-◌, ◌<◌, ◌≤◌, ◌^◌, ◌⊎◌, true, List, [], ◌∷◌, ◌++◌, length, slice_get, Some, Option, None}
+use Rattle.crossbeam_queue.specs.Passes.{view, IsPassOf}
+use Rattle.crossbeam_queue.specs.Fifo.{Held}
+use Rattle.session_cells.specs.Tokens.{IsOf}
+use Rattle.session_workers.specs.declared.views.ItemView.{ItemView}
+use Rattle.session_workers.specs.declared.views.FinishedView.{FinishedView}
+use Rattle.session_workers.specs.declared.item.Numbered.{Numbered}
+use Rattle.session_workers.specs.declared.item.Item.{Item}
+use Rattle.session_workers.specs.declared.shared.Shared.{Shared}
+use Rattle.session_workers.specs.declared.shared.Pass.{Pass}
+use Rattle.session_workers.specs.declared.finished.Finished.{Finished}
+use Rattle.session_workers.specs.declared.finished.Worked.{Worked}
+use Rattle.session_workers.specs.declared.finished.Worked.TheVariants.{Empty, Done}
+use Rattle.session_workers.specs.Items.{name_in, Tells}
+use Rattle.session_workers.specs.Finishing.{Evens}
+use Rattle.session_workers.specs.Lists.{times}
+
+abbrev pub items_of : Pass → ItemView
+items_of p = view p.items
+
+abbrev pub finished_of : Pass → FinishedView
+finished_of p = view p.finished
+
+-- what the pass knows to have been put, in order
+abbrev pub known_of : Pass → List Numbered
+known_of p = (items_of p).known
+
+-- the numbers that the pass took
+abbrev pub taken_of : Pass → List ℕ
+taken_of p = (items_of p).taken
+
+-- the numbers that the pass handed over
+abbrev pub gave_of : Pass → List ℕ
+gave_of p = (finished_of p).gave
+
+-- the numbers that the pass collected
+abbrev pub got_of : Pass → List ℕ
+got_of p = (finished_of p).got
+
+-- it is a pass of these cells and queues
+pub record IsPassIn (shared : Shared) (p : Pass) : Type 0 where
+  pub cells : IsOf shared.cells p.seen
+  pub queue : IsPassOf shared.items p.items
+  pub part : 0 < (items_of p).parts
+  pub row : (items_of p).row ≡ Some (name_in shared.cells.first.book)
+  pub finished : IsPassOf shared.finished p.finished
+  pub finished_part : 0 < (finished_of p).parts
+
+-- it is the opener's, which alone puts, and knows all that was put
+pub record IsOpener (p : Pass) : Type 0 where
+  pub opens : (items_of p).opener ≡ true
+  pub counts : p.puts ≡ length (known_of p)
+
+-- no number is taken twice
+abbrev pub EachOnce : List ℕ → Type 0
+EachOnce taken = (n : ℕ) → times n taken ≤ 1
+
+abbrev pub numbered : ℕ → Item → Numbered
+numbered n item = record { number = n; item = item }
+
+-- no number was left, or the queue held 1,024 items at one moment
+abbrev pub WasFull : Pass → Type 0
+WasFull p = (length (known_of p) ≡ 2 ^ 64 - 1) ⊎ Held 1024 (Tells (items_of p))
+
+-- What one call of a worker did to its pass. The queue was empty at one moment; or the item was put, at its number, this pass hadn't
+-- taken it, and what was seen is of these cells
+abbrev pub WorkedOne : Shared → Pass → Pass → Worked → Type 0
+WorkedOne shared old new Empty = (items_of new ≡ items_of old) × Held 0 (Tells (items_of old))
+WorkedOne shared old new (Done f) =
+    (0 < f.number) × (slice_get (known_of new) (f.number - 1) ≡ Some (numbered f.number f.item))
+    × (taken_of new ≡ taken_of old ++ f.number ∷ []) × (times f.number (taken_of old) ≡ 0)
+    × IsOf shared.cells f.seen
+
+-- what a collection did to its pass
+abbrev pub CollectedOne : Pass → Pass → Option Finished → Type 0
+CollectedOne old new None = (finished_of new ≡ finished_of old) × Held 0 (Evens (finished_of old))
+CollectedOne old new (Some f) = got_of new ≡ got_of old ++ f.number ∷ []
+
+-- it knows what it knew, and did no more
+abbrev pub IsAsBefore : Pass → Pass → Type 0
+IsAsBefore old new =
+    (known_of new ≡ known_of old) × (taken_of new ≡ taken_of old) × (gave_of new ≡ gave_of old) × (got_of new ≡ got_of old)
+    × ((items_of new).opener ≡ (items_of old).opener) × (new.puts ≡ old.puts)
+
+-- it knows what the old one knew, and did nothing
+abbrev pub IsNew : Pass → Pass → Type 0
+IsNew old new = (known_of new ≡ known_of old) × (taken_of new ≡ []) × (gave_of new ≡ []) × (got_of new ≡ [])
