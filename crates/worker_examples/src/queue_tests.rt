@@ -233,3 +233,18 @@ fn a_datagram_is_judged_by_what_its_worker_sees(rt: HostRuntime) -> Result<(), F
     assert_eq!(rt; way(&rt, &shared, &mut worker), 1);
     Ok(())
 }
+
+#[test]
+fn a_workers_pass_comes_back(rt: HostRuntime) -> Result<(), Fail> {
+    let (shared, mut pass) = open_shared(rt.alloc())?;
+    let mut worker = split_pass(&shared, &mut pass);
+    assert_eq!(rt; put_many(&rt, rt.alloc(), &shared, &mut pass, 2), 2);
+    assert_eq!(rt; way(&rt, &shared, &mut worker), 2);
+    join_pass(&shared, &mut pass, worker);
+    // the opener puts as before, and takes what the worker left
+    assert_eq!(rt; put_many(&rt, rt.alloc(), &shared, &mut pass, 1), 1);
+    assert_eq!(rt; way(&rt, &shared, &mut pass), 2);
+    assert_eq!(rt; way(&rt, &shared, &mut pass), 2);
+    assert_eq!(rt; way(&rt, &shared, &mut pass), 0);
+    Ok(())
+}
