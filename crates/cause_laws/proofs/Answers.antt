@@ -1,12 +1,12 @@
 -- What a line did are the moves of the step of the node to which it brings an event, and that step answers it.
-use Rattle.std.proofs.Common.{◌≡◌, inl, inr, ⊎_elim, ℕ, ◌+◌, ◌-◌, List, [], ◌∷◌, ◌++◌, length, map, refl, sym, ap, ◌∙◌, subst, Option, Some, None, Result, Ok, Err, arith}
-use Rattle.std.proofs.lemmas.List.{length-append}
+use Rattle.std.proofs.Common.{◌≡◌, inl, inr, ⊎_elim, false, ℕ, ◌+◌, ◌-◌, List, [], ◌∷◌, ◌++◌, length, map, refl, sym, ap, ◌∙◌, subst, Option, Some, None, Result, Ok}
+use Rattle.std.proofs.lemmas.Bool.{true≢false}
 use Rattle.std.specs.Prelude.{slice_get}
 use Rattle.id_table.specs.Ids.{at}
 use Rattle.wire_base.specs.declared.why.Why.{Why}
 use Rattle.wire_base.specs.declared.cause.Cause.{Cause as CauseOf}
 use Rattle.schedule_text.specs.declared.line.Line.{Line}
-use Rattle.schedule_text.specs.declared.line.Line.TheVariants.{Remark, Lac, Lns, OpenUp, Close, Ring, Frame, FromSub, Down, Hang, DropCall, Deliver, Tick}
+use Rattle.schedule_text.specs.declared.line.Line.TheVariants.{Remark, Lac, Lns, OpenUp, Close, Ring, Frame, FromSub, Down, Hang, DropCall, Deliver, Tick, Crash, Stop, Start}
 use Rattle.schedule_text.specs.Grammar.{FitsLine, AreLines}
 use Rattle.end_model.specs.declared.event.Event.{Event}
 use Rattle.end_model.specs.declared.event.Event.TheVariants as event
@@ -19,12 +19,10 @@ use Rattle.world_model.specs.declared.packet.Packet.{Packet}
 use Rattle.end_names.specs.Names.{address_of}
 use Rattle.end_model.specs.Secrets.{uncovered_event}
 use Rattle.end_model.specs.End.{Stepped, step}
-use Rattle.step_laws.specs.Lines.{is_lac_at, is_lns_at, is_declared, has_call, has_tunnel, is_put_on, step_line, deliver_line}
+use Rattle.step_laws.specs.Lines.{is_lac_at, is_lns_at, is_declared, has_call, has_tunnel, is_put_on, deliver_line}
 use Rattle.world_model.specs.World.{World, Node, Sender, Deed, Lined, after_step, given, entry_of, entries_of, shown, declared, lac_at, lns_at, with_call, with_tunnel, later, block_of, stepped, sender_of, line}
 use Rattle.world_model.specs.Run.{run}
 use Rattle.step_laws.specs.Answers.{RequestsAreAnswered}
-use Rattle.connection_laws.specs.Accounts.{account_of}
-use Rattle.connection_laws.specs.Steps.{LinesGoOn, RunsBegin}
 use Rattle.pppoe_discovery.specs.declared.outcome.Discovered.{Discovered}
 use Rattle.end_model.specs.Access.{Coming, coming, Runs, Enters, Ignores, Answers}
 use Rattle.step_laws.specs.Hosts.{LacAt, with_host, OfFrame, frame_line}
@@ -32,8 +30,8 @@ use Rattle.cause_laws.specs.Hosts.{FrameBrings}
 use Rattle.cause_laws.proofs.Coming.{FrameComes, OfItsHost, OfAPadr, frame_comes}
 use Rattle.cause_laws.specs.Causes.{Brings, moment_of}
 use Rattle.cause_laws.specs.Answers.{step_at, AnswersOfRuns}
-use Rattle.cause_laws.proofs.Runs.{all_left}
-use Rattle.cause_laws.proofs.Left.{CallLaws, kept_in, seen_end, ended}
+use Rattle.node_laws.specs.Nodes.{EndsOfRuns}
+use Rattle.cause_laws.proofs.Nodes.{CallLaws, all_left, kept_in, goods_in, whole_step}
 
 -- what is done are the moves
 moves_done : (f : Move → Deed) → ((m : Move) → (f m).move ≡ m) → (ms : List Move) → map (λ (d : Deed). d.move) (map f ms) ≡ ms
@@ -78,26 +76,28 @@ module _ (w : World) (number : ℕ) (l : Line) (x : Lined) where
 
   -- a step of a node that is there, to which it brings this event
   stepped_does : (m : ℕ) (c : Event) (sender : Option Sender) (o : Result Node Why) → ((q : Node) → o ≡ Ok q → at w.nodes m ≡ Some q)
-      → ((q : Node) → q.clock ≡ moment_of l q) → stepped w number m c sender o ≡ Ok x → (n : ℕ) (node : Node) (ev : Event)
+      → ((q : Node) → q.clock ≡ moment_of l q) → x.cut ≡ false → stepped w number m c sender o ≡ Ok x → (n : ℕ) (node : Node) (ev : Event)
       → at w.nodes n ≡ Some node → n ≡ m → ev ≡ c → Does w number l x n node ev
-  unfolding stepped
-  stepped_does m c sender (Err y) there clock h n node ev was to is = absurd cc
-  stepped_does m c sender (Ok q) there clock h n node ev was to is =
-      let both : Some q ≡ Some node = sym (there q refl) ∙ (ap (at w.nodes) (sym to) ∙ was) in
+  stepped_does m c sender o there clock uncut h n node ev was to is =
+      whole_step (Does w number l x n node ev) w number x m c sender o
+      (λ q e k whole made.
+      let both : Some q ≡ Some node = sym (there q e) ∙ (ap (at w.nodes) (sym to) ∙ was) in
       let same : q ≡ node = cc in
-      let made : after_step w number m q sender (step q.end q.clock (block_of m number) c) ≡ x = cc in
-      let done : Does w number l x m q c = of_step m q q c sender refl (clock q) made in
-      rw (to, is, ← same) done
+      let done : Does w number l x m q c = of_step m q (record q { checkpoint = k }) c sender refl (clock q) made in
+      rw (to, is, ← same) done)
+      uncut h
 
 -- a step of a LAC whose hosts change with it
 host_does_it : (w : World) (number m : ℕ) (bytes : List ℕ) (l : LacAt w m) (src : List ℕ) (uniq : Option (List ℕ)) (x : Lined)
-    → stepped w number m (event.Admitted src) None (Ok (with_host w number m l src uniq)) ≡ Ok x
+    → x.cut ≡ false → stepped w number m (event.Admitted src) None (Ok (with_host w number m l src uniq)) ≡ Ok x
     → Does w number (Frame m bytes) x m l.node (event.Admitted src)
-unfolding stepped
-host_does_it w number m bytes l src uniq x h =
-    let q = with_host w number m l src uniq in
-    let made : after_step w number m q None (step q.end q.clock (block_of m number) (event.Admitted src)) ≡ x = cc in
-    of_step w number (Frame m bytes) x m l.node q (event.Admitted src) None refl refl made
+host_does_it w number m bytes l src uniq x uncut h =
+    whole_step (Does w number (Frame m bytes) x m l.node (event.Admitted src)) w number x m (event.Admitted src) None (Ok (with_host w number m l src uniq))
+    (λ q e k whole made.
+    let host : with_host w number m l src uniq ≡ q = cc in
+    of_step w number (Frame m bytes) x m l.node (record q { checkpoint = k }) (event.Admitted src) None
+    (ap (λ (y : Node). y.end) (sym host)) (ap (λ (y : Node). y.clock) (sym host)) made)
+    uncut h
 
 -- a LAC is told by its number, and so is what comes to it
 module _ (w : World) (m : ℕ) (bytes : List ℕ) where
@@ -112,14 +112,16 @@ module _ (w : World) (m : ℕ) (bytes : List ℕ) where
   same_coming l k = let s = same_lac l k in rw (s.0, s.1) refl
 
 frame_does : (w : World) (number m : ℕ) (bytes : List ℕ) (n : ℕ) (node : Node) (ev : Event) → at w.nodes n ≡ Some node → n ≡ m → FrameBrings w m bytes ev
-    → OfFrame (λ y. Does w number (Frame m bytes) y n node ev) w number m bytes
+    → OfFrame (λ y. y.cut ≡ false → Does w number (Frame m bytes) y n node ev) w number m bytes
 frame_does w number m bytes n node ev was to brings = record {
-  ignored = λ l word is x h. absurd (not_told l (Ignores word) is (λ c e. cc) (λ src uniq asked e. cc) (frame_comes w m bytes ev brings));
-  answered = λ l because frame is x h. absurd (not_told l (Answers because frame) is (λ c e. cc) (λ src uniq asked e. cc) (frame_comes w m bytes ev brings));
-  done = λ l c is does x h.
-      stepped_does w number (Frame m bytes) x m c None (Ok l.node) (λ q e. (let same : l.node ≡ q = cc in rw (← same) l.there)) (λ q. refl) h
+  ignored = λ l word is x h u uncut. absurd (not_told l (Ignores word) is (λ c e. cc) (λ src uniq asked e. cc) (frame_comes w m bytes ev brings));
+  answered = λ l because frame is x h u uncut. absurd (not_told l (Answers because frame) is (λ c e. cc) (λ src uniq asked e. cc) (frame_comes w m bytes ev brings));
+  done = λ l c is does x h uncut.
+      stepped_does w number (Frame m bytes) x m c None (Ok l.node) (λ q e. (let same : l.node ≡ q = cc in rw (← same) l.there)) (λ q. refl) uncut h
       n node ev was to (runs_this l c is (frame_comes w m bytes ev brings));
-  entered = λ l src uniq asked is x h. does_more w number (Frame m bytes) x n node ev _ (entered_does l src uniq asked is x h (frame_comes w m bytes ev brings));
+  entered = λ l src uniq asked is x h u uncut.
+      does_more w number (Frame m bytes) x n node ev _ (entered_does l src uniq asked is x u h (frame_comes w m bytes ev brings));
+  cut = λ l c q is x h off uncut. absurd (true≢false (sym off ∙ uncut));
 }
   where
     not_told : (l : LacAt w m) (k : Coming) → coming l.access l.node.end bytes ≡ k → ((c : Event) → k ≡ Runs c → ⊥)
@@ -133,83 +135,86 @@ frame_does w number m bytes n node ev was to brings = record {
         let e : Runs c ≡ Enters src uniq asked = sym is ∙ (same_coming w m bytes l k ∙ enters) in absurd cc
 
     entered_does : (l : LacAt w m) (src : List ℕ) (uniq : Option (List ℕ)) (asked : Discovered) → coming l.access l.node.end bytes ≡ Enters src uniq asked
-        → (x : Lined) → stepped w number m (event.Admitted src) None (Ok (with_host w number m l src uniq)) ≡ Ok x → FrameComes w m bytes ev
+        → (x : Lined) → x.cut ≡ false → stepped w number m (event.Admitted src) None (Ok (with_host w number m l src uniq)) ≡ Ok x → FrameComes w m bytes ev
         → Does w number (Frame m bytes) x n node ev
-    entered_does l src uniq asked is x h (OfItsHost k runs) =
+    entered_does l src uniq asked is x uncut h (OfItsHost k runs) =
         let e : Enters src uniq asked ≡ Runs ev = sym is ∙ (same_coming w m bytes l k ∙ runs) in absurd cc
-    entered_does l src uniq asked is x h (OfAPadr k from named wanted enters same) =
+    entered_does l src uniq asked is x uncut h (OfAPadr k from named wanted enters same) =
         let e : Enters src uniq asked ≡ Enters from named wanted = sym is ∙ (same_coming w m bytes l k ∙ enters) in
         let who : src ≡ from = cc in
         let both : Some l.node ≡ Some node = sym l.there ∙ (ap (at w.nodes) (sym to) ∙ was) in
         let here : l.node ≡ node = cc in
         let event_is : ev ≡ event.Admitted src = same ∙ ap event.Admitted (sym who) in
-        let done = host_does_it w number m bytes l src uniq x h in
+        let done = host_does_it w number m bytes l src uniq x uncut h in
         rw (to, event_is, ← here) done
 
 -- of each kind
-line_does : (w : World) (number : ℕ) (l : Line) (x : Lined) → line w number l ≡ Ok x → (n : ℕ) (node : Node) (ev : Event) → at w.nodes n ≡ Some node
+line_does : (w : World) (number : ℕ) (l : Line) (x : Lined) → line w number l ≡ Ok x → x.cut ≡ false → (n : ℕ) (node : Node) (ev : Event) → at w.nodes n ≡ Some node
     → Brings w l n ev → Does w number l x n node ev
 unfolding line
-line_does w number (Remark text) x h n node ev was brings = absurd brings
-line_does w number (Lac m k secret hide) x h n node ev was brings = absurd brings
-line_does w number (Lns m secret) x h n node ev was brings = absurd brings
-line_does w number (OpenUp m) x h n node ev was brings =
-    stepped_does w number (OpenUp m) x m event.OpenTunnel None (lac_at (at w.nodes m)) (λ q e. (is_lac_at (at w.nodes m) q e).0) (λ q. refl) h
+line_does w number (Remark text) x h uncut n node ev was brings = absurd brings
+line_does w number (Lac m k secret hide) x h uncut n node ev was brings = absurd brings
+line_does w number (Lns m secret) x h uncut n node ev was brings = absurd brings
+line_does w number (OpenUp m) x h uncut n node ev was brings =
+    stepped_does w number (OpenUp m) x m event.OpenTunnel None (lac_at (at w.nodes m)) (λ q e. (is_lac_at (at w.nodes m) q e).0) (λ q. refl) uncut h
     n node ev was brings.0 brings.1
-line_does w number (Close m i) x h n node ev was brings =
+line_does w number (Close m i) x h uncut n node ev was brings =
     stepped_does w number (Close m i) x m (event.CloseTunnel i) None (with_tunnel i (declared (at w.nodes m)))
-    (λ q e. is_declared (at w.nodes m) q (has_tunnel i (declared (at w.nodes m)) q e)) (λ q. refl) h n node ev was brings.0 brings.1
-line_does w number (Ring m port) x h n node ev was brings =
-    stepped_does w number (Ring m port) x m (event.Ring port) None (lac_at (at w.nodes m)) (λ q e. (is_lac_at (at w.nodes m) q e).0) (λ q. refl) h
+    (λ q e. is_declared (at w.nodes m) q (has_tunnel i (declared (at w.nodes m)) q e)) (λ q. refl) uncut h n node ev was brings.0 brings.1
+line_does w number (Ring m port) x h uncut n node ev was brings =
+    stepped_does w number (Ring m port) x m (event.Ring port) None (lac_at (at w.nodes m)) (λ q e. (is_lac_at (at w.nodes m) q e).0) (λ q. refl) uncut h
     n node ev was brings.0 brings.1
-line_does w number (Frame m bytes) x h n node ev was brings =
-    frame_line (λ y. Does w number (Frame m bytes) y n node ev) w number m bytes (frame_does w number m bytes n node ev was brings.0 brings.1) x h
-line_does w number (FromSub m session frame) x h n node ev was brings =
+line_does w number (Frame m bytes) x h uncut n node ev was brings =
+    frame_line (λ y. y.cut ≡ false → Does w number (Frame m bytes) y n node ev) w number m bytes (frame_does w number m bytes n node ev was brings.0 brings.1)
+    x h uncut
+line_does w number (FromSub m session frame) x h uncut n node ev was brings =
     stepped_does w number (FromSub m session frame) x m (event.Payload session frame) None (with_call session (lac_at (at w.nodes m)))
-    (λ q e. (is_lac_at (at w.nodes m) q (has_call session (lac_at (at w.nodes m)) q e)).0) (λ q. refl) h n node ev was brings.0 brings.1
-line_does w number (Down m session frame) x h n node ev was brings =
+    (λ q e. (is_lac_at (at w.nodes m) q (has_call session (lac_at (at w.nodes m)) q e)).0) (λ q. refl) uncut h n node ev was brings.0 brings.1
+line_does w number (Down m session frame) x h uncut n node ev was brings =
     stepped_does w number (Down m session frame) x m (event.Lower session frame) None (with_call session (lns_at (at w.nodes m)))
-    (λ q e. (is_lns_at (at w.nodes m) q (has_call session (lns_at (at w.nodes m)) q e)).0) (λ q. refl) h n node ev was brings.0 brings.1
-line_does w number (Hang m session) x h n node ev was brings =
+    (λ q e. (is_lns_at (at w.nodes m) q (has_call session (lns_at (at w.nodes m)) q e)).0) (λ q. refl) uncut h n node ev was brings.0 brings.1
+line_does w number (Hang m session) x h uncut n node ev was brings =
     stepped_does w number (Hang m session) x m (event.Hang session) None (with_call session (lac_at (at w.nodes m)))
-    (λ q e. (is_lac_at (at w.nodes m) q (has_call session (lac_at (at w.nodes m)) q e)).0) (λ q. refl) h n node ev was brings.0 brings.1
-line_does w number (DropCall m session) x h n node ev was brings =
+    (λ q e. (is_lac_at (at w.nodes m) q (has_call session (lac_at (at w.nodes m)) q e)).0) (λ q. refl) uncut h n node ev was brings.0 brings.1
+line_does w number (DropCall m session) x h uncut n node ev was brings =
     stepped_does w number (DropCall m session) x m (event.DropCall session) None (with_call session (declared (at w.nodes m)))
-    (λ q e. is_declared (at w.nodes m) q (has_call session (declared (at w.nodes m)) q e)) (λ q. refl) h n node ev was brings.0 brings.1
-line_does w number (Deliver k) x h n node ev was brings =
+    (λ q e. is_declared (at w.nodes m) q (has_call session (declared (at w.nodes m)) q e)) (λ q. refl) uncut h n node ev was brings.0 brings.1
+line_does w number (Deliver k) x h uncut n node ev was brings =
     deliver_line (Does w number (Deliver k) x n node ev) w number x (line w number (Deliver k)) (slice_get w.packets (k - 1))
-    (λ p q sent there young so leads.
+    (λ p q sent there up young so leads.
     let both : Some p ≡ Some brings.0 = sym sent ∙ brings.1 in
     let same : brings.0 ≡ p = cc in
     stepped_does w number (Deliver k) x p.to (event.Datagram (address_of p.from) p.bytes) (sender_of p.from p.origin) (Ok q)
-    (λ y is. (let here : q ≡ y = cc in rw (← here) there)) (λ y. refl) leads
+    (λ y is. (let here : q ≡ y = cc in rw (← here) there)) (λ y. refl) uncut leads
     n node ev was (brings.2 ∙ ap (λ (y : Packet). y.to) same)
     (brings.3 ∙ ap (λ (y : Packet). event.Datagram (address_of y.from) y.bytes) same))
     refl h
-line_does w number (Tick m milliseconds) x h n node ev was brings =
-    step_line (Does w number (Tick m milliseconds) x n node ev) w number x m event.Tick None (later milliseconds (declared (at w.nodes m)))
-    (λ timed e made.
+line_does w number (Tick m milliseconds) x h uncut n node ev was brings =
+    whole_step (Does w number (Tick m milliseconds) x n node ev) w number x m event.Tick None (later milliseconds (declared (at w.nodes m)))
+    (λ timed e c whole made.
     let k = is_put_on w m milliseconds timed e in
     let both : Some k.old ≡ Some node = sym k.there ∙ (ap (at w.nodes) (sym brings.0) ∙ was) in
     let same : k.old ≡ node = cc in
     let done : Does w number (Tick m milliseconds) x m k.old event.Tick =
-    of_step w number (Tick m milliseconds) x m k.old timed event.Tick None (ap (λ (q : Node). q.end) (sym k.same)) (ap (λ (q : Node). q.clock) (sym k.same)) made in
+    of_step w number (Tick m milliseconds) x m k.old (record timed { checkpoint = c }) event.Tick None (ap (λ (q : Node). q.end) (sym k.same)) (ap (λ (q : Node). q.clock) (sym k.same)) made in
     rw (brings.0, brings.1, ← same) done)
-    h
+    uncut h
+line_does w number (Crash m) x h uncut n node ev was brings = absurd brings
+line_does w number (Stop m commit call keeps) x h uncut n node ev was brings = absurd brings
+line_does w number (Start m) x h uncut n node ev was brings = absurd brings
 
 -- ---- runs
 
-pub answers_of_runs : RequestsAreAnswered → CallLaws → LinesGoOn → RunsBegin → AnswersOfRuns
-answers_of_runs answers laws go_on begins lines fits few before after l split x made n node ev was brings =
+pub answers_of_runs : RequestsAreAnswered → CallLaws → EndsOfRuns → AnswersOfRuns
+answers_of_runs answers laws ends lines fits before after l split x made uncut n node ev was brings =
     let whole : AreLines (before ++ l ∷ after) = subst AreLines split fits in
-    let count : length lines ≡ length before + length (l ∷ after) = ap length split ∙ length-append before (l ∷ after) in
+    let first = all_left FitsLine before (l ∷ after) whole in
     let r = run before in
-    let first = ended laws go_on begins before (all_left FitsLine before (l ∷ after) whole) (omega (arith, count, few)) in
-    let fine = first.fine n node.end (seen_end r.world n node was) in
-    let does = line_does r.world (length before + 1) l x made n node ev was brings in
+    let fine = (goods_in laws ends before first n node was).fine in
+    let does = line_does r.world (length before + 1) l x made uncut n node ev was brings in
     record {
       done = does.done;
       told = does.told;
-      answers = answers node.end (kept_in r.world (account_of r.done) first.holds n node was) fine.sound fine.asked (moment_of l node)
+      answers = answers node.end (kept_in laws ends before first n node was) fine.sound fine.asked (moment_of l node)
           (block_of n (length before + 1)) (uncovered_event node.end.config.secret ev);
     }

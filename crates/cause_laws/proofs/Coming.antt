@@ -171,16 +171,16 @@ module _ (src : List ℕ) (uniq : Option (List ℕ)) where
       ((bytes_eq-Decides h.1.mac src).0 both.0, same_uniq h.1.uniq uniq both.1)
 
   -- what is found is held
-  pub found_held : (key : List ℕ) (es : List (ℕ × Subscriber)) (session : ℕ) → repeat_in es src uniq ≡ Some session
-      → IsHeld (record { key = key; held = es }) src uniq session
+  pub found_held : (key : List ℕ) (es kept : List (ℕ × Subscriber)) (session : ℕ) → repeat_in es src uniq ≡ Some session
+      → IsHeld (record { key = key; held = es; kept = kept }) src uniq session
   unfolding repeat_in
-  found_held key [] session h = absurd cc
-  found_held key (x ∷ es) session h = by (is_repeat src uniq x.1) refl h (found_held key es session)
+  found_held key [] kept session h = absurd cc
+  found_held key (x ∷ es) kept session h = by (is_repeat src uniq x.1) refl h (found_held key es kept session)
     where
       by : (b : Bool) → is_repeat src uniq x.1 ≡ b
           → option_map (λ (e : ℕ × Subscriber). e.0) (cond b (Some x) (find (λ (e : ℕ × Subscriber). is_repeat src uniq e.1) es)) ≡ Some session
-          → (repeat_in es src uniq ≡ Some session → IsHeld (record { key = key; held = es }) src uniq session)
-          → IsHeld (record { key = key; held = x ∷ es }) src uniq session
+          → (repeat_in es src uniq ≡ Some session → IsHeld (record { key = key; held = es; kept = kept }) src uniq session)
+          → IsHeld (record { key = key; held = x ∷ es; kept = kept }) src uniq session
       by true is f later =
           let same : x.0 ≡ session = cc in
           record { before = []; who = x.1; after = es; held = ap (λ (s : ℕ). (s, x.1) ∷ es) same; came = came_by x is; first = tt }
@@ -424,7 +424,7 @@ module _ (a : Access) (e : End) (bytes : List ℕ) where
         where
           of : (b : Bool) → is_some (at e.calls q) ≡ b
               → LedSo (if b then Answers None (pads_to mac_at (Admit src service uniq relay) q None) else Enters src uniq (Admit src service uniq relay))
-          of true live = AsBefore src service uniq relay q refl h (found_held src uniq a.key a.held q found) live refl
+          of true live = AsBefore src service uniq relay q refl h (found_held src uniq a.key a.held a.kept q found) live refl
           of false dead =
               record {
                 service = service;
@@ -504,7 +504,7 @@ module _ (a : Access) (e : End) (bytes : List ℕ) where
             of : (b : Bool) → is_some (at e.calls q) ≡ b
                 → (if b then Answers None (pads_to mac_at (Admit src service uniq relay) q None) else Enters src uniq (Admit src service uniq relay))
                 ≡ Enters src uniq (Admit src service uniq relay)
-            of true live = absurd (new q (found_held src uniq a.key a.held q found) live)
+            of true live = absurd (new q (found_held src uniq a.key a.held a.kept q found) live)
             of false dead = refl
 
 -- ---- what a frame brings to a LAC of a world

@@ -1,11 +1,10 @@
 -- Each host is answered whose PADI asks for a service that is served, or whose PADR comes.
-use Rattle.std.proofs.Common.{◌≡◌, ℕ, ◌≤◌, Bool, true, false, List, [], ◌∷◌, ◌++◌, length, Option, Some, None, Ok, Err, refl, sym, ap, ◌∙◌, subst}
+use Rattle.std.proofs.Common.{◌≡◌, ℕ, ◌+◌, ◌-◌, ◌*◌, ◌/◌, min, arith, Result, ◌≤◌, Bool, true, false, List, [], ◌∷◌, ◌++◌, length, Option, Some, None, Ok, Err, refl, sym, ap, ◌∙◌, subst}
 use Rattle.std.specs.Prelude.{map, is_some, if◌then◌else◌}
-use Rattle.std.proofs.lemmas.Bool.{le-ltb}
+use Rattle.std.proofs.lemmas.Bool.{true≢false, le-ltb}
 use Rattle.std.proofs.lemmas.List.{append-nil}
 use Rattle.std.proofs.lemmas.Grind.{flat_map-append}
 use Rattle.id_table.specs.Ids.{at}
-use Rattle.id_source.specs.Spaces.{takes_id}
 use Rattle.wire_base.specs.declared.why.Why.TheVariants as why
 use Rattle.wire_base.specs.declared.cause.Cause.{Cause}
 use Rattle.wire_base.specs.declared.cause.Cause.TheVariants as cause
@@ -26,11 +25,17 @@ use Rattle.end_model.specs.declared.event.Event.TheVariants as event
 use Rattle.end_model.specs.declared.out.Out.{Out}
 use Rattle.end_model.specs.declared.out.Out.TheVariants.{Send, Up, Gone, Drop, Cause as Refused}
 use Rattle.end_model.specs.declared.moves.Move.{Move}
+use Rattle.session_book.specs.declared.record.Record.{Record}
+use Rattle.session_book.specs.declared.record.Record.TheVariants.{Ceiling}
+use Rattle.id_source.specs.Spaces.{Space, counting_from, takes_id}
+use Rattle.end_model.specs.Contents.{ceilings_of, contents_of}
+use Rattle.world_model.specs.declared.refusal.Refusal.{Refusal}
 use Rattle.end_model.specs.Calls.{is_lac}
 use Rattle.end_model.specs.End.{End, Stepped, step, plain_step, step_in, gives_only}
 use Rattle.end_model.specs.Access.{Coming, Answers, Enters, coming, led_to, wants_call, live_in, pads_for, pads_of}
 use Rattle.world_model.specs.Texts.{Frames, Causes}
-use Rattle.world_model.specs.World.{World, Deed, Lined, deed_of, with_node, after_step, given, entry_of, entries_of, shown, moved_all, lac_at, answer_entries, comes, comes_by, enters, framed, stepped, block_of, line}
+use Rattle.world_model.specs.World.{World, Node, Checkpoint, Deed, Lined, IsCut, deed_of, with_node, after_step, given, entry_of, entries_of, shown, moved_all, commits, running, lac_at, retold, replies, answer_entries, comes, comes_by, enters, framed, stepped, block_of, line}
+use Rattle.step_laws.specs.Lines.{step_line}
 use Rattle.step_laws.specs.Hosts.{LacAt, discovered_at, with_host, reply_to}
 use Rattle.step_laws.specs.Steps.{AreKept}
 use Rattle.step_laws.specs.Answers.{causes_of}
@@ -38,7 +43,8 @@ use Rattle.step_laws.specs.Rings.{RingsCome}
 use Rattle.cause_laws.specs.Refusals.{IsPadr, IsRefusedFor}
 use Rattle.cause_laws.specs.Hosts.{IsPadi, HasValue, IsAsked, HasCookie, IsHeld, IsNew, frame_in, frames_in, cause_in, causes_in, TellsOnly, TellsPads, TellsRefusal, HostEnters, HostIsAnswered, AnswersHosts}
 use Rattle.cause_laws.proofs.Coming.{offered, admits, refuses, padr_found, held_found, found_held, padr_brings}
-use Rattle.cause_laws.proofs.Lines.{EndsAreKept, entry_answered}
+use Rattle.cause_laws.proofs.Nodes.{EndsAreKept, AreGood, never_cut, whole_step}
+use Rattle.cause_laws.proofs.Lines.{entry_answered}
 
 -- ---- entries
 
@@ -67,10 +73,37 @@ none_told number n (Gone session ∷ os) v = none_told number n os (shown n v (G
 none_told number n (Drop x ∷ os) v = none_told number n os (shown n v (Drop x))
 none_told number n (Refused c ∷ os) v = none_told number n os (shown n v (Refused c))
 
+-- ---- a frame that does nothing, and a line that isn't cut off
+
+-- no ceiling rises where a space is as it was
+none_rose : (space : ℕ) (s : Space) → ceilings_of space s s ≡ []
+unfolding counting_from
+none_rose space s =
+    let none : s.ceiling - s.ceiling + 63 ≡ 63 = omega arith in
+    ap (λ (n : ℕ). map (λ (j : ℕ). Ceiling space (min s.last (s.ceiling + 64 * j))) (counting_from 1 (n / 64))) none
+
+-- and so an end commits nothing of a frame
+frame_leaves : (e : End) (moment : ℕ) (block bytes : List ℕ) → contents_of e (step e moment block (event.Frame bytes)) ≡ []
+unfolding contents_of plain_step step_in gives_only
+frame_leaves e moment block bytes = rw (none_rose 1 e.tunnel_ids, none_rose 2 e.session_ids, none_rose 3 e.recovery_ids) refl
+
+abbrev led : Lined → Result Lined Refusal
+led y = Ok y
+
+uncut_line : (y z x : Lined) → y.cut ≡ false → led (if y.cut then y else z) ≡ led x → z ≡ x
+uncut_line y z x uncut h = let whole : led (if false then y else z) ≡ led x = subst (λ (b : Bool). led (if b then y else z) ≡ led x) uncut h in cc
+
+behind_uncut : (y z x : Lined) → x.cut ≡ false → led (if y.cut then y else z) ≡ led x → (y.cut ≡ false) × (z ≡ x)
+behind_uncut y z x uncut h = by y.cut refl h
+  where
+    by : (b : Bool) → y.cut ≡ b → led (if b then y else z) ≡ led x → (y.cut ≡ false) × (z ≡ x)
+    by true off h = let same : y ≡ x = cc in absurd (true≢false (sym off ∙ (ap (λ (q : Lined). q.cut) same ∙ uncut)))
+    by false whole h = (whole, cc)
+
 -- ---- a line that brings a frame
 
 module _ (w : World) (number n : ℕ) (bytes : List ℕ) (short : length bytes ≤ 2048) (l : LacAt w n) (x : Lined) (made : line w number (Frame n bytes) ≡ Ok x)
-    (rings : RingsCome) (kept : AreKept l.node.end) where
+    (rings : RingsCome) (kept : AreKept l.node.end) (goods : AreGood w) where
   abbrev e : End
   e = l.node.end
 
@@ -78,7 +111,9 @@ module _ (w : World) (number n : ℕ) (bytes : List ℕ) (short : length bytes �
   mac = mac_of e.config.number
 
   lac_is : lac_at (at w.nodes n) ≡ Ok l.node
-  lac_is = ap lac_at l.there ∙ ap (λ r. if is_lac r then Ok l.node else Err why.Node) l.lac
+  lac_is =
+      ap lac_at l.there
+      ∙ (ap (λ r. if is_lac r then running l.node else Err why.Node) l.lac ∙ ap (λ (b : Bool). if b then Ok l.node else Err why.Down) l.up)
 
   line_is : line w number (Frame n bytes) ≡ comes w number n bytes l.node l.access (coming l.access e bytes)
   unfolding line framed comes_by
@@ -96,11 +131,30 @@ module _ (w : World) (number n : ℕ) (bytes : List ℕ) (short : length bytes �
     entries : x.entries ≡ answer_entries number n because frame
     done : x.done ≡ []
 
+  -- to the end itself the frame is nothing, so that no stop cuts the step off
+  nothing_done : (y : Lined) → stepped w number n (event.Frame bytes) None (Ok l.node) ≡ Ok y → (y.cut ≡ false) × (y.done ≡ [])
+  unfolding after_step given plain_step step_in gives_only
+  nothing_done y h =
+      step_line ((y.cut ≡ false) × (y.done ≡ [])) w number y n (event.Frame bytes) None (Ok l.node)
+      (λ node same k whole is. (ap (λ (q : Lined). q.cut) (sym is), ap (λ (q : Lined). q.done) (sym is)))
+      (λ node same k cut is.
+      let one : l.node ≡ node = cc in
+      let there : at w.nodes n ≡ Some node = l.there ∙ ap (λ (q : Node). Some q) one in
+      let none = frame_leaves node.end node.clock (block_of n number) bytes in
+      absurd (never_cut node.checkpoint (goods n node there).real k (subst (λ (rs : List Record). commits node.checkpoint rs ≡ IsCut k) none cut)))
+      h
+
   answered : (because : Option Cause) (frame : List ℕ) → coming l.access e bytes ≡ Answers because frame → IsAnswered because frame
-  unfolding comes stepped after_step given plain_step step_in gives_only
-  answered because frame is =
-      let h = leads (Answers because frame) is in
-      record { entries = cc; done = cc }
+  unfolding comes
+  answered because frame is = by (stepped w number n (event.Frame bytes) None (Ok l.node)) refl (leads (Answers because frame) is)
+    where
+      by : (r : Result Lined Refusal) → stepped w number n (event.Frame bytes) None (Ok l.node) ≡ r
+          → retold (answer_entries number n because frame) r ≡ Ok x → IsAnswered because frame
+      by (Err y) same h = absurd (cc)
+      by (Ok y) same h =
+          let nothing = nothing_done y same in
+          let made = uncut_line y (record y { entries = answer_entries number n because frame }) x nothing.0 h in
+          record { entries = ap (λ (q : Lined). q.entries) (sym made); done = ap (λ (q : Lined). q.done) (sym made) ∙ nothing.1 }
 
   told_only : (frame : List ℕ) → coming l.access e bytes ≡ Answers None frame → TellsOnly number n frame x
   told_only frame is = let a = answered None frame is in record { entries = a.entries; done = a.done }
@@ -141,24 +195,58 @@ module _ (w : World) (number n : ℕ) (bytes : List ℕ) (short : length bytes �
     abbrev made_step : Stepped
     made_step = step e l.node.clock (block_of n number) (event.Admitted src)
 
-    entered_told : coming l.access e bytes ≡ Enters src uniq asked
+    -- all that its step leaves was committed, and the PADS comes behind what it tells
+    abbrev told_after : Checkpoint → Lined
+    told_after k =
+        let y = after_step w number n (record (with_host w number n l src uniq) { checkpoint = k }) None made_step in
+        record y { entries = y.entries ++ Frames number n (reply_to w number n l src asked) ∷ [] }
+
+    record Came : Type 0 where
+      checkpoint : Checkpoint
+      is : told_after checkpoint ≡ x
+
+    came : x.cut ≡ false → coming l.access e bytes ≡ Enters src uniq asked → Came
+    unfolding comes enters
+    came uncut is = by (stepped w number n (event.Admitted src) None (Ok (with_host w number n l src uniq))) refl (leads (Enters src uniq asked) is)
+      where
+        by : (r : Result Lined Refusal) → stepped w number n (event.Admitted src) None (Ok (with_host w number n l src uniq)) ≡ r
+            → replies number n (reply_to w number n l src asked) r ≡ Ok x → Came
+        by (Err y) same h = absurd (cc)
+        by (Ok y) same h =
+            let whole = behind_uncut y (record y { entries = y.entries ++ Frames number n (reply_to w number n l src asked) ∷ [] }) x uncut h in
+            whole_step Came w number y n (event.Admitted src) None (Ok (with_host w number n l src uniq))
+            (λ node one k committed made.
+            let host : with_host w number n l src uniq ≡ node = cc in
+            let again : after_step w number n (record (with_host w number n l src uniq) { checkpoint = k }) None made_step ≡ y =
+            subst
+            (λ (q : Node). after_step w number n (record q { checkpoint = k }) None (step q.end q.clock (block_of n number) (event.Admitted src)) ≡ y)
+            (sym host) made in
+            record {
+              checkpoint = k;
+              is = ap (λ (q : Lined). record q { entries = q.entries ++ Frames number n (reply_to w number n l src asked) ∷ [] }) again ∙ whole.1;
+            })
+            whole.0 same
+
+    entered_told : x.cut ≡ false → coming l.access e bytes ≡ Enters src uniq asked
         → frames_in x.entries ≡ Frames number n (reply_to w number n l src asked) ∷ []
-    unfolding comes enters stepped after_step given
-    entered_told is =
-        let h = leads (Enters src uniq asked) is in
-        let v = moved_all n made_step.moves (with_node w n (record (with_host w number n l src uniq) { end = made_step.end })) in
-        let entries : entries_of number n made_step.outputs v ++ Frames number n (reply_to w number n l src asked) ∷ [] ≡ x.entries = cc in
+    unfolding after_step given
+    entered_told uncut is =
+        let c = came uncut is in
+        let v = moved_all n made_step.moves (with_node w n (record (with_host w number n l src uniq) { end = made_step.end; checkpoint = c.checkpoint })) in
+        let entries : entries_of number n made_step.outputs v ++ Frames number n (reply_to w number n l src asked) ∷ [] ≡ x.entries =
+        ap (λ (q : Lined). q.entries) c.is in
         ap frames_in (sym entries)
         ∙ (flat_map-append frame_in (entries_of number n made_step.outputs v) (Frames number n (reply_to w number n l src asked) ∷ [])
         ∙ ap (λ es. es ++ Frames number n (reply_to w number n l src asked) ∷ []) (none_told number n made_step.outputs v))
 
-    host_enters : coming l.access e bytes ≡ Enters src uniq asked → HostEnters w number n bytes l src asked x
-    unfolding comes enters stepped after_step given
-    host_enters is =
-        let h = leads (Enters src uniq asked) is in
-        let v = moved_all n made_step.moves (with_node w n (record (with_host w number n l src uniq) { end = made_step.end })) in
-        let entries : entries_of number n made_step.outputs v ++ Frames number n (reply_to w number n l src asked) ∷ [] ≡ x.entries = cc in
-        let done : map (λ m. deed_of v number n e.role None m) made_step.moves ≡ x.done = cc in
+    host_enters : x.cut ≡ false → coming l.access e bytes ≡ Enters src uniq asked → HostEnters w number n bytes l src asked x
+    unfolding after_step given
+    host_enters uncut is =
+        let c = came uncut is in
+        let v = moved_all n made_step.moves (with_node w n (record (with_host w number n l src uniq) { end = made_step.end; checkpoint = c.checkpoint })) in
+        let entries : entries_of number n made_step.outputs v ++ Frames number n (reply_to w number n l src asked) ∷ [] ≡ x.entries =
+        ap (λ (q : Lined). q.entries) c.is in
+        let done : map (λ m. deed_of v number n e.role None m) made_step.moves ≡ x.done = ap (λ (q : Lined). q.done) c.is in
         record {
           brings = padr_brings w n bytes l src uniq asked is;
           done = ap (map (λ (d : Deed). d.move)) (sym done) ∙ moves_done (λ m. deed_of v number n e.role None m) (λ m. refl) made_step.moves;
@@ -167,24 +255,24 @@ module _ (w : World) (number n : ℕ) (bytes : List ℕ) (short : length bytes �
               ∙ (flat_map-append cause_in (entries_of number n made_step.outputs v) (Frames number n (reply_to w number n l src asked) ∷ [])
               ∙ (append-nil (causes_in (entries_of number n made_step.outputs v)) ∙ causes_told number n made_step.outputs v));
           frame = reply_to w number n l src asked;
-          only = entered_told is;
+          only = entered_told uncut is;
           answers = entry_answered e asked made_step (rings e kept l.lac l.node.clock (block_of n number) (event.Admitted src) src refl);
         }
 
-    new_enters : coming l.access e bytes ≡ wants_call l.access e src uniq asked (repeat_in l.access.held src uniq) → IsNew l.access e src uniq
+    new_enters : x.cut ≡ false → coming l.access e bytes ≡ wants_call l.access e src uniq asked (repeat_in l.access.held src uniq) → IsNew l.access e src uniq
         → HostEnters w number n bytes l src asked x
-    new_enters is new = by (repeat_in l.access.held src uniq) refl is
+    new_enters uncut is new = by (repeat_in l.access.held src uniq) refl is
       where
         by : (o : Option ℕ) → repeat_in l.access.held src uniq ≡ o → coming l.access e bytes ≡ wants_call l.access e src uniq asked o
             → HostEnters w number n bytes l src asked x
-        by None found h = host_enters h
+        by None found h = host_enters uncut h
         by (Some q) found h = of (is_some (at e.calls q)) refl h
           where
             of : (b : Bool) → is_some (at e.calls q) ≡ b
                 → coming l.access e bytes ≡ (if b then Answers None (pads_to mac asked q None) else Enters src uniq asked)
                 → HostEnters w number n bytes l src asked x
-            of true live g = absurd (new q (found_held src uniq l.access.key l.access.held q found) live)
-            of false dead g = host_enters g
+            of true live g = absurd (new q (found_held src uniq l.access.key l.access.held l.access.kept q found) live)
+            of false dead g = host_enters uncut g
 
     -- the PADS of the one that entered
     record IsPads (frame : List ℕ) : Type 0 where
@@ -200,25 +288,25 @@ module _ (w : World) (number n : ℕ) (bytes : List ℕ) (short : length bytes �
         by (Some q) = record { session = q; payload = _; is = refl }
         by None = record { session = 0; payload = _; is = refl }
 
-    enters_told : coming l.access e bytes ≡ Enters src uniq asked → TellsPads number n mac src x
-    enters_told is =
+    enters_told : x.cut ≡ false → coming l.access e bytes ≡ Enters src uniq asked → TellsPads number n mac src x
+    enters_told uncut is =
         let p = reply_pads in
-        record { session = p.session; payload = p.payload; only = entered_told is ∙ ap (λ f. Frames number n f ∷ []) p.is }
+        record { session = p.session; payload = p.payload; only = entered_told uncut is ∙ ap (λ f. Frames number n f ∷ []) p.is }
 
-    admitted_told : coming l.access e bytes ≡ wants_call l.access e src uniq asked (repeat_in l.access.held src uniq) → TellsPads number n mac src x
-    admitted_told is = by (repeat_in l.access.held src uniq) is
+    admitted_told : x.cut ≡ false → coming l.access e bytes ≡ wants_call l.access e src uniq asked (repeat_in l.access.held src uniq) → TellsPads number n mac src x
+    admitted_told uncut is = by (repeat_in l.access.held src uniq) is
       where
         by : (o : Option ℕ) → coming l.access e bytes ≡ wants_call l.access e src uniq asked o → TellsPads number n mac src x
-        by None h = enters_told h
+        by None h = enters_told uncut h
         by (Some q) h = of (is_some (at e.calls q)) h
           where
             of : (b : Bool) → coming l.access e bytes ≡ (if b then Answers None (pads_to mac asked q None) else Enters src uniq asked) → TellsPads number n mac src x
             of true g = because_told None src q _ g
-            of false g = enters_told g
+            of false g = enters_told uncut g
 
-  padr_told : (src : List ℕ) (tags : List Tag) → IsPadr mac bytes src tags → TellsPads number n mac src x
+  padr_told : x.cut ≡ false → (src : List ℕ) (tags : List Tag) → IsPadr mac bytes src tags → TellsPads number n mac src x
   unfolding led_to
-  padr_told src tags p = by (service_of tags) (padr_found l.access.key mac (host_name e.role e.config.number) bytes src tags p)
+  padr_told uncut src tags p = by (service_of tags) (padr_found l.access.key mac (host_name e.role e.config.number) bytes src tags p)
     where
       key : List ℕ
       key = l.access.key
@@ -233,7 +321,7 @@ module _ (w : World) (number n : ℕ) (bytes : List ℕ) (short : length bytes �
           of : (b : Bool)
               → discovered_at l.access e bytes ≡ (if b then Admit src service (asked_by tags).uniq (asked_by tags).relay else refused mac src cause.Cookie (asked_by tags))
               → TellsPads number n mac src x
-          of true g = admitted_told src service (asked_by tags).uniq (asked_by tags).relay (coming_is (Admit src service (asked_by tags).uniq (asked_by tags).relay) g)
+          of true g = admitted_told src service (asked_by tags).uniq (asked_by tags).relay uncut (coming_is (Admit src service (asked_by tags).uniq (asked_by tags).relay) g)
           of false g = declines cause.Cookie g
 
   refused_told : (src : List ℕ) (tags : List Tag) (uniq relay : Option (List ℕ)) (c : Cause) → IsPadr mac bytes src tags
@@ -243,16 +331,16 @@ module _ (w : World) (number n : ℕ) (bytes : List ℕ) (short : length bytes �
       let a = answered (Some c) _ (replied (Some c) _ (refuses l.access.key mac (host_name e.role e.config.number) bytes src tags uniq relay c p is_uniq is_relay why)) in
       record { entries = a.entries; done = a.done }
 
-  new_told : (src service : List ℕ) (tags : List Tag) (uniq relay : Option (List ℕ)) → IsPadr mac bytes src tags → IsAsked tags service uniq relay
+  new_told : x.cut ≡ false → (src service : List ℕ) (tags : List Tag) (uniq relay : Option (List ℕ)) → IsPadr mac bytes src tags → IsAsked tags service uniq relay
       → HasCookie l.access.key src tags → IsNew l.access e src uniq → HostEnters w number n bytes l src (Admit src service uniq relay) x
   unfolding led_to
-  new_told src service tags uniq relay p asked cookie new =
-      new_enters src service uniq relay
+  new_told uncut src service tags uniq relay p asked cookie new =
+      new_enters src service uniq relay uncut
       (coming_is (Admit src service uniq relay) (admits l.access.key mac (host_name e.role e.config.number) bytes src tags service uniq relay asked p cookie)) new
 
   host_is_answered : HostIsAnswered w number n bytes l x
   host_is_answered = record { padi = padi_told; padr = padr_told; refused = refused_told; repeated = again_told; entered = new_told }
 
-pub hosts_answered : RingsCome → (w : World) → EndsAreKept w → (number : ℕ) (l : Line) → AnswersHosts w number l
-hosts_answered rings w kept number l x made n bytes is short lac =
-    host_is_answered w number n bytes short lac x (subst (λ (q : Line). line w number q ≡ Ok x) is made) rings (kept n lac.node lac.there)
+pub hosts_answered : RingsCome → (w : World) → EndsAreKept w → AreGood w → (number : ℕ) (l : Line) → AnswersHosts w number l
+hosts_answered rings w kept goods number l x made n bytes is short lac =
+    host_is_answered w number n bytes short lac x (subst (λ (q : Line). line w number q ≡ Ok x) is made) rings (kept n lac.node lac.there) goods

@@ -1,5 +1,6 @@
 mod Refusals
 mod Coming
+mod Nodes
 pub mod Lines
 mod Hosts
 mod Room

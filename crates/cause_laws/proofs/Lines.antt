@@ -1,7 +1,7 @@
 -- What a line makes is of a step of one node, which the line brings.
-use Rattle.std.proofs.Common.{◌≤◌, length, ◌≡◌, inl, inr, ℕ, ◌-◌, List, [], ◌∷◌, refl, subst, Option, Some, None, Result, Ok, Err, Bool, true, false, ◌++◌, ap, sym, ◌∙◌}
+use Rattle.std.proofs.Common.{◌≤◌, length, ◌≡◌, inl, inr, ℕ, ◌-◌, List, [], ◌∷◌, map, refl, subst, Option, Some, None, Result, Ok, Err, Bool, true, false, ◌++◌, ap, sym, ◌∙◌}
 use Rattle.std.specs.Prelude.{is_some, if◌then◌else◌, slice_get}
-use Rattle.std.specs.List.{AllByRecursion}
+use Rattle.std.specs.List.{AllByRecursion, flat_map}
 use Rattle.id_table.specs.Ids.{at}
 use Rattle.id_source.specs.Spaces.{takes_id}
 use Rattle.id_source.specs.declared.IdError.{IdError}
@@ -9,21 +9,26 @@ use Rattle.pppoe_discovery.specs.declared.outcome.Discovered.{Discovered}
 use Rattle.wire_base.specs.declared.why.Why.{Why}
 use Rattle.wire_base.specs.declared.why.Why.TheVariants as why
 use Rattle.schedule_text.specs.declared.line.Line.{Line}
-use Rattle.schedule_text.specs.declared.line.Line.TheVariants.{Remark, Lac, Lns, OpenUp, Close, Ring, Frame, FromSub, Down, Hang, DropCall, Deliver, Tick}
+use Rattle.schedule_text.specs.declared.line.Line.TheVariants.{Remark, Lac, Lns, OpenUp, Close, Ring, Frame, FromSub, Down, Hang, DropCall, Deliver, Tick, Crash, Stop, Start}
 use Rattle.end_model.specs.declared.event.Event.{Event}
 use Rattle.end_model.specs.declared.event.Event.TheVariants as event
 use Rattle.end_model.specs.declared.out.Out.{Out}
 use Rattle.end_model.specs.declared.out.Out.TheVariants.{Send, Up, Gone, Drop, Cause}
 use Rattle.world_model.specs.declared.refusal.Refusal.TheVariants.{Unfit}
 use Rattle.end_names.specs.declared.role.Role.{Role}
+use Rattle.end_model.specs.declared.tunnel.Config.{Config}
 use Rattle.end_names.specs.declared.role.Role.TheVariants as role
 use Rattle.end_names.specs.Names.{address_of, mac_of, host_name}
 use Rattle.end_model.specs.Secrets.{uncovered_event}
 use Rattle.end_model.specs.End.{End, Stepped, step}
-use Rattle.step_laws.specs.Lines.{tested_not, is_lac_at, is_lns_at, is_declared, has_call, has_tunnel, is_put_on, step_line, deliver_line}
-use Rattle.world_model.specs.World.{World, Node, Sender, Lined, quiet_line, with_node, after_step, given, entries_of, entry_of, shown, moved_all, declared, lac_at, lns_at, with_call, with_tunnel, later, new_node, answer_entries, added, block_of, stepped, sender_of, line}
+use Rattle.step_laws.specs.Lines.{tested_not, is_lac_at, is_lns_at, is_declared, has_call, has_tunnel, is_put_on, committed_line, step_line, deliver_line}
+use Rattle.world_model.specs.World.{World, Node, Checkpoint, Sender, Lined, quiet_line, with_node, after_step, given, entries_of, entry_of, shown, moved_all, with_stop, fallen, cut_line, declared, lac_at, lns_at, down_at, with_call, with_tunnel, later, new_node, answer_entries, added, block_of, stepped, sender_of, crashed, armed, opened, started, line}
+use Rattle.world_model.specs.declared.stop.StopAt.{StopAt}
+use Rattle.session_book.specs.declared.record.BookTunnel.{BookTunnel}
+use Rattle.session_book.specs.declared.record.BookCall.{BookCall}
+use Rattle.session_book.specs.Books.{Kept, calls_of}
+use Rattle.end_model.specs.Starting.{gone_with, all_gone, starts}
 use Rattle.step_laws.specs.Letters.{Among}
-use Rattle.step_laws.specs.Steps.{AreKept}
 use Rattle.step_laws.specs.Room.{StepsRefuseTruly}
 use Rattle.step_laws.specs.Answers.{causes_of}
 use Rattle.step_laws.specs.Rings.{IsRingCause, ForTunnels, ForCalls, ForRoom, ForIds, RingComes, ToCall, ToCause, RingsCome}
@@ -32,8 +37,9 @@ use Rattle.end_model.specs.Access.{coming, Ignores, Answers, Enters, live_in, ri
 use Rattle.pppoe_discovery.specs.Told.{pads_to}
 use Rattle.std.proofs.lemmas.Bool.{true≢false}
 use Rattle.wire_base.specs.declared.cause.Cause.{Cause as BecauseOf}
-use Rattle.world_model.specs.Texts.{Entry, Frames}
+use Rattle.world_model.specs.Texts.{Frames}
 use Rattle.step_laws.specs.Hosts.{LacAt, with_host, reply_to, OfFrame, frame_line, never_full, discovery_refuses}
+use Rattle.cause_laws.proofs.Nodes.{EndsAreKept, was_whole}
 use Rattle.cause_laws.proofs.Refusals.{refused_padr}
 use Rattle.cause_laws.proofs.Coming.{Offers, Declines, IsAnswer, AsDiscovery, AsBefore, answered_so, entered_so, host_brings, padr_brings}
 use Rattle.cause_laws.specs.Hosts.{AnswersEntry, WithSession, WithCause}
@@ -64,13 +70,34 @@ entries_true w v l number n [] h = tt
 entries_true w v l number n (o ∷ os) h =
     (entry_true w v l number n o (h o (inl refl)), entries_true w (shown n v o) l number n os (λ q a. h q (inr a)))
 
--- ---- which node it is
+all_both : {X : Type 0} (P : X → Type 0) (xs ys : List X) → AllByRecursion P xs → AllByRecursion P ys → AllByRecursion P (xs ++ ys)
+all_both P [] ys one two = two
+all_both P (x ∷ xs) ys one two = (one.0, all_both P xs ys one.1 two)
+
+-- what a start gives tells of calls that went, and of nothing else
+module _ (w : World) (l : Line) (n : ℕ) where
+  all_told : (v : World) (number : ℕ) (os : List Out) → AllByRecursion (OutIsTrue w l n) os → AllByRecursion (IsTrue w number l) (entries_of number n os v)
+  unfolding entries_of
+  all_told v number [] h = tt
+  all_told v number (o ∷ os) h = (entry_true w v l number n o h.0, all_told (shown n v o) number os h.1)
+
+  calls_gone : (cs : List BookCall) → AllByRecursion (OutIsTrue w l n) (map (λ (c : BookCall). Gone c.local) cs)
+  calls_gone [] = tt
+  calls_gone (c ∷ cs) = (tt, calls_gone cs)
+
+  tunnels_gone : (calls : List BookCall) (ts : List BookTunnel)
+      → AllByRecursion (OutIsTrue w l n) (flat_map (λ (t : BookTunnel). gone_with calls t.local) ts)
+  unfolding gone_with
+  tunnels_gone calls [] = tt
+  tunnels_gone calls (t ∷ ts) =
+      all_both (OutIsTrue w l n) (gone_with calls t.local) (flat_map (λ (t : BookTunnel). gone_with calls t.local) ts)
+      (calls_gone (calls_of t.local calls)) (tunnels_gone calls ts)
+
+  all_went : (k : Kept) → AllByRecursion (OutIsTrue w l n) (all_gone k)
+  unfolding all_gone
+  all_went k = tunnels_gone k.calls k.tunnels
 
 -- ---- a line
-
--- the ends of a world are kept
-abbrev pub EndsAreKept : World → Type 0
-EndsAreKept w = (n : ℕ) (node : Node) → at w.nodes n ≡ Some node → AreKept node.end
 
 module _ (causes : CausesStand) (room : StepsRefuseTruly) (w : World) (kept : EndsAreKept w) (number : ℕ) (l : Line) (x : Lined) where
   abbrev Told : Type 0
@@ -108,22 +135,59 @@ module _ (causes : CausesStand) (room : StepsRefuseTruly) (w : World) (kept : En
       by (Up session side frame) a = tt
       by (Gone session) a = tt
 
+  -- a step that was cut off tells just that
+  cut_told : (n : ℕ) (node : Node) (k : Checkpoint) → cut_line w number n node k ≡ x → Told
+  unfolding cut_line
+  cut_told n node k is = subst (λ (q : Lined). AllByRecursion (IsTrue w number l) q.entries) is (refl, tt)
+
   -- a step of a node that is there
   stepped_true : (n : ℕ) (ev : Event) (sender : Option Sender) (o : Result Node Why) → ((node : Node) → o ≡ Ok node → at w.nodes n ≡ Some node)
       → ((node : Node) → node.clock ≡ moment_of l node) → Brings w l n ev → stepped w number n ev sender o ≡ Ok x → Told
-  unfolding stepped
-  stepped_true n ev sender (Err y) there clock brings h = absurd (cc)
-  stepped_true n ev sender (Ok node) there clock brings h =
-      let is : after_step w number n node sender (step node.end node.clock (block_of n number) ev) ≡ x = cc in
-      of_step n node node ev sender (there node refl) refl (clock node) brings is
+  stepped_true n ev sender o there clock brings h =
+      step_line Told w number x n ev sender o
+      (λ node e k whole is. of_step n node (record node { checkpoint = k }) ev sender (there node e) refl (clock node) brings is)
+      (λ node e k cut is. cut_told n (record node { end = (step node.end node.clock (block_of n number) ev).end }) k is)
+      h
 
   -- a step of a node whose hosts change with it
   entered_true : (n : ℕ) (ev : Event) (old node : Node) → at w.nodes n ≡ Some old → node.end ≡ old.end → node.clock ≡ moment_of l old → Brings w l n ev
       → stepped w number n ev None (Ok node) ≡ Ok x → Told
-  unfolding stepped
   entered_true n ev old node was same clock brings h =
-      let is : after_step w number n node None (step node.end node.clock (block_of n number) ev) ≡ x = cc in
-      of_step n old node ev None was same clock brings is
+      step_line Told w number x n ev None (Ok node)
+      (λ q e k whole is.
+      let one : node ≡ q = cc in
+      of_step n old (record q { checkpoint = k }) ev None was (ap (λ (y : Node). y.end) (sym one) ∙ same) (ap (λ (y : Node). y.clock) (sym one) ∙ clock) brings is)
+      (λ q e k cut is. cut_told n (record q { end = (step q.end q.clock (block_of n number) ev).end }) k is)
+      h
+
+  -- a step that was cut off, whatever it is of
+  off_told : (n : ℕ) (ev : Event) (sender : Option Sender) (o : Result Node Why) → stepped w number n ev sender o ≡ Ok x → x.cut ≡ true → Told
+  off_told n ev sender o h off =
+      step_line Told w number x n ev sender o
+      (λ node e k whole is.
+      absurd (true≢false (sym off ∙ was_whole w number n (record node { checkpoint = k }) sender (step node.end node.clock (block_of n number) ev) x is)))
+      (λ node e k cut is. cut_told n (record node { end = (step node.end node.clock (block_of n number) ev).end }) k is)
+      h
+
+  -- a start
+  start_told : (n : ℕ) (node : Node) (sender : Option Sender) (k : Kept) (r : Role) (c : Config)
+      → after_step w number n node sender (starts r c k) ≡ x → Told
+  unfolding after_step given starts
+  start_told n node sender k r c is =
+      let s = starts r c k in
+      let v = moved_all n s.moves (with_node w n (record node { end = s.end })) in
+      subst (λ (q : Lined). AllByRecursion (IsTrue w number l) q.entries) is (all_told w l n v number (all_gone k) (all_went w l n k))
+
+  started_true : (n : ℕ) (o : Result Node Why) → started w number n o ≡ Ok x → Told
+  unfolding started
+  started_true n (Err y) h = absurd (cc)
+  started_true n (Ok node) h =
+      let s = starts node.end.role node.end.config node.checkpoint.book in
+      let up = opened (block_of n number) node in
+      committed_line Told w number n up None s x
+      (λ k whole is. start_told n (record up { checkpoint = k }) None node.checkpoint.book node.end.role node.end.config is)
+      (λ k cut is. cut_told n (record up { end = s.end }) k is)
+      h
 
   quiet_true : (v : World) → quiet_line v ≡ x → Told
   quiet_true v is = subst (λ (q : Lined). AllByRecursion (IsTrue w number l) q.entries) is tt
@@ -207,20 +271,16 @@ entry_true_of w number n bytes l src uniq asked is answers =
     OfEntry l bytes src h.service h.admitted.tags uniq h.relay refl so.1 h.admitted.padr h.admitted.asked h.admitted.cookie h.new
     (subst (λ d. AnswersEntry l.node.end d s (reply_to w number n l src asked)) h.asked_is answers)
 
-both_true : (w : World) (number : ℕ) (l : Line) (es fs : List Entry) → AllByRecursion (IsTrue w number l) es → AllByRecursion (IsTrue w number l) fs → AllByRecursion (IsTrue w number l) (es ++ fs)
-both_true w number l [] fs one two = two
-both_true w number l (e ∷ es) fs one two = (one.0, both_true w number l es fs one.1 two)
-
 frame_true : CausesStand → StepsRefuseTruly → RingsCome → (w : World) → EndsAreKept w → (number n : ℕ) (bytes : List ℕ)
     → OfFrame (λ y. AllByRecursion (IsTrue w number (Frame n bytes)) y.entries) w number n bytes
 frame_true causes room rings w kept number n bytes = record {
-  ignored = λ l word is x h. ((refl, (λ queue. absurd (never_full l.access l.node.end bytes (is ∙ ap Ignores queue)))), tt);
-  answered = λ l because frame is x h. answers_true w number n bytes l because frame is;
+  ignored = λ l word is x h u. ((refl, (λ queue. absurd (never_full l.access l.node.end bytes (is ∙ ap Ignores queue)))), tt);
+  answered = λ l because frame is x h u. answers_true w number n bytes l because frame is;
   done = λ l ev is does x h.
       stepped_true causes room w kept number (Frame n bytes) x n ev None (Ok l.node) (λ node e. (let same : l.node ≡ node = cc in rw (← same) l.there)) (λ node. refl)
       (refl, host_brings w n bytes ev l is) h;
-  entered = λ l src uniq asked is x h.
-      both_true w number (Frame n bytes) x.entries (Frames number n (reply_to w number n l src asked) ∷ [])
+  entered = λ l src uniq asked is x h u.
+      all_both (IsTrue w number (Frame n bytes)) x.entries (Frames number n (reply_to w number n l src asked) ∷ [])
       (entered_true causes room w kept number (Frame n bytes) x n (event.Admitted src) l.node (with_host w number n l src uniq) l.there refl refl
       (refl, padr_brings w n bytes l src uniq asked is) h) (
         (
@@ -231,11 +291,12 @@ frame_true causes room rings w kept number n bytes = record {
         ),
         tt,
       );
+  cut = λ l ev node is x h off. off_told causes room w kept number (Frame n bytes) x n ev None (Ok node) h off;
 }
 
 -- of each kind
 pub line_true : CausesStand → StepsRefuseTruly → RingsCome → (w : World) → EndsAreKept w → (number : ℕ) (l : Line) → TellsTruly w number l
-unfolding line
+unfolding line crashed armed
 line_true causes room rings w kept number (Remark text) x h =
     let is : quiet_line w ≡ x = cc in quiet_true causes room w kept number (Remark text) x w is
 line_true causes room rings w kept number (Lac n m secret hide) x h =
@@ -267,14 +328,36 @@ line_true causes room rings w kept number (DropCall n session) x h =
     (λ node e. is_declared (at w.nodes n) node (has_call session (declared (at w.nodes n)) node e)) (λ node. refl) (refl, refl) h
 line_true causes room rings w kept number (Deliver k) x h =
     deliver_line (AllByRecursion (IsTrue w number (Deliver k)) x.entries) w number x (line w number (Deliver k)) (slice_get w.packets (k - 1))
-    (λ p node sent there young so leads.
+    (λ p node sent there up young so leads.
     stepped_true causes room w kept number (Deliver k) x p.to (event.Datagram (address_of p.from) p.bytes) (sender_of p.from p.origin) (Ok node)
     (λ q same. (let is : node ≡ q = cc in rw (← is) there)) (λ q. refl) (p, sent, refl, refl) leads)
     refl h
 line_true causes room rings w kept number (Tick n milliseconds) x h =
     step_line (AllByRecursion (IsTrue w number (Tick n milliseconds)) x.entries) w number x n event.Tick None (later milliseconds (declared (at w.nodes n)))
-    (λ node e is.
+    (λ node e c whole is.
     let k = is_put_on w n milliseconds node e in
-    of_step causes room w kept number (Tick n milliseconds) x n k.old node event.Tick None k.there (ap (λ (q : Node). q.end) (sym k.same))
-    (ap (λ (q : Node). q.clock) (sym k.same)) (refl, refl) is)
+    of_step causes room w kept number (Tick n milliseconds) x n k.old (record node { checkpoint = c }) event.Tick None k.there
+    (ap (λ (q : Node). q.end) (sym k.same)) (ap (λ (q : Node). q.clock) (sym k.same)) (refl, refl) is)
+    (λ node e c cut is.
+    cut_told causes room w kept number (Tick n milliseconds) x n (record node { end = (step node.end node.clock (block_of n number) event.Tick).end }) c is)
     h
+line_true causes room rings w kept number (Crash n) x h = by (declared (at w.nodes n)) h
+  where
+    by : (o : Result Node Why) → crashed w number n o ≡ Ok x → AllByRecursion (IsTrue w number (Crash n)) x.entries
+    by (Err y) h = absurd (cc)
+    by (Ok node) h =
+        let v = with_node w n (fallen (block_of n number) node node.checkpoint) in
+        let is : quiet_line v ≡ x = cc in
+        quiet_true causes room w kept number (Crash n) x v is
+line_true causes room rings w kept number (Stop n commit call keeps) x h = by (declared (at w.nodes n)) h
+  where
+    stop : StopAt
+    stop = record { commit = commit; kept = keeps }
+
+    by : (o : Result Node Why) → armed w n stop o ≡ Ok x → AllByRecursion (IsTrue w number (Stop n commit call keeps)) x.entries
+    by (Err y) h = absurd (cc)
+    by (Ok node) h =
+        let v = with_node w n (record node { checkpoint = with_stop (Some stop) node.checkpoint }) in
+        let is : quiet_line v ≡ x = cc in
+        quiet_true causes room w kept number (Stop n commit call keeps) x v is
+line_true causes room rings w kept number (Start n) x h = started_true causes room w kept number (Start n) x n (down_at (at w.nodes n)) h

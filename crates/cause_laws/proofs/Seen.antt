@@ -6,8 +6,20 @@ use Rattle.id_table.specs.Order.{at_new, at_other, same_or_not}
 use Rattle.end_model.specs.declared.moves.Move.{Move}
 use Rattle.end_model.specs.declared.moves.Move.TheVariants as move
 use Rattle.end_model.specs.End.{Stepped}
-use Rattle.world_model.specs.World.{World, Node, Sender, with_node, with_birth_at, with_birth, is_born, moved, moved_all, given, after_step}
-use Rattle.frame_laws.proofs.Worlds.{shown_nodes}
+use Rattle.end_names.specs.Names.{node_of}
+use Rattle.end_model.specs.declared.out.Out.{Out}
+use Rattle.end_model.specs.declared.out.Out.TheVariants.{Send, Up, Gone, Drop, Cause}
+use Rattle.world_model.specs.World.{World, Node, Sender, with_node, with_birth_at, with_birth, is_born, moved, moved_all, sent, shown, shown_all, given, after_step}
+
+-- what is shown is nothing to the nodes
+shown_nodes : (n : ℕ) (os : List Out) (w : World) → (shown_all n os w).nodes ≡ w.nodes
+unfolding shown_all shown sent
+shown_nodes n [] w = refl
+shown_nodes n (Send peer bytes origin ∷ os) w = shown_nodes n os (sent w n (node_of peer) bytes origin)
+shown_nodes n (Up session side frame ∷ os) w = shown_nodes n os w
+shown_nodes n (Gone session ∷ os) w = shown_nodes n os w
+shown_nodes n (Drop x ∷ os) w = shown_nodes n os w
+shown_nodes n (Cause x ∷ os) w = shown_nodes n os w
 
 module _ {X : Type 0} (see : Node → X) (still : (node : Node) (births : List (ℕ × ℕ)) → see (record node { births = births }) ≡ see node) where
   abbrev seen_at : World → ℕ → Option X

@@ -1,5 +1,5 @@
 -- In each run, what each line brings to a node is answered.
-use Rattle.std.specs.Prelude.{◌≡◌, ℕ, ◌+◌, ◌^◌, ◌<◌, List, ◌∷◌, ◌++◌, length, map, Some, Ok}
+use Rattle.std.specs.Prelude.{◌≡◌, ℕ, ◌+◌, false, List, ◌∷◌, ◌++◌, length, map, Some, Ok}
 use Rattle.id_table.specs.Ids.{at}
 use Rattle.wire_base.specs.declared.cause.Cause.{Cause as CauseOf}
 use Rattle.schedule_text.specs.declared.line.Line.{Line}
@@ -26,9 +26,9 @@ pub record LineAnswers (number : ℕ) (l : Line) (x : Lined) (n : ℕ) (node : N
   pub told : (c : CauseOf) → Among (Cause c) (step_at number l n node ev).outputs → Among (Causes number n c) x.entries
   pub answers : StepAnswers node.end (moment_of l node) (uncovered_event node.end.config.secret ev) (step_at number l n node ev)
 
--- so it is of a line that is done in a world, for the node to which it brings an event
+-- so it is of a line that is done in a world, for the node to which it brings an event; a step that a stop cut off is left out
 abbrev pub AnswersWhatComes : World → ℕ → Line → Type 0
-AnswersWhatComes w number l = (x : Lined) → line w number l ≡ Ok x → (n : ℕ) (node : Node) (ev : Event) → at w.nodes n ≡ Some node
+AnswersWhatComes w number l = (x : Lined) → line w number l ≡ Ok x → x.cut ≡ false → (n : ℕ) (node : Node) (ev : Event) → at w.nodes n ≡ Some node
     → Brings w l n ev → LineAnswers number l x n node ev
 
 -- at each of the lines of a run
@@ -38,4 +38,4 @@ AnswerThroughout lines =
 
 -- of each list of lines of the grammar
 abbrev pub AnswersOfRuns : Type 0
-AnswersOfRuns = (lines : List Line) → AreLines lines → length lines < 2 ^ 47 → AnswerThroughout lines
+AnswersOfRuns = (lines : List Line) → AreLines lines → AnswerThroughout lines

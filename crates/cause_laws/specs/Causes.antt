@@ -1,12 +1,12 @@
 -- The causes that the report tells stand, nothing is refused for want of room but where a tunnel holds too many letters, no end has more
 -- tunnels than it may, and no call and no tunnel is left.
-use Rattle.std.specs.Prelude.{is_some, ◌≡◌, ℕ, ◌+◌, ◌-◌, ◌^◌, ◌<◌, ◌≤◌, min, List, [], ◌∷◌, ◌++◌, length, true, false, slice_get, Some, None, Ok, Option, unwrap_or}
+use Rattle.std.specs.Prelude.{is_some, ◌≡◌, ℕ, ◌+◌, ◌-◌, ◌^◌, ◌≤◌, min, List, [], ◌∷◌, ◌++◌, length, true, false, slice_get, Some, None, Ok, Option, unwrap_or}
 use Rattle.std.specs.List.{AllByRecursion}
 use Rattle.id_table.specs.Ids.{at}
 use Rattle.wire_base.specs.declared.why.Why.TheVariants as why
 use Rattle.wire_base.specs.declared.cause.Cause.{Cause}
 use Rattle.schedule_text.specs.declared.line.Line.{Line}
-use Rattle.schedule_text.specs.declared.line.Line.TheVariants.{Remark, Lac, Lns, OpenUp, Close, Ring, Frame, FromSub, Down, Hang, DropCall, Deliver, Tick}
+use Rattle.schedule_text.specs.declared.line.Line.TheVariants.{Remark, Lac, Lns, OpenUp, Close, Ring, Frame, FromSub, Down, Hang, DropCall, Deliver, Tick, Crash, Stop, Start}
 use Rattle.schedule_text.specs.Grammar.{AreLines}
 use Rattle.end_model.specs.declared.event.Event.{Event}
 use Rattle.end_model.specs.declared.event.Event.TheVariants as event
@@ -20,7 +20,7 @@ use Rattle.pppoe_wire.specs.declared.frame.Tag.{Tag}
 use Rattle.end_model.specs.End.{step}
 use Rattle.world_model.specs.World.{World, Node, Lined, block_of, line}
 use Rattle.pppoe_discovery.specs.declared.outcome.Discovered.TheVariants.{Admit}
-use Rattle.world_model.specs.Texts.{Entry, Sends, HandsUp, Ends, Frames, Drops, Causes}
+use Rattle.world_model.specs.Texts.{Entry, Sends, HandsUp, Ends, Frames, Drops, Causes, Stopped}
 use Rattle.step_laws.specs.Hosts.{LacAt}
 use Rattle.world_model.specs.Run.{run}
 use Rattle.step_laws.specs.Letters.{Among}
@@ -35,7 +35,7 @@ use Rattle.cause_laws.specs.Hosts.{IsPadi, HasValue, IsAsked, HasCookie, IsHeld,
 
 -- ---- what a line brings
 
--- the event that a line is for a node
+-- the event that a line is for a node; a crash, the stop of a commit and a start bring it none
 abbrev pub Brings : World → Line → ℕ → Event → Type 0
 Brings w (Remark text) n ev = ⊥
 Brings w (Lac m lns secret hide) n ev = ⊥
@@ -50,6 +50,9 @@ Brings w (Close m i) n ev = (n ≡ m) × (ev ≡ event.CloseTunnel i)
 Brings w (DropCall m session) n ev = (n ≡ m) × (ev ≡ event.DropCall session)
 Brings w (Deliver k) n ev = (p : Packet) × (slice_get w.packets (k - 1) ≡ Some p) × (n ≡ p.to) × (ev ≡ event.Datagram (address_of p.from) p.bytes)
 Brings w (Tick m milliseconds) n ev = (n ≡ m) × (ev ≡ event.Tick)
+Brings w (Crash m) n ev = ⊥
+Brings w (Stop m commit call kept) n ev = ⊥
+Brings w (Start m) n ev = ⊥
 
 -- the moment at which it comes: a tick first puts the clock on
 abbrev pub moment_of : Line → Node → ℕ
@@ -119,6 +122,7 @@ IsTrue w line l (Drops number n x) = (number ≡ line) × (x ≡ why.Queue → I
 IsTrue w line l (Sends number packet from to bytes) = number ≡ line
 IsTrue w line l (HandsUp number n session birth side frame) = number ≡ line
 IsTrue w line l (Ends number n session padt) = number ≡ line
+IsTrue w line l (Stopped number n) = number ≡ line
 IsTrue w line l (Frames number n bytes) = (number ≡ line) × FrameIsTrue w line l n bytes
 
 -- so are all entries that a line makes in a world
@@ -135,9 +139,9 @@ pub record FindsNoRoom (w : World) (l : Line) (n : ℕ) : Type 0 where
   pub named : full.letter.header.tunnel ≡ full.id
   pub nr : full.nr ≡ unwrap_or full.letter.header.nr 0
 
--- then the line tells that it is dropped for that
+-- then the line tells that it is dropped for that; a step that a stop cut off is left out
 abbrev pub TellsOfRoom : World → ℕ → Line → Type 0
-TellsOfRoom w number l = (x : Lined) → line w number l ≡ Ok x → (n : ℕ) → FindsNoRoom w l n → Among (Drops number n why.Queue) x.entries
+TellsOfRoom w number l = (x : Lined) → line w number l ≡ Ok x → x.cut ≡ false → (n : ℕ) → FindsNoRoom w l n → Among (Drops number n why.Queue) x.entries
 
 -- ---- room
 
@@ -161,7 +165,8 @@ AllAreFew w = (n : ℕ) (node : Node) → at w.nodes n ≡ Some node → AreFew 
 
 -- after the lines a call waits for its tunnel only where the tunnel's SCCRQ isn't answered yet; and where the last of them is a
 -- tick of a node, none of the node's calls that are being set up has taken 60 seconds, by the node's clock, and none of its tunnels has
--- failed: none that isn't set up was made 60 seconds ago, none was closed 31 seconds ago, and none was repeated to in vain
+-- failed: none that isn't set up was made 60 seconds ago, none was closed 31 seconds ago, and none was repeated to in vain. So it is too where
+-- the node fell in that tick
 pub record NoneIsLeft (lines : List Line) : Type 0 where
   pub asked : (n : ℕ) (node : Node) → at (run lines).world.nodes n ≡ Some node → AreAsked node.end
   pub ended : (before : List Line) (n milliseconds : ℕ) → lines ≡ before ++ Tick n milliseconds ∷ [] → (run lines).fault ≡ None
@@ -179,14 +184,14 @@ TellTrulyThroughout lines =
     × AnswersHosts (run before).world (length before + 1) l
 
 abbrev pub CausesOfRuns : Type 0
-CausesOfRuns = (lines : List Line) → AreLines lines → length lines < 2 ^ 47 → TellTrulyThroughout lines
+CausesOfRuns = (lines : List Line) → AreLines lines → TellTrulyThroughout lines
 
 abbrev pub RoomInRuns : Type 0
-RoomInRuns = (lines : List Line) → AreLines lines → length lines < 2 ^ 47 → AllHaveRoom (run lines).world
+RoomInRuns = (lines : List Line) → AreLines lines → AllHaveRoom (run lines).world
 
 abbrev pub TunnelsAreFewInRuns : Type 0
-TunnelsAreFewInRuns = (lines : List Line) → AreLines lines → length lines < 2 ^ 47 → AllAreFew (run lines).world
+TunnelsAreFewInRuns = (lines : List Line) → AreLines lines → AllAreFew (run lines).world
 
 -- and of each front of such a list, which is one too
 abbrev pub NoneIsLeftInRuns : Type 0
-NoneIsLeftInRuns = (lines : List Line) → AreLines lines → length lines < 2 ^ 47 → NoneIsLeft lines
+NoneIsLeftInRuns = (lines : List Line) → AreLines lines → NoneIsLeft lines

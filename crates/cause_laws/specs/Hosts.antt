@@ -157,14 +157,15 @@ pub record HostEnters (w : World) (number n : ℕ) (bytes : List ℕ) (l : LacAt
 
 -- What follows on a frame of no more than 2,048 bytes to a LAC. A PADI for a service that is served is answered by its PADO alone; each PADR by
 -- one PADS. Where discovery refuses it, that is the PADS with the cause, which is told, and nothing is done; where it has the cookie of its
--- host and repeats that of a live call, it is the PADS of that call alone; and else the host enters.
+-- host and repeats that of a live call, it is the PADS of that call alone; and else the host enters. Of these only the step of a host that
+-- enters may be cut off by a stop; a step that a stop cut off is left out there.
 pub record HostIsAnswered (w : World) (number n : ℕ) (bytes : List ℕ) (l : LacAt w n) (x : Lined) : Type 0 where
   pub padi : (src service : List ℕ) (tags : List Tag) (uniq relay : Option (List ℕ)) → IsPadi (mac_of l.node.end.config.number) bytes src tags
       → IsAsked tags service uniq relay
       → TellsOnly number n
       (frame_bytes (pado (mac_of l.node.end.config.number) src service (host_name l.node.end.role l.node.end.config.number) (cookie_of l.access.key src) uniq relay))
       x
-  pub padr : (src : List ℕ) (tags : List Tag) → IsPadr (mac_of l.node.end.config.number) bytes src tags
+  pub padr : x.cut ≡ false → (src : List ℕ) (tags : List Tag) → IsPadr (mac_of l.node.end.config.number) bytes src tags
       → TellsPads number n (mac_of l.node.end.config.number) src x
   pub refused : (src : List ℕ) (tags : List Tag) (uniq relay : Option (List ℕ)) (c : Cause) → IsPadr (mac_of l.node.end.config.number) bytes src tags
       → HasValue 0x0103 tags uniq → HasValue 0x0110 tags relay → IsRefusedFor l.access.key src tags c
@@ -173,7 +174,7 @@ pub record HostIsAnswered (w : World) (number n : ℕ) (bytes : List ℕ) (l : L
       → IsPadr (mac_of l.node.end.config.number) bytes src tags → IsAsked tags service uniq relay → HasCookie l.access.key src tags
       → IsHeld l.access src uniq session → is_some (at l.node.end.calls session) ≡ true
       → TellsOnly number n (frame_bytes (pads (mac_of l.node.end.config.number) src session service uniq relay)) x
-  pub entered : (src service : List ℕ) (tags : List Tag) (uniq relay : Option (List ℕ))
+  pub entered : x.cut ≡ false → (src service : List ℕ) (tags : List Tag) (uniq relay : Option (List ℕ))
       → IsPadr (mac_of l.node.end.config.number) bytes src tags → IsAsked tags service uniq relay → HasCookie l.access.key src tags
       → IsNew l.access l.node.end src uniq → HostEnters w number n bytes l src (Admit src service uniq relay) x
 

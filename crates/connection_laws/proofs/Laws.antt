@@ -25,16 +25,16 @@ module _ (codecs : Codecs) (chains : StepsAreChains) (reads : ReadsAreFew) (clas
   }
 
   pub facts_of_runs : HoldsInRuns
-  facts_of_runs lines fits few = holds_in_runs codecs laws lines fits few
+  facts_of_runs lines fits calm few = holds_in_runs codecs laws lines fits calm few
 
   pub letters_of_runs : LettersOfRuns
-  letters_of_runs lines fits few = letters_carried (run lines) (facts_of_runs lines fits few)
+  letters_of_runs lines fits calm few = letters_carried (run lines) (facts_of_runs lines fits calm few)
 
   pub acks_of_runs : AcksOfRuns
-  acks_of_runs lines fits few = acks_true (run lines) (facts_of_runs lines fits few)
+  acks_of_runs lines fits calm few = acks_true (run lines) (facts_of_runs lines fits calm few)
 
   pub numbers_of_runs : NumbersOfRuns
-  numbers_of_runs lines fits few = numbers_read codecs classes (run lines) (facts_of_runs lines fits few)
+  numbers_of_runs lines fits calm few = numbers_read codecs classes (run lines) (facts_of_runs lines fits calm few)
 
   pub lines_of_runs : LinesGoOn
-  lines_of_runs most number r ok room l fits x h = lines_go_on codecs laws most number r ok room l fits x h
+  lines_of_runs most number r ok room l fits calm x h = lines_go_on codecs laws most number r ok room l fits calm x h

@@ -1,13 +1,14 @@
 -- Each line of a schedule.
-use Rattle.std.proofs.Common.{◌≡◌, ⊎_elim, ℕ, ◌+◌, ◌-◌, ◌^◌, ◌<◌, false, List, [], refl, sym, ap, ◌∙◌, subst, Option, Some, None, Result, Ok, Err, arith, Bool, ◌∷◌, ◌++◌}
+use Rattle.std.proofs.Common.{◌≡◌, ⊎_elim, ℕ, ◌+◌, ◌-◌, ◌^◌, ◌<◌, false, List, [], refl, sym, ap, ◌∙◌, subst, Option, Some, None, Result, Ok, arith, Bool, ◌∷◌, ◌++◌}
 use Rattle.std.proofs.lemmas.Option.{none-some}
+use Rattle.std.proofs.lemmas.Bool.{true≢false}
 use Rattle.std.specs.Prelude.{is_some, slice_get}
 use Rattle.id_table.specs.Ids.{at, put, at-none}
 use Rattle.id_table.specs.Order.{at_new, at_other, same_or_not, ascends-empty}
 use Rattle.wire_base.specs.declared.why.Why.{Why}
 use Rattle.wire_base.specs.declared.why.Why.TheVariants as why
 use Rattle.schedule_text.specs.declared.line.Line.{Line}
-use Rattle.schedule_text.specs.declared.line.Line.TheVariants.{Remark, Lac, Lns, OpenUp, Close, Ring, Frame, FromSub, Down, Hang, DropCall, Deliver, Tick}
+use Rattle.schedule_text.specs.declared.line.Line.TheVariants.{Remark, Lac, Lns, OpenUp, Close, Ring, Frame, FromSub, Down, Hang, DropCall, Deliver, Tick, Crash, Stop, Start}
 use Rattle.schedule_text.specs.Grammar.{FitsLine}
 use Rattle.end_model.specs.Secrets.{uncovered_event}
 use Rattle.end_model.specs.declared.event.Event.{Event}
@@ -17,14 +18,15 @@ use Rattle.world_model.specs.declared.refusal.Refusal.TheVariants.{Unfit}
 use Rattle.end_names.specs.declared.role.Role.{Role}
 use Rattle.end_names.specs.declared.role.Role.TheVariants as role
 use Rattle.end_names.specs.Names.{address_of}
-use Rattle.end_model.specs.End.{End, plain_step, new_end, step}
+use Rattle.end_model.specs.End.{End, plain_step, new_end}
 use Rattle.step_laws.specs.Lines.{tested_not, is_lac_at, is_lns_at, is_declared, has_call, has_tunnel, none_there, IsAt, at_moment, is_at, is_later, deliver_line}
-use Rattle.world_model.specs.World.{World, Node, Sender, Lined, quiet_line, with_node, after_step, declared, lac_at, lns_at, with_call, with_tunnel, later, config_of, new_node, answer_entries, added, block_of, stepped, sender_of, delivers, line}
+use Rattle.world_model.specs.World.{World, Node, Checkpoint, Sender, Lined, quiet_line, with_node, after_step, declared, lac_at, lns_at, with_call, with_tunnel, later, config_of, new_node, answer_entries, added, block_of, given, stepped, sender_of, delivers, line}
 use Rattle.step_laws.specs.Steps.{AreKept}
 use Rattle.frame_laws.specs.Codecs.{Codecs}
 use Rattle.end_model.specs.Access.{Access}
 use Rattle.world_model.specs.Texts.{Entry, Drops, Frames}
 use Rattle.step_laws.specs.Hosts.{LacAt, with_host, entering, reply_to, HostDoes, HostSends, HostLeaves, OfFrame, frame_line}
+use Rattle.step_laws.specs.Calm.{IsCalm, WorldIsCalm, at_calm, calm_step}
 use Rattle.connection_laws.specs.Accounts.{Account, no_account, account_from}
 use Rattle.connection_laws.specs.Facts.{Accounts, IsMade, EndOk, PacketOk, Comes, NodeOk, Holds}
 use Rattle.connection_laws.proofs.Hearing.{all_at}
@@ -106,34 +108,44 @@ module _ (w : World) (accs : Accounts) (number : ℕ) (holds : Holds w accs) (mo
 -- ---- lines
 
 module _ (codecs : Codecs) (laws : Laws) (number : ℕ) (w : World) (accs : Accounts) (holds : Holds w accs) (most : ℕ) (had : GivenBelow accs most)
-    (room : most + 24576 < 2 ^ 64) where
+    (still : WorldIsCalm w) (room : most + 24576 < 2 ^ 64) where
   -- on an event as the node reads it
-  timed_ok : (n : ℕ) (ev : Event) (sender : Option Sender) (node : Node) → IsAt w n node → Comes accs n node.end sender ev
-      → Does w accs (most + 16384) number (after_step w number n node sender (plain_step node.end node.clock (block_of n number) ev))
-  timed_ok n ev sender node is comes =
-      subst (λ (q : Node). Does w accs (most + 16384) number (after_step w number n q sender (plain_step q.end q.clock (block_of n number) ev))) (sym is.same)
+  timed_ok : (n : ℕ) (ev : Event) (sender : Option Sender) (node : Node) (k : Checkpoint) → IsAt w n node → Comes accs n node.end sender ev
+      → Does w accs (most + 16384) number
+      (after_step w number n (record node { checkpoint = k }) sender (plain_step node.end node.clock (block_of n number) ev))
+  timed_ok n ev sender node k is comes =
+      subst
+      (λ (q : Node). Does w accs (most + 16384) number
+      (after_step w number n (record q { checkpoint = k }) sender (plain_step q.end q.clock (block_of n number) ev))) (sym is.same)
       (let here = subst (λ (q : Node). Comes accs n q.end sender ev) is.same comes in
       record {
-        goes = step_ok laws number w accs holds most had room n is.before is.there node.clock node.access ev sender here node.clock (block_of n number);
-        does = AStep (step_does laws number w accs holds most had room n is.before is.there node.clock node.access ev sender here node.clock (block_of n number));
+        goes = step_ok laws number w accs holds most had room n is.before is.there node.clock node.access k ev sender here node.clock (block_of n number);
+        does = AStep (step_does laws number w accs holds most had room n is.before is.there node.clock node.access k ev sender here node.clock (block_of n number));
       })
 
   stepped_ok : (x : Lined) (n : ℕ) (ev : Event) (sender : Option Sender) (o : Result Node Why)
       → ((node : Node) → o ≡ Ok node → IsAt w n node)
       → ((node : Node) → o ≡ Ok node → Comes accs n node.end sender (uncovered_event node.end.config.secret ev))
       → stepped w number n ev sender o ≡ Ok x → Does w accs (most + 16384) number x
-  unfolding stepped
-  stepped_ok x n ev sender (Err q) is comes h = absurd (cc)
-  stepped_ok x n ev sender (Ok node) is comes h =
-      let e : after_step w number n node sender (step node.end node.clock (block_of n number) ev) ≡ x = cc in
-      subst (Does w accs (most + 16384) number) e
-      (timed_ok n (uncovered_event node.end.config.secret ev) sender node (is node refl) (comes node refl))
+  stepped_ok x n ev sender o is comes h =
+      calm_step (Does w accs (most + 16384) number x) w number x n ev sender o (λ node e. at_calm w n node still (is node e))
+      (λ node e k committed made.
+      subst (Does w accs (most + 16384) number) made
+      (timed_ok n (uncovered_event node.end.config.secret ev) sender node k (is node e) (comes node e))) h
+
+  -- no stop is armed at any node
+  not_cut : (n : ℕ) (ev : Event) (node : Node) → IsAt w n node → (x : Lined) → stepped w number n ev None (Ok node) ≡ Ok x → x.cut ≡ false
+  unfolding after_step given
+  not_cut n ev node is x h =
+      calm_step (x.cut ≡ false) w number x n ev None (Ok node)
+      (λ q e. at_calm w n q still (subst (IsAt w n) (let same : node ≡ q = cc in same) is))
+      (λ q e k committed made. sym (ap (λ (y : Lined). y.cut) made)) h
 
   -- what is delivered is a packet that was sent, and may be
   delivers_ok : (x : Lined) (o : Option Packet) → ((p : Packet) → o ≡ Some p → PacketOk accs p) → delivers w number o ≡ Ok x
       → Does w accs (most + 16384) number x
   delivers_ok x o sent h = deliver_line (Does w accs (most + 16384) number x) w number x (delivers w number o) o
-      (λ p node found there young so leads.
+      (λ p node found there up young so leads.
       let ok : EndOk accs p.to node.end × AreKept node.end = subst (NodeOk accs p.to) there (holds.nodes p.to) in
       stepped_ok x p.to (event.Datagram (address_of p.from) p.bytes) (sender_of p.from p.origin) (Ok node)
       (λ q e. (let same : node ≡ q = cc in rw (← same) (is_at w p.to node there)))
@@ -184,47 +196,51 @@ module _ (codecs : Codecs) (laws : Laws) (number : ℕ) (w : World) (accs : Acco
 
   of_frame : (n : ℕ) (bytes : List ℕ) → OfFrame (Does w accs (most + 16384) number) w number n bytes
   of_frame n bytes = record {
-    ignored = λ l word is x h. only_told n bytes l (Drops number n word ∷ []) x h;
-    answered = λ l because frame is x h. only_told n bytes l (answer_entries number n because frame) x h;
+    ignored = λ l word is x h u. only_told n bytes l (Drops number n word ∷ []) x h;
+    answered = λ l because frame is x h u. only_told n bytes l (answer_entries number n because frame) x h;
     done = λ l ev is does x h.
         stepped_ok x n ev None (Ok l.node) (λ node e. (let same : l.node ≡ node = cc in rw (← same) (is_at w n l.node l.there)))
         (λ node e. host_comes n l.access l.node.end bytes ev does node.end node.end.config.secret) h;
-    entered = λ l src uniq asked is x h.
+    entered = λ l src uniq asked is x h u.
         let k =
         stepped_ok x n (event.Admitted src) None (Ok (with_host w number n l src uniq))
         (λ node e. (let same : with_host w number n l src uniq ≡ node = cc in entering w number n l src uniq node same)) (λ node e. tt) h in
         record { goes = k.goes; does = more_told x (x.entries ++ Frames number n (reply_to w number n l src asked) ∷ []) k.does };
+    cut = λ l ev node is x h c. absurd (true≢false (sym c ∙ not_cut n ev node is x h));
   }
 
-  pub line_ok : (x : Lined) (l : Line) → FitsLine l → line w number l ≡ Ok x → Does w accs (most + 16384) number x
+  pub line_ok : (x : Lined) (l : Line) → FitsLine l → IsCalm l → line w number l ≡ Ok x → Does w accs (most + 16384) number x
   unfolding line
-  line_ok x (Remark text) fits h =
+  line_ok x (Remark text) fits calm h =
       let e : quiet_line w ≡ x = cc in subst (Does w accs (most + 16384) number) e (record { goes = quiet_goes w accs most holds had; does = Nothing refl refl (births_same w) })
-  line_ok x (Lac n m secret hide) fits h =
+  line_ok x (Lac n m secret hide) fits calm h =
       added_ok w accs number holds most had n role.Lac (address_of m) secret hide (omega (arith, fits.0.1)) (λ lac. (m, omega (arith, fits.1.1), refl)) x h
-  line_ok x (Lns n secret) fits h = added_ok w accs number holds most had n role.Lns 0 secret false (omega (arith, fits.0.1)) (λ lac. absurd cc) x h
-  line_ok x (OpenUp n) fits h =
+  line_ok x (Lns n secret) fits calm h = added_ok w accs number holds most had n role.Lns 0 secret false (omega (arith, fits.0.1)) (λ lac. absurd cc) x h
+  line_ok x (OpenUp n) fits calm h =
       stepped_ok x n event.OpenTunnel None (lac_at (at w.nodes n)) (λ node e. is_at w n node ((is_lac_at (at w.nodes n) node e).0)) (λ node e. tt) h
-  line_ok x (Close n i) fits h =
+  line_ok x (Close n i) fits calm h =
       stepped_ok x n (event.CloseTunnel i) None (with_tunnel i (declared (at w.nodes n)))
       (λ node e. is_at w n node (is_declared (at w.nodes n) node (has_tunnel i (declared (at w.nodes n)) node e))) (λ node e. tt) h
-  line_ok x (Ring n port) fits h =
+  line_ok x (Ring n port) fits calm h =
       stepped_ok x n (event.Ring port) None (lac_at (at w.nodes n)) (λ node e. is_at w n node ((is_lac_at (at w.nodes n) node e).0)) (λ node e. tt) h
-  line_ok x (Frame n bytes) fits h = frame_line (Does w accs (most + 16384) number) w number n bytes (of_frame n bytes) x h
-  line_ok x (FromSub n session frame) fits h =
+  line_ok x (Frame n bytes) fits calm h = frame_line (Does w accs (most + 16384) number) w number n bytes (of_frame n bytes) x h
+  line_ok x (FromSub n session frame) fits calm h =
       stepped_ok x n (event.Payload session frame) None (with_call session (lac_at (at w.nodes n)))
       (λ node e. is_at w n node ((is_lac_at (at w.nodes n) node (has_call session (lac_at (at w.nodes n)) node e)).0)) (λ node e. tt) h
-  line_ok x (Down n session frame) fits h =
+  line_ok x (Down n session frame) fits calm h =
       stepped_ok x n (event.Lower session frame) None (with_call session (lns_at (at w.nodes n)))
       (λ node e. is_at w n node ((is_lns_at (at w.nodes n) node (has_call session (lns_at (at w.nodes n)) node e)).0)) (λ node e. tt) h
-  line_ok x (Hang n session) fits h =
+  line_ok x (Hang n session) fits calm h =
       stepped_ok x n (event.Hang session) None (with_call session (lac_at (at w.nodes n)))
       (λ node e. is_at w n node ((is_lac_at (at w.nodes n) node (has_call session (lac_at (at w.nodes n)) node e)).0)) (λ node e. tt) h
-  line_ok x (DropCall n session) fits h =
+  line_ok x (DropCall n session) fits calm h =
       stepped_ok x n (event.DropCall session) None (with_call session (declared (at w.nodes n)))
       (λ node e. is_at w n node (is_declared (at w.nodes n) node (has_call session (declared (at w.nodes n)) node e))) (λ node e. tt) h
-  line_ok x (Deliver k) fits h =
+  line_ok x (Deliver k) fits calm h =
       delivers_ok x (slice_get w.packets (k - 1)) (λ p e. all_at (PacketOk accs) w.packets (k - 1) p e holds.packets) h
-  line_ok x (Tick n milliseconds) fits h =
+  line_ok x (Tick n milliseconds) fits calm h =
       stepped_ok x n event.Tick None (later milliseconds (declared (at w.nodes n))) (λ node e. at_moment w n node (is_later w n milliseconds node e))
       (λ node e. tt) h
+  line_ok x (Crash n) fits calm h = absurd calm
+  line_ok x (Stop n commit call kept) fits calm h = absurd calm
+  line_ok x (Start n) fits calm h = absurd calm

@@ -1,12 +1,14 @@
 -- A run of lines.
-use Rattle.std.proofs.Common.{◌≡◌, ℕ, ◌+◌, ◌*◌, ◌^◌, ◌<◌, List, [], ◌∷◌, ◌++◌, length, refl, sym, subst, Option, Some, Result, Ok, Err, arith}
+use Rattle.std.proofs.Common.{◌≡◌, ℕ, ◌+◌, ◌*◌, ◌^◌, ◌<◌, List, [], ◌∷◌, ◌++◌, length, refl, sym, ◌∙◌, subst, Option, Some, Result, Ok, Err, arith}
 use mathlib.Core.Path.{fun_ext}
+use Rattle.std.proofs.lemmas.Option.{none-some}
 use Rattle.id_table.specs.Ids.{at-none}
 use Rattle.schedule_text.specs.declared.line.Line.{Line}
 use Rattle.schedule_text.specs.Grammar.{AreLines}
 use Rattle.world_model.specs.declared.refusal.Refusal.{Refusal}
 use Rattle.world_model.specs.World.{Node, Deed, Lined, line}
 use Rattle.world_model.specs.Run.{Run, empty_run, after_line, goes_on, run_from}
+use Rattle.step_laws.specs.Calm.{WorldIsCalm, AreCalm, calm_line}
 use Rattle.frame_laws.specs.Codecs.{Codecs}
 use Rattle.connection_laws.specs.Accounts.{no_account, account_from, account_of}
 use Rattle.connection_laws.specs.Facts.{Accounts, AccountOk, NodeOk, Holds}
@@ -58,17 +60,20 @@ begins = record {
     packets = tt;
   };
   given = λ n i. rw (nothing_known n i) (omega arith);
+  calm = λ n node there. absurd (none-some node (sym (at-none n) ∙ there));
 }
 
 stopped : (most : ℕ) (r : Run) (fault : Option (ℕ × Refusal)) → HoldsAt most r → HoldsAt most (record r { fault = fault })
-stopped most r fault ok = record { holds = ok.holds; given = ok.given }
+stopped most r fault ok = record { holds = ok.holds; given = ok.given; calm = ok.calm }
 
-goes_on_ok : (most : ℕ) (r : Run) (x : Lined) → Goes (account_of r.done) most x.world x.done → HoldsAt most (after_line r x)
-goes_on_ok most r x g =
+goes_on_ok : (most : ℕ) (r : Run) (x : Lined) → Goes (account_of r.done) most x.world x.done → WorldIsCalm x.world
+    → HoldsAt most (after_line r x)
+goes_on_ok most r x g calm =
     let more = accounts_more r.done x.done in
     record {
       holds = subst (λ (accs : Accounts). Holds x.world accs) more g.holds;
       given = subst (λ (accs : Accounts). GivenBelow accs most) more g.given;
+      calm = calm;
     }
 
 -- after some number of letters
@@ -77,19 +82,19 @@ Ended r = (most : ℕ) × HoldsAt most r
 
 module _ (codecs : Codecs) (laws : Laws) where
   pub lines_go_on : LinesGoOn
-  lines_go_on most number r ok room l fits x h =
-      let k = line_ok codecs laws number r.world (account_of r.done) ok.holds most ok.given room x l fits h in
-      record { after = goes_on_ok (most + 16384) r x k.goes; does = k.does }
+  lines_go_on most number r ok room l fits calm x h =
+      let k = line_ok codecs laws number r.world (account_of r.done) ok.holds most ok.given ok.calm room x l fits calm h in
+      record { after = goes_on_ok (most + 16384) r x k.goes (calm_line r.world number ok.calm x l calm h).world; does = k.does }
 
-  ended_from : (number : ℕ) (lines : List Line) (r : Run) (most : ℕ) → AreLines lines → HoldsAt most r → most + 16384 * length lines + 24576 < 2 ^ 64
-      → Ended (run_from number lines r)
+  ended_from : (number : ℕ) (lines : List Line) (r : Run) (most : ℕ) → AreLines lines → AreCalm lines → HoldsAt most r
+      → most + 16384 * length lines + 24576 < 2 ^ 64 → Ended (run_from number lines r)
   unfolding run_from
-  ended_from number [] r most fits ok room = (most, ok)
-  ended_from number (l ∷ ls) r most fits ok room =
+  ended_from number [] r most fits calm ok room = (most, ok)
+  ended_from number (l ∷ ls) r most fits calm ok room =
       where_it_fits Ended _ r number (line r.world number l) (λ fault. (most, stopped most r fault ok))
-      (λ x h. ended_from (number + 1) ls (after_line r x) (most + 16384) fits.1
-      (lines_go_on most number r ok (omega (arith, room)) l fits.0 x h).after
+      (λ x h. ended_from (number + 1) ls (after_line r x) (most + 16384) fits.1 calm.1
+      (lines_go_on most number r ok (omega (arith, room)) l fits.0 calm.0 x h).after
       (omega (arith, room)))
 
   pub holds_in_runs : HoldsInRuns
-  holds_in_runs lines fits few = (ended_from 1 lines empty_run 0 fits begins (omega (arith, few))).1.holds
+  holds_in_runs lines fits calm few = (ended_from 1 lines empty_run 0 fits calm begins (omega (arith, few))).1.holds

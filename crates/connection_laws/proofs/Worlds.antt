@@ -18,7 +18,7 @@ use Rattle.world_model.specs.declared.packet.Packet.{Packet}
 use Rattle.end_names.specs.Names.{node_of}
 use Rattle.end_model.specs.Tunnels.{Tunnel}
 use Rattle.end_model.specs.End.{End, Stepped, plain_step}
-use Rattle.world_model.specs.World.{World, Node, Sender, Deed, birth_in, birth_of, deed_of, with_node, with_birth_at, with_birth, is_born, moved, moved_all, sent, shown, shown_all, given, after_step}
+use Rattle.world_model.specs.World.{World, Node, Checkpoint, Sender, Deed, birth_in, birth_of, deed_of, with_node, with_birth_at, with_birth, is_born, moved, moved_all, sent, shown, shown_all, given, after_step}
 use Rattle.step_laws.specs.Letters.{Carries}
 use Rattle.step_laws.specs.Moves.{Chain}
 use Rattle.step_laws.specs.Steps.{AreKept, InChain, IsSent, IsDecline, IsOfMoves, IsChain, StepsAreChains}
@@ -241,14 +241,14 @@ pub record Laws : Type 0 where
   pub declines : DeclinesAreOfOpenings
 
 module _ (laws : Laws) (number : ℕ) (w : World) (accs : Accounts) (holds : Holds w accs) (most : ℕ) (had : GivenBelow accs most)
-    (room : most + 24576 < 2 ^ 64) (n : ℕ) (old : Node) (was : at w.nodes n ≡ Some old) (clock : ℕ) (access : Option Access) (ev : Event) (sender : Option Sender)
+    (room : most + 24576 < 2 ^ 64) (n : ℕ) (old : Node) (was : at w.nodes n ≡ Some old) (clock : ℕ) (access : Option Access) (checkpoint : Checkpoint) (ev : Event) (sender : Option Sender)
     (comes : Comes accs n old.end sender ev) (moment : ℕ) (block : List ℕ) where
   ok : EndOk accs n old.end × AreKept old.end
   ok = subst (NodeOk accs n) was (holds.nodes n)
 
   -- the node at the moment of the step
   abbrev timed : Node
-  timed = record old { clock = clock; access = access }
+  timed = record old { clock = clock; access = access; checkpoint = checkpoint }
 
   abbrev s : Stepped
   s = plain_step old.end moment block ev

@@ -16,6 +16,7 @@ use Rattle.end_model.specs.Tunnels.{Tunnel}
 use Rattle.end_model.specs.End.{reached}
 use Rattle.world_model.specs.World.{Node, Sender, Deed, too_old}
 use Rattle.world_model.specs.Run.{Run, run}
+use Rattle.step_laws.specs.Calm.{AreCalm}
 use Rattle.connection_laws.specs.Accounts.{Taken, account_of}
 use Rattle.connection_laws.specs.Facts.{IsCopy, IsRefusal, AreTaken, Holds}
 
@@ -85,17 +86,17 @@ NumbersAreRead r =
     AllByRecursion (λ (p : Packet). (o : ControlOrigin) → p.origin ≡ origin.Control o → (node : Node) → at r.world.nodes p.to ≡ Some node → (c : Control)
     → reached node.end (address_of p.from) p.bytes ≡ Some c → too_old o (Some c) ≡ None → IsRead c o) r.world.packets
 
--- ---- in the run of each list of lines of the grammar; letters are counted in 64 bits, and a line gives a tunnel 16,384 of them
--- at most
+-- ---- in the run of each list of lines of the grammar in which no node crashes, is to stop, or starts; letters are counted in 64 bits,
+-- and a line gives a tunnel 16,384 of them at most
 
 abbrev pub HoldsInRuns : Type 0
-HoldsInRuns = (lines : List Line) → AreLines lines → length lines < 2 ^ 47 → Holds (run lines).world (account_of (run lines).done)
+HoldsInRuns = (lines : List Line) → AreLines lines → AreCalm lines → length lines < 2 ^ 47 → Holds (run lines).world (account_of (run lines).done)
 
 abbrev pub LettersOfRuns : Type 0
-LettersOfRuns = (lines : List Line) → AreLines lines → length lines < 2 ^ 47 → LettersAreCarried (run lines)
+LettersOfRuns = (lines : List Line) → AreLines lines → AreCalm lines → length lines < 2 ^ 47 → LettersAreCarried (run lines)
 
 abbrev pub AcksOfRuns : Type 0
-AcksOfRuns = (lines : List Line) → AreLines lines → length lines < 2 ^ 47 → AcksAreTrue (run lines)
+AcksOfRuns = (lines : List Line) → AreLines lines → AreCalm lines → length lines < 2 ^ 47 → AcksAreTrue (run lines)
 
 abbrev pub NumbersOfRuns : Type 0
-NumbersOfRuns = (lines : List Line) → AreLines lines → length lines < 2 ^ 47 → NumbersAreRead (run lines)
+NumbersOfRuns = (lines : List Line) → AreLines lines → AreCalm lines → length lines < 2 ^ 47 → NumbersAreRead (run lines)

@@ -20,6 +20,7 @@ use Rattle.end_model.specs.Moments.{is_closed}
 use Rattle.end_model.specs.End.{End, plain_step}
 use Rattle.world_model.specs.World.{World, Node, Sender, Deed, Lined, birth_of, moved_all, new_node, deed_of, line}
 use Rattle.world_model.specs.Run.{Run, empty_run, after_line}
+use Rattle.step_laws.specs.Calm.{IsCalm, WorldIsCalm}
 use Rattle.step_laws.specs.Letters.{Letter}
 use Rattle.step_laws.specs.Moves.{Does, Came, CameIn, Hears, IsNext, HearsNext, InTunnel, IsFaulty, Closes, ClosesBy, Declines}
 use Rattle.frame_laws.specs.Plain.{AreAlike, IsReadAs, number_fault}
@@ -214,10 +215,11 @@ pub data LineDoes (w : World) (accs : Accounts) (number : ℕ) (x : Lined) : Typ
       → LineDoes w accs number x
   AStep : LineSteps w accs number x → LineDoes w accs number x
 
--- before each line of a run
+-- before each line of a run in which no node crashes, is to stop, or starts
 pub record HoldsAt (most : ℕ) (r : Run) : Type 0 where
   pub holds : Holds r.world (account_of r.done)
   pub given : GivenBelow (account_of r.done) most
+  pub calm : WorldIsCalm r.world
 
 -- a line that fits goes on from there
 pub record LineGoesOn (most number : ℕ) (r : Run) (x : Lined) : Type 0 where
@@ -225,8 +227,8 @@ pub record LineGoesOn (most number : ℕ) (r : Run) (x : Lined) : Type 0 where
   pub does : LineDoes r.world (account_of r.done) number x
 
 abbrev pub LinesGoOn : Type 0
-LinesGoOn = (most number : ℕ) (r : Run) → HoldsAt most r → most + 24576 < 2 ^ 64 → (l : Line) → FitsLine l → (x : Lined) → line r.world number l ≡ Ok x
-    → LineGoesOn most number r x
+LinesGoOn = (most number : ℕ) (r : Run) → HoldsAt most r → most + 24576 < 2 ^ 64 → (l : Line) → FitsLine l → IsCalm l → (x : Lined)
+    → line r.world number l ≡ Ok x → LineGoesOn most number r x
 
 abbrev pub RunsBegin : Type 0
 RunsBegin = HoldsAt 0 empty_run

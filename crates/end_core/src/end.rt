@@ -31,11 +31,11 @@ use tunnel_table::TunnelTable;
 use wire_base::{Bytes, NoMemory, Sequence, Why};
 
 /// The last tunnel id, the last session id, and the last number of a recovery.
-const LAST_TUNNEL: u32 = 65_535;
+pub(crate) const LAST_TUNNEL: u32 = 65_535;
 
-const LAST_SESSION: u32 = 65_534;
+pub(crate) const LAST_SESSION: u32 = 65_534;
 
-const LAST_RECOVERY: u32 = 4_294_967_295;
+pub(crate) const LAST_RECOVERY: u32 = 4_294_967_295;
 
 /// How many live tunnels an end may have.
 const MOST_TUNNELS: usize = 1024;
@@ -56,8 +56,8 @@ pub struct End {
     pub(crate) role: Role,
     pub(crate) config: Config,
     pub(crate) tunnel_ids: Ids,
-    session_ids: Ids,
-    recovery_ids: Ids,
+    pub(crate) session_ids: Ids,
+    pub(crate) recovery_ids: Ids,
     pub(crate) tunnels: TunnelTable,
     pub(crate) calls: Table<CallPlace>,
 }

@@ -8,6 +8,7 @@ mod declining;
 mod end;
 mod frames;
 mod rows;
+mod starting;
 mod ticks;
 
 pub use end::{End, Given};

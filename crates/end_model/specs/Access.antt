@@ -30,9 +30,11 @@ use Rattle.end_model.specs.End.{End, Stepped, step}
 pub record Access : Type 0 where
   pub key : List ℕ
   pub held : List (ℕ × Subscriber)
+  -- the hosts of the calls that were kept over a start; their PADRs aren't known any more
+  pub kept : List (ℕ × Subscriber)
 
 abbrev pub new_access : List ℕ → Access
-new_access key = record { key = key; held = [] }
+new_access key = record { key = key; held = []; kept = [] }
 
 -- a LAC is made with no hosts, and an LNS has none
 abbrev pub access_with : Role → List ℕ → Option Access
@@ -137,9 +139,17 @@ abbrev pub padt_to : ℕ → ℕ → Option (List ℕ) → Option (List ℕ)
 padt_to n session None = None
 padt_to n session (Some mac) = Some (frame_bytes (padt (mac_of n) mac session))
 
+-- the host of a call, or that of one that was kept
+abbrev pub or_kept : List (ℕ × Subscriber) → ℕ → Option (List ℕ) → Option (List ℕ)
+or_kept kept session (Some mac) = Some mac
+or_kept kept session None = holder_of kept session
+
+unfoldable pub holder : Access → ℕ → Option (List ℕ)
+holder a session = or_kept a.kept session (holder_of a.held session)
+
 -- the PADT to its host, where a host had it; a session id has 16 bits
 unfoldable pub farewell : ℕ → Access → ℕ → Option (List ℕ)
-farewell n a session = padt_to n (session % 65536) (holder_of a.held (session % 65536))
+farewell n a session = padt_to n (session % 65536) (holder a (session % 65536))
 
 -- ---- what a LAC does
 

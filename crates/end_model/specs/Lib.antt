@@ -27,3 +27,4 @@ pub mod Events
 pub mod End
 pub mod Access
 pub mod Contents
+pub mod Starting

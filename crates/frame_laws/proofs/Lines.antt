@@ -1,5 +1,6 @@
 -- Each line of a schedule.
-use Rattle.std.proofs.Common.{◌≡◌, ◌⊎◌, ⊎_elim, ℕ, ◌-◌, ◌<◌, Bool, false, List, [], ◌∷◌, take, drop, refl, sym, ◌∙◌, subst, Option, Some, None, Result, Ok, Err, arith, ap}
+use Rattle.std.proofs.Common.{◌≡◌, ◌⊎◌, ⊎_elim, ℕ, ◌-◌, ◌<◌, Bool, false, List, [], ◌∷◌, take, drop, refl, sym, ◌∙◌, subst, Option, Some, None, Result, Ok, arith, ap}
+use Rattle.std.proofs.lemmas.Bool.{true≢false}
 use Rattle.std.proofs.lemmas.Option.{none-some}
 use Rattle.std.proofs.lemmas.List.{append-nil}
 use Rattle.std.specs.Prelude.{is_some, slice_get}
@@ -9,7 +10,7 @@ use Rattle.id_table.specs.Order.{at_new, at_other, found_put, same_or_not, ascen
 use Rattle.wire_base.specs.declared.why.Why.{Why}
 use Rattle.wire_base.specs.declared.why.Why.TheVariants as why
 use Rattle.schedule_text.specs.declared.line.Line.{Line}
-use Rattle.schedule_text.specs.declared.line.Line.TheVariants.{Remark, Lac, Lns, OpenUp, Close, Ring, Frame, FromSub, Down, Hang, DropCall, Deliver, Tick}
+use Rattle.schedule_text.specs.declared.line.Line.TheVariants.{Remark, Lac, Lns, OpenUp, Close, Ring, Frame, FromSub, Down, Hang, DropCall, Deliver, Tick, Crash, Stop, Start}
 use Rattle.schedule_text.specs.Grammar.{FitsLine}
 use Rattle.end_model.specs.declared.event.Event.{Event}
 use Rattle.end_model.specs.declared.event.Event.TheVariants as event
@@ -21,7 +22,8 @@ use Rattle.end_names.specs.Names.{address_of}
 use Rattle.end_model.specs.Secrets.{uncovered_event}
 use Rattle.end_model.specs.End.{End, plain_step, step, step_in, gives_only}
 use Rattle.step_laws.specs.Lines.{tested_not, is_lac_at, is_lns_at, is_declared, has_call, has_tunnel, none_there, IsTimed, is_there, IsAt, at_moment, is_later, deliver_line}
-use Rattle.world_model.specs.World.{World, Node, Sender, Lined, quiet_line, with_node, after_step, given, declared, lac_at, lns_at, with_call, with_tunnel, later, new_node, answer_entries, added, block_of, stepped, sender_of, delivers, line}
+use Rattle.world_model.specs.World.{World, Node, Checkpoint, Sender, Lined, quiet_line, with_node, after_step, given, declared, lac_at, lns_at, with_call, with_tunnel, later, new_node, answer_entries, added, block_of, stepped, sender_of, delivers, line}
+use Rattle.step_laws.specs.Calm.{IsCalm, NodeIsCalm, WorldIsCalm, at_calm, calm_step}
 use Rattle.frame_laws.specs.Codecs.{Codecs}
 use Rattle.frame_laws.specs.Past.{Passage, sent_in, handed_in}
 use Rattle.frame_laws.specs.Frames.{GivesInStep}
@@ -273,44 +275,45 @@ down_to w number n session frame node lns if_lns g h =
     ByLine h.number_is (rw (h.role_is, lns, h.node_is, a, b) refl))
     k)
 
-module _ (codecs : Codecs) (laws : StepLaws) (number : ℕ) (w : World) (gs : List Passage) (holds : Holds w gs) (below : Below number gs) (l : Line) where
+module _ (codecs : Codecs) (laws : StepLaws) (number : ℕ) (w : World) (gs : List Passage) (holds : Holds w gs) (below : Below number gs)
+    (calm : WorldIsCalm w) (l : Line) where
   -- on an event as the node reads it
-  timed_ok : (n : ℕ) (ev : Event) (sender : Option Sender) (node : Node) → IsAt w n node → IsReal w gs n ev
+  timed_ok : (n : ℕ) (ev : Event) (sender : Option Sender) (node : Node) (k : Checkpoint) → IsAt w n node → IsReal w gs n ev
       → StepOk number w gs n node.end node.clock (block_of n number) ev
-      (after_step w number n node sender (plain_step node.end node.clock (block_of n number) ev))
-  timed_ok n ev sender node is real = subst
+      (after_step w number n (record node { checkpoint = k }) sender (plain_step node.end node.clock (block_of n number) ev))
+  timed_ok n ev sender node k is real = subst
       (λ (q : Node). StepOk number w gs n q.end q.clock (block_of n number) ev
-      (after_step w number n q sender (plain_step q.end q.clock (block_of n number) ev))) (sym is.same)
-      (step_ok codecs laws number w gs holds below n is.before is.there node.clock node.access ev real node.clock (block_of n number) sender)
+      (after_step w number n (record q { checkpoint = k }) sender (plain_step q.end q.clock (block_of n number) ev))) (sym is.same)
+      (step_ok codecs laws number w gs holds below n is.before is.there node.clock node.access k ev real node.clock (block_of n number) sender)
 
   stepped_ok : (x : Lined) (n : ℕ) (ev : Event) (sender : Option Sender) (o : Result Node Why)
       → ((node : Node) → o ≡ Ok node → IsAt w n node × ((g : Passage) → NodeGives number n node ev g → LineGives number w l g))
       → ((secret : Option (List ℕ)) → IsReal w gs n (uncovered_event secret ev)) → stepped w number n ev sender o ≡ Ok x → LineOk number w gs l x
-  unfolding stepped
-  stepped_ok x n ev sender (Err q) is real h = absurd (cc)
-  stepped_ok x n ev sender (Ok node) is real h =
-      let was = is node refl in
-      let e : after_step w number n node sender (step node.end node.clock (block_of n number) ev) ≡ x = cc in
+  stepped_ok x n ev sender o is real h =
+      calm_step (LineOk number w gs l x) w number x n ev sender o (λ node e. at_calm w n node calm (is node e).0)
+      (λ node e c whole made.
+      let was = is node e in
       let secret = node.end.config.secret in
-      let k = timed_ok n (uncovered_event secret ev) sender node was.0 (real secret) in
-      subst (LineOk number w gs l) e (record {
+      let k = timed_ok n (uncovered_event secret ev) sender node c was.0 (real secret) in
+      subst (LineOk number w gs l) made (record {
         goes = k.goes;
         given = all_map (NodeGives number n node ev) (LineGives number w l) was.1
-            (sent_in (after_step w number n node sender (step node.end node.clock (block_of n number) ev)).done) k.given;
+            (sent_in (after_step w number n (record node { checkpoint = c }) sender (step node.end node.clock (block_of n number) ev)).done) k.given;
         told = k.told;
-      })
+      })) h
 
-module _ (codecs : Codecs) (laws : StepLaws) (number : ℕ) (w : World) (gs : List Passage) (holds : Holds w gs) (below : Below number gs) where
+module _ (codecs : Codecs) (laws : StepLaws) (number : ℕ) (w : World) (gs : List Passage) (holds : Holds w gs) (below : Below number gs)
+    (calm : WorldIsCalm w) where
   -- what is delivered is a packet that was sent
   delivers_ok : (l : Line) (x : Lined) (o : Option Packet) → ((p : Packet) → o ≡ Some p → PacketOk w.nodes gs p)
       → line w number l ≡ delivers w number o → line w number l ≡ Ok x → LineOk number w gs l x
   delivers_ok l x o sent is h = deliver_line (LineOk number w gs l x) w number x (line w number l) o
-      (λ p node found there young so leads.
+      (λ p node found there up young so leads.
       let ev = event.Datagram (address_of p.from) p.bytes in
       let from = sender_of p.from p.origin in
       let here = is_there w p.to node there in
       let ok = sent p found in
-      stepped_ok codecs laws number w gs holds below l x p.to ev from (Ok node)
+      stepped_ok codecs laws number w gs holds below calm l x p.to ev from (Ok node)
       (λ q e. (let same : node ≡ q = cc in rw (← same) (at_moment w p.to node here, no_frame w number p.to l ev from node tt (λ lns. (here, so)))))
       (λ secret. record { from = p.from; number = ok.from; address = refl; bytes_ok = ok.bytes secret }) leads)
       is h
@@ -358,15 +361,24 @@ module _ (codecs : Codecs) (laws : StepLaws) (number : ℕ) (w : World) (gs : Li
 
   -- a frame that an end doesn't see
   done_of : (n : ℕ) (bytes : List ℕ) (l : LacAt w n) (x : Lined) → stepped w number n (event.Frame bytes) None (Ok l.node) ≡ Ok x → x.done ≡ []
-  unfolding stepped after_step given plain_step step_in gives_only
-  done_of n bytes l x h = let e : after_step w number n l.node None (step l.node.end l.node.clock (block_of n number) (event.Frame bytes)) ≡ x = cc in ap (λ (y : Lined). y.done) (sym e)
+  unfolding after_step given plain_step step_in gives_only
+  done_of n bytes l x h =
+      calm_step (x.done ≡ []) w number x n (event.Frame bytes) None (Ok l.node) (λ q e. (let same : l.node ≡ q = cc in subst NodeIsCalm same (calm n l.node l.there)))
+      (λ q e k whole made. ap (λ (y : Lined). y.done) (sym made)) h
+
+  -- no step is cut off
+  uncut : (n : ℕ) (ev : Event) (node : Node) → IsAt w n node → (x : Lined) → stepped w number n ev None (Ok node) ≡ Ok x → x.cut ≡ false
+  unfolding after_step given
+  uncut n ev node is x h =
+      calm_step (x.cut ≡ false) w number x n ev None (Ok node) (λ q e. (let same : node ≡ q = cc in subst NodeIsCalm same (at_calm w n node calm is)))
+      (λ q e k whole made. ap (λ (y : Lined). y.cut) (sym made)) h
 
   only_told : (n : ℕ) (bytes : List ℕ) (l : LacAt w n) (es : List Entry) → ups_in es ≡ [] → (x : Lined) → stepped w number n (event.Frame bytes) None (Ok l.node) ≡ Ok x
       → LineOk number w gs (Frame n bytes) (record x { entries = es })
   unfolding told_of
   only_told n bytes l es none x h =
       let k =
-      stepped_ok codecs laws number w gs holds below (Frame n bytes) x n (event.Frame bytes) None (Ok l.node)
+      stepped_ok codecs laws number w gs holds below calm (Frame n bytes) x n (event.Frame bytes) None (Ok l.node)
       (λ node e. (let same : l.node ≡ node = cc in
       rw (← same) (at_moment w n l.node (is_there w n l.node l.there), of_lac n bytes (event.Frame bytes) l.node l.lac tt)))
       (λ secret. tt) h in
@@ -375,16 +387,16 @@ module _ (codecs : Codecs) (laws : StepLaws) (number : ℕ) (w : World) (gs : Li
   of_frame : (n : ℕ) (bytes : List ℕ) → OfFrame (LineOk number w gs (Frame n bytes)) w number n bytes
   unfolding ups_in
   of_frame n bytes = record {
-    ignored = λ l word is x h. only_told n bytes l (Drops number n word ∷ []) refl x h;
-    answered = λ l because frame is x h. only_told n bytes l (answer_entries number n because frame) (no_ups n because frame) x h;
+    ignored = λ l word is x h u. only_told n bytes l (Drops number n word ∷ []) refl x h;
+    answered = λ l because frame is x h u. only_told n bytes l (answer_entries number n because frame) (no_ups n because frame) x h;
     done = λ l ev is does x h.
-        stepped_ok codecs laws number w gs holds below (Frame n bytes) x n ev None (Ok l.node)
+        stepped_ok codecs laws number w gs holds below calm (Frame n bytes) x n ev None (Ok l.node)
         (λ node e. (let same : l.node ≡ node = cc in
         rw (← same) (at_moment w n l.node (is_there w n l.node l.there), host_gives n bytes l ev does)))
         (host_real n l.access l.node.end bytes ev does) h;
-    entered = λ l src uniq asked is x h.
+    entered = λ l src uniq asked is x h u.
         let k =
-        stepped_ok codecs laws number w gs holds below (Frame n bytes) x n (event.Admitted src) None (Ok (with_host w number n l src uniq))
+        stepped_ok codecs laws number w gs holds below calm (Frame n bytes) x n (event.Admitted src) None (Ok (with_host w number n l src uniq))
         (λ node e. (let same : with_host w number n l src uniq ≡ node = cc in
         (entering w number n l src uniq node same, of_lac n bytes (event.Admitted src) node (let e = ap (λ (q : Node). q.end.role) same in sym e ∙ l.lac) tt)))
         (λ secret. tt) h in
@@ -393,6 +405,7 @@ module _ (codecs : Codecs) (laws : StepLaws) (number : ℕ) (w : World) (gs : Li
           given = k.given;
           told = ups_in-append x.entries (Frames number n (reply_to w number n l src asked) ∷ []) ∙ append-nil (ups_in x.entries) ∙ k.told;
         };
+    cut = λ l ev node is x h off. absurd (true≢false (sym off ∙ uncut n ev node is x h));
   }
 
   -- a line that has a node make a step on an event which gives no frame
@@ -400,51 +413,54 @@ module _ (codecs : Codecs) (laws : StepLaws) (number : ℕ) (w : World) (gs : Li
       → ((secret : Option (List ℕ)) → IsReal w gs n (uncovered_event secret ev)) → line w number l ≡ stepped w number n ev None o
       → stepped w number n ev None o ≡ Ok x → LineOk number w gs l x
   without_frame l x n ev o timed none real is h =
-      stepped_ok codecs laws number w gs holds below l x n ev None o
+      stepped_ok codecs laws number w gs holds below calm l x n ev None o
       (λ node e.
       let here = timed node e in
       (at_moment w n node here, no_frame w number n l ev None node none (λ lns. (here, is ∙ ap (stepped w number n ev None) e))))
       real h
 
-  pub line_ok : (x : Lined) (l : Line) → FitsLine l → line w number l ≡ Ok x → LineOk number w gs l x
+  pub line_ok : (x : Lined) (l : Line) → FitsLine l → IsCalm l → line w number l ≡ Ok x → LineOk number w gs l x
   unfolding line
-  line_ok x (Remark text) fits h =
+  line_ok x (Remark text) fits is_calm h =
       let e : quiet_line w ≡ x = cc in subst (LineOk number w gs (Remark text)) e (quiet_goes number w w gs (Remark text) holds (uncounted w) refl)
-  line_ok x (Lac n m secret hide) fits h =
+  line_ok x (Lac n m secret hide) fits is_calm h =
       added_ok number w gs holds (Lac n m secret hide) n role.Lac (address_of m) secret hide (omega (arith, fits.0.1)) x h
-  line_ok x (Lns n secret) fits h = added_ok number w gs holds (Lns n secret) n role.Lns 0 secret false (omega (arith, fits.0.1)) x h
-  line_ok x (OpenUp n) fits h =
+  line_ok x (Lns n secret) fits is_calm h = added_ok number w gs holds (Lns n secret) n role.Lns 0 secret false (omega (arith, fits.0.1)) x h
+  line_ok x (OpenUp n) fits is_calm h =
       without_frame (OpenUp n) x n event.OpenTunnel (lac_at (at w.nodes n)) (λ node e. is_there w n node (is_lac_at (at w.nodes n) node e).0) tt
       (λ secret. tt) refl h
-  line_ok x (Close n i) fits h =
+  line_ok x (Close n i) fits is_calm h =
       without_frame (Close n i) x n (event.CloseTunnel i) (with_tunnel i (declared (at w.nodes n)))
       (λ node e. is_there w n node (is_declared (at w.nodes n) node (has_tunnel i (declared (at w.nodes n)) node e))) tt (λ secret. tt) refl h
-  line_ok x (Ring n port) fits h =
+  line_ok x (Ring n port) fits is_calm h =
       without_frame (Ring n port) x n (event.Ring port) (lac_at (at w.nodes n)) (λ node e. is_there w n node (is_lac_at (at w.nodes n) node e).0) tt
       (λ secret. tt) refl h
-  line_ok x (Frame n bytes) fits h = frame_line (LineOk number w gs (Frame n bytes)) w number n bytes (of_frame n bytes) x h
-  line_ok x (FromSub n session frame) fits h =
-      stepped_ok codecs laws number w gs holds below (FromSub n session frame) x n (event.Payload session frame) None
+  line_ok x (Frame n bytes) fits is_calm h = frame_line (LineOk number w gs (Frame n bytes)) w number n bytes (of_frame n bytes) x h
+  line_ok x (FromSub n session frame) fits is_calm h =
+      stepped_ok codecs laws number w gs holds below calm (FromSub n session frame) x n (event.Payload session frame) None
       (with_call session (lac_at (at w.nodes n)))
       (λ node e.
       let is = is_lac_at (at w.nodes n) node (has_call session (lac_at (at w.nodes n)) node e) in
       (at_moment w n node (is_there w n node is.0), from_sub w number n session frame node is.1))
       (λ secret. tt) h
-  line_ok x (Down n session frame) fits h =
-      stepped_ok codecs laws number w gs holds below (Down n session frame) x n (event.Lower session frame) None (with_call session (lns_at (at w.nodes n)))
+  line_ok x (Down n session frame) fits is_calm h =
+      stepped_ok codecs laws number w gs holds below calm (Down n session frame) x n (event.Lower session frame) None (with_call session (lns_at (at w.nodes n)))
       (λ node e.
       let is = is_lns_at (at w.nodes n) node (has_call session (lns_at (at w.nodes n)) node e) in
       let here = is_there w n node is.0 in
       (at_moment w n node here, down_to w number n session frame node is.1 (λ lns. (here, ap (stepped w number n (event.Lower session frame) None) e))))
       (λ secret. tt) h
-  line_ok x (Hang n session) fits h =
+  line_ok x (Hang n session) fits is_calm h =
       without_frame (Hang n session) x n (event.Hang session) (with_call session (lac_at (at w.nodes n)))
       (λ node e. is_there w n node (is_lac_at (at w.nodes n) node (has_call session (lac_at (at w.nodes n)) node e)).0) tt (λ secret. tt) refl h
-  line_ok x (DropCall n session) fits h =
+  line_ok x (DropCall n session) fits is_calm h =
       without_frame (DropCall n session) x n (event.DropCall session) (with_call session (declared (at w.nodes n)))
       (λ node e. is_there w n node (is_declared (at w.nodes n) node (has_call session (declared (at w.nodes n)) node e))) tt (λ secret. tt) refl h
-  line_ok x (Deliver k) fits h =
+  line_ok x (Deliver k) fits is_calm h =
       delivers_ok (Deliver k) x (slice_get w.packets (k - 1)) (λ p e. all_at (PacketOk w.nodes gs) w.packets (k - 1) p e holds.packets) refl h
-  line_ok x (Tick n milliseconds) fits h =
+  line_ok x (Tick n milliseconds) fits is_calm h =
       without_frame (Tick n milliseconds) x n event.Tick (later milliseconds (declared (at w.nodes n)))
       (λ node e. is_later w n milliseconds node e) tt (λ secret. tt) refl h
+  line_ok x (Crash n) fits is_calm h = absurd is_calm
+  line_ok x (Stop n commit call kept) fits is_calm h = absurd is_calm
+  line_ok x (Start n) fits is_calm h = absurd is_calm

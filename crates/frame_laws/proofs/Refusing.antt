@@ -7,7 +7,7 @@ use Rattle.end_model.specs.declared.event.Event.{Event}
 use Rattle.end_model.specs.declared.moves.Refused.{Refused}
 use Rattle.end_model.specs.Reading.{message_in, call_fault_in}
 use Rattle.end_model.specs.End.{End}
-use Rattle.step_laws.specs.Moves.{Came, IsNext, Hears, heard_from, WhyRefused, IsNotGranted, IsOutgoing, IsReplyToNone, IsWrong, Refuses}
+use Rattle.step_laws.specs.Moves.{Hears, heard_from, WhyRefused, IsNotGranted, IsOutgoing, IsReplyToNone, IsWrong, Refuses}
 use Rattle.step_laws.specs.Codes.{CodesFit, refusal_codes_fit}
 use Rattle.frame_laws.proofs.Facts.{Nodes}
 use Rattle.frame_laws.proofs.Leads.{Heard, heard_letter, heard_faulty}

@@ -10,6 +10,7 @@ use Rattle.end_names.specs.declared.role.Role.TheVariants.{Lac}
 use Rattle.world_model.specs.declared.refusal.Refusal.{Refusal}
 use Rattle.world_model.specs.World.{Node, Deed, Lined, empty_world, line}
 use Rattle.world_model.specs.Run.{Run, empty_run, after_line, goes_on, run_from}
+use Rattle.step_laws.specs.Calm.{IsCalm, AreCalm, WorldIsCalm, calm_line}
 use Rattle.frame_laws.specs.Codecs.{Codecs}
 use Rattle.frame_laws.specs.Births.{BirthsOfRuns}
 use Rattle.frame_laws.specs.Past.{Passage, sent_by, handed_by, sent_in, handed_in}
@@ -49,18 +50,20 @@ was_sent_later gs hs h s = record { passage = s.passage; there = among_left s.pa
 -- what holds of a run before the line with a number
 record RunOk (number : ℕ) (r : Run) : Type 0 where
   pub holds : Holds r.world (sent_in r.done)
+  pub calm : WorldIsCalm r.world
   pub lines : Below number (sent_in r.done)
   pub sent : AllByRecursion (WasSent (sent_in r.done)) (handed_in r.done)
   -- each frame that was sent is in a packet of the world
   pub carried : AllByRecursion (IsCarried r.world.packets) (sent_in r.done)
 
-run_goes_on : (number : ℕ) (r : Run) (x : Lined) → RunOk number r → Goes number r.world (sent_in r.done) x.world x.done → RunOk (number + 1) (after_line r x)
-run_goes_on number r x ok g =
+run_goes_on : (number : ℕ) (r : Run) (x : Lined) → RunOk number r → WorldIsCalm x.world → Goes number r.world (sent_in r.done) x.world x.done → RunOk (number + 1) (after_line r x)
+run_goes_on number r x ok calm g =
     let gs = sent_in r.done in
     let hs = sent_in x.done in
     let is : sent_in (r.done ++ x.done) ≡ gs ++ hs = sent_in-append r.done x.done in
     record {
       holds = rw is g.holds;
+      calm = calm;
       lines = rw is
           (all_append _ gs hs (all_map (λ (p : Passage). p.line < number) (λ (p : Passage). p.line < number + 1) (λ p lt. omega arith) gs ok.lines) g.lines);
       sent = rw (is, handed_in-append r.done x.done)
@@ -76,6 +79,7 @@ unfolding sent_in handed_in
 begins =
     record {
       holds = record { nodes = λ n node h. absurd (none-some node (sym (at-none n) ∙ h)); packets = tt };
+      calm = λ n node h. absurd (none-some node (sym (at-none n) ∙ h));
       lines = tt;
       sent = tt;
       carried = tt;
@@ -89,36 +93,42 @@ no_nodes : (i s x : ℕ) → Born empty_world.nodes i s x → None ≡ Some x
 no_nodes i s x h = sym (ap (λ (o : Option Node). birth_in_node o s) (at-none i)) ∙ h
 
 stopped : (number : ℕ) (r : Run) (fault : Option (ℕ × Refusal)) → RunOk number r → RunOk number (record r { fault = fault })
-stopped number r fault ok = record { holds = ok.holds; lines = ok.lines; sent = ok.sent; carried = ok.carried }
+stopped number r fault ok = record { holds = ok.holds; calm = ok.calm; lines = ok.lines; sent = ok.sent; carried = ok.carried }
 
 -- the lines of a text from a place on
 abbrev StandsAt : List Line → ℕ → List Line → Type 0
 StandsAt all number ls = (k : ℕ) → slice_get all (number - 1 + k) ≡ slice_get ls k
 
 module _ (codecs : Codecs) (laws : StepLaws) where
-  line_of_run : (number : ℕ) (r : Run) → RunOk number r → (l : Line) (x : Lined) → FitsLine l → line r.world number l ≡ Ok x
+  line_of_run : (number : ℕ) (r : Run) → RunOk number r → (l : Line) (x : Lined) → FitsLine l → IsCalm l → line r.world number l ≡ Ok x
       → LineOk number r.world (sent_in r.done) l x
-  line_of_run number r ok l x fits h = line_ok codecs laws number r.world (sent_in r.done) ok.holds ok.lines x l fits h
+  line_of_run number r ok l x fits calm h = line_ok codecs laws number r.world (sent_in r.done) ok.holds ok.lines ok.calm x l fits calm h
 
-  ended_from : (number : ℕ) (lines : List Line) (r : Run) → AreLines lines → RunOk number r → Ended (run_from number lines r)
+  -- the run behind a line
+  behind_line : (number : ℕ) (r : Run) → RunOk number r → (l : Line) (x : Lined) → FitsLine l → IsCalm l → line r.world number l ≡ Ok x
+      → RunOk (number + 1) (after_line r x)
+  behind_line number r ok l x fits calm h =
+      run_goes_on number r x ok (calm_line r.world number ok.calm x l calm h).world (line_of_run number r ok l x fits calm h).goes
+
+  ended_from : (number : ℕ) (lines : List Line) (r : Run) → AreLines lines → AreCalm lines → RunOk number r → Ended (run_from number lines r)
   unfolding run_from
-  ended_from number [] r fits ok = (number, ok)
-  ended_from number (l ∷ ls) r fits ok =
+  ended_from number [] r fits calm ok = (number, ok)
+  ended_from number (l ∷ ls) r fits calm ok =
       where_it_fits Ended _ r number (line r.world number l) (λ fault. (number, stopped number r fault ok))
-      (λ x h. ended_from (number + 1) ls (after_line r x) fits.1 (run_goes_on number r x ok (line_of_run number r ok l x fits.0 h).goes))
+      (λ x h. ended_from (number + 1) ls (after_line r x) fits.1 calm.1 (behind_line number r ok l x fits.0 calm.0 h))
 
   -- births stay apart where there are few lines
-  counted_from : (number : ℕ) (lines : List Line) (r : Run) → AreLines lines → RunOk number r
+  counted_from : (number : ℕ) (lines : List Line) (r : Run) → AreLines lines → AreCalm lines → RunOk number r
       → r.world.born + 65536 * (length lines) + 65536 < 2 ^ 64 - 1 → Counted r.world.nodes r.world.born
       → let v = (run_from number lines r).world in Counted v.nodes v.born
   unfolding run_from
-  counted_from number [] r fits ok few had = had
-  counted_from number (l ∷ ls) r fits ok few had =
+  counted_from number [] r fits calm ok few had = had
+  counted_from number (l ∷ ls) r fits calm ok few had =
       where_it_fits (λ v. Counted v.world.nodes v.world.born) _ r number (line r.world number l) (λ fault. had)
       (λ x h.
-      let g = (line_of_run number r ok l x fits.0 h).goes in
+      let g = (line_of_run number r ok l x fits.0 calm.0 h).goes in
       let more = g.counts.few in
-      counted_from (number + 1) ls (after_line r x) fits.1 (run_goes_on number r x ok g) (omega (arith, few)) (g.counts.counted (omega (arith, few)) had))
+      counted_from (number + 1) ls (after_line r x) fits.1 calm.1 (behind_line number r ok l x fits.0 calm.0 h) (omega (arith, few)) (g.counts.counted (omega (arith, few)) had))
 
   -- where a line fits, the run goes on behind it
   goes_ok : (number : ℕ) (r : Run) (l : Line) (x : Lined) (rest : List Line) → line r.world number l ≡ Ok x
@@ -141,16 +151,16 @@ module _ (codecs : Codecs) (laws : StepLaws) where
       ByItsLcp before ls l parts (number_is ∙ counted) lns (subst (λ (q : Run). GivesByLcp q.world l g) (sym same) gives)
 
   -- each frame that was sent is given by its line
-  given_from : (all : List Line) (number : ℕ) (lines : List Line) (r : Run) → AreLines lines → RunOk number r → 0 < number → StandsAt all number lines
+  given_from : (all : List Line) (number : ℕ) (lines : List Line) (r : Run) → AreLines lines → AreCalm lines → RunOk number r → 0 < number → StandsAt all number lines
       → (before : List Line) → all ≡ before ++ lines → number ≡ length before + 1 → ((rest : List Line) → run_from 1 (before ++ rest) empty_run ≡ run_from number rest r)
       → AllByRecursion (IsGiven all) (sent_in r.done) → AllByRecursion (IsGiven all) (sent_in (run_from number lines r).done)
   unfolding run_from
-  given_from all number [] r fits ok some at_line before parts counted follows had = had
-  given_from all number (l ∷ ls) r fits ok some at_line before parts counted follows had =
+  given_from all number [] r fits calm ok some at_line before parts counted follows had = had
+  given_from all number (l ∷ ls) r fits calm ok some at_line before parts counted follows had =
       where_it_fits (λ v. AllByRecursion (IsGiven all) (sent_in v.done)) _ r number (line r.world number l) (λ fault. had)
       (λ x h.
-      let k = line_of_run number r ok l x fits.0 h in
-      given_from all (number + 1) ls (after_line r x) fits.1 (run_goes_on number r x ok k.goes) (omega arith)
+      let k = line_of_run number r ok l x fits.0 calm.0 h in
+      given_from all (number + 1) ls (after_line r x) fits.1 calm.1 (behind_line number r ok l x fits.0 calm.0 h) (omega arith)
       (λ j. (let e : number + 1 - 1 + j ≡ number - 1 + (suc j) = omega arith in rw e (at_line (suc j))))
       (before ++ l ∷ []) (parts ∙ sym (append_assoc before (l ∷ []) ls))
       (let longer = length-append before (l ∷ []) in omega (arith, longer, counted))
@@ -160,27 +170,27 @@ module _ (codecs : Codecs) (laws : StepLaws) where
       (sent_in x.done) k.given))))
 
   -- the report hands up what the moves do
-  told_from : (number : ℕ) (lines : List Line) (r : Run) → AreLines lines → RunOk number r → ups_in r.entries ≡ told_of r.done
+  told_from : (number : ℕ) (lines : List Line) (r : Run) → AreLines lines → AreCalm lines → RunOk number r → ups_in r.entries ≡ told_of r.done
       → ups_in (run_from number lines r).entries ≡ told_of (run_from number lines r).done
   unfolding run_from
-  told_from number [] r fits ok had = had
-  told_from number (l ∷ ls) r fits ok had =
+  told_from number [] r fits calm ok had = had
+  told_from number (l ∷ ls) r fits calm ok had =
       where_it_fits (λ v. ups_in v.entries ≡ told_of v.done) _ r number (line r.world number l) (λ fault. had)
       (λ x h.
-      let k = line_of_run number r ok l x fits.0 h in
-      told_from (number + 1) ls (after_line r x) fits.1 (run_goes_on number r x ok k.goes)
+      let k = line_of_run number r ok l x fits.0 calm.0 h in
+      told_from (number + 1) ls (after_line r x) fits.1 calm.1 (behind_line number r ok l x fits.0 calm.0 h)
       (ups_in-append r.entries x.entries ∙ ap (λ es. es ++ ups_in x.entries) had ∙ ap (λ es. told_of r.done ++ es) k.told ∙ sym (told_of-append r.done x.done)))
 
   pub reports_of_runs : ReportsOfRuns
   unfolding ups_in told_of
-  reports_of_runs lines fits = told_from 1 lines empty_run fits begins refl
+  reports_of_runs lines fits calm = told_from 1 lines empty_run fits calm begins refl
 
   pub frames_of_runs : FramesOfRuns
-  frames_of_runs lines fits = (ended_from 1 lines empty_run fits begins).1.sent
+  frames_of_runs lines fits calm = (ended_from 1 lines empty_run fits calm begins).1.sent
 
   pub births_of_runs : BirthsOfRuns
-  births_of_runs lines fits few birth n session m other a b =
-      let c = counted_from 1 lines empty_run fits begins (omega (arith, few)) (record {
+  births_of_runs lines fits calm few birth n session m other a b =
+      let c = counted_from 1 lines empty_run fits calm begins (omega (arith, few)) (record {
         most = λ i s x h. absurd (none-some x (no_nodes i s x h));
         apart = λ i s j q x h k one two. absurd (none-some x (no_nodes i s x h));
       }) in
@@ -190,15 +200,15 @@ module _ (codecs : Codecs) (laws : StepLaws) where
       (plays_at w.nodes n Lac a.node a.is a.role) (plays_at w.nodes m Lac b.node b.is b.role)
 
   pub packets_of_runs : PacketsOfRuns
-  packets_of_runs lines fits = (ended_from 1 lines empty_run fits begins).1.carried
+  packets_of_runs lines fits calm = (ended_from 1 lines empty_run fits calm begins).1.carried
 
   pub given_in_runs : GivenInRuns
   unfolding sent_in
-  given_in_runs lines fits =
-      given_from lines 1 lines empty_run fits begins (omega arith) (λ k. (let e : 1 - 1 + k ≡ k = omega arith in rw e refl)) [] refl refl (λ rest. refl) tt
+  given_in_runs lines fits calm =
+      given_from lines 1 lines empty_run fits calm begins (omega arith) (λ k. (let e : 1 - 1 + k ≡ k = omega arith in rw e refl)) [] refl refl (λ rest. refl) tt
 
   pub looks_of_runs : LooksOfRuns
-  looks_of_runs lines fits n node f = ((ended_from 1 lines empty_run fits begins).1.holds.nodes n node f).looks
+  looks_of_runs lines fits calm n node f = ((ended_from 1 lines empty_run fits calm begins).1.holds.nodes n node f).looks
 
   pub facts_of_runs : FactsOfRuns
-  facts_of_runs lines fits = (ended_from 1 lines empty_run fits begins).1.holds
+  facts_of_runs lines fits calm = (ended_from 1 lines empty_run fits calm begins).1.holds

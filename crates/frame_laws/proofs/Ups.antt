@@ -8,7 +8,7 @@ use Rattle.end_model.specs.declared.out.Out.{Out}
 use Rattle.end_model.specs.declared.out.Out.TheVariants.{Send, Up, Gone, Drop, Cause}
 use Rattle.end_names.specs.declared.role.Role.{Role}
 use Rattle.end_names.specs.Names.{node_of}
-use Rattle.world_model.specs.Texts.{Entry, Sends, HandsUp, Ends, Frames, Drops, Causes}
+use Rattle.world_model.specs.Texts.{Entry, Sends, HandsUp, Ends, Frames, Drops, Causes, Stopped}
 use Rattle.end_model.specs.End.{Stepped}
 use Rattle.world_model.specs.World.{World, Sender, Deed, birth_in, birth_of, sent, shown, entry_of, entries_of}
 use Rattle.step_laws.specs.Ups.{ups_of_output, ups_of_move}
@@ -25,6 +25,7 @@ ups_in-append (Ends line node session padt ∷ es) fs = ups_in-append es fs
 ups_in-append (Drops line node why ∷ es) fs = ups_in-append es fs
 ups_in-append (Frames line node bytes ∷ es) fs = ups_in-append es fs
 ups_in-append (Causes line node cause ∷ es) fs = ups_in-append es fs
+ups_in-append (Stopped line node ∷ es) fs = ups_in-append es fs
 
 pub told_of-append : (ds es : List Deed) → told_of (ds ++ es) ≡ told_of ds ++ told_of es
 unfolding told_of

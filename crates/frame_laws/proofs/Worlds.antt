@@ -28,7 +28,7 @@ use Rattle.end_names.specs.Names.{address_of, node_of}
 use Rattle.end_model.specs.Reading.{body_of}
 use Rattle.end_model.specs.Tunnels.{Tunnel}
 use Rattle.end_model.specs.End.{plain_step, End, Stepped}
-use Rattle.world_model.specs.World.{World, Node, Sender, Deed, Lined, with_node, moved_all, sent, shown, shown_all, given, after_step}
+use Rattle.world_model.specs.World.{World, Node, Checkpoint, Sender, Deed, Lined, with_node, moved_all, sent, shown, shown_all, given, after_step}
 use Rattle.step_laws.specs.Letters.{Among, Carries, ALetter, Nothing, AFrame, HasOutput}
 use Rattle.step_laws.specs.Links.{WhySent, IsGiven, IsOfLcp}
 use Rattle.step_laws.specs.Steps.{InChain, IsOfMoves, IsDecline, IsChain}
@@ -257,14 +257,14 @@ pub record StepOk (number : ℕ) (w : World) (gs : List Passage) (n : ℕ) (e : 
   pub told : ups_in x.entries ≡ told_of x.done
 
 module _ (codecs : Codecs) (laws : StepLaws) (number : ℕ) (w : World) (gs : List Passage) (holds : Holds w gs) (below : Below number gs)
-    (n : ℕ) (old : Node) (was : at w.nodes n ≡ Some old) (clock : ℕ) (access : Option Access) (ev : Event) (real : IsReal w gs n ev)
+    (n : ℕ) (old : Node) (was : at w.nodes n ≡ Some old) (clock : ℕ) (access : Option Access) (checkpoint : Checkpoint) (ev : Event) (real : IsReal w gs n ev)
     (moment : ℕ) (block : List ℕ) (sender : Option Sender) where
   ok : NodeOk w.nodes n old
   ok = holds.nodes n old was
 
-  -- the node at the moment of the step
+  -- the node at the moment of the step, with what it committed
   abbrev timed : Node
-  timed = record old { clock = clock; access = access }
+  timed = record old { clock = clock; access = access; checkpoint = checkpoint }
 
   abbrev s : Stepped
   s = plain_step old.end moment block ev

@@ -21,6 +21,7 @@ use Rattle.end_model.specs.Reading.{body_of, message_in, CallFault, call_fault_i
 use Rattle.session_looks.specs.Frames.{frame_of}
 use Rattle.end_model.specs.Calls.{is_up}
 use Rattle.end_model.specs.End.{End}
+use Rattle.step_laws.specs.Calm.{AreCalm}
 use Rattle.step_laws.specs.Letters.{Among}
 use Rattle.step_laws.specs.Looks.{LooksAreTrue, LooksStayTrue}
 use Rattle.step_laws.specs.Steps.{AreKept, StepsAreChains}
@@ -198,10 +199,10 @@ pub record StepLaws : Type 0 where
   pub looks : LooksStayTrue
   pub ups : UpsAreMoves
 
--- after the run of each list of lines of the grammar, what the data plane of each node sees is so
+-- after the run of each list of lines of the grammar, where no node crashes, is to stop, or starts, what the data plane of each node sees is so
 abbrev pub LooksOfRuns : Type 0
-LooksOfRuns = (lines : List Line) → AreLines lines → (n : ℕ) (node : Node) → at (run lines).world.nodes n ≡ Some node → LooksAreTrue node.end
+LooksOfRuns = (lines : List Line) → AreLines lines → AreCalm lines → (n : ℕ) (node : Node) → at (run lines).world.nodes n ≡ Some node → LooksAreTrue node.end
 
 -- all of it
 abbrev pub FactsOfRuns : Type 0
-FactsOfRuns = (lines : List Line) → AreLines lines → Holds (run lines).world (past_of lines).sent
+FactsOfRuns = (lines : List Line) → AreLines lines → AreCalm lines → Holds (run lines).world (past_of lines).sent

@@ -25,6 +25,7 @@ use Rattle.end_model.specs.Calls.{number_of}
 use Rattle.end_model.specs.Tunnels.{Tunnel}
 use Rattle.end_model.specs.End.{End, plain_step}
 use Rattle.world_model.specs.Run.{run}
+use Rattle.step_laws.specs.Calm.{AreCalm}
 use Rattle.step_laws.specs.Letters.{Among}
 use Rattle.step_laws.specs.Links.{GivesFrame}
 use Rattle.step_laws.specs.Moves.{Chain}
@@ -137,12 +138,12 @@ pub data IsGiven (lines : List Line) (g : Passage) : Type 0 where
   ByItsLcp : (before after : List Line) (l : Line) → lines ≡ before ++ l ∷ after → g.line ≡ length before + 1 → g.role ≡ Lns
       → GivesByLcp (run before).world l g → IsGiven lines g
 
--- in the run of each list of lines of the grammar, whether each of them fits or one ends the run
+-- in the run of each list of lines of the grammar, where no node crashes, is to stop, or starts, and whether each line fits or one ends the run
 abbrev pub FramesOfRuns : Type 0
-FramesOfRuns = (lines : List Line) → AreLines lines → AreSent (past_of lines)
+FramesOfRuns = (lines : List Line) → AreLines lines → AreCalm lines → AreSent (past_of lines)
 
 abbrev pub PacketsOfRuns : Type 0
-PacketsOfRuns = (lines : List Line) → AreLines lines → AllByRecursion (IsCarried (run lines).world.packets) (past_of lines).sent
+PacketsOfRuns = (lines : List Line) → AreLines lines → AreCalm lines → AllByRecursion (IsCarried (run lines).world.packets) (past_of lines).sent
 
 abbrev pub GivenInRuns : Type 0
-GivenInRuns = (lines : List Line) → AreLines lines → AllByRecursion (IsGiven lines) (past_of lines).sent
+GivenInRuns = (lines : List Line) → AreLines lines → AreCalm lines → AllByRecursion (IsGiven lines) (past_of lines).sent

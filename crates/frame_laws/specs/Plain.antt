@@ -1,6 +1,6 @@
 -- What an end reads of what another one sends, whatever secret it reads it with: what isn't hidden is the same, and a request whose number
 -- is hidden is that request, with some number, or with one that can't be had.
-use Rattle.std.proofs.Common.{◌≡◌, ℕ, ◌^◌, ◌<◌, ◌≤◌, Bool, true, false, List, [], ◌∷◌, ◌++◌, length, refl, ap, ◌∙◌, Option, Some, None, Result, Ok, Err, inl, inr, arith}
+use Rattle.std.proofs.Common.{◌≡◌, ℕ, ◌^◌, ◌<◌, ◌≤◌, true, false, List, [], ◌∷◌, ◌++◌, length, refl, ap, ◌∙◌, Option, Some, None, Ok, Err, inl, inr, arith}
 use Rattle.std.proofs.lemmas.Bool.{cases_Bool, le-leb}
 use Rattle.wire_base.specs.declared.cause.Cause.TheVariants as cause
 use Rattle.wire_base.specs.declared.why.Why.TheVariants as why

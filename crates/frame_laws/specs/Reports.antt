@@ -2,9 +2,10 @@
 use Rattle.std.specs.Prelude.{◌≡◌, List, [], ◌∷◌, ◌++◌}
 use Rattle.schedule_text.specs.declared.line.Line.{Line}
 use Rattle.schedule_text.specs.Grammar.{AreLines}
+use Rattle.step_laws.specs.Calm.{AreCalm}
 use Rattle.end_model.specs.declared.moves.Move.{Move}
 use Rattle.end_model.specs.declared.moves.Move.TheVariants as move
-use Rattle.world_model.specs.Texts.{Entry, Sends, HandsUp, Ends, Frames, Drops, Causes}
+use Rattle.world_model.specs.Texts.{Entry, Sends, HandsUp, Ends, Frames, Drops, Causes, Stopped}
 use Rattle.world_model.specs.World.{Deed}
 use Rattle.world_model.specs.Run.{run}
 
@@ -17,6 +18,7 @@ ups_in (Ends line node session padt ∷ es) = ups_in es
 ups_in (Frames line node bytes ∷ es) = ups_in es
 ups_in (Drops line node why ∷ es) = ups_in es
 ups_in (Causes line node cause ∷ es) = ups_in es
+ups_in (Stopped line node ∷ es) = ups_in es
 
 -- those that tell of the frames that were handed up
 abbrev pub told_by : Deed → Move → List Entry
@@ -27,6 +29,6 @@ unfoldable pub told_of : List Deed → List Entry
 told_of [] = []
 told_of (d ∷ ds) = told_by d d.move ++ told_of ds
 
--- in the run of each list of lines of the grammar
+-- in the run of each list of lines of the grammar, where no node crashes, is to stop, or starts
 abbrev pub ReportsOfRuns : Type 0
-ReportsOfRuns = (lines : List Line) → AreLines lines → ups_in (run lines).entries ≡ told_of (run lines).done
+ReportsOfRuns = (lines : List Line) → AreLines lines → AreCalm lines → ups_in (run lines).entries ≡ told_of (run lines).done

@@ -28,8 +28,9 @@ fn laws_of_steps()
     step_laws::ups_are_moves();
 }
 
-/// Over every list of lines of the grammar, each frame that an end hands up in a call was sent at an earlier line, in a
-/// call of the same birth, by an end of the other kind, at the node that the call's tunnel goes to.
+/// Over every list of lines of the grammar in which no node crashes, is to stop, or starts, each frame that an end hands
+/// up in a call was sent at an earlier line, in a call of the same birth, by an end of the other kind, at the node that the
+/// call's tunnel goes to.
 pub fn frames_were_sent()
     ensures { FramesOfRuns }
 {
@@ -37,10 +38,10 @@ pub fn frames_were_sent()
     laws_of_steps();
 }
 
-/// Over every list of lines of the grammar, each frame that counts as sent is one that its line gave to its end in its
-/// call, or at a LAC one that the host of the call sent in the Ethernet frame of its line, or at an LNS an LCP packet that
-/// the LCP end of the call gave in its line; and it is carried by a packet, from the node that sent it to the one that the
-/// call's tunnel goes to.
+/// Over every list of lines of the grammar in which no node crashes, is to stop, or starts, each frame that counts as sent
+/// is one that its line gave to its end in its call, or at a LAC one that the host of the call sent in the Ethernet frame of
+/// its line, or at an LNS an LCP packet that the LCP end of the call gave in its line; and it is carried by a packet, from
+/// the node that sent it to the one that the call's tunnel goes to.
 pub fn sent_frames_are_packets()
     ensures packets { PacketsOfRuns }
     ensures given { GivenInRuns }
@@ -49,8 +50,8 @@ pub fn sent_frames_are_packets()
     laws_of_steps();
 }
 
-/// In every run, the entries of the report that tell of frames which are handed up are, in order, those of the moves that
-/// hand one up.
+/// In every run of lines of the grammar in which no node crashes, is to stop, or starts, the entries of the report that
+/// tell of frames which are handed up are, in order, those of the moves that hand one up.
 pub fn reports_tell_the_past()
     ensures { ReportsOfRuns }
 {
@@ -58,7 +59,8 @@ pub fn reports_tell_the_past()
     laws_of_steps();
 }
 
-/// What holds of every world: of its nodes and their calls, and of each packet.
+/// What holds of every world, where no node crashes, is to stop, or starts: of its nodes and their calls, and of each
+/// packet.
 pub fn facts_hold()
     ensures { FactsOfRuns }
 {
@@ -66,7 +68,8 @@ pub fn facts_hold()
     laws_of_steps();
 }
 
-/// After every list of lines of the grammar, what the data plane of each node sees of a session is so of its call.
+/// After every list of lines of the grammar in which no node crashes, is to stop, or starts, what the data plane of each
+/// node sees of a session is so of its call.
 pub fn looks_are_true()
     ensures { LooksOfRuns }
 {
@@ -74,8 +77,8 @@ pub fn looks_are_true()
     laws_of_steps();
 }
 
-/// After every list of fewer than 2^47 lines, two sessions of LACs with one birth are one session: a birth is one
-/// subscriber's call.
+/// After every list of fewer than 2^47 lines in which no node crashes, is to stop, or starts, two sessions of LACs with
+/// one birth are one session: a birth is one subscriber's call.
 pub fn births_are_apart()
     ensures { BirthsOfRuns }
 {

@@ -111,6 +111,14 @@ impl Ids {
         self.ceiling = ceiling;
     }
 
+    /// The last number of the space.
+    pub fn last(&self) -> u32
+        ensures number { result ≡ self.now.last }
+        ensures above { self.now.ceiling ≤ self.now.last }
+    {
+        self.last
+    }
+
     /// Up to which number may be drawn.
     pub fn ceiling(&self) -> u32
         ensures { result ≡ self.now.ceiling }

@@ -12,4 +12,5 @@ status_of (exits.HalfSpace line number count) = 4
 status_of exits.ReadFault = 5
 status_of exits.WriteFault = 6
 status_of (exits.TooLong lines) = 7
+status_of (exits.StoreFull records) = 13
 status_of exits.NoMemory = 20

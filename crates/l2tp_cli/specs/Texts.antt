@@ -32,9 +32,13 @@ help_text =
     codes "  drop N S              an operator closes call S of node N\n" ++
     codes "  deliver P             packet P of the report reaches the node that it was sent to\n" ++
     codes "  tick N MS             the clock of node N goes on by MS milliseconds, and what is due is done\n" ++
+    codes "  crash N               node N crashes: all but what it committed is lost\n" ++
+    codes "  stop N C J KEEP       node N is to stop inside its C-th commit from now on, at call J of its disk\n" ++
+    codes "  start N               node N, which is down, starts again over what it committed\n" ++
     codes "N and M are 1 to 255, K, S and T 1 to 65535, P is 1 to 4294967295, MS 0 to 86400000, without leading zeros. HEX is a frame\n" ++
     codes "from its protocol field on, 2 to 1494 bytes as hex digits in lower case, and in a frame line an Ethernet frame from its\n" ++
-    codes "destination address on, 1 to 2048 bytes. SECRET is the secret that both ends of a tunnel share, 1 to 64 bytes as hex\n" ++
+    codes "destination address on, 1 to 2048 bytes. C is 1 to 255 and J 1 to 4; KEEP is kept, with a J of 3 or 4, where the record that is\n" ++
+    codes "committed there stays, or lost. SECRET is the secret that both ends of a tunnel share, 1 to 64 bytes as hex\n" ++
     codes "digits, or - where there is none. MODE is plain, or hide where there is a secret: then the numbers of the callers are\n" ++
     codes "hidden by it. A schedule has at most 1048576 lines and 67108864 bytes.\n" ++
     codes "M of a lac line may be declared later, or never: then what is sent to it can't be delivered.\n" ++
@@ -49,6 +53,8 @@ help_text =
     codes "  tunnel   that node has no such tunnel, or has closed it\n" ++
     codes "  call     that node has no such call\n" ++
     codes "  packet   no such packet was sent\n" ++
+    codes "  down     that node is down\n" ++
+    codes "  up       that node is up, so it can't start\n" ++
     codes "\n" ++
     codes "A packet may be delivered at any time, and as often as wanted. One that has outlived half of the numbers of its channel\n" ++
     codes "ends the run with status 4: its number is more than 32767 below what the addressee took, or what was acknowledged to it.\n" ++
@@ -61,6 +67,8 @@ help_text =
     codes "  L frame N HEX                       node N sends an Ethernet frame to a PPPoE host\n" ++
     codes "  L drop N WHY                        node N ignores what came\n" ++
     codes "  L cause N WHY                       node N refuses what was asked for, or ends a call, or closes a tunnel\n" ++
+    codes "  L stopped N                         node N stopped inside a commit, and is down\n" ++
+    codes "  end N down                          node N is down\n" ++
     codes "  end N tunnel T M R STATE 0 current complete\n" ++
     codes "                                      node N has tunnel T to node M, which calls it R\n" ++
     codes "  end N call T S R STATE B            in tunnel T it has call S, which the other end calls R, the B-th of all calls\n" ++
@@ -71,7 +79,7 @@ help_text =
     codes "packets were sent, frames were handed up, calls were born, and tunnels agree at the end. The same words give the same six lines.\n" ++
     codes "\n" ++
     codes "status: 0 done, 1 usage, 2 bad line, 3 line that does not fit, 4 packet that is too old, 5 read fault, 6 write fault,\n" ++
-    codes "        7 too long, 20 no memory\n"
+    codes "        7 too long, 13 checkpoint that is full, 20 no memory\n"
 
 abbrev pub version_text : List ℕ
 version_text = codes "l2tp 0.1.0\n"

@@ -31,6 +31,7 @@ fn refused(line: u64, refusal: Refusal) -> Exit
             number,
             count,
         },
+        Refusal::StoreFull { records } => Exit::StoreFull { records },
     }
 }
 

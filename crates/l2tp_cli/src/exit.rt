@@ -18,6 +18,8 @@ pub enum Exit {
     /// The first line that delivers a packet which has outlived half of the numbers of its channel, counted from 1: an Ns or
     /// Nr of the packet, without an end, and how many messages the tunnel that it is for has taken, or has acknowledged.
     HalfSpace { line: u64, number: u64, count: u64 },
+    /// A node's checkpoint has so many records, and no room for those of the step of a line.
+    StoreFull { records: u32 },
     /// The source failed.
     ReadFault,
     /// The sink failed.
@@ -42,6 +44,7 @@ impl Exit {
             Exit::ReadFault => 5,
             Exit::WriteFault => 6,
             Exit::TooLong { .. } => 7,
+            Exit::StoreFull { .. } => 13,
             Exit::NoMemory => 20,
         }
     }

@@ -31,9 +31,13 @@ A schedule is a list of lines, with one space between words:
   drop N S              an operator closes call S of node N
   deliver P             packet P of the report reaches the node that it was sent to
   tick N MS             the clock of node N goes on by MS milliseconds, and what is due is done
+  crash N               node N crashes: all but what it committed is lost
+  stop N C J KEEP       node N is to stop inside its C-th commit from now on, at call J of its disk
+  start N               node N, which is down, starts again over what it committed
 N and M are 1 to 255, K, S and T 1 to 65535, P is 1 to 4294967295, MS 0 to 86400000, without leading zeros. HEX is a frame
 from its protocol field on, 2 to 1494 bytes as hex digits in lower case, and in a frame line an Ethernet frame from its
-destination address on, 1 to 2048 bytes. SECRET is the secret that both ends of a tunnel share, 1 to 64 bytes as hex
+destination address on, 1 to 2048 bytes. C is 1 to 255 and J 1 to 4; KEEP is kept, with a J of 3 or 4, where the record that is
+committed there stays, or lost. SECRET is the secret that both ends of a tunnel share, 1 to 64 bytes as hex
 digits, or - where there is none. MODE is plain, or hide where there is a secret: then the numbers of the callers are
 hidden by it. A schedule has at most 1048576 lines and 67108864 bytes.
 M of a lac line may be declared later, or never: then what is sent to it can't be delivered.
@@ -48,6 +52,8 @@ A line that doesn't fit ends the run, which says why:
   tunnel   that node has no such tunnel, or has closed it
   call     that node has no such call
   packet   no such packet was sent
+  down     that node is down
+  up       that node is up, so it can't start
 
 A packet may be delivered at any time, and as often as wanted. One that has outlived half of the numbers of its channel
 ends the run with status 4: its number is more than 32767 below what the addressee took, or what was acknowledged to it.
@@ -60,6 +66,8 @@ A report has lines for what is done in line L of the schedule, and ends with wha
   L frame N HEX                       node N sends an Ethernet frame to a PPPoE host
   L drop N WHY                        node N ignores what came
   L cause N WHY                       node N refuses what was asked for, or ends a call, or closes a tunnel
+  L stopped N                         node N stopped inside a commit, and is down
+  end N down                          node N is down
   end N tunnel T M R STATE 0 current complete
                                       node N has tunnel T to node M, which calls it R
   end N call T S R STATE B            in tunnel T it has call S, which the other end calls R, the B-th of all calls
@@ -70,7 +78,7 @@ LNS and a LAC that has opened a tunnel; what doesn't fit becomes a remark. It wr
 packets were sent, frames were handed up, calls were born, and tunnels agree at the end. The same words give the same six lines.
 
 status: 0 done, 1 usage, 2 bad line, 3 line that does not fit, 4 packet that is too old, 5 read fault, 6 write fault,
-        7 too long, 20 no memory
+        7 too long, 13 checkpoint that is full, 20 no memory
 ";
 
 /// The version.

@@ -85,8 +85,9 @@ fn command<S: Source, K: Sink>(
 /// `--help` and `--version` write their texts; other words write how the program is used.
 ///
 /// What the clause `ends` says is of this call. The others speak of the run of every list of lines of the grammar, whether
-/// this text spells it or another, or none has room for it: `headline` of those with fewer than 2^47 lines, as those of each
-/// text within the limits are, and `origins` of all.
+/// this text spells it or another, or none has room for it: `headline` of its answers and nodes over all of them, crashes among
+/// them, and of its frames, births, sessions and channels over those without crashes and with fewer than 2^47 lines, as those of
+/// each text within the limits are; `origins` over all without crashes.
 pub fn replay_top<S: Source, K: Sink>(
     alloc: Global,
     words: &[String],
@@ -122,6 +123,9 @@ pub fn replay_top<S: Source, K: Sink>(
     cause_laws::no_call_is_left();
     cause_laws::reports_tell_true_causes();
     cause_laws::requests_are_answered_in_runs();
+    node_laws::books_are_of_ends();
+    node_laws::records_are_in_place();
+    node_laws::ids_are_above_ceilings();
     session_laws::ends_that_agree_hold_the_same();
     command(alloc, words, source, sink)
 }

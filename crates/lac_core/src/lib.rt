@@ -9,21 +9,25 @@ ghost use Rattle.std.specs.Prelude.{◌≡◌, ◌∷◌, [], Some, None, IfOk};
 ghost use Rattle.id_table.specs.Ids.{at};
 ghost use Rattle.end_model.specs.declared.out.Out.TheVariants as outs;
 ghost use Rattle.end_names.specs.declared.role.Role.TheVariants as roles;
-ghost use Rattle.end_model.specs.Access.{new_access, as_it_was, told_because, of_step, serves, farewell};
+ghost use Rattle.end_model.specs.Access.{new_access, as_it_was, told_because, of_step, serves, holder, farewell};
 ghost use Rattle.end_model.specs.End.{new_end, step, look_in};
+ghost use Rattle.end_model.specs.Starting.{bare_end};
 ghost use Rattle.end_core.specs.Fits.{fits};
 ghost use Rattle.end_core.specs.Rows.{tunnel_rows};
 ghost use Rattle.end_core.specs.Sessions.{subscriber_at};
-ghost use Rattle.lac_core.specs.Gives.{GivesServed};
+ghost use Rattle.lac_core.specs.Gives.{GivesServed, GivesStart, starts_with};
 
 mod answers;
 mod ends;
 mod hosts;
+mod kept;
 
-use end_core::{End, EndRows};
+use crate::kept::keep_hosts;
+use end_core::{End, EndRows, Given};
 use end_model::{Config, Event, Out, Role, mac_of};
 use pppoe_discovery::padt_frame;
 use pppoe_session::Table;
+use session_book::Book;
 use session_looks::Look;
 use std::alloc::Global;
 use std::marker::Model;
@@ -51,6 +55,8 @@ pub struct Lac {
     key: [u8; 16],
     /// The hosts that were admitted, by the sessions of their calls.
     hosts: Table,
+    /// The hosts of the calls that were kept over a start, by their sessions: they get a PADT as the others do.
+    kept: Table,
 }
 
 impl Model for Lac {
@@ -60,7 +66,7 @@ impl Model for Lac {
 
     ghost Value = { Concentrator };
 
-    ghost view = { λ l. record { end = l.end; access = record { key = l.key; held = l.hosts } } };
+    ghost view = { λ l. record { end = l.end; access = record { key = l.key; held = l.hosts; kept = l.kept } } };
 
     ghost invariant = { λ l. l.end.role ≡ roles.Lac };
 }
@@ -76,6 +82,7 @@ impl Lac {
             end: End::new(alloc, Role::Lac, config),
             key,
             hosts: Table::new(alloc),
+            kept: Table::new(alloc),
         }
     }
 
@@ -115,6 +122,17 @@ impl Lac {
         self.end.subscriber(session)
     }
 
+    /// The Ethernet address of the host of a call, or of that of one that was kept over a start.
+    #[tactic(auto, unfolding(end_model::specs::Access::holder))]
+    fn holder(&self, session: u16) -> Option<[u8; 6]>
+        ensures { result ≡ holder self.now.access session }
+    {
+        match self.hosts.holder(session) {
+            Some(mac) => Some(mac),
+            None => self.kept.holder(session),
+        }
+    }
+
     /// The PADT that tells a host that its call ended (RFC 2516 section 5.5), a whole Ethernet frame. None where no host had the
     /// call. A session id has 16 bits, and of a larger number the lower ones count. It takes no memory, so that a host is told
     /// of each end that a step made.
@@ -123,8 +141,35 @@ impl Lac {
         ensures { result ≡ farewell self.now.end.config.number self.now.access session }
     {
         let session = (session % 65_536) as u16;
-        let host = self.hosts.holder(session)?;
+        let host = self.holder(session)?;
         Some(padt_frame(&mac_of(self.end.number()), &host, session))
+    }
+
+    /// The LAC falls: of all that it had only its configuration and the book of its checkpoint stay, and its cookies are made with a
+    /// new key. It takes no memory.
+    pub fn fall(&mut self, key: [u8; 16], book: &Book)
+        ensures fallen { self.new ≡ record { end = bare_end self.old.end.role self.old.end.config book.now.kept; access = new_access key } }
+        ensures role { self.old.end.role ≡ roles.Lac }
+    {
+        self.end.fall(book);
+        self.key = key;
+        self.hosts = Table::new(self.alloc);
+        self.kept = Table::new(self.alloc);
+    }
+
+    /// The LAC starts again over the book of its checkpoint, with a new key for its cookies: each tunnel that was kept goes with its
+    /// calls, by local ids, and the hosts of those calls are known, so that each is told by a PADT. Where memory is wanting, the LAC
+    /// is as before.
+    pub fn start(&mut self, key: [u8; 16], book: &Book) -> Result<Given, NoMemory>
+        ensures given { GivesStart result (starts_with self.old key book.now.kept) self.old self.new }
+        ensures role { self.old.end.role ≡ roles.Lac }
+    {
+        let kept = keep_hosts(self.alloc, book.calls().as_slice())?;
+        let given = self.end.start(book)?;
+        self.key = key;
+        self.hosts = Table::new(self.alloc);
+        self.kept = kept;
+        Ok(given)
     }
 
     /// What comes is ignored.

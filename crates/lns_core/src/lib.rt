@@ -6,12 +6,14 @@ ghost use Rattle.std.specs.Prelude.{◌≡◌, IfOk};
 ghost use Rattle.id_table.specs.Ids.{at};
 ghost use Rattle.end_names.specs.declared.role.Role.TheVariants as roles;
 ghost use Rattle.end_model.specs.End.{new_end, plain_step, step, look_in};
+ghost use Rattle.end_model.specs.Starting.{bare_end, starts};
 ghost use Rattle.end_core.specs.Fits.{fits};
 ghost use Rattle.end_core.specs.Gives.{GivesStep};
 ghost use Rattle.end_core.specs.Rows.{tunnel_rows};
 
 use end_core::{End, EndRows, Given};
 use end_model::{Config, Event, Role};
+use session_book::Book;
 use session_looks::Look;
 use std::alloc::Global;
 use std::marker::Model;
@@ -71,6 +73,23 @@ impl Lns {
         ensures { IfOk result (λ rows. rows ≡ tunnel_rows self.now) }
     {
         self.end.tunnel_rows(alloc)
+    }
+
+    /// The LNS falls: of all that it had only its configuration and the book of its checkpoint stay. It takes no memory.
+    pub fn fall(&mut self, book: &Book)
+        ensures fallen { self.new ≡ bare_end self.old.role self.old.config book.now.kept }
+        ensures role { self.old.role ≡ roles.Lns }
+    {
+        self.end.fall(book);
+    }
+
+    /// The LNS starts again over the book of its checkpoint: each tunnel that was kept goes with its calls, by local ids. Where
+    /// memory is wanting, the LNS is as before.
+    pub fn start(&mut self, book: &Book) -> Result<Given, NoMemory>
+        ensures given { GivesStep result (starts self.old.role self.old.config book.now.kept) self.old self.new }
+        ensures role { self.old.role ≡ roles.Lns }
+    {
+        self.end.start(book)
     }
 
     /// A step on an event of which nothing is hidden.

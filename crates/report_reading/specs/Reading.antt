@@ -117,7 +117,7 @@ numbered_of front text = behind front text >>= λ word. count_of word
 unfoldable pub is_exit : List ℕ → Bool
 is_exit text =
     is_some (unfit_of text) || is_some (half_space_of text) || is_some (numbered_of (codes "bad line ") text)
-    || is_some (numbered_of (codes "too long: ") text) || bytes_eq text (codes "read fault")
+    || is_some (numbered_of (codes "too long: ") text) || is_some (numbered_of (codes "store full: ") text) || bytes_eq text (codes "read fault")
 
 unfoldable pub is_ending : List ℕ → Bool
 is_ending text = with_both (cut 32 text) is_table || is_exit text

@@ -109,6 +109,7 @@ fn is_exit(text: &[u8]) -> bool
         || read_half_space(text).is_some()
         || read_numbered(text, b"bad line ").is_some()
         || read_numbered(text, b"too long: ").is_some()
+        || read_numbered(text, b"store full: ").is_some()
         || text == b"read fault".as_slice()
 }
 

@@ -1,3 +1,4 @@
 mod HexText
 mod HalfSpaceText
 mod TunnelText
+mod StoreText

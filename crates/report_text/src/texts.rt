@@ -4,8 +4,8 @@ ghost use Rattle.std.specs.Prelude.{◌≡◌, ◌≤◌, ◌++◌, codes, lengt
 ghost use Rattle.std.specs.Fmt.{decimal};
 ghost use Rattle.hex.specs.Hex.{encode_lower};
 ghost use Rattle.end_names.specs.Names.{node_of};
-ghost use Rattle.world_model.specs.Texts.{◌&◌, send_text, side_word, up_text, gone_text, frame_text, farewell_text, drop_text, cause_text};
-ghost use Rattle.world_model.specs.Run.{tunnel_text, call_text, agree_text, unfit_text, half_space_text, refusal_text};
+ghost use Rattle.world_model.specs.Texts.{◌&◌, send_text, side_word, up_text, gone_text, frame_text, farewell_text, drop_text, cause_text, stopped_text};
+ghost use Rattle.world_model.specs.Run.{tunnel_text, call_text, agree_text, down_text, unfit_text, half_space_text, store_full_text, refusal_text};
 
 use end_model::{Call, Control, node_of};
 use itoa::Buffer;
@@ -189,6 +189,28 @@ pub fn push_cause(out: &mut Bytes, line: u64, node: u8, cause: Cause) -> Result<
     out.push_slice(b"\n")
 }
 
+/// A node that stopped inside a commit: the line, and the node.
+#[tactic(auto, unfolding(world_model::specs::Texts::stopped_text))]
+pub fn push_stopped(out: &mut Bytes, line: u64, node: u8) -> Result<(), NoMemory>
+    ensures { OnOk result (out.new ≡ out.old ++ stopped_text line node) }
+{
+    push_number(out, line)?;
+    push_word(out, b"stopped")?;
+    push_count(out, u64::from(node))?;
+    out.push_slice(b"\n")
+}
+
+/// A node that is down at the end of a run.
+#[tactic(auto, unfolding(world_model::specs::Run::down_text))]
+pub fn push_down(out: &mut Bytes, node: u32) -> Result<(), NoMemory>
+    ensures { OnOk result (out.new ≡ out.old ++ down_text node) }
+{
+    out.push_slice(b"end")?;
+    push_count(out, u64::from(node))?;
+    push_word(out, b"down")?;
+    out.push_slice(b"\n")
+}
+
 /// Whose tunnel it is, and where it goes: the node, the local id, the peer's node, and the id there.
 fn push_tunnel_ids(out: &mut Bytes, node: u32, tunnel: &Control) -> Result<(), NoMemory>
     ensures { OnOk result (out.new ≡ out.old ++ (codes "end" & decimal node & codes "tunnel" & decimal tunnel.now.local & decimal (node_of tunnel.now.peer) & decimal tunnel.now.remote)) }
@@ -201,7 +223,7 @@ fn push_tunnel_ids(out: &mut Bytes, node: u32, tunnel: &Control) -> Result<(), N
     push_count(out, u64::from(tunnel.remote))
 }
 
-/// A tunnel at the end of a run. No line crashes a node, so each tunnel is in epoch 0, current, and complete.
+/// A tunnel at the end of a run. No tunnel outlives a crash, so each is in epoch 0, current, and complete.
 #[tactic(auto, unfolding(world_model::specs::Run::tunnel_text))]
 pub fn push_tunnel(out: &mut Bytes, node: u32, tunnel: &Control) -> Result<(), NoMemory>
     ensures { OnOk result (out.new ≡ out.old ++ tunnel_text node tunnel.now) }
@@ -277,6 +299,15 @@ fn push_half_space(out: &mut Bytes, line: u64, number: u64, count: u64) -> Resul
     out.push_slice(b"\n")
 }
 
+/// A node's checkpoint that has no room for the records of a step, and how many it has.
+#[tactic(auto, unfolding(world_model::specs::Run::store_full_text))]
+fn push_store_full(out: &mut Bytes, records: u32) -> Result<(), NoMemory>
+    ensures { OnOk result (out.new ≡ out.old ++ store_full_text records) }
+{
+    push_numbered(out, b"store full: ", u64::from(records))?;
+    out.push_slice(b"\n")
+}
+
 /// A line that is refused, and why.
 #[tactic(auto, unfolding(world_model::specs::Run::refusal_text))]
 pub fn push_refusal(out: &mut Bytes, line: u64, refusal: Refusal) -> Result<(), NoMemory>
@@ -285,5 +316,6 @@ pub fn push_refusal(out: &mut Bytes, line: u64, refusal: Refusal) -> Result<(), 
     match refusal {
         Refusal::Unfit { why } => push_unfit(out, line, why),
         Refusal::HalfSpace { number, count } => push_half_space(out, line, number, count),
+        Refusal::StoreFull { records } => push_store_full(out, records),
     }
 }

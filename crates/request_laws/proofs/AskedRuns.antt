@@ -14,8 +14,9 @@ use Rattle.end_model.specs.declared.tunnel.Call.{Call}
 use Rattle.end_names.specs.declared.role.Role.{Role}
 use Rattle.end_model.specs.Secrets.{uncovered_event}
 use Rattle.end_model.specs.End.{End, Stepped, step}
-use Rattle.world_model.specs.World.{World, Node, Sender, Deed, Lined, told_line, new_node, with_node, block_of}
+use Rattle.world_model.specs.World.{World, Node, Checkpoint, Sender, Deed, Lined, new_node, with_node, block_of}
 use Rattle.world_model.specs.Run.{Run, after_line, run}
+use Rattle.step_laws.specs.Calm.{AreCalm}
 use Rattle.step_laws.specs.Steps.{AreKept, StepsAreChains}
 use Rattle.frame_laws.specs.Facts.{FactsOfRuns}
 use Rattle.connection_laws.specs.Accounts.{no_account, account_from, account_of}
@@ -23,7 +24,7 @@ use Rattle.request_laws.specs.Requests.{IsAskedAt, AskedInRuns, IsDrawnAtLac, Dr
 use Rattle.request_laws.proofs.Asked.{Asking, IsCall, Known, Ordered, AskOk}
 use Rattle.request_laws.proofs.Deeds.{KeepsLetters, deeds, deeds_elsewhere, account_from-append}
 use Rattle.request_laws.proofs.Chains.{asks_on}
-use Rattle.request_laws.proofs.Lines.{LineDoes, Nothing, Declares, Steps, step_of, line_does}
+use Rattle.request_laws.proofs.Lines.{told_line, LineDoes, Nothing, Declares, Steps, step_of, line_does}
 use Rattle.request_laws.proofs.Worlds.{step_done, step_follows, after_moves}
 use Rattle.request_laws.proofs.Runs.{Reached, reached_is, holds_in_runs}
 
@@ -135,7 +136,7 @@ module _ (r : Run) (ok : RunAsks r) where
       (same_or_not q n)))
 
   module _ (chains : StepsAreChains) (kept : (n : ℕ) (node : Node) → at r.world.nodes n ≡ Some node → AreKept node.end)
-      (number n : ℕ) (old : Node) (clock : ℕ) (access : Option Access) (ev : Event) (sender : Option Sender) (there : at r.world.nodes n ≡ Some old) where
+      (number n : ℕ) (old : Node) (clock : ℕ) (access : Option Access) (checkpoint : Checkpoint) (ev : Event) (sender : Option Sender) (there : at r.world.nodes n ≡ Some old) where
     -- what came, as it is read
     abbrev came : Event
     came = uncovered_event old.end.config.secret ev
@@ -144,7 +145,7 @@ module _ (r : Run) (ok : RunAsks r) where
     s = step old.end clock (block_of n number) ev
 
     abbrev timed : Node
-    timed = record old { clock = clock; access = access }
+    timed = record old { clock = clock; access = access; checkpoint = checkpoint }
 
     abbrev x : Lined
     x = step_of r.world number n timed ev sender
@@ -178,20 +179,20 @@ module _ (chains : StepsAreChains) (facts : FactsOfRuns) where
   kept_now : (number : ℕ) (before : List Line) (r : Run) → Reached number before r → (n : ℕ) (node : Node) → at r.world.nodes n ≡ Some node → AreKept node.end
   kept_now number before r h n node there =
       let is = reached_is number before r h in
-      ((facts before h.fit).nodes n node (subst (λ (q : Run). at q.world.nodes n ≡ Some node) (sym is) there)).kept
+      ((facts before h.fit h.calm).nodes n node (subst (λ (q : Run). at q.world.nodes n ≡ Some node) (sym is) there)).kept
 
   line_asks : (number : ℕ) (before : List Line) (r : Run) → Reached number before r → RunAsks r → (x : Lined) → LineDoes r.world number x
       → RunAsks (after_line r x)
   line_asks number before r h ok x (Nothing es e) = quiet_asks r ok x es e
   line_asks number before r h ok x (Declares n role lns secret hide none es e) = declared_asks r ok x number n role lns secret hide none es e
-  line_asks number before r h ok x (Steps n old clock access ev sender es there from e) =
-      subst (λ y. RunAsks (after_line r y)) (sym e) (step_asks r ok chains (kept_now number before r h) number n old clock access ev sender there)
+  line_asks number before r h ok x (Steps n old clock access checkpoint ev sender es there from e) =
+      subst (λ y. RunAsks (after_line r y)) (sym e) (step_asks r ok chains (kept_now number before r h) number n old clock access checkpoint ev sender there)
 
-  pub asks_in_runs : (lines : List Line) → AreLines lines → RunAsks (run lines)
+  pub asks_in_runs : (lines : List Line) → AreLines lines → AreCalm lines → RunAsks (run lines)
   unfolding account_from
-  asks_in_runs lines fits =
-      holds_in_runs RunAsks (λ number before r h ok l x is. line_asks number before r h ok x (line_does r.world number x l is)) (λ r fault ok. ok)
-      (λ n. rw (at-none n) (λ i. refl)) lines fits
+  asks_in_runs lines fits calm =
+      holds_in_runs RunAsks (λ number before r h ok l x calm is. line_asks number before r h ok x (line_does r.world h.world number x l calm is)) (λ r fault ok. ok)
+      (λ n. rw (at-none n) (λ i. refl)) lines fits calm
 
 -- ---- requests
 
@@ -211,10 +212,10 @@ drawn_at_lac r ok n i k s a =
     record { node = h.0; is = h.1; role = asked.1; some = asked.0.0; drawn = asked.0.1 }
 
 pub asked_in_runs : StepsAreChains → FactsOfRuns → AskedInRuns
-asked_in_runs chains facts lines fits n i k j l s a b =
+asked_in_runs chains facts lines fits calm n i k j l s a b =
     let r = run lines in
-    let h = asked_node r.done n (at r.world.nodes n) (asks_in_runs chains facts lines fits n) i k s a in
+    let h = asked_node r.done n (at r.world.nodes n) (asks_in_runs chains facts lines fits calm n) i k s a in
     h.2.once i k j l s (asking_at r.done n i k s a) (asking_at r.done n j l s b)
 
 pub drawn_at_lacs_in_runs : StepsAreChains → FactsOfRuns → DrawnAtLacsInRuns
-drawn_at_lacs_in_runs chains facts lines fits n i k s a = drawn_at_lac (run lines) (asks_in_runs chains facts lines fits) n i k s a
+drawn_at_lacs_in_runs chains facts lines fits calm n i k s a = drawn_at_lac (run lines) (asks_in_runs chains facts lines fits calm) n i k s a

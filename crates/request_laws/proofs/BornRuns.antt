@@ -19,8 +19,9 @@ use Rattle.end_names.specs.declared.role.Role.TheVariants.{Lns}
 use Rattle.end_names.specs.Names.{address_of, node_of}
 use Rattle.end_model.specs.Secrets.{uncovered_event}
 use Rattle.end_model.specs.End.{End, Stepped, step}
-use Rattle.world_model.specs.World.{World, Node, Sender, Deed, Lined, told_line, new_node, with_node, block_of, sender_of}
+use Rattle.world_model.specs.World.{World, Node, Checkpoint, Sender, Deed, Lined, new_node, with_node, block_of, sender_of}
 use Rattle.world_model.specs.Run.{Run, after_line, run}
+use Rattle.step_laws.specs.Calm.{AreCalm}
 use Rattle.step_laws.specs.Steps.{StepsAreChains}
 use Rattle.frame_laws.specs.Facts.{Nodes, birth_in_node, PacketOk, NodeOk, Holds, FactsOfRuns}
 use Rattle.frame_laws.specs.Births.{IsBornAt, AreApart, BirthsOfRuns}
@@ -33,7 +34,7 @@ use Rattle.request_laws.proofs.Lists.{all_at}
 use Rattle.request_laws.proofs.Asked.{Known}
 use Rattle.request_laws.proofs.Deeds.{deeds}
 use Rattle.request_laws.proofs.Chains.{known_then}
-use Rattle.request_laws.proofs.Lines.{IsFrom, OfNobody, OfPacket, uncovered_from, LineDoes, Nothing, Declares, Steps, step_of, line_does}
+use Rattle.request_laws.proofs.Lines.{IsFrom, OfNobody, OfPacket, uncovered_from, told_line, LineDoes, Nothing, Declares, Steps, step_of, line_does}
 use Rattle.request_laws.proofs.Worlds.{step_nodes, step_done, step_follows, before_moves, after_moves}
 use Rattle.request_laws.proofs.Runs.{Reached, reached_is, holds_in_runs}
 use Rattle.request_laws.proofs.AskedRuns.{StillKnown, known_more, known_elsewhere, kept_order, nothing_done, asked_in_runs, drawn_at_lacs_in_runs}
@@ -109,7 +110,7 @@ module _ (r : Run) (ok : RunTells r) where
       (found_put r.world.nodes n new q node (rw (← nodes) f)))
 
   module _ (chains : StepsAreChains) (gs : List Passage) (facts : Holds r.world gs)
-      (number n : ℕ) (old : Node) (clock : ℕ) (access : Option Access) (ev : Event) (sender : Option Sender) (there : at r.world.nodes n ≡ Some old)
+      (number n : ℕ) (old : Node) (clock : ℕ) (access : Option Access) (checkpoint : Checkpoint) (ev : Event) (sender : Option Sender) (there : at r.world.nodes n ≡ Some old)
       (from : IsFrom r.world sender ev) where
     -- what came, as it is read
     abbrev came : Event
@@ -119,10 +120,10 @@ module _ (r : Run) (ok : RunTells r) where
     s = step old.end clock (block_of n number) ev
 
     abbrev timed : Node
-    timed = record old { clock = clock; access = access }
+    timed = record old { clock = clock; access = access; checkpoint = checkpoint }
 
     abbrev ended : Node
-    ended = record old { clock = clock; access = access; end = s.end }
+    ended = record old { clock = clock; access = access; checkpoint = checkpoint; end = s.end }
 
     abbrev x : Lined
     x = step_of r.world number n timed ev sender
@@ -200,15 +201,15 @@ module _ (chains : StepsAreChains) (facts : FactsOfRuns) where
       → RunTells (after_line r x)
   line_tells number before r h ok x (Nothing es e) = quiet_tells r ok x es e
   line_tells number before r h ok x (Declares n role lns secret hide none es e) = declared_tells r ok x number n role lns secret hide none es e
-  line_tells number before r h ok x (Steps n old clock access ev sender es there from e) =
+  line_tells number before r h ok x (Steps n old clock access checkpoint ev sender es there from e) =
       let gs = (past_of before).sent in
-      let now : Holds r.world gs = subst (λ (q : Run). Holds q.world gs) (reached_is number before r h) (facts before h.fit) in
-      subst (λ y. RunTells (after_line r y)) (sym e) (step_tells r ok chains gs now number n old clock access ev sender there from)
+      let now : Holds r.world gs = subst (λ (q : Run). Holds q.world gs) (reached_is number before r h) (facts before h.fit h.calm) in
+      subst (λ y. RunTells (after_line r y)) (sym e) (step_tells r ok chains gs now number n old clock access checkpoint ev sender there from)
 
-  pub tells_in_runs : (lines : List Line) → AreLines lines → RunTells (run lines)
-  tells_in_runs lines fits =
-      holds_in_runs RunTells (λ number before r h ok l x is. line_tells number before r h ok x (line_does r.world number x l is)) (λ r fault ok. ok)
-      (λ n node f. absurd (none-some node (sym (at-none n) ∙ f))) lines fits
+  pub tells_in_runs : (lines : List Line) → AreLines lines → AreCalm lines → RunTells (run lines)
+  tells_in_runs lines fits calm =
+      holds_in_runs RunTells (λ number before r h ok l x calm is. line_tells number before r h ok x (line_does r.world h.world number x l calm is)) (λ r fault ok. ok)
+      (λ n node f. absurd (none-some node (sym (at-none n) ∙ f))) lines fits calm
 
 -- ---- sessions of LNSs
 
@@ -216,9 +217,9 @@ made_at : (ds : List Deed) (n s : ℕ) (h : Drawn (account_of ds n) s) → IsMad
 made_at ds n s h = record { taken = h.taken; there = h.there; replied = h.move_is }
 
 pub drawn_for_requests_in_runs : StepsAreChains → FactsOfRuns → DrawnForRequestsInRuns
-drawn_for_requests_in_runs chains facts lines fits n node is lns s some lt =
+drawn_for_requests_in_runs chains facts lines fits calm n node is lns s some lt =
     let ds = (run lines).done in
-    let h = (tells_in_runs chains facts lines fits n node is lns).drawn s some lt in
+    let h = (tells_in_runs chains facts lines fits calm n node is lns).drawn s some lt in
     record { tunnel = h.tunnel; number = h.number; reply = h.reply; made = made_at ds n s h; session_is = h.session }
 
 module _ (ds : List Deed) (ok : (n i : ℕ) → AccountOk (account_of ds) n i (account_of ds n i)) (w : World) where
@@ -258,12 +259,12 @@ module _ (ds : List Deed) (ok : (n i : ℕ) → AccountOk (account_of ds) n i (a
         (place.0, sym c.session ∙ (ap (λ (x : Replied). x.session) reply ∙ d.session))
 
 pub born_in_runs : StepsAreChains → FactsOfRuns → BirthsOfRuns → HoldsInRuns → BornInRuns
-born_in_runs chains facts births holds lines fits few b n s m q one two =
+born_in_runs chains facts births holds lines fits calm few b n s m q one two =
     let r = run lines in
-    let ok = (holds lines fits few).accounts in
+    let ok = (holds lines fits calm few).accounts in
     let asked = asked_in_runs chains facts in
-    let tells = tells_in_runs chains facts lines fits in
-    let nodes = (facts lines fits).nodes in
+    let tells = tells_in_runs chains facts lines fits calm in
+    let nodes = (facts lines fits calm).nodes in
     let h = (tells n one.node one.is one.role).told s b one.birth_is ((nodes n one.node one.is).births s b one.birth_is).1 in
     let k = (tells m two.node two.is two.role).told q b two.birth_is ((nodes m two.node two.is).births q b two.birth_is).1 in
-    one_session r.done ok r.world (drawn_at_lacs_in_runs chains facts lines fits) (made_once r.done ok (asked lines fits)) (births lines fits few) n s m q b h k
+    one_session r.done ok r.world (drawn_at_lacs_in_runs chains facts lines fits calm) (made_once r.done ok (asked lines fits calm)) (births lines fits calm few) n s m q b h k

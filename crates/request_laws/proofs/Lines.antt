@@ -1,11 +1,11 @@
 -- What a line does: nothing, or a node is declared, or a node makes a step.
-use Rattle.std.proofs.Common.{◌≡◌, ℕ, ◌+◌, ◌-◌, false, List, [], refl, sym, ap, ◌∙◌, Option, Some, None, Result, Ok, Err, Bool, ◌∷◌, ◌++◌}
+use Rattle.std.proofs.Common.{◌≡◌, ℕ, ◌-◌, false, List, [], refl, sym, ap, ◌∙◌, subst, Option, Some, None, Result, Ok, Bool, ◌∷◌, ◌++◌}
 use Rattle.std.specs.Prelude.{is_some, slice_get}
 use Rattle.id_table.specs.Ids.{at}
 use Rattle.wire_base.specs.declared.why.Why.{Why}
 use Rattle.wire_base.specs.declared.why.Why.TheVariants as why
 use Rattle.schedule_text.specs.declared.line.Line.{Line}
-use Rattle.schedule_text.specs.declared.line.Line.TheVariants.{Remark, Lac, Lns, OpenUp, Close, Ring, Frame, FromSub, Down, Hang, DropCall, Deliver, Tick}
+use Rattle.schedule_text.specs.declared.line.Line.TheVariants.{Remark, Lac, Lns, OpenUp, Close, Ring, Frame, FromSub, Down, Hang, DropCall, Deliver, Tick, Crash, Stop, Start}
 use Rattle.end_model.specs.declared.event.Event.{Event}
 use Rattle.end_model.specs.declared.event.Event.TheVariants as event
 use Rattle.world_model.specs.declared.packet.Packet.{Packet}
@@ -19,7 +19,8 @@ use Rattle.end_model.specs.Access.{Access}
 use Rattle.world_model.specs.Texts.{Entry, Drops, Frames}
 use Rattle.step_laws.specs.Hosts.{LacAt, with_host, entering, reply_to, OfFrame, frame_line}
 use Rattle.step_laws.specs.Lines.{tested_not, is_lac_at, is_lns_at, is_declared, has_call, has_tunnel, none_there, IsAt, at_moment, is_at, is_later, deliver_line}
-use Rattle.world_model.specs.World.{World, Node, Sender, Lined, quiet_line, with_node, after_step, declared, lac_at, lns_at, with_call, with_tunnel, later, new_node, told_line, answer_entries, added, block_of, stepped, sender_of, delivers, line}
+use Rattle.step_laws.specs.Calm.{IsCalm, WorldIsCalm, at_calm, calm_step}
+use Rattle.world_model.specs.World.{World, Node, Checkpoint, Sender, Lined, quiet_line, with_node, after_step, declared, lac_at, lns_at, with_call, with_tunnel, later, new_node, answer_entries, added, block_of, stepped, sender_of, delivers, line}
 
 -- ---- what a line does
 
@@ -40,12 +41,17 @@ uncovered_from w sender ev secret (OfPacket k p there sent bytes is) =
 abbrev pub step_of : World → ℕ → ℕ → Node → Event → Option Sender → Lined
 step_of w number n node ev sender = after_step w number n node sender (step node.end node.clock (block_of n number) ev)
 
+-- a line without a step, and its entries
+abbrev pub told_line : World → List Entry → Lined
+told_line w es = record (quiet_line w) { entries = es }
+
 pub data LineDoes (w : World) (number : ℕ) (x : Lined) : Type 0 where
   Nothing : (es : List Entry) → x ≡ told_line w es → LineDoes w number x
   Declares : (n : ℕ) (r : Role) (lns : ℕ) (secret : Option (List ℕ)) (hide : Bool) → at w.nodes n ≡ None
       → (es : List Entry) → x ≡ told_line (with_node w n (new_node number n r lns secret hide)) es → LineDoes w number x
-  Steps : (n : ℕ) (old : Node) (clock : ℕ) (access : Option Access) (ev : Event) (sender : Option Sender) (es : List Entry) → at w.nodes n ≡ Some old
-      → IsFrom w sender ev → x ≡ record (step_of w number n (record old { clock = clock; access = access }) ev sender) { entries = es } → LineDoes w number x
+  Steps : (n : ℕ) (old : Node) (clock : ℕ) (access : Option Access) (checkpoint : Checkpoint) (ev : Event) (sender : Option Sender) (es : List Entry)
+      → at w.nodes n ≡ Some old → IsFrom w sender ev
+      → x ≡ record (step_of w number n (record old { clock = clock; access = access; checkpoint = checkpoint }) ev sender) { entries = es } → LineDoes w number x
 
 -- ---- lines
 
@@ -53,10 +59,10 @@ pub data LineDoes (w : World) (number : ℕ) (x : Lined) : Type 0 where
 more_told : (w : World) (number : ℕ) (x : Lined) (es : List Entry) → LineDoes w number x → LineDoes w number (record x { entries = es })
 more_told w number x es (Nothing fs e) = Nothing es (ap (λ (y : Lined). record y { entries = es }) e)
 more_told w number x es (Declares n r lns secret hide none fs e) = Declares n r lns secret hide none es (ap (λ (y : Lined). record y { entries = es }) e)
-more_told w number x es (Steps n old clock access ev sender fs there from e) =
-    Steps n old clock access ev sender es there from (ap (λ (y : Lined). record y { entries = es }) e)
+more_told w number x es (Steps n old clock access checkpoint ev sender fs there from e) =
+    Steps n old clock access checkpoint ev sender es there from (ap (λ (y : Lined). record y { entries = es }) e)
 
-module _ (w : World) (number : ℕ) (x : Lined) where
+module _ (w : World) (calm : WorldIsCalm w) (number : ℕ) (x : Lined) where
   added_does : (n : ℕ) (r : Role) (lns : ℕ) (secret : Option (List ℕ)) (hide : Bool) → added w number n r lns secret hide ≡ Ok x → LineDoes w number x
   unfolding added
   added_does n r lns secret hide h =
@@ -65,71 +71,76 @@ module _ (w : World) (number : ℕ) (x : Lined) where
 
   stepped_does : (n : ℕ) (ev : Event) (sender : Option Sender) (o : Result Node Why) → ((node : Node) → o ≡ Ok node → IsAt w n node)
       → IsFrom w sender ev → stepped w number n ev sender o ≡ Ok x → LineDoes w number x
-  unfolding stepped
-  stepped_does n ev sender (Err q) is from h = absurd (cc)
-  stepped_does n ev sender (Ok node) is from h =
-      let was = is node refl in
-      let e : step_of w number n node ev sender ≡ x = cc in
-      Steps n was.before node.clock node.access ev sender x.entries was.there from
-      (ap (λ (y : Lined). record y { entries = x.entries }) (sym e ∙ ap (λ (q : Node). step_of w number n q ev sender) was.same))
+  stepped_does n ev sender o is from h =
+      calm_step (LineDoes w number x) w number x n ev sender o (λ node e. at_calm w n node calm (is node e))
+      (λ node e k whole made.
+      let was = is node e in
+      Steps n was.before node.clock node.access k ev sender x.entries was.there from
+      (ap (λ (y : Lined). record y { entries = x.entries })
+      (sym made ∙ ap (λ (q : Node). step_of w number n (record q { checkpoint = k }) ev sender) was.same))) h
 
 -- an Ethernet frame
-module _ (w : World) (number : ℕ) where
+module _ (w : World) (calm : WorldIsCalm w) (number : ℕ) where
   -- a frame that an end doesn't see
   only_told : (n : ℕ) (bytes : List ℕ) (l : LacAt w n) (es : List Entry) (x : Lined) → stepped w number n (event.Frame bytes) None (Ok l.node) ≡ Ok x
       → LineDoes w number (record x { entries = es })
   only_told n bytes l es x h =
       more_told w number x es
-      (stepped_does w number x n (event.Frame bytes) None (Ok l.node) (λ node e. (let same : l.node ≡ node = cc in rw (← same) (is_at w n l.node l.there)))
+      (stepped_does w calm number x n (event.Frame bytes) None (Ok l.node) (λ node e. (let same : l.node ≡ node = cc in rw (← same) (is_at w n l.node l.there)))
       (OfNobody refl) h)
 
   of_frame : (n : ℕ) (bytes : List ℕ) → OfFrame (LineDoes w number) w number n bytes
   of_frame n bytes = record {
-    ignored = λ l word is x h. only_told n bytes l (Drops number n word ∷ []) x h;
-    answered = λ l because frame is x h. only_told n bytes l (answer_entries number n because frame) x h;
+    ignored = λ l word is x h u. only_told n bytes l (Drops number n word ∷ []) x h;
+    answered = λ l because frame is x h u. only_told n bytes l (answer_entries number n because frame) x h;
     done = λ l ev is does x h.
-        stepped_does w number x n ev None (Ok l.node) (λ node e. (let same : l.node ≡ node = cc in rw (← same) (is_at w n l.node l.there))) (OfNobody refl) h;
-    entered = λ l src uniq asked is x h.
+        stepped_does w calm number x n ev None (Ok l.node) (λ node e. (let same : l.node ≡ node = cc in rw (← same) (is_at w n l.node l.there))) (OfNobody refl) h;
+    entered = λ l src uniq asked is x h u.
         more_told w number x (x.entries ++ Frames number n (reply_to w number n l src asked) ∷ [])
-        (stepped_does w number x n (event.Admitted src) None (Ok (with_host w number n l src uniq))
+        (stepped_does w calm number x n (event.Admitted src) None (Ok (with_host w number n l src uniq))
         (λ node e. (let same : with_host w number n l src uniq ≡ node = cc in entering w number n l src uniq node same)) (OfNobody refl) h);
+    cut = λ l ev node is x h off.
+        stepped_does w calm number x n ev None (Ok node) (λ q e. (let same : node ≡ q = cc in subst (IsAt w n) same is)) (OfNobody refl) h;
   }
 
-module _ (w : World) (number : ℕ) (x : Lined) where
+module _ (w : World) (calm : WorldIsCalm w) (number : ℕ) (x : Lined) where
   delivers_does : (k : ℕ) (o : Option Packet) → slice_get w.packets k ≡ o → delivers w number o ≡ Ok x → LineDoes w number x
   delivers_does k o sent h = deliver_line (LineDoes w number x) w number x (delivers w number o) o
-      (λ p node found there young so leads.
-      stepped_does w number x p.to (event.Datagram (address_of p.from) p.bytes) (sender_of p.from p.origin) (Ok node)
+      (λ p node found there up young so leads.
+      stepped_does w calm number x p.to (event.Datagram (address_of p.from) p.bytes) (sender_of p.from p.origin) (Ok node)
       (λ q e. (let same : node ≡ q = cc in rw (← same) (is_at w p.to node there)))
       (OfPacket k p (sent ∙ found) refl p.bytes refl) leads)
       refl h
 
-  pub line_does : (l : Line) → line w number l ≡ Ok x → LineDoes w number x
+  pub line_does : (l : Line) → IsCalm l → line w number l ≡ Ok x → LineDoes w number x
   unfolding line
-  line_does (Remark text) h = let e : quiet_line w ≡ x = cc in Nothing [] (sym e)
-  line_does (Lac n m secret hide) h = added_does w number x n role.Lac (address_of m) secret hide h
-  line_does (Lns n secret) h = added_does w number x n role.Lns 0 secret false h
-  line_does (OpenUp n) h =
-      stepped_does w number x n event.OpenTunnel None (lac_at (at w.nodes n)) (λ node e. is_at w n node ((is_lac_at (at w.nodes n) node e).0)) (OfNobody refl) h
-  line_does (Close n i) h =
-      stepped_does w number x n (event.CloseTunnel i) None (with_tunnel i (declared (at w.nodes n)))
+  line_does (Remark text) is h = let e : quiet_line w ≡ x = cc in Nothing [] (sym e)
+  line_does (Lac n m secret hide) is h = added_does w calm number x n role.Lac (address_of m) secret hide h
+  line_does (Lns n secret) is h = added_does w calm number x n role.Lns 0 secret false h
+  line_does (OpenUp n) is h =
+      stepped_does w calm number x n event.OpenTunnel None (lac_at (at w.nodes n)) (λ node e. is_at w n node ((is_lac_at (at w.nodes n) node e).0)) (OfNobody refl) h
+  line_does (Close n i) is h =
+      stepped_does w calm number x n (event.CloseTunnel i) None (with_tunnel i (declared (at w.nodes n)))
       (λ node e. is_at w n node (is_declared (at w.nodes n) node (has_tunnel i (declared (at w.nodes n)) node e))) (OfNobody refl) h
-  line_does (Ring n port) h =
-      stepped_does w number x n (event.Ring port) None (lac_at (at w.nodes n)) (λ node e. is_at w n node ((is_lac_at (at w.nodes n) node e).0)) (OfNobody refl) h
-  line_does (Frame n bytes) h = frame_line (LineDoes w number) w number n bytes (of_frame w number n bytes) x h
-  line_does (FromSub n session frame) h =
-      stepped_does w number x n (event.Payload session frame) None (with_call session (lac_at (at w.nodes n)))
+  line_does (Ring n port) is h =
+      stepped_does w calm number x n (event.Ring port) None (lac_at (at w.nodes n)) (λ node e. is_at w n node ((is_lac_at (at w.nodes n) node e).0)) (OfNobody refl) h
+  line_does (Frame n bytes) is h = frame_line (LineDoes w number) w number n bytes (of_frame w calm number n bytes) x h
+  line_does (FromSub n session frame) is h =
+      stepped_does w calm number x n (event.Payload session frame) None (with_call session (lac_at (at w.nodes n)))
       (λ node e. is_at w n node ((is_lac_at (at w.nodes n) node (has_call session (lac_at (at w.nodes n)) node e)).0)) (OfNobody refl) h
-  line_does (Down n session frame) h =
-      stepped_does w number x n (event.Lower session frame) None (with_call session (lns_at (at w.nodes n)))
+  line_does (Down n session frame) is h =
+      stepped_does w calm number x n (event.Lower session frame) None (with_call session (lns_at (at w.nodes n)))
       (λ node e. is_at w n node ((is_lns_at (at w.nodes n) node (has_call session (lns_at (at w.nodes n)) node e)).0)) (OfNobody refl) h
-  line_does (Hang n session) h =
-      stepped_does w number x n (event.Hang session) None (with_call session (lac_at (at w.nodes n)))
+  line_does (Hang n session) is h =
+      stepped_does w calm number x n (event.Hang session) None (with_call session (lac_at (at w.nodes n)))
       (λ node e. is_at w n node ((is_lac_at (at w.nodes n) node (has_call session (lac_at (at w.nodes n)) node e)).0)) (OfNobody refl) h
-  line_does (DropCall n session) h =
-      stepped_does w number x n (event.DropCall session) None (with_call session (declared (at w.nodes n)))
+  line_does (DropCall n session) is h =
+      stepped_does w calm number x n (event.DropCall session) None (with_call session (declared (at w.nodes n)))
       (λ node e. is_at w n node (is_declared (at w.nodes n) node (has_call session (declared (at w.nodes n)) node e))) (OfNobody refl) h
-  line_does (Deliver k) h = delivers_does (k - 1) (slice_get w.packets (k - 1)) refl h
-  line_does (Tick n milliseconds) h =
-      stepped_does w number x n event.Tick None (later milliseconds (declared (at w.nodes n)))
+  line_does (Deliver k) is h = delivers_does (k - 1) (slice_get w.packets (k - 1)) refl h
+  line_does (Tick n milliseconds) is h =
+      stepped_does w calm number x n event.Tick None (later milliseconds (declared (at w.nodes n)))
       (λ node e. at_moment w n node (is_later w n milliseconds node e)) (OfNobody refl) h
+  line_does (Crash n) is h = absurd is
+  line_does (Stop n commit call kept) is h = absurd is
+  line_does (Start n) is h = absurd is

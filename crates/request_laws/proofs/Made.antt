@@ -97,4 +97,4 @@ module _ (ds : List Deed) (ok : (n i : ℕ) → AccountOk (account_of ds) n i (a
       )
 
 pub made_in_runs : StepsAreChains → FactsOfRuns → HoldsInRuns → MadeInRuns
-made_in_runs chains facts holds lines fits few = made_once (run lines).done (holds lines fits few).accounts (asked_in_runs chains facts lines fits)
+made_in_runs chains facts holds lines fits calm few = made_once (run lines).done (holds lines fits calm few).accounts (asked_in_runs chains facts lines fits calm)

@@ -9,6 +9,7 @@ use Rattle.end_model.specs.declared.moves.Move.TheVariants as move
 use Rattle.end_names.specs.declared.role.Role.TheVariants.{Lac, Lns}
 use Rattle.world_model.specs.World.{World, Node, Deed}
 use Rattle.world_model.specs.Run.{Run, run}
+use Rattle.step_laws.specs.Calm.{AreCalm}
 use Rattle.step_laws.specs.Letters.{Letter}
 use Rattle.connection_laws.specs.Accounts.{Taken, account_of}
 
@@ -78,19 +79,19 @@ pub record IsBornAtLns (w : World) (n session birth : ℕ) : Type 0 where
 abbrev pub AreBornOnce : World → Type 0
 AreBornOnce w = (birth n session m other : ℕ) → IsBornAtLns w n session birth → IsBornAtLns w m other birth → (n ≡ m) × (session ≡ other)
 
--- ---- after the run of each list of lines of the grammar
+-- ---- after the run of each list of lines of the grammar, where no node crashes, is to stop, or starts
 
 abbrev pub AskedInRuns : Type 0
-AskedInRuns = (lines : List Line) → AreLines lines → AreAskedOnce (run lines).done
+AskedInRuns = (lines : List Line) → AreLines lines → AreCalm lines → AreAskedOnce (run lines).done
 
 abbrev pub DrawnAtLacsInRuns : Type 0
-DrawnAtLacsInRuns = (lines : List Line) → AreLines lines → AreDrawnAtLacs (run lines)
+DrawnAtLacsInRuns = (lines : List Line) → AreLines lines → AreCalm lines → AreDrawnAtLacs (run lines)
 
 abbrev pub DrawnForRequestsInRuns : Type 0
-DrawnForRequestsInRuns = (lines : List Line) → AreLines lines → AreDrawnForRequests (run lines)
+DrawnForRequestsInRuns = (lines : List Line) → AreLines lines → AreCalm lines → AreDrawnForRequests (run lines)
 
 abbrev pub MadeInRuns : Type 0
-MadeInRuns = (lines : List Line) → AreLines lines → length lines < 2 ^ 47 → AreMadeOnce (run lines).done
+MadeInRuns = (lines : List Line) → AreLines lines → AreCalm lines → length lines < 2 ^ 47 → AreMadeOnce (run lines).done
 
 abbrev pub BornInRuns : Type 0
-BornInRuns = (lines : List Line) → AreLines lines → length lines < 2 ^ 47 → AreBornOnce (run lines).world
+BornInRuns = (lines : List Line) → AreLines lines → AreCalm lines → length lines < 2 ^ 47 → AreBornOnce (run lines).world

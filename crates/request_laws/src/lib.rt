@@ -21,37 +21,40 @@ fn laws_below()
     connection_laws::facts_hold();
 }
 
-/// Over every list of lines of the grammar, a node asks for each of its calls once: in one tunnel, by one letter.
+/// Over every list of lines of the grammar in which no node crashes, is to stop, or starts, a node asks for each of its
+/// calls once: in one tunnel, by one letter.
 pub fn calls_are_asked_for_once()
     ensures { AskedInRuns }
 {
     laws_below();
 }
 
-/// Over every list of lines of the grammar, a request names a session id that its node, a LAC, has drawn.
+/// Over every list of lines of the grammar in which no node crashes, is to stop, or starts, a request names a session id
+/// that its node, a LAC, has drawn.
 pub fn requests_name_drawn_sessions()
     ensures { DrawnAtLacsInRuns }
 {
     laws_below();
 }
 
-/// Over every list of lines of the grammar, each session id that an LNS has drawn was drawn for a request that it took.
+/// Over every list of lines of the grammar in which no node crashes, is to stop, or starts, each session id that an LNS has
+/// drawn was drawn for a request that it took.
 pub fn sessions_of_an_lns_are_asked_for()
     ensures { DrawnForRequestsInRuns }
 {
     laws_below();
 }
 
-/// After every list of fewer than 2^47 lines, for each request of a node one call is made: by one tunnel of one node, which
-/// took the request once.
+/// After every list of fewer than 2^47 lines in which no node crashes, is to stop, or starts, for each request of a node one
+/// call is made: by one tunnel of one node, which took the request once.
 pub fn requests_are_taken_once()
     ensures { MadeInRuns }
 {
     laws_below();
 }
 
-/// After every list of fewer than 2^47 lines, two sessions of LNSs with one birth are one session: a subscriber's call is
-/// one call at one LNS.
+/// After every list of fewer than 2^47 lines in which no node crashes, is to stop, or starts, two sessions of LNSs with one
+/// birth are one session: a subscriber's call is one call at one LNS.
 pub fn births_are_taken_once()
     ensures { BornInRuns }
 {

@@ -3,8 +3,6 @@ use Rattle.std.proofs.Common.{refl}
 use Rattle.run_examples.specs.Crossing.{FramesCross}
 use Rattle.run_examples.specs.Endings.{CallsEndOnce}
 use Rattle.run_examples.specs.Leaving.{StepsLeaveRecords, left_on, left_from}
-use Rattle.end_model.specs.Contents.{records_of, contents_of}
-use Rattle.id_source.specs.Spaces.{counting_from}
 use Rattle.run_examples.specs.Messages.{MessagesAreTakenInOrder, MessagesAreAcknowledged, WindowsAreKept, OpeningsComeOnce}
 use Rattle.run_examples.specs.Outlived.{OldPacketsAreRefused}
 use Rattle.run_examples.specs.Owed.{LettersOwedAreCounted}
@@ -18,7 +16,7 @@ unfolding computing
 frames_cross = record { past = refl }
 
 pub steps_leave_records : StepsLeaveRecords
-unfolding computing left_on left_from records_of contents_of counting_from
+unfolding computing left_on left_from
 steps_leave_records = record { lac = refl; lns = refl }
 
 pub calls_are_refused : CallsAreRefused

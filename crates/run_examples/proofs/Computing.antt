@@ -1,5 +1,5 @@
 -- All that a run, a step and the tables compute with.
-use Rattle.id_source.specs.Spaces.{takes_id}
+use Rattle.id_source.specs.Spaces.{takes_id, counting_from}
 use Rattle.id_table.specs.Ids.{at, put as put_at, without}
 use Rattle.wire_base.specs.Numbers.{u16_bytes, u32_bytes}
 use Rattle.l2tp_header.specs.Flags.{is_control, has_length, has_numbers, has_offset, has_priority, version_of}
@@ -12,7 +12,7 @@ use Rattle.lcp_end.specs.Options.{is_good, part, asked}
 use Rattle.lcp_end.specs.Hearing.{request_heard, ack_heard, nak_heard, reject_heard, answer_heard, answers_last, heard_as}
 use Rattle.lcp_end.specs.Steps.{sent as packet_sent, requesting, requested as link_asks, counted, zeroed, configured, terminated, signalled, acted, stepped as link_stepped, acked, naks_after, refused as link_refuses, confirmed as link_confirms, code_rejected, echoed, answered, opened as link_opened, after_heard, after_read, after_packet}
 use Rattle.pppoe_session.specs.Subscribers.{holder_of, subscriber_of}
-use Rattle.end_model.specs.Access.{farewell}
+use Rattle.end_model.specs.Access.{holder, farewell}
 use Rattle.end_names.specs.Names.{host_name, address_of, node_of, subscriber, calling_number}
 use Rattle.end_model.specs.Reading.{message_read, pairs_read, message_in, zero_read, zero_pairs, at_zero, at_tunnel, fault_of_pairs, call_fault_in, tunnel_fault_of_pairs, tunnel_fault_in}
 use Rattle.session_looks.specs.Frames.{carry_known, carry_look}
@@ -33,8 +33,10 @@ use Rattle.end_model.specs.Refusing.{answers_by, refused, refuses, of_no_call}
 use Rattle.end_model.specs.Faulty.{faulty_at, faulty, in_faulty_call}
 use Rattle.end_model.specs.Secrets.{uncovered_datagram}
 use Rattle.end_model.specs.End.{gives_only, placed, with_look, with_looks, after_turn, after_new, in_new, in_one_more, in_main, known_as, opens_once, addressed, main_of, reached_by, reached_plain, against_opening, against_body, declined, opens_or_declines, for_addressee, least_in, rings_in, rings_at, for_call, then_heard, handed, hands_up, receives, only_by, step_in, plain_step}
-use Rattle.world_model.specs.World.{birth_of, with_birth, is_born, moved, moved_all, sent, shown, entry_of, shown_all, entries_of, given, after_step, added, block_of, stepped, addressee_of, arrival, too_old, refused_by, arrives, delivers_it, delivers, line}
-use Rattle.world_model.specs.Run.{goes_on, run_from, tunnel_text, call_text, call_table, tunnel_line, node_table, end_table, lns_tunnel, partner_of, agree, session_count, agree_text, agree_with, agree_line, node_agreements, agreement_table, tables}
+use Rattle.end_model.specs.Contents.{records_of, contents_of}
+use Rattle.end_model.specs.Starting.{gone_with, all_gone, all_cleared, starts, kept_hosts}
+use Rattle.world_model.specs.World.{recorded_all, commits_by, commits, fallen, cut_line, settled, committed, crashed, armed, started, birth_of, with_birth, is_born, moved, moved_all, sent, shown, entry_of, shown_all, entries_of, given, after_step, added, block_of, stepped, addressee_of, arrival, too_old, refused_by, arrives, delivers_it, delivers, line}
+use Rattle.world_model.specs.Run.{goes_on, run_from, down_text, tunnel_text, call_text, call_table, tunnel_line, node_table, end_table, lns_tunnel, partner_of, agree, session_count, agree_text, agree_with, agree_line, node_agreements, agreement_table, tables}
 use Rattle.hex.specs.Hex.{encode_with}
 use Rattle.std.specs.Fmt.{digits}
 use Rattle.frame_laws.specs.Past.{sent_in, handed_in}
@@ -58,6 +60,8 @@ unfolding takes_id at put_at without u16_bytes u32_bytes is_control has_length h
     node_table end_table lns_tunnel partner_of agree session_count agree_text agree_with agree_line node_agreements
     agreement_table tables encode_with digits sent_in handed_in farewell holder_of subscriber_of
     packet_of options_at is_good part asked request_heard ack_heard nak_heard reject_heard answer_heard answers_last heard_as
+    counting_from holder records_of contents_of gone_with all_gone all_cleared starts kept_hosts recorded_all commits_by commits fallen cut_line settled committed
+    crashed armed started down_text
     packet_sent requesting link_asks counted zeroed configured terminated signalled acted link_stepped acked naks_after link_refuses link_confirms
     code_rejected echoed answered link_opened after_heard after_read after_packet
 computing = tt

@@ -4,7 +4,7 @@ use Rattle.l2tp_header.specs.Spelling.{control_bytes}
 use Rattle.avp_codec.specs.Spelling.{spelling}
 use Rattle.control_message.specs.declared.message.Message.{Message}
 use Rattle.control_message.specs.Pairs.{pairs_of}
-use Rattle.world_model.specs.Texts.{Entry, Frames, Sends, HandsUp, Ends, Drops, Causes}
+use Rattle.world_model.specs.Texts.{Entry, Frames, Sends, HandsUp, Ends, Drops, Causes, Stopped}
 
 abbrev pub line_in : Entry → ℕ
 line_in (Sends line packet from to bytes) = line
@@ -13,6 +13,7 @@ line_in (Ends line node session padt) = line
 line_in (Frames line node bytes) = line
 line_in (Drops line node why) = line
 line_in (Causes line node cause) = line
+line_in (Stopped line node) = line
 
 -- those of a line and of the ones behind it
 abbrev pub entries_since : ℕ → List Entry → List Entry

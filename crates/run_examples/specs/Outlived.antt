@@ -1,5 +1,5 @@
 -- Packets that have outlived half of the numbers of their channel (RFC 2661 section 5.8).
-use Rattle.std.specs.Prelude.{◌≡◌, ℕ, List, [], ◌∷◌, false, Option, Some, option_map, Result, Ok, Err, None}
+use Rattle.std.specs.Prelude.{◌≡◌, ℕ, List, [], ◌∷◌, true, false, Option, Some, option_map, Result, Ok, Err, None}
 use Rattle.id_table.specs.Ids.{at}
 use Rattle.l2tp_header.specs.Spelling.{control_bytes}
 use Rattle.avp_codec.specs.Spelling.{spelling}
@@ -17,7 +17,7 @@ use Rattle.end_names.specs.declared.role.Role.TheVariants as role
 use Rattle.end_names.specs.Names.{address_of}
 use Rattle.end_model.specs.End.{End, new_end, step}
 use Rattle.world_model.specs.Texts.{Entry, Sends}
-use Rattle.world_model.specs.World.{World, Lined, config_of, empty_world, line}
+use Rattle.world_model.specs.World.{World, Lined, config_of, empty_world, new_checkpoint, line}
 use Rattle.run_examples.specs.Channels.{channel}
 
 -- the LNS, node 4: in tunnel 7 to node 9 it took so many messages, and 50,000 of its own were acknowledged
@@ -46,7 +46,7 @@ packet ns nr = record {
 }
 
 abbrev pub world : ℕ → ℕ → ℕ → World
-world taken ns nr = record empty_world { nodes = (4, record { end = lns taken; clock = 0; births = []; access = None }) ∷ []; packets = packet ns nr ∷ [] }
+world taken ns nr = record empty_world { nodes = (4, record { end = lns taken; up = true; clock = 0; births = []; access = None; checkpoint = new_checkpoint }) ∷ []; packets = packet ns nr ∷ [] }
 
 -- what its delivery in line 12 leads to, at an LNS that took so many messages
 abbrev pub delivery : ℕ → ℕ → ℕ → Result Lined Refusal

@@ -1,5 +1,5 @@
 -- The tables at the end of a report, where a call isn't up yet, and where a letter wasn't taken.
-use Rattle.std.specs.Prelude.{◌≡◌, ℕ, List, [], ◌∷◌, ◌++◌, codes, None, Some, false, replicate}
+use Rattle.std.specs.Prelude.{◌≡◌, ℕ, List, [], ◌∷◌, ◌++◌, codes, None, Some, true, false, replicate}
 use Rattle.lcp_end.specs.Steps.{fresh}
 use Rattle.tunnel_fsm.specs.declared.table.TunnelState.TheVariants as states
 use Rattle.call_fsm.specs.declared.table.CallState.TheVariants.{Established, WaitReply}
@@ -7,7 +7,7 @@ use Rattle.end_names.specs.declared.role.Role.TheVariants as role
 use Rattle.end_names.specs.Names.{subscriber, address_of}
 use Rattle.end_model.specs.Tunnels.{Tunnel}
 use Rattle.end_model.specs.End.{new_end}
-use Rattle.world_model.specs.World.{World, Node, config_of, empty_world}
+use Rattle.world_model.specs.World.{World, Node, config_of, empty_world, new_checkpoint}
 use Rattle.world_model.specs.Run.{tables}
 use Rattle.run_examples.specs.Channels.{channel}
 
@@ -33,13 +33,15 @@ lns queued = record {
 abbrev pub lac_node : ℕ → Node
 lac_node queued = record {
   end = record (new_end role.Lac (config_of 9 (address_of 4) None false)) { tunnels = (1, lac queued) ∷ [] };
+  up = true;
   clock = 0;
   births = (1, 2) ∷ (2, 1) ∷ [];
   access = None;
+  checkpoint = new_checkpoint;
 }
 
 abbrev pub lns_node : ℕ → Node
-lns_node queued = record { end = record (new_end role.Lns (config_of 4 0 None false)) { tunnels = (7, lns queued) ∷ [] }; clock = 0; births = (5, 2) ∷ []; access = None }
+lns_node queued = record { end = record (new_end role.Lns (config_of 4 0 None false)) { tunnels = (7, lns queued) ∷ [] }; up = true; clock = 0; births = (5, 2) ∷ []; access = None; checkpoint = new_checkpoint }
 
 -- where the LAC and the LNS keep so many letters, of which the first was acknowledged by none yet
 abbrev pub world : ℕ → ℕ → World

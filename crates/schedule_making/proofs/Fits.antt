@@ -10,7 +10,7 @@ use Rattle.schedule_text.specs.declared.line.Line.TheVariants.{Deliver}
 use Rattle.schedule_text.specs.Grammar.{FitsLine, AreLines}
 use Rattle.world_model.specs.World.{line}
 use Rattle.world_model.specs.Run.{run}
-use Rattle.schedule_making.specs.Drawing.{next_state, drawn, Drawn, deliver_of, drawn_deliver, drawn_ring, drawn_frame, drawn_data, drawn_down, drawn_hang, drawn_tick, drawn_none, drawn_kind, drawn_line}
+use Rattle.schedule_making.specs.Drawing.{next_state, drawn, Drawn, deliver_of, drawn_deliver, drawn_ring, drawn_frame, drawn_data, drawn_down, drawn_hang, drawn_tick, drawn_crash, drawn_start, drawn_kind, drawn_line}
 use Rattle.schedule_making.specs.Making.{passed_over, settled, with_line, opening, Making, drawn_on, making, lines_of_seed}
 
 -- ---- one line
@@ -45,20 +45,21 @@ frame_fits x =
     byte (drawn_frame x) 0 33 (drawn 65536 x / 256) (drawn 65536 x % 256) refl (omega arith) (omega arith) (shr_below (drawn 65536 x) 8 8 v) (mod_below (drawn 65536 x) 256 (omega arith))
 
 kind_fits : (packets kind x : ℕ) → Fits (drawn_kind packets kind x).line
-unfolding drawn_kind drawn_deliver drawn_ring drawn_data drawn_down drawn_hang drawn_tick drawn_none
-kind_fits packets kind x = by (nat_lt kind 60) (nat_lt kind 68) (nat_lt kind 76) (nat_lt kind 84) (nat_lt kind 88) (nat_lt kind 96)
+unfolding drawn_kind drawn_deliver drawn_ring drawn_data drawn_down drawn_hang drawn_tick drawn_crash drawn_start
+kind_fits packets kind x = by (nat_lt kind 60) (nat_lt kind 68) (nat_lt kind 76) (nat_lt kind 84) (nat_lt kind 88) (nat_lt kind 96) (nat_lt kind 98)
   where
-    by : (a b c d e f : Bool) → Fits (if a then drawn_deliver packets x else if b then drawn_ring x else if c then drawn_data x else if d then drawn_down x else if e then drawn_hang x else if f then drawn_tick x else drawn_none x).line
-    by true b c d e f = deliver_fits (packets - drawn (max (min packets 12) 1) x)
-    by false true c d e f = let v = below 50 x (omega arith) in ((omega arith, omega arith), (omega arith, omega arith))
-    by false false true d e f = let v = below 200 x (omega arith) in ((omega arith, omega arith), (omega arith, omega arith), (omega arith, omega arith, frame_fits (next_state x)))
-    by false false false true e f = let v = below 200 x (omega arith) in ((omega arith, omega arith), (omega arith, omega arith), (omega arith, omega arith, frame_fits (next_state x)))
-    by false false false false true f = let v = below 200 x (omega arith) in ((omega arith, omega arith), (omega arith, omega arith))
-    by false false false false false true =
+    by : (a b c d e f g : Bool) → Fits (if a then drawn_deliver packets x else if b then drawn_ring x else if c then drawn_data x else if d then drawn_down x else if e then drawn_hang x else if f then drawn_tick x else if g then drawn_crash x else drawn_start x).line
+    by true b c d e f g = deliver_fits (packets - drawn (max (min packets 12) 1) x)
+    by false true c d e f g = let v = below 50 x (omega arith) in ((omega arith, omega arith), (omega arith, omega arith))
+    by false false true d e f g = let v = below 200 x (omega arith) in ((omega arith, omega arith), (omega arith, omega arith), (omega arith, omega arith, frame_fits (next_state x)))
+    by false false false true e f g = let v = below 200 x (omega arith) in ((omega arith, omega arith), (omega arith, omega arith), (omega arith, omega arith, frame_fits (next_state x)))
+    by false false false false true f g = let v = below 200 x (omega arith) in ((omega arith, omega arith), (omega arith, omega arith))
+    by false false false false false true g =
         let v = below 2 x (omega arith) in
         let t = below 3000 (next_state x) (omega arith) in
         ((omega arith, omega arith), omega arith)
-    by false false false false false false = tt
+    by false false false false false false true = let v = below 2 x (omega arith) in (omega arith, omega arith)
+    by false false false false false false false = let v = below 2 x (omega arith) in (omega arith, omega arith)
 
 remark_fits : FitsLine passed_over
 remark_fits = ((omega arith, omega arith), ((omega arith, omega arith), tt))

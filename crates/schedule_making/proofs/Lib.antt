@@ -1,6 +1,7 @@
-mod States
-mod Runs
+mod Computing
+mod Fits
 mod Makings
 mod Opening
-mod Fits
+mod Runs
+mod States
 mod Sums

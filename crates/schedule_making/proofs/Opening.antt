@@ -3,9 +3,10 @@ use Rattle.std.proofs.Common.{◌≡◌, List, [], ◌∷◌, Some, None, false,
 use Rattle.id_table.specs.Ids.{at, put}
 use Rattle.schedule_text.specs.declared.line.Line.{Line}
 use Rattle.schedule_text.specs.declared.line.Line.TheVariants.{Lac, Lns, OpenUp}
-use Rattle.world_model.specs.World.{line, added, stepped}
+use Rattle.world_model.specs.World.{line, added}
 use Rattle.world_model.specs.Run.{run_from, goes_on}
 use Rattle.schedule_making.specs.Making.{settled, with_line, opening}
+use Rattle.schedule_making.proofs.Computing.{computing}
 
 first : settled [] (Some (Lns 2 None)) ≡ Lns 2 None
 unfolding settled line added run_from goes_on at put
@@ -16,7 +17,7 @@ unfolding settled line added run_from goes_on at put
 second = refl
 
 third : settled (Lns 2 None ∷ Lac 1 2 None false ∷ []) (Some (OpenUp 1)) ≡ OpenUp 1
-unfolding settled line added stepped run_from goes_on at put
+unfolding settled computing
 third = refl
 
 abbrev pub one : List Line

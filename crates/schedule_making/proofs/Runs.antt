@@ -5,12 +5,13 @@ use Rattle.std.proofs.lemmas.Option.{none-some}
 use Rattle.wire_base.specs.declared.bytes.NoMemory.{NoMemory}
 use Rattle.schedule_text.specs.declared.line.Line.{Line}
 use Rattle.world_model.specs.declared.refusal.Refusal.{Refusal}
+use Rattle.world_model.specs.declared.refusal.Refusal.TheVariants.{Unfit, HalfSpace, StoreFull}
 use Rattle.world_model.specs.World.{World, Lined, quiet_line, line}
 use Rattle.world_model.specs.Run.{Run, run_from, empty_run, run, after_line, goes_on}
 use Rattle.schedule_replay.specs.Counting.{ups_after, ups_of}
-use Rattle.schedule_replay.specs.Fault.{Known, new_known, Leads, LeadsTo}
+use Rattle.schedule_replay.specs.Fault.{Known, new_known, Leads, LeadsTo, Remains}
 use Rattle.schedule_replay.proofs.Serving.{both_ups}
-use Rattle.schedule_making.specs.Making.{passed_over, settled, IsOfRun}
+use Rattle.schedule_making.specs.Making.{passed_over, settled, GoesOn, IsOfRun}
 
 -- ---- the run
 
@@ -94,6 +95,19 @@ remark_goes ls k at =
 pub remark_of : (r : Result Line NoMemory) (ls : List Line) (k : Known) → IfOk r (λ l. l ≡ passed_over) → IsOfRun ls k → IfOk r (λ l. IsOfRun (ls ++ l ∷ []) k)
 remark_of (Ok l) ls k is at = rw is (remark_goes ls k at)
 remark_of (Err e) ls k is at = tt
+
+-- a remark in the place of a line that is refused
+pub refused_line : (r : Result Line NoMemory) (e : Refusal) (ls : List Line) (l : Line) → IfOk r (λ x. (x ≡ passed_over) × GoesOn e)
+    → passed_over ≡ settled ls (Some l) → IfOk r (λ x. x ≡ settled ls (Some l))
+refused_line (Ok x) e ls l is so = is.0 ∙ so
+refused_line (Err y) e ls l is so = tt
+
+pub refused_runs : (r : Result Line NoMemory) (e : Refusal) (ls : List Line) (old new : Known) → IfOk r (λ x. (x ≡ passed_over) × GoesOn e)
+    → Remains e old new → IsOfRun ls old → IfOk r (λ x. IsOfRun (ls ++ x ∷ []) new)
+refused_runs (Err y) e ls old new is stays at = tt
+refused_runs (Ok x) (Unfit w) ls old new is stays at = rw (stays, is.0) (remark_goes ls old at)
+refused_runs (Ok x) (HalfSpace number count) ls old new is stays at = rw (stays, is.0) (remark_goes ls old at)
+refused_runs (Ok x) (StoreFull records) ls old new is stays at = absurd is.1
 
 pub settled_none : (ls : List Line) → passed_over ≡ settled ls None
 unfolding settled

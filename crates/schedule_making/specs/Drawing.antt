@@ -1,7 +1,7 @@
 -- The line that a generator of numbers draws next.
 use Rattle.std.specs.Prelude.{ℕ, ◌+◌, ◌-◌, ◌*◌, ◌/◌, ◌%◌, ◌^◌, min, max, nat_lt, ◌||◌, List, [], ◌∷◌, if◌then◌else◌, Option, Some, None}
 use Rattle.schedule_text.specs.declared.line.Line.{Line}
-use Rattle.schedule_text.specs.declared.line.Line.TheVariants.{Ring, FromSub, Down, Hang, Deliver, Tick}
+use Rattle.schedule_text.specs.declared.line.Line.TheVariants.{Ring, FromSub, Down, Hang, Deliver, Tick, Crash, Start}
 
 -- ---- numbers
 
@@ -56,9 +56,12 @@ drawn_node x = 1 + drawn 2 x
 unfoldable pub drawn_tick : ℕ → Drawn
 drawn_tick x = record { line = Some (Tick (drawn_node x) (1 + drawn 3000 (next_state x))); state = next_state (next_state x) }
 
--- a crash or a new start of one of both nodes: it is drawn, but no line tells of it
-unfoldable pub drawn_none : ℕ → Drawn
-drawn_none x = record { line = None; state = next_state x }
+-- one of both nodes crashes, or starts again
+unfoldable pub drawn_crash : ℕ → Drawn
+drawn_crash x = record { line = Some (Crash (drawn_node x)); state = next_state x }
+
+unfoldable pub drawn_start : ℕ → Drawn
+drawn_start x = record { line = Some (Start (drawn_node x)); state = next_state x }
 
 -- a line of the kind that was drawn, of a hundred, where so many packets were sent
 unfoldable pub drawn_kind : ℕ → ℕ → ℕ → Drawn
@@ -69,7 +72,8 @@ drawn_kind packets kind x =
     else if nat_lt kind 84 then drawn_down x
     else if nat_lt kind 88 then drawn_hang x
     else if nat_lt kind 96 then drawn_tick x
-    else drawn_none x
+    else if nat_lt kind 98 then drawn_crash x
+    else drawn_start x
 
 abbrev pub drawn_line : ℕ → ℕ → Drawn
 drawn_line packets x = drawn_kind packets (drawn 100 x) (next_state x)

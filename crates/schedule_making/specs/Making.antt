@@ -2,6 +2,8 @@
 use Rattle.std.specs.Prelude.{◌≡◌, ℕ, zero, suc, ◌+◌, Bool, false, List, [], ◌∷◌, ◌++◌, length, codes, if◌then◌else◌, Option, Some, None, is_ok}
 use Rattle.schedule_text.specs.declared.line.Line.{Line}
 use Rattle.schedule_text.specs.declared.line.Line.TheVariants.{Remark, Lac, Lns, OpenUp}
+use Rattle.world_model.specs.declared.refusal.Refusal.{Refusal}
+use Rattle.world_model.specs.declared.refusal.Refusal.TheVariants.{Unfit, HalfSpace, StoreFull}
 use Rattle.world_model.specs.World.{line}
 use Rattle.world_model.specs.Run.{run}
 use Rattle.schedule_replay.specs.Counting.{ups_of}
@@ -45,6 +47,12 @@ abbrev pub lines_of_seed : ℕ → ℕ → List Line
 lines_of_seed seed count = (making seed count).lines
 
 -- ---- what is known of a world while lines are made
+
+-- it goes on behind a line that it refuses, unless it found no room for records
+abbrev pub GoesOn : Refusal → Type 0
+GoesOn (Unfit why) = Unit {0}
+GoesOn (HalfSpace number count) = Unit {0}
+GoesOn (StoreFull records) = ⊥
 
 -- it is where the run of these lines leads, none of which is refused
 pub record IsOfRun (lines : List Line) (k : Known) : Type 0 where

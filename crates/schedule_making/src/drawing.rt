@@ -1,7 +1,7 @@
 //! Lines that are drawn: of the LAC, node 1, and the LNS, node 2.
 
 ghost use Rattle.std.specs.Prelude.{◌≡◌, IfOk, Some};
-ghost use Rattle.schedule_making.specs.Drawing.{next_state, deliver_of, drawn_deliver, drawn_ring, drawn_session, drawn_frame, drawn_data, drawn_down, drawn_hang, drawn_node, drawn_tick, drawn_none, drawn_kind, drawn_line};
+ghost use Rattle.schedule_making.specs.Drawing.{next_state, deliver_of, drawn_deliver, drawn_ring, drawn_session, drawn_frame, drawn_data, drawn_down, drawn_hang, drawn_node, drawn_tick, drawn_crash, drawn_start, drawn_kind, drawn_line};
 
 use crate::draws::Draws;
 use schedule_text::Line;
@@ -114,13 +114,22 @@ impl Draws {
         Line::Tick { node, milliseconds }
     }
 
-    /// A crash or a new start of a node: its node is drawn, but no line tells of it.
-    #[tactic(auto, unfolding(crate::specs::Drawing::drawn_none))]
-    fn pass_over(&mut self) -> Option<Line>
-        ensures { drawn_none self.old ≡ record { line = result; state = self.new } }
+    /// A node crashes.
+    #[tactic(auto, unfolding(crate::specs::Drawing::drawn_crash))]
+    fn crash(&mut self) -> Line
+        ensures { drawn_crash self.old ≡ record { line = Some result; state = self.new } }
     {
-        let _node = self.node();
-        None
+        let node = self.node();
+        Line::Crash { node }
+    }
+
+    /// A node starts again.
+    #[tactic(auto, unfolding(crate::specs::Drawing::drawn_start))]
+    fn start(&mut self) -> Line
+        ensures { drawn_start self.old ≡ record { line = Some result; state = self.new } }
+    {
+        let node = self.node();
+        Line::Start { node }
     }
 
     /// A line of the kind that was drawn, of a hundred, where it is one.
@@ -140,8 +149,10 @@ impl Draws {
             Ok(Some(self.hang()))
         } else if kind < 96 {
             Ok(Some(self.tick()))
+        } else if kind < 98 {
+            Ok(Some(self.crash()))
         } else {
-            Ok(self.pass_over())
+            Ok(Some(self.start()))
         }
     }
 

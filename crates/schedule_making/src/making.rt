@@ -3,13 +3,14 @@
 ghost use Rattle.std.specs.Prelude.{◌≡◌, ◌+◌, [], ◌∷◌, ◌++◌, length, OnOk, IfOk, Some, None};
 ghost use Rattle.schedule_text.specs.Grammar.{AreLines};
 ghost use Rattle.world_model.specs.Run.{run};
-ghost use Rattle.schedule_making.specs.Making.{passed_over, settled, with_line, opening, drawn_on, lines_of_seed, IsOfRun};
+ghost use Rattle.schedule_making.specs.Making.{passed_over, settled, with_line, opening, drawn_on, lines_of_seed, GoesOn, IsOfRun};
 
 use crate::draws::Draws;
 use schedule_replay::{LineFault, World};
 use schedule_text::{Line, Lines};
 use std::alloc::Global;
 use wire_base::{Bytes, NoMemory};
+use world_model::Refusal;
 
 /// The remark that stands for a line that isn't one, or that the world refuses.
 fn passed_over(alloc: Global) -> Result<Line, NoMemory>
@@ -17,6 +18,16 @@ fn passed_over(alloc: Global) -> Result<Line, NoMemory>
 {
     let text = Bytes::from_slice(alloc, b" -")?;
     Ok(Line::Remark { text })
+}
+
+/// The remark in the place of a line that the world refuses. A world that found no room for records doesn't go on.
+fn pass_over(alloc: Global, refusal: Refusal) -> Result<Line, NoMemory>
+    ensures { IfOk result (λ line. (line ≡ passed_over) × GoesOn refusal) }
+{
+    match refusal {
+        Refusal::StoreFull { .. } => Err(NoMemory),
+        Refusal::Unfit { .. } | Refusal::HalfSpace { .. } => passed_over(alloc),
+    }
 }
 
 /// The lines that are made so far, and the world to which they lead.
@@ -56,7 +67,7 @@ impl Maker {
         let number = self.next_number();
         match self.world.line(number, &line) {
             Ok(()) => Ok(line),
-            Err(LineFault::Refused { .. }) => passed_over(self.alloc),
+            Err(LineFault::Refused { refusal }) => pass_over(self.alloc, refusal),
             Err(LineFault::NoMemory) => Err(NoMemory),
         }
     }

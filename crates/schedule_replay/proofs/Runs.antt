@@ -4,10 +4,11 @@ use Rattle.std.proofs.lemmas.List.{drop_all}
 use Rattle.std.proofs.lemmas.Grind.{flat_map-append}
 use Rattle.schedule_text.specs.declared.line.Line.{Line}
 use Rattle.world_model.specs.declared.refusal.Refusal.{Refusal}
+use Rattle.world_model.specs.declared.refusal.Refusal.TheVariants.{Unfit, HalfSpace, StoreFull}
 use Rattle.world_model.specs.Texts.{Entry, entry_text, entries_text}
 use Rattle.world_model.specs.World.{World, Lined, line}
 use Rattle.world_model.specs.Run.{Run, run_from, after_line, goes_on, report_of, refusal_text, tables}
-use Rattle.schedule_replay.specs.Fault.{Told, Leads, LeadsTo}
+use Rattle.schedule_replay.specs.Fault.{Told, Known, Leads, LeadsTo, Remains}
 
 -- a run that is at a world, with its report so far
 pub record IsAt (r : Run) (t : Told) : Type 0 where
@@ -85,3 +86,9 @@ module _ (all : Run) (ls : List Line) (i : ℕ) (t : Told) (on : GoesOn all ls i
 
   pub report_whole : report_of all ≡ t.report ++ tables t.world
   report_whole = ap report_of ended ∙ whole_by on.so_far.fault refl on.at.fault ∙ rw (on.at.report, on.at.world) refl
+
+-- whatever a line is refused for, the report is what it was
+pub report_stays : (x : Refusal) (old new : Known) → Remains x old new → new.told.report ≡ old.told.report
+report_stays (Unfit why) old new h = ap (λ (k : Known). k.told.report) h
+report_stays (HalfSpace number count) old new h = ap (λ (k : Known). k.told.report) h
+report_stays (StoreFull records) old new h = h.0

@@ -1,6 +1,6 @@
 -- What is counted over a run: the frames that its ends hand up, and the tunnels that agree at its end.
 use Rattle.std.specs.Prelude.{ℕ, ◌+◌, ◌-◌, ◌^◌, min, count_by, ◌==◌, List, [], ◌∷◌}
-use Rattle.world_model.specs.Texts.{Entry, Sends, HandsUp, Ends, Frames, Drops, Causes}
+use Rattle.world_model.specs.Texts.{Entry, Sends, HandsUp, Ends, Frames, Drops, Causes, Stopped}
 use Rattle.world_model.specs.World.{World}
 use Rattle.world_model.specs.Run.{Run, agreement_table}
 
@@ -12,6 +12,7 @@ ups_with n (Ends line node session padt) = n
 ups_with n (Frames line node bytes) = n
 ups_with n (Drops line node why) = n
 ups_with n (Causes line node cause) = n
+ups_with n (Stopped line node) = n
 
 abbrev pub ups_after : ℕ → List Entry → ℕ
 ups_after n [] = n

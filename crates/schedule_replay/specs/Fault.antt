@@ -2,6 +2,7 @@
 use Rattle.std.specs.Prelude.{◌≡◌, ℕ, List, [], ◌++◌, Bool, true, false, Result, Ok, Err}
 use Rattle.wire_base.specs.declared.bytes.NoMemory.{NoMemory as OutOfMemory}
 use Rattle.world_model.specs.declared.refusal.Refusal.{Refusal}
+use Rattle.world_model.specs.declared.refusal.Refusal.TheVariants.{Unfit, HalfSpace, StoreFull}
 use Rattle.world_model.specs.Texts.{entries_text}
 use Rattle.world_model.specs.World.{World, Lined, empty_world}
 use Rattle.world_model.specs.Run.{tables}
@@ -26,13 +27,21 @@ abbrev pub Leads : Result Lined Refusal → Told → Told → Type 0
 Leads (Ok l) old new = LeadsTo l old new
 Leads (Err x) old new = ⊥
 
--- the line's outcome is this, or the world is as before and this is why the line is refused
+-- what stays where a line is refused: the whole world; but of one that found no room for a step's records its report alone, as the step was
+-- made before that was seen
+abbrev pub Stays : Refusal → Told → Told → Type 0
+Stays (Unfit why) old new = new ≡ old
+Stays (HalfSpace number count) old new = new ≡ old
+Stays (StoreFull records) old new = (new.report ≡ old.report) × (new.ups ≡ old.ups)
+
+-- the line's outcome is this, or this is why the line is refused
 abbrev pub Says : {T : Type 0} → Result T LineFault → Result Lined Refusal → Told → Told → Type 0
 Says (Ok x) outcome old new = Leads outcome old new
-Says (Err (Refused refusal)) outcome old new = (outcome ≡ Err refusal) × (new ≡ old)
+Says (Err (Refused refusal)) outcome old new = (outcome ≡ Err refusal) × Stays refusal old new
 Says (Err NoMemory) outcome old new = Unit {0}
 
--- a world with its report, and whether memory was wanting in it once: then its state says nothing any more
+-- a world with its report, and whether memory was wanting in it once, or room for records: then its state says nothing any more, but that the
+-- report is what it was
 pub record Known : Type 0 where
   pub told : Told
   pub spent : Bool
@@ -43,10 +52,16 @@ new_told = record { world = empty_world; report = []; ups = 0 }
 abbrev pub new_known : Known
 new_known = record { told = new_told; spent = false }
 
--- the same, of a world that answers want of memory for ever once it has answered it
+-- a world goes on behind a line that is refused, unless it found no room for records
+abbrev pub Remains : Refusal → Known → Known → Type 0
+Remains (Unfit why) old new = new ≡ old
+Remains (HalfSpace number count) old new = new ≡ old
+Remains (StoreFull records) old new = (new.told.report ≡ old.told.report) × (new.spent ≡ true)
+
+-- the same, of a world that answers want of memory for ever once it has answered it, or found no room for records
 abbrev pub WorldSays : {T : Type 0} → Result T LineFault → Result Lined Refusal → Known → Known → Type 0
 WorldSays (Ok x) outcome old new = (old.spent ≡ false) × Leads outcome old.told new.told × (new.spent ≡ false)
-WorldSays (Err (Refused refusal)) outcome old new = (old.spent ≡ false) × (outcome ≡ Err refusal) × (new ≡ old)
+WorldSays (Err (Refused refusal)) outcome old new = (old.spent ≡ false) × (outcome ≡ Err refusal) × Remains refusal old new
 WorldSays (Err NoMemory) outcome old new = new.spent ≡ true
 
 -- the tables are behind the report

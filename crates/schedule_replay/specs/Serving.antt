@@ -1,15 +1,33 @@
 -- What a step of a node's end gives, of either kind, and the line that it makes.
-use Rattle.std.specs.Prelude.{◌≡◌, ℕ, List, [], ◌∷◌, ◌++◌, Option, Some, None, Result, Ok, Err}
+use Rattle.std.specs.Prelude.{◌≡◌, ℕ, List, [], ◌∷◌, ◌++◌, true, false, if◌then◌else◌, Option, Some, None, is_some, Result, Ok, Err}
+use Rattle.wire_base.specs.declared.why.Why.{Why}
+use Rattle.wire_base.specs.declared.why.Why.TheVariants as why
+use Rattle.end_model.specs.Calls.{is_lac}
 use Rattle.wire_base.specs.declared.bytes.NoMemory.{NoMemory}
 use Rattle.end_model.specs.declared.event.Event.{Event}
 use Rattle.end_model.specs.declared.event.Event.TheVariants.{Datagram, Ring, Frame, Admitted, Payload, Lower, Lcp, Hang, OpenTunnel, DropCall, CloseTunnel, Tick}
 use Rattle.end_model.specs.declared.moves.Move.{Move}
 use Rattle.end_model.specs.declared.out.Out.{Out}
 use Rattle.end_model.specs.Access.{Access, Served, serves}
-use Rattle.end_model.specs.End.{Stepped, step}
-use Rattle.world_model.specs.Texts.{Entry, Frames}
-use Rattle.world_model.specs.World.{World, Node, Lined, quiet_line, with_node, moved_all, shown_all, entries_of, block_of}
+use Rattle.end_names.specs.declared.role.Role.{Role}
+use Rattle.session_book.specs.Books.{Kept}
+use Rattle.end_model.specs.declared.tunnel.Config.{Config}
+use Rattle.end_model.specs.Contents.{contents_of}
+use Rattle.end_model.specs.End.{Stepped, step, drawing_of}
+use Rattle.end_model.specs.Tunnels.{Drawing}
+use Rattle.step_records.specs.Leaving.{leaves}
+use Rattle.end_model.specs.Starting.{starts, access_over}
+use Rattle.world_model.specs.Texts.{Entry, Frames, Stopped, entries_text}
+use Rattle.schedule_replay.specs.declared.fault.LineFault.{LineFault}
+use Rattle.schedule_replay.specs.declared.fault.LineFault.TheVariants.{Refused, NoMemory as OutOfMemory}
+use Rattle.schedule_replay.specs.Counting.{ups_after}
+use Rattle.schedule_replay.specs.Fault.{Told}
+use Rattle.world_model.specs.declared.refusal.Refusal.{Refusal}
+use Rattle.world_model.specs.declared.refusal.Refusal.TheVariants.{StoreFull}
+use Rattle.world_model.specs.World.{World, Node, Checkpoint, Lined, Committed, IsFull, IsCut, IsWhole, quiet_line, with_node, moved_all, shown_all, entries_of, block_of, commits, fallen, cut_line}
 use Rattle.schedule_replay.specs.declared.kinds.Moved.{Moved}
+use Rattle.schedule_replay.specs.declared.node.Made.{Made}
+use Rattle.schedule_replay.specs.declared.node.Made.TheVariants.{Whole, Cut, Full}
 use Rattle.schedule_replay.specs.Kinds.{Site, site_in}
 
 -- the next end with what it keeps of hosts, what the step gave, and the frame that answers a host behind all that
@@ -37,26 +55,98 @@ abbrev pub GivesSite : Result Moved NoMemory → SiteStep → Site → Site → 
 GivesSite (Ok g) s old new = s ≡ record { site = new; outputs = g.outputs; moves = g.moves; reply = g.reply }
 GivesSite (Err e) s old new = new ≡ old
 
+-- a start over a book
+unfoldable pub site_start : Role → Config → List ℕ → Kept → SiteStep
+site_start r c key k = record {
+  site = record { end = (starts r c k).end; access = access_over r key k };
+  outputs = (starts r c k).outputs;
+  moves = (starts r c k).moves;
+  reply = None;
+}
+
+-- ---- what a node commits
+
+abbrev pub end_step : SiteStep → Stepped
+end_step v = record { end = v.site.end; outputs = v.outputs; moves = v.moves }
+
+-- what comes of the records of a node's step
+abbrev pub site_commits : Node → SiteStep → Committed
+site_commits x v = commits x.checkpoint (contents_of x.end (end_step v))
+
+-- the node after it, where all of them were committed, and where it fell, with this block
+abbrev pub after_site : Node → SiteStep → Checkpoint → Node
+after_site x v k = record x { end = v.site.end; access = v.site.access; checkpoint = k }
+
+abbrev pub fallen_site : List ℕ → Node → SiteStep → Checkpoint → Node
+fallen_site block x v k = fallen block (record x { end = v.site.end }) k
+
+-- what comes of the records of what a node's end gave, which is as the step left it, and whose spaces were these before
+abbrev pub moved_commits : Node → Drawing → Moved → Committed
+moved_commits x before g = commits x.checkpoint (leaves before (drawing_of x.end) g.moves)
+
+abbrev pub CommitsMoved : Result Made NoMemory → List ℕ → Drawing → Moved → Node → Node → Type 0
+CommitsMoved (Ok (Whole g)) block before moved old new =
+    (k : Checkpoint) × (moved_commits old before moved ≡ IsWhole k) × (new ≡ record old { checkpoint = k }) × (g ≡ moved)
+CommitsMoved (Ok Cut) block before moved old new = (k : Checkpoint) × (moved_commits old before moved ≡ IsCut k) × (new ≡ fallen block old k)
+CommitsMoved (Ok (Full records)) block before moved old new = moved_commits old before moved ≡ IsFull records
+CommitsMoved (Err e) block before moved old new = Unit {0}
+
+-- a node's step is this, as far as memory sufficed
+abbrev pub MakesStep : Result Made NoMemory → List ℕ → SiteStep → Node → Node → Type 0
+MakesStep (Ok (Whole g)) block v old new =
+    (k : Checkpoint) × (site_commits old v ≡ IsWhole k) × (new ≡ after_site old v k)
+    × (g.outputs ≡ v.outputs) × (g.moves ≡ v.moves) × (g.reply ≡ v.reply)
+MakesStep (Ok Cut) block v old new = (k : Checkpoint) × (site_commits old v ≡ IsCut k) × (new ≡ fallen_site block old v k)
+MakesStep (Ok (Full records)) block v old new = site_commits old v ≡ IsFull records
+MakesStep (Err e) block v old new = Unit {0}
+
+-- ---- what doesn't fit
+
+-- why a frame can't come to a node
+abbrev pub frames_unfit : Option Node → Option Why
+frames_unfit None = Some why.Node
+frames_unfit (Some x) =
+    if is_lac x.end.role then (if x.up then (if is_some x.access then None else Some why.Node) else Some why.Down) else Some why.Node
+
+-- why a node can't start
+abbrev pub start_unfit : Option Node → Option Why
+start_unfit None = Some why.Node
+start_unfit (Some x) = if x.up then Some why.Up else None
+
 -- ---- the line
 
 abbrev pub reply_entries : ℕ → ℕ → Option (List ℕ) → List Entry
 reply_entries line n None = []
 reply_entries line n (Some bytes) = Frames line n bytes ∷ []
 
-unfoldable pub moved_to : World → ℕ → Node → SiteStep → World
-moved_to w n x v = moved_all n v.moves (with_node w n (record x { end = v.site.end; access = v.site.access }))
+unfoldable pub moved_to : World → ℕ → Node → SiteStep → Checkpoint → World
+moved_to w n x v k = moved_all n v.moves (with_node w n (after_site x v k))
 
 -- its world and its entries; what is done stands elsewhere
-unfoldable pub served_line : World → ℕ → ℕ → Node → SiteStep → Lined
-served_line w line n x v = record {
-  world = shown_all n v.outputs (moved_to w n x v);
-  entries = entries_of line n v.outputs (moved_to w n x v) ++ reply_entries line n v.reply;
+unfoldable pub whole_line : World → ℕ → ℕ → Node → SiteStep → Checkpoint → Lined
+whole_line w line n x v k = record {
+  world = shown_all n v.outputs (moved_to w n x v k);
+  entries = entries_of line n v.outputs (moved_to w n x v k) ++ reply_entries line n v.reply;
   done = [];
+  cut = false;
 }
 
-unfoldable pub served_at : World → ℕ → ℕ → Event → Option Node → Lined
-served_at w line n ev None = quiet_line w
+abbrev pub served_by : World → ℕ → ℕ → Node → SiteStep → Committed → Result Lined Refusal
+served_by w line n x v (IsFull records) = Err (StoreFull records)
+served_by w line n x v (IsCut k) = Ok (cut_line w line n (record x { end = v.site.end }) k)
+served_by w line n x v (IsWhole k) = Ok (whole_line w line n x v k)
+
+unfoldable pub served_line : World → ℕ → ℕ → Node → SiteStep → Result Lined Refusal
+served_line w line n x v = served_by w line n x v (site_commits x v)
+
+unfoldable pub served_at : World → ℕ → ℕ → Event → Option Node → Result Lined Refusal
+served_at w line n ev None = Ok (quiet_line w)
 served_at w line n ev (Some x) = served_line w line n x (site_step (site_in x) x.clock (block_of n line) ev)
+
+-- a node that starts, where it is down
+unfoldable pub start_served : World → ℕ → ℕ → Node → Result Lined Refusal
+start_served w line n x =
+    served_line w line n (record x { up = true }) (site_start x.end.role x.end.config (block_of n line) x.checkpoint.book)
 
 -- an event that isn't of a LAC's access
 abbrev pub IsPlain : Event → Type 0
@@ -72,3 +162,19 @@ IsPlain OpenTunnel = Unit {0}
 IsPlain (DropCall s) = Unit {0}
 IsPlain (CloseTunnel i) = Unit {0}
 IsPlain Tick = Unit {0}
+
+-- ---- what a line tells
+
+-- what came of a node's step is shown, in a world that has the node as the step left it
+abbrev pub ShowsMade : {T : Type 0} → Result T LineFault → Made → ℕ → ℕ → Told → Told → Type 0
+ShowsMade (Ok x) (Whole g) line n old new =
+    let v = moved_all n g.moves old.world in
+    (new.world ≡ shown_all n g.outputs v)
+    × (new.report ≡ old.report ++ entries_text (entries_of line n g.outputs v ++ reply_entries line n g.reply))
+    × (new.ups ≡ ups_after old.ups (entries_of line n g.outputs v ++ reply_entries line n g.reply))
+ShowsMade (Ok x) Cut line n old new = (new.world ≡ old.world) × (new.report ≡ old.report ++ entries_text (Stopped line n ∷ [])) × (new.ups ≡ old.ups)
+ShowsMade (Ok x) (Full records) line n old new = ⊥
+ShowsMade (Err (Refused refusal)) (Full records) line n old new = (refusal ≡ StoreFull records) × (new ≡ old)
+ShowsMade (Err (Refused refusal)) (Whole g) line n old new = ⊥
+ShowsMade (Err (Refused refusal)) Cut line n old new = ⊥
+ShowsMade (Err OutOfMemory) made line n old new = Unit {0}

@@ -6,7 +6,8 @@ use world_model::Refusal;
 /// Why a line isn't run.
 #[derive(Clone, Copy)]
 pub enum LineFault {
-    /// The line is refused. The world is as before.
+    /// The line is refused. The world is as before; of one that found no room for records the report is, and it answers want of memory from
+    /// then on.
     Refused { refusal: Refusal },
     /// Memory was wanting. The world answers so from then on.
     NoMemory,

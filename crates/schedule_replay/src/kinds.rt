@@ -3,14 +3,16 @@
 ghost use Rattle.std.specs.Prelude.{◌≡◌, is_some};
 ghost use Rattle.end_model.specs.Access.{access_with};
 ghost use Rattle.end_model.specs.End.{new_end};
+ghost use Rattle.end_model.specs.Starting.{bare_end};
 ghost use Rattle.world_model.specs.World.{farewell_by};
 ghost use Rattle.end_core.specs.Fits.{fits};
-ghost use Rattle.schedule_replay.specs.Serving.{site_step, GivesSite};
+ghost use Rattle.schedule_replay.specs.Serving.{site_step, site_start, GivesSite};
 
 use end_core::End;
 use end_model::{Config, Event, Role};
 use lac_core::Lac;
 use lns_core::Lns;
+use session_book::Book;
 use std::alloc::Global;
 use std::marker::Model;
 use tunnel_core::{Moves, Outputs};
@@ -108,6 +110,33 @@ impl NodeEnd {
                 })
             }
         }
+    }
+
+    /// All but the book is lost: no tunnel is left and no host, ids are drawn above the book's ceilings, and a LAC makes its cookies with
+    /// this key. It takes no memory.
+    pub(crate) fn fall(&mut self, key: [u8; 16], book: &Book)
+        ensures { self.new ≡ record { end = bare_end self.old.end.role self.old.end.config book.now.kept; access = access_with self.old.end.role key } }
+    {
+        match &mut self.kind {
+            Kind::Lac(lac) => lac.fall(key, book),
+            Kind::Lns(lns) => lns.fall(book),
+        }
+    }
+
+    /// The end starts over its book.
+    #[tactic(auto, unfolding(crate::specs::Serving::site_start))]
+    pub(crate) fn start(&mut self, key: [u8; 16], book: &Book) -> Result<Moved, NoMemory>
+        ensures { GivesSite result (site_start self.old.end.role self.old.end.config key book.now.kept) self.old self.new }
+    {
+        let given = match &mut self.kind {
+            Kind::Lac(lac) => lac.start(key, book)?,
+            Kind::Lns(lns) => lns.start(book)?,
+        };
+        Ok(Moved {
+            outputs: given.outputs,
+            moves: given.moves,
+            reply: None,
+        })
     }
 
     /// Whether it is a LAC, which hosts come to.

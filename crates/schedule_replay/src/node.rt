@@ -1,25 +1,44 @@
 //! A node of the world.
 
-ghost use Rattle.std.specs.Prelude.{◌≡◌, [], OnOk, IfOk, Ok};
+ghost use Rattle.std.specs.Prelude.{◌≡◌, ◌+◌, ◌-◌, ◌^◌, min, [], OnOk, IfOk, Ok, Some, true};
 ghost use Rattle.id_table.specs.Ids.{put};
 ghost use Rattle.end_model.specs.Calls.{is_lac};
 ghost use Rattle.end_model.specs.Access.{access_with};
 ghost use Rattle.end_model.specs.End.{new_end};
-ghost use Rattle.world_model.specs.World.{config_of, count_at, later};
+ghost use Rattle.world_model.specs.World.{config_of, count_at, new_checkpoint, with_stop, fallen};
+ghost use Rattle.world_checkpoint.specs.Held.{CommitsTo};
+ghost use Rattle.schedule_replay.specs.Kinds.{site_in};
+ghost use Rattle.schedule_replay.specs.Serving.{site_step, site_start, MakesStep, CommitsMoved};
 
-use crate::kinds::NodeEnd;
-use end_model::{Config, Role, address_of};
+use crate::kinds::{Moved, NodeEnd};
+use end_model::{Config, Event, Role, address_of};
 use id_table::Table;
 use std::alloc::Global;
 use std::marker::Model;
+use step_records::{Spaces, step_records};
 use wire_base::{Bytes, NoMemory};
+use world_checkpoint::{Checkpoint, Commit};
+use world_model::StopAt;
 
-/// An end, with its clock, in milliseconds, and the births of its calls by local session id.
+/// What comes of a step of a node.
+#[derive(Drop)]
+pub(crate) enum Made {
+    /// All its records were committed: this is what it gave.
+    Whole(Moved),
+    /// A stop cut it off, and the node is down.
+    Cut,
+    /// The checkpoint has so many records, and no room for those of the step.
+    Full { records: u32 },
+}
+
+/// An end, and whether it is up, with its clock, in milliseconds, the births of its calls by local session id, and its checkpoint.
 #[derive(Drop)]
 pub(crate) struct Node {
     pub(crate) end: NodeEnd,
+    pub(crate) up: bool,
     pub(crate) clock: u64,
     pub(crate) births: Table<u64>,
+    checkpoint: Checkpoint,
 }
 
 impl Model for Node {
@@ -27,7 +46,7 @@ impl Model for Node {
 
     ghost Value = { Known };
 
-    ghost view = { λ n. record { end = n.end.end; clock = n.clock; births = n.births.entries; access = n.end.access } };
+    ghost view = { λ n. record { end = n.end.end; up = n.up; clock = n.clock; births = n.births.entries; access = n.end.access; checkpoint = n.checkpoint.checkpoint } };
 }
 
 /// A copy of a tunnel secret.
@@ -63,12 +82,14 @@ pub(crate) fn count_at(counts: &Table<u64>, id: u32) -> u64
 impl Node {
     /// A new node, whose LAC makes its cookies with this key.
     pub(crate) fn new(alloc: Global, role: Role, config: Config, key: [u8; 16]) -> Node
-        ensures { result ≡ record { end = new_end role config; clock = 0; births = []; access = access_with role key } }
+        ensures { result ≡ record { end = new_end role config; up = true; clock = 0; births = []; access = access_with role key; checkpoint = new_checkpoint } }
     {
         Node {
             end: NodeEnd::new(alloc, role, config, key),
+            up: true,
             clock: 0,
             births: Table::new(alloc),
+            checkpoint: Checkpoint::new(alloc),
         }
     }
 
@@ -80,9 +101,79 @@ impl Node {
 
     /// The node's clock goes on by so many milliseconds.
     pub(crate) fn pass(&mut self, milliseconds: u32)
-        ensures { Ok self.new ≡ later milliseconds (Ok self.old) }
+        ensures { self.new ≡ record self.old { clock = min (self.old.clock + milliseconds) (2 ^ 64 - 1) } }
     {
         self.clock = self.clock.saturating_add(u64::from(milliseconds));
+    }
+
+    /// A step of the node's end on an event, at the moment of its clock, with a block of random bytes. All that it leaves is committed before it
+    /// gives anything.
+    #[tactic(auto, using(crate::proofs::Nodes::makes_step))]
+    pub(crate) fn step(
+        &mut self,
+        alloc: Global,
+        block: [u8; 16],
+        event: &Event,
+    ) -> Result<Made, NoMemory>
+        ensures { MakesStep result block (site_step (site_in self.old) self.old.clock block event.now) self.old self.new }
+    {
+        let before = self.end.end().spaces();
+        let moved = self.end.step(self.clock, block, event)?;
+        self.commit(alloc, block, before, moved)
+    }
+
+    /// Commits what a step leaves, where ids were drawn from these spaces before it.
+    #[tactic(auto, using(crate::proofs::Nodes::whole_moved, crate::proofs::Nodes::cut_moved))]
+    fn commit(
+        &mut self,
+        alloc: Global,
+        block: [u8; 16],
+        before: Spaces,
+        moved: Moved,
+    ) -> Result<Made, NoMemory>
+        ensures { CommitsMoved result block before moved self.old self.new }
+    {
+        let after = self.end.end().spaces();
+        let records = step_records(alloc, &before, &after, moved.moves.as_slice())?;
+        match self.checkpoint.commit(records)? {
+            Commit::Full { records } => Ok(Made::Full { records }),
+            Commit::Whole => Ok(Made::Whole(moved)),
+            Commit::Cut => {
+                self.fall(block)?;
+                Ok(Made::Cut)
+            }
+        }
+    }
+
+    /// All but the checkpoint is lost, and a stop is armed no more.
+    #[tactic(auto, unfolding(world_model::specs::World::fallen))]
+    pub(crate) fn fall(&mut self, block: [u8; 16]) -> Result<(), NoMemory>
+        ensures { OnOk result (self.new ≡ fallen block self.old self.old.checkpoint) }
+    {
+        self.checkpoint.settle()?;
+        self.end.fall(block, self.checkpoint.book());
+        self.up = false;
+        self.checkpoint.disarm();
+        Ok(())
+    }
+
+    /// The node starts over its checkpoint.
+    #[tactic(auto, using(crate::proofs::Nodes::makes_step))]
+    pub(crate) fn start(&mut self, alloc: Global, block: [u8; 16]) -> Result<Made, NoMemory>
+        ensures { MakesStep result block (site_start self.old.end.role self.old.end.config block self.old.checkpoint.book) (record self.old { up = true }) self.new }
+    {
+        self.checkpoint.settle()?;
+        let before = self.end.end().spaces();
+        let moved = self.end.start(block, self.checkpoint.book())?;
+        self.up = true;
+        self.commit(alloc, block, before, moved)
+    }
+
+    /// Arms a stop, in place of the one before.
+    pub(crate) fn arm(&mut self, stop: StopAt)
+        ensures { self.new ≡ record self.old { checkpoint = with_stop (Some stop) self.old.checkpoint } }
+    {
+        self.checkpoint.arm(stop);
     }
 
     /// The call with this local session is of this birth.

@@ -1,31 +1,32 @@
 //! The world's state, and what a line does to it.
 
-ghost use Rattle.std.specs.Prelude.{◌≡◌, ◌==◌, [], ◌∷◌, ◌++◌, ◌+◌, length, count_by, OnOk, IfOk, MatchResult, IsSome, slice_get, Ok, Err, None, Some, Option};
+ghost use Rattle.std.specs.Prelude.{◌≡◌, ◌==◌, [], ◌∷◌, ◌++◌, ◌+◌, length, true, false, count_by, OnOk, IfOk, MatchResult, IsSome, IsOk, slice_get, Ok, Err, None, Some, Option};
 ghost use Rattle.id_table.specs.Ids.{at};
 ghost use Rattle.world_model.specs.Texts.{send_text, entry_text, entries_text};
-ghost use Rattle.world_model.specs.World.{sent, birth_of, with_birth, is_born, moved, moved_all, shown, shown_all, entry_of, entries_of, declared, lac_at, lns_at, with_call, with_tunnel, later, added, block_of, stepped, arrival, refused_by, delivers, farewell_in, framed, line as line_of};
+ghost use Rattle.world_model.specs.World.{sent, birth_of, with_birth, is_born, moved, moved_all, shown, shown_all, entry_of, entries_of, declared, lac_at, lns_at, down_at, with_call, with_tunnel, later, added, block_of, stepped, arrival, refused_by, delivers, farewell_in, framed, crashed, armed, started, line as line_of};
 ghost use Rattle.world_model.specs.Run.{tables};
 ghost use Rattle.schedule_replay.specs.Counting.{ups_with, ups_after, agreements_of};
 ghost use Rattle.schedule_replay.specs.Fault.{new_told, Leads, LeadsTo, Says};
-ghost use Rattle.schedule_replay.specs.Serving.{served_at, reply_entries, IsPlain};
+ghost use Rattle.schedule_replay.specs.Serving.{served_at, start_served, reply_entries, frames_unfit, start_unfit, IsPlain, ShowsMade};
 ghost use Rattle.schedule_replay.specs.Kinds.{of_role, fitting};
 
 use crate::fault::LineFault;
 use crate::kinds::Moved;
-use crate::node::{Node, config_of, copy_secret, count_at};
+use crate::node::{Made, Node, config_of, copy_secret, count_at};
 use crate::tables::{push_agreement_table, push_end_table};
 use byteorder::{BigEndian, ByteOrder};
 use end_model::{Event, Move, Origin, Out, Role, address_of, node_of};
 use id_table::Table;
 use report_text::{
-    push_cause, push_drop, push_farewell, push_frame, push_gone, push_send, push_up, too_old,
+    push_cause, push_drop, push_farewell, push_frame, push_gone, push_send, push_stopped, push_up,
+    too_old,
 };
 use schedule_text::Line;
 use std::alloc::Global;
 use std::marker::Model;
 use tunnel_core::Outputs;
 use wire_base::{Bytes, NoMemory, Sequence, Why};
-use world_model::{Packet, Refusal};
+use world_model::{Packet, Refusal, StopAt};
 
 /// The world's state.
 #[derive(Drop)]
@@ -278,41 +279,76 @@ impl State {
         self.reply(line, node, &moved.reply)
     }
 
+    /// What came of a node's step, in a line.
+    fn show_made(&mut self, line: u64, node: u8, made: Made) -> Result<(), LineFault>
+        ensures { ShowsMade result made line node self.old self.new }
+    {
+        match made {
+            Made::Whole(moved) => {
+                self.show_step(line, node, moved)?;
+                Ok(())
+            }
+            Made::Cut => {
+                push_stopped(&mut self.report, line, node)?;
+                Ok(())
+            }
+            Made::Full { records } => Err(LineFault::Refused {
+                refusal: Refusal::StoreFull { records },
+            }),
+        }
+    }
+
     /// What a node's step on an event does, in a line, at the moment of its clock.
-    #[tactic(auto, unfolding(crate::specs::Serving::served_at, crate::specs::Serving::served_line, crate::specs::Serving::moved_to))]
-    fn serve(&mut self, line: u64, node: u8, event: &Event) -> Result<(), NoMemory>
+    #[tactic(auto, using(crate::proofs::Serving::made_says), unfolding(crate::specs::Serving::served_at, crate::specs::Serving::served_line))]
+    fn serve(&mut self, line: u64, node: u8, event: &Event) -> Result<(), LineFault>
         requires { IsSome (at self.old.world.nodes node) }
-        ensures { OnOk result (LeadsTo (served_at self.old.world line node event.now (at self.old.world.nodes node)) self.old self.new) }
+        ensures { Says result (served_at self.old.world line node event.now (at self.old.world.nodes node)) self.old self.new }
     {
         let Some(at) = self.nodes.get_mut(u32::from(node)) else {
             unreachable!()
         };
-        let moved = at.end.step(at.clock, block_of(node, line), event)?;
-        self.show_step(line, node, moved)
+        let made = at.step(self.alloc, block_of(node, line), event)?;
+        self.show_made(line, node, made)
     }
 
-    /// A node's step on an event that isn't of its access, in a line, at the moment of its clock.
-    #[tactic(auto, using(crate::proofs::Serving::plain_leads))]
-    fn step(&mut self, line: u64, node: u8, event: &Event) -> Result<(), NoMemory>
-        requires there { IsSome (at self.old.world.nodes node) }
+    /// A step on an event that isn't of a node's access, in a line, at the moment of the clock of the node, which is up.
+    #[tactic(auto, using(crate::proofs::Serving::plain_says))]
+    fn step(&mut self, line: u64, node: u8, event: &Event) -> Result<(), LineFault>
+        requires there { IsOk (declared (at self.old.world.nodes node)) }
         requires plain { IsPlain event.now }
-        ensures { OnOk result (Leads (stepped self.old.world line node event.now None (declared (at self.old.world.nodes node))) self.old self.new) }
+        ensures { Says result (stepped self.old.world line node event.now None (declared (at self.old.world.nodes node))) self.old self.new }
     {
         self.serve(line, node, event)
     }
 
+    /// Why a frame can't come to a node: it isn't a LAC, or is down.
+    fn no_frames(&self, node: u8) -> Option<Why>
+        ensures { result ≡ frames_unfit (at self.now.world.nodes node) }
+    {
+        match self.nodes.get(u32::from(node)) {
+            Some(at) if at.is_lac() => {
+                if !at.up {
+                    Some(Why::Down)
+                } else if at.end.has_hosts() {
+                    None
+                } else {
+                    Some(Why::Node)
+                }
+            }
+            _ => Some(Why::Node),
+        }
+    }
+
     /// An Ethernet frame comes to a node, in a line.
-    #[tactic(auto, using(crate::proofs::Serving::frame_leads, crate::proofs::Serving::frame_unfit, crate::proofs::Serving::frame_nowhere))]
+    #[tactic(auto, using(crate::proofs::Serving::frame_says, crate::proofs::Serving::frame_unfit))]
     fn take_frame(&mut self, line: u64, node: u8, bytes: &Bytes) -> Result<(), LineFault>
         ensures { Says result (framed self.old.world line node bytes.now (lac_at (at self.old.world.nodes node))) self.old self.new }
     {
-        match self.nodes.get(u32::from(node)) {
-            Some(at) if at.is_lac() && at.end.has_hosts() => {}
-            _ => return Err(LineFault::unfit(Why::Node)),
+        if let Some(why) = self.no_frames(node) {
+            return Err(LineFault::unfit(why));
         }
         let bytes = Bytes::from_slice(self.alloc, bytes.as_slice())?;
-        self.serve(line, node, &Event::Frame { bytes })?;
-        Ok(())
+        self.serve(line, node, &Event::Frame { bytes })
     }
 
     /// A new node, with this tunnel secret, which hides its calling numbers by it where `hide` is set.
@@ -338,21 +374,31 @@ impl State {
         Ok(())
     }
 
+    /// The node, where it is declared, and up.
+    fn running(&self, node: u8) -> Result<&Node, Why>
+        ensures { MatchResult result (λ x. declared (at self.now.world.nodes node) ≡ Ok x.now) (λ e. declared (at self.now.world.nodes node) ≡ Err e) }
+    {
+        match self.nodes.get(u32::from(node)) {
+            Some(at) if at.up => Ok(at),
+            Some(_) => Err(Why::Down),
+            None => Err(Why::Node),
+        }
+    }
+
     /// An event of a node, in a line.
     #[tactic(auto, unfolding(world_model::specs::World::stepped))]
     fn step_fitting(&mut self, line: u64, node: u8, event: &Event) -> Result<(), LineFault>
         requires { IsPlain event.now }
         ensures { Says result (stepped self.old.world line node event.now None (fitting event.now (declared (at self.old.world.nodes node)))) self.old self.new }
     {
-        match self.nodes.get(u32::from(node)) {
-            Some(at) => {
+        match self.running(node) {
+            Ok(at) => {
                 if let Some(why) = at.end.fits(event) {
                     return Err(LineFault::unfit(why));
                 }
-                self.step(line, node, event)?;
-                Ok(())
+                self.step(line, node, event)
             }
-            None => Err(LineFault::unfit(Why::Node)),
+            Err(why) => Err(LineFault::unfit(why)),
         }
     }
 
@@ -396,19 +442,19 @@ impl State {
     #[tactic(auto, unfolding(world_model::specs::World::arrival, world_model::specs::World::addressee_of))]
     fn arrival(&self, place: usize) -> Result<(&Packet, &Node), Why>
         ensures exact { MatchResult result (λ a. arrival self.now.world (slice_get self.now.world.packets place) ≡ Ok (a.0.now, a.1.now)) (λ e. arrival self.now.world (slice_get self.now.world.packets place) ≡ Err e) }
-        ensures there { IfOk result (λ a. at self.now.world.nodes a.0.now.to ≡ Some a.1.now) }
+        ensures there { IfOk result (λ a. declared (at self.now.world.nodes a.0.now.to) ≡ Ok a.1.now) }
     {
         let Some(packet) = self.packets.lend(place) else {
             return Err(Why::Packet);
         };
-        match self.nodes.get(u32::from(packet.to)) {
-            Some(node) => Ok((packet, node)),
-            None => Err(Why::Node),
+        match self.running(packet.to) {
+            Ok(node) => Ok((packet, node)),
+            Err(why) => Err(why),
         }
     }
 
     /// A packet reaches its addressee, in a line.
-    #[tactic(auto, unfolding(world_model::specs::World::delivers, world_model::specs::World::delivers_it, world_model::specs::World::arrives, world_model::specs::World::stepped, world_model::specs::World::after_step, world_model::specs::World::given))]
+    #[tactic(auto, using(crate::proofs::Serving::arrival_says), unfolding(world_model::specs::World::delivers, world_model::specs::World::delivers_it, world_model::specs::World::arrives))]
     fn deliver(&mut self, line: u64, place: usize) -> Result<(), LineFault>
         ensures { Says result (delivers self.old.world line (slice_get self.old.world.packets place)) self.old self.new }
     {
@@ -422,21 +468,78 @@ impl State {
         let node = packet.to;
         let peer = address_of(packet.from);
         let bytes = Bytes::from_slice(self.alloc, packet.bytes.as_slice())?;
-        self.step(line, node, &Event::Datagram { peer, bytes })?;
-        Ok(())
+        self.step(line, node, &Event::Datagram { peer, bytes })
     }
 
     /// A node's clock goes on by so many milliseconds, and it ticks.
-    #[tactic(auto, using(id_table::specs::Ids::at_put_there), unfolding(world_model::specs::World::stepped))]
+    #[tactic(auto, unfolding(world_model::specs::World::stepped))]
     fn tick(&mut self, line: u64, node: u8, milliseconds: u32) -> Result<(), LineFault>
         ensures { Says result (stepped self.old.world line node Event.Tick None (later milliseconds (declared (at self.old.world.nodes node)))) self.old self.new }
     {
+        if let Err(why) = self.running(node) {
+            return Err(LineFault::unfit(why));
+        }
         let Some(at) = self.nodes.get_mut(u32::from(node)) else {
-            return Err(LineFault::unfit(Why::Node));
+            unreachable!()
         };
         at.pass(milliseconds);
-        self.step(line, node, &Event::Tick)?;
+        let made = at.step(self.alloc, block_of(node, line), &Event::Tick)?;
+        self.show_made(line, node, made)
+    }
+
+    /// A node crashes, in a line.
+    #[tactic(auto, unfolding(world_model::specs::World::crashed))]
+    fn crash(&mut self, line: u64, node: u8) -> Result<(), LineFault>
+        ensures { Says result (crashed self.old.world line node (declared (at self.old.world.nodes node))) self.old self.new }
+    {
+        if let Err(why) = self.running(node) {
+            return Err(LineFault::unfit(why));
+        }
+        let Some(at) = self.nodes.get_mut(u32::from(node)) else {
+            unreachable!()
+        };
+        at.fall(block_of(node, line))?;
         Ok(())
+    }
+
+    /// A stop is armed at a node, in a line.
+    #[tactic(auto, unfolding(world_model::specs::World::armed))]
+    fn arm(&mut self, node: u8, stop: StopAt) -> Result<(), LineFault>
+        ensures { Says result (armed self.old.world node stop (declared (at self.old.world.nodes node))) self.old self.new }
+    {
+        if let Err(why) = self.running(node) {
+            return Err(LineFault::unfit(why));
+        }
+        let Some(at) = self.nodes.get_mut(u32::from(node)) else {
+            unreachable!()
+        };
+        at.arm(stop);
+        Ok(())
+    }
+
+    /// Why a node can't start: it isn't declared, or is up.
+    fn no_start(&self, node: u8) -> Option<Why>
+        ensures { result ≡ start_unfit (at self.now.world.nodes node) }
+    {
+        match self.nodes.get(u32::from(node)) {
+            Some(at) if at.up => Some(Why::Up),
+            Some(_) => None,
+            None => Some(Why::Node),
+        }
+    }
+
+    /// A node that is down starts again, in a line.
+    fn start(&mut self, line: u64, node: u8) -> Result<(), LineFault>
+        ensures { Says result (started self.old.world line node (down_at (at self.old.world.nodes node))) self.old self.new }
+    {
+        if let Some(why) = self.no_start(node) {
+            return Err(LineFault::unfit(why));
+        }
+        let Some(at) = self.nodes.get_mut(u32::from(node)) else {
+            unreachable!()
+        };
+        let made = at.start(self.alloc, block_of(node, line))?;
+        self.show_made(line, node, made)
     }
 
     /// A line with its number, counted from 1.
@@ -483,6 +586,20 @@ impl State {
                 self.step_fitting(number, *node, &Event::DropCall { session })
             }
             Line::Tick { node, milliseconds } => self.tick(number, *node, *milliseconds),
+            Line::Crash { node } => self.crash(number, *node),
+            Line::Stop {
+                node,
+                commit,
+                kept,
+                ..
+            } => {
+                let stop = StopAt {
+                    commit: *commit,
+                    kept: *kept,
+                };
+                self.arm(*node, stop)
+            }
+            Line::Start { node } => self.start(number, *node),
         }
     }
 

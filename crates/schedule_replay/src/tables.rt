@@ -9,7 +9,7 @@ ghost use Rattle.tunnel_core.specs.Cores.{tunnel_of};
 use crate::node::{Node, count_at};
 use end_model::{Call, Control, node_of};
 use id_table::Table;
-use report_text::{agree, push_agree, push_call, push_tunnel, session_count};
+use report_text::{agree, push_agree, push_call, push_down, push_tunnel, session_count};
 use std::alloc::Global;
 use tunnel_core::TunnelCore;
 use wire_base::{Bytes, NoMemory};
@@ -52,11 +52,14 @@ fn push_tunnel_line(
     push_call_table(alloc, out, number, id, births, tunnel.calls())
 }
 
-/// The tunnels of a node with their calls, by local id.
+/// The tunnels of a node with their calls, by local id, or that it is down.
 #[tactic(auto, unfolding(world_model::specs::Run::node_table, world_model::specs::Run::tunnel_line))]
 fn push_node_table(alloc: Global, out: &mut Bytes, number: u32, node: &Node) -> Result<(), NoMemory>
     ensures { OnOk result (out.new ≡ out.old ++ node_table number (Some node.now)) }
 {
+    if !node.up {
+        return push_down(out, number);
+    }
     let ids = node.end.end().tunnel_ids(alloc)?;
     for id in ids.as_slice() {
         if let Some(tunnel) = node.end.end().tunnel(*id) {

@@ -11,6 +11,7 @@ use schedule_text::Line;
 use std::alloc::Global;
 use std::marker::Model;
 use wire_base::{Bytes, NoMemory};
+use world_model::Refusal;
 
 /// The world of a schedule: its nodes, each packet that was ever sent, and the report so far.
 #[derive(Drop)]
@@ -46,7 +47,11 @@ impl World {
             return Err(LineFault::NoMemory);
         }
         let ran = self.state.line(number, line);
-        self.spent = matches!(ran, Err(LineFault::NoMemory));
+        self.spent = match ran {
+            Ok(()) => false,
+            Err(LineFault::Refused { refusal }) => matches!(refusal, Refusal::StoreFull { .. }),
+            Err(LineFault::NoMemory) => true,
+        };
         ran
     }
 

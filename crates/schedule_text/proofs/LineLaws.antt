@@ -1,6 +1,6 @@
 -- A line that is read is spelled so, and a line that is spelled so is read.
 use Rattle.std.proofs.Common.{◌≡◌, ◌⊎◌, ℕ, ◌^◌, ◌<◌, ◌≤◌, ◌&&◌, zero, suc, ◌/◌, ◌%◌, slice_index, Bool, true, false, cond, eqb, leb, List, [], ◌∷◌, ◌++◌, length, Option, Some, None, Result, Ok, Err, refl, sym, ap, subst, ◌∙◌, append_assoc, arith, inl, inr}
-use Rattle.std.specs.Prelude.{codes, option_map, IfSome}
+use Rattle.std.specs.Prelude.{codes, not, option_map, IfSome}
 use Rattle.std.specs.List.{list_all, AllByRecursion}
 use Rattle.std.specs.Char.{is_ascii_digit}
 use Rattle.std.specs.Str.{bytes_eq, all_ascii_digits}
@@ -13,9 +13,9 @@ use Rattle.hex.specs.Hex.{decode_of, encode_lower, encode_with, lower_digits, Is
 use Rattle.hex.specs.declared.error.FromHexError.{FromHexError}
 use Rattle.hex.proofs.HexLemmas.{decode_of-encode_lower, decode_of-ok}
 use Rattle.schedule_text.specs.declared.line.Line.{Line}
-use Rattle.schedule_text.specs.declared.line.Line.TheVariants.{Remark, Lac, Lns, OpenUp, Close, Ring, FromSub, Down, Hang, DropCall, Frame, Deliver, Tick}
-use Rattle.schedule_text.specs.Grammar.{call_text, line_text, IsPrintable, IsNode, IsPort, IsSession, IsTunnel, IsFrame, IsEthernet, IsPacket, IsMilliseconds, IsSecret, HasSecret, secret_text, mode_text, FitsLine}
-use Rattle.schedule_text.specs.Reading.{◌>>=◌, cut, node_of, port_of, session_of, packet_of, milliseconds_of, bytes_from, bytes_of, frame_of, ethernet_of, secret_of, mode_of, mode_words_of, lac_by, lac_of, lns_of, open_of, ring_of, call_of, from_sub_of, down_of, node_session_of, hang_of, drop_of, close_of, frame_line_of, deliver_of, tick_of, plain_of, words_of, is_printable, remark_of, line_of}
+use Rattle.schedule_text.specs.declared.line.Line.TheVariants.{Remark, Lac, Lns, OpenUp, Close, Ring, FromSub, Down, Hang, DropCall, Frame, Deliver, Tick, Crash, Stop, Start}
+use Rattle.schedule_text.specs.Grammar.{call_text, line_text, IsPrintable, IsNode, IsPort, IsSession, IsTunnel, IsFrame, IsEthernet, IsPacket, IsMilliseconds, IsSecret, HasSecret, IsCommit, IsDeviceCall, secret_text, mode_text, kept_text, FitsLine}
+use Rattle.schedule_text.specs.Reading.{◌>>=◌, cut, node_of, port_of, session_of, packet_of, milliseconds_of, bytes_from, bytes_of, frame_of, ethernet_of, secret_of, mode_of, mode_words_of, lac_by, lac_of, lns_of, open_of, ring_of, call_of, from_sub_of, down_of, node_session_of, hang_of, drop_of, close_of, frame_line_of, deliver_of, tick_of, crash_of, start_of, commit_of, device_call_of, kept_of, stop_words_of, stop_by, stop_of, fall_of, plain_of, words_of, is_printable, remark_of, line_of}
 use Rattle.schedule_text.proofs.Numbers.{own, number_found, number_again}
 
 -- ---- parts
@@ -373,9 +373,119 @@ tick_found words l e =
     let spelled : IsSpelled (Tick node milliseconds) (codes "tick " ++ words) = ((n.1, m.1), rw tail (simp append_assoc)) in
     subst (λ x. IsSpelled x (codes "tick " ++ words)) (same_Some (Tick node milliseconds) l hm) spelled)))
 
+-- ---- crashes, stops and starts that were read
+
+crash_found : (words : List ℕ) (l : Line) → crash_of words ≡ Some l → IsSpelled l (codes "crash " ++ words)
+unfolding crash_of
+crash_found words l e =
+    bound (node_of words) _ l e (λ node en hn.
+    let n = node_found node words en in
+    let spelled : IsSpelled (Crash node) (codes "crash " ++ words) = (n.1, ap (λ t. codes "crash " ++ t) n.0) in
+    subst (λ x. IsSpelled x (codes "crash " ++ words)) (same_Some (Crash node) l hn) spelled)
+
+start_found : (words : List ℕ) (l : Line) → start_of words ≡ Some l → IsSpelled l (codes "start " ++ words)
+unfolding start_of
+start_found words l e =
+    bound (node_of words) _ l e (λ node en hn.
+    let n = node_found node words en in
+    let spelled : IsSpelled (Start node) (codes "start " ++ words) = (n.1, ap (λ t. codes "start " ++ t) n.0) in
+    subst (λ x. IsSpelled x (codes "start " ++ words)) (same_Some (Start node) l hn) spelled)
+
+commit_found : (n : ℕ) (word : List ℕ) → commit_of word ≡ Some n → (word ≡ decimal n) × IsCommit n
+commit_found n word e = let f = number_found 1 255 n word (omega arith) e in (f.0, (f.1, f.2))
+
+device_call_found : (n : ℕ) (word : List ℕ) → device_call_of word ≡ Some n → (word ≡ decimal n) × (1 ≤ n) × (n ≤ 4)
+device_call_found n word e = number_found 1 4 n word (omega arith) e
+
+-- the word is the one spelling of what is said of a record
+kept_found : (kept : Bool) (word : List ℕ) → kept_of word ≡ Some kept → word ≡ kept_text kept
+kept_found kept word e =
+    elim (either (bytes_eq word (codes "kept")) (Some true) _ kept e) [
+      | inl a ↦ subst (λ b. word ≡ kept_text b) (same_Some true kept a.1) (same_text word (codes "kept") a.0)
+      | inr e1 ↦
+          let c = chosen _ _ kept e1 in
+          subst (λ b. word ≡ kept_text b) (same_Some false kept c.1) (same_text word (codes "lost") c.0)
+    ]
+
+-- the words are those of a node, of a commit, of a call, and of what is said of the record
+record AreStopWords (words : List ℕ) (said : ℕ × ℕ × ℕ × Bool) : Type 0 where
+  spelled : words ≡ decimal said.0 ++ 32 ∷ (decimal said.1 ++ 32 ∷ (decimal said.2 ++ 32 ∷ kept_text said.3))
+  node : IsNode said.0
+  commit : IsCommit said.1
+  least : 1 ≤ said.2
+  most : said.2 ≤ 4
+
+stop_words_found : (words : List ℕ) (said : ℕ × ℕ × ℕ × Bool) → stop_words_of words ≡ Some said → AreStopWords words said
+unfolding stop_words_of
+stop_words_found words said e =
+    bound (cut 32 words) _ said e (λ a ea ha.
+    bound (cut 32 a.1) _ said ha (λ b eb hb.
+    bound (cut 32 b.1) _ said hb (λ c ec hc.
+    bound (node_of a.0) _ said hc (λ node en hn.
+    bound (commit_of b.0) _ said hn (λ commit em hm.
+    bound (device_call_of c.0) _ said hm (λ call el hl.
+    bound (kept_of c.1) _ said hl (λ kept ek hk.
+    let n = node_found node a.0 en in
+    let m = commit_found commit b.0 em in
+    let l = device_call_found call c.0 el in
+    let last : b.1 ≡ decimal call ++ 32 ∷ kept_text kept =
+    cut_words b.1 c.0 c.1 call ec l.0 ∙ ap (λ t. decimal call ++ 32 ∷ t) (kept_found kept c.1 ek) in
+    let tail = cut_words a.1 b.0 b.1 commit eb m.0 ∙ ap (λ t. decimal commit ++ 32 ∷ t) last in
+    let found : AreStopWords words (node, commit, call, kept) =
+    record {
+      spelled = cut_words words a.0 a.1 node ea n.0 ∙ ap (λ t. decimal node ++ 32 ∷ t) tail;
+      node = n.1;
+      commit = m.1;
+      least = l.1;
+      most = l.2;
+    } in
+    subst (AreStopWords words) (same_Some (node, commit, call, kept) said hk) found)))))))
+
+-- a record that is kept has its gate
+stop_by_found : (node commit call : ℕ) (kept : Bool) (l : Line) → stop_by node commit call kept ≡ Some l
+    → (kept ≡ true → 3 ≤ call) × (Stop node commit call kept ≡ l)
+stop_by_found node commit call false l e = (λ t. absurd (false≢true t), same_Some (Stop node commit call false) l e)
+stop_by_found node commit call true l e = by (leb 3 call) refl e
+  where
+    by : (b : Bool) → leb 3 call ≡ b → cond (not b) None (Some (Stop node commit call true)) ≡ Some l
+        → (true ≡ true → 3 ≤ call) × (Stop node commit call true ≡ l)
+    by true is h = (λ t. leb-true 3 call is, same_Some (Stop node commit call true) l h)
+    by false is h = absurd (none-some l h)
+
+-- the same bytes, as words that are cut in turn
+regroup_stop : (node commit call : ℕ) (kept : List ℕ) →
+    decimal node ++ codes " " ++ decimal commit ++ codes " " ++ decimal call ++ codes " " ++ kept
+    ≡ decimal node ++ 32 ∷ (decimal commit ++ 32 ∷ (decimal call ++ 32 ∷ kept))
+regroup_stop node commit call kept = simp append_assoc
+
+stop_found : (words : List ℕ) (l : Line) → stop_of words ≡ Some l → IsSpelled l (codes "stop " ++ words)
+unfolding stop_of
+stop_found words l e =
+    bound (stop_words_of words) _ l e (λ said es hs.
+    let m = stop_words_found words said es in
+    let by = stop_by_found said.0 said.1 said.2 said.3 l hs in
+    let text = m.spelled ∙ sym (regroup_stop said.0 said.1 said.2 (kept_text said.3)) in
+    let spelled : IsSpelled (Stop said.0 said.1 said.2 said.3) (codes "stop " ++ words) =
+    ((m.node, m.commit, (m.least, m.most, by.0)), ap (λ t. codes "stop " ++ t) text) in
+    subst (λ x. IsSpelled x (codes "stop " ++ words)) by.1 spelled)
+
 -- a kind's own line, where the words are behind its word
 kind_spelled : (kind name words : List ℕ) (l : Line) → bytes_eq kind name ≡ true → IsSpelled l (name ++ 32 ∷ words) → IsSpelled l (kind ++ 32 ∷ words)
 kind_spelled kind name words l e h = subst (λ k. IsSpelled l (k ++ 32 ∷ words)) (sym (same_text kind name e)) h
+
+fall_found : (kind words : List ℕ) (l : Line) → fall_of kind words ≡ Some l → IsSpelled l (kind ++ 32 ∷ words)
+unfolding fall_of
+fall_found kind words l e =
+    elim (either (bytes_eq kind (codes "crash")) (crash_of words) _ l e) [
+      | inl a ↦ kind_spelled kind (codes "crash") words l a.0 (crash_found words l a.1)
+      | inr e1 ↦ elim (either (bytes_eq kind (codes "stop")) (stop_of words) _ l e1) [
+        | inl a ↦ kind_spelled kind (codes "stop") words l a.0 (stop_found words l a.1)
+        | inr e2 ↦ elim (either (bytes_eq kind (codes "start")) (start_of words) _ l e2) [
+          | inl a ↦ kind_spelled kind (codes "start") words l a.0 (start_found words l a.1)
+          | inr e3 ↦ absurd (none-some l e3)
+        ]
+      ]
+    ]
 
 plain_found : (kind words : List ℕ) (l : Line) → plain_of kind words ≡ Some l → IsSpelled l (kind ++ 32 ∷ words)
 unfolding plain_of
@@ -394,7 +504,7 @@ plain_found kind words l e =
                 | inl a ↦ kind_spelled kind (codes "deliver") words l a.0 (deliver_found words l a.1)
                 | inr e6 ↦ elim (either (bytes_eq kind (codes "tick")) (tick_of words) _ l e6) [
                   | inl a ↦ kind_spelled kind (codes "tick") words l a.0 (tick_found words l a.1)
-                  | inr e7 ↦ absurd (none-some l e7)
+                  | inr e7 ↦ fall_found kind words l e7
                 ]
               ]
             ]
@@ -567,6 +677,30 @@ close_again : (node tunnel : ℕ) → IsNode node → IsTunnel tunnel → close_
 unfolding close_of
 close_again node tunnel n s = rw (node_session_again node tunnel n s) refl
 
+kept_again : (kept : Bool) → kept_of (kept_text kept) ≡ Some kept
+kept_again false = refl
+kept_again true = refl
+
+stop_by_again : (node commit call : ℕ) (kept : Bool) → IsDeviceCall kept call → stop_by node commit call kept ≡ Some (Stop node commit call kept)
+stop_by_again node commit call false h = refl
+stop_by_again node commit call true h = rw (le-leb 3 call (h.2 refl)) refl
+
+stop_words_again : (node commit call : ℕ) (kept : Bool) → IsNode node → IsCommit commit → IsDeviceCall kept call →
+    stop_words_of (decimal node ++ 32 ∷ (decimal commit ++ 32 ∷ (decimal call ++ 32 ∷ kept_text kept))) ≡ Some (node, commit, call, kept)
+unfolding stop_words_of
+stop_words_again node commit call kept n m c =
+    let first = node_cut node (decimal commit ++ 32 ∷ (decimal call ++ 32 ∷ kept_text kept)) n in
+    let second : cut 32 (decimal commit ++ 32 ∷ (decimal call ++ 32 ∷ kept_text kept)) ≡ Some (decimal commit, decimal call ++ 32 ∷ kept_text kept) =
+    cut_again 32 (decimal commit) (decimal call ++ 32 ∷ kept_text kept) (number_lacks 32 commit (omega arith) (omega arith)) in
+    let third : cut 32 (decimal call ++ 32 ∷ kept_text kept) ≡ Some (decimal call, kept_text kept) =
+    cut_again 32 (decimal call) (kept_text kept) (number_lacks 32 call (omega arith) (omega arith)) in
+    rw (first, second, third, node_again node n, number_again 1 255 commit (omega arith) m.0 m.1, number_again 1 4 call (omega arith) c.0 c.1, kept_again kept) refl
+
+stop_again : (node commit call : ℕ) (kept : Bool) → IsNode node → IsCommit commit → IsDeviceCall kept call →
+    stop_of (decimal node ++ 32 ∷ (decimal commit ++ 32 ∷ (decimal call ++ 32 ∷ kept_text kept))) ≡ Some (Stop node commit call kept)
+unfolding stop_of
+stop_again node commit call kept n m c = rw (stop_words_again node commit call kept n m c, stop_by_again node commit call kept c) refl
+
 tick_again : (node milliseconds : ℕ) → IsNode node → IsMilliseconds milliseconds → tick_of (decimal node ++ 32 ∷ decimal milliseconds) ≡ Some (Tick node milliseconds)
 unfolding tick_of
 tick_again node milliseconds n m = rw (node_cut node (decimal milliseconds) n, node_again node n, number_again 0 86400000 milliseconds (omega arith) (omega arith) m) refl
@@ -600,7 +734,7 @@ printable_again (c ∷ cs) h = and_from _ _ (and_from _ _ (le-leb 32 c h.0.0) (l
 
 -- what is spelled is read
 pub line_again : (l : Line) → FitsLine l → line_of (line_text l) ≡ Some l
-unfolding line_of words_of plain_of remark_of open_of deliver_of
+unfolding line_of words_of plain_of fall_of remark_of open_of deliver_of crash_of start_of
 line_again (Remark text) h = rw (printable_again text h) refl
 line_again (Lac node lns secret hide) h = ap lac_of (regroup_lac node lns (secret_text secret) (mode_text hide)) ∙ lac_again node lns secret hide h
 line_again (Lns node secret) h = ap lns_of (regroup_lns node (secret_text secret)) ∙ lns_again node secret h.0 h.1
@@ -624,3 +758,6 @@ line_again (Deliver packet) h = rw (number_again 1 4294967295 packet (omega arit
 line_again (Tick node milliseconds) h =
     let regrouped : decimal node ++ codes " " ++ decimal milliseconds ≡ decimal node ++ 32 ∷ decimal milliseconds = simp append_assoc in
     ap tick_of regrouped ∙ tick_again node milliseconds h.0 h.1
+line_again (Crash node) h = rw (node_again node h) refl
+line_again (Stop node commit call kept) h = ap stop_of (regroup_stop node commit call (kept_text kept)) ∙ stop_again node commit call kept h.0 h.1 h.2
+line_again (Start node) h = rw (node_again node h) refl

@@ -7,8 +7,8 @@ use Rattle.std.proofs.lemmas.Bool.{cases_Bool, eqb-true, ne_eqb}
 use Rattle.std.proofs.lemmas.List.{append-nil, length-append}
 use Rattle.hex.specs.Hex.{encode_lower, lower_digits}
 use Rattle.schedule_text.specs.declared.line.Line.{Line}
-use Rattle.schedule_text.specs.declared.line.Line.TheVariants.{Remark, Lac, Lns, OpenUp, Close, Ring, FromSub, Down, Hang, DropCall, Frame, Deliver, Tick}
-use Rattle.schedule_text.specs.Grammar.{call_text, secret_text, mode_text, line_text, IsPrintable, IsNode, IsSession, FitsLine, AreLines, spelling, IsText}
+use Rattle.schedule_text.specs.declared.line.Line.TheVariants.{Remark, Lac, Lns, OpenUp, Close, Ring, FromSub, Down, Hang, DropCall, Frame, Deliver, Tick, Crash, Stop, Start}
+use Rattle.schedule_text.specs.Grammar.{call_text, secret_text, mode_text, kept_text, line_text, IsPrintable, IsNode, IsSession, FitsLine, AreLines, spelling, IsText}
 use Rattle.schedule_text.specs.Reading.{put_first, text_lines}
 use Rattle.schedule_text.proofs.LineLaws.{Lacks, number_lacks, hex_lacks, digits_lack_feed, secret_lacks}
 
@@ -108,6 +108,10 @@ mode_lacks : (hide : Bool) → Lacks 10 (mode_text hide)
 mode_lacks false = (refl, (refl, (refl, (refl, (refl, tt)))))
 mode_lacks true = (refl, (refl, (refl, (refl, tt))))
 
+kept_lacks : (kept : Bool) → Lacks 10 (kept_text kept)
+kept_lacks false = (refl, (refl, (refl, (refl, tt))))
+kept_lacks true = (refl, (refl, (refl, (refl, tt))))
+
 lacks_feed : (l : Line) → FitsLine l → Lacks 10 (line_text l)
 lacks_feed (Remark text) h = (refl, lacks_printable text h)
 lacks_feed (Lac node lns secret hide) h =
@@ -136,6 +140,15 @@ lacks_feed (Deliver packet) h = (refl, (refl, (refl, (refl, (refl, (refl, (refl,
 lacks_feed (Tick node milliseconds) h =
     let front = lacks_append 10 (decimal node) (codes " ") (node_lacks node h.0) (refl, tt) in
     (refl, (refl, (refl, (refl, (refl, lacks_append 10 _ (decimal milliseconds) front (number_lacks 10 milliseconds (omega arith) (omega arith)))))))
+lacks_feed (Crash node) h = (refl, (refl, (refl, (refl, (refl, (refl, node_lacks node h))))))
+lacks_feed (Stop node commit call kept) h =
+    let front = lacks_append 10 (decimal node) (codes " ") (node_lacks node h.0) (refl, tt) in
+    let commits = lacks_append 10 (decimal node ++ codes " ") (decimal commit) front (number_lacks 10 commit (omega arith) (omega arith)) in
+    let words = lacks_append 10 _ (codes " ") commits (refl, tt) in
+    let calls = lacks_append 10 _ (decimal call) words (number_lacks 10 call (omega arith) (omega arith)) in
+    let parts = lacks_append 10 _ (codes " ") calls (refl, tt) in
+    (refl, (refl, (refl, (refl, (refl, lacks_append 10 _ (kept_text kept) parts (kept_lacks kept))))))
+lacks_feed (Start node) h = (refl, (refl, (refl, (refl, (refl, (refl, node_lacks node h))))))
 
 some_byte : (l : Line) → 0 < length (line_text l)
 some_byte (Remark text) = omega arith
@@ -151,6 +164,9 @@ some_byte (Close node tunnel) = omega arith
 some_byte (Frame node bytes) = omega arith
 some_byte (Deliver packet) = omega arith
 some_byte (Tick node milliseconds) = omega arith
+some_byte (Crash node) = omega arith
+some_byte (Stop node commit call kept) = omega arith
+some_byte (Start node) = omega arith
 
 pub fed_texts : (lines : List Line) → fed (map line_text lines) ≡ spelling lines
 fed_texts [] = refl

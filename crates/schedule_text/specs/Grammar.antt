@@ -4,7 +4,7 @@ use Rattle.std.specs.List.{flat_map, AllByRecursion}
 use Rattle.std.specs.Fmt.{decimal}
 use Rattle.hex.specs.Hex.{encode_lower, IsBytes}
 use Rattle.schedule_text.specs.declared.line.Line.{Line}
-use Rattle.schedule_text.specs.declared.line.Line.TheVariants.{Remark, Lac, Lns, OpenUp, Close, Ring, FromSub, Down, Hang, DropCall, Frame, Deliver, Tick}
+use Rattle.schedule_text.specs.declared.line.Line.TheVariants.{Remark, Lac, Lns, OpenUp, Close, Ring, FromSub, Down, Hang, DropCall, Frame, Deliver, Tick, Crash, Stop, Start}
 use Rattle.schedule_text.specs.declared.error.ScheduleError.{ScheduleError}
 use Rattle.schedule_text.specs.declared.error.ScheduleError.TheVariants.{BadLine, NoMemory}
 
@@ -20,6 +20,10 @@ secret_text (Some secret) = encode_lower secret
 -- the spelling of a mode: calling numbers are hidden, or they aren't
 abbrev pub mode_text : Bool → List ℕ
 mode_text hide = if hide then codes "hide" else codes "plain"
+
+-- what a stop commits is kept, or it is lost
+abbrev pub kept_text : Bool → List ℕ
+kept_text kept = if kept then codes "kept" else codes "lost"
 
 -- the spelling of a line, without the line feed that ends it; words are parted by one space
 abbrev pub line_text : Line → List ℕ
@@ -37,6 +41,10 @@ line_text (DropCall node session) = codes "drop " ++ decimal node ++ codes " " +
 line_text (Frame node bytes) = codes "frame " ++ decimal node ++ codes " " ++ encode_lower bytes
 line_text (Deliver packet) = codes "deliver " ++ decimal packet
 line_text (Tick node milliseconds) = codes "tick " ++ decimal node ++ codes " " ++ decimal milliseconds
+line_text (Crash node) = codes "crash " ++ decimal node
+line_text (Stop node commit call kept) =
+    codes "stop " ++ decimal node ++ codes " " ++ decimal commit ++ codes " " ++ decimal call ++ codes " " ++ kept_text kept
+line_text (Start node) = codes "start " ++ decimal node
 
 -- a printable ASCII byte
 abbrev pub IsPrintable : ℕ → Type 0
@@ -77,6 +85,14 @@ IsPacket n = (1 ≤ n) × (n ≤ 4294967295)
 abbrev pub IsMilliseconds : ℕ → Type 0
 IsMilliseconds n = n ≤ 86400000
 
+-- which of the commits to come
+abbrev pub IsCommit : ℕ → Type 0
+IsCommit n = (1 ≤ n) × (n ≤ 255)
+
+-- a call of the device; a record is kept only where its gate was written, which the third call does
+abbrev pub IsDeviceCall : Bool → ℕ → Type 0
+IsDeviceCall kept n = (1 ≤ n) × (n ≤ 4) × (kept ≡ true → 3 ≤ n)
+
 -- which lines have a spelling
 abbrev pub FitsLine : Line → Type 0
 FitsLine (Remark text) = AllByRecursion IsPrintable text
@@ -92,6 +108,9 @@ FitsLine (DropCall node session) = IsNode node × IsSession session
 FitsLine (Frame node bytes) = IsNode node × IsEthernet bytes
 FitsLine (Deliver packet) = IsPacket packet
 FitsLine (Tick node milliseconds) = IsNode node × IsMilliseconds milliseconds
+FitsLine (Crash node) = IsNode node
+FitsLine (Stop node commit call kept) = IsNode node × IsCommit commit × IsDeviceCall kept call
+FitsLine (Start node) = IsNode node
 
 abbrev pub AreLines : List Line → Type 0
 AreLines lines = AllByRecursion FitsLine lines

@@ -6,7 +6,7 @@ use Rattle.std.specs.Str.Parse.{digits_value}
 use Rattle.hex.specs.Hex.{decode_of, encode_lower}
 use Rattle.hex.specs.declared.error.FromHexError.{FromHexError}
 use Rattle.schedule_text.specs.declared.line.Line.{Line}
-use Rattle.schedule_text.specs.declared.line.Line.TheVariants.{Remark, Lac, Lns, OpenUp, Close, Ring, FromSub, Down, Hang, DropCall, Frame, Deliver, Tick}
+use Rattle.schedule_text.specs.declared.line.Line.TheVariants.{Remark, Lac, Lns, OpenUp, Close, Ring, FromSub, Down, Hang, DropCall, Frame, Deliver, Tick, Crash, Stop, Start}
 use Rattle.schedule_text.specs.declared.error.ScheduleError.{ScheduleError}
 use Rattle.schedule_text.specs.declared.error.ScheduleError.TheVariants.{BadLine, NoMemory}
 
@@ -155,6 +155,44 @@ unfoldable pub tick_of : List ℕ → Option Line
 tick_of words =
     cut 32 words >>= λ first. node_of first.0 >>= λ node. milliseconds_of first.1 >>= λ milliseconds. Some (Tick node milliseconds)
 
+unfoldable pub crash_of : List ℕ → Option Line
+crash_of words = node_of words >>= λ node. Some (Crash node)
+
+unfoldable pub start_of : List ℕ → Option Line
+start_of words = node_of words >>= λ node. Some (Start node)
+
+abbrev pub commit_of : List ℕ → Option ℕ
+commit_of word = number_of 1 255 word
+
+abbrev pub device_call_of : List ℕ → Option ℕ
+device_call_of word = number_of 1 4 word
+
+-- whether a word says that what a stop commits is kept
+abbrev pub kept_of : List ℕ → Option Bool
+kept_of word = if bytes_eq word (codes "kept") then Some true else if bytes_eq word (codes "lost") then Some false else None
+
+-- a node, a commit, a call, and whether it is kept
+unfoldable pub stop_words_of : List ℕ → Option (ℕ × ℕ × ℕ × Bool)
+stop_words_of words =
+    cut 32 words >>= λ first. cut 32 first.1 >>= λ second. cut 32 second.1 >>= λ third.
+    node_of first.0 >>= λ node. commit_of second.0 >>= λ commit. device_call_of third.0 >>= λ call. kept_of third.1 >>= λ kept.
+    Some (node, commit, call, kept)
+
+-- what is kept has its gate
+abbrev pub stop_by : ℕ → ℕ → ℕ → Bool → Option Line
+stop_by node commit call kept = if kept && not (nat_le 3 call) then None else Some (Stop node commit call kept)
+
+unfoldable pub stop_of : List ℕ → Option Line
+stop_of words = stop_words_of words >>= λ said. stop_by said.0 said.1 said.2 said.3
+
+-- the line of a kind that crashes a node, or starts it again
+unfoldable pub fall_of : List ℕ → List ℕ → Option Line
+fall_of kind words =
+    if bytes_eq kind (codes "crash") then crash_of words
+    else if bytes_eq kind (codes "stop") then stop_of words
+    else if bytes_eq kind (codes "start") then start_of words
+    else None
+
 -- the line of a kind that holds no bytes
 unfoldable pub plain_of : List ℕ → List ℕ → Option Line
 plain_of kind words =
@@ -165,7 +203,7 @@ plain_of kind words =
     else if bytes_eq kind (codes "close") then close_of words
     else if bytes_eq kind (codes "deliver") then deliver_of words
     else if bytes_eq kind (codes "tick") then tick_of words
-    else None
+    else fall_of kind words
 
 unfoldable pub words_of : List ℕ → List ℕ → Option Line
 words_of kind words =

@@ -75,6 +75,22 @@ pub enum Line {
         node: u8,
         milliseconds: u32,
     },
+    /// A node crashes: all but what its end committed is lost.
+    Crash {
+        node: u8,
+    },
+    /// A node is going to stop inside a commit, counted from the next one on, from 1 to 255, at one of the calls that a commit
+    /// makes of its device, from 1 to 4. What is committed there is kept, which needs call 3 or 4, or it is lost.
+    Stop {
+        node: u8,
+        commit: u8,
+        call: u8,
+        kept: bool,
+    },
+    /// A node that is down starts again over what its end committed.
+    Start {
+        node: u8,
+    },
 }
 
 /// A list of lines, in their order.

@@ -4,7 +4,7 @@ ghost use Rattle.std.specs.Prelude.{◌≡◌, MatchOption, IfOk, Ok, Some, None
 ghost use Rattle.std.specs.List.{list_all};
 ghost use Rattle.std.specs.Str.{bytes_eq};
 ghost use Rattle.hex.specs.Hex.{encode_lower};
-ghost use Rattle.schedule_text.specs.Reading.{mode_of, mode_words_of, lac_by, lac_of, lns_of, open_of, ring_of, call_of, from_sub_of, down_of, node_session_of, hang_of, drop_of, close_of, frame_line_of, deliver_of, tick_of, plain_of, words_of, is_printable, line_of, node_of, port_of, session_of, packet_of, bytes_from, bytes_of, frame_of, ethernet_of, secret_of};
+ghost use Rattle.schedule_text.specs.Reading.{mode_of, mode_words_of, lac_by, lac_of, lns_of, open_of, ring_of, call_of, from_sub_of, down_of, node_session_of, hang_of, drop_of, close_of, frame_line_of, deliver_of, tick_of, crash_of, start_of, commit_of, device_call_of, kept_of, stop_words_of, stop_by, stop_of, fall_of, plain_of, words_of, is_printable, line_of, node_of, port_of, session_of, packet_of, bytes_from, bytes_of, frame_of, ethernet_of, secret_of};
 
 use crate::line::Line;
 use crate::parts::{read_number, split_once};
@@ -317,6 +317,108 @@ fn read_tick(words: &[u8]) -> Option<Line>
     Some(Line::Tick { node, milliseconds })
 }
 
+/// `N`, behind `crash `.
+#[tactic(auto, unfolding(crate::specs::Reading::crash_of))]
+fn read_crash(words: &[u8]) -> Option<Line>
+    ensures { result ≡ crash_of words.now }
+{
+    let node = read_node(words)?;
+    Some(Line::Crash { node })
+}
+
+/// `N`, behind `start `.
+#[tactic(auto, unfolding(crate::specs::Reading::start_of))]
+fn read_start(words: &[u8]) -> Option<Line>
+    ensures { result ≡ start_of words.now }
+{
+    let node = read_node(words)?;
+    Some(Line::Start { node })
+}
+
+/// Which of the commits to come.
+fn read_commit(word: &[u8]) -> Option<u8>
+    ensures { result ≡ commit_of word.now }
+{
+    let commit = read_number(word, 1, 255)?;
+    Some(commit as u8)
+}
+
+/// Which call of the device.
+fn read_device_call(word: &[u8]) -> Option<u8>
+    ensures { result ≡ device_call_of word.now }
+{
+    let call = read_number(word, 1, 4)?;
+    Some(call as u8)
+}
+
+/// Whether a word says that what a stop commits is kept.
+fn read_kept(word: &[u8]) -> Option<bool>
+    ensures { result ≡ kept_of word.now }
+{
+    if word == b"kept".as_slice() {
+        Some(true)
+    } else if word == b"lost".as_slice() {
+        Some(false)
+    } else {
+        None
+    }
+}
+
+/// A node, a commit, a call of the device, and whether what is committed is kept.
+#[tactic(auto, unfolding(crate::specs::Reading::stop_words_of))]
+fn read_stop_words(words: &[u8]) -> Option<(u8, u8, u8, bool)>
+    ensures { result ≡ stop_words_of words.now }
+{
+    let (node, words) = split_once(words, b' ')?;
+    let (commit, words) = split_once(words, b' ')?;
+    let (call, kept) = split_once(words, b' ')?;
+    let node = read_node(node)?;
+    let commit = read_commit(commit)?;
+    let call = read_device_call(call)?;
+    let kept = read_kept(kept)?;
+    Some((node, commit, call, kept))
+}
+
+/// The line of a stop, which keeps a record only where the gate of it was written.
+fn stop_line(node: u8, commit: u8, call: u8, kept: bool) -> Option<Line>
+    ensures { result ≡ stop_by node commit call kept }
+{
+    if kept && call < 3 {
+        return None;
+    }
+    Some(Line::Stop {
+        node,
+        commit,
+        call,
+        kept,
+    })
+}
+
+/// `N C J KEEP`, behind `stop `.
+#[tactic(auto, unfolding(crate::specs::Reading::stop_of))]
+fn read_stop(words: &[u8]) -> Option<Line>
+    ensures { result ≡ stop_of words.now }
+{
+    let (node, commit, call, kept) = read_stop_words(words)?;
+    stop_line(node, commit, call, kept)
+}
+
+/// The line of a kind that crashes a node, or starts it again.
+#[tactic(auto, unfolding(crate::specs::Reading::fall_of))]
+fn read_fall(kind: &[u8], words: &[u8]) -> Option<Line>
+    ensures { result ≡ fall_of kind.now words.now }
+{
+    if kind == b"crash".as_slice() {
+        read_crash(words)
+    } else if kind == b"stop".as_slice() {
+        read_stop(words)
+    } else if kind == b"start".as_slice() {
+        read_start(words)
+    } else {
+        None
+    }
+}
+
 /// The line of a kind that holds no bytes, by the words behind that of the kind.
 #[tactic(auto, unfolding(crate::specs::Reading::plain_of))]
 fn read_plain(kind: &[u8], words: &[u8]) -> Option<Line>
@@ -337,7 +439,7 @@ fn read_plain(kind: &[u8], words: &[u8]) -> Option<Line>
     } else if kind == b"tick".as_slice() {
         read_tick(words)
     } else {
-        None
+        read_fall(kind, words)
     }
 }
 

@@ -4,7 +4,7 @@ ghost use Rattle.std.specs.Prelude.{◌≡◌, ◌++◌, ◌∷◌, [], codes, O
 ghost use Rattle.std.specs.List.{flat_map};
 ghost use Rattle.std.specs.Fmt.{decimal};
 ghost use Rattle.hex.specs.Hex.{encode_lower};
-ghost use Rattle.schedule_text.specs.Grammar.{AreLines, IsSchedule, call_text, secret_text, mode_text, line_text, spelling};
+ghost use Rattle.schedule_text.specs.Grammar.{AreLines, IsSchedule, call_text, secret_text, mode_text, kept_text, line_text, spelling};
 ghost use Rattle.schedule_text.specs.Reading.{lines_of};
 
 use itoa::Buffer;
@@ -71,6 +71,27 @@ fn mode_word(hide: bool) -> &'static [u8]
     } else {
         b"plain".as_slice()
     }
+}
+
+/// Whether what a stop commits is kept, as a word.
+fn kept_word(kept: bool) -> &'static [u8]
+    ensures { result.now ≡ kept_text kept }
+{
+    if kept {
+        b"kept".as_slice()
+    } else {
+        b"lost".as_slice()
+    }
+}
+
+/// Appends the line of a stop.
+fn push_stop(out: &mut Bytes, node: u8, commit: u8, call: u8, kept: bool) -> Result<(), NoMemory>
+    ensures { OnOk result (out.new ≡ out.old ++ codes "stop " ++ decimal node ++ codes " " ++ decimal commit ++ codes " " ++ decimal call ++ codes " " ++ kept_text kept) }
+{
+    push_numbers(out, b"stop ", u64::from(node), u64::from(commit))?;
+    push_number(out, b" ", u64::from(call))?;
+    out.push_slice(b" ")?;
+    out.push_slice(kept_word(kept))
 }
 
 /// Appends the line of a LAC.
@@ -157,6 +178,14 @@ fn push_line(out: &mut Bytes, line: &Line) -> Result<(), NoMemory>
         Line::Tick { node, milliseconds } => {
             push_numbers(out, b"tick ", u64::from(*node), u64::from(*milliseconds))
         }
+        Line::Crash { node } => push_number(out, b"crash ", u64::from(*node)),
+        Line::Stop {
+            node,
+            commit,
+            call,
+            kept,
+        } => push_stop(out, *node, *commit, *call, *kept),
+        Line::Start { node } => push_number(out, b"start ", u64::from(*node)),
     }
 }
 

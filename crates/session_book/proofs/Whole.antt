@@ -12,7 +12,7 @@ use Rattle.session_book.specs.declared.record.BookCall.{BookCall}
 use Rattle.session_book.specs.declared.record.Record.{Record}
 use Rattle.session_book.specs.declared.record.Record.TheVariants.{Ceiling, TunnelUp, TunnelDown, CallUp, CallDown, Mark}
 use Rattle.session_book.specs.Books.{Held, Kept, nothing_kept, AreRising, place, with_id, entry, put, tunnel_at, call_at, calls_of, ceiling, last, raised, is_free, mark_on, marked, tunnels_without, fits, stepped}
-use Rattle.session_book.specs.Spelling.{FitsTunnel, FitsBytes, IsKeptTunnel, IsKeptCall, IsWhole, RecordsKeepItWhole}
+use Rattle.session_book.specs.Spelling.{FitsTunnel, FitsCall, FitsFields, IsKeptTunnel, IsKeptCall, IsWhole, RecordsKeepItWhole}
 use Rattle.session_book.proofs.Orders.{marked_rises}
 
 below : (a b : ℕ) → a < b → nat_lt a b ≡ true
@@ -378,7 +378,7 @@ module _ (k : Kept) (whole : IsWhole k) where
         few_calls = λ tunnel. (let l = fewer_pass (λ (c : BookCall). c.tunnel == tunnel) (λ c. not (c.tunnel == gone)) k.calls in let m = whole.few_calls tunnel in omega arith);
       }
 
-  after_call_up : (c : BookCall) → FitsBytes (CallUp c) → fits k (CallUp c) ≡ true → IsWhole (stepped k (CallUp c))
+  after_call_up : (c : BookCall) → FitsCall c → fits k (CallUp c) ≡ true → IsWhole (stepped k (CallUp c))
   after_call_up c bytes is =
       let over_one = is_some (tunnel_at k c.tunnel) in
       let room = nat_lt (length (calls_of c.tunnel k.calls)) 4096 in
@@ -476,11 +476,11 @@ module _ (k : Kept) (whole : IsWhole k) where
     few_calls = whole.few_calls;
   }
 
-pub whole_stepped : (k : Kept) (r : Record) → IsWhole k → FitsBytes r → fits k r ≡ true → IsWhole (stepped k r)
+pub whole_stepped : (k : Kept) (r : Record) → IsWhole k → FitsFields r → fits k r ≡ true → IsWhole (stepped k r)
 whole_stepped k (Ceiling space number) whole bytes is =
     after_ceiling k whole space number (of_below (ceiling k space) number (first (nat_lt (ceiling k space) number) (nat_le number (last space)) is))
     (of_within number (last space) (second (nat_lt (ceiling k space) number) (nat_le number (last space)) is))
-whole_stepped k (TunnelUp t) whole bytes is = after_tunnel_up k whole t bytes.0 is
+whole_stepped k (TunnelUp t) whole bytes is = after_tunnel_up k whole t bytes is
 whole_stepped k (TunnelDown id) whole bytes is = after_tunnel_down k whole id
 whole_stepped k (CallUp c) whole bytes is = after_call_up k whole c bytes is
 whole_stepped k (CallDown id) whole bytes is = after_call_down k whole id
@@ -503,7 +503,7 @@ pub records_keep_it_whole : RecordsKeepItWhole
 records_keep_it_whole = (nothing_is_whole, whole_stepped)
 
 -- after a record that fits
-pub whole_after : (h : Held) (kept : Kept) (next r : Record) (j : Kept) → kept ≡ h.kept → next ≡ r → IsWhole kept → FitsBytes next → fits h.kept next ≡ true
+pub whole_after : (h : Held) (kept : Kept) (next r : Record) (j : Kept) → kept ≡ h.kept → next ≡ r → IsWhole kept → FitsFields next → fits h.kept next ≡ true
     → stepped kept r ≡ j → IsWhole j
 whole_after h kept next r j here is whole bytes fit after =
     subst IsWhole (ap (stepped kept) is ∙ after) (whole_stepped kept next whole bytes (ap (λ (k : Kept). fits k next) here ∙ fit))

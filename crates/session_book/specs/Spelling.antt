@@ -38,7 +38,16 @@ pub record FitsCall (c : BookCall) : Type 0 where
   pub remote : c.remote < 2 ^ 16
   pub subscriber : length c.subscriber ≡ 6
 
--- a tunnel comes up without a mark
+-- the fields of a record fit their bytes
+abbrev pub FitsFields : Record → Type 0
+FitsFields (Ceiling space number) = number < 2 ^ 32
+FitsFields (TunnelUp t) = FitsTunnel t
+FitsFields (TunnelDown local) = local < 2 ^ 16
+FitsFields (CallUp c) = FitsCall c
+FitsFields (CallDown local) = local < 2 ^ 16
+FitsFields (Mark tunnel mark) = (tunnel < 2 ^ 16) × (mark < 2 ^ 32)
+
+-- and a tunnel comes up without a mark
 abbrev pub FitsBytes : Record → Type 0
 FitsBytes (Ceiling space number) = number < 2 ^ 32
 FitsBytes (TunnelUp t) = FitsTunnel t × (t.mark ≡ 0)
@@ -110,6 +119,6 @@ pub record IsWhole (k : Kept) : Type 0 where
 abbrev pub ContentsKeepTheBook : Type 0
 ContentsKeepTheBook = (k : Kept) → IsWhole k → book_of (contents_of k) ≡ Ok k
 
--- no records have a whole book, and a record that fits keeps it whole
+-- no records have a whole book, and a record that fits, also one of a tunnel that comes up with a mark, keeps it whole
 abbrev pub RecordsKeepItWhole : Type 0
-RecordsKeepItWhole = IsWhole nothing_kept × ((k : Kept) (r : Record) → IsWhole k → FitsBytes r → fits k r ≡ true → IsWhole (stepped k r))
+RecordsKeepItWhole = IsWhole nothing_kept × ((k : Kept) (r : Record) → IsWhole k → FitsFields r → fits k r ≡ true → IsWhole (stepped k r))

@@ -1,11 +1,11 @@
 //! The book of an end, kept up record by record.
 
-ghost use Rattle.std.specs.Prelude.{◌≡◌, ◌+◌, ◌<◌, ◌≤◌, ◌++◌, nat_lt, ltb, true, false, is_some, map, max, length, IfOk, OnOk, OnErr, Ok};
+ghost use Rattle.std.specs.Prelude.{◌≡◌, ◌+◌, ◌<◌, ◌≤◌, ◌++◌, if◌then◌else◌, nat_lt, ltb, true, false, is_some, map, max, length, IfOk, OnOk, OnErr, Ok};
 ghost use Rattle.std.specs.Vec.{vec_capacity, vec_len};
 ghost use Rattle.std.specs.List.Sorted.{IsPartitionPoint};
 ghost use Rattle.wire_base.specs.Answers.{Gives};
 ghost use Rattle.session_book.specs.Books.{AreRising, nothing_kept, place, entry, put, calls_of, ceiling, last, is_free, tunnel_at, call_at, tunnel_fits, call_fits, fits, raised, stepped, mark_on, marked, tunnels_without, calls_without, calls_not_of, is_in_place, after_content, book_of};
-ghost use Rattle.session_book.specs.Spelling.{content_of, contents_of, FitsBytes, IsWhole, ceiling_records, tunnel_records, tunnels_records, calls_records};
+ghost use Rattle.session_book.specs.Spelling.{content_of, contents_of, FitsTunnel, FitsCall, FitsFields, IsWhole, ceiling_records, tunnel_records, tunnels_records, calls_records};
 ghost use Rattle.session_book.specs.Told.{Told};
 
 use crate::record::{BookCall, BookTunnel, KeptCalls, KeptTunnels, Record, read_record};
@@ -117,6 +117,23 @@ impl Book {
         self.step(content);
     }
 
+    /// Takes a record in, without memory, and says whether it is in place; its condition is that the spare isn't 0. A record that isn't
+    /// in place changes nothing but the spare.
+    pub fn apply_record(&mut self, next: Record) -> bool
+        requires { 0 < self.old.spare }
+        ensures answer { result ≡ fits self.old.kept next }
+        ensures kept { self.new.kept ≡ if fits self.old.kept next then stepped self.old.kept next else self.old.kept }
+        ensures spare { self.new.spare + 1 ≡ self.old.spare }
+    {
+        if self.fits(&next) {
+            self.take(next);
+            true
+        } else {
+            self.spare -= 1;
+            false
+        }
+    }
+
     /// For how many further contents there is room.
     pub fn spare(&self) -> u32
         ensures { result ≡ self.now.spare }
@@ -143,7 +160,8 @@ impl Book {
     /// The greatest number of a space that may be drawn: space 1 has the tunnel ids, 2 the session ids, 3 the draw numbers.
     /// It is 0 for any other.
     pub fn ceiling(&self, space: u8) -> u32
-        ensures { result ≡ ceiling self.now.kept space }
+        ensures number { result ≡ ceiling self.now.kept space }
+        ensures within { result ≤ last space }
     {
         match space {
             1 => self.tunnel_ceiling,
@@ -184,11 +202,8 @@ impl Book {
         ensures spare { self.new.spare + 1 ≡ self.old.spare }
     {
         match read_record(content) {
-            Some(next) if self.fits(&next) => {
-                self.take(next);
-                true
-            }
-            _ => {
+            Some(next) => self.apply_record(next),
+            None => {
                 self.spare -= 1;
                 false
             }
@@ -270,10 +285,10 @@ impl Book {
     fn take(&mut self, next: Record)
         requires spare { 0 < self.old.spare }
         requires fits { fits self.old.kept next ≡ true }
-        requires bytes { FitsBytes next }
         ensures kept { self.new.kept ≡ stepped self.old.kept next }
         ensures spare { self.new.spare + 1 ≡ self.old.spare }
     {
+        fields_fit(next);
         self.spare -= 1;
         match next {
             Record::Ceiling { space, number } => self.raise(space, number),
@@ -303,6 +318,25 @@ impl Book {
         }
     }
 }
+
+// The fields of a record fit their bytes, as their types say.
+fn fields_fit(next: Record)
+    ensures { FitsFields next }
+{
+    match next {
+        Record::TunnelUp(tunnel) => tunnel_fields_fit(tunnel),
+        Record::CallUp(call) => call_fields_fit(call),
+        _ => (),
+    }
+}
+
+fn tunnel_fields_fit(tunnel: BookTunnel)
+    ensures { FitsTunnel tunnel }
+{}
+
+fn call_fields_fit(call: BookCall)
+    ensures { FitsCall call }
+{}
 
 // The content of a ceiling, behind others, unless it is 0.
 fn push_ceiling(contents: &mut Contents, space: u8, number: u32) -> Result<(), NoMemory>

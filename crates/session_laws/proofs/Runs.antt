@@ -15,6 +15,7 @@ use Rattle.end_names.specs.declared.role.Role.TheVariants.{Lac, Lns}
 use Rattle.end_model.specs.End.{End, new_end, plain_step}
 use Rattle.world_model.specs.World.{World, Node, Sender, Deed, Lined, birth_in, birth_of, moved, moved_all, config_of, line, new_node}
 use Rattle.world_model.specs.Run.{Run, empty_run, after_line, goes_on, run_from}
+use Rattle.step_laws.specs.Calm.{AreCalm}
 use Rattle.epoch_machine.specs.Worlds as machine
 use Rattle.epoch_machine.specs.Moves as moves
 use Rattle.connection_laws.specs.Accounts.{Account, no_account, account_of, account_from}
@@ -300,24 +301,24 @@ module _ (keep : MovesKeep) (follow : MovesFollow) where
   where_it_fits P rest r number (Ok l) stops more = more l refl
 
   module _ (lines_go_on : LinesGoOn) where
-    pub ended_from : (number : ℕ) (lines : List Line) (r : Run) (most : ℕ) → AreLines lines → HoldsAt most r
+    pub ended_from : (number : ℕ) (lines : List Line) (r : Run) (most : ℕ) → AreLines lines → AreCalm lines → HoldsAt most r
         → Joins (account_of r.done) (ends_of r.world.nodes) r.world r.done → most + 16384 * length lines + 24576 < 2 ^ 64
         → r.world.born + 65536 * length lines + 65536 < 2 ^ 64 - 1 → RunOk (run_from number lines r)
     unfolding run_from
-    ended_from number [] r most fits holds follows room few = record { most = most; few = omega (arith, room); holds = holds; follows = follows }
-    ended_from number (l ∷ ls) r most fits holds follows room few =
+    ended_from number [] r most fits calm holds follows room few = record { most = most; few = omega (arith, room); holds = holds; follows = follows }
+    ended_from number (l ∷ ls) r most fits calm holds follows room few =
         where_it_fits RunOk _ r number (line r.world number l)
         (λ fault. record {
           most = most;
           few = omega (arith, room);
-          holds = record { holds = holds.holds; given = holds.given };
+          holds = record { holds = holds.holds; given = holds.given; calm = holds.calm };
           follows = record { world = follows.world; joined = follows.joined; births = follows.births; replies = follows.replies };
         })
         (λ x is.
-        let k = lines_go_on most number r holds (omega (arith, room)) l fits.0 x is in
+        let k = lines_go_on most number r holds (omega (arith, room)) l fits.0 calm.0 x is in
         let f = line_follows r.world (account_of r.done) holds.holds number x follows.world follows.joined follows.births (omega (arith, few)) r.done follows.replies k.does in
         let count = f.count in
-        ended_from (number + 1) ls (after_line r x) (most + 16384) fits.1 k.after
+        ended_from (number + 1) ls (after_line r x) (most + 16384) fits.1 calm.1 k.after
         (subst (λ (accs : Accounts). Joins accs (ends_of x.world.nodes) x.world (r.done ++ x.done)) (accounts_more r.done x.done) f.joins) (omega (arith, room))
         (omega (arith, few)))
 

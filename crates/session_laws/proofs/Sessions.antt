@@ -15,6 +15,7 @@ use Rattle.end_names.specs.Names.{node_of}
 use Rattle.end_model.specs.Tunnels.{Tunnel}
 use Rattle.world_model.specs.World.{World, Node, birth_of}
 use Rattle.world_model.specs.Run.{Run, run, empty_run, partner_of, lns_tunnel, agree}
+use Rattle.step_laws.specs.Calm.{AreCalm}
 use Rattle.epoch_machine.specs.Worlds as machine
 use Rattle.epoch_machine.specs.Worlds.{all_rules}
 use Rattle.birth_laws.specs.Births as births
@@ -186,13 +187,13 @@ module _ (laws : Laws) where
         }
 
   module _ (keep : MovesKeep) (follow : MovesFollow) (lines_go_on : LinesGoOn) (begins : RunsBegin) where
-    run_ok : (lines : List Line) → AreLines lines → length lines < 2 ^ 47 → RunOk (run lines)
-    run_ok lines fits few = ended_from keep follow lines_go_on 1 lines empty_run 0 fits begins at_first (omega (arith, few)) (omega (arith, few))
+    run_ok : (lines : List Line) → AreLines lines → AreCalm lines → length lines < 2 ^ 47 → RunOk (run lines)
+    run_ok lines fits calm few = ended_from keep follow lines_go_on 1 lines empty_run 0 fits calm begins at_first (omega (arith, few)) (omega (arith, few))
 
     pub joined_in_runs : JoinedInRuns
-    joined_in_runs lines fits few =
+    joined_in_runs lines fits calm few =
         let r = run lines in
-        let k = (run_ok lines fits few).follows in
+        let k = (run_ok lines fits calm few).follows in
         record {
           machine = k.world;
           joined = k.joined;
@@ -202,4 +203,4 @@ module _ (laws : Laws) where
         }
 
     pub sessions_of_runs : SessionsOfRuns
-    sessions_of_runs lines fits few = agree_hold (run lines) (run_ok lines fits few)
+    sessions_of_runs lines fits calm few = agree_hold (run lines) (run_ok lines fits calm few)

@@ -11,6 +11,7 @@ use Rattle.world_model.specs.World.{World, Node, birth_of}
 use Rattle.world_model.specs.Run.{Run, run, partner_of, agree, session_count}
 use Rattle.end_names.specs.Names.{node_of}
 use Rattle.epoch_machine.specs.Worlds as machine
+use Rattle.step_laws.specs.Calm.{AreCalm}
 use Rattle.connection_laws.specs.Accounts.{account_of}
 use Rattle.session_laws.specs.Joined.{AreJoined, BirthsJoined, RepliesJoined, MatesJoined, ends_of}
 
@@ -50,9 +51,9 @@ pub record IsJoined (r : Run) : Type 0 where
   pub replies : RepliesJoined machine r.done
   pub mates : MatesJoined (account_of r.done) (ends_of r.world.nodes) machine
 
--- after the run of each list of lines of the grammar
+-- after the run of each list of lines of the grammar in which no node crashes, is to stop, or starts
 abbrev pub JoinedInRuns : Type 0
-JoinedInRuns = (lines : List Line) → AreLines lines → length lines < 2 ^ 47 → IsJoined (run lines)
+JoinedInRuns = (lines : List Line) → AreLines lines → AreCalm lines → length lines < 2 ^ 47 → IsJoined (run lines)
 
 abbrev pub SessionsOfRuns : Type 0
-SessionsOfRuns = (lines : List Line) → AreLines lines → length lines < 2 ^ 47 → SessionsAgree (run lines)
+SessionsOfRuns = (lines : List Line) → AreLines lines → AreCalm lines → length lines < 2 ^ 47 → SessionsAgree (run lines)

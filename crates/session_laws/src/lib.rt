@@ -1,5 +1,5 @@
-//! Sessions in every run of a schedule's lines: each move of the ends is one of the abstract machine, or none, and ends that
-//! agree hold the same established sessions.
+//! Sessions in every run of a schedule's lines in which no node crashes, is to stop, or starts: each move of the ends is one of
+//! the abstract machine, or none, and ends that agree hold the same established sessions.
 #![tactic(auto)]
 
 ghost use Rattle.birth_laws.specs.Births as births;
@@ -28,19 +28,19 @@ fn laws_below()
     coverage_laws::pairs_are_covered();
 }
 
-/// After every list of fewer than 2^47 lines of the grammar, the ends of the nodes are joined with a run of the abstract
-/// machine: each tunnel and each call has its name there, with its phase or state, the other end that it has learned, the
-/// letters given, how many were taken before it was closed, and whether its SCCRQ was declined; and a tunnel says only what the
-/// role of its end allows. Each session has its birth there, and the mate that its node knows, whether its call lives or not, and
-/// as many births are counted.
+/// After every list of fewer than 2^47 lines of the grammar in which no node crashes, is to stop, or starts, the ends of the
+/// nodes are joined with a run of the abstract machine: each tunnel and each call has its name there, with its phase or state,
+/// the other end that it has learned, the letters given, how many were taken before it was closed, and whether its SCCRQ was
+/// declined; and a tunnel says only what the role of its end allows. Each session has its birth there, and the mate that its node
+/// knows, whether its call lives or not, and as many births are counted.
 pub fn runs_are_joined()
     ensures { JoinedInRuns }
 {
     laws_below();
 }
 
-/// After every list of fewer than 2^47 lines of the grammar, a tunnel of a LAC and its partner at an LNS that agree hold the
-/// same established sessions, under the ids that both know and with the same births.
+/// After every list of fewer than 2^47 lines of the grammar in which no node crashes, is to stop, or starts, a tunnel of a LAC
+/// and its partner at an LNS that agree hold the same established sessions, under the ids that both know and with the same births.
 pub fn ends_that_agree_hold_the_same()
     ensures { SessionsOfRuns }
 {

@@ -16,6 +16,7 @@ pub mod Causes
 pub mod Codes
 pub mod Lines
 pub mod Hosts
+pub mod Calm
 pub mod Opens
 pub mod Answers
 pub mod Tables

@@ -12,7 +12,7 @@ use Rattle.tunnel_fsm.specs.Rows.{state_number}
 use Rattle.call_fsm.specs.Words as call_words
 use Rattle.control_channel.specs.Numbers.{next_given}
 use Rattle.world_model.specs.declared.refusal.Refusal.{Refusal}
-use Rattle.world_model.specs.declared.refusal.Refusal.TheVariants.{Unfit, HalfSpace}
+use Rattle.world_model.specs.declared.refusal.Refusal.TheVariants.{Unfit, HalfSpace, StoreFull}
 use Rattle.end_model.specs.declared.tunnel.Call.{Call}
 use Rattle.end_model.specs.declared.tunnel.Control.{Control}
 use Rattle.end_names.specs.Names.{node_of}
@@ -52,7 +52,7 @@ run lines = run_from 1 lines empty_run
 
 -- ---- the tables at the end
 
--- No line crashes a node, so each tunnel is in epoch 0, current, and complete.
+-- No tunnel outlives a crash, so each is in epoch 0, current, and complete.
 unfoldable pub tunnel_text : ℕ → Control → List ℕ
 tunnel_text n t =
     ended (codes "end" & decimal n & codes "tunnel" & decimal t.local & decimal (node_of t.peer) & decimal t.remote & state_word t.state & codes "0 current complete")
@@ -74,11 +74,17 @@ unfoldable pub tunnel_line : ℕ → List (ℕ × ℕ) → ℕ → Option Tunnel
 tunnel_line n births i None = []
 tunnel_line n births i (Some t) = tunnel_text n t.control ++ call_table n i births t.calls
 
+-- a node that is down
+unfoldable pub down_text : ℕ → List ℕ
+down_text n = ended (codes "end" & decimal n & codes "down")
+
+-- the tunnels of a node with their calls, or that it is down
 unfoldable pub node_table : ℕ → Option Node → List ℕ
 node_table n None = []
-node_table n (Some node) = flat_map (λ i. tunnel_line n node.births i (at node.end.tunnels i)) (ids_of node.end.tunnels)
+node_table n (Some node) =
+    if node.up then flat_map (λ i. tunnel_line n node.births i (at node.end.tunnels i)) (ids_of node.end.tunnels) else down_text n
 
--- the tunnels of each node with their calls, in the order of nodes and of local ids
+-- those of each node, in the order of nodes and of local ids
 unfoldable pub end_table : List (ℕ × Node) → List ℕ
 end_table nodes = flat_map (λ n. node_table n (at nodes n)) (ids_of nodes)
 
@@ -143,9 +149,14 @@ unfoldable pub half_space_text : ℕ → ℕ → ℕ → List ℕ
 half_space_text line number count =
     codes "half space line " ++ decimal line ++ codes ": number " ++ decimal number ++ codes ", at " ++ decimal count ++ codes "\n"
 
+-- how many records the node's checkpoint has
+unfoldable pub store_full_text : ℕ → List ℕ
+store_full_text records = codes "store full: " ++ decimal records ++ codes "\n"
+
 unfoldable pub refusal_text : ℕ → Refusal → List ℕ
 refusal_text line (Unfit x) = unfit_text line x
 refusal_text line (HalfSpace number count) = half_space_text line number count
+refusal_text line (StoreFull records) = store_full_text records
 
 -- the tables, or the text of the line that is refused
 abbrev pub ending : World → Option (ℕ × Refusal) → List ℕ

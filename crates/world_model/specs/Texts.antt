@@ -51,6 +51,10 @@ abbrev pub farewell_text : ℕ → ℕ → Option (List ℕ) → List ℕ
 farewell_text line node None = []
 farewell_text line node (Some padt) = frame_text line node padt
 
+-- a node stopped amid its commits
+unfoldable pub stopped_text : ℕ → ℕ → List ℕ
+stopped_text line node = ended (decimal line & codes "stopped" & decimal node)
+
 -- ---- entries
 
 -- lines of the report, before the tables at its end
@@ -65,6 +69,8 @@ pub data Entry : Type 0 where
   Frames : (line node : ℕ) (bytes : List ℕ) → Entry
   Drops : (line node : ℕ) (why : Why) → Entry
   Causes : (line node : ℕ) (cause : Cause) → Entry
+  -- of a node that stopped inside a commit, and is down
+  Stopped : (line node : ℕ) → Entry
 
 abbrev pub entry_text : Entry → List ℕ
 entry_text (Sends line packet from to bytes) = send_text line packet from to bytes
@@ -73,6 +79,7 @@ entry_text (Ends line node session padt) = gone_text line node session ++ farewe
 entry_text (Frames line node bytes) = frame_text line node bytes
 entry_text (Drops line node why) = drop_text line node why
 entry_text (Causes line node cause) = cause_text line node cause
+entry_text (Stopped line node) = stopped_text line node
 
 abbrev pub entries_text : List Entry → List ℕ
 entries_text entries = flat_map entry_text entries

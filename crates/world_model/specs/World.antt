@@ -1,11 +1,13 @@
 -- The world: nodes, and every packet that was ever sent.
-use Rattle.std.specs.Prelude.{ℕ, ◌+◌, ◌-◌, ◌^◌, min, List, [], ◌∷◌, ◌++◌, map, length, Bool, false, nat_lt, if◌then◌else◌, slice_get, Option, Some, None, is_some, unwrap_or, Result, Ok, Err}
+use Rattle.std.specs.Prelude.{ℕ, ◌+◌, ◌-◌, ◌^◌, min, List, [], ◌∷◌, ◌++◌, map, length, take, Bool, true, false, nat_lt, nat_le, if◌then◌else◌, slice_get, Option, Some, None, is_some, unwrap_or, Result, Ok, Err}
 use Rattle.byteorder.specs.Endian.{big_bytes}
 use Rattle.id_table.specs.Ids.{at, put}
 use Rattle.wire_base.specs.declared.why.Why.{Why}
 use Rattle.wire_base.specs.declared.why.Why.TheVariants as why
 use Rattle.schedule_text.specs.declared.line.Line.{Line}
-use Rattle.schedule_text.specs.declared.line.Line.TheVariants.{Remark, Lac, Lns, OpenUp, Close, Ring, Frame, FromSub, Down, Hang, DropCall, Deliver, Tick}
+use Rattle.schedule_text.specs.declared.line.Line.TheVariants.{Remark, Lac, Lns, OpenUp, Close, Ring, Frame, FromSub, Down, Hang, DropCall, Deliver, Tick, Crash, Stop, Start}
+use Rattle.session_book.specs.declared.record.Record.{Record}
+use Rattle.session_book.specs.Books.{Kept, nothing_kept, fits, stepped as with_record}
 use Rattle.end_model.specs.declared.tunnel.Config.{Config}
 use Rattle.end_model.specs.declared.tunnel.Control.{Control}
 use Rattle.end_names.specs.declared.role.Role.{Role}
@@ -20,22 +22,37 @@ use Rattle.end_model.specs.declared.out.Origin.TheVariants as origin
 use Rattle.end_model.specs.declared.moves.Move.{Move}
 use Rattle.end_model.specs.declared.moves.Move.TheVariants as move
 use Rattle.world_model.specs.declared.packet.Packet.{Packet}
+use Rattle.world_model.specs.declared.stop.StopAt.{StopAt}
 use Rattle.world_model.specs.declared.refusal.Refusal.{Refusal}
-use Rattle.world_model.specs.declared.refusal.Refusal.TheVariants.{Unfit, HalfSpace}
+use Rattle.world_model.specs.declared.refusal.Refusal.TheVariants.{Unfit, HalfSpace, StoreFull}
 use Rattle.end_names.specs.Names.{address_of, node_of}
 use Rattle.end_model.specs.Calls.{is_lac}
 use Rattle.end_model.specs.End.{End, Stepped, reached, step, new_end, is_not_closed}
-use Rattle.world_model.specs.Texts.{Entry, Sends, HandsUp, Ends, Frames, Drops, Causes}
+use Rattle.end_model.specs.Contents.{contents_of}
+use Rattle.end_model.specs.Starting.{bare_end, starts, access_over}
+use Rattle.world_model.specs.Texts.{Entry, Sends, HandsUp, Ends, Frames, Drops, Causes, Stopped}
 use Rattle.end_model.specs.Access.{Access, access_with, Coming, Ignores, Answers, Runs, Enters, coming, pads_of, entered, farewell}
 use Rattle.wire_base.specs.declared.cause.Cause.{Cause as Because}
 use Rattle.pppoe_discovery.specs.declared.outcome.Discovered.{Discovered}
 
--- an end, with its clock, in milliseconds, the births of its calls by local session id, and where it is a LAC what it keeps of hosts
+-- what of a node outlives a crash: how many records its end committed, and the book that they make; and the stop that is armed
+pub record Checkpoint : Type 0 where
+  pub records : ℕ
+  pub book : Kept
+  pub stop : Option StopAt
+
+abbrev pub new_checkpoint : Checkpoint
+new_checkpoint = record { records = 0; book = nothing_kept; stop = None }
+
+-- An end, and whether it is up: one that is down has no tunnel. With it its clock, in milliseconds, the births of its calls by local
+-- session id, where it is a LAC what it keeps of hosts, and its checkpoint.
 pub record Node : Type 0 where
   pub end : End
+  pub up : Bool
   pub clock : ℕ
   pub births : List (ℕ × ℕ)
   pub access : Option Access
+  pub checkpoint : Checkpoint
 
 pub record World : Type 0 where
   -- by node number
@@ -64,15 +81,17 @@ pub record Deed : Type 0 where
   pub birth : ℕ
   pub move : Move
 
--- what a line leads to: the next world, the entries of the report that it makes, and what was done, in order
+-- what a line leads to: the next world, the entries of the report that it makes, what was done, in order, and whether its step was cut
+-- off by a stop, so that nothing was done
 pub record Lined : Type 0 where
   pub world : World
   pub entries : List Entry
   pub done : List Deed
+  pub cut : Bool
 
 -- a line in which nothing is done
 abbrev pub quiet_line : World → Lined
-quiet_line w = record { world = w; entries = []; done = [] }
+quiet_line w = record { world = w; entries = []; done = []; cut = false }
 
 abbrev pub count_at : List (ℕ × ℕ) → ℕ → ℕ
 count_at counts n = unwrap_or (at counts n) 0
@@ -134,6 +153,10 @@ birth_about w n (Some session) = birth_of w n session
 abbrev pub deed_of : World → ℕ → ℕ → Role → Option Sender → Move → Deed
 deed_of w line n r sender m = record { line = line; node = n; role = r; sender = sender; birth = birth_about w n (session_of m); move = m }
 
+-- the random bytes of a step: the node, and the line, in 8 bytes each
+unfoldable pub block_of : ℕ → ℕ → List ℕ
+block_of n line = big_bytes 8 n ++ big_bytes 8 line
+
 -- ---- what a step gives to the outside
 
 unfoldable pub sent : World → ℕ → ℕ → List ℕ → Origin → World
@@ -177,26 +200,100 @@ given w line n r sender s = record {
   world = shown_all n s.outputs w;
   entries = entries_of line n s.outputs w;
   done = map (λ m. deed_of w line n r sender m) s.moves;
+  cut = false;
 }
 
+-- the step of a node whose records were committed
 unfoldable pub after_step : World → ℕ → ℕ → Node → Option Sender → Stepped → Lined
 after_step w line n node sender s = given (moved_all n s.moves (with_node w n (record node { end = s.end }))) line n node.end.role sender s
 
+-- ---- what a step commits
+
+-- a record is committed where it is in place, and is nothing where it isn't
+abbrev pub recorded : Checkpoint → Record → Checkpoint
+recorded k r = if fits k.book r then record k { records = k.records + 1; book = with_record k.book r } else k
+
+unfoldable pub recorded_all : Checkpoint → List Record → Checkpoint
+recorded_all k [] = k
+recorded_all k (r ∷ rs) = recorded_all (recorded k r) rs
+
+-- a checkpoint has 1,048,576 records at most
+abbrev pub is_full : Checkpoint → List Record → Bool
+is_full k rs = nat_lt 1048576 (k.records + length rs)
+
+-- what comes of the records of a step: there is no room for them; a stop is reached amid them, and the checkpoint has those before it,
+-- and the one that it stops at where that is kept; or all are committed
+pub data Committed : Type 0 where
+  IsFull : (records : ℕ) → Committed
+  IsCut : (checkpoint : Checkpoint) → Committed
+  IsWhole : (checkpoint : Checkpoint) → Committed
+
+abbrev pub with_stop : Option StopAt → Checkpoint → Checkpoint
+with_stop s k = record k { stop = s }
+
+-- how many records are in the checkpoint where it stops
+abbrev pub kept_by : StopAt → ℕ
+kept_by s = if s.kept then s.commit else s.commit - 1
+
+unfoldable pub commits_by : Checkpoint → List Record → Option StopAt → Committed
+commits_by k rs None = IsWhole (recorded_all k rs)
+commits_by k rs (Some s) =
+    if nat_le s.commit (length rs) then IsCut (recorded_all k (take (kept_by s) rs))
+    else IsWhole (with_stop (Some (record s { commit = s.commit - length rs })) (recorded_all k rs))
+
+unfoldable pub commits : Checkpoint → List Record → Committed
+commits k rs = if is_full k rs then IsFull k.records else commits_by k rs k.stop
+
+-- a node falls: of its end only the checkpoint stays, and no stop is armed any more
+unfoldable pub fallen : List ℕ → Node → Checkpoint → Node
+fallen block node k = record node {
+  end = bare_end node.end.role node.end.config k.book;
+  up = false;
+  access = access_with node.end.role block;
+  checkpoint = with_stop None k;
+}
+
+unfoldable pub cut_line : World → ℕ → ℕ → Node → Checkpoint → Lined
+cut_line w line n node k = record {
+  world = with_node w n (fallen (block_of n line) node k);
+  entries = Stopped line n ∷ [];
+  done = [];
+  cut = true;
+}
+
+unfoldable pub settled : World → ℕ → ℕ → Node → Option Sender → Stepped → Committed → Result Lined Refusal
+settled w line n node sender s (IsFull records) = Err (StoreFull records)
+settled w line n node sender s (IsCut k) = Ok (cut_line w line n (record node { end = s.end }) k)
+settled w line n node sender s (IsWhole k) = Ok (after_step w line n (record node { checkpoint = k }) sender s)
+
+-- a step of a node: all that it leaves is committed before anything of it is seen
+unfoldable pub committed : World → ℕ → ℕ → Node → Option Sender → Stepped → Result Lined Refusal
+committed w line n node sender s = settled w line n node sender s (commits node.checkpoint (contents_of node.end s))
+
 -- ---- which lines fit
 
--- the node, which is to be declared
+-- a node that is up
+abbrev pub running : Node → Result Node Why
+running node = if node.up then Ok node else Err why.Down
+
+-- the node, which is to be declared, and up
 abbrev pub declared : Option Node → Result Node Why
 declared None = Err why.Node
-declared (Some node) = Ok node
+declared (Some node) = running node
 
 -- a node that is a LAC, and one that is an LNS
 abbrev pub lac_at : Option Node → Result Node Why
 lac_at None = Err why.Node
-lac_at (Some node) = if is_lac node.end.role then Ok node else Err why.Node
+lac_at (Some node) = if is_lac node.end.role then running node else Err why.Node
 
 abbrev pub lns_at : Option Node → Result Node Why
 lns_at None = Err why.Node
-lns_at (Some node) = if is_lac node.end.role then Err why.Node else Ok node
+lns_at (Some node) = if is_lac node.end.role then Err why.Node else running node
+
+-- a node that is declared, and down
+abbrev pub down_at : Option Node → Result Node Why
+down_at None = Err why.Node
+down_at (Some node) = if node.up then Err why.Up else Ok node
 
 -- a node with a live call
 abbrev pub with_call : ℕ → Result Node Why → Result Node Why
@@ -214,13 +311,16 @@ with_tunnel i (Ok node) = if is_not_closed (at node.end.tunnels i) then Ok node 
 abbrev pub config_of : ℕ → ℕ → Option (List ℕ) → Bool → Config
 config_of n lns secret hide = record { number = n; address = address_of n; lns = lns; secret = secret; hide = hide }
 
--- the random bytes of a step: the node, and the line, in 8 bytes each
-unfoldable pub block_of : ℕ → ℕ → List ℕ
-block_of n line = big_bytes 8 n ++ big_bytes 8 line
-
 -- the key of a LAC's cookies is the block of the line that makes it
 abbrev pub new_node : ℕ → ℕ → Role → ℕ → Option (List ℕ) → Bool → Node
-new_node line n r lns secret hide = record { end = new_end r (config_of n lns secret hide); clock = 0; births = []; access = access_with r (block_of n line) }
+new_node line n r lns secret hide = record {
+  end = new_end r (config_of n lns secret hide);
+  up = true;
+  clock = 0;
+  births = [];
+  access = access_with r (block_of n line);
+  checkpoint = new_checkpoint;
+}
 
 unfoldable pub added : World → ℕ → ℕ → Role → ℕ → Option (List ℕ) → Bool → Result Lined Refusal
 added w line n r lns secret hide =
@@ -229,27 +329,23 @@ added w line n r lns secret hide =
 -- a step at the node's moment
 unfoldable pub stepped : World → ℕ → ℕ → Event → Option Sender → Result Node Why → Result Lined Refusal
 stepped w line n e sender (Err x) = Err (Unfit x)
-stepped w line n e sender (Ok node) = Ok (after_step w line n node sender (step node.end node.clock (block_of n line) e))
+stepped w line n e sender (Ok node) = committed w line n node sender (step node.end node.clock (block_of n line) e)
 
 -- ---- Ethernet frames
 
--- a line in which nothing is done, with these entries
-abbrev pub told_line : World → List Entry → Lined
-told_line w es = record { world = w; entries = es; done = [] }
-
--- the entries of a line are these
+-- the entries of a line are these, unless its step was cut off
 abbrev pub retold : List Entry → Result Lined Refusal → Result Lined Refusal
 retold es (Err x) = Err x
-retold es (Ok l) = Ok (record l { entries = es })
+retold es (Ok l) = Ok (if l.cut then l else record l { entries = es })
 
 abbrev pub answer_entries : ℕ → ℕ → Option Because → List ℕ → List Entry
 answer_entries line n None bytes = Frames line n bytes ∷ []
 answer_entries line n (Some c) bytes = Causes line n c ∷ Frames line n bytes ∷ []
 
--- a frame is sent behind what a line did
+-- a frame is sent behind what a line did, unless its step was cut off
 abbrev pub replies : ℕ → ℕ → List ℕ → Result Lined Refusal → Result Lined Refusal
 replies line n bytes (Err x) = Err x
-replies line n bytes (Ok l) = Ok (record l { entries = l.entries ++ Frames line n bytes ∷ [] })
+replies line n bytes (Ok l) = Ok (if l.cut then l else record l { entries = l.entries ++ Frames line n bytes ∷ [] })
 
 -- a host that was admitted wants a call: the PADS comes behind what the ring does
 unfoldable pub enters : World → ℕ → ℕ → Node → Access → List ℕ → Option (List ℕ) → Discovered → Result Lined Refusal
@@ -278,7 +374,7 @@ framed w line n bytes (Ok node) = comes_by w line n bytes node node.access
 -- the packet and the node that it is for, or why it can't be delivered
 unfoldable pub addressee_of : Packet → Option Node → Result (Packet × Node) Why
 addressee_of p None = Err why.Node
-addressee_of p (Some node) = Ok (p, node)
+addressee_of p (Some node) = if node.up then Ok (p, node) else Err why.Down
 
 unfoldable pub arrival : World → Option Packet → Result (Packet × Node) Why
 arrival w None = Err why.Packet
@@ -321,6 +417,26 @@ abbrev pub later : ℕ → Result Node Why → Result Node Why
 later milliseconds (Err x) = Err x
 later milliseconds (Ok node) = Ok (record node { clock = min (node.clock + milliseconds) (2 ^ 64 - 1) })
 
+-- ---- crashes and starts
+
+-- all but the checkpoint is lost
+unfoldable pub crashed : World → ℕ → ℕ → Result Node Why → Result Lined Refusal
+crashed w line n (Err x) = Err (Unfit x)
+crashed w line n (Ok node) = Ok (quiet_line (with_node w n (fallen (block_of n line) node node.checkpoint)))
+
+-- a stop is armed, in place of the one before
+unfoldable pub armed : World → ℕ → StopAt → Result Node Why → Result Lined Refusal
+armed w n s (Err x) = Err (Unfit x)
+armed w n s (Ok node) = Ok (quiet_line (with_node w n (record node { checkpoint = with_stop (Some s) node.checkpoint })))
+
+-- a node that is to start again, which is up as it does so
+abbrev pub opened : List ℕ → Node → Node
+opened block node = record node { up = true; access = access_over node.end.role block node.checkpoint.book }
+
+unfoldable pub started : World → ℕ → ℕ → Result Node Why → Result Lined Refusal
+started w line n (Err x) = Err (Unfit x)
+started w line n (Ok node) = committed w line n (opened (block_of n line) node) None (starts node.end.role node.end.config node.checkpoint.book)
+
 -- what a line with its number leads to, or why it is refused
 unfoldable pub line : World → ℕ → Line → Result Lined Refusal
 line w number (Remark text) = Ok (quiet_line w)
@@ -336,3 +452,6 @@ line w number (Deliver p) = delivers w number (slice_get w.packets (p - 1))
 line w number (Hang n session) = stepped w number n (event.Hang session) None (with_call session (lac_at (at w.nodes n)))
 line w number (DropCall n session) = stepped w number n (event.DropCall session) None (with_call session (declared (at w.nodes n)))
 line w number (Tick n milliseconds) = stepped w number n event.Tick None (later milliseconds (declared (at w.nodes n)))
+line w number (Crash n) = crashed w number n (declared (at w.nodes n))
+line w number (Stop n commit call kept) = armed w n (record { commit = commit; kept = kept }) (declared (at w.nodes n))
+line w number (Start n) = started w number n (down_at (at w.nodes n))

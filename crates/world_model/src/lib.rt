@@ -1,4 +1,4 @@
-//! What a world of ends means: the definitions that the contracts of the replay and of the program cite, and the two types
+//! What a world of ends means: the definitions that the contracts of the replay and of the program cite, and the few types
 //! that they share.
 //!
 //! A line of a schedule gives the next world, entries of the report, and what was done; a run goes from line to line, and
@@ -7,6 +7,8 @@
 
 mod packet;
 mod refusal;
+mod stop;
 
 pub use packet::Packet;
 pub use refusal::Refusal;
+pub use stop::StopAt;

@@ -10,4 +10,6 @@ pub enum Refusal {
     /// The packet has outlived half of the numbers of a control channel (RFC 2661 section 5.8): its Ns, or its Nr, without
     /// an end, is more than 32,767 below how many messages the tunnel that it is for has taken, or has acknowledged.
     HalfSpace { number: u64, count: u64 },
+    /// A node's checkpoint has so many records, and no room for those of its step: it has 1,048,576 at most.
+    StoreFull { records: u32 },
 }

@@ -2,5 +2,7 @@ use Rattle.cause_laws.proofs.Runs.{causes_of_runs}
 use Rattle.cause_laws.proofs.reports_tell_true_causes.Goals as goal
 
 pub returns : goal.returns
-returns c = causes_of_runs c.laws_below.ensures.connections c.laws_below.ensures.causes c.laws_below.ensures.room c.laws_below.ensures.rings
-    c.laws_below.ensures.full
+returns c =
+    let b = c.laws_below.ensures in
+    causes_of_runs (record { sound = b.sound; late = b.late; asked = b.asked; gone = b.gone; begin_few = b.begin_few; stay_few = b.stay_few })
+    b.ends b.causes b.room b.rings b.full

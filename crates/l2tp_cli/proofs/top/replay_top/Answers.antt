@@ -6,25 +6,32 @@ returns-clause-ends g c = c.command.ensures
 
 pub returns-clause-headline : goal.returns-clause-headline
 returns-clause-headline g c = record {
-  of_lines = λ lines fits few. record {
-    frames = record {
-      told = c.reports_tell_the_past.ensures lines fits;
-      sent = c.frames_were_sent.ensures lines fits;
-      carried = c.sent_frames_are_packets.ensures.packets lines fits;
+  of_lines = λ lines fits. record {
+    answers = c.requests_are_answered_in_runs.ensures lines fits;
+    causes = c.reports_tell_true_causes.ensures lines fits;
+    nodes = record {
+      room = c.tunnels_have_room.ensures lines fits;
+      few = c.no_end_has_too_many_tunnels.ensures lines fits;
+      none_left = c.no_call_is_left.ensures lines fits;
+      books = c.books_are_of_ends.ensures.nodes lines fits;
+      records = c.records_are_in_place.ensures lines fits;
+      ids = c.ids_are_above_ceilings.ensures lines fits;
     };
-    births = record { of_lacs = c.births_are_apart.ensures lines fits few; of_lnss = c.births_are_taken_once.ensures lines fits few };
-    sessions = c.ends_that_agree_hold_the_same.ensures lines fits few;
-    answers = c.requests_are_answered_in_runs.ensures lines fits few;
-    causes = c.reports_tell_true_causes.ensures lines fits few;
+  };
+  of_calm = λ lines fits calm few. record {
+    frames = record {
+      told = c.reports_tell_the_past.ensures lines fits calm;
+      sent = c.frames_were_sent.ensures lines fits calm;
+      carried = c.sent_frames_are_packets.ensures.packets lines fits calm;
+    };
+    births = record { of_lacs = c.births_are_apart.ensures lines fits calm few; of_lnss = c.births_are_taken_once.ensures lines fits calm few };
+    sessions = c.ends_that_agree_hold_the_same.ensures lines fits calm few;
     channels = record {
-      letters = c.letters_are_carried.ensures lines fits few;
-      acks = c.acks_are_true.ensures lines fits few;
-      numbers = c.numbers_are_read.ensures lines fits few;
-      asked = c.calls_are_asked_for_once.ensures lines fits;
-      made = c.requests_are_taken_once.ensures lines fits few;
-      room = c.tunnels_have_room.ensures lines fits few;
-      few = c.no_end_has_too_many_tunnels.ensures lines fits few;
-      none_left = c.no_call_is_left.ensures lines fits few;
+      letters = c.letters_are_carried.ensures lines fits calm few;
+      acks = c.acks_are_true.ensures lines fits calm few;
+      numbers = c.numbers_are_read.ensures lines fits calm few;
+      asked = c.calls_are_asked_for_once.ensures lines fits calm;
+      made = c.requests_are_taken_once.ensures lines fits calm few;
     };
   };
   of_texts = λ text lines within h.
@@ -33,11 +40,11 @@ returns-clause-headline g c = record {
 }
 
 pub returns-clause-origins : goal.returns-clause-origins
-returns-clause-origins g c = λ lines fits. record {
+returns-clause-origins g c = λ lines fits calm. record {
   frames = record {
-    told = c.reports_tell_the_past.ensures lines fits;
-    sent = c.frames_were_sent.ensures lines fits;
-    carried = c.sent_frames_are_packets.ensures.packets lines fits;
+    told = c.reports_tell_the_past.ensures lines fits calm;
+    sent = c.frames_were_sent.ensures lines fits calm;
+    carried = c.sent_frames_are_packets.ensures.packets lines fits calm;
   };
-  given = c.sent_frames_are_packets.ensures.given lines fits;
+  given = c.sent_frames_are_packets.ensures.given lines fits calm;
 }

@@ -2,15 +2,15 @@ use Rattle.std.proofs.Common.{◌≡◌, ℕ, ◌+◌, ◌++◌, List, ◌∙◌
 use Rattle.std.specs.Prelude.{IfOk}
 use Rattle.world_model.specs.declared.refusal.Refusal.{Refusal}
 use Rattle.world_model.specs.Run.{run, refusal_text}
-use Rattle.schedule_replay.specs.Fault.{Known, Told}
-use Rattle.schedule_replay.proofs.Runs.{run_goes_on, report_stopped, fault_stopped, report_whole, fault_whole}
+use Rattle.schedule_replay.specs.Fault.{Told}
+use Rattle.schedule_replay.proofs.Runs.{run_goes_on, report_stays, report_stopped, fault_stopped, report_whole, fault_whole}
 use Rattle.schedule_replay.proofs.replaying.replay.Goals as goal
 
 pub returns-in-Err-Refused-clause-report : goal.returns-in-Err-Refused-clause-report
 returns-in-Err-Refused-clause-report c =
     let said = rw c.in-Err-Refused.field-0-is at c.in-Err-Refused.ensures in
     let stopped = report_stopped (run c.args.lines.now) c.args.lines.now c.loop-i.i c.loop-i.world.told c.loop-i.invariant c.index-lines-i.result c.in-Err-Refused.refusal c.loop-i-test.true c.index-lines-i.is said.1 in
-    let same = ap (λ (k : Known). k.told.report ++ refusal_text (c.loop-i.i + 1) c.in-Err-Refused.refusal) said.2 in
+    let same = ap (λ (t : List ℕ). t ++ refusal_text (c.loop-i.i + 1) c.in-Err-Refused.refusal) (report_stays c.in-Err-Refused.refusal _ _ said.2) in
     subst (λ (t : List ℕ). IfOk c.report_refusal.result (λ r. r.report ≡ t)) (same ∙ sym stopped) (rw c.in-Err-Refused.refusal-is at c.report_refusal.ensures.report)
 
 pub returns-in-Err-Refused-clause-fault : goal.returns-in-Err-Refused-clause-fault

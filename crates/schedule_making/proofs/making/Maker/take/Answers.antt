@@ -1,6 +1,4 @@
-use Rattle.std.proofs.Common.{◌≡◌, IfOk, subst}
-use Rattle.schedule_text.specs.declared.line.Line.{Line}
-use Rattle.schedule_making.proofs.Runs.{went_on, settled_taken, settled_refused, remark_of}
+use Rattle.schedule_making.proofs.Runs.{went_on, settled_taken, settled_refused, refused_line, refused_runs}
 use Rattle.schedule_making.proofs.making.Maker.take.Goals as goal
 
 pub returns-in-Ok-clause-line : goal.returns-in-Ok-clause-line
@@ -17,9 +15,9 @@ pub returns-in-Err-Refused-clause-line : goal.returns-in-Err-Refused-clause-line
 returns-in-Err-Refused-clause-line c =
     let said = rw c.in-Err-Refused.field-0-is at c.in-Err-Refused.ensures in
     let is = settled_refused c.args.self.now.lines c.args.line c.next_number-number.result c.next_number-number.ensures c.args.self.now.world c.args.self.now.world c.requires _ said.1 in
-    subst (λ (p : Line). IfOk c.passed_over.result (λ l. l ≡ p)) is c.passed_over.ensures
+    refused_line c.pass_over.result _ c.args.self.now.lines c.args.line c.pass_over.ensures is
 
 pub returns-in-Err-Refused-clause-run : goal.returns-in-Err-Refused-clause-run
 returns-in-Err-Refused-clause-run c =
     let said = rw c.in-Err-Refused.field-0-is at c.in-Err-Refused.ensures in
-    rw said.2 (remark_of c.passed_over.result c.args.self.now.lines c.args.self.now.world c.passed_over.ensures c.requires)
+    refused_runs c.pass_over.result _ c.args.self.now.lines c.args.self.now.world c.line.new.self c.pass_over.ensures said.2 c.requires

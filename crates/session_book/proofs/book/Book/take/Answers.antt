@@ -19,7 +19,7 @@ invariant_of-self-in-TunnelUp c =
     let stands : stepped kept (TunnelUp c.in-TunnelUp.tunnel) ≡ after = search rules in
     record {
       sound = search rules;
-      whole = whole_after c.args.self.now kept c.args.next (TunnelUp c.in-TunnelUp.tunnel) after here c.in-TunnelUp.is c.self.invariant.whole c.requires.bytes c.requires.fits stands;
+      whole = whole_after c.args.self.now kept c.args.next (TunnelUp c.in-TunnelUp.tunnel) after here c.in-TunnelUp.is c.self.invariant.whole c.fields_fit.ensures c.requires.fits stands;
     }
 
 pub invariant_of-self-in-TunnelDown : goal.invariant_of-self-in-TunnelDown
@@ -37,7 +37,7 @@ invariant_of-self-in-TunnelDown c =
     let stands : stepped kept (TunnelDown c.in-TunnelDown.local) ≡ after = search rules in
     record {
       sound = search rules;
-      whole = whole_after c.args.self.now kept c.args.next (TunnelDown c.in-TunnelDown.local) after here c.in-TunnelDown.is c.self.invariant.whole c.requires.bytes c.requires.fits stands;
+      whole = whole_after c.args.self.now kept c.args.next (TunnelDown c.in-TunnelDown.local) after here c.in-TunnelDown.is c.self.invariant.whole c.fields_fit.ensures c.requires.fits stands;
     }
 
 pub invariant_of-self-in-CallUp : goal.invariant_of-self-in-CallUp
@@ -55,7 +55,7 @@ invariant_of-self-in-CallUp c =
     let stands : stepped kept (CallUp c.in-CallUp.call) ≡ after = search rules in
     record {
       sound = search rules;
-      whole = whole_after c.args.self.now kept c.args.next (CallUp c.in-CallUp.call) after here c.in-CallUp.is c.self.invariant.whole c.requires.bytes c.requires.fits stands;
+      whole = whole_after c.args.self.now kept c.args.next (CallUp c.in-CallUp.call) after here c.in-CallUp.is c.self.invariant.whole c.fields_fit.ensures c.requires.fits stands;
     }
 
 pub invariant_of-self-in-CallDown : goal.invariant_of-self-in-CallDown
@@ -73,7 +73,7 @@ invariant_of-self-in-CallDown c =
     let stands : stepped kept (CallDown c.in-CallDown.local) ≡ after = search rules in
     record {
       sound = search rules;
-      whole = whole_after c.args.self.now kept c.args.next (CallDown c.in-CallDown.local) after here c.in-CallDown.is c.self.invariant.whole c.requires.bytes c.requires.fits stands;
+      whole = whole_after c.args.self.now kept c.args.next (CallDown c.in-CallDown.local) after here c.in-CallDown.is c.self.invariant.whole c.fields_fit.ensures c.requires.fits stands;
     }
 
 pub invariant_of-self-in-Mark : goal.invariant_of-self-in-Mark
@@ -91,5 +91,5 @@ invariant_of-self-in-Mark c =
     let stands : stepped kept (Mark c.in-Mark.tunnel c.in-Mark.mark) ≡ after = search rules in
     record {
       sound = search rules;
-      whole = whole_after c.args.self.now kept c.args.next (Mark c.in-Mark.tunnel c.in-Mark.mark) after here c.in-Mark.is c.self.invariant.whole c.requires.bytes c.requires.fits stands;
+      whole = whole_after c.args.self.now kept c.args.next (Mark c.in-Mark.tunnel c.in-Mark.mark) after here c.in-Mark.is c.self.invariant.whole c.fields_fit.ensures c.requires.fits stands;
     }

@@ -1,0 +1,4 @@
+mod Books
+mod Ends
+mod Nodes
+mod Runs

@@ -1,0 +1,96 @@
+-- What holds of each node by itself after every list of lines, whatever crashes in it.
+use Rattle.std.specs.Prelude.{◌≡◌, ℕ, ◌+◌, ◌≤◌, Bool, true, false, List, length, Option, Some, is_some}
+use Rattle.std.specs.List.{AllByRecursion}
+use Rattle.id_table.specs.Ids.{at}
+use Rattle.session_book.specs.declared.record.Record.{Record}
+use Rattle.session_book.specs.declared.record.BookCall.{BookCall}
+use Rattle.session_book.specs.Books.{Kept, AreRising, tunnel_at}
+use Rattle.schedule_text.specs.declared.line.Line.{Line}
+use Rattle.schedule_text.specs.Grammar.{AreLines}
+use Rattle.end_names.specs.declared.role.Role.{Role}
+use Rattle.end_model.specs.declared.event.Event.{Event}
+use Rattle.end_model.specs.declared.tunnel.Config.{Config}
+use Rattle.end_model.specs.Contents.{contents_of}
+use Rattle.end_model.specs.End.{End, new_end, plain_step}
+use Rattle.end_model.specs.Starting.{bare_end, starts}
+use Rattle.world_model.specs.World.{World, Node, Checkpoint, recorded_all}
+use Rattle.world_model.specs.Run.{run}
+use Rattle.step_laws.specs.Looks.{LooksAreTrue}
+use Rattle.step_laws.specs.Steps.{AreKept}
+use Rattle.book_laws.specs.Books.{Fits, IsBook, AreInPlace, book_after}
+
+-- ---- books
+
+-- what a book holds fits together: its ceilings are within their spaces, its lists rise, and each of its calls is in one of its tunnels
+pub record IsSoundBook (k : Kept) : Type 0 where
+  pub tunnel_ceiling : k.tunnel_ceiling ≤ 65535
+  pub session_ceiling : k.session_ceiling ≤ 65534
+  pub draw_ceiling : k.draw_ceiling ≤ 4294967295
+  pub tunnels_rise : AreRising (λ t. t.local) k.tunnels
+  pub calls_rise : AreRising (λ c. c.local) k.calls
+  pub homes : AllByRecursion (λ (c : BookCall). is_some (tunnel_at k c.tunnel) ≡ true) k.calls
+
+-- ---- nodes
+
+-- a node that is up has an end whose tables and looks are kept, and its checkpoint has the end's own book
+pub record HoldsUp (node : Node) : Type 0 where
+  pub kept : AreKept node.end
+  pub looks : LooksAreTrue node.end
+  pub fit : Fits node.end
+  pub book : IsBook node.end node.checkpoint.book
+
+-- of one that is down nothing is left but the book: it has no tunnel, and its ids begin above the book's ceilings
+pub record HoldsNode (node : Node) : Type 0 where
+  pub sound : IsSoundBook node.checkpoint.book
+  pub up : node.up ≡ true → HoldsUp node
+  pub down : node.up ≡ false → node.end ≡ bare_end node.end.role node.end.config node.checkpoint.book
+
+abbrev pub NodesOfRuns : Type 0
+NodesOfRuns = (lines : List Line) → AreLines lines → (n : ℕ) (node : Node) → at (run lines).world.nodes n ≡ Some node → HoldsNode node
+
+-- so the tables of each end are kept, whether it is up or down
+abbrev pub EndsOfRuns : Type 0
+EndsOfRuns = (lines : List Line) → AreLines lines → (n : ℕ) (node : Node) → at (run lines).world.nodes n ≡ Some node → AreKept node.end × LooksAreTrue node.end × Fits node.end
+
+-- ---- records
+
+-- the checkpoint counts each of the records, and its book is the one after them all
+pub record CountsAll (k : Checkpoint) (rs : List Record) : Type 0 where
+  pub in_place : AreInPlace k.book rs
+  pub records : (recorded_all k rs).records ≡ k.records + length rs
+  pub book : (recorded_all k rs).book ≡ book_after k.book rs
+
+-- none of the records of a step is out of place in the checkpoint of a node that is up, and so none of those of a start, of one that is down
+pub record LeavesNoneOut (node : Node) : Type 0 where
+  pub steps : node.up ≡ true → (moment : ℕ) (block : List ℕ) (ev : Event) → CountsAll node.checkpoint (contents_of node.end (plain_step node.end moment block ev))
+  pub start : node.up ≡ false
+      → CountsAll node.checkpoint (contents_of node.end (starts node.end.role node.end.config node.checkpoint.book))
+
+abbrev pub RecordsOfRuns : Type 0
+RecordsOfRuns = (lines : List Line) → AreLines lines → (n : ℕ) (node : Node) → at (run lines).world.nodes n ≡ Some node → LeavesNoneOut node
+
+-- ---- ids
+
+-- no id was drawn above the ceilings that are committed; the next one of a node that is down is above them all
+pub record AreWithinCeilings (node : Node) : Type 0 where
+  pub tunnels : node.end.tunnel_ids.next ≤ node.checkpoint.book.tunnel_ceiling + 1
+  pub sessions : node.end.session_ids.next ≤ node.checkpoint.book.session_ceiling + 1
+  pub tunnels_down : node.up ≡ false → node.end.tunnel_ids.next ≡ node.checkpoint.book.tunnel_ceiling + 1
+  pub sessions_down : node.up ≡ false → node.end.session_ids.next ≡ node.checkpoint.book.session_ceiling + 1
+
+abbrev pub IdsOfRuns : Type 0
+IdsOfRuns = (lines : List Line) → AreLines lines → (n : ℕ) (node : Node) → at (run lines).world.nodes n ≡ Some node → AreWithinCeilings node
+
+-- ---- what else holds of ends
+
+-- a property of ends that new ones have, and those that crashed or start over a sound book, and that each step of an end keeps whose tables
+-- and looks are kept
+pub record StaysSo (P : End → Type 0) : Type 0 where
+  pub new : (r : Role) (c : Config) → P (new_end r c)
+  pub bare : (r : Role) (c : Config) (k : Kept) → IsSoundBook k → P (bare_end r c k)
+  pub stays : (e : End) → AreKept e → LooksAreTrue e → Fits e → P e → (moment : ℕ) (block : List ℕ) (ev : Event) → P (plain_step e moment block ev).end
+
+-- each end of each run has it
+abbrev pub PropertiesOfRuns : Type 1
+PropertiesOfRuns =
+    (P : End → Type 0) → StaysSo P → (lines : List Line) → AreLines lines → (n : ℕ) (node : Node) → at (run lines).world.nodes n ≡ Some node → P node.end

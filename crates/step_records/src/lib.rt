@@ -1,0 +1,9 @@
+//! What a step of an end leaves in the checkpoint of its end: the ceilings of ids that rose, and the tunnels and the calls that came
+//! up or went.
+#![tactic(auto)]
+
+mod records;
+mod spaces;
+
+pub use records::{Records, step_records};
+pub use spaces::Spaces;
