@@ -41,6 +41,10 @@ selector_place = 31
 abbrev pub gate_place : ℕ → ℕ → ℕ
 gate_place start records = start + 32 * records
 
+-- where the content behind a gate stands
+abbrev pub content_place : ℕ → ℕ → ℕ
+content_place start at = gate_place start at + 1
+
 -- ---- spelling
 
 -- records with these contents, each behind its open gate

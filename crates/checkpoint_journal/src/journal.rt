@@ -1,7 +1,7 @@
 //! The journal: contents in order, each on the disk before its gate is opened.
 
 ghost use Rattle.std.specs.Prelude.{◌≡◌, ◌≤◌, ◌<◌, ◌+◌, ◌-◌, ◌++◌, ◌∷◌, [], ℕ, List, length, max, OnOk, OnErr, Err, option_map, is_some, true, false};
-ghost use Rattle.checkpoint_journal.specs.Format.{most_records, second_area, other_area};
+ghost use Rattle.checkpoint_journal.specs.Format.{most_records, second_area, other_area, content_place};
 ghost use Rattle.checkpoint_journal.specs.Commit.{commit_after, IsStopped};
 ghost use Rattle.checkpoint_journal.specs.State.{opened_at, next_gate, compacted, HasContents, HasRoom, FindsBeforeOrAfter, FindsBeforeAndFirst, FindsOldOrNew};
 ghost use Rattle.checkpoint_journal.specs.declared.journal.JournalStop.TheVariants as stop;
@@ -106,10 +106,19 @@ impl Journal {
     }
 
     /// Whether the disk failed at an earlier call.
-    fn is_halted(&self) -> bool
+    pub fn is_halted(&self) -> bool
         ensures { result ≡ self.now.halted }
     {
         self.halted
+    }
+
+    /// Where the content of a record of its area begins, in bytes of the file. Records are counted from 0.
+    #[tactic(auto, unfolding(crate::specs::Format::most_records, crate::specs::Format::second_area))]
+    pub fn content_place(&self, at: u32) -> u64
+        requires { at ≤ most_records }
+        ensures { result ≡ content_place self.now.start at }
+    {
+        self.start + 32 * u64::from(at) + 1
     }
 
     /// Makes the spare at least `count`: the disk has room for so many records, and for the four calls of each. It makes

@@ -1,0 +1,4 @@
+pub mod Records
+pub mod Found
+pub mod Opening
+pub mod Several

@@ -1,0 +1,176 @@
+//! The store of one end.
+
+ghost use Rattle.std.specs.Prelude.{◌≡◌, ◌≤◌, ◌<◌, ◌-◌, ◌++◌, ◌∷◌, [], ℕ, List, length, IfOk, OnOk, OnErr, IfSome, Some, is_some, true, false};
+ghost use Rattle.std.specs.List.{AllByRecursion};
+ghost use Rattle.checkpoint_journal.specs.Format.{most_records};
+ghost use Rattle.checkpoint_journal.specs.State.{opened_at, HasRoom};
+ghost use Rattle.checkpoint_journal.specs.Answers.{Opens, OpenHasCause, IsUnwritten, IsSafe, IsMadeNew, RoomHasCause, StopHasCause, SomeHaveCause};
+ghost use Rattle.session_book.specs.Books.{fits, book_of};
+ghost use Rattle.session_book.specs.Records.{record_of};
+ghost use Rattle.session_book.specs.Spelling.{content_of};
+ghost use Rattle.end_store.specs.Records.{IsUnmarked, fitting, spelled};
+ghost use Rattle.end_store.specs.Stored.{placed, reads, IsRead, prepared, with_record, with_records, IsStored, IsKept, IsLeftBehind, FindsFirst};
+
+use crate::spelling::spell;
+use checkpoint_journal::{Journal, JournalOpen, JournalRoom, JournalStop, open_disk};
+use disk_core::Disk;
+use session_book::{Book, BookError, Record};
+use std::alloc::Global;
+use std::marker::Model;
+use wire_base::Contents;
+
+/// The store of one end, on a disk that is handed to each call. Between two calls the disk is as the last one left it.
+#[derive(Drop)]
+pub struct Store {
+    journal: Journal,
+    book: Book,
+}
+
+impl Model for Store {
+    ghost use Rattle.end_store.specs.Stored.{Stored};
+
+    ghost Value = { Stored };
+
+    ghost view = { λ s. record { journal = s.journal; kept = s.book.kept; spare = s.book.spare } };
+}
+
+/// The book of a journal's contents, or the place in the file at which the first content begins that isn't in place.
+fn read_book(alloc: Global, journal: &Journal, contents: &Contents) -> Result<Book, JournalOpen>
+    requires few { length contents.now ≤ most_records }
+    ensures { IsRead (placed journal.now.start (book_of contents.now)) result }
+{
+    match Book::of_contents(alloc, contents) {
+        Ok(book) => Ok(book),
+        Err(BookError::BadRecord { at }) => Err(JournalOpen::NotJournal {
+            at: journal.content_place(at as u32),
+        }),
+        Err(BookError::NoMemory) => Err(JournalOpen::NoMemory),
+    }
+}
+
+impl Store {
+    /// Opens the store on a disk: `kind` is 1 for a LAC's and 2 for an LNS's, `number` is the node's. A file of at most 33 bytes
+    /// whose first one isn't an open gate is made new. It begins with a sync. Where a content isn't in place, the file is no
+    /// journal, told by the place of that content's first byte; nothing is written then.
+    pub fn open<D: Disk>(
+        alloc: Global,
+        disk: &mut D,
+        kind: u8,
+        number: u8,
+    ) -> Result<Store, JournalOpen>
+        // The book of the file's contents, or the place at which it is refused.
+        ensures opens { IfSome (D.holds disk.old) (λ held. Opens (λ s. s.kept) (reads kind number held.bytes) result) }
+
+        // The store is of that kind and node, and its book is that of what the disk holds.
+        ensures journal { IfOk result (λ s. s.journal ≡ opened_at kind number s.journal.start s.journal.records) }
+        ensures kept { IfOk result (λ s. IsKept s (D.holds disk.new)) }
+        ensures room { IfOk result (λ s. HasRoom D.reach D.calls_left s.journal disk.new) }
+
+        // Whatever comes of the call, a file that isn't made new isn't written, and a crash in it leaves nothing new.
+        ensures unwritten { IfSome (D.holds disk.old) (IsUnwritten (D.holds disk.new)) }
+        ensures safe { IfSome (D.holds disk.old) (IsSafe (D.holds disk.new)) }
+        ensures refused { IfSome (D.holds disk.old) (IsLeftBehind kind number (D.holds disk.new) result) }
+        ensures made_new { OnOk result (IfSome (D.holds disk.old) (IsMadeNew kind number (D.holds disk.new))) }
+        ensures cause { OpenHasCause (D.faults disk.old) (D.faults disk.new) result }
+    {
+        let (journal, contents) = open_disk(alloc, disk, kind, number)?;
+        let book = read_book(alloc, &journal, &contents)?;
+        Ok(Store { journal, book })
+    }
+
+    /// The book of the records that are on the disk.
+    pub fn book(&self) -> &Book
+        ensures { result.now.kept ≡ self.now.kept }
+    {
+        &self.book
+    }
+
+    /// How many records the area in use of the journal has.
+    pub fn records(&self) -> u32
+        ensures { result ≡ self.now.journal.records }
+    {
+        self.journal.records()
+    }
+
+    /// Whether the disk failed at an earlier call: then nothing more is committed until the store is opened again.
+    pub fn is_halted(&self) -> bool
+        ensures { result ≡ self.now.journal.halted }
+    {
+        self.journal.is_halted()
+    }
+
+    /// Makes room for so many records: on the disk, for the calls of each, and in the book. It makes no call of the device. Where
+    /// it is refused, the store is as before but for the room on its disk.
+    pub fn prepare<D: Disk>(&mut self, disk: &mut D, count: u32) -> Result<(), JournalRoom>
+        requires room { self.old.journal.halted ≡ false → HasRoom D.reach D.calls_left self.old.journal disk.old }
+        ensures room { self.old.journal.halted ≡ false → HasRoom D.reach D.calls_left self.new.journal disk.new }
+        ensures ok { OnOk result (self.new ≡ prepared count self.old) }
+        ensures err { OnErr result (self.new ≡ record self.old { journal = record self.old.journal { spare = self.new.journal.spare } }) }
+        ensures disk { D.holds disk.new ≡ D.holds disk.old }
+        ensures stored { (contents : List (List ℕ)) → IsStored self.old contents (D.holds disk.old) → IsStored self.new contents (D.holds disk.new) }
+        ensures faults { D.faults disk.new ≡ D.faults disk.old }
+        ensures cause { RoomHasCause self.old.journal count result }
+    {
+        self.journal.prepare(disk, count)?;
+        self.book.reserve(count)?;
+        Ok(())
+    }
+
+    /// Commits a record; its condition is that the spare isn't 0. One that isn't in place makes no call of the device.
+    fn commit_one<D: Disk>(&mut self, disk: &mut D, next: &Record) -> Result<(), JournalStop>
+        requires spare { (0 < self.old.spare) × (0 < self.old.journal.spare) }
+        requires room { self.old.journal.halted ≡ false → HasRoom D.reach D.calls_left self.old.journal disk.old }
+        requires unmarked { IsUnmarked next.now }
+        ensures room { OnOk result (HasRoom D.reach D.calls_left self.new.journal disk.new) }
+        ensures state { OnOk result (self.new ≡ with_record self.old next.now) }
+        ensures cause { StopHasCause self.old.journal self.new.journal (D.faults disk.old) (D.faults disk.new) result }
+        ensures in_place { self.old.journal.halted ≡ false → OnErr result (fits self.old.kept next.now ≡ true) }
+        ensures halted { self.old.journal.halted ≡ true → D.holds disk.new ≡ D.holds disk.old }
+        ensures tells { is_some (D.holds disk.new) ≡ is_some (D.holds disk.old) }
+        ensures read { record_of (content_of next.now) ≡ Some next.now }
+        ensures stored { (before : List (List ℕ)) → IsStored self.old before (D.holds disk.old)
+            → OnOk result (IsStored self.new (before ++ spelled (fitting self.old.kept (next.now ∷ []))) (D.holds disk.new)) }
+        ensures crash { (before : List (List ℕ)) → IsStored self.old before (D.holds disk.old)
+            → FindsFirst self.old before (next.now ∷ []) 0 (D.holds disk.new) }
+    {
+        let content = spell(next);
+        if self.journal.is_halted() {
+            return Err(JournalStop::Halted);
+        }
+        if !self.book.apply_record(*next) {
+            return Ok(());
+        }
+        self.journal.commit(disk, &content)
+    }
+
+    /// Commits records, one behind the other; its condition is that the spare is enough for all of them, and that no tunnel
+    /// comes up with a mark. It makes four calls of the device for each that is in place, none for another, and takes no
+    /// memory. Once the disk failed, the book isn't that of the disk until the store is opened again.
+    pub fn commit<D: Disk>(&mut self, disk: &mut D, records: &[Record]) -> Result<(), JournalStop>
+        requires spare { (length records.now ≤ self.old.spare) × (length records.now ≤ self.old.journal.spare) }
+        requires room { self.old.journal.halted ≡ false → HasRoom D.reach D.calls_left self.old.journal disk.old }
+        requires unmarked { AllByRecursion IsUnmarked records.now }
+        ensures room { OnOk result (HasRoom D.reach D.calls_left self.new.journal disk.new) }
+        ensures state { OnOk result (self.new ≡ with_records self.old records.now) }
+        ensures cause { SomeHaveCause (length (fitting self.old.kept records.now)) self.old.journal self.new.journal (D.faults disk.old) (D.faults disk.new) result }
+        ensures halted { self.old.journal.halted ≡ true → (self.new ≡ self.old) × (D.holds disk.new ≡ D.holds disk.old) }
+        ensures tells { is_some (D.holds disk.new) ≡ is_some (D.holds disk.old) }
+
+        // At `Ok` the disk has the contents from before, and behind them those of the records that are in place.
+        ensures stored { (before : List (List ℕ)) → IsStored self.old before (D.holds disk.old)
+            → OnOk result (IsStored self.new (before ++ spelled (fitting self.old.kept records.now)) (D.holds disk.new)) }
+
+        // Whatever comes of the call, the file opens with the book from before and the first few of the records that are in
+        // place, and with as many of these at least as the journal says that it took.
+        ensures crash { (before : List (List ℕ)) → IsStored self.old before (D.holds disk.old)
+            → FindsFirst self.old before records.now (self.new.journal.records - self.old.journal.records) (D.holds disk.new) }
+    {
+        if self.is_halted() {
+            return Err(JournalStop::Halted);
+        }
+        for next in records {
+            self.commit_one(disk, next)?;
+        }
+        Ok(())
+    }
+}
