@@ -2,14 +2,14 @@
 use Rattle.std.proofs.Common.{◌≡◌, inl, inr, ℕ, ◌+◌, ◌-◌, ◌≤◌, true, false, Bool, cond, List, [], ◌∷◌, ◌++◌, length, take, Option, Some, None, Ok, refl, sym, ap, subst, ◌∙◌, arith, append_assoc}
 use Rattle.std.specs.Prelude.{Result, Err, OnOk}
 use Rattle.std.proofs.lemmas.List.{map-append, append-nil, take-append-le, length-append}
-use Rattle.std.proofs.Math.Seq.{take-append-add, take-length}
+use Rattle.std.proofs.Math.Seq.{take-append-add}
 use Rattle.disk_core.specs.Disk.{Held}
 use Rattle.session_book.specs.declared.record.Record.{Record}
 use Rattle.session_book.specs.Books.{Kept, fits, stepped, book_of}
 use Rattle.session_book.specs.Records.{record_of}
 use Rattle.session_book.specs.Spelling.{content_of}
 use Rattle.checkpoint_journal.specs.Format.{start_of, opens, IsBeforeOrAfter}
-use Rattle.checkpoint_journal.specs.State.{State, HasContents, MayFind, FindsBeforeOrAfter}
+use Rattle.checkpoint_journal.specs.State.{State, HasContents, FindsBeforeOrAfter}
 use Rattle.checkpoint_journal.proofs.Same.{finds_contents}
 use Rattle.end_store.specs.Records.{kept_after_all, fitting, spelled}
 use Rattle.end_store.specs.Stored.{Stored, placed, booked, reads, with_records, IsStored, OpensWithFirst, FindsFirst}

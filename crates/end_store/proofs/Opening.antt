@@ -1,13 +1,13 @@
 -- The book of a file that was opened, and where it is refused.
 use Rattle.std.proofs.Common.{◌≡◌, inl, inr, ℕ, ◌+◌, ◌<◌, ◌≤◌, Bool, true, false, cond, List, [], ◌∷◌, length, drop, Option, Some, None, Ok, Err, refl, sym, ap, subst, ◌∙◌, arith}
 use Rattle.std.specs.Prelude.{Result, IfSome, nat_lt}
-use Rattle.disk_core.specs.Disk.{Held, durable, settled}
+use Rattle.disk_core.specs.Disk.{Held}
 use Rattle.session_book.specs.declared.book.BookError.{BookError}
 use Rattle.session_book.specs.declared.book.BookError.TheVariants as book_error
 use Rattle.session_book.specs.Books.{Kept, is_in_place, after_content, folded, book_of}
 use Rattle.checkpoint_journal.specs.Format.{start_of, opens, is_made, checked, differs, header}
 use Rattle.checkpoint_journal.specs.Commit.{IsFile}
-use Rattle.checkpoint_journal.specs.State.{State, HasContents}
+use Rattle.checkpoint_journal.specs.State.{State}
 use Rattle.checkpoint_journal.specs.Answers.{Opens, IsSame, IsUnwritten, IsMadeNew}
 use Rattle.checkpoint_journal.specs.declared.open.JournalOpen.{JournalOpen}
 use Rattle.checkpoint_journal.specs.declared.open.JournalOpen.TheVariants.{NotJournal, StoreFault, NoMemory}

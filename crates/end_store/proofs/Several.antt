@@ -6,13 +6,12 @@ use Rattle.std.proofs.Math.Seq.{take-length}
 use Rattle.disk_core.specs.Disk.{Held}
 use Rattle.session_book.specs.declared.record.Record.{Record}
 use Rattle.session_book.specs.Books.{Kept, fits, stepped}
-use Rattle.checkpoint_journal.specs.Format.{opens}
 use Rattle.checkpoint_journal.specs.State.{State}
 use Rattle.checkpoint_journal.specs.Answers.{StopHasCause, SomeHaveCause}
 use Rattle.checkpoint_journal.specs.declared.journal.JournalStop.{JournalStop}
 use Rattle.checkpoint_journal.proofs.Same.{finds_contents}
 use Rattle.checkpoint_journal.proofs.Several.{stopped_cause, stopped_records}
-use Rattle.end_store.specs.Records.{kept_after, kept_after_all, fitting, spelled}
+use Rattle.end_store.specs.Records.{kept_after_all, fitting, spelled}
 use Rattle.end_store.specs.Stored.{Stored, with_record, with_records, IsStored, FindsFirst}
 use Rattle.end_store.proofs.Records.{after_more, fitting_more, fitting_same, one_fits, none_fits, after_one}
 use Rattle.end_store.proofs.Found.{spelled_more, reads_book, finds_behind}

@@ -1,5 +1,5 @@
 -- An end that crashed, and what its start leaves.
-use Rattle.std.proofs.Common.{◌≡◌, ℕ, zero, suc, ◌+◌, ◌-◌, ◌*◌, ◌/◌, min, ◌<◌, ◌≤◌, Bool, true, false, cond, ◌==◌, not, List, [], ◌∷◌, ◌++◌, map, filter, take, length, All, slice_get, Option, Some, None, is_some, refl, sym, ◌∙◌, ap, subst, arith}
+use Rattle.std.proofs.Common.{◌≡◌, ℕ, zero, suc, ◌+◌, ◌-◌, ◌*◌, ◌/◌, min, ◌<◌, Bool, true, false, cond, ◌==◌, not, List, [], ◌∷◌, map, filter, All, slice_get, Some, None, is_some, refl, sym, ◌∙◌, ap, subst, arith}
 use Rattle.std.specs.List.{AllByRecursion, flat_map}
 use Rattle.std.proofs.lemmas.Option.{none-some}
 use Rattle.id_table.specs.Ids.{at, at-none}
@@ -14,11 +14,10 @@ use Rattle.end_names.specs.declared.role.Role.{Role}
 use Rattle.end_model.specs.declared.tunnel.Config.{Config}
 use Rattle.end_model.specs.declared.moves.Move.TheVariants.{Cleared}
 use Rattle.end_model.specs.Contents.{ceilings_of, records_of, contents_of}
-use Rattle.end_model.specs.End.{End}
 use Rattle.end_model.specs.Starting.{bare_end, all_cleared, starts}
 use Rattle.step_laws.specs.Looks.{LooksAreTrue}
 use Rattle.step_laws.specs.Steps.{AreKept}
-use Rattle.book_laws.specs.Books.{tunnel_record, record_in, Mirrors, IsBook, Fits, AreInPlace, book_after}
+use Rattle.book_laws.specs.Books.{tunnel_record, record_in, IsBook, Fits, AreInPlace, book_after}
 use Rattle.book_laws.proofs.Lists.{not_below, same, other, none_rises}
 use Rattle.node_laws.specs.Nodes.{IsSoundBook}
 use Rattle.node_laws.proofs.Books.{record_keeps}

@@ -2,8 +2,7 @@
 use Rattle.std.proofs.Common.{◌≡◌, ⊎_elim, Bool, true, false, ℕ, ◌+◌, ◌-◌, ◌^◌, zero, suc, List, [], ◌∷◌, length, take, refl, sym, ap, ◌∙◌, subst, Option, Some, None, Result, Ok, Err, arith}
 use Rattle.std.specs.Prelude.{is_some, min, nat_le, slice_get, if◌then◌else◌}
 use Rattle.std.proofs.lemmas.Bool.{true≢false}
-use Rattle.std.proofs.lemmas.Option.{none-some}
-use Rattle.id_table.specs.Ids.{at, put, at-none}
+use Rattle.id_table.specs.Ids.{at, put}
 use Rattle.id_table.specs.Order.{at_new, at_other, same_or_not}
 use Rattle.wire_base.specs.declared.why.Why.{Why}
 use Rattle.wire_base.specs.declared.why.Why.TheVariants as why
@@ -22,17 +21,17 @@ use Rattle.end_model.specs.declared.out.Out.{Out}
 use Rattle.end_model.specs.declared.out.Out.TheVariants.{Send, Up, Gone, Drop, Cause}
 use Rattle.end_model.specs.Secrets.{uncovered_event}
 use Rattle.end_model.specs.Contents.{contents_of}
-use Rattle.end_model.specs.End.{End, Stepped, new_end, plain_step, step}
+use Rattle.end_model.specs.End.{End, Stepped, plain_step, step}
 use Rattle.end_model.specs.Starting.{bare_end, starts}
 use Rattle.world_model.specs.declared.refusal.Refusal.TheVariants.{Unfit}
 use Rattle.world_model.specs.declared.stop.StopAt.{StopAt}
-use Rattle.world_model.specs.World.{World, Node, Checkpoint, Sender, Lined, Committed, IsFull, IsCut, IsWhole, quiet_line, with_node, with_birth_at, with_birth, birth_of, is_born, moved, moved_all, sent, shown, shown_all, given, after_step, recorded, recorded_all, is_full, with_stop, kept_by, commits_by, commits, fallen, cut_line, committed, running, declared, lac_at, lns_at, down_at, with_call, with_tunnel, later, new_checkpoint, new_node, added, block_of, stepped, sender_of, crashed, armed, opened, started, line}
+use Rattle.world_model.specs.World.{World, Node, Checkpoint, Sender, Lined, Committed, IsFull, IsCut, IsWhole, quiet_line, with_node, with_birth_at, with_birth, birth_of, is_born, moved, moved_all, sent, shown, shown_all, given, after_step, recorded, recorded_all, is_full, with_stop, kept_by, commits_by, commits, fallen, cut_line, committed, declared, lac_at, lns_at, down_at, with_call, with_tunnel, later, new_node, added, block_of, stepped, sender_of, crashed, armed, opened, started, line}
 use Rattle.step_laws.specs.Looks.{LooksAreTrue, LooksStayTrue, LooksBeginTrue}
 use Rattle.step_laws.specs.Steps.{AreKept, StepsAreChains}
-use Rattle.step_laws.specs.Lines.{tested_not, is_running, is_lac_at, is_lns_at, is_declared, is_down_at, has_call, has_tunnel, IsAt, is_at, at_moment, is_later, WasWhole, WasCut, committed_line, step_line, deliver_line}
+use Rattle.step_laws.specs.Lines.{tested_not, is_running, is_lac_at, is_lns_at, is_declared, is_down_at, has_call, has_tunnel, IsAt, is_at, at_moment, is_later, committed_line, deliver_line}
 use Rattle.step_laws.specs.Hosts.{LacAt, with_host, entering, OfFrame, frame_line}
 use Rattle.book_laws.specs.Books.{IsBook, Fits, AreInPlace, book_after, StepsAreBooked, NewEndsAreBooked}
-use Rattle.node_laws.specs.Nodes.{IsSoundBook, HoldsUp, HoldsNode, CountsAll, StaysSo}
+use Rattle.node_laws.specs.Nodes.{IsSoundBook, HoldsNode, CountsAll, StaysSo}
 use Rattle.node_laws.proofs.Books.{records_keep}
 use Rattle.node_laws.proofs.Ends.{bare_kept, bare_looks, bare_fits, downs, start_leaves, all_down, cleared_book}
 

@@ -1,19 +1,19 @@
 -- So it is after each run.
-use Rattle.std.proofs.Common.{◌≡◌, inl, inr, ℕ, ◌+◌, ◌≤◌, true, false, List, [], ◌∷◌, refl, sym, ap, ◌∙◌, subst, Option, Some, None, Result, Ok, Err, arith}
+use Rattle.std.proofs.Common.{◌≡◌, inl, inr, ℕ, ◌+◌, false, List, [], ◌∷◌, refl, sym, ap, ◌∙◌, subst, Option, Some, Result, Ok, Err, arith}
 use Rattle.std.proofs.lemmas.Option.{none-some}
 use Rattle.std.proofs.lemmas.Bool.{cases_Bool}
-use Rattle.id_table.specs.Ids.{at, at-none}
+use Rattle.id_table.specs.Ids.{at-none}
 use Rattle.schedule_text.specs.declared.line.Line.{Line}
 use Rattle.end_model.specs.Contents.{contents_of}
 use Rattle.end_model.specs.End.{End, plain_step}
 use Rattle.end_model.specs.Starting.{starts}
 use Rattle.world_model.specs.declared.refusal.Refusal.{Refusal}
-use Rattle.world_model.specs.World.{World, Node, Lined, line}
+use Rattle.world_model.specs.World.{Lined, line}
 use Rattle.world_model.specs.Run.{Run, empty_run, after_line, goes_on, run_from}
 use Rattle.step_laws.specs.Looks.{LooksAreTrue, LooksStayTrue, LooksBeginTrue}
 use Rattle.step_laws.specs.Steps.{AreKept, StepsAreChains}
 use Rattle.book_laws.specs.Books.{Fits, AreInPlace, StepsAreBooked, NewEndsAreBooked}
-use Rattle.node_laws.specs.Nodes.{HoldsNode, NodesOfRuns, EndsOfRuns, CountsAll, LeavesNoneOut, RecordsOfRuns, AreWithinCeilings, IdsOfRuns, StaysSo, PropertiesOfRuns}
+use Rattle.node_laws.specs.Nodes.{NodesOfRuns, EndsOfRuns, RecordsOfRuns, IdsOfRuns, StaysSo, PropertiesOfRuns}
 use Rattle.node_laws.proofs.Ends.{bare_kept, bare_looks, bare_fits, downs, start_leaves, all_down}
 use Rattle.node_laws.proofs.Nodes.{WorldHolds, all_counted, line_holds}
 

@@ -1,5 +1,5 @@
 -- What holds of each node by itself after every list of lines, whatever crashes in it.
-use Rattle.std.specs.Prelude.{◌≡◌, ℕ, ◌+◌, ◌≤◌, Bool, true, false, List, length, Option, Some, is_some}
+use Rattle.std.specs.Prelude.{◌≡◌, ℕ, ◌+◌, ◌≤◌, true, false, List, length, Some, is_some}
 use Rattle.std.specs.List.{AllByRecursion}
 use Rattle.id_table.specs.Ids.{at}
 use Rattle.session_book.specs.declared.record.Record.{Record}
@@ -13,7 +13,7 @@ use Rattle.end_model.specs.declared.tunnel.Config.{Config}
 use Rattle.end_model.specs.Contents.{contents_of}
 use Rattle.end_model.specs.End.{End, new_end, plain_step}
 use Rattle.end_model.specs.Starting.{bare_end, starts}
-use Rattle.world_model.specs.World.{World, Node, Checkpoint, recorded_all}
+use Rattle.world_model.specs.World.{Node, Checkpoint, recorded_all}
 use Rattle.world_model.specs.Run.{run}
 use Rattle.step_laws.specs.Looks.{LooksAreTrue}
 use Rattle.step_laws.specs.Steps.{AreKept}

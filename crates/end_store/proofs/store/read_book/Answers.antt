@@ -1,4 +1,4 @@
-use Rattle.std.proofs.Common.{◌≡◌, arith, subst}
+use Rattle.std.proofs.Common.{arith, subst}
 use Rattle.session_book.specs.declared.book.BookError.{BookError}
 use Rattle.session_book.specs.Books.{book_of}
 use Rattle.session_book.specs.Told.{Told}
