@@ -1,5 +1,5 @@
 -- Several records, one behind the other.
-use Rattle.std.proofs.Common.{◌≡◌, ℕ, ◌+◌, ◌-◌, ◌<◌, ◌≤◌, true, false, Bool, cond, List, [], ◌∷◌, ◌++◌, length, take, drop, get_or, Option, Some, None, Ok, refl, sym, ap, subst, ◌∙◌, arith, append_assoc}
+use Rattle.std.proofs.Common.{◌≡◌, ℕ, ◌+◌, ◌-◌, ◌<◌, ◌≤◌, true, false, Bool, cond, List, [], ◌∷◌, ◌++◌, length, take, drop, get_or, min, Option, Some, None, Ok, refl, sym, ap, subst, ◌∙◌, arith, append_assoc}
 use Rattle.std.specs.Prelude.{Err}
 use Rattle.std.proofs.lemmas.List.{append-nil, take_more, take-append-drop, length-append}
 use Rattle.std.proofs.Math.Seq.{take-length}
@@ -14,7 +14,7 @@ use Rattle.checkpoint_journal.proofs.Several.{stopped_cause, stopped_records}
 use Rattle.end_store.specs.Records.{kept_after_all, fitting, spelled}
 use Rattle.end_store.specs.Stored.{Stored, with_record, with_records, IsStored, FindsFirst}
 use Rattle.end_store.proofs.Records.{after_more, fitting_more, fitting_same, one_fits, none_fits, after_one}
-use Rattle.end_store.proofs.Found.{spelled_more, reads_book, finds_behind}
+use Rattle.end_store.proofs.Found.{spelled_more, reads_book, finds_none, finds_behind}
 
 -- ---- the store after some records
 
@@ -156,3 +156,17 @@ finds_all s new before rs (Some held) least le state stored = λ image found.
 pub nothing_more : (s : Stored) (before : List (List ℕ)) → before ++ spelled (fitting s.kept []) ≡ before
 unfolding fitting
 nothing_more s before = append-nil before
+
+-- ---- the records of a step
+
+-- the count of records that there is room for is theirs
+pub counted : (n count records most : ℕ) → count ≡ min n 4294967295 → most ≡ 1048576 → records + count ≤ most → count ≡ n
+counted n count records most is size room = omega arith
+
+pub finds_refused : (s after : Stored) (before : List (List ℕ)) (rs : List Record) (o now : Option Held)
+    → after ≡ record s { journal = record s.journal { spare = after.journal.spare } } → now ≡ o → IsStored s before o
+    → FindsFirst s before rs (after.journal.records - s.journal.records) now
+finds_refused s after before rs o now same held stored =
+    let records : after.journal.records ≡ s.journal.records = ap (λ (x : Stored). x.journal.records) same in
+    subst (λ (h : Option Held). FindsFirst s before rs (after.journal.records - s.journal.records) h) (sym held)
+    (finds_none s before rs (after.journal.records - s.journal.records) o (omega arith) stored)

@@ -1,16 +1,19 @@
 -- A store between two calls, its disk, and what opens from that disk.
-use Rattle.std.specs.Prelude.{◌≡◌, ◌⊎◌, ℕ, ◌+◌, ◌-◌, ◌≤◌, max, false, List, [], ◌++◌, length, take, Option, Some, IfSome, Result, Ok, Err, if◌then◌else◌}
+use Rattle.std.specs.Prelude.{◌≡◌, ◌⊎◌, ℕ, ◌+◌, ◌-◌, ◌<◌, ◌≤◌, max, true, false, List, [], ◌++◌, length, take, Option, Some, IfSome, Result, Ok, Err, if◌then◌else◌}
 use Rattle.disk_core.specs.Disk.{Held, durable, settled}
 use Rattle.session_book.specs.declared.record.Record.{Record}
 use Rattle.session_book.specs.declared.book.BookError.{BookError}
 use Rattle.session_book.specs.declared.book.BookError.TheVariants as book_error
 use Rattle.session_book.specs.Books.{Kept, Held as BookHeld, fits, stepped, book_of}
-use Rattle.checkpoint_journal.specs.Format.{content_place, start_of, opens, is_made, spelling}
+use Rattle.wire_base.specs.Causes.{Rose}
+use Rattle.checkpoint_journal.specs.Format.{most_records, content_place, start_of, opens, is_made, spelling}
 use Rattle.checkpoint_journal.specs.Commit.{IsHalfMade}
 use Rattle.checkpoint_journal.specs.State.{State, HasContents, MayFind}
 use Rattle.checkpoint_journal.specs.Answers.{IsSame}
 use Rattle.checkpoint_journal.specs.declared.open.JournalOpen.{JournalOpen}
 use Rattle.checkpoint_journal.specs.declared.open.JournalOpen.TheVariants.{NotJournal, StoreFault, NoMemory}
+use Rattle.end_store.specs.declared.store.StoreStop.{StoreStop}
+use Rattle.end_store.specs.declared.store.StoreStop.TheVariants as stop
 use Rattle.end_store.specs.Records.{kept_after_all, fitting, spelled}
 
 -- a journal, the book of its contents, and for how many more records there is room
@@ -96,3 +99,31 @@ OpensWithFirst store before rs least image =
 -- so it is of all that may be found: what a read gives, and each image that a crash may leave
 abbrev pub FindsFirst : Stored → List (List ℕ) → List Record → ℕ → Option Held → Type 0
 FindsFirst store before rs least held = IfSome held (λ file. (image : List ℕ) → MayFind file image → OpensWithFirst store before rs least image)
+
+-- ---- the records of a step
+
+abbrev pub IsAsBefore : Stored → Stored → Option Held → Option Held → Type 0
+IsAsBefore before after held now = (after ≡ record before { journal = record before.journal { spare = after.journal.spare } }) × (now ≡ held)
+
+-- Why they weren't committed, the first cause in this order: the disk failed at an earlier call; the area has no room for all of them; memory
+-- was wanting; the disk failed, and some of those that are in place may be committed.
+abbrev pub StepHasCause : {T : Type 0} → List Record → Stored → Stored → ℕ → ℕ → Result T StoreStop → Type 0
+StepHasCause rs before after faults now (Ok done) =
+    (before.journal.halted ≡ false) × (before.journal.records + length rs ≤ most_records) × (now ≡ faults)
+StepHasCause rs before after faults now (Err stop.Halted) = (before.journal.halted ≡ true) × (now ≡ faults)
+StepHasCause rs before after faults now (Err (stop.StoreFull records)) =
+    (before.journal.halted ≡ false) × (most_records < before.journal.records + length rs) × (records ≡ before.journal.records) × (now ≡ faults)
+StepHasCause rs before after faults now (Err stop.NoMemory) =
+    (before.journal.halted ≡ false) × (before.journal.records + length rs ≤ most_records) × (now ≡ faults)
+StepHasCause rs before after faults now (Err stop.StoreFault) =
+    (before.journal.halted ≡ false) × (before.journal.records + length rs ≤ most_records) × Rose faults now
+    × (after.journal.halted ≡ true)
+    × (after.journal.records < before.journal.records + length (fitting before.kept rs))
+
+-- where they were refused but by a fault, the store is as before, but for the room on its disk, and so is what the disk holds
+abbrev pub StepLeaves : {T : Type 0} → Stored → Stored → Option Held → Option Held → Result T StoreStop → Type 0
+StepLeaves before after held now (Ok done) = Unit {0}
+StepLeaves before after held now (Err stop.Halted) = IsAsBefore before after held now
+StepLeaves before after held now (Err (stop.StoreFull records)) = IsAsBefore before after held now
+StepLeaves before after held now (Err stop.NoMemory) = IsAsBefore before after held now
+StepLeaves before after held now (Err stop.StoreFault) = Unit {0}

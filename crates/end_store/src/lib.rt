@@ -6,4 +6,4 @@
 mod spelling;
 mod store;
 
-pub use store::Store;
+pub use store::{Store, StoreStop};

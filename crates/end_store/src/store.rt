@@ -1,6 +1,6 @@
 //! The store of one end.
 
-ghost use Rattle.std.specs.Prelude.{◌≡◌, ◌≤◌, ◌<◌, ◌-◌, ◌++◌, ◌∷◌, [], ℕ, List, length, IfOk, OnOk, OnErr, IfSome, Some, is_some, true, false};
+ghost use Rattle.std.specs.Prelude.{◌≡◌, ◌≤◌, ◌<◌, ◌-◌, ◌++◌, ◌∷◌, [], ℕ, List, length, min, IfOk, OnOk, OnErr, IfSome, Some, is_some, true, false};
 ghost use Rattle.std.specs.List.{AllByRecursion};
 ghost use Rattle.checkpoint_journal.specs.Format.{most_records};
 ghost use Rattle.checkpoint_journal.specs.State.{opened_at, HasRoom};
@@ -9,7 +9,7 @@ ghost use Rattle.session_book.specs.Books.{fits, book_of};
 ghost use Rattle.session_book.specs.Records.{record_of};
 ghost use Rattle.session_book.specs.Spelling.{content_of};
 ghost use Rattle.end_store.specs.Records.{IsUnmarked, fitting, spelled};
-ghost use Rattle.end_store.specs.Stored.{placed, reads, IsRead, prepared, with_record, with_records, IsStored, IsKept, IsLeftBehind, FindsFirst};
+ghost use Rattle.end_store.specs.Stored.{placed, reads, IsRead, prepared, with_record, with_records, IsStored, IsKept, IsLeftBehind, FindsFirst, StepHasCause, StepLeaves};
 
 use crate::spelling::spell;
 use checkpoint_journal::{Journal, JournalOpen, JournalRoom, JournalStop, open_disk};
@@ -18,6 +18,19 @@ use session_book::{Book, BookError, Record};
 use std::alloc::Global;
 use std::marker::Model;
 use wire_base::Contents;
+
+/// Why the records of a step weren't committed.
+#[derive(Clone, Copy, PartialEq, Eq)]
+pub enum StoreStop {
+    /// The disk failed. The store is halted until it is opened again.
+    StoreFault,
+    /// The journal has so many records, and with those of the step they pass the limit.
+    StoreFull { records: u32 },
+    /// The disk failed at an earlier call.
+    Halted,
+    /// Memory was wanting.
+    NoMemory,
+}
 
 /// The store of one end, on a disk that is handed to each call. Between two calls the disk is as the last one left it.
 #[derive(Drop)]
@@ -32,6 +45,16 @@ impl Model for Store {
     ghost Value = { Stored };
 
     ghost view = { λ s. record { journal = s.journal; kept = s.book.kept; spare = s.book.spare } };
+}
+
+/// How many records these are, as far as 32 bits can tell.
+fn count_of(records: &[Record]) -> u32
+    ensures { result ≡ min (length records.now) 4294967295 }
+{
+    match u32::try_from(records.len()) {
+        Ok(count) => count,
+        Err(_) => u32::MAX,
+    }
 }
 
 /// The book of a journal's contents, or the place in the file at which the first content begins that isn't in place.
@@ -172,5 +195,43 @@ impl Store {
             self.commit_one(disk, next)?;
         }
         Ok(())
+    }
+
+    /// Commits the records of a step: makes room for all of them, and then commits one behind the other. Where it is refused but
+    /// by a fault, the store is as before but for the room on its disk. Its condition is that no tunnel comes up with a mark. A
+    /// step without records makes no call of the device.
+    pub fn commit_step<D: Disk>(
+        &mut self,
+        disk: &mut D,
+        records: &[Record],
+    ) -> Result<(), StoreStop>
+        requires room { self.old.journal.halted ≡ false → HasRoom D.reach D.calls_left self.old.journal disk.old }
+        requires unmarked { AllByRecursion IsUnmarked records.now }
+        ensures room { self.new.journal.halted ≡ false → HasRoom D.reach D.calls_left self.new.journal disk.new }
+        ensures state { OnOk result (self.new ≡ with_records (prepared (length records.now) self.old) records.now) }
+        ensures cause { StepHasCause records.now self.old self.new (D.faults disk.old) (D.faults disk.new) result }
+        ensures refused { StepLeaves self.old self.new (D.holds disk.old) (D.holds disk.new) result }
+        ensures tells { is_some (D.holds disk.new) ≡ is_some (D.holds disk.old) }
+
+        // At `Ok` the disk has the contents from before, and behind them those of the records that are in place.
+        ensures stored { (before : List (List ℕ)) → IsStored self.old before (D.holds disk.old)
+            → OnOk result (IsStored self.new (before ++ spelled (fitting self.old.kept records.now)) (D.holds disk.new)) }
+
+        // Whatever comes of the call, the file opens with the book from before and the first few of the records that are in
+        // place, and with as many of these at least as the journal says that it took.
+        ensures crash { (before : List (List ℕ)) → IsStored self.old before (D.holds disk.old)
+            → FindsFirst self.old before records.now (self.new.journal.records - self.old.journal.records) (D.holds disk.new) }
+    {
+        let count = count_of(records);
+        match self.prepare(disk, count) {
+            Err(JournalRoom::Halted) => Err(StoreStop::Halted),
+            Err(JournalRoom::StoreFull { records }) => Err(StoreStop::StoreFull { records }),
+            Err(JournalRoom::NoMemory) => Err(StoreStop::NoMemory),
+            Ok(()) => match self.commit(disk, records) {
+                Ok(()) => Ok(()),
+                Err(JournalStop::Halted) => Err(StoreStop::Halted),
+                Err(JournalStop::StoreFault) => Err(StoreStop::StoreFault),
+            },
+        }
     }
 }

@@ -3,7 +3,7 @@ ghost use Rattle.end_store.specs.Records.{IsUnmarked};
 
 use checkpoint_journal::{JournalOpen, JournalRoom, JournalStop};
 use disk_core::{Disk, Fails, MemoryDisk, StopDisk};
-use end_store::Store;
+use end_store::{Store, StoreStop};
 use session_book::{Book, BookCall, BookTunnel, Record};
 use std::alloc::Global;
 use std::test::Fail;
@@ -180,6 +180,26 @@ fn has_one_left(alloc: Global, disk: &mut MemoryDisk, records: u32) -> bool {
         && one.is_ok()
 }
 
+/// What a store answers that has room for one record more: to a step of two, of one, of none, and of one again.
+type Steps = (
+    Result<(), StoreStop>,
+    Result<(), StoreStop>,
+    Result<(), StoreStop>,
+    Result<(), StoreStop>,
+);
+
+fn last_steps(alloc: Global, disk: &mut MemoryDisk) -> Option<Steps> {
+    let mut store = Store::open(alloc, disk, 1, 1).ok()?;
+    let two = store.commit_step(disk, &[TUNNEL_IDS, SESSION_IDS]);
+    let one = store.commit_step(disk, &[SESSION_IDS]);
+    let none = store.commit_step(disk, &[]);
+    let full = store.commit_step(disk, &[TUNNEL_IDS]);
+    if store.book().ceiling(1) != 0 || store.book().ceiling(2) != 64 {
+        return None;
+    }
+    Some((two, one, none, full))
+}
+
 #[test]
 fn four_records_make_a_file(rt: HostRuntime) -> Result<(), Fail> {
     let mut disk = holding(rt.alloc(), b"")?;
@@ -265,5 +285,22 @@ fn an_area_has_so_many_records(rt: HostRuntime) -> Result<(), Fail> {
     let image = with_ceilings(rt.alloc(), 1_048_575)?;
     let mut disk = MemoryDisk::new(rt.alloc(), image, Fails::new(rt.alloc()))?;
     assert!(rt; has_one_left(rt.alloc(), &mut disk, 1_048_575));
+    Ok(())
+}
+
+#[test]
+fn a_step_is_committed_whole_or_refused(rt: HostRuntime) -> Result<(), Fail> {
+    let image = with_ceilings(rt.alloc(), 1_048_575)?;
+    let mut disk = MemoryDisk::new(rt.alloc(), image, Fails::new(rt.alloc()))?;
+    assert!(rt;
+        last_steps(rt.alloc(), &mut disk)
+            == Some((
+                Err(StoreStop::StoreFull { records: 1_048_575 }),
+                Ok(()),
+                Ok(()),
+                Err(StoreStop::StoreFull { records: 1_048_576 }),
+            ))
+    );
+    assert!(rt; disk.bytes().len() == 33_554_465);
     Ok(())
 }
