@@ -117,10 +117,10 @@ finds_stopped T s l after before rs i d o faults now e lt state cause finds =
     subst (λ (l : List Record). FindsFirst s before l (after.records - s.journal.records) o) (parts rs i d lt)
     (finds_behind s before (take i rs) (get_or rs i d ∷ []) (drop (i + 1) rs) (after.records - s.journal.records) o few here)
 
-pub cause_stopped : (T U : Type 0) (s l : Stored) (after : State) (rs : List Record) (i : ℕ) (d : Record) (faults now : ℕ) (e : JournalStop) → i < length rs
-    → s.journal.halted ≡ false → l ≡ with_records s (take i rs) → fits l.kept (get_or rs i d) ≡ true → StopHasCause {T = T} l.journal after faults now (Err e)
-    → SomeHaveCause {T = U} (length (fitting s.kept rs)) s.journal after faults now (Err e)
-cause_stopped T U s l after rs i d faults now e lt live state fit cause =
+-- one that is in place comes behind those that were committed
+pub less_stopped : (s l : Stored) (rs : List Record) (i : ℕ) (d : Record) → i < length rs → l ≡ with_records s (take i rs) → fits l.kept (get_or rs i d) ≡ true
+    → length (fitting s.kept (take i rs)) < length (fitting s.kept rs)
+less_stopped s l rs i d lt state fit =
     let xs = take i rs in
     let r = get_or rs i d in
     let k = kept_after_all s.kept xs in
@@ -132,8 +132,40 @@ cause_stopped T U s l after rs i d faults now e lt live state fit cause =
     ∙ ap (λ (l : List Record). length (fitting s.kept xs ++ (l ++ rest))) one
     in
     let sum = length-append (fitting s.kept xs) (r ∷ [] ++ rest) in
-    let less : length (fitting s.kept xs) < length (fitting s.kept rs) = omega (arith, all, sum) in
-    stopped_cause T U s.journal l.journal after (length (fitting s.kept xs)) (length (fitting s.kept rs)) faults now e (ap (λ (x : Stored). x.journal) state) live less cause
+    omega (arith, all, sum)
+
+pub cause_stopped : (T U : Type 0) (s l : Stored) (after : State) (rs : List Record) (i : ℕ) (d : Record) (faults now : ℕ) (e : JournalStop) → i < length rs
+    → s.journal.halted ≡ false → l ≡ with_records s (take i rs) → fits l.kept (get_or rs i d) ≡ true → StopHasCause {T = T} l.journal after faults now (Err e)
+    → SomeHaveCause {T = U} (length (fitting s.kept rs)) s.journal after faults now (Err e)
+cause_stopped T U s l after rs i d faults now e lt live state fit cause =
+    stopped_cause T U s.journal l.journal after (length (fitting s.kept (take i rs))) (length (fitting s.kept rs)) faults now e (ap (λ (x : Stored). x.journal) state) live
+    (less_stopped s l rs i d lt state fit) cause
+
+-- ---- none is in place
+
+fits_or_not : (k : Kept) (r : Record) (b : Bool) → fits k r ≡ b → fitting k (r ∷ []) ≡ [] → fits k r ≡ false
+fits_or_not k r true fit none = let one = ap length (one_fits k r fit) in let zero = ap length none in absurd (omega (arith, one, zero))
+fits_or_not k r false fit none = fit
+
+no_length : (rs : List Record) → length rs ≡ 0 → rs ≡ []
+no_length [] is = refl
+no_length (r ∷ rs) is = absurd (omega (arith, is))
+
+-- neither was one of those before it, nor is this one
+pub none_more : (s l : Stored) (rs : List Record) (i : ℕ) (d : Record) → i < length rs → l ≡ with_records s (take i rs) → fitting s.kept (take (i + 1) rs) ≡ []
+    → (fitting s.kept (take i rs) ≡ []) × (fits l.kept (get_or rs i d) ≡ false)
+none_more s l rs i d lt state none =
+    let xs = take i rs in
+    let r = get_or rs i d in
+    let k = kept_after_all s.kept xs in
+    let both : fitting s.kept xs ++ fitting k (r ∷ []) ≡ [] =
+    sym (ap (fitting s.kept) (take_more rs i d lt) ∙ fitting_more s.kept xs (r ∷ [])) ∙ none
+    in
+    let sum = length-append (fitting s.kept xs) (fitting k (r ∷ [])) in
+    let zero = ap length both in (
+      no_length (fitting s.kept xs) (omega (arith, sum, zero)),
+      ap (λ (x : Stored). fits x.kept r) state ∙ fits_or_not k r (fits k r) refl (no_length (fitting k (r ∷ [])) (omega (arith, sum, zero))),
+    )
 
 -- ---- all were committed
 

@@ -139,7 +139,7 @@ impl Store {
         Ok(())
     }
 
-    /// Commits a record; its condition is that the spare isn't 0. One that isn't in place makes no call of the device.
+    /// Commits a record; its condition is that the spare isn't 0. One that isn't in place doesn't touch the disk.
     fn commit_one<D: Disk>(&mut self, disk: &mut D, next: &Record) -> Result<(), JournalStop>
         requires spare { (0 < self.old.spare) × (0 < self.old.journal.spare) }
         requires room { self.old.journal.halted ≡ false → HasRoom D.reach D.calls_left self.old.journal disk.old }
@@ -149,6 +149,7 @@ impl Store {
         ensures cause { StopHasCause self.old.journal self.new.journal (D.faults disk.old) (D.faults disk.new) result }
         ensures in_place { self.old.journal.halted ≡ false → OnErr result (fits self.old.kept next.now ≡ true) }
         ensures halted { self.old.journal.halted ≡ true → D.holds disk.new ≡ D.holds disk.old }
+        ensures untouched { fits self.old.kept next.now ≡ false → disk.new ≡ disk.old }
         ensures tells { is_some (D.holds disk.new) ≡ is_some (D.holds disk.old) }
         ensures read { record_of (content_of next.now) ≡ Some next.now }
         ensures stored { (before : List (List ℕ)) → IsStored self.old before (D.holds disk.old)
@@ -167,8 +168,8 @@ impl Store {
     }
 
     /// Commits records, one behind the other; its condition is that the spare is enough for all of them, and that no tunnel
-    /// comes up with a mark. It makes four calls of the device for each that is in place, none for another, and takes no
-    /// memory. Once the disk failed, the book isn't that of the disk until the store is opened again.
+    /// comes up with a mark. It makes four calls of the device for each that is in place, and takes no memory. Where none
+    /// is, it doesn't touch the disk. Once the disk failed, the book isn't that of the disk until the store is opened again.
     pub fn commit<D: Disk>(&mut self, disk: &mut D, records: &[Record]) -> Result<(), JournalStop>
         requires spare { (length records.now ≤ self.old.spare) × (length records.now ≤ self.old.journal.spare) }
         requires room { self.old.journal.halted ≡ false → HasRoom D.reach D.calls_left self.old.journal disk.old }
@@ -177,6 +178,7 @@ impl Store {
         ensures state { OnOk result (self.new ≡ with_records self.old records.now) }
         ensures cause { SomeHaveCause (length (fitting self.old.kept records.now)) self.old.journal self.new.journal (D.faults disk.old) (D.faults disk.new) result }
         ensures halted { self.old.journal.halted ≡ true → (self.new ≡ self.old) × (D.holds disk.new ≡ D.holds disk.old) }
+        ensures untouched { fitting self.old.kept records.now ≡ [] → disk.new ≡ disk.old }
         ensures tells { is_some (D.holds disk.new) ≡ is_some (D.holds disk.old) }
 
         // At `Ok` the disk has the contents from before, and behind them those of the records that are in place.
@@ -198,8 +200,7 @@ impl Store {
     }
 
     /// Commits the records of a step: makes room for all of them, and then commits one behind the other. Where it is refused but
-    /// by a fault, the store is as before but for the room on its disk. Its condition is that no tunnel comes up with a mark. A
-    /// step without records makes no call of the device.
+    /// by a fault, the store is as before but for the room on its disk. Its condition is that no tunnel comes up with a mark.
     pub fn commit_step<D: Disk>(
         &mut self,
         disk: &mut D,

@@ -1,4 +1,4 @@
-use Rattle.std.proofs.Common.{◌≡◌, ◌++◌, ℕ, List, take, refl, sym, ap, subst, ◌∙◌, arith, rules}
+use Rattle.std.proofs.Common.{◌≡◌, ◌++◌, ℕ, List, take, length, refl, sym, ap, subst, ◌∙◌, arith, rules}
 use Rattle.std.proofs.lemmas.List.{take_all, length-take-le}
 use Rattle.std.proofs.lemmas.Result.{err_from_is_err_and}
 use Rattle.std.specs.Prelude.{Err}
@@ -8,7 +8,7 @@ use Rattle.end_store.specs.Records.{fitting, spelled}
 use Rattle.end_store.specs.Stored.{Stored, with_records, IsStored}
 use Rattle.end_store.proofs.Records.{fitting_few}
 use Rattle.end_store.proofs.Found.{finds_none}
-use Rattle.end_store.proofs.Several.{with_none, nothing_more, state_more, stored_more, finds_stopped, cause_stopped, finds_all}
+use Rattle.end_store.proofs.Several.{with_none, nothing_more, state_more, stored_more, less_stopped, none_more, finds_stopped, cause_stopped, finds_all}
 use Rattle.end_store.proofs.store.Store.commit.Goals as goal
 
 pub returns-then-is_halted-clause-crash : goal.returns-then-is_halted-clause-crash
@@ -23,6 +23,7 @@ loop-next-init g c = record {
   journal_spare = c.requires.spare.1;
   unmarked = c.requires.unmarked;
   so_far = λ before is. subst (λ (cs : List (List ℕ)). IsStored c.args.self.now cs (g.D.Disk.holds c.args.disk.now)) (sym (nothing_more c.args.self.now before)) is;
+  untouched = λ none. refl;
   tells = refl;
   faults = refl;
 }
@@ -50,6 +51,16 @@ returns-in_err-commit_one-clause-cause g c =
     rw (p.1, p.2) (cause_stopped (Unit {0}) (Unit {0}) c.args.self.now c.loop-next.self c.commit_one.new.self.journal c.args.records.now c.loop-next.next-index _ _ _ c.in_err-commit_one.field-0.0
     c.loop-next-test.true inv.live inv.state (c.in_err-commit_one.ensures.in_place live) cause)
 
+pub returns-in_err-commit_one-clause-untouched : goal.returns-in_err-commit_one-clause-untouched
+returns-in_err-commit_one-clause-untouched g c none =
+    let inv = c.loop-next.invariant in
+    let live = ap (λ (s : Stored). s.journal.halted) inv.state ∙ inv.live in
+    let less =
+    less_stopped c.args.self.now c.loop-next.self c.args.records.now c.loop-next.next-index _ c.loop-next-test.true inv.state (c.in_err-commit_one.ensures.in_place live)
+    in
+    let zero = ap length none in
+    absurd (omega (arith, less, zero))
+
 pub returns-in_err-commit_one-clause-crash : goal.returns-in_err-commit_one-clause-crash
 returns-in_err-commit_one-clause-crash g c before is =
     let inv = c.loop-next.invariant in
@@ -69,6 +80,9 @@ loop-next-preserved g c =
       so_far = λ before is.
           stored_more c.args.self.now c.loop-next.self c.commit_one.new.self before c.args.records.now c.loop-next.next-index _ (g.D.Disk.holds c.commit_one.new.disk) c.loop-next-test.true inv.state
           (c.in_ok-commit_one.ensures.stored _ (inv.so_far before is));
+      untouched = λ none.
+          (let more = none_more c.args.self.now c.loop-next.self c.args.records.now c.loop-next.next-index _ c.loop-next-test.true inv.state none in
+          c.in_ok-commit_one.ensures.untouched more.1 ∙ inv.untouched more.0);
       tells = search rules;
       faults = search rules;
     }

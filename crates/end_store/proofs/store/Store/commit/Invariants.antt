@@ -1,4 +1,4 @@
-use Rattle.std.proofs.Common.{◌≡◌, ◌≤◌, ◌++◌, length, take, List, ℕ, false, is_some}
+use Rattle.std.proofs.Common.{◌≡◌, ◌≤◌, ◌++◌, [], length, take, List, ℕ, false, is_some}
 use Rattle.std.specs.List.{AllByRecursion}
 use Rattle.checkpoint_journal.specs.State.{HasRoom}
 use Rattle.end_store.specs.Records.{IsUnmarked, fitting, spelled}
@@ -15,6 +15,7 @@ invariant-loop-next g l = record {
   unmarked : AllByRecursion IsUnmarked l.records;
   so_far : (before : List (List ℕ)) → IsStored l.fn.self before (g.D.Disk.holds l.fn.disk)
       → IsStored l.self (before ++ spelled (fitting l.fn.self.kept (take l.next-index l.records))) (g.D.Disk.holds l.disk);
+  untouched : fitting l.fn.self.kept (take l.next-index l.records) ≡ [] → l.disk ≡ l.fn.disk;
   tells : is_some (g.D.Disk.holds l.disk) ≡ is_some (g.D.Disk.holds l.fn.disk);
   faults : g.D.Disk.faults l.disk ≡ g.D.Disk.faults l.fn.disk;
 }
