@@ -1,0 +1,104 @@
+-- Before a tunnel is due its tick leaves the turn as it is.
+use Rattle.std.proofs.Common.{◌≡◌, ℕ, ◌-◌, ◌<◌, Bool, true, false, List, [], ◌∷◌, Option, Some, None, refl, ap, ◌∙◌, arith}
+use Rattle.std.proofs.lemmas.Bool.{cond-false, or_from}
+use Rattle.std.specs.Prelude.{not, ◌&&◌, ◌==◌, nat_lt, nat_le, if◌then◌else◌}
+use Rattle.id_table.specs.Ids.{at, ids_of}
+use Rattle.wire_base.specs.declared.letter.Letter.{Letter}
+use Rattle.send_window.specs.declared.window.Tick.{Tick as Due}
+use Rattle.send_window.specs.declared.window.Tick.TheVariants as tick
+use Rattle.send_window.specs.Window.{wait_after}
+use Rattle.control_channel.specs.Numbers.{Numbers, answer_to_tick}
+use Rattle.lcp_end.specs.Steps.{is_timed, ticked}
+use Rattle.end_names.specs.declared.role.Role.{Role}
+use Rattle.end_model.specs.declared.tunnel.Call.{Call}
+use Rattle.end_model.specs.declared.tunnel.Control.{Control}
+use Rattle.end_model.specs.declared.tunnel.Link.{Link}
+use Rattle.end_model.specs.Moments.{patience, kept_closed, is_open, is_closed, is_being_set_up, is_at_its_end}
+use Rattle.end_model.specs.Calls.{is_up, is_set_up}
+use Rattle.end_model.specs.Tunnels.{Turn}
+use Rattle.end_model.specs.Linking.{links, ticks_link}
+use Rattle.end_model.specs.Ticking.{greets, limits_at, limits_all, goes_quietly, ticks_by, ticks}
+use Rattle.due_laws.specs.Due.{is_before, removal_due, repetition_due, hello_due, channel_due, setup_due, link_due, call_due, calls_due, due_of}
+use Rattle.due_laws.proofs.Moments.{waits_still, before_both, before_holds, found_holds}
+
+-- ---- tests
+
+pub and_on : (a b c : Bool) → (a && (b && c)) ≡ (a && b && c)
+and_on true b c = refl
+and_on false b c = refl
+
+by_repetitions : (a b c : Bool) → 0 < (if a then 1000 else if b then 2000 else if c then 4000 else 8000)
+by_repetitions true b c = omega arith
+by_repetitions false true c = omega arith
+by_repetitions false false true = omega arith
+by_repetitions false false false = omega arith
+
+pub some_wait : (repetitions : ℕ) → 0 < wait_after repetitions
+some_wait repetitions = by_repetitions (repetitions == 0) (repetitions == 1) (repetitions == 2)
+
+-- ---- its channel
+
+not_answered : (frozen out over : Bool) (answer : Due) → ((not frozen && out) && over) ≡ false
+    → (if frozen then tick.Quiet else (if out && over then answer else tick.Quiet)) ≡ tick.Quiet
+not_answered true out over answer h = refl
+not_answered false out over answer h = cond-false (out && over) answer tick.Quiet h
+
+pub quiet_channel : (n : Numbers) (m : ℕ) → is_before m (repetition_due n) ≡ true → answer_to_tick n m ≡ tick.Quiet
+quiet_channel n m h =
+    not_answered n.frozen (nat_lt 0 n.window.outstanding) (nat_le (wait_after n.window.repetitions) (m - n.window.since)) _
+    (waits_still _ (wait_after n.window.repetitions) n.window.since m (some_wait n.window.repetitions) h)
+
+pub not_at_its_end : (m : ℕ) (c : Control) → is_before m (removal_due c) ≡ true → is_at_its_end m c ≡ false
+not_at_its_end m c h =
+    let both = before_both m _ _ h in
+    or_from _ _ (waits_still (is_closed c.state) kept_closed c.closed m (omega arith) both.0) (waits_still (is_being_set_up c.state) patience c.made m (omega arith) both.1)
+
+quiet_greeting : (letters : List Letter) (t : Turn) → is_before t.on.moment (hello_due t.control) ≡ true → greets letters t ≡ t
+unfolding greets
+quiet_greeting letters t h =
+    cond-false _ _ t (waits_still (is_open t.control.state && t.control.channel.window.queued == 0) patience t.control.heard t.on.moment (omega arith) h)
+
+-- ---- its calls
+
+module _ (role : Role) (letters : List Letter) (t : Turn) where
+  quiet_link : (s : ℕ) (c : Call) (o : Option Link) → is_before t.on.moment (link_due s c o) ≡ true → ticks_link role letters s c o t ≡ t
+  unfolding ticks_link
+  quiet_link s c None h = refl
+  quiet_link s c (Some l) h =
+      cond-false _ (links role letters s c l (ticked t.on.moment l.lcp) t) t
+      (and_on (nat_lt s 65536 && is_up c.state) (is_timed l.lcp) (nat_le 3000 (t.on.moment - l.lcp.since))
+      ∙ waits_still (nat_lt s 65536 && is_up c.state && is_timed l.lcp) 3000 l.lcp.since t.on.moment (omega arith) h)
+
+  quiet_call : (s : ℕ) (o : Option Call) → ((c : Call) → o ≡ Some c → is_before t.on.moment (call_due s c) ≡ true) → limits_at role letters s o t ≡ t
+  unfolding limits_at
+  quiet_call s None h = refl
+  quiet_call s (Some c) h =
+      let both = before_both t.on.moment (setup_due s c) (link_due s c c.link) (h c refl) in
+      cond-false _ _ (ticks_link role letters s c c.link t)
+      (waits_still (nat_lt s 65536 && is_set_up c.state) patience c.since t.on.moment (omega arith) both.0)
+      ∙ quiet_link s c c.link both.1
+
+  quiet_calls : (ss : List ℕ) (calls : List (ℕ × Call)) → is_before t.on.moment (calls_due calls) ≡ true → limits_all role letters ss calls t ≡ t
+  unfolding limits_all
+  quiet_calls [] calls h = refl
+  quiet_calls (s ∷ ss) calls h =
+      ap (limits_all role letters ss calls)
+      (quiet_call s (at calls s) (λ c there. found_holds (λ due. is_before t.on.moment due ≡ true) (before_holds t.on.moment) (λ x. call_due x.0 x.1) calls s c there h))
+      ∙ quiet_calls ss calls h
+
+  quietly : (calls : List (ℕ × Call)) → is_before t.on.moment (hello_due t.control) ≡ true → is_before t.on.moment (calls_due calls) ≡ true
+      → goes_quietly role letters calls t ≡ t
+  unfolding goes_quietly
+  quietly calls hello h = ap (limits_all role letters (ids_of calls) calls) (quiet_greeting letters t hello) ∙ quiet_calls (ids_of calls) calls h
+
+  -- ---- all of it
+
+  pub quiet_turn : (calls : List (ℕ × Call)) → is_before t.on.moment (due_of t.control calls) ≡ true → ticks role letters calls t ≡ t
+  unfolding ticks ticks_by
+  quiet_turn calls h =
+      let all = before_both t.on.moment (channel_due t.control) (calls_due calls) h in
+      let channel = before_both t.on.moment _ _ all.0 in
+      let rest = before_both t.on.moment _ _ channel.1 in
+      cond-false _ _ _ (not_at_its_end t.on.moment t.control channel.0)
+      ∙ ap (λ (d : Due). ticks_by role letters calls d t) (quiet_channel t.control.channel t.on.moment rest.0)
+      ∙ quietly calls rest.1 all.1

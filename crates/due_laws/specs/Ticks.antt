@@ -1,0 +1,91 @@
+-- Before it is due a tick changes nothing and gives nothing, and from then on it does something.
+use Rattle.std.specs.Prelude.{◌≡◌, ◌<◌, ℕ, ◌+◌, true, false, ◌||◌, if◌then◌else◌, List, [], length, Some}
+use Rattle.id_table.specs.Ids.{at, put, without}
+use Rattle.id_table.specs.Order.{Ascends}
+use Rattle.wire_base.specs.declared.letter.Letter.{Letter}
+use Rattle.call_fsm.specs.declared.table.CallEvent.TheVariants.{Close}
+use Rattle.end_names.specs.declared.role.Role.{Role}
+use Rattle.end_model.specs.declared.event.Event.TheVariants.{Tick}
+use Rattle.end_model.specs.declared.tunnel.Call.{Call}
+use Rattle.end_model.specs.Calls.{row_for, is_set_up, is_told, is_clean_up}
+use Rattle.end_model.specs.Tunnels.{Tunnel, Turn}
+use Rattle.end_model.specs.Events.{tunnel_after}
+use Rattle.end_model.specs.Ticking.{ticks}
+use Rattle.end_model.specs.End.{End, Stepped, env_of, after_turn, ticks_all, plain_step}
+use Rattle.due_laws.specs.Due.{earlier, is_before, due_of, tunnel_due, tunnels_due, end_due, IsNoLater, changed_due}
+
+-- ---- before it is due
+
+-- the turn of a tunnel stays that very turn
+abbrev pub EarlyTurnsStay : Type 0
+EarlyTurnsStay =
+    (role : Role) (letters : List Letter) (calls : List (ℕ × Call)) (t : Turn) → is_before t.on.moment (due_of t.control calls) ≡ true
+    → ticks role letters calls t ≡ t
+
+-- the step of an end in which nothing is done
+abbrev pub nothing_done : End → Stepped
+nothing_done e = record { end = e; outputs = []; moves = [] }
+
+-- and so is the tick of an end whose tunnels ascend by their ids, as those of each end do
+abbrev pub EarlyTicksDoNothing : Type 0
+EarlyTicksDoNothing =
+    (e : End) → Ascends e.tunnels → (moment : ℕ) (block : List ℕ) → is_before moment (end_due e) ≡ true
+    → ticks_all e (env_of e moment block) ≡ nothing_done e
+
+abbrev pub EarlyStepsDoNothing : Type 0
+EarlyStepsDoNothing =
+    (e : End) → Ascends e.tunnels → (moment : ℕ) (block : List ℕ) → is_before moment (end_due e) ≡ true
+    → plain_step e moment block Tick ≡ nothing_done e
+
+-- ---- from then on
+
+-- the outputs and the moves of a turn
+abbrev pub count_done : Turn → ℕ
+count_done t = length t.outputs + length t.moves
+
+-- A call that is being set up is ended by its end's table where it is closed. So is each one in a state that calls of this end come to: those
+-- of a LAC aren't in wait-connect, and those of an LNS neither in wait-tunnel nor in wait-reply.
+abbrev pub CanEnd : Role → Call → Type 0
+CanEnd role c = is_set_up c.state ≡ true → (is_told (row_for role c Close).1 || is_clean_up (row_for role c Close).1) ≡ true
+
+abbrev pub CallsCanEnd : Role → List (ℕ × Call) → Type 0
+CallsCanEnd role calls = (s : ℕ) (c : Call) → at calls s ≡ Some c → CanEnd role c
+
+-- the turn of a tunnel whose calls ascend gives more outputs or moves
+abbrev pub DueTurnsAct : Type 0
+DueTurnsAct =
+    (role : Role) (letters : List Letter) (calls : List (ℕ × Call)) (t : Turn) → Ascends calls → CallsCanEnd role calls
+    → is_before t.on.moment (due_of t.control calls) ≡ false → count_done t < count_done (ticks role letters calls t)
+
+-- the tick of an end gives an output or makes a move
+abbrev pub DueTicksAct : Type 0
+DueTicksAct =
+    (e : End) → Ascends e.tunnels → ((i : ℕ) (t : Tunnel) → at e.tunnels i ≡ Some t → Ascends t.calls × CallsCanEnd e.role t.calls)
+    → (moment : ℕ) (block : List ℕ) → is_before moment (end_due e) ≡ false
+    → let s = ticks_all e (env_of e moment block) in 0 < length s.outputs + length s.moves
+
+-- ---- how it moves
+
+-- with one tunnel put, it is the earlier of that tunnel's and that of the others
+abbrev pub PutsMoveDue : Type 0
+PutsMoveDue =
+    (tunnels : List (ℕ × Tunnel)) → Ascends tunnels → (i : ℕ) (t : Tunnel)
+    → tunnels_due (put tunnels i t) ≡ earlier (tunnel_due t) (tunnels_due (without tunnels i))
+
+-- so it is after a turn, which leaves its tunnel or removes it
+abbrev pub TurnsMoveDue : Type 0
+TurnsMoveDue =
+    (e : End) → Ascends e.tunnels → (i : ℕ) (letters : List Letter) (calls : List (ℕ × Call)) (t : Turn)
+    → let others = tunnels_due (without e.tunnels i) in
+    end_due (after_turn e i letters calls t).end ≡ (if t.cleared then others else earlier (tunnel_due (tunnel_after t letters calls)) others)
+
+-- A bound of an end is one still after a turn where it is a bound of what the turn changed. So neither the tunnel's other calls nor other
+-- tunnels have to be looked at.
+pub record KeepBounds (e : End) (bound : ℕ) : Type 0 where
+  pub early : (moment : ℕ) → moment < bound → is_before moment (end_due e) ≡ true
+  pub turn : (i : ℕ) (t : Tunnel) → at e.tunnels i ≡ Some t → (r : Turn) → IsNoLater bound (changed_due r)
+      → IsNoLater bound (end_due (after_turn e i t.letters t.calls r).end)
+  pub new : (i : ℕ) (r : Turn) → IsNoLater bound (changed_due r) → IsNoLater bound (end_due (after_turn e i [] [] r).end)
+
+abbrev pub BoundsStay : Type 0
+BoundsStay = (e : End) (bound : ℕ) → IsNoLater bound (end_due e) → KeepBounds e bound

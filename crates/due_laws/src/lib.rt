@@ -1,0 +1,28 @@
+//! When a tick of an end next does something: before that moment it changes nothing and gives nothing.
+#![tactic(auto)]
+
+ghost use Rattle.due_laws.specs.Ticks.{BoundsStay, DueTicksAct, DueTurnsAct, EarlyStepsDoNothing, EarlyTicksDoNothing, EarlyTurnsStay, PutsMoveDue, TurnsMoveDue};
+
+/// Before the moment at which a tunnel is due, its tick leaves the turn as it is: nothing of the tunnel changes, nothing is given, moved or
+/// drawn. Before the earliest of those of its tunnels, the tick of an end whose tunnels ascend by their ids leaves that very end, and has
+/// neither outputs nor moves.
+pub fn early_ticks_do_nothing()
+    ensures turns { EarlyTurnsStay }
+    ensures ends { EarlyTicksDoNothing }
+    ensures steps { EarlyStepsDoNothing }
+{}
+
+/// From that moment on the tick of the tunnel gives an output or makes a move, and so does the tick of the end: the moment is no earlier
+/// than it has to be. For that the calls ascend by their ids too, and each that is being set up is in a state that its end's table closes.
+pub fn due_ticks_act()
+    ensures turns { DueTurnsAct }
+    ensures ends { DueTicksAct }
+{}
+
+/// The moment of an end is the earliest of those of its tunnels, each of which stands on that tunnel alone. So a turn moves it by what it
+/// leaves of its own tunnel, and a bound below it is one still where it is a bound of what the turn changed.
+pub fn turns_move_due()
+    ensures put { PutsMoveDue }
+    ensures turn { TurnsMoveDue }
+    ensures bounds { BoundsStay }
+{}
