@@ -20,7 +20,7 @@ use Rattle.end_model.specs.declared.tunnel.Control.{Control}
 use Rattle.end_model.specs.declared.tunnel.Link.{Link}
 use Rattle.end_model.specs.Moments.{patience, kept_closed, is_over, is_open, is_closed, is_being_set_up, is_at_its_end}
 use Rattle.end_model.specs.Calls.{row_for, is_up, is_set_up}
-use Rattle.end_model.specs.Tunnels.{Ground, Tunnel, Env, Turn, turn_of}
+use Rattle.end_model.specs.Tunnels.{Drawing, Ground, Tunnel, Env, Turn, turn_of}
 use Rattle.end_model.specs.Events.{turns}
 use Rattle.end_model.specs.Sending.{settles}
 use Rattle.end_model.specs.Closing.{ends_by}
@@ -107,7 +107,7 @@ module _ (role : Role) (letters : List Letter) where
         (λ this. first_does 1 t _ _ (found_acts e.0 e.1 t all.0 this) (limits_does role letters (ids_of es) calls _))
         (λ later.
         let one = limits_does role letters (e.0 ∷ []) calls t in
-        let still = ap (λ (g : Ground). is_before g.moment (calls_due es)) one.ground ∙ later in
+        let still = ap (λ (g : Ground × Drawing). is_before g.0.moment (calls_due es)) one.ground ∙ later in
         then_does 1 t _ _ one (calls_act es all.1 (limits_at role letters e.0 (at calls e.0) t) still))
         (come_either t.on.moment (call_due e.0 e.1) (calls_due es) come)
 
@@ -122,7 +122,7 @@ module _ (role : Role) (letters : List Letter) where
           first_does 1 t _ _ (when 1 _ t (greeted letters t) t test (greeted_does letters t)) (limits_does role letters (ids_of calls) calls _))
           (λ late.
           let one = greets_does letters t in
-          let still = ap (λ (g : Ground). is_before g.moment (calls_due calls)) one.ground ∙ late in
+          let still = ap (λ (g : Ground × Drawing). is_before g.0.moment (calls_due calls)) one.ground ∙ late in
           then_does 1 t _ _ one (calls_act calls (all_found calls ascend) (greets letters t) still))
           come
 

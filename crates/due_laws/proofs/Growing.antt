@@ -6,6 +6,8 @@ use Rattle.id_table.specs.Ids.{at, ids_of}
 use Rattle.wire_base.specs.declared.letter.Letter.{Letter}
 use Rattle.wire_base.specs.declared.cause.Cause.{Cause as CauseOf}
 use Rattle.wire_base.specs.declared.cause.Cause.TheVariants as cause
+use Rattle.send_window.specs.declared.window.Tick.{Tick as Due}
+use Rattle.send_window.specs.declared.window.Tick.TheVariants as tick
 use Rattle.call_fsm.specs.declared.table.CallState.{CallState}
 use Rattle.call_fsm.specs.declared.table.CallState.TheVariants.{Idle, WaitTunnel, WaitReply, WaitConnect, Established}
 use Rattle.call_fsm.specs.declared.table.CallEvent.TheVariants.{Close}
@@ -24,19 +26,23 @@ use Rattle.session_looks.specs.declared.look.CellChange.{CellChange}
 use Rattle.end_model.specs.Calls.{counted, call_row, row_for, is_up, is_told, is_clean_up}
 use Rattle.end_model.specs.Channels.{has_room}
 use Rattle.end_model.specs.Links.{lcp_frame}
-use Rattle.end_model.specs.Tunnels.{Turn}
+use Rattle.end_model.specs.Tunnels.{Drawing, Ground, Turn}
 use Rattle.end_model.specs.Turn.{with_output, with_move, with_change, with_call, with_looks_of, drops, ends_call, ends_all}
 use Rattle.end_model.specs.Sending.{gives, sends_letter, sends_now, lets_go, goes_by, lets_all_go, repeats, acknowledges, acknowledged_after, settles}
 use Rattle.end_model.specs.Closing.{end_silent, end_told, ends_by}
 use Rattle.end_model.specs.Frames.{sends_frame, counts, carried}
 use Rattle.end_model.specs.Linking.{sends_packets, negotiated, links, ticks_link}
-use Rattle.end_model.specs.Ticking.{clears, greeted, greets, limits_at, limits_all, goes_quietly}
+use Rattle.end_model.specs.Ticking.{clears, greeted, greets, limits_at, limits_all, goes_quietly, ticks_by, ticks}
 use Rattle.due_laws.specs.Ticks.{count_done}
 
 -- ---- at least so much is done
 
+-- what no turn of a tick changes: its moment, its block, and where ids are drawn from
+abbrev pub ground_of : Turn → Ground × Drawing
+ground_of t = (t.on, t.ids)
+
 pub record Does (n : ℕ) (t u : Turn) : Type 0 where
-  pub ground : u.on ≡ t.on
+  pub ground : ground_of u ≡ ground_of t
   pub more : n + count_done t ≤ count_done u
 
 pub same_does : (t : Turn) → Does 0 t t
@@ -88,15 +94,15 @@ module _ (letters : List Letter) where
   unfolding lets_go
   go_does number t = then_does 0 t _ _ (less_does t _ (moved_does _ _ t)) (now_does number _)
 
-  by_does : (rest : Turn → Turn) → ((t : Turn) → Does 0 t (rest t)) → (o : Option ℕ) (t : Turn) → Does 0 t (goes_by rest letters o t)
+  goes_does : (rest : Turn → Turn) → ((t : Turn) → Does 0 t (rest t)) → (o : Option ℕ) (t : Turn) → Does 0 t (goes_by rest letters o t)
   unfolding goes_by
-  by_does rest later None t = same_does t
-  by_does rest later (Some number) t = then_does 0 t _ _ (go_does number t) (later (lets_go letters number t))
+  goes_does rest later None t = same_does t
+  goes_does rest later (Some number) t = then_does 0 t _ _ (go_does number t) (later (lets_go letters number t))
 
   all_does : (most : ℕ) (t : Turn) → Does 0 t (lets_all_go most letters t)
   unfolding lets_all_go
   all_does zero t = same_does t
-  all_does (suc most) t = by_does (lets_all_go most letters) (all_does most) _ t
+  all_does (suc most) t = goes_does (lets_all_go most letters) (all_does most) _ t
 
   acknowledges_does : (t : Turn) → Does 0 t (acknowledges t)
   unfolding acknowledges
@@ -251,3 +257,13 @@ module _ (role : Role) (letters : List Letter) where
   pub quietly_does : (calls : List (ℕ × Call)) (t : Turn) → Does 0 t (goes_quietly role letters calls t)
   unfolding goes_quietly
   quietly_does calls t = then_does 0 t _ _ (greets_does letters t) (limits_does (ids_of calls) calls (greets letters t))
+
+  by_does : (calls : List (ℕ × Call)) (d : Due) (t : Turn) → Does 0 t (ticks_by role letters calls d t)
+  unfolding ticks_by
+  by_does calls tick.Quiet t = quietly_does calls t
+  by_does calls (tick.Again number) t = then_does 0 t _ _ (less_does t _ (repeats_does letters number t)) (quietly_does calls (repeats letters number t))
+  by_does calls (tick.Failed first) t = less_does t _ (clears_does calls t)
+
+  pub ticks_does : (calls : List (ℕ × Call)) (t : Turn) → Does 0 t (ticks role letters calls t)
+  unfolding ticks
+  ticks_does calls t = either 0 _ t _ _ (less_does t _ (clears_does calls t)) (by_does calls _ t)

@@ -1,6 +1,6 @@
 mod Moments
 mod Quiet
-mod Ends
 mod Bounds
 mod Growing
+mod Skips
 mod Busy

@@ -1,6 +1,7 @@
 -- Before it is due a tick changes nothing and gives nothing, and from then on it does something.
-use Rattle.std.specs.Prelude.{◌≡◌, ◌<◌, ℕ, ◌+◌, true, false, ◌||◌, if◌then◌else◌, List, [], length, Some}
-use Rattle.id_table.specs.Ids.{at, put, without}
+use Rattle.std.specs.Prelude.{◌≡◌, ◌<◌, ℕ, ◌+◌, Bool, true, false, ◌||◌, if◌then◌else◌, List, [], length, Some}
+use Rattle.std.specs.List.{filter}
+use Rattle.id_table.specs.Ids.{at, put, without, ids_of}
 use Rattle.id_table.specs.Order.{Ascends}
 use Rattle.wire_base.specs.declared.letter.Letter.{Letter}
 use Rattle.call_fsm.specs.declared.table.CallEvent.TheVariants.{Close}
@@ -11,7 +12,7 @@ use Rattle.end_model.specs.Calls.{row_for, is_set_up, is_told, is_clean_up}
 use Rattle.end_model.specs.Tunnels.{Tunnel, Turn}
 use Rattle.end_model.specs.Events.{tunnel_after}
 use Rattle.end_model.specs.Ticking.{ticks}
-use Rattle.end_model.specs.End.{End, Stepped, env_of, after_turn, ticks_all, plain_step}
+use Rattle.end_model.specs.End.{End, Stepped, env_of, after_turn, ticks_of, after_all, ticks_all, plain_step}
 use Rattle.due_laws.specs.Due.{earlier, is_before, due_of, tunnel_due, tunnels_due, end_due, IsNoLater, changed_due}
 
 -- ---- before it is due
@@ -22,11 +23,19 @@ EarlyTurnsStay =
     (role : Role) (letters : List Letter) (calls : List (ℕ × Call)) (t : Turn) → is_before t.on.moment (due_of t.control calls) ≡ true
     → ticks role letters calls t ≡ t
 
+-- Of the tick of an end those tunnels may be left out that aren't due, whichever others are: its tunnels ascend by their ids, as those of
+-- each end do.
+abbrev pub TunnelsMayBeLeftOut : Type 0
+TunnelsMayBeLeftOut =
+    (e : End) → Ascends e.tunnels → (moment : ℕ) (block : List ℕ) (picks : ℕ → Bool)
+    → ((i : ℕ) (t : Tunnel) → at e.tunnels i ≡ Some t → picks i ≡ false → is_before moment (tunnel_due t) ≡ true)
+    → let env = env_of e moment block in ticks_all e env ≡ after_all (ticks_of e env (filter picks (ids_of e.tunnels))) e
+
 -- the step of an end in which nothing is done
 abbrev pub nothing_done : End → Stepped
 nothing_done e = record { end = e; outputs = []; moves = [] }
 
--- and so is the tick of an end whose tunnels ascend by their ids, as those of each end do
+-- so before the end is due, its tick does nothing
 abbrev pub EarlyTicksDoNothing : Type 0
 EarlyTicksDoNothing =
     (e : End) → Ascends e.tunnels → (moment : ℕ) (block : List ℕ) → is_before moment (end_due e) ≡ true

@@ -1,19 +1,21 @@
 //! When a tick of an end next does something: before that moment it changes nothing and gives nothing.
 #![tactic(auto)]
 
-ghost use Rattle.due_laws.specs.Ticks.{BoundsStay, DueTicksAct, DueTurnsAct, EarlyStepsDoNothing, EarlyTicksDoNothing, EarlyTurnsStay, PutsMoveDue, TurnsMoveDue};
+ghost use Rattle.due_laws.specs.Ticks.{BoundsStay, DueTicksAct, DueTurnsAct, EarlyStepsDoNothing, EarlyTicksDoNothing, EarlyTurnsStay, PutsMoveDue, TunnelsMayBeLeftOut, TurnsMoveDue};
 
-/// Before the moment at which a tunnel is due, its tick leaves the turn as it is: nothing of the tunnel changes, nothing is given, moved or
-/// drawn. Before the earliest of those of its tunnels, the tick of an end whose tunnels ascend by their ids leaves that very end, and has
-/// neither outputs nor moves.
+/// Before the moment at which a tunnel is due, in milliseconds, its tick leaves the turn as it is: nothing of the tunnel changes, nothing is
+/// given, moved or drawn. Of the tick of an end whose tunnels ascend by their ids each tunnel may be left out that isn't due. So before the
+/// earliest of those moments the tick of the end leaves that very end, and has neither outputs nor moves.
 pub fn early_ticks_do_nothing()
     ensures turns { EarlyTurnsStay }
+    ensures tunnels { TunnelsMayBeLeftOut }
     ensures ends { EarlyTicksDoNothing }
     ensures steps { EarlyStepsDoNothing }
 {}
 
-/// From that moment on the tick of the tunnel gives an output or makes a move, and so does the tick of the end: the moment is no earlier
-/// than it has to be. For that the calls ascend by their ids too, and each that is being set up is in a state that its end's table closes.
+/// From that moment on the tick of the tunnel gives an output or makes a move, and so does the tick of the end: the moment is no earlier than
+/// it has to be. For that the calls ascend by their ids too, and each that is being set up is in a state from which its end's table has a row
+/// that ends it where it is closed.
 pub fn due_ticks_act()
     ensures turns { DueTurnsAct }
     ensures ends { DueTicksAct }

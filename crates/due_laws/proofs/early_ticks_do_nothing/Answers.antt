@@ -1,9 +1,12 @@
 use Rattle.due_laws.proofs.Quiet.{quiet_turn}
-use Rattle.due_laws.proofs.Ends.{quiet_end, quiet_step}
+use Rattle.due_laws.proofs.Skips.{left_out, quiet_end, quiet_step}
 use Rattle.due_laws.proofs.early_ticks_do_nothing.Goals as goal
 
 pub returns-clause-turns : goal.returns-clause-turns
 returns-clause-turns c role letters calls t early = quiet_turn role letters t calls early
+
+pub returns-clause-tunnels : goal.returns-clause-tunnels
+returns-clause-tunnels c e ascend moment block picks early = left_out e moment block picks early ascend
 
 pub returns-clause-ends : goal.returns-clause-ends
 returns-clause-ends c = quiet_end

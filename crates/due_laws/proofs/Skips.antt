@@ -1,0 +1,174 @@
+-- The tick of an end is that of its tunnels that are due: the others may be left out.
+use Rattle.std.proofs.Common.{◌≡◌, ℕ, Bool, true, false, cond, List, [], ◌∷◌, ◌++◌, Option, Some, None, refl, sym, ap, ◌∙◌, arith}
+use Rattle.std.proofs.lemmas.List.{append-nil}
+use Rattle.std.specs.List.{AllByRecursion, filter, flat_map}
+use Rattle.id_table.specs.Ids.{at, put, ids_of}
+use Rattle.id_table.specs.Order.{IsAbove, Ascends, ascends-put, ascends-without, at_other, at_without_other, put-again}
+use Rattle.wire_base.specs.declared.letter.Letter.{Letter}
+use Rattle.id_source.specs.Spaces.{Space}
+use Rattle.end_model.specs.declared.event.Event.TheVariants.{Tick}
+use Rattle.end_model.specs.declared.out.Out.{Out}
+use Rattle.end_model.specs.declared.moves.Move.{Move}
+use Rattle.end_model.specs.Tunnels.{Drawing, Ground, Tunnel, Env, Turn, turn_of}
+use Rattle.end_model.specs.Events.{turns, with_calls, tunnel_after}
+use Rattle.end_model.specs.End.{End, env_of, placed, with_looks, tunnels_after, after_turn, Turned, tick_of, ticks_of, end_after_all, after_all, ticks_all, step_in, plain_step}
+use Rattle.due_laws.specs.Due.{is_before, tunnel_due, end_due}
+use Rattle.due_laws.specs.Ticks.{nothing_done}
+use Rattle.due_laws.proofs.Moments.{before_holds, found_holds}
+use Rattle.due_laws.proofs.Quiet.{quiet_turn}
+use Rattle.due_laws.proofs.Growing.{ticks_does}
+
+-- ---- ids that differ
+
+abbrev AreApart : List ℕ → Type 0
+AreApart [] = Unit {0}
+AreApart (i ∷ is) = AllByRecursion (λ j. j ≡ i → ⊥) is × AreApart is
+
+above_apart : {X : Type 0} (i : ℕ) (es : List (ℕ × X)) → IsAbove i es → AllByRecursion (λ j. j ≡ i → ⊥) (ids_of es)
+above_apart i [] above = tt
+above_apart i (e ∷ es) above = ((λ same. (let lt = above.0 in omega (arith, lt, same))), above_apart i es above.1)
+
+ids_apart : {X : Type 0} (es : List (ℕ × X)) → Ascends es → AreApart (ids_of es)
+unfolding Ascends
+ids_apart [] ascend = tt
+ids_apart (e ∷ es) ascend = (above_apart e.0 es ascend.0, ids_apart es ascend.1)
+
+-- ---- a tunnel's turn
+
+other_left : (ts : List (ℕ × Tunnel)) (i : ℕ) (b : Bool) (t : Tunnel) (q : ℕ) → (q ≡ i → ⊥) → at (tunnels_after ts i b t) q ≡ at ts q
+other_left ts i true t q apart = at_without_other ts i q apart
+other_left ts i false t q apart = at_other ts i t q apart
+
+left_ascend : (ts : List (ℕ × Tunnel)) (i : ℕ) (b : Bool) (t : Tunnel) → Ascends ts → Ascends (tunnels_after ts i b t)
+left_ascend ts i true t ascend = ascends-without i ts ascend
+left_ascend ts i false t ascend = ascends-put i t ts ascend
+
+module _ (e : End) (moment : ℕ) (block : List ℕ) where
+  abbrev start : Env
+  start = env_of e moment block
+
+  -- an end after some of the turns: where ids are drawn from is as before, and so are the tunnels of the turns to come
+  record IsAmid (is : List ℕ) (x : End) : Type 0 where
+    tunnel_ids : x.tunnel_ids ≡ e.tunnel_ids
+    session_ids : x.session_ids ≡ e.session_ids
+    order : Ascends x.tunnels
+    untouched : AllByRecursion (λ i. at x.tunnels i ≡ at e.tunnels i) is
+
+  all_untouched : (is : List ℕ) → AllByRecursion (λ i. at e.tunnels i ≡ at e.tunnels i) is
+  all_untouched [] = tt
+  all_untouched (i ∷ is) = (refl, all_untouched is)
+
+  amid_less : (i : ℕ) (is : List ℕ) (x : End) → IsAmid (i ∷ is) x → IsAmid is x
+  amid_less i is x h = record { tunnel_ids = h.tunnel_ids; session_ids = h.session_ids; order = h.order; untouched = h.untouched.1 }
+
+  same_tunnel : (t : Tunnel) → tunnel_after (turn_of t.control start) t.letters t.calls ≡ t
+  unfolding with_calls
+  same_tunnel t = ap (λ (ls : List Letter). record t { letters = ls }) (append-nil t.letters)
+
+  -- a turn in which nothing is done leaves the end
+  idle_end : (x : End) (i : ℕ) (is : List ℕ) (t : Tunnel) → IsAmid (i ∷ is) x → at e.tunnels i ≡ Some t
+      → (after_turn x i t.letters t.calls (turn_of t.control start)).end ≡ x
+  unfolding after_turn placed with_looks
+  idle_end x i is t h there =
+      ap (λ (s : Space). record x { tunnel_ids = s; session_ids = e.session_ids; tunnels = put x.tunnels i (tunnel_after (turn_of t.control start) t.letters t.calls) }) (sym h.tunnel_ids)
+      ∙ ap (λ (s : Space). record x { session_ids = s; tunnels = put x.tunnels i (tunnel_after (turn_of t.control start) t.letters t.calls) }) (sym h.session_ids)
+      ∙ ap (λ (u : Tunnel). record x { tunnels = put x.tunnels i u }) (same_tunnel t)
+      ∙ ap (λ (ts : List (ℕ × Tunnel)). record x { tunnels = ts }) (put-again i t x.tunnels h.order (h.untouched.0 ∙ there))
+
+  abbrev turn_at : Tunnel → Turn
+  turn_at t = turns e.role e.config t.letters t.calls Tick (turn_of t.control start)
+
+  abbrev after : End → ℕ → Tunnel → End
+  after x i t = (after_turn x i t.letters t.calls (turn_at t)).end
+
+  untouched_still : (x : End) (i : ℕ) (b : Bool) (u : Tunnel) (is : List ℕ) → AllByRecursion (λ j. j ≡ i → ⊥) is → AllByRecursion (λ j. at x.tunnels j ≡ at e.tunnels j) is
+      → AllByRecursion (λ j. at (tunnels_after x.tunnels i b u) j ≡ at e.tunnels j) is
+  untouched_still x i b u [] apart h = tt
+  untouched_still x i b u (j ∷ is) apart h = (other_left x.tunnels i b u j apart.0 ∙ h.0, untouched_still x i b u is apart.1 h.1)
+
+  amid_next : (x : End) (i : ℕ) (t : Tunnel) (is : List ℕ) → AllByRecursion (λ j. j ≡ i → ⊥) is → IsAmid (i ∷ is) x → IsAmid is (after x i t)
+  unfolding after_turn turns
+  amid_next x i t is apart h =
+      let r = turn_at t in
+      let ground = (ticks_does e.role t.letters t.calls (turn_of t.control start)).ground in
+      record {
+        tunnel_ids = ap (λ (g : Ground × Drawing). g.1.tunnels) ground;
+        session_ids = ap (λ (g : Ground × Drawing). g.1.sessions) ground;
+        order = left_ascend x.tunnels i r.cleared (tunnel_after r t.letters t.calls) h.order;
+        untouched = untouched_still x i r.cleared (tunnel_after r t.letters t.calls) is apart h.untouched.1;
+      }
+
+  module _ (picks : ℕ → Bool) (early : (i : ℕ) (t : Tunnel) → at e.tunnels i ≡ Some t → picks i ≡ false → is_before moment (tunnel_due t) ≡ true) where
+    idle_turn : (i : ℕ) (t : Tunnel) → at e.tunnels i ≡ Some t → picks i ≡ false → turn_at t ≡ turn_of t.control start
+    unfolding turns
+    idle_turn i t there left = quiet_turn e.role t.letters (turn_of t.control start) t.calls (early i t there left)
+
+    -- the turns that are made, and those of them that are picked
+    abbrev made : List ℕ → List Turned
+    made is = ticks_of e start is
+
+    abbrev picked : List ℕ → List Turned
+    picked is = ticks_of e start (filter picks is)
+
+    abbrev SameEnds : List ℕ → Type 0
+    SameEnds is = (x : End) → IsAmid is x → end_after_all (made is) x ≡ end_after_all (picked is) x
+
+    -- one more tunnel, which is picked or left out
+    ends_by : (i : ℕ) (is : List ℕ) → AllByRecursion (λ j. j ≡ i → ⊥) is → SameEnds is → (o : Option Tunnel) → at e.tunnels i ≡ o → (b : Bool) → picks i ≡ b → (x : End) → IsAmid (i ∷ is) x
+        → end_after_all (tick_of e start i o ++ made is) x ≡ end_after_all (ticks_of e start (cond b (i ∷ filter picks is) (filter picks is))) x
+    unfolding ticks_of end_after_all
+    ends_by i is apart later None there true is_picked x h = later x (amid_less i is x h) ∙ rw there refl
+    ends_by i is apart later None there false is_picked x h = later x (amid_less i is x h)
+    ends_by i is apart later (Some t) there true is_picked x h = later (after x i t) (amid_next x i t is apart h) ∙ rw there refl
+    ends_by i is apart later (Some t) there false is_picked x h =
+        ap (λ (r : Turn). end_after_all (made is) (after_turn x i t.letters t.calls r).end) (idle_turn i t there is_picked)
+        ∙ ap (end_after_all (made is)) (idle_end x i is t h there)
+        ∙ later x (amid_less i is x h)
+
+    same_ends : (is : List ℕ) → AreApart is → SameEnds is
+    unfolding ticks_of
+    same_ends [] apart x h = refl
+    same_ends (i ∷ is) apart x h = ends_by i is apart.0 (same_ends is apart.1) (at e.tunnels i) refl (picks i) refl x h
+
+    module _ {Y : Type 0} (f : Turn → List Y) (none : (t : Tunnel) → f (turn_of t.control start) ≡ []) where
+      gives_by : (i : ℕ) (is : List ℕ) → flat_map (λ t. f t.turn) (made is) ≡ flat_map (λ t. f t.turn) (picked is) → (o : Option Tunnel) → at e.tunnels i ≡ o → (b : Bool) → picks i ≡ b
+          → flat_map (λ t. f t.turn) (tick_of e start i o ++ made is) ≡ flat_map (λ t. f t.turn) (ticks_of e start (cond b (i ∷ filter picks is) (filter picks is)))
+      unfolding ticks_of
+      gives_by i is later None there true is_picked = later ∙ rw there refl
+      gives_by i is later None there false is_picked = later
+      gives_by i is later (Some t) there true is_picked = ap (λ ys. f (turn_at t) ++ ys) later ∙ rw there refl
+      gives_by i is later (Some t) there false is_picked =
+          ap (λ (r : Turn). f r ++ flat_map (λ t. f t.turn) (made is)) (idle_turn i t there is_picked)
+          ∙ ap (λ ys. ys ++ flat_map (λ t. f t.turn) (made is)) (none t)
+          ∙ later
+
+      same_given : (is : List ℕ) → flat_map (λ t. f t.turn) (made is) ≡ flat_map (λ t. f t.turn) (picked is)
+      unfolding ticks_of
+      same_given [] = refl
+      same_given (i ∷ is) = gives_by i is (same_given is) (at e.tunnels i) refl (picks i) refl
+
+    pub left_out : Ascends e.tunnels → ticks_all e start ≡ after_all (picked (ids_of e.tunnels)) e
+    unfolding ticks_all after_all
+    left_out ascend =
+        let is = ids_of e.tunnels in
+        let begun : IsAmid is e = record { tunnel_ids = refl; session_ids = refl; order = ascend; untouched = all_untouched is } in
+        ap (λ (x : End). record { end = x; outputs = flat_map (λ t. t.turn.outputs) (made is); moves = flat_map (λ t. t.turn.moves) (made is) }) (same_ends is (ids_apart e.tunnels ascend) e begun)
+        ∙ ap (λ (os : List Out). record { end = end_after_all (picked is) e; outputs = os; moves = flat_map (λ t. t.turn.moves) (made is) }) (same_given (λ t. t.outputs) (λ t. refl) is)
+        ∙ ap (λ (ms : List Move). record { end = end_after_all (picked is) e; outputs = flat_map (λ t. t.turn.outputs) (picked is); moves = ms }) (same_given (λ t. t.moves) (λ t. refl) is)
+
+-- ---- all of them are left out
+
+none_picked : (is : List ℕ) → filter (λ i. false) is ≡ []
+none_picked [] = refl
+none_picked (i ∷ is) = none_picked is
+
+module _ (e : End) (ascend : Ascends e.tunnels) (moment : ℕ) (block : List ℕ) (early : is_before moment (end_due e) ≡ true) where
+  pub quiet_end : ticks_all e (env_of e moment block) ≡ nothing_done e
+  unfolding after_all ticks_of end_after_all
+  quiet_end =
+      left_out e moment block (λ i. false) (λ i t there left. found_holds (λ due. is_before moment due ≡ true) (before_holds moment) (λ x. tunnel_due x.1) e.tunnels i t there early) ascend
+      ∙ ap (λ is. after_all (ticks_of e (env_of e moment block) is) e) (none_picked (ids_of e.tunnels))
+
+  pub quiet_step : plain_step e moment block Tick ≡ nothing_done e
+  unfolding plain_step step_in
+  quiet_step = quiet_end
