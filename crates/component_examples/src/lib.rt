@@ -14,6 +14,8 @@ mod id_index_tests;
 #[cfg(test)]
 mod id_source_tests;
 #[cfg(test)]
+mod node_notes_tests;
+#[cfg(test)]
 mod port_traits_tests;
 #[cfg(test)]
 mod pppoe_session_tests;

@@ -1,0 +1,52 @@
+-- Records of a checkpoint, each told by a note.
+use Rattle.std.proofs.Common.{List, [], ◌∷◌, ◌++◌, refl, Bool, true, false}
+use Rattle.std.specs.Prelude.{ℕ, option_to_list, Option}
+use Rattle.std.specs.List.{flat_map}
+use Rattle.wire_base.specs.declared.cause.Cause.{Cause}
+use Rattle.session_book.specs.declared.record.Record.{Record}
+use Rattle.session_book.specs.declared.record.Record.TheVariants.{TunnelDown, CallDown}
+use Rattle.end_model.specs.declared.moves.Move.{Move}
+use Rattle.end_model.specs.declared.moves.Move.TheVariants as move
+use Rattle.end_model.specs.Contents.{records_of, call_down, tunnel_down}
+use Rattle.node_notes.specs.declared.note.Note.{Note}
+use Rattle.node_notes.specs.Notes.{note_of, notes_by, causes_of, cause_for, causes_behind, tells_code}
+use Rattle.node_notes.specs.Telling.{Tells, AreTold, NoneLeft, ToldBy, ToldLater, RecordsHaveTheirNotes}
+
+-- where something goes that the checkpoint has, its note tells that
+call_told : (b : Bool) (s : ℕ) (n : Note) (rs : List Record) (ns : List Note) → Tells (CallDown s) n → AreTold rs ns
+    → AreTold (call_down b s ++ rs) (n ∷ ns)
+call_told true s n rs ns h later = ToldBy (CallDown s) rs n ns h later
+call_told false s n rs ns h later = ToldLater rs n ns later
+
+tunnel_told : (b : Bool) (i : ℕ) (n : Note) (rs : List Record) (ns : List Note) → Tells (TunnelDown i) n → AreTold rs ns
+    → AreTold (tunnel_down b i ++ rs) (n ∷ ns)
+tunnel_told true i n rs ns h later = ToldBy (TunnelDown i) rs n ns h later
+tunnel_told false i n rs ns h later = ToldLater rs n ns later
+
+-- what a move leaves is told by its note, before what is told later
+told_first : (m : Move) (cause : Option Cause) (rs : List Record) (ns : List Note) → AreTold rs ns
+    → AreTold (records_of m ++ rs) (option_to_list (note_of m cause) ++ ns)
+unfolding note_of records_of
+told_first (move.Connected m) cause rs ns later = ToldBy _ rs _ ns (refl, refl, refl) later
+told_first (move.Confirmed m) cause rs ns later = ToldBy _ rs _ ns (refl, refl, refl) later
+told_first (move.FirstUp m) cause rs ns later = ToldBy _ rs _ ns (refl, refl, refl, refl) later
+told_first (move.SecondUp m) cause rs ns later = ToldBy _ rs _ ns (refl, refl, refl, refl) later
+told_first (move.EndTold m) cause rs ns later = call_told m.booked m.session _ rs ns refl later
+told_first (move.EndHeard m) cause rs ns later = call_told m.booked m.session _ rs ns refl later
+told_first (move.EndSilent m) cause rs ns later = call_told m.booked m.session _ rs ns refl later
+told_first (move.Closed m) cause rs ns later = tunnel_told m.booked m.tunnel _ rs ns refl later
+told_first (move.ClosedBy m) cause rs ns later = tunnel_told m.booked m.tunnel _ rs ns refl later
+told_first (move.Cleared i true) cause rs ns later = ToldBy (TunnelDown i) rs _ ns refl later
+told_first (move.Cleared i false) cause rs ns later = ToldLater rs _ ns later
+told_first (move.Rejected m) cause rs ns later = ToldLater rs _ ns later
+told_first m cause rs ns later = later
+
+all_told : (causes : List Cause) (ms : List Move) → AreTold (flat_map (λ m. records_of m) ms) (notes_by causes ms)
+unfolding notes_by
+all_told causes [] = NoneLeft []
+all_told causes (m ∷ ms) =
+    told_first m (cause_for (tells_code m) causes) (flat_map (λ m. records_of m) ms) (notes_by (causes_behind (tells_code m) causes) ms)
+    (all_told (causes_behind (tells_code m) causes) ms)
+
+pub records_are_told : RecordsHaveTheirNotes
+records_are_told moves outputs = all_told (causes_of outputs) moves

@@ -1,0 +1,158 @@
+//! Lines. Each is appended to the text before it; where memory is wanting, a part of it may be.
+
+ghost use Rattle.std.specs.Prelude.{◌≡◌, ◌++◌, OnOk, option_to_list};
+ghost use Rattle.std.specs.List.{flat_map};
+ghost use Rattle.node_notes.specs.Texts.{tunnel_up_text, tunnel_text, tunnel_closed_text, told_text, call_up_words, call_up_text, gone_words, gone_text, note_text, notes_text};
+
+use crate::causes::cause_with;
+use crate::note::{Note, Told, note_of};
+use crate::pieces::{push_address, push_count, push_subscriber, push_told, push_word};
+use end_model::{Move, Out};
+use wire_base::{Bytes, NoMemory};
+
+/// A tunnel that is established.
+#[tactic(auto, unfolding(crate::specs::Texts::tunnel_up_text))]
+fn push_tunnel_up(out: &mut Bytes, tunnel: u16, peer: u32, remote: u16) -> Result<(), NoMemory>
+    ensures { OnOk result (out.new ≡ out.old ++ tunnel_up_text tunnel peer remote) }
+{
+    out.push_slice(b"tunnel")?;
+    push_count(out, u32::from(tunnel))?;
+    push_word(out, b"up peer")?;
+    push_address(out, peer)?;
+    push_word(out, b"remote")?;
+    push_count(out, u32::from(remote))?;
+    out.push_slice(b"\n")
+}
+
+/// What became of a tunnel, in words.
+#[tactic(auto, unfolding(crate::specs::Texts::tunnel_text))]
+fn push_tunnel(out: &mut Bytes, tunnel: u16, words: &[u8]) -> Result<(), NoMemory>
+    ensures { OnOk result (out.new ≡ out.old ++ tunnel_text tunnel words.now) }
+{
+    out.push_slice(b"tunnel")?;
+    push_count(out, u32::from(tunnel))?;
+    push_word(out, words)?;
+    out.push_slice(b"\n")
+}
+
+/// A tunnel that this end closed.
+#[tactic(auto, unfolding(crate::specs::Texts::tunnel_closed_text))]
+fn push_closed(out: &mut Bytes, tunnel: u16, told: &Told) -> Result<(), NoMemory>
+    ensures { OnOk result (out.new ≡ out.old ++ tunnel_closed_text tunnel told.now) }
+{
+    out.push_slice(b"tunnel")?;
+    push_count(out, u32::from(tunnel))?;
+    push_word(out, b"closed")?;
+    push_told(out, told)?;
+    out.push_slice(b"\n")
+}
+
+/// Which call is up, over which tunnel, and the id that its peer assigned.
+#[tactic(auto, unfolding(crate::specs::Texts::call_up_words))]
+fn push_call_up_words(out: &mut Bytes, call: u16, tunnel: u16, remote: u16) -> Result<(), NoMemory>
+    ensures { OnOk result (out.new ≡ out.old ++ call_up_words call tunnel remote) }
+{
+    out.push_slice(b"call")?;
+    push_count(out, u32::from(call))?;
+    push_word(out, b"up tunnel")?;
+    push_count(out, u32::from(tunnel))?;
+    push_word(out, b"remote")?;
+    push_count(out, u32::from(remote))
+}
+
+/// A call that is established.
+fn push_call_up(
+    out: &mut Bytes,
+    call: u16,
+    tunnel: u16,
+    remote: u16,
+    who: &Option<[u8; 6]>,
+) -> Result<(), NoMemory>
+    ensures { OnOk result (out.new ≡ out.old ++ call_up_text call tunnel remote who.now) }
+{
+    push_call_up_words(out, call, tunnel, remote)?;
+    push_subscriber(out, who)?;
+    out.push_slice(b"\n")
+}
+
+/// Which call is gone, and over which tunnel it was.
+#[tactic(auto, unfolding(crate::specs::Texts::gone_words))]
+fn push_gone_words(out: &mut Bytes, call: u32, tunnel: u16) -> Result<(), NoMemory>
+    ensures { OnOk result (out.new ≡ out.old ++ gone_words call tunnel) }
+{
+    out.push_slice(b"call")?;
+    push_count(out, call)?;
+    push_word(out, b"gone tunnel")?;
+    push_count(out, u32::from(tunnel))
+}
+
+/// A call that ended, of which the peer was told.
+fn push_gone_told(out: &mut Bytes, call: u16, tunnel: u16, told: &Told) -> Result<(), NoMemory>
+    ensures { OnOk result (out.new ≡ out.old ++ gone_text call tunnel (told_text told.now)) }
+{
+    push_gone_words(out, u32::from(call), tunnel)?;
+    push_told(out, told)?;
+    out.push_slice(b"\n")
+}
+
+/// A call that ended, and what stands behind that, if anything.
+fn push_gone(out: &mut Bytes, call: u32, tunnel: u16, behind: &[u8]) -> Result<(), NoMemory>
+    ensures { OnOk result (out.new ≡ out.old ++ gone_text call tunnel behind.now) }
+{
+    push_gone_words(out, call, tunnel)?;
+    out.push_slice(behind)?;
+    out.push_slice(b"\n")
+}
+
+/// The line of a note.
+#[tactic(auto, unfolding(crate::specs::Texts::note_text))]
+fn push_note(out: &mut Bytes, note: &Note) -> Result<(), NoMemory>
+    ensures { OnOk result (out.new ≡ out.old ++ note_text note.now) }
+{
+    match note {
+        Note::TunnelUp {
+            tunnel,
+            peer,
+            remote,
+        } => push_tunnel_up(out, *tunnel, *peer, *remote),
+        Note::TunnelClosed { tunnel, told } => push_closed(out, *tunnel, told),
+        Note::TunnelClosedBy { tunnel } => push_tunnel(out, *tunnel, b"closed by peer"),
+        Note::TunnelLost { tunnel } => push_tunnel(out, *tunnel, b"lost"),
+        Note::TunnelRemoved { tunnel } => push_tunnel(out, *tunnel, b"removed"),
+        Note::CallUp {
+            call,
+            tunnel,
+            remote,
+            subscriber,
+        } => push_call_up(out, *call, *tunnel, *remote, subscriber),
+        Note::CallGone { call, tunnel, told } => push_gone_told(out, *call, *tunnel, told),
+        Note::CallGoneBy { call, tunnel } => push_gone(out, *call, *tunnel, b" by peer"),
+        Note::CallLeft { call, tunnel } => push_gone(out, u32::from(*call), *tunnel, b""),
+    }
+}
+
+/// The line of a note, if there is one.
+fn push_if_any(out: &mut Bytes, note: &Option<Note>) -> Result<(), NoMemory>
+    ensures { OnOk result (out.new ≡ out.old ++ flat_map note_text (option_to_list note.now)) }
+{
+    match note {
+        Some(note) => push_note(out, note),
+        None => Ok(()),
+    }
+}
+
+/// Appends the lines that an operator reads of a step, by its moves and its outputs: `docs/notes.md` has their forms. A step by which
+/// neither a tunnel nor a call of the end comes up or ends has none, and takes no memory. Where memory is wanting a part of the lines
+/// may be appended, and whoever asked for them drops them.
+#[tactic(auto, unfolding(crate::specs::Notes::notes_by))]
+pub fn push_notes(out: &mut Bytes, moves: &[Move], outputs: &[Out]) -> Result<(), NoMemory>
+    ensures { OnOk result (out.new ≡ out.old ++ notes_text moves.now outputs.now) }
+{
+    let mut left = outputs;
+    for step in moves {
+        let (cause, behind) = cause_with(step, left);
+        left = behind;
+        push_if_any(out, &note_of(step, cause))?;
+    }
+    Ok(())
+}
