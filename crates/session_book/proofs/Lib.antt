@@ -3,3 +3,4 @@ pub mod Steps
 pub mod Orders
 pub mod Folds
 pub mod Whole
+pub mod Counts

@@ -15,16 +15,16 @@ use Rattle.session_book.specs.Books.{Held, Kept, nothing_kept, AreRising, place,
 use Rattle.session_book.specs.Spelling.{FitsTunnel, FitsCall, FitsFields, IsKeptTunnel, IsKeptCall, IsWhole, RecordsKeepItWhole}
 use Rattle.session_book.proofs.Orders.{marked_rises}
 
-below : (a b : ℕ) → a < b → nat_lt a b ≡ true
+pub below : (a b : ℕ) → a < b → nat_lt a b ≡ true
 below a b lt = grind (arith, nat_tests)
 
-not_below : (a b : ℕ) → b ≤ a → nat_lt a b ≡ false
+pub not_below : (a b : ℕ) → b ≤ a → nat_lt a b ≡ false
 not_below a b le = grind (arith, nat_tests)
 
-same : (a b : ℕ) → a ≡ b → nat_eq a b ≡ true
+pub same : (a b : ℕ) → a ≡ b → nat_eq a b ≡ true
 same a b is = grind (arith, nat_tests)
 
-of_below : (a b : ℕ) → nat_lt a b ≡ true → a < b
+pub of_below : (a b : ℕ) → nat_lt a b ≡ true → a < b
 of_below a b is = grind (arith, nat_tests)
 
 of_within : (a b : ℕ) → nat_le a b ≡ true → a ≤ b
@@ -42,15 +42,15 @@ of_other a b is = elim (cases_lt a b) [
   ]
 ]
 
-first : (a b : Bool) → (a && b) ≡ true → a ≡ true
+pub first : (a b : Bool) → (a && b) ≡ true → a ≡ true
 first true b is = refl
 first false b is = absurd cc
 
-second : (a b : Bool) → (a && b) ≡ true → b ≡ true
+pub second : (a b : Bool) → (a && b) ≡ true → b ≡ true
 second true b is = is
 second false b is = absurd cc
 
-of_not : (b : Bool) → not b ≡ true → b ≡ false
+pub of_not : (b : Bool) → not b ≡ true → b ≡ false
 of_not true is = absurd cc
 of_not false is = refl
 
@@ -98,7 +98,7 @@ module _ {X : Type 0} where
   fewer_pass p q (x ∷ xs) = fewer_by p (q x) (p x) x (filter q xs) xs refl (fewer_pass p q xs)
 
 module _ {X : Type 0} (f : X → ℕ) where
-  some_is : (id : ℕ) (x : X) → is_some (with_id f id (Some x)) ≡ true → f x ≡ id
+  pub some_is : (id : ℕ) (x : X) → is_some (with_id f id (Some x)) ≡ true → f x ≡ id
   some_is id x is = of_same (f x) id (by (f x == id) is)
     where
       by : (b : Bool) → is_some (cond b (Some x) None) ≡ true → b ≡ true
@@ -129,10 +129,10 @@ module _ {X : Type 0} (f : X → ℕ) where
       by true n = let more : 1 + n ≡ suc n = omega arith in ap (λ m. insert (x ∷ xs) m y) more
       by false n = refl
 
-  entry_later : (id : ℕ) (x : X) (xs : List X) → f x < id → entry f id (x ∷ xs) ≡ entry f id xs
+  pub entry_later : (id : ℕ) (x : X) (xs : List X) → f x < id → entry f id (x ∷ xs) ≡ entry f id xs
   entry_later id x xs lt = entry_cons id x xs ∙ ap (λ b. cond b (entry f id xs) (with_id f id (Some x))) (below (f x) id lt)
 
-  entry_here : (id : ℕ) (x : X) (xs : List X) → id ≤ f x → entry f id (x ∷ xs) ≡ with_id f id (Some x)
+  pub entry_here : (id : ℕ) (x : X) (xs : List X) → id ≤ f x → entry f id (x ∷ xs) ≡ with_id f id (Some x)
   entry_here id x xs le = entry_cons id x xs ∙ ap (λ b. cond b (entry f id xs) (with_id f id (Some x))) (not_below (f x) id le)
 
   put_later : (y x : X) (xs : List X) → f x < f y → put f y (x ∷ xs) ≡ x ∷ put f y xs
@@ -156,7 +156,7 @@ module _ {X : Type 0} (f : X → ℕ) where
   ]
 
   -- as many pass as if it stood in front
-  put_passes : (p : X → Bool) (y : X) (xs : List X) → length (filter p (put f y xs)) ≡ length (filter p (y ∷ xs))
+  pub put_passes : (p : X → Bool) (y : X) (xs : List X) → length (filter p (put f y xs)) ≡ length (filter p (y ∷ xs))
   put_passes p y [] = refl
   put_passes p y (x ∷ xs) = elim (cases_lt (f x) (f y)) [
     | inl lt ↦ ap (λ (l : List X). length (filter p l)) (put_later y x xs lt) ∙ by (p x) (p y) (filter p (put f y xs)) (filter p xs) (put_passes p y xs)

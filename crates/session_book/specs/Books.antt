@@ -163,6 +163,15 @@ pub record IsSound (tunnels : List BookTunnel) (calls : List BookCall) (spare tu
   pub tunnels_in_order : AreRising (λ t. t.local) tunnels
   pub calls_in_order : AreRising (λ c. c.local) calls
 
+-- how many calls each of the tunnels has
+abbrev pub counts_of : List BookTunnel → List BookCall → List ℕ
+counts_of tunnels calls = map (λ t. length (calls_of t.local calls)) tunnels
+
+-- the counts say how many calls each tunnel has, and there is room for so many further ones
+pub record IsCounted (tunnels : List BookTunnel) (calls : List BookCall) (counts : List ℕ) (spare capacity : ℕ) : Type 0 where
+  pub each : counts ≡ counts_of tunnels calls
+  pub for_counts : length tunnels + spare ≤ capacity
+
 -- the answer for one content more, where those before it make a book
 abbrev pub one_more : Kept → ℕ → List ℕ → Result Kept BookError
 one_more k at content = if is_in_place k content then Ok (after_content k content) else Err (BadRecord at)

@@ -1,10 +1,10 @@
 //! The book of an end, kept up record by record.
 
-ghost use Rattle.std.specs.Prelude.{◌≡◌, ◌+◌, ◌<◌, ◌≤◌, ◌++◌, if◌then◌else◌, nat_lt, ltb, true, false, is_some, map, max, length, IfOk, OnOk, OnErr, Ok};
+ghost use Rattle.std.specs.Prelude.{◌≡◌, ◌+◌, ◌-◌, ◌<◌, ◌≤◌, ◌++◌, if◌then◌else◌, nat_lt, ltb, true, false, is_some, map, max, length, insert, remove, slice_index, slice_set, IfOk, OnOk, OnErr, Ok, Some};
 ghost use Rattle.std.specs.Vec.{vec_capacity, vec_len};
 ghost use Rattle.std.specs.List.Sorted.{IsPartitionPoint};
 ghost use Rattle.wire_base.specs.Answers.{Gives};
-ghost use Rattle.session_book.specs.Books.{AreRising, nothing_kept, place, entry, put, calls_of, ceiling, last, is_free, tunnel_at, call_at, tunnel_fits, call_fits, fits, raised, stepped, mark_on, marked, tunnels_without, calls_without, calls_not_of, is_in_place, after_content, book_of};
+ghost use Rattle.session_book.specs.Books.{AreRising, nothing_kept, place, entry, put, calls_of, ceiling, last, is_free, tunnel_at, call_at, tunnel_fits, call_fits, fits, raised, stepped, marked, tunnels_without, calls_without, calls_not_of, is_in_place, after_content, book_of};
 ghost use Rattle.session_book.specs.Spelling.{content_of, contents_of, FitsTunnel, FitsCall, FitsFields, IsWhole, ceiling_records, tunnel_records, tunnels_records, calls_records};
 ghost use Rattle.session_book.specs.Told.{Told};
 
@@ -17,7 +17,7 @@ use wire_base::{Contents, NoMemory};
 /// How many tunnels a book may have, and how many calls one of its tunnels.
 const TUNNELS: usize = 1024;
 
-const CALLS: usize = 4096;
+const CALLS: u16 = 4096;
 
 /// Why contents make no book.
 #[derive(Clone, Copy)]
@@ -47,12 +47,14 @@ pub struct Book {
     draw_ceiling: u32,
     tunnels: Vec<BookTunnel>,
     calls: Vec<BookCall>,
+    // How many calls each tunnel has, in the order of the tunnels.
+    counts: Vec<u16>,
     spare: u32,
 }
 
 impl Model for Book {
     ghost use Rattle.std.specs.Vec.{vec_capacity};
-    ghost use Rattle.session_book.specs.Books.{Kept, Held, IsSound};
+    ghost use Rattle.session_book.specs.Books.{Kept, Held, IsSound, IsCounted};
     ghost use Rattle.session_book.specs.Spelling.{IsWhole};
 
     ghost Value = { Held };
@@ -61,6 +63,7 @@ impl Model for Book {
 
     ghost invariant = { λ b. record {
       sound : IsSound b.tunnels.items b.calls.items b.spare (vec_capacity b.tunnels) (vec_capacity b.calls);
+      counted : IsCounted b.tunnels.items b.calls.items b.counts.items b.spare (vec_capacity b.counts);
       whole : IsWhole (record { tunnel_ceiling = b.tunnel_ceiling; session_ceiling = b.session_ceiling; draw_ceiling = b.draw_ceiling; tunnels = b.tunnels.items; calls = b.calls.items });
     } };
 }
@@ -77,13 +80,15 @@ impl Book {
             draw_ceiling: 0,
             tunnels: Vec::new(alloc),
             calls: Vec::new(alloc),
+            counts: Vec::new(alloc),
             spare: 0,
         }
     }
 
-    /// The book of a checkpoint: the fold of its contents, in order.
+    /// The book of a checkpoint: the fold of its contents, in order. Its spare is 0.
     pub fn of_contents(alloc: Global, c: &Contents) -> Result<Book, BookError>
-        ensures { Gives Told (λ b. b.kept) result (book_of c.now) }
+        ensures contents { Gives Told (λ b. b.kept) result (book_of c.now) }
+        ensures spare { IfOk result (λ b. b.spare ≡ 0) }
     {
         let mut book = Book::new(alloc);
         for (at, content) in c.as_slice().iter().enumerate() {
@@ -103,6 +108,7 @@ impl Book {
     {
         self.tunnels.reserve(count as usize)?;
         self.calls.reserve(count as usize)?;
+        self.counts.reserve(count as usize)?;
         self.spare = self.spare.max(count);
         Ok(())
     }
@@ -131,6 +137,25 @@ impl Book {
         } else {
             self.spare -= 1;
             false
+        }
+    }
+
+    /// Whether a record is in place: it may come next, after those that the book has. It changes nothing.
+    pub fn fits(&self, next: &Record) -> bool
+        ensures { result ≡ fits self.now.kept next.now }
+    {
+        match *next {
+            Record::Ceiling { space, number } => {
+                may_rise(self.ceiling(space), number) && number <= last(space)
+            }
+            Record::TunnelUp(tunnel) => self.tunnel_fits(&tunnel),
+            Record::TunnelDown { local } => self.has_tunnel(local),
+            Record::CallUp(call) => self.call_fits(&call),
+            Record::CallDown { local } => self.call(local).is_some(),
+            Record::Mark { tunnel, mark } => match self.tunnel(tunnel) {
+                Some(marked) => marked.mark < mark,
+                None => false,
+            },
         }
     }
 
@@ -210,25 +235,6 @@ impl Book {
         }
     }
 
-    // Whether a record is in place.
-    fn fits(&self, next: &Record) -> bool
-        ensures { result ≡ fits self.now.kept next.now }
-    {
-        match *next {
-            Record::Ceiling { space, number } => {
-                may_rise(self.ceiling(space), number) && number <= last(space)
-            }
-            Record::TunnelUp(tunnel) => self.tunnel_fits(&tunnel),
-            Record::TunnelDown { local } => self.has_tunnel(local),
-            Record::CallUp(call) => self.call_fits(&call),
-            Record::CallDown { local } => self.call(local).is_some(),
-            Record::Mark { tunnel, mark } => match self.tunnel(tunnel) {
-                Some(marked) => marked.mark < mark,
-                None => false,
-            },
-        }
-    }
-
     fn tunnel_fits(&self, tunnel: &BookTunnel) -> bool
         ensures { result ≡ tunnel_fits self.now.kept tunnel.now }
     {
@@ -249,7 +255,14 @@ impl Book {
             self.session_ceiling,
             self.call(call.local).is_some(),
         ) && self.has_tunnel(call.tunnel)
-            && count_calls(self.calls.as_slice(), call.tunnel) < CALLS
+            && self.count(call.tunnel) < CALLS
+    }
+
+    // How many calls a tunnel has: none where there is no such tunnel.
+    fn count(&self, tunnel: u16) -> u16
+        ensures { result ≡ length (calls_of tunnel self.now.kept.calls) }
+    {
+        count_of(self.tunnels.as_slice(), self.counts.as_slice(), tunnel)
     }
 
     // Whether a tunnel has this id.
@@ -292,13 +305,23 @@ impl Book {
         self.spare -= 1;
         match next {
             Record::Ceiling { space, number } => self.raise(space, number),
-            Record::TunnelUp(tunnel) => put_tunnel(&mut self.tunnels, tunnel),
-            Record::TunnelDown { local } => {
-                remove_tunnel(&mut self.tunnels, local);
-                remove_calls_of(&mut self.calls, local);
+            Record::TunnelUp(tunnel) => {
+                put_count(self.tunnels.as_slice(), &mut self.counts, tunnel.local);
+                put_tunnel(&mut self.tunnels, tunnel);
             }
-            Record::CallUp(call) => put_call(&mut self.calls, call),
-            Record::CallDown { local } => remove_call(&mut self.calls, local),
+            Record::TunnelDown { local } => {
+                let count = remove_count(self.tunnels.as_slice(), &mut self.counts, local);
+                remove_tunnel(&mut self.tunnels, local);
+                remove_calls_of(&mut self.calls, local, count);
+            }
+            Record::CallUp(call) => {
+                raise_count(self.tunnels.as_slice(), &mut self.counts, call.tunnel);
+                put_call(&mut self.calls, call);
+            }
+            Record::CallDown { local } => {
+                let gone = remove_call(&mut self.calls, local);
+                lower_count(self.tunnels.as_slice(), &mut self.counts, gone.tunnel);
+            }
             Record::Mark { tunnel, mark } => mark_tunnel(&mut self.tunnels, tunnel, mark),
         }
     }
@@ -408,6 +431,7 @@ fn tunnel_place(tunnels: &[BookTunnel], local: u16) -> usize
     requires { AreRising (λ t. t.local) tunnels.now }
     ensures place { result ≡ place (λ t. t.local) local tunnels.now }
     ensures within { result ≤ length tunnels.now }
+    ensures there { is_some (entry (λ t. t.local) local tunnels.now) ≡ true → result < length tunnels.now }
     ensures parted { IsPartitionPoint (λ t. ltb t.local local ≡ true) (λ t. ltb t.local local ≡ false) tunnels.now result }
 {
     tunnels.partition_point(|tunnel| tunnel.local < local)
@@ -418,16 +442,78 @@ fn call_place(calls: &[BookCall], local: u16) -> usize
     requires { AreRising (λ c. c.local) calls.now }
     ensures place { result ≡ place (λ c. c.local) local calls.now }
     ensures within { result ≤ length calls.now }
+    ensures there { is_some (entry (λ c. c.local) local calls.now) ≡ true → result < length calls.now }
     ensures parted { IsPartitionPoint (λ c. ltb c.local local ≡ true) (λ c. ltb c.local local ≡ false) calls.now result }
 {
     calls.partition_point(|call| call.local < local)
 }
 
-// How many calls a tunnel has.
-fn count_calls(calls: &[BookCall], tunnel: u16) -> usize
-    ensures { result ≡ length (calls_of tunnel calls.now) }
+// How many calls a tunnel has, as the counts say in the order of the tunnels: none where it isn't there.
+fn count_of(tunnels: &[BookTunnel], counts: &[u16], local: u16) -> u16
+    requires in_order { AreRising (λ t. t.local) tunnels.now }
+    requires long { length counts.now ≡ length tunnels.now }
+    ensures there { is_some (entry (λ t. t.local) local tunnels.now) ≡ true → result ≡ slice_index counts.now (place (λ t. t.local) local tunnels.now) }
+    ensures none { is_some (entry (λ t. t.local) local tunnels.now) ≡ false → result ≡ 0 }
 {
-    calls.iter().filter(|call| call.tunnel == tunnel).count()
+    let at = tunnel_place(tunnels, local);
+    match tunnels.get(at) {
+        Some(tunnel) if tunnel.local == local => counts[at],
+        _ => 0,
+    }
+}
+
+// A count more, for a tunnel that comes up and has no calls.
+fn put_count(tunnels: &[BookTunnel], counts: &mut Vec<u16>, local: u16)
+    requires in_order { AreRising (λ t. t.local) tunnels.now }
+    requires long { length counts.old.items ≡ length tunnels.now }
+    requires room { vec_len counts.old < vec_capacity counts.old }
+    ensures counts { counts.new.items ≡ insert counts.old.items (place (λ t. t.local) local tunnels.now) 0 }
+    ensures capacity { vec_capacity counts.old ≤ vec_capacity counts.new }
+{
+    let at = tunnel_place(tunnels, local);
+    match counts.insert(at, 0) {
+        Ok(()) => (),
+        Err(_) => unreachable!(),
+    }
+}
+
+// Takes out the count of a tunnel.
+fn remove_count(tunnels: &[BookTunnel], counts: &mut Vec<u16>, local: u16) -> u16
+    requires in_order { AreRising (λ t. t.local) tunnels.now }
+    requires long { length counts.old.items ≡ length tunnels.now }
+    requires there { is_some (entry (λ t. t.local) local tunnels.now) ≡ true }
+    ensures count { result ≡ slice_index counts.old.items (place (λ t. t.local) local tunnels.now) }
+    ensures counts { counts.new.items ≡ remove counts.old.items (place (λ t. t.local) local tunnels.now) }
+    ensures capacity { vec_capacity counts.new ≡ vec_capacity counts.old }
+{
+    let at = tunnel_place(tunnels, local);
+    counts.remove(at)
+}
+
+// A tunnel has a call more.
+fn raise_count(tunnels: &[BookTunnel], counts: &mut Vec<u16>, local: u16)
+    requires in_order { AreRising (λ t. t.local) tunnels.now }
+    requires long { length counts.old.items ≡ length tunnels.now }
+    requires there { is_some (entry (λ t. t.local) local tunnels.now) ≡ true }
+    requires few { slice_index counts.old.items (place (λ t. t.local) local tunnels.now) < 4096 }
+    ensures counts { counts.new.items ≡ slice_set counts.old.items (place (λ t. t.local) local tunnels.now) (slice_index counts.old.items (place (λ t. t.local) local tunnels.now) + 1) }
+    ensures capacity { vec_capacity counts.new ≡ vec_capacity counts.old }
+{
+    let at = tunnel_place(tunnels, local);
+    counts[at] += 1;
+}
+
+// A tunnel has a call less.
+fn lower_count(tunnels: &[BookTunnel], counts: &mut Vec<u16>, local: u16)
+    requires in_order { AreRising (λ t. t.local) tunnels.now }
+    requires long { length counts.old.items ≡ length tunnels.now }
+    requires there { is_some (entry (λ t. t.local) local tunnels.now) ≡ true }
+    requires some { 0 < slice_index counts.old.items (place (λ t. t.local) local tunnels.now) }
+    ensures counts { counts.new.items ≡ slice_set counts.old.items (place (λ t. t.local) local tunnels.now) (slice_index counts.old.items (place (λ t. t.local) local tunnels.now) - 1) }
+    ensures capacity { vec_capacity counts.new ≡ vec_capacity counts.old }
+{
+    let at = tunnel_place(tunnels, local);
+    counts[at] -= 1;
 }
 
 fn put_tunnel(tunnels: &mut Vec<BookTunnel>, tunnel: BookTunnel)
@@ -463,26 +549,46 @@ fn put_call(calls: &mut Vec<BookCall>, call: BookCall)
 }
 
 fn remove_tunnel(tunnels: &mut Vec<BookTunnel>, local: u16)
-    requires { AreRising (λ t. t.local) tunnels.old.items }
+    requires in_order { AreRising (λ t. t.local) tunnels.old.items }
+    requires there { is_some (entry (λ t. t.local) local tunnels.old.items) ≡ true }
     ensures in_order { AreRising (λ t. t.local) tunnels.new.items }
     ensures items { tunnels.new.items ≡ tunnels_without local tunnels.old.items }
-    ensures len { vec_len tunnels.new ≤ vec_len tunnels.old }
+    ensures len { vec_len tunnels.new + 1 ≡ vec_len tunnels.old }
     ensures capacity { vec_capacity tunnels.new ≡ vec_capacity tunnels.old }
 {
-    tunnels.retain(|tunnel| tunnel.local != local);
+    let at = tunnel_place(tunnels.as_slice(), local);
+    tunnels.remove(at);
 }
 
-fn remove_call(calls: &mut Vec<BookCall>, local: u16)
-    requires { AreRising (λ c. c.local) calls.old.items }
+// Takes out the call with an id, and gives it.
+fn remove_call(calls: &mut Vec<BookCall>, local: u16) -> BookCall
+    requires in_order { AreRising (λ c. c.local) calls.old.items }
+    requires there { is_some (entry (λ c. c.local) local calls.old.items) ≡ true }
+    ensures gone { entry (λ c. c.local) local calls.old.items ≡ Some result }
     ensures in_order { AreRising (λ c. c.local) calls.new.items }
     ensures items { calls.new.items ≡ calls_without local calls.old.items }
+    ensures len { vec_len calls.new + 1 ≡ vec_len calls.old }
+    ensures capacity { vec_capacity calls.new ≡ vec_capacity calls.old }
+{
+    let at = call_place(calls.as_slice(), local);
+    calls.remove(at)
+}
+
+// Takes out the calls of a tunnel, which are as many as its count says; where it has none it looks at no call.
+fn remove_calls_of(calls: &mut Vec<BookCall>, tunnel: u16, count: u16)
+    requires in_order { AreRising (λ c. c.local) calls.old.items }
+    requires counted { count ≡ length (calls_of tunnel calls.old.items) }
+    ensures in_order { AreRising (λ c. c.local) calls.new.items }
+    ensures items { calls.new.items ≡ calls_not_of tunnel calls.old.items }
     ensures len { vec_len calls.new ≤ vec_len calls.old }
     ensures capacity { vec_capacity calls.new ≡ vec_capacity calls.old }
 {
-    calls.retain(|call| call.local != local);
+    if count > 0 {
+        retain_calls(calls, tunnel);
+    }
 }
 
-fn remove_calls_of(calls: &mut Vec<BookCall>, tunnel: u16)
+fn retain_calls(calls: &mut Vec<BookCall>, tunnel: u16)
     requires { AreRising (λ c. c.local) calls.old.items }
     ensures in_order { AreRising (λ c. c.local) calls.new.items }
     ensures items { calls.new.items ≡ calls_not_of tunnel calls.old.items }
@@ -493,33 +599,13 @@ fn remove_calls_of(calls: &mut Vec<BookCall>, tunnel: u16)
 }
 
 fn mark_tunnel(tunnels: &mut Vec<BookTunnel>, local: u16, mark: u32)
-    requires { AreRising (λ t. t.local) tunnels.old.items }
+    requires in_order { AreRising (λ t. t.local) tunnels.old.items }
+    requires there { is_some (entry (λ t. t.local) local tunnels.old.items) ≡ true }
     ensures in_order { AreRising (λ t. t.local) tunnels.new.items }
     ensures items { tunnels.new.items ≡ marked local mark tunnels.old.items }
     ensures len { vec_len tunnels.new ≡ vec_len tunnels.old }
     ensures capacity { vec_capacity tunnels.new ≡ vec_capacity tunnels.old }
 {
-    set_mark(tunnels, local, mark);
-}
-
-fn set_mark(tunnels: &mut [BookTunnel], local: u16, mark: u32)
-    requires { AreRising (λ t. t.local) tunnels.old }
-    ensures in_order { AreRising (λ t. t.local) tunnels.new }
-    ensures items { tunnels.new ≡ marked local mark tunnels.old }
-    ensures len { length tunnels.new ≡ length tunnels.old }
-{
-    for tunnel in tunnels {
-        *tunnel = mark_on(*tunnel, local, mark);
-    }
-}
-
-// The tunnel with the mark, where it has this id.
-fn mark_on(tunnel: BookTunnel, local: u16, mark: u32) -> BookTunnel
-    ensures { result ≡ mark_on local mark tunnel }
-{
-    if tunnel.local == local {
-        BookTunnel { mark, ..tunnel }
-    } else {
-        tunnel
-    }
+    let at = tunnel_place(tunnels.as_slice(), local);
+    tunnels[at].mark = mark;
 }

@@ -1,11 +1,11 @@
-use Rattle.std.proofs.Common.{rules, not, ◌==◌, ◌<◌}
-use Rattle.std.proofs.lemmas.List.Kept.{AllPairs-filter}
-use Rattle.std.proofs.lemmas.Fn.{filter_same}
+use Rattle.std.proofs.Common.{◌≡◌, ap, sym, ◌∙◌}
+use Rattle.std.specs.List.{remove}
+use Rattle.session_book.specs.Books.{place}
+use Rattle.session_book.proofs.Counts.{without_is_remove}
 use Rattle.session_book.proofs.book.remove_call.Goals as goal
 
 pub returns-clause-items : goal.returns-clause-items
-returns-clause-items c = filter_same _ _ _ (λ x b f' k. search rules) _ _ c.retain.ensures.filtered
-
-pub returns-clause-in_order : goal.returns-clause-in_order
-returns-clause-in_order x =
-    rw (returns-clause-items x) (AllPairs-filter (λ x y. x.local < y.local) (λ c. not (c.local == x.args.local)) _ x.requires)
+returns-clause-items c =
+    let value = c.as_slice.ensures.value in
+    let at : c.call_place-at.result ≡ place (λ x. x.local) c.args.local c.args.calls.now.items = rw value at c.call_place-at.ensures.place in
+    c.remove.ensures.items ∙ ap (remove c.args.calls.now.items) at ∙ sym (without_is_remove (λ x. x.local) c.args.local c.args.calls.now.items c.requires.in_order c.requires.there)

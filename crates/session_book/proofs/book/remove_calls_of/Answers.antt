@@ -1,11 +1,9 @@
-use Rattle.std.proofs.Common.{rules, not, ◌==◌, ◌<◌}
-use Rattle.std.proofs.lemmas.List.Kept.{AllPairs-filter}
-use Rattle.std.proofs.lemmas.Fn.{filter_same}
+use Rattle.std.proofs.Common.{◌≡◌, length, arith, sym}
+use Rattle.session_book.specs.Books.{calls_of}
+use Rattle.session_book.proofs.Counts.{none_go}
 use Rattle.session_book.proofs.book.remove_calls_of.Goals as goal
 
-pub returns-clause-items : goal.returns-clause-items
-returns-clause-items c = filter_same _ _ _ (λ x b f' k. search rules) _ _ c.retain.ensures.filtered
-
-pub returns-clause-in_order : goal.returns-clause-in_order
-returns-clause-in_order x =
-    rw (returns-clause-items x) (AllPairs-filter (λ x y. x.local < y.local) (λ c. not (c.tunnel == x.args.tunnel)) _ x.requires)
+pub returns-else-count-gt0-clause-items : goal.returns-else-count-gt0-clause-items
+returns-else-count-gt0-clause-items c =
+    let none : length (calls_of c.args.tunnel c.args.calls.now.items) ≡ 0 = (let n = c.requires.counted in let out = c.if-count-gt0.false in omega arith) in
+    sym (none_go c.args.tunnel c.args.calls.now.items none)
