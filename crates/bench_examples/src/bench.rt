@@ -7,6 +7,7 @@ use lac_core::Lac;
 use lns_core::Lns;
 use session_looks::Look;
 use std::alloc::Global;
+use step_ledger::{StepFault, Unkept};
 use tunnel_core::Outputs;
 use wire_base::{Bytes, NoMemory, Why};
 
@@ -32,6 +33,11 @@ struct Answered {
     reply: Option<Bytes>,
 }
 
+/// What is wanting where a step wasn't made: the ledger never stops.
+fn wanting(_fault: StepFault<NoMemory>) -> NoMemory {
+    NoMemory
+}
+
 /// An end of either kind, in a box, since it is large: a function that owns it inline, with ways out, is dear to prove.
 #[derive(Drop)]
 enum Side {
@@ -43,14 +49,18 @@ impl Side {
     fn step(&mut self, moment: u64, event: &Event) -> Result<Answered, NoMemory> {
         match self {
             Side::Lac(lac) => {
-                let given = lac.step(moment, [7; 16], event)?;
+                let given = lac
+                    .step(&mut Unkept, moment, [7; 16], event)
+                    .map_err(wanting)?;
                 Ok(Answered {
                     outputs: given.outputs,
                     reply: given.reply,
                 })
             }
             Side::Lns(lns) => {
-                let given = lns.step(moment, [7; 16], event)?;
+                let given = lns
+                    .step(&mut Unkept, moment, [7; 16], event)
+                    .map_err(wanting)?;
                 Ok(Answered {
                     outputs: given.outputs,
                     reply: None,

@@ -122,7 +122,8 @@ impl Journal {
     }
 
     /// Makes the spare at least `count`: the disk has room for so many records, and for the four calls of each. It makes
-    /// no call of the device, and where it is refused the journal is as before.
+    /// no call of the device, and where it is refused the journal is as before. Where there is room already, the disk is left
+    /// alone.
     #[tactic(auto, unfolding(crate::specs::Format::most_records, crate::specs::Format::second_area))]
     pub fn prepare<D: Disk>(&mut self, disk: &mut D, count: u32) -> Result<(), JournalRoom>
         requires room { self.old.halted ≡ false → HasRoom D.reach D.calls_left self.old disk.old }
@@ -130,6 +131,7 @@ impl Journal {
         ensures ok { OnOk result (self.new ≡ record self.old { spare = max self.old.spare count }) }
         ensures err { OnErr result (self.new ≡ self.old) }
         ensures disk { D.holds disk.new ≡ D.holds disk.old }
+        ensures untouched { count ≤ self.old.spare → disk.new ≡ disk.old }
         ensures contents { (contents : List (List ℕ)) → HasContents self.old contents (D.holds disk.old) → HasContents self.new contents (D.holds disk.new) }
         ensures faults { D.faults disk.new ≡ D.faults disk.old }
         ensures cause { RoomHasCause self.old count result }

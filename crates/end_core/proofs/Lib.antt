@@ -1,3 +1,4 @@
-pub mod Steps
 pub mod Draws
 pub mod Plans
+pub mod Steps
+pub mod Committed

@@ -1,14 +1,30 @@
 -- What the answer of a step says.
-use Rattle.std.specs.Prelude.{◌≡◌, ◌++◌, Result, Ok, Err}
-use Rattle.wire_base.specs.declared.bytes.NoMemory.{NoMemory}
+use Rattle.std.specs.Prelude.{⊤, ◌≡◌, ◌==◌, ◌++◌, ℕ, List, Result, Ok, Err, if◌then◌else◌}
+use Rattle.session_book.specs.declared.record.Record.{Record}
+use Rattle.step_ledger.specs.declared.ledger.StepFault.{StepFault}
+use Rattle.step_ledger.specs.Committing.{Commits}
+use Rattle.end_model.specs.Contents.{contents_of}
+use Rattle.end_model.specs.Tunnels.{Drawing, Env}
 use Rattle.end_model.specs.End.{End, Stepped}
 use Rattle.end_core.specs.declared.end.Given.{Given}
 
--- the step is this: the next end with what it gave, or the end as before, where memory was wanting
-abbrev pub GivesStep : Result Given NoMemory → Stepped → End → End → Type 0
+-- the step is this: the next end with what it gave, or the end as before, where it wasn't made
+abbrev pub GivesStep : {F : Type 0} → Result Given F → Stepped → End → End → Type 0
 GivesStep (Ok g) s old new = s ≡ record { end = new; outputs = g.outputs; moves = g.moves }
 GivesStep (Err e) s old new = new ≡ old
+
+-- and all that it leaves was committed before it was made, or this is why not
+abbrev pub CommitsStep : {L S : Type 0} → (L → List Record → Result ⊤ S → L → Type 0) → Result Given (StepFault S) → Stepped → End → L → L → Type 0
+CommitsStep commits_to result s old before after = Commits commits_to result (contents_of old s) before after
 
 -- a step behind what was given before it
 abbrev pub behind_given : Given → Stepped → Stepped
 behind_given g s = record s { outputs = g.outputs ++ s.outputs; moves = g.moves ++ s.moves }
+
+-- where an end draws from that drew from these spaces, behind a step of a tunnel: the numbers of recoveries are the end's alone
+abbrev pub drawn_behind : Drawing → Env → Drawing
+drawn_behind before env = record before { tunnels = env.ids.tunnels; sessions = env.ids.sessions }
+
+-- and behind the first step of a tunnel that has this id, or has drawn none
+abbrev pub drawn_first : ℕ → Drawing → Env → Drawing
+drawn_first local before env = if local == 0 then before else drawn_behind before env

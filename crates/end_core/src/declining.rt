@@ -2,7 +2,7 @@
 
 ghost use Rattle.std.specs.Prelude.{◌≡◌, IfOk};
 ghost use Rattle.end_model.specs.End.{against_opening, against_said, against_body, declined};
-ghost use Rattle.end_core.specs.Gives.{GivesStep};
+ghost use Rattle.end_core.specs.Gives.{GivesStep, CommitsStep};
 
 use crate::end::{End, Given};
 use control_message::{Message, Opening};
@@ -12,6 +12,7 @@ use message_reading::{
     no_secret, no_tunnel, other_version, read_body,
 };
 use std::alloc::Global;
+use step_ledger::{Ledger, StepFault};
 use tunnel_core::{Moves, Outputs};
 use wire_base::NoMemory;
 
@@ -62,17 +63,10 @@ impl End {
         Ok(self.against_said(&said))
     }
 
-    /// Answers an opening by a StopCCN of no tunnel of this end's, to the tunnel id that it told: nothing changes.
+    /// What the step gives that answers an opening by a StopCCN of no tunnel of this end's, to the tunnel id that it told.
     #[tactic(auto, unfolding(end_model::specs::End::declined))]
-    pub(crate) fn decline(
-        &mut self,
-        peer: u32,
-        remote: u16,
-        nr: u16,
-        reason: &Reason,
-    ) -> Result<Given, NoMemory>
-        ensures given { GivesStep result (declined self.old peer remote nr reason.now) self.old self.new }
-        ensures role { self.new.role ≡ self.old.role }
+    fn declined(&self, peer: u32, remote: u16, nr: u16, reason: &Reason) -> Result<Given, NoMemory>
+        ensures { IfOk result (λ g. declined self.now peer remote nr reason.now ≡ record { end = self.now; outputs = g.outputs; moves = g.moves }) }
     {
         let bytes = decline_bytes(self.alloc, remote, nr, reason)?;
         let mut outputs = Outputs::new(self.alloc);
@@ -98,5 +92,23 @@ impl End {
             error: reason.error,
         }))?;
         Ok(Given { outputs, moves })
+    }
+
+    /// Answers an opening by a StopCCN of no tunnel of this end's, to the tunnel id that it told: nothing changes.
+    pub(crate) fn decline<L: Ledger>(
+        &mut self,
+        ledger: &mut L,
+        peer: u32,
+        remote: u16,
+        nr: u16,
+        reason: &Reason,
+    ) -> Result<Given, StepFault<L::Stop>>
+        requires ledger { L.can_commit ledger.old }
+        ensures given { GivesStep result (declined self.old peer remote nr reason.now) self.old self.new }
+        ensures committed { CommitsStep L.commits_to result (declined self.old peer remote nr reason.now) self.old ledger.old ledger.new }
+        ensures role { self.new.role ≡ self.old.role }
+    {
+        let given = self.declined(peer, remote, nr, reason)?;
+        self.give(ledger, given)
     }
 }

@@ -1,6 +1,6 @@
 //! An end with its tunnels: which tunnel an event is for, and what is seen of the calls.
 
-ghost use Rattle.std.specs.Prelude.{◌≡◌, ◌≤◌, [], ◌∷◌, option_map, is_some, unwrap_or, IfOk, OnOk};
+ghost use Rattle.std.specs.Prelude.{◌≡◌, ◌≢◌, ◌≤◌, [], ◌∷◌, option_map, is_some, unwrap_or, IfOk, OnOk};
 ghost use Rattle.std.specs.Option.{option_copied};
 ghost use Rattle.id_table.specs.Ids.{at, ids_of};
 ghost use Rattle.l2tp_header.specs.Reading.{header_of};
@@ -14,10 +14,14 @@ ghost use Rattle.call_places.specs.Rooms.{HaveRoom};
 ghost use Rattle.end_model.specs.Tunnels.{turn_of};
 ghost use Rattle.end_model.specs.Events.{turns};
 ghost use Rattle.end_model.specs.Turn.{with_turn};
-ghost use Rattle.end_core.specs.Gives.{GivesStep, behind_given};
+ghost use Rattle.end_model.specs.End.{drawing_of};
+ghost use Rattle.step_ledger.specs.Committing.{Commits};
+ghost use Rattle.step_records.specs.Leaving.{leaves};
+ghost use Rattle.id_table.specs.Tables.{HasRoom};
+ghost use Rattle.end_core.specs.Gives.{GivesStep, CommitsStep, behind_given, drawn_behind, drawn_first};
 
 use call_places::{change_looks, look_at, make_places, place_all};
-use end_model::{Addressee, CallPlace, Config, Control, Event, Out, Role};
+use end_model::{Addressee, CallPlace, Config, Control, Event, Move, Out, Role};
 use id_source::Ids;
 use id_table::Table;
 use l2tp_header::{Header, read_header};
@@ -25,6 +29,8 @@ use message_reading::{at_zero, next_of_peer, out_of_order, uncover_datagram};
 use session_looks::{CellChanges, Look, header_why};
 use std::alloc::Global;
 use std::marker::Model;
+use step_ledger::{Ledger, StepFault};
+use step_records::{Spaces, commit_step};
 use tunnel_core::{Env, Moves, Outputs, Planned, TunnelCore};
 use tunnel_fsm::TunnelState;
 use tunnel_table::TunnelTable;
@@ -235,20 +241,58 @@ impl End {
         look_at(&self.calls, session)
     }
 
-    /// The step gives one output and changes nothing.
-    #[tactic(auto, unfolding(end_model::specs::End::gives_only))]
-    fn only(&mut self, out: Out) -> Result<Given, NoMemory>
-        ensures given { GivesStep result (gives_only self.old out) self.old self.new }
-        ensures role { self.new.role ≡ self.old.role }
+    /// Commits what a step leaves that made these moves, if any, and drew no number.
+    pub fn commit_moves<L: Ledger>(
+        &self,
+        ledger: &mut L,
+        moves: &[Move],
+    ) -> Result<(), StepFault<L::Stop>>
+        requires { L.can_commit ledger.old }
+        ensures { Commits L.commits_to result (leaves (drawing_of self.now) (drawing_of self.now) moves.now) ledger.old ledger.new }
     {
-        give_only(self.alloc, out)
+        let spaces = self.spaces();
+        commit_step(self.alloc, ledger, &spaces, &spaces, moves)
     }
 
-    pub fn drop_with(&mut self, why: Why) -> Result<Given, NoMemory>
-        ensures given { GivesStep result (gives_only self.old (Out.Drop why)) self.old self.new }
+    /// The step gives this and changes nothing: what it leaves is committed first.
+    pub(crate) fn give<L: Ledger>(
+        &mut self,
+        ledger: &mut L,
+        given: Given,
+    ) -> Result<Given, StepFault<L::Stop>>
+        requires ledger { L.can_commit ledger.old }
+        ensures given { GivesStep result (record { end = self.old; outputs = given.outputs; moves = given.moves }) self.old self.new }
+        ensures committed { CommitsStep L.commits_to result (record { end = self.old; outputs = given.outputs; moves = given.moves }) self.old ledger.old ledger.new }
         ensures role { self.new.role ≡ self.old.role }
     {
-        self.only(Out::Drop { why })
+        self.commit_moves(ledger, given.moves.as_slice())?;
+        Ok(given)
+    }
+
+    /// The step gives one output and changes nothing.
+    #[tactic(auto, unfolding(end_model::specs::End::gives_only))]
+    fn only<L: Ledger>(&mut self, ledger: &mut L, out: Out) -> Result<Given, StepFault<L::Stop>>
+        requires ledger { L.can_commit ledger.old }
+        ensures given { GivesStep result (gives_only self.old out) self.old self.new }
+        ensures committed { CommitsStep L.commits_to result (gives_only self.old out) self.old ledger.old ledger.new }
+        ensures role { self.new.role ≡ self.old.role }
+    {
+        let given = give_only(self.alloc, out)?;
+        self.give(ledger, given)
+    }
+
+    /// What comes is dropped, and nothing changes.
+    pub fn drop_with<L: Ledger>(
+        &mut self,
+        ledger: &mut L,
+        why: Why,
+    ) -> Result<Given, StepFault<L::Stop>>
+        requires ledger { L.can_commit ledger.old }
+        ensures given { GivesStep result (gives_only self.old (Out.Drop why)) self.old self.new }
+        ensures committed { CommitsStep L.commits_to result (gives_only self.old (Out.Drop why)) self.old ledger.old ledger.new }
+        ensures role { self.new.role ≡ self.old.role }
+    {
+        self.only(ledger, Out::Drop { why })
     }
 
     /// What a step works in. It takes no memory.
@@ -290,6 +334,60 @@ fn plan_step(
     Ok(planned)
 }
 
+/// Where an end draws its numbers from behind a step that worked in this environment, where it drew from these spaces before it.
+fn spaces_behind(before: &Spaces, env: &Env) -> Spaces
+    ensures { result ≡ drawn_behind before.now env.now }
+{
+    Spaces {
+        tunnels: env.tunnels,
+        sessions: env.sessions,
+        recoveries: before.recoveries,
+    }
+}
+
+/// Makes room for the places of the calls that a step of a tunnel makes, and commits what the step leaves.
+fn commit_planned<L: Ledger>(
+    ledger: &mut L,
+    alloc: Global,
+    places: &mut Table<CallPlace>,
+    before: &Spaces,
+    env: &Env,
+    planned: &Planned,
+) -> Result<(), StepFault<L::Stop>>
+    requires { L.can_commit ledger.old }
+    ensures places { places.new.entries ≡ places.old.entries }
+    ensures room { OnOk result (HaveRoom places.new planned.now.added) }
+    ensures committed { Commits L.commits_to result (leaves before.now (drawn_behind before.now env.now) env.now.moves) ledger.old ledger.new }
+{
+    make_places(places, planned.added())?;
+    let after = spaces_behind(before, env);
+    commit_step(alloc, ledger, before, &after, env.moves.as_slice())
+}
+
+/// Makes room for a tunnel that is new, and commits what its first step leaves. Where the step drew no id, the tunnel isn't kept, and
+/// no number of the step is.
+fn commit_new<L: Ledger>(
+    ledger: &mut L,
+    alloc: Global,
+    tunnels: &mut TunnelTable,
+    before: &Spaces,
+    env: &Env,
+    planned: &Planned,
+) -> Result<(), StepFault<L::Stop>>
+    requires { L.can_commit ledger.old }
+    ensures tunnels { tunnels.new.entries ≡ tunnels.old.entries }
+    ensures room { OnOk result (planned.now.control.local ≢ 0 → HasRoom tunnels.new planned.now.control.local) }
+    ensures committed { Commits L.commits_to result (leaves before.now (drawn_first planned.now.control.local before.now env.now) env.now.moves) ledger.old ledger.new }
+{
+    let local = planned.local();
+    if local == 0 {
+        return commit_step(alloc, ledger, before, before, env.moves.as_slice());
+    }
+    tunnels.make_room(u32::from(local), planned)?;
+    let after = spaces_behind(before, env);
+    commit_step(alloc, ledger, before, &after, env.moves.as_slice())
+}
+
 impl Given {
     /// Nothing yet. It takes no memory.
     fn nothing(alloc: Global) -> Given
@@ -315,51 +413,66 @@ impl End {
 
     /// What comes is dropped, behind what was given before.
     #[tactic(auto, unfolding(end_model::specs::End::gives_only))]
-    fn drop_behind(&mut self, first: Given, why: Why) -> Result<Given, NoMemory>
+    fn drop_behind<L: Ledger>(
+        &mut self,
+        ledger: &mut L,
+        first: Given,
+        why: Why,
+    ) -> Result<Given, StepFault<L::Stop>>
+        requires ledger { L.can_commit ledger.old }
         ensures given { GivesStep result (behind_given first (gives_only self.old (Out.Drop why))) self.old self.new }
+        ensures committed { CommitsStep L.commits_to result (behind_given first (gives_only self.old (Out.Drop why))) self.old ledger.old ledger.new }
         ensures role { self.new.role ≡ self.old.role }
     {
         let mut given = first;
         given.outputs.push(Out::Drop { why })?;
-        Ok(given)
+        self.give(ledger, given)
     }
 
     /// Makes a step of the tunnel with this id, if there is one.
-    pub fn run_main(
+    pub fn run_main<L: Ledger>(
         &mut self,
+        ledger: &mut L,
         moment: u64,
         block: [u8; 16],
         event: &Event,
         id: u32,
-    ) -> Result<Given, NoMemory>
+    ) -> Result<Given, StepFault<L::Stop>>
+        requires ledger { L.can_commit ledger.old }
         ensures given { GivesStep result (in_main self.old (env_of self.old moment block) event.now id (at self.old.tunnels id)) self.old self.new }
+        ensures committed { CommitsStep L.commits_to result (in_main self.old (env_of self.old moment block) event.now id (at self.old.tunnels id)) self.old ledger.old ledger.new }
         ensures role { self.new.role ≡ self.old.role }
     {
-        self.run_behind(moment, block, event, id, Given::nothing(self.alloc))
+        let first = Given::nothing(self.alloc);
+        self.run_behind(ledger, moment, block, event, id, first)
     }
 
     /// Makes a step of the tunnel with this id, if there is one, behind what was given before. Where memory is wanting, nothing
     /// is given at all.
     #[tactic(auto, using(tunnel_table::specs::Tunnels::at_tunnels), unfolding(end_model::specs::End::in_main))]
-    pub(crate) fn run_behind(
+    pub(crate) fn run_behind<L: Ledger>(
         &mut self,
+        ledger: &mut L,
         moment: u64,
         block: [u8; 16],
         event: &Event,
         id: u32,
         first: Given,
-    ) -> Result<Given, NoMemory>
+    ) -> Result<Given, StepFault<L::Stop>>
+        requires ledger { L.can_commit ledger.old }
         ensures given { GivesStep result (behind_given first (in_main self.old (env_of self.old moment block) event.now id (at self.old.tunnels id))) self.old self.new }
+        ensures committed { CommitsStep L.commits_to result (behind_given first (in_main self.old (env_of self.old moment block) event.now id (at self.old.tunnels id))) self.old ledger.old ledger.new }
         ensures role { self.new.role ≡ self.old.role }
     {
         if !self.tunnels.contains(id) {
-            return self.drop_behind(first, Why::Tunnel);
+            return self.drop_behind(ledger, first, Why::Tunnel);
         }
+        let before = self.spaces();
         let mut env = self.env_behind(moment, block, first);
         let planned = self
             .tunnels
             .plan(self.role, &self.config, &mut env, id, event)?;
-        make_places(&mut self.calls, planned.added())?;
+        commit_planned(ledger, self.alloc, &mut self.calls, &before, &env, &planned)?;
         place_all(&mut self.calls, planned.local(), planned.added());
         change_looks(&mut self.calls, env.changes.as_slice());
         self.tunnels.make(id, planned);
@@ -375,16 +488,20 @@ impl End {
 impl End {
     /// Makes the first step of a tunnel to a peer that is new. Where it draws no id, it isn't kept.
     #[tactic(auto, unfolding(end_model::specs::End::in_new, end_model::specs::End::after_new))]
-    fn run_new(
+    fn run_new<L: Ledger>(
         &mut self,
+        ledger: &mut L,
         moment: u64,
         block: [u8; 16],
         event: &Event,
         peer: u32,
-    ) -> Result<Given, NoMemory>
+    ) -> Result<Given, StepFault<L::Stop>>
+        requires ledger { L.can_commit ledger.old }
         ensures given { GivesStep result (in_new self.old (env_of self.old moment block) event.now peer) self.old self.new }
+        ensures committed { CommitsStep L.commits_to result (in_new self.old (env_of self.old moment block) event.now peer) self.old ledger.old ledger.new }
         ensures role { self.new.role ≡ self.old.role }
     {
+        let before = self.spaces();
         let mut env = self.env(moment, block);
         let mut core = TunnelCore::idle(self.alloc, peer, moment);
         let planned = plan_step(
@@ -395,6 +512,14 @@ impl End {
             &mut env,
             event,
         )?;
+        commit_new(
+            ledger,
+            self.alloc,
+            &mut self.tunnels,
+            &before,
+            &env,
+            &planned,
+        )?;
         let local = planned.local();
         if local == 0 {
             return Ok(Given {
@@ -402,7 +527,6 @@ impl End {
                 moves: env.moves,
             });
         }
-        self.tunnels.make_room(u32::from(local), &planned)?;
         place_all(&mut self.calls, local, planned.added());
         change_looks(&mut self.calls, env.changes.as_slice());
         self.tunnels.make_new(u32::from(local), core, planned);
@@ -416,21 +540,24 @@ impl End {
 
     /// Makes the first step of a tunnel that is new, where the end may have one more; else it gives the refusal alone.
     #[tactic(auto, unfolding(end_model::specs::End::in_one_more))]
-    pub fn run_one_more(
+    pub fn run_one_more<L: Ledger>(
         &mut self,
+        ledger: &mut L,
         moment: u64,
         block: [u8; 16],
         event: &Event,
         peer: u32,
         refusal: Out,
-    ) -> Result<Given, NoMemory>
+    ) -> Result<Given, StepFault<L::Stop>>
+        requires ledger { L.can_commit ledger.old }
         ensures given { GivesStep result (in_one_more self.old (env_of self.old moment block) event.now peer refusal) self.old self.new }
+        ensures committed { CommitsStep L.commits_to result (in_one_more self.old (env_of self.old moment block) event.now peer refusal) self.old ledger.old ledger.new }
         ensures role { self.new.role ≡ self.old.role }
     {
         if self.has_all_tunnels() {
-            return self.only(refusal);
+            return self.only(ledger, refusal);
         }
-        self.run_new(moment, block, event, peer)
+        self.run_new(ledger, moment, block, event, peer)
     }
 
     /// The least tunnel to a peer that has assigned this id.
@@ -536,8 +663,9 @@ impl End {
 
     /// A control message for whom it is for.
     #[tactic(auto, unfolding(end_model::specs::End::for_addressee, end_model::specs::End::opens_or_declines))]
-    fn run_addressed(
+    fn run_addressed<L: Ledger>(
         &mut self,
+        ledger: &mut L,
         moment: u64,
         block: [u8; 16],
         event: &Event,
@@ -545,20 +673,28 @@ impl End {
         header: &Header,
         body: &[u8],
         to: Addressee,
-    ) -> Result<Given, NoMemory>
+    ) -> Result<Given, StepFault<L::Stop>>
+        requires ledger { L.can_commit ledger.old }
         ensures given { GivesStep result (for_addressee self.old (env_of self.old moment block) event.now peer header.now body.now to) self.old self.new }
+        ensures committed { CommitsStep L.commits_to result (for_addressee self.old (env_of self.old moment block) event.now peer header.now body.now to) self.old ledger.old ledger.new }
         ensures role { self.new.role ≡ self.old.role }
     {
         let nr = next_of_peer(header);
         match to {
             Addressee::Opens { remote } => match self.against_body(body)? {
-                None => self.run_new(moment, block, event, peer),
-                Some(reason) => self.decline(peer, remote, nr, &reason),
+                None => self.run_new(ledger, moment, block, event, peer),
+                Some(reason) => self.decline(ledger, peer, remote, nr, &reason),
             },
-            Addressee::Answers { remote } => self.decline(peer, remote, nr, &out_of_order()),
-            Addressee::Stops { .. } => self.drop_with(Why::Tunnel),
-            Addressee::Main { tunnel } => self.run_main(moment, block, event, tunnel),
-            Addressee::Nobody { why } => self.drop_with(why),
+            Addressee::Answers { remote } => self.decline(
+                ledger,
+                peer,
+                remote,
+                nr,
+                &out_of_order(),
+            ),
+            Addressee::Stops { .. } => self.drop_with(ledger, Why::Tunnel),
+            Addressee::Main { tunnel } => self.run_main(ledger, moment, block, event, tunnel),
+            Addressee::Nobody { why } => self.drop_with(ledger, why),
         }
     }
 
@@ -571,48 +707,54 @@ impl End {
 
     /// An event of a call goes to the call's tunnel.
     #[tactic(auto, unfolding(end_model::specs::End::for_call))]
-    pub fn run_for_call(
+    pub fn run_for_call<L: Ledger>(
         &mut self,
+        ledger: &mut L,
         moment: u64,
         block: [u8; 16],
         event: &Event,
         session: u16,
-    ) -> Result<Given, NoMemory>
+    ) -> Result<Given, StepFault<L::Stop>>
+        requires ledger { L.can_commit ledger.old }
         ensures given { GivesStep result (for_call self.old (env_of self.old moment block) event.now (at self.old.calls session)) self.old self.new }
+        ensures committed { CommitsStep L.commits_to result (for_call self.old (env_of self.old moment block) event.now (at self.old.calls session)) self.old ledger.old ledger.new }
         ensures role { self.new.role ≡ self.old.role }
     {
         match self.calls.get(u32::from(session)) {
-            None => self.drop_with(Why::Call),
+            None => self.drop_with(ledger, Why::Call),
             Some(place) => {
                 let tunnel = place.tunnel;
-                self.run_main(moment, block, event, u32::from(tunnel))
+                self.run_main(ledger, moment, block, event, u32::from(tunnel))
             }
         }
     }
 
     /// A datagram from a peer.
     #[tactic(auto, unfolding(end_model::specs::End::receives))]
-    pub fn receive(
+    pub fn receive<L: Ledger>(
         &mut self,
+        ledger: &mut L,
         moment: u64,
         block: [u8; 16],
         event: &Event,
         peer: u32,
         bytes: &[u8],
-    ) -> Result<Given, NoMemory>
-        requires { event.now ≡ Event.Datagram peer bytes.now }
+    ) -> Result<Given, StepFault<L::Stop>>
+        requires ledger { L.can_commit ledger.old }
+        requires event { event.now ≡ Event.Datagram peer bytes.now }
         ensures given { GivesStep result (receives self.old (env_of self.old moment block) peer bytes.now (header_of bytes.now)) self.old self.new }
+        ensures committed { CommitsStep L.commits_to result (receives self.old (env_of self.old moment block) peer bytes.now (header_of bytes.now)) self.old ledger.old ledger.new }
         ensures role { self.new.role ≡ self.old.role }
     {
         match read_header(bytes) {
-            Err(error) => self.drop_with(header_why(error)),
+            Err(error) => self.drop_with(ledger, header_why(error)),
             Ok(header) => {
                 let body = &bytes[header.start..header.end];
                 if !header.control {
-                    return self.hand_up(moment, block, peer, &header, body);
+                    return self.hand_up(ledger, moment, block, peer, &header, body);
                 }
                 let to = self.addressed(peer, &header, body)?;
-                self.run_addressed(moment, block, event, peer, &header, body, to)
+                self.run_addressed(ledger, moment, block, event, peer, &header, body, to)
             }
         }
     }

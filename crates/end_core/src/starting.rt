@@ -1,11 +1,12 @@
 //! An end that falls, and one that starts again over what its checkpoint kept.
 
-ghost use Rattle.std.specs.Prelude.{◌≡◌, ◌++◌, map, true, IfOk, OnOk};
+ghost use Rattle.std.specs.Prelude.{◌≡◌, ◌≤◌, ◌++◌, map, true, IfOk, OnOk};
 ghost use Rattle.std.specs.List.{flat_map};
 ghost use Rattle.end_model.specs.declared.moves.Move.TheVariants as moved;
-ghost use Rattle.end_model.specs.End.{drawing_of};
+ghost use Rattle.end_model.specs.End.{new_end, drawing_of};
 ghost use Rattle.end_model.specs.Starting.{bare_end, gone_with, all_gone, all_cleared, starts};
-ghost use Rattle.end_core.specs.Gives.{GivesStep};
+ghost use Rattle.id_source.specs.Spaces.{space_from};
+ghost use Rattle.end_core.specs.Gives.{GivesStep, CommitsStep};
 
 use crate::end::{End, Given, LAST_RECOVERY, LAST_SESSION, LAST_TUNNEL};
 use end_model::{Move, Out};
@@ -13,7 +14,8 @@ use id_source::Ids;
 use id_table::Table;
 use session_book::{Book, BookCall, BookTunnel};
 use std::alloc::Global;
-use step_records::Spaces;
+use step_ledger::{BookedLedger, StepFault};
+use step_records::{Spaces, commit_step};
 use tunnel_core::{Moves, Outputs};
 use tunnel_table::TunnelTable;
 use wire_base::NoMemory;
@@ -73,6 +75,17 @@ fn give_up_kept(alloc: Global, book: &Book) -> Result<Given, NoMemory>
     Ok(Given { outputs, moves })
 }
 
+/// Where an end draws its numbers from that starts over a book: above the ceilings that it has.
+fn spaces_above(book: &Book) -> Spaces
+    ensures { result ≡ record { tunnels = space_from 65535 book.now.kept.tunnel_ceiling; sessions = space_from 65534 book.now.kept.session_ceiling; recoveries = space_from 4294967295 book.now.kept.draw_ceiling } }
+{
+    Spaces {
+        tunnels: Ids::from_ceiling(LAST_TUNNEL, book.ceiling(1)),
+        sessions: Ids::from_ceiling(LAST_SESSION, book.ceiling(2)),
+        recoveries: Ids::from_ceiling(LAST_RECOVERY, book.ceiling(3)),
+    }
+}
+
 impl End {
     /// Where the end draws its numbers from. It takes no memory.
     pub fn spaces(&self) -> Spaces
@@ -90,22 +103,38 @@ impl End {
     pub fn fall(&mut self, book: &Book)
         ensures { self.new ≡ bare_end self.old.role self.old.config book.now.kept }
     {
-        self.tunnel_ids = Ids::from_ceiling(LAST_TUNNEL, book.ceiling(1));
-        self.session_ids = Ids::from_ceiling(LAST_SESSION, book.ceiling(2));
-        self.recovery_ids = Ids::from_ceiling(LAST_RECOVERY, book.ceiling(3));
+        self.fall_to(spaces_above(book));
+    }
+
+    /// The same, where it draws from these spaces from then on.
+    fn fall_to(&mut self, spaces: Spaces)
+        requires { (spaces.tunnels.last ≤ 65535) × (spaces.sessions.last ≤ 65535) }
+        ensures { self.new ≡ record (new_end self.old.role self.old.config) { tunnel_ids = spaces.tunnels; session_ids = spaces.sessions; recovery_ids = spaces.recoveries } }
+    {
+        self.tunnel_ids = spaces.tunnels;
+        self.session_ids = spaces.sessions;
+        self.recovery_ids = spaces.recoveries;
         self.tunnels = TunnelTable::new(self.alloc);
         self.calls = Table::new(self.alloc);
     }
 
-    /// The end starts again over a book: each tunnel that was kept goes with its calls, by local ids, and its peer isn't told, as
-    /// the numbers of its control channel are lost. Where memory is wanting, the end is as before.
+    /// The end starts again over the book of its ledger: each tunnel that was kept goes with its calls, by local ids, and its peer isn't
+    /// told, as the numbers of its control channel are lost. That they went is committed first; where it isn't, or memory is wanting,
+    /// the end is as before.
     #[tactic(auto, unfolding(end_model::specs::Starting::starts))]
-    pub fn start(&mut self, book: &Book) -> Result<Given, NoMemory>
-        ensures given { GivesStep result (starts self.old.role self.old.config book.now.kept) self.old self.new }
+    pub fn start<L: BookedLedger>(&mut self, ledger: &mut L) -> Result<Given, StepFault<L::Stop>>
+        requires ledger { L.Ledger.can_commit ledger.old }
+        requires lends { L.can_lend ledger.old }
+        ensures given { GivesStep result (starts self.old.role self.old.config (L.kept ledger.old)) self.old self.new }
+        ensures committed { CommitsStep L.Ledger.commits_to result (starts self.old.role self.old.config (L.kept ledger.old)) self.old ledger.old ledger.new }
         ensures role { self.new.role ≡ self.old.role }
     {
+        let book = ledger.book();
         let given = give_up_kept(self.alloc, book)?;
-        self.fall(book);
+        let after = spaces_above(book);
+        let before = self.spaces();
+        commit_step(self.alloc, ledger, &before, &after, given.moves.as_slice())?;
+        self.fall_to(after);
         Ok(given)
     }
 }

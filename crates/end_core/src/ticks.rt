@@ -5,7 +5,7 @@ ghost use Rattle.std.specs.List.Sorted.{IsStrictlySortedBy};
 ghost use Rattle.std.specs.Ordering.{nat_cmp};
 ghost use Rattle.id_table.specs.Ids.{at, ids_of};
 ghost use Rattle.end_model.specs.End.{env_of, ticks_all};
-ghost use Rattle.end_core.specs.Gives.{GivesStep};
+ghost use Rattle.end_core.specs.Gives.{GivesStep, CommitsStep};
 ghost use Rattle.end_core.specs.Ticking.{tick_at, ticks_at, ArePlanned, HavePlaces, with_ticks, after_plans};
 ghost use Rattle.tunnel_table.specs.Plans.{HasPlace};
 ghost use Rattle.tunnel_table.specs.Tunnels.{tunnels_of};
@@ -14,6 +14,8 @@ use crate::end::{End, Given};
 use call_places::change_looks;
 use end_model::{Config, Event, Role};
 use std::alloc::Global;
+use step_ledger::{Ledger, StepFault};
+use step_records::commit_step;
 use tunnel_core::{Env, Planned};
 use tunnel_table::TunnelTable;
 use wire_base::{NoMemory, Sequence};
@@ -76,10 +78,18 @@ fn make_all(tunnels: &mut TunnelTable, plans: Plans)
 
 impl End {
     /// Time passes: each tunnel takes its turn. Where memory is wanting, the end is as before.
-    pub fn tick_all(&mut self, moment: u64, block: [u8; 16]) -> Result<Given, NoMemory>
+    pub fn tick_all<L: Ledger>(
+        &mut self,
+        ledger: &mut L,
+        moment: u64,
+        block: [u8; 16],
+    ) -> Result<Given, StepFault<L::Stop>>
+        requires ledger { L.can_commit ledger.old }
         ensures given { GivesStep result (ticks_all self.old (env_of self.old moment block)) self.old self.new }
+        ensures committed { CommitsStep L.commits_to result (ticks_all self.old (env_of self.old moment block)) self.old ledger.old ledger.new }
         ensures role { self.new.role ≡ self.old.role }
     {
+        let before = self.spaces();
         let mut env = self.env(moment, block);
         let plans = plan_all(
             &mut self.tunnels,
@@ -88,6 +98,7 @@ impl End {
             &self.config,
             &mut env,
         )?;
+        commit_step(self.alloc, ledger, &before, &before, env.moves.as_slice())?;
         make_all(&mut self.tunnels, plans);
         change_looks(&mut self.calls, env.changes.as_slice());
         Ok(Given {

@@ -195,6 +195,16 @@ nothing_more s before = append-nil before
 pub counted : (n count records most : ℕ) → count ≡ min n 4294967295 → most ≡ 1048576 → records + count ≤ most → count ≡ n
 counted n count records most is size room = omega arith
 
+-- a step without records has none that is in place, and wants no room
+pub none_to_commit : (k : Kept) (rs : List Record) → rs ≡ [] → fitting k rs ≡ []
+unfolding fitting
+none_to_commit k rs none = ap (fitting k) none
+
+pub none_wanted : (rs : List Record) (count spare : ℕ) → count ≡ min (length rs) 4294967295 → rs ≡ [] → count ≤ spare
+none_wanted rs count spare is none =
+    let zero : length rs ≡ 0 = ap length none in
+    omega arith
+
 pub finds_refused : (s after : Stored) (before : List (List ℕ)) (rs : List Record) (o now : Option Held)
     → after ≡ record s { journal = record s.journal { spare = after.journal.spare } } → now ≡ o → IsStored s before o
     → FindsFirst s before rs (after.journal.records - s.journal.records) now

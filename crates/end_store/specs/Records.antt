@@ -1,18 +1,8 @@
 -- Records that come behind those of a book.
-use Rattle.std.specs.Prelude.{◌≡◌, ℕ, List, [], ◌∷◌, map, if◌then◌else◌}
+use Rattle.std.specs.Prelude.{ℕ, List, [], ◌∷◌, map, if◌then◌else◌}
 use Rattle.session_book.specs.declared.record.Record.{Record}
-use Rattle.session_book.specs.declared.record.Record.TheVariants.{Ceiling, TunnelUp, TunnelDown, CallUp, CallDown, Mark}
 use Rattle.session_book.specs.Books.{Kept, fits, stepped}
 use Rattle.session_book.specs.Spelling.{content_of}
-
--- a tunnel comes up without a mark
-abbrev pub IsUnmarked : Record → Type 0
-IsUnmarked (Ceiling space number) = Unit {0}
-IsUnmarked (TunnelUp t) = t.mark ≡ 0
-IsUnmarked (TunnelDown local) = Unit {0}
-IsUnmarked (CallUp c) = Unit {0}
-IsUnmarked (CallDown local) = Unit {0}
-IsUnmarked (Mark tunnel mark) = Unit {0}
 
 -- a book after one more record, which is nothing where it isn't in place
 abbrev pub kept_after : Kept → Record → Kept

@@ -3,7 +3,7 @@
 ghost use Rattle.std.specs.Prelude.{◌≡◌, Some};
 ghost use Rattle.session_book.specs.Records.{record_of};
 ghost use Rattle.session_book.specs.Spelling.{content_of};
-ghost use Rattle.end_store.specs.Records.{IsUnmarked};
+ghost use Rattle.step_ledger.specs.Committing.{IsUnmarked};
 
 use session_book::{Record, call_down, call_up, ceiling, mark, tunnel_down, tunnel_up};
 

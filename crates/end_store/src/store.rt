@@ -8,7 +8,8 @@ ghost use Rattle.checkpoint_journal.specs.Answers.{Opens, OpenHasCause, IsUnwrit
 ghost use Rattle.session_book.specs.Books.{fits, book_of};
 ghost use Rattle.session_book.specs.Records.{record_of};
 ghost use Rattle.session_book.specs.Spelling.{content_of};
-ghost use Rattle.end_store.specs.Records.{IsUnmarked, fitting, spelled};
+ghost use Rattle.step_ledger.specs.Committing.{IsUnmarked};
+ghost use Rattle.end_store.specs.Records.{fitting, spelled};
 ghost use Rattle.end_store.specs.Stored.{placed, reads, IsRead, prepared, with_record, with_records, IsStored, IsKept, IsLeftBehind, FindsFirst, StepHasCause, StepLeaves};
 
 use crate::spelling::spell;
@@ -123,13 +124,14 @@ impl Store {
     }
 
     /// Makes room for so many records: on the disk, for the calls of each, and in the book. It makes no call of the device. Where
-    /// it is refused, the store is as before but for the room on its disk.
+    /// it is refused, the store is as before but for the room on its disk. Where the disk has room already, it is left alone.
     pub fn prepare<D: Disk>(&mut self, disk: &mut D, count: u32) -> Result<(), JournalRoom>
         requires room { self.old.journal.halted ≡ false → HasRoom D.reach D.calls_left self.old.journal disk.old }
         ensures room { self.old.journal.halted ≡ false → HasRoom D.reach D.calls_left self.new.journal disk.new }
         ensures ok { OnOk result (self.new ≡ prepared count self.old) }
         ensures err { OnErr result (self.new ≡ record self.old { journal = record self.old.journal { spare = self.new.journal.spare } }) }
         ensures disk { D.holds disk.new ≡ D.holds disk.old }
+        ensures untouched { count ≤ self.old.journal.spare → disk.new ≡ disk.old }
         ensures stored { (contents : List (List ℕ)) → IsStored self.old contents (D.holds disk.old) → IsStored self.new contents (D.holds disk.new) }
         ensures faults { D.faults disk.new ≡ D.faults disk.old }
         ensures cause { RoomHasCause self.old.journal count result }
@@ -201,6 +203,7 @@ impl Store {
 
     /// Commits the records of a step: makes room for all of them, and then commits one behind the other. Where it is refused but
     /// by a fault, the store is as before but for the room on its disk. Its condition is that no tunnel comes up with a mark.
+    /// A step without records doesn't touch the disk, nor does one with none that is in place where there is room already.
     pub fn commit_step<D: Disk>(
         &mut self,
         disk: &mut D,
@@ -212,6 +215,8 @@ impl Store {
         ensures state { OnOk result (self.new ≡ with_records (prepared (length records.now) self.old) records.now) }
         ensures cause { StepHasCause records.now self.old self.new (D.faults disk.old) (D.faults disk.new) result }
         ensures refused { StepLeaves self.old self.new (D.holds disk.old) (D.holds disk.new) result }
+        ensures untouched { records.now ≡ [] → disk.new ≡ disk.old }
+        ensures none_in_place { length records.now ≤ self.old.journal.spare → fitting self.old.kept records.now ≡ [] → disk.new ≡ disk.old }
         ensures tells { is_some (D.holds disk.new) ≡ is_some (D.holds disk.old) }
 
         // At `Ok` the disk has the contents from before, and behind them those of the records that are in place.

@@ -15,7 +15,7 @@ ghost use Rattle.end_model.specs.Starting.{bare_end};
 ghost use Rattle.end_core.specs.Fits.{fits};
 ghost use Rattle.end_core.specs.Rows.{tunnel_rows};
 ghost use Rattle.end_core.specs.Sessions.{subscriber_at};
-ghost use Rattle.lac_core.specs.Gives.{GivesServed, GivesStart, starts_with};
+ghost use Rattle.lac_core.specs.Gives.{GivesServed, GivesStart, CommitsServed, starts_with};
 
 mod answers;
 mod ends;
@@ -31,6 +31,7 @@ use session_book::Book;
 use session_looks::Look;
 use std::alloc::Global;
 use std::marker::Model;
+use step_ledger::{BookedLedger, Ledger, StepFault};
 use tunnel_core::{Moves, Outputs};
 use wire_base::{Bytes, Cause, NoMemory, Why};
 
@@ -157,54 +158,89 @@ impl Lac {
         self.kept = Table::new(self.alloc);
     }
 
-    /// The LAC starts again over the book of its checkpoint, with a new key for its cookies: each tunnel that was kept goes with its
-    /// calls, by local ids, and the hosts of those calls are known, so that each is told by a PADT. Where memory is wanting, the LAC
-    /// is as before.
-    pub fn start(&mut self, key: [u8; 16], book: &Book) -> Result<Given, NoMemory>
-        ensures given { GivesStart result (starts_with self.old key book.now.kept) self.old self.new }
+    /// The LAC starts again over the book of its ledger, with a new key for its cookies: each tunnel that was kept goes with its calls, by
+    /// local ids, and the hosts of those calls are known, so that each is told by a PADT. That the tunnels went is committed first. Where
+    /// it isn't, or memory is wanting, the LAC is as before.
+    pub fn start<L: BookedLedger>(
+        &mut self,
+        ledger: &mut L,
+        key: [u8; 16],
+    ) -> Result<Given, StepFault<L::Stop>>
+        requires ledger { L.Ledger.can_commit ledger.old }
+        requires lends { L.can_lend ledger.old }
+        ensures given { GivesStart result (starts_with self.old key (L.kept ledger.old)) self.old self.new }
+        ensures committed { CommitsServed L.Ledger.commits_to result (starts_with self.old key (L.kept ledger.old)) self.old ledger.old ledger.new }
         ensures role { self.old.end.role ≡ roles.Lac }
     {
-        let kept = keep_hosts(self.alloc, book.calls().as_slice())?;
-        let given = self.end.start(book)?;
+        let kept = keep_hosts(self.alloc, ledger.book().calls().as_slice())?;
+        let given = self.end.start(ledger)?;
         self.key = key;
         self.hosts = Table::new(self.alloc);
         self.kept = kept;
         Ok(given)
     }
 
-    /// What comes is ignored.
-    fn ignore(&self, why: Why) -> Result<LacGiven, NoMemory>
-        ensures { GivesServed result (as_it_was self.now (outs.Drop why ∷ []) None) self.now self.now }
+    /// Gives this, and changes nothing: the ledger is asked all the same.
+    fn tell<L: Ledger>(
+        &self,
+        ledger: &mut L,
+        outputs: Outputs,
+        reply: Option<Bytes>,
+    ) -> Result<LacGiven, StepFault<L::Stop>>
+        requires { L.can_commit ledger.old }
+        ensures given { GivesServed result (as_it_was self.now outputs reply) self.now self.now }
+        ensures committed { CommitsServed L.commits_to result (as_it_was self.now outputs reply) self.now ledger.old ledger.new }
     {
-        let mut outputs = Outputs::new(self.alloc);
-        outputs.push(Out::Drop { why })?;
+        self.end.commit_moves(ledger, &[])?;
         Ok(LacGiven {
             outputs,
             moves: Moves::new(self.alloc),
-            reply: None,
+            reply,
         })
     }
 
+    /// What comes is ignored.
+    fn ignore<L: Ledger>(&self, ledger: &mut L, why: Why) -> Result<LacGiven, StepFault<L::Stop>>
+        requires { L.can_commit ledger.old }
+        ensures given { GivesServed result (as_it_was self.now (outs.Drop why ∷ []) None) self.now self.now }
+        ensures committed { CommitsServed L.commits_to result (as_it_was self.now (outs.Drop why ∷ []) None) self.now ledger.old ledger.new }
+    {
+        let mut outputs = Outputs::new(self.alloc);
+        outputs.push(Out::Drop { why })?;
+        self.tell(ledger, outputs, None)
+    }
+
     /// A host is answered, and the cause told where there is one.
-    fn answer(&self, because: Option<Cause>, frame: Bytes) -> Result<LacGiven, NoMemory>
-        ensures { GivesServed result (as_it_was self.now (told_because because) (Some frame)) self.now self.now }
+    fn answer<L: Ledger>(
+        &self,
+        ledger: &mut L,
+        because: Option<Cause>,
+        frame: Bytes,
+    ) -> Result<LacGiven, StepFault<L::Stop>>
+        requires { L.can_commit ledger.old }
+        ensures given { GivesServed result (as_it_was self.now (told_because because) (Some frame)) self.now self.now }
+        ensures committed { CommitsServed L.commits_to result (as_it_was self.now (told_because because) (Some frame)) self.now ledger.old ledger.new }
     {
         let mut outputs = Outputs::new(self.alloc);
         if let Some(cause) = because {
             outputs.push(Out::Cause { cause })?;
         }
-        Ok(LacGiven {
-            outputs,
-            moves: Moves::new(self.alloc),
-            reply: Some(frame),
-        })
+        self.tell(ledger, outputs, Some(frame))
     }
 
     /// A step of the end, which answers no host.
-    fn run(&mut self, moment: u64, block: [u8; 16], event: &Event) -> Result<LacGiven, NoMemory>
-        ensures { GivesServed result (of_step self.old.access None (step self.old.end moment block event.now)) self.old self.new }
+    fn run<L: Ledger>(
+        &mut self,
+        ledger: &mut L,
+        moment: u64,
+        block: [u8; 16],
+        event: &Event,
+    ) -> Result<LacGiven, StepFault<L::Stop>>
+        requires { L.can_commit ledger.old }
+        ensures given { GivesServed result (of_step self.old.access None (step self.old.end moment block event.now)) self.old self.new }
+        ensures committed { CommitsServed L.commits_to result (of_step self.old.access None (step self.old.end moment block event.now)) self.old ledger.old ledger.new }
     {
-        let given = ends::step(&mut self.end, moment, block, event)?;
+        let given = ends::step(&mut self.end, ledger, moment, block, event)?;
         Ok(LacGiven {
             outputs: given.outputs,
             moves: given.moves,
@@ -223,18 +259,21 @@ impl Lac {
     /// `node`, as is that a host was admitted, and one of a call or a tunnel that isn't live with `call` or `tunnel`. Where
     /// memory is wanting, the LAC is as before.
     #[tactic(auto, unfolding(end_model::specs::Access::serves))]
-    pub fn step(
+    pub fn step<L: Ledger>(
         &mut self,
+        ledger: &mut L,
         moment: u64,
         block: [u8; 16],
         event: &Event,
-    ) -> Result<LacGiven, NoMemory>
-        ensures { GivesServed result (serves self.old moment block event.now) self.old self.new }
+    ) -> Result<LacGiven, StepFault<L::Stop>>
+        requires { L.can_commit ledger.old }
+        ensures given { GivesServed result (serves self.old moment block event.now) self.old self.new }
+        ensures committed { CommitsServed L.commits_to result (serves self.old moment block event.now) self.old ledger.old ledger.new }
     {
         match event {
-            Event::Frame { bytes } => self.take_frame(moment, block, bytes.as_slice()),
-            Event::Admitted { .. } => self.ignore(Why::Node),
-            _ => self.run(moment, block, event),
+            Event::Frame { bytes } => self.take_frame(ledger, moment, block, bytes.as_slice()),
+            Event::Admitted { .. } => self.ignore(ledger, Why::Node),
+            _ => self.run(ledger, moment, block, event),
         }
     }
 }

@@ -8,7 +8,7 @@ ghost use Rattle.end_names.specs.declared.role.Role.TheVariants as roles;
 ghost use Rattle.end_model.specs.End.{new_end, plain_step, step, look_in};
 ghost use Rattle.end_model.specs.Starting.{bare_end, starts};
 ghost use Rattle.end_core.specs.Fits.{fits};
-ghost use Rattle.end_core.specs.Gives.{GivesStep};
+ghost use Rattle.end_core.specs.Gives.{GivesStep, CommitsStep};
 ghost use Rattle.end_core.specs.Rows.{tunnel_rows};
 
 use end_core::{End, EndRows, Given};
@@ -17,6 +17,7 @@ use session_book::Book;
 use session_looks::Look;
 use std::alloc::Global;
 use std::marker::Model;
+use step_ledger::{BookedLedger, Ledger, StepFault};
 use wire_base::{NoMemory, Why};
 
 /// An LNS.
@@ -83,52 +84,74 @@ impl Lns {
         self.end.fall(book);
     }
 
-    /// The LNS starts again over the book of its checkpoint: each tunnel that was kept goes with its calls, by local ids. Where
-    /// memory is wanting, the LNS is as before.
-    pub fn start(&mut self, book: &Book) -> Result<Given, NoMemory>
-        ensures given { GivesStep result (starts self.old.role self.old.config book.now.kept) self.old self.new }
+    /// The LNS starts again over the book of its ledger: each tunnel that was kept goes with its calls, by local ids. That they went is
+    /// committed first. Where it isn't, or memory is wanting, the LNS is as before.
+    pub fn start<L: BookedLedger>(&mut self, ledger: &mut L) -> Result<Given, StepFault<L::Stop>>
+        requires ledger { L.Ledger.can_commit ledger.old }
+        requires lends { L.can_lend ledger.old }
+        ensures given { GivesStep result (starts self.old.role self.old.config (L.kept ledger.old)) self.old self.new }
+        ensures committed { CommitsStep L.Ledger.commits_to result (starts self.old.role self.old.config (L.kept ledger.old)) self.old ledger.old ledger.new }
         ensures role { self.old.role ≡ roles.Lns }
     {
-        self.end.start(book)
+        self.end.start(ledger)
     }
 
     /// A step on an event of which nothing is hidden.
     #[tactic(auto, unfolding(end_model::specs::End::plain_step, end_model::specs::End::step_in, end_model::specs::End::only_by))]
-    fn plain_step(&mut self, moment: u64, block: [u8; 16], event: &Event) -> Result<Given, NoMemory>
-        ensures { GivesStep result (plain_step self.old moment block event.now) self.old self.new }
+    fn plain_step<L: Ledger>(
+        &mut self,
+        ledger: &mut L,
+        moment: u64,
+        block: [u8; 16],
+        event: &Event,
+    ) -> Result<Given, StepFault<L::Stop>>
+        requires { L.can_commit ledger.old }
+        ensures given { GivesStep result (plain_step self.old moment block event.now) self.old self.new }
+        ensures committed { CommitsStep L.commits_to result (plain_step self.old moment block event.now) self.old ledger.old ledger.new }
     {
         match event {
             Event::Datagram { peer, bytes } => {
                 self.end
-                    .receive(moment, block, event, *peer, bytes.as_slice())
+                    .receive(ledger, moment, block, event, *peer, bytes.as_slice())
             }
             Event::Lower { session, .. }
             | Event::Lcp { session, .. }
             | Event::DropCall { session } => {
-                self.end.run_for_call(moment, block, event, *session)
+                self.end
+                    .run_for_call(ledger, moment, block, event, *session)
             }
             Event::CloseTunnel { tunnel } => {
-                self.end.run_main(moment, block, event, u32::from(*tunnel))
+                self.end
+                    .run_main(ledger, moment, block, event, u32::from(*tunnel))
             }
-            Event::Tick => self.end.tick_all(moment, block),
+            Event::Tick => self.end.tick_all(ledger, moment, block),
             Event::Ring { .. }
             | Event::Frame { .. }
             | Event::Admitted { .. }
             | Event::Payload { .. }
             | Event::Hang { .. }
-            | Event::OpenTunnel => self.end.drop_with(Why::Node),
+            | Event::OpenTunnel => self.end.drop_with(ledger, Why::Node),
         }
     }
 
     /// A step of the LNS on an event, at a moment in milliseconds, with a block of random bytes. What a datagram hides by the
     /// LNS's secret is uncovered first (RFC 2661 section 4.3). An event of a LAC is dropped with `node`, and one of a call or a
-    /// tunnel that isn't live with `call` or `tunnel`. Where memory is wanting, the LNS is as before.
-    pub fn step(&mut self, moment: u64, block: [u8; 16], event: &Event) -> Result<Given, NoMemory>
-        ensures { GivesStep result (step self.old moment block event.now) self.old self.new }
+    /// tunnel that isn't live with `call` or `tunnel`. What the step leaves is committed to the ledger before it is made. Where it
+    /// isn't, or memory is wanting, the LNS is as before.
+    pub fn step<L: Ledger>(
+        &mut self,
+        ledger: &mut L,
+        moment: u64,
+        block: [u8; 16],
+        event: &Event,
+    ) -> Result<Given, StepFault<L::Stop>>
+        requires { L.can_commit ledger.old }
+        ensures given { GivesStep result (step self.old moment block event.now) self.old self.new }
+        ensures committed { CommitsStep L.commits_to result (step self.old moment block event.now) self.old ledger.old ledger.new }
     {
         match self.end.plain_event(event)? {
-            None => self.plain_step(moment, block, event),
-            Some(plain) => self.plain_step(moment, block, &plain),
+            None => self.plain_step(ledger, moment, block, event),
+            Some(plain) => self.plain_step(ledger, moment, block, &plain),
         }
     }
 }

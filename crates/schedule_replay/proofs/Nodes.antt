@@ -1,47 +1,55 @@
 -- A node commits what a step of its end leaves.
-use Rattle.std.proofs.Common.{◌≡◌, ℕ, List, refl, sym, ap, ◌∙◌, Result, Ok, Err}
-use Rattle.wire_base.specs.declared.bytes.NoMemory.{NoMemory}
-use Rattle.end_model.specs.Contents.{contents_of}
-use Rattle.end_model.specs.End.{drawing_of}
-use Rattle.end_model.specs.Tunnels.{Drawing}
-use Rattle.world_model.specs.World.{Node, Checkpoint, IsCut, IsWhole, fallen}
+use Rattle.std.proofs.Common.{◌≡◌, ℕ, Bool, List, refl, sym, ap, ◌∙◌, Result, Ok, Err}
+use Rattle.std.specs.Prelude.{⊤}
+use Rattle.session_book.specs.declared.record.Record.{Record}
+use Rattle.end_names.specs.declared.role.Role.{Role}
+use Rattle.end_model.specs.declared.tunnel.Config.{Config}
+use Rattle.step_ledger.specs.declared.ledger.StepFault.{StepFault}
+use Rattle.step_ledger.specs.declared.ledger.StepFault.TheVariants as fault
+use Rattle.step_ledger.specs.Committing.{Commits}
+use Rattle.world_model.specs.World.{Node, Checkpoint, commits, fallen}
+use Rattle.world_checkpoint.specs.declared.checkpoint.CommitStop.{CommitStop}
+use Rattle.world_checkpoint.specs.declared.checkpoint.CommitStop.TheVariants as stop
+use Rattle.world_checkpoint.specs.Held.{Held, CommitsTo}
 use Rattle.schedule_replay.specs.declared.kinds.Moved.{Moved}
-use Rattle.schedule_replay.specs.declared.node.Made.{Made}
-use Rattle.schedule_replay.specs.declared.node.Made.TheVariants.{Whole, Cut, Full}
-use Rattle.schedule_replay.specs.Serving.{SiteStep, site_commits, moved_commits, CommitsMoved, MakesStep}
+use Rattle.schedule_replay.specs.declared.node.Unmade.{Unmade}
+use Rattle.schedule_replay.specs.declared.node.Unmade.TheVariants as unmade
+use Rattle.schedule_replay.specs.Kinds.{Site, site_in}
+use Rattle.schedule_replay.specs.Serving.{SiteStep, site_contents, GivesSite, IsLeft, MakesStep}
+use Rattle.schedule_replay.proofs.Keeps.{who}
 
--- all records were committed
-pub whole_moved : (block : List ℕ) (before : Drawing) (g : Moved) (old new : Node) (k : Checkpoint) → moved_commits old before g ≡ IsWhole k
-    → new ≡ record old { checkpoint = k } → CommitsMoved (Ok (Whole g)) block before g old new
-whole_moved block before g old new k e is = (k, e, is, refl)
+-- how a checkpoint is committed to
+abbrev pub committing : Held → List Record → Result ⊤ CommitStop → Held → Type 0
+committing before records result after = CommitsTo result (commits before.checkpoint records) before.checkpoint after.checkpoint
 
--- a stop cut them off, and the node fell
-pub cut_moved : (block : List ℕ) (before : Drawing) (g : Moved) (old mid new : Node) (k : Checkpoint) → moved_commits old before g ≡ IsCut k
-    → mid ≡ record old { checkpoint = k } → new ≡ fallen block mid mid.checkpoint → CommitsMoved (Ok Cut) block before g old new
-unfolding fallen
-cut_moved block before g old mid new k e is falls = (k, e, falls ∙ rw is refl)
+module _ (block : List ℕ) (x : Node) (v : SiteStep) (held after : Held) (same : held.checkpoint ≡ x.checkpoint) where
+  -- all records were committed
+  pub step_made : (g : Moved) (site : Site) (new : Node) → GivesSite {F = StepFault CommitStop} (Ok g) v (site_in x) site → Commits committing (Ok g) (site_contents (site_in x) v) held after
+      → new ≡ record x { end = site.end; access = site.access; checkpoint = after.checkpoint } → MakesStep (Ok g) block v x new
+  step_made g site new given committed is = (
+    after.checkpoint,
+    ap (λ (k : Checkpoint). commits k (site_contents (site_in x) v)) (sym same) ∙ committed,
+    is ∙ rw given refl,
+    sym (ap (λ (q : SiteStep). q.outputs) given),
+    sym (ap (λ (q : SiteStep). q.moves) given),
+    sym (ap (λ (q : SiteStep). q.reply) given),
+  )
 
--- the node after its end's step, and before anything of it is committed
-abbrev pub made_at : Node → SiteStep → Node
-made_at x v = record x { end = v.site.end; access = v.site.access }
-
-same_commits : (x mid : Node) (v : SiteStep) (g : Moved) → mid ≡ made_at x v → g.moves ≡ v.moves
-    → site_commits x v ≡ moved_commits mid (drawing_of x.end) g
-unfolding contents_of
-same_commits x mid v g is moves = rw (is, moves) refl
-
-pub makes_step : (r : Result Made NoMemory) (block : List ℕ) (x mid new : Node) (v : SiteStep) (g : Moved) → mid ≡ made_at x v
-    → g.outputs ≡ v.outputs → g.moves ≡ v.moves → g.reply ≡ v.reply
-    → CommitsMoved r block (drawing_of x.end) g mid new → MakesStep r block v x new
-unfolding fallen
-makes_step (Ok (Whole h)) block x mid new v g is outputs moves reply c = (
-  c.0,
-  same_commits x mid v g is moves ∙ c.1,
-  c.2 ∙ rw is refl,
-  ap (λ (q : Moved). q.outputs) c.3 ∙ outputs,
-  ap (λ (q : Moved). q.moves) c.3 ∙ moves,
-  ap (λ (q : Moved). q.reply) c.3 ∙ reply,
-)
-makes_step (Ok Cut) block x mid new v g is outputs moves reply c = (c.0, same_commits x mid v g is moves ∙ c.1, c.2 ∙ rw is refl)
-makes_step (Ok (Full records)) block x mid new v g is outputs moves reply c = same_commits x mid v g is moves ∙ c
-makes_step (Err e) block x mid new v g is outputs moves reply c = tt
+  -- or why they weren't
+  pub step_left : (u : Unmade) (f : StepFault CommitStop) (up : Bool) (mid new : Node) → who v.site.end ≡ who x.end
+      → Commits {T = Moved} committing (Err f) (site_contents (site_in x) v) held after → mid ≡ record x { up = up; checkpoint = after.checkpoint }
+      → IsLeft u f block mid new → MakesStep (Err u) block v x new
+  unfolding fallen
+  step_left unmade.Cut (fault.Uncommitted stop.Cut) up mid new keeps committed is left =
+      let role : v.site.end.role ≡ x.end.role = ap (λ (p : Role × Config). p.0) keeps in
+      let config : v.site.end.config ≡ x.end.config = ap (λ (p : Role × Config). p.1) keeps in
+      (after.checkpoint, ap (λ (k : Checkpoint). commits k (site_contents (site_in x) v)) (sym same) ∙ committed, left ∙ rw (is, role, config) refl)
+  step_left unmade.Cut (fault.Uncommitted stop.NoMemory) up mid new keeps committed is left = absurd left
+  step_left unmade.Cut (fault.Uncommitted (stop.Full records)) up mid new keeps committed is left = absurd left
+  step_left unmade.Cut fault.NoMemory up mid new keeps committed is left = absurd left
+  step_left (unmade.Full records) (fault.Uncommitted (stop.Full told)) up mid new keeps committed is left =
+      rw left.0 (ap (λ (k : Checkpoint). commits k (site_contents (site_in x) v)) (sym same) ∙ committed.0)
+  step_left (unmade.Full records) (fault.Uncommitted stop.NoMemory) up mid new keeps committed is left = absurd left
+  step_left (unmade.Full records) (fault.Uncommitted stop.Cut) up mid new keeps committed is left = absurd left
+  step_left (unmade.Full records) fault.NoMemory up mid new keeps committed is left = absurd left
+  step_left unmade.NoMemory f up mid new keeps committed is left = tt

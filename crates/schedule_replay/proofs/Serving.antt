@@ -25,8 +25,9 @@ use Rattle.world_model.specs.World.{World, Node, Sender, sender_of, arrival, ref
 use Rattle.schedule_replay.specs.Counting.{ups_with, ups_after}
 use Rattle.schedule_replay.specs.declared.fault.LineFault.{LineFault}
 use Rattle.schedule_replay.specs.declared.fault.LineFault.TheVariants.{Refused, NoMemory as OutOfMemory}
-use Rattle.schedule_replay.specs.declared.node.Made.{Made}
-use Rattle.schedule_replay.specs.declared.node.Made.TheVariants.{Whole, Cut, Full}
+use Rattle.schedule_replay.specs.declared.kinds.Moved.{Moved}
+use Rattle.schedule_replay.specs.declared.node.Unmade.{Unmade}
+use Rattle.schedule_replay.specs.declared.node.Unmade.TheVariants as unmade
 use Rattle.schedule_replay.specs.Fault.{Told, LeadsTo, Says}
 use Rattle.schedule_replay.specs.Kinds.{site_in}
 use Rattle.schedule_replay.specs.Serving.{SiteStep, by_served, step_with, site_step, site_start, end_step, site_commits, MakesStep, frames_unfit, start_unfit, reply_entries, moved_to, whole_line, served_by, served_line, served_at, start_served, IsPlain, ShowsMade}
@@ -147,11 +148,11 @@ both_ups n (e ∷ es) fs = both_ups (ups_with n e) es fs
 -- ---- what a line says
 
 -- a node's step that was made, and then shown
-pub made_says : {T : Type 0} (r : Result T LineFault) (made : Made) (line n : ℕ) (x y : Node) (v : SiteStep) (old mid new : Told)
-    → MakesStep (Ok made) (block_of n line) v x y → mid.world ≡ with_node old.world n y → mid.report ≡ old.report → mid.ups ≡ old.ups
+pub made_says : {T : Type 0} (r : Result T LineFault) (made : Result Moved Unmade) (line n : ℕ) (x y : Node) (v : SiteStep) (old mid new : Told)
+    → MakesStep made (block_of n line) v x y → mid.world ≡ with_node old.world n y → mid.report ≡ old.report → mid.ups ≡ old.ups
     → ShowsMade r made line n mid new → Says r (served_line old.world line n x v) old new
 unfolding served_line whole_line moved_to cut_line
-made_says (Ok t) (Whole g) line n x y v old mid new m world report ups h =
+made_says (Ok t) (Ok g) line n x y v old mid new m world report ups h =
     let v1 : moved_all n g.moves mid.world ≡ moved_to old.world n x v m.0 = rw (world, m.2, m.4) refl in
     subst (λ (c : Committed). Says (Ok t) (served_by old.world line n x v c) old new) (sym m.1)
     (record {
@@ -159,14 +160,16 @@ made_says (Ok t) (Whole g) line n x y v old mid new m world report ups h =
       report = h.1 ∙ rw (report, m.3, v1, m.5) refl;
       ups = h.2 ∙ rw (ups, m.3, v1, m.5) refl;
     })
-made_says (Ok t) Cut line n x y v old mid new m world report ups h =
+made_says (Ok t) (Err unmade.Cut) line n x y v old mid new m world report ups h =
     subst (λ (c : Committed). Says (Ok t) (served_by old.world line n x v c) old new) (sym m.1)
     (record { world = h.0 ∙ world ∙ rw m.2 refl; report = h.1 ∙ rw report refl; ups = h.2 ∙ ups })
-made_says (Ok t) (Full records) line n x y v old mid new m world report ups h = absurd h
-made_says (Err (Refused e)) (Whole g) line n x y v old mid new m world report ups h = absurd h
-made_says (Err (Refused e)) Cut line n x y v old mid new m world report ups h = absurd h
-made_says (Err (Refused e)) (Full records) line n x y v old mid new m world report ups h =
+made_says (Ok t) (Err (unmade.Full records)) line n x y v old mid new m world report ups h = absurd h
+made_says (Ok t) (Err unmade.NoMemory) line n x y v old mid new m world report ups h = absurd h
+made_says (Err (Refused e)) (Ok g) line n x y v old mid new m world report ups h = absurd h
+made_says (Err (Refused e)) (Err unmade.Cut) line n x y v old mid new m world report ups h = absurd h
+made_says (Err (Refused e)) (Err (unmade.Full records)) line n x y v old mid new m world report ups h =
     rw h.0 (ap (λ (c : Committed). served_by old.world line n x v c) m, (rw h.1 report, rw h.1 ups))
+made_says (Err (Refused e)) (Err unmade.NoMemory) line n x y v old mid new m world report ups h = absurd h
 made_says (Err OutOfMemory) made line n x y v old mid new m world report ups h = tt
 
 -- a step on an event that isn't of a LAC's access, of a node that is up

@@ -3,7 +3,6 @@ use Rattle.std.specs.Prelude.{◌≡◌, ℕ, List, [], ◌∷◌, ◌++◌, tru
 use Rattle.wire_base.specs.declared.why.Why.{Why}
 use Rattle.wire_base.specs.declared.why.Why.TheVariants as why
 use Rattle.end_model.specs.Calls.{is_lac}
-use Rattle.wire_base.specs.declared.bytes.NoMemory.{NoMemory}
 use Rattle.end_model.specs.declared.event.Event.{Event}
 use Rattle.end_model.specs.declared.event.Event.TheVariants.{Datagram, Ring, Frame, Admitted, Payload, Lower, Lcp, Hang, OpenTunnel, DropCall, CloseTunnel, Tick}
 use Rattle.end_model.specs.declared.moves.Move.{Move}
@@ -13,9 +12,12 @@ use Rattle.end_names.specs.declared.role.Role.{Role}
 use Rattle.session_book.specs.Books.{Kept}
 use Rattle.end_model.specs.declared.tunnel.Config.{Config}
 use Rattle.end_model.specs.Contents.{contents_of}
-use Rattle.end_model.specs.End.{Stepped, step, drawing_of}
-use Rattle.end_model.specs.Tunnels.{Drawing}
-use Rattle.step_records.specs.Leaving.{leaves}
+use Rattle.end_model.specs.End.{Stepped, step}
+use Rattle.session_book.specs.declared.record.Record.{Record}
+use Rattle.step_ledger.specs.declared.ledger.StepFault.{StepFault}
+use Rattle.step_ledger.specs.declared.ledger.StepFault.TheVariants as fault
+use Rattle.world_checkpoint.specs.declared.checkpoint.CommitStop.{CommitStop}
+use Rattle.world_checkpoint.specs.declared.checkpoint.CommitStop.TheVariants as stop
 use Rattle.end_model.specs.Starting.{starts, access_over}
 use Rattle.world_model.specs.Texts.{Entry, Frames, Stopped, entries_text}
 use Rattle.schedule_replay.specs.declared.fault.LineFault.{LineFault}
@@ -26,8 +28,8 @@ use Rattle.world_model.specs.declared.refusal.Refusal.{Refusal}
 use Rattle.world_model.specs.declared.refusal.Refusal.TheVariants.{StoreFull}
 use Rattle.world_model.specs.World.{World, Node, Checkpoint, Lined, Committed, IsFull, IsCut, IsWhole, quiet_line, with_node, moved_all, shown_all, entries_of, block_of, commits, fallen, cut_line}
 use Rattle.schedule_replay.specs.declared.kinds.Moved.{Moved}
-use Rattle.schedule_replay.specs.declared.node.Made.{Made}
-use Rattle.schedule_replay.specs.declared.node.Made.TheVariants.{Whole, Cut, Full}
+use Rattle.schedule_replay.specs.declared.node.Unmade.{Unmade}
+use Rattle.schedule_replay.specs.declared.node.Unmade.TheVariants as unmade
 use Rattle.schedule_replay.specs.Kinds.{Site, site_in}
 
 -- the next end with what it keeps of hosts, what the step gave, and the frame that answers a host behind all that
@@ -50,8 +52,8 @@ step_with s (Some a) moment block ev = by_served (serves (record { end = s.end; 
 unfoldable pub site_step : Site → ℕ → List ℕ → Event → SiteStep
 site_step s moment block ev = step_with s s.access moment block ev
 
--- the step is this, or the end is as before, where memory was wanting
-abbrev pub GivesSite : Result Moved NoMemory → SiteStep → Site → Site → Type 0
+-- the step is this, or the end is as before, where it wasn't made
+abbrev pub GivesSite : {F : Type 0} → Result Moved F → SiteStep → Site → Site → Type 0
 GivesSite (Ok g) s old new = s ≡ record { site = new; outputs = g.outputs; moves = g.moves; reply = g.reply }
 GivesSite (Err e) s old new = new ≡ old
 
@@ -69,9 +71,13 @@ site_start r c key k = record {
 abbrev pub end_step : SiteStep → Stepped
 end_step v = record { end = v.site.end; outputs = v.outputs; moves = v.moves }
 
+-- what a step leaves
+abbrev pub site_contents : Site → SiteStep → List Record
+site_contents s v = contents_of s.end (end_step v)
+
 -- what comes of the records of a node's step
 abbrev pub site_commits : Node → SiteStep → Committed
-site_commits x v = commits x.checkpoint (contents_of x.end (end_step v))
+site_commits x v = commits x.checkpoint (site_contents (site_in x) v)
 
 -- the node after it, where all of them were committed, and where it fell, with this block
 abbrev pub after_site : Node → SiteStep → Checkpoint → Node
@@ -80,25 +86,26 @@ after_site x v k = record x { end = v.site.end; access = v.site.access; checkpoi
 abbrev pub fallen_site : List ℕ → Node → SiteStep → Checkpoint → Node
 fallen_site block x v k = fallen block (record x { end = v.site.end }) k
 
--- what comes of the records of what a node's end gave, which is as the step left it, and whose spaces were these before
-abbrev pub moved_commits : Node → Drawing → Moved → Committed
-moved_commits x before g = commits x.checkpoint (leaves before (drawing_of x.end) g.moves)
-
-abbrev pub CommitsMoved : Result Made NoMemory → List ℕ → Drawing → Moved → Node → Node → Type 0
-CommitsMoved (Ok (Whole g)) block before moved old new =
-    (k : Checkpoint) × (moved_commits old before moved ≡ IsWhole k) × (new ≡ record old { checkpoint = k }) × (g ≡ moved)
-CommitsMoved (Ok Cut) block before moved old new = (k : Checkpoint) × (moved_commits old before moved ≡ IsCut k) × (new ≡ fallen block old k)
-CommitsMoved (Ok (Full records)) block before moved old new = moved_commits old before moved ≡ IsFull records
-CommitsMoved (Err e) block before moved old new = Unit {0}
+-- why a node's step wasn't made, by the fault of its end's: where a stop cut it off, the node fell
+abbrev pub IsLeft : Unmade → StepFault CommitStop → List ℕ → Node → Node → Type 0
+IsLeft unmade.Cut (fault.Uncommitted stop.Cut) block old new = new ≡ fallen block old old.checkpoint
+IsLeft unmade.Cut (fault.Uncommitted stop.NoMemory) block old new = ⊥
+IsLeft unmade.Cut (fault.Uncommitted (stop.Full records)) block old new = ⊥
+IsLeft unmade.Cut fault.NoMemory block old new = ⊥
+IsLeft (unmade.Full records) (fault.Uncommitted (stop.Full told)) block old new = (records ≡ told) × (new ≡ old)
+IsLeft (unmade.Full records) (fault.Uncommitted stop.NoMemory) block old new = ⊥
+IsLeft (unmade.Full records) (fault.Uncommitted stop.Cut) block old new = ⊥
+IsLeft (unmade.Full records) fault.NoMemory block old new = ⊥
+IsLeft unmade.NoMemory f block old new = Unit {0}
 
 -- a node's step is this, as far as memory sufficed
-abbrev pub MakesStep : Result Made NoMemory → List ℕ → SiteStep → Node → Node → Type 0
-MakesStep (Ok (Whole g)) block v old new =
+abbrev pub MakesStep : Result Moved Unmade → List ℕ → SiteStep → Node → Node → Type 0
+MakesStep (Ok g) block v old new =
     (k : Checkpoint) × (site_commits old v ≡ IsWhole k) × (new ≡ after_site old v k)
     × (g.outputs ≡ v.outputs) × (g.moves ≡ v.moves) × (g.reply ≡ v.reply)
-MakesStep (Ok Cut) block v old new = (k : Checkpoint) × (site_commits old v ≡ IsCut k) × (new ≡ fallen_site block old v k)
-MakesStep (Ok (Full records)) block v old new = site_commits old v ≡ IsFull records
-MakesStep (Err e) block v old new = Unit {0}
+MakesStep (Err unmade.Cut) block v old new = (k : Checkpoint) × (site_commits old v ≡ IsCut k) × (new ≡ fallen_site block old v k)
+MakesStep (Err (unmade.Full records)) block v old new = site_commits old v ≡ IsFull records
+MakesStep (Err unmade.NoMemory) block v old new = Unit {0}
 
 -- ---- what doesn't fit
 
@@ -166,15 +173,18 @@ IsPlain Tick = Unit {0}
 -- ---- what a line tells
 
 -- what came of a node's step is shown, in a world that has the node as the step left it
-abbrev pub ShowsMade : {T : Type 0} → Result T LineFault → Made → ℕ → ℕ → Told → Told → Type 0
-ShowsMade (Ok x) (Whole g) line n old new =
+abbrev pub ShowsMade : {T : Type 0} → Result T LineFault → Result Moved Unmade → ℕ → ℕ → Told → Told → Type 0
+ShowsMade (Ok x) (Ok g) line n old new =
     let v = moved_all n g.moves old.world in
     (new.world ≡ shown_all n g.outputs v)
     × (new.report ≡ old.report ++ entries_text (entries_of line n g.outputs v ++ reply_entries line n g.reply))
     × (new.ups ≡ ups_after old.ups (entries_of line n g.outputs v ++ reply_entries line n g.reply))
-ShowsMade (Ok x) Cut line n old new = (new.world ≡ old.world) × (new.report ≡ old.report ++ entries_text (Stopped line n ∷ [])) × (new.ups ≡ old.ups)
-ShowsMade (Ok x) (Full records) line n old new = ⊥
-ShowsMade (Err (Refused refusal)) (Full records) line n old new = (refusal ≡ StoreFull records) × (new ≡ old)
-ShowsMade (Err (Refused refusal)) (Whole g) line n old new = ⊥
-ShowsMade (Err (Refused refusal)) Cut line n old new = ⊥
+ShowsMade (Ok x) (Err unmade.Cut) line n old new =
+    (new.world ≡ old.world) × (new.report ≡ old.report ++ entries_text (Stopped line n ∷ [])) × (new.ups ≡ old.ups)
+ShowsMade (Ok x) (Err (unmade.Full records)) line n old new = ⊥
+ShowsMade (Ok x) (Err unmade.NoMemory) line n old new = ⊥
+ShowsMade (Err (Refused refusal)) (Err (unmade.Full records)) line n old new = (refusal ≡ StoreFull records) × (new ≡ old)
+ShowsMade (Err (Refused refusal)) (Err unmade.Cut) line n old new = ⊥
+ShowsMade (Err (Refused refusal)) (Err unmade.NoMemory) line n old new = ⊥
+ShowsMade (Err (Refused refusal)) (Ok g) line n old new = ⊥
 ShowsMade (Err OutOfMemory) made line n old new = Unit {0}

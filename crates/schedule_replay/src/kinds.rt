@@ -6,7 +6,8 @@ ghost use Rattle.end_model.specs.End.{new_end};
 ghost use Rattle.end_model.specs.Starting.{bare_end};
 ghost use Rattle.world_model.specs.World.{farewell_by};
 ghost use Rattle.end_core.specs.Fits.{fits};
-ghost use Rattle.schedule_replay.specs.Serving.{site_step, site_start, GivesSite};
+ghost use Rattle.step_ledger.specs.Committing.{Commits};
+ghost use Rattle.schedule_replay.specs.Serving.{site_step, site_start, site_contents, GivesSite};
 
 use end_core::End;
 use end_model::{Config, Event, Role};
@@ -15,8 +16,9 @@ use lns_core::Lns;
 use session_book::Book;
 use std::alloc::Global;
 use std::marker::Model;
+use step_ledger::{BookedLedger, Ledger, StepFault};
 use tunnel_core::{Moves, Outputs};
-use wire_base::{Bytes, NoMemory, Why};
+use wire_base::{Bytes, Why};
 
 /// What a step of a node's end gave.
 #[derive(Drop)]
@@ -82,19 +84,23 @@ impl NodeEnd {
         }
     }
 
-    /// A step of the end on an event, at a moment in milliseconds, with a block of random bytes.
+    /// A step of the end on an event, at a moment in milliseconds, with a block of random bytes. What it leaves is committed to a ledger
+    /// before it is made.
     #[tactic(auto, unfolding(crate::specs::Serving::site_step))]
-    pub(crate) fn step(
+    pub(crate) fn step<L: Ledger>(
         &mut self,
+        ledger: &mut L,
         moment: u64,
         block: [u8; 16],
         event: &Event,
-    ) -> Result<Moved, NoMemory>
-        ensures { GivesSite result (site_step self.old moment block event.now) self.old self.new }
+    ) -> Result<Moved, StepFault<L::Stop>>
+        requires { L.can_commit ledger.old }
+        ensures given { GivesSite result (site_step self.old moment block event.now) self.old self.new }
+        ensures committed { Commits L.commits_to result (site_contents self.old (site_step self.old moment block event.now)) ledger.old ledger.new }
     {
         match &mut self.kind {
             Kind::Lac(lac) => {
-                let given = lac.step(moment, block, event)?;
+                let given = lac.step(ledger, moment, block, event)?;
                 Ok(Moved {
                     outputs: given.outputs,
                     moves: given.moves,
@@ -102,7 +108,7 @@ impl NodeEnd {
                 })
             }
             Kind::Lns(lns) => {
-                let given = lns.step(moment, block, event)?;
+                let given = lns.step(ledger, moment, block, event)?;
                 Ok(Moved {
                     outputs: given.outputs,
                     moves: given.moves,
@@ -123,14 +129,21 @@ impl NodeEnd {
         }
     }
 
-    /// The end starts over its book.
+    /// The end starts over the book of its ledger.
     #[tactic(auto, unfolding(crate::specs::Serving::site_start))]
-    pub(crate) fn start(&mut self, key: [u8; 16], book: &Book) -> Result<Moved, NoMemory>
-        ensures { GivesSite result (site_start self.old.end.role self.old.end.config key book.now.kept) self.old self.new }
+    pub(crate) fn start<L: BookedLedger>(
+        &mut self,
+        ledger: &mut L,
+        key: [u8; 16],
+    ) -> Result<Moved, StepFault<L::Stop>>
+        requires ready { L.Ledger.can_commit ledger.old }
+        requires lends { L.can_lend ledger.old }
+        ensures given { GivesSite result (site_start self.old.end.role self.old.end.config key (L.kept ledger.old)) self.old self.new }
+        ensures committed { Commits L.Ledger.commits_to result (site_contents self.old (site_start self.old.end.role self.old.end.config key (L.kept ledger.old))) ledger.old ledger.new }
     {
         let given = match &mut self.kind {
-            Kind::Lac(lac) => lac.start(key, book)?,
-            Kind::Lns(lns) => lns.start(book)?,
+            Kind::Lac(lac) => lac.start(ledger, key)?,
+            Kind::Lns(lns) => lns.start(ledger)?,
         };
         Ok(Moved {
             outputs: given.outputs,

@@ -6,29 +6,28 @@ ghost use Rattle.end_model.specs.Calls.{is_lac};
 ghost use Rattle.end_model.specs.Access.{access_with};
 ghost use Rattle.end_model.specs.End.{new_end};
 ghost use Rattle.world_model.specs.World.{config_of, count_at, new_checkpoint, with_stop, fallen};
-ghost use Rattle.world_checkpoint.specs.Held.{CommitsTo};
 ghost use Rattle.schedule_replay.specs.Kinds.{site_in};
-ghost use Rattle.schedule_replay.specs.Serving.{site_step, site_start, MakesStep, CommitsMoved};
+ghost use Rattle.schedule_replay.specs.Serving.{site_step, site_start, IsLeft, MakesStep};
 
 use crate::kinds::{Moved, NodeEnd};
 use end_model::{Config, Event, Role, address_of};
 use id_table::Table;
 use std::alloc::Global;
 use std::marker::Model;
-use step_records::{Spaces, step_records};
-use wire_base::{Bytes, NoMemory};
-use world_checkpoint::{Checkpoint, Commit};
+use step_ledger::{BookedLedger, StepFault};
+use wire_base::{Bytes, NoMemory as OutOfMemory};
+use world_checkpoint::{Checkpoint, CommitStop};
 use world_model::StopAt;
 
-/// What comes of a step of a node.
-#[derive(Drop)]
-pub(crate) enum Made {
-    /// All its records were committed: this is what it gave.
-    Whole(Moved),
+/// Why a step of a node wasn't made.
+#[derive(Clone, Copy)]
+pub(crate) enum Unmade {
     /// A stop cut it off, and the node is down.
     Cut,
-    /// The checkpoint has so many records, and no room for those of the step.
+    /// The checkpoint has so many records, and no room for those of the step. The node is as before.
     Full { records: u32 },
+    /// Memory was wanting.
+    NoMemory,
 }
 
 /// An end, and whether it is up, with its clock, in milliseconds, the births of its calls by local session id, and its checkpoint.
@@ -50,7 +49,10 @@ impl Model for Node {
 }
 
 /// A copy of a tunnel secret.
-pub(crate) fn copy_secret(alloc: Global, secret: &Option<Bytes>) -> Result<Option<Bytes>, NoMemory>
+pub(crate) fn copy_secret(
+    alloc: Global,
+    secret: &Option<Bytes>,
+) -> Result<Option<Bytes>, OutOfMemory>
     ensures { IfOk result (λ s. s ≡ secret.now) }
 {
     match secret {
@@ -106,48 +108,42 @@ impl Node {
         self.clock = self.clock.saturating_add(u64::from(milliseconds));
     }
 
-    /// A step of the node's end on an event, at the moment of its clock, with a block of random bytes. All that it leaves is committed before it
-    /// gives anything.
-    #[tactic(auto, using(crate::proofs::Nodes::makes_step))]
-    pub(crate) fn step(
-        &mut self,
-        alloc: Global,
-        block: [u8; 16],
-        event: &Event,
-    ) -> Result<Made, NoMemory>
+    /// A step of the node's end on an event, at the moment of its clock, with a block of random bytes. All that it leaves is committed before
+    /// it is made.
+    #[tactic(auto, using(crate::proofs::Nodes::step_made, crate::proofs::Nodes::step_left))]
+    pub(crate) fn step(&mut self, block: [u8; 16], event: &Event) -> Result<Moved, Unmade>
         ensures { MakesStep result block (site_step (site_in self.old) self.old.clock block event.now) self.old self.new }
     {
-        let before = self.end.end().spaces();
-        let moved = self.end.step(self.clock, block, event)?;
-        self.commit(alloc, block, before, moved)
+        match self
+            .end
+            .step(&mut self.checkpoint, self.clock, block, event)
+        {
+            Ok(moved) => Ok(moved),
+            Err(fault) => Err(self.leave(block, fault)),
+        }
     }
 
-    /// Commits what a step leaves, where ids were drawn from these spaces before it.
-    #[tactic(auto, using(crate::proofs::Nodes::whole_moved, crate::proofs::Nodes::cut_moved))]
-    fn commit(
-        &mut self,
-        alloc: Global,
-        block: [u8; 16],
-        before: Spaces,
-        moved: Moved,
-    ) -> Result<Made, NoMemory>
-        ensures { CommitsMoved result block before moved self.old self.new }
+    /// What is left where a step wasn't made, and why: where a stop cut it off, the node falls.
+    fn leave(&mut self, block: [u8; 16], fault: StepFault<CommitStop>) -> Unmade
+        ensures { IsLeft result fault block self.old self.new }
     {
-        let after = self.end.end().spaces();
-        let records = step_records(alloc, &before, &after, moved.moves.as_slice())?;
-        match self.checkpoint.commit(records)? {
-            Commit::Full { records } => Ok(Made::Full { records }),
-            Commit::Whole => Ok(Made::Whole(moved)),
-            Commit::Cut => {
-                self.fall(block)?;
-                Ok(Made::Cut)
-            }
+        match fault {
+            StepFault::Uncommitted {
+                stop: CommitStop::Full { records },
+            } => Unmade::Full { records },
+            StepFault::Uncommitted {
+                stop: CommitStop::Cut,
+            } => match self.fall(block) {
+                Ok(()) => Unmade::Cut,
+                Err(_) => Unmade::NoMemory,
+            },
+            _ => Unmade::NoMemory,
         }
     }
 
     /// All but the checkpoint is lost, and a stop is armed no more.
     #[tactic(auto, unfolding(world_model::specs::World::fallen))]
-    pub(crate) fn fall(&mut self, block: [u8; 16]) -> Result<(), NoMemory>
+    pub(crate) fn fall(&mut self, block: [u8; 16]) -> Result<(), OutOfMemory>
         ensures { OnOk result (self.new ≡ fallen block self.old self.old.checkpoint) }
     {
         self.checkpoint.settle()?;
@@ -158,15 +154,20 @@ impl Node {
     }
 
     /// The node starts over its checkpoint.
-    #[tactic(auto, using(crate::proofs::Nodes::makes_step))]
-    pub(crate) fn start(&mut self, alloc: Global, block: [u8; 16]) -> Result<Made, NoMemory>
+    #[tactic(auto, using(crate::proofs::Nodes::step_made, crate::proofs::Nodes::step_left))]
+    pub(crate) fn start(&mut self, block: [u8; 16]) -> Result<Moved, Unmade>
         ensures { MakesStep result block (site_start self.old.end.role self.old.end.config block self.old.checkpoint.book) (record self.old { up = true }) self.new }
     {
-        self.checkpoint.settle()?;
-        let before = self.end.end().spaces();
-        let moved = self.end.start(block, self.checkpoint.book())?;
-        self.up = true;
-        self.commit(alloc, block, before, moved)
+        if self.checkpoint.settle().is_err() {
+            return Err(Unmade::NoMemory);
+        }
+        match self.end.start(&mut self.checkpoint, block) {
+            Ok(moved) => {
+                self.up = true;
+                Ok(moved)
+            }
+            Err(fault) => Err(self.leave(block, fault)),
+        }
     }
 
     /// Arms a stop, in place of the one before.
@@ -177,7 +178,7 @@ impl Node {
     }
 
     /// The call with this local session is of this birth.
-    pub(crate) fn bear(&mut self, session: u16, birth: u64) -> Result<(), NoMemory>
+    pub(crate) fn bear(&mut self, session: u16, birth: u64) -> Result<(), OutOfMemory>
         ensures { OnOk result (self.new ≡ record self.old { births = put self.old.births session birth }) }
     {
         self.births.insert(u32::from(session), birth)

@@ -12,7 +12,7 @@ ghost use Rattle.schedule_replay.specs.Kinds.{of_role, fitting};
 
 use crate::fault::LineFault;
 use crate::kinds::Moved;
-use crate::node::{Made, Node, config_of, copy_secret, count_at};
+use crate::node::{Node, Unmade, config_of, copy_secret, count_at};
 use crate::tables::{push_agreement_table, push_end_table};
 use byteorder::{BigEndian, ByteOrder};
 use end_model::{Event, Move, Origin, Out, Role, address_of, node_of};
@@ -280,21 +280,27 @@ impl State {
     }
 
     /// What came of a node's step, in a line.
-    fn show_made(&mut self, line: u64, node: u8, made: Made) -> Result<(), LineFault>
+    fn show_made(
+        &mut self,
+        line: u64,
+        node: u8,
+        made: Result<Moved, Unmade>,
+    ) -> Result<(), LineFault>
         ensures { ShowsMade result made line node self.old self.new }
     {
         match made {
-            Made::Whole(moved) => {
+            Ok(moved) => {
                 self.show_step(line, node, moved)?;
                 Ok(())
             }
-            Made::Cut => {
+            Err(Unmade::Cut) => {
                 push_stopped(&mut self.report, line, node)?;
                 Ok(())
             }
-            Made::Full { records } => Err(LineFault::Refused {
+            Err(Unmade::Full { records }) => Err(LineFault::Refused {
                 refusal: Refusal::StoreFull { records },
             }),
+            Err(Unmade::NoMemory) => Err(LineFault::NoMemory),
         }
     }
 
@@ -307,7 +313,7 @@ impl State {
         let Some(at) = self.nodes.get_mut(u32::from(node)) else {
             unreachable!()
         };
-        let made = at.step(self.alloc, block_of(node, line), event)?;
+        let made = at.step(block_of(node, line), event);
         self.show_made(line, node, made)
     }
 
@@ -483,7 +489,7 @@ impl State {
             unreachable!()
         };
         at.pass(milliseconds);
-        let made = at.step(self.alloc, block_of(node, line), &Event::Tick)?;
+        let made = at.step(block_of(node, line), &Event::Tick);
         self.show_made(line, node, made)
     }
 
@@ -538,7 +544,7 @@ impl State {
         let Some(at) = self.nodes.get_mut(u32::from(node)) else {
             unreachable!()
         };
-        let made = at.start(self.alloc, block_of(node, line))?;
+        let made = at.start(block_of(node, line));
         self.show_made(line, node, made)
     }
 

@@ -2,8 +2,10 @@
 //! up or went.
 #![tactic(auto)]
 
+mod committing;
 mod records;
 mod spaces;
 
+pub use committing::commit_step;
 pub use records::{Records, step_records};
 pub use spaces::Spaces;

@@ -1,5 +1,5 @@
 ghost use Rattle.std.specs.List.{AllByRecursion};
-ghost use Rattle.end_store.specs.Records.{IsUnmarked};
+ghost use Rattle.step_ledger.specs.Committing.{IsUnmarked};
 
 use checkpoint_journal::{JournalOpen, JournalRoom, JournalStop};
 use disk_core::{Disk, Fails, MemoryDisk, StopDisk};
@@ -10,14 +10,14 @@ use std::test::Fail;
 use wire_base::{Bytes, NoMemory};
 
 /// The journal of the LAC with the number 1, with the ceilings of its ids, a tunnel and a call.
-const FILE: &[u8] = b"OL2TPCKP1\x01\x01\0\0\0\0\0\0\0\0\0\0\0\0\0\0\0\0\0\0\0\0C\
+pub(crate) const FILE: &[u8] = b"OL2TPCKP1\x01\x01\0\0\0\0\0\0\0\0\0\0\0\0\0\0\0\0\0\0\0\0C\
 O\x01\x01\0\0\0\x40\0\0\0\0\0\0\0\0\0\0\0\0\0\0\0\0\0\0\0\0\0\0\0\0\0\
 O\x01\x02\0\0\0\x40\0\0\0\0\0\0\0\0\0\0\0\0\0\0\0\0\0\0\0\0\0\0\0\0\0\
 O\x02\0\x01\0\x01\x0a\0\0\x02\0\x08\0\x03\0\0\0\0\0\0\0\0\0\0\0\0\0\0\0\0\0\0\
 O\x04\0\x01\0\x01\0\x01\xff\xff\0\0\0\x01\0\0\0\0\0\0\0\0\0\0\0\0\0\0\0\0\0\0\
 C";
 
-const TUNNEL: BookTunnel = BookTunnel {
+pub(crate) const TUNNEL: BookTunnel = BookTunnel {
     local: 1,
     remote: 1,
     peer: 0x0a00_0002,
@@ -26,7 +26,7 @@ const TUNNEL: BookTunnel = BookTunnel {
     mark: 0,
 };
 
-const CALL: BookCall = BookCall {
+pub(crate) const CALL: BookCall = BookCall {
     local: 1,
     tunnel: 1,
     remote: 1,
@@ -34,24 +34,24 @@ const CALL: BookCall = BookCall {
     sequenced: false,
 };
 
-const TUNNEL_IDS: Record = Record::Ceiling {
+pub(crate) const TUNNEL_IDS: Record = Record::Ceiling {
     space: 1,
     number: 64,
 };
 
-const SESSION_IDS: Record = Record::Ceiling {
+pub(crate) const SESSION_IDS: Record = Record::Ceiling {
     space: 2,
     number: 64,
 };
 
 // Functions without clauses: a test that calls them is proved at little cost.
 
-fn holding(alloc: Global, image: &[u8]) -> Result<MemoryDisk, NoMemory> {
+pub(crate) fn holding(alloc: Global, image: &[u8]) -> Result<MemoryDisk, NoMemory> {
     MemoryDisk::new(alloc, Bytes::from_slice(alloc, image)?, Fails::new(alloc))
 }
 
 /// The book has both ceilings, the tunnel, and the call or none.
-fn has_tunnel(book: &Book, with_call: bool) -> bool {
+pub(crate) fn has_tunnel(book: &Book, with_call: bool) -> bool {
     let calls: &[BookCall] = if with_call { &[CALL] } else { &[] };
     book.ceiling(1) == 64
         && book.ceiling(2) == 64

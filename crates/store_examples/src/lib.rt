@@ -4,3 +4,5 @@
 
 #[cfg(test)]
 mod end_store_tests;
+#[cfg(test)]
+mod ledger_tests;

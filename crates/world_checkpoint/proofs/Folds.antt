@@ -1,14 +1,13 @@
 -- Records that are committed one after another, and those of a step behind them.
 use Rattle.std.proofs.Common.{◌≡◌, ℕ, ◌+◌, ◌-◌, ◌<◌, ◌≤◌, Bool, true, false, cond, List, [], ◌∷◌, ◌++◌, length, take, Option, Some, None, Ok, Err, refl, sym, ap, subst, ◌∙◌, arith}
-use Rattle.std.specs.Prelude.{nat_le, nat_lt, Result, IfOk, OnErr}
+use Rattle.std.specs.Prelude.{⊤, nat_le, nat_lt, Result}
 use Rattle.std.proofs.lemmas.Bool.Decides.{nat_tests}
-use Rattle.wire_base.specs.declared.bytes.NoMemory.{NoMemory}
 use Rattle.session_book.specs.declared.record.Record.{Record}
 use Rattle.session_book.specs.Books.{Kept, fits, stepped}
 use Rattle.world_model.specs.declared.stop.StopAt.{StopAt}
 use Rattle.world_model.specs.World.{Checkpoint, Committed, IsFull, IsCut, IsWhole, recorded, recorded_all, with_stop, kept_by, commits_by, commits}
-use Rattle.world_checkpoint.specs.declared.checkpoint.Commit.{Commit}
-use Rattle.world_checkpoint.specs.declared.checkpoint.Commit.TheVariants.{Cut, Whole}
+use Rattle.world_checkpoint.specs.declared.checkpoint.CommitStop.{CommitStop}
+use Rattle.world_checkpoint.specs.declared.checkpoint.CommitStop.TheVariants.{Cut, NoMemory}
 use Rattle.world_checkpoint.specs.Held.{unstopped, held, CommitsTo, Joins}
 
 -- ---- records behind others
@@ -61,12 +60,12 @@ joined_same n b ps rs s = stops s (recorded_all (unstopped n b) ps) rs ∙ ap (w
 
 -- ---- what joins
 
-free : (ps rs : List Record) → Joins (Ok Whole) rs ps None (ps ++ rs) None
+free : (ps rs : List Record) → Joins (Ok tt) rs ps None (ps ++ rs) None
 unfolding commits_by
 free ps rs n b = ap IsWhole (joined_same n b ps rs None)
 
 before_stop : (ps rs : List Record) (s : StopAt) → nat_le s.commit (length rs) ≡ false
-    → Joins (Ok Whole) rs ps (Some s) (ps ++ rs) (Some (record s { commit = s.commit - length rs }))
+    → Joins (Ok tt) rs ps (Some s) (ps ++ rs) (Some (record s { commit = s.commit - length rs }))
 unfolding commits_by
 before_stop ps rs s above n b =
     let next : Option StopAt = Some (record s { commit = s.commit - length rs }) in
@@ -75,7 +74,7 @@ before_stop ps rs s above n b =
     ∙ ap IsWhole (joined n b ps rs (Some s) next)
 
 at_stop : (ps rs : List Record) (s : StopAt) → nat_le s.commit (length rs) ≡ true
-    → Joins (Ok Cut) rs ps (Some s) (ps ++ take (kept_by s) rs) (Some s)
+    → Joins (Err Cut) rs ps (Some s) (ps ++ take (kept_by s) rs) (Some s)
 unfolding commits_by
 at_stop ps rs s within n b =
     let next : Option StopAt = Some (record s { commit = s.commit - length rs }) in
@@ -83,26 +82,27 @@ at_stop ps rs s within n b =
     ap (λ (t : Bool). cond t (IsCut (recorded_all k (take (kept_by s) rs))) (IsWhole (with_stop next (recorded_all k rs)))) within
     ∙ ap IsCut (joined_same n b ps (take (kept_by s) rs) (Some s))
 
-pub joins_free : (ps rs qs : List Record) (stop : Option StopAt) → stop ≡ None → qs ≡ ps ++ rs → Joins (Ok Whole) rs ps stop qs stop
+pub joins_free : (ps rs qs : List Record) (stop : Option StopAt) → stop ≡ None → qs ≡ ps ++ rs → Joins (Ok tt) rs ps stop qs stop
 joins_free ps rs qs stop is so =
-    subst (λ (o : Option StopAt). Joins (Ok Whole) rs ps o qs o) (sym is) (subst (λ (l : List Record). Joins (Ok Whole) rs ps None l None) (sym so) (free ps rs))
+    subst (λ (o : Option StopAt). Joins (Ok tt) rs ps o qs o) (sym is) (subst (λ (l : List Record). Joins (Ok tt) rs ps None l None) (sym so) (free ps rs))
 
 pub joins_before_stop : (ps rs qs : List Record) (stop : Option StopAt) (s : StopAt) (left : ℕ) → stop ≡ Some s → length rs < s.commit
-    → left ≡ s.commit - length rs → qs ≡ ps ++ rs → Joins (Ok Whole) rs ps stop qs (Some (record s { commit = left }))
+    → left ≡ s.commit - length rs → qs ≡ ps ++ rs → Joins (Ok tt) rs ps stop qs (Some (record s { commit = left }))
 joins_before_stop ps rs qs stop s left is lt count so =
     let above : nat_le s.commit (length rs) ≡ false = grind (arith, nat_tests) in
-    subst (λ (o : Option StopAt). Joins (Ok Whole) rs ps o qs (Some (record s { commit = left }))) (sym is)
-    (subst (λ (n : ℕ). Joins (Ok Whole) rs ps (Some s) qs (Some (record s { commit = n }))) (sym count)
-    (subst (λ (l : List Record). Joins (Ok Whole) rs ps (Some s) l (Some (record s { commit = s.commit - length rs }))) (sym so) (before_stop ps rs s above)))
+    subst (λ (o : Option StopAt). Joins (Ok tt) rs ps o qs (Some (record s { commit = left }))) (sym is)
+    (subst (λ (n : ℕ). Joins (Ok tt) rs ps (Some s) qs (Some (record s { commit = n }))) (sym count)
+    (subst (λ (l : List Record). Joins (Ok tt) rs ps (Some s) l (Some (record s { commit = s.commit - length rs }))) (sym so) (before_stop ps rs s above)))
 
-pub joins_at_stop : (result : Result Commit NoMemory) (ps rs qs : List Record) (stop : Option StopAt) (s : StopAt) → stop ≡ Some s → s.commit ≤ length rs
-    → IfOk result (λ done. (done ≡ Cut) × (qs ≡ ps ++ take (kept_by s) rs)) → OnErr result (qs ≡ ps) → Joins result rs ps stop qs stop
-joins_at_stop (Ok done) ps rs qs stop s is le ok err =
+pub joins_at_stop : (ps rs cut qs : List Record) (stop : Option StopAt) (s : StopAt) → stop ≡ Some s → s.commit ≤ length rs
+    → cut ≡ take (kept_by s) rs → qs ≡ ps ++ cut → Joins (Err Cut) rs ps stop qs stop
+joins_at_stop ps rs cut qs stop s is le first so =
     let within : nat_le s.commit (length rs) ≡ true = grind (arith, nat_tests) in
-    subst (λ (o : Option StopAt). Joins (Ok done) rs ps o qs o) (sym is)
-    (subst (λ (d : Commit). Joins (Ok d) rs ps (Some s) qs (Some s)) (sym ok.0)
-    (subst (λ (l : List Record). Joins (Ok Cut) rs ps (Some s) l (Some s)) (sym ok.1) (at_stop ps rs s within)))
-joins_at_stop (Err e) ps rs qs stop s is le ok err = λ n b. ap (λ (l : List Record). held n b l stop) err
+    subst (λ (o : Option StopAt). Joins (Err Cut) rs ps o qs o) (sym is)
+    (subst (λ (l : List Record). Joins (Err Cut) rs ps (Some s) l (Some s)) (sym (so ∙ ap (λ (l : List Record). ps ++ l) first)) (at_stop ps rs s within))
+
+pub joins_nothing : (ps rs qs : List Record) (stop : Option StopAt) → qs ≡ ps → Joins (Err NoMemory) rs ps stop qs stop
+joins_nothing ps rs qs stop same = λ n b. ap (λ (l : List Record). held n b l stop) same
 
 -- ---- what is applied
 
@@ -138,7 +138,7 @@ no_room n b ps s rs none lt =
     ap (λ (k : Checkpoint). commits k rs) (none_pending n b ps s none) ∙ full n b s rs (omega (arith, none))
 
 -- records that there is room for are committed to what was there before
-pub committed : (result : Result Commit NoMemory) (n : ℕ) (b : Kept) (ps rs qs : List Record) (s next : Option StopAt) (old : Checkpoint)
+pub committed : (result : Result ⊤ CommitStop) (n : ℕ) (b : Kept) (ps rs qs : List Record) (s next : Option StopAt) (old : Checkpoint)
     → held n b ps s ≡ old → n + length ps + length rs ≤ 1048576 → Joins result rs ps s qs next
     → CommitsTo result (commits old rs) old (held n b qs next)
 committed result n b ps rs qs s next old is le joins =
@@ -150,8 +150,8 @@ pub refused : (n : ℕ) (b : Kept) (ps rs : List Record) (s : Option StopAt) (ol
 refused n b ps rs s old is none lt = ap (λ (k : Checkpoint). commits k rs) (sym is) ∙ no_room n b ps s rs none lt
 
 -- what a test of the room says
-pub has_room : (t : Bool) (n a b p r : ℕ) → t ≡ nat_le (n + a + b) 1048576 → t ≡ true → a ≡ p → b ≡ r → n + p + r ≤ 1048576
-has_room t n a b p r is so ps rs = let le : nat_le (n + a + b) 1048576 ≡ true = sym is ∙ so in grind (arith, nat_tests)
+pub has_room : (t : Bool) (n p r : ℕ) (ps : List Record) → t ≡ nat_le (n + length ps + r) 1048576 → t ≡ true → length ps ≡ p → n + p + r ≤ 1048576
+has_room t n p r ps is so same = let le : nat_le (n + length ps + r) 1048576 ≡ true = sym is ∙ so in grind (arith, nat_tests)
 
-pub has_none : (t : Bool) (n a b p r : ℕ) → t ≡ nat_le (n + a + b) 1048576 → t ≡ false → a ≡ p → b ≡ r → 1048576 < n + p + r
-has_none t n a b p r is so ps rs = let le : nat_le (n + a + b) 1048576 ≡ false = sym is ∙ so in grind (arith, nat_tests)
+pub has_none : (t : Bool) (n p r : ℕ) (ps : List Record) → t ≡ nat_le (n + length ps + r) 1048576 → t ≡ false → length ps ≡ p → 1048576 < n + p + r
+has_none t n p r ps is so same = let le : nat_le (n + length ps + r) 1048576 ≡ false = sym is ∙ so in grind (arith, nat_tests)

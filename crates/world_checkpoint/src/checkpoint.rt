@@ -1,29 +1,39 @@
 //! A checkpoint whose records are applied to its book late.
 
-ghost use Rattle.std.specs.Prelude.{◌≡◌, ◌+◌, ◌++◌, ◌≤◌, nat_le, length, take, Some, None, OnOk, OnErr, IfOk};
-ghost use Rattle.world_model.specs.World.{new_checkpoint, with_stop, kept_by, recorded_all, commits};
-ghost use Rattle.world_checkpoint.specs.Held.{unstopped, CommitsTo, Joins};
-ghost use Rattle.world_checkpoint.specs.declared.checkpoint.Commit.TheVariants as commits_as;
+ghost use Rattle.std.specs.Prelude.{◌≡◌, ◌+◌, ◌++◌, ◌≤◌, nat_le, length, Some, None, OnOk, OnErr};
+ghost use Rattle.world_model.specs.World.{new_checkpoint, with_stop, kept_by, recorded_all};
+ghost use Rattle.world_checkpoint.specs.Held.{unstopped, Joins};
 
 use session_book::{Book, Record};
 use std::alloc::Global;
 use std::marker::Model;
-use step_records::Records;
-use wire_base::NoMemory;
+use step_ledger::{BookedLedger, Ledger};
+use wire_base::NoMemory as OutOfMemory;
 use world_model::StopAt;
 
 /// How many records a checkpoint has at most.
 const LIMIT: usize = 1_048_576;
 
-/// What came of the records of a step.
+/// Why the records of a step weren't committed.
 #[derive(Clone, Copy)]
-pub enum Commit {
+pub enum CommitStop {
     /// There is no room for them: the checkpoint has so many records. It is as before.
     Full { records: u32 },
     /// A stop was reached amid them. The checkpoint has those before it, and the one that it stopped at where that is kept.
     Cut,
-    /// All were committed.
-    Whole,
+    /// Memory was wanting. The checkpoint is as before.
+    NoMemory,
+}
+
+impl From<OutOfMemory> for CommitStop {
+    ghost use Rattle.std.specs.Prelude.{◌≡◌};
+    ghost use Rattle.world_checkpoint.specs.declared.checkpoint.CommitStop.TheVariants.{NoMemory};
+
+    ghost from_gives = { λ _ e. e ≡ NoMemory };
+
+    fn from(_e: OutOfMemory) -> CommitStop {
+        CommitStop::NoMemory
+    }
 }
 
 /// A node's checkpoint: what of it outlives a crash, and the stop that is armed.
@@ -33,7 +43,7 @@ pub struct Checkpoint {
     applied: u32,
     book: Book,
     /// The records that were committed and aren't applied yet, in order.
-    pending: Records,
+    pending: Vec<Record>,
     stop: Option<StopAt>,
 }
 
@@ -43,9 +53,9 @@ impl Model for Checkpoint {
 
     ghost Value = { Held };
 
-    ghost view = { λ c. record { checkpoint = held c.applied c.book.kept c.pending c.stop; pending = length c.pending } };
+    ghost view = { λ c. record { checkpoint = held c.applied c.book.kept c.pending.items c.stop; pending = length c.pending.items } };
 
-    ghost invariant = { λ c. c.applied + length c.pending ≤ 1048576 };
+    ghost invariant = { λ c. c.applied + length c.pending.items ≤ 1048576 };
 }
 
 impl Checkpoint {
@@ -57,7 +67,7 @@ impl Checkpoint {
         Checkpoint {
             applied: 0,
             book: Book::new(alloc),
-            pending: Records::new(alloc),
+            pending: Vec::new(alloc),
             stop: None,
         }
     }
@@ -77,50 +87,66 @@ impl Checkpoint {
     }
 
     /// Applies all records to the book, so that it can be lent. Where memory is wanting, none is applied.
-    pub fn settle(&mut self) -> Result<(), NoMemory>
+    pub fn settle(&mut self) -> Result<(), OutOfMemory>
         ensures checkpoint { self.new.checkpoint ≡ self.old.checkpoint }
         ensures settled { OnOk result (self.new.pending ≡ 0) }
     {
-        self.book.reserve(self.pending.len() as u32)?;
-        self.applied = apply_all(&mut self.book, self.applied, self.pending.as_slice());
+        let pending = self.pending.as_slice();
+        self.book.reserve(pending.len() as u32)?;
+        self.applied = apply_all(&mut self.book, self.applied, pending);
         self.pending.truncate(0);
         Ok(())
     }
+}
 
-    /// The book of all records; its condition is that each is applied.
-    #[tactic(auto, unfolding(world_model::specs::World::recorded_all))]
-    pub fn book(&self) -> &Book
-        requires { self.now.pending ≡ 0 }
-        ensures { result.now.kept ≡ self.now.checkpoint.book }
-    {
-        &self.book
-    }
+impl Ledger for Checkpoint {
+    ghost use Rattle.std.specs.Prelude.{⊤};
+    ghost use Rattle.world_model.specs.World.{commits};
+    ghost use Rattle.world_checkpoint.specs.Held.{CommitsTo};
+
+    type Stop = CommitStop;
+
+    ghost can_commit = { λ _. ⊤ };
+
+    ghost commits_to = { λ before records result after. CommitsTo result (commits before.checkpoint records) before.checkpoint after.checkpoint };
 
     /// Commits the records of a step. Only where there might be no room for them is it counted how many records are in place, for
-    /// which each is applied to the book. Where memory is wanting, nothing is committed. No records take no memory.
-    pub fn commit(&mut self, records: Records) -> Result<Commit, NoMemory>
-        ensures { CommitsTo result (commits self.old.checkpoint records) self.old.checkpoint self.new.checkpoint }
-    {
-        if has_room(self.applied, self.pending.len(), records.len()) {
+    /// which each is applied to the book. No records take no memory.
+    fn commit(&mut self, records: &[Record]) -> Result<(), CommitStop> {
+        if has_room(self.applied, self.pending.as_slice(), records) {
             return join(&mut self.pending, &mut self.stop, records);
         }
         self.settle()?;
-        if has_room(self.applied, self.pending.len(), records.len()) {
+        if has_room(self.applied, self.pending.as_slice(), records) {
             return join(&mut self.pending, &mut self.stop, records);
         }
-        Ok(Commit::Full {
+        Err(CommitStop::Full {
             records: self.applied,
         })
     }
 }
 
+impl BookedLedger for Checkpoint {
+    ghost use Rattle.std.specs.Prelude.{◌≡◌};
+
+    ghost can_lend = { λ c. c.pending ≡ 0 };
+
+    ghost kept = { λ c. c.checkpoint.book };
+
+    /// The book of all records; its condition is that each is applied.
+    #[tactic(auto, unfolding(world_model::specs::World::recorded_all))]
+    fn book(&self) -> &Book {
+        &self.book
+    }
+}
+
 // Whether there is room for more records, were all that are pending in place.
-fn has_room(applied: u32, pending: usize, more: usize) -> bool
-    ensures { result ≡ nat_le (applied + pending + more) 1048576 }
+fn has_room(applied: u32, pending: &[Record], more: &[Record]) -> bool
+    ensures { result ≡ nat_le (applied + length pending.now + length more.now) 1048576 }
 {
     (applied as usize)
-        .saturating_add(pending)
-        .saturating_add(more)
+        .saturating_add(pending.len())
+        .saturating_add(more.len())
         <= LIMIT
 }
 
@@ -143,55 +169,44 @@ fn apply_all(book: &mut Book, applied: u32, pending: &[Record]) -> u32
 
 // Appends the records of a step that there is room for, up to a stop that is armed.
 fn join(
-    pending: &mut Records,
+    pending: &mut Vec<Record>,
     stop: &mut Option<StopAt>,
-    records: Records,
-) -> Result<Commit, NoMemory>
-    ensures joined { Joins result records pending.old stop.old pending.new stop.new }
-    ensures within { length pending.new ≤ length pending.old + length records }
+    records: &[Record],
+) -> Result<(), CommitStop>
+    ensures joined { Joins result records.now pending.old.items stop.old pending.new.items stop.new }
+    ensures within { length pending.new.items ≤ length pending.old.items + length records.now }
 {
     match *stop {
         Some(armed) => join_armed(pending, stop, armed, records),
         None => {
             append(pending, records)?;
-            Ok(Commit::Whole)
+            Ok(())
         }
     }
 }
 
 // The same where this stop is armed: it is nearer then by as many commits, or reached.
 fn join_armed(
-    pending: &mut Records,
+    pending: &mut Vec<Record>,
     stop: &mut Option<StopAt>,
     armed: StopAt,
-    records: Records,
-) -> Result<Commit, NoMemory>
+    records: &[Record],
+) -> Result<(), CommitStop>
     requires { stop.old ≡ Some armed }
-    ensures joined { Joins result records pending.old stop.old pending.new stop.new }
-    ensures within { length pending.new ≤ length pending.old + length records }
+    ensures joined { Joins result records.now pending.old.items stop.old pending.new.items stop.new }
+    ensures within { length pending.new.items ≤ length pending.old.items + length records.now }
 {
     let count = records.len();
     if usize::from(armed.commit) <= count {
-        return cut(pending, armed, records);
+        append(pending, &records[..kept_by(armed)])?;
+        return Err(CommitStop::Cut);
     }
-    let left = armed.commit - count as u8;
     append(pending, records)?;
     *stop = Some(StopAt {
-        commit: left,
+        commit: armed.commit - count as u8,
         kept: armed.kept,
     });
-    Ok(Commit::Whole)
-}
-
-// Appends the records up to the one that a stop is at.
-fn cut(pending: &mut Records, stop: StopAt, records: Records) -> Result<Commit, NoMemory>
-    ensures cut { IfOk result (λ done. (done ≡ commits_as.Cut) × (pending.new ≡ pending.old ++ take (kept_by stop) records)) }
-    ensures err { OnErr result (pending.new ≡ pending.old) }
-{
-    let mut kept = records;
-    kept.truncate(kept_by(stop));
-    append(pending, kept)?;
-    Ok(Commit::Cut)
+    Ok(())
 }
 
 // How many records are in the checkpoint where it stops.
@@ -206,10 +221,10 @@ fn kept_by(stop: StopAt) -> usize
 }
 
 // Appends records. Where memory is wanting, it is as before.
-fn append(pending: &mut Records, records: Records) -> Result<(), NoMemory>
-    ensures ok { OnOk result (pending.new ≡ pending.old ++ records) }
-    ensures err { OnErr result (pending.new ≡ pending.old) }
+fn append(pending: &mut Vec<Record>, records: &[Record]) -> Result<(), OutOfMemory>
+    ensures ok { OnOk result (pending.new.items ≡ pending.old.items ++ records.now) }
+    ensures err { OnErr result (pending.new.items ≡ pending.old.items) }
 {
-    let mut more = records;
-    pending.append(&mut more)
+    pending.extend_from_slice(records)?;
+    Ok(())
 }

@@ -4,4 +4,4 @@
 
 mod checkpoint;
 
-pub use checkpoint::{Checkpoint, Commit};
+pub use checkpoint::{Checkpoint, CommitStop};

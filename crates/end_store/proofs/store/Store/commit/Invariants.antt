@@ -1,7 +1,8 @@
 use Rattle.std.proofs.Common.{◌≡◌, ◌≤◌, ◌++◌, [], length, take, List, ℕ, false, is_some}
 use Rattle.std.specs.List.{AllByRecursion}
 use Rattle.checkpoint_journal.specs.State.{HasRoom}
-use Rattle.end_store.specs.Records.{IsUnmarked, fitting, spelled}
+use Rattle.step_ledger.specs.Committing.{IsUnmarked}
+use Rattle.end_store.specs.Records.{fitting, spelled}
 use Rattle.end_store.specs.Stored.{with_records, IsStored}
 use Rattle.end_store.proofs.store.Store.commit.Given as goal
 

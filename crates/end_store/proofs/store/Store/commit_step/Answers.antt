@@ -8,7 +8,7 @@ use Rattle.checkpoint_journal.specs.declared.journal.JournalStop.{JournalStop}
 use Rattle.checkpoint_journal.proofs.Parts.{most_is}
 use Rattle.end_store.specs.Records.{fitting}
 use Rattle.end_store.specs.Stored.{Stored, prepared, with_records, FindsFirst}
-use Rattle.end_store.proofs.Several.{counted, finds_refused}
+use Rattle.end_store.proofs.Several.{counted, none_to_commit, none_wanted, finds_refused}
 use Rattle.end_store.proofs.store.Store.commit_step.Goals as goal
 
 pub commit-requires-clause-spare : goal.commit-requires-clause-spare
@@ -71,3 +71,13 @@ pub returns-in-Err-StoreFault-clause-crash : goal.returns-in-Err-StoreFault-clau
 returns-in-Err-StoreFault-clause-crash g c before is =
     subst (λ (s : Stored). FindsFirst s before c.args.records.now (c.commit.new.self.journal.records - s.journal.records) (g.D.Disk.holds c.commit.new.disk)) c.in-Ok.ensures.ok
     (c.commit.ensures.crash before (c.in-Ok.ensures.stored before is))
+
+pub returns-in-Ok-commit-clause-untouched : goal.returns-in-Ok-commit-clause-untouched
+returns-in-Ok-commit-clause-untouched g c none =
+    c.commit.ensures.untouched (none_to_commit c.prepare.new.self.kept c.args.records.now none)
+    ∙ c.prepare.ensures.untouched (none_wanted c.args.records.now c.count_of-count.result c.args.self.now.journal.spare c.count_of-count.ensures none)
+
+pub returns-in-Err-StoreFault-clause-untouched : goal.returns-in-Err-StoreFault-clause-untouched
+returns-in-Err-StoreFault-clause-untouched g c none =
+    c.commit.ensures.untouched (none_to_commit c.prepare.new.self.kept c.args.records.now none)
+    ∙ c.prepare.ensures.untouched (none_wanted c.args.records.now c.count_of-count.result c.args.self.now.journal.spare c.count_of-count.ensures none)

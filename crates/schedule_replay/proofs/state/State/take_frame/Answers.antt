@@ -1,4 +1,4 @@
-use Rattle.std.proofs.Common.{◌≡◌, refl, sym}
+use Rattle.std.proofs.Common.{refl, sym}
 use Rattle.id_table.specs.Ids.{at}
 use Rattle.schedule_replay.proofs.Serving.{frame_unfit}
 use Rattle.schedule_replay.proofs.state.State.take_frame.Goals as goal
