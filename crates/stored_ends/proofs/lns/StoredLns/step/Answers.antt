@@ -1,0 +1,18 @@
+use Rattle.std.proofs.Common.{rules, ◌≡◌, false, sym, ap, ◌∙◌}
+use Rattle.end_model.specs.Contents.{contents_of}
+use Rattle.end_model.specs.End.{step}
+use Rattle.stored_ends.specs.Steps.{LnsStored}
+use Rattle.stored_ends.proofs.Steps.{halted_step, lent_step_of}
+use Rattle.stored_ends.proofs.lns.StoredLns.step.Goals as goal
+
+pub returns-then-is_halted-clause-disk : goal.returns-then-is_halted-clause-disk
+returns-then-is_halted-clause-disk g c =
+    let halted = ap (λ (s : LnsStored). s.store.journal.halted) (sym c.self.view_is) ∙ sym c.is_halted.ensures ∙ c.if-is_halted.true in
+    halted_step g.D.Disk.holds g.D.Disk.reach g.D.Disk.calls_left g.D.Disk.faults _ _ c.args.self.now.store c.args.disk.now halted
+
+pub returns-clause-disk : goal.returns-clause-disk
+returns-clause-disk g c =
+    let store = ap (λ (s : LnsStored). s.store) c.self.view_is in
+    let records = ap (λ (s : LnsStored). contents_of s.lns (step s.lns c.args.moment c.args.block c.args.event.now)) c.self.view_is in
+    let running : c.args.self.now.store.journal.halted ≡ false = ap (λ (s : LnsStored). s.store.journal.halted) (sym c.self.view_is) ∙ sym c.is_halted.ensures ∙ c.if-is_halted.false in
+    lent_step_of g.D.Disk.holds g.D.Disk.reach g.D.Disk.calls_left g.D.Disk.faults _ c.step.result c.stops_of.result _ c.args.self.now.store _ c.step.new.ledger _ c.step.ensures.committed (search rules) records store running c.requires c.stops_of.ensures
