@@ -1,0 +1,130 @@
+//! The ends of the tests, each with its store and its disk.
+
+ghost use Rattle.std.specs.Prelude.{◌≡◌, false, IfOk};
+ghost use Rattle.checkpoint_journal.specs.State.{HasRoom};
+
+use disk_core::{Disk, Fails, MemoryDisk, StopDisk};
+use end_core::Given;
+use end_model::{Config, Event, address_of};
+use end_store::{Store, StoreStop};
+use lac_core::LacGiven;
+use std::alloc::Global;
+use stored_ends::{StoredLac, StoredLns};
+use wire_base::{Bytes, NoMemory};
+
+/// The moment of each step, and its block of random bytes.
+const MOMENT: u64 = 1000;
+
+const BLOCK: [u8; 16] = [7; 16];
+
+/// Memory is wanting.
+pub(crate) fn wanting(_e: NoMemory) -> StoreStop {
+    StoreStop::NoMemory
+}
+
+/// A disk that holds these bytes.
+pub(crate) fn holding(alloc: Global, image: &[u8]) -> Result<MemoryDisk, NoMemory> {
+    MemoryDisk::new(alloc, Bytes::from_slice(alloc, image)?, Fails::new(alloc))
+}
+
+/// What an end of this number is told, without a secret. A LAC is told its LNS.
+fn config(number: u8, lns: u32) -> Config {
+    Config {
+        number,
+        address: address_of(number),
+        lns,
+        secret: None,
+        hide: false,
+    }
+}
+
+/// The LAC 1 of a store, whose LNS is the node 2. It is in a box, since it is large: a function that owns it inline, with ways out, is
+/// dear to prove.
+fn boxed_lac(alloc: Global, store: Store) -> Result<Box<StoredLac>, NoMemory>
+    ensures { IfOk result (λ lac. lac.value.store ≡ store) }
+{
+    let config = config(1, address_of(2));
+    Ok(Box::new(alloc, StoredLac::over(alloc, config, [0; 16], store))?)
+}
+
+/// The LNS 2 of a store, in a box.
+fn boxed_lns(alloc: Global, store: Store) -> Result<Box<StoredLns>, NoMemory>
+    ensures { IfOk result (λ lns. lns.value.store ≡ store) }
+{
+    Ok(Box::new(alloc, StoredLns::over(alloc, config(2, 0), store))?)
+}
+
+/// A LAC with its store and its disk, where there is the room that the store counts on.
+#[derive(Drop)]
+pub(crate) struct LacSite<D: Disk + Drop> {
+    pub lac: Box<StoredLac>,
+    pub disk: D,
+    ghost room: { lac.value.store.journal.halted ≡ false → HasRoom D.reach D.calls_left lac.value.store.journal disk },
+}
+
+impl<D: Disk + Drop> LacSite<D> {
+    /// The LAC over a store that is opened on the disk, before its start.
+    pub fn open(alloc: Global, disk: D) -> Option<LacSite<D>> {
+        let mut disk = disk;
+        let store = Store::open(alloc, &mut disk, 1, 1).ok()?;
+        let lac = boxed_lac(alloc, store).ok()?;
+        Some(LacSite { lac, disk })
+    }
+
+    pub fn start(&mut self) -> Result<Given, StoreStop> {
+        self.lac.start(&mut self.disk, [0; 16])
+    }
+
+    pub fn step(&mut self, event: &Event) -> Result<LacGiven, StoreStop> {
+        self.lac.step(&mut self.disk, MOMENT, BLOCK, event)
+    }
+
+    pub fn into_disk(self) -> D {
+        self.disk
+    }
+
+    /// How many tunnels the LAC has, and of the first one the ids that the LAC and its peer assigned, 0 as long as none is known.
+    pub fn tunnels(&self, alloc: Global) -> Result<(usize, u16, u16), StoreStop> {
+        let rows = self.lac.lac().tunnel_rows(alloc).map_err(wanting)?;
+        match rows.lend(0) {
+            None => Ok((0, 0, 0)),
+            Some(row) => Ok((rows.len(), row.local, row.remote)),
+        }
+    }
+}
+
+impl LacSite<MemoryDisk> {
+    /// The same LAC, whose disk stops behind so many calls of the device.
+    pub fn stopping(self, calls: u64) -> LacSite<StopDisk> {
+        LacSite {
+            lac: self.lac,
+            disk: StopDisk::new(self.disk, calls),
+        }
+    }
+}
+
+/// An LNS with its store and its disk, where there is the room that the store counts on.
+#[derive(Drop)]
+pub(crate) struct LnsSite {
+    pub lns: Box<StoredLns>,
+    pub disk: MemoryDisk,
+    ghost room: { lns.value.store.journal.halted ≡ false → HasRoom (λ d. d.store.prepared_to) (λ d. d.store.prepared_calls) lns.value.store.journal disk },
+}
+
+impl LnsSite {
+    /// The LNS over a store that is opened on an empty disk, before its start.
+    pub fn open(alloc: Global) -> Option<LnsSite> {
+        let mut disk = holding(alloc, b"").ok()?;
+        let store = Store::open(alloc, &mut disk, 2, 2).ok()?;
+        let lns = boxed_lns(alloc, store).ok()?;
+        Some(LnsSite { lns, disk })
+    }
+
+    pub fn start(&mut self) -> Result<Given, StoreStop> {
+        self.lns.start(&mut self.disk)
+    }
+
+    pub fn step(&mut self, event: &Event) -> Result<Given, StoreStop> {
+        self.lns.step(&mut self.disk, MOMENT, BLOCK, event)
+    }
+}
