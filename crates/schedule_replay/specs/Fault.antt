@@ -27,8 +27,8 @@ abbrev pub Leads : Result Lined Refusal → Told → Told → Type 0
 Leads (Ok l) old new = LeadsTo l old new
 Leads (Err x) old new = ⊥
 
--- what stays where a line is refused: the whole world; but of one that found no room for a step's records its report alone, as the step was
--- made before that was seen
+-- What stays where a line is refused: the whole world; but of one that found no room for a step's records its report alone, as a tick's clock
+-- has gone on, and a table in which a node was put back isn't known to be the same table.
 abbrev pub Stays : Refusal → Told → Told → Type 0
 Stays (Unfit why) old new = new ≡ old
 Stays (HalfSpace number count) old new = new ≡ old
