@@ -93,13 +93,13 @@ impl Journal {
     }
 
     /// Whose journal it is.
-    pub(crate) fn kind(&self) -> u8
+    pub fn kind(&self) -> u8
         ensures { result ≡ self.now.kind }
     {
         self.kind
     }
 
-    pub(crate) fn number(&self) -> u8
+    pub fn number(&self) -> u8
         ensures { result ≡ self.now.number }
     {
         self.number

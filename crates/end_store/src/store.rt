@@ -2,7 +2,7 @@
 
 ghost use Rattle.std.specs.Prelude.{◌≡◌, ◌≤◌, ◌<◌, ◌-◌, ◌++◌, ◌∷◌, [], ℕ, List, length, min, IfOk, OnOk, OnErr, IfSome, Some, is_some, true, false};
 ghost use Rattle.std.specs.List.{AllByRecursion};
-ghost use Rattle.checkpoint_journal.specs.Format.{most_records};
+ghost use Rattle.checkpoint_journal.specs.Format.{most_records, opens};
 ghost use Rattle.checkpoint_journal.specs.State.{opened_at, HasRoom};
 ghost use Rattle.checkpoint_journal.specs.Answers.{Opens, OpenHasCause, IsUnwritten, IsSafe, IsMadeNew, RoomHasCause, StopHasCause, SomeHaveCause};
 ghost use Rattle.session_book.specs.Books.{fits, book_of};
@@ -85,6 +85,9 @@ impl Store {
         // The book of the file's contents, or the place at which it is refused.
         ensures opens { IfSome (D.holds disk.old) (λ held. Opens (λ s. s.kept) (reads kind number held.bytes) result) }
 
+        // It has as many records as the file has contents.
+        ensures count { IfOk result (λ s. IfSome (D.holds disk.old) (λ held. IfOk (opens kind number held.bytes) (λ contents. length contents ≡ s.journal.records))) }
+
         // The store is of that kind and node, and its book is that of what the disk holds.
         ensures journal { IfOk result (λ s. s.journal ≡ opened_at kind number s.journal.start s.journal.records) }
         ensures kept { IfOk result (λ s. IsKept s (D.holds disk.new)) }
@@ -100,6 +103,20 @@ impl Store {
         let (journal, contents) = open_disk(alloc, disk, kind, number)?;
         let book = read_book(alloc, &journal, &contents)?;
         Ok(Store { journal, book })
+    }
+
+    /// Whose it is: 1 for a LAC's, 2 for an LNS's.
+    pub fn kind(&self) -> u8
+        ensures { result ≡ self.now.journal.kind }
+    {
+        self.journal.kind()
+    }
+
+    /// The node's number.
+    pub fn number(&self) -> u8
+        ensures { result ≡ self.now.journal.number }
+    {
+        self.journal.number()
     }
 
     /// The book of the records that are on the disk.

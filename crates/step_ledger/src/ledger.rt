@@ -30,7 +30,7 @@ impl<S> From<OutOfMemory> for StepFault<S> {
     }
 }
 
-/// What keeps the records that the steps of an end leave. It outlives the end, so that the end finds them again.
+/// What is asked to commit the records that the steps of an end leave, before the step is made.
 pub trait Ledger {
     /// Why records weren't committed.
     type Stop;
@@ -41,8 +41,8 @@ pub trait Ledger {
     /// How records are committed: the ledger before, the records, the answer, and the ledger after it.
     ghost commits_to: { Self → List Record → Result ⊤ Self.Stop → Self → Type 0 };
 
-    /// Commits the records of a step, one behind the other; its condition is that no tunnel comes up with a mark. At `Ok` they
-    /// are kept, whatever happens to the end from then on.
+    /// Commits the records of a step, one behind the other; its condition is that no tunnel comes up with a mark. What comes of them,
+    /// and how long they are kept, is for each ledger to say.
     fn commit(&mut self, records: &[Record]) -> Result<(), Self::Stop>
         requires ready { can_commit self.old }
         requires unmarked { AllByRecursion IsUnmarked records.now }
