@@ -8,9 +8,9 @@ use Rattle.step_ledger.specs.declared.ledger.StepFault.{StepFault}
 use Rattle.step_ledger.specs.declared.ledger.StepFault.TheVariants as fault
 use Rattle.step_ledger.specs.Committing.{Commits}
 use Rattle.world_model.specs.World.{Node, Checkpoint, commits, fallen}
-use Rattle.world_checkpoint.specs.declared.checkpoint.CommitStop.{CommitStop}
-use Rattle.world_checkpoint.specs.declared.checkpoint.CommitStop.TheVariants as stop
-use Rattle.world_checkpoint.specs.Held.{Held, CommitsTo}
+use Rattle.world_checkpoint.specs.declared.commits.CommitStop.{CommitStop}
+use Rattle.world_checkpoint.specs.declared.commits.CommitStop.TheVariants as stop
+use Rattle.world_checkpoint.specs.Stores.{CommitsTo}
 use Rattle.schedule_replay.specs.declared.kinds.Moved.{Moved}
 use Rattle.schedule_replay.specs.declared.node.Unmade.{Unmade}
 use Rattle.schedule_replay.specs.declared.node.Unmade.TheVariants as unmade
@@ -19,16 +19,16 @@ use Rattle.schedule_replay.specs.Serving.{SiteStep, site_contents, GivesSite, Is
 use Rattle.schedule_replay.proofs.Keeps.{who}
 
 -- how a checkpoint is committed to
-abbrev pub committing : Held → List Record → Result ⊤ CommitStop → Held → Type 0
-committing before records result after = CommitsTo result (commits before.checkpoint records) before.checkpoint after.checkpoint
+abbrev pub committing : Checkpoint → List Record → Result ⊤ CommitStop → Checkpoint → Type 0
+committing before records result after = CommitsTo result (commits before records) before after
 
-module _ (block : List ℕ) (x : Node) (v : SiteStep) (held after : Held) (same : held.checkpoint ≡ x.checkpoint) where
+module _ (block : List ℕ) (x : Node) (v : SiteStep) (after : Checkpoint) where
   -- all records were committed
-  pub step_made : (g : Moved) (site : Site) (new : Node) → GivesSite {F = StepFault CommitStop} (Ok g) v (site_in x) site → Commits committing (Ok g) (site_contents (site_in x) v) held after
-      → new ≡ record x { end = site.end; access = site.access; checkpoint = after.checkpoint } → MakesStep (Ok g) block v x new
+  pub step_made : (g : Moved) (site : Site) (new : Node) → GivesSite {F = StepFault CommitStop} (Ok g) v (site_in x) site → Commits committing (Ok g) (site_contents (site_in x) v) x.checkpoint after
+      → new ≡ record x { end = site.end; access = site.access; checkpoint = after } → MakesStep (Ok g) block v x new
   step_made g site new given committed is = (
-    after.checkpoint,
-    ap (λ (k : Checkpoint). commits k (site_contents (site_in x) v)) (sym same) ∙ committed,
+    after,
+    committed,
     is ∙ rw given refl,
     sym (ap (λ (q : SiteStep). q.outputs) given),
     sym (ap (λ (q : SiteStep). q.moves) given),
@@ -37,18 +37,18 @@ module _ (block : List ℕ) (x : Node) (v : SiteStep) (held after : Held) (same 
 
   -- or why they weren't
   pub step_left : (u : Unmade) (f : StepFault CommitStop) (up : Bool) (mid new : Node) → who v.site.end ≡ who x.end
-      → Commits {T = Moved} committing (Err f) (site_contents (site_in x) v) held after → mid ≡ record x { up = up; checkpoint = after.checkpoint }
+      → Commits {T = Moved} committing (Err f) (site_contents (site_in x) v) x.checkpoint after → mid ≡ record x { up = up; checkpoint = after }
       → IsLeft u f block mid new → MakesStep (Err u) block v x new
   unfolding fallen
   step_left unmade.Cut (fault.Uncommitted stop.Cut) up mid new keeps committed is left =
       let role : v.site.end.role ≡ x.end.role = ap (λ (p : Role × Config). p.0) keeps in
       let config : v.site.end.config ≡ x.end.config = ap (λ (p : Role × Config). p.1) keeps in
-      (after.checkpoint, ap (λ (k : Checkpoint). commits k (site_contents (site_in x) v)) (sym same) ∙ committed, left ∙ rw (is, role, config) refl)
+      (after, committed, left ∙ rw (is, role, config) refl)
   step_left unmade.Cut (fault.Uncommitted stop.NoMemory) up mid new keeps committed is left = absurd left
   step_left unmade.Cut (fault.Uncommitted (stop.Full records)) up mid new keeps committed is left = absurd left
   step_left unmade.Cut fault.NoMemory up mid new keeps committed is left = absurd left
   step_left (unmade.Full records) (fault.Uncommitted (stop.Full told)) up mid new keeps committed is left =
-      rw left.0 (ap (λ (k : Checkpoint). commits k (site_contents (site_in x) v)) (sym same) ∙ committed.0)
+      rw left.0 committed.0
   step_left (unmade.Full records) (fault.Uncommitted stop.NoMemory) up mid new keeps committed is left = absurd left
   step_left (unmade.Full records) (fault.Uncommitted stop.Cut) up mid new keeps committed is left = absurd left
   step_left (unmade.Full records) fault.NoMemory up mid new keeps committed is left = absurd left

@@ -16,8 +16,8 @@ use Rattle.end_model.specs.End.{Stepped, step}
 use Rattle.session_book.specs.declared.record.Record.{Record}
 use Rattle.step_ledger.specs.declared.ledger.StepFault.{StepFault}
 use Rattle.step_ledger.specs.declared.ledger.StepFault.TheVariants as fault
-use Rattle.world_checkpoint.specs.declared.checkpoint.CommitStop.{CommitStop}
-use Rattle.world_checkpoint.specs.declared.checkpoint.CommitStop.TheVariants as stop
+use Rattle.world_checkpoint.specs.declared.commits.CommitStop.{CommitStop}
+use Rattle.world_checkpoint.specs.declared.commits.CommitStop.TheVariants as stop
 use Rattle.end_model.specs.Starting.{starts, access_over}
 use Rattle.world_model.specs.Texts.{Entry, Frames, Stopped, entries_text}
 use Rattle.schedule_replay.specs.declared.fault.LineFault.{LineFault}

@@ -1,11 +1,12 @@
 //! A node of the world.
 
-ghost use Rattle.std.specs.Prelude.{◌≡◌, ◌+◌, ◌-◌, ◌^◌, min, [], OnOk, IfOk, Ok, Some, true};
+ghost use Rattle.std.specs.Prelude.{◌≡◌, ◌+◌, ◌-◌, ◌^◌, min, [], OnOk, IfOk, IfSome, Ok, Some, true};
 ghost use Rattle.id_table.specs.Ids.{put};
 ghost use Rattle.end_model.specs.Calls.{is_lac};
 ghost use Rattle.end_model.specs.Access.{access_with};
 ghost use Rattle.end_model.specs.End.{new_end};
 ghost use Rattle.world_model.specs.World.{config_of, count_at, new_checkpoint, with_stop, fallen};
+ghost use Rattle.world_checkpoint.specs.Stores.{OpensTo};
 ghost use Rattle.schedule_replay.specs.Kinds.{site_in};
 ghost use Rattle.schedule_replay.specs.Serving.{site_step, site_start, IsLeft, MakesStep};
 
@@ -45,7 +46,7 @@ impl Model for Node {
 
     ghost Value = { Known };
 
-    ghost view = { λ n. record { end = n.end.end; up = n.up; clock = n.clock; births = n.births.entries; access = n.end.access; checkpoint = n.checkpoint.checkpoint } };
+    ghost view = { λ n. record { end = n.end.end; up = n.up; clock = n.clock; births = n.births.entries; access = n.end.access; checkpoint = n.checkpoint } };
 }
 
 /// A copy of a tunnel secret.
@@ -81,18 +82,32 @@ pub(crate) fn count_at(counts: &Table<u64>, id: u32) -> u64
     counts.get(id).copied().unwrap_or(0)
 }
 
+/// The kind that the journal of an end tells.
+fn kind_of(role: Role) -> u8 {
+    match role {
+        Role::Lac => 1,
+        Role::Lns => 2,
+    }
+}
+
 impl Node {
-    /// A new node, whose LAC makes its cookies with this key.
-    pub(crate) fn new(alloc: Global, role: Role, config: Config, key: [u8; 16]) -> Node
-        ensures { result ≡ record { end = new_end role config; up = true; clock = 0; births = []; access = access_with role key; checkpoint = new_checkpoint } }
+    /// A new node, whose LAC makes its cookies with this key, with a disk of its own.
+    pub(crate) fn new(
+        alloc: Global,
+        role: Role,
+        config: Config,
+        key: [u8; 16],
+    ) -> Result<Node, OutOfMemory>
+        ensures { IfOk result (λ n. n ≡ record { end = new_end role config; up = true; clock = 0; births = []; access = access_with role key; checkpoint = new_checkpoint }) }
     {
-        Node {
+        let checkpoint = Checkpoint::new(alloc, kind_of(role), config.number)?;
+        Ok(Node {
             end: NodeEnd::new(alloc, role, config, key),
             up: true,
             clock: 0,
             births: Table::new(alloc),
-            checkpoint: Checkpoint::new(alloc),
-        }
+            checkpoint,
+        })
     }
 
     pub(crate) fn is_lac(&self) -> bool
@@ -133,24 +148,22 @@ impl Node {
             } => Unmade::Full { records },
             StepFault::Uncommitted {
                 stop: CommitStop::Cut,
-            } => match self.fall(block) {
-                Ok(()) => Unmade::Cut,
-                Err(_) => Unmade::NoMemory,
-            },
+            } => {
+                self.fall(block);
+                Unmade::Cut
+            }
             _ => Unmade::NoMemory,
         }
     }
 
     /// All but the checkpoint is lost, and a stop is armed no more.
     #[tactic(auto, unfolding(world_model::specs::World::fallen))]
-    pub(crate) fn fall(&mut self, block: [u8; 16]) -> Result<(), OutOfMemory>
-        ensures { OnOk result (self.new ≡ fallen block self.old self.old.checkpoint) }
+    pub(crate) fn fall(&mut self, block: [u8; 16])
+        ensures { self.new ≡ fallen block self.old self.old.checkpoint }
     {
-        self.checkpoint.settle()?;
         self.end.fall(block, self.checkpoint.book());
         self.up = false;
         self.checkpoint.disarm();
-        Ok(())
     }
 
     /// The node starts over its checkpoint.
@@ -158,9 +171,6 @@ impl Node {
     pub(crate) fn start(&mut self, block: [u8; 16]) -> Result<Moved, Unmade>
         ensures { MakesStep result block (site_start self.old.end.role self.old.end.config block self.old.checkpoint.book) (record self.old { up = true }) self.new }
     {
-        if self.checkpoint.settle().is_err() {
-            return Err(Unmade::NoMemory);
-        }
         match self.end.start(&mut self.checkpoint, block) {
             Ok(moved) => {
                 self.up = true;
@@ -170,11 +180,18 @@ impl Node {
         }
     }
 
-    /// Arms a stop, in place of the one before.
-    pub(crate) fn arm(&mut self, stop: StopAt)
+    /// What the node's disk holds, None where memory was wanting.
+    pub(crate) fn file(&self) -> Option<&[u8]>
+        ensures { IfSome result (λ file. OpensTo self.now.checkpoint.book file.now) }
+    {
+        self.checkpoint.file()
+    }
+
+    /// Arms a stop, in place of the one before, which is reached at this call of its commit.
+    pub(crate) fn arm(&mut self, stop: StopAt, call: u8)
         ensures { self.new ≡ record self.old { checkpoint = with_stop (Some stop) self.old.checkpoint } }
     {
-        self.checkpoint.arm(stop);
+        self.checkpoint.arm(stop, call);
     }
 
     /// The call with this local session is of this birth.

@@ -1,10 +1,11 @@
 //! The world's state, and what a line does to it.
 
-ghost use Rattle.std.specs.Prelude.{◌≡◌, ◌==◌, [], ◌∷◌, ◌++◌, ◌+◌, length, true, false, count_by, OnOk, IfOk, MatchResult, IsSome, IsOk, slice_get, Ok, Err, None, Some, Option};
+ghost use Rattle.std.specs.Prelude.{◌≡◌, ◌==◌, [], ◌∷◌, ◌++◌, ◌+◌, length, true, false, count_by, OnOk, IfOk, IfSome, MatchResult, IsSome, IsOk, slice_get, Ok, Err, None, Some, Option};
 ghost use Rattle.id_table.specs.Ids.{at};
 ghost use Rattle.world_model.specs.Texts.{send_text, entry_text, entries_text};
 ghost use Rattle.world_model.specs.World.{sent, birth_of, with_birth, is_born, moved, moved_all, shown, shown_all, entry_of, entries_of, declared, lac_at, lns_at, down_at, with_call, with_tunnel, later, added, block_of, stepped, arrival, refused_by, delivers, farewell_in, framed, crashed, armed, started, line as line_of};
 ghost use Rattle.world_model.specs.Run.{tables};
+ghost use Rattle.world_checkpoint.specs.Stores.{OpensTo};
 ghost use Rattle.schedule_replay.specs.Counting.{ups_with, ups_after, agreements_of};
 ghost use Rattle.schedule_replay.specs.Fault.{new_told, Leads, LeadsTo, Says};
 ghost use Rattle.schedule_replay.specs.Serving.{served_at, start_served, reply_entries, frames_unfit, start_unfit, IsPlain, ShowsMade};
@@ -375,7 +376,7 @@ impl State {
         }
         let secret = copy_secret(self.alloc, secret)?;
         let config = config_of(node, lns, secret, hide);
-        let new = Node::new(self.alloc, role, config, block_of(node, line));
+        let new = Node::new(self.alloc, role, config, block_of(node, line))?;
         self.nodes.insert(u32::from(node), new)?;
         Ok(())
     }
@@ -504,13 +505,23 @@ impl State {
         let Some(at) = self.nodes.get_mut(u32::from(node)) else {
             unreachable!()
         };
-        at.fall(block_of(node, line))?;
+        at.fall(block_of(node, line));
         Ok(())
     }
 
-    /// A stop is armed at a node, in a line.
+    /// What the disk of a node holds, None where it isn't declared, or memory was wanting.
+    pub(crate) fn file(&self, node: u8) -> Option<&[u8]>
+        ensures { IfSome result (λ file. IfSome (at self.now.world.nodes node) (λ x. OpensTo x.checkpoint.book file.now)) }
+    {
+        match self.nodes.get(u32::from(node)) {
+            Some(at) => at.file(),
+            None => None,
+        }
+    }
+
+    /// A stop is armed at a node, in a line, at this call of its commit.
     #[tactic(auto, unfolding(world_model::specs::World::armed))]
-    fn arm(&mut self, node: u8, stop: StopAt) -> Result<(), LineFault>
+    fn arm(&mut self, node: u8, stop: StopAt, call: u8) -> Result<(), LineFault>
         ensures { Says result (armed self.old.world node stop (declared (at self.old.world.nodes node))) self.old self.new }
     {
         if let Err(why) = self.running(node) {
@@ -519,7 +530,7 @@ impl State {
         let Some(at) = self.nodes.get_mut(u32::from(node)) else {
             unreachable!()
         };
-        at.arm(stop);
+        at.arm(stop, call);
         Ok(())
     }
 
@@ -596,14 +607,14 @@ impl State {
             Line::Stop {
                 node,
                 commit,
+                call,
                 kept,
-                ..
             } => {
                 let stop = StopAt {
                     commit: *commit,
                     kept: *kept,
                 };
-                self.arm(*node, stop)
+                self.arm(*node, stop, *call)
             }
             Line::Start { node } => self.start(number, *node),
         }

@@ -1,7 +1,9 @@
 //! The world.
 
-ghost use Rattle.std.specs.Prelude.{◌≡◌, length, IfOk};
+ghost use Rattle.std.specs.Prelude.{◌≡◌, length, IfOk, IfSome};
+ghost use Rattle.id_table.specs.Ids.{at};
 ghost use Rattle.world_model.specs.World.{line as line_of};
+ghost use Rattle.world_checkpoint.specs.Stores.{OpensTo};
 ghost use Rattle.schedule_replay.specs.Counting.{agreements_of};
 ghost use Rattle.schedule_replay.specs.Fault.{new_known, WorldSays, Finishes};
 
@@ -93,6 +95,14 @@ impl World {
         ensures { result ≡ self.now.told.ups }
     {
         self.state.ups()
+    }
+
+    /// What the disk of a node holds, None where it isn't declared, or memory was wanting. Opened as the journal of that node it has the
+    /// book of the node's checkpoint.
+    pub fn file(&self, node: u8) -> Option<&[u8]>
+        ensures { IfSome result (λ file. IfSome (at self.now.told.world.nodes node) (λ x. OpensTo x.checkpoint.book file.now)) }
+    {
+        self.state.file(node)
     }
 
     /// How many `agree` lines the report would have if it ended here.

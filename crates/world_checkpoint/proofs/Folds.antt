@@ -1,157 +1,221 @@
--- Records that are committed one after another, and those of a step behind them.
-use Rattle.std.proofs.Common.{◌≡◌, ℕ, ◌+◌, ◌-◌, ◌<◌, ◌≤◌, Bool, true, false, cond, List, [], ◌∷◌, ◌++◌, length, take, Option, Some, None, Ok, Err, refl, sym, ap, subst, ◌∙◌, arith}
-use Rattle.std.specs.Prelude.{⊤, nat_le, nat_lt, Result}
+-- Records that are committed to a store, as the definitions count them.
+use Rattle.std.proofs.Common.{◌≡◌, ℕ, ◌+◌, ◌-◌, ◌<◌, ◌≤◌, Bool, true, false, cond, List, [], ◌∷◌, ◌++◌, length, take, drop, Option, Some, None, Ok, Err, refl, sym, ap, subst, ◌∙◌, arith}
+use Rattle.std.specs.Prelude.{⊤, nat_le, nat_lt, Result, OnOk, is_err}
 use Rattle.std.proofs.lemmas.Bool.Decides.{nat_tests}
+use Rattle.std.proofs.lemmas.List.{take-append-drop, take-take, length-append, append-nil}
+use Rattle.std.proofs.Math.Seq.{take-length}
 use Rattle.session_book.specs.declared.record.Record.{Record}
 use Rattle.session_book.specs.Books.{Kept, fits, stepped}
+use Rattle.end_store.specs.Records.{kept_after_all, fitting}
+use Rattle.disk_core.specs.Disk.{Held}
+use Rattle.end_store.specs.declared.store.StoreStop.{StoreStop}
+use Rattle.end_store.specs.declared.store.StoreStop.TheVariants as stop
+use Rattle.end_store.specs.Stored.{Stored, prepared, with_records, StepHasCause, StepLeaves}
+use Rattle.checkpoint_journal.specs.State.{State}
+use Rattle.checkpoint_journal.specs.Answers.{RoomHasCause}
+use Rattle.checkpoint_journal.specs.declared.journal.JournalRoom.{JournalRoom}
+use Rattle.checkpoint_journal.proofs.Parts.{most_is}
+use Rattle.end_store.proofs.Records.{after_more, fitting_more, fitting_same, fitting_few}
 use Rattle.world_model.specs.declared.stop.StopAt.{StopAt}
-use Rattle.world_model.specs.World.{Checkpoint, Committed, IsFull, IsCut, IsWhole, recorded, recorded_all, with_stop, kept_by, commits_by, commits}
-use Rattle.world_checkpoint.specs.declared.checkpoint.CommitStop.{CommitStop}
-use Rattle.world_checkpoint.specs.declared.checkpoint.CommitStop.TheVariants.{Cut, NoMemory}
-use Rattle.world_checkpoint.specs.Held.{unstopped, held, CommitsTo, Joins}
+use Rattle.world_model.specs.World.{Checkpoint, IsFull, IsCut, IsWhole, recorded, recorded_all, with_stop, kept_by, commits_by, commits}
+use Rattle.world_checkpoint.specs.declared.commits.CommitStop.{CommitStop}
+use Rattle.world_checkpoint.specs.declared.commits.CommitStop.TheVariants.{Full, Cut, NoMemory}
+use Rattle.world_checkpoint.specs.Stores.{seen, CommitsTo, HasMore, HasFirst, HasNoRoom, CommitsAll, CutsOff, CutsLast}
 
--- ---- records behind others
+-- ---- what is recorded
 
-more : (k : Checkpoint) (ps rs : List Record) → recorded_all k (ps ++ rs) ≡ recorded_all (recorded_all k ps) rs
-unfolding recorded_all
-more k [] rs = refl
-more k (p ∷ ps) rs = more (recorded k p) ps rs
+abbrev after : Checkpoint → List Record → Checkpoint
+after k rs = record k { records = k.records + length (fitting k.book rs); book = kept_after_all k.book rs }
 
--- a stop has no part in it
-stop_stays : (s : Option StopAt) (k : Checkpoint) (r : Record) → recorded (with_stop s k) r ≡ with_stop s (recorded k r)
-stop_stays s k r = by (fits k.book r)
-  where
-    by : (b : Bool) → cond b (record k { records = k.records + 1; book = stepped k.book r; stop = s }) (with_stop s k)
-        ≡ with_stop s (cond b (record k { records = k.records + 1; book = stepped k.book r }) k)
-    by true = refl
-    by false = refl
+one_more : (b : Bool) (k : Checkpoint) (r : Record) (rs : List Record)
+    → after (cond b (record k { records = k.records + 1; book = stepped k.book r }) k) rs
+    ≡ record k {
+      records = k.records + length (cond b (r ∷ fitting (stepped k.book r) rs) (fitting k.book rs));
+      book = kept_after_all (cond b (stepped k.book r) k.book) rs;
+    }
+one_more true k r rs =
+    let n : k.records + 1 + length (fitting (stepped k.book r) rs) ≡ k.records + length (r ∷ fitting (stepped k.book r) rs) = omega arith in
+    ap (λ (n : ℕ). record k { records = n; book = kept_after_all (stepped k.book r) rs }) n
+one_more false k r rs = refl
 
-stops : (s : Option StopAt) (k : Checkpoint) (rs : List Record) → recorded_all (with_stop s k) rs ≡ with_stop s (recorded_all k rs)
-unfolding recorded_all
-stops s k [] = refl
-stops s k (r ∷ rs) = ap (λ (j : Checkpoint). recorded_all j rs) (stop_stays s k r) ∙ stops s (recorded k r) rs
+all_recorded : (k : Checkpoint) (rs : List Record) → recorded_all k rs ≡ after k rs
+unfolding recorded_all fitting kept_after_all
+all_recorded k [] = let n : k.records ≡ k.records + 0 = omega arith in ap (λ (n : ℕ). record k { records = n }) n
+all_recorded k (r ∷ rs) = all_recorded (recorded k r) rs ∙ one_more (fits k.book r) k r rs
 
-one_at_most : (k : Checkpoint) (r : Record) → (recorded k r).records ≤ k.records + 1
-one_at_most k r = by (fits k.book r)
-  where
-    by : (b : Bool) → (cond b (record k { records = k.records + 1; book = stepped k.book r }) k).records ≤ k.records + 1
-    by true = omega arith
-    by false = omega arith
-
--- each counts at most once
-at_most : (k : Checkpoint) (rs : List Record) → (recorded_all k rs).records ≤ k.records + length rs
-unfolding recorded_all
-at_most k [] = omega arith
-at_most k (r ∷ rs) = let one = one_at_most k r in let others = at_most (recorded k r) rs in omega arith
-
-nothing_more : (k : Checkpoint) → recorded_all k [] ≡ k
-unfolding recorded_all
-nothing_more k = refl
-
-none_pending : (n : ℕ) (b : Kept) (ps : List Record) (s : Option StopAt) → length ps ≡ 0 → held n b ps s ≡ with_stop s (unstopped n b)
-none_pending n b [] s e = ap (with_stop s) (nothing_more (unstopped n b))
-none_pending n b (p ∷ ps) s e = absurd (omega (arith, e))
-
-joined : (n : ℕ) (b : Kept) (ps rs : List Record) (s next : Option StopAt) → with_stop next (recorded_all (held n b ps s) rs) ≡ held n b (ps ++ rs) next
-joined n b ps rs s next = ap (with_stop next) (stops s (recorded_all (unstopped n b) ps) rs) ∙ ap (with_stop next) (sym (more (unstopped n b) ps rs))
-
-joined_same : (n : ℕ) (b : Kept) (ps rs : List Record) (s : Option StopAt) → recorded_all (held n b ps s) rs ≡ held n b (ps ++ rs) s
-joined_same n b ps rs s = stops s (recorded_all (unstopped n b) ps) rs ∙ ap (with_stop s) (sym (more (unstopped n b) ps rs))
-
--- ---- what joins
-
-free : (ps rs : List Record) → Joins (Ok tt) rs ps None (ps ++ rs) None
-unfolding commits_by
-free ps rs n b = ap IsWhole (joined_same n b ps rs None)
-
-before_stop : (ps rs : List Record) (s : StopAt) → nat_le s.commit (length rs) ≡ false
-    → Joins (Ok tt) rs ps (Some s) (ps ++ rs) (Some (record s { commit = s.commit - length rs }))
-unfolding commits_by
-before_stop ps rs s above n b =
-    let next : Option StopAt = Some (record s { commit = s.commit - length rs }) in
-    let k = held n b ps (Some s) in
-    ap (λ (t : Bool). cond t (IsCut (recorded_all k (take (kept_by s) rs))) (IsWhole (with_stop next (recorded_all k rs)))) above
-    ∙ ap IsWhole (joined n b ps rs (Some s) next)
-
-at_stop : (ps rs : List Record) (s : StopAt) → nat_le s.commit (length rs) ≡ true
-    → Joins (Err Cut) rs ps (Some s) (ps ++ take (kept_by s) rs) (Some s)
-unfolding commits_by
-at_stop ps rs s within n b =
-    let next : Option StopAt = Some (record s { commit = s.commit - length rs }) in
-    let k = held n b ps (Some s) in
-    ap (λ (t : Bool). cond t (IsCut (recorded_all k (take (kept_by s) rs))) (IsWhole (with_stop next (recorded_all k rs)))) within
-    ∙ ap IsCut (joined_same n b ps (take (kept_by s) rs) (Some s))
-
-pub joins_free : (ps rs qs : List Record) (stop : Option StopAt) → stop ≡ None → qs ≡ ps ++ rs → Joins (Ok tt) rs ps stop qs stop
-joins_free ps rs qs stop is so =
-    subst (λ (o : Option StopAt). Joins (Ok tt) rs ps o qs o) (sym is) (subst (λ (l : List Record). Joins (Ok tt) rs ps None l None) (sym so) (free ps rs))
-
-pub joins_before_stop : (ps rs qs : List Record) (stop : Option StopAt) (s : StopAt) (left : ℕ) → stop ≡ Some s → length rs < s.commit
-    → left ≡ s.commit - length rs → qs ≡ ps ++ rs → Joins (Ok tt) rs ps stop qs (Some (record s { commit = left }))
-joins_before_stop ps rs qs stop s left is lt count so =
-    let above : nat_le s.commit (length rs) ≡ false = grind (arith, nat_tests) in
-    subst (λ (o : Option StopAt). Joins (Ok tt) rs ps o qs (Some (record s { commit = left }))) (sym is)
-    (subst (λ (n : ℕ). Joins (Ok tt) rs ps (Some s) qs (Some (record s { commit = n }))) (sym count)
-    (subst (λ (l : List Record). Joins (Ok tt) rs ps (Some s) l (Some (record s { commit = s.commit - length rs }))) (sym so) (before_stop ps rs s above)))
-
-pub joins_at_stop : (ps rs cut qs : List Record) (stop : Option StopAt) (s : StopAt) → stop ≡ Some s → s.commit ≤ length rs
-    → cut ≡ take (kept_by s) rs → qs ≡ ps ++ cut → Joins (Err Cut) rs ps stop qs stop
-joins_at_stop ps rs cut qs stop s is le first so =
-    let within : nat_le s.commit (length rs) ≡ true = grind (arith, nat_tests) in
-    subst (λ (o : Option StopAt). Joins (Err Cut) rs ps o qs o) (sym is)
-    (subst (λ (l : List Record). Joins (Err Cut) rs ps (Some s) l (Some s)) (sym (so ∙ ap (λ (l : List Record). ps ++ l) first)) (at_stop ps rs s within))
-
-pub joins_nothing : (ps rs qs : List Record) (stop : Option StopAt) → qs ≡ ps → Joins (Err NoMemory) rs ps stop qs stop
-joins_nothing ps rs qs stop same = λ n b. ap (λ (l : List Record). held n b l stop) same
-
--- ---- what is applied
-
--- records that are applied are those of the book
-pub settles : (n m : ℕ) (b reserved applied : Kept) (ps qs left : List Record) (s : Option StopAt) (now : Checkpoint) → held n b ps s ≡ now → reserved ≡ b
-    → qs ≡ ps → unstopped m applied ≡ recorded_all (unstopped n reserved) qs → left ≡ take 0 ps → held m applied left s ≡ now
-settles n m b reserved applied ps qs left s now is same all done none =
-    let book = ap (λ (k : Kept). recorded_all (unstopped n k) qs) same in
-    let records = ap (recorded_all (unstopped n b)) all in
-    ap (λ (l : List Record). held m applied l s) none ∙ ap (with_stop s) (nothing_more (unstopped m applied)) ∙ ap (with_stop s) (done ∙ book ∙ records) ∙ is
+-- a store that has these more is the checkpoint that recorded them
+pub recorded_is : (stop : Option StopAt) (old new : Stored) (rs : List Record) → HasMore rs old new → recorded_all (seen stop old) rs ≡ seen stop new
+recorded_is stop old new rs more =
+    all_recorded (seen stop old) rs ∙ rw (more.records, more.kept) refl
 
 -- ---- whether there is room
 
-room : (n : ℕ) (b : Kept) (ps : List Record) (s : Option StopAt) (rs : List Record) → n + length ps + length rs ≤ 1048576
-    → commits (held n b ps s) rs ≡ commits_by (held n b ps s) rs s
+room : (k : Checkpoint) (rs : List Record) → k.records + length rs ≤ 1048576 → commits k rs ≡ commits_by k rs k.stop
 unfolding commits
-room n b ps s rs le =
-    let k = held n b ps s in
-    let most = at_most (unstopped n b) ps in
-    let here : k.records + length rs ≤ 1048576 = omega arith in
+room k rs le =
     let fits_in : nat_lt 1048576 (k.records + length rs) ≡ false = grind (arith, nat_tests) in
-    ap (λ (t : Bool). cond t (IsFull k.records) (commits_by k rs s)) fits_in
+    ap (λ (t : Bool). cond t (IsFull k.records) (commits_by k rs k.stop)) fits_in
 
-full : (n : ℕ) (b : Kept) (s : Option StopAt) (rs : List Record) → 1048576 < n + length rs → commits (with_stop s (unstopped n b)) rs ≡ IsFull n
+no_room : (k : Checkpoint) (rs : List Record) → 1048576 < k.records + length rs → commits k rs ≡ IsFull k.records
 unfolding commits
-full n b s rs lt =
-    let past : nat_lt 1048576 (n + length rs) ≡ true = grind (arith, nat_tests) in
-    ap (λ (t : Bool). cond t (IsFull n) (commits_by (with_stop s (unstopped n b)) rs s)) past
+no_room k rs lt =
+    let past : nat_lt 1048576 (k.records + length rs) ≡ true = grind (arith, nat_tests) in
+    ap (λ (t : Bool). cond t (IsFull k.records) (commits_by k rs k.stop)) past
 
-no_room : (n : ℕ) (b : Kept) (ps : List Record) (s : Option StopAt) (rs : List Record) → length ps ≡ 0 → 1048576 < n + length ps + length rs
-    → commits (held n b ps s) rs ≡ IsFull n
-no_room n b ps s rs none lt =
-    ap (λ (k : Checkpoint). commits k rs) (none_pending n b ps s none) ∙ full n b s rs (omega (arith, none))
+refused : (stop : Option StopAt) (old new : Stored) (records : ℕ) (rs : List Record) → HasNoRoom records rs old new
+    → (commits (seen stop old) rs ≡ IsFull records) × (seen stop new ≡ seen stop old)
+refused stop old new records rs none = (
+  no_room (seen stop old) rs none.past ∙ ap IsFull (sym none.told),
+  rw (none.same_records, none.same_kept) refl,
+)
 
--- records that there is room for are committed to what was there before
-pub committed : (result : Result ⊤ CommitStop) (n : ℕ) (b : Kept) (ps rs qs : List Record) (s next : Option StopAt) (old : Checkpoint)
-    → held n b ps s ≡ old → n + length ps + length rs ≤ 1048576 → Joins result rs ps s qs next
-    → CommitsTo result (commits old rs) old (held n b qs next)
-committed result n b ps rs qs s next old is le joins =
-    subst (λ (k : Checkpoint). CommitsTo result (commits k rs) k (held n b qs next)) is
-    (subst (λ (c : Committed). CommitsTo result c (held n b ps s) (held n b qs next)) (sym (room n b ps s rs le)) (joins n b))
+-- ---- what a commit answers
 
-pub refused : (n : ℕ) (b : Kept) (ps rs : List Record) (s : Option StopAt) (old : Checkpoint) → held n b ps s ≡ old → length ps ≡ 0
-    → 1048576 < n + length ps + length rs → commits old rs ≡ IsFull n
-refused n b ps rs s old is none lt = ap (λ (k : Checkpoint). commits k rs) (sym is) ∙ no_room n b ps s rs none lt
+module _ (old new : Stored) (rs : List Record) where
+  -- where no stop is armed
+  pub committed_free : (result : Result ⊤ CommitStop) (stop : Option StopAt) → stop ≡ None → CommitsAll result rs old new
+      → CommitsTo result (commits (seen stop old) rs) (seen stop old) (seen stop new)
+  unfolding commits_by
+  committed_free (Ok done) stop is (le, more) =
+      room (seen stop old) rs le ∙ ap (commits_by (seen stop old) rs) is ∙ ap IsWhole (recorded_is stop old new rs more)
+  committed_free (Err (Full records)) stop is none = refused stop old new records rs none
+  committed_free (Err Cut) stop is never = absurd never
+  committed_free (Err NoMemory) stop is tt = tt
 
--- what a test of the room says
-pub has_room : (t : Bool) (n p r : ℕ) (ps : List Record) → t ≡ nat_le (n + length ps + r) 1048576 → t ≡ true → length ps ≡ p → n + p + r ≤ 1048576
-has_room t n p r ps is so same = let le : nat_le (n + length ps + r) 1048576 ≡ true = sym is ∙ so in grind (arith, nat_tests)
+  -- before the stop
+  pub committed_before : (stop : Option StopAt) (s : StopAt) (left : ℕ) → stop ≡ Some s → length rs < s.commit → left ≡ s.commit - length rs
+      → CommitsAll (Ok tt) rs old new
+      → CommitsTo (Ok tt) (commits (seen stop old) rs) (seen stop old) (seen (Some (record s { commit = left })) new)
+  unfolding commits_by
+  committed_before stop s left is lt count (le, more) =
+      let above : nat_le s.commit (length rs) ≡ false = grind (arith, nat_tests) in
+      let next : Option StopAt = Some (record s { commit = s.commit - length rs }) in
+      let k = seen stop old in
+      room k rs le ∙ ap (commits_by k rs) is
+      ∙ ap (λ (t : Bool). cond t (IsCut (recorded_all k (take (kept_by s) rs))) (IsWhole (with_stop next (recorded_all k rs)))) above
+      ∙ ap (λ (c : Checkpoint). IsWhole (with_stop next c)) (recorded_is stop old new rs more)
+      ∙ ap (λ (n : ℕ). IsWhole (seen (Some (record s { commit = n })) new)) (sym count)
 
-pub has_none : (t : Bool) (n p r : ℕ) (ps : List Record) → t ≡ nat_le (n + length ps + r) 1048576 → t ≡ false → length ps ≡ p → 1048576 < n + p + r
-has_none t n p r ps is so same = let le : nat_le (n + length ps + r) 1048576 ≡ false = sym is ∙ so in grind (arith, nat_tests)
+  -- or where there is no room before it
+  pub committed_not : (e : CommitStop) (stop : Option StopAt) → CommitsAll (Err e) rs old new
+      → CommitsTo (Err e) (commits (seen stop old) rs) (seen stop old) (seen stop new)
+  committed_not (Full records) stop none = refused stop old new records rs none
+  committed_not Cut stop never = absurd never
+  committed_not NoMemory stop tt = tt
+
+  -- at the stop
+  pub committed_at : (e : CommitStop) (stop : Option StopAt) (s : StopAt) → stop ≡ Some s → s.commit ≤ length rs → CutsOff e rs (take (kept_by s) rs) old new
+      → CommitsTo (Err e) (commits (seen stop old) rs) (seen stop old) (seen stop new)
+  unfolding commits_by
+  committed_at (Full records) stop s is reached none = refused stop old new records rs none
+  committed_at NoMemory stop s is reached tt = tt
+  committed_at Cut stop s is reached (le, more) =
+      let within : nat_le s.commit (length rs) ≡ true = grind (arith, nat_tests) in
+      let next : Option StopAt = Some (record s { commit = s.commit - length rs }) in
+      let k = seen stop old in
+      room k rs le ∙ ap (commits_by k rs) is
+      ∙ ap (λ (t : Bool). cond t (IsCut (recorded_all k (take (kept_by s) rs))) (IsWhole (with_stop next (recorded_all k rs)))) within
+      ∙ ap IsCut (recorded_is stop old new (take (kept_by s) rs) more)
+
+-- ---- the last record before a stop, behind the others
+
+more_behind : (xs ys : List Record) (s t u : Stored) → HasMore xs s t → HasMore ys t u → HasMore (xs ++ ys) s u
+more_behind xs ys s t u first last =
+    let all : length (fitting s.kept (xs ++ ys)) ≡ length (fitting s.kept xs) + length (fitting (kept_after_all s.kept xs) ys) =
+    ap length (fitting_more s.kept xs ys) ∙ length-append (fitting s.kept xs) (fitting (kept_after_all s.kept xs) ys)
+    in
+    let same : length (fitting t.kept ys) ≡ length (fitting (kept_after_all s.kept xs) ys) = ap (λ (k : Kept). length (fitting k ys)) first.kept in
+    let one = first.records in
+    let other = last.records in
+    record {
+      records = omega arith;
+      kept = last.kept ∙ ap (λ (k : Kept). kept_after_all k ys) first.kept ∙ sym (after_more s.kept xs ys);
+    }
+
+first_all : (rs : List Record) (s t : Stored) → (first : HasFirst rs s t) → t.journal.records ≡ s.journal.records + length (fitting s.kept rs)
+    → HasMore rs s t
+first_all rs s t first is =
+    let told = first.records in
+    let all : first.count ≡ length (fitting s.kept rs) = omega arith in
+    record {
+      records = is;
+      kept = first.kept ∙ ap (λ (n : ℕ). kept_after_all s.kept (take n (fitting s.kept rs))) all
+          ∙ ap (kept_after_all s.kept) (take-length (fitting s.kept rs)) ∙ fitting_same s.kept rs;
+    }
+
+first_none : (rs : List Record) (s t : Stored) → (first : HasFirst rs s t) → t.journal.records ≡ s.journal.records → HasMore [] s t
+unfolding fitting kept_after_all
+first_none rs s t first is =
+    let told = first.records in
+    let none : first.count ≡ 0 = omega arith in
+    record {
+      records = omega arith;
+      kept = first.kept ∙ ap (λ (n : ℕ). kept_after_all s.kept (take n (fitting s.kept rs))) none;
+    }
+
+pub one_at_most : (kept : Bool) (k : Kept) (last : List Record) → length last ≤ 1 → cond kept (length (fitting k last)) 0 ≤ 1
+one_at_most true k last one = let few = fitting_few k last in omega arith
+one_at_most false k last one = omega arith
+
+-- the last one is committed where it is kept
+pub cuts_last : (kept : Bool) (last : List Record) (old mid new : Stored) (n : ℕ) → mid ≡ prepared n old → HasFirst last mid new
+    → new.journal.records ≡ old.journal.records + cond kept (length (fitting old.kept last)) 0 → CutsLast Cut kept last old new
+cuts_last true last old mid new n is first records =
+    let more = first_all last (prepared n old) new (subst (λ (s : Stored). HasFirst last s new) is first) records in
+    record { records = more.records; kept = more.kept }
+cuts_last false last old mid new n is first records =
+    let more = first_none last (prepared n old) new (subst (λ (s : Stored). HasFirst last s new) is first) (omega (arith, records)) in
+    record { records = more.records; kept = more.kept }
+
+-- and the others before it
+pub cuts_off : (e : CommitStop) (kept : Bool) (commit : ℕ) (rs before last : List Record) (old mid new : Stored) → old.journal.records + length rs ≤ 1048576
+    → before ≡ take (commit - 1) (take commit rs) → last ≡ drop (commit - 1) (take commit rs) → HasMore before old mid → CutsLast e kept last mid new
+    → CutsOff e rs (take (cond kept commit (commit - 1)) rs) old new
+cuts_off (Full records) kept commit rs before last old mid new le front back first never = absurd never
+cuts_off NoMemory kept commit rs before last old mid new le front back first done = tt
+cuts_off Cut true commit rs before last old mid new le front back first done =
+    let all : before ++ last ≡ take commit rs =
+    ap (λ (l : List Record). l ++ last) front ∙ ap (λ (l : List Record). take (commit - 1) (take commit rs) ++ l) back ∙ take-append-drop (commit - 1) (take commit rs)
+    in
+    (le, subst (λ (l : List Record). HasMore l old new) all (more_behind before last old mid new first done))
+cuts_off Cut false commit rs before last old mid new le front back first done =
+    let all : before ++ [] ≡ take (commit - 1) rs = append-nil before ∙ front ∙ take-take (commit - 1) commit rs (omega arith) in
+    (le, subst (λ (l : List Record). HasMore l old new) all (more_behind before [] old mid new first done))
+
+-- ---- what the store answers
+
+pub whole_is : (old new : Stored) (rs : List Record) (n : ℕ) → new ≡ with_records (prepared n old) rs → HasMore rs old new
+whole_is old new rs n is = record {
+  records = ap (λ (s : Stored). s.journal.records) is;
+  kept = ap (λ (s : Stored). s.kept) is;
+}
+
+full_told : (old new : Stored) (rs : List Record) (records faults later : ℕ) (held now : Option Held)
+    → StepHasCause {T = ⊤} rs old new faults later (Err (stop.StoreFull records)) → StepLeaves {T = ⊤} old new held now (Err (stop.StoreFull records))
+    → HasNoRoom records rs old new
+full_told old new rs records faults later held now (on, past, told, same) (is, disk) = record {
+  past = omega (arith, past, most_is);
+  told = told;
+  same_records = ap (λ (s : Stored). s.journal.records) is;
+  same_kept = ap (λ (s : Stored). s.kept) is;
+}
+
+pub full_is : (old new : Stored) (rs : List Record) (f : StoreStop) (records faults later : ℕ) (held now : Option Held) → f ≡ stop.StoreFull records
+    → StepHasCause {T = ⊤} rs old new faults later (Err f) → StepLeaves {T = ⊤} old new held now (Err f) → HasNoRoom records rs old new
+full_is old new rs f records faults later held now is cause leaves =
+    full_told old new rs records faults later held now (subst (λ (e : StoreStop). StepHasCause {T = ⊤} rs old new faults later (Err e)) is cause)
+    (subst (λ (e : StoreStop). StepLeaves {T = ⊤} old new held now (Err e)) is leaves)
+
+-- ---- an answer that isn't an error
+
+pub ok_of : {T E P : Type 0} (r : Result T E) → is_err r ≡ false → OnOk r P → P
+ok_of (Ok done) is p = p
+ok_of (Err e) is p = absurd cc
+
+pub room_of : (j : State) (n : ℕ) (r : Result ⊤ JournalRoom) → is_err r ≡ false → RoomHasCause j n r → j.records + n ≤ 1048576
+room_of j n (Ok done) is cause = let le = cause.1 in omega (arith, le, most_is)
+room_of j n (Err e) is cause = absurd cc
+
+pub all_of : (r : Result ⊤ CommitStop) (rs : List Record) (old new : Stored) → is_err r ≡ false → CommitsAll r rs old new → HasMore rs old new
+all_of (Ok done) rs old new is (le, more) = more
+all_of (Err e) rs old new is more = absurd cc

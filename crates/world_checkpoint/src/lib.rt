@@ -1,7 +1,10 @@
-//! A node's checkpoint, in memory. A line costs the same however many calls there are: records that are committed are kept as they
-//! are, and are applied to the book only when the book is asked for.
+//! A node's checkpoint: the store of its records, on a disk in memory. A stop that is armed is reached through that disk: it fails at
+//! one of the four calls of a commit, comes back from a crash, and the store is opened again over what is left.
 #![tactic(auto)]
 
 mod checkpoint;
+mod commits;
+mod crash;
 
-pub use checkpoint::{Checkpoint, CommitStop};
+pub use checkpoint::Checkpoint;
+pub use commits::CommitStop;

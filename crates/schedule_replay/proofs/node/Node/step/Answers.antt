@@ -11,16 +11,16 @@ pub returns-in-Ok : goal.returns-in-Ok
 returns-in-Ok c =
     let w : Node = view_of c.self.inside in
     let v : SiteStep = site_step (site_in w) w.clock c.args.block c.args.event.now in
-    let y : Node = record w { end = c.step.new.self.end; access = c.step.new.self.access; checkpoint = c.step.new.ledger.checkpoint } in
+    let y : Node = record w { end = c.step.new.self.end; access = c.step.new.self.access; checkpoint = c.step.new.ledger } in
     subst (λ (n : Node). MakesStep (Ok c.in-Ok.moved) c.args.block (site_step (site_in n) n.clock c.args.block c.args.event.now) n y) c.self.view_is
-    (step_made c.args.block w v c.self.inside.checkpoint c.step.new.ledger refl c.in-Ok.moved c.step.new.self y c.in-Ok.ensures.given c.in-Ok.ensures.committed refl)
+    (step_made c.args.block w v c.step.new.ledger c.in-Ok.moved c.step.new.self y c.in-Ok.ensures.given c.in-Ok.ensures.committed refl)
 
 pub returns-in-Err : goal.returns-in-Err
 returns-in-Err c =
     let w : Node = view_of c.self.inside in
     let v : SiteStep = site_step (site_in w) w.clock c.args.block c.args.event.now in
-    let mid : Node = record w { end = c.step.new.self.end; access = c.step.new.self.access; checkpoint = c.step.new.ledger.checkpoint } in
-    let same : mid ≡ record w { up = w.up; checkpoint = c.step.new.ledger.checkpoint } = rw c.in-Err.ensures.given refl in
+    let mid : Node = record w { end = c.step.new.self.end; access = c.step.new.self.access; checkpoint = c.step.new.ledger } in
+    let same : mid ≡ record w { up = w.up; checkpoint = c.step.new.ledger } = rw c.in-Err.ensures.given refl in
     subst (λ (n : Node). MakesStep (Err c.leave.result) c.args.block (site_step (site_in n) n.clock c.args.block c.args.event.now) n c.leave.new.self) c.self.view_is
-    (step_left c.args.block w v c.self.inside.checkpoint c.step.new.ledger refl c.leave.result c.in-Err.fault w.up mid c.leave.new.self
+    (step_left c.args.block w v c.step.new.ledger c.leave.result c.in-Err.fault w.up mid c.leave.new.self
     (site_keeps (site_in w) w.clock c.args.block c.args.event.now) c.in-Err.ensures.committed same c.leave.ensures)
