@@ -1,10 +1,15 @@
 -- What events lead to, one after another.
-use Rattle.std.proofs.Common.{◌≡◌, ℕ, ◌⊎◌, inl, inr, List, [], ◌∷◌, ◌++◌, take, refl, sym, ap, subst, ◌∙◌, append_assoc, arith}
-use Rattle.std.proofs.lemmas.List.{append-nil}
+use Rattle.std.proofs.Common.{◌≡◌, ℕ, inl, inr, List, [], ◌∷◌, ◌++◌, refl, sym, ap, subst, ◌∙◌, append_assoc}
+use Rattle.std.specs.Prelude.{Some, None}
 use Rattle.rand_core.specs.Stream.{Stream, fill_bytes}
+use Rattle.std.proofs.lemmas.List.{append-nil}
 use Rattle.port_events.specs.declared.end.Event.{Event}
 use Rattle.port_events.specs.declared.end.Out.{Out}
-use Rattle.port_events.specs.Feeding.{run, Ran, Given, Goes, Fed, Stopped}
+use Rattle.port_events.specs.declared.giving.TurnFault.{TurnFault}
+use Rattle.port_events.specs.declared.giving.TurnFault.TheVariants as faults
+use Rattle.port_events.specs.Giving.{IsCut, IsAround}
+use Rattle.port_events.specs.Feeding.{Given, Goes, Leads, Fed, Stopped, some_of}
+use Rattle.port_events.specs.Laws.{Ran, run}
 use Rattle.port_events.proofs.Gives.{Gave-none, Gave-then}
 
 Goes-then : (p q r : Given) (xs ys : List Out) → Goes p q xs → Goes q r ys → Goes p r (xs ++ ys)
@@ -13,100 +18,111 @@ Goes-then p q r xs ys a b = Gave-then p.link q.link r.link p.ether q.ether r.eth
 Goes-none : (p : Given) → Goes p p []
 Goes-none p = Gave-none p.link p.ether p.up
 
-module _ {S : Type 0} (after : S → ℕ → List ℕ → Event → S) (outputs : S → ℕ → List ℕ → Event → List Out) (now : ℕ) where
-  -- what later events lead to
-  abbrev then : Ran S → List Event → Ran S
-  then r es = let l = run after outputs now r.stream r.end es in record { stream = l.stream; end = l.end; outs = r.outs ++ l.outs }
+module _ {S : Type 0} (steps : S → ℕ → List ℕ → Event → List Out → S → Type 0) (now : ℕ) where
+  leads_then : (s t u : Stream) (x y z : S) (es fs : List Event) (xs ys : List Out)
+      → Leads steps now s x es xs t y → Leads steps now t y fs ys u z → Leads steps now s x (es ++ fs) (xs ++ ys) u z
+  leads_then s t u x y z [] fs xs ys a b =
+      let there : Leads steps now s x fs ys u z = subst (λ (k : S). Leads steps now s k fs ys u z) a.2 (subst (λ (k : Stream). Leads steps now k y fs ys u z) a.1 b) in
+      subst (λ (k : List Out). Leads steps now s x fs (k ++ ys) u z) (sym a.0) there
+  leads_then s t u x y z (e ∷ es) fs xs ys a b =
+      let block = fill_bytes 16 s in
+      (a.0, a.1, a.2 ++ ys, a.3, ap (λ (k : List Out). k ++ ys) a.4 ∙ append_assoc a.1 a.2 ys, leads_then block.1 t u a.0 y z es fs a.2 ys a.5 b)
 
-  run-then : (stream : Stream) (end : S) (xs ys : List Event) → run after outputs now stream end (xs ++ ys) ≡ then (run after outputs now stream end xs) ys
-  run-then stream end [] ys = refl
-  run-then stream end (x ∷ xs) ys =
-      let block = fill_bytes 16 stream in
-      let first = outputs end now block.0 x in
-      let r = run after outputs now block.1 (after end now block.0 x) xs in
-      let l = run after outputs now r.stream r.end ys in
-      ap (λ (q : Ran S). record { stream = q.stream; end = q.end; outs = first ++ q.outs }) (run-then block.1 (after end now block.0 x) xs ys)
-      ∙ ap (λ (os : List Out). record { stream = l.stream; end = l.end; outs = os }) (sym (append_assoc first r.outs l.outs))
+  -- one event, with the block that was drawn for it
+  one_leads : (s t : Stream) (block : List ℕ) (x y : S) (e : Event) (outs : List Out)
+      → (block, t) ≡ fill_bytes 16 s → steps x now block e outs y → Leads steps now s x (e ∷ []) outs t y
+  one_leads s t block x y e outs drawn made =
+      (y, outs, [], subst (λ (k : List ℕ). steps x now k e outs y) (ap (λ p. p.0) drawn) made, sym (append-nil outs), (refl, ap (λ p. p.1) drawn, refl))
 
-  pub fed_none : (stream : Stream) (end : S) (g : Given) → Fed after outputs now stream stream end end g g []
-  fed_none stream end g = record { stream_is = refl; end_is = refl; gave = Goes-none g }
+  pub fed_none : (s : Stream) (x : S) (g : Given) → Fed steps now s s x x g g []
+  fed_none s x g = record { outs = []; leads = (refl, refl, refl); gave = Goes-none g }
 
-  pub fed_one : (stream stream' : Stream) (block : List ℕ) (end end' : S) (g g' : Given) (e : Event) (outs : List Out)
-      → (block, stream') ≡ fill_bytes 16 stream → end' ≡ after end now block e → outs ≡ outputs end now block e → Goes g g' outs
-      → Fed after outputs now stream stream' end end' g g' (e ∷ [])
-  fed_one stream stream' block end end' g g' e outs drawn made told gave =
-      let b : block ≡ (fill_bytes 16 stream).0 = ap (λ p. p.0) drawn in
-      record {
-        stream_is = ap (λ p. p.1) drawn;
-        end_is = made ∙ ap (λ (k : List ℕ). after end now k e) b;
-        gave = subst (Goes g g') (told ∙ ap (λ (k : List ℕ). outputs end now k e) b ∙ sym (append-nil (outputs end now (fill_bytes 16 stream).0 e))) gave;
-      }
+  pub fed_one : (s t : Stream) (block : List ℕ) (x y : S) (g g' : Given) (e : Event) (outs : List Out)
+      → (block, t) ≡ fill_bytes 16 s → steps x now block e outs y → Goes g g' outs → Fed steps now s t x y g g' (e ∷ [])
+  fed_one s t block x y g g' e outs drawn made gave = record { outs = outs; leads = one_leads s t block x y e outs drawn made; gave = gave }
 
   pub fed_then : (s t u : Stream) (x y z : S) (p q r : Given) (es fs : List Event)
-      → Fed after outputs now s t x y p q es → Fed after outputs now t u y z q r fs → Fed after outputs now s u x z p r (es ++ fs)
-  fed_then s t u x y z p q r es fs a b =
-      let all = run-then s x es fs in
-      let first = run after outputs now s x es in
-      let at : run after outputs now t y fs ≡ run after outputs now first.stream first.end fs = ap (λ (k : Stream). run after outputs now k y fs) a.stream_is ∙ ap (λ (k : S). run after outputs now first.stream k fs) a.end_is in
-      record {
-        stream_is = b.stream_is ∙ ap (λ (k : Ran S). k.stream) at ∙ ap (λ (k : Ran S). k.stream) (sym all);
-        end_is = b.end_is ∙ ap (λ (k : Ran S). k.end) at ∙ ap (λ (k : Ran S). k.end) (sym all);
-        gave = subst (Goes p r) (ap (λ (os : List Out). first.outs ++ os) (ap (λ (k : Ran S). k.outs) at) ∙ ap (λ (k : Ran S). k.outs) (sym all)) (Goes-then p q r _ _ a.gave b.gave);
-      }
+      → Fed steps now s t x y p q es → Fed steps now t u y z q r fs → Fed steps now s u x z p r (es ++ fs)
+  fed_then s t u x y z p q r es fs a b = record {
+    outs = a.outs ++ b.outs;
+    leads = leads_then s t u x y z es fs a.outs b.outs a.leads b.leads;
+    gave = Goes-then p q r a.outs b.outs a.gave b.gave;
+  }
 
-  pub stopped_now : (stream : Stream) (end : S) (g : Given) → Stopped after outputs now stream end end g g []
-  stopped_now stream end g = record { made = []; last = []; taken = refl; one = omega arith; count = 0; gave = Goes-none g; end_is = inl refl }
+module _ {S F : Type 0} (steps : S → ℕ → List ℕ → Event → List Out → S → Type 0) (stops : S → ℕ → List ℕ → Event → F → S → Type 0) (now : ℕ) where
+  pub stopped_now : (fault : TurnFault F) (s : Stream) (x : S) (g : Given) → IsAround fault → Stopped steps stops now fault s x x g g []
+  stopped_now fault s x g around = record {
+    made = [];
+    outs = [];
+    mid_stream = s;
+    mid = x;
+    leads = (refl, refl, refl);
+    last = None;
+    part = [];
+    ends = (refl, refl, around);
+    taken = refl;
+    gave = Goes-none g;
+  }
 
-  pub stopped_before : (stream : Stream) (end end' : S) (g : Given) (e : Event) → end' ≡ end → Stopped after outputs now stream end end' g g (e ∷ [])
-  stopped_before stream end end' g e same = record { made = []; last = e ∷ []; taken = refl; one = omega arith; count = 0; gave = Goes-none g; end_is = inl same }
+  pub stopped_before : (stop : F) (s t : Stream) (block : List ℕ) (x y : S) (g : Given) (e : Event)
+      → (block, t) ≡ fill_bytes 16 s → stops x now block e stop y → Stopped steps stops now (faults.Stopped stop) s x y g g (e ∷ [])
+  stopped_before stop s t block x y g e drawn why = record {
+    made = [];
+    outs = [];
+    mid_stream = s;
+    mid = x;
+    leads = (refl, refl, refl);
+    last = Some e;
+    part = [];
+    ends = inr (record { stop = stop; fault_is = refl; why = subst (λ (k : List ℕ). stops x now k e stop y) (ap (λ p. p.0) drawn) why; nothing = refl });
+    taken = refl;
+    gave = Goes-none g;
+  }
 
-  pub stopped_inside : (stream stream' : Stream) (block : List ℕ) (end end' : S) (g g' : Given) (e : Event) (outs : List Out) (n : ℕ)
-      → (block, stream') ≡ fill_bytes 16 stream → end' ≡ after end now block e → outs ≡ outputs end now block e → Goes g g' (take n outs)
-      → Stopped after outputs now stream end end' g g' (e ∷ [])
-  stopped_inside stream stream' block end end' g g' e outs n drawn made told gave =
-      let b : block ≡ (fill_bytes 16 stream).0 = ap (λ p. p.0) drawn in
-      let all : outs ≡ outputs end now (fill_bytes 16 stream).0 e ++ [] = told ∙ ap (λ (k : List ℕ). outputs end now k e) b ∙ sym (append-nil (outputs end now (fill_bytes 16 stream).0 e)) in
-      record {
-        made = [];
-        last = e ∷ [];
-        taken = refl;
-        one = omega arith;
-        count = n;
-        gave = subst (Goes g g') (ap (take n) all) gave;
-        end_is = inr (made ∙ ap (λ (k : List ℕ). after end now k e) b);
-      }
+  pub stopped_inside : (fault : TurnFault F) (s t : Stream) (block : List ℕ) (x y : S) (g g' : Given) (e : Event) (outs part : List Out)
+      → (block, t) ≡ fill_bytes 16 s → steps x now block e outs y → IsCut fault outs part → Goes g g' part → Stopped steps stops now fault s x y g g' (e ∷ [])
+  stopped_inside fault s t block x y g g' e outs part drawn made cut gave = record {
+    made = [];
+    outs = [];
+    mid_stream = s;
+    mid = x;
+    leads = (refl, refl, refl);
+    last = Some e;
+    part = part;
+    ends = inl (record { outs = outs; made = subst (λ (k : List ℕ). steps x now k e outs y) (ap (λ p. p.0) drawn) made; cut = cut });
+    taken = refl;
+    gave = gave;
+  }
 
-  or_later : (z : S) (u v u' v' : S) → u ≡ u' → v ≡ v' → (z ≡ u) ⊎ (z ≡ v) → (z ≡ u') ⊎ (z ≡ v')
-  or_later z u v u' v' e f (inl h) = inl (h ∙ e)
-  or_later z u v u' v' e f (inr h) = inr (h ∙ f)
+  pub stopped_later : (fault : TurnFault F) (s t : Stream) (x y z : S) (p q r : Given) (es fs : List Event)
+      → Fed steps now s t x y p q es → (later : Stopped steps stops now fault t y z q r fs)
+      → (all : Stopped steps stops now fault s x z p r (es ++ fs)) × (all.made ≡ es ++ later.made)
+  stopped_later fault s t x y z p q r es fs a b = (
+    record {
+      made = es ++ b.made;
+      outs = a.outs ++ b.outs;
+      mid_stream = b.mid_stream;
+      mid = b.mid;
+      leads = leads_then steps now s t b.mid_stream x y b.mid es b.made a.outs b.outs a.leads b.leads;
+      last = b.last;
+      part = b.part;
+      ends = b.ends;
+      taken = ap (λ (k : List Event). es ++ k) b.taken ∙ sym (append_assoc es b.made (some_of b.last));
+      gave = subst (Goes p r) (sym (append_assoc a.outs b.outs b.part)) (Goes-then p q r a.outs (b.outs ++ b.part) a.gave b.gave);
+    },
+    refl,
+  )
 
-  -- what went out where events stopped early, from a stream and an end on
-  abbrev gone_of : Stream → S → List Event → List Event → ℕ → List Out
-  gone_of stream end made last count = let mid = run after outputs now stream end made in mid.outs ++ take count (run after outputs now mid.stream mid.end last).outs
-
-  pub stopped_later : (s t : Stream) (x y z : S) (p q r : Given) (es fs : List Event)
-      → Fed after outputs now s t x y p q es → (later : Stopped after outputs now t y z q r fs)
-      → (all : Stopped after outputs now s x z p r (es ++ fs)) × (all.made ≡ es ++ later.made)
-  stopped_later s t x y z p q r es fs a b =
-      let first = run after outputs now s x es in
-      let gave : Goes q r (gone_of first.stream first.end b.made b.last b.count) =
-      subst (λ (k : S). Goes q r (gone_of first.stream k b.made b.last b.count)) a.end_is (subst (λ (k : Stream). Goes q r (gone_of k y b.made b.last b.count)) a.stream_is b.gave) in
-      let ends : (z ≡ (run after outputs now first.stream first.end b.made).end) ⊎ (z ≡ (run after outputs now first.stream first.end fs).end) =
-      subst (λ (k : S). (z ≡ (run after outputs now first.stream k b.made).end) ⊎ (z ≡ (run after outputs now first.stream k fs).end)) a.end_is
-      (subst (λ (k : Stream). (z ≡ (run after outputs now k y b.made).end) ⊎ (z ≡ (run after outputs now k y fs).end)) a.stream_is b.end_is) in
-      let mid = run after outputs now first.stream first.end b.made in
-      let more = take b.count (run after outputs now mid.stream mid.end b.last).outs in
-      let upto = run-then s x es b.made in
-      let all = run-then s x es fs in (
-        record {
-          made = es ++ b.made;
-          last = b.last;
-          taken = ap (λ (k : List Event). es ++ k) b.taken ∙ sym (append_assoc es b.made b.last);
-          one = b.one;
-          count = b.count;
-          gave = subst (λ (k : Ran S). Goes p r (k.outs ++ take b.count (run after outputs now k.stream k.end b.last).outs)) (sym upto)
-              (subst (Goes p r) (sym (append_assoc first.outs mid.outs more)) (Goes-then p q r first.outs (mid.outs ++ more) a.gave gave));
-          end_is = or_later z _ _ _ _ (ap (λ (k : Ran S). k.end) (sym upto)) (ap (λ (k : Ran S). k.end) (sym all)) ends;
-        },
-        refl,
-      )
+-- where a step is a function, so is what events lead to
+module _ {S : Type 0} (steps : S → ℕ → List ℕ → Event → List Out → S → Type 0) (after : S → ℕ → List ℕ → Event → S) (outputs : S → ℕ → List ℕ → Event → List Out) where
+  pub leads_as_function : ((x y : S) (now : ℕ) (block : List ℕ) (e : Event) (outs : List Out) → steps x now block e outs y → (y ≡ after x now block e) × (outs ≡ outputs x now block e))
+      → (now : ℕ) (s t : Stream) (x y : S) (es : List Event) (outs : List Out) → Leads steps now s x es outs t y → record { stream = t; end = y; outs = outs } ≡ run after outputs now s x es
+  leads_as_function f now s t x y [] outs a = rw (a.0, a.1, a.2) refl
+  leads_as_function f now s t x y (e ∷ es) outs a =
+      let block = fill_bytes 16 s in
+      let step = f x a.0 now block.0 e a.1 a.3 in
+      let rest : record { stream = t; end = y; outs = a.2 } ≡ run after outputs now block.1 (after x now block.0 e) es =
+      leads_as_function f now block.1 t a.0 y es a.2 a.5 ∙ ap (λ (k : S). run after outputs now block.1 k es) step.0 in
+      let all : outs ≡ outputs x now block.0 e ++ a.2 = a.4 ∙ ap (λ (k : List Out). k ++ a.2) step.1 in
+      ap (λ (k : List Out). record { stream = t; end = y; outs = k }) all
+      ∙ ap (λ (k : Ran S). record { stream = k.stream; end = k.end; outs = outputs x now block.0 e ++ k.outs }) rest

@@ -1,13 +1,14 @@
 -- What ports were given, call by call.
-use Rattle.std.proofs.Common.{◌≡◌, ℕ, ◌+◌, ◌<◌, List, [], ◌∷◌, ◌++◌, take, get_or, length, refl, sym, ap, subst, ◌∙◌, append_assoc}
+use Rattle.std.proofs.Common.{◌≡◌, ℕ, ◌+◌, ◌<◌, List, [], ◌∷◌, ◌++◌, take, drop, get_or, length, refl, sym, ap, subst, ◌∙◌, append_assoc}
 use Rattle.std.specs.Prelude.{Option, Some, None}
-use Rattle.std.proofs.lemmas.List.{append-nil, take_more}
+use Rattle.std.proofs.lemmas.List.{append-nil, take_more, take-append-drop, drop_more}
 use Rattle.std.proofs.lemmas.Grind.{flat_map-append}
 use Rattle.port_traits.specs.declared.packets.Datagram.{Datagram}
 use Rattle.port_traits.specs.declared.packets.LowerFrame.{LowerFrame}
 use Rattle.port_traits.specs.Packets.{Gains}
 use Rattle.port_events.specs.declared.end.Out.{Out}
-use Rattle.port_events.specs.Giving.{Gave, to_link, to_ether, to_up}
+use Rattle.port_events.specs.declared.giving.TurnFault.{TurnFault}
+use Rattle.port_events.specs.Giving.{Gave, FailsAt, IsCut, to_link, to_ether, to_up}
 
 pub Gains-none : {T : Type 0} (a : Option (List T)) → Gains a a []
 Gains-none None = tt
@@ -43,3 +44,14 @@ module _ (l m n : Option (List Datagram)) (e f g : Option (List (List ℕ))) (u 
   Gave-more all i x lt is a b =
       let more : take (i + 1) all ≡ take i all ++ x ∷ [] = take_more all i x lt ∙ ap (λ (y : Out). take i all ++ y ∷ []) (sym is) in
       subst (Gave l n e g u w) (sym more) (Gave-then (take i all) (x ∷ []) a b)
+
+  -- the outputs before one went out, and at that one its port failed
+  pub Gave-cut : {F : Type 0} (fault : TurnFault F) (all : List Out) (i : ℕ) (x : Out) → i < length all → x ≡ get_or all i x → FailsAt fault x
+      → Gave l m e f u v (take i all) → Gave m n f g v w [] → (part : List Out) × IsCut fault all part × Gave l n e g u w part
+  Gave-cut fault all i x lt is fails a b =
+      let rest : drop i all ≡ x ∷ drop (i + 1) all = drop_more all i x lt ∙ ap (λ (y : Out). y ∷ drop (i + 1) all) (sym is) in
+      let cut : all ≡ take i all ++ x ∷ drop (i + 1) all = sym (take-append-drop i all) ∙ ap (λ (k : List Out). take i all ++ k) rest in (
+        take i all,
+        record { next = x; left = drop (i + 1) all; outs_are = cut; fails = fails },
+        subst (Gave l n e g u w) (append-nil (take i all)) (Gave-then (take i all) [] a b),
+      )

@@ -4,8 +4,8 @@ use Rattle.port_traits.specs.declared.packets.Datagram.{Datagram}
 use Rattle.port_traits.specs.declared.packets.LowerFrame.{LowerFrame}
 use Rattle.port_events.specs.declared.end.Event.{Event}
 use Rattle.port_events.specs.declared.end.Event.TheVariants as event
-use Rattle.port_events.specs.declared.giving.NodeFault.{NodeFault}
-use Rattle.port_events.specs.declared.giving.NodeFault.TheVariants.{NoMemory}
+use Rattle.port_events.specs.declared.giving.TurnFault.{TurnFault}
+use Rattle.port_events.specs.declared.giving.TurnFault.TheVariants.{NoMemory}
 
 -- the event that is made of what a port gave
 abbrev pub datagram_event : Datagram → Event
@@ -24,6 +24,6 @@ TellsEvent make (Some waiting) got = got ≡ option_map make (slice_get waiting 
 
 -- What is left of a port, and the event that became of what was taken: that of the first. Where there is none, nothing was
 -- taken, or memory was wanting for what was taken.
-abbrev pub MayTell : {T : Type 0} → NodeFault → (T → Event) → Option (List T) → Option (List T) → Option Event → Type 0
+abbrev pub MayTell : {F T : Type 0} → TurnFault F → (T → Event) → Option (List T) → Option (List T) → Option Event → Type 0
 MayTell fault make old new None = (new ≡ old) ⊎ ((fault ≡ NoMemory) × (new ≡ option_map (drop 1) old))
 MayTell fault make old new (Some e) = TellsEvent make old (Some e) × (new ≡ option_map (drop 1) old)

@@ -2,9 +2,9 @@
 
 use crate::end::{EndStep, Event, Out, Outputs};
 use std::alloc::Global;
-use wire_base::{Bytes, NoMemory};
+use wire_base::NoMemory;
 
-/// Sends each datagram back to the peer from which it came, and does nothing else.
+/// Sends each datagram back to the peer from which it came, and does nothing else. It stops only where memory is wanting.
 #[derive(Drop)]
 pub struct Echo {
     alloc: Global,
@@ -18,17 +18,21 @@ impl Echo {
 }
 
 impl EndStep for Echo {
-    ghost use Rattle.port_events.specs.Echoes.{echoes};
+    ghost use Rattle.std.specs.Prelude.{⊤, ◌≡◌};
+    ghost use Rattle.port_events.specs.Echoes.{EchoesBack};
 
-    ghost after = { λ s _ _ _. s };
+    type Stop = NoMemory;
 
-    ghost outputs = { λ _ _ _ e. echoes e };
+    ghost ready = { λ _. ⊤ };
 
-    fn step(&mut self, _now: u64, _block: [u8; 16], event: &Event) -> Result<Outputs, NoMemory> {
+    ghost steps = { EchoesBack };
+
+    ghost stops = { λ before _ _ _ _ after. after ≡ before };
+
+    fn step(&mut self, _now: u64, _block: [u8; 16], event: Event) -> Result<Outputs, NoMemory> {
         let mut outs = Outputs::new(self.alloc);
         if let Event::Datagram { peer, bytes } = event {
-            let bytes = Bytes::from_slice(self.alloc, bytes.as_slice())?;
-            outs.push(Out::Send { peer: *peer, bytes })?;
+            outs.push(Out::Send { peer, bytes })?;
         }
         Ok(outs)
     }

@@ -1,8 +1,8 @@
 //! What a node's end is to a turn.
 
-ghost use Rattle.std.specs.Prelude.{ℕ, List, ◌≡◌, IfOk, OnOk, OnErr};
+ghost use Rattle.std.specs.Prelude.{ℕ, List, IfOk, IfErr};
 
-use wire_base::{Bytes, NoMemory, Sequence};
+use wire_base::{Bytes, Sequence};
 
 /// What is given to an end.
 #[derive(Drop)]
@@ -13,6 +13,8 @@ pub enum Event {
     Frame { bytes: Bytes },
     /// A network frame of a session.
     Lower { session: u16, frame: Bytes },
+    /// A tunnel is to be opened.
+    Open,
     /// Time has passed.
     Tick,
 }
@@ -32,20 +34,28 @@ pub enum Out {
 
 pub type Outputs = Sequence<Out>;
 
-/// An end, which makes a step on each event.
+/// An end, which makes a step on each event, or stops. What a step comes to is a relation, since it may hang on more than the end
+/// before it: on a disk that the end is kept on, say.
 pub trait EndStep {
     ghost use Rattle.port_events.specs.declared.end.Event.{Event};
     ghost use Rattle.port_events.specs.declared.end.Out.{Out};
 
-    /// The end after a step on an event, at a moment, with a random block.
-    ghost after: { Self → ℕ → List ℕ → Event → Self };
+    /// Why a step wasn't made.
+    type Stop;
 
-    /// What the step gives.
-    ghost outputs: { Self → ℕ → List ℕ → Event → List Out };
+    /// What must hold of the end before a step, as that its disk still has the room that was made for the step.
+    ghost ready: { Self → Type 0 };
 
-    /// Makes a step. Where memory is wanting, the end is as before.
-    fn step(&mut self, now: u64, block: [u8; 16], event: &Event) -> Result<Outputs, NoMemory>
-        ensures made { OnOk result (self.new ≡ after self.old now block event.now) }
-        ensures given { IfOk result (λ outs. outs ≡ outputs self.old now block event.now) }
-        ensures refused { OnErr result (self.new ≡ self.old) };
+    /// A step that was made: the end before it, the moment, the random block, the event, what the step gives, and the end after it.
+    ghost steps: { Self → ℕ → List ℕ → Event → List Out → Self → Type 0 };
+
+    /// A step that wasn't made: the end before it, the moment, the random block, the event, why, and the end after it.
+    ghost stops: { Self → ℕ → List ℕ → Event → Self.Stop → Self → Type 0 };
+
+    /// Makes a step, or says why it wasn't made. Whatever it says, the end is ready for another one.
+    fn step(&mut self, now: u64, block: [u8; 16], event: Event) -> Result<Outputs, Self::Stop>
+        requires ready { ready self.old }
+        ensures ready { ready self.new }
+        ensures made { IfOk result (λ outs. steps self.old now block event outs self.new) }
+        ensures stopped { IfErr result (λ stop. stops self.old now block event stop self.new) };
 }

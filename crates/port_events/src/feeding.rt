@@ -1,11 +1,11 @@
 //! Events go to an end, and what comes of them goes out.
 
-ghost use Rattle.std.specs.Prelude.{◌≡◌, [], ◌∷◌, OnOk, OnErr};
+ghost use Rattle.std.specs.Prelude.{◌≡◌, [], ◌∷◌, OnOk, IfErr};
 ghost use Rattle.port_events.specs.Giving.{Blames};
 ghost use Rattle.port_events.specs.Feeding.{some_of, given, Fed, Stopped};
 
 use crate::end::{EndStep, Event};
-use crate::giving::{NodeFault, give_all};
+use crate::giving::{TurnFault, give_all};
 use block_source::next_block;
 use port_traits::{Ether, Link, Uplink};
 use rand_core::Rng;
@@ -18,10 +18,12 @@ pub fn feed<S: EndStep, L: Link, E: Ether, U: Uplink, R: Rng>(
     up: &mut U,
     rng: &mut R,
     now: u64,
-    event: &Event,
-) -> Result<(), NodeFault>
-    ensures ok { OnOk result (Fed S.after S.outputs now (R.stream rng.old) (R.stream rng.new) end.old end.new (given (L.given link.old) (E.given ether.old) (U.given up.old)) (given (L.given link.new) (E.given ether.new) (U.given up.new)) (event.now ∷ [])) }
-    ensures err { OnErr result (Stopped S.after S.outputs now (R.stream rng.old) end.old end.new (given (L.given link.old) (E.given ether.old) (U.given up.old)) (given (L.given link.new) (E.given ether.new) (U.given up.new)) (event.now ∷ [])) }
+    event: Event,
+) -> Result<(), TurnFault<S::Stop>>
+    requires ready { S.ready end.old }
+    ensures ready { S.ready end.new }
+    ensures ok { OnOk result (Fed S.steps now (R.stream rng.old) (R.stream rng.new) end.old end.new (given (L.given link.old) (E.given ether.old) (U.given up.old)) (given (L.given link.new) (E.given ether.new) (U.given up.new)) (event ∷ [])) }
+    ensures err { IfErr result (λ fault. Stopped S.steps S.stops now fault (R.stream rng.old) end.old end.new (given (L.given link.old) (E.given ether.old) (U.given up.old)) (given (L.given link.new) (E.given ether.new) (U.given up.new)) (event ∷ [])) }
     ensures link_waits { L.waiting link.new ≡ L.waiting link.old }
     ensures ether_waits { E.waiting ether.new ≡ E.waiting ether.old }
     ensures up_waits { U.waiting up.new ≡ U.waiting up.old }
@@ -36,7 +38,7 @@ pub fn feed<S: EndStep, L: Link, E: Ether, U: Uplink, R: Rng>(
             give_all(&outs, link, ether, up)?;
             Ok(())
         }
-        Err(_) => Err(NodeFault::NoMemory),
+        Err(stop) => Err(TurnFault::Stopped { stop }),
     }
 }
 
@@ -48,10 +50,12 @@ pub fn feed_some<S: EndStep, L: Link, E: Ether, U: Uplink, R: Rng>(
     up: &mut U,
     rng: &mut R,
     now: u64,
-    event: &Option<Event>,
-) -> Result<(), NodeFault>
-    ensures ok { OnOk result (Fed S.after S.outputs now (R.stream rng.old) (R.stream rng.new) end.old end.new (given (L.given link.old) (E.given ether.old) (U.given up.old)) (given (L.given link.new) (E.given ether.new) (U.given up.new)) (some_of event.now)) }
-    ensures err { OnErr result (Stopped S.after S.outputs now (R.stream rng.old) end.old end.new (given (L.given link.old) (E.given ether.old) (U.given up.old)) (given (L.given link.new) (E.given ether.new) (U.given up.new)) (some_of event.now)) }
+    event: Option<Event>,
+) -> Result<(), TurnFault<S::Stop>>
+    requires ready { S.ready end.old }
+    ensures ready { S.ready end.new }
+    ensures ok { OnOk result (Fed S.steps now (R.stream rng.old) (R.stream rng.new) end.old end.new (given (L.given link.old) (E.given ether.old) (U.given up.old)) (given (L.given link.new) (E.given ether.new) (U.given up.new)) (some_of event)) }
+    ensures err { IfErr result (λ fault. Stopped S.steps S.stops now fault (R.stream rng.old) end.old end.new (given (L.given link.old) (E.given ether.old) (U.given up.old)) (given (L.given link.new) (E.given ether.new) (U.given up.new)) (some_of event)) }
     ensures link_waits { L.waiting link.new ≡ L.waiting link.old }
     ensures ether_waits { E.waiting ether.new ≡ E.waiting ether.old }
     ensures up_waits { U.waiting up.new ≡ U.waiting up.old }

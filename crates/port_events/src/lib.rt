@@ -11,6 +11,6 @@ mod taking;
 pub use echo::Echo;
 pub use end::{EndStep, Event, Out, Outputs};
 pub use feeding::{feed, feed_some};
-pub use giving::{NodeFault, give_all};
+pub use giving::{TurnFault, give_all};
 pub use laws::events_follow;
 pub use taking::{next_datagram, next_frame, next_lower};

@@ -1,6 +1,6 @@
 use block_source::seeded;
 use memory_ports::{ManualClock, MemoryEther, MemoryLink, MemoryUplink, Moments};
-use port_events::{Echo, NodeFault};
+use port_events::{Echo, TurnFault};
 use port_traits::{Datagram, Datagrams, Fails, Frames};
 use port_turn::serve;
 use std::alloc::Global;
@@ -23,7 +23,7 @@ fn two_turns(
     mut link: MemoryLink,
     mut ether: MemoryEther,
     mut clock: ManualClock,
-) -> (Option<NodeFault>, usize) {
+) -> (Option<TurnFault<NoMemory>>, usize) {
     let mut up: Option<MemoryUplink> = None;
     let mut rng = seeded([1u8; 32]);
     let mut end = Echo::new(alloc);
@@ -38,7 +38,7 @@ fn run(
     alloc: Global,
     link_fails: &[u64],
     ether_fails: &[u64],
-) -> Result<(Option<NodeFault>, usize), NoMemory> {
+) -> Result<(Option<TurnFault<NoMemory>>, usize), NoMemory> {
     let waiting = datagrams(alloc)?;
     let link_fails = Fails::from_slice(alloc, link_fails)?;
     let ether_fails = Fails::from_slice(alloc, ether_fails)?;
@@ -57,12 +57,12 @@ fn what_came_goes_out_before_the_next(rt: HostRuntime) -> Result<(), Fail> {
     // two of three are answered in two turns
     assert!(rt; run(alloc, &[], &[])? == (None, 2));
     // the link's calls are recv, send, recv, send
-    assert!(rt; run(alloc, &[1], &[])? == (Some(NodeFault::LinkFault), 0));
-    assert!(rt; run(alloc, &[2], &[])? == (Some(NodeFault::LinkFault), 0));
-    assert!(rt; run(alloc, &[3], &[])? == (Some(NodeFault::LinkFault), 1));
-    assert!(rt; run(alloc, &[4], &[])? == (Some(NodeFault::LinkFault), 1));
+    assert!(rt; run(alloc, &[1], &[])? == (Some(TurnFault::LinkFault), 0));
+    assert!(rt; run(alloc, &[2], &[])? == (Some(TurnFault::LinkFault), 0));
+    assert!(rt; run(alloc, &[3], &[])? == (Some(TurnFault::LinkFault), 1));
+    assert!(rt; run(alloc, &[4], &[])? == (Some(TurnFault::LinkFault), 1));
     // where the Ethernet port fails, the datagram before it was answered
-    assert!(rt; run(alloc, &[], &[1])? == (Some(NodeFault::EtherFault), 1));
-    assert!(rt; run(alloc, &[], &[2])? == (Some(NodeFault::EtherFault), 2));
+    assert!(rt; run(alloc, &[], &[1])? == (Some(TurnFault::EtherFault), 1));
+    assert!(rt; run(alloc, &[], &[2])? == (Some(TurnFault::EtherFault), 2));
     Ok(())
 }

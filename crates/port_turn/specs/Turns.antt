@@ -1,13 +1,14 @@
 -- What a turn does.
-use Rattle.std.specs.Prelude.{ℕ, ◌≡◌, ◌⊎◌, List, [], ◌∷◌, ◌++◌, drop, option_map, Option, None}
+use Rattle.std.specs.Prelude.{ℕ, ◌≡◌, ◌⊎◌, List, [], ◌∷◌, ◌++◌, drop, option_map, Option, None, IfSome}
 use Rattle.rand_core.specs.Stream.{Stream}
-use Rattle.port_traits.specs.Packets.{Asks}
+use Rattle.port_traits.specs.Packets.{Asks, Moments, moment}
 use Rattle.port_traits.specs.declared.packets.Datagram.{Datagram}
 use Rattle.port_traits.specs.declared.packets.LowerFrame.{LowerFrame}
 use Rattle.port_events.specs.declared.end.Event.{Event}
 use Rattle.port_events.specs.declared.end.Event.TheVariants as event
 use Rattle.port_events.specs.declared.end.Out.{Out}
-use Rattle.port_events.specs.declared.giving.NodeFault.{NodeFault}
+use Rattle.port_events.specs.declared.giving.TurnFault.{TurnFault}
+use Rattle.port_events.specs.Giving.{IsAround}
 use Rattle.port_events.specs.Taking.{datagram_event, frame_event, lower_event, TellsEvent, MayTell}
 use Rattle.port_events.specs.Feeding.{some_of, Given, Fed, Stopped}
 
@@ -54,7 +55,7 @@ pub record TakesOne (t : Turn) (old new : Waits) : Type 0 where
   pub up : new.up ≡ option_map (drop 1) old.up
 
 -- a turn that ended early
-pub record MayTake (fault : NodeFault) (t : Turn) (old new : Waits) : Type 0 where
+pub record MayTake {F : Type 0} (fault : TurnFault F) (t : Turn) (old new : Waits) : Type 0 where
   pub datagram : MayTell fault datagram_event old.link new.link t.datagram
   pub frame : MayTell fault frame_event old.ether new.ether t.frame
   pub lower : MayTell fault lower_event old.up new.up t.lower
@@ -83,22 +84,24 @@ NothingLater AtLink t tick = (t.frame ≡ None) × (t.lower ≡ None) × (tick �
 NothingLater AtEther t tick = (t.lower ≡ None) × (tick ≡ [])
 NothingLater AtUplink t tick = Unit {0}
 
-module _ {S : Type 0} (after : S → ℕ → List ℕ → Event → S) (outputs : S → ℕ → List ℕ → Event → List Out) where
+module _ {S : Type 0} (steps : S → ℕ → List ℕ → Event → List Out → S → Type 0) where
   -- a whole turn
   pub record Turned (stream stream' : Stream) (end end' : S) (g g' : Given) (w w' : Waits) (a a' : Asked) (t : Turn) : Type 0 where
     pub takes : TakesOne t w w'
     pub asks : AskedUpTo AtUplink a a'
-    pub fed : Fed after outputs t.now stream stream' end end' g g' (events_of t)
+    pub fed : Fed steps t.now stream stream' end end' g g' (events_of t)
 
+module _ {S F : Type 0} (steps : S → ℕ → List ℕ → Event → List Out → S → Type 0) (stops : S → ℕ → List ℕ → Event → F → S → Type 0) (fault : TurnFault F) where
   -- A turn that ended early. Before the last port was asked, all that came of what was taken before was out: what was taken before is
   -- among the events that are over. So it is also where that port fails when it is asked.
-  pub record Broke (fault : NodeFault) (stream : Stream) (end end' : S) (g g' : Given) (w w' : Waits) (a a' : Asked) : Type 0 where
+  pub record Broke (clock : Option Moments) (stream : Stream) (end end' : S) (g g' : Given) (w w' : Waits) (a a' : Asked) : Type 0 where
     pub turn : Turn
+    pub moment_is : IfSome clock (λ moments. turn.now ≡ moment moments)
     pub tick : List Event
     pub port : Port
     pub takes : MayTake fault turn w w'
     pub ticks : (tick ≡ []) ⊎ (tick ≡ event.Tick ∷ [])
-    pub stopped : Stopped after outputs turn.now stream end end' g g' (events_before turn tick)
+    pub stopped : Stopped steps stops turn.now fault stream end end' g g' (events_before turn tick)
     pub asks : AskedUpTo port a a'
     pub later : NothingLater port turn tick
     pub over : (others : List Event) × (stopped.made ≡ taken_before port turn others)
@@ -106,11 +109,13 @@ module _ {S : Type 0} (after : S → ℕ → List ℕ → Event → S) (outputs 
   -- What came of events was to go out, and then a port was to be asked: the first of these stopped, and the port wasn't asked; or all
   -- went out, and the port failed, or memory was wanting for what it gave.
   pub record GivingStopped {T : Type 0} (now : ℕ) (stream : Stream) (end end' : S) (g g' : Given) (es : List Event) (w w' : Option (List T)) (a a' : Option ℕ) : Type 0 where
-    pub stopped : Stopped after outputs now stream end end' g g' es
+    pub stopped : Stopped steps stops now fault stream end end' g g' es
     pub waits : w' ≡ w
     pub asks : a' ≡ a
 
-  pub record AskingFailed {T : Type 0} (fault : NodeFault) (make : T → Event) (now : ℕ) (stream stream' : Stream) (end end' : S) (g g' : Given) (es : List Event) (w w' : Option (List T)) (a a' : Option ℕ) : Type 0 where
-    pub fed : Fed after outputs now stream stream' end end' g g' es
+module _ {S F : Type 0} (steps : S → ℕ → List ℕ → Event → List Out → S → Type 0) (fault : TurnFault F) where
+  pub record AskingFailed {T : Type 0} (make : T → Event) (now : ℕ) (stream stream' : Stream) (end end' : S) (g g' : Given) (es : List Event) (w w' : Option (List T)) (a a' : Option ℕ) : Type 0 where
+    pub fed : Fed steps now stream stream' end end' g g' es
+    pub around : IsAround fault
     pub takes : MayTell fault make w w' None
     pub asks : Asks a a'

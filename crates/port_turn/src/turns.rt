@@ -4,12 +4,11 @@ ghost use Rattle.std.specs.Prelude.{◌≡◌, ◌⊎◌, drop, option_map, OnOk
 ghost use Rattle.port_events.specs.Giving.{Blames};
 ghost use Rattle.port_events.specs.Feeding.{some_of, given, Fed};
 ghost use Rattle.port_events.specs.Taking.{frame_event, lower_event, TellsEvent};
-ghost use Rattle.port_turn.specs.Turns.{waits, asked, Turned, Broke, GivingStopped, AskingFailed};
-ghost use Rattle.port_turn.specs.Takings.{turn_of};
+ghost use Rattle.port_turn.specs.Turns.{Turn, waits, asked, Turned, Broke, GivingStopped, AskingFailed};
 ghost use Rattle.port_traits.specs.Packets.{moment, passed, Asks};
 
 use port_events::{
-    EndStep, Event, NodeFault, events_follow, feed, feed_some, next_datagram, next_frame,
+    EndStep, Event, TurnFault, events_follow, feed, feed_some, next_datagram, next_frame,
     next_lower,
 };
 use port_traits::{Clock, Ether, Link, Uplink};
@@ -25,13 +24,15 @@ fn then_frame<S: EndStep, L: Link, E: Ether, U: Uplink, R: Rng>(
     up: &mut U,
     rng: &mut R,
     now: u64,
-    datagram: &Option<Event>,
-) -> Result<Option<Event>, NodeFault>
+    datagram: Option<Event>,
+) -> Result<Option<Event>, TurnFault<S::Stop>>
+    requires ready { S.ready end.old }
+    ensures ready { S.ready end.new }
     ensures first { IfOk result (λ got. TellsEvent frame_event (E.waiting ether.old) got) }
-    ensures fed { OnOk result (Fed S.after S.outputs now (R.stream rng.old) (R.stream rng.new) end.old end.new (given (L.given link.old) (E.given ether.old) (U.given up.old)) (given (L.given link.new) (E.given ether.new) (U.given up.new)) (some_of datagram.now)) }
+    ensures fed { OnOk result (Fed S.steps now (R.stream rng.old) (R.stream rng.new) end.old end.new (given (L.given link.old) (E.given ether.old) (U.given up.old)) (given (L.given link.new) (E.given ether.new) (U.given up.new)) (some_of datagram)) }
     ensures left { OnOk result (E.waiting ether.new ≡ option_map (drop 1) (E.waiting ether.old)) }
     ensures asks { OnOk result (Asks (E.asked ether.old) (E.asked ether.new)) }
-    ensures err { IfErr result (λ fault. GivingStopped S.after S.outputs now (R.stream rng.old) end.old end.new (given (L.given link.old) (E.given ether.old) (U.given up.old)) (given (L.given link.new) (E.given ether.new) (U.given up.new)) (some_of datagram.now) (E.waiting ether.old) (E.waiting ether.new) (E.asked ether.old) (E.asked ether.new) ⊎ AskingFailed S.after S.outputs fault frame_event now (R.stream rng.old) (R.stream rng.new) end.old end.new (given (L.given link.old) (E.given ether.old) (U.given up.old)) (given (L.given link.new) (E.given ether.new) (U.given up.new)) (some_of datagram.now) (E.waiting ether.old) (E.waiting ether.new) (E.asked ether.old) (E.asked ether.new)) }
+    ensures err { IfErr result (λ fault. GivingStopped S.steps S.stops fault now (R.stream rng.old) end.old end.new (given (L.given link.old) (E.given ether.old) (U.given up.old)) (given (L.given link.new) (E.given ether.new) (U.given up.new)) (some_of datagram) (E.waiting ether.old) (E.waiting ether.new) (E.asked ether.old) (E.asked ether.new) ⊎ AskingFailed S.steps fault frame_event now (R.stream rng.old) (R.stream rng.new) end.old end.new (given (L.given link.old) (E.given ether.old) (U.given up.old)) (given (L.given link.new) (E.given ether.new) (U.given up.new)) (some_of datagram) (E.waiting ether.old) (E.waiting ether.new) (E.asked ether.old) (E.asked ether.new)) }
     ensures link_waits { L.waiting link.new ≡ L.waiting link.old }
     ensures up_waits { U.waiting up.new ≡ U.waiting up.old }
     ensures link_asked { L.asked link.new ≡ L.asked link.old }
@@ -52,13 +53,15 @@ fn then_lower<S: EndStep, L: Link, E: Ether, U: Uplink, R: Rng>(
     up: &mut U,
     rng: &mut R,
     now: u64,
-    frame: &Option<Event>,
-) -> Result<Option<Event>, NodeFault>
+    frame: Option<Event>,
+) -> Result<Option<Event>, TurnFault<S::Stop>>
+    requires ready { S.ready end.old }
+    ensures ready { S.ready end.new }
     ensures first { IfOk result (λ got. TellsEvent lower_event (U.waiting up.old) got) }
-    ensures fed { OnOk result (Fed S.after S.outputs now (R.stream rng.old) (R.stream rng.new) end.old end.new (given (L.given link.old) (E.given ether.old) (U.given up.old)) (given (L.given link.new) (E.given ether.new) (U.given up.new)) (some_of frame.now)) }
+    ensures fed { OnOk result (Fed S.steps now (R.stream rng.old) (R.stream rng.new) end.old end.new (given (L.given link.old) (E.given ether.old) (U.given up.old)) (given (L.given link.new) (E.given ether.new) (U.given up.new)) (some_of frame)) }
     ensures left { OnOk result (U.waiting up.new ≡ option_map (drop 1) (U.waiting up.old)) }
     ensures asks { OnOk result (Asks (U.asked up.old) (U.asked up.new)) }
-    ensures err { IfErr result (λ fault. GivingStopped S.after S.outputs now (R.stream rng.old) end.old end.new (given (L.given link.old) (E.given ether.old) (U.given up.old)) (given (L.given link.new) (E.given ether.new) (U.given up.new)) (some_of frame.now) (U.waiting up.old) (U.waiting up.new) (U.asked up.old) (U.asked up.new) ⊎ AskingFailed S.after S.outputs fault lower_event now (R.stream rng.old) (R.stream rng.new) end.old end.new (given (L.given link.old) (E.given ether.old) (U.given up.old)) (given (L.given link.new) (E.given ether.new) (U.given up.new)) (some_of frame.now) (U.waiting up.old) (U.waiting up.new) (U.asked up.old) (U.asked up.new)) }
+    ensures err { IfErr result (λ fault. GivingStopped S.steps S.stops fault now (R.stream rng.old) end.old end.new (given (L.given link.old) (E.given ether.old) (U.given up.old)) (given (L.given link.new) (E.given ether.new) (U.given up.new)) (some_of frame) (U.waiting up.old) (U.waiting up.new) (U.asked up.old) (U.asked up.new) ⊎ AskingFailed S.steps fault lower_event now (R.stream rng.old) (R.stream rng.new) end.old end.new (given (L.given link.old) (E.given ether.old) (U.given up.old)) (given (L.given link.new) (E.given ether.new) (U.given up.new)) (some_of frame) (U.waiting up.old) (U.waiting up.new) (U.asked up.old) (U.asked up.new)) }
     ensures link_waits { L.waiting link.new ≡ L.waiting link.old }
     ensures ether_waits { E.waiting ether.new ≡ E.waiting ether.old }
     ensures link_asked { L.asked link.new ≡ L.asked link.old }
@@ -68,15 +71,6 @@ fn then_lower<S: EndStep, L: Link, E: Ether, U: Uplink, R: Rng>(
     feed_some(end, link, ether, up, rng, now, frame)?;
     let lower = next_lower(alloc, up)?;
     Ok(lower)
-}
-
-/// What a turn took, at which moment.
-#[derive(Drop)]
-pub struct Taken {
-    pub now: u64,
-    pub datagram: Option<Event>,
-    pub frame: Option<Event>,
-    pub lower: Option<Event>,
 }
 
 /// A turn: reads the clock, takes a datagram, an Ethernet frame and a network frame, each where one waits, and gives a tick.
@@ -89,24 +83,20 @@ pub fn turn<S: EndStep, L: Link, E: Ether, U: Uplink, C: Clock, R: Rng>(
     up: &mut U,
     clock: &mut C,
     rng: &mut R,
-) -> Result<Taken, NodeFault>
-    ensures whole { IfOk result (λ t. Turned S.after S.outputs (R.stream rng.old) (R.stream rng.new) end.old end.new (given (L.given link.old) (E.given ether.old) (U.given up.old)) (given (L.given link.new) (E.given ether.new) (U.given up.new)) (waits (L.waiting link.old) (E.waiting ether.old) (U.waiting up.old)) (waits (L.waiting link.new) (E.waiting ether.new) (U.waiting up.new)) (asked (L.asked link.old) (E.asked ether.old) (U.asked up.old)) (asked (L.asked link.new) (E.asked ether.new) (U.asked up.new)) (turn_of t)) }
-    ensures moment { IfOk result (λ t. IfSome (C.gives clock.old) (λ moments. t.now ≡ moment moments)) }
+) -> Result<(), TurnFault<S::Stop>>
+    requires ready { S.ready end.old }
+    ensures ready { S.ready end.new }
+    ensures whole { OnOk result ((t : Turn) × Turned S.steps (R.stream rng.old) (R.stream rng.new) end.old end.new (given (L.given link.old) (E.given ether.old) (U.given up.old)) (given (L.given link.new) (E.given ether.new) (U.given up.new)) (waits (L.waiting link.old) (E.waiting ether.old) (U.waiting up.old)) (waits (L.waiting link.new) (E.waiting ether.new) (U.waiting up.new)) (asked (L.asked link.old) (E.asked ether.old) (U.asked up.old)) (asked (L.asked link.new) (E.asked ether.new) (U.asked up.new)) t × IfSome (C.gives clock.old) (λ moments. t.now ≡ moment moments)) }
     ensures clock { C.gives clock.new ≡ option_map passed (C.gives clock.old) }
-    ensures broke { IfErr result (λ fault. Broke S.after S.outputs fault (R.stream rng.old) end.old end.new (given (L.given link.old) (E.given ether.old) (U.given up.old)) (given (L.given link.new) (E.given ether.new) (U.given up.new)) (waits (L.waiting link.old) (E.waiting ether.old) (U.waiting up.old)) (waits (L.waiting link.new) (E.waiting ether.new) (U.waiting up.new)) (asked (L.asked link.old) (E.asked ether.old) (U.asked up.old)) (asked (L.asked link.new) (E.asked ether.new) (U.asked up.new))) }
+    ensures broke { IfErr result (λ fault. Broke S.steps S.stops fault (C.gives clock.old) (R.stream rng.old) end.old end.new (given (L.given link.old) (E.given ether.old) (U.given up.old)) (given (L.given link.new) (E.given ether.new) (U.given up.new)) (waits (L.waiting link.old) (E.waiting ether.old) (U.waiting up.old)) (waits (L.waiting link.new) (E.waiting ether.new) (U.waiting up.new)) (asked (L.asked link.old) (E.asked ether.old) (U.asked up.old)) (asked (L.asked link.new) (E.asked ether.new) (U.asked up.new))) }
     ensures cause { Blames (L.faults link.old) (L.faults link.new) (E.faults ether.old) (E.faults ether.new) (U.faults up.old) (U.faults up.new) result }
 {
     events_follow::<S>();
     let now = clock.now();
     let datagram = next_datagram(alloc, link)?;
-    let frame = then_frame(alloc, end, link, ether, up, rng, now, &datagram)?;
-    let lower = then_lower(alloc, end, link, ether, up, rng, now, &frame)?;
-    feed_some(end, link, ether, up, rng, now, &lower)?;
-    feed(end, link, ether, up, rng, now, &Event::Tick)?;
-    Ok(Taken {
-        now,
-        datagram,
-        frame,
-        lower,
-    })
+    let frame = then_frame(alloc, end, link, ether, up, rng, now, datagram)?;
+    let lower = then_lower(alloc, end, link, ether, up, rng, now, frame)?;
+    feed_some(end, link, ether, up, rng, now, lower)?;
+    feed(end, link, ether, up, rng, now, Event::Tick)?;
+    Ok(())
 }

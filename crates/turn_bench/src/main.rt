@@ -11,7 +11,7 @@
 mod measure;
 
 use crate::measure::{Measure, echo_turns, read_measure};
-use port_events::NodeFault;
+use port_events::TurnFault;
 use real_ports::{RestingClock, StdClock, UdpLink, Watch, Watched};
 use std::alloc::Global;
 use std::env;
@@ -57,15 +57,20 @@ fn uplink_of<'a, R: Net + Drop>(
 }
 
 /// Makes the turns over the ports of the words.
-fn run(rt: &HostRuntime, measure: Measure, ether: &str, uplink: &str) -> Result<(), NodeFault> {
+fn run(
+    rt: &HostRuntime,
+    measure: Measure,
+    ether: &str,
+    uplink: &str,
+) -> Result<(), TurnFault<NoMemory>> {
     let alloc = rt.alloc();
     let watch = Watch::new();
     let mut link = watch.link(UdpLink::new(rt, measure.listen, measure.port));
     let Ok(mut ether) = ether_of(alloc, rt, &watch, ether) else {
-        return Err(NodeFault::NoMemory);
+        return Err(TurnFault::NoMemory);
     };
     let Ok(mut up) = uplink_of(alloc, rt, &watch, uplink) else {
-        return Err(NodeFault::NoMemory);
+        return Err(TurnFault::NoMemory);
     };
     let mut clock = StdClock::new(rt);
     if measure.rest == 0 {
@@ -129,9 +134,9 @@ fn main(rt: HostRuntime) -> ExitCode {
     };
     match run(&rt, measure, ether.as_str(), uplink.as_str()) {
         Ok(()) => tell(&rt, Some(measure.turns)),
-        Err(NodeFault::LinkFault) => ExitCode::from(10),
-        Err(NodeFault::EtherFault) => ExitCode::from(11),
-        Err(NodeFault::UplinkFault) => ExitCode::from(12),
-        Err(NodeFault::NoMemory) => ExitCode::from(20),
+        Err(TurnFault::LinkFault) => ExitCode::from(10),
+        Err(TurnFault::EtherFault) => ExitCode::from(11),
+        Err(TurnFault::UplinkFault) => ExitCode::from(12),
+        Err(TurnFault::NoMemory | TurnFault::Stopped { .. }) => ExitCode::from(20),
     }
 }

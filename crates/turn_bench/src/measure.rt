@@ -4,7 +4,7 @@ ghost use Rattle.std.specs.Prelude.{List, ◌≡◌, ◌^◌, ◌-◌, length, I
 ghost use Rattle.rand_core.specs.Stream.{Stream};
 ghost use Rattle.option_values.specs.Values.{address_of, number_of};
 ghost use Rattle.port_events.specs.declared.echo.Echo.{Echo};
-ghost use Rattle.port_events.specs.Echoes.{echoes};
+ghost use Rattle.port_events.specs.Echoes.{EchoesBack};
 ghost use Rattle.port_events.specs.Feeding.{given};
 ghost use Rattle.port_events.specs.Giving.{Blames};
 ghost use Rattle.port_turn.specs.Turns.{Turn, waits, asked};
@@ -12,10 +12,11 @@ ghost use Rattle.port_turn.specs.Runs.{node, Runs};
 
 use block_source::seeded;
 use option_values::{read_address, read_number};
-use port_events::{Echo, NodeFault};
+use port_events::{Echo, TurnFault};
 use port_traits::{Clock, Ether, Link, Uplink};
 use port_turn::serve;
 use std::alloc::Global;
+use wire_base::NoMemory;
 
 /// The address and the port of the UDP socket, how many turns are made, and for how many milliseconds each may rest.
 #[derive(Clone, Copy, PartialEq, Eq)]
@@ -53,8 +54,8 @@ pub fn echo_turns<L: Link, E: Ether, U: Uplink, C: Clock>(
     up: &mut U,
     clock: &mut C,
     turns: u64,
-) -> Result<(), NodeFault>
-    ensures turns { OnOk result ((ts : List Turn) × (length ts ≡ turns) × (s : Stream) × (t : Stream) × (x : Echo) × (y : Echo) × Runs (λ end _ _ _. end) (λ _ _ _ event. echoes event) ts (node s (C.gives clock.old) x (given (L.given link.old) (E.given ether.old) (U.given up.old)) (waits (L.waiting link.old) (E.waiting ether.old) (U.waiting up.old)) (asked (L.asked link.old) (E.asked ether.old) (U.asked up.old))) (node t (C.gives clock.new) y (given (L.given link.new) (E.given ether.new) (U.given up.new)) (waits (L.waiting link.new) (E.waiting ether.new) (U.waiting up.new)) (asked (L.asked link.new) (E.asked ether.new) (U.asked up.new)))) }
+) -> Result<(), TurnFault<NoMemory>>
+    ensures turns { OnOk result ((ts : List Turn) × (length ts ≡ turns) × (s : Stream) × (t : Stream) × (x : Echo) × (y : Echo) × Runs EchoesBack ts (node s (C.gives clock.old) x (given (L.given link.old) (E.given ether.old) (U.given up.old)) (waits (L.waiting link.old) (E.waiting ether.old) (U.waiting up.old)) (asked (L.asked link.old) (E.asked ether.old) (U.asked up.old))) (node t (C.gives clock.new) y (given (L.given link.new) (E.given ether.new) (U.given up.new)) (waits (L.waiting link.new) (E.waiting ether.new) (U.waiting up.new)) (asked (L.asked link.new) (E.asked ether.new) (U.asked up.new)))) }
     ensures cause { Blames (L.faults link.old) (L.faults link.new) (E.faults ether.old) (E.faults ether.new) (U.faults up.old) (U.faults up.new) result }
 {
     let mut end = Echo::new(alloc);
