@@ -1,8 +1,7 @@
 -- What is committed of a step is what the step leaves, by the definitions.
-use Rattle.std.proofs.Common.{◌≡◌, ℕ, Bool, true, false, cond, List, [], Result, Err, refl, ap, sym, subst, ◌∙◌, arith}
-use Rattle.std.proofs.lemmas.Bool.Decides.{nat_tests}
-use Rattle.std.specs.List.Sorted.{IsStrictlySortedBy}
-use Rattle.std.specs.Ordering.{nat_cmp}
+use Rattle.std.proofs.Common.{◌≡◌, ℕ, Bool, true, false, List, [], ◌∷◌, ◌++◌, Option, Some, None, Result, Err, refl, ap, sym, subst, ◌∙◌, true≢false}
+use Rattle.std.proofs.lemmas.List.{append-nil}
+use Rattle.std.specs.List.{AllByRecursion, flat_map}
 use Rattle.std.specs.Prelude.{⊤, ◌==◌, IsSome}
 use Rattle.id_table.specs.Ids.{at, ids_of}
 use Rattle.session_book.specs.declared.record.Record.{Record}
@@ -11,24 +10,26 @@ use Rattle.step_ledger.specs.declared.ledger.StepFault.TheVariants.{NoMemory, Un
 use Rattle.step_ledger.specs.Committing.{Commits}
 use Rattle.step_records.specs.Leaving.{leaves}
 use Rattle.end_model.specs.declared.event.Event.{Event}
-use Rattle.end_model.specs.declared.tunnel.Control.{Control}
+use Rattle.end_model.specs.declared.tunnel.Config.{Config}
+use Rattle.end_names.specs.declared.role.Role.{Role}
 use Rattle.end_model.specs.declared.moves.Move.{Move}
 use Rattle.session_book.specs.Books.{Kept}
 use Rattle.id_source.specs.Spaces.{space_from}
 use Rattle.end_model.specs.Starting.{starts, all_gone, all_cleared}
 use Rattle.end_model.specs.Contents.{contents_of}
 use Rattle.end_model.specs.Openings.{fresh}
-use Rattle.end_model.specs.Tunnels.{Tunnel, Drawing, Env}
+use Rattle.end_model.specs.Tunnels.{Tunnel, Turn, Drawing, Env, turn_of}
 use Rattle.end_model.specs.Turn.{with_turn}
-use Rattle.end_model.specs.End.{End, Stepped, drawing_of, env_of, placed, with_looks, tunnels_after, in_main, in_new, ticks_all}
-use Rattle.tunnel_core.specs.Cores.{Core, Plan, made_of, IsTurn}
-use Rattle.tunnel_table.specs.Plans.{IsPlanned, IsGiven, after_plan}
+use Rattle.end_model.specs.Events.{turns}
+use Rattle.end_model.specs.End.{End, drawing_of, env_of, gives_only, after_turn, after_new, in_main, in_new, Turned, tick_of, ticks_of, end_after_all, after_all, ticks_all}
+use Rattle.tunnel_core.specs.Cores.{Core, Plan, IsTurn}
+use Rattle.tunnel_table.specs.Plans.{turn_at, IsGiven}
 use Rattle.tunnel_table.specs.Tunnels.{tunnels_of}
 use Rattle.end_core.specs.declared.end.Given.{Given}
-use Rattle.end_core.specs.Gives.{behind_given, drawn_behind, drawn_first}
-use Rattle.end_core.specs.Ticking.{ticks_at, ArePlanned, with_ticks, after_plans}
-use Rattle.end_core.proofs.Plans.{all_is}
-use Rattle.end_core.proofs.Steps.{turned, behind_env, main_made, same_behind, not_made, new_is}
+use Rattle.end_core.specs.Gives.{behind_given, given_in, drawn_behind, drawn_first, first_leaves, main_leaves}
+use Rattle.end_core.specs.Ticking.{ticks_at, with_ticks, ticks_leave}
+use Rattle.end_core.proofs.Draws.{ticks_drawn}
+use Rattle.end_core.proofs.Plans.{ticks_are}
 
 -- ---- what is committed, whatever it is called
 
@@ -46,88 +47,79 @@ pub quiet_records : (e : End) (g : Given) (ms : List Move) → ms ≡ g.moves �
 unfolding contents_of
 quiet_records e g ms same = ap (λ (l : List Move). leaves (drawing_of e) (drawing_of e) l) (sym same)
 
--- ---- what others leave
+-- ---- what the step of a tunnel leaves
 
-module _ (v : End) (start env : Env) (moment : ℕ) (block : List ℕ) (ev : Event) (before : Drawing) (p : Plan) where
-  main_at : (g : Given) (i : ℕ) → start ≡ record (env_of v moment block) { outputs = g.outputs; moves = g.moves } → before ≡ drawing_of v
-      → IsSome (at v.tunnels i) → IsPlanned v.role v.config ev start (at v.tunnels i) p → IsGiven v.role v.config ev start (at v.tunnels i) env
-      → contents_of v (behind_given g (in_main v (env_of v moment block) ev i (at v.tunnels i))) ≡ leaves before (drawn_behind before env) env.moves
-  unfolding contents_of
-  main_at g i begun drew some planned given =
-      let s : Stepped = record { end = record v { tunnel_ids = env.ids.tunnels; session_ids = env.ids.sessions; tunnels = after_plan v.tunnels (i, p) (at v.tunnels i); calls = with_looks env.changes (placed p.control.local p.added v.calls) }; outputs = env.outputs; moves = env.moves } in
-      let none : start.changes ≡ [] = ap (λ (x : Env). x.changes) begun in
-      let made : behind_env start (in_main v start ev i (at v.tunnels i)) ≡ s = main_made v start none ev i (at v.tunnels i) p env s refl some planned given refl refl refl in
-      let here = subst (λ (x : Env). behind_env x (in_main v x ev i (at v.tunnels i)) ≡ s) begun made in
-      ap (contents_of v) (sym (same_behind v (env_of v moment block) g ev i (at v.tunnels i)) ∙ here)
-      ∙ ap (λ (d : Drawing). leaves d (drawn_behind d env) env.moves) (sym drew)
+module _ (start env : Env) (before : Drawing) (drew : before ≡ start.ids) where
+  pub first_planned : (p : Plan) (t : Turn) → IsTurn p t → env ≡ with_turn t start → first_leaves start t ≡ leaves before (drawn_first p.control.local before env) env.moves
+  first_planned p t planned given = rw (drew, planned.control, given) refl
 
-  new_at : (peer : ℕ) (t : Tunnel) → start ≡ env_of v moment block → before ≡ drawing_of v → t ≡ record { control = fresh peer moment; letters = []; calls = [] }
-      → IsTurn p (turned v start ev t) → env ≡ with_turn (turned v start ev t) start
-      → contents_of v (in_new v (env_of v moment block) ev peer) ≡ leaves before (drawn_first p.control.local before env) env.moves
-  unfolding contents_of
-  new_at peer t begun drew idle planned given = by (p.control.local == 0) refl
-    where
-      silent : (start.outputs ≡ []) × (start.moves ≡ [])
-      silent = (ap (λ (x : Env). x.outputs) begun, ap (λ (x : Env). x.moves) begun)
+  pub main_planned : (role : Role) (c : Config) (ev : Event) (o : Option Tunnel) → IsSome o → IsGiven role c ev start o env → main_leaves role c ev start o ≡ leaves before (drawn_behind before env) env.moves
+  main_planned role c ev None some given = absurd (true≢false (sym some))
+  main_planned role c ev (Some t) some given = rw (drew, given) refl
 
-      fresh_at : t ≡ record { control = fresh peer start.on.moment; letters = []; calls = [] }
-      fresh_at = idle ∙ ap (λ (m : ℕ). record { control = fresh peer m; letters = []; calls = [] }) (sym (ap (λ (x : Env). x.on.moment) begun))
+first_at : (v : End) (start : Env) → start.ids ≡ drawing_of v → start.moves ≡ [] → (t : Turn) (b : Bool) → (t.control.local == 0) ≡ b → contents_of v (after_new v t) ≡ first_leaves start t
+unfolding contents_of after_new after_turn with_turn
+first_at v start drew silent t true is =
+    rw is (ap (λ (d : Drawing). leaves d d t.moves) (sym drew) ∙ ap (λ (ms : List Move). leaves start.ids start.ids (ms ++ t.moves)) (sym silent))
+first_at v start drew silent t false is =
+    rw is (ap (λ (d : Drawing). leaves d (record d { tunnels = t.ids.tunnels; sessions = t.ids.sessions }) t.moves) (sym drew)
+    ∙ ap (λ (ms : List Move). leaves start.ids (record start.ids { tunnels = t.ids.tunnels; sessions = t.ids.sessions }) (ms ++ t.moves)) (sym silent))
 
-      from_start : (s : Stepped) → in_new v start ev peer ≡ s → contents_of v (in_new v (env_of v moment block) ev peer) ≡ contents_of v s
-      from_start s made = ap (contents_of v) (subst (λ (x : Env). in_new v x ev peer ≡ s) begun made)
-
-      by : (b : Bool) → (p.control.local == 0) ≡ b
-          → contents_of v (in_new v (env_of v moment block) ev peer) ≡ leaves before (cond b before (drawn_behind before env)) env.moves
-      by true is =
-          let zero : p.control.local ≡ 0 = grind (arith, nat_tests) in
-          let none : (turned v start ev t).control.local ≡ 0 = ap (λ (c : Control). c.local) (sym planned.control) ∙ zero in
-          let s : Stepped = record { end = v; outputs = env.outputs; moves = env.moves } in
-          from_start s (not_made v start env ev peer (turned v start ev t) env.outputs env.moves silent (ap (λ (u : Tunnel). turned v start ev u) fresh_at) given none refl refl)
-          ∙ ap (λ (d : Drawing). leaves d d env.moves) (sym drew)
-      by false is =
-          let some : p.control.local ≡ 0 → ⊥ = λ z. (let e : p.control.local ≡ 0 = z in grind (arith, nat_tests)) in
-          let i = p.control.local in
-          let s : Stepped = record { end = record v { tunnel_ids = env.ids.tunnels; session_ids = env.ids.sessions; tunnels = tunnels_after v.tunnels i p.cleared (made_of p t); calls = with_looks env.changes (placed i p.added v.calls) }; outputs = env.outputs; moves = env.moves } in
-          let quiet : start.changes ≡ [] = ap (λ (x : Env). x.changes) begun in
-          from_start s (new_is v start quiet ev i t p env s (turned v start ev t) refl planned given (record { end = refl; outputs = refl; moves = refl }) silent peer fresh_at refl some)
-          ∙ ap (λ (d : Drawing). leaves d (drawn_behind d env) env.moves) (sym drew)
+main_at : (v : End) (start : Env) → start.ids ≡ drawing_of v → (ev : Event) (i : ℕ) (o : Option Tunnel) → contents_of v (behind_given (given_in start) (in_main v start ev i o)) ≡ main_leaves v.role v.config ev start o
+unfolding contents_of in_main gives_only after_turn with_turn
+main_at v start drew ev i None = ap (λ (ms : List Move). leaves (drawing_of v) (drawing_of v) ms) (append-nil start.moves) ∙ ap (λ (d : Drawing). leaves d d start.moves) (sym drew)
+main_at v start drew ev i (Some t) =
+    let r = turn_at v.role v.config ev start t in
+    ap (λ (d : Drawing). leaves d (record d { tunnels = r.ids.tunnels; sessions = r.ids.sessions }) (start.moves ++ r.moves)) (sym drew)
 
 -- the same of an end that was lent, and is seen as it was before
-module _ (v w : End) (same : v ≡ w) (start env : Env) (moment : ℕ) (block : List ℕ) (ev : Event) (before : Drawing) (p : Plan) where
-  pub main_records : (g : Given) (i : ℕ) → start ≡ record (env_of w moment block) { outputs = g.outputs; moves = g.moves } → before ≡ drawing_of w
-      → IsSome (at v.tunnels i) → IsPlanned v.role v.config ev start (at v.tunnels i) p → IsGiven v.role v.config ev start (at v.tunnels i) env
-      → contents_of w (behind_given g (in_main w (env_of w moment block) ev i (at w.tunnels i))) ≡ leaves before (drawn_behind before env) env.moves
-  main_records g i begun drew some planned given =
-      subst (λ (x : End). start ≡ record (env_of x moment block) { outputs = g.outputs; moves = g.moves } → before ≡ drawing_of x
-      → contents_of x (behind_given g (in_main x (env_of x moment block) ev i (at x.tunnels i))) ≡ leaves before (drawn_behind before env) env.moves) same
-      (λ b d. main_at v start env moment block ev before p g i b d some planned given) begun drew
+module _ (v w : End) (same : v ≡ w) (start : Env) where
+  pub first_records : start ≡ env_of w start.on.moment start.on.block → (ev : Event) (peer : ℕ) (t : Tunnel) → t ≡ record { control = fresh peer start.on.moment; letters = []; calls = [] }
+      → contents_of w (in_new w start ev peer) ≡ first_leaves start (turn_at v.role v.config ev start t)
+  unfolding in_new
+  first_records begun ev peer t idle =
+      rw (same, idle) (first_at w start (ap (λ (x : Env). x.ids) begun) (ap (λ (x : Env). x.moves) begun) (turns w.role w.config [] [] ev (turn_of (fresh peer start.on.moment) start)) _ refl)
 
-  pub new_records : (peer : ℕ) (t : Tunnel) → start ≡ env_of w moment block → before ≡ drawing_of w → t ≡ record { control = fresh peer moment; letters = []; calls = [] }
-      → IsTurn p (turned v start ev t) → env ≡ with_turn (turned v start ev t) start
-      → contents_of w (in_new w (env_of w moment block) ev peer) ≡ leaves before (drawn_first p.control.local before env) env.moves
-  new_records peer t begun drew idle planned given =
-      subst (λ (x : End). start ≡ env_of x moment block → before ≡ drawing_of x
-      → contents_of x (in_new x (env_of x moment block) ev peer) ≡ leaves before (drawn_first p.control.local before env) env.moves) same
-      (λ b d. new_at v start env moment block ev before p peer t b d idle planned given) begun drew
+  pub main_records : start.ids ≡ drawing_of w → (ev : Event) (i : ℕ) → contents_of w (behind_given (given_in start) (in_main w start ev i (at w.tunnels i))) ≡ main_leaves v.role v.config ev start (at v.tunnels i)
+  main_records drew ev i = rw same (main_at w start drew ev i (at w.tunnels i))
 
-tick_at : (v : End) (env : Env) (moment : ℕ) (block : List ℕ) (es : List (ℕ × Core)) (ps : List (ℕ × Plan)) → v.tunnels ≡ tunnels_of es → IsStrictlySortedBy nat_cmp (ids_of ps)
-    → ArePlanned ps (ticks_at v.role v.config es (env_of v moment block) (ids_of es)) → env ≡ with_ticks (ticks_at v.role v.config es (env_of v moment block) (ids_of es)) (env_of v moment block)
-    → contents_of v (ticks_all v (env_of v moment block)) ≡ leaves (drawing_of v) (drawing_of v) env.moves
-unfolding contents_of
-tick_at v env moment block es ps tunnels ascend planned given =
-    let s : Stepped = record { end = record v { tunnels = after_plans ps v.tunnels; calls = with_looks env.changes v.calls }; outputs = env.outputs; moves = env.moves } in
-    ap (contents_of v) (all_is v moment block es tunnels ps ascend env s planned given refl refl refl)
+-- ---- what a tick leaves
 
-pub tick_records : (v w : End) → v ≡ w → (start env : Env) (moment : ℕ) (block : List ℕ) (before : Drawing) (es : List (ℕ × Core)) (ps : List (ℕ × Plan)) → v.tunnels ≡ tunnels_of es
-    → start ≡ env_of w moment block → before ≡ drawing_of w → IsStrictlySortedBy nat_cmp (ids_of ps)
-    → ArePlanned ps (ticks_at v.role v.config es start (ids_of es)) → env ≡ with_ticks (ticks_at v.role v.config es start (ids_of es)) start
-    → contents_of w (ticks_all w (env_of w moment block)) ≡ leaves before before env.moves
-tick_records v w same start env moment block before es ps tunnels begun drew ascend planned given =
-    let here : start ≡ env_of v moment block = begun ∙ ap (λ (x : End). env_of x moment block) (sym same) in
-    let one = tick_at v env moment block es ps tunnels ascend (subst (λ (x : Env). ArePlanned ps (ticks_at v.role v.config es x (ids_of es))) here planned)
-    (subst (λ (x : Env). env ≡ with_ticks (ticks_at v.role v.config es x (ids_of es)) x) here given) in
-    subst (λ (x : End). contents_of x (ticks_all x (env_of x moment block)) ≡ leaves (drawing_of x) (drawing_of x) env.moves) same one
-    ∙ ap (λ (d : Drawing). leaves d d env.moves) (sym drew)
+-- as time passes, no number is drawn
+abbrev AreQuiet : Drawing → List Turned → Type 0
+AreQuiet d ts = AllByRecursion (λ t. t.turn.ids ≡ d) ts
+
+one_quiet : (v : End) (env : Env) (i : ℕ) (o : Option Tunnel) (ts : List Turned) → AreQuiet env.ids ts → AreQuiet env.ids (tick_of v env i o ++ ts)
+unfolding turns
+one_quiet v env i None ts later = later
+one_quiet v env i (Some t) ts later = (ap (λ x. x.1) (ticks_drawn v.role t.letters t.calls (turn_of t.control env)), later)
+
+all_quiet : (v : End) (env : Env) (is : List ℕ) → AreQuiet env.ids (ticks_of v env is)
+unfolding ticks_of
+all_quiet v env [] = tt
+all_quiet v env (i ∷ is) = one_quiet v env i (at v.tunnels i) (ticks_of v env is) (all_quiet v env is)
+
+drawing_stays : (d : Drawing) (ts : List Turned) (e : End) → drawing_of e ≡ d → AreQuiet d ts → drawing_of (end_after_all ts e) ≡ d
+unfolding end_after_all after_turn
+drawing_stays d [] e same quiet = same
+drawing_stays d (t ∷ ts) e same quiet =
+    let recoveries : e.recovery_ids ≡ d.recoveries = ap (λ (x : Drawing). x.recoveries) same in
+    drawing_stays d ts (after_turn e t.id t.tunnel.letters t.tunnel.calls t.turn).end (rw (quiet.0, recoveries) refl) quiet.1
+
+ticks_at_once : (v : End) (moment : ℕ) (block : List ℕ) → contents_of v (ticks_all v (env_of v moment block)) ≡ ticks_leave (ticks_of v (env_of v moment block) (ids_of v.tunnels)) (env_of v moment block)
+unfolding contents_of ticks_all after_all with_ticks
+ticks_at_once v moment block =
+    let ts = ticks_of v (env_of v moment block) (ids_of v.tunnels) in
+    ap (λ (d : Drawing). leaves (drawing_of v) d (flat_map (λ (t : Turned). t.turn.moves) ts)) (drawing_stays (drawing_of v) ts v refl (all_quiet v (env_of v moment block) (ids_of v.tunnels)))
+
+pub tick_records : (v w : End) → v ≡ w → (start : Env) (moment : ℕ) (block : List ℕ) (es : List (ℕ × Core)) → v.tunnels ≡ tunnels_of es → start ≡ env_of w moment block
+    → contents_of w (ticks_all w (env_of w moment block)) ≡ ticks_leave (ticks_at v.role v.config es start (ids_of es)) start
+tick_records v w same start moment block es tunnels begun =
+    let are : ticks_at v.role v.config es start (ids_of es) ≡ ticks_of v start (ids_of v.tunnels) = ticks_are v es start tunnels in
+    rw (are, same, begun) (ticks_at_once w moment block)
+
+pub ticks_planned : (start env : Env) (before : Drawing) (ts : List Turned) (ms : List Move) → before ≡ start.ids → env ≡ with_ticks ts start → ms ≡ env.moves → ticks_leave ts start ≡ leaves before before ms
+ticks_planned start env before ts ms drew given moves = rw (moves, drew, given) refl
 
 -- an end that starts draws above the ceilings of its book
 pub start_records : (e : End) (k book : Kept) (before after : Drawing) (g : Given) (ms : List Move) → book ≡ k → before ≡ drawing_of e

@@ -289,6 +289,10 @@ ticks_like v es env [] same = refl
 ticks_like v es env (i ∷ is) same =
     ap (λ ts. tick_at v.role v.config es env i ++ ts) (ticks_like v es env is same) ∙ ap (λ (tunnels : List (ℕ × Tunnel)). tick_of v env i (at tunnels i) ++ ticks_of v env is) (sym same)
 
+-- the turns of all tunnels, as they are planned
+pub ticks_are : (v : End) (es : List (ℕ × Core)) (env : Env) → v.tunnels ≡ tunnels_of es → ticks_at v.role v.config es env (ids_of es) ≡ ticks_of v env (ids_of v.tunnels)
+ticks_are v es env same = ticks_like v es env (ids_of es) same ∙ ap (ticks_of v env) (sym (ap ids_of same ∙ ids_tunnels es))
+
 same_parts : (s u : Stepped) → s.end ≡ u.end → s.outputs ≡ u.outputs → s.moves ≡ u.moves → s ≡ u
 same_parts s u a b c = ap (λ (x : End). record { end = x; outputs = s.outputs; moves = s.moves }) a ∙ ap (λ (x : List Out). record { end = u.end; outputs = x; moves = s.moves }) b ∙ ap (λ (x : List Move). record { end = u.end; outputs = u.outputs; moves = x }) c
 
@@ -301,7 +305,7 @@ module _ (v : End) (moment : ℕ) (block : List ℕ) (es : List (ℕ × Core)) (
   turned = ticks_of v start (ids_of v.tunnels)
 
   turned_are : ticks_at v.role v.config es start (ids_of es) ≡ turned
-  turned_are = ticks_like v es start (ids_of es) same ∙ ap (ticks_of v start) (sym (ap ids_of same ∙ ids_tunnels es))
+  turned_are = ticks_are v es start same
 
   pub all_is : (env : Env) (s : Stepped) → ArePlanned ps (ticks_at v.role v.config es start (ids_of es)) → env ≡ with_ticks (ticks_at v.role v.config es start (ids_of es)) start → s.end ≡ record v { tunnels = after_plans ps v.tunnels; calls = with_looks env.changes v.calls } → s.outputs ≡ env.outputs → s.moves ≡ env.moves → ticks_all v start ≡ s
   unfolding ticks_all after_all with_ticks

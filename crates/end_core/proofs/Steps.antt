@@ -13,10 +13,10 @@ use Rattle.end_model.specs.Tunnels.{Tunnel, Env, Turn, turn_of}
 use Rattle.end_model.specs.Turn.{with_turn}
 use Rattle.end_model.specs.Events.{turns}
 use Rattle.end_model.specs.Openings.{fresh}
-use Rattle.end_model.specs.End.{End, Stepped, placed, with_looks, tunnels_after, after_turn, after_new, in_main, in_new}
+use Rattle.end_model.specs.End.{End, Stepped, env_of, placed, with_looks, tunnels_after, after_turn, after_new, in_main, in_new}
 use Rattle.tunnel_core.specs.Cores.{Plan, made_of, IsTurn}
 use Rattle.end_core.specs.declared.end.Given.{Given}
-use Rattle.end_core.specs.Gives.{behind_given}
+use Rattle.end_core.specs.Gives.{behind_given, given_in}
 use Rattle.tunnel_table.specs.Plans.{IsPlanned, IsGiven, after_plan}
 
 abbrev pub turned : End → Env → Event → Tunnel → Turn
@@ -93,15 +93,30 @@ main_made v start none ev i (Some t) p env s there some planned given end output
     main_is v start none ev i t p env s (turned v start ev t) refl planned given (record { end = end; outputs = outputs; moves = moves }) there
 
 -- what the environment began with stands before what the step gives, and changes nothing else
-pub same_behind : (v : End) (env : Env) (g : Given) (ev : Event) (i : ℕ) (o : Option Tunnel)
-    → behind_env (record env { outputs = g.outputs; moves = g.moves }) (in_main v (record env { outputs = g.outputs; moves = g.moves }) ev i o)
-    ≡ behind_given g (in_main v env ev i o)
+same_behind : (v : End) (env : Env) (g : Given) (ev : Event) (i : ℕ) (o : Option Tunnel) → in_main v (record env { outputs = g.outputs; moves = g.moves }) ev i o ≡ in_main v env ev i o
 unfolding in_main
 same_behind v env g ev i None = refl
 same_behind v env g ev i (Some t) = refl
+
+pub behind_first : (v : End) (moment : ℕ) (block : List ℕ) (g : Given) (start : Env) → start ≡ record (env_of v moment block) { outputs = g.outputs; moves = g.moves } → (ev : Event) (i : ℕ) (o : Option Tunnel)
+    → behind_given (given_in start) (in_main v start ev i o) ≡ behind_given g (in_main v (env_of v moment block) ev i o)
+behind_first v moment block g start begun ev i o = rw begun (ap (behind_given g) (same_behind v (env_of v moment block) g ev i o))
 
 -- a new tunnel that drew no id
 pub not_made : (v : End) (start env : Env) (ev : Event) (peer : ℕ) (r : Turn) (os : List Out) (ms : List Move) → (start.outputs ≡ []) × (start.moves ≡ []) → r ≡ turns v.role v.config [] [] ev (turn_of (fresh peer start.on.moment) start) → env ≡ with_turn r start → r.control.local ≡ 0 → os ≡ env.outputs → ms ≡ env.moves → in_new v start ev peer ≡ record { end = v; outputs = os; moves = ms }
 unfolding in_new after_new with_turn
 not_made v start env ev peer r os ms none is given zero a b =
     rw (← is, eq-eqb r.control.local 0 zero, a, b, given, none.0, none.1) refl
+
+-- the first step of a tunnel in this environment
+module _ (v : End) (start env : Env) (begun : start ≡ env_of v start.on.moment start.on.block) (ev : Event) (peer : ℕ) (t : Tunnel) (idle : t ≡ record { control = fresh peer start.on.moment; letters = []; calls = [] }) (p : Plan) (planned : IsTurn p (turned v start ev t)) (given : env ≡ with_turn (turned v start ev t) start) where
+  silent : (start.outputs ≡ []) × (start.moves ≡ [])
+  silent = (ap (λ (x : Env). x.outputs) begun, ap (λ (x : Env). x.moves) begun)
+
+  pub none_made : p.control.local ≡ 0 → in_new v start ev peer ≡ record { end = v; outputs = env.outputs; moves = env.moves }
+  none_made zero =
+      not_made v start env ev peer (turned v start ev t) env.outputs env.moves silent (ap (λ (u : Tunnel). turned v start ev u) idle) given (ap (λ (c : Control). c.local) (sym planned.control) ∙ zero) refl refl
+
+  pub first_made : (p.control.local ≡ 0 → ⊥) → (s : Stepped) → IsSettled v p.control.local t p env s → in_new v start ev peer ≡ s
+  first_made some s settled =
+      new_is v start (ap (λ (x : Env). x.changes) begun) ev p.control.local t p env s (turned v start ev t) refl planned given settled silent peer idle refl some

@@ -1,10 +1,16 @@
 -- What the answer of a step says.
-use Rattle.std.specs.Prelude.{⊤, ◌≡◌, ◌==◌, ◌++◌, ℕ, List, Result, Ok, Err, if◌then◌else◌}
+use Rattle.std.specs.Prelude.{⊤, ◌≡◌, ◌==◌, ◌++◌, ℕ, List, Option, Some, None, Result, Ok, Err, if◌then◌else◌}
 use Rattle.session_book.specs.declared.record.Record.{Record}
 use Rattle.step_ledger.specs.declared.ledger.StepFault.{StepFault}
 use Rattle.step_ledger.specs.Committing.{Commits}
+use Rattle.step_records.specs.Leaving.{leaves}
+use Rattle.end_names.specs.declared.role.Role.{Role}
+use Rattle.end_model.specs.declared.event.Event.{Event}
+use Rattle.end_model.specs.declared.tunnel.Config.{Config}
 use Rattle.end_model.specs.Contents.{contents_of}
-use Rattle.end_model.specs.Tunnels.{Drawing, Env}
+use Rattle.end_model.specs.Tunnels.{Tunnel, Turn, Drawing, Env}
+use Rattle.end_model.specs.Turn.{with_turn}
+use Rattle.tunnel_table.specs.Plans.{turn_at}
 use Rattle.end_model.specs.End.{End, Stepped}
 use Rattle.end_core.specs.declared.end.Given.{Given}
 
@@ -21,6 +27,10 @@ CommitsStep commits_to result s old before after = Commits commits_to result (co
 abbrev pub behind_given : Given → Stepped → Stepped
 behind_given g s = record s { outputs = g.outputs ++ s.outputs; moves = g.moves ++ s.moves }
 
+-- what was given in this environment
+abbrev pub given_in : Env → Given
+given_in env = record { outputs = env.outputs; moves = env.moves }
+
 -- where an end draws from that drew from these spaces, behind a step of a tunnel: the numbers of recoveries are the end's alone
 abbrev pub drawn_behind : Drawing → Env → Drawing
 drawn_behind before env = record before { tunnels = env.ids.tunnels; sessions = env.ids.sessions }
@@ -28,3 +38,13 @@ drawn_behind before env = record before { tunnels = env.ids.tunnels; sessions = 
 -- and behind the first step of a tunnel that has this id, or has drawn none
 abbrev pub drawn_first : ℕ → Drawing → Env → Drawing
 drawn_first local before env = if local == 0 then before else drawn_behind before env
+
+-- what the first step of a tunnel leaves that is this turn
+abbrev pub first_leaves : Env → Turn → List Record
+first_leaves env t = leaves env.ids (drawn_first t.control.local env.ids (with_turn t env)) (with_turn t env).moves
+
+-- what an event leaves for a tunnel that may be there
+abbrev pub main_leaves : Role → Config → Event → Env → Option Tunnel → List Record
+main_leaves role c ev env None = leaves env.ids env.ids env.moves
+main_leaves role c ev env (Some t) =
+    leaves env.ids (drawn_behind env.ids (with_turn (turn_at role c ev env t) env)) (with_turn (turn_at role c ev env t) env).moves

@@ -3,6 +3,8 @@ use Rattle.std.specs.Prelude.{◌≡◌, ℕ, List, [], ◌∷◌, ◌++◌}
 use Rattle.std.specs.List.{AllByRecursion, flat_map}
 use Rattle.id_table.specs.Ids.{at}
 use Rattle.id_table.specs.Tables.{Kept}
+use Rattle.session_book.specs.declared.record.Record.{Record}
+use Rattle.step_records.specs.Leaving.{leaves}
 use Rattle.end_model.specs.declared.tunnel.Config.{Config}
 use Rattle.end_names.specs.declared.role.Role.{Role}
 use Rattle.end_model.specs.Tunnels.{Tunnel, Env}
@@ -37,6 +39,10 @@ with_ticks ts e = record e {
   changes = e.changes ++ flat_map (λ t. t.turn.changes) ts;
   moves = e.moves ++ flat_map (λ t. t.turn.moves) ts;
 }
+
+-- what turns leave that draw no number, behind what was there
+abbrev pub ticks_leave : List Turned → Env → List Record
+ticks_leave ts e = leaves e.ids e.ids (with_ticks ts e).moves
 
 abbrev pub HavePlaces : Kept Core → List (ℕ × Plan) → Type 0
 HavePlaces kept ps = AllByRecursion (λ p. HasPlace kept p) ps

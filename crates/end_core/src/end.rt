@@ -1,6 +1,6 @@
 //! An end with its tunnels: which tunnel an event is for, and what is seen of the calls.
 
-ghost use Rattle.std.specs.Prelude.{◌≡◌, ◌≢◌, ◌≤◌, [], ◌∷◌, option_map, is_some, unwrap_or, IfOk, OnOk};
+ghost use Rattle.std.specs.Prelude.{◌≡◌, ◌≤◌, [], ◌∷◌, option_map, is_some, unwrap_or, IsSome, IfOk, OnOk, OnErr};
 ghost use Rattle.std.specs.Option.{option_copied};
 ghost use Rattle.id_table.specs.Ids.{at, ids_of};
 ghost use Rattle.l2tp_header.specs.Reading.{header_of};
@@ -9,18 +9,15 @@ ghost use Rattle.end_model.specs.Reading.{at_tunnel};
 ghost use Rattle.end_model.specs.Secrets.{uncovered_datagram, uncovered_event};
 ghost use Rattle.end_core.specs.Fits.{fits};
 ghost use Rattle.end_core.specs.Sessions.{next_session, subscriber_at};
-ghost use Rattle.tunnel_core.specs.Cores.{tunnel_of, IsTurn, HasRoomFor};
-ghost use Rattle.call_places.specs.Rooms.{HaveRoom};
-ghost use Rattle.end_model.specs.Tunnels.{turn_of};
-ghost use Rattle.end_model.specs.Events.{turns};
-ghost use Rattle.end_model.specs.Turn.{with_turn};
+ghost use Rattle.tunnel_core.specs.Cores.{tunnel_of};
 ghost use Rattle.end_model.specs.End.{drawing_of};
 ghost use Rattle.step_ledger.specs.Committing.{Commits};
 ghost use Rattle.step_records.specs.Leaving.{leaves};
-ghost use Rattle.id_table.specs.Tables.{HasRoom};
-ghost use Rattle.end_core.specs.Gives.{GivesStep, CommitsStep, behind_given, drawn_behind, drawn_first};
+ghost use Rattle.end_model.specs.Contents.{contents_of};
+ghost use Rattle.end_core.specs.Gives.{GivesStep, CommitsStep, behind_given, given_in};
 
-use call_places::{change_looks, look_at, make_places, place_all};
+use crate::planning::{make_first, make_main, plan_first, plan_main};
+use call_places::look_at;
 use end_model::{Addressee, CallPlace, Config, Control, Event, Move, Out, Role};
 use id_source::Ids;
 use id_table::Table;
@@ -30,8 +27,8 @@ use session_looks::{CellChanges, Look, header_why};
 use std::alloc::Global;
 use std::marker::Model;
 use step_ledger::{Ledger, StepFault};
-use step_records::{Spaces, commit_step};
-use tunnel_core::{Env, Moves, Outputs, Planned, TunnelCore};
+use step_records::commit_step;
+use tunnel_core::{Env, Moves, Outputs, TunnelCore};
 use tunnel_fsm::TunnelState;
 use tunnel_table::TunnelTable;
 use wire_base::{Bytes, NoMemory, Sequence, Why};
@@ -312,82 +309,6 @@ impl End {
     }
 }
 
-/// Plans a step of a tunnel, and makes room for the places of the calls that it makes. What the tunnel and the places stand
-/// for is as before.
-fn plan_step(
-    core: &mut TunnelCore,
-    places: &mut Table<CallPlace>,
-    role: Role,
-    config: &Config,
-    env: &mut Env,
-    event: &Event,
-) -> Result<Planned, NoMemory>
-    ensures same { tunnel_of core.new ≡ tunnel_of core.old }
-    ensures places { places.new.entries ≡ places.old.entries }
-    ensures planned { IfOk result (λ p. IsTurn p (turns role config.now core.old.letters.letters core.old.calls.entries event.now (turn_of core.old.control env.old))) }
-    ensures room { IfOk result (λ p. HasRoomFor core.new p) }
-    ensures calls_room { IfOk result (λ p. HaveRoom places.new p.added) }
-    ensures given { OnOk result (env.new ≡ with_turn (turns role config.now core.old.letters.letters core.old.calls.entries event.now (turn_of core.old.control env.old)) env.old) }
-{
-    let planned = core.plan(role, config, env, event)?;
-    make_places(places, planned.added())?;
-    Ok(planned)
-}
-
-/// Where an end draws its numbers from behind a step that worked in this environment, where it drew from these spaces before it.
-fn spaces_behind(before: &Spaces, env: &Env) -> Spaces
-    ensures { result ≡ drawn_behind before.now env.now }
-{
-    Spaces {
-        tunnels: env.tunnels,
-        sessions: env.sessions,
-        recoveries: before.recoveries,
-    }
-}
-
-/// Makes room for the places of the calls that a step of a tunnel makes, and commits what the step leaves.
-fn commit_planned<L: Ledger>(
-    ledger: &mut L,
-    alloc: Global,
-    places: &mut Table<CallPlace>,
-    before: &Spaces,
-    env: &Env,
-    planned: &Planned,
-) -> Result<(), StepFault<L::Stop>>
-    requires { L.can_commit ledger.old }
-    ensures places { places.new.entries ≡ places.old.entries }
-    ensures room { OnOk result (HaveRoom places.new planned.now.added) }
-    ensures committed { Commits L.commits_to result (leaves before.now (drawn_behind before.now env.now) env.now.moves) ledger.old ledger.new }
-{
-    make_places(places, planned.added())?;
-    let after = spaces_behind(before, env);
-    commit_step(alloc, ledger, before, &after, env.moves.as_slice())
-}
-
-/// Makes room for a tunnel that is new, and commits what its first step leaves. Where the step drew no id, the tunnel isn't kept, and
-/// no number of the step is.
-fn commit_new<L: Ledger>(
-    ledger: &mut L,
-    alloc: Global,
-    tunnels: &mut TunnelTable,
-    before: &Spaces,
-    env: &Env,
-    planned: &Planned,
-) -> Result<(), StepFault<L::Stop>>
-    requires { L.can_commit ledger.old }
-    ensures tunnels { tunnels.new.entries ≡ tunnels.old.entries }
-    ensures room { OnOk result (planned.now.control.local ≢ 0 → HasRoom tunnels.new planned.now.control.local) }
-    ensures committed { Commits L.commits_to result (leaves before.now (drawn_first planned.now.control.local before.now env.now) env.now.moves) ledger.old ledger.new }
-{
-    let local = planned.local();
-    if local == 0 {
-        return commit_step(alloc, ledger, before, before, env.moves.as_slice());
-    }
-    tunnels.make_room(u32::from(local), planned)?;
-    let after = spaces_behind(before, env);
-    commit_step(alloc, ledger, before, &after, env.moves.as_slice())
-}
-
 impl Given {
     /// Nothing yet. It takes no memory.
     fn nothing(alloc: Global) -> Given
@@ -396,6 +317,16 @@ impl Given {
         Given {
             outputs: Outputs::new(alloc),
             moves: Moves::new(alloc),
+        }
+    }
+
+    /// What the steps gave that worked in this environment.
+    pub(crate) fn of(env: Env) -> Given
+        ensures { result ≡ given_in env }
+    {
+        Given {
+            outputs: env.outputs,
+            moves: env.moves,
         }
     }
 }
@@ -447,6 +378,47 @@ impl End {
         self.run_behind(ledger, moment, block, event, id, first)
     }
 
+    /// Makes a step of the tunnel with this id in this environment.
+    #[tactic(auto, using(tunnel_table::specs::Tunnels::at_tunnels))]
+    fn take_step<L: Ledger>(
+        &mut self,
+        ledger: &mut L,
+        env: &mut Env,
+        event: &Event,
+        id: u32,
+    ) -> Result<(), StepFault<L::Stop>>
+        requires ledger { L.can_commit ledger.old }
+        requires there { IsSome (at self.old.tunnels id) }
+        requires drawing { env.old.ids ≡ drawing_of self.old }
+        requires begun { env.old.changes ≡ [] }
+        ensures made { OnOk result (behind_given (given_in env.old) (in_main self.old env.old event.now id (at self.old.tunnels id)) ≡ record { end = self.new; outputs = env.new.outputs; moves = env.new.moves }) }
+        ensures same { OnErr result (self.new ≡ self.old) }
+        ensures committed { Commits L.commits_to result (contents_of self.old (behind_given (given_in env.old) (in_main self.old env.old event.now id (at self.old.tunnels id)))) ledger.old ledger.new }
+        ensures role { self.new.role ≡ self.old.role }
+    {
+        let planned = plan_main(
+            ledger,
+            self.alloc,
+            self.role,
+            &self.config,
+            &mut self.tunnels,
+            &mut self.calls,
+            env,
+            id,
+            event,
+        )?;
+        make_main(
+            &mut self.tunnels,
+            &mut self.calls,
+            id,
+            planned,
+            env.changes.as_slice(),
+        );
+        self.tunnel_ids = env.tunnels;
+        self.session_ids = env.sessions;
+        Ok(())
+    }
+
     /// Makes a step of the tunnel with this id, if there is one, behind what was given before. Where memory is wanting, nothing
     /// is given at all.
     #[tactic(auto, using(tunnel_table::specs::Tunnels::at_tunnels), unfolding(end_model::specs::End::in_main))]
@@ -467,27 +439,58 @@ impl End {
         if !self.tunnels.contains(id) {
             return self.drop_behind(ledger, first, Why::Tunnel);
         }
-        let before = self.spaces();
         let mut env = self.env_behind(moment, block, first);
-        let planned = self
-            .tunnels
-            .plan(self.role, &self.config, &mut env, id, event)?;
-        commit_planned(ledger, self.alloc, &mut self.calls, &before, &env, &planned)?;
-        place_all(&mut self.calls, planned.local(), planned.added());
-        change_looks(&mut self.calls, env.changes.as_slice());
-        self.tunnels.make(id, planned);
-        self.tunnel_ids = env.tunnels;
-        self.session_ids = env.sessions;
-        Ok(Given {
-            outputs: env.outputs,
-            moves: env.moves,
-        })
+        self.take_step(ledger, &mut env, event, id)?;
+        Ok(Given::of(env))
     }
 }
 
 impl End {
-    /// Makes the first step of a tunnel to a peer that is new. Where it draws no id, it isn't kept.
+    /// Makes the first step of a tunnel to a peer that is new, in this environment. Where it draws no id, it isn't kept.
     #[tactic(auto, unfolding(end_model::specs::End::in_new, end_model::specs::End::after_new))]
+    fn take_first_step<L: Ledger>(
+        &mut self,
+        ledger: &mut L,
+        env: &mut Env,
+        event: &Event,
+        peer: u32,
+    ) -> Result<(), StepFault<L::Stop>>
+        requires ledger { L.can_commit ledger.old }
+        requires begun { env.old ≡ env_of self.old env.old.on.moment env.old.on.block }
+        ensures made { OnOk result (in_new self.old env.old event.now peer ≡ record { end = self.new; outputs = env.new.outputs; moves = env.new.moves }) }
+        ensures same { OnErr result (self.new ≡ self.old) }
+        ensures committed { Commits L.commits_to result (contents_of self.old (in_new self.old env.old event.now peer)) ledger.old ledger.new }
+        ensures role { self.new.role ≡ self.old.role }
+    {
+        let mut core = TunnelCore::idle(self.alloc, peer, env.moment);
+        let planned = plan_first(
+            ledger,
+            self.alloc,
+            self.role,
+            &self.config,
+            &mut self.tunnels,
+            &mut self.calls,
+            &mut core,
+            env,
+            event,
+        )?;
+        let local = planned.local();
+        make_first(
+            &mut self.tunnels,
+            &mut self.calls,
+            core,
+            planned,
+            env.changes.as_slice(),
+        );
+        if local == 0 {
+            return Ok(());
+        }
+        self.tunnel_ids = env.tunnels;
+        self.session_ids = env.sessions;
+        Ok(())
+    }
+
+    /// Makes the first step of a tunnel to a peer that is new. Where it draws no id, it isn't kept.
     fn run_new<L: Ledger>(
         &mut self,
         ledger: &mut L,
@@ -501,41 +504,9 @@ impl End {
         ensures committed { CommitsStep L.commits_to result (in_new self.old (env_of self.old moment block) event.now peer) self.old ledger.old ledger.new }
         ensures role { self.new.role ≡ self.old.role }
     {
-        let before = self.spaces();
         let mut env = self.env(moment, block);
-        let mut core = TunnelCore::idle(self.alloc, peer, moment);
-        let planned = plan_step(
-            &mut core,
-            &mut self.calls,
-            self.role,
-            &self.config,
-            &mut env,
-            event,
-        )?;
-        commit_new(
-            ledger,
-            self.alloc,
-            &mut self.tunnels,
-            &before,
-            &env,
-            &planned,
-        )?;
-        let local = planned.local();
-        if local == 0 {
-            return Ok(Given {
-                outputs: env.outputs,
-                moves: env.moves,
-            });
-        }
-        place_all(&mut self.calls, local, planned.added());
-        change_looks(&mut self.calls, env.changes.as_slice());
-        self.tunnels.make_new(u32::from(local), core, planned);
-        self.tunnel_ids = env.tunnels;
-        self.session_ids = env.sessions;
-        Ok(Given {
-            outputs: env.outputs,
-            moves: env.moves,
-        })
+        self.take_first_step(ledger, &mut env, event, peer)?;
+        Ok(Given::of(env))
     }
 
     /// Makes the first step of a tunnel that is new, where the end may have one more; else it gives the refusal alone.

@@ -1,12 +1,14 @@
 //! One end of L2TP tunnels: each event is a step, which gives the next end, its outputs and its moves.
 //!
-//! The step of a tunnel is planned, room is made for the places of the calls that it makes, and only then both are made,
-//! which takes no memory. So where memory is wanting, the end is as before.
+//! The step of a tunnel is planned, and room is made for the places of the calls that it makes. Then the ledger that the end is
+//! lent is asked to commit what the step leaves, and only when it has is the step made, which takes no memory. So where memory is
+//! wanting or the ledger stops, the end is as before.
 #![tactic(auto)]
 
 mod declining;
 mod end;
 mod frames;
+mod planning;
 mod rows;
 mod starting;
 mod ticks;

@@ -6,11 +6,13 @@ ghost use Rattle.std.specs.Ordering.{nat_cmp};
 ghost use Rattle.id_table.specs.Ids.{at, ids_of};
 ghost use Rattle.end_model.specs.End.{env_of, ticks_all};
 ghost use Rattle.end_core.specs.Gives.{GivesStep, CommitsStep};
-ghost use Rattle.end_core.specs.Ticking.{tick_at, ticks_at, ArePlanned, HavePlaces, with_ticks, after_plans};
+ghost use Rattle.end_core.specs.Ticking.{tick_at, ticks_at, ArePlanned, HavePlaces, with_ticks, ticks_leave, after_plans};
+ghost use Rattle.step_ledger.specs.Committing.{Commits};
 ghost use Rattle.tunnel_table.specs.Plans.{HasPlace};
 ghost use Rattle.tunnel_table.specs.Tunnels.{tunnels_of};
 
 use crate::end::{End, Given};
+use crate::planning::spaces_of;
 use call_places::change_looks;
 use end_model::{Config, Event, Role};
 use std::alloc::Global;
@@ -64,6 +66,29 @@ fn plan_all(
     Ok(plans)
 }
 
+/// Plans the turns of all tunnels, makes room for them, and commits what they leave. What the tunnels stand for is as before.
+fn plan_ticks<L: Ledger>(
+    ledger: &mut L,
+    alloc: Global,
+    role: Role,
+    config: &Config,
+    tunnels: &mut TunnelTable,
+    env: &mut Env,
+) -> Result<Plans, StepFault<L::Stop>>
+    requires { L.can_commit ledger.old }
+    ensures same { tunnels_of tunnels.new.entries ≡ tunnels_of tunnels.old.entries }
+    ensures planned { IfOk result (λ ps. ArePlanned ps (ticks_at role config.now tunnels.old.entries env.old (ids_of tunnels.old.entries))) }
+    ensures ascend { IfOk result (λ ps. IsStrictlySortedBy nat_cmp (ids_of ps)) }
+    ensures places { IfOk result (λ ps. HavePlaces tunnels.new ps) }
+    ensures given { OnOk result (env.new ≡ with_ticks (ticks_at role config.now tunnels.old.entries env.old (ids_of tunnels.old.entries)) env.old) }
+    ensures committed { Commits L.commits_to result (ticks_leave (ticks_at role config.now tunnels.old.entries env.old (ids_of tunnels.old.entries)) env.old) ledger.old ledger.new }
+{
+    let drawing = spaces_of(env);
+    let plans = plan_all(tunnels, alloc, role, config, env)?;
+    commit_step(alloc, ledger, &drawing, &drawing, env.moves.as_slice())?;
+    Ok(plans)
+}
+
 /// Makes what was planned for tunnels. It takes no memory.
 #[tactic(auto, unfolding(crate::specs::Ticking::after_plans))]
 fn make_all(tunnels: &mut TunnelTable, plans: Plans)
@@ -89,21 +114,17 @@ impl End {
         ensures committed { CommitsStep L.commits_to result (ticks_all self.old (env_of self.old moment block)) self.old ledger.old ledger.new }
         ensures role { self.new.role ≡ self.old.role }
     {
-        let before = self.spaces();
         let mut env = self.env(moment, block);
-        let plans = plan_all(
-            &mut self.tunnels,
+        let plans = plan_ticks(
+            ledger,
             self.alloc,
             self.role,
             &self.config,
+            &mut self.tunnels,
             &mut env,
         )?;
-        commit_step(self.alloc, ledger, &before, &before, env.moves.as_slice())?;
         make_all(&mut self.tunnels, plans);
         change_looks(&mut self.calls, env.changes.as_slice());
-        Ok(Given {
-            outputs: env.outputs,
-            moves: env.moves,
-        })
+        Ok(Given::of(env))
     }
 }
