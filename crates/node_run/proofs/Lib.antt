@@ -1,0 +1,5 @@
+mod Causes
+mod Keeping
+mod Lent
+mod Returning
+mod Viewing

@@ -1,0 +1,6 @@
+pub mod Events
+pub mod Faults
+pub mod Lending
+pub mod Outs
+pub mod Serves
+pub mod Steps
